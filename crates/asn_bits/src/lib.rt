@@ -1,0 +1,2 @@
+//! Numbers and lengths as bits and octets: what the encoding rules share.
+#![tactic(auto)]

@@ -1,0 +1,3 @@
+pub mod Oer
+pub mod Rules
+pub mod Rows

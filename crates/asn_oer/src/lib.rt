@@ -1,0 +1,2 @@
+//! Canonical OER (X.696).
+#![tactic(auto)]

@@ -1,0 +1,4 @@
+pub mod Per
+pub mod Rules
+pub mod Laws
+pub mod Rows

@@ -1,0 +1,2 @@
+//! CANONICAL-PER UNALIGNED (X.691).
+#![tactic(auto)]

@@ -1,0 +1,2 @@
+//! What encoding rules are, and what a reader answers.
+#![tactic(auto)]

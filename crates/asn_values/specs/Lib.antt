@@ -1,0 +1,7 @@
+pub mod Datum
+pub mod Shape
+pub mod Fits
+pub mod Measures
+pub mod Profile
+pub mod Defaults
+pub mod View

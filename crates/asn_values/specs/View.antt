@@ -1,0 +1,73 @@
+-- What the types, values and faults of the program stand for.
+use Rattle.std.specs.Prelude.{◌≡◌, true, false, ⊤, List, [], ◌∷◌, ℕ, map, string_bytes, Some}
+use Rattle.asn_values.specs.declared.types.Bounds.{Bounds}
+use Rattle.asn_values.specs.declared.types.Need.{Need}
+use Rattle.asn_values.specs.declared.types.Need.TheVariants as need
+use Rattle.asn_values.specs.declared.types.AsnType.{AsnType}
+use Rattle.asn_values.specs.declared.types.Field.{Field}
+use Rattle.asn_values.specs.declared.types.AsnType.TheOpen.{AsnType-F, Field-F}
+use Rattle.asn_values.specs.declared.types.AsnType.TheFolds.{fold-AsnType, fold-Field}
+use Rattle.asn_values.specs.declared.value.Value.{Value, fold-Value}
+use Rattle.asn_values.specs.declared.value.Value.TheOpen.{Value-F}
+use Rattle.asn_values.specs.declared.fault.TypeFault.{TypeFault}
+use Rattle.asn_values.specs.declared.fault.TypeFault.TheVariants as fault
+use Rattle.asn_values.specs.Datum.{Datum, truth, number, components, components_of}
+use Rattle.asn_values.specs.Shape.{Range, Shape, boolean, integer, sequence, Demand, must, optional, default, Fields, no_fields, field, closed}
+use Rattle.asn_values.specs.Profile.{EmptyRange, DuplicateName, BadDefault, TooMany, TooDeep, has}
+
+-- ---- values
+
+-- one level of a value, the values inside already seen as data
+abbrev pub datum_step : Value-F Datum → Datum
+datum_step (Value-F.Bool b) = truth b
+datum_step (Value-F.Int z) = number z
+datum_step (Value-F.Seq v) = components (components_of v.items)
+
+abbrev pub datum_of : Value → Datum
+datum_of = fold-Value Datum datum_step
+
+-- ---- types
+
+abbrev pub range_of : Bounds → Range
+range_of b = record { low = Some b.low; high = b.high; extensible = false }
+
+abbrev pub demand_of : Need → Demand
+demand_of need.Must = must
+demand_of need.Optional = optional
+demand_of (need.Default v) = default (datum_of v)
+
+-- a component, taken apart
+pub record Part : Type 0 where
+  pub name : List ℕ
+  pub demand : Demand
+  pub shape : Shape
+
+abbrev pub fields_of : List Part → Fields
+fields_of [] = no_fields
+fields_of (p ∷ ps) = field p.name p.demand p.shape (fields_of ps)
+
+-- one level of a type, the types inside already seen as shapes
+abbrev pub shape_step : AsnType-F Shape Part → Shape
+shape_step AsnType-F.Bool = boolean
+shape_step (AsnType-F.Int b) = integer (range_of b)
+shape_step (AsnType-F.Seq root) = sequence (fields_of root.items) closed
+
+abbrev pub field_step : Field-F Shape Part → Part
+field_step f = record { name = string_bytes f.name; demand = demand_of f.need; shape = f.ty }
+
+abbrev pub shape_of : AsnType → Shape
+shape_of = fold-AsnType Shape Part shape_step field_step
+
+abbrev pub part_of_field : Field → Part
+part_of_field = fold-Field Shape Part shape_step field_step
+
+-- ---- faults
+
+-- what a fault says of a type: its condition holds there; of the memory nothing is said
+abbrev pub Holds : TypeFault → Shape → Type 0
+Holds fault.EmptyRange t = has EmptyRange t ≡ true
+Holds fault.DuplicateName t = has DuplicateName t ≡ true
+Holds fault.BadDefault t = has BadDefault t ≡ true
+Holds fault.TooMany t = has TooMany t ≡ true
+Holds fault.TooDeep t = has TooDeep t ≡ true
+Holds fault.Memory t = ⊤

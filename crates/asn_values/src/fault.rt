@@ -1,0 +1,27 @@
+use thiserror::Error;
+
+/// Why a type is not one of the profile.
+///
+/// Each variant but `Memory` names a condition that holds somewhere in the type. The numbers stay
+/// the same as more kinds of type come.
+#[derive(Clone, Copy, Debug, PartialEq, Eq, Error)]
+pub enum TypeFault {
+    /// A low bound above the high one, or a bound that is no integer of 64 signed bits.
+    #[error("empty range")]
+    EmptyRange = 1,
+    /// A name twice in one SEQUENCE, or one that is no identifier.
+    #[error("duplicate name")]
+    DuplicateName = 3,
+    /// A DEFAULT on a SEQUENCE, on a type with one value only, or one that is no value of its type.
+    #[error("bad default")]
+    BadDefault = 6,
+    /// More than 64 components in a SEQUENCE, or more than 10,000 types inside one another.
+    #[error("too many")]
+    TooMany = 9,
+    /// More than 32 levels of types inside one another.
+    #[error("too deep")]
+    TooDeep = 10,
+    /// A growth was refused.
+    #[error("memory")]
+    Memory = 11,
+}

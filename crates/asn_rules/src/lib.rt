@@ -1,2 +1,6 @@
-//! What encoding rules are, and what a reader answers.
+//! What encoding rules are, and what an encoder and a decoder answer.
 #![tactic(auto)]
+
+mod fault;
+
+pub use fault::{DecodeFault, EncodeFault, Why};

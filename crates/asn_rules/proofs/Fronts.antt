@@ -44,7 +44,7 @@ module _ (r : Fielding) where
       ⊎ SomeWithEarlier (λ f. Bounded f.kind f.content) (Inside r (pre ++ flat r.spelled cs) (pre ++ us)) (fields_from r.spelled (length pre) cs)
 
   -- fields from the end on start behind it
-  none_before : (cs : List Chunk) (end start : ℕ) → end ≤ start → AllByRecursion (BoundedBefore end) (fields_from r.spelled start cs)
+  pub none_before : (cs : List Chunk) (end start : ℕ) → end ≤ start → AllByRecursion (BoundedBefore end) (fields_from r.spelled start cs)
   none_before [] end start h = tt
   none_before (one x ∷ cs) end start h = none_before cs end (start + 1) (omega arith)
   none_before (sealed k c ∷ cs) end start h = (λ l. absurd (omega arith), none_before cs end (start + length (field_units r.spelled k c)) (omega arith))

@@ -4,3 +4,6 @@
 mod encode;
 
 pub use encode::encode;
+mod laws;
+
+pub use laws::{answers_exclude, encoding_laws, live_by_parts, live_is_closed, spellings_tell, values_and_bits};

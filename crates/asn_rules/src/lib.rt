@@ -4,3 +4,6 @@
 mod fault;
 
 pub use fault::{DecodeFault, EncodeFault, Why};
+mod laws;
+
+pub use laws::{answers_exclude, laws_from_units, live_is_closed};

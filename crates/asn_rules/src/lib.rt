@@ -2,8 +2,9 @@
 #![tactic(auto)]
 
 mod fault;
+mod laws;
+mod stop;
 
 pub use fault::{DecodeFault, EncodeFault, Why};
-mod laws;
-
 pub use laws::{answers_exclude, laws_from_units, live_is_closed};
+pub use stop::Stop;

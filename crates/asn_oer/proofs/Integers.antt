@@ -1,7 +1,7 @@
 -- The codes of INTEGER in OER.
 use Rattle.std.proofs.Common.{◌≡◌, ◌≤◌, ◌<◌, ◌-◌, ◌*◌, ◌^◌, ◌⊎◌, ℕ, ℤ, pos, negsuc, Bool, true, false, ◌&&◌, ◌||◌, List, ◌++◌, Option, Some, None, inl, inr, refl, sym, subst, arith}
 use Rattle.asn_values.specs.Shape.{Range}
-use Rattle.std.proofs.lemmas.Bool.{true≢false, ltb-true, leb-true, le-leb}
+use Rattle.std.proofs.lemmas.Bool.{true≢false, ltb-true, leb-true, le-leb, and_parts}
 use Rattle.std.proofs.lemmas.Nat.{pow_pos}
 use Rattle.std.specs.Int.RustNames.{int_le, int_lt}
 use Rattle.asn_values.specs.Fits.{FitsNumber, in_range, at_least, at_most}
@@ -10,7 +10,7 @@ use Rattle.asn_bits.proofs.Codes.{IsCode}
 use Rattle.asn_bits.proofs.Digits.{digits_code}
 use Rattle.asn_bits.proofs.Octets.{signed_octets_code}
 use Rattle.asn_oer.specs.Oer.{magnitude_of, counted_signed, unsigned_octets, unsigned_in, both_in, signed_size, signed_in, ranged, whole_number}
-use Rattle.asn_oer.proofs.Leaves.{both_true, magnitude_once, counted_code, counted_signed_code}
+use Rattle.asn_oer.proofs.Leaves.{magnitude_once, counted_code, counted_signed_code}
 
 -- ---- from zero on
 
@@ -67,7 +67,7 @@ signed_code l u y z r s p q a b e =
       | inl k ↦
           let n = 2 ^ (8 * k.0 - 1) in
           let some : 0 < n = pow_pos (8 * k.0 - 1) in
-          let w = both_true (int_le (negsuc (n - 1)) l) (int_lt u (pos n)) k.3 in
+          let w = and_parts (int_le (negsuc (n - 1)) l) (int_lt u (pos n)) k.3 in
           signed_octets_code k.0 y z r s k.1 (in_bound l u y n some w.0 w.1 p a) (in_bound l u z n some w.0 w.1 q b)
           (subst (λ o. signed_in o y ++ r ≡ signed_in o z ++ s) k.2 e)
       | inr k ↦ counted_signed_code y z r s (subst (λ o. signed_in o y ++ r ≡ signed_in o z ++ s) k e)
@@ -82,13 +82,13 @@ from_zero l (negsuc n) h = absurd (true≢false (sym h))
 ranged_code : (low high : Option ℤ) (y z : ℤ) (r s : List ℕ) → (at_least low y && at_most high y) ≡ true → (at_least low z && at_most high z) ≡ true
     → ranged low high y ++ r ≡ ranged low high z ++ s → (y ≡ z) × (r ≡ s)
 ranged_code (Some (pos l)) (Some u) y z r s p q e =
-    let a = both_true _ _ p in
-    let b = both_true _ _ q in
+    let a = and_parts _ _ p in
+    let b = and_parts _ _ q in
     unsigned_code u y z r s (from_zero l y a.0) (from_zero l z b.0) a.1 b.1 e
-ranged_code (Some (pos l)) None y z r s p q e = counted_code y z r s (from_zero l y (both_true _ _ p).0) (from_zero l z (both_true _ _ q).0) e
+ranged_code (Some (pos l)) None y z r s p q e = counted_code y z r s (from_zero l y (and_parts _ _ p).0) (from_zero l z (and_parts _ _ q).0) e
 ranged_code (Some (negsuc l)) (Some u) y z r s p q e =
-    let a = both_true _ _ p in
-    let b = both_true _ _ q in
+    let a = and_parts _ _ p in
+    let b = and_parts _ _ q in
     signed_code (negsuc l) u y z r s a.0 b.0 a.1 b.1 e
 ranged_code (Some (negsuc l)) None y z r s p q e = counted_signed_code y z r s e
 ranged_code None high y z r s p q e = counted_signed_code y z r s e

@@ -8,14 +8,14 @@ use Rattle.asn_values.specs.Profile.{BadEnumeration, EmptyRange, SizeTooLarge, I
 use Rattle.asn_bits.specs.Numbers.{bits, unpacked}
 use Rattle.asn_bits.proofs.Digits.{digits_code}
 use Rattle.asn_rules.specs.Chunks.{flat}
-use Rattle.asn_rules.specs.Laws.{AreOctets, EachHasAValue, UnitsTellTheValue, OneValue, NoneBegins, RulesLaws, WholesTell}
+use Rattle.asn_rules.specs.Laws.{AreOctets, UnitsTellTheValue, OneValue, NoneBegins, RulesLaws, WholesTell}
 use Rattle.asn_rules.proofs.FromUnits.{rules_laws}
 use Rattle.asn_per.specs.Per.{spelled, per, filling, complete, per_whole, per_octets}
 use Rattle.asn_per.specs.Rules.{per_ruling}
 use Rattle.asn_per.specs.Laws.{per_bits, NoBitsIsExact}
 use Rattle.asn_per.proofs.Bits.{per_bitten}
 use Rattle.asn_per.proofs.Complete.{filled_is, complete_code, complete_octets, complete_full, unpacked-append}
-use Rattle.asn_per.proofs.SomeValue.{some_value, no_bits_exact}
+use Rattle.asn_per.proofs.SomeBits.{no_bits_exact}
 use Rattle.asn_per.proofs.Unique.{unique, GoodNumbers}
 
 good_numbers : (t : Shape) → InProfile t → GoodNumbers t
@@ -68,10 +68,7 @@ per_wholes = record {
 pub per_laws : RulesLaws per_ruling
 per_laws = rules_laws per_ruling per_wholes
 
--- ---- values
-
-pub a_value : EachHasAValue
-a_value t h = some_value t (h EmptyRange) (h SizeTooLarge)
+-- ---- types without bits
 
 pub bits_exact : NoBitsIsExact
 bits_exact t h = no_bits_exact t (h EmptyRange) (h SizeTooLarge)

@@ -1,6 +1,7 @@
 -- Sealed fields that are a length and the content.
 use Rattle.std.proofs.Common.{◌≡◌, ◌≢◌, ℕ, zero, suc, ◌+◌, ◌-◌, ◌<◌, ◌⊎◌, inl, inr, ⊎_elim, List, [], ◌∷◌, ◌++◌, length, length-append, refl, sym, ap, ◌∙◌, append_assoc, arith}
-use Rattle.std.proofs.lemmas.List.{append-nil, append_cancel_left}
+use Rattle.std.specs.Prelude.{replicate}
+use Rattle.std.proofs.lemmas.List.{append-nil, append_cancel_left, length-replicate}
 use Rattle.asn_rules.proofs.Answers.{live_within}
 use Rattle.asn_rules.proofs.Chunks.{FieldsPart}
 use Rattle.asn_rules.proofs.Flat.{flat-ones}
@@ -32,10 +33,10 @@ free_in_length {R} {k} {C} {us} w live never = go (plain_begins live).0 (plain_b
     go : (n : ℕ) (t : List ℕ) → C n (us ++ t) → InField R k us
     go n [] c = absurd (never n (rw append-nil at c))
     go n (u ∷ t) c =
-        let e = length-zeros n in
-        let d : C (length (zeros n)) (us ++ u ∷ t) = rw e c in
-        let f = w.every (zeros n) (us ++ u ∷ t) d in
-        record { content = zeros n; contents = f.0; next = u; more = t ++ zeros n; split = sym (f.1 ∙ append_assoc us (u ∷ t) (zeros n)) }
+        let e = length-replicate {A = ℕ} n 0 in
+        let d : C (length (replicate n 0)) (us ++ u ∷ t) = rw e c in
+        let f = w.every (replicate n 0) (us ++ u ∷ t) d in
+        record { content = replicate n 0; contents = f.0; next = u; more = t ++ replicate n 0; split = sym (f.1 ∙ append_assoc us (u ∷ t) (replicate n 0)) }
 
 pub headed_short_length : {A : Type 0} {R : Fielding} {k : Kind} {C : ℕ → List ℕ → Type 0} {D : A → List ℕ → Type 0} {us : List ℕ} → FieldsPart R → Headed R k C → SomeContent D → Short R (Plain C) us → Short R (Sealed k D) us
 headed_short_length {R = R} {C = C} {us = us} ok w i s = sealed_short ok i (free_in_length w s.live (λ n c. s.none n [] (let p = plain_spells R {C = C} n us [] c in rw append-nil at p)))
@@ -47,10 +48,10 @@ headed_short_content {A} {R} {k} {C} {D} {us} {r} {n} ok w i s l = sealed_short 
     free : (m : ℕ) → length r + suc m ≡ n → InField R k us
     free m e =
         let p = plain_front s in
-        let q : length (r ++ zeros (suc m)) ≡ n = length-append r (zeros (suc m)) ∙ ap (λ (x : ℕ). length r + x) (length-zeros (suc m)) ∙ e in
-        let d : C (length (r ++ zeros (suc m))) p.0 = rw q p.1 in
-        let f = w.every (r ++ zeros (suc m)) p.0 d in
-        record { content = r ++ zeros (suc m); contents = f.0; next = 0; more = zeros m; split = ap (λ (x : List ℕ). x ++ 0 ∷ zeros m) p.2 ∙ append_assoc p.0 r (0 ∷ zeros m) ∙ sym f.1 }
+        let q : length (r ++ replicate (suc m) 0) ≡ n = length-append r (replicate (suc m) 0) ∙ ap (λ (x : ℕ). length r + x) (length-replicate {A = ℕ} (suc m) 0) ∙ e in
+        let d : C (length (r ++ replicate (suc m) 0)) p.0 = rw q p.1 in
+        let f = w.every (r ++ replicate (suc m) 0) p.0 d in
+        record { content = r ++ replicate (suc m) 0; contents = f.0; next = 0; more = replicate m 0; split = ap (λ (x : List ℕ). x ++ 0 ∷ replicate m 0) p.2 ∙ append_assoc p.0 r (0 ∷ replicate m 0) ∙ sym f.1 }
 
 -- the length is not well spelt
 pub headed_refused_length : {A : Type 0} {R : Fielding} {k : Kind} {C : ℕ → List ℕ → Type 0} {D : A → List ℕ → Type 0} {us : List ℕ} {n : ℕ} → FieldsPart R → Headed R k C → SomeContent D → Refused R (Plain C) us n → Refused R (Sealed k D) us n

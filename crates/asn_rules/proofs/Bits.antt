@@ -116,4 +116,3 @@ extended k n r bs b c l m =
       count = omega (arith, length-append bs (bits r (n - weighted bs * 2 ^ r)), i.count);
       sum = omega (arith, weighted-append bs (bits r (n - weighted bs * 2 ^ r)), i.sum, q);
     }
-

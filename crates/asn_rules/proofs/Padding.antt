@@ -132,4 +132,3 @@ padded_short_fill ok law h z = map_short (then_short_second ok law h (same_short
 
 pub padded_refused_fill : {A : Type 0} {R : Fielding} {fill : ℕ → List ℕ} {L : A → List Chunk → Type 0} {a : A} {us r : List ℕ} {n : ℕ} → FieldsPart R → Lawful L → Spells R L a us r → Refused R (Fixed (fill (length us - length r))) r n → Refused R (Padded R fill L) us n
 padded_refused_fill ok law h z = map_refused (then_refused_second ok law h (same_refused (fills_same law h) z))
-

@@ -3,5 +3,6 @@ pub mod Shape
 pub mod Fits
 pub mod Measures
 pub mod Profile
+pub mod Parts
 pub mod Defaults
 pub mod View

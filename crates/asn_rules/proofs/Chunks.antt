@@ -3,7 +3,7 @@ use Rattle.std.proofs.Common.{◌≡◌, ◌≢◌, ℕ, ◌⊎◌, inl, inr, �
 use Rattle.std.proofs.lemmas.List.{append-nil, append_cancel_left}
 use Rattle.asn_rules.proofs.Flat.{flat-append}
 use Rattle.asn_rules.proofs.Lists.{Within, Beyond, cut, not_empty}
-use Rattle.asn_rules.specs.Chunks.{Kind, Chunk, one, sealed, flat, field_units}
+use Rattle.asn_rules.specs.Chunks.{Kind, Chunk, one, sealed, ones, flat, field_units}
 use Rattle.asn_rules.specs.Languages.{AllContents, InField, Passed, IsFront}
 use Rattle.asn_rules.specs.Live.{Fielding, IsContent}
 use Rattle.asn_rules.specs.Parted.{Parted}
@@ -12,6 +12,10 @@ use Rattle.asn_rules.specs.Parted.{Parted}
 pub record FieldsPart (R : Fielding) : Type 0 where
   pub tells : (k : Kind) (c d s t : List ℕ) → IsContent R k c → IsContent R k d → field_units R.spelled k c ++ s ≡ field_units R.spelled k d ++ t → c ≡ d
   pub some_units : (k : Kind) (c : List ℕ) → IsContent R k c → field_units R.spelled k c ≢ []
+
+pub ones-append : (us vs : List ℕ) → ones (us ++ vs) ≡ ones us ++ ones vs
+ones-append [] vs = refl
+ones-append (u ∷ us) vs = ap (λ (l : List Chunk). one u ∷ l) (ones-append us vs)
 
 pub contents-append : (R : Fielding) (xs ys : List Chunk) → AllContents R xs → AllContents R ys → AllContents R (xs ++ ys)
 contents-append R [] ys f g = g

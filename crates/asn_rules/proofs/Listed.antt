@@ -1,5 +1,5 @@
 -- The components of a SEQUENCE under their presence bits: two lists of spellings are one or part, and there is one.
-use Rattle.std.proofs.Common.{◌≡◌, ◌≢◌, ◌⊎◌, ℕ, zero, suc, Bool, true, false, List, [], ◌∷◌, length, Option, Some, None, inl, inr, refl, sym, ◌∙◌, arith}
+use Rattle.std.proofs.Common.{◌≡◌, ◌≢◌, ℕ, zero, suc, Bool, true, false, List, [], ◌∷◌, length, Option, Some, None, refl, arith}
 use Rattle.std.specs.Bool.{⊤}
 use Rattle.std.proofs.lemmas.Bool.{true≢false}
 use Rattle.asn_values.specs.Datum.{Datum}
@@ -11,11 +11,12 @@ use Rattle.asn_values.proofs.Parts.{left_false}
 use Rattle.asn_values.proofs.Defaults.{defaults_are_judged}
 use Rattle.asn_rules.specs.Chunks.{Chunk}
 use Rattle.asn_rules.specs.Components.{is_default}
-use Rattle.asn_rules.specs.Parted.{Parted, SpellingsPart}
+use Rattle.asn_rules.specs.Parted.{SpellingsPart}
 use Rattle.asn_rules.specs.Languages.{Lawful, Inhabited, Then, Map, Nothing, prepended}
 use Rattle.asn_rules.specs.Listed.{IsOther, Spelt, Before, Listed}
 use Rattle.asn_rules.proofs.Entries.{default_is}
 use Rattle.asn_rules.proofs.SomeValue.{a_value}
+use Rattle.asn_rules.proofs.Spellings.{spelled_lawful, spelled_inhabited}
 use Rattle.asn_rules.proofs.Parts.{map_lawful, map_inhabited, nothing_lawful, nothing_inhabited}
 use Rattle.asn_rules.proofs.Then.{then_lawful, then_inhabited}
 
@@ -56,12 +57,7 @@ another t d p g =
 
 module _ (code : Shape → Datum → List Chunk) (part : SpellingsPart code) where
   pub spelt_lawful : (e : Option Datum) (t : Shape) → InProfile t → Lawful (Spelt code e t)
-  spelt_lawful e t p = record {
-    law = λ v w x y a b. elim (part t v w p a.fits b.fits) as (λ _. ((v ≡ w) × (x ≡ y)) ⊎ ((v ≢ w) × Parted x y)) [
-      | inl h ↦ inl (h.0, a.same ∙ h.1 ∙ sym b.same)
-      | inr h ↦ inr (h.0, rw (a.same, b.same) h.1)
-    ];
-  }
+  spelt_lawful e t p = spelled_lawful (λ v w a b. part t v w p a.0 b.0)
 
   none_here : Lawful (λ (es : List (Option Datum)) (cs : List Chunk). ⊥)
   none_here = record { law = λ v w x y a b. absurd a }
@@ -91,10 +87,10 @@ module _ (code : Shape → Datum → List Chunk) (part : SpellingsPart code) whe
 
 module _ (code : Shape → Datum → List Chunk) where
   pub spelt_inhabited : (t : Shape) → InProfile t → Inhabited (Spelt code None t)
-  spelt_inhabited t p = let v = a_value t p in record { value = v.0; chunks = code t v.0; spelt = record { fits = v.1; other = tt; same = refl } }
+  spelt_inhabited t p = let v = a_value t p in spelled_inhabited v.0 (v.1, tt)
 
   pub other_inhabited : (t : Shape) (d : Datum) → InProfile t → good_default t d ≡ true → Inhabited (Spelt code (Some d) t)
-  other_inhabited t d p g = let v = another t d p g in record { value = v.0; chunks = code t v.0; spelt = record { fits = v.1; other = v.2; same = refl } }
+  other_inhabited t d p g = let v = another t d p g in spelled_inhabited v.0 (v.1, v.2)
 
   before_inhabited : {L : Datum → List Chunk → Type 0} {M : List (Option Datum) → List Chunk → Type 0} → Inhabited L → Inhabited M → Inhabited (Before L M)
   before_inhabited l m = map_inhabited (then_inhabited (map_inhabited l) (record { follow = λ a x h. m }))

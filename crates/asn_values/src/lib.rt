@@ -2,11 +2,20 @@
 #![tactic(auto)]
 
 mod checked;
+mod defaults;
+mod equality;
 mod fault;
+mod fitting;
+
+mod names;
+mod ranges;
+
 mod types;
 mod value;
 
 pub use checked::Checked;
 pub use fault::TypeFault;
+pub use fitting::fits;
+pub use equality::same;
 pub use types::{AsnType, Bounds, Field, Need};
 pub use value::Value;

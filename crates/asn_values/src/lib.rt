@@ -6,16 +6,15 @@ mod defaults;
 mod equality;
 mod fault;
 mod fitting;
-
 mod names;
 mod ranges;
-
 mod types;
 mod value;
+mod walk;
 
 pub use checked::Checked;
+pub use equality::same;
 pub use fault::TypeFault;
 pub use fitting::fits;
-pub use equality::same;
 pub use types::{AsnType, Bounds, Field, Need};
 pub use value::Value;

@@ -47,7 +47,9 @@ fn goes_on(text: &[u8]) -> bool
     ensures { result ≡ profile.goes_on text.now }
 {
     for (place, code) in text.iter().enumerate() {
-        let is_hyphen = *code == b'-' && place + 1 < text.len() && is_letter_or_digit(text[place + 1]);
+        let is_hyphen = *code == b'-'
+            && place + 1 < text.len()
+            && is_letter_or_digit(text[place + 1]);
         if !is_letter_or_digit(*code) && !is_hyphen {
             return false;
         }

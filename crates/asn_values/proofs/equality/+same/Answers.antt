@@ -1,5 +1,3 @@
-use Rattle.std.proofs.Common.{◌≡◌, ◌↔◌, IsTrue, map, option_map, rules, ap, sym, ◌∙◌}
-use Rattle.asn_values.specs.View.{datum_of}
 use Rattle.asn_values.proofs.Views.{same_sequences}
 use Rattle.asn_values.proofs.equality.+same.Goals as goal
 

@@ -1,4 +1,4 @@
-use Rattle.std.proofs.Common.{◌≡◌, ◌↔◌, map, option_map, drop}
+use Rattle.std.proofs.Common.{◌↔◌, map, option_map, drop}
 use Rattle.asn_values.specs.Fits.{FitsEach}
 use Rattle.asn_values.specs.View.{datum_of, fields_of, part_of_field}
 use Rattle.asn_values.proofs.fitting.+fits.Given as goal

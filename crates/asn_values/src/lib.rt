@@ -2,10 +2,11 @@
 #![tactic(auto)]
 
 mod checked;
-mod defaults;
+mod default_values;
 mod equality;
 mod fault;
 mod fitting;
+mod laws;
 mod names;
 mod ranges;
 mod types;
@@ -16,5 +17,6 @@ pub use checked::Checked;
 pub use equality::same;
 pub use fault::TypeFault;
 pub use fitting::fits;
+pub use laws::defaults_are_judged;
 pub use types::{AsnType, Bounds, Field, Need};
 pub use value::Value;

@@ -6,7 +6,7 @@ ghost use Rattle.asn_values.specs.View.{shape_of, fields_of, part_of_field};
 
 use crate::fault::TypeFault;
 use crate::types::{AsnType, Field};
-use crate::{defaults, names, ranges};
+use crate::{default_values, names, ranges};
 
 /// The most components of a SEQUENCE.
 const MOST_COMPONENTS: usize = 64;
@@ -73,7 +73,7 @@ fn check_components(root: &[Field]) -> Result<(), TypeFault>
     if names::are_bad(root) {
         return Err(TypeFault::DuplicateName);
     }
-    if defaults::are_bad(root) {
+    if default_values::are_bad(root) {
         return Err(TypeFault::BadDefault);
     }
     if MOST_COMPONENTS < root.len() {

@@ -1,6 +1,6 @@
 use Rattle.std.proofs.Common.{◌<◌, arith}
 use Rattle.std.proofs.lemmas.Result.{err_from_is_err_and}
-use Rattle.asn_values.proofs.Parts.{all_passed, next_is_sound, next_has_fault, simple_is_sound, sequence_sound, sequence_fault, shape_of_part}
+use Rattle.asn_values.proofs.Components.{all_passed, next_is_sound, next_has_fault, simple_is_sound, sequence_sound, sequence_fault, shape_of_part}
 use Rattle.asn_values.proofs.walk.+walk.Goals as goal
 
 pub nodes_left-returns-in-Bool-clause-sound : goal.nodes_left-returns-in-Bool-clause-sound

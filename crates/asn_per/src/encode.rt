@@ -1,0 +1,149 @@
+ghost use Rattle.std.specs.Prelude.{◌≡◌, ◌≤◌, ◌<◌, ◌+◌, ◌*◌, ◌^◌, ◌++◌, ◌×◌, IfOk, IfErr, OnOk, map, length, pos, ◌≤ℤ◌, ◌+ℤ◌, vec_len};
+ghost use Rattle.std.specs.Option.{option_map};
+ghost use Rattle.asn_values.specs.Fits.{Fits, FitsEach, FitsNumber, lowest_integer, highest_integer};
+ghost use Rattle.asn_values.specs.Shape.{integer, demands};
+ghost use Rattle.asn_values.specs.Datum.{number};
+ghost use Rattle.asn_values.specs.Profile.{InProfile};
+ghost use Rattle.asn_values.specs.Parts.{AreOfProfile, IsGoodDemand};
+ghost use Rattle.asn_values.specs.View.{shape_of, datum_of, demand_of, range_of, fields_of, part_of_field};
+ghost use Rattle.asn_bits.specs.Numbers.{bits};
+ghost use Rattle.asn_rules.specs.Answer.{max_octets};
+ghost use Rattle.asn_rules.specs.Codec.{NotEncoded};
+ghost use Rattle.asn_rules.specs.Components.{is_spelled, presence};
+ghost use Rattle.asn_per.specs.Rules.{per_ruling, IsPerEncoding};
+ghost use Rattle.asn_per.specs.Laws.{per_bits};
+ghost use Rattle.asn_per.specs.Per.{component_bits};
+
+use asn_bits::{BitSink, push_octets_under_length, width};
+use asn_rules::EncodeFault;
+use asn_values::{AsnType, Bounds, Checked, Field, Need, Value, fits, same};
+use std::alloc::{AllocError, Global};
+
+/// The most octets of a message.
+const MAX_OCTETS: usize = 268_435_455;
+
+/// The complete encoding of a value of the type (X.691, "complete encoding").
+///
+/// `NotOfType` where the value is none of the type, `TooLong` where it is and its encoding has more
+/// than 268,435,455 octets, `Memory` where it is and a growth was refused.
+pub fn encode(alloc: Global, ty: &Checked, value: &Value) -> Result<Vec<u8>, EncodeFault>
+    ensures encoding { IfOk result (λ o. IsPerEncoding (shape_of ty.now) (datum_of value.now) o.items) }
+    ensures within { IfOk result (λ o. vec_len o ≤ max_octets) }
+    ensures fault { IfErr result (λ why. NotEncoded per_ruling why (shape_of ty.now) (datum_of value.now)) }
+{
+    if !fits(ty, value) {
+        return Err(EncodeFault::NotOfType);
+    }
+    let mut sink = BitSink::new(alloc);
+    write(ty.get(), value, &mut sink)?;
+    if sink.is_empty() {
+        sink.push_number(8, 0)?;
+    }
+    sink.pad()?;
+    let octets = sink.into_octets();
+    if octets.len() > MAX_OCTETS {
+        return Err(EncodeFault::TooLong);
+    }
+    Ok(octets)
+}
+
+/// Writes a value of the type.
+#[cycle(writer)]
+fn write(ty: &AsnType, value: &Value, sink: &mut BitSink) -> Result<(), AllocError>
+    requires of_profile { InProfile (shape_of ty.now) }
+    requires of_type { Fits (shape_of ty.now) (datum_of value.now) }
+    ensures { OnOk result (sink.new ≡ sink.old ++ per_bits (shape_of ty.now) (datum_of value.now)) }
+{
+    match ty {
+        AsnType::Bool => {
+            let Value::Bool(truth) = value else {
+                unreachable!()
+            };
+            sink.push(*truth)
+        }
+        AsnType::Int(bounds) => {
+            let Value::Int(number) = value else {
+                unreachable!()
+            };
+            write_integer(bounds, *number, sink)
+        }
+        AsnType::Seq { root } => {
+            let Value::Seq(entries) = value else {
+                unreachable!()
+            };
+            let (count, bitmap) = presence_bitmap(root, entries);
+            sink.push_number(count, bitmap)?;
+            write_components(root, entries, sink)
+        }
+    }
+}
+
+/// Writes a number of the range: as a constrained whole number where there is an upper bound, else as
+/// a semi-constrained one (X.691, "encoding the integer type").
+fn write_integer(bounds: &Bounds, number: i128, sink: &mut BitSink) -> Result<(), AllocError>
+    requires of_profile { InProfile (integer (range_of bounds.now)) }
+    requires of_type { FitsNumber (range_of bounds.now) number }
+    ensures { OnOk result (sink.new ≡ sink.old ++ per_bits (integer (range_of bounds.now)) (number number)) }
+{
+    let above = (number - bounds.low) as u64;
+    match bounds.high {
+        Some(high) => sink.push_number(width((high - bounds.low) as u128 + 1), above),
+        None => push_octets_under_length(sink, above),
+    }
+}
+
+/// The presence bitmap of the components, and how many bits it has (X.691, "encoding the sequence
+/// type").
+fn presence_bitmap(fields: &[Field], entries: &[Option<Value>]) -> (u32, u64)
+    requires of_profile { AreOfProfile (fields_of (map part_of_field fields.now)) }
+    requires of_type { FitsEach (fields_of (map part_of_field fields.now)) (map (option_map datum_of) entries.now) }
+    requires few { length fields.now ≤ 64 }
+    ensures count { result.0 ≤ 64 }
+    ensures within { result.1 < 2 ^ result.0 }
+    ensures bitmap { bits result.0 result.1
+        ≡ presence (demands (fields_of (map part_of_field fields.now))) (map (option_map datum_of) entries.now) }
+{
+    let mut count = 0;
+    let mut bitmap = 0;
+    for (field, entry) in fields.iter().zip(entries) {
+        if !matches!(field.need, Need::Must) {
+            count += 1;
+            bitmap = 2 * bitmap + u64::from(is_spelled_in(&field.need, entry));
+        }
+    }
+    (count, bitmap)
+}
+
+/// Whether a component is encoded: it has a value, and not its DEFAULT.
+fn is_spelled_in(need: &Need, entry: &Option<Value>) -> bool
+    ensures { result ≡ is_spelled (demand_of need.now) (option_map datum_of entry.now) }
+{
+    match (need, entry) {
+        (Need::Must, _) => true,
+        (_, None) => false,
+        (Need::Optional, Some(_)) => true,
+        (Need::Default(default), Some(value)) => !same(default, value),
+    }
+}
+
+/// Writes the components that are encoded, in order.
+#[cycle(writer)]
+fn write_components(
+    fields: &[Field],
+    entries: &[Option<Value>],
+    sink: &mut BitSink,
+) -> Result<(), AllocError>
+    requires of_profile { AreOfProfile (fields_of (map part_of_field fields.now)) }
+    requires of_type { FitsEach (fields_of (map part_of_field fields.now)) (map (option_map datum_of) entries.now) }
+    ensures { OnOk result (sink.new ≡ sink.old
+        ++ component_bits (fields_of (map part_of_field fields.now)) (map (option_map datum_of) entries.now)) }
+{
+    for (field, entry) in fields.iter().zip(entries) {
+        if let Some(value) = entry
+            && is_spelled_in(&field.need, entry)
+        {
+            write(&field.ty, value, sink)?;
+        }
+    }
+    Ok(())
+}

@@ -23,8 +23,12 @@ width_below r m h = least_from_below (λ k. nat_le r (2 ^ k)) r 0 m (omega arith
 -- the bits of the highest of r values, counted from 0, are its width
 pub width_counted : (r a : ℕ) → a < 2 ^ 128 → a ≡ r - 1 → 128 - count_leading_zeros 128 a ≡ width r
 width_counted zero a h e =
-    let z : a ≡ 0 = omega arith in
-    ap (λ t. 128 - count_leading_zeros 128 t) z
+    let found = leading_length 128 a h in
+    let m = found.0 in
+    let c : count_leading_zeros 128 a + m ≡ 128 = found.1 in
+    let half : 2 ^ m ≤ 2 * a + 1 = found.3 in
+    let none : m ≤ 0 = bits_needed m 0 a half (omega (arith, pow-zero 2)) in
+    omega arith
 width_counted (suc r) a h e =
     let found = leading_length 128 a h in
     let m = found.0 in

@@ -18,5 +18,5 @@ pub fn octet_count(n: u64) -> u32
     if bits == 0 {
         return 1;
     }
-    bits.div_ceil(8)
+    (bits + 7) / 8
 }

@@ -3,6 +3,7 @@
 
 pub mod cursor;
 pub mod numbers;
+pub mod offsets;
 pub mod sink;
 
 pub use cursor::BitCursor;

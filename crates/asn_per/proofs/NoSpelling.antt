@@ -144,4 +144,3 @@ mutual
       ap (λ cs. cs ++ per_each fs es) first ∙ none_spelled_each fs es w.1 f.1
   none_spelled_each (field name optional t fs) (e ∷ es) h f = absurd (true≢false (sym h))
   none_spelled_each (field name (default d) t fs) (e ∷ es) h f = absurd (true≢false (sym h))
-

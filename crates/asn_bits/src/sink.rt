@@ -104,7 +104,8 @@ impl BitSink {
         let whole = total / 8;
         if whole > 0 {
             let octets = (joined >> left).to_be_bytes();
-            self.octets.extend_from_slice(&octets[16 - whole as usize..])?;
+            self.octets
+                .extend_from_slice(&octets[16 - whole as usize..])?;
         }
         self.pending = low_octet(joined);
         self.count = left;

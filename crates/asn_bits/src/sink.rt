@@ -92,7 +92,8 @@ impl BitSink {
         octets
     }
 
-    fn append(&mut self, k: u32, n: u128) -> Result<(), AllocError>
+    // adds n in k bits, in one step
+    pub(crate) fn append(&mut self, k: u32, n: u128) -> Result<(), AllocError>
         requires few { k ≤ 112 }
         requires fits { n < 2 ^ k }
         ensures ok { OnOk result (self.new ≡ self.old ++ bits k n) }
@@ -114,7 +115,7 @@ impl BitSink {
 }
 
 // n in k bits behind the octet high
-fn joined(high: u8, k: u32, n: u128) -> u128
+pub(crate) fn joined(high: u8, k: u32, n: u128) -> u128
     requires few { k ≤ 112 }
     requires fits { n < 2 ^ k }
     ensures { result ≡ high * 2 ^ k + n }

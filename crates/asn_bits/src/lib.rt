@@ -2,6 +2,7 @@
 #![tactic(auto)]
 
 pub mod cursor;
+pub mod lengths;
 pub mod numbers;
 pub mod offsets;
 pub mod sink;

@@ -1,6 +1,6 @@
 -- There is no bit where there is no octet and none waits.
-use Rattle.std.proofs.Common.{◌≡◌, ◌++◌, [], length, arith, ap, sym, ◌∙◌, eq-eqb, eqb-true}
-use Rattle.std.specs.Prelude.{◌==◌, vec_len}
+use Rattle.std.proofs.Common.{◌≡◌, ◌++◌, length, arith, sym, ◌∙◌, eq-eqb, eqb-true}
+use Rattle.std.specs.Prelude.{vec_len}
 use Rattle.asn_bits.specs.Numbers.{bits, unpacked}
 use Rattle.asn_bits.proofs.Packing.{empty_view, view_empty}
 use Rattle.asn_bits.proofs.sink.BitSink.is_empty.Goals as goal

@@ -173,3 +173,31 @@ number_again k (negsuc n) h f = go (nat_lt r (2 ^ (8 * k - 1))) refl
     go false e =
         let same : 2 ^ (8 * k) - 1 - r ≡ n = omega (arith, half k h, octet_power k, f) in
         rw (e, signed_number) (ap negsuc same)
+
+pub counted_signed : (S : ℤ → Type 0) → ((z : ℤ) → S z → signed_octet_count z < 128) → Same (Map signed_number (Counted (LeastSigned S))) (SpelledBy S (λ z. ones (general_octets (λ u. u) (least_signed z))))
+counted_signed S few = same_after (map_same (same_after (same_then (set_spelled 8 (SomeOf (LeastSigned S)) (λ k s. count k s.few)) (λ k. set_spelled (8 * k) (LeastSigned S k) (λ n l. l.fits))) then_spelled)) (map_spelled there back)
+  where
+    count : (k : ℕ) → k < 128 → k < 2 ^ 8
+    count k h = omega (arith, h)
+
+    -- the octets of the number are those that were read
+    octets_are : (k r : ℕ) → LeastSigned S k r → least_signed (signed_number (k, r)) ≡ octets k r
+    octets_are k r l =
+        let z = signed_number (k, r) in
+        let some : 1 ≤ k = subst (λ (i : ℕ). 1 ≤ i) l.count (signed_count_some z) in
+        ap (λ (i : ℕ). signed_octets i z) l.count ∙ signed_is k z ∙ ap (octets k) (residue_of k r some l.fits)
+
+    there : (p : ℕ × ℕ) → SomeOf (LeastSigned S) p.0 × LeastSigned S p.0 p.1 → S (signed_number p) × (ones (bits 8 p.0) ++ ones (bits (8 * p.0) p.1) ≡ ones (general_octets (λ u. u) (least_signed (signed_number p))))
+    there p h = (
+      h.1.member,
+      sym (ones-append (bits 8 p.0) (bits (8 * p.0) p.1)) ∙ ap ones (sym (octets_counted p.0 p.1 h.0.few h.1.fits) ∙ ap (λ (os : List ℕ). general_octets (λ u. u) os) (sym (octets_are p.0 p.1 h.1))),
+    )
+
+    back : (z : ℤ) → S z → (p : ℕ × ℕ) × (SomeOf (LeastSigned S) p.0 × LeastSigned S p.0 p.1) × (z ≡ signed_number p)
+    back z s =
+        let k = signed_octet_count z in
+        let r = residue k z in
+        let again : signed_number (k, r) ≡ z = number_again k z (signed_count_some z) (signed_fits z) in
+        let fit : r < 2 ^ (8 * k) = omega (arith, residue_fits k z (signed_count_some z) (signed_fits z), octet_power k) in
+        let l : LeastSigned S k r = record { member = subst S (sym again) s; count = ap signed_octet_count again; fits = fit } in
+        ((k, r), (record { few = few z s; number = r; member = l; fits = fit }, l), sym again)

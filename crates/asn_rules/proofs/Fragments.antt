@@ -14,7 +14,28 @@ use Rattle.asn_rules.specs.General.{Length, last, fragment, Left, Blocks, Header
 use Rattle.asn_rules.specs.Spellings.{SpelledBy}
 use Rattle.asn_rules.proofs.Bits.{bits_are}
 use Rattle.asn_rules.proofs.General.{header_few_is, header_many_is, header_blocks_is, general_once, general_lawful, general_counted}
-use Rattle.asn_rules.proofs.Spellings.{row_spelled}
+use Rattle.asn_rules.proofs.Spellings.{same_row, row_spelled}
+use Rattle.asn_rules.proofs.Forks.{same_flip}
+
+-- ---- items of the same spellings
+
+within_same : {A : Type 0} {K L : A → List Chunk → Type 0} → Same K L → (f : ℕ) (S : ℕ → Type 0) (vs : List A) (cs : List Chunk) → Within K f S vs cs → Within L f S vs cs
+within_same e zero S vs cs h = absurd h
+within_same {A} {K} {L} e (suc f) S vs cs h = record {
+  source = h.source;
+  spelt = record { first = h.spelt.first; second = h.spelt.second; spelt = h.spelt.spelt; follows = body h.source.0 h.source.1 h.spelt.second h.spelt.follows (λ m ws ds g. within_same e f (Left S m) ws ds g); whole = h.spelt.whole };
+  seen = h.seen;
+}
+  where
+    body : (l : Length) (ws : List A) (ds : List Chunk) → Body K (Within K f) S l ws ds → ((m : ℕ) (ws : List A) (ds : List Chunk) → Within K f (Left S m) ws ds → Within L f (Left S m) ws ds) → Body L (Within L f) S l ws ds
+    body (last n) ws ds b again = (same_row e n).to ws ds b
+    body (fragment m) ws ds b again = record { source = b.source; spelt = record { first = b.spelt.first; second = b.spelt.second; spelt = (same_row e (16384 * m)).to b.source.0 b.spelt.first b.spelt.spelt; follows = again m b.source.1 b.spelt.second b.spelt.follows; whole = b.spelt.whole }; seen = b.seen }
+
+pub same_general : {A : Type 0} {K L : A → List Chunk → Type 0} → Same K L → (S : ℕ → Type 0) → Same (General K S) (General L S)
+same_general e S = record {
+  to = λ vs cs h. record { lengths = h.lengths; spelt = within_same e h.lengths S vs cs h.spelt };
+  from = λ vs cs h. record { lengths = h.lengths; spelt = within_same (same_flip e) h.lengths S vs cs h.spelt };
+}
 
 -- ---- lengths
 

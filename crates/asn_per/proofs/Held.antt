@@ -174,7 +174,7 @@ mutual
 whole_held : (t : Shape) (d : Datum) → Fits t d → AllSealed per_fields (per_whole t d)
 whole_held t d f = (held_append (per t d) (ones (filling (length (flat spelled (per t d))))) (per_held t d f) (held_ones _)).all
 
-spelled_not : (c : List ℕ) → spelled c ≢ []
+pub spelled_not : (c : List ℕ) → spelled c ≢ []
 spelled_not c = general_not (λ u. u) (map (λ o. map (λ u. u) (bits 8 o)) c)
 
 some_units : (c : List ℕ) → 0 < length (spelled c)

@@ -5,6 +5,7 @@ use Rattle.asn_values.specs.Shape.{Shape, Demand, must, optional, default, Field
 use Rattle.asn_values.specs.Fits.{Fits}
 use Rattle.asn_rules.specs.Chunks.{Chunk}
 use Rattle.asn_rules.specs.Components.{is_default}
+use Rattle.asn_rules.specs.Spellings.{SpelledBy}
 use Rattle.asn_rules.specs.Languages.{Then, Map, Nothing, prepended}
 
 -- the value is not the one that is left out, where one is
@@ -13,10 +14,8 @@ IsOther None v = ⊤
 IsOther (Some d) v = is_default d v ≡ false
 
 -- the values of the type but the one that is left out, spelt by the code
-pub record Spelt (code : Shape → Datum → List Chunk) (left_out : Option Datum) (t : Shape) (v : Datum) (cs : List Chunk) : Type 0 where
-  pub fits : Fits t v
-  pub other : IsOther left_out v
-  pub same : cs ≡ code t v
+abbrev pub Spelt : (Shape → Datum → List Chunk) → Option Datum → Shape → Datum → List Chunk → Type 0
+Spelt code left_out t = SpelledBy (λ v. Fits t v × IsOther left_out v) (code t)
 
 -- a component that is spelt, and those behind it
 abbrev pub Before : (Datum → List Chunk → Type 0) → (List (Option Datum) → List Chunk → Type 0) → List (Option Datum) → List Chunk → Type 0

@@ -6,3 +6,4 @@ pub mod Profile
 pub mod Parts
 pub mod Defaults
 pub mod View
+pub mod Walk

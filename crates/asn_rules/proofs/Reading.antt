@@ -11,10 +11,12 @@ use Rattle.asn_rules.specs.Live.{Fielding, IsContent, Free, Bounded, Front, Live
 use Rattle.asn_rules.specs.Answer.{Ruling, IsEncoding, NoFront, LiveOctets, Answer, Told, done, refused, too_long, more, max_octets}
 use Rattle.asn_rules.specs.Spellings.{SpelledBy}
 use Rattle.asn_rules.specs.Languages.{AllContents, InField, Passed, IsFront, Spells, NoSpelling, IsLive, Short, Refused, Lawful}
-use Rattle.asn_rules.specs.Reading.{IsSealed, AllSealed, Wholes, RulesTell}
+use Rattle.asn_rules.specs.Reading.{IsSealed, AllSealed, Wholes, RulesTell, HasOneReading, ReadingsAnswer}
 use Rattle.asn_rules.proofs.Fronts.{live_iff}
 use Rattle.asn_rules.proofs.Lists.{same_fronts}
 use Rattle.asn_rules.proofs.Chunks.{FieldsPart}
+use Rattle.asn_rules.proofs.Then.{one_front}
+use Rattle.asn_rules.proofs.Answers.{one_refusal, refused_or_done, short_or_done, refused_or_short}
 use Rattle.asn_rules.proofs.Tails.{fields_part}
 use Rattle.asn_rules.proofs.Spellings.{spelled_lawful}
 use Rattle.asn_rules.proofs.Places.{refused_place, place_by, contents_by_length}
@@ -131,3 +133,20 @@ module _ (r : Ruling) (rules : RulesTell r) (t : Shape) (good : InProfile t) whe
 
   pub answer_too_long : (s : List ℕ) → length s ≡ max_octets → Short r.fielding (Wholes r t) (r.units s) → Answer r t s too_long
   answer_too_long s few h = (let w = short_says s (omega arith) h in (w.0, w.1, few))
+
+pub one_reading : (r : Ruling) (t : Shape) (us : List ℕ) → RulesTell r → InProfile t → HasOneReading r t us
+one_reading r t us rules good = record {
+  done = λ v w x y p q. one_front (fields_tell r rules t good) (wholes_lawful r rules t good) p q;
+  refused = λ m n p q. one_refusal p q;
+  done_or_refused = λ v x n p q. refused_or_done q p;
+  done_or_short = λ v x p q. short_or_done q p;
+  refused_or_short = λ n p q. refused_or_short p q;
+}
+
+pub readings_answer : (r : Ruling) (t : Shape) (s : List ℕ) → RulesTell r → InProfile t → ReadingsAnswer r t s
+readings_answer r t s rules good = record {
+  value = λ v n rest w l h. answer_done r rules t good s v n rest w l h;
+  place = λ left few h. answer_refused r rules t good s left few h;
+  wanting = λ few h. answer_more r rules t good s few h;
+  at_the_limit = λ few h. answer_too_long r rules t good s few h;
+}

@@ -1,5 +1,5 @@
 -- What of encoding rules makes their readers exact.
-use Rattle.std.specs.Prelude.{◌≡◌, ◌≢◌, ◌*◌, ◌<◌, ◌≤◌, ℕ, List, [], ◌∷◌, ◌++◌, length, ⊤}
+use Rattle.std.specs.Prelude.{◌≡◌, ◌-◌, ◌*◌, ◌<◌, ◌≤◌, ℕ, List, [], ◌∷◌, ◌++◌, length, drop, ⊤}
 use Rattle.std.specs.List.{AllByRecursion}
 use Rattle.asn_values.specs.Datum.{Datum}
 use Rattle.asn_values.specs.Shape.{Shape}
@@ -8,7 +8,8 @@ use Rattle.asn_values.specs.Profile.{InProfile}
 use Rattle.asn_rules.specs.Chunks.{Kind, open_field, utf8_field, rest_of, Chunk, one, sealed}
 use Rattle.asn_rules.specs.Live.{Fielding, IsContent, Free, Bounded}
 use Rattle.asn_rules.specs.Parted.{SpellingsPart}
-use Rattle.asn_rules.specs.Answer.{Ruling}
+use Rattle.asn_rules.specs.Languages.{Spells, Short, Refused}
+use Rattle.asn_rules.specs.Answer.{Ruling, Answer, done, refused, too_long, more, max_octets}
 use Rattle.asn_rules.specs.Spellings.{SpelledBy}
 
 -- a field as spellings of values have it: whole, and its content is one that the kind may have, but for
@@ -45,3 +46,23 @@ pub record RulesTell (r : Ruling) : Type 0 where
   -- the fields of whole encodings are such, and two encodings are one or part
   pub sealed : (t : Shape) (v : Datum) → InProfile t → Fits t v → AllSealed r.fielding (r.whole t v)
   pub part : SpellingsPart r.whole
+
+-- ---- what follows
+
+-- of one list of units there is one reading: a front that is the whole encoding of one value, or one refused
+-- unit, or neither
+pub record HasOneReading (r : Ruling) (t : Shape) (us : List ℕ) : Type 0 where
+  pub done : (v w : Datum) (x y : List ℕ) → Spells r.fielding (Wholes r t) v us x → Spells r.fielding (Wholes r t) w us y → (v ≡ w) × (x ≡ y)
+  pub refused : (m n : ℕ) → Refused r.fielding (Wholes r t) us m → Refused r.fielding (Wholes r t) us n → m ≡ n
+  pub done_or_refused : (v : Datum) (x : List ℕ) (n : ℕ) → Spells r.fielding (Wholes r t) v us x → Refused r.fielding (Wholes r t) us n → ⊥
+  pub done_or_short : (v : Datum) (x : List ℕ) → Spells r.fielding (Wholes r t) v us x → Short r.fielding (Wholes r t) us → ⊥
+  pub refused_or_short : (n : ℕ) → Refused r.fielding (Wholes r t) us n → Short r.fielding (Wholes r t) us → ⊥
+
+-- the readings of the units of octets as answers to the octets
+pub record ReadingsAnswer (r : Ruling) (t : Shape) (s : List ℕ) : Type 0 where
+  -- the units behind the value's are those of the octets behind the first n
+  pub value : (v : Datum) (n : ℕ) (rest : List ℕ) → n ≤ length s → length rest ≡ length (r.units (drop n s)) → Spells r.fielding (Wholes r t) v (r.units s) rest → Answer r t s (done v n)
+  -- the place is told by how many units lie behind it
+  pub place : (left : ℕ) → length s ≤ max_octets → Refused r.fielding (Wholes r t) (r.units s) left → Answer r t s (refused (length (r.units s) - left))
+  pub wanting : length s < max_octets → Short r.fielding (Wholes r t) (r.units s) → Answer r t s more
+  pub at_the_limit : length s ≡ max_octets → Short r.fielding (Wholes r t) (r.units s) → Answer r t s too_long

@@ -17,7 +17,7 @@ use Rattle.asn_rules.proofs.Lists.{same_fronts}
 use Rattle.asn_rules.proofs.Chunks.{FieldsPart}
 use Rattle.asn_rules.proofs.Then.{one_front}
 use Rattle.asn_rules.proofs.Answers.{one_refusal, refused_or_done, short_or_done, refused_or_short}
-use Rattle.asn_rules.proofs.Tails.{fields_part}
+use Rattle.asn_rules.proofs.PartingFields.{fields_part}
 use Rattle.asn_rules.proofs.Spellings.{spelled_lawful}
 use Rattle.asn_rules.proofs.Places.{refused_place, place_by, contents_by_length}
 
@@ -65,7 +65,7 @@ module _ (r : Ruling) (rules : RulesTell r) (t : Shape) (good : InProfile t) whe
   -- ---- what readers of parts want
 
   pub fields_tell : FieldsPart r.fielding
-  fields_tell = fields_part rules.tells rules.units
+  fields_tell = fields_part r.fielding rules.tells (λ c e. (let h = rules.units c in let f = ap length e in omega arith))
 
   pub wholes_lawful : Lawful (Wholes r t)
   wholes_lawful = spelled_lawful (λ v w p q. rules.part t v w good p q)

@@ -20,34 +20,6 @@ use Rattle.asn_rules.specs.Live.{Fielding, BeginsProperly, IsContent}
 pub begun_whole : (us f : List ℕ) → BeginsProperly us f → us ++ drop (length us) f ≡ f
 begun_whole us f p = ap (λ (l : List ℕ). us ++ drop (length us) l) p.2 ∙ ap (λ (l : List ℕ). us ++ l) (drop-append_seam us (p.0 ∷ p.1)) ∙ sym p.2
 
--- ---- fields that begin no other
-
--- no field begins another and none is empty where that holds of the spellings of contents
-pub fields_part : {R : Fielding} → ((c d s t : List ℕ) → AllByRecursion (λ o. o < 256) c → AllByRecursion (λ o. o < 256) d → R.spelled c ++ s ≡ R.spelled d ++ t → c ≡ d) → ((c : List ℕ) → 0 < length (R.spelled c)) → FieldsPart R
-fields_part {R} code some = record { tells = tells; some_units = some_units }
-  where
-    tells : (k : Kind) (c d s t : List ℕ) → IsContent R k c → IsContent R k d → field_units R.spelled k c ++ s ≡ field_units R.spelled k d ++ t → c ≡ d
-    tells open_field c d s t f g e = code c d s t f.2 g.2 e
-    tells utf8_field c d s t f g e = code c d s t f.2 g.2 e
-    tells (rest_of k us) c d s t f g e =
-        let x = begun_whole us (field_units R.spelled k c) f.1 in
-        let y = begun_whole us (field_units R.spelled k d) g.1 in
-        tells k c d s t f.0 g.0 (
-        ap (λ (l : List ℕ). l ++ s) (sym x) ∙ append_assoc us (drop (length us) (field_units R.spelled k c)) s ∙ ap (λ (l : List ℕ). us ++ l) e ∙ sym (append_assoc us (drop (length us) (field_units R.spelled k d)) t) ∙ ap (λ (l : List ℕ). l ++ t) y)
-
-    not_nothing : (l : List ℕ) → 0 < length l → l ≢ []
-    not_nothing [] h = absurd (omega arith)
-    not_nothing (x ∷ l) h = λ e. cc
-
-    some_units : (k : Kind) (c : List ℕ) → IsContent R k c → field_units R.spelled k c ≢ []
-    some_units open_field c f = not_nothing (R.spelled c) (some c)
-    some_units utf8_field c f = not_nothing (R.spelled c) (some c)
-    some_units (rest_of k us) c f =
-        let d : drop (length us) (field_units R.spelled k c) ≡ f.1.0 ∷ f.1.1 = ap (λ (l : List ℕ). drop (length us) l) f.1.2 ∙ drop-append_seam us (f.1.0 ∷ f.1.1) in
-        λ e. cc
-
--- ---- what is left
-
 front_of_free : (R : Fielding) (k : Kind) (c : List ℕ) (cs : List Chunk) (us : List ℕ) → InField R k us → IsFront R (sealed k c ∷ cs) us
 front_of_free R k c cs [] f = tt
 front_of_free R k c cs (u ∷ us) f = inl f

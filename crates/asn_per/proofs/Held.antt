@@ -171,13 +171,13 @@ mutual
 
 -- ---- live
 
-whole_held : (t : Shape) (d : Datum) → Fits t d → AllSealed per_fields (per_whole t d)
+pub whole_held : (t : Shape) (d : Datum) → Fits t d → AllSealed per_fields (per_whole t d)
 whole_held t d f = (held_append (per t d) (ones (filling (length (flat spelled (per t d))))) (per_held t d f) (held_ones _)).all
 
 pub spelled_not : (c : List ℕ) → spelled c ≢ []
 spelled_not c = general_not (λ u. u) (map (λ o. map (λ u. u) (bits 8 o)) c)
 
-some_units : (c : List ℕ) → 0 < length (spelled c)
+pub some_units : (c : List ℕ) → 0 < length (spelled c)
 some_units c = go (spelled c) (spelled_not c)
   where
     go : (xs : List ℕ) → xs ≢ [] → 0 < length xs
@@ -188,10 +188,10 @@ some_units c = go (spelled c) (spelled_not c)
 begins_field : BeginsProperly [] (spelled (0 ∷ []))
 begins_field = (0, 0 ∷ 0 ∷ 0 ∷ 0 ∷ 0 ∷ 0 ∷ 1 ∷ 0 ∷ 0 ∷ 0 ∷ 0 ∷ 0 ∷ 0 ∷ 0 ∷ 0 ∷ [], refl)
 
-open_starts : Free per_fields open_field []
+pub open_starts : Free per_fields open_field []
 open_starts = (0 ∷ [], (omega arith, omega arith, (omega arith, tt)), begins_field)
 
-utf8_starts : Free per_fields utf8_field []
+pub utf8_starts : Free per_fields utf8_field []
 utf8_starts = (0 ∷ [], (omega arith, omega arith, (omega arith, tt)), begins_field)
 
 -- live by units and fields is live by chunks

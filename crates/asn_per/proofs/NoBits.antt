@@ -1,12 +1,10 @@
 -- Spellings in PER that have at least one chunk.
-use Rattle.std.proofs.Common.{◌≡◌, ◌≢◌, ◌≤◌, ◌<◌, ◌-◌, ◌/◌, ◌^◌, ◌⊎◌, ℕ, zero, suc, Bool, true, false, ◌||◌, List, [], ◌∷◌, ◌++◌, length, map, replicate, Option, Some, None, inl, inr, refl, sym, ◌∙◌, ap, subst, arith, nat_lt, nat_le}
+use Rattle.std.proofs.Common.{◌≡◌, ◌≢◌, ◌≤◌, ◌<◌, ◌-◌, ◌/◌, ◌^◌, ◌⊎◌, ℕ, zero, suc, Bool, true, false, List, [], ◌∷◌, ◌++◌, length, map, replicate, Option, Some, None, inl, inr, refl, sym, ◌∙◌, ap, subst, arith, nat_lt}
 use Rattle.asn_values.specs.Shape.{SizeRange}
-use Rattle.std.proofs.lemmas.Bool.{and_parts, or_parts, true≢false, ltb-false, le-leb, eq-eqb, cases_lt}
-use Rattle.std.proofs.lemmas.List.{length-replicate}
+use Rattle.std.proofs.lemmas.Bool.{true≢false, ltb-false, eq-eqb, cases_lt}
 use Rattle.std.proofs.Math.Nat.{pow-zero}
-use Rattle.std.specs.List.{AllByRecursion}
-use Rattle.asn_values.specs.Fits.{in_size, not_above, FitsLength}
-use Rattle.asn_values.specs.Profile.{size_above, large_size, is_zero_size, is_fixed_size}
+use Rattle.asn_values.specs.Fits.{in_size}
+use Rattle.asn_values.specs.Profile.{size_above, is_zero_size, is_fixed_size}
 use Rattle.asn_bits.specs.Numbers.{bits, width}
 use Rattle.asn_bits.specs.Lengths.{last_length, lengths_within, joined, with_lengths, general}
 use Rattle.asn_bits.proofs.Octets.{length-digits}

@@ -1,19 +1,15 @@
 -- Numbers in PER are told by their bits: those of a range, and normally small ones.
-use Rattle.std.proofs.Common.{◌≡◌, ◌≤◌, ◌<◌, ◌+◌, ◌-◌, ◌==◌, ◌⊎◌, ℕ, zero, suc, ℤ, pos, negsuc, Bool, true, false, ◌&&◌, ◌||◌, cond, List, [], ◌∷◌, ◌++◌, length, map, Option, Some, None, inl, inr, refl, sym, ◌∙◌, ap, subst, arith, IsTrue, nat_lt, nat_le}
-use Rattle.std.proofs.lemmas.Bool.{and_parts, or_parts, true≢false, ltb-true, ltb-false, lt-ltb, leb-true, leb-false, eqb-true, cases_lt}
-use Rattle.std.proofs.lemmas.List.Sums.{sum_by-cons}
-use Rattle.std.specs.List.{list_any}
-use Rattle.std.specs.Int.RustNames.{int_le, int_lt}
-use Rattle.asn_values.specs.Shape.{Alphabet, Range, ia5, numeric, visible, Label, MoreLabels, closed_labels, marked_labels, more_labels, has_more_labels}
-use Rattle.asn_values.specs.Fits.{FitsNumber, in_range, at_least, at_most, is_of_kind}
-use Rattle.asn_values.specs.Profile.{int_eq, has_twice}
+use Rattle.std.proofs.Common.{◌≡◌, ◌<◌, ◌⊎◌, ℕ, suc, ℤ, pos, negsuc, Bool, true, false, ◌&&◌, ◌||◌, List, ◌∷◌, ◌++◌, Option, Some, None, inl, inr, refl, sym, ◌∙◌, ap, subst, arith, IsTrue, nat_lt}
+use Rattle.std.proofs.lemmas.Bool.{and_parts, true≢false, ltb-true, leb-true}
+use Rattle.std.specs.Int.RustNames.{int_le}
+use Rattle.asn_values.specs.Shape.{Range}
+use Rattle.asn_values.specs.Fits.{FitsNumber, in_range, at_least, at_most}
 use Rattle.asn_bits.specs.Numbers.{bits, width, above}
 use Rattle.asn_bits.proofs.Codes.{IsCode}
 use Rattle.asn_bits.proofs.Digits.{digits_code}
 use Rattle.asn_bits.proofs.Octets.{least_code, least_signed_code}
 use Rattle.asn_bits.proofs.Widths.{width_fits}
-use Rattle.asn_rules.specs.Components.{number_at}
-use Rattle.asn_per.specs.Per.{constrained, semi_constrained, unconstrained, small, ranged, behind_mark, whole_number, character_bits, rank, enumeration}
+use Rattle.asn_per.specs.Per.{semi_constrained, unconstrained, small, ranged, behind_mark, whole_number}
 
 zero_one : ◌≡◌ {A = ℕ} 0 1 → ⊥
 zero_one h = omega arith

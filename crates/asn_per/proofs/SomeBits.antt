@@ -1,20 +1,19 @@
 -- A type of the profile has a value that takes a bit, unless no_bits says that it has none.
-use Rattle.std.proofs.Common.{◌≡◌, ◌≢◌, ◌≤◌, ◌<◌, ◌-◌, ◌==◌, ◌⊎◌, ◌↔◌, ℕ, zero, suc, ℤ, pos, negsuc, ◌≤ℤ◌, Bool, true, false, not, ◌&&◌, ◌||◌, List, [], ◌∷◌, ◌++◌, length, map, take, drop, replicate, Option, Some, None, inl, inr, refl, sym, ◌∙◌, ap, subst, arith, IsTrue, T, nat_lt, nat_le, MatchBool}
-use Rattle.std.proofs.lemmas.Bool.{and_parts, or_parts, true≢false, lt-ltb, leb-true, leb-false, le-leb, eqb-true, eq-eqb, cases_lt}
+use Rattle.std.proofs.Common.{◌≡◌, ◌≢◌, ◌≤◌, ◌<◌, ◌-◌, ◌==◌, ◌⊎◌, ◌↔◌, ℕ, suc, ℤ, pos, negsuc, Bool, true, false, ◌&&◌, ◌||◌, List, [], ◌∷◌, ◌++◌, length, map, take, drop, replicate, Option, Some, None, inl, inr, refl, sym, ◌∙◌, ap, subst, arith, IsTrue, nat_lt, MatchBool}
+use Rattle.std.proofs.lemmas.Bool.{or_parts, true≢false, leb-false, eq-eqb}
 use Rattle.std.proofs.Math.Seq.{take-append_seam, drop-append_seam}
 use Rattle.std.proofs.lemmas.Str.{IsUtf8-nil}
 use Rattle.std.specs.List.{AllByRecursion}
-use Rattle.std.specs.Int.RustNames.{int_le, int_lt}
-use Rattle.std.specs.Int.Signed.{lt_z_no}
-use Rattle.asn_values.specs.Datum.{Datum, truth, nothing, number, item, bit_list, octet_list, characters, unicode, components, elements, alternative, Components, component_list, element_list, elements_of, components_of}
-use Rattle.asn_values.specs.Shape.{Alphabet, Range, SizeRange, ia5, numeric, visible, Shape, boolean, null, integer, enumerated, bit_string, octet_string, restricted, utf8_string, sequence, sequence_of, choice, Label, MoreLabels, closed_labels, marked_labels, must, optional, default, Fields, no_fields, field, MoreFields, closed, marked, is_marked, demands, Alternatives, no_alternatives, one_of, MoreAlternatives, closed_choice, marked_choice, is_marked_choice, count}
-use Rattle.asn_values.specs.Fits.{Fits, FitsEach, FitsMore, FitsMoreAlternatives, FitsLength, FitsNumber, is_of_kind, in_size, not_above, in_range, at_most, lowest_integer, highest_integer}
-use Rattle.asn_values.specs.Profile.{somewhere, some_field, some_addition, some_alternative, some_more, empty_range, size_too_large, low_above_high, is_outside, size_above, large_size, no_bits, no_field_bits, is_zero_size, is_fixed_size, is_one_number, is_closed}
+use Rattle.std.specs.Int.RustNames.{int_le}
+use Rattle.asn_values.specs.Datum.{Datum, truth, number, item, bit_list, octet_list, characters, unicode, components, elements, alternative, Components, component_list, elements_of, components_of}
+use Rattle.asn_values.specs.Shape.{Alphabet, Range, ia5, numeric, visible, Shape, boolean, null, integer, enumerated, bit_string, octet_string, restricted, utf8_string, sequence, sequence_of, choice, Label, MoreLabels, closed_labels, marked_labels, must, optional, default, Fields, no_fields, field, MoreFields, closed, marked, is_marked, demands, Alternatives, no_alternatives, one_of, MoreAlternatives, closed_choice, marked_choice, is_marked_choice, count}
+use Rattle.asn_values.specs.Fits.{Fits, FitsEach, FitsMoreAlternatives, FitsLength, is_of_kind, in_range}
+use Rattle.asn_values.specs.Profile.{somewhere, some_field, some_alternative, empty_range, size_too_large, size_above, large_size, no_bits, no_field_bits, is_zero_size, is_fixed_size, is_one_number, is_closed}
 use Rattle.asn_bits.specs.Numbers.{bits, above, least, least_signed}
-use Rattle.asn_bits.specs.Lengths.{joined, general, general_octets}
-use Rattle.asn_rules.specs.Chunks.{Chunk, one, ones}
+use Rattle.asn_bits.specs.Lengths.{general_octets}
+use Rattle.asn_rules.specs.Chunks.{one, ones}
 use Rattle.asn_rules.specs.Components.{number_at, bit_of, presence, any_present, extension_bit}
-use Rattle.asn_per.specs.Per.{behind_mark, rank, unconstrained, within, sized, constrained, small, whole_number, ranged, enumeration, character_bits, per, per_each, per_additions, per_alternative, per_more}
+use Rattle.asn_per.specs.Per.{behind_mark, rank, unconstrained, sized, constrained, small, whole_number, ranged, enumeration, character_bits, per, per_each, per_additions, per_alternative, per_more}
 use Rattle.asn_rules.proofs.SomeValue.{number_between, all_same, shortest_fits, entries_again, list_again, character_fits, some_length, entries_fit, first_place, some_value, some_entries}
 use Rattle.asn_per.proofs.NoSpelling.{none_spelled}
 use Rattle.asn_per.proofs.NoBits.{not_nil, first_not, second_not, ones_not, constrained_not, general_not, sized_not}

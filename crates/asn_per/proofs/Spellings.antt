@@ -1,33 +1,32 @@
 -- The spellings of each type in PER face each other: from this follow that the bits tell the value, and that
 -- two spellings are one or part.
-use Rattle.std.proofs.Common.{◌≡◌, ◌≤◌, ◌<◌, ◌+◌, ◌-◌, ℕ, zero, suc, Bool, true, false, List, [], ◌∷◌, ◌++◌, length, take, drop, Option, Some, None, refl, sym, ◌∙◌, ap, subst, arith, append_assoc, IsTrue, IsUtf8, nat_lt, MatchBool}
+use Rattle.std.proofs.Common.{◌≡◌, ◌≤◌, ◌<◌, ◌+◌, ℕ, zero, suc, Bool, true, false, List, [], ◌∷◌, ◌++◌, length, take, drop, Option, refl, sym, ◌∙◌, ap, arith, append_assoc, IsTrue, IsUtf8}
 use Rattle.std.specs.Bool.{⊤}
-use Rattle.std.proofs.lemmas.Bool.{true≢false, ltb-true, ltb-false, or_parts}
-use Rattle.std.proofs.lemmas.List.{append-nil, take-append-drop, append_cancel_left}
+use Rattle.std.proofs.lemmas.Bool.{true≢false, or_parts}
+use Rattle.std.proofs.lemmas.List.{take-append-drop, append_cancel_left}
 use Rattle.std.specs.List.{AllByRecursion}
 use Rattle.asn_values.specs.Datum.{Datum, truth, nothing, number, item, bit_list, octet_list, characters, unicode, components, elements, alternative, component_list, element_list}
-use Rattle.asn_values.specs.Shape.{Shape, boolean, null, integer, enumerated, bit_string, octet_string, restricted, utf8_string, sequence, sequence_of, choice, more_labels, Demand, Fields, no_fields, field, MoreFields, closed, marked, is_marked, demands, Alternatives, no_alternatives, one_of, MoreAlternatives, closed_choice, marked_choice, is_marked_choice, count}
+use Rattle.asn_values.specs.Shape.{Shape, boolean, null, integer, enumerated, bit_string, octet_string, restricted, utf8_string, sequence, sequence_of, choice, more_labels, Demand, Fields, no_fields, field, MoreFields, closed, marked, is_marked, demands, Alternatives, no_alternatives, one_of, MoreAlternatives, closed_choice, marked_choice}
 use Rattle.asn_values.specs.Fits.{Fits, FitsEach, FitsMore, FitsAlternative, FitsMoreAlternatives, FitsNumber, is_of_kind, max_len}
 use Rattle.asn_values.specs.Profile.{BadEnumeration, bad_enumeration, somewhere, some_field, some_addition, some_alternative, some_more}
-use Rattle.asn_bits.specs.Numbers.{bits, width}
+use Rattle.asn_bits.specs.Numbers.{bits}
 use Rattle.asn_bits.proofs.Digits.{digits_code}
 use Rattle.asn_bits.proofs.Octets.{octets_code}
 use Rattle.asn_bits.proofs.Utf8.{utf8_octets}
-use Rattle.asn_bits.proofs.Widths.{width_fits}
 use Rattle.asn_rules.specs.Chunks.{open_field, utf8_field, Chunk, one, sealed, ones}
 use Rattle.asn_rules.specs.Components.{bit_of, presence, if_spelled, any_present, extension_bit}
 use Rattle.asn_rules.proofs.Entries.{same_elements, same_components, each_length, none_present, bit_of_same, presence_code, presence_first, SameFront, front_code, entry_facing}
 use Rattle.asn_rules.proofs.Facing.{Facing, IsFacing, facing_parts, plain_facing, code_facing, sealed_facing}
 use Rattle.asn_rules.proofs.FromFacing.{SpellingsFace, facing_code}
 use Rattle.asn_rules.proofs.Items.{good_items}
-use Rattle.asn_per.specs.Per.{spelled, complete, whole_number, enumeration, character_bits, an_open_field, constrained, small, small_length, per, per_each, per_open, per_additions, per_alternative, per_more}
+use Rattle.asn_per.specs.Per.{spelled, complete, whole_number, enumeration, character_bits, an_open_field, small_length, per, per_each, per_open, per_additions, per_alternative, per_more}
 use Rattle.asn_per.proofs.Bits.{InBits, per_in_bits, alternative_in_bits}
 use Rattle.asn_per.proofs.Choices.{choice_facing}
 use Rattle.asn_per.proofs.Characters.{character_code}
 use Rattle.asn_per.proofs.Complete.{complete_code, complete_octets}
 use Rattle.asn_per.proofs.Enumerations.{enumeration_code}
 use Rattle.asn_per.proofs.Lists.{sized_facing}
-use Rattle.asn_per.proofs.Numbers.{number_code, small_code}
+use Rattle.asn_per.proofs.Numbers.{number_code}
 
 -- ---- bits, octets and open fields
 

@@ -11,21 +11,22 @@ use Rattle.asn_values.specs.Fits.{Fits, FitsEach, FitsMore, FitsAlternative, Fit
 use Rattle.asn_values.specs.Profile.{BadEnumeration, bad_enumeration, somewhere, some_field, some_addition, some_alternative, some_more}
 use Rattle.asn_bits.specs.Numbers.{bits}
 use Rattle.asn_bits.proofs.Digits.{digits_code}
+use Rattle.asn_bits.proofs.Packing.{AreBits}
 use Rattle.asn_bits.proofs.Octets.{octets_code}
 use Rattle.asn_bits.proofs.Utf8.{utf8_octets}
-use Rattle.asn_rules.specs.Chunks.{open_field, utf8_field, Chunk, one, sealed, ones}
+use Rattle.asn_rules.specs.Chunks.{open_field, utf8_field, Chunk, one, sealed, ones, flat}
 use Rattle.asn_rules.specs.Components.{bit_of, presence, if_spelled, any_present, extension_bit}
 use Rattle.asn_rules.proofs.Entries.{same_elements, same_components, each_length, none_present, bit_of_same, presence_code, presence_first, SameFront, front_code, entry_facing}
 use Rattle.asn_rules.proofs.Facing.{Facing, IsFacing, facing_parts, plain_facing, code_facing, sealed_facing}
 use Rattle.asn_rules.proofs.FromFacing.{SpellingsFace, facing_code}
 use Rattle.asn_rules.proofs.Items.{good_items}
 use Rattle.asn_per.specs.Per.{spelled, complete, whole_number, enumeration, character_bits, an_open_field, small_length, per, per_each, per_open, per_additions, per_alternative, per_more}
-use Rattle.asn_per.proofs.Bits.{InBits, per_in_bits, alternative_in_bits}
 use Rattle.asn_per.proofs.Choices.{choice_facing}
 use Rattle.asn_per.proofs.Characters.{character_code}
 use Rattle.asn_per.proofs.Complete.{complete_code, complete_octets}
 use Rattle.asn_per.proofs.Enumerations.{enumeration_code}
 use Rattle.asn_per.proofs.Lists.{sized_facing}
+use Rattle.asn_per.proofs.Spelt.{per_spelt, alternative_spelt}
 use Rattle.asn_per.proofs.Numbers.{number_code}
 
 -- ---- bits, octets and open fields
@@ -46,10 +47,10 @@ utf8_facing =
     (λ x y p q r s e. octets_code x y r s (utf8_octets x p.1) (utf8_octets y q.1) e) (λ x y p q e. e)
 
 -- open fields of facing spellings
-open_facing : (P : Datum → Type 0) (code : Datum → List Chunk) → ((x : Datum) → InBits (code x)) → IsFacing spelled P code → IsFacing spelled P (λ x. an_open_field (code x))
+open_facing : (P : Datum → Type 0) (code : Datum → List Chunk) → ((x : Datum) → P x → AreBits (flat spelled (code x))) → IsFacing spelled P code → IsFacing spelled P (λ x. an_open_field (code x))
 open_facing P code b h =
     sealed_facing spelled P open_field (λ x. complete (code x))
-    (λ x y p q r s e. octets_code (complete (code x)) (complete (code y)) r s (complete_octets (code x) (b x)) (complete_octets (code y) (b y)) e)
+    (λ x y p q r s e. octets_code (complete (code x)) (complete (code y)) r s (complete_octets (code x) (b x p)) (complete_octets (code y) (b y q)) e)
     (λ x y p q e. (complete_code P code b (facing_code spelled P code h) x y [] [] p q (ap (λ t. t ++ []) e)).0)
 
 -- the number of additions and their presence bits
@@ -168,7 +169,7 @@ mutual
       let good = or_parts (somewhere bad_enumeration t) (some_field bad_enumeration fs) h in
       let bit = presence_first demand (demands fs) x y es gs b in
       facing_parts spelled E (if_spelled demand x (λ d. an_open_field (per t d))) (per_open fs es) r (if_spelled demand y (λ d. an_open_field (per t d))) (per_open fs gs) s
-      (entry_facing spelled (λ d. Fits t d) (λ d. an_open_field (per t d)) (open_facing (λ d. Fits t d) (λ d. per t d) (λ d. per_in_bits t d) (λ E u v r' s' p' q' n'. per_facing t good.0 E u v r' s' p' q' n')) E demand x y (per_open fs es ++ r) (per_open fs gs ++ s) p.0 q.0 bit.0
+      (entry_facing spelled (λ d. Fits t d) (λ d. an_open_field (per t d)) (open_facing (λ d. Fits t d) (λ d. per t d) (λ d p. (per_spelt t d p).bits) (λ E u v r' s' p' q' n'. per_facing t good.0 E u v r' s' p' q' n')) E demand x y (per_open fs es ++ r) (per_open fs gs ++ s) p.0 q.0 bit.0
       (λ first. open_each_facing fs good.1 E es gs r s p.1 q.1 bit.1 (λ rest. next (cc (first, rest)))))
 
   alternative_facing : (alts : Alternatives) → some_alternative bad_enumeration alts ≡ false → (E : Type 0) (t : ℕ) (x y : Datum) (r s : List Chunk) → FitsAlternative alts t x → FitsAlternative alts t y
@@ -181,7 +182,7 @@ mutual
       → (x ≡ y → Facing spelled E r s) → Facing spelled E (per_more more t x ++ r) (per_more more t y ++ s)
   other_facing closed_choice h E t x y r s p q next = absurd p
   other_facing (marked_choice alts) h E t x y r s p q next =
-      open_facing (λ d. FitsAlternative alts t d) (λ d. per_alternative alts t d) (λ d. alternative_in_bits alts t d) (λ E u v r' s' p' q' n'. alternative_facing alts h E t u v r' s' p' q' n') E x y r s p q next
+      open_facing (λ d. FitsAlternative alts t d) (λ d. per_alternative alts t d) (λ d p. (alternative_spelt alts t d p).bits) (λ E u v r' s' p' q' n'. alternative_facing alts h E t u v r' s' p' q' n') E x y r s p q next
 
 pub spellings_face : SpellingsFace spelled per
 spellings_face t h E v w r s p q next = per_facing t (h BadEnumeration) E v w r s p q next

@@ -8,7 +8,7 @@ use Rattle.asn_values.specs.Fits.{FitsLength, in_size, not_above}
 use Rattle.asn_values.specs.Profile.{is_fixed_size}
 use Rattle.asn_bits.specs.Numbers.{padding}
 use Rattle.asn_bits.proofs.Codes.{IsCode, equal_fronts}
-use Rattle.asn_bits.proofs.Packing.{AreBits, filled_up_code, filled_up_once}
+use Rattle.asn_bits.proofs.FilledBits.{AreBits, filled_up_code, filled_up_once}
 use Rattle.asn_rules.specs.Components.{bit_of}
 use Rattle.asn_rules.proofs.Entries.{bit_of_same}
 use Rattle.asn_oer.specs.Oer.{spelled, filled_bits, variable_bits, bit_octets, sized_octets}

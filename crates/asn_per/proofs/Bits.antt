@@ -7,7 +7,7 @@ use Rattle.asn_values.specs.Fits.{in_range}
 use Rattle.asn_bits.specs.Numbers.{bits, least, least_signed, above}
 use Rattle.asn_bits.specs.Lengths.{Length, last_length, lengths_within, lengths, joined, with_lengths, general}
 use Rattle.asn_bits.proofs.GeneralLengths.{all_take}
-use Rattle.asn_bits.proofs.Packing.{AreBits, bits_append}
+use Rattle.asn_bits.proofs.FilledBits.{AreBits, bits_append}
 use Rattle.asn_rules.specs.Components.{bit_of, is_spelled, presence, extension_bit}
 use Rattle.asn_per.specs.Per.{spelled, constrained, semi_constrained, unconstrained, small, ranged, behind_mark, whole_number, character_bits, enumeration}
 

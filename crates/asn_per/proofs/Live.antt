@@ -1,15 +1,14 @@
 -- In PER live by units and sealed fields is live chunk by chunk.
-use Rattle.std.proofs.Common.{◌≡◌, ◌≢◌, ◌<◌, ℕ, List, [], ◌∷◌, ◌++◌, length, map, refl, arith}
+use Rattle.std.proofs.Common.{◌≡◌, ◌≢◌, ◌<◌, ℕ, List, [], ◌∷◌, ◌++◌, length, refl, arith}
 use Rattle.asn_values.specs.Datum.{Datum}
 use Rattle.asn_values.specs.Shape.{Shape}
 use Rattle.asn_values.specs.Fits.{Fits}
-use Rattle.asn_bits.specs.Numbers.{bits}
 use Rattle.asn_rules.specs.Chunks.{open_field, utf8_field, ones, flat}
 use Rattle.asn_rules.specs.Laws.{LiveByParts}
 use Rattle.asn_rules.specs.Live.{BeginsProperly, Free}
 use Rattle.asn_rules.proofs.Fronts.{AllSealed, live_iff, sealed-ones, sealed-append}
 use Rattle.asn_per.specs.Per.{spelled, filling, per, per_fields, per_whole}
-use Rattle.asn_per.proofs.NoBits.{general_not}
+use Rattle.asn_per.proofs.NoBits.{spelled_not}
 use Rattle.asn_per.proofs.Spelt.{per_spelt}
 
 -- a complete encoding has the sealed fields of its spelling
@@ -20,7 +19,7 @@ whole_sealed t d f =
 
 -- each sealed field has a bit
 some_units : (c : List ℕ) → 0 < length (spelled c)
-some_units c = go (spelled c) (general_not (λ u. u) (map (λ o. map (λ u. u) (bits 8 o)) c))
+some_units c = go (spelled c) (spelled_not c)
   where
     go : (xs : List ℕ) → xs ≢ [] → 0 < length xs
     go [] h = absurd (h refl)

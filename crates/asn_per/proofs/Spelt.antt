@@ -8,7 +8,7 @@ use Rattle.asn_values.specs.Fits.{Fits, FitsEach, FitsMore, FitsDemand, FitsAlte
 use Rattle.asn_bits.specs.Numbers.{bits}
 use Rattle.asn_bits.specs.Lengths.{Length, lengths, joined, with_lengths, general}
 use Rattle.asn_bits.proofs.GeneralLengths.{all_take}
-use Rattle.asn_bits.proofs.Packing.{AreBits, bits_append}
+use Rattle.asn_bits.proofs.FilledBits.{AreBits, bits_append}
 use Rattle.asn_bits.proofs.Utf8.{utf8_octets}
 use Rattle.asn_rules.specs.Chunks.{utf8_field, Chunk, one, sealed, ones, flat}
 use Rattle.asn_rules.specs.Components.{bit_of, is_spelled, presence, if_spelled, any_present, extension_bit}

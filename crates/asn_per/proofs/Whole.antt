@@ -18,7 +18,7 @@ use Rattle.asn_per.specs.Laws.{per_bits, NoBitsIsExact}
 use Rattle.asn_per.proofs.Spelt.{per_spelt}
 use Rattle.asn_per.proofs.Complete.{filled_is, complete_code, complete_octets, complete_full, unpacked-append}
 use Rattle.asn_per.proofs.SomeBits.{no_bits_exact}
-use Rattle.asn_per.proofs.Spellings.{spellings_face}
+use Rattle.asn_per.proofs.Facing.{spellings_face}
 
 -- ---- spellings and octets
 

@@ -111,7 +111,7 @@ le_z_antisymm (pos a) (negsuc b) p q = absurd (true≢false (sym p))
 le_z_antisymm (negsuc a) (pos b) p q = absurd (true≢false (sym q))
 le_z_antisymm (negsuc a) (negsuc b) p q = ap negsuc (omega (arith, leb-true b a p, leb-true a b q))
 
-default_is : (d x : Datum) → is_default d x ≡ true → d ≡ x
+pub default_is : (d x : Datum) → is_default d x ≡ true → d ≡ x
 default_is (truth true) (truth b) h = ap truth (sym h)
 default_is (truth false) (truth true) h = absurd (true≢false (sym h))
 default_is (truth false) (truth false) h = refl

@@ -3,3 +3,4 @@ pub mod Leaves
 pub mod Integers
 pub mod Strings
 pub mod Spellings
+pub mod Whole

@@ -4,3 +4,4 @@ pub mod Integers
 pub mod Strings
 pub mod Spellings
 pub mod Whole
+pub mod Spelt

@@ -5,3 +5,4 @@ pub mod Strings
 pub mod Spellings
 pub mod Whole
 pub mod Spelt
+pub mod SpeltLeaves

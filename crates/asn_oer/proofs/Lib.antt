@@ -6,3 +6,4 @@ pub mod Spellings
 pub mod Whole
 pub mod Spelt
 pub mod SpeltLeaves
+pub mod SpeltTypes

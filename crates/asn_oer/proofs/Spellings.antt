@@ -107,7 +107,7 @@ open_facing P code h =
     (subst (λ z. Face (x ≡ y) z (code y)) (append-nil (code x)) (subst (λ z. Face (x ≡ y) (code x ++ []) z) (append-nil (code y)) (h (x ≡ y) x y [] [] p q (λ e. record { told = e })))).told
     (ap (λ t. t ++ []) e)).0)
 
-presence_bits : (ds : List Demand) (es : List (Option Datum)) → AreBits (presence ds es)
+pub presence_bits : (ds : List Demand) (es : List (Option Datum)) → AreBits (presence ds es)
 presence_bits [] es = tt
 presence_bits (must ∷ ds) [] = tt
 presence_bits (optional ∷ ds) [] = tt

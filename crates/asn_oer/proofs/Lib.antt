@@ -7,3 +7,4 @@ pub mod Whole
 pub mod Spelt
 pub mod SpeltLeaves
 pub mod SpeltTypes
+pub mod LiveParts

@@ -1,5 +1,5 @@
 -- In OER, live by units and sealed fields is live chunk by chunk.
-use Rattle.std.proofs.Common.{◌≡◌, ◌≤◌, ◌<◌, ◌+◌, ◌↔◌, ℕ, Bool, true, false, List, [], ◌∷◌, length, refl, arith, nat_lt, length-append}
+use Rattle.std.proofs.Common.{◌≡◌, ◌<◌, ◌↔◌, ℕ, Bool, true, false, List, [], ◌∷◌, length, refl, arith, nat_lt, length-append}
 use Rattle.asn_values.specs.Shape.{Shape}
 use Rattle.asn_values.specs.Profile.{InProfile}
 use Rattle.asn_bits.specs.Lengths.{octet_length}

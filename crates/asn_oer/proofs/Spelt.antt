@@ -1,12 +1,12 @@
 -- Spellings in OER are octets and not too many, and their sealed fields hold what such fields may: what holds
 -- of the parts of spellings.
-use Rattle.std.proofs.Common.{◌≡◌, ◌≤◌, ◌<◌, ◌+◌, ◌*◌, ◌^◌, ℕ, zero, suc, Bool, true, false, List, [], ◌∷◌, ◌++◌, length, map, Option, Some, None, refl, sym, ◌∙◌, ap, subst, arith, nat_lt, length-append}
+use Rattle.std.proofs.Common.{◌≡◌, ◌≤◌, ◌<◌, ◌+◌, ◌*◌, ◌^◌, ℕ, suc, Bool, true, false, List, [], ◌∷◌, ◌++◌, length, map, Option, Some, None, refl, sym, subst, arith, nat_lt, length-append}
 use Rattle.std.proofs.lemmas.Bool.{ltb-true}
 use Rattle.std.proofs.Math.Nat.{suc-mul, pow-le-pow_right}
 use Rattle.std.specs.List.{AllByRecursion}
 use Rattle.asn_values.specs.Datum.{Datum}
 use Rattle.asn_values.specs.Shape.{Demand}
-use Rattle.asn_values.specs.Fits.{FitsDemand, max_len}
+use Rattle.asn_values.specs.Fits.{FitsDemand}
 use Rattle.asn_bits.specs.Numbers.{octets, octet_count}
 use Rattle.asn_bits.specs.Lengths.{octet_length, joined}
 use Rattle.asn_bits.proofs.Octets.{all_octets, length-digits, lt-pow_256, octet_count_below}

@@ -1,24 +1,23 @@
 -- The spellings of the simple types in OER, and what stands in front of the others, are octets and not too many.
-use Rattle.std.proofs.Common.{◌≡◌, ◌≤◌, ◌<◌, ◌+◌, ◌-◌, ◌*◌, ◌/◌, ◌%◌, ◌^◌, ◌==◌, ℕ, zero, suc, ℤ, pos, negsuc, ◌≤ℤ◌, Bool, true, false, ◌&&◌, ◌||◌, List, [], ◌∷◌, ◌++◌, length, map, Option, Some, None, inl, inr, refl, sym, ◌∙◌, ap, subst, arith, IsTrue, nat_lt, nat_le, length-append}
-use Rattle.std.proofs.lemmas.Bool.{true≢false, ltb-true, ltb-false, lt-ltb, leb-true, eqb-true, and_parts, or_parts}
-use Rattle.std.proofs.lemmas.List.{length-map}
+use Rattle.std.proofs.Common.{◌≡◌, ◌≤◌, ◌<◌, ◌+◌, ◌-◌, ◌*◌, ◌^◌, ◌==◌, ℕ, zero, suc, ℤ, pos, negsuc, ◌≤ℤ◌, Bool, true, false, ◌&&◌, ◌||◌, List, [], ◌∷◌, length, Option, Some, None, inl, inr, refl, sym, subst, arith, IsTrue, nat_lt, nat_le, length-append}
+use Rattle.std.proofs.lemmas.Bool.{ltb-true, ltb-false, leb-true, eqb-true, and_parts, or_parts}
 use Rattle.std.proofs.lemmas.Int.{ints}
 use Rattle.std.specs.List.{AllByRecursion, list_any}
 use Rattle.std.specs.Int.RustNames.{int_le, int_lt}
 use Rattle.asn_values.specs.Shape.{Range, SizeRange, Alphabet, ia5, numeric, visible, Label, Demand, must, optional, default}
 use Rattle.asn_values.specs.Datum.{Datum}
-use Rattle.asn_values.specs.Fits.{FitsNumber, FitsLength, lowest_integer, highest_integer, is_of_kind, max_len}
+use Rattle.asn_values.specs.Fits.{FitsNumber, lowest_integer, highest_integer, is_of_kind, max_len}
 use Rattle.asn_values.specs.Profile.{is_fixed_size, is_not_32_bits}
 use Rattle.asn_bits.specs.Numbers.{octets, octet_count, least, least_signed, signed_octets, signed_octet_count, magnitude, padding}
-use Rattle.asn_bits.proofs.Octets.{all_octets, all_signed, length-digits, octet_count_below, length-least_signed, signed_count_below}
+use Rattle.asn_bits.proofs.Octets.{all_signed, octet_count_below, length-least_signed, signed_count_below}
 use Rattle.asn_bits.proofs.Packing.{AreBits, length-padding, length-packed, filled_up, filled_up_fills, filled_up_octets}
-use Rattle.asn_rules.specs.Components.{bit_of, number_at, presence, extension_bit}
+use Rattle.asn_rules.specs.Components.{number_at, presence, extension_bit}
 use Rattle.asn_rules.specs.Laws.{AreOctets}
 use Rattle.asn_rules.proofs.Items.{numbers}
 use Rattle.asn_oer.specs.Oer.{spelled, magnitude_of, counted, counted_signed, unsigned_octets, unsigned_in, signed_size, signed_in, ranged, whole_number, filled_bits, variable_bits, bit_octets, sized_octets, item_number, tag}
 use Rattle.asn_oer.proofs.Integers.{unsigned_cases, signed_cases}
 use Rattle.asn_oer.proofs.Leaves.{tag_is}
-use Rattle.asn_oer.proofs.Spelt.{room, Short, short_more, octets_short, few_octets, short_spelled}
+use Rattle.asn_oer.proofs.Spelt.{Short, short_more, octets_short, few_octets, short_spelled}
 
 -- a content of at most 2 ^ 29 octets with its length
 spelled_short : (n : ℕ) (c : List ℕ) → n ≤ 536870912 → Short n c → Short (2 * n + 2) (spelled c)

@@ -11,7 +11,7 @@ use Rattle.asn_rules.specs.Components.{bit_of, is_spelled, presence, if_spelled,
 use Rattle.asn_rules.specs.Live.{BeginsProperly, Free, Live, LiveByChunks}
 use Rattle.asn_rules.proofs.Fronts.{AllSealed, live_iff}
 use Rattle.asn_per.specs.Per.{spelled, complete, filling, an_open_field, constrained, small, small_length, behind_mark, within, sized, character_bits, additions, per, per_each, per_additions, per_open, per_alternative, per_more, per_fields, per_whole}
-use Rattle.asn_per.proofs.Bits.{per_bitten, alternative_bitten, Bitten}
+use Rattle.asn_per.proofs.Bits.{per_in_bits, alternative_in_bits, InBits}
 use Rattle.asn_per.proofs.Complete.{full, complete_full, complete_octets}
 use Rattle.asn_per.proofs.NoBits.{not_nil, general_not}
 use Rattle.asn_bits.proofs.Utf8.{utf8_octets}
@@ -78,14 +78,14 @@ full_not : (us : List ℕ) → us ++ filling (length us) ≢ []
 full_not [] = not_nil 0 _
 full_not (u ∷ us) = not_nil u _
 
-one_octet : (cs : List Chunk) → Bitten cs → 1 ≤ length (complete cs)
+one_octet : (cs : List Chunk) → InBits cs → 1 ≤ length (complete cs)
 one_octet cs b = go (complete cs) (complete_full cs b)
   where
     go : (os : List ℕ) → unpacked os ≡ full cs → 1 ≤ length os
     go [] e = absurd (full_not (flat spelled cs) (sym e))
     go (o ∷ os) e = omega arith
 
-open_held : (cs : List Chunk) → Bitten cs → Held (an_open_field cs)
+open_held : (cs : List Chunk) → InBits cs → Held (an_open_field cs)
 open_held cs b = record { all = ((λ l. (one_octet cs b, l, complete_octets cs b)), tt) }
 
 -- ---- all types
@@ -158,7 +158,7 @@ mutual
   each_open_held (field name demand t fs) [] f = held_none
   each_open_held (field name demand t fs) (e ∷ es) f =
       held_append (if_spelled demand e (λ d. an_open_field (per t d))) (per_open fs es)
-      (entry_held (λ d. Fits t d) (λ d. an_open_field (per t d)) (λ d p. open_held (per t d) (per_bitten t d)) demand e f.0) (each_open_held fs es f.1)
+      (entry_held (λ d. Fits t d) (λ d. an_open_field (per t d)) (λ d p. open_held (per t d) (per_in_bits t d)) demand e f.0) (each_open_held fs es f.1)
 
   alternative_held : (alts : Alternatives) (i : ℕ) (d : Datum) → FitsAlternative alts i d → Held (per_alternative alts i d)
   alternative_held no_alternatives i d f = held_none
@@ -167,7 +167,7 @@ mutual
 
   other_held : (m : MoreAlternatives) (i : ℕ) (d : Datum) → FitsMoreAlternatives m i d → Held (per_more m i d)
   other_held closed_choice i d f = held_none
-  other_held (marked_choice alts) i d f = open_held (per_alternative alts i d) (alternative_bitten alts i d)
+  other_held (marked_choice alts) i d f = open_held (per_alternative alts i d) (alternative_in_bits alts i d)
 
 -- ---- live
 

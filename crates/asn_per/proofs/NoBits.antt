@@ -1,19 +1,16 @@
--- Each type of the profile has a value, and one with bits unless no_bits says that none has.
-use Rattle.std.proofs.Common.{◌≡◌, ◌≢◌, ◌≤◌, ◌<◌, ◌-◌, ◌/◌, ◌^◌, ◌⊎◌, ℕ, zero, suc, Bool, true, false, ◌||◌, List, [], ◌∷◌, ◌++◌, length, map, replicate, Option, Some, None, inl, inr, refl, sym, ◌∙◌, ap, subst, arith, nat_lt, nat_le}
+-- Spellings in PER that have at least one chunk.
+use Rattle.std.proofs.Common.{◌≡◌, ◌≢◌, ◌≤◌, ◌<◌, ◌-◌, ◌/◌, ◌^◌, ◌⊎◌, ℕ, zero, suc, Bool, true, false, List, [], ◌∷◌, ◌++◌, length, map, replicate, Option, Some, None, inl, inr, refl, sym, ◌∙◌, ap, subst, arith, nat_lt}
 use Rattle.asn_values.specs.Shape.{SizeRange}
-use Rattle.std.proofs.lemmas.Bool.{true≢false, ltb-false, le-leb, eq-eqb, cases_lt}
-use Rattle.std.proofs.lemmas.List.{length-replicate}
+use Rattle.std.proofs.lemmas.Bool.{true≢false, ltb-false, eq-eqb, cases_lt}
 use Rattle.std.proofs.Math.Nat.{pow-zero}
-use Rattle.std.specs.List.{AllByRecursion}
-use Rattle.asn_values.specs.Fits.{in_size, not_above, FitsLength}
-use Rattle.asn_values.specs.Profile.{size_above, large_size, is_zero_size, is_fixed_size}
+use Rattle.asn_values.specs.Fits.{in_size}
+use Rattle.asn_values.specs.Profile.{size_above, is_zero_size, is_fixed_size}
 use Rattle.asn_bits.specs.Numbers.{bits, width}
 use Rattle.asn_bits.specs.Lengths.{last_length, lengths_within, joined, with_lengths, general}
 use Rattle.asn_bits.proofs.Octets.{length-digits}
 use Rattle.asn_bits.proofs.Widths.{width_fits}
 use Rattle.asn_rules.specs.Chunks.{Chunk, one, ones}
 use Rattle.asn_per.specs.Per.{behind_mark, within, sized, constrained}
-use Rattle.asn_per.proofs.Leaves.{both_false}
 
 -- ---- lists that are not empty
 
@@ -64,29 +61,6 @@ pub general_not : {A : Type 0} (bit : ℕ → A) (items : List (List A)) → gen
 general_not bit items = under_not bit (length items / 16384) (length items) items
 
 -- ---- lists under a size
-
-none_or_some : (high : Option ℕ) → (high ≡ None) ⊎ ((h : ℕ) × (high ≡ Some h))
-none_or_some None = inl refl
-none_or_some (Some h) = inr (h, refl)
-
-high_enough : (low : ℕ) (high : Option ℕ) (ext : Bool) → size_above (record { low = low; high = high; extensible = ext }) ≡ false → not_above high low ≡ true
-high_enough low None ext h = refl
-high_enough low (Some n) ext h = le-leb low n (ltb-false n low h)
-
-pub all_same : {A : Type 0} (P : A → Type 0) (a : A) (n : ℕ) → P a → AllByRecursion P (replicate n a)
-all_same P a zero h = tt
-all_same P a (suc n) h = (h, all_same P a n h)
-
--- the shortest list of one element
-pub shortest_fits : {A : Type 0} (z : SizeRange) (a : A) → size_above z ≡ false → large_size (Some z) ≡ false → FitsLength z (length (replicate z.low a))
-shortest_fits z a h g = subst (FitsLength z) (sym (length-replicate z.low a)) (omega (arith, ltb-false 65535 z.low (both_false _ _ g).0), either z.extensible)
-  where
-    inside : in_size z z.low ≡ true
-    inside = let a : nat_le z.low z.low ≡ true = le-leb z.low z.low (omega arith) in rw (a, high_enough z.low z.high z.extensible h) refl
-
-    either : (m : Bool) → (m || in_size z z.low) ≡ true
-    either true = refl
-    either false = inside
 
 joined_not : {A B : Type 0} (code : A → List B) (a : A) (n : ℕ) → 0 < n → code a ≢ [] → joined (map code (replicate n a)) ≢ []
 joined_not code a zero h g = absurd (omega arith)

@@ -3,4 +3,6 @@
 
 mod laws;
 
-pub use laws::{answers_exclude, encoding_laws, live_by_parts, live_is_closed, spellings_tell, values_and_bits};
+pub use laws::{
+    answers_exclude, encoding_laws, live_by_parts, live_is_closed, spellings_tell, values_and_bits,
+};

@@ -1,13 +1,13 @@
 -- What an encoding may follow, it may follow each beginning of.
-use Rattle.std.proofs.Common.{◌≡◌, ◌≤◌, ◌<◌, ◌+◌, ◌-◌, ◌⊎◌, ℕ, List, [], ◌∷◌, ◌++◌, length, take, drop, inl, inr, refl, sym, ◌∙◌, ap, subst, arith, append_assoc, length-append}
+use Rattle.std.proofs.Common.{◌≡◌, ◌≤◌, ◌+◌, ◌-◌, ◌⊎◌, ℕ, List, [], ◌∷◌, ◌++◌, length, take, drop, inl, inr, sym, ◌∙◌, ap, subst, arith, append_assoc, length-append}
 use Rattle.std.proofs.lemmas.Bool.{cases_lt}
 use Rattle.std.proofs.lemmas.List.{append-nil, take-append-drop, take-append-le, drop-append-le}
 use Rattle.std.proofs.Math.Seq.{take-append-add}
 use Rattle.std.specs.List.{AllByRecursion}
 use Rattle.asn_values.specs.Datum.{Datum}
 use Rattle.asn_values.specs.Shape.{Shape}
-use Rattle.asn_rules.specs.Chunks.{Kind, Chunk, one, sealed, field_units, flat, SealedField, fields_from}
-use Rattle.asn_rules.specs.Live.{Begins, BeginsProperly, SomeWithEarlier, Fielding, Free, Bounded, BoundedBefore, Inside, GoesOn}
+use Rattle.asn_rules.specs.Chunks.{Chunk, one, sealed, field_units, flat, SealedField, fields_from}
+use Rattle.asn_rules.specs.Live.{Begins, BeginsProperly, SomeWithEarlier, Fielding, Bounded, BoundedBefore, Inside, GoesOn}
 use Rattle.asn_rules.specs.Laws.{LiveIsClosed}
 use Rattle.asn_rules.proofs.Fronts.{none_before}
 

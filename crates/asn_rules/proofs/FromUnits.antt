@@ -1,5 +1,5 @@
 -- The laws of encoding rules, from what is said of whole encodings in units.
-use Rattle.std.proofs.Common.{◌≡◌, List, [], ◌++◌, refl, sym, ◌∙◌, ap}
+use Rattle.std.proofs.Common.{◌≡◌, [], ◌++◌, sym, ◌∙◌, ap}
 use Rattle.std.proofs.lemmas.List.{append-nil}
 use Rattle.asn_rules.specs.Chunks.{flat}
 use Rattle.asn_rules.specs.Answer.{Ruling}

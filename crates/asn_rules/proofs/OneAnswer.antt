@@ -1,5 +1,5 @@
 -- To one list of octets there is one answer.
-use Rattle.std.proofs.Common.{◌≡◌, ◌≤◌, ◌<◌, ◌⊎◌, ℕ, zero, suc, List, [], ◌∷◌, ◌++◌, length, take, drop, inl, inr, refl, sym, ◌∙◌, ap, subst, arith}
+use Rattle.std.proofs.Common.{◌≡◌, ◌≤◌, ◌<◌, ℕ, zero, suc, List, [], ◌∷◌, length, take, drop, inl, inr, refl, sym, ◌∙◌, ap, subst, arith}
 use Rattle.std.proofs.lemmas.Bool.{cases_lt, cases_order}
 use Rattle.std.proofs.lemmas.List.{length-take-le, take-append-drop}
 use Rattle.asn_values.specs.Datum.{Datum}
@@ -7,7 +7,7 @@ use Rattle.asn_values.specs.Shape.{Shape}
 use Rattle.asn_values.specs.Profile.{InProfile}
 use Rattle.asn_bits.proofs.GeneralLengths.{all_take}
 use Rattle.asn_rules.specs.Live.{Begins, Live, Place}
-use Rattle.asn_rules.specs.Answer.{Ruling, IsEncoding, Told, done, refused, too_long, more, Answer, LiveOctets}
+use Rattle.asn_rules.specs.Answer.{Ruling, IsEncoding, done, refused, too_long, more, Answer, LiveOctets}
 use Rattle.asn_rules.specs.Laws.{AreOctets, RulesLaws, OneAnswer}
 use Rattle.asn_rules.proofs.Closed.{live_closed}
 

@@ -1,10 +1,9 @@
 -- Strings in OER: bits, octets and characters, of a fixed size or with their length, tell the value.
-use Rattle.std.proofs.Common.{◌≡◌, ◌≤◌, ◌<◌, ◌==◌, ℕ, Bool, true, false, not, ◌&&◌, ◌||◌, List, [], ◌∷◌, ◌++◌, length, map, Option, Some, None, refl, sym, ◌∙◌, ap, subst, arith, IsTrue, nat_le}
-use Rattle.std.proofs.lemmas.Bool.{true≢false, leb-true, eqb-true, and_parts, not-true}
+use Rattle.std.proofs.Common.{◌≡◌, ◌<◌, ◌==◌, ℕ, Bool, true, false, not, ◌&&◌, ◌||◌, List, [], ◌∷◌, ◌++◌, length, map, Option, Some, None, refl, sym, ◌∙◌, arith, IsTrue, nat_le}
+use Rattle.std.proofs.lemmas.Bool.{true≢false, leb-true, eqb-true, and_parts}
 use Rattle.std.proofs.lemmas.List.{length-map}
-use Rattle.std.specs.List.{AllByRecursion}
 use Rattle.asn_values.specs.Shape.{SizeRange}
-use Rattle.asn_values.specs.Fits.{FitsLength, in_size, not_above}
+use Rattle.asn_values.specs.Fits.{FitsLength, not_above}
 use Rattle.asn_values.specs.Profile.{is_fixed_size}
 use Rattle.asn_bits.specs.Numbers.{padding}
 use Rattle.asn_bits.proofs.Codes.{IsCode, equal_fronts}

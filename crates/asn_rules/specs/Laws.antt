@@ -68,6 +68,10 @@ LiveIsClosed r whole = (t : Shape) (x y : List ℕ) → Live r whole t (x ++ y) 
 abbrev pub LiveByParts : Fielding → (Shape → Datum → List Chunk) → Type 0
 LiveByParts r whole = (t : Shape) (b : List ℕ) → Live r whole t b ↔ LiveByChunks r whole t b
 
+-- the same of the types of the profile, where the rules spell those of no other in octets
+abbrev pub LiveByPartsInProfile : Fielding → (Shape → Datum → List Chunk) → Type 0
+LiveByPartsInProfile r whole = (t : Shape) → InProfile t → (b : List ℕ) → Live r whole t b ↔ LiveByChunks r whole t b
+
 -- ---- answers
 
 -- two answers to one list of octets are one

@@ -11,7 +11,7 @@ use Rattle.asn_bits.specs.Numbers.{least}
 use Rattle.asn_bits.specs.Lengths.{joined}
 use Rattle.asn_bits.proofs.Codes.{IsCode}
 use Rattle.asn_bits.proofs.Octets.{least_once}
-use Rattle.asn_bits.proofs.Packing.{AreBits, bits_append, filled_up_code}
+use Rattle.asn_bits.proofs.FilledBits.{AreBits, bits_append, filled_up_code}
 use Rattle.asn_rules.specs.Chunks.{open_field, Chunk, ones, flat}
 use Rattle.asn_rules.specs.Components.{bit_of, number_at, is_spelled, presence, if_spelled, any_present, extension_bit}
 use Rattle.asn_rules.proofs.Entries.{same_elements, same_components, presence_first, length-presence, each_length, none_present, SameFront, front_code, entry_facing}

@@ -8,7 +8,7 @@ use Rattle.asn_values.specs.Profile.{EmptyRange, SizeTooLarge, InProfile}
 use Rattle.asn_bits.specs.Numbers.{bits, unpacked}
 use Rattle.asn_bits.proofs.Digits.{digits_code}
 use Rattle.asn_rules.specs.Chunks.{flat}
-use Rattle.asn_rules.specs.Laws.{AreOctets, UnitsTellTheValue, OneValue, NoneBegins, RulesLaws, WholesTell}
+use Rattle.asn_rules.specs.Laws.{AreOctets, EncodesAs, UnitsTellTheValue, OneValue, NoneBegins, RulesLaws, WholesTell}
 use Rattle.asn_rules.specs.Parted.{SpellingsPart}
 use Rattle.asn_rules.proofs.FromFacing.{units_tell, spellings_part}
 use Rattle.asn_rules.proofs.FromUnits.{rules_laws}
@@ -72,6 +72,15 @@ per_wholes = record {
   joined = unpacked-append;
   once = unpacked_once;
 }
+
+-- the encoding of a value is the octets of its complete encoding
+pub per_encodes : EncodesAs per_ruling per_octets
+unfolding per_ruling
+per_encodes t v o h os = (
+  λ a. (let whole = complete_full (per t v) (per_spelt t v a.0).bits ∙ sym (filled_is (per t v)) in
+    (a.0, unpacked_once o (per_octets t v) os (complete_octets (per t v) (per_spelt t v a.0).bits) (a.1 ∙ sym whole))),
+  λ a. (a.0, ap unpacked a.1 ∙ complete_full (per t v) (per_spelt t v a.0).bits ∙ sym (filled_is (per t v))),
+)
 
 -- the laws
 pub per_laws : RulesLaws per_ruling

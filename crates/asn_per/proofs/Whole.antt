@@ -78,7 +78,7 @@ pub per_encodes : EncodesAs per_ruling per_octets
 unfolding per_ruling
 per_encodes t v o h os = (
   λ a. (let whole = complete_full (per t v) (per_spelt t v a.0).bits ∙ sym (filled_is (per t v)) in
-    (a.0, unpacked_once o (per_octets t v) os (complete_octets (per t v) (per_spelt t v a.0).bits) (a.1 ∙ sym whole))),
+      (a.0, unpacked_once o (per_octets t v) os (complete_octets (per t v) (per_spelt t v a.0).bits) (a.1 ∙ sym whole))),
   λ a. (a.0, ap unpacked a.1 ∙ complete_full (per t v) (per_spelt t v a.0).bits ∙ sym (filled_is (per t v))),
 )
 

@@ -12,13 +12,13 @@ use Rattle.asn_per.proofs.NotEmpty.{spelled_not_empty}
 use Rattle.asn_per.proofs.Spelt.{per_spelt}
 
 -- a complete encoding has the sealed fields of its spelling
-whole_sealed : (t : Shape) (d : Datum) → Fits t d → AllSealed per_fields (per_whole t d)
+pub whole_sealed : (t : Shape) (d : Datum) → Fits t d → AllSealed per_fields (per_whole t d)
 whole_sealed t d f =
     let zeros = filling (length (flat spelled (per t d))) in
     sealed-append per_fields (per t d) (ones zeros) (per_spelt t d f).fields (sealed-ones per_fields zeros)
 
 -- each sealed field has a bit
-some_units : (c : List ℕ) → 0 < length (spelled c)
+pub some_units : (c : List ℕ) → 0 < length (spelled c)
 some_units c = go (spelled c) (spelled_not_empty c)
   where
     go : (xs : List ℕ) → xs ≢ [] → 0 < length xs
@@ -30,11 +30,11 @@ begins_field : BeginsProperly [] (spelled (0 ∷ []))
 begins_field = (0, 0 ∷ 0 ∷ 0 ∷ 0 ∷ 0 ∷ 0 ∷ 1 ∷ 0 ∷ 0 ∷ 0 ∷ 0 ∷ 0 ∷ 0 ∷ 0 ∷ 0 ∷ [], refl)
 
 -- so an open field may begin behind no bits of it
-open_starts : Free per_fields open_field []
+pub open_starts : Free per_fields open_field []
 open_starts = (0 ∷ [], (omega arith, omega arith, (omega arith, tt)), begins_field)
 
 -- and so may a UTF8String
-utf8_starts : Free per_fields utf8_field []
+pub utf8_starts : Free per_fields utf8_field []
 utf8_starts = (0 ∷ [], (omega arith, omega arith, (omega arith, tt)), begins_field)
 
 -- the two forms of live are one

@@ -141,19 +141,6 @@ bits_short z bs l h = go (is_fixed_size z)
 pub preamble_short : (bs : List ℕ) → length bs ≤ 65 → AreBits bs → Short 72 (filled_bits bs)
 preamble_short bs l h = short_more (length bs + 7) 72 (filled_bits bs) (omega arith) (filled_short bs h)
 
-pub few_presence : (ds : List Demand) (es : List (Option Datum)) → length (presence ds es) ≤ length ds
-few_presence [] es = omega arith
-few_presence (must ∷ ds) [] = omega arith
-few_presence (optional ∷ ds) [] = omega arith
-few_presence (default d ∷ ds) [] = omega arith
-few_presence (must ∷ ds) (e ∷ es) = let h = few_presence ds es in omega arith
-few_presence (optional ∷ ds) (e ∷ es) = let h = few_presence ds es in omega arith
-few_presence (default d ∷ ds) (e ∷ es) = let h = few_presence ds es in omega arith
-
-pub few_extension : (m e : Bool) → length (extension_bit m e) ≤ 1
-few_extension false e = omega arith
-few_extension true e = omega arith
-
 -- ---- octets and characters
 
 -- octets of a content that is not too long

@@ -9,7 +9,7 @@ use Rattle.asn_bits.specs.Numbers.{padding}
 use Rattle.asn_bits.proofs.Codes.{IsCode, equal_fronts}
 use Rattle.asn_bits.proofs.Packing.{AreBits, filled_up_code, filled_up_once}
 use Rattle.asn_rules.specs.Components.{bit_of}
-use Rattle.asn_rules.proofs.Entries.{bit_of_same}
+use Rattle.asn_rules.proofs.Entries.{bit_of_same, bit_is}
 use Rattle.asn_oer.specs.Oer.{spelled, filled_bits, variable_bits, bit_octets, sized_octets}
 use Rattle.asn_oer.proofs.Lengths.{spelled_code}
 
@@ -44,10 +44,6 @@ sized_code z x y r s p q e = go (is_fixed_size z) refl e
     go false h e = spelled_code x y r s e
 
 -- ---- bits
-
-pub bit_is : (b : Bool) → bit_of b < 2
-bit_is true = omega arith
-bit_is false = omega arith
 
 pub list_bits : (bs : List Bool) → AreBits (map bit_of bs)
 list_bits [] = tt

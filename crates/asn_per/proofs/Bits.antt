@@ -9,6 +9,7 @@ use Rattle.asn_bits.proofs.Packing.{AreBits}
 use Rattle.asn_bits.specs.Lengths.{Length, last_length, lengths_within, lengths, joined, with_lengths, general}
 use Rattle.asn_rules.specs.Chunks.{Chunk, one, ones, flat}
 use Rattle.asn_rules.specs.Components.{bit_of, is_spelled, presence, if_spelled, any_present, extension_bit}
+use Rattle.asn_rules.proofs.Entries.{presence_bits, extension_bits}
 use Rattle.asn_rules.proofs.Flat.{flat-append, flat-ones, flat-general}
 use Rattle.asn_per.specs.Per.{spelled, complete, an_open_field, constrained, semi_constrained, small, small_length, ranged, behind_mark, whole_number, within, sized, character_bits, enumeration, boolean_code, integer_code, enumerated_code, bits_code, octets_code, text_code, utf8_code, additions, per, per_each, per_additions, per_open, per_alternative, per_more}
 
@@ -191,23 +192,6 @@ utf8_in_bits _ = none_in_bits
 
 -- ---- the others
 
-bit_is : (b : Bool) → bit_of b < 2
-bit_is true = omega arith
-bit_is false = omega arith
-
-extension_bits : (m e : Bool) → AllBits (extension_bit m e)
-extension_bits false e = none
-extension_bits true e = more _ [] (bit_is e) none
-
-presence_bits : (ds : List Demand) (es : List (Option Datum)) → AllBits (presence ds es)
-presence_bits [] es = none
-presence_bits (must ∷ ds) [] = none
-presence_bits (optional ∷ ds) [] = none
-presence_bits (default d ∷ ds) [] = none
-presence_bits (must ∷ ds) (e ∷ es) = presence_bits ds es
-presence_bits (optional ∷ ds) (e ∷ es) = more _ _ (bit_is _) (presence_bits ds es)
-presence_bits (default d ∷ ds) (e ∷ es) = more _ _ (bit_is _) (presence_bits ds es)
-
 entry_in_bits : (code : Datum → List Chunk) → ((d : Datum) → InBits (code d)) → (demand : Demand) (e : Option Datum) → InBits (if_spelled demand e code)
 entry_in_bits code h demand None = none_in_bits
 entry_in_bits code h demand (Some d) = go (is_spelled demand (Some d))
@@ -220,12 +204,12 @@ additions_in_bits : (ds : List Demand) (es : List (Option Datum)) (cs : List Chu
 additions_in_bits ds es cs h = go (any_present es)
   where
     go : (b : Bool) → InBits (elim b [ true ↦ ones (small_length (length ds) ++ presence ds es) ++ cs | false ↦ [] ])
-    go true = append_in_bits _ cs (ones_in_bits _ (append_bits _ _ (more 0 _ (omega arith) (digits_bits 6 _)) (presence_bits ds es))) h
+    go true = append_in_bits _ cs (ones_in_bits _ (append_bits _ _ (more 0 _ (omega arith) (digits_bits 6 _)) (record { all = presence_bits ds es }))) h
     go false = none_in_bits
 
 choice_in_bits : (i m : Bool) (us ws : List ℕ) (xs ys : List Chunk) → AllBits us → AllBits ws → InBits xs → InBits ys
     → InBits (elim i [ true ↦ ones (extension_bit m false ++ us) ++ xs | false ↦ ones (1 ∷ ws) ++ ys ])
-choice_in_bits true m us ws xs ys a b p q = append_in_bits _ xs (ones_in_bits _ (append_bits _ us (extension_bits m false) a)) p
+choice_in_bits true m us ws xs ys a b p q = append_in_bits _ xs (ones_in_bits _ (append_bits _ us (record { all = extension_bits m false }) a)) p
 choice_in_bits false m us ws xs ys a b p q = append_in_bits _ ys (ones_in_bits _ (more 1 ws (omega arith) b)) q
 
 mutual
@@ -240,7 +224,7 @@ mutual
   per_in_bits (restricted k z) d = text_in_bits k z d
   per_in_bits utf8_string d = utf8_in_bits d
   per_in_bits (sequence root m) (components cs) =
-      append_in_bits _ _ (append_in_bits _ _ (ones_in_bits _ (append_bits _ _ (extension_bits (is_marked m) (any_present (drop (length (demands root)) (component_list cs)))) (presence_bits (demands root) (take (length (demands root)) (component_list cs))))) (each_entry_in_bits root (take (length (demands root)) (component_list cs))))
+      append_in_bits _ _ (append_in_bits _ _ (ones_in_bits _ (append_bits _ _ (record { all = extension_bits (is_marked m) (any_present (drop (length (demands root)) (component_list cs))) }) (record { all = presence_bits (demands root) (take (length (demands root)) (component_list cs)) }))) (each_entry_in_bits root (take (length (demands root)) (component_list cs))))
       (additions_all_in_bits m (drop (length (demands root)) (component_list cs)))
   per_in_bits (sequence root m) _ = none_in_bits
   per_in_bits (sequence_of t z) (elements ds) = sized_in_bits z _ (each_in_bits (λ e. per t e) (λ e. per_in_bits t e) (element_list ds))

@@ -1,24 +1,12 @@
 -- What the spellings in OER need of a type of the profile, for the type and each part of it: good numbers in each
 -- ENUMERATED, and not too many components and alternatives.
-use Rattle.std.proofs.Common.{◌≡◌, ◌≤◌, ◌<◌, ◌+◌, ◌-◌, ℕ, zero, suc, Bool, true, false, List, [], ◌∷◌, ◌++◌, length, map, take, drop, Option, refl, sym, ◌∙◌, ap, subst, arith, IsTrue, nat_lt, MatchBool, length-append}
-use Rattle.std.proofs.lemmas.Bool.{true≢false, ltb-true, ltb-false, or_parts}
-use Rattle.std.proofs.lemmas.List.{append-nil, take-append-drop}
-use Rattle.asn_values.specs.Datum.{Datum, truth, nothing, number, item, bit_list, octet_list, characters, unicode, components, elements, alternative, component_list, element_list}
-use Rattle.asn_values.specs.Shape.{Shape, boolean, null, integer, enumerated, bit_string, octet_string, restricted, utf8_string, sequence, sequence_of, choice, more_labels, Demand, must, optional, default, Fields, no_fields, field, MoreFields, closed, marked, is_marked, demands, Alternatives, no_alternatives, one_of, MoreAlternatives, closed_choice, marked_choice, more_alternatives, count}
-use Rattle.asn_values.specs.Fits.{Fits, FitsEach, FitsMore, FitsAlternative, FitsMoreAlternatives, FitsLength, FitsNumber}
+use Rattle.std.proofs.Common.{◌≡◌, ◌≤◌, ◌<◌, ◌+◌, ◌-◌, ℕ, zero, suc, Bool, true, false, List, refl, arith, nat_lt, MatchBool}
+use Rattle.std.proofs.lemmas.Bool.{ltb-true, ltb-false, or_parts}
+use Rattle.asn_values.specs.Datum.{Datum}
+use Rattle.asn_values.specs.Shape.{Shape, sequence, choice, Demand, Fields, field, MoreFields, marked, Alternatives, no_alternatives, one_of, MoreAlternatives, closed_choice, marked_choice, more_alternatives, count}
+use Rattle.asn_values.specs.Fits.{FitsAlternative, FitsMoreAlternatives}
 use Rattle.asn_values.specs.Profile.{InProfile, BadEnumeration, TooMany, bad_enumeration, too_many_here, most_nodes, somewhere, some_field, some_addition, some_alternative, some_more}
 use Rattle.asn_values.specs.Measures.{nodes}
-use Rattle.asn_bits.specs.Numbers.{least}
-use Rattle.asn_bits.specs.Lengths.{joined}
-use Rattle.asn_bits.proofs.Codes.{IsCode}
-use Rattle.asn_bits.proofs.Octets.{least_once}
-use Rattle.asn_bits.proofs.Packing.{AreBits, bits_append, filled_up_code}
-use Rattle.asn_rules.specs.Chunks.{open_field, Chunk, ones, flat}
-use Rattle.asn_rules.specs.Components.{bit_of, number_at, is_spelled, presence, if_spelled, any_present, extension_bit}
-use Rattle.asn_rules.proofs.Entries.{same_elements, same_components, presence_first, length-presence, each_length, none_present, SameFront, front_code, entry_facing}
-use Rattle.asn_rules.proofs.Facing.{FieldsTell, Facing, IsFacing, facing_parts, plain_facing, code_facing, sealed_facing, joined_facing, told_by_units}
-use Rattle.asn_rules.proofs.FromFacing.{SpellingsFace, facing_code}
-use Rattle.asn_rules.proofs.Items.{good_items, item_once}
 
 -- no ENUMERATED inside has bad numbers, and nothing inside too many parts
 pub record Good (t : Shape) : Type 0 where
@@ -98,4 +86,3 @@ tag_below root more i d f = go (nat_lt i (count root)) refl f
     go : (b : Bool) → nat_lt i (count root) ≡ b → MatchBool b (FitsAlternative root i d) (FitsMoreAlternatives more (i - count root) d) → i < count root + count (more_alternatives more)
     go true e f = omega (arith, ltb-true i (count root) e)
     go false e f = let h = addition_place more (i - count root) d f in omega (arith, ltb-false i (count root) e)
-

@@ -1,21 +1,19 @@
 -- Two spellings in OER face each other, for all types of the profile.
-use Rattle.std.proofs.Common.{◌≡◌, ◌≤◌, ◌<◌, ◌+◌, ◌-◌, ℕ, zero, suc, Bool, true, false, List, [], ◌∷◌, ◌++◌, length, map, take, drop, Option, refl, sym, ◌∙◌, ap, subst, arith, IsTrue, nat_lt, MatchBool, length-append}
-use Rattle.std.proofs.lemmas.Bool.{true≢false, ltb-true, ltb-false, or_parts}
-use Rattle.std.proofs.lemmas.List.{append-nil, take-append-drop}
+use Rattle.std.proofs.Common.{◌≡◌, ◌<◌, ◌+◌, ◌-◌, ℕ, zero, suc, Bool, true, false, List, [], ◌∷◌, ◌++◌, length, map, take, drop, Option, refl, sym, ◌∙◌, ap, subst, arith, IsTrue, nat_lt, MatchBool, length-append}
+use Rattle.std.proofs.lemmas.Bool.{true≢false}
+use Rattle.std.proofs.lemmas.List.{take-append-drop}
 use Rattle.asn_values.specs.Datum.{Datum, truth, nothing, number, item, bit_list, octet_list, characters, unicode, components, elements, alternative, component_list, element_list}
-use Rattle.asn_values.specs.Shape.{Shape, boolean, null, integer, enumerated, bit_string, octet_string, restricted, utf8_string, sequence, sequence_of, choice, more_labels, Demand, must, optional, default, Fields, no_fields, field, MoreFields, closed, marked, is_marked, demands, Alternatives, no_alternatives, one_of, MoreAlternatives, closed_choice, marked_choice, more_alternatives, count}
+use Rattle.asn_values.specs.Shape.{Shape, boolean, null, integer, enumerated, bit_string, octet_string, restricted, utf8_string, sequence, sequence_of, choice, more_labels, Demand, Fields, no_fields, field, MoreFields, closed, marked, is_marked, demands, Alternatives, no_alternatives, one_of, MoreAlternatives, closed_choice, marked_choice, count}
 use Rattle.asn_values.specs.Fits.{Fits, FitsEach, FitsMore, FitsAlternative, FitsMoreAlternatives, FitsLength, FitsNumber}
-use Rattle.asn_values.specs.Profile.{InProfile, BadEnumeration, TooMany, bad_enumeration, too_many_here, most_nodes, somewhere, some_field, some_addition, some_alternative, some_more}
-use Rattle.asn_values.specs.Measures.{nodes}
 use Rattle.asn_bits.specs.Numbers.{least}
 use Rattle.asn_bits.specs.Lengths.{joined}
 use Rattle.asn_bits.proofs.Codes.{IsCode}
 use Rattle.asn_bits.proofs.Octets.{least_once}
 use Rattle.asn_bits.proofs.Packing.{AreBits, bits_append, filled_up_code}
 use Rattle.asn_rules.specs.Chunks.{open_field, Chunk, ones, flat}
-use Rattle.asn_rules.specs.Components.{bit_of, number_at, is_spelled, presence, if_spelled, any_present, extension_bit}
+use Rattle.asn_rules.specs.Components.{bit_of, number_at, presence, if_spelled, any_present, extension_bit}
 use Rattle.asn_rules.proofs.Entries.{presence_bits, extension_bits, length-extension_bit, same_elements, same_components, presence_first, length-presence, each_length, none_present, SameFront, front_code, entry_facing}
-use Rattle.asn_rules.proofs.Facing.{FieldsTell, Facing, IsFacing, facing_parts, plain_facing, code_facing, sealed_facing, joined_facing, told_by_units}
+use Rattle.asn_rules.proofs.Facing.{FieldsTell, Facing, IsFacing, facing_parts, plain_facing, code_facing, sealed_facing, joined_facing}
 use Rattle.asn_rules.proofs.FromFacing.{SpellingsFace, facing_code}
 use Rattle.asn_rules.proofs.Items.{good_items, item_once}
 use Rattle.asn_oer.specs.Oer.{spelled, whole_number, bit_octets, sized_octets, item_number, tag, filled_bits, variable_bits, truth_octet, an_open_field, oer, oer_each, oer_open, oer_additions, oer_alternative, oer_more}

@@ -1,5 +1,5 @@
 -- Strings in OER: bits, octets and characters, of a fixed size or with their length, tell the value.
-use Rattle.std.proofs.Common.{◌≡◌, ◌<◌, ◌==◌, ℕ, Bool, true, false, not, ◌&&◌, ◌||◌, List, [], ◌∷◌, ◌++◌, length, map, Option, Some, None, refl, sym, ◌∙◌, arith, IsTrue, nat_le}
+use Rattle.std.proofs.Common.{◌≡◌, ◌==◌, ℕ, Bool, true, false, not, ◌&&◌, ◌||◌, List, [], ◌∷◌, ◌++◌, length, map, Option, Some, None, refl, sym, ◌∙◌, arith, IsTrue, nat_le}
 use Rattle.std.proofs.lemmas.Bool.{true≢false, leb-true, eqb-true, and_parts}
 use Rattle.std.proofs.lemmas.List.{length-map}
 use Rattle.asn_values.specs.Shape.{SizeRange}

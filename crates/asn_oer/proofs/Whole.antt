@@ -1,12 +1,8 @@
 -- The laws of OER, from spellings that face each other.
-use Rattle.std.proofs.Common.{◌≡◌, [], ◌++◌, inl, inr, refl, sym, ◌∙◌, ap, subst}
+use Rattle.std.proofs.Common.{[], ◌++◌, refl, sym, ◌∙◌, ap}
 use Rattle.std.proofs.lemmas.List.{append-nil}
-use Rattle.asn_values.specs.Datum.{Datum}
-use Rattle.asn_values.specs.Shape.{Shape}
-use Rattle.asn_values.specs.Fits.{Fits}
-use Rattle.asn_values.specs.Profile.{InProfile}
 use Rattle.asn_rules.specs.Laws.{UnitsTellTheValue, OneValue, NoneBegins, WholesTell, RulesLaws}
-use Rattle.asn_rules.specs.Parted.{Parted, SpellingsPart}
+use Rattle.asn_rules.specs.Parted.{SpellingsPart}
 use Rattle.asn_rules.proofs.FromFacing.{units_tell, spellings_part}
 use Rattle.asn_rules.proofs.FromUnits.{rules_laws}
 use Rattle.asn_oer.specs.Oer.{spelled, oer, oer_octets}

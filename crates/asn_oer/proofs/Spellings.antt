@@ -9,10 +9,10 @@ use Rattle.asn_bits.specs.Numbers.{least}
 use Rattle.asn_bits.specs.Lengths.{joined}
 use Rattle.asn_bits.proofs.Codes.{IsCode}
 use Rattle.asn_bits.proofs.Octets.{least_once}
-use Rattle.asn_bits.proofs.Packing.{AreBits, bits_append, filled_up_code}
+use Rattle.asn_bits.proofs.FilledBits.{AreBits, bits_append, filled_up_code}
 use Rattle.asn_rules.specs.Chunks.{open_field, Chunk, ones, flat}
 use Rattle.asn_rules.specs.Components.{bit_of, number_at, presence, if_spelled, any_present, extension_bit}
-use Rattle.asn_rules.proofs.Entries.{presence_bits, extension_bits, length-extension_bit, same_elements, same_components, presence_first, length-presence, each_length, none_present, SameFront, front_code, entry_facing}
+use Rattle.asn_rules.proofs.Entries.{front_bits, presence_bits, extension_bits, length-extension_bit, same_elements, same_components, presence_first, length-presence, each_length, none_present, SameFront, front_code, entry_facing}
 use Rattle.asn_rules.proofs.Facing.{FieldsTell, Facing, IsFacing, facing_parts, plain_facing, code_facing, sealed_facing, joined_facing}
 use Rattle.asn_rules.proofs.FromFacing.{SpellingsFace, facing_code}
 use Rattle.asn_rules.proofs.Items.{good_items, item_once}
@@ -46,9 +46,6 @@ open_facing P code h =
 -- the bits in front of a SEQUENCE
 abbrev pub front : Bool → Bool → List Demand → List (Option Datum) → List ℕ
 front m a ds es = extension_bit m a ++ presence ds es
-
-pub front_bits : (m a : Bool) (ds : List Demand) (es : List (Option Datum)) → AreBits (front m a ds es)
-front_bits m a ds es = bits_append (extension_bit m a) (presence ds es) (extension_bits m a) (presence_bits ds es)
 
 preamble_code : (m a b : Bool) (ds : List Demand) (es gs : List (Option Datum)) (r s : List ℕ) → length es ≡ length ds → length gs ≡ length ds
     → filled_bits (front m a ds es) ++ r ≡ filled_bits (front m b ds gs) ++ s → SameFront m a b ds es gs × (filled_bits (front m a ds es) ≡ filled_bits (front m b ds gs))

@@ -9,7 +9,7 @@ use Rattle.asn_values.specs.Fits.{FitsNumber, lowest_integer, highest_integer, i
 use Rattle.asn_values.specs.Profile.{is_fixed_size, is_not_32_bits}
 use Rattle.asn_bits.specs.Numbers.{octets, octet_count, least, least_signed, signed_octets, signed_octet_count, magnitude, padding}
 use Rattle.asn_bits.proofs.Octets.{all_signed, octet_count_below, length-least_signed, signed_count_below}
-use Rattle.asn_bits.proofs.Packing.{AreBits, length-padding, length-packed, filled_up, filled_up_fills, filled_up_octets}
+use Rattle.asn_bits.proofs.FilledBits.{AreBits, length-padding, length-packed, filled_up, filled_up_fills, filled_up_octets}
 use Rattle.asn_rules.specs.Components.{number_at}
 use Rattle.asn_rules.specs.Laws.{AreOctets}
 use Rattle.asn_rules.proofs.Items.{numbers}

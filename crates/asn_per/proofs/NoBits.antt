@@ -10,7 +10,7 @@ use Rattle.asn_bits.specs.Lengths.{last_length, lengths_within, joined, with_len
 use Rattle.asn_bits.proofs.Octets.{length-digits}
 use Rattle.asn_bits.proofs.Widths.{width_fits}
 use Rattle.asn_rules.specs.Chunks.{Chunk, one, ones}
-use Rattle.asn_per.specs.Per.{behind_mark, within, sized, constrained}
+use Rattle.asn_per.specs.Per.{spelled, behind_mark, within, sized, constrained}
 
 -- ---- lists that are not empty
 
@@ -59,6 +59,10 @@ under_not {A} bit (suc f) n items = go (nat_lt n 16384) refl
 
 pub general_not : {A : Type 0} (bit : ℕ → A) (items : List (List A)) → general bit items ≢ []
 general_not bit items = under_not bit (length items / 16384) (length items) items
+
+-- a sealed field has bits
+pub spelled_not : (c : List ℕ) → spelled c ≢ []
+spelled_not c = general_not (λ u. u) (map (λ o. map (λ u. u) (bits 8 o)) c)
 
 -- ---- lists under a size
 

@@ -15,10 +15,10 @@ use Rattle.asn_rules.proofs.FromUnits.{rules_laws}
 use Rattle.asn_per.specs.Per.{spelled, per, filling, complete, per_whole, per_octets}
 use Rattle.asn_per.specs.Rules.{per_ruling}
 use Rattle.asn_per.specs.Laws.{per_bits, NoBitsIsExact}
-use Rattle.asn_per.proofs.Bits.{per_in_bits}
+use Rattle.asn_per.proofs.Spelt.{per_spelt}
 use Rattle.asn_per.proofs.Complete.{filled_is, complete_code, complete_octets, complete_full, unpacked-append}
 use Rattle.asn_per.proofs.SomeBits.{no_bits_exact}
-use Rattle.asn_per.proofs.Spellings.{spellings_face}
+use Rattle.asn_per.proofs.Facing.{spellings_face}
 
 -- ---- spellings and octets
 
@@ -31,7 +31,7 @@ per_parts = spellings_part spelled per spellings_face
 -- octets, with whatever follows, tell the value
 octets_tell : UnitsTellTheValue per_octets
 octets_tell t v w r s h p q e =
-    complete_code (λ d. Fits t d) (λ d. per t d) (λ d. per_in_bits t d) (λ x y r s p q e. bits_tell t x y r s h p q e) v w r s p q e
+    complete_code (λ d. Fits t d) (λ d. per t d) (λ d p. (per_spelt t d p).bits) (λ x y r s p q e. bits_tell t x y r s h p q e) v w r s p q e
 
 pub one_value_octets : OneValue per_octets
 one_value_octets t v w h p q e = (octets_tell t v w [] [] h p q (ap (λ o. o ++ []) e)).0
@@ -63,7 +63,7 @@ per_wholes : WholesTell per_ruling
 unfolding per_ruling
 per_wholes = record {
   told = wholes_told;
-  filled = λ t v h f. (complete (per t v), complete_octets (per t v) (per_in_bits t v), complete_full (per t v) (per_in_bits t v) ∙ sym (filled_is (per t v)));
+  filled = λ t v h f. (complete (per t v), complete_octets (per t v) (per_spelt t v f).bits, complete_full (per t v) (per_spelt t v f).bits ∙ sym (filled_is (per t v)));
   joined = unpacked-append;
   once = unpacked_once;
 }

@@ -1,4 +1,4 @@
-//! CANONICAL-PER UNALIGNED (X.691).
+//! CANONICAL-PER UNALIGNED (X.691): encoding and decoding of whole messages.
 #![tactic(auto)]
 
 mod laws;

@@ -5,7 +5,7 @@ use Rattle.std.specs.Int.RustNames.{int_le}
 use Rattle.asn_values.specs.Datum.{Datum, truth, number, item, components, elements, Elements, no_elements, element, Components, no_components, absent, present, component_list, element_list, elements_of, components_of}
 use Rattle.asn_values.specs.Shape.{Demand, must, optional, default, Fields, no_fields, field, demands}
 use Rattle.asn_values.specs.Fits.{FitsEach, FitsDemand}
-use Rattle.asn_bits.proofs.Packing.{AreBits}
+use Rattle.asn_bits.proofs.FilledBits.{AreBits, bits_append}
 use Rattle.asn_rules.specs.Chunks.{Chunk}
 use Rattle.asn_rules.specs.Components.{bit_of, is_spelled, is_default, presence, if_spelled, any_present, extension_bit}
 use Rattle.asn_rules.proofs.Facing.{Facing, IsFacing}
@@ -106,9 +106,9 @@ front_code m a b ds es gs r s p q e =
 
 -- ---- what these bits are, and how many
 
-pub bit_is : (b : Bool) → bit_of b < 2
-bit_is true = omega arith
-bit_is false = omega arith
+pub bit_of_is : (b : Bool) → bit_of b < 2
+bit_of_is true = omega arith
+bit_of_is false = omega arith
 
 pub presence_bits : (ds : List Demand) (es : List (Option Datum)) → AreBits (presence ds es)
 presence_bits [] es = tt
@@ -116,12 +116,16 @@ presence_bits (must ∷ ds) [] = tt
 presence_bits (optional ∷ ds) [] = tt
 presence_bits (default d ∷ ds) [] = tt
 presence_bits (must ∷ ds) (e ∷ es) = presence_bits ds es
-presence_bits (optional ∷ ds) (e ∷ es) = (bit_is (is_spelled optional e), presence_bits ds es)
-presence_bits (default d ∷ ds) (e ∷ es) = (bit_is (is_spelled (default d) e), presence_bits ds es)
+presence_bits (optional ∷ ds) (e ∷ es) = (bit_of_is (is_spelled optional e), presence_bits ds es)
+presence_bits (default d ∷ ds) (e ∷ es) = (bit_of_is (is_spelled (default d) e), presence_bits ds es)
 
 pub extension_bits : (m e : Bool) → AreBits (extension_bit m e)
 extension_bits false e = tt
-extension_bits true e = (bit_is e, tt)
+extension_bits true e = (bit_of_is e, tt)
+
+-- those in front of a SEQUENCE
+pub front_bits : (m e : Bool) (ds : List Demand) (es : List (Option Datum)) → AreBits (extension_bit m e ++ presence ds es)
+front_bits m e ds es = bits_append (extension_bit m e) (presence ds es) (extension_bits m e) (presence_bits ds es)
 
 pub length-extension_bit : (m a b : Bool) → length (extension_bit m a) ≡ length (extension_bit m b)
 length-extension_bit false a b = refl
@@ -149,7 +153,7 @@ le_z_antisymm (pos a) (negsuc b) p q = absurd (true≢false (sym p))
 le_z_antisymm (negsuc a) (pos b) p q = absurd (true≢false (sym q))
 le_z_antisymm (negsuc a) (negsuc b) p q = ap negsuc (omega (arith, leb-true b a p, leb-true a b q))
 
-default_is : (d x : Datum) → is_default d x ≡ true → d ≡ x
+pub default_is : (d x : Datum) → is_default d x ≡ true → d ≡ x
 default_is (truth true) (truth b) h = ap truth (sym h)
 default_is (truth false) (truth true) h = absurd (true≢false (sym h))
 default_is (truth false) (truth false) h = refl
@@ -162,6 +166,16 @@ pub default_same : (d x y : Datum) → is_default d x ≡ true → is_default d 
 default_same d x y p q = sym (default_is d x p) ∙ default_is d y q
 
 -- ---- one component
+
+-- what the spellings of its values have, and the empty list, the component's has, spelt or not
+pub entry_has : (S : List Chunk → Type 0) (P : Datum → Type 0) (code : Datum → List Chunk) → S [] → ((d : Datum) → P d → S (code d)) → (demand : Demand) (e : Option Datum) → FitsDemand P demand e
+    → S (if_spelled demand e code)
+entry_has S P code none h demand None f = none
+entry_has S P code none h demand (Some d) f = go (is_spelled demand (Some d))
+  where
+    go : (b : Bool) → S (elim b [ true ↦ code d | false ↦ [] ])
+    go true = h d f
+    go false = none
 
 module _ (sp : List ℕ → List ℕ) where
   -- entries that are both spelt or both not

@@ -5,7 +5,7 @@ use Rattle.std.proofs.lemmas.List.{append-nil, append_cancel_left, take-append-d
 use Rattle.std.proofs.Math.Seq.{take-append_seam, drop-append_seam, take-append-add}
 use Rattle.std.specs.List.{AllByRecursion}
 use Rattle.asn_values.specs.Fits.{Fits}
-use Rattle.asn_rules.specs.Chunks.{Kind, open_field, utf8_field, rest_of, Chunk, one, sealed, field_units, flat, fields_from}
+use Rattle.asn_rules.specs.Chunks.{Kind, open_field, utf8_field, rest_of, Chunk, one, sealed, ones, field_units, flat, fields_from}
 use Rattle.asn_rules.specs.Live.{Begins, BeginsProperly, SomeWithEarlier, Fielding, IsContent, Free, Bounded, BoundedBefore, Inside, Front, Live, LiveByChunks}
 use Rattle.asn_values.specs.Datum.{Datum}
 use Rattle.asn_values.specs.Shape.{Shape}
@@ -22,6 +22,17 @@ abbrev pub AllSealed : Fielding → List Chunk → Type 0
 AllSealed r [] = ⊤
 AllSealed r (one x ∷ cs) = AllSealed r cs
 AllSealed r (sealed k c ∷ cs) = IsSealed r k c × AllSealed r cs
+
+-- plain units have no field
+pub sealed-ones : (r : Fielding) (us : List ℕ) → AllSealed r (ones us)
+sealed-ones r [] = tt
+sealed-ones r (u ∷ us) = sealed-ones r us
+
+-- and chunks one after the other have those of both
+pub sealed-append : (r : Fielding) (xs ys : List Chunk) → AllSealed r xs → AllSealed r ys → AllSealed r (xs ++ ys)
+sealed-append r [] ys p q = q
+sealed-append r (one u ∷ xs) ys p q = sealed-append r xs ys p q
+sealed-append r (sealed k c ∷ xs) ys p q = (p.0, sealed-append r xs ys p.1 q)
 
 -- one of two lists with the same whole begins the other
 pub split : (xs us ys vs : List ℕ) → xs ++ ys ≡ us ++ vs

@@ -3,5 +3,7 @@ pub mod Shape
 pub mod Fits
 pub mod Measures
 pub mod Profile
+pub mod Parts
 pub mod Defaults
 pub mod View
+pub mod Walk

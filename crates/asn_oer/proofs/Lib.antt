@@ -1,10 +1,11 @@
-pub mod Lengths
-pub mod Leaves
+pub mod GoodTypes
 pub mod Integers
-pub mod Strings
+pub mod Leaves
+pub mod Lengths
+pub mod LiveParts
 pub mod Spellings
-pub mod Whole
 pub mod Spelt
 pub mod SpeltLeaves
 pub mod SpeltTypes
-pub mod LiveParts
+pub mod Strings
+pub mod Whole

@@ -7,7 +7,7 @@ use Rattle.asn_rules.specs.Chunks.{open_field, utf8_field}
 use Rattle.asn_rules.specs.Live.{Free, Live, LiveByChunks}
 use Rattle.asn_rules.proofs.Fronts.{live_iff}
 use Rattle.asn_oer.specs.Oer.{spelled, oer, oer_fields}
-use Rattle.asn_oer.proofs.Spellings.{good}
+use Rattle.asn_oer.proofs.GoodTypes.{good}
 use Rattle.asn_oer.proofs.SpeltTypes.{oer_spelt, few_levels}
 
 some_length : (n : ℕ) → 0 < length (octet_length n)

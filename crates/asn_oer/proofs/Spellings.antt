@@ -1,88 +1,27 @@
 -- Two spellings in OER face each other, for all types of the profile.
-use Rattle.std.proofs.Common.{◌≡◌, ◌≤◌, ◌<◌, ◌+◌, ◌-◌, ℕ, zero, suc, Bool, true, false, List, [], ◌∷◌, ◌++◌, length, map, take, drop, Option, refl, sym, ◌∙◌, ap, subst, arith, IsTrue, nat_lt, MatchBool, length-append}
-use Rattle.std.proofs.lemmas.Bool.{true≢false, ltb-true, ltb-false, or_parts}
-use Rattle.std.proofs.lemmas.List.{append-nil, take-append-drop}
+use Rattle.std.proofs.Common.{◌≡◌, ◌<◌, ◌+◌, ◌-◌, ℕ, zero, suc, Bool, true, false, List, [], ◌∷◌, ◌++◌, length, map, take, drop, Option, refl, sym, ◌∙◌, ap, subst, arith, IsTrue, nat_lt, MatchBool, length-append}
+use Rattle.std.proofs.lemmas.Bool.{true≢false}
+use Rattle.std.proofs.lemmas.List.{take-append-drop}
 use Rattle.asn_values.specs.Datum.{Datum, truth, nothing, number, item, bit_list, octet_list, characters, unicode, components, elements, alternative, component_list, element_list}
-use Rattle.asn_values.specs.Shape.{Shape, boolean, null, integer, enumerated, bit_string, octet_string, restricted, utf8_string, sequence, sequence_of, choice, more_labels, Demand, must, optional, default, Fields, no_fields, field, MoreFields, closed, marked, is_marked, demands, Alternatives, no_alternatives, one_of, MoreAlternatives, closed_choice, marked_choice, more_alternatives, count}
+use Rattle.asn_values.specs.Shape.{Shape, boolean, null, integer, enumerated, bit_string, octet_string, restricted, utf8_string, sequence, sequence_of, choice, more_labels, Demand, Fields, no_fields, field, MoreFields, closed, marked, is_marked, demands, Alternatives, no_alternatives, one_of, MoreAlternatives, closed_choice, marked_choice, count}
 use Rattle.asn_values.specs.Fits.{Fits, FitsEach, FitsMore, FitsAlternative, FitsMoreAlternatives, FitsLength, FitsNumber}
-use Rattle.asn_values.specs.Profile.{InProfile, BadEnumeration, TooMany, bad_enumeration, too_many_here, most_nodes, somewhere, some_field, some_addition, some_alternative, some_more}
-use Rattle.asn_values.specs.Measures.{nodes}
 use Rattle.asn_bits.specs.Numbers.{least}
 use Rattle.asn_bits.specs.Lengths.{joined}
 use Rattle.asn_bits.proofs.Codes.{IsCode}
 use Rattle.asn_bits.proofs.Octets.{least_once}
 use Rattle.asn_bits.proofs.FilledBits.{AreBits, bits_append, filled_up_code}
 use Rattle.asn_rules.specs.Chunks.{open_field, Chunk, ones, flat}
-use Rattle.asn_rules.specs.Components.{bit_of, number_at, is_spelled, presence, if_spelled, any_present, extension_bit}
-use Rattle.asn_rules.proofs.Entries.{same_elements, same_components, presence_first, length-presence, each_length, none_present, SameFront, front_code, entry_facing}
-use Rattle.asn_rules.proofs.Facing.{FieldsTell, Facing, IsFacing, facing_parts, plain_facing, code_facing, sealed_facing, joined_facing, told_by_units}
+use Rattle.asn_rules.specs.Components.{bit_of, number_at, presence, if_spelled, any_present, extension_bit}
+use Rattle.asn_rules.proofs.Entries.{front_bits, presence_bits, extension_bits, length-extension_bit, same_elements, same_components, presence_first, length-presence, each_length, none_present, SameFront, front_code, entry_facing}
+use Rattle.asn_rules.proofs.Facing.{FieldsTell, Facing, IsFacing, facing_parts, plain_facing, code_facing, sealed_facing, joined_facing}
+use Rattle.asn_rules.proofs.FromFacing.{SpellingsFace, facing_code}
 use Rattle.asn_rules.proofs.Items.{good_items, item_once}
 use Rattle.asn_oer.specs.Oer.{spelled, whole_number, bit_octets, sized_octets, item_number, tag, filled_bits, variable_bits, truth_octet, an_open_field, oer, oer_each, oer_open, oer_additions, oer_alternative, oer_more}
+use Rattle.asn_oer.proofs.GoodTypes.{Good, GoodFields, GoodAlternatives, good, first_good, rest_good, here_good, later_good, root_good, additions_good, choice_good, choice_additions_good, few_alternatives, tag_below}
 use Rattle.asn_oer.proofs.Integers.{number_code}
 use Rattle.asn_oer.proofs.Leaves.{item_code, tag_code}
 use Rattle.asn_oer.proofs.Lengths.{spelled_code}
-use Rattle.asn_oer.proofs.Strings.{bit_is, sized_code, bits_code, variable_code}
-
--- ---- what is needed of the type
-
--- no ENUMERATED inside has bad numbers, and nothing inside too many parts
-pub record Good (t : Shape) : Type 0 where
-  pub numbers : somewhere bad_enumeration t ≡ false
-  pub parts : somewhere too_many_here t ≡ false
-
-pub record GoodFields (fs : Fields) : Type 0 where
-  pub numbers : some_field bad_enumeration fs ≡ false
-  pub parts : some_field too_many_here fs ≡ false
-
-pub record GoodAlternatives (alts : Alternatives) : Type 0 where
-  pub numbers : some_alternative bad_enumeration alts ≡ false
-  pub parts : some_alternative too_many_here alts ≡ false
-
--- every type of the profile is such
-pub good : (t : Shape) → InProfile t → Good t
-good t h = record { numbers = h BadEnumeration; parts = (or_parts (somewhere too_many_here t) (nat_lt most_nodes (nodes t)) (h TooMany)).0 }
-
-pub first_good : (name : List ℕ) (demand : Demand) (t : Shape) (fs : Fields) → GoodFields (field name demand t fs) → Good t
-first_good name demand t fs h = record { numbers = (or_parts (somewhere bad_enumeration t) (some_field bad_enumeration fs) h.numbers).0; parts = (or_parts (somewhere too_many_here t) (some_field too_many_here fs) h.parts).0 }
-
-pub rest_good : (name : List ℕ) (demand : Demand) (t : Shape) (fs : Fields) → GoodFields (field name demand t fs) → GoodFields fs
-rest_good name demand t fs h = record { numbers = (or_parts (somewhere bad_enumeration t) (some_field bad_enumeration fs) h.numbers).1; parts = (or_parts (somewhere too_many_here t) (some_field too_many_here fs) h.parts).1 }
-
-pub here_good : (name : List ℕ) (t : Shape) (alts : Alternatives) → GoodAlternatives (one_of name t alts) → Good t
-here_good name t alts h = record { numbers = (or_parts (somewhere bad_enumeration t) (some_alternative bad_enumeration alts) h.numbers).0; parts = (or_parts (somewhere too_many_here t) (some_alternative too_many_here alts) h.parts).0 }
-
-pub later_good : (name : List ℕ) (t : Shape) (alts : Alternatives) → GoodAlternatives (one_of name t alts) → GoodAlternatives alts
-later_good name t alts h = record { numbers = (or_parts (somewhere bad_enumeration t) (some_alternative bad_enumeration alts) h.numbers).1; parts = (or_parts (somewhere too_many_here t) (some_alternative too_many_here alts) h.parts).1 }
-
--- of the components and additions of a SEQUENCE
-pub root_good : (root : Fields) (more : MoreFields) → Good (sequence root more) → GoodFields root
-root_good root more h =
-    let a = or_parts (some_field bad_enumeration root) (some_addition bad_enumeration more) h.numbers in
-    let b = or_parts (some_field too_many_here root) (some_addition too_many_here more) (or_parts (too_many_here (sequence root more)) _ h.parts).1 in
-    record { numbers = a.0; parts = b.0 }
-
-pub additions_good : (root fs : Fields) → Good (sequence root (marked fs)) → GoodFields fs
-additions_good root fs h =
-    let a = or_parts (some_field bad_enumeration root) (some_field bad_enumeration fs) h.numbers in
-    let b = or_parts (some_field too_many_here root) (some_field too_many_here fs) (or_parts (too_many_here (sequence root (marked fs))) _ h.parts).1 in
-    record { numbers = a.1; parts = b.1 }
-
--- of the alternatives of a CHOICE
-pub choice_good : (root : Alternatives) (more : MoreAlternatives) → Good (choice root more) → GoodAlternatives root
-choice_good root more h =
-    let a = or_parts (some_alternative bad_enumeration root) (some_more bad_enumeration more) h.numbers in
-    let b = or_parts (some_alternative too_many_here root) (some_more too_many_here more) (or_parts (too_many_here (choice root more)) _ h.parts).1 in
-    record { numbers = a.0; parts = b.0 }
-
-pub choice_additions_good : (root alts : Alternatives) → Good (choice root (marked_choice alts)) → GoodAlternatives alts
-choice_additions_good root alts h =
-    let a = or_parts (some_alternative bad_enumeration root) (some_alternative bad_enumeration alts) h.numbers in
-    let b = or_parts (some_alternative too_many_here root) (some_alternative too_many_here alts) (or_parts (too_many_here (choice root (marked_choice alts))) _ h.parts).1 in
-    record { numbers = a.1; parts = b.1 }
-
--- there are at most 63 alternatives
-pub few_alternatives : (root : Alternatives) (more : MoreAlternatives) → Good (choice root more) → count root + count (more_alternatives more) ≤ 63
-few_alternatives root more h = ltb-false 63 (count root + count (more_alternatives more)) (or_parts (too_many_here (choice root more)) _ h.parts).0
+use Rattle.asn_oer.proofs.Strings.{sized_code, bits_code, variable_code}
 
 -- ---- parts
 
@@ -102,33 +41,11 @@ field_tells c d r s e = spelled_code c d r s e
 open_facing : {A : Type 0} (P : A → Type 0) (code : A → List Chunk) → IsFacing spelled P code → IsFacing spelled P (λ x. an_open_field (code x))
 open_facing P code h =
     sealed_facing spelled P open_field (λ x. flat spelled (code x)) (λ x y p q. field_tells (flat spelled (code x)) (flat spelled (code y)))
-    (λ x y p q e. (told_by_units spelled (x ≡ y) (code x) (code y) [] []
-    (subst (λ z. Face (x ≡ y) z (code y)) (append-nil (code x)) (subst (λ z. Face (x ≡ y) (code x ++ []) z) (append-nil (code y)) (h (x ≡ y) x y [] [] p q (λ e. record { told = e })))).told
-    (ap (λ t. t ++ []) e)).0)
-
-pub presence_bits : (ds : List Demand) (es : List (Option Datum)) → AreBits (presence ds es)
-presence_bits [] es = tt
-presence_bits (must ∷ ds) [] = tt
-presence_bits (optional ∷ ds) [] = tt
-presence_bits (default d ∷ ds) [] = tt
-presence_bits (must ∷ ds) (e ∷ es) = presence_bits ds es
-presence_bits (optional ∷ ds) (e ∷ es) = (bit_is (is_spelled optional e), presence_bits ds es)
-presence_bits (default d ∷ ds) (e ∷ es) = (bit_is (is_spelled (default d) e), presence_bits ds es)
-
-extension_bits : (m e : Bool) → AreBits (extension_bit m e)
-extension_bits false e = tt
-extension_bits true e = (bit_is e, tt)
-
-length-extension_bit : (m a b : Bool) → length (extension_bit m a) ≡ length (extension_bit m b)
-length-extension_bit false a b = refl
-length-extension_bit true a b = refl
+    (λ x y p q e. (facing_code spelled P code h x y [] [] p q (ap (λ t. t ++ []) e)).0)
 
 -- the bits in front of a SEQUENCE
 abbrev pub front : Bool → Bool → List Demand → List (Option Datum) → List ℕ
 front m a ds es = extension_bit m a ++ presence ds es
-
-pub front_bits : (m a : Bool) (ds : List Demand) (es : List (Option Datum)) → AreBits (front m a ds es)
-front_bits m a ds es = bits_append (extension_bit m a) (presence ds es) (extension_bits m a) (presence_bits ds es)
 
 preamble_code : (m a b : Bool) (ds : List Demand) (es gs : List (Option Datum)) (r s : List ℕ) → length es ≡ length ds → length gs ≡ length ds
     → filled_bits (front m a ds es) ++ r ≡ filled_bits (front m b ds gs) ++ s → SameFront m a b ds es gs × (filled_bits (front m a ds es) ≡ filled_bits (front m b ds gs))
@@ -145,24 +62,6 @@ quantity_code : IsCode (λ n. IsTrue true) (λ n. spelled (least n))
 quantity_code m n r s p q e = let w = spelled_code (least m) (least n) r s e in (least_once m n w.0, w.1)
 
 -- ---- alternatives
-
-alternative_place : (alts : Alternatives) (i : ℕ) (d : Datum) → FitsAlternative alts i d → i < count alts
-alternative_place no_alternatives i d f = absurd f
-alternative_place (one_of name t alts) zero d f = omega arith
-alternative_place (one_of name t alts) (suc i) d f = let h = alternative_place alts i d f in omega arith
-
-addition_place : (more : MoreAlternatives) (i : ℕ) (d : Datum) → FitsMoreAlternatives more i d → i < count (more_alternatives more)
-addition_place closed_choice i d f = absurd f
-addition_place (marked_choice alts) i d f = alternative_place alts i d f
-
--- the tag of a value is below the number of alternatives
-pub tag_below : (root : Alternatives) (more : MoreAlternatives) (i : ℕ) (d : Datum) → MatchBool (nat_lt i (count root)) (FitsAlternative root i d) (FitsMoreAlternatives more (i - count root) d)
-    → i < count root + count (more_alternatives more)
-tag_below root more i d f = go (nat_lt i (count root)) refl f
-  where
-    go : (b : Bool) → nat_lt i (count root) ≡ b → MatchBool b (FitsAlternative root i d) (FitsMoreAlternatives more (i - count root) d) → i < count root + count (more_alternatives more)
-    go true e f = omega (arith, ltb-true i (count root) e)
-    go false e f = let h = addition_place more (i - count root) d f in omega (arith, ltb-false i (count root) e)
 
 -- the values of one alternative
 chosen_facing : (root : Alternatives) (more : MoreAlternatives) (i : ℕ) → IsFacing spelled (λ d. FitsAlternative root i d) (λ d. oer_alternative root i d)
@@ -301,3 +200,6 @@ mutual
   other_facing root closed_choice h i E x y r s p q next = absurd p
   other_facing root (marked_choice alts) h i E x y r s p q next =
       open_facing (λ d. FitsAlternative alts i d) (λ d. oer_alternative alts i d) (λ G u v r' s' p' q' n'. alternative_facing alts (choice_additions_good root alts h) i G u v r' s' p' q' n') E x y r s p q next
+
+pub oer_faces : SpellingsFace spelled oer
+oer_faces t h E x y r s p q next = oer_facing t (good t h) E x y r s p q next

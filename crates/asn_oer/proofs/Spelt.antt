@@ -14,7 +14,7 @@ use Rattle.asn_bits.proofs.Utf8.{append_octets}
 use Rattle.asn_rules.specs.Chunks.{Chunk, one, sealed, ones, flat}
 use Rattle.asn_rules.specs.Components.{is_spelled, if_spelled}
 use Rattle.asn_rules.specs.Laws.{AreOctets}
-use Rattle.asn_rules.proofs.Fronts.{AllSealed}
+use Rattle.asn_rules.proofs.Fronts.{AllSealed, sealed-ones, sealed-append}
 use Rattle.asn_rules.proofs.Flat.{flat-append, flat-ones}
 use Rattle.asn_oer.specs.Oer.{spelled, an_open_field, oer_fields}
 
@@ -107,22 +107,13 @@ spelt_none n = record { units = record { octets = tt; most = omega arith }; held
 pub spelt_more : (m n : ℕ) (cs : List Chunk) → m ≤ n → Spelt m cs → Spelt n cs
 spelt_more m n cs h p = record { units = short_more m n (flat spelled cs) h p.units; held = p.held }
 
-ones_held : (us : List ℕ) → AllSealed oer_fields (ones us)
-ones_held [] = tt
-ones_held (u ∷ us) = ones_held us
-
 pub spelt_ones : (n : ℕ) (us : List ℕ) → Short n us → Spelt n (ones us)
-spelt_ones n us h = record { units = subst (Short n) (sym (flat-ones spelled us)) h; held = ones_held us }
-
-append_held : (xs ys : List Chunk) → AllSealed oer_fields xs → AllSealed oer_fields ys → AllSealed oer_fields (xs ++ ys)
-append_held [] ys p q = q
-append_held (one u ∷ xs) ys p q = append_held xs ys p q
-append_held (sealed k c ∷ xs) ys p q = (p.0, append_held xs ys p.1 q)
+spelt_ones n us h = record { units = subst (Short n) (sym (flat-ones spelled us)) h; held = sealed-ones oer_fields us }
 
 pub spelt_append : (m n : ℕ) (xs ys : List Chunk) → Spelt m xs → Spelt n ys → Spelt (m + n) (xs ++ ys)
 spelt_append m n xs ys p q = record {
   units = subst (Short (m + n)) (sym (flat-append spelled xs ys)) (short_append m n (flat spelled xs) (flat spelled ys) p.units q.units);
-  held = append_held xs ys p.held q.held;
+  held = sealed-append oer_fields xs ys p.held q.held;
 }
 
 -- an open field
@@ -141,13 +132,3 @@ spelt_joined n P code h [] p = spelt_none (0 * n)
 spelt_joined n P code h (x ∷ xs) p =
     spelt_more (n + length xs * n) (suc (length xs) * n) (joined (map code (x ∷ xs))) (omega (arith, suc-mul (length xs) n))
     (spelt_append n (length xs * n) (code x) (joined (map code xs)) (h x p.0) (spelt_joined n P code h xs p.1))
-
--- a component, where it is spelt
-pub spelt_entry : (n : ℕ) (P : Datum → Type 0) (code : Datum → List Chunk) → ((d : Datum) → P d → Spelt n (code d)) → (demand : Demand) (e : Option Datum) → FitsDemand P demand e
-    → Spelt n (if_spelled demand e code)
-spelt_entry n P code h demand None f = spelt_none n
-spelt_entry n P code h demand (Some d) f = go (is_spelled demand (Some d))
-  where
-    go : (b : Bool) → Spelt n (elim b [ true ↦ code d | false ↦ [] ])
-    go true = h d f
-    go false = spelt_none n

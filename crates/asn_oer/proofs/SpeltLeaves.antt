@@ -4,14 +4,13 @@ use Rattle.std.proofs.lemmas.Bool.{ltb-true, ltb-false, leb-true, eqb-true, and_
 use Rattle.std.proofs.lemmas.Int.{ints}
 use Rattle.std.specs.List.{AllByRecursion, list_any}
 use Rattle.std.specs.Int.RustNames.{int_le, int_lt}
-use Rattle.asn_values.specs.Shape.{Range, SizeRange, Alphabet, ia5, numeric, visible, Label, Demand, must, optional, default}
-use Rattle.asn_values.specs.Datum.{Datum}
+use Rattle.asn_values.specs.Shape.{Range, SizeRange, Alphabet, ia5, numeric, visible, Label}
 use Rattle.asn_values.specs.Fits.{FitsNumber, lowest_integer, highest_integer, is_of_kind, max_len}
 use Rattle.asn_values.specs.Profile.{is_fixed_size, is_not_32_bits}
 use Rattle.asn_bits.specs.Numbers.{octets, octet_count, least, least_signed, signed_octets, signed_octet_count, magnitude, padding}
 use Rattle.asn_bits.proofs.Octets.{all_signed, octet_count_below, length-least_signed, signed_count_below}
 use Rattle.asn_bits.proofs.FilledBits.{AreBits, length-padding, length-packed, filled_up, filled_up_fills, filled_up_octets}
-use Rattle.asn_rules.specs.Components.{number_at, presence, extension_bit}
+use Rattle.asn_rules.specs.Components.{number_at}
 use Rattle.asn_rules.specs.Laws.{AreOctets}
 use Rattle.asn_rules.proofs.Items.{numbers}
 use Rattle.asn_oer.specs.Oer.{spelled, magnitude_of, counted, counted_signed, unsigned_octets, unsigned_in, signed_size, signed_in, ranged, whole_number, filled_bits, variable_bits, bit_octets, sized_octets, item_number, tag}
@@ -140,19 +139,6 @@ bits_short z bs l h = go (is_fixed_size z)
 -- the bits in front of a SEQUENCE of at most 64 components
 pub preamble_short : (bs : List ℕ) → length bs ≤ 65 → AreBits bs → Short 72 (filled_bits bs)
 preamble_short bs l h = short_more (length bs + 7) 72 (filled_bits bs) (omega arith) (filled_short bs h)
-
-pub few_presence : (ds : List Demand) (es : List (Option Datum)) → length (presence ds es) ≤ length ds
-few_presence [] es = omega arith
-few_presence (must ∷ ds) [] = omega arith
-few_presence (optional ∷ ds) [] = omega arith
-few_presence (default d ∷ ds) [] = omega arith
-few_presence (must ∷ ds) (e ∷ es) = let h = few_presence ds es in omega arith
-few_presence (optional ∷ ds) (e ∷ es) = let h = few_presence ds es in omega arith
-few_presence (default d ∷ ds) (e ∷ es) = let h = few_presence ds es in omega arith
-
-pub few_extension : (m e : Bool) → length (extension_bit m e) ≤ 1
-few_extension false e = omega arith
-few_extension true e = omega arith
 
 -- ---- octets and characters
 

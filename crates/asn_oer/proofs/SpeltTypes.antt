@@ -13,11 +13,13 @@ use Rattle.asn_bits.specs.Lengths.{joined}
 use Rattle.asn_bits.proofs.Utf8.{utf8_octets}
 use Rattle.asn_rules.specs.Chunks.{ones}
 use Rattle.asn_rules.specs.Components.{bit_of, number_at, presence, if_spelled, any_present, extension_bit}
+use Rattle.asn_rules.proofs.Entries.{front_bits, entry_has, presence_bits, few_presence, few_extension}
 use Rattle.asn_rules.proofs.Items.{good_items}
 use Rattle.asn_oer.specs.Oer.{spelled, whole_number, bit_octets, sized_octets, item_number, tag, filled_bits, variable_bits, an_open_field, oer, oer_each, oer_open, oer_additions, oer_alternative, oer_more}
-use Rattle.asn_oer.proofs.Spellings.{Good, GoodFields, GoodAlternatives, first_good, rest_good, here_good, later_good, root_good, additions_good, choice_good, choice_additions_good, few_alternatives, tag_below, front, front_bits, presence_bits}
-use Rattle.asn_oer.proofs.Spelt.{room, room_grows, Short, short_append, short_more, Spelt, spelt_none, spelt_more, spelt_ones, spelt_append, spelt_open, spelt_joined, spelt_entry}
-use Rattle.asn_oer.proofs.SpeltLeaves.{number_short, number_is_small, item_short, bits_short, variable_short, preamble_short, few_presence, few_extension, content_short, sized_short, characters_octets, quantity_short, tag_short}
+use Rattle.asn_oer.proofs.GoodTypes.{Good, GoodFields, GoodAlternatives, first_good, rest_good, here_good, later_good, root_good, additions_good, choice_good, choice_additions_good, few_alternatives, tag_below}
+use Rattle.asn_oer.proofs.Spellings.{front}
+use Rattle.asn_oer.proofs.Spelt.{room, room_grows, Short, short_append, short_more, Spelt, spelt_none, spelt_more, spelt_ones, spelt_append, spelt_open, spelt_joined}
+use Rattle.asn_oer.proofs.SpeltLeaves.{number_short, number_is_small, item_short, bits_short, variable_short, preamble_short, content_short, sized_short, characters_octets, quantity_short, tag_short}
 use Rattle.asn_oer.proofs.Strings.{list_bits}
 
 -- ---- room
@@ -127,7 +129,7 @@ mutual
   each_spelt (field name demand t fs) h k l m (e ∷ es) f =
       spelt_more (room k + length (demands fs) * room k) (suc (length (demands fs)) * room k) (oer_each (field name demand t fs) (e ∷ es)) (omega (arith, suc-mul (length (demands fs)) (room k)))
       (spelt_append (room k) (length (demands fs) * room k) (if_spelled demand e (λ d. oer t d)) (oer_each fs es)
-      (spelt_entry (room k) (λ d. Fits t d) (λ d. oer t d)
+      (entry_has (Spelt (room k)) (λ d. Fits t d) (λ d. oer t d) (spelt_none (room k))
       (λ d p. spelt_more (room (depth t)) (room k) (oer t d) (room_grows (depth t) k (omega arith)) (oer_spelt t (first_good name demand t fs h) (omega arith) d p)) demand e f.0)
       (each_spelt fs (rest_good name demand t fs h) k (omega arith) m es f.1))
 
@@ -154,7 +156,7 @@ mutual
       let x = 2 * room k + 2 in
       spelt_more (x + length (demands fs) * x) (suc (length (demands fs)) * x) (oer_open (field name demand t fs) (e ∷ es)) (omega (arith, suc-mul (length (demands fs)) x))
       (spelt_append x (length (demands fs) * x) (if_spelled demand e (λ d. an_open_field (oer t d))) (oer_open fs es)
-      (spelt_entry x (λ d. Fits t d) (λ d. an_open_field (oer t d))
+      (entry_has (Spelt x) (λ d. Fits t d) (λ d. an_open_field (oer t d)) (spelt_none x)
       (λ d p. spelt_open (room k) k (oer t d) (omega arith) m (spelt_more (room (depth t)) (room k) (oer t d) (room_grows (depth t) k (omega arith)) (oer_spelt t (first_good name demand t fs h) (omega arith) d p))) demand e f.0)
       (opens_spelt fs (rest_good name demand t fs h) k (omega arith) m es f.1))
 

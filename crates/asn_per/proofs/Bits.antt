@@ -109,25 +109,3 @@ pub character_bits_are : (k : Alphabet) (c : ℕ) → AreBits (character_bits k 
 character_bits_are ia5 c = digits_bits 7 c
 character_bits_are visible c = digits_bits 7 c
 character_bits_are numeric c = digits_bits 4 _
-
--- ---- presence and extension bits
-
--- one bit
-pub bit_of_is : (b : Bool) → bit_of b < 2
-bit_of_is true = omega arith
-bit_of_is false = omega arith
-
--- an extension bit, where there is a mark
-pub extension_bits : (m e : Bool) → AreBits (extension_bit m e)
-extension_bits false e = tt
-extension_bits true e = (bit_of_is e, tt)
-
--- a presence bitmap
-pub presence_bits : (ds : List Demand) (es : List (Option Datum)) → AreBits (presence ds es)
-presence_bits [] es = tt
-presence_bits (must ∷ ds) [] = tt
-presence_bits (optional ∷ ds) [] = tt
-presence_bits (default d ∷ ds) [] = tt
-presence_bits (must ∷ ds) (e ∷ es) = presence_bits ds es
-presence_bits (optional ∷ ds) (e ∷ es) = (bit_of_is (is_spelled optional e), presence_bits ds es)
-presence_bits (default d ∷ ds) (e ∷ es) = (bit_of_is (is_spelled (default d) e), presence_bits ds es)

@@ -11,10 +11,11 @@ use Rattle.asn_bits.proofs.FilledBits.{AreBits, bits_append}
 use Rattle.asn_bits.proofs.Utf8.{utf8_octets}
 use Rattle.asn_rules.specs.Chunks.{utf8_field, Chunk, one, sealed, ones, flat}
 use Rattle.asn_rules.specs.Components.{bit_of, is_spelled, presence, if_spelled, any_present, extension_bit}
+use Rattle.asn_rules.proofs.Entries.{bit_of_is, extension_bits, presence_bits, front_bits, entry_has}
 use Rattle.asn_rules.proofs.Flat.{flat-append, flat-ones}
 use Rattle.asn_rules.proofs.Fronts.{AllSealed, sealed-ones, sealed-append}
 use Rattle.asn_per.specs.Per.{spelled, complete, an_open_field, constrained, small, small_length, behind_mark, within, sized, character_bits, additions, per, per_each, per_additions, per_open, per_alternative, per_more, per_fields}
-use Rattle.asn_per.proofs.Bits.{AllLengths, digits_bits, lengths_bits, spelled_bits, number_bits, small_bits, item_bits, character_bits_are, bit_of_is, extension_bits, presence_bits}
+use Rattle.asn_per.proofs.Bits.{AllLengths, digits_bits, lengths_bits, spelled_bits, number_bits, small_bits, item_bits, character_bits_are}
 use Rattle.asn_per.proofs.Complete.{complete_octets, complete_some}
 
 -- bits, with sealed fields that hold what such fields may
@@ -98,15 +99,6 @@ spelt_plain code h (x ∷ xs) = (spelt_ones (code x) (h x), spelt_plain code h x
 
 -- ---- components and alternatives
 
--- a component, where it is spelt
-spelt_entry : (P : Datum → Type 0) (code : Datum → List Chunk) → ((d : Datum) → P d → Spelt (code d)) → (demand : Demand) (e : Option Datum) → FitsDemand P demand e → Spelt (if_spelled demand e code)
-spelt_entry P code h demand None f = spelt_none
-spelt_entry P code h demand (Some d) f = go (is_spelled demand (Some d))
-  where
-    go : (b : Bool) → Spelt (elim b [ true ↦ code d | false ↦ [] ])
-    go true = h d f
-    go false = spelt_none
-
 -- the additions of a SEQUENCE, where one is present
 spelt_additions : (ds : List Demand) (es : List (Option Datum)) (cs : List Chunk) → Spelt cs → Spelt (additions ds es cs)
 spelt_additions ds es cs h = go (any_present es)
@@ -117,10 +109,6 @@ spelt_additions ds es cs h = go (any_present es)
     go : (b : Bool) → Spelt (elim b [ true ↦ ones front ++ cs | false ↦ [] ])
     go true = spelt_append (ones front) cs (spelt_ones front (bits_append (small_length (length ds)) (presence ds es) (omega arith, digits_bits 6 _) (presence_bits ds es))) h
     go false = spelt_none
-
--- the extension bit and the presence bits of a SEQUENCE
-front_bits : (m e : Bool) (ds : List Demand) (es : List (Option Datum)) → AreBits (extension_bit m e ++ presence ds es)
-front_bits m e ds es = bits_append (extension_bit m e) (presence ds es) (extension_bits m e) (presence_bits ds es)
 
 -- an alternative behind its index
 spelt_choice : (root : Alternatives) (more : MoreAlternatives) (i : ℕ) (d : Datum)
@@ -173,7 +161,7 @@ mutual
   each_spelt no_fields es f = spelt_none
   each_spelt (field name demand t fs) [] f = spelt_none
   each_spelt (field name demand t fs) (e ∷ es) f =
-      spelt_append (if_spelled demand e (λ d. per t d)) (per_each fs es) (spelt_entry (λ d. Fits t d) (λ d. per t d) (λ d p. per_spelt t d p) demand e f.0) (each_spelt fs es f.1)
+      spelt_append (if_spelled demand e (λ d. per t d)) (per_each fs es) (entry_has Spelt (λ d. Fits t d) (λ d. per t d) spelt_none (λ d p. per_spelt t d p) demand e f.0) (each_spelt fs es f.1)
 
   -- the additions
   more_spelt : (more : MoreFields) (es : List (Option Datum)) → FitsMore more es → Spelt (per_additions more es)
@@ -186,7 +174,7 @@ mutual
   open_spelt (field name demand t fs) [] f = spelt_none
   open_spelt (field name demand t fs) (e ∷ es) f =
       spelt_append (if_spelled demand e (λ d. an_open_field (per t d))) (per_open fs es)
-      (spelt_entry (λ d. Fits t d) (λ d. an_open_field (per t d)) (λ d p. spelt_open (per t d) (per_spelt t d p)) demand e f.0) (open_spelt fs es f.1)
+      (entry_has Spelt (λ d. Fits t d) (λ d. an_open_field (per t d)) spelt_none (λ d p. spelt_open (per t d) (per_spelt t d p)) demand e f.0) (open_spelt fs es f.1)
 
   -- an alternative
   pub alternative_spelt : (alts : Alternatives) (i : ℕ) (d : Datum) → FitsAlternative alts i d → Spelt (per_alternative alts i d)

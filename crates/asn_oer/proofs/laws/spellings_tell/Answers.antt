@@ -1,4 +1,4 @@
-use Rattle.asn_oer.proofs.Whole.{octets_tell, one_value_octets, none_begins_octets, spellings_part}
+use Rattle.asn_oer.proofs.Whole.{octets_tell, one_value_octets, none_begins_octets, oer_part}
 use Rattle.asn_oer.proofs.laws.spellings_tell.Goals as goal
 
 pub returns-clause-octets : goal.returns-clause-octets
@@ -11,4 +11,4 @@ pub returns-clause-none_begins : goal.returns-clause-none_begins
 returns-clause-none_begins c = none_begins_octets
 
 pub returns-clause-part : goal.returns-clause-part
-returns-clause-part c = spellings_part
+returns-clause-part c = oer_part

@@ -1,3 +1,2 @@
 pub mod Oer
 pub mod Rules
-pub mod Rows

@@ -1,4 +1,4 @@
 pub mod Per
 pub mod Rules
 pub mod Laws
-pub mod Rows
+pub mod NumberVectors

@@ -5,3 +5,4 @@ pub mod Measures
 pub mod Profile
 pub mod Defaults
 pub mod View
+pub mod ExampleTypes

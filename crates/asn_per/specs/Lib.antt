@@ -2,3 +2,4 @@ pub mod Per
 pub mod Rules
 pub mod Laws
 pub mod NumberVectors
+pub mod StringVectors

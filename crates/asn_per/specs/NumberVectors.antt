@@ -2,13 +2,9 @@
 -- spells the bits, from which the octets follow by filling with 0.
 use Rattle.std.specs.Prelude.{◌≡◌, pos, negsuc, true, false, [], ◌∷◌, Some, None, refl, codes}
 use Rattle.asn_values.specs.Datum.{truth, nothing, number, item}
-use Rattle.asn_values.specs.Shape.{Shape, boolean, null, integer, enumerated, closed_labels, marked_labels}
-use Rattle.asn_values.specs.ExampleTypes.{hex, between, number_from, number_to, any_number, between_or_more, label, labels_from, colours, unsorted_items, unsorted_enumeration}
+use Rattle.asn_values.specs.Shape.{boolean, null, integer, enumerated, closed_labels, marked_labels}
+use Rattle.asn_values.specs.ExampleTypes.{hex, between, number_from, number_to, any_number, between_or_more, label, labels_from, colours, unsorted_items, unsorted_enumeration, many_items}
 use Rattle.asn_per.specs.Per.{per_octets}
-
--- ENUMERATED { a(0), ..., e0(1), .., e199(200) }
-abbrev many_items : Shape
-many_items = enumerated (label (codes "a") (pos 0) ∷ []) (marked_labels (labels_from 1 200))
 
 -- ---- BOOLEAN and NULL
 

@@ -1,7 +1,7 @@
 -- The types and values that the worked examples share, each with its notation (X.680).
 use Prim.Native.String.{String}
 use Rattle.std.specs.Prelude.{◌+◌, ◌-◌, ◌*◌, ℕ, zero, suc, ℤ, pos, negsuc, Bool, true, false, List, [], ◌∷◌, map, Option, Some, None, nat_lt, ◌==◌, codes}
-use Rattle.asn_values.specs.Datum.{Datum, truth, components, elements, components_of, elements_of}
+use Rattle.asn_values.specs.Datum.{Datum, truth, number, item, components, elements, components_of, elements_of}
 use Rattle.asn_values.specs.Shape.{Range, SizeRange, ia5, Shape, boolean, null, integer, enumerated, octet_string, restricted, sequence, choice, Label, must, optional, default, closed_labels, marked_labels, Fields, no_fields, field, closed, marked, Alternatives, no_alternatives, one_of, closed_choice, marked_choice}
 
 -- ---- octets and bits as text
@@ -69,7 +69,7 @@ size_between_or_more low high = record { low = low; high = Some high; extensible
 -- ---- components, alternatives and items
 
 abbrev pub label : List ℕ → ℤ → Label
-label name number = record { name = name; number = number }
+label n z = record { name = n; number = z }
 
 -- one component that is always there
 abbrev pub component : List ℕ → Shape → Fields → Fields
@@ -181,3 +181,25 @@ unsorted_items = label (codes "high") (pos 9) ∷ label (codes "low") (negsuc 8)
 
 abbrev pub unsorted_enumeration : Shape
 unsorted_enumeration = enumerated unsorted_items closed_labels
+
+-- ENUMERATED { a(0), ..., e0(1), .., e199(200) }, which has more additions than the profile allows
+abbrev pub many_items : Shape
+many_items = enumerated (label (codes "a") (pos 0) ∷ []) (marked_labels (labels_from 1 200))
+
+-- CHOICE { r0 BOOLEAN, .., r99 BOOLEAN, ..., x0 BOOLEAN, .., x99 BOOLEAN }, which has more alternatives than that
+abbrev pub many_alternatives : Shape
+many_alternatives = choice (alternatives_of 100 boolean) (marked_choice (alternatives_of 100 boolean))
+
+-- SEQUENCE { n INTEGER (0..3) DEFAULT 2, e ENUMERATED { a(0), b(1) } DEFAULT b }
+abbrev pub default_type : Shape
+default_type =
+    sequence (default_component (codes "n") (number (pos 2)) (integer (between (pos 0) (pos 3)))
+        (default_component (codes "e") (item 1) (enumerated (label (codes "a") (pos 0) ∷ label (codes "b") (pos 1) ∷ []) closed_labels) no_fields)) closed
+
+-- SEQUENCE { n INTEGER DEFAULT -5 }
+abbrev pub negative_default_type : Shape
+negative_default_type = sequence (default_component (codes "n") (number (negsuc 4)) (integer any_number) no_fields) closed
+
+-- SEQUENCE { b BOOLEAN DEFAULT FALSE }
+abbrev pub false_default_type : Shape
+false_default_type = sequence (default_component (codes "b") (truth false) boolean no_fields) closed

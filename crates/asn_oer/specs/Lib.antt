@@ -1,2 +1,5 @@
 pub mod Oer
 pub mod Rules
+pub mod NumberVectors
+pub mod StringVectors
+pub mod ListVectors

@@ -2,7 +2,7 @@
 use Prim.Native.String.{String}
 use Rattle.std.specs.Prelude.{◌+◌, ◌-◌, ◌*◌, ℕ, zero, suc, ℤ, pos, negsuc, Bool, true, false, List, [], ◌∷◌, map, Option, Some, None, nat_lt, ◌==◌, codes}
 use Rattle.asn_values.specs.Datum.{Datum, truth, number, item, components, elements, components_of, elements_of}
-use Rattle.asn_values.specs.Shape.{Range, SizeRange, ia5, Shape, boolean, null, integer, enumerated, octet_string, restricted, sequence, choice, Label, must, optional, default, closed_labels, marked_labels, Fields, no_fields, field, closed, marked, Alternatives, no_alternatives, one_of, closed_choice, marked_choice}
+use Rattle.asn_values.specs.Shape.{Range, SizeRange, ia5, Shape, boolean, null, integer, enumerated, octet_string, restricted, sequence, sequence_of, choice, Label, must, optional, default, closed_labels, marked_labels, Fields, no_fields, field, closed, marked, Alternatives, no_alternatives, one_of, closed_choice, marked_choice}
 
 -- ---- octets and bits as text
 
@@ -203,3 +203,20 @@ negative_default_type = sequence (default_component (codes "n") (number (negsuc 
 -- SEQUENCE { b BOOLEAN DEFAULT FALSE }
 abbrev pub false_default_type : Shape
 false_default_type = sequence (default_component (codes "b") (truth false) boolean no_fields) closed
+
+-- so many lists around a type
+abbrev pub lists_around : ℕ → Shape → Shape
+lists_around zero t = t
+lists_around (suc n) t = sequence_of (lists_around n t) any_size
+
+-- a SEQUENCE of so many BOOLEANs, each OPTIONAL
+abbrev pub truths : ℕ → Shape
+truths n = sequence (optionals_of n boolean) closed
+
+-- a type of 9950 + n nodes
+abbrev pub large_type : ℕ → Shape
+large_type n =
+    sequence (component [] (sequence (optionals_of 64 (truths 64)) closed)
+        (component [] (sequence (optionals_of 64 (truths 64)) closed)
+            (component [] (sequence (optionals_of 25 (truths 64)) closed)
+                (component [] (truths n) no_fields)))) closed

@@ -6,3 +6,5 @@ pub mod Profile
 pub mod Defaults
 pub mod View
 pub mod ExampleTypes
+pub mod ProfileExamples
+pub mod MeasureExamples

@@ -8,3 +8,4 @@ pub mod View
 pub mod ExampleTypes
 pub mod ProfileExamples
 pub mod MeasureExamples
+pub mod FitsExamples

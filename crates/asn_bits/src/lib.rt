@@ -1,2 +1,9 @@
 //! Numbers and lengths as bits and octets: what the encoding rules share.
 #![tactic(auto)]
+
+pub mod cursor;
+pub mod numbers;
+pub mod sink;
+
+pub use cursor::BitCursor;
+pub use sink::BitSink;

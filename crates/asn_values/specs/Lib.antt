@@ -3,9 +3,11 @@ pub mod Shape
 pub mod Fits
 pub mod Measures
 pub mod Profile
+pub mod Parts
 pub mod Defaults
 pub mod View
 pub mod ExampleTypes
 pub mod ProfileExamples
 pub mod MeasureExamples
 pub mod FitsExamples
+pub mod Walk

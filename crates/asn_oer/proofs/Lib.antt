@@ -1,0 +1,4 @@
+pub mod Lengths
+pub mod Leaves
+pub mod Integers
+pub mod Strings

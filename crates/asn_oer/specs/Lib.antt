@@ -3,3 +3,4 @@ pub mod Rules
 pub mod NumberVectors
 pub mod StringVectors
 pub mod ListVectors
+pub mod FieldVectors

@@ -4,3 +4,4 @@ pub mod Laws
 pub mod NumberVectors
 pub mod StringVectors
 pub mod ListVectors
+pub mod FieldVectors

@@ -13,72 +13,72 @@ use Rattle.asn_values.specs.ExampleTypes.{hex, bits_of, between, number_from, an
 
 -- ---- simple types
 
-truth_fits : Fits boolean (truth true)
+pub truth_fits : Fits boolean (truth true)
 truth_fits = tt
 
-null_fits : Fits null nothing
+pub null_fits : Fits null nothing
 null_fits = tt
 
 -- INTEGER (0..7)
-seven_fits : Fits (integer (between (pos 0) (pos 7))) (number (pos 7))
+pub seven_fits : Fits (integer (between (pos 0) (pos 7))) (number (pos 7))
 seven_fits = (le_z_yes tt, le_z_yes tt, refl)
 
 -- INTEGER (0..7, ...)
-eight_fits_behind_a_mark : Fits (integer (between_or_more (pos 0) (pos 7))) (number (pos 8))
+pub eight_fits_behind_a_mark : Fits (integer (between_or_more (pos 0) (pos 7))) (number (pos 8))
 eight_fits_behind_a_mark = (le_z_yes tt, le_z_yes tt, refl)
 
 -- INTEGER (-5..MAX)
-the_greatest_integer_fits : Fits (integer (number_from (negsuc 4))) (number (pos 9223372036854775807))
+pub the_greatest_integer_fits : Fits (integer (number_from (negsuc 4))) (number (pos 9223372036854775807))
 the_greatest_integer_fits = (le_z_yes tt, le_z_yes tt, refl)
 
 -- ENUMERATED { red(0), green(5), blue(200), ..., grey(300) }: four items
-an_addition_fits : Fits colours (item 3)
+pub an_addition_fits : Fits colours (item 3)
 an_addition_fits = leb-true 4 4 refl
 
 -- BIT STRING (SIZE (0..3))
-three_bits_fit : Fits (bit_string (size_between 0 3)) (bit_list (bits_of "101"))
+pub three_bits_fit : Fits (bit_string (size_between 0 3)) (bit_list (bits_of "101"))
 three_bits_fit = (leb-true 3 max_len refl, refl)
 
 -- OCTET STRING (SIZE (2..3, ...))
-one_octet_fits_behind_a_mark : Fits (octet_string (size_between_or_more 2 3)) (octet_list (hex "AB"))
+pub one_octet_fits_behind_a_mark : Fits (octet_string (size_between_or_more 2 3)) (octet_list (hex "AB"))
 one_octet_fits_behind_a_mark = ((leb-true 1 max_len refl, refl), (leb-true 172 256 refl, tt))
 
 -- NumericString
-space_and_digit_fit : Fits (restricted numeric any_size) (characters (codes " 9"))
+pub space_and_digit_fit : Fits (restricted numeric any_size) (characters (codes " 9"))
 space_and_digit_fit = ((leb-true 2 max_len refl, refl), (refl, (refl, tt)))
 
 -- IA5String (SIZE (1))
-the_last_ia5_character_fits : Fits (restricted ia5 (exactly 1)) (characters (127 ∷ []))
+pub the_last_ia5_character_fits : Fits (restricted ia5 (exactly 1)) (characters (127 ∷ []))
 the_last_ia5_character_fits = ((leb-true 1 max_len refl, refl), (refl, tt))
 
 -- UTF8String: U+00E9 is C3 A9
-a_unicode_text_fits : Fits utf8_string (unicode (hex "C3 A9"))
+pub a_unicode_text_fits : Fits utf8_string (unicode (hex "C3 A9"))
 unfolding encode
 a_unicode_text_fits = (leb-true 2 max_len refl, (0xE9 ∷ [], (refl, refl)))
 
 -- ---- types around others
 
 -- note is absent, since it is OPTIONAL
-two_components_fit : Fits note_type (entries (Some (number (pos 5)) ∷ Some (truth true) ∷ None ∷ []))
+pub two_components_fit : Fits note_type (entries (Some (number (pos 5)) ∷ Some (truth true) ∷ None ∷ []))
 two_components_fit = (((le_z_yes tt, le_z_yes tt, refl), (tt, (tt, tt))), tt)
 
-three_components_fit : Fits note_type (entries (Some (number (pos 5)) ∷ Some (truth true) ∷ Some (characters (codes "A")) ∷ []))
+pub three_components_fit : Fits note_type (entries (Some (number (pos 5)) ∷ Some (truth true) ∷ Some (characters (codes "A")) ∷ []))
 three_components_fit = (((le_z_yes tt, le_z_yes tt, refl), (tt, (((leb-true 1 max_len refl, refl), (refl, tt)), tt))), tt)
 
 -- a TRUE, b 7, and c absent
-an_entry_for_each_addition_fits : Fits twice_extended_type (entries (Some (truth true) ∷ Some (number (pos 7)) ∷ None ∷ []))
+pub an_entry_for_each_addition_fits : Fits twice_extended_type (entries (Some (truth true) ∷ Some (number (pos 7)) ∷ None ∷ []))
 an_entry_for_each_addition_fits = ((tt, tt), ((le_z_yes tt, le_z_yes tt, refl), (tt, tt)))
 
 -- SEQUENCE (SIZE (2..3)) OF BOOLEAN
-two_elements_fit : Fits (sequence_of boolean (size_between 2 3)) (items (truth true ∷ truth false ∷ []))
+pub two_elements_fit : Fits (sequence_of boolean (size_between 2 3)) (items (truth true ∷ truth false ∷ []))
 two_elements_fit = ((leb-true 2 max_len refl, refl), (tt, (tt, tt)))
 
 -- y BOOLEAN has the tag 1
-an_alternative_of_the_root_fits : Fits extended_choice (alternative 1 (truth true))
+pub an_alternative_of_the_root_fits : Fits extended_choice (alternative 1 (truth true))
 an_alternative_of_the_root_fits = tt
 
 -- w OCTET STRING, an addition, has the tag 3
-an_added_alternative_fits : Fits extended_choice (alternative 3 (octet_list (hex "AB")))
+pub an_added_alternative_fits : Fits extended_choice (alternative 3 (octet_list (hex "AB")))
 an_added_alternative_fits = ((leb-true 1 max_len refl, refl), (leb-true 172 256 refl, tt))
 
 -- ---- what does not fit
@@ -91,11 +91,11 @@ eight_does_not_fit : Fits (integer (between (pos 0) (pos 7))) (number (pos 8)) �
 eight_does_not_fit p = true≢false (sym p.2)
 
 -- INTEGER, whose values end with the profile's
-no_number_past_the_profile_fits : Fits (integer any_number) (number (pos 9223372036854775808)) → ⊥
+pub no_number_past_the_profile_fits : Fits (integer any_number) (number (pos 9223372036854775808)) → ⊥
 no_number_past_the_profile_fits p = p.1.le
 
 -- four items
-no_fifth_item_fits : Fits colours (item 4) → ⊥
+pub no_fifth_item_fits : Fits colours (item 4) → ⊥
 no_fifth_item_fits p = yes_leb p
 
 -- OCTET STRING (SIZE (2..3))
@@ -127,14 +127,14 @@ no_entry_for_no_component : Fits note_type (entries (Some (number (pos 5)) ∷ S
 no_entry_for_no_component p = p.1
 
 -- there are four alternatives
-no_fifth_alternative_fits : Fits extended_choice (alternative 4 nothing) → ⊥
+pub no_fifth_alternative_fits : Fits extended_choice (alternative 4 nothing) → ⊥
 no_fifth_alternative_fits p = p
 
 -- what a newer sender may have sent fits no type
-no_unknown_item_fits : Fits colours (unknown_item (pos 400)) → ⊥
+pub no_unknown_item_fits : Fits colours (unknown_item (pos 400)) → ⊥
 no_unknown_item_fits p = p
 
-no_unknown_alternative_fits : Fits extended_choice (unknown_alternative 4) → ⊥
+pub no_unknown_alternative_fits : Fits extended_choice (unknown_alternative 4) → ⊥
 no_unknown_alternative_fits p = p
 
 -- ---- types in which no condition holds

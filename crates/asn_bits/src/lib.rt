@@ -8,3 +8,6 @@ pub mod sink;
 
 pub use cursor::BitCursor;
 pub use sink::BitSink;
+
+#[cfg(test)]
+mod tests;

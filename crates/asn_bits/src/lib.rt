@@ -4,6 +4,7 @@
 pub mod cursor;
 pub mod lengths;
 pub mod numbers;
+pub mod offsets;
 pub mod sink;
 
 pub use cursor::BitCursor;

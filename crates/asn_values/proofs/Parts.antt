@@ -1,11 +1,10 @@
 -- The components of a SEQUENCE of the profile are of the profile themselves.
-use Rattle.std.proofs.Common.{◌≡◌, ◌≤◌, ◌<◌, ◌+◌, ℕ, suc, max, Bool, true, false, not, ◌||◌, List, nat_lt, IsFalse, refl, arith}
+use Rattle.std.proofs.Common.{◌≡◌, ◌≤◌, ℕ, Bool, true, false, not, ◌||◌, List, nat_lt, refl, arith}
 use Rattle.std.proofs.lemmas.Bool.{ltb-false, le-ltb}
-use Rattle.std.specs.Bool.{⊤}
 use Rattle.asn_values.specs.Shape.{Shape, sequence, Demand, must, optional, default, Fields, no_fields, field, MoreFields, more_fields}
-use Rattle.asn_values.specs.Measures.{depth, nodes, fields_nodes, fields_depth, more_nodes, more_depth}
-use Rattle.asn_values.specs.Profile.{Condition, EmptyRange, SizeTooLarge, DuplicateName, BadEnumeration, UselessMark, BadDefault, ZeroWidthElement, AdditionNotOptional, TooMany, TooDeep, somewhere, some_field, some_addition, empty_range, size_too_large, duplicate_name, bad_enumeration, useless_mark, bad_default, bad_default_at, good_default, zero_width_element, addition_not_optional, too_many_here, most_nodes, most_levels, has, InProfile}
-use Rattle.asn_values.specs.Parts.{IsGoodDemand, AreOfProfile}
+use Rattle.asn_values.specs.Measures.{depth, nodes, fields_nodes, fields_depth}
+use Rattle.asn_values.specs.Profile.{EmptyRange, SizeTooLarge, DuplicateName, BadEnumeration, UselessMark, BadDefault, ZeroWidthElement, AdditionNotOptional, TooMany, TooDeep, somewhere, some_field, some_addition, empty_range, size_too_large, duplicate_name, bad_enumeration, useless_mark, bad_default, bad_default_at, good_default, zero_width_element, addition_not_optional, too_many_here, most_nodes, most_levels, InProfile}
+use Rattle.asn_values.specs.Parts.{AreOfProfile}
 
 -- no side of an alternative that does not hold holds
 pub left_false : (a b : Bool) → (a || b) ≡ false → a ≡ false

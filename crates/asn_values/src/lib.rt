@@ -2,11 +2,24 @@
 #![tactic(auto)]
 
 mod checked;
+mod default_values;
+mod equality;
 mod fault;
+mod fitting;
+mod laws;
+mod names;
+mod ranges;
 mod types;
 mod value;
+mod walk;
 
 pub use checked::Checked;
+pub use equality::same;
 pub use fault::TypeFault;
+pub use fitting::fits;
+pub use laws::defaults_are_judged;
 pub use types::{AsnType, Bounds, Field, Need};
 pub use value::Value;
+
+#[cfg(test)]
+mod tests;

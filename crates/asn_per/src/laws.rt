@@ -1,0 +1,50 @@
+//! The laws of CANONICAL-PER UNALIGNED, for every type of the profile.
+
+ghost use Rattle.asn_rules.specs.Laws.{EachHasAValue, EncodesAs, UnitsTellTheValue, OneValue, NoneBegins, RulesLaws, LiveIsClosed, LiveByParts, OneAnswer};
+ghost use Rattle.asn_rules.specs.Parted.{SpellingsPart};
+ghost use Rattle.asn_per.specs.Per.{per, per_fields, per_octets, per_whole};
+ghost use Rattle.asn_per.specs.Rules.{per_ruling};
+ghost use Rattle.asn_per.specs.Laws.{per_bits, NoBitsIsExact};
+
+/// A spelling tells its value and where it ends, whatever follows it.
+///
+/// Two spellings at the front of one list of bits are one, of one value. Octets are the complete
+/// encoding of one value only, and no complete encoding begins another. Two spellings of one type
+/// are one, of one value, or they part at a bit or inside sealed fields that stand in one place.
+pub fn spellings_tell()
+    ensures bits { UnitsTellTheValue per_bits }
+    ensures one_value { OneValue per_octets }
+    ensures none_begins { NoneBegins per_octets }
+    ensures part { SpellingsPart per }
+{}
+
+/// PER keeps the laws of encoding rules: an encoding has one value, a value that fits has one
+/// encoding, and no encoding begins another. The encoding of a value is `per_octets` of it.
+pub fn encoding_laws()
+    ensures laws { RulesLaws per_ruling }
+    ensures octets { EncodesAs per_ruling per_octets }
+{}
+
+/// Each type of the profile has a value, and `no_bits` says exactly which types have only values
+/// that are spelt by no bit.
+pub fn values_and_bits()
+    ensures a_value { EachHasAValue }
+    ensures no_bits { NoBitsIsExact }
+{}
+
+/// Whether an encoding may follow some bits, said of all its bits and sealed fields at once, is
+/// the same said chunk by chunk.
+pub fn live_by_parts()
+    ensures { LiveByParts per_fields per_whole }
+{}
+
+/// What an encoding may still follow, it may follow each beginning of.
+pub fn live_is_closed()
+    ensures { LiveIsClosed per_fields per_whole }
+{}
+
+/// To one list of octets there is one answer: done with one value and count of octets, refused at
+/// one place, too long, or more to come.
+pub fn answers_exclude()
+    ensures { OneAnswer per_ruling }
+{}

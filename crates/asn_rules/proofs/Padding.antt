@@ -1,0 +1,134 @@
+-- Units that are given, and what fills up a spelling: laws, and what readers of the parts say of the whole.
+use Rattle.std.proofs.Common.{◌≡◌, ◌≢◌, ℕ, zero, suc, ◌+◌, ◌-◌, ◌<◌, ◌≤◌, inl, inr, ⊎_elim, List, [], ◌∷◌, ◌++◌, length, length-append, refl, sym, ap, ◌∙◌, subst, append_assoc, arith}
+use Rattle.std.specs.Prelude.{replicate}
+use Rattle.std.specs.Bool.{⊤}
+use Rattle.std.proofs.lemmas.List.{append-nil, append_cancel_left}
+use Rattle.asn_rules.specs.Chunks.{Chunk, flat}
+use Rattle.asn_rules.specs.Live.{Fielding}
+use Rattle.asn_rules.specs.Languages.{Spells, Short, Refused, Lawful, Inhabited}
+use Rattle.asn_rules.specs.Forks.{Same}
+use Rattle.asn_rules.specs.Padding.{AreUnits, Fixed, Fills, first_of, Padded}
+use Rattle.asn_rules.proofs.Chunks.{FieldsPart}
+use Rattle.asn_rules.proofs.Then.{Follows, then_lawful, then_inhabited, then_spells, then_short_first, then_short_second, then_refused_first, then_refused_second}
+use Rattle.asn_rules.proofs.Parts.{Code, map_lawful, map_inhabited, map_spells, map_short, map_refused, plain_lawful, plain_inhabited, plain_spells, plain_short, plain_refused}
+use Rattle.asn_rules.proofs.Forks.{same_spells, same_short, same_refused}
+
+-- ---- given units
+
+pub fixed_code : (zs : List ℕ) → Code (AreUnits zs)
+fixed_code zs = record { law = λ a b us vs p q. inl (refl, p.same ∙ sym q.same) }
+
+pub fixed_lawful : (zs : List ℕ) → Lawful (Fixed zs)
+fixed_lawful zs = plain_lawful (fixed_code zs)
+
+pub fixed_inhabited : (zs : List ℕ) → Inhabited (Fixed zs)
+fixed_inhabited zs = plain_inhabited tt zs (record { same = refl })
+
+-- where the reader of given units stands: some have come, and these are left
+pub record Matching (zs us rest left : List ℕ) : Type 0 where
+  pub come : List ℕ
+  pub all : zs ≡ come ++ left
+  pub split : us ≡ come ++ rest
+
+pub matching_starts : (zs us : List ℕ) → Matching zs us us zs
+matching_starts zs us = record { come = []; all = refl; split = refl }
+
+-- the unit that is wanted has come
+pub matching_more : {zs us rest left after more : List ℕ} {u : ℕ} → Matching zs us rest left → left ≡ u ∷ more → rest ≡ u ∷ after → Matching zs us after more
+matching_more {after = after} {more = more} {u = u} f l e = record {
+  come = f.come ++ u ∷ [];
+  all = f.all ∙ ap (λ (t : List ℕ). f.come ++ t) l ∙ sym (append_assoc f.come (u ∷ []) more);
+  split = f.split ∙ ap (λ (t : List ℕ). f.come ++ t) e ∙ sym (append_assoc f.come (u ∷ []) after);
+}
+
+pub matching_done : {zs us rest left : List ℕ} (R : Fielding) → Matching zs us rest left → left ≡ [] → Spells R (Fixed zs) tt us rest
+matching_done {zs} {us} {rest} {left} R f e =
+    let c : f.come ≡ zs = sym (append-nil f.come) ∙ ap (λ (t : List ℕ). f.come ++ t) (sym e) ∙ sym f.all in
+    subst (λ (l : List ℕ). Spells R (Fixed zs) tt l rest) (sym f.split) (plain_spells R tt f.come rest (record { same = c }))
+
+fixed_begun : {R : Fielding} → FieldsPart R → (zs come : List ℕ) (z : ℕ) (more : List ℕ) → zs ≡ come ++ z ∷ more → Short R (Fixed zs) come
+fixed_begun ok zs come z more e = plain_short ok (fixed_code zs) tt come z more (record { same = sym e })
+
+-- no units are left, and some are wanted
+pub matching_waits : {zs us rest left more : List ℕ} {z : ℕ} {R : Fielding} → FieldsPart R → Matching zs us rest left → left ≡ z ∷ more → rest ≡ [] → Short R (Fixed zs) us
+matching_waits {zs} {us} {more = more} {z = z} {R = R} ok f l e =
+    subst (λ (t : List ℕ). Short R (Fixed zs) t) (sym (f.split ∙ ap (λ (t : List ℕ). f.come ++ t) e ∙ append-nil f.come)) (fixed_begun ok zs f.come z more (f.all ∙ ap (λ (t : List ℕ). f.come ++ t) l))
+
+-- another unit than the one that is wanted
+pub matching_stops : {zs us rest left more after : List ℕ} {z u : ℕ} {R : Fielding} → FieldsPart R → Matching zs us rest left → left ≡ z ∷ more → rest ≡ u ∷ after → u ≢ z → Refused R (Fixed zs) us (length after)
+matching_stops {zs} {us} {more = more} {after = after} {z = z} {u = u} {R = R} ok f l e other =
+    let all : zs ≡ f.come ++ z ∷ more = f.all ∙ ap (λ (t : List ℕ). f.come ++ t) l in
+    subst (λ (t : List ℕ). Refused R (Fixed zs) t (length after)) (sym (f.split ∙ ap (λ (t : List ℕ). f.come ++ t) e))
+    (plain_refused ok f.come u after (fixed_begun ok zs f.come z more all) (λ a t c. other (head_is t (append_cancel_left f.come (u ∷ t) (z ∷ more) (c.same ∙ all)))))
+  where
+    head_is : (t : List ℕ) → u ∷ t ≡ z ∷ more → u ≡ z
+    head_is t c = cc
+
+-- The same for units that are all one, as zeros, in a loop that counts those left down.
+pub repeats_more : (z : ℕ) {zs us rest after : List ℕ} {left : ℕ} → Matching zs us rest (replicate left z) → 0 < left → rest ≡ z ∷ after → Matching zs us after (replicate (left - 1) z)
+repeats_more z {left = zero} f p e = absurd (omega arith)
+repeats_more z {left = suc n} f p e =
+    let d : suc n - 1 ≡ n = omega arith in
+    rw d (matching_more f refl e)
+
+pub repeats_done : (z : ℕ) {zs us rest : List ℕ} {left : ℕ} (R : Fielding) → Matching zs us rest (replicate left z) → left ≤ 0 → Spells R (Fixed zs) tt us rest
+repeats_done z {left = zero} R f p = matching_done R f refl
+repeats_done z {left = suc n} R f p = absurd (omega arith)
+
+pub repeats_waits : (z : ℕ) {zs us rest : List ℕ} {left : ℕ} {R : Fielding} → FieldsPart R → Matching zs us rest (replicate left z) → 0 < left → rest ≡ [] → Short R (Fixed zs) us
+repeats_waits z {left = zero} ok f p e = absurd (omega arith)
+repeats_waits z {left = suc n} ok f p e = matching_waits ok f refl e
+
+pub repeats_stops : (z : ℕ) {zs us rest after : List ℕ} {u left : ℕ} {R : Fielding} → FieldsPart R → Matching zs us rest (replicate left z) → 0 < left → rest ≡ u ∷ after → u ≢ z → Refused R (Fixed zs) us (length after)
+repeats_stops z {left = zero} ok f p e other = absurd (omega arith)
+repeats_stops z {left = suc n} ok f p e other = matching_stops ok f refl e other
+
+-- ---- what fills up a spelling
+one_spelling : {A : Type 0} {L : A → List Chunk → Type 0} → Lawful L → (a : A) (x y : List Chunk) → L a x → L a y → x ≡ y
+one_spelling law a x y p q = ⊎_elim (λ e. e.1) (λ e. absurd (e.0 refl)) (law.law a a x y p q)
+
+pub fills_lawful : {A : Type 0} {R : Fielding} {fill : ℕ → List ℕ} {L : A → List Chunk → Type 0} → Lawful L → (a : A) → Lawful (Fills R fill L a)
+fills_lawful {A} {R} {fill} {L} law a = record {
+  law = λ v w x y p q.
+      let e = one_spelling law a p.chunks q.chunks p.spelt q.spelt in
+      let z : Fixed (fill (length (flat R.spelled q.chunks))) v x = subst (λ (c : List Chunk). Fixed (fill (length (flat R.spelled c))) v x) e p.behind in
+      (fixed_lawful (fill (length (flat R.spelled q.chunks)))).law v w x y z q.behind;
+}
+
+pub fills_follow : {A : Type 0} {R : Fielding} {fill : ℕ → List ℕ} {L : A → List Chunk → Type 0} → Follows L (Fills R fill L)
+fills_follow {A} {R} {fill} {L} = record { follow = λ a x h. (let i = fixed_inhabited (fill (length (flat R.spelled x))) in record { value = i.value; chunks = i.chunks; spelt = record { chunks = x; spelt = h; behind = i.spelt } }) }
+
+-- which units fill it up, told by how many units stand before and behind the spelling
+pub fills_same : {A : Type 0} {R : Fielding} {fill : ℕ → List ℕ} {L : A → List Chunk → Type 0} {a : A} {us r : List ℕ} → Lawful L → Spells R L a us r → Same (Fixed (fill (length us - length r))) (Fills R fill L a)
+fills_same {A} {R} {fill} {L} {a} {us} {r} law h = record {
+  to = λ v cs z. record { chunks = h.chunks; spelt = h.spelt; behind = subst (λ (n : ℕ). Fixed (fill n) v cs) count z };
+  from = λ v cs f. (let e = one_spelling law a f.chunks h.chunks f.spelt h.spelt in subst (λ (n : ℕ). Fixed (fill n) v cs) (ap (λ (c : List Chunk). length (flat R.spelled c)) e ∙ sym count) f.behind);
+}
+  where
+    count : length us - length r ≡ length (flat R.spelled h.chunks)
+    count = omega (arith, ap length h.split, length-append (flat R.spelled h.chunks) r)
+
+first_once : {A : Type 0} (p q : A × ⊤) → first_of p ≡ first_of q → p ≡ q
+first_once p q e = λ i. (e i, tt)
+
+pub padded_lawful : {A : Type 0} {L : A → List Chunk → Type 0} (R : Fielding) (fill : ℕ → List ℕ) → Lawful L → Lawful (Padded R fill L)
+padded_lawful R fill law = map_lawful first_once (then_lawful law (λ a. fills_lawful law a))
+
+pub padded_inhabited : {A : Type 0} {L : A → List Chunk → Type 0} (R : Fielding) (fill : ℕ → List ℕ) → Inhabited L → Inhabited (Padded R fill L)
+padded_inhabited R fill i = map_inhabited (then_inhabited i fills_follow)
+
+-- ---- the answers
+pub padded_short : {A : Type 0} {R : Fielding} {fill : ℕ → List ℕ} {L : A → List Chunk → Type 0} {us : List ℕ} → Short R L us → Short R (Padded R fill L) us
+padded_short h = map_short (then_short_first fills_follow h)
+
+pub padded_refused : {A : Type 0} {R : Fielding} {fill : ℕ → List ℕ} {L : A → List Chunk → Type 0} {us : List ℕ} {n : ℕ} → Refused R L us n → Refused R (Padded R fill L) us n
+padded_refused h = map_refused (then_refused_first fills_follow h)
+
+pub padded_spells : {A : Type 0} {R : Fielding} {fill : ℕ → List ℕ} {L : A → List Chunk → Type 0} {a : A} {us r s : List ℕ} → Lawful L → Spells R L a us r → Spells R (Fixed (fill (length us - length r))) tt r s → Spells R (Padded R fill L) a us s
+padded_spells law h z = map_spells (then_spells h (same_spells (fills_same law h) z))
+
+pub padded_short_fill : {A : Type 0} {R : Fielding} {fill : ℕ → List ℕ} {L : A → List Chunk → Type 0} {a : A} {us r : List ℕ} → FieldsPart R → Lawful L → Spells R L a us r → Short R (Fixed (fill (length us - length r))) r → Short R (Padded R fill L) us
+padded_short_fill ok law h z = map_short (then_short_second ok law h (same_short (fills_same law h) z))
+
+pub padded_refused_fill : {A : Type 0} {R : Fielding} {fill : ℕ → List ℕ} {L : A → List Chunk → Type 0} {a : A} {us r : List ℕ} {n : ℕ} → FieldsPart R → Lawful L → Spells R L a us r → Refused R (Fixed (fill (length us - length r))) r n → Refused R (Padded R fill L) us n
+padded_refused_fill ok law h z = map_refused (then_refused_second ok law h (same_refused (fills_same law h) z))

@@ -1,0 +1,5 @@
+use Rattle.asn_rules.proofs.OneAnswer.{one_answer}
+use Rattle.asn_rules.proofs.laws.answers_exclude.Goals as goal
+
+pub returns : goal.returns
+returns c = one_answer

@@ -1,0 +1,5 @@
+use Rattle.asn_rules.proofs.FromUnits.{rules_laws}
+use Rattle.asn_rules.proofs.laws.laws_from_units.Goals as goal
+
+pub returns : goal.returns
+returns c = rules_laws

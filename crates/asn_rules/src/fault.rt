@@ -1,0 +1,83 @@
+ghost use Rattle.std.specs.Prelude.{◌≡◌};
+ghost use Rattle.asn_rules.specs.declared.fault.EncodeFault.TheVariants as encode;
+ghost use Rattle.asn_rules.specs.declared.fault.DecodeFault.TheVariants as decode;
+
+use std::alloc::{AllocError, AllocFailed};
+use thiserror::Error;
+
+/// What was being read where octets were refused.
+#[derive(Clone, Copy, Debug, PartialEq, Eq)]
+pub enum Why {
+    /// The last unit of an open field or a UTF8String: its content is not one.
+    Sealed = 1,
+    /// The value of a component with a DEFAULT.
+    Default = 2,
+    /// A length or a quantity.
+    Length = 3,
+    /// An extension bit, or the number or the presence bits of extension additions.
+    Extension = 4,
+    /// A character of a string.
+    Character = 5,
+    /// The zeros that fill an octet.
+    Padding = 6,
+    /// Anything else.
+    Number = 7,
+}
+
+/// Why a value is not encoded.
+#[derive(Clone, Copy, Debug, PartialEq, Eq, Error)]
+pub enum EncodeFault {
+    /// The value is none of the type.
+    #[error("not of type")]
+    NotOfType = 1,
+    /// The encoding would have more than 268,435,455 octets.
+    #[error("too long")]
+    TooLong = 2,
+    /// A growth was refused.
+    #[error("memory")]
+    Memory = 3,
+}
+
+/// Why octets are not decoded.
+#[derive(Clone, Copy, Debug, PartialEq, Eq, Error)]
+pub enum DecodeFault {
+    /// No encoding begins so: `at` is the unit that shows it, counted from 1.
+    #[error("refused at unit {at}")]
+    Refused { at: u64, why: Why },
+    /// The octets end before the encoding does, after `taken` units.
+    #[error("cut short after {taken} units")]
+    Truncated { taken: u64 },
+    /// The first `used` octets are an encoding, and more octets follow.
+    #[error("octets left after {used}")]
+    Rest { used: usize },
+    /// No encoding of at most 268,435,455 octets begins the octets.
+    #[error("too long")]
+    TooLong,
+    /// A growth was refused.
+    #[error("memory")]
+    Memory,
+}
+
+impl From<AllocError> for EncodeFault {
+    ghost from_gives = { λ _ e. e ≡ encode.Memory };
+
+    fn from(_: AllocError) -> EncodeFault {
+        EncodeFault::Memory
+    }
+}
+
+impl From<AllocError> for DecodeFault {
+    ghost from_gives = { λ _ e. e ≡ decode.Memory };
+
+    fn from(_: AllocError) -> DecodeFault {
+        DecodeFault::Memory
+    }
+}
+
+impl<T: Drop> From<AllocFailed<T>> for DecodeFault {
+    ghost from_gives = { λ _ e. e ≡ decode.Memory };
+
+    fn from(_: AllocFailed<T>) -> DecodeFault {
+        DecodeFault::Memory
+    }
+}

@@ -1,0 +1,58 @@
+-- What a type and a value stand for, variant by variant.
+use Rattle.std.proofs.Common.{◌≡◌, ◌↔◌, List, [], ◌∷◌, map, Bool, IsTrue, Option, Some, None, option_map, Vec, Global, refl, ap, ◌∙◌, sym, rules}
+use Rattle.asn_values.specs.declared.types.Field.{Field}
+use Rattle.asn_values.specs.declared.types.Bounds.{Bounds}
+use Rattle.asn_values.specs.declared.types.AsnType.{AsnType, Seq, the_lemmas}
+use Rattle.asn_values.specs.declared.types.AsnType as asn_type
+use Rattle.asn_values.specs.declared.value.Value.{Value}
+use Rattle.asn_values.specs.declared.value.Value as values
+use Rattle.asn_values.specs.declared.value.Value.TheVariants as value
+use Rattle.asn_values.specs.Datum.{Datum, components, components_of, component_list}
+use Rattle.asn_values.specs.Shape.{boolean, integer, sequence, closed}
+use Rattle.asn_values.specs.View.{shape_of, datum_of, range_of, fields_of, part_of_field}
+
+-- types without others inside them
+pub shape_of-Bool : shape_of asn_type.Bool ≡ boolean
+shape_of-Bool = search (rules, the_lemmas)
+
+pub shape_of-Int : (b : Bounds) → shape_of (asn_type.Int b) ≡ integer (range_of b)
+shape_of-Int b = search (rules, the_lemmas)
+
+-- a SEQUENCE stands for its components
+pub shape_of-Seq : (root : Vec Field Global) → shape_of (Seq root) ≡ sequence (fields_of (map part_of_field root.items)) closed
+shape_of-Seq root = search (rules, the_lemmas)
+
+-- the same of a type that is seen to be one, and a list that is seen to be its components
+pub sequence_of_fields : (t : AsnType) (root : Vec Field Global) (fs : List Field) → t ≡ Seq root → fs ≡ root.items → shape_of t ≡ sequence (fields_of (map part_of_field fs)) closed
+sequence_of_fields t root fs et ef = rw (et, ef) (shape_of-Seq root)
+
+-- the value of a SEQUENCE stands for its entries
+pub datum_of-Seq : (v : Vec (Option Value) Global) → datum_of (value.Seq v) ≡ components (components_of (map (option_map datum_of) v.items))
+datum_of-Seq v = search (rules, values.the_lemmas)
+
+-- entries made into components are those entries
+pub component_list-components_of : (es : List (Option Datum)) → component_list (components_of es) ≡ es
+component_list-components_of [] = refl
+component_list-components_of (None ∷ es) = ap (λ r. None ∷ r) (component_list-components_of es)
+component_list-components_of (Some d ∷ es) = ap (λ r. Some d ∷ r) (component_list-components_of es)
+
+-- values of SEQUENCEs are the same where their entries are
+pub same_components : (xs ys : List (Option Datum)) → (xs ≡ ys) ↔ (components (components_of xs) ≡ components (components_of ys))
+same_components xs ys = (
+  λ e. ap (λ es. components (components_of es)) e,
+  λ e.
+      let inner : components_of xs ≡ components_of ys = cc in
+      sym (component_list-components_of xs) ∙ (ap component_list inner ∙ component_list-components_of ys),
+)
+
+-- a test of the entries of two SEQUENCEs is one of the values
+pub same_sequences :
+    (x y : Value) (v w : Vec (Option Value) Global) → x ≡ value.Seq v → y ≡ value.Seq w →
+    (vs ws : List (Option Value)) → vs ≡ v.items → ws ≡ w.items →
+    (b : Bool) → IsTrue b ↔ (map (option_map datum_of) vs ≡ map (option_map datum_of) ws) →
+    IsTrue b ↔ (datum_of x ≡ datum_of y)
+same_sequences x y v w ex ey vs ws ev ew b (there, back) =
+    let left : datum_of x ≡ components (components_of (map (option_map datum_of) vs)) = rw (ex, ev) (datum_of-Seq v) in
+    let right : datum_of y ≡ components (components_of (map (option_map datum_of) ws)) = rw (ey, ew) (datum_of-Seq w) in
+    let both = same_components (map (option_map datum_of) vs) (map (option_map datum_of) ws) in
+    (λ h. left ∙ (both.0 (there h) ∙ sym right), λ e. back (both.1 (sym left ∙ (e ∙ right))))

@@ -1,0 +1,68 @@
+-- What a walk over a type finds, which has some levels and some nodes to go.
+use Rattle.std.specs.Prelude.{◌≡◌, ◌≤◌, ◌<◌, ◌+◌, ◌⊎◌, ℕ, Bool, true, false}
+use Rattle.asn_values.specs.declared.fault.TypeFault.{TypeFault}
+use Rattle.asn_values.specs.declared.fault.TypeFault.TheVariants as fault
+use Rattle.asn_values.specs.Shape.{Shape, Fields}
+use Rattle.asn_values.specs.Measures.{depth, fields_depth, nodes, fields_nodes}
+use Rattle.asn_values.specs.Profile.{Condition, EmptyRange, SizeTooLarge, DuplicateName, BadEnumeration, UselessMark, BadDefault, ZeroWidthElement, AdditionNotOptional, TooMany, TooDeep, somewhere, some_field, empty_range, size_too_large, duplicate_name, bad_enumeration, useless_mark, bad_default, zero_width_element, addition_not_optional, too_many_here}
+
+-- ---- one node
+
+-- whether the condition holds of a type by itself; nodes and levels are counted along the walk
+abbrev pub test_of : Condition → Shape → Bool
+test_of EmptyRange = empty_range
+test_of SizeTooLarge = size_too_large
+test_of DuplicateName = duplicate_name
+test_of BadEnumeration = bad_enumeration
+test_of UselessMark = useless_mark
+test_of BadDefault = bad_default
+test_of ZeroWidthElement = zero_width_element
+test_of AdditionNotOptional = addition_not_optional
+test_of TooMany = too_many_here
+test_of TooDeep = λ t. false
+
+-- none of them holds of the type by itself
+abbrev pub IsFaultless : Shape → Type 0
+IsFaultless t = (c : Condition) → test_of c t ≡ false
+
+-- the fault's condition, as a test of one type
+abbrev pub HoldsHere : TypeFault → Shape → Type 0
+HoldsHere fault.EmptyRange t = empty_range t ≡ true
+HoldsHere fault.DuplicateName t = duplicate_name t ≡ true
+HoldsHere fault.BadDefault t = bad_default t ≡ true
+HoldsHere fault.TooMany t = too_many_here t ≡ true
+HoldsHere fault.TooDeep t = ⊥
+HoldsHere fault.Memory t = ⊥
+
+-- ---- a type with all inside it
+
+-- none holds anywhere, the levels suffice, and of the nodes so many are left
+pub record IsSoundWithin (levels start left : ℕ) (t : Shape) : Type 0 where
+  pub counted : left + nodes t ≡ start
+  pub shallow : depth t ≤ levels
+  pub faultless : (c : Condition) → somewhere (test_of c) t ≡ false
+
+-- the fault's condition holds somewhere, or there are more levels or nodes than these
+abbrev pub IsFaultWithin : TypeFault → ℕ → ℕ → Shape → Type 0
+IsFaultWithin fault.EmptyRange levels start t = somewhere empty_range t ≡ true
+IsFaultWithin fault.DuplicateName levels start t = somewhere duplicate_name t ≡ true
+IsFaultWithin fault.BadDefault levels start t = somewhere bad_default t ≡ true
+IsFaultWithin fault.TooMany levels start t = (somewhere too_many_here t ≡ true) ⊎ (start < nodes t)
+IsFaultWithin fault.TooDeep levels start t = levels < depth t
+IsFaultWithin fault.Memory levels start t = ⊥
+
+-- ---- the components of a SEQUENCE, one after the other
+
+-- the same of them together
+pub record AreSoundWithin (levels start left : ℕ) (fs : Fields) : Type 0 where
+  pub counted : left + fields_nodes fs ≡ start
+  pub shallow : fields_depth fs ≤ levels
+  pub faultless : (c : Condition) → some_field (test_of c) fs ≡ false
+
+abbrev pub IsFaultAmong : TypeFault → ℕ → ℕ → Fields → Type 0
+IsFaultAmong fault.EmptyRange levels start fs = some_field empty_range fs ≡ true
+IsFaultAmong fault.DuplicateName levels start fs = some_field duplicate_name fs ≡ true
+IsFaultAmong fault.BadDefault levels start fs = some_field bad_default fs ≡ true
+IsFaultAmong fault.TooMany levels start fs = (some_field too_many_here fs ≡ true) ⊎ (start < fields_nodes fs)
+IsFaultAmong fault.TooDeep levels start fs = levels < fields_depth fs
+IsFaultAmong fault.Memory levels start fs = ⊥

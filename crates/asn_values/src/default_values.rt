@@ -1,0 +1,36 @@
+//! The DEFAULTs of components: a value of a type that has others, and no constructed one.
+ghost use Rattle.std.specs.Prelude.{◌≡◌, map};
+ghost use Rattle.asn_values.specs.Profile.{good_default, bad_default_at};
+ghost use Rattle.asn_values.specs.View.{shape_of, datum_of, fields_of, part_of_field};
+
+use crate::ranges;
+use crate::types::{AsnType, Field, Need};
+use crate::value::Value;
+
+/// Whether one of the components has a DEFAULT that it may not have.
+pub(crate) fn are_bad(fields: &[Field]) -> bool
+    ensures { result ≡ bad_default_at (fields_of (map part_of_field fields.now)) }
+{
+    for field in fields {
+        if let Need::Default(value) = &field.need {
+            if !is_good(&field.ty, value) {
+                return true;
+            }
+        }
+    }
+    false
+}
+
+/// Whether the value may be the DEFAULT of a component of this type.
+fn is_good(ty: &AsnType, value: &Value) -> bool
+    ensures { result ≡ good_default (shape_of ty.now) (datum_of value.now) }
+{
+    match ty {
+        AsnType::Bool => matches!(value, Value::Bool(_)),
+        AsnType::Int(bounds) => match value {
+            Value::Int(number) => ranges::is_good_number(bounds, *number),
+            Value::Bool(_) | Value::Seq(_) => false,
+        },
+        AsnType::Seq { .. } => false,
+    }
+}

@@ -1,0 +1,83 @@
+//! The walk that finds the first fault of a type, from the outside in and from left to right.
+ghost use Rattle.std.specs.Prelude.{IfOk, IfErr, map};
+ghost use Rattle.asn_values.specs.Shape.{sequence, closed};
+ghost use Rattle.asn_values.specs.Walk.{IsFaultless, HoldsHere, IsSoundWithin, IsFaultWithin, AreSoundWithin, IsFaultAmong};
+ghost use Rattle.asn_values.specs.View.{shape_of, fields_of, part_of_field};
+
+use crate::fault::TypeFault;
+use crate::types::{AsnType, Field};
+use crate::{default_values, names, ranges};
+
+/// The most components of a SEQUENCE.
+const MOST_COMPONENTS: usize = 64;
+
+/// Looks at the type and at all inside it, and counts them. There may be `levels` levels of types,
+/// and `start` types; returns how many more types there might have been.
+///
+/// Err: the first type that has a fault, a type before those inside it, and of its faults the one
+/// with the least number. Nothing inside a type below the last level is looked at.
+#[cycle(walk)]
+pub(crate) fn nodes_left(ty: &AsnType, levels: u32, start: u32) -> Result<u32, TypeFault>
+    ensures sound { IfOk result (λ left. IsSoundWithin levels start left (shape_of ty.now)) }
+    ensures fault { IfErr result (λ f. IsFaultWithin f levels start (shape_of ty.now)) }
+{
+    check_node(ty)?;
+    if start == 0 {
+        return Err(TypeFault::TooMany);
+    }
+    if levels == 0 {
+        return Err(TypeFault::TooDeep);
+    }
+    match ty {
+        AsnType::Bool | AsnType::Int(_) => Ok(start - 1),
+        AsnType::Seq { root } => nodes_left_behind(root, levels - 1, start - 1),
+    }
+}
+
+/// The same of the types of the components, one after the other.
+#[cycle(walk)]
+fn nodes_left_behind(fields: &[Field], levels: u32, start: u32) -> Result<u32, TypeFault>
+    ensures sound { IfOk result (λ left. AreSoundWithin levels start left (fields_of (map part_of_field fields.now))) }
+    ensures fault { IfErr result (λ f. IsFaultAmong f levels start (fields_of (map part_of_field fields.now))) }
+{
+    let mut left = start;
+    for field in fields {
+        left = nodes_left(&field.ty, levels, left)?;
+    }
+    Ok(left)
+}
+
+/// Looks at the type itself, and at nothing inside it. Err: its fault with the least number.
+fn check_node(ty: &AsnType) -> Result<(), TypeFault>
+    ensures faultless { IfOk result (λ done. IsFaultless (shape_of ty.now)) }
+    ensures fault { IfErr result (λ f. HoldsHere f (shape_of ty.now)) }
+{
+    match ty {
+        AsnType::Bool => Ok(()),
+        AsnType::Int(bounds) => {
+            if ranges::is_empty_range(bounds) {
+                return Err(TypeFault::EmptyRange);
+            }
+            Ok(())
+        }
+        AsnType::Seq { root } => check_components(root),
+    }
+}
+
+/// Looks at a SEQUENCE of these components, and at nothing inside them. Err: its fault with the
+/// least number.
+fn check_components(root: &[Field]) -> Result<(), TypeFault>
+    ensures faultless { IfOk result (λ done. IsFaultless (sequence (fields_of (map part_of_field root.now)) closed)) }
+    ensures fault { IfErr result (λ f. HoldsHere f (sequence (fields_of (map part_of_field root.now)) closed)) }
+{
+    if names::are_bad(root) {
+        return Err(TypeFault::DuplicateName);
+    }
+    if default_values::are_bad(root) {
+        return Err(TypeFault::BadDefault);
+    }
+    if MOST_COMPONENTS < root.len() {
+        return Err(TypeFault::TooMany);
+    }
+    Ok(())
+}

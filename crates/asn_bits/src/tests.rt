@@ -52,7 +52,10 @@ fn packs_the_record_of_the_annex(rt: HostRuntime) -> Result<(), Fail> {
     fill_octets(&mut sink)?;
     assert!(rt; sink.ends_at_octet());
     let octets = sink.into_octets();
-    assert_eq!(rt; octets.as_slice(), b"\x82\x4a\xdf\xa3\x70\x0d\x00\x5a\x7b\x74\xf4\xd0".as_slice());
+    assert_eq!(rt;
+        octets.as_slice(),
+        b"\x82\x4a\xdf\xa3\x70\x0d\x00\x5a\x7b\x74\xf4\xd0".as_slice()
+    );
     Ok(())
 }
 
@@ -90,7 +93,10 @@ fn pushes_the_fewest_octets(rt: HostRuntime) -> Result<(), Fail> {
     }
     assert!(rt; sink.ends_at_octet());
     let octets = sink.into_octets();
-    assert_eq!(rt; octets.as_slice(), b"\x02\x10\x01\x01\x00\x08\xff\xff\xff\xff\xff\xff\xff\xff".as_slice());
+    assert_eq!(rt;
+        octets.as_slice(),
+        b"\x02\x10\x01\x01\x00\x08\xff\xff\xff\xff\xff\xff\xff\xff".as_slice()
+    );
     Ok(())
 }
 
@@ -121,11 +127,22 @@ fn sample(k: u32) -> u64
     requires { k ≤ 64 }
     ensures { result < 2 ^ k }
 {
-    if k == 0 { 0 } else { 0x9b5d_3c7a_e142_6f81 >> (64 - k) }
+    if k == 0 {
+        0
+    } else {
+        0x9b5d_3c7a_e142_6f81 >> (64 - k)
+    }
 }
 
 // n in k bits is the same as its bits one by one, behind `offset` bits and before `tail` octets
-fn agrees(rt: &impl Abort, alloc: Global, offset: u32, k: u32, n: u64, tail: u32) -> Result<(), Fail>
+fn agrees(
+    rt: &impl Abort,
+    alloc: Global,
+    offset: u32,
+    k: u32,
+    n: u64,
+    tail: u32,
+) -> Result<(), Fail>
     requires few { k ≤ 64 }
     requires fits { n < 2 ^ k }
 {

@@ -40,4 +40,4 @@ utf8_starts = (0 ∷ [], (omega arith, omega arith, (omega arith, tt)), begins_f
 
 -- the two forms of live are one
 pub per_live : LiveByParts per_fields per_whole
-per_live t b = live_iff per_fields open_starts utf8_starts some_units per_whole t (whole_sealed t) b
+per_live t h b = live_iff per_fields open_starts utf8_starts some_units per_whole t (whole_sealed t) b

@@ -9,6 +9,7 @@ use Rattle.asn_rules.specs.Chunks.{Chunk, flat}
 use Rattle.asn_rules.specs.Live.{Begins, Fielding, Live, LiveByChunks}
 use Rattle.asn_rules.specs.Answer.{Ruling, IsEncoding, Told, refused, Answer, max_octets}
 
+-- numbers below 256
 abbrev pub AreOctets : List ℕ → Type 0
 AreOctets os = AllByRecursion (λ o. o < 256) os
 
@@ -36,6 +37,7 @@ NoneBegins octets_of =
 
 -- ---- encoding rules
 
+-- one encoding for each value, one value for each encoding, and none begins another
 pub record RulesLaws (r : Ruling) : Type 0 where
   -- an encoding has one value
   pub one_value : (t : Shape) (v w : Datum) (o : List ℕ) → InProfile t → IsEncoding r t v o → IsEncoding r t w o → v ≡ w
@@ -45,10 +47,6 @@ pub record RulesLaws (r : Ruling) : Type 0 where
   pub one_encoding : (t : Shape) (v : Datum) (o p : List ℕ) → InProfile t → AreOctets o → AreOctets p → IsEncoding r t v o → IsEncoding r t v p → o ≡ p
   -- no encoding begins another
   pub none_begins : (t : Shape) (v w : Datum) (o p : List ℕ) → InProfile t → AreOctets o → AreOctets p → IsEncoding r t v o → IsEncoding r t w p → Begins o p → o ≡ p
-
--- the encoding of a value is that list of octets
-abbrev pub EncodesAs : Ruling → (Shape → Datum → List ℕ) → Type 0
-EncodesAs r octets_of = (t : Shape) (v : Datum) (o : List ℕ) → InProfile t → AreOctets o → IsEncoding r t v o ↔ (Fits t v × (o ≡ octets_of t v))
 
 -- what these laws follow from, said of whole encodings in units
 pub record WholesTell (r : Ruling) : Type 0 where
@@ -61,6 +59,10 @@ pub record WholesTell (r : Ruling) : Type 0 where
   pub joined : (o p : List ℕ) → r.units (o ++ p) ≡ r.units o ++ r.units p
   -- and tell the octets
   pub once : (o p : List ℕ) → AreOctets o → AreOctets p → r.units o ≡ r.units p → o ≡ p
+
+-- the encoding of a value is that list of octets
+abbrev pub EncodesAs : Ruling → (Shape → Datum → List ℕ) → Type 0
+EncodesAs r octets_of = (t : Shape) (v : Datum) (o : List ℕ) → InProfile t → AreOctets o → IsEncoding r t v o ↔ (Fits t v × (o ≡ octets_of t v))
 
 -- ---- live
 

@@ -9,10 +9,10 @@ use Rattle.asn_bits.specs.Numbers.{least}
 use Rattle.asn_bits.specs.Lengths.{joined}
 use Rattle.asn_bits.proofs.Codes.{IsCode}
 use Rattle.asn_bits.proofs.Octets.{least_once}
-use Rattle.asn_bits.proofs.FilledBits.{AreBits, bits_append, filled_up_code}
+use Rattle.asn_bits.proofs.FilledBits.{AreBits, filled_up_code}
 use Rattle.asn_rules.specs.Chunks.{open_field, Chunk, ones, flat}
 use Rattle.asn_rules.specs.Components.{bit_of, number_at, presence, if_spelled, any_present, extension_bit}
-use Rattle.asn_rules.proofs.Entries.{front_bits, presence_bits, extension_bits, length-extension_bit, same_elements, same_components, presence_first, length-presence, each_length, none_present, SameFront, front_code, entry_facing}
+use Rattle.asn_rules.proofs.Entries.{front_bits, presence_bits, length-extension_bit, same_elements, same_components, presence_first, length-presence, each_length, none_present, SameFront, front_code, entry_facing}
 use Rattle.asn_rules.proofs.Facing.{FieldsTell, Facing, IsFacing, facing_parts, plain_facing, code_facing, sealed_facing, joined_facing}
 use Rattle.asn_rules.proofs.FromFacing.{SpellingsFace, facing_code}
 use Rattle.asn_rules.proofs.Items.{good_items, item_once}

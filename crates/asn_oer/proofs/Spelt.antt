@@ -1,18 +1,14 @@
 -- Spellings in OER are octets and not too many, and their sealed fields hold what such fields may: what holds
 -- of the parts of spellings.
-use Rattle.std.proofs.Common.{◌≡◌, ◌≤◌, ◌<◌, ◌+◌, ◌*◌, ◌^◌, ℕ, suc, Bool, true, false, List, [], ◌∷◌, ◌++◌, length, map, Option, Some, None, refl, sym, subst, arith, nat_lt, length-append}
+use Rattle.std.proofs.Common.{◌≡◌, ◌≤◌, ◌<◌, ◌+◌, ◌*◌, ◌^◌, ℕ, suc, Bool, true, false, List, [], ◌∷◌, ◌++◌, length, map, refl, sym, subst, arith, nat_lt, length-append}
 use Rattle.std.proofs.lemmas.Bool.{ltb-true}
 use Rattle.std.proofs.Math.Nat.{suc-mul, pow-le-pow_right}
 use Rattle.std.specs.List.{AllByRecursion}
-use Rattle.asn_values.specs.Datum.{Datum}
-use Rattle.asn_values.specs.Shape.{Demand}
-use Rattle.asn_values.specs.Fits.{FitsDemand}
 use Rattle.asn_bits.specs.Numbers.{octets, octet_count}
 use Rattle.asn_bits.specs.Lengths.{octet_length, joined}
 use Rattle.asn_bits.proofs.Octets.{all_octets, length-digits, lt-pow_256, octet_count_below}
 use Rattle.asn_bits.proofs.Utf8.{append_octets}
-use Rattle.asn_rules.specs.Chunks.{Chunk, one, sealed, ones, flat}
-use Rattle.asn_rules.specs.Components.{is_spelled, if_spelled}
+use Rattle.asn_rules.specs.Chunks.{Chunk, ones, flat}
 use Rattle.asn_rules.specs.Laws.{AreOctets}
 use Rattle.asn_rules.proofs.Fronts.{AllSealed, sealed-ones, sealed-append}
 use Rattle.asn_rules.proofs.Flat.{flat-append, flat-ones}

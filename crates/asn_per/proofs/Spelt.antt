@@ -1,17 +1,16 @@
 -- Every spelling in PER is bits, and its sealed fields hold what such fields may.
-use Rattle.std.proofs.Common.{◌≡◌, ◌≤◌, ◌<◌, ◌-◌, ℕ, zero, suc, Bool, true, false, List, [], ◌∷◌, ◌++◌, length, map, take, drop, Option, Some, None, refl, sym, subst, arith, nat_lt, MatchBool, IsUtf8}
-use Rattle.std.specs.Bool.{⊤}
+use Rattle.std.proofs.Common.{◌≤◌, ◌-◌, ℕ, zero, suc, Bool, true, false, List, [], ◌∷◌, ◌++◌, length, map, take, drop, Option, Some, None, sym, subst, arith, nat_lt, MatchBool, IsUtf8}
 use Rattle.std.specs.List.{AllByRecursion}
 use Rattle.asn_values.specs.Datum.{Datum, truth, number, item, bit_list, octet_list, characters, unicode, components, elements, alternative, component_list, element_list}
 use Rattle.asn_values.specs.Shape.{SizeRange, Shape, boolean, null, integer, enumerated, bit_string, octet_string, restricted, utf8_string, sequence, sequence_of, choice, Demand, Fields, no_fields, field, MoreFields, closed, marked, is_marked, demands, Alternatives, no_alternatives, one_of, MoreAlternatives, closed_choice, marked_choice, is_marked_choice, count}
-use Rattle.asn_values.specs.Fits.{Fits, FitsEach, FitsMore, FitsDemand, FitsAlternative, FitsMoreAlternatives, FitsChoice, in_size, max_len}
+use Rattle.asn_values.specs.Fits.{Fits, FitsEach, FitsMore, FitsAlternative, FitsMoreAlternatives, FitsChoice, in_size, max_len}
 use Rattle.asn_bits.specs.Numbers.{bits}
 use Rattle.asn_bits.specs.Lengths.{Length, lengths, joined, with_lengths, general}
 use Rattle.asn_bits.proofs.GeneralLengths.{all_take}
 use Rattle.asn_bits.proofs.FilledBits.{AreBits, bits_append}
 use Rattle.asn_bits.proofs.Utf8.{utf8_octets}
 use Rattle.asn_rules.specs.Chunks.{utf8_field, Chunk, one, sealed, ones, flat}
-use Rattle.asn_rules.specs.Components.{bit_of, is_spelled, presence, if_spelled, any_present, extension_bit}
+use Rattle.asn_rules.specs.Components.{bit_of, presence, if_spelled, any_present, extension_bit}
 use Rattle.asn_rules.proofs.Entries.{bit_of_is, extension_bits, presence_bits, front_bits, entry_has}
 use Rattle.asn_rules.proofs.Flat.{flat-append, flat-ones}
 use Rattle.asn_rules.proofs.Fronts.{AllSealed, sealed-ones, sealed-append}

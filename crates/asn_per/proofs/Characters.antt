@@ -11,6 +11,7 @@ use Rattle.asn_per.specs.Per.{character_bits}
 abbrev numeric_index : ℕ → ℕ
 numeric_index c = elim (c == 32) [ true ↦ 0 | false ↦ c - 47 ]
 
+-- SPACE has index 0, and a digit one more than it says
 numeric_cases : (c : ℕ) → ((c == 32) || (nat_le 48 c && nat_le c 57)) ≡ true → ((c ≡ 32) × (numeric_index c ≡ 0)) ⊎ ((48 ≤ c) × (c ≤ 57) × (numeric_index c ≡ c - 47))
 numeric_cases c h = go (c == 32) refl h
   where
@@ -18,12 +19,14 @@ numeric_cases c h = go (c == 32) refl h
     go true e h = inl (eqb-true c 32 e, rw (e, numeric_index) refl)
     go false e h = let w = and_parts _ _ h in inr (leb-true 48 c w.0, leb-true c 57 w.1, rw (e, numeric_index) refl)
 
+-- an index has 4 bits
 numeric_below : (c : ℕ) → ((c == 32) || (nat_le 48 c && nat_le c 57)) ≡ true → numeric_index c < 16
 numeric_below c h = elim (numeric_cases c h) [
   | inl a ↦ omega arith
   | inr a ↦ omega arith
 ]
 
+-- and tells the character
 numeric_once : (c d : ℕ) → ((c == 32) || (nat_le 48 c && nat_le c 57)) ≡ true → ((d == 32) || (nat_le 48 d && nat_le d 57)) ≡ true → numeric_index c ≡ numeric_index d → c ≡ d
 numeric_once c d p q e =
     elim (numeric_cases c p) [

@@ -19,6 +19,7 @@ marked_only : (more : MoreAlternatives) (t : ℕ) (d : Datum) → FitsMoreAltern
 marked_only closed_choice t d h = absurd h
 marked_only (marked_choice alts) t d h = refl
 
+-- 0 is not 1
 zero_one : ◌≡◌ {A = ℕ} 0 1 → ⊥
 zero_one h = omega arith
 

@@ -58,9 +58,11 @@ compare (negsuc a) (negsuc b) = elim (cases_lt a b) [
 rank_step : (l : Label) (ls : List Label) (z : ℤ) → rank (l ∷ ls) z ≡ cond (int_lt l.number z) 1 0 + rank ls z
 rank_step l ls z = sum_by-cons (λ l. cond (int_lt l.number z) 1 0) l ls
 
+-- an item with a lower number counts
 rank_yes : (l : Label) (ls : List Label) (z : ℤ) → int_lt l.number z ≡ true → rank (l ∷ ls) z ≡ suc (rank ls z)
 rank_yes l ls z e = let f : cond {A = ℕ} (int_lt l.number z) 1 0 ≡ 1 = ap (λ b. cond b 1 0) e in omega (arith, rank_step l ls z)
 
+-- and no other
 rank_no : (l : Label) (ls : List Label) (z : ℤ) → int_lt l.number z ≡ false → rank (l ∷ ls) z ≡ rank ls z
 rank_no l ls z e = let f : cond {A = ℕ} (int_lt l.number z) 1 0 ≡ 0 = ap (λ b. cond b 1 0) e in omega (arith, rank_step l ls z)
 

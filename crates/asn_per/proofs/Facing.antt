@@ -31,16 +31,20 @@ use Rattle.asn_per.proofs.Numbers.{number_code}
 
 -- ---- bits, octets and open fields
 
+-- one bit
 bit_facing : IsFacing spelled (λ b. ⊤) (λ b. one (bit_of b) ∷ [])
 bit_facing E a b xs ys p q next = record { told = λ e. (next (bit_of_same a b e)).told }
 
+-- an octet in 8 bits
 octet_facing : IsFacing spelled (λ o. o < 256) (λ o. ones (bits 8 o))
 octet_facing = code_facing spelled (λ o. o < 256) (λ o. bits 8 o) (λ a b r s p q e. digits_code 2 (omega arith) 8 a b r s p q e)
 
+-- of truth values nothing is asked
 all_bits : (bs : List Bool) → AllByRecursion (λ b. ⊤) bs
 all_bits [] = tt
 all_bits (b ∷ bs) = (tt, all_bits bs)
 
+-- a UTF8String, as a sealed field
 utf8_facing : IsFacing spelled (λ os. (length os ≤ max_len) × IsUtf8 os) (λ os. sealed utf8_field os ∷ [])
 utf8_facing =
     sealed_facing spelled (λ os. (length os ≤ max_len) × IsUtf8 os) utf8_field (λ os. os)
@@ -67,6 +71,7 @@ abbrev GoodNumbers : Shape → Type 0
 GoodNumbers t = somewhere bad_enumeration t ≡ false
 
 mutual
+  -- the values of a type in which no ENUMERATED is at fault
   pub per_facing : (t : Shape) → GoodNumbers t → (E : Type 0) (x y : Datum) (r s : List Chunk) → Fits t x → Fits t y → (x ≡ y → Facing spelled E r s) → Facing spelled E (per t x ++ r) (per t y ++ s)
   per_facing boolean h E (truth a) (truth b) r s p q next = bit_facing E a b r s tt tt (λ e. next (ap truth e))
   per_facing boolean h E (truth a) _ r s p q next = absurd q
@@ -122,6 +127,7 @@ mutual
   per_facing (choice root more) h E (alternative i a) _ r s p q next = absurd q
   per_facing (choice root more) h E _ y r s p q next = absurd p
 
+  -- components that agree in their presence bits
   each_facing : (fs : Fields) → some_field bad_enumeration fs ≡ false → (E : Type 0) (es gs : List (Option Datum)) (r s : List Chunk) → FitsEach fs es → FitsEach fs gs → presence (demands fs) es ≡ presence (demands fs) gs
       → (es ≡ gs → Facing spelled E r s) → Facing spelled E (per_each fs es ++ r) (per_each fs gs ++ s)
   each_facing no_fields h E [] [] r s p q b next = next refl
@@ -136,6 +142,7 @@ mutual
       (entry_facing spelled (λ d. Fits t d) (λ d. per t d) (λ E u v r' s' p' q' n'. per_facing t good.0 E u v r' s' p' q' n') E demand x y (per_each fs es ++ r) (per_each fs gs ++ s) p.0 q.0 bit.0
       (λ first. each_facing fs good.1 E es gs r s p.1 q.1 bit.1 (λ rest. next (cc (first, rest)))))
 
+  -- additions that agree in the extension bit
   more_facing : (more : MoreFields) → some_addition bad_enumeration more ≡ false → (E : Type 0) (es gs : List (Option Datum)) (r s : List Chunk) → FitsMore more es → FitsMore more gs → (IsTrue (is_marked more) → any_present es ≡ any_present gs)
       → (es ≡ gs → Facing spelled E r s) → Facing spelled E (per_additions more es ++ r) (per_additions more gs ++ s)
   more_facing closed h E [] [] r s p q b next = next refl
@@ -158,6 +165,7 @@ mutual
       go true false ei ej opens = absurd (true≢false (sym ei ∙ b refl ∙ ej))
       go false true ei ej opens = absurd (true≢false (sym ej ∙ sym (b refl) ∙ ei))
 
+  -- the open fields of additions that agree in their presence bits
   open_each_facing : (fs : Fields) → some_field bad_enumeration fs ≡ false → (E : Type 0) (es gs : List (Option Datum)) (r s : List Chunk) → FitsEach fs es → FitsEach fs gs → presence (demands fs) es ≡ presence (demands fs) gs
       → (es ≡ gs → Facing spelled E r s) → Facing spelled E (per_open fs es ++ r) (per_open fs gs ++ s)
   open_each_facing no_fields h E [] [] r s p q b next = next refl
@@ -172,17 +180,20 @@ mutual
       (entry_facing spelled (λ d. Fits t d) (λ d. an_open_field (per t d)) (open_facing (λ d. Fits t d) (λ d. per t d) (λ d p. (per_spelt t d p).bits) (λ E u v r' s' p' q' n'. per_facing t good.0 E u v r' s' p' q' n')) E demand x y (per_open fs es ++ r) (per_open fs gs ++ s) p.0 q.0 bit.0
       (λ first. open_each_facing fs good.1 E es gs r s p.1 q.1 bit.1 (λ rest. next (cc (first, rest)))))
 
+  -- the values of one alternative
   alternative_facing : (alts : Alternatives) → some_alternative bad_enumeration alts ≡ false → (E : Type 0) (t : ℕ) (x y : Datum) (r s : List Chunk) → FitsAlternative alts t x → FitsAlternative alts t y
       → (x ≡ y → Facing spelled E r s) → Facing spelled E (per_alternative alts t x ++ r) (per_alternative alts t y ++ s)
   alternative_facing no_alternatives h E t x y r s p q next = absurd p
   alternative_facing (one_of name shape alts) h E zero x y r s p q next = per_facing shape (or_parts (somewhere bad_enumeration shape) (some_alternative bad_enumeration alts) h).0 E x y r s p q next
   alternative_facing (one_of name shape alts) h E (suc t) x y r s p q next = alternative_facing alts (or_parts (somewhere bad_enumeration shape) (some_alternative bad_enumeration alts) h).1 E t x y r s p q next
 
+  -- the values of one addition of a CHOICE, as open fields
   other_facing : (more : MoreAlternatives) → some_more bad_enumeration more ≡ false → (E : Type 0) (t : ℕ) (x y : Datum) (r s : List Chunk) → FitsMoreAlternatives more t x → FitsMoreAlternatives more t y
       → (x ≡ y → Facing spelled E r s) → Facing spelled E (per_more more t x ++ r) (per_more more t y ++ s)
   other_facing closed_choice h E t x y r s p q next = absurd p
   other_facing (marked_choice alts) h E t x y r s p q next =
       open_facing (λ d. FitsAlternative alts t d) (λ d. per_alternative alts t d) (λ d p. (alternative_spelt alts t d p).bits) (λ E u v r' s' p' q' n'. alternative_facing alts h E t u v r' s' p' q' n') E x y r s p q next
 
+-- of each type of the profile
 pub spellings_face : SpellingsFace spelled per
 spellings_face t h E v w r s p q next = per_facing t (h BadEnumeration) E v w r s p q next

@@ -18,9 +18,11 @@ use Rattle.asn_per.specs.Per.{spelled, constrained, within, sized, behind_mark}
 
 -- ---- what stands behind a length
 
+-- a last length, its items and what follows
 regroup_last : (b j k r : List Chunk) → j ≡ k → (b ++ (j ++ [])) ++ r ≡ b ++ (k ++ r)
 regroup_last b j k r e = rw (append-nil j, append_assoc b j r, e) refl
 
+-- a fragment, its items, the rest and what follows
 regroup_fragment : (b j k v w r : List Chunk) → j ≡ k → v ≡ w → (b ++ (j ++ v)) ++ r ≡ b ++ (k ++ (w ++ r))
 regroup_fragment b j k v w r e f = rw (append_assoc b (j ++ v) r, append_assoc j v r, e, f) refl
 
@@ -70,6 +72,7 @@ module _ {A : Type 0} (P : A → Type 0) (code : A → List Chunk) (h : IsFacing
       (λ front. rest (drop k xs) (drop k ys) r s (omega (arith, length-drop k xs)) (omega (arith, length-drop k ys)) px.1 py.1
       (λ back. next (sym (take-append-drop k xs) ∙ cc (front, back) ∙ take-append-drop k ys))))
 
+  -- one length of each list, where the rests face each other
   under_step : (f g : ℕ) → (0 < f → Face (pred f) (pred g)) → Face f g
   under_step f g rest xs ys r s bx by p q next =
       elim (lengths_cases f (length xs) bx) [
@@ -94,10 +97,12 @@ module _ {A : Type 0} (P : A → Type 0) (code : A → List Chunk) (h : IsFacing
         ]
       ]
 
+  -- lists of any numbers of fragments
   under_faces : (f g : ℕ) → Face f g
   under_faces zero g = under_step zero g (λ l. absurd (omega arith))
   under_faces (suc f) g = under_step (suc f) g (λ l. under_faces f (pred g))
 
+  -- lists under their general length
   general_faces : (xs ys : List A) (r s : List Chunk) → AllByRecursion P xs → AllByRecursion P ys → (xs ≡ ys → Facing spelled E r s) → Facing spelled E (general one (map code xs) ++ r) (general one (map code ys) ++ s)
   general_faces xs ys r s p q next =
       facing_at spelled E (ap (λ n. with_lengths one (lengths n) (map code xs) ++ r) (length-map xs code)) (ap (λ n. with_lengths one (lengths n) (map code ys) ++ s) (length-map ys code))
@@ -109,6 +114,7 @@ module _ {A : Type 0} (P : A → Type 0) (code : A → List Chunk) (h : IsFacing
 inside : (low : ℕ) (high : Option ℕ) (n : ℕ) → (nat_le low n && not_above high n) ≡ true → (low ≤ n) × (not_above high n ≡ true)
 inside low high n h = let w = and_parts (nat_le low n) (not_above high n) h in (leb-true low n w.0, w.1)
 
+-- 0 is not 1
 zero_one : ◌≡◌ {A = ℕ} 0 1 → ⊥
 zero_one h = omega arith
 

@@ -11,6 +11,7 @@ use Rattle.asn_bits.proofs.Octets.{least_code, least_signed_code}
 use Rattle.asn_bits.proofs.Widths.{width_fits}
 use Rattle.asn_per.specs.Per.{semi_constrained, unconstrained, small, ranged, behind_mark, whole_number}
 
+-- 0 is not 1
 zero_one : ◌≡◌ {A = ℕ} 0 1 → ⊥
 zero_one h = omega arith
 

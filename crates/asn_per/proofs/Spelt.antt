@@ -25,21 +25,26 @@ pub record Spelt (cs : List Chunk) : Type 0 where
 
 -- ---- parts of spellings
 
+-- nothing
 spelt_none : Spelt []
 spelt_none = record { bits = tt; fields = tt }
 
+-- plain bits
 pub spelt_ones : (us : List ℕ) → AreBits us → Spelt (ones us)
 spelt_ones us h = record { bits = subst AreBits (sym (flat-ones spelled us)) h; fields = sealed-ones per_fields us }
 
+-- two parts
 pub spelt_append : (xs ys : List Chunk) → Spelt xs → Spelt ys → Spelt (xs ++ ys)
 spelt_append xs ys p q = record {
   bits = subst AreBits (sym (flat-append spelled xs ys)) (bits_append (flat spelled xs) (flat spelled ys) p.bits q.bits);
   fields = sealed-append per_fields xs ys p.fields q.fields;
 }
 
+-- a UTF8String
 spelt_utf8 : (os : List ℕ) → length os ≤ max_len → IsUtf8 os → Spelt (sealed utf8_field os ∷ [])
 spelt_utf8 os l u = record { bits = bits_append (spelled os) [] (spelled_bits os) tt; fields = ((λ b. (omega arith, l, utf8_octets os u)), tt) }
 
+-- an open field
 spelt_open : (cs : List Chunk) → Spelt cs → Spelt (an_open_field cs)
 spelt_open cs h = record {
   bits = bits_append (spelled (complete cs)) [] (spelled_bits (complete cs)) tt;
@@ -48,10 +53,12 @@ spelt_open cs h = record {
 
 -- ---- lists
 
+-- parts one after the other
 spelt_joined : (xs : List (List Chunk)) → AllByRecursion Spelt xs → Spelt (joined xs)
 spelt_joined [] h = spelt_none
 spelt_joined (x ∷ xs) h = spelt_append x (joined xs) h.0 (spelt_joined xs h.1)
 
+-- items under lengths
 spelt_with_lengths : (ls : List Length) (items : List (List Chunk)) → AllLengths ls → AllByRecursion Spelt items → Spelt (with_lengths one ls items)
 spelt_with_lengths [] items p q = spelt_none
 spelt_with_lengths (l ∷ ls) items p q =
@@ -60,15 +67,18 @@ spelt_with_lengths (l ∷ ls) items p q =
     spelt_append (ones l.bits) (joined (take l.items items) ++ rest) (spelt_ones l.bits p.0)
     (spelt_append (joined (take l.items items)) rest (spelt_joined (take l.items items) parts.0) (spelt_with_lengths ls (drop l.items items) p.1 parts.1))
 
+-- items under their general length
 spelt_general : (items : List (List Chunk)) → AllByRecursion Spelt items → Spelt (general one items)
 spelt_general items h = spelt_with_lengths (lengths (length items)) items (lengths_bits (length items)) h
 
+-- items of a count in the root of a size
 spelt_within : (low : ℕ) (high : Option ℕ) (items : List (List Chunk)) → AllByRecursion Spelt items → Spelt (within low high items)
 spelt_within low None items h = spelt_general items h
 spelt_within low (Some high) items h =
     let count_bits = constrained (suc (high - low)) (length items - low) in
     spelt_append (ones count_bits) (joined items) (spelt_ones count_bits (digits_bits _ _)) (spelt_joined items h)
 
+-- items under a size
 spelt_sized : (z : SizeRange) (items : List (List Chunk)) → AllByRecursion Spelt items → Spelt (sized z items)
 spelt_sized z items h = go z.extensible (in_size z (length items))
   where
@@ -89,6 +99,7 @@ spelt_plain code h (x ∷ xs) = (spelt_ones (code x) (h x), spelt_plain code h x
 
 -- ---- components and alternatives
 
+-- the additions of a SEQUENCE, where one is present
 spelt_additions : (ds : List Demand) (es : List (Option Datum)) (cs : List Chunk) → Spelt cs → Spelt (additions ds es cs)
 spelt_additions ds es cs h = go (any_present es)
   where
@@ -99,6 +110,7 @@ spelt_additions ds es cs h = go (any_present es)
     go true = spelt_append (ones front) cs (spelt_ones front (bits_append (small_length (length ds)) (presence ds es) (omega arith, digits_bits 6 _) (presence_bits ds es))) h
     go false = spelt_none
 
+-- an alternative behind its index
 spelt_choice : (root : Alternatives) (more : MoreAlternatives) (i : ℕ) (d : Datum)
     → (FitsAlternative root i d → Spelt (per_alternative root i d)) → (FitsMoreAlternatives more (i - count root) d → Spelt (per_more more (i - count root) d))
     → FitsChoice root more i d → Spelt (per (choice root more) (alternative i d))
@@ -115,6 +127,7 @@ spelt_choice root more i d p q f = go (nat_lt i (count root)) f
 -- ---- all types
 
 mutual
+  -- each value of a type
   pub per_spelt : (t : Shape) (d : Datum) → Fits t d → Spelt (per t d)
   per_spelt boolean (truth b) f = spelt_ones (bit_of b ∷ []) (bit_of_is b, tt)
   per_spelt boolean _ f = absurd f
@@ -143,16 +156,19 @@ mutual
   per_spelt (choice root more) (alternative i d) f = spelt_choice root more i d (λ p. alternative_spelt root i d p) (λ p. other_spelt more (i - count root) d p) f
   per_spelt (choice root more) _ f = absurd f
 
+  -- the components of the root
   each_spelt : (fs : Fields) (es : List (Option Datum)) → FitsEach fs es → Spelt (per_each fs es)
   each_spelt no_fields es f = spelt_none
   each_spelt (field name demand t fs) [] f = spelt_none
   each_spelt (field name demand t fs) (e ∷ es) f =
       spelt_append (if_spelled demand e (λ d. per t d)) (per_each fs es) (entry_has Spelt (λ d. Fits t d) (λ d. per t d) spelt_none (λ d p. per_spelt t d p) demand e f.0) (each_spelt fs es f.1)
 
+  -- the additions
   more_spelt : (more : MoreFields) (es : List (Option Datum)) → FitsMore more es → Spelt (per_additions more es)
   more_spelt closed es f = spelt_none
   more_spelt (marked fs) es f = spelt_additions (demands fs) es (per_open fs es) (open_spelt fs es f)
 
+  -- their open fields
   open_spelt : (fs : Fields) (es : List (Option Datum)) → FitsEach fs es → Spelt (per_open fs es)
   open_spelt no_fields es f = spelt_none
   open_spelt (field name demand t fs) [] f = spelt_none
@@ -160,11 +176,13 @@ mutual
       spelt_append (if_spelled demand e (λ d. an_open_field (per t d))) (per_open fs es)
       (entry_has Spelt (λ d. Fits t d) (λ d. an_open_field (per t d)) spelt_none (λ d p. spelt_open (per t d) (per_spelt t d p)) demand e f.0) (open_spelt fs es f.1)
 
+  -- an alternative
   pub alternative_spelt : (alts : Alternatives) (i : ℕ) (d : Datum) → FitsAlternative alts i d → Spelt (per_alternative alts i d)
   alternative_spelt no_alternatives i d f = spelt_none
   alternative_spelt (one_of name shape alts) zero d f = per_spelt shape d f
   alternative_spelt (one_of name shape alts) (suc i) d f = alternative_spelt alts i d f
 
+  -- an addition of a CHOICE
   other_spelt : (more : MoreAlternatives) (i : ℕ) (d : Datum) → FitsMoreAlternatives more i d → Spelt (per_more more i d)
   other_spelt closed_choice i d f = spelt_none
   other_spelt (marked_choice alts) i d f = spelt_open (per_alternative alts i d) (alternative_spelt alts i d f)

@@ -8,7 +8,7 @@ use Rattle.asn_values.specs.Profile.{EmptyRange, SizeTooLarge, InProfile}
 use Rattle.asn_bits.specs.Numbers.{bits, unpacked}
 use Rattle.asn_bits.proofs.Digits.{digits_code}
 use Rattle.asn_rules.specs.Chunks.{flat}
-use Rattle.asn_rules.specs.Laws.{AreOctets, UnitsTellTheValue, OneValue, NoneBegins, RulesLaws, WholesTell}
+use Rattle.asn_rules.specs.Laws.{AreOctets, EncodesAs, UnitsTellTheValue, OneValue, NoneBegins, RulesLaws, WholesTell}
 use Rattle.asn_rules.specs.Parted.{SpellingsPart}
 use Rattle.asn_rules.proofs.FromFacing.{units_tell, spellings_part}
 use Rattle.asn_rules.proofs.FromUnits.{rules_laws}
@@ -22,9 +22,11 @@ use Rattle.asn_per.proofs.Facing.{spellings_face}
 
 -- ---- spellings and octets
 
+-- the bits of a spelling tell the value, whatever follows
 pub bits_tell : UnitsTellTheValue per_bits
 bits_tell = units_tell spelled per spellings_face
 
+-- two spellings are one, of one value, or part
 pub per_parts : SpellingsPart per
 per_parts = spellings_part spelled per spellings_face
 
@@ -33,9 +35,11 @@ octets_tell : UnitsTellTheValue per_octets
 octets_tell t v w r s h p q e =
     complete_code (λ d. Fits t d) (λ d. per t d) (λ d p. (per_spelt t d p).bits) (λ x y r s p q e. bits_tell t x y r s h p q e) v w r s p q e
 
+-- octets have one value
 pub one_value_octets : OneValue per_octets
 one_value_octets t v w h p q e = (octets_tell t v w [] [] h p q (ap (λ o. o ++ []) e)).0
 
+-- no encoding begins another
 pub none_begins_octets : NoneBegins per_octets
 none_begins_octets t v w rest h p q e = octets_tell t v w rest [] h p q (e ∙ sym (append-nil (per_octets t w)))
 
@@ -59,6 +63,7 @@ wholes_told t v w rest h p q e =
     (bits_tell t v w (F ++ rest) G h p q
     (sym (append_assoc (per_bits t v) F rest) ∙ ap (λ x. x ++ rest) (sym (filled_is (per t v))) ∙ e ∙ filled_is (per t w))).0
 
+-- what the laws of encoding rules follow from
 per_wholes : WholesTell per_ruling
 unfolding per_ruling
 per_wholes = record {
@@ -68,10 +73,21 @@ per_wholes = record {
   once = unpacked_once;
 }
 
+-- the encoding of a value is the octets of its complete encoding
+pub per_encodes : EncodesAs per_ruling per_octets
+unfolding per_ruling
+per_encodes t v o h os = (
+  λ a. (let whole = complete_full (per t v) (per_spelt t v a.0).bits ∙ sym (filled_is (per t v)) in
+      (a.0, unpacked_once o (per_octets t v) os (complete_octets (per t v) (per_spelt t v a.0).bits) (a.1 ∙ sym whole))),
+  λ a. (a.0, ap unpacked a.1 ∙ complete_full (per t v) (per_spelt t v a.0).bits ∙ sym (filled_is (per t v))),
+)
+
+-- the laws
 pub per_laws : RulesLaws per_ruling
 per_laws = rules_laws per_ruling per_wholes
 
 -- ---- types without bits
 
+-- no_bits says which types have no bits
 pub bits_exact : NoBitsIsExact
 bits_exact t h = no_bits_exact t (h EmptyRange) (h SizeTooLarge)

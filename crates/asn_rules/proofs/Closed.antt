@@ -51,6 +51,7 @@ module _ (r : Fielding) where
         | inr w ↦ inr (w.0, ((λ a. bounded), w.1))
       ]
 
+  -- the units and fields of one value
   goes_on_earlier : (cs : List Chunk) (x y : List ℕ) → GoesOn r cs (x ++ y) → GoesOn r cs x
   goes_on_earlier cs x y (inl (b, all)) =
       inl ((y ++ b.0, b.1 ∙ append_assoc x y b.0), bounded_earlier (length (x ++ y)) (length x) (fields_from r.spelled 0 cs) (omega (arith, length-append x y)) all)

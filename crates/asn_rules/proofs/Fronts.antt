@@ -66,6 +66,7 @@ module _ (r : Fielding) where
       ⊎ SomeWithEarlier (λ f. Bounded f.kind f.content) (Inside r (pre ++ (part ++ flat r.spelled cs)) (pre ++ (part ++ us))) (fields_from r.spelled (length pre + length part) cs)
   grown pre part us cs h = rw (length-append pre part, append_assoc pre part us, append_assoc pre part (flat r.spelled cs)) at h
 
+  -- what is live chunk by chunk is so by units and fields
   pub front_goes : (cs : List Chunk) (pre us : List ℕ) → Front r cs us → GoesAt pre cs us
   front_goes [] pre [] h = inl (([], sym (append-nil (pre ++ []))), tt)
   front_goes [] pre (u ∷ us) h = absurd h
@@ -85,6 +86,7 @@ module _ (r : Fielding) where
       ] in
       subst (GoesAt pre (sealed k c ∷ cs)) (sym e) there
 
+  -- pre grown by a part, the other way
   shrunk : (pre part us : List ℕ) (cs : List Chunk)
       → (Begins (pre ++ (part ++ us)) (pre ++ (part ++ flat r.spelled cs)) × AllByRecursion (BoundedBefore (length (pre ++ (part ++ us)))) (fields_from r.spelled (length pre + length part) cs))
       ⊎ SomeWithEarlier (λ f. Bounded f.kind f.content) (Inside r (pre ++ (part ++ flat r.spelled cs)) (pre ++ (part ++ us))) (fields_from r.spelled (length pre + length part) cs)

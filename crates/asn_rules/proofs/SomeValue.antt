@@ -72,12 +72,13 @@ shortest_fits z a h g = subst (FitsLength z) (sym (length-replicate z.low a)) (o
 
 -- ---- entries, elements and characters
 
--- entries and elements come back from the value they make
+-- entries come back from the value they make,
 pub entries_again : (es : List (Option Datum)) → component_list (components_of es) ≡ es
 entries_again [] = refl
 entries_again (None ∷ es) = ap (λ t. None ∷ t) (entries_again es)
 entries_again (Some d ∷ es) = ap (λ t. Some d ∷ t) (entries_again es)
 
+-- and so do elements
 pub list_again : (ds : List Datum) → element_list (elements_of ds) ≡ ds
 list_again [] = refl
 list_again (d ∷ ds) = ap (λ t. d ∷ t) (list_again ds)
@@ -156,5 +157,6 @@ mutual
   some_additions closed h g = ([], tt)
   some_additions (marked fs) h g = let w = some_entries fs h g in (w.0, w.1)
 
+-- each type of the profile is such a type
 pub a_value : EachHasAValue
 a_value t h = some_value t (h EmptyRange) (h SizeTooLarge)

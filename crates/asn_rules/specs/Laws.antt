@@ -46,6 +46,10 @@ pub record RulesLaws (r : Ruling) : Type 0 where
   -- no encoding begins another
   pub none_begins : (t : Shape) (v w : Datum) (o p : List ℕ) → InProfile t → AreOctets o → AreOctets p → IsEncoding r t v o → IsEncoding r t w p → Begins o p → o ≡ p
 
+-- the encoding of a value is that list of octets
+abbrev pub EncodesAs : Ruling → (Shape → Datum → List ℕ) → Type 0
+EncodesAs r octets_of = (t : Shape) (v : Datum) (o : List ℕ) → InProfile t → AreOctets o → IsEncoding r t v o ↔ (Fits t v × (o ≡ octets_of t v))
+
 -- what these laws follow from, said of whole encodings in units
 pub record WholesTell (r : Ruling) : Type 0 where
   -- a whole encoding that begins another is of the same value

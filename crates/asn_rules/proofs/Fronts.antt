@@ -1,4 +1,5 @@
 -- Live by units and fields is live by chunks.
+pub use Rattle.asn_rules.specs.Reading.{IsSealed, AllSealed}
 use Rattle.std.proofs.Common.{◌≡◌, ◌≤◌, ◌<◌, ◌+◌, ◌-◌, ◌⊎◌, ◌↔◌, ℕ, List, [], ◌∷◌, ◌++◌, length, take, drop, inl, inr, refl, sym, ◌∙◌, ap, subst, arith, append_assoc, length-append}
 use Rattle.std.specs.Bool.{⊤}
 use Rattle.std.proofs.lemmas.List.{append-nil, append_cancel_left, take-append-drop}
@@ -9,19 +10,6 @@ use Rattle.asn_rules.specs.Chunks.{Kind, open_field, utf8_field, rest_of, Chunk,
 use Rattle.asn_rules.specs.Live.{Begins, BeginsProperly, SomeWithEarlier, Fielding, IsContent, Free, Bounded, BoundedBefore, Inside, Front, Live, LiveByChunks}
 use Rattle.asn_values.specs.Datum.{Datum}
 use Rattle.asn_values.specs.Shape.{Shape}
-
--- a field as spellings of values have it: whole, and its content is one that the kind may have, but for
--- the length of an open field
-abbrev pub IsSealed : Fielding → Kind → List ℕ → Type 0
-IsSealed r open_field c = Bounded open_field c → IsContent r open_field c
-IsSealed r utf8_field c = Bounded utf8_field c → IsContent r utf8_field c
-IsSealed r (rest_of k us) c = ⊥
-
--- each sealed field of the chunks is such a field
-abbrev pub AllSealed : Fielding → List Chunk → Type 0
-AllSealed r [] = ⊤
-AllSealed r (one x ∷ cs) = AllSealed r cs
-AllSealed r (sealed k c ∷ cs) = IsSealed r k c × AllSealed r cs
 
 -- plain units have no field
 pub sealed-ones : (r : Fielding) (us : List ℕ) → AllSealed r (ones us)

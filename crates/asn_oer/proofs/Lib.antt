@@ -8,4 +8,5 @@ pub mod Spelt
 pub mod SpeltLeaves
 pub mod SpeltTypes
 pub mod Strings
+pub mod Tells
 pub mod Whole

@@ -1,7 +1,7 @@
 -- The laws of OER, from spellings that face each other.
 use Rattle.std.proofs.Common.{[], ◌++◌, refl, sym, ◌∙◌, ap}
 use Rattle.std.proofs.lemmas.List.{append-nil}
-use Rattle.asn_rules.specs.Laws.{UnitsTellTheValue, OneValue, NoneBegins, WholesTell, RulesLaws}
+use Rattle.asn_rules.specs.Laws.{EncodesAs, UnitsTellTheValue, OneValue, NoneBegins, WholesTell, RulesLaws}
 use Rattle.asn_rules.specs.Parted.{SpellingsPart}
 use Rattle.asn_rules.proofs.FromFacing.{units_tell, spellings_part}
 use Rattle.asn_rules.proofs.FromUnits.{rules_laws}
@@ -36,3 +36,8 @@ oer_wholes = record {
 
 pub oer_laws : RulesLaws oer_ruling
 oer_laws = rules_laws oer_ruling oer_wholes
+
+-- the encoding of a value is the units of its spelling
+pub oer_encodes : EncodesAs oer_ruling oer_octets
+unfolding oer_ruling
+oer_encodes t v o h os = (λ a. (a.0, a.1), λ a. (a.0, a.1))

@@ -1,6 +1,6 @@
 //! The laws of Canonical OER, for every type of the profile.
 
-ghost use Rattle.asn_rules.specs.Laws.{UnitsTellTheValue, OneValue, NoneBegins, RulesLaws, LiveIsClosed, LiveByPartsInProfile, OneAnswer};
+ghost use Rattle.asn_rules.specs.Laws.{EncodesAs, UnitsTellTheValue, OneValue, NoneBegins, RulesLaws, LiveIsClosed, LiveByParts, OneAnswer};
 ghost use Rattle.asn_rules.specs.Parted.{SpellingsPart};
 ghost use Rattle.asn_oer.specs.Oer.{oer, oer_fields, oer_octets};
 ghost use Rattle.asn_oer.specs.Rules.{oer_ruling};
@@ -18,15 +18,17 @@ pub fn spellings_tell()
 {}
 
 /// OER keeps the laws of encoding rules: an encoding has one value, a value that fits has one
-/// encoding, which consists of octets, and no encoding begins another.
+/// encoding, which consists of octets, and no encoding begins another. The encoding of a value is
+/// `oer_octets` of it.
 pub fn encoding_laws()
-    ensures { RulesLaws oer_ruling }
+    ensures laws { RulesLaws oer_ruling }
+    ensures octets { EncodesAs oer_ruling oer_octets }
 {}
 
 /// Whether an encoding may follow some octets, said of all its octets and sealed fields at once, is
 /// the same said chunk by chunk.
 pub fn live_by_parts()
-    ensures { LiveByPartsInProfile oer_fields oer }
+    ensures { LiveByParts oer_fields oer }
 {}
 
 /// What an encoding may still follow, it may follow each beginning of.

@@ -1,4 +1,4 @@
-//! The laws of CANONICAL-PER UNALIGNED, for every type of the profile.
+//! The laws of CANONICAL-PER UNALIGNED (X.691), for every type of the profile.
 
 ghost use Rattle.asn_rules.specs.Laws.{EachHasAValue, EncodesAs, UnitsTellTheValue, OneValue, NoneBegins, RulesLaws, LiveIsClosed, LiveByParts, OneAnswer};
 ghost use Rattle.asn_rules.specs.Parted.{SpellingsPart};

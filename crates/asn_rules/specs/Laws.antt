@@ -70,11 +70,7 @@ LiveIsClosed r whole = (t : Shape) (x y : List ℕ) → Live r whole t (x ++ y) 
 
 -- live by units and sealed fields is live chunk by chunk
 abbrev pub LiveByParts : Fielding → (Shape → Datum → List Chunk) → Type 0
-LiveByParts r whole = (t : Shape) (b : List ℕ) → Live r whole t b ↔ LiveByChunks r whole t b
-
--- the same of the types of the profile, where the rules spell those of no other in octets
-abbrev pub LiveByPartsInProfile : Fielding → (Shape → Datum → List Chunk) → Type 0
-LiveByPartsInProfile r whole = (t : Shape) → InProfile t → (b : List ℕ) → Live r whole t b ↔ LiveByChunks r whole t b
+LiveByParts r whole = (t : Shape) → InProfile t → (b : List ℕ) → Live r whole t b ↔ LiveByChunks r whole t b
 
 -- ---- answers
 

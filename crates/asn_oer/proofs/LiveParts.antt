@@ -1,5 +1,5 @@
 -- In OER, live by units and sealed fields is live chunk by chunk.
-use Rattle.std.proofs.Common.{◌≡◌, ◌<◌, ◌↔◌, ℕ, Bool, true, false, List, [], ◌∷◌, length, refl, arith, nat_lt, length-append}
+use Rattle.std.proofs.Common.{◌≡◌, ◌<◌, ℕ, Bool, true, false, List, [], ◌∷◌, length, refl, arith, nat_lt, length-append}
 use Rattle.asn_bits.specs.Lengths.{octet_length}
 use Rattle.asn_rules.specs.Chunks.{open_field, utf8_field}
 use Rattle.asn_rules.specs.Laws.{LiveByParts}

@@ -1,6 +1,6 @@
 //! The laws of Canonical OER, for every type of the profile.
 
-ghost use Rattle.asn_rules.specs.Laws.{EncodesAs, UnitsTellTheValue, OneValue, NoneBegins, RulesLaws, LiveIsClosed, LiveByParts, OneAnswer};
+ghost use Rattle.asn_rules.specs.Laws.{BeginningsAreLive, BeginningsAreNotRefused, EncodesAs, UnitsTellTheValue, OneValue, NoneBegins, RulesLaws, LiveIsClosed, LiveByParts, OneAnswer};
 ghost use Rattle.asn_rules.specs.Parted.{SpellingsPart};
 ghost use Rattle.asn_oer.specs.Oer.{oer, oer_fields, oer_octets};
 ghost use Rattle.asn_oer.specs.Rules.{oer_ruling};
@@ -40,4 +40,11 @@ pub fn live_is_closed()
 /// one place, too long, or more to come.
 pub fn answers_exclude()
     ensures { OneAnswer oer_ruling }
+{}
+
+/// Of an encoding of at most 2 ^ 28 - 1 octets each beginning is live, so the octets of an encoding
+/// are at no place refused, however many of them have come.
+pub fn beginnings_are_live()
+    ensures live { BeginningsAreLive oer_ruling }
+    ensures not_refused { BeginningsAreNotRefused oer_ruling }
 {}

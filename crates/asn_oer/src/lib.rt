@@ -3,4 +3,7 @@
 
 mod laws;
 
-pub use laws::{answers_exclude, encoding_laws, live_by_parts, live_is_closed, spellings_tell};
+pub use laws::{
+    answers_exclude, beginnings_are_live, encoding_laws, live_by_parts, live_is_closed,
+    spellings_tell,
+};

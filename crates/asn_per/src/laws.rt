@@ -1,6 +1,6 @@
 //! The laws of CANONICAL-PER UNALIGNED (X.691), for every type of the profile.
 
-ghost use Rattle.asn_rules.specs.Laws.{EachHasAValue, EncodesAs, UnitsTellTheValue, OneValue, NoneBegins, RulesLaws, LiveIsClosed, LiveByParts, OneAnswer};
+ghost use Rattle.asn_rules.specs.Laws.{BeginningsAreLive, BeginningsAreNotRefused, EachHasAValue, EncodesAs, UnitsTellTheValue, OneValue, NoneBegins, RulesLaws, LiveIsClosed, LiveByParts, OneAnswer};
 ghost use Rattle.asn_rules.specs.Parted.{SpellingsPart};
 ghost use Rattle.asn_per.specs.Per.{per, per_fields, per_octets, per_whole};
 ghost use Rattle.asn_per.specs.Rules.{per_ruling};
@@ -47,4 +47,11 @@ pub fn live_is_closed()
 /// one place, too long, or more to come.
 pub fn answers_exclude()
     ensures { OneAnswer per_ruling }
+{}
+
+/// Of an encoding of at most 2 ^ 28 - 1 octets each beginning is live, so the octets of an encoding
+/// are at no place refused, however many of them have come.
+pub fn beginnings_are_live()
+    ensures live { BeginningsAreLive per_ruling }
+    ensures not_refused { BeginningsAreNotRefused per_ruling }
 {}

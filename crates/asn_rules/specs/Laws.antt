@@ -1,5 +1,5 @@
 -- The laws that encoding rules keep for every type of the profile.
-use Rattle.std.specs.Prelude.{◌≡◌, ◌<◌, ◌↔◌, ℕ, List, [], ◌++◌}
+use Rattle.std.specs.Prelude.{◌≡◌, ◌<◌, ◌≤◌, ◌↔◌, ℕ, List, [], ◌++◌, length}
 use Rattle.std.specs.List.{AllByRecursion}
 use Rattle.asn_values.specs.Datum.{Datum}
 use Rattle.asn_values.specs.Shape.{Shape}
@@ -7,7 +7,7 @@ use Rattle.asn_values.specs.Profile.{InProfile}
 use Rattle.asn_values.specs.Fits.{Fits}
 use Rattle.asn_rules.specs.Chunks.{Chunk, flat}
 use Rattle.asn_rules.specs.Live.{Begins, Fielding, Live, LiveByChunks}
-use Rattle.asn_rules.specs.Answer.{Ruling, IsEncoding, Told, Answer}
+use Rattle.asn_rules.specs.Answer.{Ruling, IsEncoding, Told, refused, Answer, max_octets}
 
 abbrev pub AreOctets : List ℕ → Type 0
 AreOctets os = AllByRecursion (λ o. o < 256) os
@@ -72,7 +72,16 @@ LiveIsClosed r whole = (t : Shape) (x y : List ℕ) → Live r whole t (x ++ y) 
 abbrev pub LiveByParts : Fielding → (Shape → Datum → List Chunk) → Type 0
 LiveByParts r whole = (t : Shape) → InProfile t → (b : List ℕ) → Live r whole t b ↔ LiveByChunks r whole t b
 
+-- each beginning of an encoding, in units, is live
+abbrev pub BeginningsAreLive : Ruling → Type 0
+BeginningsAreLive r = (t : Shape) (v : Datum) (o x y : List ℕ) → InProfile t → length o ≤ max_octets → IsEncoding r t v o → r.units o ≡ x ++ y → Live r.fielding r.whole t x
+
 -- ---- answers
+
+-- to no beginning of an encoding, in octets, the answer is that it is refused
+abbrev pub BeginningsAreNotRefused : Ruling → Type 0
+BeginningsAreNotRefused r =
+    (t : Shape) (v : Datum) (s rest : List ℕ) (place : ℕ) → InProfile t → length (s ++ rest) ≤ max_octets → IsEncoding r t v (s ++ rest) → Answer r t s (refused place) → ⊥
 
 -- two answers to one list of octets are one
 abbrev pub OneAnswer : Ruling → Type 0

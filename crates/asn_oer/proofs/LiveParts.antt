@@ -9,6 +9,7 @@ use Rattle.asn_oer.specs.Oer.{spelled, oer, oer_fields}
 use Rattle.asn_oer.proofs.GoodTypes.{good}
 use Rattle.asn_oer.proofs.SpeltTypes.{oer_spelt, few_levels}
 
+-- a length has at least one octet
 some_length : (n : ℕ) → 0 < length (octet_length n)
 some_length n = go (nat_lt n 128) refl
   where
@@ -24,8 +25,10 @@ some_octets c = omega (arith, length-append (octet_length (length c)) c, some_le
 pub open_starts : Free oer_fields open_field []
 open_starts = (0 ∷ [], (omega arith, omega arith, (omega arith, tt)), (1, 0 ∷ [], refl))
 
+-- and so does a UTF8String
 pub utf8_starts : Free oer_fields utf8_field []
 utf8_starts = (0 ∷ [], (omega arith, omega arith, (omega arith, tt)), (1, 0 ∷ [], refl))
 
+-- the two forms of live are one
 pub oer_live : LiveByParts oer_fields oer
 oer_live t h b = live_iff oer_fields open_starts utf8_starts some_octets oer t (λ d f. (oer_spelt t (good t h) (few_levels t h) d f).held) b

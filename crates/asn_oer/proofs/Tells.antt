@@ -14,6 +14,7 @@ use Rattle.asn_oer.proofs.Whole.{oer_part}
 longer : (c : List ℕ) → 1 * length c ≤ length (spelled c)
 longer c = omega (arith, length-append (octet_length (length c)) c)
 
+-- what readers of OER rest on
 pub oer_tells : RulesTell oer_ruling
 unfolding oer_ruling
 oer_tells = record {

@@ -9,4 +9,5 @@ pub mod SpeltLeaves
 pub mod SpeltTypes
 pub mod Strings
 pub mod Tells
+pub mod PlaceExamples
 pub mod Whole

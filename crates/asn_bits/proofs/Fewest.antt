@@ -1,11 +1,11 @@
 -- The fewest bits and octets of a number, from the zeros before its first bit.
-use Rattle.std.proofs.Common.{◌≡◌, ◌≤◌, ◌<◌, ◌+◌, ◌-◌, ◌*◌, ◌/◌, ◌^◌, ◌⊎◌, ℕ, zero, suc, nat_le, inl, inr, refl, sym, ◌∙◌, ap, subst, arith}
-use Rattle.std.proofs.lemmas.Bool.{le-leb, leb-true, cases_lt}
+use Rattle.std.proofs.Common.{◌≡◌, ◌≤◌, ◌<◌, ◌+◌, ◌-◌, ◌*◌, ◌/◌, ◌^◌, ℕ, zero, suc, nat_le, inl, inr, ◌∙◌, ap, arith}
+use Rattle.std.proofs.lemmas.Bool.{le-leb, cases_lt}
 use Rattle.std.proofs.lemmas.Nat.{leading_length}
 use Rattle.std.proofs.Math.Nat.{pow-zero, pow-le-pow_right, two-pow-succ}
 use lib.Count.{count_leading_zeros}
 use Rattle.asn_bits.specs.Numbers.{width, octet_count}
-use Rattle.asn_bits.proofs.Octets.{octet_count_below, octet_count_fits, octet_count_some, least_from_below}
+use Rattle.asn_bits.proofs.Octets.{octet_count_below, octet_count_fits, least_from_below}
 use Rattle.asn_bits.proofs.Splits.{two_pow_octets}
 use Rattle.asn_bits.proofs.Widths.{width_holds}
 

@@ -1,13 +1,12 @@
 -- Octets and the fewer than eight bits behind them, as a sink holds them.
-use Rattle.std.proofs.Common.{◌≡◌, ◌≤◌, ◌<◌, ◌+◌, ◌*◌, ◌-◌, ◌/◌, ◌%◌, ◌^◌, ℕ, zero, suc, List, [], ◌∷◌, ◌++◌, length, get_or, replicate, refl, sym, ◌∙◌, ap, subst, arith, length-append, take, drop}
+use Rattle.std.proofs.Common.{◌≡◌, ◌≤◌, ◌<◌, ◌+◌, ◌*◌, ◌-◌, ◌/◌, ◌%◌, ◌^◌, ℕ, zero, suc, List, [], ◌∷◌, ◌++◌, length, get_or, replicate, refl, sym, ◌∙◌, ap, arith, length-append, take, drop}
 use Rattle.std.proofs.lemmas.List.{append-nil}
+use Rattle.std.proofs.lemmas.Nat.{shr-shr}
 use Rattle.std.proofs.Math.Nat.{zero-div}
 use Rattle.std.proofs.Math.Pow.{mod-mod-pow}
-use Rattle.std.proofs.Math.Seq.{take-length}
-use Rattle.std.specs.Int.{bytes_high_first}
 use Rattle.asn_bits.specs.Numbers.{bits, octets, unpacked, packed, padding}
 use Rattle.asn_bits.proofs.Octets.{length-digits}
-use Rattle.asn_bits.proofs.Splits.{length-unpacked, digits-mod, drop-digits, bytes-octets, appended}
+use Rattle.asn_bits.proofs.Splits.{length-unpacked, digits-add, digits-mod, appended}
 
 pub length-unpacked_bits : (os : List ℕ) (c p : ℕ) → length (unpacked os ++ bits c p) ≡ 8 * length os + c
 length-unpacked_bits os c p = omega (arith, length-append (unpacked os) (bits c p), length-unpacked os, length-digits 2 c p)
@@ -64,14 +63,11 @@ bits_low l n h =
     let f : n % 256 % 2 ^ l ≡ n % 2 ^ l = ap (λ t. n % t % 2 ^ l) (sym e) ∙ mod-mod-pow n (8 - l) l in
     sym (digits-mod 2 (omega arith) l (n % 256)) ∙ ap (bits l) f ∙ digits-mod 2 (omega arith) l n
 
--- the last of sixteen bytes
-pub last_bytes : (bs : List ℕ) (w n : ℕ) → w ≤ 16 → bs ≡ bytes_high_first 16 n → take (16 - (16 - w)) (drop (16 - w) bs) ≡ octets w n
-last_bytes bs w n h e =
-    let sixteen : 16 ≡ 16 - w + w = omega arith in
-    let f : bs ≡ octets (16 - w + w) n = e ∙ bytes-octets 16 n ∙ ap (λ i. octets i n) sixteen in
-    let d : drop (16 - w) bs ≡ octets w n = ap (drop (16 - w)) f ∙ drop-digits 256 (16 - w) w n in
-    let all : 16 - (16 - w) ≡ length (octets w n) = omega (arith, length-digits 256 w n) in
-    ap (take (16 - (16 - w))) d ∙ ap (λ i. take i (octets w n)) all ∙ take-length (octets w n)
+-- one octet more of those of a number
+pub octets_more : (i b n : ℕ) → octets (i + 1) (n / 2 ^ b) ≡ octets i (n / 2 ^ (b + 8)) ++ n / 2 ^ b % 256 ∷ []
+octets_more i b n =
+    let one : octets 1 (n / 2 ^ b) ≡ n / 2 ^ b % 256 ∷ [] = ap (λ t. t ∷ []) (omega arith) in
+    digits-add 256 i 1 (n / 2 ^ b) ∙ ap (λ t. octets i t ++ octets 1 (n / 2 ^ b)) (shr-shr n b 8) ∙ ap (λ t. octets i (n / 2 ^ (b + 8)) ++ t) one
 
 -- what a sink holds once n stands in k bits behind the c bits that waited: w octets more, and l bits wait
 pub appended_view : (os new : List ℕ) (c p k n w l j low : ℕ) → n < 2 ^ k → 8 * w + l ≡ c + k → l < 8 → j ≡ p * 2 ^ k + n → low ≡ j % 256

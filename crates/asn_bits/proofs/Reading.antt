@@ -1,10 +1,10 @@
 -- The bits of octets, read from a place within the first octet.
-use Rattle.std.proofs.Common.{◌≡◌, ◌≤◌, ◌<◌, ◌+◌, ◌-◌, ◌*◌, ◌/◌, ◌%◌, ◌^◌, ℕ, zero, suc, List, [], ◌∷◌, ◌++◌, length, take, drop, get_or, refl, sym, ◌∙◌, ap, subst, arith, append_assoc, length-append, length-drop}
+use Rattle.std.proofs.Common.{◌≡◌, ◌≤◌, ◌<◌, ◌+◌, ◌-◌, ◌*◌, ◌/◌, ◌%◌, ◌^◌, ℕ, zero, suc, List, [], ◌∷◌, ◌++◌, length, take, drop, get_or, sym, ◌∙◌, ap, subst, arith, append_assoc, length-drop}
 use Rattle.std.proofs.lemmas.List.{take-append-drop, take_more, get_or-drop, length-take-le}
 use Rattle.std.proofs.Math.Seq.{drop-nil, drop-append-add, drop-append_seam, take-length}
 use Rattle.std.proofs.lemmas.Nat.{be_bytes_8}
 use Rattle.std.specs.Int.{w64, from_be_bytes}
-use Rattle.asn_bits.specs.Numbers.{digits, bits, octets, unpacked}
+use Rattle.asn_bits.specs.Numbers.{bits, octets, unpacked}
 use Rattle.asn_bits.proofs.Octets.{length-digits}
 use Rattle.asn_bits.proofs.Splits.{digits-add, digits-join, digits-mod, unpacked-octets, unpacked-append, length-unpacked, bytes-octets}
 

@@ -1,8 +1,8 @@
 -- Digits split at any place: the high ones are those of the quotient, the low ones those of the remainder.
-use Rattle.std.proofs.Common.{◌≡◌, ◌<◌, ◌+◌, ◌*◌, ◌/◌, ◌%◌, ◌^◌, ℕ, zero, suc, List, [], ◌∷◌, ◌++◌, length, take, drop, refl, sym, ◌∙◌, ap, arith, append_assoc, mul_assoc, mul_comm}
+use Rattle.std.proofs.Common.{◌≡◌, ◌<◌, ◌+◌, ◌*◌, ◌/◌, ◌%◌, ◌^◌, ℕ, zero, suc, List, [], ◌∷◌, ◌++◌, length, drop, refl, sym, ◌∙◌, ap, arith, append_assoc, mul_assoc, mul_comm}
 use Rattle.std.proofs.lemmas.Nat.{pow-add, div-mul-add, div-add-mod'}
 use Rattle.std.proofs.Math.Nat.{pow-zero, pow-succ', div-one, add-mul-div_left, add-mul-mod_self_right, div-div-eq-div-mul, one-le-pow}
-use Rattle.std.proofs.Math.Seq.{drop-append_seam, take-append_seam}
+use Rattle.std.proofs.Math.Seq.{drop-append_seam}
 use Rattle.std.specs.Int.{byte_at, bytes_high_first}
 use Rattle.asn_bits.specs.Numbers.{digits, bits, octets, unpacked}
 use Rattle.asn_bits.proofs.Octets.{length-digits}

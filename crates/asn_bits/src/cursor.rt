@@ -26,10 +26,7 @@ impl<'a> BitCursor<'a> {
     pub fn over(octets: &'a [u8]) -> BitCursor<'a>
         ensures { result ≡ unpacked octets.now }
     {
-        BitCursor {
-            octets,
-            offset: 0,
-        }
+        BitCursor { octets, offset: 0 }
     }
 
     /// Whether no bit is left.
@@ -51,7 +48,11 @@ impl<'a> BitCursor<'a> {
     pub fn octets_left(&self) -> usize
         ensures { result ≡ length self.now / 8 }
     {
-        if self.offset == 0 { self.octets.len() } else { self.octets.len() - 1 }
+        if self.offset == 0 {
+            self.octets.len()
+        } else {
+            self.octets.len() - 1
+        }
     }
 
     /// Another cursor at the same bit.

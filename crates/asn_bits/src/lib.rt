@@ -2,7 +2,9 @@
 #![tactic(auto)]
 
 pub mod cursor;
+pub mod lengths;
 pub mod numbers;
+pub mod offsets;
 pub mod sink;
 
 pub use cursor::BitCursor;

@@ -1,6 +1,6 @@
 //! The bits that an encoder has made so far, packed into octets as they come.
-ghost use Rattle.std.specs.Prelude.{◌≡◌, ℕ, ◌+◌, ◌*◌, ◌%◌, ◌^◌, ◌<◌, ◌≤◌, ◌↔◌, List, [], ◌∷◌, ◌++◌, length, OnOk, OnErr, IsTrue};
-ghost use Rattle.asn_bits.specs.Numbers.{bits, packed, padding, unpacked};
+ghost use Rattle.std.specs.Prelude.{◌≡◌, ℕ, ◌+◌, ◌*◌, ◌/◌, ◌%◌, ◌^◌, ◌<◌, ◌≤◌, ◌↔◌, List, [], ◌∷◌, ◌++◌, length, OnOk, OnErr, IsTrue};
+ghost use Rattle.asn_bits.specs.Numbers.{bits, octets, packed, padding, unpacked};
 ghost use Rattle.asn_bits.specs.Sink.{bit_of};
 
 use std::alloc::{AllocError, Global};
@@ -92,7 +92,8 @@ impl BitSink {
         octets
     }
 
-    fn append(&mut self, k: u32, n: u128) -> Result<(), AllocError>
+    // adds n in k bits, in one step
+    pub(crate) fn append(&mut self, k: u32, n: u128) -> Result<(), AllocError>
         requires few { k ≤ 112 }
         requires fits { n < 2 ^ k }
         ensures ok { OnOk result (self.new ≡ self.old ++ bits k n) }
@@ -101,19 +102,28 @@ impl BitSink {
         let joined = joined(self.pending, k, n);
         let total = self.count + k;
         let left = total % 8;
-        let whole = total / 8;
-        if whole > 0 {
-            let octets = (joined >> left).to_be_bytes();
-            self.octets.extend_from_slice(&octets[16 - whole as usize..])?;
-        }
+        push_octets(&mut self.octets, total / 8, left, joined)?;
         self.pending = low_octet(joined);
         self.count = left;
         Ok(())
     }
 }
 
+// adds the `count` octets of n above its last `below` bits
+fn push_octets(bytes: &mut Vec<u8>, count: u32, below: u32, n: u128) -> Result<(), AllocError>
+    requires { 8 * count + below < 128 }
+    ensures ok { OnOk result (bytes.new.items ≡ bytes.old.items ++ octets count (n / 2 ^ below)) }
+    ensures err { OnErr result (bytes.new.items ≡ bytes.old.items) }
+{
+    bytes.reserve(count as usize)?;
+    for i in 0..count {
+        bytes.push_reserved(low_octet(n >> (below + 8 * (count - 1 - i))));
+    }
+    Ok(())
+}
+
 // n in k bits behind the octet high
-fn joined(high: u8, k: u32, n: u128) -> u128
+pub(crate) fn joined(high: u8, k: u32, n: u128) -> u128
     requires few { k ≤ 112 }
     requires fits { n < 2 ^ k }
     ensures { result ≡ high * 2 ^ k + n }

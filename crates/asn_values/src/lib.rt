@@ -20,3 +20,6 @@ pub use fitting::fits;
 pub use laws::defaults_are_judged;
 pub use types::{AsnType, Bounds, Field, Need};
 pub use value::Value;
+
+#[cfg(test)]
+mod tests;

@@ -1,5 +1,5 @@
 -- The mask keeps the last k bits.
-use Rattle.std.proofs.Common.{◌≡◌, ◌<◌, ◌+◌, ◌-◌, ◌*◌, ◌/◌, ◌%◌, ◌^◌, bit_and, arith, ap, ◌∙◌}
+use Rattle.std.proofs.Common.{◌-◌, ◌/◌, ◌^◌, bit_and, arith, ap, ◌∙◌}
 use Rattle.std.proofs.lemmas.Nat.{and_mask, one_shl}
 use Rattle.asn_bits.proofs.cursor.field.Goals as goal
 

@@ -1,8 +1,7 @@
 -- Each octet goes behind those before it.
-use Rattle.std.proofs.Common.{◌≡◌, ◌<◌, ◌≤◌, ◌+◌, ◌*◌, ◌^◌, ℕ, List, get_or, take, ap, sym, ◌∙◌, add-one, arith}
+use Rattle.std.proofs.Common.{◌≡◌, ◌<◌, ◌≤◌, ◌+◌, ◌*◌, ◌^◌, ℕ, get_or, take, ap, sym, ◌∙◌, add-one, arith}
 use Rattle.std.proofs.lemmas.List.{take_more}
 use Rattle.std.proofs.Math.Nat.{pow-le-pow_right, pow-suc}
-use Rattle.asn_bits.specs.Numbers.{octets}
 use Rattle.asn_bits.proofs.Reading.{octets_next}
 use Rattle.asn_bits.proofs.cursor.joined.Goals as goal
 
@@ -28,8 +27,7 @@ loop-octet-preserved c =
     let i = c.loop-octet.octet-index in
     let n = c.loop-octet.n in
     let o : get_or c.args.front.now i 0 < 256 = omega (arith, c.type_inv.front i) in
-    let p : 256 ^ (i + 1) ≡ 256 ^ i * 256 = ap (λ t. 256 ^ t) (add-one i) ∙ pow-suc 256 i in
-    (
-        octets_next (take i c.args.front.now) i n (get_or c.args.front.now i 0) c.loop-octet.invariant.0 o ∙ sym (take_more c.args.front.now i 0 c.loop-octet-test.true),
-        omega arith
+    let p : 256 ^ (i + 1) ≡ 256 ^ i * 256 = ap (λ t. 256 ^ t) (add-one i) ∙ pow-suc 256 i in (
+      octets_next (take i c.args.front.now) i n (get_or c.args.front.now i 0) c.loop-octet.invariant.0 o ∙ sym (take_more c.args.front.now i 0 c.loop-octet-test.true),
+      omega arith,
     )

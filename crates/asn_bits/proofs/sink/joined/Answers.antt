@@ -1,5 +1,5 @@
 -- The number below takes the place that the shift left free.
-use Rattle.std.proofs.Common.{◌≡◌, ◌*◌, ◌%◌, ◌^◌, ◌+◌, ◌<◌, bit_or, arith, ap, ◌∙◌}
+use Rattle.std.proofs.Common.{◌^◌, ◌<◌, bit_or, arith, ap, ◌∙◌}
 use Rattle.std.proofs.lemmas.Nat.{or_shifted, shl_whole}
 use Rattle.asn_bits.proofs.sink.joined.Goals as goal
 

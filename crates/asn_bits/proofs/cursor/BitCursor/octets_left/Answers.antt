@@ -1,5 +1,5 @@
 -- Eight bits an octet, less those that are read.
-use Rattle.std.proofs.Common.{◌≡◌, ◌+◌, ◌-◌, ◌*◌, length, drop, arith, ap, sym, ◌∙◌}
+use Rattle.std.proofs.Common.{◌≡◌, ◌-◌, ◌*◌, length, drop, arith, ap, sym, ◌∙◌}
 use Rattle.asn_bits.specs.Numbers.{unpacked}
 use Rattle.asn_bits.proofs.Reading.{length-left}
 use Rattle.asn_bits.proofs.cursor.BitCursor.octets_left.Goals as goal

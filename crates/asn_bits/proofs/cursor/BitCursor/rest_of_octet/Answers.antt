@@ -1,5 +1,5 @@
 -- What whole octets leave over of the bits left.
-use Rattle.std.proofs.Common.{◌≡◌, ◌+◌, ◌-◌, ◌*◌, length, drop, arith, ap, sym, ◌∙◌}
+use Rattle.std.proofs.Common.{◌≡◌, ◌-◌, ◌*◌, length, drop, arith, ap, sym, ◌∙◌}
 use Rattle.asn_bits.specs.Numbers.{unpacked}
 use Rattle.asn_bits.proofs.Reading.{length-left}
 use Rattle.asn_bits.proofs.cursor.BitCursor.rest_of_octet.Goals as goal

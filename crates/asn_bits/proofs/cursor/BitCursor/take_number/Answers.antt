@@ -1,5 +1,5 @@
 -- The number stands in the next k bits, where so many are left.
-use Rattle.std.proofs.Common.{◌≡◌, ◌<◌, ◌≤◌, ◌+◌, ◌-◌, ◌*◌, ◌/◌, ◌%◌, ◌++◌, length, drop, refl, ap, sym, ◌∙◌, arith}
+use Rattle.std.proofs.Common.{◌≡◌, ◌+◌, ◌-◌, ◌*◌, ◌/◌, ◌%◌, ◌++◌, length, drop, refl, ap, sym, ◌∙◌, arith}
 use Rattle.std.proofs.lemmas.Bool.{true≢false}
 use Rattle.asn_bits.specs.Numbers.{bits, unpacked}
 use Rattle.asn_bits.proofs.Reading.{bits_passed, length-left}
@@ -20,7 +20,7 @@ returns-clause-some c =
     sym v ∙ c.number_at-n.ensures.here ∙ ap (λ t. bits c.args.k c.number_at-n.result ++ t) (bits_passed s.octets.now (end / 8) (end % 8) end (omega arith))
 
 pub returns-clause-none : goal.returns-clause-none
-returns-clause-none c = 
+returns-clause-none c =
     let s = c.self.inside in
     let v : drop s.offset (unpacked s.octets.now) ≡ c.args.self.now = c.self.view_is in
     let l : length c.args.self.now ≡ 8 * length s.octets.now - s.offset = ap length (sym v) ∙ length-left s.octets.now s.offset in

@@ -1,7 +1,7 @@
 -- The bits fill octets exactly where none waits.
-use Rattle.std.proofs.Common.{◌≡◌, ◌++◌, ◌%◌, ◌*◌, ◌+◌, length, arith, ap, sym, ◌∙◌, eq-eqb, eqb-true}
+use Rattle.std.proofs.Common.{◌≡◌, ◌++◌, ◌*◌, ◌+◌, length, arith, ap, sym, ◌∙◌, eq-eqb, eqb-true}
 use Rattle.asn_bits.specs.Numbers.{bits, unpacked}
-use Rattle.asn_bits.proofs.Packing.{length-unpacked_bits, none_waits}
+use Rattle.asn_bits.proofs.Packing.{length-unpacked_bits}
 use Rattle.asn_bits.proofs.sink.BitSink.ends_at_octet.Goals as goal
 
 pub returns : goal.returns

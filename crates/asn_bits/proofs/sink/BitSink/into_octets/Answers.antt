@@ -1,7 +1,7 @@
 -- No bit waits, so the octets are all.
-use Rattle.std.proofs.Common.{◌≡◌, ◌++◌, ◌%◌, ◌<◌, ◌*◌, ◌+◌, ℕ, length, get_or, arith, ap, subst, sym, ◌∙◌, rules}
+use Rattle.std.proofs.Common.{◌≡◌, ◌++◌, ◌%◌, ◌<◌, ℕ, length, get_or, ap, sym, ◌∙◌, rules}
 use Rattle.asn_bits.specs.Numbers.{bits, unpacked, packed}
-use Rattle.asn_bits.proofs.Packing.{length-unpacked_bits, none_waits, unpacked_whole, packed_view}
+use Rattle.asn_bits.proofs.Packing.{none_waits, unpacked_whole, packed_view}
 use Rattle.asn_bits.proofs.sink.BitSink.into_octets.Goals as goal
 
 pub returns-clause-unpacked : goal.returns-clause-unpacked

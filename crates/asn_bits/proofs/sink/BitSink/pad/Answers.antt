@@ -1,5 +1,5 @@
 -- The zeros that fill the last octet are the padding.
-use Rattle.std.proofs.Common.{◌≡◌, ◌++◌, ◌-◌, ◌%◌, List, ℕ, [], length, arith, ap, sym, subst, ◌∙◌, OnOk}
+use Rattle.std.proofs.Common.{◌≡◌, ◌++◌, ◌-◌, ◌%◌, [], length, arith, ap, sym, subst, ◌∙◌, OnOk}
 use Rattle.std.proofs.lemmas.List.{append-nil}
 use Rattle.asn_bits.specs.Numbers.{bits, unpacked, padding}
 use Rattle.asn_bits.proofs.Packing.{padding_view}

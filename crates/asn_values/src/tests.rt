@@ -1,0 +1,230 @@
+//! The faults of types one by one and in their order, and each public call with ample memory.
+use crate::{AsnType, Bounds, Checked, Field, Need, TypeFault, Value, fits, same};
+use std::alloc::{AllocError, Global};
+use std::process::Abort;
+use std::test::Fail;
+
+/// INTEGER (low..high)
+fn int(low: i128, high: i128) -> AsnType {
+    AsnType::Int(Bounds { low, high: Some(high) })
+}
+
+/// INTEGER (low..MAX)
+fn int_from(low: i128) -> AsnType {
+    AsnType::Int(Bounds { low, high: None })
+}
+
+fn field(alloc: Global, name: &str, ty: AsnType, need: Need) -> Result<Field, AllocError> {
+    Ok(Field { name: String::from_str(alloc, name)?, ty, need })
+}
+
+/// SEQUENCE { name type }
+fn around(alloc: Global, name: &str, ty: AsnType, need: Need) -> Result<AsnType, AllocError> {
+    Ok(AsnType::Seq { root: vec![in alloc; field(alloc, name, ty, need)?]? })
+}
+
+/// SEQUENCE { a first, b second }
+fn pair(alloc: Global, first: AsnType, second: AsnType) -> Result<AsnType, AllocError> {
+    let a = field(alloc, "a", first, Need::Must)?;
+    let b = field(alloc, "b", second, Need::Must)?;
+    Ok(AsnType::Seq { root: vec![in alloc; a, b]? })
+}
+
+/// A SEQUENCE of so many components of BOOLEAN.
+fn booleans(alloc: Global, count: usize) -> Result<AsnType, AllocError> {
+    let mut root = Vec::new(alloc);
+    for place in 0..count {
+        let name = format!(in alloc; "c{place}")?;
+        root.push(Field { name, ty: AsnType::Bool, need: Need::Must })?;
+    }
+    Ok(AsnType::Seq { root })
+}
+
+/// A type of that many levels: SEQUENCEs of one component, and the innermost type.
+fn levels(alloc: Global, count: usize, innermost: AsnType) -> Result<AsnType, AllocError> {
+    let mut ty = innermost;
+    for _ in 1..count {
+        ty = around(alloc, "a", ty, Need::Must)?;
+    }
+    Ok(ty)
+}
+
+/// A SEQUENCE of `full` SEQUENCEs of 64 components and one of `last`: 65 * full + last + 2 types.
+fn bundle(alloc: Global, full: usize, last: usize) -> Result<AsnType, AllocError> {
+    let mut root = Vec::new(alloc);
+    for place in 0..full {
+        let name = format!(in alloc; "c{place}")?;
+        root.push(Field { name, ty: booleans(alloc, 64)?, need: Need::Must })?;
+    }
+    root.push(field(alloc, "last", booleans(alloc, last)?, Need::Must)?)?;
+    Ok(AsnType::Seq { root })
+}
+
+/// A type of 9,950 + last types: 1 + 4,161 + 4,161 + 1,627 + last.
+fn types(alloc: Global, last: usize) -> Result<AsnType, AllocError> {
+    let a = field(alloc, "a", bundle(alloc, 63, 64)?, Need::Must)?;
+    let b = field(alloc, "b", bundle(alloc, 63, 64)?, Need::Must)?;
+    let c = field(alloc, "c", bundle(alloc, 25, last)?, Need::Must)?;
+    Ok(AsnType::Seq { root: vec![in alloc; a, b, c]? })
+}
+
+/// SEQUENCE { a type DEFAULT value }
+fn with_default(alloc: Global, ty: AsnType, value: Value) -> Result<AsnType, AllocError> {
+    around(alloc, "a", ty, Need::Default(value))
+}
+
+/// The fault of the type is this one; `None` where it is of the profile.
+fn expect_fault(rt: &impl Abort, alloc: Global, what: &str, ty: AsnType, want: Option<TypeFault>) {
+    assert_eq!(rt; Checked::new(alloc, ty).err(), want, "{what}");
+}
+
+#[test]
+fn ranges_have_faults(rt: HostRuntime) {
+    let alloc = rt.alloc();
+    let lowest = i128::from(i64::MIN);
+    let highest = i128::from(i64::MAX);
+    let empty = Some(TypeFault::EmptyRange);
+    expect_fault(&rt, alloc, "one number", int(7, 7), None);
+    expect_fault(&rt, alloc, "low above high", int(7, 6), empty);
+    expect_fault(&rt, alloc, "the whole profile", int(lowest, highest), None);
+    expect_fault(&rt, alloc, "low too low", int(lowest - 1, 0), empty);
+    expect_fault(&rt, alloc, "low too high", int_from(highest + 1), empty);
+    expect_fault(&rt, alloc, "high too high", int(0, highest + 1), empty);
+    expect_fault(&rt, alloc, "to MAX", int_from(highest), None);
+}
+
+#[test]
+fn names_have_faults(rt: HostRuntime) -> Result<(), Fail> {
+    let alloc = rt.alloc();
+    let bad = Some(TypeFault::DuplicateName);
+    for (name, want) in [
+        ("a", None),
+        ("z9-Zz-0", None),
+        ("", bad),
+        ("A", bad),
+        ("9a", bad),
+        ("-a", bad),
+        ("a-", bad),
+        ("a--b", bad),
+        ("a_b", bad),
+        ("é", bad),
+    ] {
+        expect_fault(&rt, alloc, name, around(alloc, name, AsnType::Bool, Need::Must)?, want);
+    }
+    let twice = vec![in alloc;
+        field(alloc, "ab", AsnType::Bool, Need::Must)?,
+        field(alloc, "c", AsnType::Bool, Need::Must)?,
+        field(alloc, "ab", AsnType::Bool, Need::Must)?
+    ]?;
+    expect_fault(&rt, alloc, "twice", AsnType::Seq { root: twice }, bad);
+    let inner = around(alloc, "a", AsnType::Bool, Need::Must)?;
+    let outer = around(alloc, "a", inner, Need::Must)?;
+    expect_fault(&rt, alloc, "one in the other", outer, None);
+    Ok(())
+}
+
+#[test]
+fn defaults_have_faults(rt: HostRuntime) -> Result<(), Fail> {
+    let alloc = rt.alloc();
+    let highest = i128::from(i64::MAX);
+    let bad = Some(TypeFault::BadDefault);
+    let truth = with_default(alloc, AsnType::Bool, Value::Bool(true))?;
+    expect_fault(&rt, alloc, "of BOOLEAN", truth, None);
+    let other = with_default(alloc, AsnType::Bool, Value::Int(1))?;
+    expect_fault(&rt, alloc, "a number of BOOLEAN", other, bad);
+    for (low, high, number, want) in [
+        (0, 7, 0, None),
+        (0, 7, 7, None),
+        (0, 7, 8, bad),
+        (0, 7, -1, bad),
+        (5, 5, 5, bad),
+    ] {
+        let ty = with_default(alloc, int(low, high), Value::Int(number))?;
+        expect_fault(&rt, alloc, "of INTEGER", ty, want);
+    }
+    let half_open = with_default(alloc, int_from(highest - 1), Value::Int(highest))?;
+    expect_fault(&rt, alloc, "of a half-open range", half_open, None);
+    let past = with_default(alloc, int_from(0), Value::Int(highest + 1))?;
+    expect_fault(&rt, alloc, "past the profile", past, bad);
+    let top = with_default(alloc, int_from(highest), Value::Int(highest))?;
+    expect_fault(&rt, alloc, "of the one number up to MAX", top, bad);
+    let none = Value::Seq(vec![in alloc]?);
+    let constructed = with_default(alloc, AsnType::Seq { root: vec![in alloc]? }, none)?;
+    expect_fault(&rt, alloc, "of SEQUENCE", constructed, bad);
+    Ok(())
+}
+
+#[test]
+fn counts_have_faults(rt: HostRuntime) -> Result<(), Fail> {
+    let alloc = rt.alloc();
+    let many = Some(TypeFault::TooMany);
+    let deep = Some(TypeFault::TooDeep);
+    expect_fault(&rt, alloc, "no component", booleans(alloc, 0)?, None);
+    expect_fault(&rt, alloc, "64 components", booleans(alloc, 64)?, None);
+    expect_fault(&rt, alloc, "65 components", booleans(alloc, 65)?, many);
+    expect_fault(&rt, alloc, "32 levels", levels(alloc, 32, AsnType::Bool)?, None);
+    expect_fault(&rt, alloc, "33 levels", levels(alloc, 33, AsnType::Bool)?, deep);
+    expect_fault(&rt, alloc, "10,000 types", types(alloc, 50)?, None);
+    expect_fault(&rt, alloc, "10,001 types", types(alloc, 51)?, many);
+    Ok(())
+}
+
+#[test]
+fn first_fault_is_answered(rt: HostRuntime) -> Result<(), Fail> {
+    let alloc = rt.alloc();
+    let empty = Some(TypeFault::EmptyRange);
+    let name = Some(TypeFault::DuplicateName);
+    let default = Some(TypeFault::BadDefault);
+    let deep = Some(TypeFault::TooDeep);
+    let outer = around(alloc, "A", int(1, 0), Need::Must)?;
+    expect_fault(&rt, alloc, "a type before those inside it", outer, name);
+    let least = around(alloc, "A", AsnType::Bool, Need::Default(Value::Int(0)))?;
+    expect_fault(&rt, alloc, "the fault with the least number", least, name);
+    let left = pair(alloc, int(1, 0), around(alloc, "A", AsnType::Bool, Need::Must)?)?;
+    expect_fault(&rt, alloc, "from left to right", left, empty);
+    let bad_default = with_default(alloc, AsnType::Bool, Value::Int(0))?;
+    let whole = pair(alloc, levels(alloc, 33, AsnType::Bool)?, bad_default)?;
+    expect_fault(&rt, alloc, "the first component whole", whole, deep);
+    let bad_default = with_default(alloc, AsnType::Bool, Value::Int(0))?;
+    let second = pair(alloc, bad_default, levels(alloc, 33, AsnType::Bool)?)?;
+    expect_fault(&rt, alloc, "the second component after it", second, default);
+    let not_entered = around(alloc, "a", int(1, 0), Need::Must)?;
+    let bottom = levels(alloc, 33, not_entered)?;
+    expect_fault(&rt, alloc, "nothing inside the last level", bottom, deep);
+    let many = pair(alloc, booleans(alloc, 65)?, int(1, 0))?;
+    expect_fault(&rt, alloc, "a count before what comes later", many, Some(TypeFault::TooMany));
+    Ok(())
+}
+
+/// SEQUENCE { id INTEGER (0..7), ok BOOLEAN DEFAULT TRUE, flag BOOLEAN OPTIONAL }
+fn sample(alloc: Global) -> Result<AsnType, AllocError> {
+    let root = vec![in alloc;
+        field(alloc, "id", int(0, 7), Need::Must)?,
+        field(alloc, "ok", AsnType::Bool, Need::Default(Value::Bool(true)))?,
+        field(alloc, "flag", AsnType::Bool, Need::Optional)?
+    ]?;
+    Ok(AsnType::Seq { root })
+}
+
+/// A value of it.
+fn message(alloc: Global, id: i128, flag: Option<Value>) -> Result<Value, AllocError> {
+    let entries = vec![in alloc; Some(Value::Int(id)), Some(Value::Bool(false)), flag]?;
+    Ok(Value::Seq(entries))
+}
+
+#[test]
+fn values_fit_and_are_the_same(rt: HostRuntime) -> Result<(), Fail> {
+    let alloc = rt.alloc();
+    let ty = Checked::new(alloc, sample(alloc)?)?;
+    assert!(rt; matches!(ty.get(), AsnType::Seq { .. }));
+    let absent = message(alloc, 7, None)?;
+    let present = message(alloc, 7, Some(Value::Bool(true)))?;
+    assert!(rt; fits(&ty, &absent));
+    assert!(rt; fits(&ty, &present));
+    assert!(rt; !fits(&ty, &message(alloc, 8, None)?));
+    assert!(rt; !fits(&ty, &Value::Seq(vec![in alloc; Some(Value::Int(0)), None, None]?)));
+    assert!(rt; same(&absent, &message(alloc, 7, None)?));
+    assert!(rt; !same(&absent, &present));
+    assert!(rt; !same(&absent, &message(alloc, 6, None)?));
+    Ok(())
+}

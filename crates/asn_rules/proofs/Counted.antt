@@ -19,24 +19,24 @@ use Rattle.asn_rules.specs.Counted.{SomeOf, Counted, number_of, Least, signed_nu
 use Rattle.asn_rules.proofs.Chunks.{FieldsPart, ones-append}
 use Rattle.asn_rules.proofs.Then.{Follows, then_lawful, then_inhabited, then_spells, then_short_first, then_short_second, then_refused_first, then_refused_second}
 use Rattle.asn_rules.proofs.Parts.{plain_inhabited}
-use Rattle.asn_rules.proofs.Bits.{areBits-append, weighted-append, bits_are, bits_only}
+use Rattle.asn_rules.proofs.Digits.{digits-append, weighted-append, bits_are, bits_only}
 use Rattle.asn_rules.proofs.Sets.{set_lawful, set_spelt}
 use Rattle.asn_rules.proofs.Spellings.{same_after, same_then, same_map as map_same, set_spelled, then_spelled, map_spelled}
 
 -- ---- laws
 
 pub counted_lawful : (T : ℕ → ℕ → Type 0) → Lawful (Counted T)
-counted_lawful T = then_lawful (set_lawful 8 (SomeOf T)) (λ k. set_lawful (8 * k) (T k))
+counted_lawful T = then_lawful (set_lawful 2 8 (SomeOf T)) (λ k. set_lawful 2 (8 * k) (T k))
 
 pub counted_follows : (T : ℕ → ℕ → Type 0) → Follows (Plain (InSet 8 (SomeOf T))) (λ k. Plain (InSet (8 * k) (T k)))
 counted_follows T = record { follow = λ k cs h. number k h.spelt.member }
   where
     number : (k : ℕ) → SomeOf T k → Inhabited (Plain (InSet (8 * k) (T k)))
-    number k s = plain_inhabited s.number (bits (8 * k) s.number) (set_spelt (8 * k) s.number s.member s.fits)
+    number k s = plain_inhabited s.number (bits (8 * k) s.number) (set_spelt 2 (8 * k) s.number s.member s.fits)
 
 pub counted_inhabited : {T : ℕ → ℕ → Type 0} (k : ℕ) → SomeOf T k → Inhabited (Counted T)
 counted_inhabited {T} k s =
-    then_inhabited (plain_inhabited k (bits 8 k) (set_spelt 8 k s (let f = s.few in omega arith))) (counted_follows T)
+    then_inhabited (plain_inhabited k (bits 8 k) (set_spelt 2 8 k s (let f = s.few in omega arith))) (counted_follows T)
 
 -- ---- the answers
 
@@ -50,11 +50,11 @@ counted_refused_count {T = T} h = then_refused_first (counted_follows T) h
 
 -- the octets are not over
 pub counted_short_octets : {R : Fielding} {T : ℕ → ℕ → Type 0} {k : ℕ} {us r : List ℕ} → FieldsPart R → Spells R (Plain (InSet 8 (SomeOf T))) k us r → Short R (Plain (InSet (8 * k) (T k))) r → Short R (Counted T) us
-counted_short_octets {T = T} ok h g = then_short_second ok (set_lawful 8 (SomeOf T)) h g
+counted_short_octets {T = T} ok h g = then_short_second ok (set_lawful 2 8 (SomeOf T)) h g
 
 -- no number goes on so
 pub counted_refused_octets : {R : Fielding} {T : ℕ → ℕ → Type 0} {k : ℕ} {us r : List ℕ} {n : ℕ} → FieldsPart R → Spells R (Plain (InSet 8 (SomeOf T))) k us r → Refused R (Plain (InSet (8 * k) (T k))) r n → Refused R (Counted T) us n
-counted_refused_octets {T = T} ok h g = then_refused_second ok (set_lawful 8 (SomeOf T)) h g
+counted_refused_octets {T = T} ok h g = then_refused_second ok (set_lawful 2 8 (SomeOf T)) h g
 
 pub counted_spells : {R : Fielding} {T : ℕ → ℕ → Type 0} {k n : ℕ} {us r s : List ℕ} → Spells R (Plain (InSet 8 (SomeOf T))) k us r → Spells R (Plain (InSet (8 * k) (T k))) n r s → Spells R (Counted T) (k, n) us s
 counted_spells h g = then_spells h g
@@ -67,7 +67,7 @@ same_map (u ∷ us) = ap (λ (t : List ℕ). u ∷ t) (same_map us)
 
 -- the bits of a number's octets are its bits
 pub octets_bits : (k n : ℕ) → IsBits (8 * k) (n % 256 ^ k) (joined (map (λ o. map (λ u. u) (bits 8 o)) (octets k n)))
-octets_bits zero n = record { bits = tt; count = refl; sum = nothing n ∙ ap (λ (b : ℕ). n % b) (sym (pow-zero 256)) }
+octets_bits zero n = record { digits = tt; count = refl; sum = nothing n ∙ ap (λ (b : ℕ). n % b) (sym (pow-zero 256)) }
   where
     nothing : (n : ℕ) → 0 ≡ n % 1
     nothing n = omega arith
@@ -89,11 +89,11 @@ octets_bits (suc k) n = go (octets_bits k n)
     go again =
         let power : 2 ^ length rest ≡ 256 ^ k = ap (λ (i : ℕ). 2 ^ i) again.count ∙ sym (octet_power k) in
         let first = map (λ u. u) (bits 8 o) in
-        let lead : weighted first * 2 ^ length rest ≡ o * 256 ^ k = ap (λ (i : ℕ). i * 2 ^ length rest) byte.sum ∙ ap (λ (i : ℕ). o * i) power in
+        let lead : weighted 2 first * 2 ^ length rest ≡ o * 256 ^ k = ap (λ (i : ℕ). i * 2 ^ length rest) byte.sum ∙ ap (λ (i : ℕ). o * i) power in
         record {
-          bits = areBits-append first rest byte.bits again.bits;
+          digits = digits-append 2 first rest byte.digits again.digits;
           count = omega (arith, length-append first rest, byte.count, again.count);
-          sum = weighted-append first rest ∙ ap (λ (i : ℕ). i + weighted rest) lead ∙ ap (λ (i : ℕ). o * 256 ^ k + i) again.sum ∙ sym step;
+          sum = weighted-append 2 first rest ∙ ap (λ (i : ℕ). i + weighted 2 rest) lead ∙ ap (λ (i : ℕ). o * 256 ^ k + i) again.sum ∙ sym step;
         }
 
 -- a count below 128 in 8 bits is a length
@@ -103,7 +103,7 @@ short_length k h = go (nat_lt k 128) refl (lt-ltb k 128 h)
     go : (b : Bool) → nat_lt k 128 ≡ b → nat_lt k 128 ≡ true → (last_length k).bits ≡ bits 8 k
     go b e f =
         let i = bits_are 7 k (omega (arith, h)) in
-        let w : IsBits 8 k (0 ∷ bits 7 k) = record { bits = (omega arith, i.bits); count = ap suc i.count; sum = omega (arith, i.sum) } in
+        let w : IsBits 8 k (0 ∷ bits 7 k) = record { digits = (omega arith, i.digits); count = ap suc i.count; sum = omega (arith, i.sum) } in
         rw (f, last_length) (bits_only 8 k (0 ∷ bits 7 k) w).1
 
 lengths_short : (k : ℕ) → k < 128 → lengths k ≡ last_length k ∷ []

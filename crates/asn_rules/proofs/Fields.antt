@@ -26,10 +26,10 @@ use Rattle.asn_rules.proofs.Frames.{frame_short, frame_refused, frame_spells, fr
 -- ---- octets
 
 pub octet_lawful : Lawful Octet
-octet_lawful = set_lawful 8 (λ n. n < 256)
+octet_lawful = set_lawful 2 8 (λ n. n < 256)
 
 pub octet_inhabited : Inhabited Octet
-octet_inhabited = set_inhabited (set_meets 8 {S = λ n. n < 256} 0 (omega arith) (omega arith))
+octet_inhabited = set_inhabited (set_meets 2 8 {S = λ n. n < 256} 0 (omega arith) (omega arith))
 
 octet_spelled : Same Octet (SpelledBy (λ n. n < 256) (λ n. ones (bits 8 n)))
 octet_spelled = set_spelled 8 (λ n. n < 256) (λ n h. omega (arith, h))

@@ -12,7 +12,7 @@ use Rattle.asn_rules.specs.Sets.{InSet}
 use Rattle.asn_rules.specs.Forks.{Branch, Fork, Same}
 use Rattle.asn_rules.specs.Padding.{Padded}
 use Rattle.asn_rules.specs.Spellings.{SpelledBy, FitsEither, either_code}
-use Rattle.asn_rules.proofs.Bits.{bits_are, bits_only}
+use Rattle.asn_rules.proofs.Digits.{bits_are, bits_only}
 
 -- ---- laws
 
@@ -85,7 +85,7 @@ plain_spelled {f = f} there back = record {
 
 -- numbers of a set in k bits
 pub set_spelled : (k : ℕ) (S : ℕ → Type 0) → ((n : ℕ) → S n → n < 2 ^ k) → Same (Plain (InSet k S)) (SpelledBy S (λ n. ones (bits k n)))
-set_spelled k S fit = plain_spelled (λ n us h. (h.member, (bits_only k n us h.bits).1)) (λ n m. record { bits = bits_are k n (fit n m); member = m })
+set_spelled k S fit = plain_spelled (λ n us h. (h.member, (bits_only k n us h.digits).1)) (λ n m. record { digits = bits_are k n (fit n m); member = m })
 
 -- one value, which is spelt by nothing
 pub nothing_spelled : {A : Type 0} (a : A) → Same (Nothing a) (SpelledBy (λ b. b ≡ a) (λ b. []))

@@ -1,15 +1,15 @@
 -- Numbers under the count of their octets: the laws, and what readers of the parts say of the whole.
-use Rattle.std.proofs.Common.{◌≡◌, ℕ, zero, suc, ◌+◌, ◌*◌, ◌/◌, ◌%◌, ◌^◌, ◌<◌, ◌≤◌, ◌-◌, ◌⊎◌, ℤ, pos, negsuc, Bool, true, false, nat_lt, inl, inr, take, List, [], ◌∷◌, ◌++◌, map, length, length-append, refl, sym, ap, ◌∙◌, subst, append_assoc, arith}
-use Rattle.std.proofs.Math.Nat.{pow-zero, pow-succ', two-pow-succ, one-le-pow, mod-eq_of_lt}
+use Rattle.std.proofs.Common.{◌≡◌, ℕ, zero, suc, ◌+◌, ◌*◌, ◌/◌, ◌%◌, ◌^◌, ◌<◌, ◌≤◌, ◌-◌, ℤ, pos, negsuc, Bool, true, false, nat_lt, inl, inr, take, List, [], ◌∷◌, ◌++◌, map, length, length-append, refl, sym, ap, ◌∙◌, subst, arith}
+use Rattle.std.proofs.Math.Nat.{pow-zero, pow-succ', one-le-pow, mod-eq_of_lt}
 use Rattle.std.proofs.Math.Arith.{mod-mul}
-use Rattle.std.proofs.lemmas.Bool.{ltb-true, ltb-false, lt-ltb}
+use Rattle.std.proofs.lemmas.Bool.{ltb-true, lt-ltb}
 use Rattle.std.proofs.lemmas.List.{append-nil, length-map}
 use Rattle.std.proofs.Math.Seq.{take-length}
-use Rattle.asn_bits.specs.Numbers.{digits, bits, octets, octet_count, least, magnitude, signed_octets, signed_octet_count, least_signed}
+use Rattle.asn_bits.specs.Numbers.{digits, bits, octets, octet_count, least, magnitude, signed_octet_count, least_signed}
 use Rattle.asn_bits.specs.Lengths.{joined, last_length, lengths, with_lengths, general_octets, octet_length}
 use Rattle.asn_bits.proofs.Octets.{length-digits, octet_power, octet_count_fits, residue, half, signed_is, signed_fits, residue_fits, signed_count_some}
 use Rattle.asn_bits.proofs.GeneralLengths.{lengths_cases}
-use Rattle.asn_rules.specs.Chunks.{Chunk, ones}
+use Rattle.asn_rules.specs.Chunks.{ones}
 use Rattle.asn_rules.specs.Live.{Fielding}
 use Rattle.asn_rules.specs.Languages.{Spells, Short, Refused, Lawful, Inhabited, Map, Plain}
 use Rattle.asn_rules.specs.Sets.{weighted, IsBits, InDigits}

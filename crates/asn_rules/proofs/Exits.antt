@@ -1,6 +1,6 @@
 -- From the answer of a part to the answer of the whole, for rows, forks, lengths, counted numbers, sealed fields
 -- and what fills up: what a reader of such a part cites at each exit.
-use Rattle.std.proofs.Common.{◌≡◌, ◌⊎◌, inl, inr, ℕ, suc, ◌+◌, ◌-◌, ◌*◌, List, [], ◌∷◌, ◌++◌, length, sym, subst, refl, arith}
+use Rattle.std.proofs.Common.{◌≡◌, inl, inr, ℕ, suc, ◌+◌, ◌-◌, ◌*◌, List, [], ◌∷◌, ◌++◌, length, sym, subst, refl}
 use Rattle.std.specs.Bool.{⊤}
 use Rattle.asn_rules.specs.Chunks.{Kind, Chunk}
 use Rattle.asn_rules.specs.Live.{Fielding}
@@ -8,7 +8,7 @@ use Rattle.asn_rules.specs.Languages.{Spells, Lawful, Inhabited, Carries, Row, P
 use Rattle.asn_rules.specs.Sets.{InDigits, InSet}
 use Rattle.asn_rules.specs.Forks.{Fork, Same}
 use Rattle.asn_rules.specs.Padding.{Fixed, Padded}
-use Rattle.asn_rules.specs.General.{Length, last, fragment, Few, Many, Left, Blocks, Header, General}
+use Rattle.asn_rules.specs.General.{last, fragment, Few, Many, Left, Blocks, Header, General}
 use Rattle.asn_rules.specs.Frames.{Frame}
 use Rattle.asn_rules.specs.Fields.{Octet}
 use Rattle.asn_rules.specs.Counted.{SomeOf, Counted}

@@ -10,7 +10,7 @@ use Rattle.asn_rules.proofs.Parts.{map_inhabited, map_spells, map_short, map_ref
 use Rattle.asn_rules.proofs.Rows.{row_lawful, row_inhabited}
 use Rattle.asn_rules.proofs.Sets.{set_lawful, set_inhabited, set_meets}
 use Rattle.asn_rules.proofs.Then.{Follows, then_lawful, then_spells, then_inhabited, then_short_first, then_short_second, then_refused_first, then_refused_second}
-use Rattle.asn_rules.specs.Chunks.{Chunk, ones, one}
+use Rattle.asn_rules.specs.Chunks.{Chunk, ones}
 use Rattle.asn_rules.specs.Forks.{Branch, Fork, Same}
 use Rattle.asn_rules.specs.General.{Length, last, fragment, Few, Many, Left, Blocks, length_of, Header, together, behind_first, Body, Once, Within, General}
 use Rattle.asn_rules.specs.Languages.{Spells, Short, Refused, Lawful, Inhabited, Then, Map, Row, Plain, Whole, Carries}

@@ -18,11 +18,11 @@ module _ (R : Fielding)
   tells utf8_field c d s t p q e = code c d s t p.2 q.2 e
   tells (rest_of k us) c d s t p q e =
       tells k c d s t p.0 q.0 (
-        ap (λ l. l ++ s) (behind k us c p.1)
-        ∙ append_assoc us (field_units R.spelled (rest_of k us) c) s
-        ∙ ap (λ l. us ++ l) e
-        ∙ sym (append_assoc us (field_units R.spelled (rest_of k us) d) t)
-        ∙ ap (λ l. l ++ t) (sym (behind k us d q.1))
+      ap (λ l. l ++ s) (behind k us c p.1)
+      ∙ append_assoc us (field_units R.spelled (rest_of k us) c) s
+      ∙ ap (λ l. us ++ l) e
+      ∙ sym (append_assoc us (field_units R.spelled (rest_of k us) d) t)
+      ∙ ap (λ l. l ++ t) (sym (behind k us d q.1))
       )
 
   some_units : (k : Kind) (c : List ℕ) → IsContent R k c → field_units R.spelled k c ≢ []

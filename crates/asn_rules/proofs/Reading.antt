@@ -1,17 +1,16 @@
 -- What a reader of units says of the whole encodings of a type is what the definitions say of its octets.
-use Rattle.std.proofs.Common.{◌≡◌, ◌≤◌, ◌<◌, ◌+◌, ◌-◌, ◌*◌, ◌↔◌, ◌⊎◌, inl, inr, ℕ, List, [], ◌∷◌, ◌++◌, length, take, drop, length-append, length-drop, ◌≢◌, refl, sym, ◌∙◌, ap, subst, arith}
+use Rattle.std.proofs.Common.{◌≡◌, ◌≤◌, ◌<◌, ◌+◌, ◌-◌, ◌*◌, ◌↔◌, inl, inr, ℕ, List, [], ◌∷◌, ◌++◌, length, take, drop, length-append, length-drop, ◌≢◌, refl, sym, ◌∙◌, ap, subst, arith}
 use Rattle.std.proofs.lemmas.List.{length-take-le, take-append-drop}
 use Rattle.std.proofs.Math.Nat.{mul-le-mul_left}
 use Rattle.std.proofs.Math.Seq.{take-length}
 use Rattle.asn_values.specs.Datum.{Datum}
 use Rattle.asn_values.specs.Shape.{Shape}
-use Rattle.asn_values.specs.Fits.{Fits, max_len}
+use Rattle.asn_values.specs.Fits.{max_len}
 use Rattle.asn_values.specs.Profile.{InProfile}
-use Rattle.asn_rules.specs.Chunks.{Kind, open_field, utf8_field, rest_of, Chunk, one, sealed, field_units, flat}
-use Rattle.asn_rules.specs.Live.{Fielding, IsContent, Free, Bounded, Front, Live, LiveByChunks, Place}
-use Rattle.asn_rules.specs.Answer.{Ruling, IsEncoding, NoFront, LiveOctets, Answer, Told, done, refused, too_long, more, max_octets}
-use Rattle.asn_rules.specs.Spellings.{SpelledBy}
-use Rattle.asn_rules.specs.Languages.{AllContents, InField, Passed, IsFront, Spells, NoSpelling, IsLive, Short, Refused, Lawful, Whole}
+use Rattle.asn_rules.specs.Chunks.{Kind, open_field, utf8_field, rest_of, Chunk, one, sealed, flat}
+use Rattle.asn_rules.specs.Live.{Fielding, IsContent, Free, Bounded, Front, Live, LiveByChunks}
+use Rattle.asn_rules.specs.Answer.{Ruling, IsEncoding, NoFront, LiveOctets, Answer, done, refused, too_long, more, max_octets}
+use Rattle.asn_rules.specs.Languages.{InField, IsFront, Spells, NoSpelling, IsLive, Short, Refused, Lawful, Whole}
 use Rattle.asn_rules.specs.Reading.{IsSealed, AllSealed, Wholes, RulesTell, HasOneReading, ReadingsAnswer}
 use Rattle.asn_rules.proofs.Fronts.{live_iff}
 use Rattle.asn_rules.proofs.Lists.{same_fronts, no_length}

@@ -7,7 +7,7 @@ use Rattle.asn_bits.specs.Numbers.{digits}
 use Rattle.asn_rules.proofs.Digits.{digits-append, digits-second, weighted_bound, weighted-append, weighted_more, same_digits, same_or_parted, not_parted, digits_are, extended}
 use Rattle.asn_rules.proofs.Chunks.{FieldsPart}
 use Rattle.asn_rules.proofs.Parts.{Code, plain_lawful, plain_inhabited, plain_spells, plain_short, plain_refused}
-use Rattle.asn_rules.specs.Chunks.{ones, one}
+use Rattle.asn_rules.specs.Chunks.{ones}
 use Rattle.asn_rules.specs.Languages.{Spells, Short, Refused, Lawful, Inhabited, Plain}
 use Rattle.asn_rules.specs.Live.{Fielding}
 use Rattle.asn_rules.specs.Parted.{Parted}

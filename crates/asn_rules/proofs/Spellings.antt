@@ -1,7 +1,6 @@
 -- Languages whose spellings are given by a function: they are put together as their spellings are.
 use Rattle.std.proofs.Common.{◌≡◌, ◌≢◌, ℕ, zero, suc, ◌^◌, ◌<◌, ◌⊎◌, inl, inr, ⊎_elim, List, [], ◌∷◌, ◌++◌, map, length, refl, sym, ap, ◌∙◌, subst, arith}
 use Rattle.std.specs.List.{AllByRecursion}
-use Rattle.std.specs.Bool.{⊤}
 use Rattle.asn_bits.specs.Numbers.{digits, bits}
 use Rattle.asn_bits.specs.Lengths.{joined}
 use Rattle.asn_rules.specs.Chunks.{Kind, Chunk, one, sealed, ones, flat}

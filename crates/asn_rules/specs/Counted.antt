@@ -1,6 +1,6 @@
 -- Numbers in so many octets, whose count stands before them in an octet (X.691, "semi-constrained whole
 -- number" and "unconstrained whole number"; X.696, "encoding of integer types"; the count is below 128).
-use Rattle.std.specs.Prelude.{◌≡◌, ◌-◌, ◌*◌, ◌^◌, ◌<◌, ℕ, ℤ, pos, negsuc, Bool, true, false, List, nat_lt}
+use Rattle.std.specs.Prelude.{◌≡◌, ◌-◌, ◌*◌, ◌^◌, ◌<◌, ℕ, ℤ, pos, negsuc, true, false, List, nat_lt}
 use Rattle.asn_bits.specs.Numbers.{octet_count, signed_octet_count}
 use Rattle.asn_rules.specs.Chunks.{Chunk}
 use Rattle.asn_rules.specs.Languages.{Then, Plain}

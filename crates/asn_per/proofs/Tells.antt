@@ -12,12 +12,12 @@ use Rattle.asn_rules.proofs.Chunks.{parted_longer}
 use Rattle.asn_per.specs.Per.{spelled, per, filling, filled, per_whole}
 use Rattle.asn_per.specs.Rules.{per_ruling}
 use Rattle.asn_per.proofs.Complete.{unpacked-append}
-use Rattle.asn_per.proofs.Held.{whole_held, some_units, open_starts, utf8_starts}
-use Rattle.asn_per.proofs.Lawful.{spellings_part}
+use Rattle.asn_per.proofs.Live.{whole_sealed, some_units, open_starts, utf8_starts}
+use Rattle.asn_per.proofs.Whole.{per_parts}
 
 -- what fills up two spellings does not make them less apart
 pub wholes_part : SpellingsPart per_whole
-wholes_part t v w h p q = go (spellings_part t v w h p q)
+wholes_part t v w h p q = go (per_parts t v w h p q)
   where
     go : ((v ≡ w) × (per t v ≡ per t w)) ⊎ ((v ≢ w) × Parted (per t v) (per t w)) → ((v ≡ w) × (per_whole t v ≡ per_whole t w)) ⊎ ((v ≢ w) × Parted (per_whole t v) (per_whole t w))
     go (inl e) = inl (e.0, ap filled e.1)
@@ -39,6 +39,6 @@ per_tells = record {
   tells = λ c d s t p q e. (octets_code c d s t p q e).0;
   open_starts = open_starts;
   utf8_starts = utf8_starts;
-  sealed = λ t v h f. whole_held t v f;
+  sealed = λ t v h f. whole_sealed t v f;
   part = wholes_part;
 }

@@ -5,7 +5,7 @@ use Rattle.std.proofs.lemmas.Bool.{cases_lt}
 use Rattle.asn_rules.proofs.Chunks.{FieldsPart, front_shorter, front_whole}
 use Rattle.asn_rules.proofs.Lists.{Within, Beyond, cut, no_length}
 use Rattle.asn_rules.proofs.Then.{live_shorter}
-use Rattle.asn_rules.specs.Chunks.{Chunk, flat, one}
+use Rattle.asn_rules.specs.Chunks.{Chunk, flat}
 use Rattle.asn_rules.specs.Languages.{AllContents, Spells, IsLive, Short, Refused}
 use Rattle.asn_rules.specs.Live.{Fielding}
 

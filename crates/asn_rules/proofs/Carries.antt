@@ -6,7 +6,7 @@ use Rattle.asn_rules.proofs.Headed.{plain_front}
 use Rattle.asn_rules.proofs.Lists.{Within, Beyond, cut}
 use Rattle.asn_rules.proofs.Parts.{map_inhabited, map_spells, map_source, map_live, map_dead, plain_spells, plain_begins}
 use Rattle.asn_rules.proofs.Then.{Follows, Both, front_over, one_front, live_nothing, live_shorter, then_spells, then_splits, then_live_first, then_live_second, then_live_cases}
-use Rattle.asn_rules.specs.Chunks.{Chunk, flat, ones, one}
+use Rattle.asn_rules.specs.Chunks.{Chunk, flat, ones}
 use Rattle.asn_rules.specs.Languages.{AllContents, IsFront, Spells, NoSpelling, IsLive, Short, Refused, Lawful, Then, Map, Plain, Whole, Carries}
 use Rattle.asn_rules.specs.Live.{Fielding}
 use Rattle.asn_rules.specs.Parted.{Parted}

@@ -1,7 +1,6 @@
 -- Fronts of encodings.
 use Rattle.std.proofs.Common.{◌≡◌, ◌≢◌, ℕ, ◌⊎◌, inl, inr, ⊎_elim, List, [], ◌∷◌, ◌++◌, refl, sym, ap, ◌∙◌, subst, append_assoc}
 use Rattle.std.proofs.lemmas.List.{append-nil, append_cancel_left}
-use Rattle.asn_rules.proofs.Flat.{flat-append}
 use Rattle.asn_rules.proofs.Lists.{Within, Beyond, cut, not_empty}
 use Rattle.asn_rules.specs.Chunks.{Kind, Chunk, one, sealed, ones, flat, field_units}
 use Rattle.asn_rules.specs.Languages.{AllContents, InField, Passed, IsFront}

@@ -1,7 +1,7 @@
 -- Sealed fields that are octets under their general length: a length that is not well spelt is refused inside
 -- it, and a content that is none at the last bit of its field.
-use Rattle.std.proofs.Common.{◌≡◌, ℕ, ◌<◌, ◌≤◌, zero, suc, List, [], ◌∷◌, ◌++◌, map, length, take, drop, refl, sym, ap, ◌∙◌, subst, arith}
-use Rattle.std.proofs.lemmas.List.{append-nil, length-map, drop-map}
+use Rattle.std.proofs.Common.{◌≡◌, ℕ, ◌<◌, List, [], ◌∷◌, ◌++◌, map, length, take, drop, refl, sym, ap, ◌∙◌, arith}
+use Rattle.std.proofs.lemmas.List.{length-map, drop-map}
 use Rattle.std.specs.List.{AllByRecursion}
 use Rattle.asn_values.specs.Fits.{max_len}
 use Rattle.asn_bits.specs.Numbers.{bits}
@@ -9,11 +9,11 @@ use Rattle.asn_bits.specs.Lengths.{Length, lengths, joined, with_lengths, genera
 use Rattle.asn_bits.proofs.GeneralLengths.{take-map}
 use Rattle.asn_rules.specs.Chunks.{Kind, open_field, utf8_field, Chunk, one, ones, field_units}
 use Rattle.asn_rules.specs.Live.{Fielding, IsContent}
-use Rattle.asn_rules.specs.Languages.{Spells, Short, Refused, Lawful, Inhabited, Plain, Sealed, SomeContent}
-use Rattle.asn_rules.specs.Sets.{InSet, Between}
+use Rattle.asn_rules.specs.Languages.{Spells, Short, Refused, Lawful, Inhabited, Sealed, SomeContent}
+use Rattle.asn_rules.specs.Sets.{Between}
 use Rattle.asn_rules.specs.Forks.{Same}
 use Rattle.asn_rules.specs.General.{General}
-use Rattle.asn_rules.specs.Frames.{IsField, Frame}
+use Rattle.asn_rules.specs.Frames.{Frame}
 use Rattle.asn_rules.specs.Fields.{Octet}
 use Rattle.asn_rules.specs.Spellings.{SpelledBy}
 use Rattle.asn_rules.proofs.Chunks.{FieldsPart, ones-append}
@@ -26,10 +26,10 @@ use Rattle.asn_rules.proofs.Frames.{frame_short, frame_refused, frame_spells, fr
 -- ---- octets
 
 pub octet_lawful : Lawful Octet
-octet_lawful = set_lawful 8 (λ n. n < 256)
+octet_lawful = set_lawful 2 8 (λ n. n < 256)
 
 pub octet_inhabited : Inhabited Octet
-octet_inhabited = set_inhabited (set_meets 8 {S = λ n. n < 256} 0 (omega arith) (omega arith))
+octet_inhabited = set_inhabited (set_meets 2 8 {S = λ n. n < 256} 0 (omega arith) (omega arith))
 
 octet_spelled : Same Octet (SpelledBy (λ n. n < 256) (λ n. ones (bits 8 n)))
 octet_spelled = set_spelled 8 (λ n. n < 256) (λ n h. omega (arith, h))

@@ -1,5 +1,5 @@
 -- Items under their general length, one length after the other, are spelt as the definition says, fragments and all.
-use Rattle.std.proofs.Common.{◌≡◌, ℕ, zero, suc, pred, ◌+◌, ◌-◌, ◌*◌, ◌/◌, ◌<◌, ◌≤◌, nat_lt, Bool, true, false, ⊎_elim, inl, inr, List, [], ◌∷◌, ◌++◌, map, length, take, drop, length-append, length-drop, refl, sym, ap, ◌∙◌, subst, arith}
+use Rattle.std.proofs.Common.{◌≡◌, ℕ, zero, suc, pred, ◌+◌, ◌-◌, ◌*◌, ◌/◌, ◌<◌, ◌≤◌, nat_lt, Bool, true, false, ⊎_elim, inl, inr, List, [], ◌∷◌, ◌++◌, map, length, take, drop, length-drop, refl, sym, ap, ◌∙◌, subst, arith}
 use Rattle.std.proofs.lemmas.Bool.{ltb-true, ltb-false}
 use Rattle.std.proofs.lemmas.List.{append-nil, length-map, length-take-le, drop-map, take-append-drop}
 use Rattle.std.proofs.Math.Seq.{take-length}
@@ -12,7 +12,7 @@ use Rattle.asn_rules.specs.Languages.{Lawful, Row}
 use Rattle.asn_rules.specs.Forks.{Same}
 use Rattle.asn_rules.specs.General.{Length, last, fragment, Left, Blocks, Header, Body, Within, General}
 use Rattle.asn_rules.specs.Spellings.{SpelledBy}
-use Rattle.asn_rules.proofs.Bits.{bits_are}
+use Rattle.asn_rules.proofs.Digits.{bits_are}
 use Rattle.asn_rules.proofs.General.{header_few_is, header_many_is, header_blocks_is, general_once, general_lawful, general_counted}
 use Rattle.asn_rules.proofs.Spellings.{same_row, row_spelled}
 use Rattle.asn_rules.proofs.Forks.{same_flip}

@@ -7,7 +7,7 @@ use Rattle.asn_rules.proofs.Chunks.{FieldsPart}
 use Rattle.asn_rules.proofs.Headed.{plain_front}
 use Rattle.asn_rules.proofs.Lists.{last_unit, lists_same_or_not}
 use Rattle.asn_rules.proofs.Parts.{Code, plain_lawful, plain_short, plain_spells, plain_begins, sealed_spells, sealed_short, sealed_refused_length, sealed_refused_content}
-use Rattle.asn_rules.specs.Chunks.{Kind, ones, one, field_units}
+use Rattle.asn_rules.specs.Chunks.{Kind, ones, field_units}
 use Rattle.asn_rules.specs.Frames.{IsField, Frame}
 use Rattle.asn_rules.specs.Languages.{InField, Spells, IsLive, Short, Refused, Lawful, Sealed, SomeContent}
 use Rattle.asn_rules.specs.Live.{Fielding, IsContent}

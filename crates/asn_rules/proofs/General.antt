@@ -2,7 +2,7 @@
 use Rattle.std.proofs.Common.{◌≡◌, ℕ, zero, suc, ◌+◌, ◌-◌, ◌*◌, ◌^◌, ◌<◌, ◌≤◌, ◌⊎◌, inl, inr, ⊎_elim, List, [], ◌∷◌, ◌++◌, length, length-append, refl, sym, ap, ◌∙◌, subst, arith}
 use Rattle.std.proofs.lemmas.Bool.{cases_lt}
 use Rattle.asn_bits.specs.Numbers.{bits}
-use Rattle.asn_rules.proofs.Bits.{bits_are, weighted_bound}
+use Rattle.asn_rules.proofs.Digits.{bits_are, weighted_bound}
 use Rattle.asn_rules.proofs.Carries.{carries_both, carries_map, carries_short, carries_refused, carries_behind, taken}
 use Rattle.asn_rules.proofs.Chunks.{FieldsPart}
 use Rattle.asn_rules.proofs.Forks.{map_map, map_lawful_on, same_flip, same_short, same_refused, same_carries, carries_left, carries_whole, same_inhabited, fork_lawful, fork_inhabited_zero, fork_inhabited_one, fork_zero, fork_one, fork_short, fork_refused}
@@ -10,7 +10,7 @@ use Rattle.asn_rules.proofs.Parts.{map_inhabited, map_spells, map_short, map_ref
 use Rattle.asn_rules.proofs.Rows.{row_lawful, row_inhabited}
 use Rattle.asn_rules.proofs.Sets.{set_lawful, set_inhabited, set_meets}
 use Rattle.asn_rules.proofs.Then.{Follows, then_lawful, then_spells, then_inhabited, then_short_first, then_short_second, then_refused_first, then_refused_second}
-use Rattle.asn_rules.specs.Chunks.{Chunk, ones, one}
+use Rattle.asn_rules.specs.Chunks.{Chunk, ones}
 use Rattle.asn_rules.specs.Forks.{Branch, Fork, Same}
 use Rattle.asn_rules.specs.General.{Length, last, fragment, Few, Many, Left, Blocks, length_of, Header, together, behind_first, Body, Once, Within, General}
 use Rattle.asn_rules.specs.Languages.{Spells, Short, Refused, Lawful, Inhabited, Then, Map, Row, Plain, Whole, Carries}
@@ -62,7 +62,7 @@ lengths_once S (inr (inr m)) (inr (inl n)) f g e = cc
 lengths_once S (inr (inr m)) (inr (inr n)) f g e = (let h : m ≡ n = cc in cc)
 
 pub header_lawful : (S : ℕ → Type 0) → Lawful (Header S)
-header_lawful S = map_lawful_on (λ a b x y p q e. lengths_once S a b (from_bits S a x p) (from_bits S b y q) e) (fork_lawful (set_lawful 7 (Few S)) (fork_lawful (set_lawful 14 (Many S)) (set_lawful 6 (Blocks S))))
+header_lawful S = map_lawful_on (λ a b x y p q e. lengths_once S a b (from_bits S a x p) (from_bits S b y q) e) (fork_lawful (set_lawful 2 7 (Few S)) (fork_lawful (set_lawful 2 14 (Many S)) (set_lawful 2 6 (Blocks S))))
 
 -- the blocks at the front of a count
 pub block_cases : (n : ℕ) → 16384 ≤ n → (m : ℕ) × (r : ℕ) × (1 ≤ m) × (m ≤ 4) × (16384 * m + r ≡ n) × (m < 4 → r < 16384)
@@ -70,13 +70,13 @@ block_cases n h = ⊎_elim (λ a. (1, n - 16384, omega arith, omega arith, omega
 
 -- The three forms of a length.
 pub header_few_is : (S : ℕ → Type 0) (n : ℕ) (us : List ℕ) → Few S n → IsBits 7 n us → Header S (last n) (ones (0 ∷ us))
-header_few_is S n us f b = record { source = inl n; spelt = record { side = inl (record { value = n; rest = ones us; spelt = record { units = us; spelt = record { bits = b; member = f }; same = refl }; seen = refl; same = refl }) }; seen = refl }
+header_few_is S n us f b = record { source = inl n; spelt = record { side = inl (record { value = n; rest = ones us; spelt = record { units = us; spelt = record { digits = b; member = f }; same = refl }; seen = refl; same = refl }) }; seen = refl }
 
 pub header_many_is : (S : ℕ → Type 0) (n : ℕ) (us : List ℕ) → Many S n → IsBits 14 n us → Header S (last n) (ones (1 ∷ 0 ∷ us))
-header_many_is S n us f b = record { source = inr (inl n); spelt = record { side = inr (record { value = inl n; rest = ones (0 ∷ us); spelt = record { side = inl (record { value = n; rest = ones us; spelt = record { units = us; spelt = record { bits = b; member = f }; same = refl }; seen = refl; same = refl }) }; seen = refl; same = refl }) }; seen = refl }
+header_many_is S n us f b = record { source = inr (inl n); spelt = record { side = inr (record { value = inl n; rest = ones (0 ∷ us); spelt = record { side = inl (record { value = n; rest = ones us; spelt = record { units = us; spelt = record { digits = b; member = f }; same = refl }; seen = refl; same = refl }) }; seen = refl; same = refl }) }; seen = refl }
 
 pub header_blocks_is : (S : ℕ → Type 0) (m : ℕ) (us : List ℕ) → Blocks S m → IsBits 6 m us → Header S (fragment m) (ones (1 ∷ 1 ∷ us))
-header_blocks_is S m us f b = record { source = inr (inr m); spelt = record { side = inr (record { value = inr m; rest = ones (1 ∷ us); spelt = record { side = inr (record { value = m; rest = ones us; spelt = record { units = us; spelt = record { bits = b; member = f }; same = refl }; seen = refl; same = refl }) }; seen = refl; same = refl }) }; seen = refl }
+header_blocks_is S m us f b = record { source = inr (inr m); spelt = record { side = inr (record { value = inr m; rest = ones (1 ∷ us); spelt = record { side = inr (record { value = m; rest = ones us; spelt = record { units = us; spelt = record { digits = b; member = f }; same = refl }; seen = refl; same = refl }) }; seen = refl; same = refl }) }; seen = refl }
 
 -- a count that is less than a block has a length, and it is the last
 last_is : (S : ℕ → Type 0) (n : ℕ) → S n → n < 16384 → (cs : List Chunk) × Header S (last n) cs
@@ -277,9 +277,9 @@ header_starts {R} {S} n h = starts (header_inhabited n h)
 set_some : {k : ℕ} {T : ℕ → Type 0} → Inhabited (Plain (InSet k T)) → Meets T 0 k
 set_some {k} {T} i =
     let c = i.spelt.spelt in
-    let b = weighted_bound i.spelt.units c.bits.bits in
-    let q = ap (λ (x : ℕ). 2 ^ x) c.bits.count in
-    set_meets k i.value c.member (omega (arith, b, q, c.bits.sum))
+    let b = weighted_bound 2 i.spelt.units c.digits.digits in
+    let q = ap (λ (x : ℕ). 2 ^ x) c.digits.count in
+    set_meets 2 k i.value c.member (omega (arith, b, q, c.digits.sum))
 
 -- what may stand behind a first 1
 abbrev pub Longer : (ℕ → Type 0) → Type 0

@@ -1,18 +1,16 @@
 -- The components of a SEQUENCE under their presence bits: two lists of spellings are one or part, and there is one.
 use Rattle.std.proofs.Common.{◌≡◌, ◌≢◌, ℕ, zero, suc, Bool, true, false, List, [], ◌∷◌, length, Option, Some, None, refl, arith}
-use Rattle.std.specs.Bool.{⊤}
-use Rattle.std.proofs.lemmas.Bool.{true≢false}
 use Rattle.asn_values.specs.Datum.{Datum}
-use Rattle.asn_values.specs.Shape.{Shape, boolean, null, integer, enumerated, bit_string, octet_string, restricted, utf8_string, sequence, sequence_of, choice, Demand, must, optional, default, Fields, no_fields, field}
+use Rattle.asn_values.specs.Shape.{Shape, boolean, null, integer, enumerated, bit_string, octet_string, restricted, utf8_string, sequence, sequence_of, choice, must, optional, default, Fields, no_fields, field}
 use Rattle.asn_values.specs.Fits.{Fits}
 use Rattle.asn_values.specs.Profile.{InProfile, EmptyRange, good_default, somewhere, empty_range}
-use Rattle.asn_values.specs.Parts.{IsGoodDemand, AreOfProfile}
+use Rattle.asn_values.specs.Parts.{AreOfProfile}
 use Rattle.asn_values.proofs.Parts.{left_false}
 use Rattle.asn_values.proofs.Defaults.{defaults_are_judged}
 use Rattle.asn_rules.specs.Chunks.{Chunk}
 use Rattle.asn_rules.specs.Components.{is_default}
 use Rattle.asn_rules.specs.Parted.{SpellingsPart}
-use Rattle.asn_rules.specs.Languages.{Lawful, Inhabited, Then, Map, Nothing, prepended}
+use Rattle.asn_rules.specs.Languages.{Lawful, Inhabited, Map, prepended}
 use Rattle.asn_rules.specs.Listed.{IsOther, Spelt, Before, Listed}
 use Rattle.asn_rules.proofs.Entries.{default_is}
 use Rattle.asn_rules.proofs.SomeValue.{a_value}

@@ -6,7 +6,7 @@ use Rattle.asn_rules.proofs.Chunks.{FieldsPart, free_not_whole, front_whole, fie
 use Rattle.asn_rules.proofs.Flat.{flat-ones}
 use Rattle.asn_rules.proofs.Lists.{Within, Beyond, cut, not_last, lists_same_or_not, last_of}
 use Rattle.asn_rules.proofs.Then.{one_front}
-use Rattle.asn_rules.specs.Chunks.{Kind, Chunk, sealed, flat, ones, one, field_units}
+use Rattle.asn_rules.specs.Chunks.{Kind, Chunk, sealed, flat, ones, field_units}
 use Rattle.asn_rules.specs.Languages.{AllContents, InField, Passed, IsFront, Spells, NoSpelling, IsLive, Short, Refused, Lawful, Inhabited, Map, Nothing, Plain, Sealed, Whole, SomeContent}
 use Rattle.asn_rules.specs.Live.{Fielding, IsContent}
 use Rattle.asn_rules.specs.Parted.{Parted}

@@ -1,12 +1,12 @@
 -- The number of units behind a refused one tells its place; and in few units each field of a spelling is one
 -- that may stand there.
-use Rattle.std.proofs.Common.{◌≡◌, ◌≤◌, ◌<◌, ◌+◌, ◌-◌, ◌*◌, ◌/◌, ◌⊎◌, inl, inr, ℕ, suc, List, [], ◌∷◌, ◌++◌, length, take, drop, length-append, refl, sym, ◌∙◌, ap, subst, arith, append_assoc}
+use Rattle.std.proofs.Common.{◌≡◌, ◌≤◌, ◌<◌, ◌+◌, ◌-◌, ◌*◌, ◌/◌, ◌⊎◌, inl, inr, ℕ, suc, List, [], ◌∷◌, ◌++◌, length, take, drop, length-append, sym, ◌∙◌, ap, subst, arith, append_assoc}
 use Rattle.std.proofs.lemmas.List.{append-nil, length-take-le, take-append-drop}
 use Rattle.std.proofs.Math.Nat.{div-le_of_le-mul, mul-div_cancel_left}
 use Rattle.std.proofs.Math.Seq.{take-append_seam}
 use Rattle.asn_values.specs.Fits.{max_len}
 use Rattle.asn_rules.specs.Chunks.{Kind, open_field, utf8_field, rest_of, Chunk, one, sealed, field_units, flat}
-use Rattle.asn_rules.specs.Live.{Fielding, IsContent, Bounded, Place}
+use Rattle.asn_rules.specs.Live.{Fielding, IsContent, Place}
 use Rattle.asn_rules.specs.Reading.{IsSealed, AllSealed}
 use Rattle.asn_rules.specs.Languages.{IsLive, Refused, AllContents}
 use Rattle.asn_rules.proofs.Lists.{Within, Beyond, cut, no_length}

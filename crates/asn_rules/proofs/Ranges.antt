@@ -161,7 +161,7 @@ blocks_to : {S T : ℕ → Type 0} → ((n : ℕ) → S n → T n) → (m : ℕ)
 blocks_to f m h = record { some = h.some; most = h.most; rest = h.rest; left = left_to f m h.rest h.left }
 
 set_to : {k : ℕ} {S T : ℕ → Type 0} → ((n : ℕ) → S n → T n) → (n : ℕ) (cs : List Chunk) → Plain (InSet k S) n cs → Plain (InSet k T) n cs
-set_to f n cs h = record { units = h.units; spelt = record { bits = h.spelt.bits; member = f n h.spelt.member }; same = h.same }
+set_to f n cs h = record { units = h.units; spelt = record { digits = h.spelt.digits; member = f n h.spelt.member }; same = h.same }
 
 branch_to : {A V : Type 0} {u : ℕ} {g : A → V} {L M : A → List Chunk → Type 0} → ((a : A) (cs : List Chunk) → L a cs → M a cs) → (v : V) (cs : List Chunk) → Branch u g L v cs → Branch u g M v cs
 branch_to f v cs h = record { value = h.value; rest = h.rest; spelt = f h.value h.rest h.spelt; seen = h.seen; same = h.same }

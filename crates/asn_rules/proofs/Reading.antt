@@ -1,19 +1,19 @@
 -- What a reader of units says of the whole encodings of a type is what the definitions say of its octets.
-use Rattle.std.proofs.Common.{◌≡◌, ◌≤◌, ◌<◌, ◌+◌, ◌-◌, ◌*◌, ◌↔◌, ◌⊎◌, inl, inr, ℕ, List, [], ◌∷◌, ◌++◌, length, take, drop, length-append, refl, sym, ◌∙◌, ap, subst, arith}
+use Rattle.std.proofs.Common.{◌≡◌, ◌≤◌, ◌<◌, ◌+◌, ◌-◌, ◌*◌, ◌↔◌, inl, inr, ℕ, List, [], ◌∷◌, ◌++◌, length, take, drop, length-append, length-drop, ◌≢◌, refl, sym, ◌∙◌, ap, subst, arith}
 use Rattle.std.proofs.lemmas.List.{length-take-le, take-append-drop}
 use Rattle.std.proofs.Math.Nat.{mul-le-mul_left}
+use Rattle.std.proofs.Math.Seq.{take-length}
 use Rattle.asn_values.specs.Datum.{Datum}
 use Rattle.asn_values.specs.Shape.{Shape}
-use Rattle.asn_values.specs.Fits.{Fits, max_len}
+use Rattle.asn_values.specs.Fits.{max_len}
 use Rattle.asn_values.specs.Profile.{InProfile}
-use Rattle.asn_rules.specs.Chunks.{Kind, open_field, utf8_field, rest_of, Chunk, one, sealed, field_units, flat}
-use Rattle.asn_rules.specs.Live.{Fielding, IsContent, Free, Bounded, Front, Live, LiveByChunks, Place}
-use Rattle.asn_rules.specs.Answer.{Ruling, IsEncoding, NoFront, LiveOctets, Answer, Told, done, refused, too_long, more, max_octets}
-use Rattle.asn_rules.specs.Spellings.{SpelledBy}
-use Rattle.asn_rules.specs.Languages.{AllContents, InField, Passed, IsFront, Spells, NoSpelling, IsLive, Short, Refused, Lawful}
+use Rattle.asn_rules.specs.Chunks.{Kind, open_field, utf8_field, rest_of, Chunk, one, sealed, flat}
+use Rattle.asn_rules.specs.Live.{Fielding, IsContent, Free, Bounded, Front, Live, LiveByChunks}
+use Rattle.asn_rules.specs.Answer.{Ruling, IsEncoding, NoFront, LiveOctets, Answer, done, refused, too_long, more, max_octets}
+use Rattle.asn_rules.specs.Languages.{InField, IsFront, Spells, NoSpelling, IsLive, Short, Refused, Lawful, Whole}
 use Rattle.asn_rules.specs.Reading.{IsSealed, AllSealed, Wholes, RulesTell, HasOneReading, ReadingsAnswer}
 use Rattle.asn_rules.proofs.Fronts.{live_iff}
-use Rattle.asn_rules.proofs.Lists.{same_fronts}
+use Rattle.asn_rules.proofs.Lists.{same_fronts, no_length}
 use Rattle.asn_rules.proofs.Chunks.{FieldsPart}
 use Rattle.asn_rules.proofs.Then.{one_front}
 use Rattle.asn_rules.proofs.Answers.{one_refusal, refused_or_done, short_or_done, refused_or_short}
@@ -116,6 +116,33 @@ module _ (r : Ruling) (rules : RulesTell r) (t : Shape) (good : InProfile t) whe
 
       fronts : r.units (take n s) ≡ flat r.fielding.spelled h.chunks
       fronts = same_fronts (r.units (take n s)) (flat r.fielding.spelled h.chunks) (r.units (drop n s)) rest (omega (arith, count, l)) split
+
+  -- octets are an encoding where their units are a spelling with nothing behind it
+  pub content_is : (c : List ℕ) (v : Datum) → length c ≤ max_octets → IsEncoding r t v c ↔ Whole r.fielding (Wholes r t) v (r.units c)
+  content_is c v few = (
+    λ h.
+        let s : Spells r.fielding (Wholes r t) v (r.units c) (r.units (drop (length c) c)) = encoding_spells c v (length c) few (omega arith) (subst (λ o. IsEncoding r t v o) (sym (take-length c)) h) in
+        subst (λ l. Spells r.fielding (Wholes r t) v (r.units c) l) nothing s,
+    λ h. subst (λ o. IsEncoding r t v o) (take-length c) (spells_encoding c v (length c) [] (omega arith) (ap length (sym nothing)) h),
+  )
+    where
+      none : length (drop (length c) c) ≡ 0
+      none = omega (arith, length-drop (length c) c)
+
+      nothing : r.units (drop (length c) c) ≡ []
+      nothing =
+          let count : rules.weight * length (drop (length c) c) ≡ rules.weight * 0 = ap (λ (i : ℕ). rules.weight * i) none in
+          no_length (r.units (drop (length c) c)) (omega (arith, rules.count (drop (length c) c), count))
+
+  -- so a content that is read to more, to a refusal, or to a value with units behind it, is no encoding
+  pub no_content_short : (c : List ℕ) → length c ≤ max_octets → Short r.fielding (Wholes r t) (r.units c) → (a : Datum) → IsEncoding r t a c → ⊥
+  no_content_short c few h a e = h.none a [] ((content_is c a few).0 e)
+
+  pub no_content_refused : (c : List ℕ) (left : ℕ) → length c ≤ max_octets → Refused r.fielding (Wholes r t) (r.units c) left → (a : Datum) → IsEncoding r t a c → ⊥
+  no_content_refused c left few h a e = h.none a [] ((content_is c a few).0 e)
+
+  pub no_content_behind : (c : List ℕ) (v : Datum) (rest : List ℕ) → length c ≤ max_octets → Spells r.fielding (Wholes r t) v (r.units c) rest → rest ≢ [] → (a : Datum) → IsEncoding r t a c → ⊥
+  no_content_behind c v rest few h full a e = full (one_front fields_tell wholes_lawful h ((content_is c a few).0 e)).1
 
   -- ---- answers
 

@@ -1,18 +1,17 @@
 -- Languages whose spellings are given by a function: they are put together as their spellings are.
 use Rattle.std.proofs.Common.{◌≡◌, ◌≢◌, ℕ, zero, suc, ◌^◌, ◌<◌, ◌⊎◌, inl, inr, ⊎_elim, List, [], ◌∷◌, ◌++◌, map, length, refl, sym, ap, ◌∙◌, subst, arith}
 use Rattle.std.specs.List.{AllByRecursion}
-use Rattle.std.specs.Bool.{⊤}
-use Rattle.asn_bits.specs.Numbers.{bits}
+use Rattle.asn_bits.specs.Numbers.{digits, bits}
 use Rattle.asn_bits.specs.Lengths.{joined}
 use Rattle.asn_rules.specs.Chunks.{Kind, Chunk, one, sealed, ones, flat}
 use Rattle.asn_rules.specs.Parted.{Parted}
 use Rattle.asn_rules.specs.Live.{Fielding}
 use Rattle.asn_rules.specs.Languages.{Lawful, Inhabited, Then, Map, Nothing, Row, Plain, Sealed}
-use Rattle.asn_rules.specs.Sets.{InSet}
+use Rattle.asn_rules.specs.Sets.{InDigits, InSet}
 use Rattle.asn_rules.specs.Forks.{Branch, Fork, Same}
 use Rattle.asn_rules.specs.Padding.{Padded}
 use Rattle.asn_rules.specs.Spellings.{SpelledBy, FitsEither, either_code}
-use Rattle.asn_rules.proofs.Bits.{bits_are, bits_only}
+use Rattle.asn_rules.proofs.Digits.{digits_are, digits_only}
 
 -- ---- laws
 
@@ -83,9 +82,13 @@ plain_spelled {f = f} there back = record {
   from = λ v cs h. record { units = f v; spelt = back v h.fits; same = h.same };
 }
 
--- numbers of a set in k bits
+-- numbers of a set in k digits
+pub digits_spelled : (base k : ℕ) (S : ℕ → Type 0) → ((n : ℕ) → S n → n < base ^ k) → Same (Plain (InDigits base k S)) (SpelledBy S (λ n. ones (digits base k n)))
+digits_spelled base k S fit = plain_spelled (λ n us h. (h.member, (digits_only base k n us h.digits).1)) (λ n m. record { digits = digits_are base k n (fit n m); member = m })
+
+-- in k bits
 pub set_spelled : (k : ℕ) (S : ℕ → Type 0) → ((n : ℕ) → S n → n < 2 ^ k) → Same (Plain (InSet k S)) (SpelledBy S (λ n. ones (bits k n)))
-set_spelled k S fit = plain_spelled (λ n us h. (h.member, (bits_only k n us h.bits).1)) (λ n m. record { bits = bits_are k n (fit n m); member = m })
+set_spelled k S fit = digits_spelled 2 k S fit
 
 -- one value, which is spelt by nothing
 pub nothing_spelled : {A : Type 0} (a : A) → Same (Nothing a) (SpelledBy (λ b. b ≡ a) (λ b. []))

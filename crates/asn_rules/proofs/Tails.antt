@@ -1,7 +1,6 @@
 -- What is left of sealed fields that have begun.
-use Rattle.std.proofs.Common.{◌≡◌, ◌≢◌, ℕ, ◌⊎◌, inl, inr, List, [], ◌∷◌, ◌++◌, length, drop, refl, sym, ap, ◌∙◌, subst, append_assoc, ◌<◌, arith}
+use Rattle.std.proofs.Common.{◌≡◌, ◌≢◌, ℕ, ◌⊎◌, inl, inr, List, [], ◌∷◌, ◌++◌, length, drop, refl, sym, ap, ◌∙◌, subst, append_assoc}
 use Rattle.std.specs.Bool.{⊤}
-use Rattle.std.specs.List.{AllByRecursion}
 use Rattle.std.proofs.lemmas.List.{append-nil, append_cancel_left}
 use Rattle.std.proofs.Math.Seq.{drop-append_seam}
 use Rattle.asn_rules.proofs.Carries.{carries_plain}
@@ -10,7 +9,7 @@ use Rattle.asn_rules.proofs.Forks.{carries_left}
 use Rattle.asn_rules.proofs.Frames.{free_frame}
 use Rattle.asn_rules.proofs.Lists.{Within, Beyond, cut}
 use Rattle.asn_rules.proofs.Parts.{sealed_spells}
-use Rattle.asn_rules.specs.Chunks.{Kind, open_field, utf8_field, rest_of, Chunk, sealed, flat, one, field_units}
+use Rattle.asn_rules.specs.Chunks.{Kind, rest_of, Chunk, sealed, flat, field_units}
 use Rattle.asn_rules.specs.Forks.{Same}
 use Rattle.asn_rules.specs.Frames.{IsField, Frame}
 use Rattle.asn_rules.specs.Languages.{InField, Passed, IsFront, Spells, Plain, Sealed, Carries}

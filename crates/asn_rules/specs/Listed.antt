@@ -1,7 +1,7 @@
 -- The components of a SEQUENCE as a language: what their spellings are once the presence bitmap is known.
 use Rattle.std.specs.Prelude.{◌≡◌, ℕ, zero, suc, false, List, [], ◌∷◌, Option, Some, None, ⊤}
 use Rattle.asn_values.specs.Datum.{Datum}
-use Rattle.asn_values.specs.Shape.{Shape, Demand, must, optional, default, Fields, no_fields, field}
+use Rattle.asn_values.specs.Shape.{Shape, must, optional, default, Fields, no_fields, field}
 use Rattle.asn_values.specs.Fits.{Fits}
 use Rattle.asn_rules.specs.Chunks.{Chunk}
 use Rattle.asn_rules.specs.Components.{is_default}

@@ -1,107 +1,77 @@
--- Bits filled up to whole octets and packed: the octets give the bits back.
-use Rattle.std.proofs.Common.{◌≡◌, ◌<◌, ◌+◌, ◌-◌, ◌*◌, ◌/◌, ◌%◌, ℕ, zero, suc, List, [], ◌∷◌, ◌++◌, length, replicate, refl, sym, ◌∙◌, ap, arith, length-append}
-use Rattle.std.proofs.lemmas.List.{length-replicate}
-use Rattle.std.specs.List.{AllByRecursion}
-use Rattle.asn_bits.specs.Numbers.{bits, padding, packed, unpacked}
-use Rattle.asn_bits.proofs.Codes.{equal_fronts}
-use Rattle.asn_bits.proofs.Octets.{packed_octets}
+-- Octets and the fewer than eight bits behind them, as a sink holds them.
+use Rattle.std.proofs.Common.{◌≡◌, ◌≤◌, ◌<◌, ◌+◌, ◌*◌, ◌-◌, ◌/◌, ◌%◌, ◌^◌, ℕ, zero, suc, List, [], ◌∷◌, ◌++◌, length, get_or, replicate, refl, sym, ◌∙◌, ap, arith, length-append, take, drop}
+use Rattle.std.proofs.lemmas.List.{append-nil}
+use Rattle.std.proofs.lemmas.Nat.{shr-shr}
+use Rattle.std.proofs.Math.Nat.{zero-div}
+use Rattle.std.proofs.Math.Pow.{mod-mod-pow}
+use Rattle.asn_bits.specs.Numbers.{bits, octets, unpacked, packed, padding}
+use Rattle.asn_bits.proofs.Octets.{length-digits}
+use Rattle.asn_bits.proofs.Splits.{length-unpacked, digits-add, digits-mod, appended}
 
-abbrev pub AreBits : List ℕ → Type 0
-AreBits us = AllByRecursion (λ u. u < 2) us
+pub length-unpacked_bits : (os : List ℕ) (c p : ℕ) → length (unpacked os ++ bits c p) ≡ 8 * length os + c
+length-unpacked_bits os c p = omega (arith, length-append (unpacked os) (bits c p), length-unpacked os, length-digits 2 c p)
 
--- ---- lists of bits
+-- where the bits fill octets, none waits
+pub none_waits : (os : List ℕ) (c p : ℕ) → c < 8 → length (unpacked os ++ bits c p) % 8 ≡ 0 → c ≡ 0
+none_waits os c p h e = omega (arith, length-unpacked_bits os c p)
 
-pub bits_append : (xs ys : List ℕ) → AreBits xs → AreBits ys → AreBits (xs ++ ys)
-bits_append [] ys p q = q
-bits_append (x ∷ xs) ys p q = (p.0, bits_append xs ys p.1 q)
+pub unpacked_whole : (os : List ℕ) (c p : ℕ) → c ≡ 0 → unpacked os ++ bits c p ≡ unpacked os
+unpacked_whole os c p e = ap (λ i. unpacked os ++ bits i p) e ∙ append-nil (unpacked os)
 
-zeros : (n : ℕ) → AreBits (replicate n 0)
-zeros zero = tt
-zeros (suc n) = (omega arith, zeros n)
+-- eight bits give back their octet
+octet_of : (o : ℕ) → o < 256 → 128 * (o / 2 ^ 7 % 2) + 64 * (o / 2 ^ 6 % 2) + 32 * (o / 2 ^ 5 % 2) + 16 * (o / 2 ^ 4 % 2) + 8 * (o / 2 ^ 3 % 2) + 4 * (o / 2 ^ 2 % 2) + 2 * (o / 2 ^ 1 % 2) + o / 2 ^ 0 % 2 ≡ o
+octet_of o h = omega arith
 
-pub padding_bits : (n : ℕ) → AreBits (padding n)
-padding_bits n = zeros ((8 - n % 8) % 8)
+pub packed-unpacked : (os : List ℕ) → ((i d : ℕ) → i < length os → get_or os i d < 256) → packed (unpacked os) ≡ os
+packed-unpacked [] h = refl
+packed-unpacked (o ∷ os) h =
+    let first : o < 256 = h 0 0 (omega arith) in
+    let rest = packed-unpacked os (λ i d l. h (suc i) d (omega arith)) in
+    let one = octet_of o first in
+    cc
 
-pub length-padding : (n : ℕ) → length (padding n) ≡ (8 - n % 8) % 8
-length-padding n = length-replicate ((8 - n % 8) % 8) 0
+pub packed_view : (os : List ℕ) (c p : ℕ) → ((i d : ℕ) → i < length os → get_or os i d < 256) → c ≡ 0 → packed (unpacked os ++ bits c p) ≡ os
+packed_view os c p h e = ap packed (unpacked_whole os c p e) ∙ packed-unpacked os h
 
--- ---- whole octets
+-- no bits are no octets and none that waits
+pub empty_view : (os : List ℕ) (c p : ℕ) → unpacked os ++ bits c p ≡ [] → (length os ≡ 0) × (c ≡ 0)
+empty_view os c p e =
+    let l = ap length e in
+    (omega (arith, length-unpacked_bits os c p, l), omega (arith, length-unpacked_bits os c p, l))
 
-octet_of : (a b c d e f g h : ℕ) → a < 2 → b < 2 → c < 2 → d < 2 → e < 2 → f < 2 → g < 2 → h < 2
-    → bits 8 (128 * a + 64 * b + 32 * c + 16 * d + 8 * e + 4 * f + 2 * g + h) ≡ a ∷ b ∷ c ∷ d ∷ e ∷ f ∷ g ∷ h ∷ []
-octet_of a b c d e f g h pa pb pc pd pe pf pg ph =
-    let n = 128 * a + 64 * b + 32 * c + 16 * d + 8 * e + 4 * f + 2 * g + h in
-    let qa : (n / 128) % 2 ≡ a = omega arith in
-    let qb : (n / 64) % 2 ≡ b = omega arith in
-    let qc : (n / 32) % 2 ≡ c = omega arith in
-    let qd : (n / 16) % 2 ≡ d = omega arith in
-    let qe : (n / 8) % 2 ≡ e = omega arith in
-    let qf : (n / 4) % 2 ≡ f = omega arith in
-    let qg : (n / 2) % 2 ≡ g = omega arith in
-    let qh : (n / 1) % 2 ≡ h = omega arith in
-    cc (qa, qb, qc, qd, qe, qf, qg, qh)
+pub view_empty : (os : List ℕ) (c p : ℕ) → length os ≡ 0 → c ≡ 0 → unpacked os ++ bits c p ≡ []
+view_empty [] c p l e = ap (λ i. bits i p) e
+view_empty (o ∷ os) c p l e = absurd (omega arith)
 
--- bits that fill octets come back
-pub unpacked-packed : (us : List ℕ) → AreBits us → length us % 8 ≡ 0 → unpacked (packed us) ≡ us
-unpacked-packed (a ∷ b ∷ c ∷ d ∷ e ∷ f ∷ g ∷ h ∷ rest) p l =
-    let again = unpacked-packed rest p.1.1.1.1.1.1.1.1 (omega arith) in
-    let here = octet_of a b c d e f g h p.0 p.1.0 p.1.1.0 p.1.1.1.0 p.1.1.1.1.0 p.1.1.1.1.1.0 p.1.1.1.1.1.1.0 p.1.1.1.1.1.1.1.0 in
-    cc (here, again)
-unpacked-packed [] p l = refl
-unpacked-packed (a ∷ []) p l = absurd (omega arith)
-unpacked-packed (a ∷ b ∷ []) p l = absurd (omega arith)
-unpacked-packed (a ∷ b ∷ c ∷ []) p l = absurd (omega arith)
-unpacked-packed (a ∷ b ∷ c ∷ d ∷ []) p l = absurd (omega arith)
-unpacked-packed (a ∷ b ∷ c ∷ d ∷ e ∷ []) p l = absurd (omega arith)
-unpacked-packed (a ∷ b ∷ c ∷ d ∷ e ∷ f ∷ []) p l = absurd (omega arith)
-unpacked-packed (a ∷ b ∷ c ∷ d ∷ e ∷ f ∷ g ∷ []) p l = absurd (omega arith)
+-- zeros are the bits of 0
+pub bits_zero : (k : ℕ) → bits k 0 ≡ replicate k 0
+bits_zero zero = refl
+bits_zero (suc k) = let z : 0 / 2 ^ k % 2 ≡ 0 = ap (λ t. t % 2) (zero-div (2 ^ k)) in let rest = bits_zero k in cc
 
--- an octet for each eight bits
-pub length-packed : (us : List ℕ) → length us % 8 ≡ 0 → 8 * length (packed us) ≡ length us
-length-packed (a ∷ b ∷ c ∷ d ∷ e ∷ f ∷ g ∷ h ∷ rest) l = let again = length-packed rest (omega arith) in omega arith
-length-packed [] l = refl
-length-packed (a ∷ []) l = absurd (omega arith)
-length-packed (a ∷ b ∷ []) l = absurd (omega arith)
-length-packed (a ∷ b ∷ c ∷ []) l = absurd (omega arith)
-length-packed (a ∷ b ∷ c ∷ d ∷ []) l = absurd (omega arith)
-length-packed (a ∷ b ∷ c ∷ d ∷ e ∷ []) l = absurd (omega arith)
-length-packed (a ∷ b ∷ c ∷ d ∷ e ∷ f ∷ []) l = absurd (omega arith)
-length-packed (a ∷ b ∷ c ∷ d ∷ e ∷ f ∷ g ∷ []) l = absurd (omega arith)
+-- the padding of c bits behind octets
+pub padding_view : (os : List ℕ) (c p : ℕ) → c < 8 → padding (length (unpacked os ++ bits c p)) ≡ bits ((8 - c) % 8) 0
+padding_view os c p h =
+    let e : (8 - length (unpacked os ++ bits c p) % 8) % 8 ≡ (8 - c) % 8 = omega (arith, length-unpacked_bits os c p) in
+    let f : padding (length (unpacked os ++ bits c p)) ≡ replicate ((8 - c) % 8) 0 = ap (λ k. replicate k 0) e in
+    f ∙ sym (bits_zero ((8 - c) % 8))
 
--- as many of them are a code
-pub packed_code : (us ws r s : List ℕ) → AreBits us → AreBits ws → length us ≡ length ws → length us % 8 ≡ 0 → packed us ++ r ≡ packed ws ++ s → (us ≡ ws) × (r ≡ s)
-packed_code us ws r s p q l m e =
-    let n : length ws % 8 ≡ 0 = omega arith in
-    let w = equal_fronts (packed us) (packed ws) r s (omega (arith, length-packed us m, length-packed ws n)) e in
-    (sym (unpacked-packed us p m) ∙ ap unpacked w.0 ∙ unpacked-packed ws q n, w.1)
+-- what an octet's worth of a number keeps of its last bits
+bits_low : (l n : ℕ) → l < 8 → bits l (n % 256) ≡ bits l n
+bits_low l n h =
+    let eight : 8 - l + l ≡ 8 = omega arith in
+    let e : 2 ^ (8 - l + l) ≡ 256 = ap (λ i. 2 ^ i) eight in
+    let f : n % 256 % 2 ^ l ≡ n % 2 ^ l = ap (λ t. n % t % 2 ^ l) (sym e) ∙ mod-mod-pow n (8 - l) l in
+    sym (digits-mod 2 (omega arith) l (n % 256)) ∙ ap (bits l) f ∙ digits-mod 2 (omega arith) l n
 
--- ---- bits filled up with zeros
+-- one octet more of those of a number
+pub octets_more : (i b n : ℕ) → octets (i + 1) (n / 2 ^ b) ≡ octets i (n / 2 ^ (b + 8)) ++ n / 2 ^ b % 256 ∷ []
+octets_more i b n =
+    let one : octets 1 (n / 2 ^ b) ≡ n / 2 ^ b % 256 ∷ [] = ap (λ t. t ∷ []) (omega arith) in
+    digits-add 256 i 1 (n / 2 ^ b) ∙ ap (λ t. octets i t ++ octets 1 (n / 2 ^ b)) (shr-shr n b 8) ∙ ap (λ t. octets i (n / 2 ^ (b + 8)) ++ t) one
 
--- bits and the zeros that fill up their last octet
-abbrev pub filled_up : List ℕ → List ℕ
-filled_up bs = bs ++ padding (length bs)
-
-pub filled_up_bits : (bs : List ℕ) → AreBits bs → AreBits (filled_up bs)
-filled_up_bits bs h = bits_append bs (padding (length bs)) h (padding_bits (length bs))
-
-pub filled_up_fills : (bs : List ℕ) → length (filled_up bs) % 8 ≡ 0
-filled_up_fills bs = omega (arith, length-append bs (padding (length bs)), length-padding (length bs))
-
-pub filled_up_octets : (bs : List ℕ) → AreBits bs → AllByRecursion (λ o. o < 256) (packed (filled_up bs))
-filled_up_octets bs h = packed_octets (filled_up bs) (filled_up_bits bs h)
-
--- as many bits are a code
-pub filled_up_code : (bs cs r s : List ℕ) → AreBits bs → AreBits cs → length bs ≡ length cs → packed (filled_up bs) ++ r ≡ packed (filled_up cs) ++ s → (bs ≡ cs) × (r ≡ s)
-filled_up_code bs cs r s p q l e =
-    let same : length (filled_up bs) ≡ length (filled_up cs) =
-    omega (arith, length-append bs (padding (length bs)), length-append cs (padding (length cs)), length-padding (length bs), length-padding (length cs)) in
-    let w = packed_code (filled_up bs) (filled_up cs) r s (filled_up_bits bs p) (filled_up_bits cs q) same (filled_up_fills bs) e in
-    ((equal_fronts bs cs (padding (length bs)) (padding (length cs)) l w.0).0, w.1)
-
--- and so are bits of which the number of unused ones is known
-pub filled_up_once : (bs cs : List ℕ) → AreBits bs → AreBits cs → length (padding (length bs)) ≡ length (padding (length cs)) → packed (filled_up bs) ≡ packed (filled_up cs) → bs ≡ cs
-filled_up_once bs cs p q l e =
-    let many : length (packed (filled_up bs)) ≡ length (packed (filled_up cs)) = ap length e in
-    let same : length bs ≡ length cs =
-    omega (arith, length-packed (filled_up bs) (filled_up_fills bs), length-packed (filled_up cs) (filled_up_fills cs), length-append bs (padding (length bs)), length-append cs (padding (length cs))) in
-    (filled_up_code bs cs [] [] p q same (ap (λ t. t ++ []) e)).0
+-- what a sink holds once n stands in k bits behind the c bits that waited: w octets more, and l bits wait
+pub appended_view : (os new : List ℕ) (c p k n w l j low : ℕ) → n < 2 ^ k → 8 * w + l ≡ c + k → l < 8 → j ≡ p * 2 ^ k + n → low ≡ j % 256
+    → new ≡ os ++ octets w (j / 2 ^ l) → unpacked new ++ bits l low ≡ (unpacked os ++ bits c p) ++ bits k n
+appended_view os new c p k n w l j low h e less i m g =
+    ap (λ t. unpacked t ++ bits l low) g ∙ ap (λ t. unpacked (os ++ octets w (j / 2 ^ l)) ++ t) (ap (bits l) m ∙ bits_low l j less)
+    ∙ appended os c p k n w l j h e i

@@ -1,2 +1,11 @@
 //! Numbers and lengths as bits and octets: what the encoding rules share.
 #![tactic(auto)]
+
+pub mod cursor;
+pub mod lengths;
+pub mod numbers;
+pub mod offsets;
+pub mod sink;
+
+pub use cursor::BitCursor;
+pub use sink::BitSink;

@@ -14,15 +14,16 @@ use Rattle.asn_oer.proofs.Leaves.{magnitude_once, counted_code, counted_signed_c
 
 -- ---- from zero on
 
-unsigned_cases : (u : ℤ) → ((k : ℕ) × (unsigned_octets u ≡ Some k) × (int_lt u (pos (256 ^ k)) ≡ true)) ⊎ (unsigned_octets u ≡ None)
+-- a fixed number of octets, of 8 at most, that holds the high bound, or none
+pub unsigned_cases : (u : ℤ) → ((k : ℕ) × (unsigned_octets u ≡ Some k) × (int_lt u (pos (256 ^ k)) ≡ true) × (k ≤ 8)) ⊎ (unsigned_octets u ≡ None)
 unsigned_cases u = go (int_lt u (pos (2 ^ 8))) (int_lt u (pos (2 ^ 16))) (int_lt u (pos (2 ^ 32))) (int_lt u (pos (2 ^ 64))) refl refl refl refl
   where
     go : (a b c d : Bool) → int_lt u (pos (2 ^ 8)) ≡ a → int_lt u (pos (2 ^ 16)) ≡ b → int_lt u (pos (2 ^ 32)) ≡ c → int_lt u (pos (2 ^ 64)) ≡ d
-        → ((k : ℕ) × (unsigned_octets u ≡ Some k) × (int_lt u (pos (256 ^ k)) ≡ true)) ⊎ (unsigned_octets u ≡ None)
-    go true b c d ea eb ec ed = inl (1, rw (ea, unsigned_octets) refl, ea)
-    go false true c d ea eb ec ed = inl (2, rw (ea, eb, unsigned_octets) refl, eb)
-    go false false true d ea eb ec ed = inl (4, rw (ea, eb, ec, unsigned_octets) refl, ec)
-    go false false false true ea eb ec ed = inl (8, rw (ea, eb, ec, ed, unsigned_octets) refl, ed)
+        → ((k : ℕ) × (unsigned_octets u ≡ Some k) × (int_lt u (pos (256 ^ k)) ≡ true) × (k ≤ 8)) ⊎ (unsigned_octets u ≡ None)
+    go true b c d ea eb ec ed = inl (1, rw (ea, unsigned_octets) refl, ea, omega arith)
+    go false true c d ea eb ec ed = inl (2, rw (ea, eb, unsigned_octets) refl, eb, omega arith)
+    go false false true d ea eb ec ed = inl (4, rw (ea, eb, ec, unsigned_octets) refl, ec, omega arith)
+    go false false false true ea eb ec ed = inl (8, rw (ea, eb, ec, ed, unsigned_octets) refl, ed, omega arith)
     go false false false false ea eb ec ed = inr (rw (ea, eb, ec, ed, unsigned_octets) refl)
 
 below_bound : (u y : ℤ) (n : ℕ) → int_le (pos 0) y ≡ true → int_le y u ≡ true → int_lt u (pos n) ≡ true → magnitude_of y < n
@@ -43,15 +44,16 @@ unsigned_code u y z r s p q a b e =
 
 -- ---- from below zero on
 
-signed_cases : (l u : ℤ) → ((k : ℕ) × (1 ≤ k) × (signed_size l u ≡ Some k) × (both_in k l u ≡ true)) ⊎ (signed_size l u ≡ None)
+-- the same of both bounds, in two's complement
+pub signed_cases : (l u : ℤ) → ((k : ℕ) × (1 ≤ k) × (signed_size l u ≡ Some k) × (both_in k l u ≡ true) × (k ≤ 8)) ⊎ (signed_size l u ≡ None)
 signed_cases l u = go (both_in 1 l u) (both_in 2 l u) (both_in 4 l u) (both_in 8 l u) refl refl refl refl
   where
     go : (a b c d : Bool) → both_in 1 l u ≡ a → both_in 2 l u ≡ b → both_in 4 l u ≡ c → both_in 8 l u ≡ d
-        → ((k : ℕ) × (1 ≤ k) × (signed_size l u ≡ Some k) × (both_in k l u ≡ true)) ⊎ (signed_size l u ≡ None)
-    go true b c d ea eb ec ed = inl (1, omega arith, rw (ea, signed_size) refl, ea)
-    go false true c d ea eb ec ed = inl (2, omega arith, rw (ea, eb, signed_size) refl, eb)
-    go false false true d ea eb ec ed = inl (4, omega arith, rw (ea, eb, ec, signed_size) refl, ec)
-    go false false false true ea eb ec ed = inl (8, omega arith, rw (ea, eb, ec, ed, signed_size) refl, ed)
+        → ((k : ℕ) × (1 ≤ k) × (signed_size l u ≡ Some k) × (both_in k l u ≡ true) × (k ≤ 8)) ⊎ (signed_size l u ≡ None)
+    go true b c d ea eb ec ed = inl (1, omega arith, rw (ea, signed_size) refl, ea, omega arith)
+    go false true c d ea eb ec ed = inl (2, omega arith, rw (ea, eb, signed_size) refl, eb, omega arith)
+    go false false true d ea eb ec ed = inl (4, omega arith, rw (ea, eb, ec, signed_size) refl, ec, omega arith)
+    go false false false true ea eb ec ed = inl (8, omega arith, rw (ea, eb, ec, ed, signed_size) refl, ed, omega arith)
     go false false false false ea eb ec ed = inr (rw (ea, eb, ec, ed, signed_size) refl)
 
 in_bound : (l u y : ℤ) (n : ℕ) → 0 < n → int_le (negsuc (n - 1)) l ≡ true → int_lt u (pos n) ≡ true → int_le l y ≡ true → int_le y u ≡ true → magnitude y < n

@@ -1,4 +1,11 @@
-pub mod Lengths
-pub mod Leaves
+pub mod GoodTypes
 pub mod Integers
+pub mod Leaves
+pub mod Lengths
+pub mod LiveParts
+pub mod Spellings
+pub mod Spelt
+pub mod SpeltLeaves
+pub mod SpeltTypes
 pub mod Strings
+pub mod Whole

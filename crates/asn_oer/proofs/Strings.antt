@@ -1,16 +1,15 @@
 -- Strings in OER: bits, octets and characters, of a fixed size or with their length, tell the value.
-use Rattle.std.proofs.Common.{◌≡◌, ◌≤◌, ◌<◌, ◌==◌, ℕ, Bool, true, false, not, ◌&&◌, ◌||◌, List, [], ◌∷◌, ◌++◌, length, map, Option, Some, None, refl, sym, ◌∙◌, ap, subst, arith, IsTrue, nat_le}
-use Rattle.std.proofs.lemmas.Bool.{true≢false, leb-true, eqb-true, and_parts, not-true}
+use Rattle.std.proofs.Common.{◌≡◌, ◌==◌, ℕ, Bool, true, false, not, ◌&&◌, ◌||◌, List, [], ◌∷◌, ◌++◌, length, map, Option, Some, None, refl, sym, ◌∙◌, arith, IsTrue, nat_le}
+use Rattle.std.proofs.lemmas.Bool.{true≢false, leb-true, eqb-true, and_parts}
 use Rattle.std.proofs.lemmas.List.{length-map}
-use Rattle.std.specs.List.{AllByRecursion}
 use Rattle.asn_values.specs.Shape.{SizeRange}
-use Rattle.asn_values.specs.Fits.{FitsLength, in_size, not_above}
+use Rattle.asn_values.specs.Fits.{FitsLength, not_above}
 use Rattle.asn_values.specs.Profile.{is_fixed_size}
 use Rattle.asn_bits.specs.Numbers.{padding}
 use Rattle.asn_bits.proofs.Codes.{IsCode, equal_fronts}
-use Rattle.asn_bits.proofs.Packing.{AreBits, filled_up_code, filled_up_once}
+use Rattle.asn_bits.proofs.FilledBits.{AreBits, filled_up_code, filled_up_once}
 use Rattle.asn_rules.specs.Components.{bit_of}
-use Rattle.asn_rules.proofs.Entries.{bit_of_same}
+use Rattle.asn_rules.proofs.Entries.{bit_of_same, bit_of_is}
 use Rattle.asn_oer.specs.Oer.{spelled, filled_bits, variable_bits, bit_octets, sized_octets}
 use Rattle.asn_oer.proofs.Lengths.{spelled_code}
 
@@ -46,13 +45,9 @@ sized_code z x y r s p q e = go (is_fixed_size z) refl e
 
 -- ---- bits
 
-pub bit_is : (b : Bool) → bit_of b < 2
-bit_is true = omega arith
-bit_is false = omega arith
-
 pub list_bits : (bs : List Bool) → AreBits (map bit_of bs)
 list_bits [] = tt
-list_bits (b ∷ bs) = (bit_is b, list_bits bs)
+list_bits (b ∷ bs) = (bit_of_is b, list_bits bs)
 
 map_bits_same : (x y : List Bool) → map bit_of x ≡ map bit_of y → x ≡ y
 map_bits_same [] [] e = refl

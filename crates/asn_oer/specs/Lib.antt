@@ -1,3 +1,6 @@
 pub mod Oer
 pub mod Rules
-pub mod Rows
+pub mod NumberVectors
+pub mod StringVectors
+pub mod ListVectors
+pub mod FieldVectors

@@ -1,2 +1,6 @@
 //! Canonical OER (X.696).
 #![tactic(auto)]
+
+mod laws;
+
+pub use laws::{answers_exclude, encoding_laws, live_by_parts, live_is_closed, spellings_tell};

@@ -12,7 +12,7 @@ use Rattle.asn_rules.specs.Chunks.{Chunk, ones, flat}
 use Rattle.asn_rules.specs.Components.{bit_of, presence, is_spelled, if_spelled, any_present}
 use Rattle.asn_rules.proofs.Flat.{flat-append, flat-ones}
 use Rattle.asn_per.specs.Per.{spelled, per, per_each}
-use Rattle.asn_per.specs.Laws.{per_bits}
+use Rattle.asn_per.specs.Laws.{per_bits, component_bits}
 
 -- ---- simple types
 
@@ -50,10 +50,6 @@ entries_count no_fields [] h = refl
 entries_count no_fields (e ∷ es) h = absurd h
 entries_count (field name demand t fs) [] h = absurd h
 entries_count (field name demand t fs) (e ∷ es) h = ap suc (entries_count fs es h.1)
-
--- the bits of the components that are spelt
-abbrev pub component_bits : Fields → List (Option Datum) → List ℕ
-component_bits fs es = flat spelled (per_each fs es)
 
 pub bits_of_sequence : (fs : Fields) (es : List (Option Datum)) → FitsEach fs es
     → per_bits (sequence fs closed) (components (components_of es)) ≡ presence (demands fs) es ++ component_bits fs es

@@ -1,4 +1,7 @@
 pub mod Per
 pub mod Rules
 pub mod Laws
-pub mod Rows
+pub mod NumberVectors
+pub mod StringVectors
+pub mod ListVectors
+pub mod FieldVectors

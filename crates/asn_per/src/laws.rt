@@ -1,6 +1,6 @@
 //! The laws of CANONICAL-PER UNALIGNED, for every type of the profile.
 
-ghost use Rattle.asn_rules.specs.Laws.{EachHasAValue, UnitsTellTheValue, OneValue, NoneBegins, RulesLaws, LiveIsClosed, LiveByParts, OneAnswer};
+ghost use Rattle.asn_rules.specs.Laws.{EachHasAValue, EncodesAs, UnitsTellTheValue, OneValue, NoneBegins, RulesLaws, LiveIsClosed, LiveByParts, OneAnswer};
 ghost use Rattle.asn_rules.specs.Parted.{SpellingsPart};
 ghost use Rattle.asn_per.specs.Per.{per, per_fields, per_octets, per_whole};
 ghost use Rattle.asn_per.specs.Rules.{per_ruling};
@@ -19,9 +19,10 @@ pub fn spellings_tell()
 {}
 
 /// PER keeps the laws of encoding rules: an encoding has one value, a value that fits has one
-/// encoding, and no encoding begins another.
+/// encoding, and no encoding begins another. The encoding of a value is `per_octets` of it.
 pub fn encoding_laws()
-    ensures { RulesLaws per_ruling }
+    ensures laws { RulesLaws per_ruling }
+    ensures octets { EncodesAs per_ruling per_octets }
 {}
 
 /// Each type of the profile has a value, and `no_bits` says exactly which types have only values

@@ -1,6 +1,10 @@
 //! CANONICAL-PER UNALIGNED (X.691): encoding and decoding of whole messages.
 #![tactic(auto)]
 
+mod encoder;
 mod laws;
 
-pub use laws::{answers_exclude, encoding_laws, live_by_parts, live_is_closed, spellings_tell, values_and_bits};
+pub use encoder::encode;
+pub use laws::{
+    answers_exclude, encoding_laws, live_by_parts, live_is_closed, spellings_tell, values_and_bits,
+};

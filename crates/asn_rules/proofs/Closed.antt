@@ -1,13 +1,13 @@
 -- What an encoding may follow, it may follow each beginning of.
-use Rattle.std.proofs.Common.{◌≡◌, ◌≤◌, ◌<◌, ◌+◌, ◌-◌, ◌⊎◌, ℕ, List, [], ◌∷◌, ◌++◌, length, take, drop, inl, inr, refl, sym, ◌∙◌, ap, subst, arith, append_assoc, length-append}
+use Rattle.std.proofs.Common.{◌≡◌, ◌≤◌, ◌+◌, ◌-◌, ◌⊎◌, ℕ, List, [], ◌∷◌, ◌++◌, length, take, drop, inl, inr, sym, ◌∙◌, ap, subst, arith, append_assoc, length-append}
 use Rattle.std.proofs.lemmas.Bool.{cases_lt}
 use Rattle.std.proofs.lemmas.List.{append-nil, take-append-drop, take-append-le, drop-append-le}
 use Rattle.std.proofs.Math.Seq.{take-append-add}
 use Rattle.std.specs.List.{AllByRecursion}
 use Rattle.asn_values.specs.Datum.{Datum}
 use Rattle.asn_values.specs.Shape.{Shape}
-use Rattle.asn_rules.specs.Chunks.{Kind, Chunk, one, sealed, field_units, flat, SealedField, fields_from}
-use Rattle.asn_rules.specs.Live.{Begins, BeginsProperly, SomeWithEarlier, Fielding, Free, Bounded, BoundedBefore, Inside, GoesOn}
+use Rattle.asn_rules.specs.Chunks.{Chunk, one, sealed, field_units, flat, SealedField, fields_from}
+use Rattle.asn_rules.specs.Live.{Begins, BeginsProperly, SomeWithEarlier, Fielding, Bounded, BoundedBefore, Inside, GoesOn}
 use Rattle.asn_rules.specs.Laws.{LiveIsClosed}
 use Rattle.asn_rules.proofs.Fronts.{none_before}
 
@@ -51,6 +51,7 @@ module _ (r : Fielding) where
         | inr w ↦ inr (w.0, ((λ a. bounded), w.1))
       ]
 
+  -- the units and fields of one value
   goes_on_earlier : (cs : List Chunk) (x y : List ℕ) → GoesOn r cs (x ++ y) → GoesOn r cs x
   goes_on_earlier cs x y (inl (b, all)) =
       inl ((y ++ b.0, b.1 ∙ append_assoc x y b.0), bounded_earlier (length (x ++ y)) (length x) (fields_from r.spelled 0 cs) (omega (arith, length-append x y)) all)

@@ -1,10 +1,11 @@
 -- The entries of a SEQUENCE: what its presence bits say, and its components one after the other.
-use Rattle.std.proofs.Common.{◌≡◌, ℕ, suc, ℤ, pos, negsuc, Bool, true, false, not, List, [], ◌∷◌, ◌++◌, length, Option, Some, None, refl, sym, ◌∙◌, ap, arith, append_assoc, IsTrue}
+use Rattle.std.proofs.Common.{◌≡◌, ◌≤◌, ◌<◌, ℕ, suc, ℤ, pos, negsuc, Bool, true, false, not, List, [], ◌∷◌, ◌++◌, length, Option, Some, None, refl, sym, ◌∙◌, ap, arith, append_assoc, IsTrue}
 use Rattle.std.proofs.lemmas.Bool.{true≢false, leb-true, eqb-true, and_parts}
 use Rattle.std.specs.Int.RustNames.{int_le}
 use Rattle.asn_values.specs.Datum.{Datum, truth, number, item, components, elements, Elements, no_elements, element, Components, no_components, absent, present, component_list, element_list, elements_of, components_of}
 use Rattle.asn_values.specs.Shape.{Demand, must, optional, default, Fields, no_fields, field, demands}
 use Rattle.asn_values.specs.Fits.{FitsEach, FitsDemand}
+use Rattle.asn_bits.proofs.FilledBits.{AreBits, bits_append}
 use Rattle.asn_rules.specs.Chunks.{Chunk}
 use Rattle.asn_rules.specs.Components.{bit_of, is_spelled, is_default, presence, if_spelled, any_present, extension_bit}
 use Rattle.asn_rules.proofs.Facing.{Facing, IsFacing}
@@ -103,6 +104,47 @@ front_code m a b ds es gs r s p q e =
     same_bit false h = refl
     same_bit true h = ap (λ c. bit_of c ∷ []) (h refl)
 
+-- ---- what these bits are, and how many
+
+pub bit_of_is : (b : Bool) → bit_of b < 2
+bit_of_is true = omega arith
+bit_of_is false = omega arith
+
+pub presence_bits : (ds : List Demand) (es : List (Option Datum)) → AreBits (presence ds es)
+presence_bits [] es = tt
+presence_bits (must ∷ ds) [] = tt
+presence_bits (optional ∷ ds) [] = tt
+presence_bits (default d ∷ ds) [] = tt
+presence_bits (must ∷ ds) (e ∷ es) = presence_bits ds es
+presence_bits (optional ∷ ds) (e ∷ es) = (bit_of_is (is_spelled optional e), presence_bits ds es)
+presence_bits (default d ∷ ds) (e ∷ es) = (bit_of_is (is_spelled (default d) e), presence_bits ds es)
+
+pub extension_bits : (m e : Bool) → AreBits (extension_bit m e)
+extension_bits false e = tt
+extension_bits true e = (bit_of_is e, tt)
+
+-- those in front of a SEQUENCE
+pub front_bits : (m e : Bool) (ds : List Demand) (es : List (Option Datum)) → AreBits (extension_bit m e ++ presence ds es)
+front_bits m e ds es = bits_append (extension_bit m e) (presence ds es) (extension_bits m e) (presence_bits ds es)
+
+pub length-extension_bit : (m a b : Bool) → length (extension_bit m a) ≡ length (extension_bit m b)
+length-extension_bit false a b = refl
+length-extension_bit true a b = refl
+
+-- no more presence bits than components
+pub few_presence : (ds : List Demand) (es : List (Option Datum)) → length (presence ds es) ≤ length ds
+few_presence [] es = omega arith
+few_presence (must ∷ ds) [] = omega arith
+few_presence (optional ∷ ds) [] = omega arith
+few_presence (default d ∷ ds) [] = omega arith
+few_presence (must ∷ ds) (e ∷ es) = let h = few_presence ds es in omega arith
+few_presence (optional ∷ ds) (e ∷ es) = let h = few_presence ds es in omega arith
+few_presence (default d ∷ ds) (e ∷ es) = let h = few_presence ds es in omega arith
+
+pub few_extension : (m e : Bool) → length (extension_bit m e) ≤ 1
+few_extension false e = omega arith
+few_extension true e = omega arith
+
 -- ---- DEFAULT
 
 le_z_antisymm : (y z : ℤ) → int_le y z ≡ true → int_le z y ≡ true → y ≡ z
@@ -124,6 +166,16 @@ pub default_same : (d x y : Datum) → is_default d x ≡ true → is_default d 
 default_same d x y p q = sym (default_is d x p) ∙ default_is d y q
 
 -- ---- one component
+
+-- what the spellings of its values have, and the empty list, the component's has, spelt or not
+pub entry_has : (S : List Chunk → Type 0) (P : Datum → Type 0) (code : Datum → List Chunk) → S [] → ((d : Datum) → P d → S (code d)) → (demand : Demand) (e : Option Datum) → FitsDemand P demand e
+    → S (if_spelled demand e code)
+entry_has S P code none h demand None f = none
+entry_has S P code none h demand (Some d) f = go (is_spelled demand (Some d))
+  where
+    go : (b : Bool) → S (elim b [ true ↦ code d | false ↦ [] ])
+    go true = h d f
+    go false = none
 
 module _ (sp : List ℕ → List ℕ) where
   -- entries that are both spelt or both not

@@ -1,7 +1,7 @@
 -- Two spellings of one type face each other: where they agree so far, a unit faces a unit and a sealed field
 -- one of its kind, and where they agree to the end, both end and are of one value. From this follow both the
 -- law on units (`told_by_units`) and the law on chunks (`equal_or_parted`).
-use Rattle.std.proofs.Common.{◌≡◌, ◌≢◌, ◌⊎◌, ℕ, suc, List, [], ◌∷◌, ◌++◌, length, map, inl, inr, refl, sym, ◌∙◌, ap, subst, append_assoc}
+use Rattle.std.proofs.Common.{◌≡◌, ◌≢◌, ◌⊎◌, ℕ, List, [], ◌∷◌, ◌++◌, length, map, inl, inr, refl, sym, ◌∙◌, ap, subst, append_assoc}
 use Rattle.std.proofs.lemmas.List.{append-nil}
 use Rattle.std.proofs.lemmas.Bool.{cases_eq}
 use Rattle.std.specs.List.{AllByRecursion}
@@ -9,7 +9,6 @@ use Rattle.asn_bits.specs.Lengths.{joined}
 use Rattle.asn_bits.proofs.Codes.{IsCode}
 use Rattle.asn_rules.specs.Chunks.{Kind, Chunk, one, sealed, ones, field_units, flat}
 use Rattle.asn_rules.specs.Parted.{Parted}
-use Rattle.asn_rules.proofs.Alike.{octets_decide}
 
 -- the units of the two fields tell their contents, and what follows them
 abbrev pub FieldsTell : (List ℕ → List ℕ) → Kind → List ℕ → Kind → List ℕ → Type 0
@@ -33,6 +32,29 @@ pub record Facing (sp : List ℕ → List ℕ) (E : Type 0) (xs ys : List Chunk)
 -- of the values that P admits, two spellings face each other, with what follows where the values are one
 abbrev pub IsFacing : (List ℕ → List ℕ) → {A : Type 0} → (A → Type 0) → (A → List Chunk) → Type 1
 IsFacing sp {A} P code = (E : Type 0) (x y : A) (xs ys : List Chunk) → P x → P y → (x ≡ y → Facing sp E xs ys) → Facing sp E (code x ++ xs) (code y ++ ys)
+
+-- ---- to compare
+
+-- two lists of octets are one or not
+octets_decide : (xs ys : List ℕ) → (xs ≡ ys) ⊎ (xs ≢ ys)
+octets_decide [] [] = inl refl
+octets_decide [] (y ∷ ys) = inr (λ e. cc)
+octets_decide (x ∷ xs) [] = inr (λ e. cc)
+octets_decide (x ∷ xs) (y ∷ ys) = elim (cases_eq x y) [
+  | inl e ↦ elim (octets_decide xs ys) [
+    | inl f ↦ inl (cc (e, f))
+    | inr f ↦ inr (λ g. (let t : xs ≡ ys = cc (g) in f t))
+  ]
+  | inr n ↦ inr (λ g. (let t : x ≡ y = cc (g) in n t))
+]
+
+-- a spelling does not part from itself
+pub not_from_itself : (xs : List Chunk) → Parted xs xs → ⊥
+not_from_itself [] p = p
+not_from_itself (one a ∷ xs) (inl n) = n refl
+not_from_itself (one a ∷ xs) (inr p) = not_from_itself xs p.1
+not_from_itself (sealed k c ∷ xs) (e, inl n) = n refl
+not_from_itself (sealed k c ∷ xs) (e, inr p) = not_from_itself xs p.1
 
 -- ---- parts of spellings
 

@@ -1,5 +1,5 @@
 -- Where the spellings of each type face each other, the units tell the value, and two spellings are one or part.
-use Rattle.std.proofs.Common.{◌≡◌, ◌≢◌, ◌⊎◌, ℕ, List, [], ◌∷◌, ◌++◌, inl, inr, refl, sym, ◌∙◌, ap, subst}
+use Rattle.std.proofs.Common.{◌≡◌, ℕ, List, [], ◌++◌, inl, inr, subst}
 use Rattle.std.proofs.lemmas.List.{append-nil}
 use Rattle.asn_values.specs.Datum.{Datum}
 use Rattle.asn_values.specs.Shape.{Shape}
@@ -9,8 +9,7 @@ use Rattle.asn_bits.proofs.Codes.{IsCode}
 use Rattle.asn_rules.specs.Chunks.{Chunk, flat}
 use Rattle.asn_rules.specs.Laws.{UnitsTellTheValue}
 use Rattle.asn_rules.specs.Parted.{Parted, SpellingsPart}
-use Rattle.asn_rules.proofs.Alike.{not_from_itself}
-use Rattle.asn_rules.proofs.Facing.{Facing, IsFacing, told_by_units, equal_or_parted}
+use Rattle.asn_rules.proofs.Facing.{Facing, IsFacing, not_from_itself, told_by_units, equal_or_parted}
 
 -- the spellings of a type of the profile face each other
 abbrev pub SpellingsFace : (List ℕ → List ℕ) → (Shape → Datum → List Chunk) → Type 1

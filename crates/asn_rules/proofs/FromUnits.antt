@@ -1,10 +1,11 @@
 -- The laws of encoding rules, from what is said of whole encodings in units.
-use Rattle.std.proofs.Common.{◌≡◌, List, [], ◌++◌, refl, sym, ◌∙◌, ap}
+use Rattle.std.proofs.Common.{◌≡◌, [], ◌++◌, sym, ◌∙◌, ap}
 use Rattle.std.proofs.lemmas.List.{append-nil}
 use Rattle.asn_rules.specs.Chunks.{flat}
 use Rattle.asn_rules.specs.Answer.{Ruling}
 use Rattle.asn_rules.specs.Laws.{RulesLaws, WholesTell}
 
+-- whole encodings that tell their values, and units that tell their octets
 pub rules_laws : (r : Ruling) → WholesTell r → RulesLaws r
 rules_laws r h = record {
   one_value = λ t v w o p a b. h.told t v w [] p a.0 b.0 (append-nil (flat r.fielding.spelled (r.whole t v)) ∙ sym a.1 ∙ b.1);

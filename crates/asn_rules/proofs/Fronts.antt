@@ -1,27 +1,26 @@
 -- Live by units and fields is live by chunks.
+pub use Rattle.asn_rules.specs.Reading.{IsSealed, AllSealed}
 use Rattle.std.proofs.Common.{◌≡◌, ◌≤◌, ◌<◌, ◌+◌, ◌-◌, ◌⊎◌, ◌↔◌, ℕ, List, [], ◌∷◌, ◌++◌, length, take, drop, inl, inr, refl, sym, ◌∙◌, ap, subst, arith, append_assoc, length-append}
 use Rattle.std.specs.Bool.{⊤}
 use Rattle.std.proofs.lemmas.List.{append-nil, append_cancel_left, take-append-drop}
 use Rattle.std.proofs.Math.Seq.{take-append_seam, drop-append_seam, take-append-add}
 use Rattle.std.specs.List.{AllByRecursion}
 use Rattle.asn_values.specs.Fits.{Fits}
-use Rattle.asn_rules.specs.Chunks.{Kind, open_field, utf8_field, rest_of, Chunk, one, sealed, field_units, flat, fields_from}
+use Rattle.asn_rules.specs.Chunks.{Kind, open_field, utf8_field, rest_of, Chunk, one, sealed, ones, field_units, flat, fields_from}
 use Rattle.asn_rules.specs.Live.{Begins, BeginsProperly, SomeWithEarlier, Fielding, IsContent, Free, Bounded, BoundedBefore, Inside, Front, Live, LiveByChunks}
 use Rattle.asn_values.specs.Datum.{Datum}
 use Rattle.asn_values.specs.Shape.{Shape}
 
--- a field as spellings of values have it: whole, and its content is one that the kind may have, but for
--- the length of an open field
-abbrev pub IsSealed : Fielding → Kind → List ℕ → Type 0
-IsSealed r open_field c = Bounded open_field c → IsContent r open_field c
-IsSealed r utf8_field c = Bounded utf8_field c → IsContent r utf8_field c
-IsSealed r (rest_of k us) c = ⊥
+-- plain units have no field
+pub sealed-ones : (r : Fielding) (us : List ℕ) → AllSealed r (ones us)
+sealed-ones r [] = tt
+sealed-ones r (u ∷ us) = sealed-ones r us
 
--- each sealed field of the chunks is such a field
-abbrev pub AllSealed : Fielding → List Chunk → Type 0
-AllSealed r [] = ⊤
-AllSealed r (one x ∷ cs) = AllSealed r cs
-AllSealed r (sealed k c ∷ cs) = IsSealed r k c × AllSealed r cs
+-- and chunks one after the other have those of both
+pub sealed-append : (r : Fielding) (xs ys : List Chunk) → AllSealed r xs → AllSealed r ys → AllSealed r (xs ++ ys)
+sealed-append r [] ys p q = q
+sealed-append r (one u ∷ xs) ys p q = sealed-append r xs ys p q
+sealed-append r (sealed k c ∷ xs) ys p q = (p.0, sealed-append r xs ys p.1 q)
 
 -- one of two lists with the same whole begins the other
 pub split : (xs us ys vs : List ℕ) → xs ++ ys ≡ us ++ vs
@@ -55,6 +54,7 @@ module _ (r : Fielding) where
       ⊎ SomeWithEarlier (λ f. Bounded f.kind f.content) (Inside r (pre ++ (part ++ flat r.spelled cs)) (pre ++ (part ++ us))) (fields_from r.spelled (length pre + length part) cs)
   grown pre part us cs h = rw (length-append pre part, append_assoc pre part us, append_assoc pre part (flat r.spelled cs)) at h
 
+  -- what is live chunk by chunk is so by units and fields
   pub front_goes : (cs : List Chunk) (pre us : List ℕ) → Front r cs us → GoesAt pre cs us
   front_goes [] pre [] h = inl (([], sym (append-nil (pre ++ []))), tt)
   front_goes [] pre (u ∷ us) h = absurd h
@@ -74,6 +74,7 @@ module _ (r : Fielding) where
       ] in
       subst (GoesAt pre (sealed k c ∷ cs)) (sym e) there
 
+  -- pre grown by a part, the other way
   shrunk : (pre part us : List ℕ) (cs : List Chunk)
       → (Begins (pre ++ (part ++ us)) (pre ++ (part ++ flat r.spelled cs)) × AllByRecursion (BoundedBefore (length (pre ++ (part ++ us)))) (fields_from r.spelled (length pre + length part) cs))
       ⊎ SomeWithEarlier (λ f. Bounded f.kind f.content) (Inside r (pre ++ (part ++ flat r.spelled cs)) (pre ++ (part ++ us))) (fields_from r.spelled (length pre + length part) cs)

@@ -1,11 +1,11 @@
 -- The items of an ENUMERATED of the profile have distinct numbers, so a number has one place.
-use Rattle.std.proofs.Common.{◌≡◌, ◌<◌, ◌+◌, ℕ, zero, suc, ℤ, pos, negsuc, Bool, true, false, not, ◌&&◌, ◌||◌, List, [], ◌∷◌, ◌++◌, length, map, refl, sym, ◌∙◌, ap, subst, arith, nat_lt, nat_le, length-append}
+use Rattle.std.proofs.Common.{◌≡◌, ◌<◌, ◌+◌, ℕ, zero, suc, ℤ, pos, negsuc, Bool, true, false, not, ◌&&◌, ◌||◌, List, [], ◌∷◌, ◌++◌, length, map, refl, sym, ◌∙◌, ap, subst, arith, nat_le, length-append}
 use Rattle.std.proofs.lemmas.Bool.{true≢false, ltb-true, leb-false, lt-leb, and_parts, or_parts, or_from, not-false}
 use Rattle.std.proofs.lemmas.List.{map-append}
 use Rattle.std.specs.List.{list_any, list_all}
 use Rattle.std.specs.Int.RustNames.{int_lt}
 use Rattle.asn_values.specs.Shape.{Label, MoreLabels, more_labels}
-use Rattle.asn_values.specs.Profile.{int_eq, has_twice, is_not_32_bits, is_rising, bad_numbers, bad_enumeration}
+use Rattle.asn_values.specs.Profile.{int_eq, has_twice, is_not_32_bits, is_rising, bad_numbers}
 use Rattle.asn_rules.specs.Components.{number_at}
 
 abbrev pub numbers : List Label → List ℤ

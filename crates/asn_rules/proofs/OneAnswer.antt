@@ -1,5 +1,5 @@
 -- To one list of octets there is one answer.
-use Rattle.std.proofs.Common.{◌≡◌, ◌≤◌, ◌<◌, ◌⊎◌, ℕ, zero, suc, List, [], ◌∷◌, ◌++◌, length, take, drop, inl, inr, refl, sym, ◌∙◌, ap, subst, arith}
+use Rattle.std.proofs.Common.{◌≡◌, ◌≤◌, ◌<◌, ℕ, zero, suc, List, [], ◌∷◌, length, take, drop, inl, inr, refl, sym, ◌∙◌, ap, subst, arith}
 use Rattle.std.proofs.lemmas.Bool.{cases_lt, cases_order}
 use Rattle.std.proofs.lemmas.List.{length-take-le, take-append-drop}
 use Rattle.asn_values.specs.Datum.{Datum}
@@ -7,7 +7,7 @@ use Rattle.asn_values.specs.Shape.{Shape}
 use Rattle.asn_values.specs.Profile.{InProfile}
 use Rattle.asn_bits.proofs.GeneralLengths.{all_take}
 use Rattle.asn_rules.specs.Live.{Begins, Live, Place}
-use Rattle.asn_rules.specs.Answer.{Ruling, IsEncoding, Told, done, refused, too_long, more, Answer, LiveOctets}
+use Rattle.asn_rules.specs.Answer.{Ruling, IsEncoding, done, refused, too_long, more, Answer, LiveOctets}
 use Rattle.asn_rules.specs.Laws.{AreOctets, RulesLaws, OneAnswer}
 use Rattle.asn_rules.proofs.Closed.{live_closed}
 
@@ -36,6 +36,7 @@ module _ (r : Ruling) (laws : RulesLaws r) where
         sym (length-take-le m s (omega arith)) ∙ ap length same ∙ length-take-le n s h,
       )
 
+  -- two fronts that are encodings are one, of one value
   one_done : (t : Shape) (s : List ℕ) (v w : Datum) (m n : ℕ) → InProfile t → AreOctets s → Answer r t s (done v m) → Answer r t s (done w n) → done v m ≡ done w n
   one_done t s v w m n p os a b = elim (cases_lt m n) [
     | inl l ↦ let e = one_front t s v w m n p os (omega arith) b.0 a.1 b.1 in cc (e.0, e.1)
@@ -47,6 +48,7 @@ module _ (r : Ruling) (laws : RulesLaws r) where
   live_not_refused t s k live place =
       place.1 (live_closed r.fielding r.whole t (take k (r.units s)) (drop k (r.units s)) (subst (Live r.fielding r.whole t) (sym (take-append-drop k (r.units s))) live))
 
+  -- case by case
   pub one_answer : OneAnswer r
   one_answer t s (done v m) (done w n) p os a b = one_done t s v w m n p os a b
   one_answer t s (done v m) (refused l) p os a b = absurd (b.0 v m a.0 a.1)

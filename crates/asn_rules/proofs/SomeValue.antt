@@ -1,5 +1,5 @@
 -- Each type of the profile has a value.
-use Rattle.std.proofs.Common.{◌≡◌, ◌≢◌, ◌≤◌, ◌<◌, ◌-◌, ◌==◌, ◌⊎◌, ℕ, zero, suc, ℤ, pos, negsuc, ◌≤ℤ◌, Bool, true, false, not, ◌&&◌, ◌||◌, List, [], ◌∷◌, ◌++◌, length, map, take, drop, replicate, Option, Some, None, inl, inr, refl, sym, ◌∙◌, ap, subst, arith, IsTrue, T, nat_lt, nat_le, MatchBool}
+use Rattle.std.proofs.Common.{◌≡◌, ◌<◌, ◌-◌, ◌==◌, ℕ, zero, suc, ℤ, pos, negsuc, ◌≤ℤ◌, Bool, true, false, not, ◌||◌, List, [], ◌∷◌, ◌++◌, length, take, drop, replicate, Option, Some, None, inl, inr, refl, sym, ◌∙◌, ap, subst, arith, IsTrue, T, nat_lt, nat_le, MatchBool}
 use Rattle.std.proofs.lemmas.Bool.{true≢false, lt-ltb, ltb-false, le-leb, eq-eqb, cases_lt, or_parts, not-false}
 use Rattle.std.proofs.lemmas.List.{length-replicate}
 use Rattle.std.proofs.Math.Seq.{take-append_seam, drop-append_seam}
@@ -7,8 +7,8 @@ use Rattle.std.proofs.lemmas.Str.{IsUtf8-nil}
 use Rattle.std.specs.List.{AllByRecursion}
 use Rattle.std.specs.Int.RustNames.{int_le, int_lt}
 use Rattle.std.specs.Int.Signed.{lt_z_no}
-use Rattle.asn_values.specs.Datum.{Datum, truth, nothing, number, item, bit_list, octet_list, characters, unicode, components, elements, alternative, Components, component_list, element_list, elements_of, components_of}
-use Rattle.asn_values.specs.Shape.{Alphabet, Range, SizeRange, ia5, numeric, visible, Shape, boolean, null, integer, enumerated, bit_string, octet_string, restricted, utf8_string, sequence, sequence_of, choice, Label, MoreLabels, Fields, no_fields, field, MoreFields, closed, marked, demands, Alternatives, no_alternatives, one_of, MoreAlternatives, count}
+use Rattle.asn_values.specs.Datum.{Datum, truth, nothing, number, item, bit_list, octet_list, characters, unicode, components, elements, alternative, component_list, element_list, elements_of, components_of}
+use Rattle.asn_values.specs.Shape.{Alphabet, SizeRange, ia5, numeric, visible, Shape, boolean, null, integer, enumerated, bit_string, octet_string, restricted, utf8_string, sequence, sequence_of, choice, Label, MoreLabels, Fields, no_fields, field, MoreFields, closed, marked, demands, no_alternatives, one_of, count}
 use Rattle.asn_values.specs.Fits.{Fits, FitsEach, FitsMore, FitsMoreAlternatives, FitsLength, FitsNumber, FitsSequence, is_of_kind, in_size, not_above, at_most, lowest_integer, highest_integer}
 use Rattle.asn_values.specs.Profile.{EmptyRange, SizeTooLarge, somewhere, some_field, some_addition, some_alternative, some_more, empty_range, size_too_large, low_above_high, is_outside, size_above, large_size}
 use Rattle.asn_rules.specs.Laws.{EachHasAValue}
@@ -72,12 +72,13 @@ shortest_fits z a h g = subst (FitsLength z) (sym (length-replicate z.low a)) (o
 
 -- ---- entries, elements and characters
 
--- entries and elements come back from the value they make
+-- entries come back from the value they make,
 pub entries_again : (es : List (Option Datum)) → component_list (components_of es) ≡ es
 entries_again [] = refl
 entries_again (None ∷ es) = ap (λ t. None ∷ t) (entries_again es)
 entries_again (Some d ∷ es) = ap (λ t. Some d ∷ t) (entries_again es)
 
+-- and so do elements
 pub list_again : (ds : List Datum) → element_list (elements_of ds) ≡ ds
 list_again [] = refl
 list_again (d ∷ ds) = ap (λ t. d ∷ t) (list_again ds)
@@ -156,5 +157,6 @@ mutual
   some_additions closed h g = ([], tt)
   some_additions (marked fs) h g = let w = some_entries fs h g in (w.0, w.1)
 
+-- each type of the profile is such a type
 pub a_value : EachHasAValue
 a_value t h = some_value t (h EmptyRange) (h SizeTooLarge)

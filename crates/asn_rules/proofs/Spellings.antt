@@ -1,5 +1,5 @@
 -- Languages whose spellings are given by a function: they are put together as their spellings are.
-use Rattle.std.proofs.Common.{◌≡◌, ◌≢◌, ℕ, zero, suc, ◌^◌, ◌<◌, ◌⊎◌, inl, inr, List, [], ◌∷◌, ◌++◌, map, length, refl, sym, ap, ◌∙◌, subst, arith}
+use Rattle.std.proofs.Common.{◌≡◌, ◌≢◌, ℕ, zero, suc, ◌^◌, ◌<◌, ◌⊎◌, inl, inr, ⊎_elim, List, [], ◌∷◌, ◌++◌, map, length, refl, sym, ap, ◌∙◌, subst, arith}
 use Rattle.std.specs.List.{AllByRecursion}
 use Rattle.std.specs.Bool.{⊤}
 use Rattle.asn_bits.specs.Numbers.{bits}
@@ -9,9 +9,9 @@ use Rattle.asn_rules.specs.Parted.{Parted}
 use Rattle.asn_rules.specs.Live.{Fielding}
 use Rattle.asn_rules.specs.Languages.{Lawful, Inhabited, Then, Map, Nothing, Row, Plain, Sealed}
 use Rattle.asn_rules.specs.Sets.{InSet}
-use Rattle.asn_rules.specs.Forks.{Same}
+use Rattle.asn_rules.specs.Forks.{Branch, Fork, Same}
 use Rattle.asn_rules.specs.Padding.{Padded}
-use Rattle.asn_rules.specs.Spellings.{SpelledBy}
+use Rattle.asn_rules.specs.Spellings.{SpelledBy, FitsEither, either_code}
 use Rattle.asn_rules.proofs.Bits.{bits_are, bits_only}
 
 -- ---- laws
@@ -147,3 +147,27 @@ padded_spelled {A} R fill {P} {f} = record {
     seen = refl;
   };
 }
+
+-- one of two, told by a bit in front
+pub fork_spelled : {A B : Type 0} {P : A → Type 0} {Q : B → Type 0} {f : A → List Chunk} {g : B → List Chunk} → Same (Fork (SpelledBy P f) (SpelledBy Q g)) (SpelledBy (FitsEither P Q) (either_code f g))
+fork_spelled {A} {B} {P} {Q} {f} {g} = record {
+  to = λ v cs h. go v cs h.side;
+  from = λ v cs h. back v cs h.fits h.same;
+}
+  where
+    go : (v : A ⊎ B) (cs : List Chunk) → Branch 0 inl (SpelledBy P f) v cs ⊎ Branch 1 inr (SpelledBy Q g) v cs → SpelledBy (FitsEither P Q) (either_code f g) v cs
+    go v cs (inl b) = record {
+      fits = subst (λ (w : A ⊎ B). FitsEither P Q w) (sym b.seen) b.spelt.fits;
+      same = b.same ∙ ap (λ (l : List Chunk). one 0 ∷ l) b.spelt.same ∙ ap (λ (w : A ⊎ B). either_code f g w) (sym b.seen);
+    }
+    go v cs (inr b) = record {
+      fits = subst (λ (w : A ⊎ B). FitsEither P Q w) (sym b.seen) b.spelt.fits;
+      same = b.same ∙ ap (λ (l : List Chunk). one 1 ∷ l) b.spelt.same ∙ ap (λ (w : A ⊎ B). either_code f g w) (sym b.seen);
+    }
+
+    back : (v : A ⊎ B) (cs : List Chunk) → FitsEither P Q v → cs ≡ either_code f g v → Fork (SpelledBy P f) (SpelledBy Q g) v cs
+    back (inl a) cs p e = record { side = inl (record { value = a; rest = f a; spelt = record { fits = p; same = refl }; seen = refl; same = e }) }
+    back (inr b) cs p e = record { side = inr (record { value = b; rest = g b; spelt = record { fits = p; same = refl }; seen = refl; same = e }) }
+
+pub same_fork : {A B : Type 0} {K L : A → List Chunk → Type 0} {M N : B → List Chunk → Type 0} → Same K L → Same M N → Same (Fork K M) (Fork L N)
+same_fork e f = record { to = λ v cs h. record { side = ⊎_elim (λ b. inl (record { value = b.value; rest = b.rest; spelt = e.to b.value b.rest b.spelt; seen = b.seen; same = b.same })) (λ b. inr (record { value = b.value; rest = b.rest; spelt = f.to b.value b.rest b.spelt; seen = b.seen; same = b.same })) h.side }; from = λ v cs h. record { side = ⊎_elim (λ b. inl (record { value = b.value; rest = b.rest; spelt = e.from b.value b.rest b.spelt; seen = b.seen; same = b.same })) (λ b. inr (record { value = b.value; rest = b.rest; spelt = f.from b.value b.rest b.spelt; seen = b.seen; same = b.same })) h.side } }

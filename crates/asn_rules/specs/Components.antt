@@ -4,11 +4,8 @@ use Rattle.std.specs.List.{list_any}
 use Rattle.std.specs.Int.RustNames.{int_le}
 use Rattle.asn_values.specs.Datum.{Datum, truth, number, item, components, elements, alternative, component_list, element_list}
 use Rattle.asn_values.specs.Shape.{Label, Demand, must, optional, default}
+pub use Rattle.asn_bits.specs.Sink.{bit_of}
 use Rattle.asn_rules.specs.Chunks.{Chunk}
-
-abbrev pub bit_of : Bool → ℕ
-bit_of false = 0
-bit_of true = 1
 
 -- the number of the item at a place
 abbrev pub number_at : List Label → ℕ → ℤ
@@ -35,7 +32,13 @@ is_spelled (default d) (Some e) = not (is_default d e)
 
 -- ---- the presence bitmap (X.691, sequence; X.696, preamble)
 
--- one bit for each component that may be absent, 1 where it is spelt
+-- a component that may be absent has a presence bit
+abbrev pub has_presence_bit : Demand → Bool
+has_presence_bit must = false
+has_presence_bit optional = true
+has_presence_bit (default d) = true
+
+-- the presence bits of the components, in order: 1 where the component is spelt
 abbrev pub presence : List Demand → List (Option Datum) → List ℕ
 presence (must ∷ ds) (e ∷ es) = presence ds es
 presence (d ∷ ds) (e ∷ es) = bit_of (is_spelled d e) ∷ presence ds es

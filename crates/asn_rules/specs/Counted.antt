@@ -34,3 +34,4 @@ signed_number p = elim (nat_lt p.1 (2 ^ (8 * p.0 - 1))) [ true ↦ pos p.1 | fal
 pub record LeastSigned (S : ℤ → Type 0) (k n : ℕ) : Type 0 where
   pub member : S (signed_number (k, n))
   pub count : signed_octet_count (signed_number (k, n)) ≡ k
+  pub fits : n < 2 ^ (8 * k)

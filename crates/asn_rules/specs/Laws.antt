@@ -46,6 +46,10 @@ pub record RulesLaws (r : Ruling) : Type 0 where
   -- no encoding begins another
   pub none_begins : (t : Shape) (v w : Datum) (o p : List ℕ) → InProfile t → AreOctets o → AreOctets p → IsEncoding r t v o → IsEncoding r t w p → Begins o p → o ≡ p
 
+-- the encoding of a value is that list of octets
+abbrev pub EncodesAs : Ruling → (Shape → Datum → List ℕ) → Type 0
+EncodesAs r octets_of = (t : Shape) (v : Datum) (o : List ℕ) → InProfile t → AreOctets o → IsEncoding r t v o ↔ (Fits t v × (o ≡ octets_of t v))
+
 -- what these laws follow from, said of whole encodings in units
 pub record WholesTell (r : Ruling) : Type 0 where
   -- a whole encoding that begins another is of the same value
@@ -67,6 +71,10 @@ LiveIsClosed r whole = (t : Shape) (x y : List ℕ) → Live r whole t (x ++ y) 
 -- live by units and sealed fields is live chunk by chunk
 abbrev pub LiveByParts : Fielding → (Shape → Datum → List Chunk) → Type 0
 LiveByParts r whole = (t : Shape) (b : List ℕ) → Live r whole t b ↔ LiveByChunks r whole t b
+
+-- the same of the types of the profile, where the rules spell those of no other in octets
+abbrev pub LiveByPartsInProfile : Fielding → (Shape → Datum → List Chunk) → Type 0
+LiveByPartsInProfile r whole = (t : Shape) → InProfile t → (b : List ℕ) → Live r whole t b ↔ LiveByChunks r whole t b
 
 -- ---- answers
 

@@ -3,8 +3,10 @@
 
 mod fault;
 mod laws;
+mod readings;
 mod stop;
 
 pub use fault::{DecodeFault, EncodeFault, Why};
 pub use laws::{answers_exclude, laws_from_units, live_is_closed};
+pub use readings::{one_reading, readings_answer};
 pub use stop::Stop;

@@ -6,4 +6,8 @@ pub mod Profile
 pub mod Parts
 pub mod Defaults
 pub mod View
+pub mod ExampleTypes
+pub mod ProfileExamples
+pub mod MeasureExamples
+pub mod FitsExamples
 pub mod Walk

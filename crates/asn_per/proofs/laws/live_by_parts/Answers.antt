@@ -1,5 +1,5 @@
-use Rattle.asn_per.proofs.Held.{per_live_iff}
+use Rattle.asn_per.proofs.Live.{per_live}
 use Rattle.asn_per.proofs.laws.live_by_parts.Goals as goal
 
 pub returns : goal.returns
-returns c = per_live_iff
+returns c = per_live

@@ -1,5 +1,4 @@
-use Rattle.asn_per.proofs.Lawful.{spellings_part}
-use Rattle.asn_per.proofs.Whole.{bits_tell, one_value_octets, none_begins_octets}
+use Rattle.asn_per.proofs.Whole.{bits_tell, per_parts, one_value_octets, none_begins_octets}
 use Rattle.asn_per.proofs.laws.spellings_tell.Goals as goal
 
 pub returns-clause-bits : goal.returns-clause-bits
@@ -12,4 +11,4 @@ pub returns-clause-none_begins : goal.returns-clause-none_begins
 returns-clause-none_begins c = none_begins_octets
 
 pub returns-clause-part : goal.returns-clause-part
-returns-clause-part c = spellings_part
+returns-clause-part c = per_parts

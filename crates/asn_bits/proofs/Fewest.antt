@@ -1,0 +1,68 @@
+-- The fewest bits and octets of a number, from the zeros before its first bit.
+use Rattle.std.proofs.Common.{◌≡◌, ◌≤◌, ◌<◌, ◌+◌, ◌-◌, ◌*◌, ◌/◌, ◌^◌, ℕ, zero, suc, nat_le, inl, inr, ◌∙◌, ap, arith}
+use Rattle.std.proofs.lemmas.Bool.{le-leb, cases_lt}
+use Rattle.std.proofs.lemmas.Nat.{leading_length}
+use Rattle.std.proofs.Math.Nat.{pow-zero, pow-le-pow_right, two-pow-succ}
+use lib.Count.{count_leading_zeros}
+use Rattle.asn_bits.specs.Numbers.{width, octet_count}
+use Rattle.asn_bits.proofs.Octets.{octet_count_below, octet_count_fits, least_from_below}
+use Rattle.asn_bits.proofs.Splits.{two_pow_octets}
+use Rattle.asn_bits.proofs.Widths.{width_holds}
+
+-- a number of m bits fits no fewer
+bits_needed : (m j a : ℕ) → 2 ^ m ≤ 2 * a + 1 → a < 2 ^ j → m ≤ j
+bits_needed m j a h l =
+    elim (cases_lt j m) [
+      | inl b ↦ absurd (let up : 2 ^ suc j ≤ 2 ^ m = pow-le-pow_right (omega arith) b in omega (arith, two-pow-succ j))
+      | inr b ↦ b
+    ]
+
+pub width_below : (r m : ℕ) → r ≤ 2 ^ m → width r ≤ m
+width_below r m h = least_from_below (λ k. nat_le r (2 ^ k)) r 0 m (omega arith) (le-leb r (2 ^ m) h)
+
+-- the bits of the highest of r values, counted from 0, are its width
+pub width_counted : (r a : ℕ) → a < 2 ^ 128 → a ≡ r - 1 → 128 - count_leading_zeros 128 a ≡ width r
+width_counted zero a h e =
+    let found = leading_length 128 a h in
+    let m = found.0 in
+    let c : count_leading_zeros 128 a + m ≡ 128 = found.1 in
+    let half : 2 ^ m ≤ 2 * a + 1 = found.3 in
+    let none : m ≤ 0 = bits_needed m 0 a half (omega (arith, pow-zero 2)) in
+    omega arith
+width_counted (suc r) a h e =
+    let found = leading_length 128 a h in
+    let m = found.0 in
+    let c : count_leading_zeros 128 a + m ≡ 128 = found.1 in
+    let fits : a < 2 ^ m = found.2 in
+    let half : 2 ^ m ≤ 2 * a + 1 = found.3 in
+    let least : width (suc r) ≤ m = width_below (suc r) m (omega arith) in
+    let enough : suc r ≤ 2 ^ width (suc r) = width_holds (suc r) in
+    let most : m ≤ width (suc r) = bits_needed m (width (suc r)) a half (omega arith) in
+    omega arith
+
+-- eight bits of a number an octet
+pub octets_counted : (n m : ℕ) → n < 2 ^ m → 2 ^ m ≤ 2 * n + 1 → 0 < m → (m + 7) / 8 ≡ octet_count n
+octets_counted n m h l p =
+    let k = (m + 7) / 8 in
+    let up : 2 ^ m ≤ 2 ^ (8 * k) = pow-le-pow_right (omega arith) (omega arith) in
+    let least : octet_count n ≤ k = octet_count_below n k (omega arith) (omega (arith, two_pow_octets k)) in
+    let enough : n < 2 ^ (8 * octet_count n) = omega (arith, octet_count_fits n, two_pow_octets (octet_count n)) in
+    let most : m ≤ 8 * octet_count n = bits_needed m (8 * octet_count n) n l enough in
+    omega arith
+
+-- the bits of a number of 64, and the octets for them
+pub octet_count_leading : (n : ℕ) → n < 2 ^ 64 → 0 < 64 - count_leading_zeros 64 n → (64 - count_leading_zeros 64 n + 7) / 8 ≡ octet_count n
+octet_count_leading n h p =
+    let found = leading_length 64 n h in
+    let m = found.0 in
+    let e : 64 - count_leading_zeros 64 n ≡ m = omega arith in
+    ap (λ t. (t + 7) / 8) e ∙ octets_counted n m found.2 found.3 (omega arith)
+
+-- no bits are the number 0, in one octet
+pub octet_count_none : (n : ℕ) → n < 2 ^ 64 → 64 - count_leading_zeros 64 n ≡ 0 → octet_count n ≡ 1
+octet_count_none n h e =
+    let found = leading_length 64 n h in
+    let m : found.0 ≡ 0 = omega arith in
+    let z : 2 ^ found.0 ≡ 1 = ap (λ i. 2 ^ i) m ∙ pow-zero 2 in
+    let n_zero : n ≡ 0 = omega arith in
+    ap octet_count n_zero

@@ -1,0 +1,47 @@
+-- The fewest octets of a number, under their general length, are one number in bits.
+use Rattle.std.proofs.Common.{◌≡◌, ◌<◌, ◌+◌, ◌*◌, ◌/◌, ◌%◌, ◌^◌, ℕ, List, [], ◌∷◌, ◌++◌, length, map, take, inl, inr, refl, sym, ◌∙◌, ap, arith}
+use Rattle.std.proofs.lemmas.List.{append-nil, length-map}
+use Rattle.std.proofs.Math.Seq.{take-length}
+use Rattle.asn_bits.specs.Numbers.{bits, octets, octet_count, least, unpacked}
+use Rattle.asn_bits.specs.Lengths.{last_length, lengths_within, lengths, joined, with_lengths, general_octets}
+use Rattle.asn_bits.proofs.GeneralLengths.{last_cases, map_same}
+use Rattle.asn_bits.proofs.Octets.{length-digits}
+use Rattle.asn_bits.proofs.Splits.{digits-join, unpacked-octets}
+
+-- a length below 128 is the length in eight bits
+short_length : (n : ℕ) → n < 128 → (last_length n).bits ≡ bits 8 n
+short_length n h =
+    elim (last_cases n) [
+      | inl a ↦ (let z : 0 ≡ n / 2 ^ 7 % 2 = omega arith in a.1 ∙ ap (λ t. t ∷ bits 7 n) z)
+      | inr a ↦ absurd (omega arith)
+    ]
+
+-- octets one behind the other
+joined_octets : (os : List ℕ) → joined (map (λ o. map (λ u. u) (bits 8 o)) os) ≡ unpacked os
+joined_octets [] = refl
+joined_octets (o ∷ os) = let rest = joined_octets os in ap (λ t. t ++ joined (map (λ o. map (λ u. u) (bits 8 o)) os)) (map_same (bits 8 o)) ∙ ap (λ t. bits 8 o ++ t) rest
+
+-- fewer than 128 octets stand under a length of eight bits
+pub general_short : (os : List ℕ) → length os < 128 → general_octets (λ u. u) os ≡ bits 8 (length os) ++ unpacked os
+general_short os h =
+    let items = map (λ o. map (λ u. u) (bits 8 o)) os in
+    let n : length items ≡ length os = length-map os _ in
+    let none : length items / 16384 ≡ 0 = omega arith in
+    let one : lengths (length items) ≡ last_length (length items) ∷ [] = ap (λ f. lengths_within f (length items)) none in
+    let front : map (λ u. u) (last_length (length items)).bits ≡ bits 8 (length os) =
+    map_same (last_length (length items)).bits ∙ short_length (length items) (omega arith) ∙ ap (bits 8) n in
+    let all : joined (take (length items) items) ++ [] ≡ unpacked os =
+    append-nil (joined (take (length items) items)) ∙ ap joined (take-length items) ∙ joined_octets os in
+    ap (λ ls. with_lengths (λ u. u) ls items) one
+    ∙ ap (λ t. t ++ (joined (take (length items) items) ++ [])) front ∙ ap (λ t. bits 8 (length os) ++ t) all
+
+-- the count in eight bits, and the number in eight bits an octet
+pub general_least : (n k j : ℕ) → n < 2 ^ (8 * k) → k < 128 → k ≡ octet_count n → j ≡ k * 2 ^ (8 * k) + n → general_octets (λ u. u) (least n) ≡ bits (8 * k + 8) j
+general_least n k j h few e i =
+    let c : length (least n) ≡ k = length-digits 256 (octet_count n) n ∙ sym e in
+    let front : bits 8 (length (least n)) ≡ bits 8 k = ap (bits 8) c in
+    let back : unpacked (least n) ≡ bits (8 * k) n = ap (λ t. unpacked (octets t n)) (sym e) ∙ unpacked-octets k n in
+    let sum : 8 + 8 * k ≡ 8 * k + 8 = omega arith in
+    let two : 0 < 2 = omega arith in
+    general_short (least n) (omega arith) ∙ ap (λ t. t ++ unpacked (least n)) front ∙ ap (λ t. bits 8 k ++ t) back
+    ∙ digits-join 2 two 8 (8 * k) k n h ∙ ap (λ t. bits t (k * 2 ^ (8 * k) + n)) sum ∙ ap (bits (8 * k + 8)) (sym i)

@@ -1,0 +1,157 @@
+//! The bits of octets that are left to read.
+ghost use Rattle.std.specs.Prelude.{◌≡◌, ℕ, ◌+◌, ◌-◌, ◌*◌, ◌%◌, ◌/◌, ◌^◌, ◌<◌, ◌≤◌, ◌↔◌, List, [], ◌∷◌, ◌++◌, length, drop, IsTrue, IsNone, IfSome};
+ghost use Rattle.asn_bits.specs.Numbers.{bits, octets, unpacked};
+
+use std::marker::Model;
+
+/// The bits of octets that are left to read, the highest bit of an octet first. Contracts see
+/// the list of these bits, each 0 or 1.
+#[derive(Drop)]
+pub struct BitCursor<'a> {
+    octets: &'a [u8],
+    // so many bits of the first octet are read
+    offset: u32,
+}
+
+impl<'a> Model for BitCursor<'a> {
+    ghost Value = { List ℕ };
+
+    ghost view = { λ s. drop s.offset (unpacked s.octets.now) };
+
+    ghost invariant = { λ s. (s.offset < 8) × (s.offset ≤ 8 * length s.octets.now) };
+}
+
+impl<'a> BitCursor<'a> {
+    /// All bits of the octets.
+    pub fn over(octets: &'a [u8]) -> BitCursor<'a>
+        ensures { result ≡ unpacked octets.now }
+    {
+        BitCursor { octets, offset: 0 }
+    }
+
+    /// Whether no bit is left.
+    pub fn is_empty(&self) -> bool
+        ensures { IsTrue result ↔ (self.now ≡ []) }
+    {
+        self.octets.is_empty()
+    }
+
+    /// How many bits are left of the octet begun: 0 where none is begun, else 1 to 7.
+    pub fn rest_of_octet(&self) -> u32
+        ensures few { result < 8 }
+        ensures rest { result ≡ length self.now % 8 }
+    {
+        if self.offset == 0 { 0 } else { 8 - self.offset }
+    }
+
+    /// How many octets are left of which no bit is read.
+    pub fn octets_left(&self) -> usize
+        ensures { result ≡ length self.now / 8 }
+    {
+        if self.offset == 0 {
+            self.octets.len()
+        } else {
+            self.octets.len() - 1
+        }
+    }
+
+    /// Another cursor at the same bit.
+    pub fn copied(&self) -> BitCursor<'a>
+        ensures { result ≡ self.now }
+    {
+        BitCursor {
+            octets: self.octets,
+            offset: self.offset,
+        }
+    }
+
+    /// The next bit, 0 or 1. `None` exactly where no bit is left.
+    pub fn next(&mut self) -> Option<u8>
+        ensures some { IfSome result (λ bit. self.old ≡ bit ∷ self.new) }
+        ensures none { IsNone result ↔ (self.old ≡ []) }
+        ensures end { self.old ≡ [] → self.new ≡ [] }
+    {
+        let octets = self.octets;
+        let offset = self.offset;
+        let Some((first, rest)) = octets.split_first() else {
+            return None;
+        };
+        if offset == 7 {
+            self.octets = rest;
+            self.offset = 0;
+        } else {
+            self.offset = offset + 1;
+        }
+        Some(bit_at(*first, offset))
+    }
+
+    /// The number in the next `k` bits, the highest first. `None` exactly where fewer than `k`
+    /// bits are left, and then all of them stay.
+    pub fn take_number(&mut self, k: u32) -> Option<u64>
+        requires { k ≤ 64 }
+        ensures fits { IfSome result (λ n. n < 2 ^ k) }
+        ensures some { IfSome result (λ n. self.old ≡ bits k n ++ self.new) }
+        ensures none { IsNone result ↔ (length self.old < k) }
+        ensures unchanged { length self.old < k → self.new ≡ self.old }
+    {
+        let octets = self.octets;
+        let offset = self.offset;
+        let end = offset + k;
+        if octets.len() < ((end + 7) / 8) as usize {
+            return None;
+        }
+        let n = number_at(octets, offset, k);
+        self.octets = &octets[(end / 8) as usize..];
+        self.offset = end % 8;
+        Some(n)
+    }
+}
+
+// the bit behind the first `offset` of an octet
+fn bit_at(octet: u8, offset: u32) -> u8
+    requires { offset < 8 }
+    ensures { result ≡ octet / 2 ^ (7 - offset) % 2 }
+{
+    octet >> (7 - offset) & 1
+}
+
+// the number in the k bits behind the first `offset`
+fn number_at(octets: &[u8], offset: u32, k: u32) -> u64
+    requires begun { offset < 8 }
+    requires few { k ≤ 64 }
+    requires there { offset + k ≤ 8 * length octets.now }
+    ensures fits { result < 2 ^ k }
+    ensures here { drop offset (unpacked octets.now) ≡ bits k result ++ drop (offset + k) (unpacked octets.now) }
+{
+    let end = offset + k;
+    if let Some((eight, rest)) = octets.split_first_chunk::<8>() {
+        if let Some(ninth) = rest.first() {
+            let front = u64::from_be_bytes(*eight) as u128 * 256 + *ninth as u128;
+            return field(front, 72 - end, k);
+        }
+    }
+    let count = (end + 7) / 8;
+    field(joined(&octets[..count as usize]), 8 * count - end, k)
+}
+
+// the k bits of n above the last `below`
+fn field(n: u128, below: u32, k: u32) -> u64
+    requires within { below < 128 }
+    requires few { k ≤ 64 }
+    ensures { result ≡ n / 2 ^ below % 2 ^ k }
+{
+    let mask = (1u128 << k) - 1;
+    (n >> below & mask) as u64
+}
+
+// the number of up to nine octets
+fn joined(front: &[u8]) -> u128
+    requires { length front.now ≤ 9 }
+    ensures { octets (length front.now) result ≡ front.now }
+{
+    let mut n: u128 = 0;
+    for octet in front {
+        n = n * 256 + *octet as u128;
+    }
+    n
+}

@@ -1,0 +1,159 @@
+-- Where the loops of the encoder over the components of a SEQUENCE stand.
+use Rattle.std.proofs.Common.{◌≡◌, ◌⊎◌, ◌≤◌, ◌<◌, ◌+◌, ◌*◌, ◌^◌, ℕ, zero, suc, Bool, true, false, List, [], ◌∷◌, ◌++◌, length, map, Option, Some, None, inl, inr, refl, sym, ◌∙◌, ap, arith, append_assoc}
+use Rattle.std.specs.Bool.{⊤}
+use Rattle.std.proofs.lemmas.List.{append-nil}
+use Rattle.std.proofs.Math.Nat.{pow-succ'}
+use mir.Val.{bool_byte}
+use Rattle.asn_values.specs.Datum.{Datum}
+use Rattle.asn_values.specs.Shape.{Demand, must, optional, default, demands}
+use Rattle.asn_values.specs.Fits.{FitsEach}
+use Rattle.asn_values.specs.Parts.{IsGoodDemand, AreOfProfile}
+use Rattle.asn_values.specs.View.{Part, fields_of}
+use Rattle.asn_bits.specs.Numbers.{bits}
+use Rattle.asn_bits.specs.Sink.{bit_of}
+use Rattle.asn_bits.proofs.Splits.{digits-join}
+use Rattle.asn_rules.specs.Components.{has_presence_bit, is_spelled, presence}
+use Rattle.asn_per.specs.Laws.{per_bits, component_bits}
+use Rattle.asn_per.proofs.Spellings.{component_bits-spelled, component_bits-default}
+
+-- the components that are left, with their entries
+pub record Left (parts : List Part) (entries : List (Option Datum)) : Type 0 where
+  pub of_profile : AreOfProfile (fields_of parts)
+  pub of_type : FitsEach (fields_of parts) entries
+
+pub left_good : {p : Part} {parts : List Part} {e : Option Datum} {entries : List (Option Datum)} → Left (p ∷ parts) (e ∷ entries) → IsGoodDemand p.demand p.shape
+left_good h = h.of_profile.1
+
+pub left_more : {p : Part} {parts : List Part} {e : Option Datum} {entries : List (Option Datum)} → Left (p ∷ parts) (e ∷ entries) → Left parts entries
+left_more h = record { of_profile = h.of_profile.2; of_type = h.of_type.1 }
+
+-- there are as many entries as components
+pub left_ends : (parts : List Part) (entries : List (Option Datum)) → Left parts entries → (parts ≡ []) ⊎ (entries ≡ []) → (parts ≡ []) × (entries ≡ [])
+left_ends [] [] h e = (refl, refl)
+left_ends [] (x ∷ entries) h e = absurd h.of_type
+left_ends (p ∷ parts) [] h e = absurd h.of_type
+left_ends (p ∷ parts) (x ∷ entries) h (inl e) = absurd (cc)
+left_ends (p ∷ parts) (x ∷ entries) h (inr e) = absurd (cc)
+
+-- ---- the presence bitmap
+
+-- so many bits of the bitmap are known, and those of the components that are left follow
+pub record Bitmap (all left : List Part) (entries rest : List (Option Datum)) (count bitmap : ℕ) : Type 0 where
+  pub components : Left left rest
+  pub few : count + length left ≤ length all
+  pub within : bitmap < 2 ^ count
+  pub known : bits count bitmap ++ presence (demands (fields_of left)) rest ≡ presence (demands (fields_of all)) entries
+
+pub bitmap_starts : (all : List Part) (entries : List (Option Datum)) → Left all entries → Bitmap all all entries entries 0 0
+bitmap_starts all entries h = record { components = h; few = omega arith; within = omega arith; known = refl }
+
+one_bit : (b : Bool) → bits 1 (bit_of b) ≡ bit_of b ∷ []
+one_bit true = refl
+one_bit false = refl
+
+-- the number that a truth value converts to is its bit
+pub bool_byte-is : (b : Bool) → bool_byte b ≡ bit_of b
+bool_byte-is true = refl
+bool_byte-is false = refl
+
+bit_below : (b : Bool) → bit_of b < 2
+bit_below true = omega arith
+bit_below false = omega arith
+
+-- one bit more
+bits_more : (count bitmap : ℕ) (b : Bool) → bits (count + 1) (2 * bitmap + bit_of b) ≡ bits count bitmap ++ bit_of b ∷ []
+bits_more count bitmap b =
+    ap (λ (n : ℕ). bits (count + 1) n) (omega arith)
+    ∙ sym (digits-join 2 (omega arith) count 1 bitmap (bit_of b) (omega (arith, bit_below b)))
+    ∙ ap (λ l. bits count bitmap ++ l) (one_bit b)
+
+pub bitmap_passes : {all left : List Part} {p : Part} {entries rest : List (Option Datum)} {e : Option Datum} {count bitmap : ℕ}
+    → Bitmap all (p ∷ left) entries (e ∷ rest) count bitmap → has_presence_bit p.demand ≡ false → Bitmap all left entries rest count bitmap
+bitmap_passes {left = left} {p = p} {entries = entries} {rest = rest} {e = e} {count = count} {bitmap = bitmap} h n = record {
+  components = left_more h.components;
+  few = omega (arith, h.few);
+  within = h.within;
+  known = ap (λ l. bits count bitmap ++ l) (sym (none p.demand n)) ∙ h.known;
+}
+  where
+    none : (d : Demand) → has_presence_bit d ≡ false → presence (d ∷ demands (fields_of left)) (e ∷ rest) ≡ presence (demands (fields_of left)) rest
+    none must k = refl
+    none optional k = absurd (cc)
+    none (default x) k = absurd (cc)
+
+pub bitmap_more : {all left : List Part} {p : Part} {entries rest : List (Option Datum)} {e : Option Datum} {count bitmap next : ℕ}
+    → Bitmap all (p ∷ left) entries (e ∷ rest) count bitmap → has_presence_bit p.demand ≡ true → next ≡ bit_of (is_spelled p.demand e)
+    → Bitmap all left entries rest (count + 1) (2 * bitmap + next)
+bitmap_more {left = left} {p = p} {entries = entries} {rest = rest} {e = e} {count = count} {bitmap = bitmap} {next = next} h n is = record {
+  components = left_more h.components;
+  few = omega (arith, h.few);
+  within = omega (arith, h.within, pow-succ' 2 count, is, bit_below (is_spelled p.demand e), ap (λ (k : ℕ). 2 ^ k) (plus_one count));
+  known =
+      ap (λ (x : ℕ). bits (count + 1) (2 * bitmap + x) ++ presence (demands (fields_of left)) rest) is
+      ∙ ap (λ l. l ++ presence (demands (fields_of left)) rest) (bits_more count bitmap (is_spelled p.demand e))
+      ∙ append_assoc (bits count bitmap) (bit_of (is_spelled p.demand e) ∷ []) (presence (demands (fields_of left)) rest)
+      ∙ ap (λ l. bits count bitmap ++ l) (sym (some p.demand n))
+      ∙ h.known;
+}
+  where
+    plus_one : (k : ℕ) → k + 1 ≡ suc k
+    plus_one k = omega arith
+
+    some : (d : Demand) → has_presence_bit d ≡ true → presence (d ∷ demands (fields_of left)) (e ∷ rest) ≡ bit_of (is_spelled d e) ∷ presence (demands (fields_of left)) rest
+    some must k = absurd (cc)
+    some optional k = refl
+    some (default x) k = refl
+
+pub bitmap_ends : {all left : List Part} {entries rest : List (Option Datum)} {count bitmap : ℕ} → Bitmap all left entries rest count bitmap
+    → (left ≡ []) ⊎ (rest ≡ []) → bits count bitmap ≡ presence (demands (fields_of all)) entries
+bitmap_ends {all} {left} {entries} {rest} {count} {bitmap} h e =
+    let none = left_ends left rest h.components e in
+    sym (append-nil (bits count bitmap))
+    ∙ ap (λ l. bits count bitmap ++ presence (demands (fields_of l)) rest) (sym none.0)
+    ∙ h.known
+
+-- ---- the components
+
+-- what is written, with the bits of the components that are left
+pub record Written (before all_bits now : List ℕ) (left : List Part) (rest : List (Option Datum)) : Type 0 where
+  pub components : Left left rest
+  pub known : now ++ component_bits (fields_of left) rest ≡ before ++ all_bits
+
+pub written_starts : (before : List ℕ) (all : List Part) (entries : List (Option Datum)) → Left all entries → Written before (component_bits (fields_of all) entries) before all entries
+written_starts before all entries h = record { components = h; known = refl }
+
+-- a component that is spelt
+pub written_more : {before all_bits now new : List ℕ} {left : List Part} {p : Part} {rest : List (Option Datum)} {d : Datum}
+    → Written before all_bits now (p ∷ left) (Some d ∷ rest) → is_spelled p.demand (Some d) ≡ true → new ≡ now ++ per_bits p.shape d → Written before all_bits new left rest
+written_more {now = now} {left = left} {p = p} {rest = rest} {d = d} h s e = record {
+  components = left_more h.components;
+  known =
+      ap (λ l. l ++ component_bits (fields_of left) rest) e
+      ∙ append_assoc now (per_bits p.shape d) (component_bits (fields_of left) rest)
+      ∙ ap (λ l. now ++ l) (sym (component_bits-spelled p.name p.demand p.shape (fields_of left) d rest s))
+      ∙ h.known;
+}
+
+-- a component that is absent, or equal to its DEFAULT
+pub written_passes : {before all_bits now : List ℕ} {left : List Part} {p : Part} {rest : List (Option Datum)} {e : Option Datum}
+    → Written before all_bits now (p ∷ left) (e ∷ rest) → (e ≡ None) ⊎ (is_spelled p.demand e ≡ false) → Written before all_bits now left rest
+written_passes {now = now} {left = left} {p = p} {rest = rest} {e = e} h s = record {
+  components = left_more h.components;
+  known = ap (λ l. now ++ l) (sym (nothing e s)) ∙ h.known;
+}
+  where
+    nothing : (x : Option Datum) → (x ≡ None) ⊎ (is_spelled p.demand x ≡ false) → component_bits (fields_of (p ∷ left)) (x ∷ rest) ≡ component_bits (fields_of left) rest
+    nothing None k = refl
+    nothing (Some d) (inl k) = absurd (cc)
+    nothing (Some d) (inr k) = component_bits-default p.name p.demand p.shape (fields_of left) d rest k
+
+pub written_ends : {before all_bits now : List ℕ} {left : List Part} {rest : List (Option Datum)} → Written before all_bits now left rest → (left ≡ []) ⊎ (rest ≡ []) → now ≡ before ++ all_bits
+written_ends {now = now} {left = left} {rest = rest} h e =
+    let none = left_ends left rest h.components e in
+    sym (append-nil now) ∙ ap (λ l. now ++ component_bits (fields_of l) rest) (sym none.0) ∙ h.known
+
+-- ---- where a zip of the components and the entries ends
+
+pub either_map : {A B C D : Type 0} (f : A → B) (g : C → D) {xs : List A} {ys : List C} → (xs ≡ []) ⊎ (ys ≡ []) → (map f xs ≡ []) ⊎ (map g ys ≡ [])
+either_map f g (inl e) = inl (ap (map f) e)
+either_map f g (inr e) = inr (ap (map g) e)

@@ -1,0 +1,172 @@
+//! The encoder.
+ghost use Rattle.std.specs.Prelude.{◌≡◌, ◌≤◌, ◌<◌, ◌^◌, ◌++◌, IfOk, IfErr, OnOk, map, length, vec_len};
+ghost use Rattle.std.specs.Option.{option_map};
+ghost use Rattle.asn_values.specs.Fits.{Fits, FitsEach, FitsNumber};
+ghost use Rattle.asn_values.specs.Shape.{integer, demands};
+ghost use Rattle.asn_values.specs.Datum.{number};
+ghost use Rattle.asn_values.specs.Profile.{InProfile};
+ghost use Rattle.asn_values.specs.Parts.{AreOfProfile, IsGoodDemand};
+ghost use Rattle.asn_values.specs.View.{shape_of, datum_of, range_of, fields_of, part_of_field};
+ghost use Rattle.asn_bits.specs.Numbers.{bits, least};
+ghost use Rattle.asn_bits.specs.Lengths.{general_octets};
+ghost use Rattle.asn_rules.specs.Answer.{max_octets};
+ghost use Rattle.asn_rules.specs.Codec.{NotEncoded};
+ghost use Rattle.asn_rules.specs.Components.{has_presence_bit, is_spelled, presence};
+ghost use Rattle.asn_per.specs.Rules.{per_ruling, IsPerEncoding};
+ghost use Rattle.asn_per.specs.Laws.{per_bits, component_bits};
+
+use asn_bits::BitSink;
+use asn_bits::numbers::{octet_count, width};
+use asn_bits::offsets::above;
+use asn_rules::EncodeFault;
+use asn_values::{AsnType, Bounds, Checked, Field, Need, Value, fits, same};
+use std::alloc::{AllocError, Global};
+
+/// The most octets of a message.
+const MAX_OCTETS: usize = 268_435_455;
+
+/// The complete encoding of a value of the type (X.691, "complete encoding").
+///
+/// `NotOfType` where the value is none of the type, `TooLong` where it is and its encoding has more
+/// than 268,435,455 octets, `Memory` where it is and a growth was refused.
+pub fn encode(alloc: Global, ty: &Checked, value: &Value) -> Result<Vec<u8>, EncodeFault>
+    ensures encoding { IfOk result (λ o. IsPerEncoding (shape_of ty.now) (datum_of value.now) o.items) }
+    ensures within { IfOk result (λ o. vec_len o ≤ max_octets) }
+    ensures fault { IfErr result (λ why. NotEncoded per_ruling why (shape_of ty.now) (datum_of value.now)) }
+{
+    if !fits(ty, value) {
+        return Err(EncodeFault::NotOfType);
+    }
+    let mut sink = BitSink::new(alloc);
+    write(ty.get(), value, &mut sink)?;
+    if sink.is_empty() {
+        sink.push_number(8, 0)?;
+    }
+    sink.pad()?;
+    let octets = sink.into_octets();
+    if octets.len() > MAX_OCTETS {
+        return Err(EncodeFault::TooLong);
+    }
+    Ok(octets)
+}
+
+/// Writes a value of the type.
+#[cycle(writer)]
+fn write(ty: &AsnType, value: &Value, sink: &mut BitSink) -> Result<(), AllocError>
+    requires of_profile { InProfile (shape_of ty.now) }
+    requires of_type { Fits (shape_of ty.now) (datum_of value.now) }
+    ensures { OnOk result (sink.new ≡ sink.old ++ per_bits (shape_of ty.now) (datum_of value.now)) }
+{
+    match ty {
+        AsnType::Bool => {
+            let Value::Bool(truth) = value else {
+                unreachable!()
+            };
+            sink.push(*truth)
+        }
+        AsnType::Int(bounds) => {
+            let Value::Int(integer) = value else {
+                unreachable!()
+            };
+            write_integer(bounds, *integer, sink)
+        }
+        AsnType::Seq { root } => {
+            let Value::Seq(entries) = value else {
+                unreachable!()
+            };
+            let (count, bitmap) = presence_bitmap(root, entries);
+            sink.push_number(count, bitmap)?;
+            write_components(root, entries, sink)
+        }
+    }
+}
+
+/// Writes a number of the range: as a constrained whole number where there is an upper bound, else as
+/// a semi-constrained one (X.691, "encoding the integer type").
+fn write_integer(bounds: &Bounds, whole: i128, sink: &mut BitSink) -> Result<(), AllocError>
+    requires of_profile { InProfile (integer (range_of bounds.now)) }
+    requires of_type { FitsNumber (range_of bounds.now) whole }
+    ensures { OnOk result (sink.new ≡ sink.old ++ per_bits (integer (range_of bounds.now)) (number whole)) }
+{
+    let offset = above(bounds.low, whole);
+    match bounds.high {
+        Some(high) => sink.push_number(width(u128::from(above(bounds.low, high)) + 1), offset),
+        None => write_counted(offset, sink),
+    }
+}
+
+/// Writes a number in the fewest octets, behind their count in an octet (X.691, "semi-constrained
+/// whole number").
+fn write_counted(n: u64, sink: &mut BitSink) -> Result<(), AllocError>
+    ensures { OnOk result (sink.new ≡ sink.old ++ general_octets (λ u. u) (least n)) }
+{
+    let count = octet_count(n);
+    sink.push_number(8, count as u64)?;
+    sink.push_number(8 * count, n)
+}
+
+/// How many presence bits the components have, and the bitmap as a number (X.691, "encoding the
+/// sequence type").
+fn presence_bitmap(fields: &[Field], entries: &[Option<Value>]) -> (u32, u64)
+    requires of_profile { AreOfProfile (fields_of (map part_of_field fields.now)) }
+    requires of_type { FitsEach (fields_of (map part_of_field fields.now)) (map (option_map datum_of) entries.now) }
+    requires few { length fields.now ≤ 64 }
+    ensures count { result.0 ≤ 64 }
+    ensures within { result.1 < 2 ^ result.0 }
+    ensures bitmap { bits result.0 result.1
+        ≡ presence (demands (fields_of (map part_of_field fields.now))) (map (option_map datum_of) entries.now) }
+{
+    let mut count = 0;
+    let mut bitmap = 0;
+    for (field, entry) in fields.iter().zip(entries) {
+        if may_be_absent(field) {
+            count += 1;
+            bitmap = 2 * bitmap + u64::from(is_encoded(field, entry));
+        }
+    }
+    (count, bitmap)
+}
+
+/// Whether the component has a presence bit.
+fn may_be_absent(field: &Field) -> bool
+    ensures { result ≡ has_presence_bit (part_of_field field.now).demand }
+{
+    !matches!(field.need, Need::Must)
+}
+
+/// Whether a component is encoded: it has a value, and not its DEFAULT.
+fn is_encoded(field: &Field, entry: &Option<Value>) -> bool
+    requires { IsGoodDemand (part_of_field field.now).demand (part_of_field field.now).shape }
+    ensures { result ≡ is_spelled (part_of_field field.now).demand (option_map datum_of entry.now) }
+{
+    match &field.need {
+        Need::Must => true,
+        Need::Optional => entry.is_some(),
+        Need::Default(default) => match entry {
+            None => false,
+            Some(value) => !same(default, value),
+        },
+    }
+}
+
+/// Writes the components that are encoded, in order.
+#[cycle(writer)]
+fn write_components(
+    fields: &[Field],
+    entries: &[Option<Value>],
+    sink: &mut BitSink,
+) -> Result<(), AllocError>
+    requires of_profile { AreOfProfile (fields_of (map part_of_field fields.now)) }
+    requires of_type { FitsEach (fields_of (map part_of_field fields.now)) (map (option_map datum_of) entries.now) }
+    ensures { OnOk result (sink.new ≡ sink.old
+        ++ component_bits (fields_of (map part_of_field fields.now)) (map (option_map datum_of) entries.now)) }
+{
+    for (field, entry) in fields.iter().zip(entries) {
+        if let Some(value) = entry
+            && is_encoded(field, entry)
+        {
+            write(&field.ty, value, sink)?;
+        }
+    }
+    Ok(())
+}

@@ -1,0 +1,5 @@
+use Rattle.asn_rules.proofs.Reading.{one_reading}
+use Rattle.asn_rules.proofs.readings.one_reading.Goals as goal
+
+pub returns : goal.returns
+returns c = one_reading

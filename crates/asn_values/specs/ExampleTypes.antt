@@ -217,17 +217,11 @@ truths n = sequence (optionals_of n boolean) closed
 abbrev pub large_type : ℕ → Shape
 large_type n =
     sequence (component [] (sequence (optionals_of 64 (truths 64)) closed)
-<<<<<<< HEAD
-        (component [] (sequence (optionals_of 64 (truths 64)) closed)
-            (component [] (sequence (optionals_of 25 (truths 64)) closed)
-                (component [] (truths n) no_fields)))) closed
+    (component [] (sequence (optionals_of 64 (truths 64)) closed)
+    (component [] (sequence (optionals_of 25 (truths 64)) closed)
+    (component [] (truths n) no_fields)))) closed
 
 -- BOOLEAN, and so many times a SEQUENCE with two components of the type before
 abbrev pub doubled : ℕ → Shape
 doubled zero = boolean
 doubled (suc n) = sequence (component (codes "a") (doubled n) (component (codes "b") (doubled n) no_fields)) closed
-=======
-    (component [] (sequence (optionals_of 64 (truths 64)) closed)
-    (component [] (sequence (optionals_of 25 (truths 64)) closed)
-    (component [] (truths n) no_fields)))) closed
->>>>>>> values

@@ -9,3 +9,4 @@ pub mod SpeltLeaves
 pub mod SpeltTypes
 pub mod Strings
 pub mod Whole
+pub mod Tells

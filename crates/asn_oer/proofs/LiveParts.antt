@@ -18,14 +18,14 @@ some_length n = go (nat_lt n 128) refl
     go false e = rw (e, octet_length) (omega arith)
 
 -- a field has at least one octet
-some_octets : (c : List ℕ) → 0 < length (spelled c)
+pub some_octets : (c : List ℕ) → 0 < length (spelled c)
 some_octets c = omega (arith, length-append (octet_length (length c)) c, some_length (length c))
 
 -- a field of one octet 0 begins
-open_starts : Free oer_fields open_field []
+pub open_starts : Free oer_fields open_field []
 open_starts = (0 ∷ [], (omega arith, omega arith, (omega arith, tt)), (1, 0 ∷ [], refl))
 
-utf8_starts : Free oer_fields utf8_field []
+pub utf8_starts : Free oer_fields utf8_field []
 utf8_starts = (0 ∷ [], (omega arith, omega arith, (omega arith, tt)), (1, 0 ∷ [], refl))
 
 pub oer_live_iff : (t : Shape) → InProfile t → (b : List ℕ) → Live oer_fields oer t b ↔ LiveByChunks oer_fields oer t b

@@ -2,6 +2,7 @@
 
 ghost use Rattle.asn_rules.specs.Laws.{UnitsTellTheValue, OneValue, NoneBegins, RulesLaws, LiveIsClosed, LiveByPartsInProfile, OneAnswer};
 ghost use Rattle.asn_rules.specs.Parted.{SpellingsPart};
+ghost use Rattle.asn_rules.specs.Reading.{RulesTell};
 ghost use Rattle.asn_oer.specs.Oer.{oer, oer_fields, oer_octets};
 ghost use Rattle.asn_oer.specs.Rules.{oer_ruling};
 
@@ -38,4 +39,11 @@ pub fn live_is_closed()
 /// one place, too long, or more to come.
 pub fn answers_exclude()
     ensures { OneAnswer oer_ruling }
+{}
+
+/// What makes a reader of OER exact: two encodings of one type are one, of one value, or part at
+/// an octet or inside sealed fields of one kind; each sealed field is as long as its content at least and
+/// begins no other; and the octets of octets are those of each, one after the other.
+pub fn readers_tell()
+    ensures { RulesTell oer_ruling }
 {}

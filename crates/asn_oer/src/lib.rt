@@ -3,4 +3,6 @@
 
 mod laws;
 
-pub use laws::{answers_exclude, encoding_laws, live_by_parts, live_is_closed, spellings_tell};
+pub use laws::{
+    answers_exclude, encoding_laws, live_by_parts, live_is_closed, readers_tell, spellings_tell,
+};

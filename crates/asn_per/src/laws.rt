@@ -2,6 +2,7 @@
 
 ghost use Rattle.asn_rules.specs.Laws.{EachHasAValue, EncodesAs, UnitsTellTheValue, OneValue, NoneBegins, RulesLaws, LiveIsClosed, LiveByParts, OneAnswer};
 ghost use Rattle.asn_rules.specs.Parted.{SpellingsPart};
+ghost use Rattle.asn_rules.specs.Reading.{RulesTell};
 ghost use Rattle.asn_per.specs.Per.{per, per_fields, per_octets, per_whole};
 ghost use Rattle.asn_per.specs.Rules.{per_ruling};
 ghost use Rattle.asn_per.specs.Laws.{per_bits, NoBitsIsExact};
@@ -47,4 +48,11 @@ pub fn live_is_closed()
 /// one place, too long, or more to come.
 pub fn answers_exclude()
     ensures { OneAnswer per_ruling }
+{}
+
+/// What makes a reader of PER exact: two complete encodings of one type are one, of one value, or part at
+/// a bit or inside sealed fields of one kind; each sealed field is as long as its content at least and
+/// begins no other; and the bits of octets are those of each, one after the other.
+pub fn readers_tell()
+    ensures { RulesTell per_ruling }
 {}

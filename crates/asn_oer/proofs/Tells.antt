@@ -1,0 +1,26 @@
+-- Readers of OER can tell encodings, octet by octet.
+use Rattle.std.proofs.Common.{◌*◌, ℕ, length, length-append, refl, arith}
+use Rattle.asn_bits.specs.Lengths.{octet_length}
+use Rattle.asn_rules.specs.Reading.{RulesTell}
+use Rattle.asn_oer.specs.Rules.{oer_ruling}
+use Rattle.asn_oer.proofs.GoodTypes.{good}
+use Rattle.asn_oer.proofs.Lengths.{spelled_code}
+use Rattle.asn_oer.proofs.LiveParts.{some_octets, open_starts, utf8_starts}
+use Rattle.asn_oer.proofs.SpeltTypes.{oer_spelt, few_levels}
+use Rattle.asn_oer.proofs.Whole.{oer_part}
+
+pub oer_tells : RulesTell oer_ruling
+unfolding oer_ruling
+oer_tells = record {
+  weight = 1;
+  some = omega arith;
+  count = λ o. omega arith;
+  joined = λ o p. refl;
+  long = λ c. omega (arith, length-append (octet_length (length c)) c);
+  units = some_octets;
+  tells = λ c d s t p q e. (spelled_code c d s t e).0;
+  open_starts = open_starts;
+  utf8_starts = utf8_starts;
+  sealed = λ t v h f. (oer_spelt t (good t h) (few_levels t h) v f).held;
+  part = oer_part;
+}

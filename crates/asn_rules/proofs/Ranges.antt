@@ -197,3 +197,30 @@ general_sets L {S} {T} f g = record {
 -- behind blocks, the general length of what is left
 pub general_left : {A : Type 0} (L : A → List Chunk → Type 0) (S : ℕ → Type 0) (o m : ℕ) → Same (General L (Left (At S o false) m)) (General L (At S (o + 16384 * m) (nat_lt m 4)))
 general_left L S o m = general_sets L (λ n h. left_at h) (λ n h. at_left h)
+
+-- ---- what a reader of a length tests, where the counts are of intervals
+
+pub reaches_few : (is : List (ℕ × Option ℕ)) (o : ℕ) (c : Bool) (p r : ℕ) → 0 < 2 ^ r → (p + 1) * 2 ^ r ≤ 128 → Reaches is (o + p * 2 ^ r) (Some (o + ((p + 1) * 2 ^ r - 1))) → Meets (Few (At (Spanned is) o c)) p r
+reaches_few is o c p r w l h = range_few o c p r w l (reaches_some is (o + p * 2 ^ r) (Some (o + ((p + 1) * 2 ^ r - 1))) h)
+
+pub few_reaches : (is : List (ℕ × Option ℕ)) {o : ℕ} {c : Bool} {p r : ℕ} → Meets (Few (At (Spanned is) o c)) p r → Reaches is (o + p * 2 ^ r) (Some (o + ((p + 1) * 2 ^ r - 1)))
+few_reaches is {o} {c} {p} {r} m = some_reaches is (o + p * 2 ^ r) (Some (o + ((p + 1) * 2 ^ r - 1))) (few_range m)
+
+pub reaches_many : (is : List (ℕ × Option ℕ)) (o : ℕ) (c : Bool) (p r : ℕ) → 0 < 2 ^ r → (p + 1) * 2 ^ r ≤ 16384 → Reaches is (o + max 128 (p * 2 ^ r)) (Some (o + ((p + 1) * 2 ^ r - 1))) → Meets (Many (At (Spanned is) o c)) p r
+reaches_many is o c p r w l h = range_many o c p r w l (reaches_some is (o + max 128 (p * 2 ^ r)) (Some (o + ((p + 1) * 2 ^ r - 1))) h)
+
+pub many_reaches : (is : List (ℕ × Option ℕ)) {o : ℕ} {c : Bool} {p r : ℕ} → Meets (Many (At (Spanned is) o c)) p r → Reaches is (o + max 128 (p * 2 ^ r)) (Some (o + ((p + 1) * 2 ^ r - 1)))
+many_reaches is {o} {c} {p} {r} m = some_reaches is (o + max 128 (p * 2 ^ r)) (Some (o + ((p + 1) * 2 ^ r - 1))) (many_range m)
+
+-- of fragments only where the one before had 4 blocks, or there is none before
+pub reaches_blocks : (is : List (ℕ × Option ℕ)) (o p r : ℕ) → 0 < 2 ^ r → max 1 (p * 2 ^ r) ≤ min 4 ((p + 1) * 2 ^ r - 1) → Reaches is (o + 16384 * max 1 (p * 2 ^ r)) (last_of_blocks o (min 4 ((p + 1) * 2 ^ r - 1))) → Meets (Blocks (At (Spanned is) o false)) p r
+reaches_blocks is o p r w l h = range_blocks o p r w l (reaches_some is (o + 16384 * max 1 (p * 2 ^ r)) (last_of_blocks o (min 4 ((p + 1) * 2 ^ r - 1))) h)
+
+pub blocks_reaches : (is : List (ℕ × Option ℕ)) {o p r : ℕ} → Meets (Blocks (At (Spanned is) o false)) p r → (max 1 (p * 2 ^ r) ≤ min 4 ((p + 1) * 2 ^ r - 1)) × Reaches is (o + 16384 * max 1 (p * 2 ^ r)) (last_of_blocks o (min 4 ((p + 1) * 2 ^ r - 1)))
+blocks_reaches is {o} {p} {r} m =
+    let w = blocks_range m in
+    (w.0, some_reaches is (o + 16384 * max 1 (p * 2 ^ r)) (last_of_blocks o (min 4 ((p + 1) * 2 ^ r - 1))) w.1)
+
+-- the whole count is one of them
+pub starts_spanned : {A : Type 0} (L : A → List Chunk → Type 0) (is : List (ℕ × Option ℕ)) → Same (General L (At (Spanned is) 0 false)) (General L (Spanned is))
+starts_spanned L is = general_sets L (λ n h. start_at h) (λ n h. at_start h)

@@ -6,27 +6,33 @@ use Rattle.asn_bits.specs.Numbers.{bits, padding, packed, unpacked}
 use Rattle.asn_bits.proofs.Codes.{equal_fronts}
 use Rattle.asn_bits.proofs.Octets.{packed_octets}
 
+-- each is 0 or 1
 abbrev pub AreBits : List ℕ → Type 0
 AreBits us = AllByRecursion (λ u. u < 2) us
 
 -- ---- lists of bits
 
+-- bits behind bits are bits
 pub bits_append : (xs ys : List ℕ) → AreBits xs → AreBits ys → AreBits (xs ++ ys)
 bits_append [] ys p q = q
 bits_append (x ∷ xs) ys p q = (p.0, bits_append xs ys p.1 q)
 
+-- zeros are bits
 zeros : (n : ℕ) → AreBits (replicate n 0)
 zeros zero = tt
 zeros (suc n) = (omega arith, zeros n)
 
+-- what fills up the last octet is bits
 pub padding_bits : (n : ℕ) → AreBits (padding n)
 padding_bits n = zeros ((8 - n % 8) % 8)
 
+-- how many zeros fill up the last octet
 pub length-padding : (n : ℕ) → length (padding n) ≡ (8 - n % 8) % 8
 length-padding n = length-replicate ((8 - n % 8) % 8) 0
 
 -- ---- whole octets
 
+-- eight bits come back from their octet
 octet_of : (a b c d e f g h : ℕ) → a < 2 → b < 2 → c < 2 → d < 2 → e < 2 → f < 2 → g < 2 → h < 2
     → bits 8 (128 * a + 64 * b + 32 * c + 16 * d + 8 * e + 4 * f + 2 * g + h) ≡ a ∷ b ∷ c ∷ d ∷ e ∷ f ∷ g ∷ h ∷ []
 octet_of a b c d e f g h pa pb pc pd pe pf pg ph =
@@ -81,12 +87,15 @@ packed_code us ws r s p q l m e =
 abbrev pub filled_up : List ℕ → List ℕ
 filled_up bs = bs ++ padding (length bs)
 
+-- filled up, bits are bits
 pub filled_up_bits : (bs : List ℕ) → AreBits bs → AreBits (filled_up bs)
 filled_up_bits bs h = bits_append bs (padding (length bs)) h (padding_bits (length bs))
 
+-- and fill octets
 pub filled_up_fills : (bs : List ℕ) → length (filled_up bs) % 8 ≡ 0
 filled_up_fills bs = omega (arith, length-append bs (padding (length bs)), length-padding (length bs))
 
+-- so their packing is octets
 pub filled_up_octets : (bs : List ℕ) → AreBits bs → AllByRecursion (λ o. o < 256) (packed (filled_up bs))
 filled_up_octets bs h = packed_octets (filled_up bs) (filled_up_bits bs h)
 

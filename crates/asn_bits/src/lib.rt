@@ -9,3 +9,6 @@ pub mod sink;
 
 pub use cursor::BitCursor;
 pub use sink::BitSink;
+
+#[cfg(test)]
+mod tests;

@@ -13,10 +13,12 @@ pub record Good (t : Shape) : Type 0 where
   pub numbers : somewhere bad_enumeration t ≡ false
   pub parts : somewhere too_many_here t ≡ false
 
+-- the same of components
 pub record GoodFields (fs : Fields) : Type 0 where
   pub numbers : some_field bad_enumeration fs ≡ false
   pub parts : some_field too_many_here fs ≡ false
 
+-- the same of alternatives
 pub record GoodAlternatives (alts : Alternatives) : Type 0 where
   pub numbers : some_alternative bad_enumeration alts ≡ false
   pub parts : some_alternative too_many_here alts ≡ false
@@ -25,15 +27,19 @@ pub record GoodAlternatives (alts : Alternatives) : Type 0 where
 pub good : (t : Shape) → InProfile t → Good t
 good t h = record { numbers = h BadEnumeration; parts = (or_parts (somewhere too_many_here t) (nat_lt most_nodes (nodes t)) (h TooMany)).0 }
 
+-- the type of the first component is such
 pub first_good : (name : List ℕ) (demand : Demand) (t : Shape) (fs : Fields) → GoodFields (field name demand t fs) → Good t
 first_good name demand t fs h = record { numbers = (or_parts (somewhere bad_enumeration t) (some_field bad_enumeration fs) h.numbers).0; parts = (or_parts (somewhere too_many_here t) (some_field too_many_here fs) h.parts).0 }
 
+-- and so are the components behind it
 pub rest_good : (name : List ℕ) (demand : Demand) (t : Shape) (fs : Fields) → GoodFields (field name demand t fs) → GoodFields fs
 rest_good name demand t fs h = record { numbers = (or_parts (somewhere bad_enumeration t) (some_field bad_enumeration fs) h.numbers).1; parts = (or_parts (somewhere too_many_here t) (some_field too_many_here fs) h.parts).1 }
 
+-- the type of the first alternative is such
 pub here_good : (name : List ℕ) (t : Shape) (alts : Alternatives) → GoodAlternatives (one_of name t alts) → Good t
 here_good name t alts h = record { numbers = (or_parts (somewhere bad_enumeration t) (some_alternative bad_enumeration alts) h.numbers).0; parts = (or_parts (somewhere too_many_here t) (some_alternative too_many_here alts) h.parts).0 }
 
+-- and so are the alternatives behind it
 pub later_good : (name : List ℕ) (t : Shape) (alts : Alternatives) → GoodAlternatives (one_of name t alts) → GoodAlternatives alts
 later_good name t alts h = record { numbers = (or_parts (somewhere bad_enumeration t) (some_alternative bad_enumeration alts) h.numbers).1; parts = (or_parts (somewhere too_many_here t) (some_alternative too_many_here alts) h.parts).1 }
 
@@ -44,6 +50,7 @@ root_good root more h =
     let b = or_parts (some_field too_many_here root) (some_addition too_many_here more) (or_parts (too_many_here (sequence root more)) _ h.parts).1 in
     record { numbers = a.0; parts = b.0 }
 
+-- and of its additions
 pub additions_good : (root fs : Fields) → Good (sequence root (marked fs)) → GoodFields fs
 additions_good root fs h =
     let a = or_parts (some_field bad_enumeration root) (some_field bad_enumeration fs) h.numbers in
@@ -57,6 +64,7 @@ choice_good root more h =
     let b = or_parts (some_alternative too_many_here root) (some_more too_many_here more) (or_parts (too_many_here (choice root more)) _ h.parts).1 in
     record { numbers = a.0; parts = b.0 }
 
+-- and of its additions
 pub choice_additions_good : (root alts : Alternatives) → Good (choice root (marked_choice alts)) → GoodAlternatives alts
 choice_additions_good root alts h =
     let a = or_parts (some_alternative bad_enumeration root) (some_alternative bad_enumeration alts) h.numbers in
@@ -69,11 +77,13 @@ few_alternatives root more h = ltb-false 63 (count root + count (more_alternativ
 
 -- ---- the tags of a CHOICE
 
+-- the place of a value of an alternative is one of the alternatives
 alternative_place : (alts : Alternatives) (i : ℕ) (d : Datum) → FitsAlternative alts i d → i < count alts
 alternative_place no_alternatives i d f = absurd f
 alternative_place (one_of name t alts) zero d f = omega arith
 alternative_place (one_of name t alts) (suc i) d f = let h = alternative_place alts i d f in omega arith
 
+-- and so is that of an addition
 addition_place : (more : MoreAlternatives) (i : ℕ) (d : Datum) → FitsMoreAlternatives more i d → i < count (more_alternatives more)
 addition_place closed_choice i d f = absurd f
 addition_place (marked_choice alts) i d f = alternative_place alts i d f

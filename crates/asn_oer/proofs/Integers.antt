@@ -26,11 +26,13 @@ unsigned_cases u = go (int_lt u (pos (2 ^ 8))) (int_lt u (pos (2 ^ 16))) (int_lt
     go false false false true ea eb ec ed = inl (8, rw (ea, eb, ec, ed, unsigned_octets) refl, ed, omega arith)
     go false false false false ea eb ec ed = inr (rw (ea, eb, ec, ed, unsigned_octets) refl)
 
+-- a number up to a bound that is below n is below n
 below_bound : (u y : ℤ) (n : ℕ) → int_le (pos 0) y ≡ true → int_le y u ≡ true → int_lt u (pos n) ≡ true → magnitude_of y < n
 below_bound (pos m) (pos k) n p q l = omega (arith, leb-true k m q, ltb-true m n l)
 below_bound (negsuc m) (pos k) n p q l = absurd (true≢false (sym q))
 below_bound u (negsuc k) n p q l = absurd (true≢false (sym p))
 
+-- numbers from 0 up to the high bound are a code
 unsigned_code : (u y z : ℤ) (r s : List ℕ) → int_le (pos 0) y ≡ true → int_le (pos 0) z ≡ true → int_le y u ≡ true → int_le z u ≡ true
     → unsigned_in (unsigned_octets u) y ++ r ≡ unsigned_in (unsigned_octets u) z ++ s → (y ≡ z) × (r ≡ s)
 unsigned_code u y z r s p q a b e =
@@ -56,12 +58,14 @@ signed_cases l u = go (both_in 1 l u) (both_in 2 l u) (both_in 4 l u) (both_in 8
     go false false false true ea eb ec ed = inl (8, omega arith, rw (ea, eb, ec, ed, signed_size) refl, ed, omega arith)
     go false false false false ea eb ec ed = inr (rw (ea, eb, ec, ed, signed_size) refl)
 
+-- numbers between bounds of so many octets are of so many
 in_bound : (l u y : ℤ) (n : ℕ) → 0 < n → int_le (negsuc (n - 1)) l ≡ true → int_lt u (pos n) ≡ true → int_le l y ≡ true → int_le y u ≡ true → magnitude y < n
 in_bound l (pos u) (pos y) n h a b p q = omega (arith, ltb-true u n b, leb-true y u q)
 in_bound l (negsuc u) (pos y) n h a b p q = absurd (true≢false (sym q))
 in_bound (pos l) u (negsuc y) n h a b p q = absurd (true≢false (sym p))
 in_bound (negsuc l) u (negsuc y) n h a b p q = omega (arith, leb-true l (n - 1) a, leb-true y l p)
 
+-- numbers between the bounds are a code in two's complement
 signed_code : (l u y z : ℤ) (r s : List ℕ) → int_le l y ≡ true → int_le l z ≡ true → int_le y u ≡ true → int_le z u ≡ true
     → signed_in (signed_size l u) y ++ r ≡ signed_in (signed_size l u) z ++ s → (y ≡ z) × (r ≡ s)
 signed_code l u y z r s p q a b e =
@@ -77,10 +81,12 @@ signed_code l u y z r s p q a b e =
 
 -- ---- all bounds
 
+-- a number not below one from 0 is from 0
 from_zero : (l : ℕ) (y : ℤ) → int_le (pos l) y ≡ true → int_le (pos 0) y ≡ true
 from_zero l (pos n) h = le-leb 0 n (omega arith)
 from_zero l (negsuc n) h = absurd (true≢false (sym h))
 
+-- the numbers between the bounds, of which either may be missing, are a code
 ranged_code : (low high : Option ℤ) (y z : ℤ) (r s : List ℕ) → (at_least low y && at_most high y) ≡ true → (at_least low z && at_most high z) ≡ true
     → ranged low high y ++ r ≡ ranged low high z ++ s → (y ≡ z) × (r ≡ s)
 ranged_code (Some (pos l)) (Some u) y z r s p q e =
@@ -95,6 +101,7 @@ ranged_code (Some (negsuc l)) (Some u) y z r s p q e =
 ranged_code (Some (negsuc l)) None y z r s p q e = counted_signed_code y z r s e
 ranged_code None high y z r s p q e = counted_signed_code y z r s e
 
+-- an INTEGER is a code
 pub number_code : (b : Range) → IsCode (FitsNumber b) (whole_number b)
 number_code b y z r s p q e = go b.extensible refl e
   where

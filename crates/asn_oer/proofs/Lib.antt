@@ -8,5 +8,7 @@ pub mod Spelt
 pub mod SpeltLeaves
 pub mod SpeltTypes
 pub mod Strings
+pub mod Tells
+pub mod PlaceExamples
 pub mod Whole
 pub mod Tells

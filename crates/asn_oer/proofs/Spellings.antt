@@ -9,10 +9,10 @@ use Rattle.asn_bits.specs.Numbers.{least}
 use Rattle.asn_bits.specs.Lengths.{joined}
 use Rattle.asn_bits.proofs.Codes.{IsCode}
 use Rattle.asn_bits.proofs.Octets.{least_once}
-use Rattle.asn_bits.proofs.FilledBits.{AreBits, bits_append, filled_up_code}
+use Rattle.asn_bits.proofs.FilledBits.{AreBits, filled_up_code}
 use Rattle.asn_rules.specs.Chunks.{open_field, Chunk, ones, flat}
 use Rattle.asn_rules.specs.Components.{bit_of, number_at, presence, if_spelled, any_present, extension_bit}
-use Rattle.asn_rules.proofs.Entries.{front_bits, presence_bits, extension_bits, length-extension_bit, same_elements, same_components, presence_first, length-presence, each_length, none_present, SameFront, front_code, entry_facing}
+use Rattle.asn_rules.proofs.Entries.{front_bits, presence_bits, length-extension_bit, same_elements, same_components, presence_first, length-presence, each_length, none_present, SameFront, front_code, entry_facing}
 use Rattle.asn_rules.proofs.Facing.{FieldsTell, Facing, IsFacing, facing_parts, plain_facing, code_facing, sealed_facing, joined_facing}
 use Rattle.asn_rules.proofs.FromFacing.{SpellingsFace, facing_code}
 use Rattle.asn_rules.proofs.Items.{good_items, item_once}
@@ -25,15 +25,18 @@ use Rattle.asn_oer.proofs.Strings.{sized_code, bits_code, variable_code}
 
 -- ---- parts
 
+-- facing in OER
 abbrev Face : Type 0 → List Chunk → List Chunk → Type 0
 Face E xs ys = Facing spelled E xs ys
 
+-- a truth value is a code
 truth_code : IsCode (λ b. IsTrue true) (λ b. truth_octet b ∷ [])
 truth_code false false r s p q e = (refl, cc)
 truth_code true true r s p q e = (refl, cc)
 truth_code false true r s p q e = let z : ◌≡◌ {A = ℕ} 0 255 = cc in absurd (omega arith)
 truth_code true false r s p q e = let z : ◌≡◌ {A = ℕ} 255 0 = cc in absurd (omega arith)
 
+-- a field tells its content
 field_tells : (c d : List ℕ) → FieldsTell spelled open_field c open_field d
 field_tells c d r s e = spelled_code c d r s e
 
@@ -47,6 +50,7 @@ open_facing P code h =
 abbrev pub front : Bool → Bool → List Demand → List (Option Datum) → List ℕ
 front m a ds es = extension_bit m a ++ presence ds es
 
+-- the octets of the preamble tell its bits
 preamble_code : (m a b : Bool) (ds : List Demand) (es gs : List (Option Datum)) (r s : List ℕ) → length es ≡ length ds → length gs ≡ length ds
     → filled_bits (front m a ds es) ++ r ≡ filled_bits (front m b ds gs) ++ s → SameFront m a b ds es gs × (filled_bits (front m a ds es) ≡ filled_bits (front m b ds gs))
 preamble_code m a b ds es gs r s p q e =
@@ -191,15 +195,18 @@ mutual
       E demand x y (oer_open fs es ++ r) (oer_open fs gs ++ s) p.0 q.0 bit.0
       (λ first. opens_facing fs (rest_good name demand t fs h) E es gs r s p.1 q.1 bit.1 (λ rest. next (cc (first, rest)))))
 
+  -- the values of one alternative of the root
   alternative_facing : (alts : Alternatives) → GoodAlternatives alts → (i : ℕ) → IsFacing spelled (λ d. FitsAlternative alts i d) (λ d. oer_alternative alts i d)
   alternative_facing no_alternatives h i E x y r s p q next = absurd p
   alternative_facing (one_of name t alts) h zero E x y r s p q next = oer_facing t (here_good name t alts h) E x y r s p q next
   alternative_facing (one_of name t alts) h (suc i) E x y r s p q next = alternative_facing alts (later_good name t alts h) i E x y r s p q next
 
+  -- the values of one addition, in an open field
   other_facing : (root : Alternatives) (more : MoreAlternatives) → Good (choice root more) → (i : ℕ) → IsFacing spelled (λ d. FitsMoreAlternatives more i d) (λ d. oer_more more i d)
   other_facing root closed_choice h i E x y r s p q next = absurd p
   other_facing root (marked_choice alts) h i E x y r s p q next =
       open_facing (λ d. FitsAlternative alts i d) (λ d. oer_alternative alts i d) (λ G u v r' s' p' q' n'. alternative_facing alts (choice_additions_good root alts h) i G u v r' s' p' q' n') E x y r s p q next
 
+-- the spellings of each type of the profile face each other
 pub oer_faces : SpellingsFace spelled oer
 oer_faces t h E x y r s p q next = oer_facing t (good t h) E x y r s p q next

@@ -1,20 +1,17 @@
 -- Spellings in OER are octets and not too many, and their sealed fields hold what such fields may: what holds
 -- of the parts of spellings.
-use Rattle.std.proofs.Common.{◌≡◌, ◌≤◌, ◌<◌, ◌+◌, ◌*◌, ◌^◌, ℕ, suc, Bool, true, false, List, [], ◌∷◌, ◌++◌, length, map, Option, Some, None, refl, sym, subst, arith, nat_lt, length-append}
+use Rattle.std.proofs.Common.{◌≡◌, ◌≤◌, ◌<◌, ◌+◌, ◌*◌, ◌^◌, ℕ, suc, Bool, true, false, List, [], ◌∷◌, ◌++◌, length, map, refl, sym, subst, arith, nat_lt, length-append}
 use Rattle.std.proofs.lemmas.Bool.{ltb-true}
 use Rattle.std.proofs.Math.Nat.{suc-mul, pow-le-pow_right}
 use Rattle.std.specs.List.{AllByRecursion}
-use Rattle.asn_values.specs.Datum.{Datum}
-use Rattle.asn_values.specs.Shape.{Demand}
-use Rattle.asn_values.specs.Fits.{FitsDemand}
 use Rattle.asn_bits.specs.Numbers.{octets, octet_count}
 use Rattle.asn_bits.specs.Lengths.{octet_length, joined}
 use Rattle.asn_bits.proofs.Octets.{all_octets, length-digits, lt-pow_256, octet_count_below}
 use Rattle.asn_bits.proofs.Utf8.{append_octets}
-use Rattle.asn_rules.specs.Chunks.{Chunk, one, sealed, ones, flat}
-use Rattle.asn_rules.specs.Components.{is_spelled, if_spelled}
+use Rattle.asn_rules.specs.Chunks.{Chunk, ones, flat}
 use Rattle.asn_rules.specs.Laws.{AreOctets}
-use Rattle.asn_rules.proofs.Fronts.{AllSealed, sealed-ones, sealed-append}
+use Rattle.asn_rules.specs.Reading.{AllSealed}
+use Rattle.asn_rules.proofs.Fronts.{sealed-ones, sealed-append}
 use Rattle.asn_rules.proofs.Flat.{flat-append, flat-ones}
 use Rattle.asn_oer.specs.Oer.{spelled, an_open_field, oer_fields}
 
@@ -28,14 +25,17 @@ field_limit = 256 ^ 127
 abbrev pub room : ℕ → ℕ
 room k = 2147483648 ^ k
 
+-- 32 levels have less than that
 room_32 : room 32 < field_limit
 unfolding field_limit
 room_32 = ltb-true (2147483648 ^ 32) (256 ^ 127) refl
 
+-- which is 256 to the power 127
 below_limit : (n : ℕ) → n < field_limit → n < 256 ^ 127
 unfolding field_limit
 below_limit n h = h
 
+-- more levels have more room
 pub room_grows : (j k : ℕ) → j ≤ k → room j ≤ room k
 room_grows j k h = pow-le-pow_right (ltb-true 0 2147483648 refl) h
 
@@ -56,15 +56,18 @@ pub record Short (n : ℕ) (us : List ℕ) : Type 0 where
   pub octets : AreOctets us
   pub most : length us ≤ n
 
+-- both lists, one after the other
 pub short_append : (m n : ℕ) (xs ys : List ℕ) → Short m xs → Short n ys → Short (m + n) (xs ++ ys)
 short_append m n xs ys p q =
     let a = p.most in
     let b = q.most in
     record { octets = append_octets xs ys p.octets q.octets; most = omega (arith, length-append xs ys) }
 
+-- the same with more room
 pub short_more : (m n : ℕ) (us : List ℕ) → m ≤ n → Short m us → Short n us
 short_more m n us h p = let a = p.most in record { octets = p.octets; most = omega arith }
 
+-- a number in k octets
 pub octets_short : (k n : ℕ) → Short k (octets k n)
 octets_short k n = record { octets = all_octets k n; most = omega (arith, length-digits 256 k n) }
 
@@ -75,6 +78,7 @@ few_octets n = octet_count_below n (suc n) (omega arith) (lt-pow_256-suc n)
     lt-pow_256-suc : (n : ℕ) → n < 256 ^ suc n
     lt-pow_256-suc n = let a = lt-pow_256 (suc n) in omega arith
 
+-- the octets of a length
 length_short : (n : ℕ) → n < field_limit → Short (n + 2) (octet_length n)
 length_short n h = go (nat_lt n 128) refl
   where
@@ -91,6 +95,7 @@ spelled_in_limit n c h p =
     let m = p.most in
     short_more ((length c + 2) + n) (2 * n + 2) (spelled c) (omega arith) (short_append (length c + 2) n (octet_length (length c)) c (length_short (length c) (omega arith)) p)
 
+-- of types of at most 32 levels, a content with its length
 pub short_spelled : (n k : ℕ) (c : List ℕ) → n ≤ room k → k ≤ 32 → Short n c → Short (2 * n + 2) (spelled c)
 short_spelled n k c h l p = spelled_in_limit n c (within_limit n k h l) p
 
@@ -101,15 +106,19 @@ pub record Spelt (n : ℕ) (cs : List Chunk) : Type 0 where
   pub units : Short n (flat spelled cs)
   pub held : AllSealed oer_fields cs
 
+-- no chunks
 pub spelt_none : (n : ℕ) → Spelt n []
 spelt_none n = record { units = record { octets = tt; most = omega arith }; held = tt }
 
+-- the same with more room
 pub spelt_more : (m n : ℕ) (cs : List Chunk) → m ≤ n → Spelt m cs → Spelt n cs
 spelt_more m n cs h p = record { units = short_more m n (flat spelled cs) h p.units; held = p.held }
 
+-- plain octets
 pub spelt_ones : (n : ℕ) (us : List ℕ) → Short n us → Spelt n (ones us)
 spelt_ones n us h = record { units = subst (Short n) (sym (flat-ones spelled us)) h; held = sealed-ones oer_fields us }
 
+-- both spellings, one after the other
 pub spelt_append : (m n : ℕ) (xs ys : List Chunk) → Spelt m xs → Spelt n ys → Spelt (m + n) (xs ++ ys)
 spelt_append m n xs ys p q = record {
   units = subst (Short (m + n)) (sym (flat-append spelled xs ys)) (short_append m n (flat spelled xs) (flat spelled ys) p.units q.units);

@@ -29,25 +29,30 @@ in_64_bits : (z : ℤ) → lowest_integer ≤ℤ z → z ≤ℤ highest_integer 
 in_64_bits (pos n) p q = omega (arith, ints)
 in_64_bits (negsuc n) p q = omega (arith, ints)
 
+-- a number from 0 is its magnitude
 magnitude_below : (z : ℤ) (n : ℕ) → magnitude z < n → magnitude_of z < n
 magnitude_below (pos k) n h = h
 magnitude_below (negsuc k) n h = omega arith
 
+-- a number in k octets of two's complement
 signed_octets_short : (k : ℕ) (z : ℤ) → Short k (signed_octets k z)
 signed_octets_short k (pos n) = octets_short k n
 signed_octets_short k (negsuc n) = octets_short k (256 ^ k - 1 - n)
 
+-- a length and the fewest octets
 counted_short : (z : ℤ) → magnitude z < 9223372036854775808 → Short 18 (counted z)
 counted_short z h =
     let l : magnitude_of z < 9223372036854775808 = magnitude_below z 9223372036854775808 h in
     let c : octet_count (magnitude_of z) ≤ 8 = octet_count_below (magnitude_of z) 8 (omega arith) (omega arith) in
     spelled_short 8 (least (magnitude_of z)) (omega arith) (short_more (octet_count (magnitude_of z)) 8 (least (magnitude_of z)) c (octets_short (octet_count (magnitude_of z)) (magnitude_of z)))
 
+-- a length and the fewest octets of two's complement
 counted_signed_short : (z : ℤ) → magnitude z < 9223372036854775808 → Short 18 (counted_signed z)
 counted_signed_short z h =
     let c : signed_octet_count z ≤ 8 = signed_count_below z 8 (omega arith) (omega arith) in
     spelled_short 8 (least_signed z) (omega arith) (short_more (signed_octet_count z) 8 (least_signed z) c (signed_octets_short (signed_octet_count z) z))
 
+-- a number from 0 up to a bound
 unsigned_short : (u z : ℤ) → magnitude z < 9223372036854775808 → Short 18 (unsigned_in (unsigned_octets u) z)
 unsigned_short u z h =
     elim (unsigned_cases u) [
@@ -58,6 +63,7 @@ unsigned_short u z h =
     few : (k : ℕ) → k ≤ 8 → k ≤ 18
     few k h = omega arith
 
+-- a number between bounds of which the low one is negative
 signed_short : (l u z : ℤ) → magnitude z < 9223372036854775808 → Short 18 (signed_in (signed_size l u) z)
 signed_short l u z h =
     elim (signed_cases l u) [
@@ -68,6 +74,7 @@ signed_short l u z h =
     few : (k : ℕ) → k ≤ 8 → k ≤ 18
     few k h = omega arith
 
+-- a number between bounds, of which either may be missing
 ranged_short : (low high : Option ℤ) (z : ℤ) → magnitude z < 9223372036854775808 → Short 18 (ranged low high z)
 ranged_short (Some (pos l)) (Some u) z h = unsigned_short u z h
 ranged_short (Some (pos l)) None z h = counted_short z h
@@ -88,6 +95,7 @@ number_short b z f = go b.extensible
 
 -- ---- ENUMERATED
 
+-- a number of 32 bits
 small_magnitude : (z : ℤ) → is_not_32_bits z ≡ false → magnitude z < 2147483648
 small_magnitude (pos n) h = let w = ltb-false 2147483647 n (or_parts (int_lt (pos n) (negsuc 2147483647)) _ h).1 in omega arith
 small_magnitude (negsuc n) h = let w = ltb-false 2147483647 n (or_parts (nat_lt 2147483647 n) _ h).0 in omega arith
@@ -98,6 +106,7 @@ number_is_small [] p h = omega arith
 number_is_small (l ∷ ls) zero h = small_magnitude l.number (or_parts (is_not_32_bits l.number) _ h).0
 number_is_small (l ∷ ls) (suc p) h = number_is_small ls p (or_parts (is_not_32_bits l.number) _ h).1
 
+-- a number of 0 to 127 is an octet
 magnitude_small : (z : ℤ) → int_le (pos 0) z ≡ true → int_lt z (pos 128) ≡ true → magnitude_of z < 256
 magnitude_small (pos n) p q = omega (arith, ltb-true n 128 q)
 magnitude_small (negsuc n) p q = omega arith
@@ -115,12 +124,14 @@ item_short z h = go (int_le (pos 0) z && int_lt z (pos 128)) refl
 
 -- ---- bits
 
+-- bits filled up to octets
 filled_short : (bs : List ℕ) → AreBits bs → Short (length bs + 7) (filled_bits bs)
 filled_short bs h = record {
   octets = filled_up_octets bs h;
   most = omega (arith, length-packed (filled_up bs) (filled_up_fills bs), length-append bs (padding (length bs)), length-padding (length bs));
 }
 
+-- bits with their length
 pub variable_short : (n : ℕ) (bs : List ℕ) → n ≤ 268435456 → length bs ≤ n → AreBits bs → Short (2 * n + 18) (variable_bits bs)
 variable_short n bs l m h =
     let p = filled_short bs h in
@@ -154,6 +165,7 @@ sized_short z os l h = go (is_fixed_size z)
     go true = record { octets = h; most = omega arith }
     go false = content_short os l h
 
+-- a character of each alphabet is an octet
 character_octet : (k : Alphabet) (c : ℕ) → IsTrue (is_of_kind k c) → c < 256
 character_octet ia5 c h = omega (arith, ltb-true c 128 h)
 character_octet visible c h = omega (arith, leb-true c 126 (and_parts (nat_le 32 c) (nat_le c 126) h).1)

@@ -24,12 +24,15 @@ use Rattle.asn_oer.proofs.Strings.{list_bits}
 
 -- ---- room
 
+-- the room of a simple type
 room_first : room 1 ≡ 2147483648
 room_first = refl
 
+-- the room of one more level
 room_next : (k : ℕ) → room (suc k) ≡ 2147483648 * room k
 room_next k = pow-succ' 2147483648 k
 
+-- there is some room at each level
 room_some : (k : ℕ) → 1 ≤ room k
 room_some k = room_grows 0 k (omega arith)
 
@@ -42,6 +45,7 @@ few_components : (root : Fields) (more : MoreFields) → Good (sequence root mor
 few_components root more h =
     ltb-false 64 (length (demands root)) (or_parts (nat_lt 64 (length (demands root))) (nat_lt 64 (length (demands (more_fields more)))) (or_parts (too_many_here (sequence root more)) _ h.parts).0).0
 
+-- and at most 64 additions
 few_additions : (root fs : Fields) → Good (sequence root (marked fs)) → length (demands fs) ≤ 64
 few_additions root fs h =
     ltb-false 64 (length (demands fs)) (or_parts (nat_lt 64 (length (demands root))) (nat_lt 64 (length (demands fs))) (or_parts (too_many_here (sequence root (marked fs))) _ h.parts).0).1
@@ -50,8 +54,9 @@ few_additions root fs h =
 at_most_64 : (n x : ℕ) → n ≤ 64 → n * x ≤ 64 * x
 at_most_64 n x h = mul-le-mul_right x h
 
-length-presence_room : (root : Fields) (m e : Bool) (es : List (Option Datum)) → length (demands root) ≤ 64 → length (front m e (demands root) es) ≤ 65
-length-presence_room root m e es h = omega (arith, length-append (extension_bit m e) (presence (demands root) es), few_extension m e, few_presence (demands root) es)
+-- so there are at most 65 bits in front of it
+few_in_front : (root : Fields) (m e : Bool) (es : List (Option Datum)) → length (demands root) ≤ 64 → length (front m e (demands root) es) ≤ 65
+few_in_front root m e es h = omega (arith, length-append (extension_bit m e) (presence (demands root) es), few_extension m e, few_presence (demands root) es)
 
 -- ---- all types
 
@@ -92,7 +97,7 @@ mutual
       spelt_more ((72 + n * room k) + (146 + 64 * (2 * room k + 2))) (room (suc k)) (oer (sequence root more) (components cs)) (omega (arith, room_next k))
       (spelt_append (72 + n * room k) (146 + 64 * (2 * room k + 2)) (ones (filled_bits bs) ++ oer_each root es) (oer_additions more gs)
       (spelt_append 72 (n * room k) (ones (filled_bits bs)) (oer_each root es)
-      (spelt_ones 72 (filled_bits bs) (preamble_short bs (length-presence_room root (is_marked more) (any_present gs) es few) (front_bits (is_marked more) (any_present gs) (demands root) es)))
+      (spelt_ones 72 (filled_bits bs) (preamble_short bs (few_in_front root (is_marked more) (any_present gs) es few) (front_bits (is_marked more) (any_present gs) (demands root) es)))
       (each_spelt root (root_good root more h) k (omega arith) (omega arith) es f.0))
       (more_spelt root more h k (omega arith) (omega arith) gs f.1))
   oer_spelt (sequence root more) h l _ f = absurd f
@@ -123,6 +128,7 @@ mutual
       go false f p q = q f
   oer_spelt (choice root more) h l _ f = absurd f
 
+  -- the components of a SEQUENCE
   each_spelt : (fs : Fields) → GoodFields fs → (k : ℕ) → fields_depth fs ≤ k → k ≤ 32 → (es : List (Option Datum)) → FitsEach fs es → Spelt (length (demands fs) * room k) (oer_each fs es)
   each_spelt no_fields h k l m es f = spelt_none (0 * room k)
   each_spelt (field name demand t fs) h k l m [] f = absurd f
@@ -133,6 +139,7 @@ mutual
       (λ d p. spelt_more (room (depth t)) (room k) (oer t d) (room_grows (depth t) k (omega arith)) (oer_spelt t (first_good name demand t fs h) (omega arith) d p)) demand e f.0)
       (each_spelt fs (rest_good name demand t fs h) k (omega arith) m es f.1))
 
+  -- its additions
   more_spelt : (root : Fields) (more : MoreFields) → Good (sequence root more) → (k : ℕ) → more_depth more ≤ k → k ≤ 32 → (es : List (Option Datum)) → FitsMore more es
       → Spelt (146 + 64 * (2 * room k + 2)) (oer_additions more es)
   more_spelt root closed h k l m es f = spelt_none (146 + 64 * (2 * room k + 2))
@@ -149,6 +156,7 @@ mutual
           (spelt_ones 146 (variable_bits (presence (demands fs) es)) (variable_short 64 (presence (demands fs) es) (omega arith) (omega (arith, few, few_presence (demands fs) es)) (presence_bits (demands fs) es))) p)
       go false p = spelt_none (146 + 64 * (2 * room k + 2))
 
+  -- the open fields of those that are present
   opens_spelt : (fs : Fields) → GoodFields fs → (k : ℕ) → fields_depth fs ≤ k → k ≤ 32 → (es : List (Option Datum)) → FitsEach fs es → Spelt (length (demands fs) * (2 * room k + 2)) (oer_open fs es)
   opens_spelt no_fields h k l m es f = spelt_none (0 * (2 * room k + 2))
   opens_spelt (field name demand t fs) h k l m [] f = absurd f
@@ -160,12 +168,14 @@ mutual
       (λ d p. spelt_open (room k) k (oer t d) (omega arith) m (spelt_more (room (depth t)) (room k) (oer t d) (room_grows (depth t) k (omega arith)) (oer_spelt t (first_good name demand t fs h) (omega arith) d p))) demand e f.0)
       (opens_spelt fs (rest_good name demand t fs h) k (omega arith) m es f.1))
 
+  -- the values of one alternative of the root
   alternative_spelt : (alts : Alternatives) → GoodAlternatives alts → (k : ℕ) → choice_depth alts ≤ k → k ≤ 32 → (i : ℕ) (d : Datum) → FitsAlternative alts i d → Spelt (room k) (oer_alternative alts i d)
   alternative_spelt no_alternatives h k l m i d f = absurd f
   alternative_spelt (one_of name t alts) h k l m zero d f =
       spelt_more (room (depth t)) (room k) (oer t d) (room_grows (depth t) k (omega arith)) (oer_spelt t (here_good name t alts h) (omega arith) d f)
   alternative_spelt (one_of name t alts) h k l m (suc i) d f = alternative_spelt alts (later_good name t alts h) k (omega arith) m i d f
 
+  -- the values of one addition, in an open field
   other_spelt : (root : Alternatives) (more : MoreAlternatives) → Good (choice root more) → (k : ℕ) → more_choice_depth more ≤ k → k ≤ 32 → (i : ℕ) (d : Datum) → FitsMoreAlternatives more i d
       → Spelt (2 * room k + 2) (oer_more more i d)
   other_spelt root closed_choice h k l m i d f = absurd f

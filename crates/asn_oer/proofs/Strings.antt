@@ -36,6 +36,7 @@ fixed_length z m n h p q = one_length z m h p ∙ sym (one_length z n h q)
 
 -- ---- octets and characters
 
+-- octets of a size are a code
 pub sized_code : (z : SizeRange) → IsCode (λ os. FitsLength z (length os)) (sized_octets z)
 sized_code z x y r s p q e = go (is_fixed_size z) refl e
   where
@@ -45,10 +46,12 @@ sized_code z x y r s p q e = go (is_fixed_size z) refl e
 
 -- ---- bits
 
+-- truth values are bits
 pub list_bits : (bs : List Bool) → AreBits (map bit_of bs)
 list_bits [] = tt
 list_bits (b ∷ bs) = (bit_of_is b, list_bits bs)
 
+-- and their bits tell them
 map_bits_same : (x y : List Bool) → map bit_of x ≡ map bit_of y → x ≡ y
 map_bits_same [] [] e = refl
 map_bits_same [] (b ∷ y) e = absurd (cc)
@@ -66,6 +69,7 @@ variable_code x y r s p q e =
     let octets : filled_bits x ≡ filled_bits y = cc (w.0) in
     (filled_up_once x y p q unused octets, w.1)
 
+-- a BIT STRING is a code
 pub bits_code : (z : SizeRange) → IsCode (λ bs. FitsLength z (length bs)) (λ bs. bit_octets z (map bit_of bs))
 bits_code z x y r s p q e = go (is_fixed_size z) refl e
   where

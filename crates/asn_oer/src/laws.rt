@@ -1,6 +1,6 @@
 //! The laws of Canonical OER, for every type of the profile.
 
-ghost use Rattle.asn_rules.specs.Laws.{UnitsTellTheValue, OneValue, NoneBegins, RulesLaws, LiveIsClosed, LiveByPartsInProfile, OneAnswer};
+ghost use Rattle.asn_rules.specs.Laws.{BeginningsAreLive, BeginningsAreNotRefused, EncodesAs, UnitsTellTheValue, OneValue, NoneBegins, RulesLaws, LiveIsClosed, LiveByParts, OneAnswer};
 ghost use Rattle.asn_rules.specs.Parted.{SpellingsPart};
 ghost use Rattle.asn_rules.specs.Reading.{RulesTell};
 ghost use Rattle.asn_oer.specs.Oer.{oer, oer_fields, oer_octets};
@@ -19,15 +19,17 @@ pub fn spellings_tell()
 {}
 
 /// OER keeps the laws of encoding rules: an encoding has one value, a value that fits has one
-/// encoding, which consists of octets, and no encoding begins another.
+/// encoding, which consists of octets, and no encoding begins another. The encoding of a value is
+/// `oer_octets` of it.
 pub fn encoding_laws()
-    ensures { RulesLaws oer_ruling }
+    ensures laws { RulesLaws oer_ruling }
+    ensures octets { EncodesAs oer_ruling oer_octets }
 {}
 
 /// Whether an encoding may follow some octets, said of all its octets and sealed fields at once, is
 /// the same said chunk by chunk.
 pub fn live_by_parts()
-    ensures { LiveByPartsInProfile oer_fields oer }
+    ensures { LiveByParts oer_fields oer }
 {}
 
 /// What an encoding may still follow, it may follow each beginning of.
@@ -41,9 +43,16 @@ pub fn answers_exclude()
     ensures { OneAnswer oer_ruling }
 {}
 
-/// What makes a reader of OER exact: two encodings of one type are one, of one value, or part at
-/// an octet or inside sealed fields of one kind; each sealed field is as long as its content at least and
-/// begins no other; and the octets of octets are those of each, one after the other.
+/// Of an encoding of at most 2 ^ 28 - 1 octets each beginning is live, so the octets of an encoding
+/// are at no place refused, however many of them have come.
+pub fn beginnings_are_live()
+    ensures live { BeginningsAreLive oer_ruling }
+    ensures not_refused { BeginningsAreNotRefused oer_ruling }
+{}
+
+/// What makes a reader of OER exact: two encodings of one type are one, of one value, or
+/// part at an octet or inside sealed fields of one kind; each sealed field is at least as long as its
+/// content and begins no other; and the units are the octets.
 pub fn readers_tell()
     ensures { RulesTell oer_ruling }
 {}

@@ -4,5 +4,6 @@
 mod laws;
 
 pub use laws::{
-    answers_exclude, encoding_laws, live_by_parts, live_is_closed, readers_tell, spellings_tell,
+    answers_exclude, beginnings_are_live, encoding_laws, live_by_parts, live_is_closed,
+    readers_tell, spellings_tell,
 };

@@ -1,14 +1,12 @@
 -- The bits that stand in PER spellings are bits: of lengths, numbers, items, characters and presence bits.
-use Rattle.std.proofs.Common.{◌≡◌, ◌<◌, ◌-◌, ◌*◌, ◌/◌, ℕ, zero, suc, ℤ, Bool, true, false, List, [], ◌∷◌, ◌++◌, length, map, take, drop, Option, Some, None, refl, sym, ap, subst, arith, nat_lt}
+use Rattle.std.proofs.Common.{◌≡◌, ◌-◌, ◌*◌, ◌/◌, ℕ, zero, suc, ℤ, Bool, true, false, List, [], ◌∷◌, ◌++◌, length, map, take, drop, Option, Some, None, refl, sym, ap, subst, arith, nat_lt}
 use Rattle.std.specs.List.{AllByRecursion}
-use Rattle.asn_values.specs.Datum.{Datum}
-use Rattle.asn_values.specs.Shape.{Alphabet, Range, ia5, numeric, visible, Label, MoreLabels, has_more_labels, Demand, must, optional, default}
+use Rattle.asn_values.specs.Shape.{Alphabet, Range, ia5, numeric, visible, Label, MoreLabels, has_more_labels}
 use Rattle.asn_values.specs.Fits.{in_range}
 use Rattle.asn_bits.specs.Numbers.{bits, least, least_signed, above}
 use Rattle.asn_bits.specs.Lengths.{Length, last_length, lengths_within, lengths, joined, with_lengths}
 use Rattle.asn_bits.proofs.GeneralLengths.{all_take}
 use Rattle.asn_bits.proofs.FilledBits.{AreBits, bits_append}
-use Rattle.asn_rules.specs.Components.{bit_of, is_spelled, presence, extension_bit}
 use Rattle.asn_per.specs.Per.{spelled, unconstrained, small, ranged, behind_mark, whole_number, character_bits, enumeration}
 
 -- ---- numbers of so many bits

@@ -6,7 +6,8 @@ use Rattle.asn_values.specs.Fits.{Fits}
 use Rattle.asn_rules.specs.Chunks.{open_field, utf8_field, ones, flat}
 use Rattle.asn_rules.specs.Laws.{LiveByParts}
 use Rattle.asn_rules.specs.Live.{BeginsProperly, Free}
-use Rattle.asn_rules.proofs.Fronts.{AllSealed, live_iff, sealed-ones, sealed-append}
+use Rattle.asn_rules.specs.Reading.{AllSealed}
+use Rattle.asn_rules.proofs.Fronts.{live_iff, sealed-ones, sealed-append}
 use Rattle.asn_per.specs.Per.{spelled, filling, per, per_fields, per_whole}
 use Rattle.asn_per.proofs.NotEmpty.{spelled_not_empty}
 use Rattle.asn_per.proofs.Spelt.{per_spelt}
@@ -39,4 +40,4 @@ utf8_starts = (0 ∷ [], (omega arith, omega arith, (omega arith, tt)), begins_f
 
 -- the two forms of live are one
 pub per_live : LiveByParts per_fields per_whole
-per_live t b = live_iff per_fields open_starts utf8_starts some_units per_whole t (whole_sealed t) b
+per_live t h b = live_iff per_fields open_starts utf8_starts some_units per_whole t (whole_sealed t) b

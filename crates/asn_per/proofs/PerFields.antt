@@ -1,10 +1,8 @@
--- Sealed fields in PER part, whatever was read of them.
-use Rattle.std.proofs.Common.{◌≡◌, ◌<◌, ℕ, List, ◌++◌}
-use Rattle.std.specs.List.{AllByRecursion}
+-- Sealed fields in PER are told by their units, whatever was read of them.
 use Rattle.asn_bits.proofs.Octets.{octets_code}
 use Rattle.asn_rules.proofs.Chunks.{FieldsPart}
 use Rattle.asn_rules.proofs.PartingFields.{fields_part}
-use Rattle.asn_per.specs.Per.{spelled, per_fields}
+use Rattle.asn_per.specs.Per.{per_fields}
 use Rattle.asn_per.proofs.NotEmpty.{spelled_not_empty}
 
 pub per_fields_part : FieldsPart per_fields

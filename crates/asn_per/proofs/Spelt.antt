@@ -3,17 +3,18 @@ use Rattle.std.proofs.Common.{◌≤◌, ◌-◌, ℕ, zero, suc, Bool, true, fa
 use Rattle.std.specs.List.{AllByRecursion}
 use Rattle.asn_values.specs.Datum.{Datum, truth, number, item, bit_list, octet_list, characters, unicode, components, elements, alternative, component_list, element_list}
 use Rattle.asn_values.specs.Shape.{SizeRange, Shape, boolean, null, integer, enumerated, bit_string, octet_string, restricted, utf8_string, sequence, sequence_of, choice, Demand, Fields, no_fields, field, MoreFields, closed, marked, is_marked, demands, Alternatives, no_alternatives, one_of, MoreAlternatives, closed_choice, marked_choice, is_marked_choice, count}
-use Rattle.asn_values.specs.Fits.{Fits, FitsEach, FitsMore, FitsDemand, FitsAlternative, FitsMoreAlternatives, FitsChoice, in_size, max_len}
+use Rattle.asn_values.specs.Fits.{Fits, FitsEach, FitsMore, FitsAlternative, FitsMoreAlternatives, FitsChoice, in_size, max_len}
 use Rattle.asn_bits.specs.Numbers.{bits}
 use Rattle.asn_bits.specs.Lengths.{Length, lengths, joined, with_lengths, general}
 use Rattle.asn_bits.proofs.GeneralLengths.{all_take}
 use Rattle.asn_bits.proofs.FilledBits.{AreBits, bits_append}
 use Rattle.asn_bits.proofs.Utf8.{utf8_octets}
 use Rattle.asn_rules.specs.Chunks.{utf8_field, Chunk, one, sealed, ones, flat}
-use Rattle.asn_rules.specs.Components.{bit_of, is_spelled, presence, if_spelled, any_present, extension_bit}
+use Rattle.asn_rules.specs.Components.{bit_of, presence, if_spelled, any_present, extension_bit}
 use Rattle.asn_rules.proofs.Entries.{bit_of_is, extension_bits, presence_bits, front_bits, entry_has}
 use Rattle.asn_rules.proofs.Flat.{flat-append, flat-ones}
-use Rattle.asn_rules.proofs.Fronts.{AllSealed, sealed-ones, sealed-append}
+use Rattle.asn_rules.specs.Reading.{AllSealed}
+use Rattle.asn_rules.proofs.Fronts.{sealed-ones, sealed-append}
 use Rattle.asn_per.specs.Per.{spelled, complete, an_open_field, constrained, small, small_length, behind_mark, within, sized, character_bits, additions, per, per_each, per_additions, per_open, per_alternative, per_more, per_fields}
 use Rattle.asn_per.proofs.Bits.{AllLengths, digits_bits, lengths_bits, spelled_bits, number_bits, small_bits, item_bits, character_bits_are}
 use Rattle.asn_per.proofs.Complete.{complete_octets, complete_some}

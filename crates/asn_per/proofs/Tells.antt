@@ -1,11 +1,9 @@
 -- Readers of PER can tell complete encodings, bit by bit.
-use Rattle.std.proofs.Common.{◌≡◌, ◌≢◌, ◌*◌, ◌⊎◌, ℕ, List, [], ◌∷◌, ◌++◌, length, length-append, inl, inr, refl, ap, arith}
-use Rattle.asn_values.specs.Datum.{Datum}
-use Rattle.asn_values.specs.Shape.{Shape}
+use Rattle.std.proofs.Common.{◌≡◌, ◌≢◌, ◌*◌, ◌⊎◌, ℕ, List, [], ◌∷◌, length, length-append, inl, inr, refl, ap, arith}
 use Rattle.asn_bits.specs.Numbers.{bits, unpacked}
 use Rattle.asn_bits.proofs.Octets.{length-digits, octets_code}
 use Rattle.asn_bits.proofs.LongerLengths.{octets_longer}
-use Rattle.asn_rules.specs.Chunks.{Chunk, ones, flat}
+use Rattle.asn_rules.specs.Chunks.{ones, flat}
 use Rattle.asn_rules.specs.Parted.{Parted, SpellingsPart}
 use Rattle.asn_rules.specs.Reading.{RulesTell}
 use Rattle.asn_rules.proofs.Chunks.{parted_longer}

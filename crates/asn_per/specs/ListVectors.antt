@@ -2,8 +2,8 @@
 -- bits, from which the octets follow by filling with 0.
 use Rattle.std.specs.Prelude.{◌≡◌, pos, negsuc, true, false, [], ◌∷◌, ◌++◌, replicate, Some, None, refl, codes, bytes_eq}
 use Rattle.asn_values.specs.Datum.{truth, nothing, number, item, octet_list, characters, unicode, components, components_of, alternative}
-use Rattle.asn_values.specs.Shape.{Shape, boolean, null, integer, enumerated, octet_string, utf8_string, sequence, sequence_of, choice, closed_labels, no_fields, closed, marked, no_alternatives, one_of, closed_choice, marked_choice}
-use Rattle.asn_values.specs.ExampleTypes.{hex, between, any_number, between_or_more, exactly, size_between, any_size, size_between_or_more, label, component, optional_component, default_component, alternatives_of, optionals_of, entries, items, note_type, flag_type, marked_type, extended_type, twice_extended_type, null_addition_type, outer_type, extended_choice, closed_choice_type, default_type, negative_default_type, false_default_type, many_alternatives}
+use Rattle.asn_values.specs.Shape.{boolean, null, integer, octet_string, utf8_string, sequence, sequence_of, choice, no_fields, closed, marked, no_alternatives, one_of, closed_choice, marked_choice}
+use Rattle.asn_values.specs.ExampleTypes.{hex, any_number, between_or_more, exactly, size_between, any_size, size_between_or_more, component, optional_component, optionals_of, entries, items, note_type, flag_type, marked_type, extended_type, twice_extended_type, null_addition_type, outer_type, extended_choice, closed_choice_type, default_type, negative_default_type, false_default_type, many_alternatives}
 use Rattle.asn_per.specs.Per.{per_octets}
 
 -- ---- SEQUENCE: a presence bit for each component that is OPTIONAL or has a DEFAULT, then the components

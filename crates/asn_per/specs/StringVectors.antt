@@ -1,10 +1,15 @@
 -- Worked encodings of the string types in CANONICAL-PER UNALIGNED (X.691). A comment spells the bits, from
 -- which the octets follow by filling with 0.
-use Rattle.std.specs.Prelude.{◌≡◌, true, [], ◌∷◌, ◌++◌, replicate, refl, codes}
+use Rattle.std.specs.Prelude.{◌≡◌, ℕ, true, List, [], ◌∷◌, ◌++◌, map, length, take, drop, replicate, refl, codes}
+use Rattle.std.proofs.Common.{ap, ◌∙◌}
+use Rattle.std.proofs.lemmas.List.{length-map}
 use Rattle.asn_values.specs.Datum.{bit_list, octet_list, characters, unicode}
 use Rattle.asn_values.specs.Shape.{ia5, numeric, visible, bit_string, octet_string, restricted, utf8_string}
 use Rattle.asn_values.specs.ExampleTypes.{hex, bits_of, exactly, size_between, size_from, any_size, size_between_or_more}
-use Rattle.asn_per.specs.Per.{per_octets}
+use Rattle.asn_bits.specs.Numbers.{bits, unpacked}
+use Rattle.asn_bits.specs.Lengths.{joined, lengths, with_lengths}
+use Rattle.asn_rules.specs.Chunks.{Chunk, one, ones}
+use Rattle.asn_per.specs.Per.{per, per_octets}
 
 -- ---- BIT STRING
 
@@ -200,3 +205,17 @@ a_text_of_128_octets = refl
 -- SIZE (16384): the bits alone
 16384_bits_of_a_fixed_size_are_no_fragments : per_octets (bit_string (exactly 16384)) (bit_list (replicate 16384 true)) ≡ replicate 2048 0xFF
 16384_bits_of_a_fixed_size_are_no_fragments = refl
+
+-- ---- octets in two fragments, whatever the octets are: 65536 of them, 16384, and then the length of none
+
+-- the bits of octets, each an item
+abbrev octet_items : List ℕ → List (List Chunk)
+octet_items os = map (λ o. ones (bits 8 o)) os
+
+-- 11 and 000100; 11 and 000001; 0 and 0000000
+81920_octets : (os : List ℕ) → length os ≡ 81920
+    → per (octet_string any_size) (octet_list os)
+    ≡ ones (unpacked (hex "C4")) ++ (joined (take 65536 (octet_items os))
+    ++ (ones (unpacked (hex "C1")) ++ (joined (take 16384 (drop 65536 (octet_items os)))
+    ++ (ones (unpacked (hex "00")) ++ []))))
+81920_octets os e = ap (λ n. with_lengths one (lengths n) (octet_items os)) (length-map os (λ o. ones (bits 8 o)) ∙ e)

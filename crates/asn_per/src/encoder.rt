@@ -7,8 +7,7 @@ ghost use Rattle.asn_values.specs.Datum.{number};
 ghost use Rattle.asn_values.specs.Profile.{InProfile};
 ghost use Rattle.asn_values.specs.Parts.{AreOfProfile, IsGoodDemand};
 ghost use Rattle.asn_values.specs.View.{shape_of, datum_of, range_of, fields_of, part_of_field};
-ghost use Rattle.asn_bits.specs.Numbers.{bits, least};
-ghost use Rattle.asn_bits.specs.Lengths.{general_octets};
+ghost use Rattle.asn_bits.specs.Numbers.{bits};
 ghost use Rattle.asn_rules.specs.Answer.{max_octets};
 ghost use Rattle.asn_rules.specs.Codec.{NotEncoded};
 ghost use Rattle.asn_rules.specs.Components.{has_presence_bit, is_spelled, presence};
@@ -16,7 +15,7 @@ ghost use Rattle.asn_per.specs.Rules.{per_ruling, IsPerEncoding};
 ghost use Rattle.asn_per.specs.Laws.{per_bits, component_bits};
 
 use asn_bits::BitSink;
-use asn_bits::numbers::{octet_count, width};
+use asn_bits::numbers::width;
 use asn_bits::offsets::above;
 use asn_rules::EncodeFault;
 use asn_values::{AsnType, Bounds, Checked, Field, Need, Value, fits, same};
@@ -91,18 +90,8 @@ fn write_integer(bounds: &Bounds, whole: i128, sink: &mut BitSink) -> Result<(),
     let offset = above(bounds.low, whole);
     match bounds.high {
         Some(high) => sink.push_number(width(u128::from(above(bounds.low, high)) + 1), offset),
-        None => write_counted(offset, sink),
+        None => sink.push_least_octets(offset),
     }
-}
-
-/// Writes a number in the fewest octets, behind their count in an octet (X.691, "semi-constrained
-/// whole number").
-fn write_counted(n: u64, sink: &mut BitSink) -> Result<(), AllocError>
-    ensures { OnOk result (sink.new ≡ sink.old ++ general_octets (λ u. u) (least n)) }
-{
-    let count = octet_count(n);
-    sink.push_number(8, count as u64)?;
-    sink.push_number(8 * count, n)
 }
 
 /// How many presence bits the components have, and the bitmap as a number (X.691, "encoding the

@@ -1,6 +1,6 @@
-//! The laws of CANONICAL-PER UNALIGNED, for every type of the profile.
+//! The laws of CANONICAL-PER UNALIGNED (X.691), for every type of the profile.
 
-ghost use Rattle.asn_rules.specs.Laws.{EachHasAValue, EncodesAs, UnitsTellTheValue, OneValue, NoneBegins, RulesLaws, LiveIsClosed, LiveByParts, OneAnswer};
+ghost use Rattle.asn_rules.specs.Laws.{BeginningsAreLive, BeginningsAreNotRefused, EachHasAValue, EncodesAs, UnitsTellTheValue, OneValue, NoneBegins, RulesLaws, LiveIsClosed, LiveByParts, OneAnswer};
 ghost use Rattle.asn_rules.specs.Parted.{SpellingsPart};
 ghost use Rattle.asn_rules.specs.Reading.{RulesTell};
 ghost use Rattle.asn_per.specs.Per.{per, per_fields, per_octets, per_whole};
@@ -50,9 +50,16 @@ pub fn answers_exclude()
     ensures { OneAnswer per_ruling }
 {}
 
-/// What makes a reader of PER exact: two complete encodings of one type are one, of one value, or part at
-/// a bit or inside sealed fields of one kind; each sealed field is as long as its content at least and
-/// begins no other; and the bits of octets are those of each, one after the other.
+/// Of an encoding of at most 2 ^ 28 - 1 octets each beginning is live, so the octets of an encoding
+/// are at no place refused, however many of them have come.
+pub fn beginnings_are_live()
+    ensures live { BeginningsAreLive per_ruling }
+    ensures not_refused { BeginningsAreNotRefused per_ruling }
+{}
+
+/// What makes a reader of PER exact: two complete encodings of one type are one, of one value, or
+/// part at a bit or inside sealed fields of one kind; each sealed field is at least as long as its
+/// content and begins no other; and the bits of octets are those of each, one after the other.
 pub fn readers_tell()
     ensures { RulesTell per_ruling }
 {}

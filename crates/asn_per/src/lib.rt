@@ -6,6 +6,6 @@ mod laws;
 
 pub use encoder::encode;
 pub use laws::{
-    answers_exclude, encoding_laws, live_by_parts, live_is_closed, readers_tell, spellings_tell,
-    values_and_bits,
+    answers_exclude, beginnings_are_live, encoding_laws, live_by_parts, live_is_closed,
+    readers_tell, spellings_tell, values_and_bits,
 };

@@ -12,10 +12,12 @@ use Rattle.asn_rules.proofs.Facing.{Facing, IsFacing}
 
 -- ---- lists of entries and of elements
 
+-- elements come back from their list
 elements_again : (es : Elements) → elements_of (element_list es) ≡ es
 elements_again no_elements = refl
 elements_again (element d es) = ap (element d) (elements_again es)
 
+-- components come back from their list
 components_again : (cs : Components) → components_of (component_list cs) ≡ cs
 components_again no_components = refl
 components_again (absent cs) = ap absent (components_again cs)
@@ -47,6 +49,7 @@ none_present (None ∷ es) (Some y ∷ gs) l p q = absurd (true≢false q)
 
 -- ---- the bits in front
 
+-- a bit tells its truth value
 pub bit_of_same : (a b : Bool) → bit_of a ≡ bit_of b → a ≡ b
 bit_of_same false false e = refl
 bit_of_same true true e = refl
@@ -90,6 +93,7 @@ pub record SameFront (m a b : Bool) (ds : List Demand) (es gs : List (Option Dat
   pub entries : presence ds es ≡ presence ds gs
   pub bits : extension_bit m a ++ presence ds es ≡ extension_bit m b ++ presence ds gs
 
+-- the bits in front of a SEQUENCE say so where they begin one list
 pub front_code : (m a b : Bool) (ds : List Demand) (es gs : List (Option Datum)) (r s : List ℕ) → length es ≡ length ds → length gs ≡ length ds
     → (extension_bit m a ++ presence ds es) ++ r ≡ (extension_bit m b ++ presence ds gs) ++ s → SameFront m a b ds es gs
 front_code m a b ds es gs r s p q e =
@@ -106,10 +110,12 @@ front_code m a b ds es gs r s p q e =
 
 -- ---- what these bits are, and how many
 
+-- the bit of a truth value is a bit
 pub bit_of_is : (b : Bool) → bit_of b < 2
 bit_of_is true = omega arith
 bit_of_is false = omega arith
 
+-- presence bits are bits
 pub presence_bits : (ds : List Demand) (es : List (Option Datum)) → AreBits (presence ds es)
 presence_bits [] es = tt
 presence_bits (must ∷ ds) [] = tt
@@ -119,6 +125,7 @@ presence_bits (must ∷ ds) (e ∷ es) = presence_bits ds es
 presence_bits (optional ∷ ds) (e ∷ es) = (bit_of_is (is_spelled optional e), presence_bits ds es)
 presence_bits (default d ∷ ds) (e ∷ es) = (bit_of_is (is_spelled (default d) e), presence_bits ds es)
 
+-- and so is the extension bit
 pub extension_bits : (m e : Bool) → AreBits (extension_bit m e)
 extension_bits false e = tt
 extension_bits true e = (bit_of_is e, tt)
@@ -127,6 +134,7 @@ extension_bits true e = (bit_of_is e, tt)
 pub front_bits : (m e : Bool) (ds : List Demand) (es : List (Option Datum)) → AreBits (extension_bit m e ++ presence ds es)
 front_bits m e ds es = bits_append (extension_bit m e) (presence ds es) (extension_bits m e) (presence_bits ds es)
 
+-- whether there is an extension bit depends on the mark alone
 pub length-extension_bit : (m a b : Bool) → length (extension_bit m a) ≡ length (extension_bit m b)
 length-extension_bit false a b = refl
 length-extension_bit true a b = refl
@@ -141,18 +149,21 @@ few_presence (must ∷ ds) (e ∷ es) = let h = few_presence ds es in omega arit
 few_presence (optional ∷ ds) (e ∷ es) = let h = few_presence ds es in omega arith
 few_presence (default d ∷ ds) (e ∷ es) = let h = few_presence ds es in omega arith
 
+-- at most one extension bit
 pub few_extension : (m e : Bool) → length (extension_bit m e) ≤ 1
 few_extension false e = omega arith
 few_extension true e = omega arith
 
 -- ---- DEFAULT
 
+-- numbers not above one another are one
 le_z_antisymm : (y z : ℤ) → int_le y z ≡ true → int_le z y ≡ true → y ≡ z
 le_z_antisymm (pos a) (pos b) p q = ap pos (omega (arith, leb-true a b p, leb-true b a q))
 le_z_antisymm (pos a) (negsuc b) p q = absurd (true≢false (sym p))
 le_z_antisymm (negsuc a) (pos b) p q = absurd (true≢false (sym q))
 le_z_antisymm (negsuc a) (negsuc b) p q = ap negsuc (omega (arith, leb-true b a p, leb-true a b q))
 
+-- the test on a DEFAULT holds of that value alone
 pub default_is : (d x : Datum) → is_default d x ≡ true → d ≡ x
 default_is (truth true) (truth b) h = ap truth (sym h)
 default_is (truth false) (truth true) h = absurd (true≢false (sym h))

@@ -116,6 +116,7 @@ module _ (sp : List ℕ → List ℕ) where
       let kinds = h.0 in
       (w.0, cc (kinds, t.0, w.1), w.2)
 
+  -- the same with one more chunk in front
   one_more : (E : Type 0) (c : Chunk) (xs ys : List Chunk) → (Parted xs ys → Parted (c ∷ xs) (c ∷ ys)) → (E × (xs ≡ ys)) ⊎ Parted xs ys → (E × (c ∷ xs ≡ c ∷ ys)) ⊎ Parted (c ∷ xs) (c ∷ ys)
   one_more E c xs ys f (inl e) = inl (e.0, ap (λ t. c ∷ t) e.1)
   one_more E c xs ys f (inr p) = inr (f p)

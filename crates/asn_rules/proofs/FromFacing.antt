@@ -26,9 +26,11 @@ module _ (sp : List ℕ → List ℕ) where
   pub facing_code : {A : Type 0} (P : A → Type 0) (code : A → List Chunk) → IsFacing sp P code → IsCode P (λ x. flat sp (code x))
   facing_code P code h x y r s p q e = let w = told_by_units sp (x ≡ y) (code x) (code y) r s (alone P code h x y p q).told e in (w.0, w.2)
 
+  -- the law on units
   pub units_tell : (code : Shape → Datum → List Chunk) → SpellingsFace sp code → UnitsTellTheValue (λ t v. flat sp (code t v))
   units_tell code h t v w r s p a b e = facing_code (Fits t) (code t) (h t p) v w r s a b e
 
+  -- the law on chunks
   pub spellings_part : (code : Shape → Datum → List Chunk) → SpellingsFace sp code → SpellingsPart code
   spellings_part code h t v w p a b =
       elim (equal_or_parted sp (v ≡ w) (code t v) (code t w) (alone (Fits t) (code t) (h t p) v w a b).told) [

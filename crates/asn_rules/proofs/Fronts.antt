@@ -1,11 +1,11 @@
 -- Live by units and fields is live by chunks.
-pub use Rattle.asn_rules.specs.Reading.{IsSealed, AllSealed}
 use Rattle.std.proofs.Common.{◌≡◌, ◌≤◌, ◌<◌, ◌+◌, ◌-◌, ◌⊎◌, ◌↔◌, ℕ, List, [], ◌∷◌, ◌++◌, length, take, drop, inl, inr, refl, sym, ◌∙◌, ap, subst, arith, append_assoc, length-append}
 use Rattle.std.proofs.lemmas.List.{append-nil, append_cancel_left, take-append-drop}
 use Rattle.std.proofs.Math.Seq.{take-append_seam, drop-append_seam, take-append-add}
 use Rattle.std.specs.List.{AllByRecursion}
 use Rattle.asn_values.specs.Fits.{Fits}
 use Rattle.asn_rules.specs.Chunks.{Kind, open_field, utf8_field, rest_of, Chunk, one, sealed, ones, field_units, flat, fields_from}
+use Rattle.asn_rules.specs.Reading.{IsSealed, AllSealed}
 use Rattle.asn_rules.specs.Live.{Begins, BeginsProperly, SomeWithEarlier, Fielding, IsContent, Free, Bounded, BoundedBefore, Inside, Front, Live, LiveByChunks}
 use Rattle.asn_values.specs.Datum.{Datum}
 use Rattle.asn_values.specs.Shape.{Shape}

@@ -8,9 +8,11 @@ use Rattle.asn_values.specs.Shape.{Label, MoreLabels, more_labels}
 use Rattle.asn_values.specs.Profile.{int_eq, has_twice, is_not_32_bits, is_rising, bad_numbers}
 use Rattle.asn_rules.specs.Components.{number_at}
 
+-- the numbers of items
 abbrev pub numbers : List Label → List ℤ
 numbers ls = map (λ l. l.number) ls
 
+-- a number equals itself
 int_eq_refl : (z : ℤ) → int_eq z z ≡ true
 int_eq_refl (pos n) = go (nat_le n n) refl
   where
@@ -43,6 +45,7 @@ one_place (k ∷ ls) (suc p) (suc q) d hp hq e = ap suc (one_place ls p q (or_pa
 
 -- ---- root and additions
 
+-- a number below another differs from it
 below_differs : (x y : ℤ) → int_lt x y ≡ true → int_eq x y ≡ false
 below_differs (pos a) (pos b) h = let e : nat_le b a ≡ false = lt-leb b a (ltb-true a b h) in differs (nat_le a b) (nat_le b a) e
   where
@@ -57,18 +60,21 @@ below_differs (negsuc a) (negsuc b) h = let e : nat_le a b ≡ false = lt-leb a 
     differs true d e = e
     differs false d e = refl
 
+-- a number below each of some differs from each
 none_equal : (x : ℤ) (ys : List ℤ) → list_all (int_lt x) ys ≡ true → list_any (int_eq x) ys ≡ false
 none_equal x [] h = refl
 none_equal x (y ∷ ys) h =
     let w = and_parts (int_lt x y) (list_all (int_lt x) ys) h in
     or_from (int_eq x y) (list_any (int_eq x) ys) (below_differs x y w.0) (none_equal x ys w.1)
 
+-- numbers that rise are distinct
 rising_once : (ys : List ℤ) → is_rising ys ≡ true → has_twice int_eq ys ≡ false
 rising_once [] h = refl
 rising_once (y ∷ ys) h =
     let w = and_parts (list_all (int_lt y) ys) (is_rising ys) h in
     or_from (list_any (int_eq y) ys) (has_twice int_eq ys) (none_equal y ys w.0) (rising_once ys w.1)
 
+-- what equals none of either list equals none of both
 any_append : (x : ℤ) (xs ys : List ℤ) → list_any (int_eq x) xs ≡ false → list_any (int_eq x) ys ≡ false → list_any (int_eq x) (xs ++ ys) ≡ false
 any_append x [] ys p q = q
 any_append x (z ∷ xs) ys p q =
@@ -89,6 +95,7 @@ pub record GoodItems (root : List Label) (more : MoreLabels) : Type 0 where
   pub bits_32 : list_any is_not_32_bits (numbers (root ++ more_labels more)) ≡ false
   pub all_once : has_twice int_eq (numbers (root ++ more_labels more)) ≡ false
 
+-- every ENUMERATED without bad numbers has them
 pub good_items : (root : List Label) (more : MoreLabels) → bad_numbers (numbers root) (numbers (more_labels more)) ≡ false → GoodItems root more
 good_items root more h =
     let xs = numbers root in

@@ -26,6 +26,11 @@ one_place IsLive b k l p q = elim (cases_order k l) [
   | inr (inr before) ↦ absurd (q.1 (p.2 l before))
 ]
 
+-- octets that are live are refused at no place
+pub live_not_refused : (r : Ruling) (t : Shape) (s : List ℕ) (k : ℕ) → LiveOctets r t s → Place (Live r.fielding r.whole t) (r.units s) k → ⊥
+live_not_refused r t s k live place =
+    place.1 (live_closed r.fielding r.whole t (take k (r.units s)) (drop k (r.units s)) (subst (Live r.fielding r.whole t) (sym (take-append-drop k (r.units s))) live))
+
 module _ (r : Ruling) (laws : RulesLaws r) where
   -- where one front is an encoding, it is the only one
   one_front : (t : Shape) (s : List ℕ) (v w : Datum) (m n : ℕ) → InProfile t → AreOctets s → m ≤ n → n ≤ length s
@@ -43,11 +48,6 @@ module _ (r : Ruling) (laws : RulesLaws r) where
     | inr l ↦ let e = one_front t s w v n m p os l a.0 b.1 a.1 in cc (e.0, e.1)
   ]
 
-  -- octets that are live are refused at no place
-  live_not_refused : (t : Shape) (s : List ℕ) (k : ℕ) → LiveOctets r t s → Place (Live r.fielding r.whole t) (r.units s) k → ⊥
-  live_not_refused t s k live place =
-      place.1 (live_closed r.fielding r.whole t (take k (r.units s)) (drop k (r.units s)) (subst (Live r.fielding r.whole t) (sym (take-append-drop k (r.units s))) live))
-
   -- case by case
   pub one_answer : OneAnswer r
   one_answer t s (done v m) (done w n) p os a b = one_done t s v w m n p os a b
@@ -56,13 +56,13 @@ module _ (r : Ruling) (laws : RulesLaws r) where
   one_answer t s (done v m) more p os a b = absurd (b.0 v m a.0 a.1)
   one_answer t s (refused k) (done w n) p os a b = absurd (a.0 w n b.0 b.1)
   one_answer t s (refused k) (refused l) p os a b = ap refused (one_place (Live r.fielding r.whole t) (r.units s) k l a.1 b.1)
-  one_answer t s (refused k) too_long p os a b = absurd (live_not_refused t s k b.1 a.1)
-  one_answer t s (refused k) more p os a b = absurd (live_not_refused t s k b.1 a.1)
+  one_answer t s (refused k) too_long p os a b = absurd (live_not_refused r t s k b.1 a.1)
+  one_answer t s (refused k) more p os a b = absurd (live_not_refused r t s k b.1 a.1)
   one_answer t s too_long (done w n) p os a b = absurd (a.0 w n b.0 b.1)
-  one_answer t s too_long (refused l) p os a b = absurd (live_not_refused t s l a.1 b.1)
+  one_answer t s too_long (refused l) p os a b = absurd (live_not_refused r t s l a.1 b.1)
   one_answer t s too_long too_long p os a b = refl
   one_answer t s too_long more p os a b = absurd (omega arith)
   one_answer t s more (done w n) p os a b = absurd (a.0 w n b.0 b.1)
-  one_answer t s more (refused l) p os a b = absurd (live_not_refused t s l a.1 b.1)
+  one_answer t s more (refused l) p os a b = absurd (live_not_refused r t s l a.1 b.1)
   one_answer t s more too_long p os a b = absurd (omega arith)
   one_answer t s more more p os a b = refl

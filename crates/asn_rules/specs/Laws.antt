@@ -1,5 +1,5 @@
 -- The laws that encoding rules keep for every type of the profile.
-use Rattle.std.specs.Prelude.{◌≡◌, ◌<◌, ◌↔◌, ℕ, List, [], ◌++◌}
+use Rattle.std.specs.Prelude.{◌≡◌, ◌<◌, ◌≤◌, ◌↔◌, ℕ, List, [], ◌++◌, length}
 use Rattle.std.specs.List.{AllByRecursion}
 use Rattle.asn_values.specs.Datum.{Datum}
 use Rattle.asn_values.specs.Shape.{Shape}
@@ -7,8 +7,9 @@ use Rattle.asn_values.specs.Profile.{InProfile}
 use Rattle.asn_values.specs.Fits.{Fits}
 use Rattle.asn_rules.specs.Chunks.{Chunk, flat}
 use Rattle.asn_rules.specs.Live.{Begins, Fielding, Live, LiveByChunks}
-use Rattle.asn_rules.specs.Answer.{Ruling, IsEncoding, Told, Answer}
+use Rattle.asn_rules.specs.Answer.{Ruling, IsEncoding, Told, refused, Answer, max_octets}
 
+-- numbers below 256
 abbrev pub AreOctets : List ℕ → Type 0
 AreOctets os = AllByRecursion (λ o. o < 256) os
 
@@ -36,6 +37,7 @@ NoneBegins octets_of =
 
 -- ---- encoding rules
 
+-- one encoding for each value, one value for each encoding, and none begins another
 pub record RulesLaws (r : Ruling) : Type 0 where
   -- an encoding has one value
   pub one_value : (t : Shape) (v w : Datum) (o : List ℕ) → InProfile t → IsEncoding r t v o → IsEncoding r t w o → v ≡ w
@@ -45,10 +47,6 @@ pub record RulesLaws (r : Ruling) : Type 0 where
   pub one_encoding : (t : Shape) (v : Datum) (o p : List ℕ) → InProfile t → AreOctets o → AreOctets p → IsEncoding r t v o → IsEncoding r t v p → o ≡ p
   -- no encoding begins another
   pub none_begins : (t : Shape) (v w : Datum) (o p : List ℕ) → InProfile t → AreOctets o → AreOctets p → IsEncoding r t v o → IsEncoding r t w p → Begins o p → o ≡ p
-
--- the encoding of a value is that list of octets
-abbrev pub EncodesAs : Ruling → (Shape → Datum → List ℕ) → Type 0
-EncodesAs r octets_of = (t : Shape) (v : Datum) (o : List ℕ) → InProfile t → AreOctets o → IsEncoding r t v o ↔ (Fits t v × (o ≡ octets_of t v))
 
 -- what these laws follow from, said of whole encodings in units
 pub record WholesTell (r : Ruling) : Type 0 where
@@ -62,6 +60,10 @@ pub record WholesTell (r : Ruling) : Type 0 where
   -- and tell the octets
   pub once : (o p : List ℕ) → AreOctets o → AreOctets p → r.units o ≡ r.units p → o ≡ p
 
+-- the encoding of a value is that list of octets
+abbrev pub EncodesAs : Ruling → (Shape → Datum → List ℕ) → Type 0
+EncodesAs r octets_of = (t : Shape) (v : Datum) (o : List ℕ) → InProfile t → AreOctets o → IsEncoding r t v o ↔ (Fits t v × (o ≡ octets_of t v))
+
 -- ---- live
 
 -- what an encoding may follow, it may follow each beginning of
@@ -70,13 +72,18 @@ LiveIsClosed r whole = (t : Shape) (x y : List ℕ) → Live r whole t (x ++ y) 
 
 -- live by units and sealed fields is live chunk by chunk
 abbrev pub LiveByParts : Fielding → (Shape → Datum → List Chunk) → Type 0
-LiveByParts r whole = (t : Shape) (b : List ℕ) → Live r whole t b ↔ LiveByChunks r whole t b
+LiveByParts r whole = (t : Shape) → InProfile t → (b : List ℕ) → Live r whole t b ↔ LiveByChunks r whole t b
 
--- the same of the types of the profile, where the rules spell those of no other in octets
-abbrev pub LiveByPartsInProfile : Fielding → (Shape → Datum → List Chunk) → Type 0
-LiveByPartsInProfile r whole = (t : Shape) → InProfile t → (b : List ℕ) → Live r whole t b ↔ LiveByChunks r whole t b
+-- each beginning of an encoding, in units, is live
+abbrev pub BeginningsAreLive : Ruling → Type 0
+BeginningsAreLive r = (t : Shape) (v : Datum) (o x y : List ℕ) → InProfile t → length o ≤ max_octets → IsEncoding r t v o → r.units o ≡ x ++ y → Live r.fielding r.whole t x
 
 -- ---- answers
+
+-- to no beginning of an encoding, in octets, the answer is that it is refused
+abbrev pub BeginningsAreNotRefused : Ruling → Type 0
+BeginningsAreNotRefused r =
+    (t : Shape) (v : Datum) (s rest : List ℕ) (place : ℕ) → InProfile t → length (s ++ rest) ≤ max_octets → IsEncoding r t v (s ++ rest) → Answer r t s (refused place) → ⊥
 
 -- two answers to one list of octets are one
 abbrev pub OneAnswer : Ruling → Type 0

@@ -5,8 +5,9 @@ ghost use Rattle.asn_values.specs.Datum.{Datum};
 ghost use Rattle.asn_values.specs.Shape.{Shape};
 ghost use Rattle.asn_rules.specs.Answer.{Ruling};
 ghost use Rattle.asn_rules.specs.Chunks.{Chunk};
-ghost use Rattle.asn_rules.specs.Laws.{RulesLaws, WholesTell, LiveIsClosed, OneAnswer};
+ghost use Rattle.asn_rules.specs.Laws.{RulesLaws, WholesTell, LiveIsClosed, BeginningsAreLive, BeginningsAreNotRefused, OneAnswer};
 ghost use Rattle.asn_rules.specs.Live.{Fielding};
+ghost use Rattle.asn_rules.specs.Reading.{RulesTell};
 
 /// What an encoding may still follow, it may follow each beginning of. So once no encoding can
 /// follow the octets, none can follow them with more octets behind.
@@ -24,4 +25,11 @@ pub fn laws_from_units()
 /// given no other is, nor the same with another value, count of octets or place.
 pub fn answers_exclude()
     ensures { (r : Ruling) → RulesLaws r → OneAnswer r }
+{}
+
+/// Of an encoding of at most 2 ^ 28 - 1 octets each beginning is live, so the octets of an
+/// encoding are at no place refused, however many of them have come.
+pub fn beginnings_are_live()
+    ensures live { (r : Ruling) → RulesTell r → BeginningsAreLive r }
+    ensures not_refused { (r : Ruling) → RulesTell r → BeginningsAreNotRefused r }
 {}

@@ -114,15 +114,15 @@ items ds = elements (elements_of ds)
 abbrev pub note_type : Shape
 note_type =
     sequence (component (codes "id") (integer (between (pos 0) (pos 7)))
-        (default_component (codes "ok") (truth true) boolean
-            (optional_component (codes "note") (restricted ia5 (size_between 0 3)) no_fields))) closed
+    (default_component (codes "ok") (truth true) boolean
+    (optional_component (codes "note") (restricted ia5 (size_between 0 3)) no_fields))) closed
 
 -- SEQUENCE { id INTEGER (0..7), ok BOOLEAN DEFAULT TRUE, flag BOOLEAN OPTIONAL }
 abbrev pub flag_type : Shape
 flag_type =
     sequence (component (codes "id") (integer (between (pos 0) (pos 7)))
-        (default_component (codes "ok") (truth true) boolean
-            (optional_component (codes "flag") boolean no_fields))) closed
+    (default_component (codes "ok") (truth true) boolean
+    (optional_component (codes "flag") boolean no_fields))) closed
 
 -- SEQUENCE { a BOOLEAN, ... }
 abbrev pub marked_type : Shape
@@ -132,14 +132,14 @@ marked_type = sequence (component (codes "a") boolean no_fields) (marked no_fiel
 abbrev pub extended_type : Shape
 extended_type =
     sequence (component (codes "a") boolean no_fields)
-        (marked (optional_component (codes "b") (integer (between (pos 0) (pos 255))) no_fields))
+    (marked (optional_component (codes "b") (integer (between (pos 0) (pos 255))) no_fields))
 
 -- SEQUENCE { a BOOLEAN, ..., b INTEGER (0..255) OPTIONAL, c OCTET STRING OPTIONAL }
 abbrev pub twice_extended_type : Shape
 twice_extended_type =
     sequence (component (codes "a") boolean no_fields)
-        (marked (optional_component (codes "b") (integer (between (pos 0) (pos 255)))
-            (optional_component (codes "c") (octet_string any_size) no_fields)))
+    (marked (optional_component (codes "b") (integer (between (pos 0) (pos 255)))
+    (optional_component (codes "c") (octet_string any_size) no_fields)))
 
 -- SEQUENCE { a BOOLEAN, ..., n NULL OPTIONAL }
 abbrev pub null_addition_type : Shape
@@ -149,31 +149,31 @@ null_addition_type = sequence (component (codes "a") boolean no_fields) (marked 
 abbrev pub inner_type : Shape
 inner_type =
     sequence (component (codes "p") boolean no_fields)
-        (marked (optional_component (codes "q") (integer (between (pos 0) (pos 255))) no_fields))
+    (marked (optional_component (codes "q") (integer (between (pos 0) (pos 255))) no_fields))
 
 -- SEQUENCE { a BOOLEAN, ..., b SEQUENCE { p BOOLEAN, ..., q INTEGER (0..255) OPTIONAL } OPTIONAL, c BOOLEAN OPTIONAL }
 abbrev pub outer_type : Shape
 outer_type =
     sequence (component (codes "a") boolean no_fields)
-        (marked (optional_component (codes "b") inner_type (optional_component (codes "c") boolean no_fields)))
+    (marked (optional_component (codes "b") inner_type (optional_component (codes "c") boolean no_fields)))
 
 -- CHOICE { x NULL, y BOOLEAN, z INTEGER (0..3), ..., w OCTET STRING }
 abbrev pub extended_choice : Shape
 extended_choice =
     choice (one_of (codes "x") null (one_of (codes "y") boolean (one_of (codes "z") (integer (between (pos 0) (pos 3))) no_alternatives)))
-        (marked_choice (one_of (codes "w") (octet_string any_size) no_alternatives))
+    (marked_choice (one_of (codes "w") (octet_string any_size) no_alternatives))
 
 -- CHOICE { x NULL, y BOOLEAN, z INTEGER (0..3) }
 abbrev pub closed_choice_type : Shape
 closed_choice_type =
     choice (one_of (codes "x") null (one_of (codes "y") boolean (one_of (codes "z") (integer (between (pos 0) (pos 3))) no_alternatives)))
-        closed_choice
+    closed_choice
 
 -- ENUMERATED { red(0), green(5), blue(200), ..., grey(300) }
 abbrev pub colours : Shape
 colours =
     enumerated (label (codes "red") (pos 0) ∷ label (codes "green") (pos 5) ∷ label (codes "blue") (pos 200) ∷ [])
-        (marked_labels (label (codes "grey") (pos 300) ∷ []))
+    (marked_labels (label (codes "grey") (pos 300) ∷ []))
 
 -- ENUMERATED { high(9), low(-9), middle(0) }, its numbers not in the order as written
 abbrev pub unsorted_items : List Label
@@ -194,7 +194,7 @@ many_alternatives = choice (alternatives_of 100 boolean) (marked_choice (alterna
 abbrev pub default_type : Shape
 default_type =
     sequence (default_component (codes "n") (number (pos 2)) (integer (between (pos 0) (pos 3)))
-        (default_component (codes "e") (item 1) (enumerated (label (codes "a") (pos 0) ∷ label (codes "b") (pos 1) ∷ []) closed_labels) no_fields)) closed
+    (default_component (codes "e") (item 1) (enumerated (label (codes "a") (pos 0) ∷ label (codes "b") (pos 1) ∷ []) closed_labels) no_fields)) closed
 
 -- SEQUENCE { n INTEGER DEFAULT -5 }
 abbrev pub negative_default_type : Shape
@@ -217,6 +217,11 @@ truths n = sequence (optionals_of n boolean) closed
 abbrev pub large_type : ℕ → Shape
 large_type n =
     sequence (component [] (sequence (optionals_of 64 (truths 64)) closed)
-        (component [] (sequence (optionals_of 64 (truths 64)) closed)
-            (component [] (sequence (optionals_of 25 (truths 64)) closed)
-                (component [] (truths n) no_fields)))) closed
+    (component [] (sequence (optionals_of 64 (truths 64)) closed)
+    (component [] (sequence (optionals_of 25 (truths 64)) closed)
+    (component [] (truths n) no_fields)))) closed
+
+-- BOOLEAN, and so many times a SEQUENCE with two components of the type before
+abbrev pub doubled : ℕ → Shape
+doubled zero = boolean
+doubled (suc n) = sequence (component (codes "a") (doubled n) (component (codes "b") (doubled n) no_fields)) closed

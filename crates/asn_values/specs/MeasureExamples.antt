@@ -3,7 +3,7 @@ use Rattle.std.specs.Prelude.{◌≡◌, pos, true, false, [], ◌∷◌, replic
 use Rattle.asn_values.specs.Datum.{truth, nothing, number, item, bit_list, octet_list, characters, unicode, alternative}
 use Rattle.asn_values.specs.Shape.{boolean, null, octet_string, utf8_string, sequence, sequence_of, choice, no_fields, closed, marked, no_alternatives, one_of, marked_choice}
 use Rattle.asn_values.specs.Measures.{depth, nodes, places, levels, cells}
-use Rattle.asn_values.specs.ExampleTypes.{hex, bits_of, any_size, component, optional_component, entries, items, note_type, extended_type, outer_type, extended_choice, colours, lists_around, large_type}
+use Rattle.asn_values.specs.ExampleTypes.{hex, bits_of, any_size, component, optional_component, entries, items, note_type, extended_type, outer_type, extended_choice, colours, lists_around, large_type, doubled}
 
 -- ---- levels of types inside one another
 
@@ -49,6 +49,9 @@ nodes_of_a_list = refl
 
 nodes_of_a_large_type : nodes (large_type 50) ≡ 10000
 nodes_of_a_large_type = refl
+
+nodes_of_a_type_doubled_twelve_times : nodes (doubled 12) ≡ 8191
+nodes_of_a_type_doubled_twelve_times = refl
 
 -- ---- the same, a string counting two
 

@@ -3,7 +3,7 @@ use Rattle.std.specs.Prelude.{◌≡◌, pos, negsuc, true, false, [], ◌∷◌
 use Rattle.asn_values.specs.Datum.{truth, nothing, number, item, octet_list}
 use Rattle.asn_values.specs.Shape.{boolean, null, integer, enumerated, bit_string, octet_string, restricted, ia5, utf8_string, sequence, sequence_of, choice, closed_labels, marked_labels, no_fields, closed, marked, no_alternatives, one_of, closed_choice, marked_choice}
 use Rattle.asn_values.specs.Profile.{EmptyRange, SizeTooLarge, DuplicateName, BadEnumeration, UselessMark, BadDefault, ZeroWidthElement, AdditionNotOptional, TooMany, TooDeep, has}
-use Rattle.asn_values.specs.ExampleTypes.{between, number_from, number_to, any_number, between_or_more, exactly, size_between, size_from, any_size, size_between_or_more, label, component, optional_component, default_component, alternatives_of, optionals_of, labels_from, extended_type, extended_choice, unsorted_enumeration, large_type, lists_around}
+use Rattle.asn_values.specs.ExampleTypes.{between, number_from, number_to, any_number, between_or_more, exactly, size_between, size_from, any_size, size_between_or_more, label, component, optional_component, default_component, alternatives_of, optionals_of, labels_from, extended_type, extended_choice, unsorted_enumeration, large_type, lists_around, doubled}
 
 -- ---- EmptyRange
 
@@ -369,6 +369,14 @@ an_addition_of_a_choice_needs_no_word = refl
 
 10001_nodes : has TooMany (large_type 51) ≡ true
 10001_nodes = refl
+
+-- 2^13 - 1 = 8191 nodes
+a_type_doubled_twelve_times : has TooMany (doubled 12) ≡ false
+a_type_doubled_twelve_times = refl
+
+-- 2^14 - 1 = 16383 nodes
+a_type_doubled_thirteen_times : has TooMany (doubled 13) ≡ true
+a_type_doubled_thirteen_times = refl
 
 -- ---- TooDeep
 

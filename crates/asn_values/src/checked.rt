@@ -50,6 +50,7 @@ impl Checked {
         ensures same { IfOk result (λ c. c ≡ ty) }
         ensures of_profile { OnOk result (InProfile (shape_of ty)) }
         ensures fault { IfErr result (λ f. Holds f (shape_of ty)) }
+        ensures memory { IfErr result (λ f. f ≡ TypeFault.Memory → InProfile (shape_of ty)) }
     {
         walk::nodes_left(&ty, MOST_LEVELS, MOST_NODES)?;
         let tree = Rc::new(alloc, ty).map_err(|_| TypeFault::Memory)?;

@@ -6,7 +6,10 @@ use std::test::Fail;
 
 /// INTEGER (low..high)
 fn int(low: i128, high: i128) -> AsnType {
-    AsnType::Int(Bounds { low, high: Some(high) })
+    AsnType::Int(Bounds {
+        low,
+        high: Some(high),
+    })
 }
 
 /// INTEGER (low..MAX)
@@ -15,19 +18,27 @@ fn int_from(low: i128) -> AsnType {
 }
 
 fn field(alloc: Global, name: &str, ty: AsnType, need: Need) -> Result<Field, AllocError> {
-    Ok(Field { name: String::from_str(alloc, name)?, ty, need })
+    Ok(Field {
+        name: String::from_str(alloc, name)?,
+        ty,
+        need,
+    })
 }
 
 /// SEQUENCE { name type }
 fn around(alloc: Global, name: &str, ty: AsnType, need: Need) -> Result<AsnType, AllocError> {
-    Ok(AsnType::Seq { root: vec![in alloc; field(alloc, name, ty, need)?]? })
+    Ok(AsnType::Seq {
+        root: vec![in alloc; field(alloc, name, ty, need)?]?,
+    })
 }
 
 /// SEQUENCE { a first, b second }
 fn pair(alloc: Global, first: AsnType, second: AsnType) -> Result<AsnType, AllocError> {
     let a = field(alloc, "a", first, Need::Must)?;
     let b = field(alloc, "b", second, Need::Must)?;
-    Ok(AsnType::Seq { root: vec![in alloc; a, b]? })
+    Ok(AsnType::Seq {
+        root: vec![in alloc; a, b]?,
+    })
 }
 
 /// A SEQUENCE of so many components of BOOLEAN.
@@ -35,7 +46,11 @@ fn booleans(alloc: Global, count: usize) -> Result<AsnType, AllocError> {
     let mut root = Vec::new(alloc);
     for place in 0..count {
         let name = format!(in alloc; "c{place}")?;
-        root.push(Field { name, ty: AsnType::Bool, need: Need::Must })?;
+        root.push(Field {
+            name,
+            ty: AsnType::Bool,
+            need: Need::Must,
+        })?;
     }
     Ok(AsnType::Seq { root })
 }
@@ -54,7 +69,11 @@ fn bundle(alloc: Global, full: usize, last: usize) -> Result<AsnType, AllocError
     let mut root = Vec::new(alloc);
     for place in 0..full {
         let name = format!(in alloc; "c{place}")?;
-        root.push(Field { name, ty: booleans(alloc, 64)?, need: Need::Must })?;
+        root.push(Field {
+            name,
+            ty: booleans(alloc, 64)?,
+            need: Need::Must,
+        })?;
     }
     root.push(field(alloc, "last", booleans(alloc, last)?, Need::Must)?)?;
     Ok(AsnType::Seq { root })
@@ -65,7 +84,9 @@ fn types(alloc: Global, last: usize) -> Result<AsnType, AllocError> {
     let a = field(alloc, "a", bundle(alloc, 63, 64)?, Need::Must)?;
     let b = field(alloc, "b", bundle(alloc, 63, 64)?, Need::Must)?;
     let c = field(alloc, "c", bundle(alloc, 25, last)?, Need::Must)?;
-    Ok(AsnType::Seq { root: vec![in alloc; a, b, c]? })
+    Ok(AsnType::Seq {
+        root: vec![in alloc; a, b, c]?,
+    })
 }
 
 /// SEQUENCE { a type DEFAULT value }
@@ -109,12 +130,18 @@ fn names_have_faults(rt: HostRuntime) -> Result<(), Fail> {
         ("a_b", bad),
         ("é", bad),
     ] {
-        expect_fault(&rt, alloc, name, around(alloc, name, AsnType::Bool, Need::Must)?, want);
+        expect_fault(
+            &rt,
+            alloc,
+            name,
+            around(alloc, name, AsnType::Bool, Need::Must)?,
+            want,
+        );
     }
     let twice = vec![in alloc;
         field(alloc, "ab", AsnType::Bool, Need::Must)?,
         field(alloc, "c", AsnType::Bool, Need::Must)?,
-        field(alloc, "ab", AsnType::Bool, Need::Must)?
+        field(alloc, "ab", AsnType::Bool, Need::Must)?,
     ]?;
     expect_fault(&rt, alloc, "twice", AsnType::Seq { root: twice }, bad);
     let inner = around(alloc, "a", AsnType::Bool, Need::Must)?;
@@ -149,7 +176,13 @@ fn defaults_have_faults(rt: HostRuntime) -> Result<(), Fail> {
     let top = with_default(alloc, int_from(highest), Value::Int(highest))?;
     expect_fault(&rt, alloc, "of the one number up to MAX", top, bad);
     let none = Value::Seq(vec![in alloc]?);
-    let constructed = with_default(alloc, AsnType::Seq { root: vec![in alloc]? }, none)?;
+    let constructed = with_default(
+        alloc,
+        AsnType::Seq {
+            root: vec![in alloc]?,
+        },
+        none,
+    )?;
     expect_fault(&rt, alloc, "of SEQUENCE", constructed, bad);
     Ok(())
 }
@@ -162,8 +195,20 @@ fn counts_have_faults(rt: HostRuntime) -> Result<(), Fail> {
     expect_fault(&rt, alloc, "no component", booleans(alloc, 0)?, None);
     expect_fault(&rt, alloc, "64 components", booleans(alloc, 64)?, None);
     expect_fault(&rt, alloc, "65 components", booleans(alloc, 65)?, many);
-    expect_fault(&rt, alloc, "32 levels", levels(alloc, 32, AsnType::Bool)?, None);
-    expect_fault(&rt, alloc, "33 levels", levels(alloc, 33, AsnType::Bool)?, deep);
+    expect_fault(
+        &rt,
+        alloc,
+        "32 levels",
+        levels(alloc, 32, AsnType::Bool)?,
+        None,
+    );
+    expect_fault(
+        &rt,
+        alloc,
+        "33 levels",
+        levels(alloc, 33, AsnType::Bool)?,
+        deep,
+    );
     expect_fault(&rt, alloc, "10,000 types", types(alloc, 50)?, None);
     expect_fault(&rt, alloc, "10,001 types", types(alloc, 51)?, many);
     Ok(())
@@ -180,7 +225,11 @@ fn first_fault_is_answered(rt: HostRuntime) -> Result<(), Fail> {
     expect_fault(&rt, alloc, "a type before those inside it", outer, name);
     let least = around(alloc, "A", AsnType::Bool, Need::Default(Value::Int(0)))?;
     expect_fault(&rt, alloc, "the fault with the least number", least, name);
-    let left = pair(alloc, int(1, 0), around(alloc, "A", AsnType::Bool, Need::Must)?)?;
+    let left = pair(
+        alloc,
+        int(1, 0),
+        around(alloc, "A", AsnType::Bool, Need::Must)?,
+    )?;
     expect_fault(&rt, alloc, "from left to right", left, empty);
     let bad_default = with_default(alloc, AsnType::Bool, Value::Int(0))?;
     let whole = pair(alloc, levels(alloc, 33, AsnType::Bool)?, bad_default)?;
@@ -192,7 +241,13 @@ fn first_fault_is_answered(rt: HostRuntime) -> Result<(), Fail> {
     let bottom = levels(alloc, 33, not_entered)?;
     expect_fault(&rt, alloc, "nothing inside the last level", bottom, deep);
     let many = pair(alloc, booleans(alloc, 65)?, int(1, 0))?;
-    expect_fault(&rt, alloc, "a count before what comes later", many, Some(TypeFault::TooMany));
+    expect_fault(
+        &rt,
+        alloc,
+        "a count before what comes later",
+        many,
+        Some(TypeFault::TooMany),
+    );
     Ok(())
 }
 
@@ -201,7 +256,7 @@ fn sample(alloc: Global) -> Result<AsnType, AllocError> {
     let root = vec![in alloc;
         field(alloc, "id", int(0, 7), Need::Must)?,
         field(alloc, "ok", AsnType::Bool, Need::Default(Value::Bool(true)))?,
-        field(alloc, "flag", AsnType::Bool, Need::Optional)?
+        field(alloc, "flag", AsnType::Bool, Need::Optional)?,
     ]?;
     Ok(AsnType::Seq { root })
 }
@@ -222,7 +277,12 @@ fn values_fit_and_are_the_same(rt: HostRuntime) -> Result<(), Fail> {
     assert!(rt; fits(&ty, &absent));
     assert!(rt; fits(&ty, &present));
     assert!(rt; !fits(&ty, &message(alloc, 8, None)?));
-    assert!(rt; !fits(&ty, &Value::Seq(vec![in alloc; Some(Value::Int(0)), None, None]?)));
+    assert!(rt;
+        !fits(
+            &ty,
+            &Value::Seq(vec![in alloc; Some(Value::Int(0)), None, None]?)
+        )
+    );
     assert!(rt; same(&absent, &message(alloc, 7, None)?));
     assert!(rt; !same(&absent, &present));
     assert!(rt; !same(&absent, &message(alloc, 6, None)?));

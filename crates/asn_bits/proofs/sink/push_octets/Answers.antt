@@ -13,10 +13,9 @@ loop-i-preserved c =
     let here = c.args.below + 8 * (c.args.count - 1 - i) in
     let one_more : above ≡ here + 8 = omega arith in
     let next : c.args.below + 8 * (c.args.count - (i + 1)) ≡ here = omega arith in
-    let sofar : c.loop-i.bytes.items ≡ old ++ octets i (n / 2 ^ (here + 8)) = c.loop-i.invariant.0 ∙ ap (λ t. old ++ octets i (n / 2 ^ t)) one_more in
-    (
-        c.push_reserved.ensures.items ∙ ap (λ t. c.loop-i.bytes.items ++ t ∷ []) c.low_octet.ensures ∙ ap (λ t. t ++ n / 2 ^ here % 256 ∷ []) sofar
-        ∙ append_assoc old (octets i (n / 2 ^ (here + 8))) (n / 2 ^ here % 256 ∷ []) ∙ ap (λ t. old ++ t) (sym (octets_more i here n))
-        ∙ ap (λ t. old ++ octets (i + 1) (n / 2 ^ t)) (sym next),
-        omega arith
+    let sofar : c.loop-i.bytes.items ≡ old ++ octets i (n / 2 ^ (here + 8)) = c.loop-i.invariant.0 ∙ ap (λ t. old ++ octets i (n / 2 ^ t)) one_more in (
+      c.push_reserved.ensures.items ∙ ap (λ t. c.loop-i.bytes.items ++ t ∷ []) c.low_octet.ensures ∙ ap (λ t. t ++ n / 2 ^ here % 256 ∷ []) sofar
+          ∙ append_assoc old (octets i (n / 2 ^ (here + 8))) (n / 2 ^ here % 256 ∷ []) ∙ ap (λ t. old ++ t) (sym (octets_more i here n))
+          ∙ ap (λ t. old ++ octets (i + 1) (n / 2 ^ t)) (sym next),
+      omega arith,
     )

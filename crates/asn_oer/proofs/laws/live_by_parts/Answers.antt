@@ -1,5 +1,5 @@
-use Rattle.asn_oer.proofs.LiveParts.{oer_live_iff}
+use Rattle.asn_oer.proofs.LiveParts.{oer_live}
 use Rattle.asn_oer.proofs.laws.live_by_parts.Goals as goal
 
 pub returns : goal.returns
-returns c = oer_live_iff
+returns c = oer_live

@@ -1,0 +1,211 @@
+//! What no clause says: that the calls succeed, vectors from outside, and numbers against bits.
+ghost use Rattle.std.specs.Prelude.{◌≡◌, ℕ, ◌^◌, ◌<◌, ◌≤◌};
+
+use crate::numbers::{octet_count, width};
+use crate::{BitCursor, BitSink};
+use std::alloc::{AllocError, Global};
+use std::process::Abort;
+use std::test::Fail;
+
+// tries again where memory was refused, so that a refusal shows in the octets
+fn put(sink: &mut BitSink, k: u32, n: u64) -> Result<(), AllocError>
+    requires few { k ≤ 64 }
+    requires fits { n < 2 ^ k }
+{
+    if sink.push_number(k, n).is_err() {
+        return sink.push_number(k, n);
+    }
+    Ok(())
+}
+
+fn put_bit(sink: &mut BitSink, bit: bool) -> Result<(), AllocError> {
+    if sink.push(bit).is_err() {
+        return sink.push(bit);
+    }
+    Ok(())
+}
+
+fn fill_octets(sink: &mut BitSink) -> Result<(), AllocError> {
+    if sink.pad().is_err() {
+        return sink.pad();
+    }
+    Ok(())
+}
+
+// The personnel record of X.691, Annex A, unaligned: the presence of children, `John`, `P` and
+// `Smith`, each text under its length, seven bits a character.
+#[test]
+fn packs_the_record_of_the_annex(rt: HostRuntime) -> Result<(), Fail> {
+    let mut sink = BitSink::new(rt.alloc());
+    assert!(rt; sink.is_empty());
+    put_bit(&mut sink, true)?;
+    put(&mut sink, 8, 4)?;
+    put(&mut sink, 7, 74)?;
+    put(&mut sink, 7, 111)?;
+    put(&mut sink, 7, 104)?;
+    put(&mut sink, 7, 110)?;
+    put(&mut sink, 15, 208)?;
+    put(&mut sink, 8, 5)?;
+    put(&mut sink, 35, 22_510_467_688)?;
+    assert!(rt; !sink.is_empty());
+    assert!(rt; !sink.ends_at_octet());
+    fill_octets(&mut sink)?;
+    assert!(rt; sink.ends_at_octet());
+    let octets = sink.into_octets();
+    assert_eq!(rt;
+        octets.as_slice(),
+        b"\x82\x4a\xdf\xa3\x70\x0d\x00\x5a\x7b\x74\xf4\xd0".as_slice()
+    );
+    Ok(())
+}
+
+#[test]
+fn reads_the_record_of_the_annex(rt: HostRuntime) -> Result<(), Fail> {
+    let octets = b"\x82\x4a\xdf\xa3\x70\x0d\x00\x5a\x7b\x74\xf4\xd0";
+    let mut cursor = BitCursor::over(octets);
+    assert_eq!(rt; cursor.octets_left(), 12);
+    assert_eq!(rt; cursor.next(), Some(1));
+    assert_eq!(rt; cursor.rest_of_octet(), 7);
+    assert_eq!(rt; cursor.octets_left(), 11);
+    assert_eq!(rt; cursor.take_number(8), Some(4));
+    assert_eq!(rt; cursor.take_number(7), Some(74));
+    assert_eq!(rt; cursor.take_number(64), Some(0xdfa3_700d_005a_7b74));
+    let mut copy = cursor.copied();
+    assert_eq!(rt; cursor.take_number(17), None);
+    assert_eq!(rt; cursor.take_number(16), Some(0xf4d0));
+    assert!(rt; cursor.is_empty());
+    assert_eq!(rt; cursor.next(), None);
+    assert_eq!(rt; cursor.take_number(0), Some(0));
+    assert_eq!(rt; copy.take_number(11), Some(1958));
+    assert_eq!(rt; copy.rest_of_octet(), 5);
+    assert!(rt; !copy.is_empty());
+    Ok(())
+}
+
+// 4097 from the number 4096 at a low bound of -1: two octets under their length
+#[test]
+fn pushes_the_fewest_octets(rt: HostRuntime) -> Result<(), Fail> {
+    let mut sink = BitSink::new(rt.alloc());
+    for n in [4097, 0, u64::MAX] {
+        if sink.push_least_octets(n).is_err() {
+            sink.push_least_octets(n)?;
+        }
+    }
+    assert!(rt; sink.ends_at_octet());
+    let octets = sink.into_octets();
+    assert_eq!(rt;
+        octets.as_slice(),
+        b"\x02\x10\x01\x01\x00\x08\xff\xff\xff\xff\xff\xff\xff\xff".as_slice()
+    );
+    Ok(())
+}
+
+#[test]
+fn counts_bits_and_octets(rt: HostRuntime) {
+    assert_eq!(rt; width(0), 0);
+    assert_eq!(rt; width(1), 0);
+    assert_eq!(rt; width(2), 1);
+    assert_eq!(rt; width(3), 2);
+    assert_eq!(rt; width(256), 8);
+    assert_eq!(rt; width(257), 9);
+    assert_eq!(rt; width(18_446_744_073_709_551_616), 64);
+    assert_eq!(rt; octet_count(0), 1);
+    assert_eq!(rt; octet_count(255), 1);
+    assert_eq!(rt; octet_count(256), 2);
+    assert_eq!(rt; octet_count(u64::MAX), 8);
+}
+
+fn limit(k: u32) -> u64
+    requires { k < 64 }
+    ensures { result ≡ 2 ^ k }
+{
+    1 << k
+}
+
+// the first k bits of a number whose bits follow no short pattern
+fn sample(k: u32) -> u64
+    requires { k ≤ 64 }
+    ensures { result < 2 ^ k }
+{
+    if k == 0 {
+        0
+    } else {
+        0x9b5d_3c7a_e142_6f81 >> (64 - k)
+    }
+}
+
+// n in k bits is the same as its bits one by one, behind `offset` bits and before `tail` octets
+fn agrees(
+    rt: &impl Abort,
+    alloc: Global,
+    offset: u32,
+    k: u32,
+    n: u64,
+    tail: u32,
+) -> Result<(), Fail>
+    requires few { k ≤ 64 }
+    requires fits { n < 2 ^ k }
+{
+    let mut at_once = BitSink::new(alloc);
+    let mut one_by_one = BitSink::new(alloc);
+    for i in 0..offset {
+        put_bit(&mut at_once, i % 3 == 0)?;
+        put_bit(&mut one_by_one, i % 3 == 0)?;
+    }
+    put(&mut at_once, k, n)?;
+    for i in 0..k {
+        put_bit(&mut one_by_one, n >> (k - 1 - i) & 1 == 1)?;
+    }
+    for _ in 0..tail {
+        put(&mut at_once, 8, 170)?;
+        put(&mut one_by_one, 8, 170)?;
+    }
+    fill_octets(&mut at_once)?;
+    fill_octets(&mut one_by_one)?;
+    assert!(rt; at_once.ends_at_octet());
+    assert!(rt; one_by_one.ends_at_octet());
+    let octets = at_once.into_octets();
+    let others = one_by_one.into_octets();
+    assert_eq!(rt; octets.as_slice(), others.as_slice());
+    reads(rt, octets.as_slice(), offset, k, n)
+}
+
+fn reads(rt: &impl Abort, octets: &[u8], offset: u32, k: u32, n: u64) -> Result<(), Fail>
+    requires few { k ≤ 64 }
+{
+    let mut at_once = BitCursor::over(octets);
+    for i in 0..offset {
+        assert_eq!(rt; at_once.next(), Some((i % 3 == 0) as u8));
+    }
+    let mut one_by_one = at_once.copied();
+    assert_eq!(rt; at_once.take_number(k), Some(n));
+    for i in 0..k {
+        assert_eq!(rt; one_by_one.next(), Some((n >> (k - 1 - i) & 1) as u8));
+    }
+    assert_eq!(rt; at_once.rest_of_octet(), one_by_one.rest_of_octet());
+    assert_eq!(rt; at_once.octets_left(), one_by_one.octets_left());
+    Ok(())
+}
+
+#[test]
+fn numbers_are_their_bits(rt: HostRuntime) -> Result<(), Fail> {
+    for k in 0..7 {
+        for n in 0..limit(k) {
+            for offset in 0..8 {
+                agrees(&rt, rt.alloc(), offset, k, n, 0)?;
+            }
+        }
+    }
+    Ok(())
+}
+
+#[test]
+fn long_numbers_are_their_bits(rt: HostRuntime) -> Result<(), Fail> {
+    for k in 0..65 {
+        for offset in 0..8 {
+            agrees(&rt, rt.alloc(), offset, k, sample(k), 0)?;
+            agrees(&rt, rt.alloc(), offset, k, sample(k), 9)?;
+        }
+    }
+    Ok(())
+}

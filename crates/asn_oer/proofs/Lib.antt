@@ -11,4 +11,3 @@ pub mod Strings
 pub mod Tells
 pub mod PlaceExamples
 pub mod Whole
-pub mod Tells

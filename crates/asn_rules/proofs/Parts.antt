@@ -2,7 +2,7 @@
 use Rattle.std.proofs.Common.{◌≡◌, ◌≢◌, ℕ, ◌⊎◌, inl, inr, ⊎_elim, List, [], ◌∷◌, ◌++◌, length, refl, sym, ap, ◌∙◌, subst, append_assoc}
 use Rattle.std.proofs.lemmas.List.{append-nil}
 use Rattle.asn_rules.proofs.Answers.{live_within, done_stays}
-use Rattle.asn_rules.proofs.Chunks.{FieldsPart, free_not_whole, front_whole, field_front}
+use Rattle.asn_rules.proofs.Chunks.{FieldsPart, whole_not_begun, front_whole, field_front}
 use Rattle.asn_rules.proofs.Flat.{flat-ones}
 use Rattle.asn_rules.proofs.Lists.{Within, Beyond, cut, not_last, lists_same_or_not, last_of}
 use Rattle.asn_rules.proofs.Then.{one_front}
@@ -163,7 +163,7 @@ sealed_short {A} {R} {k} {C} {us} ok i f = record {
     begun (u ∷ us) g = inl g
 
     never : (v : A) (r : List ℕ) (h : Spells R (Sealed k C) v us r) → us ≡ (field_units R.spelled k h.spelt.content ++ []) ++ r → ⊥
-    never v r h e = free_not_whole ok k h.spelt.content r (rw h.spelt.same at h.contents).0 (let g : us ≡ field_units R.spelled k h.spelt.content ++ r = e ∙ ap (λ (l : List ℕ). l ++ r) (append-nil (field_units R.spelled k h.spelt.content)) in rw g at f)
+    never v r h e = whole_not_begun ok k h.spelt.content r (rw h.spelt.same at h.contents).0 (let g : us ≡ field_units R.spelled k h.spelt.content ++ r = e ∙ ap (λ (l : List ℕ). l ++ r) (append-nil (field_units R.spelled k h.spelt.content)) in rw g at f)
 
 -- what begins a sealed field is less than one, or has a whole one, within its limit and of the inner language
 pub sealed_begins : {A : Type 0} {R : Fielding} {k : Kind} {C : A → List ℕ → Type 0} {us : List ℕ} → IsLive R (Sealed k C) us → us ≢ [] → InField R k us ⊎ ((a : A) × (c : List ℕ) × C a c × IsContent R k c × (us ≡ field_units R.spelled k c))
@@ -187,7 +187,7 @@ sealed_refused_content {A} {R} {k} {C} ok i c before u after f e never =
     refused_here ok before u after (sealed_short ok i (record { content = c; contents = f; next = u; more = []; split = e })) (λ h. ⊎_elim less whole (sealed_begins h (not_last before u)))
   where
     less : InField R k (before ++ u ∷ []) → ⊥
-    less g = free_not_whole ok k c [] f (let d : before ++ u ∷ [] ≡ field_units R.spelled k c ++ [] = e ∙ sym (append-nil (field_units R.spelled k c)) in rw d at g)
+    less g = whole_not_begun ok k c [] f (let d : before ++ u ∷ [] ≡ field_units R.spelled k c ++ [] = e ∙ sym (append-nil (field_units R.spelled k c)) in rw d at g)
 
     whole : (a : A) × (d : List ℕ) × C a d × IsContent R k d × (before ++ u ∷ [] ≡ field_units R.spelled k d) → ⊥
     whole p = never p.0 (let g : p.1 ≡ c = ok.tells k p.1 c [] [] p.3 f (ap (λ (l : List ℕ). l ++ []) (sym p.4 ∙ e)) in rw g at p.2)

@@ -1,7 +1,7 @@
 -- Sets of counts, asked by ranges: what a reader of general lengths tests.
 use Rattle.std.proofs.Common.{◌≡◌, ℕ, zero, suc, ◌+◌, ◌-◌, ◌*◌, ◌^◌, ◌<◌, ◌≤◌, min, max, Bool, true, false, nat_lt, Option, Some, None, ◌⊎◌, inl, inr, ⊎_elim, List, [], ◌∷◌, refl, subst, arith}
 use Rattle.std.proofs.lemmas.Bool.{cases_lt, ltb-true, ltb-false}
-use Rattle.asn_rules.proofs.General.{block_cases}
+use Rattle.asn_rules.proofs.Headers.{block_cases}
 use Rattle.asn_rules.specs.Chunks.{Chunk}
 use Rattle.asn_rules.specs.Forks.{Branch, Fork, Same}
 use Rattle.asn_rules.specs.General.{Length, last, fragment, Few, Many, Left, Blocks, Header, Body, Within, General}

@@ -1,7 +1,7 @@
 -- Laws of languages, and what readers of parts say of the whole.
 use Rattle.std.proofs.Common.{◌≡◌, ◌≢◌, ℕ, ◌⊎◌, inl, inr, ⊎_elim, List, [], ◌∷◌, ◌++◌, refl, sym, ap, ◌∙◌, subst, append_assoc}
 use Rattle.std.proofs.lemmas.List.{append_cancel_left}
-use Rattle.asn_rules.proofs.Chunks.{FieldsPart, contents-append, contents-first, contents-second, free_not_whole, front_shorter, front_longer, front_behind, front_parts, After, field_front, parted_front, parted_units, parted_behind, parted_longer}
+use Rattle.asn_rules.proofs.Chunks.{FieldsPart, contents-append, contents-first, contents-second, whole_not_begun, front_shorter, front_longer, front_behind, front_parts, After, field_front, parted_front, parted_units, parted_behind, parted_longer}
 use Rattle.asn_rules.proofs.Flat.{flat-append}
 use Rattle.asn_rules.proofs.Lists.{not_empty, not_last}
 use Rattle.asn_rules.specs.Chunks.{Chunk, one, sealed, flat, field_units}
@@ -100,7 +100,7 @@ front_over ok [] (u ∷ us) f n h = h
 front_over ok (one a ∷ x) us f n h = front_over ok x us f n h.1
 front_over {R} ok (sealed k c ∷ x) us fine n h =
     let e : (field_units R.spelled k c ++ flat R.spelled x) ++ us ≡ field_units R.spelled k c ++ (flat R.spelled x ++ us) = append_assoc (field_units R.spelled k c) (flat R.spelled x) us in
-    ⊎_elim (free_not_whole ok k c (flat R.spelled x ++ us) fine.0)
+    ⊎_elim (whole_not_begun ok k c (flat R.spelled x ++ us) fine.0)
     (λ f. front_over ok x us fine.1 n (let e : f.0 ≡ flat R.spelled x ++ us = sym (append_cancel_left (field_units R.spelled k c) (flat R.spelled x ++ us) f.0 f.2) in rw e at f.3))
     (field_front R k c x (field_units R.spelled k c ++ (flat R.spelled x ++ us)) (not_empty (field_units R.spelled k c) (flat R.spelled x ++ us) (ok.some_units k c fine.0)) (rw e at h))
 

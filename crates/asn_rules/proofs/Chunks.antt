@@ -1,4 +1,4 @@
--- Fronts of encodings.
+-- What begins a list of chunks, and where two lists part.
 use Rattle.std.proofs.Common.{◌≡◌, ◌≢◌, ℕ, ◌⊎◌, inl, inr, ⊎_elim, List, [], ◌∷◌, ◌++◌, refl, sym, ap, ◌∙◌, subst, append_assoc}
 use Rattle.std.proofs.lemmas.List.{append-nil, append_cancel_left}
 use Rattle.asn_rules.proofs.Lists.{Within, Beyond, cut, not_empty}
@@ -12,20 +12,24 @@ pub record FieldsPart (R : Fielding) : Type 0 where
   pub tells : (k : Kind) (c d s t : List ℕ) → IsContent R k c → IsContent R k d → field_units R.spelled k c ++ s ≡ field_units R.spelled k d ++ t → c ≡ d
   pub some_units : (k : Kind) (c : List ℕ) → IsContent R k c → field_units R.spelled k c ≢ []
 
+-- plain units one after the other
 pub ones-append : (us vs : List ℕ) → ones (us ++ vs) ≡ ones us ++ ones vs
 ones-append [] vs = refl
 ones-append (u ∷ us) vs = ap (λ (l : List Chunk). one u ∷ l) (ones-append us vs)
 
+-- what the sealed fields of both hold may stand there
 pub contents-append : (R : Fielding) (xs ys : List Chunk) → AllContents R xs → AllContents R ys → AllContents R (xs ++ ys)
 contents-append R [] ys f g = g
 contents-append R (one u ∷ xs) ys f g = contents-append R xs ys f g
 contents-append R (sealed k c ∷ xs) ys f g = (f.0, contents-append R xs ys f.1 g)
 
+-- so it may in the first
 pub contents-first : (R : Fielding) (xs ys : List Chunk) → AllContents R (xs ++ ys) → AllContents R xs
 contents-first R [] ys f = tt
 contents-first R (one u ∷ xs) ys f = contents-first R xs ys f
 contents-first R (sealed k c ∷ xs) ys f = (f.0, contents-first R xs ys f.1)
 
+-- and in the second
 pub contents-second : (R : Fielding) (xs ys : List Chunk) → AllContents R (xs ++ ys) → AllContents R ys
 contents-second R [] ys f = f
 contents-second R (one u ∷ xs) ys f = contents-second R xs ys f
@@ -90,6 +94,7 @@ pub record After (R : Fielding) (x y : List Chunk) (us : List ℕ) : Type 0 wher
   pub split : us ≡ flat R.spelled x ++ rest
   pub front : IsFront R y rest
 
+-- what begins both begins the first, or has it whole and begins the second behind it
 pub front_parts : (R : Fielding) (x y : List Chunk) (us : List ℕ) → IsFront R (x ++ y) us → IsFront R x us ⊎ After R x y us
 front_parts R x y [] h = inl tt
 front_parts R [] y (u ∷ us) h = inr (record { rest = u ∷ us; contents = tt; split = refl; front = h })

@@ -19,6 +19,7 @@ apart [] vs f = absurd (f vs [] (sym (append-nil vs)))
 apart (u ∷ us) [] f = absurd (f [] (u ∷ us) (append-nil (u ∷ us)))
 apart (u ∷ us) (v ∷ vs) f = ⊎_elim (λ e. inr (e, apart us vs (λ s t q. f s t cc))) (λ n. inl n) (cases_eq u v)
 
+-- two fields are one or part
 pub frame_code : {R : Fielding} → FieldsPart R → (k : Kind) → Code (IsField R k)
 frame_code {R} ok k = record { law = λ c d us vs p q. go c d us vs p q (lists_same_or_not c d) }
   where
@@ -26,6 +27,7 @@ frame_code {R} ok k = record { law = λ c d us vs p q. go c d us vs p q (lists_s
     go c d us vs p q (inl e) = inl (e, p.same ∙ ap (field_units R.spelled k) e ∙ sym q.same)
     go c d us vs p q (inr n) = inr (n, apart us vs (λ s t e. n (ok.tells k c d s t p.contents q.contents (ap (λ (l : List ℕ). l ++ s) (sym p.same) ∙ e ∙ ap (λ (l : List ℕ). l ++ t) q.same))))
 
+-- as spellings
 pub frame_lawful : {R : Fielding} → FieldsPart R → (k : Kind) → Lawful (Frame R k)
 frame_lawful ok k = plain_lawful (frame_code ok k)
 
@@ -40,6 +42,7 @@ begun_of {R} {k} {us} l never = go b.0 b.1 b.2
     go c [] f = absurd (never c (rw append-nil at f))
     go c (u ∷ t) f = record { content = c; contents = f.contents; next = u; more = t; split = f.same }
 
+-- a frame that wants more is less than a field
 pub frame_begun : {R : Fielding} {k : Kind} {us : List ℕ} → Short R (Frame R k) us → InField R k us
 frame_begun {R} {k} {us} s = begun_of s.live (λ c f. s.none c [] (let p = plain_spells R {C = IsField R k} c us [] f in rw append-nil at p))
 

@@ -21,6 +21,7 @@ pub row_length : {A : Type 0} (L : A → List Chunk → Type 0) (n : ℕ) (vs : 
 row_length L zero vs cs h = ap length h.same
 row_length L (suc n) vs cs h = ap length h.seen ∙ ap suc (row_length L n h.source.1 h.spelt.second h.spelt.follows)
 
+-- lists in two parts of the same lengths
 same_halves : {A : Type 0} (a b c d : List A) → length a ≡ length b → a ++ c ≡ b ++ d → (a ≡ b) × (c ≡ d)
 same_halves [] [] c d l e = (refl, e)
 same_halves [] (y ∷ b) c d l e = absurd (omega arith)
@@ -31,6 +32,7 @@ same_halves (x ∷ a) (y ∷ b) c d l e =
     let f = h.0 in
     (cc, h.1)
 
+-- lengths of two parts
 together_length : {A : Type 0} (a b : List A) → length (a ++ b) ≡ length a + length b
 together_length a b = length-append a b
 
@@ -52,6 +54,7 @@ abbrev Counts : Length → ℕ → Type 0
 Counts (last n) k = (k ≡ n) × (n < 16384)
 Counts (fragment m) k = (1 ≤ m) × (m ≤ 4) × ((r : ℕ) × (16384 * m + r ≡ k) × (m < 4 → r < 16384))
 
+-- a length and the items behind it
 body_counts : {A : Type 0} (L : A → List Chunk → Type 0) (f : ℕ) (S : ℕ → Type 0) (l : Length) (ws : List A) (ds : List Chunk) → Tells S l → Body L (Within L f) S l ws ds → Counts l (length ws)
 body_counts L f S (last n) ws ds t b = (row_length L n ws ds b, t.1)
 body_counts L f S (fragment m) ws ds t b =
@@ -59,6 +62,7 @@ body_counts L f S (fragment m) ws ds t b =
     let r = row_length L (16384 * m) b.source.0 b.spelt.first b.spelt.spelt in
     (t.some, t.most, (length b.source.1, sym (ap length b.seen ∙ together_length b.source.0 b.source.1 ∙ ap (λ (x : ℕ). x + length b.source.1) r), c.largest))
 
+-- a count has one first length
 one_length : (l k : Length) (n : ℕ) → Counts l n → Counts k n → l ≡ k
 one_length (last m) (last n) k a b = ap last (sym a.0 ∙ b.0)
 one_length (last m) (fragment n) k a b = absurd (omega (arith, a.0, a.1, b.0, b.2.1))
@@ -68,6 +72,7 @@ one_length (fragment m) (fragment n) k a b = ap fragment (blocks m n k a b)
     blocks : (m n k : ℕ) → Counts (fragment m) k → Counts (fragment n) k → m ≡ n
     blocks m n k a b = ⊎_elim (λ h. (let g : a.2.0 < 16384 = a.2.2 (omega (arith, b.1)) in absurd (omega (arith, a.2.1, b.2.1)))) (λ h. ⊎_elim (λ f. (let g : b.2.0 < 16384 = b.2.2 (omega (arith, a.1)) in absurd (omega (arith, a.2.1, b.2.1)))) (λ f. omega arith) (cases_lt n m)) (cases_lt m n)
 
+-- what stands behind a length is one or parts
 body_lawful : {A : Type 0} {L : A → List Chunk → Type 0} → Lawful L → (f : ℕ) (S : ℕ → Type 0) → ((m : ℕ) → Lawful (Within L f (Left S m))) → (l : Length) → Lawful (Body L (Within L f) S l)
 body_lawful l f S again (last n) = row_lawful l n
 body_lawful {A} {L} l f S again (fragment m) = map_lawful_on once (then_lawful (row_lawful l (16384 * m)) (λ _. again m))
@@ -77,6 +82,7 @@ body_lawful {A} {L} l f S again (fragment m) = map_lawful_on once (then_lawful (
         let h = same_halves a.0 b.0 a.1 b.1 (row_length L (16384 * m) a.0 p.first p.spelt ∙ sym (row_length L (16384 * m) b.0 q.first q.spelt)) e in
         λ i. (h.0 i, h.1 i)
 
+-- with a bound on the lengths
 within_lawful : {A : Type 0} {L : A → List Chunk → Type 0} → Lawful L → (f : ℕ) (S : ℕ → Type 0) → Lawful (Within L f S)
 within_lawful l zero S = record { law = λ v w x y p q. absurd p }
 within_lawful {A} {L} l (suc f) S = map_lawful_on once (then_lawful (header_lawful S) (body_lawful l f S (λ m. within_lawful l f (Left S m))))
@@ -93,13 +99,16 @@ body_more : {A : Type 0} (L : A → List Chunk → Type 0) (G H : (ℕ → Type 
 body_more L G H S f (last n) vs cs h = h
 body_more L G H S f (fragment m) vs cs h = record { source = h.source; spelt = record { first = h.spelt.first; second = h.spelt.second; spelt = h.spelt.spelt; follows = f m h.source.1 h.spelt.second h.spelt.follows; whole = h.spelt.whole }; seen = h.seen }
 
+-- a length and what stands behind it
 once_more : {A : Type 0} (L : A → List Chunk → Type 0) (G H : (ℕ → Type 0) → List A → List Chunk → Type 0) (S : ℕ → Type 0) → ((m : ℕ) (vs : List A) (cs : List Chunk) → G (Left S m) vs cs → H (Left S m) vs cs) → (vs : List A) (cs : List Chunk) → Once L G S vs cs → Once L H S vs cs
 once_more L G H S f vs cs h = record { source = h.source; spelt = record { first = h.spelt.first; second = h.spelt.second; spelt = h.spelt.spelt; follows = body_more L G H S f h.source.0 h.source.1 h.spelt.second h.spelt.follows; whole = h.spelt.whole }; seen = h.seen }
 
+-- with one length more
 within_more : {A : Type 0} (L : A → List Chunk → Type 0) (f : ℕ) (S : ℕ → Type 0) (vs : List A) (cs : List Chunk) → Within L f S vs cs → Within L (suc f) S vs cs
 within_more L zero S vs cs h = absurd h
 within_more L (suc f) S vs cs h = once_more L (Within L f) (Within L (suc f)) S (λ m ws ds g. within_more L f (Left S m) ws ds g) vs cs h
 
+-- with k lengths more
 within_plus : {A : Type 0} (L : A → List Chunk → Type 0) (k f : ℕ) (S : ℕ → Type 0) (vs : List A) (cs : List Chunk) → Within L f S vs cs → Within L (k + f) S vs cs
 within_plus {A} L zero f S vs cs h =
     let e : f ≡ 0 + f = omega arith in
@@ -108,6 +117,7 @@ within_plus {A} L (suc k) f S vs cs h =
     let e : suc (k + f) ≡ suc k + f = omega arith in
     subst (λ (n : ℕ). Within L n S vs cs) e (within_more L (k + f) S vs cs (within_plus L k f S vs cs h))
 
+-- items under their general length are one or part
 pub general_lawful : {A : Type 0} {L : A → List Chunk → Type 0} → Lawful L → (S : ℕ → Type 0) → Lawful (General L S)
 general_lawful {A} {L} l S = record {
   law = λ v w x y p q.
@@ -136,6 +146,7 @@ general_once {A} L S = record { to = to; from = from }
     from : (vs : List A) (cs : List Chunk) → General L S vs cs → Once L (General L) S vs cs
     from vs cs h = open_up h.lengths vs cs h.spelt
 
+-- the count of the items is of the set
 pub general_counted : {A : Type 0} {L : A → List Chunk → Type 0} {S : ℕ → Type 0} {vs : List A} {cs : List Chunk} → General L S vs cs → S (length vs)
 general_counted {L = L} {S = S} {vs = vs} {cs = cs} h = within_counted L h.lengths S vs cs h.spelt
 
@@ -143,9 +154,11 @@ general_counted {L = L} {S = S} {vs = vs} {cs = cs} h = within_counted L h.lengt
 then_inhabited_at : {A B : Type 0} {L : A → List Chunk → Type 0} {M : A → B → List Chunk → Type 0} (a : A) (x : List Chunk) → L a x → Inhabited (M a) → Inhabited (Then L M)
 then_inhabited_at a x l i = record { value = (a, i.value); chunks = x ++ i.chunks; spelt = record { first = x; second = i.chunks; spelt = l; follows = i.spelt; whole = refl } }
 
+-- a fragment, and what stands behind it
 part_inhabited : {A : Type 0} {L : A → List Chunk → Type 0} {S : ℕ → Type 0} → Inhabited L → (m : ℕ) → Inhabited (General L (Left S m)) → Inhabited (Body L (General L) S (fragment m))
 part_inhabited i m j = map_inhabited (then_inhabited (row_inhabited i (16384 * m)) (record { follow = λ a x h. j }))
 
+-- some items have a general length, by their count
 inhabited_within : {A : Type 0} {L : A → List Chunk → Type 0} → Inhabited L → (f : ℕ) (S : ℕ → Type 0) (n : ℕ) → n < f → S n → Inhabited (General L S)
 inhabited_within i zero S n w h = absurd (omega arith)
 inhabited_within {A} {L} i (suc f) S n w h = ⊎_elim few (λ a. blocks (block_cases n a) (λ m r b. inhabited_within i f (Left S m) r b)) (cases_lt n 16384)
@@ -161,9 +174,11 @@ inhabited_within {A} {L} i (suc f) S n w h = ⊎_elim few (λ a. blocks (block_c
         let b = header_blocks_is S p.0 (bits 6 p.0) (record { some = p.2; most = p.3; rest = p.1; left = l }) (bits_are 6 p.0 (omega (arith, p.3))) in
         same_inhabited (general_once L S) (map_inhabited (then_inhabited_at {M = Body L (General L) S} (fragment p.0) (ones (1 ∷ 1 ∷ bits 6 p.0)) b (part_inhabited i p.0 (again p.0 p.1 (omega (arith, p.2, p.4)) l))))
 
+-- a count of the set has items under their general length
 pub general_inhabited : {A : Type 0} {L : A → List Chunk → Type 0} {S : ℕ → Type 0} → Inhabited L → (n : ℕ) → S n → Inhabited (General L S)
 general_inhabited {S = S} i n h = inhabited_within i (suc n) S n (omega arith) h
 
+-- behind each length something stands
 pub general_follows : {A : Type 0} {L : A → List Chunk → Type 0} (S : ℕ → Type 0) → Inhabited L → Follows (Header S) (Body L (General L) S)
 general_follows {A} {L} S i = record { follow = λ l x h. follow l (header_tells h) }
   where
@@ -175,6 +190,7 @@ general_follows {A} {L} S i = record { follow = λ l x h. follow l (header_tells
 pub general_short : {A : Type 0} {R : Fielding} {L : A → List Chunk → Type 0} {S : ℕ → Type 0} {us : List ℕ} → Inhabited L → Short R (Header S) us → Short R (General L S) us
 general_short {L = L} {S = S} i h = same_short (general_once L S) (map_short (then_short_first (general_follows S i) h))
 
+-- the length is refused
 pub general_refused : {A : Type 0} {R : Fielding} {L : A → List Chunk → Type 0} {S : ℕ → Type 0} {us : List ℕ} {n : ℕ} → Inhabited L → Refused R (Header S) us n → Refused R (General L S) us n
 general_refused {L = L} {S = S} i h = same_refused (general_once L S) (map_refused (then_refused_first (general_follows S i) h))
 
@@ -209,42 +225,50 @@ general_last_spells {A} {R} {L} {S} {n} {vs} {us} {r} {s} ok i h g =
     let t = taken h in
     subst (λ (l : List ℕ). Spells R (General L S) vs l s) (sym t.2) ((general_last L S n ok i t.1).reads vs r s g)
 
+-- the last items want more
 pub general_last_short : {A : Type 0} {R : Fielding} (L : A → List Chunk → Type 0) {S : ℕ → Type 0} {n : ℕ} {us r : List ℕ} → FieldsPart R → Inhabited L → Spells R (Header S) (last n) us r → Short R (Row L n) r → Short R (General L S) us
 general_last_short {A} {R} L {S} {n} ok i h g =
     let t = taken h in
     subst (λ (l : List ℕ). Short R (General L S) l) (sym t.2) (carries_short (general_last L S n ok i t.1) g)
 
+-- the last items are refused
 pub general_last_refused : {A : Type 0} {R : Fielding} (L : A → List Chunk → Type 0) {S : ℕ → Type 0} {n k : ℕ} {us r : List ℕ} → FieldsPart R → Inhabited L → Spells R (Header S) (last n) us r → Refused R (Row L n) r k → Refused R (General L S) us k
 general_last_refused {A} {R} L {S} {n} {k} ok i h g =
     let t = taken h in
     subst (λ (l : List ℕ). Refused R (General L S) l k) (sym t.2) (carries_refused (general_last L S n ok i t.1) g)
 
+-- behind a fragment something stands
 rest_follows : {A : Type 0} {R : Fielding} {L : A → List Chunk → Type 0} {S : ℕ → Type 0} {m : ℕ} {us r : List ℕ} → Inhabited L → Spells R (Header S) (fragment m) us r → Follows (Row L (16384 * m)) (λ _. General L (Left S m))
 rest_follows {A} {R} {L} {S} {m} i h = rests (header_tells h.spelt)
   where
     rests : Blocks S m → Follows (Row L (16384 * m)) (λ _. General L (Left S m))
     rests b = record { follow = λ a x g. general_inhabited i b.rest b.left }
 
+-- the items of a fragment want more
 pub general_row_short : {A : Type 0} {R : Fielding} (L : A → List Chunk → Type 0) {S : ℕ → Type 0} {m : ℕ} {us r : List ℕ} → FieldsPart R → Inhabited L → Spells R (Header S) (fragment m) us r → Short R (Row L (16384 * m)) r → Short R (General L S) us
 general_row_short {A} {R} L {S} {m} ok i h g =
     let t = taken h in
     subst (λ (l : List ℕ). Short R (General L S) l) (sym t.2) (carries_short (general_fragment L S m ok i t.1) (map_short (then_short_first (rest_follows i h) g)))
 
+-- the items of a fragment are refused
 pub general_row_refused : {A : Type 0} {R : Fielding} (L : A → List Chunk → Type 0) {S : ℕ → Type 0} {m k : ℕ} {us r : List ℕ} → FieldsPart R → Inhabited L → Spells R (Header S) (fragment m) us r → Refused R (Row L (16384 * m)) r k → Refused R (General L S) us k
 general_row_refused {A} {R} L {S} {m} {k} ok i h g =
     let t = taken h in
     subst (λ (l : List ℕ). Refused R (General L S) l k) (sym t.2) (carries_refused (general_fragment L S m ok i t.1) (map_refused (then_refused_first (rest_follows i h) g)))
 
+-- a fragment, and what stands behind it
 pub general_rest_spells : {A : Type 0} {R : Fielding} (L : A → List Chunk → Type 0) {S : ℕ → Type 0} {m : ℕ} {vs ws : List A} {us r s t : List ℕ} → FieldsPart R → Inhabited L → Spells R (Header S) (fragment m) us r → Spells R (Row L (16384 * m)) vs r s → Spells R (General L (Left S m)) ws s t → Spells R (General L S) (vs ++ ws) us t
 general_rest_spells {A} {R} L {S} {m} {vs} {ws} {us} {r} {s} {t} ok i h f g =
     let p = taken h in
     subst (λ (l : List ℕ). Spells R (General L S) (vs ++ ws) l t) (sym p.2) ((general_fragment L S m ok i p.1).reads (vs ++ ws) r t (map_spells (then_spells f g)))
 
+-- what stands behind a fragment wants more
 pub general_rest_short : {A : Type 0} {R : Fielding} (L : A → List Chunk → Type 0) {S : ℕ → Type 0} {m : ℕ} {vs : List A} {us r s : List ℕ} → FieldsPart R → Inhabited L → Lawful L → Spells R (Header S) (fragment m) us r → Spells R (Row L (16384 * m)) vs r s → Short R (General L (Left S m)) s → Short R (General L S) us
 general_rest_short {A} {R} L {S} {m} ok i law h f g =
     let t = taken h in
     subst (λ (l : List ℕ). Short R (General L S) l) (sym t.2) (carries_short (general_fragment L S m ok i t.1) (map_short (then_short_second ok (row_lawful law (16384 * m)) f g)))
 
+-- what stands behind a fragment is refused
 pub general_rest_refused : {A : Type 0} {R : Fielding} (L : A → List Chunk → Type 0) {S : ℕ → Type 0} {m k : ℕ} {vs : List A} {us r s : List ℕ} → FieldsPart R → Inhabited L → Lawful L → Spells R (Header S) (fragment m) us r → Spells R (Row L (16384 * m)) vs r s → Refused R (General L (Left S m)) s k → Refused R (General L S) us k
 general_rest_refused {A} {R} L {S} {m} {k} ok i law h f g =
     let t = taken h in

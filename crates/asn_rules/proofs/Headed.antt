@@ -38,6 +38,7 @@ begun_in_length {R} {k} {C} {us} w live never = go (plain_begins live).0 (plain_
         let f = w.every (replicate n 0) (us ++ u ∷ t) d in
         record { content = replicate n 0; contents = f.0; next = u; more = t ++ replicate n 0; split = sym (f.1 ∙ append_assoc us (u ∷ t) (replicate n 0)) }
 
+-- the length is not over
 pub headed_short_length : {A : Type 0} {R : Fielding} {k : Kind} {C : ℕ → List ℕ → Type 0} {D : A → List ℕ → Type 0} {us : List ℕ} → FieldsPart R → Headed R k C → SomeContent D → Short R (Plain C) us → Short R (Sealed k D) us
 headed_short_length {R = R} {C = C} {us = us} ok w i s = sealed_short ok i (begun_in_length w s.live (λ n c. s.none n [] (let p = plain_spells R {C = C} n us [] c in rw append-nil at p)))
 
@@ -85,6 +86,7 @@ headed_spells {R = R} {k = k} {C = C} {us = us} {a = a} c s w h e l d =
     let g : us ≡ field_units R.spelled k c ++ s = p.2 ∙ ap (λ (x : List ℕ). p.0 ++ x) e ∙ sym (append_assoc p.0 c s) ∙ ap (λ (x : List ℕ). x ++ s) (sym f.1) in
     rw g (sealed_spells R a c s d f.0)
 
+-- the field has come, and its content is none: refused at its last unit
 pub headed_refused_content : {A : Type 0} {R : Fielding} {k : Kind} {C : ℕ → List ℕ → Type 0} {D : A → List ℕ → Type 0} {us r : List ℕ} {n : ℕ} (c s : List ℕ) → FieldsPart R → Headed R k C → SomeContent D → Spells R (Plain C) n us r → r ≡ c ++ s → length c ≡ n → ((a : A) → D a c → ⊥) → Refused R (Sealed k D) us (length s)
 headed_refused_content {A} {R} {k} {C} {D} {us} {r} {n} c s ok w i h e l never =
     let p = plain_front h in
@@ -97,6 +99,7 @@ headed_refused_content {A} {R} {k} {C} {D} {us} {r} {n} c s ok w i h e l never =
         let d : us ≡ q.0 ++ q.1 ∷ s = g ∙ ap (λ (x : List ℕ). x ++ s) (sym q.2) ∙ append_assoc q.0 (q.1 ∷ []) s in
         rw d (sealed_refused_content ok i c q.0 q.1 s f q.2 never)
 
+-- parted units are not one, whatever follows
 parted_ones : (xs ys s t : List ℕ) → Parted (ones xs) (ones ys) → xs ++ s ≡ ys ++ t → ⊥
 parted_ones [] ys s t p e = absurd p
 parted_ones (x ∷ xs) [] s t p e = absurd p

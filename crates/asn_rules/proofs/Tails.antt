@@ -19,10 +19,12 @@ use Rattle.asn_rules.specs.Live.{Fielding, BeginsProperly, IsContent}
 pub begun_whole : (us f : List ℕ) → BeginsProperly us f → us ++ drop (length us) f ≡ f
 begun_whole us f p = ap (λ (l : List ℕ). us ++ drop (length us) l) p.2 ∙ ap (λ (l : List ℕ). us ++ l) (drop-append_seam us (p.0 ∷ p.1)) ∙ sym p.2
 
+-- what begins a field begins a list that the field begins
 front_begun : (R : Fielding) (k : Kind) (c : List ℕ) (cs : List Chunk) (us : List ℕ) → InField R k us → IsFront R (sealed k c ∷ cs) us
 front_begun R k c cs [] f = tt
 front_begun R k c cs (u ∷ us) f = inl f
 
+-- what has the field whole and begins the others begins all
 front_passed : (R : Fielding) (k : Kind) (c : List ℕ) (cs : List Chunk) (us : List ℕ) → Passed R k c us (IsFront R cs) → IsFront R (sealed k c ∷ cs) us
 front_passed R k c cs [] p = tt
 front_passed R k c cs (u ∷ us) p = inr p

@@ -24,15 +24,10 @@ use Rattle.asn_rules.specs.Spellings.{SpelledBy}
 use Rattle.asn_rules.proofs.Counted.{counted_bits}
 use Rattle.asn_rules.proofs.Spellings.{same_after, same_map, set_spelled, map_spelled}
 use Rattle.asn_per.specs.Per.{per}
-use Rattle.asn_per.specs.Reading.{IsNot}
+use Rattle.asn_per.specs.Reading.{IsNot, IsWithin}
 use Rattle.asn_per.proofs.IntegerRanges.{ranging, low_above_lowest, low_below_highest, high_below_highest, low_below_high, number_above_low, number_below_high}
 
 -- ---- the integer that is left out
-
--- an integer that may be left out of a range is one of it
-abbrev pub IsWithin : ℤ → Option ℤ → Option ℤ → Type 0
-IsWithin low high None = ⊤
-IsWithin low high (Some d) = FitsNumber (ranging low high) d
 
 -- how far it lies above the low bound
 abbrev pub offset_of : ℤ → Option ℤ → Option ℕ
@@ -57,7 +52,7 @@ default_self z =
     both false b = absurd (cc)
 
 -- a number that is not its offset is another integer
-other_number : (low : ℤ) (high e : Option ℤ) (n : ℕ) → IsWithin low high e → IsNot (offset_of low e) n → IsOther (option_map number e) (number (low +ℤ pos n))
+other_number : (low : ℤ) (high e : Option ℤ) (n : ℕ) → IsWithin (ranging low high) e → IsNot (offset_of low e) n → IsOther (option_map number e) (number (low +ℤ pos n))
 other_number low high None n w h = tt
 other_number low high (Some d) n w h = go (is_default (number d) (number (low +ℤ pos n))) refl
   where
@@ -66,7 +61,7 @@ other_number low high (Some d) n w h = go (is_default (number d) (number (low +�
     go false t = refl
 
 -- and the offset of another integer is another number
-other_offset : (low : ℤ) (high e : Option ℤ) (z : ℤ) → IsWithin low high e → low ≤ℤ z → IsOther (option_map number e) (number z) → IsNot (offset_of low e) (above low z)
+other_offset : (low : ℤ) (high e : Option ℤ) (z : ℤ) → IsWithin (ranging low high) e → low ≤ℤ z → IsOther (option_map number e) (number z) → IsNot (offset_of low e) (above low z)
 other_offset low high None z w p h = tt
 other_offset low high (Some d) z w p h = λ same.
     let is : z ≡ d = above_same low z d p (number_above_low low high d w) same in
@@ -83,7 +78,7 @@ abbrev pub number_from : ℤ → ℕ → Datum
 number_from low n = number (low +ℤ pos n)
 
 -- a range with two bounds
-module _ (low high : ℤ) (e : Option ℤ) (good : InProfile (integer (ranging low (Some high)))) (within : IsWithin low (Some high) e) where
+module _ (low high : ℤ) (e : Option ℤ) (good : InProfile (integer (ranging low (Some high)))) (within : IsWithin (ranging low (Some high)) e) where
   -- the numbers that stand for its integers
   abbrev pub Offsets : ℕ → Type 0
   Offsets n = (0 ≤ n) × (n ≤ above low high) × IsNot (offset_of low e) n
@@ -116,7 +111,7 @@ module _ (low high : ℤ) (e : Option ℤ) (good : InProfile (integer (ranging l
       same_after (same_map (set_spelled (width (suc (above low high))) Offsets (λ n h. width_fits (suc (above low high)) n (omega (arith, h.1))))) (map_spelled there back)
 
 -- a range with a low bound alone
-module _ (low : ℤ) (e : Option ℤ) (good : InProfile (integer (ranging low None))) (within : IsWithin low None e) where
+module _ (low : ℤ) (e : Option ℤ) (good : InProfile (integer (ranging low None))) (within : IsWithin (ranging low None) e) where
   abbrev pub OpenOffsets : ℕ → Type 0
   OpenOffsets n = (0 ≤ n) × (n ≤ above low highest_integer) × IsNot (offset_of low e) n
 

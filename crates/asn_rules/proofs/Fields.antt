@@ -36,7 +36,7 @@ pub octet_inhabited : Inhabited Octet
 octet_inhabited = set_inhabited (set_meets 2 8 {S = λ n. n < 256} 0 (omega arith) (omega arith))
 
 -- an octet, as the definition has it
-octet_spelled : Same Octet (SpelledBy (λ n. n < 256) (λ n. ones (bits 8 n)))
+pub octet_spelled : Same Octet (SpelledBy (λ n. n < 256) (λ n. ones (bits 8 n)))
 octet_spelled = set_spelled 8 (λ n. n < 256) (λ n h. omega (arith, h))
 
 -- ---- plain units under their general length

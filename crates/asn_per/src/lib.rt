@@ -3,6 +3,7 @@
 
 mod encoder;
 mod laws;
+mod number_reader;
 
 pub use encoder::encode;
 pub use laws::{

@@ -10,7 +10,6 @@ use Rattle.asn_rules.specs.Forks.{Fork, Same}
 use Rattle.asn_rules.specs.Padding.{Fixed, Padded}
 use Rattle.asn_rules.specs.General.{last, fragment, Few, Many, Left, Blocks, Header, General}
 use Rattle.asn_rules.specs.Frames.{Frame}
-use Rattle.asn_rules.specs.Fields.{Octet}
 use Rattle.asn_rules.specs.Counted.{SomeOf, Counted}
 use Rattle.asn_rules.proofs.Chunks.{FieldsPart}
 use Rattle.asn_rules.proofs.Leads.{LeadsStops, Leads, leads_on, leads_map, leads_second, stops_first}

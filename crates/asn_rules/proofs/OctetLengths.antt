@@ -1,20 +1,19 @@
 -- Lengths in octets (X.696, "length determinant") and octets behind them: laws, how they are spelt, and what
 -- readers of the parts say of the whole.
-use Rattle.std.proofs.Common.{◌≡◌, ◌≢◌, ℕ, zero, suc, ◌+◌, ◌-◌, ◌*◌, ◌^◌, ◌<◌, ◌≤◌, ◌⊎◌, inl, inr, Bool, true, false, nat_lt, List, [], ◌∷◌, ◌++◌, map, length, refl, sym, ap, ◌∙◌, subst, arith}
-use Rattle.std.proofs.lemmas.Bool.{ltb-true, ltb-false, lt-ltb, cases_lt}
+use Rattle.std.proofs.Common.{◌≡◌, ℕ, ◌+◌, ◌-◌, ◌^◌, ◌<◌, ◌≤◌, ◌⊎◌, inl, inr, Bool, true, false, nat_lt, List, [], ◌∷◌, ◌++◌, map, length, refl, sym, ap, ◌∙◌, subst, arith}
+use Rattle.std.proofs.lemmas.Bool.{ltb-true, ltb-false, cases_lt}
 use Rattle.std.specs.List.{AllByRecursion}
 use Rattle.asn_bits.specs.Numbers.{digits, octet_count, octets}
 use Rattle.asn_bits.specs.Lengths.{joined, octet_length}
 use Rattle.asn_bits.proofs.Octets.{octet_count_fits}
 use Rattle.asn_rules.specs.Chunks.{Chunk, one, ones}
-use Rattle.asn_rules.specs.Live.{Fielding}
-use Rattle.asn_rules.specs.Languages.{Spells, Short, Refused, Lawful, Inhabited, Then, Map, Nothing, Row, Plain}
+use Rattle.asn_rules.specs.Languages.{Lawful, Inhabited, Then, Nothing, Row, Plain}
 use Rattle.asn_rules.specs.Sets.{InDigits}
 use Rattle.asn_rules.specs.Forks.{Same}
 use Rattle.asn_rules.specs.Spellings.{SpelledBy}
-use Rattle.asn_rules.specs.Fields.{OneOctet, LongLength, SomeLong, FirstOctet, BehindFirst, length_told, OctetLength, octets_told, OctetsBehind}
-use Rattle.asn_rules.proofs.Chunks.{FieldsPart, ones-append}
-use Rattle.asn_rules.proofs.Then.{Follows, then_lawful, then_inhabited}
+use Rattle.asn_rules.specs.Fields.{OneOctet, LongLength, FirstOctet, BehindFirst, length_told, OctetLength, OctetsBehind}
+use Rattle.asn_rules.proofs.Chunks.{ones-append}
+use Rattle.asn_rules.proofs.Then.{Follows, then_lawful}
 use Rattle.asn_rules.proofs.Parts.{nothing_lawful, plain_inhabited}
 use Rattle.asn_rules.proofs.Forks.{map_lawful_on}
 use Rattle.asn_rules.proofs.Digits.{digits_only}

@@ -1,5 +1,5 @@
 -- Rows of octets, read many at once: in front of what follows them, or too few.
-use Rattle.std.proofs.Common.{◌≡◌, ℕ, zero, suc, ◌+◌, ◌-◌, ◌*◌, ◌^◌, ◌<◌, ◌≤◌, List, [], ◌∷◌, ◌++◌, map, length, take, drop, length-append, length-drop, refl, sym, ap, ◌∙◌, subst, arith}
+use Rattle.std.proofs.Common.{◌≡◌, ℕ, zero, suc, ◌+◌, ◌-◌, ◌*◌, ◌<◌, List, [], ◌∷◌, ◌++◌, map, length, take, drop, length-append, length-drop, refl, sym, ap, ◌∙◌, subst, arith}
 use Rattle.std.specs.Prelude.{replicate}
 use Rattle.std.proofs.lemmas.List.{length-take-le, length-replicate, take-append-drop}
 use Rattle.std.specs.List.{AllByRecursion}
@@ -15,7 +15,7 @@ use Rattle.asn_rules.specs.Spellings.{SpelledBy}
 use Rattle.asn_rules.proofs.Chunks.{FieldsPart, ones-append}
 use Rattle.asn_rules.proofs.Lists.{no_length}
 use Rattle.asn_rules.proofs.Rows.{row_lawful}
-use Rattle.asn_rules.proofs.Digits.{digits-append, digits-first, digits-second, weighted_bound, bits_only}
+use Rattle.asn_rules.proofs.Digits.{digits-append, digits-first, digits-second, bits_only}
 use Rattle.asn_rules.proofs.Spellings.{same_after, same_row, same_spelled, row_spelled, units_front, units_short}
 use Rattle.asn_rules.proofs.Fields.{octet_lawful, octet_spelled}
 use Rattle.asn_rules.proofs.OctetLengths.{one_octet_lawful, octets_itself}

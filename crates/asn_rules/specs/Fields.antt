@@ -1,6 +1,6 @@
 -- Octets as items of a list, in either unit, and octets behind their length in octets (X.696, "length
 -- determinant").
-use Rattle.std.specs.Prelude.{◌≡◌, ◌+◌, ◌-◌, ◌<◌, ◌≤◌, ◌⊎◌, ℕ, Bool, true, false, List, nat_lt}
+use Rattle.std.specs.Prelude.{◌≡◌, ◌-◌, ◌<◌, ◌≤◌, ◌⊎◌, ℕ, true, false, List, nat_lt}
 use Rattle.asn_bits.specs.Numbers.{octet_count}
 use Rattle.asn_rules.specs.Chunks.{Chunk}
 use Rattle.asn_rules.specs.Languages.{Then, Map, Nothing, Row, Plain}

@@ -2,6 +2,7 @@
 #![tactic(auto)]
 
 mod encoder;
+mod integer_reader;
 mod laws;
 mod number_reader;
 

@@ -68,6 +68,7 @@ impl<'a> BitCursor<'a> {
     /// The next bit, 0 or 1. `None` exactly where no bit is left.
     pub fn next(&mut self) -> Option<u8>
         ensures some { IfSome result (λ bit. self.old ≡ bit ∷ self.new) }
+        ensures bit { IfSome result (λ bit. bit < 2) }
         ensures none { IsNone result ↔ (self.old ≡ []) }
         ensures end { self.old ≡ [] → self.new ≡ [] }
     {

@@ -2,6 +2,7 @@
 
 ghost use Rattle.asn_rules.specs.Laws.{BeginningsAreLive, BeginningsAreNotRefused, EncodesAs, UnitsTellTheValue, OneValue, NoneBegins, RulesLaws, LiveIsClosed, LiveByParts, OneAnswer};
 ghost use Rattle.asn_rules.specs.Parted.{SpellingsPart};
+ghost use Rattle.asn_rules.specs.Reading.{RulesTell};
 ghost use Rattle.asn_oer.specs.Oer.{oer, oer_fields, oer_octets};
 ghost use Rattle.asn_oer.specs.Rules.{oer_ruling};
 
@@ -47,4 +48,11 @@ pub fn answers_exclude()
 pub fn beginnings_are_live()
     ensures live { BeginningsAreLive oer_ruling }
     ensures not_refused { BeginningsAreNotRefused oer_ruling }
+{}
+
+/// What makes a reader of OER exact: two encodings of one type are one, of one value, or
+/// part at an octet or inside sealed fields of one kind; each sealed field is at least as long as its
+/// content and begins no other; and the units are the octets.
+pub fn readers_tell()
+    ensures { RulesTell oer_ruling }
 {}

@@ -5,5 +5,5 @@ mod laws;
 
 pub use laws::{
     answers_exclude, beginnings_are_live, encoding_laws, live_by_parts, live_is_closed,
-    spellings_tell,
+    readers_tell, spellings_tell,
 };

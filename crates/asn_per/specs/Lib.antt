@@ -1,5 +1,6 @@
 pub mod Per
 pub mod Rules
+pub mod Reading
 pub mod Laws
 pub mod NumberVectors
 pub mod StringVectors

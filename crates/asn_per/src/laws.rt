@@ -2,6 +2,7 @@
 
 ghost use Rattle.asn_rules.specs.Laws.{BeginningsAreLive, BeginningsAreNotRefused, EachHasAValue, EncodesAs, UnitsTellTheValue, OneValue, NoneBegins, RulesLaws, LiveIsClosed, LiveByParts, OneAnswer};
 ghost use Rattle.asn_rules.specs.Parted.{SpellingsPart};
+ghost use Rattle.asn_rules.specs.Reading.{RulesTell};
 ghost use Rattle.asn_per.specs.Per.{per, per_fields, per_octets, per_whole};
 ghost use Rattle.asn_per.specs.Rules.{per_ruling};
 ghost use Rattle.asn_per.specs.Laws.{per_bits, NoBitsIsExact};
@@ -54,4 +55,11 @@ pub fn answers_exclude()
 pub fn beginnings_are_live()
     ensures live { BeginningsAreLive per_ruling }
     ensures not_refused { BeginningsAreNotRefused per_ruling }
+{}
+
+/// What makes a reader of PER exact: two complete encodings of one type are one, of one value, or
+/// part at a bit or inside sealed fields of one kind; each sealed field is at least as long as its
+/// content and begins no other; and the bits of octets are those of each, one after the other.
+pub fn readers_tell()
+    ensures { RulesTell per_ruling }
 {}

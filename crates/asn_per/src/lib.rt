@@ -3,9 +3,10 @@
 
 mod encoder;
 mod laws;
+mod number_reader;
 
 pub use encoder::encode;
 pub use laws::{
     answers_exclude, beginnings_are_live, encoding_laws, live_by_parts, live_is_closed,
-    spellings_tell, values_and_bits,
+    readers_tell, spellings_tell, values_and_bits,
 };

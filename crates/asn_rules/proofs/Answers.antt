@@ -17,14 +17,17 @@ live_within {R = R} {us = us} ok v x l f w = record { value = v; chunks = x; spe
 pub refused_or_done : {V : Type 0} {R : Fielding} {L : V → List Chunk → Type 0} {us r : List ℕ} {n : ℕ} {v : V} → Refused R L us n → Spells R L v us r → ⊥
 refused_or_done {r = r} {v = v} h s = h.none v r s
 
+-- more is wanted only where there is no front
 pub short_or_done : {V : Type 0} {R : Fielding} {L : V → List Chunk → Type 0} {us r : List ℕ} {v : V} → Short R L us → Spells R L v us r → ⊥
 short_or_done {r = r} {v = v} h s = h.none v r s
 
+-- what is refused wants no more
 pub refused_or_short : {V : Type 0} {R : Fielding} {L : V → List Chunk → Type 0} {us : List ℕ} {n : ℕ} → Refused R L us n → Short R L us → ⊥
 refused_or_short {R = R} {L = L} {us = us} h s =
     let e : us ≡ (h.before ++ h.unit ∷ []) ++ h.after = h.split ∙ sym (append_assoc h.before (h.unit ∷ []) h.after) in
     h.dead (live_shorter (h.before ++ h.unit ∷ []) h.after (rw e at s.live))
 
+-- a second refusal is no earlier
 refused_le : {V : Type 0} {R : Fielding} {L : V → List Chunk → Type 0} {us : List ℕ} {m n : ℕ} → Refused R L us m → Refused R L us n → n < m → ⊥
 refused_le {R = R} {L = L} {us = us} a b h = go (cut (a.before ++ a.unit ∷ []) a.after b.before (b.unit ∷ b.after) e)
   where
@@ -40,6 +43,7 @@ refused_le {R = R} {L = L} {us = us} a b h = go (cut (a.before ++ a.unit ∷ [])
         let f : a.before ++ a.unit ∷ [] ≡ b.before = w.front ∙ ap (λ (t : List ℕ). b.before ++ t) z ∙ append-nil b.before in
         a.dead (rw f b.live)
 
+-- there is one refusal
 pub one_refusal : {V : Type 0} {R : Fielding} {L : V → List Chunk → Type 0} {us : List ℕ} {m n : ℕ} → Refused R L us m → Refused R L us n → m ≡ n
 one_refusal {m = m} {n = n} a b = ⊎_elim (λ h. absurd (refused_le b a h)) (λ h. ⊎_elim (λ g. absurd (refused_le a b g)) (λ g. omega arith) (cases_lt n m)) (cases_lt m n)
 
@@ -83,6 +87,7 @@ done_later {V} {R} {L} {us} {r} t {v} h s = go (cut us t (flat R.spelled s.chunk
         omega (arith, l ∙ ap suc (length-append w.more r))
     go (inr w) = absurd (h.none v w.rest (record { chunks = s.chunks; spelt = s.spelt; contents = s.contents; split = w.front }))
 
+-- where more was wanted, a refusal comes within what follows
 pub refused_later : {V : Type 0} {R : Fielding} {L : V → List Chunk → Type 0} {us : List ℕ} {n : ℕ} (t : List ℕ) → Short R L us → Refused R L (us ++ t) n → n < length t
 refused_later {V} {R} {L} {us} {n} t h s = go (cut us t s.before (s.unit ∷ s.after) s.split)
   where

@@ -18,6 +18,7 @@ use Rattle.asn_rules.specs.Languages.{AllContents, IsFront, Spells, NoSpelling, 
 use Rattle.asn_rules.specs.Live.{Fielding}
 use Rattle.asn_rules.specs.Parted.{Parted}
 
+-- a row stands behind anything
 follows_row : {A : Type 0} {L : A → List Chunk → Type 0} {B : Type 0} {N : B → List Chunk → Type 0} → Inhabited L → (n : ℕ) → Follows N (λ _. Row L n)
 follows_row i n = record { follow = λ a x h. row_inhabited i n }
 
@@ -50,6 +51,7 @@ row_behind {A} {R} L ok law i (suc n) m (suc k) {vs} {us} e h = go (map_source h
 abbrev pub InRow : {A : Type 0} → (A → List Chunk → Type 0) → (A → List Chunk → Type 0) → List A → ℕ → List A → List Chunk → Type 0
 InRow L N vs m = Map (λ p. vs ++ (p.0 ∷ p.1)) (Then N (λ _. Row L m))
 
+-- some values have come and one has begun
 pub row_begun : {A : Type 0} {R : Fielding} (L N : A → List Chunk → Type 0) → FieldsPart R → Lawful L → Inhabited L → (i m k : ℕ) {vs : List A} {us ws : List ℕ} → i + suc m ≡ k → Whole R (Row L i) vs us → Carries R N L ws → Carries R (InRow L N vs m) (Row L k) (us ++ ws)
 row_begun {A} {R} L N ok law i n m k {vs} {us} {ws} e h c = carries_left (same_flip (map_map (λ p. refl))) (carries_both (row_behind L ok law i n (suc m) k e h) (carries_map (carries_map (carries_first (λ _. Row L m) ok (follows_row i m) (follows_row i m) c))))
 
@@ -71,9 +73,11 @@ row_next {A} {R} L N ok law i vs m {v} {us} h = carries_left same (carries_map (
 pub plain_plain : {A : Type 0} {C : A → List ℕ → Type 0} → AllPlain (Plain C)
 plain_plain = record { plain = λ v cs h. (h.units, h.same) }
 
+-- under a view
 pub map_plain : {A B : Type 0} {f : A → B} {L : A → List Chunk → Type 0} → AllPlain L → AllPlain (Map f L)
 map_plain a = record { plain = λ v cs h. a.plain h.source cs h.spelt }
 
+-- one after the other
 pub then_plain : {A B : Type 0} {L : A → List Chunk → Type 0} {M : A → B → List Chunk → Type 0} → AllPlain L → ((a : A) → AllPlain (M a)) → AllPlain (Then L M)
 then_plain a b = record {
   plain = λ v cs h.
@@ -82,6 +86,7 @@ then_plain a b = record {
       (x.0 ++ y.0, h.whole ∙ ap (λ (l : List Chunk). l ++ h.second) x.1 ∙ ap (λ (l : List Chunk). ones x.0 ++ l) y.1 ∙ sym (ones-append x.0 y.0));
 }
 
+-- behind a bit
 pub fork_plain : {A B : Type 0} {X : A → List Chunk → Type 0} {Y : B → List Chunk → Type 0} → AllPlain X → AllPlain Y → AllPlain (Fork X Y)
 fork_plain {A} {B} {X} {Y} a b = record { plain = λ v cs h. go v cs h.side }
   where
@@ -89,21 +94,26 @@ fork_plain {A} {B} {X} {Y} a b = record { plain = λ v cs h. go v cs h.side }
     go v cs (inl x) = (let p = a.plain x.value x.rest x.spelt in (0 ∷ p.0, x.same ∙ ap (λ (l : List Chunk). one 0 ∷ l) p.1))
     go v cs (inr x) = (let p = b.plain x.value x.rest x.spelt in (1 ∷ p.0, x.same ∙ ap (λ (l : List Chunk). one 1 ∷ l) p.1))
 
+-- lengths are plain units
 pub header_plain : (S : ℕ → Type 0) → AllPlain (Header S)
 header_plain S = map_plain (fork_plain plain_plain (fork_plain plain_plain plain_plain))
 
+-- what begins a spelling, behind plain units
 front_after : (R : Fielding) (us : List ℕ) (x : List Chunk) (s : List ℕ) → IsFront R x s → IsFront R (ones us ++ x) (us ++ s)
 front_after R [] x s h = h
 front_after R (u ∷ us) x s h = (refl, front_after R us x s h)
 
+-- contents, behind plain units
 fine_after : (R : Fielding) (us : List ℕ) (x : List Chunk) → AllContents R x → AllContents R (ones us ++ x)
 fine_after R [] x h = h
 fine_after R (u ∷ us) x h = fine_after R us x h
 
+-- units, behind plain units
 flat_after : (R : Fielding) (us : List ℕ) (x : List Chunk) → flat R.spelled (ones us ++ x) ≡ us ++ flat R.spelled x
 flat_after R [] x = refl
 flat_after R (u ∷ us) x = ap (λ (l : List ℕ). u ∷ l) (flat_after R us x)
 
+-- plain units begin more of them
 front_of_ones : (R : Fielding) (us t : List ℕ) → IsFront R (ones (us ++ t)) us
 front_of_ones R [] t = tt
 front_of_ones R (u ∷ us) t = (refl, front_of_ones R us t)
@@ -143,11 +153,13 @@ carries_begun {V} {R} {L} us plain never = record {
         let c : h.chunks ≡ ones us ++ ones (s ++ p.0) = w.1 ∙ ap ones (p.1 ∙ append_assoc us s p.0) ∙ ones-append us (s ++ p.0) in
         record { value = h.value; chunks = ones (s ++ p.0); spelt = record { spelt = subst (λ (d : List Chunk). L h.value d) c h.spelt }; front = front_of_ones R s p.0 }
 
+-- what parts behind the same units parts
 strip : (us : List ℕ) (x y : List Chunk) → Parted (ones us ++ x) (ones us ++ y) → Parted x y
 strip [] x y p = p
 strip (u ∷ us) x y (inl n) = absurd (n refl)
 strip (u ∷ us) x y (inr p) = strip us x y p.1
 
+-- what is left is one or parts
 pub behind_lawful : {V : Type 0} {L : V → List Chunk → Type 0} (us : List ℕ) → Lawful L → Lawful (Behind us L)
 behind_lawful {V} {L} us law = record { law = λ v w x y p q. go v w x y (law.law v w (ones us ++ x) (ones us ++ y) p.spelt q.spelt) }
   where
@@ -155,6 +167,7 @@ behind_lawful {V} {L} us law = record { law = λ v w x y p q. go v w x y (law.la
     go v w x y (inl e) = inl (e.0, append_cancel_left (ones us) x y e.1)
     go v w x y (inr e) = inr (e.0, strip us x y e.1)
 
+-- what follows the whole follows what is left
 pub behind_follows : {A B : Type 0} {L : A → List Chunk → Type 0} {M : A → B → List Chunk → Type 0} (us : List ℕ) → Follows L M → Follows (Behind us L) M
 behind_follows us f = record { follow = λ a x h. f.follow a (ones us ++ x) h.spelt }
 

@@ -15,6 +15,7 @@ use Rattle.asn_rules.specs.Parted.{Parted}
 pub carries_short : {V : Type 0} {R : Fielding} {M L : V → List Chunk → Type 0} {us s : List ℕ} → Carries R M L us → Short R M s → Short R L (us ++ s)
 carries_short {s = s} c h = record { live = c.lives s h.live; none = λ v r x. h.none v r (c.read v s r x) }
 
+-- a refusal of what is left is one of all
 pub carries_refused : {V : Type 0} {R : Fielding} {M L : V → List Chunk → Type 0} {us s : List ℕ} {n : ℕ} → Carries R M L us → Refused R M s n → Refused R L (us ++ s) n
 carries_refused {us = us} {s = s} c h = record {
   before = us ++ h.before;
@@ -40,6 +41,7 @@ carries_both {R = R} {N = N} {L = L} {us = us} {ws = ws} c d = record {
   live = λ s h. d.live s (c.live (ws ++ s) (subst (λ (l : List ℕ). IsLive R L l) (append_assoc us ws s) h));
 }
 
+-- what is left under a view
 pub carries_map : {A B : Type 0} {R : Fielding} {f : A → B} {M L : A → List Chunk → Type 0} {us : List ℕ} → Carries R M L us → Carries R (Map f M) (Map f L) us
 carries_map {R = R} {f = f} {M = M} {L = L} {us = us} c = record {
   reads = λ v s r h. (let x = map_source h in subst (λ b. Spells R (Map f L) b (us ++ s) r) (sym x.2) (map_spells (c.reads x.0 s r x.1)));
@@ -105,6 +107,7 @@ carries_second {A} {B} {R} {L} M a x ok law f l g = record {
 pub carries_rest : {A B : Type 0} {R : Fielding} {L : A → List Chunk → Type 0} (M : A → B → List Chunk → Type 0) (N : B → List Chunk → Type 0) {a : A} {us r : List ℕ} → FieldsPart R → Lawful L → Follows L M → Spells R L a us r → Carries R N (M a) r → Carries R (Map (λ (b : B). (a, b)) N) (Then L M) us
 carries_rest M N {a} ok law f h c = rw h.split (carries_both (carries_second M a h.chunks ok law f h.spelt h.contents) (carries_map c))
 
+-- plain units begin more plain units
 ones_front : (R : Fielding) (us t : List ℕ) → IsFront R (ones (us ++ t)) us
 ones_front R [] t = tt
 ones_front R (u ∷ us) t = (refl, ones_front R us t)
@@ -136,6 +139,7 @@ carries_plain {A} {R} {C} us never = record {
 pub back_short : {V : Type 0} {R : Fielding} {M L : V → List Chunk → Type 0} {us s : List ℕ} → Carries R M L us → Short R L (us ++ s) → Short R M s
 back_short {s = s} c h = record { live = c.live s h.live; none = λ v r x. h.none v r (c.reads v s r x) }
 
+-- a refusal of all is one of what is left
 pub back_refused : {V : Type 0} {R : Fielding} {M L : V → List Chunk → Type 0} {us s : List ℕ} {n : ℕ} → Carries R M L us → IsLive R L us → Refused R L (us ++ s) n → Refused R M s n
 back_refused {V} {R} {M} {L} {us} {s} {n} c l h = go (cut us s h.before (h.unit ∷ h.after) h.split)
   where

@@ -1,4 +1,4 @@
--- Fronts of encodings.
+-- What begins a list of chunks, and where two lists part.
 use Rattle.std.proofs.Common.{◌≡◌, ◌≢◌, ℕ, ◌⊎◌, inl, inr, ⊎_elim, List, [], ◌∷◌, ◌++◌, refl, sym, ap, ◌∙◌, subst, append_assoc}
 use Rattle.std.proofs.lemmas.List.{append-nil, append_cancel_left}
 use Rattle.asn_rules.proofs.Lists.{Within, Beyond, cut, not_empty}
@@ -12,37 +12,41 @@ pub record FieldsPart (R : Fielding) : Type 0 where
   pub tells : (k : Kind) (c d s t : List ℕ) → IsContent R k c → IsContent R k d → field_units R.spelled k c ++ s ≡ field_units R.spelled k d ++ t → c ≡ d
   pub some_units : (k : Kind) (c : List ℕ) → IsContent R k c → field_units R.spelled k c ≢ []
 
+-- plain units one after the other
 pub ones-append : (us vs : List ℕ) → ones (us ++ vs) ≡ ones us ++ ones vs
 ones-append [] vs = refl
 ones-append (u ∷ us) vs = ap (λ (l : List Chunk). one u ∷ l) (ones-append us vs)
 
+-- what the sealed fields of both hold may stand there
 pub contents-append : (R : Fielding) (xs ys : List Chunk) → AllContents R xs → AllContents R ys → AllContents R (xs ++ ys)
 contents-append R [] ys f g = g
 contents-append R (one u ∷ xs) ys f g = contents-append R xs ys f g
 contents-append R (sealed k c ∷ xs) ys f g = (f.0, contents-append R xs ys f.1 g)
 
+-- so it may in the first
 pub contents-first : (R : Fielding) (xs ys : List Chunk) → AllContents R (xs ++ ys) → AllContents R xs
 contents-first R [] ys f = tt
 contents-first R (one u ∷ xs) ys f = contents-first R xs ys f
 contents-first R (sealed k c ∷ xs) ys f = (f.0, contents-first R xs ys f.1)
 
+-- and in the second
 pub contents-second : (R : Fielding) (xs ys : List Chunk) → AllContents R (xs ++ ys) → AllContents R ys
 contents-second R [] ys f = f
 contents-second R (one u ∷ xs) ys f = contents-second R xs ys f
 contents-second R (sealed k c ∷ xs) ys f = contents-second R xs ys f.1
 
 -- less than a sealed field that is within its limit
-pub free_within : (R : Fielding) (k : Kind) (c us : List ℕ) → IsContent R k c → Within us (field_units R.spelled k c) → InField R k us
-free_within R k c us f w = record { content = c; contents = f; next = w.next; more = w.more; split = w.split }
+pub field_begun : (R : Fielding) (k : Kind) (c us : List ℕ) → IsContent R k c → Within us (field_units R.spelled k c) → InField R k us
+field_begun R k c us f w = record { content = c; contents = f; next = w.next; more = w.more; split = w.split }
 
 -- less than less is less
-pub free_front : (R : Fielding) (k : Kind) (us t : List ℕ) → InField R k (us ++ t) → InField R k us
-free_front R k us [] h = rw (← append-nil us) h
-free_front R k us (x ∷ t) h = record { content = h.content; contents = h.contents; next = x; more = t ++ h.next ∷ h.more; split = sym (append_assoc us (x ∷ t) (h.next ∷ h.more)) ∙ h.split }
+pub begun_shorter : (R : Fielding) (k : Kind) (us t : List ℕ) → InField R k (us ++ t) → InField R k us
+begun_shorter R k us [] h = rw (← append-nil us) h
+begun_shorter R k us (x ∷ t) h = record { content = h.content; contents = h.contents; next = x; more = t ++ h.next ∷ h.more; split = sym (append_assoc us (x ∷ t) (h.next ∷ h.more)) ∙ h.split }
 
 -- a whole sealed field is not less than one
-pub free_not_whole : {R : Fielding} → FieldsPart R → (k : Kind) (c t : List ℕ) → IsContent R k c → InField R k (field_units R.spelled k c ++ t) → ⊥
-free_not_whole {R} ok k c t f h =
+pub whole_not_begun : {R : Fielding} → FieldsPart R → (k : Kind) (c t : List ℕ) → IsContent R k c → InField R k (field_units R.spelled k c ++ t) → ⊥
+whole_not_begun {R} ok k c t f h =
     let e : field_units R.spelled k c ++ (t ++ h.next ∷ h.more) ≡ field_units R.spelled k h.content ++ [] =
     sym (append_assoc (field_units R.spelled k c) t (h.next ∷ h.more)) ∙ h.split ∙ sym (append-nil (field_units R.spelled k h.content)) in
     let same : c ≡ h.content = ok.tells k c h.content (t ++ h.next ∷ h.more) [] f h.contents e in
@@ -58,11 +62,11 @@ pub front_shorter : (R : Fielding) (cs : List Chunk) (us t : List ℕ) → IsFro
 front_shorter R cs [] t h = tt
 front_shorter R [] (u ∷ us) t h = h
 front_shorter R (one x ∷ cs) (u ∷ us) t h = (h.0, front_shorter R cs us t h.1)
-front_shorter R (sealed k c ∷ cs) (u ∷ us) t (inl h) = inl (free_front R k (u ∷ us) t h)
+front_shorter R (sealed k c ∷ cs) (u ∷ us) t (inl h) = inl (begun_shorter R k (u ∷ us) t h)
 front_shorter R (sealed k c ∷ cs) (u ∷ us) t (inr h) = go (cut (u ∷ us) t (field_units R.spelled k c) h.0 h.2) (λ r q. front_shorter R cs r t q)
   where
     go : Within (u ∷ us) (field_units R.spelled k c) ⊎ Beyond (u ∷ us) (field_units R.spelled k c) h.0 t → ((r : List ℕ) → IsFront R cs (r ++ t) → IsFront R cs r) → InField R k (u ∷ us) ⊎ Passed R k c (u ∷ us) (IsFront R cs)
-    go (inl w) again = inl (free_within R k c (u ∷ us) h.1 w)
+    go (inl w) again = inl (field_begun R k c (u ∷ us) h.1 w)
     go (inr w) again = inr (w.rest, h.1, w.front, again w.rest (rw (← w.back) h.3))
 
 -- what begins x begins x ++ y
@@ -90,6 +94,7 @@ pub record After (R : Fielding) (x y : List Chunk) (us : List ℕ) : Type 0 wher
   pub split : us ≡ flat R.spelled x ++ rest
   pub front : IsFront R y rest
 
+-- what begins both begins the first, or has it whole and begins the second behind it
 pub front_parts : (R : Fielding) (x y : List Chunk) (us : List ℕ) → IsFront R (x ++ y) us → IsFront R x us ⊎ After R x y us
 front_parts R x y [] h = inl tt
 front_parts R [] y (u ∷ us) h = inr (record { rest = u ∷ us; contents = tt; split = refl; front = h })
@@ -137,7 +142,7 @@ parted_front {R} ok (sealed k c ∷ x) (sealed l d ∷ y) z us fine p h =
     mine = subst (λ m. IsContent R m d) (sym p.0) fine.0
 
     go : (c ≢ d) ⊎ ((c ≡ d) × Parted x y) → InField R k (field_units R.spelled k d ++ (flat R.spelled y ++ us)) ⊎ Passed R k c (field_units R.spelled k d ++ (flat R.spelled y ++ us)) (IsFront R (x ++ z)) → (Parted x y → (v : List ℕ) → IsFront R (x ++ z) (flat R.spelled y ++ v) → ⊥) → ⊥
-    go q (inl f) again = free_not_whole ok k d (flat R.spelled y ++ us) mine f
+    go q (inl f) again = whole_not_begun ok k d (flat R.spelled y ++ us) mine f
     go (inl q) (inr f) again = q (sym (ok.tells k d c (flat R.spelled y ++ us) f.0 mine f.1 f.2))
     go (inr q) (inr f) again =
         let e : field_units R.spelled k d ++ (flat R.spelled y ++ us) ≡ field_units R.spelled k d ++ f.0 = f.2 ∙ ap (λ b. field_units R.spelled k b ++ f.0) q.0 in

@@ -27,12 +27,15 @@ use Rattle.asn_rules.proofs.Spellings.{same_after, same_then, same_spelled, same
 abbrev pub AreAnOctet : ℕ → ℕ → Type 0
 AreAnOctet base h = (k : ℕ) → 256 ^ k ≡ base ^ (h * k)
 
+-- in PER an octet is eight bits
 pub eight_bits : AreAnOctet 2 8
 eight_bits k = octet_power k
 
+-- in OER it is one unit
 pub one_octet : AreAnOctet 256 1
 one_octet k = ap (λ (i : ℕ). 256 ^ i) (omega arith)
 
+-- an octet holds the count
 count_fits : (base h k : ℕ) → AreAnOctet base h → k < 128 → k < base ^ h
 count_fits base h k octet few =
     let e : h * 1 ≡ h = omega arith in
@@ -41,15 +44,18 @@ count_fits base h k octet few =
 
 -- ---- laws
 
+-- counted numbers are one or part
 pub counted_lawful : (base h : ℕ) (T : ℕ → ℕ → Type 0) → Lawful (Counted base h T)
 counted_lawful base h T = then_lawful (set_lawful base h (SomeOf T)) (λ k. set_lawful base (h * k) (T k))
 
+-- behind each count some number stands
 pub counted_follows : (base h : ℕ) (T : ℕ → ℕ → Type 0) → AreAnOctet base h → Follows (Plain (InDigits base h (SomeOf T))) (λ k. Plain (InDigits base (h * k) (T k)))
 counted_follows base h T octet = record { follow = λ k cs s. number k s.spelt.member }
   where
     number : (k : ℕ) → SomeOf T k → Inhabited (Plain (InDigits base (h * k) (T k)))
     number k s = plain_inhabited s.number (digits base (h * k) s.number) (set_spelt base (h * k) s.number s.member (omega (arith, s.fits, octet k)))
 
+-- some number has a count
 pub counted_inhabited : {base h : ℕ} {T : ℕ → ℕ → Type 0} → AreAnOctet base h → (k : ℕ) → SomeOf T k → Inhabited (Counted base h T)
 counted_inhabited {base} {h} {T} octet k s =
     then_inhabited (plain_inhabited k (digits base h k) (set_spelt base h k s (count_fits base h k octet s.few))) (counted_follows base h T octet)
@@ -72,11 +78,13 @@ counted_short_octets {base} {h} {T = T} ok s g = then_short_second ok (set_lawfu
 pub counted_refused_octets : {base h : ℕ} {R : Fielding} {T : ℕ → ℕ → Type 0} {k : ℕ} {us r : List ℕ} {n : ℕ} → FieldsPart R → Spells R (Plain (InDigits base h (SomeOf T))) k us r → Refused R (Plain (InDigits base (h * k) (T k))) r n → Refused R (Counted base h T) us n
 counted_refused_octets {base} {h} {T = T} ok s g = then_refused_second ok (set_lawful base h (SomeOf T)) s g
 
+-- the count, and the number
 pub counted_spells : {base h : ℕ} {R : Fielding} {T : ℕ → ℕ → Type 0} {k n : ℕ} {us r s : List ℕ} → Spells R (Plain (InDigits base h (SomeOf T))) k us r → Spells R (Plain (InDigits base (h * k) (T k))) n r s → Spells R (Counted base h T) (k, n) us s
 counted_spells s g = then_spells s g
 
 -- ---- octets as bits
 
+-- a view that changes no unit
 same_map : (us : List ℕ) → map (λ u. u) us ≡ us
 same_map [] = refl
 same_map (u ∷ us) = ap (λ (t : List ℕ). u ∷ t) (same_map us)
@@ -122,6 +130,7 @@ short_length k h = go (nat_lt k 128) refl (lt-ltb k 128 h)
         let w : IsBits 8 k (0 ∷ bits 7 k) = record { digits = (omega arith, i.digits); count = ap suc i.count; sum = omega (arith, i.sum) } in
         rw (f, last_length) (bits_only 8 k (0 ∷ bits 7 k) w).1
 
+-- a count below 128 has one length
 lengths_short : (k : ℕ) → k < 128 → lengths k ≡ last_length k ∷ []
 lengths_short k h = elim (lengths_cases (k / 16384) k (omega arith)) [ inl a ↦ a.1 | inr b ↦ absurd (omega (arith, b.1)) ]
 
@@ -154,12 +163,15 @@ units_length k n h = go (nat_lt k 128) refl (lt-ltb k 128 h)
 abbrev pub counted_units : ℕ → ℕ → ℕ → ℕ → List ℕ
 counted_units base h k n = digits base h k ++ digits base (h * k) n
 
+-- counts with their numbers, as they are spelt
 counted_pairs : (base h : ℕ) (T : ℕ → ℕ → Type 0) → AreAnOctet base h → ((k n : ℕ) → T k n → n < 256 ^ k) → Same (Counted base h T) (SpelledBy (λ (p : ℕ × ℕ). SomeOf T p.0 × T p.0 p.1) (λ (p : ℕ × ℕ). ones (digits base h p.0) ++ ones (digits base (h * p.0) p.1)))
 counted_pairs base h T octet fit = same_after (same_then (digits_spelled base h (SomeOf T) (λ k s. count_fits base h k octet s.few)) (λ k. digits_spelled base (h * k) (T k) (λ n l. omega (arith, fit k n l, octet k)))) then_spelled
 
+-- a number fits the least count of octets that holds it
 least_fits : {S : ℕ → Type 0} (k n : ℕ) → Least S k n → n < 256 ^ k
 least_fits k n l = subst (λ (i : ℕ). n < 256 ^ i) l.count (octet_count_fits n)
 
+-- numbers in the fewest octets, as they are spelt
 pub counted_least : (base h : ℕ) (S : ℕ → Type 0) → AreAnOctet base h → ((n : ℕ) → S n → octet_count n < 128) → Same (Map number_of (Counted base h (Least S))) (SpelledBy S (λ n. ones (counted_units base h (octet_count n) n)))
 counted_least base h S octet few = same_after (map_same (counted_pairs base h (Least S) octet least_fits)) (map_spelled there back)
   where
@@ -191,6 +203,7 @@ residue_of k r h w = go (nat_lt r (2 ^ (8 * k - 1))) refl
         let back : 256 ^ k - 1 - (256 ^ k - 1 - r) ≡ r = omega (arith, w) in
         rw (e, signed_number) back
 
+-- a number of two's complement is told by its octets
 number_again : (k : ℕ) (z : ℤ) → 1 ≤ k → magnitude z < 2 ^ (8 * k - 1) → signed_number (k, residue k z) ≡ z
 number_again k (pos n) h f =
     let e : nat_lt n (2 ^ (8 * k - 1)) ≡ true = lt-ltb n (2 ^ (8 * k - 1)) f in
@@ -206,6 +219,7 @@ number_again k (negsuc n) h f = go (nat_lt r (2 ^ (8 * k - 1))) refl
         let same : 256 ^ k - 1 - r ≡ n = omega (arith, half k h, f) in
         rw (e, signed_number) (ap negsuc same)
 
+-- numbers in the fewest octets of two's complement, as they are spelt
 pub counted_least_signed : (base h : ℕ) (S : ℤ → Type 0) → AreAnOctet base h → ((z : ℤ) → S z → signed_octet_count z < 128) → Same (Map signed_number (Counted base h (LeastSigned S))) (SpelledBy S (λ z. ones (counted_units base h (signed_octet_count z) (residue (signed_octet_count z) z))))
 counted_least_signed base h S octet few = same_after (map_same (counted_pairs base h (LeastSigned S) octet (λ k n l. l.fits))) (map_spelled there back)
   where
@@ -230,6 +244,7 @@ counted_least_signed base h S octet few = same_after (map_same (counted_pairs ba
 least_signed_is : (z : ℤ) → least_signed z ≡ octets (signed_octet_count z) (residue (signed_octet_count z) z)
 least_signed_is z = signed_is (signed_octet_count z) z
 
+-- in PER
 pub counted_signed_bits : (S : ℤ → Type 0) → ((z : ℤ) → S z → signed_octet_count z < 128) → Same (Map signed_number (Counted 2 8 (LeastSigned S))) (SpelledBy S (λ z. ones (general_octets (λ u. u) (least_signed z))))
 counted_signed_bits S few = same_after (counted_least_signed 2 8 S eight_bits few) (same_spelled (λ z s. s) (λ z s. s) (λ z s. ap ones (same z s)))
   where
@@ -239,6 +254,7 @@ counted_signed_bits S few = same_after (counted_least_signed 2 8 S eight_bits fe
         let fit = residue_fits k z (signed_count_some z) (signed_fits z) in
         sym (ap (λ (os : List ℕ). general_octets (λ u. u) os) (least_signed_is z) ∙ octets_counted k (residue k z) (few z s) (omega (arith, fit, octet_power k)))
 
+-- in OER
 pub counted_signed_octets : (S : ℤ → Type 0) → ((z : ℤ) → S z → signed_octet_count z < 128) → Same (Map signed_number (Counted 256 1 (LeastSigned S))) (SpelledBy S (λ z. ones (octet_length (signed_octet_count z) ++ least_signed z)))
 counted_signed_octets S few = same_after (counted_least_signed 256 1 S one_octet few) (same_spelled (λ z s. s) (λ z s. s) (λ z s. ap ones (same z s)))
   where

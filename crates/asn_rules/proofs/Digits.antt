@@ -9,18 +9,22 @@ use Rattle.asn_rules.specs.Chunks.{ones}
 use Rattle.asn_rules.specs.Parted.{Parted}
 use Rattle.asn_rules.specs.Sets.{AreDigits, weighted, IsDigits, IsBits}
 
+-- digits behind digits
 pub digits-append : (base : ℕ) (xs ys : List ℕ) → AreDigits base xs → AreDigits base ys → AreDigits base (xs ++ ys)
 digits-append base [] ys f g = g
 digits-append base (x ∷ xs) ys f g = (f.0, digits-append base xs ys f.1 g)
 
+-- the first of them
 pub digits-first : (base : ℕ) (xs ys : List ℕ) → AreDigits base (xs ++ ys) → AreDigits base xs
 digits-first base [] ys f = tt
 digits-first base (x ∷ xs) ys f = (f.0, digits-first base xs ys f.1)
 
+-- the last of them
 pub digits-second : (base : ℕ) (xs ys : List ℕ) → AreDigits base (xs ++ ys) → AreDigits base ys
 digits-second base [] ys f = f
 digits-second base (x ∷ xs) ys f = digits-second base xs ys f.1
 
+-- so many digits stand for less than that power of the base
 pub weighted_bound : (base : ℕ) (ds : List ℕ) → AreDigits base ds → weighted base ds < base ^ length ds
 weighted_bound base [] h = omega (arith, pow-zero base)
 weighted_bound base (d ∷ ds) h =
@@ -28,6 +32,7 @@ weighted_bound base (d ∷ ds) h =
     let room : (d + 1) * base ^ length ds ≤ base * base ^ length ds = mul-le-mul_right (base ^ length ds) (omega (arith, h.0)) in
     omega (arith, w, room, pow-succ' base (length ds))
 
+-- digits behind digits stand for the first, moved up, and the second
 pub weighted-append : (base : ℕ) (xs ys : List ℕ) → weighted base (xs ++ ys) ≡ weighted base xs * base ^ length ys + weighted base ys
 weighted-append base [] ys = omega arith
 weighted-append base (x ∷ xs) ys =
@@ -44,11 +49,13 @@ weighted_more base ds d =
     let one : base ^ 1 ≡ base = pow-succ' base 0 ∙ ap (λ (n : ℕ). base * n) none ∙ omega arith in
     weighted-append base ds (d ∷ []) ∙ ap (λ (n : ℕ). weighted base ds * n + (d * base ^ 0 + 0)) one ∙ ap (λ (n : ℕ). weighted base ds * base + (d * n + 0)) none ∙ omega arith
 
+-- a digit is not less where more follows it
 not_less : (x y a b p : ℕ) → a < p → x * p + a ≡ y * p + b → x < y → ⊥
 not_less x y a b p h e l =
     let room : (x + 1) * p ≤ y * p = mul-le-mul_right p (omega (arith, l)) in
     omega (arith, h, e, room)
 
+-- two numbers that are one have one first digit
 same_digit : (x y a b p : ℕ) → a < p → b < p → x * p + a ≡ y * p + b → x ≡ y
 same_digit x y a b p h i e = ⊎_elim (λ l. absurd (not_less x y a b p h e l)) (λ g. ⊎_elim (λ l. absurd (not_less y x b a p i (sym e) l)) (λ f. omega (arith, f, g)) (cases_lt y x)) (cases_lt x y)
 
@@ -78,6 +85,7 @@ same_or_parted [] (y ∷ ys) l = absurd (omega arith)
 same_or_parted (x ∷ xs) [] l = absurd (omega arith)
 same_or_parted (x ∷ xs) (y ∷ ys) l = ⊎_elim (λ e. ⊎_elim (λ f. inl (let p : (x ∷ xs) ≡ (y ∷ ys) = cc in p)) (λ p. inr (inr (e, p))) (same_or_parted xs ys (omega arith))) (λ n. inr (inl n)) (cases_eq x y)
 
+-- a list does not part from itself
 pub not_parted : (xs : List ℕ) → Parted (ones xs) (ones xs) → ⊥
 not_parted [] p = p
 not_parted (x ∷ xs) (inl n) = n refl
@@ -85,10 +93,12 @@ not_parted (x ∷ xs) (inr p) = not_parted xs p.1
 
 -- ---- the digits of a number
 
+-- the digits of a number are digits
 are_digits : (base k n : ℕ) → 0 < base → AreDigits base (digits base k n)
 are_digits base zero n h = tt
 are_digits base (suc k) n h = (mod-lt (n / base ^ k) h, are_digits base k n h)
 
+-- they stand for the number, but for what they cannot hold
 weighted_digits : (base k n : ℕ) → 0 < base → weighted base (digits base k n) ≡ n % base ^ k
 weighted_digits base zero n h = mod_one n ∙ ap (λ b. n % b) (sym (pow-zero base))
   where
@@ -130,8 +140,10 @@ extended base k n r ds b c l m =
 
 -- ---- bits
 
+-- a number that k bits hold, in k bits
 pub bits_are : (k n : ℕ) → n < 2 ^ k → IsBits k n (bits k n)
 bits_are k n h = digits_are 2 k n h
 
+-- its bits are no others
 pub bits_only : (k n : ℕ) (bs : List ℕ) → IsBits k n bs → (n < 2 ^ k) × (bs ≡ bits k n)
 bits_only k n bs h = digits_only 2 k n bs h

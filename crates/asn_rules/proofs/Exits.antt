@@ -19,7 +19,8 @@ use Rattle.asn_rules.proofs.Forks.{fork_zero, fork_one}
 use Rattle.asn_rules.proofs.Rows.{row_spells, row_one, row_short, row_refused, row_short_first, row_refused_first}
 use Rattle.asn_rules.proofs.Padding.{padded_short, padded_refused, padded_spells, padded_short_fill, padded_refused_fill}
 use Rattle.asn_rules.proofs.Sets.{set_lawful}
-use Rattle.asn_rules.proofs.General.{header_few, header_many, header_blocks, general_short, general_refused, general_last_spells, general_last_short, general_last_refused, general_row_short, general_row_refused, general_rest_spells, general_rest_short, general_rest_refused}
+use Rattle.asn_rules.proofs.General.{general_short, general_refused, general_last_spells, general_last_short, general_last_refused, general_row_short, general_row_refused, general_rest_spells, general_rest_short, general_rest_refused}
+use Rattle.asn_rules.proofs.Headers.{header_few, header_many, header_blocks}
 use Rattle.asn_rules.proofs.Fields.{field_short, field_refused}
 use Rattle.asn_rules.proofs.Counted.{AreAnOctet, counted_follows}
 

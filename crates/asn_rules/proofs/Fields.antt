@@ -25,25 +25,31 @@ use Rattle.asn_rules.proofs.Frames.{frame_short, frame_refused, frame_spells, fr
 
 -- ---- octets
 
+-- octets are one or part
 pub octet_lawful : Lawful Octet
 octet_lawful = set_lawful 2 8 (λ n. n < 256)
 
+-- there is an octet
 pub octet_inhabited : Inhabited Octet
 octet_inhabited = set_inhabited (set_meets 2 8 {S = λ n. n < 256} 0 (omega arith) (omega arith))
 
+-- an octet, as the definition has it
 octet_spelled : Same Octet (SpelledBy (λ n. n < 256) (λ n. ones (bits 8 n)))
 octet_spelled = set_spelled 8 (λ n. n < 256) (λ n h. omega (arith, h))
 
 -- ---- plain units under their general length
 
+-- plain units one after the other
 joined_ones : (items : List (List ℕ)) → joined (map ones items) ≡ ones (joined items)
 joined_ones [] = refl
 joined_ones (x ∷ xs) = ap (λ (l : List Chunk). ones x ++ l) (joined_ones xs) ∙ sym (ones-append x (joined xs))
 
+-- a view that changes no unit
 same_map : (us : List ℕ) → map (λ u. u) us ≡ us
 same_map [] = refl
 same_map (u ∷ us) = ap (λ (t : List ℕ). u ∷ t) (same_map us)
 
+-- plain units under lengths
 lengths_ones : (ls : List Length) (items : List (List ℕ)) → with_lengths one ls (map ones items) ≡ ones (with_lengths (λ u. u) ls items)
 lengths_ones [] items = refl
 lengths_ones (l ∷ ls) items =
@@ -57,10 +63,12 @@ lengths_ones (l ∷ ls) items =
     ∙ ap (λ (us : List ℕ). ones us ++ ones (rest ++ more)) (sym (same_map l.bits))
     ∙ sym (ones-append (map (λ u. u) l.bits) (rest ++ more))
 
+-- octets as items
 octets_items : (c : List ℕ) → map (λ o. ones (bits 8 o)) c ≡ map ones (map (λ o. map (λ u. u) (bits 8 o)) c)
 octets_items [] = refl
 octets_items (o ∷ c) = ap (λ (l : List Chunk). l ∷ map (λ o. ones (bits 8 o)) c) (ap ones (sym (same_map (bits 8 o)))) ∙ ap (λ l. ones (map (λ u. u) (bits 8 o)) ∷ l) (octets_items c)
 
+-- octets under their general length are plain units
 octets_ones : (c : List ℕ) → general one (map (λ o. ones (bits 8 o)) c) ≡ ones (general_octets (λ u. u) c)
 octets_ones c =
     let items = map (λ o. map (λ u. u) (bits 8 o)) c in
@@ -72,9 +80,11 @@ octets_spelled S = same_after (same_general octet_spelled S) (same_after (genera
 
 -- ---- sealed fields whose contents stand under their general length
 
+-- a sealed field, as the definition has it
 field_spelled : (R : Fielding) (k : Kind) → Same (Frame R k) (SpelledBy (IsContent R k) (λ c. ones (field_units R.spelled k c)))
 field_spelled R k = plain_spelled (λ c us h. (h.contents, h.same)) (λ c h. record { contents = h; same = refl })
 
+-- a field is octets under their general length, of the lengths that it may have
 frame_by : (R : Fielding) (k : Kind) (S : ℕ → Type 0) → ((c : List ℕ) → field_units R.spelled k c ≡ general_octets (λ u. u) c) → ((c : List ℕ) → S (length c) × AllByRecursion (λ o. o < 256) c → IsContent R k c) → ((c : List ℕ) → IsContent R k c → S (length c) × AllByRecursion (λ o. o < 256) c) → Same (General Octet S) (Frame R k)
 frame_by R k S is to from = same_after (octets_spelled S) (same_after (same_spelled to from (λ c h. ap ones (sym (is c)))) (same_flip (field_spelled R k)))
 
@@ -88,12 +98,15 @@ utf8_frame R is = frame_by R utf8_field (Between (R.shortest utf8_field) max_len
 
 -- ---- the answers for the octets under their length, as those for the field
 
+-- the octets want more
 pub field_short : {A : Type 0} {R : Fielding} {k : Kind} {D : A → List ℕ → Type 0} {T : ℕ → Type 0} {us : List ℕ} → FieldsPart R → SomeContent D → Same (General Octet T) (Frame R k) → Short R (General Octet T) us → Short R (Sealed k D) us
 field_short ok i e h = frame_short ok i (same_short e h)
 
+-- the octets are refused inside a length
 pub field_refused : {A : Type 0} {R : Fielding} {k : Kind} {D : A → List ℕ → Type 0} {T : ℕ → Type 0} {us : List ℕ} {n : ℕ} → FieldsPart R → SomeContent D → Same (General Octet T) (Frame R k) → Refused R (General Octet T) us n → Refused R (Sealed k D) us n
 field_refused ok i e h = frame_refused ok i (same_refused e h)
 
+-- the octets have come, and their content is one that may stand there
 pub field_spells : {A : Type 0} {R : Fielding} {k : Kind} {D : A → List ℕ → Type 0} {T : ℕ → Type 0} {a : A} {c us r : List ℕ} → Same (General Octet T) (Frame R k) → Spells R (General Octet T) c us r → D a c → Spells R (Sealed k D) a us r
 field_spells e h d = frame_spells (same_spells e h) d
 

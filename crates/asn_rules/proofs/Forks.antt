@@ -20,12 +20,15 @@ map_lawful_on {A} {B} {f} {L} once l = record { law = λ v w x y a b. go v w x y
 pub same_flip : {V : Type 0} {L M : V → List Chunk → Type 0} → Same L M → Same M L
 same_flip e = record { to = e.from; from = e.to }
 
+-- a front, under the other
 pub same_spells : {V : Type 0} {R : Fielding} {L M : V → List Chunk → Type 0} {v : V} {us r : List ℕ} → Same L M → Spells R L v us r → Spells R M v us r
 same_spells {v = v} e h = record { chunks = h.chunks; spelt = e.to v h.chunks h.spelt; contents = h.contents; split = h.split }
 
+-- what begins a spelling, under the other
 pub same_live : {V : Type 0} {R : Fielding} {L M : V → List Chunk → Type 0} {us : List ℕ} → Same L M → IsLive R L us → IsLive R M us
 same_live e h = record { value = h.value; chunks = h.chunks; spelt = e.to h.value h.chunks h.spelt; front = h.front }
 
+-- behind no units one is left of the other
 pub same_carries : {V : Type 0} {L M : V → List Chunk → Type 0} (R : Fielding) → Same L M → Carries R L M []
 same_carries R e = record {
   reads = λ v s r h. same_spells e h;
@@ -34,9 +37,11 @@ same_carries R e = record {
   live = λ s h. same_live (same_flip e) h;
 }
 
+-- more is wanted under the other
 pub same_short : {V : Type 0} {R : Fielding} {L M : V → List Chunk → Type 0} {us : List ℕ} → Same L M → Short R L us → Short R M us
 same_short e h = record { live = same_live e h.live; none = λ v r x. h.none v r (same_spells (same_flip e) x) }
 
+-- refused under the other, at the same unit
 pub same_refused : {V : Type 0} {R : Fielding} {L M : V → List Chunk → Type 0} {us : List ℕ} {n : ℕ} → Same L M → Refused R L us n → Refused R M us n
 same_refused e h = record {
   before = h.before;
@@ -49,9 +54,11 @@ same_refused e h = record {
   none = λ v r x. h.none v r (same_spells (same_flip e) x);
 }
 
+-- laws carry over
 pub same_lawful : {V : Type 0} {L M : V → List Chunk → Type 0} → Same L M → Lawful L → Lawful M
 same_lawful e l = record { law = λ v w x y p q. l.law v w x y (e.from v x p) (e.from w y q) }
 
+-- a value that is spelt, under the other
 pub same_inhabited : {V : Type 0} {L M : V → List Chunk → Type 0} → Same L M → Inhabited L → Inhabited M
 same_inhabited e i = record { value = i.value; chunks = i.chunks; spelt = e.to i.value i.chunks i.spelt }
 
@@ -73,9 +80,11 @@ fork_lawful {A} {B} {X} {Y} f g = record { law = λ v w x y p q. go v w x y p.si
     go v w x y (inl p) (inr q) = inr (λ s. (let d = p.seen in let c = q.seen in cc), rw (p.same, q.same) (inl (λ e. omega arith)))
     go v w x y (inr p) (inl q) = inr (λ s. (let d = p.seen in let c = q.seen in cc), rw (p.same, q.same) (inl (λ e. omega arith)))
 
+-- some value of the first is spelt
 pub fork_inhabited_zero : {A B : Type 0} {X : A → List Chunk → Type 0} {Y : B → List Chunk → Type 0} → Inhabited X → Inhabited (Fork X Y)
 fork_inhabited_zero i = record { value = inl i.value; chunks = one 0 ∷ i.chunks; spelt = record { side = inl (record { value = i.value; rest = i.chunks; spelt = i.spelt; seen = refl; same = refl }) } }
 
+-- some value of the second is spelt
 pub fork_inhabited_one : {A B : Type 0} {X : A → List Chunk → Type 0} {Y : B → List Chunk → Type 0} → Inhabited Y → Inhabited (Fork X Y)
 fork_inhabited_one i = record { value = inr i.value; chunks = one 1 ∷ i.chunks; spelt = record { side = inr (record { value = i.value; rest = i.chunks; spelt = i.spelt; seen = refl; same = refl }) } }
 
@@ -85,6 +94,7 @@ branch_spells {R = R} {r = r} b g e =
     let d = e ∙ ap (λ c. flat R.spelled c ++ r) b.same in
     (cc, record { chunks = b.rest; spelt = record { source = b.value; spelt = b.spelt; seen = b.seen }; contents = rw b.same at g; split = cc })
 
+-- and what begins a spelling there
 branch_live : {A V : Type 0} {R : Fielding} {f : A → V} {L : A → List Chunk → Type 0} {u x : ℕ} {v : V} {us : List ℕ} {ds : List Chunk} → (b : Branch u f L v ds) → IsFront R ds (x ∷ us) → (u ≡ x) × IsLive R (Map f L) us
 branch_live {R = R} {x = x} {v = v} {us = us} b h =
     let g : IsFront R (one _ ∷ b.rest) (x ∷ us) = rw b.same at h in
@@ -107,6 +117,7 @@ fork_zero {A} {B} {X} {Y} R = record {
     live s h (inl b) = (branch_live {R = R} b h.front).1
     live s h (inr b) = (let e = (branch_live {R = R} b h.front).0 in absurd (omega arith))
 
+-- behind a 1 the second language is left
 pub fork_one : {A B : Type 0} {X : A → List Chunk → Type 0} {Y : B → List Chunk → Type 0} (R : Fielding) → Carries R (Map inr Y) (Fork X Y) (1 ∷ [])
 fork_one {A} {B} {X} {Y} R = record {
   reads = λ v s r h. record { chunks = one 1 ∷ h.chunks; spelt = record { side = inr (record { value = h.spelt.source; rest = h.chunks; spelt = h.spelt.spelt; seen = h.spelt.seen; same = refl }) }; contents = h.contents; split = ap (λ (l : List ℕ). 1 ∷ l) h.split };
@@ -163,6 +174,7 @@ carries_left e c = record {
   live = λ s h. same_live (same_flip e) (c.live s h);
 }
 
+-- and in place of the whole
 pub carries_whole : {V : Type 0} {R : Fielding} {M K L : V → List Chunk → Type 0} {us : List ℕ} → Same K L → Carries R M K us → Carries R M L us
 carries_whole e c = record {
   reads = λ v s r h. same_spells e (c.reads v s r h);
@@ -171,6 +183,7 @@ carries_whole e c = record {
   live = λ s h. c.live s (same_live (same_flip e) h);
 }
 
+-- a view that changes nothing
 pub map_same : {A : Type 0} {f : A → A} {L : A → List Chunk → Type 0} → ((a : A) → f a ≡ a) → Same L (Map f L)
 map_same {A} {f} {L} e = record {
   to = λ v cs m. record { source = v; spelt = m; seen = sym (e v) };

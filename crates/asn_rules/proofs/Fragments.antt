@@ -13,12 +13,14 @@ use Rattle.asn_rules.specs.Forks.{Same}
 use Rattle.asn_rules.specs.General.{Length, last, fragment, Left, Blocks, Header, Body, Within, General}
 use Rattle.asn_rules.specs.Spellings.{SpelledBy}
 use Rattle.asn_rules.proofs.Digits.{bits_are}
-use Rattle.asn_rules.proofs.General.{header_few_is, header_many_is, header_blocks_is, general_once, general_lawful, general_counted}
+use Rattle.asn_rules.proofs.General.{general_once, general_lawful, general_counted}
+use Rattle.asn_rules.proofs.Headers.{header_few_is, header_many_is, header_blocks_is}
 use Rattle.asn_rules.proofs.Spellings.{same_row, row_spelled}
 use Rattle.asn_rules.proofs.Forks.{same_flip}
 
 -- ---- items of the same spellings
 
+-- with a bound on the lengths
 within_same : {A : Type 0} {K L : A → List Chunk → Type 0} → Same K L → (f : ℕ) (S : ℕ → Type 0) (vs : List A) (cs : List Chunk) → Within K f S vs cs → Within L f S vs cs
 within_same e zero S vs cs h = absurd h
 within_same {A} {K} {L} e (suc f) S vs cs h = record {
@@ -31,6 +33,7 @@ within_same {A} {K} {L} e (suc f) S vs cs h = record {
     body (last n) ws ds b again = (same_row e n).to ws ds b
     body (fragment m) ws ds b again = record { source = b.source; spelt = record { first = b.spelt.first; second = b.spelt.second; spelt = (same_row e (16384 * m)).to b.source.0 b.spelt.first b.spelt.spelt; follows = again m b.source.1 b.spelt.second b.spelt.follows; whole = b.spelt.whole }; seen = b.seen }
 
+-- items of the same spellings have the same general lengths
 pub same_general : {A : Type 0} {K L : A → List Chunk → Type 0} → Same K L → (S : ℕ → Type 0) → Same (General K S) (General L S)
 same_general e S = record {
   to = λ vs cs h. record { lengths = h.lengths; spelt = within_same e h.lengths S vs cs h.spelt };
@@ -39,6 +42,7 @@ same_general e S = record {
 
 -- ---- lengths
 
+-- the last length, as the definition has it
 last_header : (S : ℕ → Type 0) (n : ℕ) → S n → n < 16384 → Header S (last n) (ones (last_length n).bits)
 last_header S n h w = go (nat_lt n 128) refl
   where
@@ -50,6 +54,7 @@ last_header S n h w = go (nat_lt n 128) refl
         let a = ltb-false n 128 e in
         rw (e, last_length) (header_many_is S n (bits 14 n) (record { member = h; least = a; below = w }) (bits_are 14 n (omega arith)))
 
+-- the length of a fragment, as the definition has it
 fragment_header : (S : ℕ → Type 0) (m : ℕ) → Blocks S m → Header S (fragment m) (ones (fragment_length m).bits)
 fragment_header S m b = header_blocks_is S m (bits 6 m) b (bits_are 6 m (omega (arith, b.most)))
 
@@ -57,6 +62,7 @@ module _ {A : Type 0} (P : A → Type 0) (code : A → List Chunk) where
   abbrev Item : A → List Chunk → Type 0
   Item = SpelledBy P code
 
+  -- items in a row, as the definition has them
   row_is : (n : ℕ) (vs : List A) → length vs ≡ n → AllByRecursion P vs → Row Item n vs (joined (map code vs))
   row_is n vs l p = (row_spelled n).from vs (joined (map code vs)) (record { fits = (l, p); same = refl })
 
@@ -65,6 +71,7 @@ module _ {A : Type 0} (P : A → Type 0) (code : A → List Chunk) where
   abbrev Spelt : ℕ → Type 1
   Spelt f = (S : ℕ → Type 0) (vs : List A) → AllByRecursion P vs → length vs < 16384 * suc f → S (length vs) → General Item S vs (with_lengths one (lengths_within f (length vs)) (map code vs))
 
+  -- the last items under their length
   spelt_last : (S : ℕ → Type 0) (vs : List A) → AllByRecursion P vs → length vs < 16384 → S (length vs) → General Item S vs (with_lengths one (last_length (length vs) ∷ []) (map code vs))
   spelt_last S vs p w h =
       let all : joined (take (length vs) (map code vs)) ++ [] ≡ joined (map code vs) = append-nil (joined (take (length vs) (map code vs))) ∙ ap joined (take-map code (length vs) vs ∙ ap (map code) (take-length vs)) in
@@ -74,6 +81,7 @@ module _ {A : Type 0} (P : A → Type 0) (code : A → List Chunk) where
         seen = refl;
       })
 
+  -- a fragment under its length, and what stands behind it
   spelt_fragment : (f m : ℕ) → Spelt f → (S : ℕ → Type 0) (vs : List A) → AllByRecursion P vs → m ≡ blocks (length vs) → 16384 ≤ length vs → length vs < 16384 * suc (suc f) → S (length vs)
       → General Item S vs (with_lengths one (fragment_length m ∷ lengths_within f (length vs - 16384 * m)) (map code vs))
   spelt_fragment f m again S vs p is large w h =
@@ -101,6 +109,7 @@ module _ {A : Type 0} (P : A → Type 0) (code : A → List Chunk) where
         seen = refl;
       })
 
+  -- the one or the other
   spelt_step : (f : ℕ) → (0 < f → Spelt (pred f)) → Spelt f
   spelt_step f again S vs p w h =
       elim (lengths_cases f (length vs) w) [
@@ -108,20 +117,24 @@ module _ {A : Type 0} (P : A → Type 0) (code : A → List Chunk) where
         | inr b ↦ subst (λ ls. General Item S vs (with_lengths one ls (map code vs))) (sym b.2) (spelt_fragment (pred f) (blocks (length vs)) (again b.0) S vs p refl b.1 (let l = b.0 in omega arith) h)
       ]
 
+  -- as many fragments as there are
   spelt_within : (f : ℕ) → Spelt f
   spelt_within zero = spelt_step zero (λ l. absurd (omega arith))
   spelt_within (suc f) = spelt_step (suc f) (λ l. spelt_within f)
 
+  -- items under their general length, as the definition has them, are a spelling
   pub general_spelt : (S : ℕ → Type 0) (vs : List A) → AllByRecursion P vs → S (length vs) → General Item S vs (general one (map code vs))
   general_spelt S vs p h =
       subst (λ (n : ℕ). General Item S vs (with_lengths one (lengths n) (map code vs))) (sym (length-map vs code)) (spelt_within (length vs / 16384) S vs p (omega arith) h)
 
   -- ---- a spelling is the definition's list
 
+  -- two lists of items that fit
   all_append : (vs ws : List A) → AllByRecursion P vs → AllByRecursion P ws → AllByRecursion P (vs ++ ws)
   all_append [] ws p q = q
   all_append (v ∷ vs) ws p q = (p.0, all_append vs ws p.1 q)
 
+  -- the items of a spelling fit
   within_all : (f : ℕ) (S : ℕ → Type 0) (vs : List A) (cs : List Chunk) → Within Item f S vs cs → AllByRecursion P vs
   within_all zero S vs cs h = absurd h
   within_all (suc f) S vs cs h = subst (AllByRecursion P) (sym h.seen) (go h.source.0 h.source.1 h.spelt.second h.spelt.follows (λ m ws ds g. within_all f (Left S m) ws ds g))

@@ -19,6 +19,7 @@ apart [] vs f = absurd (f vs [] (sym (append-nil vs)))
 apart (u ∷ us) [] f = absurd (f [] (u ∷ us) (append-nil (u ∷ us)))
 apart (u ∷ us) (v ∷ vs) f = ⊎_elim (λ e. inr (e, apart us vs (λ s t q. f s t cc))) (λ n. inl n) (cases_eq u v)
 
+-- two fields are one or part
 pub frame_code : {R : Fielding} → FieldsPart R → (k : Kind) → Code (IsField R k)
 frame_code {R} ok k = record { law = λ c d us vs p q. go c d us vs p q (lists_same_or_not c d) }
   where
@@ -26,12 +27,13 @@ frame_code {R} ok k = record { law = λ c d us vs p q. go c d us vs p q (lists_s
     go c d us vs p q (inl e) = inl (e, p.same ∙ ap (field_units R.spelled k) e ∙ sym q.same)
     go c d us vs p q (inr n) = inr (n, apart us vs (λ s t e. n (ok.tells k c d s t p.contents q.contents (ap (λ (l : List ℕ). l ++ s) (sym p.same) ∙ e ∙ ap (λ (l : List ℕ). l ++ t) q.same))))
 
+-- as spellings
 pub frame_lawful : {R : Fielding} → FieldsPart R → (k : Kind) → Lawful (Frame R k)
 frame_lawful ok k = plain_lawful (frame_code ok k)
 
 -- a beginning of a frame with no frame in front is less than a field
-free_of : {R : Fielding} {k : Kind} {us : List ℕ} → IsLive R (Frame R k) us → ((c : List ℕ) → IsField R k c us → ⊥) → InField R k us
-free_of {R} {k} {us} l never = go b.0 b.1 b.2
+begun_of : {R : Fielding} {k : Kind} {us : List ℕ} → IsLive R (Frame R k) us → ((c : List ℕ) → IsField R k c us → ⊥) → InField R k us
+begun_of {R} {k} {us} l never = go b.0 b.1 b.2
   where
     b : (c : List ℕ) × (t : List ℕ) × IsField R k c (us ++ t)
     b = plain_begins l
@@ -40,26 +42,27 @@ free_of {R} {k} {us} l never = go b.0 b.1 b.2
     go c [] f = absurd (never c (rw append-nil at f))
     go c (u ∷ t) f = record { content = c; contents = f.contents; next = u; more = t; split = f.same }
 
-pub frame_free : {R : Fielding} {k : Kind} {us : List ℕ} → Short R (Frame R k) us → InField R k us
-frame_free {R} {k} {us} s = free_of s.live (λ c f. s.none c [] (let p = plain_spells R {C = IsField R k} c us [] f in rw append-nil at p))
+-- a frame that wants more is less than a field
+pub frame_begun : {R : Fielding} {k : Kind} {us : List ℕ} → Short R (Frame R k) us → InField R k us
+frame_begun {R} {k} {us} s = begun_of s.live (λ c f. s.none c [] (let p = plain_spells R {C = IsField R k} c us [] f in rw append-nil at p))
 
 -- less than a field is the beginning of a frame
-pub free_frame : {R : Fielding} {k : Kind} {us : List ℕ} → FieldsPart R → InField R k us → Short R (Frame R k) us
-free_frame {R} {k} {us} ok f = plain_short ok (frame_code ok k) f.content us f.next f.more (record { contents = f.contents; same = f.split })
+pub begun_frame : {R : Fielding} {k : Kind} {us : List ℕ} → FieldsPart R → InField R k us → Short R (Frame R k) us
+begun_frame {R} {k} {us} ok f = plain_short ok (frame_code ok k) f.content us f.next f.more (record { contents = f.contents; same = f.split })
 
 -- The field is not over.
 pub frame_short : {A : Type 0} {R : Fielding} {k : Kind} {D : A → List ℕ → Type 0} {us : List ℕ} → FieldsPart R → SomeContent D → Short R (Frame R k) us → Short R (Sealed k D) us
-frame_short ok i s = sealed_short ok i (frame_free s)
+frame_short ok i s = sealed_short ok i (frame_begun s)
 
 -- No field of any content goes on so: its length is not well spelt.
 pub frame_refused : {A : Type 0} {R : Fielding} {k : Kind} {D : A → List ℕ → Type 0} {us : List ℕ} {n : ℕ} → FieldsPart R → SomeContent D → Refused R (Frame R k) us n → Refused R (Sealed k D) us n
 frame_refused {A} {R} {k} {D} {us} {n} ok i s = rw s.split (rw (← s.left_is) (sealed_refused_length ok i s.before s.unit s.after free less whole))
   where
     free : InField R k s.before
-    free = free_of s.live (λ c f. s.none c (s.unit ∷ s.after) (rw s.split (plain_spells R {C = IsField R k} c s.before (s.unit ∷ s.after) f)))
+    free = begun_of s.live (λ c f. s.none c (s.unit ∷ s.after) (rw s.split (plain_spells R {C = IsField R k} c s.before (s.unit ∷ s.after) f)))
 
     less : InField R k (s.before ++ s.unit ∷ []) → ⊥
-    less f = s.dead (free_frame ok f).live
+    less f = s.dead (begun_frame ok f).live
 
     whole : (c : List ℕ) → IsContent R k c → s.before ++ s.unit ∷ [] ≡ field_units R.spelled k c → ⊥
     whole c f e = s.dead (plain_live c (s.before ++ s.unit ∷ []) [] (record { contents = f; same = append-nil (s.before ++ s.unit ∷ []) ∙ e }))

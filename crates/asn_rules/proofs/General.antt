@@ -1,114 +1,27 @@
 -- Items under their general length: laws, and what readers of parts say of the whole.
-use Rattle.std.proofs.Common.{◌≡◌, ℕ, zero, suc, ◌+◌, ◌-◌, ◌*◌, ◌^◌, ◌<◌, ◌≤◌, ◌⊎◌, inl, inr, ⊎_elim, List, [], ◌∷◌, ◌++◌, length, length-append, refl, sym, ap, ◌∙◌, subst, arith}
+use Rattle.std.proofs.Common.{◌≡◌, ℕ, zero, suc, ◌+◌, ◌-◌, ◌*◌, ◌<◌, ◌≤◌, ◌⊎◌, ⊎_elim, List, [], ◌∷◌, ◌++◌, length, length-append, refl, sym, ap, ◌∙◌, subst, arith}
 use Rattle.std.proofs.lemmas.Bool.{cases_lt}
 use Rattle.asn_bits.specs.Numbers.{bits}
-use Rattle.asn_rules.proofs.Digits.{bits_are, weighted_bound}
+use Rattle.asn_rules.proofs.Digits.{bits_are}
 use Rattle.asn_rules.proofs.Carries.{carries_both, carries_map, carries_short, carries_refused, carries_behind, taken}
 use Rattle.asn_rules.proofs.Chunks.{FieldsPart}
-use Rattle.asn_rules.proofs.Forks.{map_map, map_lawful_on, same_flip, same_short, same_refused, same_carries, carries_left, carries_whole, same_inhabited, fork_lawful, fork_inhabited_zero, fork_inhabited_one, fork_zero, fork_one, fork_short, fork_refused}
+use Rattle.asn_rules.proofs.Forks.{map_map, map_lawful_on, same_flip, same_short, same_refused, carries_left, carries_whole, same_inhabited}
 use Rattle.asn_rules.proofs.Parts.{map_inhabited, map_spells, map_short, map_refused}
 use Rattle.asn_rules.proofs.Rows.{row_lawful, row_inhabited}
-use Rattle.asn_rules.proofs.Sets.{set_lawful, set_inhabited, set_meets}
 use Rattle.asn_rules.proofs.Then.{Follows, then_lawful, then_spells, then_inhabited, then_short_first, then_short_second, then_refused_first, then_refused_second}
 use Rattle.asn_rules.specs.Chunks.{Chunk, ones}
-use Rattle.asn_rules.specs.Forks.{Branch, Fork, Same}
-use Rattle.asn_rules.specs.General.{Length, last, fragment, Few, Many, Left, Blocks, length_of, Header, together, behind_first, Body, Once, Within, General}
-use Rattle.asn_rules.specs.Languages.{Spells, Short, Refused, Lawful, Inhabited, Then, Map, Row, Plain, Whole, Carries}
+use Rattle.asn_rules.specs.Forks.{Same}
+use Rattle.asn_rules.specs.General.{Length, last, fragment, Left, Blocks, Header, together, behind_first, Body, Once, Within, General}
+use Rattle.asn_rules.specs.Languages.{Spells, Short, Refused, Lawful, Inhabited, Then, Map, Row, Whole, Carries}
 use Rattle.asn_rules.specs.Live.{Fielding}
-use Rattle.asn_rules.specs.Sets.{IsBits, InSet, Meets}
-
--- what a length that is spelt tells
-abbrev pub Tells : (ℕ → Type 0) → Length → Type 0
-Tells S (last n) = S n × (n < 16384)
-Tells S (fragment m) = Blocks S m
-
-fork_of : (ℕ → Type 0) → ℕ ⊎ (ℕ ⊎ ℕ) → List Chunk → Type 0
-fork_of S = Fork (Plain (InSet 7 (Few S))) (Fork (Plain (InSet 14 (Many S))) (Plain (InSet 6 (Blocks S))))
-
--- what a value of the fork tells
-abbrev FromBits : (ℕ → Type 0) → ℕ ⊎ (ℕ ⊎ ℕ) → Type 0
-FromBits S (inl n) = Few S n
-FromBits S (inr (inl n)) = Many S n
-FromBits S (inr (inr m)) = Blocks S m
-
-from_bits : (S : ℕ → Type 0) (a : ℕ ⊎ (ℕ ⊎ ℕ)) (x : List Chunk) → Fork (Plain (InSet 7 (Few S))) (Fork (Plain (InSet 14 (Many S))) (Plain (InSet 6 (Blocks S)))) a x → FromBits S a
-from_bits S a x h = outer a x h.side
-  where
-    inner : (a : ℕ ⊎ ℕ) (x : List Chunk) → Branch 0 inl (Plain (InSet 14 (Many S))) a x ⊎ Branch 1 inr (Plain (InSet 6 (Blocks S))) a x → FromBits S (inr a)
-    inner a x (inl b) = subst (λ (c : ℕ ⊎ ℕ). FromBits S (inr c)) (sym b.seen) b.spelt.spelt.member
-    inner a x (inr b) = subst (λ (c : ℕ ⊎ ℕ). FromBits S (inr c)) (sym b.seen) b.spelt.spelt.member
-
-    outer : (a : ℕ ⊎ (ℕ ⊎ ℕ)) (x : List Chunk) → Branch 0 inl (Plain (InSet 7 (Few S))) a x ⊎ Branch 1 inr (Fork (Plain (InSet 14 (Many S))) (Plain (InSet 6 (Blocks S)))) a x → FromBits S a
-    outer a x (inl b) = subst (λ (c : ℕ ⊎ (ℕ ⊎ ℕ)). FromBits S c) (sym b.seen) b.spelt.spelt.member
-    outer a x (inr b) = subst (λ (c : ℕ ⊎ (ℕ ⊎ ℕ)). FromBits S c) (sym b.seen) (inner b.value b.rest b.spelt.side)
-
-tells_of : (S : ℕ → Type 0) (a : ℕ ⊎ (ℕ ⊎ ℕ)) → FromBits S a → Tells S (length_of a)
-tells_of S (inl n) h = (h.member, omega (arith, h.below))
-tells_of S (inr (inl n)) h = (h.member, h.below)
-tells_of S (inr (inr m)) h = h
-
-pub header_tells : {S : ℕ → Type 0} {l : Length} {cs : List Chunk} → Header S l cs → Tells S l
-header_tells {S} {l} {cs} h = subst (λ (x : Length). Tells S x) (sym h.seen) (tells_of S h.source (from_bits S h.source cs h.spelt))
-
-lengths_once : (S : ℕ → Type 0) (a b : ℕ ⊎ (ℕ ⊎ ℕ)) → FromBits S a → FromBits S b → length_of a ≡ length_of b → a ≡ b
-lengths_once S (inl m) (inl n) f g e = (let h : m ≡ n = cc in ap inl h)
-lengths_once S (inl m) (inr (inl n)) f g e = (let h : m ≡ n = cc in absurd (omega (arith, f.below, g.least)))
-lengths_once S (inl m) (inr (inr n)) f g e = cc
-lengths_once S (inr (inl m)) (inl n) f g e = (let h : m ≡ n = cc in absurd (omega (arith, g.below, f.least)))
-lengths_once S (inr (inl m)) (inr (inl n)) f g e = (let h : m ≡ n = cc in cc)
-lengths_once S (inr (inl m)) (inr (inr n)) f g e = cc
-lengths_once S (inr (inr m)) (inl n) f g e = cc
-lengths_once S (inr (inr m)) (inr (inl n)) f g e = cc
-lengths_once S (inr (inr m)) (inr (inr n)) f g e = (let h : m ≡ n = cc in cc)
-
-pub header_lawful : (S : ℕ → Type 0) → Lawful (Header S)
-header_lawful S = map_lawful_on (λ a b x y p q e. lengths_once S a b (from_bits S a x p) (from_bits S b y q) e) (fork_lawful (set_lawful 2 7 (Few S)) (fork_lawful (set_lawful 2 14 (Many S)) (set_lawful 2 6 (Blocks S))))
-
--- the blocks at the front of a count
-pub block_cases : (n : ℕ) → 16384 ≤ n → (m : ℕ) × (r : ℕ) × (1 ≤ m) × (m ≤ 4) × (16384 * m + r ≡ n) × (m < 4 → r < 16384)
-block_cases n h = ⊎_elim (λ a. (1, n - 16384, omega arith, omega arith, omega arith, λ _. omega arith)) (λ a. ⊎_elim (λ b. (2, n - 32768, omega arith, omega arith, omega arith, λ _. omega arith)) (λ b. ⊎_elim (λ c. (3, n - 49152, omega arith, omega arith, omega arith, λ _. omega arith)) (λ c. (4, n - 65536, omega arith, omega arith, omega arith, λ d. absurd (omega arith))) (cases_lt n 65536)) (cases_lt n 49152)) (cases_lt n 32768)
-
--- The three forms of a length.
-pub header_few_is : (S : ℕ → Type 0) (n : ℕ) (us : List ℕ) → Few S n → IsBits 7 n us → Header S (last n) (ones (0 ∷ us))
-header_few_is S n us f b = record { source = inl n; spelt = record { side = inl (record { value = n; rest = ones us; spelt = record { units = us; spelt = record { digits = b; member = f }; same = refl }; seen = refl; same = refl }) }; seen = refl }
-
-pub header_many_is : (S : ℕ → Type 0) (n : ℕ) (us : List ℕ) → Many S n → IsBits 14 n us → Header S (last n) (ones (1 ∷ 0 ∷ us))
-header_many_is S n us f b = record { source = inr (inl n); spelt = record { side = inr (record { value = inl n; rest = ones (0 ∷ us); spelt = record { side = inl (record { value = n; rest = ones us; spelt = record { units = us; spelt = record { digits = b; member = f }; same = refl }; seen = refl; same = refl }) }; seen = refl; same = refl }) }; seen = refl }
-
-pub header_blocks_is : (S : ℕ → Type 0) (m : ℕ) (us : List ℕ) → Blocks S m → IsBits 6 m us → Header S (fragment m) (ones (1 ∷ 1 ∷ us))
-header_blocks_is S m us f b = record { source = inr (inr m); spelt = record { side = inr (record { value = inr m; rest = ones (1 ∷ us); spelt = record { side = inr (record { value = m; rest = ones us; spelt = record { units = us; spelt = record { digits = b; member = f }; same = refl }; seen = refl; same = refl }) }; seen = refl; same = refl }) }; seen = refl }
-
--- a count that is less than a block has a length, and it is the last
-last_is : (S : ℕ → Type 0) (n : ℕ) → S n → n < 16384 → (cs : List Chunk) × Header S (last n) cs
-last_is S n h w = ⊎_elim (λ a. (ones (0 ∷ bits 7 n), header_few_is S n (bits 7 n) (record { member = h; below = a }) (bits_are 7 n (omega arith)))) (λ a. (ones (1 ∷ 0 ∷ bits 14 n), header_many_is S n (bits 14 n) (record { member = h; least = a; below = w }) (bits_are 14 n (omega arith)))) (cases_lt n 128)
-
--- Behind the first bits, what is left is a number.
-pub header_few : (R : Fielding) (S : ℕ → Type 0) → Carries R (Map last (Plain (InSet 7 (Few S)))) (Header S) (0 ∷ [])
-header_few R S = carries_both (carries_map (fork_zero R)) (same_carries R (same_flip (map_map (λ n. refl))))
-
-pub header_many : (R : Fielding) (S : ℕ → Type 0) → Carries R (Map last (Plain (InSet 14 (Many S)))) (Header S) (1 ∷ 0 ∷ [])
-header_many R S = carries_both (carries_both (carries_map (fork_one R)) (carries_map (carries_map (fork_zero R)))) (same_carries R (many S))
-  where
-    many : (S : ℕ → Type 0) → Same (Map last (Plain (InSet 14 (Many S)))) (Map length_of (Map inr (Map inl (Plain (InSet 14 (Many S))))))
-    many S = record {
-      to = λ v cs m. record { source = inr (inl m.source); spelt = record { source = inl m.source; spelt = record { source = m.source; spelt = m.spelt; seen = refl }; seen = refl }; seen = m.seen };
-      from = λ v cs m. record { source = m.spelt.spelt.source; spelt = m.spelt.spelt.spelt; seen = m.seen ∙ ap length_of m.spelt.seen ∙ ap (λ (x : ℕ ⊎ ℕ). length_of (inr x)) m.spelt.spelt.seen };
-    }
-
-pub header_blocks : (R : Fielding) (S : ℕ → Type 0) → Carries R (Map fragment (Plain (InSet 6 (Blocks S)))) (Header S) (1 ∷ 1 ∷ [])
-header_blocks R S = carries_both (carries_both (carries_map (fork_one R)) (carries_map (carries_map (fork_one R)))) (same_carries R (blocks S))
-  where
-    blocks : (S : ℕ → Type 0) → Same (Map fragment (Plain (InSet 6 (Blocks S)))) (Map length_of (Map inr (Map inr (Plain (InSet 6 (Blocks S))))))
-    blocks S = record {
-      to = λ v cs m. record { source = inr (inr m.source); spelt = record { source = inr m.source; spelt = record { source = m.source; spelt = m.spelt; seen = refl }; seen = refl }; seen = m.seen };
-      from = λ v cs m. record { source = m.spelt.spelt.source; spelt = m.spelt.spelt.spelt; seen = m.seen ∙ ap length_of m.spelt.seen ∙ ap (λ (x : ℕ ⊎ ℕ). length_of (inr x)) m.spelt.spelt.seen };
-    }
+use Rattle.asn_rules.proofs.Headers.{Tells, header_tells, header_lawful, block_cases, header_blocks_is, last_is}
 
 -- Lengths of lists.
 pub row_length : {A : Type 0} (L : A → List Chunk → Type 0) (n : ℕ) (vs : List A) (cs : List Chunk) → Row L n vs cs → length vs ≡ n
 row_length L zero vs cs h = ap length h.same
 row_length L (suc n) vs cs h = ap length h.seen ∙ ap suc (row_length L n h.source.1 h.spelt.second h.spelt.follows)
 
+-- lists in two parts of the same lengths
 same_halves : {A : Type 0} (a b c d : List A) → length a ≡ length b → a ++ c ≡ b ++ d → (a ≡ b) × (c ≡ d)
 same_halves [] [] c d l e = (refl, e)
 same_halves [] (y ∷ b) c d l e = absurd (omega arith)
@@ -119,6 +32,7 @@ same_halves (x ∷ a) (y ∷ b) c d l e =
     let f = h.0 in
     (cc, h.1)
 
+-- lengths of two parts
 together_length : {A : Type 0} (a b : List A) → length (a ++ b) ≡ length a + length b
 together_length a b = length-append a b
 
@@ -140,6 +54,7 @@ abbrev Counts : Length → ℕ → Type 0
 Counts (last n) k = (k ≡ n) × (n < 16384)
 Counts (fragment m) k = (1 ≤ m) × (m ≤ 4) × ((r : ℕ) × (16384 * m + r ≡ k) × (m < 4 → r < 16384))
 
+-- a length and the items behind it
 body_counts : {A : Type 0} (L : A → List Chunk → Type 0) (f : ℕ) (S : ℕ → Type 0) (l : Length) (ws : List A) (ds : List Chunk) → Tells S l → Body L (Within L f) S l ws ds → Counts l (length ws)
 body_counts L f S (last n) ws ds t b = (row_length L n ws ds b, t.1)
 body_counts L f S (fragment m) ws ds t b =
@@ -147,6 +62,7 @@ body_counts L f S (fragment m) ws ds t b =
     let r = row_length L (16384 * m) b.source.0 b.spelt.first b.spelt.spelt in
     (t.some, t.most, (length b.source.1, sym (ap length b.seen ∙ together_length b.source.0 b.source.1 ∙ ap (λ (x : ℕ). x + length b.source.1) r), c.largest))
 
+-- a count has one first length
 one_length : (l k : Length) (n : ℕ) → Counts l n → Counts k n → l ≡ k
 one_length (last m) (last n) k a b = ap last (sym a.0 ∙ b.0)
 one_length (last m) (fragment n) k a b = absurd (omega (arith, a.0, a.1, b.0, b.2.1))
@@ -156,6 +72,7 @@ one_length (fragment m) (fragment n) k a b = ap fragment (blocks m n k a b)
     blocks : (m n k : ℕ) → Counts (fragment m) k → Counts (fragment n) k → m ≡ n
     blocks m n k a b = ⊎_elim (λ h. (let g : a.2.0 < 16384 = a.2.2 (omega (arith, b.1)) in absurd (omega (arith, a.2.1, b.2.1)))) (λ h. ⊎_elim (λ f. (let g : b.2.0 < 16384 = b.2.2 (omega (arith, a.1)) in absurd (omega (arith, a.2.1, b.2.1)))) (λ f. omega arith) (cases_lt n m)) (cases_lt m n)
 
+-- what stands behind a length is one or parts
 body_lawful : {A : Type 0} {L : A → List Chunk → Type 0} → Lawful L → (f : ℕ) (S : ℕ → Type 0) → ((m : ℕ) → Lawful (Within L f (Left S m))) → (l : Length) → Lawful (Body L (Within L f) S l)
 body_lawful l f S again (last n) = row_lawful l n
 body_lawful {A} {L} l f S again (fragment m) = map_lawful_on once (then_lawful (row_lawful l (16384 * m)) (λ _. again m))
@@ -165,6 +82,7 @@ body_lawful {A} {L} l f S again (fragment m) = map_lawful_on once (then_lawful (
         let h = same_halves a.0 b.0 a.1 b.1 (row_length L (16384 * m) a.0 p.first p.spelt ∙ sym (row_length L (16384 * m) b.0 q.first q.spelt)) e in
         λ i. (h.0 i, h.1 i)
 
+-- with a bound on the lengths
 within_lawful : {A : Type 0} {L : A → List Chunk → Type 0} → Lawful L → (f : ℕ) (S : ℕ → Type 0) → Lawful (Within L f S)
 within_lawful l zero S = record { law = λ v w x y p q. absurd p }
 within_lawful {A} {L} l (suc f) S = map_lawful_on once (then_lawful (header_lawful S) (body_lawful l f S (λ m. within_lawful l f (Left S m))))
@@ -181,13 +99,16 @@ body_more : {A : Type 0} (L : A → List Chunk → Type 0) (G H : (ℕ → Type 
 body_more L G H S f (last n) vs cs h = h
 body_more L G H S f (fragment m) vs cs h = record { source = h.source; spelt = record { first = h.spelt.first; second = h.spelt.second; spelt = h.spelt.spelt; follows = f m h.source.1 h.spelt.second h.spelt.follows; whole = h.spelt.whole }; seen = h.seen }
 
+-- a length and what stands behind it
 once_more : {A : Type 0} (L : A → List Chunk → Type 0) (G H : (ℕ → Type 0) → List A → List Chunk → Type 0) (S : ℕ → Type 0) → ((m : ℕ) (vs : List A) (cs : List Chunk) → G (Left S m) vs cs → H (Left S m) vs cs) → (vs : List A) (cs : List Chunk) → Once L G S vs cs → Once L H S vs cs
 once_more L G H S f vs cs h = record { source = h.source; spelt = record { first = h.spelt.first; second = h.spelt.second; spelt = h.spelt.spelt; follows = body_more L G H S f h.source.0 h.source.1 h.spelt.second h.spelt.follows; whole = h.spelt.whole }; seen = h.seen }
 
+-- with one length more
 within_more : {A : Type 0} (L : A → List Chunk → Type 0) (f : ℕ) (S : ℕ → Type 0) (vs : List A) (cs : List Chunk) → Within L f S vs cs → Within L (suc f) S vs cs
 within_more L zero S vs cs h = absurd h
 within_more L (suc f) S vs cs h = once_more L (Within L f) (Within L (suc f)) S (λ m ws ds g. within_more L f (Left S m) ws ds g) vs cs h
 
+-- with k lengths more
 within_plus : {A : Type 0} (L : A → List Chunk → Type 0) (k f : ℕ) (S : ℕ → Type 0) (vs : List A) (cs : List Chunk) → Within L f S vs cs → Within L (k + f) S vs cs
 within_plus {A} L zero f S vs cs h =
     let e : f ≡ 0 + f = omega arith in
@@ -196,6 +117,7 @@ within_plus {A} L (suc k) f S vs cs h =
     let e : suc (k + f) ≡ suc k + f = omega arith in
     subst (λ (n : ℕ). Within L n S vs cs) e (within_more L (k + f) S vs cs (within_plus L k f S vs cs h))
 
+-- items under their general length are one or part
 pub general_lawful : {A : Type 0} {L : A → List Chunk → Type 0} → Lawful L → (S : ℕ → Type 0) → Lawful (General L S)
 general_lawful {A} {L} l S = record {
   law = λ v w x y p q.
@@ -224,6 +146,7 @@ general_once {A} L S = record { to = to; from = from }
     from : (vs : List A) (cs : List Chunk) → General L S vs cs → Once L (General L) S vs cs
     from vs cs h = open_up h.lengths vs cs h.spelt
 
+-- the count of the items is of the set
 pub general_counted : {A : Type 0} {L : A → List Chunk → Type 0} {S : ℕ → Type 0} {vs : List A} {cs : List Chunk} → General L S vs cs → S (length vs)
 general_counted {L = L} {S = S} {vs = vs} {cs = cs} h = within_counted L h.lengths S vs cs h.spelt
 
@@ -231,9 +154,11 @@ general_counted {L = L} {S = S} {vs = vs} {cs = cs} h = within_counted L h.lengt
 then_inhabited_at : {A B : Type 0} {L : A → List Chunk → Type 0} {M : A → B → List Chunk → Type 0} (a : A) (x : List Chunk) → L a x → Inhabited (M a) → Inhabited (Then L M)
 then_inhabited_at a x l i = record { value = (a, i.value); chunks = x ++ i.chunks; spelt = record { first = x; second = i.chunks; spelt = l; follows = i.spelt; whole = refl } }
 
+-- a fragment, and what stands behind it
 part_inhabited : {A : Type 0} {L : A → List Chunk → Type 0} {S : ℕ → Type 0} → Inhabited L → (m : ℕ) → Inhabited (General L (Left S m)) → Inhabited (Body L (General L) S (fragment m))
 part_inhabited i m j = map_inhabited (then_inhabited (row_inhabited i (16384 * m)) (record { follow = λ a x h. j }))
 
+-- some items have a general length, by their count
 inhabited_within : {A : Type 0} {L : A → List Chunk → Type 0} → Inhabited L → (f : ℕ) (S : ℕ → Type 0) (n : ℕ) → n < f → S n → Inhabited (General L S)
 inhabited_within i zero S n w h = absurd (omega arith)
 inhabited_within {A} {L} i (suc f) S n w h = ⊎_elim few (λ a. blocks (block_cases n a) (λ m r b. inhabited_within i f (Left S m) r b)) (cases_lt n 16384)
@@ -249,17 +174,11 @@ inhabited_within {A} {L} i (suc f) S n w h = ⊎_elim few (λ a. blocks (block_c
         let b = header_blocks_is S p.0 (bits 6 p.0) (record { some = p.2; most = p.3; rest = p.1; left = l }) (bits_are 6 p.0 (omega (arith, p.3))) in
         same_inhabited (general_once L S) (map_inhabited (then_inhabited_at {M = Body L (General L) S} (fragment p.0) (ones (1 ∷ 1 ∷ bits 6 p.0)) b (part_inhabited i p.0 (again p.0 p.1 (omega (arith, p.2, p.4)) l))))
 
+-- a count of the set has items under their general length
 pub general_inhabited : {A : Type 0} {L : A → List Chunk → Type 0} {S : ℕ → Type 0} → Inhabited L → (n : ℕ) → S n → Inhabited (General L S)
 general_inhabited {S = S} i n h = inhabited_within i (suc n) S n (omega arith) h
 
-pub header_inhabited : {S : ℕ → Type 0} (n : ℕ) → S n → Inhabited (Header S)
-header_inhabited {S} n h = ⊎_elim
-    (λ a. (let p = last_is S n h a in record { value = last n; chunks = p.0; spelt = p.1 }))
-    (λ a. (let p = block_cases n a in
-    let b = header_blocks_is S p.0 (bits 6 p.0) (record { some = p.2; most = p.3; rest = p.1; left = record { member = subst (λ (x : ℕ). S x) (sym p.4) h; largest = p.5 } }) (bits_are 6 p.0 (omega (arith, p.3))) in
-    record { value = fragment p.0; chunks = ones (1 ∷ 1 ∷ bits 6 p.0); spelt = b }))
-    (cases_lt n 16384)
-
+-- behind each length something stands
 pub general_follows : {A : Type 0} {L : A → List Chunk → Type 0} (S : ℕ → Type 0) → Inhabited L → Follows (Header S) (Body L (General L) S)
 general_follows {A} {L} S i = record { follow = λ l x h. follow l (header_tells h) }
   where
@@ -267,55 +186,11 @@ general_follows {A} {L} S i = record { follow = λ l x h. follow l (header_tells
     follow (last n) t = row_inhabited i n
     follow (fragment m) t = part_inhabited i m (general_inhabited i t.rest t.left)
 
--- The bits of a length one by one: none has come, a first one that cannot stand there, a second one that cannot.
-pub header_starts : {R : Fielding} {S : ℕ → Type 0} (n : ℕ) → S n → Short R (Header S) []
-header_starts {R} {S} n h = starts (header_inhabited n h)
-  where
-    starts : Inhabited (Header S) → Short R (Header S) []
-    starts i = map_short (fork_short (record { value = i.spelt.source; chunks = i.chunks; spelt = i.spelt.spelt }))
-
-set_some : {k : ℕ} {T : ℕ → Type 0} → Inhabited (Plain (InSet k T)) → Meets T 0 k
-set_some {k} {T} i =
-    let c = i.spelt.spelt in
-    let b = weighted_bound 2 i.spelt.units c.digits.digits in
-    let q = ap (λ (x : ℕ). 2 ^ x) c.digits.count in
-    set_meets 2 k i.value c.member (omega (arith, b, q, c.digits.sum))
-
--- what may stand behind a first 1
-abbrev pub Longer : (ℕ → Type 0) → Type 0
-Longer S = Meets (Many S) 0 14 ⊎ Meets (Blocks S) 0 6
-
-longer_fork : {S : ℕ → Type 0} → Inhabited (Fork (Plain (InSet 14 (Many S))) (Plain (InSet 6 (Blocks S)))) → Longer S
-longer_fork {S} i = go i.value i.chunks i.spelt.side
-  where
-    go : (v : ℕ ⊎ ℕ) (cs : List Chunk) → Branch 0 inl (Plain (InSet 14 (Many S))) v cs ⊎ Branch 1 inr (Plain (InSet 6 (Blocks S))) v cs → Longer S
-    go v cs (inl b) = inl (set_some (record { value = b.value; chunks = b.rest; spelt = b.spelt }))
-    go v cs (inr b) = inr (set_some (record { value = b.value; chunks = b.rest; spelt = b.spelt }))
-
-fork_longer : (S : ℕ → Type 0) → Longer S → Inhabited (Fork (Plain (InSet 14 (Many S))) (Plain (InSet 6 (Blocks S))))
-fork_longer S (inl m) = fork_inhabited_zero (set_inhabited m)
-fork_longer S (inr m) = fork_inhabited_one (set_inhabited m)
-
-pub header_refused_first : {R : Fielding} {S : ℕ → Type 0} → FieldsPart R → (n : ℕ) → S n → (u : ℕ) (us : List ℕ) → (u ≡ 0 → Meets (Few S) 0 7 → ⊥) → (u ≡ 1 → Longer S → ⊥) → Refused R (Header S) (u ∷ us) (length us)
-header_refused_first {R} {S} ok n h u us f g = refused (header_inhabited n h)
-  where
-    refused : Inhabited (Header S) → Refused R (Header S) (u ∷ us) (length us)
-    refused i = map_refused (fork_refused ok (record { value = i.spelt.source; chunks = i.chunks; spelt = i.spelt.spelt }) u us (λ e j. f e (set_some j)) (λ e j. g e (longer_fork j)))
-
--- behind a first 1, what is left is the rest of the fork
-header_one : (R : Fielding) (S : ℕ → Type 0) → Carries R (Map length_of (Map inr (Fork (Plain (InSet 14 (Many S))) (Plain (InSet 6 (Blocks S)))))) (Header S) (1 ∷ [])
-header_one R S = carries_map (fork_one R)
-
-pub header_short_second : {R : Fielding} {S : ℕ → Type 0} → (l : Longer S) → Short R (Header S) (1 ∷ [])
-header_short_second {R} {S} l = carries_short {s = []} (header_one R S) (map_short (map_short (fork_short (fork_longer S l))))
-
-pub header_refused_second : {R : Fielding} {S : ℕ → Type 0} → FieldsPart R → (l : Longer S) → (u : ℕ) (us : List ℕ) → (u ≡ 0 → Meets (Many S) 0 14 → ⊥) → (u ≡ 1 → Meets (Blocks S) 0 6 → ⊥) → Refused R (Header S) (1 ∷ u ∷ us) (length us)
-header_refused_second {R} {S} ok l u us f g = carries_refused {s = u ∷ us} (header_one R S) (map_refused (map_refused (fork_refused ok (fork_longer S l) u us (λ e j. f e (set_some j)) (λ e j. g e (set_some j)))))
-
 -- The answers within the length.
 pub general_short : {A : Type 0} {R : Fielding} {L : A → List Chunk → Type 0} {S : ℕ → Type 0} {us : List ℕ} → Inhabited L → Short R (Header S) us → Short R (General L S) us
 general_short {L = L} {S = S} i h = same_short (general_once L S) (map_short (then_short_first (general_follows S i) h))
 
+-- the length is refused
 pub general_refused : {A : Type 0} {R : Fielding} {L : A → List Chunk → Type 0} {S : ℕ → Type 0} {us : List ℕ} {n : ℕ} → Inhabited L → Refused R (Header S) us n → Refused R (General L S) us n
 general_refused {L = L} {S = S} i h = same_refused (general_once L S) (map_refused (then_refused_first (general_follows S i) h))
 
@@ -334,12 +209,12 @@ pub general_last : {A : Type 0} {R : Fielding} (L : A → List Chunk → Type 0)
 general_last L S n ok i h = general_behind L S (last n) ok i h
 
 -- Behind the length of m blocks so many items are left, and then a general length.
-pub general_part : {A : Type 0} {R : Fielding} (L : A → List Chunk → Type 0) (S : ℕ → Type 0) (m : ℕ) {us : List ℕ} → FieldsPart R → Inhabited L → Whole R (Header S) (fragment m) us → Carries R (Map together (Then (Row L (16384 * m)) (λ _. General L (Left S m)))) (General L S) us
-general_part L S m ok i h = general_behind L S (fragment m) ok i h
+pub general_fragment : {A : Type 0} {R : Fielding} (L : A → List Chunk → Type 0) (S : ℕ → Type 0) (m : ℕ) {us : List ℕ} → FieldsPart R → Inhabited L → Whole R (Header S) (fragment m) us → Carries R (Map together (Then (Row L (16384 * m)) (λ _. General L (Left S m)))) (General L S) us
+general_fragment L S m ok i h = general_behind L S (fragment m) ok i h
 
 -- Behind m blocks of items a general length is left.
 pub general_blocks : {A : Type 0} {R : Fielding} (L : A → List Chunk → Type 0) (S : ℕ → Type 0) (m : ℕ) {vs : List A} {us ws : List ℕ} → FieldsPart R → Inhabited L → Lawful L → Whole R (Header S) (fragment m) us → Whole R (Row L (16384 * m)) vs ws → Carries R (Map (λ (rest : List A). vs ++ rest) (General L (Left S m))) (General L S) (us ++ ws)
-general_blocks {A} {R} L S m {vs} {us} {ws} ok i law h w = carries_both (general_part L S m ok i h) (carries_left (same_flip (map_map (λ rest. refl))) (carries_map (carries_behind (λ _. General L (Left S m)) ok (row_lawful law (16384 * m)) (rests (header_tells h.spelt)) w)))
+general_blocks {A} {R} L S m {vs} {us} {ws} ok i law h w = carries_both (general_fragment L S m ok i h) (carries_left (same_flip (map_map (λ rest. refl))) (carries_map (carries_behind (λ _. General L (Left S m)) ok (row_lawful law (16384 * m)) (rests (header_tells h.spelt)) w)))
   where
     rests : Blocks S m → Follows (Row L (16384 * m)) (λ _. General L (Left S m))
     rests b = record { follow = λ a x g. general_inhabited i b.rest b.left }
@@ -350,43 +225,51 @@ general_last_spells {A} {R} {L} {S} {n} {vs} {us} {r} {s} ok i h g =
     let t = taken h in
     subst (λ (l : List ℕ). Spells R (General L S) vs l s) (sym t.2) ((general_last L S n ok i t.1).reads vs r s g)
 
+-- the last items want more
 pub general_last_short : {A : Type 0} {R : Fielding} (L : A → List Chunk → Type 0) {S : ℕ → Type 0} {n : ℕ} {us r : List ℕ} → FieldsPart R → Inhabited L → Spells R (Header S) (last n) us r → Short R (Row L n) r → Short R (General L S) us
 general_last_short {A} {R} L {S} {n} ok i h g =
     let t = taken h in
     subst (λ (l : List ℕ). Short R (General L S) l) (sym t.2) (carries_short (general_last L S n ok i t.1) g)
 
+-- the last items are refused
 pub general_last_refused : {A : Type 0} {R : Fielding} (L : A → List Chunk → Type 0) {S : ℕ → Type 0} {n k : ℕ} {us r : List ℕ} → FieldsPart R → Inhabited L → Spells R (Header S) (last n) us r → Refused R (Row L n) r k → Refused R (General L S) us k
 general_last_refused {A} {R} L {S} {n} {k} ok i h g =
     let t = taken h in
     subst (λ (l : List ℕ). Refused R (General L S) l k) (sym t.2) (carries_refused (general_last L S n ok i t.1) g)
 
+-- behind a fragment something stands
 rest_follows : {A : Type 0} {R : Fielding} {L : A → List Chunk → Type 0} {S : ℕ → Type 0} {m : ℕ} {us r : List ℕ} → Inhabited L → Spells R (Header S) (fragment m) us r → Follows (Row L (16384 * m)) (λ _. General L (Left S m))
 rest_follows {A} {R} {L} {S} {m} i h = rests (header_tells h.spelt)
   where
     rests : Blocks S m → Follows (Row L (16384 * m)) (λ _. General L (Left S m))
     rests b = record { follow = λ a x g. general_inhabited i b.rest b.left }
 
+-- the items of a fragment want more
 pub general_row_short : {A : Type 0} {R : Fielding} (L : A → List Chunk → Type 0) {S : ℕ → Type 0} {m : ℕ} {us r : List ℕ} → FieldsPart R → Inhabited L → Spells R (Header S) (fragment m) us r → Short R (Row L (16384 * m)) r → Short R (General L S) us
 general_row_short {A} {R} L {S} {m} ok i h g =
     let t = taken h in
-    subst (λ (l : List ℕ). Short R (General L S) l) (sym t.2) (carries_short (general_part L S m ok i t.1) (map_short (then_short_first (rest_follows i h) g)))
+    subst (λ (l : List ℕ). Short R (General L S) l) (sym t.2) (carries_short (general_fragment L S m ok i t.1) (map_short (then_short_first (rest_follows i h) g)))
 
+-- the items of a fragment are refused
 pub general_row_refused : {A : Type 0} {R : Fielding} (L : A → List Chunk → Type 0) {S : ℕ → Type 0} {m k : ℕ} {us r : List ℕ} → FieldsPart R → Inhabited L → Spells R (Header S) (fragment m) us r → Refused R (Row L (16384 * m)) r k → Refused R (General L S) us k
 general_row_refused {A} {R} L {S} {m} {k} ok i h g =
     let t = taken h in
-    subst (λ (l : List ℕ). Refused R (General L S) l k) (sym t.2) (carries_refused (general_part L S m ok i t.1) (map_refused (then_refused_first (rest_follows i h) g)))
+    subst (λ (l : List ℕ). Refused R (General L S) l k) (sym t.2) (carries_refused (general_fragment L S m ok i t.1) (map_refused (then_refused_first (rest_follows i h) g)))
 
+-- a fragment, and what stands behind it
 pub general_rest_spells : {A : Type 0} {R : Fielding} (L : A → List Chunk → Type 0) {S : ℕ → Type 0} {m : ℕ} {vs ws : List A} {us r s t : List ℕ} → FieldsPart R → Inhabited L → Spells R (Header S) (fragment m) us r → Spells R (Row L (16384 * m)) vs r s → Spells R (General L (Left S m)) ws s t → Spells R (General L S) (vs ++ ws) us t
 general_rest_spells {A} {R} L {S} {m} {vs} {ws} {us} {r} {s} {t} ok i h f g =
     let p = taken h in
-    subst (λ (l : List ℕ). Spells R (General L S) (vs ++ ws) l t) (sym p.2) ((general_part L S m ok i p.1).reads (vs ++ ws) r t (map_spells (then_spells f g)))
+    subst (λ (l : List ℕ). Spells R (General L S) (vs ++ ws) l t) (sym p.2) ((general_fragment L S m ok i p.1).reads (vs ++ ws) r t (map_spells (then_spells f g)))
 
+-- what stands behind a fragment wants more
 pub general_rest_short : {A : Type 0} {R : Fielding} (L : A → List Chunk → Type 0) {S : ℕ → Type 0} {m : ℕ} {vs : List A} {us r s : List ℕ} → FieldsPart R → Inhabited L → Lawful L → Spells R (Header S) (fragment m) us r → Spells R (Row L (16384 * m)) vs r s → Short R (General L (Left S m)) s → Short R (General L S) us
 general_rest_short {A} {R} L {S} {m} ok i law h f g =
     let t = taken h in
-    subst (λ (l : List ℕ). Short R (General L S) l) (sym t.2) (carries_short (general_part L S m ok i t.1) (map_short (then_short_second ok (row_lawful law (16384 * m)) f g)))
+    subst (λ (l : List ℕ). Short R (General L S) l) (sym t.2) (carries_short (general_fragment L S m ok i t.1) (map_short (then_short_second ok (row_lawful law (16384 * m)) f g)))
 
+-- what stands behind a fragment is refused
 pub general_rest_refused : {A : Type 0} {R : Fielding} (L : A → List Chunk → Type 0) {S : ℕ → Type 0} {m k : ℕ} {vs : List A} {us r s : List ℕ} → FieldsPart R → Inhabited L → Lawful L → Spells R (Header S) (fragment m) us r → Spells R (Row L (16384 * m)) vs r s → Refused R (General L (Left S m)) s k → Refused R (General L S) us k
 general_rest_refused {A} {R} L {S} {m} {k} ok i law h f g =
     let t = taken h in
-    subst (λ (l : List ℕ). Refused R (General L S) l k) (sym t.2) (carries_refused (general_part L S m ok i t.1) (map_refused (then_refused_second ok (row_lawful law (16384 * m)) f g)))
+    subst (λ (l : List ℕ). Refused R (General L S) l k) (sym t.2) (carries_refused (general_fragment L S m ok i t.1) (map_refused (then_refused_second ok (row_lawful law (16384 * m)) f g)))

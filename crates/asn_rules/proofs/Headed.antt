@@ -27,8 +27,8 @@ pub plain_front : {A : Type 0} {R : Fielding} {C : A → List ℕ → Type 0} {a
 plain_front {R = R} {r = r} s = (s.spelt.units, s.spelt.spelt, s.split ∙ ap (λ c. flat R.spelled c ++ r) s.spelt.same ∙ ap (λ (l : List ℕ). l ++ r) (flat-ones R.spelled s.spelt.units))
 
 -- within the length
-free_in_length : {R : Fielding} {k : Kind} {C : ℕ → List ℕ → Type 0} {us : List ℕ} → Headed R k C → IsLive R (Plain C) us → ((n : ℕ) → C n us → ⊥) → InField R k us
-free_in_length {R} {k} {C} {us} w live never = go (plain_begins live).0 (plain_begins live).1 (plain_begins live).2
+begun_in_length : {R : Fielding} {k : Kind} {C : ℕ → List ℕ → Type 0} {us : List ℕ} → Headed R k C → IsLive R (Plain C) us → ((n : ℕ) → C n us → ⊥) → InField R k us
+begun_in_length {R} {k} {C} {us} w live never = go (plain_begins live).0 (plain_begins live).1 (plain_begins live).2
   where
     go : (n : ℕ) (t : List ℕ) → C n (us ++ t) → InField R k us
     go n [] c = absurd (never n (rw append-nil at c))
@@ -38,8 +38,9 @@ free_in_length {R} {k} {C} {us} w live never = go (plain_begins live).0 (plain_b
         let f = w.every (replicate n 0) (us ++ u ∷ t) d in
         record { content = replicate n 0; contents = f.0; next = u; more = t ++ replicate n 0; split = sym (f.1 ∙ append_assoc us (u ∷ t) (replicate n 0)) }
 
+-- the length is not over
 pub headed_short_length : {A : Type 0} {R : Fielding} {k : Kind} {C : ℕ → List ℕ → Type 0} {D : A → List ℕ → Type 0} {us : List ℕ} → FieldsPart R → Headed R k C → SomeContent D → Short R (Plain C) us → Short R (Sealed k D) us
-headed_short_length {R = R} {C = C} {us = us} ok w i s = sealed_short ok i (free_in_length w s.live (λ n c. s.none n [] (let p = plain_spells R {C = C} n us [] c in rw append-nil at p)))
+headed_short_length {R = R} {C = C} {us = us} ok w i s = sealed_short ok i (begun_in_length w s.live (λ n c. s.none n [] (let p = plain_spells R {C = C} n us [] c in rw append-nil at p)))
 
 -- within the content
 pub headed_short_content : {A : Type 0} {R : Fielding} {k : Kind} {C : ℕ → List ℕ → Type 0} {D : A → List ℕ → Type 0} {us r : List ℕ} {n : ℕ} → FieldsPart R → Headed R k C → SomeContent D → Spells R (Plain C) n us r → length r < n → Short R (Sealed k D) us
@@ -61,7 +62,7 @@ headed_refused_length {A} {R} {k} {C} {D} {us} {n} ok w i s = rw s.split (rw (�
     front m h r c e = s.none m r (rw e (plain_spells R m h r c))
 
     free : InField R k s.before
-    free = free_in_length w s.live (λ m c. front m s.before (s.unit ∷ s.after) c s.split)
+    free = begun_in_length w s.live (λ m c. front m s.before (s.unit ∷ s.after) c s.split)
 
     over : (c t : List ℕ) → IsContent R k c → (s.before ++ s.unit ∷ []) ++ t ≡ field_units R.spelled k c → ⊥
     over c t f e =
@@ -85,6 +86,7 @@ headed_spells {R = R} {k = k} {C = C} {us = us} {a = a} c s w h e l d =
     let g : us ≡ field_units R.spelled k c ++ s = p.2 ∙ ap (λ (x : List ℕ). p.0 ++ x) e ∙ sym (append_assoc p.0 c s) ∙ ap (λ (x : List ℕ). x ++ s) (sym f.1) in
     rw g (sealed_spells R a c s d f.0)
 
+-- the field has come, and its content is none: refused at its last unit
 pub headed_refused_content : {A : Type 0} {R : Fielding} {k : Kind} {C : ℕ → List ℕ → Type 0} {D : A → List ℕ → Type 0} {us r : List ℕ} {n : ℕ} (c s : List ℕ) → FieldsPart R → Headed R k C → SomeContent D → Spells R (Plain C) n us r → r ≡ c ++ s → length c ≡ n → ((a : A) → D a c → ⊥) → Refused R (Sealed k D) us (length s)
 headed_refused_content {A} {R} {k} {C} {D} {us} {r} {n} c s ok w i h e l never =
     let p = plain_front h in
@@ -97,6 +99,7 @@ headed_refused_content {A} {R} {k} {C} {D} {us} {r} {n} c s ok w i h e l never =
         let d : us ≡ q.0 ++ q.1 ∷ s = g ∙ ap (λ (x : List ℕ). x ++ s) (sym q.2) ∙ append_assoc q.0 (q.1 ∷ []) s in
         rw d (sealed_refused_content ok i c q.0 q.1 s f q.2 never)
 
+-- parted units are not one, whatever follows
 parted_ones : (xs ys s t : List ℕ) → Parted (ones xs) (ones ys) → xs ++ s ≡ ys ++ t → ⊥
 parted_ones [] ys s t p e = absurd p
 parted_ones (x ∷ xs) [] s t p e = absurd p

@@ -15,12 +15,15 @@ use Rattle.asn_rules.proofs.Forks.{same_spells, same_short, same_refused}
 
 -- ---- given units
 
+-- there is one list of units
 pub fixed_code : (zs : List ℕ) → Code (AreUnits zs)
 fixed_code zs = record { law = λ a b us vs p q. inl (refl, p.same ∙ sym q.same) }
 
+-- as spellings
 pub fixed_lawful : (zs : List ℕ) → Lawful (Fixed zs)
 fixed_lawful zs = plain_lawful (fixed_code zs)
 
+-- they are spelt
 pub fixed_inhabited : (zs : List ℕ) → Inhabited (Fixed zs)
 fixed_inhabited zs = plain_inhabited tt zs (record { same = refl })
 
@@ -30,6 +33,7 @@ pub record Matching (zs us rest left : List ℕ) : Type 0 where
   pub all : zs ≡ come ++ left
   pub split : us ≡ come ++ rest
 
+-- no unit has come
 pub matching_starts : (zs us : List ℕ) → Matching zs us us zs
 matching_starts zs us = record { come = []; all = refl; split = refl }
 
@@ -41,11 +45,13 @@ matching_more {after = after} {more = more} {u = u} f l e = record {
   split = f.split ∙ ap (λ (t : List ℕ). f.come ++ t) e ∙ sym (append_assoc f.come (u ∷ []) after);
 }
 
+-- no unit is left: all have come
 pub matching_done : {zs us rest left : List ℕ} (R : Fielding) → Matching zs us rest left → left ≡ [] → Spells R (Fixed zs) tt us rest
 matching_done {zs} {us} {rest} {left} R f e =
     let c : f.come ≡ zs = sym (append-nil f.come) ∙ ap (λ (t : List ℕ). f.come ++ t) (sym e) ∙ sym f.all in
     subst (λ (l : List ℕ). Spells R (Fixed zs) tt l rest) (sym f.split) (plain_spells R tt f.come rest (record { same = c }))
 
+-- what begins the units and is not all wants more
 fixed_begun : {R : Fielding} → FieldsPart R → (zs come : List ℕ) (z : ℕ) (more : List ℕ) → zs ≡ come ++ z ∷ more → Short R (Fixed zs) come
 fixed_begun ok zs come z more e = plain_short ok (fixed_code zs) tt come z more (record { same = sym e })
 
@@ -71,22 +77,27 @@ repeats_more z {left = suc n} f p e =
     let d : suc n - 1 ≡ n = omega arith in
     rw d (matching_more f refl e)
 
+-- all have come
 pub repeats_done : (z : ℕ) {zs us rest : List ℕ} {left : ℕ} (R : Fielding) → Matching zs us rest (replicate left z) → left ≤ 0 → Spells R (Fixed zs) tt us rest
 repeats_done z {left = zero} R f p = matching_done R f refl
 repeats_done z {left = suc n} R f p = absurd (omega arith)
 
+-- none comes and some are left
 pub repeats_waits : (z : ℕ) {zs us rest : List ℕ} {left : ℕ} {R : Fielding} → FieldsPart R → Matching zs us rest (replicate left z) → 0 < left → rest ≡ [] → Short R (Fixed zs) us
 repeats_waits z {left = zero} ok f p e = absurd (omega arith)
 repeats_waits z {left = suc n} ok f p e = matching_waits ok f refl e
 
+-- another comes
 pub repeats_stops : (z : ℕ) {zs us rest after : List ℕ} {u left : ℕ} {R : Fielding} → FieldsPart R → Matching zs us rest (replicate left z) → 0 < left → rest ≡ u ∷ after → u ≢ z → Refused R (Fixed zs) us (length after)
 repeats_stops z {left = zero} ok f p e other = absurd (omega arith)
 repeats_stops z {left = suc n} ok f p e other = matching_stops ok f refl e other
 
 -- ---- what fills up a spelling
+-- a value has one spelling
 one_spelling : {A : Type 0} {L : A → List Chunk → Type 0} → Lawful L → (a : A) (x y : List Chunk) → L a x → L a y → x ≡ y
 one_spelling law a x y p q = ⊎_elim (λ e. e.1) (λ e. absurd (e.0 refl)) (law.law a a x y p q)
 
+-- what fills up a spelling of a value is one
 pub fills_lawful : {A : Type 0} {R : Fielding} {fill : ℕ → List ℕ} {L : A → List Chunk → Type 0} → Lawful L → (a : A) → Lawful (Fills R fill L a)
 fills_lawful {A} {R} {fill} {L} law a = record {
   law = λ v w x y p q.
@@ -95,6 +106,7 @@ fills_lawful {A} {R} {fill} {L} law a = record {
       (fixed_lawful (fill (length (flat R.spelled q.chunks)))).law v w x y z q.behind;
 }
 
+-- there is always what fills up
 pub fills_follow : {A : Type 0} {R : Fielding} {fill : ℕ → List ℕ} {L : A → List Chunk → Type 0} → Follows L (Fills R fill L)
 fills_follow {A} {R} {fill} {L} = record { follow = λ a x h. (let i = fixed_inhabited (fill (length (flat R.spelled x))) in record { value = i.value; chunks = i.chunks; spelt = record { chunks = x; spelt = h; behind = i.spelt } }) }
 
@@ -108,27 +120,35 @@ fills_same {A} {R} {fill} {L} {a} {us} {r} law h = record {
     count : length us - length r ≡ length (flat R.spelled h.chunks)
     count = omega (arith, ap length h.split, length-append (flat R.spelled h.chunks) r)
 
+-- a value with nothing beside it
 first_once : {A : Type 0} (p q : A × ⊤) → first_of p ≡ first_of q → p ≡ q
 first_once p q e = λ i. (e i, tt)
 
+-- filled spellings are one or part
 pub padded_lawful : {A : Type 0} {L : A → List Chunk → Type 0} (R : Fielding) (fill : ℕ → List ℕ) → Lawful L → Lawful (Padded R fill L)
 padded_lawful R fill law = map_lawful first_once (then_lawful law (λ a. fills_lawful law a))
 
+-- some value is spelt, so some value is spelt and filled up
 pub padded_inhabited : {A : Type 0} {L : A → List Chunk → Type 0} (R : Fielding) (fill : ℕ → List ℕ) → Inhabited L → Inhabited (Padded R fill L)
 padded_inhabited R fill i = map_inhabited (then_inhabited i fills_follow)
 
 -- ---- the answers
+-- the spelling wants more
 pub padded_short : {A : Type 0} {R : Fielding} {fill : ℕ → List ℕ} {L : A → List Chunk → Type 0} {us : List ℕ} → Short R L us → Short R (Padded R fill L) us
 padded_short h = map_short (then_short_first fills_follow h)
 
+-- the spelling is refused
 pub padded_refused : {A : Type 0} {R : Fielding} {fill : ℕ → List ℕ} {L : A → List Chunk → Type 0} {us : List ℕ} {n : ℕ} → Refused R L us n → Refused R (Padded R fill L) us n
 padded_refused h = map_refused (then_refused_first fills_follow h)
 
+-- the spelling has come, and what fills it up
 pub padded_spells : {A : Type 0} {R : Fielding} {fill : ℕ → List ℕ} {L : A → List Chunk → Type 0} {a : A} {us r s : List ℕ} → Lawful L → Spells R L a us r → Spells R (Fixed (fill (length us - length r))) tt r s → Spells R (Padded R fill L) a us s
 padded_spells law h z = map_spells (then_spells h (same_spells (fills_same law h) z))
 
+-- what fills it up wants more
 pub padded_short_fill : {A : Type 0} {R : Fielding} {fill : ℕ → List ℕ} {L : A → List Chunk → Type 0} {a : A} {us r : List ℕ} → FieldsPart R → Lawful L → Spells R L a us r → Short R (Fixed (fill (length us - length r))) r → Short R (Padded R fill L) us
 padded_short_fill ok law h z = map_short (then_short_second ok law h (same_short (fills_same law h) z))
 
+-- what fills it up is refused
 pub padded_refused_fill : {A : Type 0} {R : Fielding} {fill : ℕ → List ℕ} {L : A → List Chunk → Type 0} {a : A} {us r : List ℕ} {n : ℕ} → FieldsPart R → Lawful L → Spells R L a us r → Refused R (Fixed (fill (length us - length r))) r n → Refused R (Padded R fill L) us n
 padded_refused_fill ok law h z = map_refused (then_refused_second ok law h (same_refused (fills_same law h) z))

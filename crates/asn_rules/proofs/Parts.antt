@@ -1,8 +1,8 @@
--- Languages of single parts: another view of the values, plain units, sealed fields, rows.
+-- Languages of single parts: another view of the values, nothing, plain units, sealed fields.
 use Rattle.std.proofs.Common.{◌≡◌, ◌≢◌, ℕ, ◌⊎◌, inl, inr, ⊎_elim, List, [], ◌∷◌, ◌++◌, length, refl, sym, ap, ◌∙◌, subst, append_assoc}
 use Rattle.std.proofs.lemmas.List.{append-nil}
 use Rattle.asn_rules.proofs.Answers.{live_within, done_stays}
-use Rattle.asn_rules.proofs.Chunks.{FieldsPart, free_not_whole, front_whole, field_front}
+use Rattle.asn_rules.proofs.Chunks.{FieldsPart, whole_not_begun, front_whole, field_front}
 use Rattle.asn_rules.proofs.Flat.{flat-ones}
 use Rattle.asn_rules.proofs.Lists.{Within, Beyond, cut, not_last, lists_same_or_not, last_of}
 use Rattle.asn_rules.proofs.Then.{one_front}
@@ -54,27 +54,35 @@ map_lawful {A} {B} {f} {L} once l = record { law = λ v w x y a b. go v w x y a 
     go v w x y a b (inl p) = inl (a.seen ∙ ap f p.0 ∙ sym b.seen, p.1)
     go v w x y a b (inr p) = inr (λ e. p.0 (once a.source b.source (sym a.seen ∙ e ∙ b.seen)), p.1)
 
+-- some value is spelt under the view
 pub map_inhabited : {A B : Type 0} {f : A → B} {L : A → List Chunk → Type 0} → Inhabited L → Inhabited (Map f L)
 map_inhabited {f = f} i = record { value = f i.value; chunks = i.chunks; spelt = record { source = i.value; spelt = i.spelt; seen = refl } }
 
+-- a front, under the view
 pub map_spells : {A B : Type 0} {R : Fielding} {f : A → B} {L : A → List Chunk → Type 0} {a : A} {us r : List ℕ} → Spells R L a us r → Spells R (Map f L) (f a) us r
 map_spells {a = a} h = record { chunks = h.chunks; spelt = record { source = a; spelt = h.spelt; seen = refl }; contents = h.contents; split = h.split }
 
+-- a front under the view is one of the language
 pub map_source : {A B : Type 0} {R : Fielding} {f : A → B} {L : A → List Chunk → Type 0} {b : B} {us r : List ℕ} → Spells R (Map f L) b us r → (a : A) × Spells R L a us r × (b ≡ f a)
 map_source h = (h.spelt.source, record { chunks = h.chunks; spelt = h.spelt.spelt; contents = h.contents; split = h.split }, h.spelt.seen)
 
+-- what begins a spelling begins one under the view
 pub map_live : {A B : Type 0} {R : Fielding} {f : A → B} {L : A → List Chunk → Type 0} {us : List ℕ} → IsLive R L us → IsLive R (Map f L) us
 map_live {f = f} h = record { value = f h.value; chunks = h.chunks; spelt = record { source = h.value; spelt = h.spelt; seen = refl }; front = h.front }
 
+-- and the other way round
 pub map_dead : {A B : Type 0} {R : Fielding} {f : A → B} {L : A → List Chunk → Type 0} {us : List ℕ} → IsLive R (Map f L) us → IsLive R L us
 map_dead h = record { value = h.spelt.source; chunks = h.chunks; spelt = h.spelt.spelt; front = h.front }
 
+-- no front, so none under the view
 map_none : {A B : Type 0} {R : Fielding} {f : A → B} {L : A → List Chunk → Type 0} {us : List ℕ} → NoSpelling R L us → NoSpelling R (Map f L) us
 map_none n = λ v r h. n (map_source h).0 r (map_source h).1
 
+-- more is wanted under the view too
 pub map_short : {A B : Type 0} {R : Fielding} {f : A → B} {L : A → List Chunk → Type 0} {us : List ℕ} → Short R L us → Short R (Map f L) us
 map_short h = record { live = map_live h.live; none = map_none h.none }
 
+-- refused under the view too, at the same unit
 pub map_refused : {A B : Type 0} {R : Fielding} {f : A → B} {L : A → List Chunk → Type 0} {us : List ℕ} {n : ℕ} → Refused R L us n → Refused R (Map f L) us n
 map_refused h = record { before = h.before; unit = h.unit; after = h.after; split = h.split; left_is = h.left_is; live = map_live h.live; dead = λ g. h.dead (map_dead g); none = map_none h.none }
 
@@ -82,9 +90,11 @@ map_refused h = record { before = h.before; unit = h.unit; after = h.after; spli
 pub nothing_lawful : {A : Type 0} (a : A) → Lawful (Nothing a)
 nothing_lawful a = record { law = λ v w x y p q. inl (p.same ∙ sym q.same, p.empty ∙ sym q.empty) }
 
+-- the one value is spelt
 pub nothing_inhabited : {A : Type 0} (a : A) → Inhabited (Nothing a)
 nothing_inhabited a = record { value = a; chunks = []; spelt = record { same = refl; empty = refl } }
 
+-- nothing stands in front of any units
 pub nothing_spells : {A : Type 0} (R : Fielding) (a : A) (us : List ℕ) → Spells R (Nothing a) a us us
 nothing_spells R a us = record { chunks = []; spelt = record { same = refl; empty = refl }; contents = tt; split = refl }
 
@@ -105,6 +115,7 @@ front_ones R (v ∷ vs) (u ∷ us) h =
 pub record Code {A : Type 0} (C : A → List ℕ → Type 0) : Type 0 where
   pub law : (a b : A) (us vs : List ℕ) → C a us → C b vs → ((a ≡ b) × (us ≡ vs)) ⊎ ((a ≢ b) × Parted (ones us) (ones vs))
 
+-- the plain spellings of a code are one or part
 pub plain_lawful : {A : Type 0} {C : A → List ℕ → Type 0} → Code C → Lawful (Plain C)
 plain_lawful {A} {C} code = record { law = λ v w x y p q. go v w x y p q (code.law v w p.units q.units p.spelt q.spelt) }
   where
@@ -112,12 +123,15 @@ plain_lawful {A} {C} code = record { law = λ v w x y p q. go v w x y p q (code.
     go v w x y p q (inl e) = inl (e.0, p.same ∙ ap ones e.1 ∙ sym q.same)
     go v w x y p q (inr e) = inr (e.0, rw (p.same, q.same) e.1)
 
+-- a value with a code is spelt
 pub plain_inhabited : {A : Type 0} {C : A → List ℕ → Type 0} (a : A) (us : List ℕ) → C a us → Inhabited (Plain C)
 plain_inhabited a us c = record { value = a; chunks = ones us; spelt = record { units = us; spelt = c; same = refl } }
 
+-- a code in front of units is a front
 pub plain_spells : {A : Type 0} (R : Fielding) {C : A → List ℕ → Type 0} (a : A) (us r : List ℕ) → C a us → Spells R (Plain C) a (us ++ r) r
 plain_spells R a us r c = record { chunks = ones us; spelt = record { units = us; spelt = c; same = refl }; contents = contents-ones R us; split = ap (λ (l : List ℕ). l ++ r) (sym (flat-ones R.spelled us)) }
 
+-- what begins a code and is none wants more
 pub plain_short : {A : Type 0} {R : Fielding} {C : A → List ℕ → Type 0} → FieldsPart R → Code C → (a : A) (us : List ℕ) (u : ℕ) (t : List ℕ) → C a (us ++ u ∷ t) → Short R (Plain C) us
 plain_short {R = R} ok code a us u t c = short_within ok (plain_lawful code) a (ones (us ++ u ∷ t)) (record { units = us ++ u ∷ t; spelt = c; same = refl }) (contents-ones R (us ++ u ∷ t)) (record { next = u; more = t; split = sym (flat-ones R.spelled (us ++ u ∷ t)) })
 
@@ -127,6 +141,7 @@ plain_begins {A} {R} {C} {us} h =
     let g = front_ones R h.spelt.units us (rw h.spelt.same at h.front) in
     (h.value, g.0, rw g.1 at h.spelt.spelt)
 
+-- a unit with which nothing begins a code is refused
 pub plain_refused : {A : Type 0} {R : Fielding} {C : A → List ℕ → Type 0} → FieldsPart R → (before : List ℕ) (u : ℕ) (after : List ℕ) → Short R (Plain C) before → ((a : A) (t : List ℕ) → C a (before ++ u ∷ t) → ⊥) → Refused R (Plain C) (before ++ u ∷ after) (length after)
 plain_refused {C = C} ok before u after s never = refused_here ok before u after s (λ h.
     let b = plain_begins h in
@@ -138,6 +153,7 @@ pub record Exact {A : Type 0} (C : A → List ℕ → Type 0) : Type 0 where
   pub one_value : (a b : A) (c : List ℕ) → C a c → C b c → a ≡ b
   pub one_content : (a : A) (c d : List ℕ) → C a c → C a d → c ≡ d
 
+-- two sealed fields hold one content or part
 pub sealed_lawful : {A : Type 0} {k : Kind} {C : A → List ℕ → Type 0} → Exact C → Lawful (Sealed k C)
 sealed_lawful {A} {k} {C} exact = record { law = λ v w x y p q. go v w x y p q (lists_same_or_not p.content q.content) }
   where
@@ -145,9 +161,11 @@ sealed_lawful {A} {k} {C} exact = record { law = λ v w x y p q. go v w x y p q 
     go v w x y p q (inl e) = inl (exact.one_value v w q.content (rw e at p.spelt) q.spelt, p.same ∙ ap (λ c. sealed k c ∷ []) e ∙ sym q.same)
     go v w x y p q (inr n) = inr (λ e. n (exact.one_content w p.content q.content (subst (λ (z : A). C z p.content) e p.spelt) q.spelt), rw (p.same, q.same) (refl, inl n))
 
+-- a field in front of units is a front
 pub sealed_spells : {A : Type 0} (R : Fielding) {k : Kind} {C : A → List ℕ → Type 0} (a : A) (c r : List ℕ) → C a c → IsContent R k c → Spells R (Sealed k C) a (field_units R.spelled k c ++ r) r
 sealed_spells R {k = k} a c r h f = record { chunks = sealed k c ∷ []; spelt = record { content = c; spelt = h; same = refl }; contents = (f, tt); split = ap (λ (l : List ℕ). l ++ r) (sym (append-nil (field_units R.spelled k c))) }
 
+-- some value has a content, so some value is spelt
 pub sealed_inhabited : {A : Type 0} {k : Kind} {C : A → List ℕ → Type 0} → SomeContent C → Inhabited (Sealed k C)
 sealed_inhabited {k = k} i = record { value = i.value; chunks = sealed k i.content ∷ []; spelt = record { content = i.content; spelt = i.spelt; same = refl } }
 
@@ -163,7 +181,7 @@ sealed_short {A} {R} {k} {C} {us} ok i f = record {
     begun (u ∷ us) g = inl g
 
     never : (v : A) (r : List ℕ) (h : Spells R (Sealed k C) v us r) → us ≡ (field_units R.spelled k h.spelt.content ++ []) ++ r → ⊥
-    never v r h e = free_not_whole ok k h.spelt.content r (rw h.spelt.same at h.contents).0 (let g : us ≡ field_units R.spelled k h.spelt.content ++ r = e ∙ ap (λ (l : List ℕ). l ++ r) (append-nil (field_units R.spelled k h.spelt.content)) in rw g at f)
+    never v r h e = whole_not_begun ok k h.spelt.content r (rw h.spelt.same at h.contents).0 (let g : us ≡ field_units R.spelled k h.spelt.content ++ r = e ∙ ap (λ (l : List ℕ). l ++ r) (append-nil (field_units R.spelled k h.spelt.content)) in rw g at f)
 
 -- what begins a sealed field is less than one, or has a whole one, within its limit and of the inner language
 pub sealed_begins : {A : Type 0} {R : Fielding} {k : Kind} {C : A → List ℕ → Type 0} {us : List ℕ} → IsLive R (Sealed k C) us → us ≢ [] → InField R k us ⊎ ((a : A) × (c : List ℕ) × C a c × IsContent R k c × (us ≡ field_units R.spelled k c))
@@ -187,7 +205,7 @@ sealed_refused_content {A} {R} {k} {C} ok i c before u after f e never =
     refused_here ok before u after (sealed_short ok i (record { content = c; contents = f; next = u; more = []; split = e })) (λ h. ⊎_elim less whole (sealed_begins h (not_last before u)))
   where
     less : InField R k (before ++ u ∷ []) → ⊥
-    less g = free_not_whole ok k c [] f (let d : before ++ u ∷ [] ≡ field_units R.spelled k c ++ [] = e ∙ sym (append-nil (field_units R.spelled k c)) in rw d at g)
+    less g = whole_not_begun ok k c [] f (let d : before ++ u ∷ [] ≡ field_units R.spelled k c ++ [] = e ∙ sym (append-nil (field_units R.spelled k c)) in rw d at g)
 
     whole : (a : A) × (d : List ℕ) × C a d × IsContent R k d × (before ++ u ∷ [] ≡ field_units R.spelled k d) → ⊥
     whole p = never p.0 (let g : p.1 ≡ c = ok.tells k p.1 c [] [] p.3 f (ap (λ (l : List ℕ). l ++ []) (sym p.4 ∙ e)) in rw g at p.2)

@@ -53,6 +53,7 @@ place_by {us = us} {k = k} to from p = (p.0, λ l. p.1 (from (take k us) l), λ 
 
 -- ---- contents within the limit
 
+-- what is no longer w times over is no longer
 short_enough : (w n m : ℕ) → 1 ≤ w → w * n ≤ w * m → n ≤ m
 short_enough w n m some h =
     let e : w * n / w ≡ n = mul-div_cancel_left n some in

@@ -1,7 +1,7 @@
 -- Sets of counts, asked by ranges: what a reader of general lengths tests.
 use Rattle.std.proofs.Common.{◌≡◌, ℕ, zero, suc, ◌+◌, ◌-◌, ◌*◌, ◌^◌, ◌<◌, ◌≤◌, min, max, Bool, true, false, nat_lt, Option, Some, None, ◌⊎◌, inl, inr, ⊎_elim, List, [], ◌∷◌, refl, subst, arith}
 use Rattle.std.proofs.lemmas.Bool.{cases_lt, ltb-true, ltb-false}
-use Rattle.asn_rules.proofs.General.{block_cases}
+use Rattle.asn_rules.proofs.Headers.{block_cases}
 use Rattle.asn_rules.specs.Chunks.{Chunk}
 use Rattle.asn_rules.specs.Forks.{Branch, Fork, Same}
 use Rattle.asn_rules.specs.General.{Length, last, fragment, Few, Many, Left, Blocks, Header, Body, Within, General}
@@ -13,10 +13,12 @@ use Rattle.asn_rules.specs.Sets.{InSet, Meets}
 span_in : (low : ℕ) (high : Option ℕ) (a : ℕ) (b : Option ℕ) → Meet low high a b → (n : ℕ) × (low ≤ n) × AtMost n high × (a ≤ n) × AtMost n b
 span_in low high a b h = ⊎_elim (λ e. (a, omega arith, h.2, omega arith, h.3)) (λ e. (low, omega arith, h.0, e, h.1)) (cases_lt low a)
 
+-- what is at or below the end, and less
 at_most_of : (m n : ℕ) (b : Option ℕ) → m ≤ n → AtMost n b → AtMost m b
 at_most_of m n None l h = tt
 at_most_of m n (Some b) l h = omega arith
 
+-- the test finds a number
 pub reaches_some : (is : List (ℕ × Option ℕ)) (a : ℕ) (b : Option ℕ) → Reaches is a b → SomeIn (Spanned is) a b
 reaches_some [] a b h = absurd h
 reaches_some (i ∷ is) a b (inl h) =
@@ -26,11 +28,13 @@ reaches_some (i ∷ is) a b (inr h) =
     let s = reaches_some is a b h in
     record { number = s.number; member = inr s.member; least = s.least; most = s.most }
 
+-- a number in common is found by the test
 spanned_reaches : (is : List (ℕ × Option ℕ)) (a : ℕ) (b : Option ℕ) (n : ℕ) → Spanned is n → a ≤ n → AtMost n b → Reaches is a b
 spanned_reaches [] a b n h l m = absurd h
 spanned_reaches (i ∷ is) a b n (inl h) l m = inl (at_most_of i.0 n i.1 h.0 h.1, at_most_of i.0 n b h.0 m, at_most_of a n i.1 l h.1, at_most_of a n b l m)
 spanned_reaches (i ∷ is) a b n (inr h) l m = inr (spanned_reaches is a b n h l m)
 
+-- the test misses none
 pub some_reaches : (is : List (ℕ × Option ℕ)) (a : ℕ) (b : Option ℕ) → SomeIn (Spanned is) a b → Reaches is a b
 some_reaches is a b s = spanned_reaches is a b s.number s.member s.least s.most
 
@@ -38,6 +42,7 @@ some_reaches is a b s = spanned_reaches is a b s.number s.member s.least s.most
 pub meets_range : {S : ℕ → Type 0} {p r : ℕ} → Meets S p r → SomeIn S (p * 2 ^ r) (Some ((p + 1) * 2 ^ r - 1))
 meets_range m = record { number = m.number; member = m.member; least = m.least; most = omega (arith, m.below) }
 
+-- and back
 pub range_meets : {S : ℕ → Type 0} (p r : ℕ) → 0 < 2 ^ r → SomeIn S (p * 2 ^ r) (Some ((p + 1) * 2 ^ r - 1)) → Meets S p r
 range_meets p r w s =
     let m = s.most in
@@ -47,6 +52,7 @@ range_meets p r w s =
 pub few_range : {S : ℕ → Type 0} {o : ℕ} {c : Bool} {p r : ℕ} → Meets (Few (At S o c)) p r → SomeIn S (o + p * 2 ^ r) (Some (o + ((p + 1) * 2 ^ r - 1)))
 few_range {o = o} m = record { number = o + m.number; member = m.member.member.member; least = omega (arith, m.least); most = omega (arith, m.below) }
 
+-- and back
 pub range_few : {S : ℕ → Type 0} (o : ℕ) (c : Bool) (p r : ℕ) → 0 < 2 ^ r → (p + 1) * 2 ^ r ≤ 128 → SomeIn S (o + p * 2 ^ r) (Some (o + ((p + 1) * 2 ^ r - 1))) → Meets (Few (At S o c)) p r
 range_few {S} o c p r w l s =
     let m = s.most in
@@ -54,9 +60,11 @@ range_few {S} o c p r w l s =
     let e : s.number ≡ o + (s.number - o) = omega arith in
     record { number = s.number - o; member = record { member = record { member = subst (λ (x : ℕ). S x) e s.member; largest = λ _. omega arith }; below = omega arith }; least = omega arith; below = omega arith }
 
+-- counts of 14 bits, as a range
 pub many_range : {S : ℕ → Type 0} {o : ℕ} {c : Bool} {p r : ℕ} → Meets (Many (At S o c)) p r → SomeIn S (o + max 128 (p * 2 ^ r)) (Some (o + ((p + 1) * 2 ^ r - 1)))
 many_range {o = o} m = record { number = o + m.number; member = m.member.member.member; least = omega (arith, m.least, m.member.least); most = omega (arith, m.below) }
 
+-- and back
 pub range_many : {S : ℕ → Type 0} (o : ℕ) (c : Bool) (p r : ℕ) → 0 < 2 ^ r → (p + 1) * 2 ^ r ≤ 16384 → SomeIn S (o + max 128 (p * 2 ^ r)) (Some (o + ((p + 1) * 2 ^ r - 1))) → Meets (Many (At S o c)) p r
 range_many {S} o c p r w l s =
     let m = s.most in
@@ -76,6 +84,7 @@ closed_blocks m =
 abbrev pub last_of_blocks : ℕ → ℕ → Option ℕ
 last_of_blocks o b = elim (nat_lt b 4) [ true ↦ Some (o + 16384 * b + 16383) | false ↦ None ]
 
+-- what blocks reach to
 end_of_blocks : (o b n : ℕ) → (b < 4 → n ≤ o + 16384 * b + 16383) → AtMost n (last_of_blocks o b)
 end_of_blocks o b n h = go (nat_lt b 4) refl
   where
@@ -83,6 +92,7 @@ end_of_blocks o b n h = go (nat_lt b 4) refl
     go true e = h (ltb-true b 4 e)
     go false e = tt
 
+-- and back
 from_end : (o b n : ℕ) → AtMost n (last_of_blocks o b) → b < 4 → n ≤ o + 16384 * b + 16383
 from_end o b n h l = go (nat_lt b 4) refl h
   where
@@ -90,6 +100,7 @@ from_end o b n h l = go (nat_lt b 4) refl h
     go true e k = k
     go false e k = (let f = ltb-false b 4 e in absurd (omega arith))
 
+-- numbers of blocks, as a range
 pub blocks_range : {S : ℕ → Type 0} {o p r : ℕ} → Meets (Blocks (At S o false)) p r → (max 1 (p * 2 ^ r) ≤ min 4 ((p + 1) * 2 ^ r - 1)) × SomeIn S (o + 16384 * max 1 (p * 2 ^ r)) (last_of_blocks o (min 4 ((p + 1) * 2 ^ r - 1)))
 blocks_range {S} {o} {p} {r} m =
     let k = m.member in
@@ -107,6 +118,7 @@ blocks_range {S} {o} {p} {r} m =
       },
     )
 
+-- and back
 pub range_blocks : {S : ℕ → Type 0} (o p r : ℕ) → 0 < 2 ^ r → max 1 (p * 2 ^ r) ≤ min 4 ((p + 1) * 2 ^ r - 1) → SomeIn S (o + 16384 * max 1 (p * 2 ^ r)) (last_of_blocks o (min 4 ((p + 1) * 2 ^ r - 1))) → Meets (Blocks (At S o false)) p r
 range_blocks {S} o p r w h s = go (max 1 (p * 2 ^ r)) (min 4 ((p + 1) * 2 ^ r - 1)) refl refl s.number s.member s.least s.most
   where
@@ -131,6 +143,7 @@ left_at {S} {o} {m} {n} h =
     let e : o + (16384 * m + n) ≡ o + 16384 * m + n = omega arith in
     record { member = subst (λ (x : ℕ). S x) e h.member.member; largest = λ q. h.largest (ltb-true m 4 q) }
 
+-- a number below another, as a truth value
 less : (m n : ℕ) → m < n → nat_lt m n ≡ true
 less m n h = go (nat_lt m n) refl
   where
@@ -138,16 +151,19 @@ less m n h = go (nat_lt m n) refl
     go true e = refl
     go false e = (let f = ltb-false m n e in absurd (omega arith))
 
+-- and back
 pub at_left : {S : ℕ → Type 0} {o m n : ℕ} → At S (o + 16384 * m) (nat_lt m 4) n → Left (At S o false) m n
 at_left {S} {o} {m} {n} h =
     let e : o + 16384 * m + n ≡ o + (16384 * m + n) = omega arith in
     record { member = record { member = subst (λ (x : ℕ). S x) e h.member; largest = λ q. cc }; largest = λ q. h.largest (less m 4 q) }
 
+-- no item has come
 pub at_start : {S : ℕ → Type 0} {n : ℕ} → S n → At S 0 false n
 at_start {S} {n} h =
     let e : n ≡ 0 + n = omega arith in
     record { member = subst (λ (x : ℕ). S x) e h; largest = λ q. cc }
 
+-- and back
 pub start_at : {S : ℕ → Type 0} {n : ℕ} → At S 0 false n → S n
 start_at {S} {n} h =
     let e : 0 + n ≡ n = omega arith in
@@ -157,18 +173,23 @@ start_at {S} {n} h =
 left_to : {S T : ℕ → Type 0} → ((n : ℕ) → S n → T n) → (m n : ℕ) → Left S m n → Left T m n
 left_to f m n h = record { member = f (16384 * m + n) h.member; largest = h.largest }
 
+-- numbers of blocks
 blocks_to : {S T : ℕ → Type 0} → ((n : ℕ) → S n → T n) → (m : ℕ) → Blocks S m → Blocks T m
 blocks_to f m h = record { some = h.some; most = h.most; rest = h.rest; left = left_to f m h.rest h.left }
 
+-- numbers in bits
 set_to : {k : ℕ} {S T : ℕ → Type 0} → ((n : ℕ) → S n → T n) → (n : ℕ) (cs : List Chunk) → Plain (InSet k S) n cs → Plain (InSet k T) n cs
 set_to f n cs h = record { units = h.units; spelt = record { digits = h.spelt.digits; member = f n h.spelt.member }; same = h.same }
 
+-- behind a bit
 branch_to : {A V : Type 0} {u : ℕ} {g : A → V} {L M : A → List Chunk → Type 0} → ((a : A) (cs : List Chunk) → L a cs → M a cs) → (v : V) (cs : List Chunk) → Branch u g L v cs → Branch u g M v cs
 branch_to f v cs h = record { value = h.value; rest = h.rest; spelt = f h.value h.rest h.spelt; seen = h.seen; same = h.same }
 
+-- behind either bit
 fork_to : {A B : Type 0} {X Z : A → List Chunk → Type 0} {Y W : B → List Chunk → Type 0} → ((a : A) (cs : List Chunk) → X a cs → Z a cs) → ((b : B) (cs : List Chunk) → Y b cs → W b cs) → (v : A ⊎ B) (cs : List Chunk) → Fork X Y v cs → Fork Z W v cs
 fork_to f g v cs h = record { side = ⊎_elim (λ b. inl (branch_to f v cs b)) (λ b. inr (branch_to g v cs b)) h.side }
 
+-- lengths
 header_to : {S T : ℕ → Type 0} → ((n : ℕ) → S n → T n) → (l : Length) (cs : List Chunk) → Header S l cs → Header T l cs
 header_to {S} {T} f l cs h = record {
   source = h.source;
@@ -176,6 +197,7 @@ header_to {S} {T} f l cs h = record {
   seen = h.seen;
 }
 
+-- items, with a bound on the lengths
 within_to : {A : Type 0} (L : A → List Chunk → Type 0) (f : ℕ) (S T : ℕ → Type 0) → ((n : ℕ) → S n → T n) → (vs : List A) (cs : List Chunk) → Within L f S vs cs → Within L f T vs cs
 within_to L zero S T g vs cs h = absurd h
 within_to {A} L (suc f) S T g vs cs h = record {
@@ -188,6 +210,7 @@ within_to {A} L (suc f) S T g vs cs h = record {
     body (last n) ws ds b again = b
     body (fragment m) ws ds b again = record { source = b.source; spelt = record { first = b.spelt.first; second = b.spelt.second; spelt = b.spelt.spelt; follows = again m b.source.1 b.spelt.second b.spelt.follows; whole = b.spelt.whole }; seen = b.seen }
 
+-- sets of the same counts have the same general lengths
 pub general_sets : {A : Type 0} (L : A → List Chunk → Type 0) {S T : ℕ → Type 0} → ((n : ℕ) → S n → T n) → ((n : ℕ) → T n → S n) → Same (General L S) (General L T)
 general_sets L {S} {T} f g = record {
   to = λ v cs h. record { lengths = h.lengths; spelt = within_to L h.lengths S T f v cs h.spelt };
@@ -197,3 +220,35 @@ general_sets L {S} {T} f g = record {
 -- behind blocks, the general length of what is left
 pub general_left : {A : Type 0} (L : A → List Chunk → Type 0) (S : ℕ → Type 0) (o m : ℕ) → Same (General L (Left (At S o false) m)) (General L (At S (o + 16384 * m) (nat_lt m 4)))
 general_left L S o m = general_sets L (λ n h. left_at h) (λ n h. at_left h)
+
+-- ---- what a reader of a length tests, where the counts are of intervals
+
+-- a count in 7 bits begins so where the test says so
+pub reaches_few : (is : List (ℕ × Option ℕ)) (o : ℕ) (c : Bool) (p r : ℕ) → 0 < 2 ^ r → (p + 1) * 2 ^ r ≤ 128 → Reaches is (o + p * 2 ^ r) (Some (o + ((p + 1) * 2 ^ r - 1))) → Meets (Few (At (Spanned is) o c)) p r
+reaches_few is o c p r w l h = range_few o c p r w l (reaches_some is (o + p * 2 ^ r) (Some (o + ((p + 1) * 2 ^ r - 1))) h)
+
+-- and back
+pub few_reaches : (is : List (ℕ × Option ℕ)) {o : ℕ} {c : Bool} {p r : ℕ} → Meets (Few (At (Spanned is) o c)) p r → Reaches is (o + p * 2 ^ r) (Some (o + ((p + 1) * 2 ^ r - 1)))
+few_reaches is {o} {c} {p} {r} m = some_reaches is (o + p * 2 ^ r) (Some (o + ((p + 1) * 2 ^ r - 1))) (few_range m)
+
+-- a count in 14 bits begins so where the test says so
+pub reaches_many : (is : List (ℕ × Option ℕ)) (o : ℕ) (c : Bool) (p r : ℕ) → 0 < 2 ^ r → (p + 1) * 2 ^ r ≤ 16384 → Reaches is (o + max 128 (p * 2 ^ r)) (Some (o + ((p + 1) * 2 ^ r - 1))) → Meets (Many (At (Spanned is) o c)) p r
+reaches_many is o c p r w l h = range_many o c p r w l (reaches_some is (o + max 128 (p * 2 ^ r)) (Some (o + ((p + 1) * 2 ^ r - 1))) h)
+
+-- and back
+pub many_reaches : (is : List (ℕ × Option ℕ)) {o : ℕ} {c : Bool} {p r : ℕ} → Meets (Many (At (Spanned is) o c)) p r → Reaches is (o + max 128 (p * 2 ^ r)) (Some (o + ((p + 1) * 2 ^ r - 1)))
+many_reaches is {o} {c} {p} {r} m = some_reaches is (o + max 128 (p * 2 ^ r)) (Some (o + ((p + 1) * 2 ^ r - 1))) (many_range m)
+
+-- of fragments only where the one before had 4 blocks, or there is none before
+pub reaches_blocks : (is : List (ℕ × Option ℕ)) (o p r : ℕ) → 0 < 2 ^ r → max 1 (p * 2 ^ r) ≤ min 4 ((p + 1) * 2 ^ r - 1) → Reaches is (o + 16384 * max 1 (p * 2 ^ r)) (last_of_blocks o (min 4 ((p + 1) * 2 ^ r - 1))) → Meets (Blocks (At (Spanned is) o false)) p r
+reaches_blocks is o p r w l h = range_blocks o p r w l (reaches_some is (o + 16384 * max 1 (p * 2 ^ r)) (last_of_blocks o (min 4 ((p + 1) * 2 ^ r - 1))) h)
+
+-- and back
+pub blocks_reaches : (is : List (ℕ × Option ℕ)) {o p r : ℕ} → Meets (Blocks (At (Spanned is) o false)) p r → (max 1 (p * 2 ^ r) ≤ min 4 ((p + 1) * 2 ^ r - 1)) × Reaches is (o + 16384 * max 1 (p * 2 ^ r)) (last_of_blocks o (min 4 ((p + 1) * 2 ^ r - 1)))
+blocks_reaches is {o} {p} {r} m =
+    let w = blocks_range m in
+    (w.0, some_reaches is (o + 16384 * max 1 (p * 2 ^ r)) (last_of_blocks o (min 4 ((p + 1) * 2 ^ r - 1))) w.1)
+
+-- the whole count is one of them
+pub starts_spanned : {A : Type 0} (L : A → List Chunk → Type 0) (is : List (ℕ × Option ℕ)) → Same (General L (At (Spanned is) 0 false)) (General L (Spanned is))
+starts_spanned L is = general_sets L (λ n h. start_at h) (λ n h. at_start h)

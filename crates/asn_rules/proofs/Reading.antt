@@ -23,17 +23,21 @@ use Rattle.asn_rules.proofs.Places.{refused_place, place_by, contents_by_length}
 
 -- ---- live, chunk by chunk
 
+-- by its parts
 free_in : {R : Fielding} {k : Kind} {us : List ℕ} → Free R k us → InField R k us
 free_in f = record { content = f.0; contents = f.1; next = f.2.0; more = f.2.1; split = sym f.2.2 }
 
+-- and back
 in_free : {R : Fielding} {k : Kind} {us : List ℕ} → InField R k us → Free R k us
 in_free f = (f.content, f.contents, (f.next, f.more, sym f.split))
 
+-- a content is short enough
 content_bounded : (R : Fielding) (k : Kind) (c : List ℕ) → IsContent R k c → Bounded k c
 content_bounded R open_field c h = h.1
 content_bounded R utf8_field c h = tt
 content_bounded R (rest_of k us) c h = content_bounded R k c h.0
 
+-- a short content of a spelling is one that may stand there
 bounded_content : (R : Fielding) (k : Kind) (c : List ℕ) → IsSealed R k c → Bounded k c → IsContent R k c
 bounded_content R open_field c is b = is b
 bounded_content R utf8_field c is b = is b
@@ -45,6 +49,7 @@ starts R o u open_field c is = o
 starts R o u utf8_field c is = u
 starts R o u (rest_of k us) c is = absurd is
 
+-- what begins the chunks, without the length of what was passed
 pub front_of : (R : Fielding) → (cs : List Chunk) (us : List ℕ) → AllSealed R cs → Front R cs us → IsFront R cs us
 front_of R cs [] a h = tt
 front_of R [] (u ∷ us) a h = h
@@ -52,6 +57,7 @@ front_of R (one x ∷ cs) (u ∷ us) a h = (sym h.0, front_of R cs us a h.1)
 front_of R (sealed k c ∷ cs) (u ∷ us) a (inl f) = inl (free_in f)
 front_of R (sealed k c ∷ cs) (u ∷ us) a (inr p) = inr (p.0, bounded_content R k c a.0 p.2, p.1, front_of R cs p.0 a.1 p.3)
 
+-- and back
 pub of_front : (R : Fielding) → Free R open_field [] → Free R utf8_field [] → (cs : List Chunk) (us : List ℕ) → AllSealed R cs → IsFront R cs us → Front R cs us
 of_front R o w [] [] a h = tt
 of_front R o w (one x ∷ cs) [] a h = tt
@@ -64,14 +70,17 @@ of_front R o w (sealed k c ∷ cs) (u ∷ us) a (inr p) = inr (p.0, p.2, content
 module _ (r : Ruling) (rules : RulesTell r) (t : Shape) (good : InProfile t) where
   -- ---- what readers of parts want
 
+  -- no field begins another
   pub fields_tell : FieldsPart r.fielding
   fields_tell = fields_part r.fielding rules.tells (λ c e. (let h = rules.units c in let f = ap length e in omega arith))
 
+  -- two whole encodings are one or part
   pub wholes_lawful : Lawful (Wholes r t)
   wholes_lawful = spelled_lawful (λ v w p q. rules.part t v w good p q)
 
   -- ---- live
 
+  -- what an encoding may follow is what begins one
   pub live_is : (b : List ℕ) → Live r.fielding r.whole t b ↔ IsLive r.fielding (Wholes r t) b
   live_is b = (
     λ l. there (by.0 l),
@@ -101,6 +110,7 @@ module _ (r : Ruling) (rules : RulesTell r) (t : Shape) (good : InProfile t) whe
       bound : rules.weight * n ≤ rules.weight * max_len
       bound = mul-le-mul_left rules.weight (omega arith)
 
+  -- no spelling at the front, so no encoding
   pub none_is : (s : List ℕ) → length s ≤ max_octets → NoSpelling r.fielding (Wholes r t) (r.units s) → NoFront r t s
   none_is s few none = λ v n w h. none v (r.units (drop n s)) (encoding_spells s v n few w h)
 
@@ -138,29 +148,37 @@ module _ (r : Ruling) (rules : RulesTell r) (t : Shape) (good : InProfile t) whe
   pub no_content_short : (c : List ℕ) → length c ≤ max_octets → Short r.fielding (Wholes r t) (r.units c) → (a : Datum) → IsEncoding r t a c → ⊥
   no_content_short c few h a e = h.none a [] ((content_is c a few).0 e)
 
+  -- by a refusal
   pub no_content_refused : (c : List ℕ) (left : ℕ) → length c ≤ max_octets → Refused r.fielding (Wholes r t) (r.units c) left → (a : Datum) → IsEncoding r t a c → ⊥
   no_content_refused c left few h a e = h.none a [] ((content_is c a few).0 e)
 
+  -- by units behind it
   pub no_content_behind : (c : List ℕ) (v : Datum) (rest : List ℕ) → length c ≤ max_octets → Spells r.fielding (Wholes r t) v (r.units c) rest → rest ≢ [] → (a : Datum) → IsEncoding r t a c → ⊥
   no_content_behind c v rest few h full a e = full (one_front fields_tell wholes_lawful h ((content_is c a few).0 e)).1
 
   -- ---- answers
 
+  -- a value that is read is the answer
   pub answer_done : (s : List ℕ) (v : Datum) (n : ℕ) (rest : List ℕ) → n ≤ length s → length rest ≡ length (r.units (drop n s)) → Spells r.fielding (Wholes r t) v (r.units s) rest → Answer r t s (done v n)
   answer_done s v n rest w l h = (w, spells_encoding s v n rest w l h)
 
+  -- a refusal is at the place of the answer
   pub answer_refused : (s : List ℕ) (left : ℕ) → length s ≤ max_octets → Refused r.fielding (Wholes r t) (r.units s) left → Answer r t s (refused (length (r.units s) - left))
   answer_refused s left few h = (none_is s few h.none, place_by (λ b. (live_is b).1) (λ b. (live_is b).0) (refused_place h))
 
+  -- more wanted means that an encoding may follow
   short_says : (s : List ℕ) → length s ≤ max_octets → Short r.fielding (Wholes r t) (r.units s) → NoFront r t s × LiveOctets r t s
   short_says s few h = (none_is s few h.none, (live_is (r.units s)).1 h.live)
 
+  -- and that is the answer below the limit
   pub answer_more : (s : List ℕ) → length s < max_octets → Short r.fielding (Wholes r t) (r.units s) → Answer r t s more
   answer_more s few h = (let w = short_says s (omega arith) h in (w.0, w.1, few))
 
+  -- and at the limit
   pub answer_too_long : (s : List ℕ) → length s ≡ max_octets → Short r.fielding (Wholes r t) (r.units s) → Answer r t s too_long
   answer_too_long s few h = (let w = short_says s (omega arith) h in (w.0, w.1, few))
 
+-- of one list of units there is one reading
 pub one_reading : (r : Ruling) (t : Shape) (us : List ℕ) → RulesTell r → InProfile t → HasOneReading r t us
 one_reading r t us rules good = record {
   done = λ v w x y p q. one_front (fields_tell r rules t good) (wholes_lawful r rules t good) p q;
@@ -170,6 +188,7 @@ one_reading r t us rules good = record {
   refused_or_short = λ n p q. refused_or_short p q;
 }
 
+-- readings are answers
 pub readings_answer : (r : Ruling) (t : Shape) (s : List ℕ) → RulesTell r → InProfile t → ReadingsAnswer r t s
 readings_answer r t s rules good = record {
   value = λ v n rest w l h. answer_done r rules t good s v n rest w l h;

@@ -13,6 +13,7 @@ use Rattle.asn_rules.specs.Live.{Fielding}
 use Rattle.asn_rules.specs.Parted.{Parted}
 use Rattle.asn_rules.specs.Sets.{AreDigits, weighted, IsDigits, InDigits, MeetsIn, Between, Among, AreOrdered, Touches}
 
+-- two numbers of a set are one, or their digits part
 pub set_code : (base k : ℕ) (S : ℕ → Type 0) → Code (InDigits base k S)
 set_code base k S = record { law = λ m n us vs p q. go m n us vs p q (same_or_parted us vs (p.digits.count ∙ sym q.digits.count)) }
   where
@@ -25,9 +26,11 @@ set_code base k S = record { law = λ m n us vs p q. go m n us vs p q (same_or_p
       d,
     )
 
+-- as spellings
 pub set_lawful : (base k : ℕ) (S : ℕ → Type 0) → Lawful (Plain (InDigits base k S))
 set_lawful base k S = plain_lawful (set_code base k S)
 
+-- a number of the set that fits has its digits
 pub set_spelt : (base k : ℕ) {S : ℕ → Type 0} (n : ℕ) → S n → n < base ^ k → InDigits base k S n (digits base k n)
 set_spelt base k n m w = record { digits = digits_are base k n w; member = m }
 
@@ -39,6 +42,7 @@ set_spells R n bs rest b m = plain_spells R n bs rest (record { digits = b; memb
 pub set_inhabited : {base k : ℕ} {S : ℕ → Type 0} → MeetsIn base S 0 k → Inhabited (Plain (InDigits base k S))
 set_inhabited {base} {k} {S} m = plain_inhabited m.number (digits base k m.number) (set_spelt base k m.number m.member (omega (arith, m.below)))
 
+-- some number of the set fits the digits
 pub set_meets : (base k : ℕ) {S : ℕ → Type 0} (n : ℕ) → S n → n < base ^ k → MeetsIn base S 0 k
 set_meets base k n m w = record { number = n; member = m; least = omega arith; below = omega arith }
 
@@ -51,9 +55,11 @@ pub record Taking (base k : ℕ) (S : ℕ → Type 0) (us rest : List ℕ) (p r 
   pub count : length before + r ≡ k
   pub alive : MeetsIn base S p r
 
+-- no digit has come
 pub taking_starts : {base k : ℕ} {S : ℕ → Type 0} (us : List ℕ) → MeetsIn base S 0 k → Taking base k S us us 0 k
 taking_starts us m = record { before = []; digits = tt; split = refl; value = refl; count = omega arith; alive = m }
 
+-- a digit comes, and some number still begins so
 pub taking_steps : {base k u p r : ℕ} {S : ℕ → Type 0} {us rest : List ℕ} → Taking base k S us (u ∷ rest) p (suc r) → u < base → MeetsIn base S (base * p + u) r → Taking base k S us rest (base * p + u) r
 taking_steps {base = base} {u = u} {r = r} {rest = rest} h b m = record {
   before = h.before ++ u ∷ [];
@@ -72,6 +78,7 @@ meets_member {S} {base} {p} m =
     let e : m.number ≡ p = omega (arith, l, b) in
     rw e at m.member
 
+-- no digit is left: the number is read
 pub taking_ends : {base k p : ℕ} {S : ℕ → Type 0} {us rest : List ℕ} (R : Fielding) → Taking base k S us rest p 0 → Spells R (Plain (InDigits base k S)) p us rest
 taking_ends {base} {k} {p} {S} {us} {rest} R h =
     let c : InDigits base k S p h.before = record { digits = record { digits = h.digits; count = omega (arith, h.count); sum = h.value }; member = meets_member h.alive } in
@@ -84,6 +91,7 @@ pub record Begun (base k : ℕ) (S : ℕ → Type 0) (r : ℕ) (bs : List ℕ) :
   pub many : length more ≡ r
   pub spelt : InDigits base k S number (bs ++ more)
 
+-- some number of the set goes on behind the digits that have come
 pub begun : {base k p r : ℕ} {S : ℕ → Type 0} {us rest : List ℕ} → (h : Taking base k S us rest p r) → Begun base k S r h.before
 begun {base} {k} {p} {r} {S} h =
     let n = h.alive.number in
@@ -97,6 +105,7 @@ begun {base} {k} {p} {r} {S} h =
       spelt = record { digits = extended base k n r h.before h.digits h.count (omega (arith, h.alive.least)) (omega (arith, h.alive.below)); member = h.alive.member };
     }
 
+-- digits that begin a number and are not all want more
 pub taking_live : {base k p r : ℕ} {S : ℕ → Type 0} {us rest : List ℕ} {R : Fielding} → FieldsPart R → (h : Taking base k S us rest p (suc r)) → Short R (Plain (InDigits base k S)) h.before
 taking_live {base} {k} {p} {r} {S} {R = R} ok h = go b.more b.many b.spelt
   where
@@ -134,20 +143,24 @@ taking_more {left = suc r} h z e b m =
     let d : suc r - 1 ≡ r = omega arith in
     rw d (taking_steps (rw e at h) b (rw d at m))
 
+-- a unit comes with which no number begins, in a loop
 pub taking_stops : {base k u p left : ℕ} {S : ℕ → Type 0} {us rest after : List ℕ} {R : Fielding} → FieldsPart R → Taking base k S us rest p left → 0 < left → rest ≡ u ∷ after → (u < base → MeetsIn base S (base * p + u) (left - 1) → ⊥) → Refused R (Plain (InDigits base k S)) us (length after)
 taking_stops {left = zero} ok h z e dead = absurd (omega arith)
 taking_stops {left = suc r} ok h z e dead =
     let d : suc r - 1 ≡ r = omega arith in
     taking_refused ok (rw e at h) (rw d at dead)
 
+-- no unit comes and digits are left, in a loop
 pub taking_waits : {base k p left : ℕ} {S : ℕ → Type 0} {us rest : List ℕ} {R : Fielding} → FieldsPart R → Taking base k S us rest p left → 0 < left → rest ≡ [] → Short R (Plain (InDigits base k S)) us
 taking_waits {left = zero} ok h z e = absurd (omega arith)
 taking_waits {left = suc r} ok h z e = taking_short ok (rw e at h)
 
+-- no digit is left, in a loop
 pub taking_done : {base k p left : ℕ} {S : ℕ → Type 0} {us rest : List ℕ} (R : Fielding) → Taking base k S us rest p left → left ≤ 0 → Spells R (Plain (InDigits base k S)) p us rest
 taking_done {left = zero} R h z = taking_ends R h
 taking_done {left = suc r} R h z = absurd (omega arith)
 
+-- a range that has a number is not empty
 some_room : (p q n : ℕ) → n < (p + 1) * q → 0 < q
 some_room p zero n h = absurd (omega (arith, h))
 some_room p (suc q) n h = omega arith
@@ -166,16 +179,19 @@ touches_meets (i ∷ is) o (inr h) =
     let m = touches_meets is o.1 h in
     record { number = m.number; member = inr m.member; least = m.least; below = m.below }
 
+-- a number of an interval that begins so
 among_touches : (base p r : ℕ) (is : List (ℕ × ℕ)) (n : ℕ) → Among is n → p * base ^ r ≤ n → n < (p + 1) * base ^ r → Touches base is p r
 among_touches base p r [] n h l m = absurd h
 among_touches base p r (i ∷ is) n (inl h) l m = inl (omega (arith, h.1), omega (arith, h.0))
 among_touches base p r (i ∷ is) n (inr h) l m = inr (among_touches base p r is n h l m)
 
+-- where some number of the intervals begins so, the test says so
 pub meets_touches : {base p r : ℕ} (is : List (ℕ × ℕ)) → MeetsIn base (Among is) p r → Touches base is p r
 meets_touches {base} {p} {r} is m = among_touches base p r is m.number m.member m.least m.below
 
 -- ---- the numbers from low to high
 
+-- some number from low to high begins so where the test says so
 pub between_meets : {base low high p r : ℕ} → low ≤ high → p * base ^ r ≤ high → low < (p + 1) * base ^ r → MeetsIn base (Between low high) p r
 between_meets {base} {low} {high} {p} {r} o h l = ⊎_elim
     (λ e. at (p * base ^ r) (omega arith) h (omega arith) (omega (arith, some_room p (base ^ r) low l)))
@@ -185,8 +201,10 @@ between_meets {base} {low} {high} {p} {r} o h l = ⊎_elim
     at : (n : ℕ) → low ≤ n → n ≤ high → p * base ^ r ≤ n → n < (p + 1) * base ^ r → MeetsIn base (Between low high) p r
     at n a b l m = record { number = n; member = (a, b); least = l; below = m }
 
+-- and the other way round
 pub meets_between : {base low high p r : ℕ} → MeetsIn base (Between low high) p r → (p * base ^ r ≤ high) × (low < (p + 1) * base ^ r)
 meets_between m = (omega (arith, m.least, m.member.1), omega (arith, m.below, m.member.0))
 
+-- some number from low to high fits the digits
 pub between_starts : {base low high k : ℕ} → low ≤ high → high < base ^ k → MeetsIn base (Between low high) 0 k
 between_starts {base} {low} {high} {k} o h = set_meets base k low (omega arith, o) (omega arith)

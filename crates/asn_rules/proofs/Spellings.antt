@@ -15,6 +15,7 @@ use Rattle.asn_rules.proofs.Digits.{digits_are, digits_only}
 
 -- ---- laws
 
+-- spellings that are one or part
 pub spelled_lawful : {V : Type 0} {P : V → Type 0} {code : V → List Chunk} → ((v w : V) → P v → P w → ((v ≡ w) × (code v ≡ code w)) ⊎ ((v ≢ w) × Parted (code v) (code w))) → Lawful (SpelledBy P code)
 spelled_lawful {V} {P} {code} part = record { law = λ v w x y p q. go v w x y p q (part v w p.fits q.fits) }
   where
@@ -22,26 +23,31 @@ spelled_lawful {V} {P} {code} part = record { law = λ v w x y p q. go v w x y p
     go v w x y p q (inl e) = inl (e.0, p.same ∙ e.1 ∙ sym q.same)
     go v w x y p q (inr n) = inr (n.0, rw (p.same, q.same) n.1)
 
+-- a value that fits is spelt
 pub spelled_inhabited : {V : Type 0} {P : V → Type 0} {code : V → List Chunk} (v : V) → P v → Inhabited (SpelledBy P code)
 spelled_inhabited {code = code} v p = record { value = v; chunks = code v; spelt = record { fits = p; same = refl } }
 
 -- ---- the same spellings
 
+-- the same as what is the same
 pub same_after : {V : Type 0} {K L M : V → List Chunk → Type 0} → Same K L → Same L M → Same K M
 same_after e f = record { to = λ v cs h. f.to v cs (e.to v cs h); from = λ v cs h. e.from v cs (f.from v cs h) }
 
+-- one after the other
 pub same_then : {A B : Type 0} {K L : A → List Chunk → Type 0} {M N : A → B → List Chunk → Type 0} → Same K L → ((a : A) → Same (M a) (N a)) → Same (Then K M) (Then L N)
 same_then e f = record {
   to = λ v cs h. record { first = h.first; second = h.second; spelt = e.to v.0 h.first h.spelt; follows = (f v.0).to v.1 h.second h.follows; whole = h.whole };
   from = λ v cs h. record { first = h.first; second = h.second; spelt = e.from v.0 h.first h.spelt; follows = (f v.0).from v.1 h.second h.follows; whole = h.whole };
 }
 
+-- under a view
 pub same_map : {A B : Type 0} {f : A → B} {K L : A → List Chunk → Type 0} → Same K L → Same (Map f K) (Map f L)
 same_map e = record {
   to = λ v cs h. record { source = h.source; spelt = e.to h.source cs h.spelt; seen = h.seen };
   from = λ v cs h. record { source = h.source; spelt = e.from h.source cs h.spelt; seen = h.seen };
 }
 
+-- in a row
 pub same_row : {A : Type 0} {K L : A → List Chunk → Type 0} → Same K L → (n : ℕ) → Same (Row K n) (Row L n)
 same_row e zero = record { to = λ v cs h. h; from = λ v cs h. h }
 same_row e (suc n) = same_map (same_then e (λ _. same_row e n))
@@ -172,5 +178,6 @@ fork_spelled {A} {B} {P} {Q} {f} {g} = record {
     back (inl a) cs p e = record { side = inl (record { value = a; rest = f a; spelt = record { fits = p; same = refl }; seen = refl; same = e }) }
     back (inr b) cs p e = record { side = inr (record { value = b; rest = g b; spelt = record { fits = p; same = refl }; seen = refl; same = e }) }
 
+-- behind a bit
 pub same_fork : {A B : Type 0} {K L : A → List Chunk → Type 0} {M N : B → List Chunk → Type 0} → Same K L → Same M N → Same (Fork K M) (Fork L N)
 same_fork e f = record { to = λ v cs h. record { side = ⊎_elim (λ b. inl (record { value = b.value; rest = b.rest; spelt = e.to b.value b.rest b.spelt; seen = b.seen; same = b.same })) (λ b. inr (record { value = b.value; rest = b.rest; spelt = f.to b.value b.rest b.spelt; seen = b.seen; same = b.same })) h.side }; from = λ v cs h. record { side = ⊎_elim (λ b. inl (record { value = b.value; rest = b.rest; spelt = e.from b.value b.rest b.spelt; seen = b.seen; same = b.same })) (λ b. inr (record { value = b.value; rest = b.rest; spelt = f.from b.value b.rest b.spelt; seen = b.seen; same = b.same })) h.side } }

@@ -4,9 +4,9 @@ use Rattle.std.specs.Bool.{⊤}
 use Rattle.std.proofs.lemmas.List.{append-nil, append_cancel_left}
 use Rattle.std.proofs.Math.Seq.{drop-append_seam}
 use Rattle.asn_rules.proofs.Carries.{carries_plain}
-use Rattle.asn_rules.proofs.Chunks.{FieldsPart, free_not_whole, field_front}
+use Rattle.asn_rules.proofs.Chunks.{FieldsPart, whole_not_begun, field_front}
 use Rattle.asn_rules.proofs.Forks.{carries_left}
-use Rattle.asn_rules.proofs.Frames.{free_frame}
+use Rattle.asn_rules.proofs.Frames.{begun_frame}
 use Rattle.asn_rules.proofs.Lists.{Within, Beyond, cut}
 use Rattle.asn_rules.proofs.Parts.{sealed_spells}
 use Rattle.asn_rules.specs.Chunks.{Kind, rest_of, Chunk, sealed, flat, field_units}
@@ -19,13 +19,15 @@ use Rattle.asn_rules.specs.Live.{Fielding, BeginsProperly, IsContent}
 pub begun_whole : (us f : List ℕ) → BeginsProperly us f → us ++ drop (length us) f ≡ f
 begun_whole us f p = ap (λ (l : List ℕ). us ++ drop (length us) l) p.2 ∙ ap (λ (l : List ℕ). us ++ l) (drop-append_seam us (p.0 ∷ p.1)) ∙ sym p.2
 
-front_of_free : (R : Fielding) (k : Kind) (c : List ℕ) (cs : List Chunk) (us : List ℕ) → InField R k us → IsFront R (sealed k c ∷ cs) us
-front_of_free R k c cs [] f = tt
-front_of_free R k c cs (u ∷ us) f = inl f
+-- what begins a field begins a list that the field begins
+front_begun : (R : Fielding) (k : Kind) (c : List ℕ) (cs : List Chunk) (us : List ℕ) → InField R k us → IsFront R (sealed k c ∷ cs) us
+front_begun R k c cs [] f = tt
+front_begun R k c cs (u ∷ us) f = inl f
 
-front_of_passed : (R : Fielding) (k : Kind) (c : List ℕ) (cs : List Chunk) (us : List ℕ) → Passed R k c us (IsFront R cs) → IsFront R (sealed k c ∷ cs) us
-front_of_passed R k c cs [] p = tt
-front_of_passed R k c cs (u ∷ us) p = inr p
+-- what has the field whole and begins the others begins all
+front_passed : (R : Fielding) (k : Kind) (c : List ℕ) (cs : List Chunk) (us : List ℕ) → Passed R k c us (IsFront R cs) → IsFront R (sealed k c ∷ cs) us
+front_passed R k c cs [] p = tt
+front_passed R k c cs (u ∷ us) p = inr p
 
 -- the units and the tail are the field
 tail_whole : (R : Fielding) (k : Kind) (us c : List ℕ) → IsContent R (rest_of k us) c → us ++ field_units R.spelled (rest_of k us) c ≡ field_units R.spelled k c
@@ -53,7 +55,7 @@ carries_sealed {A} {R} {k} {D} {us} ok free = record {
             let g : IsContent R (rest_of k us) c = (f, p) in
             let d : us ++ s ≡ us ++ (field_units R.spelled (rest_of k us) c ++ r) = e ∙ ap (λ (l : List ℕ). l ++ r) (sym (tail_whole R k us c g)) ∙ append_assoc us (field_units R.spelled (rest_of k us) c) r in
             (g, append_cancel_left us s (field_units R.spelled (rest_of k us) c ++ r) d)
-        go (inr w) = absurd (free_not_whole ok k c w.rest f (subst (λ (l : List ℕ). InField R k l) w.front free))
+        go (inr w) = absurd (whole_not_begun ok k c w.rest f (subst (λ (l : List ℕ). InField R k l) w.front free))
 
     reads : (v : A) (s r : List ℕ) → Spells R (Sealed (rest_of k us) D) v s r → Spells R (Sealed k D) v (us ++ s) r
     reads v s r h =
@@ -72,13 +74,13 @@ carries_sealed {A} {R} {k} {D} {us} ok free = record {
         subst (λ (l : List ℕ). Spells R (Sealed (rest_of k us) D) v l r) (sym w.1) (sealed_spells R v c r h.spelt.spelt w.0)
 
     lives : (s c : List ℕ) → IsFront R (sealed (rest_of k us) c ∷ []) s → IsFront R (sealed k c ∷ []) (us ++ s)
-    lives [] c h = front_of_free R k c [] (us ++ []) (subst (λ (l : List ℕ). InField R k l) (sym (append-nil us)) free)
+    lives [] c h = front_begun R k c [] (us ++ []) (subst (λ (l : List ℕ). InField R k l) (sym (append-nil us)) free)
     lives (x ∷ s) c (inl f) =
         let p = f.contents in
-        front_of_free R k c [] (us ++ x ∷ s) (record { content = f.content; contents = p.0; next = f.next; more = f.more; split = append_assoc us (x ∷ s) (f.next ∷ f.more) ∙ ap (λ (l : List ℕ). us ++ l) f.split ∙ tail_whole R k us f.content f.contents })
+        front_begun R k c [] (us ++ x ∷ s) (record { content = f.content; contents = p.0; next = f.next; more = f.more; split = append_assoc us (x ∷ s) (f.next ∷ f.more) ∙ ap (λ (l : List ℕ). us ++ l) f.split ∙ tail_whole R k us f.content f.contents })
     lives (x ∷ s) c (inr f) =
         let p = f.1 in
-        front_of_passed R k c [] (us ++ x ∷ s) (f.0, p.0, ap (λ (l : List ℕ). us ++ l) f.2 ∙ sym (append_assoc us (field_units R.spelled (rest_of k us) c) f.0) ∙ ap (λ (l : List ℕ). l ++ f.0) (tail_whole R k us c f.1), f.3)
+        front_passed R k c [] (us ++ x ∷ s) (f.0, p.0, ap (λ (l : List ℕ). us ++ l) f.2 ∙ sym (append_assoc us (field_units R.spelled (rest_of k us) c) f.0) ∙ ap (λ (l : List ℕ). l ++ f.0) (tail_whole R k us c f.1), f.3)
 
     not_nothing : (us s : List ℕ) (x : ℕ) → us ++ x ∷ s ≢ []
     not_nothing [] s x e = cc
@@ -99,10 +101,10 @@ carries_sealed {A} {R} {k} {D} {us} ok free = record {
 
 -- The same of the content, whatever is in it.
 pub frame_tail : {R : Fielding} {k : Kind} {us : List ℕ} → FieldsPart R → InField R k us → Carries R (Frame R (rest_of k us)) (Frame R k) us
-frame_tail {R} {k} {us} ok free = carries_left same (carries_plain us (free_frame ok free).none)
+frame_tail {R} {k} {us} ok free = carries_left same (carries_plain us (begun_frame ok free).none)
   where
     part : (c ws : List ℕ) → IsContent R k c → us ++ ws ≡ field_units R.spelled k c → BeginsProperly us (field_units R.spelled k c)
-    part c [] f e = absurd (free_not_whole ok k c [] f (subst (λ (l : List ℕ). InField R k l) (sym (append-nil us) ∙ e ∙ sym (append-nil (field_units R.spelled k c))) free))
+    part c [] f e = absurd (whole_not_begun ok k c [] f (subst (λ (l : List ℕ). InField R k l) (sym (append-nil us) ∙ e ∙ sym (append-nil (field_units R.spelled k c))) free))
     part c (x ∷ ws) f e = (x, ws, sym e)
 
     same : Same (Frame R (rest_of k us)) (Plain (λ (c ws : List ℕ). IsField R k c (us ++ ws)))

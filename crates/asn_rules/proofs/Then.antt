@@ -1,7 +1,7 @@
--- Laws of languages, and what readers of parts say of the whole.
+-- One language after the other: laws, and what readers of the parts say of the whole.
 use Rattle.std.proofs.Common.{◌≡◌, ◌≢◌, ℕ, ◌⊎◌, inl, inr, ⊎_elim, List, [], ◌∷◌, ◌++◌, refl, sym, ap, ◌∙◌, subst, append_assoc}
 use Rattle.std.proofs.lemmas.List.{append_cancel_left}
-use Rattle.asn_rules.proofs.Chunks.{FieldsPart, contents-append, contents-first, contents-second, free_not_whole, front_shorter, front_longer, front_behind, front_parts, After, field_front, parted_front, parted_units, parted_behind, parted_longer}
+use Rattle.asn_rules.proofs.Chunks.{FieldsPart, contents-append, contents-first, contents-second, whole_not_begun, front_shorter, front_longer, front_behind, front_parts, After, field_front, parted_front, parted_units, parted_behind, parted_longer}
 use Rattle.asn_rules.proofs.Flat.{flat-append}
 use Rattle.asn_rules.proofs.Lists.{not_empty, not_last}
 use Rattle.asn_rules.specs.Chunks.{Chunk, one, sealed, flat, field_units}
@@ -55,6 +55,7 @@ pub record Both {A B : Type 0} (R : Fielding) (L : A → List Chunk → Type 0) 
   pub earlier : Spells R L v.0 us rest
   pub later : Spells R (M v.0) v.1 rest s
 
+-- a front of both is a front of the first, and behind it one of the second
 pub then_splits : {A B : Type 0} {R : Fielding} {L : A → List Chunk → Type 0} {M : A → B → List Chunk → Type 0} {v : A × B} {us s : List ℕ} → Spells R (Then L M) v us s → Both R L M v us s
 then_splits {R = R} {s = s} h =
     let t = h.spelt in
@@ -69,6 +70,7 @@ then_splits {R = R} {s = s} h =
 pub record Follows {A B : Type 0} (L : A → List Chunk → Type 0) (M : A → B → List Chunk → Type 0) : Type 0 where
   pub follow : (a : A) (x : List Chunk) → L a x → Inhabited (M a)
 
+-- some value is spelt where some first value is, and behind each some second
 pub then_inhabited : {A B : Type 0} {L : A → List Chunk → Type 0} {M : A → B → List Chunk → Type 0} → Inhabited L → Follows L M → Inhabited (Then L M)
 then_inhabited i f =
     let g = f.follow i.value i.chunks i.spelt in
@@ -100,7 +102,7 @@ front_over ok [] (u ∷ us) f n h = h
 front_over ok (one a ∷ x) us f n h = front_over ok x us f n h.1
 front_over {R} ok (sealed k c ∷ x) us fine n h =
     let e : (field_units R.spelled k c ++ flat R.spelled x) ++ us ≡ field_units R.spelled k c ++ (flat R.spelled x ++ us) = append_assoc (field_units R.spelled k c) (flat R.spelled x) us in
-    ⊎_elim (free_not_whole ok k c (flat R.spelled x ++ us) fine.0)
+    ⊎_elim (whole_not_begun ok k c (flat R.spelled x ++ us) fine.0)
     (λ f. front_over ok x us fine.1 n (let e : f.0 ≡ flat R.spelled x ++ us = sym (append_cancel_left (field_units R.spelled k c) (flat R.spelled x ++ us) f.0 f.2) in rw e at f.3))
     (field_front R k c x (field_units R.spelled k c ++ (flat R.spelled x ++ us)) (not_empty (field_units R.spelled k c) (flat R.spelled x ++ us) (ok.some_units k c fine.0)) (rw e at h))
 
@@ -128,6 +130,7 @@ then_dead_second {A} {B} {R} {L} {M} ok law a x us l fine full dead h = go (law.
 pub then_none_first : {A B : Type 0} {R : Fielding} {L : A → List Chunk → Type 0} {M : A → B → List Chunk → Type 0} {us : List ℕ} → NoSpelling R L us → NoSpelling R (Then L M) us
 then_none_first n = λ v r h. n v.0 (then_splits h).rest (then_splits h).earlier
 
+-- behind a front of the first no front of the second, so none of both
 pub then_none_second : {A B : Type 0} {R : Fielding} {L : A → List Chunk → Type 0} {M : A → B → List Chunk → Type 0} {a : A} {us r : List ℕ} → FieldsPart R → Lawful L → Spells R L a us r → NoSpelling R (M a) r → NoSpelling R (Then L M) us
 then_none_second {A = A} {R = R} {M = M} {a = a} ok law f n = λ v s h.
     let b = then_splits h in
@@ -139,9 +142,11 @@ then_none_second {A = A} {R = R} {M = M} {a = a} ok law f n = λ v s h.
 pub then_short_first : {A B : Type 0} {R : Fielding} {L : A → List Chunk → Type 0} {M : A → B → List Chunk → Type 0} {us : List ℕ} → Follows L M → Short R L us → Short R (Then L M) us
 then_short_first f h = record { live = then_live_first f h.live; none = then_none_first h.none }
 
+-- behind a front of the first the second wants more, and so do both
 pub then_short_second : {A B : Type 0} {R : Fielding} {L : A → List Chunk → Type 0} {M : A → B → List Chunk → Type 0} {a : A} {us r : List ℕ} → FieldsPart R → Lawful L → Spells R L a us r → Short R (M a) r → Short R (Then L M) us
 then_short_second {a = a} {us = us} {r = r} ok law f h = record { live = rw f.split (then_live_second ok a f.chunks r f.spelt f.contents h.live); none = then_none_second ok law f h.none }
 
+-- the first is refused, and so are both, at the same unit
 pub then_refused_first : {A B : Type 0} {R : Fielding} {L : A → List Chunk → Type 0} {M : A → B → List Chunk → Type 0} {us : List ℕ} {n : ℕ} → Follows L M → Refused R L us n → Refused R (Then L M) us n
 then_refused_first {R = R} {L = L} {us = us} f h = record {
   before = h.before;
@@ -159,6 +164,7 @@ then_refused_first {R = R} {L = L} {us = us} f h = record {
   none = then_none_first h.none;
 }
 
+-- behind a front of the first the second is refused, and so are both, at the same unit
 pub then_refused_second : {A B : Type 0} {R : Fielding} {L : A → List Chunk → Type 0} {M : A → B → List Chunk → Type 0} {a : A} {us r : List ℕ} {n : ℕ} → FieldsPart R → Lawful L → Spells R L a us r → Refused R (M a) r n → Refused R (Then L M) us n
 then_refused_second {R = R} {L = L} {M = M} {a = a} {us = us} {r = r} ok law f h = record {
   before = flat R.spelled f.chunks ++ h.before;

@@ -9,7 +9,7 @@ use Rattle.asn_rules.specs.Chunks.{Kind, open_field, utf8_field, rest_of, Chunk,
 use Rattle.asn_rules.specs.Live.{Fielding, IsContent, Free, Bounded}
 use Rattle.asn_rules.specs.Parted.{SpellingsPart}
 use Rattle.asn_rules.specs.Languages.{Spells, Short, Refused}
-use Rattle.asn_rules.specs.Answer.{Ruling, Answer, done, refused, too_long, more, max_octets}
+use Rattle.asn_rules.specs.Answer.{Ruling, IsEncoding, Answer, done, refused, too_long, more, max_octets}
 use Rattle.asn_rules.specs.Spellings.{SpelledBy}
 
 -- a field as spellings of values have it: whole, and its content is one that the kind may have, but for
@@ -28,6 +28,11 @@ AllSealed r (sealed k c ∷ cs) = IsSealed r k c × AllSealed r cs
 -- the whole encodings of a type's values
 abbrev pub Wholes : Ruling → Shape → Datum → List Chunk → Type 0
 Wholes r t = SpelledBy (Fits t) (r.whole t)
+
+-- the content of an open field that holds the value
+pub record Holds (r : Ruling) (t : Shape) (v : Datum) (c : List ℕ) : Type 0 where
+  pub octets : AllByRecursion (λ o. o < 256) c
+  pub encoding : IsEncoding r t v c
 
 -- rules whose whole encodings a reader can tell, unit by unit
 pub record RulesTell (r : Ruling) : Type 0 where

@@ -43,7 +43,7 @@ write-returns-in_ok-push_number-in-Seq t c =
     let s = of_sequence _ _ _ _ _ _ c.in-Seq.is c.in-Seq-value.is c.deref.ensures.value c.deref-in-Seq.ensures.value in
     on_ok_weaker c.write_components.result
     (λ e. sequence_written c.args.sink.now (bits c.presence_bitmap-count.result.0 c.presence_bitmap-count.result.1) c.push_number.new.self c.write_components.new.sink c.deref.result.now c.deref-in-Seq-2.result.now c.deref-in-Seq.result.now c.deref-in-Seq-3.result.now s c.requires.of_type c.in_ok-push_number-in-Seq.ensures.ok c.presence_bitmap-count.ensures.bitmap
-        (c.deref-in-Seq-2.ensures.value ∙ sym c.deref.ensures.value) (c.deref-in-Seq-3.ensures.value ∙ sym c.deref-in-Seq.ensures.value) e)
+    (c.deref-in-Seq-2.ensures.value ∙ sym c.deref.ensures.value) (c.deref-in-Seq-3.ensures.value ∙ sym c.deref-in-Seq.ensures.value) e)
     c.write_components.ensures
 
 pub write_components-loop-field-preserved-in-loop-field :

@@ -1,6 +1,10 @@
 -- What the readers of the decoder read.
-use Rattle.std.specs.Prelude.{◌≡◌, ◌≢◌, ◌≤◌, ◌+◌, ◌*◌, ℕ, List, [], ◌∷◌, Option, Some, None, ⊤}
+use Rattle.std.specs.Prelude.{◌≡◌, ◌≢◌, ◌≤◌, ◌-◌, ◌^◌, ℕ, ℤ, true, false, nat_lt, Option, Some, None, ⊤}
+use Rattle.asn_values.specs.Shape.{Range}
+use Rattle.asn_values.specs.Fits.{FitsNumber}
 use Rattle.asn_per.specs.declared.number_reader.Numbers.{Numbers}
+
+-- ---- numbers
 
 -- another number than the one that is left out, where one is
 abbrev pub IsNot : Option ℕ → ℕ → Type 0
@@ -10,3 +14,20 @@ IsNot (Some x) n = n ≢ x
 -- the numbers from the low one to the high one, but for the one that is left out
 abbrev pub Admits : Numbers → ℕ → Type 0
 Admits s n = (s.low ≤ n) × (n ≤ s.high) × IsNot s.except n
+
+-- the numbers from 0 to the high one, but for the one that is left out
+abbrev pub up_to : ℕ → Option ℕ → Numbers
+up_to high except = record { low = 0; high = high; except = except }
+
+-- ---- integers
+
+-- an integer that may be left out of a range is one of it
+abbrev pub IsWithin : Range → Option ℤ → Type 0
+IsWithin b None = ⊤
+IsWithin b (Some d) = FitsNumber b d
+
+-- ---- numbers in the fewest octets
+
+-- the least number that needs so many octets
+abbrev pub least_of : ℕ → ℕ
+least_of count = elim (nat_lt 1 count) [ true ↦ 256 ^ (count - 1) | false ↦ 0 ]

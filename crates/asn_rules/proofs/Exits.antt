@@ -10,7 +10,6 @@ use Rattle.asn_rules.specs.Forks.{Fork, Same}
 use Rattle.asn_rules.specs.Padding.{Fixed, Padded}
 use Rattle.asn_rules.specs.General.{last, fragment, Few, Many, Left, Blocks, Header, General}
 use Rattle.asn_rules.specs.Frames.{Frame}
-use Rattle.asn_rules.specs.Fields.{Octet}
 use Rattle.asn_rules.specs.Counted.{SomeOf, Counted}
 use Rattle.asn_rules.proofs.Chunks.{FieldsPart}
 use Rattle.asn_rules.proofs.Leads.{LeadsStops, Leads, leads_on, leads_map, leads_second, stops_first}
@@ -98,7 +97,7 @@ leads_octets {base} {h} {T} p s = leads_second p (set_lawful base h (SomeOf T)) 
 -- ---- sealed fields
 
 -- within the octets of a field and their length
-pub stops_field : {A : Type 0} {R : Fielding} {k : Kind} {D : A → List ℕ → Type 0} {T : ℕ → Type 0} (us : List ℕ) → FieldsPart R → SomeContent D → Same (General Octet T) (Frame R k) → LeadsStops R (General Octet T) us (Sealed k D) us
+pub stops_field : {A : Type 0} {R : Fielding} {k : Kind} {D : A → List ℕ → Type 0} {L : List ℕ → List Chunk → Type 0} (us : List ℕ) → FieldsPart R → SomeContent D → Same (L) (Frame R k) → LeadsStops R (L) us (Sealed k D) us
 stops_field us p i e = record { short = λ h. field_short p i e h; refused = λ n h. field_refused p i e h }
 
 -- ---- what fills up

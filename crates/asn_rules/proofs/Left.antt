@@ -1,20 +1,20 @@
 -- What is left of numbers and of given units that have begun: a language of the same sort, of fewer units.
-use Rattle.std.proofs.Common.{◌≡◌, ℕ, zero, suc, ◌+◌, ◌*◌, ◌^◌, ◌<◌, List, [], ◌∷◌, ◌++◌, length, length-append, pow-add, refl, sym, ap, ◌∙◌, subst, arith}
+use Rattle.std.proofs.Common.{◌≡◌, ℕ, suc, ◌+◌, ◌*◌, ◌^◌, List, [], ◌∷◌, ◌++◌, length, length-append, pow-add, refl, sym, ap, ◌∙◌, subst, arith}
 use Rattle.std.proofs.lemmas.List.{append_cancel_left}
 use Rattle.asn_rules.specs.Chunks.{Chunk}
 use Rattle.asn_rules.specs.Live.{Fielding}
-use Rattle.asn_rules.specs.Languages.{Spells, Short, Refused, Lawful, Map, Plain, Carries}
-use Rattle.asn_rules.specs.Sets.{AreDigits, weighted, IsDigits, InDigits, MeetsIn}
+use Rattle.asn_rules.specs.Languages.{Lawful, Map, Plain, Carries}
+use Rattle.asn_rules.specs.Sets.{AreDigits, weighted, InDigits}
 use Rattle.asn_rules.specs.Forks.{Same}
 use Rattle.asn_rules.specs.Padding.{AreUnits, Fixed}
 use Rattle.asn_rules.specs.Left.{ending, NumberLeft}
 use Rattle.asn_rules.proofs.Chunks.{FieldsPart}
 use Rattle.asn_rules.proofs.Parts.{map_lawful}
-use Rattle.asn_rules.proofs.Digits.{digits-append, digits-first, digits-second, weighted-append}
+use Rattle.asn_rules.proofs.Digits.{digits-append, digits-second, weighted-append}
 use Rattle.asn_rules.proofs.Sets.{Taking, set_lawful, taking_live}
 use Rattle.asn_rules.proofs.Padding.{Matching, fixed_code}
 use Rattle.asn_rules.proofs.Parts.{plain_short}
-use Rattle.asn_rules.proofs.Forks.{same_flip, map_map, map_same, carries_left, carries_whole}
+use Rattle.asn_rules.proofs.Forks.{carries_left}
 use Rattle.asn_rules.proofs.Carries.{carries_plain, carries_map}
 use Rattle.asn_rules.proofs.Spellings.{same_after}
 

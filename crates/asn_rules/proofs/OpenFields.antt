@@ -1,13 +1,13 @@
 -- Open fields that hold whole encodings: what their contents are, and that there is one of a value.
-use Rattle.std.proofs.Common.{◌≡◌, ◌≤◌, ℕ, List, [], ◌∷◌, length, sym, ◌∙◌}
+use Rattle.std.proofs.Common.{◌≡◌, ℕ, List, [], ◌∷◌, sym, ◌∙◌}
 use Rattle.asn_values.specs.Datum.{Datum}
 use Rattle.asn_values.specs.Shape.{Shape}
 use Rattle.asn_values.specs.Fits.{Fits}
 use Rattle.asn_values.specs.Profile.{InProfile}
-use Rattle.asn_rules.specs.Chunks.{open_field, Chunk, sealed, flat}
+use Rattle.asn_rules.specs.Chunks.{open_field, sealed, flat}
 use Rattle.asn_rules.specs.Live.{IsContent}
 use Rattle.asn_rules.specs.Laws.{AreOctets, WholesTell}
-use Rattle.asn_rules.specs.Answer.{Ruling, IsEncoding, max_octets}
+use Rattle.asn_rules.specs.Answer.{Ruling}
 use Rattle.asn_rules.specs.Languages.{Spells, Short, Refused, Whole, Sealed, SomeContent}
 use Rattle.asn_rules.specs.Forks.{Same}
 use Rattle.asn_rules.specs.Spellings.{SpelledBy}

@@ -6,11 +6,14 @@ use Rattle.asn_bits.specs.Lengths.{joined}
 use Rattle.asn_rules.specs.Chunks.{Kind, Chunk, one, sealed, ones, flat}
 use Rattle.asn_rules.specs.Parted.{Parted}
 use Rattle.asn_rules.specs.Live.{Fielding}
-use Rattle.asn_rules.specs.Languages.{Lawful, Inhabited, Then, Map, Nothing, Row, Plain, Sealed}
+use Rattle.asn_rules.specs.Languages.{Spells, Short, Lawful, Inhabited, Then, Map, Nothing, Row, Plain, Sealed}
 use Rattle.asn_rules.specs.Sets.{InDigits, InSet}
 use Rattle.asn_rules.specs.Forks.{Branch, Fork, Same}
 use Rattle.asn_rules.specs.Padding.{Padded}
 use Rattle.asn_rules.specs.Spellings.{SpelledBy, FitsEither, either_code}
+use Rattle.asn_rules.proofs.Flat.{flat-ones}
+use Rattle.asn_rules.proofs.Chunks.{FieldsPart}
+use Rattle.asn_rules.proofs.Parts.{contents-ones, short_within}
 use Rattle.asn_rules.proofs.Digits.{digits_are, digits_only}
 
 -- ---- laws
@@ -181,3 +184,19 @@ fork_spelled {A} {B} {P} {Q} {f} {g} = record {
 -- behind a bit
 pub same_fork : {A B : Type 0} {K L : A → List Chunk → Type 0} {M N : B → List Chunk → Type 0} → Same K L → Same M N → Same (Fork K M) (Fork L N)
 same_fork e f = record { to = λ v cs h. record { side = ⊎_elim (λ b. inl (record { value = b.value; rest = b.rest; spelt = e.to b.value b.rest b.spelt; seen = b.seen; same = b.same })) (λ b. inr (record { value = b.value; rest = b.rest; spelt = f.to b.value b.rest b.spelt; seen = b.seen; same = b.same })) h.side }; from = λ v cs h. record { side = ⊎_elim (λ b. inl (record { value = b.value; rest = b.rest; spelt = e.from b.value b.rest b.spelt; seen = b.seen; same = b.same })) (λ b. inr (record { value = b.value; rest = b.rest; spelt = f.from b.value b.rest b.spelt; seen = b.seen; same = b.same })) h.side } }
+
+-- ---- readings of plain units, whole or in part
+
+-- a value that fits stands in front of what follows its units
+pub units_front : {V : Type 0} {P : V → Type 0} (f : V → List ℕ) {L : V → List Chunk → Type 0} (R : Fielding) → Same L (SpelledBy P (λ v. ones (f v))) → (v : V) → P v → (r : List ℕ) → Spells R L v (f v ++ r) r
+units_front f R e v p r = record {
+  chunks = ones (f v);
+  spelt = e.from v (ones (f v)) (record { fits = p; same = refl });
+  contents = contents-ones R (f v);
+  split = ap (λ (l : List ℕ). l ++ r) (sym (flat-ones R.spelled (f v)));
+}
+
+-- fewer units than a value has want more
+pub units_short : {V : Type 0} {P : V → Type 0} (f : V → List ℕ) {L : V → List Chunk → Type 0} {R : Fielding} → FieldsPart R → Lawful L → Same L (SpelledBy P (λ v. ones (f v))) → (v : V) → P v → (us : List ℕ) (u : ℕ) (t : List ℕ) → us ++ u ∷ t ≡ f v → Short R L us
+units_short f {R = R} ok law e v p us u t d =
+    short_within ok law v (ones (f v)) (e.from v (ones (f v)) (record { fits = p; same = refl })) (contents-ones R (f v)) (record { next = u; more = t; split = d ∙ sym (flat-ones R.spelled (f v)) })

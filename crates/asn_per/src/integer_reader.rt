@@ -6,7 +6,8 @@ ghost use Rattle.asn_values.specs.Datum.{number, truth};
 ghost use Rattle.asn_values.specs.Shape.{integer, boolean};
 ghost use Rattle.asn_values.specs.Profile.{InProfile};
 ghost use Rattle.asn_values.specs.View.{range_of};
-ghost use Rattle.asn_bits.specs.Numbers.{width};
+ghost use Rattle.asn_bits.specs.Numbers.{width, above};
+ghost use Rattle.asn_bits.specs.Sink.{bit_of};
 ghost use Rattle.asn_rules.specs.Languages.{Spells, Map, Plain, Inhabited};
 ghost use Rattle.asn_rules.specs.Counted.{Counted, number_of, Least};
 ghost use Rattle.asn_rules.specs.Listed.{Spelt};
@@ -37,15 +38,24 @@ pub(crate) fn integer(
     ensures done { IfOk result (λ z. Spells per_fields (Spelt per (option_map number except) (integer (range_of bounds.now))) (number z) bits.old bits.new) }
     ensures stop { IfErr result (λ why. Stops per_fields (Spelt per (option_map number except) (integer (range_of bounds.now))) bits.old why) }
 {
-    let left_out = match except {
-        Some(integer) => Some(above(bounds.low, integer)),
-        None => None,
-    };
+    let left_out = offset_left_out(bounds, except);
     let offset = match bounds.high {
         Some(high) => constrained(above(bounds.low, high), left_out, bits)?,
         None => counted(above(bounds.low, HIGHEST), left_out, bits)?,
     };
     Ok(number_above(bounds.low, offset))
+}
+
+/// How far the integer that is left out lies above the low bound.
+fn offset_left_out(bounds: &Bounds, except: Option<i128>) -> Option<u64>
+    requires of_profile { InProfile (integer (range_of bounds.now)) }
+    requires within { IsWithin (range_of bounds.now) except }
+    ensures { result ≡ option_map (λ z. above bounds.now.low z) except }
+{
+    match except {
+        Some(whole) => Some(above(bounds.low, whole)),
+        None => None,
+    }
 }
 
 /// Reads a number of 0 to `high`, but for `except`, in the fewest bits that tell so many apart
@@ -147,7 +157,7 @@ pub(crate) fn boolean(except: Option<bool>, bits: &mut BitCursor<'_>) -> Result<
     let set = Numbers {
         low: 0,
         high: 1,
-        except: except.map(u64::from),
+        except: bit_left_out(except),
     };
     let why = if except.is_some() {
         Why::Default
@@ -155,4 +165,15 @@ pub(crate) fn boolean(except: Option<bool>, bits: &mut BitCursor<'_>) -> Result<
         Why::Number
     };
     Ok(number(1, set, why, bits)? == 1)
+}
+
+/// The bit of the truth value that is left out.
+fn bit_left_out(except: Option<bool>) -> Option<u64>
+    ensures { result ≡ option_map (λ b. bit_of b) except }
+{
+    match except {
+        Some(true) => Some(1),
+        Some(false) => Some(0),
+        None => None,
+    }
 }

@@ -12,8 +12,9 @@ use Rattle.asn_rules.specs.Forks.{Same}
 use Rattle.asn_rules.specs.Languages.{Map, Plain}
 use Rattle.asn_rules.specs.Sets.{InSet, Meets}
 use Rattle.asn_rules.specs.Listed.{IsOther, Spelt}
+use Rattle.asn_rules.proofs.Leads.{Leads, leads_on, leads_map, leads_same}
 use Rattle.asn_rules.proofs.Spellings.{same_after, same_map, set_spelled, map_spelled}
-use Rattle.asn_per.specs.Per.{per}
+use Rattle.asn_per.specs.Per.{per, per_fields}
 use Rattle.asn_per.specs.Reading.{IsNot, Admits, up_to}
 
 -- a bit as a truth value
@@ -52,3 +53,7 @@ pub some_truth : (e : Option Bool) → Meets (Truths e) 0 1
 some_truth None = record { number = 0; member = (omega arith, omega arith, tt); least = omega arith; below = omega arith }
 some_truth (Some true) = record { number = 0; member = (omega arith, omega arith, λ e. omega arith); least = omega arith; below = omega arith }
 some_truth (Some false) = record { number = 1; member = (omega arith, omega arith, λ e. omega arith); least = omega arith; below = omega arith }
+
+-- the reader of the bit answers for the truth value
+pub boolean_leads : (e : Option Bool) (us : List ℕ) → Leads per_fields (Plain (InSet 1 (λ n. Admits (up_to 1 (option_map (λ b. bit_of b) e)) n))) us truth_from (Spelt per (option_map truth e) boolean) us
+boolean_leads e us = leads_on (leads_map per_fields truth_from (Plain (InSet 1 (Truths e))) us) (leads_same per_fields us (boolean_language e))

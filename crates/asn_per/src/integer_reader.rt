@@ -39,11 +39,16 @@ pub(crate) fn integer(
     ensures stop { IfErr result (λ why. Stops per_fields (Spelt per (option_map number except) (integer (range_of bounds.now))) bits.old why) }
 {
     let left_out = offset_left_out(bounds, except);
-    let offset = match bounds.high {
-        Some(high) => constrained(above(bounds.low, high), left_out, bits)?,
-        None => counted(above(bounds.low, HIGHEST), left_out, bits)?,
-    };
-    Ok(number_above(bounds.low, offset))
+    match bounds.high {
+        Some(high) => {
+            let offset = constrained(above(bounds.low, high), left_out, bits)?;
+            Ok(number_above(bounds.low, offset))
+        }
+        None => {
+            let offset = counted(above(bounds.low, HIGHEST), left_out, bits)?;
+            Ok(number_above(bounds.low, offset))
+        }
+    }
 }
 
 /// How far the integer that is left out lies above the low bound.

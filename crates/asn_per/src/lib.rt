@@ -5,6 +5,7 @@ mod encoder;
 mod integer_reader;
 mod laws;
 mod number_reader;
+mod value_reader;
 
 pub use encoder::encode;
 pub use laws::{

@@ -117,7 +117,7 @@ fn presence_bitmap(fields: &[Field], entries: &[Option<Value>]) -> (u32, u64)
 }
 
 /// Whether the component has a presence bit.
-fn may_be_absent(field: &Field) -> bool
+pub(crate) fn may_be_absent(field: &Field) -> bool
     ensures { result ≡ has_presence_bit (part_of_field field.now).demand }
 {
     !matches!(field.need, Need::Must)

@@ -33,7 +33,7 @@ good_self (enumerated root closed_labels) (item p) h = eq-eqb p p refl
 good_self t d h = absurd (true≢false (sym h))
 
 -- and a value of its type
-good_fits : (t : Shape) (d : Datum) → InProfile t → good_default t d ≡ true → Fits t d
+pub good_fits : (t : Shape) (d : Datum) → InProfile t → good_default t d ≡ true → Fits t d
 good_fits t d p g = ((defaults_are_judged t d (no_empty_range t (p EmptyRange))).0 g).1
 
 module _ (code : Shape → Datum → List Chunk) where

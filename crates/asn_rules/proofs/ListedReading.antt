@@ -17,7 +17,7 @@ use Rattle.asn_rules.proofs.Listed.{spelt_lawful, listed_inhabited}
 use Rattle.asn_rules.proofs.Parts.{map_lawful}
 
 -- nothing is always read, and read at once
-nothing_read : {A : Type 0} (R : Fielding) (a : A) (us : List ℕ) → Spells R (Nothing a) a us us
+pub nothing_read : {A : Type 0} (R : Fielding) (a : A) (us : List ℕ) → Spells R (Nothing a) a us us
 nothing_read R a us = record { chunks = []; spelt = record { same = refl; empty = refl }; contents = tt; split = refl }
 
 -- where nothing is spelt the reader does not stop

@@ -1,9 +1,11 @@
-use Rattle.std.proofs.Common.{◌≡◌, ◌∷◌, ◌+◌, ◌∙◌, List, map, drop, Some, None, rules, sym, ap, subst}
+use Rattle.std.proofs.Common.{◌≡◌, ◌⊎◌, inl, inr, ◌∷◌, [], ◌++◌, ◌+◌, ◌∙◌, true, false, List, map, drop, Some, None, rules, sym, ap, subst}
 use Rattle.std.specs.Option.{option_map}
 use Rattle.std.proofs.lemmas.List.{map-append}
 use Rattle.std.proofs.lemmas.Result.{err_from_is_err_and}
 use Rattle.asn_values.specs.declared.types.AsnType.{the_lemmas}
 use Rattle.asn_values.specs.declared.types.Field.{Field}
+use Rattle.asn_values.specs.declared.types.Need.{Need}
+use Rattle.asn_values.specs.declared.types.Need.TheVariants as needs
 use Rattle.asn_values.specs.Shape.{integer}
 use Rattle.asn_values.specs.View.{datum_of, fields_of, part_of_field, range_of, demand_of}
 use Rattle.asn_values.proofs.Views.{shape_of-Int, datum_of-Seq, sequence_of_fields}
@@ -59,3 +61,57 @@ pub read_components-presence_of-present-requires-clause-there : goal.read_compon
 read_components-presence_of-present-requires-clause-there t c =
     let h = rw (next_part c.args.fields.now c.loop-field.field-index c.field-item.result c.loop-field-test.true c.field-item.is) at c.loop-field.invariant in
     λ e. bit_there h e
+
+pub read_components-returns-in_err-entry-clause-stop : goal.read_components-returns-in_err-entry-clause-stop
+read_components-returns-in_err-entry-clause-stop t c =
+    let h = rw (next_part c.args.fields.now c.loop-field.field-index c.field-item.result c.loop-field-test.true c.field-item.is) at c.loop-field.invariant in
+    let n = next_either h c.presence_of-present.result.0 c.presence_of-present.result.1 c.presence_of-present.ensures.must c.presence_of-present.ensures.bit in
+    let p = err_from_is_err_and c.from_residual.result c.from_residual.ensures.1 in
+    rw (p.1, p.2) (stops_by _ n.stops c.in_err-entry.ensures.stop)
+
+pub read_components-loop-field-preserved : goal.read_components-loop-field-preserved
+read_components-loop-field-preserved t c =
+    let h = rw (next_part c.args.fields.now c.loop-field.field-index c.field-item.result c.loop-field-test.true c.field-item.is) at c.loop-field.invariant in
+    let n = next_either h c.presence_of-present.result.0 c.presence_of-present.result.1 c.presence_of-present.ensures.must c.presence_of-present.ensures.bit in
+    let items : map (option_map datum_of) c.push.new.self.items ≡ map (option_map datum_of) c.loop-field.entries.items ++ option_map datum_of c.in_ok-entry.entry ∷ [] =
+    ap (map (option_map datum_of)) c.in_ok-push.ensures.items ∙ map-append (option_map datum_of) c.loop-field.entries.items (c.in_ok-entry.entry ∷ []) in
+    rw items (n.more (option_map datum_of c.in_ok-entry.entry) c.read_entry.new.bits c.in_ok-entry.ensures.done)
+
+pub read_components-returns-clause-done : goal.read_components-returns-clause-done
+read_components-returns-clause-done t c = read_ends c.loop-field.invariant (no_part c.args.fields.now c.loop-field.field-index c.loop-field-test.false)
+
+pub read_entry-returns-then-not-present-clause-done : goal.read_entry-returns-then-not-present-clause-done
+read_entry-returns-then-not-present-clause-done t c =
+    let e : c.args.present ≡ false = c.if-not-present.true in
+    rw (e, c.absent.ensures) (nothing_read per_fields (default_of (part_of_field c.args.field.now).demand) c.args.bits.now)
+
+pub read_entry-returns-in_err-read_other-in-Default-clause-stop : goal.read_entry-returns-in_err-read_other-in-Default-clause-stop
+read_entry-returns-in_err-read_other-in-Default-clause-stop t c =
+    let e : c.args.present ≡ true = c.if-not-present.false in
+    let d : default_of (part_of_field c.args.field.now).demand ≡ Some (datum_of c.in-Default.default) = ap default_of (demand_of_part c.args.field.now ∙ ap demand_of c.in-Default.is) in
+    let p = err_from_is_err_and c.from_residual.result c.from_residual.ensures.1 in
+    rw (p.1, p.2) (stops_by _ (entry_leads c.args.field.now c.args.present _ c.args.bits.now e d).stops c.in_err-read_other-in-Default.ensures.stop)
+
+pub read_entry-returns-in_ok-read_other-in-Default-clause-done : goal.read_entry-returns-in_ok-read_other-in-Default-clause-done
+read_entry-returns-in_ok-read_other-in-Default-clause-done t c =
+    let e : c.args.present ≡ true = c.if-not-present.false in
+    let d : default_of (part_of_field c.args.field.now).demand ≡ Some (datum_of c.in-Default.default) = ap default_of (demand_of_part c.args.field.now ∙ ap demand_of c.in-Default.is) in
+    (entry_leads c.args.field.now c.args.present _ c.args.bits.now e d).done (datum_of c.in_ok-read_other-in-Default.field-0) c.read_other.new.bits c.in_ok-read_other-in-Default.ensures.done
+
+-- a component without a DEFAULT
+no_default : (need : Need) → (need ≡ needs.Must) ⊎ (need ≡ needs.Optional) → default_of (demand_of need) ≡ None
+no_default need (inl e) = ap (λ n. default_of (demand_of n)) e
+no_default need (inr e) = ap (λ n. default_of (demand_of n)) e
+
+pub read_entry-returns-in_err-read-in-Must-clause-stop : goal.read_entry-returns-in_err-read-in-Must-clause-stop
+read_entry-returns-in_err-read-in-Must-clause-stop t c =
+    let e : c.args.present ≡ true = c.if-not-present.false in
+    let d : default_of (part_of_field c.args.field.now).demand ≡ None = ap default_of (demand_of_part c.args.field.now) ∙ no_default c.args.field.now.need c.in-Must.is in
+    let p = err_from_is_err_and c.from_residual-in_err-read-in-Must.result c.from_residual-in_err-read-in-Must.ensures.1 in
+    rw (p.1, p.2) (stops_by _ (entry_leads c.args.field.now c.args.present None c.args.bits.now e d).stops c.in_err-read-in-Must.ensures.stop)
+
+pub read_entry-returns-in_ok-read-in-Must-clause-done : goal.read_entry-returns-in_ok-read-in-Must-clause-done
+read_entry-returns-in_ok-read-in-Must-clause-done t c =
+    let e : c.args.present ≡ true = c.if-not-present.false in
+    let d : default_of (part_of_field c.args.field.now).demand ≡ None = ap default_of (demand_of_part c.args.field.now) ∙ no_default c.args.field.now.need c.in-Must.is in
+    (entry_leads c.args.field.now c.args.present None c.args.bits.now e d).done (datum_of c.in_ok-read-in-Must.field-0) c.read.new.bits c.in_ok-read-in-Must.ensures.done

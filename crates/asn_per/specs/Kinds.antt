@@ -1,0 +1,159 @@
+-- Each kind of type in PER as a language that is put together from the languages of its parts, in the terms
+-- of X.691.
+use Rattle.std.specs.Prelude.{◌≡◌, ◌+◌, ◌-◌, ◌*◌, ◌^◌, ◌<◌, ◌≤◌, ◌⊎◌, ◌==◌, ℕ, zero, suc, ℤ, pos, ◌+ℤ◌, ◌≤ℤ◌, Bool, true, false, List, [], ◌∷◌, ◌++◌, length, replicate, Option, Some, None, IsUtf8}
+use mathlib.Core.Logic.{inl, inr}
+use Rattle.asn_values.specs.Datum.{Datum, truth, nothing, number, item, bit_list, octet_list, characters, unicode, components, elements, alternative, components_of, elements_of}
+use Rattle.asn_values.specs.Shape.{Range, SizeRange, Alphabet, ia5, numeric, visible, Shape, boolean, null, integer, enumerated, bit_string, octet_string, restricted, utf8_string, sequence, sequence_of, choice, Label, MoreLabels, closed_labels, marked_labels, Demand, must, optional, default, Fields, no_fields, field, closed, marked, demands, Alternatives, no_alternatives, one_of, MoreAlternatives, closed_choice, marked_choice, count}
+use Rattle.asn_values.specs.Fits.{Fits, FitsEach, max_len, lowest_integer, highest_integer, in_range, in_size, FitsNumber}
+use Rattle.asn_values.specs.Profile.{InProfile}
+use Rattle.asn_bits.specs.Numbers.{bits, width, above, least_from}
+use Rattle.asn_rules.specs.Chunks.{Chunk, open_field, utf8_field, ones}
+use Rattle.asn_rules.specs.Components.{number_at, presence}
+use Rattle.asn_rules.specs.Languages.{Then, Map, Nothing, Row, Plain, Sealed, prepended}
+use Rattle.asn_rules.specs.Sets.{InSet}
+use Rattle.asn_rules.specs.Forks.{Fork, Same}
+use Rattle.asn_rules.specs.General.{General, behind_first, together}
+use Rattle.asn_rules.specs.Counted.{Counted, number_of, Least, signed_number, LeastSigned}
+use Rattle.asn_rules.specs.Fields.{Octet}
+use Rattle.asn_rules.specs.Reading.{Holds}
+use Rattle.asn_rules.specs.Spellings.{SpelledBy}
+use Rattle.asn_per.specs.Per.{per, per_each, rank}
+use Rattle.asn_per.specs.Rules.{per_ruling}
+
+-- ---- what the kinds are put together from
+
+-- the values of a type, as they are spelt
+abbrev pub Values : Shape → Datum → List Chunk → Type 0
+Values t = SpelledBy (Fits t) (per t)
+
+-- the value of the one form or of the other
+abbrev pub of_either : {A : Type 0} → A ⊎ A → A
+of_either (inl a) = a
+of_either (inr a) = a
+
+-- the numbers below a count, in so many bits ("constrained whole number")
+abbrev pub Below : ℕ → ℕ → ℕ → List Chunk → Type 0
+Below k values = Plain (InSet k (λ n. n < values))
+
+-- the numbers below a count of at most 64: 0, and 6 bits ("normally small non-negative whole number")
+abbrev pub SmallBelow : ℕ → ℕ → List Chunk → Type 0
+SmallBelow values = Below 7 values
+
+-- ---- BOOLEAN and NULL
+
+-- what a bit stands for
+abbrev pub truth_of : ℕ → Bool
+truth_of zero = false
+truth_of (suc n) = true
+
+-- a truth value in one bit
+abbrev pub Bit : Bool → List Chunk → Type 0
+Bit = Map truth_of (Below 1 2)
+
+abbrev pub Booleans : Datum → List Chunk → Type 0
+Booleans = Map truth Bit
+
+abbrev pub Nulls : Datum → List Chunk → Type 0
+Nulls = Nothing nothing
+
+-- ---- INTEGER
+
+-- the range without its extension mark
+abbrev pub root_of : Range → Range
+root_of b = record { low = b.low; high = b.high; extensible = false }
+
+-- an integer of the profile outside the root
+pub record IsOutside (b : Range) (z : ℤ) : Type 0 where
+  pub least : lowest_integer ≤ℤ z
+  pub most : z ≤ℤ highest_integer
+  pub outside : in_range b z ≡ false
+
+-- integers of a set, under the length of their octets ("unconstrained whole number")
+abbrev pub Unconstrained : (ℤ → Type 0) → Datum → List Chunk → Type 0
+Unconstrained S = Map number (Map signed_number (Counted 2 8 (LeastSigned S)))
+
+-- the integers between the bounds: how far each lies above the low bound, in bits where there is a high one and
+-- else under the length of its octets; without a low bound unconstrained
+abbrev pub Ranged : Option ℤ → Option ℤ → Datum → List Chunk → Type 0
+Ranged (Some low) (Some high) = Map (λ n. number (low +ℤ pos n)) (Below (width (suc (above low high))) (suc (above low high)))
+Ranged (Some low) None = Map (λ n. number (low +ℤ pos n)) (Map number_of (Counted 2 8 (Least (λ n. n ≤ above low highest_integer))))
+Ranged None high = Unconstrained (FitsNumber (record { low = None; high = high; extensible = false }))
+
+-- behind an extension mark, 0 and the form of the root, or 1 and an unconstrained number
+abbrev pub Integers : Range → Datum → List Chunk → Type 0
+Integers b = elim b.extensible [
+  | false ↦ Ranged b.low b.high
+  | true ↦ Map of_either (Fork (Ranged b.low b.high) (Unconstrained (IsOutside b)))
+]
+
+-- ---- ENUMERATED
+
+-- the place of the item that has the index
+abbrev pub place_of : List Label → ℕ → ℕ
+place_of root n = least_from (λ p. rank root (number_at root p) == n) (length root) 0
+
+-- the items of the root: an index in bits
+abbrev pub RootItems : List Label → Datum → List Chunk → Type 0
+RootItems root = Map (λ n. item (place_of root n)) (Below (width (length root)) (length root))
+
+-- behind an extension mark, 0 and an item of the root, or 1 and the index of an addition
+abbrev pub Items : List Label → MoreLabels → Datum → List Chunk → Type 0
+Items root closed_labels = RootItems root
+Items root (marked_labels more) = Map of_either (Fork (RootItems root) (Map (λ k. item (length root + k)) (SmallBelow (length more))))
+
+-- ---- lists under a size
+
+-- the counts of the profile outside the root of a size
+pub record IsOtherCount (s : SizeRange) (n : ℕ) : Type 0 where
+  pub most : n ≤ max_len
+  pub outside : in_size s n ≡ false
+
+-- a count between the bounds, in bits
+abbrev pub CountWithin : ℕ → ℕ → ℕ → List Chunk → Type 0
+CountWithin low high = Map (λ k. low + k) (Below (width (suc (high - low))) (suc (high - low)))
+
+-- items of a count in the root: behind the count where there is an upper bound, else under their general length
+abbrev pub RootSized : {A : Type 0} → ℕ → Option ℕ → (A → List Chunk → Type 0) → List A → List Chunk → Type 0
+RootSized low (Some high) L = Map behind_first (Then (CountWithin low high) (λ n. Row L n))
+RootSized low None L = General L (λ n. (low ≤ n) × (n ≤ max_len))
+
+-- behind an extension mark, 0 and the form of the root, or 1 and the items under their general length
+abbrev pub Sized : {A : Type 0} → SizeRange → (A → List Chunk → Type 0) → List A → List Chunk → Type 0
+Sized s L = elim s.extensible [
+  | false ↦ RootSized s.low s.high L
+  | true ↦ Map of_either (Fork (RootSized s.low s.high L) (General L (IsOtherCount s)))
+]
+
+abbrev pub BitStrings : SizeRange → Datum → List Chunk → Type 0
+BitStrings s = Map bit_list (Sized s Bit)
+
+abbrev pub OctetStrings : SizeRange → Datum → List Chunk → Type 0
+OctetStrings s = Map octet_list (Sized s Octet)
+
+-- the character of NumericString with the index
+abbrev pub numeric_at : ℕ → ℕ
+numeric_at zero = 32
+numeric_at (suc n) = 48 + n
+
+-- a character ("known-multiplier character string types")
+abbrev pub Character : Alphabet → ℕ → List Chunk → Type 0
+Character ia5 = Plain (InSet 7 (λ c. c < 128))
+Character visible = Plain (InSet 7 (λ c. (32 ≤ c) × (c ≤ 126)))
+Character numeric = Map numeric_at (Plain (InSet 4 (λ n. n < 11)))
+
+abbrev pub Texts : Alphabet → SizeRange → Datum → List Chunk → Type 0
+Texts k s = Map characters (Sized s (Character k))
+
+abbrev pub ListsOf : Shape → SizeRange → Datum → List Chunk → Type 0
+ListsOf t s = Map (λ vs. elements (elements_of vs)) (Sized s (Values t))
+
+-- ---- UTF8String
+
+-- the content of the field is the string's octets
+pub record IsUtf8Content (os c : List ℕ) : Type 0 where
+  pub text : IsUtf8 os
+  pub most : length os ≤ max_len
+  pub same : c ≡ os
+
+abbrev pub Utf8Strings : Datum → List Chunk → Type 0
+Utf8Strings = Map unicode (Sealed utf8_field IsUtf8Content)

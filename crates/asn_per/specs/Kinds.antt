@@ -157,3 +157,34 @@ pub record IsUtf8Content (os c : List ℕ) : Type 0 where
 
 abbrev pub Utf8Strings : Datum → List Chunk → Type 0
 Utf8Strings = Map unicode (Sealed utf8_field IsUtf8Content)
+
+-- ---- CHOICE
+
+-- the values of a type in open fields ("open type fields"), each a complete encoding
+abbrev pub OpenValues : Shape → Datum → List Chunk → Type 0
+OpenValues t = Sealed open_field (Holds per_ruling t)
+
+-- the values of the alternative at a place
+abbrev pub Chosen : Alternatives → ℕ → Datum → List Chunk → Type 0
+Chosen no_alternatives i = λ v cs. ⊥
+Chosen (one_of name t alts) zero = Values t
+Chosen (one_of name t alts) (suc i) = Chosen alts i
+
+-- the same in open fields
+abbrev pub OpenChosen : Alternatives → ℕ → Datum → List Chunk → Type 0
+OpenChosen no_alternatives i = λ v cs. ⊥
+OpenChosen (one_of name t alts) zero = OpenValues t
+OpenChosen (one_of name t alts) (suc i) = OpenChosen alts i
+
+-- an alternative of the root: its index in bits, and its value
+abbrev pub RootChoices : Alternatives → Datum → List Chunk → Type 0
+RootChoices root = Map (λ p. alternative p.0 p.1) (Then (Below (width (count root)) (count root)) (λ i. Chosen root i))
+
+-- an addition: its index among the additions, and its value in an open field; so many alternatives stand before them
+abbrev pub AddedChoices : ℕ → Alternatives → Datum → List Chunk → Type 0
+AddedChoices before more = Map (λ p. alternative (before + p.0) p.1) (Then (SmallBelow (count more)) (λ i. OpenChosen more i))
+
+-- behind an extension mark, 0 and an alternative of the root, or 1 and an addition
+abbrev pub Choices : Alternatives → MoreAlternatives → Datum → List Chunk → Type 0
+Choices root closed_choice = RootChoices root
+Choices root (marked_choice more) = Map of_either (Fork (RootChoices root) (AddedChoices (count root) more))

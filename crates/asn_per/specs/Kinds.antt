@@ -2,7 +2,7 @@
 -- of X.691.
 use Rattle.std.specs.Prelude.{◌≡◌, ◌+◌, ◌-◌, ◌*◌, ◌^◌, ◌<◌, ◌≤◌, ◌⊎◌, ◌==◌, ℕ, zero, suc, ℤ, pos, ◌+ℤ◌, ◌≤ℤ◌, Bool, true, false, List, [], ◌∷◌, ◌++◌, length, replicate, Option, Some, None, IsUtf8}
 use mathlib.Core.Logic.{inl, inr}
-use Rattle.asn_values.specs.Datum.{Datum, truth, nothing, number, item, bit_list, octet_list, characters, unicode, components, elements, alternative, components_of, elements_of}
+use Rattle.asn_values.specs.Datum.{Datum, truth, nothing, number, item, bit_list, octet_list, characters, unicode, components, elements, alternative, component_list, components_of, elements_of}
 use Rattle.asn_values.specs.Shape.{Range, SizeRange, Alphabet, ia5, numeric, visible, Shape, boolean, null, integer, enumerated, bit_string, octet_string, restricted, utf8_string, sequence, sequence_of, choice, Label, MoreLabels, closed_labels, marked_labels, Demand, must, optional, default, Fields, no_fields, field, closed, marked, demands, Alternatives, no_alternatives, one_of, MoreAlternatives, closed_choice, marked_choice, count}
 use Rattle.asn_values.specs.Fits.{Fits, FitsEach, max_len, lowest_integer, highest_integer, in_range, in_size, FitsNumber}
 use Rattle.asn_values.specs.Profile.{InProfile}
@@ -188,3 +188,41 @@ AddedChoices before more = Map (λ p. alternative (before + p.0) p.1) (Then (Sma
 abbrev pub Choices : Alternatives → MoreAlternatives → Datum → List Chunk → Type 0
 Choices root closed_choice = RootChoices root
 Choices root (marked_choice more) = Map of_either (Fork (RootChoices root) (AddedChoices (count root) more))
+
+-- ---- SEQUENCE with an extension mark
+
+-- the additions that are present by these bits, each in an open field
+abbrev pub OpenListed : Fields → List ℕ → List (Option Datum) → List Chunk → Type 0
+OpenListed no_fields bits = Nothing []
+OpenListed (field name demand t fs) (suc b ∷ bits) = Map prepended (Then (Map Some (OpenValues t)) (λ _. OpenListed fs bits))
+OpenListed (field name demand t fs) (zero ∷ bits) = Map (λ es. None ∷ es) (OpenListed fs bits)
+OpenListed (field name demand t fs) [] = λ es cs. ⊥
+
+-- the count of the additions, 0 and 6 bits ("normally small length")
+abbrev pub AdditionCount : ℕ → ℕ → List Chunk → Type 0
+AdditionCount n = Plain (InSet 7 (λ k. k + 1 ≡ n))
+
+-- a presence bit for each of n additions, one of which is 1
+abbrev pub SomePresent : ℕ → ℕ → List Chunk → Type 0
+SomePresent n = Plain (InSet n (λ b. (0 < b) × (b < 2 ^ n)))
+
+-- additions of which one is present: their count, their presence bits, and the open fields of those that are
+abbrev pub Additions : Fields → List (Option Datum) → List Chunk → Type 0
+Additions fs =
+    let n = length (demands fs) in
+    Map behind_first (Then (AdditionCount n) (λ k. Map behind_first (Then (SomePresent n) (λ b. OpenListed fs (bits n b)))))
+
+-- the entries of additions that are all absent
+abbrev pub absent_entries : Fields → List (Option Datum)
+absent_entries no_fields = []
+absent_entries (field name demand t fs) = None ∷ absent_entries fs
+
+-- a SEQUENCE with further entries
+abbrev pub with_entries : Datum × List (Option Datum) → Datum
+with_entries (components cs, es) = components (components_of (component_list cs ++ es))
+with_entries (v, es) = v
+
+-- behind an extension mark, 0 and the SEQUENCE of the root, or 1, the SEQUENCE of the root and the additions
+abbrev pub MarkedSequences : Fields → Fields → Datum → List Chunk → Type 0
+MarkedSequences root fs =
+    Map of_either (Fork (Map (λ v. with_entries (v, absent_entries fs)) (Values (sequence root closed))) (Map with_entries (Then (Values (sequence root closed)) (λ v. Additions fs))))

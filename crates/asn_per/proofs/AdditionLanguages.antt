@@ -1,29 +1,29 @@
 -- The extension additions of a SEQUENCE in PER, where one is present, are put together from their count, their
 -- presence bits and the open fields of those that are present.
-use Rattle.std.proofs.Common.{◌≡◌, ◌≢◌, ◌≤◌, ◌<◌, ◌+◌, ◌-◌, ◌*◌, ◌/◌, ◌%◌, ◌^◌, ℕ, zero, suc, Bool, true, false, List, [], ◌∷◌, ◌++◌, length, Option, Some, None, refl, sym, ap, subst, ◌∙◌, arith, append_assoc}
+use Rattle.std.proofs.Common.{◌≡◌, ◌≤◌, ◌<◌, ◌+◌, ◌-◌, ◌/◌, ◌%◌, ◌^◌, ℕ, zero, suc, Bool, true, false, List, [], ◌∷◌, ◌++◌, length, Option, Some, None, refl, sym, ap, subst, ◌∙◌, arith, append_assoc}
 use Rattle.std.proofs.lemmas.Bool.{true≢false}
 use Rattle.std.proofs.Math.Nat.{one-le-pow}
 use Rattle.std.specs.List.{list_all}
 use Rattle.asn_values.specs.Datum.{Datum}
-use Rattle.asn_values.specs.Shape.{Shape, Demand, must, optional, default, Fields, no_fields, field, demands}
+use Rattle.asn_values.specs.Shape.{Shape, must, optional, default, Fields, no_fields, field, demands}
 use Rattle.asn_values.specs.Fits.{Fits, FitsEach, FitsDemand}
 use Rattle.asn_values.specs.Profile.{InProfile, is_optional}
 use Rattle.asn_values.specs.Parts.{AreOfProfile}
 use Rattle.asn_bits.specs.Numbers.{bits}
 use Rattle.asn_bits.proofs.Octets.{length-digits}
-use Rattle.asn_rules.specs.Chunks.{Chunk, one, ones}
-use Rattle.asn_rules.specs.Components.{bit_of, is_spelled, presence, if_spelled, any_present}
-use Rattle.asn_rules.specs.Languages.{Then, Map, Nothing, prepended}
-use Rattle.asn_rules.specs.Sets.{AreDigits, weighted, IsBits}
+use Rattle.asn_rules.specs.Chunks.{Chunk, ones}
+use Rattle.asn_rules.specs.Components.{presence, if_spelled, any_present}
+use Rattle.asn_rules.specs.Languages.{Then, Map}
+use Rattle.asn_rules.specs.Sets.{AreDigits, weighted}
 use Rattle.asn_rules.specs.General.{behind_first}
 use Rattle.asn_rules.specs.Forks.{Same}
 use Rattle.asn_rules.specs.Spellings.{SpelledBy}
 use Rattle.asn_rules.proofs.Chunks.{ones-append}
 use Rattle.asn_rules.proofs.Digits.{bits_are, bits_only}
 use Rattle.asn_rules.proofs.Entries.{each_length, presence_bits}
-use Rattle.asn_rules.proofs.Spellings.{same_after, same_then, same_map, same_spelled, set_spelled, then_spelled, map_spelled}
+use Rattle.asn_rules.proofs.Spellings.{same_after, same_then, same_map, set_spelled, then_spelled, map_spelled}
 use Rattle.asn_per.specs.Per.{per, per_open, an_open_field, small_length}
-use Rattle.asn_per.specs.Kinds.{OpenValues, OpenListed, AdditionCount, SomePresent, Additions}
+use Rattle.asn_per.specs.Kinds.{OpenValues, OpenListed, SomePresent, Additions}
 use Rattle.asn_per.proofs.Bits.{digits_bits}
 use Rattle.asn_per.proofs.OpenFieldLanguages.{open_values_spelled}
 
@@ -45,6 +45,7 @@ open_entry_spelled t good = same_after (same_map (open_values_spelled t good)) (
 abbrev FitBits : Fields → List ℕ → List (Option Datum) → Type 0
 FitBits fs bs es = FitsEach fs es × (presence (demands fs) es ≡ bs)
 
+-- the additions that are present by the bits are those of the entries with these presence bits
 open_listed_spelled : (fs : Fields) (bs : List ℕ) → AreOfProfile fs → AreOptional fs → AreDigits 2 bs → length bs ≡ length (demands fs) → Same (OpenListed fs bs) (SpelledBy (FitBits fs bs) (per_open fs))
 open_listed_spelled no_fields [] good o d l = record {
   to = λ v cs h. record { fits = subst (FitBits no_fields []) (sym h.same) (tt, refl); same = h.empty };

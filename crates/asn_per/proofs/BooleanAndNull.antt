@@ -1,22 +1,17 @@
 -- Numbers below a count in bits, truth values in a bit, BOOLEAN and NULL are put together from their parts in PER.
-use Rattle.std.proofs.Common.{◌≡◌, ℕ, zero, suc, ◌^◌, ◌<◌, Bool, true, false, List, [], ◌∷◌, refl, sym, ap, subst, ◌∙◌, arith}
+use Rattle.std.proofs.Common.{◌≡◌, ℕ, zero, suc, ◌<◌, Bool, true, false, [], ◌∷◌, refl, sym, subst, arith}
 use Rattle.asn_values.specs.Datum.{Datum, truth, nothing}
 use Rattle.asn_values.specs.Shape.{boolean, null}
 use Rattle.asn_values.specs.Fits.{Fits}
 use Rattle.asn_bits.specs.Numbers.{bits, width}
 use Rattle.asn_bits.proofs.Widths.{width_fits}
-use Rattle.asn_rules.specs.Chunks.{Chunk, one, ones}
+use Rattle.asn_rules.specs.Chunks.{one, ones}
 use Rattle.asn_rules.specs.Components.{bit_of}
-use Rattle.asn_rules.specs.Languages.{Map, Nothing, Plain, Lawful}
-use Rattle.asn_rules.specs.Sets.{InSet}
 use Rattle.asn_rules.specs.Forks.{Same}
 use Rattle.asn_rules.specs.Spellings.{SpelledBy}
-use Rattle.asn_rules.proofs.Forks.{same_flip, same_lawful}
-use Rattle.asn_rules.proofs.Parts.{map_lawful}
-use Rattle.asn_rules.proofs.Sets.{set_lawful}
 use Rattle.asn_rules.proofs.Spellings.{same_after, same_map, set_spelled, map_spelled}
 use Rattle.asn_per.specs.Per.{per}
-use Rattle.asn_per.specs.Kinds.{Values, Below, SmallBelow, truth_of, Bit, Booleans, Nulls}
+use Rattle.asn_per.specs.Kinds.{Values, Below, truth_of, Bit, Booleans, Nulls}
 
 -- ---- numbers below a count
 

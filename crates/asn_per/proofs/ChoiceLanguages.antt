@@ -1,21 +1,19 @@
 -- CHOICE in PER is put together from an index and a value of the alternative, in an open field for an addition.
-use Rattle.std.proofs.Common.{◌≡◌, ◌≤◌, ◌<◌, ◌+◌, ◌-◌, ◌⊎◌, inl, inr, ℕ, zero, suc, Bool, true, false, ◌||◌, List, [], ◌∷◌, ◌++◌, MatchBool, nat_lt, refl, sym, ap, subst, ◌∙◌, arith}
+use Rattle.std.proofs.Common.{◌≡◌, ◌≤◌, ◌<◌, ◌+◌, ◌-◌, ◌⊎◌, inl, inr, ℕ, zero, suc, Bool, true, false, ◌||◌, List, [], ◌++◌, MatchBool, nat_lt, refl, sym, ap, subst, arith}
 use Rattle.std.proofs.lemmas.Bool.{ltb-true, ltb-false, lt-ltb, le-ltb}
 use Rattle.asn_values.specs.Datum.{Datum, alternative}
-use Rattle.asn_values.specs.Shape.{Shape, Alternatives, no_alternatives, one_of, MoreAlternatives, closed_choice, marked_choice, more_alternatives, choice, count}
-use Rattle.asn_values.specs.Fits.{Fits, FitsAlternative, IsAlternative}
-use Rattle.asn_values.specs.Profile.{InProfile, TooMany, too_many_here, most_nodes, most_alternatives, somewhere, some_alternative, some_more}
+use Rattle.asn_values.specs.Shape.{Alternatives, no_alternatives, one_of, MoreAlternatives, closed_choice, marked_choice, choice, count}
+use Rattle.asn_values.specs.Fits.{Fits, FitsAlternative}
+use Rattle.asn_values.specs.Profile.{InProfile, TooMany, too_many_here, most_nodes, most_alternatives, somewhere, some_alternative}
 use Rattle.asn_values.specs.Measures.{nodes}
 use Rattle.asn_values.proofs.InnerTypes.{AreAllOfProfile, added_alternatives_of_profile}
-use Rattle.asn_values.proofs.Parts.{left_false, right_false}
-use Rattle.asn_rules.specs.Chunks.{Chunk, one, ones}
-use Rattle.asn_rules.specs.Languages.{Then, Map}
-use Rattle.asn_rules.specs.Forks.{Fork, Same}
+use Rattle.asn_values.proofs.Parts.{left_false}
+use Rattle.asn_rules.specs.Chunks.{Chunk, ones}
+use Rattle.asn_rules.specs.Forks.{Same}
 use Rattle.asn_rules.specs.Spellings.{SpelledBy, FitsEither, either_code}
-use Rattle.asn_rules.proofs.Chunks.{ones-append}
 use Rattle.asn_rules.proofs.Spellings.{same_after, same_then, same_map, same_fork, same_spelled, then_spelled, map_spelled, fork_spelled}
 use Rattle.asn_per.specs.Per.{per, per_alternative, constrained, small, an_open_field}
-use Rattle.asn_per.specs.Kinds.{Values, OpenValues, Below, SmallBelow, of_either, Chosen, OpenChosen, RootChoices, AddedChoices, Choices}
+use Rattle.asn_per.specs.Kinds.{Values, of_either, Chosen, OpenChosen, RootChoices, AddedChoices, Choices}
 use Rattle.asn_per.proofs.Choices.{choice_chunks}
 use Rattle.asn_per.proofs.BooleanAndNull.{below_spelled}
 use Rattle.asn_per.proofs.SmallNumbers.{small_spelled}
@@ -46,10 +44,12 @@ abbrev IsOfRoot : Alternatives → Datum → Type 0
 IsOfRoot root (alternative i v) = (i < count root) × FitsAlternative root i v
 IsOfRoot root _ = ⊥
 
+-- their spelling behind the extension bit
 abbrev root_code : Alternatives → Datum → List Chunk
 root_code root (alternative i v) = ones (constrained (count root) i) ++ per_alternative root i v
 root_code root _ = []
 
+-- an index and a value are an alternative of the root
 root_spelled : (root : Alternatives) → Same (RootChoices root) (SpelledBy (IsOfRoot root) (root_code root))
 root_spelled root = same_after (same_map (same_after (same_then (below_spelled (count root)) (λ i. chosen_spelled root i)) then_spelled)) (map_spelled (λ p h. (h, refl)) back)
   where
@@ -59,14 +59,17 @@ root_spelled root = same_after (same_map (same_after (same_then (below_spelled (
 
 -- ---- the additions
 
+-- the alternatives behind the mark
 abbrev IsAdded : Alternatives → Alternatives → Datum → Type 0
 IsAdded root more (alternative i v) = (count root ≤ i) × (i - count root < count more) × FitsAlternative more (i - count root) v
 IsAdded root more _ = ⊥
 
+-- their spelling behind the extension bit
 abbrev added_code : Alternatives → Alternatives → Datum → List Chunk
 added_code root more (alternative i v) = ones (small (i - count root)) ++ an_open_field (per_alternative more (i - count root) v)
 added_code root more _ = []
 
+-- a small index and an open field are an addition
 added_spelled : (root more : Alternatives) → count more ≤ 64 → AreAllOfProfile more → Same (AddedChoices (count root) more) (SpelledBy (IsAdded root more) (added_code root more))
 added_spelled root more few good = same_after (same_map (same_after (same_then (small_spelled (count more) few) (λ i. open_chosen_spelled more i good)) then_spelled)) (map_spelled there back)
   where
@@ -96,6 +99,7 @@ either_there root more (inr (alternative i v)) h = (rw (le-ltb i (count root) h.
 either_there root more (inl _) h = absurd h
 either_there root more (inr _) h = absurd h
 
+-- each value is one of the two
 either_back : (root more : Alternatives) (v : Datum) → Fits (choice root (marked_choice more)) v → (w : Datum ⊎ Datum) × FitsEither (IsOfRoot root) (IsAdded root more) w × (v ≡ of_either w)
 either_back root more (alternative i v) h = go (nat_lt i (count root)) refl h
   where
@@ -105,10 +109,12 @@ either_back root more (alternative i v) h = go (nat_lt i (count root)) refl h
     go false e f = let l = ltb-false i (count root) e in (inr (alternative i v), (l, place_inside more (i - count root) v f, f), refl)
 either_back root more _ h = absurd h
 
+-- without a mark those of the root are values
 closed_there : (root : Alternatives) (v : Datum) → IsOfRoot root v → Fits (choice root closed_choice) v × (root_code root v ≡ per (choice root closed_choice) v)
 closed_there root (alternative i v) h = (rw (lt-ltb i (count root) h.0) h.1, ap (λ (b : Bool). choice_chunks root closed_choice b i v) (sym (lt-ltb i (count root) h.0)))
 closed_there root _ h = absurd h
 
+-- and there are no others
 closed_is : (root : Alternatives) (v : Datum) → Fits (choice root closed_choice) v → IsOfRoot root v
 closed_is root (alternative i v) h = go (nat_lt i (count root)) refl h
   where

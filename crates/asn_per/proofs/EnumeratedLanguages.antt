@@ -1,22 +1,22 @@
 -- ENUMERATED in PER is put together from its parts: the indexes of the root, and those of the additions behind an
 -- extension mark.
-use Rattle.std.proofs.Common.{◌≡◌, ◌≤◌, ◌<◌, ◌+◌, ◌-◌, ◌⊎◌, inl, inr, ℕ, Bool, true, false, ◌||◌, List, [], ◌∷◌, length, nat_lt, refl, sym, ap, subst, ◌∙◌, arith}
+use Rattle.std.proofs.Common.{◌≡◌, ◌≤◌, ◌<◌, ◌+◌, ◌-◌, ◌⊎◌, inl, inr, ℕ, Bool, true, false, List, [], length, nat_lt, refl, sym, ap, arith}
 use Rattle.std.proofs.lemmas.Bool.{ltb-true, ltb-false, lt-ltb, le-ltb}
 use Rattle.asn_values.specs.Datum.{Datum, item}
 use Rattle.asn_values.specs.Shape.{Label, MoreLabels, closed_labels, marked_labels, more_labels, enumerated}
-use Rattle.asn_values.specs.Fits.{Fits, IsItem}
-use Rattle.asn_values.specs.Profile.{InProfile, BadEnumeration, TooMany, int_eq, has_twice, somewhere, too_many_here, most_nodes, most_items, most_additions}
+use Rattle.asn_values.specs.Fits.{Fits}
+use Rattle.asn_values.specs.Profile.{InProfile, BadEnumeration, TooMany, int_eq, has_twice, too_many_here, most_nodes, most_items, most_additions}
 use Rattle.asn_values.specs.Measures.{nodes}
 use Rattle.asn_values.proofs.Parts.{left_false, right_false}
-use Rattle.asn_rules.specs.Chunks.{Chunk, one, ones}
+use Rattle.asn_rules.specs.Chunks.{Chunk, ones}
 use Rattle.asn_rules.specs.Components.{number_at}
 use Rattle.asn_rules.specs.Languages.{Map}
-use Rattle.asn_rules.specs.Forks.{Fork, Same}
+use Rattle.asn_rules.specs.Forks.{Same}
 use Rattle.asn_rules.specs.Spellings.{SpelledBy, FitsEither, either_code}
 use Rattle.asn_rules.proofs.Items.{numbers}
 use Rattle.asn_rules.proofs.Spellings.{same_after, same_map, same_fork, same_spelled, map_spelled, fork_spelled}
-use Rattle.asn_per.specs.Per.{per, constrained, small, rank, enumeration}
-use Rattle.asn_per.specs.Kinds.{Values, Below, SmallBelow, of_either, place_of, RootItems, Items}
+use Rattle.asn_per.specs.Per.{per, constrained, small, rank}
+use Rattle.asn_per.specs.Kinds.{Values, SmallBelow, of_either, place_of, RootItems, Items}
 use Rattle.asn_per.proofs.BooleanAndNull.{below_spelled}
 use Rattle.asn_per.proofs.Enumerations.{rank_inside}
 use Rattle.asn_per.proofs.Ranks.{place_there, place_back}
@@ -29,10 +29,12 @@ abbrev IsRootItem : List Label → Datum → Type 0
 IsRootItem root (item p) = p < length root
 IsRootItem root _ = ⊥
 
+-- their spelling behind the extension bit
 abbrev root_code : List Label → Datum → List Chunk
 root_code root (item p) = ones (constrained (length root) (rank root (number_at root p)))
 root_code root _ = []
 
+-- an index is an item of the root
 root_spelled : (root : List Label) → has_twice int_eq (numbers root) ≡ false → Same (RootItems root) (SpelledBy (IsRootItem root) (root_code root))
 root_spelled root once = same_after (same_map (below_spelled (length root))) (map_spelled there back)
   where
@@ -45,14 +47,17 @@ root_spelled root once = same_after (same_map (below_spelled (length root))) (ma
 
 -- ---- the additions
 
+-- the items behind the mark
 abbrev IsAddedItem : List Label → List Label → Datum → Type 0
 IsAddedItem root more (item p) = (length root ≤ p) × (p < length root + length more)
 IsAddedItem root more _ = ⊥
 
+-- their spelling behind the extension bit
 abbrev added_code : List Label → Datum → List Chunk
 added_code root (item p) = ones (small (p - length root))
 added_code root _ = []
 
+-- a small number is an addition
 added_spelled : (root more : List Label) → length more ≤ 64 → Same (Map (λ k. item (length root + k)) (SmallBelow (length more))) (SpelledBy (IsAddedItem root more) (added_code root))
 added_spelled root more few = same_after (same_map (small_spelled (length more) few)) (map_spelled there back)
   where
@@ -73,6 +78,7 @@ either_there root more (inr (item p)) h = (h.1, rw (le-ltb p (length root) h.0) 
 either_there root more (inl _) h = absurd h
 either_there root more (inr _) h = absurd h
 
+-- each item is one of the two
 either_back : (root more : List Label) (v : Datum) → Fits (enumerated root (marked_labels more)) v → (w : Datum ⊎ Datum) × FitsEither (IsRootItem root) (IsAddedItem root more) w × (v ≡ of_either w)
 either_back root more (item p) h = go (nat_lt p (length root)) refl
   where
@@ -81,18 +87,21 @@ either_back root more (item p) h = go (nat_lt p (length root)) refl
     go false e = let l = ltb-false p (length root) e in (inr (item p), (l, h), refl)
 either_back root more _ h = absurd h
 
+-- without a mark those of the root are values
 closed_there : (root : List Label) (v : Datum) → IsRootItem root v → Fits (enumerated root closed_labels) v × (root_code root v ≡ per (enumerated root closed_labels) v)
 closed_there root (item p) h = (omega arith, refl)
 closed_there root _ h = absurd h
 
+-- and there are no others
 closed_is : (root : List Label) (v : Datum) → Fits (enumerated root closed_labels) v → IsRootItem root v
 closed_is root (item p) h = omega (arith, h)
 closed_is root _ h = absurd h
 
--- the numbers of the root are distinct, and the additions few
+-- the numbers of the root are distinct
 root_once : (root : List Label) (more : MoreLabels) → InProfile (enumerated root more) → has_twice int_eq (numbers root) ≡ false
 root_once root more good = left_false _ _ (good BadEnumeration)
 
+-- and the additions at most 64
 few_additions : (root : List Label) (more : MoreLabels) → InProfile (enumerated root more) → length (more_labels more) ≤ 64
 few_additions root more good =
     let here : too_many_here (enumerated root more) ≡ false = left_false (too_many_here (enumerated root more)) (nat_lt most_nodes (nodes (enumerated root more))) (good TooMany) in

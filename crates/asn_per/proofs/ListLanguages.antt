@@ -1,17 +1,16 @@
 -- SEQUENCE OF in PER is put together from its elements.
-use Rattle.std.proofs.Common.{◌≡◌, Option, Some, List, [], ◌∷◌, map, refl, sym, ap, subst, ◌∙◌}
+use Rattle.std.proofs.Common.{◌≡◌, Some, List, [], ◌∷◌, map, refl, sym, ap, subst}
 use Rattle.asn_values.specs.Datum.{Datum, Elements, no_elements, element, elements, element_list, elements_of}
 use Rattle.asn_values.specs.Shape.{Shape, SizeRange, sequence_of}
 use Rattle.asn_values.specs.Fits.{Fits}
 use Rattle.asn_values.specs.Profile.{InProfile, EmptyRange, SizeTooLarge, size_above, large_size, somewhere, empty_range, size_too_large}
 use Rattle.asn_values.proofs.Parts.{left_false}
 use Rattle.asn_values.proofs.InnerTypes.{element_of_profile}
-use Rattle.asn_rules.specs.Chunks.{Chunk}
 use Rattle.asn_rules.specs.Languages.{Lawful}
 use Rattle.asn_rules.specs.Forks.{Same}
 use Rattle.asn_rules.proofs.Spellings.{same_after, same_map, map_spelled, spelled_lawful}
 use Rattle.asn_per.specs.Per.{per, sized}
-use Rattle.asn_per.specs.Kinds.{Values, Sized, ListsOf}
+use Rattle.asn_per.specs.Kinds.{Values, ListsOf}
 use Rattle.asn_per.proofs.SizedLists.{FitSize, sized_spelled}
 use Rattle.asn_per.proofs.Whole.{per_parts}
 
@@ -24,6 +23,7 @@ list_of_elements : (ds : List Datum) → element_list (elements_of ds) ≡ ds
 list_of_elements [] = refl
 list_of_elements (d ∷ ds) = ap (λ l. d ∷ l) (list_of_elements ds)
 
+-- and the list gives the elements back
 elements_of_list : (es : Elements) → elements_of (element_list es) ≡ es
 elements_of_list no_elements = refl
 elements_of_list (element d es) = ap (element d) (elements_of_list es)

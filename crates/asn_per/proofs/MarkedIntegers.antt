@@ -1,23 +1,21 @@
 -- INTEGER in PER is put together from its parts, whatever bounds it has and with an extension mark or without.
-use Rattle.std.proofs.Common.{◌≡◌, ◌≤◌, ◌<◌, ◌+◌, ◌-◌, ◌*◌, ◌^◌, ◌⊎◌, inl, inr, ℕ, suc, ℤ, pos, negsuc, ◌+ℤ◌, ◌≤ℤ◌, Bool, true, false, ◌&&◌, ◌||◌, List, [], ◌∷◌, ◌++◌, map, Option, Some, None, IsTrue, refl, sym, ap, subst, ◌∙◌, arith}
+use Rattle.std.proofs.Common.{◌≡◌, ◌≤◌, ◌<◌, ◌-◌, ◌*◌, ◌^◌, ◌⊎◌, inl, inr, suc, ℤ, pos, negsuc, ◌≤ℤ◌, Bool, true, false, List, [], Option, Some, None, refl, arith}
 use Rattle.std.proofs.lemmas.Int.{ints}
 use Rattle.asn_values.specs.Datum.{Datum, number}
 use Rattle.asn_values.specs.Shape.{Range, integer}
 use Rattle.asn_values.specs.Fits.{Fits, FitsNumber, lowest_integer, highest_integer, in_range}
-use Rattle.asn_values.specs.Profile.{InProfile, Condition, EmptyRange, SizeTooLarge, DuplicateName, BadEnumeration, UselessMark, BadDefault, ZeroWidthElement, AdditionNotOptional, TooMany, TooDeep}
-use Rattle.asn_bits.specs.Numbers.{bits, width, above, least, least_signed, magnitude, octet_count, signed_octet_count}
-use Rattle.asn_bits.specs.Lengths.{general_octets}
+use Rattle.asn_values.specs.Profile.{InProfile, EmptyRange, SizeTooLarge, DuplicateName, BadEnumeration, UselessMark, BadDefault, ZeroWidthElement, AdditionNotOptional, TooMany, TooDeep}
+use Rattle.asn_bits.specs.Numbers.{above, magnitude, signed_octet_count}
 use Rattle.asn_bits.proofs.Octets.{signed_count_below}
-use Rattle.asn_rules.specs.Chunks.{Chunk, one, ones}
-use Rattle.asn_rules.specs.Languages.{Map, Plain}
-use Rattle.asn_rules.specs.Sets.{InSet}
+use Rattle.asn_rules.specs.Chunks.{Chunk, ones}
+use Rattle.asn_rules.specs.Languages.{Map}
 use Rattle.asn_rules.specs.Forks.{Fork, Same}
-use Rattle.asn_rules.specs.Counted.{Counted, number_of, Least, signed_number, LeastSigned}
+use Rattle.asn_rules.specs.Counted.{Counted, signed_number, LeastSigned}
 use Rattle.asn_rules.specs.Spellings.{SpelledBy, FitsEither, either_code}
 use Rattle.asn_rules.proofs.Counted.{counted_bits, counted_signed_bits}
-use Rattle.asn_rules.proofs.Spellings.{same_after, same_map, same_fork, same_spelled, map_spelled, fork_spelled}
-use Rattle.asn_per.specs.Per.{per, behind_mark, unconstrained, whole_number, ranged}
-use Rattle.asn_per.specs.Kinds.{Values, Below, of_either, root_of, IsOutside, Unconstrained, Ranged, Integers}
+use Rattle.asn_rules.proofs.Spellings.{same_after, same_map, same_fork, map_spelled, fork_spelled}
+use Rattle.asn_per.specs.Per.{per, unconstrained}
+use Rattle.asn_per.specs.Kinds.{Values, of_either, root_of, IsOutside, Unconstrained, Ranged, Integers}
 use Rattle.asn_per.proofs.BooleanAndNull.{below_spelled}
 use Rattle.asn_per.proofs.IntegerRanges.{ranging}
 use Rattle.asn_per.proofs.IntegerLanguages.{there, back, open_there, open_back, few_octets}
@@ -51,11 +49,13 @@ unconstrained_spelled S within = counted_signed_bits S (λ z h. signed_few z (wi
 
 -- between bounds
 module _ (low : ℤ) where
+  -- two bounds: a number in bits
   between_compose : (high : ℤ) → InProfile (integer (ranging low (Some high))) → Same (Ranged (Some low) (Some high)) (Values (integer (ranging low (Some high))))
   between_compose high good = same_after (same_map (below_spelled (suc (above low high)))) (map_spelled
       (λ n h. (let w = there low high None good tt n (omega arith, omega arith, tt) in (w.0.0, w.1)))
       (λ v f. (let w = back low high None good tt v (f, tt) in (w.0, omega (arith, w.1.1), w.2))))
 
+  -- a low bound alone: a number under the length of its octets
   from_compose : InProfile (integer (ranging low None)) → Same (Ranged (Some low) None) (Values (integer (ranging low None)))
   from_compose good = same_after (same_map (counted_bits (λ n. n ≤ above low highest_integer) (λ n h. few_octets low None good tt n (omega arith, h, tt)))) (map_spelled
       (λ n h. (let w = open_there low None good tt n (omega arith, h, tt) in (w.0.0, w.1)))
@@ -82,10 +82,12 @@ abbrev outside_code : Datum → List Chunk
 outside_code (number z) = ones (unconstrained z)
 outside_code _ = []
 
+-- the integers outside the root
 abbrev FitsOutside : Range → Datum → Type 0
 FitsOutside b (number z) = IsOutside b z
 FitsOutside b _ = ⊥
 
+-- unconstrained numbers of that set are they
 outside_spelled : (b : Range) → Same (Unconstrained (IsOutside b)) (SpelledBy (FitsOutside b) outside_code)
 outside_spelled b = same_after (same_map (unconstrained_spelled (IsOutside b) (λ z h. (h.least, h.most)))) (map_spelled (λ z h. (h, refl)) go)
   where
@@ -93,6 +95,7 @@ outside_spelled b = same_after (same_map (unconstrained_spelled (IsOutside b) (�
     go (number z) h = (z, h, refl)
     go _ h = absurd h
 
+-- a bit, and the one form or the other
 marked_compose : (low high : Option ℤ) → InProfile (integer (record { low = low; high = high; extensible = true })) → Same (Map of_either (Fork (Ranged low high) (Unconstrained (IsOutside (record { low = low; high = high; extensible = true }))))) (Values (integer (record { low = low; high = high; extensible = true })))
 marked_compose low high good = same_after (same_map (same_after (same_fork (ranged_compose low high (root_of_profile b good)) (outside_spelled b)) fork_spelled)) (map_spelled there_either back_either)
   where

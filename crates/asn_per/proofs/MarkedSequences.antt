@@ -1,10 +1,10 @@
 -- SEQUENCE with an extension mark in PER is put together from the SEQUENCE of its root and its additions.
-use Rattle.std.proofs.Common.{◌≡◌, ◌≢◌, ◌≤◌, ◌<◌, ◌+◌, ◌⊎◌, inl, inr, ℕ, zero, suc, Bool, true, false, ◌||◌, List, [], ◌∷◌, ◌++◌, length, take, drop, nat_lt, Option, Some, None, refl, sym, ap, subst, ◌∙◌, arith, append_assoc}
+use Rattle.std.proofs.Common.{◌≡◌, ◌≤◌, ◌⊎◌, inl, inr, ℕ, Bool, true, false, ◌||◌, List, [], ◌∷◌, ◌++◌, length, take, drop, nat_lt, Option, refl, sym, ap, subst, ◌∙◌, arith}
 use Rattle.std.proofs.lemmas.Bool.{true≢false, ltb-false}
 use Rattle.std.proofs.lemmas.List.{append-nil, take-append-drop}
 use Rattle.std.proofs.Math.Seq.{take-append_seam, drop-append_seam}
 use Rattle.asn_values.specs.Datum.{Datum, Components, components, component_list, components_of}
-use Rattle.asn_values.specs.Shape.{Shape, Demand, must, optional, default, Fields, no_fields, field, MoreFields, closed, marked, demands, sequence}
+use Rattle.asn_values.specs.Shape.{must, optional, default, Fields, no_fields, field, closed, marked, demands, sequence}
 use Rattle.asn_values.specs.Fits.{Fits, FitsEach, FitsMore}
 use Rattle.asn_values.specs.Profile.{InProfile, TooMany, somewhere, some_field, too_many_here, most_nodes, most_components, most_additions}
 use Rattle.asn_values.specs.Measures.{nodes}
@@ -13,21 +13,23 @@ use Rattle.asn_values.proofs.InnerTypes.{additions_optional, additions_of_profil
 use Rattle.asn_rules.specs.Chunks.{Chunk, one, ones}
 use Rattle.asn_rules.specs.Components.{bit_of, presence, any_present}
 use Rattle.asn_rules.specs.Languages.{Then, Map}
-use Rattle.asn_rules.specs.Forks.{Fork, Same}
+use Rattle.asn_rules.specs.Forks.{Same}
 use Rattle.asn_rules.specs.Spellings.{SpelledBy, FitsEither, either_code}
 use Rattle.asn_rules.proofs.Entries.{each_length, none_present}
 use Rattle.asn_rules.proofs.Spellings.{same_after, same_then, same_map, same_fork, then_spelled, map_spelled, fork_spelled}
 use Rattle.asn_per.specs.Per.{per, per_each, per_open, additions, small_length}
 use Rattle.asn_per.specs.Kinds.{Values, of_either, Additions, absent_entries, with_entries, MarkedSequences}
-use Rattle.asn_per.proofs.AdditionLanguages.{AreOptional, FitSome, additions_spelled}
+use Rattle.asn_per.proofs.AdditionLanguages.{AreOptional, additions_spelled}
 use Rattle.asn_per.proofs.Spellings.{component_list-of, components_of-list}
 
 -- ---- absent entries
 
+-- none of them is present
 none_of_absent : (fs : Fields) → any_present (absent_entries fs) ≡ false
 none_of_absent no_fields = refl
 none_of_absent (field name demand t fs) = none_of_absent fs
 
+-- they fit additions that are OPTIONAL
 absent_fit : (fs : Fields) → AreOptional fs → FitsEach fs (absent_entries fs)
 absent_fit no_fields o = tt
 absent_fit (field name optional t fs) o = (tt, absent_fit fs o)
@@ -37,18 +39,15 @@ absent_fit (field name (default d) t fs) o = absurd (true≢false (sym o))
 -- ---- the entries of the root, and those of the additions
 
 module _ (root fs : Fields) where
-  -- how many components the root has
-  n : ℕ
-  n = length (demands root)
-
   -- the bits of the root
   abbrev front : List (Option Datum) → List Chunk
   front es = ones (presence (demands root) es) ++ per_each root es
 
-  -- the spelling of the SEQUENCE of the root, and that with the mark, by its entries
+  -- the spelling of the SEQUENCE of the root by its entries
   abbrev closed_code : List (Option Datum) → List Chunk
   closed_code es = front es ++ []
 
+  -- and that of the SEQUENCE with the mark
   abbrev marked_code : List (Option Datum) → List (Option Datum) → List Chunk
   marked_code es gs = (ones (bit_of (any_present gs) ∷ presence (demands root) es) ++ per_each root es) ++ additions (demands fs) gs (per_open fs gs)
 
@@ -56,12 +55,15 @@ module _ (root fs : Fields) where
   ours : (es gs : List (Option Datum)) → FitsEach root es → take (length (demands root)) (component_list (components_of (es ++ gs))) ≡ es
   ours es gs h = ap (take (length (demands root))) (component_list-of (es ++ gs)) ∙ ap (λ (k : ℕ). take k (es ++ gs)) (sym (each_length root es h)) ∙ take-append_seam es gs
 
+  -- and those of the additions the others
   theirs : (es gs : List (Option Datum)) → FitsEach root es → drop (length (demands root)) (component_list (components_of (es ++ gs))) ≡ gs
   theirs es gs h = ap (drop (length (demands root))) (component_list-of (es ++ gs)) ∙ ap (λ (k : ℕ). drop k (es ++ gs)) (sym (each_length root es h)) ∙ drop-append_seam es gs
 
+  -- entries of both are a value
   marked_fits : (es gs : List (Option Datum)) → FitsEach root es → FitsEach fs gs → Fits (sequence root (marked fs)) (components (components_of (es ++ gs)))
   marked_fits es gs h g = (subst (FitsEach root) (sym (ours es gs h)) h, subst (FitsEach fs) (sym (theirs es gs h)) g)
 
+  -- and its spelling is theirs
   marked_is : (es gs : List (Option Datum)) → FitsEach root es → per (sequence root (marked fs)) (components (components_of (es ++ gs))) ≡ marked_code es gs
   marked_is es gs h =
       ap (λ (l : List (Option Datum)). marked_code l (drop (length (demands root)) (component_list (components_of (es ++ gs))))) (ours es gs h) ∙ ap (λ (l : List (Option Datum)). marked_code es l) (theirs es gs h)
@@ -74,17 +76,21 @@ module _ (root fs : Fields) where
       go [] e h = sym (append-nil (take (length (demands root)) es)) ∙ ap (λ (l : List (Option Datum)). take (length (demands root)) es ++ l) (sym e) ∙ take-append-drop (length (demands root)) es
       go (x ∷ l) e h = absurd h
 
+  -- so they fit its components
   closed_entries : (es : List (Option Datum)) → FitsEach root (take (length (demands root)) es) → FitsMore closed (drop (length (demands root)) es) → FitsEach root es
   closed_entries es h g = subst (FitsEach root) (closed_all es g) h
 
+  -- and are spelt one after the other behind their presence bits
   closed_is : (cs : Components) → FitsMore closed (drop (length (demands root)) (component_list cs)) → per (sequence root closed) (components cs) ≡ front (component_list cs)
   closed_is cs h = ap closed_code (closed_all (component_list cs) h) ∙ append-nil (front (component_list cs))
 
+  -- entries of the root are a value of it
   closed_fits : (es : List (Option Datum)) → FitsEach root es → Fits (sequence root closed) (components (components_of es))
   closed_fits es h =
-      let all : es ++ [] ≡ es = append-nil es in
-      (subst (λ (l : List (Option Datum)). FitsEach root (take (length (demands root)) (component_list (components_of l)))) all (subst (FitsEach root) (sym (ours es [] h)) h),
-      subst (λ (l : List (Option Datum)). FitsMore closed (drop (length (demands root)) (component_list (components_of l)))) all (subst (FitsMore closed) (sym (theirs es [] h)) tt))
+      let all : es ++ [] ≡ es = append-nil es in (
+        subst (λ (l : List (Option Datum)). FitsEach root (take (length (demands root)) (component_list (components_of l)))) all (subst (FitsEach root) (sym (ours es [] h)) h),
+        subst (λ (l : List (Option Datum)). FitsMore closed (drop (length (demands root)) (component_list (components_of l)))) all (subst (FitsMore closed) (sym (theirs es [] h)) tt),
+      )
 
   -- ---- behind the extension bit
 
@@ -96,6 +102,7 @@ module _ (root fs : Fields) where
   abbrev HasBit : ℕ → Datum → Type 0
   HasBit b v = Fits (sequence root (marked fs)) v × (per (sequence root (marked fs)) v ≡ one b ∷ behind v)
 
+  -- a spelling that begins with the bit goes on with what stands behind it
   has_bit : (b : ℕ) (v : Datum) (rest : List Chunk) → Fits (sequence root (marked fs)) v → per (sequence root (marked fs)) v ≡ one b ∷ rest → HasBit b v × (rest ≡ behind v)
   has_bit b v rest f e =
       let same : rest ≡ behind v = sym (ap (drop 1) e) in
@@ -123,6 +130,7 @@ module _ (root fs : Fields) where
   marked_some es gs e =
       ap (λ (b : Bool). (ones (bit_of b ∷ presence (demands root) es) ++ per_each root es) ++ elim b [ true ↦ ones (small_length (length (demands fs)) ++ presence (demands fs) gs) ++ per_open fs gs | false ↦ [] ]) e
 
+  -- 0 is not 1
   zero_one : (x y : List Chunk) → one 0 ∷ x ≡ one 1 ∷ y → ⊥
   zero_one x y e = let f : ◌≡◌ {A = ℕ} 0 1 = cc in omega arith
 
@@ -170,9 +178,6 @@ module _ (root fs : Fields) where
     some_side =
         same_after (same_map (same_after (same_then {K = Values (sequence root closed)} (record { to = λ v cs h. h; from = λ v cs h. h }) (λ v. additions_spelled fs (additions_of_profile root fs good) each_optional few_additions)) then_spelled)) (map_spelled there back)
       where
-        added : List (Option Datum) → List Chunk
-        added gs = ones (small_length (length (demands fs)) ++ presence (demands fs) gs) ++ per_open fs gs
-
         there : (p : Datum × List (Option Datum)) → Fits (sequence root closed) p.0 × (FitsEach fs p.1 × (any_present p.1 ≡ true))
             → HasBit 1 (with_entries p) × (per (sequence root closed) p.0 ++ (ones (small_length (length (demands fs)) ++ presence (demands fs) p.1) ++ per_open fs p.1) ≡ behind (with_entries p))
         there (components cs, gs) h =

@@ -1,12 +1,10 @@
 -- Each index below the count of the items of an ENUMERATED is the index of one item, which is found by it.
-use Rattle.std.proofs.Common.{◌≡◌, ◌≤◌, ◌<◌, ◌+◌, ◌-◌, ◌==◌, ◌⊎◌, ℕ, zero, suc, pred, ℤ, Bool, true, false, List, [], ◌∷◌, length, inl, inr, refl, sym, ap, subst, ◌∙◌, arith}
-
+use Rattle.std.proofs.Common.{◌≡◌, ◌≤◌, ◌<◌, ◌+◌, ◌-◌, ◌==◌, ◌⊎◌, ℕ, zero, suc, ℤ, Bool, true, false, List, [], ◌∷◌, length, inl, inr, refl, sym, ap, subst, ◌∙◌, arith}
 use Rattle.std.proofs.lemmas.Bool.{true≢false, eqb-true, eq-eqb, cases_lt, or_parts}
 use Rattle.std.specs.Int.RustNames.{int_lt}
 use Rattle.asn_values.specs.Shape.{Label}
 use Rattle.asn_values.specs.Profile.{int_eq, has_twice}
 use Rattle.asn_bits.specs.Numbers.{least_from}
-use Rattle.asn_bits.proofs.Widths.{least_passes}
 use Rattle.asn_bits.proofs.Octets.{least_from_below}
 use Rattle.asn_rules.specs.Components.{number_at}
 use Rattle.asn_rules.proofs.Items.{numbers, one_place}

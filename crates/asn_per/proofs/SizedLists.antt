@@ -1,23 +1,22 @@
 -- Lists under a size in PER are put together from their count and their items, whatever the items are.
-use Rattle.std.proofs.Common.{◌≡◌, ◌≤◌, ◌<◌, ◌+◌, ◌-◌, ◌⊎◌, inl, inr, ℕ, zero, suc, Bool, true, false, ◌&&◌, ◌||◌, List, [], ◌∷◌, ◌++◌, map, length, Option, Some, None, IsTrue, nat_le, nat_lt, refl, sym, ap, subst, ◌∙◌, arith}
+use Rattle.std.proofs.Common.{◌≡◌, ◌≤◌, ◌<◌, ◌+◌, ◌-◌, ◌⊎◌, inl, inr, ℕ, suc, Bool, true, false, List, [], ◌++◌, map, length, Option, Some, None, nat_le, nat_lt, refl, sym, ap, subst, ◌∙◌, arith}
 use Rattle.std.proofs.lemmas.Bool.{and_parts, leb-true, le-leb, ltb-false}
 use Rattle.std.proofs.lemmas.List.{length-map}
 use Rattle.std.specs.List.{AllByRecursion}
 use Rattle.asn_values.specs.Shape.{SizeRange}
-use Rattle.asn_values.specs.Fits.{FitsLength, max_len, in_size, not_above}
+use Rattle.asn_values.specs.Fits.{FitsLength, max_len, in_size}
 use Rattle.asn_values.specs.Profile.{size_above, large_size, largest_size_bound, is_large}
-use Rattle.asn_values.proofs.Parts.{left_false, right_false}
+use Rattle.asn_values.proofs.Parts.{right_false}
 use Rattle.asn_bits.specs.Numbers.{bits, width}
 use Rattle.asn_bits.specs.Lengths.{joined, general}
 use Rattle.asn_rules.specs.Chunks.{Chunk, one, ones}
-use Rattle.asn_rules.specs.Languages.{Lawful, Then, Map, Row}
-use Rattle.asn_rules.specs.General.{General, behind_first}
-use Rattle.asn_rules.specs.Forks.{Fork, Same}
+use Rattle.asn_rules.specs.Languages.{Lawful, Row}
+use Rattle.asn_rules.specs.Forks.{Same}
 use Rattle.asn_rules.specs.Spellings.{SpelledBy, FitsEither, either_code}
 use Rattle.asn_rules.proofs.Fragments.{same_general, general_spelled}
 use Rattle.asn_rules.proofs.Spellings.{same_after, same_then, same_map, same_row, same_fork, same_spelled, then_spelled, map_spelled, row_spelled, fork_spelled}
-use Rattle.asn_per.specs.Per.{constrained, within, sized, behind_mark}
-use Rattle.asn_per.specs.Kinds.{of_either, Below, IsOtherCount, CountWithin, RootSized, Sized}
+use Rattle.asn_per.specs.Per.{constrained, within, sized}
+use Rattle.asn_per.specs.Kinds.{of_either, IsOtherCount, CountWithin, RootSized, Sized}
 use Rattle.asn_per.proofs.BooleanAndNull.{below_spelled}
 
 -- ---- sizes of the profile
@@ -54,22 +53,44 @@ same_sized {A} {K} {L} e s = go s.low s.high s.extensible
     go low high false = same_root_sized e low high
     go low high true = same_map (same_fork (same_root_sized e low high) (same_general e (IsOtherCount (record { low = low; high = high; extensible = true }))))
 
+-- ---- counts
+
+-- a count between the bounds
+count_spelled : (low high : ℕ) → low ≤ high → Same (CountWithin low high) (SpelledBy (λ n. (low ≤ n) × (n ≤ high)) (λ n. ones (constrained (suc (high - low)) (n - low))))
+count_spelled low high o = same_after (same_map (below_spelled (suc (high - low)))) (map_spelled there back)
+  where
+    there : (k : ℕ) → k < suc (high - low) → ((low ≤ low + k) × (low + k ≤ high)) × (ones (constrained (suc (high - low)) k) ≡ ones (constrained (suc (high - low)) (low + k - low)))
+    there k h = let e : k ≡ low + k - low = omega arith in ((omega arith, omega arith), ap (λ (i : ℕ). ones (constrained (suc (high - low)) i)) e)
+
+    back : (n : ℕ) → (low ≤ n) × (n ≤ high) → (k : ℕ) × (k < suc (high - low)) × (n ≡ low + k)
+    back n h = (n - low, omega (arith, h.0, h.1), omega (arith, h.0))
+
+-- where the bounds are one, the count has no bits
+no_count_bits : (n m : ℕ) → constrained (suc (n - n)) m ≡ []
+no_count_bits n m = let none : n - n ≡ 0 = omega arith in ap (λ (k : ℕ). bits (width (suc k)) m) none
+
+-- so many items in a row, and no count
+pub fixed_sized : {A : Type 0} (L : A → List Chunk → Type 0) (n : ℕ) → Same (Row L n) (RootSized n (Some n) L)
+fixed_sized {A} L n = record {
+  to = λ vs cs h. record {
+    source = (n, vs);
+    spelt = record { first = []; second = cs; spelt = (count_spelled n n (omega arith)).from n [] (record { fits = (omega arith, omega arith); same = ap ones (sym (no_count_bits n (n - n))) }); follows = h; whole = refl };
+    seen = refl;
+  };
+  from = λ vs cs h.
+      let c = (count_spelled n n (omega arith)).to h.source.0 h.spelt.first h.spelt.spelt in
+      let count : h.source.0 ≡ n = omega (arith, c.fits.0, c.fits.1) in
+      let none : h.spelt.first ≡ [] = c.same ∙ ap ones (no_count_bits n (h.source.0 - n)) in
+      let same : cs ≡ h.spelt.second = h.spelt.whole ∙ ap (λ (l : List Chunk). l ++ h.spelt.second) none in
+      subst (λ (l : List Chunk). Row L n vs l) (sym same) (subst (λ (ws : List A). Row L n ws h.spelt.second) (sym h.seen) (subst (λ (k : ℕ). Row L k h.source.1 h.spelt.second) count h.spelt.follows));
+}
+
 -- ---- lists of items that are spelt by a function
 
 module _ {A : Type 0} (P : A → Type 0) (code : A → List Chunk) where
   -- lists that fit a size
   abbrev pub FitSize : SizeRange → List A → Type 0
   FitSize s vs = FitsLength s (length vs) × AllByRecursion P vs
-
-  -- a count between the bounds
-  count_spelled : (low high : ℕ) → low ≤ high → Same (CountWithin low high) (SpelledBy (λ n. (low ≤ n) × (n ≤ high)) (λ n. ones (constrained (suc (high - low)) (n - low))))
-  count_spelled low high o = same_after (same_map (below_spelled (suc (high - low)))) (map_spelled there back)
-    where
-      there : (k : ℕ) → k < suc (high - low) → ((low ≤ low + k) × (low + k ≤ high)) × (ones (constrained (suc (high - low)) k) ≡ ones (constrained (suc (high - low)) (low + k - low)))
-      there k h = let e : k ≡ low + k - low = omega arith in ((omega arith, omega arith), ap (λ (i : ℕ). ones (constrained (suc (high - low)) i)) e)
-
-      back : (n : ℕ) → (low ≤ n) × (n ≤ high) → (k : ℕ) × (k < suc (high - low)) × (n ≡ low + k)
-      back n h = (n - low, omega (arith, h.0, h.1), omega (arith, h.0))
 
   -- a count, and as many items
   bounded_spelled : (low high : ℕ) → low ≤ high → Same (RootSized low (Some high) (SpelledBy P code))

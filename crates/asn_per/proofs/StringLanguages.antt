@@ -1,27 +1,25 @@
 -- BIT STRING, OCTET STRING, the restricted character strings and UTF8String in PER are put together from their items.
-use Rattle.std.proofs.Common.{◌≡◌, ◌≤◌, ◌<◌, ◌+◌, ◌-◌, ◌==◌, ℕ, zero, suc, Bool, true, false, ◌&&◌, ◌||◌, List, [], ◌∷◌, map, length, IsTrue, IsUtf8, nat_le, nat_lt, refl, sym, ap, subst, ◌∙◌, arith}
-use Rattle.std.proofs.lemmas.Bool.{and_parts, ltb-true, leb-true, lt-ltb, le-leb, eqb-true, eq-eqb}
+use Rattle.std.proofs.Common.{◌≡◌, ◌≤◌, ◌<◌, ◌+◌, ◌-◌, ◌==◌, ℕ, zero, suc, Bool, true, false, ◌&&◌, ◌||◌, List, [], ◌∷◌, length, IsTrue, IsUtf8, nat_le, refl, sym, ap, arith}
+use Rattle.std.proofs.lemmas.Bool.{and_parts, ltb-true, leb-true, lt-ltb, le-leb, eqb-true}
 use Rattle.std.specs.List.{AllByRecursion}
 use Rattle.asn_values.specs.Datum.{Datum, bit_list, octet_list, characters, unicode}
 use Rattle.asn_values.specs.Shape.{SizeRange, Alphabet, ia5, numeric, visible, bit_string, octet_string, restricted, utf8_string}
-use Rattle.asn_values.specs.Fits.{Fits, FitsLength, max_len, is_of_kind}
+use Rattle.asn_values.specs.Fits.{Fits, max_len, is_of_kind}
 use Rattle.asn_values.specs.Profile.{InProfile, EmptyRange, SizeTooLarge}
 use Rattle.asn_bits.specs.Numbers.{bits}
-use Rattle.asn_rules.specs.Chunks.{Chunk, utf8_field, one, ones, sealed}
+use Rattle.asn_rules.specs.Chunks.{utf8_field, one, ones}
 use Rattle.asn_rules.specs.Components.{bit_of}
-use Rattle.asn_rules.specs.Languages.{Lawful, Map, Plain}
-use Rattle.asn_rules.specs.Sets.{InSet}
+use Rattle.asn_rules.specs.Languages.{Lawful}
 use Rattle.asn_rules.specs.Forks.{Same}
-use Rattle.asn_rules.specs.Fields.{Octet}
 use Rattle.asn_rules.specs.Spellings.{SpelledBy}
 use Rattle.asn_rules.proofs.Fields.{octet_lawful, octet_spelled}
 use Rattle.asn_rules.proofs.Forks.{map_lawful_on, same_lawful}
 use Rattle.asn_rules.proofs.Sets.{set_lawful}
 use Rattle.asn_rules.proofs.Spellings.{same_after, same_map, same_spelled, set_spelled, map_spelled, sealed_spelled}
-use Rattle.asn_per.specs.Per.{per, character_bits, sized}
-use Rattle.asn_per.specs.Kinds.{Values, Below, truth_of, Bit, BitStrings, OctetStrings, numeric_at, Character, Texts, IsUtf8Content, Utf8Strings, Sized}
+use Rattle.asn_per.specs.Per.{character_bits}
+use Rattle.asn_per.specs.Kinds.{Values, truth_of, Bit, BitStrings, OctetStrings, numeric_at, Character, Texts, Utf8Strings}
 use Rattle.asn_per.proofs.BooleanAndNull.{bit_spelled}
-use Rattle.asn_per.proofs.SizedLists.{IsGoodSize, FitSize, same_sized, sized_spelled}
+use Rattle.asn_per.proofs.SizedLists.{FitSize, same_sized, sized_spelled}
 
 -- ---- BIT STRING
 
@@ -35,6 +33,7 @@ bit_lawful = map_lawful_on (λ a b x y p q e. once a b p.spelt.member q.spelt.me
     once zero (suc b) p q e = absurd (cc)
     once (suc a) zero p q e = absurd (cc)
 
+-- bits under a size
 pub bit_strings_compose : (s : SizeRange) → InProfile (bit_string s) → Same (BitStrings s) (Values (bit_string s))
 bit_strings_compose s good =
     same_after (same_map (same_after (same_sized bit_spelled s) (sized_spelled (λ b. Unit {0}) (λ b. one (bit_of b) ∷ []) (same_lawful bit_spelled bit_lawful) s (record { ordered = good EmptyRange; small = good SizeTooLarge }))))
@@ -50,6 +49,7 @@ bit_strings_compose s good =
 
 -- ---- OCTET STRING
 
+-- octets under a size
 pub octet_strings_compose : (s : SizeRange) → InProfile (octet_string s) → Same (OctetStrings s) (Values (octet_string s))
 octet_strings_compose s good =
     same_after (same_map (same_after (same_sized octet_spelled s) (sized_spelled (λ o. o < 256) (λ o. ones (bits 8 o)) (same_lawful octet_spelled octet_lawful) s (record { ordered = good EmptyRange; small = good SizeTooLarge }))))
@@ -73,7 +73,7 @@ not_space c h = go (c == 32) refl
     go true e = absurd (let s = eqb-true c 32 e in omega arith)
     go false e = refl
 
--- an index is that of a character, and each character has one
+-- an index is that of a character
 numeric_there : (n : ℕ) → n < 11 → IsTrue (is_of_kind numeric (numeric_at n)) × (ones (bits 4 n) ≡ ones (character_bits numeric (numeric_at n)))
 numeric_there zero h = (refl, refl)
 numeric_there (suc n) h =
@@ -81,6 +81,7 @@ numeric_there (suc n) h =
     let i : numeric_index (48 + n) ≡ suc n = rw (no, numeric_index) (omega arith) in
     (rw (no, le-leb 48 (48 + n) (omega arith), le-leb (48 + n) 57 (omega arith)) refl, ap (λ (k : ℕ). ones (bits 4 k)) (sym i))
 
+-- each character has an index
 numeric_back : (c : ℕ) → IsTrue (is_of_kind numeric c) → (n : ℕ) × (n < 11) × (c ≡ numeric_at n)
 numeric_back c h = go (c == 32) refl h
   where
@@ -108,6 +109,7 @@ character_lawful numeric = map_lawful_on (λ a b x y p q e. once a b e) (set_law
     once zero (suc b) e = absurd (omega arith)
     once (suc a) zero e = absurd (omega arith)
 
+-- characters under a size
 pub texts_compose : (k : Alphabet) (s : SizeRange) → InProfile (restricted k s) → Same (Texts k s) (Values (restricted k s))
 texts_compose k s good =
     same_after (same_map (same_after (same_sized (character_spelled k) s) (sized_spelled (λ c. IsTrue (is_of_kind k c)) (λ c. ones (character_bits k c)) (same_lawful (character_spelled k) (character_lawful k)) s (record { ordered = good EmptyRange; small = good SizeTooLarge }))))
@@ -119,6 +121,7 @@ texts_compose k s good =
 
 -- ---- UTF8String
 
+-- a sealed field
 pub utf8_strings_compose : Same Utf8Strings (Values utf8_string)
 utf8_strings_compose =
     same_after (same_map (sealed_spelled utf8_field {P = λ os. (length os ≤ max_len) × IsUtf8 os} {content = λ os. os} (λ os c h. ((h.most, h.text), h.same)) (λ os h. record { text = h.1; most = h.0; same = refl })))

@@ -1,23 +1,23 @@
 -- Each kind of type in PER as a language that is put together from the languages of its parts, in the terms
 -- of X.691.
-use Rattle.std.specs.Prelude.{◌≡◌, ◌+◌, ◌-◌, ◌*◌, ◌^◌, ◌<◌, ◌≤◌, ◌⊎◌, ◌==◌, ℕ, zero, suc, ℤ, pos, ◌+ℤ◌, ◌≤ℤ◌, Bool, true, false, List, [], ◌∷◌, ◌++◌, length, replicate, Option, Some, None, IsUtf8}
+use Rattle.std.specs.Prelude.{◌≡◌, ◌+◌, ◌-◌, ◌^◌, ◌<◌, ◌≤◌, ◌⊎◌, ◌==◌, ℕ, zero, suc, ℤ, pos, ◌+ℤ◌, ◌≤ℤ◌, Bool, true, false, List, [], ◌∷◌, ◌++◌, length, Option, Some, None, IsUtf8}
 use mathlib.Core.Logic.{inl, inr}
 use Rattle.asn_values.specs.Datum.{Datum, truth, nothing, number, item, bit_list, octet_list, characters, unicode, components, elements, alternative, component_list, components_of, elements_of}
-use Rattle.asn_values.specs.Shape.{Range, SizeRange, Alphabet, ia5, numeric, visible, Shape, boolean, null, integer, enumerated, bit_string, octet_string, restricted, utf8_string, sequence, sequence_of, choice, Label, MoreLabels, closed_labels, marked_labels, Demand, must, optional, default, Fields, no_fields, field, closed, marked, demands, Alternatives, no_alternatives, one_of, MoreAlternatives, closed_choice, marked_choice, count}
-use Rattle.asn_values.specs.Fits.{Fits, FitsEach, max_len, lowest_integer, highest_integer, in_range, in_size, FitsNumber}
+use Rattle.asn_values.specs.Shape.{Range, SizeRange, Alphabet, ia5, numeric, visible, Shape, boolean, null, integer, enumerated, bit_string, octet_string, restricted, utf8_string, sequence, sequence_of, choice, Label, MoreLabels, closed_labels, marked_labels, Fields, no_fields, field, closed, marked, demands, Alternatives, no_alternatives, one_of, MoreAlternatives, closed_choice, marked_choice, count}
+use Rattle.asn_values.specs.Fits.{Fits, max_len, lowest_integer, highest_integer, in_range, in_size, FitsNumber}
 use Rattle.asn_values.specs.Profile.{InProfile}
 use Rattle.asn_bits.specs.Numbers.{bits, width, above, least_from}
-use Rattle.asn_rules.specs.Chunks.{Chunk, open_field, utf8_field, ones}
-use Rattle.asn_rules.specs.Components.{number_at, presence}
+use Rattle.asn_rules.specs.Chunks.{Chunk, open_field, utf8_field}
+use Rattle.asn_rules.specs.Components.{number_at}
 use Rattle.asn_rules.specs.Languages.{Then, Map, Nothing, Row, Plain, Sealed, prepended}
 use Rattle.asn_rules.specs.Sets.{InSet}
 use Rattle.asn_rules.specs.Forks.{Fork, Same}
-use Rattle.asn_rules.specs.General.{General, behind_first, together}
+use Rattle.asn_rules.specs.General.{General, behind_first}
 use Rattle.asn_rules.specs.Counted.{Counted, number_of, Least, signed_number, LeastSigned}
 use Rattle.asn_rules.specs.Fields.{Octet}
 use Rattle.asn_rules.specs.Reading.{Holds}
 use Rattle.asn_rules.specs.Spellings.{SpelledBy}
-use Rattle.asn_per.specs.Per.{per, per_each, rank}
+use Rattle.asn_per.specs.Per.{per, rank}
 use Rattle.asn_per.specs.Rules.{per_ruling}
 
 -- ---- what the kinds are put together from
@@ -50,9 +50,11 @@ truth_of (suc n) = true
 abbrev pub Bit : Bool → List Chunk → Type 0
 Bit = Map truth_of (Below 1 2)
 
+-- a BOOLEAN ("encoding the boolean type")
 abbrev pub Booleans : Datum → List Chunk → Type 0
 Booleans = Map truth Bit
 
+-- NULL, which has no bits ("encoding the null type")
 abbrev pub Nulls : Datum → List Chunk → Type 0
 Nulls = Nothing nothing
 
@@ -124,9 +126,11 @@ Sized s L = elim s.extensible [
   | true ↦ Map of_either (Fork (RootSized s.low s.high L) (General L (IsOtherCount s)))
 ]
 
+-- a BIT STRING ("encoding the bitstring type")
 abbrev pub BitStrings : SizeRange → Datum → List Chunk → Type 0
 BitStrings s = Map bit_list (Sized s Bit)
 
+-- an OCTET STRING ("encoding the octetstring type")
 abbrev pub OctetStrings : SizeRange → Datum → List Chunk → Type 0
 OctetStrings s = Map octet_list (Sized s Octet)
 
@@ -141,9 +145,11 @@ Character ia5 = Plain (InSet 7 (λ c. c < 128))
 Character visible = Plain (InSet 7 (λ c. (32 ≤ c) × (c ≤ 126)))
 Character numeric = Map numeric_at (Plain (InSet 4 (λ n. n < 11)))
 
+-- an IA5String, NumericString or VisibleString
 abbrev pub Texts : Alphabet → SizeRange → Datum → List Chunk → Type 0
 Texts k s = Map characters (Sized s (Character k))
 
+-- a SEQUENCE OF ("encoding the sequence-of type")
 abbrev pub ListsOf : Shape → SizeRange → Datum → List Chunk → Type 0
 ListsOf t s = Map (λ vs. elements (elements_of vs)) (Sized s (Values t))
 
@@ -155,6 +161,7 @@ pub record IsUtf8Content (os c : List ℕ) : Type 0 where
   pub most : length os ≤ max_len
   pub same : c ≡ os
 
+-- a UTF8String: its octets under their general length
 abbrev pub Utf8Strings : Datum → List Chunk → Type 0
 Utf8Strings = Map unicode (Sealed utf8_field IsUtf8Content)
 
@@ -226,3 +233,57 @@ with_entries (v, es) = v
 abbrev pub MarkedSequences : Fields → Fields → Datum → List Chunk → Type 0
 MarkedSequences root fs =
     Map of_either (Fork (Map (λ v. with_entries (v, absent_entries fs)) (Values (sequence root closed))) (Map with_entries (Then (Values (sequence root closed)) (λ v. Additions fs))))
+
+-- ---- what each kind of type is put together from
+
+-- "encoding the boolean type"
+abbrev pub BooleansCompose : Type 0
+BooleansCompose = Same Booleans (Values boolean)
+
+-- "encoding the null type"
+abbrev pub NullsCompose : Type 0
+NullsCompose = Same Nulls (Values null)
+
+-- "encoding the integer type"
+abbrev pub IntegersCompose : Type 0
+IntegersCompose = (b : Range) → InProfile (integer b) → Same (Integers b) (Values (integer b))
+
+-- "encoding the enumerated type"
+abbrev pub EnumeratedCompose : Type 0
+EnumeratedCompose = (root : List Label) (more : MoreLabels) → InProfile (enumerated root more) → Same (Items root more) (Values (enumerated root more))
+
+-- "encoding the bitstring type"
+abbrev pub BitStringsCompose : Type 0
+BitStringsCompose = (s : SizeRange) → InProfile (bit_string s) → Same (BitStrings s) (Values (bit_string s))
+
+-- "encoding the octetstring type"
+abbrev pub OctetStringsCompose : Type 0
+OctetStringsCompose = (s : SizeRange) → InProfile (octet_string s) → Same (OctetStrings s) (Values (octet_string s))
+
+-- "encoding the restricted character string types", those of known multiplier
+abbrev pub TextsCompose : Type 0
+TextsCompose = (k : Alphabet) (s : SizeRange) → InProfile (restricted k s) → Same (Texts k s) (Values (restricted k s))
+
+-- the same, UTF8String
+abbrev pub Utf8StringsCompose : Type 0
+Utf8StringsCompose = Same Utf8Strings (Values utf8_string)
+
+-- "encoding the sequence-of type"
+abbrev pub ListsCompose : Type 0
+ListsCompose = (t : Shape) (s : SizeRange) → InProfile (sequence_of t s) → Same (ListsOf t s) (Values (sequence_of t s))
+
+-- a list of a fixed count stands without it: bits, octets, characters and elements
+abbrev pub FixedSizesCompose : Type 0
+FixedSizesCompose =
+    ((n : ℕ) → Same (Row Bit n) (RootSized n (Some n) Bit))
+    × ((n : ℕ) → Same (Row Octet n) (RootSized n (Some n) Octet))
+    × ((k : Alphabet) (n : ℕ) → Same (Row (Character k) n) (RootSized n (Some n) (Character k)))
+    × ((t : Shape) (n : ℕ) → Same (Row (Values t) n) (RootSized n (Some n) (Values t)))
+
+-- "encoding the choice type"
+abbrev pub ChoicesCompose : Type 0
+ChoicesCompose = (root : Alternatives) (more : MoreAlternatives) → InProfile (choice root more) → Same (Choices root more) (Values (choice root more))
+
+-- "encoding the sequence type", with an extension mark
+abbrev pub MarkedSequencesCompose : Type 0
+MarkedSequencesCompose = (root fs : Fields) → InProfile (sequence root (marked fs)) → Same (MarkedSequences root fs) (Values (sequence root (marked fs)))

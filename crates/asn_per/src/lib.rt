@@ -3,8 +3,10 @@
 
 mod encoder;
 mod kinds;
+mod integer_reader;
 mod laws;
 mod number_reader;
+mod value_reader;
 
 pub use encoder::encode;
 pub use kinds::kinds_compose;

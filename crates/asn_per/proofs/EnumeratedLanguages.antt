@@ -98,7 +98,7 @@ closed_is root (item p) h = omega (arith, h)
 closed_is root _ h = absurd h
 
 -- the numbers of the root are distinct
-root_once : (root : List Label) (more : MoreLabels) → InProfile (enumerated root more) → has_twice int_eq (numbers root) ≡ false
+pub root_once : (root : List Label) (more : MoreLabels) → InProfile (enumerated root more) → has_twice int_eq (numbers root) ≡ false
 root_once root more good = left_false _ _ (good BadEnumeration)
 
 -- and the additions at most 64

@@ -1,6 +1,7 @@
 -- Each kind of type in PER as a language that is put together from the languages of its parts, in the terms
 -- of X.691.
-use Rattle.std.specs.Prelude.{◌≡◌, ◌+◌, ◌-◌, ◌^◌, ◌<◌, ◌≤◌, ◌⊎◌, ◌==◌, ℕ, zero, suc, ℤ, pos, ◌+ℤ◌, ◌≤ℤ◌, Bool, true, false, List, [], ◌∷◌, ◌++◌, length, Option, Some, None, IsUtf8}
+use Rattle.std.specs.Prelude.{⊤, ◌≡◌, ◌≢◌, ◌+◌, ◌-◌, ◌^◌, ◌<◌, ◌≤◌, ◌⊎◌, ◌==◌, ℕ, zero, suc, ℤ, pos, ◌+ℤ◌, ◌≤ℤ◌, Bool, true, false, List, [], ◌∷◌, ◌++◌, length, Option, Some, None, IsUtf8}
+use Rattle.std.specs.Option.{option_map}
 use mathlib.Core.Logic.{inl, inr}
 use Rattle.asn_values.specs.Datum.{Datum, truth, nothing, number, item, bit_list, octet_list, characters, unicode, components, elements, alternative, component_list, components_of, elements_of}
 use Rattle.asn_values.specs.Shape.{Range, SizeRange, Alphabet, ia5, numeric, visible, Shape, boolean, null, integer, enumerated, bit_string, octet_string, restricted, utf8_string, sequence, sequence_of, choice, Label, MoreLabels, closed_labels, marked_labels, Fields, no_fields, field, closed, marked, demands, Alternatives, no_alternatives, one_of, MoreAlternatives, closed_choice, marked_choice, count}
@@ -15,6 +16,7 @@ use Rattle.asn_rules.specs.Forks.{Fork, Same}
 use Rattle.asn_rules.specs.General.{General, behind_first}
 use Rattle.asn_rules.specs.Counted.{Counted, number_of, Least, signed_number, LeastSigned}
 use Rattle.asn_rules.specs.Fields.{Octet}
+use Rattle.asn_rules.specs.Listed.{IsOther, Spelt}
 use Rattle.asn_rules.specs.Reading.{Holds}
 use Rattle.asn_rules.specs.Spellings.{SpelledBy}
 use Rattle.asn_per.specs.Per.{per, rank}
@@ -287,3 +289,28 @@ ChoicesCompose = (root : Alternatives) (more : MoreAlternatives) → InProfile (
 -- "encoding the sequence type", with an extension mark
 abbrev pub MarkedSequencesCompose : Type 0
 MarkedSequencesCompose = (root fs : Fields) → InProfile (sequence root (marked fs)) → Same (MarkedSequences root fs) (Values (sequence root (marked fs)))
+
+-- ---- components with a DEFAULT, which is not spelt: the values but for one
+
+-- the index of the item that is left out is not among those of the root
+abbrev pub IndexesBut : List Label → Option ℕ → ℕ → Type 0
+IndexesBut root None n = n < length root
+IndexesBut root (Some p) n = (n < length root) × (n ≢ rank root (number_at root p))
+
+-- an item of the root that may be left out is one of it
+abbrev pub IsRootPlace : List Label → Option ℕ → Type 0
+IsRootPlace root None = ⊤
+IsRootPlace root (Some p) = p < length root
+
+-- ENUMERATED but for one item
+abbrev pub EnumeratedButOne : Type 0
+EnumeratedButOne =
+    (root : List Label) (p : Option ℕ) → InProfile (enumerated root closed_labels) → IsRootPlace root p →
+    Same (Map (λ n. item (place_of root n)) (Plain (InSet (width (length root)) (IndexesBut root p)))) (Spelt per (option_map item p) (enumerated root closed_labels))
+
+-- INTEGER without a low bound but for one
+abbrev pub UnboundedButOne : Type 0
+UnboundedButOne =
+    (high e : Option ℤ) →
+    Same (Unconstrained (λ z. FitsNumber (record { low = None; high = high; extensible = false }) z × IsOther (option_map number e) (number z)))
+    (Spelt per (option_map number e) (integer (record { low = None; high = high; extensible = false })))

@@ -1,10 +1,11 @@
 //! Each kind of type in CANONICAL-PER UNALIGNED (X.691) as a language that is put together from the languages of its parts.
 
-ghost use Rattle.asn_per.specs.Kinds.{BooleansCompose, NullsCompose, IntegersCompose, EnumeratedCompose, BitStringsCompose, OctetStringsCompose, TextsCompose, Utf8StringsCompose, ListsCompose, FixedSizesCompose, ChoicesCompose, MarkedSequencesCompose};
+ghost use Rattle.asn_per.specs.Kinds.{BooleansCompose, NullsCompose, IntegersCompose, EnumeratedCompose, BitStringsCompose, OctetStringsCompose, TextsCompose, Utf8StringsCompose, ListsCompose, FixedSizesCompose, ChoicesCompose, MarkedSequencesCompose, EnumeratedButOne, UnboundedButOne};
 
 /// Of each kind of type of the profile, the spellings of its values are those of its parts, put
 /// together: numbers of a set in so many bits, lengths, items in a row, extension bits that fork, and
-/// open fields.
+/// open fields. So it is of a list whose size is fixed, which has no count, and of the values but for a
+/// DEFAULT.
 pub fn kinds_compose()
     ensures booleans { BooleansCompose }
     ensures nulls { NullsCompose }
@@ -18,4 +19,6 @@ pub fn kinds_compose()
     ensures fixed_sizes { FixedSizesCompose }
     ensures choices { ChoicesCompose }
     ensures marked_sequences { MarkedSequencesCompose }
+    ensures enumerated_but_one { EnumeratedButOne }
+    ensures unbounded_but_one { UnboundedButOne }
 {}

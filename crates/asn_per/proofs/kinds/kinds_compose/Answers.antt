@@ -8,6 +8,7 @@ use Rattle.asn_per.proofs.ListLanguages.{lists_compose}
 use Rattle.asn_per.proofs.ChoiceLanguages.{choices_compose}
 use Rattle.asn_per.proofs.MarkedSequences.{marked_sequences_compose}
 use Rattle.asn_per.proofs.SizedLists.{fixed_sized}
+use Rattle.asn_per.proofs.LeftOut.{enumerated_but_one, unbounded_but_one}
 use Rattle.asn_per.proofs.kinds.kinds_compose.Goals as goal
 
 pub returns-clause-booleans : goal.returns-clause-booleans
@@ -45,3 +46,9 @@ returns-clause-choices c = choices_compose
 
 pub returns-clause-marked_sequences : goal.returns-clause-marked_sequences
 returns-clause-marked_sequences c = marked_sequences_compose
+
+pub returns-clause-enumerated_but_one : goal.returns-clause-enumerated_but_one
+returns-clause-enumerated_but_one c = enumerated_but_one
+
+pub returns-clause-unbounded_but_one : goal.returns-clause-unbounded_but_one
+returns-clause-unbounded_but_one c = unbounded_but_one

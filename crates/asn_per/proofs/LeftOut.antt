@@ -1,15 +1,15 @@
 -- The values of a type but for one that is left out, as a component with a DEFAULT is spelt: ENUMERATED, and INTEGER
 -- without a low bound.
-use Rattle.std.proofs.Common.{◌≡◌, ◌≢◌, ◌<◌, ◌^◌, ◌==◌, ℕ, ℤ, Bool, true, false, List, length, Option, Some, None, refl, sym, ap, subst, ◌∙◌, arith}
+use Rattle.std.proofs.Common.{◌≡◌, ◌≢◌, ◌<◌, ◌^◌, ◌==◌, ℕ, ℤ, Bool, true, false, List, length, Option, Some, None, refl, sym, ap, ◌∙◌, arith}
 use Rattle.std.proofs.lemmas.Bool.{true≢false, eqb-true, eq-eqb}
 use Rattle.std.specs.Option.{option_map}
 use Rattle.asn_values.specs.Datum.{Datum, number, item}
 use Rattle.asn_values.specs.Shape.{Shape, Label, closed_labels, integer, enumerated}
 use Rattle.asn_values.specs.Fits.{Fits, FitsNumber}
-use Rattle.asn_values.specs.Profile.{InProfile, int_eq, has_twice}
+use Rattle.asn_values.specs.Profile.{int_eq, has_twice}
 use Rattle.asn_bits.specs.Numbers.{bits, width}
 use Rattle.asn_bits.proofs.Widths.{width_fits}
-use Rattle.asn_rules.specs.Chunks.{Chunk, ones}
+use Rattle.asn_rules.specs.Chunks.{ones}
 use Rattle.asn_rules.specs.Components.{is_default, number_at}
 use Rattle.asn_rules.specs.Forks.{Same}
 use Rattle.asn_rules.specs.Listed.{IsOther, Spelt}

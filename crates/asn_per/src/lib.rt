@@ -2,8 +2,8 @@
 #![tactic(auto)]
 
 mod encoder;
-mod kinds;
 mod integer_reader;
+mod kinds;
 mod laws;
 mod number_reader;
 mod value_reader;

@@ -3,11 +3,13 @@
 
 mod encoder;
 mod integer_reader;
+mod kinds;
 mod laws;
 mod number_reader;
 mod value_reader;
 
 pub use encoder::encode;
+pub use kinds::kinds_compose;
 pub use laws::{
     answers_exclude, beginnings_are_live, encoding_laws, live_by_parts, live_is_closed,
     readers_tell, spellings_tell, values_and_bits,

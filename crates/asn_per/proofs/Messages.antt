@@ -38,7 +38,7 @@ zeros_behind t v us r k good h e =
     leads_on (subst (λ (zs : List ℕ). Leads per_fields (Fixed zs) r (λ u. v) (Padded per_fields filling (Spelt per None t)) us) e fill) (leads_same per_fields us (message_language t))
 
 -- no more units are left than there were
-left_fewer : {A : Type 0} {R : Fielding} {L : A → List Chunk → Type 0} {v : A} {us r : List ℕ} → Spells R L v us r → length r ≤ length us
+pub left_fewer : {A : Type 0} {R : Fielding} {L : A → List Chunk → Type 0} {v : A} {us r : List ℕ} → Spells R L v us r → length r ≤ length us
 left_fewer {R = R} {r = r} h = omega (arith, ap length h.split, length-append (flat R.spelled h.chunks) r)
 
 -- no bit was used: eight zeros

@@ -1,8 +1,7 @@
 -- What the reader of a message says of the bits of the octets that are read is what the decoder answers to all
 -- octets.
-use Rattle.std.proofs.Common.{◌≡◌, ◌≢◌, ◌≤◌, ◌<◌, ◌-◌, ◌*◌, ◌%◌, ◌/◌, ◌⊎◌, inl, inr, ℕ, List, [], ◌∷◌, length, take, drop, min, zero, suc, length-append, length-drop, refl, sym, ap, ◌∙◌, subst, arith}
+use Rattle.std.proofs.Common.{◌≡◌, ◌≤◌, ◌<◌, ◌-◌, ◌*◌, ◌%◌, ◌/◌, ℕ, List, [], ◌∷◌, length, take, drop, min, zero, suc, length-append, length-drop, refl, ap, ◌∙◌, subst, arith}
 use Rattle.std.proofs.lemmas.List.{length-take-le}
-use Rattle.std.proofs.Math.Seq.{take-length}
 use Rattle.asn_values.specs.Datum.{Datum}
 use Rattle.asn_values.specs.Shape.{Shape}
 use Rattle.asn_values.specs.Profile.{InProfile}

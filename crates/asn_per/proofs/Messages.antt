@@ -1,5 +1,5 @@
 -- A message is the spelling of a value and the zeros that fill up its octets: what its reader cites at each exit.
-use Rattle.std.proofs.Common.{◌≡◌, ◌≢◌, ◌≤◌, ◌-◌, ◌*◌, ◌%◌, ◌/◌, ℕ, zero, suc, List, ◌++◌, length, replicate, None, length-append, refl, sym, ap, ◌∙◌, subst, arith}
+use Rattle.std.proofs.Common.{◌≡◌, ◌≢◌, ◌≤◌, ◌-◌, ◌*◌, ◌%◌, ◌/◌, ℕ, zero, suc, List, length, replicate, None, length-append, refl, sym, ap, ◌∙◌, subst, arith}
 use Rattle.asn_values.specs.Datum.{Datum}
 use Rattle.asn_values.specs.Shape.{Shape}
 use Rattle.asn_values.specs.Profile.{InProfile}

@@ -1,5 +1,5 @@
 -- The zeros that fill up a spelling, as the number 0 in so many bits.
-use Rattle.std.proofs.Common.{◌≡◌, ◌^◌, ◌<◌, ℕ, List, length, replicate, None, refl, sym, ap, ◌∙◌, subst, arith}
+use Rattle.std.proofs.Common.{◌≡◌, ℕ, List, replicate, None, refl, sym, ap, ◌∙◌, subst, arith}
 use Rattle.std.specs.Bool.{⊤}
 use Rattle.std.proofs.lemmas.Nat.{pow_pos}
 use Rattle.asn_bits.specs.Numbers.{bits}

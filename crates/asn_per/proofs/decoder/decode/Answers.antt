@@ -1,9 +1,8 @@
-use Rattle.std.proofs.Common.{◌≡◌, ◌≤◌, ◌<◌, ◌-◌, ◌*◌, ◌/◌, ◌%◌, ℕ, List, length, take, sym, ◌∙◌, ap, subst, arith}
-use Rattle.asn_values.specs.Profile.{InProfile}
+use Rattle.std.proofs.Common.{◌≡◌, ◌≤◌, ◌<◌, ◌-◌, ◌*◌, ◌/◌, ℕ, List, length, take, sym, ◌∙◌, ap, subst, arith}
 use Rattle.asn_values.specs.View.{shape_of, datum_of}
 use Rattle.asn_bits.specs.Numbers.{unpacked}
 use Rattle.asn_rules.specs.Answer.{Answer, done, refused, too_long, more, max_octets}
-use Rattle.asn_rules.specs.Languages.{Spells, Short, Refused}
+use Rattle.asn_rules.specs.Languages.{Spells}
 use Rattle.asn_rules.specs.Reading.{Wholes}
 use Rattle.asn_rules.specs.Stops.{Stops}
 use Rattle.asn_rules.specs.declared.stop.Stop.TheVariants as stop

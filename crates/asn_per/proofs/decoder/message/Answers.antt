@@ -1,4 +1,4 @@
-use Rattle.std.proofs.Common.{◌≡◌, ◌-◌, List, length, replicate, None, ◌∙◌, sym}
+use Rattle.std.proofs.Common.{◌≡◌, ◌-◌, length, replicate, None, ◌∙◌, sym}
 use Rattle.std.proofs.lemmas.Result.{err_from_is_err_and}
 use Rattle.asn_rules.proofs.Leads.{stops_by}
 use Rattle.asn_per.specs.Per.{filling}

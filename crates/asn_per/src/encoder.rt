@@ -22,7 +22,7 @@ use asn_values::{AsnType, Bounds, Checked, Field, Need, Value, fits, same};
 use std::alloc::{AllocError, Global};
 
 /// The most octets of a message.
-const MAX_OCTETS: usize = 268_435_455;
+pub(crate) const MAX_OCTETS: usize = 268_435_455;
 
 /// The complete encoding of a value of the type (X.691, "complete encoding").
 ///

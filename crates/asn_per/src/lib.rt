@@ -1,6 +1,7 @@
 //! CANONICAL-PER UNALIGNED (X.691): encoding and decoding of whole messages.
 #![tactic(auto)]
 
+mod decoder;
 mod encoder;
 mod integer_reader;
 mod kinds;
@@ -8,6 +9,7 @@ mod laws;
 mod number_reader;
 mod value_reader;
 
+pub use decoder::decode;
 pub use encoder::encode;
 pub use kinds::kinds_compose;
 pub use laws::{

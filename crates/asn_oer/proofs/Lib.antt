@@ -11,3 +11,4 @@ pub mod Strings
 pub mod Tells
 pub mod PlaceExamples
 pub mod Whole
+pub mod SimpleLanguages

@@ -4,3 +4,4 @@ pub mod NumberVectors
 pub mod StringVectors
 pub mod ListVectors
 pub mod FieldVectors
+pub mod SimpleTypes

@@ -12,3 +12,4 @@ pub mod Tells
 pub mod PlaceExamples
 pub mod Whole
 pub mod SimpleLanguages
+pub mod IntegerLanguages

@@ -13,3 +13,5 @@ pub mod PlaceExamples
 pub mod Whole
 pub mod SimpleLanguages
 pub mod IntegerLanguages
+pub mod ItemLanguages
+pub mod StringLanguages

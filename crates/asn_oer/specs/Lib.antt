@@ -5,3 +5,4 @@ pub mod StringVectors
 pub mod ListVectors
 pub mod FieldVectors
 pub mod SimpleTypes
+pub mod Strings

@@ -1,12 +1,15 @@
 -- What encodings of BOOLEAN, NULL, INTEGER and ENUMERATED consist of in Canonical OER (X.696).
-use Rattle.std.specs.Prelude.{◌≡◌, ◌-◌, ◌^◌, ℕ, ℤ, pos, negsuc, true, false, List, [], ◌∷◌, Option, Some, None, nat_lt}
-use Rattle.asn_values.specs.Datum.{Datum, truth, nothing, number}
-use Rattle.asn_values.specs.Shape.{Range}
+use Rattle.std.specs.Prelude.{◌≡◌, ◌-◌, ◌^◌, ◌<◌, ◌≤◌, ◌⊎◌, ◌&&◌, ℕ, suc, ℤ, pos, negsuc, Bool, true, false, List, [], ◌∷◌, Option, Some, None, length, nat_lt}
+use Rattle.std.specs.Int.RustNames.{int_le, int_lt}
+use Rattle.asn_values.specs.Datum.{Datum, truth, nothing, number, item}
+use Rattle.asn_values.specs.Shape.{Range, Label}
 use Rattle.asn_values.specs.Fits.{FitsNumber}
+use Rattle.asn_values.specs.Profile.{int_eq}
 use Rattle.asn_rules.specs.Chunks.{Chunk}
-use Rattle.asn_rules.specs.Languages.{Map, Nothing, Plain}
+use Rattle.asn_rules.specs.Components.{number_at}
+use Rattle.asn_rules.specs.Languages.{Then, Map, Nothing, Plain}
 use Rattle.asn_rules.specs.Sets.{InDigits, Between, Among}
-use Rattle.asn_rules.specs.Counted.{Counted, number_of, Least, signed_number, LeastSigned}
+use Rattle.asn_rules.specs.Counted.{SomeOf, Counted, number_of, Least, signed_number, LeastSigned}
 use Rattle.asn_oer.specs.Oer.{magnitude_of, unsigned_octets, signed_size}
 
 -- ---- BOOLEAN and NULL
@@ -70,3 +73,46 @@ BoundedIntegers b None high = CountedSigned (FitsNumber b)
 -- the integers of the range; an extensible one counts as none
 abbrev pub Integers : Range → Datum → List Chunk → Type 0
 Integers b = Map number (elim b.extensible [ true ↦ CountedSigned (FitsNumber b) | false ↦ BoundedIntegers b b.low b.high ])
+
+-- ---- ENUMERATED ("encoding of enumerated types")
+
+-- the number is that of an item
+pub record IsNumberOf (labels : List Label) (z : ℤ) : Type 0 where
+  pub place : ℕ
+  pub here : place < length labels
+  pub same : z ≡ number_at labels place
+
+-- the place of the first item with the number
+abbrev pub place_of : List Label → ℤ → ℕ
+place_of [] z = 0
+place_of (l ∷ labels) z = elim (int_eq z l.number) [ true ↦ 0 | false ↦ suc (place_of labels z) ]
+
+-- a number from 0 to 127, which is one octet
+abbrev pub is_short : ℤ → Bool
+is_short z = int_le (pos 0) z && int_lt z (pos 128)
+
+-- the numbers of the set that are not
+abbrev pub LongOnes : (ℤ → Type 0) → ℤ → Type 0
+LongOnes S z = S z × (is_short z ≡ false)
+
+-- the first octet: a number of the set from 0 to 127, or 128 and the count of the octets of another
+abbrev pub ItemOctet : (ℤ → Type 0) → ℕ → Type 0
+ItemOctet S b = ((b < 128) × S (pos b)) ⊎ ((128 ≤ b) × SomeOf (LeastSigned (LongOnes S)) (b - 128))
+
+-- behind it nothing, or those octets, in two's complement
+abbrev pub BehindItemOctet : (ℤ → Type 0) → ℕ → ℤ → List Chunk → Type 0
+BehindItemOctet S b = elim (nat_lt b 128) [ true ↦ Nothing (pos b) | false ↦ Map (λ n. signed_number (b - 128, n)) (Plain (InDigits 256 (b - 128) (LeastSigned (LongOnes S) (b - 128)))) ]
+
+abbrev pub number_told : ℕ × ℤ → ℤ
+number_told p = p.1
+
+-- the numbers of the set as those of items
+abbrev pub ItemNumbers : (ℤ → Type 0) → ℤ → List Chunk → Type 0
+ItemNumbers S = Map number_told (Then (Plain (InDigits 256 1 (ItemOctet S))) (BehindItemOctet S))
+
+abbrev pub item_told : List Label → ℤ → Datum
+item_told labels z = item (place_of labels z)
+
+-- the items, by their numbers
+abbrev pub Items : List Label → Datum → List Chunk → Type 0
+Items labels = Map (item_told labels) (ItemNumbers (IsNumberOf labels))

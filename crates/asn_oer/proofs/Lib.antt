@@ -15,3 +15,6 @@ pub mod SimpleLanguages
 pub mod IntegerLanguages
 pub mod ItemLanguages
 pub mod StringLanguages
+pub mod OpenTypes
+pub mod ListLanguages
+pub mod ChoiceLanguages

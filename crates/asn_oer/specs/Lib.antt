@@ -6,3 +6,4 @@ pub mod ListVectors
 pub mod FieldVectors
 pub mod SimpleTypes
 pub mod Strings
+pub mod Constructed

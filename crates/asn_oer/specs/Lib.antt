@@ -7,3 +7,4 @@ pub mod FieldVectors
 pub mod SimpleTypes
 pub mod Strings
 pub mod Constructed
+pub mod Kinds

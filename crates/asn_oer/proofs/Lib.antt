@@ -18,3 +18,4 @@ pub mod StringLanguages
 pub mod OpenTypes
 pub mod ListLanguages
 pub mod ChoiceLanguages
+pub mod FilledLanguages

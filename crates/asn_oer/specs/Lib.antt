@@ -8,3 +8,4 @@ pub mod SimpleTypes
 pub mod Strings
 pub mod Constructed
 pub mod Kinds
+pub mod Preambles

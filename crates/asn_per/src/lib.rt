@@ -2,8 +2,10 @@
 #![tactic(auto)]
 
 mod encoder;
+mod integer_reader;
 mod laws;
 mod number_reader;
+mod value_reader;
 
 pub use encoder::encode;
 pub use laws::{

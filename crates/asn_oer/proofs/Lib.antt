@@ -19,3 +19,4 @@ pub mod OpenTypes
 pub mod ListLanguages
 pub mod ChoiceLanguages
 pub mod FilledLanguages
+pub mod ComponentLanguages

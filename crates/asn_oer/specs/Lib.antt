@@ -9,3 +9,4 @@ pub mod Strings
 pub mod Constructed
 pub mod Kinds
 pub mod Preambles
+pub mod Sequences

@@ -1,10 +1,11 @@
 -- Bits that are filled up to octets with zeros, as the preamble of a SEQUENCE and the bitmap of its additions in
 -- Canonical OER (X.696): one number in so many octets.
 use Rattle.std.specs.Prelude.{◌≡◌, ◌+◌, ◌-◌, ◌/◌, ◌%◌, ◌^◌, ◌≤◌, ◌<◌, ℕ, suc, List}
-use Rattle.asn_values.specs.Shape.{must, optional, default, Fields, no_fields, field, MoreFields, closed, marked}
+use Rattle.asn_values.specs.Shape.{Fields, no_fields, field, MoreFields, closed, marked}
 use Rattle.asn_rules.specs.Chunks.{Chunk}
 use Rattle.asn_rules.specs.Languages.{Then, Map, Plain}
 use Rattle.asn_rules.specs.Sets.{InDigits}
+use Rattle.asn_rules.specs.Listed.{bitmap_length}
 use Rattle.asn_rules.specs.Fields.{OctetLength}
 
 -- how many octets n bits fill, and how many bits are unused then
@@ -28,13 +29,6 @@ FilledNumbers n S = Map (without_zeros n) (Plain (InDigits 256 (filled_octets n)
 
 -- ---- the preamble ("encoding of sequence types", preamble)
 
--- how many components have a presence bit
-abbrev pub presence_count : Fields → ℕ
-presence_count no_fields = 0
-presence_count (field name must t fs) = presence_count fs
-presence_count (field name optional t fs) = suc (presence_count fs)
-presence_count (field name (default d) t fs) = suc (presence_count fs)
-
 -- how many bits are before the presence bits: the extension bit, where there is a mark
 abbrev pub extension_count : MoreFields → ℕ
 extension_count closed = 0
@@ -48,7 +42,7 @@ extending_count (marked (field name demand t fs)) = 1
 
 -- the preamble as a number: the extension bit, and the presence bits
 abbrev pub Preamble : Fields → MoreFields → ℕ → List Chunk → Type 0
-Preamble root more = FilledNumbers (extension_count more + presence_count root) (λ m. m < 2 ^ (extending_count more + presence_count root))
+Preamble root more = FilledNumbers (extension_count more + bitmap_length root) (λ m. m < 2 ^ (extending_count more + bitmap_length root))
 
 -- ---- the bitmap of the additions ("encoding of sequence types", extension addition presence bitmap)
 

@@ -20,3 +20,5 @@ pub mod ListLanguages
 pub mod ChoiceLanguages
 pub mod FilledLanguages
 pub mod ComponentLanguages
+pub mod AdditionLanguages
+pub mod SequenceLanguages

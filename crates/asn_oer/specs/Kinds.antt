@@ -1,17 +1,16 @@
 -- What the encodings of each kind of type consist of in Canonical OER, in the terms of X.696: the parts one after the
 -- other spell each value as its encoding does, and nothing else.
-use Rattle.std.specs.Prelude.{ℕ, List, ◌++◌}
-use Rattle.asn_values.specs.Datum.{Datum}
-use Rattle.asn_values.specs.Shape.{Range, SizeRange, Alphabet, Shape, boolean, null, integer, enumerated, octet_string, restricted, utf8_string, sequence_of, choice, Label, MoreLabels, more_labels, Alternatives, MoreAlternatives}
+use Rattle.std.specs.Prelude.{List, ◌++◌}
+use Rattle.asn_values.specs.Shape.{Range, SizeRange, Alphabet, Shape, boolean, null, integer, enumerated, octet_string, restricted, utf8_string, sequence, sequence_of, choice, Label, MoreLabels, more_labels, Fields, MoreFields, Alternatives, MoreAlternatives}
 use Rattle.asn_values.specs.Fits.{Fits}
 use Rattle.asn_values.specs.Profile.{InProfile}
 use Rattle.asn_rules.specs.Forks.{Same}
-use Rattle.asn_rules.specs.Chunks.{Chunk}
 use Rattle.asn_rules.specs.Spellings.{SpelledBy}
 use Rattle.asn_oer.specs.Oer.{oer, an_open_field}
 use Rattle.asn_oer.specs.SimpleTypes.{Booleans, Nulls, Integers, Items}
 use Rattle.asn_oer.specs.Strings.{OctetStrings, CharacterStrings, Utf8Strings}
 use Rattle.asn_oer.specs.Constructed.{Values, InOpenField, Lists, Choices}
+use Rattle.asn_oer.specs.Sequences.{Sequences}
 
 -- "encoding of boolean types": one octet, 0 or 255
 abbrev pub BooleansCompose : Type 0
@@ -44,6 +43,11 @@ Utf8StringsCompose = Same Utf8Strings (Values utf8_string)
 -- "encoding of sequence-of types": a quantity, and so many elements
 abbrev pub ListsCompose : Type 0
 ListsCompose = (t : Shape) (s : SizeRange) → Same (Lists t s) (Values (sequence_of t s))
+
+-- "encoding of sequence types": a preamble, the components under its presence bits, and behind the extension bit the
+-- additions, as a bitmap and open fields
+abbrev pub SequencesCompose : Type 0
+SequencesCompose = (root : Fields) (more : MoreFields) → InProfile (sequence root more) → Same (Sequences root more) (Values (sequence root more))
 
 -- "encoding of choice types": a tag, and a value of its alternative, of an addition in an open field
 abbrev pub ChoicesCompose : Type 0

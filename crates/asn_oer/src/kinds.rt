@@ -1,6 +1,6 @@
 //! What the encodings of each kind of type consist of in Canonical OER (X.696).
 
-ghost use Rattle.asn_oer.specs.Kinds.{BooleansCompose, NullsCompose, IntegersCompose, EnumeratedCompose, OctetStringsCompose, CharacterStringsCompose, Utf8StringsCompose, ListsCompose, ChoicesCompose, OpenFieldsCompose};
+ghost use Rattle.asn_oer.specs.Kinds.{BooleansCompose, NullsCompose, IntegersCompose, EnumeratedCompose, OctetStringsCompose, CharacterStringsCompose, Utf8StringsCompose, ListsCompose, SequencesCompose, ChoicesCompose, OpenFieldsCompose};
 
 /// The encodings of each kind of type of the profile are put together from those of its parts.
 ///
@@ -18,6 +18,7 @@ pub fn kinds_compose()
     ensures character_string { CharacterStringsCompose }
     ensures utf8_string { Utf8StringsCompose }
     ensures sequence_of { ListsCompose }
+    ensures sequence { SequencesCompose }
     ensures choice { ChoicesCompose }
     ensures open_field { OpenFieldsCompose }
 {}

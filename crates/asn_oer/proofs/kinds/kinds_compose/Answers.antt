@@ -3,6 +3,7 @@ use Rattle.asn_oer.proofs.IntegerLanguages.{integer_language}
 use Rattle.asn_oer.proofs.ItemLanguages.{enumerated_language}
 use Rattle.asn_oer.proofs.StringLanguages.{octet_string_language, restricted_language, utf8_language}
 use Rattle.asn_oer.proofs.ListLanguages.{sequence_of_language}
+use Rattle.asn_oer.proofs.SequenceLanguages.{sequence_language}
 use Rattle.asn_oer.proofs.ChoiceLanguages.{choice_language}
 use Rattle.asn_oer.proofs.OpenTypes.{open_language}
 use Rattle.asn_oer.proofs.kinds.kinds_compose.Goals as goal
@@ -30,6 +31,9 @@ returns-clause-utf8_string c = utf8_language
 
 pub returns-clause-sequence_of : goal.returns-clause-sequence_of
 returns-clause-sequence_of c = sequence_of_language
+
+pub returns-clause-sequence : goal.returns-clause-sequence
+returns-clause-sequence c = sequence_language
 
 pub returns-clause-choice : goal.returns-clause-choice
 returns-clause-choice c = choice_language

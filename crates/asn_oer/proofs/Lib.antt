@@ -22,3 +22,4 @@ pub mod FilledLanguages
 pub mod ComponentLanguages
 pub mod AdditionLanguages
 pub mod SequenceLanguages
+pub mod BitLanguages

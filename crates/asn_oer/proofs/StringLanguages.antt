@@ -49,7 +49,7 @@ length_few z n h = (let l = octet_count_below n 4 (omega arith) (omega (arith, h
 
 module _ {L : ℕ → List Chunk → Type 0} {P : ℕ → Type 0} (items : Same L (SpelledBy P (λ o. one o ∷ []))) where
   -- items in a row are spelt by themselves
-  items_themselves : (n : ℕ) → Same (Row L n) (SpelledBy (λ c. (length c ≡ n) × AllByRecursion P c) ones)
+  pub items_themselves : (n : ℕ) → Same (Row L n) (SpelledBy (λ c. (length c ≡ n) × AllByRecursion P c) ones)
   items_themselves n = same_after (same_row items n) (same_after (row_spelled n) (same_spelled (λ c h. h) (λ c h. h) (λ c h. joined_octets c)))
 
   -- items behind their count

@@ -1,14 +1,14 @@
 -- What the encodings of each kind of type consist of in Canonical OER, in the terms of X.696: the parts one after the
 -- other spell each value as its encoding does, and nothing else.
 use Rattle.std.specs.Prelude.{List, ◌++◌}
-use Rattle.asn_values.specs.Shape.{Range, SizeRange, Alphabet, Shape, boolean, null, integer, enumerated, octet_string, restricted, utf8_string, sequence, sequence_of, choice, Label, MoreLabels, more_labels, Fields, MoreFields, Alternatives, MoreAlternatives}
+use Rattle.asn_values.specs.Shape.{Range, SizeRange, Alphabet, Shape, boolean, null, integer, enumerated, bit_string, octet_string, restricted, utf8_string, sequence, sequence_of, choice, Label, MoreLabels, more_labels, Fields, MoreFields, Alternatives, MoreAlternatives}
 use Rattle.asn_values.specs.Fits.{Fits}
 use Rattle.asn_values.specs.Profile.{InProfile}
 use Rattle.asn_rules.specs.Forks.{Same}
 use Rattle.asn_rules.specs.Spellings.{SpelledBy}
 use Rattle.asn_oer.specs.Oer.{oer, an_open_field}
 use Rattle.asn_oer.specs.SimpleTypes.{Booleans, Nulls, Integers, Items}
-use Rattle.asn_oer.specs.Strings.{OctetStrings, CharacterStrings, Utf8Strings}
+use Rattle.asn_oer.specs.Strings.{BitStrings, OctetStrings, CharacterStrings, Utf8Strings}
 use Rattle.asn_oer.specs.Constructed.{Values, InOpenField, Lists, Choices}
 use Rattle.asn_oer.specs.Sequences.{Sequences}
 
@@ -27,6 +27,11 @@ IntegersCompose = (b : Range) → InProfile (integer b) → Same (Integers b) (V
 -- "encoding of enumerated types": one octet, or 128 with a count and so many octets
 abbrev pub EnumeratedCompose : Type 0
 EnumeratedCompose = (root : List Label) (more : MoreLabels) → InProfile (enumerated root more) → Same (Items (root ++ more_labels more)) (Values (enumerated root more))
+
+-- "encoding of bit string types": octets of which the last ends in zeros, behind a length and the number of unused bits
+-- where the size is not fixed
+abbrev pub BitStringsCompose : Type 0
+BitStringsCompose = (s : SizeRange) → InProfile (bit_string s) → Same (BitStrings s) (Values (bit_string s))
 
 -- "encoding of octet string types": the octets, behind their length where the size is not fixed
 abbrev pub OctetStringsCompose : Type 0

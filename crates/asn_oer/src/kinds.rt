@@ -1,6 +1,6 @@
 //! What the encodings of each kind of type consist of in Canonical OER (X.696).
 
-ghost use Rattle.asn_oer.specs.Kinds.{BooleansCompose, NullsCompose, IntegersCompose, EnumeratedCompose, OctetStringsCompose, CharacterStringsCompose, Utf8StringsCompose, ListsCompose, SequencesCompose, ChoicesCompose, OpenFieldsCompose};
+ghost use Rattle.asn_oer.specs.Kinds.{BooleansCompose, NullsCompose, IntegersCompose, EnumeratedCompose, BitStringsCompose, OctetStringsCompose, CharacterStringsCompose, Utf8StringsCompose, ListsCompose, SequencesCompose, ChoicesCompose, OpenFieldsCompose};
 
 /// The encodings of each kind of type of the profile are put together from those of its parts.
 ///
@@ -14,6 +14,7 @@ pub fn kinds_compose()
     ensures null { NullsCompose }
     ensures integer { IntegersCompose }
     ensures enumerated { EnumeratedCompose }
+    ensures bit_string { BitStringsCompose }
     ensures octet_string { OctetStringsCompose }
     ensures character_string { CharacterStringsCompose }
     ensures utf8_string { Utf8StringsCompose }

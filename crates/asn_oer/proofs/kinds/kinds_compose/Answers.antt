@@ -1,6 +1,7 @@
 use Rattle.asn_oer.proofs.SimpleLanguages.{boolean_language, null_language}
 use Rattle.asn_oer.proofs.IntegerLanguages.{integer_language}
 use Rattle.asn_oer.proofs.ItemLanguages.{enumerated_language}
+use Rattle.asn_oer.proofs.BitLanguages.{bit_string_language}
 use Rattle.asn_oer.proofs.StringLanguages.{octet_string_language, restricted_language, utf8_language}
 use Rattle.asn_oer.proofs.ListLanguages.{sequence_of_language}
 use Rattle.asn_oer.proofs.SequenceLanguages.{sequence_language}
@@ -19,6 +20,9 @@ returns-clause-integer c = integer_language
 
 pub returns-clause-enumerated : goal.returns-clause-enumerated
 returns-clause-enumerated c = enumerated_language
+
+pub returns-clause-bit_string : goal.returns-clause-bit_string
+returns-clause-bit_string c = bit_string_language
 
 pub returns-clause-octet_string : goal.returns-clause-octet_string
 returns-clause-octet_string c = octet_string_language

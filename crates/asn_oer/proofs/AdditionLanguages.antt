@@ -1,5 +1,5 @@
 -- The extension additions of a SEQUENCE in OER: nothing, or a bitmap of them and open fields.
-use Rattle.std.proofs.Common.{◌≡◌, ◌≤◌, ◌<◌, ◌+◌, ◌*◌, ◌^◌, ℕ, zero, suc, Bool, true, false, List, [], ◌∷◌, ◌++◌, length, Option, Some, None, refl, sym, ap, ◌∙◌, subst, arith}
+use Rattle.std.proofs.Common.{◌≡◌, ◌≤◌, ◌<◌, ◌^◌, ℕ, zero, suc, Bool, true, false, List, [], ◌∷◌, ◌++◌, length, Option, Some, None, refl, sym, ap, ◌∙◌, subst, arith}
 use Rattle.std.specs.Prelude.{replicate}
 use Rattle.std.proofs.lemmas.Bool.{true≢false}
 use Rattle.std.proofs.lemmas.Nat.{pow_pos}
@@ -11,9 +11,8 @@ use Rattle.asn_values.specs.Profile.{InProfile, is_optional}
 use Rattle.asn_values.proofs.InnerTypes.{additions_optional, additions_of_profile}
 use Rattle.asn_bits.specs.Numbers.{bits}
 use Rattle.asn_bits.proofs.Octets.{length-digits}
-use Rattle.asn_rules.specs.Chunks.{Chunk, ones}
+use Rattle.asn_rules.specs.Chunks.{ones}
 use Rattle.asn_rules.specs.Components.{any_present, presence}
-use Rattle.asn_rules.specs.Languages.{Map}
 use Rattle.asn_rules.specs.Sets.{weighted, IsBits}
 use Rattle.asn_rules.specs.Forks.{Same}
 use Rattle.asn_rules.specs.Spellings.{SpelledBy}
@@ -21,7 +20,7 @@ use Rattle.asn_rules.proofs.Digits.{bits_are, bits_only, are_digits}
 use Rattle.asn_rules.proofs.Entries.{each_length, none_present, presence_bits}
 use Rattle.asn_rules.proofs.Spellings.{same_after, same_then, same_map, same_spelled, map_spelled, nothing_spelled, then_spelled}
 use Rattle.asn_oer.specs.Oer.{variable_bits, oer_open, oer_additions}
-use Rattle.asn_oer.specs.Preambles.{SomeBits, Bitmap}
+use Rattle.asn_oer.specs.Preambles.{SomeBits}
 use Rattle.asn_oer.specs.Sequences.{OpenListed, Additions}
 use Rattle.asn_oer.proofs.ComponentLanguages.{Under, open_listed_language}
 use Rattle.asn_oer.proofs.FilledLanguages.{bitmap_language}

@@ -10,17 +10,17 @@ use Rattle.std.specs.List.{AllByRecursion}
 use Rattle.asn_values.specs.Datum.{Datum, bit_list}
 use Rattle.asn_values.specs.Shape.{SizeRange, bit_string}
 use Rattle.asn_values.specs.Fits.{Fits, FitsLength}
-use Rattle.asn_values.specs.Profile.{InProfile, SizeTooLarge, is_fixed_size, large_size}
+use Rattle.asn_values.specs.Profile.{InProfile, SizeTooLarge, is_fixed_size}
 use Rattle.asn_bits.specs.Numbers.{digits, bits, octet_count, padding, packed, unpacked}
 use Rattle.asn_bits.specs.Lengths.{octet_length}
 use Rattle.asn_bits.proofs.FilledBits.{unpacked-packed, length-packed, length-padding, bits_append, padding_bits}
 use Rattle.asn_bits.proofs.Octets.{length-digits, packed_octets, octet_count_below}
 use Rattle.asn_bits.proofs.Packing.{bits_zero}
 use Rattle.asn_bits.proofs.Splits.{digits-add, digits-mod, unpacked-append, length-unpacked}
-use Rattle.asn_rules.specs.Chunks.{Chunk, one, ones}
+use Rattle.asn_rules.specs.Chunks.{one, ones}
 use Rattle.asn_rules.specs.Components.{bit_of}
-use Rattle.asn_rules.specs.Languages.{Then, Map, Row, Plain}
-use Rattle.asn_rules.specs.Sets.{AreBits, weighted, IsBits, InDigits}
+use Rattle.asn_rules.specs.Languages.{Then, Row}
+use Rattle.asn_rules.specs.Sets.{AreBits, weighted, IsBits}
 use Rattle.asn_rules.specs.Forks.{Same}
 use Rattle.asn_rules.specs.Fields.{OneOctet}
 use Rattle.asn_rules.specs.Spellings.{SpelledBy}
@@ -78,6 +78,7 @@ zeros_end o u us h e =
     let is : o ≡ weighted 2 us * 2 ^ u =
     sym b.sum ∙ ap (weighted 2) e ∙ weighted-append 2 us (replicate u 0) ∙ ap (λ (i : ℕ). weighted 2 us * 2 ^ length {A = ℕ} (replicate u 0) + i) zero_sum ∙ ap (λ (i : ℕ). weighted 2 us * 2 ^ i + 0) zero_count ∙ omega arith in
     ap (λ (i : ℕ). i % 2 ^ u) is ∙ mul-mod_left (weighted 2 us) (2 ^ u)
+
 -- ---- so many bits
 
 -- the octets have these bits, and zeros behind them
@@ -244,7 +245,7 @@ module _ (S : ℕ → Type 0) (few : (n : ℕ) → S n → n ≤ 268435455) wher
           let content = length (padding (length us)) ∷ filled_bits us in (
             subst S (sym h.1.1) h.1.0.member,
             ap (λ (i : ℕ). ones (octet_length i) ++ (ones (digits 256 1 p.1.0) ++ ones (filled_bits us))) count
-            ∙ ap (λ (f : List ℕ). ones (octet_length (length content)) ++ (ones f ++ ones (filled_bits us))) first ∙ sym (ones-append (octet_length (length content)) content),
+                ∙ ap (λ (f : List ℕ). ones (octet_length (length content)) ++ (ones f ++ ones (filled_bits us))) first ∙ sym (ones-append (octet_length (length content)) content),
           )
 
       back : (bs : List Bool) → S (length bs) → (p : ℕ × (ℕ × List Bool)) × Tells p × (bs ≡ last_told p)

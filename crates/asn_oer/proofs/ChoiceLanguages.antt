@@ -1,7 +1,7 @@
 -- CHOICE in OER is a tag, which decides, and a value of the alternative, of an addition in an open field.
-use Rattle.std.proofs.Common.{◌≡◌, ◌≤◌, ◌<◌, ◌+◌, ◌-◌, ◌^◌, ℕ, zero, suc, Bool, true, false, List, [], ◌∷◌, ◌++◌, MatchBool, nat_lt, refl, sym, ap, ◌∙◌, subst, arith}
+use Rattle.std.proofs.Common.{◌≡◌, ◌≤◌, ◌<◌, ◌+◌, ◌-◌, ℕ, zero, suc, Bool, true, false, List, [], ◌∷◌, ◌++◌, MatchBool, nat_lt, sym, ap, ◌∙◌, subst, arith}
 use Rattle.asn_values.specs.Datum.{Datum, alternative}
-use Rattle.asn_values.specs.Shape.{Shape, choice, Alternatives, no_alternatives, one_of, MoreAlternatives, closed_choice, marked_choice, more_alternatives, count}
+use Rattle.asn_values.specs.Shape.{choice, Alternatives, no_alternatives, one_of, MoreAlternatives, closed_choice, marked_choice, more_alternatives, count}
 use Rattle.asn_values.specs.Fits.{Fits, FitsAlternative, FitsMoreAlternatives, FitsChoice}
 use Rattle.asn_values.specs.Profile.{InProfile}
 use Rattle.asn_values.proofs.InnerTypes.{AreAllOfProfile, added_alternatives_of_profile}
@@ -13,7 +13,7 @@ use Rattle.asn_rules.specs.Spellings.{SpelledBy}
 use Rattle.asn_rules.proofs.OctetLengths.{one_is}
 use Rattle.asn_rules.proofs.Spellings.{same_after, same_then, same_map, digits_spelled, map_spelled, then_spelled}
 use Rattle.asn_oer.specs.Oer.{tag, an_open_field, oer, oer_alternative, oer_more}
-use Rattle.asn_oer.specs.Constructed.{Values, InOpenField, OneOf, OneOfMore, Alternative, Tags, alternative_told, Choices}
+use Rattle.asn_oer.specs.Constructed.{Values, InOpenField, OneOf, OneOfMore, Alternative, alternative_told, Choices}
 use Rattle.asn_oer.proofs.GoodTypes.{good, few_alternatives, tag_below}
 use Rattle.asn_oer.proofs.Leaves.{tag_is}
 use Rattle.asn_oer.proofs.OpenTypes.{open_language}

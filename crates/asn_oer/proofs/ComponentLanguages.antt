@@ -1,19 +1,16 @@
 -- The components of a SEQUENCE in OER under their presence bits, and its additions under their bitmap, are as their
 -- definitions spell them.
-use Rattle.std.proofs.Common.{◌≡◌, ◌≢◌, ◌<◌, ◌==◌, ℕ, zero, suc, Bool, true, false, not, ◌&&◌, List, [], ◌∷◌, ◌++◌, length, Option, Some, None, refl, sym, ap, ◌∙◌, subst, arith}
+use Rattle.std.proofs.Common.{◌≡◌, ◌<◌, ℕ, zero, suc, true, List, [], ◌∷◌, ◌++◌, length, Option, Some, None, refl, sym, ap, ◌∙◌, subst, arith}
 use Rattle.std.proofs.lemmas.Bool.{true≢false}
-use Rattle.std.specs.Bool.{⊤}
 use Rattle.std.specs.List.{list_all}
-use Rattle.asn_values.specs.Datum.{Datum, truth, number, item}
-use Rattle.asn_values.specs.Shape.{Shape, boolean, integer, enumerated, closed_labels, must, optional, default, Demand, demands, Fields, no_fields, field}
-use Rattle.asn_values.specs.Fits.{Fits, FitsEach, FitsDemand}
-use Rattle.asn_values.specs.Profile.{InProfile, EmptyRange, good_default, is_optional}
-use Rattle.asn_values.specs.Defaults.{MayBeDefault}
+use Rattle.asn_values.specs.Datum.{Datum}
+use Rattle.asn_values.specs.Shape.{Shape, must, optional, default, demands, Fields, no_fields, field}
+use Rattle.asn_values.specs.Fits.{Fits, FitsEach}
+use Rattle.asn_values.specs.Profile.{InProfile, is_optional}
 use Rattle.asn_values.specs.Parts.{AreOfProfile}
-use Rattle.asn_values.proofs.Defaults.{defaults_are_judged}
 use Rattle.asn_rules.specs.Chunks.{Chunk}
-use Rattle.asn_rules.specs.Components.{bit_of, is_default, is_spelled, if_spelled, presence}
-use Rattle.asn_rules.specs.Languages.{Then, Map, Nothing, prepended}
+use Rattle.asn_rules.specs.Components.{if_spelled, presence}
+use Rattle.asn_rules.specs.Languages.{Map, prepended}
 use Rattle.asn_rules.specs.Sets.{AreBits}
 use Rattle.asn_rules.specs.Forks.{Same}
 use Rattle.asn_rules.specs.Listed.{Before, Listed, each_of, bitmap_length}

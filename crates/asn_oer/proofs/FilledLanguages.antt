@@ -1,5 +1,5 @@
 -- Bits that are filled up to octets are spelt as a number in so many octets.
-use Rattle.std.proofs.Common.{◌≡◌, ◌+◌, ◌-◌, ◌*◌, ◌/◌, ◌%◌, ◌^◌, ◌≤◌, ◌<◌, ℕ, zero, suc, List, [], ◌∷◌, ◌++◌, length, get_or, refl, sym, ap, ◌∙◌, subst, arith, pow-add}
+use Rattle.std.proofs.Common.{◌≡◌, ◌+◌, ◌*◌, ◌/◌, ◌%◌, ◌^◌, ◌≤◌, ◌<◌, ℕ, zero, suc, List, [], ◌∷◌, ◌++◌, length, get_or, refl, sym, ap, ◌∙◌, subst, arith, pow-add}
 use Rattle.std.proofs.lemmas.Nat.{pow_pos}
 use Rattle.std.proofs.Math.Nat.{mul-le-mul_right, mul-mod_left, mul-div_cancel, div-add-mod'}
 use Rattle.std.specs.List.{AllByRecursion}
@@ -8,10 +8,8 @@ use Rattle.asn_bits.specs.Lengths.{octet_length}
 use Rattle.asn_bits.proofs.Octets.{length-digits, all_octets, octet_power, octet_count_below}
 use Rattle.asn_bits.proofs.Packing.{packed-unpacked, bits_zero}
 use Rattle.asn_bits.proofs.Splits.{digits-join, unpacked-octets}
-use Rattle.asn_bits.proofs.FilledBits.{filled_up_fills, length-packed, length-padding}
-use Rattle.asn_rules.specs.Chunks.{Chunk, one, ones}
-use Rattle.asn_rules.specs.Languages.{Then, Map, Plain}
-use Rattle.asn_rules.specs.Sets.{InDigits}
+use Rattle.asn_bits.proofs.FilledBits.{length-padding}
+use Rattle.asn_rules.specs.Chunks.{ones}
 use Rattle.asn_rules.specs.Forks.{Same}
 use Rattle.asn_rules.specs.Spellings.{SpelledBy}
 use Rattle.asn_rules.proofs.Chunks.{ones-append}

@@ -1,28 +1,27 @@
 -- INTEGER in OER: which octets the integers of a range have, of a fixed number or behind their count, from 0 on or in
 -- two's complement.
-use Rattle.std.proofs.Common.{◌≡◌, ◌≤◌, ◌<◌, ◌-◌, ◌*◌, ◌^◌, ◌⊎◌, ℕ, ℤ, pos, negsuc, ◌≤ℤ◌, Bool, true, false, ◌&&◌, ◌||◌, not, List, ◌++◌, Option, Some, None, inl, inr, refl, sym, ap, ◌∙◌, subst, nat_lt, arith}
-use Rattle.std.proofs.lemmas.Bool.{true≢false, ltb-true, ltb-false, lt-ltb, leb-true, le-leb, and_parts}
+use Rattle.std.proofs.Common.{◌≡◌, ◌≤◌, ◌<◌, ◌-◌, ◌*◌, ◌^◌, ◌⊎◌, ℕ, ℤ, pos, negsuc, ◌≤ℤ◌, Bool, true, false, not, List, ◌++◌, Option, Some, None, inl, inr, refl, sym, ap, ◌∙◌, subst, nat_lt, arith}
+use Rattle.std.proofs.lemmas.Bool.{true≢false, ltb-true, lt-ltb, leb-true, le-leb, and_parts}
 use Rattle.std.proofs.lemmas.Int.{ints}
 use Rattle.std.proofs.lemmas.Nat.{pow_pos}
 use Rattle.std.specs.Int.RustNames.{int_le, int_lt}
 use Rattle.asn_values.specs.Datum.{Datum, number}
 use Rattle.asn_values.specs.Shape.{Range, integer}
-use Rattle.asn_values.specs.Fits.{Fits, FitsNumber, lowest_integer, highest_integer, at_least, at_most}
+use Rattle.asn_values.specs.Fits.{Fits, FitsNumber, lowest_integer, highest_integer}
 use Rattle.asn_values.specs.Profile.{InProfile, EmptyRange, is_outside, low_above_high}
 use Rattle.asn_values.proofs.Parts.{left_false, right_false}
 use Rattle.asn_bits.specs.Numbers.{digits, octets, octet_count, least, magnitude, signed_octet_count, signed_octets, least_signed}
 use Rattle.asn_bits.specs.Lengths.{octet_length}
 use Rattle.asn_bits.proofs.Above.{le_of_test}
-use Rattle.asn_bits.proofs.Octets.{length-digits, octet_count_below, half, residue, signed_is, residue_fits, length-least_signed, signed_count_below}
+use Rattle.asn_bits.proofs.Octets.{length-digits, octet_count_below, half, residue, signed_is, length-least_signed, signed_count_below}
 use Rattle.asn_rules.specs.Chunks.{Chunk, ones}
-use Rattle.asn_rules.specs.Languages.{Map, Plain}
-use Rattle.asn_rules.specs.Sets.{InDigits, Between, Among}
+use Rattle.asn_rules.specs.Sets.{Between, Among}
 use Rattle.asn_rules.specs.Forks.{Same}
-use Rattle.asn_rules.specs.Counted.{number_of, signed_number}
+use Rattle.asn_rules.specs.Counted.{signed_number}
 use Rattle.asn_rules.specs.Spellings.{SpelledBy}
 use Rattle.asn_rules.proofs.Counted.{counted_octets, counted_signed_octets, residue_of, number_again}
 use Rattle.asn_rules.proofs.Spellings.{same_after, same_map, same_spelled, digits_spelled, map_spelled}
-use Rattle.asn_oer.specs.Oer.{magnitude_of, counted, counted_signed, unsigned_octets, unsigned_in, both_in, signed_size, signed_in, ranged, whole_number, oer}
+use Rattle.asn_oer.specs.Oer.{counted, counted_signed, unsigned_octets, unsigned_in, both_in, signed_size, signed_in, whole_number, oer}
 use Rattle.asn_oer.specs.SimpleTypes.{FixedUnsigned, CountedUnsigned, residues, FixedSigned, CountedSigned, UnsignedIn, SignedIn, BoundedIntegers, Integers}
 use Rattle.asn_oer.proofs.Integers.{unsigned_cases, signed_cases, in_bound}
 use Rattle.asn_oer.proofs.SpeltLeaves.{in_64_bits}

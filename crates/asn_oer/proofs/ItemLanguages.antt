@@ -1,6 +1,6 @@
 -- ENUMERATED in OER: which octets the numbers of the items have, and which item a number is.
-use Rattle.std.proofs.Common.{◌≡◌, ◌≤◌, ◌<◌, ◌-◌, ◌+◌, ◌*◌, ◌^◌, ◌⊎◌, ◌&&◌, ℕ, zero, suc, ℤ, pos, negsuc, Bool, true, false, List, [], ◌∷◌, ◌++◌, length, inl, inr, refl, sym, ap, ◌∙◌, subst, nat_le, nat_lt, arith, length-append}
-use Rattle.std.proofs.lemmas.Bool.{true≢false, ltb-true, ltb-false, lt-ltb, le-leb, and_parts, cases_lt}
+use Rattle.std.proofs.Common.{◌≡◌, ◌≤◌, ◌<◌, ◌-◌, ◌+◌, ◌*◌, ◌^◌, ◌⊎◌, ℕ, zero, suc, ℤ, pos, negsuc, Bool, true, false, List, [], ◌∷◌, ◌++◌, length, inl, inr, refl, sym, ap, ◌∙◌, subst, nat_le, nat_lt, arith, length-append}
+use Rattle.std.proofs.lemmas.Bool.{true≢false, ltb-true, ltb-false, lt-ltb, le-leb, and_parts}
 use Rattle.std.specs.Int.RustNames.{int_le, int_lt}
 use Rattle.asn_values.specs.Datum.{Datum, item}
 use Rattle.asn_values.specs.Shape.{Label, MoreLabels, more_labels, enumerated}
@@ -20,15 +20,15 @@ use Rattle.asn_rules.proofs.Entries.{le_z_antisymm}
 use Rattle.asn_rules.proofs.Items.{int_eq_refl, good_items, item_once}
 use Rattle.asn_rules.proofs.OctetLengths.{one_is}
 use Rattle.asn_rules.proofs.Spellings.{same_after, same_then, same_map, same_spelled, digits_spelled, map_spelled, nothing_spelled, then_spelled}
-use Rattle.asn_oer.specs.Oer.{item_number, magnitude_of, oer}
-use Rattle.asn_oer.specs.SimpleTypes.{IsNumberOf, place_of, is_short, LongOnes, ItemOctet, BehindItemOctet, number_told, ItemNumbers, item_told, Items}
+use Rattle.asn_oer.specs.Oer.{item_number, oer}
+use Rattle.asn_oer.specs.SimpleTypes.{IsNumberOf, place_of, is_short, LongOnes, ItemOctet, BehindItemOctet, ItemNumbers, item_told, Items}
 use Rattle.asn_oer.proofs.SpeltLeaves.{number_is_small}
 
 -- ---- the numbers
 
 -- a number from 0 to 127 is its octet
 short_code : (b : ℕ) → b < 128 → item_number (pos b) ≡ b ∷ []
-short_code b h = 
+short_code b h =
     let low : nat_le 0 b ≡ true = le-leb 0 b (omega arith) in
     let high = lt-ltb b 128 h in
     rw (low, high, item_number) refl

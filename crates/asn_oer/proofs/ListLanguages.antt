@@ -7,7 +7,7 @@ use Rattle.asn_values.specs.Fits.{Fits, FitsLength}
 use Rattle.asn_bits.specs.Numbers.{octet_count, least}
 use Rattle.asn_bits.specs.Lengths.{octet_length, joined}
 use Rattle.asn_bits.proofs.Octets.{length-digits}
-use Rattle.asn_rules.specs.Chunks.{Chunk, ones}
+use Rattle.asn_rules.specs.Chunks.{ones}
 use Rattle.asn_rules.specs.Forks.{Same}
 use Rattle.asn_rules.specs.Spellings.{SpelledBy}
 use Rattle.asn_rules.proofs.Counted.{counted_octets}

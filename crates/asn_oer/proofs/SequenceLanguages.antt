@@ -1,6 +1,6 @@
 -- SEQUENCE in OER is a preamble, the components under its presence bits, and the additions under its extension bit.
 use Rattle.std.proofs.Common.{◌≡◌, ◌≤◌, ◌<◌, ◌+◌, ◌*◌, ◌/◌, ◌%◌, ◌^◌, ℕ, zero, suc, Bool, true, false, List, [], ◌∷◌, ◌++◌, length, take, drop, Option, Some, None, refl, sym, ap, ◌∙◌, subst, arith, append_assoc}
-use Rattle.std.proofs.lemmas.Nat.{pow_pos, div-mul-add}
+use Rattle.std.proofs.lemmas.Nat.{div-mul-add}
 use Rattle.std.proofs.lemmas.List.{take-append-drop}
 use Rattle.std.proofs.Math.Nat.{mul-le-mul_right, div-add-mod', pow-succ'}
 use Rattle.std.proofs.Math.Seq.{take-append_seam, drop-append_seam}
@@ -14,7 +14,7 @@ use Rattle.asn_bits.proofs.Octets.{length-digits}
 use Rattle.asn_bits.proofs.Splits.{digits_above}
 use Rattle.asn_rules.specs.Chunks.{Chunk, ones}
 use Rattle.asn_rules.specs.Components.{bit_of, any_present, presence, extension_bit}
-use Rattle.asn_rules.specs.Languages.{Then, Map}
+use Rattle.asn_rules.specs.Languages.{Then}
 use Rattle.asn_rules.specs.Sets.{weighted, IsBits}
 use Rattle.asn_rules.specs.Forks.{Same}
 use Rattle.asn_rules.specs.Listed.{Listed, bitmap_length}
@@ -24,7 +24,7 @@ use Rattle.asn_rules.proofs.Entries.{each_length, presence_bits, same_components
 use Rattle.asn_rules.proofs.Spellings.{same_after, same_then, same_map, map_spelled, then_spelled}
 use Rattle.asn_oer.specs.Oer.{filled_bits, oer, oer_each, oer_additions}
 use Rattle.asn_oer.specs.Constructed.{Values}
-use Rattle.asn_oer.specs.Preambles.{extension_count, extending_count, Preamble}
+use Rattle.asn_oer.specs.Preambles.{extension_count, extending_count}
 use Rattle.asn_oer.specs.Sequences.{Additions, sequence_told, Sequences}
 use Rattle.asn_oer.proofs.ComponentLanguages.{Under, listed_language}
 use Rattle.asn_oer.proofs.AdditionLanguages.{is_extended, AdditionsFit, additions_language}

@@ -1,11 +1,11 @@
 -- BOOLEAN and NULL in OER: which octets their values have.
-use Rattle.std.proofs.Common.{◌≡◌, ◌<◌, ◌^◌, ℕ, true, false, List, [], ◌∷◌, inl, inr, refl, sym, subst, arith}
+use Rattle.std.proofs.Common.{◌≡◌, ◌<◌, ◌^◌, ℕ, true, false, [], ◌∷◌, inl, inr, refl, sym, subst, arith}
 use Rattle.asn_values.specs.Datum.{Datum, truth, nothing}
 use Rattle.asn_values.specs.Shape.{boolean, null}
 use Rattle.asn_values.specs.Fits.{Fits}
 use Rattle.asn_bits.specs.Numbers.{digits}
-use Rattle.asn_rules.specs.Chunks.{Chunk, ones}
-use Rattle.asn_rules.specs.Sets.{Between, Among}
+use Rattle.asn_rules.specs.Chunks.{ones}
+use Rattle.asn_rules.specs.Sets.{Among}
 use Rattle.asn_rules.specs.Forks.{Same}
 use Rattle.asn_rules.specs.Spellings.{SpelledBy}
 use Rattle.asn_rules.proofs.Spellings.{same_after, same_map, same_spelled, digits_spelled, map_spelled, nothing_spelled}

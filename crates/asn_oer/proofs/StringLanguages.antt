@@ -1,19 +1,17 @@
 -- Octets and characters in OER: which octets strings of a size have.
-use Rattle.std.proofs.Common.{◌≡◌, ◌≤◌, ◌<◌, ◌^◌, ◌||◌, ◌&&◌, ◌==◌, not, ℕ, Bool, true, false, List, [], ◌∷◌, ◌++◌, map, length, Option, Some, None, refl, sym, ap, ◌∙◌, subst, arith, IsTrue, nat_le, nat_lt}
-use Rattle.std.proofs.lemmas.Bool.{true≢false, ltb-false, le-leb, eqb-true, and_parts, or_parts}
+use Rattle.std.proofs.Common.{◌≡◌, ◌<◌, ◌||◌, ◌&&◌, ◌==◌, not, ℕ, Bool, true, false, List, [], ◌∷◌, ◌++◌, length, Option, Some, None, refl, sym, ap, ◌∙◌, subst, arith, IsTrue, nat_le, nat_lt}
+use Rattle.std.proofs.lemmas.Bool.{true≢false, ltb-false, le-leb, eqb-true, or_parts}
 use Rattle.std.specs.List.{AllByRecursion}
 use Rattle.asn_values.specs.Datum.{Datum, octet_list, characters, unicode}
 use Rattle.asn_values.specs.Shape.{SizeRange, Alphabet, octet_string, restricted, utf8_string}
-use Rattle.asn_values.specs.Fits.{Fits, FitsLength, is_of_kind, max_len, not_above}
-use Rattle.asn_values.specs.Profile.{InProfile, SizeTooLarge, is_fixed_size, large_size, is_large}
-use Rattle.asn_bits.specs.Numbers.{digits, octet_count}
-use Rattle.asn_bits.specs.Lengths.{octet_length, joined}
+use Rattle.asn_values.specs.Fits.{Fits, FitsLength, is_of_kind, not_above}
+use Rattle.asn_values.specs.Profile.{InProfile, SizeTooLarge, is_fixed_size, large_size}
+use Rattle.asn_bits.specs.Numbers.{octet_count}
+use Rattle.asn_bits.specs.Lengths.{octet_length}
 use Rattle.asn_bits.proofs.Octets.{octet_count_below}
 use Rattle.asn_rules.specs.Chunks.{Chunk, one, ones, sealed, utf8_field}
-use Rattle.asn_rules.specs.Languages.{Row, Plain}
-use Rattle.asn_rules.specs.Sets.{InDigits}
+use Rattle.asn_rules.specs.Languages.{Row}
 use Rattle.asn_rules.specs.Forks.{Same}
-use Rattle.asn_rules.specs.Fields.{OneOctet}
 use Rattle.asn_rules.specs.Spellings.{SpelledBy}
 use Rattle.asn_rules.proofs.Chunks.{ones-append}
 use Rattle.asn_rules.proofs.OctetLengths.{one_is, octet_itself, joined_octets, length_spelled}

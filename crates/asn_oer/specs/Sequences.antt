@@ -1,5 +1,5 @@
 -- What encodings of SEQUENCE consist of in Canonical OER (X.696).
-use Rattle.std.specs.Prelude.{◌+◌, ◌/◌, ◌^◌, ℕ, zero, suc, List, [], ◌∷◌, ◌++◌, length, Option, Some, None, replicate}
+use Rattle.std.specs.Prelude.{◌/◌, ◌^◌, ℕ, zero, suc, List, [], ◌∷◌, ◌++◌, length, Option, None, replicate}
 use Rattle.asn_values.specs.Datum.{Datum, components, components_of}
 use Rattle.asn_values.specs.Shape.{Fields, no_fields, field, MoreFields, closed, marked, more_fields, demands}
 use Rattle.asn_bits.specs.Numbers.{bits}

@@ -1,11 +1,11 @@
 -- The types inside a type of the profile are of the profile: the element of a SEQUENCE OF, the alternatives of a
 -- CHOICE, and the extension additions of a SEQUENCE, which are OPTIONAL.
-use Rattle.std.proofs.Common.{◌≡◌, ◌≤◌, ◌+◌, ℕ, zero, suc, max, Bool, true, false, not, ◌||◌, ◌&&◌, List, nat_lt, refl, arith}
-use Rattle.std.proofs.lemmas.Bool.{ltb-false, le-ltb, and_parts}
+use Rattle.std.proofs.Common.{◌≡◌, ◌≤◌, Bool, true, false, not, ◌||◌, nat_lt, refl, arith}
+use Rattle.std.proofs.lemmas.Bool.{ltb-false, le-ltb}
 use Rattle.std.specs.List.{list_all}
-use Rattle.asn_values.specs.Shape.{Shape, SizeRange, sequence, sequence_of, choice, Demand, must, optional, default, Fields, no_fields, field, marked, demands, Alternatives, no_alternatives, one_of, closed_choice, marked_choice, MoreAlternatives}
+use Rattle.asn_values.specs.Shape.{Shape, SizeRange, sequence, sequence_of, choice, must, optional, default, Fields, no_fields, field, marked, demands, Alternatives, no_alternatives, one_of, marked_choice}
 use Rattle.asn_values.specs.Measures.{depth, nodes, fields_nodes, fields_depth, choice_nodes, choice_depth}
-use Rattle.asn_values.specs.Profile.{EmptyRange, SizeTooLarge, DuplicateName, BadEnumeration, UselessMark, BadDefault, ZeroWidthElement, AdditionNotOptional, TooMany, TooDeep, somewhere, some_field, some_addition, some_alternative, some_more, empty_range, size_too_large, duplicate_name, bad_enumeration, useless_mark, bad_default, zero_width_element, addition_not_optional, is_optional, too_many_here, most_nodes, most_levels, InProfile}
+use Rattle.asn_values.specs.Profile.{EmptyRange, SizeTooLarge, DuplicateName, BadEnumeration, UselessMark, BadDefault, ZeroWidthElement, AdditionNotOptional, TooMany, TooDeep, somewhere, some_field, some_alternative, empty_range, size_too_large, duplicate_name, bad_enumeration, useless_mark, bad_default, zero_width_element, addition_not_optional, is_optional, too_many_here, most_nodes, most_levels, InProfile}
 use Rattle.asn_values.specs.Parts.{AreOfProfile}
 use Rattle.asn_values.proofs.Parts.{left_false, right_false}
 
@@ -15,9 +15,11 @@ AreAllOfProfile no_alternatives = Unit {0}
 AreAllOfProfile (one_of name t alts) = InProfile t × AreAllOfProfile alts
 
 module _ (whole : Shape) (good : InProfile whole) where
+  -- it has at most so many types inside it
   few : nodes whole ≤ most_nodes
   few = ltb-false most_nodes (nodes whole) (right_false (somewhere too_many_here whole) (nat_lt most_nodes (nodes whole)) (good TooMany))
 
+  -- and at most so many levels
   deep : depth whole ≤ most_levels
   deep = ltb-false most_levels (depth whole) (good TooDeep)
 

@@ -150,28 +150,34 @@ place_has (l ∷ labels) z p h e = go (int_eq z l.number) refl (λ q i f. place_
     go false t again zero h e = absurd (true≢false (sym (ap (λ (y : ℤ). int_eq y l.number) e ∙ int_eq_refl l.number) ∙ t))
     go false t again (suc p) h e = let w = again p (omega arith) e in (omega (arith, w.0), w.1)
 
--- ENUMERATED
-pub enumerated_language : (root : List Label) (more : MoreLabels) → InProfile (enumerated root more) → Same (Items (root ++ more_labels more)) (SpelledBy (Fits (enumerated root more)) (oer (enumerated root more)))
-enumerated_language root more good = same_after (same_map (item_numbers_spelled (IsNumberOf labels) few)) (map_spelled there back)
-  where
-    labels : List Label
-    labels = root ++ more_labels more
+module _ (root : List Label) (more : MoreLabels) (good : InProfile (enumerated root more)) where
+  abbrev labels : List Label
+  labels = root ++ more_labels more
 
-    few : (z : ℤ) → IsNumberOf labels z → signed_octet_count z < 128
-    few z h =
-        let small : magnitude z < 2147483648 = subst (λ (y : ℤ). magnitude y < 2147483648) (sym h.same) (number_is_small labels h.place (good_items root more (good BadEnumeration)).bits_32) in
-        let l : signed_octet_count z ≤ 4 = signed_count_below z 4 (omega arith) (omega (arith, small)) in
-        omega arith
+  -- the numbers of the items have few octets
+  pub items_few : (z : ℤ) → IsNumberOf labels z → signed_octet_count z < 128
+  items_few z h =
+      let small : magnitude z < 2147483648 = subst (λ (y : ℤ). magnitude y < 2147483648) (sym h.same) (number_is_small labels h.place (good_items root more (good BadEnumeration)).bits_32) in
+      let l : signed_octet_count z ≤ 4 = signed_count_below z 4 (omega arith) (omega (arith, small)) in
+      omega arith
 
-    there : (z : ℤ) → IsNumberOf labels z → Fits (enumerated root more) (item_told labels z) × (ones (item_number z) ≡ oer (enumerated root more) (item_told labels z))
-    there z h =
-        let w = place_has labels z h.place h.here h.same in
-        (omega (arith, w.0, length-append root (more_labels more)), ap (λ (y : ℤ). ones (item_number y)) w.1)
+  -- the numbers of the items, seen as the items
+  pub items_seen : Same (Map (item_told labels) (SpelledBy (IsNumberOf labels) (λ z. ones (item_number z)))) (SpelledBy (Fits (enumerated root more)) (oer (enumerated root more)))
+  items_seen = map_spelled there back
+    where
+      there : (z : ℤ) → IsNumberOf labels z → Fits (enumerated root more) (item_told labels z) × (ones (item_number z) ≡ oer (enumerated root more) (item_told labels z))
+      there z h =
+          let w = place_has labels z h.place h.here h.same in
+          (omega (arith, w.0, length-append root (more_labels more)), ap (λ (y : ℤ). ones (item_number y)) w.1)
 
-    back : (v : Datum) → Fits (enumerated root more) v → (z : ℤ) × IsNumberOf labels z × (v ≡ item_told labels z)
-    back (item p) f =
-        let z = number_at labels p in
-        let n : length labels ≡ length root + length (more_labels more) = length-append root (more_labels more) in
-        let w = place_has labels z p (omega (arith, f, n)) refl in
-        (z, record { place = p; here = omega (arith, f, n); same = refl }, ap item (item_once root more (good_items root more (good BadEnumeration)) p (place_of labels z) f (omega (arith, w.0, n)) w.1))
-    back _ f = absurd f
+      back : (v : Datum) → Fits (enumerated root more) v → (z : ℤ) × IsNumberOf labels z × (v ≡ item_told labels z)
+      back (item p) f =
+          let z = number_at labels p in
+          let n : length labels ≡ length root + length (more_labels more) = length-append root (more_labels more) in
+          let w = place_has labels z p (omega (arith, f, n)) refl in
+          (z, record { place = p; here = omega (arith, f, n); same = refl }, ap item (item_once root more (good_items root more (good BadEnumeration)) p (place_of labels z) f (omega (arith, w.0, n)) w.1))
+      back _ f = absurd f
+
+  -- ENUMERATED
+  pub enumerated_language : Same (Items labels) (SpelledBy (Fits (enumerated root more)) (oer (enumerated root more)))
+  enumerated_language = same_after (same_map (item_numbers_spelled (IsNumberOf labels) items_few)) items_seen

@@ -23,3 +23,4 @@ pub mod ComponentLanguages
 pub mod AdditionLanguages
 pub mod SequenceLanguages
 pub mod BitLanguages
+pub mod LeftOut

@@ -13,25 +13,25 @@ use Rattle.asn_oer.specs.Oer.{oer}
 use Rattle.asn_oer.specs.SimpleTypes.{truth_told, Booleans, Nulls}
 
 -- the octets of the two truth values
-abbrev Truths : ℕ → Type 0
+abbrev pub Truths : ℕ → Type 0
 Truths = Among ((0, 0) ∷ (255, 255) ∷ [])
 
 -- what each stands for, and how that is spelt
-abbrev Told : ℕ → Type 0
+abbrev pub Told : ℕ → Type 0
 Told n = Fits boolean (truth_told n) × (ones (digits 256 1 n) ≡ oer boolean (truth_told n))
 
-truth_there : (n : ℕ) → Truths n → Told n
+pub truth_there : (n : ℕ) → Truths n → Told n
 truth_there n (inl h) = let e : 0 ≡ n = omega (arith, h.0, h.1) in subst Told e (tt, refl)
 truth_there n (inr (inl h)) = let e : 255 ≡ n = omega (arith, h.0, h.1) in subst Told e (tt, refl)
 truth_there n (inr (inr h)) = absurd h
 
 -- each truth value has one of them
-truth_back : (v : Datum) → Fits boolean v → (n : ℕ) × Truths n × (v ≡ truth_told n)
+pub truth_back : (v : Datum) → Fits boolean v → (n : ℕ) × Truths n × (v ≡ truth_told n)
 truth_back (truth false) h = (0, inl (omega arith, omega arith), refl)
 truth_back (truth true) h = (255, inr (inl (omega arith, omega arith)), refl)
 truth_back _ h = absurd h
 
-truth_below : (n : ℕ) → Truths n → n < 256 ^ 1
+pub truth_below : (n : ℕ) → Truths n → n < 256 ^ 1
 truth_below n (inl h) = omega (arith, h.1)
 truth_below n (inr (inl h)) = omega (arith, h.1)
 truth_below n (inr (inr h)) = absurd h

@@ -1,13 +1,17 @@
 -- What the encodings of each kind of type consist of in Canonical OER, in the terms of X.696: the parts one after the
 -- other spell each value as its encoding does, and nothing else.
-use Rattle.std.specs.Prelude.{List, ◌++◌}
+use Rattle.std.specs.Prelude.{List, [], ◌∷◌, ◌++◌, Option}
+use Rattle.asn_values.specs.Datum.{Datum}
 use Rattle.asn_values.specs.Shape.{Range, SizeRange, Alphabet, Shape, boolean, null, integer, enumerated, bit_string, octet_string, restricted, utf8_string, sequence, sequence_of, choice, Label, MoreLabels, more_labels, Fields, MoreFields, Alternatives, MoreAlternatives}
 use Rattle.asn_values.specs.Fits.{Fits}
 use Rattle.asn_values.specs.Profile.{InProfile}
 use Rattle.asn_rules.specs.Forks.{Same}
+use Rattle.asn_rules.specs.Languages.{Map, Plain}
+use Rattle.asn_rules.specs.Listed.{IsOther, Spelt}
+use Rattle.asn_rules.specs.Sets.{InDigits, Among}
 use Rattle.asn_rules.specs.Spellings.{SpelledBy}
 use Rattle.asn_oer.specs.Oer.{oer, an_open_field}
-use Rattle.asn_oer.specs.SimpleTypes.{Booleans, Nulls, Integers, Items}
+use Rattle.asn_oer.specs.SimpleTypes.{truth_told, Booleans, Nulls, Integers, IsNumberOf, ItemNumbers, item_told, Items}
 use Rattle.asn_oer.specs.Strings.{BitStrings, OctetStrings, CharacterStrings, Utf8Strings}
 use Rattle.asn_oer.specs.Constructed.{Values, InOpenField, Lists, Choices}
 use Rattle.asn_oer.specs.Sequences.{Sequences}
@@ -61,3 +65,15 @@ ChoicesCompose = (root : Alternatives) (more : MoreAlternatives) → InProfile (
 -- "open type": a length and the octets of an encoding
 abbrev pub OpenFieldsCompose : Type 0
 OpenFieldsCompose = (t : Shape) → InProfile t → Same (InOpenField t) (SpelledBy (Fits t) (λ v. an_open_field (oer t v)))
+
+-- ---- components with a DEFAULT, which is not spelt: the values but for one
+
+-- BOOLEAN but for one value
+abbrev pub BooleansButOne : Type 0
+BooleansButOne = (e : Option Datum) → Same (Map truth_told (Plain (InDigits 256 1 (λ n. Among ((0, 0) ∷ (255, 255) ∷ []) n × IsOther e (truth_told n))))) (Spelt oer e boolean)
+
+-- ENUMERATED but for one item
+abbrev pub EnumeratedButOne : Type 0
+EnumeratedButOne =
+    (root : List Label) (more : MoreLabels) (e : Option Datum) → InProfile (enumerated root more) →
+    Same (Map (item_told (root ++ more_labels more)) (ItemNumbers (λ z. IsNumberOf (root ++ more_labels more) z × IsOther e (item_told (root ++ more_labels more) z)))) (Spelt oer e (enumerated root more))

@@ -6,6 +6,7 @@ use Rattle.asn_oer.proofs.StringLanguages.{octet_string_language, restricted_lan
 use Rattle.asn_oer.proofs.ListLanguages.{sequence_of_language}
 use Rattle.asn_oer.proofs.SequenceLanguages.{sequence_language}
 use Rattle.asn_oer.proofs.ChoiceLanguages.{choice_language}
+use Rattle.asn_oer.proofs.LeftOut.{boolean_but_one, enumerated_but_one}
 use Rattle.asn_oer.proofs.OpenTypes.{open_language}
 use Rattle.asn_oer.proofs.kinds.kinds_compose.Goals as goal
 
@@ -44,3 +45,9 @@ returns-clause-choice c = choice_language
 
 pub returns-clause-open_field : goal.returns-clause-open_field
 returns-clause-open_field c = open_language
+
+pub returns-clause-boolean_but_one : goal.returns-clause-boolean_but_one
+returns-clause-boolean_but_one c = boolean_but_one
+
+pub returns-clause-enumerated_but_one : goal.returns-clause-enumerated_but_one
+returns-clause-enumerated_but_one c = enumerated_but_one

@@ -74,6 +74,7 @@ some_weigh (field name optional t fs) (Some d ∷ gs) o f a = (let some : 0 < 2 
 
 -- ---- without a mark
 
+-- there are no additions, whatever the extension bit
 closed_language : (e : ℕ) → Same (Additions closed e) (SpelledBy (AdditionsFit closed e) (oer_additions closed))
 closed_language zero = same_after (nothing_spelled []) (same_spelled there back (λ gs e. refl))
   where
@@ -92,12 +93,15 @@ closed_language (suc e) = record { to = λ gs cs h. absurd h; from = λ gs cs h.
 -- ---- with a mark
 
 module _ (root fs : Fields) (h : InProfile (sequence root (marked fs))) where
+  -- each addition is OPTIONAL
   all_optional : list_all is_optional (demands fs) ≡ true
   all_optional = additions_optional root fs h
 
+  -- how many there are
   abbrev count : ℕ
   count = length (demands fs)
 
+  -- none is present
   no_additions : Same (Additions (marked fs) 0) (SpelledBy (AdditionsFit (marked fs) 0) (oer_additions (marked fs)))
   no_additions = same_after (nothing_spelled (replicate count None)) (same_spelled there back code)
     where
@@ -118,6 +122,7 @@ module _ (root fs : Fields) (h : InProfile (sequence root (marked fs))) where
   listed : (m : ℕ) → Same (OpenListed fs (bits count m)) (SpelledBy (Under fs (bits count m)) (oer_open fs))
   listed m = open_listed_language fs (bits count m) (additions_of_profile root fs h) all_optional (are_digits 2 count m (omega arith)) (length-digits 2 count m)
 
+  -- some are, as the bitmap says
   some_additions : (e : ℕ) → Same (Additions (marked fs) (suc e)) (SpelledBy (AdditionsFit (marked fs) (suc e)) (oer_additions (marked fs)))
   some_additions e = same_after (same_map (same_after (same_then (bitmap_language count (few_additions root fs (good (sequence root (marked fs)) h))) listed) then_spelled)) (map_spelled there back)
     where

@@ -37,11 +37,13 @@ use Rattle.asn_oer.proofs.Strings.{one_length, list_bits}
 
 -- ---- bits and truth values
 
+-- the bits of truth values give them back
 truths_again : (bs : List Bool) → map is_one (map bit_of bs) ≡ bs
 truths_again [] = refl
 truths_again (true ∷ bs) = ap (λ (l : List Bool). true ∷ l) (truths_again bs)
 truths_again (false ∷ bs) = ap (λ (l : List Bool). false ∷ l) (truths_again bs)
 
+-- truth values of bits give the bits back
 bits_again : (us : List ℕ) → AreBits us → map bit_of (map is_one us) ≡ us
 bits_again [] h = refl
 bits_again (zero ∷ us) h = ap (λ (l : List ℕ). 0 ∷ l) (bits_again us h.1)
@@ -59,6 +61,7 @@ unpacked_bits (o ∷ os) = digits-append 2 (bits 8 o) (unpacked os) (are_digits 
 abbrev IsEnd : ℕ → ℕ → Type 0
 IsEnd r o = (o < 256) × (o % 2 ^ (8 - r) ≡ 0)
 
+-- the last octet is spelt by itself
 end_itself : (r : ℕ) → Same (EndOctet r) (SpelledBy (IsEnd r) (λ o. one o ∷ []))
 end_itself r = same_after (digits_spelled 256 1 (IsEnd r) (λ o h. omega (arith, h.0))) (same_spelled (λ o h. h) (λ o h. h) (λ o h. ap ones (one_is o h.0)))
 
@@ -92,9 +95,11 @@ record Unpacks (n : ℕ) (os us : List ℕ) : Type 0 where
 abbrev Parts : ℕ → List ℕ × List ℕ → Type 0
 Parts n p = ((length p.0 ≡ n / 8) × AllByRecursion (λ o. o < 256) p.0) × ((length p.1 ≡ (n % 8 + 7) / 8) × AllByRecursion (IsEnd (n % 8)) p.1)
 
+-- these octets are spelt by themselves
 parts_spelled : (n : ℕ) → Same (Then (Row OneOctet (n / 8)) (λ _. Row (EndOctet (n % 8)) ((n % 8 + 7) / 8))) (SpelledBy (Parts n) (λ p. ones p.0 ++ ones p.1))
 parts_spelled n = same_after (same_then (octets_itself (n / 8)) (λ _. items_themselves (end_itself (n % 8)) ((n % 8 + 7) / 8))) then_spelled
 
+-- such octets have n bits, and zeros behind them
 parts_unpack : (n : ℕ) (os ls : List ℕ) → length os ≡ n / 8 → AllByRecursion (λ o. o < 256) os → length ls ≡ (n % 8 + 7) / 8 → AllByRecursion (IsEnd (n % 8)) ls → (us : List ℕ) × Unpacks n (os ++ ls) us
 parts_unpack n os [] l p m q =
     let none : (8 - n % 8) % 8 ≡ 0 = omega arith in
@@ -203,6 +208,7 @@ packed_language n = same_after (same_map (parts_spelled n)) (map_spelled there b
 -- ---- bits of a count that is told
 
 module _ (S : ℕ → Type 0) (few : (n : ℕ) → S n → n ≤ 268435455) where
+  -- such a length has few octets
   short : (l : ℕ) → BitsLength S l → octet_count l < 128
   short l h =
       let n = few h.count h.member in
@@ -228,6 +234,7 @@ module _ (S : ℕ → Type 0) (few : (n : ℕ) → S n → n ≤ 268435455) wher
       let is : IsBits (length us) m us = record { digits = b; count = refl; sum = refl } in
       ap (λ (l : List ℕ). length (filled_bits l)) (bits_only (length us) m us is).1 ∙ length-filled_bits (length us) m
 
+  -- a length, the unused bits, and the bits
   variable_language : Same (VariableBits S) (SpelledBy (λ bs. S (length bs)) (λ bs. ones (variable_bits (map bit_of bs))))
   variable_language =
       same_after

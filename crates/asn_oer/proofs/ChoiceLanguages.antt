@@ -34,6 +34,7 @@ open_alternative no_alternatives t h = none_spelled (FitsAlternative no_alternat
 open_alternative (one_of name shape alts) zero h = open_language shape h.0
 open_alternative (one_of name shape alts) (suc t) h = open_alternative alts t h.1
 
+-- the additions, where there is a mark
 added_alternative : (root : Alternatives) (more : MoreAlternatives) (t : ℕ) → InProfile (choice root more) → Same (OneOfMore more t) (SpelledBy (FitsMoreAlternatives more t) (oer_more more t))
 added_alternative root closed_choice t h = none_spelled (FitsMoreAlternatives closed_choice t) (oer_more closed_choice t) (λ d h. h)
 added_alternative root (marked_choice alts) t h = open_alternative alts t (added_alternatives_of_profile root alts h)
@@ -43,6 +44,7 @@ module _ (root : Alternatives) (more : MoreAlternatives) (h : InProfile (choice 
   abbrev behind_tag : ℕ → Datum → List Chunk
   behind_tag t d = elim (nat_lt t (count root)) [ true ↦ oer_alternative root t d | false ↦ oer_more more (t - count root) d ]
 
+  -- the values of the alternative with the tag
   alternative_language : (t : ℕ) → Same (Alternative root more t) (SpelledBy (FitsChoice root more t) (behind_tag t))
   alternative_language t = go (nat_lt t (count root)) (root_alternative root t) (added_alternative root more (t - count root) h)
     where
@@ -51,12 +53,15 @@ module _ (root : Alternatives) (more : MoreAlternatives) (h : InProfile (choice 
       go true p q = p
       go false p q = q
 
+  -- how many alternatives there are
   abbrev total : ℕ
   total = count root + count (more_alternatives more)
 
+  -- at most 63
   few : total ≤ 63
   few = few_alternatives root more (good (choice root more) h)
 
+  -- the octet is the tag
   tag_octet : (b : ℕ) → Between 128 (127 + total) b → ones (digits 256 1 b) ≡ ones (tag (b - 128))
   tag_octet b s =
       let l : b < 256 = omega (arith, few, s.1) in

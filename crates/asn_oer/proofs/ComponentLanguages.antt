@@ -29,10 +29,12 @@ abbrev OnEntry : (Datum → Type 0) → Option Datum → Type 0
 OnEntry P None = ⊥
 OnEntry P (Some d) = P d
 
+-- its spelling
 abbrev entry_code : (Datum → List Chunk) → Option Datum → List Chunk
 entry_code f None = []
 entry_code f (Some d) = f d
 
+-- an entry that is there is spelt as its value
 entry_spelled : (P : Datum → Type 0) (f : Datum → List Chunk) → Same (Map Some (SpelledBy P f)) (SpelledBy (OnEntry P) (entry_code f))
 entry_spelled P f = map_spelled (λ d h. (h, refl)) back
   where
@@ -90,6 +92,7 @@ bit_one : (b : ℕ) → suc b < 2 → 1 ≡ suc b
 bit_one b h = omega arith
 
 module _ (name : List ℕ) (t : Shape) (fs : Fields) (bits : List ℕ) (rest : Same (OpenListed fs bits) (SpelledBy (Under fs bits) (oer_open fs))) where
+  -- an addition that is there, and those behind it
   there_spelled : (b : ℕ) → suc b < 2 → InProfile t → Same (Before (InOpenField t) (OpenListed fs bits)) (SpelledBy (Under (field name optional t fs) (suc b ∷ bits)) (oer_open (field name optional t fs)))
   there_spelled b small good = before_spelled (Fits t) (λ v. an_open_field (oer t v)) (Under fs bits) (Under (field name optional t fs) (suc b ∷ bits)) (oer_open fs) (oer_open (field name optional t fs)) (open_language t good) rest there back
     where
@@ -101,6 +104,7 @@ module _ (name : List ℕ) (t : Shape) (fs : Fields) (bits : List ℕ) (rest : S
       back (None ∷ es) h = absurd (let e = first_bit 0 (suc b) (presence (demands fs) es) bits h.1 in omega arith)
       back (Some d ∷ es) h = (d, es, h.0.0, (h.0.1, other_bits 1 (suc b) (presence (demands fs) es) bits h.1), refl)
 
+  -- an addition that is absent, and those behind it
   absent_spelled : Same (Map (λ es. None ∷ es) (OpenListed fs bits)) (SpelledBy (Under (field name optional t fs) (zero ∷ bits)) (oer_open (field name optional t fs)))
   absent_spelled = same_after (same_map rest) (map_spelled (λ es q. ((((tt, q.0), ap (λ (l : List ℕ). 0 ∷ l) q.1)), refl)) back)
     where

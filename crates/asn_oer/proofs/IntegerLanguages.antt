@@ -92,9 +92,11 @@ module _ (b : Range) (k low : ℕ) where
   abbrev Stands : ℤ → ℕ → Type 0
   Stands high n = (n < 256 ^ k) × (int_le (negsuc low) (signed_number (k, n)) ≡ true) × (int_le (signed_number (k, n)) high ≡ true)
 
+  -- its number has these bounds
   stands_as : (high z : ℤ) (n : ℕ) → signed_number (k, n) ≡ z → n < 256 ^ k → int_le (negsuc low) z ≡ true → int_le z high ≡ true → Stands high n
   stands_as high z n e room p q = (room, ap (λ (y : ℤ). int_le (negsuc low) y) e ∙ p, ap (λ (y : ℤ). int_le y high) e ∙ q)
 
+  -- a number of the residues stands for an integer between the bounds
   stands : (high : ℤ) → 1 ≤ k → low < 2 ^ (8 * k - 1) → int_lt high (pos (2 ^ (8 * k - 1))) ≡ true → (n : ℕ) → Among (residues k (negsuc low) high) n → Stands high n
   stands (pos high) some room top n (inl s) =
       let l : high < 2 ^ (8 * k - 1) = ltb-true high (2 ^ (8 * k - 1)) top in
@@ -149,13 +151,16 @@ module _ (b : Range) (k low : ℕ) where
 abbrev plain : Option ℤ → Option ℤ → Range
 plain low high = record { low = low; high = high; extensible = false }
 
+-- what is not false is true
 not_true : (b : Bool) → not b ≡ false → b ≡ true
 not_true true e = refl
 not_true false e = absurd (cc)
 
+-- the test of the order says which is not below
 not_below : (a b : ℤ) → int_lt a b ≡ false → b ≤ℤ a
 not_below a b e = grind (arith, ints)
 
+-- a bound that the profile allows is an integer of it
 inside : (z : ℤ) → is_outside (Some z) ≡ false → (lowest_integer ≤ℤ z) × (z ≤ℤ highest_integer)
 inside z e = (not_below z lowest_integer (left_false _ _ e), not_below highest_integer z (right_false (int_lt z lowest_integer) _ e))
 
@@ -227,6 +232,7 @@ signed_between low high k good some held = record { some = some; fit = fit; abov
 
 -- ---- all ranges
 
+-- the integers between two bounds, the low one not negative
 unsigned_language : (low high : ℕ) → InProfile (integer (plain (Some (pos low)) (Some (pos high)))) → Same (UnsignedIn (unsigned_octets (pos high)) low high) (Spelling (plain (Some (pos low)) (Some (pos high))))
 unsigned_language low high good = go (unsigned_cases (pos high))
   where
@@ -241,6 +247,7 @@ unsigned_language low high good = go (unsigned_cases (pos high))
         subst (λ o. Same (UnsignedIn o low high) (Spelling b)) (sym e)
         (counted_unsigned b low high (from_to low high good) (omega (arith, ints, high_inside (Some (pos low)) (pos high) good)) (λ n. ap (λ o. unsigned_in o (pos n)) e))
 
+-- the integers between two bounds, the low one negative
 signed_language : (low : ℕ) (high : ℤ) → InProfile (integer (plain (Some (negsuc low)) (Some high))) → Same (SignedIn (plain (Some (negsuc low)) (Some high)) (signed_size (negsuc low) high) (negsuc low) high) (Spelling (plain (Some (negsuc low)) (Some high)))
 signed_language low high good = go (signed_cases (negsuc low) high)
   where

@@ -47,6 +47,7 @@ module _ (S : ℤ → Type 0) where
   abbrev OfCount : ℕ → ℤ → Type 0
   OfCount k z = LongOnes S z × (signed_octet_count z ≡ k)
 
+  -- in k octets of two's complement
   long_spelled : (k : ℕ) → Same (Map (λ n. signed_number (k, n)) (Plain (InDigits 256 k (LeastSigned (LongOnes S) k)))) (SpelledBy (OfCount k) (λ z. ones (octets k (residue k z))))
   long_spelled k = same_after (same_map (digits_spelled 256 k (LeastSigned (LongOnes S) k) (λ n l. l.fits))) (map_spelled there back)
     where
@@ -70,6 +71,7 @@ module _ (S : ℤ → Type 0) where
   abbrev behind_code : ℕ → ℤ → List Chunk
   behind_code b z = elim (nat_lt b 128) [ true ↦ [] | false ↦ ones (octets (b - 128) (residue (b - 128) z)) ]
 
+  -- what stands behind the first octet is spelt so
   behind_spelled : (b : ℕ) → Same (BehindItemOctet S b) (SpelledBy (BehindFits b) (behind_code b))
   behind_spelled b = go (nat_lt b 128) refl
     where
@@ -82,9 +84,11 @@ module _ (S : ℤ → Type 0) where
           let large : 128 ≤ b = ltb-false b 128 e in
           same_after (long_spelled (b - 128)) (same_spelled (λ z h. inr (large, h)) (λ z h. elim h [ inl a ↦ absurd (let l = a.0 in omega arith) | inr c ↦ c.1 ]) (λ z h. refl))
 
+  -- behind a small first octet nothing stands
   small_behind : (b : ℕ) (z : ℤ) → b < 128 → behind_code b z ≡ []
   small_behind b z h = let e : nat_lt b 128 ≡ true = lt-ltb b 128 h in rw (e, behind_code) refl
 
+  -- behind a large one so many octets
   large_behind : (b : ℕ) (z : ℤ) → 128 ≤ b → behind_code b z ≡ ones (octets (b - 128) (residue (b - 128) z))
   large_behind b z h = go (nat_lt b 128) refl
     where
@@ -92,12 +96,10 @@ module _ (S : ℤ → Type 0) where
       go true e = absurd (let l = ltb-true b 128 e in omega arith)
       go false e = rw (e, behind_code) refl
 
+  -- the first octet is one
   first_fits : (b : ℕ) → ItemOctet S b → b < 256 ^ 1
   first_fits b (inl h) = (let l = h.0 in omega arith)
   first_fits b (inr h) = (let f = h.1.few in omega arith)
-
-  code : ℕ → ℤ → List Chunk
-  code b z = ones (digits 256 1 b) ++ behind_code b z
 
   -- the numbers of the set, as they are spelt
   pub item_numbers_spelled : ((z : ℤ) → S z → signed_octet_count z < 128) → Same (ItemNumbers S) (SpelledBy S (λ z. ones (item_number z)))
@@ -151,6 +153,7 @@ place_has (l ∷ labels) z p h e = go (int_eq z l.number) refl (λ q i f. place_
     go false t again (suc p) h e = let w = again p (omega arith) e in (omega (arith, w.0), w.1)
 
 module _ (root : List Label) (more : MoreLabels) (good : InProfile (enumerated root more)) where
+  -- the items, those behind the mark too
   abbrev labels : List Label
   labels = root ++ more_labels more
 

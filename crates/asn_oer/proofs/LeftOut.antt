@@ -1,16 +1,12 @@
 -- The values of a type but for one that is left out, as a component with a DEFAULT is spelt: BOOLEAN and ENUMERATED.
-use Rattle.std.proofs.Common.{◌≡◌, ◌<◌, ◌^◌, ℕ, ℤ, List, [], ◌∷◌, ◌++◌, Option, sym, subst, arith}
-use Rattle.asn_values.specs.Datum.{Datum}
-use Rattle.asn_values.specs.Shape.{Label, MoreLabels, more_labels, boolean, enumerated}
-use Rattle.asn_values.specs.Fits.{Fits}
-use Rattle.asn_values.specs.Profile.{InProfile}
-use Rattle.asn_rules.specs.Chunks.{Chunk, ones}
+use Rattle.std.proofs.Common.{List, ◌++◌, sym, subst}
+use Rattle.asn_values.specs.Shape.{more_labels}
+use Rattle.asn_rules.specs.Chunks.{Chunk}
 use Rattle.asn_rules.specs.Languages.{Map}
 use Rattle.asn_rules.specs.Forks.{Same}
-use Rattle.asn_rules.specs.Listed.{IsOther, Spelt}
+use Rattle.asn_rules.specs.Listed.{IsOther}
 use Rattle.asn_rules.specs.Spellings.{SpelledBy}
 use Rattle.asn_rules.proofs.Spellings.{same_after, same_map, digits_spelled, map_spelled}
-use Rattle.asn_oer.specs.Oer.{oer}
 use Rattle.asn_oer.specs.SimpleTypes.{truth_told, item_told, IsNumberOf}
 use Rattle.asn_oer.specs.Kinds.{BooleansButOne, EnumeratedButOne}
 use Rattle.asn_oer.proofs.SimpleLanguages.{Truths, truth_there, truth_back, truth_below}

@@ -21,6 +21,7 @@ list_of_elements : (ds : List Datum) → element_list (elements_of ds) ≡ ds
 list_of_elements [] = refl
 list_of_elements (d ∷ ds) = ap (λ (l : List Datum). d ∷ l) (list_of_elements ds)
 
+-- and back
 elements_of_list : (es : Elements) → elements_of (element_list es) ≡ es
 elements_of_list no_elements = refl
 elements_of_list (element d es) = ap (element d) (elements_of_list es)

@@ -107,6 +107,7 @@ within (marked (field name demand t fs)) p w gs h f = go (any_present gs)
 -- ---- the whole
 
 module _ (root : Fields) (more : MoreFields) (h : InProfile (sequence root more)) where
+  -- how many presence bits there are
   abbrev presences : ℕ
   presences = bitmap_length root
 
@@ -114,6 +115,7 @@ module _ (root : Fields) (more : MoreFields) (h : InProfile (sequence root more)
   abbrev Behind : ℕ → List (Option Datum) × List (Option Datum) → Type 0
   Behind m q = Under root (bits presences m) q.0 × AdditionsFit more (m / 2 ^ presences) q.1
 
+  -- what stands behind the preamble
   behind_language : (m : ℕ) → Same (Then (Listed oer root (bits presences m)) (λ _. Additions more (m / 2 ^ presences))) (SpelledBy (Behind m) (λ q. oer_each root q.0 ++ oer_additions more q.1))
   behind_language m =
       same_after
@@ -124,12 +126,15 @@ module _ (root : Fields) (more : MoreFields) (h : InProfile (sequence root more)
   abbrev EntriesFit : List (Option Datum) → Type 0
   EntriesFit es = FitsEach root (take (length (demands root)) es) × FitsMore more (drop (length (demands root)) es)
 
+  -- how the components and additions are spelt
   abbrev entries_code : List (Option Datum) → List (Option Datum) → List Chunk
   entries_code ours theirs = ones (filled_bits (extension_bit (is_marked more) (any_present theirs) ++ presence (demands root) ours)) ++ oer_each root ours ++ oer_additions more theirs
 
+  -- the same of all entries
   abbrev whole_code : List (Option Datum) → List Chunk
   whole_code es = entries_code (take (length (demands root)) es) (drop (length (demands root)) es)
 
+  -- a preamble and what stands behind it are a value's
   there : (m : ℕ) (es gs : List (Option Datum)) → m < 2 ^ (extending_count more + presences) → Under root (bits presences m) es → AdditionsFit more (m / 2 ^ presences) gs
       → EntriesFit (component_list (components_of (es ++ gs))) × (ones (filled_bits (bits (extension_count more + presences) m)) ++ (oer_each root es ++ oer_additions more gs) ≡ whole_code (component_list (components_of (es ++ gs))))
   there m es gs l u a =
@@ -145,6 +150,7 @@ module _ (root : Fields) (more : MoreFields) (h : InProfile (sequence root more)
       let whole : entries_code es gs ≡ whole_code (es ++ gs) = ap (λ (x : List (Option Datum)). entries_code x gs) (sym first) ∙ ap (λ (x : List (Option Datum)). entries_code (take (length (demands root)) (es ++ gs)) x) (sym second) in
       (subst EntriesFit all fits, code ∙ whole ∙ ap whole_code all)
 
+  -- and each value has them
   back : (es gs : List (Option Datum)) → FitsEach root es → FitsMore more gs → (m : ℕ) × (m < 2 ^ (extending_count more + presences)) × Under root (bits presences m) es × AdditionsFit more (m / 2 ^ presences) gs
   back es gs f g =
       let l = presence (demands root) es in

@@ -16,10 +16,11 @@ use Rattle.asn_oer.specs.SimpleTypes.{truth_told, Booleans, Nulls}
 abbrev pub Truths : ℕ → Type 0
 Truths = Among ((0, 0) ∷ (255, 255) ∷ [])
 
--- what each stands for, and how that is spelt
+-- a truth value that the octet stands for, spelt by it
 abbrev pub Told : ℕ → Type 0
 Told n = Fits boolean (truth_told n) × (ones (digits 256 1 n) ≡ oer boolean (truth_told n))
 
+-- each of the octets has a truth value
 pub truth_there : (n : ℕ) → Truths n → Told n
 truth_there n (inl h) = let e : 0 ≡ n = omega (arith, h.0, h.1) in subst Told e (tt, refl)
 truth_there n (inr (inl h)) = let e : 255 ≡ n = omega (arith, h.0, h.1) in subst Told e (tt, refl)
@@ -31,6 +32,7 @@ truth_back (truth false) h = (0, inl (omega arith, omega arith), refl)
 truth_back (truth true) h = (255, inr (inl (omega arith, omega arith)), refl)
 truth_back _ h = absurd h
 
+-- they are octets
 pub truth_below : (n : ℕ) → Truths n → n < 256 ^ 1
 truth_below n (inl h) = omega (arith, h.1)
 truth_below n (inr (inl h)) = omega (arith, h.1)

@@ -26,6 +26,7 @@ InOpenField t = Sealed open_field (Holds oer_ruling t)
 abbrev pub Quantity : (ℕ → Type 0) → ℕ → List Chunk → Type 0
 Quantity S = Map number_of (Counted 256 1 (Least S))
 
+-- the elements without their quantity
 abbrev pub elements_told : ℕ × List Datum → Datum
 elements_told p = elements (elements_of p.1)
 
@@ -55,6 +56,7 @@ Alternative root more t = elim (nat_lt t (count root)) [ true ↦ OneOf Values r
 abbrev pub Tags : Alternatives → MoreAlternatives → ℕ → List Chunk → Type 0
 Tags root more = Plain (InDigits 256 1 (Between 128 (127 + (count root + count (more_alternatives more)))))
 
+-- the value of the alternative with the tag
 abbrev pub alternative_told : ℕ × Datum → Datum
 alternative_told p = alternative (p.0 - 128) p.1
 

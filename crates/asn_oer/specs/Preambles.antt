@@ -8,10 +8,11 @@ use Rattle.asn_rules.specs.Sets.{InDigits}
 use Rattle.asn_rules.specs.Listed.{bitmap_length}
 use Rattle.asn_rules.specs.Fields.{OctetLength}
 
--- how many octets n bits fill, and how many bits are unused then
+-- how many octets n bits fill
 abbrev pub filled_octets : ℕ → ℕ
 filled_octets n = (n + 7) / 8
 
+-- and how many bits are unused then
 abbrev pub unused_bits : ℕ → ℕ
 unused_bits n = (8 - n % 8) % 8
 
@@ -20,6 +21,7 @@ pub record BeforeZeros (u : ℕ) (S : ℕ → Type 0) (x : ℕ) : Type 0 where
   pub zeros : x % 2 ^ u ≡ 0
   pub member : S (x / 2 ^ u)
 
+-- the number without the zeros behind it
 abbrev pub without_zeros : ℕ → ℕ → ℕ
 without_zeros n x = x / 2 ^ unused_bits n
 
@@ -50,6 +52,7 @@ Preamble root more = FilledNumbers (extension_count more + bitmap_length root) (
 abbrev pub SomeBits : ℕ → ℕ → Type 0
 SomeBits n m = (1 ≤ m) × (m < 2 ^ n)
 
+-- the bits without what stands before them
 abbrev pub bitmap_told : ℕ × (ℕ × ℕ) → ℕ
 bitmap_told p = p.1.1
 

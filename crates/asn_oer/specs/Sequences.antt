@@ -24,6 +24,7 @@ Additions more zero = Nothing (replicate (length (demands (more_fields more))) N
 Additions closed (suc e) = λ es cs. ⊥
 Additions (marked fs) (suc e) = Map behind_first (Then (Bitmap (length (demands fs))) (λ m. OpenListed fs (bits (length (demands fs)) m)))
 
+-- the components and additions, without the preamble
 abbrev pub sequence_told : ℕ × (List (Option Datum) × List (Option Datum)) → Datum
 sequence_told p = components (components_of (p.1.0 ++ p.1.1))
 

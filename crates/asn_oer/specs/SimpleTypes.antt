@@ -103,6 +103,7 @@ ItemOctet S b = ((b < 128) × S (pos b)) ⊎ ((128 ≤ b) × SomeOf (LeastSigned
 abbrev pub BehindItemOctet : (ℤ → Type 0) → ℕ → ℤ → List Chunk → Type 0
 BehindItemOctet S b = elim (nat_lt b 128) [ true ↦ Nothing (pos b) | false ↦ Map (λ n. signed_number (b - 128, n)) (Plain (InDigits 256 (b - 128) (LeastSigned (LongOnes S) (b - 128)))) ]
 
+-- the number without its first octet
 abbrev pub number_told : ℕ × ℤ → ℤ
 number_told p = p.1
 
@@ -110,6 +111,7 @@ number_told p = p.1
 abbrev pub ItemNumbers : (ℤ → Type 0) → ℤ → List Chunk → Type 0
 ItemNumbers S = Map number_told (Then (Plain (InDigits 256 1 (ItemOctet S))) (BehindItemOctet S))
 
+-- the item with the number
 abbrev pub item_told : List Label → ℤ → Datum
 item_told labels z = item (place_of labels z)
 

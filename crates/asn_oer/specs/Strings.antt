@@ -74,6 +74,7 @@ pub record UnusedBits (S : ℕ → Type 0) (l u : ℕ) : Type 0 where
   pub left : u ≤ 8 * (l - 1)
   pub member : S (8 * (l - 1) - u)
 
+-- the bits without what stands before them
 abbrev pub last_told : ℕ × (ℕ × List Bool) → List Bool
 last_told p = p.1.1
 

@@ -95,11 +95,11 @@ module _ (low high : ℤ) (e : Option ℤ) (good : InProfile (integer (ranging l
         rw (a, b) refl,
       )
 
-  there : (n : ℕ) → Offsets n → (Fits (integer (ranging low (Some high))) (number_from low n) × IsOther (option_map number e) (number_from low n))
+  pub there : (n : ℕ) → Offsets n → (Fits (integer (ranging low (Some high))) (number_from low n) × IsOther (option_map number e) (number_from low n))
       × (ones (bits (width (suc (above low high))) n) ≡ per (integer (ranging low (Some high))) (number_from low n))
   there n h = ((in_range n h.1, other_number low (Some high) e n within h.2), ap (λ k. ones (bits (width (suc (above low high))) k)) (sym (above-add low n)))
 
-  back : (v : Datum) → Fits (integer (ranging low (Some high))) v × IsOther (option_map number e) v → (n : ℕ) × Offsets n × (v ≡ number_from low n)
+  pub back : (v : Datum) → Fits (integer (ranging low (Some high))) v × IsOther (option_map number e) v → (n : ℕ) × Offsets n × (v ≡ number_from low n)
   back (number z) h =
       let p = number_above_low low (Some high) z h.0 in (
         above low z,
@@ -126,11 +126,11 @@ module _ (low : ℤ) (e : Option ℤ) (good : InProfile (integer (ranging low No
         rw a refl,
       )
 
-  open_there : (n : ℕ) → OpenOffsets n → (Fits (integer (ranging low None)) (number_from low n) × IsOther (option_map number e) (number_from low n))
+  pub open_there : (n : ℕ) → OpenOffsets n → (Fits (integer (ranging low None)) (number_from low n) × IsOther (option_map number e) (number_from low n))
       × (ones (general_octets (λ u. u) (least n)) ≡ per (integer (ranging low None)) (number_from low n))
   open_there n h = ((open_in_range n h.1, other_number low None e n within h.2), ap (λ k. ones (general_octets (λ u. u) (least k))) (sym (above-add low n)))
 
-  open_back : (v : Datum) → Fits (integer (ranging low None)) v × IsOther (option_map number e) v → (n : ℕ) × OpenOffsets n × (v ≡ number_from low n)
+  pub open_back : (v : Datum) → Fits (integer (ranging low None)) v × IsOther (option_map number e) v → (n : ℕ) × OpenOffsets n × (v ≡ number_from low n)
   open_back (number z) h =
       let p = number_above_low low None z h.0 in (
         above low z,
@@ -139,7 +139,7 @@ module _ (low : ℤ) (e : Option ℤ) (good : InProfile (integer (ranging low No
       )
   open_back _ h = absurd h.0
 
-  few_octets : (n : ℕ) → OpenOffsets n → octet_count n < 128
+  pub few_octets : (n : ℕ) → OpenOffsets n → octet_count n < 128
   few_octets n h =
       let top : above low highest_integer < 2 ^ 64 = offsets_below low (low_above_lowest low None good) (low_below_highest low None good) in
       let few : octet_count n ≤ 8 = octet_count_below n 8 (omega arith) (omega (arith, h.1, top)) in

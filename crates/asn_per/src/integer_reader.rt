@@ -147,7 +147,7 @@ fn greatest_with(count: u32) -> u64
     }
 }
 
-fn power_of_two(exponent: u32) -> u64
+pub(crate) fn power_of_two(exponent: u32) -> u64
     requires { exponent < 64 }
     ensures { result ≡ 2 ^ exponent }
 {

@@ -7,6 +7,8 @@ mod integer_reader;
 mod kinds;
 mod laws;
 mod number_reader;
+#[cfg(test)]
+mod tests;
 mod value_reader;
 
 pub use decoder::decode;

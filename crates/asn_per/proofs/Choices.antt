@@ -32,7 +32,7 @@ abbrev pub AreFacing : (ℕ → Datum → Type 0) → (ℕ → Datum → List Ch
 AreFacing P code = (E : Type 0) (t : ℕ) (x y : Datum) (r s : List Chunk) → P t x → P t y → (x ≡ y → Facing spelled E r s) → Facing spelled E (code t x ++ r) (code t y ++ s)
 
 -- the spelling of a CHOICE, where i says that the alternative is one of the root
-abbrev choice_chunks : Alternatives → MoreAlternatives → Bool → ℕ → Datum → List Chunk
+abbrev pub choice_chunks : Alternatives → MoreAlternatives → Bool → ℕ → Datum → List Chunk
 choice_chunks root more i t v =
     elim i [
       | true ↦ ones (extension_bit (is_marked_choice more) false ++ constrained (count root) t) ++ per_alternative root t v

@@ -15,7 +15,7 @@ power_up i j h = pow-le-pow_right {n = 256} (omega arith) {i = i} {j = j} h
 least_one : (c : ℕ) → c ≤ 1 → least_of c ≡ 0
 least_one c h = rw (le-ltb 1 c h, least_of) refl
 
-least_more : (c : ℕ) → 1 < c → least_of c ≡ 256 ^ (c - 1)
+pub least_more : (c : ℕ) → 1 < c → least_of c ≡ 256 ^ (c - 1)
 least_more c h = rw (lt-ltb 1 c h, least_of) refl
 
 -- a number that needs so many is at or above the least one

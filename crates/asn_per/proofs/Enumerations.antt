@@ -17,7 +17,7 @@ use Rattle.asn_per.specs.Per.{constrained, small, rank, enumeration}
 -- ---- numbers in order
 
 -- no number is below itself
-lt_not_self : (z : ℤ) → int_lt z z ≡ false
+pub lt_not_self : (z : ℤ) → int_lt z z ≡ false
 lt_not_self (pos n) = go (nat_lt n n) refl
   where
     go : (b : Bool) → nat_lt n n ≡ b → b ≡ false
@@ -30,7 +30,7 @@ lt_not_self (negsuc n) = go (nat_lt n n) refl
     go false e = refl
 
 -- below one that is below is below
-lt_also : (x y z : ℤ) → int_lt x y ≡ true → int_lt y z ≡ true → int_lt x z ≡ true
+pub lt_also : (x y z : ℤ) → int_lt x y ≡ true → int_lt y z ≡ true → int_lt x z ≡ true
 lt_also (pos a) (pos b) (pos c) p q = lt-ltb a c (omega (arith, ltb-true a b p, ltb-true b c q))
 lt_also (pos a) (pos b) (negsuc c) p q = absurd (true≢false (sym q))
 lt_also (pos a) (negsuc b) z p q = absurd (true≢false (sym p))
@@ -40,7 +40,7 @@ lt_also (negsuc a) (pos b) (negsuc c) p q = absurd (true≢false (sym q))
 lt_also (negsuc a) (negsuc b) (negsuc c) p q = lt-ltb c a (omega (arith, ltb-true b a p, ltb-true c b q))
 
 -- of two numbers one is below, or they are one
-compare : (y z : ℤ) → (int_lt y z ≡ true) ⊎ (y ≡ z) ⊎ (int_lt z y ≡ true)
+pub compare : (y z : ℤ) → (int_lt y z ≡ true) ⊎ (y ≡ z) ⊎ (int_lt z y ≡ true)
 compare (pos a) (pos b) = elim (cases_lt a b) [
   | inl h ↦ inl (lt-ltb a b h)
   | inr h ↦ elim (cases_lt b a) [ inl g ↦ inr (inr (lt-ltb b a g)) | inr g ↦ inr (inl (ap pos (omega arith))) ]
@@ -59,15 +59,15 @@ rank_step : (l : Label) (ls : List Label) (z : ℤ) → rank (l ∷ ls) z ≡ co
 rank_step l ls z = sum_by-cons (λ l. cond (int_lt l.number z) 1 0) l ls
 
 -- an item with a lower number counts
-rank_yes : (l : Label) (ls : List Label) (z : ℤ) → int_lt l.number z ≡ true → rank (l ∷ ls) z ≡ suc (rank ls z)
+pub rank_yes : (l : Label) (ls : List Label) (z : ℤ) → int_lt l.number z ≡ true → rank (l ∷ ls) z ≡ suc (rank ls z)
 rank_yes l ls z e = let f : cond {A = ℕ} (int_lt l.number z) 1 0 ≡ 1 = ap (λ b. cond b 1 0) e in omega (arith, rank_step l ls z)
 
 -- and no other
-rank_no : (l : Label) (ls : List Label) (z : ℤ) → int_lt l.number z ≡ false → rank (l ∷ ls) z ≡ rank ls z
+pub rank_no : (l : Label) (ls : List Label) (z : ℤ) → int_lt l.number z ≡ false → rank (l ∷ ls) z ≡ rank ls z
 rank_no l ls z e = let f : cond {A = ℕ} (int_lt l.number z) 1 0 ≡ 0 = ap (λ b. cond b 1 0) e in omega (arith, rank_step l ls z)
 
 -- no more items are lower than there are
-rank_le : (ls : List Label) (z : ℤ) → rank ls z ≤ length ls
+pub rank_le : (ls : List Label) (z : ℤ) → rank ls z ≤ length ls
 rank_le [] z = omega arith
 rank_le (l ∷ ls) z = go (int_lt l.number z) refl (rank_le ls z)
   where
@@ -76,7 +76,7 @@ rank_le (l ∷ ls) z = go (int_lt l.number z) refl (rank_le ls z)
     go false e h = omega (arith, rank_no l ls z e)
 
 -- below a higher number there are as many items or more
-rank_rises : (ls : List Label) (y z : ℤ) → int_lt y z ≡ true → rank ls y ≤ rank ls z
+pub rank_rises : (ls : List Label) (y z : ℤ) → int_lt y z ≡ true → rank ls y ≤ rank ls z
 rank_rises [] y z h = omega arith
 rank_rises (l ∷ ls) y z h = go (int_lt l.number y) (int_lt l.number z) refl refl (rank_rises ls y z h)
   where
@@ -87,7 +87,7 @@ rank_rises (l ∷ ls) y z h = go (int_lt l.number y) (int_lt l.number z) refl re
     go false false p q n = omega (arith, rank_no l ls y p, rank_no l ls z q)
 
 -- an item has a lower index than a higher number
-rank_below : (ls : List Label) (p : ℕ) (z : ℤ) → p < length ls → int_lt (number_at ls p) z ≡ true → rank ls (number_at ls p) < rank ls z
+pub rank_below : (ls : List Label) (p : ℕ) (z : ℤ) → p < length ls → int_lt (number_at ls p) z ≡ true → rank ls (number_at ls p) < rank ls z
 rank_below [] p z h l = absurd (omega arith)
 rank_below (k ∷ ls) zero z h l =
     omega (arith, rank_no k ls k.number (lt_not_self k.number), rank_yes k ls z l, rank_rises ls k.number z l)
@@ -100,7 +100,7 @@ rank_below (k ∷ ls) (suc p) z h l = go (int_lt k.number (number_at ls p)) (int
     go false false x y n = omega (arith, rank_no k ls (number_at ls p) x, rank_no k ls z y)
 
 -- its index is below the count of items
-rank_inside : (ls : List Label) (p : ℕ) → p < length ls → rank ls (number_at ls p) < length ls
+pub rank_inside : (ls : List Label) (p : ℕ) → p < length ls → rank ls (number_at ls p) < length ls
 rank_inside [] p h = absurd (omega arith)
 rank_inside (k ∷ ls) zero h = omega (arith, rank_no k ls k.number (lt_not_self k.number), rank_le ls k.number)
 rank_inside (k ∷ ls) (suc p) h = go (int_lt k.number (number_at ls p)) refl (rank_inside ls p (omega arith))

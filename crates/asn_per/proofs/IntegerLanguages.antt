@@ -15,16 +15,18 @@ use Rattle.asn_bits.proofs.Octets.{octet_count_below}
 use Rattle.asn_bits.proofs.Widths.{width_fits}
 use Rattle.asn_rules.specs.Chunks.{Chunk, ones}
 use Rattle.asn_rules.specs.Components.{is_default}
-use Rattle.asn_rules.specs.Languages.{Map, Plain}
-use Rattle.asn_rules.specs.Sets.{InSet}
+use Rattle.asn_rules.specs.Languages.{Map, Plain, Inhabited}
+use Rattle.asn_rules.specs.Sets.{InSet, Meets}
 use Rattle.asn_rules.specs.Forks.{Same}
 use Rattle.asn_rules.specs.Counted.{Counted, number_of, Least}
 use Rattle.asn_rules.specs.Listed.{IsOther, Spelt}
 use Rattle.asn_rules.specs.Spellings.{SpelledBy}
 use Rattle.asn_rules.proofs.Counted.{counted_bits}
+use Rattle.asn_rules.proofs.Leads.{Leads, leads_on, leads_map, leads_same}
+use Rattle.asn_rules.proofs.Sets.{set_meets}
 use Rattle.asn_rules.proofs.Spellings.{same_after, same_map, set_spelled, map_spelled}
-use Rattle.asn_per.specs.Per.{per}
-use Rattle.asn_per.specs.Reading.{IsNot, IsWithin}
+use Rattle.asn_per.specs.Per.{per, per_fields}
+use Rattle.asn_per.specs.Reading.{IsNot, IsWithin, Admits, up_to}
 use Rattle.asn_per.proofs.IntegerRanges.{ranging, low_above_lowest, low_below_highest, high_below_highest, low_below_high, number_above_low, number_below_high}
 
 -- ---- the integer that is left out
@@ -93,11 +95,11 @@ module _ (low high : ℤ) (e : Option ℤ) (good : InProfile (integer (ranging l
         rw (a, b) refl,
       )
 
-  there : (n : ℕ) → Offsets n → (Fits (integer (ranging low (Some high))) (number_from low n) × IsOther (option_map number e) (number_from low n))
+  pub there : (n : ℕ) → Offsets n → (Fits (integer (ranging low (Some high))) (number_from low n) × IsOther (option_map number e) (number_from low n))
       × (ones (bits (width (suc (above low high))) n) ≡ per (integer (ranging low (Some high))) (number_from low n))
   there n h = ((in_range n h.1, other_number low (Some high) e n within h.2), ap (λ k. ones (bits (width (suc (above low high))) k)) (sym (above-add low n)))
 
-  back : (v : Datum) → Fits (integer (ranging low (Some high))) v × IsOther (option_map number e) v → (n : ℕ) × Offsets n × (v ≡ number_from low n)
+  pub back : (v : Datum) → Fits (integer (ranging low (Some high))) v × IsOther (option_map number e) v → (n : ℕ) × Offsets n × (v ≡ number_from low n)
   back (number z) h =
       let p = number_above_low low (Some high) z h.0 in (
         above low z,
@@ -124,11 +126,11 @@ module _ (low : ℤ) (e : Option ℤ) (good : InProfile (integer (ranging low No
         rw a refl,
       )
 
-  open_there : (n : ℕ) → OpenOffsets n → (Fits (integer (ranging low None)) (number_from low n) × IsOther (option_map number e) (number_from low n))
+  pub open_there : (n : ℕ) → OpenOffsets n → (Fits (integer (ranging low None)) (number_from low n) × IsOther (option_map number e) (number_from low n))
       × (ones (general_octets (λ u. u) (least n)) ≡ per (integer (ranging low None)) (number_from low n))
   open_there n h = ((open_in_range n h.1, other_number low None e n within h.2), ap (λ k. ones (general_octets (λ u. u) (least k))) (sym (above-add low n)))
 
-  open_back : (v : Datum) → Fits (integer (ranging low None)) v × IsOther (option_map number e) v → (n : ℕ) × OpenOffsets n × (v ≡ number_from low n)
+  pub open_back : (v : Datum) → Fits (integer (ranging low None)) v × IsOther (option_map number e) v → (n : ℕ) × OpenOffsets n × (v ≡ number_from low n)
   open_back (number z) h =
       let p = number_above_low low None z h.0 in (
         above low z,
@@ -137,7 +139,7 @@ module _ (low : ℤ) (e : Option ℤ) (good : InProfile (integer (ranging low No
       )
   open_back _ h = absurd h.0
 
-  few_octets : (n : ℕ) → OpenOffsets n → octet_count n < 128
+  pub few_octets : (n : ℕ) → OpenOffsets n → octet_count n < 128
   few_octets n h =
       let top : above low highest_integer < 2 ^ 64 = offsets_below low (low_above_lowest low None good) (low_below_highest low None good) in
       let few : octet_count n ≤ 8 = octet_count_below n 8 (omega arith) (omega (arith, h.1, top)) in
@@ -145,3 +147,33 @@ module _ (low : ℤ) (e : Option ℤ) (good : InProfile (integer (ranging low No
 
   pub semi_constrained_language : Same (Map (number_from low) (Map number_of (Counted 2 8 (Least OpenOffsets)))) (Spelt per (option_map number e) (integer (ranging low None)))
   semi_constrained_language = same_after (same_map (counted_bits OpenOffsets few_octets)) (map_spelled open_there open_back)
+
+-- ---- the answers of their readers
+
+plus_one : (n : ℕ) → n + 1 ≡ suc n
+plus_one n = omega arith
+
+module _ (low high : ℤ) (e : Option ℤ) (good : InProfile (integer (ranging low (Some high)))) (within : IsWithin (ranging low (Some high)) e) where
+  -- the reader of a constrained whole number answers for the integer
+  pub constrained_leads : (us : List ℕ) → Leads per_fields (Plain (InSet (width (above low high + 1)) (λ n. Admits (up_to (above low high) (offset_of low e)) n))) us (number_from low) (Spelt per (option_map number e) (integer (ranging low (Some high)))) us
+  constrained_leads us =
+      subst (λ (w : ℕ). Leads per_fields (Plain (InSet (width w) (λ n. Admits (up_to (above low high) (offset_of low e)) n))) us (number_from low) (Spelt per (option_map number e) (integer (ranging low (Some high)))) us)
+      (sym (plus_one (above low high)))
+      (leads_on (leads_map per_fields (number_from low) (Plain (InSet (width (suc (above low high))) (Offsets low high e good within))) us) (leads_same per_fields us (constrained_language low high e good within)))
+
+  pub constrained_some : Inhabited (Spelt per (option_map number e) (integer (ranging low (Some high)))) → Meets (λ n. Admits (up_to (above low high) (offset_of low e)) n) 0 (width (above low high + 1))
+  constrained_some i =
+      let n = back low high e good within i.value i.spelt.fits in
+      set_meets 2 (width (above low high + 1)) n.0 n.1 (width_fits (above low high + 1) n.0 (omega (arith, n.1.1)))
+
+module _ (low : ℤ) (e : Option ℤ) (good : InProfile (integer (ranging low None))) (within : IsWithin (ranging low None) e) where
+  -- the reader of a semi-constrained whole number does
+  pub counted_leads : (us : List ℕ) → Leads per_fields (Map number_of (Counted 2 8 (Least (λ n. Admits (up_to (above low highest_integer) (offset_of low e)) n)))) us (number_from low) (Spelt per (option_map number e) (integer (ranging low None))) us
+  counted_leads us =
+      leads_on (leads_map per_fields (number_from low) (Map number_of (Counted 2 8 (Least (OpenOffsets low e good within)))) us) (leads_same per_fields us (semi_constrained_language low e good within))
+
+  pub counted_some : Inhabited (Spelt per (option_map number e) (integer (ranging low None))) → Meets (λ n. Admits (up_to (above low highest_integer) (offset_of low e)) n) 0 64
+  counted_some i =
+      let n = open_back low e good within i.value i.spelt.fits in
+      let top = offsets_below low (low_above_lowest low None good) (low_below_highest low None good) in
+      set_meets 2 64 n.0 n.1 (omega (arith, n.1.1, top))

@@ -64,7 +64,7 @@ wholes_told t v w rest h p q e =
     (sym (append_assoc (per_bits t v) F rest) ∙ ap (λ x. x ++ rest) (sym (filled_is (per t v))) ∙ e ∙ filled_is (per t w))).0
 
 -- what the laws of encoding rules follow from
-per_wholes : WholesTell per_ruling
+pub per_wholes : WholesTell per_ruling
 unfolding per_ruling
 per_wholes = record {
   told = wholes_told;

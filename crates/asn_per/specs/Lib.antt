@@ -2,6 +2,7 @@ pub mod Per
 pub mod Rules
 pub mod Reading
 pub mod Laws
+pub mod Kinds
 pub mod NumberVectors
 pub mod StringVectors
 pub mod ListVectors

@@ -1,7 +1,8 @@
 -- What the readers of the decoder read.
-use Rattle.std.specs.Prelude.{◌≡◌, ◌≢◌, ◌≤◌, ◌-◌, ◌^◌, ℕ, ℤ, true, false, nat_lt, Option, Some, None, ⊤}
+use Rattle.std.specs.Prelude.{◌≡◌, ◌≢◌, ◌≤◌, ◌-◌, ◌^◌, ◌==◌, ◌&&◌, ℕ, ℤ, true, false, nat_lt, Option, Some, None, ⊤}
 use Rattle.asn_values.specs.Shape.{Range}
 use Rattle.asn_values.specs.Fits.{FitsNumber}
+use Rattle.asn_bits.specs.Numbers.{octet_count}
 use Rattle.asn_per.specs.declared.number_reader.Numbers.{Numbers}
 
 -- ---- numbers
@@ -31,3 +32,9 @@ IsWithin b (Some d) = FitsNumber b d
 -- the least number that needs so many octets
 abbrev pub least_of : ℕ → ℕ
 least_of count = elim (nat_lt 1 count) [ true ↦ 256 ^ (count - 1) | false ↦ 0 ]
+
+-- the highest count of octets that a number from 0 to the high one needs: one less where the high one is left
+-- out and is the only one with its count
+abbrev pub highest_count_of : ℕ → Option ℕ → ℕ
+highest_count_of high None = octet_count high
+highest_count_of high (Some x) = elim (x == high && high == least_of (octet_count high)) [ true ↦ octet_count high - 1 | false ↦ octet_count high ]

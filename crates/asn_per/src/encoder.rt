@@ -22,7 +22,7 @@ use asn_values::{AsnType, Bounds, Checked, Field, Need, Value, fits, same};
 use std::alloc::{AllocError, Global};
 
 /// The most octets of a message.
-const MAX_OCTETS: usize = 268_435_455;
+pub(crate) const MAX_OCTETS: usize = 268_435_455;
 
 /// The complete encoding of a value of the type (X.691, "complete encoding").
 ///
@@ -117,7 +117,7 @@ fn presence_bitmap(fields: &[Field], entries: &[Option<Value>]) -> (u32, u64)
 }
 
 /// Whether the component has a presence bit.
-fn may_be_absent(field: &Field) -> bool
+pub(crate) fn may_be_absent(field: &Field) -> bool
     ensures { result ≡ has_presence_bit (part_of_field field.now).demand }
 {
     !matches!(field.need, Need::Must)

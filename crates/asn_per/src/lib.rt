@@ -1,11 +1,17 @@
 //! CANONICAL-PER UNALIGNED (X.691): encoding and decoding of whole messages.
 #![tactic(auto)]
 
+mod decoder;
 mod encoder;
+mod integer_reader;
+mod kinds;
 mod laws;
 mod number_reader;
+mod value_reader;
 
+pub use decoder::decode;
 pub use encoder::encode;
+pub use kinds::kinds_compose;
 pub use laws::{
     answers_exclude, beginnings_are_live, encoding_laws, live_by_parts, live_is_closed,
     readers_tell, spellings_tell, values_and_bits,

@@ -61,6 +61,7 @@ pub(crate) fn number(k: u32, set: Numbers, why: Why, bits: &mut BitCursor<'_>) -
     requires few { k ≤ 64 }
     requires some { Meets (λ n. Admits set n) 0 k }
     ensures done { IfOk result (λ n. Spells per_fields (Plain (InSet k (λ m. Admits set m))) n bits.old bits.new) }
+    ensures member { IfOk result (λ n. Admits set n) }
     ensures stop { IfErr result (λ why. Stops per_fields (Plain (InSet k (λ m. Admits set m))) bits.old why) }
 {
     let before = bits.copied();
@@ -79,6 +80,7 @@ fn number_by_bits(k: u32, set: Numbers, why: Why, bits: &mut BitCursor<'_>) -> R
     requires few { k ≤ 64 }
     requires some { Meets (λ n. Admits set n) 0 k }
     ensures done { IfOk result (λ n. Spells per_fields (Plain (InSet k (λ m. Admits set m))) n bits.old bits.new) }
+    ensures member { IfOk result (λ n. Admits set n) }
     ensures stop { IfErr result (λ why. Stops per_fields (Plain (InSet k (λ m. Admits set m))) bits.old why) }
 {
     let mut prefix = 0u64;

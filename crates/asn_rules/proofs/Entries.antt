@@ -18,7 +18,7 @@ elements_again no_elements = refl
 elements_again (element d es) = ap (element d) (elements_again es)
 
 -- components come back from their list
-components_again : (cs : Components) → components_of (component_list cs) ≡ cs
+pub components_again : (cs : Components) → components_of (component_list cs) ≡ cs
 components_again no_components = refl
 components_again (absent cs) = ap absent (components_again cs)
 components_again (present d cs) = ap (present d) (components_again cs)

@@ -11,41 +11,35 @@ use Rattle.asn_rules.specs.Chunks.{Chunk}
 use Rattle.asn_rules.specs.Components.{is_default}
 use Rattle.asn_rules.specs.Parted.{SpellingsPart}
 use Rattle.asn_rules.specs.Languages.{Lawful, Inhabited, Map, prepended}
-use Rattle.asn_rules.specs.Listed.{IsOther, Spelt, Before, Listed}
+use Rattle.asn_rules.specs.Listed.{IsOther, Spelt, Before, Listed, bitmap_length}
 use Rattle.asn_rules.proofs.Entries.{default_is}
 use Rattle.asn_rules.proofs.SomeValue.{a_value}
 use Rattle.asn_rules.proofs.Spellings.{spelled_lawful, spelled_inhabited}
 use Rattle.asn_rules.proofs.Parts.{map_lawful, map_inhabited, nothing_lawful, nothing_inhabited}
 use Rattle.asn_rules.proofs.Then.{then_lawful, then_inhabited}
 
--- how many presence bits components have
-abbrev pub bitmap_length : Fields → ℕ
-bitmap_length no_fields = 0
-bitmap_length (field name must t fs) = bitmap_length fs
-bitmap_length (field name optional t fs) = suc (bitmap_length fs)
-bitmap_length (field name (default d) t fs) = suc (bitmap_length fs)
-
 -- ---- one component
 
--- of a type without the node's own fault, a good DEFAULT has another value beside it
+-- a type of the profile has no empty range of its own
+pub no_empty_range : (s : Shape) → somewhere empty_range s ≡ false → empty_range s ≡ false
+no_empty_range (sequence root more) h = left_false _ _ h
+no_empty_range (sequence_of s z) h = left_false _ _ h
+no_empty_range (choice root more) h = left_false _ _ h
+no_empty_range boolean h = h
+no_empty_range null h = h
+no_empty_range (integer b) h = h
+no_empty_range (enumerated root more) h = h
+no_empty_range (bit_string z) h = h
+no_empty_range (octet_string z) h = h
+no_empty_range (restricted k z) h = h
+no_empty_range utf8_string h = h
+
+-- of a type of the profile, a good DEFAULT has another value beside it
 pub another : (t : Shape) (d : Datum) → InProfile t → good_default t d ≡ true → (v : Datum) × Fits t v × IsOther (Some d) v
 another t d p g =
     let may = (defaults_are_judged t d (no_empty_range t (p EmptyRange))).0 g in
     (may.2.0, may.2.1, other d may.2.0 may.2.2)
   where
-    no_empty_range : (s : Shape) → somewhere empty_range s ≡ false → empty_range s ≡ false
-    no_empty_range (sequence root more) h = left_false _ _ h
-    no_empty_range (sequence_of s z) h = left_false _ _ h
-    no_empty_range (choice root more) h = left_false _ _ h
-    no_empty_range boolean h = h
-    no_empty_range null h = h
-    no_empty_range (integer b) h = h
-    no_empty_range (enumerated root more) h = h
-    no_empty_range (bit_string z) h = h
-    no_empty_range (octet_string z) h = h
-    no_empty_range (restricted k z) h = h
-    no_empty_range utf8_string h = h
-
     other : (x y : Datum) → x ≢ y → is_default x y ≡ false
     other x y n = go (is_default x y) refl
       where

@@ -1,5 +1,5 @@
 -- What an encoder and a decoder of whole messages answer, for any encoding rules.
-use Rattle.std.specs.Prelude.{◌≡◌, ◌<◌, ℕ, Result, Ok, Err, List, length, ⊤}
+use Rattle.std.specs.Prelude.{◌≡◌, ◌<◌, ◌≤◌, ℕ, Result, Ok, Err, List, length, take, ⊤}
 use Rattle.asn_values.specs.declared.value.Value.{Value}
 use Rattle.asn_values.specs.Datum.{Datum}
 use Rattle.asn_values.specs.Shape.{Shape}
@@ -9,7 +9,7 @@ use Rattle.asn_rules.specs.declared.fault.EncodeFault.{EncodeFault}
 use Rattle.asn_rules.specs.declared.fault.EncodeFault.TheVariants as encode
 use Rattle.asn_rules.specs.declared.fault.DecodeFault.{DecodeFault}
 use Rattle.asn_rules.specs.declared.fault.DecodeFault.TheVariants as decode
-use Rattle.asn_rules.specs.Answer.{Ruling, IsEncoding, max_octets}
+use Rattle.asn_rules.specs.Answer.{Ruling, IsEncoding, Answer, done, refused, too_long, more, max_octets}
 
 -- why the value v of the type t is not encoded: it is none of the type; it is one, and each encoding of it
 -- is too long; it is one, and a growth was refused
@@ -23,3 +23,16 @@ abbrev pub GivesUnlessMemory : Result Value DecodeFault → Datum → Type 0
 GivesUnlessMemory (Ok w) v = datum_of w ≡ v
 GivesUnlessMemory (Err decode.Memory) v = ⊤
 GivesUnlessMemory (Err _) v = ⊥
+
+-- What is told of the octets o, of which the first max_octets are read at most. A value: all of them are its
+-- encoding. Refused: at this unit, counted from 1, the first after which no encoding can follow. Truncated: an
+-- encoding may still follow all of them, which are so many units. Rest: so many octets, and not all, are the
+-- encoding of some value. Too long: an encoding may still follow, but only one of more than max_octets. Of the
+-- memory nothing is told.
+abbrev pub Decoded : Ruling → Result Value DecodeFault → Shape → List ℕ → Type 0
+Decoded r (Ok v) t o = (length o ≤ max_octets) × Answer r t o (done (datum_of v) (length o))
+Decoded r (Err (decode.Refused at why)) t o = Answer r t (take max_octets o) (refused at)
+Decoded r (Err (decode.Truncated taken)) t o = (taken ≡ length (r.units o)) × Answer r t o more
+Decoded r (Err (decode.Rest used)) t o = (used < length o) × (d : Datum) × Answer r t (take max_octets o) (done d used)
+Decoded r (Err decode.TooLong) t o = Answer r t (take max_octets o) too_long
+Decoded r (Err decode.Memory) t o = ⊤

@@ -1,0 +1,9 @@
+use Rattle.std.proofs.Common.{◌≤ℤ◌, ℤ, sym, subst}
+use Rattle.asn_values.specs.Fits.{lowest_integer}
+use Rattle.asn_per.proofs.IntegerRanges.{low_above_lowest, low_kept}
+use Rattle.asn_per.proofs.integer_reader.offset_left_out.Goals as goal
+
+pub above-requires-clause-within_low : goal.above-requires-clause-within_low
+above-requires-clause-within_low c =
+    let b = c.args.bounds.now in
+    subst (λ (z : ℤ). lowest_integer ≤ℤ z) (sym (low_kept b.low b.high c.requires.of_profile)) (low_above_lowest b.low b.high c.requires.of_profile)

@@ -1,0 +1,117 @@
+use Rattle.std.proofs.Common.{◌≡◌, ◌⊎◌, inl, inr, ◌∷◌, [], ◌++◌, ◌+◌, ◌∙◌, true, false, List, map, drop, Some, None, rules, sym, ap, subst}
+use Rattle.std.specs.Option.{option_map}
+use Rattle.std.proofs.lemmas.List.{map-append}
+use Rattle.std.proofs.lemmas.Result.{err_from_is_err_and}
+use Rattle.asn_values.specs.declared.types.AsnType.{the_lemmas}
+use Rattle.asn_values.specs.declared.types.Field.{Field}
+use Rattle.asn_values.specs.declared.types.Need.{Need}
+use Rattle.asn_values.specs.declared.types.Need.TheVariants as needs
+use Rattle.asn_values.specs.Shape.{integer}
+use Rattle.asn_values.specs.View.{datum_of, fields_of, part_of_field, range_of, demand_of}
+use Rattle.asn_values.proofs.Views.{shape_of-Int, datum_of-Seq, sequence_of_fields}
+use Rattle.asn_rules.specs.Listed.{bitmap_length, default_of}
+use Rattle.asn_rules.proofs.Leads.{stops_by}
+use Rattle.asn_rules.proofs.Listed.{spelt_inhabited}
+use Rattle.asn_rules.proofs.ListedReading.{nothing_read}
+use Rattle.asn_per.specs.Per.{per, per_fields}
+use Rattle.asn_per.proofs.ComponentsRead.{ReadUpTo, next_part, no_part, bit_there, next_either, read_ends, demand_of_part, entry_leads, parts_good, bitmap_stops_at, components_at}
+use Rattle.asn_per.proofs.Sequences.{few_components}
+use Rattle.asn_per.proofs.value_reader.+reader.Goals as goal
+
+pub read-integer-requires-clause-some : goal.read-integer-requires-clause-some
+read-integer-requires-clause-some t c = spelt_inhabited per (integer (range_of c.in-Int.bounds)) (rw (c.in-Int.is, shape_of-Int) at c.requires.of_profile)
+
+pub read-bitmap_width-count-requires : goal.read-bitmap_width-count-requires
+read-bitmap_width-count-requires t c =
+    few_components c.deref.result.now (sequence_of_fields c.args.ty.now c.in-Seq.root c.deref.result.now c.in-Seq.is c.deref.ensures.value) c.requires.of_profile
+
+pub read-returns-in_err-bitmap-in-Seq-clause-stop : goal.read-returns-in_err-bitmap-in-Seq-clause-stop
+read-returns-in_err-bitmap-in-Seq-clause-stop t c =
+    let is = sequence_of_fields c.args.ty.now c.in-Seq.root c.deref.result.now c.in-Seq.is c.deref.ensures.value in
+    let p = err_from_is_err_and c.from_residual-in_err-bitmap-in-Seq.result c.from_residual-in_err-bitmap-in-Seq.ensures.1 in
+    rw (p.1, p.2)
+    (stops_by _ (bitmap_stops_at is c.requires.of_profile c.bitmap_width-count.result c.highest_bitmap.result c.bitmap_width-count.ensures.count c.highest_bitmap.ensures c.args.bits.now) c.in_err-bitmap-in-Seq.ensures.stop)
+
+pub read-read_components-requires : goal.read-read_components-requires
+read-read_components-requires t c =
+    let is = sequence_of_fields c.args.ty.now c.in-Seq.root c.deref-in-Seq.result.now c.in-Seq.is c.deref-in-Seq.ensures.value in
+    let count : c.bitmap_width-count.result ≡ bitmap_length (fields_of (map part_of_field c.deref-in-Seq.result.now)) =
+    c.bitmap_width-count.ensures.count ∙ ap (λ (l : List Field). bitmap_length (fields_of (map part_of_field l))) (c.deref.ensures.value ∙ sym c.deref-in-Seq.ensures.value) in
+    (search (rules, the_lemmas), (parts_good is c.requires.of_profile, (count, c.bitmap_width-count.ensures.few)))
+
+pub read-returns-in_err-read_components-in-Seq-clause-stop : goal.read-returns-in_err-read_components-in-Seq-clause-stop
+read-returns-in_err-read_components-in-Seq-clause-stop t c =
+    let is = sequence_of_fields c.args.ty.now c.in-Seq.root c.deref-in-Seq.result.now c.in-Seq.is c.deref-in-Seq.ensures.value in
+    let count : c.bitmap_width-count.result ≡ bitmap_length (fields_of (map part_of_field c.deref-in-Seq.result.now)) =
+    c.bitmap_width-count.ensures.count ∙ ap (λ (l : List Field). bitmap_length (fields_of (map part_of_field l))) (c.deref.ensures.value ∙ sym c.deref-in-Seq.ensures.value) in
+    let p = err_from_is_err_and c.from_residual-in_err-read_components-in-Seq.result c.from_residual-in_err-read_components-in-Seq.ensures.1 in
+    rw (p.1, p.2)
+    (stops_by _ (components_at is c.requires.of_profile c.bitmap_width-count.result c.highest_bitmap.result c.in_ok-bitmap-in-Seq.bitmap count c.highest_bitmap.ensures c.args.bits.now c.number.new.bits c.in_ok-bitmap-in-Seq.ensures.done).stops c.in_err-read_components-in-Seq.ensures.stop)
+
+pub read-returns-in_ok-read_components-in-Seq-clause-done : goal.read-returns-in_ok-read_components-in-Seq-clause-done
+read-returns-in_ok-read_components-in-Seq-clause-done t c =
+    let is = sequence_of_fields c.args.ty.now c.in-Seq.root c.deref-in-Seq.result.now c.in-Seq.is c.deref-in-Seq.ensures.value in
+    let count : c.bitmap_width-count.result ≡ bitmap_length (fields_of (map part_of_field c.deref-in-Seq.result.now)) =
+    c.bitmap_width-count.ensures.count ∙ ap (λ (l : List Field). bitmap_length (fields_of (map part_of_field l))) (c.deref.ensures.value ∙ sym c.deref-in-Seq.ensures.value) in
+    let es = c.in_ok-read_components-in-Seq.field-0 in
+    rw (datum_of-Seq es)
+    ((components_at is c.requires.of_profile c.bitmap_width-count.result c.highest_bitmap.result c.in_ok-bitmap-in-Seq.bitmap count c.highest_bitmap.ensures c.args.bits.now c.number.new.bits c.in_ok-bitmap-in-Seq.ensures.done).done (map (option_map datum_of) es.items) c.read_components.new.cursor c.in_ok-read_components-in-Seq.ensures.done)
+
+pub read_components-presence_of-present-requires-clause-there : goal.read_components-presence_of-present-requires-clause-there
+read_components-presence_of-present-requires-clause-there t c =
+    let h = rw (next_part c.args.fields.now c.loop-field.field-index c.field-item.result c.loop-field-test.true c.field-item.is) at c.loop-field.invariant in
+    λ e. bit_there h e
+
+pub read_components-returns-in_err-entry-clause-stop : goal.read_components-returns-in_err-entry-clause-stop
+read_components-returns-in_err-entry-clause-stop t c =
+    let h = rw (next_part c.args.fields.now c.loop-field.field-index c.field-item.result c.loop-field-test.true c.field-item.is) at c.loop-field.invariant in
+    let n = next_either h c.presence_of-present.result.0 c.presence_of-present.result.1 c.presence_of-present.ensures.must c.presence_of-present.ensures.bit in
+    let p = err_from_is_err_and c.from_residual.result c.from_residual.ensures.1 in
+    rw (p.1, p.2) (stops_by _ n.stops c.in_err-entry.ensures.stop)
+
+pub read_components-loop-field-preserved : goal.read_components-loop-field-preserved
+read_components-loop-field-preserved t c =
+    let h = rw (next_part c.args.fields.now c.loop-field.field-index c.field-item.result c.loop-field-test.true c.field-item.is) at c.loop-field.invariant in
+    let n = next_either h c.presence_of-present.result.0 c.presence_of-present.result.1 c.presence_of-present.ensures.must c.presence_of-present.ensures.bit in
+    let items : map (option_map datum_of) c.push.new.self.items ≡ map (option_map datum_of) c.loop-field.entries.items ++ option_map datum_of c.in_ok-entry.entry ∷ [] =
+    ap (map (option_map datum_of)) c.in_ok-push.ensures.items ∙ map-append (option_map datum_of) c.loop-field.entries.items (c.in_ok-entry.entry ∷ []) in
+    rw items (n.more (option_map datum_of c.in_ok-entry.entry) c.read_entry.new.bits c.in_ok-entry.ensures.done)
+
+pub read_components-returns-clause-done : goal.read_components-returns-clause-done
+read_components-returns-clause-done t c = read_ends c.loop-field.invariant (no_part c.args.fields.now c.loop-field.field-index c.loop-field-test.false)
+
+pub read_entry-returns-then-not-present-clause-done : goal.read_entry-returns-then-not-present-clause-done
+read_entry-returns-then-not-present-clause-done t c =
+    let e : c.args.present ≡ false = c.if-not-present.true in
+    rw (e, c.absent.ensures) (nothing_read per_fields (default_of (part_of_field c.args.field.now).demand) c.args.bits.now)
+
+pub read_entry-returns-in_err-read_other-in-Default-clause-stop : goal.read_entry-returns-in_err-read_other-in-Default-clause-stop
+read_entry-returns-in_err-read_other-in-Default-clause-stop t c =
+    let e : c.args.present ≡ true = c.if-not-present.false in
+    let d : default_of (part_of_field c.args.field.now).demand ≡ Some (datum_of c.in-Default.default) = ap default_of (demand_of_part c.args.field.now ∙ ap demand_of c.in-Default.is) in
+    let p = err_from_is_err_and c.from_residual.result c.from_residual.ensures.1 in
+    rw (p.1, p.2) (stops_by _ (entry_leads c.args.field.now c.args.present _ c.args.bits.now e d).stops c.in_err-read_other-in-Default.ensures.stop)
+
+pub read_entry-returns-in_ok-read_other-in-Default-clause-done : goal.read_entry-returns-in_ok-read_other-in-Default-clause-done
+read_entry-returns-in_ok-read_other-in-Default-clause-done t c =
+    let e : c.args.present ≡ true = c.if-not-present.false in
+    let d : default_of (part_of_field c.args.field.now).demand ≡ Some (datum_of c.in-Default.default) = ap default_of (demand_of_part c.args.field.now ∙ ap demand_of c.in-Default.is) in
+    (entry_leads c.args.field.now c.args.present _ c.args.bits.now e d).done (datum_of c.in_ok-read_other-in-Default.field-0) c.read_other.new.bits c.in_ok-read_other-in-Default.ensures.done
+
+-- a component without a DEFAULT
+no_default : (need : Need) → (need ≡ needs.Must) ⊎ (need ≡ needs.Optional) → default_of (demand_of need) ≡ None
+no_default need (inl e) = ap (λ n. default_of (demand_of n)) e
+no_default need (inr e) = ap (λ n. default_of (demand_of n)) e
+
+pub read_entry-returns-in_err-read-in-Must-clause-stop : goal.read_entry-returns-in_err-read-in-Must-clause-stop
+read_entry-returns-in_err-read-in-Must-clause-stop t c =
+    let e : c.args.present ≡ true = c.if-not-present.false in
+    let d : default_of (part_of_field c.args.field.now).demand ≡ None = ap default_of (demand_of_part c.args.field.now) ∙ no_default c.args.field.now.need c.in-Must.is in
+    let p = err_from_is_err_and c.from_residual-in_err-read-in-Must.result c.from_residual-in_err-read-in-Must.ensures.1 in
+    rw (p.1, p.2) (stops_by _ (entry_leads c.args.field.now c.args.present None c.args.bits.now e d).stops c.in_err-read-in-Must.ensures.stop)
+
+pub read_entry-returns-in_ok-read-in-Must-clause-done : goal.read_entry-returns-in_ok-read-in-Must-clause-done
+read_entry-returns-in_ok-read-in-Must-clause-done t c =
+    let e : c.args.present ≡ true = c.if-not-present.false in
+    let d : default_of (part_of_field c.args.field.now).demand ≡ None = ap default_of (demand_of_part c.args.field.now) ∙ no_default c.args.field.now.need c.in-Must.is in
+    (entry_leads c.args.field.now c.args.present None c.args.bits.now e d).done (datum_of c.in_ok-read-in-Must.field-0) c.read.new.bits c.in_ok-read-in-Must.ensures.done

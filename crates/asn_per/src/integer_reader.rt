@@ -1,0 +1,184 @@
+//! Readers of integers and truth values, of which one may be left out: a component that has a DEFAULT is
+//! spelt with another value only.
+ghost use Rattle.std.specs.Prelude.{◌≡◌, ◌≤◌, ◌<◌, ◌+◌, ◌^◌, pos, IfOk, IfErr, ℕ};
+ghost use Rattle.std.specs.Option.{option_map};
+ghost use Rattle.asn_values.specs.Datum.{number, truth};
+ghost use Rattle.asn_values.specs.Shape.{integer, boolean};
+ghost use Rattle.asn_values.specs.Profile.{InProfile};
+ghost use Rattle.asn_values.specs.View.{range_of};
+ghost use Rattle.asn_bits.specs.Numbers.{width, above};
+ghost use Rattle.asn_bits.specs.Sink.{bit_of};
+ghost use Rattle.asn_rules.specs.Languages.{Spells, Map, Plain, Inhabited};
+ghost use Rattle.asn_rules.specs.Counted.{Counted, number_of, Least};
+ghost use Rattle.asn_rules.specs.Listed.{Spelt};
+ghost use Rattle.asn_rules.specs.Sets.{Meets, InSet};
+ghost use Rattle.asn_rules.specs.Stops.{Stops};
+ghost use Rattle.asn_per.specs.Per.{per, per_fields};
+ghost use Rattle.asn_per.specs.Reading.{Admits, IsWithin, up_to, least_of, highest_count_of};
+
+use crate::number_reader::{Numbers, number};
+use asn_bits::BitCursor;
+use asn_bits::numbers::{octet_count, width};
+use asn_bits::offsets::{above, number_above};
+use asn_rules::{Stop, Why};
+use asn_values::Bounds;
+
+/// The highest integer of the profile.
+const HIGHEST: i128 = 9_223_372_036_854_775_807;
+
+/// Reads an integer of the range (X.691, "encoding the integer type"), but for `except`.
+pub(crate) fn integer(
+    bounds: &Bounds,
+    except: Option<i128>,
+    bits: &mut BitCursor<'_>,
+) -> Result<i128, Stop>
+    requires of_profile { InProfile (integer (range_of bounds.now)) }
+    requires within { IsWithin (range_of bounds.now) except }
+    requires some { Inhabited (Spelt per (option_map number except) (integer (range_of bounds.now))) }
+    ensures done { IfOk result (λ z. Spells per_fields (Spelt per (option_map number except) (integer (range_of bounds.now))) (number z) bits.old bits.new) }
+    ensures stop { IfErr result (λ why. Stops per_fields (Spelt per (option_map number except) (integer (range_of bounds.now))) bits.old why) }
+{
+    let left_out = offset_left_out(bounds, except);
+    match bounds.high {
+        Some(high) => {
+            let offset = constrained(above(bounds.low, high), left_out, bits)?;
+            Ok(number_above(bounds.low, offset))
+        }
+        None => {
+            let offset = counted(above(bounds.low, HIGHEST), left_out, bits)?;
+            Ok(number_above(bounds.low, offset))
+        }
+    }
+}
+
+/// How far the integer that is left out lies above the low bound.
+fn offset_left_out(bounds: &Bounds, except: Option<i128>) -> Option<u64>
+    requires of_profile { InProfile (integer (range_of bounds.now)) }
+    requires within { IsWithin (range_of bounds.now) except }
+    ensures { result ≡ option_map (λ z. above bounds.now.low z) except }
+{
+    match except {
+        Some(whole) => Some(above(bounds.low, whole)),
+        None => None,
+    }
+}
+
+/// Reads a number of 0 to `high`, but for `except`, in the fewest bits that tell so many apart
+/// (X.691, "constrained whole number").
+fn constrained(high: u64, except: Option<u64>, bits: &mut BitCursor<'_>) -> Result<u64, Stop>
+    requires { Meets (λ n. Admits (up_to high except) n) 0 (width (high + 1)) }
+    ensures done { IfOk result (λ n. Spells per_fields (Plain (InSet (width (high + 1)) (λ m. Admits (up_to high except) m))) n bits.old bits.new) }
+    ensures stop { IfErr result (λ why. Stops per_fields (Plain (InSet (width (high + 1)) (λ m. Admits (up_to high except) m))) bits.old why) }
+{
+    let set = Numbers {
+        low: 0,
+        high,
+        except,
+    };
+    let why = if except.is_some() {
+        Why::Default
+    } else {
+        Why::Number
+    };
+    number(width(u128::from(high) + 1), set, why, bits)
+}
+
+/// Reads a number of 0 to `high`, but for `except`, in the fewest octets behind their count in an octet
+/// (X.691, "semi-constrained whole number").
+fn counted(high: u64, except: Option<u64>, bits: &mut BitCursor<'_>) -> Result<u64, Stop>
+    requires { Meets (λ n. Admits (up_to high except) n) 0 64 }
+    ensures done { IfOk result (λ n. Spells per_fields (Map number_of (Counted 2 8 (Least (λ m. Admits (up_to high except) m)))) n bits.old bits.new) }
+    ensures stop { IfErr result (λ why. Stops per_fields (Map number_of (Counted 2 8 (Least (λ m. Admits (up_to high except) m)))) bits.old why) }
+{
+    let counts = Numbers {
+        low: 1,
+        high: highest_count(high, except),
+        except: None,
+    };
+    let (in_count, in_number) = match except {
+        Some(_) => (Why::Default, Why::Default),
+        None => (Why::Length, Why::Number),
+    };
+    let count = number(8, counts, in_count, bits)? as u32;
+    let set = Numbers {
+        low: least_with(count),
+        high: high.min(greatest_with(count)),
+        except,
+    };
+    number(8 * count, set, in_number, bits)
+}
+
+/// The highest count of octets that a number of 0 to `high`, but for `except`, needs.
+fn highest_count(high: u64, except: Option<u64>) -> u64
+    ensures count { result ≡ highest_count_of high except }
+    ensures few { result ≤ 8 }
+{
+    let most = octet_count(high);
+    if except == Some(high) && high == least_with(most) {
+        u64::from(most) - 1
+    } else {
+        u64::from(most)
+    }
+}
+
+/// The least number that needs so many octets.
+fn least_with(count: u32) -> u64
+    requires some { 1 ≤ count }
+    requires few { count ≤ 8 }
+    ensures { result ≡ least_of count }
+{
+    if count <= 1 {
+        0
+    } else {
+        power_of_two(8 * (count - 1))
+    }
+}
+
+/// The greatest number that so many octets hold.
+fn greatest_with(count: u32) -> u64
+    requires some { 1 ≤ count }
+    requires few { count ≤ 8 }
+    ensures { result + 1 ≡ 256 ^ count }
+{
+    if count == 8 {
+        u64::MAX
+    } else {
+        power_of_two(8 * count) - 1
+    }
+}
+
+pub(crate) fn power_of_two(exponent: u32) -> u64
+    requires { exponent < 64 }
+    ensures { result ≡ 2 ^ exponent }
+{
+    1u64 << exponent
+}
+
+/// Reads a truth value, but for `except` (X.691, "encoding the boolean type").
+pub(crate) fn boolean(except: Option<bool>, bits: &mut BitCursor<'_>) -> Result<bool, Stop>
+    ensures done { IfOk result (λ b. Spells per_fields (Spelt per (option_map truth except) boolean) (truth b) bits.old bits.new) }
+    ensures stop { IfErr result (λ why. Stops per_fields (Spelt per (option_map truth except) boolean) bits.old why) }
+{
+    let set = Numbers {
+        low: 0,
+        high: 1,
+        except: bit_left_out(except),
+    };
+    let why = if except.is_some() {
+        Why::Default
+    } else {
+        Why::Number
+    };
+    Ok(number(1, set, why, bits)? == 1)
+}
+
+/// The bit of the truth value that is left out.
+fn bit_left_out(except: Option<bool>) -> Option<u64>
+    ensures { result ≡ option_map (λ b. bit_of b) except }
+{
+    match except {
+        Some(true) => Some(1),
+        Some(false) => Some(0),
+        None => None,
+    }
+}

@@ -1,0 +1,175 @@
+//! The reader of values.
+ghost use Rattle.std.specs.Prelude.{◌≡◌, ◌≤◌, ◌<◌, ◌+◌, ◌^◌, ◌/◌, ◌%◌, IfOk, IfErr, true, false, Some, None, map, length};
+ghost use Rattle.std.specs.Option.{option_map};
+ghost use Rattle.asn_values.specs.Shape.{sequence, closed};
+ghost use Rattle.asn_values.specs.Profile.{InProfile, good_default};
+ghost use Rattle.asn_values.specs.Parts.{AreOfProfile, IsGoodDemand};
+ghost use Rattle.asn_values.specs.View.{shape_of, datum_of, fields_of, part_of_field};
+ghost use Rattle.asn_bits.specs.Numbers.{bits};
+ghost use Rattle.asn_bits.specs.Sink.{bit_of};
+ghost use Rattle.asn_rules.specs.Components.{has_presence_bit};
+ghost use Rattle.asn_rules.specs.Languages.{Spells};
+ghost use Rattle.asn_rules.specs.Listed.{Spelt, Listed, Entry, default_of, bitmap_length};
+ghost use Rattle.asn_rules.specs.Stops.{Stops};
+ghost use Rattle.asn_per.specs.Per.{per, per_fields};
+
+use crate::encoder::may_be_absent;
+use crate::integer_reader::{boolean, integer, power_of_two};
+use crate::number_reader::{Numbers, number};
+use asn_bits::BitCursor;
+use asn_rules::{Stop, Why};
+use asn_values::{AsnType, Field, Need, Value};
+use std::alloc::Global;
+
+/// Reads a value of the type.
+#[cycle(reader)]
+pub(crate) fn read(alloc: Global, ty: &AsnType, bits: &mut BitCursor<'_>) -> Result<Value, Stop>
+    requires of_profile { InProfile (shape_of ty.now) }
+    ensures done { IfOk result (λ v. Spells per_fields (Spelt per None (shape_of ty.now)) (datum_of v) bits.old bits.new) }
+    ensures stop { IfErr result (λ why. Stops per_fields (Spelt per None (shape_of ty.now)) bits.old why) }
+{
+    match ty {
+        AsnType::Bool => Ok(Value::Bool(boolean(None, bits)?)),
+        AsnType::Int(bounds) => Ok(Value::Int(integer(bounds, None, bits)?)),
+        AsnType::Seq { root } => {
+            let count = bitmap_width(root);
+            let set = Numbers {
+                low: 0,
+                high: highest_bitmap(count),
+                except: None,
+            };
+            let bitmap = number(count, set, Why::Number, bits)?;
+            Ok(Value::Seq(read_components(alloc, root, count, bitmap, bits)?))
+        }
+    }
+}
+
+/// Reads the components whose presence bits are the `count` bits of `bitmap`, in order (X.691,
+/// "encoding the sequence type"). A component with a DEFAULT that is absent has that value.
+#[cycle(reader)]
+fn read_components(
+    alloc: Global,
+    fields: &[Field],
+    count: u32,
+    bitmap: u64,
+    cursor: &mut BitCursor<'_>,
+) -> Result<Vec<Option<Value>>, Stop>
+    requires of_profile { AreOfProfile (fields_of (map part_of_field fields.now)) }
+    requires count { count ≡ bitmap_length (fields_of (map part_of_field fields.now)) }
+    requires few { count ≤ 64 }
+    ensures done { IfOk result (λ es. Spells per_fields (Listed per (fields_of (map part_of_field fields.now)) (bits count bitmap)) (map (option_map datum_of) es.items) cursor.old cursor.new) }
+    ensures stop { IfErr result (λ why. Stops per_fields (Listed per (fields_of (map part_of_field fields.now)) (bits count bitmap)) cursor.old why) }
+{
+    let mut entries = Vec::new(alloc);
+    let mut left = count;
+    for field in fields {
+        let (present, below) = presence_of(field, bitmap, left);
+        left = below;
+        let entry = read_entry(alloc, field, present, cursor)?;
+        entries.push(entry)?;
+    }
+    Ok(entries)
+}
+
+/// Reads the entry of a component, of which `present` says whether it is there.
+#[cycle(reader)]
+fn read_entry(
+    alloc: Global,
+    field: &Field,
+    present: bool,
+    bits: &mut BitCursor<'_>,
+) -> Result<Option<Value>, Stop>
+    requires of_profile { InProfile (part_of_field field.now).shape }
+    requires good { IsGoodDemand (part_of_field field.now).demand (part_of_field field.now).shape }
+    ensures done { IfOk result (λ e. Spells per_fields (Entry per (part_of_field field.now).demand (part_of_field field.now).shape present) (option_map datum_of e) bits.old bits.new) }
+    ensures stop { IfErr result (λ why. Stops per_fields (Entry per (part_of_field field.now).demand (part_of_field field.now).shape present) bits.old why) }
+{
+    if !present {
+        return Ok(absent(field));
+    }
+    match &field.need {
+        Need::Default(default) => Ok(Some(read_other(&field.ty, default, bits)?)),
+        Need::Must | Need::Optional => Ok(Some(read(alloc, &field.ty, bits)?)),
+    }
+}
+
+/// Reads a value of the type of a component with this DEFAULT, which is another one: an encoder leaves
+/// the DEFAULT out.
+fn read_other(ty: &AsnType, default: &Value, bits: &mut BitCursor<'_>) -> Result<Value, Stop>
+    requires of_profile { InProfile (shape_of ty.now) }
+    requires good { good_default (shape_of ty.now) (datum_of default.now) ≡ true }
+    ensures done { IfOk result (λ v. Spells per_fields (Spelt per (Some (datum_of default.now)) (shape_of ty.now)) (datum_of v) bits.old bits.new) }
+    ensures stop { IfErr result (λ why. Stops per_fields (Spelt per (Some (datum_of default.now)) (shape_of ty.now)) bits.old why) }
+{
+    match (ty, default) {
+        (AsnType::Bool, Value::Bool(truth)) => Ok(Value::Bool(boolean(Some(*truth), bits)?)),
+        (AsnType::Int(bounds), Value::Int(whole)) => {
+            Ok(Value::Int(integer(bounds, Some(*whole), bits)?))
+        }
+        _ => unreachable!(),
+    }
+}
+
+/// The entry of a component that is absent: its DEFAULT, where it has one.
+fn absent(field: &Field) -> Option<Value>
+    requires { IsGoodDemand (part_of_field field.now).demand (part_of_field field.now).shape }
+    ensures { option_map datum_of result ≡ default_of (part_of_field field.now).demand }
+{
+    match &field.need {
+        Need::Must | Need::Optional => None,
+        Need::Default(Value::Bool(truth)) => Some(Value::Bool(*truth)),
+        Need::Default(Value::Int(whole)) => Some(Value::Int(*whole)),
+        Need::Default(Value::Seq(_)) => unreachable!(),
+    }
+}
+
+/// Whether the component is there, and how many presence bits are left behind it, of `left`.
+fn presence_of(field: &Field, bitmap: u64, left: u32) -> (bool, u32)
+    requires few { left ≤ 64 }
+    requires there { has_presence_bit (part_of_field field.now).demand ≡ true → 0 < left }
+    ensures must { has_presence_bit (part_of_field field.now).demand ≡ false → (result.0 ≡ true) × (result.1 ≡ left) }
+    ensures bit { has_presence_bit (part_of_field field.now).demand ≡ true
+        → (result.1 + 1 ≡ left) × (bit_of result.0 ≡ bitmap / 2 ^ result.1 % 2) }
+{
+    if may_be_absent(field) {
+        let below = left - 1;
+        (bit_at(bitmap, below), below)
+    } else {
+        (true, left)
+    }
+}
+
+/// How many presence bits the components have.
+fn bitmap_width(fields: &[Field]) -> u32
+    requires { length fields.now ≤ 64 }
+    ensures count { result ≡ bitmap_length (fields_of (map part_of_field fields.now)) }
+    ensures few { result ≤ 64 }
+{
+    let mut count = 0;
+    for field in fields {
+        if may_be_absent(field) {
+            count += 1;
+        }
+    }
+    count
+}
+
+/// The highest number of so many bits.
+fn highest_bitmap(count: u32) -> u64
+    requires { count ≤ 64 }
+    ensures { result + 1 ≡ 2 ^ count }
+{
+    if count == 64 {
+        u64::MAX
+    } else {
+        power_of_two(count) - 1
+    }
+}
+
+/// The bit of the number that has `place` lower ones.
+fn bit_at(bitmap: u64, place: u32) -> bool
+    requires { place < 64 }
+    ensures { bit_of result ≡ bitmap / 2 ^ place % 2 }
+{
+    (bitmap >> place) & 1 == 1
+}

@@ -31,9 +31,6 @@ cp "$top/HANDLES" "$room/"
 for file in "$here"/codec/*.rt.in; do
     cp "$file" "$room/crates/asn_bench/src/$(basename "$file" .in)"
 done
-if ! grep -q 'pub fn decode\b' "$top"/crates/asn_per/src/*.rt; then
-    sed -i '/^ *\/\/ begin decode$/,/^ *\/\/ end decode$/d' "$room/crates/asn_bench/src/main.rt"
-fi
 
 # both programs; in no round nothing is measured
 cd "$room/crates/asn_bench"
@@ -84,7 +81,6 @@ awk -v rounds="$rounds" '
             row = rows[at]; split(row, words, " "); octets = size[words[2]]
             rattle = ordered("rattle", row); hand = ordered("hand", row); tree = ordered("tree", row)
             mine = least["rattle", row]
-            if (mine == "") continue
             printf "| %s | %d | %s | %.0f | %s | %.0f | %.1f | %s | %.1f |\n", row, octets, rattle, octets * 1000 / mine,
                 hand, octets * 1000 / least["hand", row], mine / least["hand", row], tree, mine / least["tree", row]
         }

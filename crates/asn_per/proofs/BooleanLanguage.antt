@@ -1,6 +1,5 @@
 -- The truth values, but for one that may be left out, as numbers in one bit.
-use Rattle.std.proofs.Common.{◌≡◌, ◌≢◌, ◌≤◌, ◌<◌, ◌^◌, ℕ, zero, suc, Bool, true, false, nat_eq, not, List, Option, Some, None, refl, sym, ap, ◌∙◌, arith}
-use Rattle.std.specs.Bool.{⊤}
+use Rattle.std.proofs.Common.{◌≡◌, ◌<◌, ◌^◌, ℕ, zero, suc, Bool, true, false, nat_eq, List, Option, Some, None, refl, arith}
 use Rattle.std.specs.Option.{option_map}
 use Rattle.asn_values.specs.Datum.{Datum, truth}
 use Rattle.asn_values.specs.Shape.{boolean}
@@ -15,7 +14,7 @@ use Rattle.asn_rules.specs.Listed.{IsOther, Spelt}
 use Rattle.asn_rules.proofs.Leads.{Leads, leads_on, leads_map, leads_same}
 use Rattle.asn_rules.proofs.Spellings.{same_after, same_map, set_spelled, map_spelled}
 use Rattle.asn_per.specs.Per.{per, per_fields}
-use Rattle.asn_per.specs.Reading.{IsNot, Admits, up_to}
+use Rattle.asn_per.specs.Reading.{Admits, up_to}
 
 -- a bit as a truth value
 abbrev pub truth_from : ℕ → Datum

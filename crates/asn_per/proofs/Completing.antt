@@ -1,15 +1,14 @@
 -- The encoder's last steps make a complete encoding.
-use Rattle.std.proofs.Common.{◌≡◌, ◌≢◌, ◌⊎◌, ◌≤◌, ◌<◌, ◌*◌, ℕ, zero, suc, List, [], ◌∷◌, ◌++◌, length, inl, inr, refl, sym, ap, ◌∙◌, arith}
+use Rattle.std.proofs.Common.{◌≡◌, ◌≢◌, ◌⊎◌, ◌*◌, ℕ, List, [], ◌∷◌, ◌++◌, length, inl, inr, refl, sym, ap, ◌∙◌, arith}
 use Rattle.asn_values.specs.Datum.{Datum}
 use Rattle.asn_values.specs.Shape.{Shape}
 use Rattle.asn_values.specs.Fits.{Fits}
 use Rattle.asn_bits.specs.Numbers.{bits, padding, unpacked}
 use Rattle.asn_bits.proofs.Splits.{length-unpacked}
-use Rattle.asn_rules.specs.Chunks.{flat}
-use Rattle.asn_per.specs.Per.{spelled, filling, filled, per, per_whole}
+use Rattle.asn_per.specs.Per.{filling, per}
 use Rattle.asn_per.specs.Rules.{per_ruling, IsPerEncoding}
 use Rattle.asn_per.specs.Laws.{per_bits}
-use Rattle.asn_per.proofs.Complete.{full, filled_is}
+use Rattle.asn_per.proofs.Complete.{filled_is}
 
 -- what stands before the padding: eight zeros where there were no bits
 abbrev pub Topped : List ℕ → List ℕ → Type 0

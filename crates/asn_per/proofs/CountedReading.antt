@@ -1,5 +1,5 @@
 -- The language of numbers in the fewest octets, in the sets that their reader tests.
-use Rattle.std.proofs.Common.{◌≡◌, ◌≢◌, ◌≤◌, ◌<◌, ◌+◌, ◌-◌, ◌*◌, ◌^◌, ◌⊎◌, ℕ, suc, min, Bool, true, false, ◌&&◌, eqb, List, Option, Some, None, inl, inr, refl, sym, ap, subst, ◌∙◌, arith}
+use Rattle.std.proofs.Common.{◌≡◌, ◌≢◌, ◌≤◌, ◌<◌, ◌+◌, ◌-◌, ◌*◌, ◌^◌, ◌⊎◌, ℕ, min, Bool, true, false, ◌&&◌, eqb, List, Option, Some, None, inl, inr, refl, sym, subst, arith}
 use Rattle.std.proofs.lemmas.Bool.{cases_lt, eqb-true, eqb-false}
 use Rattle.asn_bits.specs.Numbers.{octet_count}
 use Rattle.asn_bits.proofs.Octets.{octet_count_fits, octet_count_below}

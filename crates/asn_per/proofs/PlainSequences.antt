@@ -1,10 +1,9 @@
 -- A SEQUENCE without an extension mark is put together from a presence bitmap and its components.
-use Rattle.std.proofs.Common.{◌≡◌, ◌<◌, ◌+◌, ◌-◌, ◌^◌, ℕ, None, refl, sym, arith}
+use Rattle.std.proofs.Common.{◌≡◌, ◌<◌, ◌+◌, ◌-◌, ◌^◌, ℕ, refl, arith}
 use Rattle.std.proofs.lemmas.Nat.{pow_pos}
 use Rattle.asn_values.specs.Shape.{Fields, sequence, closed}
 use Rattle.asn_values.specs.Profile.{InProfile}
 use Rattle.asn_values.proofs.Parts.{components_of_profile}
-use Rattle.asn_bits.specs.Numbers.{bits}
 use Rattle.asn_rules.specs.Forks.{Same}
 use Rattle.asn_rules.specs.Listed.{bitmap_length}
 use Rattle.asn_rules.proofs.Spellings.{same_after, same_map, same_then, same_spelled}

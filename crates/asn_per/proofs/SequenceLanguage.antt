@@ -1,10 +1,9 @@
 -- A SEQUENCE as a language: a presence bitmap, and the components under it.
-use Rattle.std.proofs.Common.{◌≡◌, ◌≤◌, ◌<◌, ◌+◌, ◌^◌, ℕ, zero, suc, List, [], ◌∷◌, ◌++◌, length, take, Option, Some, None, refl, sym, ap, ◌∙◌, subst, arith}
-use Rattle.std.specs.Bool.{⊤}
+use Rattle.std.proofs.Common.{◌≡◌, ◌+◌, ◌^◌, ℕ, suc, List, [], ◌∷◌, ◌++◌, length, take, Option, None, refl, sym, ap, ◌∙◌, subst, arith}
 use Rattle.std.proofs.lemmas.List.{append-nil}
 use Rattle.std.proofs.Math.Seq.{take-length}
 use Rattle.asn_values.specs.Datum.{Datum, components, components_of, component_list}
-use Rattle.asn_values.specs.Shape.{Shape, Demand, must, optional, default, Fields, no_fields, field, demands, sequence, closed}
+use Rattle.asn_values.specs.Shape.{must, optional, default, Fields, no_fields, field, demands, sequence, closed}
 use Rattle.asn_values.specs.Fits.{Fits, FitsEach}
 use Rattle.asn_values.specs.Parts.{AreOfProfile}
 use Rattle.asn_values.proofs.Entries.{fits_sequence}

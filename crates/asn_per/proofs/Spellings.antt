@@ -1,15 +1,14 @@
 -- The bits of each kind of value, as a writer puts them and a reader takes them.
-use Rattle.std.proofs.Common.{◌≡◌, ◌+◌, ◌-◌, ◌≤◌, ℕ, suc, ℤ, pos, negsuc, Bool, true, false, List, [], ◌∷◌, ◌++◌, length, take, drop, Option, Some, None, refl, sym, ◌∙◌, ap, arith, append_assoc}
-use Rattle.std.specs.Bool.{⊤}
+use Rattle.std.proofs.Common.{◌≡◌, ℕ, suc, ℤ, Bool, true, false, List, [], ◌∷◌, ◌++◌, length, take, Option, Some, None, refl, sym, ◌∙◌, ap}
 use Rattle.std.proofs.lemmas.List.{append-nil}
 use Rattle.std.proofs.Math.Seq.{take-length}
 use Rattle.asn_values.specs.Datum.{Datum, truth, number, components, Components, component_list, components_of}
-use Rattle.asn_values.specs.Shape.{Range, Shape, boolean, integer, sequence, Demand, must, optional, default, Fields, no_fields, field, closed, demands}
-use Rattle.asn_values.specs.Fits.{Fits, FitsEach}
+use Rattle.asn_values.specs.Shape.{Range, Shape, boolean, integer, sequence, Demand, Fields, no_fields, field, closed, demands}
+use Rattle.asn_values.specs.Fits.{FitsEach}
 use Rattle.asn_bits.specs.Numbers.{bits, width, least, above}
 use Rattle.asn_bits.specs.Lengths.{general_octets}
-use Rattle.asn_rules.specs.Chunks.{Chunk, ones, flat}
-use Rattle.asn_rules.specs.Components.{bit_of, presence, is_spelled, if_spelled, any_present}
+use Rattle.asn_rules.specs.Chunks.{ones, flat}
+use Rattle.asn_rules.specs.Components.{bit_of, presence, is_spelled}
 use Rattle.asn_rules.proofs.Flat.{flat-append, flat-ones}
 use Rattle.asn_per.specs.Per.{spelled, per, per_each}
 use Rattle.asn_per.specs.Laws.{per_bits, component_bits}

@@ -1,5 +1,5 @@
 -- What the readers of the decoder read.
-use Rattle.std.specs.Prelude.{◌≡◌, ◌≢◌, ◌≤◌, ◌-◌, ◌^◌, ◌==◌, ◌&&◌, ℕ, ℤ, true, false, nat_lt, Option, Some, None, ⊤}
+use Rattle.std.specs.Prelude.{◌≢◌, ◌≤◌, ◌-◌, ◌^◌, ◌==◌, ◌&&◌, ℕ, ℤ, true, false, nat_lt, Option, Some, None, ⊤}
 use Rattle.asn_values.specs.Shape.{Range}
 use Rattle.asn_values.specs.Fits.{FitsNumber}
 use Rattle.asn_bits.specs.Numbers.{octet_count}

@@ -1,21 +1,18 @@
 -- The components of a SEQUENCE under their presence bits are as their definition spells them.
-use Rattle.std.proofs.Common.{◌≡◌, ◌<◌, ℕ, zero, suc, Bool, true, false, not, ◌&&◌, List, [], ◌∷◌, ◌++◌, length, Option, Some, None, refl, sym, ap, ◌∙◌, arith}
+use Rattle.std.proofs.Common.{◌≡◌, ℕ, zero, suc, Bool, true, false, not, ◌&&◌, List, [], ◌∷◌, ◌++◌, length, Option, Some, None, refl, sym, ap, ◌∙◌, arith}
 use Rattle.std.proofs.lemmas.Bool.{true≢false, eq-eqb}
 use Rattle.std.proofs.lemmas.Int.{ints}
-use Rattle.std.specs.Bool.{⊤}
 use Rattle.std.specs.Int.RustNames.{int_le}
 use Rattle.asn_values.specs.Datum.{Datum, truth, number, item}
-use Rattle.asn_values.specs.Shape.{Shape, boolean, null, integer, enumerated, bit_string, octet_string, restricted, utf8_string, sequence, sequence_of, choice, closed_labels, marked_labels, Demand, must, optional, default, demands, Fields, no_fields, field}
-use Rattle.asn_values.specs.Fits.{Fits, FitsEach, FitsDemand}
+use Rattle.asn_values.specs.Shape.{Shape, boolean, integer, enumerated, closed_labels, Demand, must, optional, default, demands, Fields, no_fields, field}
+use Rattle.asn_values.specs.Fits.{Fits, FitsEach}
 use Rattle.asn_values.specs.Profile.{InProfile, EmptyRange, good_default}
 use Rattle.asn_values.specs.Parts.{AreOfProfile}
 use Rattle.asn_values.proofs.Defaults.{defaults_are_judged}
 use Rattle.asn_bits.proofs.Above.{test_of_le}
 use Rattle.asn_rules.specs.Chunks.{Chunk}
-use Rattle.asn_rules.specs.Components.{bit_of, is_default, is_spelled, if_spelled, presence}
-use Rattle.asn_rules.specs.Languages.{Then, Map}
+use Rattle.asn_rules.specs.Components.{bit_of, is_default, is_spelled, presence}
 use Rattle.asn_rules.specs.Sets.{AreBits}
-use Rattle.asn_rules.specs.Spellings.{SpelledBy}
 use Rattle.asn_rules.specs.Listed.{IsOther, Spelt, Before, Listed, each_of, bitmap_length}
 use Rattle.asn_rules.proofs.Entries.{default_is}
 use Rattle.asn_rules.proofs.Listed.{no_empty_range}

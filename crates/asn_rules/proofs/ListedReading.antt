@@ -1,14 +1,13 @@
 -- From the answers for one component of a SEQUENCE to those for all of them: what the reader of the components cites.
-use Rattle.std.proofs.Common.{◌≡◌, ℕ, zero, suc, Bool, true, false, List, [], ◌∷◌, ◌++◌, length, Option, Some, None, refl, sym, subst, append_assoc, arith}
-use Rattle.std.specs.Bool.{⊤}
+use Rattle.std.proofs.Common.{◌≡◌, ℕ, Bool, true, false, List, [], ◌∷◌, ◌++◌, length, Option, Some, refl, sym, subst, append_assoc}
 use Rattle.asn_values.specs.Datum.{Datum}
-use Rattle.asn_values.specs.Shape.{Shape, Demand, must, optional, default, Fields, no_fields, field}
+use Rattle.asn_values.specs.Shape.{Shape, Demand, must, optional, default, Fields, field}
 use Rattle.asn_values.specs.Profile.{InProfile}
 use Rattle.asn_values.specs.Parts.{AreOfProfile}
 use Rattle.asn_rules.specs.Chunks.{Chunk}
 use Rattle.asn_rules.specs.Components.{bit_of, has_presence_bit}
 use Rattle.asn_rules.specs.Live.{Fielding}
-use Rattle.asn_rules.specs.Languages.{Spells, Lawful, Inhabited, Map, Nothing, prepended}
+use Rattle.asn_rules.specs.Languages.{Spells, Inhabited, Map, Nothing, prepended}
 use Rattle.asn_rules.specs.Parted.{SpellingsPart}
 use Rattle.asn_rules.specs.Listed.{Spelt, Before, Listed, Entry, default_of, bitmap_length}
 use Rattle.asn_rules.proofs.Chunks.{FieldsPart}

@@ -1,19 +1,18 @@
-use Rattle.std.proofs.Common.{rules, true, ◌≡◌, ◌∷◌, ◌⊎◌, ◌++◌, [], ℕ, List, map, Some, None, inl, inr, sym, ap, ◌∙◌, append_assoc}
+use Rattle.std.proofs.Common.{rules, true, ◌≡◌, ◌∷◌, ◌⊎◌, ◌++◌, [], map, Some, sym, ap, ◌∙◌}
 use Rattle.std.specs.Option.{option_map}
-use Rattle.std.proofs.lemmas.Grind.{common_steps}
 use Rattle.std.proofs.lemmas.Result.{on_ok_weaker}
 use Rattle.std.proofs.lemmas.Slice.Zip.{either_empty_from_Zip}
 use Rattle.asn_values.specs.declared.types.AsnType.{the_lemmas}
 use Rattle.asn_values.specs.Shape.{Shape}
 use Rattle.asn_values.specs.Fits.{FitsEach}
 use Rattle.asn_values.specs.Parts.{AreOfProfile}
-use Rattle.asn_values.specs.View.{shape_of, datum_of, fields_of, part_of_field}
+use Rattle.asn_values.specs.View.{datum_of, fields_of, part_of_field}
 use Rattle.asn_values.proofs.Components.{shape_of_part}
 use Rattle.asn_bits.specs.Numbers.{bits}
 use Rattle.asn_rules.specs.Components.{is_spelled}
-use Rattle.asn_per.specs.Laws.{per_bits, component_bits}
-use Rattle.asn_per.proofs.Sequences.{OfSequence, of_sequence, parts_of_profile, entries_fit, sequence_written, few_components}
-use Rattle.asn_per.proofs.Writing.{written_more, written_passes, written_ends, either_map}
+use Rattle.asn_per.specs.Laws.{per_bits}
+use Rattle.asn_per.proofs.Sequences.{of_sequence, parts_of_profile, entries_fit, sequence_written, few_components}
+use Rattle.asn_per.proofs.Writing.{written_more, written_ends, either_map}
 use Rattle.asn_per.proofs.encoder.+writer.Goals as goal
 
 pub write-presence_bitmap-count-requires-clause-of_profile :

@@ -1,9 +1,8 @@
-use Rattle.std.proofs.Common.{◌≡◌, ◌≤◌, ◌<◌, ◌++◌, ℕ, List, [], true, length, vec_len, inl, inr, sym, ap, ◌∙◌, arith}
+use Rattle.std.proofs.Common.{◌≡◌, ◌++◌, true, inl, inr, sym, ap, ◌∙◌, arith}
 use Rattle.asn_values.specs.Fits.{Fits}
 use Rattle.asn_values.specs.View.{shape_of, datum_of}
 use Rattle.asn_bits.specs.Numbers.{bits}
 use Rattle.asn_per.specs.Laws.{per_bits}
-use Rattle.asn_per.specs.Rules.{IsPerEncoding}
 use Rattle.asn_per.proofs.Completing.{Topped, completed, same_lengths}
 use Rattle.asn_per.proofs.encoder.encode.Goals as goal
 use Rattle.asn_per.proofs.encoder.encode.Goals.{then-is_empty+in_ok-push_number, else-is_empty}

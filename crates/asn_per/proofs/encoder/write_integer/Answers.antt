@@ -1,9 +1,8 @@
-use Rattle.std.proofs.Common.{◌≡◌, ◌+◌, ◌<◌, ◌^◌, ◌≤ℤ◌, ◌++◌, ℕ, suc, ℤ, Some, None, refl, sym, ap, subst, ◌∙◌, arith}
-use Rattle.std.proofs.lemmas.Result.{on_ok_weaker}
+use Rattle.std.proofs.Common.{◌≡◌, ◌+◌, ◌≤ℤ◌, suc, ℤ, Some, sym, ap, subst, ◌∙◌, arith}
 use Rattle.asn_values.specs.Shape.{integer}
 use Rattle.asn_values.specs.Fits.{lowest_integer, highest_integer, FitsNumber}
 use Rattle.asn_values.specs.Profile.{InProfile}
-use Rattle.asn_bits.specs.Numbers.{bits, width, above}
+use Rattle.asn_bits.specs.Numbers.{width, above}
 use Rattle.asn_per.proofs.IntegerRanges.{ranging, low_above_lowest, high_below_highest, above_fits, low_kept, high_kept, number_kept}
 use Rattle.asn_per.proofs.Spellings.{bits_of_constrained, bits_of_semi_constrained}
 use Rattle.asn_per.proofs.encoder.write_integer.Goals as goal

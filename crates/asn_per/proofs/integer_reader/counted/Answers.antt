@@ -1,14 +1,12 @@
-use Rattle.std.proofs.Common.{◌≡◌, ◌≤◌, ◌<◌, ◌+◌, ◌*◌, ◌^◌, ℕ, None, min, sym, subst, arith}
+use Rattle.std.proofs.Common.{◌≤◌, ◌*◌, ℕ, None, sym, subst}
 use Rattle.std.proofs.lemmas.Result.{err_from_is_err_and, IfOk-weaker}
-use Rattle.asn_bits.specs.Numbers.{octet_count}
-use Rattle.asn_rules.specs.Counted.{Counted, number_of, Least, SomeOf}
-use Rattle.asn_rules.specs.Languages.{Map, Plain, Spells}
+use Rattle.asn_rules.specs.Languages.{Plain, Spells}
 use Rattle.asn_rules.specs.Sets.{InSet, Meets}
 use Rattle.asn_rules.specs.Stops.{Stops}
-use Rattle.asn_rules.proofs.Leads.{Leads, stops_by}
+use Rattle.asn_rules.proofs.Leads.{stops_by}
 use Rattle.asn_per.specs.Per.{per_fields}
-use Rattle.asn_per.specs.Reading.{Admits, up_to}
-use Rattle.asn_per.proofs.CountedReading.{counts_of, numbers_of, count_there, some_count, some_number, at_most_eight, stops_at_count, leads_to_number}
+use Rattle.asn_per.specs.Reading.{Admits}
+use Rattle.asn_per.proofs.CountedReading.{counts_of, count_there, some_count, some_number, at_most_eight, stops_at_count, leads_to_number}
 use Rattle.asn_per.proofs.Exits.{if_err_weaker}
 use Rattle.asn_per.proofs.integer_reader.counted.Goals as goal
 

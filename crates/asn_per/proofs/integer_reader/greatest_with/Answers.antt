@@ -1,4 +1,4 @@
-use Rattle.std.proofs.Common.{◌≡◌, ◌^◌, ◌<◌, ◌*◌, sym, ◌∙◌, arith}
+use Rattle.std.proofs.Common.{◌*◌, arith}
 use Rattle.std.proofs.lemmas.Nat.{pow_pos}
 use Rattle.asn_bits.proofs.Splits.{two_pow_octets}
 use Rattle.asn_per.proofs.integer_reader.greatest_with.Goals as goal

@@ -1,4 +1,4 @@
-use Rattle.std.proofs.Common.{◌≡◌, ◌-◌, sym, ◌∙◌, arith}
+use Rattle.std.proofs.Common.{◌-◌, sym, ◌∙◌, arith}
 use Rattle.asn_bits.proofs.Splits.{two_pow_octets}
 use Rattle.asn_per.proofs.CountedNumbers.{least_more}
 use Rattle.asn_per.proofs.integer_reader.least_with.Goals as goal

@@ -1,4 +1,3 @@
-use Rattle.std.proofs.Common.{sym}
 use Rattle.asn_bits.specs.Numbers.{bits}
 use Rattle.asn_rules.proofs.Digits.{bits_are}
 use Rattle.asn_rules.proofs.Sets.{set_spells}

@@ -1,4 +1,4 @@
-use Rattle.std.proofs.Common.{◌≡◌, ◌⊎◌, inl, inr, ◌∷◌, [], ◌++◌, ◌+◌, ◌∙◌, true, false, List, map, drop, Some, None, rules, sym, ap, subst}
+use Rattle.std.proofs.Common.{◌≡◌, ◌⊎◌, inl, inr, ◌∷◌, [], ◌++◌, ◌∙◌, true, false, List, map, Some, None, rules, sym, ap}
 use Rattle.std.specs.Option.{option_map}
 use Rattle.std.proofs.lemmas.List.{map-append}
 use Rattle.std.proofs.lemmas.Result.{err_from_is_err_and}
@@ -14,7 +14,7 @@ use Rattle.asn_rules.proofs.Leads.{stops_by}
 use Rattle.asn_rules.proofs.Listed.{spelt_inhabited}
 use Rattle.asn_rules.proofs.ListedReading.{nothing_read}
 use Rattle.asn_per.specs.Per.{per, per_fields}
-use Rattle.asn_per.proofs.ComponentsRead.{ReadUpTo, next_part, no_part, bit_there, next_either, read_ends, demand_of_part, entry_leads, parts_good, bitmap_stops_at, components_at}
+use Rattle.asn_per.proofs.ComponentsRead.{next_part, no_part, bit_there, next_either, read_ends, demand_of_part, entry_leads, parts_good, bitmap_stops_at, components_at}
 use Rattle.asn_per.proofs.Sequences.{few_components}
 use Rattle.asn_per.proofs.value_reader.+reader.Goals as goal
 

@@ -1,4 +1,4 @@
-use Rattle.std.proofs.Common.{◌≡◌, true, Some}
+use Rattle.std.proofs.Common.{◌≡◌, true}
 use Rattle.asn_values.specs.Datum.{number}
 use Rattle.asn_values.specs.Shape.{integer}
 use Rattle.asn_values.specs.Profile.{InProfile, good_default}

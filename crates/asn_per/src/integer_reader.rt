@@ -27,6 +27,7 @@ use asn_values::Bounds;
 const HIGHEST: i128 = 9_223_372_036_854_775_807;
 
 /// Reads an integer of the range (X.691, "encoding the integer type"), but for `except`.
+#[inline(always)]
 pub(crate) fn integer(
     bounds: &Bounds,
     except: Option<i128>,
@@ -65,6 +66,7 @@ fn offset_left_out(bounds: &Bounds, except: Option<i128>) -> Option<u64>
 
 /// Reads a number of 0 to `high`, but for `except`, in the fewest bits that tell so many apart
 /// (X.691, "constrained whole number").
+#[inline(always)]
 fn constrained(high: u64, except: Option<u64>, bits: &mut BitCursor<'_>) -> Result<u64, Stop>
     requires { Meets (λ n. Admits (up_to high except) n) 0 (width (high + 1)) }
     ensures done { IfOk result (λ n. Spells per_fields (Plain (InSet (width (high + 1)) (λ m. Admits (up_to high except) m))) n bits.old bits.new) }
@@ -155,6 +157,7 @@ pub(crate) fn power_of_two(exponent: u32) -> u64
 }
 
 /// Reads a truth value, but for `except` (X.691, "encoding the boolean type").
+#[inline(always)]
 pub(crate) fn boolean(except: Option<bool>, bits: &mut BitCursor<'_>) -> Result<bool, Stop>
     ensures done { IfOk result (λ b. Spells per_fields (Spelt per (option_map truth except) boolean) (truth b) bits.old bits.new) }
     ensures stop { IfErr result (λ why. Stops per_fields (Spelt per (option_map truth except) boolean) bits.old why) }

@@ -57,6 +57,7 @@ pub(crate) fn bits_left(bits: &BitCursor<'_>) -> u128
 }
 
 /// Reads one of the numbers in `k` bits: in one step where the bits are at hand and it is one.
+#[inline(always)]
 pub(crate) fn number(k: u32, set: Numbers, why: Why, bits: &mut BitCursor<'_>) -> Result<u64, Stop>
     requires few { k ≤ 64 }
     requires some { Meets (λ n. Admits set n) 0 k }

@@ -22,6 +22,7 @@ use asn_values::{AsnType, Field, Need, Value};
 use std::alloc::Global;
 
 /// Reads a value of the type.
+#[inline(always)]
 #[cycle(reader)]
 pub(crate) fn read(alloc: Global, ty: &AsnType, bits: &mut BitCursor<'_>) -> Result<Value, Stop>
     requires of_profile { InProfile (shape_of ty.now) }
@@ -72,6 +73,7 @@ fn read_components(
 }
 
 /// Reads the entry of a component, of which `present` says whether it is there.
+#[inline(always)]
 #[cycle(reader)]
 fn read_entry(
     alloc: Global,

@@ -59,7 +59,7 @@ signed_cases l u = go (both_in 1 l u) (both_in 2 l u) (both_in 4 l u) (both_in 8
     go false false false false ea eb ec ed = inr (rw (ea, eb, ec, ed, signed_size) refl)
 
 -- numbers between bounds of so many octets are of so many
-in_bound : (l u y : ℤ) (n : ℕ) → 0 < n → int_le (negsuc (n - 1)) l ≡ true → int_lt u (pos n) ≡ true → int_le l y ≡ true → int_le y u ≡ true → magnitude y < n
+pub in_bound : (l u y : ℤ) (n : ℕ) → 0 < n → int_le (negsuc (n - 1)) l ≡ true → int_lt u (pos n) ≡ true → int_le l y ≡ true → int_le y u ≡ true → magnitude y < n
 in_bound l (pos u) (pos y) n h a b p q = omega (arith, ltb-true u n b, leb-true y u q)
 in_bound l (negsuc u) (pos y) n h a b p q = absurd (true≢false (sym q))
 in_bound (pos l) u (negsuc y) n h a b p q = absurd (true≢false (sym p))

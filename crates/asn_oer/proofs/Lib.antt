@@ -11,3 +11,16 @@ pub mod Strings
 pub mod Tells
 pub mod PlaceExamples
 pub mod Whole
+pub mod SimpleLanguages
+pub mod IntegerLanguages
+pub mod ItemLanguages
+pub mod StringLanguages
+pub mod OpenTypes
+pub mod ListLanguages
+pub mod ChoiceLanguages
+pub mod FilledLanguages
+pub mod ComponentLanguages
+pub mod AdditionLanguages
+pub mod SequenceLanguages
+pub mod BitLanguages
+pub mod LeftOut

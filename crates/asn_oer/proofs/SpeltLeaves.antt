@@ -25,7 +25,7 @@ spelled_short n c h p = short_spelled n 1 c (omega arith) (omega arith) p
 -- ---- INTEGER
 
 -- the integers of the profile
-in_64_bits : (z : ℤ) → lowest_integer ≤ℤ z → z ≤ℤ highest_integer → magnitude z < 9223372036854775808
+pub in_64_bits : (z : ℤ) → lowest_integer ≤ℤ z → z ≤ℤ highest_integer → magnitude z < 9223372036854775808
 in_64_bits (pos n) p q = omega (arith, ints)
 in_64_bits (negsuc n) p q = omega (arith, ints)
 

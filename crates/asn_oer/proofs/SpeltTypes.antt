@@ -46,7 +46,7 @@ few_components root more h =
     ltb-false 64 (length (demands root)) (or_parts (nat_lt 64 (length (demands root))) (nat_lt 64 (length (demands (more_fields more)))) (or_parts (too_many_here (sequence root more)) _ h.parts).0).0
 
 -- and at most 64 additions
-few_additions : (root fs : Fields) → Good (sequence root (marked fs)) → length (demands fs) ≤ 64
+pub few_additions : (root fs : Fields) → Good (sequence root (marked fs)) → length (demands fs) ≤ 64
 few_additions root fs h =
     ltb-false 64 (length (demands fs)) (or_parts (nat_lt 64 (length (demands root))) (nat_lt 64 (length (demands fs))) (or_parts (too_many_here (sequence root (marked fs))) _ h.parts).0).1
 

@@ -16,7 +16,7 @@ use Rattle.asn_oer.proofs.Lengths.{spelled_code}
 -- ---- sizes
 
 -- a fixed size has one length
-one_length : (z : SizeRange) (n : ℕ) → is_fixed_size z ≡ true → FitsLength z n → n ≡ z.low
+pub one_length : (z : SizeRange) (n : ℕ) → is_fixed_size z ≡ true → FitsLength z n → n ≡ z.low
 one_length z n h f = go z.extensible z.high h f.1
   where
     fixed : ℕ → Option ℕ → Bool

@@ -30,7 +30,7 @@ oer_part = spellings_part spelled oer oer_faces
 -- ---- as encoding rules
 
 -- the same said of the rules' whole encodings
-oer_wholes : WholesTell oer_ruling
+pub oer_wholes : WholesTell oer_ruling
 unfolding oer_ruling
 oer_wholes = record {
   told = λ t v w rest h p q e. (octets_tell t v w rest [] h p q (e ∙ sym (append-nil (oer_octets t w)))).0;

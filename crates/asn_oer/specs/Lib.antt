@@ -4,3 +4,9 @@ pub mod NumberVectors
 pub mod StringVectors
 pub mod ListVectors
 pub mod FieldVectors
+pub mod SimpleTypes
+pub mod Strings
+pub mod Constructed
+pub mod Kinds
+pub mod Preambles
+pub mod Sequences

@@ -16,7 +16,7 @@ use Rattle.asn_rules.specs.Forks.{Fork, Same}
 use Rattle.asn_rules.specs.General.{General, behind_first}
 use Rattle.asn_rules.specs.Counted.{Counted, number_of, Least, signed_number, LeastSigned}
 use Rattle.asn_rules.specs.Fields.{Octet}
-use Rattle.asn_rules.specs.Listed.{IsOther, Spelt}
+use Rattle.asn_rules.specs.Listed.{IsOther, Spelt, Listed, bitmap_length}
 use Rattle.asn_rules.specs.Reading.{Holds}
 use Rattle.asn_rules.specs.Spellings.{SpelledBy}
 use Rattle.asn_per.specs.Per.{per, rank}
@@ -236,6 +236,16 @@ abbrev pub MarkedSequences : Fields → Fields → Datum → List Chunk → Type
 MarkedSequences root fs =
     Map of_either (Fork (Map (λ v. with_entries (v, absent_entries fs)) (Values (sequence root closed))) (Map with_entries (Then (Values (sequence root closed)) (λ v. Additions fs))))
 
+-- ---- SEQUENCE without an extension mark
+
+-- the entries behind a presence bitmap
+abbrev pub entries_behind : ℕ × List (Option Datum) → Datum
+entries_behind p = components (components_of p.1)
+
+-- a presence bitmap, any number of so many bits, and the components under it
+abbrev pub Sequences : Fields → Datum → List Chunk → Type 0
+Sequences fs = Map entries_behind (Then (Below (bitmap_length fs) (2 ^ bitmap_length fs)) (λ n. Listed per fs (bits (bitmap_length fs) n)))
+
 -- ---- what each kind of type is put together from
 
 -- "encoding the boolean type"
@@ -285,6 +295,10 @@ FixedSizesCompose =
 -- "encoding the choice type"
 abbrev pub ChoicesCompose : Type 0
 ChoicesCompose = (root : Alternatives) (more : MoreAlternatives) → InProfile (choice root more) → Same (Choices root more) (Values (choice root more))
+
+-- "encoding the sequence type", without an extension mark
+abbrev pub SequencesCompose : Type 0
+SequencesCompose = (root : Fields) → InProfile (sequence root closed) → Same (Sequences root) (Values (sequence root closed))
 
 -- "encoding the sequence type", with an extension mark
 abbrev pub MarkedSequencesCompose : Type 0

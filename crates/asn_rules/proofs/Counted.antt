@@ -194,7 +194,7 @@ counted_octets S few = same_after (counted_least 256 1 S one_octet few) (same_sp
 -- ---- numbers in the fewest octets of two's complement
 
 -- what k octets hold stands for the number whose octets they are
-residue_of : (k r : ℕ) → 1 ≤ k → r < 256 ^ k → residue k (signed_number (k, r)) ≡ r
+pub residue_of : (k r : ℕ) → 1 ≤ k → r < 256 ^ k → residue k (signed_number (k, r)) ≡ r
 residue_of k r h w = go (nat_lt r (2 ^ (8 * k - 1))) refl
   where
     go : (b : Bool) → nat_lt r (2 ^ (8 * k - 1)) ≡ b → residue k (signed_number (k, r)) ≡ r
@@ -204,7 +204,7 @@ residue_of k r h w = go (nat_lt r (2 ^ (8 * k - 1))) refl
         rw (e, signed_number) back
 
 -- a number of two's complement is told by its octets
-number_again : (k : ℕ) (z : ℤ) → 1 ≤ k → magnitude z < 2 ^ (8 * k - 1) → signed_number (k, residue k z) ≡ z
+pub number_again : (k : ℕ) (z : ℤ) → 1 ≤ k → magnitude z < 2 ^ (8 * k - 1) → signed_number (k, residue k z) ≡ z
 number_again k (pos n) h f =
     let e : nat_lt n (2 ^ (8 * k - 1)) ≡ true = lt-ltb n (2 ^ (8 * k - 1)) f in
     rw (e, signed_number) refl

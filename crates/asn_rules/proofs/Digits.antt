@@ -94,7 +94,7 @@ not_parted (x ∷ xs) (inr p) = not_parted xs p.1
 -- ---- the digits of a number
 
 -- the digits of a number are digits
-are_digits : (base k n : ℕ) → 0 < base → AreDigits base (digits base k n)
+pub are_digits : (base k n : ℕ) → 0 < base → AreDigits base (digits base k n)
 are_digits base zero n h = tt
 are_digits base (suc k) n h = (mod-lt (n / base ^ k) h, are_digits base k n h)
 

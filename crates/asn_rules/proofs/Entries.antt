@@ -157,7 +157,7 @@ few_extension true e = omega arith
 -- ---- DEFAULT
 
 -- numbers not above one another are one
-le_z_antisymm : (y z : ℤ) → int_le y z ≡ true → int_le z y ≡ true → y ≡ z
+pub le_z_antisymm : (y z : ℤ) → int_le y z ≡ true → int_le z y ≡ true → y ≡ z
 le_z_antisymm (pos a) (pos b) p q = ap pos (omega (arith, leb-true a b p, leb-true b a q))
 le_z_antisymm (pos a) (negsuc b) p q = absurd (true≢false (sym p))
 le_z_antisymm (negsuc a) (pos b) p q = absurd (true≢false (sym q))

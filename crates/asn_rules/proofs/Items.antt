@@ -13,7 +13,7 @@ abbrev pub numbers : List Label → List ℤ
 numbers ls = map (λ l. l.number) ls
 
 -- a number equals itself
-int_eq_refl : (z : ℤ) → int_eq z z ≡ true
+pub int_eq_refl : (z : ℤ) → int_eq z z ≡ true
 int_eq_refl (pos n) = go (nat_le n n) refl
   where
     go : (b : Bool) → nat_le n n ≡ b → (b && b) ≡ true

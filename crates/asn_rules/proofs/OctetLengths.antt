@@ -24,11 +24,11 @@ use Rattle.asn_rules.proofs.Spellings.{same_after, same_then, same_map, same_row
 -- ---- octets
 
 -- one octet in one unit
-one_is : (o : ℕ) → o < 256 → digits 256 1 o ≡ o ∷ []
+pub one_is : (o : ℕ) → o < 256 → digits 256 1 o ≡ o ∷ []
 one_is o h = sym (digits_only 256 1 o (o ∷ []) (record { digits = (h, tt); count = refl; sum = omega arith })).1
 
 -- an octet is spelt by itself
-octet_itself : Same OneOctet (SpelledBy (λ o. o < 256) (λ o. one o ∷ []))
+pub octet_itself : Same OneOctet (SpelledBy (λ o. o < 256) (λ o. one o ∷ []))
 octet_itself = same_after (digits_spelled 256 1 (λ o. o < 256) (λ o h. omega (arith, h))) (same_spelled (λ o h. h) (λ o h. h) (λ o h. ap ones (one_is o h)))
 
 -- octets are one or part
@@ -40,7 +40,7 @@ pub one_octet_inhabited : Inhabited OneOctet
 one_octet_inhabited = plain_inhabited 0 (digits 256 1 0) (set_spelt 256 1 0 (omega arith) (omega arith))
 
 -- octets one after the other
-joined_octets : (c : List ℕ) → joined (map (λ o. one o ∷ []) c) ≡ ones c
+pub joined_octets : (c : List ℕ) → joined (map (λ o. one o ∷ []) c) ≡ ones c
 joined_octets [] = refl
 joined_octets (o ∷ c) = ap (λ (l : List Chunk). one o ∷ l) (joined_octets c)
 

@@ -7,6 +7,7 @@ use Rattle.asn_per.proofs.StringLanguages.{bit_strings_compose, octet_strings_co
 use Rattle.asn_per.proofs.ListLanguages.{lists_compose}
 use Rattle.asn_per.proofs.ChoiceLanguages.{choices_compose}
 use Rattle.asn_per.proofs.MarkedSequences.{marked_sequences_compose}
+use Rattle.asn_per.proofs.PlainSequences.{sequences_compose}
 use Rattle.asn_per.proofs.SizedLists.{fixed_sized}
 use Rattle.asn_per.proofs.LeftOut.{enumerated_but_one, unbounded_but_one}
 use Rattle.asn_per.proofs.kinds.kinds_compose.Goals as goal
@@ -52,3 +53,6 @@ returns-clause-enumerated_but_one c = enumerated_but_one
 
 pub returns-clause-unbounded_but_one : goal.returns-clause-unbounded_but_one
 returns-clause-unbounded_but_one c = unbounded_but_one
+
+pub returns-clause-sequences : goal.returns-clause-sequences
+returns-clause-sequences c = sequences_compose

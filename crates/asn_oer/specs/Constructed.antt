@@ -1,0 +1,65 @@
+-- What encodings of SEQUENCE OF and CHOICE consist of in Canonical OER (X.696).
+use Rattle.std.specs.Prelude.{◌+◌, ◌-◌, ℕ, zero, suc, true, false, List, nat_lt}
+use Rattle.asn_values.specs.Datum.{Datum, elements, alternative, elements_of}
+use Rattle.asn_values.specs.Shape.{Shape, SizeRange, Alternatives, no_alternatives, one_of, MoreAlternatives, closed_choice, marked_choice, more_alternatives, count}
+use Rattle.asn_values.specs.Fits.{Fits, FitsLength}
+use Rattle.asn_rules.specs.Chunks.{Chunk, open_field}
+use Rattle.asn_rules.specs.Languages.{Then, Map, Row, Plain, Sealed}
+use Rattle.asn_rules.specs.Sets.{InDigits, Between}
+use Rattle.asn_rules.specs.Counted.{Counted, number_of, Least}
+use Rattle.asn_rules.specs.Reading.{Holds}
+use Rattle.asn_rules.specs.Spellings.{SpelledBy}
+use Rattle.asn_oer.specs.Oer.{oer}
+use Rattle.asn_oer.specs.Rules.{oer_ruling}
+
+-- the values of a type, as they are spelt
+abbrev pub Values : Shape → Datum → List Chunk → Type 0
+Values t = SpelledBy (Fits t) (oer t)
+
+-- the same in an open field ("open type")
+abbrev pub InOpenField : Shape → Datum → List Chunk → Type 0
+InOpenField t = Sealed open_field (Holds oer_ruling t)
+
+-- ---- SEQUENCE OF ("encoding of sequence-of types")
+
+-- how many elements there are, of the counts of the set: an INTEGER from 0 on
+abbrev pub Quantity : (ℕ → Type 0) → ℕ → List Chunk → Type 0
+Quantity S = Map number_of (Counted 256 1 (Least S))
+
+-- the elements without their quantity
+abbrev pub elements_told : ℕ × List Datum → Datum
+elements_told p = elements (elements_of p.1)
+
+-- the quantity, and so many elements
+abbrev pub Lists : Shape → SizeRange → Datum → List Chunk → Type 0
+Lists t s = Map elements_told (Then (Quantity (FitsLength s)) (λ n. Row (Values t) n))
+
+-- ---- CHOICE ("encoding of choice types")
+
+-- the values of the alternative at the place, each type having its language
+abbrev pub OneOf : (Shape → Datum → List Chunk → Type 0) → Alternatives → ℕ → Datum → List Chunk → Type 0
+OneOf L no_alternatives t = λ d cs. ⊥
+OneOf L (one_of name shape alts) zero = L shape
+OneOf L (one_of name shape alts) (suc t) = OneOf L alts t
+
+-- of the alternatives behind the extension mark, in open fields
+abbrev pub OneOfMore : MoreAlternatives → ℕ → Datum → List Chunk → Type 0
+OneOfMore closed_choice t = λ d cs. ⊥
+OneOfMore (marked_choice alts) t = OneOf InOpenField alts t
+
+-- the values of the alternative with the tag
+abbrev pub Alternative : Alternatives → MoreAlternatives → ℕ → Datum → List Chunk → Type 0
+Alternative root more t = elim (nat_lt t (count root)) [ true ↦ OneOf Values root t | false ↦ OneOfMore more (t - count root) ]
+
+-- the octet of a context-specific tag: 128 and the tag ("encoding of tags"); a type of the profile has at most 63
+-- alternatives
+abbrev pub Tags : Alternatives → MoreAlternatives → ℕ → List Chunk → Type 0
+Tags root more = Plain (InDigits 256 1 (Between 128 (127 + (count root + count (more_alternatives more)))))
+
+-- the value of the alternative with the tag
+abbrev pub alternative_told : ℕ × Datum → Datum
+alternative_told p = alternative (p.0 - 128) p.1
+
+-- the tag, and a value of its alternative
+abbrev pub Choices : Alternatives → MoreAlternatives → Datum → List Chunk → Type 0
+Choices root more = Map alternative_told (Then (Tags root more) (λ b. Alternative root more (b - 128)))

@@ -18,12 +18,6 @@ NotEncoded r encode.NotOfType t v = Fits t v → ⊥
 NotEncoded r encode.TooLong t v = Fits t v × ((o : List ℕ) → IsEncoding r t v o → max_octets < length o)
 NotEncoded r encode.Memory t v = Fits t v
 
--- the value is given, unless a growth was refused
-abbrev pub GivesUnlessMemory : Result Value DecodeFault → Datum → Type 0
-GivesUnlessMemory (Ok w) v = datum_of w ≡ v
-GivesUnlessMemory (Err decode.Memory) v = ⊤
-GivesUnlessMemory (Err _) v = ⊥
-
 -- What is told of the octets o, of which the first max_octets are read at most. A value: all of them are its
 -- encoding. Refused: at this unit, counted from 1, the first after which no encoding can follow. Truncated: an
 -- encoding may still follow all of them, which are so many units. Rest: so many octets, and not all, are the

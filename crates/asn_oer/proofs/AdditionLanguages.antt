@@ -13,7 +13,7 @@ use Rattle.asn_bits.specs.Numbers.{bits}
 use Rattle.asn_bits.proofs.Octets.{length-digits}
 use Rattle.asn_rules.specs.Chunks.{ones}
 use Rattle.asn_rules.specs.Components.{any_present, presence}
-use Rattle.asn_rules.specs.Sets.{weighted, IsBits}
+use Rattle.asn_bits.specs.Sets.{weighted, IsBits}
 use Rattle.asn_rules.specs.Forks.{Same}
 use Rattle.asn_rules.specs.Spellings.{SpelledBy}
 use Rattle.asn_rules.proofs.Digits.{bits_are, bits_only, are_digits}

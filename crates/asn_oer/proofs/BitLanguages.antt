@@ -20,7 +20,7 @@ use Rattle.asn_bits.proofs.Splits.{digits-add, digits-mod, unpacked-append, leng
 use Rattle.asn_rules.specs.Chunks.{one, ones}
 use Rattle.asn_rules.specs.Components.{bit_of}
 use Rattle.asn_rules.specs.Languages.{Then, Row}
-use Rattle.asn_rules.specs.Sets.{AreBits, weighted, IsBits}
+use Rattle.asn_bits.specs.Sets.{AreBits, weighted, IsBits}
 use Rattle.asn_rules.specs.Forks.{Same}
 use Rattle.asn_rules.specs.Fields.{OneOctet}
 use Rattle.asn_rules.specs.Spellings.{SpelledBy}

@@ -7,7 +7,7 @@ use Rattle.asn_values.specs.Profile.{InProfile}
 use Rattle.asn_values.proofs.InnerTypes.{AreAllOfProfile, added_alternatives_of_profile}
 use Rattle.asn_bits.specs.Numbers.{digits}
 use Rattle.asn_rules.specs.Chunks.{Chunk, ones}
-use Rattle.asn_rules.specs.Sets.{Between}
+use Rattle.asn_bits.specs.Sets.{Between}
 use Rattle.asn_rules.specs.Forks.{Same}
 use Rattle.asn_rules.specs.Spellings.{SpelledBy}
 use Rattle.asn_rules.proofs.OctetLengths.{one_is}

@@ -11,7 +11,7 @@ use Rattle.asn_values.specs.Parts.{AreOfProfile}
 use Rattle.asn_rules.specs.Chunks.{Chunk}
 use Rattle.asn_rules.specs.Components.{if_spelled, presence}
 use Rattle.asn_rules.specs.Languages.{Map, prepended}
-use Rattle.asn_rules.specs.Sets.{AreBits}
+use Rattle.asn_bits.specs.Sets.{AreBits}
 use Rattle.asn_rules.specs.Forks.{Same}
 use Rattle.asn_rules.specs.Listed.{Before, Listed, each_of, bitmap_length}
 use Rattle.asn_rules.specs.Spellings.{SpelledBy}

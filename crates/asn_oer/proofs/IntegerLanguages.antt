@@ -15,7 +15,7 @@ use Rattle.asn_bits.specs.Lengths.{octet_length}
 use Rattle.asn_bits.proofs.Above.{le_of_test}
 use Rattle.asn_bits.proofs.Octets.{length-digits, octet_count_below, half, residue, signed_is, length-least_signed, signed_count_below}
 use Rattle.asn_rules.specs.Chunks.{Chunk, ones}
-use Rattle.asn_rules.specs.Sets.{Between, Among}
+use Rattle.asn_bits.specs.Sets.{Between, Among}
 use Rattle.asn_rules.specs.Forks.{Same}
 use Rattle.asn_rules.specs.Counted.{signed_number}
 use Rattle.asn_rules.specs.Spellings.{SpelledBy}

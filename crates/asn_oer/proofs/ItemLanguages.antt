@@ -11,7 +11,7 @@ use Rattle.asn_bits.proofs.Octets.{residue, signed_is, residue_fits, length-leas
 use Rattle.asn_rules.specs.Chunks.{Chunk, one, ones}
 use Rattle.asn_rules.specs.Components.{number_at}
 use Rattle.asn_rules.specs.Languages.{Map, Nothing, Plain}
-use Rattle.asn_rules.specs.Sets.{InDigits}
+use Rattle.asn_bits.specs.Sets.{InDigits}
 use Rattle.asn_rules.specs.Forks.{Same}
 use Rattle.asn_rules.specs.Counted.{SomeOf, signed_number, LeastSigned}
 use Rattle.asn_rules.specs.Spellings.{SpelledBy}

@@ -15,7 +15,7 @@ use Rattle.asn_bits.proofs.Splits.{digits_above}
 use Rattle.asn_rules.specs.Chunks.{Chunk, ones}
 use Rattle.asn_rules.specs.Components.{bit_of, any_present, presence, extension_bit}
 use Rattle.asn_rules.specs.Languages.{Then}
-use Rattle.asn_rules.specs.Sets.{weighted, IsBits}
+use Rattle.asn_bits.specs.Sets.{weighted, IsBits}
 use Rattle.asn_rules.specs.Forks.{Same}
 use Rattle.asn_rules.specs.Listed.{Listed, bitmap_length}
 use Rattle.asn_rules.specs.Spellings.{SpelledBy}

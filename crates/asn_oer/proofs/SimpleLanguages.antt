@@ -5,7 +5,7 @@ use Rattle.asn_values.specs.Shape.{boolean, null}
 use Rattle.asn_values.specs.Fits.{Fits}
 use Rattle.asn_bits.specs.Numbers.{digits}
 use Rattle.asn_rules.specs.Chunks.{ones}
-use Rattle.asn_rules.specs.Sets.{Among}
+use Rattle.asn_bits.specs.Sets.{Among}
 use Rattle.asn_rules.specs.Forks.{Same}
 use Rattle.asn_rules.specs.Spellings.{SpelledBy}
 use Rattle.asn_rules.proofs.Spellings.{same_after, same_map, same_spelled, digits_spelled, map_spelled, nothing_spelled}

@@ -5,7 +5,7 @@ use Rattle.asn_values.specs.Shape.{Shape, SizeRange, Alternatives, no_alternativ
 use Rattle.asn_values.specs.Fits.{Fits, FitsLength}
 use Rattle.asn_rules.specs.Chunks.{Chunk, open_field}
 use Rattle.asn_rules.specs.Languages.{Then, Map, Row, Plain, Sealed}
-use Rattle.asn_rules.specs.Sets.{InDigits, Between}
+use Rattle.asn_bits.specs.Sets.{InDigits, Between}
 use Rattle.asn_rules.specs.Counted.{Counted, number_of, Least}
 use Rattle.asn_rules.specs.Reading.{Holds}
 use Rattle.asn_rules.specs.Spellings.{SpelledBy}

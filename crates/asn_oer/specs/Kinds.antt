@@ -8,7 +8,7 @@ use Rattle.asn_values.specs.Profile.{InProfile}
 use Rattle.asn_rules.specs.Forks.{Same}
 use Rattle.asn_rules.specs.Languages.{Map, Plain}
 use Rattle.asn_rules.specs.Listed.{IsOther, Spelt}
-use Rattle.asn_rules.specs.Sets.{InDigits, Among}
+use Rattle.asn_bits.specs.Sets.{InDigits, Among}
 use Rattle.asn_rules.specs.Spellings.{SpelledBy}
 use Rattle.asn_oer.specs.Oer.{oer, an_open_field}
 use Rattle.asn_oer.specs.SimpleTypes.{truth_told, Booleans, Nulls, Integers, IsNumberOf, ItemNumbers, item_told, Items}

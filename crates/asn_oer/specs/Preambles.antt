@@ -4,7 +4,7 @@ use Rattle.std.specs.Prelude.{◌≡◌, ◌+◌, ◌-◌, ◌/◌, ◌%◌, ◌
 use Rattle.asn_values.specs.Shape.{Fields, no_fields, field, MoreFields, closed, marked}
 use Rattle.asn_rules.specs.Chunks.{Chunk}
 use Rattle.asn_rules.specs.Languages.{Then, Map, Plain}
-use Rattle.asn_rules.specs.Sets.{InDigits}
+use Rattle.asn_bits.specs.Sets.{InDigits}
 use Rattle.asn_rules.specs.Listed.{bitmap_length}
 use Rattle.asn_rules.specs.Fields.{OctetLength}
 

@@ -8,7 +8,7 @@ use Rattle.asn_values.specs.Profile.{int_eq}
 use Rattle.asn_rules.specs.Chunks.{Chunk}
 use Rattle.asn_rules.specs.Components.{number_at}
 use Rattle.asn_rules.specs.Languages.{Then, Map, Nothing, Plain}
-use Rattle.asn_rules.specs.Sets.{InDigits, Between, Among}
+use Rattle.asn_bits.specs.Sets.{InDigits, Between, Among}
 use Rattle.asn_rules.specs.Counted.{SomeOf, Counted, number_of, Least, signed_number, LeastSigned}
 use Rattle.asn_oer.specs.Oer.{magnitude_of, unsigned_octets, signed_size}
 

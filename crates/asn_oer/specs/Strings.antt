@@ -7,7 +7,7 @@ use Rattle.asn_values.specs.Profile.{is_fixed_size}
 use Rattle.asn_bits.specs.Numbers.{unpacked}
 use Rattle.asn_rules.specs.Chunks.{Chunk, utf8_field}
 use Rattle.asn_rules.specs.Languages.{Then, Map, Row, Plain, Sealed}
-use Rattle.asn_rules.specs.Sets.{InDigits}
+use Rattle.asn_bits.specs.Sets.{InDigits}
 use Rattle.asn_rules.specs.Fields.{OneOctet, OctetLength, octets_told}
 use Rattle.asn_oer.specs.Preambles.{filled_octets}
 

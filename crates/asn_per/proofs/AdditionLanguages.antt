@@ -14,7 +14,7 @@ use Rattle.asn_bits.proofs.Octets.{length-digits}
 use Rattle.asn_rules.specs.Chunks.{Chunk, ones}
 use Rattle.asn_rules.specs.Components.{presence, if_spelled, any_present}
 use Rattle.asn_rules.specs.Languages.{Then, Map}
-use Rattle.asn_rules.specs.Sets.{AreDigits, weighted}
+use Rattle.asn_bits.specs.Sets.{AreDigits, weighted}
 use Rattle.asn_rules.specs.General.{behind_first}
 use Rattle.asn_rules.specs.Forks.{Same}
 use Rattle.asn_rules.specs.Spellings.{SpelledBy}

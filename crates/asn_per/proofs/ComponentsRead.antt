@@ -19,7 +19,7 @@ use Rattle.asn_bits.specs.Sink.{bit_of}
 use Rattle.asn_bits.proofs.Octets.{length-digits}
 use Rattle.asn_rules.specs.Components.{has_presence_bit}
 use Rattle.asn_rules.specs.Languages.{Spells, Plain}
-use Rattle.asn_rules.specs.Sets.{InSet}
+use Rattle.asn_bits.specs.Sets.{InSet}
 use Rattle.asn_rules.specs.Listed.{Spelt, Listed, Entry, default_of, bitmap_length}
 use Rattle.asn_rules.proofs.Leads.{LeadsStops, Leads, leads_here, leads_map, stops_on}
 use Rattle.asn_rules.proofs.ListedReading.{Steps, steps_must, steps_bit, leads_entry, nothing_read}

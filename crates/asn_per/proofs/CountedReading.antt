@@ -7,7 +7,7 @@ use Rattle.asn_bits.proofs.Splits.{two_pow_octets}
 use Rattle.asn_rules.specs.Counted.{SomeOf, Least, Counted, number_of}
 use Rattle.asn_rules.specs.Forks.{Same}
 use Rattle.asn_rules.specs.Languages.{Plain, Map, Spells}
-use Rattle.asn_rules.specs.Sets.{InDigits, Meets}
+use Rattle.asn_bits.specs.Sets.{InDigits, Meets}
 use Rattle.asn_per.specs.declared.number_reader.Numbers.{Numbers}
 use Rattle.asn_per.specs.Reading.{IsNot, Admits, up_to, least_of, highest_count_of}
 use Rattle.asn_rules.proofs.Counted.{eight_bits}

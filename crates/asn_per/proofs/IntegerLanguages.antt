@@ -15,7 +15,7 @@ use Rattle.asn_bits.proofs.Widths.{width_fits}
 use Rattle.asn_rules.specs.Chunks.{ones}
 use Rattle.asn_rules.specs.Components.{is_default}
 use Rattle.asn_rules.specs.Languages.{Map, Plain, Inhabited}
-use Rattle.asn_rules.specs.Sets.{InSet, Meets}
+use Rattle.asn_bits.specs.Sets.{InSet, Meets}
 use Rattle.asn_rules.specs.Forks.{Same}
 use Rattle.asn_rules.specs.Counted.{Counted, number_of, Least}
 use Rattle.asn_rules.specs.Listed.{IsOther, Spelt}

@@ -12,7 +12,7 @@ use Rattle.asn_rules.specs.Chunks.{Chunk, ones}
 use Rattle.asn_rules.specs.Components.{presence, if_spelled}
 use Rattle.asn_rules.specs.Forks.{Same}
 use Rattle.asn_rules.specs.Languages.{Spells, Then, Map, Plain}
-use Rattle.asn_rules.specs.Sets.{weighted, InSet, IsBits, Meets}
+use Rattle.asn_bits.specs.Sets.{weighted, InSet, IsBits, Meets}
 use Rattle.asn_rules.specs.Listed.{Spelt, Listed, each_of, bitmap_length}
 use Rattle.asn_rules.proofs.Digits.{bits_are, bits_only}
 use Rattle.asn_rules.proofs.Entries.{components_again, presence_bits}

@@ -11,7 +11,7 @@ use Rattle.asn_bits.specs.Numbers.{bits, width, above, least_from}
 use Rattle.asn_rules.specs.Chunks.{Chunk, open_field, utf8_field}
 use Rattle.asn_rules.specs.Components.{number_at}
 use Rattle.asn_rules.specs.Languages.{Then, Map, Nothing, Row, Plain, Sealed, prepended}
-use Rattle.asn_rules.specs.Sets.{InSet}
+use Rattle.asn_bits.specs.Sets.{InSet}
 use Rattle.asn_rules.specs.Forks.{Fork, Same}
 use Rattle.asn_rules.specs.General.{General, behind_first}
 use Rattle.asn_rules.specs.Counted.{Counted, number_of, Least, signed_number, LeastSigned}

@@ -11,7 +11,7 @@ ghost use Rattle.asn_bits.specs.Sink.{bit_of};
 ghost use Rattle.asn_rules.specs.Languages.{Spells, Map, Plain, Inhabited};
 ghost use Rattle.asn_rules.specs.Counted.{Counted, number_of, Least};
 ghost use Rattle.asn_rules.specs.Listed.{Spelt};
-ghost use Rattle.asn_rules.specs.Sets.{Meets, InSet};
+ghost use Rattle.asn_bits.specs.Sets.{Meets, InSet};
 ghost use Rattle.asn_rules.specs.Stops.{Stops};
 ghost use Rattle.asn_per.specs.Per.{per, per_fields};
 ghost use Rattle.asn_per.specs.Reading.{Admits, IsWithin, up_to, least_of, highest_count_of};

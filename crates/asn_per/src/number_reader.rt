@@ -1,7 +1,7 @@
 //! Readers of numbers in so many bits, refused at the first bit after which none can follow.
 ghost use Rattle.std.specs.Prelude.{◌≡◌, ◌≤◌, ◌<◌, ◌↔◌, ◌*◌, ◌^◌, IfOk, IfErr, IsTrue, length};
 ghost use Rattle.asn_rules.specs.Languages.{Spells, Plain};
-ghost use Rattle.asn_rules.specs.Sets.{InSet, Meets};
+ghost use Rattle.asn_bits.specs.Sets.{InSet, Meets};
 ghost use Rattle.asn_rules.specs.Stops.{Stops};
 ghost use Rattle.asn_per.specs.Per.{per_fields};
 ghost use Rattle.asn_per.specs.Reading.{Admits};

@@ -12,7 +12,7 @@ use Rattle.asn_bits.proofs.GeneralLengths.{lengths_cases}
 use Rattle.asn_rules.specs.Chunks.{ones}
 use Rattle.asn_rules.specs.Live.{Fielding}
 use Rattle.asn_rules.specs.Languages.{Spells, Short, Refused, Lawful, Inhabited, Map, Plain}
-use Rattle.asn_rules.specs.Sets.{weighted, IsBits, InDigits}
+use Rattle.asn_bits.specs.Sets.{weighted, IsBits, InDigits}
 use Rattle.asn_rules.specs.Forks.{Same}
 use Rattle.asn_rules.specs.Spellings.{SpelledBy}
 use Rattle.asn_rules.specs.Counted.{SomeOf, Counted, number_of, Least, signed_number, LeastSigned}

@@ -7,7 +7,7 @@ use Rattle.asn_bits.specs.Numbers.{digits, bits}
 use Rattle.asn_bits.proofs.Octets.{length-digits}
 use Rattle.asn_rules.specs.Chunks.{ones}
 use Rattle.asn_rules.specs.Parted.{Parted}
-use Rattle.asn_rules.specs.Sets.{AreDigits, weighted, IsDigits, IsBits}
+use Rattle.asn_bits.specs.Sets.{AreDigits, weighted, IsDigits, IsBits}
 
 -- digits behind digits
 pub digits-append : (base : ℕ) (xs ys : List ℕ) → AreDigits base xs → AreDigits base ys → AreDigits base (xs ++ ys)

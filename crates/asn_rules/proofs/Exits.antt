@@ -5,7 +5,7 @@ use Rattle.std.specs.Bool.{⊤}
 use Rattle.asn_rules.specs.Chunks.{Kind, Chunk}
 use Rattle.asn_rules.specs.Live.{Fielding}
 use Rattle.asn_rules.specs.Languages.{Spells, Lawful, Inhabited, Carries, Row, Plain, Sealed, SomeContent}
-use Rattle.asn_rules.specs.Sets.{InDigits, InSet}
+use Rattle.asn_bits.specs.Sets.{InDigits, InSet}
 use Rattle.asn_rules.specs.Forks.{Fork, Same}
 use Rattle.asn_rules.specs.Padding.{Fixed, Padded}
 use Rattle.asn_rules.specs.General.{last, fragment, Few, Many, Left, Blocks, Header, General}

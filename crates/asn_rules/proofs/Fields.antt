@@ -10,7 +10,7 @@ use Rattle.asn_bits.proofs.GeneralLengths.{take-map}
 use Rattle.asn_rules.specs.Chunks.{Kind, open_field, utf8_field, Chunk, one, ones, field_units}
 use Rattle.asn_rules.specs.Live.{Fielding, IsContent}
 use Rattle.asn_rules.specs.Languages.{Spells, Short, Refused, Lawful, Inhabited, Sealed, SomeContent}
-use Rattle.asn_rules.specs.Sets.{Between}
+use Rattle.asn_bits.specs.Sets.{Between}
 use Rattle.asn_rules.specs.Forks.{Same}
 use Rattle.asn_rules.specs.General.{General}
 use Rattle.asn_rules.specs.Frames.{Frame}

@@ -13,7 +13,7 @@ use Rattle.asn_rules.specs.Forks.{Branch, Fork, Same}
 use Rattle.asn_rules.specs.General.{Length, last, fragment, Few, Many, Blocks, length_of, Header}
 use Rattle.asn_rules.specs.Languages.{Short, Refused, Lawful, Inhabited, Map, Plain, Carries}
 use Rattle.asn_rules.specs.Live.{Fielding}
-use Rattle.asn_rules.specs.Sets.{IsBits, InSet, Meets}
+use Rattle.asn_bits.specs.Sets.{IsBits, InSet, Meets}
 
 -- what a length that is spelt tells
 abbrev pub Tells : (ℕ → Type 0) → Length → Type 0

@@ -4,7 +4,7 @@ use Rattle.std.proofs.lemmas.List.{append_cancel_left}
 use Rattle.asn_rules.specs.Chunks.{Chunk}
 use Rattle.asn_rules.specs.Live.{Fielding}
 use Rattle.asn_rules.specs.Languages.{Lawful, Map, Plain, Carries}
-use Rattle.asn_rules.specs.Sets.{AreDigits, weighted, InDigits}
+use Rattle.asn_bits.specs.Sets.{AreDigits, weighted, InDigits}
 use Rattle.asn_rules.specs.Forks.{Same}
 use Rattle.asn_rules.specs.Padding.{AreUnits, Fixed}
 use Rattle.asn_rules.specs.Left.{ending, NumberLeft}

@@ -12,7 +12,7 @@ use Rattle.asn_values.proofs.Defaults.{defaults_are_judged}
 use Rattle.asn_bits.proofs.Above.{test_of_le}
 use Rattle.asn_rules.specs.Chunks.{Chunk}
 use Rattle.asn_rules.specs.Components.{bit_of, is_default, is_spelled, presence}
-use Rattle.asn_rules.specs.Sets.{AreBits}
+use Rattle.asn_bits.specs.Sets.{AreBits}
 use Rattle.asn_rules.specs.Listed.{IsOther, Spelt, Before, Listed, each_of, bitmap_length}
 use Rattle.asn_rules.proofs.Entries.{default_is}
 use Rattle.asn_rules.proofs.Listed.{no_empty_range}

@@ -8,7 +8,7 @@ use Rattle.asn_bits.specs.Lengths.{joined, octet_length}
 use Rattle.asn_bits.proofs.Octets.{octet_count_fits}
 use Rattle.asn_rules.specs.Chunks.{Chunk, one, ones}
 use Rattle.asn_rules.specs.Languages.{Lawful, Inhabited, Then, Nothing, Row, Plain}
-use Rattle.asn_rules.specs.Sets.{InDigits}
+use Rattle.asn_bits.specs.Sets.{InDigits}
 use Rattle.asn_rules.specs.Forks.{Same}
 use Rattle.asn_rules.specs.Spellings.{SpelledBy}
 use Rattle.asn_rules.specs.Fields.{OneOctet, LongLength, FirstOctet, BehindFirst, length_told, OctetLength, OctetsBehind}

@@ -8,7 +8,7 @@ use Rattle.asn_bits.specs.Lengths.{joined}
 use Rattle.asn_rules.specs.Chunks.{Chunk, ones}
 use Rattle.asn_rules.specs.Live.{Fielding}
 use Rattle.asn_rules.specs.Languages.{Spells, Short, Row}
-use Rattle.asn_rules.specs.Sets.{AreBits, AreDigits, weighted, IsBits}
+use Rattle.asn_bits.specs.Sets.{AreBits, AreDigits, weighted, IsBits}
 use Rattle.asn_rules.specs.Forks.{Same}
 use Rattle.asn_rules.specs.Fields.{Octet, OneOctet}
 use Rattle.asn_rules.specs.Spellings.{SpelledBy}

@@ -6,8 +6,8 @@ use Rattle.asn_rules.specs.Chunks.{Chunk}
 use Rattle.asn_rules.specs.Forks.{Branch, Fork, Same}
 use Rattle.asn_rules.specs.General.{Length, last, fragment, Few, Many, Left, Blocks, Header, Body, Within, General}
 use Rattle.asn_rules.specs.Languages.{Plain}
-use Rattle.asn_rules.specs.Ranges.{AtMost, SomeIn, Spanned, Meet, Reaches, At}
-use Rattle.asn_rules.specs.Sets.{InSet, Meets}
+use Rattle.asn_bits.specs.Ranges.{AtMost, SomeIn, Spanned, Meet, Reaches, At}
+use Rattle.asn_bits.specs.Sets.{InSet, Meets}
 
 -- The intervals decide each range.
 span_in : (low : ℕ) (high : Option ℕ) (a : ℕ) (b : Option ℕ) → Meet low high a b → (n : ℕ) × (low ≤ n) × AtMost n high × (a ≤ n) × AtMost n b

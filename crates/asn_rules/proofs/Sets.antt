@@ -11,7 +11,7 @@ use Rattle.asn_rules.specs.Chunks.{ones}
 use Rattle.asn_rules.specs.Languages.{Spells, Short, Refused, Lawful, Inhabited, Plain}
 use Rattle.asn_rules.specs.Live.{Fielding}
 use Rattle.asn_rules.specs.Parted.{Parted}
-use Rattle.asn_rules.specs.Sets.{AreDigits, weighted, IsDigits, InDigits, MeetsIn, Between, Among, AreOrdered, Touches}
+use Rattle.asn_bits.specs.Sets.{AreDigits, weighted, IsDigits, InDigits, MeetsIn, Between, Among, AreOrdered, Touches}
 
 -- two numbers of a set are one, or their digits part
 pub set_code : (base k : ℕ) (S : ℕ → Type 0) → Code (InDigits base k S)

@@ -7,7 +7,7 @@ use Rattle.asn_rules.specs.Chunks.{Kind, Chunk, one, sealed, ones, flat}
 use Rattle.asn_rules.specs.Parted.{Parted}
 use Rattle.asn_rules.specs.Live.{Fielding}
 use Rattle.asn_rules.specs.Languages.{Spells, Short, Lawful, Inhabited, Then, Map, Nothing, Row, Plain, Sealed}
-use Rattle.asn_rules.specs.Sets.{InDigits, InSet}
+use Rattle.asn_bits.specs.Sets.{InDigits, InSet}
 use Rattle.asn_rules.specs.Forks.{Branch, Fork, Same}
 use Rattle.asn_rules.specs.Padding.{Padded}
 use Rattle.asn_rules.specs.Spellings.{SpelledBy, FitsEither, either_code}

@@ -4,7 +4,7 @@ use Rattle.std.specs.Prelude.{◌≡◌, ◌-◌, ◌*◌, ◌^◌, ◌<◌, ℕ
 use Rattle.asn_bits.specs.Numbers.{octet_count, signed_octet_count}
 use Rattle.asn_rules.specs.Chunks.{Chunk}
 use Rattle.asn_rules.specs.Languages.{Then, Plain}
-use Rattle.asn_rules.specs.Sets.{InDigits}
+use Rattle.asn_bits.specs.Sets.{InDigits}
 
 -- some number has so many octets, of which T says which numbers they may hold
 pub record SomeOf (T : ℕ → ℕ → Type 0) (k : ℕ) : Type 0 where

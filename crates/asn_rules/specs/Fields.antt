@@ -4,7 +4,7 @@ use Rattle.std.specs.Prelude.{◌≡◌, ◌-◌, ◌<◌, ◌≤◌, ◌⊎◌,
 use Rattle.asn_bits.specs.Numbers.{octet_count}
 use Rattle.asn_rules.specs.Chunks.{Chunk}
 use Rattle.asn_rules.specs.Languages.{Then, Map, Nothing, Row, Plain}
-use Rattle.asn_rules.specs.Sets.{InDigits, InSet}
+use Rattle.asn_bits.specs.Sets.{InDigits, InSet}
 
 -- an octet, in eight bits
 abbrev pub Octet : ℕ → List Chunk → Type 0

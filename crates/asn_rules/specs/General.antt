@@ -3,7 +3,7 @@ use Rattle.std.specs.Prelude.{◌+◌, ◌*◌, ◌<◌, ◌≤◌, ◌⊎◌, �
 use mathlib.Core.Logic.{inl, inr}
 use Rattle.asn_rules.specs.Chunks.{Chunk}
 use Rattle.asn_rules.specs.Languages.{Then, Map, Row, Plain}
-use Rattle.asn_rules.specs.Sets.{InSet}
+use Rattle.asn_bits.specs.Sets.{InSet}
 use Rattle.asn_rules.specs.Forks.{Fork}
 
 -- what one length says: the items that follow are the last, or a fragment of so many blocks of 16384 items

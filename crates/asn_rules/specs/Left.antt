@@ -2,7 +2,7 @@
 use Rattle.std.specs.Prelude.{◌+◌, ◌*◌, ◌^◌, ℕ, List}
 use Rattle.asn_rules.specs.Chunks.{Chunk}
 use Rattle.asn_rules.specs.Languages.{Map, Plain}
-use Rattle.asn_rules.specs.Sets.{InDigits}
+use Rattle.asn_bits.specs.Sets.{InDigits}
 
 -- the number that begins with the digits of p and ends with r more, which hold m
 abbrev pub ending : ℕ → ℕ → ℕ → ℕ → ℕ

@@ -1,6 +1,10 @@
 -- What the types, values and faults of the program stand for.
 use Rattle.std.specs.Prelude.{◌≡◌, true, false, ⊤, List, [], ◌∷◌, ℕ, string_bytes, Some}
 use Rattle.asn_values.specs.declared.types.Bounds.{Bounds}
+use Rattle.asn_values.specs.declared.types.Size.{Size}
+use Rattle.asn_values.specs.declared.types.TextKind.{TextKind}
+use Rattle.asn_values.specs.declared.types.TextKind.TheVariants as text_kind
+use Rattle.asn_values.specs.declared.types.Item.{Item}
 use Rattle.asn_values.specs.declared.types.Need.{Need}
 use Rattle.asn_values.specs.declared.types.Need.TheVariants as need
 use Rattle.asn_values.specs.declared.types.AsnType.{AsnType}
@@ -12,7 +16,7 @@ use Rattle.asn_values.specs.declared.value.Value.TheOpen.{Value-F}
 use Rattle.asn_values.specs.declared.fault.TypeFault.{TypeFault}
 use Rattle.asn_values.specs.declared.fault.TypeFault.TheVariants as fault
 use Rattle.asn_values.specs.Datum.{Datum, truth, number, components, components_of}
-use Rattle.asn_values.specs.Shape.{Range, Shape, boolean, integer, sequence, Demand, must, optional, default, Fields, no_fields, field, closed}
+use Rattle.asn_values.specs.Shape.{Range, SizeRange, Alphabet, ia5, numeric, visible, Label, Shape, boolean, integer, sequence, Demand, must, optional, default, Fields, no_fields, field, closed}
 use Rattle.asn_values.specs.Profile.{EmptyRange, DuplicateName, BadDefault, TooMany, TooDeep, has}
 
 -- ---- values
@@ -30,6 +34,17 @@ datum_of = fold-Value Datum datum_step
 
 abbrev pub range_of : Bounds → Range
 range_of b = record { low = Some b.low; high = b.high; extensible = false }
+
+abbrev pub size_range_of : Size → SizeRange
+size_range_of s = record { low = s.low; high = s.high; extensible = s.ext }
+
+abbrev pub alphabet_of : TextKind → Alphabet
+alphabet_of text_kind.Ia5 = ia5
+alphabet_of text_kind.Numeric = numeric
+alphabet_of text_kind.Visible = visible
+
+abbrev pub label_of : Item → Label
+label_of i = record { name = string_bytes i.name; number = i.number }
 
 abbrev pub demand_of : Need → Demand
 demand_of need.Must = must

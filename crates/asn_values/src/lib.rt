@@ -18,7 +18,7 @@ pub use equality::same;
 pub use fault::TypeFault;
 pub use fitting::fits;
 pub use laws::defaults_are_judged;
-pub use types::{AsnType, Bounds, Field, Need};
+pub use types::{AsnType, Bounds, Field, Item, Need, Size, TextKind};
 pub use value::Value;
 
 #[cfg(test)]

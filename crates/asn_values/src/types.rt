@@ -8,6 +8,34 @@ pub struct Bounds {
     pub high: Option<i128>,
 }
 
+/// The bounds of a length (X.680, "size constraint"), in items, both counted in.
+#[derive(Clone, Copy, Debug)]
+pub struct Size {
+    pub low: u32,
+    /// `None` where there is no upper bound.
+    pub high: Option<u32>,
+    /// Whether the extension mark follows: then other lengths are values too.
+    pub ext: bool,
+}
+
+/// The characters of a string (X.680, "restricted character string types").
+#[derive(Clone, Copy, Debug, PartialEq, Eq)]
+pub enum TextKind {
+    /// IA5String: the codes 0 to 127
+    Ia5,
+    /// NumericString: SPACE and the digits
+    Numeric,
+    /// VisibleString: the codes 32 to 126
+    Visible,
+}
+
+/// An item of an ENUMERATED, with its number.
+#[derive(Debug, Drop)]
+pub struct Item {
+    pub name: String,
+    pub number: i64,
+}
+
 /// Whether a component of a SEQUENCE has to be there (X.680, "sequence types").
 #[derive(Debug, Drop)]
 pub enum Need {

@@ -1,7 +1,7 @@
 use Rattle.std.proofs.Common.{◌≤◌, ◌*◌, ℕ, None, sym, subst}
 use Rattle.std.proofs.lemmas.Result.{err_from_is_err_and, IfOk-weaker}
 use Rattle.asn_rules.specs.Languages.{Plain, Spells}
-use Rattle.asn_rules.specs.Sets.{InSet, Meets}
+use Rattle.asn_bits.specs.Sets.{InSet, Meets}
 use Rattle.asn_rules.specs.Stops.{Stops}
 use Rattle.asn_rules.proofs.Leads.{stops_by}
 use Rattle.asn_per.specs.Per.{per_fields}

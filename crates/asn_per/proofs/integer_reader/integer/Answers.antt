@@ -11,7 +11,7 @@ use Rattle.asn_bits.specs.Numbers.{above, width}
 use Rattle.asn_rules.specs.Counted.{Counted, number_of, Least}
 use Rattle.asn_rules.specs.Languages.{Spells, Plain, Map, Inhabited}
 use Rattle.asn_rules.specs.Listed.{Spelt}
-use Rattle.asn_rules.specs.Sets.{InSet}
+use Rattle.asn_bits.specs.Sets.{InSet}
 use Rattle.asn_rules.specs.Stops.{Stops}
 use Rattle.asn_rules.proofs.Leads.{stops_by}
 use Rattle.asn_per.specs.Per.{per, per_fields}

@@ -1,5 +1,5 @@
 use Rattle.std.proofs.Common.{◌≡◌, ◌<◌, ◌+◌, ◌-◌, ◌*◌, true, refl, sym, subst, arith}
-use Rattle.asn_rules.specs.Sets.{Meets}
+use Rattle.asn_bits.specs.Sets.{Meets}
 use Rattle.asn_rules.proofs.Sets.{taking_more, taking_stops, taking_waits, taking_done}
 use Rattle.asn_per.specs.Per.{per_fields}
 use Rattle.asn_per.specs.Reading.{Admits}

@@ -5,6 +5,7 @@ pub mod cursor;
 pub mod lengths;
 pub mod numbers;
 pub mod offsets;
+mod shifts;
 pub mod sink;
 
 pub use cursor::BitCursor;

@@ -243,6 +243,7 @@ fn reads_as_by_trial(rt: &impl Abort, alloc: Global, k: u32, numbers: &Intervals
         let mut sink = BitSink::new(alloc);
         put(&mut sink, k, n)?;
         fill_octets(&mut sink)?;
+        assert!(rt; sink.ends_at_octet());
         let octets = sink.into_octets();
         let mut cursor = BitCursor::over(octets.as_slice());
         let taken = take_of(numbers, k, &mut cursor);

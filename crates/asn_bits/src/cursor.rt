@@ -1,6 +1,7 @@
 //! The bits of octets that are left to read.
 ghost use Rattle.std.specs.Prelude.{◌≡◌, ℕ, ◌+◌, ◌-◌, ◌*◌, ◌%◌, ◌/◌, ◌^◌, ◌<◌, ◌≤◌, ◌↔◌, List, [], ◌∷◌, ◌++◌, length, drop, IsTrue, IsNone, IfSome};
 ghost use Rattle.asn_bits.specs.Numbers.{bits, octets, unpacked};
+ghost use Rattle.asn_bits.specs.Sets.{AreBits};
 
 use std::marker::Model;
 
@@ -46,7 +47,8 @@ impl<'a> BitCursor<'a> {
 
     /// How many octets are left of which no bit is read.
     pub fn octets_left(&self) -> usize
-        ensures { result ≡ length self.now / 8 }
+        ensures count { result ≡ length self.now / 8 }
+        ensures bits { AreBits self.now }
     {
         if self.offset == 0 {
             self.octets.len()

@@ -9,6 +9,7 @@ pub mod numbers;
 pub mod offsets;
 mod shifts;
 pub mod sink;
+mod words;
 
 pub use cursor::BitCursor;
 pub use intervals::Intervals;

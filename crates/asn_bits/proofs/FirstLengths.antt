@@ -1,5 +1,5 @@
 -- The first length of a list: which counts have one that begins with given bits.
-use Rattle.std.proofs.Common.{◌≡◌, ◌↔◌, ◌+◌, ◌-◌, ◌*◌, ◌/◌, ◌^◌, ◌<◌, ◌≤◌, ◌⊎◌, inl, inr, ⊎_elim, ℕ, Bool, true, false, nat_lt, max, List, [], ◌∷◌, ◌++◌, refl, sym, ap, ◌∙◌, subst, append_assoc, arith}
+use Rattle.std.proofs.Common.{◌≡◌, ◌↔◌, ◌+◌, ◌-◌, ◌*◌, ◌/◌, ◌%◌, ◌^◌, ◌<◌, ◌≤◌, ◌⊎◌, inl, inr, ⊎_elim, ℕ, Bool, true, false, nat_lt, max, List, [], ◌∷◌, ◌++◌, refl, sym, ap, ◌∙◌, subst, append_assoc, arith}
 use Rattle.std.specs.Bool.{⊤}
 use Rattle.std.proofs.lemmas.Bool.{lt-ltb, le-ltb, cases_lt}
 use Rattle.std.proofs.lemmas.Nat.{pow-add, pow_pos}
@@ -7,14 +7,16 @@ use Rattle.std.proofs.Math.Nat.{div-lt_iff_lt-mul, le-div_iff_mul-le, mul-le-mul
 use Rattle.std.proofs.lemmas.List.{append-nil}
 use Rattle.asn_bits.specs.Numbers.{bits}
 use Rattle.asn_bits.specs.Lengths.{Length, last_length, fragment, blocks}
+use mir.Val.{bool_byte}
+use Rattle.asn_bits.specs.Sink.{bit_of}
 use Rattle.asn_bits.specs.LengthBits.{first_length, StartsLength}
-use Rattle.asn_bits.specs.LengthPlaces.{form_width, place_bits, IsPlace}
+use Rattle.asn_bits.specs.LengthPlaces.{form_bits, form_width, place_bits, IsPlace}
 use Rattle.asn_bits.specs.declared.general_length.Form.{Form}
 use Rattle.asn_bits.specs.declared.general_length.Form.TheVariants as form
 use Rattle.asn_bits.specs.declared.general_length.Place.{Place}
 use Rattle.asn_bits.specs.declared.general_length.Place.TheVariants as place
 use Rattle.asn_bits.proofs.Digits.{digits_code}
-use Rattle.asn_bits.proofs.Splits.{digits-add}
+use Rattle.asn_bits.proofs.Splits.{digits-add, digits-join, digits_above}
 
 -- ---- numbers that begin with given bits
 
@@ -186,3 +188,43 @@ exact_left Q C S f g n = (
   λ a. (let b = (g n).0 a in ((f n).0 b.0, b.1)),
   λ a. (g n).1 ((f n).1 a.0, a.1),
 )
+
+-- ---- the next bits
+
+-- a number with one bit more
+bits_more : (k p b : ℕ) → b < 2 → bits (k + 1) (2 * p + b) ≡ bits k p ++ b ∷ []
+bits_more k p b h =
+    let two : 0 < 2 = omega arith in
+    let e : p * 2 ^ 1 + b ≡ 2 * p + b = omega arith in
+    let d : b / 2 ^ 0 % 2 ≡ b = omega arith in
+    sym (digits-join 2 two k 1 p b (omega arith) ∙ ap (bits (k + 1)) e) ∙ ap (λ x. bits k p ++ x ∷ []) d
+
+-- a place with a number, and one bit more
+pub place_more : (x : Place) (f : Form) (p l b : ℕ) → x ≡ place.Number f p l → IsPlace x → 0 < l → b < 2 → IsPlace (place.Number f (2 * p + b) (l - 1)) × (place_bits (place.Number f (2 * p + b) (l - 1)) ≡ place_bits x ++ b ∷ [])
+place_more x f p l b e h s t =
+    let i : IsPlace (place.Number f p l) = subst (λ (z : Place). IsPlace z) e h in
+    let k = form_width f - l in
+    let w : form_width f - (l - 1) ≡ k + 1 = omega (arith, i.0) in
+    let v : 2 ^ (k + 1) ≡ 2 ^ k * 2 = pow-add 2 k 1 in (
+      (omega (arith, i.0), subst (λ (j : ℕ). 2 * p + b < 2 ^ j) (sym w) (omega (arith, v, i.1))),
+      ap (λ j. form_bits f ++ bits j (2 * p + b)) w ∙ ap (λ bs. form_bits f ++ bs) (bits_more k p b t)
+          ∙ sym (append_assoc (form_bits f) (bits k p) (b ∷ [])) ∙ ap (λ z. place_bits z ++ b ∷ []) (sym e),
+    )
+
+-- 10 and 14 bits, as two octets
+pub many_octets : (a b : ℕ) {us mid rest : List ℕ} → 128 ≤ a → a < 192 → b < 256 → us ≡ bits 8 a ++ mid → mid ≡ bits 8 b ++ rest → us ≡ 1 ∷ 0 ∷ (bits 14 ((a - 128) * 256 + b) ++ rest)
+many_octets a b {us} {mid} {rest} l h w e f =
+    let n = (a - 128) * 256 + b in
+    let two : 0 < 2 = omega arith in
+    let whole : a * 2 ^ 8 + b ≡ 2 * 2 ^ 14 + n = omega arith in
+    let both : bits 8 a ++ bits 8 b ≡ bits 16 (2 * 2 ^ 14 + n) = digits-join 2 two 8 8 a b w ∙ ap (bits 16) whole in
+    let one : (2 * 2 ^ 14 + n) / 2 ^ 15 % 2 ≡ 1 = omega arith in
+    let zero : (2 * 2 ^ 14 + n) / 2 ^ 14 % 2 ≡ 0 = omega arith in
+    let low : bits 14 (2 * 2 ^ 14 + n) ≡ bits 14 n = digits_above 2 two 14 2 n in
+    let all : bits 16 (2 * 2 ^ 14 + n) ≡ 1 ∷ 0 ∷ bits 14 n = ap (λ x. x ∷ bits 15 (2 * 2 ^ 14 + n)) one ∙ ap (λ x. 1 ∷ x ∷ bits 14 (2 * 2 ^ 14 + n)) zero ∙ ap (λ x. 1 ∷ 0 ∷ x) low in
+    e ∙ ap (λ m. bits 8 a ++ m) f ∙ sym (append_assoc (bits 8 a) (bits 8 b) rest) ∙ ap (λ x. x ++ rest) (both ∙ all)
+
+-- a truth value as a bit
+pub bit_byte : (b : Bool) {n : ℕ} → n ≡ bool_byte b → (n < 2) × (n ≡ bit_of b)
+bit_byte true e = (omega arith, e)
+bit_byte false e = (omega arith, e)

@@ -54,3 +54,7 @@ starts_reached is come low high end closed bs f g = (
 -- an end, behind those that have come
 pub end_behind : (come high n : ℕ) → AtMost n (Some high) ↔ AtMost (come + n) (Some (come + high))
 end_behind come high n = (λ a. omega (arith, a), λ a. omega (arith, a))
+
+-- a range whose end is known
+pub range_end : (low : ℕ) (high end : Option ℕ) (S : ℕ → Type 0) → high ≡ end → ((n : ℕ) → ((low ≤ n) × AtMost n high) ↔ S n) → (n : ℕ) → ((low ≤ n) × AtMost n end) ↔ S n
+range_end low high end S e f = subst (λ (h : Option ℕ). (n : ℕ) → ((low ≤ n) × AtMost n h) ↔ S n) e f

@@ -1,5 +1,5 @@
 -- The first length of a list: which counts have one that begins with given bits.
-use Rattle.std.proofs.Common.{◌≡◌, ◌↔◌, ◌+◌, ◌-◌, ◌*◌, ◌/◌, ◌%◌, ◌^◌, ◌<◌, ◌≤◌, ◌⊎◌, inl, inr, ⊎_elim, ℕ, Bool, true, false, nat_lt, max, List, [], ◌∷◌, ◌++◌, refl, sym, ap, ◌∙◌, subst, append_assoc, arith}
+use Rattle.std.proofs.Common.{◌≡◌, ◌↔◌, ◌+◌, ◌-◌, ◌*◌, ◌/◌, ◌%◌, ◌^◌, ◌<◌, ◌≤◌, ◌⊎◌, inl, inr, ⊎_elim, ℕ, Bool, true, false, nat_lt, max, List, [], ◌∷◌, ◌++◌, length, refl, sym, ap, ◌∙◌, subst, append_assoc, arith}
 use Rattle.std.specs.Bool.{⊤}
 use Rattle.std.proofs.lemmas.Bool.{lt-ltb, le-ltb, cases_lt}
 use Rattle.std.proofs.lemmas.Nat.{pow-add, pow_pos}
@@ -10,12 +10,13 @@ use Rattle.asn_bits.specs.Lengths.{Length, last_length, fragment, blocks}
 use mir.Val.{bool_byte}
 use Rattle.asn_bits.specs.Sink.{bit_of}
 use Rattle.asn_bits.specs.LengthBits.{first_length, StartsLength}
-use Rattle.asn_bits.specs.LengthPlaces.{form_bits, form_width, place_bits, IsPlace}
+use Rattle.asn_bits.specs.LengthPlaces.{form_bits, form_width, form_items, place_bits, IsPlace}
 use Rattle.asn_bits.specs.declared.general_length.Form.{Form}
 use Rattle.asn_bits.specs.declared.general_length.Form.TheVariants as form
 use Rattle.asn_bits.specs.declared.general_length.Place.{Place}
 use Rattle.asn_bits.specs.declared.general_length.Place.TheVariants as place
 use Rattle.asn_bits.proofs.Digits.{digits_code}
+use Rattle.asn_bits.proofs.Octets.{length-digits}
 use Rattle.asn_bits.proofs.Splits.{digits-add, digits-join, digits_above}
 
 -- ---- numbers that begin with given bits
@@ -228,3 +229,25 @@ many_octets a b {us} {mid} {rest} l h w e f =
 pub bit_byte : (b : Bool) {n : ℕ} → n ≡ bool_byte b → (n < 2) × (n ≡ bit_of b)
 bit_byte true e = (omega arith, e)
 bit_byte false e = (omega arith, e)
+
+-- ---- how many bits there are
+
+-- no length has fewer than 8 bits
+pub first_some : (n : ℕ) → 8 ≤ length (first_length n).bits
+first_some n =
+    elim (form_cases n) [
+      | inl a ↦ rw (first_few n a) (omega (arith, length-digits 2 7 n))
+      | inr b ↦ elim b [ inl c ↦ rw (first_many n c.0 c.1) (omega (arith, length-digits 2 14 n)) | inr c ↦ rw (first_fragment n c) (omega (arith, length-digits 2 6 (blocks n))) ]
+    ]
+
+-- what is left of a length that began so
+pub number_left : (n : ℕ) (f : Form) (p l : ℕ) → IsPlace (place.Number f p l) → Stands n (place.Number f p l) → length (first_length n).bits ≡ length (place_bits (place.Number f p l)) + l
+number_left n form.Few p l h s = rw (first_few n s.0) (omega (arith, h.0, length-digits 2 7 n, length-digits 2 (7 - l) p))
+number_left n form.Many p l h s = rw (first_many n s.0 s.1) (omega (arith, h.0, length-digits 2 14 n, length-digits 2 (14 - l) p))
+number_left n form.Fragment p l h s = rw (first_fragment n s.0) (omega (arith, h.0, length-digits 2 6 (blocks n), length-digits 2 (6 - l) p))
+
+-- the items of a whole length
+pub whole_items : (n : ℕ) (f : Form) (p : ℕ) → Stands n (place.Number f p 0) → (first_length n).items ≡ form_items f p
+whole_items n form.Few p s = rw (first_few n s.0) (omega (arith, s.1))
+whole_items n form.Many p s = rw (first_many n s.0 s.1) (omega (arith, s.2))
+whole_items n form.Fragment p s = rw (first_fragment n s.0) (omega (arith, s.1))

@@ -25,6 +25,12 @@ form_width form.Few = 7
 form_width form.Many = 14
 form_width form.Fragment = 6
 
+-- how many items follow it
+abbrev pub form_items : Form → ℕ → ℕ
+form_items form.Few n = n
+form_items form.Many n = n
+form_items form.Fragment m = 16384 * m
+
 -- the bits given of the length
 abbrev pub place_bits : Place → List ℕ
 place_bits place.Start = []

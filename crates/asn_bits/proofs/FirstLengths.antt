@@ -6,7 +6,7 @@ use Rattle.std.proofs.lemmas.Nat.{pow-add, pow_pos}
 use Rattle.std.proofs.Math.Nat.{div-lt_iff_lt-mul, le-div_iff_mul-le, mul-le-mul_right}
 use Rattle.std.proofs.lemmas.List.{append-nil}
 use Rattle.asn_bits.specs.Numbers.{bits}
-use Rattle.asn_bits.specs.Lengths.{Length, last_length, fragment, blocks}
+use Rattle.asn_bits.specs.Lengths.{last_length, fragment, blocks}
 use mir.Val.{bool_byte}
 use Rattle.asn_bits.specs.Sink.{bit_of}
 use Rattle.asn_bits.specs.LengthBits.{first_length, StartsLength}

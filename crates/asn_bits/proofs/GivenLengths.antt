@@ -1,13 +1,12 @@
 -- What the bits given of the lengths of a list tell: whether some count of the set goes on so, and which length ends.
-use Rattle.std.proofs.Common.{◌≡◌, ◌≢◌, ◌+◌, ◌-◌, ◌*◌, ◌/◌, ◌%◌, ◌^◌, ◌<◌, ◌≤◌, ◌==◌, inl, inr, ⊎_elim, ℕ, zero, suc, Bool, true, false, not, nat_lt, Option, Some, None, List, [], ◌∷◌, ◌++◌, length, length-append, refl, sym, ap, ◌∙◌, subst, append_assoc, arith}
+use Rattle.std.proofs.Common.{◌≡◌, ◌≢◌, ◌+◌, ◌-◌, ◌*◌, ◌%◌, ◌<◌, ◌≤◌, ◌==◌, inl, inr, ⊎_elim, ℕ, Bool, true, false, not, Option, List, [], ◌∷◌, ◌++◌, length, length-append, refl, sym, ap, ◌∙◌, subst, append_assoc, arith}
 use Rattle.std.proofs.lemmas.Bool.{cases_lt, true≢false}
 use Rattle.std.proofs.lemmas.Bool.Decides.{eqb_tells}
 use Rattle.std.proofs.lemmas.List.{append-nil}
-use Rattle.asn_bits.specs.Numbers.{bits}
-use Rattle.asn_bits.specs.Lengths.{Length, fragment, blocks, lengths}
-use Rattle.asn_bits.specs.Ranges.{Spanned, At}
-use Rattle.asn_bits.specs.LengthBits.{length_bits, BeginsLengths, EndsLength, fragments, is_closed, CountsLeft, BegunLengths, given, Last, Fragment, Goes, first_length, StartsLength, StartsSome}
-use Rattle.asn_bits.specs.LengthPlaces.{form_width, form_items, place_bits, IsPlace, IsWhole, Behind, IsReading}
+use Rattle.asn_bits.specs.Lengths.{Length, blocks, lengths}
+use Rattle.asn_bits.specs.Ranges.{Spanned}
+use Rattle.asn_bits.specs.LengthBits.{length_bits, BeginsLengths, EndsLength, fragments, is_closed, CountsLeft, BegunLengths, given, Goes, first_length, StartsSome}
+use Rattle.asn_bits.specs.LengthPlaces.{form_items, place_bits, IsPlace, IsWhole, Behind, IsReading}
 use Rattle.asn_bits.specs.declared.field_state.FieldState.TheVariants as state
 use Rattle.asn_bits.specs.declared.general_length.Form.{Form}
 use Rattle.asn_bits.specs.declared.general_length.Form.TheVariants as form
@@ -239,6 +238,47 @@ more_not is j (place.Number f p l) k r s e =
     ⊎_elim
     (λ a. absurd (not_ended is j (place.Number f p l) k r.fits (λ q. cc) (λ q. omega (arith, a, q)) e))
     (λ a.
-        let w = ends_here is j (place.Number f p l) k r.fits (λ q. cc) e in
-        w.last (last_few f p l w.count (omega arith) r.moved w.stands))
+    let w = ends_here is j (place.Number f p l) k r.fits (λ q. cc) e in
+    w.last (last_few f p l w.count (omega arith) r.moved w.stands))
     (cases_lt 0 l)
+
+-- ---- the reader of the lengths
+
+-- no length yet
+pub starts_reading : (is : List (ℕ × Option ℕ)) (n : ℕ) → Spanned is n → IsReading is 0 place.Start
+starts_reading is n m =
+    let e : n ≡ 16384 * 0 + n = omega arith in
+    record { fits = tt; live = record { count = n; member = record { member = subst (λ (x : ℕ). Spanned is x) e m; largest = λ d. absurd (true≢false (sym d)) }; starts = record { more = (first_length n).bits; split = refl } }; moved = λ k e. cc }
+
+-- the number of a length is small
+pub number_small : (f : Form) (p : ℕ) → IsPlace (place.Number f p 0) → p < 16384
+number_small form.Few p h = omega (arith, h.1)
+number_small form.Many p h = omega (arith, h.1)
+number_small form.Fragment p h = omega (arith, h.1)
+
+-- a length that is not whole waits for its bits
+pub part_reading : (is : List (ℕ × Option ℕ)) (j : ℕ) (y : Place) → IsPlace y → StartsSome (CountsLeft is j) (place_bits y) → (IsWhole y → ⊥) → IsReading is j y
+part_reading is j y h s part = record { fits = h; live = s; moved = λ n e. part (subst (λ (z : Place). IsWhole z) (sym e) refl) }
+
+-- it does not end, behind a bit
+pub part_open : (is : List (ℕ × Option ℕ)) (j : ℕ) (x : List ℕ) (b : ℕ) (y : Place) (k : ℕ) → IsPlace y → place_bits y ≡ x ++ b ∷ [] → (IsWhole y → ⊥) → EndsLength (Spanned is) ((length_bits (fragments j) ++ x) ++ b ∷ []) k → ⊥
+part_open is j x b y k h e part g = not_ended is j y k h (λ q. not_start x b (sym (ap place_bits q) ∙ e)) part (subst (λ (z : List ℕ). EndsLength (Spanned is) z k) (given_more j x (b ∷ []) (place_bits y) e) g)
+  where
+    not_start : (x : List ℕ) (b : ℕ) → [] ≡ x ++ b ∷ [] → ⊥
+    not_start [] b e = cc
+    not_start (a ∷ x) b e = cc
+
+-- a length that ends behind bits more
+pub whole_ends : (is : List (ℕ × Option ℕ)) (j : ℕ) (f : Form) (p : ℕ) (x : ℕ × ℕ × Place) (old bs : List ℕ) → IsPlace (place.Number f p 0) → StartsSome (CountsLeft is j) (place_bits (place.Number f p 0)) → Behind j f p x → place_bits (place.Number f p 0) ≡ old ++ bs
+    → EndsLength (Spanned is) ((length_bits (fragments j) ++ old) ++ bs) x.0
+whole_ends is j f p x old bs h s b e =
+    subst (λ (g : List ℕ). EndsLength (Spanned is) g x.0) (sym (given_more j old bs (place_bits (place.Number f p 0)) e))
+    (subst (λ (k : ℕ). EndsLength (Spanned is) (length_bits (fragments j) ++ place_bits (place.Number f p 0)) k) (behind_items j f p x b) (ended is j f p h s))
+
+-- no bit is given of the length only where none has begun
+pub start_bits : (p : Place) → place_bits p ≡ [] → p ≡ place.Start
+start_bits place.Start e = refl
+start_bits place.One e = cc
+start_bits (place.Number form.Few p l) e = cc
+start_bits (place.Number form.Many p l) e = cc
+start_bits (place.Number form.Fragment p l) e = cc

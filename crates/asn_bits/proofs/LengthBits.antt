@@ -1,12 +1,11 @@
 -- The lengths of a list one behind the other: what stands behind the fragments so far are the lengths of the items
 -- left, and bits that end a length are the whole of it.
-use Rattle.std.proofs.Common.{◌≡◌, ◌≢◌, ◌↔◌, ◌+◌, ◌-◌, ◌*◌, ◌/◌, ◌%◌, ◌<◌, ◌≤◌, ◌==◌, ◌⊎◌, inl, inr, ⊎_elim, ℕ, zero, suc, Bool, true, false, not, nat_lt, List, [], ◌∷◌, ◌++◌, length, length-append, replicate, refl, sym, ap, ◌∙◌, subst, append_assoc, arith}
-use Rattle.std.proofs.lemmas.Bool.{ltb-true, ltb-false, lt-ltb, le-ltb, cases_lt, ne_eqb, true≢false}
+use Rattle.std.proofs.Common.{◌≡◌, ◌+◌, ◌-◌, ◌*◌, ◌/◌, ◌%◌, ◌<◌, ◌≤◌, ◌==◌, inl, inr, ⊎_elim, ℕ, zero, suc, true, false, not, nat_lt, List, [], ◌∷◌, ◌++◌, length, length-append, replicate, refl, sym, ap, ◌∙◌, subst, append_assoc, arith}
+use Rattle.std.proofs.lemmas.Bool.{lt-ltb, le-ltb, cases_lt, ne_eqb, true≢false}
 use Rattle.std.proofs.lemmas.Bool.Decides.{eqb_tells}
 use Rattle.std.proofs.lemmas.List.{append-nil, append_cancel_left, replicate-append-replicate}
 use Rattle.asn_bits.specs.Numbers.{bits}
 use Rattle.asn_bits.specs.Lengths.{Length, last_length, fragment, blocks, lengths_within, lengths}
-use Rattle.asn_bits.specs.Ranges.{At}
 use Rattle.asn_bits.specs.LengthBits.{length_bits, fragments, is_closed, first_length}
 use Rattle.asn_bits.proofs.Digits.{digits_code}
 use Rattle.asn_bits.proofs.GeneralLengths.{last_cases, last_not_fragment}
@@ -111,10 +110,10 @@ front_fragment c m t w e =
     ⊎_elim
     (λ a. absurd (last_not_fragment c [] (bits 6 m ++ t) (sym (ap length_bits (lengths_last c a)) ∙ e)))
     (λ a.
-        let f : 1 ∷ 1 ∷ (bits 6 (blocks c) ++ length_bits (lengths (c - 16384 * blocks c))) ≡ 1 ∷ 1 ∷ (bits 6 m ++ t) = sym (ap length_bits (lengths_fragment c a)) ∙ e in
-        let two : 0 < 2 = omega arith in
-        let g = digits_code 2 two 6 (blocks c) m (length_bits (lengths (c - 16384 * blocks c))) t (omega arith) w (cc) in
-        (a, g.0, ap (λ b. length_bits (lengths (c - 16384 * b))) (sym g.0) ∙ g.1))
+    let f : 1 ∷ 1 ∷ (bits 6 (blocks c) ++ length_bits (lengths (c - 16384 * blocks c))) ≡ 1 ∷ 1 ∷ (bits 6 m ++ t) = sym (ap length_bits (lengths_fragment c a)) ∙ e in
+    let two : 0 < 2 = omega arith in
+    let g = digits_code 2 two 6 (blocks c) m (length_bits (lengths (c - 16384 * blocks c))) t (omega arith) w (cc) in
+    (a, g.0, ap (λ b. length_bits (lengths (c - 16384 * b))) (sym g.0) ∙ g.1))
     (cases_lt c 16384)
 
 -- with those of so many fragments of 4 blocks
@@ -152,19 +151,19 @@ fragments_more j m c l h =
           ap length_bits (fragments_are j ∙ ap (λ p. replicate (j / 4) (fragment 4) ++ p) (part_none (j % 4) z.0) ∙ append-nil (replicate (j / 4) (fragment 4))) in
           ⊎_elim
           (λ a.
-              let q : (j + m) / 4 ≡ j / 4 = omega (arith, z.1) in
-              let r : (j + m) % 4 ≡ m = omega (arith, z.1) in
-              let new : fragments (j + m) ≡ replicate (j / 4) (fragment 4) ++ fragment m ∷ [] =
-              fragments_are (j + m) ∙ ap (λ k. replicate k (fragment 4) ++ part ((j + m) % 4)) q ∙ ap (λ b. replicate (j / 4) (fragment 4) ++ part b) r ∙ ap (λ p. replicate (j / 4) (fragment 4) ++ p) (part_some m (ne_eqb m 0 (λ e. omega arith))) in
-              ap length_bits new ∙ one_more (replicate (j / 4) (fragment 4)) m ∙ ap (λ t. t ++ (fragment m).bits) (sym old))
+          let q : (j + m) / 4 ≡ j / 4 = omega (arith, z.1) in
+          let r : (j + m) % 4 ≡ m = omega (arith, z.1) in
+          let new : fragments (j + m) ≡ replicate (j / 4) (fragment 4) ++ fragment m ∷ [] =
+          fragments_are (j + m) ∙ ap (λ k. replicate k (fragment 4) ++ part ((j + m) % 4)) q ∙ ap (λ b. replicate (j / 4) (fragment 4) ++ part b) r ∙ ap (λ p. replicate (j / 4) (fragment 4) ++ p) (part_some m (ne_eqb m 0 (λ e. omega arith))) in
+          ap length_bits new ∙ one_more (replicate (j / 4) (fragment 4)) m ∙ ap (λ t. t ++ (fragment m).bits) (sym old))
           (λ a.
-              let q : (j + m) / 4 ≡ j / 4 + 1 = omega (arith, z.1) in
-              let r : (j + m) % 4 ≡ 0 = omega (arith, z.1) in
-              let four : m ≡ 4 = omega arith in
-              let new : fragments (j + m) ≡ replicate (j / 4) (fragment 4) ++ fragment 4 ∷ [] =
-              fragments_are (j + m) ∙ ap (λ k. replicate k (fragment 4) ++ part ((j + m) % 4)) q ∙ ap (λ b. replicate (j / 4 + 1) (fragment 4) ++ part b) r
-              ∙ ap (λ p. replicate (j / 4 + 1) (fragment 4) ++ p) (part_none 0 refl) ∙ append-nil (replicate (j / 4 + 1) (fragment 4)) ∙ sym (replicate-append-replicate (j / 4) 1 (fragment 4)) in
-              ap length_bits new ∙ one_more (replicate (j / 4) (fragment 4)) 4 ∙ ap (λ t. t ++ (fragment 4).bits) (sym old) ∙ ap (λ k. length_bits (fragments j) ++ (fragment k).bits) (sym four))
+          let q : (j + m) / 4 ≡ j / 4 + 1 = omega (arith, z.1) in
+          let r : (j + m) % 4 ≡ 0 = omega (arith, z.1) in
+          let four : m ≡ 4 = omega arith in
+          let new : fragments (j + m) ≡ replicate (j / 4) (fragment 4) ++ fragment 4 ∷ [] =
+          fragments_are (j + m) ∙ ap (λ k. replicate k (fragment 4) ++ part ((j + m) % 4)) q ∙ ap (λ b. replicate (j / 4 + 1) (fragment 4) ++ part b) r
+          ∙ ap (λ p. replicate (j / 4 + 1) (fragment 4) ++ p) (part_none 0 refl) ∙ append-nil (replicate (j / 4 + 1) (fragment 4)) ∙ sym (replicate-append-replicate (j / 4) 1 (fragment 4)) in
+          ap length_bits new ∙ one_more (replicate (j / 4) (fragment 4)) 4 ∙ ap (λ t. t ++ (fragment 4).bits) (sym old) ∙ ap (λ k. length_bits (fragments j) ++ (fragment k).bits) (sym four))
           (cases_lt m 4)
       | inr z ↦ absurd (true≢false (sym (closed_some (j % 4) z.0) ∙ c))
     ]

@@ -1,6 +1,6 @@
 -- Sets of counts as unions of intervals: the test of a range finds a number where there is one, and so does that
 -- of the first length of the items left.
-use Rattle.std.proofs.Common.{◌≡◌, ◌↔◌, ℕ, ◌+◌, ◌-◌, ◌<◌, ◌≤◌, Bool, true, Option, Some, None, inl, inr, ⊎_elim, List, [], ◌∷◌, sym, subst, arith}
+use Rattle.std.proofs.Common.{◌≡◌, ◌↔◌, ℕ, ◌+◌, ◌-◌, ◌<◌, ◌≤◌, Bool, true, Option, Some, None, inl, inr, ⊎_elim, List, [], ◌∷◌, subst, arith}
 use Rattle.std.proofs.lemmas.Bool.{cases_lt}
 use Rattle.asn_bits.specs.Ranges.{AtMost, SomeIn, Spanned, Meet, Reaches, At}
 use Rattle.asn_bits.specs.LengthBits.{StartsLength, StartsSome}

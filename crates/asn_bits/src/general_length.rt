@@ -50,16 +50,17 @@ enum Place {
 pub struct Lengths {
     first: Counts,
     second: Option<Counts>,
-    blocks: u32,
+    // the blocks of the fragments so far
+    come: u32,
     place: Place,
 }
 
 impl Model for Lengths {
     ghost Value = { BegunLengths };
 
-    ghost view = { λ s. record { counts = spans s.first s.second; blocks = s.blocks; bits = place_bits s.place } };
+    ghost view = { λ s. record { counts = spans s.first s.second; blocks = s.come; bits = place_bits s.place } };
 
-    ghost invariant = { λ s. IsReading (spans s.first s.second) s.blocks s.place };
+    ghost invariant = { λ s. IsReading (spans s.first s.second) s.come s.place };
 }
 
 impl Lengths {
@@ -71,7 +72,7 @@ impl Lengths {
         Lengths {
             first,
             second,
-            blocks: 0,
+            come: 0,
             place: Place::Start,
         }
     }
@@ -86,17 +87,12 @@ impl Lengths {
         let Some(place) = further(self.place, bit) else {
             return FieldState::Dead;
         };
-        if !starts_some(self.first, self.second, self.blocks, place) {
+        if !starts_some(self.first, self.second, self.come, place) {
             return FieldState::Dead;
         }
-        if let Place::Number {
-            form,
-            prefix,
-            left: 0,
-        } = place
-        {
-            let (items, blocks, next) = behind(self.blocks, form, prefix);
-            self.blocks = blocks;
+        if let Some((form, number)) = whole(place) {
+            let (items, come, next) = behind(self.come, form, number);
+            self.come = come;
             self.place = next;
             return FieldState::Number(items);
         }
@@ -109,7 +105,7 @@ impl Lengths {
         ensures fragment { IsTrue result ↔ ((0 < self.now.blocks) × (self.now.bits ≡ [])) }
         ensures more { (n : ℕ) (e : EndsLength (Spanned self.now.counts) (given self.now) n) → IsTrue result ↔ (e.after ≢ []) }
     {
-        self.blocks > 0 && matches!(self.place, Place::Start)
+        self.come > 0 && matches!(self.place, Place::Start)
     }
 
     /// The items that follow the length in the next bits. `None` where these do not begin with a
@@ -127,7 +123,7 @@ impl Lengths {
             && starts_some(
                 self.first,
                 self.second,
-                self.blocks,
+                self.come,
                 Place::Number {
                     form,
                     prefix: number,
@@ -135,8 +131,8 @@ impl Lengths {
                 },
             )
         {
-            let (items, blocks, next) = behind(self.blocks, form, number);
-            self.blocks = blocks;
+            let (items, come, next) = behind(self.come, form, number);
+            self.come = come;
             self.place = next;
             return Some(items);
         }
@@ -192,6 +188,24 @@ fn further(place: Place, bit: bool) -> Option<Place>
     }
 }
 
+/// The form and the number of a length of which all bits were given.
+fn whole(place: Place) -> Option<(Form, u32)>
+    ensures some { IfSome result (λ x. place ≡ Number x.0 x.1 0) }
+    ensures none { IsNone result → IsWhole place → ⊥ }
+{
+    match place {
+        Place::Number { form, prefix, left } => {
+            if left == 0 {
+                Some((form, prefix))
+            } else {
+                None
+            }
+        }
+        Place::Start => None,
+        Place::One => None,
+    }
+}
+
 /// The form and the number of the length in the next bits. `None` where they end before it does.
 fn next_length(bits: &mut BitCursor<'_>) -> Option<(Form, u32)>
     ensures some { IfSome result (λ x. IsPlace (Number x.0 x.1 0) × (bits.old ≡ place_bits (Number x.0 x.1 0) ++ bits.new)) }
@@ -210,7 +224,8 @@ fn next_length(bits: &mut BitCursor<'_>) -> Option<(Form, u32)>
 /// Whether the next length of some list of the set, of which so many blocks have come, begins so.
 fn starts_some(first: Counts, second: Option<Counts>, blocks: u32, place: Place) -> bool
     requires { IsPlace place }
-    ensures { IsTrue result ↔ StartsSome (CountsLeft (spans first second) blocks) (place_bits place) }
+    ensures exact { IsTrue result ↔ StartsSome (CountsLeft (spans first second) blocks) (place_bits place) }
+    ensures few { IsTrue result → 16384 * blocks < 2 ^ 32 }
 {
     let come = BLOCK * u64::from(blocks);
     let (low, high) = left_with(place, blocks % 4 != 0);
@@ -285,13 +300,15 @@ fn fragments_with(low: u64, high: u64) -> (u64, Option<u64>)
 
 /// Whether some count of the set is at or above `low`, and at or below `high` if there is one.
 fn reaches(first: Counts, second: Option<Counts>, low: u64, high: Option<u64>) -> bool
-    ensures { IsTrue result ↔ Reaches (spans first second) low high }
+    ensures exact { IsTrue result ↔ Reaches (spans first second) low high }
+    ensures few { IsTrue result → low < 2 ^ 32 }
 {
     meets(first, low, high) || second.is_some_and(|counts| meets(counts, low, high))
 }
 
 fn meets(counts: Counts, low: u64, high: Option<u64>) -> bool
-    ensures { IsTrue result ↔ Meet counts.low (Some counts.high) low high }
+    ensures exact { IsTrue result ↔ Meet counts.low (Some counts.high) low high }
+    ensures few { IsTrue result → low < 2 ^ 32 }
 {
     let (least, most) = (u64::from(counts.low), u64::from(counts.high));
     least <= most && low <= most && high.is_none_or(|end| least <= end && low <= end)

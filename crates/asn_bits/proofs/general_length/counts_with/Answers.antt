@@ -1,5 +1,5 @@
 -- Each place has its range of counts.
-use Rattle.std.proofs.Common.{◌≡◌, ◌≤◌, ◌<◌, ◌+◌, ◌-◌, ◌*◌, ◌^◌, ap, subst, ◌∙◌, arith}
+use Rattle.std.proofs.Common.{◌≡◌, ap, subst, ◌∙◌, arith}
 use Rattle.asn_bits.specs.LengthPlaces.{IsPlace}
 use Rattle.asn_bits.specs.declared.general_length.Place.{Place}
 use Rattle.asn_bits.specs.declared.general_length.Place.TheVariants.{Number}

@@ -1,6 +1,5 @@
 -- A number has one bit more.
-use Rattle.std.proofs.Common.{◌≡◌, ◌<◌, ◌+◌, ◌*◌, [], ◌∷◌, ◌++◌, ap, ◌∙◌, arith}
-use Rattle.asn_bits.specs.Sink.{bit_of}
+use Rattle.std.proofs.Common.{[], ◌∷◌, ◌++◌, ap, ◌∙◌, arith}
 use Rattle.asn_bits.specs.LengthPlaces.{place_bits}
 use Rattle.asn_bits.proofs.FirstLengths.{place_more, bit_byte}
 use Rattle.asn_bits.proofs.general_length.further.Goals as goal

@@ -1,6 +1,5 @@
 -- Behind a closed fragment fewer than a block are left.
-use Rattle.std.proofs.Common.{◌≡◌, ◌↔◌, ◌≤◌, ◌<◌, ◌-◌, ℕ, Option, Some, None, true, false, sym, subst, ◌∙◌, arith}
-use Rattle.std.specs.Bool.{⊤}
+use Rattle.std.proofs.Common.{◌≡◌, ◌≤◌, ◌<◌, Some, None, true, sym, ◌∙◌, arith}
 use Rattle.std.proofs.lemmas.Bool.{true≢false}
 use Rattle.asn_bits.specs.Ranges.{AtMost}
 use Rattle.asn_bits.specs.LengthBits.{StartsLength}

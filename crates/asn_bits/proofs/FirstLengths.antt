@@ -17,6 +17,7 @@ use Rattle.asn_bits.specs.declared.general_length.Place.{Place}
 use Rattle.asn_bits.specs.declared.general_length.Place.TheVariants as place
 use Rattle.asn_bits.proofs.Digits.{digits_code}
 use Rattle.asn_bits.proofs.Octets.{length-digits}
+use Rattle.asn_bits.proofs.Prefixes.{bits_further}
 use Rattle.asn_bits.proofs.Splits.{digits-add, digits-join, digits_above}
 
 -- ---- numbers that begin with given bits
@@ -192,14 +193,6 @@ exact_left Q C S f g n = (
 
 -- ---- the next bits
 
--- a number with one bit more
-bits_more : (k p b : ℕ) → b < 2 → bits (k + 1) (2 * p + b) ≡ bits k p ++ b ∷ []
-bits_more k p b h =
-    let two : 0 < 2 = omega arith in
-    let e : p * 2 ^ 1 + b ≡ 2 * p + b = omega arith in
-    let d : b / 2 ^ 0 % 2 ≡ b = omega arith in
-    sym (digits-join 2 two k 1 p b (omega arith) ∙ ap (bits (k + 1)) e) ∙ ap (λ x. bits k p ++ x ∷ []) d
-
 -- a place with a number, and one bit more
 pub place_more : (x : Place) (f : Form) (p l b : ℕ) → x ≡ place.Number f p l → IsPlace x → 0 < l → b < 2 → IsPlace (place.Number f (2 * p + b) (l - 1)) × (place_bits (place.Number f (2 * p + b) (l - 1)) ≡ place_bits x ++ b ∷ [])
 place_more x f p l b e h s t =
@@ -208,7 +201,7 @@ place_more x f p l b e h s t =
     let w : form_width f - (l - 1) ≡ k + 1 = omega (arith, i.0) in
     let v : 2 ^ (k + 1) ≡ 2 ^ k * 2 = pow-add 2 k 1 in (
       (omega (arith, i.0), subst (λ (j : ℕ). 2 * p + b < 2 ^ j) (sym w) (omega (arith, v, i.1))),
-      ap (λ j. form_bits f ++ bits j (2 * p + b)) w ∙ ap (λ bs. form_bits f ++ bs) (bits_more k p b t)
+      ap (λ j. form_bits f ++ bits j (2 * p + b)) w ∙ ap (λ bs. form_bits f ++ bs) (bits_further k p b i.1 t)
           ∙ sym (append_assoc (form_bits f) (bits k p) (b ∷ [])) ∙ ap (λ z. place_bits z ++ b ∷ []) (sym e),
     )
 

@@ -7,7 +7,7 @@ use Rattle.asn_bits.specs.Lengths.{Length, blocks, lengths}
 use Rattle.asn_bits.specs.Ranges.{Spanned}
 use Rattle.asn_bits.specs.LengthBits.{length_bits, BeginsLengths, EndsLength, fragments, is_closed, CountsLeft, BegunLengths, given, Goes, first_length, StartsSome}
 use Rattle.asn_bits.specs.LengthPlaces.{form_items, place_bits, IsPlace, IsWhole, Behind, IsReading}
-use Rattle.asn_bits.specs.declared.field_state.FieldState.TheVariants as state
+use Rattle.asn_bits.specs.declared.number_field.FieldState.TheVariants as state
 use Rattle.asn_bits.specs.declared.general_length.Form.{Form}
 use Rattle.asn_bits.specs.declared.general_length.Form.TheVariants as form
 use Rattle.asn_bits.specs.declared.general_length.Place.{Place}

@@ -2,8 +2,8 @@
 use Rattle.std.specs.Prelude.{◌≡◌, ◌+◌, ◌*◌, ◌/◌, ◌%◌, ◌<◌, ◌≤◌, ◌==◌, ◌⊎◌, ℕ, Bool, true, false, not, nat_lt, Option, List, [], ◌∷◌, ◌++◌, replicate}
 use Rattle.asn_bits.specs.Lengths.{Length, last_length, fragment, blocks, lengths}
 use Rattle.asn_bits.specs.Ranges.{Spanned, At}
-use Rattle.asn_bits.specs.declared.field_state.FieldState.{FieldState}
-use Rattle.asn_bits.specs.declared.field_state.FieldState.TheVariants as state
+use Rattle.asn_bits.specs.declared.number_field.FieldState.{FieldState}
+use Rattle.asn_bits.specs.declared.number_field.FieldState.TheVariants as state
 
 -- ---- what the bits given so far say
 

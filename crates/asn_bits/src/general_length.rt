@@ -8,7 +8,7 @@ ghost use Rattle.asn_bits.specs.LengthPlaces.{spans, place_bits, IsPlace, IsWhol
 ghost use Rattle.asn_bits.specs.declared.general_length.Place.TheVariants.{Number};
 
 use crate::cursor::BitCursor;
-use crate::field_state::FieldState;
+use crate::number_field::FieldState;
 use std::marker::Model;
 
 /// How many items a block of a fragment has.

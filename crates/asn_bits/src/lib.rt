@@ -2,16 +2,20 @@
 #![tactic(auto)]
 
 pub mod cursor;
-pub mod field_state;
 pub mod general_length;
+pub mod intervals;
 pub mod lengths;
+pub mod number_field;
 pub mod numbers;
 pub mod offsets;
+mod shifts;
 pub mod sink;
+mod words;
 
 pub use cursor::BitCursor;
-pub use field_state::FieldState;
 pub use general_length::{Counts, Lengths};
+pub use intervals::Intervals;
+pub use number_field::{FieldState, NumberField};
 pub use sink::BitSink;
 
 #[cfg(test)]

@@ -5,7 +5,7 @@ use Rattle.asn_bits.specs.Ranges.{Spanned}
 use Rattle.asn_bits.specs.Sink.{bit_of}
 use Rattle.asn_bits.specs.LengthBits.{BegunLengths, given, BeginsLengths, EndsLength, CountsLeft, StartsSome, Goes}
 use Rattle.asn_bits.specs.LengthPlaces.{spans, place_bits, IsPlace, IsWhole}
-use Rattle.asn_bits.specs.declared.field_state.FieldState.TheVariants as state
+use Rattle.asn_bits.specs.declared.number_field.FieldState.TheVariants as state
 use Rattle.asn_bits.specs.declared.general_length.Place.{Place}
 use Rattle.asn_bits.specs.declared.general_length.Place.TheVariants.{Number}
 use Rattle.asn_bits.proofs.GivenLengths.{dead_bit, live_bit, whole_dead, behind_reading, behind_goes, whole_ends, part_open}

@@ -2,6 +2,7 @@
 ghost use Rattle.std.specs.Prelude.{◌≡◌, ℕ, ◌+◌, ◌-◌, ◌*◌, ◌%◌, ◌/◌, ◌^◌, ◌<◌, ◌≤◌, ◌↔◌, List, [], ◌∷◌, ◌++◌, length, drop, IsTrue, IsNone, IfSome, OnOk, OnErr};
 ghost use Rattle.asn_bits.specs.Moves.{Taken};
 ghost use Rattle.asn_bits.specs.Numbers.{bits, octets, unpacked};
+ghost use Rattle.asn_bits.specs.Sets.{AreBits};
 
 use crate::shifts::push_front;
 use std::alloc::AllocError;
@@ -49,7 +50,8 @@ impl<'a> BitCursor<'a> {
 
     /// How many octets are left of which no bit is read.
     pub fn octets_left(&self) -> usize
-        ensures { result ≡ length self.now / 8 }
+        ensures count { result ≡ length self.now / 8 }
+        ensures bits { AreBits self.now }
     {
         if self.offset == 0 {
             self.octets.len()

@@ -2,7 +2,9 @@
 #![tactic(auto)]
 
 pub mod cursor;
+pub mod intervals;
 pub mod lengths;
+pub mod number_field;
 pub mod numbers;
 pub mod offsets;
 mod shifts;
@@ -10,6 +12,8 @@ pub mod sink;
 mod words;
 
 pub use cursor::BitCursor;
+pub use intervals::Intervals;
+pub use number_field::{FieldState, NumberField};
 pub use sink::BitSink;
 
 #[cfg(test)]

@@ -3,10 +3,13 @@ ghost use Rattle.std.specs.Prelude.{◌≡◌, ℕ, ◌+◌, ◌*◌, ◌/◌, �
 ghost use Rattle.asn_bits.specs.Numbers.{bits, packed, padding, unpacked};
 ghost use Rattle.asn_bits.specs.Sink.{bit_of};
 
-use crate::shifts::{middle, push_shifted};
-use crate::words::{push_low, push_word};
+use crate::shifts::push_shifted;
+use crate::words::{behind, middle, push_low, push_word};
 use std::alloc::{AllocError, Global};
 use std::marker::Model;
+
+// the octets for which a sink asks memory where it needs some: two words that go out, one that waits, and more
+const ROOM: usize = 64;
 
 /// Bits that wait to become octets. Contracts see the list of the bits pushed, each 0 or 1.
 ///
@@ -79,7 +82,7 @@ impl BitSink {
         ensures err { OnErr result (self.new ≡ self.old) }
     {
         let left = self.count % 8;
-        self.octets.reserve(octets.len() + 16)?;
+        self.octets.reserve(octets.len() + ROOM)?;
         push_low(&mut self.octets, self.count / 8, self.pending >> left);
         if left == 0 {
             self.octets.extend_from_slice(octets)?;
@@ -128,10 +131,24 @@ impl BitSink {
     {
         let count = self.count;
         if count == 0 || count + k >= 64 {
-            return self.append_both(0, 0, k, n);
+            return self.append_word(k, n);
         }
         self.pending = behind(self.pending, k, n);
         self.count = count + k;
+        Ok(())
+    }
+
+    // the same, where a word is full or memory is needed
+    fn append_word(&mut self, k: u32, n: u64) -> Result<(), AllocError>
+        requires few { k ≤ 64 }
+        requires fits { n < 2 ^ k }
+        ensures ok { OnOk result (self.new ≡ self.old ++ bits k n) }
+        ensures err { OnErr result (self.new ≡ self.old) }
+    {
+        self.octets.reserve(ROOM)?;
+        let (count, pending) = put(&mut self.octets, self.count, self.pending, k, n);
+        self.count = count;
+        self.pending = pending;
         Ok(())
     }
 
@@ -142,7 +159,7 @@ impl BitSink {
         ensures ok { OnOk result (self.new ≡ (self.old ++ bits j m) ++ bits k n) }
         ensures err { OnErr result (self.new ≡ self.old) }
     {
-        self.octets.reserve(24)?;
+        self.octets.reserve(ROOM)?;
         let (count, pending) = put(&mut self.octets, self.count, self.pending, j, m);
         let (count, pending) = put(&mut self.octets, count, pending, k, n);
         self.count = count;
@@ -161,21 +178,17 @@ fn put(octets: &mut Vec<u8>, count: u32, pending: u64, k: u32, n: u64) -> (u32, 
     ensures bits { unpacked octets.new.items ++ bits result.0 result.1 ≡ (unpacked octets.old.items ++ bits count pending) ++ bits k n }
     ensures waiting { result.0 < 64 }
     ensures len { vec_len octets.new ≤ vec_len octets.old + 8 }
-    ensures capacity { vec_capacity octets.new ≡ vec_capacity octets.old }
+    ensures capacity { vec_capacity octets.old ≤ vec_capacity octets.new }
 {
     let total = count + k;
     if total < 64 {
         return (total, behind(pending, k, n));
     }
-    push_word(octets, middle(pending, k, n, total - 64));
-    (total - 64, n)
-}
-
-// the last bits of high, and n in k bits behind them
-fn behind(high: u64, k: u32, n: u64) -> u64
-    requires few { k < 64 }
-    requires fits { n < 2 ^ k }
-    ensures { result ≡ high * 2 ^ k % 2 ^ 64 + n }
-{
-    high << k | n
+    let left = total - 64;
+    if count == 0 {
+        push_word(octets, n);
+    } else {
+        push_word(octets, middle(pending, k, n, left));
+    }
+    (left, n)
 }

@@ -1,5 +1,6 @@
 -- What the types, values and faults of the program stand for.
-use Rattle.std.specs.Prelude.{◌≡◌, true, ⊤, List, [], ◌∷◌, ℕ, string_bytes}
+use Rattle.std.specs.Prelude.{◌≡◌, true, false, ⊤, List, [], ◌∷◌, ℕ, string_bytes, map, Option, Some, None}
+use Rattle.std.specs.Global.{Vec}
 use Rattle.asn_values.specs.declared.types.Bounds.{Bounds}
 use Rattle.asn_values.specs.declared.types.Size.{Size}
 use Rattle.asn_values.specs.declared.types.TextKind.{TextKind}
@@ -16,7 +17,7 @@ use Rattle.asn_values.specs.declared.value.Value.TheOpen.{Value-F}
 use Rattle.asn_values.specs.declared.fault.TypeFault.{TypeFault}
 use Rattle.asn_values.specs.declared.fault.TypeFault.TheVariants as fault
 use Rattle.asn_values.specs.Datum.{Datum, truth, nothing, number, components, components_of}
-use Rattle.asn_values.specs.Shape.{Range, SizeRange, Alphabet, ia5, numeric, visible, Label, Shape, boolean, null, integer, sequence, Demand, must, optional, default, Fields, no_fields, field, closed}
+use Rattle.asn_values.specs.Shape.{Range, SizeRange, Alphabet, ia5, numeric, visible, Label, MoreLabels, closed_labels, marked_labels, Shape, boolean, null, integer, sequence, Demand, must, optional, default, Fields, no_fields, field, closed}
 use Rattle.asn_values.specs.Profile.{EmptyRange, DuplicateName, UselessMark, BadDefault, TooMany, TooDeep, has}
 
 -- ---- values
@@ -46,6 +47,11 @@ alphabet_of text_kind.Visible = visible
 
 abbrev pub label_of : Item → Label
 label_of i = record { name = string_bytes i.name; number = i.number }
+
+-- the items behind the extension mark of an ENUMERATED, where it has one
+abbrev pub more_labels_of : Option (Vec Item) → MoreLabels
+more_labels_of None = closed_labels
+more_labels_of (Some more) = marked_labels (map label_of more.items)
 
 abbrev pub demand_of : Need → Demand
 demand_of need.Must = must

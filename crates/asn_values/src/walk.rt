@@ -79,7 +79,7 @@ fn check_components(root: &[Field]) -> Result<(), TypeFault>
     ensures faultless { IfOk result (λ done. IsFaultless (sequence (fields_of (map part_of_field root.now)) closed)) }
     ensures fault { IfErr result (λ f. HoldsHere f (sequence (fields_of (map part_of_field root.now)) closed)) }
 {
-    if names::are_bad(root) {
+    if names::are_bad(root, &[]) {
         return Err(TypeFault::DuplicateName);
     }
     if default_values::are_bad(root) {

@@ -69,6 +69,14 @@ pub enum AsnType {
     Null,
     /// INTEGER with bounds
     Int(Bounds),
+    /// ENUMERATED of the items in `root`, and those in `ext` behind the extension mark; `None` where
+    /// there is no mark
+    Enum {
+        root: Vec<Item>,
+        ext: Option<Vec<Item>>,
+    },
     /// SEQUENCE of the components in `root`, in this order
-    Seq { root: Vec<Field> },
+    Seq {
+        root: Vec<Field>,
+    },
 }

@@ -7,6 +7,8 @@ pub enum Value {
     Null,
     /// of an INTEGER
     Int(i128),
+    /// of an ENUMERATED: the place of the item, counted from 0 as written, root then additions
+    Enum(u32),
     /// of a SEQUENCE: one entry a component, `None` only for an OPTIONAL one that is absent
     Seq(Vec<Option<Value>>),
 }

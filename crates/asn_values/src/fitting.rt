@@ -6,7 +6,7 @@ ghost use Rattle.asn_values.specs.View.{shape_of, datum_of, demand_of, fields_of
 use crate::checked::Checked;
 use crate::types::{AsnType, Field, Need};
 use crate::value::Value;
-use crate::{enumerations, ranges};
+use crate::{enumerations, ranges, sizes, texts};
 
 /// Whether the value is one of the type (X.680), an INTEGER being of 64 signed bits. Takes no memory.
 pub fn fits(ty: &Checked, value: &Value) -> bool
@@ -29,6 +29,16 @@ pub(crate) fn type_has(ty: &AsnType, value: &Value) -> bool
         AsnType::Enum { root, ext } => {
             matches!(value, Value::Enum(place) if enumerations::item_fits(root, ext, *place))
         }
+        AsnType::Bits(size) => {
+            matches!(value, Value::Bits(bits) if sizes::length_fits(size, bits.len()))
+        }
+        AsnType::Octets(size) => {
+            matches!(value, Value::Octets(octets) if texts::octets_fit(size, octets))
+        }
+        AsnType::Text(kind, size) => {
+            matches!(value, Value::Text(codes) if texts::text_fits(*kind, size, codes))
+        }
+        AsnType::Utf8 => matches!(value, Value::Utf8(text) if texts::unicode_fits(text)),
         AsnType::Seq { root } => match value {
             Value::Seq(entries) => fields_have(root, entries),
             _ => false,

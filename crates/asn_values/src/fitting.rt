@@ -8,7 +8,8 @@ use crate::types::{AsnType, Field, Need};
 use crate::value::Value;
 use crate::{enumerations, ranges, sizes, texts};
 
-/// Whether the value is one of the type (X.680), an INTEGER being of 64 signed bits. Takes no memory.
+/// Whether the value is one of the type (X.680), an INTEGER being of 64 signed bits and a string of at
+/// most 268,435,455 bits, octets or characters. Takes no memory.
 pub fn fits(ty: &Checked, value: &Value) -> bool
     ensures { IsTrue result ↔ Fits (shape_of ty.now) (datum_of value.now) }
 {

@@ -1,0 +1,71 @@
+//! Whole octets, moved by fewer bits than an octet has.
+ghost use Rattle.std.specs.Prelude.{◌≡◌, ◌+◌, ◌*◌, ◌/◌, ◌%◌, ◌^◌, ◌<◌, ◌≤◌, length, drop, OnOk, OnErr, vec_len, vec_capacity};
+ghost use Rattle.asn_bits.specs.Moves.{Shifted, Taken};
+ghost use Rattle.asn_bits.specs.Numbers.{unpacked};
+
+use crate::words::{low_octet, push_word};
+use std::alloc::AllocError;
+
+// adds the octets that the bits behind the first `offset` begin with, `count` of them; an `Err` is out of
+// memory, and then nothing has changed
+pub(crate) fn push_front(bytes: &mut Vec<u8>, octets: &[u8], offset: u32, count: usize) -> Result<(), AllocError>
+    requires begun { offset < 8 }
+    requires there { 8 * count + offset ≤ 8 * length octets.now }
+    ensures ok { OnOk result (Taken count (drop offset (unpacked octets.now)) (drop offset (unpacked (drop count octets.now))) bytes.old.items bytes.new.items) }
+    ensures err { OnErr result (bytes.new.items ≡ bytes.old.items) }
+{
+    if offset == 0 {
+        bytes.extend_from_slice(&octets[..count])?;
+    } else {
+        bytes.reserve(count)?;
+        push_shifted(bytes, 8 - offset, octets[0] as u64, &octets[1..count + 1]);
+    }
+    Ok(())
+}
+
+// adds the octets of the low `count` bits of `pending` and of all of `octets` behind them, eight at once, and
+// gives what is left over in its low `count` bits
+pub(crate) fn push_shifted(bytes: &mut Vec<u8>, count: u32, pending: u64, octets: &[u8]) -> u64
+    requires few { count < 8 }
+    requires room { vec_len bytes.old + length octets.now ≤ vec_capacity bytes.old }
+    ensures shifted { Shifted bytes.old.items bytes.new.items octets.now count pending result }
+    ensures len { vec_len bytes.new ≡ vec_len bytes.old + length octets.now }
+    ensures capacity { vec_capacity bytes.new ≡ vec_capacity bytes.old }
+{
+    let mut high = pending;
+    let mut rest = octets;
+    while let Some((eight, behind)) = rest.split_first_chunk::<8>() {
+        let n = u64::from_be_bytes(*eight);
+        push_word(bytes, middle(high, 64, n, count));
+        high = n;
+        rest = behind;
+    }
+    push_single(bytes, count, high, rest)
+}
+
+// the same, one octet after the other
+fn push_single(bytes: &mut Vec<u8>, count: u32, pending: u64, octets: &[u8]) -> u64
+    requires few { count < 8 }
+    requires room { vec_len bytes.old + length octets.now ≤ vec_capacity bytes.old }
+    ensures shifted { Shifted bytes.old.items bytes.new.items octets.now count pending result }
+    ensures len { vec_len bytes.new ≡ vec_len bytes.old + length octets.now }
+    ensures capacity { vec_capacity bytes.new ≡ vec_capacity bytes.old }
+{
+    let mut high = pending;
+    for octet in octets {
+        let n = *octet as u64;
+        bytes.push_reserved(low_octet(middle(high, 8, n, count)));
+        high = n;
+    }
+    high
+}
+
+// of n in k bits behind high, the word above the last `left` bits
+pub(crate) fn middle(high: u64, k: u32, n: u64, left: u32) -> u64
+    requires few { k ≤ 64 }
+    requires fits { n < 2 ^ k }
+    requires within { left < 128 }
+    ensures { result ≡ (high * 2 ^ k + n) / 2 ^ left % 2 ^ 64 }
+{
+    (((high as u128) << k | n as u128) >> left & u64::MAX as u128) as u64
+}

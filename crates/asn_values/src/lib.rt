@@ -3,12 +3,15 @@
 
 mod checked;
 mod default_values;
+mod enumerations;
 mod equality;
 mod fault;
 mod fitting;
 mod laws;
 mod names;
 mod ranges;
+mod sizes;
+mod texts;
 mod types;
 mod value;
 mod walk;

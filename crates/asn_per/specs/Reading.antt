@@ -1,8 +1,13 @@
 -- What the readers of the decoder read.
-use Rattle.std.specs.Prelude.{◌≢◌, ◌≤◌, ◌-◌, ◌^◌, ◌==◌, ◌&&◌, ℕ, ℤ, true, false, nat_lt, Option, Some, None, ⊤}
-use Rattle.asn_values.specs.Shape.{Range}
+use Rattle.std.specs.Prelude.{◌≡◌, ◌≢◌, ◌<◌, ◌≤◌, ◌-◌, ◌^◌, ◌==◌, ◌&&◌, ℕ, ℤ, true, false, List, length, map, nat_lt, Option, Some, None, ⊤}
+use Rattle.asn_values.specs.Shape.{Range, Label, MoreLabels, closed_labels, marked_labels}
+use Rattle.std.specs.List.{list_any}
+use Rattle.std.specs.Option.{option_map}
 use Rattle.asn_values.specs.Fits.{FitsNumber}
+use Rattle.asn_values.specs.Profile.{int_eq, has_twice, is_not_32_bits, most_items}
 use Rattle.asn_bits.specs.Numbers.{octet_count}
+use Rattle.asn_rules.specs.Components.{number_at}
+use Rattle.asn_per.specs.Per.{rank}
 use Rattle.asn_per.specs.declared.number_reader.Numbers.{Numbers}
 
 -- ---- numbers
@@ -38,3 +43,22 @@ least_of count = elim (nat_lt 1 count) [ true ↦ 256 ^ (count - 1) | false ↦ 
 abbrev pub highest_count_of : ℕ → Option ℕ → ℕ
 highest_count_of high None = octet_count high
 highest_count_of high (Some x) = elim (x == high && high == least_of (octet_count high)) [ true ↦ octet_count high - 1 | false ↦ octet_count high ]
+
+-- ---- items
+
+-- the root of an ENUMERATED of the profile: some items, and not too many, of distinct numbers of 32 signed bits
+pub record AreRootItems (root : List Label) : Type 0 where
+  pub some : 0 < length root
+  pub few : length root ≤ most_items
+  pub once : has_twice int_eq (map (λ l. l.number) root) ≡ false
+  pub narrow : list_any is_not_32_bits (map (λ l. l.number) root) ≡ false
+
+-- an item that may be left out is one of the root, and there is no mark
+abbrev pub IsItemWithin : List Label → MoreLabels → Option ℕ → Type 0
+IsItemWithin root more None = ⊤
+IsItemWithin root closed_labels (Some p) = p < length root
+IsItemWithin root (marked_labels ls) (Some p) = ⊥
+
+-- its index
+abbrev pub index_of : List Label → Option ℕ → Option ℕ
+index_of root p = option_map (λ q. rank root (number_at root q)) p

@@ -22,7 +22,7 @@ use Rattle.asn_per.specs.Per.{spelled, constrained, small, rank, behind_mark}
 use Rattle.asn_per.specs.Laws.{per_bits}
 use Rattle.asn_per.proofs.Enumerations.{rank_inside}
 use Rattle.asn_per.proofs.EnumeratedLanguages.{few_additions}
-use Rattle.asn_per.proofs.Writing.{bool_byte-is}
+use Rattle.asn_bits.proofs.Prefixes.{bool_byte-is}
 
 -- at most 256 indexes take at most 8 bits
 pub few_index_bits : (values : ℕ) → values ≤ 256 → width values ≤ 8

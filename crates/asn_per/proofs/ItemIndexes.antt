@@ -17,7 +17,7 @@ use Rattle.asn_rules.specs.Components.{number_at}
 use Rattle.asn_rules.proofs.Items.{numbers, good_items}
 use Rattle.asn_per.specs.Per.{rank}
 use Rattle.asn_per.specs.Kinds.{place_of}
-use Rattle.asn_per.specs.Reading.{AreRootItems}
+use Rattle.asn_per.specs.Indexes.{AreRootItems}
 use Rattle.asn_per.proofs.Enumerations.{compare, rank_rises}
 use Rattle.asn_per.proofs.Ranks.{place_there, place_back}
 

@@ -14,11 +14,13 @@ use Rattle.asn_rules.proofs.Exits.{leads_zero, leads_one}
 use Rattle.asn_rules.proofs.Forks.{same_flip, same_inhabited, fork_short, fork_refused, fork_inhabited_zero}
 use Rattle.asn_rules.proofs.Leads.{Leads, leads_on, leads_map, leads_same}
 use Rattle.asn_rules.proofs.Parts.{map_short, map_refused, map_inhabited}
-use Rattle.asn_rules.proofs.Sets.{set_meets, set_inhabited}
+use Rattle.asn_bits.proofs.Unions.{set_meets}
+use Rattle.asn_rules.proofs.Sets.{set_inhabited}
 use Rattle.asn_rules.proofs.Spellings.{same_after}
 use Rattle.asn_per.specs.Kinds.{place_of, SmallBelow, RootItems, Items, RootItemsBut, IndexesBut, IsRootPlace, of_either}
 use Rattle.asn_per.specs.Per.{per, per_fields}
-use Rattle.asn_per.specs.Reading.{Admits, IsItemWithin, index_of, up_to}
+use Rattle.asn_per.specs.Indexes.{IsItemWithin, index_of}
+use Rattle.asn_per.specs.Reading.{Admits, up_to}
 use Rattle.asn_per.proofs.EnumeratedLanguages.{items_compose}
 use Rattle.asn_per.proofs.LeftOut.{enumerated_but_one, none_left_out}
 use Rattle.asn_per.proofs.PerFields.{per_fields_part}

@@ -1,13 +1,12 @@
 -- What the readers of the decoder read.
-use Rattle.std.specs.Prelude.{◌≡◌, ◌≢◌, ◌<◌, ◌≤◌, ◌-◌, ◌^◌, ◌==◌, ◌&&◌, ℕ, ℤ, true, false, List, length, map, nat_lt, Option, Some, None, ⊤}
-use Rattle.asn_values.specs.Shape.{Range, Label, MoreLabels, closed_labels, marked_labels}
-use Rattle.std.specs.List.{list_any}
-use Rattle.std.specs.Option.{option_map}
+use Rattle.std.specs.Prelude.{◌≡◌, ◌≢◌, ◌≤◌, ◌-◌, ◌^◌, ◌==◌, ◌&&◌, ℕ, ℤ, true, false, nat_lt, List, ◌++◌, Option, Some, None, ⊤}
+use Rattle.asn_values.specs.Shape.{Range, Alphabet, ia5, numeric, visible}
 use Rattle.asn_values.specs.Fits.{FitsNumber}
-use Rattle.asn_values.specs.Profile.{int_eq, has_twice, is_not_32_bits, most_items}
 use Rattle.asn_bits.specs.Numbers.{octet_count}
-use Rattle.asn_rules.specs.Components.{number_at}
-use Rattle.asn_per.specs.Per.{rank}
+use Rattle.asn_rules.specs.Chunks.{Chunk}
+use Rattle.asn_rules.specs.Languages.{Spells, Row}
+use Rattle.asn_per.specs.Per.{per_fields}
+use Rattle.asn_per.specs.Kinds.{numeric_at}
 use Rattle.asn_per.specs.declared.number_reader.Numbers.{Numbers}
 
 -- ---- numbers
@@ -44,21 +43,30 @@ abbrev pub highest_count_of : ℕ → Option ℕ → ℕ
 highest_count_of high None = octet_count high
 highest_count_of high (Some x) = elim (x == high && high == least_of (octet_count high)) [ true ↦ octet_count high - 1 | false ↦ octet_count high ]
 
--- ---- items
+-- ---- items one after the other
 
--- the root of an ENUMERATED of the profile: some items, and not too many, of distinct numbers of 32 signed bits
-pub record AreRootItems (root : List Label) : Type 0 where
-  pub some : 0 < length root
-  pub few : length root ≤ most_items
-  pub once : has_twice int_eq (map (λ l. l.number) root) ≡ false
-  pub narrow : list_any is_not_32_bits (map (λ l. l.number) root) ≡ false
+-- n items are read from the units us, behind which rest stands, and put behind those of old
+pub record Appends {A : Type 0} (L : A → List Chunk → Type 0) (n : ℕ) (old new : List A) (us rest : List ℕ) : Type 0 where
+  pub row : List A
+  pub same : new ≡ old ++ row
+  pub spelt : Spells per_fields (Row L n) row us rest
 
--- an item that may be left out is one of the root, and there is no mark
-abbrev pub IsItemWithin : List Label → MoreLabels → Option ℕ → Type 0
-IsItemWithin root more None = ⊤
-IsItemWithin root closed_labels (Some p) = p < length root
-IsItemWithin root (marked_labels ls) (Some p) = ⊥
+-- ---- characters
 
--- its index
-abbrev pub index_of : List Label → Option ℕ → Option ℕ
-index_of root p = option_map (λ q. rank root (number_at root q)) p
+-- how many bits a character has
+abbrev pub code_width : Alphabet → ℕ
+code_width ia5 = 7
+code_width visible = 7
+code_width numeric = 4
+
+-- what these bits may be
+abbrev pub codes_of : Alphabet → Numbers
+codes_of ia5 = record { low = 0; high = 127; except = None }
+codes_of visible = record { low = 32; high = 126; except = None }
+codes_of numeric = record { low = 0; high = 10; except = None }
+
+-- the character that the bits stand for
+abbrev pub character_at : Alphabet → ℕ → ℕ
+character_at ia5 n = n
+character_at visible n = n
+character_at numeric n = numeric_at n

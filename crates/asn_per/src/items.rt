@@ -12,7 +12,7 @@ ghost use Rattle.asn_rules.specs.Stops.{Stops};
 ghost use Rattle.asn_per.specs.Kinds.{place_of, Items, RootItemsBut, IsRootPlace};
 ghost use Rattle.asn_per.specs.Laws.{per_bits};
 ghost use Rattle.asn_per.specs.Per.{per, per_fields, rank};
-ghost use Rattle.asn_per.specs.Reading.{AreRootItems, IsItemWithin, index_of};
+ghost use Rattle.asn_per.specs.Indexes.{AreRootItems, IsItemWithin, index_of};
 
 use crate::integer_reader::constrained;
 use crate::number_reader::{Numbers, bits_left, number};

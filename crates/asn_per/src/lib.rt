@@ -8,6 +8,7 @@ mod items;
 mod kinds;
 mod laws;
 mod number_reader;
+mod row_reader;
 #[cfg(test)]
 mod tests;
 mod value_reader;

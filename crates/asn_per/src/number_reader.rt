@@ -1,7 +1,7 @@
 //! Readers of numbers in so many bits, refused at the first bit after which none can follow.
 ghost use Rattle.std.specs.Prelude.{◌≡◌, ◌≤◌, ◌<◌, ◌↔◌, ◌*◌, ◌^◌, IfOk, IfErr, IsTrue, length};
 ghost use Rattle.asn_rules.specs.Languages.{Spells, Plain};
-ghost use Rattle.asn_bits.specs.Sets.{InSet, Meets};
+ghost use Rattle.asn_bits.specs.Sets.{AreBits, InSet, Meets};
 ghost use Rattle.asn_rules.specs.Stops.{Stops};
 ghost use Rattle.asn_per.specs.Per.{per_fields};
 ghost use Rattle.asn_per.specs.Reading.{Admits};
@@ -18,7 +18,7 @@ pub(crate) struct Numbers {
 }
 
 /// Whether the number is one of them.
-fn admits(set: Numbers, n: u64) -> bool
+pub(crate) fn admits(set: Numbers, n: u64) -> bool
     ensures { IsTrue result ↔ Admits set n }
 {
     set.low <= n && n <= set.high && set.except.is_none_or(|except| n != except)
@@ -51,7 +51,8 @@ fn scaled(prefix: u64, left: u32) -> u128
 
 /// How many bits are left.
 pub(crate) fn bits_left(bits: &BitCursor<'_>) -> u128
-    ensures { result ≡ length bits.now }
+    ensures count { result ≡ length bits.now }
+    ensures bits { AreBits bits.now }
 {
     8 * bits.octets_left() as u128 + u128::from(bits.rest_of_octet())
 }

@@ -10,7 +10,7 @@ use Rattle.asn_rules.specs.Languages.{Inhabited}
 use Rattle.asn_rules.specs.Listed.{Spelt}
 use Rattle.asn_rules.proofs.Leads.{stops_by}
 use Rattle.asn_per.specs.Per.{per}
-use Rattle.asn_per.specs.Reading.{IsItemWithin}
+use Rattle.asn_per.specs.Indexes.{IsItemWithin}
 use Rattle.asn_per.proofs.Exits.{if_err_weaker}
 use Rattle.asn_per.proofs.ItemIndexes.{root_items}
 use Rattle.asn_per.proofs.ItemReading.{closed_leads, closed_some, marked_leads, no_item_left_out}

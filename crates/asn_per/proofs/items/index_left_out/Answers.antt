@@ -6,7 +6,7 @@ use Rattle.asn_values.specs.View.{label_of}
 use Rattle.asn_rules.specs.Components.{number_at}
 use Rattle.asn_per.specs.Kinds.{IsRootPlace}
 use Rattle.asn_per.specs.Per.{rank}
-use Rattle.asn_per.specs.Reading.{index_of}
+use Rattle.asn_per.specs.Indexes.{index_of}
 use Rattle.asn_per.proofs.ItemIndexes.{item_kept}
 use Rattle.asn_per.proofs.items.index_left_out.Goals as goal
 

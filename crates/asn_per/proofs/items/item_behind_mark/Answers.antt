@@ -64,7 +64,7 @@ returns-then-is_empty-clause-stop c =
     let more = map label_of c.args.additions.now in
     let one = at_one c.in-Some.mark c.args.bits.now c.next.new.self c.in-Some.ensures.some c.in-Some.ensures.bit c.if-mark-eq0.false in
     let none : length more ≡ 0 = simp length-map (none_there c.is_empty.result (length c.args.additions.now) c.is_empty.ensures c.if-is_empty.true) in
-    record { told = rw c.bits_left.ensures (one_refused ls more (root_items ls (marked_labels more) c.requires.of_profile).some none c.args.bits.now c.next.new.self one) }
+    record { told = rw c.bits_left.ensures.count (one_refused ls more (root_items ls (marked_labels more) c.requires.of_profile).some none c.args.bits.now c.next.new.self one) }
 
 pub returns-in_err-index-clause-stop : goal.returns-in_err-index-clause-stop
 returns-in_err-index-clause-stop c =

@@ -8,7 +8,8 @@ use Rattle.asn_bits.specs.Sets.{InSet}
 use Rattle.asn_rules.specs.Languages.{Plain, Spells}
 use Rattle.asn_rules.specs.Stops.{Stops}
 use Rattle.asn_per.specs.Per.{per_fields}
-use Rattle.asn_per.specs.Reading.{Admits, index_of, up_to}
+use Rattle.asn_per.specs.Indexes.{index_of}
+use Rattle.asn_per.specs.Reading.{Admits, up_to}
 use Rattle.asn_per.proofs.ItemReading.{root_leads, some_index}
 use Rattle.asn_per.proofs.items.root_item.Goals as goal
 

@@ -20,7 +20,7 @@ pub returns-then-not-meets-clause-stop : goal.returns-then-not-meets-clause-stop
 returns-then-not-meets-clause-stop c =
     let dead : c.in-Some.bit < 2 → Meets (λ n. Admits c.args.set n) (2 * c.loop-left.prefix + c.in-Some.bit) (c.loop-left.left - 1) → ⊥ =
     λ b m. (let t : c.meets.result ≡ true = c.meets.ensures.1 (subst (λ x. Meets (λ n. Admits c.args.set n) (2 * c.loop-left.prefix + x) (c.loop-left.left - 1)) (sym c.from.ensures) m) in absurd (cc)) in
-    record { told = rw c.bits_left.ensures (taking_stops per_fields_part c.loop-left.invariant (omega arith) c.in-Some.ensures.some dead) }
+    record { told = rw c.bits_left.ensures.count (taking_stops per_fields_part c.loop-left.invariant (omega arith) c.in-Some.ensures.some dead) }
 
 pub loop-left-preserved : goal.loop-left-preserved
 loop-left-preserved c =

@@ -10,17 +10,13 @@ pub fn same(left: &Value, right: &Value) -> bool
     ensures { IsTrue result ↔ (datum_of left.now ≡ datum_of right.now) }
 {
     match left {
-        Value::Bool(truth) => match right {
-            Value::Bool(other) => *truth == *other,
-            Value::Int(_) | Value::Seq(_) => false,
-        },
-        Value::Int(number) => match right {
-            Value::Int(other) => *number == *other,
-            Value::Bool(_) | Value::Seq(_) => false,
-        },
+        Value::Bool(truth) => matches!(right, Value::Bool(other) if *truth == *other),
+        Value::Null => matches!(right, Value::Null),
+        Value::Int(number) => matches!(right, Value::Int(other) if *number == *other),
+        Value::Enum(place) => matches!(right, Value::Enum(other) if *place == *other),
         Value::Seq(entries) => match right {
             Value::Seq(others) => same_entries(entries, others),
-            Value::Bool(_) | Value::Int(_) => false,
+            _ => false,
         },
     }
 }

@@ -4,9 +4,9 @@ ghost use Rattle.asn_values.specs.Fits.{Fits, FitsEach, FitsDemand};
 ghost use Rattle.asn_values.specs.View.{shape_of, datum_of, demand_of, fields_of, part_of_field};
 
 use crate::checked::Checked;
-use crate::ranges;
 use crate::types::{AsnType, Field, Need};
 use crate::value::Value;
+use crate::{enumerations, ranges};
 
 /// Whether the value is one of the type (X.680), an INTEGER being of 64 signed bits. Takes no memory.
 pub fn fits(ty: &Checked, value: &Value) -> bool
@@ -22,13 +22,16 @@ pub(crate) fn type_has(ty: &AsnType, value: &Value) -> bool
 {
     match ty {
         AsnType::Bool => matches!(value, Value::Bool(_)),
-        AsnType::Int(bounds) => match value {
-            Value::Int(number) => ranges::number_fits(bounds, *number),
-            Value::Bool(_) | Value::Seq(_) => false,
-        },
+        AsnType::Null => matches!(value, Value::Null),
+        AsnType::Int(bounds) => {
+            matches!(value, Value::Int(number) if ranges::number_fits(bounds, *number))
+        }
+        AsnType::Enum { root, ext } => {
+            matches!(value, Value::Enum(place) if enumerations::item_fits(root, ext, *place))
+        }
         AsnType::Seq { root } => match value {
             Value::Seq(entries) => fields_have(root, entries),
-            Value::Bool(_) | Value::Int(_) => false,
+            _ => false,
         },
     }
 }

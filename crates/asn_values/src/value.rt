@@ -3,8 +3,12 @@
 pub enum Value {
     /// of a BOOLEAN
     Bool(bool),
+    /// of NULL
+    Null,
     /// of an INTEGER
     Int(i128),
+    /// of an ENUMERATED: the place of the item, counted from 0 as written, root then additions
+    Enum(u32),
     /// of a SEQUENCE: one entry a component, `None` only for an OPTIONAL one that is absent
     Seq(Vec<Option<Value>>),
 }

@@ -5,8 +5,30 @@ use Rattle.std.proofs.Math.Seq.{drop-nil, drop-append-add, drop-append_seam, tak
 use Rattle.std.proofs.lemmas.Nat.{be_bytes_8}
 use Rattle.std.specs.Int.{w64, from_be_bytes}
 use Rattle.asn_bits.specs.Numbers.{bits, octets, unpacked}
+use Rattle.asn_bits.specs.Sets.{AreBits}
+use Rattle.asn_bits.proofs.FilledBits.{bits_append}
 use Rattle.asn_bits.proofs.Octets.{length-digits}
 use Rattle.asn_bits.proofs.Splits.{digits-add, digits-join, digits-mod, unpacked-octets, unpacked-append, length-unpacked, bytes-octets}
+
+-- digits are bits
+digits_bits : (k n : ℕ) → AreBits (bits k n)
+digits_bits zero n = tt
+digits_bits (suc k) n = (omega arith, digits_bits k n)
+
+-- the bits of octets are bits
+unpacked_bits : (os : List ℕ) → AreBits (unpacked os)
+unpacked_bits [] = tt
+unpacked_bits (o ∷ os) = bits_append (bits 8 o) (unpacked os) (digits_bits 8 o) (unpacked_bits os)
+
+-- and so are those behind some
+drop_bits : (n : ℕ) (us : List ℕ) → AreBits us → AreBits (drop n us)
+drop_bits zero us h = h
+drop_bits (suc n) [] h = tt
+drop_bits (suc n) (u ∷ us) h = drop_bits n us h.1
+
+-- what is left is bits
+pub left_bits : (os : List ℕ) (f : ℕ) → AreBits (drop f (unpacked os))
+left_bits os f = drop_bits f (unpacked os) (unpacked_bits os)
 
 -- how many bits are left
 pub length-left : (os : List ℕ) (f : ℕ) → length (drop f (unpacked os)) ≡ 8 * length os - f
@@ -47,7 +69,7 @@ field_left f k r n s =
     ∙ drop_digits f (n / 2 ^ (k + r)) ((bits k (n / 2 ^ r) ++ bits r n) ++ s)
     ∙ append_assoc (bits k (n / 2 ^ r)) (bits r n) s
 
-field_passed : (f k r n : ℕ) (s : List ℕ) → drop (f + k) (bits (f + (k + r)) n ++ s) ≡ bits r n ++ s
+pub field_passed : (f k r n : ℕ) (s : List ℕ) → drop (f + k) (bits (f + (k + r)) n ++ s) ≡ bits r n ++ s
 field_passed f k r n s =
     let e : f + (k + r) ≡ (f + k) + (0 + r) = omega arith in
     ap (λ i. drop (f + k) (bits i n ++ s)) e ∙ field_left (f + k) 0 r n s

@@ -7,6 +7,7 @@ pub mod lengths;
 pub mod number_field;
 pub mod numbers;
 pub mod offsets;
+mod shifts;
 pub mod sink;
 
 pub use cursor::BitCursor;

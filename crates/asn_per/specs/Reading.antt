@@ -1,9 +1,13 @@
 -- What the readers of the decoder read.
-use Rattle.std.specs.Prelude.{◌≢◌, ◌≤◌, ◌-◌, ◌^◌, ◌==◌, ◌&&◌, ℕ, ℤ, true, false, nat_lt, List, Option, Some, None, ⊤}
-use Rattle.asn_values.specs.Shape.{Range}
+use Rattle.std.specs.Prelude.{◌≡◌, ◌≢◌, ◌≤◌, ◌-◌, ◌^◌, ◌==◌, ◌&&◌, ℕ, ℤ, true, false, nat_lt, List, ◌++◌, Option, Some, None, ⊤}
+use Rattle.asn_values.specs.Shape.{Range, Alphabet, ia5, numeric, visible}
 use Rattle.asn_values.specs.Fits.{FitsNumber}
 use Rattle.asn_bits.specs.Numbers.{octet_count}
 use Rattle.asn_bits.specs.Sets.{Among}
+use Rattle.asn_rules.specs.Chunks.{Chunk}
+use Rattle.asn_rules.specs.Languages.{Spells, Row}
+use Rattle.asn_per.specs.Per.{per_fields}
+use Rattle.asn_per.specs.Kinds.{numeric_at}
 use Rattle.asn_per.specs.declared.number_reader.Numbers.{Numbers}
 
 -- ---- numbers
@@ -44,3 +48,31 @@ least_of count = elim (nat_lt 1 count) [ true ↦ 256 ^ (count - 1) | false ↦ 
 abbrev pub highest_count_of : ℕ → Option ℕ → ℕ
 highest_count_of high None = octet_count high
 highest_count_of high (Some x) = elim (x == high && high == least_of (octet_count high)) [ true ↦ octet_count high - 1 | false ↦ octet_count high ]
+
+-- ---- items one after the other
+
+-- n items are read from the units us, behind which rest stands, and put behind those of old
+pub record Appends {A : Type 0} (L : A → List Chunk → Type 0) (n : ℕ) (old new : List A) (us rest : List ℕ) : Type 0 where
+  pub row : List A
+  pub same : new ≡ old ++ row
+  pub spelt : Spells per_fields (Row L n) row us rest
+
+-- ---- characters
+
+-- how many bits a character has
+abbrev pub code_width : Alphabet → ℕ
+code_width ia5 = 7
+code_width visible = 7
+code_width numeric = 4
+
+-- what these bits may be
+abbrev pub codes_of : Alphabet → Numbers
+codes_of ia5 = record { low = 0; high = 127; except = None }
+codes_of visible = record { low = 32; high = 126; except = None }
+codes_of numeric = record { low = 0; high = 10; except = None }
+
+-- the character that the bits stand for
+abbrev pub character_at : Alphabet → ℕ → ℕ
+character_at ia5 n = n
+character_at visible n = n
+character_at numeric n = numeric_at n

@@ -7,6 +7,7 @@ mod integer_reader;
 mod kinds;
 mod laws;
 mod number_reader;
+mod row_reader;
 #[cfg(test)]
 mod tests;
 mod value_reader;

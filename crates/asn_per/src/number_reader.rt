@@ -2,7 +2,7 @@
 ghost use Rattle.std.specs.Prelude.{◌≡◌, ◌≤◌, ◌↔◌, ℕ, List, IfOk, IfErr, IfSome, IsNone, IsTrue, length};
 ghost use Rattle.asn_rules.specs.Languages.{Spells, Plain};
 ghost use Rattle.asn_bits.specs.Begun.{StandsFirst};
-ghost use Rattle.asn_bits.specs.Sets.{InSet, Meets, Among};
+ghost use Rattle.asn_bits.specs.Sets.{AreBits, InSet, Meets, Among};
 ghost use Rattle.asn_rules.specs.Stops.{Stops};
 ghost use Rattle.asn_per.specs.Per.{per_fields};
 ghost use Rattle.asn_per.specs.Reading.{Admits, AreAmong};
@@ -20,7 +20,7 @@ pub(crate) struct Numbers {
 }
 
 /// Whether the number is one of them.
-fn admits(set: Numbers, n: u64) -> bool
+pub(crate) fn admits(set: Numbers, n: u64) -> bool
     ensures { IsTrue result ↔ Admits set n }
 {
     set.low <= n && n <= set.high && set.except.is_none_or(|except| n != except)
@@ -43,7 +43,8 @@ fn intervals_of(set: Numbers) -> Intervals
 
 /// How many bits are left.
 pub(crate) fn bits_left(bits: &BitCursor<'_>) -> u128
-    ensures { result ≡ length bits.now }
+    ensures count { result ≡ length bits.now }
+    ensures bits { AreBits bits.now }
 {
     8 * bits.octets_left() as u128 + u128::from(bits.rest_of_octet())
 }

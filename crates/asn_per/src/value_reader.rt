@@ -169,7 +169,7 @@ fn highest_bitmap(count: u32) -> u64
 }
 
 /// The bit of the number that has `place` lower ones.
-fn bit_at(bitmap: u64, place: u32) -> bool
+pub(crate) fn bit_at(bitmap: u64, place: u32) -> bool
     requires { place < 64 }
     ensures { bit_of result ≡ bitmap / 2 ^ place % 2 }
 {

@@ -22,8 +22,8 @@ returns-in_err-padding-clause-stop c =
     let r = c.read.new.bits in
     let read : Spells per_fields (Spelt per None (shape_of c.args.ty.now)) (datum_of c.in_ok-value.value) us r = c.in_ok-value.ensures.done in
     let zeros : filling (length us - length r) ≡ replicate c.if-bits_left-given.zeros 0 = elim c.if-bits_left-given.branch [
-      | then-bits_left-given w ↦ eight_zeros us r c.if-bits_left-given.zeros (sym c.bits_left.ensures ∙ w.if-bits_left-given.true ∙ c.bits_left-given.ensures) w.zeros-is
-      | else-bits_left-given w ↦ zeros_of_octet (shape_of c.args.ty.now) (datum_of c.in_ok-value.value) us r c.if-bits_left-given.zeros c.requires.whole read (λ e. w.if-bits_left-given.false (c.bits_left.ensures ∙ e ∙ sym c.bits_left-given.ensures)) (w.zeros-is ∙ w.rest_of_octet-zeros.ensures.rest)
+      | then-bits_left-given w ↦ eight_zeros us r c.if-bits_left-given.zeros (sym c.bits_left.ensures.count ∙ w.if-bits_left-given.true ∙ c.bits_left-given.ensures.count) w.zeros-is
+      | else-bits_left-given w ↦ zeros_of_octet (shape_of c.args.ty.now) (datum_of c.in_ok-value.value) us r c.if-bits_left-given.zeros c.requires.whole read (λ e. w.if-bits_left-given.false (c.bits_left.ensures.count ∙ e ∙ sym c.bits_left-given.ensures.count)) (w.zeros-is ∙ w.rest_of_octet-zeros.ensures.rest)
     ] in
     rw (p.1, p.2) (stops_by _ (zeros_behind (shape_of c.args.ty.now) (datum_of c.in_ok-value.value) us r c.if-bits_left-given.zeros c.requires.of_profile read zeros).stops c.in_err-padding.ensures.stop)
 
@@ -33,7 +33,7 @@ returns-clause-done c =
     let r = c.read.new.bits in
     let read : Spells per_fields (Spelt per None (shape_of c.args.ty.now)) (datum_of c.in_ok-value.value) us r = c.in_ok-value.ensures.done in
     let zeros : filling (length us - length r) ≡ replicate c.if-bits_left-given.zeros 0 = elim c.if-bits_left-given.branch [
-      | then-bits_left-given w ↦ eight_zeros us r c.if-bits_left-given.zeros (sym c.bits_left.ensures ∙ w.if-bits_left-given.true ∙ c.bits_left-given.ensures) w.zeros-is
-      | else-bits_left-given w ↦ zeros_of_octet (shape_of c.args.ty.now) (datum_of c.in_ok-value.value) us r c.if-bits_left-given.zeros c.requires.whole read (λ e. w.if-bits_left-given.false (c.bits_left.ensures ∙ e ∙ sym c.bits_left-given.ensures)) (w.zeros-is ∙ w.rest_of_octet-zeros.ensures.rest)
+      | then-bits_left-given w ↦ eight_zeros us r c.if-bits_left-given.zeros (sym c.bits_left.ensures.count ∙ w.if-bits_left-given.true ∙ c.bits_left-given.ensures.count) w.zeros-is
+      | else-bits_left-given w ↦ zeros_of_octet (shape_of c.args.ty.now) (datum_of c.in_ok-value.value) us r c.if-bits_left-given.zeros c.requires.whole read (λ e. w.if-bits_left-given.false (c.bits_left.ensures.count ∙ e ∙ sym c.bits_left-given.ensures.count)) (w.zeros-is ∙ w.rest_of_octet-zeros.ensures.rest)
     ] in
     (zeros_behind (shape_of c.args.ty.now) (datum_of c.in_ok-value.value) us r c.if-bits_left-given.zeros c.requires.of_profile read zeros).done c.in_ok-padding.field-0 c.padding.new.bits c.in_ok-padding.ensures.done

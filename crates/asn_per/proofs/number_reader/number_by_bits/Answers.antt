@@ -29,4 +29,4 @@ returns-in-Dead-clause-stop c =
     let now = c.in-Dead.ensures.given in
     let bit = bit_again c.in-Some.bit c.in-Some.ensures.bit in
     let dead = rw (now, same, c.loop-bit.invariant.1, bit) at c.in-Dead.ensures.state in
-    record { told = rw c.bits_left.ensures (giving_stops per_fields_part (rw same at c.loop-bit.invariant.0) c.in-Some.ensures.some dead) }
+    record { told = rw c.bits_left.ensures.count (giving_stops per_fields_part (rw same at c.loop-bit.invariant.0) c.in-Some.ensures.some dead) }

@@ -1,0 +1,194 @@
+//! Readers of items that stand one after the other, which put them behind those of a vector: bits and
+//! characters, as many at a time as a word holds.
+ghost use Rattle.std.specs.Prelude.{◌≡◌, ◌≤◌, ◌<◌, ◌+◌, ◌*◌, ◌/◌, ◌%◌, ◌^◌, ◌++◌, ℕ, List, IfOk, IfErr, IsTrue, true, false, vec_len, vec_capacity};
+ghost use Rattle.asn_values.specs.View.{alphabet_of};
+ghost use Rattle.asn_bits.specs.Numbers.{bits};
+ghost use Rattle.asn_rules.specs.Languages.{Spells, Row};
+ghost use Rattle.asn_rules.specs.Stops.{Stops};
+ghost use Rattle.asn_per.specs.Per.{per_fields};
+ghost use Rattle.asn_per.specs.Kinds.{Bit, Character};
+ghost use Rattle.asn_per.specs.Reading.{Admits, Appends, code_width, codes_of, character_at};
+
+use crate::number_reader::{Numbers, admits, bits_left, number};
+use crate::value_reader::bit_at;
+use asn_bits::BitCursor;
+use asn_rules::{Stop, Why};
+use asn_values::TextKind;
+use std::alloc::AllocError;
+
+/// Reads so many bits of a BIT STRING (X.691, "encoding the bitstring type").
+pub(crate) fn append_bits(
+    count: usize,
+    into: &mut Vec<bool>,
+    cursor: &mut BitCursor<'_>,
+) -> Result<(), Stop>
+    ensures done { IfOk result (λ _. Appends Bit count into.old.items into.new.items cursor.old cursor.new) }
+    ensures stop { IfErr result (λ why. Stops per_fields (Row Bit count) cursor.old why) }
+{
+    if bits_left(cursor) < count as u128 {
+        return Err(Stop::Short);
+    }
+    into.reserve(count)?;
+    let mut left = count;
+    while left > 0 {
+        let many = left.min(64) as u32;
+        let Some(word) = cursor.take_number(many) else {
+            unreachable!()
+        };
+        push_bits(many, word, into);
+        left -= many as usize;
+    }
+    Ok(())
+}
+
+/// Puts the last `count` bits of a number behind those of a vector that has room for them.
+fn push_bits(count: u32, word: u64, into: &mut Vec<bool>)
+    requires few { count ≤ 64 }
+    requires room { vec_len into.old + count ≤ vec_capacity into.old }
+    ensures items { (rest : List ℕ) → Appends Bit count into.old.items into.new.items (bits count word ++ rest) rest }
+    ensures len { vec_len into.new ≡ vec_len into.old + count }
+    ensures capacity { vec_capacity into.new ≡ vec_capacity into.old }
+{
+    for i in 0..count {
+        into.push_reserved(bit_at(word, count - 1 - i));
+    }
+}
+
+/// Reads so many characters (X.691, "encoding the restricted character string types").
+pub(crate) fn append_characters(
+    kind: TextKind,
+    count: usize,
+    into: &mut Vec<u8>,
+    cursor: &mut BitCursor<'_>,
+) -> Result<(), Stop>
+    ensures done { IfOk result (λ _. Appends (Character (alphabet_of kind)) count into.old.items into.new.items cursor.old cursor.new) }
+    ensures stop { IfErr result (λ why. Stops per_fields (Row (Character (alphabet_of kind)) count) cursor.old why) }
+{
+    let at_once = (64 / width_of(kind)) as usize;
+    let mut left = count;
+    while left > 0 {
+        let many = left.min(at_once);
+        if take_characters(kind, many as u32, into, cursor)? {
+            left -= many;
+        } else {
+            into.push(character(kind, cursor)?)?;
+            left -= 1;
+        }
+    }
+    Ok(())
+}
+
+/// Takes so many characters in one step, where they are at hand and of the kind: whether it did.
+fn take_characters(
+    kind: TextKind,
+    count: u32,
+    into: &mut Vec<u8>,
+    cursor: &mut BitCursor<'_>,
+) -> Result<bool, AllocError>
+    requires { code_width (alphabet_of kind) * count ≤ 64 }
+    ensures taken { IfOk result (λ taken. taken ≡ true → Appends (Character (alphabet_of kind)) count into.old.items into.new.items cursor.old cursor.new) }
+    ensures not_taken { IfOk result (λ taken. taken ≡ false → (into.new.items ≡ into.old.items) × (cursor.new ≡ cursor.old)) }
+{
+    let before = cursor.copied();
+    let Some(word) = cursor.take_number(width_of(kind) * count) else {
+        return Ok(false);
+    };
+    if !are_of_kind(kind, count, word) {
+        *cursor = before;
+        return Ok(false);
+    }
+    into.reserve(count as usize)?;
+    push_characters(kind, count, word, into);
+    Ok(true)
+}
+
+/// Whether the codes in the number are those of characters.
+fn are_of_kind(kind: TextKind, count: u32, word: u64) -> bool
+    requires { code_width (alphabet_of kind) * count ≤ 64 }
+    ensures { IsTrue result → (place : ℕ) → place < count
+        → Admits (codes_of (alphabet_of kind)) (word / 2 ^ (code_width (alphabet_of kind) * place) % 2 ^ code_width (alphabet_of kind)) }
+{
+    for place in 0..count {
+        if !admits(codes(kind), code_at(kind, word, place)) {
+            return false;
+        }
+    }
+    true
+}
+
+/// Puts the characters whose codes the number has behind those of a vector that has room for them.
+fn push_characters(kind: TextKind, count: u32, word: u64, into: &mut Vec<u8>)
+    requires few { code_width (alphabet_of kind) * count ≤ 64 }
+    requires of_kind { (place : ℕ) → place < count
+        → Admits (codes_of (alphabet_of kind)) (word / 2 ^ (code_width (alphabet_of kind) * place) % 2 ^ code_width (alphabet_of kind)) }
+    requires room { vec_len into.old + count ≤ vec_capacity into.old }
+    ensures { (rest : List ℕ) → Appends (Character (alphabet_of kind)) count into.old.items into.new.items (bits (code_width (alphabet_of kind) * count) word ++ rest) rest }
+{
+    for i in 0..count {
+        let code = code_at(kind, word, count - 1 - i);
+        into.push_reserved(character_of(kind, code));
+    }
+}
+
+/// The code in the number that has so many codes behind it.
+fn code_at(kind: TextKind, word: u64, place: u32) -> u64
+    requires { code_width (alphabet_of kind) * place < 64 }
+    ensures { result ≡ word / 2 ^ (code_width (alphabet_of kind) * place) % 2 ^ code_width (alphabet_of kind) }
+{
+    let width = width_of(kind);
+    word >> (width * place) & ((1 << width) - 1)
+}
+
+/// Reads a character, refused at the first bit after which there is none.
+fn character(kind: TextKind, cursor: &mut BitCursor<'_>) -> Result<u8, Stop>
+    ensures done { IfOk result (λ c. Spells per_fields (Character (alphabet_of kind)) c cursor.old cursor.new) }
+    ensures stop { IfErr result (λ why. Stops per_fields (Character (alphabet_of kind)) cursor.old why) }
+{
+    let code = number(width_of(kind), codes(kind), Why::Character, cursor)?;
+    Ok(character_of(kind, code))
+}
+
+/// How many bits a character has.
+fn width_of(kind: TextKind) -> u32
+    ensures width { result ≡ code_width (alphabet_of kind) }
+    ensures some { 4 ≤ result }
+    ensures few { result ≤ 7 }
+{
+    match kind {
+        TextKind::Ia5 | TextKind::Visible => 7,
+        TextKind::Numeric => 4,
+    }
+}
+
+/// Which codes there are.
+fn codes(kind: TextKind) -> Numbers
+    ensures { result ≡ codes_of (alphabet_of kind) }
+{
+    let (low, high) = match kind {
+        TextKind::Ia5 => (0, 127),
+        TextKind::Visible => (32, 126),
+        TextKind::Numeric => (0, 10),
+    };
+    Numbers {
+        low,
+        high,
+        except: None,
+    }
+}
+
+/// The character with the code: of a NumericString, SPACE has 0 and a digit one more than it says.
+fn character_of(kind: TextKind, code: u64) -> u8
+    requires { Admits (codes_of (alphabet_of kind)) code }
+    ensures { result ≡ character_at (alphabet_of kind) code }
+{
+    match kind {
+        TextKind::Ia5 | TextKind::Visible => code as u8,
+        TextKind::Numeric => {
+            if code == 0 {
+                b' '
+            } else {
+                b'0' + (code as u8 - 1)
+            }
+        }
+    }
+}

@@ -5,8 +5,9 @@ use std::alloc::{AllocError, Global};
 /// The type of the line: `SEQUENCE { id INTEGER (0..7), ok BOOLEAN DEFAULT TRUE, flag BOOLEAN OPTIONAL }`.
 pub fn sample_type(alloc: Global) -> Result<Checked, AllocError> {
     let id = Bounds {
-        low: 0,
+        low: Some(0),
         high: Some(7),
+        ext: false,
     };
     let fields = vec![in alloc;
         field(alloc, "id", AsnType::Int(id), Need::Must)?,

@@ -11,7 +11,11 @@ const HIGHEST: i128 = 9_223_372_036_854_775_807;
 
 /// INTEGER (low..high), or INTEGER (low..MAX)
 fn integer(low: i128, high: Option<i128>) -> AsnType {
-    AsnType::Int(Bounds { low, high })
+    AsnType::Int(Bounds {
+        low: Some(low),
+        high,
+        ext: false,
+    })
 }
 
 fn field(alloc: Global, name: &str, ty: AsnType, need: Need) -> Result<Field, AllocError> {

@@ -4,13 +4,13 @@ use Rattle.std.proofs.lemmas.List.{drop_all}
 use Rattle.std.proofs.Math.Seq.{drop-cons}
 use Rattle.std.proofs.Math.Numerals.{add-one}
 use Rattle.asn_values.specs.declared.types.Field.{Field}
-use Rattle.asn_values.specs.declared.types.AsnType.{AsnType, Bool, Int, Seq, the_lemmas}
+use Rattle.asn_values.specs.declared.types.AsnType.{AsnType, Bool, Null, Int, Seq, the_lemmas}
 use Rattle.asn_values.specs.declared.types.Bounds.{Bounds}
 use Rattle.asn_values.specs.declared.fault.TypeFault.{TypeFault}
 use Rattle.asn_values.specs.Walk.{IsFaultless, IsSoundWithin, IsFaultWithin, AreSoundWithin, IsFaultAmong}
 use Rattle.asn_values.specs.View.{shape_of, range_of, fields_of, part_of_field}
-use Rattle.asn_values.proofs.Views.{shape_of-Bool, shape_of-Int, sequence_of_fields}
-use Rattle.asn_values.proofs.Walks.{IsWalkedTo, goes_on, ends, fault_among, sound_boolean, sound_integer, sound_sequence, fault_behind}
+use Rattle.asn_values.proofs.Views.{shape_of-Bool, shape_of-Null, shape_of-Int, sequence_of_fields}
+use Rattle.asn_values.proofs.Walks.{IsWalkedTo, goes_on, ends, fault_among, sound_boolean, sound_null, sound_integer, sound_sequence, fault_behind}
 
 -- the components still to be looked at are the next one and those behind it
 next_one : (levels start left : ℕ) (fields : List Field) (i : ℕ) (x : Field) → i < length fields → x ≡ get_or fields i x →
@@ -63,7 +63,8 @@ sequence_fault (Err f) levels start t root fs et ef some more h =
     rw type (fault_behind f levels start (fields_of (map part_of_field fs)) some more h)
 
 -- a type without others inside it is sound by itself
-pub simple_is_sound : (levels start : ℕ) (t : AsnType) → (t ≡ Bool) ⊎ ((b : Bounds) × (t ≡ Int b)) → 0 < levels → 0 < start →
+pub simple_is_sound : (levels start : ℕ) (t : AsnType) → (t ≡ Bool) ⊎ (t ≡ Null) ⊎ ((b : Bounds) × (t ≡ Int b)) → 0 < levels → 0 < start →
     IsFaultless (shape_of t) → IsSoundWithin levels start (start - 1) (shape_of t)
 simple_is_sound levels start t (inl e) some more here = rw (e, shape_of-Bool) (sound_boolean levels start some more (rw (e, shape_of-Bool) at here))
-simple_is_sound levels start t (inr (b, e)) some more here = rw (e, shape_of-Int) (sound_integer levels start (range_of b) some more (rw (e, shape_of-Int) at here))
+simple_is_sound levels start t (inr (inl e)) some more here = rw (e, shape_of-Null) (sound_null levels start some more (rw (e, shape_of-Null) at here))
+simple_is_sound levels start t (inr (inr (b, e))) some more here = rw (e, shape_of-Int) (sound_integer levels start (range_of b) some more (rw (e, shape_of-Int) at here))

@@ -8,12 +8,15 @@ use Rattle.asn_values.specs.declared.value.Value.{Value}
 use Rattle.asn_values.specs.declared.value.Value as values
 use Rattle.asn_values.specs.declared.value.Value.TheVariants as value
 use Rattle.asn_values.specs.Datum.{Datum, components, components_of, component_list}
-use Rattle.asn_values.specs.Shape.{boolean, integer, sequence, closed}
+use Rattle.asn_values.specs.Shape.{boolean, null, integer, sequence, closed}
 use Rattle.asn_values.specs.View.{shape_of, datum_of, range_of, fields_of, part_of_field}
 
 -- types without others inside them
 pub shape_of-Bool : shape_of asn_type.Bool ≡ boolean
 shape_of-Bool = search (rules, the_lemmas)
+
+pub shape_of-Null : shape_of asn_type.Null ≡ null
+shape_of-Null = search (rules, the_lemmas)
 
 pub shape_of-Int : (b : Bounds) → shape_of (asn_type.Int b) ≡ integer (range_of b)
 shape_of-Int b = search (rules, the_lemmas)

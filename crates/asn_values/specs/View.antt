@@ -1,5 +1,5 @@
 -- What the types, values and faults of the program stand for.
-use Rattle.std.specs.Prelude.{◌≡◌, true, false, ⊤, List, [], ◌∷◌, ℕ, string_bytes, Some}
+use Rattle.std.specs.Prelude.{◌≡◌, true, ⊤, List, [], ◌∷◌, ℕ, string_bytes}
 use Rattle.asn_values.specs.declared.types.Bounds.{Bounds}
 use Rattle.asn_values.specs.declared.types.Size.{Size}
 use Rattle.asn_values.specs.declared.types.TextKind.{TextKind}
@@ -15,15 +15,16 @@ use Rattle.asn_values.specs.declared.value.Value.{Value, fold-Value}
 use Rattle.asn_values.specs.declared.value.Value.TheOpen.{Value-F}
 use Rattle.asn_values.specs.declared.fault.TypeFault.{TypeFault}
 use Rattle.asn_values.specs.declared.fault.TypeFault.TheVariants as fault
-use Rattle.asn_values.specs.Datum.{Datum, truth, number, components, components_of}
-use Rattle.asn_values.specs.Shape.{Range, SizeRange, Alphabet, ia5, numeric, visible, Label, Shape, boolean, integer, sequence, Demand, must, optional, default, Fields, no_fields, field, closed}
-use Rattle.asn_values.specs.Profile.{EmptyRange, DuplicateName, BadDefault, TooMany, TooDeep, has}
+use Rattle.asn_values.specs.Datum.{Datum, truth, nothing, number, components, components_of}
+use Rattle.asn_values.specs.Shape.{Range, SizeRange, Alphabet, ia5, numeric, visible, Label, Shape, boolean, null, integer, sequence, Demand, must, optional, default, Fields, no_fields, field, closed}
+use Rattle.asn_values.specs.Profile.{EmptyRange, DuplicateName, UselessMark, BadDefault, TooMany, TooDeep, has}
 
 -- ---- values
 
 -- one level of a value, the values inside already seen as data
 abbrev pub datum_step : Value-F Datum → Datum
 datum_step (Value-F.Bool b) = truth b
+datum_step Value-F.Null = nothing
 datum_step (Value-F.Int z) = number z
 datum_step (Value-F.Seq v) = components (components_of v.items)
 
@@ -33,7 +34,7 @@ datum_of = fold-Value Datum datum_step
 -- ---- types
 
 abbrev pub range_of : Bounds → Range
-range_of b = record { low = Some b.low; high = b.high; extensible = false }
+range_of b = record { low = b.low; high = b.high; extensible = b.ext }
 
 abbrev pub size_range_of : Size → SizeRange
 size_range_of s = record { low = s.low; high = s.high; extensible = s.ext }
@@ -64,6 +65,7 @@ fields_of (p ∷ ps) = field p.name p.demand p.shape (fields_of ps)
 -- one level of a type, the types inside already seen as shapes
 abbrev pub shape_step : AsnType-F Shape Part → Shape
 shape_step AsnType-F.Bool = boolean
+shape_step AsnType-F.Null = null
 shape_step (AsnType-F.Int b) = integer (range_of b)
 shape_step (AsnType-F.Seq root) = sequence (fields_of root.items) closed
 
@@ -82,6 +84,7 @@ part_of_field = fold-Field Shape Part shape_step field_step
 abbrev pub Holds : TypeFault → Shape → Type 0
 Holds fault.EmptyRange t = has EmptyRange t ≡ true
 Holds fault.DuplicateName t = has DuplicateName t ≡ true
+Holds fault.UselessMark t = has UselessMark t ≡ true
 Holds fault.BadDefault t = has BadDefault t ≡ true
 Holds fault.TooMany t = has TooMany t ≡ true
 Holds fault.TooDeep t = has TooDeep t ≡ true

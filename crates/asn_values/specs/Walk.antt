@@ -29,6 +29,7 @@ IsFaultless t = (c : Condition) → test_of c t ≡ false
 abbrev pub HoldsHere : TypeFault → Shape → Type 0
 HoldsHere fault.EmptyRange t = empty_range t ≡ true
 HoldsHere fault.DuplicateName t = duplicate_name t ≡ true
+HoldsHere fault.UselessMark t = useless_mark t ≡ true
 HoldsHere fault.BadDefault t = bad_default t ≡ true
 HoldsHere fault.TooMany t = too_many_here t ≡ true
 HoldsHere fault.TooDeep t = ⊥
@@ -46,6 +47,7 @@ pub record IsSoundWithin (levels start left : ℕ) (t : Shape) : Type 0 where
 abbrev pub IsFaultWithin : TypeFault → ℕ → ℕ → Shape → Type 0
 IsFaultWithin fault.EmptyRange levels start t = somewhere empty_range t ≡ true
 IsFaultWithin fault.DuplicateName levels start t = somewhere duplicate_name t ≡ true
+IsFaultWithin fault.UselessMark levels start t = somewhere useless_mark t ≡ true
 IsFaultWithin fault.BadDefault levels start t = somewhere bad_default t ≡ true
 IsFaultWithin fault.TooMany levels start t = (somewhere too_many_here t ≡ true) ⊎ (start < nodes t)
 IsFaultWithin fault.TooDeep levels start t = levels < depth t
@@ -62,6 +64,7 @@ pub record AreSoundWithin (levels start left : ℕ) (fs : Fields) : Type 0 where
 abbrev pub IsFaultAmong : TypeFault → ℕ → ℕ → Fields → Type 0
 IsFaultAmong fault.EmptyRange levels start fs = some_field empty_range fs ≡ true
 IsFaultAmong fault.DuplicateName levels start fs = some_field duplicate_name fs ≡ true
+IsFaultAmong fault.UselessMark levels start fs = some_field useless_mark fs ≡ true
 IsFaultAmong fault.BadDefault levels start fs = some_field bad_default fs ≡ true
 IsFaultAmong fault.TooMany levels start fs = (some_field too_many_here fs ≡ true) ⊎ (start < fields_nodes fs)
 IsFaultAmong fault.TooDeep levels start fs = levels < fields_depth fs

@@ -29,8 +29,8 @@ fn is_good(ty: &AsnType, value: &Value) -> bool
         AsnType::Bool => matches!(value, Value::Bool(_)),
         AsnType::Int(bounds) => match value {
             Value::Int(number) => ranges::is_good_number(bounds, *number),
-            Value::Bool(_) | Value::Seq(_) => false,
+            Value::Bool(_) | Value::Null | Value::Seq(_) => false,
         },
-        AsnType::Seq { .. } => false,
+        AsnType::Null | AsnType::Seq { .. } => false,
     }
 }

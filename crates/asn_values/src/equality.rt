@@ -12,15 +12,16 @@ pub fn same(left: &Value, right: &Value) -> bool
     match left {
         Value::Bool(truth) => match right {
             Value::Bool(other) => *truth == *other,
-            Value::Int(_) | Value::Seq(_) => false,
+            Value::Null | Value::Int(_) | Value::Seq(_) => false,
         },
+        Value::Null => matches!(right, Value::Null),
         Value::Int(number) => match right {
             Value::Int(other) => *number == *other,
-            Value::Bool(_) | Value::Seq(_) => false,
+            Value::Bool(_) | Value::Null | Value::Seq(_) => false,
         },
         Value::Seq(entries) => match right {
             Value::Seq(others) => same_entries(entries, others),
-            Value::Bool(_) | Value::Int(_) => false,
+            Value::Bool(_) | Value::Null | Value::Int(_) => false,
         },
     }
 }

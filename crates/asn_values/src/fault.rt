@@ -12,7 +12,11 @@ pub enum TypeFault {
     /// A name twice in one SEQUENCE, or one that is no identifier.
     #[error("duplicate name")]
     DuplicateName = 3,
-    /// A DEFAULT on a SEQUENCE, on a type with one value only, or one that is no value of its type.
+    /// An extension mark on an INTEGER whose root is already every integer of 64 signed bits.
+    #[error("useless mark")]
+    UselessMark = 5,
+    /// A DEFAULT on another type than BOOLEAN and INTEGER, on a type with an extension mark or one
+    /// value only, or one that is no value of its type.
     #[error("bad default")]
     BadDefault = 6,
     /// More than 64 components in a SEQUENCE, or more than 10,000 types inside one another.

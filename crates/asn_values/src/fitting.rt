@@ -22,13 +22,14 @@ pub(crate) fn type_has(ty: &AsnType, value: &Value) -> bool
 {
     match ty {
         AsnType::Bool => matches!(value, Value::Bool(_)),
+        AsnType::Null => matches!(value, Value::Null),
         AsnType::Int(bounds) => match value {
             Value::Int(number) => ranges::number_fits(bounds, *number),
-            Value::Bool(_) | Value::Seq(_) => false,
+            Value::Bool(_) | Value::Null | Value::Seq(_) => false,
         },
         AsnType::Seq { root } => match value {
             Value::Seq(entries) => fields_have(root, entries),
-            Value::Bool(_) | Value::Int(_) => false,
+            Value::Bool(_) | Value::Null | Value::Int(_) => false,
         },
     }
 }

@@ -4,17 +4,19 @@ use std::alloc::{AllocError, Global};
 use std::process::Abort;
 use std::test::Fail;
 
+/// INTEGER with these bounds, and the extension mark where `ext`
+fn bounded(low: Option<i128>, high: Option<i128>, ext: bool) -> AsnType {
+    AsnType::Int(Bounds { low, high, ext })
+}
+
 /// INTEGER (low..high)
 fn int(low: i128, high: i128) -> AsnType {
-    AsnType::Int(Bounds {
-        low,
-        high: Some(high),
-    })
+    bounded(Some(low), Some(high), false)
 }
 
 /// INTEGER (low..MAX)
 fn int_from(low: i128) -> AsnType {
-    AsnType::Int(Bounds { low, high: None })
+    bounded(Some(low), None, false)
 }
 
 fn field(alloc: Global, name: &str, ty: AsnType, need: Need) -> Result<Field, AllocError> {
@@ -112,6 +114,26 @@ fn ranges_have_faults(rt: HostRuntime) {
     expect_fault(&rt, alloc, "low too high", int_from(highest + 1), empty);
     expect_fault(&rt, alloc, "high too high", int(0, highest + 1), empty);
     expect_fault(&rt, alloc, "to MAX", int_from(highest), None);
+    let from_min = bounded(None, Some(lowest - 1), false);
+    expect_fault(&rt, alloc, "high too low", from_min, empty);
+    expect_fault(&rt, alloc, "none", bounded(None, None, false), None);
+    let marked = bounded(Some(7), Some(6), true);
+    expect_fault(&rt, alloc, "low above high, marked", marked, empty);
+}
+
+#[test]
+fn marks_have_faults(rt: HostRuntime) {
+    let alloc = rt.alloc();
+    let lowest = i128::from(i64::MIN);
+    let highest = i128::from(i64::MAX);
+    for (low, high, want) in [
+        (None, None, Some(TypeFault::UselessMark)),
+        (Some(lowest), Some(highest), Some(TypeFault::UselessMark)),
+        (Some(lowest + 1), None, None),
+        (None, Some(highest - 1), None),
+    ] {
+        expect_fault(&rt, alloc, "of INTEGER", bounded(low, high, true), want);
+    }
 }
 
 #[test]
@@ -176,6 +198,12 @@ fn defaults_have_faults(rt: HostRuntime) -> Result<(), Fail> {
     let top = with_default(alloc, int_from(highest), Value::Int(highest))?;
     expect_fault(&rt, alloc, "of the one number up to MAX", top, bad);
     let none = Value::Seq(vec![in alloc]?);
+    let any = with_default(alloc, bounded(None, None, false), Value::Int(-1))?;
+    expect_fault(&rt, alloc, "of any INTEGER", any, None);
+    let marked = with_default(alloc, bounded(Some(0), Some(7), true), Value::Int(0))?;
+    expect_fault(&rt, alloc, "of an INTEGER with a mark", marked, bad);
+    let null = with_default(alloc, AsnType::Null, Value::Null)?;
+    expect_fault(&rt, alloc, "of NULL", null, bad);
     let constructed = with_default(
         alloc,
         AsnType::Seq {

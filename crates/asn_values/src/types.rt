@@ -3,9 +3,12 @@ use crate::value::Value;
 /// The bounds of an INTEGER, both counted in (X.680, "value range").
 #[derive(Clone, Copy, Debug)]
 pub struct Bounds {
-    pub low: i128,
-    /// `None` where there is no upper bound.
+    /// `None` where there is no lower bound (MIN).
+    pub low: Option<i128>,
+    /// `None` where there is no upper bound (MAX).
     pub high: Option<i128>,
+    /// Whether the extension mark follows: then other integers are values too.
+    pub ext: bool,
 }
 
 /// The bounds of a length (X.680, "size constraint"), in items, both counted in.
@@ -62,6 +65,8 @@ pub struct Field {
 pub enum AsnType {
     /// BOOLEAN
     Bool,
+    /// NULL
+    Null,
     /// INTEGER with bounds
     Int(Bounds),
     /// SEQUENCE of the components in `root`, in this order

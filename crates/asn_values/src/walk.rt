@@ -1,11 +1,11 @@
 //! The walk that finds the first fault of a type, from the outside in and from left to right.
 ghost use Rattle.std.specs.Prelude.{IfOk, IfErr, map};
-ghost use Rattle.asn_values.specs.Shape.{sequence, closed};
+ghost use Rattle.asn_values.specs.Shape.{integer, sequence, closed};
 ghost use Rattle.asn_values.specs.Walk.{IsFaultless, HoldsHere, IsSoundWithin, IsFaultWithin, AreSoundWithin, IsFaultAmong};
-ghost use Rattle.asn_values.specs.View.{shape_of, fields_of, part_of_field};
+ghost use Rattle.asn_values.specs.View.{shape_of, range_of, fields_of, part_of_field};
 
 use crate::fault::TypeFault;
-use crate::types::{AsnType, Field};
+use crate::types::{AsnType, Bounds, Field};
 use crate::{default_values, names, ranges};
 
 /// The most components of a SEQUENCE.
@@ -29,7 +29,7 @@ pub(crate) fn nodes_left(ty: &AsnType, levels: u32, start: u32) -> Result<u32, T
         return Err(TypeFault::TooDeep);
     }
     match ty {
-        AsnType::Bool | AsnType::Int(_) => Ok(start - 1),
+        AsnType::Bool | AsnType::Null | AsnType::Int(_) => Ok(start - 1),
         AsnType::Seq { root } => nodes_left_behind(root, levels - 1, start - 1),
     }
 }
@@ -53,15 +53,24 @@ fn check_node(ty: &AsnType) -> Result<(), TypeFault>
     ensures fault { IfErr result (λ f. HoldsHere f (shape_of ty.now)) }
 {
     match ty {
-        AsnType::Bool => Ok(()),
-        AsnType::Int(bounds) => {
-            if ranges::is_empty_range(bounds) {
-                return Err(TypeFault::EmptyRange);
-            }
-            Ok(())
-        }
+        AsnType::Bool | AsnType::Null => Ok(()),
+        AsnType::Int(bounds) => check_bounds(bounds),
         AsnType::Seq { root } => check_components(root),
     }
+}
+
+/// Looks at an INTEGER with these bounds. Err: its fault with the least number.
+fn check_bounds(bounds: &Bounds) -> Result<(), TypeFault>
+    ensures faultless { IfOk result (λ done. IsFaultless (integer (range_of bounds.now))) }
+    ensures fault { IfErr result (λ f. HoldsHere f (integer (range_of bounds.now))) }
+{
+    if ranges::is_empty_range(bounds) {
+        return Err(TypeFault::EmptyRange);
+    }
+    if ranges::has_useless_mark(bounds) {
+        return Err(TypeFault::UselessMark);
+    }
+    Ok(())
 }
 
 /// Looks at a SEQUENCE of these components, and at nothing inside them. Err: its fault with the

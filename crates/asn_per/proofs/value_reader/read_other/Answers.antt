@@ -7,7 +7,7 @@ use Rattle.asn_values.proofs.Views.{shape_of-Int}
 use Rattle.asn_rules.proofs.Listed.{other_inhabited}
 use Rattle.asn_rules.proofs.ListedEach.{good_fits}
 use Rattle.asn_per.specs.Per.{per}
-use Rattle.asn_per.proofs.IntegerRanges.{kept}
+use Rattle.asn_bits.proofs.Above.{kept}
 use Rattle.asn_per.proofs.ComponentsRead.{datum_of-Int}
 use Rattle.asn_per.proofs.value_reader.read_other.Goals as goal
 

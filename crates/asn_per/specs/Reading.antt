@@ -3,6 +3,7 @@ use Rattle.std.specs.Prelude.{◌≡◌, ◌≢◌, ◌≤◌, ◌-◌, ◌^◌,
 use Rattle.asn_values.specs.Shape.{Range, Alphabet, ia5, numeric, visible}
 use Rattle.asn_values.specs.Fits.{FitsNumber}
 use Rattle.asn_bits.specs.Numbers.{octet_count}
+use Rattle.asn_bits.specs.Sets.{Among}
 use Rattle.asn_rules.specs.Chunks.{Chunk}
 use Rattle.asn_rules.specs.Languages.{Spells, Row}
 use Rattle.asn_per.specs.Per.{per_fields}
@@ -19,6 +20,11 @@ IsNot (Some x) n = n ≢ x
 -- the numbers from the low one to the high one, but for the one that is left out
 abbrev pub Admits : Numbers → ℕ → Type 0
 Admits s n = (s.low ≤ n) × (n ≤ s.high) × IsNot s.except n
+
+-- they are those of the intervals
+pub record AreAmong (s : Numbers) (is : List (ℕ × ℕ)) : Type 0 where
+  pub there : (n : ℕ) → Admits s n → Among is n
+  pub back : (n : ℕ) → Among is n → Admits s n
 
 -- the numbers from 0 to the high one, but for the one that is left out
 abbrev pub up_to : ℕ → Option ℕ → Numbers

@@ -14,6 +14,7 @@ ghost use Rattle.asn_rules.specs.Components.{has_presence_bit, is_spelled, prese
 ghost use Rattle.asn_per.specs.Rules.{per_ruling, IsPerEncoding};
 ghost use Rattle.asn_per.specs.Laws.{per_bits, component_bits};
 
+use crate::items::write_enumerated;
 use asn_bits::BitSink;
 use asn_bits::numbers::width;
 use asn_bits::offsets::above;
@@ -69,6 +70,12 @@ fn write(ty: &AsnType, value: &Value, sink: &mut BitSink) -> Result<(), AllocErr
                 unreachable!()
             };
             write_integer(bounds, *integer, sink)
+        }
+        AsnType::Enum { root, ext } => {
+            let Value::Enum(place) = value else {
+                unreachable!()
+            };
+            write_enumerated(root, ext, *place, sink)
         }
         AsnType::Seq { root } => {
             let Value::Seq(entries) = value else {

@@ -67,7 +67,11 @@ fn offset_left_out(bounds: &Bounds, except: Option<i128>) -> Option<u64>
 /// Reads a number of 0 to `high`, but for `except`, in the fewest bits that tell so many apart
 /// (X.691, "constrained whole number").
 #[inline(always)]
-fn constrained(high: u64, except: Option<u64>, bits: &mut BitCursor<'_>) -> Result<u64, Stop>
+pub(crate) fn constrained(
+    high: u64,
+    except: Option<u64>,
+    bits: &mut BitCursor<'_>,
+) -> Result<u64, Stop>
     requires { Meets (λ n. Admits (up_to high except) n) 0 (width (high + 1)) }
     ensures done { IfOk result (λ n. Spells per_fields (Plain (InSet (width (high + 1)) (λ m. Admits (up_to high except) m))) n bits.old bits.new) }
     ensures stop { IfErr result (λ why. Stops per_fields (Plain (InSet (width (high + 1)) (λ m. Admits (up_to high except) m))) bits.old why) }

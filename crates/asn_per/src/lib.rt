@@ -4,6 +4,7 @@
 mod decoder;
 mod encoder;
 mod integer_reader;
+mod items;
 mod kinds;
 mod laws;
 mod number_reader;

@@ -31,6 +31,7 @@ pub(crate) fn read(alloc: Global, ty: &AsnType, bits: &mut BitCursor<'_>) -> Res
 {
     match ty {
         AsnType::Bool => Ok(Value::Bool(boolean(None, bits)?)),
+        AsnType::Null => Ok(Value::Null),
         AsnType::Int(bounds) => Ok(Value::Int(integer(bounds, None, bits)?)),
         AsnType::Seq { root } => {
             let count = bitmap_width(root);
@@ -121,7 +122,7 @@ fn absent(field: &Field) -> Option<Value>
         Need::Must | Need::Optional => None,
         Need::Default(Value::Bool(truth)) => Some(Value::Bool(*truth)),
         Need::Default(Value::Int(whole)) => Some(Value::Int(*whole)),
-        Need::Default(Value::Seq(_)) => unreachable!(),
+        Need::Default(Value::Null | Value::Seq(_)) => unreachable!(),
     }
 }
 

@@ -4,10 +4,12 @@
 mod decoder;
 mod encoder;
 mod integer_reader;
+mod item_writer;
 mod kinds;
 mod laws;
 mod number_reader;
 mod row_reader;
+mod string_writer;
 #[cfg(test)]
 mod tests;
 mod value_reader;

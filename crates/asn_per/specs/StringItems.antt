@@ -1,5 +1,5 @@
 -- What the writers of strings and lists write: items, in front of which stand a count or lengths.
-use Rattle.std.specs.Prelude.{Bool, true, false, ℕ, List, [], ◌∷◌, ◌++◌, map, ⊤, IsTrue, nat_lt}
+use Rattle.std.specs.Prelude.{Bool, true, false, ℕ, List, [], ◌∷◌, map, ⊤, IsTrue, nat_lt}
 use Rattle.std.specs.List.{AllByRecursion}
 use Rattle.asn_values.specs.Fits.{is_of_kind}
 use Rattle.asn_values.specs.View.{alphabet_of}

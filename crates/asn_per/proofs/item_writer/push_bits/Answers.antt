@@ -1,5 +1,5 @@
 -- Each turn adds the bits of a word.
-use Rattle.std.proofs.Common.{◌≡◌, ◌≤◌, ◌+◌, ◌-◌, ◌++◌, ℕ, List, length, map, take, drop, sym, ◌∙◌, ap, arith}
+use Rattle.std.proofs.Common.{◌≡◌, ◌≤◌, ◌+◌, ◌-◌, ◌++◌, ℕ, length, map, take, drop, sym, ◌∙◌, ap, arith}
 use Rattle.asn_bits.specs.Numbers.{bits}
 use Rattle.asn_bits.specs.Lengths.{joined}
 use Rattle.asn_per.proofs.Words.{one_bit, bits_joined, row_begins, part_length, row_goes_on, row_ends}

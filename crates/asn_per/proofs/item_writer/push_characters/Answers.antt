@@ -1,5 +1,5 @@
 -- Each turn adds the characters of a word.
-use Rattle.std.proofs.Common.{◌≡◌, ◌≤◌, ◌+◌, ◌-◌, ◌*◌, ◌++◌, ℕ, List, length, map, take, drop, sym, ◌∙◌, ap, arith}
+use Rattle.std.proofs.Common.{◌≡◌, ◌≤◌, ◌+◌, ◌-◌, ◌*◌, ◌++◌, ℕ, List, length, map, take, drop, ◌∙◌, ap, arith}
 use Rattle.asn_values.specs.View.{alphabet_of}
 use Rattle.asn_bits.specs.Lengths.{joined}
 use Rattle.asn_bits.specs.Numbers.{bits}

@@ -1,34 +1,30 @@
-use Rattle.std.proofs.Common.{rules, ◌≡◌, ◌++◌, ◌*◌, Bool, List, OnOk, IfOk, length, ℕ, ◌+◌, ◌-◌, ◌<◌, ◌≤◌, ◌/◌, ◌%◌, true, false, nat_eq, nat_lt, [], ◌∷◌, slice_index_or, slice_set, bit_and, bit_or, w8, w32, w64, Bor, MutBor}
-use Rattle.asn_values.specs.Datum.{bit_list, octet_list, characters, unicode}
-use Rattle.asn_values.specs.Fits.{Fits, FitsLength, in_size}
-use Rattle.asn_values.specs.Shape.{bit_string, octet_string, restricted, utf8_string}
-use Rattle.asn_values.specs.View.{size_range_of, alphabet_of}
-use Rattle.asn_rules.specs.Chunks.{Chunk, flat}
-use Rattle.asn_per.specs.Laws.{per_bits}
-use Rattle.asn_per.specs.Per.{spelled, sized}
-use Rattle.asn_per.specs.StringItems.{item_chunks, AreOfKind, general_bits, behind_count, first_length}
+-- Each turn writes one length and its items.
+use Rattle.std.proofs.Common.{arith}
+use Rattle.asn_per.specs.StringItems.{item_chunks}
+use Rattle.asn_per.proofs.SizesWritten.{written_none, many_there, written_more, written_all}
 use Rattle.asn_per.proofs.string_writer.write_general.Goals as goal
 
--- src/string_writer.rt:117:5
 pub loop-many-init : goal.loop-many-init
-loop-many-init c = ?
+loop-many-init c = written_none (item_chunks c.args.items) c.args.sink.now
 
--- src/string_writer.rt:118:32
 pub overflow_sub-count : goal.overflow_sub-count
-overflow_sub-count c = ?
+overflow_sub-count c = omega (arith, c.loop-many.invariant.few, c.count_of-count.ensures)
 
--- src/string_writer.rt:119:9
 pub write_items-requires-clause-there : goal.write_items-requires-clause-there
-write_items-requires-clause-there c = ?
+write_items-requires-clause-there c =
+    many_there (item_chunks c.args.items) c.args.sink.now c.loop-many.sink c.loop-many.done c.in_ok-many.many c.count_of-count.result c.loop-many.invariant c.count_of-count.ensures c.in_ok-many.ensures.items
 
--- src/string_writer.rt:122:13
 pub returns-then-many-lt-BLOCK : goal.returns-then-many-lt-BLOCK
-returns-then-many-lt-BLOCK c = ?
+returns-then-many-lt-BLOCK c =
+    written_all (item_chunks c.args.items) c.args.sink.now c.loop-many.sink c.push_length.new.sink c.write_items.new.sink c.loop-many.done c.in_ok-many.many c.count_of-count.result
+    c.loop-many.invariant c.count_of-count.ensures c.in_ok-many.ensures.items c.in_ok-many.ensures.bits c.in_ok-write_items.ensures c.if-many-lt-BLOCK.true
 
--- src/string_writer.rt:117:5
 pub loop-many-smaller : goal.loop-many-smaller
-loop-many-smaller c = ?
+loop-many-smaller c =
+    let there = many_there (item_chunks c.args.items) c.args.sink.now c.loop-many.sink c.loop-many.done c.in_ok-many.many c.count_of-count.result c.loop-many.invariant c.count_of-count.ensures c.in_ok-many.ensures.items in
+    omega (arith, there, c.count_of-count.ensures, c.if-many-lt-BLOCK.false)
 
--- src/string_writer.rt:117:5
 pub loop-many-preserved : goal.loop-many-preserved
-loop-many-preserved c = ?
+loop-many-preserved c =
+    written_more (item_chunks c.args.items) c.args.sink.now c.loop-many.sink c.push_length.new.sink c.write_items.new.sink c.loop-many.done c.in_ok-many.many c.count_of-count.result
+    c.loop-many.invariant c.count_of-count.ensures c.in_ok-many.ensures.items c.in_ok-many.ensures.bits c.in_ok-write_items.ensures c.if-many-lt-BLOCK.false

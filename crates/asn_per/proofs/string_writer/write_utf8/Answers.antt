@@ -1,14 +1,8 @@
-use Rattle.std.proofs.Common.{rules, ◌≡◌, ◌++◌, ◌*◌, Bool, List, OnOk, IfOk, length, ℕ, ◌+◌, ◌-◌, ◌<◌, ◌≤◌, ◌/◌, ◌%◌, true, false, nat_eq, nat_lt, [], ◌∷◌, slice_index_or, slice_set, bit_and, bit_or, w8, w32, w64, Bor, MutBor}
-use Rattle.asn_values.specs.Datum.{bit_list, octet_list, characters, unicode}
-use Rattle.asn_values.specs.Fits.{Fits, FitsLength, in_size}
-use Rattle.asn_values.specs.Shape.{bit_string, octet_string, restricted, utf8_string}
-use Rattle.asn_values.specs.View.{size_range_of, alphabet_of}
-use Rattle.asn_rules.specs.Chunks.{Chunk, flat}
-use Rattle.asn_per.specs.Laws.{per_bits}
-use Rattle.asn_per.specs.Per.{spelled, sized}
-use Rattle.asn_per.specs.StringItems.{item_chunks, AreOfKind, general_bits, behind_count, first_length}
+-- The octets of a UTF8String are items under their general length.
+use Rattle.std.proofs.Common.{◌++◌, ◌∙◌, ap}
+use Rattle.std.proofs.lemmas.Result.{on_ok_weaker}
+use Rattle.asn_per.proofs.SizesWritten.{utf8_bits}
 use Rattle.asn_per.proofs.string_writer.write_utf8.Goals as goal
 
--- src/string_writer.rt:61:1
 pub returns : goal.returns
-returns c = ?
+returns c = on_ok_weaker c.write_general.result (λ e. e ∙ ap (λ t. c.args.sink.now ++ t) (utf8_bits c.args.octets.now)) c.write_general.ensures

@@ -1,19 +1,22 @@
 -- Where a writer of items under a size stands: what is in front of them, and one length after the other.
-use Rattle.std.proofs.Common.{◌≡◌, ◌≤◌, ◌<◌, ◌+◌, ◌-◌, ◌*◌, ◌/◌, ◌^◌, ◌⊎◌, inl, inr, ℕ, zero, suc, pred, Bool, true, false, ◌&&◌, nat_lt, nat_le, Option, Some, List, [], ◌∷◌, ◌++◌, length, map, take, drop, refl, sym, ◌∙◌, ap, subst, arith, append_assoc}
-use Rattle.std.proofs.lemmas.Bool.{and_parts, leb-true, lt-ltb, le-ltb, ltb-true, ltb-false}
+use Rattle.std.proofs.Common.{⊎_elim, ◌≡◌, ◌≤◌, ◌<◌, ◌+◌, ◌-◌, ◌*◌, ◌^◌, ℕ, suc, Bool, true, false, ◌&&◌, nat_lt, nat_le, Option, Some, List, [], ◌∷◌, ◌++◌, length, map, take, drop, refl, sym, ◌∙◌, ap, subst, arith, append_assoc}
+use Rattle.std.proofs.lemmas.Bool.{cases_lt, and_parts, leb-true, lt-ltb, le-ltb, ltb-true, ltb-false}
 use Rattle.std.proofs.lemmas.List.{append-nil, length-drop, drop-drop}
 use Rattle.asn_values.specs.Shape.{SizeRange, utf8_string}
 use Rattle.asn_values.specs.Datum.{unicode}
 use Rattle.asn_values.specs.Fits.{in_size}
 use Rattle.asn_bits.specs.Numbers.{bits, width}
-use Rattle.asn_bits.specs.Lengths.{Length, last_length, fragment, blocks, lengths_within, lengths, joined, with_lengths, general, general_octets}
-use Rattle.asn_bits.proofs.GeneralLengths.{lengths_cases, map_same}
+use Rattle.asn_bits.specs.LengthBits.{first_length}
+use Rattle.asn_bits.specs.Lengths.{Length, last_length, fragment, blocks, lengths, joined, with_lengths, general, general_octets}
+use Rattle.asn_bits.proofs.GeneralLengths.{map_same}
+use Rattle.asn_bits.proofs.FirstLengths.{first_fragment}
+use Rattle.asn_bits.proofs.LengthBits.{lengths_last, lengths_fragment}
 use Rattle.asn_bits.proofs.Widths.{width_fits}
 use Rattle.asn_rules.specs.Chunks.{Chunk, one, ones, flat}
 use Rattle.asn_rules.proofs.Flat.{flat-append, flat-ones, flat-general}
 use Rattle.asn_per.specs.Laws.{per_bits}
 use Rattle.asn_per.specs.Per.{spelled, sized, behind_mark, constrained, within}
-use Rattle.asn_per.specs.StringItems.{row_bits, general_bits, first_length}
+use Rattle.asn_per.specs.StringItems.{row_bits, general_bits}
 
 -- ---- in front of the items
 
@@ -65,50 +68,16 @@ root_written low high count w h m old mid new e i f a b xs l =
 
 -- ---- one length after the other
 
--- the first length is the last one, or that of a fragment
-pub first_cases : (n : ℕ) → ((n < 16384) × (first_length n ≡ last_length n)) ⊎ ((16384 ≤ n) × (first_length n ≡ fragment (blocks n)))
-first_cases n = go (nat_lt n 16384) refl
-  where
-    go : (b : Bool) → nat_lt n 16384 ≡ b → ((n < 16384) × (first_length n ≡ last_length n)) ⊎ ((16384 ≤ n) × (first_length n ≡ fragment (blocks n)))
-    go true e = inl (ltb-true n 16384 e, rw (e, first_length) refl)
-    go false e = inr (ltb-false n 16384 e, rw (e, first_length) refl)
+-- so many items follow the first length of n
+last_items : (n : ℕ) → n < 16384 → (first_length n).items ≡ n
+last_items n l = (let t : nat_lt n 16384 ≡ true = lt-ltb n 16384 l in rw (first_length, t) refl)
 
--- no more items follow it than there are
-pub first_items : (n : ℕ) → (first_length n).items ≤ n
-first_items n = elim (first_cases n) [
-  | inl a ↦ (let e : (first_length n).items ≡ n = ap (λ (l : Length). l.items) a.1 in omega (arith, e))
-  | inr a ↦ (let e : (first_length n).items ≡ 16384 * blocks n = ap (λ (l : Length). l.items) a.1 in omega (arith, e))
-]
+fragment_items : (n : ℕ) → 16384 ≤ n → (first_length n).items ≡ 16384 * blocks n
+fragment_items n l = ap (λ (f : Length). f.items) (first_fragment n l)
 
--- any bound on the fragments that is high enough gives the same lengths
-same_step : (f g n : ℕ) → (0 < f → 0 < g → 16384 ≤ n → lengths_within (pred f) (n - 16384 * blocks n) ≡ lengths_within (pred g) (n - 16384 * blocks n))
-    → n < 16384 * suc f → n < 16384 * suc g → lengths_within f n ≡ lengths_within g n
-same_step f g n again a b =
-    elim (lengths_cases f n a) [
-      | inl x ↦ elim (lengths_cases g n b) [
-        | inl y ↦ x.1 ∙ sym y.1
-        | inr y ↦ absurd (let l = x.0 in let m = y.1 in omega arith)
-      ]
-      | inr x ↦ elim (lengths_cases g n b) [
-        | inl y ↦ absurd (let l = x.1 in let m = y.0 in omega arith)
-        | inr y ↦ x.2 ∙ ap (λ ls. fragment (blocks n) ∷ ls) (again x.0 y.0 x.1) ∙ sym y.2
-      ]
-    ]
-
-lengths_same : (f g n : ℕ) → n < 16384 * suc f → n < 16384 * suc g → lengths_within f n ≡ lengths_within g n
-lengths_same zero g n a b = same_step zero g n (λ l m k. absurd (omega arith)) a b
-lengths_same (suc f) g n a b = same_step (suc f) g n (λ l m k. lengths_same f (pred g) (n - 16384 * blocks n) (omega arith) (omega arith)) a b
-
--- a fragment, and the lengths of what is left
-lengths_fragment : (n : ℕ) → 16384 ≤ n → lengths n ≡ fragment (blocks n) ∷ lengths (n - 16384 * blocks n)
-lengths_fragment n l =
-    elim (lengths_cases (n / 16384) n (omega arith)) [
-      | inl x ↦ absurd (let m = x.0 in omega arith)
-      | inr x ↦ x.2 ∙ ap (λ ls. fragment (blocks n) ∷ ls) (lengths_same (pred (n / 16384)) ((n - 16384 * blocks n) / 16384) (n - 16384 * blocks n) (omega arith) (omega arith))
-    ]
-
-lengths_last : (n : ℕ) → n < 16384 → lengths n ≡ last_length n ∷ []
-lengths_last n l = ap (λ f. lengths_within f n) (let none : n / 16384 ≡ 0 = omega arith in none)
+-- no more than there are
+first_items : (n : ℕ) → (first_length n).items ≤ n
+first_items n = ⊎_elim (λ a. omega (arith, last_items n a)) (λ a. omega (arith, fragment_items n a)) (cases_lt n 16384)
 
 -- the bits of a length, its items, and what stands behind them
 with_length : (l : Length) (ls : List Length) (xs : List (List Chunk)) → flat spelled (with_lengths one (l ∷ ls) xs) ≡ l.bits ++ (row_bits (take l.items xs) ++ flat spelled (with_lengths one ls (drop l.items xs)))
@@ -181,15 +150,8 @@ pub written_all : (xs : List (List Chunk)) (before now mid new : List ℕ) (done
 written_all xs before now mid new done many count h c m a b l =
     let left = drop done xs in
     let n : count - done ≡ length left = omega (arith, length-drop done xs) in
-    let few : nat_lt (length left) 16384 ≡ true = lt-ltb (length left) 16384 (small (count - done) many m l n) in
+    let few : nat_lt (length left) 16384 ≡ true = lt-ltb (length left) 16384 (⊎_elim (λ f. omega (arith, n, f)) (λ f. omega (arith, fragment_items (count - done) f, f, m, l)) (cases_lt (count - done) 16384)) in
     sym (append-nil new) ∙ ap (λ (b : Bool). new ++ behind b (drop (done + many) xs)) (sym few) ∙ written_step xs before now mid new done many count h c m a b
-  where
-    small : (k many : ℕ) → many ≡ (first_length k).items → many < 16384 → k ≡ length (drop done xs) → length (drop done xs) < 16384
-    small k many e l n = elim (first_cases k) [
-      | inl a ↦ (let f = a.0 in omega arith)
-      | inr a ↦ absurd (let f : (first_length k).items ≡ 16384 * blocks k = ap (λ (l : Length). l.items) a.1 in let g = a.0 in omega arith)
-    ]
-
 -- ---- UTF8String
 
 octets_flat : (os : List ℕ) → map (λ cs. flat spelled cs) (map (λ o. ones (bits 8 o)) os) ≡ map (λ o. map (λ u. u) (bits 8 o)) os

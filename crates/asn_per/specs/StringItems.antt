@@ -1,10 +1,10 @@
 -- What the writers of strings and lists write: items, in front of which stand a count or lengths.
-use Rattle.std.specs.Prelude.{Bool, true, false, ℕ, List, [], ◌∷◌, map, ⊤, IsTrue, nat_lt}
+use Rattle.std.specs.Prelude.{Bool, true, false, ℕ, List, [], ◌∷◌, map, ⊤, IsTrue}
 use Rattle.std.specs.List.{AllByRecursion}
 use Rattle.asn_values.specs.Fits.{is_of_kind}
 use Rattle.asn_values.specs.View.{alphabet_of}
 use Rattle.asn_bits.specs.Numbers.{bits}
-use Rattle.asn_bits.specs.Lengths.{Length, last_length, fragment, blocks, joined, general}
+use Rattle.asn_bits.specs.Lengths.{joined, general}
 use Rattle.asn_rules.specs.Chunks.{Chunk, one, ones, flat}
 use Rattle.asn_rules.specs.Components.{bit_of}
 use Rattle.asn_per.specs.Per.{spelled, character_bits}
@@ -35,7 +35,3 @@ general_bits xs = flat spelled (general one xs)
 abbrev pub behind_count : Bool → List (List Chunk) → List ℕ
 behind_count true xs = row_bits xs
 behind_count false xs = general_bits xs
-
--- the first length of n items
-abbrev pub first_length : ℕ → Length
-first_length n = elim (nat_lt n 16384) [ true ↦ last_length n | false ↦ fragment (blocks n) ]

@@ -4,10 +4,11 @@ ghost use Rattle.asn_values.specs.Datum.{bit_list, octet_list, characters, unico
 ghost use Rattle.asn_values.specs.Fits.{Fits, FitsLength, in_size};
 ghost use Rattle.asn_values.specs.Shape.{bit_string, octet_string, restricted, utf8_string};
 ghost use Rattle.asn_values.specs.View.{size_range_of, alphabet_of};
+ghost use Rattle.asn_bits.specs.LengthBits.{first_length};
 ghost use Rattle.asn_rules.specs.Chunks.{Chunk, flat};
 ghost use Rattle.asn_per.specs.Laws.{per_bits};
 ghost use Rattle.asn_per.specs.Per.{spelled, sized};
-ghost use Rattle.asn_per.specs.StringItems.{item_chunks, AreOfKind, general_bits, behind_count, first_length};
+ghost use Rattle.asn_per.specs.StringItems.{item_chunks, AreOfKind, general_bits, behind_count};
 
 use crate::item_writer::{Items, count_of, write_items};
 use asn_bits::BitSink;

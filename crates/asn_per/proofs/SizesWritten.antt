@@ -14,16 +14,12 @@ use Rattle.asn_bits.proofs.LengthBits.{lengths_last, lengths_fragment}
 use Rattle.asn_bits.proofs.Widths.{width_fits}
 use Rattle.asn_rules.specs.Chunks.{Chunk, one, ones, flat}
 use Rattle.asn_rules.proofs.Flat.{flat-append, flat-ones, flat-general}
+use Rattle.asn_rules.specs.Components.{extension_bit}
 use Rattle.asn_per.specs.Laws.{per_bits}
 use Rattle.asn_per.specs.Per.{spelled, sized, behind_mark, constrained, within}
 use Rattle.asn_per.specs.StringItems.{row_bits, general_bits}
 
 -- ---- in front of the items
-
--- the extension bit of a count in the root
-abbrev pub root_bit : Bool → List ℕ
-root_bit true = 0 ∷ []
-root_bit false = []
 
 -- a size with an upper bound, as the program has it
 abbrev sizing : ℕ → Option ℕ → Bool → SizeRange
@@ -48,7 +44,7 @@ plain_bits low high xs =
     flat-append spelled (ones front) (joined xs) ∙ ap (λ (t : List ℕ). t ++ row_bits xs) (flat-ones spelled front)
 
 root_bits : (low high : ℕ) (m : Bool) (xs : List (List Chunk)) → in_size (sizing low (Some high) m) (length xs) ≡ true
-    → flat spelled (sized (sizing low (Some high) m) xs) ≡ root_bit m ++ (bits (width (suc (high - low))) (length xs - low) ++ row_bits xs)
+    → flat spelled (sized (sizing low (Some high) m) xs) ≡ extension_bit m false ++ (bits (width (suc (high - low))) (length xs - low) ++ row_bits xs)
 root_bits low high false xs i = plain_bits low high xs
 root_bits low high true xs i =
     ap (λ b. flat spelled (behind_mark one true b (within low (Some high) xs) (general one xs))) i
@@ -56,14 +52,14 @@ root_bits low high true xs i =
 
 -- in the root, with an upper bound: the count is written, and the items follow
 pub root_written : (low high count w : ℕ) (h : Option ℕ) (m : Bool) (old mid new : List ℕ) → h ≡ Some high → in_size (sizing low h m) count ≡ true → w ≡ width (suc (high - low))
-    → mid ≡ old ++ root_bit m → new ≡ mid ++ bits w (count - low)
+    → mid ≡ old ++ extension_bit m false → new ≡ mid ++ bits w (count - low)
     → (xs : List (List Chunk)) → length xs ≡ count → new ++ row_bits xs ≡ old ++ flat spelled (sized (sizing low h m) xs)
 root_written low high count w h m old mid new e i f a b xs l =
     let known : in_size (sizing low (Some high) m) (length xs) ≡ true = ap (λ k. in_size (sizing low k m) (length xs)) (sym e) ∙ ap (λ n. in_size (sizing low h m) n) l ∙ i in
     let front = bits (width (suc (high - low))) (length xs - low) in
     let counted : bits w (count - low) ≡ front = rw (f, l) refl in
-    ap (λ (t : List ℕ). t ++ row_bits xs) (b ∙ ap (λ (t : List ℕ). t ++ bits w (count - low)) a ∙ ap (λ (t : List ℕ). (old ++ root_bit m) ++ t) counted)
-    ∙ append_assoc (old ++ root_bit m) front (row_bits xs) ∙ append_assoc old (root_bit m) (front ++ row_bits xs)
+    ap (λ (t : List ℕ). t ++ row_bits xs) (b ∙ ap (λ (t : List ℕ). t ++ bits w (count - low)) a ∙ ap (λ (t : List ℕ). (old ++ extension_bit m false) ++ t) counted)
+    ∙ append_assoc (old ++ extension_bit m false) front (row_bits xs) ∙ append_assoc old (extension_bit m false) (front ++ row_bits xs)
     ∙ ap (λ (t : List ℕ). old ++ t) (sym (root_bits low high m xs known)) ∙ ap (λ k. old ++ flat spelled (sized (sizing low k m) xs)) (sym e)
 
 -- ---- one length after the other

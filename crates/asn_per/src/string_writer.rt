@@ -6,6 +6,7 @@ ghost use Rattle.asn_values.specs.Shape.{bit_string, octet_string, restricted, u
 ghost use Rattle.asn_values.specs.View.{size_range_of, alphabet_of};
 ghost use Rattle.asn_bits.specs.LengthBits.{first_length};
 ghost use Rattle.asn_rules.specs.Chunks.{Chunk, flat};
+ghost use Rattle.asn_rules.specs.Components.{extension_bit};
 ghost use Rattle.asn_per.specs.Laws.{per_bits};
 ghost use Rattle.asn_per.specs.Per.{spelled, sized};
 ghost use Rattle.asn_per.specs.StringItems.{item_chunks, AreOfKind, general_bits, behind_count};
@@ -88,9 +89,7 @@ pub(crate) fn push_count(size: &Size, count: usize, sink: &mut BitSink) -> Resul
         → sink.new ++ behind_count whole xs ≡ sink.old ++ flat spelled (sized (size_range_of size.now) xs)) }
 {
     let inside = is_in_root(size, count);
-    if size.ext {
-        sink.push(!inside)?;
-    }
+    push_extension_bit(size.ext, !inside, sink)?;
     match size.high {
         Some(high) if inside => {
             let values = u128::from(high - size.low) + 1;
@@ -98,6 +97,21 @@ pub(crate) fn push_count(size: &Size, count: usize, sink: &mut BitSink) -> Resul
             Ok(true)
         }
         _ => Ok(false),
+    }
+}
+
+/// Writes the extension bit of a type that has a mark: 1 where the value lies outside the root.
+pub(crate) fn push_extension_bit(
+    marked: bool,
+    outside: bool,
+    sink: &mut BitSink,
+) -> Result<(), AllocError>
+    ensures { OnOk result (sink.new ≡ sink.old ++ extension_bit marked outside) }
+{
+    if marked {
+        sink.push(outside)
+    } else {
+        Ok(())
     }
 }
 
@@ -117,11 +131,12 @@ fn write_general(items: Items<'_>, sink: &mut BitSink) -> Result<(), AllocError>
     let mut done = 0;
     loop {
         let many = push_length(count - done, sink)?;
+        let last = many < BLOCK;
         write_items(items, done, many, sink)?;
-        done += many;
-        if many < BLOCK {
+        if last {
             return Ok(());
         }
+        done += many;
     }
 }
 

@@ -108,11 +108,7 @@ pub(crate) fn push_extension_bit(
 ) -> Result<(), AllocError>
     ensures { OnOk result (sink.new ≡ sink.old ++ extension_bit marked outside) }
 {
-    if marked {
-        sink.push(outside)
-    } else {
-        Ok(())
-    }
+    if marked { sink.push(outside) } else { Ok(()) }
 }
 
 /// Whether the count lies in the root of the size.

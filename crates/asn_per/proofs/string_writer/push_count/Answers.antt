@@ -1,6 +1,5 @@
 -- In the root, with an upper bound, the count takes the bits of a constrained whole number.
-use Rattle.std.proofs.Common.{◌≡◌, ◌<◌, ◌+◌, ◌-◌, ◌^◌, ◌++◌, ◌∷◌, [], suc, not, true, false, sym, ◌∙◌, ap, subst, arith}
-use Rattle.std.proofs.lemmas.List.{append-nil}
+use Rattle.std.proofs.Common.{◌≡◌, ◌<◌, ◌+◌, ◌-◌, ◌^◌, ◌++◌, suc, not, true, false, sym, ◌∙◌, ap, subst, arith}
 use Rattle.asn_values.specs.Fits.{in_size}
 use Rattle.asn_values.specs.View.{size_range_of}
 use Rattle.asn_bits.specs.Numbers.{bits, width}

@@ -8,7 +8,7 @@ use Rattle.asn_bits.specs.Numbers.{bits, octets, unpacked}
 use Rattle.asn_bits.specs.Moves.{Shifted, Taken}
 use Rattle.asn_bits.proofs.Octets.{all_octets, length-digits}
 use Rattle.asn_bits.proofs.Packing.{bits_low}
-use Rattle.asn_bits.proofs.Reading.{field_passed, take_below, drop-unpacked, length-left}
+use Rattle.asn_bits.proofs.Reading.{field_passed, take_below, drop-unpacked}
 use Rattle.asn_bits.proofs.Splits.{digits-mod, unpacked-append, length-unpacked, unpacked-octets, appended}
 use Rattle.asn_bits.proofs.Utf8.{append_octets}
 
@@ -97,10 +97,6 @@ begun_all old mid new all rest c p w v h t =
     }
 
 -- ---- taken from a cursor
-
--- n octets of the bits left end where the octets below have not ended
-pub octets_there : (os s : List ℕ) (f n : ℕ) → drop f (unpacked os) ≡ s → f ≤ 8 * length os → 8 * n ≤ length s → 8 * n + f ≤ 8 * length os
-octets_there os s f n e h l = let m : length s ≡ 8 * length os - f = ap length (sym e) ∙ length-left os f in omega arith
 
 -- behind n octets of the bits stands what the cursor then holds
 taken_seam : (os taken rest : List ℕ) (f n : ℕ) → drop f (unpacked os) ≡ unpacked taken ++ rest → length taken ≡ n

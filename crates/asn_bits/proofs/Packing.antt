@@ -1,8 +1,8 @@
 -- Octets and the fewer than 64 bits behind them, as a sink holds them.
-use Rattle.std.proofs.Common.{◌≡◌, ◌<◌, ◌≤◌, ◌+◌, ◌*◌, ◌-◌, ◌/◌, ◌%◌, ◌^◌, ℕ, zero, suc, List, [], ◌∷◌, ◌++◌, length, get_or, replicate, refl, sym, ◌∙◌, ap, arith, append_assoc, mul_assoc, length-append}
+use Rattle.std.proofs.Common.{◌≡◌, ◌<◌, ◌≤◌, ◌+◌, ◌*◌, ◌-◌, ◌/◌, ◌%◌, ◌^◌, ℕ, zero, suc, List, [], ◌∷◌, ◌++◌, length, get_or, replicate, refl, sym, ◌∙◌, ap, arith, append_assoc, mul_assoc, mul_comm, length-append}
 use Rattle.std.proofs.lemmas.List.{append-nil}
-use Rattle.std.proofs.lemmas.Nat.{shr-shr, pow-add, mod-mul-add, div-add-mod'}
-use Rattle.std.proofs.Math.Nat.{zero-div, one-le-pow, mod-lt, mul-lt-mul_of_pos_right, add-mul}
+use Rattle.std.proofs.lemmas.Nat.{shr-shr, shr_below, pow-add, mul-add-lt, mod-mul-add, div-add-mod'}
+use Rattle.std.proofs.Math.Nat.{zero-div, one-le-pow, mod-lt, mul-lt-mul_of_pos_right, add-mul, add-mul-div_left}
 use Rattle.std.proofs.Math.Pow.{mod-mod-pow}
 use Rattle.asn_bits.specs.Numbers.{bits, octets, unpacked, packed, padding}
 use Rattle.asn_bits.proofs.Octets.{length-digits}
@@ -84,6 +84,30 @@ shifted_out p k w h =
     ap (λ t. t * 2 ^ k) (sym (div-add-mod' p (2 ^ m))) ∙ add-mul (q * 2 ^ m) r (2 ^ k) ∙ ap (λ t. t + r * 2 ^ k) (mul_assoc q (2 ^ m) (2 ^ k)) in
     ap (λ t. p * 2 ^ k % t) e ∙ ap (λ t. t % (2 ^ m * 2 ^ k)) parts ∙ mod-mul-add q (2 ^ m * 2 ^ k) (r * 2 ^ k) less
 
+-- the bits above the last l of two numbers one behind the other
+pub above_last : (k n l : ℕ) → n < 2 ^ k → l ≤ k → n / 2 ^ l < 2 ^ (k - l)
+above_last k n l h less =
+    let e : 2 ^ k ≡ 2 ^ (k - l + l) = ap (λ i. 2 ^ i) (omega arith) in
+    shr_below n (k - l) l (omega (arith, e))
+
+pub middle_is : (h k n l : ℕ) → n < 2 ^ k → l ≤ k → k ≤ 64 + l → h * 2 ^ (k - l) % 2 ^ 64 + n / 2 ^ l ≡ (h * 2 ^ k + n) / 2 ^ l % 2 ^ 64
+middle_is h k n l fits less few =
+    let m = k - l in
+    let b = n / 2 ^ l in
+    let x = h * 2 ^ m % 2 ^ 64 in
+    let r = h % 2 ^ (64 - m) in
+    let two : 0 < 2 = omega arith in
+    let split : k ≡ m + l = omega arith in
+    let up : h * 2 ^ k ≡ h * 2 ^ m * 2 ^ l = ap (λ t. h * t) (ap (λ i. 2 ^ i) split ∙ pow-add 2 m l) ∙ sym (mul_assoc h (2 ^ m) (2 ^ l)) in
+    let order : h * 2 ^ k + n ≡ n + 2 ^ l * (h * 2 ^ m) = omega (arith, up, mul_comm (h * 2 ^ m) (2 ^ l)) in
+    let quotient : (h * 2 ^ k + n) / 2 ^ l ≡ b + h * 2 ^ m = ap (λ t. t / 2 ^ l) order ∙ add-mul-div_left n (h * 2 ^ m) (one-le-pow l 2 two) in
+    let whole : m + (64 - m) ≡ 64 = omega arith in
+    let all : 2 ^ m * 2 ^ (64 - m) ≡ 2 ^ 64 = sym (pow-add 2 m (64 - m)) ∙ ap (λ i. 2 ^ i) whole in
+    let sum : r * 2 ^ m + b < 2 ^ m * 2 ^ (64 - m) = mul-add-lt r (2 ^ m) b (2 ^ (64 - m)) (mod-lt h (one-le-pow (64 - m) 2 two)) (above_last k n l fits less) in
+    let small : x + b < 2 ^ 64 = omega (arith, sum, all, shifted_out h m 64 (omega arith)) in
+    let parts : b + h * 2 ^ m ≡ h * 2 ^ m / 2 ^ 64 * 2 ^ 64 + (x + b) = omega (arith, div-add-mod' (h * 2 ^ m) (2 ^ 64)) in
+    sym (ap (λ t. t % 2 ^ 64) (quotient ∙ parts) ∙ mod-mul-add (h * 2 ^ m / 2 ^ 64) (2 ^ 64) (x + b) small)
+
 -- what a sink holds once n stands in k bits behind the c bits that waited, and all of them wait
 pub waiting_view : (os : List ℕ) (c p k n j : ℕ) → n < 2 ^ k → c + k ≤ 64 → j ≡ p * 2 ^ k % 2 ^ 64 + n → unpacked os ++ bits (c + k) j ≡ (unpacked os ++ bits c p) ++ bits k n
 waiting_view os c p k n j h few e =
@@ -117,3 +141,11 @@ octets_out os new c p e =
 pub whole_behind : (os new from : List ℕ) (c p : ℕ) → c ≡ 0 → new ≡ os ++ from → unpacked new ++ bits c p ≡ (unpacked os ++ bits c p) ++ unpacked from
 whole_behind os new from c p z e =
     unpacked_whole new c p z ∙ ap unpacked e ∙ unpacked-append os from ∙ ap (λ t. t ++ unpacked from) (sym (unpacked_whole os c p z))
+
+-- where none waited, a word of new ones goes out
+pub word_alone : (os new : List ℕ) (c p k n l : ℕ) → c ≡ 0 → 64 + l ≡ c + k → k ≤ 64 → new ≡ os ++ octets 8 n → unpacked new ++ bits l n ≡ (unpacked os ++ bits c p) ++ bits k n
+word_alone os new c p k n l z all few e =
+    let none : l ≡ 0 = omega arith in
+    let word : 8 * 8 ≡ k = omega arith in
+    unpacked_whole new l n none ∙ ap unpacked e ∙ unpacked-append os (octets 8 n) ∙ ap (λ t. unpacked os ++ t) (unpacked-octets 8 n ∙ ap (λ i. bits i n) word)
+    ∙ ap (λ t. t ++ bits k n) (sym (unpacked_whole os c p z))

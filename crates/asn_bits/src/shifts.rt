@@ -3,7 +3,7 @@ ghost use Rattle.std.specs.Prelude.{◌≡◌, ◌+◌, ◌*◌, ◌/◌, ◌%�
 ghost use Rattle.asn_bits.specs.Moves.{Shifted, Taken};
 ghost use Rattle.asn_bits.specs.Numbers.{unpacked};
 
-use crate::words::{low_octet, push_word};
+use crate::words::{low_octet, middle, push_word};
 use std::alloc::AllocError;
 
 // adds the octets that the bits behind the first `offset` begin with, `count` of them; an `Err` is out of
@@ -31,11 +31,11 @@ pub(crate) fn push_front(
 // adds the octets of the low `count` bits of `pending` and of all of `octets` behind them, eight at once, and
 // gives what is left over in its low `count` bits
 pub(crate) fn push_shifted(bytes: &mut Vec<u8>, count: u32, pending: u64, octets: &[u8]) -> u64
-    requires few { count < 8 }
+    requires few { (0 < count) × (count < 8) }
     requires room { vec_len bytes.old + length octets.now ≤ vec_capacity bytes.old }
     ensures shifted { Shifted bytes.old.items bytes.new.items octets.now count pending result }
     ensures len { vec_len bytes.new ≡ vec_len bytes.old + length octets.now }
-    ensures capacity { vec_capacity bytes.new ≡ vec_capacity bytes.old }
+    ensures capacity { vec_capacity bytes.old ≤ vec_capacity bytes.new }
 {
     let mut high = pending;
     let mut rest = octets;
@@ -50,11 +50,11 @@ pub(crate) fn push_shifted(bytes: &mut Vec<u8>, count: u32, pending: u64, octets
 
 // the same, one octet after the other
 fn push_single(bytes: &mut Vec<u8>, count: u32, pending: u64, octets: &[u8]) -> u64
-    requires few { count < 8 }
+    requires few { (0 < count) × (count < 8) }
     requires room { vec_len bytes.old + length octets.now ≤ vec_capacity bytes.old }
     ensures shifted { Shifted bytes.old.items bytes.new.items octets.now count pending result }
     ensures len { vec_len bytes.new ≡ vec_len bytes.old + length octets.now }
-    ensures capacity { vec_capacity bytes.new ≡ vec_capacity bytes.old }
+    ensures capacity { vec_capacity bytes.old ≤ vec_capacity bytes.new }
 {
     let mut high = pending;
     for octet in octets {
@@ -63,14 +63,4 @@ fn push_single(bytes: &mut Vec<u8>, count: u32, pending: u64, octets: &[u8]) -> 
         high = n;
     }
     high
-}
-
-// of n in k bits behind high, the word above the last `left` bits
-pub(crate) fn middle(high: u64, k: u32, n: u64, left: u32) -> u64
-    requires few { k ≤ 64 }
-    requires fits { n < 2 ^ k }
-    requires within { left < 128 }
-    ensures { result ≡ (high * 2 ^ k + n) / 2 ^ left % 2 ^ 64 }
-{
-    (((high as u128) << k | n as u128) >> left & u64::MAX as u128) as u64
 }

@@ -3,8 +3,8 @@ ghost use Rattle.std.specs.Prelude.{◌≡◌, ℕ, ◌+◌, ◌*◌, ◌/◌, �
 ghost use Rattle.asn_bits.specs.Numbers.{bits, packed, padding, unpacked};
 ghost use Rattle.asn_bits.specs.Sink.{bit_of};
 
-use crate::shifts::{middle, push_shifted};
-use crate::words::{push_low, push_word};
+use crate::shifts::push_shifted;
+use crate::words::{behind, middle, push_low, push_word};
 use std::alloc::{AllocError, Global};
 use std::marker::Model;
 
@@ -128,10 +128,24 @@ impl BitSink {
     {
         let count = self.count;
         if count == 0 || count + k >= 64 {
-            return self.append_both(0, 0, k, n);
+            return self.append_word(k, n);
         }
         self.pending = behind(self.pending, k, n);
         self.count = count + k;
+        Ok(())
+    }
+
+    // the same, where a word is full or memory is needed
+    fn append_word(&mut self, k: u32, n: u64) -> Result<(), AllocError>
+        requires few { k ≤ 64 }
+        requires fits { n < 2 ^ k }
+        ensures ok { OnOk result (self.new ≡ self.old ++ bits k n) }
+        ensures err { OnErr result (self.new ≡ self.old) }
+    {
+        make_room(&mut self.octets)?;
+        let (count, pending) = put(&mut self.octets, self.count, self.pending, k, n);
+        self.count = count;
+        self.pending = pending;
         Ok(())
     }
 
@@ -142,13 +156,26 @@ impl BitSink {
         ensures ok { OnOk result (self.new ≡ (self.old ++ bits j m) ++ bits k n) }
         ensures err { OnErr result (self.new ≡ self.old) }
     {
-        self.octets.reserve(24)?;
+        make_room(&mut self.octets)?;
         let (count, pending) = put(&mut self.octets, self.count, self.pending, j, m);
         let (count, pending) = put(&mut self.octets, count, pending, k, n);
         self.count = count;
         self.pending = pending;
         Ok(())
     }
+}
+
+// makes room for three words: two that go out and one that waits; where memory is needed, for eight
+fn make_room(octets: &mut Vec<u8>) -> Result<(), AllocError>
+    ensures ok { OnOk result (vec_len octets.new + 24 ≤ vec_capacity octets.new) }
+    ensures items { octets.new.items ≡ octets.old.items }
+    ensures len { vec_len octets.new ≡ vec_len octets.old }
+    ensures capacity { vec_capacity octets.old ≤ vec_capacity octets.new }
+{
+    if octets.capacity() - octets.len() < 24 {
+        octets.reserve(64)?;
+    }
+    Ok(())
 }
 
 // adds n in k bits behind the octets and the low `count` bits of `pending`, a word of eight octets at once,
@@ -161,21 +188,17 @@ fn put(octets: &mut Vec<u8>, count: u32, pending: u64, k: u32, n: u64) -> (u32, 
     ensures bits { unpacked octets.new.items ++ bits result.0 result.1 ≡ (unpacked octets.old.items ++ bits count pending) ++ bits k n }
     ensures waiting { result.0 < 64 }
     ensures len { vec_len octets.new ≤ vec_len octets.old + 8 }
-    ensures capacity { vec_capacity octets.new ≡ vec_capacity octets.old }
+    ensures capacity { vec_capacity octets.old ≤ vec_capacity octets.new }
 {
     let total = count + k;
     if total < 64 {
         return (total, behind(pending, k, n));
     }
-    push_word(octets, middle(pending, k, n, total - 64));
-    (total - 64, n)
-}
-
-// the last bits of high, and n in k bits behind them
-fn behind(high: u64, k: u32, n: u64) -> u64
-    requires few { k < 64 }
-    requires fits { n < 2 ^ k }
-    ensures { result ≡ high * 2 ^ k % 2 ^ 64 + n }
-{
-    high << k | n
+    let left = total - 64;
+    if count == 0 {
+        push_word(octets, n);
+    } else {
+        push_word(octets, middle(pending, k, n, left));
+    }
+    (left, n)
 }

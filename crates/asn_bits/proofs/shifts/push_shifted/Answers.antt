@@ -33,7 +33,7 @@ loop-eight-preserved c =
     let range : (i : ℕ) → get_or rest i 0 < 256 = range_behind h.from rest (subst (λ t. (i : ℕ) → get_or t i 0 < 256) h.parts all) in
     let number : octets 8 n ≡ eight = octets_eight rest eight n front.0 (omega (arith, front.2)) range c.from_be_bytes-n.ensures ∙ sym front.0 in
     let parts : rest ≡ eight ++ behind = sym (take-append-drop 8 rest) ∙ ap (λ t. t ++ drop 8 rest) (sym front.0) ∙ ap (λ t. eight ++ t) (sym front.1) in (
-      begun_word a.bytes.now.items c.loop-eight.bytes.items c.push_word.new.bytes.items a.octets.now rest eight behind a.count a.pending c.loop-eight.high n c.middle.result h c.requires.few parts number
+      begun_word a.bytes.now.items c.loop-eight.bytes.items c.push_word.new.bytes.items a.octets.now rest eight behind a.count a.pending c.loop-eight.high n c.middle.result h c.requires.few.1 parts number
           (omega arith) c.middle.ensures c.push_word.ensures.items,
       omega (arith, c.loop-eight.invariant.1, front.2),
       omega (arith, c.loop-eight.invariant.2),

@@ -2,7 +2,7 @@
 use Rattle.std.proofs.Common.{◌+◌, ◌-◌, ◌%◌, ◌^◌, bit_or, arith, ap, sym, ◌∙◌}
 use Rattle.std.proofs.lemmas.Nat.{or_shifted}
 use Rattle.asn_bits.proofs.Packing.{shifted_out}
-use Rattle.asn_bits.proofs.sink.behind.Goals as goal
+use Rattle.asn_bits.proofs.words.behind.Goals as goal
 
 pub returns : goal.returns
 returns c =

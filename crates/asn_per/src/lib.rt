@@ -5,11 +5,13 @@ mod decoder;
 mod encoder;
 mod integer_reader;
 mod items;
+mod item_writer;
 mod kinds;
 mod laws;
 mod number_reader;
 mod row_reader;
 mod signed_reader;
+mod string_writer;
 #[cfg(test)]
 mod tests;
 mod value_reader;

@@ -1,12 +1,12 @@
 -- The fewest octets of a number, under their general length, are one number in bits.
-use Rattle.std.proofs.Common.{◌≡◌, ◌<◌, ◌+◌, ◌*◌, ◌/◌, ◌%◌, ◌^◌, ℕ, List, [], ◌∷◌, ◌++◌, length, map, take, inl, inr, refl, sym, ◌∙◌, ap, arith}
+use Rattle.std.proofs.Common.{◌≡◌, ◌<◌, ◌*◌, ◌/◌, ◌%◌, ◌^◌, ℕ, List, [], ◌∷◌, ◌++◌, length, map, take, inl, inr, refl, sym, ◌∙◌, ap, arith}
 use Rattle.std.proofs.lemmas.List.{append-nil, length-map}
 use Rattle.std.proofs.Math.Seq.{take-length}
 use Rattle.asn_bits.specs.Numbers.{bits, octets, octet_count, least, unpacked}
 use Rattle.asn_bits.specs.Lengths.{last_length, lengths_within, lengths, joined, with_lengths, general_octets}
 use Rattle.asn_bits.proofs.GeneralLengths.{last_cases, map_same}
 use Rattle.asn_bits.proofs.Octets.{length-digits}
-use Rattle.asn_bits.proofs.Splits.{digits-join, unpacked-octets}
+use Rattle.asn_bits.proofs.Splits.{unpacked-octets}
 
 -- a length below 128 is the length in eight bits
 short_length : (n : ℕ) → n < 128 → (last_length n).bits ≡ bits 8 n

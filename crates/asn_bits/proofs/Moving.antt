@@ -75,9 +75,9 @@ begun_word old new next all rest eight behind c p w n b h few e i less word g =
     record {
       from = h.from ++ eight;
       shifted =
-        subst (λ t. Shifted old t (h.from ++ eight) c p n) (ap (λ t. new ++ t) out ∙ sym g)
+          subst (λ t. Shifted old t (h.from ++ eight) c p n) (ap (λ t. new ++ t) out ∙ sym g)
           (subst (λ t. Shifted old (new ++ octets 8 (j / 2 ^ c)) (h.from ++ t) c p n) i more);
-      parts = h.parts ∙ ap (λ t. h.from ++ t) e ∙ sym (append_assoc h.from eight behind)
+      parts = h.parts ∙ ap (λ t. h.from ++ t) e ∙ sym (append_assoc h.from eight behind);
     }
 
 -- the rest behind what was shifted
@@ -90,10 +90,10 @@ begun_all old mid new all rest c p w v h t =
       count = length-append s.octets t.octets ∙ omega (arith, s.count, t.count) ∙ sym (ap length h.parts ∙ length-append h.from rest);
       each = append_octets s.octets t.octets s.each t.each;
       same =
-        ap (λ i. i ++ bits c v) (unpacked-append s.octets t.octets) ∙ append_assoc (unpacked s.octets) (unpacked t.octets) (bits c v)
-        ∙ ap (λ i. unpacked s.octets ++ i) t.same ∙ sym (append_assoc (unpacked s.octets) (bits c w) (unpacked rest))
-        ∙ ap (λ i. i ++ unpacked rest) s.same ∙ append_assoc (bits c p) (unpacked h.from) (unpacked rest)
-        ∙ ap (λ i. bits c p ++ i) (sym (ap unpacked h.parts ∙ unpacked-append h.from rest))
+          ap (λ i. i ++ bits c v) (unpacked-append s.octets t.octets) ∙ append_assoc (unpacked s.octets) (unpacked t.octets) (bits c v)
+          ∙ ap (λ i. unpacked s.octets ++ i) t.same ∙ sym (append_assoc (unpacked s.octets) (bits c w) (unpacked rest))
+          ∙ ap (λ i. i ++ unpacked rest) s.same ∙ append_assoc (bits c p) (unpacked h.from) (unpacked rest)
+          ∙ ap (λ i. bits c p ++ i) (sym (ap unpacked h.parts ∙ unpacked-append h.from rest));
     }
 
 -- ---- taken from a cursor

@@ -8,7 +8,12 @@ use std::alloc::AllocError;
 
 // adds the octets that the bits behind the first `offset` begin with, `count` of them; an `Err` is out of
 // memory, and then nothing has changed
-pub(crate) fn push_front(bytes: &mut Vec<u8>, octets: &[u8], offset: u32, count: usize) -> Result<(), AllocError>
+pub(crate) fn push_front(
+    bytes: &mut Vec<u8>,
+    octets: &[u8],
+    offset: u32,
+    count: usize,
+) -> Result<(), AllocError>
     requires begun { offset < 8 }
     requires there { 8 * count + offset ≤ 8 * length octets.now }
     ensures ok { OnOk result (Taken count (drop offset (unpacked octets.now)) (drop offset (unpacked (drop count octets.now))) bytes.old.items bytes.new.items) }

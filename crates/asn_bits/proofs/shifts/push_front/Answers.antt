@@ -1,5 +1,5 @@
 -- At an octet the octets are those below; within one they are shifted.
-use Rattle.std.proofs.Common.{◌≡◌, ◌+◌, ◌-◌, ◌<◌, ℕ, take, drop, get_or, ap, subst, arith}
+use Rattle.std.proofs.Common.{◌≡◌, ◌+◌, ◌-◌, ◌<◌, ℕ, take, drop, get_or, subst, arith}
 use Rattle.asn_bits.specs.Moves.{Shifted}
 use Rattle.asn_bits.proofs.Moving.{taken_whole, taken_shifted}
 use Rattle.asn_bits.proofs.shifts.push_front.Goals as goal
@@ -20,4 +20,4 @@ returns-in_ok-reserve-clause-ok c =
     let n : a.count + 1 - 1 ≡ a.count = omega arith in
     let h = subst (λ i. Shifted c.reserve.new.self.items new (take i (drop 1 os)) (8 - a.offset) (get_or os 0 0) left) n c.push_shifted.ensures.shifted in
     taken_shifted os a.bytes.now.items new a.offset a.count left c.requires.begun (omega arith)
-      (subst (λ t. Shifted t new (take a.count (drop 1 os)) (8 - a.offset) (get_or os 0 0) left) c.in_ok-reserve.ensures.items h)
+    (subst (λ t. Shifted t new (take a.count (drop 1 os)) (8 - a.offset) (get_or os 0 0) left) c.in_ok-reserve.ensures.items h)

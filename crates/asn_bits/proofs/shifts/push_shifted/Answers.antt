@@ -1,5 +1,5 @@
 -- Each turn adds the word above the last bits of eight octets more.
-use Rattle.std.proofs.Common.{◌≡◌, ◌-◌, ◌++◌, ◌<◌, ℕ, length, take, drop, get_or, sym, ◌∙◌, ap, subst, arith, length-drop}
+use Rattle.std.proofs.Common.{◌≡◌, ◌-◌, ◌++◌, ◌<◌, ℕ, length, drop, get_or, sym, ◌∙◌, ap, subst, arith, length-drop}
 use Rattle.std.proofs.lemmas.List.{take-append-drop}
 use Rattle.asn_bits.specs.Numbers.{octets}
 use Rattle.asn_bits.proofs.Moving.{begun_none, begun_word, begun_all, range_behind}
@@ -34,7 +34,7 @@ loop-eight-preserved c =
     let number : octets 8 n ≡ eight = octets_eight rest eight n front.0 (omega (arith, front.2)) range c.from_be_bytes-n.ensures ∙ sym front.0 in
     let parts : rest ≡ eight ++ behind = sym (take-append-drop 8 rest) ∙ ap (λ t. t ++ drop 8 rest) (sym front.0) ∙ ap (λ t. eight ++ t) (sym front.1) in (
       begun_word a.bytes.now.items c.loop-eight.bytes.items c.push_word.new.bytes.items a.octets.now rest eight behind a.count a.pending c.loop-eight.high n c.middle.result h c.requires.few.1 parts number
-        (omega arith) c.middle.ensures c.push_word.ensures.items,
+          (omega arith) c.middle.ensures c.push_word.ensures.items,
       omega (arith, c.loop-eight.invariant.1, front.2),
       omega (arith, c.loop-eight.invariant.2),
     )
@@ -46,7 +46,7 @@ pub returns-clause-shifted : goal.returns-clause-shifted
 returns-clause-shifted c =
     let a = c.args in
     begun_all a.bytes.now.items c.loop-eight.bytes.items c.push_single.new.bytes.items a.octets.now c.loop-eight.rest.now a.count a.pending c.loop-eight.high c.push_single.result
-      c.loop-eight.invariant.0 c.push_single.ensures.shifted
+    c.loop-eight.invariant.0 c.push_single.ensures.shifted
 
 pub returns-clause-len : goal.returns-clause-len
 returns-clause-len c = omega (arith, c.loop-eight.invariant.1)

@@ -23,7 +23,7 @@ loop-octet-preserved c =
     let more = shifted_octet a.bytes.now.items c.loop-octet.bytes.items (take i a.octets.now) a.count a.pending c.loop-octet.high o b c.loop-octet.invariant.0 fits c.requires.few.1 here in
     let front : take i a.octets.now ++ o ∷ [] ≡ take (i + 1) a.octets.now = sym (take_more a.octets.now i 0 c.loop-octet-test.true) in (
       subst (λ t. Shifted a.bytes.now.items t (take (i + 1) a.octets.now) a.count a.pending o) (sym c.push_reserved.ensures.items)
-        (subst (λ t. Shifted a.bytes.now.items (c.loop-octet.bytes.items ++ b ∷ []) t a.count a.pending o) front more),
+          (subst (λ t. Shifted a.bytes.now.items (c.loop-octet.bytes.items ++ b ∷ []) t a.count a.pending o) front more),
       omega (arith, c.loop-octet.invariant.1),
       omega (arith, c.loop-octet.invariant.2),
     )

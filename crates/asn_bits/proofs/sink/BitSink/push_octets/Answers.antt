@@ -1,5 +1,5 @@
 -- Where the bits fill octets the new ones go behind them; else they are shifted.
-use Rattle.std.proofs.Common.{◌≡◌, ◌++◌, ◌%◌, ◌/◌, ◌^◌, sym, ap, ◌∙◌}
+use Rattle.std.proofs.Common.{◌≡◌, ◌++◌, ◌%◌, ◌/◌, ◌^◌, ap, ◌∙◌}
 use Rattle.asn_bits.specs.Numbers.{bits, octets, unpacked}
 use Rattle.asn_bits.proofs.Moving.{pushed_shifted}
 use Rattle.asn_bits.proofs.Packing.{octets_out, whole_behind}
@@ -17,9 +17,9 @@ returns-clause-ok c =
     octets_out s.octets.items mid s.count s.pending (c.push_low.ensures.items ∙ ap (λ t. t ++ octets (s.count / 8) (s.pending / 2 ^ l)) c.in_ok-reserve.ensures.items) ∙ v in
     elim c.if-left-eq0.branch [
       | then-left-eq0+in_ok-extend_from_slice w ↦
-        ap (λ t. unpacked t.octets.items ++ bits l t.pending) w.self-inside-is
-        ∙ whole_behind mid w.extend_from_slice.new.self.items os l s.pending w.if-left-eq0.true w.in_ok-extend_from_slice.ensures.items ∙ ap (λ t. t ++ unpacked os) out
+          ap (λ t. unpacked t.octets.items ++ bits l t.pending) w.self-inside-is
+          ∙ whole_behind mid w.extend_from_slice.new.self.items os l s.pending w.if-left-eq0.true w.in_ok-extend_from_slice.ensures.items ∙ ap (λ t. t ++ unpacked os) out
       | else-left-eq0 w ↦
-        ap (λ t. unpacked t.octets.items ++ bits l t.pending) w.self-inside-is
-        ∙ pushed_shifted mid w.push_shifted-self-inside.new.bytes.items os l s.pending w.push_shifted-self-inside.result w.push_shifted-self-inside.ensures.shifted ∙ ap (λ t. t ++ unpacked os) out
+          ap (λ t. unpacked t.octets.items ++ bits l t.pending) w.self-inside-is
+          ∙ pushed_shifted mid w.push_shifted-self-inside.new.bytes.items os l s.pending w.push_shifted-self-inside.result w.push_shifted-self-inside.ensures.shifted ∙ ap (λ t. t ++ unpacked os) out
     ]

@@ -82,7 +82,8 @@ fn first_line<R: Read>(alloc: Global, input: &mut R) -> Result<Vec<u8>, FirstFau
 
 /// The two lines of the answer, or `None` where the line is refused.
 fn answer_to(alloc: Global, line: &[u8]) -> Result<Option<String>, FirstFault>
-    ensures { IfOk result (λ answer. MatchOption answer (IsNoMessage line.now) (λ text. Shows line.now (string_bytes text))) }
+    ensures answer { IfOk result (λ answer. MatchOption answer (IsNoMessage line.now) (λ text. Shows line.now (string_bytes text))) }
+    ensures memory { IfErr result (λ fault. fault ≡ FirstFault.Memory) }
 {
     let octets = match hex::decode(alloc, line) {
         Ok(octets) => octets,
@@ -128,6 +129,8 @@ impl From<io::Error> for FirstFault {
 }
 
 impl From<AllocError> for FirstFault {
+    ghost from_gives = { λ _ fault. fault ≡ FirstFault.Memory };
+
     fn from(_: AllocError) -> FirstFault {
         FirstFault::Memory
     }

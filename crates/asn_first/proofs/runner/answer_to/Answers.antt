@@ -9,8 +9,8 @@ use Rattle.asn_first.specs.Lines.{sample_shape, IsTwoLines}
 use Rattle.asn_first.proofs.Messages.{no_message, message, same_again, are_octets}
 use Rattle.asn_first.proofs.runner.answer_to.Goals as goal
 
-pub returns-in-Err-decode : goal.returns-in-Err-decode
-returns-in-Err-decode c =
+pub returns-in-Err-decode-clause-answer : goal.returns-in-Err-decode-clause-answer
+returns-in-Err-decode-clause-answer c =
     let o = c.in-Ok.octets.items in
     let why = c.in-Err-decode.field-0 in
     let digits : decode_of c.args.line.now ≡ Ok o = c.in-Ok.ensures.ok in
@@ -18,8 +18,8 @@ returns-in-Err-decode c =
     let other : why ≢ decode.Memory = search rules in
     no_message c.args.line.now o why digits other told
 
-pub returns : goal.returns
-returns c =
+pub returns-clause-answer : goal.returns-clause-answer
+returns-clause-answer c =
     let line = c.args.line.now in
     let o = c.in-Ok.octets.items in
     let v = datum_of c.in-Ok-decode.value in

@@ -56,7 +56,7 @@ padding_view os c p h =
     f ∙ sym (bits_zero ((8 - c) % 8))
 
 -- what an octet's worth of a number keeps of its last bits
-bits_low : (l n : ℕ) → l < 8 → bits l (n % 256) ≡ bits l n
+pub bits_low : (l n : ℕ) → l < 8 → bits l (n % 256) ≡ bits l n
 bits_low l n h =
     let eight : 8 - l + l ≡ 8 = omega arith in
     let e : 2 ^ (8 - l + l) ≡ 256 = ap (λ i. 2 ^ i) eight in

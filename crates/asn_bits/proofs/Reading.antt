@@ -69,7 +69,7 @@ field_left f k r n s =
     ∙ drop_digits f (n / 2 ^ (k + r)) ((bits k (n / 2 ^ r) ++ bits r n) ++ s)
     ∙ append_assoc (bits k (n / 2 ^ r)) (bits r n) s
 
-field_passed : (f k r n : ℕ) (s : List ℕ) → drop (f + k) (bits (f + (k + r)) n ++ s) ≡ bits r n ++ s
+pub field_passed : (f k r n : ℕ) (s : List ℕ) → drop (f + k) (bits (f + (k + r)) n ++ s) ≡ bits r n ++ s
 field_passed f k r n s =
     let e : f + (k + r) ≡ (f + k) + (0 + r) = omega arith in
     ap (λ i. drop (f + k) (bits i n ++ s)) e ∙ field_left (f + k) 0 r n s

@@ -1,8 +1,11 @@
 //! The bits of octets that are left to read.
-ghost use Rattle.std.specs.Prelude.{◌≡◌, ℕ, ◌+◌, ◌-◌, ◌*◌, ◌%◌, ◌/◌, ◌^◌, ◌<◌, ◌≤◌, ◌↔◌, List, [], ◌∷◌, ◌++◌, length, drop, IsTrue, IsNone, IfSome};
+ghost use Rattle.std.specs.Prelude.{◌≡◌, ℕ, ◌+◌, ◌-◌, ◌*◌, ◌%◌, ◌/◌, ◌^◌, ◌<◌, ◌≤◌, ◌↔◌, List, [], ◌∷◌, ◌++◌, length, drop, IsTrue, IsNone, IfSome, OnOk, OnErr};
+ghost use Rattle.asn_bits.specs.Moves.{Taken};
 ghost use Rattle.asn_bits.specs.Numbers.{bits, octets, unpacked};
 ghost use Rattle.asn_bits.specs.Sets.{AreBits};
 
+use crate::shifts::push_front;
+use std::alloc::AllocError;
 use std::marker::Model;
 
 /// The bits of octets that are left to read, the highest bit of an octet first. Contracts see
@@ -107,6 +110,20 @@ impl<'a> BitCursor<'a> {
         self.octets = &octets[(end / 8) as usize..];
         self.offset = end % 8;
         Some(n)
+    }
+
+    /// Takes the next `count` octets, at any bit of the octets below, and adds them to `into`, whole octets
+    /// at once. So many have to be left; `octets_left` tells how many are. An `Err` is out of memory, and
+    /// then nothing has changed.
+    pub fn take_octets(&mut self, count: usize, into: &mut Vec<u8>) -> Result<(), AllocError>
+        requires { 8 * count ≤ length self.old }
+        ensures ok { OnOk result (Taken count self.old self.new into.old.items into.new.items) }
+        ensures err { OnErr result ((self.new ≡ self.old) × (into.new.items ≡ into.old.items)) }
+    {
+        let octets = self.octets;
+        push_front(into, octets, self.offset, count)?;
+        self.octets = &octets[count..];
+        Ok(())
     }
 }
 

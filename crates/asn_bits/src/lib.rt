@@ -2,12 +2,17 @@
 #![tactic(auto)]
 
 pub mod cursor;
+pub mod intervals;
 pub mod lengths;
+pub mod number_field;
 pub mod numbers;
 pub mod offsets;
+mod shifts;
 pub mod sink;
 
 pub use cursor::BitCursor;
+pub use intervals::Intervals;
+pub use number_field::{FieldState, NumberField};
 pub use sink::BitSink;
 
 #[cfg(test)]

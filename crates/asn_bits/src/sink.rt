@@ -3,6 +3,7 @@ ghost use Rattle.std.specs.Prelude.{◌≡◌, ℕ, ◌+◌, ◌*◌, ◌/◌, �
 ghost use Rattle.asn_bits.specs.Numbers.{bits, octets, packed, padding, unpacked};
 ghost use Rattle.asn_bits.specs.Sink.{bit_of};
 
+use crate::shifts::push_shifted;
 use std::alloc::{AllocError, Global};
 use std::marker::Model;
 
@@ -67,6 +68,20 @@ impl BitSink {
         ensures err { OnErr result (self.new ≡ self.old) }
     {
         self.append(k, n as u128)
+    }
+
+    /// Adds all bits of the octets, whole octets at once wherever the bits so far end. An `Err` is out of
+    /// memory, and then nothing has changed.
+    pub fn push_octets(&mut self, octets: &[u8]) -> Result<(), AllocError>
+        ensures ok { OnOk result (self.new ≡ self.old ++ unpacked octets.now) }
+        ensures err { OnErr result (self.new ≡ self.old) }
+    {
+        if self.count == 0 {
+            self.octets.extend_from_slice(octets)?;
+        } else {
+            self.pending = push_shifted(&mut self.octets, self.count, self.pending, octets)?;
+        }
+        Ok(())
     }
 
     /// Adds the fewest 0 bits that fill octets, none where the bits fill octets already.

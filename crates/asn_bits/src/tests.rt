@@ -1,8 +1,9 @@
 //! What no clause says: that the calls succeed, vectors from outside, and numbers against bits.
 ghost use Rattle.std.specs.Prelude.{◌≡◌, ℕ, ◌^◌, ◌<◌, ◌≤◌};
 
+use crate::number_field::take_of;
 use crate::numbers::{octet_count, width};
-use crate::{BitCursor, BitSink};
+use crate::{BitCursor, BitSink, FieldState, Intervals, NumberField};
 use std::alloc::{AllocError, Global};
 use std::process::Abort;
 use std::test::Fail;
@@ -205,6 +206,64 @@ fn long_numbers_are_their_bits(rt: HostRuntime) -> Result<(), Fail> {
         for offset in 0..8 {
             agrees(&rt, rt.alloc(), offset, k, sample(k), 0)?;
             agrees(&rt, rt.alloc(), offset, k, sample(k), 9)?;
+        }
+    }
+    Ok(())
+}
+
+// what a reader that tries all numbers of k bits says behind these bits: `given` of them, of which
+// the number is `prefix`
+fn by_trial(numbers: &Intervals, k: u32, prefix: u64, given: u32) -> FieldState
+    requires few { k < 64 }
+    requires given { given ≤ k }
+{
+    for n in 0..limit(k) {
+        if numbers.has(n) && n >> (k - given) == prefix {
+            return if given == k {
+                FieldState::Number(n)
+            } else {
+                FieldState::Alive
+            };
+        }
+    }
+    FieldState::Dead
+}
+
+// each number of k bits, bit by bit and in one step
+fn reads_as_by_trial(rt: &impl Abort, alloc: Global, k: u32, numbers: &Intervals) -> Result<(), Fail>
+    requires { k < 64 }
+{
+    for n in 0..limit(k) {
+        let mut field = NumberField::new(k, numbers.copied());
+        for given in 0..k {
+            let prefix = n >> (k - 1 - given);
+            let told = field.bit(prefix & 1 == 1);
+            assert_eq!(rt; told, by_trial(numbers, k, prefix, given + 1));
+        }
+        let mut sink = BitSink::new(alloc);
+        put(&mut sink, k, n)?;
+        fill_octets(&mut sink)?;
+        assert!(rt; sink.ends_at_octet());
+        let octets = sink.into_octets();
+        let mut cursor = BitCursor::over(octets.as_slice());
+        let taken = take_of(numbers, k, &mut cursor);
+        assert_eq!(rt; taken, if numbers.has(n) { Some(n) } else { None });
+    }
+    Ok(())
+}
+
+#[test]
+fn fields_are_read_as_by_trial(rt: HostRuntime) -> Result<(), Fail> {
+    for k in 1..6 {
+        let last = limit(k) - 1;
+        for low in 0..=last {
+            for high in low..=last {
+                reads_as_by_trial(&rt, rt.alloc(), k, &Intervals::one(low, high))?;
+                let two = Intervals::one(low, high).and(last, last);
+                reads_as_by_trial(&rt, rt.alloc(), k, &two)?;
+                let four = Intervals::one(low, low).and(high, high).and(0, 0).and(last, last);
+                reads_as_by_trial(&rt, rt.alloc(), k, &four)?;
+            }
         }
     }
     Ok(())

@@ -25,7 +25,7 @@ use Rattle.asn_rules.specs.Forks.{Same}
 use Rattle.asn_rules.specs.Fields.{OneOctet}
 use Rattle.asn_rules.specs.Spellings.{SpelledBy}
 use Rattle.asn_rules.proofs.Chunks.{ones-append}
-use Rattle.asn_rules.proofs.Digits.{digits-append, digits-first, digits-second, weighted-append, bits_are, bits_only, are_digits}
+use Rattle.asn_bits.proofs.Weights.{digits-append, digits-first, digits-second, weighted-append, bits_are, bits_only, are_digits}
 use Rattle.asn_rules.proofs.OctetLengths.{one_is, octets_itself, length_spelled}
 use Rattle.asn_rules.proofs.Spellings.{same_after, same_then, same_map, same_spelled, digits_spelled, map_spelled, then_spelled}
 use Rattle.asn_oer.specs.Oer.{filled_bits, variable_bits, oer}

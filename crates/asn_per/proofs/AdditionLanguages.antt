@@ -19,7 +19,7 @@ use Rattle.asn_rules.specs.General.{behind_first}
 use Rattle.asn_rules.specs.Forks.{Same}
 use Rattle.asn_rules.specs.Spellings.{SpelledBy}
 use Rattle.asn_rules.proofs.Chunks.{ones-append}
-use Rattle.asn_rules.proofs.Digits.{bits_are, bits_only}
+use Rattle.asn_bits.proofs.Weights.{bits_are, bits_only}
 use Rattle.asn_rules.proofs.Entries.{each_length, presence_bits}
 use Rattle.asn_rules.proofs.Spellings.{same_after, same_then, same_map, set_spelled, then_spelled, map_spelled}
 use Rattle.asn_per.specs.Per.{per, per_open, an_open_field, small_length}

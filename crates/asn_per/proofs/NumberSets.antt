@@ -3,7 +3,7 @@ use Rattle.std.proofs.Common.{◌≡◌, ◌≢◌, ◌≤◌, ◌<◌, ◌+◌,
 use Rattle.std.proofs.lemmas.Bool.{cases_eq}
 use Rattle.std.proofs.Math.Nat.{pow-le-pow_right}
 use Rattle.asn_bits.specs.Sets.{Meets, weighted}
-use Rattle.asn_rules.proofs.Digits.{weighted_bound}
+use Rattle.asn_bits.proofs.Weights.{weighted_bound}
 use Rattle.asn_rules.proofs.Sets.{Taking}
 use Rattle.asn_per.specs.declared.number_reader.Numbers.{Numbers}
 use Rattle.asn_per.specs.Reading.{IsNot, Admits}

@@ -14,7 +14,7 @@ use Rattle.asn_rules.specs.Forks.{Same}
 use Rattle.asn_rules.specs.Languages.{Spells, Then, Map, Plain}
 use Rattle.asn_bits.specs.Sets.{weighted, InSet, IsBits, Meets}
 use Rattle.asn_rules.specs.Listed.{Spelt, Listed, each_of, bitmap_length}
-use Rattle.asn_rules.proofs.Digits.{bits_are, bits_only}
+use Rattle.asn_bits.proofs.Weights.{bits_are, bits_only}
 use Rattle.asn_rules.proofs.Entries.{components_again, presence_bits}
 use Rattle.asn_rules.proofs.Leads.{LeadsStops, Leads, leads_on, leads_map, leads_same, leads_second, stops_first, stops_on}
 use Rattle.asn_rules.proofs.Listed.{listed_inhabited}

@@ -15,9 +15,10 @@ use Rattle.asn_rules.specs.Chunks.{Chunk, one, ones}
 use Rattle.asn_rules.specs.Languages.{Spells, Short, Inhabited, Row, Map, Plain}
 use Rattle.asn_rules.specs.Forks.{Same}
 use Rattle.asn_rules.specs.Spellings.{SpelledBy}
-use Rattle.asn_rules.proofs.Digits.{bits_are, digits-append}
+use Rattle.asn_bits.proofs.Weights.{bits_are, digits-append}
 use Rattle.asn_rules.proofs.Rows.{row_lawful}
-use Rattle.asn_rules.proofs.Sets.{set_spells, set_meets, set_inhabited}
+use Rattle.asn_bits.proofs.Unions.{set_meets}
+use Rattle.asn_rules.proofs.Sets.{set_spells, set_inhabited}
 use Rattle.asn_rules.proofs.Leads.{Leads, leads_on, leads_map, leads_same}
 use Rattle.asn_rules.proofs.Parts.{map_inhabited}
 use Rattle.asn_rules.proofs.Forks.{same_flip, same_inhabited, map_same}

@@ -2,7 +2,6 @@
 use Rattle.std.proofs.Common.{◌≡◌, ◌⊎◌, ◌≤◌, ◌<◌, ◌+◌, ◌*◌, ◌^◌, ℕ, suc, Bool, true, false, List, [], ◌∷◌, ◌++◌, length, map, Option, Some, None, inl, inr, refl, sym, ◌∙◌, ap, arith, append_assoc}
 use Rattle.std.proofs.lemmas.List.{append-nil}
 use Rattle.std.proofs.Math.Nat.{pow-succ'}
-use mir.Val.{bool_byte}
 use Rattle.asn_values.specs.Datum.{Datum}
 use Rattle.asn_values.specs.Shape.{Demand, must, optional, default, demands}
 use Rattle.asn_values.specs.Fits.{FitsEach}
@@ -10,6 +9,7 @@ use Rattle.asn_values.specs.Parts.{IsGoodDemand, AreOfProfile}
 use Rattle.asn_values.specs.View.{Part, fields_of}
 use Rattle.asn_bits.specs.Numbers.{bits}
 use Rattle.asn_bits.specs.Sink.{bit_of}
+use Rattle.asn_bits.proofs.Prefixes.{bit_below}
 use Rattle.asn_bits.proofs.Splits.{digits-join}
 use Rattle.asn_rules.specs.Components.{has_presence_bit, is_spelled, presence}
 use Rattle.asn_per.specs.Laws.{per_bits, component_bits}
@@ -49,15 +49,6 @@ bitmap_starts all entries h = record { components = h; few = omega arith; within
 one_bit : (b : Bool) → bits 1 (bit_of b) ≡ bit_of b ∷ []
 one_bit true = refl
 one_bit false = refl
-
--- the number that a truth value converts to is its bit
-pub bool_byte-is : (b : Bool) → bool_byte b ≡ bit_of b
-bool_byte-is true = refl
-bool_byte-is false = refl
-
-bit_below : (b : Bool) → bit_of b < 2
-bit_below true = omega arith
-bit_below false = omega arith
 
 -- one bit more
 bits_more : (count bitmap : ℕ) (b : Bool) → bits (count + 1) (2 * bitmap + bit_of b) ≡ bits count bitmap ++ bit_of b ∷ []

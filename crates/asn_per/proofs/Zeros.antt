@@ -8,7 +8,7 @@ use Rattle.asn_rules.specs.Forks.{Same}
 use Rattle.asn_rules.specs.Languages.{Map, Plain}
 use Rattle.asn_rules.specs.Padding.{Fixed}
 use Rattle.asn_bits.specs.Sets.{InSet, IsBits}
-use Rattle.asn_rules.proofs.Digits.{bits_are, digits_only}
+use Rattle.asn_bits.proofs.Weights.{bits_are, digits_only}
 use Rattle.asn_rules.proofs.Leads.{Leads, leads_on, leads_map, leads_same}
 use Rattle.asn_per.specs.Per.{per_fields}
 use Rattle.asn_per.specs.Reading.{Admits, up_to}

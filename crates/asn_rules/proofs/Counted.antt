@@ -19,8 +19,9 @@ use Rattle.asn_rules.specs.Counted.{SomeOf, Counted, number_of, Least, signed_nu
 use Rattle.asn_rules.proofs.Chunks.{FieldsPart, ones-append}
 use Rattle.asn_rules.proofs.Then.{Follows, then_lawful, then_inhabited, then_spells, then_short_first, then_short_second, then_refused_first, then_refused_second}
 use Rattle.asn_rules.proofs.Parts.{plain_inhabited}
-use Rattle.asn_rules.proofs.Digits.{digits-append, weighted-append, bits_are, bits_only, digits_only}
-use Rattle.asn_rules.proofs.Sets.{set_lawful, set_spelt}
+use Rattle.asn_bits.proofs.Weights.{digits-append, weighted-append, bits_are, bits_only, digits_only}
+use Rattle.asn_bits.proofs.Unions.{set_spelt}
+use Rattle.asn_rules.proofs.Sets.{set_lawful}
 use Rattle.asn_rules.proofs.Spellings.{same_after, same_then, same_spelled, same_map as map_same, digits_spelled, then_spelled, map_spelled}
 
 -- h digits of the base are an octet

@@ -18,7 +18,8 @@ use Rattle.asn_rules.specs.Fields.{Octet, OctetsBehind}
 use Rattle.asn_rules.specs.Spellings.{SpelledBy}
 use Rattle.asn_rules.proofs.Chunks.{FieldsPart, ones-append}
 use Rattle.asn_rules.proofs.Forks.{same_flip, same_spells, same_short, same_refused, same_lawful}
-use Rattle.asn_rules.proofs.Sets.{set_lawful, set_inhabited, set_meets}
+use Rattle.asn_bits.proofs.Unions.{set_meets}
+use Rattle.asn_rules.proofs.Sets.{set_lawful, set_inhabited}
 use Rattle.asn_rules.proofs.Spellings.{same_after, same_spelled, set_spelled, plain_spelled}
 use Rattle.asn_rules.proofs.Fragments.{same_general, general_spelled}
 use Rattle.asn_rules.proofs.OctetLengths.{octets_behind}

@@ -12,7 +12,7 @@ use Rattle.asn_rules.specs.Languages.{Lawful, Row}
 use Rattle.asn_rules.specs.Forks.{Same}
 use Rattle.asn_rules.specs.General.{Length, last, fragment, Left, Blocks, Header, Body, Within, General}
 use Rattle.asn_rules.specs.Spellings.{SpelledBy}
-use Rattle.asn_rules.proofs.Digits.{bits_are}
+use Rattle.asn_bits.proofs.Weights.{bits_are}
 use Rattle.asn_rules.proofs.General.{general_once, general_lawful, general_counted}
 use Rattle.asn_rules.proofs.Headers.{header_few_is, header_many_is, header_blocks_is}
 use Rattle.asn_rules.proofs.Spellings.{same_row, row_spelled}

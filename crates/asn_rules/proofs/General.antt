@@ -2,7 +2,7 @@
 use Rattle.std.proofs.Common.{◌≡◌, ℕ, zero, suc, ◌+◌, ◌*◌, ◌<◌, ◌≤◌, ⊎_elim, List, [], ◌∷◌, ◌++◌, length, length-append, refl, sym, ap, ◌∙◌, subst, arith}
 use Rattle.std.proofs.lemmas.Bool.{cases_lt}
 use Rattle.asn_bits.specs.Numbers.{bits}
-use Rattle.asn_rules.proofs.Digits.{bits_are}
+use Rattle.asn_bits.proofs.Weights.{bits_are}
 use Rattle.asn_rules.proofs.Carries.{carries_both, carries_map, carries_short, carries_refused, carries_behind, taken}
 use Rattle.asn_rules.proofs.Chunks.{FieldsPart}
 use Rattle.asn_rules.proofs.Forks.{map_map, map_lawful_on, same_flip, same_short, same_refused, carries_left, carries_whole, same_inhabited}

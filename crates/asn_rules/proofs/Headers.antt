@@ -2,12 +2,13 @@
 use Rattle.std.proofs.Common.{◌≡◌, ℕ, ◌+◌, ◌-◌, ◌*◌, ◌^◌, ◌<◌, ◌≤◌, ◌⊎◌, inl, inr, ⊎_elim, List, [], ◌∷◌, length, refl, sym, ap, ◌∙◌, subst, arith}
 use Rattle.std.proofs.lemmas.Bool.{cases_lt}
 use Rattle.asn_bits.specs.Numbers.{bits}
-use Rattle.asn_rules.proofs.Digits.{bits_are, weighted_bound}
+use Rattle.asn_bits.proofs.Weights.{bits_are, weighted_bound}
 use Rattle.asn_rules.proofs.Carries.{carries_both, carries_map, carries_short, carries_refused}
 use Rattle.asn_rules.proofs.Chunks.{FieldsPart}
 use Rattle.asn_rules.proofs.Forks.{map_map, map_lawful_on, same_flip, same_carries, fork_lawful, fork_inhabited_zero, fork_inhabited_one, fork_zero, fork_one, fork_short, fork_refused}
 use Rattle.asn_rules.proofs.Parts.{map_short, map_refused}
-use Rattle.asn_rules.proofs.Sets.{set_lawful, set_inhabited, set_meets}
+use Rattle.asn_bits.proofs.Unions.{set_meets}
+use Rattle.asn_rules.proofs.Sets.{set_lawful, set_inhabited}
 use Rattle.asn_rules.specs.Chunks.{Chunk, ones}
 use Rattle.asn_rules.specs.Forks.{Branch, Fork, Same}
 use Rattle.asn_rules.specs.General.{Length, last, fragment, Few, Many, Blocks, length_of, Header}

@@ -10,7 +10,7 @@ use Rattle.asn_rules.specs.Padding.{AreUnits, Fixed}
 use Rattle.asn_rules.specs.Left.{ending, NumberLeft}
 use Rattle.asn_rules.proofs.Chunks.{FieldsPart}
 use Rattle.asn_rules.proofs.Parts.{map_lawful}
-use Rattle.asn_rules.proofs.Digits.{digits-append, digits-second, weighted-append}
+use Rattle.asn_bits.proofs.Weights.{digits-append, digits-second, weighted-append}
 use Rattle.asn_rules.proofs.Sets.{Taking, set_lawful, taking_live}
 use Rattle.asn_rules.proofs.Padding.{Matching, fixed_code}
 use Rattle.asn_rules.proofs.Parts.{plain_short}

@@ -16,8 +16,9 @@ use Rattle.asn_rules.proofs.Chunks.{ones-append}
 use Rattle.asn_rules.proofs.Then.{Follows, then_lawful}
 use Rattle.asn_rules.proofs.Parts.{nothing_lawful, plain_inhabited}
 use Rattle.asn_rules.proofs.Forks.{map_lawful_on}
-use Rattle.asn_rules.proofs.Digits.{digits_only}
-use Rattle.asn_rules.proofs.Sets.{set_lawful, set_spelt}
+use Rattle.asn_bits.proofs.Weights.{digits_only}
+use Rattle.asn_bits.proofs.Unions.{set_spelt}
+use Rattle.asn_rules.proofs.Sets.{set_lawful}
 use Rattle.asn_rules.proofs.Rows.{row_inhabited}
 use Rattle.asn_rules.proofs.Spellings.{same_after, same_then, same_map, same_row, same_spelled, digits_spelled, nothing_spelled, then_spelled, map_spelled, row_spelled}
 

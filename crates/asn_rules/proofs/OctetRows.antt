@@ -15,7 +15,7 @@ use Rattle.asn_rules.specs.Spellings.{SpelledBy}
 use Rattle.asn_rules.proofs.Chunks.{FieldsPart, ones-append}
 use Rattle.asn_rules.proofs.Lists.{no_length}
 use Rattle.asn_rules.proofs.Rows.{row_lawful}
-use Rattle.asn_rules.proofs.Digits.{digits-append, digits-first, digits-second, bits_only}
+use Rattle.asn_bits.proofs.Weights.{digits-append, digits-first, digits-second, bits_only}
 use Rattle.asn_rules.proofs.Spellings.{same_after, same_row, same_spelled, row_spelled, units_front, units_short}
 use Rattle.asn_rules.proofs.Fields.{octet_lawful, octet_spelled}
 use Rattle.asn_rules.proofs.OctetLengths.{one_octet_lawful, octets_itself}

@@ -1,17 +1,35 @@
 -- Numbers of a set in a fixed count of digits, and where their reader stands.
 use Rattle.std.proofs.Common.{◌≡◌, ◌≢◌, ℕ, zero, suc, ◌+◌, ◌-◌, ◌*◌, ◌^◌, ◌<◌, ◌≤◌, ◌⊎◌, inl, inr, ⊎_elim, List, [], ◌∷◌, ◌++◌, length, length-append, refl, sym, ap, ◌∙◌, append_assoc, arith}
-use Rattle.std.proofs.Math.Nat.{pow-zero, pow-succ'}
+use Rattle.std.proofs.Math.Nat.{pow-succ'}
 use Rattle.std.proofs.lemmas.List.{append-nil}
-use Rattle.std.proofs.lemmas.Bool.{cases_lt}
+use Rattle.std.proofs.lemmas.Bool.{cases_eq}
 use Rattle.asn_bits.specs.Numbers.{digits}
-use Rattle.asn_rules.proofs.Digits.{digits-append, digits-second, weighted_bound, weighted-append, weighted_more, same_digits, same_or_parted, not_parted, digits_are, extended}
+use Rattle.asn_bits.proofs.Weights.{digits-append, digits-second, weighted_bound, weighted-append, weighted_more, same_digits, digits_are, extended}
+use Rattle.asn_bits.proofs.Unions.{set_spelt, meets_member}
 use Rattle.asn_rules.proofs.Chunks.{FieldsPart}
 use Rattle.asn_rules.proofs.Parts.{Code, plain_lawful, plain_inhabited, plain_spells, plain_short, plain_refused}
 use Rattle.asn_rules.specs.Chunks.{ones}
 use Rattle.asn_rules.specs.Languages.{Spells, Short, Refused, Lawful, Inhabited, Plain}
 use Rattle.asn_rules.specs.Live.{Fielding}
 use Rattle.asn_rules.specs.Parted.{Parted}
-use Rattle.asn_bits.specs.Sets.{AreDigits, weighted, IsDigits, InDigits, MeetsIn, Between, Among, AreOrdered, Touches}
+use Rattle.asn_bits.specs.Sets.{AreDigits, weighted, IsDigits, InDigits, MeetsIn}
+
+-- ---- lists of one length
+
+-- they are one, or part
+pub same_or_parted : (xs ys : List ℕ) → length xs ≡ length ys → (xs ≡ ys) ⊎ Parted (ones xs) (ones ys)
+same_or_parted [] [] l = inl refl
+same_or_parted [] (y ∷ ys) l = absurd (omega arith)
+same_or_parted (x ∷ xs) [] l = absurd (omega arith)
+same_or_parted (x ∷ xs) (y ∷ ys) l = ⊎_elim (λ e. ⊎_elim (λ f. inl (let p : (x ∷ xs) ≡ (y ∷ ys) = cc in p)) (λ p. inr (inr (e, p))) (same_or_parted xs ys (omega arith))) (λ n. inr (inl n)) (cases_eq x y)
+
+-- a list does not part from itself
+pub not_parted : (xs : List ℕ) → Parted (ones xs) (ones xs) → ⊥
+not_parted [] p = p
+not_parted (x ∷ xs) (inl n) = n refl
+not_parted (x ∷ xs) (inr p) = not_parted xs p.1
+
+-- ---- numbers of a set
 
 -- two numbers of a set are one, or their digits part
 pub set_code : (base k : ℕ) (S : ℕ → Type 0) → Code (InDigits base k S)
@@ -30,10 +48,6 @@ set_code base k S = record { law = λ m n us vs p q. go m n us vs p q (same_or_p
 pub set_lawful : (base k : ℕ) (S : ℕ → Type 0) → Lawful (Plain (InDigits base k S))
 set_lawful base k S = plain_lawful (set_code base k S)
 
--- a number of the set that fits has its digits
-pub set_spelt : (base k : ℕ) {S : ℕ → Type 0} (n : ℕ) → S n → n < base ^ k → InDigits base k S n (digits base k n)
-set_spelt base k n m w = record { digits = digits_are base k n w; member = m }
-
 -- all bits are at hand: one step
 pub set_spells : (R : Fielding) {base k : ℕ} {S : ℕ → Type 0} (n : ℕ) (bs rest : List ℕ) → IsDigits base k n bs → S n → Spells R (Plain (InDigits base k S)) n (bs ++ rest) rest
 set_spells R n bs rest b m = plain_spells R n bs rest (record { digits = b; member = m })
@@ -41,10 +55,6 @@ set_spells R n bs rest b m = plain_spells R n bs rest (record { digits = b; memb
 -- some number of the set fits the bits
 pub set_inhabited : {base k : ℕ} {S : ℕ → Type 0} → MeetsIn base S 0 k → Inhabited (Plain (InDigits base k S))
 set_inhabited {base} {k} {S} m = plain_inhabited m.number (digits base k m.number) (set_spelt base k m.number m.member (omega (arith, m.below)))
-
--- some number of the set fits the digits
-pub set_meets : (base k : ℕ) {S : ℕ → Type 0} (n : ℕ) → S n → n < base ^ k → MeetsIn base S 0 k
-set_meets base k n m w = record { number = n; member = m; least = omega arith; below = omega arith }
 
 -- where the reader of a number of a set stands
 pub record Taking (base k : ℕ) (S : ℕ → Type 0) (us rest : List ℕ) (p r : ℕ) : Type 0 where
@@ -69,14 +79,6 @@ taking_steps {base = base} {u = u} {r = r} {rest = rest} h b m = record {
   count = omega (arith, length-append h.before (u ∷ []), h.count);
   alive = m;
 }
-
--- with no bits behind it a number that meets the set is one of it
-pub meets_member : {S : ℕ → Type 0} {base p : ℕ} → MeetsIn base S p 0 → S p
-meets_member {S} {base} {p} m =
-    let l : p * 1 ≤ m.number = rw pow-zero at m.least in
-    let b : m.number < (p + 1) * 1 = rw pow-zero at m.below in
-    let e : m.number ≡ p = omega (arith, l, b) in
-    rw e at m.member
 
 -- no digit is left: the number is read
 pub taking_ends : {base k p : ℕ} {S : ℕ → Type 0} {us rest : List ℕ} (R : Fielding) → Taking base k S us rest p 0 → Spells R (Plain (InDigits base k S)) p us rest
@@ -159,52 +161,3 @@ taking_waits {left = suc r} ok h z e = taking_short ok (rw e at h)
 pub taking_done : {base k p left : ℕ} {S : ℕ → Type 0} {us rest : List ℕ} (R : Fielding) → Taking base k S us rest p left → left ≤ 0 → Spells R (Plain (InDigits base k S)) p us rest
 taking_done {left = zero} R h z = taking_ends R h
 taking_done {left = suc r} R h z = absurd (omega arith)
-
--- a range that has a number is not empty
-some_room : (p q n : ℕ) → n < (p + 1) * q → 0 < q
-some_room p zero n h = absurd (omega (arith, h))
-some_room p (suc q) n h = omega arith
-
--- The test of the intervals decides it.
-pub touches_meets : {base p r : ℕ} (is : List (ℕ × ℕ)) → AreOrdered is → Touches base is p r → MeetsIn base (Among is) p r
-touches_meets [] o h = absurd h
-touches_meets {base} {p} {r} (i ∷ is) o (inl h) = ⊎_elim
-    (λ e. at (p * base ^ r) (omega arith) h.0 (omega arith) (omega (arith, some_room p (base ^ r) i.0 h.1)))
-    (λ e. at i.0 (omega arith) o.0 e h.1)
-    (cases_lt i.0 (p * base ^ r))
-  where
-    at : (n : ℕ) → i.0 ≤ n → n ≤ i.1 → p * base ^ r ≤ n → n < (p + 1) * base ^ r → MeetsIn base (Among (i ∷ is)) p r
-    at n a b l m = record { number = n; member = inl (a, b); least = l; below = m }
-touches_meets (i ∷ is) o (inr h) =
-    let m = touches_meets is o.1 h in
-    record { number = m.number; member = inr m.member; least = m.least; below = m.below }
-
--- a number of an interval that begins so
-among_touches : (base p r : ℕ) (is : List (ℕ × ℕ)) (n : ℕ) → Among is n → p * base ^ r ≤ n → n < (p + 1) * base ^ r → Touches base is p r
-among_touches base p r [] n h l m = absurd h
-among_touches base p r (i ∷ is) n (inl h) l m = inl (omega (arith, h.1), omega (arith, h.0))
-among_touches base p r (i ∷ is) n (inr h) l m = inr (among_touches base p r is n h l m)
-
--- where some number of the intervals begins so, the test says so
-pub meets_touches : {base p r : ℕ} (is : List (ℕ × ℕ)) → MeetsIn base (Among is) p r → Touches base is p r
-meets_touches {base} {p} {r} is m = among_touches base p r is m.number m.member m.least m.below
-
--- ---- the numbers from low to high
-
--- some number from low to high begins so where the test says so
-pub between_meets : {base low high p r : ℕ} → low ≤ high → p * base ^ r ≤ high → low < (p + 1) * base ^ r → MeetsIn base (Between low high) p r
-between_meets {base} {low} {high} {p} {r} o h l = ⊎_elim
-    (λ e. at (p * base ^ r) (omega arith) h (omega arith) (omega (arith, some_room p (base ^ r) low l)))
-    (λ e. at low (omega arith) o e l)
-    (cases_lt low (p * base ^ r))
-  where
-    at : (n : ℕ) → low ≤ n → n ≤ high → p * base ^ r ≤ n → n < (p + 1) * base ^ r → MeetsIn base (Between low high) p r
-    at n a b l m = record { number = n; member = (a, b); least = l; below = m }
-
--- and the other way round
-pub meets_between : {base low high p r : ℕ} → MeetsIn base (Between low high) p r → (p * base ^ r ≤ high) × (low < (p + 1) * base ^ r)
-meets_between m = (omega (arith, m.least, m.member.1), omega (arith, m.below, m.member.0))
-
--- some number from low to high fits the digits
-pub between_starts : {base low high k : ℕ} → low ≤ high → high < base ^ k → MeetsIn base (Between low high) 0 k
-between_starts {base} {low} {high} {k} o h = set_meets base k low (omega arith, o) (omega arith)

@@ -14,7 +14,7 @@ use Rattle.asn_rules.specs.Spellings.{SpelledBy, FitsEither, either_code}
 use Rattle.asn_rules.proofs.Flat.{flat-ones}
 use Rattle.asn_rules.proofs.Chunks.{FieldsPart}
 use Rattle.asn_rules.proofs.Parts.{contents-ones, short_within}
-use Rattle.asn_rules.proofs.Digits.{digits_are, digits_only}
+use Rattle.asn_bits.proofs.Weights.{digits_are, digits_only}
 
 -- ---- laws
 

@@ -3,7 +3,8 @@ use Rattle.std.specs.Option.{option_map}
 use Rattle.std.proofs.lemmas.Slice.Zip.{either_empty_from_Zip}
 use Rattle.asn_values.specs.View.{datum_of, part_of_field}
 use Rattle.asn_bits.specs.Sink.{bit_of}
-use Rattle.asn_per.proofs.Writing.{bool_byte-is, bitmap_more, bitmap_ends, either_map}
+use Rattle.asn_bits.proofs.Prefixes.{bool_byte-is}
+use Rattle.asn_per.proofs.Writing.{bitmap_more, bitmap_ends, either_map}
 use Rattle.asn_per.proofs.encoder.presence_bitmap.Goals as goal
 
 pub loop-field-preserved-then-may_be_absent : goal.loop-field-preserved-then-may_be_absent

@@ -1,5 +1,5 @@
 use Rattle.asn_bits.specs.Numbers.{bits}
-use Rattle.asn_rules.proofs.Digits.{bits_are}
+use Rattle.asn_bits.proofs.Weights.{bits_are}
 use Rattle.asn_rules.proofs.Sets.{set_spells}
 use Rattle.asn_per.specs.Per.{per_fields}
 use Rattle.asn_per.proofs.number_reader.number.Goals as goal

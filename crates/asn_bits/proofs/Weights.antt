@@ -2,11 +2,9 @@
 use Rattle.std.proofs.Common.{◌≡◌, ℕ, zero, suc, ◌+◌, ◌-◌, ◌*◌, ◌/◌, ◌%◌, ◌^◌, ◌<◌, ◌≤◌, ◌⊎◌, inl, inr, ⊎_elim, List, [], ◌∷◌, ◌++◌, length, length-append, pow-add, refl, sym, ap, ◌∙◌, arith}
 use Rattle.std.proofs.Math.Nat.{pow-zero, pow-succ', one-le-pow, mod-lt, mod-eq_of_lt, mul-le-mul_right}
 use Rattle.std.proofs.Math.Arith.{mod-mul}
-use Rattle.std.proofs.lemmas.Bool.{cases_lt, cases_eq}
+use Rattle.std.proofs.lemmas.Bool.{cases_lt}
 use Rattle.asn_bits.specs.Numbers.{digits, bits}
 use Rattle.asn_bits.proofs.Octets.{length-digits}
-use Rattle.asn_rules.specs.Chunks.{ones}
-use Rattle.asn_rules.specs.Parted.{Parted}
 use Rattle.asn_bits.specs.Sets.{AreDigits, weighted, IsDigits, IsBits}
 
 -- digits behind digits
@@ -75,21 +73,6 @@ same_digits base (x ∷ xs) (y ∷ ys) f g l e =
     let lead : x * p ≡ y * p = ap (λ (n : ℕ). n * p) same in
     let again = same_digits base xs ys f.1 g.1 m (omega (arith, h, lead)) in
     cc
-
--- ---- lists of one length
-
--- they are one, or part
-pub same_or_parted : (xs ys : List ℕ) → length xs ≡ length ys → (xs ≡ ys) ⊎ Parted (ones xs) (ones ys)
-same_or_parted [] [] l = inl refl
-same_or_parted [] (y ∷ ys) l = absurd (omega arith)
-same_or_parted (x ∷ xs) [] l = absurd (omega arith)
-same_or_parted (x ∷ xs) (y ∷ ys) l = ⊎_elim (λ e. ⊎_elim (λ f. inl (let p : (x ∷ xs) ≡ (y ∷ ys) = cc in p)) (λ p. inr (inr (e, p))) (same_or_parted xs ys (omega arith))) (λ n. inr (inl n)) (cases_eq x y)
-
--- a list does not part from itself
-pub not_parted : (xs : List ℕ) → Parted (ones xs) (ones xs) → ⊥
-not_parted [] p = p
-not_parted (x ∷ xs) (inl n) = n refl
-not_parted (x ∷ xs) (inr p) = not_parted xs p.1
 
 -- ---- the digits of a number
 

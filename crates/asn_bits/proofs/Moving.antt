@@ -1,0 +1,113 @@
+-- Octets moved by fewer bits than an octet has: what is added and what is left over are what there was.
+use Rattle.std.proofs.Common.{◌≡◌, ◌<◌, ◌≤◌, ◌+◌, ◌-◌, ◌*◌, ◌/◌, ◌%◌, ◌^◌, ℕ, suc, List, [], ◌∷◌, ◌++◌, length, take, drop, get_or, refl, sym, ◌∙◌, ap, subst, arith, append_assoc, length-append}
+use Rattle.std.proofs.lemmas.List.{append-nil, length-take-le, take-append-drop, drop-drop}
+use Rattle.std.proofs.Math.Seq.{drop-append_seam}
+use Rattle.std.specs.List.{AllByRecursion}
+use Rattle.asn_bits.specs.Numbers.{bits, octets, unpacked}
+use Rattle.asn_bits.specs.Moves.{Shifted, Taken}
+use Rattle.asn_bits.proofs.Octets.{all_octets, length-digits}
+use Rattle.asn_bits.proofs.Packing.{bits_low, unpacked_whole}
+use Rattle.asn_bits.proofs.Reading.{field_passed, take_below, drop-unpacked, length-left}
+use Rattle.asn_bits.proofs.Splits.{unpacked-append, length-unpacked, unpacked-octets, appended}
+use Rattle.asn_bits.proofs.Utf8.{append_octets}
+
+-- each item of a list of octets
+each_octet : (os : List ℕ) → ((i : ℕ) → get_or os i 0 < 256) → AllByRecursion (λ o. o < 256) os
+each_octet [] h = tt
+each_octet (o ∷ os) h = (h 0, each_octet os (λ i. h (suc i)))
+
+-- nothing is added yet
+pub shifted_none : (old : List ℕ) (c p : ℕ) → Shifted old old [] c p p
+shifted_none old c p =
+    record { octets = []; added = sym (append-nil old); count = refl; each = tt; same = sym (append-nil (bits c p)) }
+
+-- m octets more, of the number n
+pub shifted_more : (old new from : List ℕ) (c p w m n j v : ℕ) → Shifted old new from c p w → n < 2 ^ (8 * m) → j ≡ w * 2 ^ (8 * m) + n → bits c v ≡ bits c j
+    → Shifted old (new ++ octets m (j / 2 ^ c)) (from ++ octets m n) c p v
+shifted_more old new from c p w m n j v h less i e =
+    let os = h.octets in
+    let more = octets m (j / 2 ^ c) in
+    record {
+      octets = os ++ more;
+      added = ap (λ t. t ++ more) h.added ∙ append_assoc old os more;
+      count = omega (arith, length-append os more, length-append from (octets m n), length-digits 256 m (j / 2 ^ c), length-digits 256 m n, h.count);
+      each = append_octets os more h.each (all_octets m (j / 2 ^ c));
+      same =
+          ap (λ t. unpacked (os ++ more) ++ t) e ∙ appended os c w (8 * m) n m c j less (omega arith) i
+          ∙ ap (λ t. t ++ bits (8 * m) n) h.same ∙ append_assoc (bits c p) (unpacked from) (bits (8 * m) n)
+          ∙ ap (λ t. bits c p ++ t) (ap (λ t. unpacked from ++ t) (sym (unpacked-octets m n)) ∙ sym (unpacked-append from (octets m n)));
+    }
+
+-- one octet more
+pub shifted_octet : (old new from : List ℕ) (c p w o b : ℕ) → Shifted old new from c p w → o < 256 → c < 8 → b ≡ (w * 2 ^ 8 + o) / 2 ^ c % 256
+    → Shifted old (new ++ b ∷ []) (from ++ o ∷ []) c p o
+shifted_octet old new from c p w o b h less few e =
+    let j = w * 2 ^ 8 + o in
+    let last : bits c o ≡ bits c j = ap (bits c) (omega arith) ∙ bits_low c j few in
+    let here : octets 1 (j / 2 ^ c) ≡ b ∷ [] = ap (λ t. t ∷ []) (omega arith) in
+    let there : octets 1 o ≡ o ∷ [] = ap (λ t. t ∷ []) (omega arith) in
+    subst (λ t. Shifted old (new ++ t) (from ++ o ∷ []) c p o) here
+    (subst (λ t. Shifted old (new ++ octets 1 (j / 2 ^ c)) (from ++ t) c p o) there (shifted_more old new from c p w 1 o j o h (omega arith) (omega arith) last))
+
+-- ---- taken from a cursor
+
+-- n octets of the bits left end where the octets below have not ended
+pub octets_there : (os s : List ℕ) (f n : ℕ) → drop f (unpacked os) ≡ s → f ≤ 8 * length os → 8 * n ≤ length s → 8 * n + f ≤ 8 * length os
+octets_there os s f n e h l = let m : length s ≡ 8 * length os - f = ap length (sym e) ∙ length-left os f in omega arith
+
+-- behind n octets of the bits stands what the cursor then holds
+taken_seam : (os taken rest : List ℕ) (f n : ℕ) → drop f (unpacked os) ≡ unpacked taken ++ rest → length taken ≡ n
+    → drop f (unpacked os) ≡ unpacked taken ++ drop f (unpacked (drop n os))
+taken_seam os taken rest f n e l =
+    let order : f + 8 * n ≡ 8 * n + f = omega arith in
+    let passed : drop (8 * n) (drop f (unpacked os)) ≡ drop f (unpacked (drop n os)) =
+    drop-drop (8 * n) f (unpacked os) ∙ ap (λ i. drop i (unpacked os)) order ∙ drop-unpacked n f os in
+    let all : 8 * n ≡ length (unpacked taken) = omega (arith, length-unpacked taken) in
+    let seam : drop (8 * n) (drop f (unpacked os)) ≡ rest =
+    ap (drop (8 * n)) e ∙ ap (λ i. drop i (unpacked taken ++ rest)) all ∙ drop-append_seam (unpacked taken) rest in
+    e ∙ ap (λ t. unpacked taken ++ t) (sym seam ∙ passed)
+
+-- at an octet, the octets themselves
+pub taken_whole : (os old new : List ℕ) (f n : ℕ) → f ≡ 0 → n ≤ length os → ((i : ℕ) → get_or os i 0 < 256) → new ≡ old ++ take n os
+    → Taken n (drop f (unpacked os)) (drop f (unpacked (drop n os))) old new
+taken_whole os old new f n z enough range e =
+    let all : drop f (unpacked os) ≡ unpacked (take n os) ++ unpacked (drop n os) =
+    ap (λ i. drop i (unpacked os)) z ∙ ap unpacked (sym (take-append-drop n os)) ∙ unpacked-append (take n os) (drop n os) in
+    let count = length-take-le n os enough in
+    record {
+      octets = take n os;
+      added = e;
+      count = count;
+      each = each_octet (take n os) (take_below n os range);
+      taken = taken_seam os (take n os) (unpacked (drop n os)) f n all count;
+    }
+
+-- within an octet, the octets shifted
+pub taken_shifted : (os old new : List ℕ) (f n w : ℕ) → f < 8 → n < length os → Shifted old new (take n (drop 1 os)) (8 - f) (get_or os 0 0) w
+    → Taken n (drop f (unpacked os)) (drop f (unpacked (drop n os))) old new
+taken_shifted [] old new f n w less enough h = absurd (omega arith)
+taken_shifted (o ∷ os) old new f n w less enough h =
+    let c = 8 - f in
+    let rest = unpacked (drop n os) in
+    let eight : 8 ≡ 0 + (f + c) = omega arith in
+    let start : f ≡ 0 + f = omega arith in
+    let first : drop f (bits 8 o ++ unpacked os) ≡ bits c o ++ unpacked os =
+    ap (λ i. drop f (bits i o ++ unpacked os)) eight ∙ ap (λ i. drop i (bits (0 + (f + c)) o ++ unpacked os)) start ∙ field_passed 0 f c o (unpacked os) in
+    let parts : unpacked os ≡ unpacked (take n os) ++ rest = ap unpacked (sym (take-append-drop n os)) ∙ unpacked-append (take n os) (drop n os) in
+    let all : drop f (unpacked (o ∷ os)) ≡ unpacked h.octets ++ (bits c w ++ rest) =
+    first ∙ ap (λ t. bits c o ++ t) parts ∙ sym (append_assoc (bits c o) (unpacked (take n os)) rest) ∙ ap (λ t. t ++ rest) (sym h.same)
+    ∙ append_assoc (unpacked h.octets) (bits c w) rest in
+    let count : length h.octets ≡ n = h.count ∙ length-take-le n os (omega arith) in
+    record { octets = h.octets; added = h.added; count = count; each = h.each; taken = taken_seam (o ∷ os) h.octets (bits c w ++ rest) f n all count }
+
+-- ---- pushed to a sink
+
+-- what a sink holds once the octets stand behind the c bits that waited
+pub pushed_shifted : (old new from : List ℕ) (c p w : ℕ) → Shifted old new from c p w → unpacked new ++ bits c w ≡ (unpacked old ++ bits c p) ++ unpacked from
+pushed_shifted old new from c p w h =
+    ap (λ t. unpacked t ++ bits c w) h.added ∙ ap (λ t. t ++ bits c w) (unpacked-append old h.octets) ∙ append_assoc (unpacked old) (unpacked h.octets) (bits c w)
+    ∙ ap (λ t. unpacked old ++ t) h.same ∙ sym (append_assoc (unpacked old) (bits c p) (unpacked from))
+
+pub pushed_whole : (old new from : List ℕ) (c p : ℕ) → c ≡ 0 → new ≡ old ++ from → unpacked new ++ bits c p ≡ (unpacked old ++ bits c p) ++ unpacked from
+pushed_whole old new from c p z e =
+    unpacked_whole new c p z ∙ ap unpacked e ∙ unpacked-append old from ∙ ap (λ t. t ++ unpacked from) (sym (unpacked_whole old c p z))

@@ -1,0 +1,73 @@
+//! Makes each call of the libraries that can answer `Memory`, and tells of each what it answered. Run under a
+//! runtime that refuses one growth, it shows what that refusal changes.
+#![tactic(auto)]
+
+mod bit_calls;
+mod message_calls;
+mod outcome;
+
+use bit_calls::{numbers, octets_of_numbers, paddings, single_bits};
+use message_calls::{check_a_type, decode_a_message, encode_a_message};
+use outcome::Outcome;
+use std::alloc::{AllocError, Global};
+use std::io::Read;
+use std::process::ExitCode;
+
+/// The growth that the tests refuse, counted from the first of the process.
+const REFUSED: u32 = 200;
+
+/// Takes from the input how many growths are left up to the one that is refused, uses up those before, and
+/// makes each call twice. A line is written for a call that answers `Memory`, one for a call whose arguments could
+/// not be built, and the line `done` behind all. Status 1 where a call answers anything else than it should.
+fn main(rt: HostRuntime) -> ExitCode {
+    let mut buffer = [0; 16];
+    let Ok(count) = rt.reader().read(&mut buffer) else {
+        return ExitCode::from(2);
+    };
+    let Some(left) = number_in(&buffer[..count]) else {
+        return ExitCode::from(2);
+    };
+    let alloc = rt.alloc();
+    if use_up(alloc, REFUSED.saturating_sub(left)).is_err() {
+        return ExitCode::from(2);
+    }
+    let mut all_right = true;
+    for _ in 0..2 {
+        all_right &= told(&rt, "Checked::new", check_a_type(alloc));
+        all_right &= told(&rt, "encode", encode_a_message(alloc));
+        all_right &= told(&rt, "decode", decode_a_message(alloc));
+        all_right &= told(&rt, "BitSink::push", single_bits(alloc));
+        all_right &= told(&rt, "BitSink::push_number", numbers(alloc));
+        all_right &= told(&rt, "BitSink::push_least_octets", octets_of_numbers(alloc));
+        all_right &= told(&rt, "BitSink::pad", paddings(alloc));
+    }
+    if rt.println("done").is_err() || !all_right {
+        return ExitCode::from(1);
+    }
+    ExitCode::from(0)
+}
+
+/// The number that the digits in front are.
+fn number_in(text: &[u8]) -> Option<u32> {
+    let text = str::from_utf8(text).ok()?;
+    text.trim().parse::<u32>().ok()
+}
+
+/// So many growths.
+fn use_up(alloc: Global, count: u32) -> Result<(), AllocError> {
+    for _ in 0..count {
+        let _: Vec<u8> = Vec::with_capacity(alloc, 1)?;
+    }
+    Ok(())
+}
+
+/// Tells of a call what is not its usual answer; whether that is no fault of the call.
+fn told(rt: &impl Print, name: &str, outcome: Result<Outcome, AllocError>) -> bool {
+    let what = match outcome {
+        Ok(Outcome::Right) => return true,
+        Ok(Outcome::Memory) => "memory",
+        Ok(Outcome::Wrong) => "wrong",
+        Err(_) => "arguments",
+    };
+    rt.println(format_args!("{what}: {name}")).is_ok() && what != "wrong"
+}

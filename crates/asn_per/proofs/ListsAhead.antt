@@ -1,33 +1,38 @@
 -- A list under a size is what stands in front of its items and what is ahead from there; and what a reader of it
 -- cites at each exit.
-use Rattle.std.proofs.Common.{◌≡◌, ◌≤◌, ◌<◌, ◌+◌, ◌-◌, ◌*◌, ◌⊎◌, inl, inr, ⊎_elim, ℕ, zero, suc, nat_lt, nat_le, Bool, true, false, ◌&&◌, List, [], ◌∷◌, ◌++◌, length, append-nil, append_assoc, Option, Some, None, refl, sym, ap, subst, ◌∙◌, arith}
+use Rattle.std.proofs.Common.{◌≡◌, ◌≤◌, ◌<◌, ◌+◌, ◌-◌, ◌*◌, ◌⊎◌, inl, inr, ⊎_elim, ℕ, zero, suc, nat_lt, nat_le, Bool, true, false, ◌&&◌, List, [], ◌∷◌, ◌++◌, length, length-append, append-nil, append_assoc, Option, Some, None, refl, sym, ap, subst, ◌∙◌, arith}
+use Rattle.std.proofs.lemmas.Nat.{pow_pos}
 use Rattle.std.proofs.lemmas.Bool.{ltb-false, lt-leb, le-leb, cases_lt}
 use Rattle.asn_values.specs.Shape.{SizeRange}
 use Rattle.asn_values.specs.Fits.{max_len, in_size}
 use Rattle.asn_values.proofs.Parts.{left_false, right_false}
 use Rattle.asn_bits.specs.Numbers.{width}
 use Rattle.asn_bits.specs.Ranges.{Spanned, At}
+use Rattle.asn_bits.specs.Sets.{InSet, Meets}
+use Rattle.asn_bits.proofs.Unions.{set_meets}
 use Rattle.asn_rules.specs.Chunks.{Chunk, one, flat}
-use Rattle.asn_rules.specs.Languages.{Spells, Lawful, Inhabited, Then, Map, Nothing, Row}
+use Rattle.asn_rules.specs.Languages.{Spells, Short, Lawful, Inhabited, Then, Map, Nothing, Row, Plain}
 use Rattle.asn_rules.specs.Forks.{Branch, Fork, Same}
-use Rattle.asn_rules.specs.General.{last, fragment, behind_first, Left, Blocks, Header, General}
+use Rattle.asn_rules.specs.General.{Length, fragment, behind_first, Few, Many, Left, Blocks, Header, General}
 use Rattle.asn_rules.specs.Stops.{Stops}
 use Rattle.asn_rules.specs.declared.stop.Stop.{Stop}
-use Rattle.asn_rules.proofs.Leads.{LeadsStops, Leads, leads_on, leads_map, leads_second, leads_same, stops_on, stops_first, stops_by}
-use Rattle.asn_rules.proofs.Exits.{leads_last, leads_rest, stops_length, stops_fragment}
-use Rattle.asn_rules.proofs.Forks.{same_flip, map_lawful_on, fork_lawful}
+use Rattle.asn_rules.proofs.Leads.{LeadsStops, Leads, leads_here, leads_on, leads_map, leads_second, leads_same, stops_on, stops_first, stops_by}
+use Rattle.asn_rules.proofs.Exits.{leads_zero, leads_one, leads_last, leads_rest, stops_length, stops_fragment}
+use Rattle.asn_rules.proofs.Forks.{same_flip, map_lawful_on, fork_lawful, fork_short, fork_inhabited_one}
 use Rattle.asn_rules.proofs.General.{general_inhabited}
-use Rattle.asn_rules.proofs.Headers.{Tells, header_tells}
-use Rattle.asn_rules.proofs.Parts.{map_lawful, nothing_lawful, nothing_spells}
+use Rattle.asn_rules.proofs.Headers.{header_tells}
+use Rattle.asn_rules.proofs.Parts.{map_lawful, map_short, nothing_lawful, nothing_inhabited, nothing_spells}
 use Rattle.asn_rules.proofs.Sets.{set_lawful}
 use Rattle.asn_rules.proofs.Ranges.{general_left, general_sets, starts_spanned, at_start}
 use Rattle.asn_rules.proofs.Rows.{row_inhabited}
 use Rattle.asn_rules.proofs.Spellings.{same_after, same_map, same_fork}
 use Rattle.asn_rules.proofs.Then.{Follows}
 use Rattle.asn_per.specs.Per.{spelled, per_fields}
-use Rattle.asn_per.specs.Kinds.{of_either, IsOtherCount, CountWithin, RootSized, Sized}
-use Rattle.asn_per.specs.Reading.{Appends}
-use Rattle.asn_per.specs.ListsAhead.{IsSizeOfProfile, Ahead, items, lengths, end, Remaining, other_counts, RootStart, Start, ReadsLength, Advances, Next, StopsNext}
+use Rattle.asn_per.specs.Kinds.{Below, of_either, IsOtherCount, CountWithin, RootSized, Sized}
+use Rattle.asn_per.specs.declared.number_reader.Numbers.{Numbers}
+use Rattle.asn_per.specs.Reading.{Admits, Appends}
+use Rattle.asn_per.proofs.CountedReading.{same_set}
+use Rattle.asn_per.specs.ListsAhead.{IsSizeOfProfile, Ahead, items, lengths, end, Remaining, other_counts, RootStart, Start, Advances, Next, StopsNext}
 use Rattle.asn_per.proofs.PerFields.{per_fields_part}
 
 -- ---- one after the other, under views
@@ -90,35 +95,39 @@ then_either {B} {C} X Y M = record { to = λ v cs h. there v cs h.source h.seen 
         go : (w : B ⊎ B) → h.source.0 ≡ of_either w → Branch 0 inl X w h.spelt.first ⊎ Branch 1 inr Y w h.spelt.first → Map of_either (Fork (Map behind_first (Then X M)) (Map behind_first (Then Y M))) v cs
         go w e (inl b) = record {
           source = inl h.source.1;
-          spelt = record { side = inl (record {
-            value = h.source.1;
-            rest = b.rest ++ h.spelt.second;
-            spelt = record { source = (b.value, h.source.1); spelt = record { first = b.rest; second = h.spelt.second; spelt = b.spelt; follows = subst (λ (x : B). M x h.source.1 h.spelt.second) (e ∙ ap of_either b.seen) h.spelt.follows; whole = refl }; seen = refl };
-            seen = refl;
-            same = h.spelt.whole ∙ ap (λ (l : List Chunk). l ++ h.spelt.second) b.same;
-          }) };
+          spelt = record {
+            side = inl (record {
+              value = h.source.1;
+              rest = b.rest ++ h.spelt.second;
+              spelt = record { source = (b.value, h.source.1); spelt = record { first = b.rest; second = h.spelt.second; spelt = b.spelt; follows = subst (λ (x : B). M x h.source.1 h.spelt.second) (e ∙ ap of_either b.seen) h.spelt.follows; whole = refl }; seen = refl };
+              seen = refl;
+              same = h.spelt.whole ∙ ap (λ (l : List Chunk). l ++ h.spelt.second) b.same;
+            });
+          };
           seen = h.seen;
         }
         go w e (inr b) = record {
           source = inr h.source.1;
-          spelt = record { side = inr (record {
-            value = h.source.1;
-            rest = b.rest ++ h.spelt.second;
-            spelt = record { source = (b.value, h.source.1); spelt = record { first = b.rest; second = h.spelt.second; spelt = b.spelt; follows = subst (λ (x : B). M x h.source.1 h.spelt.second) (e ∙ ap of_either b.seen) h.spelt.follows; whole = refl }; seen = refl };
-            seen = refl;
-            same = h.spelt.whole ∙ ap (λ (l : List Chunk). l ++ h.spelt.second) b.same;
-          }) };
+          spelt = record {
+            side = inr (record {
+              value = h.source.1;
+              rest = b.rest ++ h.spelt.second;
+              spelt = record { source = (b.value, h.source.1); spelt = record { first = b.rest; second = h.spelt.second; spelt = b.spelt; follows = subst (λ (x : B). M x h.source.1 h.spelt.second) (e ∙ ap of_either b.seen) h.spelt.follows; whole = refl }; seen = refl };
+              seen = refl;
+              same = h.spelt.whole ∙ ap (λ (l : List Chunk). l ++ h.spelt.second) b.same;
+            });
+          };
           seen = h.seen;
         }
 
 -- ---- counts
 
 -- a low bound is small
-low_small : (low : ℕ) (high : Option ℕ) (m : Bool) → IsSizeOfProfile (record { low = low; high = high; extensible = m }) → low ≤ 65535
+pub low_small : (low : ℕ) (high : Option ℕ) (m : Bool) → IsSizeOfProfile (record { low = low; high = high; extensible = m }) → low ≤ 65535
 low_small low high m good = ltb-false 65535 low (left_false (nat_lt 65535 low) _ good.small)
 
 -- the bounds are in order, and the high one is small
-high_small : (low high : ℕ) (m : Bool) → IsSizeOfProfile (record { low = low; high = Some high; extensible = m }) → (low ≤ high) × (high ≤ 65535)
+pub high_small : (low high : ℕ) (m : Bool) → IsSizeOfProfile (record { low = low; high = Some high; extensible = m }) → (low ≤ high) × (high ≤ 65535)
 high_small low high m good = (ltb-false high low good.ordered, ltb-false 65535 high (right_false (nat_lt 65535 low) _ good.small))
 
 -- a mark without an upper bound wants a low one
@@ -266,6 +275,48 @@ start_follows {A} L s good i = record { follow = λ a x h. go s.low s.high s.ext
     go low high false good a x h = root low high false good a x h
     go low high true good a x h = either low high good a h.source x h.seen h.spelt
 
+-- ---- what a reader of what stands in front cites
+
+-- no extension bit comes
+pub mark_waits : (low : ℕ) (high : Option ℕ) (m : Bool) (us : List ℕ) → m ≡ true → us ≡ [] → Short per_fields (Start (record { low = low; high = high; extensible = m })) us
+mark_waits low high false us t e = absurd (cc)
+mark_waits low high true us t e = rw e (map_short (fork_short (fork_inhabited_one (nothing_inhabited (lengths (other_counts low high) 0 false)))))
+
+-- a 0: what stands in front of a list of the root
+pub mark_zero : (low : ℕ) (high : Option ℕ) (m : Bool) (us after : List ℕ) → m ≡ true → us ≡ 0 ∷ after → Leads per_fields (RootStart low high) after (λ a. a) (Start (record { low = low; high = high; extensible = m })) us
+mark_zero low high false us after t e = absurd (cc)
+mark_zero low high true us after t e = leads_on (leads_zero {Y = Nothing (lengths (other_counts low high) 0 false)} per_fields e) (leads_map per_fields of_either (Fork (RootStart low high) (Nothing (lengths (other_counts low high) 0 false))) us)
+
+-- a 1: a length is ahead
+pub mark_one : (low : ℕ) (high : Option ℕ) (m : Bool) (us after : List ℕ) → m ≡ true → us ≡ 1 ∷ after → Spells per_fields (Start (record { low = low; high = high; extensible = m })) (lengths (other_counts low high) 0 false) us after
+mark_one low high false us after t e = absurd (cc)
+mark_one low high true us after t e =
+    (leads_on (leads_one {X = RootStart low high} per_fields e) (leads_map per_fields of_either (Fork (RootStart low high) (Nothing (lengths (other_counts low high) 0 false))) us)).done (lengths (other_counts low high) 0 false) after (nothing_spells per_fields (lengths (other_counts low high) 0 false) after)
+
+-- without an extension mark
+pub no_mark : (low : ℕ) (high : Option ℕ) (m : Bool) (us : List ℕ) → m ≡ false → Leads per_fields (RootStart low high) us (λ a. a) (Start (record { low = low; high = high; extensible = m })) us
+no_mark low high true us t = absurd (cc)
+no_mark low high false us t = leads_here per_fields (RootStart low high) us
+
+-- the counts of the root
+abbrev pub root_set : ℕ → Numbers
+root_set above = record { low = 0; high = above; except = None }
+
+-- some number is one of them
+pub some_root_count : (k above : ℕ) → Meets (λ n. Admits (root_set above) n) 0 k
+some_root_count k above = set_meets 2 k 0 (omega arith, omega arith, tt) (pow_pos k)
+
+-- a reader of it is one of what stands in front
+pub root_leads : (low high above values : ℕ) (us : List ℕ) → above ≡ high - low → values ≡ above + 1
+    → Leads per_fields (Plain (InSet (width values) (λ n. Admits (root_set above) n))) us (λ k. items (low + k)) (RootStart low (Some high)) us
+root_leads low high above values us e f =
+    let v : values ≡ suc (high - low) = omega arith in
+    let w = width (suc (high - low)) in
+    let set = same_set {S = λ n. Admits (root_set (high - low)) n} {T = λ n. n < suc (high - low)} 2 w (λ c h. omega (arith, h.1)) (λ c h. (omega arith, omega (arith, h), tt)) in
+    let leads : Leads per_fields (Plain (InSet w (λ n. Admits (root_set (high - low)) n))) us (λ k. items (low + k)) (RootStart low (Some high)) us =
+    leads_on (leads_on (leads_same per_fields us set) (leads_map per_fields (λ k. low + k) (Below w (suc (high - low))) us)) (leads_map per_fields items (CountWithin low high) us) in
+    rw (v, e) leads
+
 -- ---- where a reader of a list stands
 
 -- behind the items vs: a list of what is ahead, put behind them, is the whole list
@@ -278,8 +329,10 @@ start_stops L s us good i = stops_on (stops_on (stops_first per_fields us (start
 
 -- behind what stands there
 pub going_starts : {A : Type 0} (L : A → List Chunk → Type 0) (s : SizeRange) {ahead : Ahead} {us rest : List ℕ} → IsSizeOfProfile s → Spells per_fields (Start s) ahead us rest → Going L s us ahead [] rest
-going_starts {A} L s {ahead} {us} good h = record { leads =
-    leads_on (leads_on (leads_second {M = λ a. Remaining L a} per_fields_part (start_lawful s good) h) (leads_map per_fields behind_first (Then (Start s) (λ a. Remaining L a)) us)) (leads_same per_fields us (sized_ahead L s good)) }
+going_starts {A} L s {ahead} {us} good h = record {
+  leads =
+      leads_on (leads_on (leads_second {M = λ a. Remaining L a} per_fields_part (start_lawful s good) h) (leads_map per_fields behind_first (Then (Start s) (λ a. Remaining L a)) us)) (leads_same per_fields us (sized_ahead L s good));
+}
 
 -- the reader of a length stops
 pub going_stops : {A : Type 0} {L : A → List Chunk → Type 0} {s : SizeRange} {us rest : List ℕ} {ahead : Ahead} {vs : List A} (why : Stop) → Inhabited L → StopsNext ahead rest why → Going L s us ahead vs rest → Stops per_fields (Sized s L) us why
@@ -344,3 +397,39 @@ going_further {A} {L} {s} {us} {rest} {r} {t} {ahead} {new} {vs} {ws} {k} i law 
         (λ x. (let b : Spells per_fields (Row L (16384 * x.0)) f.row r t = subst (λ (n : ℕ). Spells per_fields (Row L n) f.row r t) x.2 f.spelt in
         rw x.3 (moved (lengths is (come + k) (nat_lt x.0 4)) (leads_on (leads_on (leads_same per_fields t (same_flip (left_ahead L is come k x.0 closed x.1 x.2))) (leads_rest L per_fields_part i law x.1 b)) l))))
         e.read
+
+-- ---- each step comes nearer to the end
+
+-- whether a step is left
+abbrev pub steps_left : Ahead → ℕ
+steps_left end = 0
+steps_left _ = 1
+
+-- what is left behind a spelling is not longer
+spells_shorter : {A : Type 0} {L : A → List Chunk → Type 0} {v : A} {us r : List ℕ} → Spells per_fields L v us r → length r ≤ length us
+spells_shorter {r = r} h = omega (arith, ap length h.split ∙ length-append (flat spelled h.chunks) r)
+
+-- and behind a length it is shorter
+header_shorter : {S : ℕ → Type 0} {l : Length} {us r : List ℕ} → Spells per_fields (Header S) l us r → length r < length us
+header_shorter {S} {l} {us} {r} h = go h.spelt.source h.spelt.spelt.side
+  where
+    behind : (u : ℕ) (rest : List Chunk) → h.chunks ≡ one u ∷ rest → length r < length us
+    behind u rest e = (let d = ap length h.split ∙ ap (λ c. length (flat spelled c ++ r)) e ∙ length-append (flat spelled (one u ∷ rest)) r in omega (arith, d))
+
+    go : (w : ℕ ⊎ (ℕ ⊎ ℕ)) → Branch {A = ℕ} {V = ℕ ⊎ (ℕ ⊎ ℕ)} 0 inl (Plain (InSet 7 (Few S))) w h.chunks ⊎ Branch {A = ℕ ⊎ ℕ} {V = ℕ ⊎ (ℕ ⊎ ℕ)} 1 inr (Fork (Plain (InSet 14 (Many S))) (Plain (InSet 6 (Blocks S)))) w h.chunks → length r < length us
+    go w (inl b) = behind 0 b.rest b.same
+    go w (inr b) = behind 1 b.rest b.same
+
+-- one step
+pub going_nearer : {A : Type 0} {L : A → List Chunk → Type 0} {rest r t : List ℕ} {ahead new : Ahead} {vs ws : List A} {k : ℕ} → Next ahead (Some k) new rest r → Appends L k vs ws r t → steps_left new + length t < steps_left ahead + length rest
+going_nearer {rest = rest} {r} {t} {ahead} {new} {k = k} h f = go ahead h.advances
+  where
+    at_most : (a : Ahead) → steps_left a ≤ 1
+    at_most end = omega arith
+    at_most (items n) = omega arith
+    at_most (lengths is come closed) = omega arith
+
+    go : (a : Ahead) → Advances a (Some k) new rest r → steps_left new + length t < steps_left a + length rest
+    go end e = absurd e
+    go (items n) e = (let none : steps_left new ≡ 0 = ap steps_left e.1 in let same : length r ≡ length rest = ap length e.2 in omega (arith, spells_shorter f.spelt))
+    go (lengths is come closed) e = ⊎_elim (λ x. omega (arith, at_most new, spells_shorter f.spelt, header_shorter x.0)) (λ x. omega (arith, at_most new, spells_shorter f.spelt, header_shorter x.1)) e.read

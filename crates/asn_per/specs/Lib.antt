@@ -8,3 +8,4 @@ pub mod StringVectors
 pub mod ListVectors
 pub mod FieldVectors
 pub mod ListsAhead
+pub mod RowsAhead

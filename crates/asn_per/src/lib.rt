@@ -6,8 +6,11 @@ mod encoder;
 mod integer_reader;
 mod kinds;
 mod laws;
+mod length_reader;
 mod number_reader;
 mod row_reader;
+mod size_reader;
+mod string_reader;
 #[cfg(test)]
 mod tests;
 mod value_reader;

@@ -1,12 +1,12 @@
 -- The fewest octets of a number, under their general length, are one number in bits.
-use Rattle.std.proofs.Common.{◌≡◌, ◌<◌, ◌+◌, ◌*◌, ◌/◌, ◌%◌, ◌^◌, ℕ, List, [], ◌∷◌, ◌++◌, length, map, take, inl, inr, refl, sym, ◌∙◌, ap, arith}
+use Rattle.std.proofs.Common.{◌≡◌, ◌<◌, ◌*◌, ◌/◌, ◌%◌, ◌^◌, ℕ, List, [], ◌∷◌, ◌++◌, length, map, take, inl, inr, refl, sym, ◌∙◌, ap, arith}
 use Rattle.std.proofs.lemmas.List.{append-nil, length-map}
 use Rattle.std.proofs.Math.Seq.{take-length}
 use Rattle.asn_bits.specs.Numbers.{bits, octets, octet_count, least, unpacked}
 use Rattle.asn_bits.specs.Lengths.{last_length, lengths_within, lengths, joined, with_lengths, general_octets}
 use Rattle.asn_bits.proofs.GeneralLengths.{last_cases, map_same}
 use Rattle.asn_bits.proofs.Octets.{length-digits}
-use Rattle.asn_bits.proofs.Splits.{digits-join, unpacked-octets}
+use Rattle.asn_bits.proofs.Splits.{unpacked-octets}
 
 -- a length below 128 is the length in eight bits
 short_length : (n : ℕ) → n < 128 → (last_length n).bits ≡ bits 8 n
@@ -36,12 +36,9 @@ general_short os h =
     ∙ ap (λ t. t ++ (joined (take (length items) items) ++ [])) front ∙ ap (λ t. bits 8 (length os) ++ t) all
 
 -- the count in eight bits, and the number in eight bits an octet
-pub general_least : (n k j : ℕ) → n < 2 ^ (8 * k) → k < 128 → k ≡ octet_count n → j ≡ k * 2 ^ (8 * k) + n → general_octets (λ u. u) (least n) ≡ bits (8 * k + 8) j
-general_least n k j h few e i =
+pub general_least : (n k : ℕ) → k < 128 → k ≡ octet_count n → general_octets (λ u. u) (least n) ≡ bits 8 k ++ bits (8 * k) n
+general_least n k few e =
     let c : length (least n) ≡ k = length-digits 256 (octet_count n) n ∙ sym e in
     let front : bits 8 (length (least n)) ≡ bits 8 k = ap (bits 8) c in
     let back : unpacked (least n) ≡ bits (8 * k) n = ap (λ t. unpacked (octets t n)) (sym e) ∙ unpacked-octets k n in
-    let sum : 8 + 8 * k ≡ 8 * k + 8 = omega arith in
-    let two : 0 < 2 = omega arith in
     general_short (least n) (omega arith) ∙ ap (λ t. t ++ unpacked (least n)) front ∙ ap (λ t. bits 8 k ++ t) back
-    ∙ digits-join 2 two 8 (8 * k) k n h ∙ ap (λ t. bits t (k * 2 ^ (8 * k) + n)) sum ∙ ap (bits (8 * k + 8)) (sym i)

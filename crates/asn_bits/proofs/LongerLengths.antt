@@ -1,6 +1,6 @@
 -- A list under its general length is at least as long as its items.
-use Rattle.std.proofs.Common.{◌≡◌, ◌≤◌, ◌<◌, ◌+◌, ◌-◌, ◌*◌, ◌/◌, ℕ, zero, suc, pred, inl, inr, List, [], ◌∷◌, ◌++◌, length, map, take, drop, refl, sym, ◌∙◌, ap, subst, arith, append_assoc, length-append, length-drop}
-use Rattle.std.proofs.lemmas.List.{append-nil, length-map, length-take-le, take-append-drop}
+use Rattle.std.proofs.Common.{◌≡◌, ◌≤◌, ◌<◌, ◌-◌, ◌*◌, ◌/◌, ℕ, zero, suc, pred, inl, inr, List, [], ◌∷◌, ◌++◌, length, map, take, drop, refl, sym, ◌∙◌, ap, subst, arith, append_assoc, length-append, length-drop}
+use Rattle.std.proofs.lemmas.List.{append-nil, length-map, take-append-drop}
 use Rattle.std.proofs.Math.Seq.{take-length}
 use Rattle.asn_bits.specs.Numbers.{bits}
 use Rattle.asn_bits.specs.Lengths.{last_length, fragment, lengths_within, joined, with_lengths, general, general_octets}

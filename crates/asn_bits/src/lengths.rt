@@ -4,7 +4,7 @@ ghost use Rattle.asn_bits.specs.Lengths.{general_octets};
 ghost use Rattle.asn_bits.specs.Numbers.{least};
 
 use crate::numbers::octet_count;
-use crate::sink::{BitSink, joined};
+use crate::sink::BitSink;
 use std::alloc::AllocError;
 
 impl BitSink {
@@ -15,6 +15,6 @@ impl BitSink {
         ensures err { OnErr result (self.new ≡ self.old) }
     {
         let count = octet_count(n);
-        self.append(8 * count + 8, joined(count as u8, 8 * count, n as u128))
+        self.append_both(8, count as u64, 8 * count, n)
     }
 }

@@ -1,5 +1,5 @@
 -- The ends without the bits behind are compared with the bits that have come.
-use Rattle.std.proofs.Common.{◌≡◌, ℕ, List, get_or, take, drop, refl, sym, subst, arith}
+use Rattle.std.proofs.Common.{◌≡◌, ℕ, List, get_or, take, refl, sym, subst, arith}
 use Rattle.std.proofs.lemmas.Bool.{true≢false}
 use Rattle.asn_bits.specs.Sets.{Among, Meets}
 use Rattle.asn_bits.proofs.Unions.{low_shifted, high_shifted, touches_at, touches_behind, touches_none, touches_meets, meets_touches}

@@ -1,9 +1,8 @@
 -- The bits given stand for the prefix, and one of the set's numbers begins with them where it meets the set.
-use Rattle.std.proofs.Common.{◌≡◌, ◌+◌, ◌-◌, ◌*◌, ◌^◌, ◌<◌, ◌≤◌, ◌++◌, ◌∷◌, [], length, ℕ, List, true, ap, sym, ◌∙◌, arith}
+use Rattle.std.proofs.Common.{◌≡◌, ◌+◌, ◌-◌, ◌*◌, ◌^◌, ◌<◌, ◌≤◌, ◌++◌, ◌∷◌, [], length, ℕ, List, true, ap, ◌∙◌, arith}
 use Rattle.asn_bits.specs.Numbers.{bits}
 use Rattle.asn_bits.specs.Sink.{bit_of}
-use Rattle.asn_bits.specs.Sets.{Among, Meets}
-use Rattle.asn_bits.specs.Begun.{BegunField, Begins}
+use Rattle.asn_bits.specs.Begun.{BegunField}
 use Rattle.asn_bits.proofs.Prefixes.{given_length, prefix_room, bits_further, bool_byte-is, bit_below, begins_meets, meets_begins, meets_whole}
 use Rattle.asn_bits.proofs.number_field.NumberField.bit.Goals as goal
 use Rattle.asn_bits.proofs.number_field.NumberField.bit.Goals.{then-not-meets, else-not-meets+then-self-eq0, else-not-meets+else-self-eq0}

@@ -9,3 +9,5 @@ pub mod ListVectors
 pub mod FieldVectors
 pub mod Indexes
 pub mod StringItems
+pub mod ListsAhead
+pub mod RowsAhead

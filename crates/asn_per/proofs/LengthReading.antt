@@ -1,11 +1,16 @@
 -- Where the reader of one length of a list stands, and what it cites at each exit.
-use Rattle.std.proofs.Common.{◌≡◌, ◌≢◌, ◌+◌, ◌*◌, ◌<◌, ◌≤◌, ◌⊎◌, inl, inr, ⊎_elim, ℕ, Bool, true, false, Option, List, [], ◌∷◌, ◌++◌, length, length-append, refl, sym, ap, ◌∙◌, subst, append_assoc, arith}
+use Rattle.std.proofs.Common.{◌≡◌, ◌≢◌, ◌+◌, ◌*◌, ◌<◌, ◌≤◌, ◌⊎◌, inl, inr, ⊎_elim, ℕ, nat_eq, nat_lt, Bool, true, false, Option, List, [], ◌∷◌, ◌++◌, length, length-append, refl, sym, ap, ◌∙◌, subst, append_assoc, arith}
+use Rattle.std.proofs.lemmas.Bool.Decides.{eqb_tells}
 use Rattle.std.proofs.lemmas.List.{append-nil}
-use Rattle.asn_bits.specs.LengthBits.{BegunLengths, CountsLeft, Last, Fragment, Goes, first_length, StartsSome, OpensLength, WholeLength, Takes}
+use Rattle.asn_bits.specs.Sink.{bit_of}
+use Rattle.asn_bits.specs.LengthBits.{BegunLengths, CountsLeft, Last, Fragment, Goes, first_length, is_closed, StartsSome, OpensLength, WholeLength, Takes}
+use Rattle.asn_bits.specs.Ranges.{Spanned, At}
 use Rattle.asn_bits.proofs.FirstLengths.{first_some}
+use Rattle.asn_bits.proofs.LengthBits.{closed_more}
 use Rattle.asn_bits.specs.declared.number_field.FieldState.TheVariants as state
-use Rattle.asn_rules.specs.General.{last, fragment, Header}
+use Rattle.asn_rules.specs.General.{last, fragment, Blocks, Header}
 use Rattle.asn_rules.specs.Languages.{Spells, Short, Refused}
+use Rattle.asn_rules.proofs.Headers.{header_tells}
 use Rattle.asn_rules.proofs.HeaderBits.{opens_short, starts_refused, whole_spells}
 use Rattle.asn_per.specs.Per.{per_fields}
 use Rattle.asn_per.specs.NextLengths.{LastLength, FragmentLength, NextLength}
@@ -73,3 +78,35 @@ next_is old front rest n now new bs c j f w g = record { read = go (whole_spells
       where
         begun : List (ℕ × Option ℕ) → ℕ → BegunLengths
         begun l k = record { counts = l; blocks = k; bits = [] }
+
+-- a bit as a truth value
+pub bit_is : (b : ℕ) → b < 2 → bit_of (nat_eq b 1) ≡ b
+bit_is b h = elim (eqb_tells b 1) [ inl e ↦ ap bit_of e.0 ∙ sym e.1 | inr e ↦ let z : b ≡ 0 = omega (arith, e.1) in ap bit_of e.0 ∙ sym z ]
+
+-- the length is whole behind a bit
+pub in_length_done : {old now new : BegunLengths} {us rest after : List ℕ} {u n : ℕ} → InLength old us now rest → rest ≡ u ∷ after → WholeLength (CountsLeft now.counts now.blocks) (now.bits ++ u ∷ []) n → Goes now (u ∷ []) (state.Number n) new → NextLength old n us after new
+in_length_done {old} {now} {new} {us} {rest} {after} {u} {n} h e w g =
+    let v : WholeLength (CountsLeft old.counts old.blocks) (now.bits ++ u ∷ []) n =
+    subst (λ (j : ℕ). WholeLength (CountsLeft old.counts j) (now.bits ++ u ∷ []) n) h.blocks (subst (λ (cs : List (ℕ × Option ℕ)). WholeLength (CountsLeft cs now.blocks) (now.bits ++ u ∷ []) n) h.counts w) in
+    subst (λ (l : List ℕ). NextLength old n l after new) (sym (further h e)) (next_is old (now.bits ++ u ∷ []) after n now new (u ∷ []) h.counts h.blocks refl v g)
+
+-- a whole length in one step
+pub taken_done : (old new : BegunLengths) (us rest : List ℕ) (n : ℕ) → old.bits ≡ [] → Takes old us rest n new → NextLength old n us rest new
+taken_done old new us rest n e t =
+    let w : WholeLength (CountsLeft old.counts old.blocks) t.front n = subst (λ (b : List ℕ). WholeLength (CountsLeft old.counts old.blocks) (b ++ t.front) n) e t.whole in
+    let g : Goes old t.front (state.Number n) new = t.goes in
+    subst (λ (l : List ℕ). NextLength old n l rest new) (sym t.split) (next_is old t.front rest n old new t.front refl refl (ap (λ (b : List ℕ). b ++ t.front) (sym e)) w g)
+
+-- a fragment has come: how many items that is, and whether another fragment may follow
+pub fragment_left : {old new : BegunLengths} {us rest : List ℕ} {n : ℕ} (f : FragmentLength old n us rest new) → (16384 * new.blocks ≡ 16384 * old.blocks + n) × (is_closed new.blocks ≡ nat_lt f.blocks 4)
+fragment_left {old} {new} {us} {rest} {n} f =
+    let e : new.blocks ≡ old.blocks + f.blocks = ap (λ l. l.blocks) f.goes in
+    (omega (arith, e, f.items), ap is_closed e ∙ closed_more old.blocks f.blocks (go (is_closed old.blocks) f.spells.spelt) f.some f.most)
+  where
+    go : (b : Bool) → Header (At (Spanned old.counts) (16384 * old.blocks) b) (fragment f.blocks) f.spells.chunks → b ≡ false
+    go true h =
+        let t : Blocks (At (Spanned old.counts) (16384 * old.blocks) true) f.blocks = header_tells h in
+        let few = t.left.member.largest refl in
+        let some = t.some in
+        absurd (omega arith)
+    go false h = refl

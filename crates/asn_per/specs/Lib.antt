@@ -9,3 +9,4 @@ pub mod ListVectors
 pub mod FieldVectors
 pub mod ListsAhead
 pub mod RowsAhead
+pub mod NextLengths

@@ -3,6 +3,9 @@ use Rattle.std.proofs.Common.{◌≡◌, ◌≤◌, ℕ, ℤ, pos, negsuc, ◌+�
 use Rattle.std.proofs.lemmas.Int.{ints}
 use Rattle.std.specs.Int.RustNames.{int_le}
 use Rattle.std.specs.Int.Signed.{le_z_yes}
+use mir.Syntax.{w128}
+use mir.Val.{to_z, of_z}
+use Rattle.asn_values.specs.Fits.{lowest_integer, highest_integer}
 use Rattle.asn_bits.specs.Numbers.{above}
 
 -- ---- tests as facts
@@ -37,3 +40,8 @@ add_within low high n p q = omega (arith, ints, pos-above low high p)
 -- numbers above one are told by how far they lie above it
 pub above_same : (low y z : ℤ) → low ≤ℤ y → low ≤ℤ z → above low y ≡ above low z → y ≡ z
 above_same low y z p q e = omega (arith, ints, pos-above low y p, pos-above low z q)
+
+-- ---- an integer of 64 signed bits keeps its value in 128
+
+pub kept : (z : ℤ) → lowest_integer ≤ℤ z → z ≤ℤ highest_integer → to_z w128 (of_z w128 z) ≡ z
+kept z p q = omega (arith, ints)

@@ -1,11 +1,13 @@
 -- The fewest bits and octets of a number, from the zeros before its first bit.
-use Rattle.std.proofs.Common.{◌≡◌, ◌≤◌, ◌<◌, ◌+◌, ◌-◌, ◌*◌, ◌/◌, ◌^◌, ℕ, zero, suc, nat_le, inl, inr, ◌∙◌, ap, arith}
+use Rattle.std.proofs.Common.{◌≡◌, ◌≤◌, ◌<◌, ◌+◌, ◌-◌, ◌*◌, ◌/◌, ◌^◌, ℕ, ℤ, pos, negsuc, ◌≤ℤ◌, zero, suc, nat_le, inl, inr, ◌∙◌, ap, arith}
 use Rattle.std.proofs.lemmas.Bool.{le-leb, cases_lt}
 use Rattle.std.proofs.lemmas.Nat.{leading_length}
 use Rattle.std.proofs.Math.Nat.{pow-zero, pow-le-pow_right, two-pow-succ}
+use Rattle.std.proofs.lemmas.Int.{ints}
+use Rattle.asn_values.specs.Fits.{lowest_integer, highest_integer}
 use lib.Count.{count_leading_zeros}
-use Rattle.asn_bits.specs.Numbers.{width, octet_count}
-use Rattle.asn_bits.proofs.Octets.{octet_count_below, octet_count_fits, least_from_below}
+use Rattle.asn_bits.specs.Numbers.{width, octet_count, magnitude, signed_octet_count}
+use Rattle.asn_bits.proofs.Octets.{octet_count_below, octet_count_fits, least_from_below, signed_count_below, signed_count_some, signed_fits}
 use Rattle.asn_bits.proofs.Splits.{two_pow_octets}
 use Rattle.asn_bits.proofs.Widths.{width_holds}
 
@@ -66,3 +68,21 @@ octet_count_none n h e =
     let z : 2 ^ found.0 ≡ 1 = ap (λ i. 2 ^ i) m ∙ pow-zero 2 in
     let n_zero : n ≡ 0 = omega arith in
     ap octet_count n_zero
+
+-- a sign bit more
+pub signed_count_leading : (z : ℤ) → magnitude z < 2 ^ 64 → (72 - count_leading_zeros 64 (magnitude z)) / 8 ≡ signed_octet_count z
+signed_count_leading z h =
+    let found = leading_length 64 (magnitude z) h in
+    let m = found.0 in
+    let e : 72 - count_leading_zeros 64 (magnitude z) ≡ m + 8 = omega (arith, found.1) in
+    let k = (m + 8) / 8 in
+    let up : 2 ^ m ≤ 2 ^ (8 * k - 1) = pow-le-pow_right (omega arith) (omega arith) in
+    let least : signed_octet_count z ≤ k = signed_count_below z k (omega arith) (omega (arith, found.2, up)) in
+    let most : m ≤ 8 * signed_octet_count z - 1 = bits_needed m (8 * signed_octet_count z - 1) (magnitude z) found.3 (signed_fits z) in
+    let same : k ≡ signed_octet_count z = omega (arith, least, most, signed_count_some z) in
+    ap (λ t. t / 8) e ∙ same
+
+-- an integer of 64 signed bits
+pub magnitude_below : (z : ℤ) → lowest_integer ≤ℤ z → z ≤ℤ highest_integer → magnitude z < 2 ^ 63
+magnitude_below (pos n) p q = omega (arith, ints)
+magnitude_below (negsuc n) p q = omega (arith, ints)

@@ -1,5 +1,5 @@
 -- Numbers of a set of which the first bits are given.
-use Rattle.std.proofs.Common.{◌≡◌, ℕ, Bool, true, false, ◌+◌, ◌*◌, ◌^◌, ◌<◌, ◌≤◌, List, [], ◌∷◌, ◌++◌, length, length-append, refl, sym, ap, ◌∙◌, add-one, arith}
+use Rattle.std.proofs.Common.{◌≡◌, ℕ, zero, suc, ◌==◌, Bool, true, false, ◌+◌, ◌*◌, ◌^◌, ◌<◌, ◌≤◌, List, [], ◌∷◌, ◌++◌, length, length-append, refl, sym, ap, ◌∙◌, add-one, arith}
 use Rattle.std.proofs.Math.Nat.{pow-suc}
 use Rattle.asn_bits.specs.Numbers.{bits}
 use Rattle.asn_bits.specs.Sets.{IsBits, InSet, Meets, weighted}
@@ -68,9 +68,11 @@ pub bit_below : (b : Bool) → bit_of b < 2
 bit_below true = omega arith
 bit_below false = omega arith
 
--- a number that stands in the first k bits has so many
-pub first_fits : {S : ℕ → Type 0} {us rest : List ℕ} (k n : ℕ) → StandsFirst k S n us rest → k ≤ length us
-first_fits {us = us} {rest} k n s = omega (arith, ap length s.split, length-append s.number rest, s.spelt.digits.count)
+-- a bit that is 1 where its truth value is
+pub bit_again : (b : ℕ) → b < 2 → bit_of (b == 1) ≡ b
+bit_again zero h = refl
+bit_again (suc zero) h = refl
+bit_again (suc (suc b)) h = absurd (omega arith)
 
 -- only one number stands in the first k bits
 pub first_number : {S : ℕ → Type 0} {us rest : List ℕ} (k n m : ℕ) (more : List ℕ) → StandsFirst k S n us rest → m < 2 ^ k → us ≡ bits k m ++ more → n ≡ m
@@ -78,3 +80,8 @@ first_number {us = us} {rest} k n m more s h e =
     let i = bits_are k m h in
     let same : s.number ≡ bits k m = (equal_fronts s.number (bits k m) rest more (s.spelt.digits.count ∙ sym i.count) (sym s.split ∙ e)).0 in
     sym s.spelt.digits.sum ∙ ap (weighted 2) same ∙ i.sum
+
+-- where no number of the set stands first, it has bits
+pub first_bits : {S : ℕ → Type 0} {us : List ℕ} (k : ℕ) → Meets S 0 k → ((n : ℕ) (rest : List ℕ) → StandsFirst k S n us rest → ⊥) → 1 ≤ k
+first_bits {us = us} zero m none = absurd (none 0 us (record { number = []; spelt = record { digits = record { digits = tt; count = refl; sum = refl }; member = meets_member m }; split = refl }))
+first_bits (suc k) m none = omega arith

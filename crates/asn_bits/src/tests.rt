@@ -101,6 +101,26 @@ fn pushes_the_fewest_octets(rt: HostRuntime) -> Result<(), Fail> {
     Ok(())
 }
 
+// two's complement under its length, at the ends of one octet and of eight
+#[test]
+fn pushes_the_fewest_signed_octets(rt: HostRuntime) -> Result<(), Fail> {
+    let mut sink = BitSink::new(rt.alloc());
+    let integers = [0, 127, -128, 128, -129, -9_223_372_036_854_775_808];
+    for z in integers {
+        assert!(rt; -9_223_372_036_854_775_808 <= z && z <= 9_223_372_036_854_775_807);
+        if sink.push_least_signed_octets(z).is_err() {
+            sink.push_least_signed_octets(z)?;
+        }
+    }
+    assert!(rt; sink.ends_at_octet());
+    let octets = sink.into_octets();
+    assert_eq!(rt;
+        octets.as_slice(),
+        b"\x01\x00\x01\x7f\x01\x80\x02\x00\x80\x02\xff\x7f\x08\x80\x00\x00\x00\x00\x00\x00\x00".as_slice()
+    );
+    Ok(())
+}
+
 #[test]
 fn counts_bits_and_octets(rt: HostRuntime) {
     assert_eq!(rt; width(0), 0);

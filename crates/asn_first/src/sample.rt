@@ -11,8 +11,9 @@ pub fn sample_type(alloc: Global) -> Result<Checked, AllocError>
     ensures { IfOk result (λ ty. shape_of ty ≡ sample_shape) }
 {
     let id = Bounds {
-        low: 0,
+        low: Some(0),
         high: Some(7),
+        ext: false,
     };
     let fields = vec![in alloc;
         field(alloc, "id", AsnType::Int(id), Need::Must)?,

@@ -102,7 +102,7 @@ pub root_once : (root : List Label) (more : MoreLabels) → InProfile (enumerate
 root_once root more good = left_false _ _ (good BadEnumeration)
 
 -- and the additions at most 64
-few_additions : (root : List Label) (more : MoreLabels) → InProfile (enumerated root more) → length (more_labels more) ≤ 64
+pub few_additions : (root : List Label) (more : MoreLabels) → InProfile (enumerated root more) → length (more_labels more) ≤ 64
 few_additions root more good =
     let here : too_many_here (enumerated root more) ≡ false = left_false (too_many_here (enumerated root more)) (nat_lt most_nodes (nodes (enumerated root more))) (good TooMany) in
     ltb-false most_additions (length (more_labels more)) (right_false (nat_lt most_items (length root + length (more_labels more))) (nat_lt most_additions (length (more_labels more))) here)

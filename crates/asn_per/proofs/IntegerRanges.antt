@@ -9,7 +9,7 @@ use Rattle.asn_values.specs.Fits.{lowest_integer, highest_integer, at_most, Fits
 use Rattle.asn_values.specs.Profile.{InProfile, EmptyRange, is_outside, low_above_high}
 use Rattle.asn_values.proofs.Parts.{left_false, right_false}
 use Rattle.asn_bits.specs.Numbers.{above, width}
-use Rattle.asn_bits.proofs.Above.{le_of_test, above_within}
+use Rattle.asn_bits.proofs.Above.{le_of_test, above_within, kept}
 use Rattle.asn_bits.proofs.Widths.{width_fits}
 
 not_true : (b : Bool) → not b ≡ false → b ≡ true
@@ -66,9 +66,6 @@ above_fits low high z f =
     width_fits (suc (above low high)) (above low z) (omega (arith, within))
 
 -- ---- an integer of the profile keeps its value in 128 bits
-
-pub kept : (z : ℤ) → lowest_integer ≤ℤ z → z ≤ℤ highest_integer → to_z w128 (of_z w128 z) ≡ z
-kept z p q = omega (arith, ints)
 
 pub low_kept : (low : ℤ) (high : Option ℤ) → InProfile (integer (ranging low high)) → to_z w128 (of_z w128 low) ≡ low
 low_kept low high good = kept low (low_above_lowest low high good) (low_below_highest low high good)

@@ -316,11 +316,15 @@ abbrev pub IsRootPlace : List Label → Option ℕ → Type 0
 IsRootPlace root None = ⊤
 IsRootPlace root (Some p) = p < length root
 
+-- the items of the root but for that one: an index in bits
+abbrev pub RootItemsBut : List Label → Option ℕ → Datum → List Chunk → Type 0
+RootItemsBut root p = Map (λ n. item (place_of root n)) (Plain (InSet (width (length root)) (IndexesBut root p)))
+
 -- ENUMERATED but for one item
 abbrev pub EnumeratedButOne : Type 0
 EnumeratedButOne =
     (root : List Label) (p : Option ℕ) → InProfile (enumerated root closed_labels) → IsRootPlace root p →
-    Same (Map (λ n. item (place_of root n)) (Plain (InSet (width (length root)) (IndexesBut root p)))) (Spelt per (option_map item p) (enumerated root closed_labels))
+    Same (RootItemsBut root p) (Spelt per (option_map item p) (enumerated root closed_labels))
 
 -- INTEGER without a low bound but for one
 abbrev pub UnboundedButOne : Type 0

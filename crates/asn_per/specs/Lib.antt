@@ -7,6 +7,8 @@ pub mod NumberVectors
 pub mod StringVectors
 pub mod ListVectors
 pub mod FieldVectors
+pub mod Indexes
+pub mod StringItems
 pub mod ListsAhead
 pub mod RowsAhead
 pub mod NextLengths

@@ -1,12 +1,14 @@
 //! Readers of numbers in so many bits, refused at the first bit after which none can follow.
-ghost use Rattle.std.specs.Prelude.{◌≡◌, ◌≤◌, ◌<◌, ◌↔◌, ◌*◌, ◌^◌, IfOk, IfErr, IsTrue, length};
+ghost use Rattle.std.specs.Prelude.{◌≡◌, ◌≤◌, ◌↔◌, ℕ, List, IfOk, IfErr, IfSome, IsNone, IsTrue, length};
 ghost use Rattle.asn_rules.specs.Languages.{Spells, Plain};
-ghost use Rattle.asn_bits.specs.Sets.{AreBits, InSet, Meets};
+ghost use Rattle.asn_bits.specs.Begun.{StandsFirst};
+ghost use Rattle.asn_bits.specs.Sets.{AreBits, InSet, Meets, Among};
 ghost use Rattle.asn_rules.specs.Stops.{Stops};
 ghost use Rattle.asn_per.specs.Per.{per_fields};
-ghost use Rattle.asn_per.specs.Reading.{Admits};
+ghost use Rattle.asn_per.specs.Reading.{Admits, AreAmong};
 
-use asn_bits::BitCursor;
+use asn_bits::number_field::take_of;
+use asn_bits::{BitCursor, FieldState, Intervals, NumberField};
 use asn_rules::{Stop, Why};
 
 /// The numbers from `low` to `high`, but for `except`.
@@ -24,29 +26,19 @@ pub(crate) fn admits(set: Numbers, n: u64) -> bool
     set.low <= n && n <= set.high && set.except.is_none_or(|except| n != except)
 }
 
-/// Whether one of them begins with the bits of `prefix`, `left` bits before its end.
-fn meets(set: Numbers, prefix: u64, left: u32) -> bool
-    requires { left < 64 }
-    ensures { IsTrue result ↔ Meets (λ n. Admits set n) prefix left }
+/// They are these intervals.
+fn intervals_of(set: Numbers) -> Intervals
+    requires { (n : ℕ) × Admits set n }
+    ensures { AreAmong set result }
 {
-    let least = scaled(prefix, left);
-    let from = least.max(u128::from(set.low));
-    let to = (least + scaled(1, left) - 1).min(u128::from(set.high));
-    if from == to {
-        set.except.is_none_or(|except| u128::from(except) != from)
-    } else {
-        from < to
+    match set.except {
+        Some(out) if out == set.low => Intervals::one(out + 1, set.high),
+        Some(out) if out == set.high => Intervals::one(set.low, out - 1),
+        Some(out) if set.low < out && out < set.high => {
+            Intervals::one(set.low, out - 1).and(out + 1, set.high)
+        }
+        _ => Intervals::one(set.low, set.high),
     }
-}
-
-/// The least number that begins with the bits of `prefix`, `left` bits before its end.
-fn scaled(prefix: u64, left: u32) -> u128
-    requires { left < 64 }
-    ensures value { result ≡ prefix * 2 ^ left }
-    ensures within { result < 2 ^ 127 }
-    ensures some { 0 < prefix → 0 < result }
-{
-    u128::from(prefix) << left
 }
 
 /// How many bits are left.
@@ -66,38 +58,76 @@ pub(crate) fn number(k: u32, set: Numbers, why: Why, bits: &mut BitCursor<'_>) -
     ensures member { IfOk result (λ n. Admits set n) }
     ensures stop { IfErr result (λ why. Stops per_fields (Plain (InSet k (λ m. Admits set m))) bits.old why) }
 {
-    if let Some(n) = bits.peek_number(k)
-        && admits(set, n)
-    {
-        bits.pass(k);
-        return Ok(n);
+    match take(k, set, bits) {
+        Some(n) => Ok(n),
+        None => number_by_bits(k, intervals_of(set), why, bits),
     }
-    number_by_bits(k, set, why, bits)
 }
 
-/// Reads one of the numbers in `k` bits, bit by bit.
-#[cold]
-fn number_by_bits(k: u32, set: Numbers, why: Why, bits: &mut BitCursor<'_>) -> Result<u64, Stop>
+/// Reads a number of the intervals in `k` bits: in one step where the bits are at hand and it is one.
+pub(crate) fn number_among(
+    k: u32,
+    numbers: Intervals,
+    why: Why,
+    bits: &mut BitCursor<'_>,
+) -> Result<u64, Stop>
     requires few { k ≤ 64 }
-    requires some { Meets (λ n. Admits set n) 0 k }
-    ensures done { IfOk result (λ n. Spells per_fields (Plain (InSet k (λ m. Admits set m))) n bits.old bits.new) }
-    ensures member { IfOk result (λ n. Admits set n) }
-    ensures stop { IfErr result (λ why. Stops per_fields (Plain (InSet k (λ m. Admits set m))) bits.old why) }
+    requires some { Meets (λ n. Among numbers n) 0 k }
+    ensures done { IfOk result (λ n. Spells per_fields (Plain (InSet k (λ m. Among numbers m))) n bits.old bits.new) }
+    ensures member { IfOk result (λ n. Among numbers n) }
+    ensures stop { IfErr result (λ why. Stops per_fields (Plain (InSet k (λ m. Among numbers m))) bits.old why) }
 {
-    let mut prefix = 0u64;
-    let mut left = k;
-    while left > 0 {
+    match take_of(&numbers, k, bits) {
+        Some(n) => Ok(n),
+        None => number_by_bits(k, numbers, why, bits),
+    }
+}
+
+/// The number in the next `k` bits, where so many are left and it is one of the set; else all stay.
+#[inline(always)]
+fn take(k: u32, set: Numbers, bits: &mut BitCursor<'_>) -> Option<u64>
+    requires { k ≤ 64 }
+    ensures some { IfSome result (λ n. StandsFirst k (λ m. Admits set m) n bits.old bits.new) }
+    ensures none { IsNone result → (n : ℕ) (rest : List ℕ) → StandsFirst k (λ m. Admits set m) n bits.old rest → ⊥ }
+    ensures unchanged { IsNone result → bits.new ≡ bits.old }
+{
+    let n = bits.peek_number(k)?;
+    if admits(set, n) {
+        bits.pass(k);
+        return Some(n);
+    }
+    None
+}
+
+/// Reads a number of the intervals in `k` bits, bit by bit.
+#[cold]
+fn number_by_bits(
+    k: u32,
+    numbers: Intervals,
+    why: Why,
+    bits: &mut BitCursor<'_>,
+) -> Result<u64, Stop>
+    requires many { 1 ≤ k }
+    requires few { k ≤ 64 }
+    requires some { Meets (λ n. Among numbers n) 0 k }
+    ensures done { IfOk result (λ n. Spells per_fields (Plain (InSet k (λ m. Among numbers m))) n bits.old bits.new) }
+    ensures member { IfOk result (λ n. Among numbers n) }
+    ensures stop { IfErr result (λ why. Stops per_fields (Plain (InSet k (λ m. Among numbers m))) bits.old why) }
+{
+    let mut field = NumberField::new(k, numbers);
+    loop {
         let Some(bit) = bits.next() else {
             return Err(Stop::Short);
         };
-        left -= 1;
-        prefix = 2 * prefix + u64::from(bit);
-        if !meets(set, prefix, left) {
-            return Err(Stop::Refused {
-                left: bits_left(bits),
-                why,
-            });
+        match field.bit(bit == 1) {
+            FieldState::Alive => {}
+            FieldState::Number(n) => return Ok(n),
+            FieldState::Dead => {
+                return Err(Stop::Refused {
+                    left: bits_left(bits),
+                    why,
+                });
+            }
         }
     }
-    Ok(prefix)
 }

@@ -166,7 +166,7 @@ fn character(kind: TextKind, cursor: &mut BitCursor<'_>) -> Result<u8, Stop>
 }
 
 /// How many bits a character has.
-fn width_of(kind: TextKind) -> u32
+pub(crate) fn width_of(kind: TextKind) -> u32
     ensures width { result ≡ code_width (alphabet_of kind) }
     ensures some { 4 ≤ result }
     ensures few { result ≤ 7 }

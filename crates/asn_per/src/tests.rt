@@ -2,7 +2,7 @@
 //! hand from X.691.
 use crate::{decode, encode};
 use asn_rules::{DecodeFault, EncodeFault, Why};
-use asn_values::{AsnType, Bounds, Checked, Field, Need, Value, same};
+use asn_values::{AsnType, Bounds, Checked, Field, Item, Need, Value, same};
 use std::alloc::{AllocError, Global};
 use std::process::Abort;
 use std::test::Fail;
@@ -11,7 +11,11 @@ const HIGHEST: i128 = 9_223_372_036_854_775_807;
 
 /// INTEGER (low..high), or INTEGER (low..MAX)
 fn integer(low: i128, high: Option<i128>) -> AsnType {
-    AsnType::Int(Bounds { low, high })
+    AsnType::Int(Bounds {
+        low: Some(low),
+        high,
+        ext: false,
+    })
 }
 
 fn field(alloc: Global, name: &str, ty: AsnType, need: Need) -> Result<Field, AllocError> {
@@ -19,6 +23,41 @@ fn field(alloc: Global, name: &str, ty: AsnType, need: Need) -> Result<Field, Al
         name: String::from_str(alloc, name)?,
         ty,
         need,
+    })
+}
+
+fn items(alloc: Global, named: &[(&str, i64)]) -> Result<Vec<Item>, AllocError> {
+    let mut items = Vec::new(alloc);
+    for (name, number) in named {
+        items.push(Item {
+            name: String::from_str(alloc, name)?,
+            number: *number,
+        })?;
+    }
+    Ok(items)
+}
+
+/// ENUMERATED { red(0), green(5), blue(200), ..., grey(300) }
+fn colours(alloc: Global) -> Result<AsnType, AllocError> {
+    Ok(AsnType::Enum {
+        root: items(alloc, &[("red", 0), ("green", 5), ("blue", 200)])?,
+        ext: Some(items(alloc, &[("grey", 300)])?),
+    })
+}
+
+/// ENUMERATED { high(9), low(-9), middle(0) }
+fn heights(alloc: Global) -> Result<AsnType, AllocError> {
+    Ok(AsnType::Enum {
+        root: items(alloc, &[("high", 9), ("low", -9), ("middle", 0)])?,
+        ext: None,
+    })
+}
+
+/// ENUMERATED { only(3), ... }
+fn only_one(alloc: Global) -> Result<AsnType, AllocError> {
+    Ok(AsnType::Enum {
+        root: items(alloc, &[("only", 3)])?,
+        ext: Some(items(alloc, &[])?),
     })
 }
 
@@ -191,6 +230,51 @@ fn integers_are_refused(rt: HostRuntime) -> Result<(), Fail> {
     ] {
         let ty = Checked::new(alloc, integer(low, high))?;
         expect_fault(&rt, alloc, &ty, octets, want);
+    }
+    Ok(())
+}
+
+#[test]
+fn items_have_octets(rt: HostRuntime) -> Result<(), Fail> {
+    let alloc = rt.alloc();
+    let coloured = Checked::new(alloc, colours(alloc)?)?;
+    for (place, octet) in [(0, 0x00), (1, 0x20), (2, 0x40), (3, 0x80)] {
+        expect_pair(&rt, alloc, &coloured, &Value::Enum(place), &[octet])?;
+    }
+    let high_or_low = Checked::new(alloc, heights(alloc)?)?;
+    for (place, octet) in [(0, 0x80), (1, 0x00), (2, 0x40)] {
+        expect_pair(&rt, alloc, &high_or_low, &Value::Enum(place), &[octet])?;
+    }
+    let single = Checked::new(alloc, only_one(alloc)?)?;
+    expect_pair(&rt, alloc, &single, &Value::Enum(0), &[0x00])
+}
+
+#[test]
+fn items_are_refused(rt: HostRuntime) -> Result<(), Fail> {
+    let alloc = rt.alloc();
+    let coloured = Checked::new(alloc, colours(alloc)?)?;
+    for (octet, at) in [(0x60, 3), (0xc0, 2), (0x84, 6), (0x81, 8)] {
+        expect_fault(&rt, alloc, &coloured, &[octet], refused(at, Why::Number));
+    }
+    let high_or_low = Checked::new(alloc, heights(alloc)?)?;
+    expect_fault(&rt, alloc, &high_or_low, b"\xc0", refused(2, Why::Number));
+    let single = Checked::new(alloc, only_one(alloc)?)?;
+    expect_fault(&rt, alloc, &single, b"\x80", refused(1, Why::Extension));
+    Ok(())
+}
+
+#[test]
+fn a_default_item_is_not_spelt(rt: HostRuntime) -> Result<(), Fail> {
+    let alloc = rt.alloc();
+    let low = Need::Default(Value::Enum(1));
+    let root = vec![in alloc; field(alloc, "height", heights(alloc)?, low)?]?;
+    let ty = Checked::new(alloc, AsnType::Seq { root })?;
+    for (place, octet) in [(1, 0x00), (0, 0xc0), (2, 0xa0)] {
+        let value = Value::Seq(vec![in alloc; Some(Value::Enum(place))]?);
+        expect_pair(&rt, alloc, &ty, &value, &[octet])?;
+    }
+    for octet in [0x80, 0xe0] {
+        expect_fault(&rt, alloc, &ty, &[octet], refused(3, Why::Default));
     }
     Ok(())
 }

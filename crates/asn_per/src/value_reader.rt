@@ -15,6 +15,7 @@ ghost use Rattle.asn_per.specs.Per.{per, per_fields};
 
 use crate::encoder::may_be_absent;
 use crate::integer_reader::{boolean, integer, power_of_two};
+use crate::items::enumerated;
 use crate::number_reader::{Numbers, number};
 use asn_bits::BitCursor;
 use asn_rules::{Stop, Why};
@@ -31,7 +32,9 @@ pub(crate) fn read(alloc: Global, ty: &AsnType, bits: &mut BitCursor<'_>) -> Res
 {
     match ty {
         AsnType::Bool => Ok(Value::Bool(boolean(None, bits)?)),
+        AsnType::Null => Ok(Value::Null),
         AsnType::Int(bounds) => Ok(Value::Int(integer(bounds, None, bits)?)),
+        AsnType::Enum { root, ext } => Ok(Value::Enum(enumerated(root, ext, None, bits)?)),
         AsnType::Seq { root } => {
             let count = bitmap_width(root);
             let set = Numbers {
@@ -108,6 +111,9 @@ fn read_other(ty: &AsnType, default: &Value, bits: &mut BitCursor<'_>) -> Result
         (AsnType::Int(bounds), Value::Int(whole)) => {
             Ok(Value::Int(integer(bounds, Some(*whole), bits)?))
         }
+        (AsnType::Enum { root, ext }, Value::Enum(place)) => {
+            Ok(Value::Enum(enumerated(root, ext, Some(*place), bits)?))
+        }
         _ => unreachable!(),
     }
 }
@@ -121,7 +127,8 @@ fn absent(field: &Field) -> Option<Value>
         Need::Must | Need::Optional => None,
         Need::Default(Value::Bool(truth)) => Some(Value::Bool(*truth)),
         Need::Default(Value::Int(whole)) => Some(Value::Int(*whole)),
-        Need::Default(Value::Seq(_)) => unreachable!(),
+        Need::Default(Value::Enum(place)) => Some(Value::Enum(*place)),
+        Need::Default(Value::Null | Value::Seq(_)) => unreachable!(),
     }
 }
 

@@ -3,7 +3,8 @@ use Rattle.std.proofs.Common.{◌≡◌, ◌≢◌, ℕ, zero, suc, ◌+◌, ◌
 use Rattle.std.proofs.Math.Nat.{pow-succ'}
 use Rattle.std.proofs.lemmas.List.{append-nil}
 use Rattle.std.proofs.lemmas.Bool.{cases_eq}
-use Rattle.asn_bits.specs.Numbers.{digits}
+use Rattle.asn_bits.specs.Begun.{Begins, StandsFirst}
+use Rattle.asn_bits.specs.Numbers.{digits, bits}
 use Rattle.asn_bits.proofs.Weights.{digits-append, digits-second, weighted_bound, weighted-append, weighted_more, same_digits, digits_are, extended}
 use Rattle.asn_bits.proofs.Unions.{set_spelt, meets_member}
 use Rattle.asn_rules.proofs.Chunks.{FieldsPart}
@@ -12,7 +13,7 @@ use Rattle.asn_rules.specs.Chunks.{ones}
 use Rattle.asn_rules.specs.Languages.{Spells, Short, Refused, Lawful, Inhabited, Plain}
 use Rattle.asn_rules.specs.Live.{Fielding}
 use Rattle.asn_rules.specs.Parted.{Parted}
-use Rattle.asn_bits.specs.Sets.{AreDigits, weighted, IsDigits, InDigits, MeetsIn}
+use Rattle.asn_bits.specs.Sets.{AreDigits, weighted, IsDigits, InDigits, MeetsIn, Meets}
 
 -- ---- lists of one length
 
@@ -161,3 +162,58 @@ taking_waits {left = suc r} ok h z e = taking_short ok (rw e at h)
 pub taking_done : {base k p left : ℕ} {S : ℕ → Type 0} {us rest : List ℕ} (R : Fielding) → Taking base k S us rest p left → left ≤ 0 → Spells R (Plain (InDigits base k S)) p us rest
 taking_done {left = zero} R h z = taking_ends R h
 taking_done {left = suc r} R h z = absurd (omega arith)
+
+-- ---- bits that are given one by one
+
+-- where the reader of a number of a set stands that has given these bits, and not all
+pub record Giving (k : ℕ) (S : ℕ → Type 0) (us rest given : List ℕ) : Type 0 where
+  pub split : us ≡ given ++ rest
+  pub some : length given < k
+  pub begins : Begins k S given
+
+-- no bit is given
+pub giving_starts : {k : ℕ} {S : ℕ → Type 0} (us : List ℕ) → 1 ≤ k → Meets S 0 k → Giving k S us us []
+giving_starts {k} us h m = record {
+  split = refl;
+  some = omega arith;
+  begins = record { number = m.number; more = bits k m.number; spelt = set_spelt 2 k m.number m.member (omega (arith, m.below)) };
+}
+
+-- one more is given, and some number still begins so
+pub giving_more : {k u : ℕ} {S : ℕ → Type 0} {us rest after given : List ℕ} → Giving k S us rest given → rest ≡ u ∷ after → length (given ++ u ∷ []) < k → Begins k S (given ++ u ∷ []) → Giving k S us after (given ++ u ∷ [])
+giving_more {u = u} {after = after} {given} h e l b = record { split = h.split ∙ ap (λ (t : List ℕ). given ++ t) e ∙ sym (append_assoc given (u ∷ []) after); some = l; begins = b }
+
+-- the bits given want more
+giving_live : {k : ℕ} {S : ℕ → Type 0} {us rest given : List ℕ} {R : Fielding} → FieldsPart R → Giving k S us rest given → Short R (Plain (InDigits 2 k S)) given
+giving_live {k} {S} {given = given} {R} ok h = go h.begins.more h.begins.spelt
+  where
+    go : (more : List ℕ) → InDigits 2 k S h.begins.number (given ++ more) → Short R (Plain (InDigits 2 k S)) given
+    go [] c = absurd (omega (arith, c.digits.count, length-append given [], h.some))
+    go (u ∷ t) c = plain_short ok (set_code 2 k S) h.begins.number given u t c
+
+-- no unit comes
+pub giving_waits : {k : ℕ} {S : ℕ → Type 0} {us rest given : List ℕ} {R : Fielding} → FieldsPart R → Giving k S us rest given → rest ≡ [] → Short R (Plain (InDigits 2 k S)) us
+giving_waits {given = given} ok h e =
+    let all = h.split ∙ ap (λ (t : List ℕ). given ++ t) e ∙ append-nil given in
+    rw all (giving_live ok h)
+
+-- a unit comes with which no number begins
+pub giving_stops : {k u : ℕ} {S : ℕ → Type 0} {us rest after given : List ℕ} {R : Fielding} → FieldsPart R → Giving k S us rest given → rest ≡ u ∷ after → (Begins k S (given ++ u ∷ []) → ⊥) → Refused R (Plain (InDigits 2 k S)) us (length after)
+giving_stops {k} {u} {S} {after = after} {given} ok h e dead =
+    let all = h.split ∙ ap (λ (t : List ℕ). given ++ t) e in
+    rw all (plain_refused ok given u after (giving_live ok h) none)
+  where
+    none : (n : ℕ) (t : List ℕ) → InDigits 2 k S n (given ++ u ∷ t) → ⊥
+    none n t c = dead (record { number = n; more = t; spelt = rw (append_assoc given (u ∷ []) t) c })
+
+-- the last bit comes
+pub giving_done : {k u n : ℕ} {S : ℕ → Type 0} {us rest after given : List ℕ} (R : Fielding) → Giving k S us rest given → rest ≡ u ∷ after → InDigits 2 k S n (given ++ u ∷ []) → Spells R (Plain (InDigits 2 k S)) n us after
+giving_done {u = u} {n} {after = after} {given} R h e c =
+    let all = h.split ∙ ap (λ (t : List ℕ). given ++ t) e ∙ sym (append_assoc given (u ∷ []) after) in
+    rw all (plain_spells R n (given ++ u ∷ []) after c)
+
+-- a number that stands first is read
+pub first_spells : {k n : ℕ} {S : ℕ → Type 0} {us rest : List ℕ} (R : Fielding) → StandsFirst k S n us rest → Spells R (Plain (InDigits 2 k S)) n us rest
+first_spells {n = n} {rest = rest} R s =
+    let split = s.split in
+    rw split (plain_spells R n s.number rest s.spelt)

@@ -2,9 +2,9 @@
 use Rattle.std.proofs.Common.{◌≡◌, ◌≤◌, ◌<◌, ◌+◌, ◌-◌, ◌||◌, inl, inr, ℕ, suc, Bool, true, false, List, [], ◌∷◌, length, nat_lt, refl, ap, arith, sym}
 use Rattle.asn_values.specs.declared.fault.TypeFault.{TypeFault}
 use Rattle.asn_values.specs.declared.fault.TypeFault.TheVariants as fault
-use Rattle.asn_values.specs.Shape.{Range, Shape, boolean, integer, sequence, Fields, no_fields, field, closed, demands, field_names}
+use Rattle.asn_values.specs.Shape.{Shape, sequence, Fields, no_fields, field, closed, demands, field_names}
 use Rattle.asn_values.specs.Measures.{depth, fields_depth, nodes, fields_nodes}
-use Rattle.asn_values.specs.Profile.{Condition, EmptyRange, SizeTooLarge, DuplicateName, BadEnumeration, UselessMark, BadDefault, ZeroWidthElement, AdditionNotOptional, TooMany, TooDeep, somewhere, some_field, empty_range, duplicate_name, bad_default, too_many_here, bad_names, bad_default_at, most_components, most_levels, most_nodes, InProfile}
+use Rattle.asn_values.specs.Profile.{Condition, EmptyRange, SizeTooLarge, DuplicateName, BadEnumeration, UselessMark, BadDefault, ZeroWidthElement, AdditionNotOptional, TooMany, TooDeep, somewhere, some_field, empty_range, size_too_large, duplicate_name, bad_enumeration, useless_mark, bad_default, too_many_here, bad_names, bad_default_at, most_components, most_levels, most_nodes, InProfile}
 use Rattle.asn_values.specs.Walk.{test_of, IsFaultless, IsSoundWithin, IsFaultWithin, AreSoundWithin, IsFaultAmong}
 use Rattle.asn_values.specs.View.{Part, fields_of, Holds}
 use Rattle.std.proofs.lemmas.Bool.{le-ltb, lt-ltb}
@@ -45,7 +45,10 @@ ends levels start left all w = record {
 pub fault_among : (f : TypeFault) (levels start left : ℕ) (all : Fields) (name : List ℕ) (demand : _) (t : Shape) (rest : Fields) →
     IsWalkedTo levels start left all (field name demand t rest) → IsFaultWithin f levels left t → IsFaultAmong f levels start all
 fault_among fault.EmptyRange levels start left all name demand t rest w h = rw h at (sym (w.same_faults EmptyRange))
+fault_among fault.SizeTooLarge levels start left all name demand t rest w h = rw h at (sym (w.same_faults SizeTooLarge))
 fault_among fault.DuplicateName levels start left all name demand t rest w h = rw h at (sym (w.same_faults DuplicateName))
+fault_among fault.BadEnumeration levels start left all name demand t rest w h = rw h at (sym (w.same_faults BadEnumeration))
+fault_among fault.UselessMark levels start left all name demand t rest w h = rw h at (sym (w.same_faults UselessMark))
 fault_among fault.BadDefault levels start left all name demand t rest w h = rw h at (sym (w.same_faults BadDefault))
 fault_among fault.TooMany levels start left all name demand t rest w (inl h) = inl (rw h at (sym (w.same_faults TooMany)))
 fault_among fault.TooMany levels start left all name demand t rest w (inr h) = inr (omega (arith, w.counted))
@@ -81,7 +84,10 @@ inside test fs h = behind (test (sequence fs closed)) (some_field test fs || fal
 pub fault_behind : (f : TypeFault) (levels start : ℕ) (fs : Fields) → 0 < levels → 0 < start →
     IsFaultAmong f (levels - 1) (start - 1) fs → IsFaultWithin f levels start (sequence fs closed)
 fault_behind fault.EmptyRange levels start fs some more h = inside empty_range fs h
+fault_behind fault.SizeTooLarge levels start fs some more h = inside size_too_large fs h
 fault_behind fault.DuplicateName levels start fs some more h = inside duplicate_name fs h
+fault_behind fault.BadEnumeration levels start fs some more h = inside bad_enumeration fs h
+fault_behind fault.UselessMark levels start fs some more h = inside useless_mark fs h
 fault_behind fault.BadDefault levels start fs some more h = inside bad_default fs h
 fault_behind fault.TooMany levels start fs some more (inl h) = inl (inside too_many_here fs h)
 fault_behind fault.TooMany levels start fs some more (inr h) = inr (omega arith)
@@ -107,12 +113,19 @@ faultless_sequence fs names defaults few TooDeep = refl
 pub many_components : (fs : Fields) → most_components < length (demands fs) → too_many_here (sequence fs closed) ≡ true
 many_components fs many = rw (lt-ltb most_components (length (demands fs)) many) refl
 
--- a type without others inside it is one level and one node
-pub sound_boolean : (levels start : ℕ) → 0 < levels → 0 < start → IsFaultless boolean → IsSoundWithin levels start (start - 1) boolean
-sound_boolean levels start some more here = record { counted = omega arith; shallow = omega arith; faultless = here }
+-- one that has no others inside it: one level and one node
+pub record IsSimple (t : Shape) : Type 0 where
+  pub one_node : nodes t ≡ 1
+  pub one_level : depth t ≡ 1
+  pub only_itself : (test : Shape → Bool) → somewhere test t ≡ test t
 
-pub sound_integer : (levels start : ℕ) (b : Range) → 0 < levels → 0 < start → IsFaultless (integer b) → IsSoundWithin levels start (start - 1) (integer b)
-sound_integer levels start b some more here = record { counted = omega arith; shallow = omega arith; faultless = here }
+-- it is sound where it has no fault by itself
+pub sound_simple : (levels start : ℕ) (t : Shape) → IsSimple t → 0 < levels → 0 < start → IsFaultless t → IsSoundWithin levels start (start - 1) t
+sound_simple levels start t s some more here = record {
+  counted = omega (arith, s.one_node);
+  shallow = omega (arith, s.one_level);
+  faultless = λ c. rw (s.only_itself (test_of c)) (here c);
+}
 
 -- ---- the whole type
 
@@ -132,7 +145,10 @@ of_profile left t s TooDeep = le-ltb most_levels (depth t) s.shallow
 -- a fault within these limits is one of the type
 pub fault_holds : (f : TypeFault) (t : Shape) → IsFaultWithin f most_levels most_nodes t → Holds f t
 fault_holds fault.EmptyRange t h = h
+fault_holds fault.SizeTooLarge t h = h
 fault_holds fault.DuplicateName t h = h
+fault_holds fault.BadEnumeration t h = h
+fault_holds fault.UselessMark t h = h
 fault_holds fault.BadDefault t h = h
 fault_holds fault.TooMany t (inl h) = rw h refl
 fault_holds fault.TooMany t (inr h) = behind (somewhere too_many_here t) (nat_lt most_nodes (nodes t)) (lt-ltb most_nodes (nodes t) h)

@@ -1,5 +1,6 @@
 -- What the types, values and faults of the program stand for.
-use Rattle.std.specs.Prelude.{◌≡◌, true, false, ⊤, List, [], ◌∷◌, ℕ, string_bytes, Some}
+use Rattle.std.specs.Prelude.{◌≡◌, true, ⊤, List, [], ◌∷◌, ℕ, string_bytes, map, Option, Some, None}
+use Rattle.std.specs.Global.{Vec}
 use Rattle.asn_values.specs.declared.types.Bounds.{Bounds}
 use Rattle.asn_values.specs.declared.types.Size.{Size}
 use Rattle.asn_values.specs.declared.types.TextKind.{TextKind}
@@ -15,16 +16,22 @@ use Rattle.asn_values.specs.declared.value.Value.{Value, fold-Value}
 use Rattle.asn_values.specs.declared.value.Value.TheOpen.{Value-F}
 use Rattle.asn_values.specs.declared.fault.TypeFault.{TypeFault}
 use Rattle.asn_values.specs.declared.fault.TypeFault.TheVariants as fault
-use Rattle.asn_values.specs.Datum.{Datum, truth, number, components, components_of}
-use Rattle.asn_values.specs.Shape.{Range, SizeRange, Alphabet, ia5, numeric, visible, Label, Shape, boolean, integer, sequence, Demand, must, optional, default, Fields, no_fields, field, closed}
-use Rattle.asn_values.specs.Profile.{EmptyRange, DuplicateName, BadDefault, TooMany, TooDeep, has}
+use Rattle.asn_values.specs.Datum.{Datum, truth, nothing, number, item, bit_list, octet_list, characters, unicode, components, components_of}
+use Rattle.asn_values.specs.Shape.{Range, SizeRange, Alphabet, ia5, numeric, visible, Label, MoreLabels, closed_labels, marked_labels, Shape, boolean, null, integer, enumerated, bit_string, octet_string, restricted, utf8_string, sequence, Demand, must, optional, default, Fields, no_fields, field, closed}
+use Rattle.asn_values.specs.Profile.{EmptyRange, SizeTooLarge, DuplicateName, BadEnumeration, UselessMark, BadDefault, TooMany, TooDeep, has}
 
 -- ---- values
 
 -- one level of a value, the values inside already seen as data
 abbrev pub datum_step : Value-F Datum → Datum
 datum_step (Value-F.Bool b) = truth b
+datum_step Value-F.Null = nothing
 datum_step (Value-F.Int z) = number z
+datum_step (Value-F.Enum p) = item p
+datum_step (Value-F.Bits v) = bit_list v.items
+datum_step (Value-F.Octets v) = octet_list v.items
+datum_step (Value-F.Text v) = characters v.items
+datum_step (Value-F.Utf8 s) = unicode (string_bytes s)
 datum_step (Value-F.Seq v) = components (components_of v.items)
 
 abbrev pub datum_of : Value → Datum
@@ -33,7 +40,7 @@ datum_of = fold-Value Datum datum_step
 -- ---- types
 
 abbrev pub range_of : Bounds → Range
-range_of b = record { low = Some b.low; high = b.high; extensible = false }
+range_of b = record { low = b.low; high = b.high; extensible = b.ext }
 
 abbrev pub size_range_of : Size → SizeRange
 size_range_of s = record { low = s.low; high = s.high; extensible = s.ext }
@@ -45,6 +52,11 @@ alphabet_of text_kind.Visible = visible
 
 abbrev pub label_of : Item → Label
 label_of i = record { name = string_bytes i.name; number = i.number }
+
+-- the items behind the extension mark of an ENUMERATED, where it has one
+abbrev pub more_labels_of : Option (Vec Item) → MoreLabels
+more_labels_of None = closed_labels
+more_labels_of (Some more) = marked_labels (map label_of more.items)
 
 abbrev pub demand_of : Need → Demand
 demand_of need.Must = must
@@ -64,7 +76,13 @@ fields_of (p ∷ ps) = field p.name p.demand p.shape (fields_of ps)
 -- one level of a type, the types inside already seen as shapes
 abbrev pub shape_step : AsnType-F Shape Part → Shape
 shape_step AsnType-F.Bool = boolean
+shape_step AsnType-F.Null = null
 shape_step (AsnType-F.Int b) = integer (range_of b)
+shape_step (AsnType-F.Enum root ext) = enumerated (map label_of root.items) (more_labels_of ext)
+shape_step (AsnType-F.Bits s) = bit_string (size_range_of s)
+shape_step (AsnType-F.Octets s) = octet_string (size_range_of s)
+shape_step (AsnType-F.Text k s) = restricted (alphabet_of k) (size_range_of s)
+shape_step AsnType-F.Utf8 = utf8_string
 shape_step (AsnType-F.Seq root) = sequence (fields_of root.items) closed
 
 abbrev pub field_step : Field-F Shape Part → Part
@@ -81,7 +99,10 @@ part_of_field = fold-Field Shape Part shape_step field_step
 -- what a fault says of a type: its condition holds there; of the memory nothing is said
 abbrev pub Holds : TypeFault → Shape → Type 0
 Holds fault.EmptyRange t = has EmptyRange t ≡ true
+Holds fault.SizeTooLarge t = has SizeTooLarge t ≡ true
 Holds fault.DuplicateName t = has DuplicateName t ≡ true
+Holds fault.BadEnumeration t = has BadEnumeration t ≡ true
+Holds fault.UselessMark t = has UselessMark t ≡ true
 Holds fault.BadDefault t = has BadDefault t ≡ true
 Holds fault.TooMany t = has TooMany t ≡ true
 Holds fault.TooDeep t = has TooDeep t ≡ true

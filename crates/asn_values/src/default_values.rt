@@ -3,9 +3,9 @@ ghost use Rattle.std.specs.Prelude.{◌≡◌, map};
 ghost use Rattle.asn_values.specs.Profile.{good_default, bad_default_at};
 ghost use Rattle.asn_values.specs.View.{shape_of, datum_of, fields_of, part_of_field};
 
-use crate::ranges;
 use crate::types::{AsnType, Field, Need};
 use crate::value::Value;
+use crate::{enumerations, ranges};
 
 /// Whether one of the components has a DEFAULT that it may not have.
 pub(crate) fn are_bad(fields: &[Field]) -> bool
@@ -27,10 +27,17 @@ fn is_good(ty: &AsnType, value: &Value) -> bool
 {
     match ty {
         AsnType::Bool => matches!(value, Value::Bool(_)),
-        AsnType::Int(bounds) => match value {
-            Value::Int(number) => ranges::is_good_number(bounds, *number),
-            Value::Bool(_) | Value::Seq(_) => false,
-        },
-        AsnType::Seq { .. } => false,
+        AsnType::Int(bounds) => {
+            matches!(value, Value::Int(number) if ranges::is_good_number(bounds, *number))
+        }
+        AsnType::Enum { root, ext } => {
+            matches!(value, Value::Enum(place) if enumerations::is_good_item(root, ext, *place))
+        }
+        AsnType::Null
+        | AsnType::Bits(_)
+        | AsnType::Octets(_)
+        | AsnType::Text(..)
+        | AsnType::Utf8
+        | AsnType::Seq { .. } => false,
     }
 }

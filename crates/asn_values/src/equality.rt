@@ -10,19 +10,26 @@ pub fn same(left: &Value, right: &Value) -> bool
     ensures { IsTrue result ↔ (datum_of left.now ≡ datum_of right.now) }
 {
     match left {
-        Value::Bool(truth) => match right {
-            Value::Bool(other) => *truth == *other,
-            Value::Int(_) | Value::Seq(_) => false,
-        },
-        Value::Int(number) => match right {
-            Value::Int(other) => *number == *other,
-            Value::Bool(_) | Value::Seq(_) => false,
-        },
+        Value::Bool(truth) => matches!(right, Value::Bool(other) if *truth == *other),
+        Value::Null => matches!(right, Value::Null),
+        Value::Int(number) => matches!(right, Value::Int(other) if *number == *other),
+        Value::Enum(place) => matches!(right, Value::Enum(other) if *place == *other),
+        Value::Bits(bits) => matches!(right, Value::Bits(others) if same_bits(bits, others)),
+        Value::Octets(octets) => matches!(right, Value::Octets(others) if **octets == **others),
+        Value::Text(codes) => matches!(right, Value::Text(others) if **codes == **others),
+        Value::Utf8(text) => matches!(right, Value::Utf8(other) if **text == **other),
         Value::Seq(entries) => match right {
             Value::Seq(others) => same_entries(entries, others),
-            Value::Bool(_) | Value::Int(_) => false,
+            _ => false,
         },
     }
+}
+
+/// Whether both are the same bits.
+fn same_bits(left: &[bool], right: &[bool]) -> bool
+    ensures { IsTrue result ↔ (left.now ≡ right.now) }
+{
+    *left == *right
 }
 
 /// Whether both have the same entries, one after the other.

@@ -6,16 +6,30 @@ use thiserror::Error;
 /// the same as more kinds of type come.
 #[derive(Clone, Copy, Debug, PartialEq, Eq, Error)]
 pub enum TypeFault {
-    /// A low bound above the high one, or a bound that is no integer of 64 signed bits.
+    /// A low bound above the high one, a bound of an INTEGER that is no integer of 64 signed bits,
+    /// or an ENUMERATED without an item in front of its extension mark.
     #[error("empty range")]
     EmptyRange = 1,
-    /// A name twice in one SEQUENCE, or one that is no identifier.
+    /// A bound of a SIZE above 65,535.
+    #[error("size too large")]
+    SizeTooLarge = 2,
+    /// A name twice in one SEQUENCE or ENUMERATED, or one that is no identifier.
     #[error("duplicate name")]
     DuplicateName = 3,
-    /// A DEFAULT on a SEQUENCE, on a type with one value only, or one that is no value of its type.
+    /// A number twice in an ENUMERATED, one that is no integer of 32 signed bits, or an addition
+    /// whose number is not above all before it.
+    #[error("bad enumeration")]
+    BadEnumeration = 4,
+    /// An extension mark on an INTEGER whose root is already every integer of 64 signed bits, or on
+    /// a SIZE whose root is already every length.
+    #[error("useless mark")]
+    UselessMark = 5,
+    /// A DEFAULT on another type than BOOLEAN, INTEGER and ENUMERATED, on a type with an extension
+    /// mark or one value only, or one that is no value of its type.
     #[error("bad default")]
     BadDefault = 6,
-    /// More than 64 components in a SEQUENCE, or more than 10,000 types inside one another.
+    /// More than 64 components in a SEQUENCE, more than 256 items in an ENUMERATED or 64 behind its
+    /// extension mark, or more than 10,000 types inside one another.
     #[error("too many")]
     TooMany = 9,
     /// More than 32 levels of types inside one another.

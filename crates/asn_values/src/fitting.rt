@@ -4,11 +4,12 @@ ghost use Rattle.asn_values.specs.Fits.{Fits, FitsEach, FitsDemand};
 ghost use Rattle.asn_values.specs.View.{shape_of, datum_of, demand_of, fields_of, part_of_field};
 
 use crate::checked::Checked;
-use crate::ranges;
 use crate::types::{AsnType, Field, Need};
 use crate::value::Value;
+use crate::{enumerations, ranges, sizes, texts};
 
-/// Whether the value is one of the type (X.680), an INTEGER being of 64 signed bits. Takes no memory.
+/// Whether the value is one of the type (X.680), an INTEGER being of 64 signed bits and a string of at
+/// most 268,435,455 bits, octets or characters. Takes no memory.
 pub fn fits(ty: &Checked, value: &Value) -> bool
     ensures { IsTrue result ↔ Fits (shape_of ty.now) (datum_of value.now) }
 {
@@ -23,13 +24,26 @@ pub(crate) fn type_has(ty: &AsnType, value: &Value) -> bool
 {
     match ty {
         AsnType::Bool => matches!(value, Value::Bool(_)),
-        AsnType::Int(bounds) => match value {
-            Value::Int(number) => ranges::number_fits(bounds, *number),
-            Value::Bool(_) | Value::Seq(_) => false,
-        },
+        AsnType::Null => matches!(value, Value::Null),
+        AsnType::Int(bounds) => {
+            matches!(value, Value::Int(number) if ranges::number_fits(bounds, *number))
+        }
+        AsnType::Enum { root, ext } => {
+            matches!(value, Value::Enum(place) if enumerations::item_fits(root, ext, *place))
+        }
+        AsnType::Bits(size) => {
+            matches!(value, Value::Bits(bits) if sizes::length_fits(size, bits.len()))
+        }
+        AsnType::Octets(size) => {
+            matches!(value, Value::Octets(octets) if texts::octets_fit(size, octets))
+        }
+        AsnType::Text(kind, size) => {
+            matches!(value, Value::Text(codes) if texts::text_fits(*kind, size, codes))
+        }
+        AsnType::Utf8 => matches!(value, Value::Utf8(text) if texts::unicode_fits(text)),
         AsnType::Seq { root } => match value {
             Value::Seq(entries) => fields_have(root, entries),
-            Value::Bool(_) | Value::Int(_) => false,
+            _ => false,
         },
     }
 }

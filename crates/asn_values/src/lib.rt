@@ -3,12 +3,15 @@
 
 mod checked;
 mod default_values;
+mod enumerations;
 mod equality;
 mod fault;
 mod fitting;
 mod laws;
 mod names;
 mod ranges;
+mod sizes;
+mod texts;
 mod types;
 mod value;
 mod walk;
@@ -18,6 +21,7 @@ pub use equality::same;
 pub use fault::TypeFault;
 pub use fitting::fits;
 pub use laws::defaults_are_judged;
+pub use ranges::is_between;
 pub use types::{AsnType, Bounds, Field, Item, Need, Size, TextKind};
 pub use value::Value;
 

@@ -1,30 +1,63 @@
-//! The names of components: identifiers of the notation, each only once.
-ghost use Rattle.std.specs.Prelude.{◌≡◌, ◌&&◌, ◌||◌, map, bytes_eq, string_bytes};
-ghost use Rattle.std.specs.List.{list_any};
-ghost use Rattle.asn_values.specs.Shape.{field_names};
+//! The names of components and items: identifiers of the notation, each only once.
+ghost use Rattle.std.specs.Prelude.{◌≡◌, ◌&&◌, ◌||◌, ◌++◌, List, ℕ, map, bytes_eq, string_bytes};
+ghost use Rattle.std.specs.List.{list_any, list_all};
 ghost use Rattle.asn_values.specs.Profile as profile;
-ghost use Rattle.asn_values.specs.View.{fields_of, part_of_field};
 
-use crate::types::Field;
+use crate::types::{Field, Item};
 
-/// Whether a name stands twice in the list, or one is no identifier.
-pub(crate) fn are_bad(fields: &[Field]) -> bool
-    ensures { result ≡ profile.bad_names (field_names (fields_of (map part_of_field fields.now))) }
+/// What has a name in a type.
+pub(crate) trait Named {
+    ghost name_of: { Self → List ℕ };
+
+    /// Its name.
+    fn name(&self) -> &str
+        ensures { result.now ≡ name_of self.now };
+}
+
+impl Named for Field {
+    ghost name_of = { λ f. string_bytes f.name };
+
+    fn name(&self) -> &str {
+        self.name.as_str()
+    }
+}
+
+impl Named for Item {
+    ghost name_of = { λ i. string_bytes i.name };
+
+    fn name(&self) -> &str {
+        self.name.as_str()
+    }
+}
+
+/// Whether a name stands twice in the lists, or one is no identifier.
+pub(crate) fn are_bad<T: Named>(root: &[T], more: &[T]) -> bool
+    ensures { result ≡ profile.bad_names (map T.name_of root.now ++ map T.name_of more.now) }
 {
-    for (place, field) in fields.iter().enumerate() {
-        if !is_identifier(field.name.as_bytes()) || is_among(&field.name, &fields[place + 1..]) {
+    for (place, part) in root.iter().enumerate() {
+        let name = part.name();
+        if !is_identifier(name.as_bytes())
+            || is_among(name, &root[place + 1..])
+            || is_among(name, more)
+        {
+            return true;
+        }
+    }
+    for (place, part) in more.iter().enumerate() {
+        let name = part.name();
+        if !is_identifier(name.as_bytes()) || is_among(name, &more[place + 1..]) {
             return true;
         }
     }
     false
 }
 
-/// Whether one of the components has this name.
-fn is_among(name: &str, fields: &[Field]) -> bool
-    ensures { result ≡ list_any (bytes_eq name.now) (field_names (fields_of (map part_of_field fields.now))) }
+/// Whether one of the parts has this name.
+fn is_among<T: Named>(name: &str, parts: &[T]) -> bool
+    ensures { result ≡ list_any (bytes_eq name.now) (map T.name_of parts.now) }
 {
-    for field in fields {
-        if *name == *field.name {
+    for part in parts {
+        if *name == *part.name() {
             return true;
         }
     }

@@ -1,20 +1,72 @@
 //! The faults of types one by one and in their order, and each public call with ample memory.
-use crate::{AsnType, Bounds, Checked, Field, Need, TypeFault, Value, fits, same};
+use crate::{
+    AsnType, Bounds, Checked, Field, Item, Need, Size, TextKind, TypeFault, Value, fits, same,
+};
 use std::alloc::{AllocError, Global};
 use std::process::Abort;
 use std::test::Fail;
 
+/// INTEGER with these bounds, and the extension mark where `ext`
+fn bounded(low: Option<i128>, high: Option<i128>, ext: bool) -> AsnType {
+    AsnType::Int(Bounds { low, high, ext })
+}
+
 /// INTEGER (low..high)
 fn int(low: i128, high: i128) -> AsnType {
-    AsnType::Int(Bounds {
-        low,
-        high: Some(high),
-    })
+    bounded(Some(low), Some(high), false)
 }
 
 /// INTEGER (low..MAX)
 fn int_from(low: i128) -> AsnType {
-    AsnType::Int(Bounds { low, high: None })
+    bounded(Some(low), None, false)
+}
+
+/// SIZE (0..MAX)
+fn any_size() -> Size {
+    Size {
+        low: 0,
+        high: None,
+        ext: false,
+    }
+}
+
+/// ENUMERATED { name(number), .., ..., name(number), .. }, the mark only where there are `more`
+fn items(
+    alloc: Global,
+    root: &[(&str, i64)],
+    more: Option<&[(&str, i64)]>,
+) -> Result<AsnType, AllocError> {
+    let ext = match more {
+        Some(more) => Some(item_list(alloc, more)?),
+        None => None,
+    };
+    Ok(AsnType::Enum {
+        root: item_list(alloc, root)?,
+        ext,
+    })
+}
+
+fn item_list(alloc: Global, items: &[(&str, i64)]) -> Result<Vec<Item>, AllocError> {
+    let mut list = Vec::new(alloc);
+    for (name, number) in items {
+        let name = String::from_str(alloc, *name)?;
+        list.push(Item {
+            name,
+            number: *number,
+        })?;
+    }
+    Ok(list)
+}
+
+/// So many items, named and numbered from `start` on.
+fn item_row(alloc: Global, start: u32, count: u32) -> Result<Vec<Item>, AllocError> {
+    let mut list = Vec::new(alloc);
+    for place in 0..count {
+        let number = i64::from(start) + i64::from(place);
+        let name = format!(in alloc; "i{number}")?;
+        list.push(Item { name, number })?;
+    }
+    Ok(list)
 }
 
 fn field(alloc: Global, name: &str, ty: AsnType, need: Need) -> Result<Field, AllocError> {
@@ -112,6 +164,26 @@ fn ranges_have_faults(rt: HostRuntime) {
     expect_fault(&rt, alloc, "low too high", int_from(highest + 1), empty);
     expect_fault(&rt, alloc, "high too high", int(0, highest + 1), empty);
     expect_fault(&rt, alloc, "to MAX", int_from(highest), None);
+    let from_min = bounded(None, Some(lowest - 1), false);
+    expect_fault(&rt, alloc, "high too low", from_min, empty);
+    expect_fault(&rt, alloc, "none", bounded(None, None, false), None);
+    let marked = bounded(Some(7), Some(6), true);
+    expect_fault(&rt, alloc, "low above high, marked", marked, empty);
+}
+
+#[test]
+fn marks_have_faults(rt: HostRuntime) {
+    let alloc = rt.alloc();
+    let lowest = i128::from(i64::MIN);
+    let highest = i128::from(i64::MAX);
+    for (low, high, want) in [
+        (None, None, Some(TypeFault::UselessMark)),
+        (Some(lowest), Some(highest), Some(TypeFault::UselessMark)),
+        (Some(lowest + 1), None, None),
+        (None, Some(highest - 1), None),
+    ] {
+        expect_fault(&rt, alloc, "of INTEGER", bounded(low, high, true), want);
+    }
 }
 
 #[test]
@@ -151,6 +223,83 @@ fn names_have_faults(rt: HostRuntime) -> Result<(), Fail> {
 }
 
 #[test]
+fn items_have_faults(rt: HostRuntime) -> Result<(), Fail> {
+    let alloc = rt.alloc();
+    let lowest = i64::from(i32::MIN);
+    let highest = i64::from(i32::MAX);
+    let empty = Some(TypeFault::EmptyRange);
+    let name = Some(TypeFault::DuplicateName);
+    let bad = Some(TypeFault::BadEnumeration);
+    let none: &[(&str, i64)] = &[];
+    for (root, more, want) in [
+        (&[("a", highest), ("b", lowest)][..], None, None),
+        (&[("a", 0)][..], Some(none), None),
+        (&[("a", 5)][..], Some(&[("b", 6), ("c", 8)][..]), None),
+        (none, None, empty),
+        (none, Some(&[("a", 0)][..]), empty),
+        (&[("a", 0), ("a", 0)][..], None, name),
+        (&[("a", 0)][..], Some(&[("a", 1)][..]), name),
+        (&[("A", 0)][..], None, name),
+        (&[("a", 7), ("b", 0), ("c", 7)][..], None, bad),
+        (&[("a", highest + 1)][..], None, bad),
+        (&[("a", lowest - 1)][..], None, bad),
+        (&[("a", 0)][..], Some(&[("b", highest + 1)][..]), bad),
+        (&[("a", 5), ("b", 0)][..], Some(&[("c", 5)][..]), bad),
+        (&[("a", 5), ("b", 0)][..], Some(&[("c", 4)][..]), bad),
+        (&[("a", 0)][..], Some(&[("b", 2), ("c", 1)][..]), bad),
+    ] {
+        expect_fault(&rt, alloc, "of ENUMERATED", items(alloc, root, more)?, want);
+    }
+    let many = Some(TypeFault::TooMany);
+    for (count, added, want) in [
+        (256, 0, None),
+        (257, 0, many),
+        (192, 64, None),
+        (193, 64, many),
+        (1, 65, many),
+    ] {
+        let ty = AsnType::Enum {
+            root: item_row(alloc, 0, count)?,
+            ext: Some(item_row(alloc, count, added)?),
+        };
+        expect_fault(&rt, alloc, "many items", ty, want);
+    }
+    Ok(())
+}
+
+#[test]
+fn sizes_have_faults(rt: HostRuntime) -> Result<(), Fail> {
+    let alloc = rt.alloc();
+    let empty = Some(TypeFault::EmptyRange);
+    let large = Some(TypeFault::SizeTooLarge);
+    let useless = Some(TypeFault::UselessMark);
+    for (low, high, ext, want) in [
+        (0, None, false, None),
+        (65_535, Some(65_535), false, None),
+        (0, Some(0), true, None),
+        (1, None, true, None),
+        (2, Some(1), false, empty),
+        (65_537, Some(65_536), false, empty),
+        (65_536, None, false, large),
+        (0, Some(65_536), false, large),
+        (0, None, true, useless),
+    ] {
+        let size = Size { low, high, ext };
+        expect_fault(&rt, alloc, "of BIT STRING", AsnType::Bits(size), want);
+        expect_fault(&rt, alloc, "of OCTET STRING", AsnType::Octets(size), want);
+        for kind in [TextKind::Ia5, TextKind::Numeric, TextKind::Visible] {
+            expect_fault(&rt, alloc, "of characters", AsnType::Text(kind, size), want);
+        }
+    }
+    expect_fault(&rt, alloc, "of UTF8String", AsnType::Utf8, None);
+    let octets = Value::Octets(vec![in alloc; 0u8]?);
+    let default = with_default(alloc, AsnType::Octets(any_size()), octets)?;
+    let bad = Some(TypeFault::BadDefault);
+    expect_fault(&rt, alloc, "a DEFAULT of OCTET STRING", default, bad);
+    Ok(())
+}
+
+#[test]
 fn defaults_have_faults(rt: HostRuntime) -> Result<(), Fail> {
     let alloc = rt.alloc();
     let highest = i128::from(i64::MAX);
@@ -176,6 +325,21 @@ fn defaults_have_faults(rt: HostRuntime) -> Result<(), Fail> {
     let top = with_default(alloc, int_from(highest), Value::Int(highest))?;
     expect_fault(&rt, alloc, "of the one number up to MAX", top, bad);
     let none = Value::Seq(vec![in alloc]?);
+    let any = with_default(alloc, bounded(None, None, false), Value::Int(-1))?;
+    expect_fault(&rt, alloc, "of any INTEGER", any, None);
+    let marked = with_default(alloc, bounded(Some(0), Some(7), true), Value::Int(0))?;
+    expect_fault(&rt, alloc, "of an INTEGER with a mark", marked, bad);
+    for (root, more, place, want) in [
+        (&[("a", 0), ("b", 1)][..], None, 1, None),
+        (&[("a", 0), ("b", 1)][..], None, 2, bad),
+        (&[("a", 0)][..], None, 0, bad),
+        (&[("a", 0)][..], Some(&[("b", 1)][..]), 0, bad),
+    ] {
+        let ty = with_default(alloc, items(alloc, root, more)?, Value::Enum(place))?;
+        expect_fault(&rt, alloc, "of ENUMERATED", ty, want);
+    }
+    let null = with_default(alloc, AsnType::Null, Value::Null)?;
+    expect_fault(&rt, alloc, "of NULL", null, bad);
     let constructed = with_default(
         alloc,
         AsnType::Seq {
@@ -286,5 +450,60 @@ fn values_fit_and_are_the_same(rt: HostRuntime) -> Result<(), Fail> {
     assert!(rt; same(&absent, &message(alloc, 7, None)?));
     assert!(rt; !same(&absent, &present));
     assert!(rt; !same(&absent, &message(alloc, 6, None)?));
+    Ok(())
+}
+
+/// The simple types.
+fn simple_types(alloc: Global) -> Result<Vec<AsnType>, AllocError> {
+    let types = vec![in alloc;
+        AsnType::Bool,
+        AsnType::Null,
+        bounded(Some(0), Some(1), true),
+        items(alloc, &[("a", 0)], Some(&[("b", 1)]))?,
+        AsnType::Bits(any_size()),
+        AsnType::Octets(any_size()),
+        AsnType::Text(TextKind::Numeric, any_size()),
+        AsnType::Utf8,
+    ]?;
+    Ok(types)
+}
+
+/// A value of each.
+fn simple_values(alloc: Global) -> Result<Vec<Value>, AllocError> {
+    let values = vec![in alloc;
+        Value::Bool(true),
+        Value::Null,
+        Value::Int(-5),
+        Value::Enum(1),
+        Value::Bits(vec![in alloc; true, false]?),
+        Value::Octets(vec![in alloc; 0u8, 255]?),
+        Value::Text(vec![in alloc; b'4', b' ', b'2']?),
+        Value::Utf8(String::from_str(alloc, "é")?),
+    ]?;
+    Ok(values)
+}
+
+#[test]
+fn simple_values_fit_their_own_type_alone(rt: HostRuntime) -> Result<(), Fail> {
+    let alloc = rt.alloc();
+    let values = simple_values(alloc)?;
+    for (place, ty) in simple_types(alloc)?.into_iter().enumerate() {
+        let checked = Checked::new(alloc, ty)?;
+        for (other, value) in values.iter().enumerate() {
+            assert_eq!(rt; fits(&checked, value), place == other);
+        }
+    }
+    Ok(())
+}
+
+#[test]
+fn simple_values_are_the_same_as_themselves_alone(rt: HostRuntime) -> Result<(), Fail> {
+    let alloc = rt.alloc();
+    let copies = simple_values(alloc)?;
+    for (place, left) in simple_values(alloc)?.iter().enumerate() {
+        for (other, right) in copies.iter().enumerate() {
+            assert_eq!(rt; same(left, right), place == other);
+        }
+    }
     Ok(())
 }

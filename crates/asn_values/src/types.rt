@@ -3,9 +3,12 @@ use crate::value::Value;
 /// The bounds of an INTEGER, both counted in (X.680, "value range").
 #[derive(Clone, Copy, Debug)]
 pub struct Bounds {
-    pub low: i128,
-    /// `None` where there is no upper bound.
+    /// `None` where there is no lower bound (MIN).
+    pub low: Option<i128>,
+    /// `None` where there is no upper bound (MAX).
     pub high: Option<i128>,
+    /// Whether the extension mark follows: then other integers are values too.
+    pub ext: bool,
 }
 
 /// The bounds of a length (X.680, "size constraint"), in items, both counted in.
@@ -62,8 +65,26 @@ pub struct Field {
 pub enum AsnType {
     /// BOOLEAN
     Bool,
+    /// NULL
+    Null,
     /// INTEGER with bounds
     Int(Bounds),
+    /// ENUMERATED of the items in `root`, and those in `ext` behind the extension mark; `None` where
+    /// there is no mark
+    Enum {
+        root: Vec<Item>,
+        ext: Option<Vec<Item>>,
+    },
+    /// BIT STRING of this many bits
+    Bits(Size),
+    /// OCTET STRING of this many octets
+    Octets(Size),
+    /// IA5String, NumericString or VisibleString of this many characters
+    Text(TextKind, Size),
+    /// UTF8String
+    Utf8,
     /// SEQUENCE of the components in `root`, in this order
-    Seq { root: Vec<Field> },
+    Seq {
+        root: Vec<Field>,
+    },
 }

@@ -1,12 +1,12 @@
 //! The walk that finds the first fault of a type, from the outside in and from left to right.
 ghost use Rattle.std.specs.Prelude.{IfOk, IfErr, map};
-ghost use Rattle.asn_values.specs.Shape.{sequence, closed};
-ghost use Rattle.asn_values.specs.Walk.{IsFaultless, HoldsHere, IsSoundWithin, IsFaultWithin, AreSoundWithin, IsFaultAmong};
-ghost use Rattle.asn_values.specs.View.{shape_of, fields_of, part_of_field};
+ghost use Rattle.asn_values.specs.Shape.{integer, enumerated, sequence, closed};
+ghost use Rattle.asn_values.specs.Walk.{IsFaultless, HoldsHere, IsFaultlessSize, HoldsOfSize, IsSoundWithin, IsFaultWithin, AreSoundWithin, IsFaultAmong};
+ghost use Rattle.asn_values.specs.View.{shape_of, range_of, size_range_of, label_of, more_labels_of, fields_of, part_of_field};
 
 use crate::fault::TypeFault;
-use crate::types::{AsnType, Field};
-use crate::{default_values, names, ranges};
+use crate::types::{AsnType, Bounds, Field, Item, Size};
+use crate::{default_values, enumerations, names, ranges, sizes};
 
 /// The most components of a SEQUENCE.
 const MOST_COMPONENTS: usize = 64;
@@ -29,7 +29,14 @@ pub(crate) fn nodes_left(ty: &AsnType, levels: u32, start: u32) -> Result<u32, T
         return Err(TypeFault::TooDeep);
     }
     match ty {
-        AsnType::Bool | AsnType::Int(_) => Ok(start - 1),
+        AsnType::Bool
+        | AsnType::Null
+        | AsnType::Int(_)
+        | AsnType::Enum { .. }
+        | AsnType::Bits(_)
+        | AsnType::Octets(_)
+        | AsnType::Text(..)
+        | AsnType::Utf8 => Ok(start - 1),
         AsnType::Seq { root } => nodes_left_behind(root, levels - 1, start - 1),
     }
 }
@@ -53,15 +60,63 @@ fn check_node(ty: &AsnType) -> Result<(), TypeFault>
     ensures fault { IfErr result (λ f. HoldsHere f (shape_of ty.now)) }
 {
     match ty {
-        AsnType::Bool => Ok(()),
-        AsnType::Int(bounds) => {
-            if ranges::is_empty_range(bounds) {
-                return Err(TypeFault::EmptyRange);
-            }
-            Ok(())
-        }
+        AsnType::Bool | AsnType::Null | AsnType::Utf8 => Ok(()),
+        AsnType::Int(bounds) => check_bounds(bounds),
+        AsnType::Enum { root, ext } => check_items(root, ext),
+        AsnType::Bits(size) | AsnType::Octets(size) | AsnType::Text(_, size) => check_size(size),
         AsnType::Seq { root } => check_components(root),
     }
+}
+
+/// Looks at an INTEGER with these bounds. Err: its fault with the least number.
+fn check_bounds(bounds: &Bounds) -> Result<(), TypeFault>
+    ensures faultless { IfOk result (λ done. IsFaultless (integer (range_of bounds.now))) }
+    ensures fault { IfErr result (λ f. HoldsHere f (integer (range_of bounds.now))) }
+{
+    if ranges::is_empty_range(bounds) {
+        return Err(TypeFault::EmptyRange);
+    }
+    if ranges::has_useless_mark(bounds) {
+        return Err(TypeFault::UselessMark);
+    }
+    Ok(())
+}
+
+/// Looks at an ENUMERATED of these items. Err: its fault with the least number.
+fn check_items(root: &[Item], more: &Option<Vec<Item>>) -> Result<(), TypeFault>
+    ensures faultless { IfOk result (λ done. IsFaultless (enumerated (map label_of root.now) (more_labels_of more.now))) }
+    ensures fault { IfErr result (λ f. HoldsHere f (enumerated (map label_of root.now) (more_labels_of more.now))) }
+{
+    if enumerations::is_empty(root) {
+        return Err(TypeFault::EmptyRange);
+    }
+    if enumerations::has_bad_names(root, more) {
+        return Err(TypeFault::DuplicateName);
+    }
+    if enumerations::has_bad_numbers(root, more) {
+        return Err(TypeFault::BadEnumeration);
+    }
+    if enumerations::is_too_many(root, more) {
+        return Err(TypeFault::TooMany);
+    }
+    Ok(())
+}
+
+/// Looks at the bounds of a length. Err: their fault with the least number.
+fn check_size(size: &Size) -> Result<(), TypeFault>
+    ensures faultless { IfOk result (λ done. IsFaultlessSize (size_range_of size.now)) }
+    ensures fault { IfErr result (λ f. HoldsOfSize f (size_range_of size.now)) }
+{
+    if sizes::is_empty(size) {
+        return Err(TypeFault::EmptyRange);
+    }
+    if sizes::is_too_large(size) {
+        return Err(TypeFault::SizeTooLarge);
+    }
+    if sizes::has_useless_mark(size) {
+        return Err(TypeFault::UselessMark);
+    }
+    Ok(())
 }
 
 /// Looks at a SEQUENCE of these components, and at nothing inside them. Err: its fault with the
@@ -70,7 +125,7 @@ fn check_components(root: &[Field]) -> Result<(), TypeFault>
     ensures faultless { IfOk result (λ done. IsFaultless (sequence (fields_of (map part_of_field root.now)) closed)) }
     ensures fault { IfErr result (λ f. HoldsHere f (sequence (fields_of (map part_of_field root.now)) closed)) }
 {
-    if names::are_bad(root) {
+    if names::are_bad(root, &[]) {
         return Err(TypeFault::DuplicateName);
     }
     if default_values::are_bad(root) {

@@ -18,31 +18,31 @@ use Rattle.asn_per.proofs.encoder.+writer.Goals as goal
 pub write-presence_bitmap-count-requires-clause-of_profile :
     goal.write-presence_bitmap-count-requires-clause-of_profile
 write-presence_bitmap-count-requires-clause-of_profile t c =
-    parts_of_profile (of_sequence _ _ _ _ _ _ c.in-Seq.is c.in-Seq-value.is c.deref.ensures.value c.deref-in-Seq.ensures.value) c.requires.of_profile
+    parts_of_profile (of_sequence _ _ _ _ _ _ c.in-Seq.is c.in-Seq-value.is c.deref-in-Seq.ensures.value c.deref-in-Seq-2.ensures.value) c.requires.of_profile
 
 pub write-presence_bitmap-count-requires-clause-of_type :
     goal.write-presence_bitmap-count-requires-clause-of_type
 write-presence_bitmap-count-requires-clause-of_type t c =
-    entries_fit (of_sequence _ _ _ _ _ _ c.in-Seq.is c.in-Seq-value.is c.deref.ensures.value c.deref-in-Seq.ensures.value) c.requires.of_type
+    entries_fit (of_sequence _ _ _ _ _ _ c.in-Seq.is c.in-Seq-value.is c.deref-in-Seq.ensures.value c.deref-in-Seq-2.ensures.value) c.requires.of_type
 
 pub write-presence_bitmap-count-requires-clause-few :
     goal.write-presence_bitmap-count-requires-clause-few
 write-presence_bitmap-count-requires-clause-few t c =
-    few_components c.deref.result.now (of_sequence _ _ _ _ _ _ c.in-Seq.is c.in-Seq-value.is c.deref.ensures.value c.deref-in-Seq.ensures.value).shape c.requires.of_profile
+    few_components c.deref-in-Seq.result.now (of_sequence _ _ _ _ _ _ c.in-Seq.is c.in-Seq-value.is c.deref-in-Seq.ensures.value c.deref-in-Seq-2.ensures.value).shape c.requires.of_profile
 
 pub write-write_components-requires : goal.write-write_components-requires
 write-write_components-requires t c =
-    let s = of_sequence _ _ _ _ _ _ c.in-Seq.is c.in-Seq-value.is c.deref-in-Seq-2.ensures.value c.deref-in-Seq-3.ensures.value in
-    let good : AreOfProfile (fields_of (map part_of_field c.deref-in-Seq-2.result.now)) = parts_of_profile s c.requires.of_profile in
-    let fits : FitsEach (fields_of (map part_of_field c.deref-in-Seq-2.result.now)) (map (option_map datum_of) c.deref-in-Seq-3.result.now) = entries_fit s c.requires.of_type in
+    let s = of_sequence _ _ _ _ _ _ c.in-Seq.is c.in-Seq-value.is c.deref-in-Seq-3.ensures.value c.deref-in-Seq-4.ensures.value in
+    let good : AreOfProfile (fields_of (map part_of_field c.deref-in-Seq-3.result.now)) = parts_of_profile s c.requires.of_profile in
+    let fits : FitsEach (fields_of (map part_of_field c.deref-in-Seq-3.result.now)) (map (option_map datum_of) c.deref-in-Seq-4.result.now) = entries_fit s c.requires.of_type in
     (search (rules, the_lemmas), (good, fits))
 
 pub write-returns-in_ok-push_number-in-Seq : goal.write-returns-in_ok-push_number-in-Seq
 write-returns-in_ok-push_number-in-Seq t c =
-    let s = of_sequence _ _ _ _ _ _ c.in-Seq.is c.in-Seq-value.is c.deref.ensures.value c.deref-in-Seq.ensures.value in
+    let s = of_sequence _ _ _ _ _ _ c.in-Seq.is c.in-Seq-value.is c.deref-in-Seq.ensures.value c.deref-in-Seq-2.ensures.value in
     on_ok_weaker c.write_components.result
-    (λ e. sequence_written c.args.sink.now (bits c.presence_bitmap-count.result.0 c.presence_bitmap-count.result.1) c.push_number.new.self c.write_components.new.sink c.deref.result.now c.deref-in-Seq-2.result.now c.deref-in-Seq.result.now c.deref-in-Seq-3.result.now s c.requires.of_type c.in_ok-push_number-in-Seq.ensures.ok c.presence_bitmap-count.ensures.bitmap
-    (c.deref-in-Seq-2.ensures.value ∙ sym c.deref.ensures.value) (c.deref-in-Seq-3.ensures.value ∙ sym c.deref-in-Seq.ensures.value) e)
+    (λ e. sequence_written c.args.sink.now (bits c.presence_bitmap-count.result.0 c.presence_bitmap-count.result.1) c.push_number.new.self c.write_components.new.sink c.deref-in-Seq.result.now c.deref-in-Seq-3.result.now c.deref-in-Seq-2.result.now c.deref-in-Seq-4.result.now s c.requires.of_type c.in_ok-push_number-in-Seq.ensures.ok c.presence_bitmap-count.ensures.bitmap
+    (c.deref-in-Seq-3.ensures.value ∙ sym c.deref-in-Seq.ensures.value) (c.deref-in-Seq-4.ensures.value ∙ sym c.deref-in-Seq-2.ensures.value) e)
     c.write_components.ensures
 
 pub write_components-loop-field-preserved-in-loop-field :

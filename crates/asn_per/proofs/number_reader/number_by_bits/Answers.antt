@@ -1,32 +1,32 @@
-use Rattle.std.proofs.Common.{◌≡◌, ◌<◌, ◌+◌, ◌-◌, ◌*◌, true, refl, sym, subst, arith}
-use Rattle.asn_bits.specs.Sets.{Meets}
-use Rattle.asn_rules.proofs.Sets.{taking_more, taking_stops, taking_waits, taking_done}
+use Rattle.std.proofs.Common.{refl}
+use Rattle.asn_bits.proofs.Prefixes.{bit_again}
+use Rattle.asn_rules.proofs.Sets.{giving_starts, giving_waits, giving_stops, giving_done}
 use Rattle.asn_per.specs.Per.{per_fields}
-use Rattle.asn_per.specs.Reading.{Admits}
-use Rattle.asn_per.proofs.NumberSets.{prefix_below}
 use Rattle.asn_per.proofs.PerFields.{per_fields_part}
 use Rattle.asn_per.proofs.number_reader.number_by_bits.Goals as goal
 
+pub loop-bit-init : goal.loop-bit-init
+loop-bit-init c =
+    let e = c.new-field.ensures in
+    (rw e (giving_starts c.args.bits.now c.requires.many c.requires.some), rw e refl, rw e refl)
+
 pub returns-in_default-clause-stop : goal.returns-in_default-clause-stop
-returns-in_default-clause-stop c = record { told = taking_waits per_fields_part c.loop-left.invariant (omega arith) (c.in_default.ensures.none.0 refl) }
+returns-in_default-clause-stop c =
+    let same = c.loop-bit.invariant.2 in
+    record { told = giving_waits per_fields_part (rw same at c.loop-bit.invariant.0) (c.in_default.ensures.none.0 refl) }
 
-pub overflow_mul-prefix : goal.overflow_mul-prefix
-overflow_mul-prefix c = omega (arith, prefix_below c.loop-left.invariant (omega arith) c.requires.few)
+pub returns-in-Number-clause-done : goal.returns-in-Number-clause-done
+returns-in-Number-clause-done c =
+    let same = c.loop-bit.invariant.2 in
+    let now = c.in-Number.ensures.given in
+    let bit = bit_again c.in-Some.bit c.in-Some.ensures.bit in
+    let whole = rw (now, same, c.loop-bit.invariant.1, bit) at c.in-Number.ensures.state in
+    giving_done per_fields (rw same at c.loop-bit.invariant.0) c.in-Some.ensures.some whole
 
-pub overflow_add-prefix : goal.overflow_add-prefix
-overflow_add-prefix c = omega (arith, prefix_below c.loop-left.invariant (omega arith) c.requires.few, c.in-Some.ensures.bit)
-
-pub returns-then-not-meets-clause-stop : goal.returns-then-not-meets-clause-stop
-returns-then-not-meets-clause-stop c =
-    let dead : c.in-Some.bit < 2 → Meets (λ n. Admits c.args.set n) (2 * c.loop-left.prefix + c.in-Some.bit) (c.loop-left.left - 1) → ⊥ =
-    λ b m. (let t : c.meets.result ≡ true = c.meets.ensures.1 (subst (λ x. Meets (λ n. Admits c.args.set n) (2 * c.loop-left.prefix + x) (c.loop-left.left - 1)) (sym c.from.ensures) m) in absurd (cc)) in
-    record { told = rw c.bits_left.ensures.count (taking_stops per_fields_part c.loop-left.invariant (omega arith) c.in-Some.ensures.some dead) }
-
-pub loop-left-preserved : goal.loop-left-preserved
-loop-left-preserved c =
-    let alive : Meets (λ n. Admits c.args.set n) (2 * c.loop-left.prefix + c.in-Some.bit) (c.loop-left.left - 1) =
-    subst (λ x. Meets (λ n. Admits c.args.set n) (2 * c.loop-left.prefix + x) (c.loop-left.left - 1)) c.from.ensures (c.meets.ensures.0 c.if-not-meets.false) in
-    rw c.from.ensures (taking_more c.loop-left.invariant (omega arith) c.in-Some.ensures.some c.in-Some.ensures.bit alive)
-
-pub returns-clause-done : goal.returns-clause-done
-returns-clause-done c = taking_done per_fields c.loop-left.invariant (omega arith)
+pub returns-in-Dead-clause-stop : goal.returns-in-Dead-clause-stop
+returns-in-Dead-clause-stop c =
+    let same = c.loop-bit.invariant.2 in
+    let now = c.in-Dead.ensures.given in
+    let bit = bit_again c.in-Some.bit c.in-Some.ensures.bit in
+    let dead = rw (now, same, c.loop-bit.invariant.1, bit) at c.in-Dead.ensures.state in
+    record { told = rw c.bits_left.ensures.count (giving_stops per_fields_part (rw same at c.loop-bit.invariant.0) c.in-Some.ensures.some dead) }

@@ -1,9 +1,10 @@
-use Rattle.asn_rules.proofs.Sets.{Taking}
-use Rattle.asn_per.specs.Reading.{Admits}
+use Rattle.std.proofs.Common.{◌≡◌, ◌-◌, length}
+use Rattle.asn_bits.specs.Sets.{Among}
+use Rattle.asn_rules.proofs.Sets.{Giving}
 use Rattle.asn_per.proofs.number_reader.number_by_bits.Given as goal
 
-abbrev pub invariant-loop-left : goal.invariant-loop-left
-invariant-loop-left l = Taking 2 l.k (λ n. Admits l.set n) l.initial.bits l.bits l.prefix l.left
+abbrev pub invariant-loop-bit : goal.invariant-loop-bit
+invariant-loop-bit l = Giving l.k (λ n. Among l.field.numbers n) l.initial.bits l.bits l.field.given × (l.field.width ≡ l.k) × (l.field.numbers ≡ l.fn.numbers)
 
-abbrev pub decreases-loop-left : goal.decreases-loop-left
-decreases-loop-left l = l.left
+abbrev pub decreases-loop-bit : goal.decreases-loop-bit
+decreases-loop-bit l = l.field.width - length l.field.given

@@ -6,8 +6,8 @@ use Rattle.asn_values.specs.declared.types.AsnType.{the_lemmas}
 use Rattle.asn_values.specs.declared.types.Field.{Field}
 use Rattle.asn_values.specs.declared.types.Need.{Need}
 use Rattle.asn_values.specs.declared.types.Need.TheVariants as needs
-use Rattle.asn_values.specs.Shape.{integer}
-use Rattle.asn_values.specs.View.{datum_of, fields_of, part_of_field, range_of, demand_of}
+use Rattle.asn_values.specs.Shape.{integer, enumerated}
+use Rattle.asn_values.specs.View.{shape_of, datum_of, fields_of, part_of_field, range_of, label_of, more_labels_of, demand_of}
 use Rattle.asn_values.proofs.Views.{shape_of-Int, datum_of-Seq, sequence_of_fields}
 use Rattle.asn_rules.specs.Listed.{bitmap_length, default_of}
 use Rattle.asn_rules.proofs.Leads.{stops_by}
@@ -15,44 +15,51 @@ use Rattle.asn_rules.proofs.Listed.{spelt_inhabited}
 use Rattle.asn_rules.proofs.ListedReading.{nothing_read}
 use Rattle.asn_per.specs.Per.{per, per_fields}
 use Rattle.asn_per.proofs.ComponentsRead.{next_part, no_part, bit_there, next_either, read_ends, demand_of_part, entry_leads, parts_good, bitmap_stops_at, components_at}
+use Rattle.asn_per.proofs.EnumeratedTypes.{enumerated_of_items}
 use Rattle.asn_per.proofs.Sequences.{few_components}
 use Rattle.asn_per.proofs.value_reader.+reader.Goals as goal
 
 pub read-integer-requires-clause-some : goal.read-integer-requires-clause-some
 read-integer-requires-clause-some t c = spelt_inhabited per (integer (range_of c.in-Int.bounds)) (rw (c.in-Int.is, shape_of-Int) at c.requires.of_profile)
 
+pub read-enumerated-requires-clause-some : goal.read-enumerated-requires-clause-some
+read-enumerated-requires-clause-some t c =
+    let type = enumerated (map label_of c.deref.result.now) (more_labels_of c.in-Enum.ext) in
+    let is : shape_of c.args.ty.now ≡ type = enumerated_of_items c.args.ty.now c.in-Enum.root c.in-Enum.ext c.deref.result.now c.in-Enum.is c.deref.ensures.value in
+    spelt_inhabited per type (rw is at c.requires.of_profile)
+
 pub read-bitmap_width-count-requires : goal.read-bitmap_width-count-requires
 read-bitmap_width-count-requires t c =
-    few_components c.deref.result.now (sequence_of_fields c.args.ty.now c.in-Seq.root c.deref.result.now c.in-Seq.is c.deref.ensures.value) c.requires.of_profile
+    few_components c.deref-in-Seq.result.now (sequence_of_fields c.args.ty.now c.in-Seq.root c.deref-in-Seq.result.now c.in-Seq.is c.deref-in-Seq.ensures.value) c.requires.of_profile
 
 pub read-returns-in_err-bitmap-in-Seq-clause-stop : goal.read-returns-in_err-bitmap-in-Seq-clause-stop
 read-returns-in_err-bitmap-in-Seq-clause-stop t c =
-    let is = sequence_of_fields c.args.ty.now c.in-Seq.root c.deref.result.now c.in-Seq.is c.deref.ensures.value in
+    let is = sequence_of_fields c.args.ty.now c.in-Seq.root c.deref-in-Seq.result.now c.in-Seq.is c.deref-in-Seq.ensures.value in
     let p = err_from_is_err_and c.from_residual-in_err-bitmap-in-Seq.result c.from_residual-in_err-bitmap-in-Seq.ensures.1 in
     rw (p.1, p.2)
     (stops_by _ (bitmap_stops_at is c.requires.of_profile c.bitmap_width-count.result c.highest_bitmap.result c.bitmap_width-count.ensures.count c.highest_bitmap.ensures c.args.bits.now) c.in_err-bitmap-in-Seq.ensures.stop)
 
 pub read-read_components-requires : goal.read-read_components-requires
 read-read_components-requires t c =
-    let is = sequence_of_fields c.args.ty.now c.in-Seq.root c.deref-in-Seq.result.now c.in-Seq.is c.deref-in-Seq.ensures.value in
-    let count : c.bitmap_width-count.result ≡ bitmap_length (fields_of (map part_of_field c.deref-in-Seq.result.now)) =
-    c.bitmap_width-count.ensures.count ∙ ap (λ (l : List Field). bitmap_length (fields_of (map part_of_field l))) (c.deref.ensures.value ∙ sym c.deref-in-Seq.ensures.value) in
+    let is = sequence_of_fields c.args.ty.now c.in-Seq.root c.deref-in-Seq-2.result.now c.in-Seq.is c.deref-in-Seq-2.ensures.value in
+    let count : c.bitmap_width-count.result ≡ bitmap_length (fields_of (map part_of_field c.deref-in-Seq-2.result.now)) =
+    c.bitmap_width-count.ensures.count ∙ ap (λ (l : List Field). bitmap_length (fields_of (map part_of_field l))) (c.deref-in-Seq.ensures.value ∙ sym c.deref-in-Seq-2.ensures.value) in
     (search (rules, the_lemmas), (parts_good is c.requires.of_profile, (count, c.bitmap_width-count.ensures.few)))
 
 pub read-returns-in_err-read_components-in-Seq-clause-stop : goal.read-returns-in_err-read_components-in-Seq-clause-stop
 read-returns-in_err-read_components-in-Seq-clause-stop t c =
-    let is = sequence_of_fields c.args.ty.now c.in-Seq.root c.deref-in-Seq.result.now c.in-Seq.is c.deref-in-Seq.ensures.value in
-    let count : c.bitmap_width-count.result ≡ bitmap_length (fields_of (map part_of_field c.deref-in-Seq.result.now)) =
-    c.bitmap_width-count.ensures.count ∙ ap (λ (l : List Field). bitmap_length (fields_of (map part_of_field l))) (c.deref.ensures.value ∙ sym c.deref-in-Seq.ensures.value) in
+    let is = sequence_of_fields c.args.ty.now c.in-Seq.root c.deref-in-Seq-2.result.now c.in-Seq.is c.deref-in-Seq-2.ensures.value in
+    let count : c.bitmap_width-count.result ≡ bitmap_length (fields_of (map part_of_field c.deref-in-Seq-2.result.now)) =
+    c.bitmap_width-count.ensures.count ∙ ap (λ (l : List Field). bitmap_length (fields_of (map part_of_field l))) (c.deref-in-Seq.ensures.value ∙ sym c.deref-in-Seq-2.ensures.value) in
     let p = err_from_is_err_and c.from_residual-in_err-read_components-in-Seq.result c.from_residual-in_err-read_components-in-Seq.ensures.1 in
     rw (p.1, p.2)
     (stops_by _ (components_at is c.requires.of_profile c.bitmap_width-count.result c.highest_bitmap.result c.in_ok-bitmap-in-Seq.bitmap count c.highest_bitmap.ensures c.args.bits.now c.number.new.bits c.in_ok-bitmap-in-Seq.ensures.done).stops c.in_err-read_components-in-Seq.ensures.stop)
 
 pub read-returns-in_ok-read_components-in-Seq-clause-done : goal.read-returns-in_ok-read_components-in-Seq-clause-done
 read-returns-in_ok-read_components-in-Seq-clause-done t c =
-    let is = sequence_of_fields c.args.ty.now c.in-Seq.root c.deref-in-Seq.result.now c.in-Seq.is c.deref-in-Seq.ensures.value in
-    let count : c.bitmap_width-count.result ≡ bitmap_length (fields_of (map part_of_field c.deref-in-Seq.result.now)) =
-    c.bitmap_width-count.ensures.count ∙ ap (λ (l : List Field). bitmap_length (fields_of (map part_of_field l))) (c.deref.ensures.value ∙ sym c.deref-in-Seq.ensures.value) in
+    let is = sequence_of_fields c.args.ty.now c.in-Seq.root c.deref-in-Seq-2.result.now c.in-Seq.is c.deref-in-Seq-2.ensures.value in
+    let count : c.bitmap_width-count.result ≡ bitmap_length (fields_of (map part_of_field c.deref-in-Seq-2.result.now)) =
+    c.bitmap_width-count.ensures.count ∙ ap (λ (l : List Field). bitmap_length (fields_of (map part_of_field l))) (c.deref-in-Seq.ensures.value ∙ sym c.deref-in-Seq-2.ensures.value) in
     let es = c.in_ok-read_components-in-Seq.field-0 in
     rw (datum_of-Seq es)
     ((components_at is c.requires.of_profile c.bitmap_width-count.result c.highest_bitmap.result c.in_ok-bitmap-in-Seq.bitmap count c.highest_bitmap.ensures c.args.bits.now c.number.new.bits c.in_ok-bitmap-in-Seq.ensures.done).done (map (option_map datum_of) es.items) c.read_components.new.cursor c.in_ok-read_components-in-Seq.ensures.done)

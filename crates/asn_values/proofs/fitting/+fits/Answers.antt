@@ -7,5 +7,5 @@ fields_have-returns-then-fields-entries t c = (λ h. cc, λ h. absurd (other_len
 pub type_has-returns-in-Seq-value : goal.type_has-returns-in-Seq-value
 type_has-returns-in-Seq-value t c =
     fits_sequences c.args.ty.now c.args.value.now c.in-Seq.root c.in-Seq-value.entries c.in-Seq.is c.in-Seq-value.is
-    c.deref.result.now c.deref-in-Seq-value.result.now c.deref.ensures.value c.deref-in-Seq-value.ensures.value
+    c.deref-in-Seq-value.result.now c.deref-in-Seq-value-2.result.now c.deref-in-Seq-value.ensures.value c.deref-in-Seq-value-2.ensures.value
     c.fields_have.result c.fields_have.ensures

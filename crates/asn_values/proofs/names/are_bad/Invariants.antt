@@ -1,11 +1,15 @@
-use Rattle.std.proofs.Common.{◌≡◌, map, drop}
-use Rattle.asn_values.specs.Shape.{field_names}
+use Rattle.std.proofs.Common.{◌≡◌, ◌++◌, map, drop}
 use Rattle.asn_values.specs.Profile as profile
-use Rattle.asn_values.specs.View.{fields_of, part_of_field}
 use Rattle.asn_values.proofs.names.are_bad.Given as goal
 
--- what is left decides
+-- what is left of the first list, before all of the second, decides
 abbrev pub invariant-loop-place : goal.invariant-loop-place
-invariant-loop-place l =
-    profile.bad_names (field_names (fields_of (map part_of_field (drop l.place l.fields))))
-    ≡ profile.bad_names (field_names (fields_of (map part_of_field l.fields)))
+invariant-loop-place g l =
+    profile.bad_names (map g.T.Named.name_of (drop l.place l.root) ++ map g.T.Named.name_of l.more)
+    ≡ profile.bad_names (map g.T.Named.name_of l.root ++ map g.T.Named.name_of l.more)
+
+-- what is left of the second decides
+abbrev pub invariant-loop-place-2 : goal.invariant-loop-place-2
+invariant-loop-place-2 g l =
+    profile.bad_names (map g.T.Named.name_of (drop l.place l.more))
+    ≡ profile.bad_names (map g.T.Named.name_of l.root ++ map g.T.Named.name_of l.more)

@@ -1,11 +1,9 @@
 use Rattle.std.proofs.Common.{◌≡◌, map, bytes_eq, drop}
 use Rattle.std.specs.List.{list_any}
-use Rattle.asn_values.specs.Shape.{field_names}
-use Rattle.asn_values.specs.View.{fields_of, part_of_field}
 use Rattle.asn_values.proofs.names.is_among.Given as goal
 
 -- what is left decides
-abbrev pub invariant-loop-field : goal.invariant-loop-field
-invariant-loop-field l =
-    list_any (bytes_eq l.name) (field_names (fields_of (map part_of_field (drop l.field-index l.fields))))
-    ≡ list_any (bytes_eq l.name) (field_names (fields_of (map part_of_field l.fields)))
+abbrev pub invariant-loop-part : goal.invariant-loop-part
+invariant-loop-part g l =
+    list_any (bytes_eq l.name) (map g.T.Named.name_of (drop l.part-index l.parts))
+    ≡ list_any (bytes_eq l.name) (map g.T.Named.name_of l.parts)

@@ -1,0 +1,151 @@
+//! ENUMERATED: which items there may be, and which places are those of items.
+ghost use Rattle.std.specs.Prelude.{◌≡◌, ◌↔◌, ◌++◌, ◌==◌, IsTrue, map, length};
+ghost use Rattle.std.specs.List.{list_any, list_all};
+ghost use Rattle.std.specs.Int.RustNames.{int_lt};
+ghost use Rattle.asn_values.specs.Datum.{item};
+ghost use Rattle.asn_values.specs.Shape.{enumerated, more_labels};
+ghost use Rattle.asn_values.specs.Fits.{Fits};
+ghost use Rattle.asn_values.specs.Profile.{duplicate_name, bad_enumeration, too_many_here, good_default, has_twice, int_eq, is_not_32_bits, is_rising};
+ghost use Rattle.asn_values.specs.View.{label_of, more_labels_of};
+
+use crate::names;
+use crate::types::Item;
+
+/// The most items, those of the root and the additions together.
+const MOST_ITEMS: usize = 256;
+
+/// The most items behind the extension mark.
+const MOST_ADDITIONS: usize = 64;
+
+/// The items behind the extension mark, of which there are none where there is no mark.
+fn additions(more: &Option<Vec<Item>>) -> &[Item]
+    ensures { map label_of result.now ≡ more_labels (more_labels_of more.now) }
+{
+    match more {
+        Some(items) => items,
+        None => &[],
+    }
+}
+
+/// Whether no item stands in front of the extension mark.
+pub(crate) fn is_empty(root: &[Item]) -> bool
+    ensures { result ≡ (length (map label_of root.now) == 0) }
+{
+    root.is_empty()
+}
+
+/// Whether a name stands twice among the items, or one is no identifier.
+pub(crate) fn has_bad_names(root: &[Item], more: &Option<Vec<Item>>) -> bool
+    ensures { result ≡ duplicate_name (enumerated (map label_of root.now) (more_labels_of more.now)) }
+{
+    names::are_bad(root, additions(more))
+}
+
+/// Whether a number stands twice or is not of 32 signed bits, or an addition's is not above all
+/// those before it.
+pub(crate) fn has_bad_numbers(root: &[Item], more: &Option<Vec<Item>>) -> bool
+    ensures { result ≡ bad_enumeration (enumerated (map label_of root.now) (more_labels_of more.now)) }
+{
+    let additions = additions(more);
+    has_number_twice(root)
+        || has_large_number(root)
+        || has_large_number(additions)
+        || !is_rising(additions)
+        || !is_below(root, additions)
+}
+
+/// Whether there are more items than the profile allows.
+pub(crate) fn is_too_many(root: &[Item], more: &Option<Vec<Item>>) -> bool
+    ensures { result ≡ too_many_here (enumerated (map label_of root.now) (more_labels_of more.now)) }
+{
+    let added = additions(more).len();
+    MOST_ADDITIONS < added || MOST_ITEMS - added < root.len()
+}
+
+/// Whether an item stands at this place, the items counted from 0 as written.
+pub(crate) fn item_fits(root: &[Item], more: &Option<Vec<Item>>, place: u32) -> bool
+    ensures { IsTrue result ↔ Fits (enumerated (map label_of root.now) (more_labels_of more.now)) (item place) }
+{
+    let place = place as usize;
+    place < root.len() || place - root.len() < additions(more).len()
+}
+
+/// Whether the item at this place may be a DEFAULT: it is one of several, and there is no
+/// extension mark.
+pub(crate) fn is_good_item(root: &[Item], more: &Option<Vec<Item>>, place: u32) -> bool
+    ensures { result ≡ good_default (enumerated (map label_of root.now) (more_labels_of more.now)) (item place) }
+{
+    more.is_none() && (place as usize) < root.len() && 1 < root.len()
+}
+
+/// Whether two of the items have the same number.
+fn has_number_twice(items: &[Item]) -> bool
+    ensures { result ≡ has_twice int_eq (map (λ l. l.number) (map label_of items.now)) }
+{
+    for (place, item) in items.iter().enumerate() {
+        if has_number(&items[place + 1..], item.number) {
+            return true;
+        }
+    }
+    false
+}
+
+/// Whether one of the items has this number.
+fn has_number(items: &[Item], number: i64) -> bool
+    ensures { result ≡ list_any (int_eq number) (map (λ l. l.number) (map label_of items.now)) }
+{
+    for item in items {
+        if number == item.number {
+            return true;
+        }
+    }
+    false
+}
+
+/// Whether one of the numbers is not of 32 signed bits.
+fn has_large_number(items: &[Item]) -> bool
+    ensures { result ≡ list_any is_not_32_bits (map (λ l. l.number) (map label_of items.now)) }
+{
+    for item in items {
+        if item.number < i64::from(i32::MIN) || i64::from(i32::MAX) < item.number {
+            return true;
+        }
+    }
+    false
+}
+
+/// Whether each number is above those before it.
+fn is_rising(items: &[Item]) -> bool
+    ensures { result ≡ is_rising (map (λ l. l.number) (map label_of items.now)) }
+{
+    for (place, item) in items.iter().enumerate() {
+        if !is_below_each(item.number, &items[place + 1..]) {
+            return false;
+        }
+    }
+    true
+}
+
+/// Whether each number of the lower items is below each of the others.
+fn is_below(lower: &[Item], others: &[Item]) -> bool
+    ensures { result ≡ list_all (λ x. list_all (int_lt x) (map (λ l. l.number) (map label_of others.now))) (map (λ l. l.number) (map label_of lower.now)) }
+{
+    for item in lower {
+        if !is_below_each(item.number, others) {
+            return false;
+        }
+    }
+    true
+}
+
+/// Whether the number is below that of each item.
+fn is_below_each(number: i64, items: &[Item]) -> bool
+    ensures { result ≡ list_all (int_lt number) (map (λ l. l.number) (map label_of items.now)) }
+{
+    for item in items {
+        if item.number <= number {
+            return false;
+        }
+    }
+    true
+}

@@ -1,0 +1,48 @@
+//! The bounds of a length: which there may be, and which lengths lie between them.
+ghost use Rattle.std.specs.Prelude.{◌≡◌, ◌↔◌, IsTrue, Some};
+ghost use Rattle.asn_values.specs.Fits.{FitsLength, in_size};
+ghost use Rattle.asn_values.specs.Profile.{size_above, large_size, is_every_length};
+ghost use Rattle.asn_values.specs.View.{size_range_of};
+
+use crate::types::Size;
+
+/// The most items of a string or list.
+const MOST_ITEMS: usize = 268_435_455;
+
+/// The largest bound of a SIZE.
+const LARGEST_BOUND: u32 = 65_535;
+
+/// Whether the low bound is above the high one.
+pub(crate) fn is_empty(size: &Size) -> bool
+    ensures { result ≡ size_above (size_range_of size.now) }
+{
+    size.high.is_some_and(|high| high < size.low)
+}
+
+/// Whether a bound is above 65535.
+pub(crate) fn is_too_large(size: &Size) -> bool
+    ensures { result ≡ large_size (Some (size_range_of size.now)) }
+{
+    LARGEST_BOUND < size.low || size.high.is_some_and(|high| LARGEST_BOUND < high)
+}
+
+/// Whether there is an extension mark, and the bounds take every length already.
+pub(crate) fn has_useless_mark(size: &Size) -> bool
+    ensures { result ≡ is_every_length (Some (size_range_of size.now)) }
+{
+    size.ext && size.low == 0 && size.high.is_none()
+}
+
+/// Whether the length lies between the bounds, both counted in.
+fn is_between(size: &Size, length: usize) -> bool
+    ensures { result ≡ in_size (size_range_of size.now) length }
+{
+    size.low as usize <= length && size.high.is_none_or(|high| length <= high as usize)
+}
+
+/// Whether so many items are a length of this SIZE.
+pub(crate) fn length_fits(size: &Size, length: usize) -> bool
+    ensures { IsTrue result ↔ FitsLength (size_range_of size.now) length }
+{
+    length <= MOST_ITEMS && (size.ext || is_between(size, length))
+}

@@ -1,0 +1,57 @@
+//! Octets and characters: which strings of them a type has.
+ghost use Rattle.std.specs.Prelude.{◌≡◌, ◌↔◌, IsTrue};
+ghost use Rattle.std.specs.List.{AllByRecursion};
+ghost use Rattle.asn_values.specs.Datum.{octet_list, characters, unicode};
+ghost use Rattle.asn_values.specs.Shape.{octet_string, restricted, utf8_string};
+ghost use Rattle.asn_values.specs.Fits.{Fits, is_of_kind};
+ghost use Rattle.asn_values.specs.View.{size_range_of, alphabet_of};
+
+use crate::sizes;
+use crate::types::{Size, TextKind};
+
+/// The most octets of a UTF8String.
+const MOST_OCTETS: usize = 268_435_455;
+
+/// Whether the octets are a value of an OCTET STRING of this size.
+pub(crate) fn octets_fit(size: &Size, octets: &[u8]) -> bool
+    ensures { IsTrue result ↔ Fits (octet_string (size_range_of size.now)) (octet_list octets.now) }
+{
+    sizes::length_fits(size, octets.len())
+}
+
+/// Whether the codes are a value of a string of this kind of characters and this size.
+pub(crate) fn text_fits(kind: TextKind, size: &Size, codes: &[u8]) -> bool
+    ensures { IsTrue result ↔ Fits (restricted (alphabet_of kind) (size_range_of size.now)) (characters codes.now) }
+{
+    sizes::length_fits(size, codes.len()) && characters_fit(kind, codes)
+}
+
+/// Whether the text is a value of UTF8String: its octets are not too many.
+pub(crate) fn unicode_fits(text: &str) -> bool
+    ensures { IsTrue result ↔ Fits utf8_string (unicode text.now) }
+{
+    text.len() <= MOST_OCTETS
+}
+
+/// Whether each code is one of this kind of characters.
+fn characters_fit(kind: TextKind, codes: &[u8]) -> bool
+    ensures { IsTrue result ↔ AllByRecursion (λ c. IsTrue (is_of_kind (alphabet_of kind) c)) codes.now }
+{
+    for code in codes {
+        if !is_of_kind(kind, *code) {
+            return false;
+        }
+    }
+    true
+}
+
+/// Whether the code is one of this kind of characters.
+fn is_of_kind(kind: TextKind, code: u8) -> bool
+    ensures { result ≡ is_of_kind (alphabet_of kind) code }
+{
+    match kind {
+        TextKind::Ia5 => code < 128,
+        TextKind::Numeric => code == b' ' || b'0' <= code && code <= b'9',
+        TextKind::Visible => b' ' <= code && code <= b'~',
+    }
+}

@@ -11,3 +11,4 @@ pub mod Indexes
 pub mod StringItems
 pub mod ListsAhead
 pub mod RowsAhead
+pub mod NextLengths

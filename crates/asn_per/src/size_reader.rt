@@ -8,12 +8,12 @@ ghost use Rattle.asn_rules.specs.Languages.{Spells};
 ghost use Rattle.asn_rules.specs.Stops.{Stops};
 ghost use Rattle.asn_per.specs.Per.{per_fields};
 ghost use Rattle.asn_per.specs.ListsAhead.{IsSizeOfProfile, RootStart, Start, Next, StopsNext, lengths, other_counts};
-ghost use Rattle.asn_per.specs.RowsAhead.{ahead_of, lengths_of, CanFollow, SomeLeft};
+ghost use Rattle.asn_per.specs.RowsAhead.{ahead_of, lengths_of, IsBetween};
 
-use crate::length_reader::{Counts, Length, Lengths};
+use crate::length_reader::next_length;
 use crate::number_reader::{Numbers, number};
-use asn_bits::BitCursor;
 use asn_bits::numbers::width;
+use asn_bits::{BitCursor, Counts, Lengths};
 use asn_rules::{Stop, Why};
 use asn_values::Size;
 
@@ -37,7 +37,7 @@ impl Rows {
     pub(crate) fn start(size: &Size, bits: &mut BitCursor<'_>) -> Result<Rows, Stop>
         requires of_profile { IsSizeOfProfile (size_range_of size.now) }
         ensures done { IfOk result (λ rows. Spells per_fields (Start (size_range_of size.now)) (ahead_of rows) bits.old bits.new) }
-        ensures follows { IfOk result (λ rows. CanFollow rows) }
+        ensures between { IfOk result (λ rows. IsBetween rows) }
         ensures stop { IfErr result (λ why. Stops per_fields (Start (size_range_of size.now)) bits.old why) }
     {
         if !size.ext {
@@ -52,8 +52,8 @@ impl Rows {
 
     /// Reads as far as the items that follow next, and tells how many they are: none where the list ends.
     pub(crate) fn next(&mut self, bits: &mut BitCursor<'_>) -> Result<Option<usize>, Stop>
-        requires follows { CanFollow self.old }
-        ensures follows { IfOk result (λ row. CanFollow self.new) }
+        requires between { IsBetween self.old }
+        ensures between { IfOk result (λ row. IsBetween self.new) }
         ensures done { IfOk result (λ row. Next (ahead_of self.old) row (ahead_of self.new) bits.old bits.new) }
         ensures stop { IfErr result (λ why. StopsNext (ahead_of self.old) bits.old why) }
     {
@@ -64,13 +64,13 @@ impl Rows {
                 *self = Rows::End;
                 Ok(Some(count))
             }
-            Rows::Lengths(lengths) => match lengths.next(bits)? {
-                Length::Last(count) => {
+            Rows::Lengths(lengths) => {
+                let count = next_length(lengths, bits)? as usize;
+                if !lengths.more() {
                     *self = Rows::End;
-                    Ok(Some(count as usize))
                 }
-                Length::Fragment(count) => Ok(Some(count as usize)),
-            },
+                Ok(Some(count))
+            }
         }
     }
 }
@@ -80,7 +80,7 @@ fn other_lengths(size: &Size) -> Lengths
     requires of_profile { IsSizeOfProfile (size_range_of size.now) }
     requires marked { size.now.ext ≡ true }
     ensures lengths { lengths_of result ≡ lengths (other_counts size.now.low size.now.high) 0 false }
-    ensures some { SomeLeft result }
+    ensures none { result.bits ≡ [] }
 {
     let below = Counts {
         low: 0,
@@ -104,7 +104,7 @@ fn other_lengths(size: &Size) -> Lengths
 fn root_start(size: &Size, bits: &mut BitCursor<'_>) -> Result<Rows, Stop>
     requires of_profile { IsSizeOfProfile (size_range_of size.now) }
     ensures done { IfOk result (λ rows. Spells per_fields (RootStart size.now.low size.now.high) (ahead_of rows) bits.old bits.new) }
-    ensures follows { IfOk result (λ rows. CanFollow rows) }
+    ensures between { IfOk result (λ rows. IsBetween rows) }
     ensures stop { IfErr result (λ why. Stops per_fields (RootStart size.now.low size.now.high) bits.old why) }
 {
     let Some(high) = size.high else {

@@ -7,7 +7,7 @@ use Rattle.asn_per.proofs.ListsAhead.{root_leads}
 use Rattle.asn_per.proofs.size_reader.root_start.Goals as goal
 
 pub returns-in_default-clause-done : goal.returns-in_default-clause-done
-returns-in_default-clause-done c = rw (c.in_default.is, c.new.ensures.lengths) (nothing_spells per_fields _ c.args.bits.now)
+returns-in_default-clause-done c = rw (c.in_default.is, c.new.ensures) (nothing_spells per_fields _ c.args.bits.now)
 
 pub returns-in_err-count-clause-stop : goal.returns-in_err-count-clause-stop
 returns-in_err-count-clause-stop c =

@@ -16,7 +16,7 @@ returns-in_err-rows-clause-stop c =
     rw (p.1, p.2) (stops_by _ (start_stops Bit (size_range_of c.args.size.now) c.args.cursor.now c.requires.of_profile bit_inhabited) c.in_err-rows.ensures.stop)
 
 pub loop-bits-init : goal.loop-bits-init
-loop-bits-init c = (rw c.new-bits.ensures.items (going_starts Bit (size_range_of c.args.size.now) c.requires.of_profile c.in_ok-rows.ensures.done), c.in_ok-rows.ensures.follows)
+loop-bits-init c = (rw c.new-bits.ensures.items (going_starts Bit (size_range_of c.args.size.now) c.requires.of_profile c.in_ok-rows.ensures.done), c.in_ok-rows.ensures.between)
 
 pub returns-in_err-count-clause-stop : goal.returns-in_err-count-clause-stop
 returns-in_err-count-clause-stop c =
@@ -26,7 +26,7 @@ returns-in_err-count-clause-stop c =
 pub loop-bits-preserved : goal.loop-bits-preserved
 loop-bits-preserved c =
     let next : Next (ahead_of c.loop-bits.rows) (Some c.in-Some.count) (ahead_of c.next.new.self) c.loop-bits.cursor c.next.new.bits = rw c.in-Some.is at c.in_ok-count.ensures.done in
-    (going_further bit_inhabited bit_lawful next c.in_ok-append_bits.ensures.done c.loop-bits.invariant.0, c.in_ok-count.ensures.follows)
+    (going_further bit_inhabited bit_lawful next c.in_ok-append_bits.ensures.done c.loop-bits.invariant.0, c.in_ok-count.ensures.between)
 
 pub returns-in_err-append_bits-clause-stop : goal.returns-in_err-append_bits-clause-stop
 returns-in_err-append_bits-clause-stop c =

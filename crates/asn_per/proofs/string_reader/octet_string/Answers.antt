@@ -15,7 +15,7 @@ returns-in_err-rows-clause-stop c =
     rw (p.1, p.2) (stops_by _ (start_stops Octet (size_range_of c.args.size.now) c.args.cursor.now c.requires.of_profile octet_inhabited) c.in_err-rows.ensures.stop)
 
 pub loop-octets-init : goal.loop-octets-init
-loop-octets-init c = (rw c.new-octets.ensures.items (going_starts Octet (size_range_of c.args.size.now) c.requires.of_profile c.in_ok-rows.ensures.done), c.in_ok-rows.ensures.follows)
+loop-octets-init c = (rw c.new-octets.ensures.items (going_starts Octet (size_range_of c.args.size.now) c.requires.of_profile c.in_ok-rows.ensures.done), c.in_ok-rows.ensures.between)
 
 pub returns-in_err-count-clause-stop : goal.returns-in_err-count-clause-stop
 returns-in_err-count-clause-stop c =
@@ -25,7 +25,7 @@ returns-in_err-count-clause-stop c =
 pub loop-octets-preserved : goal.loop-octets-preserved
 loop-octets-preserved c =
     let next : Next (ahead_of c.loop-octets.rows) (Some c.in-Some.count) (ahead_of c.next.new.self) c.loop-octets.cursor c.next.new.bits = rw c.in-Some.is at c.in_ok-count.ensures.done in
-    (going_further octet_inhabited octet_lawful next c.in_ok-append_octets.ensures.done c.loop-octets.invariant.0, c.in_ok-count.ensures.follows)
+    (going_further octet_inhabited octet_lawful next c.in_ok-append_octets.ensures.done c.loop-octets.invariant.0, c.in_ok-count.ensures.between)
 
 pub returns-in_err-append_octets-clause-stop : goal.returns-in_err-append_octets-clause-stop
 returns-in_err-append_octets-clause-stop c =

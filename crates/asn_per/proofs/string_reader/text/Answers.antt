@@ -16,7 +16,7 @@ returns-in_err-rows-clause-stop c =
     rw (p.1, p.2) (stops_by _ (start_stops (Character (alphabet_of c.args.kind)) (size_range_of c.args.size.now) c.args.cursor.now c.requires.of_profile (character_inhabited (alphabet_of c.args.kind))) c.in_err-rows.ensures.stop)
 
 pub loop-characters-init : goal.loop-characters-init
-loop-characters-init c = (rw c.new-characters.ensures.items (going_starts (Character (alphabet_of c.args.kind)) (size_range_of c.args.size.now) c.requires.of_profile c.in_ok-rows.ensures.done), c.in_ok-rows.ensures.follows)
+loop-characters-init c = (rw c.new-characters.ensures.items (going_starts (Character (alphabet_of c.args.kind)) (size_range_of c.args.size.now) c.requires.of_profile c.in_ok-rows.ensures.done), c.in_ok-rows.ensures.between)
 
 pub returns-in_err-count-clause-stop : goal.returns-in_err-count-clause-stop
 returns-in_err-count-clause-stop c =
@@ -26,7 +26,7 @@ returns-in_err-count-clause-stop c =
 pub loop-characters-preserved : goal.loop-characters-preserved
 loop-characters-preserved c =
     let next : Next (ahead_of c.loop-characters.rows) (Some c.in-Some.count) (ahead_of c.next.new.self) c.loop-characters.cursor c.next.new.bits = rw c.in-Some.is at c.in_ok-count.ensures.done in
-    (going_further (character_inhabited (alphabet_of c.args.kind)) (character_lawful (alphabet_of c.args.kind)) next c.in_ok-append_characters.ensures.done c.loop-characters.invariant.0, c.in_ok-count.ensures.follows)
+    (going_further (character_inhabited (alphabet_of c.args.kind)) (character_lawful (alphabet_of c.args.kind)) next c.in_ok-append_characters.ensures.done c.loop-characters.invariant.0, c.in_ok-count.ensures.between)
 
 pub returns-in_err-append_characters-clause-stop : goal.returns-in_err-append_characters-clause-stop
 returns-in_err-append_characters-clause-stop c =

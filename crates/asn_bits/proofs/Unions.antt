@@ -1,5 +1,5 @@
 -- Sets of numbers, and the test of intervals: some number of a set begins with the digits that have come.
-use Rattle.std.proofs.Common.{◌≡◌, ℕ, zero, suc, ◌+◌, ◌*◌, ◌/◌, ◌^◌, ◌↔◌, ◌<◌, ◌≤◌, inl, inr, ⊎_elim, List, [], ◌∷◌, ◌++◌, length, drop, get_or, arith}
+use Rattle.std.proofs.Common.{◌≡◌, ◌⊎◌, ℕ, zero, suc, ◌+◌, ◌*◌, ◌/◌, ◌^◌, ◌↔◌, ◌<◌, ◌≤◌, inl, inr, ⊎_elim, List, [], ◌∷◌, ◌++◌, length, drop, get_or, arith}
 use Rattle.std.proofs.Math.Nat.{pow-zero, div-lt_iff_lt-mul, le-div_iff_mul-le}
 use Rattle.std.proofs.lemmas.Nat.{pow_pos}
 use Rattle.std.proofs.lemmas.Bool.{cases_lt}
@@ -117,3 +117,20 @@ meets_between m = (omega (arith, m.least, m.member.1), omega (arith, m.below, m.
 -- some number from low to high fits the digits
 pub between_starts : {base low high k : ℕ} → low ≤ high → high < base ^ k → MeetsIn base (Between low high) 0 k
 between_starts {base} {low} {high} {k} o h = set_meets base k low (omega arith, o) (omega arith)
+
+-- ---- one interval more
+
+pub among_there : (is : List (ℕ × ℕ)) (low high n : ℕ) → Among (is ++ (low, high) ∷ []) n → Among is n ⊎ ((low ≤ n) × (n ≤ high))
+among_there [] low high n (inl b) = inr b
+among_there [] low high n (inr x) = absurd x
+among_there (i ∷ is) low high n (inl b) = inl (inl b)
+among_there (i ∷ is) low high n (inr h) = ⊎_elim (λ a. inl (inr a)) inr (among_there is low high n h)
+
+pub among_kept : (is : List (ℕ × ℕ)) (low high n : ℕ) → Among is n → Among (is ++ (low, high) ∷ []) n
+among_kept [] low high n h = absurd h
+among_kept (i ∷ is) low high n (inl b) = inl b
+among_kept (i ∷ is) low high n (inr h) = inr (among_kept is low high n h)
+
+pub among_added : (is : List (ℕ × ℕ)) (low high n : ℕ) → low ≤ n → n ≤ high → Among (is ++ (low, high) ∷ []) n
+among_added [] low high n l h = inl (l, h)
+among_added (i ∷ is) low high n l h = inr (among_added is low high n l h)

@@ -7,8 +7,8 @@ use std::marker::Model;
 /// The most intervals of a union.
 const MOST: usize = 4;
 
-/// A union of one to four intervals of numbers, without memory of its own. Contracts see the list
-/// of their ends, the low end of an interval before its high one.
+/// A union of up to four intervals of numbers, without memory of its own. Contracts see the list of
+/// their ends, the low end of an interval before its high one.
 #[derive(Drop)]
 pub struct Intervals {
     ends: [(u64, u64); MOST],
@@ -25,6 +25,16 @@ impl Model for Intervals {
 }
 
 impl Intervals {
+    /// No number.
+    pub fn none() -> Intervals
+        ensures { result ≡ [] }
+    {
+        Intervals {
+            ends: [(0, 0); MOST],
+            count: 0,
+        }
+    }
+
     /// The numbers from `low` to `high`.
     pub fn one(low: u64, high: u64) -> Intervals
         requires { low ≤ high }

@@ -1,14 +1,19 @@
 -- What the readers of the decoder read.
-use Rattle.std.specs.Prelude.{◌≡◌, ◌≢◌, ◌≤◌, ◌-◌, ◌^◌, ◌==◌, ◌&&◌, ℕ, ℤ, true, false, nat_lt, List, ◌++◌, Option, Some, None, ⊤}
+use Rattle.std.specs.Prelude.{◌≡◌, ◌≢◌, ◌≤◌, ◌<◌, ◌+◌, ◌-◌, ◌*◌, ◌^◌, ◌⊎◌, ◌==◌, ◌&&◌, ◌≤ℤ◌, ℕ, ℤ, true, false, nat_lt, List, ◌++◌, Option, Some, None, ⊤}
 use Rattle.asn_values.specs.Shape.{Range, Alphabet, ia5, numeric, visible}
-use Rattle.asn_values.specs.Fits.{FitsNumber}
-use Rattle.asn_bits.specs.Numbers.{octet_count}
+use Rattle.asn_values.specs.Fits.{FitsNumber, lowest_integer, highest_integer}
+use Rattle.asn_bits.specs.Numbers.{octet_count, above}
 use Rattle.asn_bits.specs.Sets.{Among}
 use Rattle.asn_rules.specs.Chunks.{Chunk}
 use Rattle.asn_rules.specs.Languages.{Spells, Row}
+use Rattle.asn_rules.specs.Listed.{IsOther}
+use Rattle.asn_values.specs.Datum.{number}
+use Rattle.std.specs.Option.{option_map}
 use Rattle.asn_per.specs.Per.{per_fields}
 use Rattle.asn_per.specs.Kinds.{numeric_at}
+use Rattle.asn_rules.specs.Counted.{LeastSigned}
 use Rattle.asn_per.specs.declared.number_reader.Numbers.{Numbers}
+use Rattle.asn_per.specs.declared.signed_reader.Offsets.{Offsets}
 
 -- ---- numbers
 
@@ -30,12 +35,54 @@ pub record AreAmong (s : Numbers) (is : List (ℕ × ℕ)) : Type 0 where
 abbrev pub up_to : ℕ → Option ℕ → Numbers
 up_to high except = record { low = 0; high = high; except = except }
 
+-- ---- integers by how far they lie above the lowest one
+
+-- one of the offsets
+abbrev pub Held : Offsets → ℕ → Type 0
+Held s w = (w < s.end) × ((w < s.below) ⊎ (s.from ≤ w))
+
+-- an integer of the profile at one of the offsets
+abbrev pub HeldInteger : Offsets → ℤ → Type 0
+HeldInteger s z = (lowest_integer ≤ℤ z) × (z ≤ℤ highest_integer) × Held s (above lowest_integer z)
+
+-- the offsets end with the highest integer, or lack one number at most
+abbrev pub IsOpen : Offsets → Type 0
+IsOpen s = (s.end ≤ 2 ^ 64) × ((s.end ≡ 2 ^ 64) ⊎ (s.from ≤ s.below + 1))
+
+-- what stands beside the sign in one octet less of two's complement is below this
+abbrev pub inner_of : ℕ → ℕ
+inner_of count = elim (nat_lt 1 count) [ true ↦ 2 ^ (8 * (count - 1) - 1) | false ↦ 0 ]
+
+-- with the offsets from the first to before the end, each number being so much higher than its offset less 2 ^ 63
+pub record AreJoined (old new : List (ℕ × ℕ)) (s : Offsets) (first end up : ℕ) : Type 0 where
+  pub there : (n : ℕ) → Among new n → Among old n ⊎ ((first + up ≤ n + 2 ^ 63) × (n + 2 ^ 63 < end + up) × Held s (n + 2 ^ 63 - up))
+  pub kept : (n : ℕ) → Among old n → Among new n
+  pub added : (n : ℕ) → first + up ≤ n + 2 ^ 63 → n + 2 ^ 63 < end + up → Held s (n + 2 ^ 63 - up) → Among new n
+
+-- the numbers of the intervals are those that need so many octets of two's complement
+pub record AreSigned (s : Offsets) (count : ℕ) (is : List (ℕ × ℕ)) : Type 0 where
+  pub there : (n : ℕ) → LeastSigned (λ z. HeldInteger s z) count n → Among is n
+  pub back : (n : ℕ) → Among is n → LeastSigned (λ z. HeldInteger s z) count n
+
 -- ---- integers
 
--- an integer that may be left out of a range is one of it
+-- a range without an extension mark
+abbrev pub unmarked : Option ℤ → Option ℤ → Range
+unmarked low high = record { low = low; high = high; extensible = false }
+
+-- an integer that may be left out of a range is one of it, and the range has no extension mark
 abbrev pub IsWithin : Range → Option ℤ → Type 0
 IsWithin b None = ⊤
-IsWithin b (Some d) = FitsNumber b d
+IsWithin b (Some d) = FitsNumber b d × (b.extensible ≡ false)
+
+-- the offsets are those of the integers of a set
+pub record AreOffsets (s : Offsets) (S : ℤ → Type 0) : Type 0 where
+  pub there : (z : ℤ) → HeldInteger s z → S z
+  pub back : (z : ℤ) → S z → HeldInteger s z
+
+-- the integers up to the high bound, but for the one that is left out
+abbrev pub IsUpTo : Option ℤ → Option ℤ → ℤ → Type 0
+IsUpTo high except z = FitsNumber (unmarked None high) z × IsOther (option_map number except) (number z)
 
 -- ---- numbers in the fewest octets
 

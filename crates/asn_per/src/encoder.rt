@@ -11,6 +11,8 @@ ghost use Rattle.asn_bits.specs.Numbers.{bits};
 ghost use Rattle.asn_rules.specs.Answer.{max_octets};
 ghost use Rattle.asn_rules.specs.Codec.{NotEncoded};
 ghost use Rattle.asn_rules.specs.Components.{has_presence_bit, is_spelled, presence};
+ghost use Rattle.asn_per.specs.Kinds.{root_of};
+ghost use Rattle.asn_per.specs.Per.{ranged};
 ghost use Rattle.asn_per.specs.Rules.{per_ruling, IsPerEncoding};
 ghost use Rattle.asn_per.specs.Laws.{per_bits, component_bits};
 
@@ -19,7 +21,7 @@ use asn_bits::BitSink;
 use asn_bits::numbers::width;
 use asn_bits::offsets::above;
 use asn_rules::EncodeFault;
-use asn_values::{AsnType, Bounds, Checked, Field, Need, Value, fits, same};
+use asn_values::{AsnType, Bounds, Checked, Field, Need, Value, fits, is_between, same};
 use std::alloc::{AllocError, Global};
 
 /// The most octets of a message.
@@ -64,6 +66,7 @@ fn write(ty: &AsnType, value: &Value, sink: &mut BitSink) -> Result<(), AllocErr
             };
             sink.push(*truth)
         }
+        AsnType::Null => Ok(()),
         AsnType::Int(bounds) => {
             let Value::Int(integer) = value else {
                 unreachable!()
@@ -87,16 +90,38 @@ fn write(ty: &AsnType, value: &Value, sink: &mut BitSink) -> Result<(), AllocErr
     }
 }
 
-/// Writes a number of the range: as a constrained whole number where there is an upper bound, else as
-/// a semi-constrained one (X.691, "encoding the integer type").
+/// Writes a number of the range (X.691, "encoding the integer type"): behind an extension mark a bit
+/// tells whether it lies between the bounds, and outside them it is an unconstrained whole number.
 fn write_integer(bounds: &Bounds, whole: i128, sink: &mut BitSink) -> Result<(), AllocError>
     requires of_profile { InProfile (integer (range_of bounds.now)) }
     requires of_type { FitsNumber (range_of bounds.now) whole }
     ensures { OnOk result (sink.new ≡ sink.old ++ per_bits (integer (range_of bounds.now)) (number whole)) }
 {
-    let offset = above(bounds.low, whole);
+    if !bounds.ext {
+        return write_ranged(bounds, whole, sink);
+    }
+    if is_between(bounds, whole) {
+        sink.push(false)?;
+        write_ranged(bounds, whole, sink)
+    } else {
+        sink.push(true)?;
+        sink.push_least_signed_octets(whole)
+    }
+}
+
+/// Writes a number between the bounds: as a constrained whole number where there are both, a
+/// semi-constrained one where there is a lower bound, else an unconstrained one.
+fn write_ranged(bounds: &Bounds, whole: i128, sink: &mut BitSink) -> Result<(), AllocError>
+    requires of_profile { InProfile (integer (root_of (range_of bounds.now))) }
+    requires of_type { FitsNumber (root_of (range_of bounds.now)) whole }
+    ensures { OnOk result (sink.new ≡ sink.old ++ ranged bounds.now.low bounds.now.high whole) }
+{
+    let Some(low) = bounds.low else {
+        return sink.push_least_signed_octets(whole);
+    };
+    let offset = above(low, whole);
     match bounds.high {
-        Some(high) => sink.push_number(width(u128::from(above(bounds.low, high)) + 1), offset),
+        Some(high) => sink.push_number(width(u128::from(above(low, high)) + 1), offset),
         None => sink.push_least_octets(offset),
     }
 }

@@ -1,6 +1,6 @@
 //! Readers of integers and truth values, of which one may be left out: a component that has a DEFAULT is
 //! spelt with another value only.
-ghost use Rattle.std.specs.Prelude.{◌≡◌, ◌≤◌, ◌<◌, ◌+◌, ◌^◌, pos, IfOk, IfErr, ℕ};
+ghost use Rattle.std.specs.Prelude.{◌≡◌, ◌≤◌, ◌<◌, ◌+◌, ◌^◌, pos, IfOk, IfErr, ℕ, Some, None, true};
 ghost use Rattle.std.specs.Option.{option_map};
 ghost use Rattle.asn_values.specs.Datum.{number, truth};
 ghost use Rattle.asn_values.specs.Shape.{integer, boolean};
@@ -14,19 +14,28 @@ ghost use Rattle.asn_rules.specs.Listed.{Spelt};
 ghost use Rattle.asn_bits.specs.Sets.{Meets, InSet};
 ghost use Rattle.asn_rules.specs.Stops.{Stops};
 ghost use Rattle.asn_per.specs.Per.{per, per_fields};
-ghost use Rattle.asn_per.specs.Reading.{Admits, IsWithin, up_to, least_of, highest_count_of};
+ghost use Rattle.asn_per.specs.Kinds.{Unconstrained, IsOutside};
+ghost use Rattle.asn_per.specs.Reading.{Admits, IsWithin, unmarked, up_to, least_of, highest_count_of, AreOffsets, IsUpTo, IsOpen, Held};
 
 use crate::number_reader::{Numbers, number};
+use crate::signed_reader::{Offsets, unconstrained};
 use asn_bits::BitCursor;
 use asn_bits::numbers::{octet_count, width};
 use asn_bits::offsets::{above, number_above};
 use asn_rules::{Stop, Why};
 use asn_values::Bounds;
 
+/// The lowest integer of the profile.
+const LOWEST: i128 = -9_223_372_036_854_775_808;
+
 /// The highest integer of the profile.
 const HIGHEST: i128 = 9_223_372_036_854_775_807;
 
-/// Reads an integer of the range (X.691, "encoding the integer type"), but for `except`.
+/// How many integers the profile has.
+const ALL: u128 = 18_446_744_073_709_551_616;
+
+/// Reads an integer of the range (X.691, "encoding the integer type"), but for `except`: behind an
+/// extension mark a bit tells whether it lies between the bounds.
 #[inline(always)]
 pub(crate) fn integer(
     bounds: &Bounds,
@@ -39,28 +48,157 @@ pub(crate) fn integer(
     ensures done { IfOk result (λ z. Spells per_fields (Spelt per (option_map number except) (integer (range_of bounds.now))) (number z) bits.old bits.new) }
     ensures stop { IfErr result (λ why. Stops per_fields (Spelt per (option_map number except) (integer (range_of bounds.now))) bits.old why) }
 {
-    let left_out = offset_left_out(bounds, except);
-    match bounds.high {
+    if !bounds.ext {
+        return ranged(bounds.low, bounds.high, except, bits);
+    }
+    let Some(mark) = bits.next() else {
+        return Err(Stop::Short);
+    };
+    if mark == 0 {
+        ranged(bounds.low, bounds.high, None, bits)
+    } else {
+        outside(bounds, bits)
+    }
+}
+
+/// Reads an integer between the bounds, but for `except`.
+#[inline(always)]
+fn ranged(
+    low: Option<i128>,
+    high: Option<i128>,
+    except: Option<i128>,
+    bits: &mut BitCursor<'_>,
+) -> Result<i128, Stop>
+    requires of_profile { InProfile (integer (unmarked low high)) }
+    requires within { IsWithin (unmarked low high) except }
+    requires some { Inhabited (Spelt per (option_map number except) (integer (unmarked low high))) }
+    ensures done { IfOk result (λ z. Spells per_fields (Spelt per (option_map number except) (integer (unmarked low high))) (number z) bits.old bits.new) }
+    ensures stop { IfErr result (λ why. Stops per_fields (Spelt per (option_map number except) (integer (unmarked low high))) bits.old why) }
+{
+    match low {
+        Some(low) => from_low(low, high, except, bits),
+        None => up_to_high(high, except, bits),
+    }
+}
+
+/// Reads an integer from the low bound on, but for `except`.
+#[inline(always)]
+fn from_low(
+    low: i128,
+    high: Option<i128>,
+    except: Option<i128>,
+    bits: &mut BitCursor<'_>,
+) -> Result<i128, Stop>
+    requires of_profile { InProfile (integer (unmarked (Some low) high)) }
+    requires within { IsWithin (unmarked (Some low) high) except }
+    requires some { Inhabited (Spelt per (option_map number except) (integer (unmarked (Some low) high))) }
+    ensures done { IfOk result (λ z. Spells per_fields (Spelt per (option_map number except) (integer (unmarked (Some low) high))) (number z) bits.old bits.new) }
+    ensures stop { IfErr result (λ why. Stops per_fields (Spelt per (option_map number except) (integer (unmarked (Some low) high))) bits.old why) }
+{
+    let left_out = offset_left_out(low, high, except);
+    match high {
         Some(high) => {
-            let offset = constrained(above(bounds.low, high), left_out, bits)?;
-            Ok(number_above(bounds.low, offset))
+            let offset = constrained(above(low, high), left_out, bits)?;
+            Ok(number_above(low, offset))
         }
         None => {
-            let offset = counted(above(bounds.low, HIGHEST), left_out, bits)?;
-            Ok(number_above(bounds.low, offset))
+            let offset = counted(above(low, HIGHEST), left_out, bits)?;
+            Ok(number_above(low, offset))
         }
     }
 }
 
 /// How far the integer that is left out lies above the low bound.
-fn offset_left_out(bounds: &Bounds, except: Option<i128>) -> Option<u64>
-    requires of_profile { InProfile (integer (range_of bounds.now)) }
-    requires within { IsWithin (range_of bounds.now) except }
-    ensures { result ≡ option_map (λ z. above bounds.now.low z) except }
+fn offset_left_out(low: i128, high: Option<i128>, except: Option<i128>) -> Option<u64>
+    requires of_profile { InProfile (integer (unmarked (Some low) high)) }
+    requires within { IsWithin (unmarked (Some low) high) except }
+    ensures { result ≡ option_map (λ z. above low z) except }
 {
     match except {
-        Some(whole) => Some(above(bounds.low, whole)),
+        Some(whole) => Some(above(low, whole)),
         None => None,
+    }
+}
+
+/// Reads an integer up to the high bound, if there is one, but for `except`.
+fn up_to_high(
+    high: Option<i128>,
+    except: Option<i128>,
+    bits: &mut BitCursor<'_>,
+) -> Result<i128, Stop>
+    requires of_profile { InProfile (integer (unmarked None high)) }
+    requires within { IsWithin (unmarked None high) except }
+    requires some { Inhabited (Spelt per (option_map number except) (integer (unmarked None high))) }
+    ensures done { IfOk result (λ z. Spells per_fields (Spelt per (option_map number except) (integer (unmarked None high))) (number z) bits.old bits.new) }
+    ensures stop { IfErr result (λ why. Stops per_fields (Spelt per (option_map number except) (integer (unmarked None high))) bits.old why) }
+{
+    let (in_count, in_number) = match except {
+        Some(_) => (Why::Default, Why::Default),
+        None => (Why::Length, Why::Number),
+    };
+    let offset = unconstrained(offsets_up_to(high, except), in_count, in_number, bits)?;
+    Ok(number_above(LOWEST, offset))
+}
+
+/// The offsets of the integers up to the high bound, but for `except`.
+fn offsets_up_to(high: Option<i128>, except: Option<i128>) -> Offsets
+    requires of_profile { InProfile (integer (unmarked None high)) }
+    requires within { IsWithin (unmarked None high) except }
+    ensures same { AreOffsets result (λ z. IsUpTo high except z) }
+    ensures gap { IsOpen result }
+{
+    let end = match high {
+        Some(high) => u128::from(above(LOWEST, high)) + 1,
+        None => ALL,
+    };
+    match except {
+        Some(whole) => {
+            let below = u128::from(above(LOWEST, whole));
+            Offsets {
+                below,
+                from: below + 1,
+                end,
+            }
+        }
+        None => Offsets {
+            below: 0,
+            from: 0,
+            end,
+        },
+    }
+}
+
+/// Reads an integer outside the bounds.
+fn outside(bounds: &Bounds, bits: &mut BitCursor<'_>) -> Result<i128, Stop>
+    requires of_profile { InProfile (integer (range_of bounds.now)) }
+    requires mark { bounds.now.ext ≡ true }
+    ensures done { IfOk result (λ z. Spells per_fields (Unconstrained (λ y. IsOutside (range_of bounds.now) y)) (number z) bits.old bits.new) }
+    ensures stop { IfErr result (λ why. Stops per_fields (Unconstrained (λ y. IsOutside (range_of bounds.now) y)) bits.old why) }
+{
+    let offset = unconstrained(offsets_outside(bounds), Why::Length, Why::Number, bits)?;
+    Ok(number_above(LOWEST, offset))
+}
+
+/// The offsets of the integers outside the bounds.
+fn offsets_outside(bounds: &Bounds) -> Offsets
+    requires of_profile { InProfile (integer (range_of bounds.now)) }
+    requires mark { bounds.now.ext ≡ true }
+    ensures same { AreOffsets result (λ y. IsOutside (range_of bounds.now) y) }
+    ensures gap { IsOpen result }
+    ensures some { (w : ℕ) × Held result w }
+{
+    let below = match bounds.low {
+        Some(low) => u128::from(above(LOWEST, low)),
+        None => 0,
+    };
+    let from = match bounds.high {
+        Some(high) => u128::from(above(LOWEST, high)) + 1,
+        None => ALL,
+    };
+    Offsets {
+        below,
+        from,
+        end: ALL,
     }
 }
 

@@ -9,6 +9,7 @@ mod kinds;
 mod laws;
 mod number_reader;
 mod row_reader;
+mod signed_reader;
 #[cfg(test)]
 mod tests;
 mod value_reader;

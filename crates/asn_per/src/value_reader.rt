@@ -32,6 +32,7 @@ pub(crate) fn read(alloc: Global, ty: &AsnType, bits: &mut BitCursor<'_>) -> Res
 {
     match ty {
         AsnType::Bool => Ok(Value::Bool(boolean(None, bits)?)),
+        AsnType::Null => Ok(Value::Null),
         AsnType::Int(bounds) => Ok(Value::Int(integer(bounds, None, bits)?)),
         AsnType::Enum { root, ext } => Ok(Value::Enum(enumerated(root, ext, None, bits)?)),
         AsnType::Seq { root } => {
@@ -127,7 +128,7 @@ fn absent(field: &Field) -> Option<Value>
         Need::Default(Value::Bool(truth)) => Some(Value::Bool(*truth)),
         Need::Default(Value::Int(whole)) => Some(Value::Int(*whole)),
         Need::Default(Value::Enum(place)) => Some(Value::Enum(*place)),
-        Need::Default(Value::Seq(_)) => unreachable!(),
+        Need::Default(Value::Null | Value::Seq(_)) => unreachable!(),
     }
 }
 

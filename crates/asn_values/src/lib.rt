@@ -21,6 +21,7 @@ pub use equality::same;
 pub use fault::TypeFault;
 pub use fitting::fits;
 pub use laws::defaults_are_judged;
+pub use ranges::is_between;
 pub use types::{AsnType, Bounds, Field, Item, Need, Size, TextKind};
 pub use value::Value;
 

@@ -15,7 +15,7 @@ const LOWEST: i128 = i64::MIN as i128;
 const HIGHEST: i128 = i64::MAX as i128;
 
 /// Whether the number lies between the bounds, both counted in.
-fn is_between(bounds: &Bounds, number: i128) -> bool
+pub fn is_between(bounds: &Bounds, number: i128) -> bool
     ensures { result ≡ in_range (range_of bounds.now) number }
 {
     bounds.low.is_none_or(|low| low <= number) && bounds.high.is_none_or(|high| number <= high)

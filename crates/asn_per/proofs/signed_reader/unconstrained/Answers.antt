@@ -1,0 +1,43 @@
+use Rattle.std.proofs.Common.{◌≡◌, ◌*◌, ◌≤◌, ℕ, ℤ, pos, ◌+ℤ◌, subst, sym}
+use Rattle.std.proofs.lemmas.Result.{err_from_is_err_and}
+use Rattle.asn_values.specs.Fits.{lowest_integer}
+use Rattle.asn_bits.specs.Sets.{InSet, Among, Meets}
+use Rattle.asn_rules.specs.Counted.{Counted, LeastSigned, signed_number}
+use Rattle.asn_rules.specs.Languages.{Plain, Map, Spells}
+use Rattle.asn_rules.specs.Stops.{Stops}
+use Rattle.asn_rules.proofs.Leads.{stops_by}
+use Rattle.asn_per.specs.Per.{per_fields}
+use Rattle.asn_per.specs.Reading.{Admits, HeldInteger}
+use Rattle.asn_per.proofs.SignedReading.{signed_counts, stops_at_count, leads_to_number, some_number}
+use Rattle.asn_per.proofs.signed_reader.unconstrained.Goals as goal
+
+pub returns-in_err-count-clause-stop : goal.returns-in_err-count-clause-stop
+returns-in_err-count-clause-stop c =
+    let p = err_from_is_err_and c.from_residual.result c.from_residual.ensures.1 in
+    let l = c.lowest_count.ensures in
+    let stop : Stops per_fields (Plain (InSet 8 (λ n. Admits (signed_counts c.lowest_count.result) n))) c.args.bits.now c.in_err-count.field-0.0 = rw c.from.ensures at c.in_err-count.ensures.stop in
+    rw (p.1, p.2) (stops_by _ (stops_at_count c.args.set c.lowest_count.result l.there l.back c.args.bits.now) stop)
+
+pub number_among-requires-clause-some : goal.number_among-requires-clause-some
+number_among-requires-clause-some c =
+    let count = c.in_ok-count.field-0 in
+    let admitted : Admits (signed_counts c.lowest_count.result) count = rw c.from.ensures at c.in_ok-count.ensures.member in
+    some_number c.args.set count c.with_octets.result c.with_octets.ensures (c.lowest_count.ensures.there count admitted.0 admitted.1)
+
+pub returns-in_err-number-clause-stop : goal.returns-in_err-number-clause-stop
+returns-in_err-number-clause-stop c =
+    let p = err_from_is_err_and c.from_residual-in_err-number.result c.from_residual-in_err-number.ensures.1 in
+    let l = c.lowest_count.ensures in
+    let count = c.in_ok-count.field-0 in
+    let spelt : Spells per_fields (Plain (InSet 8 (λ n. Admits (signed_counts c.lowest_count.result) n))) count c.args.bits.now c.number.new.bits = rw c.from.ensures at c.in_ok-count.ensures.done in
+    let lead = leads_to_number c.args.set c.lowest_count.result l.there l.back count c.with_octets.result c.args.bits.now c.number.new.bits c.with_octets.ensures spelt in
+    rw (p.1, p.2) (stops_by _ lead.stops c.in_err-number.ensures.stop)
+
+pub returns-clause-done : goal.returns-clause-done
+returns-clause-done c =
+    let l = c.lowest_count.ensures in
+    let count = c.in_ok-count.field-0 in
+    let n = c.in_ok-number.number in
+    let spelt : Spells per_fields (Plain (InSet 8 (λ n. Admits (signed_counts c.lowest_count.result) n))) count c.args.bits.now c.number.new.bits = rw c.from.ensures at c.in_ok-count.ensures.done in
+    let lead = leads_to_number c.args.set c.lowest_count.result l.there l.back count c.with_octets.result c.args.bits.now c.number.new.bits c.with_octets.ensures spelt in
+    subst (λ (z : ℤ). Spells per_fields (Map signed_number (Counted 2 8 (LeastSigned (λ y. HeldInteger c.args.set y)))) z c.args.bits.now c.number_among.new.bits) (sym c.offset_of.ensures) (lead.done n c.number_among.new.bits c.in_ok-number.ensures.done)

@@ -1,12 +1,12 @@
 -- The fewest octets of a number, under their general length, are one number in bits.
-use Rattle.std.proofs.Common.{◌≡◌, ◌<◌, ◌+◌, ◌*◌, ◌/◌, ◌%◌, ◌^◌, ℕ, ℤ, List, [], ◌∷◌, ◌++◌, length, map, take, inl, inr, refl, sym, ◌∙◌, ap, arith}
+use Rattle.std.proofs.Common.{◌≡◌, ◌<◌, ◌*◌, ◌/◌, ◌%◌, ◌^◌, ℕ, ℤ, List, [], ◌∷◌, ◌++◌, length, map, take, inl, inr, refl, sym, ◌∙◌, ap, arith}
 use Rattle.std.proofs.lemmas.List.{append-nil, length-map}
 use Rattle.std.proofs.Math.Seq.{take-length}
 use Rattle.asn_bits.specs.Numbers.{bits, octets, octet_count, least, unpacked, signed_octets, signed_octet_count, least_signed}
 use Rattle.asn_bits.specs.Lengths.{last_length, lengths_within, lengths, joined, with_lengths, general_octets}
 use Rattle.asn_bits.proofs.GeneralLengths.{last_cases, map_same}
 use Rattle.asn_bits.proofs.Octets.{length-digits}
-use Rattle.asn_bits.proofs.Splits.{digits-join, unpacked-octets}
+use Rattle.asn_bits.proofs.Splits.{unpacked-octets}
 
 -- a length below 128 is the length in eight bits
 short_length : (n : ℕ) → n < 128 → (last_length n).bits ≡ bits 8 n
@@ -36,20 +36,17 @@ general_short os h =
     ∙ ap (λ t. t ++ (joined (take (length items) items) ++ [])) front ∙ ap (λ t. bits 8 (length os) ++ t) all
 
 -- the count in eight bits, and a number in eight bits an octet
-pub general_counted : (os : List ℕ) (n k j : ℕ) → os ≡ octets k n → n < 2 ^ (8 * k) → k < 128 → j ≡ k * 2 ^ (8 * k) + n → general_octets (λ u. u) os ≡ bits (8 * k + 8) j
-general_counted os n k j o h few i =
+pub general_counted : (os : List ℕ) (n k : ℕ) → os ≡ octets k n → k < 128 → general_octets (λ u. u) os ≡ bits 8 k ++ bits (8 * k) n
+general_counted os n k o few =
     let c : length os ≡ k = ap length o ∙ length-digits 256 k n in
     let front : bits 8 (length os) ≡ bits 8 k = ap (bits 8) c in
     let back : unpacked os ≡ bits (8 * k) n = ap unpacked o ∙ unpacked-octets k n in
-    let sum : 8 + 8 * k ≡ 8 * k + 8 = omega arith in
-    let two : 0 < 2 = omega arith in
     general_short os (omega arith) ∙ ap (λ t. t ++ unpacked os) front ∙ ap (λ t. bits 8 k ++ t) back
-    ∙ digits-join 2 two 8 (8 * k) k n h ∙ ap (λ t. bits t (k * 2 ^ (8 * k) + n)) sum ∙ ap (bits (8 * k + 8)) (sym i)
 
 -- a number from 0 on
-pub general_least : (n k j : ℕ) → n < 2 ^ (8 * k) → k < 128 → k ≡ octet_count n → j ≡ k * 2 ^ (8 * k) + n → general_octets (λ u. u) (least n) ≡ bits (8 * k + 8) j
-general_least n k j h few e i = general_counted (least n) n k j (ap (λ t. octets t n) (sym e)) h few i
+pub general_least : (n k : ℕ) → k < 128 → k ≡ octet_count n → general_octets (λ u. u) (least n) ≡ bits 8 k ++ bits (8 * k) n
+general_least n k few e = general_counted (least n) n k (ap (λ t. octets t n) (sym e)) few
 
 -- an integer in two's complement
-pub general_signed : (z : ℤ) (n k j : ℕ) → signed_octets k z ≡ octets k n → n < 2 ^ (8 * k) → k < 128 → k ≡ signed_octet_count z → j ≡ k * 2 ^ (8 * k) + n → general_octets (λ u. u) (least_signed z) ≡ bits (8 * k + 8) j
-general_signed z n k j o h few e i = general_counted (least_signed z) n k j (ap (λ t. signed_octets t z) (sym e) ∙ o) h few i
+pub general_signed : (z : ℤ) (n k : ℕ) → signed_octets k z ≡ octets k n → k < 128 → k ≡ signed_octet_count z → general_octets (λ u. u) (least_signed z) ≡ bits 8 k ++ bits (8 * k) n
+general_signed z n k o few e = general_counted (least_signed z) n k (ap (λ t. signed_octets t z) (sym e) ∙ o) few

@@ -1,20 +1,26 @@
 -- Octets moved by fewer bits than an octet has: what is added and what is left over are what there was.
 use Rattle.std.proofs.Common.{◌≡◌, ◌<◌, ◌≤◌, ◌+◌, ◌-◌, ◌*◌, ◌/◌, ◌%◌, ◌^◌, ℕ, suc, List, [], ◌∷◌, ◌++◌, length, take, drop, get_or, refl, sym, ◌∙◌, ap, subst, arith, append_assoc, length-append}
 use Rattle.std.proofs.lemmas.List.{append-nil, length-take-le, take-append-drop, drop-drop}
+use Rattle.std.proofs.lemmas.Nat.{mod-mul-add}
 use Rattle.std.proofs.Math.Seq.{drop-append_seam}
 use Rattle.std.specs.List.{AllByRecursion}
 use Rattle.asn_bits.specs.Numbers.{bits, octets, unpacked}
 use Rattle.asn_bits.specs.Moves.{Shifted, Taken}
 use Rattle.asn_bits.proofs.Octets.{all_octets, length-digits}
-use Rattle.asn_bits.proofs.Packing.{bits_low, unpacked_whole}
-use Rattle.asn_bits.proofs.Reading.{field_passed, take_below, drop-unpacked, length-left}
-use Rattle.asn_bits.proofs.Splits.{unpacked-append, length-unpacked, unpacked-octets, appended}
+use Rattle.asn_bits.proofs.Packing.{bits_low}
+use Rattle.asn_bits.proofs.Reading.{field_passed, take_below, drop-unpacked}
+use Rattle.asn_bits.proofs.Splits.{digits-mod, unpacked-append, length-unpacked, unpacked-octets, appended}
 use Rattle.asn_bits.proofs.Utf8.{append_octets}
 
 -- each item of a list of octets
 each_octet : (os : List ℕ) → ((i : ℕ) → get_or os i 0 < 256) → AllByRecursion (λ o. o < 256) os
 each_octet [] h = tt
 each_octet (o ∷ os) h = (h 0, each_octet os (λ i. h (suc i)))
+
+-- and of its end
+pub range_behind : (xs os : List ℕ) → ((i : ℕ) → get_or (xs ++ os) i 0 < 256) → (i : ℕ) → get_or os i 0 < 256
+range_behind [] os h i = h i
+range_behind (x ∷ xs) os h i = range_behind xs os (λ j. h (suc j)) i
 
 -- nothing is added yet
 pub shifted_none : (old : List ℕ) (c p : ℕ) → Shifted old old [] c p p
@@ -43,17 +49,54 @@ pub shifted_octet : (old new from : List ℕ) (c p w o b : ℕ) → Shifted old 
     → Shifted old (new ++ b ∷ []) (from ++ o ∷ []) c p o
 shifted_octet old new from c p w o b h less few e =
     let j = w * 2 ^ 8 + o in
-    let last : bits c o ≡ bits c j = ap (bits c) (omega arith) ∙ bits_low c j few in
+    let last : bits c o ≡ bits c j = ap (bits c) (omega arith) ∙ bits_low c 8 j (omega arith) in
     let here : octets 1 (j / 2 ^ c) ≡ b ∷ [] = ap (λ t. t ∷ []) (omega arith) in
     let there : octets 1 o ≡ o ∷ [] = ap (λ t. t ∷ []) (omega arith) in
     subst (λ t. Shifted old (new ++ t) (from ++ o ∷ []) c p o) here
     (subst (λ t. Shifted old (new ++ octets 1 (j / 2 ^ c)) (from ++ t) c p o) there (shifted_more old new from c p w 1 o j o h (omega arith) (omega arith) last))
 
--- ---- taken from a cursor
+-- all octets, those that were shifted and the rest
+pub record Begun (old new all rest : List ℕ) (c p w : ℕ) : Type 0 where
+  pub from : List ℕ
+  pub shifted : Shifted old new from c p w
+  pub parts : all ≡ from ++ rest
 
--- n octets of the bits left end where the octets below have not ended
-pub octets_there : (os s : List ℕ) (f n : ℕ) → drop f (unpacked os) ≡ s → f ≤ 8 * length os → 8 * n ≤ length s → 8 * n + f ≤ 8 * length os
-octets_there os s f n e h l = let m : length s ≡ 8 * length os - f = ap length (sym e) ∙ length-left os f in omega arith
+pub begun_none : (old all : List ℕ) (c p : ℕ) → Begun old old all all c p p
+begun_none old all c p = record { from = []; shifted = shifted_none old c p; parts = refl }
+
+-- a word more
+pub begun_word : (old new next all rest eight behind : List ℕ) (c p w n b : ℕ) → Begun old new all rest c p w → c < 8 → rest ≡ eight ++ behind → octets 8 n ≡ eight → n < 2 ^ 64
+    → b ≡ (w * 2 ^ 64 + n) / 2 ^ c % 2 ^ 64 → next ≡ new ++ octets 8 b → Begun old next all behind c p n
+begun_word old new next all rest eight behind c p w n b h few e i less word g =
+    let j = w * 2 ^ 64 + n in
+    let last : bits c n ≡ bits c j = ap (bits c) (sym (mod-mul-add w (2 ^ 64) n less)) ∙ bits_low c 64 j (omega arith) in
+    let out : octets 8 (j / 2 ^ c) ≡ octets 8 b = sym (ap (octets 8) word ∙ digits-mod 256 (omega arith) 8 (j / 2 ^ c)) in
+    let more = shifted_more old new h.from c p w 8 n j n h.shifted less refl last in
+    record {
+      from = h.from ++ eight;
+      shifted =
+          subst (λ t. Shifted old t (h.from ++ eight) c p n) (ap (λ t. new ++ t) out ∙ sym g)
+          (subst (λ t. Shifted old (new ++ octets 8 (j / 2 ^ c)) (h.from ++ t) c p n) i more);
+      parts = h.parts ∙ ap (λ t. h.from ++ t) e ∙ sym (append_assoc h.from eight behind);
+    }
+
+-- the rest behind what was shifted
+pub begun_all : (old mid new all rest : List ℕ) (c p w v : ℕ) → Begun old mid all rest c p w → Shifted mid new rest c w v → Shifted old new all c p v
+begun_all old mid new all rest c p w v h t =
+    let s = h.shifted in
+    record {
+      octets = s.octets ++ t.octets;
+      added = t.added ∙ ap (λ i. i ++ t.octets) s.added ∙ append_assoc old s.octets t.octets;
+      count = length-append s.octets t.octets ∙ omega (arith, s.count, t.count) ∙ sym (ap length h.parts ∙ length-append h.from rest);
+      each = append_octets s.octets t.octets s.each t.each;
+      same =
+          ap (λ i. i ++ bits c v) (unpacked-append s.octets t.octets) ∙ append_assoc (unpacked s.octets) (unpacked t.octets) (bits c v)
+          ∙ ap (λ i. unpacked s.octets ++ i) t.same ∙ sym (append_assoc (unpacked s.octets) (bits c w) (unpacked rest))
+          ∙ ap (λ i. i ++ unpacked rest) s.same ∙ append_assoc (bits c p) (unpacked h.from) (unpacked rest)
+          ∙ ap (λ i. bits c p ++ i) (sym (ap unpacked h.parts ∙ unpacked-append h.from rest));
+    }
+
+-- ---- taken from a cursor
 
 -- behind n octets of the bits stands what the cursor then holds
 taken_seam : (os taken rest : List ℕ) (f n : ℕ) → drop f (unpacked os) ≡ unpacked taken ++ rest → length taken ≡ n
@@ -107,7 +150,3 @@ pub pushed_shifted : (old new from : List ℕ) (c p w : ℕ) → Shifted old new
 pushed_shifted old new from c p w h =
     ap (λ t. unpacked t ++ bits c w) h.added ∙ ap (λ t. t ++ bits c w) (unpacked-append old h.octets) ∙ append_assoc (unpacked old) (unpacked h.octets) (bits c w)
     ∙ ap (λ t. unpacked old ++ t) h.same ∙ sym (append_assoc (unpacked old) (bits c p) (unpacked from))
-
-pub pushed_whole : (old new from : List ℕ) (c p : ℕ) → c ≡ 0 → new ≡ old ++ from → unpacked new ++ bits c p ≡ (unpacked old ++ bits c p) ++ unpacked from
-pushed_whole old new from c p z e =
-    unpacked_whole new c p z ∙ ap unpacked e ∙ unpacked-append old from ∙ ap (λ t. t ++ unpacked from) (sym (unpacked_whole old c p z))

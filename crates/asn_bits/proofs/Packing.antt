@@ -1,19 +1,25 @@
--- Octets and the fewer than eight bits behind them, as a sink holds them.
-use Rattle.std.proofs.Common.{◌≡◌, ◌<◌, ◌+◌, ◌*◌, ◌-◌, ◌/◌, ◌%◌, ◌^◌, ℕ, zero, suc, List, [], ◌∷◌, ◌++◌, length, get_or, replicate, refl, sym, ◌∙◌, ap, arith, length-append}
+-- Octets and the fewer than 64 bits behind them, as a sink holds them.
+use Rattle.std.proofs.Common.{◌≡◌, ◌<◌, ◌≤◌, ◌+◌, ◌*◌, ◌-◌, ◌/◌, ◌%◌, ◌^◌, ℕ, zero, suc, List, [], ◌∷◌, ◌++◌, length, get_or, replicate, refl, sym, ◌∙◌, ap, arith, append_assoc, mul_assoc, mul_comm, length-append}
 use Rattle.std.proofs.lemmas.List.{append-nil}
-use Rattle.std.proofs.lemmas.Nat.{shr-shr}
-use Rattle.std.proofs.Math.Nat.{zero-div}
+use Rattle.std.proofs.lemmas.Nat.{shr-shr, shr_below, pow-add, mul-add-lt, mod-mul-add, div-add-mod'}
+use Rattle.std.proofs.Math.Nat.{zero-div, one-le-pow, mod-lt, mul-lt-mul_of_pos_right, add-mul, add-mul-div_left}
 use Rattle.std.proofs.Math.Pow.{mod-mod-pow}
 use Rattle.asn_bits.specs.Numbers.{bits, octets, unpacked, packed, padding}
 use Rattle.asn_bits.proofs.Octets.{length-digits}
-use Rattle.asn_bits.proofs.Splits.{length-unpacked, digits-add, digits-mod, appended}
+use Rattle.asn_bits.proofs.Splits.{length-unpacked, digits-add, digits-join, digits-mod, unpacked-append, unpacked-octets, appended}
 
 pub length-unpacked_bits : (os : List ℕ) (c p : ℕ) → length (unpacked os ++ bits c p) ≡ 8 * length os + c
 length-unpacked_bits os c p = omega (arith, length-append (unpacked os) (bits c p), length-unpacked os, length-digits 2 c p)
 
--- where the bits fill octets, none waits
-pub none_waits : (os : List ℕ) (c p : ℕ) → c < 8 → length (unpacked os ++ bits c p) % 8 ≡ 0 → c ≡ 0
-none_waits os c p h e = omega (arith, length-unpacked_bits os c p)
+-- where the bits fill octets, those that wait do
+pub octets_wait : (os : List ℕ) (c p : ℕ) → length (unpacked os ++ bits c p) % 8 ≡ 0 → c % 8 ≡ 0
+octets_wait os c p e = omega (arith, length-unpacked_bits os c p)
+
+-- the octets that wait go behind the others
+pub waiting_out : (os new : List ℕ) (c p : ℕ) → c % 8 ≡ 0 → new ≡ os ++ octets (c / 8) p → unpacked new ≡ unpacked os ++ bits c p
+waiting_out os new c p z e =
+    let all : 8 * (c / 8) ≡ c = omega arith in
+    ap unpacked e ∙ unpacked-append os (octets (c / 8) p) ∙ ap (λ t. unpacked os ++ t) (unpacked-octets (c / 8) p ∙ ap (λ i. bits i p) all)
 
 pub unpacked_whole : (os : List ℕ) (c p : ℕ) → c ≡ 0 → unpacked os ++ bits c p ≡ unpacked os
 unpacked_whole os c p e = ap (λ i. unpacked os ++ bits i p) e ∙ append-nil (unpacked os)
@@ -29,9 +35,6 @@ packed-unpacked (o ∷ os) h =
     let rest = packed-unpacked os (λ i d l. h (suc i) d (omega arith)) in
     let one = octet_of o first in
     cc
-
-pub packed_view : (os : List ℕ) (c p : ℕ) → ((i d : ℕ) → i < length os → get_or os i d < 256) → c ≡ 0 → packed (unpacked os ++ bits c p) ≡ os
-packed_view os c p h e = ap packed (unpacked_whole os c p e) ∙ packed-unpacked os h
 
 -- no bits are no octets and none that waits
 pub empty_view : (os : List ℕ) (c p : ℕ) → unpacked os ++ bits c p ≡ [] → (length os ≡ 0) × (c ≡ 0)
@@ -49,19 +52,18 @@ bits_zero zero = refl
 bits_zero (suc k) = let z : 0 / 2 ^ k % 2 ≡ 0 = ap (λ t. t % 2) (zero-div (2 ^ k)) in let rest = bits_zero k in cc
 
 -- the padding of c bits behind octets
-pub padding_view : (os : List ℕ) (c p : ℕ) → c < 8 → padding (length (unpacked os ++ bits c p)) ≡ bits ((8 - c) % 8) 0
-padding_view os c p h =
-    let e : (8 - length (unpacked os ++ bits c p) % 8) % 8 ≡ (8 - c) % 8 = omega (arith, length-unpacked_bits os c p) in
-    let f : padding (length (unpacked os ++ bits c p)) ≡ replicate ((8 - c) % 8) 0 = ap (λ k. replicate k 0) e in
-    f ∙ sym (bits_zero ((8 - c) % 8))
+pub padding_view : (os : List ℕ) (c p : ℕ) → padding (length (unpacked os ++ bits c p)) ≡ bits ((8 - c % 8) % 8) 0
+padding_view os c p =
+    let e : (8 - length (unpacked os ++ bits c p) % 8) % 8 ≡ (8 - c % 8) % 8 = omega (arith, length-unpacked_bits os c p) in
+    let f : padding (length (unpacked os ++ bits c p)) ≡ replicate ((8 - c % 8) % 8) 0 = ap (λ k. replicate k 0) e in
+    f ∙ sym (bits_zero ((8 - c % 8) % 8))
 
--- what an octet's worth of a number keeps of its last bits
-pub bits_low : (l n : ℕ) → l < 8 → bits l (n % 256) ≡ bits l n
-bits_low l n h =
-    let eight : 8 - l + l ≡ 8 = omega arith in
-    let e : 2 ^ (8 - l + l) ≡ 256 = ap (λ i. 2 ^ i) eight in
-    let f : n % 256 % 2 ^ l ≡ n % 2 ^ l = ap (λ t. n % t % 2 ^ l) (sym e) ∙ mod-mod-pow n (8 - l) l in
-    sym (digits-mod 2 (omega arith) l (n % 256)) ∙ ap (bits l) f ∙ digits-mod 2 (omega arith) l n
+-- what m bits of a number keep of its last ones
+pub bits_low : (l m n : ℕ) → l ≤ m → bits l (n % 2 ^ m) ≡ bits l n
+bits_low l m n h =
+    let e : 2 ^ m ≡ 2 ^ (m - l + l) = ap (λ i. 2 ^ i) (omega arith) in
+    let f : n % 2 ^ m % 2 ^ l ≡ n % 2 ^ l = ap (λ t. n % t % 2 ^ l) e ∙ mod-mod-pow n (m - l) l in
+    sym (digits-mod 2 (omega arith) l (n % 2 ^ m)) ∙ ap (bits l) f ∙ digits-mod 2 (omega arith) l n
 
 -- one octet more of those of a number
 pub octets_more : (i b n : ℕ) → octets (i + 1) (n / 2 ^ b) ≡ octets i (n / 2 ^ (b + 8)) ++ n / 2 ^ b % 256 ∷ []
@@ -69,9 +71,81 @@ octets_more i b n =
     let one : octets 1 (n / 2 ^ b) ≡ n / 2 ^ b % 256 ∷ [] = ap (λ t. t ∷ []) (omega arith) in
     digits-add 256 i 1 (n / 2 ^ b) ∙ ap (λ t. octets i t ++ octets 1 (n / 2 ^ b)) (shr-shr n b 8) ∙ ap (λ t. octets i (n / 2 ^ (b + 8)) ++ t) one
 
--- what a sink holds once n stands in k bits behind the c bits that waited: w octets more, and l bits wait
-pub appended_view : (os new : List ℕ) (c p k n w l j low : ℕ) → n < 2 ^ k → 8 * w + l ≡ c + k → l < 8 → j ≡ p * 2 ^ k + n → low ≡ j % 256
-    → new ≡ os ++ octets w (j / 2 ^ l) → unpacked new ++ bits l low ≡ (unpacked os ++ bits c p) ++ bits k n
-appended_view os new c p k n w l j low h e less i m g =
-    ap (λ t. unpacked t ++ bits l low) g ∙ ap (λ t. unpacked (os ++ octets w (j / 2 ^ l)) ++ t) (ap (bits l) m ∙ bits_low l j less)
-    ∙ appended os c p k n w l j h e i
+-- of a number shifted by k bits a word keeps the first ones
+pub shifted_out : (p k w : ℕ) → k ≤ w → p * 2 ^ k % 2 ^ w ≡ p % 2 ^ (w - k) * 2 ^ k
+shifted_out p k w h =
+    let m = w - k in
+    let q = p / 2 ^ m in
+    let r = p % 2 ^ m in
+    let e : 2 ^ w ≡ 2 ^ m * 2 ^ k = ap (λ i. 2 ^ i) (omega arith) ∙ pow-add 2 m k in
+    let two : 0 < 2 = omega arith in
+    let less : r * 2 ^ k < 2 ^ m * 2 ^ k = mul-lt-mul_of_pos_right (mod-lt p (one-le-pow m 2 two)) (one-le-pow k 2 two) in
+    let parts : p * 2 ^ k ≡ q * (2 ^ m * 2 ^ k) + r * 2 ^ k =
+    ap (λ t. t * 2 ^ k) (sym (div-add-mod' p (2 ^ m))) ∙ add-mul (q * 2 ^ m) r (2 ^ k) ∙ ap (λ t. t + r * 2 ^ k) (mul_assoc q (2 ^ m) (2 ^ k)) in
+    ap (λ t. p * 2 ^ k % t) e ∙ ap (λ t. t % (2 ^ m * 2 ^ k)) parts ∙ mod-mul-add q (2 ^ m * 2 ^ k) (r * 2 ^ k) less
+
+-- the bits above the last l of two numbers one behind the other
+pub above_last : (k n l : ℕ) → n < 2 ^ k → l ≤ k → n / 2 ^ l < 2 ^ (k - l)
+above_last k n l h less =
+    let e : 2 ^ k ≡ 2 ^ (k - l + l) = ap (λ i. 2 ^ i) (omega arith) in
+    shr_below n (k - l) l (omega (arith, e))
+
+pub middle_is : (h k n l : ℕ) → n < 2 ^ k → l ≤ k → k ≤ 64 + l → h * 2 ^ (k - l) % 2 ^ 64 + n / 2 ^ l ≡ (h * 2 ^ k + n) / 2 ^ l % 2 ^ 64
+middle_is h k n l fits less few =
+    let m = k - l in
+    let b = n / 2 ^ l in
+    let x = h * 2 ^ m % 2 ^ 64 in
+    let r = h % 2 ^ (64 - m) in
+    let two : 0 < 2 = omega arith in
+    let split : k ≡ m + l = omega arith in
+    let up : h * 2 ^ k ≡ h * 2 ^ m * 2 ^ l = ap (λ t. h * t) (ap (λ i. 2 ^ i) split ∙ pow-add 2 m l) ∙ sym (mul_assoc h (2 ^ m) (2 ^ l)) in
+    let order : h * 2 ^ k + n ≡ n + 2 ^ l * (h * 2 ^ m) = omega (arith, up, mul_comm (h * 2 ^ m) (2 ^ l)) in
+    let quotient : (h * 2 ^ k + n) / 2 ^ l ≡ b + h * 2 ^ m = ap (λ t. t / 2 ^ l) order ∙ add-mul-div_left n (h * 2 ^ m) (one-le-pow l 2 two) in
+    let whole : m + (64 - m) ≡ 64 = omega arith in
+    let all : 2 ^ m * 2 ^ (64 - m) ≡ 2 ^ 64 = sym (pow-add 2 m (64 - m)) ∙ ap (λ i. 2 ^ i) whole in
+    let sum : r * 2 ^ m + b < 2 ^ m * 2 ^ (64 - m) = mul-add-lt r (2 ^ m) b (2 ^ (64 - m)) (mod-lt h (one-le-pow (64 - m) 2 two)) (above_last k n l fits less) in
+    let small : x + b < 2 ^ 64 = omega (arith, sum, all, shifted_out h m 64 (omega arith)) in
+    let parts : b + h * 2 ^ m ≡ h * 2 ^ m / 2 ^ 64 * 2 ^ 64 + (x + b) = omega (arith, div-add-mod' (h * 2 ^ m) (2 ^ 64)) in
+    sym (ap (λ t. t % 2 ^ 64) (quotient ∙ parts) ∙ mod-mul-add (h * 2 ^ m / 2 ^ 64) (2 ^ 64) (x + b) small)
+
+-- what a sink holds once n stands in k bits behind the c bits that waited, and all of them wait
+pub waiting_view : (os : List ℕ) (c p k n j : ℕ) → n < 2 ^ k → c + k ≤ 64 → j ≡ p * 2 ^ k % 2 ^ 64 + n → unpacked os ++ bits (c + k) j ≡ (unpacked os ++ bits c p) ++ bits k n
+waiting_view os c p k n j h few e =
+    let r = p % 2 ^ (64 - k) in
+    let i : j ≡ r * 2 ^ k + n = e ∙ ap (λ t. t + n) (shifted_out p k 64 (omega arith)) in
+    let low : bits c r ≡ bits c p = bits_low c (64 - k) p (omega arith) in
+    let both : bits (c + k) j ≡ bits c p ++ bits k n =
+    ap (bits (c + k)) i ∙ sym (digits-join 2 (omega arith) c k r n h) ∙ ap (λ t. t ++ bits k n) low in
+    ap (λ t. unpacked os ++ t) both ∙ sym (append_assoc (unpacked os) (bits c p) (bits k n))
+
+-- and once a word of them went out, where the last of the new ones wait
+pub word_view : (os new : List ℕ) (c p k n l w : ℕ) → n < 2 ^ k → 64 + l ≡ c + k → l ≤ k → w ≡ (p * 2 ^ k + n) / 2 ^ l % 2 ^ 64 → new ≡ os ++ octets 8 w
+    → unpacked new ++ bits l n ≡ (unpacked os ++ bits c p) ++ bits k n
+word_view os new c p k n l w h all less e g =
+    let j = p * 2 ^ k + n in
+    let word : octets 8 w ≡ octets 8 (j / 2 ^ l) = ap (octets 8) e ∙ digits-mod 256 (omega arith) 8 (j / 2 ^ l) in
+    let low : bits l n ≡ bits l j = ap (bits l) (sym (mod-mul-add p (2 ^ k) n h)) ∙ bits_low l k j less in
+    ap (λ t. unpacked t ++ bits l n) g ∙ ap (λ t. unpacked (os ++ t) ++ bits l n) word ∙ ap (λ t. unpacked (os ++ octets 8 (j / 2 ^ l)) ++ t) low
+    ∙ appended os c p k n 8 l j h all refl
+
+-- the octets of those that wait, and what is left of them
+pub octets_out : (os new : List ℕ) (c p : ℕ) → new ≡ os ++ octets (c / 8) (p / 2 ^ (c % 8)) → unpacked new ++ bits (c % 8) p ≡ unpacked os ++ bits c p
+octets_out os new c p e =
+    let l = c % 8 in
+    let all : 8 * (c / 8) + l ≡ c = omega arith in
+    ap (λ t. unpacked t ++ bits l p) e ∙ ap (λ t. t ++ bits l p) (unpacked-append os (octets (c / 8) (p / 2 ^ l)))
+    ∙ append_assoc (unpacked os) (unpacked (octets (c / 8) (p / 2 ^ l))) (bits l p)
+    ∙ ap (λ t. unpacked os ++ t) (ap (λ t. t ++ bits l p) (unpacked-octets (c / 8) (p / 2 ^ l)) ∙ sym (digits-add 2 (8 * (c / 8)) l p) ∙ ap (λ i. bits i p) all)
+
+-- behind whole octets
+pub whole_behind : (os new from : List ℕ) (c p : ℕ) → c ≡ 0 → new ≡ os ++ from → unpacked new ++ bits c p ≡ (unpacked os ++ bits c p) ++ unpacked from
+whole_behind os new from c p z e =
+    unpacked_whole new c p z ∙ ap unpacked e ∙ unpacked-append os from ∙ ap (λ t. t ++ unpacked from) (sym (unpacked_whole os c p z))
+
+-- where none waited, a word of new ones goes out
+pub word_alone : (os new : List ℕ) (c p k n l : ℕ) → c ≡ 0 → 64 + l ≡ c + k → k ≤ 64 → new ≡ os ++ octets 8 n → unpacked new ++ bits l n ≡ (unpacked os ++ bits c p) ++ bits k n
+word_alone os new c p k n l z all few e =
+    let none : l ≡ 0 = omega arith in
+    let word : 8 * 8 ≡ k = omega arith in
+    unpacked_whole new l n none ∙ ap unpacked e ∙ unpacked-append os (octets 8 n) ∙ ap (λ t. unpacked os ++ t) (unpacked-octets 8 n ∙ ap (λ i. bits i n) word)
+    ∙ ap (λ t. t ++ bits k n) (sym (unpacked_whole os c p z))

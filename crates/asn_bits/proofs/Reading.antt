@@ -2,7 +2,8 @@
 use Rattle.std.proofs.Common.{◌≡◌, ◌≤◌, ◌<◌, ◌+◌, ◌-◌, ◌*◌, ◌/◌, ◌%◌, ◌^◌, ℕ, zero, suc, List, [], ◌∷◌, ◌++◌, length, take, drop, get_or, sym, ◌∙◌, ap, subst, arith, append_assoc, length-drop}
 use Rattle.std.proofs.lemmas.List.{take-append-drop, take_more, get_or-drop, length-take-le}
 use Rattle.std.proofs.Math.Seq.{drop-nil, drop-append-add, drop-append_seam, take-length}
-use Rattle.std.proofs.lemmas.Nat.{be_bytes_8}
+use Rattle.std.proofs.lemmas.Nat.{be_bytes_8, div-mul-add, pow-add}
+use Rattle.std.proofs.Math.Nat.{add-mul, one-le-pow}
 use Rattle.std.specs.Int.{w64, from_be_bytes}
 use Rattle.asn_bits.specs.Numbers.{bits, octets, unpacked}
 use Rattle.asn_bits.specs.Sets.{AreBits}
@@ -137,6 +138,21 @@ bits_passed os w l n e =
     ap (λ i. drop i (unpacked os)) e ∙ drop-unpacked w l os
     ∙ ap (λ t. drop l (unpacked t)) (sym (ap (λ i. take i (drop w os)) all ∙ take-length (drop w os)))
 
--- so many bits are left as whole octets hold
-pub enough_left : (os : List ℕ) (f k : ℕ) → f ≤ 8 * length os → length (drop f (unpacked os)) < k → 8 * length os < f + k
-enough_left os f k h l = omega (arith, length-left os f)
+-- bits that are left end where the octets below have not ended
+pub bits_there : (os s : List ℕ) (f k : ℕ) → drop f (unpacked os) ≡ s → f ≤ 8 * length os → k ≤ length s → f + k ≤ 8 * length os
+bits_there os s f k e h l = let m : length s ≡ 8 * length os - f = ap length (sym e) ∙ length-left os f in omega arith
+
+-- the first k ones of a word of ones
+pub word_mask : (k : ℕ) → k ≤ 64 → 18446744073709551615 / 2 ^ (64 - k) ≡ 2 ^ k - 1
+word_mask k h =
+    let p = 2 ^ (64 - k) in
+    let t = 2 ^ k - 1 in
+    let two : 0 < 2 = omega arith in
+    let up : 0 < 2 ^ k = one-le-pow k 2 two in
+    let some : 0 < p = one-le-pow (64 - k) 2 two in
+    let whole : k + (64 - k) ≡ 64 = omega arith in
+    let all : 2 ^ k * p ≡ 2 ^ 64 = sym (pow-add 2 k (64 - k)) ∙ ap (λ i. 2 ^ i) whole in
+    let one : 2 ^ k ≡ t + 1 = omega arith in
+    let parts : 2 ^ k * p ≡ t * p + 1 * p = ap (λ x. x * p) one ∙ add-mul t 1 p in
+    let sum : 18446744073709551615 ≡ t * p + (p - 1) = omega (arith, all, parts) in
+    ap (λ x. x / p) sum ∙ div-mul-add t p (p - 1) (omega arith)

@@ -91,14 +91,14 @@ impl<'a> BitCursor<'a> {
         Some(bit_at(*first, offset))
     }
 
-    /// The number in the next `k` bits, the highest first. `None` exactly where fewer than `k`
-    /// bits are left, and then all of them stay.
-    pub fn take_number(&mut self, k: u32) -> Option<u64>
+    /// The number in the next `k` bits, the highest first; they stay. `None` exactly where fewer than `k`
+    /// bits are left.
+    #[inline(always)]
+    pub fn peek_number(&self, k: u32) -> Option<u64>
         requires { k ≤ 64 }
         ensures fits { IfSome result (λ n. n < 2 ^ k) }
-        ensures some { IfSome result (λ n. self.old ≡ bits k n ++ self.new) }
-        ensures none { IsNone result ↔ (length self.old < k) }
-        ensures unchanged { length self.old < k → self.new ≡ self.old }
+        ensures some { IfSome result (λ n. self.now ≡ bits k n ++ drop k self.now) }
+        ensures none { IsNone result ↔ (length self.now < k) }
     {
         let octets = self.octets;
         let offset = self.offset;
@@ -106,9 +106,34 @@ impl<'a> BitCursor<'a> {
         if octets.len() < ((end + 7) / 8) as usize {
             return None;
         }
-        let n = number_at(octets, offset, k);
+        Some(number_at(octets, offset, k))
+    }
+
+    /// Passes the next `k` bits. So many have to be left.
+    #[inline(always)]
+    pub fn pass(&mut self, k: u32)
+        requires few { k ≤ 64 }
+        requires there { k ≤ length self.old }
+        ensures { self.new ≡ drop k self.old }
+    {
+        let octets = self.octets;
+        let end = self.offset + k;
         self.octets = &octets[(end / 8) as usize..];
         self.offset = end % 8;
+    }
+
+    /// The number in the next `k` bits, the highest first. `None` exactly where fewer than `k`
+    /// bits are left, and then all of them stay.
+    #[inline(always)]
+    pub fn take_number(&mut self, k: u32) -> Option<u64>
+        requires { k ≤ 64 }
+        ensures fits { IfSome result (λ n. n < 2 ^ k) }
+        ensures some { IfSome result (λ n. self.old ≡ bits k n ++ self.new) }
+        ensures none { IsNone result ↔ (length self.old < k) }
+        ensures unchanged { length self.old < k → self.new ≡ self.old }
+    {
+        let n = self.peek_number(k)?;
+        self.pass(k);
         Some(n)
     }
 
@@ -136,6 +161,7 @@ fn bit_at(octet: u8, offset: u32) -> u8
 }
 
 // the number in the k bits behind the first `offset`
+#[inline(always)]
 fn number_at(octets: &[u8], offset: u32, k: u32) -> u64
     requires begun { offset < 8 }
     requires few { k ≤ 64 }
@@ -145,17 +171,31 @@ fn number_at(octets: &[u8], offset: u32, k: u32) -> u64
 {
     let end = offset + k;
     if let Some((eight, rest)) = octets.split_first_chunk::<8>() {
+        let front = u64::from_be_bytes(*eight);
+        if k > 0 && end <= 64 {
+            return field(front, 64 - end, k);
+        }
         if let Some(ninth) = rest.first() {
-            let front = u64::from_be_bytes(*eight) as u128 * 256 + *ninth as u128;
-            return field(front, 72 - end, k);
+            let nine = front as u128 * 256 + *ninth as u128;
+            return wide_field(nine, 72 - end, k);
         }
     }
     let count = (end + 7) / 8;
-    field(joined(&octets[..count as usize]), 8 * count - end, k)
+    wide_field(joined(&octets[..count as usize]), 8 * count - end, k)
 }
 
 // the k bits of n above the last `below`
-fn field(n: u128, below: u32, k: u32) -> u64
+fn field(n: u64, below: u32, k: u32) -> u64
+    requires within { below < 64 }
+    requires some { 0 < k }
+    requires few { k ≤ 64 }
+    ensures { result ≡ n / 2 ^ below % 2 ^ k }
+{
+    n >> below & u64::MAX >> (64 - k)
+}
+
+// the same of a number of more than 64 bits
+fn wide_field(n: u128, below: u32, k: u32) -> u64
     requires within { below < 128 }
     requires few { k ≤ 64 }
     ensures { result ≡ n / 2 ^ below % 2 ^ k }
@@ -165,6 +205,7 @@ fn field(n: u128, below: u32, k: u32) -> u64
 }
 
 // the number of up to nine octets
+#[inline(never)]
 fn joined(front: &[u8]) -> u128
     requires { length front.now ≤ 9 }
     ensures { octets (length front.now) result ≡ front.now }

@@ -5,7 +5,7 @@ ghost use Rattle.asn_bits.specs.Lengths.{general_octets};
 ghost use Rattle.asn_bits.specs.Numbers.{least, least_signed};
 
 use crate::numbers::{octet_count, signed_octet_count, signed_residue};
-use crate::sink::{BitSink, joined};
+use crate::sink::BitSink;
 use std::alloc::AllocError;
 
 impl BitSink {
@@ -16,7 +16,7 @@ impl BitSink {
         ensures err { OnErr result (self.new ≡ self.old) }
     {
         let count = octet_count(n);
-        self.append(8 * count + 8, joined(count as u8, 8 * count, n as u128))
+        self.append_both(8, count as u64, 8 * count, n)
     }
 
     /// Adds the fewest octets of two's complement of `z`, an integer of 64 signed bits, under their
@@ -30,9 +30,6 @@ impl BitSink {
     {
         let count = signed_octet_count(z);
         let residue = signed_residue(z, count);
-        self.append(
-            8 * count + 8,
-            joined(count as u8, 8 * count, residue as u128),
-        )
+        self.append_both(8, count as u64, 8 * count, residue)
     }
 }

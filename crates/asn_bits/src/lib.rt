@@ -2,6 +2,7 @@
 #![tactic(auto)]
 
 pub mod cursor;
+pub mod general_length;
 pub mod intervals;
 pub mod lengths;
 pub mod number_field;
@@ -9,8 +10,10 @@ pub mod numbers;
 pub mod offsets;
 mod shifts;
 pub mod sink;
+mod words;
 
 pub use cursor::BitCursor;
+pub use general_length::{Counts, Lengths};
 pub use intervals::Intervals;
 pub use number_field::{FieldState, NumberField};
 pub use sink::BitSink;

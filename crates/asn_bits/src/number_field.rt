@@ -9,7 +9,7 @@ use crate::cursor::BitCursor;
 use crate::intervals::Intervals;
 use std::marker::Model;
 
-/// What the bits that a [`NumberField`] was given say of its number.
+/// What the bits say that a [`NumberField`] or [`Lengths`](crate::Lengths) was given.
 #[derive(Clone, Copy, PartialEq, Eq, Debug)]
 pub enum FieldState {
     /// A number of the set begins with these bits, and bits of it are left.

@@ -1,8 +1,9 @@
 //! Whole octets, moved by fewer bits than an octet has.
-ghost use Rattle.std.specs.Prelude.{◌≡◌, ◌+◌, ◌*◌, ◌/◌, ◌%◌, ◌^◌, ◌<◌, ◌≤◌, length, drop, IfOk, OnOk, OnErr};
+ghost use Rattle.std.specs.Prelude.{◌≡◌, ◌+◌, ◌*◌, ◌/◌, ◌%◌, ◌^◌, ◌<◌, ◌≤◌, length, drop, OnOk, OnErr, vec_len, vec_capacity};
 ghost use Rattle.asn_bits.specs.Moves.{Shifted, Taken};
 ghost use Rattle.asn_bits.specs.Numbers.{unpacked};
 
+use crate::words::{low_octet, middle, push_word};
 use std::alloc::AllocError;
 
 // adds the octets that the bits behind the first `offset` begin with, `count` of them; an `Err` is out of
@@ -21,36 +22,45 @@ pub(crate) fn push_front(
     if offset == 0 {
         bytes.extend_from_slice(&octets[..count])?;
     } else {
-        push_shifted(bytes, 8 - offset, octets[0], &octets[1..count + 1])?;
+        bytes.reserve(count)?;
+        push_shifted(bytes, 8 - offset, octets[0] as u64, &octets[1..count + 1]);
     }
     Ok(())
 }
 
-// adds the octets of the low `count` bits of `pending` and of all of `octets` behind them, and gives what
-// is left over in its low `count` bits; an `Err` is out of memory, and then nothing has changed
-pub(crate) fn push_shifted(
-    bytes: &mut Vec<u8>,
-    count: u32,
-    pending: u8,
-    octets: &[u8],
-) -> Result<u8, AllocError>
-    requires { count < 8 }
-    ensures ok { IfOk result (λ left. Shifted bytes.old.items bytes.new.items octets.now count pending left) }
-    ensures err { OnErr result (bytes.new.items ≡ bytes.old.items) }
+// adds the octets of the low `count` bits of `pending` and of all of `octets` behind them, eight at once, and
+// gives what is left over in its low `count` bits
+pub(crate) fn push_shifted(bytes: &mut Vec<u8>, count: u32, pending: u64, octets: &[u8]) -> u64
+    requires few { (0 < count) × (count < 8) }
+    requires room { vec_len bytes.old + length octets.now ≤ vec_capacity bytes.old }
+    ensures shifted { Shifted bytes.old.items bytes.new.items octets.now count pending result }
+    ensures len { vec_len bytes.new ≡ vec_len bytes.old + length octets.now }
+    ensures capacity { vec_capacity bytes.old ≤ vec_capacity bytes.new }
 {
-    bytes.reserve(octets.len())?;
     let mut high = pending;
-    for octet in octets {
-        bytes.push_reserved(seam(high, *octet, count));
-        high = *octet;
+    let mut rest = octets;
+    while let Some((eight, behind)) = rest.split_first_chunk::<8>() {
+        let n = u64::from_be_bytes(*eight);
+        push_word(bytes, middle(high, 64, n, count));
+        high = n;
+        rest = behind;
     }
-    Ok(high)
+    push_single(bytes, count, high, rest)
 }
 
-// the octet above the last `count` bits of two octets
-fn seam(high: u8, low: u8, count: u32) -> u8
-    requires { count < 8 }
-    ensures { result ≡ (high * 2 ^ 8 + low) / 2 ^ count % 256 }
+// the same, one octet after the other
+fn push_single(bytes: &mut Vec<u8>, count: u32, pending: u64, octets: &[u8]) -> u64
+    requires few { (0 < count) × (count < 8) }
+    requires room { vec_len bytes.old + length octets.now ≤ vec_capacity bytes.old }
+    ensures shifted { Shifted bytes.old.items bytes.new.items octets.now count pending result }
+    ensures len { vec_len bytes.new ≡ vec_len bytes.old + length octets.now }
+    ensures capacity { vec_capacity bytes.old ≤ vec_capacity bytes.new }
 {
-    ((high as u32 * 256 + low as u32) >> count & 0xff) as u8
+    let mut high = pending;
+    for octet in octets {
+        let n = *octet as u64;
+        bytes.push_reserved(low_octet(middle(high, 8, n, count)));
+        high = n;
+    }
+    high
 }

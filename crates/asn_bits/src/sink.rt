@@ -1,20 +1,22 @@
 //! The bits that an encoder has made so far, packed into octets as they come.
-ghost use Rattle.std.specs.Prelude.{◌≡◌, ℕ, ◌+◌, ◌*◌, ◌/◌, ◌%◌, ◌^◌, ◌<◌, ◌≤◌, ◌↔◌, List, [], ◌∷◌, ◌++◌, length, OnOk, OnErr, IsTrue};
-ghost use Rattle.asn_bits.specs.Numbers.{bits, octets, packed, padding, unpacked};
+ghost use Rattle.std.specs.Prelude.{◌≡◌, ℕ, ◌+◌, ◌*◌, ◌/◌, ◌%◌, ◌^◌, ◌<◌, ◌≤◌, ◌↔◌, List, [], ◌∷◌, ◌++◌, length, OnOk, OnErr, IsTrue, vec_len, vec_capacity};
+ghost use Rattle.asn_bits.specs.Numbers.{bits, packed, padding, unpacked};
 ghost use Rattle.asn_bits.specs.Sink.{bit_of};
 
 use crate::shifts::push_shifted;
+use crate::words::{behind, middle, push_low, push_word};
 use std::alloc::{AllocError, Global};
 use std::marker::Model;
 
 /// Bits that wait to become octets. Contracts see the list of the bits pushed, each 0 or 1.
 ///
-/// Whole octets stand in a vector, and the fewer than eight bits behind them in a byte.
+/// Whole octets stand in a vector, and the fewer than 64 bits behind them in a word. Where bits wait, the
+/// vector has room for eight octets more, so that they can always follow.
 #[derive(Drop)]
 pub struct BitSink {
     octets: Vec<u8>,
     // the low `count` bits of it wait; what stands above them means nothing
-    pending: u8,
+    pending: u64,
     count: u32,
 }
 
@@ -23,7 +25,7 @@ impl Model for BitSink {
 
     ghost view = { λ s. unpacked s.octets.items ++ bits s.count s.pending };
 
-    ghost invariant = { λ s. s.count < 8 };
+    ghost invariant = { λ s. (s.count < 64) × (0 < s.count → vec_len s.octets + 8 ≤ vec_capacity s.octets) };
 }
 
 impl BitSink {
@@ -49,7 +51,7 @@ impl BitSink {
     pub fn ends_at_octet(&self) -> bool
         ensures { IsTrue result ↔ (length self.now % 8 ≡ 0) }
     {
-        self.count == 0
+        self.count % 8 == 0
     }
 
     /// Adds one bit. An `Err` is out of memory, and then nothing has changed.
@@ -57,7 +59,7 @@ impl BitSink {
         ensures ok { OnOk result (self.new ≡ self.old ++ bit_of bit ∷ []) }
         ensures err { OnErr result (self.new ≡ self.old) }
     {
-        self.append(1, bit as u128)
+        self.append(1, bit as u64)
     }
 
     /// Adds `n` in `k` bits, the highest first. An `Err` is out of memory, and then nothing has changed.
@@ -67,7 +69,7 @@ impl BitSink {
         ensures ok { OnOk result (self.new ≡ self.old ++ bits k n) }
         ensures err { OnErr result (self.new ≡ self.old) }
     {
-        self.append(k, n as u128)
+        self.append(k, n)
     }
 
     /// Adds all bits of the octets, whole octets at once wherever the bits so far end. An `Err` is out of
@@ -76,11 +78,15 @@ impl BitSink {
         ensures ok { OnOk result (self.new ≡ self.old ++ unpacked octets.now) }
         ensures err { OnErr result (self.new ≡ self.old) }
     {
-        if self.count == 0 {
+        let left = self.count % 8;
+        self.octets.reserve(octets.len() + 16)?;
+        push_low(&mut self.octets, self.count / 8, self.pending >> left);
+        if left == 0 {
             self.octets.extend_from_slice(octets)?;
         } else {
-            self.pending = push_shifted(&mut self.octets, self.count, self.pending, octets)?;
+            self.pending = push_shifted(&mut self.octets, left, self.pending, octets);
         }
+        self.count = left;
         Ok(())
     }
 
@@ -90,7 +96,7 @@ impl BitSink {
         ensures ok { OnOk result (self.new ≡ self.old ++ padding (length self.old)) }
         ensures err { OnErr result (self.new ≡ self.old) }
     {
-        let count = self.count;
+        let count = self.count % 8;
         if count == 0 {
             return Ok(());
         }
@@ -103,51 +109,96 @@ impl BitSink {
         ensures unpacked { unpacked result.items ≡ self }
         ensures packed { packed self ≡ result.items }
     {
-        let BitSink { octets, .. } = self;
+        let BitSink {
+            mut octets,
+            pending,
+            count,
+        } = self;
+        push_low(&mut octets, count / 8, pending);
         octets
     }
 
     // adds n in k bits, in one step
-    pub(crate) fn append(&mut self, k: u32, n: u128) -> Result<(), AllocError>
-        requires few { k ≤ 112 }
+    #[inline(always)]
+    pub(crate) fn append(&mut self, k: u32, n: u64) -> Result<(), AllocError>
+        requires few { k ≤ 64 }
         requires fits { n < 2 ^ k }
         ensures ok { OnOk result (self.new ≡ self.old ++ bits k n) }
         ensures err { OnErr result (self.new ≡ self.old) }
     {
-        let joined = joined(self.pending, k, n);
-        let total = self.count + k;
-        let left = total % 8;
-        push_octets(&mut self.octets, total / 8, left, joined)?;
-        self.pending = low_octet(joined);
-        self.count = left;
+        let count = self.count;
+        if count == 0 || count + k >= 64 {
+            return self.append_word(k, n);
+        }
+        self.pending = behind(self.pending, k, n);
+        self.count = count + k;
+        Ok(())
+    }
+
+    // the same, where a word is full or memory is needed
+    fn append_word(&mut self, k: u32, n: u64) -> Result<(), AllocError>
+        requires few { k ≤ 64 }
+        requires fits { n < 2 ^ k }
+        ensures ok { OnOk result (self.new ≡ self.old ++ bits k n) }
+        ensures err { OnErr result (self.new ≡ self.old) }
+    {
+        make_room(&mut self.octets)?;
+        let (count, pending) = put(&mut self.octets, self.count, self.pending, k, n);
+        self.count = count;
+        self.pending = pending;
+        Ok(())
+    }
+
+    // adds m in j bits and n in k bits behind it
+    pub(crate) fn append_both(&mut self, j: u32, m: u64, k: u32, n: u64) -> Result<(), AllocError>
+        requires few { (j ≤ 64) × (k ≤ 64) }
+        requires fits { (m < 2 ^ j) × (n < 2 ^ k) }
+        ensures ok { OnOk result (self.new ≡ (self.old ++ bits j m) ++ bits k n) }
+        ensures err { OnErr result (self.new ≡ self.old) }
+    {
+        make_room(&mut self.octets)?;
+        let (count, pending) = put(&mut self.octets, self.count, self.pending, j, m);
+        let (count, pending) = put(&mut self.octets, count, pending, k, n);
+        self.count = count;
+        self.pending = pending;
         Ok(())
     }
 }
 
-// adds the `count` octets of n above its last `below` bits
-fn push_octets(bytes: &mut Vec<u8>, count: u32, below: u32, n: u128) -> Result<(), AllocError>
-    requires { 8 * count + below < 128 }
-    ensures ok { OnOk result (bytes.new.items ≡ bytes.old.items ++ octets count (n / 2 ^ below)) }
-    ensures err { OnErr result (bytes.new.items ≡ bytes.old.items) }
+// makes room for three words: two that go out and one that waits; where memory is needed, for eight
+fn make_room(octets: &mut Vec<u8>) -> Result<(), AllocError>
+    ensures ok { OnOk result (vec_len octets.new + 24 ≤ vec_capacity octets.new) }
+    ensures items { octets.new.items ≡ octets.old.items }
+    ensures len { vec_len octets.new ≡ vec_len octets.old }
+    ensures capacity { vec_capacity octets.old ≤ vec_capacity octets.new }
 {
-    bytes.reserve(count as usize)?;
-    for i in 0..count {
-        bytes.push_reserved(low_octet(n >> (below + 8 * (count - 1 - i))));
+    if octets.capacity() - octets.len() < 24 {
+        octets.reserve(64)?;
     }
     Ok(())
 }
 
-// n in k bits behind the octet high
-pub(crate) fn joined(high: u8, k: u32, n: u128) -> u128
-    requires few { k ≤ 112 }
+// adds n in k bits behind the octets and the low `count` bits of `pending`, a word of eight octets at once,
+// and gives how many bits then wait in what word
+fn put(octets: &mut Vec<u8>, count: u32, pending: u64, k: u32, n: u64) -> (u32, u64)
+    requires waiting { count < 64 }
+    requires few { k ≤ 64 }
     requires fits { n < 2 ^ k }
-    ensures { result ≡ high * 2 ^ k + n }
+    requires room { vec_len octets.old + 8 ≤ vec_capacity octets.old }
+    ensures bits { unpacked octets.new.items ++ bits result.0 result.1 ≡ (unpacked octets.old.items ++ bits count pending) ++ bits k n }
+    ensures waiting { result.0 < 64 }
+    ensures len { vec_len octets.new ≤ vec_len octets.old + 8 }
+    ensures capacity { vec_capacity octets.old ≤ vec_capacity octets.new }
 {
-    ((high as u128) << k) | n
-}
-
-fn low_octet(n: u128) -> u8
-    ensures { result ≡ n % 256 }
-{
-    (n & 0xff) as u8
+    let total = count + k;
+    if total < 64 {
+        return (total, behind(pending, k, n));
+    }
+    let left = total - 64;
+    if count == 0 {
+        push_word(octets, n);
+    } else {
+        push_word(octets, middle(pending, k, n, left));
+    }
+    (left, n)
 }

@@ -67,7 +67,11 @@ fn message_type(alloc: Global) -> Result<AsnType, AllocError> {
 }
 
 fn from_zero() -> AsnType {
-    AsnType::Int(Bounds { low: 0, high: None })
+    AsnType::Int(Bounds {
+        low: Some(0),
+        high: None,
+        ext: false,
+    })
 }
 
 fn field(alloc: Global, name: &str, ty: AsnType, need: Need) -> Result<Field, AllocError> {

@@ -1,6 +1,9 @@
 -- Items in a row that are read a few at a time and put behind those of a list.
 use Rattle.std.proofs.Common.{◌≡◌, ℕ, ◌+◌, List, [], ◌∷◌, ◌++◌, append-nil, append_assoc, sym, ap, ◌∙◌, arith}
+use Rattle.asn_bits.specs.Moves.{Taken}
 use Rattle.asn_rules.specs.Chunks.{Chunk}
+use Rattle.asn_rules.specs.Fields.{Octet}
+use Rattle.asn_rules.proofs.OctetRows.{octet_bits_front}
 use Rattle.asn_rules.specs.Languages.{Spells, Lawful, Inhabited, Row}
 use Rattle.asn_rules.proofs.Leads.{LeadsStops}
 use Rattle.asn_rules.proofs.Rows.{row_starts, row_spells, row_one, row_short, row_refused}
@@ -32,3 +35,7 @@ appends_stops {L = L} i m k law e f = record { short = λ g. row_short L per_fie
 -- behind i items the next one stops
 pub appends_stops_next : {A : Type 0} {L : A → List Chunk → Type 0} (i m k : ℕ) {old mid : List A} {us r : List ℕ} → Lawful L → Inhabited L → i + (m + 1) ≡ k → Appends L i old mid us r → LeadsStops per_fields L r (Row L k) us
 appends_stops_next {L = L} i m k law some e f = stops_next L i m k per_fields_part law some (omega (arith, e)) f.spelt
+
+-- octets that were taken
+pub appends_taken : (n : ℕ) {us r old new : List ℕ} → Taken n us r old new → Appends Octet n old new us r
+appends_taken n {us} {r} h = record { row = h.octets; same = h.added; spelt = rw h.taken (octet_bits_front per_fields n h.octets r h.count h.each) }

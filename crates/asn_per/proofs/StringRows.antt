@@ -69,6 +69,10 @@ bits_few n us h l =
     let count : length whole ≡ n = length-append us (0 ∷ replicate m 0) ∙ ap (λ (i : ℕ). length us + suc i) (length-replicate {A = ℕ} m 0) ∙ omega arith in
     units_short (map bit_of) per_fields_part (row_lawful bit_lawful n) (bits_row n) (map truth_of whole) (length-map whole truth_of ∙ count, any_bits (map truth_of whole)) us 0 (replicate m 0) (sym (truths whole good))
 
+-- there is a bit
+pub bit_inhabited : Inhabited Bit
+bit_inhabited = map_inhabited (set_inhabited (set_meets 2 1 0 (omega arith) (omega arith)))
+
 -- a bit in front of others
 bit_front : (b : Bool) (r : List ℕ) → Spells per_fields Bit b (bit_of b ∷ r) r
 bit_front b r = units_front (λ b. bit_of b ∷ []) per_fields bit_spelled b tt r

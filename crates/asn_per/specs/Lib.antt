@@ -8,3 +8,6 @@ pub mod StringVectors
 pub mod ListVectors
 pub mod FieldVectors
 pub mod Indexes
+pub mod StringItems
+pub mod ListsAhead
+pub mod RowsAhead

@@ -53,6 +53,7 @@ pub fn encode(alloc: Global, ty: &Checked, value: &Value) -> Result<Vec<u8>, Enc
 }
 
 /// Writes a value of the type.
+#[inline(always)]
 #[cycle(writer)]
 fn write(ty: &AsnType, value: &Value, sink: &mut BitSink) -> Result<(), AllocError>
     requires of_profile { InProfile (shape_of ty.now) }
@@ -92,6 +93,7 @@ fn write(ty: &AsnType, value: &Value, sink: &mut BitSink) -> Result<(), AllocErr
 
 /// Writes a number of the range (X.691, "encoding the integer type"): behind an extension mark a bit
 /// tells whether it lies between the bounds, and outside them it is an unconstrained whole number.
+#[inline(always)]
 fn write_integer(bounds: &Bounds, whole: i128, sink: &mut BitSink) -> Result<(), AllocError>
     requires of_profile { InProfile (integer (range_of bounds.now)) }
     requires of_type { FitsNumber (range_of bounds.now) whole }

@@ -4,12 +4,17 @@
 mod decoder;
 mod encoder;
 mod integer_reader;
+mod item_writer;
 mod items;
 mod kinds;
 mod laws;
+mod length_reader;
 mod number_reader;
 mod row_reader;
 mod signed_reader;
+mod size_reader;
+mod string_reader;
+mod string_writer;
 #[cfg(test)]
 mod tests;
 mod value_reader;

@@ -91,12 +91,11 @@ fn take(k: u32, set: Numbers, bits: &mut BitCursor<'_>) -> Option<u64>
     ensures none { IsNone result → (n : ℕ) (rest : List ℕ) → StandsFirst k (λ m. Admits set m) n bits.old rest → ⊥ }
     ensures unchanged { IsNone result → bits.new ≡ bits.old }
 {
-    let before = bits.copied();
-    let n = bits.take_number(k)?;
+    let n = bits.peek_number(k)?;
     if admits(set, n) {
+        bits.pass(k);
         return Some(n);
     }
-    *bits = before;
     None
 }
 

@@ -1,8 +1,9 @@
-//! Readers of items that stand one after the other, which put them behind those of a vector: bits and
-//! characters, as many at a time as a word holds.
+//! Readers of items that stand one after the other, which put them behind those of a vector: octets all at
+//! once, bits and characters as many at a time as a word holds.
 ghost use Rattle.std.specs.Prelude.{◌≡◌, ◌≤◌, ◌<◌, ◌+◌, ◌*◌, ◌/◌, ◌%◌, ◌^◌, ◌++◌, ℕ, List, IfOk, IfErr, IsTrue, true, false, vec_len, vec_capacity};
 ghost use Rattle.asn_values.specs.View.{alphabet_of};
 ghost use Rattle.asn_bits.specs.Numbers.{bits};
+ghost use Rattle.asn_rules.specs.Fields.{Octet};
 ghost use Rattle.asn_rules.specs.Languages.{Spells, Row};
 ghost use Rattle.asn_rules.specs.Stops.{Stops};
 ghost use Rattle.asn_per.specs.Per.{per_fields};
@@ -15,6 +16,22 @@ use asn_bits::BitCursor;
 use asn_rules::{Stop, Why};
 use asn_values::TextKind;
 use std::alloc::AllocError;
+
+/// Reads so many octets of an OCTET STRING (X.691, "encoding the octetstring type").
+pub(crate) fn append_octets(
+    count: usize,
+    into: &mut Vec<u8>,
+    cursor: &mut BitCursor<'_>,
+) -> Result<(), Stop>
+    ensures done { IfOk result (λ _. Appends Octet count into.old.items into.new.items cursor.old cursor.new) }
+    ensures stop { IfErr result (λ why. Stops per_fields (Row Octet count) cursor.old why) }
+{
+    if bits_left(cursor) < 8 * count as u128 {
+        return Err(Stop::Short);
+    }
+    cursor.take_octets(count, into)?;
+    Ok(())
+}
 
 /// Reads so many bits of a BIT STRING (X.691, "encoding the bitstring type").
 pub(crate) fn append_bits(
@@ -149,7 +166,7 @@ fn character(kind: TextKind, cursor: &mut BitCursor<'_>) -> Result<u8, Stop>
 }
 
 /// How many bits a character has.
-fn width_of(kind: TextKind) -> u32
+pub(crate) fn width_of(kind: TextKind) -> u32
     ensures width { result ≡ code_width (alphabet_of kind) }
     ensures some { 4 ≤ result }
     ensures few { result ≤ 7 }

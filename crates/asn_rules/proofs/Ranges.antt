@@ -1,6 +1,7 @@
 -- Sets of counts, asked by ranges: what a reader of general lengths tests.
 use Rattle.std.proofs.Common.{◌≡◌, ℕ, zero, suc, ◌+◌, ◌-◌, ◌*◌, ◌^◌, ◌<◌, ◌≤◌, min, max, Bool, true, false, nat_lt, Option, Some, None, ◌⊎◌, inl, inr, ⊎_elim, List, [], ◌∷◌, refl, subst, arith}
 use Rattle.std.proofs.lemmas.Bool.{cases_lt, ltb-true, ltb-false}
+use Rattle.asn_bits.proofs.Ranges.{reaches_some, some_reaches}
 use Rattle.asn_rules.proofs.Headers.{block_cases}
 use Rattle.asn_rules.specs.Chunks.{Chunk}
 use Rattle.asn_rules.specs.Forks.{Branch, Fork, Same}
@@ -8,35 +9,6 @@ use Rattle.asn_rules.specs.General.{Length, last, fragment, Few, Many, Left, Blo
 use Rattle.asn_rules.specs.Languages.{Plain}
 use Rattle.asn_bits.specs.Ranges.{AtMost, SomeIn, Spanned, Meet, Reaches, At}
 use Rattle.asn_bits.specs.Sets.{InSet, Meets}
-
--- The intervals decide each range.
-span_in : (low : ℕ) (high : Option ℕ) (a : ℕ) (b : Option ℕ) → Meet low high a b → (n : ℕ) × (low ≤ n) × AtMost n high × (a ≤ n) × AtMost n b
-span_in low high a b h = ⊎_elim (λ e. (a, omega arith, h.2, omega arith, h.3)) (λ e. (low, omega arith, h.0, e, h.1)) (cases_lt low a)
-
--- what is at or below the end, and less
-at_most_of : (m n : ℕ) (b : Option ℕ) → m ≤ n → AtMost n b → AtMost m b
-at_most_of m n None l h = tt
-at_most_of m n (Some b) l h = omega arith
-
--- the test finds a number
-pub reaches_some : (is : List (ℕ × Option ℕ)) (a : ℕ) (b : Option ℕ) → Reaches is a b → SomeIn (Spanned is) a b
-reaches_some [] a b h = absurd h
-reaches_some (i ∷ is) a b (inl h) =
-    let p = span_in i.0 i.1 a b h in
-    record { number = p.0; member = inl (p.1, p.2); least = p.3; most = p.4 }
-reaches_some (i ∷ is) a b (inr h) =
-    let s = reaches_some is a b h in
-    record { number = s.number; member = inr s.member; least = s.least; most = s.most }
-
--- a number in common is found by the test
-spanned_reaches : (is : List (ℕ × Option ℕ)) (a : ℕ) (b : Option ℕ) (n : ℕ) → Spanned is n → a ≤ n → AtMost n b → Reaches is a b
-spanned_reaches [] a b n h l m = absurd h
-spanned_reaches (i ∷ is) a b n (inl h) l m = inl (at_most_of i.0 n i.1 h.0 h.1, at_most_of i.0 n b h.0 m, at_most_of a n i.1 l h.1, at_most_of a n b l m)
-spanned_reaches (i ∷ is) a b n (inr h) l m = inr (spanned_reaches is a b n h l m)
-
--- the test misses none
-pub some_reaches : (is : List (ℕ × Option ℕ)) (a : ℕ) (b : Option ℕ) → SomeIn (Spanned is) a b → Reaches is a b
-some_reaches is a b s = spanned_reaches is a b s.number s.member s.least s.most
 
 -- A number that begins so, as a range.
 pub meets_range : {S : ℕ → Type 0} {p r : ℕ} → Meets S p r → SomeIn S (p * 2 ^ r) (Some ((p + 1) * 2 ^ r - 1))

@@ -4,13 +4,15 @@ use Rattle.std.proofs.lemmas.List.{drop_all}
 use Rattle.std.proofs.Math.Seq.{drop-cons}
 use Rattle.std.proofs.Math.Numerals.{add-one}
 use Rattle.asn_values.specs.declared.types.Field.{Field}
-use Rattle.asn_values.specs.declared.types.AsnType.{AsnType, Bool, Null, Int, Enum, Seq, the_lemmas}
+use Rattle.asn_values.specs.declared.types.AsnType.{AsnType, Bool, Null, Int, Enum, Bits, Octets, Text, Utf8, Seq, the_lemmas}
 use Rattle.asn_values.specs.declared.types.Bounds.{Bounds}
 use Rattle.asn_values.specs.declared.types.Item.{Item}
+use Rattle.asn_values.specs.declared.types.Size.{Size}
+use Rattle.asn_values.specs.declared.types.TextKind.{TextKind}
 use Rattle.asn_values.specs.declared.fault.TypeFault.{TypeFault}
 use Rattle.asn_values.specs.Walk.{IsFaultless, IsSoundWithin, IsFaultWithin, AreSoundWithin, IsFaultAmong}
 use Rattle.asn_values.specs.View.{shape_of, fields_of, part_of_field}
-use Rattle.asn_values.proofs.Views.{shape_of-Bool, shape_of-Null, shape_of-Int, shape_of-Enum, sequence_of_fields}
+use Rattle.asn_values.proofs.Views.{shape_of-Bool, shape_of-Null, shape_of-Int, shape_of-Enum, shape_of-Bits, shape_of-Octets, shape_of-Text, shape_of-Utf8, sequence_of_fields}
 use Rattle.asn_values.proofs.Walks.{IsWalkedTo, goes_on, ends, fault_among, IsSimple, sound_simple, sound_sequence, fault_behind}
 
 -- the components still to be looked at are the next one and those behind it
@@ -63,16 +65,23 @@ sequence_fault (Err f) levels start t root fs et ef some more h =
     let type = sequence_of_fields t root fs et ef in
     rw type (fault_behind f levels start (fields_of (map part_of_field fs)) some more h)
 
--- the types without others inside them
-simple : (t : AsnType) → (t ≡ Bool) ⊎ (t ≡ Null) ⊎ ((b : Bounds) × (t ≡ Int b)) ⊎ ((root : Vec Item Global) × (ext : Option (Vec Item Global)) × (t ≡ Enum root ext)) →
-    IsSimple (shape_of t)
+-- a type is one of those without others inside them
+abbrev OneOfSimple : AsnType → Type 0
+OneOfSimple t =
+    (t ≡ Bool) ⊎ (t ≡ Null) ⊎ ((b : Bounds) × (t ≡ Int b)) ⊎ ((root : Vec Item Global) × (ext : Option (Vec Item Global)) × (t ≡ Enum root ext))
+    ⊎ ((s : Size) × (t ≡ Bits s)) ⊎ ((s : Size) × (t ≡ Octets s)) ⊎ ((k : TextKind) × (s : Size) × (t ≡ Text k s)) ⊎ (t ≡ Utf8)
+
+simple : (t : AsnType) → OneOfSimple t → IsSimple (shape_of t)
 simple t (inl e) = rw (e, shape_of-Bool) (record { one_node = refl; one_level = refl; only_itself = λ test. refl })
 simple t (inr (inl e)) = rw (e, shape_of-Null) (record { one_node = refl; one_level = refl; only_itself = λ test. refl })
 simple t (inr (inr (inl (b, e)))) = rw (e, shape_of-Int) (record { one_node = refl; one_level = refl; only_itself = λ test. refl })
-simple t (inr (inr (inr (root, ext, e)))) = rw (e, shape_of-Enum) (record { one_node = refl; one_level = refl; only_itself = λ test. refl })
+simple t (inr (inr (inr (inl (root, ext, e))))) = rw (e, shape_of-Enum) (record { one_node = refl; one_level = refl; only_itself = λ test. refl })
+simple t (inr (inr (inr (inr (inl (s, e)))))) = rw (e, shape_of-Bits) (record { one_node = refl; one_level = refl; only_itself = λ test. refl })
+simple t (inr (inr (inr (inr (inr (inl (s, e))))))) = rw (e, shape_of-Octets) (record { one_node = refl; one_level = refl; only_itself = λ test. refl })
+simple t (inr (inr (inr (inr (inr (inr (inl (k, s, e)))))))) = rw (e, shape_of-Text) (record { one_node = refl; one_level = refl; only_itself = λ test. refl })
+simple t (inr (inr (inr (inr (inr (inr (inr e))))))) = rw (e, shape_of-Utf8) (record { one_node = refl; one_level = refl; only_itself = λ test. refl })
 
--- a type without others inside it is sound by itself
-pub simple_is_sound : (levels start : ℕ) (t : AsnType) →
-    (t ≡ Bool) ⊎ (t ≡ Null) ⊎ ((b : Bounds) × (t ≡ Int b)) ⊎ ((root : Vec Item Global) × (ext : Option (Vec Item Global)) × (t ≡ Enum root ext)) →
+-- it is sound where it has no fault by itself
+pub simple_is_sound : (levels start : ℕ) (t : AsnType) → OneOfSimple t →
     0 < levels → 0 < start → IsFaultless (shape_of t) → IsSoundWithin levels start (start - 1) (shape_of t)
 simple_is_sound levels start t which some more here = sound_simple levels start (shape_of t) (simple t which) some more here

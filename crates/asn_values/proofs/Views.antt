@@ -3,14 +3,16 @@ use Rattle.std.proofs.Common.{◌≡◌, ◌↔◌, List, [], ◌∷◌, map, Bo
 use Rattle.asn_values.specs.declared.types.Field.{Field}
 use Rattle.asn_values.specs.declared.types.Bounds.{Bounds}
 use Rattle.asn_values.specs.declared.types.Item.{Item}
+use Rattle.asn_values.specs.declared.types.Size.{Size}
+use Rattle.asn_values.specs.declared.types.TextKind.{TextKind}
 use Rattle.asn_values.specs.declared.types.AsnType.{AsnType, Seq, the_lemmas}
 use Rattle.asn_values.specs.declared.types.AsnType as asn_type
 use Rattle.asn_values.specs.declared.value.Value.{Value}
 use Rattle.asn_values.specs.declared.value.Value as values
 use Rattle.asn_values.specs.declared.value.Value.TheVariants as value
 use Rattle.asn_values.specs.Datum.{Datum, components, components_of, component_list}
-use Rattle.asn_values.specs.Shape.{boolean, null, integer, enumerated, sequence, closed}
-use Rattle.asn_values.specs.View.{shape_of, datum_of, range_of, label_of, more_labels_of, fields_of, part_of_field}
+use Rattle.asn_values.specs.Shape.{boolean, null, integer, enumerated, bit_string, octet_string, restricted, utf8_string, sequence, closed}
+use Rattle.asn_values.specs.View.{shape_of, datum_of, range_of, size_range_of, alphabet_of, label_of, more_labels_of, fields_of, part_of_field}
 
 -- types without others inside them
 pub shape_of-Bool : shape_of asn_type.Bool ≡ boolean
@@ -24,6 +26,18 @@ shape_of-Int b = search (rules, the_lemmas)
 
 pub shape_of-Enum : (root : Vec Item Global) (ext : Option (Vec Item Global)) → shape_of (asn_type.Enum root ext) ≡ enumerated (map label_of root.items) (more_labels_of ext)
 shape_of-Enum root ext = search (rules, the_lemmas)
+
+pub shape_of-Bits : (s : Size) → shape_of (asn_type.Bits s) ≡ bit_string (size_range_of s)
+shape_of-Bits s = search (rules, the_lemmas)
+
+pub shape_of-Octets : (s : Size) → shape_of (asn_type.Octets s) ≡ octet_string (size_range_of s)
+shape_of-Octets s = search (rules, the_lemmas)
+
+pub shape_of-Text : (k : TextKind) (s : Size) → shape_of (asn_type.Text k s) ≡ restricted (alphabet_of k) (size_range_of s)
+shape_of-Text k s = search (rules, the_lemmas)
+
+pub shape_of-Utf8 : shape_of asn_type.Utf8 ≡ utf8_string
+shape_of-Utf8 = search (rules, the_lemmas)
 
 -- a SEQUENCE stands for its components
 pub shape_of-Seq : (root : Vec Field Global) → shape_of (Seq root) ≡ sequence (fields_of (map part_of_field root.items)) closed

@@ -4,7 +4,7 @@ use Rattle.asn_values.specs.declared.fault.TypeFault.{TypeFault}
 use Rattle.asn_values.specs.declared.fault.TypeFault.TheVariants as fault
 use Rattle.asn_values.specs.Shape.{Shape, sequence, Fields, no_fields, field, closed, demands, field_names}
 use Rattle.asn_values.specs.Measures.{depth, fields_depth, nodes, fields_nodes}
-use Rattle.asn_values.specs.Profile.{Condition, EmptyRange, SizeTooLarge, DuplicateName, BadEnumeration, UselessMark, BadDefault, ZeroWidthElement, AdditionNotOptional, TooMany, TooDeep, somewhere, some_field, empty_range, duplicate_name, bad_enumeration, useless_mark, bad_default, too_many_here, bad_names, bad_default_at, most_components, most_levels, most_nodes, InProfile}
+use Rattle.asn_values.specs.Profile.{Condition, EmptyRange, SizeTooLarge, DuplicateName, BadEnumeration, UselessMark, BadDefault, ZeroWidthElement, AdditionNotOptional, TooMany, TooDeep, somewhere, some_field, empty_range, size_too_large, duplicate_name, bad_enumeration, useless_mark, bad_default, too_many_here, bad_names, bad_default_at, most_components, most_levels, most_nodes, InProfile}
 use Rattle.asn_values.specs.Walk.{test_of, IsFaultless, IsSoundWithin, IsFaultWithin, AreSoundWithin, IsFaultAmong}
 use Rattle.asn_values.specs.View.{Part, fields_of, Holds}
 use Rattle.std.proofs.lemmas.Bool.{le-ltb, lt-ltb}
@@ -45,6 +45,7 @@ ends levels start left all w = record {
 pub fault_among : (f : TypeFault) (levels start left : ℕ) (all : Fields) (name : List ℕ) (demand : _) (t : Shape) (rest : Fields) →
     IsWalkedTo levels start left all (field name demand t rest) → IsFaultWithin f levels left t → IsFaultAmong f levels start all
 fault_among fault.EmptyRange levels start left all name demand t rest w h = rw h at (sym (w.same_faults EmptyRange))
+fault_among fault.SizeTooLarge levels start left all name demand t rest w h = rw h at (sym (w.same_faults SizeTooLarge))
 fault_among fault.DuplicateName levels start left all name demand t rest w h = rw h at (sym (w.same_faults DuplicateName))
 fault_among fault.BadEnumeration levels start left all name demand t rest w h = rw h at (sym (w.same_faults BadEnumeration))
 fault_among fault.UselessMark levels start left all name demand t rest w h = rw h at (sym (w.same_faults UselessMark))
@@ -83,6 +84,7 @@ inside test fs h = behind (test (sequence fs closed)) (some_field test fs || fal
 pub fault_behind : (f : TypeFault) (levels start : ℕ) (fs : Fields) → 0 < levels → 0 < start →
     IsFaultAmong f (levels - 1) (start - 1) fs → IsFaultWithin f levels start (sequence fs closed)
 fault_behind fault.EmptyRange levels start fs some more h = inside empty_range fs h
+fault_behind fault.SizeTooLarge levels start fs some more h = inside size_too_large fs h
 fault_behind fault.DuplicateName levels start fs some more h = inside duplicate_name fs h
 fault_behind fault.BadEnumeration levels start fs some more h = inside bad_enumeration fs h
 fault_behind fault.UselessMark levels start fs some more h = inside useless_mark fs h
@@ -143,6 +145,7 @@ of_profile left t s TooDeep = le-ltb most_levels (depth t) s.shallow
 -- a fault within these limits is one of the type
 pub fault_holds : (f : TypeFault) (t : Shape) → IsFaultWithin f most_levels most_nodes t → Holds f t
 fault_holds fault.EmptyRange t h = h
+fault_holds fault.SizeTooLarge t h = h
 fault_holds fault.DuplicateName t h = h
 fault_holds fault.BadEnumeration t h = h
 fault_holds fault.UselessMark t h = h

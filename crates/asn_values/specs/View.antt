@@ -16,9 +16,9 @@ use Rattle.asn_values.specs.declared.value.Value.{Value, fold-Value}
 use Rattle.asn_values.specs.declared.value.Value.TheOpen.{Value-F}
 use Rattle.asn_values.specs.declared.fault.TypeFault.{TypeFault}
 use Rattle.asn_values.specs.declared.fault.TypeFault.TheVariants as fault
-use Rattle.asn_values.specs.Datum.{Datum, truth, nothing, number, item, components, components_of}
-use Rattle.asn_values.specs.Shape.{Range, SizeRange, Alphabet, ia5, numeric, visible, Label, MoreLabels, closed_labels, marked_labels, Shape, boolean, null, integer, enumerated, sequence, Demand, must, optional, default, Fields, no_fields, field, closed}
-use Rattle.asn_values.specs.Profile.{EmptyRange, DuplicateName, BadEnumeration, UselessMark, BadDefault, TooMany, TooDeep, has}
+use Rattle.asn_values.specs.Datum.{Datum, truth, nothing, number, item, bit_list, octet_list, characters, unicode, components, components_of}
+use Rattle.asn_values.specs.Shape.{Range, SizeRange, Alphabet, ia5, numeric, visible, Label, MoreLabels, closed_labels, marked_labels, Shape, boolean, null, integer, enumerated, bit_string, octet_string, restricted, utf8_string, sequence, Demand, must, optional, default, Fields, no_fields, field, closed}
+use Rattle.asn_values.specs.Profile.{EmptyRange, SizeTooLarge, DuplicateName, BadEnumeration, UselessMark, BadDefault, TooMany, TooDeep, has}
 
 -- ---- values
 
@@ -28,6 +28,10 @@ datum_step (Value-F.Bool b) = truth b
 datum_step Value-F.Null = nothing
 datum_step (Value-F.Int z) = number z
 datum_step (Value-F.Enum p) = item p
+datum_step (Value-F.Bits v) = bit_list v.items
+datum_step (Value-F.Octets v) = octet_list v.items
+datum_step (Value-F.Text v) = characters v.items
+datum_step (Value-F.Utf8 s) = unicode (string_bytes s)
 datum_step (Value-F.Seq v) = components (components_of v.items)
 
 abbrev pub datum_of : Value → Datum
@@ -75,6 +79,10 @@ shape_step AsnType-F.Bool = boolean
 shape_step AsnType-F.Null = null
 shape_step (AsnType-F.Int b) = integer (range_of b)
 shape_step (AsnType-F.Enum root ext) = enumerated (map label_of root.items) (more_labels_of ext)
+shape_step (AsnType-F.Bits s) = bit_string (size_range_of s)
+shape_step (AsnType-F.Octets s) = octet_string (size_range_of s)
+shape_step (AsnType-F.Text k s) = restricted (alphabet_of k) (size_range_of s)
+shape_step AsnType-F.Utf8 = utf8_string
 shape_step (AsnType-F.Seq root) = sequence (fields_of root.items) closed
 
 abbrev pub field_step : Field-F Shape Part → Part
@@ -91,6 +99,7 @@ part_of_field = fold-Field Shape Part shape_step field_step
 -- what a fault says of a type: its condition holds there; of the memory nothing is said
 abbrev pub Holds : TypeFault → Shape → Type 0
 Holds fault.EmptyRange t = has EmptyRange t ≡ true
+Holds fault.SizeTooLarge t = has SizeTooLarge t ≡ true
 Holds fault.DuplicateName t = has DuplicateName t ≡ true
 Holds fault.BadEnumeration t = has BadEnumeration t ≡ true
 Holds fault.UselessMark t = has UselessMark t ≡ true

@@ -1,10 +1,10 @@
 -- What a walk over a type finds, which has some levels and some nodes to go.
-use Rattle.std.specs.Prelude.{◌≡◌, ◌≤◌, ◌<◌, ◌+◌, ◌⊎◌, ℕ, Bool, true, false}
+use Rattle.std.specs.Prelude.{◌≡◌, ◌≤◌, ◌<◌, ◌+◌, ◌⊎◌, ℕ, Bool, true, false, Some}
 use Rattle.asn_values.specs.declared.fault.TypeFault.{TypeFault}
 use Rattle.asn_values.specs.declared.fault.TypeFault.TheVariants as fault
-use Rattle.asn_values.specs.Shape.{Shape, Fields}
+use Rattle.asn_values.specs.Shape.{SizeRange, Shape, Fields}
 use Rattle.asn_values.specs.Measures.{depth, fields_depth, nodes, fields_nodes}
-use Rattle.asn_values.specs.Profile.{Condition, EmptyRange, SizeTooLarge, DuplicateName, BadEnumeration, UselessMark, BadDefault, ZeroWidthElement, AdditionNotOptional, TooMany, TooDeep, somewhere, some_field, empty_range, size_too_large, duplicate_name, bad_enumeration, useless_mark, bad_default, zero_width_element, addition_not_optional, too_many_here}
+use Rattle.asn_values.specs.Profile.{Condition, EmptyRange, SizeTooLarge, DuplicateName, BadEnumeration, UselessMark, BadDefault, ZeroWidthElement, AdditionNotOptional, TooMany, TooDeep, somewhere, some_field, empty_range, size_above, size_too_large, large_size, is_every_length, duplicate_name, bad_enumeration, useless_mark, bad_default, zero_width_element, addition_not_optional, too_many_here}
 
 -- ---- one node
 
@@ -28,6 +28,7 @@ IsFaultless t = (c : Condition) → test_of c t ≡ false
 -- the fault's condition, as a test of one type
 abbrev pub HoldsHere : TypeFault → Shape → Type 0
 HoldsHere fault.EmptyRange t = empty_range t ≡ true
+HoldsHere fault.SizeTooLarge t = size_too_large t ≡ true
 HoldsHere fault.DuplicateName t = duplicate_name t ≡ true
 HoldsHere fault.BadEnumeration t = bad_enumeration t ≡ true
 HoldsHere fault.UselessMark t = useless_mark t ≡ true
@@ -35,6 +36,21 @@ HoldsHere fault.BadDefault t = bad_default t ≡ true
 HoldsHere fault.TooMany t = too_many_here t ≡ true
 HoldsHere fault.TooDeep t = ⊥
 HoldsHere fault.Memory t = ⊥
+
+-- ---- a size
+
+-- none of the conditions holds of it
+pub record IsFaultlessSize (s : SizeRange) : Type 0 where
+  pub ranged : size_above s ≡ false
+  pub small : large_size (Some s) ≡ false
+  pub marked : is_every_length (Some s) ≡ false
+
+-- the fault's condition, as a test of one size
+abbrev pub HoldsOfSize : TypeFault → SizeRange → Type 0
+HoldsOfSize fault.EmptyRange s = size_above s ≡ true
+HoldsOfSize fault.SizeTooLarge s = large_size (Some s) ≡ true
+HoldsOfSize fault.UselessMark s = is_every_length (Some s) ≡ true
+HoldsOfSize _ s = ⊥
 
 -- ---- a type with all inside it
 
@@ -47,6 +63,7 @@ pub record IsSoundWithin (levels start left : ℕ) (t : Shape) : Type 0 where
 -- the fault's condition holds somewhere, or there are more levels or nodes than these
 abbrev pub IsFaultWithin : TypeFault → ℕ → ℕ → Shape → Type 0
 IsFaultWithin fault.EmptyRange levels start t = somewhere empty_range t ≡ true
+IsFaultWithin fault.SizeTooLarge levels start t = somewhere size_too_large t ≡ true
 IsFaultWithin fault.DuplicateName levels start t = somewhere duplicate_name t ≡ true
 IsFaultWithin fault.BadEnumeration levels start t = somewhere bad_enumeration t ≡ true
 IsFaultWithin fault.UselessMark levels start t = somewhere useless_mark t ≡ true
@@ -65,6 +82,7 @@ pub record AreSoundWithin (levels start left : ℕ) (fs : Fields) : Type 0 where
 
 abbrev pub IsFaultAmong : TypeFault → ℕ → ℕ → Fields → Type 0
 IsFaultAmong fault.EmptyRange levels start fs = some_field empty_range fs ≡ true
+IsFaultAmong fault.SizeTooLarge levels start fs = some_field size_too_large fs ≡ true
 IsFaultAmong fault.DuplicateName levels start fs = some_field duplicate_name fs ≡ true
 IsFaultAmong fault.BadEnumeration levels start fs = some_field bad_enumeration fs ≡ true
 IsFaultAmong fault.UselessMark levels start fs = some_field useless_mark fs ≡ true

@@ -33,6 +33,11 @@ fn is_good(ty: &AsnType, value: &Value) -> bool
         AsnType::Enum { root, ext } => {
             matches!(value, Value::Enum(place) if enumerations::is_good_item(root, ext, *place))
         }
-        AsnType::Null | AsnType::Seq { .. } => false,
+        AsnType::Null
+        | AsnType::Bits(_)
+        | AsnType::Octets(_)
+        | AsnType::Text(..)
+        | AsnType::Utf8
+        | AsnType::Seq { .. } => false,
     }
 }

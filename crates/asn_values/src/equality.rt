@@ -14,11 +14,22 @@ pub fn same(left: &Value, right: &Value) -> bool
         Value::Null => matches!(right, Value::Null),
         Value::Int(number) => matches!(right, Value::Int(other) if *number == *other),
         Value::Enum(place) => matches!(right, Value::Enum(other) if *place == *other),
+        Value::Bits(bits) => matches!(right, Value::Bits(others) if same_bits(bits, others)),
+        Value::Octets(octets) => matches!(right, Value::Octets(others) if **octets == **others),
+        Value::Text(codes) => matches!(right, Value::Text(others) if **codes == **others),
+        Value::Utf8(text) => matches!(right, Value::Utf8(other) if **text == **other),
         Value::Seq(entries) => match right {
             Value::Seq(others) => same_entries(entries, others),
             _ => false,
         },
     }
+}
+
+/// Whether both are the same bits.
+fn same_bits(left: &[bool], right: &[bool]) -> bool
+    ensures { IsTrue result ↔ (left.now ≡ right.now) }
+{
+    *left == *right
 }
 
 /// Whether both have the same entries, one after the other.

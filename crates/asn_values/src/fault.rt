@@ -10,6 +10,9 @@ pub enum TypeFault {
     /// or an ENUMERATED without an item in front of its extension mark.
     #[error("empty range")]
     EmptyRange = 1,
+    /// A bound of a SIZE above 65,535.
+    #[error("size too large")]
+    SizeTooLarge = 2,
     /// A name twice in one SEQUENCE or ENUMERATED, or one that is no identifier.
     #[error("duplicate name")]
     DuplicateName = 3,
@@ -17,7 +20,8 @@ pub enum TypeFault {
     /// whose number is not above all before it.
     #[error("bad enumeration")]
     BadEnumeration = 4,
-    /// An extension mark on an INTEGER whose root is already every integer of 64 signed bits.
+    /// An extension mark on an INTEGER whose root is already every integer of 64 signed bits, or on
+    /// a SIZE whose root is already every length.
     #[error("useless mark")]
     UselessMark = 5,
     /// A DEFAULT on another type than BOOLEAN, INTEGER and ENUMERATED, on a type with an extension

@@ -6,9 +6,10 @@ ghost use Rattle.asn_values.specs.View.{shape_of, datum_of, demand_of, fields_of
 use crate::checked::Checked;
 use crate::types::{AsnType, Field, Need};
 use crate::value::Value;
-use crate::{enumerations, ranges};
+use crate::{enumerations, ranges, sizes, texts};
 
-/// Whether the value is one of the type (X.680), an INTEGER being of 64 signed bits. Takes no memory.
+/// Whether the value is one of the type (X.680), an INTEGER being of 64 signed bits and a string of at
+/// most 268,435,455 bits, octets or characters. Takes no memory.
 pub fn fits(ty: &Checked, value: &Value) -> bool
     ensures { IsTrue result ↔ Fits (shape_of ty.now) (datum_of value.now) }
 {
@@ -16,6 +17,7 @@ pub fn fits(ty: &Checked, value: &Value) -> bool
 }
 
 /// Whether the value is one of the type.
+#[inline(always)]
 #[cycle(fits)]
 pub(crate) fn type_has(ty: &AsnType, value: &Value) -> bool
     ensures { IsTrue result ↔ Fits (shape_of ty.now) (datum_of value.now) }
@@ -29,6 +31,16 @@ pub(crate) fn type_has(ty: &AsnType, value: &Value) -> bool
         AsnType::Enum { root, ext } => {
             matches!(value, Value::Enum(place) if enumerations::item_fits(root, ext, *place))
         }
+        AsnType::Bits(size) => {
+            matches!(value, Value::Bits(bits) if sizes::length_fits(size, bits.len()))
+        }
+        AsnType::Octets(size) => {
+            matches!(value, Value::Octets(octets) if texts::octets_fit(size, octets))
+        }
+        AsnType::Text(kind, size) => {
+            matches!(value, Value::Text(codes) if texts::text_fits(*kind, size, codes))
+        }
+        AsnType::Utf8 => matches!(value, Value::Utf8(text) if texts::unicode_fits(text)),
         AsnType::Seq { root } => match value {
             Value::Seq(entries) => fields_have(root, entries),
             _ => false,
@@ -53,6 +65,7 @@ fn fields_have(fields: &[Field], entries: &[Option<Value>]) -> bool
 }
 
 /// Whether the entry is a value of the component, or absent where the component is OPTIONAL.
+#[inline(always)]
 #[cycle(fits)]
 fn field_has(field: &Field, entry: &Option<Value>) -> bool
     ensures { IsTrue result ↔ FitsDemand (λ d. Fits (part_of_field field.now).shape d) (part_of_field field.now).demand (option_map datum_of entry.now) }

@@ -1,5 +1,7 @@
 //! The faults of types one by one and in their order, and each public call with ample memory.
-use crate::{AsnType, Bounds, Checked, Field, Item, Need, TypeFault, Value, fits, same};
+use crate::{
+    AsnType, Bounds, Checked, Field, Item, Need, Size, TextKind, TypeFault, Value, fits, same,
+};
 use std::alloc::{AllocError, Global};
 use std::process::Abort;
 use std::test::Fail;
@@ -17,6 +19,15 @@ fn int(low: i128, high: i128) -> AsnType {
 /// INTEGER (low..MAX)
 fn int_from(low: i128) -> AsnType {
     bounded(Some(low), None, false)
+}
+
+/// SIZE (0..MAX)
+fn any_size() -> Size {
+    Size {
+        low: 0,
+        high: None,
+        ext: false,
+    }
 }
 
 /// ENUMERATED { name(number), .., ..., name(number), .. }, the mark only where there are `more`
@@ -257,6 +268,38 @@ fn items_have_faults(rt: HostRuntime) -> Result<(), Fail> {
 }
 
 #[test]
+fn sizes_have_faults(rt: HostRuntime) -> Result<(), Fail> {
+    let alloc = rt.alloc();
+    let empty = Some(TypeFault::EmptyRange);
+    let large = Some(TypeFault::SizeTooLarge);
+    let useless = Some(TypeFault::UselessMark);
+    for (low, high, ext, want) in [
+        (0, None, false, None),
+        (65_535, Some(65_535), false, None),
+        (0, Some(0), true, None),
+        (1, None, true, None),
+        (2, Some(1), false, empty),
+        (65_537, Some(65_536), false, empty),
+        (65_536, None, false, large),
+        (0, Some(65_536), false, large),
+        (0, None, true, useless),
+    ] {
+        let size = Size { low, high, ext };
+        expect_fault(&rt, alloc, "of BIT STRING", AsnType::Bits(size), want);
+        expect_fault(&rt, alloc, "of OCTET STRING", AsnType::Octets(size), want);
+        for kind in [TextKind::Ia5, TextKind::Numeric, TextKind::Visible] {
+            expect_fault(&rt, alloc, "of characters", AsnType::Text(kind, size), want);
+        }
+    }
+    expect_fault(&rt, alloc, "of UTF8String", AsnType::Utf8, None);
+    let octets = Value::Octets(vec![in alloc; 0u8]?);
+    let default = with_default(alloc, AsnType::Octets(any_size()), octets)?;
+    let bad = Some(TypeFault::BadDefault);
+    expect_fault(&rt, alloc, "a DEFAULT of OCTET STRING", default, bad);
+    Ok(())
+}
+
+#[test]
 fn defaults_have_faults(rt: HostRuntime) -> Result<(), Fail> {
     let alloc = rt.alloc();
     let highest = i128::from(i64::MAX);
@@ -407,5 +450,60 @@ fn values_fit_and_are_the_same(rt: HostRuntime) -> Result<(), Fail> {
     assert!(rt; same(&absent, &message(alloc, 7, None)?));
     assert!(rt; !same(&absent, &present));
     assert!(rt; !same(&absent, &message(alloc, 6, None)?));
+    Ok(())
+}
+
+/// The simple types.
+fn simple_types(alloc: Global) -> Result<Vec<AsnType>, AllocError> {
+    let types = vec![in alloc;
+        AsnType::Bool,
+        AsnType::Null,
+        bounded(Some(0), Some(1), true),
+        items(alloc, &[("a", 0)], Some(&[("b", 1)]))?,
+        AsnType::Bits(any_size()),
+        AsnType::Octets(any_size()),
+        AsnType::Text(TextKind::Numeric, any_size()),
+        AsnType::Utf8,
+    ]?;
+    Ok(types)
+}
+
+/// A value of each.
+fn simple_values(alloc: Global) -> Result<Vec<Value>, AllocError> {
+    let values = vec![in alloc;
+        Value::Bool(true),
+        Value::Null,
+        Value::Int(-5),
+        Value::Enum(1),
+        Value::Bits(vec![in alloc; true, false]?),
+        Value::Octets(vec![in alloc; 0u8, 255]?),
+        Value::Text(vec![in alloc; b'4', b' ', b'2']?),
+        Value::Utf8(String::from_str(alloc, "é")?),
+    ]?;
+    Ok(values)
+}
+
+#[test]
+fn simple_values_fit_their_own_type_alone(rt: HostRuntime) -> Result<(), Fail> {
+    let alloc = rt.alloc();
+    let values = simple_values(alloc)?;
+    for (place, ty) in simple_types(alloc)?.into_iter().enumerate() {
+        let checked = Checked::new(alloc, ty)?;
+        for (other, value) in values.iter().enumerate() {
+            assert_eq!(rt; fits(&checked, value), place == other);
+        }
+    }
+    Ok(())
+}
+
+#[test]
+fn simple_values_are_the_same_as_themselves_alone(rt: HostRuntime) -> Result<(), Fail> {
+    let alloc = rt.alloc();
+    let copies = simple_values(alloc)?;
+    for (place, left) in simple_values(alloc)?.iter().enumerate() {
+        for (other, right) in copies.iter().enumerate() {
+            assert_eq!(rt; same(left, right), place == other);
+        }
+    }
     Ok(())
 }

@@ -75,6 +75,14 @@ pub enum AsnType {
         root: Vec<Item>,
         ext: Option<Vec<Item>>,
     },
+    /// BIT STRING of this many bits
+    Bits(Size),
+    /// OCTET STRING of this many octets
+    Octets(Size),
+    /// IA5String, NumericString or VisibleString of this many characters
+    Text(TextKind, Size),
+    /// UTF8String
+    Utf8,
     /// SEQUENCE of the components in `root`, in this order
     Seq {
         root: Vec<Field>,

@@ -9,6 +9,14 @@ pub enum Value {
     Int(i128),
     /// of an ENUMERATED: the place of the item, counted from 0 as written, root then additions
     Enum(u32),
+    /// of a BIT STRING
+    Bits(Vec<bool>),
+    /// of an OCTET STRING
+    Octets(Vec<u8>),
+    /// of an IA5String, NumericString or VisibleString: the codes of its characters
+    Text(Vec<u8>),
+    /// of a UTF8String
+    Utf8(String),
     /// of a SEQUENCE: one entry a component, `None` only for an OPTIONAL one that is absent
     Seq(Vec<Option<Value>>),
 }

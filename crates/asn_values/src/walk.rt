@@ -1,12 +1,12 @@
 //! The walk that finds the first fault of a type, from the outside in and from left to right.
 ghost use Rattle.std.specs.Prelude.{IfOk, IfErr, map};
 ghost use Rattle.asn_values.specs.Shape.{integer, enumerated, sequence, closed};
-ghost use Rattle.asn_values.specs.Walk.{IsFaultless, HoldsHere, IsSoundWithin, IsFaultWithin, AreSoundWithin, IsFaultAmong};
-ghost use Rattle.asn_values.specs.View.{shape_of, range_of, label_of, more_labels_of, fields_of, part_of_field};
+ghost use Rattle.asn_values.specs.Walk.{IsFaultless, HoldsHere, IsFaultlessSize, HoldsOfSize, IsSoundWithin, IsFaultWithin, AreSoundWithin, IsFaultAmong};
+ghost use Rattle.asn_values.specs.View.{shape_of, range_of, size_range_of, label_of, more_labels_of, fields_of, part_of_field};
 
 use crate::fault::TypeFault;
-use crate::types::{AsnType, Bounds, Field, Item};
-use crate::{default_values, enumerations, names, ranges};
+use crate::types::{AsnType, Bounds, Field, Item, Size};
+use crate::{default_values, enumerations, names, ranges, sizes};
 
 /// The most components of a SEQUENCE.
 const MOST_COMPONENTS: usize = 64;
@@ -29,7 +29,14 @@ pub(crate) fn nodes_left(ty: &AsnType, levels: u32, start: u32) -> Result<u32, T
         return Err(TypeFault::TooDeep);
     }
     match ty {
-        AsnType::Bool | AsnType::Null | AsnType::Int(_) | AsnType::Enum { .. } => Ok(start - 1),
+        AsnType::Bool
+        | AsnType::Null
+        | AsnType::Int(_)
+        | AsnType::Enum { .. }
+        | AsnType::Bits(_)
+        | AsnType::Octets(_)
+        | AsnType::Text(..)
+        | AsnType::Utf8 => Ok(start - 1),
         AsnType::Seq { root } => nodes_left_behind(root, levels - 1, start - 1),
     }
 }
@@ -53,9 +60,10 @@ fn check_node(ty: &AsnType) -> Result<(), TypeFault>
     ensures fault { IfErr result (λ f. HoldsHere f (shape_of ty.now)) }
 {
     match ty {
-        AsnType::Bool | AsnType::Null => Ok(()),
+        AsnType::Bool | AsnType::Null | AsnType::Utf8 => Ok(()),
         AsnType::Int(bounds) => check_bounds(bounds),
         AsnType::Enum { root, ext } => check_items(root, ext),
+        AsnType::Bits(size) | AsnType::Octets(size) | AsnType::Text(_, size) => check_size(size),
         AsnType::Seq { root } => check_components(root),
     }
 }
@@ -90,6 +98,23 @@ fn check_items(root: &[Item], more: &Option<Vec<Item>>) -> Result<(), TypeFault>
     }
     if enumerations::is_too_many(root, more) {
         return Err(TypeFault::TooMany);
+    }
+    Ok(())
+}
+
+/// Looks at the bounds of a length. Err: their fault with the least number.
+fn check_size(size: &Size) -> Result<(), TypeFault>
+    ensures faultless { IfOk result (λ done. IsFaultlessSize (size_range_of size.now)) }
+    ensures fault { IfErr result (λ f. HoldsOfSize f (size_range_of size.now)) }
+{
+    if sizes::is_empty(size) {
+        return Err(TypeFault::EmptyRange);
+    }
+    if sizes::is_too_large(size) {
+        return Err(TypeFault::SizeTooLarge);
+    }
+    if sizes::has_useless_mark(size) {
+        return Err(TypeFault::UselessMark);
     }
     Ok(())
 }

@@ -1,36 +1,55 @@
--- Each turn adds the octet that ends with the first bits of the next one.
-use Rattle.std.proofs.Common.{◌≡◌, ◌++◌, ◌∷◌, [], ◌+◌, ◌<◌, take, get_or, sym, ◌∙◌, ap, subst, arith}
-use Rattle.std.proofs.lemmas.List.{take_more}
-use Rattle.std.proofs.Math.Seq.{take-length}
-use Rattle.asn_bits.specs.Moves.{Shifted}
-use Rattle.asn_bits.proofs.Moving.{shifted_none, shifted_octet}
+-- Each turn adds the word above the last bits of eight octets more.
+use Rattle.std.proofs.Common.{◌≡◌, ◌-◌, ◌++◌, ◌<◌, ℕ, length, drop, get_or, sym, ◌∙◌, ap, subst, arith, length-drop}
+use Rattle.std.proofs.lemmas.List.{take-append-drop}
+use Rattle.asn_bits.specs.Numbers.{octets}
+use Rattle.asn_bits.proofs.Moving.{begun_none, begun_word, begun_all, range_behind}
+use Rattle.asn_bits.proofs.Reading.{octets_eight}
 use Rattle.asn_bits.proofs.shifts.push_shifted.Goals as goal
 
-pub loop-octet-init : goal.loop-octet-init
-loop-octet-init c =
-    let same : c.reserve.new.self.items ≡ c.args.bytes.now.items = c.in_ok-reserve.ensures.items in
-    (subst (λ t. Shifted c.args.bytes.now.items t [] c.args.count c.args.pending c.args.pending) (sym same) (shifted_none c.args.bytes.now.items c.args.count c.args.pending), omega (arith, c.in_ok-reserve.ensures.ok))
+pub loop-eight-init : goal.loop-eight-init
+loop-eight-init c = (begun_none c.args.bytes.now.items c.args.octets.now c.args.count c.args.pending, omega arith, omega arith)
 
-pub push_reserved-requires : goal.push_reserved-requires
-push_reserved-requires c = omega arith
+pub push_word-requires : goal.push_word-requires
+push_word-requires c =
+    let front = c.in-Some.ensures.cases in
+    omega (arith, front.2, c.loop-eight.invariant.1, c.loop-eight.invariant.2)
 
-pub loop-octet-preserved : goal.loop-octet-preserved
-loop-octet-preserved c =
+pub loop-eight-smaller : goal.loop-eight-smaller
+loop-eight-smaller c =
+    let front = c.in-Some.ensures.cases in
+    let l : length c.in-Some.behind.now ≡ length c.loop-eight.rest.now - 8 = ap length front.1 ∙ length-drop 8 c.loop-eight.rest.now in
+    omega (arith, front.2)
+
+pub loop-eight-preserved : goal.loop-eight-preserved
+loop-eight-preserved c =
     let a = c.args in
-    let i = c.loop-octet.octet-index in
-    let o = get_or a.octets.now i 0 in
-    let b = c.seam.result in
-    let fits : o < 256 = omega (arith, c.type_inv.octets i) in
-    let more = shifted_octet a.bytes.now.items c.loop-octet.bytes.items (take i a.octets.now) a.count a.pending c.loop-octet.high o b c.loop-octet.invariant.0 fits c.requires c.seam.ensures in
-    let front : take i a.octets.now ++ o ∷ [] ≡ take (i + 1) a.octets.now = sym (take_more a.octets.now i 0 c.loop-octet-test.true) in (
-      subst (λ t. Shifted a.bytes.now.items t (take (i + 1) a.octets.now) a.count a.pending o) (sym c.push_reserved.ensures.items)
-          (subst (λ t. Shifted a.bytes.now.items (c.loop-octet.bytes.items ++ b ∷ []) t a.count a.pending o) front more),
-      omega arith,
+    let rest = c.loop-eight.rest.now in
+    let eight = c.in-Some.eight.now in
+    let behind = c.in-Some.behind.now in
+    let n = c.from_be_bytes-n.result in
+    let h = c.loop-eight.invariant.0 in
+    let front = c.in-Some.ensures.cases in
+    let all : (i : ℕ) → get_or a.octets.now i 0 < 256 = λ i. omega (arith, c.type_inv.octets i) in
+    let range : (i : ℕ) → get_or rest i 0 < 256 = range_behind h.from rest (subst (λ t. (i : ℕ) → get_or t i 0 < 256) h.parts all) in
+    let number : octets 8 n ≡ eight = octets_eight rest eight n front.0 (omega (arith, front.2)) range c.from_be_bytes-n.ensures ∙ sym front.0 in
+    let parts : rest ≡ eight ++ behind = sym (take-append-drop 8 rest) ∙ ap (λ t. t ++ drop 8 rest) (sym front.0) ∙ ap (λ t. eight ++ t) (sym front.1) in (
+      begun_word a.bytes.now.items c.loop-eight.bytes.items c.push_word.new.bytes.items a.octets.now rest eight behind a.count a.pending c.loop-eight.high n c.middle.result h c.requires.few.1 parts number
+          (omega arith) c.middle.ensures c.push_word.ensures.items,
+      omega (arith, c.loop-eight.invariant.1, front.2),
+      omega (arith, c.loop-eight.invariant.2),
     )
 
-pub returns-clause-ok : goal.returns-clause-ok
-returns-clause-ok c =
+pub push_single-requires-clause-room : goal.push_single-requires-clause-room
+push_single-requires-clause-room c = omega (arith, c.loop-eight.invariant.1, c.loop-eight.invariant.2)
+
+pub returns-clause-shifted : goal.returns-clause-shifted
+returns-clause-shifted c =
     let a = c.args in
-    let i = c.loop-octet.octet-index in
-    let all : take i a.octets.now ≡ a.octets.now = ap (λ t. take t a.octets.now) (omega arith) ∙ take-length a.octets.now in
-    subst (λ t. Shifted a.bytes.now.items c.loop-octet.bytes.items t a.count a.pending c.loop-octet.high) all c.loop-octet.invariant.0
+    begun_all a.bytes.now.items c.loop-eight.bytes.items c.push_single.new.bytes.items a.octets.now c.loop-eight.rest.now a.count a.pending c.loop-eight.high c.push_single.result
+    c.loop-eight.invariant.0 c.push_single.ensures.shifted
+
+pub returns-clause-len : goal.returns-clause-len
+returns-clause-len c = omega (arith, c.loop-eight.invariant.1)
+
+pub returns-clause-capacity : goal.returns-clause-capacity
+returns-clause-capacity c = omega (arith, c.loop-eight.invariant.2)

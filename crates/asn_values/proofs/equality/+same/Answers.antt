@@ -4,5 +4,5 @@ use Rattle.asn_values.proofs.equality.+same.Goals as goal
 pub same-returns-in-Seq-right : goal.same-returns-in-Seq-right
 same-returns-in-Seq-right t c =
     same_sequences c.args.left.now c.args.right.now c.in-Seq.entries c.in-Seq-right.others c.in-Seq.is c.in-Seq-right.is
-    c.deref.result.now c.deref-in-Seq-right.result.now c.deref.ensures.value c.deref-in-Seq-right.ensures.value
+    c.deref-in-Seq-right.result.now c.deref-in-Seq-right-2.result.now c.deref-in-Seq-right.ensures.value c.deref-in-Seq-right-2.ensures.value
     c.same_entries.result c.same_entries.ensures

@@ -3,25 +3,25 @@ use Rattle.std.proofs.Common.{rules, ◌≡◌, ◌+◌, ◌-◌, ◌*◌, ◌�
 use Rattle.std.proofs.lemmas.List.{length-take-le}
 use Rattle.asn_bits.specs.Moves.{Taken}
 use Rattle.asn_bits.specs.Numbers.{unpacked}
-use Rattle.asn_bits.proofs.Moving.{octets_there}
-use Rattle.asn_bits.proofs.Reading.{drop-unpacked, bits_passed}
+use Rattle.asn_bits.proofs.Reading.{drop-unpacked, bits_passed, bits_there}
 use Rattle.asn_bits.proofs.cursor.BitCursor.take_octets.Goals as goal
 
 pub push_front-requires-clause-there : goal.push_front-requires-clause-there
 push_front-requires-clause-there c =
     let s = c.self.inside in
-    octets_there s.octets.now c.args.self.now s.offset c.args.count c.self.view_is c.self.invariant.1 c.requires
+    let h = bits_there s.octets.now c.args.self.now s.offset (8 * c.args.count) c.self.view_is c.self.invariant.1 c.requires in
+    omega arith
 
 pub slice_bounds-self-count : goal.slice_bounds-self-count
 slice_bounds-self-count c =
     let s = c.self.inside in
-    let h = octets_there s.octets.now c.args.self.now s.offset c.args.count c.self.view_is c.self.invariant.1 c.requires in
+    let h = bits_there s.octets.now c.args.self.now s.offset (8 * c.args.count) c.self.view_is c.self.invariant.1 c.requires in
     omega arith
 
 pub slice_bounds-self-start : goal.slice_bounds-self-start
 slice_bounds-self-start c =
     let s = c.self.inside in
-    let h = octets_there s.octets.now c.args.self.now s.offset c.args.count c.self.view_is c.self.invariant.1 c.requires in
+    let h = bits_there s.octets.now c.args.self.now s.offset (8 * c.args.count) c.self.view_is c.self.invariant.1 c.requires in
     let l : c.args.count ≤ length s.octets.now = omega arith in
     search rules
 
@@ -30,7 +30,7 @@ invariant_of-self c =
     let s = c.self.inside in
     let os = s.octets.now in
     let n = c.args.count in
-    let h = octets_there os c.args.self.now s.offset n c.self.view_is c.self.invariant.1 c.requires in
+    let h = bits_there os c.args.self.now s.offset (8 * n) c.self.view_is c.self.invariant.1 c.requires in
     let l : length (take (length os - n) (drop n os)) ≡ length os - n = length-take-le (length os - n) (drop n os) (omega (arith, length-drop n os)) in
     (c.self.invariant.0, omega arith)
 

@@ -1,0 +1,51 @@
+-- A whole length in one step, as its bits tell.
+use Rattle.std.proofs.Common.{◌≡◌, ◌++◌, ℕ, sym, ap, ◌∙◌, subst}
+use Rattle.std.proofs.lemmas.Bool.{true≢false}
+use Rattle.asn_bits.specs.Ranges.{Spanned}
+use Rattle.asn_bits.specs.LengthBits.{BegunLengths, given, BeginsLengths, Takes}
+use Rattle.asn_bits.specs.LengthPlaces.{spans, place_bits}
+use Rattle.asn_bits.specs.declared.general_length.Place.{Place}
+use Rattle.asn_bits.specs.declared.general_length.Place.TheVariants as place
+use Rattle.asn_bits.proofs.GivenLengths.{some_begins, behind_reading, behind_goes, whole_ends}
+use Rattle.asn_bits.proofs.general_length.Lengths.take.Goals as goal
+use Rattle.asn_bits.proofs.general_length.Lengths.take.Goals.{in-Start, in_default}
+
+-- no bit of the length is given
+at_start : (c : goal.After-self-2-1) → c.self.inside.place ≡ place.Start
+at_start c = elim c.match-matches.branch [ in-Start w ↦ w.in-Start.is | in_default w ↦ absurd (true≢false (sym c.if-not-matches.false ∙ w.matches-is)) ]
+
+pub returns-then-not-matches-clause-live : goal.returns-then-not-matches-clause-live
+returns-then-not-matches-clause-live c =
+    let s = c.self.inside in
+    subst (λ (v : BegunLengths). BeginsLengths (Spanned v.counts) (given v)) c.self.view_is (some_begins (spans s.first s.second) s.come (place_bits s.place) c.self.invariant.live)
+
+pub invariant_of-self : goal.invariant_of-self
+invariant_of-self c =
+    let s = c.self.inside in
+    behind_reading (spans s.first s.second) s.come c.in-Some.form c.in-Some.number (c.behind-items.result.0, c.behind-items.result.1, c.behind-items.result.2) c.in-Some.ensures.some.0 (c.starts_some.ensures.exact.0 c.if-starts_some.true) c.behind-items.ensures
+
+pub returns-clause-some : goal.returns-clause-some
+returns-clause-some c =
+    let s = c.self.inside in
+    let is = spans s.first s.second in
+    let x : ℕ × ℕ × Place = (c.behind-items.result.0, c.behind-items.result.1, c.behind-items.result.2) in
+    let front = place_bits (place.Number c.in-Some.form c.in-Some.number 0) in
+    let some = c.starts_some.ensures.exact.0 c.if-starts_some.true in
+    let new : BegunLengths = record { counts = is; blocks = c.behind-items.result.1; bits = place_bits c.behind-items.result.2 } in
+    let whole : front ≡ place_bits s.place ++ front = ap (λ p. place_bits p ++ front) (sym (at_start c)) in
+    subst (λ (v : BegunLengths). Takes v c.args.bits.now c.next_length.new.bits c.behind-items.result.0 new) c.self.view_is (record {
+      front = front;
+      split = c.in-Some.ensures.some.1;
+      ends = whole_ends is s.come c.in-Some.form c.in-Some.number x (place_bits s.place) front c.in-Some.ensures.some.0 some c.behind-items.ensures whole;
+      goes = behind_goes is s.come c.in-Some.form c.in-Some.number x (place_bits s.place) front c.in-Some.ensures.some.0 some c.behind-items.ensures whole;
+    })
+
+pub returns-clause-live : goal.returns-clause-live
+returns-clause-live c =
+    let s = c.self.inside in
+    subst (λ (v : BegunLengths). BeginsLengths (Spanned v.counts) (given v)) c.self.view_is (some_begins (spans s.first s.second) s.come (place_bits s.place) c.self.invariant.live)
+
+pub returns-2-clause-live : goal.returns-2-clause-live
+returns-2-clause-live c =
+    let s = c.self.inside in
+    subst (λ (v : BegunLengths). BeginsLengths (Spanned v.counts) (given v)) c.self.view_is (some_begins (spans s.first s.second) s.come (place_bits s.place) c.self.invariant.live)

@@ -1,0 +1,161 @@
+-- Where a writer of items under a size stands: what is in front of them, and one length after the other.
+use Rattle.std.proofs.Common.{⊎_elim, ◌≡◌, ◌≤◌, ◌<◌, ◌+◌, ◌-◌, ◌*◌, ◌^◌, ℕ, suc, Bool, true, false, ◌&&◌, nat_lt, nat_le, Option, Some, List, [], ◌∷◌, ◌++◌, length, map, take, drop, refl, sym, ◌∙◌, ap, subst, arith, append_assoc}
+use Rattle.std.proofs.lemmas.Bool.{cases_lt, and_parts, leb-true, lt-ltb, le-ltb, ltb-true, ltb-false}
+use Rattle.std.proofs.lemmas.List.{append-nil, length-drop, drop-drop}
+use Rattle.asn_values.specs.Shape.{SizeRange, utf8_string}
+use Rattle.asn_values.specs.Datum.{unicode}
+use Rattle.asn_values.specs.Fits.{in_size}
+use Rattle.asn_bits.specs.Numbers.{bits, width}
+use Rattle.asn_bits.specs.LengthBits.{first_length}
+use Rattle.asn_bits.specs.Lengths.{Length, last_length, fragment, blocks, lengths, joined, with_lengths, general, general_octets}
+use Rattle.asn_bits.proofs.GeneralLengths.{map_same}
+use Rattle.asn_bits.proofs.FirstLengths.{first_fragment}
+use Rattle.asn_bits.proofs.LengthBits.{lengths_last, lengths_fragment}
+use Rattle.asn_bits.proofs.Widths.{width_fits}
+use Rattle.asn_rules.specs.Chunks.{Chunk, one, ones, flat}
+use Rattle.asn_rules.proofs.Flat.{flat-append, flat-ones, flat-general}
+use Rattle.asn_rules.specs.Components.{extension_bit}
+use Rattle.asn_per.specs.Laws.{per_bits}
+use Rattle.asn_per.specs.Per.{spelled, sized, behind_mark, constrained, within}
+use Rattle.asn_per.specs.StringItems.{row_bits, general_bits}
+
+-- ---- in front of the items
+
+-- a size with an upper bound, as the program has it
+abbrev sizing : ℕ → Option ℕ → Bool → SizeRange
+sizing low high m = record { low = low; high = high; extensible = m }
+
+pub root_bounds : (low high count : ℕ) (h : Option ℕ) (m : Bool) → h ≡ Some high → in_size (sizing low h m) count ≡ true → (low ≤ count) × (count ≤ high)
+root_bounds low high count h m e i =
+    let j : (nat_le low count && nat_le count high) ≡ true = rw e at i in
+    let w = and_parts (nat_le low count) (nat_le count high) j in
+    (leb-true low count w.0, leb-true count high w.1)
+
+-- the count has room in its bits
+pub root_room : (low high count w : ℕ) (h : Option ℕ) (m : Bool) → h ≡ Some high → in_size (sizing low h m) count ≡ true → w ≡ width (suc (high - low)) → count - low < 2 ^ w
+root_room low high count w h m e i f =
+    let b = root_bounds low high count h m e i in
+    subst (λ (k : ℕ). count - low < 2 ^ k) (sym f) (width_fits (suc (high - low)) (count - low) (omega (arith, b.0, b.1)))
+
+-- the form of the root
+plain_bits : (low high : ℕ) (xs : List (List Chunk)) → flat spelled (within low (Some high) xs) ≡ bits (width (suc (high - low))) (length xs - low) ++ row_bits xs
+plain_bits low high xs =
+    let front = constrained (suc (high - low)) (length xs - low) in
+    flat-append spelled (ones front) (joined xs) ∙ ap (λ (t : List ℕ). t ++ row_bits xs) (flat-ones spelled front)
+
+root_bits : (low high : ℕ) (m : Bool) (xs : List (List Chunk)) → in_size (sizing low (Some high) m) (length xs) ≡ true
+    → flat spelled (sized (sizing low (Some high) m) xs) ≡ extension_bit m false ++ (bits (width (suc (high - low))) (length xs - low) ++ row_bits xs)
+root_bits low high false xs i = plain_bits low high xs
+root_bits low high true xs i =
+    ap (λ b. flat spelled (behind_mark one true b (within low (Some high) xs) (general one xs))) i
+    ∙ ap (λ (t : List ℕ). 0 ∷ t) (plain_bits low high xs)
+
+-- in the root, with an upper bound: the count is written, and the items follow
+pub root_written : (low high count w : ℕ) (h : Option ℕ) (m : Bool) (old mid new : List ℕ) → h ≡ Some high → in_size (sizing low h m) count ≡ true → w ≡ width (suc (high - low))
+    → mid ≡ old ++ extension_bit m false → new ≡ mid ++ bits w (count - low)
+    → (xs : List (List Chunk)) → length xs ≡ count → new ++ row_bits xs ≡ old ++ flat spelled (sized (sizing low h m) xs)
+root_written low high count w h m old mid new e i f a b xs l =
+    let known : in_size (sizing low (Some high) m) (length xs) ≡ true = ap (λ k. in_size (sizing low k m) (length xs)) (sym e) ∙ ap (λ n. in_size (sizing low h m) n) l ∙ i in
+    let front = bits (width (suc (high - low))) (length xs - low) in
+    let counted : bits w (count - low) ≡ front = rw (f, l) refl in
+    ap (λ (t : List ℕ). t ++ row_bits xs) (b ∙ ap (λ (t : List ℕ). t ++ bits w (count - low)) a ∙ ap (λ (t : List ℕ). (old ++ extension_bit m false) ++ t) counted)
+    ∙ append_assoc (old ++ extension_bit m false) front (row_bits xs) ∙ append_assoc old (extension_bit m false) (front ++ row_bits xs)
+    ∙ ap (λ (t : List ℕ). old ++ t) (sym (root_bits low high m xs known)) ∙ ap (λ k. old ++ flat spelled (sized (sizing low k m) xs)) (sym e)
+
+-- ---- one length after the other
+
+-- so many items follow the first length of n
+last_items : (n : ℕ) → n < 16384 → (first_length n).items ≡ n
+last_items n l = (let t : nat_lt n 16384 ≡ true = lt-ltb n 16384 l in rw (first_length, t) refl)
+
+fragment_items : (n : ℕ) → 16384 ≤ n → (first_length n).items ≡ 16384 * blocks n
+fragment_items n l = ap (λ (f : Length). f.items) (first_fragment n l)
+
+-- no more than there are
+first_items : (n : ℕ) → (first_length n).items ≤ n
+first_items n = ⊎_elim (λ a. omega (arith, last_items n a)) (λ a. omega (arith, fragment_items n a)) (cases_lt n 16384)
+
+-- the bits of a length, its items, and what stands behind them
+with_length : (l : Length) (ls : List Length) (xs : List (List Chunk)) → flat spelled (with_lengths one (l ∷ ls) xs) ≡ l.bits ++ (row_bits (take l.items xs) ++ flat spelled (with_lengths one ls (drop l.items xs)))
+with_length l ls xs =
+    flat-append spelled (ones l.bits) (joined (take l.items xs) ++ with_lengths one ls (drop l.items xs))
+    ∙ ap (λ (t : List ℕ). t ++ flat spelled (joined (take l.items xs) ++ with_lengths one ls (drop l.items xs))) (flat-ones spelled l.bits)
+    ∙ ap (λ (t : List ℕ). l.bits ++ t) (flat-append spelled (joined (take l.items xs)) (with_lengths one ls (drop l.items xs)))
+
+-- what is left behind the items of the first length: nothing behind the last items
+abbrev behind : Bool → List (List Chunk) → List ℕ
+behind true xs = []
+behind false xs = general_bits xs
+
+-- items under their general length begin with the first one
+general_first : (xs : List (List Chunk)) → general_bits xs ≡ (first_length (length xs)).bits ++ (row_bits (take (first_length (length xs)).items xs) ++ behind (nat_lt (length xs) 16384) (drop (first_length (length xs)).items xs))
+general_first xs = go (nat_lt (length xs) 16384) refl
+  where
+    go : (b : Bool) → nat_lt (length xs) 16384 ≡ b → general_bits xs ≡ (first_length (length xs)).bits ++ (row_bits (take (first_length (length xs)).items xs) ++ behind b (drop (first_length (length xs)).items xs))
+    go true e =
+        let f : first_length (length xs) ≡ last_length (length xs) = rw (e, first_length) refl in
+        ap (λ ls. flat spelled (with_lengths one ls xs)) (lengths_last (length xs) (ltb-true (length xs) 16384 e)) ∙ with_length (last_length (length xs)) [] xs
+        ∙ ap (λ (l : Length). l.bits ++ (row_bits (take l.items xs) ++ [])) (sym f)
+    go false e =
+        let m = blocks (length xs) in
+        let f : first_length (length xs) ≡ fragment m = rw (e, first_length) refl in
+        ap (λ ls. flat spelled (with_lengths one ls xs)) (lengths_fragment (length xs) (ltb-false (length xs) 16384 e)) ∙ with_length (fragment m) (lengths (length xs - 16384 * m)) xs
+        ∙ ap (λ n. (fragment m).bits ++ (row_bits (take (16384 * m) xs) ++ flat spelled (with_lengths one (lengths n) (drop (16384 * m) xs)))) (sym (length-drop (16384 * m) xs))
+        ∙ ap (λ (l : Length). l.bits ++ (row_bits (take l.items xs) ++ general_bits (drop l.items xs))) (sym f)
+
+-- what a sink has, with the items that are left under their general length, is what it had with all
+pub record Written (xs : List (List Chunk)) (before now : List ℕ) (done : ℕ) : Type 0 where
+  pub few : done ≤ length xs
+  pub known : now ++ general_bits (drop done xs) ≡ before ++ general_bits xs
+
+pub written_none : (xs : List (List Chunk)) (before : List ℕ) → Written xs before before 0
+written_none xs before = record { few = omega arith; known = refl }
+
+-- the next length and its items are there
+pub many_there : (xs : List (List Chunk)) (before now : List ℕ) (done many count : ℕ) → Written xs before now done → count ≡ length xs → many ≡ (first_length (count - done)).items → done + many ≤ length xs
+many_there xs before now done many count h c m = omega (arith, first_items (count - done), h.few)
+
+-- a length and its items more
+written_step : (xs : List (List Chunk)) (before now mid new : List ℕ) (done many count : ℕ) → Written xs before now done → count ≡ length xs → many ≡ (first_length (count - done)).items
+    → mid ≡ now ++ (first_length (count - done)).bits → new ≡ mid ++ row_bits (take many (drop done xs))
+    → new ++ behind (nat_lt (length (drop done xs)) 16384) (drop (done + many) xs) ≡ before ++ general_bits xs
+written_step xs before now mid new done many count h c m a b =
+    let left = drop done xs in
+    let n : count - done ≡ length left = omega (arith, length-drop done xs) in
+    let first = first_length (length left) in
+    let rest = behind (nat_lt (length left) 16384) (drop (done + many) xs) in
+    let items : many ≡ first.items = m ∙ ap (λ (i : ℕ). (first_length i).items) n in
+    let whole : general_bits left ≡ first.bits ++ (row_bits (take many left) ++ rest) =
+    general_first left ∙ ap (λ (i : ℕ). first.bits ++ (row_bits (take i left) ++ behind (nat_lt (length left) 16384) (drop i left))) (sym items)
+    ∙ ap (λ ys. first.bits ++ (row_bits (take many left) ++ behind (nat_lt (length left) 16384) ys)) (drop-drop many done xs) in
+    ap (λ (t : List ℕ). t ++ rest) (b ∙ ap (λ (t : List ℕ). t ++ row_bits (take many left)) (a ∙ ap (λ (i : ℕ). now ++ (first_length i).bits) n))
+    ∙ append_assoc (now ++ first.bits) (row_bits (take many left)) rest ∙ append_assoc now first.bits (row_bits (take many left) ++ rest)
+    ∙ ap (λ (t : List ℕ). now ++ t) (sym whole) ∙ h.known
+
+-- a fragment
+pub written_more : (xs : List (List Chunk)) (before now mid new : List ℕ) (done many count : ℕ) → Written xs before now done → count ≡ length xs → many ≡ (first_length (count - done)).items
+    → mid ≡ now ++ (first_length (count - done)).bits → new ≡ mid ++ row_bits (take many (drop done xs)) → 16384 ≤ many → Written xs before new (done + many)
+written_more xs before now mid new done many count h c m a b l =
+    let there = many_there xs before now done many count h c m in
+    let large : nat_lt (length (drop done xs)) 16384 ≡ false = le-ltb (length (drop done xs)) 16384 (omega (arith, length-drop done xs)) in
+    record { few = there; known = ap (λ (b : Bool). new ++ behind b (drop (done + many) xs)) (sym large) ∙ written_step xs before now mid new done many count h c m a b }
+
+-- the last items
+pub written_all : (xs : List (List Chunk)) (before now mid new : List ℕ) (done many count : ℕ) → Written xs before now done → count ≡ length xs → many ≡ (first_length (count - done)).items
+    → mid ≡ now ++ (first_length (count - done)).bits → new ≡ mid ++ row_bits (take many (drop done xs)) → many < 16384 → new ≡ before ++ general_bits xs
+written_all xs before now mid new done many count h c m a b l =
+    let left = drop done xs in
+    let n : count - done ≡ length left = omega (arith, length-drop done xs) in
+    let few : nat_lt (length left) 16384 ≡ true = lt-ltb (length left) 16384 (⊎_elim (λ f. omega (arith, n, f)) (λ f. omega (arith, fragment_items (count - done) f, f, m, l)) (cases_lt (count - done) 16384)) in
+    sym (append-nil new) ∙ ap (λ (b : Bool). new ++ behind b (drop (done + many) xs)) (sym few) ∙ written_step xs before now mid new done many count h c m a b
+
+-- ---- UTF8String
+
+octets_flat : (os : List ℕ) → map (λ cs. flat spelled cs) (map (λ o. ones (bits 8 o)) os) ≡ map (λ o. map (λ u. u) (bits 8 o)) os
+octets_flat [] = refl
+octets_flat (o ∷ os) = let one_more = flat-ones spelled (bits 8 o) ∙ sym (map_same (bits 8 o)) in let rest = octets_flat os in cc
+
+-- octets under their general length
+pub utf8_bits : (os : List ℕ) → general_bits (map (λ o. ones (bits 8 o)) os) ≡ per_bits utf8_string (unicode os)
+utf8_bits os =
+    flat-general spelled (map (λ o. ones (bits 8 o)) os) ∙ ap (λ items. general (λ u. u) items) (octets_flat os) ∙ sym (append-nil (general_octets (λ u. u) os))

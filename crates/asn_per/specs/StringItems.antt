@@ -1,0 +1,37 @@
+-- What the writers of strings and lists write: items, in front of which stand a count or lengths.
+use Rattle.std.specs.Prelude.{Bool, true, false, ℕ, List, [], ◌∷◌, map, ⊤, IsTrue}
+use Rattle.std.specs.List.{AllByRecursion}
+use Rattle.asn_values.specs.Fits.{is_of_kind}
+use Rattle.asn_values.specs.View.{alphabet_of}
+use Rattle.asn_bits.specs.Numbers.{bits}
+use Rattle.asn_bits.specs.Lengths.{joined, general}
+use Rattle.asn_rules.specs.Chunks.{Chunk, one, ones, flat}
+use Rattle.asn_rules.specs.Components.{bit_of}
+use Rattle.asn_per.specs.Per.{spelled, character_bits}
+use Rattle.asn_per.specs.declared.item_writer.Items.{Items}
+use Rattle.asn_per.specs.declared.item_writer.Items.TheVariants as items
+
+-- the spelling of each item of a string
+abbrev pub item_chunks : Items → List (List Chunk)
+item_chunks (items.Bits bs) = map (λ b. one (bit_of b) ∷ []) bs.now
+item_chunks (items.Octets os) = map (λ o. ones (bits 8 o)) os.now
+item_chunks (items.Characters k cs) = map (λ c. ones (character_bits (alphabet_of k) c)) cs.now
+
+-- each character is of its kind
+abbrev pub AreOfKind : Items → Type 0
+AreOfKind (items.Bits bs) = ⊤
+AreOfKind (items.Octets os) = ⊤
+AreOfKind (items.Characters k cs) = AllByRecursion (λ c. IsTrue (is_of_kind (alphabet_of k) c)) cs.now
+
+-- items in bits, one after the other
+abbrev pub row_bits : List (List Chunk) → List ℕ
+row_bits xs = flat spelled (joined xs)
+
+-- items in bits, under their general length
+abbrev pub general_bits : List (List Chunk) → List ℕ
+general_bits xs = flat spelled (general one xs)
+
+-- what stands behind the count of items: the items at once, or under their general length
+abbrev pub behind_count : Bool → List (List Chunk) → List ℕ
+behind_count true xs = row_bits xs
+behind_count false xs = general_bits xs

@@ -1,0 +1,125 @@
+//! The reader of what stands in front of the items of a list under a size, and between them: counts and
+//! lengths.
+ghost use Rattle.std.specs.Prelude.{◌≡◌, ◌≤◌, ◌<◌, ◌+◌, ◌-◌, ◌*◌, ℕ, [], true, false, IfOk, IfErr};
+ghost use Rattle.asn_values.specs.Fits.{max_len};
+ghost use Rattle.asn_values.specs.View.{size_range_of};
+ghost use Rattle.asn_bits.specs.Ranges.{Spanned, At};
+ghost use Rattle.asn_rules.specs.Languages.{Spells};
+ghost use Rattle.asn_rules.specs.Stops.{Stops};
+ghost use Rattle.asn_per.specs.Per.{per_fields};
+ghost use Rattle.asn_per.specs.ListsAhead.{IsSizeOfProfile, RootStart, Start, Next, StopsNext, lengths, other_counts};
+ghost use Rattle.asn_per.specs.RowsAhead.{ahead_of, lengths_of, CanFollow, SomeLeft};
+
+use crate::length_reader::{Counts, Length, Lengths};
+use crate::number_reader::{Numbers, number};
+use asn_bits::BitCursor;
+use asn_bits::numbers::width;
+use asn_rules::{Stop, Why};
+use asn_values::Size;
+
+/// The most items of a list.
+const MOST: u32 = 268_435_455;
+
+/// What is ahead of the reader of a list.
+#[derive(Drop)]
+pub(crate) enum Rows {
+    /// So many items, and then nothing.
+    Items(usize),
+    /// A length, and the items that it counts.
+    Lengths(Lengths),
+    /// Nothing.
+    End,
+}
+
+impl Rows {
+    /// Reads what stands in front of a list under the size: the extension bit, and the count of a list of
+    /// the root that has an upper bound.
+    pub(crate) fn start(size: &Size, bits: &mut BitCursor<'_>) -> Result<Rows, Stop>
+        requires of_profile { IsSizeOfProfile (size_range_of size.now) }
+        ensures done { IfOk result (λ rows. Spells per_fields (Start (size_range_of size.now)) (ahead_of rows) bits.old bits.new) }
+        ensures follows { IfOk result (λ rows. CanFollow rows) }
+        ensures stop { IfErr result (λ why. Stops per_fields (Start (size_range_of size.now)) bits.old why) }
+    {
+        if !size.ext {
+            return root_start(size, bits);
+        }
+        match bits.next() {
+            None => Err(Stop::Short),
+            Some(0) => root_start(size, bits),
+            Some(_) => Ok(Rows::Lengths(other_lengths(size))),
+        }
+    }
+
+    /// Reads as far as the items that follow next, and tells how many they are: none where the list ends.
+    pub(crate) fn next(&mut self, bits: &mut BitCursor<'_>) -> Result<Option<usize>, Stop>
+        requires follows { CanFollow self.old }
+        ensures follows { IfOk result (λ row. CanFollow self.new) }
+        ensures done { IfOk result (λ row. Next (ahead_of self.old) row (ahead_of self.new) bits.old bits.new) }
+        ensures stop { IfErr result (λ why. StopsNext (ahead_of self.old) bits.old why) }
+    {
+        match self {
+            Rows::End => Ok(None),
+            Rows::Items(count) => {
+                let count = *count;
+                *self = Rows::End;
+                Ok(Some(count))
+            }
+            Rows::Lengths(lengths) => match lengths.next(bits)? {
+                Length::Last(count) => {
+                    *self = Rows::End;
+                    Ok(Some(count as usize))
+                }
+                Length::Fragment(count) => Ok(Some(count as usize)),
+            },
+        }
+    }
+}
+
+/// The lengths of lists outside the root of the size.
+fn other_lengths(size: &Size) -> Lengths
+    requires of_profile { IsSizeOfProfile (size_range_of size.now) }
+    requires marked { size.now.ext ≡ true }
+    ensures lengths { lengths_of result ≡ lengths (other_counts size.now.low size.now.high) 0 false }
+    ensures some { SomeLeft result }
+{
+    let below = Counts {
+        low: 0,
+        high: size.low.saturating_sub(1),
+    };
+    let Some(high) = size.high else {
+        return Lengths::new(below, None);
+    };
+    let above = Counts {
+        low: high + 1,
+        high: MOST,
+    };
+    if size.low == 0 {
+        Lengths::new(above, None)
+    } else {
+        Lengths::new(above, Some(below))
+    }
+}
+
+/// Reads what stands in front of a list of the root.
+fn root_start(size: &Size, bits: &mut BitCursor<'_>) -> Result<Rows, Stop>
+    requires of_profile { IsSizeOfProfile (size_range_of size.now) }
+    ensures done { IfOk result (λ rows. Spells per_fields (RootStart size.now.low size.now.high) (ahead_of rows) bits.old bits.new) }
+    ensures follows { IfOk result (λ rows. CanFollow rows) }
+    ensures stop { IfErr result (λ why. Stops per_fields (RootStart size.now.low size.now.high) bits.old why) }
+{
+    let Some(high) = size.high else {
+        let counts = Counts {
+            low: size.low,
+            high: MOST,
+        };
+        return Ok(Rows::Lengths(Lengths::new(counts, None)));
+    };
+    let above = u64::from(high - size.low);
+    let set = Numbers {
+        low: 0,
+        high: above,
+        except: None,
+    };
+    let count = number(width(u128::from(above) + 1), set, Why::Length, bits)?;
+    Ok(Rows::Items(size.low as usize + count as usize))
+}

@@ -1,0 +1,156 @@
+//! Writers of strings: BIT STRING, OCTET STRING, the restricted character strings and UTF8String.
+ghost use Rattle.std.specs.Prelude.{◌≡◌, ◌++◌, ◌*◌, Bool, List, OnOk, IfOk, length};
+ghost use Rattle.asn_values.specs.Datum.{bit_list, octet_list, characters, unicode};
+ghost use Rattle.asn_values.specs.Fits.{Fits, FitsLength, in_size};
+ghost use Rattle.asn_values.specs.Shape.{bit_string, octet_string, restricted, utf8_string};
+ghost use Rattle.asn_values.specs.View.{size_range_of, alphabet_of};
+ghost use Rattle.asn_bits.specs.LengthBits.{first_length};
+ghost use Rattle.asn_rules.specs.Chunks.{Chunk, flat};
+ghost use Rattle.asn_rules.specs.Components.{extension_bit};
+ghost use Rattle.asn_per.specs.Laws.{per_bits};
+ghost use Rattle.asn_per.specs.Per.{spelled, sized};
+ghost use Rattle.asn_per.specs.StringItems.{item_chunks, AreOfKind, general_bits, behind_count};
+
+use crate::item_writer::{Items, count_of, write_items};
+use asn_bits::BitSink;
+use asn_bits::numbers::width;
+use asn_values::{Size, TextKind};
+use std::alloc::AllocError;
+
+/// How many items a block of a fragment has.
+const BLOCK: usize = 16384;
+
+/// Writes the bits of a BIT STRING (X.691, "encoding the bitstring type").
+pub(crate) fn write_bit_string(
+    size: &Size,
+    truths: &[bool],
+    sink: &mut BitSink,
+) -> Result<(), AllocError>
+    requires of_type { Fits (bit_string (size_range_of size.now)) (bit_list truths.now) }
+    ensures { OnOk result (sink.new ≡ sink.old ++ per_bits (bit_string (size_range_of size.now)) (bit_list truths.now)) }
+{
+    write_sized(size, Items::Bits(truths), sink)
+}
+
+/// Writes the octets of an OCTET STRING (X.691, "encoding the octetstring type").
+pub(crate) fn write_octet_string(
+    size: &Size,
+    octets: &[u8],
+    sink: &mut BitSink,
+) -> Result<(), AllocError>
+    requires of_type { Fits (octet_string (size_range_of size.now)) (octet_list octets.now) }
+    ensures { OnOk result (sink.new ≡ sink.old ++ per_bits (octet_string (size_range_of size.now)) (octet_list octets.now)) }
+{
+    write_sized(size, Items::Octets(octets), sink)
+}
+
+/// Writes the characters of an IA5String, NumericString or VisibleString (X.691, "encoding the
+/// restricted character string types").
+pub(crate) fn write_text(
+    kind: TextKind,
+    size: &Size,
+    text: &[u8],
+    sink: &mut BitSink,
+) -> Result<(), AllocError>
+    requires of_type { Fits (restricted (alphabet_of kind) (size_range_of size.now)) (characters text.now) }
+    ensures { OnOk result (sink.new ≡ sink.old ++ per_bits (restricted (alphabet_of kind) (size_range_of size.now)) (characters text.now)) }
+{
+    write_sized(size, Items::Characters(kind, text), sink)
+}
+
+/// Writes the octets of a UTF8String under their general length (X.691, "encoding the restricted
+/// character string types").
+pub(crate) fn write_utf8(octets: &[u8], sink: &mut BitSink) -> Result<(), AllocError>
+    ensures { OnOk result (sink.new ≡ sink.old ++ per_bits utf8_string (unicode octets.now)) }
+{
+    write_general(Items::Octets(octets), sink)
+}
+
+/// Writes items under a size.
+fn write_sized(size: &Size, items: Items<'_>, sink: &mut BitSink) -> Result<(), AllocError>
+    requires of_type { FitsLength (size_range_of size.now) (length (item_chunks items)) }
+    requires of_kind { AreOfKind items }
+    ensures { OnOk result (sink.new ≡ sink.old ++ flat spelled (sized (size_range_of size.now) (item_chunks items.entry))) }
+{
+    let count = count_of(items);
+    if push_count(size, count, sink)? {
+        write_items(items, 0, count, sink)
+    } else {
+        write_general(items, sink)
+    }
+}
+
+/// Writes what stands before `count` items under a size: the extension bit where there is a mark,
+/// and in the root the count where there is an upper bound (X.691, "constrained whole number").
+/// Says whether the items follow at once; else their general length does.
+pub(crate) fn push_count(size: &Size, count: usize, sink: &mut BitSink) -> Result<bool, AllocError>
+    requires { FitsLength (size_range_of size.now) count }
+    ensures { IfOk result (λ whole. (xs : List (List Chunk)) → length xs ≡ count
+        → sink.new ++ behind_count whole xs ≡ sink.old ++ flat spelled (sized (size_range_of size.now) xs)) }
+{
+    let inside = is_in_root(size, count);
+    push_extension_bit(size.ext, !inside, sink)?;
+    match size.high {
+        Some(high) if inside => {
+            let values = u128::from(high - size.low) + 1;
+            sink.push_number(width(values), count as u64 - u64::from(size.low))?;
+            Ok(true)
+        }
+        _ => Ok(false),
+    }
+}
+
+/// Writes the extension bit of a type that has a mark: 1 where the value lies outside the root.
+pub(crate) fn push_extension_bit(
+    marked: bool,
+    outside: bool,
+    sink: &mut BitSink,
+) -> Result<(), AllocError>
+    ensures { OnOk result (sink.new ≡ sink.old ++ extension_bit marked outside) }
+{
+    if marked { sink.push(outside) } else { Ok(()) }
+}
+
+/// Whether the count lies in the root of the size.
+fn is_in_root(size: &Size, count: usize) -> bool
+    ensures { result ≡ in_size (size_range_of size.now) count }
+{
+    size.low as usize <= count && size.high.is_none_or(|high| count <= high as usize)
+}
+
+/// Writes items under their general length (X.691, "general length determinant").
+fn write_general(items: Items<'_>, sink: &mut BitSink) -> Result<(), AllocError>
+    requires of_kind { AreOfKind items }
+    ensures { OnOk result (sink.new ≡ sink.old ++ general_bits (item_chunks items.entry)) }
+{
+    let count = count_of(items);
+    let mut done = 0;
+    loop {
+        let many = push_length(count - done, sink)?;
+        let last = many < BLOCK;
+        write_items(items, done, many, sink)?;
+        if last {
+            return Ok(());
+        }
+        done += many;
+    }
+}
+
+/// Writes the next length of a list of which so many items are left, and says how many follow it
+/// at once: fewer than 16384 where they are the last.
+fn push_length(left: usize, sink: &mut BitSink) -> Result<usize, AllocError>
+    ensures items { IfOk result (λ many. many ≡ (first_length left).items) }
+    ensures bits { OnOk result (sink.new ≡ sink.old ++ (first_length left).bits) }
+{
+    if left < 128 {
+        sink.push_number(8, left as u64)?;
+        return Ok(left);
+    }
+    if left < BLOCK {
+        sink.push_number(16, 0x8000 + left as u64)?;
+        return Ok(left);
+    }
+    let blocks = (left / BLOCK).min(4);
+    sink.push_number(8, 0xC0 + blocks as u64)?;
+    Ok(BLOCK * blocks)
+}

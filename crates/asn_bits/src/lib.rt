@@ -19,4 +19,6 @@ pub use number_field::{FieldState, NumberField};
 pub use sink::BitSink;
 
 #[cfg(test)]
+mod length_tests;
+#[cfg(test)]
 mod tests;

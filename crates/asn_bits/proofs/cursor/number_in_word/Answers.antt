@@ -1,5 +1,5 @@
 -- The field of the first eight octets' number.
-use Rattle.std.proofs.Common.{◌≡◌, ◌<◌, ◌+◌, ◌-◌, ℕ, get_or, arith}
+use Rattle.std.proofs.Common.{◌<◌, ◌+◌, ◌-◌, ℕ, get_or, arith}
 use Rattle.asn_bits.proofs.Reading.{octets_eight, field_read}
 use Rattle.asn_bits.proofs.cursor.number_in_word.Goals as goal
 

@@ -8,9 +8,6 @@ use crate::words::{behind, middle, push_low, push_word};
 use std::alloc::{AllocError, Global};
 use std::marker::Model;
 
-// the octets for which a sink asks memory where it needs some: two words that go out, one that waits, and more
-const ROOM: usize = 64;
-
 /// Bits that wait to become octets. Contracts see the list of the bits pushed, each 0 or 1.
 ///
 /// Whole octets stand in a vector, and the fewer than 64 bits behind them in a word. Where bits wait, the
@@ -82,7 +79,7 @@ impl BitSink {
         ensures err { OnErr result (self.new ≡ self.old) }
     {
         let left = self.count % 8;
-        self.octets.reserve(octets.len() + ROOM)?;
+        self.octets.reserve(octets.len() + 16)?;
         push_low(&mut self.octets, self.count / 8, self.pending >> left);
         if left == 0 {
             self.octets.extend_from_slice(octets)?;
@@ -145,7 +142,7 @@ impl BitSink {
         ensures ok { OnOk result (self.new ≡ self.old ++ bits k n) }
         ensures err { OnErr result (self.new ≡ self.old) }
     {
-        self.octets.reserve(ROOM)?;
+        make_room(&mut self.octets)?;
         let (count, pending) = put(&mut self.octets, self.count, self.pending, k, n);
         self.count = count;
         self.pending = pending;
@@ -159,13 +156,26 @@ impl BitSink {
         ensures ok { OnOk result (self.new ≡ (self.old ++ bits j m) ++ bits k n) }
         ensures err { OnErr result (self.new ≡ self.old) }
     {
-        self.octets.reserve(ROOM)?;
+        make_room(&mut self.octets)?;
         let (count, pending) = put(&mut self.octets, self.count, self.pending, j, m);
         let (count, pending) = put(&mut self.octets, count, pending, k, n);
         self.count = count;
         self.pending = pending;
         Ok(())
     }
+}
+
+// makes room for three words: two that go out and one that waits; where memory is needed, for eight
+fn make_room(octets: &mut Vec<u8>) -> Result<(), AllocError>
+    ensures ok { OnOk result (vec_len octets.new + 24 ≤ vec_capacity octets.new) }
+    ensures items { octets.new.items ≡ octets.old.items }
+    ensures len { vec_len octets.new ≡ vec_len octets.old }
+    ensures capacity { vec_capacity octets.old ≤ vec_capacity octets.new }
+{
+    if octets.capacity() - octets.len() < 24 {
+        octets.reserve(64)?;
+    }
+    Ok(())
 }
 
 // adds n in k bits behind the octets and the low `count` bits of `pending`, a word of eight octets at once,

@@ -50,6 +50,7 @@ pub fn encode(alloc: Global, ty: &Checked, value: &Value) -> Result<Vec<u8>, Enc
 }
 
 /// Writes a value of the type.
+#[inline(always)]
 #[cycle(writer)]
 fn write(ty: &AsnType, value: &Value, sink: &mut BitSink) -> Result<(), AllocError>
     requires of_profile { InProfile (shape_of ty.now) }
@@ -82,6 +83,7 @@ fn write(ty: &AsnType, value: &Value, sink: &mut BitSink) -> Result<(), AllocErr
 
 /// Writes a number of the range: as a constrained whole number where there is an upper bound, else as
 /// a semi-constrained one (X.691, "encoding the integer type").
+#[inline(always)]
 fn write_integer(bounds: &Bounds, whole: i128, sink: &mut BitSink) -> Result<(), AllocError>
     requires of_profile { InProfile (integer (range_of bounds.now)) }
     requires of_type { FitsNumber (range_of bounds.now) whole }

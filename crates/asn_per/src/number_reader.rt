@@ -66,13 +66,12 @@ pub(crate) fn number(k: u32, set: Numbers, why: Why, bits: &mut BitCursor<'_>) -
     ensures member { IfOk result (λ n. Admits set n) }
     ensures stop { IfErr result (λ why. Stops per_fields (Plain (InSet k (λ m. Admits set m))) bits.old why) }
 {
-    let before = bits.copied();
-    if let Some(n) = bits.take_number(k)
+    if let Some(n) = bits.peek_number(k)
         && admits(set, n)
     {
+        bits.pass(k);
         return Ok(n);
     }
-    *bits = before;
     number_by_bits(k, set, why, bits)
 }
 

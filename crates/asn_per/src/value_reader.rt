@@ -61,7 +61,7 @@ fn read_components(
     ensures done { IfOk result (λ es. Spells per_fields (Listed per (fields_of (map part_of_field fields.now)) (bits count bitmap)) (map (option_map datum_of) es.items) cursor.old cursor.new) }
     ensures stop { IfErr result (λ why. Stops per_fields (Listed per (fields_of (map part_of_field fields.now)) (bits count bitmap)) cursor.old why) }
 {
-    let mut entries = Vec::new(alloc);
+    let mut entries = Vec::with_capacity(alloc, fields.len())?;
     let mut left = count;
     for field in fields {
         let (present, below) = presence_of(field, bitmap, left);

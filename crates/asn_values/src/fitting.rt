@@ -16,6 +16,7 @@ pub fn fits(ty: &Checked, value: &Value) -> bool
 }
 
 /// Whether the value is one of the type.
+#[inline(always)]
 #[cycle(fits)]
 pub(crate) fn type_has(ty: &AsnType, value: &Value) -> bool
     ensures { IsTrue result ↔ Fits (shape_of ty.now) (datum_of value.now) }
@@ -50,6 +51,7 @@ fn fields_have(fields: &[Field], entries: &[Option<Value>]) -> bool
 }
 
 /// Whether the entry is a value of the component, or absent where the component is OPTIONAL.
+#[inline(always)]
 #[cycle(fits)]
 fn field_has(field: &Field, entry: &Option<Value>) -> bool
     ensures { IsTrue result ↔ FitsDemand (λ d. Fits (part_of_field field.now).shape d) (part_of_field field.now).demand (option_map datum_of entry.now) }

@@ -66,7 +66,7 @@ pub read_components-returns-in_err-entry-clause-stop : goal.read_components-retu
 read_components-returns-in_err-entry-clause-stop t c =
     let h = rw (next_part c.args.fields.now c.loop-field.field-index c.field-item.result c.loop-field-test.true c.field-item.is) at c.loop-field.invariant in
     let n = next_either h c.presence_of-present.result.0 c.presence_of-present.result.1 c.presence_of-present.ensures.must c.presence_of-present.ensures.bit in
-    let p = err_from_is_err_and c.from_residual.result c.from_residual.ensures.1 in
+    let p = err_from_is_err_and c.from_residual-in_err-entry.result c.from_residual-in_err-entry.ensures.1 in
     rw (p.1, p.2) (stops_by _ n.stops c.in_err-entry.ensures.stop)
 
 pub read_components-loop-field-preserved : goal.read_components-loop-field-preserved

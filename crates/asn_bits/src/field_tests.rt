@@ -1,4 +1,5 @@
 //! Unions of intervals and fields of their numbers, against the numbers tried one after the other.
+ghost use Rattle.std.specs.Prelude.{◌<◌, ◌≤◌};
 
 use crate::bit_lists::{WORDS, add_number, first_bits, octets_of};
 use crate::number_field::take_of;
@@ -87,7 +88,7 @@ fn unions_have_the_numbers_at_the_ends(rt: HostRuntime) {
 }
 
 /// What is known behind `given` bits of `word`, where the set has these numbers of `k` bits.
-fn by_trial(numbers: &[u64], k: u32, word: u64, given: u32) -> FieldState
+fn told_by_trial(numbers: &[u64], k: u32, word: u64, given: u32) -> FieldState
     requires few { k ≤ 64 }
     requires some { 1 ≤ given }
     requires given { given ≤ k }
@@ -105,7 +106,7 @@ fn by_trial(numbers: &[u64], k: u32, word: u64, given: u32) -> FieldState
 }
 
 /// The bits of `word` given to a field of the numbers, and taken from a cursor.
-fn reads_as_by_trial(
+fn reads_a_word(
     rt: &impl Abort,
     alloc: Global,
     numbers: [u64; 3],
@@ -117,9 +118,9 @@ fn reads_as_by_trial(
     let [a, b, c] = numbers;
     let union = Intervals::one(a, a).and(b, b).and(c, c);
     let mut field = NumberField::new(k, union.copied());
-    for given in 1..=k {
-        let told = field.bit(word >> (k - given) & 1 == 1);
-        assert_eq!(rt; told, by_trial(&numbers, k, word, given));
+    for given in 0..k {
+        let told = field.bit(word >> (k - 1 - given) & 1 == 1);
+        assert_eq!(rt; told, told_by_trial(&numbers, k, word, given + 1));
     }
     let mut bits = Vec::new(alloc);
     add_number(&mut bits, k, word)?;
@@ -142,9 +143,9 @@ fn long_fields_are_read_as_by_trial(rt: HostRuntime) -> Result<(), Fail> {
                 first_bits(u64::MAX, k),
             ];
             for n in numbers {
-                reads_as_by_trial(&rt, rt.alloc(), numbers, k, n)?;
+                reads_a_word(&rt, rt.alloc(), numbers, k, n)?;
                 for i in 0..k {
-                    reads_as_by_trial(&rt, rt.alloc(), numbers, k, n ^ 1 << i)?;
+                    reads_a_word(&rt, rt.alloc(), numbers, k, n ^ 1 << i)?;
                 }
             }
         }

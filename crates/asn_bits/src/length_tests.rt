@@ -1,4 +1,5 @@
 //! The reader of lengths against the tree of the bits that the lengths of all counts of a set have.
+ghost use Rattle.std.specs.Prelude.{◌≤◌};
 
 use crate::bit_lists::{add_number, octets_of, some_bits};
 use crate::{BitCursor, Counts, FieldState, Lengths};
@@ -109,6 +110,15 @@ struct Length {
     items: u64,
 }
 
+impl Length {
+    fn copied(&self) -> Result<Length, AllocError> {
+        Ok(Length {
+            bits: self.bits.clone()?,
+            items: self.items,
+        })
+    }
+}
+
 /// The lengths of `count` items, by the definition: fragments of 4 blocks at most, and what is left.
 fn lengths_of(alloc: Global, count: u64) -> Result<Vec<Length>, AllocError> {
     let mut lengths = Vec::new(alloc);
@@ -199,19 +209,18 @@ fn walks(
     Ok(())
 }
 
-/// Takes the lengths of a count, behind so many bits: each as the tree has it, up to the first one that no count
-/// of the set goes on with.
+/// Takes lengths one after the other, behind so many bits: each as the tree has it, up to the first one that no
+/// count of the set goes on with.
 fn takes(
     rt: &impl Abort,
     alloc: Global,
     mut reader: Lengths,
     tree: &Tree,
-    count: u64,
+    lengths: &[Length],
     offset: u32,
 ) -> Result<(), Fail> {
-    let lengths = lengths_of(alloc, count)?;
     let mut bits = some_bits(alloc, offset)?;
-    for length in &lengths {
+    for length in lengths {
         bits.extend_from_slice(length.bits.as_slice())?;
     }
     let octets = octets_of(alloc, bits.as_slice())?;
@@ -220,20 +229,20 @@ fn takes(
         cursor.next();
     }
     let mut at = Some(0);
-    for length in &lengths {
-        let before = cursor.copied();
+    for length in lengths {
+        let mut after = cursor.copied();
         for bit in &length.bits {
             at = at.and_then(|at| tree.child(at, *bit));
-            cursor.next();
+            after.next();
         }
-        let mut taken = before.copied();
-        let told = reader.take(&mut taken);
-        let after = if at.is_some() { &cursor } else { &before };
-        assert_eq!(rt; told, at.map(|_| length.items), "the lengths of {count}");
-        assert_eq!(rt; left(&taken), left(after), "the lengths of {count}");
+        let before = left(&cursor);
+        let told = reader.take(&mut cursor);
+        assert_eq!(rt; told, at.map(|_| length.items));
         if told.is_none() {
+            assert_eq!(rt; left(&cursor), before);
             break;
         }
+        assert_eq!(rt; left(&cursor), left(&after));
     }
     Ok(())
 }
@@ -293,6 +302,21 @@ const TAKEN: [u64; 22] = [
     65_537, 81_919, 81_920, 98_304, 114_689, 131_072,
 ];
 
+/// Lengths of each form, at its borders and past them.
+fn pool(alloc: Global) -> Result<Vec<Length>, AllocError> {
+    let mut pool = Vec::new(alloc);
+    for n in [0, 3, 127] {
+        pool.push(with_form(alloc, &[false], 7, n, n)?)?;
+    }
+    for n in [0, 127, 128, 300, 16_383] {
+        pool.push(with_form(alloc, &[true, false], 14, n, n)?)?;
+    }
+    for n in [0, 1, 2, 3, 4, 5, 63] {
+        pool.push(with_form(alloc, &[true, true], 6, n, BLOCK * n)?)?;
+    }
+    Ok(pool)
+}
+
 #[test]
 fn lengths_are_taken(rt: HostRuntime) -> Result<(), Fail> {
     for (first, second) in SETS {
@@ -301,10 +325,55 @@ fn lengths_are_taken(rt: HostRuntime) -> Result<(), Fail> {
         let all = counts_of(rt.alloc(), first, second)?;
         let tree = tree_of(rt.alloc(), all.as_slice())?;
         for count in TAKEN {
+            let lengths = lengths_of(rt.alloc(), count)?;
             for offset in 0..8 {
                 let reader = Lengths::new(first, second);
-                takes(&rt, rt.alloc(), reader, &tree, count, offset)?;
+                takes(&rt, rt.alloc(), reader, &tree, lengths.as_slice(), offset)?;
             }
+        }
+    }
+    Ok(())
+}
+
+/// Any two of the pool one after the other, which mostly are no lengths of a list.
+#[test]
+fn lengths_of_no_list_are_not_taken(rt: HostRuntime) -> Result<(), Fail> {
+    let alloc = rt.alloc();
+    for (first, second) in SETS {
+        let (first, second) = (from_to(first), second.map(from_to));
+        assert!(rt; first.low <= first.high);
+        let all = counts_of(alloc, first, second)?;
+        let tree = tree_of(alloc, all.as_slice())?;
+        for a in &pool(alloc)? {
+            for b in &pool(alloc)? {
+                let both = vec![in alloc; a.copied()?, b.copied()?]?;
+                let reader = Lengths::new(first, second);
+                takes(&rt, alloc, reader, &tree, both.as_slice(), 3)?;
+            }
+        }
+    }
+    Ok(())
+}
+
+#[test]
+fn lengths_cut_off_are_not_taken(rt: HostRuntime) -> Result<(), Fail> {
+    let alloc = rt.alloc();
+    for length in &pool(alloc)? {
+        let mut given = Vec::new(alloc);
+        for bit in &length.bits {
+            let offset = (8 - (given.len() % 8) as u32) % 8;
+            let mut bits = some_bits(alloc, offset)?;
+            bits.extend_from_slice(given.as_slice())?;
+            let octets = octets_of(alloc, bits.as_slice())?;
+            let mut cursor = BitCursor::over(octets.as_slice());
+            for _ in 0..offset {
+                cursor.next();
+            }
+            let mut reader = Lengths::new(from_to((0, 268_435_455)), None);
+            assert_eq!(rt; reader.take(&mut cursor), None);
+            assert_eq!(rt; left(&cursor), given.len() as u64);
+            assert!(rt; !reader.more());
+            given.push(*bit)?;
         }
     }
     Ok(())

@@ -27,10 +27,11 @@ fn octets_by_trial(n: u64) -> u32 {
 
 #[test]
 fn widths_are_the_least(rt: HostRuntime) {
-    for values in 0..=2000 {
+    for values in 0..=2000u64 {
+        let values = u128::from(values);
         assert_eq!(rt; width(values), width_by_trial(values), "{values}");
     }
-    for k in 0..128 {
+    for k in 0..u128::BITS {
         let power = 1u128 << k;
         for values in [power.saturating_sub(1), power, power.saturating_add(1)] {
             assert_eq!(rt; width(values), width_by_trial(values), "{values}");
@@ -42,7 +43,7 @@ fn widths_are_the_least(rt: HostRuntime) {
 #[test]
 fn octets_are_the_fewest(rt: HostRuntime) -> Result<(), Fail> {
     let alloc = rt.alloc();
-    for k in 0..64 {
+    for k in 0..u64::BITS {
         let power = 1u64 << k;
         for n in [
             power.saturating_sub(1),
@@ -70,12 +71,12 @@ fn octets_are_the_fewest(rt: HostRuntime) -> Result<(), Fail> {
 
 #[test]
 fn offsets_are_counted_from_a_bound(rt: HostRuntime) {
-    for low in -20..=20 {
-        let mut n = low;
-        for steps in 0..=50 {
+    for i in 0..=40u64 {
+        let low = i128::from(i) - 20;
+        for steps in 0..=50u64 {
+            let n = low + i128::from(steps);
             assert_eq!(rt; above(low, n), steps);
             assert_eq!(rt; number_above(low, steps), n);
-            n += 1;
         }
     }
     let lowest = i128::from(i64::MIN);

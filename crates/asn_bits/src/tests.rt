@@ -1,6 +1,7 @@
-//! What no clause says: that the calls succeed, vectors from outside, and numbers against bits.
+//! What no clause says: that the calls succeed, vectors from outside, and fields of few bits.
 ghost use Rattle.std.specs.Prelude.{◌≡◌, ℕ, ◌^◌, ◌<◌, ◌≤◌};
 
+use crate::bit_lists::limit;
 use crate::number_field::take_of;
 use crate::numbers::{octet_count, width};
 use crate::{BitCursor, BitSink, FieldState, Intervals, NumberField};
@@ -134,101 +135,6 @@ fn counts_bits_and_octets(rt: HostRuntime) {
     assert_eq!(rt; octet_count(255), 1);
     assert_eq!(rt; octet_count(256), 2);
     assert_eq!(rt; octet_count(u64::MAX), 8);
-}
-
-fn limit(k: u32) -> u64
-    requires { k < 64 }
-    ensures { result ≡ 2 ^ k }
-{
-    1 << k
-}
-
-// the first k bits of a number whose bits follow no short pattern
-fn sample(k: u32) -> u64
-    requires { k ≤ 64 }
-    ensures { result < 2 ^ k }
-{
-    if k == 0 {
-        0
-    } else {
-        0x9b5d_3c7a_e142_6f81 >> (64 - k)
-    }
-}
-
-// n in k bits is the same as its bits one by one, behind `offset` bits and before `tail` octets
-fn agrees(
-    rt: &impl Abort,
-    alloc: Global,
-    offset: u32,
-    k: u32,
-    n: u64,
-    tail: u32,
-) -> Result<(), Fail>
-    requires few { k ≤ 64 }
-    requires fits { n < 2 ^ k }
-{
-    let mut at_once = BitSink::new(alloc);
-    let mut one_by_one = BitSink::new(alloc);
-    for i in 0..offset {
-        put_bit(&mut at_once, i % 3 == 0)?;
-        put_bit(&mut one_by_one, i % 3 == 0)?;
-    }
-    put(&mut at_once, k, n)?;
-    for i in 0..k {
-        put_bit(&mut one_by_one, n >> (k - 1 - i) & 1 == 1)?;
-    }
-    for _ in 0..tail {
-        put(&mut at_once, 8, 170)?;
-        put(&mut one_by_one, 8, 170)?;
-    }
-    fill_octets(&mut at_once)?;
-    fill_octets(&mut one_by_one)?;
-    assert!(rt; at_once.ends_at_octet());
-    assert!(rt; one_by_one.ends_at_octet());
-    let octets = at_once.into_octets();
-    let others = one_by_one.into_octets();
-    assert_eq!(rt; octets.as_slice(), others.as_slice());
-    reads(rt, octets.as_slice(), offset, k, n)
-}
-
-fn reads(rt: &impl Abort, octets: &[u8], offset: u32, k: u32, n: u64) -> Result<(), Fail>
-    requires few { k ≤ 64 }
-{
-    let mut at_once = BitCursor::over(octets);
-    for i in 0..offset {
-        assert_eq!(rt; at_once.next(), Some((i % 3 == 0) as u8));
-    }
-    let mut one_by_one = at_once.copied();
-    assert_eq!(rt; at_once.take_number(k), Some(n));
-    for i in 0..k {
-        assert_eq!(rt; one_by_one.next(), Some((n >> (k - 1 - i) & 1) as u8));
-    }
-    assert_eq!(rt; at_once.rest_of_octet(), one_by_one.rest_of_octet());
-    assert_eq!(rt; at_once.octets_left(), one_by_one.octets_left());
-    Ok(())
-}
-
-#[test]
-fn numbers_are_their_bits(rt: HostRuntime) -> Result<(), Fail> {
-    for k in 0..7 {
-        for n in 0..limit(k) {
-            for offset in 0..8 {
-                agrees(&rt, rt.alloc(), offset, k, n, 0)?;
-            }
-        }
-    }
-    Ok(())
-}
-
-#[test]
-fn long_numbers_are_their_bits(rt: HostRuntime) -> Result<(), Fail> {
-    for k in 0..65 {
-        for offset in 0..8 {
-            agrees(&rt, rt.alloc(), offset, k, sample(k), 0)?;
-            agrees(&rt, rt.alloc(), offset, k, sample(k), 9)?;
-        }
-    }
-    Ok(())
 }
 
 // what a reader that tries all numbers of k bits says behind these bits: `given` of them, of which

@@ -1,13 +1,19 @@
-//! The calls of a `BitSink` that grow. Each is asked again where memory was refused: the octets at the end show
-//! whether the refused call had changed anything.
+//! The calls on bits that grow. Each is asked again where memory was refused: the octets at the end show whether
+//! the refused call had changed anything.
 use crate::outcome::{Outcome, after};
-use asn_bits::BitSink;
+use asn_bits::{BitCursor, BitSink};
 use std::alloc::{AllocError, Global};
 
 const NUMBER: u64 = 0x8123_4567_89ab_cdef;
 
-/// How often a call is made.
+/// How often a call on a sink is made.
 const TIMES: usize = 20;
+
+/// 4 bits, 15 octets and 4 bits.
+const GIVEN: &[u8] = b"\x98\x12\x34\x56\x78\x9a\xbc\xde\xf0\x12\x34\x56\x78\x9a\xbc\xd5";
+
+/// An octet, and behind it those 15.
+const TAKEN: &[u8] = b"\x03\x81\x23\x45\x67\x89\xab\xcd\xef\x01\x23\x45\x67\x89\xab\xcd";
 
 /// `push`, a whole octet at a time.
 pub fn single_bits(alloc: Global) -> Result<Outcome, AllocError> {
@@ -51,6 +57,42 @@ pub fn octets_of_numbers(alloc: Global) -> Result<Outcome, AllocError> {
         refused,
         holds(sink, b"\x08\x81\x23\x45\x67\x89\xab\xcd\xef"),
     ))
+}
+
+/// `push_octets`, from the middle of an octet on.
+pub fn octets(alloc: Global) -> Result<Outcome, AllocError> {
+    let mut sink = BitSink::new(alloc);
+    let mut refused = false;
+    for _ in 0..TIMES {
+        sink.push_number(4, 9)?;
+        if sink.push_octets(b"\x81\x23\x45\x67").is_err() {
+            refused = true;
+            sink.push_octets(b"\x81\x23\x45\x67")?;
+        }
+        sink.push_number(4, 10)?;
+    }
+    Ok(after(refused, holds(sink, b"\x98\x12\x34\x56\x7a")))
+}
+
+/// `take_octets`, three at a time from the middle of an octet on, behind others.
+pub fn octets_taken(alloc: Global) -> Result<Outcome, AllocError> {
+    let mut given = BitCursor::over(GIVEN);
+    let mut taken = vec![in alloc; 3]?;
+    let mut refused = false;
+    let start = given.take_number(4);
+    for _ in 0..5 {
+        if given.octets_left() < 3 {
+            return Ok(Outcome::Wrong);
+        }
+        if given.take_octets(3, &mut taken).is_err() {
+            refused = true;
+            given.take_octets(3, &mut taken)?;
+        }
+    }
+    let is_right = start == Some(9)
+        && given.take_number(4) == Some(5)
+        && taken.as_slice() == TAKEN;
+    Ok(after(refused, is_right))
 }
 
 /// `pad`, behind a bit.

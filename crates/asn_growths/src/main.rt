@@ -6,7 +6,7 @@ mod bit_calls;
 mod message_calls;
 mod outcome;
 
-use bit_calls::{numbers, octets_of_numbers, paddings, single_bits};
+use bit_calls::{numbers, octets, octets_of_numbers, octets_taken, paddings, single_bits};
 use message_calls::{check_a_type, decode_a_message, encode_a_message};
 use outcome::Outcome;
 use std::alloc::{AllocError, Global};
@@ -38,6 +38,8 @@ fn main(rt: HostRuntime) -> ExitCode {
         all_right &= told(&rt, "decode", decode_a_message(alloc));
         all_right &= told(&rt, "BitSink::push", single_bits(alloc));
         all_right &= told(&rt, "BitSink::push_number", numbers(alloc));
+        all_right &= told(&rt, "BitSink::push_octets", octets(alloc));
+        all_right &= told(&rt, "BitCursor::take_octets", octets_taken(alloc));
         all_right &= told(&rt, "BitSink::push_least_octets", octets_of_numbers(alloc));
         all_right &= told(&rt, "BitSink::pad", paddings(alloc));
     }

@@ -357,3 +357,54 @@ fn single_octets_are_counted(rt: HostRuntime) -> Result<(), Fail> {
     assert_eq!(rt; numbers, 6);
     Ok(())
 }
+
+/// An INTEGER that is a type of the profile.
+fn whole_numbers(
+    alloc: Global,
+    low: Option<i128>,
+    high: Option<i128>,
+    ext: bool,
+) -> Result<Checked, Fail> {
+    Ok(Checked::new(
+        alloc,
+        AsnType::Int(Bounds { low, high, ext }),
+    )?)
+}
+
+// without a low bound, behind an extension mark, and all integers of the profile in 64 bits
+#[test]
+fn integers_of_any_range_have_octets(rt: HostRuntime) -> Result<(), Fail> {
+    let alloc = rt.alloc();
+    let lowest = -HIGHEST - 1;
+    let any = whole_numbers(alloc, None, None, false)?;
+    for (number, octets) in [
+        (0, b"\x01\x00".as_slice()),
+        (127, b"\x01\x7f".as_slice()),
+        (-128, b"\x01\x80".as_slice()),
+        (128, b"\x02\x00\x80".as_slice()),
+        (-129, b"\x02\xff\x7f".as_slice()),
+        (lowest, b"\x08\x80\x00\x00\x00\x00\x00\x00\x00".as_slice()),
+    ] {
+        expect_pair(&rt, alloc, &any, &Value::Int(number), octets)?;
+    }
+    let marked = whole_numbers(alloc, Some(0), Some(7), true)?;
+    expect_pair(&rt, alloc, &marked, &Value::Int(5), b"\x50")?;
+    expect_pair(&rt, alloc, &marked, &Value::Int(8), b"\x80\x84\x00")?;
+    let wide = whole_numbers(alloc, Some(lowest), Some(HIGHEST), false)?;
+    let octets = b"\x7f\xff\xff\xff\xff\xff\xff\xff";
+    expect_pair(&rt, alloc, &wide, &Value::Int(-1), octets)?;
+    let null = Checked::new(alloc, AsnType::Null)?;
+    expect_pair(&rt, alloc, &null, &Value::Null, b"\x00")
+}
+
+#[test]
+fn integers_of_any_range_are_refused(rt: HostRuntime) -> Result<(), Fail> {
+    let alloc = rt.alloc();
+    let any = whole_numbers(alloc, None, None, false)?;
+    expect_fault(&rt, alloc, &any, b"\x02\x00\x05", refused(17, Why::Number));
+    expect_fault(&rt, alloc, &any, b"\x00", refused(8, Why::Length));
+    expect_fault(&rt, alloc, &any, b"\x09", refused(8, Why::Length));
+    let marked = whole_numbers(alloc, Some(0), Some(7), true)?;
+    expect_fault(&rt, alloc, &marked, b"\x80\x82\x80", refused(14, Why::Number));
+    Ok(())
+}

@@ -39,7 +39,13 @@ fn put_value(text: &mut String, ty: &AsnType, value: &Value) -> Result<(), Alloc
     match value {
         Value::Bool(true) => text.push_str("TRUE"),
         Value::Bool(false) => text.push_str("FALSE"),
+        Value::Null => text.push_str("NULL"),
         Value::Int(number) => write!(text, "{number}"),
+        Value::Enum(place) => put_item(text, ty, *place),
+        Value::Bits(bits) => put_bits(text, bits),
+        Value::Octets(octets) => put_octets(text, octets),
+        Value::Text(codes) => put_codes(text, codes),
+        Value::Utf8(string) => put_quoted(text, string),
         Value::Seq(entries) => {
             text.push_str("{ ")?;
             if let AsnType::Seq { root } = ty {
@@ -48,4 +54,70 @@ fn put_value(text: &mut String, ty: &AsnType, value: &Value) -> Result<(), Alloc
             text.push_str(" }")
         }
     }
+}
+
+/// The name of the item at a place, or the place where the type has no such item.
+fn put_item(text: &mut String, ty: &AsnType, place: u32) -> Result<(), AllocError> {
+    if let AsnType::Enum { root, ext } = ty {
+        let mut before = 0u32;
+        for item in root {
+            if before == place {
+                return text.push_str(item.name.as_str());
+            }
+            before = before.saturating_add(1);
+        }
+        if let Some(more) = ext {
+            for item in more {
+                if before == place {
+                    return text.push_str(item.name.as_str());
+                }
+                before = before.saturating_add(1);
+            }
+        }
+    }
+    write!(text, "{place}")
+}
+
+/// Bits between apostrophes, with a B behind them.
+fn put_bits(text: &mut String, bits: &[bool]) -> Result<(), AllocError> {
+    text.push_str("'")?;
+    for bit in bits {
+        text.push_str(if *bit { "1" } else { "0" })?;
+    }
+    text.push_str("'B")
+}
+
+/// Octets in hexadecimal between apostrophes, with an H behind them.
+fn put_octets(text: &mut String, octets: &[u8]) -> Result<(), AllocError> {
+    text.push_str("'")?;
+    for octet in octets {
+        write!(text, "{octet:02X}")?;
+    }
+    text.push_str("'H")
+}
+
+/// Characters by their codes, between quotation marks.
+fn put_codes(text: &mut String, codes: &[u8]) -> Result<(), AllocError> {
+    text.push_str("\"")?;
+    for code in codes {
+        put_character(text, char::from(*code))?;
+    }
+    text.push_str("\"")
+}
+
+/// A string between quotation marks.
+fn put_quoted(text: &mut String, string: &str) -> Result<(), AllocError> {
+    text.push_str("\"")?;
+    for character in string.chars() {
+        put_character(text, character)?;
+    }
+    text.push_str("\"")
+}
+
+/// A character of a string, a quotation mark twice.
+fn put_character(text: &mut String, character: char) -> Result<(), AllocError> {
+    if character == '"' {
+        text.push('"')?;
+    }
+    text.push(character)
 }

@@ -33,7 +33,7 @@ use Rattle.asn_per.proofs.IntegerRanges.{ranging, low_above_lowest, low_below_hi
 abbrev pub offset_of : ℤ → Option ℤ → Option ℕ
 offset_of low e = option_map (above low) e
 
-default_test : (d z : ℤ) → is_default (number d) (number z) ≡ true → d ≡ z
+pub default_test : (d z : ℤ) → is_default (number d) (number z) ≡ true → d ≡ z
 default_test d z h =
     let p = and_both (int_le d z) (int_le z d) h in
     omega (arith, ints, le_of_test d z p.0, le_of_test z d p.1)
@@ -42,7 +42,7 @@ default_test d z h =
     and_both true b e = (refl, e)
     and_both false b e = absurd (cc)
 
-default_self : (z : ℤ) → is_default (number z) (number z) ≡ true
+pub default_self : (z : ℤ) → is_default (number z) (number z) ≡ true
 default_self z =
     let h : int_le z z ≡ true = test_of_le z z (omega (arith, ints)) in
     both (int_le z z) h
@@ -64,7 +64,7 @@ other_number low high (Some d) n w h = go (is_default (number d) (number (low +�
 other_offset : (low : ℤ) (high e : Option ℤ) (z : ℤ) → IsWithin (ranging low high) e → low ≤ℤ z → IsOther (option_map number e) (number z) → IsNot (offset_of low e) (above low z)
 other_offset low high None z w p h = tt
 other_offset low high (Some d) z w p h = λ same.
-    let is : z ≡ d = above_same low z d p (number_above_low low high d w) same in
+    let is : z ≡ d = above_same low z d p (number_above_low low high d w.0) same in
     let t : is_default (number d) (number z) ≡ true = ap (λ x. is_default (number d) (number x)) is ∙ default_self d in
     cc
 

@@ -23,7 +23,7 @@ not_below a b e = grind (arith, ints)
 abbrev pub ranging : ℤ → Option ℤ → Range
 ranging low high = record { low = Some low; high = high; extensible = false }
 
-inside : (z : ℤ) → is_outside (Some z) ≡ false → (lowest_integer ≤ℤ z) × (z ≤ℤ highest_integer)
+pub inside : (z : ℤ) → is_outside (Some z) ≡ false → (lowest_integer ≤ℤ z) × (z ≤ℤ highest_integer)
 inside z e = (not_below z lowest_integer (left_false _ _ e), not_below highest_integer z (right_false (int_lt z lowest_integer) _ e))
 
 module _ (low : ℤ) (high : Option ℤ) (good : InProfile (integer (ranging low high))) where

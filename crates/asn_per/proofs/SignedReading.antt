@@ -1,5 +1,5 @@
 -- The language of integers in the fewest octets of two's complement, in the sets that their reader tests.
-use Rattle.std.proofs.Common.{◌≤◌, ◌*◌, ℕ, List, Option, None, arith}
+use Rattle.std.proofs.Common.{◌≤◌, ◌*◌, ℕ, ℤ, ◌≤ℤ◌, List, Option, None, arith}
 use Rattle.asn_bits.specs.Sets.{InDigits, Among, Meets}
 use Rattle.asn_bits.proofs.Splits.{two_pow_octets}
 use Rattle.asn_rules.specs.Counted.{SomeOf, LeastSigned, Counted, signed_number}
@@ -12,7 +12,11 @@ use Rattle.asn_rules.proofs.Leads.{LeadsStops, Leads, stops_on, leads_on, leads_
 use Rattle.asn_per.specs.declared.number_reader.Numbers.{Numbers}
 use Rattle.asn_per.specs.declared.signed_reader.Offsets.{Offsets}
 use Rattle.asn_per.specs.Per.{per_fields}
-use Rattle.asn_per.specs.Reading.{Admits, HeldInteger, AreSigned}
+use Rattle.asn_values.specs.Datum.{number}
+use Rattle.asn_values.specs.Fits.{lowest_integer, highest_integer}
+use Rattle.asn_rules.proofs.Spellings.{same_then, same_map}
+use Rattle.asn_per.specs.Kinds.{Unconstrained}
+use Rattle.asn_per.specs.Reading.{Admits, HeldInteger, AreSigned, AreOffsets}
 use Rattle.asn_per.proofs.CountedReading.{same_set}
 use Rattle.asn_per.proofs.PerFields.{per_fields_part}
 
@@ -41,3 +45,27 @@ module _ (s : Offsets) (low : ℕ)
 -- a number is there behind a count
 pub some_number : (s : Offsets) (c : ℕ) (is : List (ℕ × ℕ)) → AreSigned s c is → SomeOf (LeastSigned (λ z. HeldInteger s z)) c → Meets (λ n. Among is n) 0 (8 * c)
 some_number s c is are o = record { number = o.number; member = are.there o.number o.member; least = omega arith; below = omega (arith, o.fits, two_pow_octets c) }
+
+-- ---- the same integers in other words
+
+same_counted : (T U : ℕ → ℕ → Type 0) → ((k n : ℕ) → T k n → U k n) → ((k n : ℕ) → U k n → T k n) → Same (Counted 2 8 T) (Counted 2 8 U)
+same_counted T U there back = same_then
+    (same_set 2 8 (λ k o. record { few = o.few; number = o.number; member = there k o.number o.member; fits = o.fits }) (λ k o. record { few = o.few; number = o.number; member = back k o.number o.member; fits = o.fits }))
+    (λ k. same_set 2 (8 * k) (there k) (back k))
+
+module _ (s : Offsets) (S : ℤ → Type 0) (same : AreOffsets s S) where
+  pub signed_same : Same (Map signed_number (Counted 2 8 (LeastSigned (λ z. HeldInteger s z)))) (Map signed_number (Counted 2 8 (LeastSigned S)))
+  signed_same = same_map (same_counted (LeastSigned (λ z. HeldInteger s z)) (LeastSigned S)
+      (λ k n l. record { member = same.there (signed_number (k, n)) l.member; count = l.count; fits = l.fits })
+      (λ k n l. record { member = same.back (signed_number (k, n)) l.member; count = l.count; fits = l.fits }))
+
+  -- the reader of the offsets answers for the integers
+  pub signed_leads : (us : List ℕ) → Leads per_fields (Map signed_number (Counted 2 8 (LeastSigned (λ z. HeldInteger s z)))) us number (Unconstrained S) us
+  signed_leads us = leads_on (leads_same per_fields us signed_same) (leads_map per_fields number (Map signed_number (Counted 2 8 (LeastSigned S))) us)
+
+-- an integer that is read is one of the profile
+pub signed_within : (s : Offsets) {z : ℤ} {us r : List ℕ} → Spells per_fields (Map signed_number (Counted 2 8 (LeastSigned (λ y. HeldInteger s y)))) z us r → (lowest_integer ≤ℤ z) × (z ≤ℤ highest_integer)
+signed_within s {z = z} h =
+    let m : HeldInteger s (signed_number h.spelt.source) = h.spelt.spelt.follows.spelt.member.member in
+    let e = h.spelt.seen in
+    rw e (m.0, m.1)

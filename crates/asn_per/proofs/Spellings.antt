@@ -10,7 +10,8 @@ use Rattle.asn_bits.specs.Lengths.{general_octets}
 use Rattle.asn_rules.specs.Chunks.{ones, flat}
 use Rattle.asn_rules.specs.Components.{bit_of, presence, is_spelled}
 use Rattle.asn_rules.proofs.Flat.{flat-append, flat-ones}
-use Rattle.asn_per.specs.Per.{spelled, per, per_each}
+use Rattle.asn_values.specs.Fits.{in_range}
+use Rattle.asn_per.specs.Per.{spelled, per, per_each, whole_number, behind_mark, ranged, unconstrained}
 use Rattle.asn_per.specs.Laws.{per_bits, component_bits}
 
 -- ---- simple types
@@ -18,19 +19,25 @@ use Rattle.asn_per.specs.Laws.{per_bits, component_bits}
 pub bits_of_truth : (b : Bool) → per_bits boolean (truth b) ≡ bit_of b ∷ []
 bits_of_truth b = refl
 
--- a range with two bounds
-abbrev pub between : ℤ → ℤ → Range
-between low high = record { low = Some low; high = Some high; extensible = false }
+-- an integer, as the definition has it
+bits_of_integer : (b : Range) (z : ℤ) → per_bits (integer b) (number z) ≡ whole_number b z
+bits_of_integer b z = flat-ones spelled (whole_number b z)
 
--- a range with a low bound alone
-abbrev pub from : ℤ → Range
-from low = record { low = Some low; high = None; extensible = false }
+-- without a mark
+pub bits_of_unmarked : (b : Range) (z : ℤ) → b.extensible ≡ false → per_bits (integer b) (number z) ≡ ranged b.low b.high z
+bits_of_unmarked b z e = bits_of_integer b z ∙ ap (λ (m : Bool). behind_mark (λ u. u) m (in_range b z) (ranged b.low b.high z) (unconstrained z)) e
 
-pub bits_of_constrained : (low high z : ℤ) → per_bits (integer (between low high)) (number z) ≡ bits (width (suc (above low high))) (above low z)
-bits_of_constrained low high z = flat-ones spelled (bits (width (suc (above low high))) (above low z))
+-- behind a mark, between the bounds
+pub bits_of_inside : (b : Range) (z : ℤ) → b.extensible ≡ true → in_range b z ≡ true → per_bits (integer b) (number z) ≡ 0 ∷ ranged b.low b.high z
+bits_of_inside b z e i =
+    bits_of_integer b z ∙ ap (λ (m : Bool). behind_mark (λ u. u) m (in_range b z) (ranged b.low b.high z) (unconstrained z)) e
+    ∙ ap (λ (m : Bool). behind_mark (λ u. u) true m (ranged b.low b.high z) (unconstrained z)) i
 
-pub bits_of_semi_constrained : (low z : ℤ) → per_bits (integer (from low)) (number z) ≡ general_octets (λ u. u) (least (above low z))
-bits_of_semi_constrained low z = flat-ones spelled (general_octets (λ u. u) (least (above low z)))
+-- and outside them
+pub bits_of_outside : (b : Range) (z : ℤ) → b.extensible ≡ true → in_range b z ≡ false → per_bits (integer b) (number z) ≡ 1 ∷ unconstrained z
+bits_of_outside b z e i =
+    bits_of_integer b z ∙ ap (λ (m : Bool). behind_mark (λ u. u) m (in_range b z) (ranged b.low b.high z) (unconstrained z)) e
+    ∙ ap (λ (m : Bool). behind_mark (λ u. u) true m (ranged b.low b.high z) (unconstrained z)) i
 
 -- ---- SEQUENCE
 

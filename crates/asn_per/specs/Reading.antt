@@ -80,6 +80,16 @@ pub record AreOffsets (s : Offsets) (S : ℤ → Type 0) : Type 0 where
   pub there : (z : ℤ) → HeldInteger s z → S z
   pub back : (z : ℤ) → S z → HeldInteger s z
 
+-- how many integers lie below a low bound
+abbrev pub low_offset : Option ℤ → ℕ
+low_offset None = 0
+low_offset (Some low) = above lowest_integer low
+
+-- how many lie at a high bound or below it
+abbrev pub high_offset : Option ℤ → ℕ
+high_offset None = 2 ^ 64
+high_offset (Some high) = above lowest_integer high + 1
+
 -- the integers up to the high bound, but for the one that is left out
 abbrev pub IsUpTo : Option ℤ → Option ℤ → ℤ → Type 0
 IsUpTo high except z = FitsNumber (unmarked None high) z × IsOther (option_map number except) (number z)

@@ -1,10 +1,10 @@
 //! Readers of integers and truth values, of which one may be left out: a component that has a DEFAULT is
 //! spelt with another value only.
-ghost use Rattle.std.specs.Prelude.{◌≡◌, ◌≤◌, ◌<◌, ◌+◌, ◌^◌, pos, IfOk, IfErr, ℕ, Some, None, true};
+ghost use Rattle.std.specs.Prelude.{◌≡◌, ◌≤◌, ◌<◌, ◌+◌, ◌^◌, pos, IfOk, IfErr, ℕ, Some, None, true, false};
 ghost use Rattle.std.specs.Option.{option_map};
 ghost use Rattle.asn_values.specs.Datum.{number, truth};
 ghost use Rattle.asn_values.specs.Shape.{integer, boolean};
-ghost use Rattle.asn_values.specs.Profile.{InProfile};
+ghost use Rattle.asn_values.specs.Profile.{InProfile, is_outside};
 ghost use Rattle.asn_values.specs.View.{range_of};
 ghost use Rattle.asn_bits.specs.Numbers.{width, above};
 ghost use Rattle.asn_bits.specs.Sink.{bit_of};
@@ -15,7 +15,7 @@ ghost use Rattle.asn_bits.specs.Sets.{Meets, InSet};
 ghost use Rattle.asn_rules.specs.Stops.{Stops};
 ghost use Rattle.asn_per.specs.Per.{per, per_fields};
 ghost use Rattle.asn_per.specs.Kinds.{Unconstrained, IsOutside};
-ghost use Rattle.asn_per.specs.Reading.{Admits, IsWithin, unmarked, up_to, least_of, highest_count_of, AreOffsets, IsUpTo, IsOpen, Held};
+ghost use Rattle.asn_per.specs.Reading.{Admits, IsWithin, unmarked, up_to, least_of, highest_count_of, AreOffsets, IsUpTo, IsOpen, Held, low_offset, high_offset};
 
 use crate::number_reader::{Numbers, number};
 use crate::signed_reader::{Offsets, unconstrained};
@@ -147,10 +147,7 @@ fn offsets_up_to(high: Option<i128>, except: Option<i128>) -> Offsets
     ensures same { AreOffsets result (λ z. IsUpTo high except z) }
     ensures gap { IsOpen result }
 {
-    let end = match high {
-        Some(high) => u128::from(above(LOWEST, high)) + 1,
-        None => ALL,
-    };
+    let end = high_offset(high);
     match except {
         Some(whole) => {
             let below = u128::from(above(LOWEST, whole));
@@ -187,18 +184,32 @@ fn offsets_outside(bounds: &Bounds) -> Offsets
     ensures gap { IsOpen result }
     ensures some { (w : ℕ) × Held result w }
 {
-    let below = match bounds.low {
+    Offsets {
+        below: low_offset(bounds.low),
+        from: high_offset(bounds.high),
+        end: ALL,
+    }
+}
+
+/// How many integers lie below the low bound.
+fn low_offset(low: Option<i128>) -> u128
+    requires { is_outside low ≡ false }
+    ensures { result ≡ low_offset low }
+{
+    match low {
         Some(low) => u128::from(above(LOWEST, low)),
         None => 0,
-    };
-    let from = match bounds.high {
+    }
+}
+
+/// How many integers lie at the high bound or below it.
+fn high_offset(high: Option<i128>) -> u128
+    requires { is_outside high ≡ false }
+    ensures { result ≡ high_offset high }
+{
+    match high {
         Some(high) => u128::from(above(LOWEST, high)) + 1,
         None => ALL,
-    };
-    Offsets {
-        below,
-        from,
-        end: ALL,
     }
 }
 

@@ -6,7 +6,7 @@ use Rattle.asn_bits.specs.Numbers.{bits}
 use Rattle.asn_bits.specs.Lengths.{blocks}
 use Rattle.asn_bits.specs.LengthBits.{first_length, StartsSome, OpensLength, WholeLength}
 use Rattle.asn_bits.specs.Sets.{InSet}
-use Rattle.asn_bits.proofs.FirstLengths.{first_few, first_many, first_fragment}
+use Rattle.asn_bits.proofs.FirstLengths.{first_few, first_many, first_fragment, few_items}
 use Rattle.asn_bits.proofs.Weights.{bits_are, bits_only}
 use Rattle.asn_rules.specs.Chunks.{Chunk, one, ones, flat}
 use Rattle.asn_rules.specs.Forks.{Branch, Fork}
@@ -100,15 +100,12 @@ whole_spells R S us rest k w = go (header_of S w.count w.member)
     spells : (l : Length) → Header S l (ones (first_length w.count).bits) → Spells R (Header S) l (us ++ rest) rest
     spells l h = record { chunks = ones (first_length w.count).bits; spelt = h; contents = contents-ones R (first_length w.count).bits; split = ap (λ b. b ++ rest) (sym w.bits_are ∙ sym (flat-ones R.spelled (first_length w.count).bits)) }
 
-    few : (n : ℕ) → n < 16384 → (first_length n).items ≡ n
-    few n h = ⊎_elim (λ a. ap (λ l. l.items) (first_few n a)) (λ a. ap (λ l. l.items) (first_many n a h)) (cases_lt n 128)
-
     go : (l : Length) × Header S l (ones (first_length w.count).bits) × Says w.count l → ((k < 16384) × Spells R (Header S) (last k) (us ++ rest) rest) ⊎ ((m : ℕ) × Spells R (Header S) (fragment m) (us ++ rest) rest × (1 ≤ m) × (m ≤ 4) × (k ≡ 16384 * m))
     go h = tell h.0 h.1 h.2
       where
         tell : (l : Length) → Header S l (ones (first_length w.count).bits) → Says w.count l → ((k < 16384) × Spells R (Header S) (last k) (us ++ rest) rest) ⊎ ((m : ℕ) × Spells R (Header S) (fragment m) (us ++ rest) rest × (1 ≤ m) × (m ≤ 4) × (k ≡ 16384 * m))
         tell (last j) h s =
-            let e : j ≡ k = s.1 ∙ sym (few w.count s.0) ∙ w.items_are in
+            let e : j ≡ k = s.1 ∙ sym (few_items w.count s.0) ∙ w.items_are in
             inl (omega (arith, s.0, s.1, e), subst (λ (i : ℕ). Spells R (Header S) (last i) (us ++ rest) rest) e (spells (last j) h))
         tell (fragment m) h s =
             let e : 16384 * blocks w.count ≡ k = sym (ap (λ l. l.items) (first_fragment w.count s.0)) ∙ w.items_are in

@@ -1,120 +1,48 @@
-use Rattle.std.proofs.Common.{◌≡◌, ◌+◌, ◌≤ℤ◌, ◌+ℤ◌, ℤ, pos, Some, None, sym, subst}
-use Rattle.std.specs.Option.{option_map}
-use Rattle.std.proofs.lemmas.Result.{err_from_is_err_and}
-use mir.Syntax.{w128}
-use mir.Val.{to_z, of_z}
+use Rattle.std.proofs.Common.{◌≡◌, ◌∷◌, None, arith}
+use Rattle.std.proofs.lemmas.Result.{IfOk-weaker}
 use Rattle.asn_values.specs.Datum.{number}
 use Rattle.asn_values.specs.Shape.{integer}
-use Rattle.asn_values.specs.Fits.{lowest_integer, highest_integer}
-use Rattle.asn_values.specs.Profile.{InProfile}
-use Rattle.asn_bits.specs.Numbers.{above, width}
-use Rattle.asn_rules.specs.Counted.{Counted, number_of, Least}
-use Rattle.asn_rules.specs.Languages.{Spells, Plain, Map, Inhabited}
-use Rattle.asn_rules.specs.Listed.{Spelt}
-use Rattle.asn_bits.specs.Sets.{InSet}
-use Rattle.asn_rules.specs.Stops.{Stops}
+use Rattle.asn_values.specs.View.{range_of}
 use Rattle.asn_rules.proofs.Leads.{stops_by}
-use Rattle.asn_per.specs.Per.{per, per_fields}
-use Rattle.asn_per.specs.Reading.{Admits, IsWithin, up_to}
-use Rattle.asn_per.proofs.IntegerLanguages.{offset_of, constrained_leads, constrained_some, counted_leads, counted_some}
-use Rattle.asn_per.proofs.IntegerRanges.{ranging, low_above_lowest, high_below_highest, low_kept, high_kept}
-use Rattle.asn_bits.proofs.Above.{kept}
+use Rattle.asn_rules.proofs.Listed.{spelt_inhabited}
+use Rattle.asn_per.specs.Per.{per}
+use Rattle.asn_per.specs.Reading.{unmarked}
+use Rattle.asn_per.proofs.Exits.{if_err_weaker}
+use Rattle.asn_per.proofs.IntegerForms.{none_out, root_leads, outside_leads}
+use Rattle.asn_per.proofs.MarkedIntegers.{root_of_profile}
 use Rattle.asn_per.proofs.integer_reader.integer.Goals as goal
 
-pub above-requires-clause-within_low : goal.above-requires-clause-within_low
-above-requires-clause-within_low c =
-    let b = c.args.bounds.now in
-    subst (λ (z : ℤ). lowest_integer ≤ℤ z) (sym (low_kept b.low b.high c.requires.of_profile)) (low_above_lowest b.low b.high c.requires.of_profile)
+pub ranged-requires-then-mark-eq0-clause-some : goal.ranged-requires-then-mark-eq0-clause-some
+ranged-requires-then-mark-eq0-clause-some c =
+    let b = range_of c.args.bounds.now in
+    spelt_inhabited per (integer (unmarked b.low b.high)) (root_of_profile b c.requires.of_profile)
 
-pub number_above-requires-clause-within_low : goal.number_above-requires-clause-within_low
-number_above-requires-clause-within_low c =
-    let b = c.args.bounds.now in
-    subst (λ (z : ℤ). lowest_integer ≤ℤ z) (sym (low_kept b.low b.high c.requires.of_profile)) (low_above_lowest b.low b.high c.requires.of_profile)
+pub returns-then-mark-eq0-clause-done : goal.returns-then-mark-eq0-clause-done
+returns-then-mark-eq0-clause-done c =
+    let b = range_of c.args.bounds.now in
+    let e = none_out b c.args.except c.requires.within c.if-not-bounds.false in
+    let lead = root_leads b c.requires.of_profile c.if-not-bounds.false c.args.bits.now c.next.new.self (rw c.if-mark-eq0.true at c.in-Some.ensures.some) in
+    rw e (IfOk-weaker c.ranged-then-mark-eq0.result _ _ (λ z s. lead.done (number z) c.ranged-then-mark-eq0.new.bits s) c.ranged-then-mark-eq0.ensures.done)
 
-pub above-requires-in-None-clause-within_low : goal.above-requires-in-None-clause-within_low
-above-requires-in-None-clause-within_low c =
-    let b = c.args.bounds.now in
-    subst (λ (z : ℤ). lowest_integer ≤ℤ z) (sym (low_kept b.low b.high c.requires.of_profile)) (low_above_lowest b.low b.high c.requires.of_profile)
+pub returns-then-mark-eq0-clause-stop : goal.returns-then-mark-eq0-clause-stop
+returns-then-mark-eq0-clause-stop c =
+    let b = range_of c.args.bounds.now in
+    let e = none_out b c.args.except c.requires.within c.if-not-bounds.false in
+    let lead = root_leads b c.requires.of_profile c.if-not-bounds.false c.args.bits.now c.next.new.self (rw c.if-mark-eq0.true at c.in-Some.ensures.some) in
+    rw e (if_err_weaker c.ranged-then-mark-eq0.result _ _ (λ why s. stops_by why lead.stops s) c.ranged-then-mark-eq0.ensures.stop)
 
-pub above-requires-clause-within_high : goal.above-requires-clause-within_high
-above-requires-clause-within_high c =
-    let b = c.args.bounds.now in
-    let good : InProfile (integer (ranging b.low (Some c.in-Some.high))) = rw c.in-Some.is at c.requires.of_profile in
-    subst (λ (z : ℤ). z ≤ℤ highest_integer) (sym (high_kept b.low c.in-Some.high good)) (high_below_highest b.low c.in-Some.high good)
+pub returns-else-mark-eq0-clause-done : goal.returns-else-mark-eq0-clause-done
+returns-else-mark-eq0-clause-done c =
+    let b = range_of c.args.bounds.now in
+    let e = none_out b c.args.except c.requires.within c.if-not-bounds.false in
+    let one : c.in-Some.mark ≡ 1 = omega (arith, c.in-Some.ensures.bit, c.if-mark-eq0.false) in
+    let lead = outside_leads b c.requires.of_profile c.if-not-bounds.false c.args.bits.now c.next.new.self (rw one at c.in-Some.ensures.some) in
+    rw e (IfOk-weaker c.outside.result _ _ (λ z s. lead.done (number z) c.outside.new.bits s) c.outside.ensures.done)
 
-pub constrained-requires : goal.constrained-requires
-constrained-requires c =
-    let b = c.args.bounds.now in
-    let h = c.in-Some.high in
-    let good : InProfile (integer (ranging b.low (Some h))) = rw c.in-Some.is at c.requires.of_profile in
-    let within : IsWithin (ranging b.low (Some h)) c.args.except = rw c.in-Some.is at c.requires.within in
-    let top : c.above.result ≡ above b.low h = rw (low_kept b.low b.high c.requires.of_profile, high_kept b.low h good) at c.above.ensures in
-    let out : c.offset_left_out-left_out.result ≡ offset_of b.low c.args.except = c.offset_left_out-left_out.ensures in
-    let some : Inhabited (Spelt per (option_map number c.args.except) (integer (ranging b.low (Some h)))) = rw c.in-Some.is at c.requires.some in
-    rw (top, out) (constrained_some b.low h c.args.except good within some)
-
-pub counted-requires : goal.counted-requires
-counted-requires c =
-    let b = c.args.bounds.now in
-    let good : InProfile (integer (ranging b.low None)) = rw c.in-None.is at c.requires.of_profile in
-    let within : IsWithin (ranging b.low None) c.args.except = rw c.in-None.is at c.requires.within in
-    let top : c.above-in-None.result ≡ above b.low highest_integer = rw (low_kept b.low b.high c.requires.of_profile) at c.above-in-None.ensures in
-    let out : c.offset_left_out-left_out.result ≡ offset_of b.low c.args.except = c.offset_left_out-left_out.ensures in
-    let some : Inhabited (Spelt per (option_map number c.args.except) (integer (ranging b.low None))) = rw c.in-None.is at c.requires.some in
-    rw (top, out) (counted_some b.low c.args.except good within some)
-
-pub returns-in_err-offset-in-Some-clause-stop : goal.returns-in_err-offset-in-Some-clause-stop
-returns-in_err-offset-in-Some-clause-stop c =
-    let b = c.args.bounds.now in
-    let h = c.in-Some.high in
-    let good : InProfile (integer (ranging b.low (Some h))) = rw c.in-Some.is at c.requires.of_profile in
-    let within : IsWithin (ranging b.low (Some h)) c.args.except = rw c.in-Some.is at c.requires.within in
-    let top : c.above.result ≡ above b.low h = rw (low_kept b.low b.high c.requires.of_profile, high_kept b.low h good) at c.above.ensures in
-    let out : c.offset_left_out-left_out.result ≡ offset_of b.low c.args.except = c.offset_left_out-left_out.ensures in
-    let p = err_from_is_err_and c.from_residual.result c.from_residual.ensures.1 in
-    let stop : Stops per_fields (Plain (InSet (width (above b.low h + 1)) (λ n. Admits (up_to (above b.low h) (offset_of b.low c.args.except)) n))) c.args.bits.now c.in_err-offset-in-Some.field-0.0 =
-    rw (top, out) at c.in_err-offset-in-Some.ensures.stop in
-    rw (p.1, p.2, c.in-Some.is) (stops_by _ (constrained_leads b.low h c.args.except good within c.args.bits.now).stops stop)
-
-pub returns-in_err-offset-in-None-clause-stop : goal.returns-in_err-offset-in-None-clause-stop
-returns-in_err-offset-in-None-clause-stop c =
-    let b = c.args.bounds.now in
-    let good : InProfile (integer (ranging b.low None)) = rw c.in-None.is at c.requires.of_profile in
-    let within : IsWithin (ranging b.low None) c.args.except = rw c.in-None.is at c.requires.within in
-    let top : c.above-in-None.result ≡ above b.low highest_integer = rw (low_kept b.low b.high c.requires.of_profile) at c.above-in-None.ensures in
-    let out : c.offset_left_out-left_out.result ≡ offset_of b.low c.args.except = c.offset_left_out-left_out.ensures in
-    let p = err_from_is_err_and c.from_residual-in_err-offset-in-None.result c.from_residual-in_err-offset-in-None.ensures.1 in
-    let stop : Stops per_fields (Map number_of (Counted 2 8 (Least (λ n. Admits (up_to (above b.low highest_integer) (offset_of b.low c.args.except)) n)))) c.args.bits.now c.in_err-offset-in-None.field-0.0 =
-    rw (top, out) at c.in_err-offset-in-None.ensures.stop in
-    rw (p.1, p.2, c.in-None.is) (stops_by _ (counted_leads b.low c.args.except good within c.args.bits.now).stops stop)
-
-pub returns-in_ok-offset-in-Some-clause-done : goal.returns-in_ok-offset-in-Some-clause-done
-returns-in_ok-offset-in-Some-clause-done c =
-    let b = c.args.bounds.now in
-    let h = c.in-Some.high in
-    let good : InProfile (integer (ranging b.low (Some h))) = rw c.in-Some.is at c.requires.of_profile in
-    let within : IsWithin (ranging b.low (Some h)) c.args.except = rw c.in-Some.is at c.requires.within in
-    let top : c.above.result ≡ above b.low h = rw (low_kept b.low b.high c.requires.of_profile, high_kept b.low h good) at c.above.ensures in
-    let out : c.offset_left_out-left_out.result ≡ offset_of b.low c.args.except = c.offset_left_out-left_out.ensures in
-    let n = c.in_ok-offset-in-Some.offset in
-    let spelt : Spells per_fields (Plain (InSet (width (above b.low h + 1)) (λ m. Admits (up_to (above b.low h) (offset_of b.low c.args.except)) m))) n c.args.bits.now c.constrained.new.bits =
-    rw (top, out) at c.in_ok-offset-in-Some.ensures.done in
-    let whole = (constrained_leads b.low h c.args.except good within c.args.bits.now).done n c.constrained.new.bits spelt in
-    let value : c.number_above.result ≡ b.low +ℤ pos n = rw (low_kept b.low b.high c.requires.of_profile) at c.number_above.ensures in
-    let same : to_z w128 (of_z w128 (b.low +ℤ pos n)) ≡ b.low +ℤ pos n = kept (b.low +ℤ pos n) whole.spelt.fits.0.0 whole.spelt.fits.0.1 in
-    rw (c.in-Some.is, value, same) whole
-
-pub returns-in_ok-offset-in-None-clause-done : goal.returns-in_ok-offset-in-None-clause-done
-returns-in_ok-offset-in-None-clause-done c =
-    let b = c.args.bounds.now in
-    let good : InProfile (integer (ranging b.low None)) = rw c.in-None.is at c.requires.of_profile in
-    let within : IsWithin (ranging b.low None) c.args.except = rw c.in-None.is at c.requires.within in
-    let top : c.above-in-None.result ≡ above b.low highest_integer = rw (low_kept b.low b.high c.requires.of_profile) at c.above-in-None.ensures in
-    let out : c.offset_left_out-left_out.result ≡ offset_of b.low c.args.except = c.offset_left_out-left_out.ensures in
-    let n = c.in_ok-offset-in-None.offset in
-    let spelt : Spells per_fields (Map number_of (Counted 2 8 (Least (λ m. Admits (up_to (above b.low highest_integer) (offset_of b.low c.args.except)) m)))) n c.args.bits.now c.counted.new.bits =
-    rw (top, out) at c.in_ok-offset-in-None.ensures.done in
-    let whole = (counted_leads b.low c.args.except good within c.args.bits.now).done n c.counted.new.bits spelt in
-    let value : c.number_above-in-None.result ≡ b.low +ℤ pos n = rw (low_kept b.low b.high c.requires.of_profile) at c.number_above-in-None.ensures in
-    let same : to_z w128 (of_z w128 (b.low +ℤ pos n)) ≡ b.low +ℤ pos n = kept (b.low +ℤ pos n) whole.spelt.fits.0.0 whole.spelt.fits.0.1 in
-    rw (c.in-None.is, value, same) whole
+pub returns-else-mark-eq0-clause-stop : goal.returns-else-mark-eq0-clause-stop
+returns-else-mark-eq0-clause-stop c =
+    let b = range_of c.args.bounds.now in
+    let e = none_out b c.args.except c.requires.within c.if-not-bounds.false in
+    let one : c.in-Some.mark ≡ 1 = omega (arith, c.in-Some.ensures.bit, c.if-mark-eq0.false) in
+    let lead = outside_leads b c.requires.of_profile c.if-not-bounds.false c.args.bits.now c.next.new.self (rw one at c.in-Some.ensures.some) in
+    rw e (if_err_weaker c.outside.result _ _ (λ why s. stops_by why lead.stops s) c.outside.ensures.stop)

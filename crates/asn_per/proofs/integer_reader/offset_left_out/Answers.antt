@@ -5,5 +5,4 @@ use Rattle.asn_per.proofs.integer_reader.offset_left_out.Goals as goal
 
 pub above-requires-clause-within_low : goal.above-requires-clause-within_low
 above-requires-clause-within_low c =
-    let b = c.args.bounds.now in
-    subst (λ (z : ℤ). lowest_integer ≤ℤ z) (sym (low_kept b.low b.high c.requires.of_profile)) (low_above_lowest b.low b.high c.requires.of_profile)
+    subst (λ (z : ℤ). lowest_integer ≤ℤ z) (sym (low_kept c.args.low c.args.high c.requires.of_profile)) (low_above_lowest c.args.low c.args.high c.requires.of_profile)

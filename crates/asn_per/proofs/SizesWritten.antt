@@ -148,14 +148,3 @@ written_all xs before now mid new done many count h c m a b l =
     let n : count - done ≡ length left = omega (arith, length-drop done xs) in
     let few : nat_lt (length left) 16384 ≡ true = lt-ltb (length left) 16384 (⊎_elim (λ f. omega (arith, n, f)) (λ f. omega (arith, fragment_items (count - done) f, f, m, l)) (cases_lt (count - done) 16384)) in
     sym (append-nil new) ∙ ap (λ (b : Bool). new ++ behind b (drop (done + many) xs)) (sym few) ∙ written_step xs before now mid new done many count h c m a b
-
--- ---- UTF8String
-
-octets_flat : (os : List ℕ) → map (λ cs. flat spelled cs) (map (λ o. ones (bits 8 o)) os) ≡ map (λ o. map (λ u. u) (bits 8 o)) os
-octets_flat [] = refl
-octets_flat (o ∷ os) = let one_more = flat-ones spelled (bits 8 o) ∙ sym (map_same (bits 8 o)) in let rest = octets_flat os in cc
-
--- octets under their general length
-pub utf8_bits : (os : List ℕ) → general_bits (map (λ o. ones (bits 8 o)) os) ≡ per_bits utf8_string (unicode os)
-utf8_bits os =
-    flat-general spelled (map (λ o. ones (bits 8 o)) os) ∙ ap (λ items. general (λ u. u) items) (octets_flat os) ∙ sym (append-nil (general_octets (λ u. u) os))

@@ -17,6 +17,7 @@ ghost use Rattle.asn_per.specs.Rules.{per_ruling, IsPerEncoding};
 ghost use Rattle.asn_per.specs.Laws.{per_bits, component_bits};
 
 use crate::items::write_enumerated;
+use crate::string_writer::{write_bit_string, write_octet_string, write_text, write_utf8};
 use asn_bits::BitSink;
 use asn_bits::numbers::width;
 use asn_bits::offsets::above;
@@ -79,6 +80,30 @@ fn write(ty: &AsnType, value: &Value, sink: &mut BitSink) -> Result<(), AllocErr
                 unreachable!()
             };
             write_enumerated(root, ext, *place, sink)
+        }
+        AsnType::Bits(size) => {
+            let Value::Bits(truths) = value else {
+                unreachable!()
+            };
+            write_bit_string(size, truths.as_slice(), sink)
+        }
+        AsnType::Octets(size) => {
+            let Value::Octets(octets) = value else {
+                unreachable!()
+            };
+            write_octet_string(size, octets.as_slice(), sink)
+        }
+        AsnType::Text(kind, size) => {
+            let Value::Text(text) = value else {
+                unreachable!()
+            };
+            write_text(*kind, size, text.as_slice(), sink)
+        }
+        AsnType::Utf8 => {
+            let Value::Utf8(text) = value else {
+                unreachable!()
+            };
+            write_utf8(text.as_bytes(), sink)
         }
         AsnType::Seq { root } => {
             let Value::Seq(entries) = value else {

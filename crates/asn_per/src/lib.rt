@@ -16,6 +16,8 @@ mod size_reader;
 mod string_reader;
 mod string_writer;
 #[cfg(test)]
+mod string_writing_tests;
+#[cfg(test)]
 mod tests;
 mod value_reader;
 

@@ -4,7 +4,6 @@ ghost use Rattle.asn_values.specs.Datum.{bit_list, octet_list, characters, unico
 ghost use Rattle.asn_values.specs.Fits.{Fits, FitsLength, in_size};
 ghost use Rattle.asn_values.specs.Shape.{bit_string, octet_string, restricted, utf8_string};
 ghost use Rattle.asn_values.specs.View.{size_range_of, alphabet_of};
-ghost use Rattle.asn_bits.specs.LengthBits.{first_length};
 ghost use Rattle.asn_rules.specs.Chunks.{Chunk, flat};
 ghost use Rattle.asn_rules.specs.Components.{extension_bit};
 ghost use Rattle.asn_per.specs.Laws.{per_bits};
@@ -63,7 +62,7 @@ pub(crate) fn write_text(
 pub(crate) fn write_utf8(octets: &[u8], sink: &mut BitSink) -> Result<(), AllocError>
     ensures { OnOk result (sink.new ≡ sink.old ++ per_bits utf8_string (unicode octets.now)) }
 {
-    write_general(Items::Octets(octets), sink)
+    sink.push_general_octets(octets)
 }
 
 /// Writes items under a size.
@@ -126,7 +125,7 @@ fn write_general(items: Items<'_>, sink: &mut BitSink) -> Result<(), AllocError>
     let count = count_of(items);
     let mut done = 0;
     loop {
-        let many = push_length(count - done, sink)?;
+        let many = sink.push_length((count - done) as u64)? as usize;
         let last = many < BLOCK;
         write_items(items, done, many, sink)?;
         if last {
@@ -134,23 +133,4 @@ fn write_general(items: Items<'_>, sink: &mut BitSink) -> Result<(), AllocError>
         }
         done += many;
     }
-}
-
-/// Writes the next length of a list of which so many items are left, and says how many follow it
-/// at once: fewer than 16384 where they are the last.
-fn push_length(left: usize, sink: &mut BitSink) -> Result<usize, AllocError>
-    ensures items { IfOk result (λ many. many ≡ (first_length left).items) }
-    ensures bits { OnOk result (sink.new ≡ sink.old ++ (first_length left).bits) }
-{
-    if left < 128 {
-        sink.push_number(8, left as u64)?;
-        return Ok(left);
-    }
-    if left < BLOCK {
-        sink.push_number(16, 0x8000 + left as u64)?;
-        return Ok(left);
-    }
-    let blocks = (left / BLOCK).min(4);
-    sink.push_number(8, 0xC0 + blocks as u64)?;
-    Ok(BLOCK * blocks)
 }

@@ -16,8 +16,8 @@ write_items-requires-clause-there c =
 
 pub returns-then-last : goal.returns-then-last
 returns-then-last c =
-    written_all (item_chunks c.args.items) c.args.sink.now c.loop-many.sink c.push_length.new.sink c.write_items.new.sink c.loop-many.done c.in_ok-many.many c.count_of-count.result
-    c.loop-many.invariant c.count_of-count.ensures c.in_ok-many.ensures.items c.in_ok-many.ensures.bits c.in_ok-write_items.ensures c.if-last.true
+    written_all (item_chunks c.args.items) c.args.sink.now c.loop-many.sink c.push_length.new.self c.write_items.new.sink c.loop-many.done c.in_ok-many.many c.count_of-count.result
+    c.loop-many.invariant c.count_of-count.ensures c.in_ok-many.ensures.items c.in_ok-many.ensures.ok c.in_ok-write_items.ensures c.if-last.true
 
 pub loop-many-smaller : goal.loop-many-smaller
 loop-many-smaller c =
@@ -26,5 +26,5 @@ loop-many-smaller c =
 
 pub loop-many-preserved : goal.loop-many-preserved
 loop-many-preserved c =
-    written_more (item_chunks c.args.items) c.args.sink.now c.loop-many.sink c.push_length.new.sink c.write_items.new.sink c.loop-many.done c.in_ok-many.many c.count_of-count.result
-    c.loop-many.invariant c.count_of-count.ensures c.in_ok-many.ensures.items c.in_ok-many.ensures.bits c.in_ok-write_items.ensures c.if-last.false
+    written_more (item_chunks c.args.items) c.args.sink.now c.loop-many.sink c.push_length.new.self c.write_items.new.sink c.loop-many.done c.in_ok-many.many c.count_of-count.result
+    c.loop-many.invariant c.count_of-count.ensures c.in_ok-many.ensures.items c.in_ok-many.ensures.ok c.in_ok-write_items.ensures c.if-last.false

@@ -1,5 +1,5 @@
 -- INTEGER in PER as its reader takes it: without a low bound, and behind an extension mark.
-use Rattle.std.proofs.Common.{◌≡◌, ◌⊎◌, inl, inr, ℕ, ℤ, ◌<◌, Bool, true, false, List, ◌∷◌, [], Option, Some, None, refl, ap, sym, ◌∙◌, arith}
+use Rattle.std.proofs.Common.{◌≡◌, ℕ, ℤ, Bool, true, false, List, ◌∷◌, Option, Some, None, refl, sym, ◌∙◌}
 use Rattle.std.specs.Option.{option_map}
 use Rattle.std.proofs.lemmas.Bool.{true≢false}
 use Rattle.asn_values.specs.Datum.{Datum, number}
@@ -7,17 +7,16 @@ use Rattle.asn_values.specs.Shape.{Range, integer}
 use Rattle.asn_values.specs.Fits.{Fits, lowest_integer}
 use Rattle.asn_values.specs.Profile.{InProfile}
 use Rattle.asn_bits.specs.Numbers.{above}
-use Rattle.asn_rules.specs.Chunks.{Chunk}
 use Rattle.asn_rules.specs.Counted.{Counted, LeastSigned, signed_number}
 use Rattle.asn_rules.specs.Forks.{Fork, Same}
-use Rattle.asn_rules.specs.Languages.{Map, Inhabited, Short}
+use Rattle.asn_rules.specs.Languages.{Map, Inhabited}
 use Rattle.asn_rules.specs.Listed.{IsOther, Spelt}
-use Rattle.asn_rules.proofs.Forks.{same_flip, fork_short}
+use Rattle.asn_rules.proofs.Forks.{same_flip}
 use Rattle.asn_rules.proofs.Exits.{leads_zero, leads_one}
 use Rattle.asn_rules.proofs.Leads.{Leads, leads_on, leads_map, leads_same}
 use Rattle.asn_rules.proofs.Spellings.{same_after, same_map, same_fork}
 use Rattle.asn_per.specs.declared.signed_reader.Offsets.{Offsets}
-use Rattle.asn_per.specs.Kinds.{Values, Unconstrained, IsOutside, Ranged, Integers, of_either, root_of}
+use Rattle.asn_per.specs.Kinds.{Values, Unconstrained, IsOutside, Ranged, of_either}
 use Rattle.asn_per.specs.Per.{per, per_fields}
 use Rattle.asn_per.specs.Reading.{Held, HeldInteger, AreOffsets, IsUpTo, IsWithin, unmarked}
 use Rattle.asn_per.proofs.LeftOut.{none_left_out, unbounded_but_one}

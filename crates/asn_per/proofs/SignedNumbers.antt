@@ -1,13 +1,13 @@
 -- Which counts of octets, and which numbers behind a count, integers in the fewest octets of two's complement have.
-use Rattle.std.proofs.Common.{◌≡◌, ◌≤◌, ◌<◌, ◌+◌, ◌-◌, ◌*◌, ◌^◌, ◌⊎◌, ⊎_elim, inl, inr, ℕ, zero, suc, ℤ, pos, negsuc, ◌≤ℤ◌, ◌+ℤ◌, Bool, true, false, List, [], pow-add, refl, sym, ap, subst, ◌∙◌, arith}
+use Rattle.std.proofs.Common.{◌≡◌, ◌≤◌, ◌<◌, ◌+◌, ◌-◌, ◌*◌, ◌^◌, ◌⊎◌, ⊎_elim, inl, inr, ℕ, zero, suc, ℤ, pos, negsuc, ◌≤ℤ◌, ◌+ℤ◌, List, [], pow-add, refl, sym, ap, subst, ◌∙◌, arith}
 use Rattle.std.proofs.lemmas.Bool.{cases_lt, lt-ltb, le-ltb}
 use Rattle.std.proofs.lemmas.Int.{ints}
 use Rattle.std.proofs.Math.Nat.{pow-le-pow_right}
 use Rattle.asn_values.specs.Fits.{lowest_integer, highest_integer}
-use Rattle.asn_bits.specs.Numbers.{above, magnitude, signed_octet_count}
+use Rattle.asn_bits.specs.Numbers.{magnitude, signed_octet_count}
 use Rattle.asn_bits.proofs.Octets.{residue, residue_fits, half, signed_fits, signed_count_below, signed_count_some}
 use Rattle.asn_bits.proofs.Fewest.{magnitude_below}
-use Rattle.asn_bits.proofs.Above.{at_above, above-add, above_within}
+use Rattle.asn_bits.proofs.Above.{above-add}
 use Rattle.asn_rules.specs.Counted.{SomeOf, LeastSigned, signed_number}
 use Rattle.asn_rules.proofs.Counted.{number_again}
 use Rattle.asn_per.specs.declared.signed_reader.Offsets.{Offsets}

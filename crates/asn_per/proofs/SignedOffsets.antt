@@ -1,21 +1,17 @@
 -- Integers without a low bound, and those outside a root, by how far they lie above the lowest one.
-use Rattle.std.proofs.Common.{◌≡◌, ◌≢◌, ◌≤◌, ◌<◌, ◌+◌, ◌-◌, ◌^◌, ◌⊎◌, ⊎_elim, inl, inr, ℕ, ℤ, pos, negsuc, ◌≤ℤ◌, Bool, true, false, ◌&&◌, ◌||◌, Option, Some, None, refl, sym, ap, ◌∙◌, arith}
-use Rattle.std.specs.Int.RustNames.{int_le}
-use Rattle.std.specs.Option.{option_map}
+use Rattle.std.proofs.Common.{◌≡◌, ◌≤◌, ◌<◌, ◌+◌, ◌^◌, ◌⊎◌, ⊎_elim, inl, inr, ℕ, ℤ, ◌≤ℤ◌, Bool, true, false, ◌&&◌, Option, Some, None, refl, sym, ap, ◌∙◌, arith}
 use Rattle.std.proofs.lemmas.Bool.{and_cases, cases_lt, true≢false}
 use Rattle.std.proofs.lemmas.Int.{ints}
 use Rattle.asn_values.specs.Datum.{number}
 use Rattle.asn_values.specs.Shape.{Range, integer}
-use Rattle.asn_values.specs.Fits.{lowest_integer, highest_integer, at_least, at_most, in_range, FitsNumber}
+use Rattle.asn_values.specs.Fits.{lowest_integer, highest_integer, at_least, at_most, in_range}
 use Rattle.asn_values.specs.Profile.{InProfile, EmptyRange, UselessMark, is_outside, low_above_high}
 use Rattle.asn_values.proofs.Parts.{left_false, right_false}
 use Rattle.asn_bits.specs.Numbers.{above}
 use Rattle.asn_bits.proofs.Above.{pos-above, le_of_test, test_of_le, above_same}
 use Rattle.asn_rules.specs.Components.{is_default}
-use Rattle.asn_rules.specs.Listed.{IsOther}
-use Rattle.asn_per.specs.declared.signed_reader.Offsets.{Offsets}
 use Rattle.asn_per.specs.Kinds.{IsOutside}
-use Rattle.asn_per.specs.Reading.{Held, HeldInteger, AreOffsets, IsUpTo, IsOpen, unmarked, low_offset, high_offset}
+use Rattle.asn_per.specs.Reading.{Held, AreOffsets, IsUpTo, low_offset, high_offset}
 use Rattle.asn_per.proofs.IntegerLanguages.{default_test, default_self}
 use Rattle.asn_per.proofs.IntegerRanges.{inside}
 

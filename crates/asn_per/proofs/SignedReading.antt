@@ -1,5 +1,5 @@
 -- The language of integers in the fewest octets of two's complement, in the sets that their reader tests.
-use Rattle.std.proofs.Common.{◌≤◌, ◌*◌, ℕ, ℤ, ◌≤ℤ◌, List, Option, None, arith}
+use Rattle.std.proofs.Common.{◌≤◌, ◌*◌, ℕ, ℤ, ◌≤ℤ◌, List, None, arith}
 use Rattle.asn_bits.specs.Sets.{InDigits, Among, Meets}
 use Rattle.asn_bits.proofs.Splits.{two_pow_octets}
 use Rattle.asn_rules.specs.Counted.{SomeOf, LeastSigned, Counted, signed_number}

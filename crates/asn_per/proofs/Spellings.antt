@@ -5,8 +5,6 @@ use Rattle.std.proofs.Math.Seq.{take-length}
 use Rattle.asn_values.specs.Datum.{Datum, truth, number, components, Components, component_list, components_of}
 use Rattle.asn_values.specs.Shape.{Range, Shape, boolean, integer, sequence, Demand, Fields, no_fields, field, closed, demands}
 use Rattle.asn_values.specs.Fits.{FitsEach}
-use Rattle.asn_bits.specs.Numbers.{bits, width, least, above}
-use Rattle.asn_bits.specs.Lengths.{general_octets}
 use Rattle.asn_rules.specs.Chunks.{ones, flat}
 use Rattle.asn_rules.specs.Components.{bit_of, presence, is_spelled}
 use Rattle.asn_rules.proofs.Flat.{flat-append, flat-ones}

@@ -1,4 +1,4 @@
-use Rattle.std.proofs.Common.{◌≡◌, ◌+◌, Some, None, inr, sym, subst, arith}
+use Rattle.std.proofs.Common.{◌≡◌, Some, None, inr, arith}
 use Rattle.asn_values.specs.Fits.{lowest_integer}
 use Rattle.asn_bits.specs.Numbers.{above}
 use Rattle.asn_bits.proofs.Above.{kept}

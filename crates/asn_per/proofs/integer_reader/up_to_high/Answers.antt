@@ -1,4 +1,4 @@
-use Rattle.std.proofs.Common.{◌≡◌, ◌+ℤ◌, None, pos}
+use Rattle.std.proofs.Common.{◌≡◌, ◌+ℤ◌, pos}
 use Rattle.std.proofs.lemmas.Result.{err_from_is_err_and}
 use mir.Syntax.{w128}
 use mir.Val.{to_z, of_z}

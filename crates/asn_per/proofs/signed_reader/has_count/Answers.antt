@@ -1,4 +1,4 @@
-use Rattle.std.proofs.Common.{◌≡◌, true, inl, inr, ⊎_elim, sym, ◌∙◌, arith}
+use Rattle.std.proofs.Common.{◌≡◌, true, ⊎_elim, arith}
 use Rattle.asn_per.proofs.SignedNumbers.{some_above, some_below, some_offset}
 use Rattle.asn_per.proofs.signed_reader.has_count.Goals as goal
 

@@ -1,4 +1,4 @@
-use Rattle.std.proofs.Common.{◌≤◌, ◌<◌, ℕ}
+use Rattle.std.proofs.Common.{◌<◌, ℕ}
 use Rattle.asn_rules.specs.Counted.{SomeOf, LeastSigned}
 use Rattle.asn_per.specs.Reading.{HeldInteger}
 use Rattle.asn_per.proofs.signed_reader.lowest_count.Given as goal

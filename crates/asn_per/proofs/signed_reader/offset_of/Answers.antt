@@ -1,8 +1,6 @@
-use Rattle.std.proofs.Common.{◌≡◌, ◌<◌, ◌≤◌, ◌+◌, ◌-◌, ◌*◌, ◌^◌, ◌+ℤ◌, negsuc, pos, sym, ◌∙◌, arith}
-use Rattle.std.proofs.lemmas.Int.{ints}
-use Rattle.asn_values.specs.Fits.{lowest_integer}
+use Rattle.std.proofs.Common.{arith}
 use Rattle.asn_bits.proofs.Octets.{half}
-use Rattle.asn_per.proofs.SignedNumbers.{number_neg, offset_neg}
+use Rattle.asn_per.proofs.SignedNumbers.{offset_neg}
 use Rattle.asn_per.proofs.signed_reader.offset_of.Goals as goal
 
 pub overflow_cast-result-else-number-half : goal.overflow_cast-result-else-number-half

@@ -1,7 +1,6 @@
-use Rattle.std.proofs.Common.{◌≡◌, ◌*◌, ◌≤◌, ℕ, ℤ, pos, ◌+ℤ◌, subst, sym}
+use Rattle.std.proofs.Common.{ℤ, subst, sym}
 use Rattle.std.proofs.lemmas.Result.{err_from_is_err_and}
-use Rattle.asn_values.specs.Fits.{lowest_integer}
-use Rattle.asn_bits.specs.Sets.{InSet, Among, Meets}
+use Rattle.asn_bits.specs.Sets.{InSet}
 use Rattle.asn_rules.specs.Counted.{Counted, LeastSigned, signed_number}
 use Rattle.asn_rules.specs.Languages.{Plain, Map, Spells}
 use Rattle.asn_rules.specs.Stops.{Stops}

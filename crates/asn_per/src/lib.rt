@@ -14,6 +14,8 @@ mod row_reader;
 mod signed_reader;
 mod size_reader;
 mod string_reader;
+#[cfg(test)]
+mod string_tests;
 mod string_writer;
 #[cfg(test)]
 mod string_writing_tests;

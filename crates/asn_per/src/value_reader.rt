@@ -17,6 +17,7 @@ use crate::encoder::may_be_absent;
 use crate::integer_reader::{boolean, integer, power_of_two};
 use crate::items::enumerated;
 use crate::number_reader::{Numbers, number};
+use crate::string_reader::{bit_string, octet_string, text, utf8_string};
 use asn_bits::BitCursor;
 use asn_rules::{Stop, Why};
 use asn_values::{AsnType, Field, Need, Value};
@@ -35,6 +36,10 @@ pub(crate) fn read(alloc: Global, ty: &AsnType, bits: &mut BitCursor<'_>) -> Res
         AsnType::Null => Ok(Value::Null),
         AsnType::Int(bounds) => Ok(Value::Int(integer(bounds, None, bits)?)),
         AsnType::Enum { root, ext } => Ok(Value::Enum(enumerated(root, ext, None, bits)?)),
+        AsnType::Bits(size) => Ok(Value::Bits(bit_string(alloc, size, bits)?)),
+        AsnType::Octets(size) => Ok(Value::Octets(octet_string(alloc, size, bits)?)),
+        AsnType::Text(kind, size) => Ok(Value::Text(text(alloc, *kind, size, bits)?)),
+        AsnType::Utf8 => Ok(Value::Utf8(utf8_string(alloc, bits)?)),
         AsnType::Seq { root } => {
             let count = bitmap_width(root);
             let set = Numbers {
@@ -128,7 +133,14 @@ fn absent(field: &Field) -> Option<Value>
         Need::Default(Value::Bool(truth)) => Some(Value::Bool(*truth)),
         Need::Default(Value::Int(whole)) => Some(Value::Int(*whole)),
         Need::Default(Value::Enum(place)) => Some(Value::Enum(*place)),
-        Need::Default(Value::Null | Value::Seq(_)) => unreachable!(),
+        Need::Default(
+            Value::Null
+            | Value::Bits(_)
+            | Value::Octets(_)
+            | Value::Text(_)
+            | Value::Utf8(_)
+            | Value::Seq(_),
+        ) => unreachable!(),
     }
 }
 

@@ -1,5 +1,5 @@
 -- What a type and a value stand for, variant by variant.
-use Rattle.std.proofs.Common.{◌≡◌, ◌↔◌, List, [], ◌∷◌, map, Bool, IsTrue, Option, Some, None, option_map, Vec, Global, refl, ap, ◌∙◌, sym, rules}
+use Rattle.std.proofs.Common.{◌≡◌, ◌↔◌, List, [], ◌∷◌, map, Bool, IsTrue, Option, Some, None, option_map, Vec, Global, refl, ap, ◌∙◌, sym, rules, ℕ}
 use Rattle.asn_values.specs.declared.types.Field.{Field}
 use Rattle.asn_values.specs.declared.types.Bounds.{Bounds}
 use Rattle.asn_values.specs.declared.types.Item.{Item}
@@ -10,7 +10,7 @@ use Rattle.asn_values.specs.declared.types.AsnType as asn_type
 use Rattle.asn_values.specs.declared.value.Value.{Value}
 use Rattle.asn_values.specs.declared.value.Value as values
 use Rattle.asn_values.specs.declared.value.Value.TheVariants as value
-use Rattle.asn_values.specs.Datum.{Datum, components, components_of, component_list}
+use Rattle.asn_values.specs.Datum.{Datum, components, components_of, component_list, bit_list, octet_list, characters}
 use Rattle.asn_values.specs.Shape.{boolean, null, integer, enumerated, bit_string, octet_string, restricted, utf8_string, sequence, closed}
 use Rattle.asn_values.specs.View.{shape_of, datum_of, range_of, size_range_of, alphabet_of, label_of, more_labels_of, fields_of, part_of_field}
 
@@ -48,6 +48,15 @@ pub sequence_of_fields : (t : AsnType) (root : Vec Field Global) (fs : List Fiel
 sequence_of_fields t root fs et ef = rw (et, ef) (shape_of-Seq root)
 
 -- the value of a SEQUENCE stands for its entries
+pub datum_of-Bits : (v : Vec Bool Global) → datum_of (value.Bits v) ≡ bit_list v.items
+datum_of-Bits v = search (rules, values.the_lemmas)
+
+pub datum_of-Octets : (v : Vec ℕ Global) → datum_of (value.Octets v) ≡ octet_list v.items
+datum_of-Octets v = search (rules, values.the_lemmas)
+
+pub datum_of-Text : (v : Vec ℕ Global) → datum_of (value.Text v) ≡ characters v.items
+datum_of-Text v = search (rules, values.the_lemmas)
+
 pub datum_of-Seq : (v : Vec (Option Value) Global) → datum_of (value.Seq v) ≡ components (components_of (map (option_map datum_of) v.items))
 datum_of-Seq v = search (rules, values.the_lemmas)
 

@@ -7,8 +7,8 @@ use Rattle.asn_values.specs.declared.types.Field.{Field}
 use Rattle.asn_values.specs.declared.types.Need.{Need}
 use Rattle.asn_values.specs.declared.types.Need.TheVariants as needs
 use Rattle.asn_values.specs.Shape.{integer, enumerated}
-use Rattle.asn_values.specs.View.{shape_of, datum_of, fields_of, part_of_field, range_of, label_of, more_labels_of, demand_of}
-use Rattle.asn_values.proofs.Views.{shape_of-Int, datum_of-Seq, sequence_of_fields}
+use Rattle.asn_values.specs.View.{shape_of, datum_of, fields_of, part_of_field, range_of, size_range_of, alphabet_of, label_of, more_labels_of, demand_of}
+use Rattle.asn_values.proofs.Views.{shape_of-Int, shape_of-Bits, shape_of-Octets, shape_of-Text, shape_of-Utf8, datum_of-Bits, datum_of-Octets, datum_of-Text, datum_of-Seq, sequence_of_fields}
 use Rattle.asn_rules.specs.Listed.{bitmap_length, default_of}
 use Rattle.asn_rules.proofs.Leads.{stops_by}
 use Rattle.asn_rules.proofs.Listed.{spelt_inhabited}
@@ -16,6 +16,7 @@ use Rattle.asn_rules.proofs.ListedReading.{nothing_read}
 use Rattle.asn_per.specs.Per.{per, per_fields}
 use Rattle.asn_per.proofs.ComponentsRead.{next_part, no_part, bit_there, next_either, read_ends, demand_of_part, entry_leads, parts_good, bitmap_stops_at, components_at}
 use Rattle.asn_per.proofs.EnumeratedTypes.{enumerated_of_items}
+use Rattle.asn_per.proofs.StringReading.{bits_size, octets_size, text_size, bits_lead, octets_lead, text_leads, utf8_leads}
 use Rattle.asn_per.proofs.Sequences.{few_components}
 use Rattle.asn_per.proofs.value_reader.+reader.Goals as goal
 
@@ -27,6 +28,53 @@ read-enumerated-requires-clause-some t c =
     let type = enumerated (map label_of c.deref.result.now) (more_labels_of c.in-Enum.ext) in
     let is : shape_of c.args.ty.now ≡ type = enumerated_of_items c.args.ty.now c.in-Enum.root c.in-Enum.ext c.deref.result.now c.in-Enum.is c.deref.ensures.value in
     spelt_inhabited per type (rw is at c.requires.of_profile)
+
+pub read-bit_string-requires : goal.read-bit_string-requires
+read-bit_string-requires t c = record { of_profile = bits_size (size_range_of c.in-Bits.size) (rw (c.in-Bits.is, shape_of-Bits) at c.requires.of_profile) }
+
+pub read-returns-in_err-bit_string-in-Bits-clause-stop : goal.read-returns-in_err-bit_string-in-Bits-clause-stop
+read-returns-in_err-bit_string-in-Bits-clause-stop t c =
+    let good = rw (c.in-Bits.is, shape_of-Bits) at c.requires.of_profile in
+    let p = err_from_is_err_and c.from_residual-in_err-bit_string-in-Bits.result c.from_residual-in_err-bit_string-in-Bits.ensures.1 in
+    rw (p.1, p.2, c.in-Bits.is, shape_of-Bits) (stops_by _ (bits_lead (size_range_of c.in-Bits.size) c.args.bits.now good).stops c.in_err-bit_string-in-Bits.ensures.stop)
+
+pub read-returns-in_ok-bit_string-in-Bits-clause-done : goal.read-returns-in_ok-bit_string-in-Bits-clause-done
+read-returns-in_ok-bit_string-in-Bits-clause-done t c =
+    let good = rw (c.in-Bits.is, shape_of-Bits) at c.requires.of_profile in
+    rw (c.in-Bits.is, shape_of-Bits, datum_of-Bits) ((bits_lead (size_range_of c.in-Bits.size) c.args.bits.now good).done c.in_ok-bit_string-in-Bits.field-0.items c.bit_string.new.cursor c.in_ok-bit_string-in-Bits.ensures.done)
+
+pub read-octet_string-requires : goal.read-octet_string-requires
+read-octet_string-requires t c = record { of_profile = octets_size (size_range_of c.in-Octets.size) (rw (c.in-Octets.is, shape_of-Octets) at c.requires.of_profile) }
+
+pub read-returns-in_err-octet_string-in-Octets-clause-stop : goal.read-returns-in_err-octet_string-in-Octets-clause-stop
+read-returns-in_err-octet_string-in-Octets-clause-stop t c =
+    let good = rw (c.in-Octets.is, shape_of-Octets) at c.requires.of_profile in
+    let p = err_from_is_err_and c.from_residual-in_err-octet_string-in-Octets.result c.from_residual-in_err-octet_string-in-Octets.ensures.1 in
+    rw (p.1, p.2, c.in-Octets.is, shape_of-Octets) (stops_by _ (octets_lead (size_range_of c.in-Octets.size) c.args.bits.now good).stops c.in_err-octet_string-in-Octets.ensures.stop)
+
+pub read-returns-in_ok-octet_string-in-Octets-clause-done : goal.read-returns-in_ok-octet_string-in-Octets-clause-done
+read-returns-in_ok-octet_string-in-Octets-clause-done t c =
+    let good = rw (c.in-Octets.is, shape_of-Octets) at c.requires.of_profile in
+    rw (c.in-Octets.is, shape_of-Octets, datum_of-Octets) ((octets_lead (size_range_of c.in-Octets.size) c.args.bits.now good).done c.in_ok-octet_string-in-Octets.field-0.items c.octet_string.new.cursor c.in_ok-octet_string-in-Octets.ensures.done)
+
+pub read-text-requires : goal.read-text-requires
+read-text-requires t c = record { of_profile = text_size (alphabet_of c.in-Text.kind) (size_range_of c.in-Text.size) (rw (c.in-Text.is, shape_of-Text) at c.requires.of_profile) }
+
+pub read-returns-in_err-text-in-Text-clause-stop : goal.read-returns-in_err-text-in-Text-clause-stop
+read-returns-in_err-text-in-Text-clause-stop t c =
+    let good = rw (c.in-Text.is, shape_of-Text) at c.requires.of_profile in
+    let p = err_from_is_err_and c.from_residual-in_err-text-in-Text.result c.from_residual-in_err-text-in-Text.ensures.1 in
+    rw (p.1, p.2, c.in-Text.is, shape_of-Text) (stops_by _ (text_leads (alphabet_of c.in-Text.kind) (size_range_of c.in-Text.size) c.args.bits.now good).stops c.in_err-text-in-Text.ensures.stop)
+
+pub read-returns-in_ok-text-in-Text-clause-done : goal.read-returns-in_ok-text-in-Text-clause-done
+read-returns-in_ok-text-in-Text-clause-done t c =
+    let good = rw (c.in-Text.is, shape_of-Text) at c.requires.of_profile in
+    rw (c.in-Text.is, shape_of-Text, datum_of-Text) ((text_leads (alphabet_of c.in-Text.kind) (size_range_of c.in-Text.size) c.args.bits.now good).done c.in_ok-text-in-Text.field-0.items c.text.new.cursor c.in_ok-text-in-Text.ensures.done)
+
+pub read-returns-in_err-utf8_string-in-Utf8-clause-stop : goal.read-returns-in_err-utf8_string-in-Utf8-clause-stop
+read-returns-in_err-utf8_string-in-Utf8-clause-stop t c =
+    let p = err_from_is_err_and c.from_residual-in_err-utf8_string-in-Utf8.result c.from_residual-in_err-utf8_string-in-Utf8.ensures.1 in
+    rw (p.1, p.2, c.in-Utf8.is, shape_of-Utf8) (stops_by _ (utf8_leads c.args.bits.now).stops c.in_err-utf8_string-in-Utf8.ensures.stop)
 
 pub read-bitmap_width-count-requires : goal.read-bitmap_width-count-requires
 read-bitmap_width-count-requires t c =

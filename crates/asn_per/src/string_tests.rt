@@ -1,0 +1,170 @@
+//! What no clause says: that strings are decoded where there is memory, the reason of a refusal, and octets that
+//! were worked out by hand from X.691.
+use crate::decode;
+use asn_rules::{DecodeFault, Why};
+use asn_values::{AsnType, Checked, Size, TextKind, Value, same};
+use std::alloc::{AllocError, Global};
+use std::process::Abort;
+use std::test::Fail;
+
+/// SIZE (low..high), with a mark where `ext`
+fn size(low: u32, high: Option<u32>, ext: bool) -> Size {
+    Size { low, high, ext }
+}
+
+/// no SIZE
+fn any() -> Size {
+    size(0, None, false)
+}
+
+/// The value is decoded from the octets.
+fn expect(
+    rt: &impl Abort,
+    alloc: Global,
+    ty: AsnType,
+    octets: &[u8],
+    value: &Value,
+) -> Result<(), Fail> {
+    let ty = Checked::new(alloc, ty)?;
+    let decoded = decode(alloc, &ty, octets)?;
+    assert!(rt; same(&decoded, value), "at {octets:?}");
+    Ok(())
+}
+
+/// The octets are refused at this bit, for this reason.
+fn expect_refusal(
+    rt: &impl Abort,
+    alloc: Global,
+    ty: AsnType,
+    octets: &[u8],
+    at: u64,
+    why: Why,
+) -> Result<(), Fail> {
+    let ty = Checked::new(alloc, ty)?;
+    let fault = decode(alloc, &ty, octets).err();
+    assert_eq!(rt; fault, Some(DecodeFault::Refused { at, why }), "at {at}");
+    Ok(())
+}
+
+/// Adds the length of a fragment and its octets.
+fn push_fragment(into: &mut Vec<u8>, length: u8, count: usize) -> Result<(), AllocError> {
+    into.push(length)?;
+    for place in 0..count {
+        into.push((place % 251) as u8)?;
+    }
+    Ok(())
+}
+
+#[test]
+fn bit_strings_are_read(rt: HostRuntime) -> Result<(), Fail> {
+    let alloc = rt.alloc();
+    let three = Value::Bits(vec![in alloc; true, false, true]?);
+    let fixed = size(3, Some(3), false);
+    expect(&rt, alloc, AsnType::Bits(any()), b"\x03\xa0", &three)?;
+    expect(&rt, alloc, AsnType::Bits(fixed), b"\xa0", &three)?;
+    let none = Value::Bits(Vec::new(alloc));
+    expect(&rt, alloc, AsnType::Bits(any()), b"\x00", &none)
+}
+
+#[test]
+fn octet_strings_are_read_or_refused(rt: HostRuntime) -> Result<(), Fail> {
+    let alloc = rt.alloc();
+    let one = Value::Octets(b"\xab".to_vec(alloc)?);
+    expect(&rt, alloc, AsnType::Octets(any()), b"\x01\xab", &one)?;
+    let large = size(40000, None, false);
+    for (size, octets, at) in [
+        (any(), b"\x80\x01\xab".as_slice(), 9),
+        (size(2, Some(3), true), b"\x81".as_slice(), 8),
+        (large, b"\x05".as_slice(), 1),
+        (large, b"\xc1".as_slice(), 7),
+    ] {
+        expect_refusal(&rt, alloc, AsnType::Octets(size), octets, at, Why::Length)?;
+    }
+    Ok(())
+}
+
+#[test]
+fn fragments_are_read_or_refused(rt: HostRuntime) -> Result<(), Fail> {
+    let alloc = rt.alloc();
+    let mut octets = Vec::new(alloc);
+    push_fragment(&mut octets, 0xc1, 16384)?;
+    octets.push(0)?;
+    let value = Value::Octets(octets.as_slice()[1..16385].to_vec(alloc)?);
+    let ty = AsnType::Octets(any());
+    expect(&rt, alloc, ty, octets.as_slice(), &value)?;
+    octets.pop();
+    octets.push(0xc1)?;
+    let ty = AsnType::Octets(any());
+    expect_refusal(&rt, alloc, ty, octets.as_slice(), 131082, Why::Length)?;
+    octets.pop();
+    push_fragment(&mut octets, 0xc4, 65536)?;
+    octets.push(0)?;
+    let ty = AsnType::Octets(any());
+    expect_refusal(&rt, alloc, ty, octets.as_slice(), 131082, Why::Length)
+}
+
+#[test]
+fn characters_are_read(rt: HostRuntime) -> Result<(), Fail> {
+    let alloc = rt.alloc();
+    let few = size(0, Some(3), true);
+    let two = size(2, Some(2), false);
+    for (kind, size, octets, text) in [
+        (
+            TextKind::Ia5,
+            any(),
+            b"\x02\x91\xa4".as_slice(),
+            b"Hi".as_slice(),
+        ),
+        (TextKind::Ia5, few, b"\x30\x40".as_slice(), b"A".as_slice()),
+        (
+            TextKind::Ia5,
+            few,
+            b"\x82\x41\x85\x0e\x20".as_slice(),
+            b"ABCD".as_slice(),
+        ),
+        (
+            TextKind::Visible,
+            size(1, Some(1), false),
+            b"\xfc".as_slice(),
+            b"~".as_slice(),
+        ),
+        (TextKind::Numeric, two, b"\x23".as_slice(), b"12".as_slice()),
+    ] {
+        let value = Value::Text(text.to_vec(alloc)?);
+        expect(&rt, alloc, AsnType::Text(kind, size), octets, &value)?;
+    }
+    Ok(())
+}
+
+#[test]
+fn characters_are_refused(rt: HostRuntime) -> Result<(), Fail> {
+    let alloc = rt.alloc();
+    let one = size(1, Some(1), false);
+    let two = size(2, Some(2), false);
+    for (kind, size, octets, at) in [
+        (TextKind::Visible, one, b"\xfe".as_slice(), 7),
+        (TextKind::Visible, one, b"\x3e".as_slice(), 2),
+        (TextKind::Numeric, two, b"\xb0".as_slice(), 4),
+        (TextKind::Numeric, two, b"\xc0".as_slice(), 2),
+    ] {
+        let ty = AsnType::Text(kind, size);
+        expect_refusal(&rt, alloc, ty, octets, at, Why::Character)?;
+    }
+    let ty = AsnType::Text(TextKind::Ia5, size(0, Some(3), true));
+    expect_refusal(&rt, alloc, ty, b"\x81", 7, Why::Length)
+}
+
+#[test]
+fn utf8_strings_are_judged_at_their_end(rt: HostRuntime) -> Result<(), Fail> {
+    let alloc = rt.alloc();
+    let text = Value::Utf8(String::from_str(alloc, "é")?);
+    expect(&rt, alloc, AsnType::Utf8, b"\x02\xc3\xa9", &text)?;
+    expect_refusal(&rt, alloc, AsnType::Utf8, b"\x02\xc3\x28", 24, Why::Sealed)
+}
+
+#[test]
+fn null_has_no_bits(rt: HostRuntime) -> Result<(), Fail> {
+    let alloc = rt.alloc();
+    expect(&rt, alloc, AsnType::Null, b"\x00", &Value::Null)?;
+    expect_refusal(&rt, alloc, AsnType::Null, b"\x01", 8, Why::Padding)
+}

@@ -1,21 +1,18 @@
 -- Where a writer of items under a size stands: what is in front of them, and one length after the other.
-use Rattle.std.proofs.Common.{⊎_elim, ◌≡◌, ◌≤◌, ◌<◌, ◌+◌, ◌-◌, ◌*◌, ◌^◌, ℕ, suc, Bool, true, false, ◌&&◌, nat_lt, nat_le, Option, Some, List, [], ◌∷◌, ◌++◌, length, map, take, drop, refl, sym, ◌∙◌, ap, subst, arith, append_assoc}
+use Rattle.std.proofs.Common.{⊎_elim, ◌≡◌, ◌≤◌, ◌<◌, ◌+◌, ◌-◌, ◌*◌, ◌^◌, ℕ, suc, Bool, true, false, ◌&&◌, nat_lt, nat_le, Option, Some, List, [], ◌∷◌, ◌++◌, length, take, drop, refl, sym, ◌∙◌, ap, subst, arith, append_assoc}
 use Rattle.std.proofs.lemmas.Bool.{cases_lt, and_parts, leb-true, lt-ltb, le-ltb, ltb-true, ltb-false}
 use Rattle.std.proofs.lemmas.List.{append-nil, length-drop, drop-drop}
-use Rattle.asn_values.specs.Shape.{SizeRange, utf8_string}
-use Rattle.asn_values.specs.Datum.{unicode}
+use Rattle.asn_values.specs.Shape.{SizeRange}
 use Rattle.asn_values.specs.Fits.{in_size}
 use Rattle.asn_bits.specs.Numbers.{bits, width}
 use Rattle.asn_bits.specs.LengthBits.{first_length}
-use Rattle.asn_bits.specs.Lengths.{Length, last_length, fragment, blocks, lengths, joined, with_lengths, general, general_octets}
-use Rattle.asn_bits.proofs.GeneralLengths.{map_same}
+use Rattle.asn_bits.specs.Lengths.{Length, last_length, fragment, blocks, lengths, joined, with_lengths, general}
 use Rattle.asn_bits.proofs.FirstLengths.{first_fragment}
 use Rattle.asn_bits.proofs.LengthBits.{lengths_last, lengths_fragment}
 use Rattle.asn_bits.proofs.Widths.{width_fits}
 use Rattle.asn_rules.specs.Chunks.{Chunk, one, ones, flat}
-use Rattle.asn_rules.proofs.Flat.{flat-append, flat-ones, flat-general}
+use Rattle.asn_rules.proofs.Flat.{flat-append, flat-ones}
 use Rattle.asn_rules.specs.Components.{extension_bit}
-use Rattle.asn_per.specs.Laws.{per_bits}
 use Rattle.asn_per.specs.Per.{spelled, sized, behind_mark, constrained, within}
 use Rattle.asn_per.specs.StringItems.{row_bits, general_bits}
 

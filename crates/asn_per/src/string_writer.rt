@@ -1,5 +1,5 @@
 //! Writers of strings: BIT STRING, OCTET STRING, the restricted character strings and UTF8String.
-ghost use Rattle.std.specs.Prelude.{◌≡◌, ◌++◌, ◌*◌, Bool, List, OnOk, IfOk, length};
+ghost use Rattle.std.specs.Prelude.{◌≡◌, ◌++◌, List, OnOk, IfOk, length};
 ghost use Rattle.asn_values.specs.Datum.{bit_list, octet_list, characters, unicode};
 ghost use Rattle.asn_values.specs.Fits.{Fits, FitsLength, in_size};
 ghost use Rattle.asn_values.specs.Shape.{bit_string, octet_string, restricted, utf8_string};

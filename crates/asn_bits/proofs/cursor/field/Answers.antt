@@ -1,5 +1,5 @@
 -- The mask keeps the last k bits.
-use Rattle.std.proofs.Common.{◌-◌, ◌/◌, ◌^◌, bit_and, ap, ◌∙◌}
+use Rattle.std.proofs.Common.{◌/◌, ◌^◌, bit_and, ap, ◌∙◌}
 use Rattle.std.proofs.lemmas.Nat.{and_mask}
 use Rattle.asn_bits.proofs.Reading.{word_mask}
 use Rattle.asn_bits.proofs.cursor.field.Goals as goal

@@ -1,5 +1,5 @@
 -- The first bits of the number stand behind the last ones of what is above them.
-use Rattle.std.proofs.Common.{◌≡◌, ◌+◌, ◌-◌, ◌^◌, arith, ap, ◌∙◌}
+use Rattle.std.proofs.Common.{arith, ◌∙◌}
 use Rattle.asn_bits.proofs.Packing.{above_last, middle_is}
 use Rattle.asn_bits.proofs.words.middle.Goals as goal
 

@@ -1,5 +1,5 @@
 -- Whole octets are passed, and the bits of the one begun.
-use Rattle.std.proofs.Common.{rules, ◌≡◌, ◌≤◌, ◌+◌, ◌-◌, ◌*◌, ◌/◌, ◌%◌, length, take, drop, ap, sym, ◌∙◌, arith, length-drop}
+use Rattle.std.proofs.Common.{rules, ◌≡◌, ◌≤◌, ◌+◌, ◌-◌, ◌/◌, ◌%◌, length, take, drop, ap, sym, ◌∙◌, arith, length-drop}
 use Rattle.std.proofs.lemmas.List.{drop-drop, length-take-le}
 use Rattle.asn_bits.specs.Numbers.{unpacked}
 use Rattle.asn_bits.proofs.Reading.{bits_passed, bits_there}

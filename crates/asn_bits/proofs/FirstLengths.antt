@@ -205,18 +205,23 @@ place_more x f p l b e h s t =
           ∙ sym (append_assoc (form_bits f) (bits k p) (b ∷ [])) ∙ ap (λ z. place_bits z ++ b ∷ []) (sym e),
     )
 
--- 10 and 14 bits, as two octets
+-- 10 and 14 bits, as a number
+pub many_bits : (n : ℕ) → n < 16384 → bits 16 (2 * 2 ^ 14 + n) ≡ 1 ∷ 0 ∷ bits 14 n
+many_bits n w =
+    let two : 0 < 2 = omega arith in
+    let m = 2 * 2 ^ 14 + n in
+    let one : m / 2 ^ 15 % 2 ≡ 1 = omega arith in
+    let zero : m / 2 ^ 14 % 2 ≡ 0 = omega arith in
+    ap (λ x. x ∷ bits 15 m) one ∙ ap (λ x. 1 ∷ x ∷ bits 14 m) zero ∙ ap (λ x. 1 ∷ 0 ∷ x) (digits_above 2 two 14 2 n)
+
+-- as two octets
 pub many_octets : (a b : ℕ) {us mid rest : List ℕ} → 128 ≤ a → a < 192 → b < 256 → us ≡ bits 8 a ++ mid → mid ≡ bits 8 b ++ rest → us ≡ 1 ∷ 0 ∷ (bits 14 ((a - 128) * 256 + b) ++ rest)
 many_octets a b {us} {mid} {rest} l h w e f =
     let n = (a - 128) * 256 + b in
     let two : 0 < 2 = omega arith in
     let whole : a * 2 ^ 8 + b ≡ 2 * 2 ^ 14 + n = omega arith in
     let both : bits 8 a ++ bits 8 b ≡ bits 16 (2 * 2 ^ 14 + n) = digits-join 2 two 8 8 a b w ∙ ap (bits 16) whole in
-    let one : (2 * 2 ^ 14 + n) / 2 ^ 15 % 2 ≡ 1 = omega arith in
-    let zero : (2 * 2 ^ 14 + n) / 2 ^ 14 % 2 ≡ 0 = omega arith in
-    let low : bits 14 (2 * 2 ^ 14 + n) ≡ bits 14 n = digits_above 2 two 14 2 n in
-    let all : bits 16 (2 * 2 ^ 14 + n) ≡ 1 ∷ 0 ∷ bits 14 n = ap (λ x. x ∷ bits 15 (2 * 2 ^ 14 + n)) one ∙ ap (λ x. 1 ∷ x ∷ bits 14 (2 * 2 ^ 14 + n)) zero ∙ ap (λ x. 1 ∷ 0 ∷ x) low in
-    e ∙ ap (λ m. bits 8 a ++ m) f ∙ sym (append_assoc (bits 8 a) (bits 8 b) rest) ∙ ap (λ x. x ++ rest) (both ∙ all)
+    e ∙ ap (λ m. bits 8 a ++ m) f ∙ sym (append_assoc (bits 8 a) (bits 8 b) rest) ∙ ap (λ x. x ++ rest) (both ∙ many_bits n (omega arith))
 
 -- a truth value as a bit
 pub bit_byte : (b : Bool) {n : ℕ} → n ≡ bool_byte b → (n < 2) × (n ≡ bit_of b)
@@ -238,6 +243,10 @@ pub number_left : (n : ℕ) (f : Form) (p l : ℕ) → IsPlace (place.Number f p
 number_left n form.Few p l h s = rw (first_few n s.0) (omega (arith, h.0, length-digits 2 7 n, length-digits 2 (7 - l) p))
 number_left n form.Many p l h s = rw (first_many n s.0 s.1) (omega (arith, h.0, length-digits 2 14 n, length-digits 2 (14 - l) p))
 number_left n form.Fragment p l h s = rw (first_fragment n s.0) (omega (arith, h.0, length-digits 2 6 (blocks n), length-digits 2 (6 - l) p))
+
+-- fewer than a block follow at once
+pub few_items : (n : ℕ) → n < 16384 → (first_length n).items ≡ n
+few_items n h = ⊎_elim (λ a. ap (λ l. l.items) (first_few n a)) (λ a. ap (λ l. l.items) (first_many n a h)) (cases_lt n 128)
 
 -- the items of a whole length
 pub whole_items : (n : ℕ) (f : Form) (p : ℕ) → Stands n (place.Number f p 0) → (first_length n).items ≡ form_items f p

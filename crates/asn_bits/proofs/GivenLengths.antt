@@ -5,7 +5,7 @@ use Rattle.std.proofs.lemmas.Bool.Decides.{eqb_tells}
 use Rattle.std.proofs.lemmas.List.{append-nil}
 use Rattle.asn_bits.specs.Lengths.{Length, blocks, lengths}
 use Rattle.asn_bits.specs.Ranges.{Spanned}
-use Rattle.asn_bits.specs.LengthBits.{length_bits, BeginsLengths, EndsLength, fragments, is_closed, CountsLeft, BegunLengths, given, Goes, first_length, StartsSome}
+use Rattle.asn_bits.specs.LengthBits.{length_bits, BeginsLengths, EndsLength, fragments, is_closed, CountsLeft, BegunLengths, given, Goes, first_length, StartsSome, OpensLength, WholeLength}
 use Rattle.asn_bits.specs.LengthPlaces.{form_items, place_bits, IsPlace, IsWhole, Behind, IsReading}
 use Rattle.asn_bits.specs.declared.number_field.FieldState.TheVariants as state
 use Rattle.asn_bits.specs.declared.general_length.Form.{Form}
@@ -104,28 +104,49 @@ not_ended is j (place.Number f p l) k h begun part e =
     let w = ends_here is j (place.Number f p l) k h begun e in
     part (omega (arith, number_left w.count f p l h w.stands, ap length w.bits_are))
 
--- a whole length ends
-pub ended : (is : List (ℕ × Option ℕ)) (j : ℕ) (f : Form) (p : ℕ) → IsPlace (place.Number f p 0) → StartsSome (CountsLeft is j) (place_bits (place.Number f p 0)) → EndsLength (Spanned is) (length_bits (fragments j) ++ place_bits (place.Number f p 0)) (form_items f p)
-ended is j f p h s =
+none_of : (xs : List ℕ) → length xs ≡ 0 → xs ≡ []
+none_of [] e = refl
+none_of (x ∷ xs) e = absurd (omega arith)
+
+-- all bits of a length are one of some count
+pub whole_first : (S : ℕ → Type 0) (f : Form) (p : ℕ) → IsPlace (place.Number f p 0) → StartsSome S (place_bits (place.Number f p 0)) → WholeLength S (place_bits (place.Number f p 0)) (form_items f p)
+whole_first S f p h s =
     let n = s.count in
+    let x = place_bits (place.Number f p 0) in
     let t = stands_of n (place.Number f p 0) [] s.starts.more h (append-nil (first_length n).bits ∙ s.starts.split) in
-    let few : length s.starts.more ≡ 0 = omega (arith, number_left n f p 0 h t, ap length s.starts.split, length-append (place_bits (place.Number f p 0)) s.starts.more) in
-    let whole : place_bits (place.Number f p 0) ≡ (first_length n).bits = sym (append-nil (place_bits (place.Number f p 0))) ∙ ap (λ m. place_bits (place.Number f p 0) ++ m) (sym (none_of s.starts.more few)) ∙ sym s.starts.split in
+    let few : length s.starts.more ≡ 0 = omega (arith, number_left n f p 0 h t, ap length s.starts.split, length-append x s.starts.more) in
+    record { count = n; member = s.member; bits_are = s.starts.split ∙ ap (λ m. x ++ m) (none_of s.starts.more few) ∙ append-nil x; items_are = whole_items n f p t }
+
+-- and fewer go on
+pub part_first : (S : ℕ → Type 0) (y : Place) → IsPlace y → StartsSome S (place_bits y) → (IsWhole y → ⊥) → OpensLength S (place_bits y)
+part_first S y h s part = go s.starts.more s.starts.split
+  where
+    not_all : (n : ℕ) (y : Place) → IsPlace y → (IsWhole y → ⊥) → (first_length n).bits ≡ place_bits y → ⊥
+    not_all n place.Start h part e = omega (arith, first_some n, ap length e)
+    not_all n place.One h part e = omega (arith, first_some n, ap length e)
+    not_all n (place.Number f p l) h part e =
+        let t = stands_of n (place.Number f p l) [] [] h (ap (λ b. b ++ []) e) in
+        part (omega (arith, number_left n f p l h t, ap length e))
+
+    go : (more : List ℕ) → (first_length s.count).bits ≡ place_bits y ++ more → OpensLength S (place_bits y)
+    go [] e = absurd (not_all s.count y h part (e ∙ append-nil (place_bits y)))
+    go (u ∷ t) e = record { count = s.count; member = s.member; next = u; more = t; split = e }
+
+-- a whole length ends
+pub ended : (is : List (ℕ × Option ℕ)) (j : ℕ) (bs : List ℕ) (k : ℕ) → WholeLength (CountsLeft is j) bs k → EndsLength (Spanned is) (length_bits (fragments j) ++ bs) k
+ended is j bs k w =
+    let n = w.count in
     let g = lengths_first n in
     record {
       count = 16384 * j + n;
-      member = s.member.member;
+      member = w.member.member;
       before = fragments j;
       here = first_length n;
       after = g.0;
-      split = lengths_behind j n s.member.largest ∙ ap (λ ls. fragments j ++ ls) g.1;
-      given_is = ap (λ b. length_bits (fragments j) ++ b) whole;
-      items_are = whole_items n f p t;
+      split = lengths_behind j n w.member.largest ∙ ap (λ ls. fragments j ++ ls) g.1;
+      given_is = ap (λ b. length_bits (fragments j) ++ b) (sym w.bits_are);
+      items_are = w.items_are;
     }
-  where
-    none_of : (xs : List ℕ) → length xs ≡ 0 → xs ≡ []
-    none_of [] e = refl
-    none_of (x ∷ xs) e = absurd (omega arith)
 
 -- ---- behind a whole length
 
@@ -219,6 +240,10 @@ whole_dead is j (place.Number f p l) b r w g =
     let z : length a.0 ≡ 0 = ap length last in
     omega (arith, number_left n f p l r.fits s, w, z, ap length e, length-append (first_length n).bits a.0, length-append (place_bits x) (b ∷ [] ++ g'.more))
 
+-- and so the length does not go on
+pub whole_stops : (is : List (ℕ × Option ℕ)) (j : ℕ) (x : Place) (b : ℕ) → IsReading is j x → IsWhole x → StartsSome (CountsLeft is j) (place_bits x ++ b ∷ []) → ⊥
+whole_stops is j x b r w s = whole_dead is j x b r w (live_bit is j (place_bits x) (b ∷ []) (place_bits x ++ b ∷ []) refl s)
+
 -- ---- whether more comes
 
 -- behind a fragment
@@ -268,12 +293,14 @@ part_open is j x b y k h e part g = not_ended is j y k h (λ q. not_start x b (s
     not_start [] b e = cc
     not_start (a ∷ x) b e = cc
 
--- a length that ends behind bits more
-pub whole_ends : (is : List (ℕ × Option ℕ)) (j : ℕ) (f : Form) (p : ℕ) (x : ℕ × ℕ × Place) (old bs : List ℕ) → IsPlace (place.Number f p 0) → StartsSome (CountsLeft is j) (place_bits (place.Number f p 0)) → Behind j f p x → place_bits (place.Number f p 0) ≡ old ++ bs
-    → EndsLength (Spanned is) ((length_bits (fragments j) ++ old) ++ bs) x.0
-whole_ends is j f p x old bs h s b e =
-    subst (λ (g : List ℕ). EndsLength (Spanned is) g x.0) (sym (given_more j old bs (place_bits (place.Number f p 0)) e))
-    (subst (λ (k : ℕ). EndsLength (Spanned is) (length_bits (fragments j) ++ place_bits (place.Number f p 0)) k) (behind_items j f p x b) (ended is j f p h s))
+-- a length that is whole behind bits more
+pub whole_more : (S : ℕ → Type 0) (j : ℕ) (f : Form) (p : ℕ) (x : ℕ × ℕ × Place) (old bs : List ℕ) → IsPlace (place.Number f p 0) → StartsSome S (place_bits (place.Number f p 0)) → Behind j f p x → place_bits (place.Number f p 0) ≡ old ++ bs → WholeLength S (old ++ bs) x.0
+whole_more S j f p x old bs h s b e =
+    subst (λ (g : List ℕ). WholeLength S g x.0) e (subst (λ (k : ℕ). WholeLength S (place_bits (place.Number f p 0)) k) (behind_items j f p x b) (whole_first S f p h s))
+
+-- it ends all bits given
+pub whole_ends : (is : List (ℕ × Option ℕ)) (j : ℕ) (old bs : List ℕ) (k : ℕ) → WholeLength (CountsLeft is j) (old ++ bs) k → EndsLength (Spanned is) ((length_bits (fragments j) ++ old) ++ bs) k
+whole_ends is j old bs k w = subst (λ (g : List ℕ). EndsLength (Spanned is) g k) (sym (append_assoc (length_bits (fragments j)) old bs)) (ended is j (old ++ bs) k w)
 
 -- no bit is given of the length only where none has begun
 pub start_bits : (p : Place) → place_bits p ≡ [] → p ≡ place.Start

@@ -171,6 +171,17 @@ fragments_more j m c l h =
     one_more : (ls : List Length) (k : ℕ) → length_bits (ls ++ fragment k ∷ []) ≡ length_bits ls ++ (fragment k).bits
     one_more ls k = length_bits-append ls (fragment k ∷ []) ∙ ap (λ t. length_bits ls ++ t) (append-nil (fragment k).bits)
 
+-- behind a fragment of fewer than 4 blocks no other comes
+pub closed_more : (j m : ℕ) → is_closed j ≡ false → 1 ≤ m → m ≤ 4 → is_closed (j + m) ≡ nat_lt m 4
+closed_more j m c l h =
+    elim (eqb_tells (j % 4) 0) [
+      | inl z ↦ ⊎_elim
+          (λ a. (let r : (j + m) % 4 ≡ m = omega (arith, z.1) in ap (λ k. not (k == 0)) r ∙ closed_some m (ne_eqb m 0 (λ e. omega arith)) ∙ sym (lt-ltb m 4 a)))
+          (λ a. (let r : (j + m) % 4 ≡ 0 = omega (arith, z.1) in ap (λ k. not (k == 0)) r ∙ sym (le-ltb m 4 a)))
+          (cases_lt m 4)
+      | inr z ↦ absurd (true≢false (sym (closed_some (j % 4) z.0) ∙ c))
+    ]
+
 -- ---- where lengths end
 
 -- each length has a bit

@@ -78,13 +78,6 @@ Goes old bs state.Alive new = new ≡ record { counts = old.counts; blocks = old
 Goes old bs (state.Number n) new = (given new ≡ given old ++ bs) × (Last old bs n new ⊎ Fragment old n new)
 Goes old bs state.Dead new = new ≡ old
 
--- a length that ends in front of other bits was taken
-pub record Takes (old : BegunLengths) (us rest : List ℕ) (n : ℕ) (new : BegunLengths) : Type 0 where
-  pub front : List ℕ
-  pub split : us ≡ front ++ rest
-  pub ends : EndsLength (Spanned old.counts) (given old ++ front) n
-  pub goes : Goes old front (state.Number n) new
-
 -- ---- one length
 
 -- the first length of n items
@@ -101,3 +94,32 @@ pub record StartsSome (S : ℕ → Type 0) (bs : List ℕ) : Type 0 where
   pub count : ℕ
   pub member : S count
   pub starts : StartsLength count bs
+
+-- it goes on
+pub record OpensLength (S : ℕ → Type 0) (bs : List ℕ) : Type 0 where
+  pub count : ℕ
+  pub member : S count
+  pub next : ℕ
+  pub more : List ℕ
+  pub split : (first_length count).bits ≡ bs ++ next ∷ more
+
+-- these bits are the first length of some count of the set, which so many items follow
+pub record WholeLength (S : ℕ → Type 0) (bs : List ℕ) (items : ℕ) : Type 0 where
+  pub count : ℕ
+  pub member : S count
+  pub bits_are : (first_length count).bits ≡ bs
+  pub items_are : (first_length count).items ≡ items
+
+-- what is to be said of the bits of one length
+abbrev pub TellsFirst : (ℕ → Type 0) → List ℕ → FieldState → Type 0
+TellsFirst S bs state.Alive = OpensLength S bs
+TellsFirst S bs (state.Number n) = WholeLength S bs n
+TellsFirst S bs state.Dead = StartsSome S bs → ⊥
+
+-- a length that ends in front of other bits was taken
+pub record Takes (old : BegunLengths) (us rest : List ℕ) (n : ℕ) (new : BegunLengths) : Type 0 where
+  pub front : List ℕ
+  pub split : us ≡ front ++ rest
+  pub ends : EndsLength (Spanned old.counts) (given old ++ front) n
+  pub whole : WholeLength (CountsLeft old.counts old.blocks) (old.bits ++ front) n
+  pub goes : Goes old front (state.Number n) new

@@ -100,6 +100,20 @@ impl<'a> BitCursor<'a> {
         ensures some { IfSome result (λ n. self.now ≡ bits k n ++ drop k self.now) }
         ensures none { IsNone result ↔ (length self.now < k) }
     {
+        if let Some(n) = number_in_word(self.octets, self.offset, k) {
+            return Some(n);
+        }
+        self.peek_across(k)
+    }
+
+    // the same, where the bits do not all stand in the first eight octets
+    #[inline(never)]
+    fn peek_across(&self, k: u32) -> Option<u64>
+        requires { k ≤ 64 }
+        ensures fits { IfSome result (λ n. n < 2 ^ k) }
+        ensures some { IfSome result (λ n. self.now ≡ bits k n ++ drop k self.now) }
+        ensures none { IsNone result ↔ (length self.now < k) }
+    {
         let octets = self.octets;
         let offset = self.offset;
         let end = offset + k;
@@ -160,8 +174,26 @@ fn bit_at(octet: u8, offset: u32) -> u8
     octet >> (7 - offset) & 1
 }
 
-// the number in the k bits behind the first `offset`
+// the number in the k bits behind the first `offset`, where a bit is asked for and all stand in eight octets
 #[inline(always)]
+fn number_in_word(octets: &[u8], offset: u32, k: u32) -> Option<u64>
+    requires begun { offset < 8 }
+    requires few { k ≤ 64 }
+    ensures fits { IfSome result (λ n. n < 2 ^ k) }
+    ensures there { IfSome result (λ n. offset + k ≤ 8 * length octets.now) }
+    ensures here { IfSome result (λ n. drop offset (unpacked octets.now) ≡ bits k n ++ drop (offset + k) (unpacked octets.now)) }
+{
+    let end = offset + k;
+    if k > 0
+        && end <= 64
+        && let Some((eight, _)) = octets.split_first_chunk::<8>()
+    {
+        return Some(field(u64::from_be_bytes(*eight), 64 - end, k));
+    }
+    None
+}
+
+// the number in the k bits behind the first `offset`
 fn number_at(octets: &[u8], offset: u32, k: u32) -> u64
     requires begun { offset < 8 }
     requires few { k ≤ 64 }
@@ -171,13 +203,9 @@ fn number_at(octets: &[u8], offset: u32, k: u32) -> u64
 {
     let end = offset + k;
     if let Some((eight, rest)) = octets.split_first_chunk::<8>() {
-        let front = u64::from_be_bytes(*eight);
-        if k > 0 && end <= 64 {
-            return field(front, 64 - end, k);
-        }
         if let Some(ninth) = rest.first() {
-            let nine = front as u128 * 256 + *ninth as u128;
-            return wide_field(nine, 72 - end, k);
+            let front = u64::from_be_bytes(*eight) as u128 * 256 + *ninth as u128;
+            return wide_field(front, 72 - end, k);
         }
     }
     let count = (end + 7) / 8;
@@ -205,7 +233,6 @@ fn wide_field(n: u128, below: u32, k: u32) -> u64
 }
 
 // the number of up to nine octets
-#[inline(never)]
 fn joined(front: &[u8]) -> u128
     requires { length front.now ≤ 9 }
     ensures { octets (length front.now) result ≡ front.now }

@@ -3,7 +3,7 @@ ghost use Rattle.std.specs.Prelude.{◌≡◌, ◌≢◌, ◌↔◌, ◌≤◌, 
 ghost use Rattle.asn_bits.specs.Lengths.{blocks};
 ghost use Rattle.asn_bits.specs.Sink.{bit_of};
 ghost use Rattle.asn_bits.specs.Ranges.{Spanned, AtMost, Reaches, Meet};
-ghost use Rattle.asn_bits.specs.LengthBits.{BegunLengths, given, TellsLength, Goes, EndsLength, BeginsLengths, Takes, StartsLength, StartsSome, CountsLeft};
+ghost use Rattle.asn_bits.specs.LengthBits.{BegunLengths, given, TellsLength, Goes, EndsLength, TellsFirst, Takes, StartsLength, StartsSome, CountsLeft};
 ghost use Rattle.asn_bits.specs.LengthPlaces.{spans, place_bits, IsPlace, IsWhole, IsReading, Behind};
 ghost use Rattle.asn_bits.specs.declared.general_length.Place.TheVariants.{Number};
 
@@ -82,6 +82,7 @@ impl Lengths {
     /// `Dead`, and then nothing has changed.
     pub fn bit(&mut self, bit: bool) -> FieldState
         ensures state { TellsLength (Spanned self.old.counts) (given self.old ++ bit_of bit ∷ []) result }
+        ensures first { TellsFirst (CountsLeft self.old.counts self.old.blocks) (self.old.bits ++ bit_of bit ∷ []) result }
         ensures goes { Goes self.old (bit_of bit ∷ []) result self.new }
     {
         let Some(place) = further(self.place, bit) else {
@@ -113,7 +114,7 @@ impl Lengths {
     pub fn take(&mut self, bits: &mut BitCursor<'_>) -> Option<u64>
         ensures some { IfSome result (λ n. Takes self.old bits.old bits.new n self.new) }
         ensures none { IsNone result → (self.new ≡ self.old) × (bits.new ≡ bits.old) }
-        ensures live { BeginsLengths (Spanned self.old.counts) (given self.old) }
+        ensures live { StartsSome (CountsLeft self.old.counts self.old.blocks) self.old.bits }
     {
         if !matches!(self.place, Place::Start) {
             return None;

@@ -1,7 +1,7 @@
 //! The reader of lengths against the tree of the bits that the lengths of all counts of a set have.
 ghost use Rattle.std.specs.Prelude.{◌≤◌};
 
-use crate::bit_lists::{add_number, octets_of, some_bits};
+use crate::bit_lists::{add_number, add_octets, has_bits, octets_of, sink_of, some_bits};
 use crate::{BitCursor, Counts, FieldState, Lengths};
 use std::alloc::{AllocError, Global};
 use std::process::Abort;
@@ -247,9 +247,9 @@ fn takes(
     Ok(())
 }
 
-/// How many bits are left.
-fn left(cursor: &BitCursor<'_>) -> u64 {
-    8 * (cursor.octets_left() as u64 & 0xffff_ffff) + u64::from(cursor.rest_of_octet())
+/// How many octets are left, and how many bits of the one begun.
+fn left(cursor: &BitCursor<'_>) -> (usize, u32) {
+    (cursor.octets_left(), cursor.rest_of_octet())
 }
 
 /// Sets of few counts at the borders: of 7 bits, of a block, of 4 blocks and of 5, and the highest count.
@@ -301,6 +301,12 @@ const TAKEN: [u64; 22] = [
     0, 1, 3, 5, 100, 127, 128, 200, 300, 16_383, 16_384, 16_385, 32_768, 49_152, 65_535, 65_536,
     65_537, 81_919, 81_920, 98_304, 114_689, 131_072,
 ];
+
+/// All counts that a message may have.
+const EVERY: Counts = Counts {
+    low: 0,
+    high: 268_435_455,
+};
 
 /// Lengths of each form, at its borders and past them.
 fn pool(alloc: Global) -> Result<Vec<Length>, AllocError> {
@@ -356,6 +362,67 @@ fn lengths_of_no_list_are_not_taken(rt: HostRuntime) -> Result<(), Fail> {
 }
 
 #[test]
+fn lengths_are_added(rt: HostRuntime) -> Result<(), Fail> {
+    let alloc = rt.alloc();
+    for i in 0..17_000u32 {
+        adds_lengths(&rt, alloc, u64::from(i), i % 9)?;
+    }
+    for count in TAKEN {
+        for offset in 0..8 {
+            adds_lengths(&rt, alloc, count, offset)?;
+        }
+    }
+    adds_lengths(&rt, alloc, 268_435_455, 3)
+}
+
+/// `push_length` of a list of so many items, up to its last length.
+fn adds_lengths(rt: &impl Abort, alloc: Global, count: u64, offset: u32) -> Result<(), Fail> {
+    let mut bits = some_bits(alloc, offset)?;
+    let mut sink = sink_of(alloc, bits.as_slice())?;
+    let mut left = count;
+    for length in &lengths_of(alloc, count)? {
+        bits.extend_from_slice(length.bits.as_slice())?;
+        assert_eq!(rt; sink.push_length(left)?, length.items, "{left} of {count}");
+        left = left.saturating_sub(length.items);
+    }
+    has_bits(rt, alloc, sink, bits.as_slice())
+}
+
+/// `push_general_octets` of so many octets: each length, and behind it the octets that it counts.
+fn adds_octets(rt: &impl Abort, alloc: Global, count: u32, offset: u32) -> Result<(), Fail> {
+    let octets = octets_of(alloc, some_bits(alloc, count)?.as_slice())?;
+    let mut bits = some_bits(alloc, offset)?;
+    let mut sink = sink_of(alloc, bits.as_slice())?;
+    sink.push_general_octets(octets.as_slice())?;
+    let mut rest = octets.as_slice();
+    for length in &lengths_of(alloc, octets.len() as u64)? {
+        bits.extend_from_slice(length.bits.as_slice())?;
+        let Some((counted, others)) = rest.split_at_checked(usize::try_from(length.items)?) else {
+            panic!(rt; "the lengths of {count} bits count too many octets");
+        };
+        add_octets(&mut bits, counted)?;
+        rest = others;
+    }
+    has_bits(rt, alloc, sink, bits.as_slice())
+}
+
+#[test]
+fn octets_are_added_under_their_length(rt: HostRuntime) -> Result<(), Fail> {
+    for offset in 0..=8 {
+        for count in 0..=20 {
+            adds_octets(&rt, rt.alloc(), 8 * count, offset)?;
+        }
+        for count in [127, 128, 300, 16_383, 16_384, 16_385, 40_000] {
+            adds_octets(&rt, rt.alloc(), 8 * count, offset)?;
+        }
+    }
+    for count in [65_535, 65_536, 65_537, 81_919, 81_920, 147_457] {
+        adds_octets(&rt, rt.alloc(), 8 * count, 5)?;
+    }
+    Ok(())
+}
+
+#[test]
 fn lengths_cut_off_are_not_taken(rt: HostRuntime) -> Result<(), Fail> {
     let alloc = rt.alloc();
     for length in &pool(alloc)? {
@@ -369,9 +436,9 @@ fn lengths_cut_off_are_not_taken(rt: HostRuntime) -> Result<(), Fail> {
             for _ in 0..offset {
                 cursor.next();
             }
-            let mut reader = Lengths::new(from_to((0, 268_435_455)), None);
+            let mut reader = Lengths::new(EVERY, None);
             assert_eq!(rt; reader.take(&mut cursor), None);
-            assert_eq!(rt; left(&cursor), given.len() as u64);
+            assert_eq!(rt; left(&cursor), (given.len() / 8, (given.len() % 8) as u32));
             assert!(rt; !reader.more());
             given.push(*bit)?;
         }

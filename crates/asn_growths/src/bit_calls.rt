@@ -43,6 +43,44 @@ pub fn numbers(alloc: Global) -> Result<Outcome, AllocError> {
     Ok(after(refused, holds(sink, b"\x81\x23\x45\x67\x89\xab\xcd\xef")))
 }
 
+/// `push_length`, of a list of 300.
+pub fn lengths(alloc: Global) -> Result<Outcome, AllocError> {
+    let mut sink = BitSink::new(alloc);
+    let mut refused = false;
+    for _ in 0..TIMES {
+        let told = match sink.push_length(300) {
+            Ok(items) => items,
+            Err(_) => {
+                refused = true;
+                sink.push_length(300)?
+            }
+        };
+        if told != 300 {
+            return Ok(Outcome::Wrong);
+        }
+    }
+    Ok(after(refused, holds(sink, b"\x81\x2c")))
+}
+
+/// `push_general_octets`, of a fragment and an octet behind an octet. A refused call may have added a part, and is
+/// asked again of another sink.
+pub fn fragments(alloc: Global) -> Result<Outcome, AllocError> {
+    let octets = vec![in alloc; 0x5a; 16_385]?;
+    let mut whole = vec![in alloc; 0x98, 0xc1]?;
+    whole.extend_from_slice(octets.as_slice())?;
+    whole.insert(whole.len() - 1, 1)?;
+    let mut sink = BitSink::new(alloc);
+    sink.push_number(8, 0x98)?;
+    if sink.push_general_octets(octets.as_slice()).is_ok() {
+        return Ok(after(false, ends_as(sink, whole.as_slice())));
+    }
+    let is_part = begins(sink, whole.as_slice());
+    let mut again = BitSink::new(alloc);
+    again.push_number(8, 0x98)?;
+    again.push_general_octets(octets.as_slice())?;
+    Ok(after(true, is_part && ends_as(again, whole.as_slice())))
+}
+
 /// `push_least_octets`, of eight octets.
 pub fn octets_of_numbers(alloc: Global) -> Result<Outcome, AllocError> {
     let mut sink = BitSink::new(alloc);
@@ -89,9 +127,7 @@ pub fn octets_taken(alloc: Global) -> Result<Outcome, AllocError> {
             given.take_octets(3, &mut taken)?;
         }
     }
-    let is_right = start == Some(9)
-        && given.take_number(4) == Some(5)
-        && taken.as_slice() == TAKEN;
+    let is_right = start == Some(9) && given.take_number(4) == Some(5) && taken.as_slice() == TAKEN;
     Ok(after(refused, is_right))
 }
 
@@ -107,6 +143,20 @@ pub fn paddings(alloc: Global) -> Result<Outcome, AllocError> {
         }
     }
     Ok(after(refused, holds(sink, b"\x80")))
+}
+
+/// Whether the sink has one octet or more, which are the front of these.
+fn begins(sink: BitSink, whole: &[u8]) -> bool {
+    if !sink.ends_at_octet() {
+        return false;
+    }
+    let octets = sink.into_octets();
+    !octets.is_empty() && whole.starts_with(octets.as_slice())
+}
+
+/// Whether the sink has these octets and nothing else.
+fn ends_as(sink: BitSink, whole: &[u8]) -> bool {
+    sink.ends_at_octet() && sink.into_octets().as_slice() == whole
 }
 
 /// Whether these octets are in the sink, `TIMES` times, and nothing else.

@@ -7,3 +7,4 @@ pub mod NumberVectors
 pub mod StringVectors
 pub mod ListVectors
 pub mod FieldVectors
+pub mod NextLengths

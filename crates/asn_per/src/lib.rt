@@ -6,6 +6,7 @@ mod encoder;
 mod integer_reader;
 mod kinds;
 mod laws;
+mod length_reader;
 mod number_reader;
 mod row_reader;
 #[cfg(test)]

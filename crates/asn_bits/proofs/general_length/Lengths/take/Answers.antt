@@ -1,12 +1,11 @@
 -- A whole length in one step, as its bits tell.
 use Rattle.std.proofs.Common.{◌≡◌, ◌++◌, ℕ, sym, ap, ◌∙◌, subst}
 use Rattle.std.proofs.lemmas.Bool.{true≢false}
-use Rattle.asn_bits.specs.Ranges.{Spanned}
-use Rattle.asn_bits.specs.LengthBits.{BegunLengths, given, BeginsLengths, Takes}
+use Rattle.asn_bits.specs.LengthBits.{BegunLengths, CountsLeft, StartsSome, Takes}
 use Rattle.asn_bits.specs.LengthPlaces.{spans, place_bits}
 use Rattle.asn_bits.specs.declared.general_length.Place.{Place}
 use Rattle.asn_bits.specs.declared.general_length.Place.TheVariants as place
-use Rattle.asn_bits.proofs.GivenLengths.{some_begins, behind_reading, behind_goes, whole_ends}
+use Rattle.asn_bits.proofs.GivenLengths.{behind_reading, behind_goes, whole_more, whole_ends}
 use Rattle.asn_bits.proofs.general_length.Lengths.take.Goals as goal
 use Rattle.asn_bits.proofs.general_length.Lengths.take.Goals.{in-Start, in_default}
 
@@ -17,7 +16,7 @@ at_start c = elim c.match-matches.branch [ in-Start w ↦ w.in-Start.is | in_def
 pub returns-then-not-matches-clause-live : goal.returns-then-not-matches-clause-live
 returns-then-not-matches-clause-live c =
     let s = c.self.inside in
-    subst (λ (v : BegunLengths). BeginsLengths (Spanned v.counts) (given v)) c.self.view_is (some_begins (spans s.first s.second) s.come (place_bits s.place) c.self.invariant.live)
+    subst (λ (v : BegunLengths). StartsSome (CountsLeft v.counts v.blocks) v.bits) c.self.view_is c.self.invariant.live
 
 pub invariant_of-self : goal.invariant_of-self
 invariant_of-self c =
@@ -33,19 +32,21 @@ returns-clause-some c =
     let some = c.starts_some.ensures.exact.0 c.if-starts_some.true in
     let new : BegunLengths = record { counts = is; blocks = c.behind-items.result.1; bits = place_bits c.behind-items.result.2 } in
     let whole : front ≡ place_bits s.place ++ front = ap (λ p. place_bits p ++ front) (sym (at_start c)) in
+    let all = whole_more (CountsLeft is s.come) s.come c.in-Some.form c.in-Some.number x (place_bits s.place) front c.in-Some.ensures.some.0 some c.behind-items.ensures whole in
     subst (λ (v : BegunLengths). Takes v c.args.bits.now c.next_length.new.bits c.behind-items.result.0 new) c.self.view_is (record {
       front = front;
       split = c.in-Some.ensures.some.1;
-      ends = whole_ends is s.come c.in-Some.form c.in-Some.number x (place_bits s.place) front c.in-Some.ensures.some.0 some c.behind-items.ensures whole;
+      ends = whole_ends is s.come (place_bits s.place) front x.0 all;
+      whole = all;
       goes = behind_goes is s.come c.in-Some.form c.in-Some.number x (place_bits s.place) front c.in-Some.ensures.some.0 some c.behind-items.ensures whole;
     })
 
 pub returns-clause-live : goal.returns-clause-live
 returns-clause-live c =
     let s = c.self.inside in
-    subst (λ (v : BegunLengths). BeginsLengths (Spanned v.counts) (given v)) c.self.view_is (some_begins (spans s.first s.second) s.come (place_bits s.place) c.self.invariant.live)
+    subst (λ (v : BegunLengths). StartsSome (CountsLeft v.counts v.blocks) v.bits) c.self.view_is c.self.invariant.live
 
 pub returns-2-clause-live : goal.returns-2-clause-live
 returns-2-clause-live c =
     let s = c.self.inside in
-    subst (λ (v : BegunLengths). BeginsLengths (Spanned v.counts) (given v)) c.self.view_is (some_begins (spans s.first s.second) s.come (place_bits s.place) c.self.invariant.live)
+    subst (λ (v : BegunLengths). StartsSome (CountsLeft v.counts v.blocks) v.bits) c.self.view_is c.self.invariant.live

@@ -27,7 +27,7 @@ pub fn single_bits(alloc: Global) -> Result<Outcome, AllocError> {
             }
         }
     }
-    Ok(after(refused, holds(sink, b"\xb2")))
+    Ok(after(refused, holds(sink, TIMES, b"\xb2")))
 }
 
 /// `push_number`, in 64 bits.
@@ -40,7 +40,10 @@ pub fn numbers(alloc: Global) -> Result<Outcome, AllocError> {
             sink.push_number(64, NUMBER)?;
         }
     }
-    Ok(after(refused, holds(sink, b"\x81\x23\x45\x67\x89\xab\xcd\xef")))
+    Ok(after(
+        refused,
+        holds(sink, TIMES, b"\x81\x23\x45\x67\x89\xab\xcd\xef"),
+    ))
 }
 
 /// `push_length`, of a list of 300.
@@ -59,7 +62,7 @@ pub fn lengths(alloc: Global) -> Result<Outcome, AllocError> {
             return Ok(Outcome::Wrong);
         }
     }
-    Ok(after(refused, holds(sink, b"\x81\x2c")))
+    Ok(after(refused, holds(sink, TIMES, b"\x81\x2c")))
 }
 
 /// `push_general_octets`, of a fragment and an octet behind an octet. A refused call may have added a part, and is
@@ -93,7 +96,7 @@ pub fn octets_of_numbers(alloc: Global) -> Result<Outcome, AllocError> {
     }
     Ok(after(
         refused,
-        holds(sink, b"\x08\x81\x23\x45\x67\x89\xab\xcd\xef"),
+        holds(sink, TIMES, b"\x08\x81\x23\x45\x67\x89\xab\xcd\xef"),
     ))
 }
 
@@ -109,7 +112,7 @@ pub fn octets(alloc: Global) -> Result<Outcome, AllocError> {
         }
         sink.push_number(4, 10)?;
     }
-    Ok(after(refused, holds(sink, b"\x98\x12\x34\x56\x7a")))
+    Ok(after(refused, holds(sink, TIMES, b"\x98\x12\x34\x56\x7a")))
 }
 
 /// `take_octets`, three at a time from the middle of an octet on, behind others.
@@ -131,18 +134,24 @@ pub fn octets_taken(alloc: Global) -> Result<Outcome, AllocError> {
     Ok(after(refused, is_right))
 }
 
-/// `pad`, behind a bit.
+/// `pad`, of the last bits of a word behind so many others: where their room ends, `pad` is what grows.
 pub fn paddings(alloc: Global) -> Result<Outcome, AllocError> {
-    let mut sink = BitSink::new(alloc);
     let mut refused = false;
-    for _ in 0..TIMES {
-        sink.push(true)?;
+    for words in 0..10 {
+        let mut sink = BitSink::new(alloc);
+        sink.push_number(60, NUMBER >> 4)?;
+        for _ in 0..words {
+            sink.push_number(64, NUMBER >> 4)?;
+        }
         if sink.pad().is_err() {
             refused = true;
             sink.pad()?;
         }
+        if !holds(sink, words + 1, b"\x81\x23\x45\x67\x89\xab\xcd\xe0") {
+            return Ok(Outcome::Wrong);
+        }
     }
-    Ok(after(refused, holds(sink, b"\x80")))
+    Ok(after(refused, true))
 }
 
 /// Whether the sink has one octet or more, which are the front of these.
@@ -159,14 +168,14 @@ fn ends_as(sink: BitSink, whole: &[u8]) -> bool {
     sink.ends_at_octet() && sink.into_octets().as_slice() == whole
 }
 
-/// Whether these octets are in the sink, `TIMES` times, and nothing else.
-fn holds(sink: BitSink, part: &[u8]) -> bool {
+/// Whether these octets are in the sink, so many times, and nothing else.
+fn holds(sink: BitSink, times: usize, part: &[u8]) -> bool {
     if !sink.ends_at_octet() {
         return false;
     }
     let octets = sink.into_octets();
     let mut rest = octets.as_slice();
-    for _ in 0..TIMES {
+    for _ in 0..times {
         let Some(after) = rest.strip_prefix(part) else {
             return false;
         };

@@ -36,7 +36,8 @@ fi
 grep -qE "^$((refused - 1))\\|done$" "$work/cases.told" || fail "there are more growths than cases"
 calls=0
 for call in Checked::new encode decode BitSink::push BitSink::push_number BitSink::push_octets \
-  BitCursor::take_octets BitSink::push_least_octets BitSink::pad; do
+  BitSink::push_length BitSink::push_general_octets BitSink::push_least_octets BitSink::pad \
+  BitCursor::take_octets; do
   count=$(grep -c "|memory: $call|" "$work/cases.told") || fail "no growth of $call was refused"
   calls=$((calls + count))
 done

@@ -1,216 +1,447 @@
-//! General lengths against lists of their bits that are made directly, with every bit that may come.
+//! The reader of lengths against the tree of the bits that the lengths of all counts of a set have.
 ghost use Rattle.std.specs.Prelude.{◌≤◌};
 
-use crate::{BitCursor, BitSink, Counts, FieldState, Lengths};
+use crate::bit_lists::{add_number, add_octets, has_bits, octets_of, sink_of, some_bits};
+use crate::{BitCursor, Counts, FieldState, Lengths};
 use std::alloc::{AllocError, Global};
 use std::process::Abort;
 use std::test::Fail;
 
-// the bits of the lengths of a list, and behind how many of them how many items follow
+const BLOCK: u64 = 16384;
+
+/// Behind the bits that lead here: where a 0 and a 1 lead, and how many items follow a length that ends here.
+#[derive(Clone, Copy)]
+struct Node {
+    zero: Option<usize>,
+    one: Option<usize>,
+    items: Option<u64>,
+}
+
+impl Node {
+    fn child(self, bit: bool) -> Option<usize> {
+        if bit { self.one } else { self.zero }
+    }
+
+    /// Whether other lengths come behind.
+    fn goes_on(self) -> bool {
+        self.zero.is_some() || self.one.is_some()
+    }
+}
+
+/// The bits of the lengths of some counts, from node 0 on.
 #[derive(Drop)]
-struct Direct {
-    count: u64,
+struct Tree {
+    nodes: Vec<Node>,
+}
+
+impl Tree {
+    fn new(alloc: Global) -> Result<Tree, AllocError> {
+        let root = Node {
+            zero: None,
+            one: None,
+            items: None,
+        };
+        Ok(Tree {
+            nodes: vec![in alloc; root]?,
+        })
+    }
+
+    fn child(&self, at: usize, bit: bool) -> Option<usize> {
+        self.nodes.get(at)?.child(bit)
+    }
+
+    /// Adds a length behind the bits that lead to `at`, and says where it ends.
+    fn add(&mut self, at: usize, length: &Length) -> Result<usize, AllocError> {
+        let mut at = at;
+        for bit in &length.bits {
+            at = self.further(at, *bit)?;
+        }
+        if let Some(node) = self.nodes.get_mut(at) {
+            node.items = Some(length.items);
+        }
+        Ok(at)
+    }
+
+    /// Where a bit leads, which is made where it led nowhere.
+    fn further(&mut self, at: usize, bit: bool) -> Result<usize, AllocError> {
+        if let Some(next) = self.child(at, bit) {
+            return Ok(next);
+        }
+        let next = self.nodes.len();
+        self.nodes.push(Node {
+            zero: None,
+            one: None,
+            items: None,
+        })?;
+        if let Some(node) = self.nodes.get_mut(at) {
+            if bit {
+                node.one = Some(next);
+            } else {
+                node.zero = Some(next);
+            }
+        }
+        Ok(next)
+    }
+
+    /// What is known behind the bits that lead to `at`, if any do.
+    fn told(&self, at: Option<usize>) -> FieldState {
+        let Some(node) = at.and_then(|at| self.nodes.get(at)) else {
+            return FieldState::Dead;
+        };
+        match node.items {
+            Some(items) => FieldState::Number(items),
+            None => FieldState::Alive,
+        }
+    }
+
+    /// Whether a length ends at `at` and others come behind it.
+    fn has_more(&self, at: usize) -> bool {
+        match self.nodes.get(at) {
+            Some(node) => node.items.is_some() && node.goes_on(),
+            None => false,
+        }
+    }
+}
+
+/// The bits of one length, and how many items follow it.
+#[derive(Drop)]
+struct Length {
     bits: Vec<bool>,
-    ends: Vec<(usize, u64)>,
+    items: u64,
 }
 
-fn put_bits(bits: &mut Vec<bool>, k: u32, n: u64) -> Result<(), AllocError>
-    requires { k ≤ 16 }
-{
-    for i in 0..k {
-        bits.push(n >> (k - 1 - i) & 1 == 1)?;
+impl Length {
+    fn copied(&self) -> Result<Length, AllocError> {
+        Ok(Length {
+            bits: self.bits.clone()?,
+            items: self.items,
+        })
     }
-    Ok(())
 }
 
-fn lengths_of(alloc: Global, count: u64) -> Result<Direct, AllocError> {
-    let mut bits = Vec::new(alloc);
-    let mut ends = Vec::new(alloc);
+/// The lengths of `count` items, by the definition: fragments of 4 blocks at most, and what is left.
+fn lengths_of(alloc: Global, count: u64) -> Result<Vec<Length>, AllocError> {
+    let mut lengths = Vec::new(alloc);
     let mut left = count;
-    while left >= 16384 {
-        let blocks = (left / 16384).min(4);
-        put_bits(&mut bits, 2, 3)?;
-        put_bits(&mut bits, 6, blocks)?;
-        ends.push((bits.len(), 16384 * blocks))?;
-        left -= 16384 * blocks;
+    for _ in 0..count / BLOCK {
+        if left < BLOCK {
+            break;
+        }
+        let blocks = (left / BLOCK).min(4);
+        let items = BLOCK * blocks;
+        lengths.push(with_form(alloc, &[true, true], 6, blocks, items)?)?;
+        left = left.saturating_sub(items);
     }
-    if left < 128 {
-        put_bits(&mut bits, 1, 0)?;
-        put_bits(&mut bits, 7, left)?;
+    let last = if left < 128 {
+        with_form(alloc, &[false], 7, left, left)?
     } else {
-        put_bits(&mut bits, 2, 2)?;
-        put_bits(&mut bits, 14, left)?;
-    }
-    ends.push((bits.len(), left))?;
-    Ok(Direct { count, bits, ends })
+        with_form(alloc, &[true, false], 14, left, left)?
+    };
+    lengths.push(last)?;
+    Ok(lengths)
 }
 
-fn all_of(
-    alloc: Global,
-    first: Counts,
-    second: Option<Counts>,
-) -> Result<Vec<Direct>, AllocError> {
-    let mut lists = Vec::new(alloc);
+/// The bits that tell the form, and `n` in `k` bits.
+fn with_form(alloc: Global, form: &[bool], k: u32, n: u64, items: u64) -> Result<Length, AllocError>
+    requires { k ≤ 64 }
+{
+    let mut bits = Vec::new(alloc);
+    bits.extend_from_slice(form)?;
+    add_number(&mut bits, k, n)?;
+    Ok(Length { bits, items })
+}
+
+/// All counts of a set.
+fn counts_of(alloc: Global, first: Counts, second: Option<Counts>) -> Result<Vec<u64>, AllocError> {
+    let mut all = Vec::new(alloc);
     for count in first.low..=first.high {
-        lists.push(lengths_of(alloc, u64::from(count))?)?;
+        all.push(u64::from(count))?;
     }
     if let Some(second) = second {
         for count in second.low..=second.high {
-            lists.push(lengths_of(alloc, u64::from(count))?)?;
+            all.push(u64::from(count))?;
         }
     }
-    Ok(lists)
+    Ok(all)
 }
 
-// what a reader that tries all lists says of the bits, and whether another length comes
-fn by_trial(lists: &[Direct], given: &[bool]) -> (FieldState, bool) {
-    let mut alive = false;
-    for list in lists {
-        let bits = list.bits.as_slice();
-        if bits.len() >= given.len() && &bits[..given.len()] == given {
-            for (behind, items) in list.ends.as_slice() {
-                if *behind == given.len() {
-                    return (FieldState::Number(*items), bits.len() > given.len());
-                }
+/// The bits of the lengths of the counts.
+fn tree_of(alloc: Global, counts: &[u64]) -> Result<Tree, AllocError> {
+    let mut tree = Tree::new(alloc)?;
+    for count in counts {
+        let mut at = 0;
+        for length in &lengths_of(alloc, *count)? {
+            at = tree.add(at, length)?;
+        }
+    }
+    Ok(tree)
+}
+
+/// Gives a reader the bits of a count of the set, and before each the other one, where it is dead.
+fn walks(
+    rt: &impl Abort,
+    alloc: Global,
+    mut reader: Lengths,
+    tree: &Tree,
+    count: u64,
+) -> Result<(), Fail> {
+    let mut at = 0;
+    for length in &lengths_of(alloc, count)? {
+        for bit in &length.bits {
+            if tree.child(at, !*bit).is_none() {
+                assert_eq!(rt;
+                    reader.bit(!*bit),
+                    FieldState::Dead,
+                    "a bit that no count has"
+                );
             }
-            alive = true;
+            let next = tree.child(at, *bit);
+            assert_eq!(rt; reader.bit(*bit), tree.told(next), "a bit of a count");
+            let Some(next) = next else {
+                panic!(rt; "the tree has not the bits of {count}");
+            };
+            at = next;
+            assert_eq!(rt; reader.more(), tree.has_more(at), "at a length of {count}");
         }
     }
-    if alive {
-        (FieldState::Alive, false)
-    } else {
-        (FieldState::Dead, false)
-    }
-}
-
-// what the reader says of the bits
-fn read(first: Counts, second: Option<Counts>, given: &[bool]) -> (FieldState, bool)
-    requires { first.low ≤ first.high }
-{
-    let mut lengths = Lengths::new(first, second);
-    let mut told = FieldState::Alive;
-    for bit in given {
-        told = lengths.bit(*bit);
-    }
-    let ended = match told {
-        FieldState::Number(_) => true,
-        _ => false,
-    };
-    (told, ended && lengths.more())
-}
-
-// the lengths as they are pushed, and as they are taken one by one
-fn goes_there_and_back(
-    rt: &impl Abort,
-    alloc: Global,
-    first: Counts,
-    second: Option<Counts>,
-    list: &Direct,
-) -> Result<(), Fail>
-    requires { first.low ≤ first.high }
-{
-    let mut sink = BitSink::new(alloc);
-    let mut left = list.count;
-    for (_, items) in list.ends.as_slice() {
-        let told = sink.push_length(left)?;
-        assert_eq!(rt; told, *items);
-        left = left.saturating_sub(told);
-    }
-    sink.pad()?;
-    assert!(rt; sink.ends_at_octet());
-    let octets = sink.into_octets();
-    let mut bits = BitCursor::over(octets.as_slice());
-    for bit in list.bits.as_slice() {
-        assert_eq!(rt; bits.next(), Some(*bit as u8));
-    }
-    let mut lengths = Lengths::new(first, second);
-    let mut bits = BitCursor::over(octets.as_slice());
-    for (_, items) in list.ends.as_slice() {
-        assert_eq!(rt; lengths.take(&mut bits), Some(*items));
-    }
-    assert!(rt; !lengths.more());
+    assert_eq!(rt; reader.bit(false), FieldState::Dead, "behind all lengths");
+    assert_eq!(rt; reader.bit(true), FieldState::Dead, "behind all lengths");
     Ok(())
 }
 
-// each bit of each list, and each bit turned behind those before it
-fn agrees(
+/// Takes lengths one after the other, behind so many bits: each as the tree has it, up to the first one that no
+/// count of the set goes on with.
+fn takes(
     rt: &impl Abort,
     alloc: Global,
-    first: Counts,
-    second: Option<Counts>,
-) -> Result<(), Fail>
-    requires { first.low ≤ first.high }
-{
-    let lists = all_of(alloc, first, second)?;
-    for list in lists.as_slice() {
-        let mut given = Vec::new(alloc);
-        for bit in list.bits.as_slice() {
-            given.push(!*bit)?;
-            let told = read(first, second, given.as_slice());
-            assert_eq!(rt; told, by_trial(lists.as_slice(), given.as_slice()));
-            let _ = given.pop();
-            given.push(*bit)?;
-            let told = read(first, second, given.as_slice());
-            assert_eq!(rt; told, by_trial(lists.as_slice(), given.as_slice()));
+    mut reader: Lengths,
+    tree: &Tree,
+    lengths: &[Length],
+    offset: u32,
+) -> Result<(), Fail> {
+    let mut bits = some_bits(alloc, offset)?;
+    for length in lengths {
+        bits.extend_from_slice(length.bits.as_slice())?;
+    }
+    let octets = octets_of(alloc, bits.as_slice())?;
+    let mut cursor = BitCursor::over(octets.as_slice());
+    for _ in 0..offset {
+        cursor.next();
+    }
+    let mut at = Some(0);
+    for length in lengths {
+        let mut after = cursor.copied();
+        for bit in &length.bits {
+            at = at.and_then(|at| tree.child(at, *bit));
+            after.next();
         }
-        goes_there_and_back(rt, alloc, first, second, list)?;
+        let before = left(&cursor);
+        let told = reader.take(&mut cursor);
+        assert_eq!(rt; told, at.map(|_| length.items));
+        if told.is_none() {
+            assert_eq!(rt; left(&cursor), before);
+            break;
+        }
+        assert_eq!(rt; left(&cursor), left(&after));
     }
     Ok(())
 }
 
-fn counts(low: u32, high: u32) -> Counts
-    requires { low ≤ high }
-    ensures { result.low ≤ result.high }
-{
+/// How many octets are left, and how many bits of the one begun.
+fn left(cursor: &BitCursor<'_>) -> (usize, u32) {
+    (cursor.octets_left(), cursor.rest_of_octet())
+}
+
+/// Sets of few counts at the borders: of 7 bits, of a block, of 4 blocks and of 5, and the highest count.
+const SETS: [((u32, u32), Option<(u32, u32)>); 22] = [
+    ((0, 0), None),
+    ((0, 127), None),
+    ((127, 128), None),
+    ((128, 128), None),
+    ((100, 300), None),
+    ((0, 3), Some((128, 200))),
+    ((5, 5), Some((9, 8))),
+    ((16_380, 16_383), None),
+    ((16_383, 16_384), None),
+    ((16_384, 16_384), None),
+    ((3, 3), Some((16_384, 16_386))),
+    ((16_383, 16_383), Some((65_536, 65_536))),
+    ((32_767, 32_768), Some((49_151, 49_153))),
+    ((65_535, 65_537), None),
+    ((65_536, 65_536), Some((16_384, 16_384))),
+    ((65_536, 65_536), Some((131_072, 131_072))),
+    ((81_919, 81_921), None),
+    ((81_920, 81_920), Some((16_384, 16_384))),
+    ((98_304, 98_304), Some((114_688, 114_689))),
+    ((0, 20_000), None),
+    ((268_435_455, 268_435_455), None),
+    ((0, 1), Some((268_435_455, 268_435_455))),
+];
+
+fn from_to((low, high): (u32, u32)) -> Counts {
     Counts { low, high }
 }
 
 #[test]
-fn few_counts(rt: HostRuntime) -> Result<(), Fail> {
-    for low in 0..6 {
-        for high in low..9 {
-            agrees(&rt, rt.alloc(), counts(low, high), None)?;
-            agrees(&rt, rt.alloc(), counts(low, high), Some(counts(12, 140)))?;
+fn lengths_are_told_bit_by_bit(rt: HostRuntime) -> Result<(), Fail> {
+    for (first, second) in SETS {
+        let (first, second) = (from_to(first), second.map(from_to));
+        assert!(rt; first.low <= first.high);
+        let all = counts_of(rt.alloc(), first, second)?;
+        let tree = tree_of(rt.alloc(), all.as_slice())?;
+        for count in &all {
+            walks(&rt, rt.alloc(), Lengths::new(first, second), &tree, *count)?;
+        }
+    }
+    Ok(())
+}
+
+/// Counts whose lengths are taken, whether a set has them or not.
+const TAKEN: [u64; 22] = [
+    0, 1, 3, 5, 100, 127, 128, 200, 300, 16_383, 16_384, 16_385, 32_768, 49_152, 65_535, 65_536,
+    65_537, 81_919, 81_920, 98_304, 114_689, 131_072,
+];
+
+/// All counts that a message may have.
+const EVERY: Counts = Counts {
+    low: 0,
+    high: 268_435_455,
+};
+
+/// Lengths of each form, at its borders and past them.
+fn pool(alloc: Global) -> Result<Vec<Length>, AllocError> {
+    let mut pool = Vec::new(alloc);
+    for n in [0, 3, 127] {
+        pool.push(with_form(alloc, &[false], 7, n, n)?)?;
+    }
+    for n in [0, 127, 128, 300, 16_383] {
+        pool.push(with_form(alloc, &[true, false], 14, n, n)?)?;
+    }
+    for n in [0, 1, 2, 3, 4, 5, 63] {
+        pool.push(with_form(alloc, &[true, true], 6, n, BLOCK * n)?)?;
+    }
+    Ok(pool)
+}
+
+#[test]
+fn lengths_are_taken(rt: HostRuntime) -> Result<(), Fail> {
+    for (first, second) in SETS {
+        let (first, second) = (from_to(first), second.map(from_to));
+        assert!(rt; first.low <= first.high);
+        let all = counts_of(rt.alloc(), first, second)?;
+        let tree = tree_of(rt.alloc(), all.as_slice())?;
+        for count in TAKEN {
+            let lengths = lengths_of(rt.alloc(), count)?;
+            for offset in 0..8 {
+                let reader = Lengths::new(first, second);
+                takes(&rt, rt.alloc(), reader, &tree, lengths.as_slice(), offset)?;
+            }
+        }
+    }
+    Ok(())
+}
+
+/// Any two of the pool one after the other, which mostly are no lengths of a list.
+#[test]
+fn lengths_of_no_list_are_not_taken(rt: HostRuntime) -> Result<(), Fail> {
+    let alloc = rt.alloc();
+    for (first, second) in SETS {
+        let (first, second) = (from_to(first), second.map(from_to));
+        assert!(rt; first.low <= first.high);
+        let all = counts_of(alloc, first, second)?;
+        let tree = tree_of(alloc, all.as_slice())?;
+        for a in &pool(alloc)? {
+            for b in &pool(alloc)? {
+                let both = vec![in alloc; a.copied()?, b.copied()?]?;
+                let reader = Lengths::new(first, second);
+                takes(&rt, alloc, reader, &tree, both.as_slice(), 3)?;
+            }
         }
     }
     Ok(())
 }
 
 #[test]
-fn counts_where_the_forms_meet(rt: HostRuntime) -> Result<(), Fail> {
+fn lengths_are_added(rt: HostRuntime) -> Result<(), Fail> {
     let alloc = rt.alloc();
-    agrees(&rt, alloc, counts(126, 129), None)?;
-    agrees(&rt, alloc, counts(128, 128), Some(counts(0, 0)))?;
-    agrees(&rt, alloc, counts(16382, 16386), Some(counts(3, 5)))?;
-    agrees(&rt, alloc, counts(65534, 65537), None)?;
-    agrees(&rt, alloc, counts(65536, 65536), Some(counts(81919, 81921)))?;
-    agrees(&rt, alloc, counts(49151, 49153), Some(counts(131070, 131073)))
-}
-
-// 40000 items or more: no list has five items, nor one block
-#[test]
-fn many_counts(rt: HostRuntime) {
-    let many = counts(40_000, 268_435_455);
-    assert_eq!(rt; read(many, None, &[false]), (FieldState::Dead, false));
-    let mut lengths = Lengths::new(many, None);
-    for bit in [true, true, false, false, false, false] {
-        assert_eq!(rt; lengths.bit(bit), FieldState::Alive);
+    for i in 0..17_000u32 {
+        adds_lengths(&rt, alloc, u64::from(i), i % 9)?;
     }
-    assert_eq!(rt; lengths.bit(false), FieldState::Dead);
-    assert_eq!(rt; lengths.bit(true), FieldState::Alive);
-    assert_eq!(rt; lengths.bit(false), FieldState::Number(32768));
-    assert!(rt; lengths.more());
-    assert_eq!(rt; lengths.bit(true), FieldState::Alive);
-    assert_eq!(rt; lengths.bit(true), FieldState::Dead);
+    for count in TAKEN {
+        for offset in 0..8 {
+            adds_lengths(&rt, alloc, count, offset)?;
+        }
+    }
+    adds_lengths(&rt, alloc, 268_435_455, 3)
 }
 
-// 4095 fragments of 4 blocks, one of 3, and 16383 items
+/// `push_length` of a list of so many items, up to its last length.
+fn adds_lengths(rt: &impl Abort, alloc: Global, count: u64, offset: u32) -> Result<(), Fail> {
+    let mut bits = some_bits(alloc, offset)?;
+    let mut sink = sink_of(alloc, bits.as_slice())?;
+    let mut left = count;
+    for length in &lengths_of(alloc, count)? {
+        bits.extend_from_slice(length.bits.as_slice())?;
+        assert_eq!(rt; sink.push_length(left)?, length.items, "{left} of {count}");
+        left = left.saturating_sub(length.items);
+    }
+    has_bits(rt, alloc, sink, bits.as_slice())
+}
+
+/// `push_general_octets` of so many octets: each length, and behind it the octets that it counts.
+fn adds_octets(rt: &impl Abort, alloc: Global, count: u32, offset: u32) -> Result<(), Fail> {
+    let octets = octets_of(alloc, some_bits(alloc, count)?.as_slice())?;
+    let mut bits = some_bits(alloc, offset)?;
+    let mut sink = sink_of(alloc, bits.as_slice())?;
+    sink.push_general_octets(octets.as_slice())?;
+    let mut rest = octets.as_slice();
+    for length in &lengths_of(alloc, octets.len() as u64)? {
+        bits.extend_from_slice(length.bits.as_slice())?;
+        let Some((counted, others)) = rest.split_at_checked(usize::try_from(length.items)?) else {
+            panic!(rt; "the lengths of {count} bits count too many octets");
+        };
+        add_octets(&mut bits, counted)?;
+        rest = others;
+    }
+    has_bits(rt, alloc, sink, bits.as_slice())
+}
+
 #[test]
-fn the_highest_count(rt: HostRuntime) -> Result<(), Fail> {
-    let most = counts(268_435_455, 268_435_455);
-    let list = lengths_of(rt.alloc(), 268_435_455)?;
-    assert_eq!(rt; list.ends.len(), 4097);
-    let last = read(most, None, list.bits.as_slice());
-    assert_eq!(rt; last, (FieldState::Number(16383), false));
-    goes_there_and_back(&rt, rt.alloc(), most, None, &list)
+fn octets_are_added_under_their_length(rt: HostRuntime) -> Result<(), Fail> {
+    for offset in 0..=8 {
+        for count in 0..=20 {
+            adds_octets(&rt, rt.alloc(), 8 * count, offset)?;
+        }
+        for count in [127, 128, 300, 16_383, 16_384, 16_385, 40_000] {
+            adds_octets(&rt, rt.alloc(), 8 * count, offset)?;
+        }
+    }
+    for count in [65_535, 65_536, 65_537, 81_919, 81_920, 147_457] {
+        adds_octets(&rt, rt.alloc(), 8 * count, 5)?;
+    }
+    Ok(())
+}
+
+#[test]
+fn lengths_cut_off_are_not_taken(rt: HostRuntime) -> Result<(), Fail> {
+    let alloc = rt.alloc();
+    for length in &pool(alloc)? {
+        let mut given = Vec::new(alloc);
+        for bit in &length.bits {
+            let offset = (8 - (given.len() % 8) as u32) % 8;
+            let mut bits = some_bits(alloc, offset)?;
+            bits.extend_from_slice(given.as_slice())?;
+            let octets = octets_of(alloc, bits.as_slice())?;
+            let mut cursor = BitCursor::over(octets.as_slice());
+            for _ in 0..offset {
+                cursor.next();
+            }
+            let mut reader = Lengths::new(EVERY, None);
+            assert_eq!(rt; reader.take(&mut cursor), None);
+            assert_eq!(rt; left(&cursor), (given.len() / 8, (given.len() % 8) as u32));
+            assert!(rt; !reader.more());
+            given.push(*bit)?;
+        }
+    }
+    Ok(())
 }

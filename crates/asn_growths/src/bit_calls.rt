@@ -27,7 +27,7 @@ pub fn single_bits(alloc: Global) -> Result<Outcome, AllocError> {
             }
         }
     }
-    Ok(after(refused, holds(sink, b"\xb2")))
+    Ok(after(refused, holds(sink, TIMES, b"\xb2")))
 }
 
 /// `push_number`, in 64 bits.
@@ -40,7 +40,48 @@ pub fn numbers(alloc: Global) -> Result<Outcome, AllocError> {
             sink.push_number(64, NUMBER)?;
         }
     }
-    Ok(after(refused, holds(sink, b"\x81\x23\x45\x67\x89\xab\xcd\xef")))
+    Ok(after(
+        refused,
+        holds(sink, TIMES, b"\x81\x23\x45\x67\x89\xab\xcd\xef"),
+    ))
+}
+
+/// `push_length`, of a list of 300.
+pub fn lengths(alloc: Global) -> Result<Outcome, AllocError> {
+    let mut sink = BitSink::new(alloc);
+    let mut refused = false;
+    for _ in 0..TIMES {
+        let told = match sink.push_length(300) {
+            Ok(items) => items,
+            Err(_) => {
+                refused = true;
+                sink.push_length(300)?
+            }
+        };
+        if told != 300 {
+            return Ok(Outcome::Wrong);
+        }
+    }
+    Ok(after(refused, holds(sink, TIMES, b"\x81\x2c")))
+}
+
+/// `push_general_octets`, of a fragment and an octet behind an octet. A refused call may have added a part, and is
+/// asked again of another sink.
+pub fn fragments(alloc: Global) -> Result<Outcome, AllocError> {
+    let octets = vec![in alloc; 0x5a; 16_385]?;
+    let mut whole = vec![in alloc; 0x98, 0xc1]?;
+    whole.extend_from_slice(octets.as_slice())?;
+    whole.insert(whole.len() - 1, 1)?;
+    let mut sink = BitSink::new(alloc);
+    sink.push_number(8, 0x98)?;
+    if sink.push_general_octets(octets.as_slice()).is_ok() {
+        return Ok(after(false, ends_as(sink, whole.as_slice())));
+    }
+    let is_part = begins(sink, whole.as_slice());
+    let mut again = BitSink::new(alloc);
+    again.push_number(8, 0x98)?;
+    again.push_general_octets(octets.as_slice())?;
+    Ok(after(true, is_part && ends_as(again, whole.as_slice())))
 }
 
 /// `push_least_octets`, of eight octets.
@@ -55,7 +96,7 @@ pub fn octets_of_numbers(alloc: Global) -> Result<Outcome, AllocError> {
     }
     Ok(after(
         refused,
-        holds(sink, b"\x08\x81\x23\x45\x67\x89\xab\xcd\xef"),
+        holds(sink, TIMES, b"\x08\x81\x23\x45\x67\x89\xab\xcd\xef"),
     ))
 }
 
@@ -71,7 +112,7 @@ pub fn octets(alloc: Global) -> Result<Outcome, AllocError> {
         }
         sink.push_number(4, 10)?;
     }
-    Ok(after(refused, holds(sink, b"\x98\x12\x34\x56\x7a")))
+    Ok(after(refused, holds(sink, TIMES, b"\x98\x12\x34\x56\x7a")))
 }
 
 /// `take_octets`, three at a time from the middle of an octet on, behind others.
@@ -89,36 +130,52 @@ pub fn octets_taken(alloc: Global) -> Result<Outcome, AllocError> {
             given.take_octets(3, &mut taken)?;
         }
     }
-    let is_right = start == Some(9)
-        && given.take_number(4) == Some(5)
-        && taken.as_slice() == TAKEN;
+    let is_right = start == Some(9) && given.take_number(4) == Some(5) && taken.as_slice() == TAKEN;
     Ok(after(refused, is_right))
 }
 
-/// `pad`, behind a bit.
+/// `pad`, of the last bits of a word behind so many others: where their room ends, `pad` is what grows.
 pub fn paddings(alloc: Global) -> Result<Outcome, AllocError> {
-    let mut sink = BitSink::new(alloc);
     let mut refused = false;
-    for _ in 0..TIMES {
-        // 117 bits: the eighth time the padding fills a word, and no room is left for one more
-        sink.push_number(60, 1 << 59)?;
-        sink.push_number(57, 0)?;
+    for words in 0..10 {
+        let mut sink = BitSink::new(alloc);
+        sink.push_number(60, NUMBER >> 4)?;
+        for _ in 0..words {
+            sink.push_number(64, NUMBER >> 4)?;
+        }
         if sink.pad().is_err() {
             refused = true;
             sink.pad()?;
         }
+        if !holds(sink, words + 1, b"\x81\x23\x45\x67\x89\xab\xcd\xe0") {
+            return Ok(Outcome::Wrong);
+        }
     }
-    Ok(after(refused, holds(sink, b"\x80\0\0\0\0\0\0\0\0\0\0\0\0\0\0")))
+    Ok(after(refused, true))
 }
 
-/// Whether these octets are in the sink, `TIMES` times, and nothing else.
-fn holds(sink: BitSink, part: &[u8]) -> bool {
+/// Whether the sink has one octet or more, which are the front of these.
+fn begins(sink: BitSink, whole: &[u8]) -> bool {
+    if !sink.ends_at_octet() {
+        return false;
+    }
+    let octets = sink.into_octets();
+    !octets.is_empty() && whole.starts_with(octets.as_slice())
+}
+
+/// Whether the sink has these octets and nothing else.
+fn ends_as(sink: BitSink, whole: &[u8]) -> bool {
+    sink.ends_at_octet() && sink.into_octets().as_slice() == whole
+}
+
+/// Whether these octets are in the sink, so many times, and nothing else.
+fn holds(sink: BitSink, times: usize, part: &[u8]) -> bool {
     if !sink.ends_at_octet() {
         return false;
     }
     let octets = sink.into_octets();
     let mut rest = octets.as_slice();
-    for _ in 0..TIMES {
+    for _ in 0..times {
         let Some(after) = rest.strip_prefix(part) else {
             return false;
         };

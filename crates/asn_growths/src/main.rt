@@ -6,7 +6,9 @@ mod bit_calls;
 mod message_calls;
 mod outcome;
 
-use bit_calls::{numbers, octets, octets_of_numbers, octets_taken, paddings, single_bits};
+use bit_calls::{
+    fragments, lengths, numbers, octets, octets_of_numbers, octets_taken, paddings, single_bits,
+};
 use message_calls::{check_a_type, decode_a_message, encode_a_message};
 use outcome::Outcome;
 use std::alloc::{AllocError, Global};
@@ -40,6 +42,8 @@ fn main(rt: HostRuntime) -> ExitCode {
         all_right &= told(&rt, "BitSink::push_number", numbers(alloc));
         all_right &= told(&rt, "BitSink::push_octets", octets(alloc));
         all_right &= told(&rt, "BitCursor::take_octets", octets_taken(alloc));
+        all_right &= told(&rt, "BitSink::push_length", lengths(alloc));
+        all_right &= told(&rt, "BitSink::push_general_octets", fragments(alloc));
         all_right &= told(&rt, "BitSink::push_least_octets", octets_of_numbers(alloc));
         all_right &= told(&rt, "BitSink::pad", paddings(alloc));
     }

@@ -1,9 +1,7 @@
 //! The reader of what stands in front of the items of a list under a size, and between them: counts and
 //! lengths.
-ghost use Rattle.std.specs.Prelude.{◌≡◌, ◌≤◌, ◌<◌, ◌+◌, ◌-◌, ◌*◌, ℕ, [], true, false, IfOk, IfErr};
-ghost use Rattle.asn_values.specs.Fits.{max_len};
+ghost use Rattle.std.specs.Prelude.{◌≡◌, [], true, false, IfOk, IfErr};
 ghost use Rattle.asn_values.specs.View.{size_range_of};
-ghost use Rattle.asn_bits.specs.Ranges.{Spanned, At};
 ghost use Rattle.asn_rules.specs.Languages.{Spells};
 ghost use Rattle.asn_rules.specs.Stops.{Stops};
 ghost use Rattle.asn_per.specs.Per.{per_fields};

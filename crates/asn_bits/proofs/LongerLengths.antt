@@ -8,7 +8,7 @@ use Rattle.asn_bits.proofs.GeneralLengths.{lengths_cases, blocks}
 use Rattle.asn_bits.proofs.Octets.{length-digits}
 
 -- lists of items, one after the other
-joined-append : (xs ys : List (List ℕ)) → joined (xs ++ ys) ≡ joined xs ++ joined ys
+pub joined-append : (xs ys : List (List ℕ)) → joined (xs ++ ys) ≡ joined xs ++ joined ys
 joined-append [] ys = refl
 joined-append (x ∷ xs) ys = ap (λ t. x ++ t) (joined-append xs ys) ∙ sym (append_assoc x (joined xs) (joined ys))
 

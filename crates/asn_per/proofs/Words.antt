@@ -8,6 +8,7 @@ use Rattle.std.proofs.Math.Pow.{pow_mono}
 use Rattle.asn_bits.specs.Numbers.{bits, unpacked}
 use Rattle.asn_bits.specs.Lengths.{joined}
 use Rattle.asn_bits.specs.Sink.{bit_of}
+use Rattle.asn_bits.proofs.LongerLengths.{joined-append}
 use Rattle.asn_bits.proofs.Splits.{digits-join}
 use Rattle.asn_rules.specs.Chunks.{ones}
 use Rattle.asn_rules.proofs.Flat.{flat-append, flat-ones}
@@ -41,10 +42,6 @@ pub word_fits : (k word : ℕ) (bs : List ℕ) → Word k word bs → k ≤ 64 �
 word_fits k word bs h l = omega (arith, h.within, pow_mono l)
 
 -- ---- items one after the other
-
-joined-append : (xs ys : List (List ℕ)) → joined (xs ++ ys) ≡ joined xs ++ joined ys
-joined-append [] ys = refl
-joined-append (x ∷ xs) ys = ap (λ (t : List ℕ). x ++ t) (joined-append xs ys) ∙ sym (append_assoc x (joined xs) (joined ys))
 
 -- the first items, and those behind them
 pub row-append : {A : Type 0} (code : A → List ℕ) (xs ys : List A) → joined (map code (xs ++ ys)) ≡ joined (map code xs) ++ joined (map code ys)

@@ -45,11 +45,7 @@ fn lengths_of(alloc: Global, count: u64) -> Result<Direct, AllocError> {
     Ok(Direct { count, bits, ends })
 }
 
-fn all_of(
-    alloc: Global,
-    first: Counts,
-    second: Option<Counts>,
-) -> Result<Vec<Direct>, AllocError> {
+fn all_of(alloc: Global, first: Counts, second: Option<Counts>) -> Result<Vec<Direct>, AllocError> {
     let mut lists = Vec::new(alloc);
     for count in first.low..=first.high {
         lists.push(lengths_of(alloc, u64::from(count))?)?;
@@ -133,12 +129,7 @@ fn goes_there_and_back(
 }
 
 // each bit of each list, and each bit turned behind those before it
-fn agrees(
-    rt: &impl Abort,
-    alloc: Global,
-    first: Counts,
-    second: Option<Counts>,
-) -> Result<(), Fail>
+fn agrees(rt: &impl Abort, alloc: Global, first: Counts, second: Option<Counts>) -> Result<(), Fail>
     requires { first.low ≤ first.high }
 {
     let lists = all_of(alloc, first, second)?;
@@ -184,7 +175,12 @@ fn counts_where_the_forms_meet(rt: HostRuntime) -> Result<(), Fail> {
     agrees(&rt, alloc, counts(16382, 16386), Some(counts(3, 5)))?;
     agrees(&rt, alloc, counts(65534, 65537), None)?;
     agrees(&rt, alloc, counts(65536, 65536), Some(counts(81919, 81921)))?;
-    agrees(&rt, alloc, counts(49151, 49153), Some(counts(131070, 131073)))
+    agrees(
+        &rt,
+        alloc,
+        counts(49151, 49153),
+        Some(counts(131070, 131073)),
+    )
 }
 
 // 40000 items or more: no list has five items, nor one block

@@ -1,6 +1,5 @@
 -- Each bit leads the length on, ends it, or is refused.
-use Rattle.std.proofs.Common.{◌≡◌, ◌++◌, ◌∷◌, [], List, ℕ, nat_eq, refl, sym, subst}
-use Rattle.asn_bits.specs.Sink.{bit_of}
+use Rattle.std.proofs.Common.{◌++◌, ◌∷◌, [], ℕ, refl, subst}
 use Rattle.asn_bits.specs.LengthBits.{CountsLeft, StartsSome, WholeLength, Goes}
 use Rattle.asn_bits.specs.declared.number_field.FieldState.TheVariants as state
 use Rattle.asn_per.proofs.LengthReading.{bit_is, in_length_done, in_length_refused, in_length_short}

@@ -1,16 +1,15 @@
 -- A general length is the first length of some count of the set: what a reader of its bits cites at each exit.
-use Rattle.std.proofs.Common.{◌≡◌, ◌+◌, ◌-◌, ◌*◌, ◌/◌, ◌<◌, ◌≤◌, ◌⊎◌, inl, inr, ⊎_elim, ℕ, min, nat_lt, true, false, List, [], ◌∷◌, ◌++◌, length, refl, sym, ap, ◌∙◌, subst, append_assoc, arith}
+use Rattle.std.proofs.Common.{◌≡◌, ◌+◌, ◌-◌, ◌*◌, ◌<◌, ◌≤◌, ◌⊎◌, inl, inr, ⊎_elim, ℕ, List, [], ◌∷◌, ◌++◌, length, refl, sym, ap, ◌∙◌, subst, arith}
 use Rattle.std.proofs.lemmas.Bool.{cases_lt}
-use Rattle.std.proofs.lemmas.List.{append-nil}
 use Rattle.asn_bits.specs.Numbers.{bits}
 use Rattle.asn_bits.specs.Lengths.{blocks}
 use Rattle.asn_bits.specs.LengthBits.{first_length, StartsSome, OpensLength, WholeLength}
 use Rattle.asn_bits.specs.Sets.{InSet}
 use Rattle.asn_bits.proofs.FirstLengths.{first_few, first_many, first_fragment, few_items}
 use Rattle.asn_bits.proofs.Weights.{bits_are, bits_only}
-use Rattle.asn_rules.specs.Chunks.{Chunk, one, ones, flat}
+use Rattle.asn_rules.specs.Chunks.{Chunk, one, ones}
 use Rattle.asn_rules.specs.Forks.{Branch, Fork}
-use Rattle.asn_rules.specs.General.{Length, last, fragment, Few, Many, Blocks, Left, length_of, Header}
+use Rattle.asn_rules.specs.General.{Length, last, fragment, Few, Many, Blocks, Left, Header}
 use Rattle.asn_rules.specs.Languages.{Spells, Short, Refused, IsFront, IsLive, Plain}
 use Rattle.asn_rules.specs.Live.{Fielding}
 use Rattle.asn_rules.proofs.Chunks.{FieldsPart}
@@ -33,11 +32,11 @@ header_of S n s =
     (λ a. ⊎_elim
     (λ b. (last n, subst (λ (bs : List ℕ). Header S (last n) (ones bs)) (sym (ap (λ l. l.bits) (first_many n a b))) (header_many_is S n (bits 14 n) (record { member = s; least = a; below = b }) (bits_are 14 n (omega arith))), (b, refl)))
     (λ b.
-        let m = blocks n in
-        let e : n ≡ 16384 * m + (n - 16384 * m) = omega arith in
-        let left : Left S m (n - 16384 * m) = record { member = subst (λ (x : ℕ). S x) e s; largest = λ q. omega arith } in
-        let some : Blocks S m = record { some = omega arith; most = omega arith; rest = n - 16384 * m; left = left } in
-        (fragment m, subst (λ (bs : List ℕ). Header S (fragment m) (ones bs)) (sym (ap (λ l. l.bits) (first_fragment n b))) (header_blocks_is S m (bits 6 m) some (bits_are 6 m (omega arith))), (b, refl)))
+    let m = blocks n in
+    let e : n ≡ 16384 * m + (n - 16384 * m) = omega arith in
+    let left : Left S m (n - 16384 * m) = record { member = subst (λ (x : ℕ). S x) e s; largest = λ q. omega arith } in
+    let some : Blocks S m = record { some = omega arith; most = omega arith; rest = n - 16384 * m; left = left } in
+    (fragment m, subst (λ (bs : List ℕ). Header S (fragment m) (ones bs)) (sym (ap (λ l. l.bits) (first_fragment n b))) (header_blocks_is S m (bits 6 m) some (bits_are 6 m (omega arith))), (b, refl)))
     (cases_lt n 16384))
     (cases_lt n 128)
 

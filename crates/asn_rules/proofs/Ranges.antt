@@ -1,5 +1,5 @@
 -- Sets of counts, asked by ranges: what a reader of general lengths tests.
-use Rattle.std.proofs.Common.{◌≡◌, ℕ, zero, suc, ◌+◌, ◌-◌, ◌*◌, ◌^◌, ◌<◌, ◌≤◌, min, max, Bool, true, false, nat_lt, Option, Some, None, ◌⊎◌, inl, inr, ⊎_elim, List, [], ◌∷◌, refl, subst, arith}
+use Rattle.std.proofs.Common.{◌≡◌, ℕ, zero, suc, ◌+◌, ◌-◌, ◌*◌, ◌^◌, ◌<◌, ◌≤◌, min, max, Bool, true, false, nat_lt, Option, Some, None, ◌⊎◌, inl, inr, ⊎_elim, List, refl, subst, arith}
 use Rattle.std.proofs.lemmas.Bool.{cases_lt, ltb-true, ltb-false}
 use Rattle.asn_bits.proofs.Ranges.{reaches_some, some_reaches}
 use Rattle.asn_rules.proofs.Headers.{block_cases}
@@ -7,7 +7,7 @@ use Rattle.asn_rules.specs.Chunks.{Chunk}
 use Rattle.asn_rules.specs.Forks.{Branch, Fork, Same}
 use Rattle.asn_rules.specs.General.{Length, last, fragment, Few, Many, Left, Blocks, Header, Body, Within, General}
 use Rattle.asn_rules.specs.Languages.{Plain}
-use Rattle.asn_bits.specs.Ranges.{AtMost, SomeIn, Spanned, Meet, Reaches, At}
+use Rattle.asn_bits.specs.Ranges.{AtMost, SomeIn, Spanned, Reaches, At}
 use Rattle.asn_bits.specs.Sets.{InSet, Meets}
 
 -- A number that begins so, as a range.

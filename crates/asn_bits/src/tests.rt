@@ -250,7 +250,12 @@ fn by_trial(numbers: &Intervals, k: u32, prefix: u64, given: u32) -> FieldState
 }
 
 // each number of k bits, bit by bit and in one step
-fn reads_as_by_trial(rt: &impl Abort, alloc: Global, k: u32, numbers: &Intervals) -> Result<(), Fail>
+fn reads_as_by_trial(
+    rt: &impl Abort,
+    alloc: Global,
+    k: u32,
+    numbers: &Intervals,
+) -> Result<(), Fail>
     requires { k < 64 }
 {
     for n in 0..limit(k) {
@@ -281,7 +286,10 @@ fn fields_are_read_as_by_trial(rt: HostRuntime) -> Result<(), Fail> {
                 reads_as_by_trial(&rt, rt.alloc(), k, &Intervals::one(low, high))?;
                 let two = Intervals::one(low, high).and(last, last);
                 reads_as_by_trial(&rt, rt.alloc(), k, &two)?;
-                let four = Intervals::one(low, low).and(high, high).and(0, 0).and(last, last);
+                let four = Intervals::one(low, low)
+                    .and(high, high)
+                    .and(0, 0)
+                    .and(last, last);
                 reads_as_by_trial(&rt, rt.alloc(), k, &four)?;
             }
         }

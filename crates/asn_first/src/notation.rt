@@ -39,6 +39,7 @@ fn put_value(text: &mut String, ty: &AsnType, value: &Value) -> Result<(), Alloc
     match value {
         Value::Bool(true) => text.push_str("TRUE"),
         Value::Bool(false) => text.push_str("FALSE"),
+        Value::Null => text.push_str("NULL"),
         Value::Int(number) => write!(text, "{number}"),
         Value::Seq(entries) => {
             text.push_str("{ ")?;

@@ -188,9 +188,9 @@ count_up s c gap some few o = go (some_offset s c some (omega arith) o)
     pierced w f a b = ⊎_elim
         (λ l. low (2 ^ 63 - 2 ^ (8 * c - 1) - 1) (omega (arith, more, one)) (omega (arith, one, room, more)) (omega (arith, a, b, one, room, more), inl l))
         (λ g. ⊎_elim
-            (λ l. low (2 ^ 63 - 2 ^ (8 * c - 1) - 2) (omega (arith, more, one)) (omega (arith, one, room, more)) (omega (arith, a, b, one, room, more), inl (omega (arith, f, l, g, one, room, more))))
-            (λ k. low (2 ^ 63 - 2 ^ (8 * c - 1) - 1) (omega (arith, more, one)) (omega (arith, one, room, more)) (omega (arith, a, b, one, room, more), inr k))
-            (cases_lt (2 ^ 63 - 2 ^ (8 * c - 1) - 1) s.from))
+        (λ l. low (2 ^ 63 - 2 ^ (8 * c - 1) - 2) (omega (arith, more, one)) (omega (arith, one, room, more)) (omega (arith, a, b, one, room, more), inl (omega (arith, f, l, g, one, room, more))))
+        (λ k. low (2 ^ 63 - 2 ^ (8 * c - 1) - 1) (omega (arith, more, one)) (omega (arith, one, room, more)) (omega (arith, a, b, one, room, more), inr k))
+        (cases_lt (2 ^ 63 - 2 ^ (8 * c - 1) - 1) s.from))
         (cases_lt (2 ^ 63 - 2 ^ (8 * c - 1) - 1) s.below)
 
     go : (w : ℕ) × (((2 ^ 63 + inner_of c ≤ w) × (w < 2 ^ 63 + 2 ^ (8 * c - 1))) ⊎ ((2 ^ 63 - 2 ^ (8 * c - 1) ≤ w) × (w < 2 ^ 63 - inner_of c))) × Held s w → SomeOf (LeastSigned (λ z. HeldInteger s z)) (c + 1)

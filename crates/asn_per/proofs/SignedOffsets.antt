@@ -103,9 +103,9 @@ pub some_outside : (b : Range) → InProfile (integer b) → b.extensible ≡ tr
 some_outside b good m = ⊎_elim
     (λ e. absurd (true≢false (sym m ∙ e)))
     (λ e. ⊎_elim
-        (λ f. (0, (omega arith, inl (⊎_elim (λ l. l) (λ g. absurd (true≢false (sym (offset_least b.low lowest_integer ends.0 (omega (arith, ints)) g) ∙ f))) (cases_lt 0 (low_offset b.low))))))
-        (λ f. (18446744073709551615, (omega arith, inr (⊎_elim (λ l. absurd (true≢false (sym (offset_most b.high highest_integer ends.1 (omega (arith, ints)) l) ∙ f))) (λ g. g) (cases_lt 18446744073709551615 (high_offset b.high))))))
-        (and_cases (at_least b.low lowest_integer) (at_most b.high highest_integer) e))
+    (λ f. (0, (omega arith, inl (⊎_elim (λ l. l) (λ g. absurd (true≢false (sym (offset_least b.low lowest_integer ends.0 (omega (arith, ints)) g) ∙ f))) (cases_lt 0 (low_offset b.low))))))
+    (λ f. (18446744073709551615, (omega arith, inr (⊎_elim (λ l. absurd (true≢false (sym (offset_most b.high highest_integer ends.1 (omega (arith, ints)) l) ∙ f))) (λ g. g) (cases_lt 18446744073709551615 (high_offset b.high))))))
+    (and_cases (at_least b.low lowest_integer) (at_most b.high highest_integer) e))
     (and_cases b.extensible (at_least b.low lowest_integer && at_most b.high highest_integer) (good UselessMark))
   where
     ends : (is_outside b.low ≡ false) × (is_outside b.high ≡ false)

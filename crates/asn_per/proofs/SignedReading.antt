@@ -25,8 +25,8 @@ abbrev pub signed_counts : ℕ → Numbers
 signed_counts low = record { low = low; high = 8; except = None }
 
 module _ (s : Offsets) (low : ℕ)
-  (there : (c : ℕ) → low ≤ c → c ≤ 8 → SomeOf (LeastSigned (λ z. HeldInteger s z)) c)
-  (back : (c : ℕ) → SomeOf (LeastSigned (λ z. HeldInteger s z)) c → (low ≤ c) × (c ≤ 8)) where
+    (there : (c : ℕ) → low ≤ c → c ≤ 8 → SomeOf (LeastSigned (λ z. HeldInteger s z)) c)
+    (back : (c : ℕ) → SomeOf (LeastSigned (λ z. HeldInteger s z)) c → (low ≤ c) × (c ≤ 8)) where
   same_counts : Same (Plain (InDigits 2 8 (λ n. Admits (signed_counts low) n))) (Plain (InDigits 2 8 (SomeOf (LeastSigned (λ z. HeldInteger s z)))))
   same_counts = same_set 2 8 (λ c a. there c a.0 a.1) (λ c o. (let w = back c o in (w.0, w.1, tt)))
 

@@ -16,6 +16,6 @@ pub returns-else-has_between-clause-back : goal.returns-else-has_between-clause-
 returns-else-has_between-clause-back c s =
     let w = some_offset c.args.set c.args.count c.requires.some c.requires.few s in
     ⊎_elim
-        (λ b. absurd (let t : c.has_between.result ≡ true = c.has_between.ensures.back w.0 (omega (arith, b.0, c.inner-inner.ensures.is)) (omega (arith, b.1, c.half-half.ensures.is)) w.2 in cc))
-        (λ b. c.has_between-else-has_between.ensures.back w.0 (omega (arith, b.0, c.half-half.ensures.is)) (omega (arith, b.1, c.inner-inner.ensures.is)) w.2)
-        w.1
+    (λ b. absurd (let t : c.has_between.result ≡ true = c.has_between.ensures.back w.0 (omega (arith, b.0, c.inner-inner.ensures.is)) (omega (arith, b.1, c.half-half.ensures.is)) w.2 in cc))
+    (λ b. c.has_between-else-has_between.ensures.back w.0 (omega (arith, b.0, c.half-half.ensures.is)) (omega (arith, b.1, c.inner-inner.ensures.is)) w.2)
+    w.1

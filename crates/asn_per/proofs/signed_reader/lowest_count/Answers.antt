@@ -15,9 +15,9 @@ pub loop-count-preserved : goal.loop-count-preserved
 loop-count-preserved c k l o =
     ⊎_elim (λ h. c.loop-count.invariant k h o)
     (λ g. absurd (
-        let e : k ≡ c.loop-count.count = omega (arith, l, g) in
-        let t : c.has_count.result ≡ true = c.has_count.ensures.back (subst (SomeOf (LeastSigned (λ z. HeldInteger c.args.set z))) e o) in
-        cc))
+    let e : k ≡ c.loop-count.count = omega (arith, l, g) in
+    let t : c.has_count.result ≡ true = c.has_count.ensures.back (subst (SomeOf (LeastSigned (λ z. HeldInteger c.args.set z))) e o) in
+    cc))
     (cases_lt k c.loop-count.count)
 
 pub returns-clause-there : goal.returns-clause-there

@@ -365,10 +365,7 @@ fn whole_numbers(
     high: Option<i128>,
     ext: bool,
 ) -> Result<Checked, Fail> {
-    Ok(Checked::new(
-        alloc,
-        AsnType::Int(Bounds { low, high, ext }),
-    )?)
+    Ok(Checked::new(alloc, AsnType::Int(Bounds { low, high, ext }))?)
 }
 
 // without a low bound, behind an extension mark, and all integers of the profile in 64 bits
@@ -405,6 +402,12 @@ fn integers_of_any_range_are_refused(rt: HostRuntime) -> Result<(), Fail> {
     expect_fault(&rt, alloc, &any, b"\x00", refused(8, Why::Length));
     expect_fault(&rt, alloc, &any, b"\x09", refused(8, Why::Length));
     let marked = whole_numbers(alloc, Some(0), Some(7), true)?;
-    expect_fault(&rt, alloc, &marked, b"\x80\x82\x80", refused(14, Why::Number));
+    expect_fault(
+        &rt,
+        alloc,
+        &marked,
+        b"\x80\x82\x80",
+        refused(14, Why::Number),
+    );
     Ok(())
 }

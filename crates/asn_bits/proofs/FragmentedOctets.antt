@@ -1,9 +1,9 @@
 -- Octets under their general length, one length after the other.
-use Rattle.std.proofs.Common.{◌≡◌, ◌+◌, ◌-◌, ◌*◌, ◌/◌, ◌<◌, ◌≤◌, ℕ, List, [], ◌∷◌, ◌++◌, length, map, take, drop, min, refl, sym, ap, ◌∙◌, subst, append_assoc, length-drop, arith}
+use Rattle.std.proofs.Common.{◌≡◌, ◌-◌, ◌*◌, ◌<◌, ◌≤◌, ℕ, List, [], ◌∷◌, ◌++◌, length, map, take, drop, refl, sym, ap, ◌∙◌, append_assoc, length-drop}
 use Rattle.std.proofs.lemmas.List.{append-nil, length-map, drop-map}
 use Rattle.std.proofs.Math.Seq.{take-length}
 use Rattle.asn_bits.specs.Numbers.{bits, unpacked}
-use Rattle.asn_bits.specs.Lengths.{Length, last_length, fragment, blocks, lengths, joined, with_lengths, general_octets}
+use Rattle.asn_bits.specs.Lengths.{fragment, blocks, lengths, joined, with_lengths, general_octets}
 use Rattle.asn_bits.specs.LengthBits.{first_length}
 use Rattle.asn_bits.proofs.FirstLengths.{first_fragment, few_items}
 use Rattle.asn_bits.proofs.GeneralLengths.{map_same, take-map}

@@ -1,5 +1,5 @@
 -- A fragment more, and in the end the last octets.
-use Rattle.std.proofs.Common.{◌≡◌, ◌++◌, sym, ap, subst, List, ℕ}
+use Rattle.std.proofs.Common.{◌≡◌, ◌++◌, sym, subst, List, ℕ}
 use Rattle.std.proofs.lemmas.Result.{on_ok_weaker}
 use Rattle.asn_bits.specs.Lengths.{general_octets}
 use Rattle.asn_bits.specs.Numbers.{unpacked}

@@ -252,7 +252,8 @@ fn left(cursor: &BitCursor<'_>) -> (usize, u32) {
     (cursor.octets_left(), cursor.rest_of_octet())
 }
 
-/// Sets of few counts at the borders: of 7 bits, of a block, of 4 blocks and of 5, and the highest count.
+/// Sets of counts at the borders of 7 bits, of a block, of 4 blocks and of 5, of all up to past these, and of the
+/// highest count.
 const SETS: [((u32, u32), Option<(u32, u32)>); 22] = [
     ((0, 0), None),
     ((0, 127), None),
@@ -273,7 +274,7 @@ const SETS: [((u32, u32), Option<(u32, u32)>); 22] = [
     ((81_919, 81_921), None),
     ((81_920, 81_920), Some((16_384, 16_384))),
     ((98_304, 98_304), Some((114_688, 114_689))),
-    ((0, 20_000), None),
+    ((0, 70_000), None),
     ((268_435_455, 268_435_455), None),
     ((0, 1), Some((268_435_455, 268_435_455))),
 ];

@@ -1,5 +1,5 @@
 -- The first length of a list: which counts have one that begins with given bits.
-use Rattle.std.proofs.Common.{◌≡◌, ◌↔◌, ◌+◌, ◌-◌, ◌*◌, ◌/◌, ◌%◌, ◌^◌, ◌<◌, ◌≤◌, ◌⊎◌, inl, inr, ⊎_elim, ℕ, Bool, true, false, nat_lt, max, List, [], ◌∷◌, ◌++◌, length, refl, sym, ap, ◌∙◌, subst, append_assoc, arith}
+use Rattle.std.proofs.Common.{◌≡◌, ◌↔◌, ◌+◌, ◌-◌, ◌*◌, ◌/◌, ◌%◌, ◌^◌, ◌<◌, ◌≤◌, ◌⊎◌, inl, inr, ⊎_elim, ℕ, Bool, true, false, nat_lt, max, List, [], ◌∷◌, ◌++◌, length, length-append, refl, sym, ap, ◌∙◌, subst, append_assoc, arith}
 use Rattle.std.specs.Bool.{⊤}
 use Rattle.std.proofs.lemmas.Bool.{lt-ltb, le-ltb, cases_lt}
 use Rattle.std.proofs.lemmas.Nat.{pow-add, pow_pos}
@@ -9,7 +9,7 @@ use Rattle.asn_bits.specs.Numbers.{bits}
 use Rattle.asn_bits.specs.Lengths.{last_length, fragment, blocks}
 use mir.Val.{bool_byte}
 use Rattle.asn_bits.specs.Sink.{bit_of}
-use Rattle.asn_bits.specs.LengthBits.{first_length, StartsLength}
+use Rattle.asn_bits.specs.LengthBits.{first_length, StartsLength, StartsSome, LengthAhead}
 use Rattle.asn_bits.specs.LengthPlaces.{form_bits, form_width, form_items, place_bits, IsPlace}
 use Rattle.asn_bits.specs.declared.general_length.Form.{Form}
 use Rattle.asn_bits.specs.declared.general_length.Form.TheVariants as form
@@ -243,6 +243,36 @@ pub number_left : (n : ℕ) (f : Form) (p l : ℕ) → IsPlace (place.Number f p
 number_left n form.Few p l h s = rw (first_few n s.0) (omega (arith, h.0, length-digits 2 7 n, length-digits 2 (7 - l) p))
 number_left n form.Many p l h s = rw (first_many n s.0 s.1) (omega (arith, h.0, length-digits 2 14 n, length-digits 2 (14 - l) p))
 number_left n form.Fragment p l h s = rw (first_fragment n s.0) (omega (arith, h.0, length-digits 2 6 (blocks n), length-digits 2 (6 - l) p))
+
+-- ---- a whole length in front of other bits
+
+-- it has 8 bits
+pub ahead_some : {S : ℕ → Type 0} {us : List ℕ} → LengthAhead S us → 8 ≤ length us
+ahead_some {S} {us} w = omega (arith, first_some w.count, ap length w.split, length-append (first_length w.count).bits w.rest)
+
+-- it agrees with the bits given, as far as both go
+ahead_stands : {S : ℕ → Type 0} {us : List ℕ} (mid : List ℕ) (p : Place) (w : LengthAhead S us) → IsPlace p → us ≡ place_bits p ++ mid → Stands w.count p
+ahead_stands mid p w h e = stands_of w.count p w.rest mid h (sym w.split ∙ e)
+
+-- so that a length of the set begins with them
+pub ahead_starts : (S : ℕ → Type 0) (us mid : List ℕ) (p : Place) → LengthAhead S us → IsPlace p → us ≡ place_bits p ++ mid → StartsSome S (place_bits p)
+ahead_starts S us mid p w h e = record { count = w.count; member = w.member; starts = starts_of w.count p h (ahead_stands mid p w h e) }
+
+-- 10 and 6 bits, as an octet
+many_octet : (a : ℕ) → 128 ≤ a → a < 192 → bits 8 a ≡ 1 ∷ 0 ∷ bits 6 a
+many_octet a l h =
+    let one : a / 2 ^ 7 % 2 ≡ 1 = omega arith in
+    let zero : a / 2 ^ 6 % 2 ≡ 0 = omega arith in
+    ap (λ x. x ∷ bits 7 a) one ∙ ap (λ x. 1 ∷ x ∷ bits 6 a) zero
+
+-- behind an octet that begins with 10 it has 8 bits more
+pub ahead_many : {S : ℕ → Type 0} (us mid : List ℕ) (a : ℕ) → LengthAhead S us → 128 ≤ a → a < 192 → us ≡ bits 8 a ++ mid → 8 ≤ length mid
+ahead_many us mid a w l h e =
+    let p = place.Number form.Many 0 14 in
+    let i : IsPlace p = (omega arith, omega arith) in
+    let s = ahead_stands (bits 6 a ++ mid) p w i (e ∙ ap (λ bs. bs ++ mid) (many_octet a l h)) in
+    let n : length (first_length w.count).bits ≡ 16 = number_left w.count form.Many 0 14 i s in
+    omega (arith, n, ap length w.split, length-append (first_length w.count).bits w.rest, ap length e, length-append (bits 8 a) mid, length-digits 2 8 a)
 
 -- fewer than a block follow at once
 pub few_items : (n : ℕ) → n < 16384 → (first_length n).items ≡ n

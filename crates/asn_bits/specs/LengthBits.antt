@@ -95,6 +95,13 @@ pub record StartsSome (S : ℕ → Type 0) (bs : List ℕ) : Type 0 where
   pub member : S count
   pub starts : StartsLength count bs
 
+-- that of some count of the set stands in front of other bits
+pub record LengthAhead (S : ℕ → Type 0) (us : List ℕ) : Type 0 where
+  pub count : ℕ
+  pub member : S count
+  pub rest : List ℕ
+  pub split : us ≡ (first_length count).bits ++ rest
+
 -- it goes on
 pub record OpensLength (S : ℕ → Type 0) (bs : List ℕ) : Type 0 where
   pub count : ℕ

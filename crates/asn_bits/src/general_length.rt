@@ -1,9 +1,9 @@
 //! General lengths bit by bit or in one step, fragment by fragment (X.691, "general length determinant").
-ghost use Rattle.std.specs.Prelude.{◌≡◌, ◌≢◌, ◌↔◌, ◌≤◌, ◌<◌, ◌+◌, ◌*◌, ◌^◌, ℕ, Some, true, [], ◌∷◌, ◌++◌, IsTrue, IfSome, IsNone};
+ghost use Rattle.std.specs.Prelude.{◌≡◌, ◌≢◌, ◌↔◌, ◌≤◌, ◌<◌, ◌+◌, ◌*◌, ◌^◌, ℕ, Some, true, [], ◌∷◌, ◌++◌, IsTrue, IfSome, IsSome, IsNone, ⊤};
 ghost use Rattle.asn_bits.specs.Lengths.{blocks};
 ghost use Rattle.asn_bits.specs.Sink.{bit_of};
 ghost use Rattle.asn_bits.specs.Ranges.{Spanned, AtMost, Reaches, Meet};
-ghost use Rattle.asn_bits.specs.LengthBits.{BegunLengths, given, TellsLength, Goes, EndsLength, TellsFirst, Takes, StartsLength, StartsSome, CountsLeft};
+ghost use Rattle.asn_bits.specs.LengthBits.{BegunLengths, given, TellsLength, Goes, EndsLength, TellsFirst, Takes, StartsLength, StartsSome, LengthAhead, CountsLeft};
 ghost use Rattle.asn_bits.specs.LengthPlaces.{spans, place_bits, IsPlace, IsWhole, IsReading, Behind};
 ghost use Rattle.asn_bits.specs.declared.general_length.Place.TheVariants.{Number};
 
@@ -109,10 +109,12 @@ impl Lengths {
         self.come > 0 && matches!(self.place, Place::Start)
     }
 
-    /// The items that follow the length in the next bits. `None` where these do not begin with a
-    /// whole length of the set, and then nothing has changed.
+    /// The items that follow the length in the next bits. `Some` exactly where no bit of a length
+    /// was given and the next bits begin with a whole length that some list of the set goes on
+    /// with; else nothing has changed.
     pub fn take(&mut self, bits: &mut BitCursor<'_>) -> Option<u64>
         ensures some { IfSome result (λ n. Takes self.old bits.old bits.new n self.new) }
+        ensures whole { IsSome result ↔ ((self.old.bits ≡ []) × LengthAhead (CountsLeft self.old.counts self.old.blocks) bits.old) }
         ensures none { IsNone result → (self.new ≡ self.old) × (bits.new ≡ bits.old) }
         ensures live { StartsSome (CountsLeft self.old.counts self.old.blocks) self.old.bits }
     {
@@ -210,6 +212,7 @@ fn whole(place: Place) -> Option<(Form, u32)>
 /// The form and the number of the length in the next bits. `None` where they end before it does.
 fn next_length(bits: &mut BitCursor<'_>) -> Option<(Form, u32)>
     ensures some { IfSome result (λ x. IsPlace (Number x.0 x.1 0) × (bits.old ≡ place_bits (Number x.0 x.1 0) ++ bits.new)) }
+    ensures none { IsNone result → LengthAhead (λ n. ⊤) bits.old → ⊥ }
 {
     let first = bits.take_number(8)? as u32;
     if first < 128 {

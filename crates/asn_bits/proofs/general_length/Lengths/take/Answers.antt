@@ -1,13 +1,14 @@
 -- A whole length in one step, as its bits tell.
-use Rattle.std.proofs.Common.{◌≡◌, ◌++◌, ℕ, sym, ap, ◌∙◌, subst}
+use Rattle.std.proofs.Common.{rules, ◌≡◌, ◌↔◌, ◌++◌, ℕ, true, [], IsTrue, refl, sym, ap, ◌∙◌, subst}
 use Rattle.std.proofs.lemmas.Bool.{true≢false}
-use Rattle.asn_bits.specs.LengthBits.{BegunLengths, CountsLeft, StartsSome, Takes}
+use Rattle.asn_bits.specs.LengthBits.{BegunLengths, CountsLeft, StartsSome, LengthAhead, Takes}
 use Rattle.asn_bits.specs.LengthPlaces.{spans, place_bits}
 use Rattle.asn_bits.specs.declared.general_length.Place.{Place}
 use Rattle.asn_bits.specs.declared.general_length.Place.TheVariants as place
-use Rattle.asn_bits.proofs.GivenLengths.{behind_reading, behind_goes, whole_more, whole_ends}
+use Rattle.asn_bits.proofs.FirstLengths.{ahead_starts}
+use Rattle.asn_bits.proofs.GivenLengths.{behind_reading, behind_goes, whole_first, whole_more, whole_ends}
 use Rattle.asn_bits.proofs.general_length.Lengths.take.Goals as goal
-use Rattle.asn_bits.proofs.general_length.Lengths.take.Goals.{in-Start, in_default}
+use Rattle.asn_bits.proofs.general_length.Lengths.take.Goals.{in-Start, in_default, in_default-via-in-None-1, in_default-via-in-Some+else-starts_some}
 
 -- no bit of the length is given
 at_start : (c : goal.After-self-2-1) → c.self.inside.place ≡ place.Start
@@ -41,10 +42,30 @@ returns-clause-some c =
       goes = behind_goes is s.come c.in-Some.form c.in-Some.number x (place_bits s.place) front c.in-Some.ensures.some.0 some c.behind-items.ensures whole;
     })
 
+pub returns-clause-whole : goal.returns-clause-whole
+returns-clause-whole c =
+    let s = c.self.inside in
+    let is = spans s.first s.second in
+    let w = whole_first (CountsLeft is s.come) c.in-Some.form c.in-Some.number c.in-Some.ensures.some.0 (c.starts_some.ensures.exact.0 c.if-starts_some.true) in
+    subst (λ (v : BegunLengths). IsTrue true ↔ ((v.bits ≡ []) × LengthAhead (CountsLeft v.counts v.blocks) c.args.bits.now)) c.self.view_is
+    (λ t. (ap place_bits (at_start c), record { count = w.count; member = w.member; rest = c.next_length.new.bits; split = c.in-Some.ensures.some.1 ∙ ap (λ bs. bs ++ c.next_length.new.bits) (sym w.bits_are) }), λ h. refl)
+
 pub returns-clause-live : goal.returns-clause-live
 returns-clause-live c =
     let s = c.self.inside in
     subst (λ (v : BegunLengths). StartsSome (CountsLeft v.counts v.blocks) v.bits) c.self.view_is c.self.invariant.live
+
+pub returns-2-clause-whole : goal.returns-2-clause-whole
+returns-2-clause-whole c =
+    let ahead : LengthAhead (CountsLeft c.args.self.now.counts c.args.self.now.blocks) c.args.bits.now → ⊥ = λ h.
+        elim c.in_default.branch [
+          | in_default-via-in-None-1 w ↦ c.next_length.ensures.none (search rules) (record { count = h.count; member = tt; rest = h.rest; split = h.split })
+          | in_default-via-in-Some+else-starts_some w ↦
+              let p = place.Number w.in-Some.form w.in-Some.number 0 in
+              let starts = ahead_starts (CountsLeft c.args.self.now.counts c.args.self.now.blocks) c.args.bits.now c.next_length.new.bits p h w.in-Some.ensures.some.0 w.in-Some.ensures.some.1 in
+              true≢false (sym (w.starts_some.ensures.exact.1 (subst (λ (v : BegunLengths). StartsSome (CountsLeft v.counts v.blocks) (place_bits p)) (sym c.self.view_is) starts)) ∙ w.if-starts_some.false)
+        ] in
+    (λ t. absurd (true≢false (sym t)), λ h. absurd (ahead h.1))
 
 pub returns-2-clause-live : goal.returns-2-clause-live
 returns-2-clause-live c =

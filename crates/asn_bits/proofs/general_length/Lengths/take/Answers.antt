@@ -58,13 +58,13 @@ returns-clause-live c =
 pub returns-2-clause-whole : goal.returns-2-clause-whole
 returns-2-clause-whole c =
     let ahead : LengthAhead (CountsLeft c.args.self.now.counts c.args.self.now.blocks) c.args.bits.now → ⊥ = λ h.
-        elim c.in_default.branch [
-          | in_default-via-in-None-1 w ↦ c.next_length.ensures.none (search rules) (record { count = h.count; member = tt; rest = h.rest; split = h.split })
-          | in_default-via-in-Some+else-starts_some w ↦
-              let p = place.Number w.in-Some.form w.in-Some.number 0 in
-              let starts = ahead_starts (CountsLeft c.args.self.now.counts c.args.self.now.blocks) c.args.bits.now c.next_length.new.bits p h w.in-Some.ensures.some.0 w.in-Some.ensures.some.1 in
-              true≢false (sym (w.starts_some.ensures.exact.1 (subst (λ (v : BegunLengths). StartsSome (CountsLeft v.counts v.blocks) (place_bits p)) (sym c.self.view_is) starts)) ∙ w.if-starts_some.false)
-        ] in
+    elim c.in_default.branch [
+      | in_default-via-in-None-1 w ↦ c.next_length.ensures.none (search rules) (record { count = h.count; member = tt; rest = h.rest; split = h.split })
+      | in_default-via-in-Some+else-starts_some w ↦
+          let p = place.Number w.in-Some.form w.in-Some.number 0 in
+          let starts = ahead_starts (CountsLeft c.args.self.now.counts c.args.self.now.blocks) c.args.bits.now c.next_length.new.bits p h w.in-Some.ensures.some.0 w.in-Some.ensures.some.1 in
+          true≢false (sym (w.starts_some.ensures.exact.1 (subst (λ (v : BegunLengths). StartsSome (CountsLeft v.counts v.blocks) (place_bits p)) (sym c.self.view_is) starts)) ∙ w.if-starts_some.false)
+    ] in
     (λ t. absurd (true≢false (sym t)), λ h. absurd (ahead h.1))
 
 pub returns-2-clause-live : goal.returns-2-clause-live

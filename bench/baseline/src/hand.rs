@@ -1,4 +1,5 @@
-//! The two messages by hand: plain structs, each range and width a constant.
+//! The messages by hand: plain structs, each range and width a constant.
+use crate::rows::{LENGTH, STRINGS};
 
 /// Writes bits, the highest first.
 struct BitWriter {
@@ -28,12 +29,47 @@ impl BitWriter {
         }
     }
 
+    /// Adds octets.
+    fn put_octets(&mut self, octets: &[u8]) {
+        while self.count >= 8 {
+            self.count -= 8;
+            self.octets.push((self.pending >> self.count) as u8);
+        }
+        if self.count == 0 {
+            self.octets.extend_from_slice(octets);
+            return;
+        }
+        let start = self.octets.len();
+        self.octets.resize(start + octets.len(), 0);
+        let high = self.pending as u64;
+        let low = move_behind(high, self.count, octets, &mut self.octets[start..]);
+        self.pending = u128::from(low);
+    }
+
     fn finish(mut self) -> Vec<u8> {
         let eight = (self.pending << (64 - self.count)) as u64;
         let left = self.count.div_ceil(8) as usize;
         self.octets.extend_from_slice(&eight.to_be_bytes()[..left]);
         self.octets
     }
+}
+
+/// Fills `into` with the low `left` bits of `high`, 1 to 7, and `octets` behind them, a word at once. What
+/// is left over stands in the low `left` bits of the result.
+fn move_behind(mut high: u64, left: u32, octets: &[u8], into: &mut [u8]) -> u64 {
+    let (eights, rest) = octets.as_chunks::<8>();
+    let (words, singles) = into.as_chunks_mut::<8>();
+    for (eight, word) in eights.iter().zip(words) {
+        let low = u64::from_be_bytes(*eight);
+        *word = (high << (64 - left) | low >> left).to_be_bytes();
+        high = low;
+    }
+    for (octet, single) in rest.iter().zip(singles) {
+        let low = u64::from(*octet);
+        *single = (high << (8 - left) | low >> left) as u8;
+        high = low;
+    }
+    high
 }
 
 /// Reads bits, the highest first.
@@ -62,6 +98,24 @@ impl BitReader<'_> {
         let number = (eight << (self.place % 8)) >> (64 - width);
         self.place = end;
         Some(number)
+    }
+
+    /// The next `count` octets.
+    fn take_octets(&mut self, count: usize) -> Option<Vec<u8>> {
+        let end = self.place + 8 * count;
+        if end > 8 * self.octets.len() {
+            return None;
+        }
+        let front = &self.octets[self.place / 8..];
+        let shift = self.place % 8;
+        self.place = end;
+        if shift == 0 {
+            return Some(front[..count].to_vec());
+        }
+        let mut taken = vec![0; count];
+        let high = u64::from(front[0]);
+        move_behind(high, 8 - shift as u32, &front[1..=count], &mut taken);
+        Some(taken)
     }
 
     /// Whether only the zeros that fill the last octet are left.
@@ -128,6 +182,61 @@ impl Small {
             ok: !has_ok,
             flag,
         })
+    }
+}
+
+/// A SEQUENCE of 18 OCTET STRING (SIZE (LOW..HIGH)), behind a BOOLEAN where it is `FLAGGED`.
+pub struct Strings<const FLAGGED: bool, const LOW: usize, const HIGH: usize> {
+    pub flag: bool,
+    pub strings: [Vec<u8>; STRINGS],
+}
+
+/// Its lengths have 11 bits, and but for two none ends an octet.
+pub type Shifted = Strings<true, 0, 2000>;
+
+/// Its lengths have eight bits.
+pub type Aligned = Strings<false, 1000, 1255>;
+
+impl<const FLAGGED: bool, const LOW: usize, const HIGH: usize> Strings<FLAGGED, LOW, HIGH> {
+    const WIDTH: u32 = width(LOW as i64, HIGH as i64);
+
+    pub fn sample(source: &[u8]) -> Self {
+        Strings {
+            flag: true,
+            strings: std::array::from_fn(|place| source[place..place + LENGTH].to_vec()),
+        }
+    }
+
+    /// The octets, or `None` where a length is out of its range.
+    pub fn encode(&self) -> Option<Vec<u8>> {
+        let all: usize = self.strings.iter().map(|string| 2 + string.len()).sum();
+        let mut bits = BitWriter::with_capacity(8 + all);
+        if FLAGGED {
+            bits.put(1, u64::from(self.flag));
+        }
+        for string in &self.strings {
+            if !(LOW..=HIGH).contains(&string.len()) {
+                return None;
+            }
+            bits.put(Self::WIDTH, (string.len() - LOW) as u64);
+            bits.put_octets(string);
+        }
+        Some(bits.finish())
+    }
+
+    /// The message, or `None` where the octets are no encoding of one.
+    pub fn decode(octets: &[u8]) -> Option<Self> {
+        let mut bits = BitReader { octets, place: 0 };
+        let flag = !FLAGGED || bits.take(1)? == 1;
+        let mut strings = [const { Vec::new() }; STRINGS];
+        for string in &mut strings {
+            let length = bits.take(Self::WIDTH)? as usize + LOW;
+            if length > HIGH {
+                return None;
+            }
+            *string = bits.take_octets(length)?;
+        }
+        bits.is_at_end().then_some(Strings { flag, strings })
     }
 }
 

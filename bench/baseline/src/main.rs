@@ -4,7 +4,7 @@ mod hand;
 mod rows;
 mod tree;
 
-use hand::{Small, Wide};
+use hand::{Aligned, Shifted, Small, Wide};
 use std::hint::black_box;
 use std::time::Instant;
 
@@ -52,6 +52,27 @@ fn by_hand(plan: &Plan) {
         || black_box(&wide).encode().unwrap(),
         |octets| Wide::decode(octets).unwrap(),
     );
+    let source = rows::source();
+    let shifted = Shifted::sample(&source);
+    run(
+        plan,
+        "shifted",
+        500,
+        &shifted.encode().unwrap(),
+        || Shifted::sample(black_box(&source)),
+        || black_box(&shifted).encode().unwrap(),
+        |octets| Shifted::decode(octets).unwrap(),
+    );
+    let aligned = Aligned::sample(&source);
+    run(
+        plan,
+        "aligned",
+        500,
+        &aligned.encode().unwrap(),
+        || Aligned::sample(black_box(&source)),
+        || black_box(&aligned).encode().unwrap(),
+        |octets| Aligned::decode(octets).unwrap(),
+    );
 }
 
 fn by_tree(plan: &Plan) {
@@ -72,6 +93,27 @@ fn by_tree(plan: &Plan) {
         20_000,
         &tree::encode(&ty, &value).unwrap(),
         tree::wide_value,
+        || tree::encode(black_box(&ty), black_box(&value)).unwrap(),
+        |octets| tree::decode(black_box(&ty), octets).unwrap(),
+    );
+    let source = rows::source();
+    let (ty, value) = (tree::shifted_type(), tree::shifted_value(&source));
+    run(
+        plan,
+        "shifted",
+        500,
+        &tree::encode(&ty, &value).unwrap(),
+        || tree::shifted_value(black_box(&source)),
+        || tree::encode(black_box(&ty), black_box(&value)).unwrap(),
+        |octets| tree::decode(black_box(&ty), octets).unwrap(),
+    );
+    let (ty, value) = (tree::aligned_type(), tree::aligned_value(&source));
+    run(
+        plan,
+        "aligned",
+        500,
+        &tree::encode(&ty, &value).unwrap(),
+        || tree::aligned_value(black_box(&source)),
         || tree::encode(black_box(&ty), black_box(&value)).unwrap(),
         |octets| tree::decode(black_box(&ty), octets).unwrap(),
     );

@@ -1,4 +1,6 @@
-//! The ranges and the numbers of the wide message: low, high, number.
+//! What the messages have.
+
+/// The ranges and the numbers of the wide message: low, high, number.
 pub const ROWS: [(i64, i64, i64); 40] = [
     (0, 1, 0),
     (1, 255, 11),
@@ -41,3 +43,20 @@ pub const ROWS: [(i64, i64, i64); 40] = [
     (-3, 134217722, 11833360),
     (-8589934592, 8589934591, 2958016058),
 ];
+
+/// How many strings a message of strings has.
+pub const STRINGS: usize = 18;
+
+/// How many octets each has.
+pub const LENGTH: usize = 1000;
+
+/// The octets that the strings are cut from: the string behind `place` others begins at `place`.
+pub fn source() -> Vec<u8> {
+    let mut octet = 0u8;
+    let mut next = || {
+        let now = octet;
+        octet = octet.wrapping_mul(165).wrapping_add(77);
+        now
+    };
+    (0..LENGTH + STRINGS).map(|_| next()).collect()
+}

@@ -1,6 +1,6 @@
 //! The same trees of types and values, and the same steps, as the proved crates have: what they
 //! would cost in Rust.
-use crate::rows::ROWS;
+use crate::rows::{LENGTH, ROWS, STRINGS};
 
 #[derive(Clone, Copy)]
 pub struct Bounds {
@@ -24,6 +24,7 @@ pub struct Field {
 pub enum AsnType {
     Bool,
     Int(Bounds),
+    Octets { low: u32, high: u32 },
     Seq { root: Vec<Field> },
 }
 
@@ -31,6 +32,7 @@ pub enum AsnType {
 pub enum Value {
     Bool(bool),
     Int(i128),
+    Octets(Vec<u8>),
     Seq(Vec<Option<Value>>),
 }
 
@@ -81,6 +83,41 @@ pub fn wide_value() -> Value {
     Value::Seq(ROWS.iter().map(|row| Some(Value::Int(row.2.into()))).collect())
 }
 
+fn strings(low: u32, high: u32) -> impl Iterator<Item = Field> {
+    (0..STRINGS).map(move |place| {
+        field(&format!("s{place}"), AsnType::Octets { low, high }, Need::Must)
+    })
+}
+
+fn string_values(source: &[u8]) -> impl Iterator<Item = Option<Value>> + '_ {
+    source
+        .windows(LENGTH)
+        .take(STRINGS)
+        .map(|part| Some(Value::Octets(part.to_vec())))
+}
+
+pub fn shifted_type() -> AsnType {
+    let flag = field("flag", AsnType::Bool, Need::Must);
+    AsnType::Seq {
+        root: std::iter::once(flag).chain(strings(0, 2000)).collect(),
+    }
+}
+
+pub fn shifted_value(source: &[u8]) -> Value {
+    let flag = Some(Value::Bool(true));
+    Value::Seq(std::iter::once(flag).chain(string_values(source)).collect())
+}
+
+pub fn aligned_type() -> AsnType {
+    AsnType::Seq {
+        root: strings(1000, 1255).collect(),
+    }
+}
+
+pub fn aligned_value(source: &[u8]) -> Value {
+    Value::Seq(string_values(source).collect())
+}
+
 const LOWEST: i128 = i64::MIN as i128;
 const HIGHEST: i128 = i64::MAX as i128;
 
@@ -92,6 +129,9 @@ fn fits(ty: &AsnType, value: &Value) -> bool {
                 && *number <= HIGHEST
                 && bounds.low <= *number
                 && bounds.high.is_none_or(|high| *number <= high)
+        }
+        (AsnType::Octets { low, high }, Value::Octets(octets)) => {
+            *low as usize <= octets.len() && octets.len() <= *high as usize
         }
         (AsnType::Seq { root }, Value::Seq(entries)) => {
             root.len() == entries.len()
@@ -131,6 +171,33 @@ impl BitSink {
         self.pending = joined as u8;
         self.count = left;
     }
+
+    fn append_octets(&mut self, octets: &[u8]) {
+        self.octets.reserve(octets.len());
+        if self.count == 0 {
+            self.octets.extend_from_slice(octets);
+        } else {
+            let (pending, left) = (u64::from(self.pending), self.count);
+            self.pending = push_shifted(&mut self.octets, left, pending, octets) as u8;
+        }
+    }
+}
+
+/// Adds octets behind the low `left` bits of `high`, and gives those that are left over.
+fn push_shifted(into: &mut Vec<u8>, left: u32, mut high: u64, octets: &[u8]) -> u64 {
+    let eights = octets.chunks_exact(8);
+    let rest = eights.remainder();
+    for eight in eights {
+        let low = u64::from_be_bytes(eight.try_into().unwrap());
+        into.extend_from_slice(&(high << (64 - left) | low >> left).to_be_bytes());
+        high = low;
+    }
+    for octet in rest {
+        let low = u64::from(*octet);
+        into.push((high << (8 - left) | low >> left) as u8);
+        high = low;
+    }
+    high
 }
 
 pub fn encode(ty: &AsnType, value: &Value) -> Option<Vec<u8>> {
@@ -161,6 +228,11 @@ fn write(ty: &AsnType, value: &Value, sink: &mut BitSink) {
                 unreachable!()
             };
             sink.append(width(u128::from(above(bounds.low, high)) + 1), offset.into());
+        }
+        (AsnType::Octets { low, high }, Value::Octets(octets)) => {
+            let values = u128::from(*high - *low) + 1;
+            sink.append(width(values), octets.len() as u128 - u128::from(*low));
+            sink.append_octets(octets);
         }
         (AsnType::Seq { root }, Value::Seq(entries)) => {
             let mut count = 0;
@@ -207,6 +279,18 @@ impl BitCursor<'_> {
         self.octets = &self.octets[(end / 8) as usize..];
         self.offset = end % 8;
         Some(number)
+    }
+
+    fn take_octets(&mut self, count: usize) -> Option<Vec<u8>> {
+        let mut taken = Vec::with_capacity(count);
+        if self.offset == 0 {
+            taken.extend_from_slice(self.octets.get(..count)?);
+        } else {
+            let behind = self.octets.get(1..count + 1)?;
+            push_shifted(&mut taken, 8 - self.offset, u64::from(self.octets[0]), behind);
+        }
+        self.octets = &self.octets[count..];
+        Some(taken)
     }
 
     fn number_at(&self, end: u32, k: u32) -> u64 {
@@ -264,6 +348,11 @@ fn read(ty: &AsnType, except: Option<&Value>, bits: &mut BitCursor) -> Option<Va
             let high = above(bounds.low, high);
             let offset = number(width(u128::from(high) + 1), high, except, bits)?;
             Some(Value::Int(bounds.low + i128::from(offset)))
+        }
+        AsnType::Octets { low, high } => {
+            let above = u64::from(*high - *low);
+            let count = number(width(u128::from(above) + 1), above, None, bits)?;
+            Some(Value::Octets(bits.take_octets(*low as usize + count as usize)?))
         }
         AsnType::Seq { root } => {
             let count = root.iter().filter(|f| !matches!(f.need, Need::Must)).count() as u32;

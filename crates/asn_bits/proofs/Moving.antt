@@ -1,8 +1,9 @@
 -- Octets moved by fewer bits than an octet has: what is added and what is left over are what there was.
-use Rattle.std.proofs.Common.{◌≡◌, ◌<◌, ◌≤◌, ◌+◌, ◌-◌, ◌*◌, ◌/◌, ◌%◌, ◌^◌, ℕ, suc, List, [], ◌∷◌, ◌++◌, length, take, drop, get_or, refl, sym, ◌∙◌, ap, subst, arith, append_assoc, length-append}
-use Rattle.std.proofs.lemmas.List.{append-nil, length-take-le, take-append-drop, drop-drop}
+use Rattle.std.proofs.Common.{◌≡◌, ◌<◌, ◌≤◌, ◌+◌, ◌-◌, ◌*◌, ◌/◌, ◌%◌, ◌^◌, ℕ, suc, Bool, true, false, List, [], ◌∷◌, ◌++◌, length, take, drop, get_or, refl, sym, ◌∙◌, ap, subst, arith, append_assoc, length-append}
+use Rattle.std.proofs.lemmas.List.{append-nil, take_at, take_all, length-take-le, take-append-drop, drop-drop}
 use Rattle.std.proofs.lemmas.Nat.{mod-mul-add}
 use Rattle.std.proofs.Math.Seq.{drop-append_seam}
+use Rattle.std.specs.Bool.{if◌then◌else◌}
 use Rattle.std.specs.List.{AllByRecursion}
 use Rattle.asn_bits.specs.Numbers.{bits, octets, unpacked}
 use Rattle.asn_bits.specs.Moves.{Shifted, Taken}
@@ -95,6 +96,34 @@ begun_all old mid new all rest c p w v h t =
           ∙ ap (λ i. i ++ unpacked rest) s.same ∙ append_assoc (bits c p) (unpacked h.from) (unpacked rest)
           ∙ ap (λ i. bits c p ++ i) (sym (ap unpacked h.parts ∙ unpacked-append h.from rest));
     }
+
+-- nothing is left
+pub begun_whole : (old new all rest : List ℕ) (c p w : ℕ) → Begun old new all rest c p w → length rest ≡ 0 → Shifted old new all c p w
+begun_whole old new all [] c p w h z = subst (λ t. Shifted old new t c p w) (sym (h.parts ∙ append-nil h.from)) h.shifted
+begun_whole old new all (x ∷ rest) c p w h z = absurd (omega arith)
+
+-- and all of it stands behind something
+pub shifted_behind : (front new from : List ℕ) (c p w : ℕ) → Shifted [] new from c p w → Shifted front (front ++ new) from c p w
+shifted_behind front new from c p w h =
+    record { octets = h.octets; added = ap (λ t. front ++ t) h.added; count = h.count; each = h.each; same = h.same }
+
+-- what a vector held stands in front once it is longer
+pub resized_front : (b : Bool) (old pad held : List ℕ) (s n : ℕ) → held ≡ (if b then take n old ++ pad else old) → s ≡ length old → s ≤ n → take s held ≡ old
+resized_front true old pad held s n e l m =
+    let all : take n old ≡ old = take_all n old (omega arith) in
+    ap (take s) (e ∙ ap (λ t. t ++ pad) all) ∙ take_at old pad s (sym l)
+resized_front false old pad held s n e l m = ap (take s) e ∙ take_all s old (omega arith)
+
+-- and what follows is filled
+pub filled_behind : (old into held post tail : List ℕ) (s n : ℕ) → take s held ≡ old → n ≡ length old + length into → take n ((take s held ++ (into ++ post)) ++ tail) ≡ old ++ into
+filled_behind old into held post tail s n e l =
+    let parts : (take s held ++ (into ++ post)) ++ tail ≡ (old ++ into) ++ (post ++ tail) =
+    ap (λ t. (t ++ (into ++ post)) ++ tail) e ∙ ap (λ t. t ++ tail) (sym (append_assoc old into post)) ∙ append_assoc (old ++ into) post tail in
+    ap (take n) parts ∙ take_at (old ++ into) (post ++ tail) n (length-append old into ∙ sym l)
+
+-- words and what stands behind them
+pub begun_front : (old new all words rest : List ℕ) (c p w : ℕ) → Shifted old new words c p w → all ≡ words ++ rest → Begun old new all rest c p w
+begun_front old new all words rest c p w h e = record { from = words; shifted = h; parts = e }
 
 -- ---- taken from a cursor
 

@@ -1,9 +1,9 @@
 //! Whole octets, moved by fewer bits than an octet has.
-ghost use Rattle.std.specs.Prelude.{◌≡◌, ◌+◌, ◌*◌, ◌/◌, ◌%◌, ◌^◌, ◌<◌, ◌≤◌, length, drop, OnOk, OnErr, vec_len, vec_capacity};
+ghost use Rattle.std.specs.Prelude.{◌≡◌, ◌+◌, ◌*◌, ◌/◌, ◌%◌, ◌^◌, ◌<◌, ◌≤◌, length, drop, [], OnOk, OnErr, vec_len, vec_capacity};
 ghost use Rattle.asn_bits.specs.Moves.{Shifted, Taken};
 ghost use Rattle.asn_bits.specs.Numbers.{unpacked};
 
-use crate::words::{low_octet, middle, push_word};
+use crate::words::{low_octet, middle};
 use std::alloc::AllocError;
 
 // adds the octets that the bits behind the first `offset` begin with, `count` of them; an `Err` is out of
@@ -37,15 +37,34 @@ pub(crate) fn push_shifted(bytes: &mut Vec<u8>, count: u32, pending: u64, octets
     ensures len { vec_len bytes.new ≡ vec_len bytes.old + length octets.now }
     ensures capacity { vec_capacity bytes.old ≤ vec_capacity bytes.new }
 {
+    let (front, rest) = octets.split_at(octets.len() / 8 * 8);
+    let start = bytes.len();
+    if bytes.resize(start + front.len(), 0).is_err() {
+        unreachable!()
+    }
+    let high = fill_shifted(&mut bytes[start..], count, pending, front);
+    push_single(bytes, count, high, rest)
+}
+
+// fills a slice in the same way, whole words
+fn fill_shifted(into: &mut [u8], count: u32, pending: u64, octets: &[u8]) -> u64
+    requires few { (0 < count) × (count < 8) }
+    requires whole { length octets.now % 8 ≡ 0 }
+    requires room { length into.old ≡ length octets.now }
+    ensures shifted { Shifted [] into.new octets.now count pending result }
+{
     let mut high = pending;
     let mut rest = octets;
+    let mut place = 0;
     while let Some((eight, behind)) = rest.split_first_chunk::<8>() {
         let n = u64::from_be_bytes(*eight);
-        push_word(bytes, middle(high, 64, n, count));
+        let word = middle(high, 64, n, count);
+        into[place..place + 8].copy_from_slice(&word.to_be_bytes());
         high = n;
         rest = behind;
+        place += 8;
     }
-    push_single(bytes, count, high, rest)
+    high
 }
 
 // the same, one octet after the other

@@ -17,12 +17,13 @@ fail() {
 
 # ---- the calls of the libraries, each growth of the program's run refused in one case
 
-refused=200 # REFUSED of crates/asn_growths/src/main.rt
+refused=400 # REFUSED of crates/asn_growths/src/main.rt
 mkdir "$work/cases"
 for left in $(seq 1 $((refused - 1))); do
   echo "$left" >"$work/cases/$(printf %03d "$left")"
 done
-(cd crates/asn_growths && rt try --fail-alloc "$refused" --cases "$work/cases") \
+# in a few steps the interpreter gives no answer, and only the compiled program is run
+(cd crates/asn_growths && rt try --steps 1000 --fail-alloc "$refused" --cases "$work/cases") \
   >"$work/told" 2>"$work/ends" || fail "a call did not end as it should: $(tail -n 20 "$work/told" "$work/ends")"
 
 # what a case tells stands on one line, behind its number
@@ -35,9 +36,9 @@ fi
 # the last cases reach no growth, so each growth was refused in a case before
 grep -qE "^$((refused - 1))\\|done$" "$work/cases.told" || fail "there are more growths than cases"
 calls=0
-for call in Checked::new encode decode BitSink::push BitSink::push_number BitSink::push_octets \
-  BitSink::push_length BitSink::push_general_octets BitSink::push_least_octets BitSink::pad \
-  BitCursor::take_octets; do
+for call in Checked::new encode decode Checked::new:simple encode:simple decode:simple BitSink::push \
+  BitSink::push_number BitSink::push_octets BitSink::push_length BitSink::push_general_octets \
+  BitSink::push_least_octets BitSink::push_least_signed_octets BitSink::pad BitCursor::take_octets; do
   count=$(grep -c "|memory: $call|" "$work/cases.told") || fail "no growth of $call was refused"
   calls=$((calls + count))
 done

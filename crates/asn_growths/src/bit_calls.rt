@@ -6,6 +6,8 @@ use std::alloc::{AllocError, Global};
 
 const NUMBER: u64 = 0x8123_4567_89ab_cdef;
 
+const SIGNED: i128 = -0x7fff_ffff_ffff_ffff;
+
 /// How often a call on a sink is made.
 const TIMES: usize = 20;
 
@@ -97,6 +99,22 @@ pub fn octets_of_numbers(alloc: Global) -> Result<Outcome, AllocError> {
     Ok(after(
         refused,
         holds(sink, TIMES, b"\x08\x81\x23\x45\x67\x89\xab\xcd\xef"),
+    ))
+}
+
+/// `push_least_signed_octets`, of eight octets.
+pub fn octets_of_signed_numbers(alloc: Global) -> Result<Outcome, AllocError> {
+    let mut sink = BitSink::new(alloc);
+    let mut refused = false;
+    for _ in 0..TIMES {
+        if sink.push_least_signed_octets(SIGNED).is_err() {
+            refused = true;
+            sink.push_least_signed_octets(SIGNED)?;
+        }
+    }
+    Ok(after(
+        refused,
+        holds(sink, TIMES, b"\x08\x80\x00\x00\x00\x00\x00\x00\x01"),
     ))
 }
 

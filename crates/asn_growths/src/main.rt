@@ -7,16 +7,20 @@ mod message_calls;
 mod outcome;
 
 use bit_calls::{
-    fragments, lengths, numbers, octets, octets_of_numbers, octets_taken, paddings, single_bits,
+    fragments, lengths, numbers, octets, octets_of_numbers, octets_of_signed_numbers, octets_taken,
+    paddings, single_bits,
 };
-use message_calls::{check_a_type, decode_a_message, encode_a_message};
+use message_calls::{
+    check_a_type, check_simple_types, decode_a_message, decode_simple_values, encode_a_message,
+    encode_simple_values,
+};
 use outcome::Outcome;
 use std::alloc::{AllocError, Global};
 use std::io::Read;
 use std::process::ExitCode;
 
 /// The growth that the tests refuse, counted from the first of the process.
-const REFUSED: u32 = 200;
+const REFUSED: u32 = 400;
 
 /// Takes from the input how many growths are left up to the one that is refused, uses up those before, and
 /// makes each call twice. A line is written for a call that answers `Memory`, one for a call whose arguments could
@@ -38,6 +42,9 @@ fn main(rt: HostRuntime) -> ExitCode {
         all_right &= told(&rt, "Checked::new", check_a_type(alloc));
         all_right &= told(&rt, "encode", encode_a_message(alloc));
         all_right &= told(&rt, "decode", decode_a_message(alloc));
+        all_right &= told(&rt, "Checked::new:simple", check_simple_types(alloc));
+        all_right &= told(&rt, "encode:simple", encode_simple_values(alloc));
+        all_right &= told(&rt, "decode:simple", decode_simple_values(alloc));
         all_right &= told(&rt, "BitSink::push", single_bits(alloc));
         all_right &= told(&rt, "BitSink::push_number", numbers(alloc));
         all_right &= told(&rt, "BitSink::push_octets", octets(alloc));
@@ -45,6 +52,11 @@ fn main(rt: HostRuntime) -> ExitCode {
         all_right &= told(&rt, "BitSink::push_length", lengths(alloc));
         all_right &= told(&rt, "BitSink::push_general_octets", fragments(alloc));
         all_right &= told(&rt, "BitSink::push_least_octets", octets_of_numbers(alloc));
+        all_right &= told(
+            &rt,
+            "BitSink::push_least_signed_octets",
+            octets_of_signed_numbers(alloc),
+        );
         all_right &= told(&rt, "BitSink::pad", paddings(alloc));
     }
     if rt.println("done").is_err() || !all_right {

@@ -18,8 +18,6 @@ mod string_reader;
 mod string_tests;
 mod string_writer;
 #[cfg(test)]
-mod string_writing_tests;
-#[cfg(test)]
 mod tests;
 mod value_reader;
 

@@ -1,6 +1,6 @@
-//! What no clause says: that strings are decoded where there is memory, the reason of a refusal, and octets that
-//! were worked out by hand from X.691.
-use crate::decode;
+//! What no clause says: that strings are encoded and decoded where there is memory, the reason of a refusal, and
+//! octets that were worked out by hand from X.691.
+use crate::{decode, encode};
 use asn_rules::{DecodeFault, Why};
 use asn_values::{AsnType, Checked, Size, TextKind, Value, same};
 use std::alloc::{AllocError, Global};
@@ -17,7 +17,7 @@ fn any() -> Size {
     size(0, None, false)
 }
 
-/// The value is decoded from the octets.
+/// The octets are the encoding of the value, to both sides.
 fn expect(
     rt: &impl Abort,
     alloc: Global,
@@ -26,6 +26,8 @@ fn expect(
     value: &Value,
 ) -> Result<(), Fail> {
     let ty = Checked::new(alloc, ty)?;
+    let encoded = encode(alloc, &ty, value)?;
+    assert_eq!(rt; encoded.as_slice(), octets);
     let decoded = decode(alloc, &ty, octets)?;
     assert!(rt; same(&decoded, value), "at {octets:?}");
     Ok(())
@@ -46,17 +48,22 @@ fn expect_refusal(
     Ok(())
 }
 
-/// Adds the length of a fragment and its octets.
-fn push_fragment(into: &mut Vec<u8>, length: u8, count: usize) -> Result<(), AllocError> {
-    into.push(length)?;
-    for place in 0..count {
-        into.push((place % 251) as u8)?;
+/// Adds the octets from the place `from` of a long string on, each told by its place.
+fn push_places(octets: &mut Vec<u8>, from: usize, to: usize) -> Result<(), AllocError> {
+    for place in from..to {
+        octets.push((place % 251) as u8)?;
     }
     Ok(())
 }
 
+/// Adds the length of a fragment and its octets.
+fn push_fragment(into: &mut Vec<u8>, length: u8, from: usize, to: usize) -> Result<(), AllocError> {
+    into.push(length)?;
+    push_places(into, from, to)
+}
+
 #[test]
-fn bit_strings_are_read(rt: HostRuntime) -> Result<(), Fail> {
+fn bit_strings_have_octets(rt: HostRuntime) -> Result<(), Fail> {
     let alloc = rt.alloc();
     let three = Value::Bits(vec![in alloc; true, false, true]?);
     let fixed = size(3, Some(3), false);
@@ -67,10 +74,28 @@ fn bit_strings_are_read(rt: HostRuntime) -> Result<(), Fail> {
 }
 
 #[test]
-fn octet_strings_are_read_or_refused(rt: HostRuntime) -> Result<(), Fail> {
+fn bits_are_more_than_a_word(rt: HostRuntime) -> Result<(), Fail> {
+    let alloc = rt.alloc();
+    let mut bits = Vec::new(alloc);
+    for place in 0..67 {
+        bits.push(place % 3 == 0)?;
+    }
+    expect(
+        &rt,
+        alloc,
+        AsnType::Bits(size(67, Some(67), false)),
+        b"\x92\x49\x24\x92\x49\x24\x92\x49\x20",
+        &Value::Bits(bits),
+    )
+}
+
+#[test]
+fn octet_strings_have_octets_or_are_refused(rt: HostRuntime) -> Result<(), Fail> {
     let alloc = rt.alloc();
     let one = Value::Octets(b"\xab".to_vec(alloc)?);
+    let fixed = size(1, Some(1), false);
     expect(&rt, alloc, AsnType::Octets(any()), b"\x01\xab", &one)?;
+    expect(&rt, alloc, AsnType::Octets(fixed), b"\xab", &one)?;
     let large = size(40000, None, false);
     for (size, octets, at) in [
         (any(), b"\x80\x01\xab".as_slice(), 9),
@@ -84,27 +109,46 @@ fn octet_strings_are_read_or_refused(rt: HostRuntime) -> Result<(), Fail> {
 }
 
 #[test]
-fn fragments_are_read_or_refused(rt: HostRuntime) -> Result<(), Fail> {
+fn long_octet_strings_are_fragmented_or_refused(rt: HostRuntime) -> Result<(), Fail> {
     let alloc = rt.alloc();
+    let mut places = Vec::new(alloc);
     let mut octets = Vec::new(alloc);
-    push_fragment(&mut octets, 0xc1, 16384)?;
+    push_places(&mut places, 0, 16384)?;
+    push_fragment(&mut octets, 0xc1, 0, 16384)?;
     octets.push(0)?;
-    let value = Value::Octets(octets.as_slice()[1..16385].to_vec(alloc)?);
+    let value = Value::Octets(places);
     let ty = AsnType::Octets(any());
     expect(&rt, alloc, ty, octets.as_slice(), &value)?;
     octets.pop();
     octets.push(0xc1)?;
     let ty = AsnType::Octets(any());
-    expect_refusal(&rt, alloc, ty, octets.as_slice(), 131082, Why::Length)?;
-    octets.pop();
-    push_fragment(&mut octets, 0xc4, 65536)?;
+    expect_refusal(&rt, alloc, ty, octets.as_slice(), 131082, Why::Length)
+}
+
+// the largest fragment is first, and none that is smaller before it is an encoding
+#[test]
+fn longer_octet_strings_have_the_largest_fragment_first(rt: HostRuntime) -> Result<(), Fail> {
+    let alloc = rt.alloc();
+    let mut places = Vec::new(alloc);
+    let mut octets = Vec::new(alloc);
+    push_places(&mut places, 0, 81920)?;
+    push_fragment(&mut octets, 0xc4, 0, 65536)?;
+    push_fragment(&mut octets, 0xc1, 65536, 81920)?;
+    octets.push(0)?;
+    assert_eq!(rt; octets.len(), 81923);
+    let value = Value::Octets(places);
+    let ty = AsnType::Octets(any());
+    expect(&rt, alloc, ty, octets.as_slice(), &value)?;
+    let mut octets = Vec::new(alloc);
+    push_fragment(&mut octets, 0xc1, 0, 16384)?;
+    push_fragment(&mut octets, 0xc4, 16384, 81920)?;
     octets.push(0)?;
     let ty = AsnType::Octets(any());
     expect_refusal(&rt, alloc, ty, octets.as_slice(), 131082, Why::Length)
 }
 
 #[test]
-fn characters_are_read(rt: HostRuntime) -> Result<(), Fail> {
+fn characters_have_octets(rt: HostRuntime) -> Result<(), Fail> {
     let alloc = rt.alloc();
     let few = size(0, Some(3), true);
     let two = size(2, Some(2), false);
@@ -136,6 +180,28 @@ fn characters_are_read(rt: HostRuntime) -> Result<(), Fail> {
     Ok(())
 }
 
+// 9 characters of seven bits fill a word but for a bit, and 16 of four bits the whole
+#[test]
+fn texts_are_more_than_a_word(rt: HostRuntime) -> Result<(), Fail> {
+    let alloc = rt.alloc();
+    let letters = Value::Text(b"AAAAAAAAAA".to_vec(alloc)?);
+    let digits = Value::Text(b"0123456789 012345".to_vec(alloc)?);
+    expect(
+        &rt,
+        alloc,
+        AsnType::Text(TextKind::Ia5, size(10, Some(10), false)),
+        b"\x83\x06\x0c\x18\x30\x60\xc1\x83\x04",
+        &letters,
+    )?;
+    expect(
+        &rt,
+        alloc,
+        AsnType::Text(TextKind::Numeric, size(17, Some(17), false)),
+        b"\x12\x34\x56\x78\x9a\x01\x23\x45\x60",
+        &digits,
+    )
+}
+
 #[test]
 fn characters_are_refused(rt: HostRuntime) -> Result<(), Fail> {
     let alloc = rt.alloc();
@@ -151,7 +217,12 @@ fn characters_are_refused(rt: HostRuntime) -> Result<(), Fail> {
         expect_refusal(&rt, alloc, ty, octets, at, Why::Character)?;
     }
     let ty = AsnType::Text(TextKind::Ia5, size(0, Some(3), true));
-    expect_refusal(&rt, alloc, ty, b"\x81", 7, Why::Length)
+    expect_refusal(&rt, alloc, ty, b"\x81", 7, Why::Length)?;
+    let ty = AsnType::Text(TextKind::Ia5, size(0, Some(3), true));
+    let ty = Checked::new(alloc, ty)?;
+    let fault = decode(alloc, &ty, b"\x82").err();
+    assert_eq!(rt; fault, Some(DecodeFault::Truncated { taken: 8 }));
+    Ok(())
 }
 
 #[test]

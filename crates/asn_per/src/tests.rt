@@ -2,7 +2,7 @@
 //! hand from X.691.
 use crate::{decode, encode};
 use asn_rules::{DecodeFault, EncodeFault, Why};
-use asn_values::{AsnType, Bounds, Checked, Field, Item, Need, Value, same};
+use asn_values::{AsnType, Bounds, Checked, Field, Item, Need, Size, TextKind, Value, same};
 use std::alloc::{AllocError, Global};
 use std::process::Abort;
 use std::test::Fail;
@@ -78,6 +78,22 @@ fn message(alloc: Global, id: i128, ok: bool, flag: Option<bool>) -> Result<Valu
     Ok(Value::Seq(entries))
 }
 
+/// SEQUENCE { id INTEGER (0..7), ok BOOLEAN DEFAULT TRUE, note IA5String (SIZE (0..3)) OPTIONAL }
+fn noted(alloc: Global) -> Result<Checked, Fail> {
+    let few = Size {
+        low: 0,
+        high: Some(3),
+        ext: false,
+    };
+    let note = AsnType::Text(TextKind::Ia5, few);
+    let root = vec![in alloc;
+        field(alloc, "id", integer(0, Some(7)), Need::Must)?,
+        field(alloc, "ok", AsnType::Bool, Need::Default(Value::Bool(true)))?,
+        field(alloc, "note", note, Need::Optional)?,
+    ]?;
+    Ok(Checked::new(alloc, AsnType::Seq { root })?)
+}
+
 /// SEQUENCE { }
 fn no_components(alloc: Global) -> Result<Checked, Fail> {
     let root = vec![in alloc]?;
@@ -146,6 +162,25 @@ fn messages_are_refused(rt: HostRuntime) -> Result<(), Fail> {
         (b"".as_slice(), DecodeFault::Truncated { taken: 0 }),
     ] {
         expect_fault(&rt, alloc, &ty, octets, want);
+    }
+    Ok(())
+}
+
+#[test]
+fn messages_with_a_text_have_octets_or_are_refused(rt: HostRuntime) -> Result<(), Fail> {
+    let alloc = rt.alloc();
+    let ty = noted(alloc)?;
+    let plain = message(alloc, 5, true, None)?;
+    expect_pair(&rt, alloc, &ty, &plain, b"\x28")?;
+    let note = Some(Value::Text(b"A".to_vec(alloc)?));
+    let noted = vec![in alloc; Some(Value::Int(5)), Some(Value::Bool(true)), note]?;
+    expect_pair(&rt, alloc, &ty, &Value::Seq(noted), b"\x6b\x04")?;
+    for (octet, want) in [
+        (0x29, refused(8, Why::Padding)),
+        (0xac, refused(6, Why::Default)),
+        (0x6b, DecodeFault::Truncated { taken: 8 }),
+    ] {
+        expect_fault(&rt, alloc, &ty, &[octet], want);
     }
     Ok(())
 }

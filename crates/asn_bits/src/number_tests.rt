@@ -10,9 +10,10 @@ use std::alloc::Global;
 use std::process::Abort;
 use std::test::Fail;
 
-/// The least integer of 64 signed bits, and the greatest.
+/// The least integer of 64 signed bits.
 const LOWEST: i128 = -0x8000_0000_0000_0000;
 
+/// The greatest integer of 64 signed bits.
 const HIGHEST: i128 = 0x7fff_ffff_ffff_ffff;
 
 /// The least k with `values <= 2 ^ k`.
@@ -97,8 +98,8 @@ fn octets_are_the_fewest(rt: HostRuntime) -> Result<(), Fail> {
     Ok(())
 }
 
-/// The fewest octets of `z` are as many as by trial, and written behind so many bits. So is the number that they
-/// and that eight octets of it are.
+/// The fewest octets of `z` are as many as by trial, and so they are written behind any few bits; as a number they
+/// are what they are by trial, and so are eight octets.
 #[tactic(auto, using(crate::proofs::Octets::signed_fits))]
 fn expect_signed(rt: &impl Abort, alloc: Global, z: i128, offsets: u32) -> Result<(), Fail>
     requires low { lowest_integer ≤ℤ z }

@@ -162,7 +162,12 @@ fn simple_types(alloc: Global) -> Result<AsnType, AllocError> {
         field(alloc, "whole", integer(None, None), Need::Must)?,
         field(alloc, "bits", AsnType::Bits(any), Need::Must)?,
         field(alloc, "octets", AsnType::Octets(any), Need::Must)?,
-        field(alloc, "letters", AsnType::Text(TextKind::Ia5, any), Need::Must)?,
+        field(
+            alloc,
+            "letters",
+            AsnType::Text(TextKind::Ia5, any),
+            Need::Must
+        )?,
         field(alloc, "digits", digits, Need::Must)?,
         field(alloc, "marks", marks, Need::Must)?,
         field(alloc, "tone", colours(alloc)?, Need::Must)?,

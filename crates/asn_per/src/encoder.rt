@@ -138,6 +138,7 @@ fn write_integer(bounds: &Bounds, whole: i128, sink: &mut BitSink) -> Result<(),
 
 /// Writes a number between the bounds: as a constrained whole number where there are both, a
 /// semi-constrained one where there is a lower bound, else an unconstrained one.
+#[inline(always)]
 fn write_ranged(bounds: &Bounds, whole: i128, sink: &mut BitSink) -> Result<(), AllocError>
     requires of_profile { InProfile (integer (root_of (range_of bounds.now))) }
     requires of_type { FitsNumber (root_of (range_of bounds.now)) whole }

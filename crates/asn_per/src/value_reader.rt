@@ -1,7 +1,9 @@
 //! The reader of values.
-ghost use Rattle.std.specs.Prelude.{◌≡◌, ◌≤◌, ◌<◌, ◌+◌, ◌^◌, ◌/◌, ◌%◌, IfOk, IfErr, true, false, Some, None, map, length};
+ghost use Rattle.std.specs.Prelude.{◌≡◌, ◌≤◌, ◌<◌, ◌≤ℤ◌, ◌+◌, ◌^◌, ◌/◌, ◌%◌, IfOk, IfErr, IfSome, IsSome, IsNone, true, false, Some, None, map, length};
 ghost use Rattle.std.specs.Option.{option_map};
 ghost use Rattle.asn_values.specs.Shape.{sequence, closed};
+ghost use Rattle.asn_values.specs.Datum.{number};
+ghost use Rattle.asn_values.specs.Fits.{lowest_integer, highest_integer};
 ghost use Rattle.asn_values.specs.Profile.{InProfile, good_default};
 ghost use Rattle.asn_values.specs.Parts.{AreOfProfile, IsGoodDemand};
 ghost use Rattle.asn_values.specs.View.{shape_of, datum_of, fields_of, part_of_field};
@@ -14,7 +16,7 @@ ghost use Rattle.asn_rules.specs.Stops.{Stops};
 ghost use Rattle.asn_per.specs.Per.{per, per_fields};
 
 use crate::encoder::may_be_absent;
-use crate::integer_reader::{boolean, integer, power_of_two};
+use crate::integer_reader::{boolean, integer, power_of_two, take_between};
 use crate::items::enumerated;
 use crate::number_reader::{Numbers, number};
 use crate::string_reader::{bit_string, octet_string, text, utf8_string};
@@ -72,12 +74,37 @@ fn read_components(
     let mut entries = Vec::with_capacity(alloc, fields.len())?;
     let mut left = count;
     for field in fields {
+        if let Some(whole) = take_bounded(field, cursor) {
+            entries.push_reserved(Some(Value::Int(whole)));
+            continue;
+        }
         let (present, below) = presence_of(field, bitmap, left);
         left = below;
         let entry = read_entry(alloc, field, present, cursor)?;
-        entries.push(entry)?;
+        entries.push_reserved(entry);
     }
     Ok(entries)
+}
+
+/// Takes the integer of a component that is always there and has two bounds and no extension mark, where
+/// its bits are at hand and it lies between them; else all bits stay.
+#[inline(always)]
+fn take_bounded(field: &Field, bits: &mut BitCursor<'_>) -> Option<i128>
+    requires of_profile { InProfile (part_of_field field.now).shape }
+    ensures must { IsSome result → has_presence_bit (part_of_field field.now).demand ≡ false }
+    ensures some { IfSome result (λ z. Spells per_fields (Entry per (part_of_field field.now).demand (part_of_field field.now).shape true) (Some (number z)) bits.old bits.new × (lowest_integer ≤ℤ z) × (z ≤ℤ highest_integer)) }
+    ensures none { IsNone result → bits.new ≡ bits.old }
+{
+    if may_be_absent(field) {
+        return None;
+    }
+    let AsnType::Int(bounds) = &field.ty else {
+        return None;
+    };
+    match (bounds.low, bounds.high) {
+        (Some(low), Some(high)) if !bounds.ext => take_between(low, high, bits),
+        _ => None,
+    }
 }
 
 /// Reads the entry of a component, of which `present` says whether it is there.

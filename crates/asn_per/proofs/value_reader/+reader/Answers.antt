@@ -1,8 +1,13 @@
-use Rattle.std.proofs.Common.{◌≡◌, ◌⊎◌, inl, inr, ◌∷◌, [], ◌++◌, ◌∙◌, true, false, List, map, Some, None, rules, sym, ap}
+use Rattle.std.proofs.Common.{◌≡◌, ◌⊎◌, inl, inr, ◌∷◌, [], ◌++◌, ◌∙◌, true, false, List, map, Some, None, rules, refl, sym, ap, arith}
 use Rattle.std.specs.Option.{option_map}
 use Rattle.std.proofs.lemmas.List.{map-append}
 use Rattle.std.proofs.lemmas.Result.{err_from_is_err_and}
+use mir.Syntax.{w128}
+use mir.Val.{to_z, of_z}
+use Rattle.asn_bits.proofs.Above.{kept}
 use Rattle.asn_values.specs.declared.types.AsnType.{the_lemmas}
+use Rattle.asn_values.specs.declared.value.Value.TheVariants as value
+use Rattle.asn_values.specs.Datum.{number}
 use Rattle.asn_values.specs.declared.types.Field.{Field}
 use Rattle.asn_values.specs.declared.types.Need.{Need}
 use Rattle.asn_values.specs.declared.types.Need.TheVariants as needs
@@ -14,7 +19,7 @@ use Rattle.asn_rules.proofs.Leads.{stops_by}
 use Rattle.asn_rules.proofs.Listed.{spelt_inhabited}
 use Rattle.asn_rules.proofs.ListedReading.{nothing_read}
 use Rattle.asn_per.specs.Per.{per, per_fields}
-use Rattle.asn_per.proofs.ComponentsRead.{next_part, no_part, bit_there, next_either, read_ends, demand_of_part, entry_leads, parts_good, bitmap_stops_at, components_at}
+use Rattle.asn_per.proofs.ComponentsRead.{next_part, no_part, bit_there, next_must, next_either, read_ends, demand_of_part, entry_leads, datum_of-Int, parts_good, bitmap_stops_at, components_at}
 use Rattle.asn_per.proofs.EnumeratedTypes.{enumerated_of_items}
 use Rattle.asn_per.proofs.StringReading.{bits_size, octets_size, text_size, bits_lead, octets_lead, text_leads, utf8_leads}
 use Rattle.asn_per.proofs.Sequences.{few_components}
@@ -114,26 +119,46 @@ read-returns-in_ok-read_components-in-Seq-clause-done t c =
 
 pub read_components-presence_of-present-requires-clause-there : goal.read_components-presence_of-present-requires-clause-there
 read_components-presence_of-present-requires-clause-there t c =
-    let h = rw (next_part c.args.fields.now c.loop-field.field-index c.field-item.result c.loop-field-test.true c.field-item.is) at c.loop-field.invariant in
+    let h = rw (next_part c.args.fields.now c.loop-field.field-index c.field-item.result c.loop-field-test.true c.field-item.is) at c.loop-field.invariant.0 in
     λ e. bit_there h e
+
+pub read_components-loop-field-preserved-in-Some : goal.read_components-loop-field-preserved-in-Some
+read_components-loop-field-preserved-in-Some t c =
+    let h = rw (next_part c.args.fields.now c.loop-field.field-index c.field-item.result c.loop-field-test.true c.field-item.is) at c.loop-field.invariant.0 in
+    let n = next_must h (c.in-Some.ensures.must refl) in
+    let z = c.in-Some.whole in
+    let taken = c.in-Some.ensures.some in
+    let same : to_z w128 (of_z w128 z) ≡ z = kept z taken.1 taken.2 in
+    let items : map (option_map datum_of) c.push_reserved.new.self.items ≡ map (option_map datum_of) c.loop-field.entries.items ++ Some (number z) ∷ [] =
+    ap (map (option_map datum_of)) (rw same at c.push_reserved.ensures.items) ∙ map-append (option_map datum_of) c.loop-field.entries.items (Some (value.Int z) ∷ []) ∙ ap (λ d. map (option_map datum_of) c.loop-field.entries.items ++ Some d ∷ []) (datum_of-Int z) in (
+      rw items (n.more (Some (number z)) c.take_bounded.new.bits taken.0),
+      omega (arith, c.push_reserved.ensures.len, c.loop-field.invariant.1),
+      rw c.push_reserved.ensures.capacity c.loop-field.invariant.2,
+    )
 
 pub read_components-returns-in_err-entry-clause-stop : goal.read_components-returns-in_err-entry-clause-stop
 read_components-returns-in_err-entry-clause-stop t c =
-    let h = rw (next_part c.args.fields.now c.loop-field.field-index c.field-item.result c.loop-field-test.true c.field-item.is) at c.loop-field.invariant in
+    let h = rw (next_part c.args.fields.now c.loop-field.field-index c.field-item.result c.loop-field-test.true c.field-item.is) at c.loop-field.invariant.0 in
     let n = next_either h c.presence_of-present.result.0 c.presence_of-present.result.1 c.presence_of-present.ensures.must c.presence_of-present.ensures.bit in
     let p = err_from_is_err_and c.from_residual-in_err-entry.result c.from_residual-in_err-entry.ensures.1 in
-    rw (p.1, p.2) (stops_by _ n.stops c.in_err-entry.ensures.stop)
+    let still : c.take_bounded.new.bits ≡ c.loop-field.cursor = c.in_default.ensures.none refl in
+    rw (p.1, p.2) (stops_by _ n.stops (rw still at c.in_err-entry.ensures.stop))
 
 pub read_components-loop-field-preserved : goal.read_components-loop-field-preserved
 read_components-loop-field-preserved t c =
-    let h = rw (next_part c.args.fields.now c.loop-field.field-index c.field-item.result c.loop-field-test.true c.field-item.is) at c.loop-field.invariant in
+    let h = rw (next_part c.args.fields.now c.loop-field.field-index c.field-item.result c.loop-field-test.true c.field-item.is) at c.loop-field.invariant.0 in
     let n = next_either h c.presence_of-present.result.0 c.presence_of-present.result.1 c.presence_of-present.ensures.must c.presence_of-present.ensures.bit in
-    let items : map (option_map datum_of) c.push.new.self.items ≡ map (option_map datum_of) c.loop-field.entries.items ++ option_map datum_of c.in_ok-entry.entry ∷ [] =
-    ap (map (option_map datum_of)) c.in_ok-push.ensures.items ∙ map-append (option_map datum_of) c.loop-field.entries.items (c.in_ok-entry.entry ∷ []) in
-    rw items (n.more (option_map datum_of c.in_ok-entry.entry) c.read_entry.new.bits c.in_ok-entry.ensures.done)
+    let still : c.take_bounded.new.bits ≡ c.loop-field.cursor = c.in_default.ensures.none refl in
+    let pushed = c.push_reserved-in-loop-field.ensures in
+    let items : map (option_map datum_of) c.push_reserved-in-loop-field.new.self.items ≡ map (option_map datum_of) c.loop-field.entries.items ++ option_map datum_of c.in_ok-entry.entry ∷ [] =
+    ap (map (option_map datum_of)) pushed.items ∙ map-append (option_map datum_of) c.loop-field.entries.items (c.in_ok-entry.entry ∷ []) in (
+      rw items (n.more (option_map datum_of c.in_ok-entry.entry) c.read_entry.new.bits (rw still at c.in_ok-entry.ensures.done)),
+      omega (arith, pushed.len, c.loop-field.invariant.1),
+      rw pushed.capacity c.loop-field.invariant.2,
+    )
 
 pub read_components-returns-clause-done : goal.read_components-returns-clause-done
-read_components-returns-clause-done t c = read_ends c.loop-field.invariant (no_part c.args.fields.now c.loop-field.field-index c.loop-field-test.false)
+read_components-returns-clause-done t c = read_ends c.loop-field.invariant.0 (no_part c.args.fields.now c.loop-field.field-index c.loop-field-test.false)
 
 pub read_entry-returns-then-not-present-clause-done : goal.read_entry-returns-then-not-present-clause-done
 read_entry-returns-then-not-present-clause-done t c =

@@ -1,4 +1,4 @@
-use Rattle.std.proofs.Common.{map, drop}
+use Rattle.std.proofs.Common.{◌≡◌, ◌≤◌, length, map, drop, vec_len, vec_capacity}
 use Rattle.std.specs.Option.{option_map}
 use Rattle.asn_values.specs.View.{datum_of, part_of_field}
 use Rattle.asn_per.proofs.ComponentsRead.{ReadUpTo}
@@ -7,3 +7,4 @@ use Rattle.asn_per.proofs.value_reader.+reader.Given as goal
 abbrev pub invariant-read_components-loop-field : goal.invariant-read_components-loop-field
 invariant-read_components-loop-field l =
     ReadUpTo (map part_of_field l.fields) l.count l.bitmap l.initial.cursor (map part_of_field (drop l.field-index l.fields)) l.left (map (option_map datum_of) l.entries.items) l.cursor
+    × (vec_len l.entries ≡ l.field-index) × (length l.fields ≤ vec_capacity l.entries)

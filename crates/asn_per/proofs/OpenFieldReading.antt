@@ -1,6 +1,6 @@
 -- An open field is read as octets under their general length, of which there is at least one; when all have come,
 -- they are read as a complete encoding, and one that they are not is refused at the last unit of the field.
-use Rattle.std.proofs.Common.{◌≡◌, ◌≢◌, ◌%◌, ℕ, List, [], ◌∷◌, length, refl, None, false, arith}
+use Rattle.std.proofs.Common.{◌≡◌, ◌≢◌, ℕ, List, [], ◌∷◌, length, refl, None, false}
 use Rattle.asn_values.specs.Datum.{Datum}
 use Rattle.asn_values.specs.Shape.{Shape}
 use Rattle.asn_values.specs.Profile.{InProfile}
@@ -9,7 +9,7 @@ use Rattle.asn_rules.specs.Chunks.{Chunk, open_field}
 use Rattle.asn_rules.specs.Fields.{Octet}
 use Rattle.asn_rules.specs.Forks.{Same}
 use Rattle.asn_rules.specs.Frames.{Frame}
-use Rattle.asn_rules.specs.Languages.{Spells, Short, Refused, SomeContent}
+use Rattle.asn_rules.specs.Languages.{Spells, Refused, SomeContent}
 use Rattle.asn_rules.specs.Live.{IsContent}
 use Rattle.asn_rules.specs.Reading.{Wholes, Holds}
 use Rattle.asn_rules.specs.Stops.{Stops}

@@ -11,8 +11,8 @@ use Rattle.asn_per.specs.Rules.{per_ruling}
 use Rattle.asn_per.proofs.Decoding.{take_all, front_is, bits_fill, octets_left_fewer, value_read, refusal_left, refusal_read, short_read, long_read, units_count}
 use Rattle.asn_per.proofs.decoder.decode.Goals as goal
 
-pub message-requires-clause-whole : goal.message-requires-clause-whole
-message-requires-clause-whole c = rw c.over-bits.ensures (bits_fill (take c.min-given.result c.args.octets.now))
+pub read_complete-requires-clause-whole : goal.read_complete-requires-clause-whole
+read_complete-requires-clause-whole c = rw c.over-bits.ensures (bits_fill (take c.min-given.result c.args.octets.now))
 
 pub overflow_sub-used : goal.overflow_sub-used
 overflow_sub-used c =

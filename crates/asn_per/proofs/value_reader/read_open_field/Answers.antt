@@ -2,7 +2,6 @@ use Rattle.std.proofs.Common.{◌≡◌, []}
 use Rattle.std.proofs.lemmas.Result.{err_from_is_err_and}
 use Rattle.asn_values.specs.View.{shape_of}
 use Rattle.asn_rules.proofs.Leads.{stops_by}
-use Rattle.asn_rules.specs.declared.stop.Stop.TheVariants as stop
 use Rattle.asn_per.proofs.Decoding.{bits_fill}
 use Rattle.asn_per.proofs.OpenFieldReading.{octets_stop, value_held, more_held, none_held}
 use Rattle.asn_per.proofs.value_reader.read_open_field.Goals as goal

@@ -109,7 +109,15 @@ fn message_type(alloc: Global) -> Result<AsnType, AllocError> {
         field(alloc, "b", from_zero(), Need::Must)?,
         field(alloc, "c", from_zero(), Need::Must)?,
         field(alloc, "d", from_zero(), Need::Must)?,
-        field(alloc, "inner", AsnType::Seq { root: inner, ext: None }, Need::Must)?,
+        field(
+            alloc,
+            "inner",
+            AsnType::Seq {
+                root: inner,
+                ext: None
+            },
+            Need::Must
+        )?,
     ]?;
     Ok(AsnType::Seq { root, ext: None })
 }

@@ -1,22 +1,18 @@
 -- What a SEQUENCE and a CHOICE need to have no fault by themselves.
-use Rattle.std.proofs.Common.{◌≡◌, ◌≤◌, ◌<◌, ◌+◌, ◌++◌, ◌||◌, ◌⊎◌, inl, inr, ℕ, suc, Bool, true, false, not, List, [], ◌∷◌, length, map, nat_lt, refl, ap, sym, arith}
+use Rattle.std.proofs.Common.{◌≡◌, ◌≤◌, ◌<◌, ◌+◌, ◌++◌, ◌||◌, ◌⊎◌, inl, inr, Bool, true, false, List, length, map, nat_lt, refl, arith}
 use Rattle.std.specs.List.{list_all}
 use Rattle.std.proofs.lemmas.Bool.{le-ltb, lt-ltb, ne_eqb}
 use Rattle.std.proofs.lemmas.List.{length-map}
-use Rattle.asn_values.specs.declared.types.Alt.{Alt}
 use Rattle.asn_values.specs.declared.types.Field.{Field}
 use Rattle.asn_values.specs.Shape.{sequence, choice, Fields, MoreFields, more_fields, demands, field_names, Alternatives, MoreAlternatives, more_alternatives, alternative_names, count}
 use Rattle.asn_values.specs.Profile.{EmptyRange, SizeTooLarge, DuplicateName, BadEnumeration, UselessMark, BadDefault, ZeroWidthElement, AdditionNotOptional, TooMany, TooDeep, bad_names, bad_default_at, is_optional, too_many_here, most_components, most_additions, most_alternatives}
 use Rattle.asn_values.specs.Walk.{IsFaultless}
-use Rattle.asn_values.specs.View.{Part, fields_of, part_of_field, Branch, alternatives_of, branch_of}
+use Rattle.asn_values.specs.View.{fields_of, part_of_field}
+use Rattle.asn_values.proofs.Entries.{length-demands}
 
 -- ---- a SEQUENCE
 
 -- how many components there are
-length-demands : (ps : List Part) → length (demands (fields_of ps)) ≡ length ps
-length-demands [] = refl
-length-demands (p ∷ ps) = ap suc (length-demands ps)
-
 pub length-fields : (fs : List Field) → length (demands (fields_of (map part_of_field fs))) ≡ length fs
 length-fields fs = simp (length-demands, length-map)
 
@@ -46,14 +42,6 @@ many_components root more (inr many) = one (nat_lt most_components (length (dema
     one false e = e
 
 -- ---- a CHOICE
-
--- how many alternatives there are
-count-branches : (bs : List Branch) → count (alternatives_of bs) ≡ length bs
-count-branches [] = refl
-count-branches (b ∷ bs) = ap suc (count-branches bs)
-
-pub count-alternatives : (alts : List Alt) → count (alternatives_of (map branch_of alts)) ≡ length alts
-count-alternatives alts = simp (count-branches, length-map)
 
 -- it has an alternative in the root, and its names and the number of its alternatives are right
 pub faultless_choice : (root : Alternatives) (more : MoreAlternatives) → 0 < count root → bad_names (alternative_names root ++ alternative_names (more_alternatives more)) ≡ false →

@@ -12,20 +12,18 @@ use Rattle.asn_values.specs.declared.types.Item.{Item}
 use Rattle.asn_values.specs.declared.types.Size.{Size}
 use Rattle.asn_values.specs.declared.types.TextKind.{TextKind}
 use Rattle.asn_values.specs.declared.fault.TypeFault.{TypeFault}
-use Rattle.asn_values.specs.Shape.{Shape, sequence, sequence_of, choice, Fields, Alternatives}
+use Rattle.asn_values.specs.Shape.{Shape, Fields, Alternatives}
 use Rattle.asn_values.specs.Measures.{fields_depth, fields_nodes, choice_depth, choice_nodes}
 use Rattle.asn_values.specs.Profile.{some_field, some_alternative}
 use Rattle.asn_values.specs.Walk.{IsFaultless, Extent, of_type, of_types, beside, IsSoundWithin, IsFaultWithin}
 use Rattle.asn_values.specs.View.{shape_of, fields_of, part_of_field, alternatives_of, branch_of}
 use Rattle.asn_values.proofs.Views.{shape_of-Bool, shape_of-Null, shape_of-Int, shape_of-Enum, shape_of-Bits, shape_of-Octets, shape_of-Text, shape_of-Utf8, sequence_of_fields, list_of_elements, choice_of_alternatives}
-use Rattle.asn_values.proofs.Walks.{IsWalkedTo, goes_on, ends, fault_among, IsSimple, sound_simple, around, IsAround}
+use Rattle.asn_values.proofs.Alternatives.{shape_of_branch}
+use Rattle.asn_values.proofs.Walks.{IsWalkedTo, goes_on, ends, fault_among, IsSimple, sound_simple, IsAround}
 
--- the shape of a component's type, and of an alternative's
+-- the shape of a component's type
 pub shape_of_part : (x : Field) → (part_of_field x).shape ≡ shape_of x.ty
 shape_of_part x = search (rules, the_lemmas)
-
-pub shape_of_branch : (x : Alt) → (branch_of x).shape ≡ shape_of x.ty
-shape_of_branch x = search (rules, the_lemmas)
 
 -- ---- the parts of a type one after the other, of which `shape` is the type's
 

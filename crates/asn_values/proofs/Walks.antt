@@ -1,10 +1,10 @@
 -- How what a walk found of the parts of a type tells what holds of the whole.
-use Rattle.std.proofs.Common.{◌≡◌, ◌≤◌, ◌<◌, ◌+◌, ◌-◌, ◌||◌, inl, inr, ℕ, suc, Bool, true, false, List, [], ◌∷◌, nat_lt, Option, Some, None, refl, sym, subst, arith}
+use Rattle.std.proofs.Common.{◌≡◌, ◌<◌, ◌-◌, ◌||◌, inl, inr, ℕ, suc, Bool, true, false, List, [], ◌∷◌, nat_lt, Option, Some, None, refl, sym, subst, arith}
 use Rattle.asn_values.specs.declared.fault.TypeFault.{TypeFault}
 use Rattle.asn_values.specs.declared.fault.TypeFault.TheVariants as fault
 use Rattle.asn_values.specs.Shape.{Shape}
 use Rattle.asn_values.specs.Measures.{depth, nodes}
-use Rattle.asn_values.specs.Profile.{Condition, EmptyRange, SizeTooLarge, DuplicateName, BadEnumeration, UselessMark, BadDefault, ZeroWidthElement, AdditionNotOptional, TooMany, TooDeep, somewhere, too_many_here, most_levels, most_nodes, InProfile}
+use Rattle.asn_values.specs.Profile.{EmptyRange, SizeTooLarge, DuplicateName, BadEnumeration, UselessMark, BadDefault, ZeroWidthElement, AdditionNotOptional, TooMany, TooDeep, somewhere, too_many_here, most_levels, most_nodes, InProfile}
 use Rattle.asn_values.specs.Walk.{test_of, condition_of, IsFound, IsFaultless, Extent, of_type, beside, of_types, IsSoundWithin, IsFaultWithin}
 use Rattle.asn_values.specs.View.{Holds}
 use Rattle.std.proofs.lemmas.Bool.{le-ltb, lt-ltb}

@@ -165,7 +165,7 @@ impl BitSink {
     }
 }
 
-// makes room for three words: two that go out and one that waits; where memory is needed, for eight
+// makes room for three words: two that go out and one that waits; where memory is needed, for sixteen
 fn make_room(octets: &mut Vec<u8>) -> Result<(), AllocError>
     ensures ok { OnOk result (vec_len octets.new + 24 ≤ vec_capacity octets.new) }
     ensures items { octets.new.items ≡ octets.old.items }
@@ -173,7 +173,7 @@ fn make_room(octets: &mut Vec<u8>) -> Result<(), AllocError>
     ensures capacity { vec_capacity octets.old ≤ vec_capacity octets.new }
 {
     if octets.capacity() - octets.len() < 24 {
-        octets.reserve(64)?;
+        octets.reserve(128)?;
     }
     Ok(())
 }

@@ -211,9 +211,18 @@ fn write_components(
         ++ component_bits (fields_of (map part_of_field fields.now)) (map (option_map datum_of) entries.now)) }
 {
     for (field, entry) in fields.iter().zip(entries) {
-        if let Some(value) = entry
-            && is_encoded(field, entry)
-        {
+        let Some(value) = entry else {
+            continue;
+        };
+        // integers that are always there are most often met, so these are written before any other kind
+        // is asked for
+        if let (AsnType::Int(bounds), Value::Int(whole), Need::Must) = (
+            &field.ty,
+            value,
+            &field.need,
+        ) {
+            write_integer(bounds, *whole, sink)?;
+        } else if is_encoded(field, entry) {
             write(&field.ty, value, sink)?;
         }
     }

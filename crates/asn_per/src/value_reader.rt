@@ -247,7 +247,7 @@ fn presence_of(field: &Field, bitmap: u64, left: u32) -> (bool, u32)
 }
 
 /// How many presence bits the components have.
-fn bitmap_width(fields: &[Field]) -> u32
+pub(crate) fn bitmap_width(fields: &[Field]) -> u32
     requires { length fields.now ≤ 64 }
     ensures count { result ≡ bitmap_length (fields_of (map part_of_field fields.now)) }
     ensures few { result ≤ 64 }

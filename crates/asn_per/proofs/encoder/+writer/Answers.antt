@@ -3,14 +3,18 @@ use Rattle.std.specs.Option.{option_map}
 use Rattle.std.proofs.lemmas.Result.{on_ok_weaker}
 use Rattle.std.proofs.lemmas.Slice.Zip.{either_empty_from_Zip}
 use Rattle.asn_values.specs.declared.types.AsnType.{the_lemmas}
-use Rattle.asn_values.specs.Shape.{Shape}
-use Rattle.asn_values.specs.Fits.{FitsEach}
+use Rattle.asn_values.specs.Shape.{Shape, integer}
+use Rattle.asn_values.specs.Datum.{number}
+use Rattle.asn_values.specs.Fits.{Fits, FitsEach}
 use Rattle.asn_values.specs.Parts.{AreOfProfile}
-use Rattle.asn_values.specs.View.{datum_of, fields_of, part_of_field}
+use Rattle.asn_values.specs.View.{shape_of, datum_of, demand_of, range_of, fields_of, part_of_field}
+use Rattle.asn_values.proofs.Views.{shape_of-Int}
 use Rattle.asn_values.proofs.Components.{shape_of_part}
 use Rattle.asn_bits.specs.Numbers.{bits}
+use Rattle.asn_bits.proofs.Above.{kept}
 use Rattle.asn_rules.specs.Components.{is_spelled}
 use Rattle.asn_per.specs.Laws.{per_bits}
+use Rattle.asn_per.proofs.ComponentsRead.{datum_of-Int, demand_of_part}
 use Rattle.asn_per.proofs.Sequences.{of_sequence, parts_of_profile, entries_fit, sequence_written, few_components}
 use Rattle.asn_per.proofs.Writing.{written_more, written_ends, either_map}
 use Rattle.asn_per.proofs.encoder.+writer.Goals as goal
@@ -45,9 +49,23 @@ write-returns-in_ok-push_number-in-Seq t c =
     (c.deref-in-Seq-3.ensures.value ∙ sym c.deref-in-Seq.ensures.value) (c.deref-in-Seq-4.ensures.value ∙ sym c.deref-in-Seq-2.ensures.value) e)
     c.write_components.ensures
 
-pub write_components-loop-field-preserved-in-loop-field :
-    goal.write_components-loop-field-preserved-in-loop-field
-write_components-loop-field-preserved-in-loop-field t c =
+pub write_components-loop-field-preserved-in-Must-1 : goal.write_components-loop-field-preserved-in-Must-1
+write_components-loop-field-preserved-in-Must-1 t c =
+    let e : c.loop-field.field-iterator.a.rest.now ≡ c.in-Some.field.now ∷ c.next.new.self.a.rest.now = c.in-Some.ensures.steps.0 in
+    let f : c.loop-field.field-iterator.b.rest.now ≡ c.in-Some.entry.now ∷ c.next.new.self.b.rest.now = c.in-Some.ensures.steps.1 in
+    let i = c.in-Int-Int-Must in
+    let some : option_map datum_of c.in-Some.entry.now ≡ Some (number i.whole) = ap (option_map datum_of) c.in-Some-entry.is ∙ ap Some (ap datum_of i.is-1 ∙ datum_of-Int i.whole) in
+    let spelt : is_spelled (part_of_field c.in-Some.field.now).demand (Some (number i.whole)) ≡ true = ap (λ d. is_spelled d (Some (number i.whole))) (demand_of_part c.in-Some.field.now ∙ ap demand_of i.is-2) in
+    let shape : (part_of_field c.in-Some.field.now).shape ≡ integer (range_of i.bounds) = shape_of_part c.in-Some.field.now ∙ ap shape_of i.is-0 ∙ shape_of-Int i.bounds in
+    let h = rw (e, f, some) at c.loop-field.invariant in
+    let fits : Fits (integer (range_of i.bounds)) (number i.whole) = rw shape at h.components.of_type.0 in
+    let same = kept i.whole fits.0 fits.1 in
+    written_more h spelt
+    (rw same at c.in_ok-write_integer.ensures ∙ ap (λ (t : Shape). c.loop-field.sink ++ per_bits t (number i.whole)) (sym shape))
+
+pub write_components-loop-field-preserved-in-Continue-branch-2 :
+    goal.write_components-loop-field-preserved-in-Continue-branch-2
+write_components-loop-field-preserved-in-Continue-branch-2 t c =
     let e : c.loop-field.field-iterator.a.rest.now ≡ c.in-Some.field.now ∷ c.next.new.self.a.rest.now = c.in-Some.ensures.steps.0 in
     let f : c.loop-field.field-iterator.b.rest.now ≡ c.in-Some.entry.now ∷ c.next.new.self.b.rest.now = c.in-Some.ensures.steps.1 in
     let some : option_map datum_of c.in-Some.entry.now ≡ Some (datum_of c.in-Some-entry.value) = ap (option_map datum_of) c.in-Some-entry.is in

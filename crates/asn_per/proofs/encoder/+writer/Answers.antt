@@ -29,36 +29,6 @@ complete_encoding-returns t c =
     ] in
     completed cs c.if-is_empty.sink c.pad.new.self c.into_octets.result.items top c.in_ok-pad.ensures.ok c.into_octets.ensures.packed
 
-pub write-presence_bitmap-count-requires-clause-of_profile :
-    goal.write-presence_bitmap-count-requires-clause-of_profile
-write-presence_bitmap-count-requires-clause-of_profile t c =
-    parts_of_profile (of_sequence _ _ _ _ _ _ c.in-Seq.is c.in-Seq-value.is c.deref-in-Seq.ensures.value c.deref-in-Seq-2.ensures.value) c.requires.of_profile
-
-pub write-presence_bitmap-count-requires-clause-of_type :
-    goal.write-presence_bitmap-count-requires-clause-of_type
-write-presence_bitmap-count-requires-clause-of_type t c =
-    entries_fit (of_sequence _ _ _ _ _ _ c.in-Seq.is c.in-Seq-value.is c.deref-in-Seq.ensures.value c.deref-in-Seq-2.ensures.value) c.requires.of_type
-
-pub write-presence_bitmap-count-requires-clause-few :
-    goal.write-presence_bitmap-count-requires-clause-few
-write-presence_bitmap-count-requires-clause-few t c =
-    few_components c.deref-in-Seq.result.now (of_sequence _ _ _ _ _ _ c.in-Seq.is c.in-Seq-value.is c.deref-in-Seq.ensures.value c.deref-in-Seq-2.ensures.value).shape c.requires.of_profile
-
-pub write-write_components-requires : goal.write-write_components-requires
-write-write_components-requires t c =
-    let s = of_sequence _ _ _ _ _ _ c.in-Seq.is c.in-Seq-value.is c.deref-in-Seq-3.ensures.value c.deref-in-Seq-4.ensures.value in
-    let good : AreOfProfile (fields_of (map part_of_field c.deref-in-Seq-3.result.now)) = parts_of_profile s c.requires.of_profile in
-    let fits : FitsEach (fields_of (map part_of_field c.deref-in-Seq-3.result.now)) (map (option_map datum_of) c.deref-in-Seq-4.result.now) = entries_fit s c.requires.of_type in
-    (search (rules, the_lemmas), (good, fits))
-
-pub write-returns-in_ok-push_number-in-Seq : goal.write-returns-in_ok-push_number-in-Seq
-write-returns-in_ok-push_number-in-Seq t c =
-    let s = of_sequence _ _ _ _ _ _ c.in-Seq.is c.in-Seq-value.is c.deref-in-Seq.ensures.value c.deref-in-Seq-2.ensures.value in
-    on_ok_weaker c.write_components.result
-    (λ e. sequence_written c.args.sink.now (bits c.presence_bitmap-count.result.0 c.presence_bitmap-count.result.1) c.push_number.new.self c.write_components.new.sink c.deref-in-Seq.result.now c.deref-in-Seq-3.result.now c.deref-in-Seq-2.result.now c.deref-in-Seq-4.result.now s c.requires.of_type c.in_ok-push_number-in-Seq.ensures.ok c.presence_bitmap-count.ensures.bitmap
-    (c.deref-in-Seq-3.ensures.value ∙ sym c.deref-in-Seq.ensures.value) (c.deref-in-Seq-4.ensures.value ∙ sym c.deref-in-Seq-2.ensures.value) e)
-    c.write_components.ensures
-
 pub write_components-loop-field-preserved-in-loop-field :
     goal.write_components-loop-field-preserved-in-loop-field
 write_components-loop-field-preserved-in-loop-field t c =
@@ -74,4 +44,12 @@ pub write_components-returns : goal.write_components-returns
 write_components-returns t c =
     let none : (c.loop-field.field-iterator.a.rest.now ≡ []) ⊎ (c.loop-field.field-iterator.b.rest.now ≡ []) =
     either_empty_from_Zip c.loop-field.field-iterator c.next.new.self c.next.result c.in-None.is c.next.ensures.steps in
-    written_ends c.loop-field.invariant (either_map part_of_field (option_map datum_of) none)
+    let components = written_ends c.loop-field.invariant (λ es. refl) (either_map part_of_field (option_map datum_of) none) in
+    ?
+
+pub write_additions-loop-field-preserved-in-loop-field :
+    goal.write_additions-loop-field-preserved-in-loop-field
+write_additions-loop-field-preserved-in-loop-field t c = ?
+
+pub write_additions-returns : goal.write_additions-returns
+write_additions-returns t c = ?

@@ -111,7 +111,7 @@ some_above_zero (field name must t fs) es o h n = absurd (true≢false (sym o))
 some_above_zero (field name (default d) t fs) es o h n = absurd (true≢false (sym o))
 
 -- where one is present, there is one
-some_there : (es : List (Option Datum)) → any_present es ≡ true → 1 ≤ length es
+pub some_there : (es : List (Option Datum)) → any_present es ≡ true → 1 ≤ length es
 some_there [] h = absurd (true≢false (sym h))
 some_there (e ∷ es) h = omega arith
 

@@ -152,7 +152,6 @@ fn write(
                 _ => Ok(()),
             }
         }
-        AsnType::SeqOf(_, _) | AsnType::Choice { .. } => unreachable!(),
     }
 }
 

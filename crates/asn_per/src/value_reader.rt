@@ -40,8 +40,7 @@ pub(crate) fn read(alloc: Global, ty: &AsnType, bits: &mut BitCursor<'_>) -> Res
         AsnType::Octets(size) => Ok(Value::Octets(octet_string(alloc, size, bits)?)),
         AsnType::Text(kind, size) => Ok(Value::Text(text(alloc, *kind, size, bits)?)),
         AsnType::Utf8 => Ok(Value::Utf8(utf8_string(alloc, bits)?)),
-        AsnType::SeqOf(_, _) | AsnType::Choice { .. } => unreachable!(),
-        AsnType::Seq { root, .. } => {
+        AsnType::Seq { root } => {
             let count = bitmap_width(root);
             let set = Numbers {
                 low: 0,
@@ -140,9 +139,7 @@ fn absent(field: &Field) -> Option<Value>
             | Value::Octets(_)
             | Value::Text(_)
             | Value::Utf8(_)
-            | Value::Seq(_)
-            | Value::List(_)
-            | Value::Choice(_, _),
+            | Value::Seq(_),
         ) => unreachable!(),
     }
 }

@@ -3,7 +3,7 @@ use Rattle.std.specs.Option.{option_map}
 use Rattle.asn_values.specs.View.{datum_of, part_of_field, fields_of}
 use Rattle.asn_per.specs.Laws.{component_bits}
 use Rattle.asn_per.proofs.Writing.{Written}
-use Rattle.asn_per.proofs.AdditionWriting.{Opened, open_bits}
+use Rattle.asn_per.proofs.SequenceWriting.{Opened, open_bits}
 use Rattle.asn_per.proofs.encoder.+writer.Given as goal
 
 abbrev pub invariant-write_components-loop-field : goal.invariant-write_components-loop-field

@@ -2,7 +2,7 @@ use Rattle.std.proofs.Common.{rules, ◌≡◌, is_some, true, false}
 use Rattle.std.specs.List.{Any, All}
 use Rattle.std.proofs.iter.runs.Made.{chains}
 use Rattle.asn_values.specs.View.{datum_of}
-use Rattle.asn_per.proofs.AdditionWriting.{present_test}
+use Rattle.asn_per.proofs.SequenceWriting.{present_test}
 use Rattle.asn_per.proofs.encoder.is_any_present.Goals as goal
 
 pub returns : goal.returns

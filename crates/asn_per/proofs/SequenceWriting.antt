@@ -1,11 +1,14 @@
 -- The bits of a SEQUENCE as its writer puts them: the extension bit, the root, and the extension additions.
-use Rattle.std.proofs.Common.{◌≡◌, ◌≤◌, ◌+◌, ◌-◌, ℕ, suc, Bool, true, false, ◌&&◌, List, [], ◌∷◌, ◌++◌, length, map, take, drop, Option, Some, None, is_some, refl, sym, ◌∙◌, ap, subst, arith, append_assoc}
+use Rattle.std.proofs.Common.{◌≡◌, ◌≤◌, ◌+◌, ◌-◌, ℕ, suc, Bool, true, false, ◌&&◌, List, [], ◌∷◌, ◌++◌, length, map, take, drop, Option, Some, None, is_some, Vec, Global, refl, sym, ◌∙◌, ap, subst, arith, append_assoc}
 use Rattle.std.specs.List.{list_all, list_any, Any, All}
 use Rattle.std.specs.Option.{option_map}
+use Rattle.std.proofs.lemmas.List.{append-nil}
 use Rattle.std.proofs.lemmas.List.Folds.{list_any-from_Any, list_any_none}
 use Rattle.asn_values.specs.Datum.{Datum, components, components_of, component_list}
-use Rattle.asn_values.specs.Shape.{Shape, Demand, must, optional, default, Fields, no_fields, field, MoreFields, marked, is_marked, demands, sequence}
-use Rattle.asn_values.specs.View.{Part, fields_of}
+use Rattle.asn_values.specs.Shape.{Shape, Demand, must, optional, default, Fields, no_fields, field, MoreFields, closed, marked, is_marked, demands, sequence}
+use Rattle.asn_values.specs.declared.types.Field.{Field}
+use Rattle.asn_values.specs.declared.value.Value.{Value}
+use Rattle.asn_values.specs.View.{Part, datum_of, fields_of, more_fields_of, part_of_field}
 use Rattle.asn_values.specs.Profile.{is_optional}
 use Rattle.asn_bits.specs.Numbers.{bits}
 use Rattle.asn_rules.specs.Chunks.{Chunk, ones, flat}
@@ -16,6 +19,7 @@ use Rattle.asn_per.specs.Per.{spelled, per, per_each, per_open, per_additions, a
 use Rattle.asn_per.specs.Laws.{per_bits, component_bits}
 use Rattle.asn_per.specs.Additions.{AreOptional, root_bits, addition_bits}
 use Rattle.asn_per.proofs.AdditionLanguages.{count_bits}
+use Rattle.asn_per.proofs.Sequences.{OfSequence, bits_of_parts, mark_of_fields, ours_are, theirs_are}
 use Rattle.asn_per.proofs.Spellings.{component_list-of}
 use Rattle.asn_per.proofs.Writing.{Left, Written, written_starts, written_on, written_past, written_ends}
 
@@ -96,6 +100,13 @@ additions_written before first middle now bitmap fs es n some all least few f m 
     ∙ ap (λ (l : List ℕ). before ++ (small_length (length (demands fs)) ++ (l ++ opens))) b
     ∙ ap (λ (l : List ℕ). before ++ l) (sym (additions_are fs es some))
 
+-- ---- the root
+
+-- its presence bits and its components
+pub root_written : (before bitmap middle now : List ℕ) (fs : Fields) (es : List (Option Datum)) → middle ≡ before ++ bitmap → bitmap ≡ presence (demands fs) es → now ≡ middle ++ component_bits fs es → now ≡ before ++ root_bits fs es
+root_written before bitmap middle now fs es m b o =
+    o ∙ ap (λ (l : List ℕ). l ++ component_bits fs es) (m ∙ ap (λ (l : List ℕ). before ++ l) b) ∙ append_assoc before (presence (demands fs) es) (component_bits fs es)
+
 -- ---- the SEQUENCE
 
 module _ (root : Fields) (more : MoreFields) (es : List (Option Datum)) where
@@ -122,3 +133,41 @@ module _ (root : Fields) (more : MoreFields) (es : List (Option Datum)) where
       ∙ ap (λ (l : List ℕ). l ++ addition_bits more theirs) (flat-append spelled (ones front) (per_each root ours) ∙ ap (λ (l : List ℕ). l ++ component_bits root ours) (flat-ones spelled front))
       ∙ ap (λ (l : List ℕ). l ++ addition_bits more theirs) (append_assoc mark (presence (demands root) ours) (component_bits root ours))
       ∙ append_assoc mark (root_bits root ours) (addition_bits more theirs)
+
+-- ---- what is written of a SEQUENCE
+
+-- its extension bit, its root and its additions
+pub sequence_written : {t : Shape} {d : Datum} (before first middle now : List ℕ) (fs : List Field) (ext : Option (Vec Field Global)) (vs ours theirs : List (Option Value)) (m b : Bool)
+    → OfSequence t d (map part_of_field fs) (more_fields_of ext) (map (option_map datum_of) vs) → ours ≡ take (length fs) vs → theirs ≡ drop (length fs) vs
+    → m ≡ is_some ext → b ≡ any_present (map (option_map datum_of) theirs) → first ≡ before ++ extension_bit m b
+    → middle ≡ first ++ root_bits (fields_of (map part_of_field fs)) (map (option_map datum_of) ours)
+    → now ≡ middle ++ addition_bits (more_fields_of ext) (map (option_map datum_of) theirs) → now ≡ before ++ per_bits t d
+sequence_written before first middle now fs ext vs ours theirs m b s o h k p f c a =
+    let root = fields_of (map part_of_field fs) in
+    let more = more_fields_of ext in
+    let es = map (option_map datum_of) vs in
+    let n = length (demands root) in
+    let gs = map (option_map datum_of) ours in
+    let hs = map (option_map datum_of) theirs in
+    let present : b ≡ any_present (drop n es) = p ∙ ap any_present (theirs_are fs vs theirs h) in
+    a
+    ∙ ap (λ (l : List ℕ). l ++ addition_bits more hs) (c ∙ ap (λ (l : List ℕ). l ++ root_bits root gs) f)
+    ∙ append_assoc (before ++ extension_bit m b) (root_bits root gs) (addition_bits more hs)
+    ∙ append_assoc before (extension_bit m b) (root_bits root gs ++ addition_bits more hs)
+    ∙ ap (λ (i : Bool). before ++ (extension_bit i b ++ (root_bits root gs ++ addition_bits more hs))) (k ∙ sym (mark_of_fields ext))
+    ∙ ap (λ (i : Bool). before ++ (extension_bit (is_marked more) i ++ (root_bits root gs ++ addition_bits more hs))) present
+    ∙ ap (λ (l : List (Option Datum)). before ++ (extension_bit (is_marked more) (any_present (drop n es)) ++ (root_bits root l ++ addition_bits more hs))) (ours_are fs vs ours o)
+    ∙ ap (λ (l : List (Option Datum)). before ++ (extension_bit (is_marked more) (any_present (drop n es)) ++ (root_bits root (take n es) ++ addition_bits more l))) (theirs_are fs vs theirs h)
+    ∙ ap (λ (l : List ℕ). before ++ l) (sym (sequence_is root more es) ∙ sym (bits_of_parts s))
+
+-- nothing stands behind the root without a mark
+pub unmarked_ends : (now : List ℕ) (ext : Option (Vec Field Global)) (es : List (Option Datum)) → ext ≡ None → now ≡ now ++ addition_bits (more_fields_of ext) es
+unmarked_ends now ext es none = sym (append-nil now) ∙ ap (λ (e : Option (Vec Field Global)). now ++ addition_bits (more_fields_of e) es) (sym none)
+
+-- nor where no addition is present
+pub none_ends : (now : List ℕ) (more : MoreFields) (es : List (Option Datum)) → any_present es ≡ false → now ≡ now ++ addition_bits more es
+none_ends now more es none = sym (append-nil now) ∙ ap (λ (l : List ℕ). now ++ l) (sym (nothing more))
+  where
+    nothing : (more : MoreFields) → addition_bits more es ≡ []
+    nothing closed = refl
+    nothing (marked fs) = ap (λ (b : Bool). flat spelled (elim b [ true ↦ ones (small_length (length (demands fs)) ++ presence (demands fs) es) ++ per_open fs es | false ↦ [] ])) none

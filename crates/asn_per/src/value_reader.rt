@@ -106,8 +106,8 @@ fn read_entry(
     }
 }
 
-/// Reads the elements of a SEQUENCE OF (X.691, "encoding the sequence-of type"). The vector grows as they come,
-/// so a count that is announced takes no memory by itself.
+/// Reads the elements of a SEQUENCE OF (X.691, "encoding the sequence-of type"). Room is made for no more of
+/// them than octets are left, however many a length announces.
 fn read_list(
     alloc: Global,
     element: &AsnType,
@@ -122,6 +122,7 @@ fn read_list(
     let mut elements = Vec::new(alloc);
     let mut rows = Rows::start(size, cursor)?;
     while let Some(count) = rows.next(cursor)? {
+        elements.reserve(count.min(cursor.octets_left()))?;
         for i in 0..count {
             let value = read(alloc, element, cursor)?;
             elements.push(value)?;

@@ -35,16 +35,17 @@ loop-elements-preserved c =
     let t = shape_of c.args.element.now in
     let next : Next (ahead_of c.loop-elements.rows) (Some c.in-Some.count) (ahead_of c.next.new.self) c.loop-elements.cursor c.next.new.bits = rw c.in-Some.is at c.in_ok-count.ensures.done in
     let all : c.loop-i.i ≡ c.in-Some.count = omega (arith, c.loop-i-test.false, c.loop-i.auto.i-end) in
-    let come : Appends (Spelt per None t) c.in-Some.count (map datum_of c.loop-elements.elements.items) (map datum_of c.loop-i.elements.items) c.next.new.bits c.loop-i.cursor = rw all at c.loop-i.invariant in
+    let come : Appends (Spelt per None t) c.in-Some.count (map datum_of c.loop-elements.elements.items) (map datum_of c.loop-i.elements.items) c.next.new.bits c.loop-i.cursor = rw (all, c.in_ok-reserve.ensures.items) at c.loop-i.invariant in
     (going_further (spelt_inhabited per t c.requires.of_profile) (spelt_lawful per per_parts None t c.requires.of_profile) next come c.loop-elements.invariant.0, c.in_ok-count.ensures.between)
 
 pub returns-in_err-value-clause-stop : goal.returns-in_err-value-clause-stop
 returns-in_err-value-clause-stop c =
     let t = shape_of c.args.element.now in
     let next : Next (ahead_of c.loop-elements.rows) (Some c.in-Some.count) (ahead_of c.next.new.self) c.loop-elements.cursor c.next.new.bits = rw c.in-Some.is at c.in_ok-count.ensures.done in
+    let come : Appends (Spelt per None t) c.loop-i.i (map datum_of c.loop-elements.elements.items) (map datum_of c.loop-i.elements.items) c.next.new.bits c.loop-i.cursor = rw c.in_ok-reserve.ensures.items at c.loop-i.invariant in
     let p = err_from_is_err_and c.from_residual-in_err-value.result c.from_residual-in_err-value.ensures.1 in
     rw (p.1, p.2)
-    (stops_by _ (going_next_stops c.loop-i.i c.in-Some.count (spelt_inhabited per t c.requires.of_profile) (spelt_lawful per per_parts None t c.requires.of_profile) (omega (arith, c.loop-i-test.true)) next c.loop-i.invariant c.loop-elements.invariant.0) c.in_err-value.ensures.stop)
+    (stops_by _ (going_next_stops c.loop-i.i c.in-Some.count (spelt_inhabited per t c.requires.of_profile) (spelt_lawful per per_parts None t c.requires.of_profile) (omega (arith, c.loop-i-test.true)) next come c.loop-elements.invariant.0) c.in_err-value.ensures.stop)
 
 pub loop-i-preserved : goal.loop-i-preserved
 loop-i-preserved c =

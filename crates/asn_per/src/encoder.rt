@@ -1,28 +1,32 @@
 //! The encoder.
 ghost use Rattle.std.specs.Prelude.{◌≡◌, ◌≤◌, ◌<◌, ◌^◌, ◌++◌, IfOk, IfErr, OnOk, map, length, vec_len};
+ghost use Rattle.std.specs.List.{AllByRecursion};
 ghost use Rattle.std.specs.Option.{option_map};
 ghost use Rattle.asn_values.specs.Fits.{Fits, FitsEach, FitsNumber};
-ghost use Rattle.asn_values.specs.Shape.{integer, demands};
-ghost use Rattle.asn_values.specs.Datum.{number};
+ghost use Rattle.asn_values.specs.Shape.{integer, demands, sequence_of};
+ghost use Rattle.asn_values.specs.Datum.{number, elements, elements_of};
 ghost use Rattle.asn_values.specs.Profile.{InProfile};
 ghost use Rattle.asn_values.specs.Parts.{AreOfProfile, IsGoodDemand};
-ghost use Rattle.asn_values.specs.View.{shape_of, datum_of, range_of, fields_of, part_of_field};
+ghost use Rattle.asn_values.specs.View.{shape_of, datum_of, range_of, size_range_of, fields_of, part_of_field};
 ghost use Rattle.asn_bits.specs.Numbers.{bits};
 ghost use Rattle.asn_rules.specs.Answer.{max_octets};
 ghost use Rattle.asn_rules.specs.Codec.{NotEncoded};
 ghost use Rattle.asn_rules.specs.Components.{has_presence_bit, is_spelled, presence};
 ghost use Rattle.asn_per.specs.Kinds.{root_of};
-ghost use Rattle.asn_per.specs.Per.{ranged};
+ghost use Rattle.asn_per.specs.Per.{per, ranged};
 ghost use Rattle.asn_per.specs.Rules.{per_ruling, IsPerEncoding};
 ghost use Rattle.asn_per.specs.Laws.{per_bits, component_bits};
+ghost use Rattle.asn_per.specs.StringItems.{row_bits};
 
 use crate::items::write_enumerated;
-use crate::string_writer::{write_bit_string, write_octet_string, write_text, write_utf8};
+use crate::string_writer::{
+    BLOCK, push_count, write_bit_string, write_octet_string, write_text, write_utf8,
+};
 use asn_bits::BitSink;
 use asn_bits::numbers::width;
 use asn_bits::offsets::above;
 use asn_rules::EncodeFault;
-use asn_values::{AsnType, Bounds, Checked, Field, Need, Value, fits, is_between, same};
+use asn_values::{AsnType, Bounds, Checked, Field, Need, Size, Value, fits, is_between, same};
 use std::alloc::{AllocError, Global};
 
 /// The most octets of a message.
@@ -216,6 +220,49 @@ fn write_components(
         {
             write(&field.ty, value, sink)?;
         }
+    }
+    Ok(())
+}
+
+/// Writes the elements of a SEQUENCE OF (X.691, "encoding the sequence-of type"): behind their count, or one
+/// general length after the other, each with the elements that it counts.
+fn write_list(
+    element: &AsnType,
+    size: &Size,
+    values: &[Value],
+    sink: &mut BitSink,
+) -> Result<(), AllocError>
+    requires of_profile { InProfile (sequence_of (shape_of element.now) (size_range_of size.now)) }
+    requires of_type { Fits (sequence_of (shape_of element.now) (size_range_of size.now)) (elements (elements_of (map datum_of values.now))) }
+    ensures { OnOk result (sink.new ≡ sink.old
+        ++ per_bits (sequence_of (shape_of element.now) (size_range_of size.now)) (elements (elements_of (map datum_of values.now)))) }
+{
+    if push_count(size, values.len(), sink)? {
+        return write_elements(element, values, sink);
+    }
+    let mut done = 0;
+    loop {
+        let many = sink.push_length((values.len() - done) as u64)? as usize;
+        write_elements(element, &values[done..done + many], sink)?;
+        if many < BLOCK {
+            return Ok(());
+        }
+        done += many;
+    }
+}
+
+/// Writes elements one after the other.
+fn write_elements(
+    element: &AsnType,
+    values: &[Value],
+    sink: &mut BitSink,
+) -> Result<(), AllocError>
+    requires of_profile { InProfile (shape_of element.now) }
+    requires of_type { AllByRecursion (λ d. Fits (shape_of element.now) d) (map datum_of values.now) }
+    ensures { OnOk result (sink.new ≡ sink.old ++ row_bits (map (λ d. per (shape_of element.now) d) (map datum_of values.now))) }
+{
+    for value in values {
+        write(element, value, sink)?;
     }
     Ok(())
 }

@@ -150,6 +150,12 @@ fn write(
             sink.push_number(count, bitmap)?;
             write_components(alloc, root, entries, sink)
         }
+        AsnType::SeqOf(element, size) => {
+            let Value::List(values) = value else {
+                unreachable!()
+            };
+            write_list(alloc, element, size, values, sink)
+        }
     }
 }
 
@@ -260,7 +266,9 @@ fn write_components(
 
 /// Writes the elements of a SEQUENCE OF (X.691, "encoding the sequence-of type"): behind their count, or one
 /// general length after the other, each with the elements that it counts.
+#[cycle(writer)]
 fn write_list(
+    alloc: Global,
     element: &AsnType,
     size: &Size,
     values: &[Value],
@@ -272,12 +280,12 @@ fn write_list(
         ++ per_bits (sequence_of (shape_of element.now) (size_range_of size.now)) (elements (elements_of (map datum_of values.now)))) }
 {
     if push_count(size, values.len(), sink)? {
-        return write_elements(element, values, sink);
+        return write_elements(alloc, element, values, sink);
     }
     let mut done = 0;
     loop {
         let many = sink.push_length((values.len() - done) as u64)? as usize;
-        write_elements(element, &values[done..done + many], sink)?;
+        write_elements(alloc, element, &values[done..done + many], sink)?;
         if many < BLOCK {
             return Ok(());
         }
@@ -286,7 +294,9 @@ fn write_list(
 }
 
 /// Writes elements one after the other.
+#[cycle(writer)]
 fn write_elements(
+    alloc: Global,
     element: &AsnType,
     values: &[Value],
     sink: &mut BitSink,
@@ -296,7 +306,7 @@ fn write_elements(
     ensures { OnOk result (sink.new ≡ sink.old ++ row_bits (map (λ d. per (shape_of element.now) d) (map datum_of values.now))) }
 {
     for value in values {
-        write(element, value, sink)?;
+        write(alloc, element, value, sink)?;
     }
     Ok(())
 }

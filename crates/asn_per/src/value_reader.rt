@@ -53,6 +53,7 @@ pub(crate) fn read(alloc: Global, ty: &AsnType, bits: &mut BitCursor<'_>) -> Res
             let bitmap = number(count, set, Why::Number, bits)?;
             Ok(Value::Seq(read_components(alloc, root, count, bitmap, bits)?))
         }
+        AsnType::SeqOf(element, size) => Ok(Value::List(read_list(alloc, element, size, bits)?)),
     }
 }
 
@@ -108,6 +109,7 @@ fn read_entry(
 
 /// Reads the elements of a SEQUENCE OF (X.691, "encoding the sequence-of type"). Room is made for no more of
 /// them than octets are left, however many a length announces.
+#[cycle(reader)]
 fn read_list(
     alloc: Global,
     element: &AsnType,

@@ -6,9 +6,9 @@ use Rattle.asn_values.specs.declared.types.AsnType.{the_lemmas}
 use Rattle.asn_values.specs.declared.types.Field.{Field}
 use Rattle.asn_values.specs.declared.types.Need.{Need}
 use Rattle.asn_values.specs.declared.types.Need.TheVariants as needs
-use Rattle.asn_values.specs.Shape.{integer, enumerated}
+use Rattle.asn_values.specs.Shape.{integer, enumerated, sequence_of}
 use Rattle.asn_values.specs.View.{shape_of, datum_of, fields_of, part_of_field, range_of, size_range_of, alphabet_of, label_of, more_labels_of, demand_of}
-use Rattle.asn_values.proofs.Views.{shape_of-Int, shape_of-Bits, shape_of-Octets, shape_of-Text, shape_of-Utf8, datum_of-Bits, datum_of-Octets, datum_of-Text, datum_of-Seq, sequence_of_fields}
+use Rattle.asn_values.proofs.Views.{shape_of-Int, shape_of-Bits, shape_of-Octets, shape_of-Text, shape_of-Utf8, datum_of-Bits, datum_of-Octets, datum_of-Text, datum_of-Seq, sequence_of_fields, list_of_elements, datum_of-List}
 use Rattle.asn_rules.specs.Listed.{bitmap_length, default_of, Spelt}
 use Rattle.asn_rules.proofs.Leads.{stops_by}
 use Rattle.asn_rules.proofs.Listed.{spelt_inhabited, spelt_lawful}
@@ -23,8 +23,10 @@ use Rattle.asn_per.specs.RowsAhead.{ahead_of}
 use Rattle.asn_per.specs.Reading.{Appends}
 use Rattle.asn_per.proofs.Appending.{appends_more, appends_one}
 use Rattle.asn_per.proofs.ListsAhead.{start_stops, going_starts, going_stops, going_further, going_ends}
-use Rattle.asn_per.proofs.ListReading.{going_next_stops}
+use Rattle.asn_per.proofs.ListReading.{going_next_stops, list_size, list_leads}
 use Rattle.asn_per.proofs.Whole.{per_parts}
+use Rattle.asn_values.specs.Profile.{InProfile}
+use Rattle.asn_values.proofs.InnerTypes.{element_of_profile}
 use Rattle.asn_per.proofs.value_reader.+reader.Goals as goal
 
 pub read-integer-requires-clause-some : goal.read-integer-requires-clause-some
@@ -177,6 +179,32 @@ read_entry-returns-in_ok-read-in-Must-clause-done t c =
     let e : c.args.present ≡ true = c.if-not-present.false in
     let d : default_of (part_of_field c.args.field.now).demand ≡ None = ap default_of (demand_of_part c.args.field.now) ∙ no_default c.args.field.now.need c.in-Must.is in
     (entry_leads c.args.field.now c.args.present None c.args.bits.now e d).done (datum_of c.in_ok-read-in-Must.field-0) c.read.new.bits c.in_ok-read-in-Must.ensures.done
+
+pub read-read_list-requires : goal.read-read_list-requires
+read-read_list-requires t c =
+    let element = shape_of c.deref-in-SeqOf.result.now in
+    let s = size_range_of c.in-SeqOf.size in
+    let is = list_of_elements c.args.ty.now c.deref-in-SeqOf.result.now c.in-SeqOf.element c.in-SeqOf.size c.in-SeqOf.is c.deref-in-SeqOf.ensures in
+    let good : InProfile (sequence_of element s) = rw is at c.requires.of_profile in
+    (search (rules, the_lemmas), (element_of_profile element s good, list_size element s good))
+
+pub read-returns-in_err-read_list-in-SeqOf-clause-stop : goal.read-returns-in_err-read_list-in-SeqOf-clause-stop
+read-returns-in_err-read_list-in-SeqOf-clause-stop t c =
+    let element = shape_of c.deref-in-SeqOf.result.now in
+    let s = size_range_of c.in-SeqOf.size in
+    let is = list_of_elements c.args.ty.now c.deref-in-SeqOf.result.now c.in-SeqOf.element c.in-SeqOf.size c.in-SeqOf.is c.deref-in-SeqOf.ensures in
+    let good : InProfile (sequence_of element s) = rw is at c.requires.of_profile in
+    let p = err_from_is_err_and c.from_residual-in_err-read_list-in-SeqOf.result c.from_residual-in_err-read_list-in-SeqOf.ensures.1 in
+    rw (p.1, p.2, is) (stops_by _ (list_leads element s c.args.bits.now good).stops c.in_err-read_list-in-SeqOf.ensures.stop)
+
+pub read-returns-in_ok-read_list-in-SeqOf-clause-done : goal.read-returns-in_ok-read_list-in-SeqOf-clause-done
+read-returns-in_ok-read_list-in-SeqOf-clause-done t c =
+    let element = shape_of c.deref-in-SeqOf.result.now in
+    let s = size_range_of c.in-SeqOf.size in
+    let is = list_of_elements c.args.ty.now c.deref-in-SeqOf.result.now c.in-SeqOf.element c.in-SeqOf.size c.in-SeqOf.is c.deref-in-SeqOf.ensures in
+    let good : InProfile (sequence_of element s) = rw is at c.requires.of_profile in
+    let values = c.in_ok-read_list-in-SeqOf.field-0 in
+    rw (is, datum_of-List values) ((list_leads element s c.args.bits.now good).done (map datum_of values.items) c.read_list.new.cursor c.in_ok-read_list-in-SeqOf.ensures.done)
 
 pub read_list-returns-in_err-rows-clause-stop : goal.read_list-returns-in_err-rows-clause-stop
 read_list-returns-in_err-rows-clause-stop t c =

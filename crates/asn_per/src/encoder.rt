@@ -88,12 +88,7 @@ pub(crate) fn write_open_field(
 /// Writes a value of the type.
 #[inline(always)]
 #[cycle(writer)]
-fn write(
-    alloc: Global,
-    ty: &AsnType,
-    value: &Value,
-    sink: &mut BitSink,
-) -> Result<(), AllocError>
+fn write(alloc: Global, ty: &AsnType, value: &Value, sink: &mut BitSink) -> Result<(), AllocError>
     requires of_profile { InProfile (shape_of ty.now) }
     requires of_type { Fits (shape_of ty.now) (datum_of value.now) }
     ensures { OnOk result (sink.new ≡ sink.old ++ per_bits (shape_of ty.now) (datum_of value.now)) }

@@ -19,16 +19,14 @@ ghost use Rattle.asn_per.specs.Rules.{per_ruling, IsPerEncoding};
 ghost use Rattle.asn_per.specs.Laws.{per_bits};
 ghost use Rattle.asn_per.specs.Additions.{AreOptional, root_bits, addition_bits};
 
-use crate::items::write_enumerated;
-use crate::string_writer::{write_bit_string, write_octet_string, write_text, write_utf8, push_extension_bit};
-use crate::value_reader::bitmap_width;
-ghost use Rattle.asn_per.specs.Laws.{per_bits, component_bits};
 ghost use Rattle.asn_per.specs.StringItems.{row_bits};
 
 use crate::items::write_enumerated;
 use crate::string_writer::{
-    BLOCK, push_count, write_bit_string, write_octet_string, write_text, write_utf8,
+    BLOCK, push_count, push_extension_bit, write_bit_string, write_octet_string, write_text,
+    write_utf8,
 };
+use crate::value_reader::bitmap_width;
 use asn_bits::BitSink;
 use asn_bits::numbers::width;
 use asn_bits::offsets::above;
@@ -293,10 +291,6 @@ fn write_components(
         ) {
             write_integer(bounds, *whole, sink)?;
         } else if is_encoded(field, entry) {
-            write(&field.ty, value, sink)?;
-        if let Some(value) = entry
-            && is_encoded(field, entry)
-        {
             write(alloc, &field.ty, value, sink)?;
         }
     }
@@ -335,6 +329,10 @@ fn write_additions(
         if let Some(value) = entry {
             write_open_field(alloc, &field.ty, value, sink)?;
         }
+    }
+    Ok(())
+}
+
 /// Writes the elements of a SEQUENCE OF (X.691, "encoding the sequence-of type"): behind their count, or one
 /// general length after the other, each with the elements that it counts.
 #[cycle(writer)]

@@ -160,7 +160,6 @@ write-returns-in_default-ext-2 t c =
     let back : c.split_at.result.1.now ≡ drop (length fs) vs = c.split_at.ensures.back ∙ ap (λ (k : ℕ). drop k vs) n in
     sequence_written c.args.sink.now c.push_extension_bit.new.sink c.write_components.new.sink c.write_components.new.sink fs c.in-Seq.ext vs c.split_at.result.0.now c.split_at.result.1.now
     c.is_some.result c.is_any_present-extended.result s front back c.is_some.ensures c.is_any_present-extended.ensures c.in_ok-push_extension_bit-in-Seq.ensures c.in_ok-write_components-in-Seq.ensures (unmarked_ends c.write_components.new.sink c.in-Seq.ext (map (option_map datum_of) c.split_at.result.1.now) c.in_default-ext.is)
-    written_ends c.loop-field.invariant (either_map part_of_field (option_map datum_of) none)
 
 pub write_list-push_count-requires : goal.write_list-push_count-requires
 write_list-push_count-requires t c =

@@ -269,6 +269,7 @@ read_open_field-returns-in-Err-Refused-clause-stop t c =
     let stopped = rw (c.over-content.ensures, c.deref.ensures.value) at c.in-Err-Refused.ensures.stop in
     let told = none_held (shape_of c.args.ty.now) c.requires.of_profile c.in-Err-Refused.field-0 (λ e. cc) c.in_ok-octets.ensures.done stopped in
     rw c.bits_left.ensures.count (record { told = told })
+
 pub read-read_list-requires : goal.read-read_list-requires
 read-read_list-requires t c =
     let element = shape_of c.deref-in-SeqOf.result.now in

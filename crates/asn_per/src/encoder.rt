@@ -19,7 +19,9 @@ ghost use Rattle.asn_per.specs.Laws.{per_bits};
 ghost use Rattle.asn_per.specs.Additions.{AreOptional, root_bits, addition_bits};
 
 use crate::items::write_enumerated;
-use crate::string_writer::{push_extension_bit, write_bit_string, write_octet_string, write_text, write_utf8};
+use crate::string_writer::{
+    push_extension_bit, write_bit_string, write_octet_string, write_text, write_utf8,
+};
 use asn_bits::BitSink;
 use asn_bits::numbers::width;
 use asn_bits::offsets::above;
@@ -85,12 +87,7 @@ pub(crate) fn write_open_field(
 /// Writes a value of the type.
 #[inline(always)]
 #[cycle(writer)]
-fn write(
-    alloc: Global,
-    ty: &AsnType,
-    value: &Value,
-    sink: &mut BitSink,
-) -> Result<(), AllocError>
+fn write(alloc: Global, ty: &AsnType, value: &Value, sink: &mut BitSink) -> Result<(), AllocError>
     requires of_profile { InProfile (shape_of ty.now) }
     requires of_type { Fits (shape_of ty.now) (datum_of value.now) }
     ensures { OnOk result (sink.new ≡ sink.old ++ per_bits (shape_of ty.now) (datum_of value.now)) }

@@ -38,7 +38,7 @@ fits_sequences t x root v et ex fs vs ef ev b (there, back) =
     rw (type, value) (λ h. both.0 (there h), λ h. back (both.1 h))
 
 -- entries that fit are as many as the components
-each_length : (ps : List Part) (es : List (Option Datum)) → FitsEach (fields_of ps) es → length ps ≡ length es
+pub each_length : (ps : List Part) (es : List (Option Datum)) → FitsEach (fields_of ps) es → length ps ≡ length es
 each_length [] [] h = refl
 each_length [] (e ∷ es) h = absurd h
 each_length (p ∷ ps) [] h = absurd h

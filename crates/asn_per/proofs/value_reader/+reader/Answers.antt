@@ -1,4 +1,4 @@
-use Rattle.std.proofs.Common.{◌≡◌, ◌⊎◌, inl, inr, ◌∷◌, [], ◌++◌, ◌∙◌, true, false, List, map, Some, None, rules, refl, sym, ap, arith}
+use Rattle.std.proofs.Common.{◌≡◌, ◌⊎◌, inl, inr, ◌∷◌, [], ◌++◌, ◌∙◌, true, false, List, map, Some, None, rules, refl, sym, ap, arith, ◌-◌, length, replicate, ◌+◌}
 use Rattle.std.specs.Option.{option_map}
 use Rattle.std.proofs.lemmas.List.{map-append}
 use Rattle.std.proofs.lemmas.Result.{err_from_is_err_and}
@@ -11,19 +11,33 @@ use Rattle.asn_values.specs.Datum.{number}
 use Rattle.asn_values.specs.declared.types.Field.{Field}
 use Rattle.asn_values.specs.declared.types.Need.{Need}
 use Rattle.asn_values.specs.declared.types.Need.TheVariants as needs
-use Rattle.asn_values.specs.Shape.{integer, enumerated}
+use Rattle.asn_values.specs.Shape.{integer, enumerated, sequence_of}
 use Rattle.asn_values.specs.View.{shape_of, datum_of, fields_of, part_of_field, range_of, size_range_of, alphabet_of, label_of, more_labels_of, demand_of}
-use Rattle.asn_values.proofs.Views.{shape_of-Int, shape_of-Bits, shape_of-Octets, shape_of-Text, shape_of-Utf8, datum_of-Bits, datum_of-Octets, datum_of-Text, datum_of-Seq, sequence_of_fields}
-use Rattle.asn_rules.specs.Listed.{bitmap_length, default_of}
+use Rattle.asn_values.proofs.Views.{shape_of-Int, shape_of-Bits, shape_of-Octets, shape_of-Text, shape_of-Utf8, datum_of-Bits, datum_of-Octets, datum_of-Text, datum_of-Seq, sequence_of_fields, list_of_elements, datum_of-List}
+use Rattle.asn_rules.specs.Listed.{bitmap_length, default_of, Spelt}
 use Rattle.asn_rules.proofs.Leads.{stops_by}
-use Rattle.asn_rules.proofs.Listed.{spelt_inhabited}
+use Rattle.asn_rules.proofs.Listed.{spelt_inhabited, spelt_lawful}
 use Rattle.asn_rules.proofs.ListedReading.{nothing_read}
-use Rattle.asn_per.specs.Per.{per, per_fields}
+use Rattle.asn_per.specs.Per.{per, per_fields, filling}
 use Rattle.asn_per.proofs.ComponentsRead.{next_part, no_part, bit_there, next_must, next_either, read_ends, demand_of_part, entry_leads, datum_of-Int, parts_good, bitmap_stops_at, components_at}
 use Rattle.asn_per.proofs.EnumeratedTypes.{enumerated_of_items}
 use Rattle.asn_per.proofs.StringReading.{bits_size, octets_size, text_size, bits_lead, octets_lead, text_leads, utf8_leads}
 use Rattle.asn_per.proofs.Sequences.{few_components}
+use Rattle.asn_per.specs.ListsAhead.{Next}
+use Rattle.asn_per.specs.RowsAhead.{ahead_of}
+use Rattle.asn_per.specs.Reading.{Appends}
+use Rattle.asn_per.proofs.Appending.{appends_more, appends_one}
+use Rattle.asn_per.proofs.ListsAhead.{start_stops, going_starts, going_stops, going_further, going_ends}
+use Rattle.asn_per.proofs.ListReading.{going_next_stops, list_size, list_leads}
+use Rattle.asn_per.proofs.Whole.{per_parts}
+use Rattle.asn_values.specs.Profile.{InProfile}
+use Rattle.asn_values.proofs.InnerTypes.{element_of_profile}
 use Rattle.asn_per.proofs.value_reader.+reader.Goals as goal
+use Rattle.asn_per.proofs.Messages.{value_stops, zeros_behind, eight_zeros, zeros_of_octet}
+use Rattle.asn_rules.specs.Languages.{Spells}
+use Rattle.asn_per.proofs.value_reader.+reader.Goals.{read_complete-then-bits_left-given, read_complete-else-bits_left-given}
+use Rattle.asn_per.proofs.Decoding.{bits_fill}
+use Rattle.asn_per.proofs.OpenFieldReading.{octets_stop, value_held, more_held, none_held}
 
 pub read-integer-requires-clause-some : goal.read-integer-requires-clause-some
 read-integer-requires-clause-some t c = spelt_inhabited per (integer (range_of c.in-Int.bounds)) (rw (c.in-Int.is, shape_of-Int) at c.requires.of_profile)
@@ -195,3 +209,132 @@ read_entry-returns-in_ok-read-in-Must-clause-done t c =
     let e : c.args.present ≡ true = c.if-not-present.false in
     let d : default_of (part_of_field c.args.field.now).demand ≡ None = ap default_of (demand_of_part c.args.field.now) ∙ no_default c.args.field.now.need c.in-Must.is in
     (entry_leads c.args.field.now c.args.present None c.args.bits.now e d).done (datum_of c.in_ok-read-in-Must.field-0) c.read.new.bits c.in_ok-read-in-Must.ensures.done
+
+pub read_complete-returns-in_err-value-clause-stop : goal.read_complete-returns-in_err-value-clause-stop
+read_complete-returns-in_err-value-clause-stop t c =
+    let p = err_from_is_err_and c.from_residual.result c.from_residual.ensures.1 in
+    rw (p.1, p.2) (stops_by _ (value_stops (shape_of c.args.ty.now) c.args.bits.now) c.in_err-value.ensures.stop)
+
+pub read_complete-returns-in_err-padding-clause-stop : goal.read_complete-returns-in_err-padding-clause-stop
+read_complete-returns-in_err-padding-clause-stop t c =
+    let p = err_from_is_err_and c.from_residual-in_err-padding.result c.from_residual-in_err-padding.ensures.1 in
+    let us = c.args.bits.now in
+    let r = c.read.new.bits in
+    let read : Spells per_fields (Spelt per None (shape_of c.args.ty.now)) (datum_of c.in_ok-value.value) us r = c.in_ok-value.ensures.done in
+    let zeros : filling (length us - length r) ≡ replicate c.if-bits_left-given.zeros 0 = elim c.if-bits_left-given.branch [
+      | read_complete-then-bits_left-given w ↦ eight_zeros us r c.if-bits_left-given.zeros (sym c.bits_left.ensures.count ∙ w.if-bits_left-given.true ∙ c.bits_left-given.ensures.count) w.zeros-is
+      | read_complete-else-bits_left-given w ↦ zeros_of_octet (shape_of c.args.ty.now) (datum_of c.in_ok-value.value) us r c.if-bits_left-given.zeros c.requires.whole read (λ e. w.if-bits_left-given.false (c.bits_left.ensures.count ∙ e ∙ sym c.bits_left-given.ensures.count)) (w.zeros-is ∙ w.rest_of_octet-zeros.ensures.rest)
+    ] in
+    rw (p.1, p.2) (stops_by _ (zeros_behind (shape_of c.args.ty.now) (datum_of c.in_ok-value.value) us r c.if-bits_left-given.zeros c.requires.of_profile read zeros).stops c.in_err-padding.ensures.stop)
+
+pub read_complete-returns-clause-done : goal.read_complete-returns-clause-done
+read_complete-returns-clause-done t c =
+    let us = c.args.bits.now in
+    let r = c.read.new.bits in
+    let read : Spells per_fields (Spelt per None (shape_of c.args.ty.now)) (datum_of c.in_ok-value.value) us r = c.in_ok-value.ensures.done in
+    let zeros : filling (length us - length r) ≡ replicate c.if-bits_left-given.zeros 0 = elim c.if-bits_left-given.branch [
+      | read_complete-then-bits_left-given w ↦ eight_zeros us r c.if-bits_left-given.zeros (sym c.bits_left.ensures.count ∙ w.if-bits_left-given.true ∙ c.bits_left-given.ensures.count) w.zeros-is
+      | read_complete-else-bits_left-given w ↦ zeros_of_octet (shape_of c.args.ty.now) (datum_of c.in_ok-value.value) us r c.if-bits_left-given.zeros c.requires.whole read (λ e. w.if-bits_left-given.false (c.bits_left.ensures.count ∙ e ∙ sym c.bits_left-given.ensures.count)) (w.zeros-is ∙ w.rest_of_octet-zeros.ensures.rest)
+    ] in
+    (zeros_behind (shape_of c.args.ty.now) (datum_of c.in_ok-value.value) us r c.if-bits_left-given.zeros c.requires.of_profile read zeros).done c.in_ok-padding.field-0 c.padding.new.bits c.in_ok-padding.ensures.done
+
+pub read_open_field-returns-in_err-octets-clause-stop : goal.read_open_field-returns-in_err-octets-clause-stop
+read_open_field-returns-in_err-octets-clause-stop t c =
+    let p = err_from_is_err_and c.from_residual.result c.from_residual.ensures.1 in
+    rw (p.1, p.2) (stops_by _ (octets_stop (shape_of c.args.ty.now) c.requires.of_profile c.args.bits.now) c.in_err-octets.ensures.stop)
+
+pub read_open_field-read_complete-requires : goal.read_open_field-read_complete-requires
+read_open_field-read_complete-requires t c =
+    (search (rules, the_lemmas), (c.requires.of_profile, rw c.over-content.ensures (bits_fill c.deref.result.now)))
+
+pub read_open_field-returns-in-Ok-clause-done : goal.read_open_field-returns-in-Ok-clause-done
+read_open_field-returns-in-Ok-clause-done t c =
+    let read = rw (c.over-content.ensures, c.deref.ensures.value) at c.in-Ok.ensures.done in
+    value_held (shape_of c.args.ty.now) c.requires.of_profile c.in_ok-octets.ensures.done read (c.is_empty.ensures.0 c.if-is_empty.true)
+
+pub read_open_field-returns-in-Ok-2-clause-stop : goal.read_open_field-returns-in-Ok-2-clause-stop
+read_open_field-returns-in-Ok-2-clause-stop t c =
+    let read = rw (c.over-content.ensures, c.deref.ensures.value) at c.in-Ok-2.ensures.done in
+    let more : c.read_complete.new.bits ≡ [] → ⊥ = λ e. (let full = c.is_empty.ensures.1 e in absurd (cc)) in
+    rw c.bits_left.ensures.count (record { told = more_held (shape_of c.args.ty.now) c.requires.of_profile c.in_ok-octets.ensures.done read more })
+
+pub read_open_field-returns-in-Err-Short-clause-stop : goal.read_open_field-returns-in-Err-Short-clause-stop
+read_open_field-returns-in-Err-Short-clause-stop t c =
+    let stopped = rw (c.over-content.ensures, c.deref.ensures.value) at c.in-Err-Short.ensures.stop in
+    let told = none_held (shape_of c.args.ty.now) c.requires.of_profile c.in-Err-Short.field-0 (λ e. cc) c.in_ok-octets.ensures.done stopped in
+    rw c.bits_left.ensures.count (record { told = told })
+
+pub read_open_field-returns-in-Err-Refused-clause-stop : goal.read_open_field-returns-in-Err-Refused-clause-stop
+read_open_field-returns-in-Err-Refused-clause-stop t c =
+    let stopped = rw (c.over-content.ensures, c.deref.ensures.value) at c.in-Err-Refused.ensures.stop in
+    let told = none_held (shape_of c.args.ty.now) c.requires.of_profile c.in-Err-Refused.field-0 (λ e. cc) c.in_ok-octets.ensures.done stopped in
+    rw c.bits_left.ensures.count (record { told = told })
+
+pub read-read_list-requires : goal.read-read_list-requires
+read-read_list-requires t c =
+    let element = shape_of c.deref-in-SeqOf.result.now in
+    let s = size_range_of c.in-SeqOf.size in
+    let is = list_of_elements c.args.ty.now c.deref-in-SeqOf.result.now c.in-SeqOf.element c.in-SeqOf.size c.in-SeqOf.is c.deref-in-SeqOf.ensures in
+    let good : InProfile (sequence_of element s) = rw is at c.requires.of_profile in
+    (search (rules, the_lemmas), (element_of_profile element s good, list_size element s good))
+
+pub read-returns-in_err-read_list-in-SeqOf-clause-stop : goal.read-returns-in_err-read_list-in-SeqOf-clause-stop
+read-returns-in_err-read_list-in-SeqOf-clause-stop t c =
+    let element = shape_of c.deref-in-SeqOf.result.now in
+    let s = size_range_of c.in-SeqOf.size in
+    let is = list_of_elements c.args.ty.now c.deref-in-SeqOf.result.now c.in-SeqOf.element c.in-SeqOf.size c.in-SeqOf.is c.deref-in-SeqOf.ensures in
+    let good : InProfile (sequence_of element s) = rw is at c.requires.of_profile in
+    let p = err_from_is_err_and c.from_residual-in_err-read_list-in-SeqOf.result c.from_residual-in_err-read_list-in-SeqOf.ensures.1 in
+    rw (p.1, p.2, is) (stops_by _ (list_leads element s c.args.bits.now good).stops c.in_err-read_list-in-SeqOf.ensures.stop)
+
+pub read-returns-in_ok-read_list-in-SeqOf-clause-done : goal.read-returns-in_ok-read_list-in-SeqOf-clause-done
+read-returns-in_ok-read_list-in-SeqOf-clause-done t c =
+    let element = shape_of c.deref-in-SeqOf.result.now in
+    let s = size_range_of c.in-SeqOf.size in
+    let is = list_of_elements c.args.ty.now c.deref-in-SeqOf.result.now c.in-SeqOf.element c.in-SeqOf.size c.in-SeqOf.is c.deref-in-SeqOf.ensures in
+    let good : InProfile (sequence_of element s) = rw is at c.requires.of_profile in
+    let values = c.in_ok-read_list-in-SeqOf.field-0 in
+    rw (is, datum_of-List values) ((list_leads element s c.args.bits.now good).done (map datum_of values.items) c.read_list.new.cursor c.in_ok-read_list-in-SeqOf.ensures.done)
+
+pub read_list-returns-in_err-rows-clause-stop : goal.read_list-returns-in_err-rows-clause-stop
+read_list-returns-in_err-rows-clause-stop t c =
+    let element = shape_of c.args.element.now in
+    let p = err_from_is_err_and c.from_residual.result c.from_residual.ensures.1 in
+    rw (p.1, p.2) (stops_by _ (start_stops (Spelt per None element) (size_range_of c.args.size.now) c.args.cursor.now c.requires.size (spelt_inhabited per element c.requires.of_profile)) c.in_err-rows.ensures.stop)
+
+pub read_list-loop-elements-init : goal.read_list-loop-elements-init
+read_list-loop-elements-init t c =
+    (rw c.new-elements.ensures.items (going_starts (Spelt per None (shape_of c.args.element.now)) (size_range_of c.args.size.now) c.requires.size c.in_ok-rows.ensures.done), c.in_ok-rows.ensures.between)
+
+pub read_list-returns-in_err-count-clause-stop : goal.read_list-returns-in_err-count-clause-stop
+read_list-returns-in_err-count-clause-stop t c =
+    let p = err_from_is_err_and c.from_residual-in_err-count.result c.from_residual-in_err-count.ensures.1 in
+    rw (p.1, p.2) (going_stops _ (spelt_inhabited per (shape_of c.args.element.now) c.requires.of_profile) c.in_err-count.ensures.stop c.loop-elements.invariant.0)
+
+pub read_list-loop-elements-preserved : goal.read_list-loop-elements-preserved
+read_list-loop-elements-preserved t c =
+    let element = shape_of c.args.element.now in
+    let next : Next (ahead_of c.loop-elements.rows) (Some c.in-Some.count) (ahead_of c.next.new.self) c.loop-elements.cursor c.next.new.bits = rw c.in-Some.is at c.in_ok-count.ensures.done in
+    let all : c.loop-i.i ≡ c.in-Some.count = omega (arith, c.loop-i-test.false, c.loop-i.auto.i-end) in
+    let come : Appends (Spelt per None element) c.in-Some.count (map datum_of c.loop-elements.elements.items) (map datum_of c.loop-i.elements.items) c.next.new.bits c.loop-i.cursor = rw (all, c.in_ok-reserve.ensures.items) at c.loop-i.invariant in
+    (going_further (spelt_inhabited per element c.requires.of_profile) (spelt_lawful per per_parts None element c.requires.of_profile) next come c.loop-elements.invariant.0, c.in_ok-count.ensures.between)
+
+pub read_list-returns-in_err-value-clause-stop : goal.read_list-returns-in_err-value-clause-stop
+read_list-returns-in_err-value-clause-stop t c =
+    let element = shape_of c.args.element.now in
+    let next : Next (ahead_of c.loop-elements.rows) (Some c.in-Some.count) (ahead_of c.next.new.self) c.loop-elements.cursor c.next.new.bits = rw c.in-Some.is at c.in_ok-count.ensures.done in
+    let come : Appends (Spelt per None element) c.loop-i.i (map datum_of c.loop-elements.elements.items) (map datum_of c.loop-i.elements.items) c.next.new.bits c.loop-i.cursor = rw c.in_ok-reserve.ensures.items at c.loop-i.invariant in
+    let p = err_from_is_err_and c.from_residual-in_err-value.result c.from_residual-in_err-value.ensures.1 in
+    rw (p.1, p.2)
+    (stops_by _ (going_next_stops c.loop-i.i c.in-Some.count (spelt_inhabited per element c.requires.of_profile) (spelt_lawful per per_parts None element c.requires.of_profile) (omega (arith, c.loop-i-test.true)) next come c.loop-elements.invariant.0) c.in_err-value.ensures.stop)
+
+pub read_list-loop-i-preserved : goal.read_list-loop-i-preserved
+read_list-loop-i-preserved t c =
+    let items : map datum_of c.push.new.self.items ≡ map datum_of c.loop-i.elements.items ++ datum_of c.in_ok-value.value ∷ [] =
+    ap (map datum_of) c.in_ok-push.ensures.items ∙ map-append datum_of c.loop-i.elements.items (c.in_ok-value.value ∷ []) in
+    appends_more c.loop-i.i 1 (c.loop-i.i + 1) refl c.loop-i.invariant (appends_one items c.in_ok-value.ensures.done)
+
+pub read_list-returns-clause-done : goal.read_list-returns-clause-done
+read_list-returns-clause-done t c =
+    let next : Next (ahead_of c.loop-elements.rows) None (ahead_of c.next.new.self) c.loop-elements.cursor c.next.new.bits = rw c.in_default.is at c.in_ok-count.ensures.done in
+    going_ends next c.loop-elements.invariant.0

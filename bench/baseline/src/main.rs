@@ -4,6 +4,8 @@ mod bits;
 mod hand;
 mod rows;
 mod same;
+#[cfg(test)]
+mod tests;
 mod tree;
 mod value;
 

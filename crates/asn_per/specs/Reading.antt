@@ -5,7 +5,7 @@ use Rattle.asn_values.specs.Fits.{FitsNumber, lowest_integer, highest_integer}
 use Rattle.asn_bits.specs.Numbers.{octet_count, above}
 use Rattle.asn_bits.specs.Sets.{Among}
 use Rattle.asn_rules.specs.Chunks.{Chunk}
-use Rattle.asn_rules.specs.Languages.{Spells, Row}
+use Rattle.asn_rules.specs.Languages.{Spells, Map, Row}
 use Rattle.asn_rules.specs.Listed.{IsOther}
 use Rattle.asn_values.specs.Datum.{number}
 use Rattle.std.specs.Option.{option_map}
@@ -113,6 +113,12 @@ pub record Appends {A : Type 0} (L : A → List Chunk → Type 0) (n : ℕ) (old
   pub row : List A
   pub same : new ≡ old ++ row
   pub spelt : Spells per_fields (Row L n) row us rest
+
+-- ---- entries of a SEQUENCE
+
+-- further values, behind those that have come
+abbrev pub Behind : {A : Type 0} → List A → (List A → List Chunk → Type 0) → List A → List Chunk → Type 0
+Behind before L = Map (λ vs. before ++ vs) L
 
 -- ---- characters
 

@@ -1,7 +1,8 @@
 //! The reader of values.
-ghost use Rattle.std.specs.Prelude.{◌≡◌, ◌≤◌, ◌<◌, ◌+◌, ◌^◌, ◌/◌, ◌%◌, IfOk, IfErr, true, false, Some, None, map, length};
+ghost use Rattle.std.specs.Prelude.{◌≡◌, ◌≤◌, ◌<◌, ◌+◌, ◌^◌, ◌/◌, ◌%◌, ◌++◌, IfOk, IfErr, OnOk, true, false, Some, None, map, length};
 ghost use Rattle.std.specs.Option.{option_map};
-ghost use Rattle.asn_values.specs.Shape.{sequence, closed};
+ghost use Rattle.asn_values.specs.Shape.{sequence, closed, marked};
+ghost use Rattle.asn_values.specs.Datum.{components, components_of};
 ghost use Rattle.asn_values.specs.Profile.{InProfile, good_default};
 ghost use Rattle.asn_values.specs.Parts.{AreOfProfile, IsGoodDemand};
 ghost use Rattle.asn_values.specs.View.{shape_of, datum_of, fields_of, part_of_field};
@@ -11,17 +12,19 @@ ghost use Rattle.asn_rules.specs.Components.{has_presence_bit};
 ghost use Rattle.asn_rules.specs.Languages.{Spells};
 ghost use Rattle.asn_rules.specs.Listed.{Spelt, Listed, Entry, default_of, bitmap_length};
 ghost use Rattle.asn_rules.specs.Stops.{Stops};
+ghost use Rattle.asn_per.specs.Kinds.{OpenValues, Additions, absent_entries, MarkedSequences};
 ghost use Rattle.asn_per.specs.Per.{per, per_fields};
+ghost use Rattle.asn_per.specs.Reading.{Behind};
 
 use crate::encoder::may_be_absent;
 use crate::integer_reader::{boolean, integer, power_of_two};
 use crate::items::enumerated;
-use crate::number_reader::{Numbers, number};
+use crate::number_reader::{Numbers, bits_left, number};
 use crate::string_reader::{bit_string, octet_string, text, utf8_string};
 use asn_bits::BitCursor;
 use asn_rules::{Stop, Why};
 use asn_values::{AsnType, Field, Need, Value};
-use std::alloc::Global;
+use std::alloc::{AllocError, Global};
 
 /// Reads a value of the type.
 #[inline(always)]
@@ -41,24 +44,79 @@ pub(crate) fn read(alloc: Global, ty: &AsnType, bits: &mut BitCursor<'_>) -> Res
         AsnType::Text(kind, size) => Ok(Value::Text(text(alloc, *kind, size, bits)?)),
         AsnType::Utf8 => Ok(Value::Utf8(utf8_string(alloc, bits)?)),
         AsnType::Seq { root } => {
-            let count = bitmap_width(root);
-            let set = Numbers {
-                low: 0,
-                high: highest_bitmap(count),
-                except: None,
-            };
-            let bitmap = number(count, set, Why::Number, bits)?;
-            Ok(Value::Seq(read_components(alloc, root, count, bitmap, bits)?))
+            if root.is_empty() {
+                return Ok(Value::Seq(read_marked(alloc, root, root, bits)?));
+            }
+            Ok(Value::Seq(read_root(alloc, root, root.len(), bits)?))
         }
     }
 }
 
+/// Reads a SEQUENCE behind an extension mark (X.691, "encoding the sequence type"): a bit tells whether
+/// an addition is present, and then the additions stand behind the root.
+#[cycle(reader)]
+fn read_marked(
+    alloc: Global,
+    root: &[Field],
+    additions: &[Field],
+    bits: &mut BitCursor<'_>,
+) -> Result<Vec<Option<Value>>, Stop>
+    requires of_profile { InProfile (sequence (fields_of (map part_of_field root.now)) (marked (fields_of (map part_of_field additions.now)))) }
+    ensures done { IfOk result (λ es. Spells per_fields (MarkedSequences (fields_of (map part_of_field root.now)) (fields_of (map part_of_field additions.now)))
+        (components (components_of (map (option_map datum_of) es.items))) bits.old bits.new) }
+    ensures stop { IfErr result (λ why. Stops per_fields (MarkedSequences (fields_of (map part_of_field root.now)) (fields_of (map part_of_field additions.now))) bits.old why) }
+{
+    let Some(extended) = bits.next() else {
+        return Err(Stop::Short);
+    };
+    if extended == 1 && additions.is_empty() {
+        return Err(Stop::Refused {
+            left: bits_left(bits),
+            why: Why::Extension,
+        });
+    }
+    let mut entries = read_root(alloc, root, root.len() + additions.len(), bits)?;
+    if extended == 1 {
+        read_additions(alloc, additions, &mut entries, bits)?;
+    } else {
+        push_absent(additions, &mut entries)?;
+    }
+    Ok(entries)
+}
+
+/// Reads the components of the root: their presence bitmap, and those that are there. The entries get
+/// room for `room`.
+#[cycle(reader)]
+fn read_root(
+    alloc: Global,
+    root: &[Field],
+    room: usize,
+    bits: &mut BitCursor<'_>,
+) -> Result<Vec<Option<Value>>, Stop>
+    requires of_profile { AreOfProfile (fields_of (map part_of_field root.now)) }
+    requires few { length root.now ≤ 64 }
+    ensures done { IfOk result (λ es. Spells per_fields (Spelt per None (sequence (fields_of (map part_of_field root.now)) closed))
+        (components (components_of (map (option_map datum_of) es.items))) bits.old bits.new) }
+    ensures stop { IfErr result (λ why. Stops per_fields (Spelt per None (sequence (fields_of (map part_of_field root.now)) closed)) bits.old why) }
+{
+    let count = bitmap_width(root);
+    let set = Numbers {
+        low: 0,
+        high: highest_bitmap(count),
+        except: None,
+    };
+    let bitmap = number(count, set, Why::Number, bits)?;
+    read_components(alloc, root, room, count, bitmap, bits)
+}
+
 /// Reads the components whose presence bits are the `count` bits of `bitmap`, in order (X.691,
-/// "encoding the sequence type"). A component with a DEFAULT that is absent has that value.
+/// "encoding the sequence type"). A component with a DEFAULT that is absent has that value. The entries
+/// get room for `room`.
 #[cycle(reader)]
 fn read_components(
     alloc: Global,
     fields: &[Field],
+    room: usize,
     count: u32,
     bitmap: u64,
     cursor: &mut BitCursor<'_>,
@@ -69,7 +127,7 @@ fn read_components(
     ensures done { IfOk result (λ es. Spells per_fields (Listed per (fields_of (map part_of_field fields.now)) (bits count bitmap)) (map (option_map datum_of) es.items) cursor.old cursor.new) }
     ensures stop { IfErr result (λ why. Stops per_fields (Listed per (fields_of (map part_of_field fields.now)) (bits count bitmap)) cursor.old why) }
 {
-    let mut entries = Vec::with_capacity(alloc, fields.len())?;
+    let mut entries = Vec::with_capacity(alloc, room)?;
     let mut left = count;
     for field in fields {
         let (present, below) = presence_of(field, bitmap, left);
@@ -101,6 +159,74 @@ fn read_entry(
         Need::Default(default) => Ok(Some(read_other(&field.ty, default, bits)?)),
         Need::Must | Need::Optional => Ok(Some(read(alloc, &field.ty, bits)?)),
     }
+}
+
+/// Reads the extension additions of which one is present, and puts their entries behind the others
+/// (X.691, "encoding the sequence type"): their count as a normally small length, a presence bit for
+/// each, and each that is present in an open field.
+#[cycle(reader)]
+fn read_additions(
+    alloc: Global,
+    fields: &[Field],
+    entries: &mut Vec<Option<Value>>,
+    bits: &mut BitCursor<'_>,
+) -> Result<(), Stop>
+    requires of_profile { AreOfProfile (fields_of (map part_of_field fields.now)) }
+    requires some { 0 < length fields.now }
+    requires few { length fields.now ≤ 64 }
+    ensures done { IfOk result (λ _. Spells per_fields (Behind (map (option_map datum_of) entries.old.items) (Additions (fields_of (map part_of_field fields.now))))
+        (map (option_map datum_of) entries.new.items) bits.old bits.new) }
+    ensures stop { IfErr result (λ why. Stops per_fields (Additions (fields_of (map part_of_field fields.now))) bits.old why) }
+{
+    let count = fields.len() as u32;
+    let of_type = Numbers {
+        low: u64::from(count) - 1,
+        high: u64::from(count) - 1,
+        except: None,
+    };
+    number(7, of_type, Why::Extension, bits)?;
+    let some_present = Numbers {
+        low: 1,
+        high: highest_bitmap(count),
+        except: None,
+    };
+    let bitmap = number(count, some_present, Why::Extension, bits)?;
+    let mut left = count;
+    for field in fields {
+        left -= 1;
+        let entry = if bit_at(bitmap, left) {
+            Some(read_open_field(alloc, &field.ty, bits)?)
+        } else {
+            None
+        };
+        entries.push(entry)?;
+    }
+    Ok(())
+}
+
+/// Stand-in.
+#[cycle(reader)]
+fn read_open_field(
+    alloc: Global,
+    ty: &AsnType,
+    bits: &mut BitCursor<'_>,
+) -> Result<Value, Stop>
+    requires of_profile { InProfile (shape_of ty.now) }
+    ensures done { IfOk result (λ v. Spells per_fields (OpenValues (shape_of ty.now)) (datum_of v) bits.old bits.new) }
+    ensures stop { IfErr result (λ why. Stops per_fields (OpenValues (shape_of ty.now)) bits.old why) }
+{
+    read(alloc, ty, bits)
+}
+
+/// Puts an absent entry for each of the additions behind the others.
+fn push_absent(additions: &[Field], entries: &mut Vec<Option<Value>>) -> Result<(), AllocError>
+    ensures { OnOk result (map (option_map datum_of) entries.new.items
+        ≡ map (option_map datum_of) entries.old.items ++ absent_entries (fields_of (map part_of_field additions.now))) }
+{
+    for _ in additions {
+        entries.push(None)?;
+    }
+    Ok(())
 }
 
 /// Reads a value of the type of a component with this DEFAULT, which is another one: an encoder leaves

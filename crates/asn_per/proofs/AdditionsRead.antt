@@ -1,0 +1,113 @@
+-- Where the reader of the extension additions of a SEQUENCE stands.
+use Rattle.std.proofs.Common.{◌≡◌, ◌≤◌, ◌<◌, ◌+◌, ◌-◌, ◌/◌, ◌%◌, ◌^◌, ℕ, zero, suc, List, [], ◌∷◌, ◌++◌, length, map, Option, Some, None, refl, sym, ap, subst, ◌∙◌, arith, append_assoc}
+use Rattle.std.proofs.lemmas.List.{append-nil}
+use Rattle.asn_values.specs.Datum.{Datum}
+use Rattle.asn_values.specs.Shape.{Shape, Fields, no_fields, field, demands}
+use Rattle.asn_values.specs.Parts.{AreOfProfile}
+use Rattle.asn_values.specs.Profile.{InProfile}
+use Rattle.asn_values.specs.View.{Part, fields_of}
+use Rattle.asn_bits.specs.Numbers.{bits}
+use Rattle.asn_bits.specs.Sets.{InSet, Meets}
+use Rattle.asn_bits.proofs.Octets.{length-digits}
+use Rattle.asn_bits.proofs.Unions.{set_meets}
+use Rattle.asn_bits.proofs.Widths.{lt-two_pow}
+use Rattle.asn_rules.specs.Chunks.{Chunk}
+use Rattle.asn_rules.specs.Forks.{Same}
+use Rattle.asn_rules.specs.General.{behind_first}
+use Rattle.asn_rules.specs.Languages.{Spells, Inhabited, Then, Map, Plain, prepended}
+use Rattle.asn_rules.proofs.Forks.{same_spells}
+use Rattle.asn_rules.proofs.Leads.{LeadsStops, Leads, leads_on, leads_map, leads_same, leads_second, stops_first, stops_on}
+use Rattle.asn_rules.proofs.ListedReading.{leads_entry, nothing_read}
+use Rattle.asn_rules.proofs.Parts.{map_inhabited, map_lawful, map_spells, nothing_inhabited}
+use Rattle.asn_rules.proofs.Sets.{set_inhabited, set_lawful}
+use Rattle.asn_rules.proofs.Then.{Follows, then_inhabited}
+use Rattle.asn_per.specs.Kinds.{OpenValues, OpenListed, AdditionCount, SomePresent, Additions, absent_entries}
+use Rattle.asn_per.specs.Per.{per_fields}
+use Rattle.asn_per.specs.Reading.{Admits, Behind}
+use Rattle.asn_per.specs.declared.number_reader.Numbers.{Numbers}
+use Rattle.asn_per.proofs.ItemReading.{same_set}
+use Rattle.asn_per.proofs.OpenFieldLanguages.{open_values_lawful, open_values_inhabited}
+use Rattle.asn_per.proofs.PerFields.{per_fields_part}
+
+-- ---- the additions under their presence bits
+
+-- one that is present, and those behind it
+abbrev Present : Shape → (List (Option Datum) → List Chunk → Type 0) → List (Option Datum) → List Chunk → Type 0
+Present t M = Map prepended (Then (Map Some (OpenValues t)) (λ _. M))
+
+-- whatever the bits are, additions have entries
+open_listed_inhabited : (fs : Fields) (bs : List ℕ) → AreOfProfile fs → length bs ≡ length (demands fs) → Inhabited (OpenListed fs bs)
+open_listed_inhabited no_fields bs good l = nothing_inhabited []
+open_listed_inhabited (field name demand t fs) [] good l = absurd (omega arith)
+open_listed_inhabited (field name demand t fs) (zero ∷ bs) good l = map_inhabited (open_listed_inhabited fs bs good.2 (omega arith))
+open_listed_inhabited (field name demand t fs) (suc b ∷ bs) good l =
+    map_inhabited (then_inhabited (map_inhabited (open_values_inhabited t good.0)) (record { follow = λ v cs h. open_listed_inhabited fs bs good.2 (omega arith) }))
+
+-- ---- their count and their presence bits
+
+-- the one count, and the bitmaps that are not all 0
+abbrev pub only : ℕ → Numbers
+only n = record { low = n; high = n; except = None }
+
+abbrev pub from_one : ℕ → Numbers
+from_one high = record { low = 1; high = high; except = None }
+
+module _ (fs : Fields) (some : 0 < length (demands fs)) (few : length (demands fs) ≤ 64) (good : AreOfProfile fs) where
+  abbrev n : ℕ
+  n = length (demands fs)
+
+  -- presence bits, and the open fields behind them
+  abbrev Bitmapped : List (Option Datum) → List Chunk → Type 0
+  Bitmapped = Map behind_first (Then (SomePresent n) (λ b. OpenListed fs (bits n b)))
+
+  -- the count of the additions
+  some_count : Meets (λ k. Admits (only (n - 1)) k) 0 7
+  some_count = set_meets 2 7 (n - 1) (omega arith, omega arith, tt) (omega (arith, few))
+
+  same_count : Same (Plain (InSet 7 (λ k. Admits (only (n - 1)) k))) (AdditionCount n)
+  same_count = same_set 7 (λ k h. omega (arith, h.0, h.1, some)) (λ k h. (omega (arith, h), omega (arith, h), tt))
+
+  -- more than one bitmap is there
+  two : 1 < 2 ^ n
+  two = omega (arith, some, lt-two_pow n)
+
+  module _ (high : ℕ) (all : high + 1 ≡ 2 ^ n) where
+    some_bitmap : Meets (λ b. Admits (from_one high) b) 0 n
+    some_bitmap = set_meets 2 n 1 (omega arith, omega (arith, two, all), tt) two
+
+    same_bitmap : Same (Plain (InSet n (λ b. Admits (from_one high) b))) (SomePresent n)
+    same_bitmap = same_set n (λ b h. (omega (arith, h.0), omega (arith, h.1, all))) (λ b h. (omega (arith, h.0), omega (arith, h.1, all), tt))
+
+  bitmap_follows : Follows (SomePresent n) (λ b. OpenListed fs (bits n b))
+  bitmap_follows = record { follow = λ b cs h. open_listed_inhabited fs (bits n b) good (length-digits 2 n b) }
+
+  some_bitmapped : Inhabited Bitmapped
+  some_bitmapped = map_inhabited (then_inhabited (set_inhabited (set_meets 2 n 1 (omega arith, omega (arith, two)) two)) bitmap_follows)
+
+  -- some addition is spelt
+  pub some_additions : Inhabited (Additions fs)
+  some_additions = map_inhabited (then_inhabited (set_inhabited (set_meets 2 7 (n - 1) (omega (arith, some)) (omega (arith, few)))) (record { follow = λ k cs h. some_bitmapped }))
+
+  -- within the count
+  count_stops : (us : List ℕ) → LeadsStops per_fields (Plain (InSet 7 (λ k. Admits (only (n - 1)) k))) us (Additions fs) us
+  count_stops us =
+      stops_on (leads_same per_fields us same_count).stops
+      (stops_on (stops_first per_fields us (record { follow = λ k cs h. some_bitmapped })) (leads_map per_fields behind_first (Then (AdditionCount n) (λ k. Bitmapped)) us).stops)
+
+  -- behind it
+  count_leads : (k : ℕ) (us r : List ℕ) → Spells per_fields (Plain (InSet 7 (λ k. Admits (only (n - 1)) k))) k us r → Leads per_fields Bitmapped r (λ es. es) (Additions fs) us
+  count_leads k us r h =
+      leads_on (leads_second {M = λ k. Bitmapped} per_fields_part (set_lawful 2 7 (λ k. k + 1 ≡ n)) (same_spells same_count h)) (leads_map per_fields behind_first (Then (AdditionCount n) (λ k. Bitmapped)) us)
+
+  module _ (high : ℕ) (all : high + 1 ≡ 2 ^ n) where
+    -- within the bitmap
+    bitmap_stops : (us : List ℕ) → LeadsStops per_fields (Plain (InSet n (λ b. Admits (from_one high) b))) us Bitmapped us
+    bitmap_stops us =
+        stops_on (leads_same per_fields us (same_bitmap high all)).stops
+        (stops_on (stops_first per_fields us bitmap_follows) (leads_map per_fields behind_first (Then (SomePresent n) (λ b. OpenListed fs (bits n b))) us).stops)
+
+    -- behind it
+    bitmap_leads : (b : ℕ) (us r : List ℕ) → Spells per_fields (Plain (InSet n (λ b. Admits (from_one high) b))) b us r → Leads per_fields (OpenListed fs (bits n b)) r (λ es. es) Bitmapped us
+    bitmap_leads b us r h =
+        leads_on (leads_second {M = λ b. OpenListed fs (bits n b)} per_fields_part (set_lawful 2 n (λ b. (0 < b) × (b < 2 ^ n))) (same_spells (same_bitmap high all) h))
+        (leads_map per_fields behind_first (Then (SomePresent n) (λ b. OpenListed fs (bits n b))) us)

@@ -111,3 +111,125 @@ module _ (fs : Fields) (some : 0 < length (demands fs)) (few : length (demands f
     bitmap_leads b us r h =
         leads_on (leads_second {M = λ b. OpenListed fs (bits n b)} per_fields_part (set_lawful 2 n (λ b. (0 < b) × (b < 2 ^ n))) (same_spells (same_bitmap high all) h))
         (leads_map per_fields behind_first (Then (SomePresent n) (λ b. OpenListed fs (bits n b))) us)
+
+-- ---- where the reader stands
+
+-- the entries of the additions that have come, behind those of the root, and what is read of those that are left
+pub record AddedUpTo (before : List (Option Datum)) (all : Fields) (us : List ℕ) (rest : List Part) (left bitmap : ℕ) (entries : List (Option Datum)) (vs : List ℕ) : Type 0 where
+  pub of_profile : AreOfProfile (fields_of rest)
+  pub width : left ≡ length rest
+  pub few : left ≤ 64
+  pub come : List (Option Datum)
+  pub behind : entries ≡ before ++ come
+  pub leads : Leads per_fields (OpenListed (fields_of rest) (bits left bitmap)) vs (λ es. come ++ es) (Additions all) us
+
+length-demands : (parts : List Part) → length (demands (fields_of parts)) ≡ length parts
+length-demands [] = refl
+length-demands (p ∷ parts) = ap suc (length-demands parts)
+
+module _ (parts : List Part) (some : 0 < length parts) (few : length parts ≤ 64) (good : AreOfProfile (fields_of parts)) where
+  abbrev fs : Fields
+  fs = fields_of parts
+
+  each : length parts ≡ length (demands fs)
+  each = sym (length-demands parts)
+
+  -- within the count of the additions
+  pub count_stops_at : (count : ℕ) → count ≡ length parts → (us : List ℕ) → LeadsStops per_fields (Plain (InSet 7 (λ k. Admits (only (count - 1)) k))) us (Additions fs) us
+  count_stops_at count is us =
+      let e : count ≡ length (demands fs) = is ∙ each in
+      rw e (count_stops fs (rw each at some) (rw each at few) good us)
+
+  module _ (count : ℕ) (is : count ≡ length parts) (k : ℕ) (us r : List ℕ) (h : Spells per_fields (Plain (InSet 7 (λ k. Admits (only (count - 1)) k))) k us r) (high : ℕ) (all : high + 1 ≡ 2 ^ count) where
+    e : count ≡ length (demands fs)
+    e = is ∙ each
+
+    -- within their presence bits
+    pub bitmap_stops_at : LeadsStops per_fields (Plain (InSet count (λ b. Admits (from_one high) b))) r (Additions fs) us
+    bitmap_stops_at =
+        rw e (stops_on (bitmap_stops fs (rw each at some) (rw each at few) good high (rw e at all) r) (count_leads fs (rw each at some) (rw each at few) good k us r (rw e at h)).stops)
+
+    -- behind them stand the open fields
+    pub added_starts : (before : List (Option Datum)) (b : ℕ) (vs : List ℕ) → Spells per_fields (Plain (InSet count (λ b. Admits (from_one high) b))) b r vs → AddedUpTo before fs us parts count b before vs
+    added_starts before b vs g = record {
+      of_profile = good;
+      width = is;
+      few = omega (arith, is, few);
+      come = [];
+      behind = sym (append-nil before);
+      leads = rw e (leads_on (bitmap_leads fs (rw each at some) (rw each at few) good high (rw e at all) b r vs (rw e at g)) (count_leads fs (rw each at some) (rw each at few) good k us r (rw e at h)));
+    }
+
+-- the bits that are left begin with that of the next addition
+next_bit : (left after bitmap bit : ℕ) → after + 1 ≡ left → bit ≡ bitmap / 2 ^ after % 2 → bits left bitmap ≡ bit ∷ bits after bitmap
+next_bit left after bitmap bit d b =
+    let l : left ≡ suc after = omega (arith, d) in
+    ap (λ (n : ℕ). bits n bitmap) l ∙ ap (λ (x : ℕ). x ∷ bits after bitmap) (sym b)
+
+some_same : (v w : Datum) → Some v ≡ Some w → v ≡ w
+some_same v w e = cc
+
+module _ {before : List (Option Datum)} {all : Fields} {us : List ℕ} {p : Part} {rest : List Part} {left bitmap : ℕ} {entries : List (Option Datum)} {vs : List ℕ} (h : AddedUpTo before all us (p ∷ rest) left bitmap entries vs) where
+  -- a presence bit is left for it
+  pub addition_bit : 0 < left
+  addition_bit = omega (arith, h.width)
+
+  -- it is of the profile
+  pub addition_good : InProfile p.shape
+  addition_good = h.of_profile.0
+
+  module _ (after : ℕ) (d : after + 1 ≡ left) where
+    others : after ≡ length rest
+    others = omega (arith, d, h.width)
+
+    -- the additions behind it have entries
+    rest_inhabited : Inhabited (OpenListed (fields_of rest) (bits after bitmap))
+    rest_inhabited = open_listed_inhabited (fields_of rest) (bits after bitmap) h.of_profile.2 (length-digits 2 after bitmap ∙ others ∙ sym (length-demands rest))
+
+    module _ (b : 1 ≡ bitmap / 2 ^ after % 2) where
+      present_leads : Leads per_fields (Present p.shape (OpenListed (fields_of rest) (bits after bitmap))) vs (λ es. h.come ++ es) (Additions all) us
+      present_leads = let f = next_bit left after bitmap 1 d b in rw f at h.leads
+
+      -- within its open field
+      pub addition_stops : LeadsStops per_fields (OpenValues p.shape) vs (Additions all) us
+      addition_stops =
+          stops_on (leads_map per_fields Some (OpenValues p.shape) vs).stops
+          (stops_on (stops_first per_fields vs (record { follow = λ v cs g. rest_inhabited }))
+          (stops_on (leads_map per_fields prepended (Then (Map Some (OpenValues p.shape)) (λ _. OpenListed (fields_of rest) (bits after bitmap))) vs).stops present_leads.stops))
+
+      -- and behind it
+      pub addition_present : (v : Datum) (r : List ℕ) → Spells per_fields (OpenValues p.shape) v vs r → AddedUpTo before all us rest after bitmap (entries ++ Some v ∷ []) r
+      addition_present v r g = record {
+        of_profile = h.of_profile.2;
+        width = others;
+        few = omega (arith, d, h.few);
+        come = h.come ++ Some v ∷ [];
+        behind = ap (λ (es : List (Option Datum)). es ++ Some v ∷ []) h.behind ∙ append_assoc before h.come (Some v ∷ []);
+        leads =
+            leads_entry h.come (Some v)
+            (leads_on (leads_second {M = λ _. OpenListed (fields_of rest) (bits after bitmap)} per_fields_part (map_lawful some_same (open_values_lawful p.shape h.of_profile.0)) (map_spells {f = Some} g))
+            (leads_map per_fields prepended (Then (Map Some (OpenValues p.shape)) (λ _. OpenListed (fields_of rest) (bits after bitmap))) vs))
+            present_leads;
+      }
+
+    -- it is absent
+    pub addition_absent : 0 ≡ bitmap / 2 ^ after % 2 → AddedUpTo before all us rest after bitmap (entries ++ None ∷ []) vs
+    addition_absent b =
+        let f = next_bit left after bitmap 0 d b in
+        let l : Leads per_fields (Map (λ es. None ∷ es) (OpenListed (fields_of rest) (bits after bitmap))) vs (λ es. h.come ++ es) (Additions all) us = rw f at h.leads in
+        record {
+          of_profile = h.of_profile.2;
+          width = others;
+          few = omega (arith, d, h.few);
+          come = h.come ++ None ∷ [];
+          behind = ap (λ (es : List (Option Datum)). es ++ None ∷ []) h.behind ∙ append_assoc before h.come (None ∷ []);
+          leads = leads_entry h.come None (leads_map per_fields (λ es. None ∷ es) (OpenListed (fields_of rest) (bits after bitmap)) vs) l;
+        }
+
+-- no addition is left: all entries have come
+pub added_ends : {before : List (Option Datum)} {all : Fields} {us : List ℕ} {rest : List Part} {left bitmap : ℕ} {entries : List (Option Datum)} {vs : List ℕ}
+    → AddedUpTo before all us rest left bitmap entries vs → rest ≡ [] → Spells per_fields (Behind before (Additions all)) entries us vs
+added_ends {before} {all} {us} {rest} {left} {bitmap} {entries} {vs} h e =
+    let l : Leads per_fields (OpenListed no_fields (bits left bitmap)) vs (λ es. h.come ++ es) (Additions all) us = rw e at h.leads in
+    let come : Spells per_fields (Additions all) h.come us vs = subst (λ (es : List (Option Datum)). Spells per_fields (Additions all) es us vs) (append-nil h.come) (l.done [] vs (nothing_read per_fields [] vs)) in
+    rw h.behind (map_spells {f = λ es. before ++ es} come)

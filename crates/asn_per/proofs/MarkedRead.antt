@@ -1,2 +1,113 @@
 -- From the answers for the root and the additions to those for a SEQUENCE with an extension mark.
-use Rattle.std.proofs.Common.{ℕ}
+use Rattle.std.proofs.Common.{◌≡◌, ◌≢◌, ◌≤◌, ◌<◌, ◌⊎◌, inl, inr, ℕ, List, [], ◌∷◌, ◌++◌, length, Option, None, refl, sym, ap, subst, ◌∙◌, arith}
+use Rattle.std.proofs.lemmas.List.{append_cancel_right}
+use Rattle.asn_values.specs.Datum.{Datum, Components, components, component_list, components_of}
+use Rattle.asn_values.specs.Shape.{Fields, sequence, closed, marked, demands}
+use Rattle.asn_values.specs.Parts.{AreOfProfile}
+use Rattle.asn_values.specs.Profile.{InProfile}
+use Rattle.asn_values.proofs.InnerTypes.{additions_of_profile}
+use Rattle.asn_rules.specs.Chunks.{Chunk, one}
+use Rattle.asn_rules.specs.Forks.{Fork, Same}
+use Rattle.asn_rules.specs.Languages.{Spells, Short, Refused, Lawful, Inhabited, Then, Map}
+use Rattle.asn_rules.specs.Listed.{Spelt}
+use Rattle.asn_rules.specs.Parted.{Parted}
+use Rattle.asn_rules.proofs.Exits.{leads_zero, leads_one}
+use Rattle.asn_rules.proofs.Forks.{same_flip, same_inhabited, same_lawful, same_spells, fork_short, fork_refused}
+use Rattle.asn_rules.proofs.Leads.{LeadsStops, Leads, leads_on, leads_map, leads_same, leads_second, stops_first, stops_on}
+use Rattle.asn_rules.proofs.Parts.{map_short, map_refused, map_source}
+use Rattle.asn_rules.proofs.SomeValue.{a_value}
+use Rattle.asn_rules.proofs.Spellings.{spelled_lawful, spelled_inhabited}
+use Rattle.asn_per.specs.Kinds.{Values, of_either, Additions, absent_entries, with_entries, MarkedSequences}
+use Rattle.asn_per.specs.Per.{per, per_fields}
+use Rattle.asn_per.specs.Reading.{Behind}
+use Rattle.asn_per.proofs.AdditionsRead.{some_additions}
+use Rattle.asn_per.proofs.LeftOut.{none_left_out}
+use Rattle.asn_per.proofs.MarkedSequences.{marked_sequences_compose}
+use Rattle.asn_per.proofs.PerFields.{per_fields_part}
+use Rattle.asn_per.proofs.Spellings.{component_list-of, components_of-list}
+use Rattle.asn_per.proofs.Whole.{per_parts}
+
+-- the entries that stand behind those of a SEQUENCE
+entries_behind : (es gs : List (Option Datum)) → with_entries (components (components_of es), gs) ≡ components (components_of (es ++ gs))
+entries_behind es gs = ap (λ (l : List (Option Datum)). components (components_of (l ++ gs))) (component_list-of es)
+
+-- what is behind the entries of two SEQUENCEs alike does not make them one
+entries_before : (cs ds : Components) (gs : List (Option Datum)) → with_entries (components cs, gs) ≡ with_entries (components ds, gs) → components cs ≡ components ds
+entries_before cs ds gs e =
+    let f : components_of (component_list cs ++ gs) ≡ components_of (component_list ds ++ gs) = cc in
+    let g : component_list cs ++ gs ≡ component_list ds ++ gs = sym (component_list-of (component_list cs ++ gs)) ∙ ap component_list f ∙ component_list-of (component_list ds ++ gs) in
+    let l = append_cancel_right (component_list cs) (component_list ds) gs g in
+    ap components (sym (components_of-list cs) ∙ ap components_of l ∙ components_of-list ds)
+
+module _ (root fs : Fields) (good : InProfile (sequence root (marked fs))) where
+  abbrev Absent : Datum → List Chunk → Type 0
+  Absent = Map (λ v. with_entries (v, absent_entries fs)) (Values (sequence root closed))
+
+  abbrev Present : Datum → List Chunk → Type 0
+  Present = Map with_entries (Then (Values (sequence root closed)) (λ v. Additions fs))
+
+  abbrev Either : Datum ⊎ Datum → List Chunk → Type 0
+  Either = Fork Absent Present
+
+  -- two values with the mark are one or part
+  marked_lawful : Lawful (MarkedSequences root fs)
+  marked_lawful = same_lawful (same_flip (marked_sequences_compose root fs good)) (spelled_lawful (λ v w p q. per_parts (sequence root (marked fs)) v w good p q))
+
+  -- so are two of the root
+  root_lawful : Lawful (Values (sequence root closed))
+  root_lawful = record { law = λ v w x y p q. law v w x y p q }
+    where
+      absent : (v : Datum) (x : List Chunk) → Values (sequence root closed) v x → MarkedSequences root fs (with_entries (v, absent_entries fs)) (one 0 ∷ x)
+      absent v x p = record {
+        source = inl (with_entries (v, absent_entries fs));
+        spelt = record { side = inl (record { value = with_entries (v, absent_entries fs); rest = x; spelt = record { source = v; spelt = p; seen = refl }; seen = refl; same = refl }) };
+        seen = refl;
+      }
+
+      law : (v w : Datum) (x y : List Chunk) → Values (sequence root closed) v x → Values (sequence root closed) w y → ((v ≡ w) × (x ≡ y)) ⊎ ((v ≢ w) × Parted x y)
+      law (components cs) (components ds) x y p q = go (marked_lawful.law _ _ _ _ (absent (components cs) x p) (absent (components ds) y q))
+        where
+          go : ((with_entries (components cs, absent_entries fs) ≡ with_entries (components ds, absent_entries fs)) × (one 0 ∷ x ≡ one 0 ∷ y))
+              ⊎ ((with_entries (components cs, absent_entries fs) ≢ with_entries (components ds, absent_entries fs)) × Parted (one 0 ∷ x) (one 0 ∷ y))
+              → ((components cs ≡ components ds) × (x ≡ y)) ⊎ ((components cs ≢ components ds) × Parted x y)
+          go (inl e) = inl (entries_before cs ds (absent_entries fs) e.0, let f = e.1 in cc)
+          go (inr (n, inl m)) = absurd (m refl)
+          go (inr (n, inr m)) = inr (λ e. n (ap (λ (v : Datum). with_entries (v, absent_entries fs)) e), m.1)
+      law (components cs) w x y p q = absurd q.fits
+      law v w x y p q = absurd p.fits
+
+  some_value : Inhabited Either
+  some_value =
+      let v = a_value (sequence root (marked fs)) good in
+      let i = same_inhabited (same_flip (marked_sequences_compose root fs good)) (spelled_inhabited v.0 v.1) in
+      record { value = i.spelt.source; chunks = i.chunks; spelt = i.spelt.spelt }
+
+  -- no bit comes
+  pub mark_waits : Short per_fields (MarkedSequences root fs) []
+  mark_waits = map_short (fork_short some_value)
+
+  -- where the type has no additions, the 1 is refused
+  pub mark_refused : length (demands fs) ≡ 0 → (us after : List ℕ) → us ≡ 1 ∷ after → Refused per_fields (MarkedSequences root fs) us (length after)
+  mark_refused none us after e =
+      rw e (map_refused (fork_refused per_fields_part some_value 1 after (λ f. absurd (omega arith)) (λ f i. absurd (let m = i.spelt.spelt.follows.spelt.spelt.spelt.member in omega (arith, m, none)))))
+
+  -- behind a 0 stands the root
+  pub root_behind_zero : (us after : List ℕ) → us ≡ 0 ∷ after → Leads per_fields (Spelt per None (sequence root closed)) after (λ v. with_entries (v, absent_entries fs)) (MarkedSequences root fs) us
+  root_behind_zero us after e =
+      leads_on (leads_same per_fields after (same_flip (none_left_out (sequence root closed))))
+      (leads_on (leads_map per_fields (λ v. with_entries (v, absent_entries fs)) (Values (sequence root closed)) after) (leads_on (leads_zero per_fields e) (leads_map per_fields of_either Either us)))
+
+  present_leads : (us after : List ℕ) → us ≡ 1 ∷ after → Leads per_fields (Then (Values (sequence root closed)) (λ v. Additions fs)) after with_entries (MarkedSequences root fs) us
+  present_leads us after e =
+      leads_on (leads_map per_fields with_entries (Then (Values (sequence root closed)) (λ v. Additions fs)) after) (leads_on (leads_one per_fields e) (leads_map per_fields of_either Either us))
+
+  -- behind a 1 stands the root
+  pub root_behind_one : 0 < length (demands fs) → length (demands fs) ≤ 64 → (us after : List ℕ) → us ≡ 1 ∷ after → LeadsStops per_fields (Spelt per None (sequence root closed)) after (MarkedSequences root fs) us
+  root_behind_one some few us after e =
+      stops_on (leads_same per_fields after (same_flip (none_left_out (sequence root closed)))).stops
+      (stops_on (stops_first per_fields after (record { follow = λ v cs h. some_additions fs some few (additions_of_profile root fs good) })) (present_leads us after e).stops)
+
+  -- and the additions
+  pub additions_behind : (v : Datum) (us after r : List ℕ) → us ≡ 1 ∷ after → Spells per_fields (Spelt per None (sequence root closed)) v after r → Leads per_fields (Additions fs) r (λ gs. with_entries (v, gs)) (MarkedSequences root fs) us
+  additions_behind v us after r e h =
+      leads_on (leads_second {M = λ v. Additions fs} per_fields_part root_lawful (same_spells (same_flip (none_left_out (sequence root closed))) h)) (present_leads us after e)

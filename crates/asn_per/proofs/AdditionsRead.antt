@@ -1,11 +1,12 @@
 -- Where the reader of the extension additions of a SEQUENCE stands.
 use Rattle.std.proofs.Common.{◌≡◌, ◌≤◌, ◌<◌, ◌+◌, ◌-◌, ◌/◌, ◌%◌, ◌^◌, ℕ, zero, suc, List, [], ◌∷◌, ◌++◌, length, map, Option, Some, None, refl, sym, ap, subst, ◌∙◌, arith, append_assoc}
-use Rattle.std.proofs.lemmas.List.{append-nil}
+use Rattle.std.proofs.lemmas.List.{append-nil, length-map}
 use Rattle.asn_values.specs.Datum.{Datum}
 use Rattle.asn_values.specs.Shape.{Shape, Fields, no_fields, field, demands}
 use Rattle.asn_values.specs.Parts.{AreOfProfile}
 use Rattle.asn_values.specs.Profile.{InProfile}
-use Rattle.asn_values.specs.View.{Part, fields_of}
+use Rattle.asn_values.specs.View.{Part, fields_of, part_of_field}
+use Rattle.asn_values.specs.declared.types.Field.{Field}
 use Rattle.asn_bits.specs.Numbers.{bits}
 use Rattle.asn_bits.specs.Sets.{InSet, Meets}
 use Rattle.asn_bits.proofs.Octets.{length-digits}
@@ -127,37 +128,38 @@ length-demands : (parts : List Part) → length (demands (fields_of parts)) ≡ 
 length-demands [] = refl
 length-demands (p ∷ parts) = ap suc (length-demands parts)
 
-module _ (parts : List Part) (some : 0 < length parts) (few : length parts ≤ 64) (good : AreOfProfile (fields_of parts)) where
+module _ (fields : List Field) (some : 0 < length fields) (few : length fields ≤ 64) (good : AreOfProfile (fields_of (map part_of_field fields))) where
   abbrev fs : Fields
-  fs = fields_of parts
+  fs = fields_of (map part_of_field fields)
 
-  each : length parts ≡ length (demands fs)
-  each = sym (length-demands parts)
+  each : length fields ≡ length (demands fs)
+  each = sym (length-demands (map part_of_field fields) ∙ length-map fields part_of_field)
 
   -- within the count of the additions
-  pub count_stops_at : (count : ℕ) → count ≡ length parts → (us : List ℕ) → LeadsStops per_fields (Plain (InSet 7 (λ k. Admits (only (count - 1)) k))) us (Additions fs) us
-  count_stops_at count is us =
-      let e : count ≡ length (demands fs) = is ∙ each in
+  pub count_stops_at : (last : ℕ) → last ≡ length fields - 1 → (us : List ℕ) → LeadsStops per_fields (Plain (InSet 7 (λ k. Admits (only last) k))) us (Additions fs) us
+  count_stops_at last is us =
+      let e : last ≡ length (demands fs) - 1 = rw each at is in
       rw e (count_stops fs (rw each at some) (rw each at few) good us)
 
-  module _ (count : ℕ) (is : count ≡ length parts) (k : ℕ) (us r : List ℕ) (h : Spells per_fields (Plain (InSet 7 (λ k. Admits (only (count - 1)) k))) k us r) (high : ℕ) (all : high + 1 ≡ 2 ^ count) where
-    e : count ≡ length (demands fs)
-    e = is ∙ each
+  module _ (last : ℕ) (is : last ≡ length fields - 1) (k : ℕ) (us r : List ℕ) (h : Spells per_fields (Plain (InSet 7 (λ k. Admits (only last) k))) k us r) (high : ℕ) (all : high + 1 ≡ 2 ^ length fields) where
+    counted : Leads per_fields (Bitmapped fs (rw each at some) (rw each at few) good) r (λ es. es) (Additions fs) us
+    counted =
+        let e : last ≡ length (demands fs) - 1 = rw each at is in
+        count_leads fs (rw each at some) (rw each at few) good k us r (rw e at h)
 
     -- within their presence bits
-    pub bitmap_stops_at : LeadsStops per_fields (Plain (InSet count (λ b. Admits (from_one high) b))) r (Additions fs) us
-    bitmap_stops_at =
-        rw e (stops_on (bitmap_stops fs (rw each at some) (rw each at few) good high (rw e at all) r) (count_leads fs (rw each at some) (rw each at few) good k us r (rw e at h)).stops)
+    pub presence_stops_at : LeadsStops per_fields (Plain (InSet (length fields) (λ b. Admits (from_one high) b))) r (Additions fs) us
+    presence_stops_at = rw each (stops_on (bitmap_stops fs (rw each at some) (rw each at few) good high (rw each at all) r) counted.stops)
 
     -- behind them stand the open fields
-    pub added_starts : (before : List (Option Datum)) (b : ℕ) (vs : List ℕ) → Spells per_fields (Plain (InSet count (λ b. Admits (from_one high) b))) b r vs → AddedUpTo before fs us parts count b before vs
+    pub added_starts : (before : List (Option Datum)) (b : ℕ) (vs : List ℕ) → Spells per_fields (Plain (InSet (length fields) (λ b. Admits (from_one high) b))) b r vs → AddedUpTo before fs us (map part_of_field fields) (length fields) b before vs
     added_starts before b vs g = record {
       of_profile = good;
-      width = is;
-      few = omega (arith, is, few);
+      width = sym (length-map fields part_of_field);
+      few = few;
       come = [];
       behind = sym (append-nil before);
-      leads = rw e (leads_on (bitmap_leads fs (rw each at some) (rw each at few) good high (rw e at all) b r vs (rw e at g)) (count_leads fs (rw each at some) (rw each at few) good k us r (rw e at h)));
+      leads = rw each (leads_on (bitmap_leads fs (rw each at some) (rw each at few) good high (rw each at all) b r vs (rw each at g)) counted);
     }
 
 -- the bits that are left begin with that of the next addition

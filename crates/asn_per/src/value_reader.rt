@@ -1,8 +1,9 @@
 //! The reader of values.
-ghost use Rattle.std.specs.Prelude.{◌≡◌, ◌≤◌, ◌<◌, ◌+◌, ◌^◌, ◌/◌, ◌%◌, ◌++◌, IfOk, IfErr, OnOk, true, false, Some, None, map, length};
+ghost use Rattle.std.specs.Prelude.{◌≡◌, ◌≤◌, ◌<◌, ◌+◌, ◌^◌, ◌/◌, ◌%◌, ◌++◌, IfOk, IfErr, OnOk, true, false, Some, None, map, length, ◌≤ℤ◌, IfSome, IsSome, IsNone};
 ghost use Rattle.std.specs.Option.{option_map};
 ghost use Rattle.asn_values.specs.Shape.{sequence, closed, marked};
-ghost use Rattle.asn_values.specs.Datum.{components, components_of};
+ghost use Rattle.asn_values.specs.Datum.{components, components_of, number};
+ghost use Rattle.asn_values.specs.Fits.{lowest_integer, highest_integer};
 ghost use Rattle.asn_values.specs.Profile.{InProfile, good_default};
 ghost use Rattle.asn_values.specs.Parts.{AreOfProfile, IsGoodDemand};
 ghost use Rattle.asn_values.specs.View.{shape_of, datum_of, fields_of, part_of_field};
@@ -19,7 +20,7 @@ ghost use Rattle.asn_per.specs.Reading.{Behind};
 ghost use Rattle.asn_per.specs.Rules.{per_ruling};
 
 use crate::encoder::may_be_absent;
-use crate::integer_reader::{boolean, integer, power_of_two};
+use crate::integer_reader::{boolean, integer, power_of_two, take_between};
 use crate::items::enumerated;
 use crate::number_reader::{Numbers, bits_left, number, padding};
 use crate::string_reader::{bit_string, octet_string, text, utf8_string};
@@ -97,6 +98,7 @@ fn read_root(
 ) -> Result<Vec<Option<Value>>, Stop>
     requires of_profile { AreOfProfile (fields_of (map part_of_field root.now)) }
     requires few { length root.now ≤ 64 }
+    requires room { length root.now ≤ room }
     ensures done { IfOk result (λ es. Spells per_fields (Spelt per None (sequence (fields_of (map part_of_field root.now)) closed))
         (components (components_of (map (option_map datum_of) es.items))) bits.old bits.new) }
     ensures stop { IfErr result (λ why. Stops per_fields (Spelt per None (sequence (fields_of (map part_of_field root.now)) closed)) bits.old why) }
@@ -182,18 +184,44 @@ fn read_components(
     requires of_profile { AreOfProfile (fields_of (map part_of_field fields.now)) }
     requires count { count ≡ bitmap_length (fields_of (map part_of_field fields.now)) }
     requires few { count ≤ 64 }
+    requires room { length fields.now ≤ room }
     ensures done { IfOk result (λ es. Spells per_fields (Listed per (fields_of (map part_of_field fields.now)) (bits count bitmap)) (map (option_map datum_of) es.items) cursor.old cursor.new) }
     ensures stop { IfErr result (λ why. Stops per_fields (Listed per (fields_of (map part_of_field fields.now)) (bits count bitmap)) cursor.old why) }
 {
     let mut entries = Vec::with_capacity(alloc, room)?;
     let mut left = count;
     for field in fields {
+        if let Some(whole) = take_bounded(field, cursor) {
+            entries.push_reserved(Some(Value::Int(whole)));
+            continue;
+        }
         let (present, below) = presence_of(field, bitmap, left);
         left = below;
         let entry = read_entry(alloc, field, present, cursor)?;
-        entries.push(entry)?;
+        entries.push_reserved(entry);
     }
     Ok(entries)
+}
+
+/// Takes the integer of a component that is always there and has two bounds and no extension mark, where
+/// its bits are at hand and it lies between them; else all bits stay.
+#[inline(always)]
+fn take_bounded(field: &Field, bits: &mut BitCursor<'_>) -> Option<i128>
+    requires of_profile { InProfile (part_of_field field.now).shape }
+    ensures must { IsSome result → has_presence_bit (part_of_field field.now).demand ≡ false }
+    ensures some { IfSome result (λ z. Spells per_fields (Entry per (part_of_field field.now).demand (part_of_field field.now).shape true) (Some (number z)) bits.old bits.new × (lowest_integer ≤ℤ z) × (z ≤ℤ highest_integer)) }
+    ensures none { IsNone result → bits.new ≡ bits.old }
+{
+    if may_be_absent(field) {
+        return None;
+    }
+    let AsnType::Int(bounds) = &field.ty else {
+        return None;
+    };
+    match (bounds.low, bounds.high) {
+        (Some(low), Some(high)) if !bounds.ext => take_between(low, high, bits),
+        _ => None,
+    }
 }
 
 /// Reads the entry of a component, of which `present` says whether it is there.
@@ -237,9 +265,10 @@ fn read_additions(
     ensures stop { IfErr result (λ why. Stops per_fields (Additions (fields_of (map part_of_field fields.now))) bits.old why) }
 {
     let count = fields.len() as u32;
+    let last = u64::from(count) - 1;
     let of_type = Numbers {
-        low: u64::from(count) - 1,
-        high: u64::from(count) - 1,
+        low: last,
+        high: last,
         except: None,
     };
     number(7, of_type, Why::Extension, bits)?;

@@ -1,24 +1,34 @@
-use Rattle.std.proofs.Common.{◌≡◌, ◌⊎◌, inl, inr, ◌∷◌, [], ◌++◌, ◌∙◌, true, false, List, map, Some, None, rules, sym, ap, ◌-◌, length, replicate}
+use Rattle.std.proofs.Common.{◌≡◌, ◌⊎◌, inl, inr, ◌∷◌, [], ◌++◌, ◌∙◌, true, false, List, map, Some, None, rules, sym, ap, ◌+◌, ◌-◌, ◌/◌, ◌%◌, ◌^◌, length, replicate, refl, arith}
 use Rattle.std.specs.Option.{option_map}
 use Rattle.std.proofs.lemmas.List.{map-append}
 use Rattle.std.proofs.lemmas.Result.{err_from_is_err_and}
+use mir.Syntax.{w128}
+use mir.Val.{to_z, of_z}
+use Rattle.asn_bits.proofs.Above.{kept}
 use Rattle.asn_values.specs.declared.types.AsnType.{the_lemmas}
+use Rattle.asn_values.specs.declared.value.Value.TheVariants as value
+use Rattle.asn_values.specs.Datum.{number}
 use Rattle.asn_values.specs.declared.types.Field.{Field}
 use Rattle.asn_values.specs.declared.types.Need.{Need}
 use Rattle.asn_values.specs.declared.types.Need.TheVariants as needs
 use Rattle.asn_values.specs.Shape.{integer, enumerated}
 use Rattle.asn_values.specs.View.{shape_of, datum_of, fields_of, part_of_field, range_of, size_range_of, alphabet_of, label_of, more_labels_of, demand_of}
+use Rattle.asn_values.proofs.Components.{shape_of_part}
+use Rattle.asn_bits.specs.Sink.{bit_of}
 use Rattle.asn_values.proofs.Views.{shape_of-Int, shape_of-Bits, shape_of-Octets, shape_of-Text, shape_of-Utf8, datum_of-Bits, datum_of-Octets, datum_of-Text, datum_of-Seq, sequence_of_fields}
 use Rattle.asn_rules.specs.Listed.{bitmap_length, default_of, Spelt}
 use Rattle.asn_rules.proofs.Leads.{stops_by}
 use Rattle.asn_rules.proofs.Listed.{spelt_inhabited}
 use Rattle.asn_rules.proofs.ListedReading.{nothing_read}
 use Rattle.asn_per.specs.Per.{per, per_fields, filling}
-use Rattle.asn_per.proofs.ComponentsRead.{next_part, no_part, bit_there, next_either, read_ends, demand_of_part, entry_leads, parts_good, bitmap_stops_at, components_at}
+use Rattle.asn_per.proofs.ComponentsRead.{next_part, no_part, bit_there, next_either, read_ends, demand_of_part, entry_leads, bitmap_stops_at, components_at, next_must, datum_of-Int}
+use Rattle.asn_per.proofs.AdditionsRead.{count_stops_at, presence_stops_at, added_starts, addition_bit, addition_good, addition_stops, addition_present, addition_absent, added_ends}
+use Rattle.asn_per.proofs.MarkedRead.{mark_waits, mark_refused, root_behind_zero, root_behind_one, additions_behind}
 use Rattle.asn_per.proofs.EnumeratedTypes.{enumerated_of_items}
 use Rattle.asn_per.proofs.StringReading.{bits_size, octets_size, text_size, bits_lead, octets_lead, text_leads, utf8_leads}
 use Rattle.asn_per.proofs.Sequences.{few_components}
 use Rattle.asn_per.proofs.value_reader.+reader.Goals as goal
+use Rattle.asn_per.proofs.value_reader.+reader.Goals.{read_additions-then-bit_at+in_ok-read_open_field, read_additions-else-bit_at}
 use Rattle.asn_per.proofs.Messages.{value_stops, zeros_behind, eight_zeros, zeros_of_octet}
 use Rattle.asn_rules.specs.Languages.{Spells}
 use Rattle.asn_per.proofs.value_reader.+reader.Goals.{read_complete-then-bits_left-given, read_complete-else-bits_left-given}
@@ -81,64 +91,113 @@ read-returns-in_err-utf8_string-in-Utf8-clause-stop t c =
     let p = err_from_is_err_and c.from_residual-in_err-utf8_string-in-Utf8.result c.from_residual-in_err-utf8_string-in-Utf8.ensures.1 in
     rw (p.1, p.2, c.in-Utf8.is, shape_of-Utf8) (stops_by _ (utf8_leads c.args.bits.now).stops c.in_err-utf8_string-in-Utf8.ensures.stop)
 
-pub read-bitmap_width-count-requires : goal.read-bitmap_width-count-requires
-read-bitmap_width-count-requires t c =
-    few_components c.deref-in-Seq.result.now (sequence_of_fields c.args.ty.now c.in-Seq.root c.deref-in-Seq.result.now c.in-Seq.is c.deref-in-Seq.ensures.value) c.requires.of_profile
+-- MARKED-BEGIN
+pub read_additions-returns-in_err-number-clause-stop : goal.read_additions-returns-in_err-number-clause-stop
+read_additions-returns-in_err-number-clause-stop t c =
+    let p = err_from_is_err_and c.from_residual.result c.from_residual.ensures.1 in
+    let is : c.from-last.result - 1 ≡ length c.args.fields.now - 1 = ap (λ n. n - 1) c.from-last.ensures in
+    rw (p.1, p.2) (stops_by _ (count_stops_at c.args.fields.now c.requires.some c.requires.few c.requires.of_profile (c.from-last.result - 1) is c.args.bits.now) c.in_err-number.ensures.stop)
 
-pub read-returns-in_err-bitmap-in-Seq-clause-stop : goal.read-returns-in_err-bitmap-in-Seq-clause-stop
-read-returns-in_err-bitmap-in-Seq-clause-stop t c =
-    let is = sequence_of_fields c.args.ty.now c.in-Seq.root c.deref-in-Seq.result.now c.in-Seq.is c.deref-in-Seq.ensures.value in
-    let p = err_from_is_err_and c.from_residual-in_err-bitmap-in-Seq.result c.from_residual-in_err-bitmap-in-Seq.ensures.1 in
+pub read_additions-returns-in_err-bitmap-clause-stop : goal.read_additions-returns-in_err-bitmap-clause-stop
+read_additions-returns-in_err-bitmap-clause-stop t c =
+    let p = err_from_is_err_and c.from_residual-in_err-bitmap.result c.from_residual-in_err-bitmap.ensures.1 in
+    let is : c.from-last.result - 1 ≡ length c.args.fields.now - 1 = ap (λ n. n - 1) c.from-last.ensures in
     rw (p.1, p.2)
-    (stops_by _ (bitmap_stops_at is c.requires.of_profile c.bitmap_width-count.result c.highest_bitmap.result c.bitmap_width-count.ensures.count c.highest_bitmap.ensures c.args.bits.now) c.in_err-bitmap-in-Seq.ensures.stop)
+    (stops_by _ (presence_stops_at c.args.fields.now c.requires.some c.requires.few c.requires.of_profile (c.from-last.result - 1) is c.in_ok-number.field-0 c.args.bits.now c.number.new.bits c.in_ok-number.ensures.done c.highest_bitmap.result c.highest_bitmap.ensures) c.in_err-bitmap.ensures.stop)
 
-pub read-read_components-requires : goal.read-read_components-requires
-read-read_components-requires t c =
-    let is = sequence_of_fields c.args.ty.now c.in-Seq.root c.deref-in-Seq-2.result.now c.in-Seq.is c.deref-in-Seq-2.ensures.value in
-    let count : c.bitmap_width-count.result ≡ bitmap_length (fields_of (map part_of_field c.deref-in-Seq-2.result.now)) =
-    c.bitmap_width-count.ensures.count ∙ ap (λ (l : List Field). bitmap_length (fields_of (map part_of_field l))) (c.deref-in-Seq.ensures.value ∙ sym c.deref-in-Seq-2.ensures.value) in
-    (search (rules, the_lemmas), (parts_good is c.requires.of_profile, (count, c.bitmap_width-count.ensures.few)))
+pub read_additions-loop-field-init : goal.read_additions-loop-field-init
+read_additions-loop-field-init t c =
+    let is : c.from-last.result - 1 ≡ length c.args.fields.now - 1 = ap (λ n. n - 1) c.from-last.ensures in
+    added_starts c.args.fields.now c.requires.some c.requires.few c.requires.of_profile (c.from-last.result - 1) is c.in_ok-number.field-0 c.args.bits.now c.number.new.bits c.in_ok-number.ensures.done c.highest_bitmap.result c.highest_bitmap.ensures (map (option_map datum_of) c.args.entries.now.items) c.in_ok-bitmap.bitmap c.number-2.new.bits c.in_ok-bitmap.ensures.done
 
-pub read-returns-in_err-read_components-in-Seq-clause-stop : goal.read-returns-in_err-read_components-in-Seq-clause-stop
-read-returns-in_err-read_components-in-Seq-clause-stop t c =
-    let is = sequence_of_fields c.args.ty.now c.in-Seq.root c.deref-in-Seq-2.result.now c.in-Seq.is c.deref-in-Seq-2.ensures.value in
-    let count : c.bitmap_width-count.result ≡ bitmap_length (fields_of (map part_of_field c.deref-in-Seq-2.result.now)) =
-    c.bitmap_width-count.ensures.count ∙ ap (λ (l : List Field). bitmap_length (fields_of (map part_of_field l))) (c.deref-in-Seq.ensures.value ∙ sym c.deref-in-Seq-2.ensures.value) in
-    let p = err_from_is_err_and c.from_residual-in_err-read_components-in-Seq.result c.from_residual-in_err-read_components-in-Seq.ensures.1 in
+pub read_additions-read_open_field-requires : goal.read_additions-read_open_field-requires
+read_additions-read_open_field-requires t c =
+    let h = rw (next_part c.args.fields.now c.loop-field.field-index c.field-item.result c.loop-field-test.true c.field-item.is) at c.loop-field.invariant in
+    (search (rules, the_lemmas), rw (← shape_of_part c.field-item.result) (addition_good h))
+
+pub read_additions-returns-in_err-read_open_field-clause-stop : goal.read_additions-returns-in_err-read_open_field-clause-stop
+read_additions-returns-in_err-read_open_field-clause-stop t c =
+    let h = rw (next_part c.args.fields.now c.loop-field.field-index c.field-item.result c.loop-field-test.true c.field-item.is) at c.loop-field.invariant in
+    let some = addition_bit h in
+    let after : c.loop-field.left - 1 + 1 ≡ c.loop-field.left = omega (arith, some) in
+    let bit : 1 ≡ c.in_ok-bitmap.bitmap / 2 ^ (c.loop-field.left - 1) % 2 = ap bit_of (sym c.if-bit_at.true) ∙ c.bit_at.ensures in
+    let p = err_from_is_err_and c.from_residual-in_err-read_open_field.result c.from_residual-in_err-read_open_field.ensures.1 in
+    rw (p.1, p.2) (stops_by _ (addition_stops h (c.loop-field.left - 1) after bit) (rw (← shape_of_part c.field-item.result) at c.in_err-read_open_field.ensures.stop))
+
+pub read_additions-loop-field-preserved : goal.read_additions-loop-field-preserved
+read_additions-loop-field-preserved t c =
+    let h = rw (next_part c.args.fields.now c.loop-field.field-index c.field-item.result c.loop-field-test.true c.field-item.is) at c.loop-field.invariant in
+    let some = addition_bit h in
+    let after : c.loop-field.left - 1 + 1 ≡ c.loop-field.left = omega (arith, some) in
+    let items : map (option_map datum_of) c.push.new.self.items ≡ map (option_map datum_of) c.loop-field.entries.items ++ option_map datum_of c.if-bit_at.entry ∷ [] =
+    ap (map (option_map datum_of)) c.in_ok-push.ensures.items ∙ map-append (option_map datum_of) c.loop-field.entries.items (c.if-bit_at.entry ∷ []) in
+    rw items (elim c.if-bit_at.branch [
+      | read_additions-then-bit_at+in_ok-read_open_field w ↦
+          let bit : 1 ≡ c.in_ok-bitmap.bitmap / 2 ^ (c.loop-field.left - 1) % 2 = ap bit_of (sym w.if-bit_at.true) ∙ c.bit_at.ensures in
+          rw (w.entry-is, w.bits-is) (addition_present h (c.loop-field.left - 1) after bit _ w.read_open_field.new.bits (rw (← shape_of_part c.field-item.result) at w.in_ok-read_open_field.ensures.done))
+      | read_additions-else-bit_at w ↦
+          let bit : 0 ≡ c.in_ok-bitmap.bitmap / 2 ^ (c.loop-field.left - 1) % 2 = ap bit_of (sym w.if-bit_at.false) ∙ c.bit_at.ensures in
+          rw (w.entry-is, w.bits-is) (addition_absent h (c.loop-field.left - 1) after bit)
+    ])
+
+pub read_additions-returns-clause-done : goal.read_additions-returns-clause-done
+read_additions-returns-clause-done t c = added_ends c.loop-field.invariant (no_part c.args.fields.now c.loop-field.field-index c.loop-field-test.false)
+
+pub read_marked-returns-in_default-clause-stop : goal.read_marked-returns-in_default-clause-stop
+read_marked-returns-in_default-clause-stop t c =
+    let none : c.args.bits.now ≡ [] = c.in_default.ensures.none.0 refl in
+    rw none (record { told = mark_waits (fields_of (map part_of_field c.args.root.now)) (fields_of (map part_of_field c.args.additions.now)) c.requires.of_profile })
+
+pub read_root-returns-in_err-bitmap-clause-stop : goal.read_root-returns-in_err-bitmap-clause-stop
+read_root-returns-in_err-bitmap-clause-stop t c =
+    let p = err_from_is_err_and c.from_residual.result c.from_residual.ensures.1 in
     rw (p.1, p.2)
-    (stops_by _ (components_at is c.requires.of_profile c.bitmap_width-count.result c.highest_bitmap.result c.in_ok-bitmap-in-Seq.bitmap count c.highest_bitmap.ensures c.args.bits.now c.number.new.bits c.in_ok-bitmap-in-Seq.ensures.done).stops c.in_err-read_components-in-Seq.ensures.stop)
+    (stops_by _ (bitmap_stops_at (fields_of (map part_of_field c.args.root.now)) c.requires.of_profile c.bitmap_width-count.result c.highest_bitmap.result c.bitmap_width-count.ensures.count c.highest_bitmap.ensures c.args.bits.now) c.in_err-bitmap.ensures.stop)
 
-pub read-returns-in_ok-read_components-in-Seq-clause-done : goal.read-returns-in_ok-read_components-in-Seq-clause-done
-read-returns-in_ok-read_components-in-Seq-clause-done t c =
-    let is = sequence_of_fields c.args.ty.now c.in-Seq.root c.deref-in-Seq-2.result.now c.in-Seq.is c.deref-in-Seq-2.ensures.value in
-    let count : c.bitmap_width-count.result ≡ bitmap_length (fields_of (map part_of_field c.deref-in-Seq-2.result.now)) =
-    c.bitmap_width-count.ensures.count ∙ ap (λ (l : List Field). bitmap_length (fields_of (map part_of_field l))) (c.deref-in-Seq.ensures.value ∙ sym c.deref-in-Seq-2.ensures.value) in
-    let es = c.in_ok-read_components-in-Seq.field-0 in
-    rw (datum_of-Seq es)
-    ((components_at is c.requires.of_profile c.bitmap_width-count.result c.highest_bitmap.result c.in_ok-bitmap-in-Seq.bitmap count c.highest_bitmap.ensures c.args.bits.now c.number.new.bits c.in_ok-bitmap-in-Seq.ensures.done).done (map (option_map datum_of) es.items) c.read_components.new.cursor c.in_ok-read_components-in-Seq.ensures.done)
+-- MARKED-END
 
 pub read_components-presence_of-present-requires-clause-there : goal.read_components-presence_of-present-requires-clause-there
 read_components-presence_of-present-requires-clause-there t c =
-    let h = rw (next_part c.args.fields.now c.loop-field.field-index c.field-item.result c.loop-field-test.true c.field-item.is) at c.loop-field.invariant in
+    let h = rw (next_part c.args.fields.now c.loop-field.field-index c.field-item.result c.loop-field-test.true c.field-item.is) at c.loop-field.invariant.0 in
     λ e. bit_there h e
+
+pub read_components-loop-field-preserved-in-Some : goal.read_components-loop-field-preserved-in-Some
+read_components-loop-field-preserved-in-Some t c =
+    let h = rw (next_part c.args.fields.now c.loop-field.field-index c.field-item.result c.loop-field-test.true c.field-item.is) at c.loop-field.invariant.0 in
+    let n = next_must h (c.in-Some.ensures.must refl) in
+    let z = c.in-Some.whole in
+    let taken = c.in-Some.ensures.some in
+    let same : to_z w128 (of_z w128 z) ≡ z = kept z taken.1 taken.2 in
+    let items : map (option_map datum_of) c.push_reserved.new.self.items ≡ map (option_map datum_of) c.loop-field.entries.items ++ Some (number z) ∷ [] =
+    ap (map (option_map datum_of)) (rw same at c.push_reserved.ensures.items) ∙ map-append (option_map datum_of) c.loop-field.entries.items (Some (value.Int z) ∷ []) ∙ ap (λ d. map (option_map datum_of) c.loop-field.entries.items ++ Some d ∷ []) (datum_of-Int z) in (
+      rw items (n.more (Some (number z)) c.take_bounded.new.bits taken.0),
+      omega (arith, c.push_reserved.ensures.len, c.loop-field.invariant.1),
+      rw c.push_reserved.ensures.capacity c.loop-field.invariant.2,
+    )
 
 pub read_components-returns-in_err-entry-clause-stop : goal.read_components-returns-in_err-entry-clause-stop
 read_components-returns-in_err-entry-clause-stop t c =
-    let h = rw (next_part c.args.fields.now c.loop-field.field-index c.field-item.result c.loop-field-test.true c.field-item.is) at c.loop-field.invariant in
+    let h = rw (next_part c.args.fields.now c.loop-field.field-index c.field-item.result c.loop-field-test.true c.field-item.is) at c.loop-field.invariant.0 in
     let n = next_either h c.presence_of-present.result.0 c.presence_of-present.result.1 c.presence_of-present.ensures.must c.presence_of-present.ensures.bit in
     let p = err_from_is_err_and c.from_residual-in_err-entry.result c.from_residual-in_err-entry.ensures.1 in
-    rw (p.1, p.2) (stops_by _ n.stops c.in_err-entry.ensures.stop)
+    let still : c.take_bounded.new.bits ≡ c.loop-field.cursor = c.in_default.ensures.none refl in
+    rw (p.1, p.2) (stops_by _ n.stops (rw still at c.in_err-entry.ensures.stop))
 
 pub read_components-loop-field-preserved : goal.read_components-loop-field-preserved
 read_components-loop-field-preserved t c =
-    let h = rw (next_part c.args.fields.now c.loop-field.field-index c.field-item.result c.loop-field-test.true c.field-item.is) at c.loop-field.invariant in
+    let h = rw (next_part c.args.fields.now c.loop-field.field-index c.field-item.result c.loop-field-test.true c.field-item.is) at c.loop-field.invariant.0 in
     let n = next_either h c.presence_of-present.result.0 c.presence_of-present.result.1 c.presence_of-present.ensures.must c.presence_of-present.ensures.bit in
-    let items : map (option_map datum_of) c.push.new.self.items ≡ map (option_map datum_of) c.loop-field.entries.items ++ option_map datum_of c.in_ok-entry.entry ∷ [] =
-    ap (map (option_map datum_of)) c.in_ok-push.ensures.items ∙ map-append (option_map datum_of) c.loop-field.entries.items (c.in_ok-entry.entry ∷ []) in
-    rw items (n.more (option_map datum_of c.in_ok-entry.entry) c.read_entry.new.bits c.in_ok-entry.ensures.done)
+    let still : c.take_bounded.new.bits ≡ c.loop-field.cursor = c.in_default.ensures.none refl in
+    let pushed = c.push_reserved-in-loop-field.ensures in
+    let items : map (option_map datum_of) c.push_reserved-in-loop-field.new.self.items ≡ map (option_map datum_of) c.loop-field.entries.items ++ option_map datum_of c.in_ok-entry.entry ∷ [] =
+    ap (map (option_map datum_of)) pushed.items ∙ map-append (option_map datum_of) c.loop-field.entries.items (c.in_ok-entry.entry ∷ []) in (
+      rw items (n.more (option_map datum_of c.in_ok-entry.entry) c.read_entry.new.bits (rw still at c.in_ok-entry.ensures.done)),
+      omega (arith, pushed.len, c.loop-field.invariant.1),
+      rw pushed.capacity c.loop-field.invariant.2,
+    )
 
 pub read_components-returns-clause-done : goal.read_components-returns-clause-done
-read_components-returns-clause-done t c = read_ends c.loop-field.invariant (no_part c.args.fields.now c.loop-field.field-index c.loop-field-test.false)
+read_components-returns-clause-done t c = read_ends c.loop-field.invariant.0 (no_part c.args.fields.now c.loop-field.field-index c.loop-field-test.false)
 
 pub read_entry-returns-then-not-present-clause-done : goal.read_entry-returns-then-not-present-clause-done
 read_entry-returns-then-not-present-clause-done t c =

@@ -128,12 +128,16 @@ length-demands : (parts : List Part) → length (demands (fields_of parts)) ≡ 
 length-demands [] = refl
 length-demands (p ∷ parts) = ap suc (length-demands parts)
 
+-- how many components there are
+pub fields_count : (fields : List Field) → length (demands (fields_of (map part_of_field fields))) ≡ length fields
+fields_count fields = length-demands (map part_of_field fields) ∙ length-map fields part_of_field
+
 module _ (fields : List Field) (some : 0 < length fields) (few : length fields ≤ 64) (good : AreOfProfile (fields_of (map part_of_field fields))) where
   abbrev fs : Fields
   fs = fields_of (map part_of_field fields)
 
   each : length fields ≡ length (demands fs)
-  each = sym (length-demands (map part_of_field fields) ∙ length-map fields part_of_field)
+  each = sym (fields_count fields)
 
   -- within the count of the additions
   pub count_stops_at : (last : ℕ) → last ≡ length fields - 1 → (us : List ℕ) → LeadsStops per_fields (Plain (InSet 7 (λ k. Admits (only last) k))) us (Additions fs) us

@@ -1,10 +1,15 @@
 -- From the answers for the root and the additions to those for a SEQUENCE with an extension mark.
-use Rattle.std.proofs.Common.{◌≡◌, ◌≢◌, ◌≤◌, ◌<◌, ◌⊎◌, inl, inr, ℕ, List, [], ◌∷◌, ◌++◌, length, Option, None, refl, sym, ap, subst, ◌∙◌, arith}
+use Rattle.std.proofs.Common.{◌≡◌, ◌≢◌, ◌≤◌, ◌<◌, ◌⊎◌, inl, inr, ℕ, false, nat_lt, List, [], ◌∷◌, ◌++◌, length, map, Option, None, refl, sym, ap, subst, ◌∙◌, arith}
+use Rattle.std.proofs.lemmas.Bool.{ltb-false}
 use Rattle.std.proofs.lemmas.List.{append_cancel_right}
 use Rattle.asn_values.specs.Datum.{Datum, Components, components, component_list, components_of}
 use Rattle.asn_values.specs.Shape.{Fields, sequence, closed, marked, demands}
+use Rattle.asn_values.specs.Measures.{nodes}
 use Rattle.asn_values.specs.Parts.{AreOfProfile}
-use Rattle.asn_values.specs.Profile.{InProfile}
+use Rattle.asn_values.specs.Profile.{InProfile, TooMany, somewhere, too_many_here, most_nodes, most_components}
+use Rattle.asn_values.specs.View.{fields_of, part_of_field}
+use Rattle.asn_values.specs.declared.types.Field.{Field}
+use Rattle.asn_values.proofs.Parts.{left_false, components_of_profile}
 use Rattle.asn_values.proofs.InnerTypes.{additions_of_profile}
 use Rattle.asn_rules.specs.Chunks.{Chunk, one}
 use Rattle.asn_rules.specs.Forks.{Fork, Same}
@@ -20,9 +25,9 @@ use Rattle.asn_rules.proofs.Spellings.{spelled_lawful, spelled_inhabited}
 use Rattle.asn_per.specs.Kinds.{Values, of_either, Additions, absent_entries, with_entries, MarkedSequences}
 use Rattle.asn_per.specs.Per.{per, per_fields}
 use Rattle.asn_per.specs.Reading.{Behind}
-use Rattle.asn_per.proofs.AdditionsRead.{some_additions}
+use Rattle.asn_per.proofs.AdditionsRead.{some_additions, fields_count}
 use Rattle.asn_per.proofs.LeftOut.{none_left_out}
-use Rattle.asn_per.proofs.MarkedSequences.{marked_sequences_compose}
+use Rattle.asn_per.proofs.MarkedSequences.{few_additions, marked_sequences_compose}
 use Rattle.asn_per.proofs.PerFields.{per_fields_part}
 use Rattle.asn_per.proofs.Spellings.{component_list-of, components_of-list}
 use Rattle.asn_per.proofs.Whole.{per_parts}
@@ -102,12 +107,48 @@ module _ (root fs : Fields) (good : InProfile (sequence root (marked fs))) where
       leads_on (leads_map per_fields with_entries (Then (Values (sequence root closed)) (λ v. Additions fs)) after) (leads_on (leads_one per_fields e) (leads_map per_fields of_either Either us))
 
   -- behind a 1 stands the root
-  pub root_behind_one : 0 < length (demands fs) → length (demands fs) ≤ 64 → (us after : List ℕ) → us ≡ 1 ∷ after → LeadsStops per_fields (Spelt per None (sequence root closed)) after (MarkedSequences root fs) us
-  root_behind_one some few us after e =
+  pub root_behind_one : 0 < length (demands fs) → (us after : List ℕ) → us ≡ 1 ∷ after → LeadsStops per_fields (Spelt per None (sequence root closed)) after (MarkedSequences root fs) us
+  root_behind_one some us after e =
       stops_on (leads_same per_fields after (same_flip (none_left_out (sequence root closed)))).stops
-      (stops_on (stops_first per_fields after (record { follow = λ v cs h. some_additions fs some few (additions_of_profile root fs good) })) (present_leads us after e).stops)
+      (stops_on (stops_first per_fields after (record { follow = λ v cs h. some_additions fs some (few_additions root fs good) (additions_of_profile root fs good) })) (present_leads us after e).stops)
 
   -- and the additions
   pub additions_behind : (v : Datum) (us after r : List ℕ) → us ≡ 1 ∷ after → Spells per_fields (Spelt per None (sequence root closed)) v after r → Leads per_fields (Additions fs) r (λ gs. with_entries (v, gs)) (MarkedSequences root fs) us
   additions_behind v us after r e h =
       leads_on (leads_second {M = λ v. Additions fs} per_fields_part root_lawful (same_spells (same_flip (none_left_out (sequence root closed))) h)) (present_leads us after e)
+
+-- ---- as the program has them
+
+module _ (root more : List Field) (good : InProfile (sequence (fields_of (map part_of_field root)) (marked (fields_of (map part_of_field more))))) where
+  -- there are no more than 64 components
+  pub few_of_root : length root ≤ 64
+  few_of_root =
+      let t = sequence (fields_of (map part_of_field root)) (marked (fields_of (map part_of_field more))) in
+      let whole : somewhere too_many_here t ≡ false = left_false (somewhere too_many_here t) (nat_lt most_nodes (nodes t)) (good TooMany) in
+      let here : too_many_here t ≡ false = left_false (too_many_here t) _ whole in
+      let few : length (demands (fields_of (map part_of_field root))) ≤ 64 = ltb-false most_components (length (demands (fields_of (map part_of_field root)))) (left_false (nat_lt most_components (length (demands (fields_of (map part_of_field root))))) _ here) in
+      rw fields_count at few
+
+  -- and additions
+  pub few_more : length more ≤ 64
+  few_more = let few = few_additions (fields_of (map part_of_field root)) (fields_of (map part_of_field more)) good in rw fields_count at few
+
+  -- they are of the profile
+  pub root_good : AreOfProfile (fields_of (map part_of_field root))
+  root_good = components_of_profile (fields_of (map part_of_field root)) (marked (fields_of (map part_of_field more))) good
+
+  pub more_good : AreOfProfile (fields_of (map part_of_field more))
+  more_good = additions_of_profile (fields_of (map part_of_field root)) (fields_of (map part_of_field more)) good
+
+-- the entries of the root, and absent ones
+pub absent_done : (root fs : Fields) (good : InProfile (sequence root (marked fs))) (us after r : List ℕ) (es new : List (Option Datum)) → us ≡ 0 ∷ after
+    → Spells per_fields (Spelt per None (sequence root closed)) (components (components_of es)) after r → new ≡ es ++ absent_entries fs → Spells per_fields (MarkedSequences root fs) (components (components_of new)) us r
+absent_done root fs good us after r es new e h n =
+    rw n (rw (← entries_behind es (absent_entries fs)) ((root_behind_zero root fs good us after e).done (components (components_of es)) r h))
+
+-- the entries of the root and those of the additions
+pub present_done : (root fs : Fields) (good : InProfile (sequence root (marked fs))) (us after r s : List ℕ) (es new : List (Option Datum)) → us ≡ 1 ∷ after
+    → Spells per_fields (Spelt per None (sequence root closed)) (components (components_of es)) after r → Spells per_fields (Behind es (Additions fs)) new r s → Spells per_fields (MarkedSequences root fs) (components (components_of new)) us s
+present_done root fs good us after r s es new e h g =
+    let w = map_source g in
+    rw w.2 (rw (← entries_behind es w.0) ((additions_behind root fs good (components (components_of es)) us after r e h).done w.0 s w.1))

@@ -55,8 +55,8 @@ pub(crate) fn read(alloc: Global, ty: &AsnType, bits: &mut BitCursor<'_>) -> Res
     }
 }
 
-/// Reads a SEQUENCE behind an extension mark (X.691, "encoding the sequence type"): a bit tells whether
-/// an addition is present, and then the additions stand behind the root.
+/// Reads a SEQUENCE with an extension mark (X.691, "encoding the sequence type"): a bit tells whether an
+/// addition is present, and then the additions stand behind the root.
 #[cycle(reader)]
 fn read_marked(
     alloc: Global,
@@ -72,18 +72,20 @@ fn read_marked(
     let Some(extended) = bits.next() else {
         return Err(Stop::Short);
     };
-    if extended == 1 && additions.is_empty() {
+    let room = root.len() + additions.len();
+    if extended == 0 {
+        let mut entries = read_root(alloc, root, room, bits)?;
+        push_absent(additions, &mut entries)?;
+        return Ok(entries);
+    }
+    if additions.is_empty() {
         return Err(Stop::Refused {
             left: bits_left(bits),
             why: Why::Extension,
         });
     }
-    let mut entries = read_root(alloc, root, root.len() + additions.len(), bits)?;
-    if extended == 1 {
-        read_additions(alloc, additions, &mut entries, bits)?;
-    } else {
-        push_absent(additions, &mut entries)?;
-    }
+    let mut entries = read_root(alloc, root, room, bits)?;
+    read_additions(alloc, additions, &mut entries, bits)?;
     Ok(entries)
 }
 

@@ -1,23 +1,25 @@
 //! The encoder.
-ghost use Rattle.std.specs.Prelude.{◌≡◌, ◌≤◌, ◌<◌, ◌^◌, ◌++◌, IfOk, IfErr, OnOk, map, length, vec_len};
+ghost use Rattle.std.specs.Prelude.{◌≡◌, ◌≤◌, ◌<◌, ◌^◌, ◌++◌, IfOk, true, IfErr, OnOk, map, length, vec_len};
 ghost use Rattle.std.specs.Option.{option_map};
 ghost use Rattle.asn_values.specs.Fits.{Fits, FitsEach, FitsNumber};
-ghost use Rattle.asn_values.specs.Shape.{integer, demands};
+ghost use Rattle.asn_values.specs.Shape.{integer, marked, demands};
 ghost use Rattle.asn_values.specs.Datum.{number};
 ghost use Rattle.asn_values.specs.Profile.{InProfile};
 ghost use Rattle.asn_values.specs.Parts.{AreOfProfile, IsGoodDemand};
 ghost use Rattle.asn_values.specs.View.{shape_of, datum_of, range_of, fields_of, part_of_field};
 ghost use Rattle.asn_bits.specs.Numbers.{bits};
 ghost use Rattle.asn_rules.specs.Answer.{max_octets};
+ghost use Rattle.asn_rules.specs.Chunks.{flat};
 ghost use Rattle.asn_rules.specs.Codec.{NotEncoded};
-ghost use Rattle.asn_rules.specs.Components.{has_presence_bit, is_spelled, presence};
+ghost use Rattle.asn_rules.specs.Components.{any_present, has_presence_bit, is_spelled, presence};
 ghost use Rattle.asn_per.specs.Kinds.{root_of};
-ghost use Rattle.asn_per.specs.Per.{ranged};
+ghost use Rattle.asn_per.specs.Per.{ranged, per, spelled, an_open_field, per_octets};
 ghost use Rattle.asn_per.specs.Rules.{per_ruling, IsPerEncoding};
-ghost use Rattle.asn_per.specs.Laws.{per_bits, component_bits};
+ghost use Rattle.asn_per.specs.Laws.{per_bits};
+ghost use Rattle.asn_per.specs.Additions.{AreOptional, root_bits, addition_bits};
 
 use crate::items::write_enumerated;
-use crate::string_writer::{write_bit_string, write_octet_string, write_text, write_utf8};
+use crate::string_writer::{push_extension_bit, write_bit_string, write_octet_string, write_text, write_utf8};
 use asn_bits::BitSink;
 use asn_bits::numbers::width;
 use asn_bits::offsets::above;
@@ -40,23 +42,55 @@ pub fn encode(alloc: Global, ty: &Checked, value: &Value) -> Result<Vec<u8>, Enc
     if !fits(ty, value) {
         return Err(EncodeFault::NotOfType);
     }
-    let mut sink = BitSink::new(alloc);
-    write(ty.get(), value, &mut sink)?;
-    if sink.is_empty() {
-        sink.push_number(8, 0)?;
-    }
-    sink.pad()?;
-    let octets = sink.into_octets();
+    let octets = complete_encoding(alloc, ty.get(), value)?;
     if octets.len() > MAX_OCTETS {
         return Err(EncodeFault::TooLong);
     }
     Ok(octets)
 }
 
+/// The octets of a value's encoding: its bits, filled up with zeros to whole octets, at least one.
+#[cycle(writer)]
+fn complete_encoding(alloc: Global, ty: &AsnType, value: &Value) -> Result<Vec<u8>, AllocError>
+    requires of_profile { InProfile (shape_of ty.now) }
+    requires of_type { Fits (shape_of ty.now) (datum_of value.now) }
+    ensures { IfOk result (λ o. o.items ≡ per_octets (shape_of ty.now) (datum_of value.now)) }
+{
+    let mut sink = BitSink::new(alloc);
+    write(alloc, ty, value, &mut sink)?;
+    if sink.is_empty() {
+        sink.push_number(8, 0)?;
+    }
+    sink.pad()?;
+    Ok(sink.into_octets())
+}
+
+/// Writes a value in an open field (X.691, "open type fields"): its complete encoding under the
+/// general length.
+#[cycle(writer)]
+pub(crate) fn write_open_field(
+    alloc: Global,
+    ty: &AsnType,
+    value: &Value,
+    sink: &mut BitSink,
+) -> Result<(), AllocError>
+    requires of_profile { InProfile (shape_of ty.now) }
+    requires of_type { Fits (shape_of ty.now) (datum_of value.now) }
+    ensures { OnOk result (sink.new ≡ sink.old ++ flat spelled (an_open_field (per (shape_of ty.now) (datum_of value.now)))) }
+{
+    let octets = complete_encoding(alloc, ty, value)?;
+    sink.push_general_octets(octets.as_slice())
+}
+
 /// Writes a value of the type.
 #[inline(always)]
 #[cycle(writer)]
-fn write(ty: &AsnType, value: &Value, sink: &mut BitSink) -> Result<(), AllocError>
+fn write(
+    alloc: Global,
+    ty: &AsnType,
+    value: &Value,
+    sink: &mut BitSink,
+) -> Result<(), AllocError>
     requires of_profile { InProfile (shape_of ty.now) }
     requires of_type { Fits (shape_of ty.now) (datum_of value.now) }
     ensures { OnOk result (sink.new ≡ sink.old ++ per_bits (shape_of ty.now) (datum_of value.now)) }
@@ -105,13 +139,18 @@ fn write(ty: &AsnType, value: &Value, sink: &mut BitSink) -> Result<(), AllocErr
             };
             write_utf8(text.as_bytes(), sink)
         }
-        AsnType::Seq { root } => {
+        AsnType::Seq { root, ext } => {
             let Value::Seq(entries) = value else {
                 unreachable!()
             };
-            let (count, bitmap) = presence_bitmap(root, entries);
-            sink.push_number(count, bitmap)?;
-            write_components(root, entries, sink)
+            let (ours, theirs) = entries.split_at(root.len());
+            let extended = is_any_present(theirs);
+            push_extension_bit(ext.is_some(), extended, sink)?;
+            write_components(alloc, root, ours, sink)?;
+            match ext {
+                Some(additions) if extended => write_additions(alloc, additions, theirs, sink),
+                _ => Ok(()),
+            }
         }
     }
 }
@@ -198,23 +237,64 @@ fn is_encoded(field: &Field, entry: &Option<Value>) -> bool
     }
 }
 
-/// Writes the components that are encoded, in order.
+/// Writes the presence bits of components and those that are encoded, in order (X.691, "encoding
+/// the sequence type").
 #[cycle(writer)]
 fn write_components(
+    alloc: Global,
     fields: &[Field],
     entries: &[Option<Value>],
     sink: &mut BitSink,
 ) -> Result<(), AllocError>
     requires of_profile { AreOfProfile (fields_of (map part_of_field fields.now)) }
     requires of_type { FitsEach (fields_of (map part_of_field fields.now)) (map (option_map datum_of) entries.now) }
+    requires few { length fields.now ≤ 64 }
     ensures { OnOk result (sink.new ≡ sink.old
-        ++ component_bits (fields_of (map part_of_field fields.now)) (map (option_map datum_of) entries.now)) }
+        ++ root_bits (fields_of (map part_of_field fields.now)) (map (option_map datum_of) entries.now)) }
 {
+    let (count, bitmap) = presence_bitmap(fields, entries);
+    sink.push_number(count, bitmap)?;
     for (field, entry) in fields.iter().zip(entries) {
         if let Some(value) = entry
             && is_encoded(field, entry)
         {
-            write(&field.ty, value, sink)?;
+            write(alloc, &field.ty, value, sink)?;
+        }
+    }
+    Ok(())
+}
+
+/// Whether some entry has a value.
+fn is_any_present(entries: &[Option<Value>]) -> bool
+    ensures { result ≡ any_present (map (option_map datum_of) entries.now) }
+{
+    entries.iter().any(|entry| entry.is_some())
+}
+
+/// Writes extension additions, of which one is present: how many there are, a presence bit for each,
+/// and those that are present in open fields.
+#[cycle(writer)]
+fn write_additions(
+    alloc: Global,
+    fields: &[Field],
+    entries: &[Option<Value>],
+    sink: &mut BitSink,
+) -> Result<(), AllocError>
+    requires of_profile { AreOfProfile (fields_of (map part_of_field fields.now)) }
+    requires optional { AreOptional (fields_of (map part_of_field fields.now)) }
+    requires of_type { FitsEach (fields_of (map part_of_field fields.now)) (map (option_map datum_of) entries.now) }
+    requires some { any_present (map (option_map datum_of) entries.now) ≡ true }
+    requires few { length fields.now ≤ 64 }
+    ensures { OnOk result (sink.new ≡ sink.old
+        ++ addition_bits (marked (fields_of (map part_of_field fields.now))) (map (option_map datum_of) entries.now)) }
+{
+    // a normally small length: 0, and one less than the number in 6 bits
+    sink.push_number(7, fields.len() as u64 - 1)?;
+    let (count, bitmap) = presence_bitmap(fields, entries);
+    sink.push_number(count, bitmap)?;
+    for (field, entry) in fields.iter().zip(entries) {
+        if let Some(value) = entry {
+            write_open_field(alloc, &field.ty, value, sink)?;
         }
     }
     Ok(())

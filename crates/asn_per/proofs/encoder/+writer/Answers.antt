@@ -1,49 +1,37 @@
-use Rattle.std.proofs.Common.{rules, true, ◌≡◌, ◌∷◌, ◌⊎◌, ◌++◌, [], map, Some, sym, ap, ◌∙◌}
+use Rattle.std.proofs.Common.{rules, ℕ, subst, take, drop, true, ◌≡◌, ◌∷◌, ◌⊎◌, ◌++◌, [], map, Some, inl, inr, refl, sym, ap, ◌∙◌, arith, ◌≤◌, length}
 use Rattle.std.specs.Option.{option_map}
 use Rattle.std.proofs.lemmas.Result.{on_ok_weaker}
 use Rattle.std.proofs.lemmas.Slice.Zip.{either_empty_from_Zip}
 use Rattle.asn_values.specs.declared.types.AsnType.{the_lemmas}
-use Rattle.asn_values.specs.Shape.{Shape}
-use Rattle.asn_values.specs.Fits.{FitsEach}
+use Rattle.asn_values.specs.Shape.{Shape, MoreFields, sequence, marked}
+use Rattle.asn_values.specs.Fits.{FitsEach, FitsMore}
 use Rattle.asn_values.specs.Parts.{AreOfProfile}
-use Rattle.asn_values.specs.View.{datum_of, fields_of, part_of_field}
+use Rattle.asn_values.specs.View.{shape_of, datum_of, fields_of, more_fields_of, part_of_field}
 use Rattle.asn_values.proofs.Components.{shape_of_part}
 use Rattle.asn_bits.specs.Numbers.{bits}
-use Rattle.asn_rules.specs.Components.{is_spelled}
+use Rattle.asn_rules.specs.Components.{any_present, is_spelled}
+use Rattle.asn_rules.specs.Chunks.{flat}
 use Rattle.asn_per.specs.Laws.{per_bits}
-use Rattle.asn_per.proofs.Sequences.{of_sequence, parts_of_profile, entries_fit, sequence_written, few_components}
+use Rattle.asn_per.specs.Per.{spelled, per}
+use Rattle.asn_per.proofs.Completing.{Topped, completed}
+use Rattle.asn_rules.proofs.Entries.{each_length}
+use Rattle.asn_per.proofs.AdditionLanguages.{some_there}
+use Rattle.asn_per.specs.Additions.{AreOptional, addition_bits}
+use Rattle.asn_per.proofs.Sequences.{count_of_fields, of_sequence, parts_of_profile, entries_fit, few_components, enough_entries, ours_fit, theirs_fit, marked_fields, added_of_profile, added_optional, few_added}
+use Rattle.asn_per.proofs.SequenceWriting.{root_written, additions_written, sequence_written, unmarked_ends, none_ends}
 use Rattle.asn_per.proofs.Writing.{written_more, written_ends, either_map}
 use Rattle.asn_per.proofs.encoder.+writer.Goals as goal
+use Rattle.asn_per.proofs.encoder.+writer.Goals.{complete_encoding-then-is_empty+in_ok-push_number, complete_encoding-else-is_empty}
 
-pub write-presence_bitmap-count-requires-clause-of_profile :
-    goal.write-presence_bitmap-count-requires-clause-of_profile
-write-presence_bitmap-count-requires-clause-of_profile t c =
-    parts_of_profile (of_sequence _ _ _ _ _ _ c.in-Seq.is c.in-Seq-value.is c.deref-in-Seq.ensures.value c.deref-in-Seq-2.ensures.value) c.requires.of_profile
-
-pub write-presence_bitmap-count-requires-clause-of_type :
-    goal.write-presence_bitmap-count-requires-clause-of_type
-write-presence_bitmap-count-requires-clause-of_type t c =
-    entries_fit (of_sequence _ _ _ _ _ _ c.in-Seq.is c.in-Seq-value.is c.deref-in-Seq.ensures.value c.deref-in-Seq-2.ensures.value) c.requires.of_type
-
-pub write-presence_bitmap-count-requires-clause-few :
-    goal.write-presence_bitmap-count-requires-clause-few
-write-presence_bitmap-count-requires-clause-few t c =
-    few_components c.deref-in-Seq.result.now (of_sequence _ _ _ _ _ _ c.in-Seq.is c.in-Seq-value.is c.deref-in-Seq.ensures.value c.deref-in-Seq-2.ensures.value).shape c.requires.of_profile
-
-pub write-write_components-requires : goal.write-write_components-requires
-write-write_components-requires t c =
-    let s = of_sequence _ _ _ _ _ _ c.in-Seq.is c.in-Seq-value.is c.deref-in-Seq-3.ensures.value c.deref-in-Seq-4.ensures.value in
-    let good : AreOfProfile (fields_of (map part_of_field c.deref-in-Seq-3.result.now)) = parts_of_profile s c.requires.of_profile in
-    let fits : FitsEach (fields_of (map part_of_field c.deref-in-Seq-3.result.now)) (map (option_map datum_of) c.deref-in-Seq-4.result.now) = entries_fit s c.requires.of_type in
-    (search (rules, the_lemmas), (good, fits))
-
-pub write-returns-in_ok-push_number-in-Seq : goal.write-returns-in_ok-push_number-in-Seq
-write-returns-in_ok-push_number-in-Seq t c =
-    let s = of_sequence _ _ _ _ _ _ c.in-Seq.is c.in-Seq-value.is c.deref-in-Seq.ensures.value c.deref-in-Seq-2.ensures.value in
-    on_ok_weaker c.write_components.result
-    (λ e. sequence_written c.args.sink.now (bits c.presence_bitmap-count.result.0 c.presence_bitmap-count.result.1) c.push_number.new.self c.write_components.new.sink c.deref-in-Seq.result.now c.deref-in-Seq-3.result.now c.deref-in-Seq-2.result.now c.deref-in-Seq-4.result.now s c.requires.of_type c.in_ok-push_number-in-Seq.ensures.ok c.presence_bitmap-count.ensures.bitmap
-    (c.deref-in-Seq-3.ensures.value ∙ sym c.deref-in-Seq.ensures.value) (c.deref-in-Seq-4.ensures.value ∙ sym c.deref-in-Seq-2.ensures.value) e)
-    c.write_components.ensures
+pub complete_encoding-returns : goal.complete_encoding-returns
+complete_encoding-returns t c =
+    let cs = per (shape_of c.args.ty.now) (datum_of c.args.value.now) in
+    let written : c.write.new.sink ≡ flat spelled cs = rw c.new-sink.ensures at c.in_ok-write.ensures in
+    let top : Topped (flat spelled cs) c.if-is_empty.sink = elim c.if-is_empty.branch [
+      | complete_encoding-then-is_empty+in_ok-push_number w ↦ inl (sym written ∙ c.is_empty.ensures.0 w.if-is_empty.true, w.sink-is ∙ w.in_ok-push_number.ensures.ok ∙ ap (λ l. l ++ bits 8 0) written)
+      | complete_encoding-else-is_empty w ↦ inr ((λ e. (let f : c.is_empty.result ≡ true = c.is_empty.ensures.1 (written ∙ e) in cc)), w.sink-is ∙ written)
+    ] in
+    completed cs c.if-is_empty.sink c.pad.new.self c.into_octets.result.items top c.in_ok-pad.ensures.ok c.into_octets.ensures.packed
 
 pub write_components-loop-field-preserved-in-loop-field :
     goal.write_components-loop-field-preserved-in-loop-field
@@ -60,4 +48,92 @@ pub write_components-returns : goal.write_components-returns
 write_components-returns t c =
     let none : (c.loop-field.field-iterator.a.rest.now ≡ []) ⊎ (c.loop-field.field-iterator.b.rest.now ≡ []) =
     either_empty_from_Zip c.loop-field.field-iterator c.next.new.self c.next.result c.in-None.is c.next.ensures.steps in
-    written_ends c.loop-field.invariant (either_map part_of_field (option_map datum_of) none)
+    let fs = fields_of (map part_of_field c.args.fields.now) in
+    let es = map (option_map datum_of) c.args.entries.now in
+    root_written c.args.sink.now (bits c.presence_bitmap-count.result.0 c.presence_bitmap-count.result.1) c.push_number.new.self c.loop-field.sink fs es
+    c.in_ok-push_number.ensures.ok c.presence_bitmap-count.ensures.bitmap (written_ends c.loop-field.invariant (λ es. refl) (either_map part_of_field (option_map datum_of) none))
+
+pub write_additions-returns : goal.write_additions-returns
+write_additions-returns t c =
+    let none : (c.loop-field.field-iterator.a.rest.now ≡ []) ⊎ (c.loop-field.field-iterator.b.rest.now ≡ []) =
+    either_empty_from_Zip c.loop-field.field-iterator c.next.new.self c.next.result c.in-None.is c.next.ensures.steps in
+    let fs = fields_of (map part_of_field c.args.fields.now) in
+    let es = map (option_map datum_of) c.args.entries.now in
+    let least : 1 ≤ length c.args.fields.now = omega (arith, some_there es c.requires.some, each_length fs es c.requires.of_type, count_of_fields c.args.fields.now) in
+    additions_written c.args.sink.now c.push_number.new.self c.push_number-2.new.self c.loop-field.sink (bits c.presence_bitmap-count.result.0 c.presence_bitmap-count.result.1) fs es (length c.args.fields.now)
+    c.requires.some (count_of_fields c.args.fields.now) least c.requires.few c.in_ok-push_number.ensures.ok c.in_ok-push_number-2.ensures.ok c.presence_bitmap-count.ensures.bitmap
+    (written_ends c.loop-field.invariant.written (λ es. refl) (either_map part_of_field (option_map datum_of) none))
+
+pub write-split_at-requires : goal.write-split_at-requires
+write-split_at-requires t c =
+    let fs = c.in-Seq.root.items in
+    let s = of_sequence c.args.ty.now c.args.value.now c.in-Seq.root c.in-Seq.ext c.in-Seq-value.entries fs c.deref-in-Seq.result.now c.in-Seq.is c.in-Seq-value.is refl c.deref-in-Seq.ensures.value in
+    let enough = enough_entries fs c.deref-in-Seq.result.now (more_fields_of c.in-Seq.ext) (entries_fit s c.requires.of_type) in
+    omega (arith, enough, c.len.ensures, c.in-Seq.root.ok.0)
+
+pub write-write_components-requires : goal.write-write_components-requires
+write-write_components-requires t c =
+    let fs = c.deref-in-Seq-2.result.now in
+    let vs = c.deref-in-Seq.result.now in
+    let s = of_sequence c.args.ty.now c.args.value.now c.in-Seq.root c.in-Seq.ext c.in-Seq-value.entries c.deref-in-Seq-2.result.now c.deref-in-Seq.result.now c.in-Seq.is c.in-Seq-value.is c.deref-in-Seq-2.ensures.value c.deref-in-Seq.ensures.value in
+    let n : c.len.result ≡ length fs = c.len.ensures ∙ sym c.deref-in-Seq-2.ensures.len in
+    let front : c.split_at.result.0.now ≡ take (length fs) vs = c.split_at.ensures.front ∙ ap (λ (k : ℕ). take k vs) n in
+    let good : AreOfProfile (fields_of (map part_of_field fs)) = parts_of_profile s c.requires.of_profile in
+    let fits : FitsEach (fields_of (map part_of_field fs)) (map (option_map datum_of) c.split_at.result.0.now) = ours_fit fs vs (more_fields_of c.in-Seq.ext) (entries_fit s c.requires.of_type) c.split_at.result.0.now front in
+    let few : length fs ≤ 64 = few_components fs s.shape c.requires.of_profile in
+    (search (rules, the_lemmas), (good, (fits, few)))
+
+pub write-write_additions-requires : goal.write-write_additions-requires
+write-write_additions-requires t c =
+    let fs = c.deref-in-Seq-2.result.now in
+    let vs = c.deref-in-Seq.result.now in
+    let s = of_sequence c.args.ty.now c.args.value.now c.in-Seq.root c.in-Seq.ext c.in-Seq-value.entries c.deref-in-Seq-2.result.now c.deref-in-Seq.result.now c.in-Seq.is c.in-Seq-value.is c.deref-in-Seq-2.ensures.value c.deref-in-Seq.ensures.value in
+    let n : c.len.result ≡ length fs = c.len.ensures ∙ sym c.deref-in-Seq-2.ensures.len in
+    let back : c.split_at.result.1.now ≡ drop (length fs) vs = c.split_at.ensures.back ∙ ap (λ (k : ℕ). drop k vs) n in
+    let gs = c.deref-in-Some.result.now in
+    let theirs = map (option_map datum_of) c.split_at.result.1.now in
+    let more : more_fields_of c.in-Seq.ext ≡ marked (fields_of (map part_of_field gs)) = marked_fields c.in-Seq.ext c.in-Some.additions gs c.in-Some.is c.deref-in-Some.ensures.value in
+    let type : shape_of c.args.ty.now ≡ sequence (fields_of (map part_of_field fs)) (marked (fields_of (map part_of_field gs))) = s.shape ∙ ap (λ (m : MoreFields). sequence (fields_of (map part_of_field fs)) m) more in
+    let good : AreOfProfile (fields_of (map part_of_field gs)) = added_of_profile gs type c.requires.of_profile in
+    let optional : AreOptional (fields_of (map part_of_field gs)) = added_optional gs type c.requires.of_profile in
+    let fits : FitsEach (fields_of (map part_of_field gs)) theirs =
+    subst (λ (m : MoreFields). FitsMore m theirs) more (theirs_fit fs vs (more_fields_of c.in-Seq.ext) (entries_fit s c.requires.of_type) c.split_at.result.1.now back) in
+    let some : any_present theirs ≡ true = sym c.is_any_present-extended.ensures ∙ c.if-extended.true in
+    let few : length gs ≤ 64 = few_added gs type c.requires.of_profile in
+    (search (rules, the_lemmas), (good, (optional, (fits, (some, few)))))
+
+pub write-returns-in-Some : goal.write-returns-in-Some
+write-returns-in-Some t c =
+    let fs = c.deref-in-Seq-2.result.now in
+    let vs = c.deref-in-Seq.result.now in
+    let s = of_sequence c.args.ty.now c.args.value.now c.in-Seq.root c.in-Seq.ext c.in-Seq-value.entries c.deref-in-Seq-2.result.now c.deref-in-Seq.result.now c.in-Seq.is c.in-Seq-value.is c.deref-in-Seq-2.ensures.value c.deref-in-Seq.ensures.value in
+    let n : c.len.result ≡ length fs = c.len.ensures ∙ sym c.deref-in-Seq-2.ensures.len in
+    let front : c.split_at.result.0.now ≡ take (length fs) vs = c.split_at.ensures.front ∙ ap (λ (k : ℕ). take k vs) n in
+    let back : c.split_at.result.1.now ≡ drop (length fs) vs = c.split_at.ensures.back ∙ ap (λ (k : ℕ). drop k vs) n in
+    let more : more_fields_of c.in-Seq.ext ≡ marked (fields_of (map part_of_field c.deref-in-Some.result.now)) = marked_fields c.in-Seq.ext c.in-Some.additions c.deref-in-Some.result.now c.in-Some.is c.deref-in-Some.ensures.value in
+    on_ok_weaker c.write_additions.result
+    (λ e. sequence_written c.args.sink.now c.push_extension_bit.new.sink c.write_components.new.sink c.write_additions.new.sink fs c.in-Seq.ext vs c.split_at.result.0.now c.split_at.result.1.now
+    c.is_some.result c.is_any_present-extended.result s front back c.is_some.ensures c.is_any_present-extended.ensures c.in_ok-push_extension_bit-in-Seq.ensures c.in_ok-write_components-in-Seq.ensures (e ∙ ap (λ (m : MoreFields). c.write_components.new.sink ++ addition_bits m (map (option_map datum_of) c.split_at.result.1.now)) (sym more)))
+    c.write_additions.ensures
+
+pub write-returns-in_default-ext : goal.write-returns-in_default-ext
+write-returns-in_default-ext t c =
+    let fs = c.deref-in-Seq-2.result.now in
+    let vs = c.deref-in-Seq.result.now in
+    let s = of_sequence c.args.ty.now c.args.value.now c.in-Seq.root c.in-Seq.ext c.in-Seq-value.entries c.deref-in-Seq-2.result.now c.deref-in-Seq.result.now c.in-Seq.is c.in-Seq-value.is c.deref-in-Seq-2.ensures.value c.deref-in-Seq.ensures.value in
+    let n : c.len.result ≡ length fs = c.len.ensures ∙ sym c.deref-in-Seq-2.ensures.len in
+    let front : c.split_at.result.0.now ≡ take (length fs) vs = c.split_at.ensures.front ∙ ap (λ (k : ℕ). take k vs) n in
+    let back : c.split_at.result.1.now ≡ drop (length fs) vs = c.split_at.ensures.back ∙ ap (λ (k : ℕ). drop k vs) n in
+    sequence_written c.args.sink.now c.push_extension_bit.new.sink c.write_components.new.sink c.write_components.new.sink fs c.in-Seq.ext vs c.split_at.result.0.now c.split_at.result.1.now
+    c.is_some.result c.is_any_present-extended.result s front back c.is_some.ensures c.is_any_present-extended.ensures c.in_ok-push_extension_bit-in-Seq.ensures c.in_ok-write_components-in-Seq.ensures (none_ends c.write_components.new.sink (more_fields_of c.in-Seq.ext) (map (option_map datum_of) c.split_at.result.1.now) (sym c.is_any_present-extended.ensures ∙ c.if-extended.false))
+
+pub write-returns-in_default-ext-2 : goal.write-returns-in_default-ext-2
+write-returns-in_default-ext-2 t c =
+    let fs = c.deref-in-Seq-2.result.now in
+    let vs = c.deref-in-Seq.result.now in
+    let s = of_sequence c.args.ty.now c.args.value.now c.in-Seq.root c.in-Seq.ext c.in-Seq-value.entries c.deref-in-Seq-2.result.now c.deref-in-Seq.result.now c.in-Seq.is c.in-Seq-value.is c.deref-in-Seq-2.ensures.value c.deref-in-Seq.ensures.value in
+    let n : c.len.result ≡ length fs = c.len.ensures ∙ sym c.deref-in-Seq-2.ensures.len in
+    let front : c.split_at.result.0.now ≡ take (length fs) vs = c.split_at.ensures.front ∙ ap (λ (k : ℕ). take k vs) n in
+    let back : c.split_at.result.1.now ≡ drop (length fs) vs = c.split_at.ensures.back ∙ ap (λ (k : ℕ). drop k vs) n in
+    sequence_written c.args.sink.now c.push_extension_bit.new.sink c.write_components.new.sink c.write_components.new.sink fs c.in-Seq.ext vs c.split_at.result.0.now c.split_at.result.1.now
+    c.is_some.result c.is_any_present-extended.result s front back c.is_some.ensures c.is_any_present-extended.ensures c.in_ok-push_extension_bit-in-Seq.ensures c.in_ok-write_components-in-Seq.ensures (unmarked_ends c.write_components.new.sink c.in-Seq.ext (map (option_map datum_of) c.split_at.result.1.now) c.in_default-ext.is)

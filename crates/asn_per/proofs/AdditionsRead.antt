@@ -29,6 +29,8 @@ use Rattle.asn_per.specs.declared.number_reader.Numbers.{Numbers}
 use Rattle.asn_per.proofs.ItemReading.{same_set}
 use Rattle.asn_per.proofs.OpenFieldLanguages.{open_values_lawful, open_values_inhabited}
 use Rattle.asn_per.proofs.PerFields.{per_fields_part}
+use Rattle.asn_per.proofs.Sequences.{count_of_fields}
+use Rattle.asn_values.proofs.Entries.{length-demands}
 
 -- ---- the additions under their presence bits
 
@@ -124,20 +126,12 @@ pub record AddedUpTo (before : List (Option Datum)) (all : Fields) (us : List �
   pub behind : entries ≡ before ++ come
   pub leads : Leads per_fields (OpenListed (fields_of rest) (bits left bitmap)) vs (λ es. come ++ es) (Additions all) us
 
-length-demands : (parts : List Part) → length (demands (fields_of parts)) ≡ length parts
-length-demands [] = refl
-length-demands (p ∷ parts) = ap suc (length-demands parts)
-
--- how many components there are
-pub fields_count : (fields : List Field) → length (demands (fields_of (map part_of_field fields))) ≡ length fields
-fields_count fields = length-demands (map part_of_field fields) ∙ length-map fields part_of_field
-
 module _ (fields : List Field) (some : 0 < length fields) (few : length fields ≤ 64) (good : AreOfProfile (fields_of (map part_of_field fields))) where
   abbrev fs : Fields
   fs = fields_of (map part_of_field fields)
 
   each : length fields ≡ length (demands fs)
-  each = sym (fields_count fields)
+  each = sym (count_of_fields fields)
 
   -- within the count of the additions
   pub count_stops_at : (last : ℕ) → last ≡ length fields - 1 → (us : List ℕ) → LeadsStops per_fields (Plain (InSet 7 (λ k. Admits (only last) k))) us (Additions fs) us

@@ -1,31 +1,30 @@
 -- From the answers for the root and the additions to those for a SEQUENCE with an extension mark.
-use Rattle.std.proofs.Common.{◌≡◌, ◌≢◌, ◌≤◌, ◌<◌, ◌⊎◌, inl, inr, ℕ, false, nat_lt, List, [], ◌∷◌, ◌++◌, length, map, Option, None, refl, sym, ap, subst, ◌∙◌, arith}
-use Rattle.std.proofs.lemmas.Bool.{ltb-false}
+use Rattle.std.proofs.Common.{◌≡◌, ◌≢◌, ◌≤◌, ◌<◌, ◌⊎◌, inl, inr, ℕ, Bool, true, false, List, [], ◌∷◌, ◌++◌, length, Option, None, refl, sym, ap, subst, ◌∙◌, arith}
 use Rattle.std.proofs.lemmas.List.{append_cancel_right}
 use Rattle.asn_values.specs.Datum.{Datum, Components, components, component_list, components_of}
 use Rattle.asn_values.specs.Shape.{Fields, sequence, closed, marked, demands}
-use Rattle.asn_values.specs.Measures.{nodes}
-use Rattle.asn_values.specs.Parts.{AreOfProfile}
-use Rattle.asn_values.specs.Profile.{InProfile, TooMany, somewhere, too_many_here, most_nodes, most_components}
-use Rattle.asn_values.specs.View.{fields_of, part_of_field}
-use Rattle.asn_values.specs.declared.types.Field.{Field}
-use Rattle.asn_values.proofs.Parts.{left_false, components_of_profile}
+use Rattle.asn_values.specs.Profile.{InProfile}
 use Rattle.asn_values.proofs.InnerTypes.{additions_of_profile}
 use Rattle.asn_rules.specs.Chunks.{Chunk, one}
 use Rattle.asn_rules.specs.Forks.{Fork, Same}
 use Rattle.asn_rules.specs.Languages.{Spells, Short, Refused, Lawful, Inhabited, Then, Map}
 use Rattle.asn_rules.specs.Listed.{Spelt}
 use Rattle.asn_rules.specs.Parted.{Parted}
+use Rattle.asn_rules.specs.Stops.{Stops}
+use Rattle.asn_rules.specs.declared.stop.Stop.{Stop}
+use Rattle.asn_rules.specs.declared.stop.Stop.TheVariants as stop
+use Rattle.asn_bits.specs.Sink.{bit_of}
 use Rattle.asn_rules.proofs.Exits.{leads_zero, leads_one}
 use Rattle.asn_rules.proofs.Forks.{same_flip, same_inhabited, same_lawful, same_spells, fork_short, fork_refused}
 use Rattle.asn_rules.proofs.Leads.{LeadsStops, Leads, leads_on, leads_map, leads_same, leads_second, stops_first, stops_on}
-use Rattle.asn_rules.proofs.Parts.{map_short, map_refused, map_source}
+use Rattle.asn_rules.proofs.Parts.{map_source}
 use Rattle.asn_rules.proofs.SomeValue.{a_value}
-use Rattle.asn_rules.proofs.Spellings.{spelled_lawful, spelled_inhabited}
+use Rattle.asn_rules.proofs.Spellings.{same_after, spelled_lawful, spelled_inhabited}
+use Rattle.asn_rules.proofs.Then.{Follows}
 use Rattle.asn_per.specs.Kinds.{Values, of_either, Additions, absent_entries, with_entries, MarkedSequences}
 use Rattle.asn_per.specs.Per.{per, per_fields}
-use Rattle.asn_per.specs.Reading.{Behind}
-use Rattle.asn_per.proofs.AdditionsRead.{some_additions, fields_count}
+use Rattle.asn_per.specs.Reading.{Behind, StopsAtMark}
+use Rattle.asn_per.proofs.AdditionsRead.{some_additions}
 use Rattle.asn_per.proofs.LeftOut.{none_left_out}
 use Rattle.asn_per.proofs.MarkedSequences.{few_additions, marked_sequences_compose}
 use Rattle.asn_per.proofs.PerFields.{per_fields_part}
@@ -87,68 +86,58 @@ module _ (root fs : Fields) (good : InProfile (sequence root (marked fs))) where
       let i = same_inhabited (same_flip (marked_sequences_compose root fs good)) (spelled_inhabited v.0 v.1) in
       record { value = i.spelt.source; chunks = i.chunks; spelt = i.spelt.spelt }
 
-  -- no bit comes
-  pub mark_waits : Short per_fields (MarkedSequences root fs) []
-  mark_waits = map_short (fork_short some_value)
+  -- the values with the mark
+  abbrev Marked : Datum → List Chunk → Type 0
+  Marked = Spelt per None (sequence root (marked fs))
 
-  -- where the type has no additions, the 1 is refused
-  pub mark_refused : length (demands fs) ≡ 0 → (us after : List ℕ) → us ≡ 1 ∷ after → Refused per_fields (MarkedSequences root fs) us (length after)
+  whole_leads : (us : List ℕ) → Leads per_fields Either us of_either Marked us
+  whole_leads us = leads_on (leads_map per_fields of_either Either us) (leads_same per_fields us (same_after (marked_sequences_compose root fs good) (none_left_out (sequence root (marked fs)))))
+
+  -- where additions are listed, the additions of a value that has some are spelt
+  some_follow : 0 < length (demands fs) → Follows (Values (sequence root closed)) (λ v. Additions fs)
+  some_follow some = record { follow = λ v cs h. some_additions fs some (few_additions root fs good) (additions_of_profile root fs good) }
+
+  -- within the extension bit
+  mark_refused : length (demands fs) ≡ 0 → (us after : List ℕ) → us ≡ 1 ∷ after → Refused per_fields Marked us (length after)
   mark_refused none us after e =
-      rw e (map_refused (fork_refused per_fields_part some_value 1 after (λ f. absurd (omega arith)) (λ f i. absurd (let m = i.spelt.spelt.follows.spelt.spelt.spelt.member in omega (arith, m, none)))))
+      rw e ((whole_leads (1 ∷ after)).stops.refused (length after) (fork_refused per_fields_part some_value 1 after (λ f. absurd (omega arith)) (λ f i. absurd (let m = i.spelt.spelt.follows.spelt.spelt.spelt.member in omega (arith, m, none)))))
+
+  pub mark_stops : (listed : Bool) (us : List ℕ) (why : Stop) → (listed ≡ false → length (demands fs) ≡ 0) → StopsAtMark listed us why → Stops per_fields Marked us why
+  mark_stops listed us stop.Short l h = rw h (record { told = (whole_leads []).stops.short (fork_short some_value) })
+  mark_stops listed us (stop.Refused left why) l h = rw h.3 (record { told = mark_refused (l h.0) us h.1 h.2 })
+  mark_stops listed us stop.Memory l h = absurd h
 
   -- behind a 0 stands the root
-  pub root_behind_zero : (us after : List ℕ) → us ≡ 0 ∷ after → Leads per_fields (Spelt per None (sequence root closed)) after (λ v. with_entries (v, absent_entries fs)) (MarkedSequences root fs) us
+  root_behind_zero : (us after : List ℕ) → us ≡ 0 ∷ after → Leads per_fields (Spelt per None (sequence root closed)) after (λ v. with_entries (v, absent_entries fs)) Marked us
   root_behind_zero us after e =
       leads_on (leads_same per_fields after (same_flip (none_left_out (sequence root closed))))
-      (leads_on (leads_map per_fields (λ v. with_entries (v, absent_entries fs)) (Values (sequence root closed)) after) (leads_on (leads_zero per_fields e) (leads_map per_fields of_either Either us)))
+      (leads_on (leads_map per_fields (λ v. with_entries (v, absent_entries fs)) (Values (sequence root closed)) after) (leads_on (leads_zero per_fields e) (whole_leads us)))
 
-  present_leads : (us after : List ℕ) → us ≡ 1 ∷ after → Leads per_fields (Then (Values (sequence root closed)) (λ v. Additions fs)) after with_entries (MarkedSequences root fs) us
+  present_leads : (us after : List ℕ) → us ≡ 1 ∷ after → Leads per_fields (Then (Values (sequence root closed)) (λ v. Additions fs)) after with_entries Marked us
   present_leads us after e =
-      leads_on (leads_map per_fields with_entries (Then (Values (sequence root closed)) (λ v. Additions fs)) after) (leads_on (leads_one per_fields e) (leads_map per_fields of_either Either us))
+      leads_on (leads_map per_fields with_entries (Then (Values (sequence root closed)) (λ v. Additions fs)) after) (leads_on (leads_one per_fields e) (whole_leads us))
 
-  -- behind a 1 stands the root
-  pub root_behind_one : 0 < length (demands fs) → (us after : List ℕ) → us ≡ 1 ∷ after → LeadsStops per_fields (Spelt per None (sequence root closed)) after (MarkedSequences root fs) us
-  root_behind_one some us after e =
-      stops_on (leads_same per_fields after (same_flip (none_left_out (sequence root closed)))).stops
-      (stops_on (stops_first per_fields after (record { follow = λ v cs h. some_additions fs some (few_additions root fs good) (additions_of_profile root fs good) })) (present_leads us after e).stops)
+  -- behind the bit stands the root
+  pub root_stops : (b : Bool) (us after : List ℕ) → us ≡ bit_of b ∷ after → (b ≡ true → 0 < length (demands fs)) → LeadsStops per_fields (Spelt per None (sequence root closed)) after Marked us
+  root_stops false us after e some = (root_behind_zero us after e).stops
+  root_stops true us after e some =
+      stops_on (leads_same per_fields after (same_flip (none_left_out (sequence root closed)))).stops (stops_on (stops_first per_fields after (some_follow (some refl))) (present_leads us after e).stops)
 
-  -- and the additions
-  pub additions_behind : (v : Datum) (us after r : List ℕ) → us ≡ 1 ∷ after → Spells per_fields (Spelt per None (sequence root closed)) v after r → Leads per_fields (Additions fs) r (λ gs. with_entries (v, gs)) (MarkedSequences root fs) us
-  additions_behind v us after r e h =
-      leads_on (leads_second {M = λ v. Additions fs} per_fields_part root_lawful (same_spells (same_flip (none_left_out (sequence root closed))) h)) (present_leads us after e)
+  -- behind a 1 and the root stand the additions
+  additions_behind : (v : Datum) (us after r : List ℕ) → us ≡ 1 ∷ after → Spells per_fields (Spelt per None (sequence root closed)) v after r → Leads per_fields (Additions fs) r (λ gs. with_entries (v, gs)) Marked us
+  additions_behind v us after r e h = leads_on (leads_second {M = λ v. Additions fs} per_fields_part root_lawful (same_spells (same_flip (none_left_out (sequence root closed))) h)) (present_leads us after e)
 
--- ---- as the program has them
+  pub additions_stop : (es : List (Option Datum)) (us after r : List ℕ) → us ≡ 1 ∷ after → Spells per_fields (Spelt per None (sequence root closed)) (components (components_of es)) after r → LeadsStops per_fields (Additions fs) r Marked us
+  additions_stop es us after r e h = (additions_behind (components (components_of es)) us after r e h).stops
 
-module _ (root more : List Field) (good : InProfile (sequence (fields_of (map part_of_field root)) (marked (fields_of (map part_of_field more))))) where
-  -- there are no more than 64 components
-  pub few_of_root : length root ≤ 64
-  few_of_root =
-      let t = sequence (fields_of (map part_of_field root)) (marked (fields_of (map part_of_field more))) in
-      let whole : somewhere too_many_here t ≡ false = left_false (somewhere too_many_here t) (nat_lt most_nodes (nodes t)) (good TooMany) in
-      let here : too_many_here t ≡ false = left_false (too_many_here t) _ whole in
-      let few : length (demands (fields_of (map part_of_field root))) ≤ 64 = ltb-false most_components (length (demands (fields_of (map part_of_field root)))) (left_false (nat_lt most_components (length (demands (fields_of (map part_of_field root))))) _ here) in
-      rw fields_count at few
+  -- the entries of the root, and absent ones
+  pub absent_done : (es new : List (Option Datum)) (us after r : List ℕ) → us ≡ 0 ∷ after → Spells per_fields (Spelt per None (sequence root closed)) (components (components_of es)) after r → new ≡ es ++ absent_entries fs
+      → Spells per_fields Marked (components (components_of new)) us r
+  absent_done es new us after r e h n = rw n (rw (← entries_behind es (absent_entries fs)) ((root_behind_zero us after e).done (components (components_of es)) r h))
 
-  -- and additions
-  pub few_more : length more ≤ 64
-  few_more = let few = few_additions (fields_of (map part_of_field root)) (fields_of (map part_of_field more)) good in rw fields_count at few
-
-  -- they are of the profile
-  pub root_good : AreOfProfile (fields_of (map part_of_field root))
-  root_good = components_of_profile (fields_of (map part_of_field root)) (marked (fields_of (map part_of_field more))) good
-
-  pub more_good : AreOfProfile (fields_of (map part_of_field more))
-  more_good = additions_of_profile (fields_of (map part_of_field root)) (fields_of (map part_of_field more)) good
-
--- the entries of the root, and absent ones
-pub absent_done : (root fs : Fields) (good : InProfile (sequence root (marked fs))) (us after r : List ℕ) (es new : List (Option Datum)) → us ≡ 0 ∷ after
-    → Spells per_fields (Spelt per None (sequence root closed)) (components (components_of es)) after r → new ≡ es ++ absent_entries fs → Spells per_fields (MarkedSequences root fs) (components (components_of new)) us r
-absent_done root fs good us after r es new e h n =
-    rw n (rw (← entries_behind es (absent_entries fs)) ((root_behind_zero root fs good us after e).done (components (components_of es)) r h))
-
--- the entries of the root and those of the additions
-pub present_done : (root fs : Fields) (good : InProfile (sequence root (marked fs))) (us after r s : List ℕ) (es new : List (Option Datum)) → us ≡ 1 ∷ after
-    → Spells per_fields (Spelt per None (sequence root closed)) (components (components_of es)) after r → Spells per_fields (Behind es (Additions fs)) new r s → Spells per_fields (MarkedSequences root fs) (components (components_of new)) us s
-present_done root fs good us after r s es new e h g =
-    let w = map_source g in
-    rw w.2 (rw (← entries_behind es w.0) ((additions_behind root fs good (components (components_of es)) us after r e h).done w.0 s w.1))
+  -- the entries of the root and those of the additions
+  pub present_done : (es new : List (Option Datum)) (us after r s : List ℕ) → us ≡ 1 ∷ after → Spells per_fields (Spelt per None (sequence root closed)) (components (components_of es)) after r
+      → Spells per_fields (Behind es (Additions fs)) new r s → Spells per_fields Marked (components (components_of new)) us s
+  present_done es new us after r s e h g =
+      let w = map_source g in
+      rw w.2 (rw (← entries_behind es w.0) ((additions_behind (components (components_of es)) us after r e h).done w.0 s w.1))

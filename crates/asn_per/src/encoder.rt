@@ -139,6 +139,7 @@ fn write(
             };
             write_utf8(text.as_bytes(), sink)
         }
+        AsnType::SeqOf(..) | AsnType::Choice { .. } => unreachable!(),
         AsnType::Seq { root, ext } => {
             let Value::Seq(entries) = value else {
                 unreachable!()

@@ -1,7 +1,7 @@
 //! The reader of values.
-ghost use Rattle.std.specs.Prelude.{◌≡◌, ◌≤◌, ◌<◌, ◌+◌, ◌^◌, ◌/◌, ◌%◌, ◌++◌, IfOk, IfErr, OnOk, true, false, Some, None, map, length, ◌≤ℤ◌, IfSome, IsSome, IsNone};
+ghost use Rattle.std.specs.Prelude.{◌≡◌, ◌∷◌, ◌≤◌, ◌<◌, ◌+◌, ◌^◌, ◌/◌, ◌%◌, ◌++◌, IfOk, IfErr, OnOk, true, false, Some, None, map, length, ◌≤ℤ◌, IfSome, IsSome, IsNone};
 ghost use Rattle.std.specs.Option.{option_map};
-ghost use Rattle.asn_values.specs.Shape.{sequence, closed, marked};
+ghost use Rattle.asn_values.specs.Shape.{sequence, closed};
 ghost use Rattle.asn_values.specs.Datum.{components, components_of, number};
 ghost use Rattle.asn_values.specs.Fits.{lowest_integer, highest_integer};
 ghost use Rattle.asn_values.specs.Profile.{InProfile, good_default};
@@ -14,9 +14,9 @@ ghost use Rattle.asn_rules.specs.Languages.{Spells};
 ghost use Rattle.asn_rules.specs.Listed.{Spelt, Listed, Entry, default_of, bitmap_length};
 ghost use Rattle.asn_rules.specs.Reading.{Wholes};
 ghost use Rattle.asn_rules.specs.Stops.{Stops};
-ghost use Rattle.asn_per.specs.Kinds.{OpenValues, Additions, absent_entries, MarkedSequences};
+ghost use Rattle.asn_per.specs.Kinds.{OpenValues, Additions, absent_entries};
 ghost use Rattle.asn_per.specs.Per.{per, per_fields};
-ghost use Rattle.asn_per.specs.Reading.{Behind};
+ghost use Rattle.asn_per.specs.Reading.{Behind, StopsAtMark};
 ghost use Rattle.asn_per.specs.Rules.{per_ruling};
 
 use crate::encoder::may_be_absent;
@@ -46,47 +46,26 @@ pub(crate) fn read(alloc: Global, ty: &AsnType, bits: &mut BitCursor<'_>) -> Res
         AsnType::Octets(size) => Ok(Value::Octets(octet_string(alloc, size, bits)?)),
         AsnType::Text(kind, size) => Ok(Value::Text(text(alloc, *kind, size, bits)?)),
         AsnType::Utf8 => Ok(Value::Utf8(utf8_string(alloc, bits)?)),
-        AsnType::Seq { root } => {
-            if root.is_empty() {
-                return Ok(Value::Seq(read_marked(alloc, root, root, bits)?));
-            }
+        AsnType::Seq { root, ext: None } => {
+            let root = root.as_slice();
             Ok(Value::Seq(read_root(alloc, root, root.len(), bits)?))
         }
+        AsnType::Seq {
+            root,
+            ext: Some(additions),
+        } => {
+            let (root, additions) = (root.as_slice(), additions.as_slice());
+            let extended = extension_bit(!additions.is_empty(), bits)?;
+            let mut entries = read_root(alloc, root, root.len() + additions.len(), bits)?;
+            if extended {
+                read_additions(alloc, additions, &mut entries, bits)?;
+            } else {
+                push_absent(additions, &mut entries)?;
+            }
+            Ok(Value::Seq(entries))
+        }
+        AsnType::SeqOf(..) | AsnType::Choice { .. } => unreachable!(),
     }
-}
-
-/// Reads a SEQUENCE with an extension mark (X.691, "encoding the sequence type"): a bit tells whether an
-/// addition is present, and then the additions stand behind the root.
-#[cycle(reader)]
-fn read_marked(
-    alloc: Global,
-    root: &[Field],
-    additions: &[Field],
-    bits: &mut BitCursor<'_>,
-) -> Result<Vec<Option<Value>>, Stop>
-    requires of_profile { InProfile (sequence (fields_of (map part_of_field root.now)) (marked (fields_of (map part_of_field additions.now)))) }
-    ensures done { IfOk result (λ es. Spells per_fields (MarkedSequences (fields_of (map part_of_field root.now)) (fields_of (map part_of_field additions.now)))
-        (components (components_of (map (option_map datum_of) es.items))) bits.old bits.new) }
-    ensures stop { IfErr result (λ why. Stops per_fields (MarkedSequences (fields_of (map part_of_field root.now)) (fields_of (map part_of_field additions.now))) bits.old why) }
-{
-    let Some(extended) = bits.next() else {
-        return Err(Stop::Short);
-    };
-    let room = root.len() + additions.len();
-    if extended == 0 {
-        let mut entries = read_root(alloc, root, room, bits)?;
-        push_absent(additions, &mut entries)?;
-        return Ok(entries);
-    }
-    if additions.is_empty() {
-        return Err(Stop::Refused {
-            left: bits_left(bits),
-            why: Why::Extension,
-        });
-    }
-    let mut entries = read_root(alloc, root, room, bits)?;
-    read_additions(alloc, additions, &mut entries, bits)?;
-    Ok(entries)
 }
 
 /// Reads the components of the root: their presence bitmap, and those that are there. The entries get
@@ -293,6 +272,24 @@ fn read_additions(
     Ok(())
 }
 
+/// Reads an extension bit: `listed` says whether one that is set may stand there. It is refused where no
+/// addition is listed, since no value has one.
+pub(crate) fn extension_bit(listed: bool, bits: &mut BitCursor<'_>) -> Result<bool, Stop>
+    ensures done { IfOk result (λ extended. (bits.old ≡ bit_of extended ∷ bits.new) × (extended ≡ true → listed ≡ true)) }
+    ensures stop { IfErr result (λ why. StopsAtMark listed bits.old why) }
+{
+    let Some(bit) = bits.next() else {
+        return Err(Stop::Short);
+    };
+    if bit == 1 && !listed {
+        return Err(Stop::Refused {
+            left: bits_left(bits),
+            why: Why::Extension,
+        });
+    }
+    Ok(bit == 1)
+}
+
 /// Puts an absent entry for each of the additions behind the others.
 fn push_absent(additions: &[Field], entries: &mut Vec<Option<Value>>) -> Result<(), AllocError>
     ensures { OnOk result (map (option_map datum_of) entries.new.items
@@ -340,7 +337,9 @@ fn absent(field: &Field) -> Option<Value>
             | Value::Octets(_)
             | Value::Text(_)
             | Value::Utf8(_)
-            | Value::Seq(_),
+            | Value::Seq(_)
+            | Value::List(_)
+            | Value::Choice(..),
         ) => unreachable!(),
     }
 }

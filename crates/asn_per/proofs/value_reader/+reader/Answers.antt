@@ -23,9 +23,9 @@ use Rattle.asn_rules.proofs.Listed.{spelt_inhabited}
 use Rattle.asn_rules.proofs.ListedReading.{nothing_read}
 use Rattle.asn_per.specs.Per.{per, per_fields, filling}
 use Rattle.asn_per.proofs.ComponentsRead.{next_part, no_part, bit_there, next_either, read_ends, demand_of_part, entry_leads, bitmap_stops_at, components_at, next_must, datum_of-Int}
-use Rattle.asn_per.proofs.AdditionsRead.{fields_count, count_stops_at, presence_stops_at, added_starts, addition_bit, addition_good, addition_stops, addition_present, addition_absent, added_ends}
+use Rattle.asn_per.proofs.AdditionsRead.{count_stops_at, presence_stops_at, added_starts, addition_bit, addition_good, addition_stops, addition_present, addition_absent, added_ends}
 use Rattle.asn_per.proofs.Exits.{if_err_weaker}
-use Rattle.asn_per.proofs.MarkedRead.{mark_waits, mark_refused, root_behind_zero, root_behind_one, additions_behind, few_of_root, few_more, root_good, more_good, absent_done, present_done}
+use Rattle.asn_per.proofs.MarkedRead.{mark_stops, root_stops, additions_stop, absent_done, present_done}
 use Rattle.asn_per.proofs.EnumeratedTypes.{enumerated_of_items}
 use Rattle.asn_per.proofs.StringReading.{bits_size, octets_size, text_size, bits_lead, octets_lead, text_leads, utf8_leads}
 use Rattle.asn_per.proofs.Sequences.{few_components}
@@ -145,73 +145,12 @@ read_additions-loop-field-preserved t c =
 pub read_additions-returns-clause-done : goal.read_additions-returns-clause-done
 read_additions-returns-clause-done t c = added_ends c.loop-field.invariant (no_part c.args.fields.now c.loop-field.field-index c.loop-field-test.false)
 
-pub read_marked-returns-in_default-clause-stop : goal.read_marked-returns-in_default-clause-stop
-read_marked-returns-in_default-clause-stop t c =
-    let none : c.args.bits.now ≡ [] = c.in_default.ensures.none.0 refl in
-    rw none (record { told = mark_waits (fields_of (map part_of_field c.args.root.now)) (fields_of (map part_of_field c.args.additions.now)) c.requires.of_profile })
-
 pub read_root-returns-in_err-bitmap-clause-stop : goal.read_root-returns-in_err-bitmap-clause-stop
 read_root-returns-in_err-bitmap-clause-stop t c =
     let p = err_from_is_err_and c.from_residual.result c.from_residual.ensures.1 in
     rw (p.1, p.2)
     (stops_by _ (bitmap_stops_at (fields_of (map part_of_field c.args.root.now)) c.requires.of_profile c.bitmap_width-count.result c.highest_bitmap.result c.bitmap_width-count.ensures.count c.highest_bitmap.ensures c.args.bits.now) c.in_err-bitmap.ensures.stop)
 
-
--- a bit that is not 0
-bit_one : (b : ℕ) → b < 2 → b ≢ 0 → b ≡ 1
-bit_one b h n = omega (arith, h, n)
-
--- a list that is not empty
-some_items : (b : Bool) (n : ℕ) → b ≡ (n == 0) → b ≡ false → 0 < n
-some_items b zero e f = absurd (true≢false (sym e ∙ f))
-some_items b (suc n) e f = omega arith
-
-pub read_marked-read_root-requires : goal.read_marked-read_root-requires
-read_marked-read_root-requires t c = (search (rules, the_lemmas), (root_good c.args.root.now c.args.additions.now c.requires.of_profile, (few_of_root c.args.root.now c.args.additions.now c.requires.of_profile, omega arith)))
-
-pub read_marked-returns-in_err-entries-clause-stop : goal.read_marked-returns-in_err-entries-clause-stop
-read_marked-returns-in_err-entries-clause-stop t c =
-    let e = c.in-Some.ensures.some ∙ ap (λ b. b ∷ c.next.new.self) c.if-extended-eq0.true in
-    let p = err_from_is_err_and c.from_residual.result c.from_residual.ensures.1 in
-    rw (p.1, p.2) (stops_by _ (root_behind_zero (fields_of (map part_of_field c.args.root.now)) (fields_of (map part_of_field c.args.additions.now)) c.requires.of_profile c.args.bits.now c.next.new.self e).stops c.in_err-entries.ensures.stop)
-
-pub read_marked-returns-then-extended-eq0-clause-done : goal.read_marked-returns-then-extended-eq0-clause-done
-read_marked-returns-then-extended-eq0-clause-done t c =
-    let e = c.in-Some.ensures.some ∙ ap (λ b. b ∷ c.next.new.self) c.if-extended-eq0.true in
-    absent_done (fields_of (map part_of_field c.args.root.now)) (fields_of (map part_of_field c.args.additions.now)) c.requires.of_profile c.args.bits.now c.next.new.self c.read_root.new.bits (map (option_map datum_of) c.in_ok-entries.entries.items) (map (option_map datum_of) c.push_absent.new.entries.items) e c.in_ok-entries.ensures.done c.in_ok-push_absent.ensures
-
-pub read_marked-returns-then-is_empty-clause-stop : goal.read_marked-returns-then-is_empty-clause-stop
-read_marked-returns-then-is_empty-clause-stop t c =
-    let none : length c.args.additions.now ≡ 0 = eqb-true (length c.args.additions.now) 0 (sym c.is_empty.ensures ∙ c.if-is_empty.true) in
-    let e = c.in-Some.ensures.some ∙ ap (λ b. b ∷ c.next.new.self) (bit_one c.in-Some.extended c.in-Some.ensures.bit c.if-extended-eq0.false) in
-    rw c.bits_left.ensures.count (record { told = mark_refused (fields_of (map part_of_field c.args.root.now)) (fields_of (map part_of_field c.args.additions.now)) c.requires.of_profile (fields_count c.args.additions.now ∙ none) c.args.bits.now c.next.new.self e })
-
-pub read_marked-read_root-requires-2 : goal.read_marked-read_root-requires-2
-read_marked-read_root-requires-2 t c = (search (rules, the_lemmas), (root_good c.args.root.now c.args.additions.now c.requires.of_profile, (few_of_root c.args.root.now c.args.additions.now c.requires.of_profile, omega arith)))
-
-pub read_marked-returns-in_err-entries-2-clause-stop : goal.read_marked-returns-in_err-entries-2-clause-stop
-read_marked-returns-in_err-entries-2-clause-stop t c =
-    let e = c.in-Some.ensures.some ∙ ap (λ b. b ∷ c.next.new.self) (bit_one c.in-Some.extended c.in-Some.ensures.bit c.if-extended-eq0.false) in
-    let some : 0 < length c.args.additions.now = some_items c.is_empty.result (length c.args.additions.now) c.is_empty.ensures c.if-is_empty.false in
-    let p = err_from_is_err_and c.from_residual-in_err-entries-2.result c.from_residual-in_err-entries-2.ensures.1 in
-    rw (p.1, p.2) (stops_by _ (root_behind_one (fields_of (map part_of_field c.args.root.now)) (fields_of (map part_of_field c.args.additions.now)) c.requires.of_profile (rw fields_count some) c.args.bits.now c.next.new.self e) c.in_err-entries-2.ensures.stop)
-
-pub read_marked-read_additions-requires : goal.read_marked-read_additions-requires
-read_marked-read_additions-requires t c =
-    let some : 0 < length c.args.additions.now = some_items c.is_empty.result (length c.args.additions.now) c.is_empty.ensures c.if-is_empty.false in
-    (?, (more_good c.args.root.now c.args.additions.now c.requires.of_profile, (some, few_more c.args.root.now c.args.additions.now c.requires.of_profile)))
-
-pub read_marked-returns-in_err-read_additions-clause-stop : goal.read_marked-returns-in_err-read_additions-clause-stop
-read_marked-returns-in_err-read_additions-clause-stop t c =
-    let e = c.in-Some.ensures.some ∙ ap (λ b. b ∷ c.next.new.self) (bit_one c.in-Some.extended c.in-Some.ensures.bit c.if-extended-eq0.false) in
-    let p = err_from_is_err_and c.from_residual-in_err-read_additions.result c.from_residual-in_err-read_additions.ensures.1 in
-    rw (p.1, p.2)
-    (stops_by _ (additions_behind (fields_of (map part_of_field c.args.root.now)) (fields_of (map part_of_field c.args.additions.now)) c.requires.of_profile (components (components_of (map (option_map datum_of) c.in_ok-entries-2.entries.items))) c.args.bits.now c.next.new.self c.read_root-2.new.bits e c.in_ok-entries-2.ensures.done).stops c.in_err-read_additions.ensures.stop)
-
-pub read_marked-returns-clause-done : goal.read_marked-returns-clause-done
-read_marked-returns-clause-done t c =
-    let e = c.in-Some.ensures.some ∙ ap (λ b. b ∷ c.next.new.self) (bit_one c.in-Some.extended c.in-Some.ensures.bit c.if-extended-eq0.false) in
-    present_done (fields_of (map part_of_field c.args.root.now)) (fields_of (map part_of_field c.args.additions.now)) c.requires.of_profile c.args.bits.now c.next.new.self c.read_root-2.new.bits c.read_additions.new.bits (map (option_map datum_of) c.in_ok-entries-2.entries.items) (map (option_map datum_of) c.read_additions.new.entries.items) e c.in_ok-entries-2.ensures.done c.in_ok-read_additions.ensures.done
 
 pub read_root-returns-clause-done : goal.read_root-returns-clause-done
 read_root-returns-clause-done t c =

@@ -1,9 +1,14 @@
 -- From the answers for the root and the additions to those for a SEQUENCE with an extension mark.
-use Rattle.std.proofs.Common.{◌≡◌, ◌≢◌, ◌≤◌, ◌<◌, ◌⊎◌, inl, inr, ℕ, Bool, true, false, List, [], ◌∷◌, ◌++◌, length, Option, None, refl, sym, ap, subst, ◌∙◌, arith}
+use Rattle.std.proofs.Common.{◌≡◌, ◌≢◌, ◌≤◌, ◌<◌, ◌⊎◌, inl, inr, ℕ, ◌==◌, Bool, true, false, not, List, [], ◌∷◌, ◌++◌, length, map, Option, Some, None, Vec, Global, refl, sym, ap, subst, ◌∙◌, arith}
+use Rattle.std.proofs.lemmas.Bool.{true≢false, eqb-true}
 use Rattle.std.proofs.lemmas.List.{append_cancel_right}
 use Rattle.asn_values.specs.Datum.{Datum, Components, components, component_list, components_of}
-use Rattle.asn_values.specs.Shape.{Fields, sequence, closed, marked, demands}
+use Rattle.asn_values.specs.Shape.{Fields, MoreFields, sequence, closed, marked, demands}
 use Rattle.asn_values.specs.Profile.{InProfile}
+use Rattle.asn_values.specs.View.{shape_of, fields_of, part_of_field}
+use Rattle.asn_values.specs.declared.types.AsnType.{AsnType, Seq}
+use Rattle.asn_values.specs.declared.types.Field.{Field}
+use Rattle.asn_values.proofs.Views.{sequence_of_fields}
 use Rattle.asn_values.proofs.InnerTypes.{additions_of_profile}
 use Rattle.asn_rules.specs.Chunks.{Chunk, one}
 use Rattle.asn_rules.specs.Forks.{Fork, Same}
@@ -28,6 +33,7 @@ use Rattle.asn_per.proofs.AdditionsRead.{some_additions}
 use Rattle.asn_per.proofs.LeftOut.{none_left_out}
 use Rattle.asn_per.proofs.MarkedSequences.{few_additions, marked_sequences_compose}
 use Rattle.asn_per.proofs.PerFields.{per_fields_part}
+use Rattle.asn_per.proofs.Sequences.{count_of_fields, marked_fields}
 use Rattle.asn_per.proofs.Spellings.{component_list-of, components_of-list}
 use Rattle.asn_per.proofs.Whole.{per_parts}
 
@@ -141,3 +147,23 @@ module _ (root fs : Fields) (good : InProfile (sequence root (marked fs))) where
   present_done es new us after r s e h g =
       let w = map_source g in
       rw w.2 (rw (← entries_behind es w.0) ((additions_behind (components (components_of es)) us after r e h).done w.0 s w.1))
+
+-- ---- as the program has them
+
+-- a type with an extension mark
+pub marked_type : (t : AsnType) (root : Vec Field Global) (ext : Option (Vec Field Global)) (more : Vec Field Global) (fs gs : List Field) → t ≡ Seq root ext → ext ≡ Some more → fs ≡ root.items → gs ≡ more.items
+    → shape_of t ≡ sequence (fields_of (map part_of_field fs)) (marked (fields_of (map part_of_field gs)))
+marked_type t root ext more fs gs e f g h = sequence_of_fields t root ext fs e g ∙ ap (λ (m : MoreFields). sequence (fields_of (map part_of_field fs)) m) (marked_fields ext more gs f h)
+
+-- whether additions are listed
+pub none_listed : (fs : List Field) (empty : Bool) → empty ≡ (length fs == 0) → not empty ≡ false → length (demands (fields_of (map part_of_field fs))) ≡ 0
+none_listed fs empty e h = count_of_fields fs ∙ eqb-true (length fs) 0 (sym e ∙ empty_here empty h)
+  where
+    empty_here : (b : Bool) → not b ≡ false → b ≡ true
+    empty_here true h = refl
+    empty_here false h = absurd (true≢false h)
+
+pub some_listed : (fs : List Field) (empty : Bool) → empty ≡ (length fs == 0) → not empty ≡ true → 0 < length fs
+some_listed fs true e h = absurd (true≢false (sym h))
+some_listed [] false e h = absurd (true≢false (sym e))
+some_listed (f ∷ fs) false e h = omega arith

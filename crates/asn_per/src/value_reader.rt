@@ -46,15 +46,12 @@ pub(crate) fn read(alloc: Global, ty: &AsnType, bits: &mut BitCursor<'_>) -> Res
         AsnType::Octets(size) => Ok(Value::Octets(octet_string(alloc, size, bits)?)),
         AsnType::Text(kind, size) => Ok(Value::Text(text(alloc, *kind, size, bits)?)),
         AsnType::Utf8 => Ok(Value::Utf8(utf8_string(alloc, bits)?)),
-        AsnType::Seq { root, ext: None } => {
+        AsnType::Seq { root, ext } => {
             let root = root.as_slice();
-            Ok(Value::Seq(read_root(alloc, root, root.len(), bits)?))
-        }
-        AsnType::Seq {
-            root,
-            ext: Some(additions),
-        } => {
-            let (root, additions) = (root.as_slice(), additions.as_slice());
+            let Some(additions) = ext else {
+                return Ok(Value::Seq(read_root(alloc, root, root.len(), bits)?));
+            };
+            let additions = additions.as_slice();
             let extended = extension_bit(!additions.is_empty(), bits)?;
             let mut entries = read_root(alloc, root, root.len() + additions.len(), bits)?;
             if extended {

@@ -1,4 +1,4 @@
-use Rattle.std.proofs.Common.{◌≡◌, ◌≢◌, ◌<◌, ◌==◌, ℕ, zero, suc, Bool, ◌⊎◌, inl, inr, ◌∷◌, [], ◌++◌, ◌∙◌, true, false, List, map, Some, None, rules, sym, ap, ◌+◌, ◌-◌, ◌/◌, ◌%◌, ◌^◌, length, replicate, refl, arith}
+use Rattle.std.proofs.Common.{◌≡◌, ◌≢◌, ◌<◌, ◌==◌, ℕ, zero, suc, Bool, not, ◌⊎◌, inl, inr, ◌∷◌, [], ◌++◌, ◌∙◌, true, false, List, map, Some, None, rules, sym, ap, ◌+◌, ◌-◌, ◌/◌, ◌%◌, ◌^◌, length, replicate, refl, arith}
 use Rattle.std.specs.Option.{option_map}
 use Rattle.std.proofs.lemmas.Bool.{true≢false, eqb-true}
 use Rattle.std.proofs.lemmas.List.{map-append}
@@ -12,8 +12,8 @@ use Rattle.asn_values.specs.Datum.{number, components, components_of}
 use Rattle.asn_values.specs.declared.types.Field.{Field}
 use Rattle.asn_values.specs.declared.types.Need.{Need}
 use Rattle.asn_values.specs.declared.types.Need.TheVariants as needs
-use Rattle.asn_values.specs.Shape.{integer, enumerated}
-use Rattle.asn_values.specs.View.{shape_of, datum_of, fields_of, part_of_field, range_of, size_range_of, alphabet_of, label_of, more_labels_of, demand_of}
+use Rattle.asn_values.specs.Shape.{MoreFields, integer, enumerated, sequence, closed, marked}
+use Rattle.asn_values.specs.View.{shape_of, datum_of, fields_of, part_of_field, range_of, size_range_of, alphabet_of, label_of, more_labels_of, more_fields_of, demand_of}
 use Rattle.asn_values.proofs.Components.{shape_of_part}
 use Rattle.asn_bits.specs.Sink.{bit_of}
 use Rattle.asn_values.proofs.Views.{shape_of-Int, shape_of-Bits, shape_of-Octets, shape_of-Text, shape_of-Utf8, datum_of-Bits, datum_of-Octets, datum_of-Text, datum_of-Seq, sequence_of_fields}
@@ -25,12 +25,13 @@ use Rattle.asn_per.specs.Per.{per, per_fields, filling}
 use Rattle.asn_per.proofs.ComponentsRead.{next_part, no_part, bit_there, next_either, read_ends, demand_of_part, entry_leads, bitmap_stops_at, components_at, next_must, datum_of-Int}
 use Rattle.asn_per.proofs.AdditionsRead.{count_stops_at, presence_stops_at, added_starts, addition_bit, addition_good, addition_stops, addition_present, addition_absent, added_ends}
 use Rattle.asn_per.proofs.Exits.{if_err_weaker}
-use Rattle.asn_per.proofs.MarkedRead.{mark_stops, root_stops, additions_stop, absent_done, present_done}
+use Rattle.asn_per.proofs.MarkedRead.{marked_type, none_listed, some_listed, mark_stops, root_stops, additions_stop, absent_done, present_done}
 use Rattle.asn_per.proofs.EnumeratedTypes.{enumerated_of_items}
 use Rattle.asn_per.proofs.StringReading.{bits_size, octets_size, text_size, bits_lead, octets_lead, text_leads, utf8_leads}
-use Rattle.asn_per.proofs.Sequences.{few_components}
+use Rattle.asn_per.proofs.Sequences.{count_of_fields, few_components, added_of_profile, few_added}
+use Rattle.asn_values.proofs.Parts.{components_of_profile}
 use Rattle.asn_per.proofs.value_reader.+reader.Goals as goal
-use Rattle.asn_per.proofs.value_reader.+reader.Goals.{read_additions-then-bit_at+in_ok-read_open_field, read_additions-else-bit_at}
+use Rattle.asn_per.proofs.value_reader.+reader.Goals.{read_additions-then-bit_at+in_ok-read_open_field, read_additions-else-bit_at, read-then-extended+in_ok-read_additions-in-Seq-default-Some, read-else-extended+in_ok-push_absent-in-Seq-default-Some}
 use Rattle.asn_per.proofs.Messages.{value_stops, zeros_behind, eight_zeros, zeros_of_octet}
 use Rattle.asn_rules.specs.Languages.{Spells}
 use Rattle.asn_per.proofs.value_reader.+reader.Goals.{read_complete-then-bits_left-given, read_complete-else-bits_left-given}
@@ -144,6 +145,65 @@ read_additions-loop-field-preserved t c =
 
 pub read_additions-returns-clause-done : goal.read_additions-returns-clause-done
 read_additions-returns-clause-done t c = added_ends c.loop-field.invariant (no_part c.args.fields.now c.loop-field.field-index c.loop-field-test.false)
+
+pub read-read_root-requires : goal.read-read_root-requires
+read-read_root-requires t c =
+    let is = sequence_of_fields c.args.ty.now c.in-Seq-default-None.root c.in-Seq-default-None.ext c.as_slice-root.result.now c.in-Seq-default-None.is c.as_slice-root.ensures.value ∙ ap (λ (m : MoreFields). sequence (fields_of (map part_of_field c.as_slice-root.result.now)) m) (ap more_fields_of c.in-Seq-default-None.ext-is) in
+    (search (rules, the_lemmas), (components_of_profile (fields_of (map part_of_field c.as_slice-root.result.now)) closed (rw is at c.requires.of_profile), (few_components c.as_slice-root.result.now is c.requires.of_profile, omega arith)))
+
+pub read-returns-in_ok-read_root-in-Seq-default-None-clause-done : goal.read-returns-in_ok-read_root-in-Seq-default-None-clause-done
+read-returns-in_ok-read_root-in-Seq-default-None-clause-done t c =
+    let is = sequence_of_fields c.args.ty.now c.in-Seq-default-None.root c.in-Seq-default-None.ext c.as_slice-root.result.now c.in-Seq-default-None.is c.as_slice-root.ensures.value ∙ ap (λ (m : MoreFields). sequence (fields_of (map part_of_field c.as_slice-root.result.now)) m) (ap more_fields_of c.in-Seq-default-None.ext-is) in
+    rw (is, datum_of-Seq c.in_ok-read_root-in-Seq-default-None.field-0) c.in_ok-read_root-in-Seq-default-None.ensures.done
+
+pub read-returns-in_err-extended-in-Seq-default-Some-clause-stop : goal.read-returns-in_err-extended-in-Seq-default-Some-clause-stop
+read-returns-in_err-extended-in-Seq-default-Some-clause-stop t c =
+    let is = marked_type c.args.ty.now c.in-Seq-default-Some.root c.in-Seq-default-Some.ext c.in-Seq-default-Some.additions c.as_slice-root-in-Seq-default-Some.result.now c.as_slice-additions.result.now c.in-Seq-default-Some.is c.in-Seq-default-Some.ext-is c.as_slice-root-in-Seq-default-Some.ensures.value c.as_slice-additions.ensures.value in
+    let p = err_from_is_err_and c.from_residual-in_err-extended-in-Seq-default-Some.result c.from_residual-in_err-extended-in-Seq-default-Some.ensures.1 in
+    rw (p.1, p.2, is)
+    (mark_stops (fields_of (map part_of_field c.as_slice-root-in-Seq-default-Some.result.now)) (fields_of (map part_of_field c.as_slice-additions.result.now)) (rw is at c.requires.of_profile) (not c.is_empty.result) c.args.bits.now _ (none_listed c.as_slice-additions.result.now c.is_empty.result c.is_empty.ensures) c.in_err-extended-in-Seq-default-Some.ensures.stop)
+
+pub read-read_root-requires-in-Seq-default-Some : goal.read-read_root-requires-in-Seq-default-Some
+read-read_root-requires-in-Seq-default-Some t c =
+    let is = marked_type c.args.ty.now c.in-Seq-default-Some.root c.in-Seq-default-Some.ext c.in-Seq-default-Some.additions c.as_slice-root-in-Seq-default-Some.result.now c.as_slice-additions.result.now c.in-Seq-default-Some.is c.in-Seq-default-Some.ext-is c.as_slice-root-in-Seq-default-Some.ensures.value c.as_slice-additions.ensures.value in
+    (search (rules, the_lemmas), (components_of_profile (fields_of (map part_of_field c.as_slice-root-in-Seq-default-Some.result.now)) (marked (fields_of (map part_of_field c.as_slice-additions.result.now))) (rw is at c.requires.of_profile), (few_components c.as_slice-root-in-Seq-default-Some.result.now is c.requires.of_profile, omega arith)))
+
+pub read-returns-in_err-entries-in-Seq-default-Some-clause-stop : goal.read-returns-in_err-entries-in-Seq-default-Some-clause-stop
+read-returns-in_err-entries-in-Seq-default-Some-clause-stop t c =
+    let is = marked_type c.args.ty.now c.in-Seq-default-Some.root c.in-Seq-default-Some.ext c.in-Seq-default-Some.additions c.as_slice-root-in-Seq-default-Some.result.now c.as_slice-additions.result.now c.in-Seq-default-Some.is c.in-Seq-default-Some.ext-is c.as_slice-root-in-Seq-default-Some.ensures.value c.as_slice-additions.ensures.value in
+    let mark = c.in_ok-extended-in-Seq-default-Some.ensures.done in
+    let p = err_from_is_err_and c.from_residual-in_err-entries-in-Seq-default-Some.result c.from_residual-in_err-entries-in-Seq-default-Some.ensures.1 in
+    rw (p.1, p.2, is)
+    (stops_by _ (root_stops (fields_of (map part_of_field c.as_slice-root-in-Seq-default-Some.result.now)) (fields_of (map part_of_field c.as_slice-additions.result.now)) (rw is at c.requires.of_profile) c.in_ok-extended-in-Seq-default-Some.extended c.args.bits.now c.extension_bit.new.bits mark.0 (λ e. rw count_of_fields (some_listed c.as_slice-additions.result.now c.is_empty.result c.is_empty.ensures (mark.1 e)))) c.in_err-entries-in-Seq-default-Some.ensures.stop)
+
+pub read-read_additions-requires : goal.read-read_additions-requires
+read-read_additions-requires t c =
+    let is = marked_type c.args.ty.now c.in-Seq-default-Some.root c.in-Seq-default-Some.ext c.in-Seq-default-Some.additions c.as_slice-root-in-Seq-default-Some.result.now c.as_slice-additions.result.now c.in-Seq-default-Some.is c.in-Seq-default-Some.ext-is c.as_slice-root-in-Seq-default-Some.ensures.value c.as_slice-additions.ensures.value in
+    let some = some_listed c.as_slice-additions.result.now c.is_empty.result c.is_empty.ensures (c.in_ok-extended-in-Seq-default-Some.ensures.done.1 c.if-extended.true) in
+    (search (rules, the_lemmas), (added_of_profile c.as_slice-additions.result.now is c.requires.of_profile, (some, few_added c.as_slice-additions.result.now is c.requires.of_profile)))
+
+pub read-returns-in_err-read_additions-in-Seq-default-Some-clause-stop : goal.read-returns-in_err-read_additions-in-Seq-default-Some-clause-stop
+read-returns-in_err-read_additions-in-Seq-default-Some-clause-stop t c =
+    let is = marked_type c.args.ty.now c.in-Seq-default-Some.root c.in-Seq-default-Some.ext c.in-Seq-default-Some.additions c.as_slice-root-in-Seq-default-Some.result.now c.as_slice-additions.result.now c.in-Seq-default-Some.is c.in-Seq-default-Some.ext-is c.as_slice-root-in-Seq-default-Some.ensures.value c.as_slice-additions.ensures.value in
+    let set = c.in_ok-extended-in-Seq-default-Some.ensures.done.0 ∙ ap (λ b. bit_of b ∷ c.extension_bit.new.bits) c.if-extended.true in
+    let p = err_from_is_err_and c.from_residual-in_err-read_additions-in-Seq-default-Some.result c.from_residual-in_err-read_additions-in-Seq-default-Some.ensures.1 in
+    rw (p.1, p.2, is)
+    (stops_by _ (additions_stop (fields_of (map part_of_field c.as_slice-root-in-Seq-default-Some.result.now)) (fields_of (map part_of_field c.as_slice-additions.result.now)) (rw is at c.requires.of_profile) (map (option_map datum_of) c.in_ok-entries-in-Seq-default-Some.entries.items) c.args.bits.now c.extension_bit.new.bits c.read_root-in-Seq-default-Some.new.bits set c.in_ok-entries-in-Seq-default-Some.ensures.done) c.in_err-read_additions-in-Seq-default-Some.ensures.stop)
+
+pub read-returns-after-extended-clause-done : goal.read-returns-after-extended-clause-done
+read-returns-after-extended-clause-done t c =
+    let is = marked_type c.args.ty.now c.in-Seq-default-Some.root c.in-Seq-default-Some.ext c.in-Seq-default-Some.additions c.as_slice-root-in-Seq-default-Some.result.now c.as_slice-additions.result.now c.in-Seq-default-Some.is c.in-Seq-default-Some.ext-is c.as_slice-root-in-Seq-default-Some.ensures.value c.as_slice-additions.ensures.value in
+    let good = rw is at c.requires.of_profile in
+    let es = map (option_map datum_of) c.in_ok-entries-in-Seq-default-Some.entries.items in
+    let root = c.in_ok-entries-in-Seq-default-Some.ensures.done in
+    rw (is, datum_of-Seq c.if-extended.entries) (elim c.if-extended.branch [
+      | read-then-extended+in_ok-read_additions-in-Seq-default-Some w ↦
+          let set = c.in_ok-extended-in-Seq-default-Some.ensures.done.0 ∙ ap (λ b. bit_of b ∷ c.extension_bit.new.bits) w.if-extended.true in
+          rw (w.entries-is, w.bits-is) (present_done (fields_of (map part_of_field c.as_slice-root-in-Seq-default-Some.result.now)) (fields_of (map part_of_field c.as_slice-additions.result.now)) good es (map (option_map datum_of) w.read_additions.new.entries.items) c.args.bits.now c.extension_bit.new.bits c.read_root-in-Seq-default-Some.new.bits w.read_additions.new.bits set root w.in_ok-read_additions-in-Seq-default-Some.ensures.done)
+      | read-else-extended+in_ok-push_absent-in-Seq-default-Some w ↦
+          let clear = c.in_ok-extended-in-Seq-default-Some.ensures.done.0 ∙ ap (λ b. bit_of b ∷ c.extension_bit.new.bits) w.if-extended.false in
+          rw (w.entries-is, w.bits-is) (absent_done (fields_of (map part_of_field c.as_slice-root-in-Seq-default-Some.result.now)) (fields_of (map part_of_field c.as_slice-additions.result.now)) good es (map (option_map datum_of) w.push_absent.new.entries.items) c.args.bits.now c.extension_bit.new.bits c.read_root-in-Seq-default-Some.new.bits clear root w.in_ok-push_absent-in-Seq-default-Some.ensures)
+    ])
 
 pub read_root-returns-in_err-bitmap-clause-stop : goal.read_root-returns-in_err-bitmap-clause-stop
 read_root-returns-in_err-bitmap-clause-stop t c =

@@ -2,11 +2,12 @@
 ghost use Rattle.std.specs.Prelude.{◌≡◌, ◌≤◌, ◌<◌, ◌^◌, ◌++◌, IfOk, true, IfErr, OnOk, map, length, vec_len};
 ghost use Rattle.std.specs.Option.{option_map};
 ghost use Rattle.asn_values.specs.Fits.{Fits, FitsEach, FitsNumber};
-ghost use Rattle.asn_values.specs.Shape.{integer, marked, demands};
-ghost use Rattle.asn_values.specs.Datum.{number};
+ghost use Rattle.asn_values.specs.Shape.{integer, marked, demands, sequence_of};
+ghost use Rattle.asn_values.specs.Datum.{number, elements, elements_of};
+ghost use Rattle.std.specs.List.{AllByRecursion};
 ghost use Rattle.asn_values.specs.Profile.{InProfile};
 ghost use Rattle.asn_values.specs.Parts.{AreOfProfile, IsGoodDemand};
-ghost use Rattle.asn_values.specs.View.{shape_of, datum_of, range_of, fields_of, part_of_field};
+ghost use Rattle.asn_values.specs.View.{shape_of, datum_of, range_of, size_range_of, fields_of, part_of_field};
 ghost use Rattle.asn_bits.specs.Numbers.{bits};
 ghost use Rattle.asn_rules.specs.Answer.{max_octets};
 ghost use Rattle.asn_rules.specs.Chunks.{flat};
@@ -18,13 +19,19 @@ ghost use Rattle.asn_per.specs.Rules.{per_ruling, IsPerEncoding};
 ghost use Rattle.asn_per.specs.Laws.{per_bits};
 ghost use Rattle.asn_per.specs.Additions.{AreOptional, root_bits, addition_bits};
 
+ghost use Rattle.asn_per.specs.StringItems.{row_bits};
+
 use crate::items::write_enumerated;
-use crate::string_writer::{push_extension_bit, write_bit_string, write_octet_string, write_text, write_utf8};
+use crate::string_writer::{
+    BLOCK, push_count, push_extension_bit, write_bit_string, write_octet_string, write_text,
+    write_utf8,
+};
+use crate::value_reader::bitmap_width;
 use asn_bits::BitSink;
 use asn_bits::numbers::width;
 use asn_bits::offsets::above;
 use asn_rules::EncodeFault;
-use asn_values::{AsnType, Bounds, Checked, Field, Need, Value, fits, is_between, same};
+use asn_values::{AsnType, Bounds, Checked, Field, Need, Size, Value, fits, is_between, same};
 use std::alloc::{AllocError, Global};
 
 /// The most octets of a message.
@@ -85,12 +92,7 @@ pub(crate) fn write_open_field(
 /// Writes a value of the type.
 #[inline(always)]
 #[cycle(writer)]
-fn write(
-    alloc: Global,
-    ty: &AsnType,
-    value: &Value,
-    sink: &mut BitSink,
-) -> Result<(), AllocError>
+fn write(alloc: Global, ty: &AsnType, value: &Value, sink: &mut BitSink) -> Result<(), AllocError>
     requires of_profile { InProfile (shape_of ty.now) }
     requires of_type { Fits (shape_of ty.now) (datum_of value.now) }
     ensures { OnOk result (sink.new ≡ sink.old ++ per_bits (shape_of ty.now) (datum_of value.now)) }
@@ -139,7 +141,7 @@ fn write(
             };
             write_utf8(text.as_bytes(), sink)
         }
-        AsnType::SeqOf(..) | AsnType::Choice { .. } => unreachable!(),
+        AsnType::Choice { .. } => unreachable!(),
         AsnType::Seq { root, ext } => {
             let Value::Seq(entries) = value else {
                 unreachable!()
@@ -152,6 +154,12 @@ fn write(
                 Some(additions) if extended => write_additions(alloc, additions, theirs, sink),
                 _ => Ok(()),
             }
+        }
+        AsnType::SeqOf(element, size) => {
+            let Value::List(values) = value else {
+                unreachable!()
+            };
+            write_list(alloc, element, size, values, sink)
         }
     }
 }
@@ -197,6 +205,22 @@ fn write_ranged(bounds: &Bounds, whole: i128, sink: &mut BitSink) -> Result<(), 
 /// How many presence bits the components have, and the bitmap as a number (X.691, "encoding the
 /// sequence type").
 fn presence_bitmap(fields: &[Field], entries: &[Option<Value>]) -> (u32, u64)
+    requires of_profile { AreOfProfile (fields_of (map part_of_field fields.now)) }
+    requires of_type { FitsEach (fields_of (map part_of_field fields.now)) (map (option_map datum_of) entries.now) }
+    requires few { length fields.now ≤ 64 }
+    ensures count { result.0 ≤ 64 }
+    ensures within { result.1 < 2 ^ result.0 }
+    ensures bitmap { bits result.0 result.1
+        ≡ presence (demands (fields_of (map part_of_field fields.now))) (map (option_map datum_of) entries.now) }
+{
+    if bitmap_width(fields) == 0 {
+        return (0, 0);
+    }
+    gathered_bits(fields, entries)
+}
+
+/// The same, from each component in turn.
+fn gathered_bits(fields: &[Field], entries: &[Option<Value>]) -> (u32, u64)
     requires of_profile { AreOfProfile (fields_of (map part_of_field fields.now)) }
     requires of_type { FitsEach (fields_of (map part_of_field fields.now)) (map (option_map datum_of) entries.now) }
     requires few { length fields.now ≤ 64 }
@@ -256,9 +280,18 @@ fn write_components(
     let (count, bitmap) = presence_bitmap(fields, entries);
     sink.push_number(count, bitmap)?;
     for (field, entry) in fields.iter().zip(entries) {
-        if let Some(value) = entry
-            && is_encoded(field, entry)
-        {
+        let Some(value) = entry else {
+            continue;
+        };
+        // integers that are always there are most often met, so these are written before any other kind
+        // is asked for
+        if let (AsnType::Int(bounds), Value::Int(whole), Need::Must) = (
+            &field.ty,
+            value,
+            &field.need,
+        ) {
+            write_integer(bounds, *whole, sink)?;
+        } else if is_encoded(field, entry) {
             write(alloc, &field.ty, value, sink)?;
         }
     }
@@ -297,6 +330,53 @@ fn write_additions(
         if let Some(value) = entry {
             write_open_field(alloc, &field.ty, value, sink)?;
         }
+    }
+    Ok(())
+}
+
+/// Writes the elements of a SEQUENCE OF (X.691, "encoding the sequence-of type"): behind their count, or one
+/// general length after the other, each with the elements that it counts.
+#[cycle(writer)]
+fn write_list(
+    alloc: Global,
+    element: &AsnType,
+    size: &Size,
+    values: &[Value],
+    sink: &mut BitSink,
+) -> Result<(), AllocError>
+    requires of_profile { InProfile (sequence_of (shape_of element.now) (size_range_of size.now)) }
+    requires of_type { Fits (sequence_of (shape_of element.now) (size_range_of size.now)) (elements (elements_of (map datum_of values.now))) }
+    ensures { OnOk result (sink.new ≡ sink.old
+        ++ per_bits (sequence_of (shape_of element.now) (size_range_of size.now)) (elements (elements_of (map datum_of values.now)))) }
+{
+    if push_count(size, values.len(), sink)? {
+        return write_elements(alloc, element, values, sink);
+    }
+    let mut done = 0;
+    loop {
+        let many = sink.push_length((values.len() - done) as u64)? as usize;
+        write_elements(alloc, element, &values[done..done + many], sink)?;
+        if many < BLOCK {
+            return Ok(());
+        }
+        done += many;
+    }
+}
+
+/// Writes elements one after the other.
+#[cycle(writer)]
+fn write_elements(
+    alloc: Global,
+    element: &AsnType,
+    values: &[Value],
+    sink: &mut BitSink,
+) -> Result<(), AllocError>
+    requires of_profile { InProfile (shape_of element.now) }
+    requires of_type { AllByRecursion (λ d. Fits (shape_of element.now) d) (map datum_of values.now) }
+    ensures { OnOk result (sink.new ≡ sink.old ++ row_bits (map (λ d. per (shape_of element.now) d) (map datum_of values.now))) }
+{
+    for value in values {
+        write(alloc, element, value, sink)?;
     }
     Ok(())
 }

@@ -6,7 +6,7 @@ ghost use Rattle.asn_values.specs.Datum.{components, components_of, number};
 ghost use Rattle.asn_values.specs.Fits.{lowest_integer, highest_integer};
 ghost use Rattle.asn_values.specs.Profile.{InProfile, good_default};
 ghost use Rattle.asn_values.specs.Parts.{AreOfProfile, IsGoodDemand};
-ghost use Rattle.asn_values.specs.View.{shape_of, datum_of, fields_of, part_of_field};
+ghost use Rattle.asn_values.specs.View.{shape_of, datum_of, fields_of, part_of_field, size_range_of};
 ghost use Rattle.asn_bits.specs.Numbers.{bits};
 ghost use Rattle.asn_bits.specs.Sink.{bit_of};
 ghost use Rattle.asn_rules.specs.Components.{has_presence_bit};
@@ -18,11 +18,14 @@ ghost use Rattle.asn_per.specs.Kinds.{OpenValues, Additions, absent_entries};
 ghost use Rattle.asn_per.specs.Per.{per, per_fields};
 ghost use Rattle.asn_per.specs.Reading.{Behind, StopsAtMark};
 ghost use Rattle.asn_per.specs.Rules.{per_ruling};
+ghost use Rattle.asn_per.specs.Kinds.{Sized};
+ghost use Rattle.asn_per.specs.ListsAhead.{IsSizeOfProfile};
 
 use crate::encoder::may_be_absent;
 use crate::integer_reader::{boolean, integer, power_of_two, take_between};
 use crate::items::enumerated;
 use crate::number_reader::{Numbers, bits_left, number, padding};
+use crate::size_reader::Rows;
 use crate::string_reader::{bit_string, octet_string, text, utf8_string};
 use asn_bits::BitCursor;
 use asn_rules::{Stop, Why};
@@ -61,7 +64,8 @@ pub(crate) fn read(alloc: Global, ty: &AsnType, bits: &mut BitCursor<'_>) -> Res
             }
             Ok(Value::Seq(entries))
         }
-        AsnType::SeqOf(..) | AsnType::Choice { .. } => unreachable!(),
+        AsnType::SeqOf(element, size) => Ok(Value::List(read_list(alloc, element, size, bits)?)),
+        AsnType::Choice { .. } => unreachable!(),
     }
 }
 
@@ -298,6 +302,32 @@ fn push_absent(additions: &[Field], entries: &mut Vec<Option<Value>>) -> Result<
     Ok(())
 }
 
+/// Reads the elements of a SEQUENCE OF (X.691, "encoding the sequence-of type"). Room is made for no more of
+/// them than octets are left, however many a length announces.
+#[cycle(reader)]
+fn read_list(
+    alloc: Global,
+    element: &AsnType,
+    size: &Size,
+    cursor: &mut BitCursor<'_>,
+) -> Result<Vec<Value>, Stop>
+    requires of_profile { InProfile (shape_of element.now) }
+    requires size { IsSizeOfProfile (size_range_of size.now) }
+    ensures done { IfOk result (λ vs. Spells per_fields (Sized (size_range_of size.now) (Spelt per None (shape_of element.now))) (map datum_of vs.items) cursor.old cursor.new) }
+    ensures stop { IfErr result (λ why. Stops per_fields (Sized (size_range_of size.now) (Spelt per None (shape_of element.now))) cursor.old why) }
+{
+    let mut elements = Vec::new(alloc);
+    let mut rows = Rows::start(size, cursor)?;
+    while let Some(count) = rows.next(cursor)? {
+        elements.reserve(count.min(cursor.octets_left()))?;
+        for i in 0..count {
+            let value = read(alloc, element, cursor)?;
+            elements.push(value)?;
+        }
+    }
+    Ok(elements)
+}
+
 /// Reads a value of the type of a component with this DEFAULT, which is another one: an encoder leaves
 /// the DEFAULT out.
 fn read_other(ty: &AsnType, default: &Value, bits: &mut BitCursor<'_>) -> Result<Value, Stop>
@@ -358,7 +388,7 @@ fn presence_of(field: &Field, bitmap: u64, left: u32) -> (bool, u32)
 }
 
 /// How many presence bits the components have.
-fn bitmap_width(fields: &[Field]) -> u32
+pub(crate) fn bitmap_width(fields: &[Field]) -> u32
     requires { length fields.now ≤ 64 }
     ensures count { result ≡ bitmap_length (fields_of (map part_of_field fields.now)) }
     ensures few { result ≤ 64 }

@@ -1,25 +1,34 @@
-use Rattle.std.proofs.Common.{rules, ℕ, subst, take, drop, true, ◌≡◌, ◌∷◌, ◌⊎◌, ◌++◌, [], map, Some, inl, inr, refl, sym, ap, ◌∙◌, arith, ◌≤◌, length}
+use Rattle.std.proofs.Common.{rules, ℕ, subst, take, drop, true, ◌≡◌, ◌∷◌, ◌⊎◌, ◌++◌, [], map, Some, inl, inr, refl, sym, ap, ◌∙◌, arith, ◌≤◌, length, ◌+◌, ◌-◌, List, false}
 use Rattle.std.specs.Option.{option_map}
 use Rattle.std.proofs.lemmas.Result.{on_ok_weaker}
 use Rattle.std.proofs.lemmas.Slice.Zip.{either_empty_from_Zip}
 use Rattle.asn_values.specs.declared.types.AsnType.{the_lemmas}
-use Rattle.asn_values.specs.Shape.{Shape, MoreFields, sequence, marked}
-use Rattle.asn_values.specs.Fits.{FitsEach, FitsMore}
+use Rattle.asn_values.specs.Shape.{Shape, integer, MoreFields, sequence, marked}
+use Rattle.asn_values.specs.Datum.{number}
+use Rattle.asn_values.specs.Fits.{Fits, FitsEach, FitsMore, FitsLength}
 use Rattle.asn_values.specs.Parts.{AreOfProfile}
-use Rattle.asn_values.specs.View.{shape_of, datum_of, fields_of, more_fields_of, part_of_field}
+use Rattle.asn_values.specs.View.{shape_of, datum_of, demand_of, range_of, fields_of, part_of_field, more_fields_of, size_range_of}
+use Rattle.asn_values.proofs.Views.{shape_of-Int}
 use Rattle.asn_values.proofs.Components.{shape_of_part}
 use Rattle.asn_bits.specs.Numbers.{bits}
-use Rattle.asn_rules.specs.Components.{any_present, is_spelled}
-use Rattle.asn_rules.specs.Chunks.{flat}
+use Rattle.asn_bits.proofs.Above.{kept}
+use Rattle.asn_rules.specs.Components.{is_spelled, any_present}
 use Rattle.asn_per.specs.Laws.{per_bits}
-use Rattle.asn_per.specs.Per.{spelled, per}
+use Rattle.asn_per.proofs.ComponentsRead.{datum_of-Int, demand_of_part}
+use Rattle.asn_per.proofs.Sequences.{of_sequence, parts_of_profile, entries_fit, sequence_written, few_components, count_of_fields, enough_entries, ours_fit, theirs_fit, marked_fields, added_of_profile, added_optional, few_added}
+use Rattle.asn_rules.specs.Chunks.{flat}
+use Rattle.asn_per.specs.Per.{spelled, per, sized}
 use Rattle.asn_per.proofs.Completing.{Topped, completed}
 use Rattle.asn_rules.proofs.Entries.{each_length}
 use Rattle.asn_per.proofs.AdditionLanguages.{some_there}
 use Rattle.asn_per.specs.Additions.{AreOptional, addition_bits}
-use Rattle.asn_per.proofs.Sequences.{count_of_fields, of_sequence, parts_of_profile, entries_fit, few_components, enough_entries, ours_fit, theirs_fit, marked_fields, added_of_profile, added_optional, few_added}
 use Rattle.asn_per.proofs.SequenceWriting.{root_written, additions_written, sequence_written, unmarked_ends, none_ends}
 use Rattle.asn_per.proofs.Writing.{written_more, written_ends, either_map}
+use Rattle.std.proofs.lemmas.List.{length-map}
+use Rattle.asn_values.proofs.InnerTypes.{element_of_profile}
+use Rattle.asn_per.specs.StringItems.{row_bits, general_bits}
+use Rattle.asn_per.proofs.SizesWritten.{written_more as fragment_written, written_all}
+use Rattle.asn_per.proofs.ListWriting.{codes, codes_count, list_fits, list_written, some_fit, some_bits, elements_start, elements_next, elements_end, next_value, no_value}
 use Rattle.asn_per.proofs.encoder.+writer.Goals as goal
 use Rattle.asn_per.proofs.encoder.+writer.Goals.{complete_encoding-then-is_empty+in_ok-push_number, complete_encoding-else-is_empty}
 
@@ -33,9 +42,23 @@ complete_encoding-returns t c =
     ] in
     completed cs c.if-is_empty.sink c.pad.new.self c.into_octets.result.items top c.in_ok-pad.ensures.ok c.into_octets.ensures.packed
 
-pub write_components-loop-field-preserved-in-loop-field :
-    goal.write_components-loop-field-preserved-in-loop-field
-write_components-loop-field-preserved-in-loop-field t c =
+pub write_components-loop-field-preserved-in-Must-1 : goal.write_components-loop-field-preserved-in-Must-1
+write_components-loop-field-preserved-in-Must-1 t c =
+    let e : c.loop-field.field-iterator.a.rest.now ≡ c.in-Some.field.now ∷ c.next.new.self.a.rest.now = c.in-Some.ensures.steps.0 in
+    let f : c.loop-field.field-iterator.b.rest.now ≡ c.in-Some.entry.now ∷ c.next.new.self.b.rest.now = c.in-Some.ensures.steps.1 in
+    let i = c.in-Int-Int-Must in
+    let some : option_map datum_of c.in-Some.entry.now ≡ Some (number i.whole) = ap (option_map datum_of) c.in-Some-entry.is ∙ ap Some (ap datum_of i.is-1 ∙ datum_of-Int i.whole) in
+    let spelt : is_spelled (part_of_field c.in-Some.field.now).demand (Some (number i.whole)) ≡ true = ap (λ d. is_spelled d (Some (number i.whole))) (demand_of_part c.in-Some.field.now ∙ ap demand_of i.is-2) in
+    let shape : (part_of_field c.in-Some.field.now).shape ≡ integer (range_of i.bounds) = shape_of_part c.in-Some.field.now ∙ ap shape_of i.is-0 ∙ shape_of-Int i.bounds in
+    let h = rw (e, f, some) at c.loop-field.invariant in
+    let fits : Fits (integer (range_of i.bounds)) (number i.whole) = rw shape at h.components.of_type.0 in
+    let same = kept i.whole fits.0 fits.1 in
+    written_more h spelt
+    (rw same at c.in_ok-write_integer.ensures ∙ ap (λ (t : Shape). c.loop-field.sink ++ per_bits t (number i.whole)) (sym shape))
+
+pub write_components-loop-field-preserved-in-Continue-branch-2 :
+    goal.write_components-loop-field-preserved-in-Continue-branch-2
+write_components-loop-field-preserved-in-Continue-branch-2 t c =
     let e : c.loop-field.field-iterator.a.rest.now ≡ c.in-Some.field.now ∷ c.next.new.self.a.rest.now = c.in-Some.ensures.steps.0 in
     let f : c.loop-field.field-iterator.b.rest.now ≡ c.in-Some.entry.now ∷ c.next.new.self.b.rest.now = c.in-Some.ensures.steps.1 in
     let some : option_map datum_of c.in-Some.entry.now ≡ Some (datum_of c.in-Some-entry.value) = ap (option_map datum_of) c.in-Some-entry.is in
@@ -137,3 +160,65 @@ write-returns-in_default-ext-2 t c =
     let back : c.split_at.result.1.now ≡ drop (length fs) vs = c.split_at.ensures.back ∙ ap (λ (k : ℕ). drop k vs) n in
     sequence_written c.args.sink.now c.push_extension_bit.new.sink c.write_components.new.sink c.write_components.new.sink fs c.in-Seq.ext vs c.split_at.result.0.now c.split_at.result.1.now
     c.is_some.result c.is_any_present-extended.result s front back c.is_some.ensures c.is_any_present-extended.ensures c.in_ok-push_extension_bit-in-Seq.ensures c.in_ok-write_components-in-Seq.ensures (unmarked_ends c.write_components.new.sink c.in-Seq.ext (map (option_map datum_of) c.split_at.result.1.now) c.in_default-ext.is)
+
+pub write_list-push_count-requires : goal.write_list-push_count-requires
+write_list-push_count-requires t c =
+    let element = shape_of c.args.element.now in
+    let s = size_range_of c.args.size.now in
+    let vs = c.args.values.now in
+    subst (FitsLength s) (length-map vs datum_of) (list_fits element s (map datum_of vs) c.requires.of_type).0
+
+pub write_list-write_elements-requires : goal.write_list-write_elements-requires
+write_list-write_elements-requires t c =
+    let element = shape_of c.args.element.now in
+    let s = size_range_of c.args.size.now in
+    (search (rules, the_lemmas), (element_of_profile element s c.requires.of_profile, (list_fits element s (map datum_of c.args.values.now) c.requires.of_type).1))
+
+pub write_list-returns-then-branch : goal.write_list-returns-then-branch
+write_list-returns-then-branch t c =
+    let element = shape_of c.args.element.now in
+    let s = size_range_of c.args.size.now in
+    let ds = map datum_of c.args.values.now in
+    let h : c.push_count.new.sink ++ row_bits (codes element ds) ≡ c.args.sink.now ++ flat spelled (sized s (codes element ds)) = (rw c.if-branch.true at c.in_ok-push_count.ensures) (codes element ds) (codes_count element c.args.values.now) in
+    on_ok_weaker c.write_elements.result (λ e. list_written element s ds c.args.sink.now (c.push_count.new.sink ++ row_bits (codes element ds)) c.write_elements.new.sink h e) c.write_elements.ensures
+
+pub write_list-write_elements-requires-in-loop-many : goal.write_list-write_elements-requires-in-loop-many
+write_list-write_elements-requires-in-loop-many t c =
+    let element = shape_of c.args.element.now in
+    let s = size_range_of c.args.size.now in
+    let vs = c.args.values.now in
+    let fit = some_fit element (c.loop-many.done + c.in_ok-many.many - c.loop-many.done) c.loop-many.done vs (list_fits element s (map datum_of vs) c.requires.of_type).1 in
+    (search (rules, the_lemmas), (element_of_profile element s c.requires.of_profile, fit))
+
+pub write_list-returns-then-many-lt-BLOCK : goal.write_list-returns-then-many-lt-BLOCK
+write_list-returns-then-many-lt-BLOCK t c =
+    let element = shape_of c.args.element.now in
+    let s = size_range_of c.args.size.now in
+    let vs = c.args.values.now in
+    let xs = codes element (map datum_of vs) in
+    let h : c.push_count.new.sink ++ general_bits xs ≡ c.args.sink.now ++ flat spelled (sized s xs) = (rw c.if-branch.false at c.in_ok-push_count.ensures) xs (codes_count element vs) in
+    let row = some_bits element c.in_ok-many.many (c.loop-many.done + c.in_ok-many.many - c.loop-many.done) c.loop-many.done vs c.push_length.new.self c.write_elements-in-loop-many.new.sink (omega arith) c.in_ok-write_elements.ensures in
+    list_written element s (map datum_of vs) c.args.sink.now (c.push_count.new.sink ++ general_bits xs) c.write_elements-in-loop-many.new.sink h
+    (written_all xs c.push_count.new.sink c.loop-many.sink c.push_length.new.self c.write_elements-in-loop-many.new.sink c.loop-many.done c.in_ok-many.many (length vs)
+    c.loop-many.invariant (sym (codes_count element vs)) c.in_ok-many.ensures.items c.in_ok-many.ensures.ok row c.if-many-lt-BLOCK.true)
+
+pub write_list-loop-many-preserved : goal.write_list-loop-many-preserved
+write_list-loop-many-preserved t c =
+    let element = shape_of c.args.element.now in
+    let vs = c.args.values.now in
+    let xs = codes element (map datum_of vs) in
+    let row = some_bits element c.in_ok-many.many (c.loop-many.done + c.in_ok-many.many - c.loop-many.done) c.loop-many.done vs c.push_length.new.self c.write_elements-in-loop-many.new.sink (omega arith) c.in_ok-write_elements.ensures in
+    fragment_written xs c.push_count.new.sink c.loop-many.sink c.push_length.new.self c.write_elements-in-loop-many.new.sink c.loop-many.done c.in_ok-many.many (length vs)
+    c.loop-many.invariant (sym (codes_count element vs)) c.in_ok-many.ensures.items c.in_ok-many.ensures.ok row c.if-many-lt-BLOCK.false
+
+pub write_elements-write-requires : goal.write_elements-write-requires
+write_elements-write-requires t c =
+    let fit = (rw (next_value c.args.values.now c.loop-value.value-index c.value-item.result c.loop-value-test.true c.value-item.is) at c.loop-value.invariant).fits.0 in
+    (search (rules, the_lemmas), (c.requires.of_profile, fit))
+
+pub write_elements-loop-value-preserved : goal.write_elements-loop-value-preserved
+write_elements-loop-value-preserved t c =
+    elements_next (rw (next_value c.args.values.now c.loop-value.value-index c.value-item.result c.loop-value-test.true c.value-item.is) at c.loop-value.invariant) c.in_ok-write.ensures
+
+pub write_elements-returns : goal.write_elements-returns
+write_elements-returns t c = elements_end c.loop-value.invariant (no_value c.args.values.now c.loop-value.value-index c.loop-value-test.false)

@@ -12,14 +12,14 @@ use Rattle.asn_values.specs.Datum.{number, components, components_of}
 use Rattle.asn_values.specs.declared.types.Field.{Field}
 use Rattle.asn_values.specs.declared.types.Need.{Need}
 use Rattle.asn_values.specs.declared.types.Need.TheVariants as needs
-use Rattle.asn_values.specs.Shape.{MoreFields, integer, enumerated, sequence, closed, marked}
+use Rattle.asn_values.specs.Shape.{MoreFields, integer, enumerated, sequence, closed, marked, sequence_of}
 use Rattle.asn_values.specs.View.{shape_of, datum_of, fields_of, part_of_field, range_of, size_range_of, alphabet_of, label_of, more_labels_of, more_fields_of, demand_of}
 use Rattle.asn_values.proofs.Components.{shape_of_part}
 use Rattle.asn_bits.specs.Sink.{bit_of}
-use Rattle.asn_values.proofs.Views.{shape_of-Int, shape_of-Bits, shape_of-Octets, shape_of-Text, shape_of-Utf8, datum_of-Bits, datum_of-Octets, datum_of-Text, datum_of-Seq, sequence_of_fields}
+use Rattle.asn_values.proofs.Views.{shape_of-Int, shape_of-Bits, shape_of-Octets, shape_of-Text, shape_of-Utf8, datum_of-Bits, datum_of-Octets, datum_of-Text, datum_of-Seq, sequence_of_fields, list_of_elements, datum_of-List}
 use Rattle.asn_rules.specs.Listed.{bitmap_length, default_of, Spelt}
 use Rattle.asn_rules.proofs.Leads.{stops_by}
-use Rattle.asn_rules.proofs.Listed.{spelt_inhabited}
+use Rattle.asn_rules.proofs.Listed.{spelt_inhabited, spelt_lawful}
 use Rattle.asn_rules.proofs.ListedReading.{nothing_read}
 use Rattle.asn_per.specs.Per.{per, per_fields, filling}
 use Rattle.asn_per.proofs.ComponentsRead.{next_part, no_part, bit_there, next_either, read_ends, demand_of_part, entry_leads, bitmap_stops_at, components_at, next_must, datum_of-Int}
@@ -30,8 +30,17 @@ use Rattle.asn_per.proofs.EnumeratedTypes.{enumerated_of_items}
 use Rattle.asn_per.proofs.StringReading.{bits_size, octets_size, text_size, bits_lead, octets_lead, text_leads, utf8_leads}
 use Rattle.asn_per.proofs.Sequences.{count_of_fields, few_components, added_of_profile, few_added}
 use Rattle.asn_values.proofs.Parts.{components_of_profile}
+use Rattle.asn_per.specs.ListsAhead.{Next}
+use Rattle.asn_per.specs.RowsAhead.{ahead_of}
+use Rattle.asn_per.specs.Reading.{Appends}
+use Rattle.asn_per.proofs.Appending.{appends_more, appends_one}
+use Rattle.asn_per.proofs.ListsAhead.{start_stops, going_starts, going_stops, going_further, going_ends}
+use Rattle.asn_per.proofs.ListReading.{going_next_stops, list_size, list_leads}
+use Rattle.asn_per.proofs.Whole.{per_parts}
+use Rattle.asn_values.specs.Profile.{InProfile}
+use Rattle.asn_values.proofs.InnerTypes.{element_of_profile}
 use Rattle.asn_per.proofs.value_reader.+reader.Goals as goal
-use Rattle.asn_per.proofs.value_reader.+reader.Goals.{read_additions-then-bit_at+in_ok-read_open_field, read_additions-else-bit_at, read-then-extended+in_ok-read_additions-in-Seq-default-Some, read-else-extended+in_ok-push_absent-in-Seq-default-Some}
+use Rattle.asn_per.proofs.value_reader.+reader.Goals.{read_additions-then-bit_at+in_ok-read_open_field, read_additions-else-bit_at, read-then-extended+in_ok-read_additions-in-Seq, read-else-extended+in_ok-push_absent-in-Seq}
 use Rattle.asn_per.proofs.Messages.{value_stops, zeros_behind, eight_zeros, zeros_of_octet}
 use Rattle.asn_rules.specs.Languages.{Spells}
 use Rattle.asn_per.proofs.value_reader.+reader.Goals.{read_complete-then-bits_left-given, read_complete-else-bits_left-given}
@@ -94,7 +103,6 @@ read-returns-in_err-utf8_string-in-Utf8-clause-stop t c =
     let p = err_from_is_err_and c.from_residual-in_err-utf8_string-in-Utf8.result c.from_residual-in_err-utf8_string-in-Utf8.ensures.1 in
     rw (p.1, p.2, c.in-Utf8.is, shape_of-Utf8) (stops_by _ (utf8_leads c.args.bits.now).stops c.in_err-utf8_string-in-Utf8.ensures.stop)
 
--- MARKED-BEGIN
 pub read_additions-returns-in_err-number-clause-stop : goal.read_additions-returns-in_err-number-clause-stop
 read_additions-returns-in_err-number-clause-stop t c =
     let p = err_from_is_err_and c.from_residual.result c.from_residual.ensures.1 in
@@ -148,61 +156,61 @@ read_additions-returns-clause-done t c = added_ends c.loop-field.invariant (no_p
 
 pub read-read_root-requires : goal.read-read_root-requires
 read-read_root-requires t c =
-    let is = sequence_of_fields c.args.ty.now c.in-Seq-default-None.root c.in-Seq-default-None.ext c.as_slice-root.result.now c.in-Seq-default-None.is c.as_slice-root.ensures.value ∙ ap (λ (m : MoreFields). sequence (fields_of (map part_of_field c.as_slice-root.result.now)) m) (ap more_fields_of c.in-Seq-default-None.ext-is) in
+    let is = sequence_of_fields c.args.ty.now c.in-Seq.root c.in-Seq.ext c.as_slice-root.result.now c.in-Seq.is c.as_slice-root.ensures.value ∙ ap (λ (m : MoreFields). sequence (fields_of (map part_of_field c.as_slice-root.result.now)) m) (ap more_fields_of c.in_default.is) in
     (search (rules, the_lemmas), (components_of_profile (fields_of (map part_of_field c.as_slice-root.result.now)) closed (rw is at c.requires.of_profile), (few_components c.as_slice-root.result.now is c.requires.of_profile, omega arith)))
 
-pub read-returns-in_ok-read_root-in-Seq-default-None-clause-done : goal.read-returns-in_ok-read_root-in-Seq-default-None-clause-done
-read-returns-in_ok-read_root-in-Seq-default-None-clause-done t c =
-    let is = sequence_of_fields c.args.ty.now c.in-Seq-default-None.root c.in-Seq-default-None.ext c.as_slice-root.result.now c.in-Seq-default-None.is c.as_slice-root.ensures.value ∙ ap (λ (m : MoreFields). sequence (fields_of (map part_of_field c.as_slice-root.result.now)) m) (ap more_fields_of c.in-Seq-default-None.ext-is) in
-    rw (is, datum_of-Seq c.in_ok-read_root-in-Seq-default-None.field-0) c.in_ok-read_root-in-Seq-default-None.ensures.done
+pub read-returns-in_default-clause-done : goal.read-returns-in_default-clause-done
+read-returns-in_default-clause-done t c =
+    let is = sequence_of_fields c.args.ty.now c.in-Seq.root c.in-Seq.ext c.as_slice-root.result.now c.in-Seq.is c.as_slice-root.ensures.value ∙ ap (λ (m : MoreFields). sequence (fields_of (map part_of_field c.as_slice-root.result.now)) m) (ap more_fields_of c.in_default.is) in
+    rw (is, datum_of-Seq c.in_ok-read_root-in-Seq.field-0) c.in_ok-read_root-in-Seq.ensures.done
 
-pub read-returns-in_err-extended-in-Seq-default-Some-clause-stop : goal.read-returns-in_err-extended-in-Seq-default-Some-clause-stop
-read-returns-in_err-extended-in-Seq-default-Some-clause-stop t c =
-    let is = marked_type c.args.ty.now c.in-Seq-default-Some.root c.in-Seq-default-Some.ext c.in-Seq-default-Some.additions c.as_slice-root-in-Seq-default-Some.result.now c.as_slice-additions.result.now c.in-Seq-default-Some.is c.in-Seq-default-Some.ext-is c.as_slice-root-in-Seq-default-Some.ensures.value c.as_slice-additions.ensures.value in
-    let p = err_from_is_err_and c.from_residual-in_err-extended-in-Seq-default-Some.result c.from_residual-in_err-extended-in-Seq-default-Some.ensures.1 in
+pub read-returns-in_err-extended-in-Seq-clause-stop : goal.read-returns-in_err-extended-in-Seq-clause-stop
+read-returns-in_err-extended-in-Seq-clause-stop t c =
+    let is = marked_type c.args.ty.now c.in-Seq.root c.in-Seq.ext c.in-Some.additions c.as_slice-root.result.now c.as_slice-additions.result.now c.in-Seq.is c.in-Some.is c.as_slice-root.ensures.value c.as_slice-additions.ensures.value in
+    let p = err_from_is_err_and c.from_residual-in_err-extended-in-Seq.result c.from_residual-in_err-extended-in-Seq.ensures.1 in
     rw (p.1, p.2, is)
-    (mark_stops (fields_of (map part_of_field c.as_slice-root-in-Seq-default-Some.result.now)) (fields_of (map part_of_field c.as_slice-additions.result.now)) (rw is at c.requires.of_profile) (not c.is_empty.result) c.args.bits.now _ (none_listed c.as_slice-additions.result.now c.is_empty.result c.is_empty.ensures) c.in_err-extended-in-Seq-default-Some.ensures.stop)
+    (mark_stops (fields_of (map part_of_field c.as_slice-root.result.now)) (fields_of (map part_of_field c.as_slice-additions.result.now)) (rw is at c.requires.of_profile) (not c.is_empty.result) c.args.bits.now _ (none_listed c.as_slice-additions.result.now c.is_empty.result c.is_empty.ensures) c.in_err-extended-in-Seq.ensures.stop)
 
-pub read-read_root-requires-in-Seq-default-Some : goal.read-read_root-requires-in-Seq-default-Some
-read-read_root-requires-in-Seq-default-Some t c =
-    let is = marked_type c.args.ty.now c.in-Seq-default-Some.root c.in-Seq-default-Some.ext c.in-Seq-default-Some.additions c.as_slice-root-in-Seq-default-Some.result.now c.as_slice-additions.result.now c.in-Seq-default-Some.is c.in-Seq-default-Some.ext-is c.as_slice-root-in-Seq-default-Some.ensures.value c.as_slice-additions.ensures.value in
-    (search (rules, the_lemmas), (components_of_profile (fields_of (map part_of_field c.as_slice-root-in-Seq-default-Some.result.now)) (marked (fields_of (map part_of_field c.as_slice-additions.result.now))) (rw is at c.requires.of_profile), (few_components c.as_slice-root-in-Seq-default-Some.result.now is c.requires.of_profile, omega arith)))
+pub read-read_root-requires-in-Seq : goal.read-read_root-requires-in-Seq
+read-read_root-requires-in-Seq t c =
+    let is = marked_type c.args.ty.now c.in-Seq.root c.in-Seq.ext c.in-Some.additions c.as_slice-root.result.now c.as_slice-additions.result.now c.in-Seq.is c.in-Some.is c.as_slice-root.ensures.value c.as_slice-additions.ensures.value in
+    (search (rules, the_lemmas), (components_of_profile (fields_of (map part_of_field c.as_slice-root.result.now)) (marked (fields_of (map part_of_field c.as_slice-additions.result.now))) (rw is at c.requires.of_profile), (few_components c.as_slice-root.result.now is c.requires.of_profile, omega arith)))
 
-pub read-returns-in_err-entries-in-Seq-default-Some-clause-stop : goal.read-returns-in_err-entries-in-Seq-default-Some-clause-stop
-read-returns-in_err-entries-in-Seq-default-Some-clause-stop t c =
-    let is = marked_type c.args.ty.now c.in-Seq-default-Some.root c.in-Seq-default-Some.ext c.in-Seq-default-Some.additions c.as_slice-root-in-Seq-default-Some.result.now c.as_slice-additions.result.now c.in-Seq-default-Some.is c.in-Seq-default-Some.ext-is c.as_slice-root-in-Seq-default-Some.ensures.value c.as_slice-additions.ensures.value in
-    let mark = c.in_ok-extended-in-Seq-default-Some.ensures.done in
-    let p = err_from_is_err_and c.from_residual-in_err-entries-in-Seq-default-Some.result c.from_residual-in_err-entries-in-Seq-default-Some.ensures.1 in
+pub read-returns-in_err-entries-in-Seq-clause-stop : goal.read-returns-in_err-entries-in-Seq-clause-stop
+read-returns-in_err-entries-in-Seq-clause-stop t c =
+    let is = marked_type c.args.ty.now c.in-Seq.root c.in-Seq.ext c.in-Some.additions c.as_slice-root.result.now c.as_slice-additions.result.now c.in-Seq.is c.in-Some.is c.as_slice-root.ensures.value c.as_slice-additions.ensures.value in
+    let mark = c.in_ok-extended-in-Seq.ensures.done in
+    let p = err_from_is_err_and c.from_residual-in_err-entries-in-Seq.result c.from_residual-in_err-entries-in-Seq.ensures.1 in
     rw (p.1, p.2, is)
-    (stops_by _ (root_stops (fields_of (map part_of_field c.as_slice-root-in-Seq-default-Some.result.now)) (fields_of (map part_of_field c.as_slice-additions.result.now)) (rw is at c.requires.of_profile) c.in_ok-extended-in-Seq-default-Some.extended c.args.bits.now c.extension_bit.new.bits mark.0 (λ e. rw count_of_fields (some_listed c.as_slice-additions.result.now c.is_empty.result c.is_empty.ensures (mark.1 e)))) c.in_err-entries-in-Seq-default-Some.ensures.stop)
+    (stops_by _ (root_stops (fields_of (map part_of_field c.as_slice-root.result.now)) (fields_of (map part_of_field c.as_slice-additions.result.now)) (rw is at c.requires.of_profile) c.in_ok-extended-in-Seq.extended c.args.bits.now c.extension_bit.new.bits mark.0 (λ e. rw count_of_fields (some_listed c.as_slice-additions.result.now c.is_empty.result c.is_empty.ensures (mark.1 e)))) c.in_err-entries-in-Seq.ensures.stop)
 
 pub read-read_additions-requires : goal.read-read_additions-requires
 read-read_additions-requires t c =
-    let is = marked_type c.args.ty.now c.in-Seq-default-Some.root c.in-Seq-default-Some.ext c.in-Seq-default-Some.additions c.as_slice-root-in-Seq-default-Some.result.now c.as_slice-additions.result.now c.in-Seq-default-Some.is c.in-Seq-default-Some.ext-is c.as_slice-root-in-Seq-default-Some.ensures.value c.as_slice-additions.ensures.value in
-    let some = some_listed c.as_slice-additions.result.now c.is_empty.result c.is_empty.ensures (c.in_ok-extended-in-Seq-default-Some.ensures.done.1 c.if-extended.true) in
+    let is = marked_type c.args.ty.now c.in-Seq.root c.in-Seq.ext c.in-Some.additions c.as_slice-root.result.now c.as_slice-additions.result.now c.in-Seq.is c.in-Some.is c.as_slice-root.ensures.value c.as_slice-additions.ensures.value in
+    let some = some_listed c.as_slice-additions.result.now c.is_empty.result c.is_empty.ensures (c.in_ok-extended-in-Seq.ensures.done.1 c.if-extended.true) in
     (search (rules, the_lemmas), (added_of_profile c.as_slice-additions.result.now is c.requires.of_profile, (some, few_added c.as_slice-additions.result.now is c.requires.of_profile)))
 
-pub read-returns-in_err-read_additions-in-Seq-default-Some-clause-stop : goal.read-returns-in_err-read_additions-in-Seq-default-Some-clause-stop
-read-returns-in_err-read_additions-in-Seq-default-Some-clause-stop t c =
-    let is = marked_type c.args.ty.now c.in-Seq-default-Some.root c.in-Seq-default-Some.ext c.in-Seq-default-Some.additions c.as_slice-root-in-Seq-default-Some.result.now c.as_slice-additions.result.now c.in-Seq-default-Some.is c.in-Seq-default-Some.ext-is c.as_slice-root-in-Seq-default-Some.ensures.value c.as_slice-additions.ensures.value in
-    let set = c.in_ok-extended-in-Seq-default-Some.ensures.done.0 ∙ ap (λ b. bit_of b ∷ c.extension_bit.new.bits) c.if-extended.true in
-    let p = err_from_is_err_and c.from_residual-in_err-read_additions-in-Seq-default-Some.result c.from_residual-in_err-read_additions-in-Seq-default-Some.ensures.1 in
+pub read-returns-in_err-read_additions-in-Seq-clause-stop : goal.read-returns-in_err-read_additions-in-Seq-clause-stop
+read-returns-in_err-read_additions-in-Seq-clause-stop t c =
+    let is = marked_type c.args.ty.now c.in-Seq.root c.in-Seq.ext c.in-Some.additions c.as_slice-root.result.now c.as_slice-additions.result.now c.in-Seq.is c.in-Some.is c.as_slice-root.ensures.value c.as_slice-additions.ensures.value in
+    let set = c.in_ok-extended-in-Seq.ensures.done.0 ∙ ap (λ b. bit_of b ∷ c.extension_bit.new.bits) c.if-extended.true in
+    let p = err_from_is_err_and c.from_residual-in_err-read_additions-in-Seq.result c.from_residual-in_err-read_additions-in-Seq.ensures.1 in
     rw (p.1, p.2, is)
-    (stops_by _ (additions_stop (fields_of (map part_of_field c.as_slice-root-in-Seq-default-Some.result.now)) (fields_of (map part_of_field c.as_slice-additions.result.now)) (rw is at c.requires.of_profile) (map (option_map datum_of) c.in_ok-entries-in-Seq-default-Some.entries.items) c.args.bits.now c.extension_bit.new.bits c.read_root-in-Seq-default-Some.new.bits set c.in_ok-entries-in-Seq-default-Some.ensures.done) c.in_err-read_additions-in-Seq-default-Some.ensures.stop)
+    (stops_by _ (additions_stop (fields_of (map part_of_field c.as_slice-root.result.now)) (fields_of (map part_of_field c.as_slice-additions.result.now)) (rw is at c.requires.of_profile) (map (option_map datum_of) c.in_ok-entries-in-Seq.entries.items) c.args.bits.now c.extension_bit.new.bits c.read_root-in-Seq.new.bits set c.in_ok-entries-in-Seq.ensures.done) c.in_err-read_additions-in-Seq.ensures.stop)
 
 pub read-returns-after-extended-clause-done : goal.read-returns-after-extended-clause-done
 read-returns-after-extended-clause-done t c =
-    let is = marked_type c.args.ty.now c.in-Seq-default-Some.root c.in-Seq-default-Some.ext c.in-Seq-default-Some.additions c.as_slice-root-in-Seq-default-Some.result.now c.as_slice-additions.result.now c.in-Seq-default-Some.is c.in-Seq-default-Some.ext-is c.as_slice-root-in-Seq-default-Some.ensures.value c.as_slice-additions.ensures.value in
+    let is = marked_type c.args.ty.now c.in-Seq.root c.in-Seq.ext c.in-Some.additions c.as_slice-root.result.now c.as_slice-additions.result.now c.in-Seq.is c.in-Some.is c.as_slice-root.ensures.value c.as_slice-additions.ensures.value in
     let good = rw is at c.requires.of_profile in
-    let es = map (option_map datum_of) c.in_ok-entries-in-Seq-default-Some.entries.items in
-    let root = c.in_ok-entries-in-Seq-default-Some.ensures.done in
+    let es = map (option_map datum_of) c.in_ok-entries-in-Seq.entries.items in
+    let root = c.in_ok-entries-in-Seq.ensures.done in
     rw (is, datum_of-Seq c.if-extended.entries) (elim c.if-extended.branch [
-      | read-then-extended+in_ok-read_additions-in-Seq-default-Some w ↦
-          let set = c.in_ok-extended-in-Seq-default-Some.ensures.done.0 ∙ ap (λ b. bit_of b ∷ c.extension_bit.new.bits) w.if-extended.true in
-          rw (w.entries-is, w.bits-is) (present_done (fields_of (map part_of_field c.as_slice-root-in-Seq-default-Some.result.now)) (fields_of (map part_of_field c.as_slice-additions.result.now)) good es (map (option_map datum_of) w.read_additions.new.entries.items) c.args.bits.now c.extension_bit.new.bits c.read_root-in-Seq-default-Some.new.bits w.read_additions.new.bits set root w.in_ok-read_additions-in-Seq-default-Some.ensures.done)
-      | read-else-extended+in_ok-push_absent-in-Seq-default-Some w ↦
-          let clear = c.in_ok-extended-in-Seq-default-Some.ensures.done.0 ∙ ap (λ b. bit_of b ∷ c.extension_bit.new.bits) w.if-extended.false in
-          rw (w.entries-is, w.bits-is) (absent_done (fields_of (map part_of_field c.as_slice-root-in-Seq-default-Some.result.now)) (fields_of (map part_of_field c.as_slice-additions.result.now)) good es (map (option_map datum_of) w.push_absent.new.entries.items) c.args.bits.now c.extension_bit.new.bits c.read_root-in-Seq-default-Some.new.bits clear root w.in_ok-push_absent-in-Seq-default-Some.ensures)
+      | read-then-extended+in_ok-read_additions-in-Seq w ↦
+          let set = c.in_ok-extended-in-Seq.ensures.done.0 ∙ ap (λ b. bit_of b ∷ c.extension_bit.new.bits) w.if-extended.true in
+          rw (w.entries-is, w.bits-is) (present_done (fields_of (map part_of_field c.as_slice-root.result.now)) (fields_of (map part_of_field c.as_slice-additions.result.now)) good es (map (option_map datum_of) w.read_additions.new.entries.items) c.args.bits.now c.extension_bit.new.bits c.read_root-in-Seq.new.bits w.read_additions.new.bits set root w.in_ok-read_additions-in-Seq.ensures.done)
+      | read-else-extended+in_ok-push_absent-in-Seq w ↦
+          let clear = c.in_ok-extended-in-Seq.ensures.done.0 ∙ ap (λ b. bit_of b ∷ c.extension_bit.new.bits) w.if-extended.false in
+          rw (w.entries-is, w.bits-is) (absent_done (fields_of (map part_of_field c.as_slice-root.result.now)) (fields_of (map part_of_field c.as_slice-additions.result.now)) good es (map (option_map datum_of) w.push_absent.new.entries.items) c.args.bits.now c.extension_bit.new.bits c.read_root-in-Seq.new.bits clear root w.in_ok-push_absent-in-Seq.ensures)
     ])
 
 pub read_root-returns-in_err-bitmap-clause-stop : goal.read_root-returns-in_err-bitmap-clause-stop
@@ -221,8 +229,6 @@ pub read_root-returns-clause-stop : goal.read_root-returns-clause-stop
 read_root-returns-clause-stop t c =
     let lead = components_at (fields_of (map part_of_field c.args.root.now)) c.requires.of_profile c.bitmap_width-count.result c.highest_bitmap.result c.bitmap_width-count.ensures.count c.highest_bitmap.ensures c.in_ok-bitmap.bitmap c.args.bits.now c.number.new.bits c.in_ok-bitmap.ensures.done in
     if_err_weaker c.read_components.result _ _ (λ why s. stops_by why lead.stops s) c.read_components.ensures.stop
-
--- MARKED-END
 
 pub read_components-presence_of-present-requires-clause-there : goal.read_components-presence_of-present-requires-clause-there
 read_components-presence_of-present-requires-clause-there t c =
@@ -362,3 +368,72 @@ read_open_field-returns-in-Err-Refused-clause-stop t c =
     let stopped = rw (c.over-content.ensures, c.deref.ensures.value) at c.in-Err-Refused.ensures.stop in
     let told = none_held (shape_of c.args.ty.now) c.requires.of_profile c.in-Err-Refused.field-0 (λ e. cc) c.in_ok-octets.ensures.done stopped in
     rw c.bits_left.ensures.count (record { told = told })
+
+pub read-read_list-requires : goal.read-read_list-requires
+read-read_list-requires t c =
+    let element = shape_of c.deref-in-SeqOf.result.now in
+    let s = size_range_of c.in-SeqOf.size in
+    let is = list_of_elements c.args.ty.now c.deref-in-SeqOf.result.now c.in-SeqOf.element c.in-SeqOf.size c.in-SeqOf.is c.deref-in-SeqOf.ensures in
+    let good : InProfile (sequence_of element s) = rw is at c.requires.of_profile in
+    (search (rules, the_lemmas), (element_of_profile element s good, list_size element s good))
+
+pub read-returns-in_err-read_list-in-SeqOf-clause-stop : goal.read-returns-in_err-read_list-in-SeqOf-clause-stop
+read-returns-in_err-read_list-in-SeqOf-clause-stop t c =
+    let element = shape_of c.deref-in-SeqOf.result.now in
+    let s = size_range_of c.in-SeqOf.size in
+    let is = list_of_elements c.args.ty.now c.deref-in-SeqOf.result.now c.in-SeqOf.element c.in-SeqOf.size c.in-SeqOf.is c.deref-in-SeqOf.ensures in
+    let good : InProfile (sequence_of element s) = rw is at c.requires.of_profile in
+    let p = err_from_is_err_and c.from_residual-in_err-read_list-in-SeqOf.result c.from_residual-in_err-read_list-in-SeqOf.ensures.1 in
+    rw (p.1, p.2, is) (stops_by _ (list_leads element s c.args.bits.now good).stops c.in_err-read_list-in-SeqOf.ensures.stop)
+
+pub read-returns-in_ok-read_list-in-SeqOf-clause-done : goal.read-returns-in_ok-read_list-in-SeqOf-clause-done
+read-returns-in_ok-read_list-in-SeqOf-clause-done t c =
+    let element = shape_of c.deref-in-SeqOf.result.now in
+    let s = size_range_of c.in-SeqOf.size in
+    let is = list_of_elements c.args.ty.now c.deref-in-SeqOf.result.now c.in-SeqOf.element c.in-SeqOf.size c.in-SeqOf.is c.deref-in-SeqOf.ensures in
+    let good : InProfile (sequence_of element s) = rw is at c.requires.of_profile in
+    let values = c.in_ok-read_list-in-SeqOf.field-0 in
+    rw (is, datum_of-List values) ((list_leads element s c.args.bits.now good).done (map datum_of values.items) c.read_list.new.cursor c.in_ok-read_list-in-SeqOf.ensures.done)
+
+pub read_list-returns-in_err-rows-clause-stop : goal.read_list-returns-in_err-rows-clause-stop
+read_list-returns-in_err-rows-clause-stop t c =
+    let element = shape_of c.args.element.now in
+    let p = err_from_is_err_and c.from_residual.result c.from_residual.ensures.1 in
+    rw (p.1, p.2) (stops_by _ (start_stops (Spelt per None element) (size_range_of c.args.size.now) c.args.cursor.now c.requires.size (spelt_inhabited per element c.requires.of_profile)) c.in_err-rows.ensures.stop)
+
+pub read_list-loop-elements-init : goal.read_list-loop-elements-init
+read_list-loop-elements-init t c =
+    (rw c.new-elements.ensures.items (going_starts (Spelt per None (shape_of c.args.element.now)) (size_range_of c.args.size.now) c.requires.size c.in_ok-rows.ensures.done), c.in_ok-rows.ensures.between)
+
+pub read_list-returns-in_err-count-clause-stop : goal.read_list-returns-in_err-count-clause-stop
+read_list-returns-in_err-count-clause-stop t c =
+    let p = err_from_is_err_and c.from_residual-in_err-count.result c.from_residual-in_err-count.ensures.1 in
+    rw (p.1, p.2) (going_stops _ (spelt_inhabited per (shape_of c.args.element.now) c.requires.of_profile) c.in_err-count.ensures.stop c.loop-elements.invariant.0)
+
+pub read_list-loop-elements-preserved : goal.read_list-loop-elements-preserved
+read_list-loop-elements-preserved t c =
+    let element = shape_of c.args.element.now in
+    let next : Next (ahead_of c.loop-elements.rows) (Some c.in-Some.count) (ahead_of c.next.new.self) c.loop-elements.cursor c.next.new.bits = rw c.in-Some.is at c.in_ok-count.ensures.done in
+    let all : c.loop-i.i ≡ c.in-Some.count = omega (arith, c.loop-i-test.false, c.loop-i.auto.i-end) in
+    let come : Appends (Spelt per None element) c.in-Some.count (map datum_of c.loop-elements.elements.items) (map datum_of c.loop-i.elements.items) c.next.new.bits c.loop-i.cursor = rw (all, c.in_ok-reserve.ensures.items) at c.loop-i.invariant in
+    (going_further (spelt_inhabited per element c.requires.of_profile) (spelt_lawful per per_parts None element c.requires.of_profile) next come c.loop-elements.invariant.0, c.in_ok-count.ensures.between)
+
+pub read_list-returns-in_err-value-clause-stop : goal.read_list-returns-in_err-value-clause-stop
+read_list-returns-in_err-value-clause-stop t c =
+    let element = shape_of c.args.element.now in
+    let next : Next (ahead_of c.loop-elements.rows) (Some c.in-Some.count) (ahead_of c.next.new.self) c.loop-elements.cursor c.next.new.bits = rw c.in-Some.is at c.in_ok-count.ensures.done in
+    let come : Appends (Spelt per None element) c.loop-i.i (map datum_of c.loop-elements.elements.items) (map datum_of c.loop-i.elements.items) c.next.new.bits c.loop-i.cursor = rw c.in_ok-reserve.ensures.items at c.loop-i.invariant in
+    let p = err_from_is_err_and c.from_residual-in_err-value.result c.from_residual-in_err-value.ensures.1 in
+    rw (p.1, p.2)
+    (stops_by _ (going_next_stops c.loop-i.i c.in-Some.count (spelt_inhabited per element c.requires.of_profile) (spelt_lawful per per_parts None element c.requires.of_profile) (omega (arith, c.loop-i-test.true)) next come c.loop-elements.invariant.0) c.in_err-value.ensures.stop)
+
+pub read_list-loop-i-preserved : goal.read_list-loop-i-preserved
+read_list-loop-i-preserved t c =
+    let items : map datum_of c.push.new.self.items ≡ map datum_of c.loop-i.elements.items ++ datum_of c.in_ok-value.value ∷ [] =
+    ap (map datum_of) c.in_ok-push.ensures.items ∙ map-append datum_of c.loop-i.elements.items (c.in_ok-value.value ∷ []) in
+    appends_more c.loop-i.i 1 (c.loop-i.i + 1) refl c.loop-i.invariant (appends_one items c.in_ok-value.ensures.done)
+
+pub read_list-returns-clause-done : goal.read_list-returns-clause-done
+read_list-returns-clause-done t c =
+    let next : Next (ahead_of c.loop-elements.rows) None (ahead_of c.next.new.self) c.loop-elements.cursor c.next.new.bits = rw c.in_default.is at c.in_ok-count.ensures.done in
+    going_ends next c.loop-elements.invariant.0

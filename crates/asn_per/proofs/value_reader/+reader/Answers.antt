@@ -219,7 +219,6 @@ read_root-returns-in_err-bitmap-clause-stop t c =
     rw (p.1, p.2)
     (stops_by _ (bitmap_stops_at (fields_of (map part_of_field c.args.root.now)) c.requires.of_profile c.bitmap_width-count.result c.highest_bitmap.result c.bitmap_width-count.ensures.count c.highest_bitmap.ensures c.args.bits.now) c.in_err-bitmap.ensures.stop)
 
-
 pub read_root-returns-clause-done : goal.read_root-returns-clause-done
 read_root-returns-clause-done t c =
     let lead = components_at (fields_of (map part_of_field c.args.root.now)) c.requires.of_profile c.bitmap_width-count.result c.highest_bitmap.result c.bitmap_width-count.ensures.count c.highest_bitmap.ensures c.in_ok-bitmap.bitmap c.args.bits.now c.number.new.bits c.in_ok-bitmap.ensures.done in

@@ -28,7 +28,7 @@ use Rattle.asn_per.proofs.PerFields.{per_fields_part}
 -- ---- sets of indexes
 
 -- two sets of the same numbers
-same_set : (k : ℕ) {S T : ℕ → Type 0} → ((n : ℕ) → S n → T n) → ((n : ℕ) → T n → S n) → Same (Plain (InSet k S)) (Plain (InSet k T))
+pub same_set : (k : ℕ) {S T : ℕ → Type 0} → ((n : ℕ) → S n → T n) → ((n : ℕ) → T n → S n) → Same (Plain (InSet k S)) (Plain (InSet k T))
 same_set k there back = record {
   to = λ n cs h. record { units = h.units; spelt = record { digits = h.spelt.digits; member = there n h.spelt.member }; same = h.same };
   from = λ n cs h. record { units = h.units; spelt = record { digits = h.spelt.digits; member = back n h.spelt.member }; same = h.same };

@@ -338,8 +338,9 @@ fn write_list(
     let mut done = 0;
     loop {
         let many = sink.push_length((values.len() - done) as u64)? as usize;
+        let last = many < BLOCK;
         write_elements(alloc, element, &values[done..done + many], sink)?;
-        if many < BLOCK {
+        if last {
             return Ok(());
         }
         done += many;

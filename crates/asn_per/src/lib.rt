@@ -11,6 +11,8 @@ mod items;
 mod kinds;
 mod laws;
 mod length_reader;
+#[cfg(test)]
+mod list_tests;
 mod number_reader;
 mod row_reader;
 mod signed_reader;

@@ -28,7 +28,7 @@ use Rattle.std.proofs.lemmas.List.{length-map}
 use Rattle.asn_values.proofs.InnerTypes.{element_of_profile}
 use Rattle.asn_per.specs.StringItems.{row_bits, general_bits}
 use Rattle.asn_per.proofs.SizesWritten.{written_more as fragment_written, written_all}
-use Rattle.asn_per.proofs.ListWriting.{codes, codes_count, list_fits, list_written, some_fit, some_bits, elements_start, elements_next, elements_end, next_value, no_value}
+use Rattle.asn_per.proofs.ListWriting.{codes, codes_count, list_fits, list_written, some_fit, some_bits, elements_next, elements_end, next_value, no_value}
 use Rattle.asn_per.proofs.encoder.+writer.Goals as goal
 use Rattle.asn_per.proofs.encoder.+writer.Goals.{complete_encoding-then-is_empty+in_ok-push_number, complete_encoding-else-is_empty}
 
@@ -190,8 +190,8 @@ write_list-write_elements-requires-in-loop-many t c =
     let fit = some_fit element (c.loop-many.done + c.in_ok-many.many - c.loop-many.done) c.loop-many.done vs (list_fits element s (map datum_of vs) c.requires.of_type).1 in
     (search (rules, the_lemmas), (element_of_profile element s c.requires.of_profile, fit))
 
-pub write_list-returns-then-many-lt-BLOCK : goal.write_list-returns-then-many-lt-BLOCK
-write_list-returns-then-many-lt-BLOCK t c =
+pub write_list-returns-then-last : goal.write_list-returns-then-last
+write_list-returns-then-last t c =
     let element = shape_of c.args.element.now in
     let s = size_range_of c.args.size.now in
     let vs = c.args.values.now in
@@ -200,7 +200,7 @@ write_list-returns-then-many-lt-BLOCK t c =
     let row = some_bits element c.in_ok-many.many (c.loop-many.done + c.in_ok-many.many - c.loop-many.done) c.loop-many.done vs c.push_length.new.self c.write_elements-in-loop-many.new.sink (omega arith) c.in_ok-write_elements.ensures in
     list_written element s (map datum_of vs) c.args.sink.now (c.push_count.new.sink ++ general_bits xs) c.write_elements-in-loop-many.new.sink h
     (written_all xs c.push_count.new.sink c.loop-many.sink c.push_length.new.self c.write_elements-in-loop-many.new.sink c.loop-many.done c.in_ok-many.many (length vs)
-    c.loop-many.invariant (sym (codes_count element vs)) c.in_ok-many.ensures.items c.in_ok-many.ensures.ok row c.if-many-lt-BLOCK.true)
+    c.loop-many.invariant (sym (codes_count element vs)) c.in_ok-many.ensures.items c.in_ok-many.ensures.ok row c.if-last.true)
 
 pub write_list-loop-many-preserved : goal.write_list-loop-many-preserved
 write_list-loop-many-preserved t c =
@@ -209,7 +209,7 @@ write_list-loop-many-preserved t c =
     let xs = codes element (map datum_of vs) in
     let row = some_bits element c.in_ok-many.many (c.loop-many.done + c.in_ok-many.many - c.loop-many.done) c.loop-many.done vs c.push_length.new.self c.write_elements-in-loop-many.new.sink (omega arith) c.in_ok-write_elements.ensures in
     fragment_written xs c.push_count.new.sink c.loop-many.sink c.push_length.new.self c.write_elements-in-loop-many.new.sink c.loop-many.done c.in_ok-many.many (length vs)
-    c.loop-many.invariant (sym (codes_count element vs)) c.in_ok-many.ensures.items c.in_ok-many.ensures.ok row c.if-many-lt-BLOCK.false
+    c.loop-many.invariant (sym (codes_count element vs)) c.in_ok-many.ensures.items c.in_ok-many.ensures.ok row c.if-last.false
 
 pub write_elements-write-requires : goal.write_elements-write-requires
 write_elements-write-requires t c =

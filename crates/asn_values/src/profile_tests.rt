@@ -301,7 +301,7 @@ fn choices_have_faults(rt: HostRuntime) -> Result<(), Fail> {
 }
 
 #[test]
-fn components_and_alternatives_are_counted(rt: HostRuntime) -> Result<(), Fail> {
+fn components_are_counted(rt: HostRuntime) -> Result<(), Fail> {
     let alloc = rt.alloc();
     let many = Some(TypeFault::TooMany);
     for (root, more, want) in [
@@ -318,6 +318,13 @@ fn components_and_alternatives_are_counted(rt: HostRuntime) -> Result<(), Fail> 
         };
         expect_fault(&rt, alloc, "components", ty, want);
     }
+    Ok(())
+}
+
+#[test]
+fn alternatives_are_counted(rt: HostRuntime) -> Result<(), Fail> {
+    let alloc = rt.alloc();
+    let many = Some(TypeFault::TooMany);
     for (root, more, want) in [
         (63, 0, None),
         (1, 62, None),
@@ -333,14 +340,13 @@ fn components_and_alternatives_are_counted(rt: HostRuntime) -> Result<(), Fail> 
         };
         expect_fault(&rt, alloc, "alternatives", ty, want);
     }
-    let plain = |count: usize| -> Result<AsnType, AllocError> {
-        Ok(AsnType::Choice {
+    for (count, want) in [(63, None), (64, many)] {
+        let ty = AsnType::Choice {
             root: alternative_row(alloc, "r", count)?,
             ext: None,
-        })
-    };
-    expect_fault(&rt, alloc, "63 without a mark", plain(63)?, None);
-    expect_fault(&rt, alloc, "64 without a mark", plain(64)?, many);
+        };
+        expect_fault(&rt, alloc, "alternatives without a mark", ty, want);
+    }
     Ok(())
 }
 
@@ -386,13 +392,10 @@ fn types_are_counted_everywhere(rt: HostRuntime) -> Result<(), Fail> {
 }
 
 #[test]
-fn least_fault_of_a_type_is_answered(rt: HostRuntime) -> Result<(), Fail> {
+fn size_is_judged_before_the_element(rt: HostRuntime) -> Result<(), Fail> {
     let alloc = rt.alloc();
-    let empty = Some(TypeFault::EmptyRange);
-    let name = Some(TypeFault::DuplicateName);
-    let none: &[&str] = &[];
     for (size, want) in [
-        (sized(65_537, 65_536, false), empty),
+        (sized(65_537, 65_536, false), Some(TypeFault::EmptyRange)),
         (sized(65_536, 65_536, false), Some(TypeFault::SizeTooLarge)),
         (
             Size {
@@ -407,6 +410,15 @@ fn least_fault_of_a_type_is_answered(rt: HostRuntime) -> Result<(), Fail> {
         let ty = list(alloc, AsnType::Null, size)?;
         expect_fault(&rt, alloc, "a SIZE before the element", ty, want);
     }
+    Ok(())
+}
+
+#[test]
+fn least_fault_of_a_type_is_answered(rt: HostRuntime) -> Result<(), Fail> {
+    let alloc = rt.alloc();
+    let empty = Some(TypeFault::EmptyRange);
+    let name = Some(TypeFault::DuplicateName);
+    let none: &[&str] = &[];
     let twice = choice(alloc, none, Some(&["A", "A"]))?;
     expect_fault(&rt, alloc, "no root before names", twice, empty);
     let mut row = alternative_row(alloc, "r", 63)?;

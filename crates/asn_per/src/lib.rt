@@ -3,6 +3,7 @@
 
 mod decoder;
 mod encoder;
+mod indexes;
 mod integer_reader;
 mod item_writer;
 mod items;

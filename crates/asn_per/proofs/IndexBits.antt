@@ -1,5 +1,5 @@
 -- The bits of an index of the root or of the additions, as a writer puts them.
-use Rattle.std.proofs.Common.{◌≡◌, ◌≤◌, ◌<◌, ◌+◌, ◌/◌, ◌%◌, ◌^◌, ℕ, suc, Bool, true, false, List, ◌∷◌, ◌++◌, nat_le, refl, sym, ap, ◌∙◌, arith}
+use Rattle.std.proofs.Common.{◌≡◌, ◌≤◌, ◌<◌, ◌+◌, ◌⊎◌, ◌/◌, ◌%◌, ◌^◌, ℕ, suc, Bool, true, false, List, ◌∷◌, ◌++◌, nat_le, refl, sym, ap, ◌∙◌, arith}
 use Rattle.std.proofs.lemmas.Bool.{lt-ltb, le-leb}
 use Rattle.std.proofs.Math.Nat.{div-eq_of_lt, pow-le-pow_right}
 use Rattle.asn_bits.specs.Numbers.{bits, width}
@@ -7,6 +7,7 @@ use Rattle.asn_bits.proofs.Octets.{least_from_below}
 use Rattle.asn_bits.proofs.Splits.{digits_above}
 use Rattle.asn_bits.proofs.Widths.{width_fits}
 use Rattle.asn_rules.specs.Components.{bit_of, extension_bit}
+use Rattle.asn_per.specs.Indexes.{index_bits}
 use Rattle.asn_per.specs.Per.{constrained, small}
 
 -- at most 256 indexes take at most 8 bits
@@ -17,6 +18,10 @@ few_index_bits values h = least_from_below (λ k. nat_le values (2 ^ k)) values 
 pub one_mark_bit : (b : Bool) → bit_of b ≤ 1
 one_mark_bit true = omega arith
 one_mark_bit false = omega arith
+
+-- the bits of one index
+pub same_index_bits : {m n : ℕ} {a b : Bool} {i j : ℕ ⊎ ℕ} → m ≡ n → a ≡ b → i ≡ j → index_bits m a i ≡ index_bits n b j
+same_index_bits {m} {n} {a} {b} {i} {j} e f g = ap (λ (k : ℕ). index_bits k a i) e ∙ ap (λ (c : Bool). index_bits n c i) f ∙ ap (index_bits n b) g
 
 -- ---- an index of the root
 

@@ -22,10 +22,11 @@ abbrev pub index_at : Index → ℕ ⊎ ℕ
 index_at (an_index.Root n) = inl n
 index_at (an_index.Added n) = inr n
 
--- it is one of so many of the root, or of so many additions
-abbrev pub IsIndexWithin : ℕ → ℕ → ℕ ⊎ ℕ → Type 0
+-- it is one of so many of the root, or of so many additions where there is an extension mark
+abbrev pub IsIndexWithin : ℕ → Option ℕ → ℕ ⊎ ℕ → Type 0
 IsIndexWithin root more (inl n) = n < root
-IsIndexWithin root more (inr n) = n < more
+IsIndexWithin root None (inr n) = ⊥
+IsIndexWithin root (Some more) (inr n) = n < more
 
 -- an index of the root in bits; behind an extension mark 0 and such an index, or 1 and that of an addition
 abbrev pub IndexesOf : ℕ → Option ℕ → ℕ ⊎ ℕ → List Chunk → Type 0

@@ -1,7 +1,7 @@
 //! The index of an item of an ENUMERATED or of an alternative of a CHOICE, written and read: one of the
 //! root, or one of the additions behind an extension mark (X.691, "encoding the enumerated type",
 //! "encoding the choice type").
-ghost use Rattle.std.specs.Prelude.{◌≡◌, ◌≤◌, ◌<◌, ◌++◌, IfOk, IfErr, OnOk};
+ghost use Rattle.std.specs.Prelude.{◌≡◌, ◌≤◌, ◌<◌, ◌++◌, IfOk, IfErr, OnOk, Some};
 ghost use Rattle.asn_bits.specs.Numbers.{width};
 ghost use Rattle.asn_rules.specs.Languages.{Spells};
 ghost use Rattle.asn_rules.specs.Stops.{Stops};
@@ -33,7 +33,7 @@ pub(crate) fn write_index(
     sink: &mut BitSink,
 ) -> Result<(), AllocError>
     requires few { root ≤ 256 }
-    requires within { IsIndexWithin root 64 (index_at index) }
+    requires within { IsIndexWithin root (Some 64) (index_at index) }
     ensures { OnOk result (sink.new ≡ sink.old ++ index_bits root marked (index_at index)) }
 {
     match index {
@@ -54,6 +54,7 @@ pub(crate) fn read_index(
     bits: &mut BitCursor<'_>,
 ) -> Result<Index, Stop>
     requires some { 0 < root }
+    ensures within { IfOk result (λ i. IsIndexWithin root additions (index_at i)) }
     ensures done { IfOk result (λ i. Spells per_fields (IndexesOf root additions) (index_at i) bits.old bits.new) }
     ensures stop { IfErr result (λ why. Stops per_fields (IndexesOf root additions) bits.old why) }
 {

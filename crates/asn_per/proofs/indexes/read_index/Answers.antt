@@ -19,7 +19,7 @@ returns-in_default-clause-done c = rw c.in_default.is ((root_leads c.args.root c
 pub returns-in_default-next-clause-stop : goal.returns-in_default-next-clause-stop
 returns-in_default-next-clause-stop c =
     let none : c.args.bits.now ≡ [] = c.in_default-next.ensures.none.0 refl in
-    rw (c.in-Some.is, none) (record { told = mark_wanted c.args.root c.in-Some.additions c.requires })
+    rw (c.in-Some.is, none) (record { told = mark_wanted c.args.root c.in-Some.additions c.requires.some })
 
 pub returns-in_err-root_index-2-clause-stop : goal.returns-in_err-root_index-2-clause-stop
 returns-in_err-root_index-2-clause-stop c =
@@ -35,7 +35,7 @@ returns-then-mark-eq0-clause-done c =
 pub returns-then-additions-eq0-clause-stop : goal.returns-then-additions-eq0-clause-stop
 returns-then-additions-eq0-clause-stop c =
     let one = is_one c.in-Some-next.mark c.args.bits.now c.next.new.self c.in-Some-next.ensures.some c.in-Some-next.ensures.bit c.if-mark-eq0.false in
-    rw c.in-Some.is (record { told = rw c.bits_left.ensures.count (one_refused c.args.root c.in-Some.additions c.requires c.if-additions-eq0.true c.args.bits.now c.next.new.self one) })
+    rw c.in-Some.is (record { told = rw c.bits_left.ensures.count (one_refused c.args.root c.in-Some.additions c.requires.some c.if-additions-eq0.true c.args.bits.now c.next.new.self one) })
 
 pub returns-in_err-added_index-clause-stop : goal.returns-in_err-added_index-clause-stop
 returns-in_err-added_index-clause-stop c =

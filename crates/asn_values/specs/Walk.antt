@@ -2,9 +2,9 @@
 use Rattle.std.specs.Prelude.{◌≡◌, ◌≤◌, ◌<◌, ◌+◌, ◌⊎◌, ℕ, Bool, true, false, Some}
 use Rattle.asn_values.specs.declared.fault.TypeFault.{TypeFault}
 use Rattle.asn_values.specs.declared.fault.TypeFault.TheVariants as fault
-use Rattle.asn_values.specs.Shape.{SizeRange, Shape, Fields}
-use Rattle.asn_values.specs.Measures.{depth, fields_depth, nodes, fields_nodes}
-use Rattle.asn_values.specs.Profile.{Condition, EmptyRange, SizeTooLarge, DuplicateName, BadEnumeration, UselessMark, BadDefault, ZeroWidthElement, AdditionNotOptional, TooMany, TooDeep, somewhere, some_field, empty_range, size_above, size_too_large, large_size, is_every_length, duplicate_name, bad_enumeration, useless_mark, bad_default, zero_width_element, addition_not_optional, too_many_here}
+use Rattle.asn_values.specs.Shape.{SizeRange, Shape, Fields, Alternatives}
+use Rattle.asn_values.specs.Measures.{depth, fields_depth, choice_depth, nodes, fields_nodes, choice_nodes}
+use Rattle.asn_values.specs.Profile.{Condition, EmptyRange, SizeTooLarge, DuplicateName, BadEnumeration, UselessMark, BadDefault, ZeroWidthElement, AdditionNotOptional, TooMany, TooDeep, somewhere, some_field, some_alternative, empty_range, size_above, size_too_large, large_size, is_every_length, duplicate_name, bad_enumeration, useless_mark, bad_default, zero_width_element, addition_not_optional, too_many_here}
 
 -- ---- one node
 
@@ -33,6 +33,8 @@ HoldsHere fault.DuplicateName t = duplicate_name t ≡ true
 HoldsHere fault.BadEnumeration t = bad_enumeration t ≡ true
 HoldsHere fault.UselessMark t = useless_mark t ≡ true
 HoldsHere fault.BadDefault t = bad_default t ≡ true
+HoldsHere fault.ZeroWidthElement t = zero_width_element t ≡ true
+HoldsHere fault.AdditionNotOptional t = addition_not_optional t ≡ true
 HoldsHere fault.TooMany t = too_many_here t ≡ true
 HoldsHere fault.TooDeep t = ⊥
 HoldsHere fault.Memory t = ⊥
@@ -68,6 +70,8 @@ IsFaultWithin fault.DuplicateName levels start t = somewhere duplicate_name t �
 IsFaultWithin fault.BadEnumeration levels start t = somewhere bad_enumeration t ≡ true
 IsFaultWithin fault.UselessMark levels start t = somewhere useless_mark t ≡ true
 IsFaultWithin fault.BadDefault levels start t = somewhere bad_default t ≡ true
+IsFaultWithin fault.ZeroWidthElement levels start t = somewhere zero_width_element t ≡ true
+IsFaultWithin fault.AdditionNotOptional levels start t = somewhere addition_not_optional t ≡ true
 IsFaultWithin fault.TooMany levels start t = (somewhere too_many_here t ≡ true) ⊎ (start < nodes t)
 IsFaultWithin fault.TooDeep levels start t = levels < depth t
 IsFaultWithin fault.Memory levels start t = ⊥
@@ -87,6 +91,29 @@ IsFaultAmong fault.DuplicateName levels start fs = some_field duplicate_name fs 
 IsFaultAmong fault.BadEnumeration levels start fs = some_field bad_enumeration fs ≡ true
 IsFaultAmong fault.UselessMark levels start fs = some_field useless_mark fs ≡ true
 IsFaultAmong fault.BadDefault levels start fs = some_field bad_default fs ≡ true
+IsFaultAmong fault.ZeroWidthElement levels start fs = some_field zero_width_element fs ≡ true
+IsFaultAmong fault.AdditionNotOptional levels start fs = some_field addition_not_optional fs ≡ true
 IsFaultAmong fault.TooMany levels start fs = (some_field too_many_here fs ≡ true) ⊎ (start < fields_nodes fs)
 IsFaultAmong fault.TooDeep levels start fs = levels < fields_depth fs
 IsFaultAmong fault.Memory levels start fs = ⊥
+
+-- ---- the alternatives of a CHOICE, one after the other
+
+-- the same of them together
+pub record AreAlternativesSoundWithin (levels start left : ℕ) (alts : Alternatives) : Type 0 where
+  pub counted : left + choice_nodes alts ≡ start
+  pub shallow : choice_depth alts ≤ levels
+  pub faultless : (c : Condition) → some_alternative (test_of c) alts ≡ false
+
+abbrev pub IsFaultAmongAlternatives : TypeFault → ℕ → ℕ → Alternatives → Type 0
+IsFaultAmongAlternatives fault.EmptyRange levels start alts = some_alternative empty_range alts ≡ true
+IsFaultAmongAlternatives fault.SizeTooLarge levels start alts = some_alternative size_too_large alts ≡ true
+IsFaultAmongAlternatives fault.DuplicateName levels start alts = some_alternative duplicate_name alts ≡ true
+IsFaultAmongAlternatives fault.BadEnumeration levels start alts = some_alternative bad_enumeration alts ≡ true
+IsFaultAmongAlternatives fault.UselessMark levels start alts = some_alternative useless_mark alts ≡ true
+IsFaultAmongAlternatives fault.BadDefault levels start alts = some_alternative bad_default alts ≡ true
+IsFaultAmongAlternatives fault.ZeroWidthElement levels start alts = some_alternative zero_width_element alts ≡ true
+IsFaultAmongAlternatives fault.AdditionNotOptional levels start alts = some_alternative addition_not_optional alts ≡ true
+IsFaultAmongAlternatives fault.TooMany levels start alts = (some_alternative too_many_here alts ≡ true) ⊎ (start < choice_nodes alts)
+IsFaultAmongAlternatives fault.TooDeep levels start alts = levels < choice_depth alts
+IsFaultAmongAlternatives fault.Memory levels start alts = ⊥

@@ -81,6 +81,7 @@ fn field(alloc: Global, name: &str, ty: AsnType, need: Need) -> Result<Field, Al
 fn around(alloc: Global, name: &str, ty: AsnType, need: Need) -> Result<AsnType, AllocError> {
     Ok(AsnType::Seq {
         root: vec![in alloc; field(alloc, name, ty, need)?]?,
+        ext: None,
     })
 }
 
@@ -90,6 +91,7 @@ fn pair(alloc: Global, first: AsnType, second: AsnType) -> Result<AsnType, Alloc
     let b = field(alloc, "b", second, Need::Must)?;
     Ok(AsnType::Seq {
         root: vec![in alloc; a, b]?,
+        ext: None,
     })
 }
 
@@ -104,7 +106,7 @@ fn booleans(alloc: Global, count: usize) -> Result<AsnType, AllocError> {
             need: Need::Must,
         })?;
     }
-    Ok(AsnType::Seq { root })
+    Ok(AsnType::Seq { root, ext: None })
 }
 
 /// A type of that many levels: SEQUENCEs of one component, and the innermost type.
@@ -128,7 +130,7 @@ fn bundle(alloc: Global, full: usize, last: usize) -> Result<AsnType, AllocError
         })?;
     }
     root.push(field(alloc, "last", booleans(alloc, last)?, Need::Must)?)?;
-    Ok(AsnType::Seq { root })
+    Ok(AsnType::Seq { root, ext: None })
 }
 
 /// A type of 9,950 + last types: 1 + 4,161 + 4,161 + 1,627 + last.
@@ -138,6 +140,7 @@ fn types(alloc: Global, last: usize) -> Result<AsnType, AllocError> {
     let c = field(alloc, "c", bundle(alloc, 25, last)?, Need::Must)?;
     Ok(AsnType::Seq {
         root: vec![in alloc; a, b, c]?,
+        ext: None,
     })
 }
 
@@ -215,7 +218,7 @@ fn names_have_faults(rt: HostRuntime) -> Result<(), Fail> {
         field(alloc, "c", AsnType::Bool, Need::Must)?,
         field(alloc, "ab", AsnType::Bool, Need::Must)?,
     ]?;
-    expect_fault(&rt, alloc, "twice", AsnType::Seq { root: twice }, bad);
+    expect_fault(&rt, alloc, "twice", AsnType::Seq { root: twice, ext: None }, bad);
     let inner = around(alloc, "a", AsnType::Bool, Need::Must)?;
     let outer = around(alloc, "a", inner, Need::Must)?;
     expect_fault(&rt, alloc, "one in the other", outer, None);
@@ -344,6 +347,7 @@ fn defaults_have_faults(rt: HostRuntime) -> Result<(), Fail> {
         alloc,
         AsnType::Seq {
             root: vec![in alloc]?,
+            ext: None,
         },
         none,
     )?;
@@ -422,7 +426,7 @@ fn sample(alloc: Global) -> Result<AsnType, AllocError> {
         field(alloc, "ok", AsnType::Bool, Need::Default(Value::Bool(true)))?,
         field(alloc, "flag", AsnType::Bool, Need::Optional)?,
     ]?;
-    Ok(AsnType::Seq { root })
+    Ok(AsnType::Seq { root, ext: None })
 }
 
 /// A value of it.

@@ -9,10 +9,11 @@ ghost use Rattle.asn_values.specs.Parts.{AreOfProfile, IsGoodDemand};
 ghost use Rattle.asn_values.specs.View.{shape_of, datum_of, range_of, fields_of, part_of_field};
 ghost use Rattle.asn_bits.specs.Numbers.{bits};
 ghost use Rattle.asn_rules.specs.Answer.{max_octets};
+ghost use Rattle.asn_rules.specs.Chunks.{flat};
 ghost use Rattle.asn_rules.specs.Codec.{NotEncoded};
 ghost use Rattle.asn_rules.specs.Components.{has_presence_bit, is_spelled, presence};
 ghost use Rattle.asn_per.specs.Kinds.{root_of};
-ghost use Rattle.asn_per.specs.Per.{ranged};
+ghost use Rattle.asn_per.specs.Per.{ranged, per, spelled, an_open_field, per_octets};
 ghost use Rattle.asn_per.specs.Rules.{per_ruling, IsPerEncoding};
 ghost use Rattle.asn_per.specs.Laws.{per_bits, component_bits};
 
@@ -40,23 +41,55 @@ pub fn encode(alloc: Global, ty: &Checked, value: &Value) -> Result<Vec<u8>, Enc
     if !fits(ty, value) {
         return Err(EncodeFault::NotOfType);
     }
-    let mut sink = BitSink::new(alloc);
-    write(ty.get(), value, &mut sink)?;
-    if sink.is_empty() {
-        sink.push_number(8, 0)?;
-    }
-    sink.pad()?;
-    let octets = sink.into_octets();
+    let octets = complete_encoding(alloc, ty.get(), value)?;
     if octets.len() > MAX_OCTETS {
         return Err(EncodeFault::TooLong);
     }
     Ok(octets)
 }
 
+/// The octets of a value's encoding: its bits, filled up with zeros to whole octets, at least one.
+#[cycle(writer)]
+fn complete_encoding(alloc: Global, ty: &AsnType, value: &Value) -> Result<Vec<u8>, AllocError>
+    requires of_profile { InProfile (shape_of ty.now) }
+    requires of_type { Fits (shape_of ty.now) (datum_of value.now) }
+    ensures { IfOk result (λ o. o.items ≡ per_octets (shape_of ty.now) (datum_of value.now)) }
+{
+    let mut sink = BitSink::new(alloc);
+    write(alloc, ty, value, &mut sink)?;
+    if sink.is_empty() {
+        sink.push_number(8, 0)?;
+    }
+    sink.pad()?;
+    Ok(sink.into_octets())
+}
+
+/// Writes a value in an open field (X.691, "open type fields"): its complete encoding under the
+/// general length.
+#[cycle(writer)]
+pub(crate) fn write_open_field(
+    alloc: Global,
+    ty: &AsnType,
+    value: &Value,
+    sink: &mut BitSink,
+) -> Result<(), AllocError>
+    requires of_profile { InProfile (shape_of ty.now) }
+    requires of_type { Fits (shape_of ty.now) (datum_of value.now) }
+    ensures { OnOk result (sink.new ≡ sink.old ++ flat spelled (an_open_field (per (shape_of ty.now) (datum_of value.now)))) }
+{
+    let octets = complete_encoding(alloc, ty, value)?;
+    sink.push_general_octets(octets.as_slice())
+}
+
 /// Writes a value of the type.
 #[inline(always)]
 #[cycle(writer)]
-fn write(ty: &AsnType, value: &Value, sink: &mut BitSink) -> Result<(), AllocError>
+fn write(
+    alloc: Global,
+    ty: &AsnType,
+    value: &Value,
+    sink: &mut BitSink,
+) -> Result<(), AllocError>
     requires of_profile { InProfile (shape_of ty.now) }
     requires of_type { Fits (shape_of ty.now) (datum_of value.now) }
     ensures { OnOk result (sink.new ≡ sink.old ++ per_bits (shape_of ty.now) (datum_of value.now)) }
@@ -111,7 +144,7 @@ fn write(ty: &AsnType, value: &Value, sink: &mut BitSink) -> Result<(), AllocErr
             };
             let (count, bitmap) = presence_bitmap(root, entries);
             sink.push_number(count, bitmap)?;
-            write_components(root, entries, sink)
+            write_components(alloc, root, entries, sink)
         }
     }
 }
@@ -201,6 +234,7 @@ fn is_encoded(field: &Field, entry: &Option<Value>) -> bool
 /// Writes the components that are encoded, in order.
 #[cycle(writer)]
 fn write_components(
+    alloc: Global,
     fields: &[Field],
     entries: &[Option<Value>],
     sink: &mut BitSink,
@@ -214,7 +248,7 @@ fn write_components(
         if let Some(value) = entry
             && is_encoded(field, entry)
         {
-            write(&field.ty, value, sink)?;
+            write(alloc, &field.ty, value, sink)?;
         }
     }
     Ok(())

@@ -1,4 +1,4 @@
-use Rattle.std.proofs.Common.{rules, true, ◌≡◌, ◌∷◌, ◌⊎◌, ◌++◌, [], map, Some, sym, ap, ◌∙◌}
+use Rattle.std.proofs.Common.{rules, true, ◌≡◌, ◌∷◌, ◌⊎◌, ◌++◌, [], map, Some, inl, inr, sym, ap, ◌∙◌}
 use Rattle.std.specs.Option.{option_map}
 use Rattle.std.proofs.lemmas.Result.{on_ok_weaker}
 use Rattle.std.proofs.lemmas.Slice.Zip.{either_empty_from_Zip}
@@ -6,14 +6,28 @@ use Rattle.asn_values.specs.declared.types.AsnType.{the_lemmas}
 use Rattle.asn_values.specs.Shape.{Shape}
 use Rattle.asn_values.specs.Fits.{FitsEach}
 use Rattle.asn_values.specs.Parts.{AreOfProfile}
-use Rattle.asn_values.specs.View.{datum_of, fields_of, part_of_field}
+use Rattle.asn_values.specs.View.{shape_of, datum_of, fields_of, part_of_field}
 use Rattle.asn_values.proofs.Components.{shape_of_part}
 use Rattle.asn_bits.specs.Numbers.{bits}
 use Rattle.asn_rules.specs.Components.{is_spelled}
+use Rattle.asn_rules.specs.Chunks.{flat}
 use Rattle.asn_per.specs.Laws.{per_bits}
+use Rattle.asn_per.specs.Per.{spelled, per}
+use Rattle.asn_per.proofs.Completing.{Topped, completed}
 use Rattle.asn_per.proofs.Sequences.{of_sequence, parts_of_profile, entries_fit, sequence_written, few_components}
 use Rattle.asn_per.proofs.Writing.{written_more, written_ends, either_map}
 use Rattle.asn_per.proofs.encoder.+writer.Goals as goal
+use Rattle.asn_per.proofs.encoder.+writer.Goals.{complete_encoding-then-is_empty+in_ok-push_number, complete_encoding-else-is_empty}
+
+pub complete_encoding-returns : goal.complete_encoding-returns
+complete_encoding-returns t c =
+    let cs = per (shape_of c.args.ty.now) (datum_of c.args.value.now) in
+    let written : c.write.new.sink ≡ flat spelled cs = rw c.new-sink.ensures at c.in_ok-write.ensures in
+    let top : Topped (flat spelled cs) c.if-is_empty.sink = elim c.if-is_empty.branch [
+      | complete_encoding-then-is_empty+in_ok-push_number w ↦ inl (sym written ∙ c.is_empty.ensures.0 w.if-is_empty.true, w.sink-is ∙ w.in_ok-push_number.ensures.ok ∙ ap (λ l. l ++ bits 8 0) written)
+      | complete_encoding-else-is_empty w ↦ inr ((λ e. (let f : c.is_empty.result ≡ true = c.is_empty.ensures.1 (written ∙ e) in cc)), w.sink-is ∙ written)
+    ] in
+    completed cs c.if-is_empty.sink c.pad.new.self c.into_octets.result.items top c.in_ok-pad.ensures.ok c.into_octets.ensures.packed
 
 pub write-presence_bitmap-count-requires-clause-of_profile :
     goal.write-presence_bitmap-count-requires-clause-of_profile

@@ -10,17 +10,20 @@ ghost use Rattle.asn_bits.specs.Sink.{bit_of};
 ghost use Rattle.asn_rules.specs.Components.{has_presence_bit};
 ghost use Rattle.asn_rules.specs.Languages.{Spells};
 ghost use Rattle.asn_rules.specs.Listed.{Spelt, Listed, Entry, default_of, bitmap_length};
+ghost use Rattle.asn_rules.specs.Reading.{Wholes};
 ghost use Rattle.asn_rules.specs.Stops.{Stops};
+ghost use Rattle.asn_per.specs.Kinds.{OpenValues};
 ghost use Rattle.asn_per.specs.Per.{per, per_fields};
+ghost use Rattle.asn_per.specs.Rules.{per_ruling};
 
 use crate::encoder::may_be_absent;
 use crate::integer_reader::{boolean, integer, power_of_two};
 use crate::items::enumerated;
-use crate::number_reader::{Numbers, number};
+use crate::number_reader::{Numbers, bits_left, number, padding};
 use crate::string_reader::{bit_string, octet_string, text, utf8_string};
 use asn_bits::BitCursor;
 use asn_rules::{Stop, Why};
-use asn_values::{AsnType, Field, Need, Value};
+use asn_values::{AsnType, Field, Need, Size, Value};
 use std::alloc::Global;
 
 /// Reads a value of the type.
@@ -50,6 +53,60 @@ pub(crate) fn read(alloc: Global, ty: &AsnType, bits: &mut BitCursor<'_>) -> Res
             let bitmap = number(count, set, Why::Number, bits)?;
             Ok(Value::Seq(read_components(alloc, root, count, bitmap, bits)?))
         }
+    }
+}
+
+/// Reads a complete encoding of a value of the type: the value and what fills up its octets, eight zeros
+/// where it has no bit, else the zeros to the end of the octet (X.691, "complete encoding").
+pub(crate) fn read_complete(
+    alloc: Global,
+    ty: &AsnType,
+    bits: &mut BitCursor<'_>,
+) -> Result<Value, Stop>
+    requires of_profile { InProfile (shape_of ty.now) }
+    requires whole { length bits.now % 8 ≡ 0 }
+    ensures done { IfOk result (λ v. Spells per_fields (Wholes per_ruling (shape_of ty.now)) (datum_of v) bits.old bits.new) }
+    ensures stop { IfErr result (λ why. Stops per_fields (Wholes per_ruling (shape_of ty.now)) bits.old why) }
+{
+    let given = bits_left(bits);
+    let value = read(alloc, ty, bits)?;
+    let zeros = if bits_left(bits) == given {
+        8
+    } else {
+        bits.rest_of_octet()
+    };
+    padding(zeros, bits)?;
+    Ok(value)
+}
+
+/// Reads an open field that holds a value of the type: its octets, at least one, under their general length,
+/// and once they have all come, the complete encoding that they are (X.691, "open type fields").
+pub(crate) fn read_open_field(
+    alloc: Global,
+    ty: &AsnType,
+    bits: &mut BitCursor<'_>,
+) -> Result<Value, Stop>
+    requires of_profile { InProfile (shape_of ty.now) }
+    ensures done { IfOk result (λ v. Spells per_fields (OpenValues (shape_of ty.now)) (datum_of v) bits.old bits.new) }
+    ensures stop { IfErr result (λ why. Stops per_fields (OpenValues (shape_of ty.now)) bits.old why) }
+{
+    let some = Size {
+        low: 1,
+        high: None,
+        ext: false,
+    };
+    let octets = octet_string(alloc, &some, bits)?;
+    let mut content = BitCursor::over(&octets);
+    let none = Stop::Refused {
+        left: bits_left(bits),
+        why: Why::Sealed,
+    };
+    match read_complete(alloc, ty, &mut content) {
+        Ok(value) if content.is_empty() => Ok(value),
+        Ok(_) => Err(none),
+        Err(Stop::Short) => Err(none),
+        Err(Stop::Refused { .. }) => Err(none),
+        Err(Stop::Memory) => Err(Stop::Memory),
     }
 }
 

@@ -7,8 +7,8 @@ use Rattle.asn_values.specs.View.{shape_of, datum_of}
 use Rattle.asn_rules.specs.Languages.{Spells}
 use Rattle.asn_rules.specs.Listed.{Spelt}
 use Rattle.asn_per.specs.Per.{per, per_fields}
-use Rattle.asn_per.proofs.decoder.message.Goals as goal
-use Rattle.asn_per.proofs.decoder.message.Goals.{then-bits_left-given, else-bits_left-given}
+use Rattle.asn_per.proofs.value_reader.read_complete.Goals as goal
+use Rattle.asn_per.proofs.value_reader.read_complete.Goals.{then-bits_left-given, else-bits_left-given}
 
 pub returns-in_err-value-clause-stop : goal.returns-in_err-value-clause-stop
 returns-in_err-value-clause-stop c =

@@ -58,6 +58,7 @@ pub(crate) fn read(alloc: Global, ty: &AsnType, bits: &mut BitCursor<'_>) -> Res
 
 /// Reads a complete encoding of a value of the type: the value and what fills up its octets, eight zeros
 /// where it has no bit, else the zeros to the end of the octet (X.691, "complete encoding").
+#[cycle(reader)]
 pub(crate) fn read_complete(
     alloc: Global,
     ty: &AsnType,
@@ -81,6 +82,7 @@ pub(crate) fn read_complete(
 
 /// Reads an open field that holds a value of the type: its octets, at least one, under their general length,
 /// and once they have all come, the complete encoding that they are (X.691, "open type fields").
+#[cycle(reader)]
 pub(crate) fn read_open_field(
     alloc: Global,
     ty: &AsnType,

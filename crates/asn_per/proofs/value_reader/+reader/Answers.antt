@@ -1,4 +1,4 @@
-use Rattle.std.proofs.Common.{◌≡◌, ◌⊎◌, inl, inr, ◌∷◌, [], ◌++◌, ◌∙◌, true, false, List, map, Some, None, rules, sym, ap}
+use Rattle.std.proofs.Common.{◌≡◌, ◌⊎◌, inl, inr, ◌∷◌, [], ◌++◌, ◌∙◌, true, false, List, map, Some, None, rules, sym, ap, ◌-◌, length, replicate}
 use Rattle.std.specs.Option.{option_map}
 use Rattle.std.proofs.lemmas.List.{map-append}
 use Rattle.std.proofs.lemmas.Result.{err_from_is_err_and}
@@ -9,16 +9,21 @@ use Rattle.asn_values.specs.declared.types.Need.TheVariants as needs
 use Rattle.asn_values.specs.Shape.{integer, enumerated}
 use Rattle.asn_values.specs.View.{shape_of, datum_of, fields_of, part_of_field, range_of, size_range_of, alphabet_of, label_of, more_labels_of, demand_of}
 use Rattle.asn_values.proofs.Views.{shape_of-Int, shape_of-Bits, shape_of-Octets, shape_of-Text, shape_of-Utf8, datum_of-Bits, datum_of-Octets, datum_of-Text, datum_of-Seq, sequence_of_fields}
-use Rattle.asn_rules.specs.Listed.{bitmap_length, default_of}
+use Rattle.asn_rules.specs.Listed.{bitmap_length, default_of, Spelt}
 use Rattle.asn_rules.proofs.Leads.{stops_by}
 use Rattle.asn_rules.proofs.Listed.{spelt_inhabited}
 use Rattle.asn_rules.proofs.ListedReading.{nothing_read}
-use Rattle.asn_per.specs.Per.{per, per_fields}
+use Rattle.asn_per.specs.Per.{per, per_fields, filling}
 use Rattle.asn_per.proofs.ComponentsRead.{next_part, no_part, bit_there, next_either, read_ends, demand_of_part, entry_leads, parts_good, bitmap_stops_at, components_at}
 use Rattle.asn_per.proofs.EnumeratedTypes.{enumerated_of_items}
 use Rattle.asn_per.proofs.StringReading.{bits_size, octets_size, text_size, bits_lead, octets_lead, text_leads, utf8_leads}
 use Rattle.asn_per.proofs.Sequences.{few_components}
 use Rattle.asn_per.proofs.value_reader.+reader.Goals as goal
+use Rattle.asn_per.proofs.Messages.{value_stops, zeros_behind, eight_zeros, zeros_of_octet}
+use Rattle.asn_rules.specs.Languages.{Spells}
+use Rattle.asn_per.proofs.value_reader.+reader.Goals.{read_complete-then-bits_left-given, read_complete-else-bits_left-given}
+use Rattle.asn_per.proofs.Decoding.{bits_fill}
+use Rattle.asn_per.proofs.OpenFieldReading.{octets_stop, value_held, more_held, none_held}
 
 pub read-integer-requires-clause-some : goal.read-integer-requires-clause-some
 read-integer-requires-clause-some t c = spelt_inhabited per (integer (range_of c.in-Int.bounds)) (rw (c.in-Int.is, shape_of-Int) at c.requires.of_profile)
@@ -170,3 +175,63 @@ read_entry-returns-in_ok-read-in-Must-clause-done t c =
     let e : c.args.present ≡ true = c.if-not-present.false in
     let d : default_of (part_of_field c.args.field.now).demand ≡ None = ap default_of (demand_of_part c.args.field.now) ∙ no_default c.args.field.now.need c.in-Must.is in
     (entry_leads c.args.field.now c.args.present None c.args.bits.now e d).done (datum_of c.in_ok-read-in-Must.field-0) c.read.new.bits c.in_ok-read-in-Must.ensures.done
+
+pub read_complete-returns-in_err-value-clause-stop : goal.read_complete-returns-in_err-value-clause-stop
+read_complete-returns-in_err-value-clause-stop t c =
+    let p = err_from_is_err_and c.from_residual.result c.from_residual.ensures.1 in
+    rw (p.1, p.2) (stops_by _ (value_stops (shape_of c.args.ty.now) c.args.bits.now) c.in_err-value.ensures.stop)
+
+pub read_complete-returns-in_err-padding-clause-stop : goal.read_complete-returns-in_err-padding-clause-stop
+read_complete-returns-in_err-padding-clause-stop t c =
+    let p = err_from_is_err_and c.from_residual-in_err-padding.result c.from_residual-in_err-padding.ensures.1 in
+    let us = c.args.bits.now in
+    let r = c.read.new.bits in
+    let read : Spells per_fields (Spelt per None (shape_of c.args.ty.now)) (datum_of c.in_ok-value.value) us r = c.in_ok-value.ensures.done in
+    let zeros : filling (length us - length r) ≡ replicate c.if-bits_left-given.zeros 0 = elim c.if-bits_left-given.branch [
+      | read_complete-then-bits_left-given w ↦ eight_zeros us r c.if-bits_left-given.zeros (sym c.bits_left.ensures.count ∙ w.if-bits_left-given.true ∙ c.bits_left-given.ensures.count) w.zeros-is
+      | read_complete-else-bits_left-given w ↦ zeros_of_octet (shape_of c.args.ty.now) (datum_of c.in_ok-value.value) us r c.if-bits_left-given.zeros c.requires.whole read (λ e. w.if-bits_left-given.false (c.bits_left.ensures.count ∙ e ∙ sym c.bits_left-given.ensures.count)) (w.zeros-is ∙ w.rest_of_octet-zeros.ensures.rest)
+    ] in
+    rw (p.1, p.2) (stops_by _ (zeros_behind (shape_of c.args.ty.now) (datum_of c.in_ok-value.value) us r c.if-bits_left-given.zeros c.requires.of_profile read zeros).stops c.in_err-padding.ensures.stop)
+
+pub read_complete-returns-clause-done : goal.read_complete-returns-clause-done
+read_complete-returns-clause-done t c =
+    let us = c.args.bits.now in
+    let r = c.read.new.bits in
+    let read : Spells per_fields (Spelt per None (shape_of c.args.ty.now)) (datum_of c.in_ok-value.value) us r = c.in_ok-value.ensures.done in
+    let zeros : filling (length us - length r) ≡ replicate c.if-bits_left-given.zeros 0 = elim c.if-bits_left-given.branch [
+      | read_complete-then-bits_left-given w ↦ eight_zeros us r c.if-bits_left-given.zeros (sym c.bits_left.ensures.count ∙ w.if-bits_left-given.true ∙ c.bits_left-given.ensures.count) w.zeros-is
+      | read_complete-else-bits_left-given w ↦ zeros_of_octet (shape_of c.args.ty.now) (datum_of c.in_ok-value.value) us r c.if-bits_left-given.zeros c.requires.whole read (λ e. w.if-bits_left-given.false (c.bits_left.ensures.count ∙ e ∙ sym c.bits_left-given.ensures.count)) (w.zeros-is ∙ w.rest_of_octet-zeros.ensures.rest)
+    ] in
+    (zeros_behind (shape_of c.args.ty.now) (datum_of c.in_ok-value.value) us r c.if-bits_left-given.zeros c.requires.of_profile read zeros).done c.in_ok-padding.field-0 c.padding.new.bits c.in_ok-padding.ensures.done
+
+pub read_open_field-returns-in_err-octets-clause-stop : goal.read_open_field-returns-in_err-octets-clause-stop
+read_open_field-returns-in_err-octets-clause-stop t c =
+    let p = err_from_is_err_and c.from_residual.result c.from_residual.ensures.1 in
+    rw (p.1, p.2) (stops_by _ (octets_stop (shape_of c.args.ty.now) c.requires.of_profile c.args.bits.now) c.in_err-octets.ensures.stop)
+
+pub read_open_field-read_complete-requires : goal.read_open_field-read_complete-requires
+read_open_field-read_complete-requires t c =
+    (search (rules, the_lemmas), (c.requires.of_profile, rw c.over-content.ensures (bits_fill c.deref.result.now)))
+
+pub read_open_field-returns-in-Ok-clause-done : goal.read_open_field-returns-in-Ok-clause-done
+read_open_field-returns-in-Ok-clause-done t c =
+    let read = rw (c.over-content.ensures, c.deref.ensures.value) at c.in-Ok.ensures.done in
+    value_held (shape_of c.args.ty.now) c.requires.of_profile c.in_ok-octets.ensures.done read (c.is_empty.ensures.0 c.if-is_empty.true)
+
+pub read_open_field-returns-in-Ok-2-clause-stop : goal.read_open_field-returns-in-Ok-2-clause-stop
+read_open_field-returns-in-Ok-2-clause-stop t c =
+    let read = rw (c.over-content.ensures, c.deref.ensures.value) at c.in-Ok-2.ensures.done in
+    let more : c.read_complete.new.bits ≡ [] → ⊥ = λ e. (let full = c.is_empty.ensures.1 e in absurd (cc)) in
+    rw c.bits_left.ensures.count (record { told = more_held (shape_of c.args.ty.now) c.requires.of_profile c.in_ok-octets.ensures.done read more })
+
+pub read_open_field-returns-in-Err-Short-clause-stop : goal.read_open_field-returns-in-Err-Short-clause-stop
+read_open_field-returns-in-Err-Short-clause-stop t c =
+    let stopped = rw (c.over-content.ensures, c.deref.ensures.value) at c.in-Err-Short.ensures.stop in
+    let told = none_held (shape_of c.args.ty.now) c.requires.of_profile c.in-Err-Short.field-0 (λ e. cc) c.in_ok-octets.ensures.done stopped in
+    rw c.bits_left.ensures.count (record { told = told })
+
+pub read_open_field-returns-in-Err-Refused-clause-stop : goal.read_open_field-returns-in-Err-Refused-clause-stop
+read_open_field-returns-in-Err-Refused-clause-stop t c =
+    let stopped = rw (c.over-content.ensures, c.deref.ensures.value) at c.in-Err-Refused.ensures.stop in
+    let told = none_held (shape_of c.args.ty.now) c.requires.of_profile c.in-Err-Refused.field-0 (λ e. cc) c.in_ok-octets.ensures.done stopped in
+    rw c.bits_left.ensures.count (record { told = told })

@@ -4,7 +4,8 @@ ghost use Rattle.std.specs.Option.{option_map};
 ghost use Rattle.asn_values.specs.Shape.{sequence, closed};
 ghost use Rattle.asn_values.specs.Profile.{InProfile, good_default};
 ghost use Rattle.asn_values.specs.Parts.{AreOfProfile, IsGoodDemand};
-ghost use Rattle.asn_values.specs.View.{shape_of, datum_of, fields_of, part_of_field};
+ghost use Rattle.asn_values.specs.View.{shape_of, datum_of, fields_of, part_of_field, alternatives_of, branch_of};
+ghost use Rattle.asn_values.proofs.InnerTypes.{AreAllOfProfile};
 ghost use Rattle.asn_bits.specs.Numbers.{bits};
 ghost use Rattle.asn_bits.specs.Sink.{bit_of};
 ghost use Rattle.asn_rules.specs.Components.{has_presence_bit};
@@ -12,18 +13,20 @@ ghost use Rattle.asn_rules.specs.Languages.{Spells};
 ghost use Rattle.asn_rules.specs.Listed.{Spelt, Listed, Entry, default_of, bitmap_length};
 ghost use Rattle.asn_rules.specs.Reading.{Wholes};
 ghost use Rattle.asn_rules.specs.Stops.{Stops};
-ghost use Rattle.asn_per.specs.Kinds.{OpenValues};
+ghost use Rattle.asn_per.specs.Kinds.{OpenValues, Chosen, OpenChosen};
 ghost use Rattle.asn_per.specs.Per.{per, per_fields};
 ghost use Rattle.asn_per.specs.Rules.{per_ruling};
 
+use crate::choices::{added_count, chosen};
 use crate::encoder::may_be_absent;
+use crate::indexes::{Index, read_index};
 use crate::integer_reader::{boolean, integer, power_of_two};
 use crate::items::enumerated;
 use crate::number_reader::{Numbers, bits_left, number, padding};
 use crate::string_reader::{bit_string, octet_string, text, utf8_string};
 use asn_bits::BitCursor;
 use asn_rules::{Stop, Why};
-use asn_values::{AsnType, Field, Need, Size, Value};
+use asn_values::{Alt, AsnType, Field, Need, Size, Value};
 use std::alloc::Global;
 
 /// Reads a value of the type.
@@ -43,7 +46,21 @@ pub(crate) fn read(alloc: Global, ty: &AsnType, bits: &mut BitCursor<'_>) -> Res
         AsnType::Octets(size) => Ok(Value::Octets(octet_string(alloc, size, bits)?)),
         AsnType::Text(kind, size) => Ok(Value::Text(text(alloc, *kind, size, bits)?)),
         AsnType::Utf8 => Ok(Value::Utf8(utf8_string(alloc, bits)?)),
-        AsnType::Seq { root } => {
+        AsnType::SeqOf(_, _) => unreachable!(),
+        AsnType::Choice { root, ext } => match read_index(root.len(), added_count(ext), bits)? {
+            Index::Root(place) => {
+                let value = read_alternative(alloc, root, place, bits)?;
+                Ok(chosen(alloc, place, value)?)
+            }
+            Index::Added(place) => {
+                let Some(additions) = ext else {
+                    unreachable!()
+                };
+                let value = read_added_alternative(alloc, additions, place, bits)?;
+                Ok(chosen(alloc, root.len() + place, value)?)
+            }
+        },
+        AsnType::Seq { root, .. } => {
             let count = bitmap_width(root);
             let set = Numbers {
                 low: 0,
@@ -110,6 +127,38 @@ pub(crate) fn read_open_field(
         Err(Stop::Refused { .. }) => Err(none),
         Err(Stop::Memory) => Err(Stop::Memory),
     }
+}
+
+/// Reads a value of the alternative at this place.
+#[cycle(reader)]
+fn read_alternative(
+    alloc: Global,
+    alternatives: &[Alt],
+    place: usize,
+    bits: &mut BitCursor<'_>,
+) -> Result<Value, Stop>
+    requires of_profile { AreAllOfProfile (alternatives_of (map branch_of alternatives.now)) }
+    requires inside { place < length alternatives.now }
+    ensures done { IfOk result (λ v. Spells per_fields (Chosen (alternatives_of (map branch_of alternatives.now)) place) (datum_of v) bits.old bits.new) }
+    ensures stop { IfErr result (λ why. Stops per_fields (Chosen (alternatives_of (map branch_of alternatives.now)) place) bits.old why) }
+{
+    read(alloc, &alternatives[place].ty, bits)
+}
+
+/// Reads an open field that holds a value of the alternative at this place.
+#[cycle(reader)]
+fn read_added_alternative(
+    alloc: Global,
+    alternatives: &[Alt],
+    place: usize,
+    bits: &mut BitCursor<'_>,
+) -> Result<Value, Stop>
+    requires of_profile { AreAllOfProfile (alternatives_of (map branch_of alternatives.now)) }
+    requires inside { place < length alternatives.now }
+    ensures done { IfOk result (λ v. Spells per_fields (OpenChosen (alternatives_of (map branch_of alternatives.now)) place) (datum_of v) bits.old bits.new) }
+    ensures stop { IfErr result (λ why. Stops per_fields (OpenChosen (alternatives_of (map branch_of alternatives.now)) place) bits.old why) }
+{
+    read_open_field(alloc, &alternatives[place].ty, bits)
 }
 
 /// Reads the components whose presence bits are the `count` bits of `bitmap`, in order (X.691,
@@ -198,7 +247,9 @@ fn absent(field: &Field) -> Option<Value>
             | Value::Octets(_)
             | Value::Text(_)
             | Value::Utf8(_)
-            | Value::Seq(_),
+            | Value::Seq(_)
+            | Value::List(_)
+            | Value::Choice(_, _),
         ) => unreachable!(),
     }
 }

@@ -1,8 +1,8 @@
 //! Which values a type has.
 ghost use Rattle.std.specs.Prelude.{◌≡◌, ◌↔◌, IsTrue, map, option_map};
 ghost use Rattle.std.specs.List.{AllByRecursion};
-ghost use Rattle.asn_values.specs.Fits.{Fits, FitsEach, FitsDemand, FitsSequence, FitsChoice};
-ghost use Rattle.asn_values.specs.View.{shape_of, datum_of, demand_of, fields_of, part_of_field, more_fields_of, alternatives_of, branch_of, more_alternatives_of};
+ghost use Rattle.asn_values.specs.Fits.{Fits, FitsEach, FitsDemand, FitsAlternative};
+ghost use Rattle.asn_values.specs.View.{shape_of, datum_of, demand_of, fields_of, part_of_field, alternatives_of, branch_of};
 
 use crate::checked::Checked;
 use crate::types::{Alt, AsnType, Field, Need};
@@ -44,7 +44,13 @@ pub(crate) fn type_has(ty: &AsnType, value: &Value) -> bool
         }
         AsnType::Utf8 => matches!(value, Value::Utf8(text) if texts::unicode_fits(text)),
         AsnType::Seq { root, ext } => match value {
-            Value::Seq(entries) => sequence_has(root, ext, entries),
+            Value::Seq(entries) => match ext {
+                None => fields_have(root, entries),
+                Some(more) => {
+                    let (ours, theirs) = entries.split_at(root.len().min(entries.len()));
+                    fields_have(root, ours) && fields_have(more, theirs)
+                }
+            },
             _ => false,
         },
         AsnType::SeqOf(element, size) => match value {
@@ -54,28 +60,18 @@ pub(crate) fn type_has(ty: &AsnType, value: &Value) -> bool
             _ => false,
         },
         AsnType::Choice { root, ext } => match value {
-            Value::Choice(tag, chosen) => choice_has(root, ext, *tag, chosen),
+            Value::Choice(tag, chosen) => {
+                let place = *tag as usize;
+                if place < root.len() {
+                    return alternative_has(root, place, chosen);
+                }
+                match ext {
+                    None => false,
+                    Some(more) => alternative_has(more, place - root.len(), chosen),
+                }
+            }
             _ => false,
         },
-    }
-}
-
-/// Whether the entries are those of a SEQUENCE of these components and, behind the extension mark,
-/// these additions.
-#[inline(always)]
-#[cycle(fits)]
-fn sequence_has(root: &[Field], ext: &Option<Vec<Field>>, entries: &[Option<Value>]) -> bool
-    ensures { IsTrue result ↔ FitsSequence (fields_of (map part_of_field root.now)) (more_fields_of ext.now) (map (option_map datum_of) entries.now) }
-{
-    match ext {
-        None => fields_have(root, entries),
-        Some(more) => {
-            if entries.len() < root.len() {
-                return false;
-            }
-            let (ours, theirs) = entries.split_at(root.len());
-            fields_have(root, ours) && fields_have(more, theirs)
-        }
     }
 }
 
@@ -92,22 +88,12 @@ fn elements_fit(element: &AsnType, elements: &[Value]) -> bool
     true
 }
 
-/// Whether there is an alternative with this tag, and the value is one of its type.
+/// Whether there is an alternative at this place, and the value is one of its type.
 #[cycle(fits)]
-fn choice_has(root: &[Alt], ext: &Option<Vec<Alt>>, tag: u32, chosen: &Value) -> bool
-    ensures { IsTrue result ↔ FitsChoice (alternatives_of (map branch_of root.now)) (more_alternatives_of ext.now) tag (datum_of chosen.now) }
+fn alternative_has(alternatives: &[Alt], place: usize, chosen: &Value) -> bool
+    ensures { IsTrue result ↔ FitsAlternative (alternatives_of (map branch_of alternatives.now)) place (datum_of chosen.now) }
 {
-    let place = tag as usize;
-    if place < root.len() {
-        return type_has(&root[place].ty, chosen);
-    }
-    match ext {
-        None => false,
-        Some(more) => {
-            let place = place - root.len();
-            place < more.len() && type_has(&more[place].ty, chosen)
-        }
-    }
+    place < alternatives.len() && type_has(&alternatives[place].ty, chosen)
 }
 
 /// Whether there is one entry for each component, and each is right for its own.

@@ -218,7 +218,16 @@ fn names_have_faults(rt: HostRuntime) -> Result<(), Fail> {
         field(alloc, "c", AsnType::Bool, Need::Must)?,
         field(alloc, "ab", AsnType::Bool, Need::Must)?,
     ]?;
-    expect_fault(&rt, alloc, "twice", AsnType::Seq { root: twice, ext: None }, bad);
+    expect_fault(
+        &rt,
+        alloc,
+        "twice",
+        AsnType::Seq {
+            root: twice,
+            ext: None,
+        },
+        bad,
+    );
     let inner = around(alloc, "a", AsnType::Bool, Need::Must)?;
     let outer = around(alloc, "a", inner, Need::Must)?;
     expect_fault(&rt, alloc, "one in the other", outer, None);

@@ -6,7 +6,8 @@ use Rattle.asn_values.specs.Shape.{Alternatives, no_alternatives, one_of, MoreAl
 use Rattle.asn_values.specs.Fits.{Fits, FitsAlternative}
 use Rattle.asn_values.specs.Profile.{InProfile, TooMany, too_many_here, most_nodes, most_alternatives, somewhere, some_alternative}
 use Rattle.asn_values.specs.Measures.{nodes}
-use Rattle.asn_values.proofs.InnerTypes.{AreAllOfProfile, added_alternatives_of_profile}
+use Rattle.asn_values.specs.Parts.{AreAllOfProfile}
+use Rattle.asn_values.proofs.InnerTypes.{added_alternatives_of_profile}
 use Rattle.asn_values.proofs.Parts.{left_false}
 use Rattle.asn_rules.specs.Chunks.{Chunk, ones}
 use Rattle.asn_rules.specs.Forks.{Same}

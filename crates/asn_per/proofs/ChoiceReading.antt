@@ -9,7 +9,8 @@ use Rattle.asn_values.specs.Fits.{Fits}
 use Rattle.asn_values.specs.Profile.{InProfile, EmptyRange, empty_range, somewhere, some_alternative, some_more}
 use Rattle.asn_values.specs.View.{shape_of, branch_of, alternatives_of}
 use Rattle.asn_values.proofs.Alternatives.{shape_of_branch}
-use Rattle.asn_values.proofs.InnerTypes.{AreAllOfProfile, root_alternatives_of_profile, added_alternatives_of_profile}
+use Rattle.asn_values.specs.Parts.{AreAllOfProfile}
+use Rattle.asn_values.proofs.InnerTypes.{root_alternatives_of_profile, added_alternatives_of_profile}
 use Rattle.asn_values.proofs.Parts.{left_false}
 use Rattle.asn_bits.specs.Numbers.{width}
 use Rattle.asn_rules.specs.Chunks.{Chunk, one}

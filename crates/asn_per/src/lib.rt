@@ -1,7 +1,7 @@
 //! CANONICAL-PER UNALIGNED (X.691): encoding and decoding of whole messages.
 #![tactic(auto)]
 
-mod choices;
+mod alternatives;
 mod decoder;
 mod encoder;
 mod indexes;

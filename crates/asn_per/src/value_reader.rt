@@ -3,9 +3,8 @@ ghost use Rattle.std.specs.Prelude.{◌≡◌, ◌≤◌, ◌<◌, ◌+◌, ◌^
 ghost use Rattle.std.specs.Option.{option_map};
 ghost use Rattle.asn_values.specs.Shape.{sequence, closed};
 ghost use Rattle.asn_values.specs.Profile.{InProfile, good_default};
-ghost use Rattle.asn_values.specs.Parts.{AreOfProfile, IsGoodDemand};
+ghost use Rattle.asn_values.specs.Parts.{AreOfProfile, AreAllOfProfile, IsGoodDemand};
 ghost use Rattle.asn_values.specs.View.{shape_of, datum_of, fields_of, part_of_field, alternatives_of, branch_of};
-ghost use Rattle.asn_values.proofs.InnerTypes.{AreAllOfProfile};
 ghost use Rattle.asn_bits.specs.Numbers.{bits};
 ghost use Rattle.asn_bits.specs.Sink.{bit_of};
 ghost use Rattle.asn_rules.specs.Components.{has_presence_bit};
@@ -17,7 +16,7 @@ ghost use Rattle.asn_per.specs.Kinds.{OpenValues, Chosen, OpenChosen};
 ghost use Rattle.asn_per.specs.Per.{per, per_fields};
 ghost use Rattle.asn_per.specs.Rules.{per_ruling};
 
-use crate::choices::{added_count, chosen};
+use crate::alternatives::{added_count, chosen};
 use crate::encoder::may_be_absent;
 use crate::indexes::{Index, read_index};
 use crate::integer_reader::{boolean, integer, power_of_two};

@@ -6,13 +6,8 @@ use Rattle.std.specs.List.{list_all}
 use Rattle.asn_values.specs.Shape.{Shape, SizeRange, sequence, sequence_of, choice, must, optional, default, Fields, no_fields, field, marked, demands, Alternatives, no_alternatives, one_of, MoreAlternatives, marked_choice}
 use Rattle.asn_values.specs.Measures.{depth, nodes, fields_nodes, fields_depth, choice_nodes, choice_depth}
 use Rattle.asn_values.specs.Profile.{EmptyRange, SizeTooLarge, DuplicateName, BadEnumeration, UselessMark, BadDefault, ZeroWidthElement, AdditionNotOptional, TooMany, TooDeep, somewhere, some_field, some_alternative, some_more, empty_range, size_too_large, duplicate_name, bad_enumeration, useless_mark, bad_default, zero_width_element, addition_not_optional, is_optional, too_many_here, most_nodes, most_levels, InProfile}
-use Rattle.asn_values.specs.Parts.{AreOfProfile}
+use Rattle.asn_values.specs.Parts.{AreOfProfile, AreAllOfProfile}
 use Rattle.asn_values.proofs.Parts.{left_false, right_false}
-
--- each alternative has a type of the profile
-abbrev pub AreAllOfProfile : Alternatives → Type 0
-AreAllOfProfile no_alternatives = Unit {0}
-AreAllOfProfile (one_of name t alts) = InProfile t × AreAllOfProfile alts
 
 module _ (whole : Shape) (good : InProfile whole) where
   -- it has at most so many types inside it

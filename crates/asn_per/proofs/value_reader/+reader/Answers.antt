@@ -235,3 +235,53 @@ read_open_field-returns-in-Err-Refused-clause-stop t c =
     let stopped = rw (c.over-content.ensures, c.deref.ensures.value) at c.in-Err-Refused.ensures.stop in
     let told = none_held (shape_of c.args.ty.now) c.requires.of_profile c.in-Err-Refused.field-0 (λ e. cc) c.in_ok-octets.ensures.done stopped in
     rw c.bits_left.ensures.count (record { told = told })
+
+-- ---- CHOICE
+
+pub read-read_index-requires : goal.read-read_index-requires
+read-read_index-requires t c = ?
+
+pub read-returns-in_err-place-in-Choice-clause-stop : goal.read-returns-in_err-place-in-Choice-clause-stop
+read-returns-in_err-place-in-Choice-clause-stop t c = ?
+
+pub read-read_alternative-requires : goal.read-read_alternative-requires
+read-read_alternative-requires t c = ?
+
+pub read-returns-in_err-value-in-Root-clause-stop : goal.read-returns-in_err-value-in-Root-clause-stop
+read-returns-in_err-value-in-Root-clause-stop t c = ?
+
+pub read-chosen-requires : goal.read-chosen-requires
+read-chosen-requires t c = ?
+
+pub read-returns-in_ok-chosen-in-Root-clause-done : goal.read-returns-in_ok-chosen-in-Root-clause-done
+read-returns-in_ok-chosen-in-Root-clause-done t c = ?
+
+pub read-read_added_alternative-requires : goal.read-read_added_alternative-requires
+read-read_added_alternative-requires t c = ?
+
+pub read-returns-in_err-value-in-Added-clause-stop : goal.read-returns-in_err-value-in-Added-clause-stop
+read-returns-in_err-value-in-Added-clause-stop t c = ?
+
+pub read-chosen-requires-in-Added : goal.read-chosen-requires-in-Added
+read-chosen-requires-in-Added t c = ?
+
+pub read-returns-in_ok-chosen-in-Added-clause-done : goal.read-returns-in_ok-chosen-in-Added-clause-done
+read-returns-in_ok-chosen-in-Added-clause-done t c = ?
+
+pub read_alternative-read-requires : goal.read_alternative-read-requires
+read_alternative-read-requires t c = ?
+
+pub read_alternative-returns-clause-done : goal.read_alternative-returns-clause-done
+read_alternative-returns-clause-done t c = ?
+
+pub read_alternative-returns-clause-stop : goal.read_alternative-returns-clause-stop
+read_alternative-returns-clause-stop t c = ?
+
+pub read_added_alternative-read_open_field-requires : goal.read_added_alternative-read_open_field-requires
+read_added_alternative-read_open_field-requires t c = ?
+
+pub read_added_alternative-returns-clause-done : goal.read_added_alternative-returns-clause-done
+read_added_alternative-returns-clause-done t c = ?
+
+pub read_added_alternative-returns-clause-stop : goal.read_added_alternative-returns-clause-stop
+read_added_alternative-returns-clause-stop t c = ?

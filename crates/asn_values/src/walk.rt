@@ -1,7 +1,7 @@
 //! The walk that finds the first fault of a type, from the outside in and from left to right.
 ghost use Rattle.std.specs.Prelude.{IfOk, IfErr, map};
 ghost use Rattle.asn_values.specs.Shape.{integer, enumerated, sequence, sequence_of, choice};
-ghost use Rattle.asn_values.specs.Walk.{IsFaultless, HoldsHere, IsFaultlessSize, HoldsOfSize, IsSoundWithin, IsFaultWithin, AreSoundWithin, IsFaultAmong, AreAlternativesSoundWithin, IsFaultAmongAlternatives};
+ghost use Rattle.asn_values.specs.Walk.{IsFaultless, HoldsHere, IsFaultlessSize, HoldsOfSize, IsSoundWithin, IsFaultWithin, of_type, of_types};
 ghost use Rattle.asn_values.specs.View.{shape_of, range_of, size_range_of, label_of, more_labels_of, fields_of, part_of_field, more_fields_of, alternatives_of, branch_of, more_alternatives_of};
 
 use crate::fault::TypeFault;
@@ -21,8 +21,8 @@ const MOST_ALTERNATIVES: usize = 63;
 /// with the least number. Nothing inside a type below the last level is looked at.
 #[cycle(walk)]
 pub(crate) fn nodes_left(ty: &AsnType, levels: u32, start: u32) -> Result<u32, TypeFault>
-    ensures sound { IfOk result (λ left. IsSoundWithin levels start left (shape_of ty.now)) }
-    ensures fault { IfErr result (λ f. IsFaultWithin f levels start (shape_of ty.now)) }
+    ensures sound { IfOk result (λ left. IsSoundWithin levels start left (of_type (shape_of ty.now))) }
+    ensures fault { IfErr result (λ f. IsFaultWithin f levels start (of_type (shape_of ty.now))) }
 {
     check_node(ty)?;
     if start == 0 {
@@ -61,8 +61,8 @@ pub(crate) fn nodes_left(ty: &AsnType, levels: u32, start: u32) -> Result<u32, T
 /// The same of the types of the components, one after the other.
 #[cycle(walk)]
 fn nodes_left_behind(fields: &[Field], levels: u32, start: u32) -> Result<u32, TypeFault>
-    ensures sound { IfOk result (λ left. AreSoundWithin levels start left (fields_of (map part_of_field fields.now))) }
-    ensures fault { IfErr result (λ f. IsFaultAmong f levels start (fields_of (map part_of_field fields.now))) }
+    ensures sound { IfOk result (λ left. IsSoundWithin levels start left (of_types (map (λ f. shape_of f.ty) fields.now))) }
+    ensures fault { IfErr result (λ f. IsFaultWithin f levels start (of_types (map (λ f. shape_of f.ty) fields.now))) }
 {
     let mut left = start;
     for field in fields {
@@ -74,8 +74,8 @@ fn nodes_left_behind(fields: &[Field], levels: u32, start: u32) -> Result<u32, T
 /// The same of the types of the alternatives, one after the other.
 #[cycle(walk)]
 fn nodes_left_among(alternatives: &[Alt], levels: u32, start: u32) -> Result<u32, TypeFault>
-    ensures sound { IfOk result (λ left. AreAlternativesSoundWithin levels start left (alternatives_of (map branch_of alternatives.now))) }
-    ensures fault { IfErr result (λ f. IsFaultAmongAlternatives f levels start (alternatives_of (map branch_of alternatives.now))) }
+    ensures sound { IfOk result (λ left. IsSoundWithin levels start left (of_types (map (λ a. shape_of a.ty) alternatives.now))) }
+    ensures fault { IfErr result (λ f. IsFaultWithin f levels start (of_types (map (λ a. shape_of a.ty) alternatives.now))) }
 {
     let mut left = start;
     for alternative in alternatives {

@@ -1,14 +1,18 @@
 -- From the answers for an index and for a value of an alternative to those for a CHOICE, as the readers of the
 -- program ask for them.
-use Rattle.std.proofs.Common.{◌≡◌, ◌≢◌, ◌<◌, ◌+◌, ◌==◌, ◌⊎◌, inl, inr, ℕ, zero, suc, true, false, List, [], ◌∷◌, ◌++◌, map, length, get_or, Option, Some, None, refl, sym, ap, ◌∙◌, subst, arith}
+use Rattle.std.proofs.Common.{◌≡◌, ◌≢◌, ◌<◌, ◌≤◌, ◌+◌, ◌==◌, ◌⊎◌, inl, inr, ℕ, zero, suc, true, false, List, [], ◌∷◌, ◌++◌, map, length, get_or, Option, Some, None, Vec, Global, vec_len, refl, sym, ap, ◌∙◌, subst, arith}
 use Rattle.std.proofs.lemmas.Bool.{eq-eqb, true≢false}
+use Rattle.std.specs.Option.{option_map}
 use Rattle.asn_values.specs.declared.types.Alt.{Alt}
+use Rattle.asn_values.specs.declared.types.AsnType.{AsnType}
+use Rattle.asn_values.specs.declared.types.AsnType as asn_type
 use Rattle.asn_values.specs.Datum.{Datum, alternative}
 use Rattle.asn_values.specs.Shape.{Shape, Alternatives, no_alternatives, one_of, MoreAlternatives, closed_choice, marked_choice, more_alternatives, choice, count}
 use Rattle.asn_values.specs.Fits.{Fits}
 use Rattle.asn_values.specs.Profile.{InProfile, EmptyRange, empty_range, somewhere, some_alternative, some_more}
-use Rattle.asn_values.specs.View.{shape_of, branch_of, alternatives_of}
-use Rattle.asn_values.proofs.Alternatives.{shape_of_branch}
+use Rattle.asn_values.specs.View.{shape_of, branch_of, alternatives_of, more_alternatives_of}
+use Rattle.asn_values.proofs.Alternatives.{count-of, shape_of_branch}
+use Rattle.asn_values.proofs.Views.{choice_of_alternatives}
 use Rattle.asn_values.specs.Parts.{AreAllOfProfile}
 use Rattle.asn_values.proofs.InnerTypes.{root_alternatives_of_profile, added_alternatives_of_profile}
 use Rattle.asn_values.proofs.Parts.{left_false}
@@ -22,10 +26,12 @@ use Rattle.asn_rules.proofs.Leads.{LeadsStops, Leads, leads_here, leads_on, lead
 use Rattle.asn_rules.proofs.Listed.{spelt_inhabited}
 use Rattle.asn_rules.proofs.Spellings.{same_after}
 use Rattle.asn_rules.proofs.Then.{Follows}
-use Rattle.asn_per.specs.Indexes.{IndexesOf, IsIndexWithin}
+use Rattle.asn_per.specs.Indexes.{IndexesOf, index_at}
+use Rattle.asn_per.specs.declared.indexes.Index.{Index}
+use Rattle.asn_per.specs.declared.indexes.Index.TheVariants as an_index
 use Rattle.asn_per.specs.Kinds.{Values, OpenValues, Below, SmallBelow, of_either, Chosen, OpenChosen, RootChoices, AddedChoices, Choices}
 use Rattle.asn_per.specs.Per.{per, per_fields, an_open_field}
-use Rattle.asn_per.proofs.ChoiceLanguages.{choices_compose}
+use Rattle.asn_per.proofs.ChoiceLanguages.{choices_compose, few_choices}
 use Rattle.asn_per.proofs.IndexReading.{indexes_lawful}
 use Rattle.asn_per.proofs.LeftOut.{none_left_out}
 use Rattle.asn_per.proofs.OpenFieldLanguages.{open_values_spelled}
@@ -34,22 +40,22 @@ use Rattle.asn_per.proofs.PerFields.{per_fields_part}
 -- ---- the alternative at a place
 
 -- it is of the profile
-pub good_at : (alts : List Alt) (i : ℕ) (x : Alt) → AreAllOfProfile (alternatives_of (map branch_of alts)) → i < length alts → x ≡ get_or alts i x → InProfile (shape_of x.ty)
-good_at [] i x good h e = absurd (omega arith)
-good_at (a ∷ alts) zero x good h e = rw (e, ← shape_of_branch a) good.0
-good_at (a ∷ alts) (suc i) x good h e = good_at alts i x good.1 (omega arith) e
+pub good_at : (alts : List Alt) (i : ℕ) (d : Alt) → AreAllOfProfile (alternatives_of (map branch_of alts)) → i < length alts → InProfile (shape_of (get_or alts i d).ty)
+good_at [] i d good h = absurd (omega arith)
+good_at (a ∷ alts) zero d good h = rw (← shape_of_branch a) good.0
+good_at (a ∷ alts) (suc i) d good h = good_at alts i d good.1 (omega arith)
 
 -- the reader of its values answers for the alternative
-pub leads_at_place : (alts : List Alt) (i : ℕ) (x : Alt) (us : List ℕ) → i < length alts → x ≡ get_or alts i x → Leads per_fields (Spelt per None (shape_of x.ty)) us (λ v. v) (Chosen (alternatives_of (map branch_of alts)) i) us
-leads_at_place [] i x us h e = absurd (omega arith)
-leads_at_place (a ∷ alts) zero x us h e = rw (e, shape_of_branch a) (leads_same per_fields us (same_flip (none_left_out (shape_of a.ty))))
-leads_at_place (a ∷ alts) (suc i) x us h e = leads_at_place alts i x us (omega arith) e
+pub leads_at_place : (alts : List Alt) (i : ℕ) (d : Alt) (us : List ℕ) → i < length alts → Leads per_fields (Spelt per None (shape_of (get_or alts i d).ty)) us (λ v. v) (Chosen (alternatives_of (map branch_of alts)) i) us
+leads_at_place [] i d us h = absurd (omega arith)
+leads_at_place (a ∷ alts) zero d us h = rw (shape_of_branch a) (leads_same per_fields us (same_flip (none_left_out (shape_of a.ty))))
+leads_at_place (a ∷ alts) (suc i) d us h = leads_at_place alts i d us (omega arith)
 
 -- and the reader of its open fields
-pub open_leads_at_place : (alts : List Alt) (i : ℕ) (x : Alt) (us : List ℕ) → i < length alts → x ≡ get_or alts i x → Leads per_fields (OpenValues (shape_of x.ty)) us (λ v. v) (OpenChosen (alternatives_of (map branch_of alts)) i) us
-open_leads_at_place [] i x us h e = absurd (omega arith)
-open_leads_at_place (a ∷ alts) zero x us h e = rw (e, shape_of_branch a) (leads_here per_fields (OpenValues (shape_of a.ty)) us)
-open_leads_at_place (a ∷ alts) (suc i) x us h e = open_leads_at_place alts i x us (omega arith) e
+pub open_leads_at_place : (alts : List Alt) (i : ℕ) (d : Alt) (us : List ℕ) → i < length alts → Leads per_fields (OpenValues (shape_of (get_or alts i d).ty)) us (λ v. v) (OpenChosen (alternatives_of (map branch_of alts)) i) us
+open_leads_at_place [] i d us h = absurd (omega arith)
+open_leads_at_place (a ∷ alts) zero d us h = rw (shape_of_branch a) (leads_here per_fields (OpenValues (shape_of a.ty)) us)
+open_leads_at_place (a ∷ alts) (suc i) d us h = open_leads_at_place alts i d us (omega arith)
 
 -- it has a value
 chosen_inhabited : (alts : Alternatives) (i : ℕ) → AreAllOfProfile alts → i < count alts → Inhabited (Chosen alts i)
@@ -208,3 +214,64 @@ module _ (root : Alternatives) (more : MoreAlternatives) (good : InProfile (choi
   -- behind it
   pub value_leads : (i : ℕ ⊎ ℕ) (us r : List ℕ) → Spells per_fields (IndexesOf (count root) (added_count more)) i us r → Leads per_fields (ChosenBy root more i) r (λ v. chosen_value root (i, v)) (Spelt per None (choice root more)) us
   value_leads i us r h = leads_on (leads_second per_fields_part (indexes_lawful (count root) (added_count more)) h) (whole us)
+
+-- ---- as the program has it
+
+-- how many additions there are
+more_count : (ext : Option (Vec Alt Global)) → added_count (more_alternatives_of ext) ≡ option_map vec_len ext
+more_count None = refl
+more_count (Some more) = ap Some (count-of more.items)
+
+module _ (t : AsnType) (root : Vec Alt Global) (ext : Option (Vec Alt Global)) (alts : List Alt) (is : t ≡ asn_type.Choice root ext) (ea : alts ≡ root.items) (good : InProfile (shape_of t)) where
+  shape : shape_of t ≡ choice (alternatives_of (map branch_of alts)) (more_alternatives_of ext)
+  shape = choice_of_alternatives t root ext alts is ea
+
+  good_choice : InProfile (choice (alternatives_of (map branch_of alts)) (more_alternatives_of ext))
+  good_choice = rw shape at good
+
+  -- there is an alternative, and they are few
+  pub some_root : 0 < length alts
+  some_root = rw (count-of alts) at (some_alternatives (alternatives_of (map branch_of alts)) (more_alternatives_of ext) good_choice)
+
+  pub few_root : length alts ≤ 63
+  few_root = let few = few_choices (alternatives_of (map branch_of alts)) (more_alternatives_of ext) good_choice in omega (arith, few, count-of alts)
+
+  pub few_all : (additions : Vec Alt Global) (more : List Alt) → ext ≡ Some additions → more ≡ additions.items → length alts + length more ≤ 63
+  few_all additions more e em =
+      let few : count (alternatives_of (map branch_of alts)) + count (more_alternatives (more_alternatives_of (Some additions))) ≤ 63 = rw e at (few_choices (alternatives_of (map branch_of alts)) (more_alternatives_of ext) good_choice) in
+      rw em (omega (arith, few, count-of alts, count-of additions.items))
+
+  -- all are of the profile
+  pub roots_good : AreAllOfProfile (alternatives_of (map branch_of alts))
+  roots_good = root_good (alternatives_of (map branch_of alts)) (more_alternatives_of ext) good_choice
+
+  pub additions_good : (additions : Vec Alt Global) (more : List Alt) → ext ≡ Some additions → more ≡ additions.items → AreAllOfProfile (alternatives_of (map branch_of more))
+  additions_good additions more e em =
+      let all : AreAllOfProfile (more_alternatives (more_alternatives_of (Some additions))) = rw e at (added_good (alternatives_of (map branch_of alts)) (more_alternatives_of ext) good_choice) in
+      rw em all
+
+  module _ (n : ℕ) (m : Option ℕ) (en : n ≡ length alts) (em : m ≡ option_map vec_len ext) (us : List ℕ) where
+    counts : IndexesOf (count (alternatives_of (map branch_of alts))) (added_count (more_alternatives_of ext)) ≡ IndexesOf n m
+    counts = ap (λ (k : ℕ). IndexesOf k (added_count (more_alternatives_of ext))) (count-of alts ∙ sym en) ∙ ap (IndexesOf n) (more_count ext ∙ sym em)
+
+    -- within the index
+    pub choice_stops : LeadsStops per_fields (IndexesOf n m) us (Spelt per None (shape_of t)) us
+    choice_stops = rw (shape, ← counts) (index_stops (alternatives_of (map branch_of alts)) (more_alternatives_of ext) good_choice us)
+
+    module _ (i : Index) (p : ℕ) (r : List ℕ) (told : Spells per_fields (IndexesOf n m) (index_at i) us r) where
+      behind : Leads per_fields (ChosenBy (alternatives_of (map branch_of alts)) (more_alternatives_of ext) (index_at i)) r (λ v. chosen_value (alternatives_of (map branch_of alts)) (index_at i, v)) (Spelt per None (choice (alternatives_of (map branch_of alts)) (more_alternatives_of ext))) us
+      behind = value_leads (alternatives_of (map branch_of alts)) (more_alternatives_of ext) good_choice (index_at i) us r (rw counts told)
+
+      -- behind the index of an alternative of the root
+      pub root_value_leads : i ≡ an_index.Root p → Leads per_fields (Chosen (alternatives_of (map branch_of alts)) p) r (λ v. alternative p v) (Spelt per None (shape_of t)) us
+      root_value_leads e = rw shape (rw e at behind)
+
+      -- behind that of an addition
+      pub added_value_leads : (additions : Vec Alt Global) (more : List Alt) → ext ≡ Some additions → more ≡ additions.items → i ≡ an_index.Added p
+          → Leads per_fields (OpenChosen (alternatives_of (map branch_of more)) p) r (λ v. alternative (n + p) v) (Spelt per None (shape_of t)) us
+      added_value_leads additions more es eas e =
+          let lead : Leads per_fields (OpenChosen (more_alternatives (more_alternatives_of ext)) p) r (λ v. alternative (count (alternatives_of (map branch_of alts)) + p) v) (Spelt per None (choice (alternatives_of (map branch_of alts)) (more_alternatives_of ext))) us = rw e at behind in
+          let theirs : more_alternatives (more_alternatives_of ext) ≡ alternatives_of (map branch_of more) = ap (λ x. more_alternatives (more_alternatives_of x)) es ∙ ap (λ (l : List Alt). alternatives_of (map branch_of l)) (sym eas) in
+          let first = subst (λ (a : Alternatives). Leads per_fields (OpenChosen a p) r (λ v. alternative (count (alternatives_of (map branch_of alts)) + p) v) (Spelt per None (choice (alternatives_of (map branch_of alts)) (more_alternatives_of ext))) us) theirs lead in
+          let second = subst (λ (k : ℕ). Leads per_fields (OpenChosen (alternatives_of (map branch_of more)) p) r (λ v. alternative (k + p) v) (Spelt per None (choice (alternatives_of (map branch_of alts)) (more_alternatives_of ext))) us) (count-of alts ∙ sym en) first in
+          rw shape second

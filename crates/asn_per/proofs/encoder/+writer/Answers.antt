@@ -75,3 +75,41 @@ write_components-returns t c =
     let none : (c.loop-field.field-iterator.a.rest.now ≡ []) ⊎ (c.loop-field.field-iterator.b.rest.now ≡ []) =
     either_empty_from_Zip c.loop-field.field-iterator c.next.new.self c.next.result c.in-None.is c.next.ensures.steps in
     written_ends c.loop-field.invariant (either_map part_of_field (option_map datum_of) none)
+
+-- ---- CHOICE
+
+pub write-write_index-requires-clause-few : goal.write-write_index-requires-clause-few
+write-write_index-requires-clause-few t c = ?
+
+pub write-write_alternative-requires : goal.write-write_alternative-requires
+write-write_alternative-requires t c = ?
+
+pub write-returns-then-place-len : goal.write-returns-then-place-len
+write-returns-then-place-len t c = ?
+
+pub write-unreachable-requires-in-Choice : goal.write-unreachable-requires-in-Choice
+write-unreachable-requires-in-Choice t c = ?
+
+pub write-write_index-requires-in-Choice-clause-few : goal.write-write_index-requires-in-Choice-clause-few
+write-write_index-requires-in-Choice-clause-few t c = ?
+
+pub write-write_index-requires-in-Choice-clause-within : goal.write-write_index-requires-in-Choice-clause-within
+write-write_index-requires-in-Choice-clause-within t c = ?
+
+pub write-write_added_alternative-requires : goal.write-write_added_alternative-requires
+write-write_added_alternative-requires t c = ?
+
+pub write-returns-in_ok-write_index-in-Choice-2 : goal.write-returns-in_ok-write_index-in-Choice-2
+write-returns-in_ok-write_index-in-Choice-2 t c = ?
+
+pub write_alternative-write-requires : goal.write_alternative-write-requires
+write_alternative-write-requires t c = ?
+
+pub write_alternative-returns : goal.write_alternative-returns
+write_alternative-returns t c = ?
+
+pub write_added_alternative-write_open_field-requires : goal.write_added_alternative-write_open_field-requires
+write_added_alternative-write_open_field-requires t c = ?
+
+pub write_added_alternative-returns : goal.write_added_alternative-returns
+write_added_alternative-returns t c = ?

@@ -42,30 +42,43 @@ fi
 cd "$here/baseline"
 RUSTFLAGS="-C target-cpu=$cpu" nice cargo build --quiet --release --offline --locked --target-dir "$room/target"
 
-# the measurements
+# the same octets: of each message that a form has, and both forms by hand have all
 cd "$room"
-nice crates/asn_bench/out/asn_bench "$rounds" >rattle.txt
-nice target/release/baseline hand "$rounds" >hand.txt
-nice target/release/baseline tree "$rounds" >tree.txt
-for form in rattle hand tree; do grep '^octets ' "$form.txt" >"$form.octets"; done
-if ! cmp -s rattle.octets hand.octets || ! cmp -s rattle.octets tree.octets; then
+form() {
+    if [ "$1" = rattle ]; then
+        nice crates/asn_bench/out/asn_bench "${@:2}"
+    else
+        nice target/release/baseline "$@"
+    fi
+}
+for name in rattle same hand tree; do form "$name" 0 | grep '^octets ' >"$name.octets"; done
+if ! cmp -s rattle.octets same.octets || ! cmp -s rattle.octets hand.octets || grep -qvxFf rattle.octets tree.octets; then
     echo "bench: the programs do not write the same octets" >&2
     exit 1
 fi
+
+# the measurements: the forms take turns, so that what else the machine does falls on all of them
+rm -f rattle.txt same.txt hand.txt tree.txt
+for ((done = 0; done < rounds; done += 5)); do
+    for name in rattle same hand tree; do
+        form "$name" $((rounds - done < 5 ? rounds - done : 5)) | grep -v '^octets ' >>"$name.txt"
+    done
+done
 
 echo "$(uname -sm), $(nproc) x $(sed -n 's/^model name[^:]*: //p' /proc/cpuinfo | head -n 1)"
 echo "built for $cpu; load before: $load, after: $(cut -d' ' -f1-3 /proc/loadavg)"
 echo "ns a message, the least of $rounds rounds and their median; MB/s of encoded octets at the least"
 echo
-awk -v rounds="$rounds" '
+awk '
+    FILENAME ~ /octets$/ { size[$2] = NF - 2; next }
     FNR == 1 { form = FILENAME; sub(/\.txt$/, "", form) }
-    $1 == "octets" { size[$2] = NF - 2; next }
     {
         row = $1 " " $2
         if (!(row in seen)) { seen[row] = 1; rows[++count] = row }
         all[form, row, ++so_far[form, row]] = $3
     }
-    function ordered(form, row,   n, i, j, t) {
+    # the least time of a row, and in brackets the median
+    function times(form, row,   n, i, j, t) {
         n = so_far[form, row]
         for (i = 2; i <= n; i++)
             for (j = i; j > 1 && all[form, row, j - 1] + 0 > all[form, row, j] + 0; j--) {
@@ -74,14 +87,19 @@ awk -v rounds="$rounds" '
         least[form, row] = all[form, row, 1]
         return sprintf("%.1f (%.1f)", least[form, row], all[form, row, int((n + 1) / 2)])
     }
+    # a baseline has that, and the time of Rattle over its own
+    function beside(form, row,   text) {
+        if (!so_far[form, row]) return " | | "
+        text = times(form, row)
+        return sprintf(" | %s | %.1f", text, least["rattle", row] / least[form, row])
+    }
     END {
-        print "| | octets | Rattle ns | MB/s | by hand ns | MB/s | ratio | same trees ns | ratio |"
-        print "|---|---|---|---|---|---|---|---|---|"
+        print "| | octets | Rattle ns | MB/s | by hand, same values | ratio | by hand | ratio | same trees | ratio |"
+        print "|---|---|---|---|---|---|---|---|---|---|"
         for (at = 1; at <= count; at++) {
             row = rows[at]; split(row, words, " "); octets = size[words[2]]
-            rattle = ordered("rattle", row); hand = ordered("hand", row); tree = ordered("tree", row)
-            mine = least["rattle", row]
-            printf "| %s | %d | %s | %.0f | %s | %.0f | %.1f | %s | %.1f |\n", row, octets, rattle, octets * 1000 / mine,
-                hand, octets * 1000 / least["hand", row], mine / least["hand", row], tree, mine / least["tree", row]
+            text = times("rattle", row)
+            printf "| %s | %d | %s | %.0f%s%s%s |\n", row, octets, text, octets * 1000 / least["rattle", row],
+                beside("same", row), beside("hand", row), beside("tree", row)
         }
-    }' rattle.txt hand.txt tree.txt
+    }' rattle.octets rattle.txt same.txt hand.txt tree.txt

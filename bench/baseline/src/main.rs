@@ -1,10 +1,12 @@
 //! The baseline of the benchmark: the same messages in Rust, by hand, and by the same trees as the
 //! proved crates have. It prints what the Rattle program prints.
+mod bits;
 mod hand;
 mod rows;
+mod same;
 mod tree;
+mod value;
 
-use hand::{Aligned, Shifted, Small, Wide};
 use std::hint::black_box;
 use std::time::Instant;
 
@@ -24,116 +26,76 @@ fn main() {
         what: words.next().unwrap_or_default(),
         name: words.next().unwrap_or_default(),
     };
-    if plan.form == "hand" {
-        by_hand(&plan);
-    } else {
-        by_tree(&plan);
+    match plan.form.as_str() {
+        "hand" => by_hand(&plan),
+        "same" => by_hand_same_values(&plan),
+        _ => by_tree(&plan),
     }
 }
 
 fn by_hand(plan: &Plan) {
-    let small = Small::sample();
-    run(
-        plan,
-        "small",
-        200_000,
-        &small.encode().unwrap(),
-        Small::sample,
-        || black_box(&small).encode().unwrap(),
-        |octets| Small::decode(octets).unwrap(),
-    );
-    let wide = Wide::sample();
-    run(
-        plan,
-        "wide",
-        20_000,
-        &wide.encode().unwrap(),
-        Wide::sample,
-        || black_box(&wide).encode().unwrap(),
-        |octets| Wide::decode(octets).unwrap(),
-    );
+    use hand::{Aligned, Shifted, Small, Wide};
     let source = rows::source();
-    let shifted = Shifted::sample(&source);
-    run(
-        plan,
-        "shifted",
-        500,
-        &shifted.encode().unwrap(),
-        || Shifted::sample(black_box(&source)),
-        || black_box(&shifted).encode().unwrap(),
-        |octets| Shifted::decode(octets).unwrap(),
-    );
-    let aligned = Aligned::sample(&source);
-    run(
-        plan,
-        "aligned",
-        500,
-        &aligned.encode().unwrap(),
-        || Aligned::sample(black_box(&source)),
-        || black_box(&aligned).encode().unwrap(),
-        |octets| Aligned::decode(octets).unwrap(),
-    );
+    let cut = || black_box(source.as_slice());
+    run(plan, "small", Small::sample, Small::encode, Small::decode);
+    run(plan, "wide", Wide::sample, Wide::encode, Wide::decode);
+    run(plan, "shifted", || Shifted::sample(cut()), Shifted::encode, Shifted::decode);
+    run(plan, "aligned", || Aligned::sample(cut()), Aligned::encode, Aligned::decode);
+}
+
+fn by_hand_same_values(plan: &Plan) {
+    use same::strings::{Aligned, Shifted};
+    use same::{small, wide};
+    let source = rows::source();
+    let cut = || black_box(source.as_slice());
+    run(plan, "small", small::sample, small::encode, small::decode);
+    run(plan, "wide", wide::sample, wide::encode, wide::decode);
+    run(plan, "shifted", || Shifted::sample(cut()), Shifted::encode, Shifted::decode);
+    run(plan, "aligned", || Aligned::sample(cut()), Aligned::encode, Aligned::decode);
 }
 
 fn by_tree(plan: &Plan) {
-    let (ty, value) = (tree::small_type(), tree::small_value());
-    run(
-        plan,
-        "small",
-        200_000,
-        &tree::encode(&ty, &value).unwrap(),
-        tree::small_value,
-        || tree::encode(black_box(&ty), black_box(&value)).unwrap(),
-        |octets| tree::decode(black_box(&ty), octets).unwrap(),
-    );
-    let (ty, value) = (tree::wide_type(), tree::wide_value());
-    run(
-        plan,
-        "wide",
-        20_000,
-        &tree::encode(&ty, &value).unwrap(),
-        tree::wide_value,
-        || tree::encode(black_box(&ty), black_box(&value)).unwrap(),
-        |octets| tree::decode(black_box(&ty), octets).unwrap(),
-    );
+    use tree::{aligned_type, aligned_value, shifted_type, shifted_value};
+    use tree::{small_type, small_value, wide_type, wide_value};
     let source = rows::source();
-    let (ty, value) = (tree::shifted_type(), tree::shifted_value(&source));
-    run(
-        plan,
-        "shifted",
-        500,
-        &tree::encode(&ty, &value).unwrap(),
-        || tree::shifted_value(black_box(&source)),
-        || tree::encode(black_box(&ty), black_box(&value)).unwrap(),
-        |octets| tree::decode(black_box(&ty), octets).unwrap(),
-    );
-    let (ty, value) = (tree::aligned_type(), tree::aligned_value(&source));
-    run(
-        plan,
-        "aligned",
-        500,
-        &tree::encode(&ty, &value).unwrap(),
-        || tree::aligned_value(black_box(&source)),
-        || tree::encode(black_box(&ty), black_box(&value)).unwrap(),
-        |octets| tree::decode(black_box(&ty), octets).unwrap(),
-    );
+    let cut = || black_box(source.as_slice());
+    let typed = |name: &str, ty: tree::AsnType, build: &dyn Fn() -> tree::Value| {
+        let encode = |value: &tree::Value| tree::encode(black_box(&ty), value);
+        let decode = |octets: &[u8]| tree::decode(black_box(&ty), octets);
+        run(plan, name, build, encode, decode);
+    };
+    typed("small", small_type(), &small_value);
+    typed("wide", wide_type(), &wide_value);
+    typed("shifted", shifted_type(), &|| shifted_value(cut()));
+    typed("aligned", aligned_type(), &|| aligned_value(cut()));
 }
 
-/// Measures one message, `times` of it in a round.
+/// How many messages a round has.
+fn times(name: &str) -> u32 {
+    match name {
+        "small" => 200_000,
+        "wide" => 20_000,
+        _ => 500,
+    }
+}
+
+/// Measures one message.
 fn run<T>(
     plan: &Plan,
     name: &str,
-    times: u32,
-    octets: &[u8],
     build: impl Fn() -> T,
-    encode: impl Fn() -> Vec<u8>,
-    decode: impl Fn(&[u8]) -> T,
+    encode: impl Fn(&T) -> Option<Vec<u8>>,
+    decode: impl Fn(&[u8]) -> Option<T>,
 ) {
+    let message = build();
+    let octets = encode(&message).unwrap();
+    assert_eq!(encode(&decode(&octets).unwrap()).unwrap(), octets);
     println!("octets {name} {octets:?}");
+    let times = times(name);
     for _ in 0..plan.rounds {
         measure(plan, "build", name, times, &build);
-        measure(plan, "encode", name, times, &encode);
-        measure(plan, "decode", name, times, || decode(black_box(octets)));
+        measure(plan, "encode", name, times, || encode(black_box(&message)).unwrap());
+        measure(plan, "decode", name, times, || decode(black_box(&octets)).unwrap());
     }
 }
 

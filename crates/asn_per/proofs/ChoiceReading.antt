@@ -1,7 +1,6 @@
 -- From the answers for an index and for a value of an alternative to those for a CHOICE, as the readers of the
 -- program ask for them.
 use Rattle.std.proofs.Common.{◌≡◌, ◌≢◌, ◌<◌, ◌≤◌, ◌+◌, ◌==◌, ◌⊎◌, inl, inr, ℕ, zero, suc, true, false, List, [], ◌∷◌, ◌++◌, map, length, get_or, Option, Some, None, Vec, Global, vec_len, refl, sym, ap, ◌∙◌, subst, arith}
-use Rattle.std.proofs.lemmas.Bool.{eq-eqb, true≢false}
 use Rattle.std.specs.Option.{option_map}
 use Rattle.asn_values.specs.declared.types.Alt.{Alt}
 use Rattle.asn_values.specs.declared.types.AsnType.{AsnType}
@@ -9,13 +8,10 @@ use Rattle.asn_values.specs.declared.types.AsnType as asn_type
 use Rattle.asn_values.specs.Datum.{Datum, alternative}
 use Rattle.asn_values.specs.Shape.{Shape, Alternatives, no_alternatives, one_of, MoreAlternatives, closed_choice, marked_choice, more_alternatives, choice, count}
 use Rattle.asn_values.specs.Fits.{Fits}
-use Rattle.asn_values.specs.Profile.{InProfile, EmptyRange, empty_range, somewhere, some_alternative, some_more}
+use Rattle.asn_values.specs.Profile.{InProfile}
 use Rattle.asn_values.specs.View.{shape_of, branch_of, alternatives_of, more_alternatives_of}
-use Rattle.asn_values.proofs.Alternatives.{count-of, shape_of_branch}
-use Rattle.asn_values.proofs.Views.{choice_of_alternatives}
+use Rattle.asn_values.proofs.Alternatives.{shape_of_branch}
 use Rattle.asn_values.specs.Parts.{AreAllOfProfile}
-use Rattle.asn_values.proofs.InnerTypes.{root_alternatives_of_profile, added_alternatives_of_profile}
-use Rattle.asn_values.proofs.Parts.{left_false}
 use Rattle.asn_bits.specs.Numbers.{width}
 use Rattle.asn_rules.specs.Chunks.{Chunk, one}
 use Rattle.asn_rules.specs.Forks.{Branch, Same}
@@ -31,19 +27,14 @@ use Rattle.asn_per.specs.declared.indexes.Index.{Index}
 use Rattle.asn_per.specs.declared.indexes.Index.TheVariants as an_index
 use Rattle.asn_per.specs.Kinds.{Values, OpenValues, Below, SmallBelow, of_either, Chosen, OpenChosen, RootChoices, AddedChoices, Choices}
 use Rattle.asn_per.specs.Per.{per, per_fields, an_open_field}
-use Rattle.asn_per.proofs.ChoiceLanguages.{choices_compose, few_choices}
+use Rattle.asn_per.proofs.ChoiceLanguages.{choices_compose}
+use Rattle.asn_per.proofs.ChoiceTypes.{added_count, root_good, added_good, choice_shape, choice_good, known_count, more_count, added_alternatives}
 use Rattle.asn_per.proofs.IndexReading.{indexes_lawful}
 use Rattle.asn_per.proofs.LeftOut.{none_left_out}
 use Rattle.asn_per.proofs.OpenFieldLanguages.{open_values_spelled}
 use Rattle.asn_per.proofs.PerFields.{per_fields_part}
 
 -- ---- the alternative at a place
-
--- it is of the profile
-pub good_at : (alts : List Alt) (i : ℕ) (d : Alt) → AreAllOfProfile (alternatives_of (map branch_of alts)) → i < length alts → InProfile (shape_of (get_or alts i d).ty)
-good_at [] i d good h = absurd (omega arith)
-good_at (a ∷ alts) zero d good h = rw (← shape_of_branch a) good.0
-good_at (a ∷ alts) (suc i) d good h = good_at alts i d good.1 (omega arith)
 
 -- the reader of its values answers for the alternative
 pub leads_at_place : (alts : List Alt) (i : ℕ) (d : Alt) (us : List ℕ) → i < length alts → Leads per_fields (Spelt per None (shape_of (get_or alts i d).ty)) us (λ v. v) (Chosen (alternatives_of (map branch_of alts)) i) us
@@ -75,11 +66,6 @@ open_chosen_inhabited (one_of name t alts) zero good h = open_inhabited t good.0
 open_chosen_inhabited (one_of name t alts) (suc i) good h = open_chosen_inhabited alts i good.1 (omega arith)
 
 -- ---- the index, and behind it the value
-
--- how many additions there are, where there is an extension mark
-abbrev pub added_count : MoreAlternatives → Option ℕ
-added_count closed_choice = None
-added_count (marked_choice alts) = Some (count alts)
 
 -- the values of the alternative that an index tells
 abbrev pub ChosenBy : Alternatives → MoreAlternatives → ℕ ⊎ ℕ → Datum → List Chunk → Type 0
@@ -173,35 +159,16 @@ module _ (root : Alternatives) where
   told (marked_choice more) = record { to = λ v cs h. rw h.seen (marked_there more h.source.0 h.source.1 cs h.spelt.first h.spelt.second h.spelt.spelt.side h.spelt.follows h.spelt.whole); from = λ v cs h. marked_back more v h.source cs h.seen h.spelt.side }
 
 module _ (root : Alternatives) (more : MoreAlternatives) (good : InProfile (choice root more)) where
-  -- the root has an alternative
-  pub some_alternatives : 0 < count root
-  some_alternatives = go (count root) (left_false (empty_range (choice root more)) _ (good EmptyRange))
-    where
-      go : (n : ℕ) → (n == 0) ≡ false → 0 < n
-      go zero e = absurd (true≢false e)
-      go (suc n) e = omega arith
-
-  -- all of them are of the profile
-  pub root_good : AreAllOfProfile root
-  root_good = root_alternatives_of_profile root more good
-
-  pub added_good : AreAllOfProfile (more_alternatives more)
-  added_good = go more good
-    where
-      go : (m : MoreAlternatives) → InProfile (choice root m) → AreAllOfProfile (more_alternatives m)
-      go closed_choice g = tt
-      go (marked_choice alts) g = added_alternatives_of_profile root alts g
-
   -- behind an index stands a value
   follows : Follows (IndexesOf (count root) (added_count more)) (ChosenBy root more)
-  follows = record { follow = λ i cs h. go more i cs added_good h }
+  follows = record { follow = λ i cs h. go more i cs (added_good root more good) h }
     where
       sides : (alts : Alternatives) (i : ℕ ⊎ ℕ) (cs : List Chunk) → AreAllOfProfile alts → Branch 0 inl (Below (width (count root)) (count root)) i cs ⊎ Branch 1 inr (SmallBelow (count alts)) i cs → Inhabited (ChosenBy root (marked_choice alts) i)
-      sides alts i cs g (inl b) = rw b.seen (chosen_inhabited root b.value root_good b.spelt.spelt.member)
+      sides alts i cs g (inl b) = rw b.seen (chosen_inhabited root b.value (root_good root more good) b.spelt.spelt.member)
       sides alts i cs g (inr b) = rw b.seen (open_chosen_inhabited alts b.value g b.spelt.spelt.member)
 
       go : (m : MoreAlternatives) (i : ℕ ⊎ ℕ) (cs : List Chunk) → AreAllOfProfile (more_alternatives m) → IndexesOf (count root) (added_count m) i cs → Inhabited (ChosenBy root m i)
-      go closed_choice i cs g h = rw h.seen (chosen_inhabited root h.source root_good h.spelt.spelt.member)
+      go closed_choice i cs g h = rw h.seen (chosen_inhabited root h.source (root_good root more good) h.spelt.spelt.member)
       go (marked_choice alts) i cs g h = sides alts i cs g h.side
 
   whole : (us : List ℕ) → Leads per_fields (Told root more) us (chosen_value root) (Spelt per None (choice root more)) us
@@ -217,61 +184,27 @@ module _ (root : Alternatives) (more : MoreAlternatives) (good : InProfile (choi
 
 -- ---- as the program has it
 
--- how many additions there are
-more_count : (ext : Option (Vec Alt Global)) → added_count (more_alternatives_of ext) ≡ option_map vec_len ext
-more_count None = refl
-more_count (Some more) = ap Some (count-of more.items)
-
-module _ (t : AsnType) (root : Vec Alt Global) (ext : Option (Vec Alt Global)) (alts : List Alt) (is : t ≡ asn_type.Choice root ext) (ea : alts ≡ root.items) (good : InProfile (shape_of t)) where
-  shape : shape_of t ≡ choice (alternatives_of (map branch_of alts)) (more_alternatives_of ext)
-  shape = choice_of_alternatives t root ext alts is ea
-
-  good_choice : InProfile (choice (alternatives_of (map branch_of alts)) (more_alternatives_of ext))
-  good_choice = rw shape at good
-
-  -- there is an alternative, and they are few
-  pub some_root : 0 < length alts
-  some_root = rw (count-of alts) at (some_alternatives (alternatives_of (map branch_of alts)) (more_alternatives_of ext) good_choice)
-
-  pub few_root : length alts ≤ 63
-  few_root = let few = few_choices (alternatives_of (map branch_of alts)) (more_alternatives_of ext) good_choice in omega (arith, few, count-of alts)
-
-  pub few_all : (additions : Vec Alt Global) (more : List Alt) → ext ≡ Some additions → more ≡ additions.items → length alts + length more ≤ 63
-  few_all additions more e em =
-      let few : count (alternatives_of (map branch_of alts)) + count (more_alternatives (more_alternatives_of (Some additions))) ≤ 63 = rw e at (few_choices (alternatives_of (map branch_of alts)) (more_alternatives_of ext) good_choice) in
-      rw em (omega (arith, few, count-of alts, count-of additions.items))
-
-  -- all are of the profile
-  pub roots_good : AreAllOfProfile (alternatives_of (map branch_of alts))
-  roots_good = root_good (alternatives_of (map branch_of alts)) (more_alternatives_of ext) good_choice
-
-  pub additions_good : (additions : Vec Alt Global) (more : List Alt) → ext ≡ Some additions → more ≡ additions.items → AreAllOfProfile (alternatives_of (map branch_of more))
-  additions_good additions more e em =
-      let all : AreAllOfProfile (more_alternatives (more_alternatives_of (Some additions))) = rw e at (added_good (alternatives_of (map branch_of alts)) (more_alternatives_of ext) good_choice) in
-      rw em all
-
-  module _ (n : ℕ) (m : Option ℕ) (en : n ≡ length alts) (em : m ≡ option_map vec_len ext) (us : List ℕ) where
-    counts : IndexesOf (count (alternatives_of (map branch_of alts))) (added_count (more_alternatives_of ext)) ≡ IndexesOf n m
-    counts = ap (λ (k : ℕ). IndexesOf k (added_count (more_alternatives_of ext))) (count-of alts ∙ sym en) ∙ ap (IndexesOf n) (more_count ext ∙ sym em)
+module _ (t : AsnType) (root : Vec Alt Global) (ext : Option (Vec Alt Global)) (is : t ≡ asn_type.Choice root ext) (good : InProfile (shape_of t)) (n : ℕ) (en : n ≡ vec_len root) where
+  module _ (m : Option ℕ) (em : m ≡ option_map vec_len ext) (us : List ℕ) where
+    counts : IndexesOf (count (alternatives_of (map branch_of root.items))) (added_count (more_alternatives_of ext)) ≡ IndexesOf n m
+    counts = ap (λ (k : ℕ). IndexesOf k (added_count (more_alternatives_of ext))) (known_count root n en) ∙ ap (IndexesOf n) (more_count ext ∙ sym em)
 
     -- within the index
     pub choice_stops : LeadsStops per_fields (IndexesOf n m) us (Spelt per None (shape_of t)) us
-    choice_stops = rw (shape, ← counts) (index_stops (alternatives_of (map branch_of alts)) (more_alternatives_of ext) good_choice us)
+    choice_stops = rw (choice_shape t root ext is, ← counts) (index_stops (alternatives_of (map branch_of root.items)) (more_alternatives_of ext) (choice_good t root ext is good) us)
 
     module _ (i : Index) (p : ℕ) (r : List ℕ) (told : Spells per_fields (IndexesOf n m) (index_at i) us r) where
-      behind : Leads per_fields (ChosenBy (alternatives_of (map branch_of alts)) (more_alternatives_of ext) (index_at i)) r (λ v. chosen_value (alternatives_of (map branch_of alts)) (index_at i, v)) (Spelt per None (choice (alternatives_of (map branch_of alts)) (more_alternatives_of ext))) us
-      behind = value_leads (alternatives_of (map branch_of alts)) (more_alternatives_of ext) good_choice (index_at i) us r (rw counts told)
+      behind : Leads per_fields (ChosenBy (alternatives_of (map branch_of root.items)) (more_alternatives_of ext) (index_at i)) r (λ v. chosen_value (alternatives_of (map branch_of root.items)) (index_at i, v)) (Spelt per None (shape_of t)) us
+      behind = rw (choice_shape t root ext is) (value_leads (alternatives_of (map branch_of root.items)) (more_alternatives_of ext) (choice_good t root ext is good) (index_at i) us r (rw counts told))
 
       -- behind the index of an alternative of the root
-      pub root_value_leads : i ≡ an_index.Root p → Leads per_fields (Chosen (alternatives_of (map branch_of alts)) p) r (λ v. alternative p v) (Spelt per None (shape_of t)) us
-      root_value_leads e = rw shape (rw e at behind)
+      pub root_value_leads : (alts : List Alt) → alts ≡ root.items → i ≡ an_index.Root p → Leads per_fields (Chosen (alternatives_of (map branch_of alts)) p) r (λ v. alternative p v) (Spelt per None (shape_of t)) us
+      root_value_leads alts ea e = rw ea (rw e at behind)
 
       -- behind that of an addition
       pub added_value_leads : (additions : Vec Alt Global) (more : List Alt) → ext ≡ Some additions → more ≡ additions.items → i ≡ an_index.Added p
           → Leads per_fields (OpenChosen (alternatives_of (map branch_of more)) p) r (λ v. alternative (n + p) v) (Spelt per None (shape_of t)) us
-      added_value_leads additions more es eas e =
-          let lead : Leads per_fields (OpenChosen (more_alternatives (more_alternatives_of ext)) p) r (λ v. alternative (count (alternatives_of (map branch_of alts)) + p) v) (Spelt per None (choice (alternatives_of (map branch_of alts)) (more_alternatives_of ext))) us = rw e at behind in
-          let theirs : more_alternatives (more_alternatives_of ext) ≡ alternatives_of (map branch_of more) = ap (λ x. more_alternatives (more_alternatives_of x)) es ∙ ap (λ (l : List Alt). alternatives_of (map branch_of l)) (sym eas) in
-          let first = subst (λ (a : Alternatives). Leads per_fields (OpenChosen a p) r (λ v. alternative (count (alternatives_of (map branch_of alts)) + p) v) (Spelt per None (choice (alternatives_of (map branch_of alts)) (more_alternatives_of ext))) us) theirs lead in
-          let second = subst (λ (k : ℕ). Leads per_fields (OpenChosen (alternatives_of (map branch_of more)) p) r (λ v. alternative (k + p) v) (Spelt per None (choice (alternatives_of (map branch_of alts)) (more_alternatives_of ext))) us) (count-of alts ∙ sym en) first in
-          rw shape second
+      added_value_leads additions more es ea e =
+          let lead : Leads per_fields (OpenChosen (more_alternatives (more_alternatives_of ext)) p) r (λ v. alternative (count (alternatives_of (map branch_of root.items)) + p) v) (Spelt per None (shape_of t)) us = rw e at behind in
+          let first = subst (λ (a : Alternatives). Leads per_fields (OpenChosen a p) r (λ v. alternative (count (alternatives_of (map branch_of root.items)) + p) v) (Spelt per None (shape_of t)) us) (added_alternatives ext additions more es ea) lead in
+          subst (λ (k : ℕ). Leads per_fields (OpenChosen (alternatives_of (map branch_of more)) p) r (λ v. alternative (k + p) v) (Spelt per None (shape_of t)) us) (known_count root n en) first

@@ -1,6 +1,8 @@
 //! CANONICAL-PER UNALIGNED (X.691): encoding and decoding of whole messages.
 #![tactic(auto)]
 
+#[cfg(test)]
+mod composed_tests;
 mod alternatives;
 mod decoder;
 mod encoder;

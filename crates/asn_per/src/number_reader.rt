@@ -86,7 +86,7 @@ pub(crate) fn number_among(
 
 /// The number in the next `k` bits, where so many are left and it is one of the set; else all stay.
 #[inline(always)]
-fn take(k: u32, set: Numbers, bits: &mut BitCursor<'_>) -> Option<u64>
+pub(crate) fn take(k: u32, set: Numbers, bits: &mut BitCursor<'_>) -> Option<u64>
     requires { k ≤ 64 }
     ensures some { IfSome result (λ n. StandsFirst k (λ m. Admits set m) n bits.old bits.new) }
     ensures none { IsNone result → (n : ℕ) (rest : List ℕ) → StandsFirst k (λ m. Admits set m) n bits.old rest → ⊥ }

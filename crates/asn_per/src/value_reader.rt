@@ -1,10 +1,12 @@
 //! The reader of values.
-ghost use Rattle.std.specs.Prelude.{◌≡◌, ◌≤◌, ◌<◌, ◌+◌, ◌^◌, ◌/◌, ◌%◌, IfOk, IfErr, true, false, Some, None, map, length};
+ghost use Rattle.std.specs.Prelude.{◌≡◌, ◌≤◌, ◌<◌, ◌≤ℤ◌, ◌+◌, ◌^◌, ◌/◌, ◌%◌, IfOk, IfErr, IfSome, IsSome, IsNone, true, false, Some, None, map, length};
 ghost use Rattle.std.specs.Option.{option_map};
 ghost use Rattle.asn_values.specs.Shape.{sequence, closed};
+ghost use Rattle.asn_values.specs.Datum.{number};
+ghost use Rattle.asn_values.specs.Fits.{lowest_integer, highest_integer};
 ghost use Rattle.asn_values.specs.Profile.{InProfile, good_default};
 ghost use Rattle.asn_values.specs.Parts.{AreOfProfile, AreAllOfProfile, IsGoodDemand};
-ghost use Rattle.asn_values.specs.View.{shape_of, datum_of, fields_of, part_of_field, alternatives_of, branch_of};
+ghost use Rattle.asn_values.specs.View.{shape_of, datum_of, fields_of, part_of_field, size_range_of, alternatives_of, branch_of};
 ghost use Rattle.asn_bits.specs.Numbers.{bits};
 ghost use Rattle.asn_bits.specs.Sink.{bit_of};
 ghost use Rattle.asn_rules.specs.Components.{has_presence_bit};
@@ -15,13 +17,16 @@ ghost use Rattle.asn_rules.specs.Stops.{Stops};
 ghost use Rattle.asn_per.specs.Kinds.{OpenValues, Chosen, OpenChosen};
 ghost use Rattle.asn_per.specs.Per.{per, per_fields};
 ghost use Rattle.asn_per.specs.Rules.{per_ruling};
+ghost use Rattle.asn_per.specs.Kinds.{Sized};
+ghost use Rattle.asn_per.specs.ListsAhead.{IsSizeOfProfile};
 
 use crate::alternatives::{added_count, chosen};
 use crate::encoder::may_be_absent;
 use crate::indexes::{Index, read_index};
-use crate::integer_reader::{boolean, integer, power_of_two};
+use crate::integer_reader::{boolean, integer, power_of_two, take_between};
 use crate::items::enumerated;
 use crate::number_reader::{Numbers, bits_left, number, padding};
+use crate::size_reader::Rows;
 use crate::string_reader::{bit_string, octet_string, text, utf8_string};
 use asn_bits::BitCursor;
 use asn_rules::{Stop, Why};
@@ -45,21 +50,7 @@ pub(crate) fn read(alloc: Global, ty: &AsnType, bits: &mut BitCursor<'_>) -> Res
         AsnType::Octets(size) => Ok(Value::Octets(octet_string(alloc, size, bits)?)),
         AsnType::Text(kind, size) => Ok(Value::Text(text(alloc, *kind, size, bits)?)),
         AsnType::Utf8 => Ok(Value::Utf8(utf8_string(alloc, bits)?)),
-        AsnType::SeqOf(_, _) => unreachable!(),
-        AsnType::Choice { root, ext } => match read_index(root.len(), added_count(ext), bits)? {
-            Index::Root(place) => {
-                let value = read_alternative(alloc, root, place, bits)?;
-                Ok(chosen(alloc, place, value)?)
-            }
-            Index::Added(place) => {
-                let Some(additions) = ext else {
-                    unreachable!()
-                };
-                let value = read_added_alternative(alloc, additions, place, bits)?;
-                Ok(chosen(alloc, root.len() + place, value)?)
-            }
-        },
-        AsnType::Seq { root, .. } => {
+        AsnType::Seq { root } => {
             let count = bitmap_width(root);
             let set = Numbers {
                 low: 0,
@@ -68,6 +59,23 @@ pub(crate) fn read(alloc: Global, ty: &AsnType, bits: &mut BitCursor<'_>) -> Res
             };
             let bitmap = number(count, set, Why::Number, bits)?;
             Ok(Value::Seq(read_components(alloc, root, count, bitmap, bits)?))
+        }
+        AsnType::SeqOf(element, size) => Ok(Value::List(read_list(alloc, element, size, bits)?)),
+        AsnType::Choice { root, ext } => {
+            let known = root.len();
+            match read_index(known, added_count(ext), bits)? {
+                Index::Root(place) => {
+                    let value = read_alternative(alloc, root, place, bits)?;
+                    Ok(chosen(alloc, place, value)?)
+                }
+                Index::Added(place) => {
+                    let Some(additions) = ext else {
+                        unreachable!()
+                    };
+                    let value = read_added_alternative(alloc, additions, place, bits)?;
+                    Ok(chosen(alloc, known + place, value)?)
+                }
+            }
         }
     }
 }
@@ -179,12 +187,37 @@ fn read_components(
     let mut entries = Vec::with_capacity(alloc, fields.len())?;
     let mut left = count;
     for field in fields {
+        if let Some(whole) = take_bounded(field, cursor) {
+            entries.push_reserved(Some(Value::Int(whole)));
+            continue;
+        }
         let (present, below) = presence_of(field, bitmap, left);
         left = below;
         let entry = read_entry(alloc, field, present, cursor)?;
-        entries.push(entry)?;
+        entries.push_reserved(entry);
     }
     Ok(entries)
+}
+
+/// Takes the integer of a component that is always there and has two bounds and no extension mark, where
+/// its bits are at hand and it lies between them; else all bits stay.
+#[inline(always)]
+fn take_bounded(field: &Field, bits: &mut BitCursor<'_>) -> Option<i128>
+    requires of_profile { InProfile (part_of_field field.now).shape }
+    ensures must { IsSome result → has_presence_bit (part_of_field field.now).demand ≡ false }
+    ensures some { IfSome result (λ z. Spells per_fields (Entry per (part_of_field field.now).demand (part_of_field field.now).shape true) (Some (number z)) bits.old bits.new × (lowest_integer ≤ℤ z) × (z ≤ℤ highest_integer)) }
+    ensures none { IsNone result → bits.new ≡ bits.old }
+{
+    if may_be_absent(field) {
+        return None;
+    }
+    let AsnType::Int(bounds) = &field.ty else {
+        return None;
+    };
+    match (bounds.low, bounds.high) {
+        (Some(low), Some(high)) if !bounds.ext => take_between(low, high, bits),
+        _ => None,
+    }
 }
 
 /// Reads the entry of a component, of which `present` says whether it is there.
@@ -208,6 +241,32 @@ fn read_entry(
         Need::Default(default) => Ok(Some(read_other(&field.ty, default, bits)?)),
         Need::Must | Need::Optional => Ok(Some(read(alloc, &field.ty, bits)?)),
     }
+}
+
+/// Reads the elements of a SEQUENCE OF (X.691, "encoding the sequence-of type"). Room is made for no more of
+/// them than octets are left, however many a length announces.
+#[cycle(reader)]
+fn read_list(
+    alloc: Global,
+    element: &AsnType,
+    size: &Size,
+    cursor: &mut BitCursor<'_>,
+) -> Result<Vec<Value>, Stop>
+    requires of_profile { InProfile (shape_of element.now) }
+    requires size { IsSizeOfProfile (size_range_of size.now) }
+    ensures done { IfOk result (λ vs. Spells per_fields (Sized (size_range_of size.now) (Spelt per None (shape_of element.now))) (map datum_of vs.items) cursor.old cursor.new) }
+    ensures stop { IfErr result (λ why. Stops per_fields (Sized (size_range_of size.now) (Spelt per None (shape_of element.now))) cursor.old why) }
+{
+    let mut elements = Vec::new(alloc);
+    let mut rows = Rows::start(size, cursor)?;
+    while let Some(count) = rows.next(cursor)? {
+        elements.reserve(count.min(cursor.octets_left()))?;
+        for i in 0..count {
+            let value = read(alloc, element, cursor)?;
+            elements.push(value)?;
+        }
+    }
+    Ok(elements)
 }
 
 /// Reads a value of the type of a component with this DEFAULT, which is another one: an encoder leaves
@@ -270,7 +329,7 @@ fn presence_of(field: &Field, bitmap: u64, left: u32) -> (bool, u32)
 }
 
 /// How many presence bits the components have.
-fn bitmap_width(fields: &[Field]) -> u32
+pub(crate) fn bitmap_width(fields: &[Field]) -> u32
     requires { length fields.now ≤ 64 }
     ensures count { result ≡ bitmap_length (fields_of (map part_of_field fields.now)) }
     ensures few { result ≤ 64 }

@@ -1,24 +1,38 @@
-use Rattle.std.proofs.Common.{◌≡◌, ◌⊎◌, inl, inr, ◌∷◌, [], ◌++◌, ◌∙◌, true, false, List, map, Some, None, rules, sym, ap, ◌-◌, ◌<◌, ◌+◌, length, replicate, Option, Vec, Global, vec_len, ℕ, refl, arith}
+use Rattle.std.proofs.Common.{◌≡◌, ◌⊎◌, inl, inr, ◌∷◌, [], ◌++◌, ◌∙◌, true, false, List, map, Some, None, rules, refl, sym, ap, arith, ◌-◌, ◌<◌, ℕ, length, replicate, ◌+◌, Option, Vec, Global, vec_len}
 use Rattle.std.specs.Option.{option_map}
 use Rattle.std.proofs.lemmas.List.{map-append}
 use Rattle.std.proofs.lemmas.Result.{err_from_is_err_and, IfOk-weaker}
+use mir.Syntax.{w128}
+use mir.Val.{to_z, of_z}
+use Rattle.asn_bits.proofs.Above.{kept}
 use Rattle.asn_values.specs.declared.types.AsnType.{the_lemmas}
 use Rattle.asn_values.specs.declared.types.Alt.{Alt}
+use Rattle.asn_values.specs.declared.value.Value.TheVariants as value
+use Rattle.asn_values.specs.Datum.{number}
 use Rattle.asn_values.specs.declared.types.Field.{Field}
 use Rattle.asn_values.specs.declared.types.Need.{Need}
 use Rattle.asn_values.specs.declared.types.Need.TheVariants as needs
-use Rattle.asn_values.specs.Shape.{integer, enumerated}
+use Rattle.asn_values.specs.Shape.{integer, enumerated, sequence_of}
 use Rattle.asn_values.specs.View.{shape_of, datum_of, fields_of, part_of_field, range_of, size_range_of, alphabet_of, label_of, more_labels_of, demand_of}
-use Rattle.asn_values.proofs.Views.{shape_of-Int, shape_of-Bits, shape_of-Octets, shape_of-Text, shape_of-Utf8, datum_of-Bits, datum_of-Octets, datum_of-Text, datum_of-Seq, sequence_of_fields}
+use Rattle.asn_values.proofs.Views.{shape_of-Int, shape_of-Bits, shape_of-Octets, shape_of-Text, shape_of-Utf8, datum_of-Bits, datum_of-Octets, datum_of-Text, datum_of-Seq, sequence_of_fields, list_of_elements, datum_of-List}
 use Rattle.asn_rules.specs.Listed.{bitmap_length, default_of, Spelt}
 use Rattle.asn_rules.proofs.Leads.{stops_by}
-use Rattle.asn_rules.proofs.Listed.{spelt_inhabited}
+use Rattle.asn_rules.proofs.Listed.{spelt_inhabited, spelt_lawful}
 use Rattle.asn_rules.proofs.ListedReading.{nothing_read}
 use Rattle.asn_per.specs.Per.{per, per_fields, filling}
-use Rattle.asn_per.proofs.ComponentsRead.{next_part, no_part, bit_there, next_either, read_ends, demand_of_part, entry_leads, parts_good, bitmap_stops_at, components_at}
+use Rattle.asn_per.proofs.ComponentsRead.{next_part, no_part, bit_there, next_must, next_either, read_ends, demand_of_part, entry_leads, datum_of-Int, parts_good, bitmap_stops_at, components_at}
 use Rattle.asn_per.proofs.EnumeratedTypes.{enumerated_of_items}
 use Rattle.asn_per.proofs.StringReading.{bits_size, octets_size, text_size, bits_lead, octets_lead, text_leads, utf8_leads}
 use Rattle.asn_per.proofs.Sequences.{few_components}
+use Rattle.asn_per.specs.ListsAhead.{Next}
+use Rattle.asn_per.specs.RowsAhead.{ahead_of}
+use Rattle.asn_per.specs.Reading.{Appends}
+use Rattle.asn_per.proofs.Appending.{appends_more, appends_one}
+use Rattle.asn_per.proofs.ListsAhead.{start_stops, going_starts, going_stops, going_further, going_ends}
+use Rattle.asn_per.proofs.ListReading.{going_next_stops, list_size, list_leads}
+use Rattle.asn_per.proofs.Whole.{per_parts}
+use Rattle.asn_values.specs.Profile.{InProfile}
+use Rattle.asn_values.proofs.InnerTypes.{element_of_profile}
 use Rattle.asn_per.proofs.value_reader.+reader.Goals as goal
 use Rattle.asn_per.proofs.Messages.{value_stops, zeros_behind, eight_zeros, zeros_of_octet}
 use Rattle.asn_rules.specs.Languages.{Spells}
@@ -29,7 +43,8 @@ use Rattle.asn_per.specs.declared.indexes.Index.{Index}
 use Rattle.asn_per.specs.declared.indexes.Index.TheVariants as an_index
 use Rattle.asn_per.specs.Indexes.{IsIndexWithin, index_at}
 use Rattle.asn_per.proofs.Exits.{if_err_weaker}
-use Rattle.asn_per.proofs.ChoiceReading.{good_at, leads_at_place, open_leads_at_place, some_root, few_root, few_all, roots_good, additions_good, choice_stops, root_value_leads, added_value_leads}
+use Rattle.asn_per.proofs.ChoiceTypes.{good_at, some_root, few_root, few_all, roots_good, additions_good, added_inside}
+use Rattle.asn_per.proofs.ChoiceReading.{leads_at_place, open_leads_at_place, choice_stops, root_value_leads, added_value_leads}
 
 pub read-integer-requires-clause-some : goal.read-integer-requires-clause-some
 read-integer-requires-clause-some t c = spelt_inhabited per (integer (range_of c.in-Int.bounds)) (rw (c.in-Int.is, shape_of-Int) at c.requires.of_profile)
@@ -125,26 +140,46 @@ read-returns-in_ok-read_components-in-Seq-clause-done t c =
 
 pub read_components-presence_of-present-requires-clause-there : goal.read_components-presence_of-present-requires-clause-there
 read_components-presence_of-present-requires-clause-there t c =
-    let h = rw (next_part c.args.fields.now c.loop-field.field-index c.field-item.result c.loop-field-test.true c.field-item.is) at c.loop-field.invariant in
+    let h = rw (next_part c.args.fields.now c.loop-field.field-index c.field-item.result c.loop-field-test.true c.field-item.is) at c.loop-field.invariant.0 in
     λ e. bit_there h e
+
+pub read_components-loop-field-preserved-in-Some : goal.read_components-loop-field-preserved-in-Some
+read_components-loop-field-preserved-in-Some t c =
+    let h = rw (next_part c.args.fields.now c.loop-field.field-index c.field-item.result c.loop-field-test.true c.field-item.is) at c.loop-field.invariant.0 in
+    let n = next_must h (c.in-Some.ensures.must refl) in
+    let z = c.in-Some.whole in
+    let taken = c.in-Some.ensures.some in
+    let same : to_z w128 (of_z w128 z) ≡ z = kept z taken.1 taken.2 in
+    let items : map (option_map datum_of) c.push_reserved.new.self.items ≡ map (option_map datum_of) c.loop-field.entries.items ++ Some (number z) ∷ [] =
+    ap (map (option_map datum_of)) (rw same at c.push_reserved.ensures.items) ∙ map-append (option_map datum_of) c.loop-field.entries.items (Some (value.Int z) ∷ []) ∙ ap (λ d. map (option_map datum_of) c.loop-field.entries.items ++ Some d ∷ []) (datum_of-Int z) in (
+      rw items (n.more (Some (number z)) c.take_bounded.new.bits taken.0),
+      omega (arith, c.push_reserved.ensures.len, c.loop-field.invariant.1),
+      rw c.push_reserved.ensures.capacity c.loop-field.invariant.2,
+    )
 
 pub read_components-returns-in_err-entry-clause-stop : goal.read_components-returns-in_err-entry-clause-stop
 read_components-returns-in_err-entry-clause-stop t c =
-    let h = rw (next_part c.args.fields.now c.loop-field.field-index c.field-item.result c.loop-field-test.true c.field-item.is) at c.loop-field.invariant in
+    let h = rw (next_part c.args.fields.now c.loop-field.field-index c.field-item.result c.loop-field-test.true c.field-item.is) at c.loop-field.invariant.0 in
     let n = next_either h c.presence_of-present.result.0 c.presence_of-present.result.1 c.presence_of-present.ensures.must c.presence_of-present.ensures.bit in
     let p = err_from_is_err_and c.from_residual-in_err-entry.result c.from_residual-in_err-entry.ensures.1 in
-    rw (p.1, p.2) (stops_by _ n.stops c.in_err-entry.ensures.stop)
+    let still : c.take_bounded.new.bits ≡ c.loop-field.cursor = c.in_default.ensures.none refl in
+    rw (p.1, p.2) (stops_by _ n.stops (rw still at c.in_err-entry.ensures.stop))
 
 pub read_components-loop-field-preserved : goal.read_components-loop-field-preserved
 read_components-loop-field-preserved t c =
-    let h = rw (next_part c.args.fields.now c.loop-field.field-index c.field-item.result c.loop-field-test.true c.field-item.is) at c.loop-field.invariant in
+    let h = rw (next_part c.args.fields.now c.loop-field.field-index c.field-item.result c.loop-field-test.true c.field-item.is) at c.loop-field.invariant.0 in
     let n = next_either h c.presence_of-present.result.0 c.presence_of-present.result.1 c.presence_of-present.ensures.must c.presence_of-present.ensures.bit in
-    let items : map (option_map datum_of) c.push.new.self.items ≡ map (option_map datum_of) c.loop-field.entries.items ++ option_map datum_of c.in_ok-entry.entry ∷ [] =
-    ap (map (option_map datum_of)) c.in_ok-push.ensures.items ∙ map-append (option_map datum_of) c.loop-field.entries.items (c.in_ok-entry.entry ∷ []) in
-    rw items (n.more (option_map datum_of c.in_ok-entry.entry) c.read_entry.new.bits c.in_ok-entry.ensures.done)
+    let still : c.take_bounded.new.bits ≡ c.loop-field.cursor = c.in_default.ensures.none refl in
+    let pushed = c.push_reserved-in-loop-field.ensures in
+    let items : map (option_map datum_of) c.push_reserved-in-loop-field.new.self.items ≡ map (option_map datum_of) c.loop-field.entries.items ++ option_map datum_of c.in_ok-entry.entry ∷ [] =
+    ap (map (option_map datum_of)) pushed.items ∙ map-append (option_map datum_of) c.loop-field.entries.items (c.in_ok-entry.entry ∷ []) in (
+      rw items (n.more (option_map datum_of c.in_ok-entry.entry) c.read_entry.new.bits (rw still at c.in_ok-entry.ensures.done)),
+      omega (arith, pushed.len, c.loop-field.invariant.1),
+      rw pushed.capacity c.loop-field.invariant.2,
+    )
 
 pub read_components-returns-clause-done : goal.read_components-returns-clause-done
-read_components-returns-clause-done t c = read_ends c.loop-field.invariant (no_part c.args.fields.now c.loop-field.field-index c.loop-field-test.false)
+read_components-returns-clause-done t c = read_ends c.loop-field.invariant.0 (no_part c.args.fields.now c.loop-field.field-index c.loop-field-test.false)
 
 pub read_entry-returns-then-not-present-clause-done : goal.read_entry-returns-then-not-present-clause-done
 read_entry-returns-then-not-present-clause-done t c =
@@ -242,71 +277,126 @@ read_open_field-returns-in-Err-Refused-clause-stop t c =
     let told = none_held (shape_of c.args.ty.now) c.requires.of_profile c.in-Err-Refused.field-0 (λ e. cc) c.in_ok-octets.ensures.done stopped in
     rw c.bits_left.ensures.count (record { told = told })
 
--- ---- CHOICE
+pub read-read_list-requires : goal.read-read_list-requires
+read-read_list-requires t c =
+    let element = shape_of c.deref-in-SeqOf.result.now in
+    let s = size_range_of c.in-SeqOf.size in
+    let is = list_of_elements c.args.ty.now c.deref-in-SeqOf.result.now c.in-SeqOf.element c.in-SeqOf.size c.in-SeqOf.is c.deref-in-SeqOf.ensures in
+    let good : InProfile (sequence_of element s) = rw is at c.requires.of_profile in
+    (search (rules, the_lemmas), (element_of_profile element s good, list_size element s good))
+
+pub read-returns-in_err-read_list-in-SeqOf-clause-stop : goal.read-returns-in_err-read_list-in-SeqOf-clause-stop
+read-returns-in_err-read_list-in-SeqOf-clause-stop t c =
+    let element = shape_of c.deref-in-SeqOf.result.now in
+    let s = size_range_of c.in-SeqOf.size in
+    let is = list_of_elements c.args.ty.now c.deref-in-SeqOf.result.now c.in-SeqOf.element c.in-SeqOf.size c.in-SeqOf.is c.deref-in-SeqOf.ensures in
+    let good : InProfile (sequence_of element s) = rw is at c.requires.of_profile in
+    let p = err_from_is_err_and c.from_residual-in_err-read_list-in-SeqOf.result c.from_residual-in_err-read_list-in-SeqOf.ensures.1 in
+    rw (p.1, p.2, is) (stops_by _ (list_leads element s c.args.bits.now good).stops c.in_err-read_list-in-SeqOf.ensures.stop)
+
+pub read-returns-in_ok-read_list-in-SeqOf-clause-done : goal.read-returns-in_ok-read_list-in-SeqOf-clause-done
+read-returns-in_ok-read_list-in-SeqOf-clause-done t c =
+    let element = shape_of c.deref-in-SeqOf.result.now in
+    let s = size_range_of c.in-SeqOf.size in
+    let is = list_of_elements c.args.ty.now c.deref-in-SeqOf.result.now c.in-SeqOf.element c.in-SeqOf.size c.in-SeqOf.is c.deref-in-SeqOf.ensures in
+    let good : InProfile (sequence_of element s) = rw is at c.requires.of_profile in
+    let values = c.in_ok-read_list-in-SeqOf.field-0 in
+    rw (is, datum_of-List values) ((list_leads element s c.args.bits.now good).done (map datum_of values.items) c.read_list.new.cursor c.in_ok-read_list-in-SeqOf.ensures.done)
+
+pub read_list-returns-in_err-rows-clause-stop : goal.read_list-returns-in_err-rows-clause-stop
+read_list-returns-in_err-rows-clause-stop t c =
+    let element = shape_of c.args.element.now in
+    let p = err_from_is_err_and c.from_residual.result c.from_residual.ensures.1 in
+    rw (p.1, p.2) (stops_by _ (start_stops (Spelt per None element) (size_range_of c.args.size.now) c.args.cursor.now c.requires.size (spelt_inhabited per element c.requires.of_profile)) c.in_err-rows.ensures.stop)
+
+pub read_list-loop-elements-init : goal.read_list-loop-elements-init
+read_list-loop-elements-init t c =
+    (rw c.new-elements.ensures.items (going_starts (Spelt per None (shape_of c.args.element.now)) (size_range_of c.args.size.now) c.requires.size c.in_ok-rows.ensures.done), c.in_ok-rows.ensures.between)
+
+pub read_list-returns-in_err-count-clause-stop : goal.read_list-returns-in_err-count-clause-stop
+read_list-returns-in_err-count-clause-stop t c =
+    let p = err_from_is_err_and c.from_residual-in_err-count.result c.from_residual-in_err-count.ensures.1 in
+    rw (p.1, p.2) (going_stops _ (spelt_inhabited per (shape_of c.args.element.now) c.requires.of_profile) c.in_err-count.ensures.stop c.loop-elements.invariant.0)
+
+pub read_list-loop-elements-preserved : goal.read_list-loop-elements-preserved
+read_list-loop-elements-preserved t c =
+    let element = shape_of c.args.element.now in
+    let next : Next (ahead_of c.loop-elements.rows) (Some c.in-Some.count) (ahead_of c.next.new.self) c.loop-elements.cursor c.next.new.bits = rw c.in-Some.is at c.in_ok-count.ensures.done in
+    let all : c.loop-i.i ≡ c.in-Some.count = omega (arith, c.loop-i-test.false, c.loop-i.auto.i-end) in
+    let come : Appends (Spelt per None element) c.in-Some.count (map datum_of c.loop-elements.elements.items) (map datum_of c.loop-i.elements.items) c.next.new.bits c.loop-i.cursor = rw (all, c.in_ok-reserve.ensures.items) at c.loop-i.invariant in
+    (going_further (spelt_inhabited per element c.requires.of_profile) (spelt_lawful per per_parts None element c.requires.of_profile) next come c.loop-elements.invariant.0, c.in_ok-count.ensures.between)
+
+pub read_list-returns-in_err-value-clause-stop : goal.read_list-returns-in_err-value-clause-stop
+read_list-returns-in_err-value-clause-stop t c =
+    let element = shape_of c.args.element.now in
+    let next : Next (ahead_of c.loop-elements.rows) (Some c.in-Some.count) (ahead_of c.next.new.self) c.loop-elements.cursor c.next.new.bits = rw c.in-Some.is at c.in_ok-count.ensures.done in
+    let come : Appends (Spelt per None element) c.loop-i.i (map datum_of c.loop-elements.elements.items) (map datum_of c.loop-i.elements.items) c.next.new.bits c.loop-i.cursor = rw c.in_ok-reserve.ensures.items at c.loop-i.invariant in
+    let p = err_from_is_err_and c.from_residual-in_err-value.result c.from_residual-in_err-value.ensures.1 in
+    rw (p.1, p.2)
+    (stops_by _ (going_next_stops c.loop-i.i c.in-Some.count (spelt_inhabited per element c.requires.of_profile) (spelt_lawful per per_parts None element c.requires.of_profile) (omega (arith, c.loop-i-test.true)) next come c.loop-elements.invariant.0) c.in_err-value.ensures.stop)
+
+pub read_list-loop-i-preserved : goal.read_list-loop-i-preserved
+read_list-loop-i-preserved t c =
+    let items : map datum_of c.push.new.self.items ≡ map datum_of c.loop-i.elements.items ++ datum_of c.in_ok-value.value ∷ [] =
+    ap (map datum_of) c.in_ok-push.ensures.items ∙ map-append datum_of c.loop-i.elements.items (c.in_ok-value.value ∷ []) in
+    appends_more c.loop-i.i 1 (c.loop-i.i + 1) refl c.loop-i.invariant (appends_one items c.in_ok-value.ensures.done)
+
+pub read_list-returns-clause-done : goal.read_list-returns-clause-done
+read_list-returns-clause-done t c =
+    let next : Next (ahead_of c.loop-elements.rows) None (ahead_of c.next.new.self) c.loop-elements.cursor c.next.new.bits = rw c.in_default.is at c.in_ok-count.ensures.done in
+    going_ends next c.loop-elements.invariant.0
+
+-- ---- place-in-ChoiceOICE
 
 pub read-read_index-requires : goal.read-read_index-requires
-read-read_index-requires t c =
-    let some = some_root c.args.ty.now c.in-Choice.root c.in-Choice.ext c.in-Choice.root.items c.in-Choice.is refl c.requires.of_profile in
-    record { some = rw c.len.ensures some }
+read-read_index-requires t c = record { some = some_root c.args.ty.now c.in-Choice.root c.in-Choice.ext c.in-Choice.is c.requires.of_profile c.len-known.result c.len-known.ensures }
 
 pub read-returns-in_err-place-in-Choice-clause-stop : goal.read-returns-in_err-place-in-Choice-clause-stop
 read-returns-in_err-place-in-Choice-clause-stop t c =
     let p = err_from_is_err_and c.from_residual-in_err-place-in-Choice.result c.from_residual-in_err-place-in-Choice.ensures.1 in
-    let stops = choice_stops c.args.ty.now c.in-Choice.root c.in-Choice.ext c.in-Choice.root.items c.in-Choice.is refl c.requires.of_profile c.len.result c.added_count.result c.len.ensures c.added_count.ensures c.args.bits.now in
-    rw (p.1, p.2) (stops_by _ stops c.in_err-place-in-Choice.ensures.stop)
+    rw (p.1, p.2) (stops_by _ (choice_stops c.args.ty.now c.in-Choice.root c.in-Choice.ext c.in-Choice.is c.requires.of_profile c.len-known.result c.len-known.ensures c.added_count.result c.added_count.ensures c.args.bits.now) c.in_err-place-in-Choice.ensures.stop)
 
 pub read-read_alternative-requires : goal.read-read_alternative-requires
 read-read_alternative-requires t c =
-    let inside : c.in-Root.place < c.len.result = rw c.in-Root.is at c.in_ok-place-in-Choice.ensures.within in
-    let all = roots_good c.args.ty.now c.in-Choice.root c.in-Choice.ext c.deref-in-Root.result.now c.in-Choice.is c.deref-in-Root.ensures.value c.requires.of_profile in
-    (search (rules, the_lemmas), (all, omega (arith, inside, c.len.ensures, c.deref-in-Root.ensures.len)))
+    let inside : c.in-Root.place < c.len-known.result = rw c.in-Root.is at c.in_ok-place-in-Choice.ensures.within in
+    (search (rules, the_lemmas), (roots_good c.args.ty.now c.in-Choice.root c.in-Choice.ext c.in-Choice.is c.requires.of_profile c.deref-in-Root.result.now c.deref-in-Root.ensures.value, omega (arith, inside, c.len-known.ensures, c.deref-in-Root.ensures.len)))
 
 pub read-returns-in_err-value-in-Root-clause-stop : goal.read-returns-in_err-value-in-Root-clause-stop
 read-returns-in_err-value-in-Root-clause-stop t c =
     let p = err_from_is_err_and c.from_residual-in_err-value-in-Root.result c.from_residual-in_err-value-in-Root.ensures.1 in
-    let count : c.len.result ≡ length c.deref-in-Root.result.now = c.len.ensures ∙ sym c.deref-in-Root.ensures.len in
-    let lead = root_value_leads c.args.ty.now c.in-Choice.root c.in-Choice.ext c.deref-in-Root.result.now c.in-Choice.is c.deref-in-Root.ensures.value c.requires.of_profile c.len.result c.added_count.result count c.added_count.ensures c.args.bits.now c.in_ok-place-in-Choice.field-0 c.in-Root.place c.read_index.new.bits c.in_ok-place-in-Choice.ensures.done c.in-Root.is in
+    let lead = root_value_leads c.args.ty.now c.in-Choice.root c.in-Choice.ext c.in-Choice.is c.requires.of_profile c.len-known.result c.len-known.ensures c.added_count.result c.added_count.ensures c.args.bits.now c.in_ok-place-in-Choice.field-0 c.in-Root.place c.read_index.new.bits c.in_ok-place-in-Choice.ensures.done c.deref-in-Root.result.now c.deref-in-Root.ensures.value c.in-Root.is in
     rw (p.1, p.2) (stops_by _ lead.stops c.in_err-value-in-Root.ensures.stop)
 
 pub read-chosen-requires : goal.read-chosen-requires
 read-chosen-requires t c =
-    let inside : c.in-Root.place < c.len.result = rw c.in-Root.is at c.in_ok-place-in-Choice.ensures.within in
-    let few = few_root c.args.ty.now c.in-Choice.root c.in-Choice.ext c.deref-in-Root.result.now c.in-Choice.is c.deref-in-Root.ensures.value c.requires.of_profile in
-    omega (arith, inside, few, c.len.ensures, c.deref-in-Root.ensures.len)
+    let inside : c.in-Root.place < c.len-known.result = rw c.in-Root.is at c.in_ok-place-in-Choice.ensures.within in
+    omega (arith, inside, few_root c.args.ty.now c.in-Choice.root c.in-Choice.ext c.in-Choice.is c.requires.of_profile c.len-known.result c.len-known.ensures)
 
 pub read-returns-in_ok-chosen-in-Root-clause-done : goal.read-returns-in_ok-chosen-in-Root-clause-done
 read-returns-in_ok-chosen-in-Root-clause-done t c =
-    let count : c.len.result ≡ length c.deref-in-Root.result.now = c.len.ensures ∙ sym c.deref-in-Root.ensures.len in
-    let lead = root_value_leads c.args.ty.now c.in-Choice.root c.in-Choice.ext c.deref-in-Root.result.now c.in-Choice.is c.deref-in-Root.ensures.value c.requires.of_profile c.len.result c.added_count.result count c.added_count.ensures c.args.bits.now c.in_ok-place-in-Choice.field-0 c.in-Root.place c.read_index.new.bits c.in_ok-place-in-Choice.ensures.done c.in-Root.is in
+    let lead = root_value_leads c.args.ty.now c.in-Choice.root c.in-Choice.ext c.in-Choice.is c.requires.of_profile c.len-known.result c.len-known.ensures c.added_count.result c.added_count.ensures c.args.bits.now c.in_ok-place-in-Choice.field-0 c.in-Root.place c.read_index.new.bits c.in_ok-place-in-Choice.ensures.done c.deref-in-Root.result.now c.deref-in-Root.ensures.value c.in-Root.is in
     rw c.in_ok-chosen-in-Root.ensures (lead.done (datum_of c.in_ok-value-in-Root.value) c.read_alternative.new.bits c.in_ok-value-in-Root.ensures.done)
-
--- an index of an addition is one of so many
-added_inside : (n : ℕ) (m : Option ℕ) (ext : Option (Vec Alt Global)) (additions : Vec Alt Global) (i : Index) (p : ℕ) → m ≡ option_map vec_len ext → ext ≡ Some additions → i ≡ an_index.Added p → IsIndexWithin n m (index_at i) → p < vec_len additions
-added_inside n m ext additions i p e f g h = rw (e, f, g) at h
 
 pub read-read_added_alternative-requires : goal.read-read_added_alternative-requires
 read-read_added_alternative-requires t c =
-    let inside = added_inside c.len.result c.added_count.result c.in-Choice.ext c.in-Some.additions c.in_ok-place-in-Choice.field-0 c.in-Added.place c.added_count.ensures c.in-Some.is c.in-Added.is c.in_ok-place-in-Choice.ensures.within in
-    let all = additions_good c.args.ty.now c.in-Choice.root c.in-Choice.ext c.in-Choice.root.items c.in-Choice.is refl c.requires.of_profile c.in-Some.additions c.deref-in-Added.result.now c.in-Some.is c.deref-in-Added.ensures.value in
-    (search (rules, the_lemmas), (all, rw c.deref-in-Added.ensures.len inside))
+    let inside = added_inside c.len-known.result c.added_count.result c.in-Choice.ext c.in-Some.additions c.in_ok-place-in-Choice.field-0 c.in-Added.place c.added_count.ensures c.in-Some.is c.in-Added.is c.in_ok-place-in-Choice.ensures.within in
+    (search (rules, the_lemmas), (additions_good c.args.ty.now c.in-Choice.root c.in-Choice.ext c.in-Choice.is c.requires.of_profile c.in-Some.additions c.deref-in-Added.result.now c.in-Some.is c.deref-in-Added.ensures.value, rw c.deref-in-Added.ensures.len inside))
 
 pub read-returns-in_err-value-in-Added-clause-stop : goal.read-returns-in_err-value-in-Added-clause-stop
 read-returns-in_err-value-in-Added-clause-stop t c =
     let p = err_from_is_err_and c.from_residual-in_err-value-in-Added.result c.from_residual-in_err-value-in-Added.ensures.1 in
-    let lead = added_value_leads c.args.ty.now c.in-Choice.root c.in-Choice.ext c.in-Choice.root.items c.in-Choice.is refl c.requires.of_profile c.len.result c.added_count.result c.len.ensures c.added_count.ensures c.args.bits.now c.in_ok-place-in-Choice.field-0 c.in-Added.place c.read_index.new.bits c.in_ok-place-in-Choice.ensures.done c.in-Some.additions c.deref-in-Added.result.now c.in-Some.is c.deref-in-Added.ensures.value c.in-Added.is in
+    let lead = added_value_leads c.args.ty.now c.in-Choice.root c.in-Choice.ext c.in-Choice.is c.requires.of_profile c.len-known.result c.len-known.ensures c.added_count.result c.added_count.ensures c.args.bits.now c.in_ok-place-in-Choice.field-0 c.in-Added.place c.read_index.new.bits c.in_ok-place-in-Choice.ensures.done c.in-Some.additions c.deref-in-Added.result.now c.in-Some.is c.deref-in-Added.ensures.value c.in-Added.is in
     rw (p.1, p.2) (stops_by _ lead.stops c.in_err-value-in-Added.ensures.stop)
 
 pub read-chosen-requires-in-Added : goal.read-chosen-requires-in-Added
 read-chosen-requires-in-Added t c =
-    let inside = added_inside c.len.result c.added_count.result c.in-Choice.ext c.in-Some.additions c.in_ok-place-in-Choice.field-0 c.in-Added.place c.added_count.ensures c.in-Some.is c.in-Added.is c.in_ok-place-in-Choice.ensures.within in
-    let few = few_all c.args.ty.now c.in-Choice.root c.in-Choice.ext c.in-Choice.root.items c.in-Choice.is refl c.requires.of_profile c.in-Some.additions c.deref-in-Added.result.now c.in-Some.is c.deref-in-Added.ensures.value in
-    omega (arith, inside, few, c.len-in-Added.ensures, c.deref-in-Added.ensures.len)
+    let inside = added_inside c.len-known.result c.added_count.result c.in-Choice.ext c.in-Some.additions c.in_ok-place-in-Choice.field-0 c.in-Added.place c.added_count.ensures c.in-Some.is c.in-Added.is c.in_ok-place-in-Choice.ensures.within in
+    omega (arith, inside, few_all c.args.ty.now c.in-Choice.root c.in-Choice.ext c.in-Choice.is c.requires.of_profile c.len-known.result c.len-known.ensures c.in-Some.additions c.in-Some.is)
 
 pub read-returns-in_ok-chosen-in-Added-clause-done : goal.read-returns-in_ok-chosen-in-Added-clause-done
 read-returns-in_ok-chosen-in-Added-clause-done t c =
-    let lead = added_value_leads c.args.ty.now c.in-Choice.root c.in-Choice.ext c.in-Choice.root.items c.in-Choice.is refl c.requires.of_profile c.len.result c.added_count.result c.len.ensures c.added_count.ensures c.args.bits.now c.in_ok-place-in-Choice.field-0 c.in-Added.place c.read_index.new.bits c.in_ok-place-in-Choice.ensures.done c.in-Some.additions c.deref-in-Added.result.now c.in-Some.is c.deref-in-Added.ensures.value c.in-Added.is in
-    let count : c.len-in-Added.result ≡ c.len.result = c.len-in-Added.ensures ∙ sym c.len.ensures in
-    rw (c.in_ok-chosen-in-Added.ensures, count) (lead.done (datum_of c.in_ok-value-in-Added.value) c.read_added_alternative.new.bits c.in_ok-value-in-Added.ensures.done)
+    let lead = added_value_leads c.args.ty.now c.in-Choice.root c.in-Choice.ext c.in-Choice.is c.requires.of_profile c.len-known.result c.len-known.ensures c.added_count.result c.added_count.ensures c.args.bits.now c.in_ok-place-in-Choice.field-0 c.in-Added.place c.read_index.new.bits c.in_ok-place-in-Choice.ensures.done c.in-Some.additions c.deref-in-Added.result.now c.in-Some.is c.deref-in-Added.ensures.value c.in-Added.is in
+    rw c.in_ok-chosen-in-Added.ensures (lead.done (datum_of c.in_ok-value-in-Added.value) c.read_added_alternative.new.bits c.in_ok-value-in-Added.ensures.done)
 
 pub read_alternative-read-requires : goal.read_alternative-read-requires
 read_alternative-read-requires t c =

@@ -2,7 +2,7 @@ use Rattle.std.proofs.Common.{map}
 use Rattle.std.specs.Option.{option_map}
 use Rattle.asn_values.specs.View.{datum_of, part_of_field}
 use Rattle.asn_per.proofs.Writing.{Bitmap}
-use Rattle.asn_per.proofs.encoder.presence_bitmap.Given as goal
+use Rattle.asn_per.proofs.encoder.gathered_bits.Given as goal
 
 abbrev pub invariant-loop-field : goal.invariant-loop-field
 invariant-loop-field l =

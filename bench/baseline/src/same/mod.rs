@@ -1,0 +1,5 @@
+//! The messages by hand, as values of the kinds that the proved crates have: each module knows one type, and
+//! its ranges, widths and places are constants.
+pub mod small;
+pub mod strings;
+pub mod wide;

@@ -27,7 +27,6 @@ use crate::string_writer::{
     BLOCK, push_count, push_extension_bit, write_bit_string, write_octet_string, write_text,
     write_utf8,
 };
-use crate::value_reader::bitmap_width;
 use asn_bits::BitSink;
 use asn_bits::numbers::width;
 use asn_bits::offsets::above;
@@ -265,26 +264,11 @@ fn presence_bitmap(fields: &[Field], entries: &[Option<Value>]) -> (u32, u64)
     ensures bitmap { bits result.0 result.1
         ≡ presence (demands (fields_of (map part_of_field fields.now))) (map (option_map datum_of) entries.now) }
 {
-    if bitmap_width(fields) == 0 {
-        return (0, 0);
-    }
-    gathered_bits(fields, entries)
-}
-
-/// The same, from each component in turn.
-fn gathered_bits(fields: &[Field], entries: &[Option<Value>]) -> (u32, u64)
-    requires of_profile { AreOfProfile (fields_of (map part_of_field fields.now)) }
-    requires of_type { FitsEach (fields_of (map part_of_field fields.now)) (map (option_map datum_of) entries.now) }
-    requires few { length fields.now ≤ 64 }
-    ensures count { result.0 ≤ 64 }
-    ensures within { result.1 < 2 ^ result.0 }
-    ensures bitmap { bits result.0 result.1
-        ≡ presence (demands (fields_of (map part_of_field fields.now))) (map (option_map datum_of) entries.now) }
-{
     let mut count = 0;
     let mut bitmap = 0;
-    for (field, entry) in fields.iter().zip(entries) {
+    for (place, field) in fields.iter().enumerate() {
         if may_be_absent(field) {
+            let entry = &entries[place];
             count += 1;
             bitmap = 2 * bitmap + u64::from(is_encoded(field, entry));
         }

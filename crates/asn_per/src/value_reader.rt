@@ -329,7 +329,7 @@ fn presence_of(field: &Field, bitmap: u64, left: u32) -> (bool, u32)
 }
 
 /// How many presence bits the components have.
-pub(crate) fn bitmap_width(fields: &[Field]) -> u32
+fn bitmap_width(fields: &[Field]) -> u32
     requires { length fields.now ≤ 64 }
     ensures count { result ≡ bitmap_length (fields_of (map part_of_field fields.now)) }
     ensures few { result ≤ 64 }

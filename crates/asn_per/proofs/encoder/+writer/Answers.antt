@@ -15,7 +15,7 @@ use Rattle.asn_bits.proofs.Above.{kept}
 use Rattle.asn_rules.specs.Components.{is_spelled, any_present}
 use Rattle.asn_per.specs.Laws.{per_bits}
 use Rattle.asn_per.proofs.ComponentsRead.{datum_of-Int, demand_of_part}
-use Rattle.asn_per.proofs.Sequences.{of_sequence, parts_of_profile, entries_fit, sequence_written, few_components, count_of_fields, enough_entries, ours_fit, theirs_fit, marked_fields, added_of_profile, added_optional, few_added}
+use Rattle.asn_per.proofs.Sequences.{of_sequence, parts_of_profile, entries_fit, few_components, count_of_fields, enough_entries, ours_fit, theirs_fit, marked_fields, added_of_profile, added_optional, few_added}
 use Rattle.asn_rules.specs.Chunks.{flat}
 use Rattle.asn_per.specs.Per.{spelled, per, sized}
 use Rattle.asn_per.proofs.Completing.{Topped, completed}
@@ -58,9 +58,9 @@ write_components-loop-field-preserved-in-Must-1 t c =
     written_more h spelt
     (rw same at c.in_ok-write_integer.ensures ∙ ap (λ (t : Shape). c.loop-field.sink ++ per_bits t (number i.whole)) (sym shape))
 
-pub write_components-loop-field-preserved-in-Continue-branch-2 :
-    goal.write_components-loop-field-preserved-in-Continue-branch-2
-write_components-loop-field-preserved-in-Continue-branch-2 t c =
+pub write_components-loop-field-preserved-in-Continue-branch-3 :
+    goal.write_components-loop-field-preserved-in-Continue-branch-3
+write_components-loop-field-preserved-in-Continue-branch-3 t c =
     let e : c.loop-field.field-iterator.a.rest.now ≡ c.in-Some.field.now ∷ c.next.new.self.a.rest.now = c.in-Some.ensures.steps.0 in
     let f : c.loop-field.field-iterator.b.rest.now ≡ c.in-Some.entry.now ∷ c.next.new.self.b.rest.now = c.in-Some.ensures.steps.1 in
     let some : option_map datum_of c.in-Some.entry.now ≡ Some (datum_of c.in-Some-entry.value) = ap (option_map datum_of) c.in-Some-entry.is in

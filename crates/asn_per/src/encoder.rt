@@ -18,7 +18,6 @@ ghost use Rattle.asn_per.specs.Per.{ranged, per, per_alternative, spelled, an_op
 ghost use Rattle.asn_per.specs.Rules.{per_ruling, IsPerEncoding};
 ghost use Rattle.asn_per.specs.Laws.{per_bits};
 ghost use Rattle.asn_per.specs.Additions.{AreOptional, root_bits, addition_bits};
-
 ghost use Rattle.asn_per.specs.StringItems.{row_bits};
 
 use crate::indexes::{Index, write_index};
@@ -141,6 +140,7 @@ fn write(alloc: Global, ty: &AsnType, value: &Value, sink: &mut BitSink) -> Resu
             };
             write_utf8(text.as_bytes(), sink)
         }
+        AsnType::Choice { .. } => unreachable!(),
         AsnType::Seq { root, ext } => {
             let Value::Seq(entries) = value else {
                 unreachable!()

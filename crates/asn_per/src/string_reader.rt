@@ -11,7 +11,7 @@ ghost use Rattle.asn_per.specs.ListsAhead.{IsSizeOfProfile};
 
 use crate::number_reader::bits_left;
 use crate::row_reader::{append_bits, append_characters, append_octets};
-use crate::size_reader::Rows;
+use crate::size_reader::{Rows, bounded_count};
 use asn_bits::BitCursor;
 use asn_rules::{Stop, Why};
 use asn_values::{Size, TextKind};
@@ -41,6 +41,20 @@ pub(crate) fn octet_string(
     size: &Size,
     cursor: &mut BitCursor<'_>,
 ) -> Result<Vec<u8>, Stop>
+    requires of_profile { IsSizeOfProfile (size_range_of size.now) }
+    ensures done { IfOk result (λ os. Spells per_fields (Sized (size_range_of size.now) Octet) os.items cursor.old cursor.new) }
+    ensures stop { IfErr result (λ why. Stops per_fields (Sized (size_range_of size.now) Octet) cursor.old why) }
+{
+    let Some(all) = bounded_count(size, cursor)? else {
+        return octets_in_rows(alloc, size, cursor);
+    };
+    let mut octets = Vec::new(alloc);
+    append_octets(all, &mut octets, cursor)?;
+    Ok(octets)
+}
+
+/// The same, one length after the other, each with the octets that it counts.
+fn octets_in_rows(alloc: Global, size: &Size, cursor: &mut BitCursor<'_>) -> Result<Vec<u8>, Stop>
     requires of_profile { IsSizeOfProfile (size_range_of size.now) }
     ensures done { IfOk result (λ os. Spells per_fields (Sized (size_range_of size.now) Octet) os.items cursor.old cursor.new) }
     ensures stop { IfErr result (λ why. Stops per_fields (Sized (size_range_of size.now) Octet) cursor.old why) }

@@ -1,11 +1,11 @@
 -- The bits of a SEQUENCE as its writer puts them: the extension bit, the root, and the extension additions.
-use Rattle.std.proofs.Common.{◌≡◌, ◌≤◌, ◌+◌, ◌-◌, ℕ, suc, Bool, true, false, ◌&&◌, List, [], ◌∷◌, ◌++◌, length, map, take, drop, Option, Some, None, is_some, Vec, Global, refl, sym, ◌∙◌, ap, subst, arith, append_assoc}
+use Rattle.std.proofs.Common.{◌≡◌, ◌≤◌, ◌-◌, ℕ, Bool, true, false, List, [], ◌∷◌, ◌++◌, length, map, take, drop, Option, Some, None, is_some, Vec, Global, refl, sym, ◌∙◌, ap, arith, append_assoc}
 use Rattle.std.specs.List.{list_all, list_any, Any, All}
 use Rattle.std.specs.Option.{option_map}
 use Rattle.std.proofs.lemmas.List.{append-nil}
 use Rattle.std.proofs.lemmas.List.Folds.{list_any-from_Any, list_any_none}
-use Rattle.asn_values.specs.Datum.{Datum, components, components_of, component_list}
-use Rattle.asn_values.specs.Shape.{Shape, Demand, must, optional, default, Fields, no_fields, field, MoreFields, closed, marked, is_marked, demands, sequence}
+use Rattle.asn_values.specs.Datum.{Datum, components, components_of}
+use Rattle.asn_values.specs.Shape.{Shape, Demand, must, optional, default, Fields, field, MoreFields, closed, marked, is_marked, demands, sequence}
 use Rattle.asn_values.specs.declared.types.Field.{Field}
 use Rattle.asn_values.specs.declared.value.Value.{Value}
 use Rattle.asn_values.specs.View.{Part, datum_of, fields_of, more_fields_of, part_of_field}
@@ -13,7 +13,6 @@ use Rattle.asn_values.specs.Profile.{is_optional}
 use Rattle.asn_bits.specs.Numbers.{bits}
 use Rattle.asn_rules.specs.Chunks.{Chunk, ones, flat}
 use Rattle.asn_rules.specs.Components.{presence, any_present, extension_bit}
-use Rattle.asn_rules.proofs.Chunks.{ones-append}
 use Rattle.asn_rules.proofs.Flat.{flat-append, flat-ones}
 use Rattle.asn_per.specs.Per.{spelled, per, per_each, per_open, per_additions, an_open_field, small_length}
 use Rattle.asn_per.specs.Laws.{per_bits, component_bits}
@@ -21,7 +20,7 @@ use Rattle.asn_per.specs.Additions.{AreOptional, root_bits, addition_bits}
 use Rattle.asn_per.proofs.AdditionLanguages.{count_bits}
 use Rattle.asn_per.proofs.Sequences.{OfSequence, bits_of_parts, mark_of_fields, ours_are, theirs_are}
 use Rattle.asn_per.proofs.Spellings.{component_list-of}
-use Rattle.asn_per.proofs.Writing.{Left, Written, written_starts, written_on, written_past, written_ends}
+use Rattle.asn_per.proofs.Writing.{Left, Written, written_starts, written_on, written_past}
 
 -- ---- whether one is present
 

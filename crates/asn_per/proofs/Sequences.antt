@@ -1,7 +1,6 @@
 -- What a SEQUENCE of the profile and a value of it are made of, as the program holds them.
-use Rattle.std.proofs.Common.{◌≡◌, ◌≤◌, ◌+◌, ℕ, Bool, true, false, ◌||◌, List, [], ◌∷◌, ◌++◌, length, map, take, drop, Option, Some, None, is_some, Vec, Global, nat_lt, refl, sym, ap, subst, ◌∙◌, arith}
+use Rattle.std.proofs.Common.{◌≡◌, ◌≤◌, false, List, length, map, take, drop, Option, Some, None, is_some, Vec, Global, nat_lt, refl, sym, ap, subst, ◌∙◌, arith}
 use Rattle.std.specs.Option.{option_map}
-use Rattle.std.specs.List.{list_all}
 use Rattle.std.proofs.lemmas.Bool.{ltb-false}
 use Rattle.std.proofs.lemmas.List.{length-map, length-take, take-map, drop-map}
 use Rattle.asn_values.specs.declared.types.AsnType.{AsnType, Seq}

@@ -36,7 +36,8 @@ fi
 # the last cases reach no growth, so each growth was refused in a case before
 grep -qE "^$((refused - 1))\\|done$" "$work/cases.told" || fail "there are more growths than cases"
 calls=0
-for call in Checked::new encode decode Checked::new:simple encode:simple decode:simple BitSink::push \
+for call in Checked::new encode decode Checked::new:simple encode:simple decode:simple \
+  Checked::new:composed encode:composed decode:composed BitSink::push \
   BitSink::push_number BitSink::push_octets BitSink::push_length BitSink::push_general_octets \
   BitSink::push_least_octets BitSink::push_least_signed_octets BitSink::pad BitCursor::take_octets; do
   count=$(grep -c "|memory: $call|" "$work/cases.told") || fail "no growth of $call was refused"

@@ -135,8 +135,26 @@ impl BitSink {
         Ok(())
     }
 
-    // the same, where a word is full or memory is needed
+    // the same, where a word is full or memory may be needed
+    #[inline(never)]
     fn append_word(&mut self, k: u32, n: u64) -> Result<(), AllocError>
+        requires few { k ≤ 64 }
+        requires fits { n < 2 ^ k }
+        ensures ok { OnOk result (self.new ≡ self.old ++ bits k n) }
+        ensures err { OnErr result (self.new ≡ self.old) }
+    {
+        if !has_room(&self.octets) {
+            return self.append_with_room(k, n);
+        }
+        let (count, pending) = put(&mut self.octets, self.count, self.pending, k, n);
+        self.count = count;
+        self.pending = pending;
+        Ok(())
+    }
+
+    // the same, where memory is needed
+    #[inline(never)]
+    fn append_with_room(&mut self, k: u32, n: u64) -> Result<(), AllocError>
         requires few { k ≤ 64 }
         requires fits { n < 2 ^ k }
         ensures ok { OnOk result (self.new ≡ self.old ++ bits k n) }
@@ -165,15 +183,22 @@ impl BitSink {
     }
 }
 
-// makes room for three words: two that go out and one that waits; where memory is needed, for eight
+// whether there is room for three words
+fn has_room(octets: &Vec<u8>) -> bool
+    ensures { IsTrue result ↔ (vec_len octets.now + 24 ≤ vec_capacity octets.now) }
+{
+    octets.capacity() - octets.len() >= 24
+}
+
+// makes room for three words: two that go out and one that waits; where memory is needed, for sixteen
 fn make_room(octets: &mut Vec<u8>) -> Result<(), AllocError>
     ensures ok { OnOk result (vec_len octets.new + 24 ≤ vec_capacity octets.new) }
     ensures items { octets.new.items ≡ octets.old.items }
     ensures len { vec_len octets.new ≡ vec_len octets.old }
     ensures capacity { vec_capacity octets.old ≤ vec_capacity octets.new }
 {
-    if octets.capacity() - octets.len() < 24 {
-        octets.reserve(64)?;
+    if !has_room(octets) {
+        octets.reserve(128)?;
     }
     Ok(())
 }

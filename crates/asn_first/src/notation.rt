@@ -7,19 +7,39 @@ use std::alloc::{AllocError, Global};
 pub fn text_of(alloc: Global, ty: &AsnType, value: &Value) -> Result<String, AllocError> {
     let mut text = String::new(alloc);
     match (ty, value) {
-        (AsnType::Seq { root }, Value::Seq(entries)) => put_components(&mut text, root, entries)?,
+        (AsnType::Seq { root, ext }, Value::Seq(entries)) => {
+            put_sequence(&mut text, root, ext, entries)?
+        }
         _ => put_value(&mut text, ty, value)?,
     }
     Ok(text)
 }
 
+/// The components of a SEQUENCE that have a value, those of the root and then the additions.
+#[cycle(notation)]
+fn put_sequence(
+    text: &mut String,
+    root: &[Field],
+    ext: &Option<Vec<Field>>,
+    entries: &[Option<Value>],
+) -> Result<(), AllocError> {
+    let (ours, theirs) = entries.split_at(root.len().min(entries.len()));
+    let is_first = put_components(text, root, ours, true)?;
+    if let Some(more) = ext {
+        put_components(text, more, theirs, is_first)?;
+    }
+    Ok(())
+}
+
+/// Components that have a value; says whether the next one is still the first.
 #[cycle(notation)]
 fn put_components(
     text: &mut String,
     fields: &[Field],
     entries: &[Option<Value>],
-) -> Result<(), AllocError> {
-    let mut is_first = true;
+    is_first: bool,
+) -> Result<bool, AllocError> {
+    let mut is_first = is_first;
     for (field, entry) in fields.iter().zip(entries) {
         if let Some(value) = entry {
             if !is_first {
@@ -31,7 +51,7 @@ fn put_components(
             is_first = false;
         }
     }
-    Ok(())
+    Ok(is_first)
 }
 
 #[cycle(notation)]
@@ -48,11 +68,64 @@ fn put_value(text: &mut String, ty: &AsnType, value: &Value) -> Result<(), Alloc
         Value::Utf8(string) => put_quoted(text, string),
         Value::Seq(entries) => {
             text.push_str("{ ")?;
-            if let AsnType::Seq { root } = ty {
-                put_components(text, root, entries)?;
+            if let AsnType::Seq { root, ext } = ty {
+                put_sequence(text, root, ext, entries)?;
             }
             text.push_str(" }")
         }
+        Value::List(elements) => {
+            text.push_str("{ ")?;
+            if let AsnType::SeqOf(element, _) = ty {
+                put_elements(text, element, elements)?;
+            }
+            text.push_str(" }")
+        }
+        Value::Choice(tag, chosen) => put_choice(text, ty, *tag, chosen),
+    }
+}
+
+/// The elements of a SEQUENCE OF, joined by a comma and a SPACE.
+#[cycle(notation)]
+fn put_elements(text: &mut String, element: &AsnType, values: &[Value]) -> Result<(), AllocError> {
+    let mut is_first = true;
+    for value in values {
+        if !is_first {
+            text.push_str(", ")?;
+        }
+        put_value(text, element, value)?;
+        is_first = false;
+    }
+    Ok(())
+}
+
+/// The name of the alternative with a tag, a colon, and the value; the tag alone where the type has no
+/// such alternative.
+#[cycle(notation)]
+fn put_choice(
+    text: &mut String,
+    ty: &AsnType,
+    tag: u32,
+    chosen: &Value,
+) -> Result<(), AllocError> {
+    let AsnType::Choice { root, ext } = ty else {
+        return write!(text, "{tag}");
+    };
+    let place = tag as usize;
+    if place < root.len() {
+        let alternative = &root[place];
+        text.push_str(alternative.name.as_str())?;
+        text.push_str(" : ")?;
+        return put_value(text, &alternative.ty, chosen);
+    }
+    let place = place - root.len();
+    match ext {
+        Some(more) if place < more.len() => {
+            let alternative = &more[place];
+            text.push_str(alternative.name.as_str())?;
+            text.push_str(" : ")?;
+            put_value(text, &alternative.ty, chosen)
+        }
+        _ => write!(text, "{tag}"),
     }
 }
 

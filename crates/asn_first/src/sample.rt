@@ -20,7 +20,11 @@ pub fn sample_type(alloc: Global) -> Result<Checked, AllocError>
         field(alloc, "ok", AsnType::Bool, Need::Default(Value::Bool(true)))?,
         field(alloc, "flag", AsnType::Bool, Need::Optional)?,
     ]?;
-    match Checked::new(alloc, AsnType::Seq { root: fields }) {
+    let ty = AsnType::Seq {
+        root: fields,
+        ext: None,
+    };
+    match Checked::new(alloc, ty) {
         Ok(checked) => Ok(checked),
         Err(TypeFault::Memory) => Err(AllocError),
         Err(_) => unreachable!(),

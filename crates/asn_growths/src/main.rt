@@ -3,6 +3,7 @@
 #![tactic(auto)]
 
 mod bit_calls;
+mod composed_calls;
 mod message_calls;
 mod outcome;
 
@@ -10,6 +11,7 @@ use bit_calls::{
     fragments, lengths, numbers, octets, octets_of_numbers, octets_of_signed_numbers, octets_taken,
     paddings, single_bits,
 };
+use composed_calls::{check_a_composed_type, decode_a_composed_value, encode_a_composed_value};
 use message_calls::{
     check_a_type, check_simple_types, decode_a_message, decode_simple_values, encode_a_message,
     encode_simple_values,
@@ -45,6 +47,9 @@ fn main(rt: HostRuntime) -> ExitCode {
         all_right &= told(&rt, "Checked::new:simple", check_simple_types(alloc));
         all_right &= told(&rt, "encode:simple", encode_simple_values(alloc));
         all_right &= told(&rt, "decode:simple", decode_simple_values(alloc));
+        all_right &= told(&rt, "Checked::new:composed", check_a_composed_type(alloc));
+        all_right &= told(&rt, "encode:composed", encode_a_composed_value(alloc));
+        all_right &= told(&rt, "decode:composed", decode_a_composed_value(alloc));
         all_right &= told(&rt, "BitSink::push", single_bits(alloc));
         all_right &= told(&rt, "BitSink::push_number", numbers(alloc));
         all_right &= told(&rt, "BitSink::push_octets", octets(alloc));

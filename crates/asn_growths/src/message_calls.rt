@@ -27,7 +27,7 @@ pub fn check_a_type(alloc: Global) -> Result<Outcome, AllocError> {
     let ty = message_type(alloc)?;
     Ok(match Checked::new(alloc, ty) {
         Ok(checked) => match checked.get() {
-            AsnType::Seq { root } => after(false, root.len() == 5),
+            AsnType::Seq { root, .. } => after(false, root.len() == 5),
             _ => Outcome::Wrong,
         },
         Err(TypeFault::Memory) => Outcome::Memory,
@@ -62,7 +62,7 @@ pub fn check_simple_types(alloc: Global) -> Result<Outcome, AllocError> {
     let ty = simple_types(alloc)?;
     Ok(match Checked::new(alloc, ty) {
         Ok(checked) => match checked.get() {
-            AsnType::Seq { root } => after(false, root.len() == 13),
+            AsnType::Seq { root, .. } => after(false, root.len() == 13),
             _ => Outcome::Wrong,
         },
         Err(TypeFault::Memory) => Outcome::Memory,
@@ -109,9 +109,17 @@ fn message_type(alloc: Global) -> Result<AsnType, AllocError> {
         field(alloc, "b", from_zero(), Need::Must)?,
         field(alloc, "c", from_zero(), Need::Must)?,
         field(alloc, "d", from_zero(), Need::Must)?,
-        field(alloc, "inner", AsnType::Seq { root: inner }, Need::Must)?,
+        field(
+            alloc,
+            "inner",
+            AsnType::Seq {
+                root: inner,
+                ext: None
+            },
+            Need::Must
+        )?,
     ]?;
-    Ok(AsnType::Seq { root })
+    Ok(AsnType::Seq { root, ext: None })
 }
 
 fn from_zero() -> AsnType {
@@ -173,7 +181,7 @@ fn simple_types(alloc: Global) -> Result<AsnType, AllocError> {
         field(alloc, "tone", colours(alloc)?, Need::Must)?,
         field(alloc, "far", integer(Some(0), Some(7)), Need::Must)?,
     ]?;
-    Ok(AsnType::Seq { root })
+    Ok(AsnType::Seq { root, ext: None })
 }
 
 /// The value that `simple_octets` encodes.

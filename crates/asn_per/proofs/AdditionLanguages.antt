@@ -3,11 +3,10 @@
 use Rattle.std.proofs.Common.{◌≡◌, ◌≤◌, ◌<◌, ◌+◌, ◌-◌, ◌/◌, ◌%◌, ◌^◌, ℕ, zero, suc, Bool, true, false, List, [], ◌∷◌, ◌++◌, length, Option, Some, None, refl, sym, ap, subst, ◌∙◌, arith, append_assoc}
 use Rattle.std.proofs.lemmas.Bool.{true≢false}
 use Rattle.std.proofs.Math.Nat.{one-le-pow}
-use Rattle.std.specs.List.{list_all}
 use Rattle.asn_values.specs.Datum.{Datum}
 use Rattle.asn_values.specs.Shape.{Shape, must, optional, default, Fields, no_fields, field, demands}
 use Rattle.asn_values.specs.Fits.{Fits, FitsEach, FitsDemand}
-use Rattle.asn_values.specs.Profile.{InProfile, is_optional}
+use Rattle.asn_values.specs.Profile.{InProfile}
 use Rattle.asn_values.specs.Parts.{AreOfProfile}
 use Rattle.asn_bits.specs.Numbers.{bits}
 use Rattle.asn_bits.proofs.Octets.{length-digits}
@@ -23,13 +22,10 @@ use Rattle.asn_bits.proofs.Weights.{bits_are, bits_only}
 use Rattle.asn_rules.proofs.Entries.{each_length, presence_bits}
 use Rattle.asn_rules.proofs.Spellings.{same_after, same_then, same_map, set_spelled, then_spelled, map_spelled}
 use Rattle.asn_per.specs.Per.{per, per_open, an_open_field, small_length}
+pub use Rattle.asn_per.specs.Additions.{AreOptional}
 use Rattle.asn_per.specs.Kinds.{OpenValues, OpenListed, SomePresent, Additions}
 use Rattle.asn_per.proofs.Bits.{digits_bits}
 use Rattle.asn_per.proofs.OpenFieldLanguages.{open_values_spelled}
-
--- each component is OPTIONAL
-abbrev pub AreOptional : Fields → Type 0
-AreOptional fs = list_all is_optional (demands fs) ≡ true
 
 -- ---- the open fields
 
@@ -115,9 +111,16 @@ some_above_zero (field name must t fs) es o h n = absurd (true≢false (sym o))
 some_above_zero (field name (default d) t fs) es o h n = absurd (true≢false (sym o))
 
 -- where one is present, there is one
-some_there : (es : List (Option Datum)) → any_present es ≡ true → 1 ≤ length es
+pub some_there : (es : List (Option Datum)) → any_present es ≡ true → 1 ≤ length es
 some_there [] h = absurd (true≢false (sym h))
 some_there (e ∷ es) h = omega arith
+
+-- how many there are, up to 64, in 0 and 6 bits
+pub count_bits : (n k : ℕ) → n ≤ 64 → k + 1 ≡ n → bits 7 k ≡ small_length n
+count_bits n k few h =
+    let front : (k / 2 ^ 6) % 2 ≡ 0 = omega (arith, few) in
+    let less : k ≡ n - 1 = omega arith in
+    ap (λ (d : ℕ). d ∷ bits 6 k) front ∙ ap (λ (i : ℕ). 0 ∷ bits 6 i) less
 
 module _ (fs : Fields) (good : AreOfProfile fs) (o : AreOptional fs) (few : length (demands fs) ≤ 64) where
   -- entries of which one is present
@@ -155,17 +158,11 @@ module _ (fs : Fields) (good : AreOfProfile fs) (o : AreOptional fs) (few : leng
       n : ℕ
       n = length (demands fs)
 
-      count_bits : (k : ℕ) → k + 1 ≡ n → bits 7 k ≡ small_length n
-      count_bits k h =
-          let front : (k / 2 ^ 6) % 2 ≡ 0 = omega (arith, few) in
-          let less : k ≡ n - 1 = omega arith in
-          ap (λ (d : ℕ). d ∷ bits 6 k) front ∙ ap (λ (i : ℕ). 0 ∷ bits 6 i) less
-
       there : (p : ℕ × List (Option Datum)) → (p.0 + 1 ≡ n) × FitSome p.1
           → FitSome p.1 × (ones (bits 7 p.0) ++ (ones (presence (demands fs) p.1) ++ per_open fs p.1) ≡ ones (small_length n ++ presence (demands fs) p.1) ++ per_open fs p.1)
       there p h =
           let bitmap = presence (demands fs) p.1 in
-          (h.1, ap (λ (l : List ℕ). ones l ++ (ones bitmap ++ per_open fs p.1)) (count_bits p.0 h.0) ∙ sym (append_assoc (ones (small_length n)) (ones bitmap) (per_open fs p.1)) ∙ ap (λ (l : List Chunk). l ++ per_open fs p.1) (sym (ones-append (small_length n) bitmap)))
+          (h.1, ap (λ (l : List ℕ). ones l ++ (ones bitmap ++ per_open fs p.1)) (count_bits n p.0 few h.0) ∙ sym (append_assoc (ones (small_length n)) (ones bitmap) (per_open fs p.1)) ∙ ap (λ (l : List Chunk). l ++ per_open fs p.1) (sym (ones-append (small_length n) bitmap)))
 
       back : (es : List (Option Datum)) → FitSome es → (p : ℕ × List (Option Datum)) × ((p.0 + 1 ≡ n) × FitSome p.1) × (es ≡ p.1)
       back es h = ((n - 1, es), (omega (arith, some_there es h.1, each_length fs es h.0), h), refl)

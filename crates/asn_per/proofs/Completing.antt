@@ -3,12 +3,13 @@ use Rattle.std.proofs.Common.{◌≡◌, ◌≢◌, ◌⊎◌, ◌*◌, ℕ, Lis
 use Rattle.asn_values.specs.Datum.{Datum}
 use Rattle.asn_values.specs.Shape.{Shape}
 use Rattle.asn_values.specs.Fits.{Fits}
-use Rattle.asn_bits.specs.Numbers.{bits, padding, unpacked}
+use Rattle.asn_bits.specs.Numbers.{bits, padding, packed, unpacked}
 use Rattle.asn_bits.proofs.Splits.{length-unpacked}
-use Rattle.asn_per.specs.Per.{filling, per}
+use Rattle.asn_rules.specs.Chunks.{Chunk, flat}
+use Rattle.asn_per.specs.Per.{spelled, filling, complete, per, per_octets}
 use Rattle.asn_per.specs.Rules.{per_ruling, IsPerEncoding}
-use Rattle.asn_per.specs.Laws.{per_bits}
-use Rattle.asn_per.proofs.Complete.{filled_is}
+use Rattle.asn_per.proofs.Complete.{filled_is, complete_is, complete_full}
+use Rattle.asn_per.proofs.Spelt.{per_spelt}
 
 -- what stands before the padding: eight zeros where there were no bits
 abbrev pub Topped : List ℕ → List ℕ → Type 0
@@ -19,10 +20,14 @@ topped_fills before now (inl h) = rw (h.1, h.0) refl
 topped_fills [] now (inr h) = absurd (h.0 refl)
 topped_fills (b ∷ before) now (inr h) = rw h.1 refl
 
--- octets whose bits are a value's, filled up
-pub completed : (t : Shape) (v : Datum) (now all o : List ℕ) → Fits t v → Topped (per_bits t v) now → all ≡ now ++ padding (length now) → unpacked o ≡ all → IsPerEncoding t v o
+-- filled up, the bits of a spelling are packed into its complete encoding
+pub completed : (cs : List Chunk) (now all o : List ℕ) → Topped (flat spelled cs) now → all ≡ now ++ padding (length now) → packed all ≡ o → o ≡ complete cs
+completed cs now all o top e f = sym f ∙ ap packed (e ∙ topped_fills (flat spelled cs) now top) ∙ sym (complete_is cs)
+
+-- which is the encoding of a value that has this spelling
+pub is_encoding : (t : Shape) (v : Datum) (o : List ℕ) → Fits t v → o ≡ per_octets t v → IsPerEncoding t v o
 unfolding per_ruling
-completed t v now all o fits top e f = (fits, f ∙ e ∙ topped_fills (per_bits t v) now top ∙ sym (filled_is (per t v)))
+is_encoding t v o fits e = (fits, ap unpacked e ∙ complete_full (per t v) (per_spelt t v fits).bits ∙ sym (filled_is (per t v)))
 
 -- each encoding of a value is as long as any other
 pub same_lengths : (t : Shape) (v : Datum) (o p : List ℕ) → IsPerEncoding t v o → IsPerEncoding t v p → length o ≡ length p

@@ -151,15 +151,12 @@ entry_leads x present e us p d = rw (p, d, shape_of_part x) (leads_map per_field
 
 -- ---- the SEQUENCE
 
-module _ {t : Shape} {fs : Fields} (is : t ≡ sequence fs closed) (good : InProfile t) where
-  pub parts_good : AreOfProfile fs
-  parts_good = components_of_profile fs closed (subst InProfile is good)
-
+module _ (fs : Fields) (good : AreOfProfile fs) (count high : ℕ) (is : count ≡ bitmap_length fs) (all : high + 1 ≡ 2 ^ count) where
   -- within the presence bitmap
-  pub bitmap_stops_at : (count high : ℕ) → count ≡ bitmap_length fs → high + 1 ≡ 2 ^ count → (us : List ℕ) → LeadsStops per_fields (Plain (InSet count (λ n. Admits (up_to high None) n))) us (Spelt per None t) us
-  bitmap_stops_at count high e all us = rw (e, is) (bitmap_stops fs high parts_good (rw e at all) us)
+  pub bitmap_stops_at : (us : List ℕ) → LeadsStops per_fields (Plain (InSet count (λ n. Admits (up_to high None) n))) us (Spelt per None (sequence fs closed)) us
+  bitmap_stops_at us = rw is (bitmap_stops fs high good (rw is at all) us)
 
   -- behind it
-  pub components_at : (count high n : ℕ) → count ≡ bitmap_length fs → high + 1 ≡ 2 ^ count → (us r : List ℕ) → Spells per_fields (Plain (InSet count (λ m. Admits (up_to high None) m))) n us r
-      → Leads per_fields (Listed per fs (bits count n)) r (λ es. components (components_of es)) (Spelt per None t) us
-  components_at count high n e all us r h = rw (e, is) (components_leads fs high parts_good (rw e at all) n us r (rw e at h))
+  pub components_at : (n : ℕ) (us r : List ℕ) → Spells per_fields (Plain (InSet count (λ m. Admits (up_to high None) m))) n us r
+      → Leads per_fields (Listed per fs (bits count n)) r (λ es. components (components_of es)) (Spelt per None (sequence fs closed)) us
+  components_at n us r h = rw is (components_leads fs high good (rw is at all) n us r (rw is at h))

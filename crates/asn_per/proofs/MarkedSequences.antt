@@ -138,7 +138,8 @@ module _ (root fs : Fields) where
     each_optional : AreOptional fs
     each_optional = additions_optional root fs good
 
-    few_additions : length (demands fs) ≤ 64
+    -- there are no more than 64 additions
+    pub few_additions : length (demands fs) ≤ 64
     few_additions =
         let whole : somewhere too_many_here (sequence root (marked fs)) ≡ false = left_false (somewhere too_many_here (sequence root (marked fs))) (nat_lt most_nodes (nodes (sequence root (marked fs)))) (good TooMany) in
         let here : too_many_here (sequence root (marked fs)) ≡ false = left_false (too_many_here (sequence root (marked fs))) (some_field too_many_here root || some_field too_many_here fs) whole in

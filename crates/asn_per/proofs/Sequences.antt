@@ -1,78 +1,117 @@
 -- What a SEQUENCE of the profile and a value of it are made of, as the program holds them.
-use Rattle.std.proofs.Common.{◌≡◌, ◌≤◌, ◌++◌, ℕ, suc, false, List, [], ◌∷◌, length, map, Option, Vec, Global, nat_lt, refl, sym, ap, subst, ◌∙◌, append_assoc}
+use Rattle.std.proofs.Common.{◌≡◌, ◌≤◌, false, List, length, map, take, drop, Option, Some, None, is_some, Vec, Global, nat_lt, refl, sym, ap, subst, ◌∙◌, arith}
 use Rattle.std.specs.Option.{option_map}
 use Rattle.std.proofs.lemmas.Bool.{ltb-false}
-use Rattle.std.proofs.lemmas.List.{length-map}
+use Rattle.std.proofs.lemmas.List.{length-map, length-take, take-map, drop-map}
 use Rattle.asn_values.specs.declared.types.AsnType.{AsnType, Seq}
 use Rattle.asn_values.specs.declared.types.Field.{Field}
 use Rattle.asn_values.specs.declared.value.Value.{Value}
 use Rattle.asn_values.specs.declared.value.Value.TheVariants as value
 use Rattle.asn_values.specs.Datum.{Datum, components, components_of}
-use Rattle.asn_values.specs.Shape.{Shape, Fields, sequence, closed, demands}
-use Rattle.asn_values.specs.Fits.{Fits, FitsEach}
+use Rattle.asn_values.specs.Shape.{Shape, Fields, MoreFields, sequence, marked, is_marked, demands}
+use Rattle.asn_values.specs.Fits.{Fits, FitsEach, FitsMore, FitsSequence}
 use Rattle.asn_values.specs.Profile.{InProfile, TooMany, somewhere, too_many_here, most_components, most_nodes}
 use Rattle.asn_values.specs.Measures.{nodes}
 use Rattle.asn_values.specs.Parts.{AreOfProfile}
-use Rattle.asn_values.specs.View.{Part, shape_of, datum_of, fields_of, part_of_field}
+use Rattle.asn_values.specs.View.{Part, shape_of, datum_of, fields_of, more_fields_of, part_of_field}
 use Rattle.asn_values.proofs.Parts.{left_false, components_of_profile}
-use Rattle.asn_values.proofs.Views.{sequence_of_fields, datum_of-Seq}
-use Rattle.asn_values.proofs.Entries.{fits_sequence}
-use Rattle.asn_rules.specs.Components.{presence}
-use Rattle.asn_per.specs.Laws.{per_bits, component_bits}
-use Rattle.asn_per.proofs.Spellings.{bits_of_sequence}
-use Rattle.asn_per.proofs.Writing.{Left}
+use Rattle.asn_values.proofs.InnerTypes.{additions_optional, additions_of_profile}
+use Rattle.asn_values.proofs.Views.{component_list-components_of, sequence_of_fields, datum_of-Seq}
+use Rattle.asn_values.proofs.Entries.{length-demands}
+use Rattle.asn_rules.proofs.Entries.{each_length}
+use Rattle.asn_per.specs.Additions.{AreOptional}
+use Rattle.asn_per.specs.Laws.{per_bits}
+use Rattle.asn_per.proofs.MarkedSequences.{few_additions}
 
--- the components and the entries of a type and a value
-pub record OfSequence (t : Shape) (d : Datum) (parts : List Part) (entries : List (Option Datum)) : Type 0 where
-  pub shape : t ≡ sequence (fields_of parts) closed
+-- ---- the type
+
+-- how many components there are
+pub count_of_fields : (fs : List Field) → length (demands (fields_of (map part_of_field fs))) ≡ length fs
+count_of_fields fs = length-demands (map part_of_field fs) ∙ length-map fs part_of_field
+
+-- there are no more than 64 components in the root
+pub few_components : {t : Shape} {more : MoreFields} (fs : List Field) → t ≡ sequence (fields_of (map part_of_field fs)) more → InProfile t → length fs ≤ 64
+few_components {t} {more} fs e good =
+    let inner : Fields = fields_of (map part_of_field fs) in
+    let all : InProfile (sequence inner more) = subst InProfile e good in
+    let here : nat_lt most_components (length (demands inner)) ≡ false =
+    left_false _ _ (left_false (too_many_here (sequence inner more)) _ (left_false (somewhere too_many_here (sequence inner more)) (nat_lt most_nodes (nodes (sequence inner more))) (all TooMany))) in
+    let few : length (demands inner) ≤ 64 = ltb-false 64 (length (demands inner)) here in
+    subst (λ n. n ≤ 64) (count_of_fields fs) few
+
+-- whether there is a mark
+pub mark_of_fields : (ext : Option (Vec Field Global)) → is_marked (more_fields_of ext) ≡ is_some ext
+mark_of_fields None = refl
+mark_of_fields (Some more) = refl
+
+-- ---- a type and a value
+
+-- the components of the root, what stands behind them, and the entries
+pub record OfSequence (t : Shape) (d : Datum) (parts : List Part) (more : MoreFields) (entries : List (Option Datum)) : Type 0 where
+  pub shape : t ≡ sequence (fields_of parts) more
   pub datum : d ≡ components (components_of entries)
 
-pub of_sequence : (t : AsnType) (v : Value) (root : Vec Field Global) (vs : Vec (Option Value) Global) (fs : List Field) (es : List (Option Value))
-    → t ≡ Seq root → v ≡ value.Seq vs → fs ≡ root.items → es ≡ vs.items → OfSequence (shape_of t) (datum_of v) (map part_of_field fs) (map (option_map datum_of) es)
-of_sequence t v root vs fs es p q f e = record {
-  shape = sequence_of_fields t root fs p f;
+pub of_sequence : (t : AsnType) (v : Value) (root : Vec Field Global) (ext : Option (Vec Field Global)) (vs : Vec (Option Value) Global) (fs : List Field) (es : List (Option Value))
+    → t ≡ Seq root ext → v ≡ value.Seq vs → fs ≡ root.items → es ≡ vs.items → OfSequence (shape_of t) (datum_of v) (map part_of_field fs) (more_fields_of ext) (map (option_map datum_of) es)
+of_sequence t v root ext vs fs es p q f e = record {
+  shape = sequence_of_fields t root ext fs p f;
   datum = ap datum_of q ∙ datum_of-Seq vs ∙ ap (λ (l : List (Option Value)). components (components_of (map (option_map datum_of) l))) (sym e);
 }
 
-module _ {t : Shape} {d : Datum} {parts : List Part} {entries : List (Option Datum)} (s : OfSequence t d parts entries) where
+module _ {t : Shape} {d : Datum} {parts : List Part} {more : MoreFields} {entries : List (Option Datum)} (s : OfSequence t d parts more entries) where
   pub parts_of_profile : InProfile t → AreOfProfile (fields_of parts)
-  parts_of_profile good = components_of_profile (fields_of parts) closed (subst InProfile s.shape good)
+  parts_of_profile good = components_of_profile (fields_of parts) more (subst InProfile s.shape good)
 
-  pub entries_fit : Fits t d → FitsEach (fields_of parts) entries
+  pub entries_fit : Fits t d → FitsSequence (fields_of parts) more entries
   entries_fit fits =
-      let here : Fits (sequence (fields_of parts) closed) (components (components_of entries)) = subst (λ x. Fits (sequence (fields_of parts) closed) x) s.datum (subst (λ x. Fits x d) s.shape fits) in
-      (fits_sequence (fields_of parts) entries).1 here
+      let here : Fits (sequence (fields_of parts) more) (components (components_of entries)) = subst (λ x. Fits (sequence (fields_of parts) more) x) s.datum (subst (λ x. Fits x d) s.shape fits) in
+      subst (FitsSequence (fields_of parts) more) (component_list-components_of entries) here
 
-  pub sequence_left : InProfile t → Fits t d → Left parts entries
-  sequence_left good fits = record { of_profile = parts_of_profile good; of_type = entries_fit fits }
+  pub bits_of_parts : per_bits t d ≡ per_bits (sequence (fields_of parts) more) (components (components_of entries))
+  bits_of_parts = ap (λ x. per_bits x d) s.shape ∙ ap (per_bits (sequence (fields_of parts) more)) s.datum
 
-  pub sequence_bits : Fits t d → per_bits t d ≡ presence (demands (fields_of parts)) entries ++ component_bits (fields_of parts) entries
-  sequence_bits fits = ap (λ x. per_bits x d) s.shape ∙ ap (per_bits (sequence (fields_of parts) closed)) s.datum ∙ bits_of_sequence (fields_of parts) entries (entries_fit fits)
+-- ---- the entries of the root, and those of the additions
 
--- the presence bitmap and then the components: the whole SEQUENCE is written
-pub sequence_written : {t : Shape} {d : Datum} (before bitmap middle now : List ℕ) (fs gs : List Field) (vs ws : List (Option Value)) → OfSequence t d (map part_of_field fs) (map (option_map datum_of) vs) → Fits t d
-    → middle ≡ before ++ bitmap → bitmap ≡ presence (demands (fields_of (map part_of_field fs))) (map (option_map datum_of) vs) → gs ≡ fs → ws ≡ vs
-    → now ≡ middle ++ component_bits (fields_of (map part_of_field gs)) (map (option_map datum_of) ws) → now ≡ before ++ per_bits t d
-sequence_written before bitmap middle now fs gs vs ws s fits m b f v e =
-    let inner = component_bits (fields_of (map part_of_field fs)) (map (option_map datum_of) vs) in
-    e
-    ∙ ap (λ (l : List Field). middle ++ component_bits (fields_of (map part_of_field l)) (map (option_map datum_of) ws)) f
-    ∙ ap (λ (l : List (Option Value)). middle ++ component_bits (fields_of (map part_of_field fs)) (map (option_map datum_of) l)) v
-    ∙ ap (λ l. l ++ inner) m
-    ∙ append_assoc before bitmap inner
-    ∙ ap (λ l. before ++ (l ++ inner)) b
-    ∙ ap (λ l. before ++ l) (sym (sequence_bits s fits))
+module _ (fs : List Field) (vs : List (Option Value)) where
+  -- the first ones
+  pub ours_are : (ours : List (Option Value)) → ours ≡ take (length fs) vs → map (option_map datum_of) ours ≡ take (length (demands (fields_of (map part_of_field fs)))) (map (option_map datum_of) vs)
+  ours_are ours e = ap (map (option_map datum_of)) e ∙ sym (take-map (option_map datum_of) (length fs) vs) ∙ ap (λ k. take k (map (option_map datum_of) vs)) (sym (count_of_fields fs))
 
-length-demands : (parts : List Part) → length (demands (fields_of parts)) ≡ length parts
-length-demands [] = refl
-length-demands (p ∷ parts) = ap suc (length-demands parts)
+  -- and the others
+  pub theirs_are : (theirs : List (Option Value)) → theirs ≡ drop (length fs) vs → map (option_map datum_of) theirs ≡ drop (length (demands (fields_of (map part_of_field fs)))) (map (option_map datum_of) vs)
+  theirs_are theirs e = ap (map (option_map datum_of)) e ∙ sym (drop-map (option_map datum_of) (length fs) vs) ∙ ap (λ k. drop k (map (option_map datum_of) vs)) (sym (count_of_fields fs))
 
--- there are no more than 64 components
-pub few_components : {t : Shape} (fs : List Field) → t ≡ sequence (fields_of (map part_of_field fs)) closed → InProfile t → length fs ≤ 64
-few_components {t} fs e good =
-    let inner : Fields = fields_of (map part_of_field fs) in
-    let all : InProfile (sequence inner closed) = subst InProfile e good in
-    let here : nat_lt most_components (length (demands inner)) ≡ false =
-    left_false _ _ (left_false (too_many_here (sequence inner closed)) _ (left_false (somewhere too_many_here (sequence inner closed)) (nat_lt most_nodes (nodes (sequence inner closed))) (all TooMany))) in
-    let few : length (demands inner) ≤ 64 = ltb-false 64 (length (demands inner)) here in
-    subst (λ n. n ≤ 64) (length-demands (map part_of_field fs) ∙ length-map fs part_of_field) few
+  module _ (more : MoreFields) (fits : FitsSequence (fields_of (map part_of_field fs)) more (map (option_map datum_of) vs)) where
+    -- there are as many entries as the root has components
+    pub enough_entries : length fs ≤ length vs
+    enough_entries =
+        let n = length (demands (fields_of (map part_of_field fs))) in
+        let all = map (option_map datum_of) vs in
+        omega (arith, each_length (fields_of (map part_of_field fs)) (take n all) fits.0, length-take n all, count_of_fields fs, length-map vs (option_map datum_of))
+
+    -- those fit
+    pub ours_fit : (ours : List (Option Value)) → ours ≡ take (length fs) vs → FitsEach (fields_of (map part_of_field fs)) (map (option_map datum_of) ours)
+    ours_fit ours e = subst (FitsEach (fields_of (map part_of_field fs))) (sym (ours_are ours e)) fits.0
+
+    -- and so do the others
+    pub theirs_fit : (theirs : List (Option Value)) → theirs ≡ drop (length fs) vs → FitsMore more (map (option_map datum_of) theirs)
+    theirs_fit theirs e = subst (FitsMore more) (sym (theirs_are theirs e)) fits.1
+
+-- ---- the additions
+
+-- the additions, as the program has them
+pub marked_fields : (ext : Option (Vec Field Global)) (more : Vec Field Global) (fs : List Field) → ext ≡ Some more → fs ≡ more.items → more_fields_of ext ≡ marked (fields_of (map part_of_field fs))
+marked_fields ext more fs e f = ap more_fields_of e ∙ ap (λ (l : List Field). marked (fields_of (map part_of_field l))) (sym f)
+
+module _ {t : Shape} {root : Fields} (fs : List Field) (e : t ≡ sequence root (marked (fields_of (map part_of_field fs)))) (good : InProfile t) where
+  whole : InProfile (sequence root (marked (fields_of (map part_of_field fs))))
+  whole = subst InProfile e good
+
+  pub added_of_profile : AreOfProfile (fields_of (map part_of_field fs))
+  added_of_profile = additions_of_profile root (fields_of (map part_of_field fs)) whole
+
+  pub added_optional : AreOptional (fields_of (map part_of_field fs))
+  added_optional = additions_optional root (fields_of (map part_of_field fs)) whole
+
+  pub few_added : length fs ≤ 64
+  few_added = subst (λ n. n ≤ 64) (count_of_fields fs) (few_additions root (fields_of (map part_of_field fs)) whole)

@@ -1,9 +1,9 @@
 -- Where the loops of the encoder over the components of a SEQUENCE stand.
-use Rattle.std.proofs.Common.{◌≡◌, ◌⊎◌, ◌≤◌, ◌<◌, ◌+◌, ◌*◌, ◌^◌, ℕ, suc, Bool, true, false, List, [], ◌∷◌, ◌++◌, length, map, Option, Some, None, inl, inr, refl, sym, ◌∙◌, ap, arith, append_assoc}
-use Rattle.std.proofs.lemmas.List.{append-nil}
+use Rattle.std.proofs.Common.{◌≡◌, ◌⊎◌, ◌≤◌, ◌<◌, ◌+◌, ◌*◌, ◌^◌, ℕ, suc, Bool, true, false, List, [], ◌∷◌, ◌++◌, length, map, drop, get_or, Option, Some, None, inl, inr, refl, sym, ◌∙◌, ap, arith, append_assoc}
+use Rattle.std.proofs.lemmas.List.{append-nil, at_drop_more}
 use Rattle.std.proofs.Math.Nat.{pow-succ'}
 use Rattle.asn_values.specs.Datum.{Datum}
-use Rattle.asn_values.specs.Shape.{Demand, must, optional, default, demands}
+use Rattle.asn_values.specs.Shape.{Demand, must, optional, default, Fields, no_fields, demands}
 use Rattle.asn_values.specs.Fits.{FitsEach}
 use Rattle.asn_values.specs.Parts.{IsGoodDemand, AreOfProfile}
 use Rattle.asn_values.specs.View.{Part, fields_of}
@@ -14,6 +14,10 @@ use Rattle.asn_bits.proofs.Splits.{digits-join}
 use Rattle.asn_rules.specs.Components.{has_presence_bit, is_spelled, presence}
 use Rattle.asn_per.specs.Laws.{per_bits, component_bits}
 use Rattle.asn_per.proofs.Spellings.{component_bits-spelled, component_bits-default}
+
+-- the next item of a list and those behind it, seen as something else
+pub next_seen : {A B : Type 0} (f : A → B) (xs : List A) (i : ℕ) (x : A) → i < length xs → x ≡ get_or xs i x → map f (drop i xs) ≡ f x ∷ map f (drop (i + 1) xs)
+next_seen f xs i x h e = at_drop_more (map f) xs i x h ∙ ap (λ y. f y ∷ map f (drop (i + 1) xs)) (sym e)
 
 -- the components that are left, with their entries
 pub record Left (parts : List Part) (entries : List (Option Datum)) : Type 0 where
@@ -104,43 +108,51 @@ bitmap_ends {all} {left} {entries} {rest} {count} {bitmap} h e =
 
 -- ---- the components
 
--- what is written, with the bits of the components that are left
-pub record Written (before all_bits now : List ℕ) (left : List Part) (rest : List (Option Datum)) : Type 0 where
+-- what is written, with the bits of the components that are left, which code gives
+pub record Written (code : Fields → List (Option Datum) → List ℕ) (before all_bits now : List ℕ) (left : List Part) (rest : List (Option Datum)) : Type 0 where
   pub components : Left left rest
-  pub known : now ++ component_bits (fields_of left) rest ≡ before ++ all_bits
+  pub known : now ++ code (fields_of left) rest ≡ before ++ all_bits
 
-pub written_starts : (before : List ℕ) (all : List Part) (entries : List (Option Datum)) → Left all entries → Written before (component_bits (fields_of all) entries) before all entries
-written_starts before all entries h = record { components = h; known = refl }
+pub written_starts : (code : Fields → List (Option Datum) → List ℕ) (before : List ℕ) (all : List Part) (entries : List (Option Datum)) → Left all entries → Written code before (code (fields_of all) entries) before all entries
+written_starts code before all entries h = record { components = h; known = refl }
 
--- a component that is spelt
-pub written_more : {before all_bits now new : List ℕ} {left : List Part} {p : Part} {rest : List (Option Datum)} {d : Datum}
-    → Written before all_bits now (p ∷ left) (Some d ∷ rest) → is_spelled p.demand (Some d) ≡ true → new ≡ now ++ per_bits p.shape d → Written before all_bits new left rest
-written_more {now = now} {left = left} {p = p} {rest = rest} {d = d} h s e = record {
+-- a component whose bits are us
+pub written_on : {code : Fields → List (Option Datum) → List ℕ} {before all_bits now new : List ℕ} {left : List Part} {p : Part} {rest : List (Option Datum)} {e : Option Datum} (us : List ℕ)
+    → Written code before all_bits now (p ∷ left) (e ∷ rest) → code (fields_of (p ∷ left)) (e ∷ rest) ≡ us ++ code (fields_of left) rest → new ≡ now ++ us → Written code before all_bits new left rest
+written_on {code = code} {now = now} {left = left} {rest = rest} us h s e = record {
   components = left_more h.components;
   known =
-      ap (λ l. l ++ component_bits (fields_of left) rest) e
-      ∙ append_assoc now (per_bits p.shape d) (component_bits (fields_of left) rest)
-      ∙ ap (λ l. now ++ l) (sym (component_bits-spelled p.name p.demand p.shape (fields_of left) d rest s))
+      ap (λ l. l ++ code (fields_of left) rest) e
+      ∙ append_assoc now us (code (fields_of left) rest)
+      ∙ ap (λ l. now ++ l) (sym s)
       ∙ h.known;
 }
 
+-- one that has no bits
+pub written_past : {code : Fields → List (Option Datum) → List ℕ} {before all_bits now : List ℕ} {left : List Part} {p : Part} {rest : List (Option Datum)} {e : Option Datum}
+    → Written code before all_bits now (p ∷ left) (e ∷ rest) → code (fields_of (p ∷ left)) (e ∷ rest) ≡ code (fields_of left) rest → Written code before all_bits now left rest
+written_past {now = now} h s = record { components = left_more h.components; known = ap (λ l. now ++ l) (sym s) ∙ h.known }
+
+pub written_ends : {code : Fields → List (Option Datum) → List ℕ} {before all_bits now : List ℕ} {left : List Part} {rest : List (Option Datum)}
+    → Written code before all_bits now left rest → ((es : List (Option Datum)) → code no_fields es ≡ []) → (left ≡ []) ⊎ (rest ≡ []) → now ≡ before ++ all_bits
+written_ends {code = code} {now = now} {left = left} {rest = rest} h n e =
+    let none = left_ends left rest h.components e in
+    sym (append-nil now) ∙ ap (λ l. now ++ l) (sym (n rest)) ∙ ap (λ l. now ++ code (fields_of l) rest) (sym none.0) ∙ h.known
+
+-- a component that is spelt
+pub written_more : {before all_bits now new : List ℕ} {left : List Part} {p : Part} {rest : List (Option Datum)} {d : Datum}
+    → Written component_bits before all_bits now (p ∷ left) (Some d ∷ rest) → is_spelled p.demand (Some d) ≡ true → new ≡ now ++ per_bits p.shape d → Written component_bits before all_bits new left rest
+written_more {left = left} {p = p} {rest = rest} {d = d} h s e = written_on (per_bits p.shape d) h (component_bits-spelled p.name p.demand p.shape (fields_of left) d rest s) e
+
 -- a component that is absent, or equal to its DEFAULT
 pub written_passes : {before all_bits now : List ℕ} {left : List Part} {p : Part} {rest : List (Option Datum)} {e : Option Datum}
-    → Written before all_bits now (p ∷ left) (e ∷ rest) → (e ≡ None) ⊎ (is_spelled p.demand e ≡ false) → Written before all_bits now left rest
-written_passes {now = now} {left = left} {p = p} {rest = rest} {e = e} h s = record {
-  components = left_more h.components;
-  known = ap (λ l. now ++ l) (sym (nothing e s)) ∙ h.known;
-}
+    → Written component_bits before all_bits now (p ∷ left) (e ∷ rest) → (e ≡ None) ⊎ (is_spelled p.demand e ≡ false) → Written component_bits before all_bits now left rest
+written_passes {left = left} {p = p} {rest = rest} {e = e} h s = written_past h (nothing e s)
   where
     nothing : (x : Option Datum) → (x ≡ None) ⊎ (is_spelled p.demand x ≡ false) → component_bits (fields_of (p ∷ left)) (x ∷ rest) ≡ component_bits (fields_of left) rest
     nothing None k = refl
     nothing (Some d) (inl k) = absurd (cc)
     nothing (Some d) (inr k) = component_bits-default p.name p.demand p.shape (fields_of left) d rest k
-
-pub written_ends : {before all_bits now : List ℕ} {left : List Part} {rest : List (Option Datum)} → Written before all_bits now left rest → (left ≡ []) ⊎ (rest ≡ []) → now ≡ before ++ all_bits
-written_ends {now = now} {left = left} {rest = rest} h e =
-    let none = left_ends left rest h.components e in
-    sym (append-nil now) ∙ ap (λ l. now ++ component_bits (fields_of l) rest) (sym none.0) ∙ h.known
 
 -- ---- where a zip of the components and the entries ends
 

@@ -1,3 +1,4 @@
+pub mod Additions
 pub mod Per
 pub mod Rules
 pub mod Reading

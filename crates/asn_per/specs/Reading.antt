@@ -1,11 +1,13 @@
 -- What the readers of the decoder read.
-use Rattle.std.specs.Prelude.{◌≡◌, ◌≢◌, ◌≤◌, ◌<◌, ◌+◌, ◌-◌, ◌*◌, ◌^◌, ◌⊎◌, ◌==◌, ◌&&◌, ◌≤ℤ◌, ℕ, ℤ, true, false, nat_lt, List, ◌++◌, Option, Some, None, ⊤}
+use Rattle.std.specs.Prelude.{◌≡◌, ◌≢◌, ◌≤◌, ◌<◌, ◌+◌, ◌-◌, ◌*◌, ◌^◌, ◌⊎◌, ◌==◌, ◌&&◌, ◌≤ℤ◌, ℕ, ℤ, Bool, true, false, nat_lt, List, [], ◌∷◌, ◌++◌, length, Option, Some, None, ⊤}
 use Rattle.asn_values.specs.Shape.{Range, Alphabet, ia5, numeric, visible}
 use Rattle.asn_values.specs.Fits.{FitsNumber, lowest_integer, highest_integer}
 use Rattle.asn_bits.specs.Numbers.{octet_count, above}
 use Rattle.asn_bits.specs.Sets.{Among}
 use Rattle.asn_rules.specs.Chunks.{Chunk}
-use Rattle.asn_rules.specs.Languages.{Spells, Row}
+use Rattle.asn_rules.specs.declared.stop.Stop.{Stop}
+use Rattle.asn_rules.specs.declared.stop.Stop.TheVariants as stop
+use Rattle.asn_rules.specs.Languages.{Spells, Map, Row}
 use Rattle.asn_rules.specs.Listed.{IsOther}
 use Rattle.asn_values.specs.Datum.{number}
 use Rattle.std.specs.Option.{option_map}
@@ -113,6 +115,20 @@ pub record Appends {A : Type 0} (L : A → List Chunk → Type 0) (n : ℕ) (old
   pub row : List A
   pub same : new ≡ old ++ row
   pub spelt : Spells per_fields (Row L n) row us rest
+
+-- ---- extension marks
+
+-- where a reader of an extension bit stops: no bit comes, or a 1 where nothing is listed behind it
+abbrev pub StopsAtMark : Bool → List ℕ → Stop → Type 0
+StopsAtMark listed us stop.Short = us ≡ []
+StopsAtMark listed us (stop.Refused left why) = (listed ≡ false) × (after : List ℕ) × (us ≡ 1 ∷ after) × (left ≡ length after)
+StopsAtMark listed us stop.Memory = ⊥
+
+-- ---- entries of a SEQUENCE
+
+-- further values, behind those that have come
+abbrev pub Behind : {A : Type 0} → List A → (List A → List Chunk → Type 0) → List A → List Chunk → Type 0
+Behind before L = Map (λ vs. before ++ vs) L
 
 -- ---- characters
 

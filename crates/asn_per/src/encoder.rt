@@ -1,28 +1,36 @@
 //! The encoder.
-ghost use Rattle.std.specs.Prelude.{◌≡◌, ◌≤◌, ◌<◌, ◌^◌, ◌++◌, IfOk, IfErr, OnOk, map, length, vec_len};
+ghost use Rattle.std.specs.Prelude.{◌≡◌, ◌≤◌, ◌<◌, ◌^◌, ◌++◌, IfOk, true, IfErr, OnOk, map, length, vec_len};
 ghost use Rattle.std.specs.Option.{option_map};
-ghost use Rattle.asn_values.specs.Fits.{Fits, FitsEach, FitsNumber};
-ghost use Rattle.asn_values.specs.Shape.{integer, demands};
-ghost use Rattle.asn_values.specs.Datum.{number};
+ghost use Rattle.asn_values.specs.Fits.{Fits, FitsEach, FitsNumber, FitsAlternative};
+ghost use Rattle.asn_values.specs.Shape.{integer, marked, demands, sequence_of};
+ghost use Rattle.asn_values.specs.Datum.{number, elements, elements_of};
+ghost use Rattle.std.specs.List.{AllByRecursion};
 ghost use Rattle.asn_values.specs.Profile.{InProfile};
-ghost use Rattle.asn_values.specs.Parts.{AreOfProfile, IsGoodDemand};
-ghost use Rattle.asn_values.specs.View.{shape_of, datum_of, range_of, fields_of, part_of_field};
+ghost use Rattle.asn_values.specs.Parts.{AreOfProfile, AreAllOfProfile, IsGoodDemand};
+ghost use Rattle.asn_values.specs.View.{shape_of, datum_of, range_of, size_range_of, fields_of, part_of_field, alternatives_of, branch_of};
 ghost use Rattle.asn_bits.specs.Numbers.{bits};
 ghost use Rattle.asn_rules.specs.Answer.{max_octets};
+ghost use Rattle.asn_rules.specs.Chunks.{flat};
 ghost use Rattle.asn_rules.specs.Codec.{NotEncoded};
-ghost use Rattle.asn_rules.specs.Components.{has_presence_bit, is_spelled, presence};
+ghost use Rattle.asn_rules.specs.Components.{any_present, has_presence_bit, is_spelled, presence};
 ghost use Rattle.asn_per.specs.Kinds.{root_of};
-ghost use Rattle.asn_per.specs.Per.{ranged};
+ghost use Rattle.asn_per.specs.Per.{ranged, per, per_alternative, spelled, an_open_field, per_octets};
 ghost use Rattle.asn_per.specs.Rules.{per_ruling, IsPerEncoding};
-ghost use Rattle.asn_per.specs.Laws.{per_bits, component_bits};
+ghost use Rattle.asn_per.specs.Laws.{per_bits};
+ghost use Rattle.asn_per.specs.Additions.{AreOptional, root_bits, addition_bits};
+ghost use Rattle.asn_per.specs.StringItems.{row_bits};
 
+use crate::indexes::{Index, write_index};
 use crate::items::write_enumerated;
-use crate::string_writer::{write_bit_string, write_octet_string, write_text, write_utf8};
+use crate::string_writer::{
+    BLOCK, push_count, push_extension_bit, write_bit_string, write_octet_string, write_text,
+    write_utf8,
+};
 use asn_bits::BitSink;
 use asn_bits::numbers::width;
 use asn_bits::offsets::above;
 use asn_rules::EncodeFault;
-use asn_values::{AsnType, Bounds, Checked, Field, Need, Value, fits, is_between, same};
+use asn_values::{Alt, AsnType, Bounds, Checked, Field, Need, Size, Value, fits, is_between, same};
 use std::alloc::{AllocError, Global};
 
 /// The most octets of a message.
@@ -40,23 +48,50 @@ pub fn encode(alloc: Global, ty: &Checked, value: &Value) -> Result<Vec<u8>, Enc
     if !fits(ty, value) {
         return Err(EncodeFault::NotOfType);
     }
-    let mut sink = BitSink::new(alloc);
-    write(ty.get(), value, &mut sink)?;
-    if sink.is_empty() {
-        sink.push_number(8, 0)?;
-    }
-    sink.pad()?;
-    let octets = sink.into_octets();
+    let octets = complete_encoding(alloc, ty.get(), value)?;
     if octets.len() > MAX_OCTETS {
         return Err(EncodeFault::TooLong);
     }
     Ok(octets)
 }
 
+/// The octets of a value's encoding: its bits, filled up with zeros to whole octets, at least one.
+#[cycle(writer)]
+fn complete_encoding(alloc: Global, ty: &AsnType, value: &Value) -> Result<Vec<u8>, AllocError>
+    requires of_profile { InProfile (shape_of ty.now) }
+    requires of_type { Fits (shape_of ty.now) (datum_of value.now) }
+    ensures { IfOk result (λ o. o.items ≡ per_octets (shape_of ty.now) (datum_of value.now)) }
+{
+    let mut sink = BitSink::new(alloc);
+    write(alloc, ty, value, &mut sink)?;
+    if sink.is_empty() {
+        sink.push_number(8, 0)?;
+    }
+    sink.pad()?;
+    Ok(sink.into_octets())
+}
+
+/// Writes a value in an open field (X.691, "open type fields"): its complete encoding under the
+/// general length.
+#[cycle(writer)]
+pub(crate) fn write_open_field(
+    alloc: Global,
+    ty: &AsnType,
+    value: &Value,
+    sink: &mut BitSink,
+) -> Result<(), AllocError>
+    requires of_profile { InProfile (shape_of ty.now) }
+    requires of_type { Fits (shape_of ty.now) (datum_of value.now) }
+    ensures { OnOk result (sink.new ≡ sink.old ++ flat spelled (an_open_field (per (shape_of ty.now) (datum_of value.now)))) }
+{
+    let octets = complete_encoding(alloc, ty, value)?;
+    sink.push_general_octets(octets.as_slice())
+}
+
 /// Writes a value of the type.
 #[inline(always)]
 #[cycle(writer)]
-fn write(ty: &AsnType, value: &Value, sink: &mut BitSink) -> Result<(), AllocError>
+fn write(alloc: Global, ty: &AsnType, value: &Value, sink: &mut BitSink) -> Result<(), AllocError>
     requires of_profile { InProfile (shape_of ty.now) }
     requires of_type { Fits (shape_of ty.now) (datum_of value.now) }
     ensures { OnOk result (sink.new ≡ sink.old ++ per_bits (shape_of ty.now) (datum_of value.now)) }
@@ -105,15 +140,78 @@ fn write(ty: &AsnType, value: &Value, sink: &mut BitSink) -> Result<(), AllocErr
             };
             write_utf8(text.as_bytes(), sink)
         }
-        AsnType::Seq { root } => {
+        AsnType::Seq { root, ext } => {
             let Value::Seq(entries) = value else {
                 unreachable!()
             };
-            let (count, bitmap) = presence_bitmap(root, entries);
-            sink.push_number(count, bitmap)?;
-            write_components(root, entries, sink)
+            let (ours, theirs) = entries.split_at(root.len());
+            let extended = is_any_present(theirs);
+            push_extension_bit(ext.is_some(), extended, sink)?;
+            write_components(alloc, root, ours, sink)?;
+            match ext {
+                Some(additions) if extended => write_additions(alloc, additions, theirs, sink),
+                _ => Ok(()),
+            }
+        }
+        AsnType::Choice { root, ext } => {
+            let Value::Choice(tag, chosen) = value else {
+                unreachable!()
+            };
+            let place = *tag as usize;
+            let known = root.len();
+            if place < known {
+                write_index(known, ext.is_some(), Index::Root(place), sink)?;
+                return write_alternative(alloc, root, place, chosen, sink);
+            }
+            let Some(additions) = ext else {
+                unreachable!()
+            };
+            write_index(known, true, Index::Added(place - known), sink)?;
+            write_added_alternative(alloc, additions, place - known, chosen, sink)
+        }
+        AsnType::SeqOf(element, size) => {
+            let Value::List(values) = value else {
+                unreachable!()
+            };
+            write_list(alloc, element, size, values, sink)
         }
     }
+}
+
+/// Writes a value of the alternative at this place.
+#[cycle(writer)]
+fn write_alternative(
+    alloc: Global,
+    alternatives: &[Alt],
+    place: usize,
+    value: &Value,
+    sink: &mut BitSink,
+) -> Result<(), AllocError>
+    requires of_profile { AreAllOfProfile (alternatives_of (map branch_of alternatives.now)) }
+    requires inside { place < length alternatives.now }
+    requires of_type { FitsAlternative (alternatives_of (map branch_of alternatives.now)) place (datum_of value.now) }
+    ensures { OnOk result (sink.new ≡ sink.old
+        ++ flat spelled (per_alternative (alternatives_of (map branch_of alternatives.now)) place (datum_of value.now))) }
+{
+    write(alloc, &alternatives[place].ty, value, sink)
+}
+
+/// Writes a value of the alternative at this place in an open field.
+#[cycle(writer)]
+fn write_added_alternative(
+    alloc: Global,
+    alternatives: &[Alt],
+    place: usize,
+    value: &Value,
+    sink: &mut BitSink,
+) -> Result<(), AllocError>
+    requires of_profile { AreAllOfProfile (alternatives_of (map branch_of alternatives.now)) }
+    requires inside { place < length alternatives.now }
+    requires of_type { FitsAlternative (alternatives_of (map branch_of alternatives.now)) place (datum_of value.now) }
+    ensures { OnOk result (sink.new ≡ sink.old
+        ++ flat spelled (an_open_field (per_alternative (alternatives_of (map branch_of alternatives.now)) place (datum_of value.now)))) }
+{
+    write_open_field(alloc, &alternatives[place].ty, value, sink)
 }
 
 /// Writes a number of the range (X.691, "encoding the integer type"): behind an extension mark a bit
@@ -167,8 +265,9 @@ fn presence_bitmap(fields: &[Field], entries: &[Option<Value>]) -> (u32, u64)
 {
     let mut count = 0;
     let mut bitmap = 0;
-    for (field, entry) in fields.iter().zip(entries) {
+    for (place, field) in fields.iter().enumerate() {
         if may_be_absent(field) {
+            let entry = &entries[place];
             count += 1;
             bitmap = 2 * bitmap + u64::from(is_encoded(field, entry));
         }
@@ -198,24 +297,122 @@ fn is_encoded(field: &Field, entry: &Option<Value>) -> bool
     }
 }
 
-/// Writes the components that are encoded, in order.
+/// Writes the presence bits of components and those that are encoded, in order (X.691, "encoding
+/// the sequence type").
 #[cycle(writer)]
 fn write_components(
+    alloc: Global,
     fields: &[Field],
     entries: &[Option<Value>],
     sink: &mut BitSink,
 ) -> Result<(), AllocError>
     requires of_profile { AreOfProfile (fields_of (map part_of_field fields.now)) }
     requires of_type { FitsEach (fields_of (map part_of_field fields.now)) (map (option_map datum_of) entries.now) }
+    requires few { length fields.now ≤ 64 }
     ensures { OnOk result (sink.new ≡ sink.old
-        ++ component_bits (fields_of (map part_of_field fields.now)) (map (option_map datum_of) entries.now)) }
+        ++ root_bits (fields_of (map part_of_field fields.now)) (map (option_map datum_of) entries.now)) }
 {
+    let (count, bitmap) = presence_bitmap(fields, entries);
+    sink.push_number(count, bitmap)?;
     for (field, entry) in fields.iter().zip(entries) {
-        if let Some(value) = entry
-            && is_encoded(field, entry)
-        {
-            write(&field.ty, value, sink)?;
+        let Some(value) = entry else {
+            continue;
+        };
+        // integers that are always there are most often met, so these are written before any other kind
+        // is asked for
+        if let (AsnType::Int(bounds), Value::Int(whole), Need::Must) = (
+            &field.ty,
+            value,
+            &field.need,
+        ) {
+            write_integer(bounds, *whole, sink)?;
+        } else if is_encoded(field, entry) {
+            write(alloc, &field.ty, value, sink)?;
         }
+    }
+    Ok(())
+}
+
+/// Whether some entry has a value.
+fn is_any_present(entries: &[Option<Value>]) -> bool
+    ensures { result ≡ any_present (map (option_map datum_of) entries.now) }
+{
+    entries.iter().any(|entry| entry.is_some())
+}
+
+/// Writes extension additions, of which one is present: how many there are, a presence bit for each,
+/// and those that are present in open fields.
+#[cycle(writer)]
+fn write_additions(
+    alloc: Global,
+    fields: &[Field],
+    entries: &[Option<Value>],
+    sink: &mut BitSink,
+) -> Result<(), AllocError>
+    requires of_profile { AreOfProfile (fields_of (map part_of_field fields.now)) }
+    requires optional { AreOptional (fields_of (map part_of_field fields.now)) }
+    requires of_type { FitsEach (fields_of (map part_of_field fields.now)) (map (option_map datum_of) entries.now) }
+    requires some { any_present (map (option_map datum_of) entries.now) ≡ true }
+    requires few { length fields.now ≤ 64 }
+    ensures { OnOk result (sink.new ≡ sink.old
+        ++ addition_bits (marked (fields_of (map part_of_field fields.now))) (map (option_map datum_of) entries.now)) }
+{
+    // a normally small length: 0, and one less than the number in 6 bits
+    sink.push_number(7, fields.len() as u64 - 1)?;
+    let (count, bitmap) = presence_bitmap(fields, entries);
+    sink.push_number(count, bitmap)?;
+    for (field, entry) in fields.iter().zip(entries) {
+        if let Some(value) = entry {
+            write_open_field(alloc, &field.ty, value, sink)?;
+        }
+    }
+    Ok(())
+}
+
+/// Writes the elements of a SEQUENCE OF (X.691, "encoding the sequence-of type"): behind their count, or one
+/// general length after the other, each with the elements that it counts.
+#[cycle(writer)]
+fn write_list(
+    alloc: Global,
+    element: &AsnType,
+    size: &Size,
+    values: &[Value],
+    sink: &mut BitSink,
+) -> Result<(), AllocError>
+    requires of_profile { InProfile (sequence_of (shape_of element.now) (size_range_of size.now)) }
+    requires of_type { Fits (sequence_of (shape_of element.now) (size_range_of size.now)) (elements (elements_of (map datum_of values.now))) }
+    ensures { OnOk result (sink.new ≡ sink.old
+        ++ per_bits (sequence_of (shape_of element.now) (size_range_of size.now)) (elements (elements_of (map datum_of values.now)))) }
+{
+    if push_count(size, values.len(), sink)? {
+        return write_elements(alloc, element, values, sink);
+    }
+    let mut done = 0;
+    loop {
+        let many = sink.push_length((values.len() - done) as u64)? as usize;
+        let last = many < BLOCK;
+        write_elements(alloc, element, &values[done..done + many], sink)?;
+        if last {
+            return Ok(());
+        }
+        done += many;
+    }
+}
+
+/// Writes elements one after the other.
+#[cycle(writer)]
+fn write_elements(
+    alloc: Global,
+    element: &AsnType,
+    values: &[Value],
+    sink: &mut BitSink,
+) -> Result<(), AllocError>
+    requires of_profile { InProfile (shape_of element.now) }
+    requires of_type { AllByRecursion (λ d. Fits (shape_of element.now) d) (map datum_of values.now) }
+    ensures { OnOk result (sink.new ≡ sink.old ++ row_bits (map (λ d. per (shape_of element.now) d) (map datum_of values.now))) }
+{
+    for value in values {
+        write(alloc, element, value, sink)?;
     }
     Ok(())
 }

@@ -1,9 +1,10 @@
 //! Readers of integers and truth values, of which one may be left out: a component that has a DEFAULT is
 //! spelt with another value only.
-ghost use Rattle.std.specs.Prelude.{◌≡◌, ◌≤◌, ◌<◌, ◌+◌, ◌^◌, pos, IfOk, IfErr, ℕ, Some, None, true, false};
+ghost use Rattle.std.specs.Prelude.{◌≡◌, ◌≤◌, ◌<◌, ◌≤ℤ◌, ◌+◌, ◌^◌, pos, IfOk, IfErr, IfSome, IsNone, ℕ, Some, None, true, false};
 ghost use Rattle.std.specs.Option.{option_map};
 ghost use Rattle.asn_values.specs.Datum.{number, truth};
 ghost use Rattle.asn_values.specs.Shape.{integer, boolean};
+ghost use Rattle.asn_values.specs.Fits.{lowest_integer, highest_integer};
 ghost use Rattle.asn_values.specs.Profile.{InProfile, is_outside};
 ghost use Rattle.asn_values.specs.View.{range_of};
 ghost use Rattle.asn_bits.specs.Numbers.{width, above};
@@ -17,7 +18,7 @@ ghost use Rattle.asn_per.specs.Per.{per, per_fields};
 ghost use Rattle.asn_per.specs.Kinds.{Unconstrained, IsOutside};
 ghost use Rattle.asn_per.specs.Reading.{Admits, IsWithin, unmarked, up_to, least_of, highest_count_of, AreOffsets, IsUpTo, IsOpen, Held, low_offset, high_offset};
 
-use crate::number_reader::{Numbers, number};
+use crate::number_reader::{Numbers, number, take};
 use crate::signed_reader::{Offsets, unconstrained};
 use asn_bits::BitCursor;
 use asn_bits::numbers::{octet_count, width};
@@ -106,6 +107,23 @@ fn from_low(
             Ok(number_above(low, offset))
         }
     }
+}
+
+/// Takes an integer between these bounds, where its bits are at hand and it is one; else all bits stay.
+#[inline(always)]
+pub(crate) fn take_between(low: i128, high: i128, bits: &mut BitCursor<'_>) -> Option<i128>
+    requires of_profile { InProfile (integer (unmarked (Some low) (Some high))) }
+    ensures some { IfSome result (λ z. Spells per_fields (Spelt per None (integer (unmarked (Some low) (Some high)))) (number z) bits.old bits.new × (lowest_integer ≤ℤ z) × (z ≤ℤ highest_integer)) }
+    ensures none { IsNone result → bits.new ≡ bits.old }
+{
+    let highest = above(low, high);
+    let set = Numbers {
+        low: 0,
+        high: highest,
+        except: None,
+    };
+    let offset = take(width(u128::from(highest) + 1), set, bits)?;
+    Some(number_above(low, offset))
 }
 
 /// How far the integer that is left out lies above the low bound.

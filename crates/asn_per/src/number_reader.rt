@@ -1,8 +1,9 @@
 //! Readers of numbers in so many bits, refused at the first bit after which none can follow.
-ghost use Rattle.std.specs.Prelude.{◌≡◌, ◌≤◌, ◌↔◌, ℕ, List, IfOk, IfErr, IfSome, IsNone, IsTrue, length};
+ghost use Rattle.std.specs.Prelude.{◌≡◌, ◌≤◌, ◌↔◌, ℕ, List, IfOk, IfErr, IfSome, IsNone, IsTrue, length, replicate};
 ghost use Rattle.asn_rules.specs.Languages.{Spells, Plain};
 ghost use Rattle.asn_bits.specs.Begun.{StandsFirst};
 ghost use Rattle.asn_bits.specs.Sets.{AreBits, InSet, Meets, Among};
+ghost use Rattle.asn_rules.specs.Padding.{Fixed};
 ghost use Rattle.asn_rules.specs.Stops.{Stops};
 ghost use Rattle.asn_per.specs.Per.{per_fields};
 ghost use Rattle.asn_per.specs.Reading.{Admits, AreAmong};
@@ -85,7 +86,7 @@ pub(crate) fn number_among(
 
 /// The number in the next `k` bits, where so many are left and it is one of the set; else all stay.
 #[inline(always)]
-fn take(k: u32, set: Numbers, bits: &mut BitCursor<'_>) -> Option<u64>
+pub(crate) fn take(k: u32, set: Numbers, bits: &mut BitCursor<'_>) -> Option<u64>
     requires { k ≤ 64 }
     ensures some { IfSome result (λ n. StandsFirst k (λ m. Admits set m) n bits.old bits.new) }
     ensures none { IsNone result → (n : ℕ) (rest : List ℕ) → StandsFirst k (λ m. Admits set m) n bits.old rest → ⊥ }
@@ -130,4 +131,19 @@ fn number_by_bits(
             }
         }
     }
+}
+
+/// Reads so many zeros: they fill up octets.
+pub(crate) fn padding(zeros: u32, bits: &mut BitCursor<'_>) -> Result<(), Stop>
+    requires { zeros ≤ 8 }
+    ensures done { IfOk result (λ v. Spells per_fields (Fixed (replicate zeros 0)) v bits.old bits.new) }
+    ensures stop { IfErr result (λ why. Stops per_fields (Fixed (replicate zeros 0)) bits.old why) }
+{
+    let set = Numbers {
+        low: 0,
+        high: 0,
+        except: None,
+    };
+    number(zeros, set, Why::Padding, bits)?;
+    Ok(())
 }

@@ -17,7 +17,7 @@ use asn_values::{Size, TextKind};
 use std::alloc::AllocError;
 
 /// How many items a block of a fragment has.
-const BLOCK: usize = 16384;
+pub(crate) const BLOCK: usize = 16384;
 
 /// Writes the bits of a BIT STRING (X.691, "encoding the bitstring type").
 pub(crate) fn write_bit_string(

@@ -10,7 +10,7 @@ use std::test::Fail;
 const HIGHEST: i128 = 9_223_372_036_854_775_807;
 
 /// INTEGER (low..high), or INTEGER (low..MAX)
-fn integer(low: i128, high: Option<i128>) -> AsnType {
+pub(crate) fn integer(low: i128, high: Option<i128>) -> AsnType {
     AsnType::Int(Bounds {
         low: Some(low),
         high,
@@ -18,7 +18,12 @@ fn integer(low: i128, high: Option<i128>) -> AsnType {
     })
 }
 
-fn field(alloc: Global, name: &str, ty: AsnType, need: Need) -> Result<Field, AllocError> {
+pub(crate) fn field(
+    alloc: Global,
+    name: &str,
+    ty: AsnType,
+    need: Need,
+) -> Result<Field, AllocError> {
     Ok(Field {
         name: String::from_str(alloc, name)?,
         ty,
@@ -68,7 +73,7 @@ fn sample(alloc: Global) -> Result<Checked, Fail> {
         field(alloc, "ok", AsnType::Bool, Need::Default(Value::Bool(true)))?,
         field(alloc, "flag", AsnType::Bool, Need::Optional)?,
     ]?;
-    Ok(Checked::new(alloc, AsnType::Seq { root })?)
+    Ok(Checked::new(alloc, AsnType::Seq { root, ext: None })?)
 }
 
 /// A value of it.
@@ -91,17 +96,17 @@ fn noted(alloc: Global) -> Result<Checked, Fail> {
         field(alloc, "ok", AsnType::Bool, Need::Default(Value::Bool(true)))?,
         field(alloc, "note", note, Need::Optional)?,
     ]?;
-    Ok(Checked::new(alloc, AsnType::Seq { root })?)
+    Ok(Checked::new(alloc, AsnType::Seq { root, ext: None })?)
 }
 
 /// SEQUENCE { }
 fn no_components(alloc: Global) -> Result<Checked, Fail> {
     let root = vec![in alloc]?;
-    Ok(Checked::new(alloc, AsnType::Seq { root })?)
+    Ok(Checked::new(alloc, AsnType::Seq { root, ext: None })?)
 }
 
 /// The octets are the encoding of the value, to both sides.
-fn expect_pair(
+pub(crate) fn expect_pair(
     rt: &impl Abort,
     alloc: Global,
     ty: &Checked,
@@ -116,7 +121,13 @@ fn expect_pair(
 }
 
 /// The octets are not decoded, for this fault.
-fn expect_fault(rt: &impl Abort, alloc: Global, ty: &Checked, octets: &[u8], want: DecodeFault) {
+pub(crate) fn expect_fault(
+    rt: &impl Abort,
+    alloc: Global,
+    ty: &Checked,
+    octets: &[u8],
+    want: DecodeFault,
+) {
     assert_eq!(rt;
         decode(alloc, ty, octets).err(),
         Some(want),
@@ -124,7 +135,7 @@ fn expect_fault(rt: &impl Abort, alloc: Global, ty: &Checked, octets: &[u8], wan
     );
 }
 
-fn refused(at: u64, why: Why) -> DecodeFault {
+pub(crate) fn refused(at: u64, why: Why) -> DecodeFault {
     DecodeFault::Refused { at, why }
 }
 
@@ -303,7 +314,7 @@ fn a_default_item_is_not_spelt(rt: HostRuntime) -> Result<(), Fail> {
     let alloc = rt.alloc();
     let low = Need::Default(Value::Enum(1));
     let root = vec![in alloc; field(alloc, "height", heights(alloc)?, low)?]?;
-    let ty = Checked::new(alloc, AsnType::Seq { root })?;
+    let ty = Checked::new(alloc, AsnType::Seq { root, ext: None })?;
     for (place, octet) in [(1, 0x00), (0, 0xc0), (2, 0xa0)] {
         let value = Value::Seq(vec![in alloc; Some(Value::Enum(place))]?);
         expect_pair(&rt, alloc, &ty, &value, &[octet])?;
@@ -340,6 +351,7 @@ fn defaults_are_not_spelt(rt: HostRuntime) -> Result<(), Fail> {
         alloc,
         AsnType::Seq {
             root: vec![in alloc; n]?,
+            ext: None,
         },
     )?;
     for (number, octets) in [

@@ -1,69 +1,101 @@
--- The walk over the components of a SEQUENCE, as the program has them.
-use Rattle.std.proofs.Common.{◌≡◌, ◌<◌, ◌≤◌, ◌+◌, ◌-◌, ℕ, List, ◌∷◌, ◌⊎◌, inl, inr, map, length, drop, get_or, Vec, Global, Option, Result, Ok, Err, IfOk, IfErr, refl, rules}
+-- The types inside a SEQUENCE, a SEQUENCE OF and a CHOICE, as the walk over the program's types finds them.
+use Rattle.std.specs.Global.{Box}
+use Rattle.std.proofs.Common.{◌≡◌, ◌<◌, ◌≤◌, ◌+◌, ◌-◌, ◌⊎◌, inl, inr, ℕ, List, [], ◌∷◌, map, length, drop, get_or, Vec, Global, Option, Some, None, refl, ap, ◌∙◌, rules}
 use Rattle.std.proofs.lemmas.List.{drop_all}
 use Rattle.std.proofs.Math.Seq.{drop-cons}
 use Rattle.std.proofs.Math.Numerals.{add-one}
+use Rattle.asn_values.specs.declared.types.Alt.{Alt}
 use Rattle.asn_values.specs.declared.types.Field.{Field}
-use Rattle.asn_values.specs.declared.types.AsnType.{AsnType, Bool, Null, Int, Enum, Bits, Octets, Text, Utf8, Seq, the_lemmas}
+use Rattle.asn_values.specs.declared.types.AsnType.{AsnType, Bool, Null, Int, Enum, Bits, Octets, Text, Utf8, Seq, SeqOf, Choice, the_lemmas}
 use Rattle.asn_values.specs.declared.types.Bounds.{Bounds}
 use Rattle.asn_values.specs.declared.types.Item.{Item}
 use Rattle.asn_values.specs.declared.types.Size.{Size}
 use Rattle.asn_values.specs.declared.types.TextKind.{TextKind}
 use Rattle.asn_values.specs.declared.fault.TypeFault.{TypeFault}
-use Rattle.asn_values.specs.Walk.{IsFaultless, IsSoundWithin, IsFaultWithin, AreSoundWithin, IsFaultAmong}
-use Rattle.asn_values.specs.View.{shape_of, fields_of, part_of_field}
-use Rattle.asn_values.proofs.Views.{shape_of-Bool, shape_of-Null, shape_of-Int, shape_of-Enum, shape_of-Bits, shape_of-Octets, shape_of-Text, shape_of-Utf8, sequence_of_fields}
-use Rattle.asn_values.proofs.Walks.{IsWalkedTo, goes_on, ends, fault_among, IsSimple, sound_simple, sound_sequence, fault_behind}
-
--- the components still to be looked at are the next one and those behind it
-next_one : (levels start left : ℕ) (fields : List Field) (i : ℕ) (x : Field) → i < length fields → x ≡ get_or fields i x →
-    IsWalkedTo levels start left (fields_of (map part_of_field fields)) (fields_of (map part_of_field (drop i fields))) →
-    IsWalkedTo levels start left (fields_of (map part_of_field fields)) (fields_of (map part_of_field (x ∷ drop (i + 1) fields)))
-next_one levels start left fields i x h e w =
-    let split : drop i fields ≡ x ∷ drop (i + 1) fields = rw (add-one, drop-cons fields i x h, ← e) refl in
-    rw split at w
+use Rattle.asn_values.specs.Shape.{Shape, Fields, Alternatives}
+use Rattle.asn_values.specs.Measures.{fields_depth, fields_nodes, choice_depth, choice_nodes}
+use Rattle.asn_values.specs.Profile.{some_field, some_alternative}
+use Rattle.asn_values.specs.Walk.{IsFaultless, Extent, of_type, of_types, beside, IsSoundWithin, IsFaultWithin}
+use Rattle.asn_values.specs.View.{shape_of, fields_of, part_of_field, alternatives_of, branch_of}
+use Rattle.asn_values.proofs.Views.{shape_of-Bool, shape_of-Null, shape_of-Int, shape_of-Enum, shape_of-Bits, shape_of-Octets, shape_of-Text, shape_of-Utf8, sequence_of_fields, list_of_elements, choice_of_alternatives}
+use Rattle.asn_values.proofs.Alternatives.{shape_of_branch}
+use Rattle.asn_values.proofs.Walks.{IsWalkedTo, goes_on, ends, fault_among, IsSimple, sound_simple, IsAround}
 
 -- the shape of a component's type
 pub shape_of_part : (x : Field) → (part_of_field x).shape ≡ shape_of x.ty
 shape_of_part x = search (rules, the_lemmas)
 
--- past one that is sound
-pub next_is_sound : (levels start left now : ℕ) (fields : List Field) (i : ℕ) (x : Field) → i < length fields → x ≡ get_or fields i x →
-    IsWalkedTo levels start left (fields_of (map part_of_field fields)) (fields_of (map part_of_field (drop i fields))) →
-    IsSoundWithin levels left now (part_of_field x).shape →
-    IsWalkedTo levels start now (fields_of (map part_of_field fields)) (fields_of (map part_of_field (drop (i + 1) fields)))
-next_is_sound levels start left now fields i x h e w s =
-    goes_on levels start left now _ (part_of_field x).name (part_of_field x).demand (part_of_field x).shape _ (next_one levels start left fields i x h e w) s
+-- ---- the parts of a type one after the other, of which `shape` is the type's
 
--- a fault of the next one is one of them all
-pub next_has_fault : (f : TypeFault) (levels start left : ℕ) (fields : List Field) (i : ℕ) (x : Field) → i < length fields → x ≡ get_or fields i x →
-    IsWalkedTo levels start left (fields_of (map part_of_field fields)) (fields_of (map part_of_field (drop i fields))) →
-    IsFaultWithin f levels left (part_of_field x).shape → IsFaultAmong f levels start (fields_of (map part_of_field fields))
-next_has_fault f levels start left fields i x h e w bad =
-    fault_among f levels start left _ (part_of_field x).name (part_of_field x).demand (part_of_field x).shape _ (next_one levels start left fields i x h e w) bad
+module _ {A : Type 0} (shape : A → Shape) (levels start left : ℕ) (parts : List A) (i : ℕ) where
+  -- those still to be looked at are the next one and those behind it
+  next_one : (x : A) → i < length parts → x ≡ get_or parts i x →
+      IsWalkedTo levels start left (map shape parts) (map shape (drop i parts)) →
+      IsWalkedTo levels start left (map shape parts) (shape x ∷ map shape (drop (i + 1) parts))
+  next_one x h e w =
+      let split : drop i parts ≡ x ∷ drop (i + 1) parts = rw (add-one, drop-cons parts i x h, ← e) refl in
+      rw split at w
 
--- past the last
-pub all_passed : (levels start left : ℕ) (fields : List Field) (i : ℕ) → length fields ≤ i →
-    IsWalkedTo levels start left (fields_of (map part_of_field fields)) (fields_of (map part_of_field (drop i fields))) →
-    AreSoundWithin levels start left (fields_of (map part_of_field fields))
-all_passed levels start left fields i h w = ends levels start left _ (rw (drop_all i fields h) at w)
+  -- past one that is sound
+  pub next_is_sound : (now : ℕ) (x : A) → i < length parts → x ≡ get_or parts i x →
+      IsWalkedTo levels start left (map shape parts) (map shape (drop i parts)) →
+      IsSoundWithin levels left now (of_type (shape x)) →
+      IsWalkedTo levels start now (map shape parts) (map shape (drop (i + 1) parts))
+  next_is_sound now x h e w s = goes_on levels start left now (map shape parts) (shape x) (map shape (drop (i + 1) parts)) (next_one x h e w) s
 
--- what was found of the components is found of the SEQUENCE
-pub sequence_sound : (r : Result ℕ TypeFault) (levels start : ℕ) (t : AsnType) (root : Vec Field Global) (fs : List Field) → t ≡ Seq root → fs ≡ root.items →
-    0 < levels → 0 < start → IsFaultless (shape_of t) →
-    IfOk r (λ left. AreSoundWithin (levels - 1) (start - 1) left (fields_of (map part_of_field fs))) → IfOk r (λ left. IsSoundWithin levels start left (shape_of t))
-sequence_sound (Ok left) levels start t root fs et ef some more here h =
-    let type = sequence_of_fields t root fs et ef in
-    rw type (sound_sequence levels start left (fields_of (map part_of_field fs)) some more (rw type at here) h)
-sequence_sound (Err f) levels start t root fs et ef some more here h = h
+  -- a fault of the next one is one of them all
+  pub next_has_fault : (f : TypeFault) (x : A) → i < length parts → x ≡ get_or parts i x →
+      IsWalkedTo levels start left (map shape parts) (map shape (drop i parts)) →
+      IsFaultWithin f levels left (of_type (shape x)) → IsFaultWithin f levels start (of_types (map shape parts))
+  next_has_fault f x h e w bad = fault_among f levels start left (map shape parts) (shape x) (map shape (drop (i + 1) parts)) (next_one x h e w) bad
 
-pub sequence_fault : (r : Result ℕ TypeFault) (levels start : ℕ) (t : AsnType) (root : Vec Field Global) (fs : List Field) → t ≡ Seq root → fs ≡ root.items →
-    0 < levels → 0 < start →
-    IfErr r (λ f. IsFaultAmong f (levels - 1) (start - 1) (fields_of (map part_of_field fs))) → IfErr r (λ f. IsFaultWithin f levels start (shape_of t))
-sequence_fault (Ok left) levels start t root fs et ef some more h = h
-sequence_fault (Err f) levels start t root fs et ef some more h =
-    let type = sequence_of_fields t root fs et ef in
-    rw type (fault_behind f levels start (fields_of (map part_of_field fs)) some more h)
+  -- past the last
+  pub all_passed : length parts ≤ i →
+      IsWalkedTo levels start left (map shape parts) (map shape (drop i parts)) → IsSoundWithin levels start left (of_types (map shape parts))
+  all_passed h w = ends levels start left (map shape parts) (rw (drop_all i parts h) at w)
+
+-- ---- a type around those inside it
+
+-- the types behind an extension mark, where there is one
+abbrev pub types_behind : {A : Type 0} → (A → Shape) → Option (Vec A Global) → List Shape
+types_behind shape None = []
+types_behind shape (Some more) = map shape more.items
+
+-- components as a walk goes over them
+abbrev of_fields : Fields → Extent
+of_fields fs = record { count = fields_nodes fs; levels = fields_depth fs; holds = λ condition. some_field condition fs }
+
+types_of_fields : (fs : List Field) → of_fields (fields_of (map part_of_field fs)) ≡ of_types (map (λ f. shape_of f.ty) fs)
+types_of_fields [] = refl
+types_of_fields (f ∷ fs) =
+    ap (λ t. beside (of_type t) (of_fields (fields_of (map part_of_field fs)))) (shape_of_part f) ∙ ap (beside (of_type (shape_of f.ty))) (types_of_fields fs)
+
+-- a SEQUENCE is around them, those behind its extension mark last
+pub sequence_around : (t : AsnType) (root : Vec Field Global) (ext : Option (Vec Field Global)) (fs : List Field) → t ≡ Seq root ext → fs ≡ root.items →
+    IsAround (shape_of t) (beside (of_types (map (λ f. shape_of f.ty) fs)) (of_types (types_behind (λ f. shape_of f.ty) ext)))
+sequence_around t root None fs et ef = rw (sequence_of_fields t root None fs et ef) (record { same = rw (← types_of_fields fs) refl })
+sequence_around t root (Some more) fs et ef =
+    rw (sequence_of_fields t root (Some more) fs et ef) (record { same = rw (← types_of_fields fs, ← types_of_fields more.items) refl })
+
+-- a SEQUENCE OF is around its element
+pub list_around : (t e : AsnType) (b : Box AsnType) (s : Size) → t ≡ SeqOf b s → e ≡ b.value → IsAround (shape_of t) (of_type (shape_of e))
+list_around t e b s et eb = rw (list_of_elements t e b s et eb) (record { same = refl })
+
+-- alternatives as a walk goes over them
+abbrev of_alternatives : Alternatives → Extent
+of_alternatives alts = record { count = choice_nodes alts; levels = choice_depth alts; holds = λ condition. some_alternative condition alts }
+
+types_of_alternatives : (alts : List Alt) → of_alternatives (alternatives_of (map branch_of alts)) ≡ of_types (map (λ a. shape_of a.ty) alts)
+types_of_alternatives [] = refl
+types_of_alternatives (a ∷ alts) =
+    ap (λ t. beside (of_type t) (of_alternatives (alternatives_of (map branch_of alts)))) (shape_of_branch a) ∙ ap (beside (of_type (shape_of a.ty))) (types_of_alternatives alts)
+
+-- a CHOICE is around them, those behind its extension mark last
+pub choice_around : (t : AsnType) (root : Vec Alt Global) (ext : Option (Vec Alt Global)) (alts : List Alt) → t ≡ Choice root ext → alts ≡ root.items →
+    IsAround (shape_of t) (beside (of_types (map (λ a. shape_of a.ty) alts)) (of_types (types_behind (λ a. shape_of a.ty) ext)))
+choice_around t root None alts et ea = rw (choice_of_alternatives t root None alts et ea) (record { same = rw (← types_of_alternatives alts) refl })
+choice_around t root (Some more) alts et ea =
+    rw (choice_of_alternatives t root (Some more) alts et ea) (record { same = rw (← types_of_alternatives alts, ← types_of_alternatives more.items) refl })
 
 -- a type is one of those without others inside them
 abbrev OneOfSimple : AsnType → Type 0
@@ -83,5 +115,5 @@ simple t (inr (inr (inr (inr (inr (inr (inr e))))))) = rw (e, shape_of-Utf8) (re
 
 -- it is sound where it has no fault by itself
 pub simple_is_sound : (levels start : ℕ) (t : AsnType) → OneOfSimple t →
-    0 < levels → 0 < start → IsFaultless (shape_of t) → IsSoundWithin levels start (start - 1) (shape_of t)
+    0 < levels → 0 < start → IsFaultless (shape_of t) → IsSoundWithin levels start (start - 1) (of_type (shape_of t))
 simple_is_sound levels start t which some more here = sound_simple levels start (shape_of t) (simple t which) some more here

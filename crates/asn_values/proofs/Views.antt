@@ -1,18 +1,20 @@
 -- What a type and a value stand for, variant by variant.
+use Rattle.std.specs.Global.{Box}
 use Rattle.std.proofs.Common.{◌≡◌, ◌↔◌, List, [], ◌∷◌, map, Bool, IsTrue, Option, Some, None, option_map, Vec, Global, refl, ap, ◌∙◌, sym, rules, ℕ}
+use Rattle.asn_values.specs.declared.types.Alt.{Alt}
 use Rattle.asn_values.specs.declared.types.Field.{Field}
 use Rattle.asn_values.specs.declared.types.Bounds.{Bounds}
 use Rattle.asn_values.specs.declared.types.Item.{Item}
 use Rattle.asn_values.specs.declared.types.Size.{Size}
 use Rattle.asn_values.specs.declared.types.TextKind.{TextKind}
-use Rattle.asn_values.specs.declared.types.AsnType.{AsnType, Seq, the_lemmas}
+use Rattle.asn_values.specs.declared.types.AsnType.{AsnType, Seq, SeqOf, Choice, the_lemmas}
 use Rattle.asn_values.specs.declared.types.AsnType as asn_type
 use Rattle.asn_values.specs.declared.value.Value.{Value}
 use Rattle.asn_values.specs.declared.value.Value as values
 use Rattle.asn_values.specs.declared.value.Value.TheVariants as value
-use Rattle.asn_values.specs.Datum.{Datum, components, components_of, component_list, bit_list, octet_list, characters}
-use Rattle.asn_values.specs.Shape.{boolean, null, integer, enumerated, bit_string, octet_string, restricted, utf8_string, sequence, closed}
-use Rattle.asn_values.specs.View.{shape_of, datum_of, range_of, size_range_of, alphabet_of, label_of, more_labels_of, fields_of, part_of_field}
+use Rattle.asn_values.specs.Datum.{Datum, components, components_of, component_list, elements, elements_of, element_list, alternative, bit_list, octet_list, characters}
+use Rattle.asn_values.specs.Shape.{boolean, null, integer, enumerated, bit_string, octet_string, restricted, utf8_string, sequence, sequence_of, choice}
+use Rattle.asn_values.specs.View.{shape_of, datum_of, range_of, size_range_of, alphabet_of, label_of, more_labels_of, fields_of, part_of_field, more_fields_of, alternatives_of, branch_of, more_alternatives_of}
 
 -- types without others inside them
 pub shape_of-Bool : shape_of asn_type.Bool ≡ boolean
@@ -40,12 +42,32 @@ pub shape_of-Utf8 : shape_of asn_type.Utf8 ≡ utf8_string
 shape_of-Utf8 = search (rules, the_lemmas)
 
 -- a SEQUENCE stands for its components
-pub shape_of-Seq : (root : Vec Field Global) → shape_of (Seq root) ≡ sequence (fields_of (map part_of_field root.items)) closed
-shape_of-Seq root = search (rules, the_lemmas)
+pub shape_of-Seq : (root : Vec Field Global) (ext : Option (Vec Field Global)) → shape_of (Seq root ext) ≡ sequence (fields_of (map part_of_field root.items)) (more_fields_of ext)
+shape_of-Seq root None = search (rules, the_lemmas)
+shape_of-Seq root (Some more) = search (rules, the_lemmas)
 
 -- the same of a type that is seen to be one, and a list that is seen to be its components
-pub sequence_of_fields : (t : AsnType) (root : Vec Field Global) (fs : List Field) → t ≡ Seq root → fs ≡ root.items → shape_of t ≡ sequence (fields_of (map part_of_field fs)) closed
-sequence_of_fields t root fs et ef = rw (et, ef) (shape_of-Seq root)
+pub sequence_of_fields :
+    (t : AsnType) (root : Vec Field Global) (ext : Option (Vec Field Global)) (fs : List Field) → t ≡ Seq root ext → fs ≡ root.items →
+    shape_of t ≡ sequence (fields_of (map part_of_field fs)) (more_fields_of ext)
+sequence_of_fields t root ext fs et ef = rw (et, ef) (shape_of-Seq root ext)
+
+-- a SEQUENCE OF stands for its element and its size
+pub shape_of-SeqOf : (b : Box AsnType) (s : Size) → shape_of (SeqOf b s) ≡ sequence_of (shape_of b.value) (size_range_of s)
+shape_of-SeqOf b s = search (rules, the_lemmas)
+
+pub list_of_elements : (t e : AsnType) (b : Box AsnType) (s : Size) → t ≡ SeqOf b s → e ≡ b.value → shape_of t ≡ sequence_of (shape_of e) (size_range_of s)
+list_of_elements t e b s et eb = rw (et, eb) (shape_of-SeqOf b s)
+
+-- a CHOICE stands for its alternatives
+pub shape_of-Choice : (root : Vec Alt Global) (ext : Option (Vec Alt Global)) → shape_of (Choice root ext) ≡ choice (alternatives_of (map branch_of root.items)) (more_alternatives_of ext)
+shape_of-Choice root None = search (rules, the_lemmas)
+shape_of-Choice root (Some more) = search (rules, the_lemmas)
+
+pub choice_of_alternatives :
+    (t : AsnType) (root : Vec Alt Global) (ext : Option (Vec Alt Global)) (alts : List Alt) → t ≡ Choice root ext → alts ≡ root.items →
+    shape_of t ≡ choice (alternatives_of (map branch_of alts)) (more_alternatives_of ext)
+choice_of_alternatives t root ext alts et ea = rw (et, ea) (shape_of-Choice root ext)
 
 -- the value of a SEQUENCE stands for its entries
 pub datum_of-Bits : (v : Vec Bool Global) → datum_of (value.Bits v) ≡ bit_list v.items
@@ -60,11 +82,22 @@ datum_of-Text v = search (rules, values.the_lemmas)
 pub datum_of-Seq : (v : Vec (Option Value) Global) → datum_of (value.Seq v) ≡ components (components_of (map (option_map datum_of) v.items))
 datum_of-Seq v = search (rules, values.the_lemmas)
 
+-- the value of a SEQUENCE OF stands for its elements, and that of a CHOICE for the value inside
+pub datum_of-List : (v : Vec Value Global) → datum_of (value.List v) ≡ elements (elements_of (map datum_of v.items))
+datum_of-List v = search (rules, values.the_lemmas)
+
+pub datum_of-Choice : (tag : ℕ) (b : Box Value) → datum_of (value.Choice tag b) ≡ alternative tag (datum_of b.value)
+datum_of-Choice tag b = search (rules, values.the_lemmas)
+
 -- entries made into components are those entries
 pub component_list-components_of : (es : List (Option Datum)) → component_list (components_of es) ≡ es
 component_list-components_of [] = refl
 component_list-components_of (None ∷ es) = ap (λ r. None ∷ r) (component_list-components_of es)
 component_list-components_of (Some d ∷ es) = ap (λ r. Some d ∷ r) (component_list-components_of es)
+
+pub element_list-elements_of : (ds : List Datum) → element_list (elements_of ds) ≡ ds
+element_list-elements_of [] = refl
+element_list-elements_of (d ∷ ds) = ap (λ r. d ∷ r) (element_list-elements_of ds)
 
 -- values of SEQUENCEs are the same where their entries are
 pub same_components : (xs ys : List (Option Datum)) → (xs ≡ ys) ↔ (components (components_of xs) ≡ components (components_of ys))

@@ -1,126 +1,117 @@
 -- How what a walk found of the parts of a type tells what holds of the whole.
-use Rattle.std.proofs.Common.{◌≡◌, ◌≤◌, ◌<◌, ◌+◌, ◌-◌, ◌||◌, inl, inr, ℕ, suc, Bool, true, false, List, [], ◌∷◌, length, nat_lt, refl, ap, arith, sym}
+use Rattle.std.proofs.Common.{◌≡◌, ◌<◌, ◌-◌, ◌||◌, inl, inr, ℕ, suc, Bool, true, false, List, [], ◌∷◌, nat_lt, Option, Some, None, refl, sym, subst, arith}
 use Rattle.asn_values.specs.declared.fault.TypeFault.{TypeFault}
 use Rattle.asn_values.specs.declared.fault.TypeFault.TheVariants as fault
-use Rattle.asn_values.specs.Shape.{Shape, sequence, Fields, no_fields, field, closed, demands, field_names}
-use Rattle.asn_values.specs.Measures.{depth, fields_depth, nodes, fields_nodes}
-use Rattle.asn_values.specs.Profile.{Condition, EmptyRange, SizeTooLarge, DuplicateName, BadEnumeration, UselessMark, BadDefault, ZeroWidthElement, AdditionNotOptional, TooMany, TooDeep, somewhere, some_field, empty_range, size_too_large, duplicate_name, bad_enumeration, useless_mark, bad_default, too_many_here, bad_names, bad_default_at, most_components, most_levels, most_nodes, InProfile}
-use Rattle.asn_values.specs.Walk.{test_of, IsFaultless, IsSoundWithin, IsFaultWithin, AreSoundWithin, IsFaultAmong}
-use Rattle.asn_values.specs.View.{Part, fields_of, Holds}
+use Rattle.asn_values.specs.Shape.{Shape}
+use Rattle.asn_values.specs.Measures.{depth, nodes}
+use Rattle.asn_values.specs.Profile.{EmptyRange, SizeTooLarge, DuplicateName, BadEnumeration, UselessMark, BadDefault, ZeroWidthElement, AdditionNotOptional, TooMany, TooDeep, somewhere, too_many_here, most_levels, most_nodes, InProfile}
+use Rattle.asn_values.specs.Walk.{test_of, condition_of, IsFound, IsFaultless, Extent, of_type, beside, of_types, IsSoundWithin, IsFaultWithin}
+use Rattle.asn_values.specs.View.{Holds}
 use Rattle.std.proofs.lemmas.Bool.{le-ltb, lt-ltb}
-use Rattle.std.proofs.lemmas.List.{append-nil}
 
--- ---- components, from the left to the right
+-- a part of a test that holds
+in_front : (a b : Bool) → a ≡ true → (a || b) ≡ true
+in_front a b h = rw h refl
 
--- of all components those in `rest` are still to be looked at, and `left` nodes are left
-pub record IsWalkedTo (levels start left : ℕ) (all rest : Fields) : Type 0 where
-  pub counted : left + fields_nodes all ≡ start + fields_nodes rest
-  pub shallow : fields_depth rest ≤ levels → fields_depth all ≤ levels
-  pub below : fields_depth rest ≤ fields_depth all
-  pub same_faults : (c : Condition) → some_field (test_of c) rest ≡ some_field (test_of c) all
-
--- before the first
-pub starts : (levels start : ℕ) (all : Fields) → IsWalkedTo levels start start all all
-starts levels start all = record { counted = refl; shallow = λ h. h; below = omega arith; same_faults = λ c. refl }
-
--- past one that is sound
-pub goes_on : (levels start left now : ℕ) (all : Fields) (name : List ℕ) (demand : _) (t : Shape) (rest : Fields) →
-    IsWalkedTo levels start left all (field name demand t rest) → IsSoundWithin levels left now t → IsWalkedTo levels start now all rest
-goes_on levels start left now all name demand t rest w s = record {
-  counted = omega (arith, w.counted, s.counted);
-  shallow = λ h. w.shallow (omega (arith, s.shallow));
-  below = omega (arith, w.below);
-  same_faults = λ c. rw (s.faultless c) at (w.same_faults c);
-}
-
--- behind the last
-pub ends : (levels start left : ℕ) (all : Fields) → IsWalkedTo levels start left all no_fields → AreSoundWithin levels start left all
-ends levels start left all w = record {
-  counted = omega (arith, w.counted);
-  shallow = w.shallow (omega arith);
-  faultless = λ c. sym (w.same_faults c);
-}
-
--- a fault of the next one is one of them all
-pub fault_among : (f : TypeFault) (levels start left : ℕ) (all : Fields) (name : List ℕ) (demand : _) (t : Shape) (rest : Fields) →
-    IsWalkedTo levels start left all (field name demand t rest) → IsFaultWithin f levels left t → IsFaultAmong f levels start all
-fault_among fault.EmptyRange levels start left all name demand t rest w h = rw h at (sym (w.same_faults EmptyRange))
-fault_among fault.SizeTooLarge levels start left all name demand t rest w h = rw h at (sym (w.same_faults SizeTooLarge))
-fault_among fault.DuplicateName levels start left all name demand t rest w h = rw h at (sym (w.same_faults DuplicateName))
-fault_among fault.BadEnumeration levels start left all name demand t rest w h = rw h at (sym (w.same_faults BadEnumeration))
-fault_among fault.UselessMark levels start left all name demand t rest w h = rw h at (sym (w.same_faults UselessMark))
-fault_among fault.BadDefault levels start left all name demand t rest w h = rw h at (sym (w.same_faults BadDefault))
-fault_among fault.TooMany levels start left all name demand t rest w (inl h) = inl (rw h at (sym (w.same_faults TooMany)))
-fault_among fault.TooMany levels start left all name demand t rest w (inr h) = inr (omega (arith, w.counted))
-fault_among fault.TooDeep levels start left all name demand t rest w h = omega (arith, w.below)
-fault_among fault.Memory levels start left all name demand t rest w h = absurd h
-
--- ---- a SEQUENCE around its components
-
--- how many components there are
-pub length-demands : (ps : List Part) → length (demands (fields_of ps)) ≡ length ps
-length-demands [] = refl
-length-demands (p ∷ ps) = ap suc (length-demands ps)
-
--- it is sound where it is so by itself and its components are
-pub sound_sequence : (levels start left : ℕ) (fs : Fields) → 0 < levels → 0 < start →
-    IsFaultless (sequence fs closed) → AreSoundWithin (levels - 1) (start - 1) left fs → IsSoundWithin levels start left (sequence fs closed)
-sound_sequence levels start left fs some more here inside = record {
-  counted = omega (arith, inside.counted);
-  shallow = omega (arith, inside.shallow);
-  faultless = λ c. rw (here c, inside.faultless c);
-}
-
--- a later part of a test that has one
 behind : (a b : Bool) → b ≡ true → (a || b) ≡ true
 behind true b h = refl
 behind false b h = h
 
--- a test that holds of a component holds inside the SEQUENCE
-inside : (test : Shape → Bool) (fs : Fields) → some_field test fs ≡ true → somewhere test (sequence fs closed) ≡ true
-inside test fs h = behind (test (sequence fs closed)) (some_field test fs || false) (rw h refl)
+-- a condition that is found is found by each that finds no less
+found_also : (c : Option (Shape → Bool)) (few more : (Shape → Bool) → Bool) → ((condition : Shape → Bool) → few condition ≡ true → more condition ≡ true) → IsFound c few → IsFound c more
+found_also None few more also h = h
+found_also (Some condition) few more also h = also condition h
 
--- a fault among its components is one of it
-pub fault_behind : (f : TypeFault) (levels start : ℕ) (fs : Fields) → 0 < levels → 0 < start →
-    IsFaultAmong f (levels - 1) (start - 1) fs → IsFaultWithin f levels start (sequence fs closed)
-fault_behind fault.EmptyRange levels start fs some more h = inside empty_range fs h
-fault_behind fault.SizeTooLarge levels start fs some more h = inside size_too_large fs h
-fault_behind fault.DuplicateName levels start fs some more h = inside duplicate_name fs h
-fault_behind fault.BadEnumeration levels start fs some more h = inside bad_enumeration fs h
-fault_behind fault.UselessMark levels start fs some more h = inside useless_mark fs h
-fault_behind fault.BadDefault levels start fs some more h = inside bad_default fs h
-fault_behind fault.TooMany levels start fs some more (inl h) = inl (inside too_many_here fs h)
-fault_behind fault.TooMany levels start fs some more (inr h) = inr (omega arith)
-fault_behind fault.TooDeep levels start fs some more h = omega arith
-fault_behind fault.Memory levels start fs some more h = absurd h
+-- ---- one beside the other
 
--- ---- one type by itself
+-- both are sound, where the second has the nodes to go that the first left
+pub sound_beside : (levels start now left : ℕ) (a b : Extent) → IsSoundWithin levels start now a → IsSoundWithin levels now left b → IsSoundWithin levels start left (beside a b)
+sound_beside levels start now left a b x y = record {
+  counted = omega (arith, x.counted, y.counted);
+  shallow = omega (arith, x.shallow, y.shallow);
+  faultless = λ c. rw (x.faultless c) (y.faultless c);
+}
 
--- a SEQUENCE whose names, DEFAULTs and number of components are right has no fault by itself
-pub faultless_sequence : (fs : Fields) → bad_names (field_names fs) ≡ false → bad_default_at fs ≡ false → length (demands fs) ≤ most_components → IsFaultless (sequence fs closed)
-faultless_sequence fs names defaults few EmptyRange = refl
-faultless_sequence fs names defaults few SizeTooLarge = refl
-faultless_sequence fs names defaults few DuplicateName = rw append-nil names
-faultless_sequence fs names defaults few BadEnumeration = refl
-faultless_sequence fs names defaults few UselessMark = refl
-faultless_sequence fs names defaults few BadDefault = rw defaults refl
-faultless_sequence fs names defaults few ZeroWidthElement = refl
-faultless_sequence fs names defaults few AdditionNotOptional = refl
-faultless_sequence fs names defaults few TooMany = rw (le-ltb most_components (length (demands fs)) few) refl
-faultless_sequence fs names defaults few TooDeep = refl
+-- a fault of the first is one of both
+pub fault_in_front : (f : TypeFault) (levels start : ℕ) (a b : Extent) → IsFaultWithin f levels start a → IsFaultWithin f levels start (beside a b)
+fault_in_front f levels start a b (inl h) = inl (found_also (condition_of f) a.holds (beside a b).holds (λ c. in_front (a.holds c) (b.holds c)) h)
+fault_in_front f levels start a b (inr (inl (e, h))) = inr (inl (e, omega (arith, h)))
+fault_in_front f levels start a b (inr (inr (e, h))) = inr (inr (e, omega (arith, h)))
 
--- one with more components than there may be
-pub many_components : (fs : Fields) → most_components < length (demands fs) → too_many_here (sequence fs closed) ≡ true
-many_components fs many = rw (lt-ltb most_components (length (demands fs)) many) refl
+-- and so is one of the second, behind a first that is sound
+pub fault_behind : (f : TypeFault) (levels start now : ℕ) (a b : Extent) → IsSoundWithin levels start now a → IsFaultWithin f levels now b → IsFaultWithin f levels start (beside a b)
+fault_behind f levels start now a b x (inl h) = inl (found_also (condition_of f) b.holds (beside a b).holds (λ c. behind (a.holds c) (b.holds c)) h)
+fault_behind f levels start now a b x (inr (inl (e, h))) = inr (inl (e, omega (arith, h, x.counted)))
+fault_behind f levels start now a b x (inr (inr (e, h))) = inr (inr (e, omega (arith, h)))
 
--- one that has no others inside it: one level and one node
+-- ---- types, from the left to the right
+
+-- what is found of the `rest`, with `left` nodes to go, holds of `all` as well, with `start` nodes to go
+pub record IsWalkedTo (levels start left : ℕ) (all rest : List Shape) : Type 0 where
+  pub sound : (last : ℕ) → IsSoundWithin levels left last (of_types rest) → IsSoundWithin levels start last (of_types all)
+  pub fault : (f : TypeFault) → IsFaultWithin f levels left (of_types rest) → IsFaultWithin f levels start (of_types all)
+
+-- before the first
+pub starts : (levels start : ℕ) (all : List Shape) → IsWalkedTo levels start start all all
+starts levels start all = record { sound = λ last h. h; fault = λ f h. h }
+
+-- past one that is sound
+pub goes_on : (levels start left now : ℕ) (all : List Shape) (t : Shape) (rest : List Shape) →
+    IsWalkedTo levels start left all (t ∷ rest) → IsSoundWithin levels left now (of_type t) → IsWalkedTo levels start now all rest
+goes_on levels start left now all t rest w s = record {
+  sound = λ last h. w.sound last (sound_beside levels left now last (of_type t) (of_types rest) s h);
+  fault = λ f h. w.fault f (fault_behind f levels left now (of_type t) (of_types rest) s h);
+}
+
+-- no types are sound and take no nodes
+pub none_sound : (levels start : ℕ) → IsSoundWithin levels start start (of_types [])
+none_sound levels start = record { counted = omega arith; shallow = omega arith; faultless = λ c. refl }
+
+-- behind the last
+pub ends : (levels start left : ℕ) (all : List Shape) → IsWalkedTo levels start left all [] → IsSoundWithin levels start left (of_types all)
+ends levels start left all w = w.sound left (none_sound levels left)
+
+-- a fault of the next one is one of them all
+pub fault_among : (f : TypeFault) (levels start left : ℕ) (all : List Shape) (t : Shape) (rest : List Shape) →
+    IsWalkedTo levels start left all (t ∷ rest) → IsFaultWithin f levels left (of_type t) → IsFaultWithin f levels start (of_types all)
+fault_among f levels start left all t rest w h = w.fault f (fault_in_front f levels left (of_type t) (of_types rest) h)
+
+-- ---- a type around those inside it
+
+abbrev pub around : Shape → Extent → Extent
+around t e = record { count = suc e.count; levels = suc e.levels; holds = λ condition. condition t || e.holds condition }
+
+pub record IsAround (t : Shape) (inside : Extent) : Type 0 where
+  pub same : of_type t ≡ around t inside
+
+module _ (levels start : ℕ) (t : Shape) (inside : Extent) (is : IsAround t inside) (some : 0 < levels) (any : 0 < start) where
+  -- it is sound where it is so by itself and they are
+  pub sound_around : (left : ℕ) → IsFaultless t → IsSoundWithin (levels - 1) (start - 1) left inside → IsSoundWithin levels start left (of_type t)
+  sound_around left here h = rw is.same (record {
+    counted = omega (arith, h.counted);
+    shallow = omega (arith, h.shallow);
+    faultless = λ c. rw (here c) (h.faultless c);
+  })
+
+  -- a fault of them is one of it
+  pub fault_around : (f : TypeFault) → IsFaultWithin f (levels - 1) (start - 1) inside → IsFaultWithin f levels start (of_type t)
+  fault_around f h = subst (IsFaultWithin f levels start) (sym is.same) (one_further h)
+    where
+      one_further : IsFaultWithin f (levels - 1) (start - 1) inside → IsFaultWithin f levels start (around t inside)
+      one_further (inl h) = inl (found_also (condition_of f) inside.holds (around t inside).holds (λ c. behind (c t) (inside.holds c)) h)
+      one_further (inr (inl (e, h))) = inr (inl (e, omega (arith, h)))
+      one_further (inr (inr (e, h))) = inr (inr (e, omega (arith, h)))
+
+-- ---- a type that has no others inside it
+
+-- one level and one node
 pub record IsSimple (t : Shape) : Type 0 where
   pub one_node : nodes t ≡ 1
   pub one_level : depth t ≡ 1
-  pub only_itself : (test : Shape → Bool) → somewhere test t ≡ test t
+  pub only_itself : (condition : Shape → Bool) → somewhere condition t ≡ condition t
 
 -- it is sound where it has no fault by itself
-pub sound_simple : (levels start : ℕ) (t : Shape) → IsSimple t → 0 < levels → 0 < start → IsFaultless t → IsSoundWithin levels start (start - 1) t
+pub sound_simple : (levels start : ℕ) (t : Shape) → IsSimple t → 0 < levels → 0 < start → IsFaultless t → IsSoundWithin levels start (start - 1) (of_type t)
 sound_simple levels start t s some more here = record {
   counted = omega (arith, s.one_node);
   shallow = omega (arith, s.one_level);
@@ -130,7 +121,7 @@ sound_simple levels start t s some more here = record {
 -- ---- the whole type
 
 -- a type that is sound within the limits of the profile is one of the profile
-pub of_profile : (left : ℕ) (t : Shape) → IsSoundWithin most_levels most_nodes left t → InProfile t
+pub of_profile : (left : ℕ) (t : Shape) → IsSoundWithin most_levels most_nodes left (of_type t) → InProfile t
 of_profile left t s EmptyRange = s.faultless EmptyRange
 of_profile left t s SizeTooLarge = s.faultless SizeTooLarge
 of_profile left t s DuplicateName = s.faultless DuplicateName
@@ -143,14 +134,17 @@ of_profile left t s TooMany = rw (s.faultless TooMany) (le-ltb most_nodes (nodes
 of_profile left t s TooDeep = le-ltb most_levels (depth t) s.shallow
 
 -- a fault within these limits is one of the type
-pub fault_holds : (f : TypeFault) (t : Shape) → IsFaultWithin f most_levels most_nodes t → Holds f t
-fault_holds fault.EmptyRange t h = h
-fault_holds fault.SizeTooLarge t h = h
-fault_holds fault.DuplicateName t h = h
-fault_holds fault.BadEnumeration t h = h
-fault_holds fault.UselessMark t h = h
-fault_holds fault.BadDefault t h = h
-fault_holds fault.TooMany t (inl h) = rw h refl
-fault_holds fault.TooMany t (inr h) = behind (somewhere too_many_here t) (nat_lt most_nodes (nodes t)) (lt-ltb most_nodes (nodes t) h)
-fault_holds fault.TooDeep t h = lt-ltb most_levels (depth t) h
+pub fault_holds : (f : TypeFault) (t : Shape) → IsFaultWithin f most_levels most_nodes (of_type t) → Holds f t
+fault_holds fault.EmptyRange t (inl h) = h
+fault_holds fault.SizeTooLarge t (inl h) = h
+fault_holds fault.DuplicateName t (inl h) = h
+fault_holds fault.BadEnumeration t (inl h) = h
+fault_holds fault.UselessMark t (inl h) = h
+fault_holds fault.BadDefault t (inl h) = h
+fault_holds fault.ZeroWidthElement t (inl h) = h
+fault_holds fault.AdditionNotOptional t (inl h) = h
+fault_holds fault.TooMany t (inl h) = in_front (somewhere too_many_here t) (nat_lt most_nodes (nodes t)) h
+fault_holds fault.TooDeep t (inl h) = absurd h
 fault_holds fault.Memory t h = tt
+fault_holds f t (inr (inl (e, h))) = subst (λ f. Holds f t) (sym e) (behind (somewhere too_many_here t) (nat_lt most_nodes (nodes t)) (lt-ltb most_nodes (nodes t) h))
+fault_holds f t (inr (inr (e, h))) = subst (λ f. Holds f t) (sym e) (lt-ltb most_levels (depth t) h)

@@ -10,15 +10,16 @@ use Rattle.asn_values.specs.declared.types.Need.{Need}
 use Rattle.asn_values.specs.declared.types.Need.TheVariants as need
 use Rattle.asn_values.specs.declared.types.AsnType.{AsnType}
 use Rattle.asn_values.specs.declared.types.Field.{Field}
-use Rattle.asn_values.specs.declared.types.AsnType.TheOpen.{AsnType-F, Field-F}
-use Rattle.asn_values.specs.declared.types.AsnType.TheFolds.{fold-AsnType, fold-Field}
+use Rattle.asn_values.specs.declared.types.Alt.{Alt}
+use Rattle.asn_values.specs.declared.types.AsnType.TheOpen.{AsnType-F, Field-F, Alt-F}
+use Rattle.asn_values.specs.declared.types.AsnType.TheFolds.{fold-AsnType, fold-Field, fold-Alt}
 use Rattle.asn_values.specs.declared.value.Value.{Value, fold-Value}
 use Rattle.asn_values.specs.declared.value.Value.TheOpen.{Value-F}
 use Rattle.asn_values.specs.declared.fault.TypeFault.{TypeFault}
 use Rattle.asn_values.specs.declared.fault.TypeFault.TheVariants as fault
-use Rattle.asn_values.specs.Datum.{Datum, truth, nothing, number, item, bit_list, octet_list, characters, unicode, components, components_of}
-use Rattle.asn_values.specs.Shape.{Range, SizeRange, Alphabet, ia5, numeric, visible, Label, MoreLabels, closed_labels, marked_labels, Shape, boolean, null, integer, enumerated, bit_string, octet_string, restricted, utf8_string, sequence, Demand, must, optional, default, Fields, no_fields, field, closed}
-use Rattle.asn_values.specs.Profile.{EmptyRange, SizeTooLarge, DuplicateName, BadEnumeration, UselessMark, BadDefault, TooMany, TooDeep, has}
+use Rattle.asn_values.specs.Datum.{Datum, truth, nothing, number, item, bit_list, octet_list, characters, unicode, components, components_of, elements, elements_of, alternative}
+use Rattle.asn_values.specs.Shape.{Range, SizeRange, Alphabet, ia5, numeric, visible, Label, MoreLabels, closed_labels, marked_labels, Shape, boolean, null, integer, enumerated, bit_string, octet_string, restricted, utf8_string, sequence, sequence_of, choice, Demand, must, optional, default, Fields, no_fields, field, MoreFields, closed, marked, Alternatives, no_alternatives, one_of, MoreAlternatives, closed_choice, marked_choice}
+use Rattle.asn_values.specs.Profile.{EmptyRange, SizeTooLarge, DuplicateName, BadEnumeration, UselessMark, BadDefault, ZeroWidthElement, AdditionNotOptional, TooMany, TooDeep, has}
 
 -- ---- values
 
@@ -33,6 +34,8 @@ datum_step (Value-F.Octets v) = octet_list v.items
 datum_step (Value-F.Text v) = characters v.items
 datum_step (Value-F.Utf8 s) = unicode (string_bytes s)
 datum_step (Value-F.Seq v) = components (components_of v.items)
+datum_step (Value-F.List v) = elements (elements_of v.items)
+datum_step (Value-F.Choice t b) = alternative t b.value
 
 abbrev pub datum_of : Value → Datum
 datum_of = fold-Value Datum datum_step
@@ -73,8 +76,27 @@ abbrev pub fields_of : List Part → Fields
 fields_of [] = no_fields
 fields_of (p ∷ ps) = field p.name p.demand p.shape (fields_of ps)
 
+-- the extension additions, where there is a mark
+abbrev pub more_parts : Option (Vec Part) → MoreFields
+more_parts None = closed
+more_parts (Some more) = marked (fields_of more.items)
+
+-- an alternative, taken apart
+pub record Branch : Type 0 where
+  pub name : List ℕ
+  pub shape : Shape
+
+abbrev pub alternatives_of : List Branch → Alternatives
+alternatives_of [] = no_alternatives
+alternatives_of (b ∷ bs) = one_of b.name b.shape (alternatives_of bs)
+
+-- the alternatives behind the extension mark, where there is one
+abbrev pub more_branches : Option (Vec Branch) → MoreAlternatives
+more_branches None = closed_choice
+more_branches (Some more) = marked_choice (alternatives_of more.items)
+
 -- one level of a type, the types inside already seen as shapes
-abbrev pub shape_step : AsnType-F Shape Part → Shape
+abbrev pub shape_step : AsnType-F Shape Branch Part → Shape
 shape_step AsnType-F.Bool = boolean
 shape_step AsnType-F.Null = null
 shape_step (AsnType-F.Int b) = integer (range_of b)
@@ -83,16 +105,33 @@ shape_step (AsnType-F.Bits s) = bit_string (size_range_of s)
 shape_step (AsnType-F.Octets s) = octet_string (size_range_of s)
 shape_step (AsnType-F.Text k s) = restricted (alphabet_of k) (size_range_of s)
 shape_step AsnType-F.Utf8 = utf8_string
-shape_step (AsnType-F.Seq root) = sequence (fields_of root.items) closed
+shape_step (AsnType-F.Seq root ext) = sequence (fields_of root.items) (more_parts ext)
+shape_step (AsnType-F.SeqOf b s) = sequence_of b.value (size_range_of s)
+shape_step (AsnType-F.Choice root ext) = choice (alternatives_of root.items) (more_branches ext)
 
-abbrev pub field_step : Field-F Shape Part → Part
+abbrev pub field_step : Field-F Shape Branch Part → Part
 field_step f = record { name = string_bytes f.name; demand = demand_of f.need; shape = f.ty }
 
+abbrev pub branch_step : Alt-F Shape Branch Part → Branch
+branch_step a = record { name = string_bytes a.name; shape = a.ty }
+
 abbrev pub shape_of : AsnType → Shape
-shape_of = fold-AsnType Shape Part shape_step field_step
+shape_of = fold-AsnType Shape Branch Part shape_step branch_step field_step
 
 abbrev pub part_of_field : Field → Part
-part_of_field = fold-Field Shape Part shape_step field_step
+part_of_field = fold-Field Shape Branch Part shape_step branch_step field_step
+
+abbrev pub branch_of : Alt → Branch
+branch_of = fold-Alt Shape Branch Part shape_step branch_step field_step
+
+-- the same of the lists behind an extension mark, as the program holds them
+abbrev pub more_fields_of : Option (Vec Field) → MoreFields
+more_fields_of None = closed
+more_fields_of (Some more) = marked (fields_of (map part_of_field more.items))
+
+abbrev pub more_alternatives_of : Option (Vec Alt) → MoreAlternatives
+more_alternatives_of None = closed_choice
+more_alternatives_of (Some more) = marked_choice (alternatives_of (map branch_of more.items))
 
 -- ---- faults
 
@@ -104,6 +143,8 @@ Holds fault.DuplicateName t = has DuplicateName t ≡ true
 Holds fault.BadEnumeration t = has BadEnumeration t ≡ true
 Holds fault.UselessMark t = has UselessMark t ≡ true
 Holds fault.BadDefault t = has BadDefault t ≡ true
+Holds fault.ZeroWidthElement t = has ZeroWidthElement t ≡ true
+Holds fault.AdditionNotOptional t = has AdditionNotOptional t ≡ true
 Holds fault.TooMany t = has TooMany t ≡ true
 Holds fault.TooDeep t = has TooDeep t ≡ true
 Holds fault.Memory t = ⊤

@@ -1,10 +1,10 @@
 -- What a walk over a type finds, which has some levels and some nodes to go.
-use Rattle.std.specs.Prelude.{◌≡◌, ◌≤◌, ◌<◌, ◌+◌, ◌⊎◌, ℕ, Bool, true, false, Some}
+use Rattle.std.specs.Prelude.{◌≡◌, ◌≤◌, ◌<◌, ◌+◌, ◌⊎◌, ◌||◌, ℕ, max, Bool, true, false, List, [], ◌∷◌, Option, Some, None}
 use Rattle.asn_values.specs.declared.fault.TypeFault.{TypeFault}
 use Rattle.asn_values.specs.declared.fault.TypeFault.TheVariants as fault
-use Rattle.asn_values.specs.Shape.{SizeRange, Shape, Fields}
-use Rattle.asn_values.specs.Measures.{depth, fields_depth, nodes, fields_nodes}
-use Rattle.asn_values.specs.Profile.{Condition, EmptyRange, SizeTooLarge, DuplicateName, BadEnumeration, UselessMark, BadDefault, ZeroWidthElement, AdditionNotOptional, TooMany, TooDeep, somewhere, some_field, empty_range, size_above, size_too_large, large_size, is_every_length, duplicate_name, bad_enumeration, useless_mark, bad_default, zero_width_element, addition_not_optional, too_many_here}
+use Rattle.asn_values.specs.Shape.{SizeRange, Shape}
+use Rattle.asn_values.specs.Measures.{depth, nodes}
+use Rattle.asn_values.specs.Profile.{Condition, EmptyRange, SizeTooLarge, DuplicateName, BadEnumeration, UselessMark, BadDefault, ZeroWidthElement, AdditionNotOptional, TooMany, TooDeep, somewhere, empty_range, size_above, size_too_large, large_size, is_every_length, duplicate_name, bad_enumeration, useless_mark, bad_default, zero_width_element, addition_not_optional, too_many_here}
 
 -- ---- one node
 
@@ -25,17 +25,28 @@ test_of TooDeep = λ t. false
 abbrev pub IsFaultless : Shape → Type 0
 IsFaultless t = (c : Condition) → test_of c t ≡ false
 
--- the fault's condition, as a test of one type
+-- the condition that a fault tells of a type by itself, where there is one
+abbrev pub condition_of : TypeFault → Option (Shape → Bool)
+condition_of fault.EmptyRange = Some empty_range
+condition_of fault.SizeTooLarge = Some size_too_large
+condition_of fault.DuplicateName = Some duplicate_name
+condition_of fault.BadEnumeration = Some bad_enumeration
+condition_of fault.UselessMark = Some useless_mark
+condition_of fault.BadDefault = Some bad_default
+condition_of fault.ZeroWidthElement = Some zero_width_element
+condition_of fault.AdditionNotOptional = Some addition_not_optional
+condition_of fault.TooMany = Some too_many_here
+condition_of fault.TooDeep = None
+condition_of fault.Memory = None
+
+-- there is a condition, and it holds, where `holds` says which do
+abbrev pub IsFound : Option (Shape → Bool) → ((Shape → Bool) → Bool) → Type 0
+IsFound None holds = ⊥
+IsFound (Some condition) holds = holds condition ≡ true
+
+-- the fault's condition holds of the type by itself
 abbrev pub HoldsHere : TypeFault → Shape → Type 0
-HoldsHere fault.EmptyRange t = empty_range t ≡ true
-HoldsHere fault.SizeTooLarge t = size_too_large t ≡ true
-HoldsHere fault.DuplicateName t = duplicate_name t ≡ true
-HoldsHere fault.BadEnumeration t = bad_enumeration t ≡ true
-HoldsHere fault.UselessMark t = useless_mark t ≡ true
-HoldsHere fault.BadDefault t = bad_default t ≡ true
-HoldsHere fault.TooMany t = too_many_here t ≡ true
-HoldsHere fault.TooDeep t = ⊥
-HoldsHere fault.Memory t = ⊥
+HoldsHere f t = IsFound (condition_of f) (λ condition. condition t)
 
 -- ---- a size
 
@@ -52,41 +63,33 @@ HoldsOfSize fault.SizeTooLarge s = large_size (Some s) ≡ true
 HoldsOfSize fault.UselessMark s = is_every_length (Some s) ≡ true
 HoldsOfSize _ s = ⊥
 
--- ---- a type with all inside it
+-- ---- types with all inside them
 
--- none holds anywhere, the levels suffice, and of the nodes so many are left
-pub record IsSoundWithin (levels start left : ℕ) (t : Shape) : Type 0 where
-  pub counted : left + nodes t ≡ start
-  pub shallow : depth t ≤ levels
-  pub faultless : (c : Condition) → somewhere (test_of c) t ≡ false
+-- what a walk goes over: how many nodes, how many levels, and which conditions hold of one of the nodes
+pub record Extent : Type 0 where
+  pub count : ℕ
+  pub levels : ℕ
+  pub holds : (Shape → Bool) → Bool
 
--- the fault's condition holds somewhere, or there are more levels or nodes than these
-abbrev pub IsFaultWithin : TypeFault → ℕ → ℕ → Shape → Type 0
-IsFaultWithin fault.EmptyRange levels start t = somewhere empty_range t ≡ true
-IsFaultWithin fault.SizeTooLarge levels start t = somewhere size_too_large t ≡ true
-IsFaultWithin fault.DuplicateName levels start t = somewhere duplicate_name t ≡ true
-IsFaultWithin fault.BadEnumeration levels start t = somewhere bad_enumeration t ≡ true
-IsFaultWithin fault.UselessMark levels start t = somewhere useless_mark t ≡ true
-IsFaultWithin fault.BadDefault levels start t = somewhere bad_default t ≡ true
-IsFaultWithin fault.TooMany levels start t = (somewhere too_many_here t ≡ true) ⊎ (start < nodes t)
-IsFaultWithin fault.TooDeep levels start t = levels < depth t
-IsFaultWithin fault.Memory levels start t = ⊥
+abbrev pub of_type : Shape → Extent
+of_type t = record { count = nodes t; levels = depth t; holds = λ condition. somewhere condition t }
 
--- ---- the components of a SEQUENCE, one after the other
+-- one beside the other
+abbrev pub beside : Extent → Extent → Extent
+beside a b = record { count = a.count + b.count; levels = max a.levels b.levels; holds = λ condition. a.holds condition || b.holds condition }
 
--- the same of them together
-pub record AreSoundWithin (levels start left : ℕ) (fs : Fields) : Type 0 where
-  pub counted : left + fields_nodes fs ≡ start
-  pub shallow : fields_depth fs ≤ levels
-  pub faultless : (c : Condition) → some_field (test_of c) fs ≡ false
+-- types beside one another
+abbrev pub of_types : List Shape → Extent
+of_types [] = record { count = 0; levels = 0; holds = λ condition. false }
+of_types (t ∷ ts) = beside (of_type t) (of_types ts)
 
-abbrev pub IsFaultAmong : TypeFault → ℕ → ℕ → Fields → Type 0
-IsFaultAmong fault.EmptyRange levels start fs = some_field empty_range fs ≡ true
-IsFaultAmong fault.SizeTooLarge levels start fs = some_field size_too_large fs ≡ true
-IsFaultAmong fault.DuplicateName levels start fs = some_field duplicate_name fs ≡ true
-IsFaultAmong fault.BadEnumeration levels start fs = some_field bad_enumeration fs ≡ true
-IsFaultAmong fault.UselessMark levels start fs = some_field useless_mark fs ≡ true
-IsFaultAmong fault.BadDefault levels start fs = some_field bad_default fs ≡ true
-IsFaultAmong fault.TooMany levels start fs = (some_field too_many_here fs ≡ true) ⊎ (start < fields_nodes fs)
-IsFaultAmong fault.TooDeep levels start fs = levels < fields_depth fs
-IsFaultAmong fault.Memory levels start fs = ⊥
+-- no condition holds anywhere, the levels suffice, and of the nodes so many are left
+pub record IsSoundWithin (levels start left : ℕ) (e : Extent) : Type 0 where
+  pub counted : left + e.count ≡ start
+  pub shallow : e.levels ≤ levels
+  pub faultless : (c : Condition) → e.holds (test_of c) ≡ false
+
+-- the fault's condition holds somewhere, or there are more nodes or levels than these
+abbrev pub IsFaultWithin : TypeFault → ℕ → ℕ → Extent → Type 0
+IsFaultWithin f levels start e =
+    IsFound (condition_of f) e.holds ⊎ (((f ≡ fault.TooMany) × (start < e.count)) ⊎ ((f ≡ fault.TooDeep) × (levels < e.levels)))

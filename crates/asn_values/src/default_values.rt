@@ -38,6 +38,8 @@ fn is_good(ty: &AsnType, value: &Value) -> bool
         | AsnType::Octets(_)
         | AsnType::Text(..)
         | AsnType::Utf8
-        | AsnType::Seq { .. } => false,
+        | AsnType::Seq { .. }
+        | AsnType::SeqOf(..)
+        | AsnType::Choice { .. } => false,
     }
 }

@@ -22,6 +22,14 @@ pub fn same(left: &Value, right: &Value) -> bool
             Value::Seq(others) => same_entries(entries, others),
             _ => false,
         },
+        Value::List(elements) => match right {
+            Value::List(others) => same_elements(elements, others),
+            _ => false,
+        },
+        Value::Choice(tag, chosen) => match right {
+            Value::Choice(other_tag, other) => *tag == *other_tag && same(chosen, other),
+            _ => false,
+        },
     }
 }
 
@@ -49,6 +57,22 @@ fn same_entries(left: &[Option<Value>], right: &[Option<Value>]) -> bool
             },
         };
         if !is_same {
+            return false;
+        }
+    }
+    true
+}
+
+/// Whether both have the same elements, one after the other.
+#[cycle(same)]
+fn same_elements(left: &[Value], right: &[Value]) -> bool
+    ensures { IsTrue result ↔ (map datum_of left.now ≡ map datum_of right.now) }
+{
+    if left.len() != right.len() {
+        return false;
+    }
+    for (place, element) in left.iter().enumerate() {
+        if !same(element, &right[place]) {
             return false;
         }
     }

@@ -7,13 +7,13 @@ use thiserror::Error;
 #[derive(Clone, Copy, Debug, PartialEq, Eq, Error)]
 pub enum TypeFault {
     /// A low bound above the high one, a bound of an INTEGER that is no integer of 64 signed bits,
-    /// or an ENUMERATED without an item in front of its extension mark.
+    /// or an ENUMERATED or CHOICE without an item or alternative in front of its extension mark.
     #[error("empty range")]
     EmptyRange = 1,
     /// A bound of a SIZE above 65,535.
     #[error("size too large")]
     SizeTooLarge = 2,
-    /// A name twice in one SEQUENCE or ENUMERATED, or one that is no identifier.
+    /// A name twice in one SEQUENCE, CHOICE or ENUMERATED, or one that is no identifier.
     #[error("duplicate name")]
     DuplicateName = 3,
     /// A number twice in an ENUMERATED, one that is no integer of 32 signed bits, or an addition
@@ -28,8 +28,15 @@ pub enum TypeFault {
     /// mark or one value only, or one that is no value of its type.
     #[error("bad default")]
     BadDefault = 6,
-    /// More than 64 components in a SEQUENCE, more than 256 items in an ENUMERATED or 64 behind its
-    /// extension mark, or more than 10,000 types inside one another.
+    /// A SEQUENCE OF whose element is encoded in PER by no bits, whatever its value.
+    #[error("zero-width element")]
+    ZeroWidthElement = 7,
+    /// An extension addition of a SEQUENCE that is not OPTIONAL.
+    #[error("addition not OPTIONAL")]
+    AdditionNotOptional = 8,
+    /// More than 64 components in front of the extension mark of a SEQUENCE or 64 behind it, more than
+    /// 63 alternatives in a CHOICE, more than 256 items in an ENUMERATED or 64 behind its extension
+    /// mark, or more than 10,000 types inside one another.
     #[error("too many")]
     TooMany = 9,
     /// More than 32 levels of types inside one another.

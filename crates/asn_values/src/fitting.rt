@@ -1,15 +1,17 @@
 //! Which values a type has.
 ghost use Rattle.std.specs.Prelude.{◌≡◌, ◌↔◌, IsTrue, map, option_map};
-ghost use Rattle.asn_values.specs.Fits.{Fits, FitsEach, FitsDemand};
-ghost use Rattle.asn_values.specs.View.{shape_of, datum_of, demand_of, fields_of, part_of_field};
+ghost use Rattle.std.specs.List.{AllByRecursion};
+ghost use Rattle.asn_values.specs.Fits.{Fits, FitsEach, FitsDemand, FitsAlternative};
+ghost use Rattle.asn_values.specs.View.{shape_of, datum_of, demand_of, fields_of, part_of_field, alternatives_of, branch_of};
 
 use crate::checked::Checked;
-use crate::types::{AsnType, Field, Need};
+use crate::types::{Alt, AsnType, Field, Need};
 use crate::value::Value;
 use crate::{enumerations, ranges, sizes, texts};
 
-/// Whether the value is one of the type (X.680), an INTEGER being of 64 signed bits and a string of at
-/// most 268,435,455 bits, octets or characters. Takes no memory.
+/// Whether the value is one of the type (X.680), an INTEGER being of 64 signed bits, a string of at
+/// most 268,435,455 bits, octets or characters, and a list of at most so many elements. Takes no
+/// memory.
 pub fn fits(ty: &Checked, value: &Value) -> bool
     ensures { IsTrue result ↔ Fits (shape_of ty.now) (datum_of value.now) }
 {
@@ -41,11 +43,57 @@ pub(crate) fn type_has(ty: &AsnType, value: &Value) -> bool
             matches!(value, Value::Text(codes) if texts::text_fits(*kind, size, codes))
         }
         AsnType::Utf8 => matches!(value, Value::Utf8(text) if texts::unicode_fits(text)),
-        AsnType::Seq { root } => match value {
-            Value::Seq(entries) => fields_have(root, entries),
+        AsnType::Seq { root, ext } => match value {
+            Value::Seq(entries) => match ext {
+                None => fields_have(root, entries),
+                Some(more) => {
+                    let (ours, theirs) = entries.split_at(root.len().min(entries.len()));
+                    fields_have(root, ours) && fields_have(more, theirs)
+                }
+            },
+            _ => false,
+        },
+        AsnType::SeqOf(element, size) => match value {
+            Value::List(elements) => {
+                sizes::length_fits(size, elements.len()) && elements_fit(element, elements)
+            }
+            _ => false,
+        },
+        AsnType::Choice { root, ext } => match value {
+            Value::Choice(tag, chosen) => {
+                let place = *tag as usize;
+                if place < root.len() {
+                    return alternative_has(root, place, chosen);
+                }
+                match ext {
+                    None => false,
+                    Some(more) => alternative_has(more, place - root.len(), chosen),
+                }
+            }
             _ => false,
         },
     }
+}
+
+/// Whether each element is a value of the type.
+#[cycle(fits)]
+fn elements_fit(element: &AsnType, elements: &[Value]) -> bool
+    ensures { IsTrue result ↔ AllByRecursion (λ d. Fits (shape_of element.now) d) (map datum_of elements.now) }
+{
+    for value in elements {
+        if !type_has(element, value) {
+            return false;
+        }
+    }
+    true
+}
+
+/// Whether there is an alternative at this place, and the value is one of its type.
+#[cycle(fits)]
+fn alternative_has(alternatives: &[Alt], place: usize, chosen: &Value) -> bool
+    ensures { IsTrue result ↔ FitsAlternative (alternatives_of (map branch_of alternatives.now)) place (datum_of chosen.now) }
+{
+    place < alternatives.len() && type_has(&alternatives[place].ty, chosen)
 }
 
 /// Whether there is one entry for each component, and each is right for its own.

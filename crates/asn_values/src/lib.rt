@@ -1,6 +1,7 @@
 //! Types and values of ASN.1 (X.680), and which of the types are of the profile.
 #![tactic(auto)]
 
+mod additions;
 mod checked;
 mod default_values;
 mod enumerations;
@@ -15,6 +16,7 @@ mod texts;
 mod types;
 mod value;
 mod walk;
+mod widths;
 
 pub use checked::Checked;
 pub use equality::same;
@@ -22,8 +24,10 @@ pub use fault::TypeFault;
 pub use fitting::fits;
 pub use laws::defaults_are_judged;
 pub use ranges::is_between;
-pub use types::{AsnType, Bounds, Field, Item, Need, Size, TextKind};
+pub use types::{Alt, AsnType, Bounds, Field, Item, Need, Size, TextKind};
 pub use value::Value;
 
+#[cfg(test)]
+mod profile_tests;
 #[cfg(test)]
 mod tests;

@@ -1,9 +1,9 @@
-//! The names of components and items: identifiers of the notation, each only once.
+//! The names of components, alternatives and items: identifiers of the notation, each only once.
 ghost use Rattle.std.specs.Prelude.{◌≡◌, ◌&&◌, ◌||◌, ◌++◌, List, ℕ, map, bytes_eq, string_bytes};
 ghost use Rattle.std.specs.List.{list_any, list_all};
 ghost use Rattle.asn_values.specs.Profile as profile;
 
-use crate::types::{Field, Item};
+use crate::types::{Alt, Field, Item};
 
 /// What has a name in a type.
 pub(crate) trait Named {
@@ -16,6 +16,14 @@ pub(crate) trait Named {
 
 impl Named for Field {
     ghost name_of = { λ f. string_bytes f.name };
+
+    fn name(&self) -> &str {
+        self.name.as_str()
+    }
+}
+
+impl Named for Alt {
+    ghost name_of = { λ a. string_bytes a.name };
 
     fn name(&self) -> &str {
         self.name.as_str()

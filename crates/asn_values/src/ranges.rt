@@ -61,6 +61,17 @@ pub(crate) fn has_useless_mark(bounds: &Bounds) -> bool
         && bounds.high.is_none_or(|high| HIGHEST <= high)
 }
 
+/// Whether the bounds leave one number, and no extension mark follows.
+pub(crate) fn is_one_number(bounds: &Bounds) -> bool
+    ensures { result ≡ profile.is_one_number (range_of bounds.now) }
+{
+    !bounds.ext
+        && match bounds.low {
+            Some(low) => bounds.high.is_some_and(|high| high <= low),
+            None => false,
+        }
+}
+
 /// Whether the number is one of an INTEGER with these bounds.
 pub(crate) fn number_fits(bounds: &Bounds, number: i128) -> bool
     ensures { IsTrue result ↔ FitsNumber (range_of bounds.now) number }

@@ -1,7 +1,7 @@
 //! The bounds of a length: which there may be, and which lengths lie between them.
 ghost use Rattle.std.specs.Prelude.{◌≡◌, ◌↔◌, IsTrue, Some};
 ghost use Rattle.asn_values.specs.Fits.{FitsLength, in_size};
-ghost use Rattle.asn_values.specs.Profile.{size_above, large_size, is_every_length};
+ghost use Rattle.asn_values.specs.Profile.{size_above, large_size, is_every_length, is_zero_size, is_fixed_size};
 ghost use Rattle.asn_values.specs.View.{size_range_of};
 
 use crate::types::Size;
@@ -31,6 +31,20 @@ pub(crate) fn has_useless_mark(size: &Size) -> bool
     ensures { result ≡ is_every_length (Some (size_range_of size.now)) }
 {
     size.ext && size.low == 0 && size.high.is_none()
+}
+
+/// Whether there is no length but 0.
+pub(crate) fn is_zero(size: &Size) -> bool
+    ensures { result ≡ is_zero_size (size_range_of size.now) }
+{
+    !size.ext && size.high.is_some_and(|high| high == 0)
+}
+
+/// Whether there is one length only.
+pub(crate) fn is_fixed(size: &Size) -> bool
+    ensures { result ≡ is_fixed_size (size_range_of size.now) }
+{
+    !size.ext && size.high.is_some_and(|high| size.low == high)
 }
 
 /// Whether the length lies between the bounds, both counted in.

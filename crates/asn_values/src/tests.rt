@@ -7,12 +7,12 @@ use std::process::Abort;
 use std::test::Fail;
 
 /// INTEGER with these bounds, and the extension mark where `ext`
-fn bounded(low: Option<i128>, high: Option<i128>, ext: bool) -> AsnType {
+pub(crate) fn bounded(low: Option<i128>, high: Option<i128>, ext: bool) -> AsnType {
     AsnType::Int(Bounds { low, high, ext })
 }
 
 /// INTEGER (low..high)
-fn int(low: i128, high: i128) -> AsnType {
+pub(crate) fn int(low: i128, high: i128) -> AsnType {
     bounded(Some(low), Some(high), false)
 }
 
@@ -31,7 +31,7 @@ fn any_size() -> Size {
 }
 
 /// ENUMERATED { name(number), .., ..., name(number), .. }, the mark only where there are `more`
-fn items(
+pub(crate) fn items(
     alloc: Global,
     root: &[(&str, i64)],
     more: Option<&[(&str, i64)]>,
@@ -69,7 +69,12 @@ fn item_row(alloc: Global, start: u32, count: u32) -> Result<Vec<Item>, AllocErr
     Ok(list)
 }
 
-fn field(alloc: Global, name: &str, ty: AsnType, need: Need) -> Result<Field, AllocError> {
+pub(crate) fn field(
+    alloc: Global,
+    name: &str,
+    ty: AsnType,
+    need: Need,
+) -> Result<Field, AllocError> {
     Ok(Field {
         name: String::from_str(alloc, name)?,
         ty,
@@ -78,9 +83,15 @@ fn field(alloc: Global, name: &str, ty: AsnType, need: Need) -> Result<Field, Al
 }
 
 /// SEQUENCE { name type }
-fn around(alloc: Global, name: &str, ty: AsnType, need: Need) -> Result<AsnType, AllocError> {
+pub(crate) fn around(
+    alloc: Global,
+    name: &str,
+    ty: AsnType,
+    need: Need,
+) -> Result<AsnType, AllocError> {
     Ok(AsnType::Seq {
         root: vec![in alloc; field(alloc, name, ty, need)?]?,
+        ext: None,
     })
 }
 
@@ -90,11 +101,12 @@ fn pair(alloc: Global, first: AsnType, second: AsnType) -> Result<AsnType, Alloc
     let b = field(alloc, "b", second, Need::Must)?;
     Ok(AsnType::Seq {
         root: vec![in alloc; a, b]?,
+        ext: None,
     })
 }
 
 /// A SEQUENCE of so many components of BOOLEAN.
-fn booleans(alloc: Global, count: usize) -> Result<AsnType, AllocError> {
+pub(crate) fn booleans(alloc: Global, count: usize) -> Result<AsnType, AllocError> {
     let mut root = Vec::new(alloc);
     for place in 0..count {
         let name = format!(in alloc; "c{place}")?;
@@ -104,11 +116,15 @@ fn booleans(alloc: Global, count: usize) -> Result<AsnType, AllocError> {
             need: Need::Must,
         })?;
     }
-    Ok(AsnType::Seq { root })
+    Ok(AsnType::Seq { root, ext: None })
 }
 
 /// A type of that many levels: SEQUENCEs of one component, and the innermost type.
-fn levels(alloc: Global, count: usize, innermost: AsnType) -> Result<AsnType, AllocError> {
+pub(crate) fn levels(
+    alloc: Global,
+    count: usize,
+    innermost: AsnType,
+) -> Result<AsnType, AllocError> {
     let mut ty = innermost;
     for _ in 1..count {
         ty = around(alloc, "a", ty, Need::Must)?;
@@ -128,26 +144,37 @@ fn bundle(alloc: Global, full: usize, last: usize) -> Result<AsnType, AllocError
         })?;
     }
     root.push(field(alloc, "last", booleans(alloc, last)?, Need::Must)?)?;
-    Ok(AsnType::Seq { root })
+    Ok(AsnType::Seq { root, ext: None })
 }
 
 /// A type of 9,950 + last types: 1 + 4,161 + 4,161 + 1,627 + last.
-fn types(alloc: Global, last: usize) -> Result<AsnType, AllocError> {
+pub(crate) fn types(alloc: Global, last: usize) -> Result<AsnType, AllocError> {
     let a = field(alloc, "a", bundle(alloc, 63, 64)?, Need::Must)?;
     let b = field(alloc, "b", bundle(alloc, 63, 64)?, Need::Must)?;
     let c = field(alloc, "c", bundle(alloc, 25, last)?, Need::Must)?;
     Ok(AsnType::Seq {
         root: vec![in alloc; a, b, c]?,
+        ext: None,
     })
 }
 
 /// SEQUENCE { a type DEFAULT value }
-fn with_default(alloc: Global, ty: AsnType, value: Value) -> Result<AsnType, AllocError> {
+pub(crate) fn with_default(
+    alloc: Global,
+    ty: AsnType,
+    value: Value,
+) -> Result<AsnType, AllocError> {
     around(alloc, "a", ty, Need::Default(value))
 }
 
 /// The fault of the type is this one; `None` where it is of the profile.
-fn expect_fault(rt: &impl Abort, alloc: Global, what: &str, ty: AsnType, want: Option<TypeFault>) {
+pub(crate) fn expect_fault(
+    rt: &impl Abort,
+    alloc: Global,
+    what: &str,
+    ty: AsnType,
+    want: Option<TypeFault>,
+) {
     assert_eq!(rt; Checked::new(alloc, ty).err(), want, "{what}");
 }
 
@@ -215,7 +242,16 @@ fn names_have_faults(rt: HostRuntime) -> Result<(), Fail> {
         field(alloc, "c", AsnType::Bool, Need::Must)?,
         field(alloc, "ab", AsnType::Bool, Need::Must)?,
     ]?;
-    expect_fault(&rt, alloc, "twice", AsnType::Seq { root: twice }, bad);
+    expect_fault(
+        &rt,
+        alloc,
+        "twice",
+        AsnType::Seq {
+            root: twice,
+            ext: None,
+        },
+        bad,
+    );
     let inner = around(alloc, "a", AsnType::Bool, Need::Must)?;
     let outer = around(alloc, "a", inner, Need::Must)?;
     expect_fault(&rt, alloc, "one in the other", outer, None);
@@ -344,6 +380,7 @@ fn defaults_have_faults(rt: HostRuntime) -> Result<(), Fail> {
         alloc,
         AsnType::Seq {
             root: vec![in alloc]?,
+            ext: None,
         },
         none,
     )?;
@@ -422,7 +459,7 @@ fn sample(alloc: Global) -> Result<AsnType, AllocError> {
         field(alloc, "ok", AsnType::Bool, Need::Default(Value::Bool(true)))?,
         field(alloc, "flag", AsnType::Bool, Need::Optional)?,
     ]?;
-    Ok(AsnType::Seq { root })
+    Ok(AsnType::Seq { root, ext: None })
 }
 
 /// A value of it.

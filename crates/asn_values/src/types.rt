@@ -59,6 +59,14 @@ pub struct Field {
     pub need: Need,
 }
 
+/// An alternative of a CHOICE.
+#[derive(Debug, Drop)]
+#[cycle(asn_type)]
+pub struct Alt {
+    pub name: String,
+    pub ty: AsnType,
+}
+
 /// An ASN.1 type, not yet known to be one of the profile: `Checked::new` decides that.
 #[derive(Debug, Drop)]
 #[cycle(asn_type)]
@@ -83,8 +91,18 @@ pub enum AsnType {
     Text(TextKind, Size),
     /// UTF8String
     Utf8,
-    /// SEQUENCE of the components in `root`, in this order
+    /// SEQUENCE of the components in `root`, in this order, and the extension additions in `ext` behind
+    /// the extension mark; `None` where there is no mark
     Seq {
         root: Vec<Field>,
+        ext: Option<Vec<Field>>,
+    },
+    /// SEQUENCE OF this many values of the type
+    SeqOf(Box<AsnType>, Size),
+    /// CHOICE of the alternatives in `root`, and those in `ext` behind the extension mark; `None` where
+    /// there is no mark
+    Choice {
+        root: Vec<Alt>,
+        ext: Option<Vec<Alt>>,
     },
 }

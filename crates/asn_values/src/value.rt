@@ -17,6 +17,12 @@ pub enum Value {
     Text(Vec<u8>),
     /// of a UTF8String
     Utf8(String),
-    /// of a SEQUENCE: one entry a component, `None` only for an OPTIONAL one that is absent
+    /// of a SEQUENCE: one entry a component, root then additions, `None` only for an OPTIONAL one that is
+    /// absent
     Seq(Vec<Option<Value>>),
+    /// of a SEQUENCE OF
+    List(Vec<Value>),
+    /// of a CHOICE: the tag of the alternative, counted from 0 as written, root then additions, and its
+    /// value
+    Choice(u32, Box<Value>),
 }

@@ -1,15 +1,18 @@
 //! The walk that finds the first fault of a type, from the outside in and from left to right.
 ghost use Rattle.std.specs.Prelude.{IfOk, IfErr, map};
-ghost use Rattle.asn_values.specs.Shape.{integer, enumerated, sequence, closed};
-ghost use Rattle.asn_values.specs.Walk.{IsFaultless, HoldsHere, IsFaultlessSize, HoldsOfSize, IsSoundWithin, IsFaultWithin, AreSoundWithin, IsFaultAmong};
-ghost use Rattle.asn_values.specs.View.{shape_of, range_of, size_range_of, label_of, more_labels_of, fields_of, part_of_field};
+ghost use Rattle.asn_values.specs.Shape.{integer, enumerated, sequence, sequence_of, choice};
+ghost use Rattle.asn_values.specs.Walk.{IsFaultless, HoldsHere, IsFaultlessSize, HoldsOfSize, IsSoundWithin, IsFaultWithin, of_type, of_types};
+ghost use Rattle.asn_values.specs.View.{shape_of, range_of, size_range_of, label_of, more_labels_of, fields_of, part_of_field, more_fields_of, alternatives_of, branch_of, more_alternatives_of};
 
 use crate::fault::TypeFault;
-use crate::types::{AsnType, Bounds, Field, Item, Size};
-use crate::{default_values, enumerations, names, ranges, sizes};
+use crate::types::{Alt, AsnType, Bounds, Field, Item, Size};
+use crate::{additions, default_values, enumerations, names, ranges, sizes, widths};
 
-/// The most components of a SEQUENCE.
+/// The most components of a SEQUENCE in front of its extension mark, and the most behind it.
 const MOST_COMPONENTS: usize = 64;
+
+/// The most alternatives of a CHOICE, those of the root and the additions together.
+const MOST_ALTERNATIVES: usize = 63;
 
 /// Looks at the type and at all inside it, and counts them. There may be `levels` levels of types,
 /// and `start` types; returns how many more types there might have been.
@@ -18,8 +21,8 @@ const MOST_COMPONENTS: usize = 64;
 /// with the least number. Nothing inside a type below the last level is looked at.
 #[cycle(walk)]
 pub(crate) fn nodes_left(ty: &AsnType, levels: u32, start: u32) -> Result<u32, TypeFault>
-    ensures sound { IfOk result (λ left. IsSoundWithin levels start left (shape_of ty.now)) }
-    ensures fault { IfErr result (λ f. IsFaultWithin f levels start (shape_of ty.now)) }
+    ensures sound { IfOk result (λ left. IsSoundWithin levels start left (of_type (shape_of ty.now))) }
+    ensures fault { IfErr result (λ f. IsFaultWithin f levels start (of_type (shape_of ty.now))) }
 {
     check_node(ty)?;
     if start == 0 {
@@ -37,15 +40,29 @@ pub(crate) fn nodes_left(ty: &AsnType, levels: u32, start: u32) -> Result<u32, T
         | AsnType::Octets(_)
         | AsnType::Text(..)
         | AsnType::Utf8 => Ok(start - 1),
-        AsnType::Seq { root } => nodes_left_behind(root, levels - 1, start - 1),
+        AsnType::Seq { root, ext } => {
+            let left = nodes_left_behind(root, levels - 1, start - 1)?;
+            match ext {
+                None => Ok(left),
+                Some(more) => nodes_left_behind(more, levels - 1, left),
+            }
+        }
+        AsnType::SeqOf(element, _) => nodes_left(element, levels - 1, start - 1),
+        AsnType::Choice { root, ext } => {
+            let left = nodes_left_among(root, levels - 1, start - 1)?;
+            match ext {
+                None => Ok(left),
+                Some(more) => nodes_left_among(more, levels - 1, left),
+            }
+        }
     }
 }
 
 /// The same of the types of the components, one after the other.
 #[cycle(walk)]
 fn nodes_left_behind(fields: &[Field], levels: u32, start: u32) -> Result<u32, TypeFault>
-    ensures sound { IfOk result (λ left. AreSoundWithin levels start left (fields_of (map part_of_field fields.now))) }
-    ensures fault { IfErr result (λ f. IsFaultAmong f levels start (fields_of (map part_of_field fields.now))) }
+    ensures sound { IfOk result (λ left. IsSoundWithin levels start left (of_types (map (λ f. shape_of f.ty) fields.now))) }
+    ensures fault { IfErr result (λ f. IsFaultWithin f levels start (of_types (map (λ f. shape_of f.ty) fields.now))) }
 {
     let mut left = start;
     for field in fields {
@@ -54,7 +71,20 @@ fn nodes_left_behind(fields: &[Field], levels: u32, start: u32) -> Result<u32, T
     Ok(left)
 }
 
-/// Looks at the type itself, and at nothing inside it. Err: its fault with the least number.
+/// The same of the types of the alternatives, one after the other.
+#[cycle(walk)]
+fn nodes_left_among(alternatives: &[Alt], levels: u32, start: u32) -> Result<u32, TypeFault>
+    ensures sound { IfOk result (λ left. IsSoundWithin levels start left (of_types (map (λ a. shape_of a.ty) alternatives.now))) }
+    ensures fault { IfErr result (λ f. IsFaultWithin f levels start (of_types (map (λ a. shape_of a.ty) alternatives.now))) }
+{
+    let mut left = start;
+    for alternative in alternatives {
+        left = nodes_left(&alternative.ty, levels, left)?;
+    }
+    Ok(left)
+}
+
+/// Looks at the type itself. Err: its fault with the least number.
 fn check_node(ty: &AsnType) -> Result<(), TypeFault>
     ensures faultless { IfOk result (λ done. IsFaultless (shape_of ty.now)) }
     ensures fault { IfErr result (λ f. HoldsHere f (shape_of ty.now)) }
@@ -64,7 +94,9 @@ fn check_node(ty: &AsnType) -> Result<(), TypeFault>
         AsnType::Int(bounds) => check_bounds(bounds),
         AsnType::Enum { root, ext } => check_items(root, ext),
         AsnType::Bits(size) | AsnType::Octets(size) | AsnType::Text(_, size) => check_size(size),
-        AsnType::Seq { root } => check_components(root),
+        AsnType::Seq { root, ext } => check_components(root, ext),
+        AsnType::SeqOf(element, size) => check_list(element, size),
+        AsnType::Choice { root, ext } => check_alternatives(root, ext),
     }
 }
 
@@ -121,17 +153,53 @@ fn check_size(size: &Size) -> Result<(), TypeFault>
 
 /// Looks at a SEQUENCE of these components, and at nothing inside them. Err: its fault with the
 /// least number.
-fn check_components(root: &[Field]) -> Result<(), TypeFault>
-    ensures faultless { IfOk result (λ done. IsFaultless (sequence (fields_of (map part_of_field root.now)) closed)) }
-    ensures fault { IfErr result (λ f. HoldsHere f (sequence (fields_of (map part_of_field root.now)) closed)) }
+fn check_components(root: &[Field], ext: &Option<Vec<Field>>) -> Result<(), TypeFault>
+    ensures faultless { IfOk result (λ done. IsFaultless (sequence (fields_of (map part_of_field root.now)) (more_fields_of ext.now))) }
+    ensures fault { IfErr result (λ f. HoldsHere f (sequence (fields_of (map part_of_field root.now)) (more_fields_of ext.now))) }
 {
-    if names::are_bad(root, &[]) {
+    let more = additions::of_sequence(ext);
+    if names::are_bad(root, more) {
         return Err(TypeFault::DuplicateName);
     }
-    if default_values::are_bad(root) {
+    if default_values::are_bad(root) || default_values::are_bad(more) {
         return Err(TypeFault::BadDefault);
     }
-    if MOST_COMPONENTS < root.len() {
+    if !additions::are_optional(more) {
+        return Err(TypeFault::AdditionNotOptional);
+    }
+    if MOST_COMPONENTS < root.len() || MOST_COMPONENTS < more.len() {
+        return Err(TypeFault::TooMany);
+    }
+    Ok(())
+}
+
+/// Looks at a SEQUENCE OF, and of the element only at whether it has bits. Err: its fault with the
+/// least number.
+fn check_list(element: &AsnType, size: &Size) -> Result<(), TypeFault>
+    ensures faultless { IfOk result (λ done. IsFaultless (sequence_of (shape_of element.now) (size_range_of size.now))) }
+    ensures fault { IfErr result (λ f. HoldsHere f (sequence_of (shape_of element.now) (size_range_of size.now))) }
+{
+    check_size(size)?;
+    if widths::has_no_bits(element) {
+        return Err(TypeFault::ZeroWidthElement);
+    }
+    Ok(())
+}
+
+/// Looks at a CHOICE of these alternatives, and at nothing inside them. Err: its fault with the
+/// least number.
+fn check_alternatives(root: &[Alt], ext: &Option<Vec<Alt>>) -> Result<(), TypeFault>
+    ensures faultless { IfOk result (λ done. IsFaultless (choice (alternatives_of (map branch_of root.now)) (more_alternatives_of ext.now))) }
+    ensures fault { IfErr result (λ f. HoldsHere f (choice (alternatives_of (map branch_of root.now)) (more_alternatives_of ext.now))) }
+{
+    if root.is_empty() {
+        return Err(TypeFault::EmptyRange);
+    }
+    let added = additions::of_choice(ext);
+    if names::are_bad(root, added) {
+        return Err(TypeFault::DuplicateName);
+    }
+    if MOST_ALTERNATIVES < root.len() || MOST_ALTERNATIVES - root.len() < added.len() {
         return Err(TypeFault::TooMany);
     }
     Ok(())

@@ -11,16 +11,16 @@ use Rattle.asn_per.specs.Rules.{per_ruling}
 use Rattle.asn_per.proofs.Decoding.{take_all, front_is, bits_fill, octets_left_fewer, value_read, refusal_left, refusal_read, short_read, long_read, units_count}
 use Rattle.asn_per.proofs.decoder.decode.Goals as goal
 
-pub message-requires-clause-whole : goal.message-requires-clause-whole
-message-requires-clause-whole c = rw c.over-bits.ensures (bits_fill (take c.min-given.result c.args.octets.now))
+pub read_complete-requires-clause-whole : goal.read_complete-requires-clause-whole
+read_complete-requires-clause-whole c = rw c.over-bits.ensures (bits_fill (take c.min-given.result c.args.octets.now))
 
 pub overflow_sub-used : goal.overflow_sub-used
 overflow_sub-used c =
     let t = shape_of c.args.ty.now in
     let s = take c.min-given.result c.args.octets.now in
     let f = front_is c.args.octets.now c.min-given.result c.min-given.ensures in
-    let read : Spells per_fields (Wholes per_ruling t) (datum_of c.in-Ok.value) (unpacked s) c.message.new.bits = rw (c.over-bits.ensures, c.get.ensures.same) at c.in-Ok.ensures.done in
-    omega (arith, octets_left_fewer t c.get.ensures.of_profile s c.message.new.bits (datum_of c.in-Ok.value) read, f.1, c.octets_left.ensures.count)
+    let read : Spells per_fields (Wholes per_ruling t) (datum_of c.in-Ok.value) (unpacked s) c.read_complete.new.bits = rw (c.over-bits.ensures, c.get.ensures.same) at c.in-Ok.ensures.done in
+    omega (arith, octets_left_fewer t c.get.ensures.of_profile s c.read_complete.new.bits (datum_of c.in-Ok.value) read, f.1, c.octets_left.ensures.count)
 
 pub returns-then-used-octets : goal.returns-then-used-octets
 returns-then-used-octets c =
@@ -28,9 +28,9 @@ returns-then-used-octets c =
     let s = take c.min-given.result c.args.octets.now in
     let v = datum_of c.in-Ok.value in
     let f = front_is c.args.octets.now c.min-given.result c.min-given.ensures in
-    let read : Spells per_fields (Wholes per_ruling t) v (unpacked s) c.message.new.bits = rw (c.over-bits.ensures, c.get.ensures.same) at c.in-Ok.ensures.done in
-    let used : length s - length c.message.new.bits / 8 ≡ c.min-given.result - c.octets_left.result = omega (arith, f.1, c.octets_left.ensures.count) in
-    let here : Answer per_ruling t s (done v (c.min-given.result - c.octets_left.result)) = subst (λ (n : ℕ). Answer per_ruling t s (done v n)) used (value_read t c.get.ensures.of_profile s c.message.new.bits v read) in
+    let read : Spells per_fields (Wholes per_ruling t) v (unpacked s) c.read_complete.new.bits = rw (c.over-bits.ensures, c.get.ensures.same) at c.in-Ok.ensures.done in
+    let used : length s - length c.read_complete.new.bits / 8 ≡ c.min-given.result - c.octets_left.result = omega (arith, f.1, c.octets_left.ensures.count) in
+    let here : Answer per_ruling t s (done v (c.min-given.result - c.octets_left.result)) = subst (λ (n : ℕ). Answer per_ruling t s (done v n)) used (value_read t c.get.ensures.of_profile s c.read_complete.new.bits v read) in
     (c.if-used-octets.true, v, subst (λ (l : List ℕ). Answer per_ruling t l (done v (c.min-given.result - c.octets_left.result))) f.0 here)
 
 pub returns-else-used-octets : goal.returns-else-used-octets
@@ -40,10 +40,10 @@ returns-else-used-octets c =
     let s = take c.min-given.result o in
     let v = datum_of c.in-Ok.value in
     let f = front_is o c.min-given.result c.min-given.ensures in
-    let read : Spells per_fields (Wholes per_ruling t) v (unpacked s) c.message.new.bits = rw (c.over-bits.ensures, c.get.ensures.same) at c.in-Ok.ensures.done in
+    let read : Spells per_fields (Wholes per_ruling t) v (unpacked s) c.read_complete.new.bits = rw (c.over-bits.ensures, c.get.ensures.same) at c.in-Ok.ensures.done in
     let all : length o ≤ max_octets = omega (arith, c.if-used-octets.false, c.min-given.ensures) in
-    let used : length s - length c.message.new.bits / 8 ≡ length o = omega (arith, f.1, c.octets_left.ensures.count, c.if-used-octets.false, c.min-given.ensures) in
-    let here : Answer per_ruling t s (done v (length o)) = subst (λ (n : ℕ). Answer per_ruling t s (done v n)) used (value_read t c.get.ensures.of_profile s c.message.new.bits v read) in
+    let used : length s - length c.read_complete.new.bits / 8 ≡ length o = omega (arith, f.1, c.octets_left.ensures.count, c.if-used-octets.false, c.min-given.ensures) in
+    let here : Answer per_ruling t s (done v (length o)) = subst (λ (n : ℕ). Answer per_ruling t s (done v n)) used (value_read t c.get.ensures.of_profile s c.read_complete.new.bits v read) in
     (all, subst (λ (l : List ℕ). Answer per_ruling t l (done v (length o))) (f.0 ∙ take_all max_octets o all) here)
 
 pub overflow_sub-result : goal.overflow_sub-result

@@ -1,21 +1,24 @@
-use Rattle.std.proofs.Common.{◌≡◌, ◌∷◌, ◌⊎◌, [], sym, ◌∙◌, ap}
+use Rattle.std.proofs.Common.{◌≡◌, ◌<◌, map, length, None, sym, ◌∙◌, ap, arith}
 use Rattle.std.specs.Option.{option_map}
-use Rattle.std.proofs.lemmas.Slice.Zip.{either_empty_from_Zip}
+use Rattle.std.proofs.lemmas.List.{length-map, at_drop_more}
 use Rattle.asn_values.specs.View.{datum_of, part_of_field}
+use Rattle.asn_values.proofs.Entries.{each_length}
 use Rattle.asn_bits.specs.Sink.{bit_of}
 use Rattle.asn_bits.proofs.Prefixes.{bool_byte-is}
-use Rattle.asn_per.proofs.Writing.{bitmap_more, bitmap_ends, either_map}
+use Rattle.asn_per.proofs.Writing.{next_seen, bitmap_passes, bitmap_more}
+use Rattle.asn_per.proofs.encoder.presence_bitmap.Goals.{then-may_be_absent, else-may_be_absent}
 use Rattle.asn_per.proofs.encoder.presence_bitmap.Goals as goal
 
-pub loop-field-preserved-then-may_be_absent : goal.loop-field-preserved-then-may_be_absent
-loop-field-preserved-then-may_be_absent c =
-    let e : c.loop-field.field-iterator.a.rest.now ≡ c.in-Some.field.now ∷ c.next.new.self.a.rest.now = c.in-Some.ensures.steps.0 in
-    let f : c.loop-field.field-iterator.b.rest.now ≡ c.in-Some.entry.now ∷ c.next.new.self.b.rest.now = c.in-Some.ensures.steps.1 in
-    bitmap_more (rw (e, f) at c.loop-field.invariant) (sym c.may_be_absent.ensures ∙ c.if-may_be_absent.true)
-    (c.from.ensures ∙ bool_byte-is c.is_encoded.result ∙ ap bit_of c.is_encoded.ensures)
-
-pub returns-clause-bitmap : goal.returns-clause-bitmap
-returns-clause-bitmap c =
-    let none : (c.loop-field.field-iterator.a.rest.now ≡ []) ⊎ (c.loop-field.field-iterator.b.rest.now ≡ []) =
-    either_empty_from_Zip c.loop-field.field-iterator c.next.new.self c.next.result c.in-None.is c.next.ensures.steps in
-    bitmap_ends c.loop-field.invariant (either_map part_of_field (option_map datum_of) none)
+pub loop-place-preserved : goal.loop-place-preserved
+loop-place-preserved c =
+    let i = c.loop-place.place in
+    let same : length c.args.fields.now ≡ length c.args.entries.now = simp length-map at (each_length (map part_of_field c.args.fields.now) (map (option_map datum_of) c.args.entries.now) c.requires.of_type) in
+    let there : i < length c.args.entries.now = omega (arith, same, c.loop-place-test.true) in
+    let e = next_seen part_of_field c.args.fields.now i c.index-fields-place.result c.loop-place-test.true c.index-fields-place.is in
+    elim c.if-may_be_absent.branch [
+      | then-may_be_absent w ↦ (let f = next_seen (option_map datum_of) c.args.entries.now i w.index-entries-place.result there w.index-entries-place.is in
+          rw (w.count-is, w.bitmap-is) (bitmap_more (rw (e, f) at c.loop-place.invariant) (sym c.may_be_absent.ensures ∙ w.if-may_be_absent.true)
+          (w.from.ensures ∙ bool_byte-is w.is_encoded.result ∙ ap bit_of w.is_encoded.ensures)))
+      | else-may_be_absent w ↦ (let f = at_drop_more (map (option_map datum_of)) c.args.entries.now i None there in
+          rw (w.count-is, w.bitmap-is) (bitmap_passes (rw (e, f) at c.loop-place.invariant) (sym c.may_be_absent.ensures ∙ w.if-may_be_absent.false)))
+    ]

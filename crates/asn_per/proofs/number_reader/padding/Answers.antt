@@ -1,7 +1,7 @@
 use Rattle.std.proofs.lemmas.Result.{err_from_is_err_and}
 use Rattle.asn_rules.proofs.Leads.{stops_by}
 use Rattle.asn_per.proofs.Zeros.{zeros_lead}
-use Rattle.asn_per.proofs.decoder.padding.Goals as goal
+use Rattle.asn_per.proofs.number_reader.padding.Goals as goal
 
 pub returns-in_err-number-clause-stop : goal.returns-in_err-number-clause-stop
 returns-in_err-number-clause-stop c =

@@ -1,0 +1,62 @@
+-- The elements of a SEQUENCE OF, in a type's values and in two values that are compared.
+use Rattle.std.proofs.Common.{◌≡◌, ◌↔◌, ◌≤◌, ℕ, Bool, IsTrue, true, false, List, [], ◌∷◌, map, length, Option, Vec, Global, refl, ap, ◌∙◌, sym}
+use Rattle.std.specs.Global.{Box}
+use Rattle.std.specs.List.{AllByRecursion}
+use Rattle.std.proofs.lemmas.List.{length-map}
+use Rattle.asn_values.specs.declared.types.AsnType.{AsnType, SeqOf}
+use Rattle.asn_values.specs.declared.types.Size.{Size}
+use Rattle.asn_values.specs.declared.value.Value.{Value}
+use Rattle.asn_values.specs.declared.value.Value.TheVariants as value
+use Rattle.asn_values.specs.Datum.{Datum, elements, elements_of, element_list, alternative}
+use Rattle.asn_values.specs.Shape.{SizeRange, Shape, sequence_of}
+use Rattle.asn_values.specs.Fits.{Fits, FitsLength}
+use Rattle.asn_values.specs.View.{shape_of, datum_of, size_range_of}
+use Rattle.asn_values.proofs.Views.{list_of_elements, datum_of-List, element_list-elements_of}
+
+-- ---- the values of a SEQUENCE OF
+
+-- a list is one where its length is in the size and each element is a value of the type
+pub fits_list : (t : Shape) (s : SizeRange) (ds : List Datum) → (FitsLength s (length ds) × AllByRecursion (λ d. Fits t d) ds) ↔ Fits (sequence_of t s) (elements (elements_of ds))
+fits_list t s ds = rw (element_list-elements_of ds) (λ h. h, λ h. h)
+
+module _ (t e : AsnType) (x : Value) (inner : Box AsnType) (s : Size) (v : Vec Value Global) (et : t ≡ SeqOf inner s) (ex : x ≡ value.List v) (ee : e ≡ inner.value) where
+  is_list : shape_of t ≡ sequence_of (shape_of e) (size_range_of s)
+  is_list = list_of_elements t e inner s et ee
+
+  -- a test of the elements is one of the list, where the length is one of the size
+  pub fits_lists : (vs : List Value) → vs ≡ v.items → FitsLength (size_range_of s) (length vs) → (b : Bool)
+      → IsTrue b ↔ AllByRecursion (λ d. Fits (shape_of e) d) (map datum_of vs) → IsTrue b ↔ Fits (shape_of t) (datum_of x)
+  fits_lists vs ev few b (there, back) =
+      let value : datum_of x ≡ elements (elements_of (map datum_of vs)) = rw (ex, ev) (datum_of-List v) in
+      let both = fits_list (shape_of e) (size_range_of s) (map datum_of vs) in
+      rw (is_list, value) (λ h. both.0 (rw (length-map vs datum_of) few, there h), λ h. back (both.1 h).1)
+
+  -- and else the list is none
+  pub other_length : (FitsLength (size_range_of s) (length v.items) → ⊥) → Fits (shape_of t) (datum_of x) → ⊥
+  other_length never h =
+      let value : datum_of x ≡ elements (elements_of (map datum_of v.items)) = rw ex (datum_of-List v) in
+      let fit = (fits_list (shape_of e) (size_range_of s) (map datum_of v.items)).1 (rw (is_list, value) at h) in
+      never (rw (length-map v.items datum_of) at fit.0)
+
+-- ---- two lists
+
+-- values of SEQUENCE OF are the same where their elements are
+pub same_elements_of : (xs ys : List Datum) → (xs ≡ ys) ↔ (elements (elements_of xs) ≡ elements (elements_of ys))
+same_elements_of xs ys = (
+  λ e. ap (λ ds. elements (elements_of ds)) e,
+  λ e.
+      let inner : elements_of xs ≡ elements_of ys = cc in
+      sym (element_list-elements_of xs) ∙ (ap element_list inner ∙ element_list-elements_of ys),
+)
+
+-- a test of the elements of two lists is one of the values
+pub same_lists :
+    (x y : Value) (v w : Vec Value Global) → x ≡ value.List v → y ≡ value.List w →
+    (vs ws : List Value) → vs ≡ v.items → ws ≡ w.items →
+    (b : Bool) → IsTrue b ↔ (map datum_of vs ≡ map datum_of ws) →
+    IsTrue b ↔ (datum_of x ≡ datum_of y)
+same_lists x y v w ex ey vs ws ev ew b (there, back) =
+    let left : datum_of x ≡ elements (elements_of (map datum_of vs)) = rw (ex, ev) (datum_of-List v) in
+    let right : datum_of y ≡ elements (elements_of (map datum_of ws)) = rw (ey, ew) (datum_of-List w) in
+    let both = same_elements_of (map datum_of vs) (map datum_of ws) in
+    (λ h. left ∙ (both.0 (there h) ∙ sym right), λ e. back (both.1 (sym left ∙ (e ∙ right))))

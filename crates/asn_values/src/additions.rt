@@ -1,0 +1,40 @@
+//! What stands behind an extension mark: the additions of a SEQUENCE and of a CHOICE.
+ghost use Rattle.std.specs.Prelude.{◌≡◌, map};
+ghost use Rattle.std.specs.List.{list_all};
+ghost use Rattle.asn_values.specs.Profile.{is_optional};
+ghost use Rattle.asn_values.specs.Shape.{more_fields, more_alternatives, demands};
+ghost use Rattle.asn_values.specs.View.{fields_of, part_of_field, more_fields_of, alternatives_of, branch_of, more_alternatives_of};
+
+use crate::types::{Alt, Field, Need};
+
+/// The additions of a SEQUENCE, of which there are none where there is no mark.
+pub(crate) fn of_sequence(ext: &Option<Vec<Field>>) -> &[Field]
+    ensures { fields_of (map part_of_field result.now) ≡ more_fields (more_fields_of ext.now) }
+{
+    match ext {
+        Some(fields) => fields,
+        None => &[],
+    }
+}
+
+/// The additions of a CHOICE, of which there are none where there is no mark.
+pub(crate) fn of_choice(ext: &Option<Vec<Alt>>) -> &[Alt]
+    ensures { alternatives_of (map branch_of result.now) ≡ more_alternatives (more_alternatives_of ext.now) }
+{
+    match ext {
+        Some(alternatives) => alternatives,
+        None => &[],
+    }
+}
+
+/// Whether each of the components is OPTIONAL.
+pub(crate) fn are_optional(fields: &[Field]) -> bool
+    ensures { result ≡ list_all is_optional (demands (fields_of (map part_of_field fields.now))) }
+{
+    for field in fields {
+        if !matches!(field.need, Need::Optional) {
+            return false;
+        }
+    }
+    true
+}

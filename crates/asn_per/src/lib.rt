@@ -3,8 +3,10 @@
 
 #[cfg(test)]
 mod composed_tests;
+mod alternatives;
 mod decoder;
 mod encoder;
+mod indexes;
 mod integer_reader;
 mod item_writer;
 mod items;

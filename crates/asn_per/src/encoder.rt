@@ -140,7 +140,6 @@ fn write(alloc: Global, ty: &AsnType, value: &Value, sink: &mut BitSink) -> Resu
             };
             write_utf8(text.as_bytes(), sink)
         }
-        AsnType::Choice { .. } => unreachable!(),
         AsnType::Seq { root, ext } => {
             let Value::Seq(entries) = value else {
                 unreachable!()

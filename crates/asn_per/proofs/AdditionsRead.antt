@@ -26,7 +26,7 @@ use Rattle.asn_per.specs.Kinds.{OpenValues, OpenListed, AdditionCount, SomePrese
 use Rattle.asn_per.specs.Per.{per_fields}
 use Rattle.asn_per.specs.Reading.{Admits, Behind}
 use Rattle.asn_per.specs.declared.number_reader.Numbers.{Numbers}
-use Rattle.asn_per.proofs.ItemReading.{same_set}
+use Rattle.asn_per.proofs.CountedReading.{same_set}
 use Rattle.asn_per.proofs.OpenFieldLanguages.{open_values_lawful, open_values_inhabited}
 use Rattle.asn_per.proofs.PerFields.{per_fields_part}
 use Rattle.asn_per.proofs.Sequences.{count_of_fields}
@@ -68,7 +68,7 @@ module _ (fs : Fields) (some : 0 < length (demands fs)) (few : length (demands f
   some_count = set_meets 2 7 (n - 1) (omega arith, omega arith, tt) (omega (arith, few))
 
   same_count : Same (Plain (InSet 7 (λ k. Admits (only (n - 1)) k))) (AdditionCount n)
-  same_count = same_set 7 (λ k h. omega (arith, h.0, h.1, some)) (λ k h. (omega (arith, h), omega (arith, h), tt))
+  same_count = same_set 2 7 (λ k h. omega (arith, h.0, h.1, some)) (λ k h. (omega (arith, h), omega (arith, h), tt))
 
   -- more than one bitmap is there
   two : 1 < 2 ^ n
@@ -79,7 +79,7 @@ module _ (fs : Fields) (some : 0 < length (demands fs)) (few : length (demands f
     some_bitmap = set_meets 2 n 1 (omega arith, omega (arith, two, all), tt) two
 
     same_bitmap : Same (Plain (InSet n (λ b. Admits (from_one high) b))) (SomePresent n)
-    same_bitmap = same_set n (λ b h. (omega (arith, h.0), omega (arith, h.1, all))) (λ b h. (omega (arith, h.0), omega (arith, h.1, all), tt))
+    same_bitmap = same_set 2 n (λ b h. (omega (arith, h.0), omega (arith, h.1, all))) (λ b h. (omega (arith, h.0), omega (arith, h.1, all), tt))
 
   bitmap_follows : Follows (SomePresent n) (λ b. OpenListed fs (bits n b))
   bitmap_follows = record { follow = λ b cs h. open_listed_inhabited fs (bits n b) good (length-digits 2 n b) }

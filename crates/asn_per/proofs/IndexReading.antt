@@ -4,8 +4,6 @@ use Rattle.asn_bits.specs.Numbers.{width}
 use Rattle.asn_bits.specs.Sets.{InSet, Meets}
 use Rattle.asn_bits.proofs.Unions.{set_meets}
 use Rattle.asn_bits.proofs.Widths.{width_fits}
-use Rattle.asn_rules.specs.Chunks.{Chunk}
-use Rattle.asn_rules.specs.Forks.{Same}
 use Rattle.asn_rules.specs.Languages.{Inhabited, Lawful, Plain, Short, Refused}
 use Rattle.asn_rules.proofs.Exits.{leads_zero, leads_one}
 use Rattle.asn_rules.proofs.Forks.{map_lawful_on, fork_lawful, fork_short, fork_refused, fork_inhabited_zero}
@@ -15,21 +13,15 @@ use Rattle.asn_per.specs.Indexes.{IndexesOf}
 use Rattle.asn_per.specs.Kinds.{Below, SmallBelow}
 use Rattle.asn_per.specs.Per.{per_fields}
 use Rattle.asn_per.specs.Reading.{Admits, up_to}
+use Rattle.asn_per.proofs.CountedReading.{same_set}
 use Rattle.asn_per.proofs.PerFields.{per_fields_part}
 
 -- ---- numbers below a count
 
--- two sets of the same numbers
-pub same_set : (k : ℕ) {S T : ℕ → Type 0} → ((n : ℕ) → S n → T n) → ((n : ℕ) → T n → S n) → Same (Plain (InSet k S)) (Plain (InSet k T))
-same_set k there back = record {
-  to = λ n cs h. record { units = h.units; spelt = record { digits = h.spelt.digits; member = there n h.spelt.member }; same = h.same };
-  from = λ n cs h. record { units = h.units; spelt = record { digits = h.spelt.digits; member = back n h.spelt.member }; same = h.same };
-}
-
 module _ (count : ℕ) (some : 0 < count) where
   -- a reader of the numbers up to the highest answers for those below the count
   pub below_leads : (k : ℕ) (us : List ℕ) → Leads per_fields (Plain (InSet k (λ n. Admits (up_to (count - 1) None) n))) us (λ n. n) (Below k count) us
-  below_leads k us = leads_same per_fields us (same_set k (λ n h. omega (arith, h.1)) (λ n h. (omega arith, omega arith, tt)))
+  below_leads k us = leads_same per_fields us (same_set 2 k (λ n h. omega (arith, h.1)) (λ n h. (omega arith, omega arith, tt)))
 
   -- there is one
   pub some_below : (k : ℕ) → 0 < 2 ^ k → Meets (λ n. Admits (up_to (count - 1) None) n) 0 k

@@ -20,11 +20,12 @@ use Rattle.asn_per.specs.Per.{per, per_fields}
 use Rattle.asn_per.specs.Indexes.{IsItemWithin, IndexesOf, index_of}
 use Rattle.asn_per.specs.Reading.{Admits, up_to}
 use Rattle.asn_per.proofs.EnumeratedLanguages.{items_compose}
-use Rattle.asn_per.proofs.IndexReading.{same_set}
+use Rattle.asn_per.proofs.CountedReading.{same_set}
 use Rattle.asn_per.proofs.LeftOut.{enumerated_but_one, none_left_out}
 
 -- ---- sets of indexes
 
+<<<<<<< HEAD
 -- two sets of the same numbers
 pub same_set : (k : ℕ) {S T : ℕ → Type 0} → ((n : ℕ) → S n → T n) → ((n : ℕ) → T n → S n) → Same (Plain (InSet k S)) (Plain (InSet k T))
 same_set k there back = record {
@@ -32,6 +33,8 @@ same_set k there back = record {
   from = λ n cs h. record { units = h.units; spelt = record { digits = h.spelt.digits; member = back n h.spelt.member }; same = h.same };
 }
 
+=======
+>>>>>>> all
 -- the indexes that the reader admits are those of the items that are not left out
 index_there : (root : List Label) (p : Option ℕ) (n : ℕ) → 0 < length root → Admits (up_to (length root - 1) (index_of root p)) n → IndexesBut root p n
 index_there root None n some h = omega (arith, h.1)
@@ -51,7 +54,7 @@ module _ (root : List Label) (p : Option ℕ) (high : ℕ) (is : high + 1 ≡ le
       let some : 0 < length root = omega arith in
       subst (λ (w : ℕ). Leads per_fields (Plain (InSet (width w) (λ n. Admits (up_to high (index_of root p)) n))) us (λ n. item (place_of root n)) (RootItemsBut root p) us) (sym is)
       (subst (λ (h : ℕ). Leads per_fields (Plain (InSet (width (length root)) (λ n. Admits (up_to h (index_of root p)) n))) us (λ n. item (place_of root n)) (RootItemsBut root p) us) (sym less)
-      (leads_on (leads_same per_fields us (same_set (width (length root)) (λ n h. index_there root p n some h) (λ n h. index_back root p n some h))) (leads_map per_fields (λ n. item (place_of root n)) (Plain (InSet (width (length root)) (IndexesBut root p))) us)))
+      (leads_on (leads_same per_fields us (same_set 2 (width (length root)) (λ n h. index_there root p n some h) (λ n h. index_back root p n some h))) (leads_map per_fields (λ n. item (place_of root n)) (Plain (InSet (width (length root)) (IndexesBut root p))) us)))
 
   -- an item that is not left out has an index that the reader admits
   pub some_index : Inhabited (RootItemsBut root p) → Meets (λ n. Admits (up_to high (index_of root p)) n) 0 (width (high + 1))

@@ -14,7 +14,7 @@ ghost use Rattle.asn_rules.specs.Languages.{Spells};
 ghost use Rattle.asn_rules.specs.Listed.{Spelt, Listed, Entry, default_of, bitmap_length};
 ghost use Rattle.asn_rules.specs.Reading.{Wholes};
 ghost use Rattle.asn_rules.specs.Stops.{Stops};
-ghost use Rattle.asn_per.specs.Kinds.{OpenValues, Additions, absent_entries, Chosen, OpenChosen};
+ghost use Rattle.asn_per.specs.Kinds.{OpenValues, Chosen, OpenChosen, Additions, absent_entries};
 ghost use Rattle.asn_per.specs.Per.{per, per_fields};
 ghost use Rattle.asn_per.specs.Reading.{Behind, StopsAtMark};
 ghost use Rattle.asn_per.specs.Rules.{per_ruling};
@@ -31,9 +31,8 @@ use crate::size_reader::Rows;
 use crate::string_reader::{bit_string, octet_string, text, utf8_string};
 use asn_bits::BitCursor;
 use asn_rules::{Stop, Why};
-use asn_values::{AsnType, Field, Need, Size, Value, Alt};
+use asn_values::{Alt, AsnType, Field, Need, Size, Value};
 use std::alloc::{AllocError, Global};
-use std::alloc::Global;
 
 /// Reads a value of the type.
 #[inline(always)]
@@ -68,7 +67,6 @@ pub(crate) fn read(alloc: Global, ty: &AsnType, bits: &mut BitCursor<'_>) -> Res
             Ok(Value::Seq(entries))
         }
         AsnType::SeqOf(element, size) => Ok(Value::List(read_list(alloc, element, size, bits)?)),
-        AsnType::Choice { .. } => unreachable!(),
         AsnType::Choice { root, ext } => {
             let known = root.len();
             match read_index(known, added_count(ext), bits)? {
@@ -418,7 +416,6 @@ fn absent(field: &Field) -> Option<Value>
             | Value::Seq(_)
             | Value::List(_)
             | Value::Choice(..),
-            | Value::Choice(_, _),
         ) => unreachable!(),
     }
 }

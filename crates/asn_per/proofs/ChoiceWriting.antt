@@ -116,4 +116,10 @@ module _ (t : AsnType) (v : Value) (root : Vec Alt Global) (ext : Option (Vec Al
       → one ≡ s ++ index_bits n true (inr (tag - n)) → two ≡ one ++ flat spelled (an_open_field (per_alternative (alternatives_of (map branch_of more)) (tag - n) (datum_of w))) → two ≡ s ++ per_bits (shape_of t) (datum_of v)
   added_written h additions more w s one two e em ew first second =
       let bits = bits_of_added (alternatives_of (map branch_of root.items)) (alternatives_of (map branch_of additions.items)) tag (datum_of chosen.value) (rw (known_count root n en) h) in
-      both_parts s one two _ _ _ first second (rw (choice_shape t root ext is, view, e, bits, known_count root n en, em, ew) refl)
+      let alts = alternatives_of (map branch_of additions.items) in
+      let total : per_bits (shape_of t) (datum_of v) ≡ index_bits n true (inr (tag - n)) ++ flat spelled (an_open_field (per_alternative alts (tag - n) (datum_of chosen.value))) =
+      ap (λ (x : Shape). per_bits x (datum_of v)) (choice_shape t root ext is)
+      ∙ ap (λ (d : Datum). per_bits (choice (alternatives_of (map branch_of root.items)) (more_alternatives_of ext)) d) view
+      ∙ ap (λ x. per_bits (choice (alternatives_of (map branch_of root.items)) (more_alternatives_of x)) (alternative tag (datum_of chosen.value))) e
+      ∙ (bits ∙ ap (λ (k : ℕ). index_bits k true (inr (tag - k)) ++ flat spelled (an_open_field (per_alternative alts (tag - k) (datum_of chosen.value)))) (known_count root n en)) in
+      both_parts s one two _ _ _ first second (rw (em, ew) total)

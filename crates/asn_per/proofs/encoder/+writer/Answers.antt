@@ -30,7 +30,7 @@ use Rattle.asn_per.specs.StringItems.{row_bits, general_bits}
 use Rattle.asn_per.proofs.SizesWritten.{written_more as fragment_written, written_all}
 use Rattle.asn_per.proofs.ListWriting.{codes, codes_count, list_fits, list_written, some_fit, some_bits, elements_next, elements_end, next_value, no_value, elements_start}
 use Rattle.asn_per.proofs.ChoiceTypes.{good_at, few_root, few_all, roots_good, additions_good}
-use Rattle.asn_per.proofs.ChoiceWriting.{fits_there, spelled_there, root_fits, added_fits, added_place, root_written as choice_root_written, added_written as choice_added_written}
+use Rattle.asn_per.proofs.ChoiceWriting.{mark_wanted, fits_there, spelled_there, root_fits, added_fits, added_place, root_written as choice_root_written, added_written as choice_added_written}
 use Rattle.asn_per.proofs.encoder.+writer.Goals as goal
 use Rattle.asn_per.proofs.encoder.+writer.Goals.{complete_encoding-then-is_empty+in_ok-push_number, complete_encoding-else-is_empty}
 
@@ -242,11 +242,12 @@ pub write-returns-then-place-known : goal.write-returns-then-place-known
 write-returns-then-place-known t c =
     on_ok_weaker c.write_alternative.result
     (λ e. choice_root_written c.args.ty.now c.args.value.now c.in-Choice.root c.in-Choice.ext c.in-Choice-value.tag c.in-Choice-value.chosen c.in-Choice.is c.in-Choice-value.is c.len-known.result c.len-known.ensures
-    c.if-place-known.true c.deref-then-place-known.result.now c.deref-then-place-known-2.result.now c.args.sink.now c.write_index.new.sink c.write_alternative.new.sink c.is_some.result c.deref-then-place-known.ensures.value c.deref-then-place-known-2.ensures c.is_some.ensures c.in_ok-write_index-in-Choice.ensures e)
+    c.if-place-known.true c.deref-then-place-known.result.now c.deref-then-place-known-2.result.now c.args.sink.now c.write_index.new.sink c.write_alternative.new.sink c.is_some-then-place-known.result c.deref-then-place-known.ensures.value c.deref-then-place-known-2.ensures c.is_some-then-place-known.ensures c.in_ok-write_index-in-Choice.ensures e)
     c.write_alternative.ensures
 
-pub write-unreachable-requires-in_default-ext : goal.write-unreachable-requires-in_default-ext
-write-unreachable-requires-in_default-ext t c = ?
+pub write-unreachable-requires-in_default-ext-2 : goal.write-unreachable-requires-in_default-ext-2
+write-unreachable-requires-in_default-ext-2 t c =
+    mark_wanted c.args.ty.now c.args.value.now c.in-Choice.root c.in-Choice.ext c.in-Choice-value.tag c.in-Choice-value.chosen c.in-Choice.is c.in-Choice-value.is c.len-known.result c.len-known.ensures c.requires.of_type c.if-place-known.false c.in_default-ext-2.is
 
 pub write-write_index-requires-in-Choice-clause-few : goal.write-write_index-requires-in-Choice-clause-few
 write-write_index-requires-in-Choice-clause-few t c =
@@ -254,22 +255,22 @@ write-write_index-requires-in-Choice-clause-few t c =
 
 pub write-write_index-requires-in-Choice-clause-within : goal.write-write_index-requires-in-Choice-clause-within
 write-write_index-requires-in-Choice-clause-within t c =
-    let place = added_place c.args.ty.now c.args.value.now c.in-Choice.root c.in-Choice.ext c.in-Choice-value.tag c.in-Choice-value.chosen c.in-Choice.is c.in-Choice-value.is c.len-known.result c.len-known.ensures c.requires.of_type c.if-place-known.false c.in-Some.additions c.in-Some.additions.items c.in-Some.is refl in
-    let few = few_all c.args.ty.now c.in-Choice.root c.in-Choice.ext c.in-Choice.is c.requires.of_profile c.len-known.result c.len-known.ensures c.in-Some.additions c.in-Some.is in
-    omega (arith, place, few, c.in-Some.additions.ok.0)
+    let place = added_place c.args.ty.now c.args.value.now c.in-Choice.root c.in-Choice.ext c.in-Choice-value.tag c.in-Choice-value.chosen c.in-Choice.is c.in-Choice-value.is c.len-known.result c.len-known.ensures c.requires.of_type c.if-place-known.false c.in-Some-ext.additions c.in-Some-ext.additions.items c.in-Some-ext.is refl in
+    let few = few_all c.args.ty.now c.in-Choice.root c.in-Choice.ext c.in-Choice.is c.requires.of_profile c.len-known.result c.len-known.ensures c.in-Some-ext.additions c.in-Some-ext.is in
+    omega (arith, place, few, c.in-Some-ext.additions.ok.0)
 
 pub write-write_added_alternative-requires : goal.write-write_added_alternative-requires
 write-write_added_alternative-requires t c =
     let more = c.deref-in-Choice.result.now in
-    let fits = added_fits c.args.ty.now c.args.value.now c.in-Choice.root c.in-Choice.ext c.in-Choice-value.tag c.in-Choice-value.chosen c.in-Choice.is c.in-Choice-value.is c.len-known.result c.len-known.ensures c.requires.of_type c.if-place-known.false c.in-Some.additions more c.deref-in-Choice-2.result.now c.in-Some.is c.deref-in-Choice.ensures.value c.deref-in-Choice-2.ensures in
-    let inside = added_place c.args.ty.now c.args.value.now c.in-Choice.root c.in-Choice.ext c.in-Choice-value.tag c.in-Choice-value.chosen c.in-Choice.is c.in-Choice-value.is c.len-known.result c.len-known.ensures c.requires.of_type c.if-place-known.false c.in-Some.additions more c.in-Some.is c.deref-in-Choice.ensures.value in
-    (search (rules, the_lemmas), (additions_good c.args.ty.now c.in-Choice.root c.in-Choice.ext c.in-Choice.is c.requires.of_profile c.in-Some.additions more c.in-Some.is c.deref-in-Choice.ensures.value, (inside, fits)))
+    let fits = added_fits c.args.ty.now c.args.value.now c.in-Choice.root c.in-Choice.ext c.in-Choice-value.tag c.in-Choice-value.chosen c.in-Choice.is c.in-Choice-value.is c.len-known.result c.len-known.ensures c.requires.of_type c.if-place-known.false c.in-Some-ext.additions more c.deref-in-Choice-2.result.now c.in-Some-ext.is c.deref-in-Choice.ensures.value c.deref-in-Choice-2.ensures in
+    let inside = added_place c.args.ty.now c.args.value.now c.in-Choice.root c.in-Choice.ext c.in-Choice-value.tag c.in-Choice-value.chosen c.in-Choice.is c.in-Choice-value.is c.len-known.result c.len-known.ensures c.requires.of_type c.if-place-known.false c.in-Some-ext.additions more c.in-Some-ext.is c.deref-in-Choice.ensures.value in
+    (search (rules, the_lemmas), (additions_good c.args.ty.now c.in-Choice.root c.in-Choice.ext c.in-Choice.is c.requires.of_profile c.in-Some-ext.additions more c.in-Some-ext.is c.deref-in-Choice.ensures.value, (inside, fits)))
 
 pub write-returns-in_ok-write_index-in-Choice-2 : goal.write-returns-in_ok-write_index-in-Choice-2
 write-returns-in_ok-write_index-in-Choice-2 t c =
     on_ok_weaker c.write_added_alternative.result
     (λ e. choice_added_written c.args.ty.now c.args.value.now c.in-Choice.root c.in-Choice.ext c.in-Choice-value.tag c.in-Choice-value.chosen c.in-Choice.is c.in-Choice-value.is c.len-known.result c.len-known.ensures
-    c.if-place-known.false c.in-Some.additions c.deref-in-Choice.result.now c.deref-in-Choice-2.result.now c.args.sink.now c.write_index-in-Choice.new.sink c.write_added_alternative.new.sink c.in-Some.is c.deref-in-Choice.ensures.value c.deref-in-Choice-2.ensures c.in_ok-write_index-in-Choice-2.ensures e)
+    c.if-place-known.false c.in-Some-ext.additions c.deref-in-Choice.result.now c.deref-in-Choice-2.result.now c.args.sink.now c.write_index-in-Choice.new.sink c.write_added_alternative.new.sink c.in-Some-ext.is c.deref-in-Choice.ensures.value c.deref-in-Choice-2.ensures c.in_ok-write_index-in-Choice-2.ensures e)
     c.write_added_alternative.ensures
 
 pub write_alternative-write-requires : goal.write_alternative-write-requires

@@ -477,23 +477,23 @@ read-returns-in_ok-chosen-in-Root-clause-done t c =
 
 pub read-read_added_alternative-requires : goal.read-read_added_alternative-requires
 read-read_added_alternative-requires t c =
-    let inside = added_inside c.len-known.result c.added_count.result c.in-Choice.ext c.in-Some.additions c.in_ok-place-in-Choice.field-0 c.in-Added.place c.added_count.ensures c.in-Some.is c.in-Added.is c.in_ok-place-in-Choice.ensures.within in
-    (search (rules, the_lemmas), (additions_good c.args.ty.now c.in-Choice.root c.in-Choice.ext c.in-Choice.is c.requires.of_profile c.in-Some.additions c.deref-in-Added.result.now c.in-Some.is c.deref-in-Added.ensures.value, rw c.deref-in-Added.ensures.len inside))
+    let inside = added_inside c.len-known.result c.added_count.result c.in-Choice.ext c.in-Some-ext.additions c.in_ok-place-in-Choice.field-0 c.in-Added.place c.added_count.ensures c.in-Some-ext.is c.in-Added.is c.in_ok-place-in-Choice.ensures.within in
+    (search (rules, the_lemmas), (additions_good c.args.ty.now c.in-Choice.root c.in-Choice.ext c.in-Choice.is c.requires.of_profile c.in-Some-ext.additions c.deref-in-Added.result.now c.in-Some-ext.is c.deref-in-Added.ensures.value, rw c.deref-in-Added.ensures.len inside))
 
 pub read-returns-in_err-value-in-Added-clause-stop : goal.read-returns-in_err-value-in-Added-clause-stop
 read-returns-in_err-value-in-Added-clause-stop t c =
     let p = err_from_is_err_and c.from_residual-in_err-value-in-Added.result c.from_residual-in_err-value-in-Added.ensures.1 in
-    let lead = added_value_leads c.args.ty.now c.in-Choice.root c.in-Choice.ext c.in-Choice.is c.requires.of_profile c.len-known.result c.len-known.ensures c.added_count.result c.added_count.ensures c.args.bits.now c.in_ok-place-in-Choice.field-0 c.in-Added.place c.read_index.new.bits c.in_ok-place-in-Choice.ensures.done c.in-Some.additions c.deref-in-Added.result.now c.in-Some.is c.deref-in-Added.ensures.value c.in-Added.is in
+    let lead = added_value_leads c.args.ty.now c.in-Choice.root c.in-Choice.ext c.in-Choice.is c.requires.of_profile c.len-known.result c.len-known.ensures c.added_count.result c.added_count.ensures c.args.bits.now c.in_ok-place-in-Choice.field-0 c.in-Added.place c.read_index.new.bits c.in_ok-place-in-Choice.ensures.done c.in-Some-ext.additions c.deref-in-Added.result.now c.in-Some-ext.is c.deref-in-Added.ensures.value c.in-Added.is in
     rw (p.1, p.2) (stops_by _ lead.stops c.in_err-value-in-Added.ensures.stop)
 
 pub read-chosen-requires-in-Added : goal.read-chosen-requires-in-Added
 read-chosen-requires-in-Added t c =
-    let inside = added_inside c.len-known.result c.added_count.result c.in-Choice.ext c.in-Some.additions c.in_ok-place-in-Choice.field-0 c.in-Added.place c.added_count.ensures c.in-Some.is c.in-Added.is c.in_ok-place-in-Choice.ensures.within in
-    omega (arith, inside, few_all c.args.ty.now c.in-Choice.root c.in-Choice.ext c.in-Choice.is c.requires.of_profile c.len-known.result c.len-known.ensures c.in-Some.additions c.in-Some.is)
+    let inside = added_inside c.len-known.result c.added_count.result c.in-Choice.ext c.in-Some-ext.additions c.in_ok-place-in-Choice.field-0 c.in-Added.place c.added_count.ensures c.in-Some-ext.is c.in-Added.is c.in_ok-place-in-Choice.ensures.within in
+    omega (arith, inside, few_all c.args.ty.now c.in-Choice.root c.in-Choice.ext c.in-Choice.is c.requires.of_profile c.len-known.result c.len-known.ensures c.in-Some-ext.additions c.in-Some-ext.is)
 
 pub read-returns-in_ok-chosen-in-Added-clause-done : goal.read-returns-in_ok-chosen-in-Added-clause-done
 read-returns-in_ok-chosen-in-Added-clause-done t c =
-    let lead = added_value_leads c.args.ty.now c.in-Choice.root c.in-Choice.ext c.in-Choice.is c.requires.of_profile c.len-known.result c.len-known.ensures c.added_count.result c.added_count.ensures c.args.bits.now c.in_ok-place-in-Choice.field-0 c.in-Added.place c.read_index.new.bits c.in_ok-place-in-Choice.ensures.done c.in-Some.additions c.deref-in-Added.result.now c.in-Some.is c.deref-in-Added.ensures.value c.in-Added.is in
+    let lead = added_value_leads c.args.ty.now c.in-Choice.root c.in-Choice.ext c.in-Choice.is c.requires.of_profile c.len-known.result c.len-known.ensures c.added_count.result c.added_count.ensures c.args.bits.now c.in_ok-place-in-Choice.field-0 c.in-Added.place c.read_index.new.bits c.in_ok-place-in-Choice.ensures.done c.in-Some-ext.additions c.deref-in-Added.result.now c.in-Some-ext.is c.deref-in-Added.ensures.value c.in-Added.is in
     rw c.in_ok-chosen-in-Added.ensures (lead.done (datum_of c.in_ok-value-in-Added.value) c.read_added_alternative.new.bits c.in_ok-value-in-Added.ensures.done)
 
 pub read_alternative-read-requires : goal.read_alternative-read-requires

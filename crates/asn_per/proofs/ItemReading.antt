@@ -25,16 +25,6 @@ use Rattle.asn_per.proofs.LeftOut.{enumerated_but_one, none_left_out}
 
 -- ---- sets of indexes
 
-<<<<<<< HEAD
--- two sets of the same numbers
-pub same_set : (k : ℕ) {S T : ℕ → Type 0} → ((n : ℕ) → S n → T n) → ((n : ℕ) → T n → S n) → Same (Plain (InSet k S)) (Plain (InSet k T))
-same_set k there back = record {
-  to = λ n cs h. record { units = h.units; spelt = record { digits = h.spelt.digits; member = there n h.spelt.member }; same = h.same };
-  from = λ n cs h. record { units = h.units; spelt = record { digits = h.spelt.digits; member = back n h.spelt.member }; same = h.same };
-}
-
-=======
->>>>>>> all
 -- the indexes that the reader admits are those of the items that are not left out
 index_there : (root : List Label) (p : Option ℕ) (n : ℕ) → 0 < length root → Admits (up_to (length root - 1) (index_of root p)) n → IndexesBut root p n
 index_there root None n some h = omega (arith, h.1)

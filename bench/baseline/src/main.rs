@@ -4,6 +4,8 @@ mod bits;
 mod hand;
 mod rows;
 mod same;
+#[cfg(test)]
+mod tests;
 mod tree;
 mod value;
 
@@ -34,24 +36,28 @@ fn main() {
 }
 
 fn by_hand(plan: &Plan) {
-    use hand::{Aligned, Shifted, Small, Wide};
+    use hand::{Aligned, Bsm, Cam, Shifted, Small, Wide};
     let source = rows::source();
     let cut = || black_box(source.as_slice());
     run(plan, "small", Small::sample, Small::encode, Small::decode);
     run(plan, "wide", Wide::sample, Wide::encode, Wide::decode);
     run(plan, "shifted", || Shifted::sample(cut()), Shifted::encode, Shifted::decode);
     run(plan, "aligned", || Aligned::sample(cut()), Aligned::encode, Aligned::decode);
+    run(plan, "cam", Cam::sample, Cam::encode, Cam::decode);
+    run(plan, "bsm", Bsm::sample, Bsm::encode, Bsm::decode);
 }
 
 fn by_hand_same_values(plan: &Plan) {
     use same::strings::{Aligned, Shifted};
-    use same::{small, wide};
+    use same::{bsm, cam, small, wide};
     let source = rows::source();
     let cut = || black_box(source.as_slice());
     run(plan, "small", small::sample, small::encode, small::decode);
     run(plan, "wide", wide::sample, wide::encode, wide::decode);
     run(plan, "shifted", || Shifted::sample(cut()), Shifted::encode, Shifted::decode);
     run(plan, "aligned", || Aligned::sample(cut()), Aligned::encode, Aligned::decode);
+    run(plan, "cam", cam::sample, cam::encode, cam::decode);
+    run(plan, "bsm", bsm::sample, bsm::encode, bsm::decode);
 }
 
 fn by_tree(plan: &Plan) {
@@ -74,7 +80,7 @@ fn by_tree(plan: &Plan) {
 fn times(name: &str) -> u32 {
     match name {
         "small" => 200_000,
-        "wide" => 20_000,
+        "wide" | "cam" | "bsm" => 20_000,
         _ => 500,
     }
 }

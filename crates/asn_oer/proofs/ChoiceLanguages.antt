@@ -4,7 +4,8 @@ use Rattle.asn_values.specs.Datum.{Datum, alternative}
 use Rattle.asn_values.specs.Shape.{choice, Alternatives, no_alternatives, one_of, MoreAlternatives, closed_choice, marked_choice, more_alternatives, count}
 use Rattle.asn_values.specs.Fits.{Fits, FitsAlternative, FitsMoreAlternatives, FitsChoice}
 use Rattle.asn_values.specs.Profile.{InProfile}
-use Rattle.asn_values.proofs.InnerTypes.{AreAllOfProfile, added_alternatives_of_profile}
+use Rattle.asn_values.specs.Parts.{AreAllOfProfile}
+use Rattle.asn_values.proofs.InnerTypes.{added_alternatives_of_profile}
 use Rattle.asn_bits.specs.Numbers.{digits}
 use Rattle.asn_rules.specs.Chunks.{Chunk, ones}
 use Rattle.asn_bits.specs.Sets.{Between}

@@ -1,5 +1,6 @@
 //! The laws of Canonical OER, for every type of the profile.
 
+ghost use Rattle.asn_rules.specs.CodecLaws.{DecodesTheEncoded, EncodesTheDecoded, OnlyMemoryIsWanting, EqualExactly, TellsTheRest, RestFollowsOneFront, TellsTheCut, DecodersAgree};
 ghost use Rattle.asn_rules.specs.Laws.{BeginningsAreLive, BeginningsAreNotRefused, EncodesAs, UnitsTellTheValue, OneValue, NoneBegins, RulesLaws, LiveIsClosed, LiveByParts, OneAnswer};
 ghost use Rattle.asn_rules.specs.Parted.{SpellingsPart};
 ghost use Rattle.asn_rules.specs.Reading.{RulesTell};
@@ -55,4 +56,29 @@ pub fn beginnings_are_live()
 /// content and begins no other; and the units are the octets.
 pub fn readers_tell()
     ensures { RulesTell oer_ruling }
+{}
+
+/// What follows for an encoder and a decoder of OER that answer as `Encoded`, `NotEncoded` and
+/// `Decoded` say, whoever writes them. A decoder may answer `Memory` to any octets.
+///
+/// - `decodes`: to the octets of a value the decoder answers that value.
+/// - `encodes_again`: a value that was decoded has the octets that were given as its encoding, and
+///   no others. `only_memory`: an encoder that gives none for it had no memory.
+/// - `equal_exactly`: two values are equal exactly where their octets are.
+/// - `begins`: where octets follow an encoding, the decoder tells where it ends. `one_front`: where
+///   the decoder tells so, the octets in front are the encoding of a value, and no other front is
+///   an encoding.
+/// - `cut`: to each proper beginning of an encoding the decoder answers `Truncated`, with all its
+///   octets.
+/// - `one_answer`: two answers to the same octets, neither being `Memory`, say the same, but for the
+///   reason of a refusal.
+pub fn codec_laws()
+    ensures decodes { DecodesTheEncoded oer_ruling }
+    ensures encodes_again { EncodesTheDecoded oer_ruling }
+    ensures only_memory { OnlyMemoryIsWanting oer_ruling }
+    ensures equal_exactly { EqualExactly oer_ruling }
+    ensures begins { TellsTheRest oer_ruling }
+    ensures one_front { RestFollowsOneFront oer_ruling }
+    ensures cut { TellsTheCut oer_ruling }
+    ensures one_answer { DecodersAgree oer_ruling }
 {}

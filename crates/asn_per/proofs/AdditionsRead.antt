@@ -26,7 +26,7 @@ use Rattle.asn_per.specs.Kinds.{OpenValues, OpenListed, AdditionCount, SomePrese
 use Rattle.asn_per.specs.Per.{per_fields}
 use Rattle.asn_per.specs.Reading.{Admits, Behind}
 use Rattle.asn_per.specs.declared.number_reader.Numbers.{Numbers}
-use Rattle.asn_per.proofs.ItemReading.{same_set}
+use Rattle.asn_per.proofs.CountedReading.{same_set}
 use Rattle.asn_per.proofs.OpenFieldLanguages.{open_values_lawful, open_values_inhabited}
 use Rattle.asn_per.proofs.PerFields.{per_fields_part}
 use Rattle.asn_per.proofs.Sequences.{count_of_fields}
@@ -65,7 +65,7 @@ module _ (fs : Fields) (some : 0 < length (demands fs)) (few : length (demands f
 
   -- the count of the additions
   same_count : Same (Plain (InSet 7 (λ k. Admits (only (n - 1)) k))) (AdditionCount n)
-  same_count = same_set 7 (λ k h. omega (arith, h.0, h.1, some)) (λ k h. (omega (arith, h), omega (arith, h), tt))
+  same_count = same_set 2 7 (λ k h. omega (arith, h.0, h.1, some)) (λ k h. (omega (arith, h), omega (arith, h), tt))
 
   -- more than one bitmap is there
   two : 1 < 2 ^ n
@@ -73,7 +73,7 @@ module _ (fs : Fields) (some : 0 < length (demands fs)) (few : length (demands f
 
   module _ (high : ℕ) (all : high + 1 ≡ 2 ^ n) where
     same_bitmap : Same (Plain (InSet n (λ b. Admits (not_zero high) b))) (SomePresent n)
-    same_bitmap = same_set n (λ b h. (omega (arith, h.2), omega (arith, h.1, all))) (λ b h. (omega arith, omega (arith, h.1, all), λ e. omega (arith, h.0, e)))
+    same_bitmap = same_set 2 n (λ b h. (omega (arith, h.2), omega (arith, h.1, all))) (λ b h. (omega arith, omega (arith, h.1, all), λ e. omega (arith, h.0, e)))
 
   bitmap_follows : Follows (SomePresent n) (λ b. OpenListed fs (bits n b))
   bitmap_follows = record { follow = λ b cs h. open_listed_inhabited fs (bits n b) good (length-digits 2 n b) }

@@ -2,11 +2,12 @@
 use Rattle.std.proofs.Common.{◌≡◌, ◌≤◌, ◌<◌, ◌+◌, ◌-◌, ◌⊎◌, inl, inr, ℕ, zero, suc, Bool, true, false, ◌||◌, List, [], ◌++◌, MatchBool, nat_lt, refl, sym, ap, subst, arith}
 use Rattle.std.proofs.lemmas.Bool.{ltb-true, ltb-false, lt-ltb, le-ltb}
 use Rattle.asn_values.specs.Datum.{Datum, alternative}
-use Rattle.asn_values.specs.Shape.{Alternatives, no_alternatives, one_of, MoreAlternatives, closed_choice, marked_choice, choice, count}
+use Rattle.asn_values.specs.Shape.{Alternatives, no_alternatives, one_of, MoreAlternatives, closed_choice, marked_choice, more_alternatives, choice, count}
 use Rattle.asn_values.specs.Fits.{Fits, FitsAlternative}
-use Rattle.asn_values.specs.Profile.{InProfile, TooMany, too_many_here, most_nodes, most_alternatives, somewhere, some_alternative}
+use Rattle.asn_values.specs.Profile.{InProfile, TooMany, too_many_here, most_nodes, most_alternatives, somewhere, some_alternative, some_more}
 use Rattle.asn_values.specs.Measures.{nodes}
-use Rattle.asn_values.proofs.InnerTypes.{AreAllOfProfile, added_alternatives_of_profile}
+use Rattle.asn_values.specs.Parts.{AreAllOfProfile}
+use Rattle.asn_values.proofs.InnerTypes.{added_alternatives_of_profile}
 use Rattle.asn_values.proofs.Parts.{left_false}
 use Rattle.asn_rules.specs.Chunks.{Chunk, ones}
 use Rattle.asn_rules.specs.Forks.{Same}
@@ -124,14 +125,14 @@ closed_is root (alternative i v) h = go (nat_lt i (count root)) refl h
 closed_is root _ h = absurd h
 
 -- a CHOICE has few alternatives
-few_alternatives : (root more : Alternatives) → InProfile (choice root (marked_choice more)) → count more ≤ 64
-few_alternatives root more good =
-    let all : somewhere too_many_here (choice root (marked_choice more)) ≡ false = left_false (somewhere too_many_here (choice root (marked_choice more))) (nat_lt most_nodes (nodes (choice root (marked_choice more)))) (good TooMany) in
-    let here : nat_lt most_alternatives (count root + count more) ≡ false = left_false (nat_lt most_alternatives (count root + count more)) (some_alternative too_many_here root || some_alternative too_many_here more) all in
-    omega (arith, ltb-false most_alternatives (count root + count more) here)
+pub few_choices : (root : Alternatives) (more : MoreAlternatives) → InProfile (choice root more) → count root + count (more_alternatives more) ≤ 63
+few_choices root more good =
+    let all : somewhere too_many_here (choice root more) ≡ false = left_false (somewhere too_many_here (choice root more)) (nat_lt most_nodes (nodes (choice root more))) (good TooMany) in
+    let here : nat_lt most_alternatives (count root + count (more_alternatives more)) ≡ false = left_false (nat_lt most_alternatives (count root + count (more_alternatives more))) (some_alternative too_many_here root || some_more too_many_here more) all in
+    ltb-false most_alternatives (count root + count (more_alternatives more)) here
 
 -- CHOICE
 pub choices_compose : (root : Alternatives) (more : MoreAlternatives) → InProfile (choice root more) → Same (Choices root more) (Values (choice root more))
 choices_compose root closed_choice good = same_after (root_spelled root) (same_spelled (λ v h. (closed_there root v h).0) (closed_is root) (λ v h. (closed_there root v h).1))
 choices_compose root (marked_choice more) good =
-    same_after (same_map (same_after (same_fork (root_spelled root) (added_spelled root more (few_alternatives root more good) (added_alternatives_of_profile root more good))) fork_spelled)) (map_spelled (either_there root more) (either_back root more))
+    same_after (same_map (same_after (same_fork (root_spelled root) (added_spelled root more (omega (arith, few_choices root (marked_choice more) good)) (added_alternatives_of_profile root more good))) fork_spelled)) (map_spelled (either_there root more) (either_back root more))

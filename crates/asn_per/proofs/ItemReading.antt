@@ -1,38 +1,29 @@
 -- From the answers for an index to those for an item, as the readers of the program ask for it.
-use Rattle.std.proofs.Common.{◌≡◌, ◌<◌, ◌+◌, ◌-◌, ℕ, List, [], ◌∷◌, length, Option, Some, None, refl, sym, subst, arith}
+use Rattle.std.proofs.Common.{◌≡◌, ◌<◌, ◌+◌, ◌-◌, ◌⊎◌, inl, inr, ℕ, List, length, Option, Some, None, refl, sym, ap, ◌∙◌, subst, arith}
 use Rattle.std.specs.Option.{option_map}
-use Rattle.asn_values.specs.Datum.{item}
+use Rattle.asn_values.specs.Datum.{Datum, item}
 use Rattle.asn_values.specs.Shape.{Label, closed_labels, marked_labels, enumerated}
 use Rattle.asn_values.specs.Profile.{InProfile}
 use Rattle.asn_bits.specs.Numbers.{width}
 use Rattle.asn_bits.specs.Sets.{InSet, Meets}
 use Rattle.asn_bits.proofs.Widths.{width_fits}
-use Rattle.asn_rules.specs.Forks.{Fork, Same}
-use Rattle.asn_rules.specs.Languages.{Inhabited, Plain, Map, Short, Refused}
+use Rattle.asn_rules.specs.Forks.{Branch}
+use Rattle.asn_rules.specs.Chunks.{Chunk}
+use Rattle.asn_rules.specs.Languages.{Inhabited, Plain, Map}
 use Rattle.asn_rules.specs.Listed.{Spelt}
-use Rattle.asn_rules.proofs.Exits.{leads_zero, leads_one}
-use Rattle.asn_rules.proofs.Forks.{same_flip, same_inhabited, fork_short, fork_refused, fork_inhabited_zero}
+use Rattle.asn_rules.proofs.Forks.{same_flip, same_inhabited}
 use Rattle.asn_rules.proofs.Leads.{Leads, leads_on, leads_map, leads_same}
-use Rattle.asn_rules.proofs.Parts.{map_short, map_refused, map_inhabited}
 use Rattle.asn_bits.proofs.Unions.{set_meets}
-use Rattle.asn_rules.proofs.Sets.{set_inhabited}
 use Rattle.asn_rules.proofs.Spellings.{same_after}
-use Rattle.asn_per.specs.Kinds.{place_of, SmallBelow, RootItems, Items, RootItemsBut, IndexesBut, IsRootPlace, of_either}
+use Rattle.asn_per.specs.Kinds.{place_of, Below, SmallBelow, RootItems, Items, RootItemsBut, IndexesBut, IsRootPlace, of_either}
 use Rattle.asn_per.specs.Per.{per, per_fields}
-use Rattle.asn_per.specs.Indexes.{IsItemWithin, index_of}
+use Rattle.asn_per.specs.Indexes.{IsItemWithin, IndexesOf, index_of}
 use Rattle.asn_per.specs.Reading.{Admits, up_to}
 use Rattle.asn_per.proofs.EnumeratedLanguages.{items_compose}
+use Rattle.asn_per.proofs.CountedReading.{same_set}
 use Rattle.asn_per.proofs.LeftOut.{enumerated_but_one, none_left_out}
-use Rattle.asn_per.proofs.PerFields.{per_fields_part}
 
 -- ---- sets of indexes
-
--- two sets of the same numbers
-pub same_set : (k : ℕ) {S T : ℕ → Type 0} → ((n : ℕ) → S n → T n) → ((n : ℕ) → T n → S n) → Same (Plain (InSet k S)) (Plain (InSet k T))
-same_set k there back = record {
-  to = λ n cs h. record { units = h.units; spelt = record { digits = h.spelt.digits; member = there n h.spelt.member }; same = h.same };
-  from = λ n cs h. record { units = h.units; spelt = record { digits = h.spelt.digits; member = back n h.spelt.member }; same = h.same };
-}
 
 -- the indexes that the reader admits are those of the items that are not left out
 index_there : (root : List Label) (p : Option ℕ) (n : ℕ) → 0 < length root → Admits (up_to (length root - 1) (index_of root p)) n → IndexesBut root p n
@@ -53,7 +44,7 @@ module _ (root : List Label) (p : Option ℕ) (high : ℕ) (is : high + 1 ≡ le
       let some : 0 < length root = omega arith in
       subst (λ (w : ℕ). Leads per_fields (Plain (InSet (width w) (λ n. Admits (up_to high (index_of root p)) n))) us (λ n. item (place_of root n)) (RootItemsBut root p) us) (sym is)
       (subst (λ (h : ℕ). Leads per_fields (Plain (InSet (width (length root)) (λ n. Admits (up_to h (index_of root p)) n))) us (λ n. item (place_of root n)) (RootItemsBut root p) us) (sym less)
-      (leads_on (leads_same per_fields us (same_set (width (length root)) (λ n h. index_there root p n some h) (λ n h. index_back root p n some h))) (leads_map per_fields (λ n. item (place_of root n)) (Plain (InSet (width (length root)) (IndexesBut root p))) us)))
+      (leads_on (leads_same per_fields us (same_set 2 (width (length root)) (λ n h. index_there root p n some h) (λ n h. index_back root p n some h))) (leads_map per_fields (λ n. item (place_of root n)) (Plain (InSet (width (length root)) (IndexesBut root p))) us)))
 
   -- an item that is not left out has an index that the reader admits
   pub some_index : Inhabited (RootItemsBut root p) → Meets (λ n. Admits (up_to high (index_of root p)) n) 0 (width (high + 1))
@@ -62,10 +53,6 @@ module _ (root : List Label) (p : Option ℕ) (high : ℕ) (is : high + 1 ≡ le
       let less : high ≡ length root - 1 = omega arith in
       let member : Admits (up_to high (index_of root p)) n = subst (λ (h : ℕ). Admits (up_to h (index_of root p)) n) (sym less) (index_back root p n (omega arith) i.spelt.spelt.spelt.member) in
       set_meets 2 (width (high + 1)) n member (width_fits (high + 1) n (omega (arith, member.1)))
-
--- there is an item
-pub some_root_item : (root : List Label) → 0 < length root → Inhabited (RootItemsBut root None)
-some_root_item root some = map_inhabited (set_inhabited (set_meets 2 (width (length root)) 0 some (width_fits (length root) 0 some)))
 
 -- ---- without a mark
 
@@ -97,26 +84,43 @@ module _ (root more : List Label) where
       → Leads per_fields (Items root (marked_labels more)) us (λ v. v) (Spelt per None (enumerated root (marked_labels more))) us
   marked_leads good us = leads_same per_fields us (same_after (items_compose root (marked_labels more) good) (none_left_out (enumerated root (marked_labels more))))
 
-  some_item : 0 < length root → Inhabited (Fork (RootItems root) (Map (λ k. item (length root + k)) (SmallBelow (length more))))
-  some_item some = fork_inhabited_zero (some_root_item root some)
+  -- the item of an index
+  abbrev item_at : ℕ ⊎ ℕ → Datum
+  item_at (inl n) = item (place_of root n)
+  item_at (inr k) = item (length root + k)
 
-  -- no bit comes
-  pub mark_wanted : 0 < length root → Short per_fields (Items root (marked_labels more)) []
-  mark_wanted some = map_short (fork_short (some_item some))
+  -- an index behind the mark is that of an item
+  item_there : (i : ℕ ⊎ ℕ) (cs : List Chunk) → Branch 0 inl (Below (width (length root)) (length root)) i cs ⊎ Branch 1 inr (SmallBelow (length more)) i cs → Items root (marked_labels more) (item_at i) cs
+  item_there i cs (inl b) = record {
+    source = inl (item (place_of root b.value));
+    spelt = record { side = inl (record { value = item (place_of root b.value); rest = b.rest; spelt = record { source = b.value; spelt = b.spelt; seen = refl }; seen = refl; same = b.same }) };
+    seen = ap item_at b.seen;
+  }
+  item_there i cs (inr b) = record {
+    source = inr (item (length root + b.value));
+    spelt = record { side = inr (record { value = item (length root + b.value); rest = b.rest; spelt = record { source = b.value; spelt = b.spelt; seen = refl }; seen = refl; same = b.same }) };
+    seen = ap item_at b.seen;
+  }
 
-  -- behind a 0 stands an item of the root
-  pub zero_leads : (us after : List ℕ) → us ≡ 0 ∷ after → Leads per_fields (RootItemsBut root None) after (λ v. v) (Items root (marked_labels more)) us
-  zero_leads us after e = leads_on (leads_zero per_fields e) (leads_map per_fields of_either (Fork (RootItems root) (Map (λ k. item (length root + k)) (SmallBelow (length more)))) us)
+  -- and an item has an index
+  item_back : (v : Datum) (w : Datum ⊎ Datum) (cs : List Chunk) → v ≡ of_either w → Branch 0 inl (RootItems root) w cs ⊎ Branch 1 inr (Map (λ k. item (length root + k)) (SmallBelow (length more))) w cs
+      → Map item_at (IndexesOf (length root) (Some (length more))) v cs
+  item_back v w cs e (inl b) = record {
+    source = inl b.spelt.source;
+    spelt = record { side = inl (record { value = b.spelt.source; rest = b.rest; spelt = b.spelt.spelt; seen = refl; same = b.same }) };
+    seen = e ∙ ap of_either b.seen ∙ b.spelt.seen;
+  }
+  item_back v w cs e (inr b) = record {
+    source = inr b.spelt.source;
+    spelt = record { side = inr (record { value = b.spelt.source; rest = b.rest; spelt = b.spelt.spelt; seen = refl; same = b.same }) };
+    seen = e ∙ ap of_either b.seen ∙ b.spelt.seen;
+  }
 
-  -- behind a 1 stands the index of an addition
-  pub one_leads : (us after : List ℕ) (high : ℕ) → us ≡ 1 ∷ after → high + 1 ≡ length more
-      → Leads per_fields (Plain (InSet 7 (λ n. Admits (up_to high None) n))) after (λ k. item (length root + k)) (Items root (marked_labels more)) us
-  one_leads us after high e is =
-      leads_on (leads_on (leads_on (leads_same per_fields after (same_set 7 (λ n h. omega (arith, h.1)) (λ n h. (omega arith, omega arith, tt)))) (leads_map per_fields (λ k. item (length root + k)) (SmallBelow (length more)) after)) (leads_one per_fields e))
-      (leads_map per_fields of_either (Fork (RootItems root) (Map (λ k. item (length root + k)) (SmallBelow (length more)))) us)
-
-  -- where there is no addition, the 1 is refused
-  pub one_refused : 0 < length root → length more ≡ 0 → (us after : List ℕ) → us ≡ 1 ∷ after → Refused per_fields (Items root (marked_labels more)) us (length after)
-  one_refused some none us after e =
-      subst (λ (bs : List ℕ). Refused per_fields (Items root (marked_labels more)) bs (length after)) (sym e)
-      (map_refused (fork_refused per_fields_part (some_item some) 1 after (λ f. absurd (omega arith)) (λ f i. absurd (let m = i.spelt.spelt.spelt.member in omega (arith, m)))))
+  -- the reader of an index answers for the item
+  pub index_leads : (us : List ℕ) → Leads per_fields (IndexesOf (length root) (Some (length more))) us item_at (Items root (marked_labels more)) us
+  index_leads us =
+      leads_on (leads_map per_fields item_at (IndexesOf (length root) (Some (length more))) us)
+      (leads_same per_fields us (record {
+        to = λ v cs h. rw h.seen (item_there h.source cs h.spelt.side);
+        from = λ v cs h. item_back v h.source cs h.seen h.spelt.side;
+      }))

@@ -1,5 +1,5 @@
 -- The elements of a SEQUENCE OF are read one by one, behind their count or their lengths.
-use Rattle.std.proofs.Common.{◌≡◌, ◌≤◌, ◌+◌, ◌-◌, ℕ, List, Some, None, arith}
+use Rattle.std.proofs.Common.{◌≤◌, ◌+◌, ◌-◌, ℕ, List, Some, None, arith}
 use Rattle.asn_values.specs.Datum.{elements, elements_of}
 use Rattle.asn_values.specs.Shape.{Shape, SizeRange, sequence_of}
 use Rattle.asn_values.specs.Profile.{InProfile, EmptyRange, SizeTooLarge, UselessMark, size_above, large_size, is_every_length, somewhere, empty_range, size_too_large, useless_mark}

@@ -1,11 +1,11 @@
 -- The elements of a SEQUENCE OF are written one by one, behind their count or their lengths.
-use Rattle.std.proofs.Common.{◌≡◌, ◌<◌, ◌≤◌, ◌+◌, ℕ, List, [], ◌∷◌, ◌++◌, length, map, take, drop, get_or, refl, sym, rules, ap, subst, ◌∙◌}
+use Rattle.std.proofs.Common.{◌≡◌, ◌<◌, ◌≤◌, ◌+◌, ℕ, List, [], ◌∷◌, ◌++◌, length, map, take, drop, get_or, refl, sym, ap, subst, ◌∙◌}
 use Rattle.std.specs.List.{AllByRecursion}
 use Rattle.std.proofs.lemmas.List.{append-nil, append_assoc, drop_all, drop-map, take-map, length-map}
 use Rattle.std.proofs.Math.Numerals.{add-one}
 use Rattle.std.proofs.Math.Seq.{drop-cons}
 use Rattle.asn_values.specs.declared.value.Value.{Value}
-use Rattle.asn_values.specs.Datum.{Datum, elements, element_list, elements_of}
+use Rattle.asn_values.specs.Datum.{Datum, elements, elements_of}
 use Rattle.asn_values.specs.Shape.{Shape, SizeRange, sequence_of}
 use Rattle.asn_values.specs.Fits.{Fits, FitsLength}
 use Rattle.asn_values.specs.View.{datum_of}

@@ -41,7 +41,7 @@ chunks_of_sequence fs es h =
     ∙ ap (λ (l : List Chunk). ones (presence (demands fs) es) ++ l) (per_each_is fs es)
 
 -- there are as many presence bits as components that may be absent
-pub presence_length : (fs : Fields) (es : List (Option Datum)) → FitsEach fs es → length (presence (demands fs) es) ≡ bitmap_length fs
+presence_length : (fs : Fields) (es : List (Option Datum)) → FitsEach fs es → length (presence (demands fs) es) ≡ bitmap_length fs
 presence_length no_fields es h = refl
 presence_length (field name demand t fs) [] h = absurd h
 presence_length (field name must t fs) (e ∷ es) h = presence_length fs es h.1

@@ -1,6 +1,6 @@
 -- Where the loops of the encoder over the components of a SEQUENCE stand.
-use Rattle.std.proofs.Common.{◌≡◌, ◌⊎◌, ◌≤◌, ◌<◌, ◌+◌, ◌*◌, ◌^◌, ℕ, suc, Bool, true, false, List, [], ◌∷◌, ◌++◌, length, map, Option, Some, None, inl, inr, refl, sym, ◌∙◌, ap, arith, append_assoc}
-use Rattle.std.proofs.lemmas.List.{append-nil}
+use Rattle.std.proofs.Common.{◌≡◌, ◌⊎◌, ◌≤◌, ◌<◌, ◌+◌, ◌*◌, ◌^◌, ℕ, suc, Bool, true, false, List, [], ◌∷◌, ◌++◌, length, map, drop, get_or, Option, Some, None, inl, inr, refl, sym, ◌∙◌, ap, arith, append_assoc}
+use Rattle.std.proofs.lemmas.List.{append-nil, at_drop_more}
 use Rattle.std.proofs.Math.Nat.{pow-succ'}
 use Rattle.asn_values.specs.Datum.{Datum}
 use Rattle.asn_values.specs.Shape.{Demand, must, optional, default, Fields, no_fields, demands}
@@ -14,6 +14,10 @@ use Rattle.asn_bits.proofs.Splits.{digits-join}
 use Rattle.asn_rules.specs.Components.{has_presence_bit, is_spelled, presence}
 use Rattle.asn_per.specs.Laws.{per_bits, component_bits}
 use Rattle.asn_per.proofs.Spellings.{component_bits-spelled, component_bits-default}
+
+-- the next item of a list and those behind it, seen as something else
+pub next_seen : {A B : Type 0} (f : A → B) (xs : List A) (i : ℕ) (x : A) → i < length xs → x ≡ get_or xs i x → map f (drop i xs) ≡ f x ∷ map f (drop (i + 1) xs)
+next_seen f xs i x h e = at_drop_more (map f) xs i x h ∙ ap (λ y. f y ∷ map f (drop (i + 1) xs)) (sym e)
 
 -- the components that are left, with their entries
 pub record Left (parts : List Part) (entries : List (Option Datum)) : Type 0 where

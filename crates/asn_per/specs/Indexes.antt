@@ -1,11 +1,44 @@
--- The items of an ENUMERATED and their indexes, as a reader takes them.
-use Rattle.std.specs.Prelude.{◌≡◌, ◌<◌, ◌≤◌, ℕ, false, List, length, map, Option, Some, None, ⊤}
+-- Indexes of the items of an ENUMERATED and of the alternatives of a CHOICE, as they are read and written.
+use Rattle.std.specs.Prelude.{◌≡◌, ◌<◌, ◌≤◌, ◌⊎◌, ℕ, Bool, false, List, ◌∷◌, ◌++◌, length, map, Option, Some, None, ⊤}
+use mathlib.Core.Logic.{inl, inr}
 use Rattle.std.specs.List.{list_any}
 use Rattle.std.specs.Option.{option_map}
 use Rattle.asn_values.specs.Shape.{Label, MoreLabels, closed_labels, marked_labels}
 use Rattle.asn_values.specs.Profile.{int_eq, has_twice, is_not_32_bits, most_items}
-use Rattle.asn_rules.specs.Components.{number_at}
-use Rattle.asn_per.specs.Per.{rank}
+use Rattle.asn_bits.specs.Numbers.{width}
+use Rattle.asn_rules.specs.Chunks.{Chunk}
+use Rattle.asn_rules.specs.Components.{number_at, extension_bit}
+use Rattle.asn_rules.specs.Forks.{Fork}
+use Rattle.asn_rules.specs.Languages.{Map}
+use Rattle.asn_per.specs.Kinds.{Below, SmallBelow}
+use Rattle.asn_per.specs.Per.{rank, constrained, small}
+use Rattle.asn_per.specs.declared.indexes.Index.{Index}
+use Rattle.asn_per.specs.declared.indexes.Index.TheVariants as an_index
+
+-- ---- indexes of the root or of the additions
+
+-- what an index of the program stands for: one of the root, or one of the additions
+abbrev pub index_at : Index → ℕ ⊎ ℕ
+index_at (an_index.Root n) = inl n
+index_at (an_index.Added n) = inr n
+
+-- it is one of so many of the root, or of so many additions where there is an extension mark
+abbrev pub IsIndexWithin : ℕ → Option ℕ → ℕ ⊎ ℕ → Type 0
+IsIndexWithin root more (inl n) = n < root
+IsIndexWithin root None (inr n) = ⊥
+IsIndexWithin root (Some more) (inr n) = n < more
+
+-- an index of the root in bits; behind an extension mark 0 and such an index, or 1 and that of an addition
+abbrev pub IndexesOf : ℕ → Option ℕ → ℕ ⊎ ℕ → List Chunk → Type 0
+IndexesOf root None = Map inl (Below (width root) root)
+IndexesOf root (Some more) = Fork (Below (width root) root) (SmallBelow more)
+
+-- its bits, where it is said whether there is a mark
+abbrev pub index_bits : ℕ → Bool → ℕ ⊎ ℕ → List ℕ
+index_bits root marked (inl n) = extension_bit marked false ++ constrained root n
+index_bits root marked (inr n) = 1 ∷ small n
+
+-- ---- ENUMERATED
 
 -- the root of an ENUMERATED of the profile: some items, and not too many, of distinct numbers of 32 signed bits
 pub record AreRootItems (root : List Label) : Type 0 where

@@ -1,36 +1,36 @@
 //! The encoder.
 ghost use Rattle.std.specs.Prelude.{◌≡◌, ◌≤◌, ◌<◌, ◌^◌, ◌++◌, IfOk, true, IfErr, OnOk, map, length, vec_len};
 ghost use Rattle.std.specs.Option.{option_map};
-ghost use Rattle.asn_values.specs.Fits.{Fits, FitsEach, FitsNumber};
+ghost use Rattle.asn_values.specs.Fits.{Fits, FitsEach, FitsNumber, FitsAlternative};
 ghost use Rattle.asn_values.specs.Shape.{integer, marked, demands, sequence_of};
 ghost use Rattle.asn_values.specs.Datum.{number, elements, elements_of};
 ghost use Rattle.std.specs.List.{AllByRecursion};
 ghost use Rattle.asn_values.specs.Profile.{InProfile};
-ghost use Rattle.asn_values.specs.Parts.{AreOfProfile, IsGoodDemand};
-ghost use Rattle.asn_values.specs.View.{shape_of, datum_of, range_of, size_range_of, fields_of, part_of_field};
+ghost use Rattle.asn_values.specs.Parts.{AreOfProfile, AreAllOfProfile, IsGoodDemand};
+ghost use Rattle.asn_values.specs.View.{shape_of, datum_of, range_of, size_range_of, fields_of, part_of_field, alternatives_of, branch_of};
 ghost use Rattle.asn_bits.specs.Numbers.{bits};
 ghost use Rattle.asn_rules.specs.Answer.{max_octets};
 ghost use Rattle.asn_rules.specs.Chunks.{flat};
 ghost use Rattle.asn_rules.specs.Codec.{NotEncoded};
 ghost use Rattle.asn_rules.specs.Components.{any_present, has_presence_bit, is_spelled, presence};
 ghost use Rattle.asn_per.specs.Kinds.{root_of};
-ghost use Rattle.asn_per.specs.Per.{ranged, per, spelled, an_open_field, per_octets};
+ghost use Rattle.asn_per.specs.Per.{ranged, per, per_alternative, spelled, an_open_field, per_octets};
 ghost use Rattle.asn_per.specs.Rules.{per_ruling, IsPerEncoding};
 ghost use Rattle.asn_per.specs.Laws.{per_bits};
 ghost use Rattle.asn_per.specs.Additions.{AreOptional, root_bits, addition_bits};
 ghost use Rattle.asn_per.specs.StringItems.{row_bits};
 
+use crate::indexes::{Index, write_index};
 use crate::items::write_enumerated;
 use crate::string_writer::{
     BLOCK, push_count, push_extension_bit, write_bit_string, write_octet_string, write_text,
     write_utf8,
 };
-use crate::value_reader::bitmap_width;
 use asn_bits::BitSink;
 use asn_bits::numbers::width;
 use asn_bits::offsets::above;
 use asn_rules::EncodeFault;
-use asn_values::{AsnType, Bounds, Checked, Field, Need, Size, Value, fits, is_between, same};
+use asn_values::{Alt, AsnType, Bounds, Checked, Field, Need, Size, Value, fits, is_between, same};
 use std::alloc::{AllocError, Global};
 
 /// The most octets of a message.
@@ -140,7 +140,6 @@ fn write(alloc: Global, ty: &AsnType, value: &Value, sink: &mut BitSink) -> Resu
             };
             write_utf8(text.as_bytes(), sink)
         }
-        AsnType::Choice { .. } => unreachable!(),
         AsnType::Seq { root, ext } => {
             let Value::Seq(entries) = value else {
                 unreachable!()
@@ -154,6 +153,22 @@ fn write(alloc: Global, ty: &AsnType, value: &Value, sink: &mut BitSink) -> Resu
                 _ => Ok(()),
             }
         }
+        AsnType::Choice { root, ext } => {
+            let Value::Choice(tag, chosen) = value else {
+                unreachable!()
+            };
+            let place = *tag as usize;
+            let known = root.len();
+            if place < known {
+                write_index(known, ext.is_some(), Index::Root(place), sink)?;
+                return write_alternative(alloc, root, place, chosen, sink);
+            }
+            let Some(additions) = ext else {
+                unreachable!()
+            };
+            write_index(known, true, Index::Added(place - known), sink)?;
+            write_added_alternative(alloc, additions, place - known, chosen, sink)
+        }
         AsnType::SeqOf(element, size) => {
             let Value::List(values) = value else {
                 unreachable!()
@@ -161,6 +176,42 @@ fn write(alloc: Global, ty: &AsnType, value: &Value, sink: &mut BitSink) -> Resu
             write_list(alloc, element, size, values, sink)
         }
     }
+}
+
+/// Writes a value of the alternative at this place.
+#[cycle(writer)]
+fn write_alternative(
+    alloc: Global,
+    alternatives: &[Alt],
+    place: usize,
+    value: &Value,
+    sink: &mut BitSink,
+) -> Result<(), AllocError>
+    requires of_profile { AreAllOfProfile (alternatives_of (map branch_of alternatives.now)) }
+    requires inside { place < length alternatives.now }
+    requires of_type { FitsAlternative (alternatives_of (map branch_of alternatives.now)) place (datum_of value.now) }
+    ensures { OnOk result (sink.new ≡ sink.old
+        ++ flat spelled (per_alternative (alternatives_of (map branch_of alternatives.now)) place (datum_of value.now))) }
+{
+    write(alloc, &alternatives[place].ty, value, sink)
+}
+
+/// Writes a value of the alternative at this place in an open field.
+#[cycle(writer)]
+fn write_added_alternative(
+    alloc: Global,
+    alternatives: &[Alt],
+    place: usize,
+    value: &Value,
+    sink: &mut BitSink,
+) -> Result<(), AllocError>
+    requires of_profile { AreAllOfProfile (alternatives_of (map branch_of alternatives.now)) }
+    requires inside { place < length alternatives.now }
+    requires of_type { FitsAlternative (alternatives_of (map branch_of alternatives.now)) place (datum_of value.now) }
+    ensures { OnOk result (sink.new ≡ sink.old
+        ++ flat spelled (an_open_field (per_alternative (alternatives_of (map branch_of alternatives.now)) place (datum_of value.now)))) }
+{
+    write_open_field(alloc, &alternatives[place].ty, value, sink)
 }
 
 /// Writes a number of the range (X.691, "encoding the integer type"): behind an extension mark a bit
@@ -212,26 +263,11 @@ fn presence_bitmap(fields: &[Field], entries: &[Option<Value>]) -> (u32, u64)
     ensures bitmap { bits result.0 result.1
         ≡ presence (demands (fields_of (map part_of_field fields.now))) (map (option_map datum_of) entries.now) }
 {
-    if bitmap_width(fields) == 0 {
-        return (0, 0);
-    }
-    gathered_bits(fields, entries)
-}
-
-/// The same, from each component in turn.
-fn gathered_bits(fields: &[Field], entries: &[Option<Value>]) -> (u32, u64)
-    requires of_profile { AreOfProfile (fields_of (map part_of_field fields.now)) }
-    requires of_type { FitsEach (fields_of (map part_of_field fields.now)) (map (option_map datum_of) entries.now) }
-    requires few { length fields.now ≤ 64 }
-    ensures count { result.0 ≤ 64 }
-    ensures within { result.1 < 2 ^ result.0 }
-    ensures bitmap { bits result.0 result.1
-        ≡ presence (demands (fields_of (map part_of_field fields.now))) (map (option_map datum_of) entries.now) }
-{
     let mut count = 0;
     let mut bitmap = 0;
-    for (field, entry) in fields.iter().zip(entries) {
+    for (place, field) in fields.iter().enumerate() {
         if may_be_absent(field) {
+            let entry = &entries[place];
             count += 1;
             bitmap = 2 * bitmap + u64::from(is_encoded(field, entry));
         }
@@ -354,8 +390,9 @@ fn write_list(
     let mut done = 0;
     loop {
         let many = sink.push_length((values.len() - done) as u64)? as usize;
+        let last = many < BLOCK;
         write_elements(alloc, element, &values[done..done + many], sink)?;
-        if many < BLOCK {
+        if last {
             return Ok(());
         }
         done += many;

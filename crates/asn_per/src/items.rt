@@ -14,16 +14,15 @@ ghost use Rattle.asn_per.specs.Laws.{per_bits};
 ghost use Rattle.asn_per.specs.Per.{per, per_fields, rank};
 ghost use Rattle.asn_per.specs.Indexes.{AreRootItems, IsItemWithin, index_of};
 
+use crate::indexes::{Index, read_index, write_index};
 use crate::integer_reader::constrained;
-use crate::number_reader::{Numbers, bits_left, number};
-use asn_bits::numbers::width;
 use asn_bits::{BitCursor, BitSink};
-use asn_rules::{Stop, Why};
+use asn_rules::Stop;
 use asn_values::Item;
 use std::alloc::AllocError;
 
-/// Writes the item at this place. One of the root is its index by number, behind a bit 0 where there
-/// is an extension mark; an addition is a bit 1 and its index among the additions, 0 and 6 bits.
+/// Writes the item at this place: one of the root by its index in the order of the numbers, an addition
+/// by its index among the additions.
 pub(crate) fn write_enumerated(
     root: &[Item],
     more: &Option<Vec<Item>>,
@@ -35,14 +34,12 @@ pub(crate) fn write_enumerated(
     ensures { OnOk result (sink.new ≡ sink.old ++ per_bits (enumerated (map label_of root.now) (more_labels_of more.now)) (item place)) }
 {
     let place = place as usize;
-    if place < root.len() {
-        let index = rank(root, root[place].number) as u64;
-        let mark_bits = u32::from(more.is_some());
-        sink.push_number(mark_bits + width(root.len() as u128), index)
+    let index = if place < root.len() {
+        Index::Root(rank(root, root[place].number))
     } else {
-        let index = (place - root.len()) as u64;
-        sink.push_number(8, 128 + index)
-    }
+        Index::Added(place - root.len())
+    };
+    write_index(root.len(), more.is_some(), index, sink)
 }
 
 /// How many of the items have a lower number.
@@ -152,23 +149,8 @@ fn item_behind_mark(
     ensures done { IfOk result (λ p. Spells per_fields (Items (map label_of root.now) (marked_labels (map label_of additions.now))) (item p) bits.old bits.new) }
     ensures stop { IfErr result (λ why. Stops per_fields (Items (map label_of root.now) (marked_labels (map label_of additions.now))) bits.old why) }
 {
-    let Some(mark) = bits.next() else {
-        return Err(Stop::Short);
-    };
-    if mark == 0 {
-        return root_item(root, None, bits);
+    match read_index(root.len(), Some(additions.len()), bits)? {
+        Index::Root(index) => Ok(place_of_index(root, index)),
+        Index::Added(index) => Ok(root.len() as u32 + index as u32),
     }
-    if additions.is_empty() {
-        return Err(Stop::Refused {
-            left: bits_left(bits),
-            why: Why::Extension,
-        });
-    }
-    let set = Numbers {
-        low: 0,
-        high: additions.len() as u64 - 1,
-        except: None,
-    };
-    let index = number(7, set, Why::Number, bits)?;
-    Ok(root.len() as u32 + index as u32)
 }

@@ -1,5 +1,6 @@
 //! The laws of CANONICAL-PER UNALIGNED (X.691), for every type of the profile.
 
+ghost use Rattle.asn_rules.specs.CodecLaws.{DecodesTheEncoded, EncodesTheDecoded, OnlyMemoryIsWanting, EqualExactly, TellsTheRest, RestFollowsOneFront, TellsTheCut, DecodersAgree};
 ghost use Rattle.asn_rules.specs.Laws.{BeginningsAreLive, BeginningsAreNotRefused, EachHasAValue, EncodesAs, UnitsTellTheValue, OneValue, NoneBegins, RulesLaws, LiveIsClosed, LiveByParts, OneAnswer};
 ghost use Rattle.asn_rules.specs.Parted.{SpellingsPart};
 ghost use Rattle.asn_rules.specs.Reading.{RulesTell};
@@ -62,4 +63,28 @@ pub fn beginnings_are_live()
 /// content and begins no other; and the bits of octets are those of each, one after the other.
 pub fn readers_tell()
     ensures { RulesTell per_ruling }
+{}
+
+/// What follows for `encode` and `decode` from their contracts. `decode` may answer `Memory` to any
+/// octets.
+///
+/// - `decodes`: to the octets that `encode` gave for a value `decode` answers that value.
+/// - `encodes_again`: a value that `decode` answered has the octets that it was given as its
+///   encoding, and no others. `only_memory`: where `encode` gives none for it, it had no memory.
+/// - `equal_exactly`: two values are equal exactly where their octets are.
+/// - `begins`: where octets follow an encoding, `decode` tells where it ends. `one_front`: where
+///   `decode` tells so, the octets in front are the encoding of a value, and no other front is an
+///   encoding.
+/// - `cut`: to each proper beginning of an encoding `decode` answers `Truncated`, with all its bits.
+/// - `one_answer`: two answers to the same octets, neither being `Memory`, say the same, but for the
+///   reason of a refusal.
+pub fn codec_laws()
+    ensures decodes { DecodesTheEncoded per_ruling }
+    ensures encodes_again { EncodesTheDecoded per_ruling }
+    ensures only_memory { OnlyMemoryIsWanting per_ruling }
+    ensures equal_exactly { EqualExactly per_ruling }
+    ensures begins { TellsTheRest per_ruling }
+    ensures one_front { RestFollowsOneFront per_ruling }
+    ensures cut { TellsTheCut per_ruling }
+    ensures one_answer { DecodersAgree per_ruling }
 {}

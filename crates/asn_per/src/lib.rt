@@ -3,14 +3,18 @@
 
 #[cfg(test)]
 mod composed_tests;
+mod alternatives;
 mod decoder;
 mod encoder;
+mod indexes;
 mod integer_reader;
 mod item_writer;
 mod items;
 mod kinds;
 mod laws;
 mod length_reader;
+#[cfg(test)]
+mod list_tests;
 mod number_reader;
 mod row_reader;
 mod signed_reader;
@@ -27,6 +31,6 @@ pub use decoder::decode;
 pub use encoder::encode;
 pub use kinds::kinds_compose;
 pub use laws::{
-    answers_exclude, beginnings_are_live, encoding_laws, live_by_parts, live_is_closed,
+    answers_exclude, beginnings_are_live, codec_laws, encoding_laws, live_by_parts, live_is_closed,
     readers_tell, spellings_tell, values_and_bits,
 };

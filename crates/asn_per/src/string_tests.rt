@@ -8,17 +8,17 @@ use std::process::Abort;
 use std::test::Fail;
 
 /// SIZE (low..high), with a mark where `ext`
-fn size(low: u32, high: Option<u32>, ext: bool) -> Size {
+pub(crate) fn size(low: u32, high: Option<u32>, ext: bool) -> Size {
     Size { low, high, ext }
 }
 
 /// no SIZE
-fn any() -> Size {
+pub(crate) fn any() -> Size {
     size(0, None, false)
 }
 
 /// The octets are the encoding of the value, to both sides.
-fn expect(
+pub(crate) fn expect(
     rt: &impl Abort,
     alloc: Global,
     ty: AsnType,
@@ -34,7 +34,7 @@ fn expect(
 }
 
 /// The octets are refused at this bit, for this reason.
-fn expect_refusal(
+pub(crate) fn expect_refusal(
     rt: &impl Abort,
     alloc: Global,
     ty: AsnType,

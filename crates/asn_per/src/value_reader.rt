@@ -5,8 +5,8 @@ ghost use Rattle.asn_values.specs.Shape.{sequence, closed};
 ghost use Rattle.asn_values.specs.Datum.{components, components_of, number};
 ghost use Rattle.asn_values.specs.Fits.{lowest_integer, highest_integer};
 ghost use Rattle.asn_values.specs.Profile.{InProfile, good_default};
-ghost use Rattle.asn_values.specs.Parts.{AreOfProfile, IsGoodDemand};
-ghost use Rattle.asn_values.specs.View.{shape_of, datum_of, fields_of, part_of_field, size_range_of};
+ghost use Rattle.asn_values.specs.Parts.{AreOfProfile, AreAllOfProfile, IsGoodDemand};
+ghost use Rattle.asn_values.specs.View.{shape_of, datum_of, fields_of, part_of_field, size_range_of, alternatives_of, branch_of};
 ghost use Rattle.asn_bits.specs.Numbers.{bits};
 ghost use Rattle.asn_bits.specs.Sink.{bit_of};
 ghost use Rattle.asn_rules.specs.Components.{has_presence_bit};
@@ -14,14 +14,16 @@ ghost use Rattle.asn_rules.specs.Languages.{Spells};
 ghost use Rattle.asn_rules.specs.Listed.{Spelt, Listed, Entry, default_of, bitmap_length};
 ghost use Rattle.asn_rules.specs.Reading.{Wholes};
 ghost use Rattle.asn_rules.specs.Stops.{Stops};
-ghost use Rattle.asn_per.specs.Kinds.{OpenValues, Additions, absent_entries};
+ghost use Rattle.asn_per.specs.Kinds.{OpenValues, Chosen, OpenChosen, Additions, absent_entries};
 ghost use Rattle.asn_per.specs.Per.{per, per_fields};
 ghost use Rattle.asn_per.specs.Reading.{Behind, StopsAtMark};
 ghost use Rattle.asn_per.specs.Rules.{per_ruling};
 ghost use Rattle.asn_per.specs.Kinds.{Sized};
 ghost use Rattle.asn_per.specs.ListsAhead.{IsSizeOfProfile};
 
+use crate::alternatives::{added_count, chosen};
 use crate::encoder::may_be_absent;
+use crate::indexes::{Index, read_index};
 use crate::integer_reader::{boolean, integer, power_of_two, take_between};
 use crate::items::enumerated;
 use crate::number_reader::{Numbers, bits_left, number, padding};
@@ -29,7 +31,7 @@ use crate::size_reader::Rows;
 use crate::string_reader::{bit_string, octet_string, text, utf8_string};
 use asn_bits::BitCursor;
 use asn_rules::{Stop, Why};
-use asn_values::{AsnType, Field, Need, Size, Value};
+use asn_values::{Alt, AsnType, Field, Need, Size, Value};
 use std::alloc::{AllocError, Global};
 
 /// Reads a value of the type.
@@ -65,7 +67,22 @@ pub(crate) fn read(alloc: Global, ty: &AsnType, bits: &mut BitCursor<'_>) -> Res
             Ok(Value::Seq(entries))
         }
         AsnType::SeqOf(element, size) => Ok(Value::List(read_list(alloc, element, size, bits)?)),
-        AsnType::Choice { .. } => unreachable!(),
+        AsnType::Choice { root, ext } => {
+            let known = root.len();
+            match read_index(known, added_count(ext), bits)? {
+                Index::Root(place) => {
+                    let value = read_alternative(alloc, root, place, bits)?;
+                    Ok(chosen(alloc, place, value)?)
+                }
+                Index::Added(place) => {
+                    let Some(additions) = ext else {
+                        unreachable!()
+                    };
+                    let value = read_added_alternative(alloc, additions, place, bits)?;
+                    Ok(chosen(alloc, known + place, value)?)
+                }
+            }
+        }
     }
 }
 
@@ -149,6 +166,38 @@ pub(crate) fn read_open_field(
         Err(Stop::Refused { .. }) => Err(none),
         Err(Stop::Memory) => Err(Stop::Memory),
     }
+}
+
+/// Reads a value of the alternative at this place.
+#[cycle(reader)]
+fn read_alternative(
+    alloc: Global,
+    alternatives: &[Alt],
+    place: usize,
+    bits: &mut BitCursor<'_>,
+) -> Result<Value, Stop>
+    requires of_profile { AreAllOfProfile (alternatives_of (map branch_of alternatives.now)) }
+    requires inside { place < length alternatives.now }
+    ensures done { IfOk result (λ v. Spells per_fields (Chosen (alternatives_of (map branch_of alternatives.now)) place) (datum_of v) bits.old bits.new) }
+    ensures stop { IfErr result (λ why. Stops per_fields (Chosen (alternatives_of (map branch_of alternatives.now)) place) bits.old why) }
+{
+    read(alloc, &alternatives[place].ty, bits)
+}
+
+/// Reads an open field that holds a value of the alternative at this place.
+#[cycle(reader)]
+fn read_added_alternative(
+    alloc: Global,
+    alternatives: &[Alt],
+    place: usize,
+    bits: &mut BitCursor<'_>,
+) -> Result<Value, Stop>
+    requires of_profile { AreAllOfProfile (alternatives_of (map branch_of alternatives.now)) }
+    requires inside { place < length alternatives.now }
+    ensures done { IfOk result (λ v. Spells per_fields (OpenChosen (alternatives_of (map branch_of alternatives.now)) place) (datum_of v) bits.old bits.new) }
+    ensures stop { IfErr result (λ why. Stops per_fields (OpenChosen (alternatives_of (map branch_of alternatives.now)) place) bits.old why) }
+{
+    read_open_field(alloc, &alternatives[place].ty, bits)
 }
 
 /// Reads the components whose presence bits are the `count` bits of `bitmap`, in order (X.691,
@@ -389,7 +438,7 @@ fn presence_of(field: &Field, bitmap: u64, left: u32) -> (bool, u32)
 }
 
 /// How many presence bits the components have.
-pub(crate) fn bitmap_width(fields: &[Field]) -> u32
+fn bitmap_width(fields: &[Field]) -> u32
     requires { length fields.now ≤ 64 }
     ensures count { result ≡ bitmap_length (fields_of (map part_of_field fields.now)) }
     ensures few { result ≤ 64 }

@@ -5,6 +5,7 @@ ghost use Rattle.asn_values.specs.Datum.{Datum};
 ghost use Rattle.asn_values.specs.Shape.{Shape};
 ghost use Rattle.asn_rules.specs.Answer.{Ruling};
 ghost use Rattle.asn_rules.specs.Chunks.{Chunk};
+ghost use Rattle.asn_rules.specs.CodecLaws.{DecodesTheEncoded, EncodesTheDecoded, OnlyMemoryIsWanting, EqualExactly, TellsTheRest, RestFollowsOneFront, TellsTheCut, DecodersAgree};
 ghost use Rattle.asn_rules.specs.Laws.{RulesLaws, WholesTell, LiveIsClosed, BeginningsAreLive, BeginningsAreNotRefused, OneAnswer};
 ghost use Rattle.asn_rules.specs.Live.{Fielding};
 ghost use Rattle.asn_rules.specs.Reading.{RulesTell};
@@ -32,4 +33,30 @@ pub fn answers_exclude()
 pub fn beginnings_are_live()
     ensures live { (r : Ruling) → RulesTell r → BeginningsAreLive r }
     ensures not_refused { (r : Ruling) → RulesTell r → BeginningsAreNotRefused r }
+{}
+
+/// What follows for every encoder that gives encodings of at most 2 ^ 28 - 1 octets, and says truly
+/// why it gives none, and for every decoder that answers as `Decoded` says. A decoder may answer
+/// `Memory` to any octets.
+///
+/// - `decodes`: to the octets of a value the decoder answers that value.
+/// - `encodes_again`: a value that was decoded has the octets that were given as its encoding, and
+///   no others. `only_memory`: an encoder that gives none for it had no memory.
+/// - `equal_exactly`: two values are equal exactly where their octets are.
+/// - `begins`: where octets follow an encoding, the decoder tells where it ends. `one_front`: where
+///   the decoder tells so, the octets in front are the encoding of a value, and no other front is
+///   an encoding.
+/// - `cut`: to each proper beginning of an encoding the decoder answers that it is cut short, and
+///   how many units it has.
+/// - `one_answer`: two answers to the same octets, neither being `Memory`, say the same, but for the
+///   reason of a refusal.
+pub fn codec_laws()
+    ensures decodes { (r : Ruling) → RulesLaws r → DecodesTheEncoded r }
+    ensures encodes_again { (r : Ruling) → RulesLaws r → EncodesTheDecoded r }
+    ensures only_memory { (r : Ruling) → OnlyMemoryIsWanting r }
+    ensures equal_exactly { (r : Ruling) → RulesLaws r → EqualExactly r }
+    ensures begins { (r : Ruling) → RulesLaws r → TellsTheRest r }
+    ensures one_front { (r : Ruling) → RulesLaws r → RestFollowsOneFront r }
+    ensures cut { (r : Ruling) → RulesLaws r → RulesTell r → TellsTheCut r }
+    ensures one_answer { (r : Ruling) → RulesLaws r → DecodersAgree r }
 {}

@@ -48,7 +48,7 @@ length-demands [] = refl
 length-demands (p ∷ ps) = ap suc (length-demands ps)
 
 -- entries that fit are as many as the components
-each_length : (ps : List Part) (es : List (Option Datum)) → FitsEach (fields_of ps) es → length ps ≡ length es
+pub each_length : (ps : List Part) (es : List (Option Datum)) → FitsEach (fields_of ps) es → length ps ≡ length es
 each_length [] [] h = refl
 each_length [] (e ∷ es) h = absurd h
 each_length (p ∷ ps) [] h = absurd h

@@ -3,16 +3,11 @@
 use Rattle.std.proofs.Common.{◌≡◌, ◌≤◌, Bool, true, false, not, ◌||◌, nat_lt, refl, arith}
 use Rattle.std.proofs.lemmas.Bool.{ltb-false, le-ltb}
 use Rattle.std.specs.List.{list_all}
-use Rattle.asn_values.specs.Shape.{Shape, SizeRange, sequence, sequence_of, choice, must, optional, default, Fields, no_fields, field, marked, demands, Alternatives, no_alternatives, one_of, marked_choice}
+use Rattle.asn_values.specs.Shape.{Shape, SizeRange, sequence, sequence_of, choice, must, optional, default, Fields, no_fields, field, marked, demands, Alternatives, no_alternatives, one_of, MoreAlternatives, marked_choice}
 use Rattle.asn_values.specs.Measures.{depth, nodes, fields_nodes, fields_depth, choice_nodes, choice_depth}
-use Rattle.asn_values.specs.Profile.{EmptyRange, SizeTooLarge, DuplicateName, BadEnumeration, UselessMark, BadDefault, ZeroWidthElement, AdditionNotOptional, TooMany, TooDeep, somewhere, some_field, some_alternative, empty_range, size_too_large, duplicate_name, bad_enumeration, useless_mark, bad_default, zero_width_element, addition_not_optional, is_optional, too_many_here, most_nodes, most_levels, InProfile}
-use Rattle.asn_values.specs.Parts.{AreOfProfile}
+use Rattle.asn_values.specs.Profile.{EmptyRange, SizeTooLarge, DuplicateName, BadEnumeration, UselessMark, BadDefault, ZeroWidthElement, AdditionNotOptional, TooMany, TooDeep, somewhere, some_field, some_alternative, some_more, empty_range, size_too_large, duplicate_name, bad_enumeration, useless_mark, bad_default, zero_width_element, addition_not_optional, is_optional, too_many_here, most_nodes, most_levels, InProfile}
+use Rattle.asn_values.specs.Parts.{AreOfProfile, AreAllOfProfile}
 use Rattle.asn_values.proofs.Parts.{left_false, right_false}
-
--- each alternative has a type of the profile
-abbrev pub AreAllOfProfile : Alternatives → Type 0
-AreAllOfProfile no_alternatives = Unit {0}
-AreAllOfProfile (one_of name t alts) = InProfile t × AreAllOfProfile alts
 
 module _ (whole : Shape) (good : InProfile whole) where
   -- it has at most so many types inside it
@@ -61,7 +56,13 @@ module _ (whole : Shape) (good : InProfile whole) where
 pub element_of_profile : (t : Shape) (s : SizeRange) → InProfile (sequence_of t s) → InProfile t
 element_of_profile t s good = inner_of_profile (sequence_of t s) good t (λ test h. right_false (test (sequence_of t s)) (somewhere test t) h) (omega arith) (omega arith)
 
--- the additions of a CHOICE
+-- the root of a CHOICE
+pub root_alternatives_of_profile : (root : Alternatives) (more : MoreAlternatives) → InProfile (choice root more) → AreAllOfProfile root
+root_alternatives_of_profile root more good =
+    alternatives_inside (choice root more) good root
+    (λ test h. left_false (some_alternative test root) (some_more test more) (right_false (test (choice root more)) (some_alternative test root || some_more test more) h)) (omega arith) (omega arith)
+
+-- its additions
 pub added_alternatives_of_profile : (root more : Alternatives) → InProfile (choice root (marked_choice more)) → AreAllOfProfile more
 added_alternatives_of_profile root more good =
     alternatives_inside (choice root (marked_choice more)) good more

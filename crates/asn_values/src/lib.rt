@@ -28,4 +28,6 @@ pub use types::{Alt, AsnType, Bounds, Field, Item, Need, Size, TextKind};
 pub use value::Value;
 
 #[cfg(test)]
+mod profile_tests;
+#[cfg(test)]
 mod tests;

@@ -7,12 +7,12 @@ use std::process::Abort;
 use std::test::Fail;
 
 /// INTEGER with these bounds, and the extension mark where `ext`
-fn bounded(low: Option<i128>, high: Option<i128>, ext: bool) -> AsnType {
+pub(crate) fn bounded(low: Option<i128>, high: Option<i128>, ext: bool) -> AsnType {
     AsnType::Int(Bounds { low, high, ext })
 }
 
 /// INTEGER (low..high)
-fn int(low: i128, high: i128) -> AsnType {
+pub(crate) fn int(low: i128, high: i128) -> AsnType {
     bounded(Some(low), Some(high), false)
 }
 
@@ -31,7 +31,7 @@ fn any_size() -> Size {
 }
 
 /// ENUMERATED { name(number), .., ..., name(number), .. }, the mark only where there are `more`
-fn items(
+pub(crate) fn items(
     alloc: Global,
     root: &[(&str, i64)],
     more: Option<&[(&str, i64)]>,
@@ -69,7 +69,12 @@ fn item_row(alloc: Global, start: u32, count: u32) -> Result<Vec<Item>, AllocErr
     Ok(list)
 }
 
-fn field(alloc: Global, name: &str, ty: AsnType, need: Need) -> Result<Field, AllocError> {
+pub(crate) fn field(
+    alloc: Global,
+    name: &str,
+    ty: AsnType,
+    need: Need,
+) -> Result<Field, AllocError> {
     Ok(Field {
         name: String::from_str(alloc, name)?,
         ty,
@@ -78,7 +83,12 @@ fn field(alloc: Global, name: &str, ty: AsnType, need: Need) -> Result<Field, Al
 }
 
 /// SEQUENCE { name type }
-fn around(alloc: Global, name: &str, ty: AsnType, need: Need) -> Result<AsnType, AllocError> {
+pub(crate) fn around(
+    alloc: Global,
+    name: &str,
+    ty: AsnType,
+    need: Need,
+) -> Result<AsnType, AllocError> {
     Ok(AsnType::Seq {
         root: vec![in alloc; field(alloc, name, ty, need)?]?,
         ext: None,
@@ -96,7 +106,7 @@ fn pair(alloc: Global, first: AsnType, second: AsnType) -> Result<AsnType, Alloc
 }
 
 /// A SEQUENCE of so many components of BOOLEAN.
-fn booleans(alloc: Global, count: usize) -> Result<AsnType, AllocError> {
+pub(crate) fn booleans(alloc: Global, count: usize) -> Result<AsnType, AllocError> {
     let mut root = Vec::new(alloc);
     for place in 0..count {
         let name = format!(in alloc; "c{place}")?;
@@ -110,7 +120,11 @@ fn booleans(alloc: Global, count: usize) -> Result<AsnType, AllocError> {
 }
 
 /// A type of that many levels: SEQUENCEs of one component, and the innermost type.
-fn levels(alloc: Global, count: usize, innermost: AsnType) -> Result<AsnType, AllocError> {
+pub(crate) fn levels(
+    alloc: Global,
+    count: usize,
+    innermost: AsnType,
+) -> Result<AsnType, AllocError> {
     let mut ty = innermost;
     for _ in 1..count {
         ty = around(alloc, "a", ty, Need::Must)?;
@@ -134,7 +148,7 @@ fn bundle(alloc: Global, full: usize, last: usize) -> Result<AsnType, AllocError
 }
 
 /// A type of 9,950 + last types: 1 + 4,161 + 4,161 + 1,627 + last.
-fn types(alloc: Global, last: usize) -> Result<AsnType, AllocError> {
+pub(crate) fn types(alloc: Global, last: usize) -> Result<AsnType, AllocError> {
     let a = field(alloc, "a", bundle(alloc, 63, 64)?, Need::Must)?;
     let b = field(alloc, "b", bundle(alloc, 63, 64)?, Need::Must)?;
     let c = field(alloc, "c", bundle(alloc, 25, last)?, Need::Must)?;
@@ -145,12 +159,22 @@ fn types(alloc: Global, last: usize) -> Result<AsnType, AllocError> {
 }
 
 /// SEQUENCE { a type DEFAULT value }
-fn with_default(alloc: Global, ty: AsnType, value: Value) -> Result<AsnType, AllocError> {
+pub(crate) fn with_default(
+    alloc: Global,
+    ty: AsnType,
+    value: Value,
+) -> Result<AsnType, AllocError> {
     around(alloc, "a", ty, Need::Default(value))
 }
 
 /// The fault of the type is this one; `None` where it is of the profile.
-fn expect_fault(rt: &impl Abort, alloc: Global, what: &str, ty: AsnType, want: Option<TypeFault>) {
+pub(crate) fn expect_fault(
+    rt: &impl Abort,
+    alloc: Global,
+    what: &str,
+    ty: AsnType,
+    want: Option<TypeFault>,
+) {
     assert_eq!(rt; Checked::new(alloc, ty).err(), want, "{what}");
 }
 

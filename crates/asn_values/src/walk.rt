@@ -195,11 +195,11 @@ fn check_alternatives(root: &[Alt], ext: &Option<Vec<Alt>>) -> Result<(), TypeFa
     if root.is_empty() {
         return Err(TypeFault::EmptyRange);
     }
-    let more = additions::of_choice(ext);
-    if names::are_bad(root, more) {
+    let added = additions::of_choice(ext);
+    if names::are_bad(root, added) {
         return Err(TypeFault::DuplicateName);
     }
-    if MOST_ALTERNATIVES < root.len() || MOST_ALTERNATIVES - root.len() < more.len() {
+    if MOST_ALTERNATIVES < root.len() || MOST_ALTERNATIVES - root.len() < added.len() {
         return Err(TypeFault::TooMany);
     }
     Ok(())

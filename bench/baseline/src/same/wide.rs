@@ -1,19 +1,14 @@
 //! A SEQUENCE of 40 ranged integers.
 use crate::bits::{width, BitReader, BitWriter};
-use crate::value::Value;
+use crate::value::{integers, Value};
 
 macro_rules! wide {
     ($($name:ident: $low:literal..=$high:literal = $number:literal,)*) => {
-        /// How many components it has.
-        const COMPONENTS: usize = [$($low as i64,)*].len();
-
         /// The most octets of a message.
         const OCTETS: usize = (0 $(+ width($low, $high) as usize)*).div_ceil(8);
 
         pub fn sample() -> Value {
-            let numbers: [i64; COMPONENTS] = [$($number,)*];
-            let entries = numbers.into_iter().map(|number| Some(Value::Int(number.into())));
-            Value::Seq(entries.collect())
+            integers([$($number,)*])
         }
 
         /// The octets, or `None` where this is no value of the type.

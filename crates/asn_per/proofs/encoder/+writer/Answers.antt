@@ -1,4 +1,4 @@
-use Rattle.std.proofs.Common.{rules, ℕ, subst, take, drop, true, ◌≡◌, ◌∷◌, ◌⊎◌, ◌++◌, [], map, Some, inl, inr, refl, sym, ap, ◌∙◌, arith, ◌≤◌, length, ◌+◌, ◌-◌, List, false}
+use Rattle.std.proofs.Common.{rules, ℕ, subst, take, drop, true, ◌≡◌, ◌∷◌, ◌⊎◌, ◌++◌, [], map, Some, inl, inr, refl, sym, ap, ◌∙◌, arith, ◌≤◌, ◌<◌, length, ◌+◌, ◌-◌, List, false}
 use Rattle.std.specs.Option.{option_map}
 use Rattle.std.proofs.lemmas.Result.{on_ok_weaker}
 use Rattle.std.proofs.lemmas.Slice.Zip.{either_empty_from_Zip}
@@ -28,7 +28,9 @@ use Rattle.std.proofs.lemmas.List.{length-map}
 use Rattle.asn_values.proofs.InnerTypes.{element_of_profile}
 use Rattle.asn_per.specs.StringItems.{row_bits, general_bits}
 use Rattle.asn_per.proofs.SizesWritten.{written_more as fragment_written, written_all}
-use Rattle.asn_per.proofs.ListWriting.{codes, codes_count, list_fits, list_written, some_fit, some_bits, elements_start, elements_next, elements_end, next_value, no_value}
+use Rattle.asn_per.proofs.ListWriting.{codes, codes_count, list_fits, list_written, some_fit, some_bits, elements_next, elements_end, next_value, no_value, elements_start}
+use Rattle.asn_per.proofs.ChoiceTypes.{good_at, few_root, few_all, roots_good, additions_good}
+use Rattle.asn_per.proofs.ChoiceWriting.{mark_wanted, fits_there, spelled_there, root_fits, added_fits, added_place, root_written as choice_root_written, added_written as choice_added_written}
 use Rattle.asn_per.proofs.encoder.+writer.Goals as goal
 use Rattle.asn_per.proofs.encoder.+writer.Goals.{complete_encoding-then-is_empty+in_ok-push_number, complete_encoding-else-is_empty}
 
@@ -190,8 +192,8 @@ write_list-write_elements-requires-in-loop-many t c =
     let fit = some_fit element (c.loop-many.done + c.in_ok-many.many - c.loop-many.done) c.loop-many.done vs (list_fits element s (map datum_of vs) c.requires.of_type).1 in
     (search (rules, the_lemmas), (element_of_profile element s c.requires.of_profile, fit))
 
-pub write_list-returns-then-many-lt-BLOCK : goal.write_list-returns-then-many-lt-BLOCK
-write_list-returns-then-many-lt-BLOCK t c =
+pub write_list-returns-then-last : goal.write_list-returns-then-last
+write_list-returns-then-last t c =
     let element = shape_of c.args.element.now in
     let s = size_range_of c.args.size.now in
     let vs = c.args.values.now in
@@ -200,7 +202,7 @@ write_list-returns-then-many-lt-BLOCK t c =
     let row = some_bits element c.in_ok-many.many (c.loop-many.done + c.in_ok-many.many - c.loop-many.done) c.loop-many.done vs c.push_length.new.self c.write_elements-in-loop-many.new.sink (omega arith) c.in_ok-write_elements.ensures in
     list_written element s (map datum_of vs) c.args.sink.now (c.push_count.new.sink ++ general_bits xs) c.write_elements-in-loop-many.new.sink h
     (written_all xs c.push_count.new.sink c.loop-many.sink c.push_length.new.self c.write_elements-in-loop-many.new.sink c.loop-many.done c.in_ok-many.many (length vs)
-    c.loop-many.invariant (sym (codes_count element vs)) c.in_ok-many.ensures.items c.in_ok-many.ensures.ok row c.if-many-lt-BLOCK.true)
+    c.loop-many.invariant (sym (codes_count element vs)) c.in_ok-many.ensures.items c.in_ok-many.ensures.ok row c.if-last.true)
 
 pub write_list-loop-many-preserved : goal.write_list-loop-many-preserved
 write_list-loop-many-preserved t c =
@@ -209,7 +211,7 @@ write_list-loop-many-preserved t c =
     let xs = codes element (map datum_of vs) in
     let row = some_bits element c.in_ok-many.many (c.loop-many.done + c.in_ok-many.many - c.loop-many.done) c.loop-many.done vs c.push_length.new.self c.write_elements-in-loop-many.new.sink (omega arith) c.in_ok-write_elements.ensures in
     fragment_written xs c.push_count.new.sink c.loop-many.sink c.push_length.new.self c.write_elements-in-loop-many.new.sink c.loop-many.done c.in_ok-many.many (length vs)
-    c.loop-many.invariant (sym (codes_count element vs)) c.in_ok-many.ensures.items c.in_ok-many.ensures.ok row c.if-many-lt-BLOCK.false
+    c.loop-many.invariant (sym (codes_count element vs)) c.in_ok-many.ensures.items c.in_ok-many.ensures.ok row c.if-last.false
 
 pub write_elements-write-requires : goal.write_elements-write-requires
 write_elements-write-requires t c =
@@ -222,3 +224,75 @@ write_elements-loop-value-preserved t c =
 
 pub write_elements-returns : goal.write_elements-returns
 write_elements-returns t c = elements_end c.loop-value.invariant (no_value c.args.values.now c.loop-value.value-index c.loop-value-test.false)
+
+-- ---- CHOICE
+
+pub write-write_index-requires-clause-few : goal.write-write_index-requires-clause-few
+write-write_index-requires-clause-few t c =
+    omega (arith, few_root c.args.ty.now c.in-Choice.root c.in-Choice.ext c.in-Choice.is c.requires.of_profile c.len-known.result c.len-known.ensures)
+
+pub write-write_alternative-requires : goal.write-write_alternative-requires
+write-write_alternative-requires t c =
+    let alts = c.deref-then-place-known.result.now in
+    let fits = root_fits c.args.ty.now c.args.value.now c.in-Choice.root c.in-Choice.ext c.in-Choice-value.tag c.in-Choice-value.chosen c.in-Choice.is c.in-Choice-value.is c.len-known.result c.len-known.ensures c.requires.of_type c.if-place-known.true alts c.deref-then-place-known-2.result.now c.deref-then-place-known.ensures.value c.deref-then-place-known-2.ensures in
+    let inside : c.in-Choice-value.tag < length alts = omega (arith, c.if-place-known.true, c.len-known.ensures, c.deref-then-place-known.ensures.len) in
+    (search (rules, the_lemmas), (roots_good c.args.ty.now c.in-Choice.root c.in-Choice.ext c.in-Choice.is c.requires.of_profile alts c.deref-then-place-known.ensures.value, (inside, fits)))
+
+pub write-returns-then-place-known : goal.write-returns-then-place-known
+write-returns-then-place-known t c =
+    on_ok_weaker c.write_alternative.result
+    (λ e. choice_root_written c.args.ty.now c.args.value.now c.in-Choice.root c.in-Choice.ext c.in-Choice-value.tag c.in-Choice-value.chosen c.in-Choice.is c.in-Choice-value.is c.len-known.result c.len-known.ensures
+    c.if-place-known.true c.deref-then-place-known.result.now c.deref-then-place-known-2.result.now c.args.sink.now c.write_index.new.sink c.write_alternative.new.sink c.is_some-then-place-known.result c.deref-then-place-known.ensures.value c.deref-then-place-known-2.ensures c.is_some-then-place-known.ensures c.in_ok-write_index-in-Choice.ensures e)
+    c.write_alternative.ensures
+
+pub write-unreachable-requires-in_default-ext-2 : goal.write-unreachable-requires-in_default-ext-2
+write-unreachable-requires-in_default-ext-2 t c =
+    mark_wanted c.args.ty.now c.args.value.now c.in-Choice.root c.in-Choice.ext c.in-Choice-value.tag c.in-Choice-value.chosen c.in-Choice.is c.in-Choice-value.is c.len-known.result c.len-known.ensures c.requires.of_type c.if-place-known.false c.in_default-ext-2.is
+
+pub write-write_index-requires-in-Choice-clause-few : goal.write-write_index-requires-in-Choice-clause-few
+write-write_index-requires-in-Choice-clause-few t c =
+    omega (arith, few_root c.args.ty.now c.in-Choice.root c.in-Choice.ext c.in-Choice.is c.requires.of_profile c.len-known.result c.len-known.ensures)
+
+pub write-write_index-requires-in-Choice-clause-within : goal.write-write_index-requires-in-Choice-clause-within
+write-write_index-requires-in-Choice-clause-within t c =
+    let place = added_place c.args.ty.now c.args.value.now c.in-Choice.root c.in-Choice.ext c.in-Choice-value.tag c.in-Choice-value.chosen c.in-Choice.is c.in-Choice-value.is c.len-known.result c.len-known.ensures c.requires.of_type c.if-place-known.false c.in-Some-ext.additions c.in-Some-ext.additions.items c.in-Some-ext.is refl in
+    let few = few_all c.args.ty.now c.in-Choice.root c.in-Choice.ext c.in-Choice.is c.requires.of_profile c.len-known.result c.len-known.ensures c.in-Some-ext.additions c.in-Some-ext.is in
+    omega (arith, place, few, c.in-Some-ext.additions.ok.0)
+
+pub write-write_added_alternative-requires : goal.write-write_added_alternative-requires
+write-write_added_alternative-requires t c =
+    let more = c.deref-in-Choice.result.now in
+    let fits = added_fits c.args.ty.now c.args.value.now c.in-Choice.root c.in-Choice.ext c.in-Choice-value.tag c.in-Choice-value.chosen c.in-Choice.is c.in-Choice-value.is c.len-known.result c.len-known.ensures c.requires.of_type c.if-place-known.false c.in-Some-ext.additions more c.deref-in-Choice-2.result.now c.in-Some-ext.is c.deref-in-Choice.ensures.value c.deref-in-Choice-2.ensures in
+    let inside = added_place c.args.ty.now c.args.value.now c.in-Choice.root c.in-Choice.ext c.in-Choice-value.tag c.in-Choice-value.chosen c.in-Choice.is c.in-Choice-value.is c.len-known.result c.len-known.ensures c.requires.of_type c.if-place-known.false c.in-Some-ext.additions more c.in-Some-ext.is c.deref-in-Choice.ensures.value in
+    (search (rules, the_lemmas), (additions_good c.args.ty.now c.in-Choice.root c.in-Choice.ext c.in-Choice.is c.requires.of_profile c.in-Some-ext.additions more c.in-Some-ext.is c.deref-in-Choice.ensures.value, (inside, fits)))
+
+pub write-returns-in_ok-write_index-in-Choice-2 : goal.write-returns-in_ok-write_index-in-Choice-2
+write-returns-in_ok-write_index-in-Choice-2 t c =
+    on_ok_weaker c.write_added_alternative.result
+    (λ e. choice_added_written c.args.ty.now c.args.value.now c.in-Choice.root c.in-Choice.ext c.in-Choice-value.tag c.in-Choice-value.chosen c.in-Choice.is c.in-Choice-value.is c.len-known.result c.len-known.ensures
+    c.if-place-known.false c.in-Some-ext.additions c.deref-in-Choice.result.now c.deref-in-Choice-2.result.now c.args.sink.now c.write_index-in-Choice.new.sink c.write_added_alternative.new.sink c.in-Some-ext.is c.deref-in-Choice.ensures.value c.deref-in-Choice-2.ensures c.in_ok-write_index-in-Choice-2.ensures e)
+    c.write_added_alternative.ensures
+
+pub write_alternative-write-requires : goal.write_alternative-write-requires
+write_alternative-write-requires t c = (
+  search (rules, the_lemmas),
+  (
+    good_at c.args.alternatives.now c.args.place c.index-alternatives-place.result c.requires.of_profile c.requires.inside,
+    fits_there c.args.alternatives.now c.args.place c.index-alternatives-place.result (datum_of c.args.value.now) c.requires.inside c.requires.of_type,
+  ),
+)
+
+pub write_alternative-returns : goal.write_alternative-returns
+write_alternative-returns t c = rw (spelled_there c.args.alternatives.now c.args.place c.index-alternatives-place.result (datum_of c.args.value.now) c.requires.inside) c.write.ensures
+
+pub write_added_alternative-write_open_field-requires : goal.write_added_alternative-write_open_field-requires
+write_added_alternative-write_open_field-requires t c = (
+  search (rules, the_lemmas),
+  (
+    good_at c.args.alternatives.now c.args.place c.index-alternatives-place.result c.requires.of_profile c.requires.inside,
+    fits_there c.args.alternatives.now c.args.place c.index-alternatives-place.result (datum_of c.args.value.now) c.requires.inside c.requires.of_type,
+  ),
+)
+
+pub write_added_alternative-returns : goal.write_added_alternative-returns
+write_added_alternative-returns t c = rw (spelled_there c.args.alternatives.now c.args.place c.index-alternatives-place.result (datum_of c.args.value.now) c.requires.inside) c.write_open_field.ensures

@@ -1,4 +1,4 @@
-use Rattle.std.proofs.Common.{◌≡◌, ◌≢◌, ◌<◌, ◌==◌, ℕ, zero, suc, Bool, not, ◌⊎◌, inl, inr, ◌∷◌, [], ◌++◌, ◌∙◌, true, false, List, map, Some, None, rules, sym, ap, ◌+◌, ◌-◌, ◌/◌, ◌%◌, ◌^◌, length, replicate, refl, arith}
+use Rattle.std.proofs.Common.{◌≡◌, ◌≢◌, ◌<◌, ◌==◌, ℕ, zero, suc, Bool, not, ◌⊎◌, inl, inr, ◌∷◌, [], ◌++◌, ◌∙◌, true, false, List, map, Some, None, rules, sym, ap, ◌+◌, ◌-◌, ◌/◌, ◌%◌, ◌^◌, length, replicate, refl, arith, Option, Vec, Global, vec_len}
 use Rattle.std.specs.Option.{option_map}
 use Rattle.std.proofs.lemmas.Bool.{true≢false, eqb-true}
 use Rattle.std.proofs.lemmas.List.{map-append}
@@ -7,6 +7,7 @@ use mir.Syntax.{w128}
 use mir.Val.{to_z, of_z}
 use Rattle.asn_bits.proofs.Above.{kept}
 use Rattle.asn_values.specs.declared.types.AsnType.{the_lemmas}
+use Rattle.asn_values.specs.declared.types.Alt.{Alt}
 use Rattle.asn_values.specs.declared.value.Value.TheVariants as value
 use Rattle.asn_values.specs.Datum.{number, components, components_of}
 use Rattle.asn_values.specs.declared.types.Field.{Field}
@@ -46,6 +47,12 @@ use Rattle.asn_rules.specs.Languages.{Spells}
 use Rattle.asn_per.proofs.value_reader.+reader.Goals.{read_complete-then-bits_left-given, read_complete-else-bits_left-given}
 use Rattle.asn_per.proofs.Decoding.{bits_fill}
 use Rattle.asn_per.proofs.OpenFieldReading.{octets_stop, value_held, more_held, none_held}
+use Rattle.asn_per.specs.declared.indexes.Index.{Index}
+use Rattle.asn_per.specs.declared.indexes.Index.TheVariants as an_index
+use Rattle.asn_per.specs.Indexes.{IsIndexWithin, index_at}
+use Rattle.asn_per.proofs.Exits.{if_err_weaker}
+use Rattle.asn_per.proofs.ChoiceTypes.{good_at, some_root, few_root, few_all, roots_good, additions_good, added_inside}
+use Rattle.asn_per.proofs.ChoiceReading.{leads_at_place, open_leads_at_place, choice_stops, root_value_leads, added_value_leads}
 
 pub read-integer-requires-clause-some : goal.read-integer-requires-clause-some
 read-integer-requires-clause-some t c = spelt_inhabited per (integer (range_of c.in-Int.bounds)) (rw (c.in-Int.is, shape_of-Int) at c.requires.of_profile)
@@ -436,3 +443,83 @@ pub read_list-returns-clause-done : goal.read_list-returns-clause-done
 read_list-returns-clause-done t c =
     let next : Next (ahead_of c.loop-elements.rows) None (ahead_of c.next.new.self) c.loop-elements.cursor c.next.new.bits = rw c.in_default.is at c.in_ok-count.ensures.done in
     going_ends next c.loop-elements.invariant.0
+
+-- ---- place-in-ChoiceOICE
+
+pub read-read_index-requires : goal.read-read_index-requires
+read-read_index-requires t c = record { some = some_root c.args.ty.now c.in-Choice.root c.in-Choice.ext c.in-Choice.is c.requires.of_profile c.len-known.result c.len-known.ensures }
+
+pub read-returns-in_err-place-in-Choice-clause-stop : goal.read-returns-in_err-place-in-Choice-clause-stop
+read-returns-in_err-place-in-Choice-clause-stop t c =
+    let p = err_from_is_err_and c.from_residual-in_err-place-in-Choice.result c.from_residual-in_err-place-in-Choice.ensures.1 in
+    rw (p.1, p.2) (stops_by _ (choice_stops c.args.ty.now c.in-Choice.root c.in-Choice.ext c.in-Choice.is c.requires.of_profile c.len-known.result c.len-known.ensures c.added_count.result c.added_count.ensures c.args.bits.now) c.in_err-place-in-Choice.ensures.stop)
+
+pub read-read_alternative-requires : goal.read-read_alternative-requires
+read-read_alternative-requires t c =
+    let inside : c.in-Root.place < c.len-known.result = rw c.in-Root.is at c.in_ok-place-in-Choice.ensures.within in
+    (search (rules, the_lemmas), (roots_good c.args.ty.now c.in-Choice.root c.in-Choice.ext c.in-Choice.is c.requires.of_profile c.deref-in-Root.result.now c.deref-in-Root.ensures.value, omega (arith, inside, c.len-known.ensures, c.deref-in-Root.ensures.len)))
+
+pub read-returns-in_err-value-in-Root-clause-stop : goal.read-returns-in_err-value-in-Root-clause-stop
+read-returns-in_err-value-in-Root-clause-stop t c =
+    let p = err_from_is_err_and c.from_residual-in_err-value-in-Root.result c.from_residual-in_err-value-in-Root.ensures.1 in
+    let lead = root_value_leads c.args.ty.now c.in-Choice.root c.in-Choice.ext c.in-Choice.is c.requires.of_profile c.len-known.result c.len-known.ensures c.added_count.result c.added_count.ensures c.args.bits.now c.in_ok-place-in-Choice.field-0 c.in-Root.place c.read_index.new.bits c.in_ok-place-in-Choice.ensures.done c.deref-in-Root.result.now c.deref-in-Root.ensures.value c.in-Root.is in
+    rw (p.1, p.2) (stops_by _ lead.stops c.in_err-value-in-Root.ensures.stop)
+
+pub read-chosen-requires : goal.read-chosen-requires
+read-chosen-requires t c =
+    let inside : c.in-Root.place < c.len-known.result = rw c.in-Root.is at c.in_ok-place-in-Choice.ensures.within in
+    omega (arith, inside, few_root c.args.ty.now c.in-Choice.root c.in-Choice.ext c.in-Choice.is c.requires.of_profile c.len-known.result c.len-known.ensures)
+
+pub read-returns-in_ok-chosen-in-Root-clause-done : goal.read-returns-in_ok-chosen-in-Root-clause-done
+read-returns-in_ok-chosen-in-Root-clause-done t c =
+    let lead = root_value_leads c.args.ty.now c.in-Choice.root c.in-Choice.ext c.in-Choice.is c.requires.of_profile c.len-known.result c.len-known.ensures c.added_count.result c.added_count.ensures c.args.bits.now c.in_ok-place-in-Choice.field-0 c.in-Root.place c.read_index.new.bits c.in_ok-place-in-Choice.ensures.done c.deref-in-Root.result.now c.deref-in-Root.ensures.value c.in-Root.is in
+    rw c.in_ok-chosen-in-Root.ensures (lead.done (datum_of c.in_ok-value-in-Root.value) c.read_alternative.new.bits c.in_ok-value-in-Root.ensures.done)
+
+pub read-read_added_alternative-requires : goal.read-read_added_alternative-requires
+read-read_added_alternative-requires t c =
+    let inside = added_inside c.len-known.result c.added_count.result c.in-Choice.ext c.in-Some-ext.additions c.in_ok-place-in-Choice.field-0 c.in-Added.place c.added_count.ensures c.in-Some-ext.is c.in-Added.is c.in_ok-place-in-Choice.ensures.within in
+    (search (rules, the_lemmas), (additions_good c.args.ty.now c.in-Choice.root c.in-Choice.ext c.in-Choice.is c.requires.of_profile c.in-Some-ext.additions c.deref-in-Added.result.now c.in-Some-ext.is c.deref-in-Added.ensures.value, rw c.deref-in-Added.ensures.len inside))
+
+pub read-returns-in_err-value-in-Added-clause-stop : goal.read-returns-in_err-value-in-Added-clause-stop
+read-returns-in_err-value-in-Added-clause-stop t c =
+    let p = err_from_is_err_and c.from_residual-in_err-value-in-Added.result c.from_residual-in_err-value-in-Added.ensures.1 in
+    let lead = added_value_leads c.args.ty.now c.in-Choice.root c.in-Choice.ext c.in-Choice.is c.requires.of_profile c.len-known.result c.len-known.ensures c.added_count.result c.added_count.ensures c.args.bits.now c.in_ok-place-in-Choice.field-0 c.in-Added.place c.read_index.new.bits c.in_ok-place-in-Choice.ensures.done c.in-Some-ext.additions c.deref-in-Added.result.now c.in-Some-ext.is c.deref-in-Added.ensures.value c.in-Added.is in
+    rw (p.1, p.2) (stops_by _ lead.stops c.in_err-value-in-Added.ensures.stop)
+
+pub read-chosen-requires-in-Added : goal.read-chosen-requires-in-Added
+read-chosen-requires-in-Added t c =
+    let inside = added_inside c.len-known.result c.added_count.result c.in-Choice.ext c.in-Some-ext.additions c.in_ok-place-in-Choice.field-0 c.in-Added.place c.added_count.ensures c.in-Some-ext.is c.in-Added.is c.in_ok-place-in-Choice.ensures.within in
+    omega (arith, inside, few_all c.args.ty.now c.in-Choice.root c.in-Choice.ext c.in-Choice.is c.requires.of_profile c.len-known.result c.len-known.ensures c.in-Some-ext.additions c.in-Some-ext.is)
+
+pub read-returns-in_ok-chosen-in-Added-clause-done : goal.read-returns-in_ok-chosen-in-Added-clause-done
+read-returns-in_ok-chosen-in-Added-clause-done t c =
+    let lead = added_value_leads c.args.ty.now c.in-Choice.root c.in-Choice.ext c.in-Choice.is c.requires.of_profile c.len-known.result c.len-known.ensures c.added_count.result c.added_count.ensures c.args.bits.now c.in_ok-place-in-Choice.field-0 c.in-Added.place c.read_index.new.bits c.in_ok-place-in-Choice.ensures.done c.in-Some-ext.additions c.deref-in-Added.result.now c.in-Some-ext.is c.deref-in-Added.ensures.value c.in-Added.is in
+    rw c.in_ok-chosen-in-Added.ensures (lead.done (datum_of c.in_ok-value-in-Added.value) c.read_added_alternative.new.bits c.in_ok-value-in-Added.ensures.done)
+
+pub read_alternative-read-requires : goal.read_alternative-read-requires
+read_alternative-read-requires t c =
+    (search (rules, the_lemmas), good_at c.args.alternatives.now c.args.place c.index-alternatives-place.result c.requires.of_profile c.requires.inside)
+
+pub read_alternative-returns-clause-done : goal.read_alternative-returns-clause-done
+read_alternative-returns-clause-done t c =
+    let lead = leads_at_place c.args.alternatives.now c.args.place c.index-alternatives-place.result c.args.bits.now c.requires.inside in
+    IfOk-weaker c.read.result _ _ (λ v s. lead.done (datum_of v) c.read.new.bits s) c.read.ensures.done
+
+pub read_alternative-returns-clause-stop : goal.read_alternative-returns-clause-stop
+read_alternative-returns-clause-stop t c =
+    let lead = leads_at_place c.args.alternatives.now c.args.place c.index-alternatives-place.result c.args.bits.now c.requires.inside in
+    if_err_weaker c.read.result _ _ (λ why s. stops_by why lead.stops s) c.read.ensures.stop
+
+pub read_added_alternative-read_open_field-requires : goal.read_added_alternative-read_open_field-requires
+read_added_alternative-read_open_field-requires t c =
+    (search (rules, the_lemmas), good_at c.args.alternatives.now c.args.place c.index-alternatives-place.result c.requires.of_profile c.requires.inside)
+
+pub read_added_alternative-returns-clause-done : goal.read_added_alternative-returns-clause-done
+read_added_alternative-returns-clause-done t c =
+    let lead = open_leads_at_place c.args.alternatives.now c.args.place c.index-alternatives-place.result c.args.bits.now c.requires.inside in
+    IfOk-weaker c.read_open_field.result _ _ (λ v s. lead.done (datum_of v) c.read_open_field.new.bits s) c.read_open_field.ensures.done
+
+pub read_added_alternative-returns-clause-stop : goal.read_added_alternative-returns-clause-stop
+read_added_alternative-returns-clause-stop t c =
+    let lead = open_leads_at_place c.args.alternatives.now c.args.place c.index-alternatives-place.result c.args.bits.now c.requires.inside in
+    if_err_weaker c.read_open_field.result _ _ (λ why s. stops_by why lead.stops s) c.read_open_field.ensures.stop

@@ -7,24 +7,24 @@ use Rattle.asn_values.proofs.Alternatives.{count-of}
 use Rattle.asn_values.proofs.Faultless.{faultless_choice}
 use Rattle.asn_values.proofs.NameLists.{names_of_alternatives}
 use Rattle.asn_values.proofs.walk.check_alternatives.Goals as goal
-use Rattle.asn_values.proofs.walk.check_alternatives.Goals.{then-root-gt-MOST_ALTERNATIVES-via-then-root-gt-MOST_ALTERNATIVES, then-root-gt-MOST_ALTERNATIVES-via-else-root-gt-MOST_ALTERNATIVES+then-root-more}
+use Rattle.asn_values.proofs.walk.check_alternatives.Goals.{then-root-gt-MOST_ALTERNATIVES-via-then-root-gt-MOST_ALTERNATIVES, then-root-gt-MOST_ALTERNATIVES-via-else-root-gt-MOST_ALTERNATIVES+then-root-added}
 
 pub returns-then-are_bad-clause-fault : goal.returns-then-are_bad-clause-fault
 returns-then-are_bad-clause-fault c =
-    sym (rw (names_of_alternatives c.args.root.now c.of_choice-more.result.now (more_alternatives (more_alternatives_of c.args.ext.now)) c.of_choice-more.ensures) at c.if-are_bad.ensures)
+    sym (rw (names_of_alternatives c.args.root.now c.of_choice-added.result.now (more_alternatives (more_alternatives_of c.args.ext.now)) c.of_choice-added.ensures) at c.if-are_bad.ensures)
 
 pub returns-then-root-gt-MOST_ALTERNATIVES-clause-fault : goal.returns-then-root-gt-MOST_ALTERNATIVES-clause-fault
 returns-then-root-gt-MOST_ALTERNATIVES-clause-fault c =
-    let many : most_alternatives < length c.args.root.now + length c.of_choice-more.result.now =
+    let many : most_alternatives < length c.args.root.now + length c.of_choice-added.result.now =
     elim c.then-root-gt-MOST_ALTERNATIVES.branch [
       | then-root-gt-MOST_ALTERNATIVES-via-then-root-gt-MOST_ALTERNATIVES w ↦ omega arith
-      | then-root-gt-MOST_ALTERNATIVES-via-else-root-gt-MOST_ALTERNATIVES+then-root-more w ↦ omega arith
+      | then-root-gt-MOST_ALTERNATIVES-via-else-root-gt-MOST_ALTERNATIVES+then-root-added w ↦ omega arith
     ] in
-    rw (← c.of_choice-more.ensures, count-of c.args.root.now, count-of c.of_choice-more.result.now) (lt-ltb most_alternatives _ many)
+    rw (← c.of_choice-added.ensures, count-of c.args.root.now, count-of c.of_choice-added.result.now) (lt-ltb most_alternatives _ many)
 
 pub returns-clause-faultless : goal.returns-clause-faultless
 returns-clause-faultless c =
     faultless_choice (alternatives_of (map branch_of c.args.root.now)) (more_alternatives_of c.args.ext.now)
     (rw (count-of c.args.root.now) (omega (arith, eqb-false (length c.args.root.now) 0 (sym c.if-is_empty.ensures))))
-    (sym (rw (names_of_alternatives c.args.root.now c.of_choice-more.result.now (more_alternatives (more_alternatives_of c.args.ext.now)) c.of_choice-more.ensures) at c.if-are_bad.ensures))
-    (rw (← c.of_choice-more.ensures, count-of c.args.root.now, count-of c.of_choice-more.result.now) (omega arith))
+    (sym (rw (names_of_alternatives c.args.root.now c.of_choice-added.result.now (more_alternatives (more_alternatives_of c.args.ext.now)) c.of_choice-added.ensures) at c.if-are_bad.ensures))
+    (rw (← c.of_choice-added.ensures, count-of c.args.root.now, count-of c.of_choice-added.result.now) (omega arith))

@@ -1,0 +1,66 @@
+-- Where the reader of an index of the root or of the additions stands, and what it cites at each exit.
+use Rattle.std.proofs.Common.{◌≡◌, ◌≢◌, ◌<◌, ◌+◌, ◌-◌, ◌^◌, ◌⊎◌, inl, inr, ℕ, List, [], ◌∷◌, length, Option, Some, None, refl, sym, ap, ◌∙◌, subst, arith}
+use Rattle.asn_bits.specs.Numbers.{width}
+use Rattle.asn_bits.specs.Sets.{InSet, Meets}
+use Rattle.asn_bits.proofs.Unions.{set_meets}
+use Rattle.asn_bits.proofs.Widths.{width_fits}
+use Rattle.asn_rules.specs.Languages.{Inhabited, Lawful, Plain, Short, Refused}
+use Rattle.asn_rules.proofs.Exits.{leads_zero, leads_one}
+use Rattle.asn_rules.proofs.Forks.{map_lawful_on, fork_lawful, fork_short, fork_refused, fork_inhabited_zero}
+use Rattle.asn_rules.proofs.Leads.{Leads, leads_map, leads_same}
+use Rattle.asn_rules.proofs.Sets.{set_inhabited, set_lawful}
+use Rattle.asn_per.specs.Indexes.{IndexesOf}
+use Rattle.asn_per.specs.Kinds.{Below, SmallBelow}
+use Rattle.asn_per.specs.Per.{per_fields}
+use Rattle.asn_per.specs.Reading.{Admits, up_to}
+use Rattle.asn_per.proofs.CountedReading.{same_set}
+use Rattle.asn_per.proofs.PerFields.{per_fields_part}
+
+-- ---- numbers below a count
+
+module _ (count : ℕ) (some : 0 < count) where
+  -- a reader of the numbers up to the highest answers for those below the count
+  pub below_leads : (k : ℕ) (us : List ℕ) → Leads per_fields (Plain (InSet k (λ n. Admits (up_to (count - 1) None) n))) us (λ n. n) (Below k count) us
+  below_leads k us = leads_same per_fields us (same_set 2 k (λ n h. omega (arith, h.1)) (λ n h. (omega arith, omega arith, tt)))
+
+  -- there is one
+  pub some_below : (k : ℕ) → 0 < 2 ^ k → Meets (λ n. Admits (up_to (count - 1) None) n) 0 k
+  some_below k room = set_meets 2 k 0 (omega arith, omega arith, tt) room
+
+  -- so some index of the root is spelt
+  pub below_inhabited : Inhabited (Below (width count) count)
+  below_inhabited = set_inhabited (set_meets 2 (width count) 0 some (width_fits count 0 some))
+
+-- ---- the index
+
+-- two indexes are spelt alike only where they are one
+pub indexes_lawful : (root : ℕ) (more : Option ℕ) → Lawful (IndexesOf root more)
+indexes_lawful root None = map_lawful_on (λ a b x y p q e. cc) (set_lawful 2 (width root) (λ n. n < root))
+indexes_lawful root (Some more) = fork_lawful (set_lawful 2 (width root) (λ n. n < root)) (set_lawful 2 7 (λ n. n < more))
+
+module _ (root more : ℕ) (some : 0 < root) where
+  -- no bit comes
+  pub mark_wanted : Short per_fields (IndexesOf root (Some more)) []
+  mark_wanted = fork_short (fork_inhabited_zero (below_inhabited root some))
+
+  -- where there is no addition, a 1 is refused
+  pub one_refused : more ≡ 0 → (us after : List ℕ) → us ≡ 1 ∷ after → Refused per_fields (IndexesOf root (Some more)) us (length after)
+  one_refused none us after e =
+      subst (λ (bs : List ℕ). Refused per_fields (IndexesOf root (Some more)) bs (length after)) (sym e)
+      (fork_refused per_fields_part (fork_inhabited_zero (below_inhabited root some)) 1 after (λ f. absurd (omega arith)) (λ f i. absurd (let m = i.spelt.spelt.member in omega (arith, m))))
+
+-- without a mark the index is one of the root
+pub root_leads : (root : ℕ) (us : List ℕ) → Leads per_fields (Below (width root) root) us inl (IndexesOf root None) us
+root_leads root us = leads_map per_fields inl (Below (width root) root) us
+
+-- and so it is behind a 0
+pub zero_leads : (root more mark : ℕ) (us after : List ℕ) → us ≡ mark ∷ after → mark ≡ 0 → Leads per_fields (Below (width root) root) after inl (IndexesOf root (Some more)) us
+zero_leads root more mark us after e f = leads_zero per_fields (e ∙ ap (λ (b : ℕ). b ∷ after) f)
+
+-- the bit is 1
+pub is_one : (mark : ℕ) (us after : List ℕ) → us ≡ mark ∷ after → mark < 2 → mark ≢ 0 → us ≡ 1 ∷ after
+is_one mark us after e h n = let f : mark ≡ 1 = omega (arith, n) in e ∙ ap (λ (b : ℕ). b ∷ after) f
+
+-- behind a 1 stands the index of an addition
+pub one_leads : (root more : ℕ) (us after : List ℕ) → us ≡ 1 ∷ after → Leads per_fields (SmallBelow more) after inr (IndexesOf root (Some more)) us
+one_leads root more us after e = leads_one per_fields e

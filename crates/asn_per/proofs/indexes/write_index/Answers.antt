@@ -1,0 +1,23 @@
+use Rattle.std.proofs.Common.{◌≡◌, ◌<◌, ◌∙◌, inl, ap, arith}
+use Rattle.asn_bits.proofs.Prefixes.{bool_byte-is}
+use Rattle.asn_rules.specs.Components.{bit_of}
+use Rattle.asn_per.specs.Indexes.{IsIndexWithin, index_at}
+use Rattle.asn_per.proofs.IndexBits.{few_index_bits, one_mark_bit, index_fits, root_index_bits}
+use Rattle.asn_per.proofs.indexes.write_index.Goals as goal
+
+pub push_number-requires-clause-few : goal.push_number-requires-clause-few
+push_number-requires-clause-few c =
+    let mark : c.from-mark_bits.result ≡ bit_of c.args.marked = c.from-mark_bits.ensures ∙ bool_byte-is c.args.marked in
+    omega (arith, mark, one_mark_bit c.args.marked, c.width.ensures.width, few_index_bits c.args.root c.requires.few)
+
+pub push_number-requires-clause-fits : goal.push_number-requires-clause-fits
+push_number-requires-clause-fits c =
+    let inside : c.in-Root.index < c.args.root = rw c.in-Root.is at c.requires.within in
+    rw c.width.ensures.width (index_fits c.args.root c.in-Root.index inside c.from-mark_bits.result)
+
+pub returns-in-Root : goal.returns-in-Root
+returns-in-Root c =
+    let inside : c.in-Root.index < c.args.root = rw c.in-Root.is at c.requires.within in
+    let mark : c.from-mark_bits.result ≡ bit_of c.args.marked = c.from-mark_bits.ensures ∙ bool_byte-is c.args.marked in
+    let is : index_at c.args.index ≡ inl c.in-Root.index = ap index_at c.in-Root.is in
+    rw (is, root_index_bits c.args.root c.in-Root.index inside c.args.marked c.from-mark_bits.result mark, ← c.width.ensures.width) c.push_number.ensures.ok

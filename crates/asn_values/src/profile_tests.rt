@@ -1,0 +1,499 @@
+//! The faults of SEQUENCE OF, CHOICE and extension additions, and the limits of the profile through
+//! each of them.
+use crate::tests::{
+    around, booleans, bounded, expect_fault, field, int, items, levels, types, with_default,
+};
+use crate::{Alt, AsnType, Field, Need, Size, TextKind, TypeFault, Value};
+use std::alloc::{AllocError, Global};
+use std::test::Fail;
+
+/// SIZE (low..high), and the extension mark where `ext`
+fn sized(low: u32, high: u32, ext: bool) -> Size {
+    Size {
+        low,
+        high: Some(high),
+        ext,
+    }
+}
+
+/// SIZE (0..MAX)
+fn any_size() -> Size {
+    Size {
+        low: 0,
+        high: None,
+        ext: false,
+    }
+}
+
+/// SEQUENCE (SIZE) OF element
+fn list(alloc: Global, element: AsnType, size: Size) -> Result<AsnType, AllocError> {
+    Ok(AsnType::SeqOf(Box::new(alloc, element)?, size))
+}
+
+/// Components of BOOLEAN OPTIONAL with these names.
+fn fields(alloc: Global, names: &[&str]) -> Result<Vec<Field>, AllocError> {
+    let mut list = Vec::new(alloc);
+    for name in names {
+        list.push(field(alloc, *name, AsnType::Bool, Need::Optional)?)?;
+    }
+    Ok(list)
+}
+
+/// So many of them, with the prefix and a number as their names.
+fn field_row(alloc: Global, prefix: &str, count: usize) -> Result<Vec<Field>, AllocError> {
+    let mut list = Vec::new(alloc);
+    for place in 0..count {
+        let name = format!(in alloc; "{prefix}{place}")?;
+        list.push(Field {
+            name,
+            ty: AsnType::Bool,
+            need: Need::Optional,
+        })?;
+    }
+    Ok(list)
+}
+
+fn alternative(alloc: Global, name: &str, ty: AsnType) -> Result<Alt, AllocError> {
+    Ok(Alt {
+        name: String::from_str(alloc, name)?,
+        ty,
+    })
+}
+
+/// Alternatives of NULL with these names.
+fn alternatives(alloc: Global, names: &[&str]) -> Result<Vec<Alt>, AllocError> {
+    let mut list = Vec::new(alloc);
+    for name in names {
+        list.push(alternative(alloc, *name, AsnType::Null)?)?;
+    }
+    Ok(list)
+}
+
+/// So many of them, with the prefix and a number as their names.
+fn alternative_row(alloc: Global, prefix: &str, count: usize) -> Result<Vec<Alt>, AllocError> {
+    let mut list = Vec::new(alloc);
+    for place in 0..count {
+        let name = format!(in alloc; "{prefix}{place}")?;
+        list.push(Alt {
+            name,
+            ty: AsnType::Null,
+        })?;
+    }
+    Ok(list)
+}
+
+/// SEQUENCE { .., ..., name type need }
+fn with_addition(
+    alloc: Global,
+    root: &[&str],
+    name: &str,
+    ty: AsnType,
+    need: Need,
+) -> Result<AsnType, AllocError> {
+    Ok(AsnType::Seq {
+        root: fields(alloc, root)?,
+        ext: Some(vec![in alloc; field(alloc, name, ty, need)?]?),
+    })
+}
+
+/// CHOICE of alternatives of NULL, and of more of them behind the mark; no mark for `None`.
+fn choice(alloc: Global, root: &[&str], more: Option<&[&str]>) -> Result<AsnType, AllocError> {
+    let ext = match more {
+        Some(names) => Some(alternatives(alloc, names)?),
+        None => None,
+    };
+    Ok(AsnType::Choice {
+        root: alternatives(alloc, root)?,
+        ext,
+    })
+}
+
+/// Where a type may stand inside another.
+#[derive(Clone, Copy, Debug)]
+enum Place {
+    Component,
+    Addition,
+    Element,
+    Alternative,
+    AddedAlternative,
+}
+
+const PLACES: [Place; 5] = [
+    Place::Component,
+    Place::Addition,
+    Place::Element,
+    Place::Alternative,
+    Place::AddedAlternative,
+];
+
+/// A type around this one, with no other inside it but the NULL that a CHOICE has in its root.
+fn wrap(alloc: Global, place: Place, ty: AsnType) -> Result<AsnType, AllocError> {
+    Ok(match place {
+        Place::Component => around(alloc, "a", ty, Need::Must)?,
+        Place::Addition => with_addition(alloc, &[], "a", ty, Need::Optional)?,
+        Place::Element => list(alloc, ty, any_size())?,
+        Place::Alternative => AsnType::Choice {
+            root: vec![in alloc; alternative(alloc, "a", ty)?]?,
+            ext: None,
+        },
+        Place::AddedAlternative => AsnType::Choice {
+            root: alternatives(alloc, &["a"])?,
+            ext: Some(vec![in alloc; alternative(alloc, "b", ty)?]?),
+        },
+    })
+}
+
+#[test]
+fn lists_have_faults(rt: HostRuntime) -> Result<(), Fail> {
+    let alloc = rt.alloc();
+    let empty = Some(TypeFault::EmptyRange);
+    let large = Some(TypeFault::SizeTooLarge);
+    let useless = Some(TypeFault::UselessMark);
+    for (low, high, ext, want) in [
+        (0, None, false, None),
+        (0, Some(0), false, None),
+        (65_535, Some(65_535), false, None),
+        (1, None, true, None),
+        (2, Some(1), false, empty),
+        (65_536, None, false, large),
+        (0, Some(65_536), true, large),
+        (0, None, true, useless),
+    ] {
+        let ty = list(alloc, AsnType::Bool, Size { low, high, ext })?;
+        expect_fault(&rt, alloc, "of SEQUENCE OF", ty, want);
+    }
+    Ok(())
+}
+
+/// Types that are spelt in PER by no bits.
+fn types_without_bits(alloc: Global) -> Result<Vec<AsnType>, AllocError> {
+    let zero = sized(0, 0, false);
+    let empty = booleans(alloc, 0)?;
+    let within = around(alloc, "a", int(5, 5), Need::Must)?;
+    let zero_list = list(alloc, AsnType::Bool, zero)?;
+    let of_empty = list(alloc, booleans(alloc, 0)?, sized(3, 3, false))?;
+    let types = vec![in alloc;
+        AsnType::Null,
+        int(5, 5),
+        items(alloc, &[("a", 7)], None)?,
+        AsnType::Bits(zero),
+        AsnType::Octets(zero),
+        AsnType::Text(TextKind::Ia5, zero),
+        empty,
+        within,
+        zero_list,
+        of_empty,
+        choice(alloc, &["a"], None)?,
+    ]?;
+    Ok(types)
+}
+
+#[test]
+fn elements_have_bits(rt: HostRuntime) -> Result<(), Fail> {
+    let alloc = rt.alloc();
+    let zero = Some(TypeFault::ZeroWidthElement);
+    for size in [any_size(), sized(0, 0, false), sized(2, 3, true)] {
+        for element in types_without_bits(alloc)? {
+            expect_fault(&rt, alloc, "no bits", list(alloc, element, size)?, zero);
+        }
+    }
+    let addition = list(alloc, AsnType::Null, any_size())?;
+    let addition = with_addition(alloc, &[], "a", addition, Need::Optional)?;
+    expect_fault(&rt, alloc, "no bits in an addition", addition, zero);
+    Ok(())
+}
+
+/// Types that a bit tells apart from those without.
+fn types_with_bits(alloc: Global) -> Result<Vec<AsnType>, AllocError> {
+    let none: &[(&str, i64)] = &[];
+    let marked = AsnType::Seq {
+        root: vec![in alloc]?,
+        ext: Some(vec![in alloc]?),
+    };
+    let types = vec![in alloc;
+        AsnType::Bool,
+        AsnType::Utf8,
+        int(5, 6),
+        bounded(Some(5), Some(5), true),
+        items(alloc, &[("a", 7)], Some(none))?,
+        items(alloc, &[("a", 7), ("b", 8)], None)?,
+        AsnType::Octets(sized(0, 1, false)),
+        AsnType::Octets(sized(0, 0, true)),
+        marked,
+        around(alloc, "a", AsnType::Null, Need::Optional)?,
+        list(alloc, AsnType::Bool, sized(0, 1, false))?,
+        list(alloc, AsnType::Bool, sized(0, 0, true))?,
+        list(alloc, AsnType::Bool, sized(2, 2, false))?,
+        choice(alloc, &["a"], Some(&[]))?,
+        choice(alloc, &["a", "b"], None)?,
+    ]?;
+    Ok(types)
+}
+
+#[test]
+fn elements_may_have_one_bit(rt: HostRuntime) -> Result<(), Fail> {
+    let alloc = rt.alloc();
+    for element in types_with_bits(alloc)? {
+        let ty = list(alloc, element, any_size())?;
+        expect_fault(&rt, alloc, "bits", ty, None);
+    }
+    Ok(())
+}
+
+#[test]
+fn additions_have_faults(rt: HostRuntime) -> Result<(), Fail> {
+    let alloc = rt.alloc();
+    let truth = Value::Bool(true);
+    for (need, want) in [
+        (Need::Optional, None),
+        (Need::Must, Some(TypeFault::AdditionNotOptional)),
+        (Need::Default(truth), Some(TypeFault::AdditionNotOptional)),
+        (Need::Default(Value::Null), Some(TypeFault::BadDefault)),
+    ] {
+        let ty = with_addition(alloc, &["a"], "b", AsnType::Bool, need)?;
+        expect_fault(&rt, alloc, "an addition", ty, want);
+    }
+    let second = AsnType::Seq {
+        root: fields(alloc, &["a"])?,
+        ext: Some(vec![in alloc;
+            field(alloc, "b", AsnType::Bool, Need::Optional)?,
+            field(alloc, "c", AsnType::Bool, Need::Must)?,
+        ]?),
+    };
+    let must = Some(TypeFault::AdditionNotOptional);
+    expect_fault(&rt, alloc, "the second addition", second, must);
+    let name = Some(TypeFault::DuplicateName);
+    for (root, more, want) in [
+        (&["a", "b"][..], &["c", "d"][..], None),
+        (&["a", "b"][..], &["c", "b"][..], name),
+        (&["a"][..], &["c", "c"][..], name),
+        (&["a"][..], &["c-"][..], name),
+    ] {
+        let ty = AsnType::Seq {
+            root: fields(alloc, root)?,
+            ext: Some(fields(alloc, more)?),
+        };
+        expect_fault(&rt, alloc, "the names of additions", ty, want);
+    }
+    Ok(())
+}
+
+#[test]
+fn choices_have_faults(rt: HostRuntime) -> Result<(), Fail> {
+    let alloc = rt.alloc();
+    let empty = Some(TypeFault::EmptyRange);
+    let name = Some(TypeFault::DuplicateName);
+    for (root, more, want) in [
+        (&["a"][..], None, None),
+        (&["a"][..], Some(&[][..]), None),
+        (&["a", "b"][..], Some(&["c", "d"][..]), None),
+        (&[][..], None, empty),
+        (&[][..], Some(&["a"][..]), empty),
+        (&["a", "b", "a"][..], None, name),
+        (&["a", "b"][..], Some(&["c", "b"][..]), name),
+        (&["a"][..], Some(&["c", "c"][..]), name),
+        (&["A"][..], None, name),
+        (&["a"][..], Some(&["c-"][..]), name),
+    ] {
+        expect_fault(&rt, alloc, "of CHOICE", choice(alloc, root, more)?, want);
+    }
+    Ok(())
+}
+
+#[test]
+fn components_are_counted(rt: HostRuntime) -> Result<(), Fail> {
+    let alloc = rt.alloc();
+    let many = Some(TypeFault::TooMany);
+    for (root, more, want) in [
+        (64, 64, None),
+        (0, 64, None),
+        (65, 0, many),
+        (65, 64, many),
+        (64, 65, many),
+        (0, 65, many),
+    ] {
+        let ty = AsnType::Seq {
+            root: field_row(alloc, "r", root)?,
+            ext: Some(field_row(alloc, "x", more)?),
+        };
+        expect_fault(&rt, alloc, "components", ty, want);
+    }
+    Ok(())
+}
+
+#[test]
+fn alternatives_are_counted(rt: HostRuntime) -> Result<(), Fail> {
+    let alloc = rt.alloc();
+    let many = Some(TypeFault::TooMany);
+    for (root, more, want) in [
+        (63, 0, None),
+        (1, 62, None),
+        (62, 1, None),
+        (64, 0, many),
+        (63, 1, many),
+        (62, 2, many),
+        (1, 63, many),
+    ] {
+        let ty = AsnType::Choice {
+            root: alternative_row(alloc, "r", root)?,
+            ext: Some(alternative_row(alloc, "x", more)?),
+        };
+        expect_fault(&rt, alloc, "alternatives", ty, want);
+    }
+    for (count, want) in [(63, None), (64, many)] {
+        let ty = AsnType::Choice {
+            root: alternative_row(alloc, "r", count)?,
+            ext: None,
+        };
+        expect_fault(&rt, alloc, "alternatives without a mark", ty, want);
+    }
+    Ok(())
+}
+
+/// That many levels, each inside the other at this place, and BOOLEAN at the last.
+fn nested(alloc: Global, place: Place, count: usize) -> Result<AsnType, AllocError> {
+    let mut ty = AsnType::Bool;
+    for _ in 1..count {
+        ty = wrap(alloc, place, ty)?;
+    }
+    Ok(ty)
+}
+
+#[test]
+fn levels_are_counted_everywhere(rt: HostRuntime) -> Result<(), Fail> {
+    let alloc = rt.alloc();
+    let deep = Some(TypeFault::TooDeep);
+    for place in PLACES {
+        expect_fault(&rt, alloc, "32 levels", nested(alloc, place, 32)?, None);
+        expect_fault(&rt, alloc, "33 levels", nested(alloc, place, 33)?, deep);
+        let mixed = wrap(alloc, place, levels(alloc, 31, AsnType::Bool)?)?;
+        expect_fault(&rt, alloc, "32 levels, mixed", mixed, None);
+        let mixed = wrap(alloc, place, levels(alloc, 32, AsnType::Bool)?)?;
+        expect_fault(&rt, alloc, "33 levels, mixed", mixed, deep);
+    }
+    Ok(())
+}
+
+#[test]
+fn types_are_counted_everywhere(rt: HostRuntime) -> Result<(), Fail> {
+    let alloc = rt.alloc();
+    let many = Some(TypeFault::TooMany);
+    for place in PLACES {
+        let others = match place {
+            Place::AddedAlternative => 2,
+            _ => 1,
+        };
+        let full = wrap(alloc, place, types(alloc, 50 - others)?)?;
+        expect_fault(&rt, alloc, "10,000 types", full, None);
+        let past = wrap(alloc, place, types(alloc, 51 - others)?)?;
+        expect_fault(&rt, alloc, "10,001 types", past, many);
+    }
+    Ok(())
+}
+
+#[test]
+fn size_is_judged_before_the_element(rt: HostRuntime) -> Result<(), Fail> {
+    let alloc = rt.alloc();
+    for (size, want) in [
+        (sized(65_537, 65_536, false), Some(TypeFault::EmptyRange)),
+        (sized(65_536, 65_536, false), Some(TypeFault::SizeTooLarge)),
+        (
+            Size {
+                low: 0,
+                high: None,
+                ext: true,
+            },
+            Some(TypeFault::UselessMark),
+        ),
+        (any_size(), Some(TypeFault::ZeroWidthElement)),
+    ] {
+        let ty = list(alloc, AsnType::Null, size)?;
+        expect_fault(&rt, alloc, "a SIZE before the element", ty, want);
+    }
+    Ok(())
+}
+
+#[test]
+fn least_fault_of_a_type_is_answered(rt: HostRuntime) -> Result<(), Fail> {
+    let alloc = rt.alloc();
+    let empty = Some(TypeFault::EmptyRange);
+    let name = Some(TypeFault::DuplicateName);
+    let none: &[&str] = &[];
+    let twice = choice(alloc, none, Some(&["A", "A"]))?;
+    expect_fault(&rt, alloc, "no root before names", twice, empty);
+    let mut row = alternative_row(alloc, "r", 63)?;
+    row.push(alternative(alloc, "r0", AsnType::Null)?)?;
+    let many = AsnType::Choice {
+        root: row,
+        ext: None,
+    };
+    expect_fault(&rt, alloc, "names before a count", many, name);
+    let ty = with_addition(alloc, &["b"], "b", AsnType::Bool, Need::Must)?;
+    expect_fault(&rt, alloc, "names before an addition", ty, name);
+    let mut more = field_row(alloc, "x", 64)?;
+    more.push(field(alloc, "last", AsnType::Bool, Need::Must)?)?;
+    let many = AsnType::Seq {
+        root: fields(alloc, &["a"])?,
+        ext: Some(more),
+    };
+    let must = Some(TypeFault::AdditionNotOptional);
+    expect_fault(&rt, alloc, "an addition before a count", many, must);
+    Ok(())
+}
+
+#[test]
+fn outer_and_left_faults_come_first(rt: HostRuntime) -> Result<(), Fail> {
+    let alloc = rt.alloc();
+    let empty = Some(TypeFault::EmptyRange);
+    let zero = Some(TypeFault::ZeroWidthElement);
+    let bad_element = choice(alloc, &["A"], None)?;
+    let outer = list(alloc, bad_element, any_size())?;
+    expect_fault(&rt, alloc, "a list before its element", outer, zero);
+    for place in PLACES {
+        let inner = wrap(alloc, place, int(1, 0))?;
+        let outer = with_addition(alloc, &[], "a", inner, Need::Must)?;
+        let must = Some(TypeFault::AdditionNotOptional);
+        expect_fault(&rt, alloc, "a type before those inside it", outer, must);
+    }
+    let of_null = list(alloc, AsnType::Null, any_size())?;
+    let sequence = AsnType::Seq {
+        root: vec![in alloc; field(alloc, "a", of_null, Need::Must)?]?,
+        ext: Some(vec![in alloc; field(alloc, "b", int(1, 0), Need::Optional)?]?),
+    };
+    expect_fault(&rt, alloc, "the root before additions", sequence, zero);
+    let first = alternative(alloc, "a", int(1, 0))?;
+    let second = list(alloc, AsnType::Null, any_size())?;
+    let alternatives = AsnType::Choice {
+        root: vec![in alloc; first]?,
+        ext: Some(vec![in alloc; alternative(alloc, "b", second)?]?),
+    };
+    expect_fault(
+        &rt,
+        alloc,
+        "alternatives before added ones",
+        alternatives,
+        empty,
+    );
+    let bottom = list(alloc, AsnType::Null, any_size())?;
+    let bottom = levels(alloc, 32, bottom)?;
+    expect_fault(&rt, alloc, "a list at the last level", bottom, zero);
+    let bottom = list(alloc, AsnType::Bool, any_size())?;
+    let bottom = levels(alloc, 32, bottom)?;
+    let deep = Some(TypeFault::TooDeep);
+    expect_fault(&rt, alloc, "its element past it", bottom, deep);
+    Ok(())
+}
+
+#[test]
+fn constructed_types_have_no_default(rt: HostRuntime) -> Result<(), Fail> {
+    let alloc = rt.alloc();
+    let bad = Some(TypeFault::BadDefault);
+    let none = Value::List(vec![in alloc]?);
+    let of_booleans = list(alloc, AsnType::Bool, any_size())?;
+    let ty = with_default(alloc, of_booleans, none)?;
+    expect_fault(&rt, alloc, "of SEQUENCE OF", ty, bad);
+    let chosen = Value::Choice(0, Box::new(alloc, Value::Null)?);
+    let ty = with_default(alloc, choice(alloc, &["a", "b"], None)?, chosen)?;
+    expect_fault(&rt, alloc, "of CHOICE", ty, bad);
+    Ok(())
+}

@@ -302,9 +302,9 @@ fn read_additions(
     };
     number(7, of_type, Why::Extension, bits)?;
     let some_present = Numbers {
-        low: 1,
+        low: 0,
         high: highest_bitmap(count),
-        except: None,
+        except: Some(0),
     };
     let bitmap = number(count, some_present, Why::Extension, bits)?;
     let mut left = count;
@@ -330,8 +330,9 @@ pub(crate) fn extension_bit(listed: bool, bits: &mut BitCursor<'_>) -> Result<bo
         return Err(Stop::Short);
     };
     if bit == 1 && !listed {
+        let left = bits_left(bits);
         return Err(Stop::Refused {
-            left: bits_left(bits),
+            left,
             why: Why::Extension,
         });
     }

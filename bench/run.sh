@@ -57,6 +57,8 @@ if ! cmp -s rattle.octets same.octets || ! cmp -s rattle.octets hand.octets || g
     exit 1
 fi
 
+if [ "$rounds" -eq 0 ]; then exit; fi
+
 # the measurements: the forms take turns, so that what else the machine does falls on all of them
 rm -f rattle.txt same.txt hand.txt tree.txt
 for ((done = 0; done < rounds; done += 5)); do

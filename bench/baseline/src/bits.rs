@@ -10,11 +10,7 @@ pub struct BitWriter {
 
 impl BitWriter {
     pub fn with_capacity(octets: usize) -> Self {
-        BitWriter {
-            octets: Vec::with_capacity(octets),
-            pending: 0,
-            count: 0,
-        }
+        BitWriter { octets: Vec::with_capacity(octets), pending: 0, count: 0 }
     }
 
     #[inline(always)]
@@ -313,8 +309,7 @@ impl<'a> BitReader<'a> {
     /// Whether only the zeros that fill the last octet are left.
     pub fn is_at_end(&self) -> bool {
         self.place.div_ceil(8) == self.octets.len()
-            && (self.place % 8 == 0
-                || self.octets[self.octets.len() - 1] << (self.place % 8) == 0)
+            && (self.place % 8 == 0 || self.octets[self.octets.len() - 1] << (self.place % 8) == 0)
     }
 }
 

@@ -49,22 +49,26 @@ fn agree(octets: &[u8], forms: [&dyn Fn(&[u8]) -> Option<Option<Vec<u8>>>; 2]) {
 
 #[test]
 fn both_forms_agree() {
-    agree(&Small::sample().encode().unwrap(), [
-        &|octets| Some(Small::decode(octets)?.encode()),
-        &|octets| Some(small::encode(&small::decode(octets)?)),
-    ]);
-    agree(&Wide::sample().encode().unwrap(), [
-        &|octets| Some(Wide::decode(octets)?.encode()),
-        &|octets| Some(wide::encode(&wide::decode(octets)?)),
-    ]);
-    agree(&Cam::sample().encode().unwrap(), [
-        &|octets| Some(Cam::decode(octets)?.encode()),
-        &|octets| Some(cam::encode(&cam::decode(octets)?)),
-    ]);
-    agree(&Bsm::sample().encode().unwrap(), [
-        &|octets| Some(Bsm::decode(octets)?.encode()),
-        &|octets| Some(bsm::encode(&bsm::decode(octets)?)),
-    ]);
+    agree(
+        &Small::sample().encode().unwrap(),
+        [&|octets| Some(Small::decode(octets)?.encode()), &|octets| {
+            Some(small::encode(&small::decode(octets)?))
+        }],
+    );
+    agree(
+        &Wide::sample().encode().unwrap(),
+        [&|octets| Some(Wide::decode(octets)?.encode()), &|octets| {
+            Some(wide::encode(&wide::decode(octets)?))
+        }],
+    );
+    agree(
+        &Cam::sample().encode().unwrap(),
+        [&|octets| Some(Cam::decode(octets)?.encode()), &|octets| Some(cam::encode(&cam::decode(octets)?))],
+    );
+    agree(
+        &Bsm::sample().encode().unwrap(),
+        [&|octets| Some(Bsm::decode(octets)?.encode()), &|octets| Some(bsm::encode(&bsm::decode(octets)?))],
+    );
 }
 
 #[test]

@@ -37,18 +37,11 @@ pub enum Value {
 }
 
 fn field(name: &str, ty: AsnType, need: Need) -> Field {
-    Field {
-        name: name.to_string(),
-        ty,
-        need,
-    }
+    Field { name: name.to_string(), ty, need }
 }
 
 fn integer(low: i64, high: i64) -> AsnType {
-    AsnType::Int(Bounds {
-        low: low.into(),
-        high: Some(high.into()),
-    })
+    AsnType::Int(Bounds { low: low.into(), high: Some(high.into()) })
 }
 
 pub fn small_type() -> AsnType {
@@ -62,11 +55,7 @@ pub fn small_type() -> AsnType {
 }
 
 pub fn small_value() -> Value {
-    Value::Seq(vec![
-        Some(Value::Int(5)),
-        Some(Value::Bool(true)),
-        Some(Value::Bool(true)),
-    ])
+    Value::Seq(vec![Some(Value::Int(5)), Some(Value::Bool(true)), Some(Value::Bool(true))])
 }
 
 pub fn wide_type() -> AsnType {
@@ -74,9 +63,7 @@ pub fn wide_type() -> AsnType {
         .iter()
         .enumerate()
         .map(|(place, row)| field(&format!("a{place}"), integer(row.0, row.1), Need::Must));
-    AsnType::Seq {
-        root: fields.collect(),
-    }
+    AsnType::Seq { root: fields.collect() }
 }
 
 pub fn wide_value() -> Value {
@@ -84,23 +71,16 @@ pub fn wide_value() -> Value {
 }
 
 fn strings(low: u32, high: u32) -> impl Iterator<Item = Field> {
-    (0..STRINGS).map(move |place| {
-        field(&format!("s{place}"), AsnType::Octets { low, high }, Need::Must)
-    })
+    (0..STRINGS).map(move |place| field(&format!("s{place}"), AsnType::Octets { low, high }, Need::Must))
 }
 
 fn string_values(source: &[u8]) -> impl Iterator<Item = Option<Value>> + '_ {
-    source
-        .windows(LENGTH)
-        .take(STRINGS)
-        .map(|part| Some(Value::Octets(part.to_vec())))
+    source.windows(LENGTH).take(STRINGS).map(|part| Some(Value::Octets(part.to_vec())))
 }
 
 pub fn shifted_type() -> AsnType {
     let flag = field("flag", AsnType::Bool, Need::Must);
-    AsnType::Seq {
-        root: std::iter::once(flag).chain(strings(0, 2000)).collect(),
-    }
+    AsnType::Seq { root: std::iter::once(flag).chain(strings(0, 2000)).collect() }
 }
 
 pub fn shifted_value(source: &[u8]) -> Value {
@@ -109,9 +89,7 @@ pub fn shifted_value(source: &[u8]) -> Value {
 }
 
 pub fn aligned_type() -> AsnType {
-    AsnType::Seq {
-        root: strings(1000, 1255).collect(),
-    }
+    AsnType::Seq { root: strings(1000, 1255).collect() }
 }
 
 pub fn aligned_value(source: &[u8]) -> Value {
@@ -204,11 +182,7 @@ pub fn encode(ty: &AsnType, value: &Value) -> Option<Vec<u8>> {
     if !fits(ty, value) {
         return None;
     }
-    let mut sink = BitSink {
-        octets: Vec::new(),
-        pending: 0,
-        count: 0,
-    };
+    let mut sink = BitSink { octets: Vec::new(), pending: 0, count: 0 };
     write(ty, value, &mut sink);
     if sink.octets.is_empty() && sink.count == 0 {
         sink.append(8, 0);
@@ -224,9 +198,7 @@ fn write(ty: &AsnType, value: &Value, sink: &mut BitSink) {
         (AsnType::Bool, Value::Bool(truth)) => sink.append(1, u128::from(*truth)),
         (AsnType::Int(bounds), Value::Int(number)) => {
             let offset = above(bounds.low, *number);
-            let Some(high) = bounds.high else {
-                unreachable!()
-            };
+            let Some(high) = bounds.high else { unreachable!() };
             sink.append(width(u128::from(above(bounds.low, high)) + 1), offset.into());
         }
         (AsnType::Octets { low, high }, Value::Octets(octets)) => {
@@ -342,9 +314,7 @@ fn read(ty: &AsnType, except: Option<&Value>, bits: &mut BitCursor) -> Option<Va
                 Some(Value::Int(number)) => Some(above(bounds.low, *number)),
                 _ => None,
             };
-            let Some(high) = bounds.high else {
-                unreachable!()
-            };
+            let Some(high) = bounds.high else { unreachable!() };
             let high = above(bounds.low, high);
             let offset = number(width(u128::from(high) + 1), high, except, bits)?;
             Some(Value::Int(bounds.low + i128::from(offset)))

@@ -400,12 +400,7 @@ pub struct Crumb {
 
 impl Crumb {
     fn put(&self, bits: &mut BitWriter) -> Option<()> {
-        bits.put_flags([
-            false,
-            self.speed.is_some(),
-            self.accuracy.is_some(),
-            self.heading.is_some(),
-        ]);
+        bits.put_flags([false, self.speed.is_some(), self.accuracy.is_some(), self.heading.is_some()]);
         bits.put_ranged::<-131072, 131071>(self.latitude)?;
         bits.put_ranged::<-131072, 131071>(self.longitude)?;
         bits.put_ranged::<-2048, 2047>(self.elevation)?;
@@ -639,13 +634,9 @@ impl VehicleData {
         }
         Some(VehicleData {
             height: bits.take_if(has_height, |bits| Some(bits.take(7)? as u8))?,
-            bumpers: bits.take_if(has_bumpers, |bits| {
-                Some((bits.take(7)? as u8, bits.take(7)? as u8))
-            })?,
+            bumpers: bits.take_if(has_bumpers, |bits| Some((bits.take(7)? as u8, bits.take(7)? as u8)))?,
             mass: bits.take_if(has_mass, |bits| Some(bits.take(8)? as u8))?,
-            trailer_weight: bits.take_if(has_weight, |bits| {
-                Some(bits.take_ranged::<0, 64255>()? as u16)
-            })?,
+            trailer_weight: bits.take_if(has_weight, |bits| Some(bits.take_ranged::<0, 64255>()? as u16))?,
         })
     }
 }
@@ -718,10 +709,7 @@ impl Bsm {
     pub fn sample() -> Self {
         let safety = Safety {
             events: Some(flags(13, 0b0_0000_0100_0000)),
-            history: Some(History {
-                status: None,
-                crumbs: CRUMBS.iter().map(Crumb::sample).collect(),
-            }),
+            history: Some(History { status: None, crumbs: CRUMBS.iter().map(Crumb::sample).collect() }),
             prediction: Some(Prediction { radius: -4120, confidence: 180 }),
             lights: Some(flags(9, 0b1_0000_0000)),
         };

@@ -24,11 +24,7 @@ impl Cam {
         bits.put(8, self.message_id.into());
         bits.put(32, self.station_id.into());
         bits.put(16, self.generation_delta_time.into());
-        bits.put_flags([
-            self.movement.is_some(),
-            self.low_frequency.is_some(),
-            self.special.is_some(),
-        ]);
+        bits.put_flags([self.movement.is_some(), self.low_frequency.is_some(), self.special.is_some()]);
         self.basic.put(&mut bits)?;
         self.high_frequency.put(&mut bits)?;
         if let Some(low) = &self.low_frequency {
@@ -183,9 +179,7 @@ pub type Speed = Measured<0, 16383, 1, 127>;
 pub type Acceleration = Measured<-160, 161, 0, 102>;
 pub type SteeringWheelAngle = Measured<-511, 512, 1, 127>;
 
-impl<const LOW: i64, const HIGH: i64, const LEAST: i64, const MOST: i64>
-    Measured<LOW, HIGH, LEAST, MOST>
-{
+impl<const LOW: i64, const HIGH: i64, const LEAST: i64, const MOST: i64> Measured<LOW, HIGH, LEAST, MOST> {
     #[inline]
     fn put(&self, bits: &mut BitWriter) -> Option<()> {
         bits.put_ranged::<LOW, HIGH>(self.value)?;
@@ -375,12 +369,7 @@ fn take_zones(bits: &mut BitReader) -> Option<Vec<ProtectedZone>> {
 
 impl ProtectedZone {
     fn put(&self, bits: &mut BitWriter) -> Option<()> {
-        bits.put_flags([
-            false,
-            self.expiry_time.is_some(),
-            self.radius.is_some(),
-            self.zone_id.is_some(),
-        ]);
+        bits.put_flags([false, self.expiry_time.is_some(), self.radius.is_some(), self.zone_id.is_some()]);
         match self.is_temporary {
             true => bits.put(8, 1 << 7),
             false => bits.put(1, 0),
@@ -588,12 +577,7 @@ pub struct Movement {
 
 impl Movement {
     fn put(&self, bits: &mut BitWriter) -> Option<()> {
-        bits.put_flags([
-            false,
-            self.accelerator.is_some(),
-            self.brake.is_some(),
-            self.automated,
-        ]);
+        bits.put_flags([false, self.accelerator.is_some(), self.brake.is_some(), self.automated]);
         if let Some(pedal) = self.accelerator {
             bits.put_ranged::<0, 101>(pedal)?;
         }
@@ -646,11 +630,7 @@ impl Cam {
                 path: PATH.iter().map(PathPoint::sample).collect(),
             }),
             special: None,
-            movement: Some(Movement {
-                accelerator: Some(23),
-                brake: Some(0),
-                automated: true,
-            }),
+            movement: Some(Movement { accelerator: Some(23), brake: Some(0), automated: true }),
         }
     }
 }
@@ -683,11 +663,6 @@ impl VehicleHigh {
 
 impl PathPoint {
     fn sample(row: &(i32, i32, i16, i64)) -> Self {
-        PathPoint {
-            latitude: row.0,
-            longitude: row.1,
-            altitude: row.2,
-            time: (row.3 != 0).then_some(row.3),
-        }
+        PathPoint { latitude: row.0, longitude: row.1, altitude: row.2, time: (row.3 != 0).then_some(row.3) }
     }
 }

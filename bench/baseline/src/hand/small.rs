@@ -9,11 +9,7 @@ pub struct Small {
 
 impl Small {
     pub fn sample() -> Self {
-        Small {
-            id: 5,
-            ok: true,
-            flag: Some(true),
-        }
+        Small { id: 5, ok: true, flag: Some(true) }
     }
 
     /// The octets, or `None` where the number is out of its range.
@@ -47,10 +43,6 @@ impl Small {
             true => Some(bits.take(1)? == 1),
             false => None,
         };
-        bits.is_at_end().then_some(Small {
-            id,
-            ok: !has_ok,
-            flag,
-        })
+        bits.is_at_end().then_some(Small { id, ok: !has_ok, flag })
     }
 }

@@ -17,10 +17,7 @@ impl<const FLAGGED: bool, const LOW: usize, const HIGH: usize> Strings<FLAGGED, 
     const WIDTH: u32 = width(LOW as i64, HIGH as i64);
 
     pub fn sample(source: &[u8]) -> Self {
-        Strings {
-            flag: true,
-            strings: std::array::from_fn(|place| source[place..place + LENGTH].to_vec()),
-        }
+        Strings { flag: true, strings: std::array::from_fn(|place| source[place..place + LENGTH].to_vec()) }
     }
 
     /// The octets, or `None` where a length is out of its range.

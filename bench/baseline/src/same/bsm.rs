@@ -108,10 +108,7 @@ fn take_core(bits: &mut BitReader) -> Option<Value> {
         Some(bits.take_int::<-126, 127>()?),
         Some(take_acceleration(bits)?),
         Some(take_brakes(bits)?),
-        Some(Value::Seq(vec![
-            Some(bits.take_int::<0, 1023>()?),
-            Some(bits.take_int::<0, 4095>()?),
-        ])),
+        Some(Value::Seq(vec![Some(bits.take_int::<0, 1023>()?), Some(bits.take_int::<0, 4095>()?)])),
     ]))
 }
 
@@ -238,13 +235,7 @@ fn take_part(bits: &mut BitReader) -> Option<Value> {
 /// Writes VehicleSafetyExtensions.
 fn put_safety(bits: &mut BitWriter, value: &Value) -> Option<()> {
     let [events, history, prediction, lights] = value.entries()?;
-    bits.put_flags([
-        false,
-        events.is_some(),
-        history.is_some(),
-        prediction.is_some(),
-        lights.is_some(),
-    ]);
+    bits.put_flags([false, events.is_some(), history.is_some(), prediction.is_some(), lights.is_some()]);
     if let Some(events) = events {
         bits.put_marked_bits::<13>(events)?;
     }
@@ -285,10 +276,7 @@ fn put_prediction(bits: &mut BitWriter, value: &Value) -> Option<()> {
 
 fn take_prediction(bits: &mut BitReader) -> Option<Value> {
     bits.take_constant(1, 0)?;
-    Some(Value::Seq(vec![
-        Some(bits.take_int::<-32767, 32767>()?),
-        Some(bits.take_int::<0, 200>()?),
-    ]))
+    Some(Value::Seq(vec![Some(bits.take_int::<-32767, 32767>()?), Some(bits.take_int::<0, 200>()?)]))
 }
 
 /// Writes PathHistory.
@@ -460,12 +448,7 @@ fn take_codes(bits: &mut BitReader) -> Option<Value> {
 /// Writes SupplementalVehicleExtensions.
 fn put_supplemental(bits: &mut BitWriter, value: &Value) -> Option<()> {
     let [classification, vehicle, weather] = value.entries()?;
-    bits.put_flags([
-        false,
-        classification.is_some(),
-        vehicle.is_some(),
-        weather.is_some(),
-    ]);
+    bits.put_flags([false, classification.is_some(), vehicle.is_some(), weather.is_some()]);
     if let Some(classification) = classification {
         bits.put_int::<0, 255>(classification)?;
     }
@@ -493,13 +476,7 @@ fn take_supplemental(bits: &mut BitReader) -> Option<Value> {
 /// Writes VehicleData.
 fn put_vehicle(bits: &mut BitWriter, value: &Value) -> Option<()> {
     let [height, bumpers, mass, weight] = value.entries()?;
-    bits.put_flags([
-        false,
-        height.is_some(),
-        bumpers.is_some(),
-        mass.is_some(),
-        weight.is_some(),
-    ]);
+    bits.put_flags([false, height.is_some(), bumpers.is_some(), mass.is_some(), weight.is_some()]);
     if let Some(height) = height {
         bits.put_int::<0, 127>(height)?;
     }
@@ -527,10 +504,7 @@ fn take_vehicle(bits: &mut BitReader) -> Option<Value> {
     Some(Value::Seq(vec![
         bits.take_if(has_height, BitReader::take_int::<0, 127>)?,
         bits.take_if(has_bumpers, |bits| {
-            Some(Value::Seq(vec![
-                Some(bits.take_int::<0, 127>()?),
-                Some(bits.take_int::<0, 127>()?),
-            ]))
+            Some(Value::Seq(vec![Some(bits.take_int::<0, 127>()?), Some(bits.take_int::<0, 127>()?)]))
         })?,
         bits.take_if(has_mass, BitReader::take_int::<0, 255>)?,
         bits.take_if(has_weight, BitReader::take_int::<0, 64255>)?,
@@ -542,13 +516,7 @@ fn put_weather(bits: &mut BitWriter, value: &Value) -> Option<()> {
     let [Some(rain), rate, situation, friction, road] = value.entries()? else {
         return None;
     };
-    bits.put_flags([
-        false,
-        rate.is_some(),
-        situation.is_some(),
-        friction.is_some(),
-        road.is_some(),
-    ]);
+    bits.put_flags([false, rate.is_some(), situation.is_some(), friction.is_some(), road.is_some()]);
     bits.put_enum::<3>(rain)?;
     if let Some(rate) = rate {
         bits.put_int::<0, 65535>(rate)?;
@@ -591,10 +559,7 @@ pub fn sample() -> Value {
         Some(integers([-4120, 180])),
         Some(flags(9, 0b1_0000_0000)),
     ]);
-    let parts = vec![
-        Value::Choice(0, Box::new(safety)),
-        Value::Choice(2, Box::new(supplemental_sample())),
-    ];
+    let parts = vec![Value::Choice(0, Box::new(safety)), Value::Choice(2, Box::new(supplemental_sample()))];
     Value::Seq(vec![
         Some(core_sample()),
         Some(Value::List(parts)),
@@ -646,22 +611,8 @@ fn history_sample() -> Value {
 }
 
 fn supplemental_sample() -> Value {
-    let vehicle = vec![
-        Some(Value::Int(31)),
-        Some(integers([50, 52])),
-        Some(Value::Int(65)),
-        None,
-    ];
-    let weather = vec![
-        Some(Value::Enum(0)),
-        Some(Value::Int(140)),
-        Some(Value::Enum(10)),
-        Some(Value::Int(62)),
-        None,
-    ];
-    Value::Seq(vec![
-        Some(Value::Int(20)),
-        Some(Value::Seq(vehicle)),
-        Some(Value::Seq(weather)),
-    ])
+    let vehicle = vec![Some(Value::Int(31)), Some(integers([50, 52])), Some(Value::Int(65)), None];
+    let weather =
+        vec![Some(Value::Enum(0)), Some(Value::Int(140)), Some(Value::Enum(10)), Some(Value::Int(62)), None];
+    Value::Seq(vec![Some(Value::Int(20)), Some(Value::Seq(vehicle)), Some(Value::Seq(weather))])
 }

@@ -141,10 +141,7 @@ fn take_basic(bits: &mut BitReader) -> Option<Value> {
         Some(bits.take_int::<0, 4095>()?),
         Some(bits.take_int::<0, 3601>()?),
     ]);
-    let altitude = Value::Seq(vec![
-        Some(bits.take_int::<-100000, 800001>()?),
-        Some(bits.take_enum::<16>()?),
-    ]);
+    let altitude = Value::Seq(vec![Some(bits.take_int::<-100000, 800001>()?), Some(bits.take_enum::<16>()?)]);
     let position = Value::Seq(vec![Some(latitude), Some(longitude), Some(ellipse), Some(altitude)]);
     Some(Value::Seq(vec![Some(station), Some(position)]))
 }
@@ -218,10 +215,7 @@ fn put_measured<const LOW: i64, const HIGH: i64, const LEAST: i64, const MOST: i
 fn take_measured<const LOW: i64, const HIGH: i64, const LEAST: i64, const MOST: i64>(
     bits: &mut BitReader,
 ) -> Option<Value> {
-    Some(Value::Seq(vec![
-        Some(bits.take_int::<LOW, HIGH>()?),
-        Some(bits.take_int::<LEAST, MOST>()?),
-    ]))
+    Some(Value::Seq(vec![Some(bits.take_int::<LOW, HIGH>()?), Some(bits.take_int::<LEAST, MOST>()?)]))
 }
 
 /// Writes a SEQUENCE of a value from LOW to HIGH and one of `ITEMS` confidences.
@@ -238,13 +232,8 @@ fn put_graded<const LOW: i64, const HIGH: i64, const ITEMS: i64>(
 }
 
 #[inline]
-fn take_graded<const LOW: i64, const HIGH: i64, const ITEMS: i64>(
-    bits: &mut BitReader,
-) -> Option<Value> {
-    Some(Value::Seq(vec![
-        Some(bits.take_int::<LOW, HIGH>()?),
-        Some(bits.take_enum::<ITEMS>()?),
-    ]))
+fn take_graded<const LOW: i64, const HIGH: i64, const ITEMS: i64>(bits: &mut BitReader) -> Option<Value> {
+    Some(Value::Seq(vec![Some(bits.take_int::<LOW, HIGH>()?), Some(bits.take_enum::<ITEMS>()?)]))
 }
 
 fn put_acceleration(bits: &mut BitWriter, value: &Value) -> Option<()> {
@@ -377,8 +366,7 @@ fn take_zones(bits: &mut BitReader) -> Option<Value> {
 
 /// Writes ProtectedZone.
 fn put_zone(bits: &mut BitWriter, value: &Value) -> Option<()> {
-    let [Some(Value::Enum(kind)), time, Some(latitude), Some(longitude), radius, id] =
-        value.entries()?
+    let [Some(Value::Enum(kind)), time, Some(latitude), Some(longitude), radius, id] = value.entries()?
     else {
         return None;
     };
@@ -522,10 +510,7 @@ fn take_transport(bits: &mut BitReader) -> Option<Value> {
     let has_activation = bits.take_flag()?;
     let embarkation = bits.take_bool()?;
     let activation = bits.take_if(has_activation, |bits| {
-        Some(Value::Seq(vec![
-            Some(bits.take_int::<0, 255>()?),
-            Some(bits.take_octet_string::<1, 20>()?),
-        ]))
+        Some(Value::Seq(vec![Some(bits.take_int::<0, 255>()?), Some(bits.take_octet_string::<1, 20>()?)]))
     })?;
     Some(Value::Seq(vec![Some(embarkation), activation]))
 }
@@ -561,11 +546,7 @@ fn take_emergency(bits: &mut BitReader) -> Option<Value> {
 
 /// A car that follows a bend.
 pub fn sample() -> Value {
-    let movement = vec![
-        Some(Value::Int(23)),
-        Some(Value::Int(0)),
-        Some(Value::Bool(true)),
-    ];
+    let movement = vec![Some(Value::Int(23)), Some(Value::Int(0)), Some(Value::Bool(true))];
     let parameters = vec![
         Some(basic_sample()),
         Some(Value::Choice(0, Box::new(vehicle_sample()))),
@@ -619,9 +600,5 @@ fn low_sample() -> Value {
         let time = (*time != 0).then_some(Value::Int((*time).into()));
         Value::Seq(vec![Some(position), time])
     });
-    Value::Seq(vec![
-        Some(Value::Enum(0)),
-        Some(flags(8, 0b1000_1000)),
-        Some(Value::List(path.collect())),
-    ])
+    Value::Seq(vec![Some(Value::Enum(0)), Some(flags(8, 0b1000_1000)), Some(Value::List(path.collect()))])
 }

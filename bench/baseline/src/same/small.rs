@@ -3,11 +3,7 @@ use crate::bits::{BitReader, BitWriter};
 use crate::value::Value;
 
 pub fn sample() -> Value {
-    Value::Seq(vec![
-        Some(Value::Int(5)),
-        Some(Value::Bool(true)),
-        Some(Value::Bool(true)),
-    ])
+    Value::Seq(vec![Some(Value::Int(5)), Some(Value::Bool(true)), Some(Value::Bool(true))])
 }
 
 /// The octets, or `None` where this is no value of the type.

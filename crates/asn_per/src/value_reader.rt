@@ -75,9 +75,7 @@ pub(crate) fn read(alloc: Global, ty: &AsnType, bits: &mut BitCursor<'_>) -> Res
                     Ok(chosen(alloc, place, value)?)
                 }
                 Index::Added(place) => {
-                    let Some(additions) = ext else {
-                        unreachable!()
-                    };
+                    let Some(additions) = ext else { unreachable!() };
                     let value = read_added_alternative(alloc, additions, place, bits)?;
                     Ok(chosen(alloc, known + place, value)?)
                 }

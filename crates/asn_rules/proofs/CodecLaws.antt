@@ -1,5 +1,5 @@
 -- What a decoder answers to octets of which something is known.
-use Rattle.std.proofs.Common.{◌≡◌, ◌≢◌, ◌≤◌, ◌<◌, ◌⊎◌, ◌↔◌, ℕ, List, [], ◌∷◌, ◌++◌, length, take, drop, inl, inr, ⊎_elim, refl, sym, ◌∙◌, ap, subst, length-append, arith}
+use Rattle.std.proofs.Common.{◌≡◌, ◌≢◌, ◌≤◌, ◌<◌, ◌⊎◌, ◌↔◌, ℕ, suc, List, [], ◌∷◌, ◌++◌, get_or, length, take, drop, inl, inr, ⊎_elim, refl, sym, ◌∙◌, ap, subst, length-append, arith}
 use Rattle.std.specs.Prelude.{Result, Ok, Err, ⊤}
 use Rattle.std.proofs.Math.Seq.{take-length, take-append_seam}
 use Rattle.std.proofs.Math.Nat.{le-min, min-le_left}
@@ -22,6 +22,13 @@ use Rattle.asn_rules.specs.Live.{Begins, BeginsProperly}
 use Rattle.asn_rules.specs.Reading.{RulesTell}
 use Rattle.asn_rules.proofs.Beginnings.{beginnings_live}
 use Rattle.asn_rules.proofs.OneAnswer.{one_answer}
+
+-- ---- the octets of a program
+
+-- numbers of which each is below 256 are octets, as what a slice or a vector of u8 holds
+pub each_octet : (os : List ℕ) → ((i : ℕ) → get_or os i 0 < 256) → AreOctets os
+each_octet [] h = tt
+each_octet (o ∷ os) h = (h 0, each_octet os (λ i. h (suc i)))
 
 -- ---- what a result tells
 

@@ -1,5 +1,5 @@
 -- Octets for which a decoder gives no value are no message, and a message has one spelling in octets.
-use Rattle.std.proofs.Common.{◌≡◌, ◌≢◌, ◌≤◌, ℕ, List, length, take, Ok, Err, ⊎_elim, refl, subst, arith}
+use Rattle.std.proofs.Common.{◌≡◌, ◌≢◌, ◌≤◌, ℕ, List, length, Ok, Err, ⊎_elim, refl, subst, arith}
 use Rattle.asn_values.specs.Datum.{Datum}
 use Rattle.asn_values.specs.declared.value.Value.{Value}
 use Rattle.asn_values.specs.View.{datum_of}

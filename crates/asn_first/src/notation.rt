@@ -7,22 +7,23 @@ use std::alloc::{AllocError, Global};
 pub fn text_of(alloc: Global, ty: &AsnType, value: &Value) -> Result<String, AllocError> {
     let mut text = String::new(alloc);
     match (ty, value) {
-        (AsnType::Seq { root, ext }, Value::Seq(entries)) => {
-            put_sequence(&mut text, root, ext, entries)?
-        }
+        (AsnType::Seq { .. }, Value::Seq(entries)) => put_sequence(&mut text, ty, entries)?,
         _ => put_value(&mut text, ty, value)?,
     }
     Ok(text)
 }
 
-/// The components of a SEQUENCE that have a value, those of the root and then the additions.
+/// The components of a SEQUENCE that have a value, those of the root and then the additions; nothing
+/// where the type is no SEQUENCE.
 #[cycle(notation)]
 fn put_sequence(
     text: &mut String,
-    root: &[Field],
-    ext: &Option<Vec<Field>>,
+    ty: &AsnType,
     entries: &[Option<Value>],
 ) -> Result<(), AllocError> {
+    let AsnType::Seq { root, ext } = ty else {
+        return Ok(());
+    };
     let (ours, theirs) = entries.split_at(root.len().min(entries.len()));
     let is_first = put_components(text, root, ours, true)?;
     if let Some(more) = ext {
@@ -68,9 +69,7 @@ fn put_value(text: &mut String, ty: &AsnType, value: &Value) -> Result<(), Alloc
         Value::Utf8(string) => put_quoted(text, string),
         Value::Seq(entries) => {
             text.push_str("{ ")?;
-            if let AsnType::Seq { root, ext } = ty {
-                put_sequence(text, root, ext, entries)?;
-            }
+            put_sequence(text, ty, entries)?;
             text.push_str(" }")
         }
         Value::List(elements) => {
@@ -101,12 +100,7 @@ fn put_elements(text: &mut String, element: &AsnType, values: &[Value]) -> Resul
 /// The name of the alternative with a tag, a colon, and the value; the tag alone where the type has no
 /// such alternative.
 #[cycle(notation)]
-fn put_choice(
-    text: &mut String,
-    ty: &AsnType,
-    tag: u32,
-    chosen: &Value,
-) -> Result<(), AllocError> {
+fn put_choice(text: &mut String, ty: &AsnType, tag: u32, chosen: &Value) -> Result<(), AllocError> {
     let AsnType::Choice { root, ext } = ty else {
         return write!(text, "{tag}");
     };

@@ -110,8 +110,8 @@ fn field(alloc: Global, name: &str, ty: AsnType, need: Need) -> Result<Field, Al
 /// The value that `MESSAGE` encodes.
 fn composed_value(alloc: Global) -> Result<Value, AllocError> {
     let mut list = Vec::new(alloc);
-    for number in 100..120 {
-        list.push(Value::Int(number))?;
+    for number in 100..120u32 {
+        list.push(Value::Int(i128::from(number)))?;
     }
     let octets = Value::Octets(b"picks".to_vec(alloc)?);
     let pick = Value::Choice(1, Box::new(alloc, octets)?);

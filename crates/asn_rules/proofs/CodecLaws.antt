@@ -1,5 +1,5 @@
 -- What a decoder answers to octets of which something is known.
-use Rattle.std.proofs.Common.{◌≡◌, ◌≢◌, ◌≤◌, ◌<◌, ◌⊎◌, ◌↔◌, ℕ, List, [], ◌∷◌, ◌++◌, length, take, drop, inl, inr, ⊎_elim, refl, sym, ◌∙◌, ap, subst, length-append, arith}
+use Rattle.std.proofs.Common.{◌≡◌, ◌≤◌, ◌<◌, ◌⊎◌, ℕ, suc, List, [], ◌∷◌, ◌++◌, get_or, length, take, drop, inl, inr, ⊎_elim, refl, sym, ◌∙◌, ap, subst, length-append, arith}
 use Rattle.std.specs.Prelude.{Result, Ok, Err, ⊤}
 use Rattle.std.proofs.Math.Seq.{take-length, take-append_seam}
 use Rattle.std.proofs.Math.Nat.{le-min, min-le_left}
@@ -10,18 +10,24 @@ use Rattle.asn_values.specs.Shape.{Shape}
 use Rattle.asn_values.specs.Profile.{InProfile}
 use Rattle.asn_values.specs.View.{datum_of}
 use Rattle.asn_bits.proofs.GeneralLengths.{all_take}
-use Rattle.asn_rules.specs.declared.fault.EncodeFault.{EncodeFault}
 use Rattle.asn_rules.specs.declared.fault.EncodeFault.TheVariants as encode
 use Rattle.asn_rules.specs.declared.fault.DecodeFault.{DecodeFault}
 use Rattle.asn_rules.specs.declared.fault.DecodeFault.TheVariants as decode
 use Rattle.asn_rules.specs.Answer.{Ruling, IsEncoding, Told, done, refused, too_long, more, Answer, NoFront, LiveOctets, max_octets}
-use Rattle.asn_rules.specs.Codec.{NotEncoded, Decoded}
-use Rattle.asn_rules.specs.CodecLaws.{Encoded, DecodesTheEncoded, EncodesTheDecoded, OnlyMemoryIsWanting, EqualExactly, TellsTheRest, OneFront, RestFollowsOneFront, TellsTheCut, SayTheSame, DecodersAgree}
+use Rattle.asn_rules.specs.Codec.{Decoded}
+use Rattle.asn_rules.specs.CodecLaws.{Encoded, DecodesTheEncoded, EncodesTheDecoded, OnlyMemoryIsWanting, EqualExactly, TellsTheRest, RestFollowsOneFront, TellsTheCut, SayTheSame, DecodersAgree}
 use Rattle.asn_rules.specs.Laws.{AreOctets, RulesLaws}
 use Rattle.asn_rules.specs.Live.{Begins, BeginsProperly}
 use Rattle.asn_rules.specs.Reading.{RulesTell}
 use Rattle.asn_rules.proofs.Beginnings.{beginnings_live}
 use Rattle.asn_rules.proofs.OneAnswer.{one_answer}
+
+-- ---- the octets of a program
+
+-- numbers of which each is below 256 are octets, as what a slice or a vector of u8 holds
+pub each_octet : (os : List ℕ) → ((i : ℕ) → get_or os i 0 < 256) → AreOctets os
+each_octet [] h = tt
+each_octet (o ∷ os) h = (h 0, each_octet os (λ i. h (suc i)))
 
 -- ---- what a result tells
 

@@ -6,7 +6,7 @@ ghost use Rattle.asn_values.specs.Shape.{Shape};
 ghost use Rattle.asn_rules.specs.Answer.{Ruling};
 ghost use Rattle.asn_rules.specs.Chunks.{Chunk};
 ghost use Rattle.asn_rules.specs.CodecLaws.{DecodesTheEncoded, EncodesTheDecoded, OnlyMemoryIsWanting, EqualExactly, TellsTheRest, RestFollowsOneFront, TellsTheCut, DecodersAgree};
-ghost use Rattle.asn_rules.specs.Laws.{RulesLaws, WholesTell, LiveIsClosed, BeginningsAreLive, BeginningsAreNotRefused, OneAnswer};
+ghost use Rattle.asn_rules.specs.Laws.{AreOctets, RulesLaws, WholesTell, LiveIsClosed, BeginningsAreLive, BeginningsAreNotRefused, OneAnswer};
 ghost use Rattle.asn_rules.specs.Live.{Fielding};
 ghost use Rattle.asn_rules.specs.Reading.{RulesTell};
 
@@ -33,6 +33,11 @@ pub fn answers_exclude()
 pub fn beginnings_are_live()
     ensures live { (r : Ruling) → RulesTell r → BeginningsAreLive r }
     ensures not_refused { (r : Ruling) → RulesTell r → BeginningsAreNotRefused r }
+{}
+
+/// What a slice of `u8` holds are octets, as the laws ask of octets.
+pub fn are_octets(octets: &[u8])
+    ensures { AreOctets octets.now }
 {}
 
 /// What follows for every encoder that gives encodings of at most 2 ^ 28 - 1 octets, and says truly

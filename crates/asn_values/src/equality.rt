@@ -68,7 +68,7 @@ fn same_entries(left: &[Option<Value>], right: &[Option<Value>]) -> bool
 fn same_elements(left: &[Value], right: &[Value]) -> bool
     ensures { IsTrue result ↔ (map datum_of left.now ≡ map datum_of right.now) }
 {
-    if left.len() != right.len() {
+    if right.len() != left.len() {
         return false;
     }
     for (place, element) in left.iter().enumerate() {

@@ -8,7 +8,7 @@ use Rattle.asn_values.specs.Profile.{InProfile}
 use Rattle.asn_values.specs.View.{Part, fields_of, part_of_field}
 use Rattle.asn_values.specs.declared.types.Field.{Field}
 use Rattle.asn_bits.specs.Numbers.{bits}
-use Rattle.asn_bits.specs.Sets.{InSet, Meets}
+use Rattle.asn_bits.specs.Sets.{InSet}
 use Rattle.asn_bits.proofs.Octets.{length-digits}
 use Rattle.asn_bits.proofs.Unions.{set_meets}
 use Rattle.asn_bits.proofs.Widths.{lt-two_pow}
@@ -52,8 +52,8 @@ open_listed_inhabited (field name demand t fs) (suc b ∷ bs) good l =
 abbrev pub only : ℕ → Numbers
 only n = record { low = n; high = n; except = None }
 
-abbrev pub from_one : ℕ → Numbers
-from_one high = record { low = 1; high = high; except = None }
+abbrev pub not_zero : ℕ → Numbers
+not_zero high = record { low = 0; high = high; except = Some 0 }
 
 module _ (fs : Fields) (some : 0 < length (demands fs)) (few : length (demands fs) ≤ 64) (good : AreOfProfile fs) where
   abbrev n : ℕ
@@ -64,9 +64,6 @@ module _ (fs : Fields) (some : 0 < length (demands fs)) (few : length (demands f
   Bitmapped = Map behind_first (Then (SomePresent n) (λ b. OpenListed fs (bits n b)))
 
   -- the count of the additions
-  some_count : Meets (λ k. Admits (only (n - 1)) k) 0 7
-  some_count = set_meets 2 7 (n - 1) (omega arith, omega arith, tt) (omega (arith, few))
-
   same_count : Same (Plain (InSet 7 (λ k. Admits (only (n - 1)) k))) (AdditionCount n)
   same_count = same_set 2 7 (λ k h. omega (arith, h.0, h.1, some)) (λ k h. (omega (arith, h), omega (arith, h), tt))
 
@@ -75,11 +72,8 @@ module _ (fs : Fields) (some : 0 < length (demands fs)) (few : length (demands f
   two = omega (arith, some, lt-two_pow n)
 
   module _ (high : ℕ) (all : high + 1 ≡ 2 ^ n) where
-    some_bitmap : Meets (λ b. Admits (from_one high) b) 0 n
-    some_bitmap = set_meets 2 n 1 (omega arith, omega (arith, two, all), tt) two
-
-    same_bitmap : Same (Plain (InSet n (λ b. Admits (from_one high) b))) (SomePresent n)
-    same_bitmap = same_set 2 n (λ b h. (omega (arith, h.0), omega (arith, h.1, all))) (λ b h. (omega (arith, h.0), omega (arith, h.1, all), tt))
+    same_bitmap : Same (Plain (InSet n (λ b. Admits (not_zero high) b))) (SomePresent n)
+    same_bitmap = same_set 2 n (λ b h. (omega (arith, h.2), omega (arith, h.1, all))) (λ b h. (omega arith, omega (arith, h.1, all), λ e. omega (arith, h.0, e)))
 
   bitmap_follows : Follows (SomePresent n) (λ b. OpenListed fs (bits n b))
   bitmap_follows = record { follow = λ b cs h. open_listed_inhabited fs (bits n b) good (length-digits 2 n b) }
@@ -104,13 +98,13 @@ module _ (fs : Fields) (some : 0 < length (demands fs)) (few : length (demands f
 
   module _ (high : ℕ) (all : high + 1 ≡ 2 ^ n) where
     -- within the bitmap
-    bitmap_stops : (us : List ℕ) → LeadsStops per_fields (Plain (InSet n (λ b. Admits (from_one high) b))) us Bitmapped us
+    bitmap_stops : (us : List ℕ) → LeadsStops per_fields (Plain (InSet n (λ b. Admits (not_zero high) b))) us Bitmapped us
     bitmap_stops us =
         stops_on (leads_same per_fields us (same_bitmap high all)).stops
         (stops_on (stops_first per_fields us bitmap_follows) (leads_map per_fields behind_first (Then (SomePresent n) (λ b. OpenListed fs (bits n b))) us).stops)
 
     -- behind it
-    bitmap_leads : (b : ℕ) (us r : List ℕ) → Spells per_fields (Plain (InSet n (λ b. Admits (from_one high) b))) b us r → Leads per_fields (OpenListed fs (bits n b)) r (λ es. es) Bitmapped us
+    bitmap_leads : (b : ℕ) (us r : List ℕ) → Spells per_fields (Plain (InSet n (λ b. Admits (not_zero high) b))) b us r → Leads per_fields (OpenListed fs (bits n b)) r (λ es. es) Bitmapped us
     bitmap_leads b us r h =
         leads_on (leads_second {M = λ b. OpenListed fs (bits n b)} per_fields_part (set_lawful 2 n (λ b. (0 < b) × (b < 2 ^ n))) (same_spells (same_bitmap high all) h))
         (leads_map per_fields behind_first (Then (SomePresent n) (λ b. OpenListed fs (bits n b))) us)
@@ -146,11 +140,11 @@ module _ (fields : List Field) (some : 0 < length fields) (few : length fields �
         count_leads fs (rw each at some) (rw each at few) good k us r (rw e at h)
 
     -- within their presence bits
-    pub presence_stops_at : LeadsStops per_fields (Plain (InSet (length fields) (λ b. Admits (from_one high) b))) r (Additions fs) us
+    pub presence_stops_at : LeadsStops per_fields (Plain (InSet (length fields) (λ b. Admits (not_zero high) b))) r (Additions fs) us
     presence_stops_at = rw each (stops_on (bitmap_stops fs (rw each at some) (rw each at few) good high (rw each at all) r) counted.stops)
 
     -- behind them stand the open fields
-    pub added_starts : (before : List (Option Datum)) (b : ℕ) (vs : List ℕ) → Spells per_fields (Plain (InSet (length fields) (λ b. Admits (from_one high) b))) b r vs → AddedUpTo before fs us (map part_of_field fields) (length fields) b before vs
+    pub added_starts : (before : List (Option Datum)) (b : ℕ) (vs : List ℕ) → Spells per_fields (Plain (InSet (length fields) (λ b. Admits (not_zero high) b))) b r vs → AddedUpTo before fs us (map part_of_field fields) (length fields) b before vs
     added_starts before b vs g = record {
       of_profile = good;
       width = sym (length-map fields part_of_field);

@@ -103,24 +103,28 @@ module _ (root : Alternatives) where
       → ChosenBy root (marked_choice more) i v y → cs ≡ x ++ y → Choices root (marked_choice more) (chosen_value root (i, v)) cs
   marked_there more i v cs x y (inl b) c e = rw b.seen (record {
     source = inl (alternative b.value v);
-    spelt = record { side = inl (record {
-      value = alternative b.value v;
-      rest = b.rest ++ y;
-      spelt = record { source = (b.value, v); spelt = record { first = b.rest; second = y; spelt = b.spelt; follows = rw b.seen at c; whole = refl }; seen = refl };
-      seen = refl;
-      same = e ∙ ap (λ (l : List Chunk). l ++ y) b.same;
-    }) };
+    spelt = record {
+      side = inl (record {
+        value = alternative b.value v;
+        rest = b.rest ++ y;
+        spelt = record { source = (b.value, v); spelt = record { first = b.rest; second = y; spelt = b.spelt; follows = rw b.seen at c; whole = refl }; seen = refl };
+        seen = refl;
+        same = e ∙ ap (λ (l : List Chunk). l ++ y) b.same;
+      });
+    };
     seen = refl;
   })
   marked_there more i v cs x y (inr b) c e = rw b.seen (record {
     source = inr (alternative (count root + b.value) v);
-    spelt = record { side = inr (record {
-      value = alternative (count root + b.value) v;
-      rest = b.rest ++ y;
-      spelt = record { source = (b.value, v); spelt = record { first = b.rest; second = y; spelt = b.spelt; follows = rw b.seen at c; whole = refl }; seen = refl };
-      seen = refl;
-      same = e ∙ ap (λ (l : List Chunk). l ++ y) b.same;
-    }) };
+    spelt = record {
+      side = inr (record {
+        value = alternative (count root + b.value) v;
+        rest = b.rest ++ y;
+        spelt = record { source = (b.value, v); spelt = record { first = b.rest; second = y; spelt = b.spelt; follows = rw b.seen at c; whole = refl }; seen = refl };
+        seen = refl;
+        same = e ∙ ap (λ (l : List Chunk). l ++ y) b.same;
+      });
+    };
     seen = refl;
   })
 

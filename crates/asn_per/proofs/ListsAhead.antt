@@ -398,6 +398,20 @@ going_further {A} {L} {s} {us} {rest} {r} {t} {ahead} {new} {vs} {ws} {k} i law 
         rw x.3 (moved (lengths is (come + k) (nat_lt x.0 4)) (leads_on (leads_on (leads_same per_fields t (same_flip (left_ahead L is come k x.0 closed x.1 x.2))) (leads_rest L per_fields_part i law x.1 b)) l))))
         e.read
 
+-- ---- a list that comes in one row: its count stands in front of it, and no length
+
+module _ {A : Type 0} {L : A → List Chunk → Type 0} {s : SizeRange} {us rest : List ℕ} {n : ℕ} (good : IsSizeOfProfile s) (i : Inhabited L) (h : Spells per_fields (Start s) (items n) us rest) where
+  all_next : Next (items n) (Some n) end rest rest
+  all_next = record { advances = (refl, refl, refl) }
+
+  pub one_row_stops : LeadsStops per_fields (Row L n) rest (Sized s L) us
+  one_row_stops = going_row_stops i all_next (going_starts L s good h)
+
+  pub one_row : {vs : List A} {r : List ℕ} → Lawful L → Appends L n [] vs rest r → Spells per_fields (Sized s L) vs us r
+  one_row {vs} {r} law f =
+      let at_end : Next end None end r r = record { advances = refl } in
+      going_ends at_end (going_further i law all_next f (going_starts L s good h))
+
 -- ---- each step comes nearer to the end
 
 -- whether a step is left

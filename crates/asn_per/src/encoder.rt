@@ -163,9 +163,7 @@ fn write(alloc: Global, ty: &AsnType, value: &Value, sink: &mut BitSink) -> Resu
                 write_index(known, ext.is_some(), Index::Root(place), sink)?;
                 return write_alternative(alloc, root, place, chosen, sink);
             }
-            let Some(additions) = ext else {
-                unreachable!()
-            };
+            let Some(additions) = ext else { unreachable!() };
             write_index(known, true, Index::Added(place - known), sink)?;
             write_added_alternative(alloc, additions, place - known, chosen, sink)
         }

@@ -1,9 +1,9 @@
 //! CANONICAL-PER UNALIGNED (X.691): encoding and decoding of whole messages.
 #![tactic(auto)]
 
+mod alternatives;
 #[cfg(test)]
 mod composed_tests;
-mod alternatives;
 mod decoder;
 mod encoder;
 mod indexes;

@@ -1,11 +1,11 @@
 //! The reader of what stands in front of the items of a list under a size, and between them: counts and
 //! lengths.
-ghost use Rattle.std.specs.Prelude.{◌≡◌, [], true, false, IfOk, IfErr};
+ghost use Rattle.std.specs.Prelude.{◌≡◌, ◌≤◌, [], true, false, Some, IfOk, IfErr, IfSome, IsNone};
 ghost use Rattle.asn_values.specs.View.{size_range_of};
 ghost use Rattle.asn_rules.specs.Languages.{Spells};
 ghost use Rattle.asn_rules.specs.Stops.{Stops};
 ghost use Rattle.asn_per.specs.Per.{per_fields};
-ghost use Rattle.asn_per.specs.ListsAhead.{IsSizeOfProfile, RootStart, Start, Next, StopsNext, lengths, other_counts};
+ghost use Rattle.asn_per.specs.ListsAhead.{IsSizeOfProfile, items, RootStart, Start, Next, StopsNext, lengths, other_counts};
 ghost use Rattle.asn_per.specs.RowsAhead.{ahead_of, lengths_of, IsBetween};
 
 use crate::length_reader::next_length;
@@ -112,12 +112,37 @@ fn root_start(size: &Size, bits: &mut BitCursor<'_>) -> Result<Rows, Stop>
         };
         return Ok(Rows::Lengths(Lengths::new(counts, None)));
     };
-    let above = u64::from(high - size.low);
+    Ok(Rows::Items(root_count(size.low, high, bits)?))
+}
+
+/// Reads the count of a list of a root with these bounds.
+#[inline(always)]
+fn root_count(low: u32, high: u32, bits: &mut BitCursor<'_>) -> Result<usize, Stop>
+    requires { low ≤ high }
+    ensures done { IfOk result (λ n. Spells per_fields (RootStart low (Some high)) (items n) bits.old bits.new) }
+    ensures stop { IfErr result (λ why. Stops per_fields (RootStart low (Some high)) bits.old why) }
+{
+    let above = u64::from(high - low);
     let set = Numbers {
         low: 0,
         high: above,
         except: None,
     };
     let count = number(width(u128::from(above) + 1), set, Why::Length, bits)?;
-    Ok(Rows::Items(size.low as usize + count as usize))
+    Ok(low as usize + count as usize)
+}
+
+/// Reads the count of a list under a size with an upper bound and no extension mark; under any other size it
+/// reads nothing, and gives none.
+#[inline(always)]
+pub(crate) fn bounded_count(size: &Size, bits: &mut BitCursor<'_>) -> Result<Option<usize>, Stop>
+    requires of_profile { IsSizeOfProfile (size_range_of size.now) }
+    ensures done { IfOk result (λ count. IfSome count (λ n. Spells per_fields (Start (size_range_of size.now)) (items n) bits.old bits.new)) }
+    ensures none { IfOk result (λ count. IsNone count → bits.new ≡ bits.old) }
+    ensures stop { IfErr result (λ why. Stops per_fields (Start (size_range_of size.now)) bits.old why) }
+{
+    match size.high {
+        Some(high) if !size.ext => Ok(Some(root_count(size.low, high, bits)?)),
+        _ => Ok(None),
+    }
 }

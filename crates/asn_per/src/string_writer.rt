@@ -1,7 +1,7 @@
 //! Writers of strings: BIT STRING, OCTET STRING, the restricted character strings and UTF8String.
 ghost use Rattle.std.specs.Prelude.{◌≡◌, ◌++◌, List, OnOk, IfOk, length};
 ghost use Rattle.asn_values.specs.Datum.{bit_list, octet_list, characters, unicode};
-ghost use Rattle.asn_values.specs.Fits.{Fits, FitsLength, in_size};
+ghost use Rattle.asn_values.specs.Fits.{Fits, FitsLength};
 ghost use Rattle.asn_values.specs.Shape.{bit_string, octet_string, restricted, utf8_string};
 ghost use Rattle.asn_values.specs.View.{size_range_of, alphabet_of};
 ghost use Rattle.asn_rules.specs.Chunks.{Chunk, flat};
@@ -13,7 +13,7 @@ ghost use Rattle.asn_per.specs.StringItems.{item_chunks, AreOfKind, general_bits
 use crate::item_writer::{Items, count_of, write_items};
 use asn_bits::BitSink;
 use asn_bits::numbers::width;
-use asn_values::{Size, TextKind};
+use asn_values::{Size, TextKind, is_in_size};
 use std::alloc::AllocError;
 
 /// How many items a block of a fragment has.
@@ -87,7 +87,7 @@ pub(crate) fn push_count(size: &Size, count: usize, sink: &mut BitSink) -> Resul
     ensures { IfOk result (λ whole. (xs : List (List Chunk)) → length xs ≡ count
         → sink.new ++ behind_count whole xs ≡ sink.old ++ flat spelled (sized (size_range_of size.now) xs)) }
 {
-    let inside = is_in_root(size, count);
+    let inside = is_in_size(size, count);
     push_extension_bit(size.ext, !inside, sink)?;
     match size.high {
         Some(high) if inside => {
@@ -108,13 +108,6 @@ pub(crate) fn push_extension_bit(
     ensures { OnOk result (sink.new ≡ sink.old ++ extension_bit marked outside) }
 {
     if marked { sink.push(outside) } else { Ok(()) }
-}
-
-/// Whether the count lies in the root of the size.
-fn is_in_root(size: &Size, count: usize) -> bool
-    ensures { result ≡ in_size (size_range_of size.now) count }
-{
-    size.low as usize <= count && size.high.is_none_or(|high| count <= high as usize)
 }
 
 /// Writes items under their general length (X.691, "general length determinant").

@@ -75,9 +75,7 @@ pub(crate) fn read(alloc: Global, ty: &AsnType, bits: &mut BitCursor<'_>) -> Res
                     Ok(chosen(alloc, place, value)?)
                 }
                 Index::Added(place) => {
-                    let Some(additions) = ext else {
-                        unreachable!()
-                    };
+                    let Some(additions) = ext else { unreachable!() };
                     let value = read_added_alternative(alloc, additions, place, bits)?;
                     Ok(chosen(alloc, known + place, value)?)
                 }
@@ -304,9 +302,9 @@ fn read_additions(
     };
     number(7, of_type, Why::Extension, bits)?;
     let some_present = Numbers {
-        low: 1,
+        low: 0,
         high: highest_bitmap(count),
-        except: None,
+        except: Some(0),
     };
     let bitmap = number(count, some_present, Why::Extension, bits)?;
     let mut left = count;
@@ -332,8 +330,9 @@ pub(crate) fn extension_bit(listed: bool, bits: &mut BitCursor<'_>) -> Result<bo
         return Err(Stop::Short);
     };
     if bit == 1 && !listed {
+        let left = bits_left(bits);
         return Err(Stop::Refused {
-            left: bits_left(bits),
+            left,
             why: Why::Extension,
         });
     }

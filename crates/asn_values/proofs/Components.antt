@@ -11,15 +11,14 @@ use Rattle.asn_values.specs.declared.types.Bounds.{Bounds}
 use Rattle.asn_values.specs.declared.types.Item.{Item}
 use Rattle.asn_values.specs.declared.types.Size.{Size}
 use Rattle.asn_values.specs.declared.types.TextKind.{TextKind}
-use Rattle.asn_values.specs.declared.fault.TypeFault.{TypeFault}
 use Rattle.asn_values.specs.Shape.{Shape, Fields, Alternatives}
 use Rattle.asn_values.specs.Measures.{fields_depth, fields_nodes, choice_depth, choice_nodes}
 use Rattle.asn_values.specs.Profile.{some_field, some_alternative}
-use Rattle.asn_values.specs.Walk.{IsFaultless, Extent, of_type, of_types, beside, IsSoundWithin, IsFaultWithin}
+use Rattle.asn_values.specs.Walk.{IsFaultless, Extent, of_type, of_types, beside, IsSoundWithin}
 use Rattle.asn_values.specs.View.{shape_of, fields_of, part_of_field, alternatives_of, branch_of}
 use Rattle.asn_values.proofs.Views.{shape_of-Bool, shape_of-Null, shape_of-Int, shape_of-Enum, shape_of-Bits, shape_of-Octets, shape_of-Text, shape_of-Utf8, sequence_of_fields, list_of_elements, choice_of_alternatives}
 use Rattle.asn_values.proofs.Alternatives.{shape_of_branch}
-use Rattle.asn_values.proofs.Walks.{IsWalkedTo, goes_on, ends, fault_among, IsSimple, sound_simple, IsAround}
+use Rattle.asn_values.proofs.Walks.{IsWalkedTo, goes_on, ends, IsSimple, sound_simple, IsAround}
 
 -- the shape of a component's type
 pub shape_of_part : (x : Field) → (part_of_field x).shape ≡ shape_of x.ty
@@ -43,12 +42,6 @@ module _ {A : Type 0} (shape : A → Shape) (levels start left : ℕ) (parts : L
       IsWalkedTo levels start now (map shape parts) (map shape (drop (i + 1) parts))
   next_is_sound now x h e w s = goes_on levels start left now (map shape parts) (shape x) (map shape (drop (i + 1) parts)) (next_one x h e w) s
 
-  -- a fault of the next one is one of them all
-  pub next_has_fault : (f : TypeFault) (x : A) → i < length parts → x ≡ get_or parts i x →
-      IsWalkedTo levels start left (map shape parts) (map shape (drop i parts)) →
-      IsFaultWithin f levels left (of_type (shape x)) → IsFaultWithin f levels start (of_types (map shape parts))
-  next_has_fault f x h e w bad = fault_among f levels start left (map shape parts) (shape x) (map shape (drop (i + 1) parts)) (next_one x h e w) bad
-
   -- past the last
   pub all_passed : length parts ≤ i →
       IsWalkedTo levels start left (map shape parts) (map shape (drop i parts)) → IsSoundWithin levels start left (of_types (map shape parts))
@@ -70,7 +63,7 @@ types_of_fields [] = refl
 types_of_fields (f ∷ fs) =
     ap (λ t. beside (of_type t) (of_fields (fields_of (map part_of_field fs)))) (shape_of_part f) ∙ ap (beside (of_type (shape_of f.ty))) (types_of_fields fs)
 
--- a SEQUENCE is around them, those behind its extension mark last
+-- a SEQUENCE is around the types of its components, those behind its extension mark last
 pub sequence_around : (t : AsnType) (root : Vec Field Global) (ext : Option (Vec Field Global)) (fs : List Field) → t ≡ Seq root ext → fs ≡ root.items →
     IsAround (shape_of t) (beside (of_types (map (λ f. shape_of f.ty) fs)) (of_types (types_behind (λ f. shape_of f.ty) ext)))
 sequence_around t root None fs et ef = rw (sequence_of_fields t root None fs et ef) (record { same = rw (← types_of_fields fs) refl })
@@ -90,7 +83,7 @@ types_of_alternatives [] = refl
 types_of_alternatives (a ∷ alts) =
     ap (λ t. beside (of_type t) (of_alternatives (alternatives_of (map branch_of alts)))) (shape_of_branch a) ∙ ap (beside (of_type (shape_of a.ty))) (types_of_alternatives alts)
 
--- a CHOICE is around them, those behind its extension mark last
+-- a CHOICE is around the types of its alternatives, those behind its extension mark last
 pub choice_around : (t : AsnType) (root : Vec Alt Global) (ext : Option (Vec Alt Global)) (alts : List Alt) → t ≡ Choice root ext → alts ≡ root.items →
     IsAround (shape_of t) (beside (of_types (map (λ a. shape_of a.ty) alts)) (of_types (types_behind (λ a. shape_of a.ty) ext)))
 choice_around t root None alts et ea = rw (choice_of_alternatives t root None alts et ea) (record { same = rw (← types_of_alternatives alts) refl })

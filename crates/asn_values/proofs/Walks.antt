@@ -71,11 +71,6 @@ none_sound levels start = record { counted = omega arith; shallow = omega arith;
 pub ends : (levels start left : ℕ) (all : List Shape) → IsWalkedTo levels start left all [] → IsSoundWithin levels start left (of_types all)
 ends levels start left all w = w.sound left (none_sound levels left)
 
--- a fault of the next one is one of them all
-pub fault_among : (f : TypeFault) (levels start left : ℕ) (all : List Shape) (t : Shape) (rest : List Shape) →
-    IsWalkedTo levels start left all (t ∷ rest) → IsFaultWithin f levels left (of_type t) → IsFaultWithin f levels start (of_types all)
-fault_among f levels start left all t rest w h = w.fault f (fault_in_front f levels left (of_type t) (of_types rest) h)
-
 -- ---- a type around those inside it
 
 abbrev pub around : Shape → Extent → Extent

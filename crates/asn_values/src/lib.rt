@@ -24,6 +24,7 @@ pub use fault::TypeFault;
 pub use fitting::fits;
 pub use laws::defaults_are_judged;
 pub use ranges::is_between;
+pub use sizes::is_in_size;
 pub use types::{Alt, AsnType, Bounds, Field, Item, Need, Size, TextKind};
 pub use value::Value;
 

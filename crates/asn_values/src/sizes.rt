@@ -48,7 +48,7 @@ pub(crate) fn is_fixed(size: &Size) -> bool
 }
 
 /// Whether the length lies between the bounds, both counted in.
-fn is_between(size: &Size, length: usize) -> bool
+pub fn is_in_size(size: &Size, length: usize) -> bool
     ensures { result ≡ in_size (size_range_of size.now) length }
 {
     size.low as usize <= length && size.high.is_none_or(|high| length <= high as usize)
@@ -58,5 +58,5 @@ fn is_between(size: &Size, length: usize) -> bool
 pub(crate) fn length_fits(size: &Size, length: usize) -> bool
     ensures { IsTrue result ↔ FitsLength (size_range_of size.now) length }
 {
-    length <= MOST_ITEMS && (size.ext || is_between(size, length))
+    length <= MOST_ITEMS && (size.ext || is_in_size(size, length))
 }

@@ -10,7 +10,7 @@ use Rattle.asn_per.proofs.string_writer.push_count.Goals as goal
 pub push_number-requires-clause-fits : goal.push_number-requires-clause-fits
 push_number-requires-clause-fits c =
     let s = c.args.size.now in
-    let inside : in_size (size_range_of s) c.args.count ≡ true = sym c.is_in_root-inside.ensures ∙ c.if-inside.true in
+    let inside : in_size (size_range_of s) c.args.count ≡ true = sym c.is_in_size-inside.ensures ∙ c.if-inside.true in
     let values : c.from-values.result + 1 ≡ suc (c.in-Some.high - s.low) = omega (arith, c.from-values.ensures) in
     let low : c.args.count - c.from.result ≡ c.args.count - s.low = ap (λ n. c.args.count - n) c.from.ensures in
     subst (λ n. n < 2 ^ c.width.result) (sym low) (root_room s.low c.in-Some.high c.args.count c.width.result s.high s.ext c.in-Some.is inside (c.width.ensures.width ∙ ap width values))
@@ -18,7 +18,7 @@ push_number-requires-clause-fits c =
 pub returns-in_ok-push_number-in-Some : goal.returns-in_ok-push_number-in-Some
 returns-in_ok-push_number-in-Some c =
     let s = c.args.size.now in
-    let inside : in_size (size_range_of s) c.args.count ≡ true = sym c.is_in_root-inside.ensures ∙ c.if-inside.true in
+    let inside : in_size (size_range_of s) c.args.count ≡ true = sym c.is_in_size-inside.ensures ∙ c.if-inside.true in
     let values : c.from-values.result + 1 ≡ suc (c.in-Some.high - s.low) = omega (arith, c.from-values.ensures) in
     let low : c.args.count - c.from.result ≡ c.args.count - s.low = ap (λ n. c.args.count - n) c.from.ensures in
     let marked : c.push_extension_bit.new.sink ≡ c.args.sink.now ++ extension_bit s.ext false =

@@ -1,0 +1,28 @@
+#!/usr/bin/env bash
+# Prints how many instructions a message takes in each form, which other work on the machine does not change, once
+# run.sh has built the programs.
+#
+# usage: bash bench/count.sh encode|decode|build NAME
+#
+# BENCH_ROOM is that of run.sh. It needs valgrind.
+set -euo pipefail
+room=${BENCH_ROOM:-${TMPDIR:-/tmp}/asn-bench-$(id -u)}
+what=$1 name=$2
+cd "$room"
+# all instructions of so many rounds
+instructions() {
+    valgrind --tool=callgrind --callgrind-out-file=/dev/null "$@" 2>&1 >/dev/null | sed -n 's/.*Collected : //p'
+}
+case $name in
+small) times=200000 ;;
+wide | cam | bsm) times=20000 ;;
+*) times=500 ;;
+esac
+for form in rattle same hand tree; do
+    program=(target/release/baseline "$form")
+    if [ "$form" = rattle ]; then program=(crates/asn_bench/out/asn_bench); fi
+    if ! "${program[@]}" 0 | grep "^octets $name " >/dev/null; then continue; fi
+    once=$(instructions "${program[@]}" 1 "$what" "$name")
+    twice=$(instructions "${program[@]}" 2 "$what" "$name")
+    echo "$what $name $form $(((twice - once) / times))"
+done

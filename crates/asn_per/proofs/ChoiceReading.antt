@@ -1,13 +1,12 @@
 -- From the answers for an index and for a value of an alternative to those for a CHOICE, as the readers of the
 -- program ask for them.
-use Rattle.std.proofs.Common.{◌≡◌, ◌≢◌, ◌<◌, ◌≤◌, ◌+◌, ◌==◌, ◌⊎◌, inl, inr, ℕ, zero, suc, true, false, List, [], ◌∷◌, ◌++◌, map, length, get_or, Option, Some, None, Vec, Global, vec_len, refl, sym, ap, ◌∙◌, subst, arith}
+use Rattle.std.proofs.Common.{◌≡◌, ◌<◌, ◌+◌, ◌⊎◌, inl, inr, ℕ, zero, suc, List, [], ◌∷◌, ◌++◌, map, length, get_or, Option, Some, None, Vec, Global, vec_len, refl, sym, ap, ◌∙◌, subst, arith}
 use Rattle.std.specs.Option.{option_map}
 use Rattle.asn_values.specs.declared.types.Alt.{Alt}
 use Rattle.asn_values.specs.declared.types.AsnType.{AsnType}
 use Rattle.asn_values.specs.declared.types.AsnType as asn_type
 use Rattle.asn_values.specs.Datum.{Datum, alternative}
-use Rattle.asn_values.specs.Shape.{Shape, Alternatives, no_alternatives, one_of, MoreAlternatives, closed_choice, marked_choice, more_alternatives, choice, count}
-use Rattle.asn_values.specs.Fits.{Fits}
+use Rattle.asn_values.specs.Shape.{Alternatives, no_alternatives, one_of, MoreAlternatives, closed_choice, marked_choice, more_alternatives, choice, count}
 use Rattle.asn_values.specs.Profile.{InProfile}
 use Rattle.asn_values.specs.View.{shape_of, branch_of, alternatives_of, more_alternatives_of}
 use Rattle.asn_values.proofs.Alternatives.{shape_of_branch}
@@ -25,13 +24,13 @@ use Rattle.asn_rules.proofs.Then.{Follows}
 use Rattle.asn_per.specs.Indexes.{IndexesOf, index_at}
 use Rattle.asn_per.specs.declared.indexes.Index.{Index}
 use Rattle.asn_per.specs.declared.indexes.Index.TheVariants as an_index
-use Rattle.asn_per.specs.Kinds.{Values, OpenValues, Below, SmallBelow, of_either, Chosen, OpenChosen, RootChoices, AddedChoices, Choices}
-use Rattle.asn_per.specs.Per.{per, per_fields, an_open_field}
+use Rattle.asn_per.specs.Kinds.{OpenValues, Below, SmallBelow, of_either, Chosen, OpenChosen, RootChoices, AddedChoices, Choices}
+use Rattle.asn_per.specs.Per.{per, per_fields}
 use Rattle.asn_per.proofs.ChoiceLanguages.{choices_compose}
 use Rattle.asn_per.proofs.ChoiceTypes.{added_count, root_good, added_good, choice_shape, choice_good, known_count, more_count, added_alternatives}
 use Rattle.asn_per.proofs.IndexReading.{indexes_lawful}
 use Rattle.asn_per.proofs.LeftOut.{none_left_out}
-use Rattle.asn_per.proofs.OpenFieldLanguages.{open_values_spelled}
+use Rattle.asn_per.proofs.OpenFieldLanguages.{open_values_inhabited}
 use Rattle.asn_per.proofs.PerFields.{per_fields_part}
 
 -- ---- the alternative at a place
@@ -55,14 +54,9 @@ chosen_inhabited (one_of name t alts) zero good h = same_inhabited (same_flip (n
 chosen_inhabited (one_of name t alts) (suc i) good h = chosen_inhabited alts i good.1 (omega arith)
 
 -- and one in an open field
-open_inhabited : (t : Shape) → InProfile t → Inhabited (OpenValues t)
-open_inhabited t good =
-    let some = spelt_inhabited per t good in
-    same_inhabited (same_flip (open_values_spelled t good)) (record { value = some.value; chunks = an_open_field (per t some.value); spelt = record { fits = some.spelt.fits.0; same = refl } })
-
 open_chosen_inhabited : (alts : Alternatives) (i : ℕ) → AreAllOfProfile alts → i < count alts → Inhabited (OpenChosen alts i)
 open_chosen_inhabited no_alternatives i good h = absurd (omega arith)
-open_chosen_inhabited (one_of name t alts) zero good h = open_inhabited t good.0
+open_chosen_inhabited (one_of name t alts) zero good h = open_values_inhabited t good.0
 open_chosen_inhabited (one_of name t alts) (suc i) good h = open_chosen_inhabited alts i good.1 (omega arith)
 
 -- ---- the index, and behind it the value

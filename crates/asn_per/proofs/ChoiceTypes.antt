@@ -7,7 +7,7 @@ use Rattle.asn_values.specs.declared.types.AsnType.{AsnType}
 use Rattle.asn_values.specs.declared.types.AsnType as asn_type
 use Rattle.asn_values.specs.Shape.{Alternatives, MoreAlternatives, closed_choice, marked_choice, more_alternatives, choice, count}
 use Rattle.asn_values.specs.Parts.{AreAllOfProfile}
-use Rattle.asn_values.specs.Profile.{InProfile, EmptyRange, empty_range, some_alternative, some_more}
+use Rattle.asn_values.specs.Profile.{InProfile, EmptyRange, empty_range}
 use Rattle.asn_values.specs.View.{shape_of, branch_of, alternatives_of, more_alternatives_of}
 use Rattle.asn_values.proofs.Alternatives.{count-of, shape_of_branch}
 use Rattle.asn_values.proofs.InnerTypes.{root_alternatives_of_profile, added_alternatives_of_profile}

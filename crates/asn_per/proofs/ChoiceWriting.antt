@@ -1,5 +1,5 @@
 -- The bits of a CHOICE, as a writer puts them: an index, and the value of the alternative.
-use Rattle.std.proofs.Common.{◌≡◌, ◌≤◌, ◌<◌, ◌-◌, ℕ, zero, suc, Bool, true, false, inl, inr, List, [], ◌∷◌, ◌++◌, map, length, get_or, nat_lt, is_some, Option, Some, None, Vec, Global, vec_len, refl, sym, ap, ◌∙◌, subst, append_assoc, arith}
+use Rattle.std.proofs.Common.{◌≡◌, ◌≤◌, ◌<◌, ◌-◌, ℕ, zero, suc, Bool, true, false, inl, inr, List, [], ◌∷◌, ◌++◌, map, length, get_or, nat_lt, is_some, Option, Some, None, Vec, Global, vec_len, refl, sym, ap, ◌∙◌, append_assoc, arith}
 use Rattle.std.specs.Global.{Box}
 use Rattle.std.proofs.lemmas.Bool.{lt-ltb, le-ltb}
 use Rattle.asn_values.specs.declared.types.Alt.{Alt}
@@ -8,19 +8,19 @@ use Rattle.asn_values.specs.declared.types.AsnType as asn_type
 use Rattle.asn_values.specs.declared.value.Value.{Value}
 use Rattle.asn_values.specs.declared.value.Value.TheVariants as value
 use Rattle.asn_values.specs.Datum.{Datum, alternative}
-use Rattle.asn_values.specs.Shape.{Shape, Alternatives, MoreAlternatives, closed_choice, marked_choice, is_marked_choice, more_alternatives, choice, count}
+use Rattle.asn_values.specs.Shape.{Shape, Alternatives, MoreAlternatives, marked_choice, is_marked_choice, choice, count}
 use Rattle.asn_values.specs.Fits.{Fits, FitsAlternative, FitsMoreAlternatives, FitsChoice}
 use Rattle.asn_values.specs.View.{shape_of, datum_of, branch_of, alternatives_of, more_alternatives_of}
-use Rattle.asn_values.proofs.Alternatives.{shape_of_branch, fits_nowhere}
+use Rattle.asn_values.proofs.Alternatives.{shape_of_branch}
 use Rattle.asn_values.proofs.Views.{datum_of-Choice}
-use Rattle.asn_rules.specs.Chunks.{Chunk, ones, flat}
+use Rattle.asn_rules.specs.Chunks.{ones, flat}
 use Rattle.asn_rules.specs.Components.{extension_bit}
 use Rattle.asn_rules.proofs.Flat.{flat-append, flat-ones}
 use Rattle.asn_per.specs.Indexes.{index_bits}
 use Rattle.asn_per.specs.Laws.{per_bits}
-use Rattle.asn_per.specs.Per.{spelled, per, per_alternative, per_more, constrained, small, an_open_field}
+use Rattle.asn_per.specs.Per.{spelled, per, per_alternative, constrained, small, an_open_field}
 use Rattle.asn_per.proofs.Choices.{choice_chunks}
-use Rattle.asn_per.proofs.ChoiceTypes.{choice_shape, known_count, added_alternatives}
+use Rattle.asn_per.proofs.ChoiceTypes.{choice_shape, known_count}
 
 -- ---- the alternative at a place
 

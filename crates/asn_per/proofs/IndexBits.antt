@@ -1,5 +1,5 @@
 -- The bits of an index of the root or of the additions, as a writer puts them.
-use Rattle.std.proofs.Common.{◌≡◌, ◌≤◌, ◌<◌, ◌+◌, ◌⊎◌, ◌/◌, ◌%◌, ◌^◌, ℕ, suc, Bool, true, false, List, ◌∷◌, ◌++◌, nat_le, refl, sym, ap, ◌∙◌, arith}
+use Rattle.std.proofs.Common.{◌≡◌, ◌≤◌, ◌<◌, ◌+◌, ◌⊎◌, ◌/◌, ◌%◌, ◌^◌, ℕ, suc, Bool, true, false, List, ◌∷◌, ◌++◌, nat_le, sym, ap, ◌∙◌, arith}
 use Rattle.std.proofs.lemmas.Bool.{lt-ltb, le-leb}
 use Rattle.std.proofs.Math.Nat.{div-eq_of_lt, pow-le-pow_right}
 use Rattle.asn_bits.specs.Numbers.{bits, width}

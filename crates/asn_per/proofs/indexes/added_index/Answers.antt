@@ -1,4 +1,3 @@
-use Rattle.std.proofs.Common.{◌≡◌}
 use Rattle.std.proofs.lemmas.Result.{err_from_is_err_and}
 use Rattle.asn_rules.proofs.Leads.{stops_by}
 use Rattle.asn_per.proofs.IndexReading.{below_leads}

@@ -1,4 +1,4 @@
-use Rattle.std.proofs.Common.{◌≡◌, ◌∷◌, [], inl, inr, refl}
+use Rattle.std.proofs.Common.{◌≡◌, [], refl}
 use Rattle.std.proofs.lemmas.Result.{err_from_is_err_and}
 use Rattle.asn_rules.proofs.Leads.{stops_by}
 use Rattle.asn_per.proofs.IndexReading.{mark_wanted, one_refused, root_leads, zero_leads, is_one, one_leads}

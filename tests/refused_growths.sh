@@ -17,7 +17,7 @@ fail() {
 
 # ---- the calls of the libraries, each growth of the program's run refused in one case
 
-refused=400 # REFUSED of crates/asn_growths/src/main.rt
+refused=600 # REFUSED of crates/asn_growths/src/main.rt
 mkdir "$work/cases"
 for left in $(seq 1 $((refused - 1))); do
   echo "$left" >"$work/cases/$(printf %03d "$left")"

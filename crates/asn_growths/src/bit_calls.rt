@@ -122,7 +122,7 @@ pub fn octets_of_signed_numbers(alloc: Global) -> Result<Outcome, AllocError> {
 pub fn octets(alloc: Global) -> Result<Outcome, AllocError> {
     let mut sink = BitSink::new(alloc);
     let mut refused = false;
-    for _ in 0..TIMES {
+    for _ in 0..4 * TIMES {
         sink.push_number(4, 9)?;
         if sink.push_octets(b"\x81\x23\x45\x67").is_err() {
             refused = true;
@@ -130,7 +130,7 @@ pub fn octets(alloc: Global) -> Result<Outcome, AllocError> {
         }
         sink.push_number(4, 10)?;
     }
-    Ok(after(refused, holds(sink, TIMES, b"\x98\x12\x34\x56\x7a")))
+    Ok(after(refused, holds(sink, 4 * TIMES, b"\x98\x12\x34\x56\x7a")))
 }
 
 /// `take_octets`, three at a time from the middle of an octet on, behind others.
@@ -155,7 +155,7 @@ pub fn octets_taken(alloc: Global) -> Result<Outcome, AllocError> {
 /// `pad`, of the last bits of a word behind so many others: where their room ends, `pad` is what grows.
 pub fn paddings(alloc: Global) -> Result<Outcome, AllocError> {
     let mut refused = false;
-    for words in 0..10 {
+    for words in 0..TIMES {
         let mut sink = BitSink::new(alloc);
         sink.push_number(60, NUMBER >> 4)?;
         for _ in 0..words {

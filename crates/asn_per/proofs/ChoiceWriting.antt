@@ -1,5 +1,5 @@
 -- The bits of a CHOICE, as a writer puts them: an index, and the value of the alternative.
-use Rattle.std.proofs.Common.{◌≡◌, ◌≤◌, ◌<◌, ◌-◌, ℕ, zero, suc, Bool, true, false, inl, inr, List, [], ◌∷◌, ◌++◌, map, length, get_or, nat_lt, is_some, Option, Some, None, Vec, Global, vec_len, refl, sym, ap, ◌∙◌, append_assoc, arith}
+use Rattle.std.proofs.Common.{◌≡◌, ◌↔◌, ◌≤◌, ◌<◌, ◌-◌, ℕ, zero, suc, Bool, true, false, inl, inr, List, [], ◌∷◌, ◌++◌, map, length, get_or, nat_lt, is_some, Option, Some, None, Vec, Global, vec_len, refl, sym, ap, ◌∙◌, append_assoc, arith}
 use Rattle.std.specs.Global.{Box}
 use Rattle.std.proofs.lemmas.Bool.{lt-ltb, le-ltb}
 use Rattle.asn_values.specs.declared.types.Alt.{Alt}
@@ -9,9 +9,9 @@ use Rattle.asn_values.specs.declared.value.Value.{Value}
 use Rattle.asn_values.specs.declared.value.Value.TheVariants as value
 use Rattle.asn_values.specs.Datum.{Datum, alternative}
 use Rattle.asn_values.specs.Shape.{Shape, Alternatives, MoreAlternatives, marked_choice, is_marked_choice, choice, count}
-use Rattle.asn_values.specs.Fits.{Fits, FitsAlternative, FitsMoreAlternatives, FitsChoice}
+use Rattle.asn_values.specs.Fits.{Fits, FitsAlternative, FitsMoreAlternatives}
 use Rattle.asn_values.specs.View.{shape_of, datum_of, branch_of, alternatives_of, more_alternatives_of}
-use Rattle.asn_values.proofs.Alternatives.{shape_of_branch}
+use Rattle.asn_values.proofs.Alternatives.{shape_of_branch, fits_nowhere}
 use Rattle.asn_values.proofs.Views.{datum_of-Choice}
 use Rattle.asn_rules.specs.Chunks.{ones, flat}
 use Rattle.asn_rules.specs.Components.{extension_bit}
@@ -24,12 +24,7 @@ use Rattle.asn_per.proofs.ChoiceTypes.{choice_shape, known_count}
 
 -- ---- the alternative at a place
 
--- its values, and how they are spelt
-pub fits_there : (alts : List Alt) (i : ℕ) (d : Alt) (v : Datum) → i < length alts → FitsAlternative (alternatives_of (map branch_of alts)) i v → Fits (shape_of (get_or alts i d).ty) v
-fits_there [] i d v h f = absurd f
-fits_there (a ∷ alts) zero d v h f = rw (← shape_of_branch a) f
-fits_there (a ∷ alts) (suc i) d v h f = fits_there alts i d v (omega arith) f
-
+-- how its values are spelt
 pub spelled_there : (alts : List Alt) (i : ℕ) (d : Alt) (v : Datum) → i < length alts → per_alternative (alternatives_of (map branch_of alts)) i v ≡ per (shape_of (get_or alts i d).ty) v
 spelled_there [] i d v h = absurd (omega arith)
 spelled_there (a ∷ alts) zero d v h = ap (λ (t : Shape). per t v) (shape_of_branch a)
@@ -71,38 +66,33 @@ module _ (t : AsnType) (v : Value) (root : Vec Alt Global) (ext : Option (Vec Al
   view : datum_of v ≡ alternative tag (datum_of chosen.value)
   view = ap datum_of vs ∙ datum_of-Choice tag chosen
 
-  module _ (fits : Fits (shape_of t) (datum_of v)) where
-    fits_choice : FitsChoice (alternatives_of (map branch_of root.items)) (more_alternatives_of ext) tag (datum_of chosen.value)
-    fits_choice = rw (choice_shape t root ext is, view) at fits
+  -- a value of the alternative of the root is one of the CHOICE
+  pub root_fits : tag < n → (alts : List Alt) (w : Value) → alts ≡ root.items → w ≡ chosen.value
+      → FitsAlternative (alternatives_of (map branch_of alts)) tag (datum_of w) ↔ Fits (shape_of t) (datum_of v)
+  root_fits h alts w ea ew =
+      let inside : nat_lt tag (count (alternatives_of (map branch_of root.items))) ≡ true = rw (known_count root n en) (lt-ltb tag n h) in
+      rw (choice_shape t root ext is, view, ea, ew, inside) (λ f. f, λ f. f)
 
-    -- the value is one of the alternative of the root
-    pub root_fits : tag < n → (alts : List Alt) (w : Value) → alts ≡ root.items → w ≡ chosen.value → FitsAlternative (alternatives_of (map branch_of alts)) tag (datum_of w)
-    root_fits h alts w ea ew =
-        let inside : nat_lt tag (count (alternatives_of (map branch_of root.items))) ≡ true = rw (known_count root n en) (lt-ltb tag n h) in
-        rw (ea, ew) (rw inside at fits_choice)
+  module _ (h : n ≤ tag) where
+    outside : nat_lt tag (count (alternatives_of (map branch_of root.items))) ≡ false
+    outside = rw (known_count root n en) (le-ltb tag n h)
 
-    -- or of the addition
-    more_fits : n ≤ tag → FitsMoreAlternatives (more_alternatives_of ext) (tag - n) (datum_of chosen.value)
-    more_fits h =
-        let outside : nat_lt tag (count (alternatives_of (map branch_of root.items))) ≡ false = rw (known_count root n en) (le-ltb tag n h) in
-        rw (outside, known_count root n en) at fits_choice
+    -- and so is one of the addition
+    pub added_fits : (additions : Vec Alt Global) (more : List Alt) (w : Value) → ext ≡ Some additions → more ≡ additions.items → w ≡ chosen.value
+        → FitsAlternative (alternatives_of (map branch_of more)) (tag - n) (datum_of w) ↔ Fits (shape_of t) (datum_of v)
+    added_fits additions more w e em ew =
+        rw (choice_shape t root ext is, view, e, em, ew, outside, known_count root n en) (λ f. f, λ f. f)
 
-    pub added_fits : n ≤ tag → (additions : Vec Alt Global) (more : List Alt) (w : Value) → ext ≡ Some additions → more ≡ additions.items → w ≡ chosen.value → FitsAlternative (alternatives_of (map branch_of more)) (tag - n) (datum_of w)
-    added_fits h additions more w e em ew =
-        let there : FitsAlternative (alternatives_of (map branch_of additions.items)) (tag - n) (datum_of chosen.value) = rw e at (more_fits h) in
-        rw (em, ew) there
+    -- there is no value behind the last one
+    pub past_additions : (additions : Vec Alt Global) → ext ≡ Some additions → vec_len additions ≤ tag - n → Fits (shape_of t) (datum_of v) → ⊥
+    past_additions additions e far f =
+        fits_nowhere additions.items (tag - n) (datum_of chosen.value) (omega (arith, far, additions.ok.0)) ((added_fits additions additions.items chosen.value e refl refl).1 f)
 
-    -- of which there are some
-    pub mark_wanted : n ≤ tag → ext ≡ None → ⊥
-    mark_wanted h e = rw e at (more_fits h)
-
-    pub added_place : n ≤ tag → (additions : Vec Alt Global) (more : List Alt) → ext ≡ Some additions → more ≡ additions.items → tag - n < length more
-    added_place h additions more e em = place more (tag - n) (datum_of chosen.value) (added_fits h additions more chosen.value e em refl)
-      where
-        place : (alts : List Alt) (i : ℕ) (d : Datum) → FitsAlternative (alternatives_of (map branch_of alts)) i d → i < length alts
-        place [] i d f = absurd f
-        place (a ∷ alts) zero d f = omega arith
-        place (a ∷ alts) (suc i) d f = omega (arith, place alts i d f)
+    -- nor behind the root, where there is no mark
+    pub past_root : ext ≡ None → Fits (shape_of t) (datum_of v) → ⊥
+    past_root e f =
+        let g : FitsMoreAlternatives (more_alternatives_of ext) (tag - n) (datum_of chosen.value) = rw (choice_shape t root ext is, view, outside, known_count root n en) at f in
+        rw e at g
 
   -- what is written of an alternative of the root is the value
   pub root_written : tag < n → (alts : List Alt) (w : Value) (s one two : List ℕ) (marked : Bool) → alts ≡ root.items → w ≡ chosen.value → marked ≡ is_some ext

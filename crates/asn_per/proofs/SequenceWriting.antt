@@ -2,14 +2,16 @@
 use Rattle.std.proofs.Common.{◌≡◌, ◌≤◌, ◌-◌, ℕ, Bool, true, false, List, [], ◌∷◌, ◌++◌, length, map, take, drop, Option, Some, None, is_some, Vec, Global, refl, sym, ◌∙◌, ap, arith, append_assoc}
 use Rattle.std.specs.List.{list_all, list_any, Any, All}
 use Rattle.std.specs.Option.{option_map}
-use Rattle.std.proofs.lemmas.List.{append-nil}
+use Rattle.std.proofs.lemmas.List.{append-nil, length-map, take_all, drop_all}
 use Rattle.std.proofs.lemmas.List.Folds.{list_any-from_Any, list_any_none}
 use Rattle.asn_values.specs.Datum.{Datum, components, components_of}
 use Rattle.asn_values.specs.Shape.{Shape, Demand, must, optional, default, Fields, field, MoreFields, closed, marked, is_marked, demands, sequence}
 use Rattle.asn_values.specs.declared.types.Field.{Field}
 use Rattle.asn_values.specs.declared.value.Value.{Value}
+use Rattle.asn_values.specs.Fits.{Fits, FitsDemand, FitsEach}
 use Rattle.asn_values.specs.View.{Part, datum_of, fields_of, more_fields_of, part_of_field}
 use Rattle.asn_values.specs.Profile.{is_optional}
+use Rattle.asn_values.proofs.Entries.{each_length}
 use Rattle.asn_bits.specs.Numbers.{bits}
 use Rattle.asn_rules.specs.Chunks.{Chunk, ones, flat}
 use Rattle.asn_rules.specs.Components.{presence, any_present, extension_bit}
@@ -42,11 +44,11 @@ abbrev pub open_bits : Fields → List (Option Datum) → List ℕ
 open_bits fs es = flat spelled (per_open fs es)
 
 -- those written, and those left, which are OPTIONAL
-pub record Opened (before all_bits now : List ℕ) (left : List Part) (rest : List (Option Datum)) : Type 0 where
-  pub written : Written open_bits before all_bits now left rest
+pub record Opened (All : Type 0) (before all_bits now : List ℕ) (left : List Part) (rest : List (Option Datum)) : Type 0 where
+  pub written : Written open_bits All before all_bits now left rest
   pub optional : AreOptional (fields_of left)
 
-pub opened_starts : (before : List ℕ) (all : List Part) (entries : List (Option Datum)) → Left all entries → AreOptional (fields_of all) → Opened before (open_bits (fields_of all) entries) before all entries
+pub opened_starts : (before : List ℕ) (all : List Part) (entries : List (Option Datum)) → Left all entries → AreOptional (fields_of all) → Opened (FitsEach (fields_of all) entries) before (open_bits (fields_of all) entries) before all entries
 opened_starts before all entries h o = record { written = written_starts open_bits before all entries h; optional = o }
 
 -- the first of OPTIONAL components, and the others
@@ -59,21 +61,44 @@ first_optional p left o = go p.demand o
     go (default e) h = absurd (cc)
 
 -- an addition that is present
-pub opened_more : {before all_bits now new : List ℕ} {left : List Part} {p : Part} {rest : List (Option Datum)} {d : Datum}
-    → Opened before all_bits now (p ∷ left) (Some d ∷ rest) → new ≡ now ++ flat spelled (an_open_field (per p.shape d)) → Opened before all_bits new left rest
-opened_more {left = left} {p = p} {rest = rest} {d = d} h e =
+pub opened_more : {All : Type 0} {before all_bits now new : List ℕ} {left : List Part} {p : Part} {rest : List (Option Datum)} {d : Datum}
+    → Opened All before all_bits now (p ∷ left) (Some d ∷ rest) → Fits p.shape d → new ≡ now ++ flat spelled (an_open_field (per p.shape d)) → Opened All before all_bits new left rest
+opened_more {left = left} {p = p} {rest = rest} {d = d} h f e =
     let o = first_optional p left h.optional in
     let all : open_bits (fields_of (p ∷ left)) (Some d ∷ rest) ≡ flat spelled (an_open_field (per p.shape d)) ++ open_bits (fields_of left) rest =
     ap (λ (x : Demand). open_bits (field p.name x p.shape (fields_of left)) (Some d ∷ rest)) o.0 ∙ flat-append spelled (an_open_field (per p.shape d)) (per_open (fields_of left) rest) in
-    record { written = written_on (flat spelled (an_open_field (per p.shape d))) h.written all e; optional = o.1 }
+    record { written = written_on (flat spelled (an_open_field (per p.shape d))) h.written f all e; optional = o.1 }
 
 -- one that is absent
-pub opened_passes : {before all_bits now : List ℕ} {left : List Part} {p : Part} {rest : List (Option Datum)} {e : Option Datum}
-    → Opened before all_bits now (p ∷ left) (e ∷ rest) → e ≡ None → Opened before all_bits now left rest
-opened_passes {left = left} {p = p} {rest = rest} {e = e} h n = record {
-  written = written_past h.written (ap (λ (x : Option Datum). open_bits (fields_of (p ∷ left)) (x ∷ rest)) n);
-  optional = (first_optional p left h.optional).1;
-}
+pub opened_passes : {All : Type 0} {before all_bits now : List ℕ} {left : List Part} {p : Part} {rest : List (Option Datum)} {e : Option Datum}
+    → Opened All before all_bits now (p ∷ left) (e ∷ rest) → e ≡ None → Opened All before all_bits now left rest
+opened_passes {left = left} {p = p} {rest = rest} {e = e} h n =
+    let o = first_optional p left h.optional in
+    record {
+      written = written_past h.written (absent p.demand e o.0 n) (ap (λ (x : Option Datum). open_bits (fields_of (p ∷ left)) (x ∷ rest)) n);
+      optional = o.1;
+    }
+  where
+    absent : (demand : Demand) (e : Option Datum) → demand ≡ optional → e ≡ None → FitsDemand (λ d. Fits p.shape d) demand e
+    absent optional None k n = tt
+    absent must e k n = absurd (cc)
+    absent (default x) e k n = absurd (cc)
+    absent optional (Some d) k n = absurd (cc)
+
+-- where none is present, each entry is one of its addition
+pub none_fit : (parts : List Part) (es : List (Option Datum)) → AreOptional (fields_of parts) → length parts ≡ length es → any_present es ≡ false → FitsEach (fields_of parts) es
+none_fit [] [] o n e = tt
+none_fit [] (x ∷ es) o n e = absurd (omega (arith, n))
+none_fit (p ∷ parts) [] o n e = absurd (omega (arith, n))
+none_fit (p ∷ parts) (Some d ∷ es) o n e = absurd (cc)
+none_fit (p ∷ parts) (None ∷ es) o n e =
+    let w = first_optional p parts o in
+    (here p.demand w.0, none_fit parts es w.1 (omega (arith, n)) e)
+  where
+    here : (demand : Demand) → demand ≡ optional → FitsDemand (λ d. Fits p.shape d) demand None
+    here optional k = tt
+    here must k = absurd (cc)
+    here (default x) k = absurd (cc)
 
 -- ---- the additions
 
@@ -159,11 +184,19 @@ sequence_written before first middle now fs ext vs ours theirs m b s o h k p f c
     ∙ ap (λ (l : List (Option Datum)). before ++ (extension_bit (is_marked more) (any_present (drop n es)) ++ (root_bits root (take n es) ++ addition_bits more l))) (theirs_are fs vs theirs h)
     ∙ ap (λ (l : List ℕ). before ++ l) (sym (sequence_is root more es) ∙ sym (bits_of_parts s))
 
--- nothing stands behind the root without a mark
-pub unmarked_ends : (now : List ℕ) (ext : Option (Vec Field Global)) (es : List (Option Datum)) → ext ≡ None → now ≡ now ++ addition_bits (more_fields_of ext) es
-unmarked_ends now ext es none = sym (append-nil now) ∙ ap (λ (e : Option (Vec Field Global)). now ++ addition_bits (more_fields_of e) es) (sym none)
+-- its root alone, where there is no mark
+pub unmarked_written : {t : Shape} {d : Datum} (before now : List ℕ) (fs : List Field) (ext : Option (Vec Field Global)) (vs : List (Option Value))
+    → OfSequence t d (map part_of_field fs) (more_fields_of ext) (map (option_map datum_of) vs) → ext ≡ None → FitsEach (fields_of (map part_of_field fs)) (map (option_map datum_of) vs)
+    → now ≡ before ++ root_bits (fields_of (map part_of_field fs)) (map (option_map datum_of) vs) → now ≡ before ++ per_bits t d
+unmarked_written before now fs ext vs s none fits e =
+    let count : length fs ≡ length vs = simp length-map at (each_length (map part_of_field fs) (map (option_map datum_of) vs) fits) in
+    let front : vs ≡ take (length fs) vs = sym (take_all (length fs) vs (omega (arith, count))) in
+    let back : [] ≡ drop (length fs) vs = sym (drop_all (length fs) vs (omega (arith, count))) in
+    let start : before ≡ before ++ [] = sym (append-nil before) in
+    let end : now ≡ now ++ addition_bits (more_fields_of ext) [] = sym (append-nil now) ∙ ap (λ (x : Option (Vec Field Global)). now ++ addition_bits (more_fields_of x) []) (sym none) in
+    sequence_written before before now now fs ext vs vs [] false false s front back (ap is_some (sym none)) refl start e end
 
--- nor where no addition is present
+-- nothing stands behind the root where no addition is present
 pub none_ends : (now : List ℕ) (more : MoreFields) (es : List (Option Datum)) → any_present es ≡ false → now ≡ now ++ addition_bits more es
 none_ends now more es none = sym (append-nil now) ∙ ap (λ (l : List ℕ). now ++ l) (sym (nothing more))
   where

@@ -1,15 +1,15 @@
 -- What a SEQUENCE of the profile and a value of it are made of, as the program holds them.
-use Rattle.std.proofs.Common.{◌≡◌, ◌≤◌, false, List, length, map, take, drop, Option, Some, None, is_some, Vec, Global, nat_lt, refl, sym, ap, subst, ◌∙◌, arith}
+use Rattle.std.proofs.Common.{◌≡◌, ◌↔◌, ◌≤◌, ℕ, min, false, List, length, map, take, drop, Option, Some, None, is_some, Vec, Global, nat_lt, refl, sym, ap, subst, ◌∙◌}
 use Rattle.std.specs.Option.{option_map}
 use Rattle.std.proofs.lemmas.Bool.{ltb-false}
-use Rattle.std.proofs.lemmas.List.{length-map, length-take, take-map, drop-map}
+use Rattle.std.proofs.lemmas.List.{length-map, take-map, drop-map, take_min, drop_min}
 use Rattle.asn_values.specs.declared.types.AsnType.{AsnType, Seq}
 use Rattle.asn_values.specs.declared.types.Field.{Field}
 use Rattle.asn_values.specs.declared.value.Value.{Value}
 use Rattle.asn_values.specs.declared.value.Value.TheVariants as value
 use Rattle.asn_values.specs.Datum.{Datum, components, components_of}
-use Rattle.asn_values.specs.Shape.{Shape, Fields, MoreFields, sequence, marked, is_marked, demands}
-use Rattle.asn_values.specs.Fits.{Fits, FitsEach, FitsMore, FitsSequence}
+use Rattle.asn_values.specs.Shape.{Shape, Fields, MoreFields, sequence, closed, marked, is_marked, demands}
+use Rattle.asn_values.specs.Fits.{Fits, FitsEach, FitsSequence}
 use Rattle.asn_values.specs.Profile.{InProfile, TooMany, somewhere, too_many_here, most_components, most_nodes}
 use Rattle.asn_values.specs.Measures.{nodes}
 use Rattle.asn_values.specs.Parts.{AreOfProfile}
@@ -17,8 +17,7 @@ use Rattle.asn_values.specs.View.{Part, shape_of, datum_of, fields_of, more_fiel
 use Rattle.asn_values.proofs.Parts.{left_false, components_of_profile}
 use Rattle.asn_values.proofs.InnerTypes.{additions_optional, additions_of_profile}
 use Rattle.asn_values.proofs.Views.{component_list-components_of, sequence_of_fields, datum_of-Seq}
-use Rattle.asn_values.proofs.Entries.{length-demands}
-use Rattle.asn_rules.proofs.Entries.{each_length}
+use Rattle.asn_values.proofs.Entries.{length-demands, each_of_closed}
 use Rattle.asn_per.specs.Additions.{AreOptional}
 use Rattle.asn_per.specs.Laws.{per_bits}
 use Rattle.asn_per.proofs.MarkedSequences.{few_additions}
@@ -62,10 +61,16 @@ module _ {t : Shape} {d : Datum} {parts : List Part} {more : MoreFields} {entrie
   pub parts_of_profile : InProfile t → AreOfProfile (fields_of parts)
   parts_of_profile good = components_of_profile (fields_of parts) more (subst InProfile s.shape good)
 
-  pub entries_fit : Fits t d → FitsSequence (fields_of parts) more entries
-  entries_fit fits =
-      let here : Fits (sequence (fields_of parts) more) (components (components_of entries)) = subst (λ x. Fits (sequence (fields_of parts) more) x) s.datum (subst (λ x. Fits x d) s.shape fits) in
-      subst (FitsSequence (fields_of parts) more) (component_list-components_of entries) here
+  -- a value of the type is what fits its components and what stands behind them
+  pub entries_fit : FitsSequence (fields_of parts) more entries ↔ Fits t d
+  entries_fit = rw (s.shape, s.datum, component_list-components_of entries) (λ h. h, λ h. h)
+
+  -- one entry for each component, where there is no mark
+  pub unmarked_fits : more ≡ closed → FitsEach (fields_of parts) entries ↔ Fits t d
+  unmarked_fits none =
+      let both = each_of_closed (fields_of parts) entries in
+      let inner : FitsEach (fields_of parts) entries ↔ FitsSequence (fields_of parts) more entries = rw none both in
+      (λ h. entries_fit.0 (inner.0 h), λ h. inner.1 (entries_fit.1 h))
 
   pub bits_of_parts : per_bits t d ≡ per_bits (sequence (fields_of parts) more) (components (components_of entries))
   bits_of_parts = ap (λ x. per_bits x d) s.shape ∙ ap (per_bits (sequence (fields_of parts) more)) s.datum
@@ -81,21 +86,22 @@ module _ (fs : List Field) (vs : List (Option Value)) where
   pub theirs_are : (theirs : List (Option Value)) → theirs ≡ drop (length fs) vs → map (option_map datum_of) theirs ≡ drop (length (demands (fields_of (map part_of_field fs)))) (map (option_map datum_of) vs)
   theirs_are theirs e = ap (map (option_map datum_of)) e ∙ sym (drop-map (option_map datum_of) (length fs) vs) ∙ ap (λ k. drop k (map (option_map datum_of) vs)) (sym (count_of_fields fs))
 
-  module _ (more : MoreFields) (fits : FitsSequence (fields_of (map part_of_field fs)) more (map (option_map datum_of) vs)) where
-    -- there are as many entries as the root has components
-    pub enough_entries : length fs ≤ length vs
-    enough_entries =
-        let n = length (demands (fields_of (map part_of_field fs))) in
-        let all = map (option_map datum_of) vs in
-        omega (arith, each_length (fields_of (map part_of_field fs)) (take n all) fits.0, length-take n all, count_of_fields fs, length-map vs (option_map datum_of))
+  -- as far as there are entries, the first are the root's
+  pub first_ones : (ours : List (Option Value)) (n : ℕ) → n ≡ min (length fs) (length vs) → ours ≡ take n vs → ours ≡ take (length fs) vs
+  first_ones ours n e o = o ∙ ap (λ k. take k vs) e ∙ take_min (length fs) vs
 
-    -- those fit
-    pub ours_fit : (ours : List (Option Value)) → ours ≡ take (length fs) vs → FitsEach (fields_of (map part_of_field fs)) (map (option_map datum_of) ours)
-    ours_fit ours e = subst (FitsEach (fields_of (map part_of_field fs))) (sym (ours_are ours e)) fits.0
+  pub other_ones : (theirs : List (Option Value)) (n : ℕ) → n ≡ min (length fs) (length vs) → theirs ≡ drop n vs → theirs ≡ drop (length fs) vs
+  other_ones theirs n e o = o ∙ ap (λ k. drop k vs) e ∙ drop_min (length fs) vs
 
-    -- and so do the others
-    pub theirs_fit : (theirs : List (Option Value)) → theirs ≡ drop (length fs) vs → FitsMore more (map (option_map datum_of) theirs)
-    theirs_fit theirs e = subst (FitsMore more) (sym (theirs_are theirs e)) fits.1
+  -- a SEQUENCE with a mark has the values with one entry for each component and each addition
+  pub marked_fits : {t : Shape} {d : Datum} {more : MoreFields} (gs : List Field) → OfSequence t d (map part_of_field fs) more (map (option_map datum_of) vs) → more ≡ marked (fields_of (map part_of_field gs))
+      → (ours theirs : List (Option Value)) → ours ≡ take (length fs) vs → theirs ≡ drop (length fs) vs
+      → (FitsEach (fields_of (map part_of_field fs)) (map (option_map datum_of) ours) × FitsEach (fields_of (map part_of_field gs)) (map (option_map datum_of) theirs)) ↔ Fits t d
+  marked_fits {t} {d} gs s m ours theirs o h =
+      let root = fields_of (map part_of_field fs) in
+      let added = fields_of (map part_of_field gs) in
+      let both : FitsSequence root (marked added) (map (option_map datum_of) vs) ↔ Fits t d = subst (λ x. FitsSequence root x (map (option_map datum_of) vs) ↔ Fits t d) m (entries_fit s) in
+      rw (ours_are ours o, theirs_are theirs h) both
 
 -- ---- the additions
 

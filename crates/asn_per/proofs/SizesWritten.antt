@@ -65,7 +65,7 @@ root_written low high count w h m old mid new e i f a b xs l =
 last_items : (n : ℕ) → n < 16384 → (first_length n).items ≡ n
 last_items n l = (let t : nat_lt n 16384 ≡ true = lt-ltb n 16384 l in rw (first_length, t) refl)
 
-fragment_items : (n : ℕ) → 16384 ≤ n → (first_length n).items ≡ 16384 * blocks n
+pub fragment_items : (n : ℕ) → 16384 ≤ n → (first_length n).items ≡ 16384 * blocks n
 fragment_items n l = ap (λ (f : Length). f.items) (first_fragment n l)
 
 -- no more than there are

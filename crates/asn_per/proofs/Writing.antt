@@ -1,17 +1,20 @@
 -- Where the loops of the encoder over the components of a SEQUENCE stand.
-use Rattle.std.proofs.Common.{◌≡◌, ◌⊎◌, ◌≤◌, ◌<◌, ◌+◌, ◌*◌, ◌^◌, ℕ, suc, Bool, true, false, List, [], ◌∷◌, ◌++◌, length, map, drop, get_or, Option, Some, None, inl, inr, refl, sym, ◌∙◌, ap, arith, append_assoc}
+use Rattle.std.proofs.Common.{◌≡◌, ◌↔◌, ◌⊎◌, ◌≤◌, ◌<◌, ◌+◌, ◌*◌, ◌^◌, ℕ, suc, Bool, true, false, not, List, [], ◌∷◌, ◌++◌, length, map, drop, get_or, Option, Some, None, inl, inr, refl, sym, ◌∙◌, ap, subst, arith, append_assoc}
 use Rattle.std.proofs.lemmas.List.{append-nil, at_drop_more}
 use Rattle.std.proofs.Math.Nat.{pow-succ'}
 use Rattle.asn_values.specs.Datum.{Datum}
-use Rattle.asn_values.specs.Shape.{Demand, must, optional, default, Fields, no_fields, demands}
-use Rattle.asn_values.specs.Fits.{FitsEach}
+use Rattle.asn_values.specs.Shape.{Shape, Demand, must, optional, default, Fields, no_fields, demands}
+use Rattle.asn_values.specs.Fits.{Fits, FitsDemand, FitsEach}
+use Rattle.asn_values.specs.Profile.{InProfile}
 use Rattle.asn_values.specs.Parts.{IsGoodDemand, AreOfProfile}
 use Rattle.asn_values.specs.View.{Part, fields_of}
 use Rattle.asn_bits.specs.Numbers.{bits}
 use Rattle.asn_bits.specs.Sink.{bit_of}
 use Rattle.asn_bits.proofs.Prefixes.{bit_below}
 use Rattle.asn_bits.proofs.Splits.{digits-join}
-use Rattle.asn_rules.specs.Components.{has_presence_bit, is_spelled, presence}
+use Rattle.asn_rules.specs.Components.{has_presence_bit, is_default, is_spelled, presence}
+use Rattle.asn_rules.proofs.Entries.{default_is}
+use Rattle.asn_rules.proofs.ListedEach.{good_fits}
 use Rattle.asn_per.specs.Laws.{per_bits, component_bits}
 use Rattle.asn_per.proofs.Spellings.{component_bits-spelled, component_bits-default}
 
@@ -22,19 +25,19 @@ next_seen f xs i x h e = at_drop_more (map f) xs i x h ∙ ap (λ y. f y ∷ map
 -- the components that are left, with their entries
 pub record Left (parts : List Part) (entries : List (Option Datum)) : Type 0 where
   pub of_profile : AreOfProfile (fields_of parts)
-  pub of_type : FitsEach (fields_of parts) entries
+  pub each : length parts ≡ length entries
 
 pub left_good : {p : Part} {parts : List Part} {e : Option Datum} {entries : List (Option Datum)} → Left (p ∷ parts) (e ∷ entries) → IsGoodDemand p.demand p.shape
 left_good h = h.of_profile.1
 
 pub left_more : {p : Part} {parts : List Part} {e : Option Datum} {entries : List (Option Datum)} → Left (p ∷ parts) (e ∷ entries) → Left parts entries
-left_more h = record { of_profile = h.of_profile.2; of_type = h.of_type.1 }
+left_more h = record { of_profile = h.of_profile.2; each = omega (arith, h.each) }
 
 -- there are as many entries as components
 pub left_ends : (parts : List Part) (entries : List (Option Datum)) → Left parts entries → (parts ≡ []) ⊎ (entries ≡ []) → (parts ≡ []) × (entries ≡ [])
 left_ends [] [] h e = (refl, refl)
-left_ends [] (x ∷ entries) h e = absurd h.of_type
-left_ends (p ∷ parts) [] h e = absurd h.of_type
+left_ends [] (x ∷ entries) h e = absurd (omega (arith, h.each))
+left_ends (p ∷ parts) [] h e = absurd (omega (arith, h.each))
 left_ends (p ∷ parts) (x ∷ entries) h (inl e) = absurd (cc)
 left_ends (p ∷ parts) (x ∷ entries) h (inr e) = absurd (cc)
 
@@ -108,51 +111,96 @@ bitmap_ends {all} {left} {entries} {rest} {count} {bitmap} h e =
 
 -- ---- the components
 
--- what is written, with the bits of the components that are left, which code gives
-pub record Written (code : Fields → List (Option Datum) → List ℕ) (before all_bits now : List ℕ) (left : List Part) (rest : List (Option Datum)) : Type 0 where
+-- an entry is one of its component
+abbrev pub FitsHere : Part → Option Datum → Type 0
+FitsHere p e = FitsDemand (λ d. Fits p.shape d) p.demand e
+
+-- what is written, with the bits of the components that are left, which code gives; and all entries are those of
+-- their components, which All says, where those that are left are
+pub record Written (code : Fields → List (Option Datum) → List ℕ) (All : Type 0) (before all_bits now : List ℕ) (left : List Part) (rest : List (Option Datum)) : Type 0 where
   pub components : Left left rest
+  pub fits : FitsEach (fields_of left) rest ↔ All
   pub known : now ++ code (fields_of left) rest ≡ before ++ all_bits
 
-pub written_starts : (code : Fields → List (Option Datum) → List ℕ) (before : List ℕ) (all : List Part) (entries : List (Option Datum)) → Left all entries → Written code before (code (fields_of all) entries) before all entries
-written_starts code before all entries h = record { components = h; known = refl }
+pub written_starts : (code : Fields → List (Option Datum) → List ℕ) (before : List ℕ) (all : List Part) (entries : List (Option Datum)) → Left all entries
+    → Written code (FitsEach (fields_of all) entries) before (code (fields_of all) entries) before all entries
+written_starts code before all entries h = record { components = h; fits = (λ f. f, λ f. f); known = refl }
 
--- a component whose bits are us
-pub written_on : {code : Fields → List (Option Datum) → List ℕ} {before all_bits now new : List ℕ} {left : List Part} {p : Part} {rest : List (Option Datum)} {e : Option Datum} (us : List ℕ)
-    → Written code before all_bits now (p ∷ left) (e ∷ rest) → code (fields_of (p ∷ left)) (e ∷ rest) ≡ us ++ code (fields_of left) rest → new ≡ now ++ us → Written code before all_bits new left rest
-written_on {code = code} {now = now} {left = left} {rest = rest} us h s e = record {
-  components = left_more h.components;
-  known =
-      ap (λ l. l ++ code (fields_of left) rest) e
-      ∙ append_assoc now us (code (fields_of left) rest)
-      ∙ ap (λ l. now ++ l) (sym s)
-      ∙ h.known;
-}
+module _ {code : Fields → List (Option Datum) → List ℕ} {All : Type 0} {before all_bits now : List ℕ} {left : List Part} {p : Part} {rest : List (Option Datum)} {e : Option Datum} where
+  -- a component whose bits are us
+  pub written_on : {new : List ℕ} (us : List ℕ) → Written code All before all_bits now (p ∷ left) (e ∷ rest) → FitsHere p e
+      → code (fields_of (p ∷ left)) (e ∷ rest) ≡ us ++ code (fields_of left) rest → new ≡ now ++ us → Written code All before all_bits new left rest
+  written_on us h f s e = record {
+    components = left_more h.components;
+    fits = (λ g. h.fits.0 (f, g), λ a. (h.fits.1 a).1);
+    known =
+        ap (λ l. l ++ code (fields_of left) rest) e
+        ∙ append_assoc now us (code (fields_of left) rest)
+        ∙ ap (λ l. now ++ l) (sym s)
+        ∙ h.known;
+  }
 
--- one that has no bits
-pub written_past : {code : Fields → List (Option Datum) → List ℕ} {before all_bits now : List ℕ} {left : List Part} {p : Part} {rest : List (Option Datum)} {e : Option Datum}
-    → Written code before all_bits now (p ∷ left) (e ∷ rest) → code (fields_of (p ∷ left)) (e ∷ rest) ≡ code (fields_of left) rest → Written code before all_bits now left rest
-written_past {now = now} h s = record { components = left_more h.components; known = ap (λ l. now ++ l) (sym s) ∙ h.known }
+  -- one that has no bits
+  pub written_past : Written code All before all_bits now (p ∷ left) (e ∷ rest) → FitsHere p e → code (fields_of (p ∷ left)) (e ∷ rest) ≡ code (fields_of left) rest → Written code All before all_bits now left rest
+  written_past h f s = record {
+    components = left_more h.components;
+    fits = (λ g. h.fits.0 (f, g), λ a. (h.fits.1 a).1);
+    known = ap (λ l. now ++ l) (sym s) ∙ h.known;
+  }
 
-pub written_ends : {code : Fields → List (Option Datum) → List ℕ} {before all_bits now : List ℕ} {left : List Part} {rest : List (Option Datum)}
-    → Written code before all_bits now left rest → ((es : List (Option Datum)) → code no_fields es ≡ []) → (left ≡ []) ⊎ (rest ≡ []) → now ≡ before ++ all_bits
-written_ends {code = code} {now = now} {left = left} {rest = rest} h n e =
-    let none = left_ends left rest h.components e in
-    sym (append-nil now) ∙ ap (λ l. now ++ l) (sym (n rest)) ∙ ap (λ l. now ++ code (fields_of l) rest) (sym none.0) ∙ h.known
+  -- one whose entry is none of it
+  pub written_never : Written code All before all_bits now (p ∷ left) (e ∷ rest) → (FitsHere p e → ⊥) → All → ⊥
+  written_never h never a = never (h.fits.1 a).0
+
+module _ {code : Fields → List (Option Datum) → List ℕ} {All : Type 0} {before all_bits now : List ℕ} {left : List Part} {rest : List (Option Datum)} (h : Written code All before all_bits now left rest) (e : (left ≡ []) ⊎ (rest ≡ [])) where
+  none : (left ≡ []) × (rest ≡ [])
+  none = left_ends left rest h.components e
+
+  pub written_ends : ((es : List (Option Datum)) → code no_fields es ≡ []) → now ≡ before ++ all_bits
+  written_ends n = sym (append-nil now) ∙ ap (λ l. now ++ l) (sym (n rest)) ∙ ap (λ l. now ++ code (fields_of l) rest) (sym none.0) ∙ h.known
+
+  pub all_written : All
+  all_written = h.fits.0 (rw (none.0, none.1) tt)
 
 -- a component that is spelt
-pub written_more : {before all_bits now new : List ℕ} {left : List Part} {p : Part} {rest : List (Option Datum)} {d : Datum}
-    → Written component_bits before all_bits now (p ∷ left) (Some d ∷ rest) → is_spelled p.demand (Some d) ≡ true → new ≡ now ++ per_bits p.shape d → Written component_bits before all_bits new left rest
-written_more {left = left} {p = p} {rest = rest} {d = d} h s e = written_on (per_bits p.shape d) h (component_bits-spelled p.name p.demand p.shape (fields_of left) d rest s) e
+pub written_more : {All : Type 0} {before all_bits now new : List ℕ} {left : List Part} {p : Part} {rest : List (Option Datum)} {d : Datum}
+    → Written component_bits All before all_bits now (p ∷ left) (Some d ∷ rest) → is_spelled p.demand (Some d) ≡ true → Fits p.shape d → new ≡ now ++ per_bits p.shape d → Written component_bits All before all_bits new left rest
+written_more {left = left} {p = p} {rest = rest} {d = d} h s f e = written_on (per_bits p.shape d) h f (component_bits-spelled p.name p.demand p.shape (fields_of left) d rest s) e
 
--- a component that is absent, or equal to its DEFAULT
-pub written_passes : {before all_bits now : List ℕ} {left : List Part} {p : Part} {rest : List (Option Datum)} {e : Option Datum}
-    → Written component_bits before all_bits now (p ∷ left) (e ∷ rest) → (e ≡ None) ⊎ (is_spelled p.demand e ≡ false) → Written component_bits before all_bits now left rest
-written_passes {left = left} {p = p} {rest = rest} {e = e} h s = written_past h (nothing e s)
+-- one that is equal to its DEFAULT, and so a value of its type
+pub written_passes : {All : Type 0} {before all_bits now : List ℕ} {left : List Part} {p : Part} {rest : List (Option Datum)} {d : Datum}
+    → Written component_bits All before all_bits now (p ∷ left) (Some d ∷ rest) → is_spelled p.demand (Some d) ≡ false → Written component_bits All before all_bits now left rest
+written_passes {left = left} {p = p} {rest = rest} {d = d} h s =
+    written_past h (default_fits p.demand p.shape d h.components.of_profile.0 h.components.of_profile.1 s) (component_bits-default p.name p.demand p.shape (fields_of left) d rest s)
   where
-    nothing : (x : Option Datum) → (x ≡ None) ⊎ (is_spelled p.demand x ≡ false) → component_bits (fields_of (p ∷ left)) (x ∷ rest) ≡ component_bits (fields_of left) rest
-    nothing None k = refl
-    nothing (Some d) (inl k) = absurd (cc)
-    nothing (Some d) (inr k) = component_bits-default p.name p.demand p.shape (fields_of left) d rest k
+    default_fits : (demand : Demand) (t : Shape) (d : Datum) → InProfile t → IsGoodDemand demand t → is_spelled demand (Some d) ≡ false → FitsDemand (λ d. Fits t d) demand (Some d)
+    default_fits must t d good g k = absurd (cc)
+    default_fits optional t d good g k = absurd (cc)
+    default_fits (default x) t d good g k = subst (λ y. Fits t y) (default_is x d (not_false (is_default x d) k)) (good_fits t x good g)
+      where
+        not_false : (b : Bool) → not b ≡ false → b ≡ true
+        not_false true h = refl
+        not_false false h = absurd (cc)
+
+-- one that is absent, where it may be
+pub written_absent : {All : Type 0} {before all_bits now : List ℕ} {left : List Part} {p : Part} {rest : List (Option Datum)}
+    → Written component_bits All before all_bits now (p ∷ left) (None ∷ rest) → p.demand ≡ optional → Written component_bits All before all_bits now left rest
+written_absent {p = p} h o = written_past h (absent p.demand o) refl
+  where
+    absent : (demand : Demand) → demand ≡ optional → FitsDemand (λ d. Fits p.shape d) demand None
+    absent must k = absurd (cc)
+    absent optional k = tt
+    absent (default x) k = absurd (cc)
+
+-- and where it may not
+pub absent_never : {All : Type 0} {before all_bits now : List ℕ} {left : List Part} {p : Part} {rest : List (Option Datum)}
+    → Written component_bits All before all_bits now (p ∷ left) (None ∷ rest) → (p.demand ≡ optional → ⊥) → All → ⊥
+absent_never {p = p} h o = written_never h (never p.demand o)
+  where
+    never : (demand : Demand) → (demand ≡ optional → ⊥) → FitsDemand (λ d. Fits p.shape d) demand None → ⊥
+    never must k f = f
+    never optional k f = k refl
+    never (default x) k f = f
 
 -- ---- where a zip of the components and the entries ends
 

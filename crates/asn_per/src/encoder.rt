@@ -1,8 +1,8 @@
 //! The encoder.
-ghost use Rattle.std.specs.Prelude.{◌≡◌, ◌≤◌, ◌<◌, ◌^◌, ◌++◌, IfOk, true, IfErr, OnOk, map, length, vec_len};
+ghost use Rattle.std.specs.Prelude.{◌≡◌, ◌≤◌, ◌<◌, ◌^◌, ◌++◌, IfOk, IfErr, OnOk, map, length, vec_len};
 ghost use Rattle.std.specs.Option.{option_map};
 ghost use Rattle.asn_values.specs.Fits.{Fits, FitsEach, FitsNumber, FitsAlternative};
-ghost use Rattle.asn_values.specs.Shape.{integer, marked, demands, sequence_of};
+ghost use Rattle.asn_values.specs.Shape.{boolean, integer, marked, demands, sequence_of};
 ghost use Rattle.asn_values.specs.Datum.{number, elements, elements_of};
 ghost use Rattle.std.specs.List.{AllByRecursion};
 ghost use Rattle.asn_values.specs.Profile.{InProfile};
@@ -19,18 +19,21 @@ ghost use Rattle.asn_per.specs.Rules.{per_ruling, IsPerEncoding};
 ghost use Rattle.asn_per.specs.Laws.{per_bits};
 ghost use Rattle.asn_per.specs.Additions.{AreOptional, root_bits, addition_bits};
 ghost use Rattle.asn_per.specs.StringItems.{row_bits};
+ghost use Rattle.asn_per.specs.Writers.{TellsWhether};
 
 use crate::indexes::{Index, write_index};
 use crate::items::write_enumerated;
 use crate::string_writer::{
-    BLOCK, push_count, push_extension_bit, write_bit_string, write_octet_string, write_text,
-    write_utf8,
+    BLOCK, push_count, write_bit_string, write_octet_string, write_text, write_utf8,
 };
 use asn_bits::BitSink;
 use asn_bits::numbers::width;
 use asn_bits::offsets::above;
 use asn_rules::EncodeFault;
-use asn_values::{Alt, AsnType, Bounds, Checked, Field, Need, Size, Value, fits, is_between, same};
+use asn_values::{
+    Alt, AsnType, Bounds, Checked, Field, Need, Size, Value, fits, is_between, length_fits, number_fits,
+    same,
+};
 use std::alloc::{AllocError, Global};
 
 /// The most octets of a message.
@@ -45,10 +48,12 @@ pub fn encode(alloc: Global, ty: &Checked, value: &Value) -> Result<Vec<u8>, Enc
     ensures within { IfOk result (λ o. vec_len o ≤ max_octets) }
     ensures fault { IfErr result (λ why. NotEncoded per_ruling why (shape_of ty.now) (datum_of value.now)) }
 {
-    if !fits(ty, value) {
-        return Err(EncodeFault::NotOfType);
-    }
-    let octets = complete_encoding(alloc, ty.get(), value)?;
+    let octets = match complete_encoding(alloc, ty.get(), value) {
+        Ok(octets) => octets,
+        // a growth may be refused before the whole value was seen
+        Err(EncodeFault::Memory) if !fits(ty, value) => return Err(EncodeFault::NotOfType),
+        Err(fault) => return Err(fault),
+    };
     if octets.len() > MAX_OCTETS {
         return Err(EncodeFault::TooLong);
     }
@@ -57,10 +62,10 @@ pub fn encode(alloc: Global, ty: &Checked, value: &Value) -> Result<Vec<u8>, Enc
 
 /// The octets of a value's encoding: its bits, filled up with zeros to whole octets, at least one.
 #[cycle(writer)]
-fn complete_encoding(alloc: Global, ty: &AsnType, value: &Value) -> Result<Vec<u8>, AllocError>
+fn complete_encoding(alloc: Global, ty: &AsnType, value: &Value) -> Result<Vec<u8>, EncodeFault>
     requires of_profile { InProfile (shape_of ty.now) }
-    requires of_type { Fits (shape_of ty.now) (datum_of value.now) }
-    ensures { IfOk result (λ o. o.items ≡ per_octets (shape_of ty.now) (datum_of value.now)) }
+    ensures of_type { TellsWhether result (Fits (shape_of ty.now) (datum_of value.now)) }
+    ensures written { IfOk result (λ o. o.items ≡ per_octets (shape_of ty.now) (datum_of value.now)) }
 {
     let mut sink = BitSink::new(alloc);
     write(alloc, ty, value, &mut sink)?;
@@ -74,88 +79,66 @@ fn complete_encoding(alloc: Global, ty: &AsnType, value: &Value) -> Result<Vec<u
 /// Writes a value in an open field (X.691, "open type fields"): its complete encoding under the
 /// general length.
 #[cycle(writer)]
-pub(crate) fn write_open_field(
+fn write_open_field(
     alloc: Global,
     ty: &AsnType,
     value: &Value,
     sink: &mut BitSink,
-) -> Result<(), AllocError>
+) -> Result<(), EncodeFault>
     requires of_profile { InProfile (shape_of ty.now) }
-    requires of_type { Fits (shape_of ty.now) (datum_of value.now) }
-    ensures { OnOk result (sink.new ≡ sink.old ++ flat spelled (an_open_field (per (shape_of ty.now) (datum_of value.now)))) }
+    ensures of_type { TellsWhether result (Fits (shape_of ty.now) (datum_of value.now)) }
+    ensures written { OnOk result (sink.new ≡ sink.old ++ flat spelled (an_open_field (per (shape_of ty.now) (datum_of value.now)))) }
 {
     let octets = complete_encoding(alloc, ty, value)?;
-    sink.push_general_octets(octets.as_slice())
+    sink.push_general_octets(octets.as_slice())?;
+    Ok(())
 }
 
-/// Writes a value of the type.
+/// Writes a value, where it is one of the type.
 #[inline(always)]
 #[cycle(writer)]
-fn write(alloc: Global, ty: &AsnType, value: &Value, sink: &mut BitSink) -> Result<(), AllocError>
+fn write(
+    alloc: Global,
+    ty: &AsnType,
+    value: &Value,
+    sink: &mut BitSink,
+) -> Result<(), EncodeFault>
     requires of_profile { InProfile (shape_of ty.now) }
-    requires of_type { Fits (shape_of ty.now) (datum_of value.now) }
-    ensures { OnOk result (sink.new ≡ sink.old ++ per_bits (shape_of ty.now) (datum_of value.now)) }
+    ensures of_type { TellsWhether result (Fits (shape_of ty.now) (datum_of value.now)) }
+    ensures written { OnOk result (sink.new ≡ sink.old ++ per_bits (shape_of ty.now) (datum_of value.now)) }
 {
     match ty {
-        AsnType::Bool => {
-            let Value::Bool(truth) = value else {
-                unreachable!()
-            };
-            sink.push(*truth)
-        }
-        AsnType::Null => Ok(()),
-        AsnType::Int(bounds) => {
-            let Value::Int(integer) = value else {
-                unreachable!()
-            };
-            write_integer(bounds, *integer, sink)
-        }
-        AsnType::Enum { root, ext } => {
-            let Value::Enum(place) = value else {
-                unreachable!()
-            };
-            write_enumerated(root, ext, *place, sink)
-        }
-        AsnType::Bits(size) => {
-            let Value::Bits(truths) = value else {
-                unreachable!()
-            };
-            write_bit_string(size, truths.as_slice(), sink)
-        }
-        AsnType::Octets(size) => {
-            let Value::Octets(octets) = value else {
-                unreachable!()
-            };
-            write_octet_string(size, octets.as_slice(), sink)
-        }
-        AsnType::Text(kind, size) => {
-            let Value::Text(text) = value else {
-                unreachable!()
-            };
-            write_text(*kind, size, text.as_slice(), sink)
-        }
-        AsnType::Utf8 => {
-            let Value::Utf8(text) = value else {
-                unreachable!()
-            };
-            write_utf8(text.as_bytes(), sink)
-        }
+        AsnType::Bool => write_boolean(value, sink),
+        AsnType::Null => match value {
+            Value::Null => Ok(()),
+            _ => Err(EncodeFault::NotOfType),
+        },
+        AsnType::Int(bounds) => match value {
+            Value::Int(whole) => write_integer(bounds, *whole, sink),
+            _ => Err(EncodeFault::NotOfType),
+        },
+        AsnType::Enum { root, ext } => write_enumerated(root, ext, value, sink),
+        AsnType::Bits(size) => write_bit_string(size, value, sink),
+        AsnType::Octets(size) => write_octet_string(size, value, sink),
+        AsnType::Text(kind, size) => write_text(*kind, size, value, sink),
+        AsnType::Utf8 => write_utf8(value, sink),
         AsnType::Seq { root, ext } => {
             let Value::Seq(entries) = value else {
-                unreachable!()
+                return Err(EncodeFault::NotOfType);
             };
-            let (ours, theirs) = entries.split_at(root.len());
-            let extended = is_any_present(theirs);
-            push_extension_bit(ext.is_some(), extended, sink)?;
-            write_components(alloc, root, ours, sink)?;
             match ext {
-                Some(additions) if extended => write_additions(alloc, additions, theirs, sink),
-                _ => Ok(()),
+                None => write_components(alloc, root, entries, sink),
+                Some(additions) => {
+                    let (ours, theirs) = entries.split_at(root.len().min(entries.len()));
+                    sink.push(is_any_present(theirs))?;
+                    write_components(alloc, root, ours, sink)?;
+                    write_additions(alloc, additions, theirs, sink)
+                }
             }
         }
         AsnType::Choice { root, ext } => {
             let Value::Choice(tag, chosen) = value else {
-                unreachable!()
+                return Err(EncodeFault::NotOfType);
             };
             let place = *tag as usize;
             let known = root.len();
@@ -163,20 +146,22 @@ fn write(alloc: Global, ty: &AsnType, value: &Value, sink: &mut BitSink) -> Resu
                 write_index(known, ext.is_some(), Index::Root(place), sink)?;
                 return write_alternative(alloc, root, place, chosen, sink);
             }
-            let Some(additions) = ext else { unreachable!() };
-            write_index(known, true, Index::Added(place - known), sink)?;
-            write_added_alternative(alloc, additions, place - known, chosen, sink)
+            match ext {
+                Some(additions) if place - known < additions.len() => {
+                    write_index(known, true, Index::Added(place - known), sink)?;
+                    write_added_alternative(alloc, additions, place - known, chosen, sink)
+                }
+                _ => Err(EncodeFault::NotOfType),
+            }
         }
-        AsnType::SeqOf(element, size) => {
-            let Value::List(values) = value else {
-                unreachable!()
-            };
-            write_list(alloc, element, size, values, sink)
-        }
+        AsnType::SeqOf(element, size) => match value {
+            Value::List(values) => write_list(alloc, element, size, values, sink),
+            _ => Err(EncodeFault::NotOfType),
+        },
     }
 }
 
-/// Writes a value of the alternative at this place.
+/// Writes a value, where it is one of the alternative at this place.
 #[cycle(writer)]
 fn write_alternative(
     alloc: Global,
@@ -184,17 +169,17 @@ fn write_alternative(
     place: usize,
     value: &Value,
     sink: &mut BitSink,
-) -> Result<(), AllocError>
+) -> Result<(), EncodeFault>
     requires of_profile { AreAllOfProfile (alternatives_of (map branch_of alternatives.now)) }
     requires inside { place < length alternatives.now }
-    requires of_type { FitsAlternative (alternatives_of (map branch_of alternatives.now)) place (datum_of value.now) }
-    ensures { OnOk result (sink.new ≡ sink.old
+    ensures of_type { TellsWhether result (FitsAlternative (alternatives_of (map branch_of alternatives.now)) place (datum_of value.now)) }
+    ensures written { OnOk result (sink.new ≡ sink.old
         ++ flat spelled (per_alternative (alternatives_of (map branch_of alternatives.now)) place (datum_of value.now))) }
 {
     write(alloc, &alternatives[place].ty, value, sink)
 }
 
-/// Writes a value of the alternative at this place in an open field.
+/// Writes a value, where it is one of the alternative at this place, in an open field.
 #[cycle(writer)]
 fn write_added_alternative(
     alloc: Global,
@@ -202,34 +187,49 @@ fn write_added_alternative(
     place: usize,
     value: &Value,
     sink: &mut BitSink,
-) -> Result<(), AllocError>
+) -> Result<(), EncodeFault>
     requires of_profile { AreAllOfProfile (alternatives_of (map branch_of alternatives.now)) }
     requires inside { place < length alternatives.now }
-    requires of_type { FitsAlternative (alternatives_of (map branch_of alternatives.now)) place (datum_of value.now) }
-    ensures { OnOk result (sink.new ≡ sink.old
+    ensures of_type { TellsWhether result (FitsAlternative (alternatives_of (map branch_of alternatives.now)) place (datum_of value.now)) }
+    ensures written { OnOk result (sink.new ≡ sink.old
         ++ flat spelled (an_open_field (per_alternative (alternatives_of (map branch_of alternatives.now)) place (datum_of value.now)))) }
 {
     write_open_field(alloc, &alternatives[place].ty, value, sink)
 }
 
-/// Writes a number of the range (X.691, "encoding the integer type"): behind an extension mark a bit
-/// tells whether it lies between the bounds, and outside them it is an unconstrained whole number.
-#[inline(always)]
-fn write_integer(bounds: &Bounds, whole: i128, sink: &mut BitSink) -> Result<(), AllocError>
-    requires of_profile { InProfile (integer (range_of bounds.now)) }
-    requires of_type { FitsNumber (range_of bounds.now) whole }
-    ensures { OnOk result (sink.new ≡ sink.old ++ per_bits (integer (range_of bounds.now)) (number whole)) }
+/// Writes a truth value in a bit, 1 for TRUE (X.691, "encoding the boolean type").
+fn write_boolean(value: &Value, sink: &mut BitSink) -> Result<(), EncodeFault>
+    ensures of_type { TellsWhether result (Fits boolean (datum_of value.now)) }
+    ensures written { OnOk result (sink.new ≡ sink.old ++ per_bits boolean (datum_of value.now)) }
 {
-    if !bounds.ext {
-        return write_ranged(bounds, whole, sink);
+    let Value::Bool(truth) = value else {
+        return Err(EncodeFault::NotOfType);
+    };
+    sink.push(*truth)?;
+    Ok(())
+}
+
+/// Writes a number, where it is one of the range (X.691, "encoding the integer type"): behind an extension
+/// mark a bit tells whether it lies between the bounds, and outside them it is an unconstrained whole number.
+#[inline(always)]
+fn write_integer(bounds: &Bounds, whole: i128, sink: &mut BitSink) -> Result<(), EncodeFault>
+    requires of_profile { InProfile (integer (range_of bounds.now)) }
+    ensures of_type { TellsWhether result (FitsNumber (range_of bounds.now) whole) }
+    ensures written { OnOk result (sink.new ≡ sink.old ++ per_bits (integer (range_of bounds.now)) (number whole)) }
+{
+    if !number_fits(bounds, whole) {
+        return Err(EncodeFault::NotOfType);
     }
-    if is_between(bounds, whole) {
-        sink.push(false)?;
-        write_ranged(bounds, whole, sink)
-    } else {
-        sink.push(true)?;
-        sink.push_least_signed_octets(whole)
+    if bounds.ext {
+        let inside = is_between(bounds, whole);
+        sink.push(!inside)?;
+        if !inside {
+            sink.push_least_signed_octets(whole)?;
+            return Ok(());
+        }
     }
+    write_ranged(bounds, whole, sink)?;
+    Ok(())
 }
 
 /// Writes a number between the bounds: as a constrained whole number where there are both, a
@@ -254,7 +254,7 @@ fn write_ranged(bounds: &Bounds, whole: i128, sink: &mut BitSink) -> Result<(), 
 /// sequence type").
 fn presence_bitmap(fields: &[Field], entries: &[Option<Value>]) -> (u32, u64)
     requires of_profile { AreOfProfile (fields_of (map part_of_field fields.now)) }
-    requires of_type { FitsEach (fields_of (map part_of_field fields.now)) (map (option_map datum_of) entries.now) }
+    requires each { length fields.now ≡ length entries.now }
     requires few { length fields.now ≤ 64 }
     ensures count { result.0 ≤ 64 }
     ensures within { result.1 < 2 ^ result.0 }
@@ -296,25 +296,31 @@ fn is_encoded(field: &Field, entry: &Option<Value>) -> bool
 }
 
 /// Writes the presence bits of components and those that are encoded, in order (X.691, "encoding
-/// the sequence type").
+/// the sequence type"), where each entry is one of its component.
 #[cycle(writer)]
 fn write_components(
     alloc: Global,
     fields: &[Field],
     entries: &[Option<Value>],
     sink: &mut BitSink,
-) -> Result<(), AllocError>
+) -> Result<(), EncodeFault>
     requires of_profile { AreOfProfile (fields_of (map part_of_field fields.now)) }
-    requires of_type { FitsEach (fields_of (map part_of_field fields.now)) (map (option_map datum_of) entries.now) }
     requires few { length fields.now ≤ 64 }
-    ensures { OnOk result (sink.new ≡ sink.old
+    ensures of_type { TellsWhether result (FitsEach (fields_of (map part_of_field fields.now)) (map (option_map datum_of) entries.now)) }
+    ensures written { OnOk result (sink.new ≡ sink.old
         ++ root_bits (fields_of (map part_of_field fields.now)) (map (option_map datum_of) entries.now)) }
 {
+    if fields.len() != entries.len() {
+        return Err(EncodeFault::NotOfType);
+    }
     let (count, bitmap) = presence_bitmap(fields, entries);
     sink.push_number(count, bitmap)?;
     for (field, entry) in fields.iter().zip(entries) {
         let Some(value) = entry else {
-            continue;
+            if matches!(field.need, Need::Optional) {
+                continue;
+            }
+            return Err(EncodeFault::NotOfType);
         };
         // integers that are always there are most often met, so these are written before any other kind
         // is asked for
@@ -338,23 +344,28 @@ fn is_any_present(entries: &[Option<Value>]) -> bool
     entries.iter().any(|entry| entry.is_some())
 }
 
-/// Writes extension additions, of which one is present: how many there are, a presence bit for each,
-/// and those that are present in open fields.
+/// Writes extension additions, where each entry is one of its addition: nothing where none is present, and
+/// else how many there are, a presence bit for each, and those that are present in open fields.
 #[cycle(writer)]
 fn write_additions(
     alloc: Global,
     fields: &[Field],
     entries: &[Option<Value>],
     sink: &mut BitSink,
-) -> Result<(), AllocError>
+) -> Result<(), EncodeFault>
     requires of_profile { AreOfProfile (fields_of (map part_of_field fields.now)) }
     requires optional { AreOptional (fields_of (map part_of_field fields.now)) }
-    requires of_type { FitsEach (fields_of (map part_of_field fields.now)) (map (option_map datum_of) entries.now) }
-    requires some { any_present (map (option_map datum_of) entries.now) ≡ true }
     requires few { length fields.now ≤ 64 }
-    ensures { OnOk result (sink.new ≡ sink.old
+    ensures of_type { TellsWhether result (FitsEach (fields_of (map part_of_field fields.now)) (map (option_map datum_of) entries.now)) }
+    ensures written { OnOk result (sink.new ≡ sink.old
         ++ addition_bits (marked (fields_of (map part_of_field fields.now))) (map (option_map datum_of) entries.now)) }
 {
+    if fields.len() != entries.len() {
+        return Err(EncodeFault::NotOfType);
+    }
+    if !is_any_present(entries) {
+        return Ok(());
+    }
     // a normally small length: 0, and one less than the number in 6 bits
     sink.push_number(7, fields.len() as u64 - 1)?;
     let (count, bitmap) = presence_bitmap(fields, entries);
@@ -367,8 +378,9 @@ fn write_additions(
     Ok(())
 }
 
-/// Writes the elements of a SEQUENCE OF (X.691, "encoding the sequence-of type"): behind their count, or one
-/// general length after the other, each with the elements that it counts.
+/// Writes the elements of a SEQUENCE OF (X.691, "encoding the sequence-of type"), where there are as many as
+/// the size allows, and each is one of the type: behind their count, or one general length after the other,
+/// each with the elements that it counts.
 #[cycle(writer)]
 fn write_list(
     alloc: Global,
@@ -376,12 +388,15 @@ fn write_list(
     size: &Size,
     values: &[Value],
     sink: &mut BitSink,
-) -> Result<(), AllocError>
+) -> Result<(), EncodeFault>
     requires of_profile { InProfile (sequence_of (shape_of element.now) (size_range_of size.now)) }
-    requires of_type { Fits (sequence_of (shape_of element.now) (size_range_of size.now)) (elements (elements_of (map datum_of values.now))) }
-    ensures { OnOk result (sink.new ≡ sink.old
+    ensures of_type { TellsWhether result (Fits (sequence_of (shape_of element.now) (size_range_of size.now)) (elements (elements_of (map datum_of values.now)))) }
+    ensures written { OnOk result (sink.new ≡ sink.old
         ++ per_bits (sequence_of (shape_of element.now) (size_range_of size.now)) (elements (elements_of (map datum_of values.now)))) }
 {
+    if !length_fits(size, values.len()) {
+        return Err(EncodeFault::NotOfType);
+    }
     if push_count(size, values.len(), sink)? {
         return write_elements(alloc, element, values, sink);
     }
@@ -397,17 +412,17 @@ fn write_list(
     }
 }
 
-/// Writes elements one after the other.
+/// Writes elements one after the other, where each is one of the type.
 #[cycle(writer)]
 fn write_elements(
     alloc: Global,
     element: &AsnType,
     values: &[Value],
     sink: &mut BitSink,
-) -> Result<(), AllocError>
+) -> Result<(), EncodeFault>
     requires of_profile { InProfile (shape_of element.now) }
-    requires of_type { AllByRecursion (λ d. Fits (shape_of element.now) d) (map datum_of values.now) }
-    ensures { OnOk result (sink.new ≡ sink.old ++ row_bits (map (λ d. per (shape_of element.now) d) (map datum_of values.now))) }
+    ensures of_type { TellsWhether result (AllByRecursion (λ d. Fits (shape_of element.now) d) (map datum_of values.now)) }
+    ensures written { OnOk result (sink.new ≡ sink.old ++ row_bits (map (λ d. per (shape_of element.now) d) (map datum_of values.now))) }
 {
     for value in values {
         write(alloc, element, value, sink)?;

@@ -5,7 +5,7 @@ ghost use Rattle.asn_values.specs.Datum.{item};
 ghost use Rattle.asn_values.specs.Shape.{enumerated, marked_labels};
 ghost use Rattle.asn_values.specs.Fits.{Fits};
 ghost use Rattle.asn_values.specs.Profile.{InProfile};
-ghost use Rattle.asn_values.specs.View.{label_of, more_labels_of};
+ghost use Rattle.asn_values.specs.View.{datum_of, label_of, more_labels_of};
 ghost use Rattle.asn_rules.specs.Languages.{Spells, Inhabited};
 ghost use Rattle.asn_rules.specs.Listed.{Spelt};
 ghost use Rattle.asn_rules.specs.Stops.{Stops};
@@ -13,17 +13,39 @@ ghost use Rattle.asn_per.specs.Kinds.{place_of, Items, RootItemsBut, IsRootPlace
 ghost use Rattle.asn_per.specs.Laws.{per_bits};
 ghost use Rattle.asn_per.specs.Per.{per, per_fields, rank};
 ghost use Rattle.asn_per.specs.Indexes.{AreRootItems, IsItemWithin, index_of};
+ghost use Rattle.asn_per.specs.Writers.{TellsWhether};
 
 use crate::indexes::{Index, read_index, write_index};
 use crate::integer_reader::constrained;
 use asn_bits::{BitCursor, BitSink};
-use asn_rules::Stop;
-use asn_values::Item;
+use asn_rules::{EncodeFault, Stop};
+use asn_values::{Item, Value, item_fits};
 use std::alloc::AllocError;
 
-/// Writes the item at this place: one of the root by its index in the order of the numbers, an addition
-/// by its index among the additions.
+/// Writes an item, where the value is one of these: one of the root by its index in the order of the
+/// numbers, an addition by its index among the additions.
 pub(crate) fn write_enumerated(
+    root: &[Item],
+    more: &Option<Vec<Item>>,
+    value: &Value,
+    sink: &mut BitSink,
+) -> Result<(), EncodeFault>
+    requires of_profile { InProfile (enumerated (map label_of root.now) (more_labels_of more.now)) }
+    ensures of_type { TellsWhether result (Fits (enumerated (map label_of root.now) (more_labels_of more.now)) (datum_of value.now)) }
+    ensures written { OnOk result (sink.new ≡ sink.old ++ per_bits (enumerated (map label_of root.now) (more_labels_of more.now)) (datum_of value.now)) }
+{
+    match value {
+        Value::Enum(place) if item_fits(root, more, *place) => {
+            write_item(root, more, *place, sink)?;
+            Ok(())
+        }
+        _ => Err(EncodeFault::NotOfType),
+    }
+}
+
+/// Writes the item at this place.
+#[inline(always)]
+fn write_item(
     root: &[Item],
     more: &Option<Vec<Item>>,
     place: u32,

@@ -1,68 +1,98 @@
 //! Writers of strings: BIT STRING, OCTET STRING, the restricted character strings and UTF8String.
 ghost use Rattle.std.specs.Prelude.{◌≡◌, ◌++◌, List, OnOk, IfOk, length};
-ghost use Rattle.asn_values.specs.Datum.{bit_list, octet_list, characters, unicode};
 ghost use Rattle.asn_values.specs.Fits.{Fits, FitsLength};
 ghost use Rattle.asn_values.specs.Shape.{bit_string, octet_string, restricted, utf8_string};
-ghost use Rattle.asn_values.specs.View.{size_range_of, alphabet_of};
+ghost use Rattle.asn_values.specs.View.{datum_of, size_range_of, alphabet_of};
 ghost use Rattle.asn_rules.specs.Chunks.{Chunk, flat};
 ghost use Rattle.asn_rules.specs.Components.{extension_bit};
 ghost use Rattle.asn_per.specs.Laws.{per_bits};
 ghost use Rattle.asn_per.specs.Per.{spelled, sized};
 ghost use Rattle.asn_per.specs.StringItems.{item_chunks, AreOfKind, general_bits, behind_count};
+ghost use Rattle.asn_per.specs.Writers.{TellsWhether};
 
 use crate::item_writer::{Items, count_of, write_items};
 use asn_bits::BitSink;
 use asn_bits::numbers::width;
-use asn_values::{Size, TextKind, is_in_size};
+use asn_rules::EncodeFault;
+use asn_values::{
+    Size, TextKind, Value, is_in_size, length_fits, octets_fit, text_fits, unicode_fits,
+};
 use std::alloc::AllocError;
 
 /// How many items a block of a fragment has.
 pub(crate) const BLOCK: usize = 16384;
 
-/// Writes the bits of a BIT STRING (X.691, "encoding the bitstring type").
+/// Writes the bits of a BIT STRING (X.691, "encoding the bitstring type"), where the value is one of this
+/// size.
 pub(crate) fn write_bit_string(
     size: &Size,
-    truths: &[bool],
+    value: &Value,
     sink: &mut BitSink,
-) -> Result<(), AllocError>
-    requires of_type { Fits (bit_string (size_range_of size.now)) (bit_list truths.now) }
-    ensures { OnOk result (sink.new ≡ sink.old ++ per_bits (bit_string (size_range_of size.now)) (bit_list truths.now)) }
+) -> Result<(), EncodeFault>
+    ensures of_type { TellsWhether result (Fits (bit_string (size_range_of size.now)) (datum_of value.now)) }
+    ensures written { OnOk result (sink.new ≡ sink.old ++ per_bits (bit_string (size_range_of size.now)) (datum_of value.now)) }
 {
-    write_sized(size, Items::Bits(truths), sink)
+    match value {
+        Value::Bits(truths) if length_fits(size, truths.len()) => {
+            write_sized(size, Items::Bits(truths.as_slice()), sink)?;
+            Ok(())
+        }
+        _ => Err(EncodeFault::NotOfType),
+    }
 }
 
-/// Writes the octets of an OCTET STRING (X.691, "encoding the octetstring type").
+/// Writes the octets of an OCTET STRING (X.691, "encoding the octetstring type"), where the value is one of
+/// this size.
 pub(crate) fn write_octet_string(
     size: &Size,
-    octets: &[u8],
+    value: &Value,
     sink: &mut BitSink,
-) -> Result<(), AllocError>
-    requires of_type { Fits (octet_string (size_range_of size.now)) (octet_list octets.now) }
-    ensures { OnOk result (sink.new ≡ sink.old ++ per_bits (octet_string (size_range_of size.now)) (octet_list octets.now)) }
+) -> Result<(), EncodeFault>
+    ensures of_type { TellsWhether result (Fits (octet_string (size_range_of size.now)) (datum_of value.now)) }
+    ensures written { OnOk result (sink.new ≡ sink.old ++ per_bits (octet_string (size_range_of size.now)) (datum_of value.now)) }
 {
-    write_sized(size, Items::Octets(octets), sink)
+    match value {
+        Value::Octets(octets) if octets_fit(size, octets.as_slice()) => {
+            write_sized(size, Items::Octets(octets.as_slice()), sink)?;
+            Ok(())
+        }
+        _ => Err(EncodeFault::NotOfType),
+    }
 }
 
 /// Writes the characters of an IA5String, NumericString or VisibleString (X.691, "encoding the
-/// restricted character string types").
+/// restricted character string types"), where the value is one of this kind of characters and this size.
 pub(crate) fn write_text(
     kind: TextKind,
     size: &Size,
-    text: &[u8],
+    value: &Value,
     sink: &mut BitSink,
-) -> Result<(), AllocError>
-    requires of_type { Fits (restricted (alphabet_of kind) (size_range_of size.now)) (characters text.now) }
-    ensures { OnOk result (sink.new ≡ sink.old ++ per_bits (restricted (alphabet_of kind) (size_range_of size.now)) (characters text.now)) }
+) -> Result<(), EncodeFault>
+    ensures of_type { TellsWhether result (Fits (restricted (alphabet_of kind) (size_range_of size.now)) (datum_of value.now)) }
+    ensures written { OnOk result (sink.new ≡ sink.old ++ per_bits (restricted (alphabet_of kind) (size_range_of size.now)) (datum_of value.now)) }
 {
-    write_sized(size, Items::Characters(kind, text), sink)
+    match value {
+        Value::Text(text) if text_fits(kind, size, text.as_slice()) => {
+            write_sized(size, Items::Characters(kind, text.as_slice()), sink)?;
+            Ok(())
+        }
+        _ => Err(EncodeFault::NotOfType),
+    }
 }
 
 /// Writes the octets of a UTF8String under their general length (X.691, "encoding the restricted
-/// character string types").
-pub(crate) fn write_utf8(octets: &[u8], sink: &mut BitSink) -> Result<(), AllocError>
-    ensures { OnOk result (sink.new ≡ sink.old ++ per_bits utf8_string (unicode octets.now)) }
+/// character string types"), where the value is one.
+pub(crate) fn write_utf8(value: &Value, sink: &mut BitSink) -> Result<(), EncodeFault>
+    ensures of_type { TellsWhether result (Fits utf8_string (datum_of value.now)) }
+    ensures written { OnOk result (sink.new ≡ sink.old ++ per_bits utf8_string (datum_of value.now)) }
 {
-    sink.push_general_octets(octets)
+    match value {
+        Value::Utf8(text) if unicode_fits(text) => {
+            sink.push_general_octets(text.as_bytes())?;
+            Ok(())
+        }
+        _ => Err(EncodeFault::NotOfType),
+    }
 }
 
 /// Writes items under a size.

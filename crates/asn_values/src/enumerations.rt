@@ -63,7 +63,7 @@ pub(crate) fn is_too_many(root: &[Item], more: &Option<Vec<Item>>) -> bool
 }
 
 /// Whether an item stands at this place, the items counted from 0 as written.
-pub(crate) fn item_fits(root: &[Item], more: &Option<Vec<Item>>, place: u32) -> bool
+pub fn item_fits(root: &[Item], more: &Option<Vec<Item>>, place: u32) -> bool
     ensures { IsTrue result ↔ Fits (enumerated (map label_of root.now) (more_labels_of more.now)) (item place) }
 {
     let place = place as usize;

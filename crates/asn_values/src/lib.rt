@@ -19,12 +19,14 @@ mod walk;
 mod widths;
 
 pub use checked::Checked;
+pub use enumerations::item_fits;
 pub use equality::same;
 pub use fault::TypeFault;
 pub use fitting::fits;
 pub use laws::defaults_are_judged;
-pub use ranges::is_between;
-pub use sizes::is_in_size;
+pub use ranges::{is_between, number_fits};
+pub use sizes::{is_in_size, length_fits};
+pub use texts::{octets_fit, text_fits, unicode_fits};
 pub use types::{Alt, AsnType, Bounds, Field, Item, Need, Size, TextKind};
 pub use value::Value;
 

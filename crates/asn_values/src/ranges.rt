@@ -73,7 +73,7 @@ pub(crate) fn is_one_number(bounds: &Bounds) -> bool
 }
 
 /// Whether the number is one of an INTEGER with these bounds.
-pub(crate) fn number_fits(bounds: &Bounds, number: i128) -> bool
+pub fn number_fits(bounds: &Bounds, number: i128) -> bool
     ensures { IsTrue result ↔ FitsNumber (range_of bounds.now) number }
 {
     LOWEST <= number && number <= HIGHEST && (bounds.ext || is_between(bounds, number))

@@ -55,7 +55,7 @@ pub fn is_in_size(size: &Size, length: usize) -> bool
 }
 
 /// Whether so many items are a length of this SIZE.
-pub(crate) fn length_fits(size: &Size, length: usize) -> bool
+pub fn length_fits(size: &Size, length: usize) -> bool
     ensures { IsTrue result ↔ FitsLength (size_range_of size.now) length }
 {
     length <= MOST_ITEMS && (size.ext || is_in_size(size, length))

@@ -13,21 +13,21 @@ use crate::types::{Size, TextKind};
 const MOST_OCTETS: usize = 268_435_455;
 
 /// Whether the octets are a value of an OCTET STRING of this size.
-pub(crate) fn octets_fit(size: &Size, octets: &[u8]) -> bool
+pub fn octets_fit(size: &Size, octets: &[u8]) -> bool
     ensures { IsTrue result ↔ Fits (octet_string (size_range_of size.now)) (octet_list octets.now) }
 {
     sizes::length_fits(size, octets.len())
 }
 
 /// Whether the codes are a value of a string of this kind of characters and this size.
-pub(crate) fn text_fits(kind: TextKind, size: &Size, codes: &[u8]) -> bool
+pub fn text_fits(kind: TextKind, size: &Size, codes: &[u8]) -> bool
     ensures { IsTrue result ↔ Fits (restricted (alphabet_of kind) (size_range_of size.now)) (characters codes.now) }
 {
     sizes::length_fits(size, codes.len()) && characters_fit(kind, codes)
 }
 
 /// Whether the text is a value of UTF8String: its octets are not too many.
-pub(crate) fn unicode_fits(text: &str) -> bool
+pub fn unicode_fits(text: &str) -> bool
     ensures { IsTrue result ↔ Fits utf8_string (unicode text.now) }
 {
     text.len() <= MOST_OCTETS

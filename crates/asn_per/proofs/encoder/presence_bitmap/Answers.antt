@@ -1,8 +1,7 @@
-use Rattle.std.proofs.Common.{◌≡◌, ◌<◌, map, length, None, sym, ◌∙◌, ap, arith}
+use Rattle.std.proofs.Common.{◌<◌, map, length, None, sym, ◌∙◌, ap, arith}
 use Rattle.std.specs.Option.{option_map}
-use Rattle.std.proofs.lemmas.List.{length-map, at_drop_more}
+use Rattle.std.proofs.lemmas.List.{at_drop_more}
 use Rattle.asn_values.specs.View.{datum_of, part_of_field}
-use Rattle.asn_values.proofs.Entries.{each_length}
 use Rattle.asn_bits.specs.Sink.{bit_of}
 use Rattle.asn_bits.proofs.Prefixes.{bool_byte-is}
 use Rattle.asn_per.proofs.Writing.{next_seen, bitmap_passes, bitmap_more}
@@ -12,8 +11,7 @@ use Rattle.asn_per.proofs.encoder.presence_bitmap.Goals as goal
 pub loop-place-preserved : goal.loop-place-preserved
 loop-place-preserved c =
     let i = c.loop-place.place in
-    let same : length c.args.fields.now ≡ length c.args.entries.now = simp length-map at (each_length (map part_of_field c.args.fields.now) (map (option_map datum_of) c.args.entries.now) c.requires.of_type) in
-    let there : i < length c.args.entries.now = omega (arith, same, c.loop-place-test.true) in
+    let there : i < length c.args.entries.now = omega (arith, c.requires.each, c.loop-place-test.true) in
     let e = next_seen part_of_field c.args.fields.now i c.index-fields-place.result c.loop-place-test.true c.index-fields-place.is in
     elim c.if-may_be_absent.branch [
       | then-may_be_absent w ↦ (let f = next_seen (option_map datum_of) c.args.entries.now i w.index-entries-place.result there w.index-entries-place.is in

@@ -10,8 +10,8 @@ use Rattle.asn_per.proofs.Enumerations.{rank_inside}
 use Rattle.asn_per.proofs.IndexBits.{same_index_bits}
 use Rattle.asn_per.proofs.ItemIndexes.{item_kept, root_items}
 use Rattle.asn_per.proofs.ItemBits.{mark_there, bits_of_root_item, bits_of_addition, addition_there}
-use Rattle.asn_per.proofs.items.write_enumerated.Goals as goal
-use Rattle.asn_per.proofs.items.write_enumerated.Goals.{then-place-root, else-place-root}
+use Rattle.asn_per.proofs.items.write_item.Goals as goal
+use Rattle.asn_per.proofs.items.write_item.Goals.{then-place-root, else-place-root}
 
 pub write_index-requires-clause-few : goal.write_index-requires-clause-few
 write_index-requires-clause-few c = simp length-map at (root_items (map label_of c.args.root.now) (more_labels_of c.args.more.now) c.requires.of_profile).few

@@ -1,5 +1,5 @@
 -- Where the reader of the extension additions of a SEQUENCE stands.
-use Rattle.std.proofs.Common.{◌≡◌, ◌≤◌, ◌<◌, ◌+◌, ◌-◌, ◌/◌, ◌%◌, ◌^◌, ℕ, zero, suc, List, [], ◌∷◌, ◌++◌, length, map, Option, Some, None, refl, sym, ap, subst, ◌∙◌, arith, append_assoc}
+use Rattle.std.proofs.Common.{◌≡◌, ◌≤◌, ◌<◌, ◌+◌, ◌-◌, ◌/◌, ◌%◌, ◌^◌, ℕ, zero, suc, List, [], ◌∷◌, ◌++◌, length, map, Option, Some, None, sym, ap, subst, ◌∙◌, arith, append_assoc}
 use Rattle.std.proofs.lemmas.List.{append-nil, length-map}
 use Rattle.asn_values.specs.Datum.{Datum}
 use Rattle.asn_values.specs.Shape.{Shape, Fields, no_fields, field, demands}
@@ -22,7 +22,7 @@ use Rattle.asn_rules.proofs.ListedReading.{leads_entry, nothing_read}
 use Rattle.asn_rules.proofs.Parts.{map_inhabited, map_lawful, map_spells, nothing_inhabited}
 use Rattle.asn_rules.proofs.Sets.{set_inhabited, set_lawful}
 use Rattle.asn_rules.proofs.Then.{Follows, then_inhabited}
-use Rattle.asn_per.specs.Kinds.{OpenValues, OpenListed, AdditionCount, SomePresent, Additions, absent_entries}
+use Rattle.asn_per.specs.Kinds.{OpenValues, OpenListed, AdditionCount, SomePresent, Additions}
 use Rattle.asn_per.specs.Per.{per_fields}
 use Rattle.asn_per.specs.Reading.{Admits, Behind}
 use Rattle.asn_per.specs.declared.number_reader.Numbers.{Numbers}

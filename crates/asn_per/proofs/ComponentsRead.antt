@@ -13,7 +13,6 @@ use Rattle.asn_values.specs.declared.types.AsnType.{the_lemmas}
 use Rattle.asn_values.specs.declared.value.Value as values
 use Rattle.asn_values.specs.declared.value.Value.TheVariants as value
 use Rattle.asn_values.proofs.Components.{shape_of_part}
-use Rattle.asn_values.proofs.Parts.{components_of_profile}
 use Rattle.asn_bits.specs.Numbers.{bits}
 use Rattle.asn_bits.specs.Sink.{bit_of}
 use Rattle.asn_bits.proofs.Octets.{length-digits}

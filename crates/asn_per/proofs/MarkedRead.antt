@@ -1,5 +1,5 @@
 -- From the answers for the root and the additions to those for a SEQUENCE with an extension mark.
-use Rattle.std.proofs.Common.{◌≡◌, ◌≢◌, ◌≤◌, ◌<◌, ◌⊎◌, inl, inr, ℕ, ◌==◌, Bool, true, false, not, List, [], ◌∷◌, ◌++◌, length, map, Option, Some, None, Vec, Global, refl, sym, ap, subst, ◌∙◌, arith}
+use Rattle.std.proofs.Common.{◌≡◌, ◌≢◌, ◌<◌, ◌⊎◌, inl, inr, ℕ, ◌==◌, Bool, true, false, not, List, [], ◌∷◌, ◌++◌, length, map, Option, Some, None, Vec, Global, refl, sym, ap, ◌∙◌, arith}
 use Rattle.std.proofs.lemmas.Bool.{true≢false, eqb-true}
 use Rattle.std.proofs.lemmas.List.{append_cancel_right}
 use Rattle.asn_values.specs.Datum.{Datum, Components, components, component_list, components_of}
@@ -11,8 +11,8 @@ use Rattle.asn_values.specs.declared.types.Field.{Field}
 use Rattle.asn_values.proofs.Views.{sequence_of_fields}
 use Rattle.asn_values.proofs.InnerTypes.{additions_of_profile}
 use Rattle.asn_rules.specs.Chunks.{Chunk, one}
-use Rattle.asn_rules.specs.Forks.{Fork, Same}
-use Rattle.asn_rules.specs.Languages.{Spells, Short, Refused, Lawful, Inhabited, Then, Map}
+use Rattle.asn_rules.specs.Forks.{Fork}
+use Rattle.asn_rules.specs.Languages.{Spells, Refused, Lawful, Inhabited, Then, Map}
 use Rattle.asn_rules.specs.Listed.{Spelt}
 use Rattle.asn_rules.specs.Parted.{Parted}
 use Rattle.asn_rules.specs.Stops.{Stops}

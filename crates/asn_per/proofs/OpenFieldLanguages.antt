@@ -7,7 +7,7 @@ use Rattle.asn_values.specs.Shape.{Shape}
 use Rattle.asn_values.specs.Fits.{Fits}
 use Rattle.asn_values.specs.Profile.{InProfile}
 use Rattle.asn_bits.specs.Numbers.{unpacked}
-use Rattle.asn_rules.specs.Chunks.{Chunk, open_field, sealed, flat}
+use Rattle.asn_rules.specs.Chunks.{open_field, sealed, flat}
 use Rattle.asn_rules.specs.Forks.{Same}
 use Rattle.asn_rules.specs.Languages.{Lawful, Inhabited}
 use Rattle.asn_rules.specs.Laws.{AreOctets}
@@ -15,7 +15,7 @@ use Rattle.asn_rules.specs.Reading.{Holds}
 use Rattle.asn_rules.specs.Spellings.{SpelledBy}
 use Rattle.asn_rules.proofs.Forks.{same_flip, same_inhabited}
 use Rattle.asn_rules.proofs.OpenFields.{open_spelled}
-use Rattle.asn_rules.proofs.Parts.{Exact, sealed_lawful}
+use Rattle.asn_rules.proofs.Parts.{sealed_lawful}
 use Rattle.asn_rules.proofs.SomeValue.{a_value}
 use Rattle.asn_rules.proofs.Spellings.{spelled_inhabited}
 use Rattle.asn_per.specs.Per.{spelled, per, per_whole, complete, an_open_field}

@@ -34,6 +34,9 @@ use asn_rules::{Stop, Why};
 use asn_values::{Alt, AsnType, Field, Need, Size, Value};
 use std::alloc::{AllocError, Global};
 
+/// For how many elements of a list room is made at once.
+const ROOM_AT_ONCE: usize = 1024;
+
 /// Reads a value of the type.
 #[inline(always)]
 #[cycle(reader)]
@@ -350,8 +353,9 @@ fn push_absent(additions: &[Field], entries: &mut Vec<Option<Value>>) -> Result<
     Ok(())
 }
 
-/// Reads the elements of a SEQUENCE OF (X.691, "encoding the sequence-of type"). Room is made for no more of
-/// them than octets are left, however many a length announces.
+/// Reads the elements of a SEQUENCE OF (X.691, "encoding the sequence-of type"). However many a length
+/// announces, room is made for no more of them than octets are left, and for no more than `ROOM_AT_ONCE`; behind
+/// these the vector grows as elements come.
 #[cycle(reader)]
 fn read_list(
     alloc: Global,
@@ -367,7 +371,7 @@ fn read_list(
     let mut elements = Vec::new(alloc);
     let mut rows = Rows::start(size, cursor)?;
     while let Some(count) = rows.next(cursor)? {
-        elements.reserve(count.min(cursor.octets_left()))?;
+        elements.reserve(count.min(cursor.octets_left()).min(ROOM_AT_ONCE))?;
         for i in 0..count {
             let value = read(alloc, element, cursor)?;
             elements.push(value)?;

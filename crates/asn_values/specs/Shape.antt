@@ -1,5 +1,4 @@
--- Types as trees, without memory: what an `AsnType` stands for (X.680). The whole profile stands here,
--- whatever part of it the program can read as yet.
+-- Types as trees, without memory: what an `AsnType` stands for (X.680), for all kinds of type of the profile.
 use Rattle.std.specs.Prelude.{ℕ, suc, ℤ, Bool, true, false, List, [], ◌∷◌, Option}
 use Rattle.asn_values.specs.Datum.{Datum}
 

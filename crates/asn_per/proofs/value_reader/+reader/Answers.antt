@@ -1,16 +1,13 @@
-use Rattle.std.proofs.Common.{◌≡◌, ◌≢◌, ◌<◌, ◌==◌, ℕ, zero, suc, Bool, not, ◌⊎◌, inl, inr, ◌∷◌, [], ◌++◌, ◌∙◌, true, false, List, map, Some, None, rules, sym, ap, ◌+◌, ◌-◌, ◌/◌, ◌%◌, ◌^◌, length, replicate, refl, arith, Option, Vec, Global, vec_len}
+use Rattle.std.proofs.Common.{◌≡◌, ◌<◌, not, ◌⊎◌, inl, inr, ◌∷◌, [], ◌++◌, ◌∙◌, true, false, map, Some, None, rules, sym, ap, ◌+◌, ◌-◌, ◌/◌, ◌%◌, ◌^◌, length, replicate, refl, arith}
 use Rattle.std.specs.Option.{option_map}
-use Rattle.std.proofs.lemmas.Bool.{true≢false, eqb-true}
 use Rattle.std.proofs.lemmas.List.{map-append}
 use Rattle.std.proofs.lemmas.Result.{err_from_is_err_and, IfOk-weaker}
 use mir.Syntax.{w128}
 use mir.Val.{to_z, of_z}
 use Rattle.asn_bits.proofs.Above.{kept}
 use Rattle.asn_values.specs.declared.types.AsnType.{the_lemmas}
-use Rattle.asn_values.specs.declared.types.Alt.{Alt}
 use Rattle.asn_values.specs.declared.value.Value.TheVariants as value
-use Rattle.asn_values.specs.Datum.{number, components, components_of}
-use Rattle.asn_values.specs.declared.types.Field.{Field}
+use Rattle.asn_values.specs.Datum.{number}
 use Rattle.asn_values.specs.declared.types.Need.{Need}
 use Rattle.asn_values.specs.declared.types.Need.TheVariants as needs
 use Rattle.asn_values.specs.Shape.{MoreFields, integer, enumerated, sequence, closed, marked, sequence_of}
@@ -18,7 +15,7 @@ use Rattle.asn_values.specs.View.{shape_of, datum_of, fields_of, part_of_field, 
 use Rattle.asn_values.proofs.Components.{shape_of_part}
 use Rattle.asn_bits.specs.Sink.{bit_of}
 use Rattle.asn_values.proofs.Views.{shape_of-Int, shape_of-Bits, shape_of-Octets, shape_of-Text, shape_of-Utf8, datum_of-Bits, datum_of-Octets, datum_of-Text, datum_of-Seq, sequence_of_fields, list_of_elements, datum_of-List}
-use Rattle.asn_rules.specs.Listed.{bitmap_length, default_of, Spelt}
+use Rattle.asn_rules.specs.Listed.{default_of, Spelt}
 use Rattle.asn_rules.proofs.Leads.{stops_by}
 use Rattle.asn_rules.proofs.Listed.{spelt_inhabited, spelt_lawful}
 use Rattle.asn_rules.proofs.ListedReading.{nothing_read}
@@ -47,10 +44,6 @@ use Rattle.asn_rules.specs.Languages.{Spells}
 use Rattle.asn_per.proofs.value_reader.+reader.Goals.{read_complete-then-bits_left-given, read_complete-else-bits_left-given}
 use Rattle.asn_per.proofs.Decoding.{bits_fill}
 use Rattle.asn_per.proofs.OpenFieldReading.{octets_stop, value_held, more_held, none_held}
-use Rattle.asn_per.specs.declared.indexes.Index.{Index}
-use Rattle.asn_per.specs.declared.indexes.Index.TheVariants as an_index
-use Rattle.asn_per.specs.Indexes.{IsIndexWithin, index_at}
-use Rattle.asn_per.proofs.Exits.{if_err_weaker}
 use Rattle.asn_per.proofs.ChoiceTypes.{good_at, some_root, few_root, few_all, roots_good, additions_good, added_inside}
 use Rattle.asn_per.proofs.ChoiceReading.{leads_at_place, open_leads_at_place, choice_stops, root_value_leads, added_value_leads}
 

@@ -66,6 +66,10 @@ Nulls = Nothing nothing
 abbrev pub root_of : Range → Range
 root_of b = record { low = b.low; high = b.high; extensible = false }
 
+-- between two bounds, behind an extension mark or without
+abbrev pub between : ℤ → ℤ → Bool → Range
+between low high m = record { low = Some low; high = Some high; extensible = m }
+
 -- an integer of the profile outside the root
 pub record IsOutside (b : Range) (z : ℤ) : Type 0 where
   pub least : lowest_integer ≤ℤ z

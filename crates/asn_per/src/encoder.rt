@@ -1,5 +1,5 @@
 //! The encoder.
-ghost use Rattle.std.specs.Prelude.{◌≡◌, ◌≤◌, ◌<◌, ◌^◌, ◌++◌, IfOk, IfErr, OnOk, map, length, vec_len};
+ghost use Rattle.std.specs.Prelude.{◌≡◌, ◌≤◌, ◌<◌, ◌≤ℤ◌, ◌^◌, ◌++◌, IfOk, IfErr, OnOk, map, length, vec_len};
 ghost use Rattle.std.specs.Option.{option_map};
 ghost use Rattle.asn_values.specs.Fits.{Fits, FitsEach, FitsNumber, FitsAlternative};
 ghost use Rattle.asn_values.specs.Shape.{boolean, integer, marked, demands, sequence_of};
@@ -13,7 +13,7 @@ ghost use Rattle.asn_rules.specs.Answer.{max_octets};
 ghost use Rattle.asn_rules.specs.Chunks.{flat};
 ghost use Rattle.asn_rules.specs.Codec.{NotEncoded};
 ghost use Rattle.asn_rules.specs.Components.{any_present, has_presence_bit, is_spelled, presence};
-ghost use Rattle.asn_per.specs.Kinds.{root_of};
+ghost use Rattle.asn_per.specs.Kinds.{between, root_of};
 ghost use Rattle.asn_per.specs.Per.{ranged, per, per_alternative, spelled, an_open_field, per_octets};
 ghost use Rattle.asn_per.specs.Rules.{per_ruling, IsPerEncoding};
 ghost use Rattle.asn_per.specs.Laws.{per_bits};
@@ -31,8 +31,8 @@ use asn_bits::numbers::width;
 use asn_bits::offsets::above;
 use asn_rules::EncodeFault;
 use asn_values::{
-    Alt, AsnType, Bounds, Checked, Field, Need, Size, Value, fits, is_between, length_fits, number_fits,
-    same,
+    Alt, AsnType, Bounds, Checked, Field, Need, Size, Value, fits, is_between, length_fits,
+    number_fits, same,
 };
 use std::alloc::{AllocError, Global};
 
@@ -97,12 +97,7 @@ fn write_open_field(
 /// Writes a value, where it is one of the type.
 #[inline(always)]
 #[cycle(writer)]
-fn write(
-    alloc: Global,
-    ty: &AsnType,
-    value: &Value,
-    sink: &mut BitSink,
-) -> Result<(), EncodeFault>
+fn write(alloc: Global, ty: &AsnType, value: &Value, sink: &mut BitSink) -> Result<(), EncodeFault>
     requires of_profile { InProfile (shape_of ty.now) }
     ensures of_type { TellsWhether result (Fits (shape_of ty.now) (datum_of value.now)) }
     ensures written { OnOk result (sink.new ≡ sink.old ++ per_bits (shape_of ty.now) (datum_of value.now)) }
@@ -209,10 +204,52 @@ fn write_boolean(value: &Value, sink: &mut BitSink) -> Result<(), EncodeFault>
     Ok(())
 }
 
-/// Writes a number, where it is one of the range (X.691, "encoding the integer type"): behind an extension
-/// mark a bit tells whether it lies between the bounds, and outside them it is an unconstrained whole number.
+/// Writes a number, where it is one of the range (X.691, "encoding the integer type").
 #[inline(always)]
 fn write_integer(bounds: &Bounds, whole: i128, sink: &mut BitSink) -> Result<(), EncodeFault>
+    requires of_profile { InProfile (integer (range_of bounds.now)) }
+    ensures of_type { TellsWhether result (FitsNumber (range_of bounds.now) whole) }
+    ensures written { OnOk result (sink.new ≡ sink.old ++ per_bits (integer (range_of bounds.now)) (number whole)) }
+{
+    if let (Some(low), Some(high)) = (bounds.low, bounds.high)
+        && low <= whole
+        && whole <= high
+    {
+        write_between(low, high, bounds.ext, whole, sink)?;
+        return Ok(());
+    }
+    write_unbounded(bounds, whole, sink)
+}
+
+/// Writes a number between two bounds as a constrained whole number, behind a bit 0 where an extension mark
+/// follows them.
+#[inline(always)]
+fn write_between(
+    low: i128,
+    high: i128,
+    ext: bool,
+    whole: i128,
+    sink: &mut BitSink,
+) -> Result<(), AllocError>
+    requires of_profile { InProfile (integer (between low high ext)) }
+    requires of_type { (low ≤ℤ whole) × (whole ≤ℤ high) }
+    ensures { OnOk result (sink.new ≡ sink.old ++ per_bits (integer (between low high ext)) (number whole)) }
+{
+    let count = width(u128::from(above(low, high)) + 1);
+    let offset = above(low, whole);
+    if ext {
+        if count < 64 {
+            return sink.push_number(1 + count, offset);
+        }
+        sink.push(false)?;
+    }
+    sink.push_number(count, offset)
+}
+
+/// Writes a number, where it is one of the range: behind an extension mark a bit tells whether it lies
+/// between the bounds, and outside them it is an unconstrained whole number.
+#[inline(never)]
+fn write_unbounded(bounds: &Bounds, whole: i128, sink: &mut BitSink) -> Result<(), EncodeFault>
     requires of_profile { InProfile (integer (range_of bounds.now)) }
     ensures of_type { TellsWhether result (FitsNumber (range_of bounds.now) whole) }
     ensures written { OnOk result (sink.new ≡ sink.old ++ per_bits (integer (range_of bounds.now)) (number whole)) }
@@ -234,7 +271,6 @@ fn write_integer(bounds: &Bounds, whole: i128, sink: &mut BitSink) -> Result<(),
 
 /// Writes a number between the bounds: as a constrained whole number where there are both, a
 /// semi-constrained one where there is a lower bound, else an unconstrained one.
-#[inline(always)]
 fn write_ranged(bounds: &Bounds, whole: i128, sink: &mut BitSink) -> Result<(), AllocError>
     requires of_profile { InProfile (integer (root_of (range_of bounds.now))) }
     requires of_type { FitsNumber (root_of (range_of bounds.now)) whole }
@@ -314,7 +350,9 @@ fn write_components(
         return Err(EncodeFault::NotOfType);
     }
     let (count, bitmap) = presence_bitmap(fields, entries);
-    sink.push_number(count, bitmap)?;
+    if count > 0 {
+        sink.push_number(count, bitmap)?;
+    }
     for (field, entry) in fields.iter().zip(entries) {
         let Some(value) = entry else {
             if matches!(field.need, Need::Optional) {

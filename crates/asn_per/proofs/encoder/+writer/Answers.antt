@@ -284,7 +284,7 @@ write_list-loop-many-preserved t c =
     record {
       fits = λ g. c.loop-many.invariant.fits (fragment_fits element c.in_ok-many.many c.loop-many.done vs fit g);
       written = fragment_written xs c.push_count.new.sink c.loop-many.sink c.push_length.new.self c.write_elements-in-loop-many.new.sink c.loop-many.done c.in_ok-many.many (length vs)
-      c.loop-many.invariant.written (sym (codes_count element vs)) c.in_ok-many.ensures.items c.in_ok-many.ensures.ok row c.if-last.false;
+          c.loop-many.invariant.written (sym (codes_count element vs)) c.in_ok-many.ensures.items c.in_ok-many.ensures.ok row c.if-last.false;
     }
 
 pub write_elements-loop-value-preserved : goal.write_elements-loop-value-preserved

@@ -1,20 +1,19 @@
 //! The encoder.
-ghost use Rattle.std.specs.Prelude.{◌≡◌, ◌≤◌, ◌<◌, ◌≤ℤ◌, ◌^◌, ◌++◌, IfOk, IfErr, OnOk, map, length, vec_len};
+ghost use Rattle.std.specs.Prelude.{◌≡◌, ◌≤◌, ◌<◌, ◌^◌, ◌++◌, IfOk, IfErr, OnOk, map, length, vec_len};
 ghost use Rattle.std.specs.Option.{option_map};
-ghost use Rattle.asn_values.specs.Fits.{Fits, FitsEach, FitsNumber, FitsAlternative};
-ghost use Rattle.asn_values.specs.Shape.{boolean, integer, marked, demands, sequence_of};
-ghost use Rattle.asn_values.specs.Datum.{number, elements, elements_of};
+ghost use Rattle.asn_values.specs.Fits.{Fits, FitsEach, FitsAlternative};
+ghost use Rattle.asn_values.specs.Shape.{boolean, marked, demands, sequence_of};
+ghost use Rattle.asn_values.specs.Datum.{elements, elements_of};
 ghost use Rattle.std.specs.List.{AllByRecursion};
 ghost use Rattle.asn_values.specs.Profile.{InProfile};
 ghost use Rattle.asn_values.specs.Parts.{AreOfProfile, AreAllOfProfile, IsGoodDemand};
-ghost use Rattle.asn_values.specs.View.{shape_of, datum_of, range_of, size_range_of, fields_of, part_of_field, alternatives_of, branch_of};
+ghost use Rattle.asn_values.specs.View.{shape_of, datum_of, size_range_of, fields_of, part_of_field, alternatives_of, branch_of};
 ghost use Rattle.asn_bits.specs.Numbers.{bits};
 ghost use Rattle.asn_rules.specs.Answer.{max_octets};
 ghost use Rattle.asn_rules.specs.Chunks.{flat};
 ghost use Rattle.asn_rules.specs.Codec.{NotEncoded};
 ghost use Rattle.asn_rules.specs.Components.{any_present, has_presence_bit, is_spelled, presence};
-ghost use Rattle.asn_per.specs.Kinds.{between, root_of};
-ghost use Rattle.asn_per.specs.Per.{ranged, per, per_alternative, spelled, an_open_field, per_octets};
+ghost use Rattle.asn_per.specs.Per.{per, per_alternative, spelled, an_open_field, per_octets};
 ghost use Rattle.asn_per.specs.Rules.{per_ruling, IsPerEncoding};
 ghost use Rattle.asn_per.specs.Laws.{per_bits};
 ghost use Rattle.asn_per.specs.Additions.{AreOptional, root_bits, addition_bits};
@@ -22,19 +21,15 @@ ghost use Rattle.asn_per.specs.StringItems.{row_bits};
 ghost use Rattle.asn_per.specs.Writers.{TellsWhether};
 
 use crate::indexes::{Index, write_index};
+use crate::integer_writer::write_integer;
 use crate::items::write_enumerated;
 use crate::string_writer::{
     BLOCK, push_count, write_bit_string, write_octet_string, write_text, write_utf8,
 };
 use asn_bits::BitSink;
-use asn_bits::numbers::width;
-use asn_bits::offsets::above;
 use asn_rules::EncodeFault;
-use asn_values::{
-    Alt, AsnType, Bounds, Checked, Field, Need, Size, Value, fits, is_between, length_fits,
-    number_fits, same,
-};
-use std::alloc::{AllocError, Global};
+use asn_values::{Alt, AsnType, Checked, Field, Need, Size, Value, fits, length_fits, same};
+use std::alloc::Global;
 
 /// The most octets of a message.
 pub(crate) const MAX_OCTETS: usize = 268_435_455;
@@ -202,88 +197,6 @@ fn write_boolean(value: &Value, sink: &mut BitSink) -> Result<(), EncodeFault>
     };
     sink.push(*truth)?;
     Ok(())
-}
-
-/// Writes a number, where it is one of the range (X.691, "encoding the integer type").
-#[inline(always)]
-fn write_integer(bounds: &Bounds, whole: i128, sink: &mut BitSink) -> Result<(), EncodeFault>
-    requires of_profile { InProfile (integer (range_of bounds.now)) }
-    ensures of_type { TellsWhether result (FitsNumber (range_of bounds.now) whole) }
-    ensures written { OnOk result (sink.new ≡ sink.old ++ per_bits (integer (range_of bounds.now)) (number whole)) }
-{
-    if let (Some(low), Some(high)) = (bounds.low, bounds.high)
-        && low <= whole
-        && whole <= high
-    {
-        write_between(low, high, bounds.ext, whole, sink)?;
-        return Ok(());
-    }
-    write_unbounded(bounds, whole, sink)
-}
-
-/// Writes a number between two bounds as a constrained whole number, behind a bit 0 where an extension mark
-/// follows them.
-#[inline(always)]
-fn write_between(
-    low: i128,
-    high: i128,
-    ext: bool,
-    whole: i128,
-    sink: &mut BitSink,
-) -> Result<(), AllocError>
-    requires of_profile { InProfile (integer (between low high ext)) }
-    requires of_type { (low ≤ℤ whole) × (whole ≤ℤ high) }
-    ensures { OnOk result (sink.new ≡ sink.old ++ per_bits (integer (between low high ext)) (number whole)) }
-{
-    let count = width(u128::from(above(low, high)) + 1);
-    let offset = above(low, whole);
-    if ext {
-        if count < 64 {
-            return sink.push_number(1 + count, offset);
-        }
-        sink.push(false)?;
-    }
-    sink.push_number(count, offset)
-}
-
-/// Writes a number, where it is one of the range: behind an extension mark a bit tells whether it lies
-/// between the bounds, and outside them it is an unconstrained whole number.
-#[inline(never)]
-fn write_unbounded(bounds: &Bounds, whole: i128, sink: &mut BitSink) -> Result<(), EncodeFault>
-    requires of_profile { InProfile (integer (range_of bounds.now)) }
-    ensures of_type { TellsWhether result (FitsNumber (range_of bounds.now) whole) }
-    ensures written { OnOk result (sink.new ≡ sink.old ++ per_bits (integer (range_of bounds.now)) (number whole)) }
-{
-    if !number_fits(bounds, whole) {
-        return Err(EncodeFault::NotOfType);
-    }
-    if bounds.ext {
-        let inside = is_between(bounds, whole);
-        sink.push(!inside)?;
-        if !inside {
-            sink.push_least_signed_octets(whole)?;
-            return Ok(());
-        }
-    }
-    write_ranged(bounds, whole, sink)?;
-    Ok(())
-}
-
-/// Writes a number between the bounds: as a constrained whole number where there are both, a
-/// semi-constrained one where there is a lower bound, else an unconstrained one.
-fn write_ranged(bounds: &Bounds, whole: i128, sink: &mut BitSink) -> Result<(), AllocError>
-    requires of_profile { InProfile (integer (root_of (range_of bounds.now))) }
-    requires of_type { FitsNumber (root_of (range_of bounds.now)) whole }
-    ensures { OnOk result (sink.new ≡ sink.old ++ ranged bounds.now.low bounds.now.high whole) }
-{
-    let Some(low) = bounds.low else {
-        return sink.push_least_signed_octets(whole);
-    };
-    let offset = above(low, whole);
-    match bounds.high {
-        Some(high) => sink.push_number(width(u128::from(above(low, high)) + 1), offset),
-        None => sink.push_least_octets(offset),
-    }
 }
 
 /// How many presence bits the components have, and the bitmap as a number (X.691, "encoding the

@@ -8,6 +8,7 @@ mod decoder;
 mod encoder;
 mod indexes;
 mod integer_reader;
+mod integer_writer;
 mod item_writer;
 mod items;
 mod kinds;

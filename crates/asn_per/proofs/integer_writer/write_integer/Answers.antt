@@ -4,7 +4,7 @@ use Rattle.asn_values.specs.Profile.{InProfile}
 use Rattle.asn_values.specs.Shape.{integer}
 use Rattle.asn_per.specs.Kinds.{between}
 use Rattle.asn_per.proofs.BetweenBounds.{between_fits}
-use Rattle.asn_per.proofs.encoder.write_integer.Goals as goal
+use Rattle.asn_per.proofs.integer_writer.write_integer.Goals as goal
 
 pub returns-clause-of_type : goal.returns-clause-of_type
 returns-clause-of_type c =

@@ -4,8 +4,8 @@ use Rattle.asn_values.specs.Fits.{in_range}
 use Rattle.asn_values.specs.View.{range_of}
 use Rattle.asn_per.specs.Per.{ranged, unconstrained}
 use Rattle.asn_per.proofs.Spellings.{bits_of_unmarked, bits_of_inside, bits_of_outside}
-use Rattle.asn_per.proofs.encoder.write_unbounded.Goals.{then-bounds+in_ok-push+else-not-inside, else-bounds}
-use Rattle.asn_per.proofs.encoder.write_unbounded.Goals as goal
+use Rattle.asn_per.proofs.integer_writer.write_unbounded.Goals.{then-bounds+in_ok-push+else-not-inside, else-bounds}
+use Rattle.asn_per.proofs.integer_writer.write_unbounded.Goals as goal
 
 pub returns-then-not-inside-clause-written : goal.returns-then-not-inside-clause-written
 returns-then-not-inside-clause-written c =

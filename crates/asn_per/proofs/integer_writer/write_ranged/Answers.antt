@@ -5,7 +5,7 @@ use Rattle.asn_values.specs.Profile.{InProfile}
 use Rattle.asn_bits.specs.Numbers.{width, above}
 use Rattle.asn_bits.proofs.Above.{kept}
 use Rattle.asn_per.proofs.IntegerRanges.{ranging, low_above_lowest, high_below_highest, above_fits, low_kept, high_kept}
-use Rattle.asn_per.proofs.encoder.write_ranged.Goals as goal
+use Rattle.asn_per.proofs.integer_writer.write_ranged.Goals as goal
 
 pub above-offset-requires-clause-within_low : goal.above-offset-requires-clause-within_low
 above-offset-requires-clause-within_low c =

@@ -9,8 +9,8 @@ use Rattle.asn_rules.specs.Components.{extension_bit}
 use Rattle.asn_per.specs.Kinds.{between}
 use Rattle.asn_per.specs.Laws.{per_bits}
 use Rattle.asn_per.proofs.BetweenBounds.{low_within, high_within, number_within, low_stays, high_stays, number_stays, offset_fits, offset_fits_more, bits_between, bits_behind_mark}
-use Rattle.asn_per.proofs.encoder.write_between.Goals as goal
-use Rattle.asn_per.proofs.encoder.write_between.Goals.{then-ext+else-count-lt64+in_ok-push, else-ext}
+use Rattle.asn_per.proofs.integer_writer.write_between.Goals as goal
+use Rattle.asn_per.proofs.integer_writer.write_between.Goals.{then-ext+else-count-lt64+in_ok-push, else-ext}
 
 pub above-requires-clause-within_low : goal.above-requires-clause-within_low
 above-requires-clause-within_low c =

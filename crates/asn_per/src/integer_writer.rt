@@ -1,0 +1,113 @@
+//! Writers of INTEGER.
+ghost use Rattle.std.specs.Prelude.{◌≡◌, ◌↔◌, ◌≤ℤ◌, ◌++◌, IsTrue, OnOk};
+ghost use Rattle.asn_values.specs.Fits.{FitsNumber, lowest_integer, highest_integer};
+ghost use Rattle.asn_values.specs.Shape.{integer};
+ghost use Rattle.asn_values.specs.Datum.{number};
+ghost use Rattle.asn_values.specs.Profile.{InProfile};
+ghost use Rattle.asn_values.specs.View.{range_of};
+ghost use Rattle.asn_per.specs.Kinds.{between, root_of};
+ghost use Rattle.asn_per.specs.Laws.{per_bits};
+ghost use Rattle.asn_per.specs.Per.{ranged};
+ghost use Rattle.asn_per.specs.Writers.{TellsWhether};
+
+use asn_bits::BitSink;
+use asn_bits::numbers::width;
+use asn_bits::offsets::above;
+use asn_rules::EncodeFault;
+use asn_values::{Bounds, is_between, number_fits};
+use std::alloc::AllocError;
+
+/// Writes a number, where it is one of the range (X.691, "encoding the integer type").
+#[inline(always)]
+pub(crate) fn write_integer(bounds: &Bounds, whole: i128, sink: &mut BitSink) -> Result<(), EncodeFault>
+    requires of_profile { InProfile (integer (range_of bounds.now)) }
+    ensures of_type { TellsWhether result (FitsNumber (range_of bounds.now) whole) }
+    ensures written { OnOk result (sink.new ≡ sink.old ++ per_bits (integer (range_of bounds.now)) (number whole)) }
+{
+    if let (Some(low), Some(high)) = (bounds.low, bounds.high)
+        && lies_between(low, high, whole)
+    {
+        write_between(low, high, bounds.ext, whole, sink)?;
+        return Ok(());
+    }
+    write_unbounded(bounds, whole, sink)
+}
+
+/// Whether the number lies between two bounds of 64 signed bits, both counted in. What it computes are the
+/// count of the numbers between the bounds and the place of this one, which are written then.
+#[inline(always)]
+fn lies_between(low: i128, high: i128, whole: i128) -> bool
+    requires of_profile { (lowest_integer ≤ℤ low) × (low ≤ℤ high) × (high ≤ℤ highest_integer) }
+    ensures { IsTrue result ↔ ((low ≤ℤ whole) × (whole ≤ℤ high)) }
+{
+    // a difference that does not fit in 128 bits is none of 64
+    match u64::try_from(whole.wrapping_sub(low)) {
+        Ok(offset) => offset <= above(low, high),
+        Err(_) => false,
+    }
+}
+
+/// Writes a number between two bounds as a constrained whole number, behind a bit 0 where an extension mark
+/// follows them.
+#[inline(always)]
+fn write_between(
+    low: i128,
+    high: i128,
+    ext: bool,
+    whole: i128,
+    sink: &mut BitSink,
+) -> Result<(), AllocError>
+    requires of_profile { InProfile (integer (between low high ext)) }
+    requires of_type { (low ≤ℤ whole) × (whole ≤ℤ high) }
+    ensures { OnOk result (sink.new ≡ sink.old ++ per_bits (integer (between low high ext)) (number whole)) }
+{
+    let count = width(u128::from(above(low, high)) + 1);
+    let offset = above(low, whole);
+    if ext {
+        if count < 64 {
+            return sink.push_number(1 + count, offset);
+        }
+        sink.push(false)?;
+    }
+    sink.push_number(count, offset)
+}
+
+/// Writes a number, where it is one of the range: behind an extension mark a bit tells whether it lies
+/// between the bounds, and outside them it is an unconstrained whole number.
+#[inline(never)]
+fn write_unbounded(bounds: &Bounds, whole: i128, sink: &mut BitSink) -> Result<(), EncodeFault>
+    requires of_profile { InProfile (integer (range_of bounds.now)) }
+    ensures of_type { TellsWhether result (FitsNumber (range_of bounds.now) whole) }
+    ensures written { OnOk result (sink.new ≡ sink.old ++ per_bits (integer (range_of bounds.now)) (number whole)) }
+{
+    if !number_fits(bounds, whole) {
+        return Err(EncodeFault::NotOfType);
+    }
+    if bounds.ext {
+        let inside = is_between(bounds, whole);
+        sink.push(!inside)?;
+        if !inside {
+            sink.push_least_signed_octets(whole)?;
+            return Ok(());
+        }
+    }
+    write_ranged(bounds, whole, sink)?;
+    Ok(())
+}
+
+/// Writes a number between the bounds: as a constrained whole number where there are both, a
+/// semi-constrained one where there is a lower bound, else an unconstrained one.
+fn write_ranged(bounds: &Bounds, whole: i128, sink: &mut BitSink) -> Result<(), AllocError>
+    requires of_profile { InProfile (integer (root_of (range_of bounds.now))) }
+    requires of_type { FitsNumber (root_of (range_of bounds.now)) whole }
+    ensures { OnOk result (sink.new ≡ sink.old ++ ranged bounds.now.low bounds.now.high whole) }
+{
+    let Some(low) = bounds.low else {
+        return sink.push_least_signed_octets(whole);
+    };
+    let offset = above(low, whole);
+    match bounds.high {
+        Some(high) => sink.push_number(width(u128::from(above(low, high)) + 1), offset),
+        None => sink.push_least_octets(offset),
+    }
+}

@@ -11,12 +11,12 @@ use Rattle.asn_values.specs.Profile.{InProfile}
 use Rattle.asn_bits.specs.Numbers.{above, width, bits}
 use Rattle.asn_bits.proofs.Above.{test_of_le, above_within, kept}
 use Rattle.asn_bits.proofs.Widths.{width_fits}
-use Rattle.asn_rules.specs.Components.{bit_of, extension_bit}
+use Rattle.asn_rules.specs.Components.{extension_bit}
 use Rattle.asn_per.specs.Kinds.{between}
 use Rattle.asn_per.specs.Laws.{per_bits}
 use Rattle.asn_per.specs.Per.{constrained}
 use Rattle.asn_per.proofs.IndexBits.{index_fits, root_index_bits}
-use Rattle.asn_per.proofs.IntegerRanges.{ranging, low_above_lowest, high_below_highest}
+use Rattle.asn_per.proofs.IntegerRanges.{ranging, low_above_lowest, low_below_high, high_below_highest}
 use Rattle.asn_per.proofs.MarkedIntegers.{root_of_profile}
 use Rattle.asn_per.proofs.Spellings.{bits_of_unmarked, bits_of_inside}
 
@@ -24,15 +24,20 @@ both_true : (a b : Bool) → a ≡ true → b ≡ true → (a && b) ≡ true
 both_true true b p q = q
 both_true false b p q = absurd (cc)
 
-module _ (low high z : ℤ) (m : Bool) (good : InProfile (integer (between low high m))) (least : low ≤ℤ z) (most : z ≤ℤ high) where
+module _ (low high : ℤ) (m : Bool) (good : InProfile (integer (between low high m))) where
   plain : InProfile (integer (ranging low (Some high)))
   plain = root_of_profile (between low high m) good
 
+  -- the bounds are integers of the profile, in their order
+  pub bounds_within : (lowest_integer ≤ℤ low) × (low ≤ℤ high) × (high ≤ℤ highest_integer)
+  bounds_within = (low_above_lowest low (Some high) plain, low_below_high low high plain, high_below_highest low high plain)
+
+module _ (low high z : ℤ) (m : Bool) (good : InProfile (integer (between low high m))) (least : low ≤ℤ z) (most : z ≤ℤ high) where
   pub low_within : lowest_integer ≤ℤ low
-  low_within = low_above_lowest low (Some high) plain
+  low_within = (bounds_within low high m good).0
 
   pub high_within : high ≤ℤ highest_integer
-  high_within = high_below_highest low high plain
+  high_within = (bounds_within low high m good).2
 
   pub number_within : (lowest_integer ≤ℤ z) × (z ≤ℤ highest_integer)
   number_within = (omega (arith, ints, low_within, least), omega (arith, ints, most, high_within))

@@ -19,7 +19,11 @@ use std::alloc::AllocError;
 
 /// Writes a number, where it is one of the range (X.691, "encoding the integer type").
 #[inline(always)]
-pub(crate) fn write_integer(bounds: &Bounds, whole: i128, sink: &mut BitSink) -> Result<(), EncodeFault>
+pub(crate) fn write_integer(
+    bounds: &Bounds,
+    whole: i128,
+    sink: &mut BitSink,
+) -> Result<(), EncodeFault>
     requires of_profile { InProfile (integer (range_of bounds.now)) }
     ensures of_type { TellsWhether result (FitsNumber (range_of bounds.now) whole) }
     ensures written { OnOk result (sink.new ≡ sink.old ++ per_bits (integer (range_of bounds.now)) (number whole)) }

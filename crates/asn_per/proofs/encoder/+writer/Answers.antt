@@ -18,10 +18,8 @@ use Rattle.asn_values.proofs.Components.{shape_of_part}
 use Rattle.asn_values.proofs.Entries.{other_length}
 use Rattle.asn_values.proofs.InnerTypes.{element_of_profile}
 use Rattle.asn_bits.specs.Numbers.{bits}
-use Rattle.asn_bits.proofs.Above.{kept}
 use Rattle.asn_rules.specs.Chunks.{flat}
 use Rattle.asn_rules.specs.Components.{is_spelled}
-use Rattle.asn_rules.proofs.Entries.{each_length}
 use Rattle.asn_per.specs.Additions.{addition_bits}
 use Rattle.asn_per.specs.Laws.{per_bits}
 use Rattle.asn_per.specs.Per.{spelled, per, sized, an_open_field}
@@ -32,11 +30,11 @@ use Rattle.asn_per.proofs.ChoiceWriting.{root_fits, added_fits, past_root, past_
 use Rattle.asn_per.proofs.Completing.{Topped, completed}
 use Rattle.asn_per.proofs.ComponentsRead.{datum_of-Int, demand_of_part}
 use Rattle.asn_per.proofs.ListWriting.{codes, codes_count, list_fits, other_count, list_written, some_fit, some_bits, fragment_fits, all_fit, elements_next, next_value}
-use Rattle.asn_per.proofs.SequenceWriting.{none_fit, opened_more, root_written, additions_written, sequence_written, unmarked_written}
+use Rattle.asn_per.proofs.SequenceWriting.{none_fit, opened_more, additions_written, sequence_written, unmarked_written}
 use Rattle.asn_per.proofs.Sequences.{of_sequence, parts_of_profile, few_components, count_of_fields, unmarked_fits, marked_fits as fits_marked, first_ones, other_ones, marked_fields, added_of_profile, added_optional, few_added}
 use Rattle.asn_per.proofs.SizesWritten.{written_more as fragment_written, written_all}
 use Rattle.asn_per.proofs.Writers.{tells_by, tells_err, written_by}
-use Rattle.asn_per.proofs.Writing.{written_more, written_passes, written_ends, all_written, either_map}
+use Rattle.asn_per.proofs.Writing.{written_more, written_passes, written_ends, either_map}
 use Rattle.asn_per.proofs.encoder.+writer.Goals as goal
 use Rattle.asn_per.proofs.encoder.+writer.Goals.{complete_encoding-then-is_empty+in_ok-push_number, complete_encoding-else-is_empty}
 

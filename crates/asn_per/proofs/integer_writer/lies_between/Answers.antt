@@ -1,15 +1,18 @@
-use Rattle.std.proofs.Common.{rules, ◌≡◌, ◌↔◌, ◌≤ℤ◌, ◌++◌, IsTrue, OnOk, ℕ, ◌+◌, ◌-◌, ◌*◌, ◌<◌, ◌≤◌, length, ◌/◌, ◌%◌, Bool, true, false, nat_eq, nat_lt, List, [], ◌∷◌, slice_index_or, slice_set, bit_and, bit_or, Fits, w8, w32, w64, Bor, MutBor, ℤ, pos, ◌+ℤ◌, ◌-ℤ◌, ◌*ℤ◌, ◌<ℤ◌, FitsSigned, to_z, of_z}
-use Rattle.asn_values.specs.Fits.{FitsNumber, lowest_integer, highest_integer}
-use Rattle.asn_values.specs.Shape.{integer}
-use Rattle.asn_values.specs.Datum.{number}
-use Rattle.asn_values.specs.Profile.{InProfile}
-use Rattle.asn_values.specs.View.{range_of}
-use Rattle.asn_per.specs.Kinds.{between, root_of}
-use Rattle.asn_per.specs.Laws.{per_bits}
-use Rattle.asn_per.specs.Per.{ranged}
-use Rattle.asn_per.specs.Writers.{TellsWhether}
+use Rattle.std.proofs.Common.{rules, ◌≡◌, pos, ◌-ℤ◌, arith}
+use Rattle.std.proofs.lemmas.Int.{ints}
+use Rattle.std.proofs.lemmas.Bool.{leb-true, le-leb}
+use Rattle.asn_bits.specs.Numbers.{above}
+use Rattle.asn_bits.proofs.Above.{kept, pos-above}
 use Rattle.asn_per.proofs.integer_writer.lies_between.Goals as goal
 
--- src/integer_writer.rt:38:1
 pub returns-in-Ok : goal.returns-in-Ok
-returns-in-Ok c = ?
+returns-in-Ok c =
+    let r = c.requires.of_profile in
+    let low = kept c.args.low r.0 (omega (arith, ints, r)) in
+    let high = kept c.args.high (omega (arith, ints, r)) r.2 in
+    let top : c.above.result ≡ above c.args.low c.args.high = rw (low, high) at c.above.ensures in
+    let far : pos c.above.result ≡ c.args.high -ℤ c.args.low = rw top (pos-above c.args.low c.args.high r.1) in
+    let offset : pos c.in-Ok.offset ≡ c.args.whole -ℤ c.args.low = search rules in (
+      λ h. (omega (arith, ints, offset, leb-true c.in-Ok.offset c.above.result h, far), omega (arith, ints, offset, leb-true c.in-Ok.offset c.above.result h, far)),
+      λ h. le-leb c.in-Ok.offset c.above.result (omega (arith, ints, offset, far, h)),
+    )

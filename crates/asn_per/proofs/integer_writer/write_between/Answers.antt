@@ -1,13 +1,9 @@
-use Rattle.std.proofs.Common.{◌≡◌, ◌∷◌, ◌++◌, ◌+◌, ◌≤ℤ◌, ℕ, suc, ℤ, List, [], true, false, append_assoc, subst, sym, ap, ◌∙◌, arith}
+use Rattle.std.proofs.Common.{◌≡◌, ◌++◌, ◌+◌, ◌≤ℤ◌, ℕ, suc, ℤ, List, false, append_assoc, subst, sym, ap, ◌∙◌, arith}
 use Rattle.std.proofs.lemmas.List.{append-nil}
 use Rattle.std.proofs.lemmas.Result.{on_ok_weaker}
 use Rattle.asn_values.specs.Fits.{lowest_integer, highest_integer}
-use Rattle.asn_values.specs.Shape.{integer}
-use Rattle.asn_values.specs.Datum.{number}
 use Rattle.asn_bits.specs.Numbers.{above, width, bits}
 use Rattle.asn_rules.specs.Components.{extension_bit}
-use Rattle.asn_per.specs.Kinds.{between}
-use Rattle.asn_per.specs.Laws.{per_bits}
 use Rattle.asn_per.proofs.BetweenBounds.{low_within, high_within, number_within, low_stays, high_stays, number_stays, offset_fits, offset_fits_more, bits_between, bits_behind_mark}
 use Rattle.asn_per.proofs.integer_writer.write_between.Goals as goal
 use Rattle.asn_per.proofs.integer_writer.write_between.Goals.{then-ext+else-count-lt64+in_ok-push, else-ext}

@@ -190,7 +190,8 @@ fn has_room(octets: &Vec<u8>) -> bool
     octets.capacity() - octets.len() >= 24
 }
 
-// makes room for three words: two that go out and one that waits; where memory is needed, for sixteen
+// makes room for three words: two that go out and one that waits; where memory is needed, for as many octets
+// as a message of the road has, so that it is not moved as it grows
 fn make_room(octets: &mut Vec<u8>) -> Result<(), AllocError>
     ensures ok { OnOk result (vec_len octets.new + 24 ≤ vec_capacity octets.new) }
     ensures items { octets.new.items ≡ octets.old.items }
@@ -198,7 +199,7 @@ fn make_room(octets: &mut Vec<u8>) -> Result<(), AllocError>
     ensures capacity { vec_capacity octets.old ≤ vec_capacity octets.new }
 {
     if !has_room(octets) {
-        octets.reserve(128)?;
+        octets.reserve(512)?;
     }
     Ok(())
 }

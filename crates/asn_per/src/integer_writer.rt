@@ -1,6 +1,6 @@
 //! Writers of INTEGER.
-ghost use Rattle.std.specs.Prelude.{◌≡◌, ◌↔◌, ◌≤ℤ◌, ◌++◌, IsTrue, OnOk};
-ghost use Rattle.asn_values.specs.Fits.{FitsNumber, lowest_integer, highest_integer};
+ghost use Rattle.std.specs.Prelude.{◌≡◌, ◌≤ℤ◌, ◌++◌, OnOk};
+ghost use Rattle.asn_values.specs.Fits.{FitsNumber};
 ghost use Rattle.asn_values.specs.Shape.{integer};
 ghost use Rattle.asn_values.specs.Datum.{number};
 ghost use Rattle.asn_values.specs.Profile.{InProfile};
@@ -29,26 +29,13 @@ pub(crate) fn write_integer(
     ensures written { OnOk result (sink.new ≡ sink.old ++ per_bits (integer (range_of bounds.now)) (number whole)) }
 {
     if let (Some(low), Some(high)) = (bounds.low, bounds.high)
-        && lies_between(low, high, whole)
+        && low <= whole
+        && whole <= high
     {
         write_between(low, high, bounds.ext, whole, sink)?;
         return Ok(());
     }
     write_unbounded(bounds, whole, sink)
-}
-
-/// Whether the number lies between two bounds of 64 signed bits, both counted in. What it computes are the
-/// count of the numbers between the bounds and the place of this one, which are written then.
-#[inline(always)]
-fn lies_between(low: i128, high: i128, whole: i128) -> bool
-    requires of_profile { (lowest_integer ≤ℤ low) × (low ≤ℤ high) × (high ≤ℤ highest_integer) }
-    ensures { IsTrue result ↔ ((low ≤ℤ whole) × (whole ≤ℤ high)) }
-{
-    // a difference that does not fit in 128 bits is none of 64
-    match u64::try_from(whole.wrapping_sub(low)) {
-        Ok(offset) => offset <= above(low, high),
-        Err(_) => false,
-    }
 }
 
 /// Writes a number between two bounds as a constrained whole number, behind a bit 0 where an extension mark

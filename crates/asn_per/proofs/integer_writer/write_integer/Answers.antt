@@ -1,21 +1,10 @@
-use Rattle.std.proofs.Common.{rules, ◌≤ℤ◌, arith}
-use Rattle.std.proofs.lemmas.Int.{ints}
+use Rattle.std.proofs.Common.{rules, ◌≤ℤ◌}
 use Rattle.asn_values.specs.Fits.{FitsNumber}
 use Rattle.asn_values.specs.Profile.{InProfile}
 use Rattle.asn_values.specs.Shape.{integer}
-use Rattle.asn_bits.proofs.Above.{kept}
 use Rattle.asn_per.specs.Kinds.{between}
-use Rattle.asn_per.proofs.BetweenBounds.{bounds_within, between_fits}
+use Rattle.asn_per.proofs.BetweenBounds.{between_fits}
 use Rattle.asn_per.proofs.integer_writer.write_integer.Goals as goal
-
-pub lies_between-requires : goal.lies_between-requires
-lies_between-requires c =
-    let low = c.in-Some-Some.low in
-    let high = c.in-Some-Some.high in
-    let ext = c.args.bounds.now.ext in
-    let good : InProfile (integer (between low high ext)) = rw (c.in-Some-Some.is-0, c.in-Some-Some.is-1) at c.requires.of_profile in
-    let within = bounds_within low high ext good in
-    record { of_profile = rw (kept low within.0 (omega (arith, ints, within)), kept high (omega (arith, ints, within)) within.2) within }
 
 pub returns-clause-of_type : goal.returns-clause-of_type
 returns-clause-of_type c =

@@ -7,7 +7,10 @@ use Rattle.asn_values.specs.Shape.{Shape, Demand, must, optional, default, Field
 use Rattle.asn_values.specs.Fits.{Fits, FitsDemand, FitsEach}
 use Rattle.asn_values.specs.Profile.{InProfile}
 use Rattle.asn_values.specs.Parts.{IsGoodDemand, AreOfProfile}
-use Rattle.asn_values.specs.View.{Part, fields_of}
+use Rattle.asn_values.specs.View.{Part, fields_of, demand_of}
+use Rattle.asn_values.specs.declared.types.Need.{Need}
+use Rattle.asn_values.specs.declared.types.Need.TheVariants as need
+use Rattle.asn_values.specs.declared.value.Value.{Value}
 use Rattle.asn_bits.specs.Numbers.{bits}
 use Rattle.asn_bits.specs.Sink.{bit_of}
 use Rattle.asn_bits.proofs.Prefixes.{bit_below}
@@ -162,7 +165,13 @@ module _ {code : Fields → List (Option Datum) → List ℕ} {All : Type 0} {be
   pub all_written : All
   all_written = h.fits.0 (rw (none.0, none.1) tt)
 
--- a component that is spelt
+-- a component that has a value and no DEFAULT is spelt
+pub spelt_unless_default : (n : Need) (d : Datum) → ((x : Value) → n ≡ need.Default x → ⊥) → is_spelled (demand_of n) (Some d) ≡ true
+spelt_unless_default need.Must d h = refl
+spelt_unless_default need.Optional d h = refl
+spelt_unless_default (need.Default x) d h = absurd (h x refl)
+
+-- one that is spelt
 pub written_more : {All : Type 0} {before all_bits now new : List ℕ} {left : List Part} {p : Part} {rest : List (Option Datum)} {d : Datum}
     → Written component_bits All before all_bits now (p ∷ left) (Some d ∷ rest) → is_spelled p.demand (Some d) ≡ true → Fits p.shape d → new ≡ now ++ per_bits p.shape d → Written component_bits All before all_bits new left rest
 written_more {left = left} {p = p} {rest = rest} {d = d} h s f e = written_on (per_bits p.shape d) h f (component_bits-spelled p.name p.demand p.shape (fields_of left) d rest s) e

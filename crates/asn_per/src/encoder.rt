@@ -273,13 +273,11 @@ fn write_components(
             }
             return Err(EncodeFault::NotOfType);
         };
-        // integers that are always there are most often met, so these are written before any other kind
-        // is asked for
-        if let (AsnType::Int(bounds), Value::Int(whole), Need::Must) = (
-            &field.ty,
-            value,
-            &field.need,
-        ) {
+        // integers without a DEFAULT are most often met, so these are written before any other kind is
+        // asked for
+        if let (AsnType::Int(bounds), Value::Int(whole)) = (&field.ty, value)
+            && !matches!(field.need, Need::Default(_))
+        {
             write_integer(bounds, *whole, sink)?;
         } else if is_encoded(field, entry) {
             write(alloc, &field.ty, value, sink)?;

@@ -11,7 +11,7 @@ use Rattle.asn_values.specs.Shape.{Shape, integer, MoreFields, sequence, marked}
 use Rattle.asn_values.specs.Datum.{number}
 use Rattle.asn_values.specs.Fits.{Fits, FitsLength, FitsNumber}
 use Rattle.asn_values.specs.Profile.{InProfile}
-use Rattle.asn_values.specs.View.{shape_of, datum_of, demand_of, range_of, fields_of, part_of_field, more_fields_of, size_range_of}
+use Rattle.asn_values.specs.View.{shape_of, datum_of, range_of, fields_of, part_of_field, more_fields_of, size_range_of}
 use Rattle.asn_values.proofs.Views.{shape_of-Int, list_of_elements}
 use Rattle.asn_values.proofs.Alternatives.{fits_at, no_truth}
 use Rattle.asn_values.proofs.Components.{shape_of_part}
@@ -34,9 +34,9 @@ use Rattle.asn_per.proofs.SequenceWriting.{none_fit, opened_more, additions_writ
 use Rattle.asn_per.proofs.Sequences.{of_sequence, parts_of_profile, few_components, count_of_fields, unmarked_fits, marked_fits as fits_marked, first_ones, other_ones, marked_fields, added_of_profile, added_optional, few_added}
 use Rattle.asn_per.proofs.SizesWritten.{written_more as fragment_written, written_all}
 use Rattle.asn_per.proofs.Writers.{tells_by, tells_err, written_by}
-use Rattle.asn_per.proofs.Writing.{written_more, written_passes, written_ends, either_map}
+use Rattle.asn_per.proofs.Writing.{spelt_unless_default, written_more, written_passes, written_ends, either_map}
 use Rattle.asn_per.proofs.encoder.+writer.Goals as goal
-use Rattle.asn_per.proofs.encoder.+writer.Goals.{complete_encoding-then-is_empty+in_ok-push_number, complete_encoding-else-is_empty}
+use Rattle.asn_per.proofs.encoder.+writer.Goals.{complete_encoding-then-is_empty+in_ok-push_number, complete_encoding-else-is_empty, write_components-in-Default, write_components-in_default-matches-2}
 
 pub complete_encoding-returns-clause-written : goal.complete_encoding-returns-clause-written
 complete_encoding-returns-clause-written t c =
@@ -136,13 +136,16 @@ write-returns-in_ok-write_components-in-Some-clause-written t c =
 pub write_components-returns-then-fields-entries-clause-of_type : goal.write_components-returns-then-fields-entries-clause-of_type
 write_components-returns-then-fields-entries-clause-of_type t c = λ h. other_length c.args.fields.now c.args.entries.now h c.if-fields-entries.true
 
-pub write_components-loop-field-preserved-in-Must-field-2 : goal.write_components-loop-field-preserved-in-Must-field-2
-write_components-loop-field-preserved-in-Must-field-2 t c =
+pub write_components-loop-field-preserved-in-loop-field : goal.write_components-loop-field-preserved-in-loop-field
+write_components-loop-field-preserved-in-loop-field t c =
     let e : c.loop-field.field-iterator.a.rest.now ≡ c.in-Some.field.now ∷ c.next.new.self.a.rest.now = c.in-Some.ensures.steps.0 in
     let f : c.loop-field.field-iterator.b.rest.now ≡ c.in-Some.entry.now ∷ c.next.new.self.b.rest.now = c.in-Some.ensures.steps.1 in
-    let i = c.in-Int-Int-Must in
+    let i = c.in-Int-Int in
     let some : option_map datum_of c.in-Some.entry.now ≡ Some (number i.whole) = ap (option_map datum_of) c.in-Some-entry.is ∙ ap Some (ap datum_of i.is-1 ∙ datum_of-Int i.whole) in
-    let spelt : is_spelled (part_of_field c.in-Some.field.now).demand (Some (number i.whole)) ≡ true = ap (λ d. is_spelled d (Some (number i.whole))) (demand_of_part c.in-Some.field.now ∙ ap demand_of i.is-2) in
+    let spelt : is_spelled (part_of_field c.in-Some.field.now).demand (Some (number i.whole)) ≡ true = elim c.match-matches-2.branch [
+      | write_components-in-Default w ↦ absurd (let m : c.match-matches-2.matches ≡ true = w.matches-is in cc)
+      | write_components-in_default-matches-2 w ↦ ap (λ d. is_spelled d (Some (number i.whole))) (demand_of_part c.in-Some.field.now) ∙ spelt_unless_default c.in-Some.field.now.need (number i.whole) w.in_default-matches-2.not-Default
+    ] in
     let shape : (part_of_field c.in-Some.field.now).shape ≡ integer (range_of i.bounds) = shape_of_part c.in-Some.field.now ∙ ap shape_of i.is-0 ∙ shape_of-Int i.bounds in
     let same : to_z w128 (of_z w128 i.whole) ≡ i.whole = search (rules, the_lemmas) in
     let own : FitsNumber (range_of i.bounds) i.whole = rw same at c.in_ok-write_integer.ensures.of_type in
@@ -150,8 +153,8 @@ write_components-loop-field-preserved-in-Must-field-2 t c =
     written_more (rw (e, f, some) at c.loop-field.invariant) spelt fits
     (rw same at c.in_ok-write_integer.ensures.written ∙ ap (λ (t : Shape). c.loop-field.sink ++ per_bits t (number i.whole)) (sym shape))
 
-pub write_components-loop-field-preserved-in-Continue-branch-3 : goal.write_components-loop-field-preserved-in-Continue-branch-3
-write_components-loop-field-preserved-in-Continue-branch-3 t c =
+pub write_components-loop-field-preserved-in_ok-write : goal.write_components-loop-field-preserved-in_ok-write
+write_components-loop-field-preserved-in_ok-write t c =
     let e : c.loop-field.field-iterator.a.rest.now ≡ c.in-Some.field.now ∷ c.next.new.self.a.rest.now = c.in-Some.ensures.steps.0 in
     let f : c.loop-field.field-iterator.b.rest.now ≡ c.in-Some.entry.now ∷ c.next.new.self.b.rest.now = c.in-Some.ensures.steps.1 in
     let d = datum_of c.in-Some-entry.value in

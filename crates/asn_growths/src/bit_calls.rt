@@ -9,7 +9,7 @@ const NUMBER: u64 = 0x8123_4567_89ab_cdef;
 const SIGNED: i128 = -0x7fff_ffff_ffff_ffff;
 
 /// How often a call on a sink is made.
-const TIMES: usize = 20;
+const TIMES: usize = 80;
 
 /// 4 bits, 15 octets and 4 bits.
 const GIVEN: &[u8] = b"\x98\x12\x34\x56\x78\x9a\xbc\xde\xf0\x12\x34\x56\x78\x9a\xbc\xd5";

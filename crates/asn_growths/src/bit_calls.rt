@@ -152,10 +152,11 @@ pub fn octets_taken(alloc: Global) -> Result<Outcome, AllocError> {
     Ok(after(refused, is_right))
 }
 
-/// `pad`, of the last bits of a word behind so many others: where their room ends, `pad` is what grows.
+/// `pad`, of the last bits of a word behind so many others: where the room that a sink begins with ends, `pad`
+/// is what grows.
 pub fn paddings(alloc: Global) -> Result<Outcome, AllocError> {
     let mut refused = false;
-    for words in 0..TIMES {
+    for words in TIMES - 24..TIMES {
         let mut sink = BitSink::new(alloc);
         sink.push_number(60, NUMBER >> 4)?;
         for _ in 0..words {

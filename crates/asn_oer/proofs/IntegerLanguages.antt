@@ -1,7 +1,7 @@
 -- INTEGER in OER: which octets the integers of a range have, of a fixed number or behind their count, from 0 on or in
 -- two's complement.
 use Rattle.std.proofs.Common.{◌≡◌, ◌≤◌, ◌<◌, ◌-◌, ◌*◌, ◌^◌, ◌⊎◌, ℕ, ℤ, pos, negsuc, ◌≤ℤ◌, Bool, true, false, not, List, ◌++◌, Option, Some, None, inl, inr, refl, sym, ap, ◌∙◌, subst, nat_lt, arith}
-use Rattle.std.proofs.lemmas.Bool.{true≢false, ltb-true, lt-ltb, leb-true, le-leb, and_parts}
+use Rattle.std.proofs.lemmas.Bool.{true≢false, not-false, ltb-true, lt-ltb, leb-true, le-leb, and_parts}
 use Rattle.std.proofs.lemmas.Int.{ints}
 use Rattle.std.proofs.lemmas.Nat.{pow_pos}
 use Rattle.std.specs.Int.RustNames.{int_le, int_lt}
@@ -152,9 +152,6 @@ abbrev plain : Option ℤ → Option ℤ → Range
 plain low high = record { low = low; high = high; extensible = false }
 
 -- what is not false is true
-not_true : (b : Bool) → not b ≡ false → b ≡ true
-not_true true e = refl
-not_true false e = absurd (cc)
 
 -- the test of the order says which is not below
 not_below : (a b : ℤ) → int_lt a b ≡ false → b ≤ℤ a
@@ -174,7 +171,7 @@ high_inside low high good = (inside high (right_false (is_outside low) _ (right_
 
 -- the low bound is not above the high one
 ordered : (low high : ℤ) → InProfile (integer (plain (Some low) (Some high))) → int_le low high ≡ true
-ordered low high good = not_true (int_le low high) (left_false _ _ (good EmptyRange))
+ordered low high good = not-false (int_le low high) (left_false _ _ (good EmptyRange))
 
 -- the integers from one number to another
 from_to : (low high : ℕ) → InProfile (integer (plain (Some (pos low)) (Some (pos high)))) → AreNumbers (plain (Some (pos low)) (Some (pos high))) low high

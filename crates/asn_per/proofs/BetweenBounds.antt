@@ -1,5 +1,6 @@
 -- The bits of an integer between two bounds, as a writer puts them.
 use Rattle.std.proofs.Common.{◌≡◌, ◌<◌, ◌+◌, ◌^◌, ◌++◌, ◌&&◌, ◌||◌, suc, ℤ, ◌≤ℤ◌, Bool, true, false, Some, refl, sym, ap, ◌∙◌, arith}
+use Rattle.std.proofs.lemmas.Bool.{and_from}
 use Rattle.std.proofs.lemmas.Int.{ints}
 use Rattle.std.specs.Int.RustNames.{int_le}
 use mir.Syntax.{w128}
@@ -20,9 +21,6 @@ use Rattle.asn_per.proofs.IntegerRanges.{ranging, low_above_lowest, low_below_hi
 use Rattle.asn_per.proofs.MarkedIntegers.{root_of_profile}
 use Rattle.asn_per.proofs.Spellings.{bits_of_unmarked, bits_of_inside}
 
-both_true : (a b : Bool) → a ≡ true → b ≡ true → (a && b) ≡ true
-both_true true b p q = q
-both_true false b p q = absurd (cc)
 
 module _ (low high : ℤ) (m : Bool) (good : InProfile (integer (between low high m))) where
   plain : InProfile (integer (ranging low (Some high)))
@@ -53,7 +51,7 @@ module _ (low high z : ℤ) (m : Bool) (good : InProfile (integer (between low h
 
   -- it is one of the range
   inside : in_range (between low high m) z ≡ true
-  inside = both_true (int_le low z) (int_le z high) (test_of_le low z least) (test_of_le z high most)
+  inside = and_from (int_le low z) (int_le z high) (test_of_le low z least) (test_of_le z high most)
 
   below : above low z < suc (above low high)
   below = omega (arith, above_within low high z least most)

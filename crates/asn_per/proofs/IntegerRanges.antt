@@ -1,5 +1,6 @@
 -- The bounds of an INTEGER of the profile that has a low bound and no extension mark.
 use Rattle.std.proofs.Common.{◌≡◌, ◌<◌, ◌^◌, suc, ℤ, ◌≤ℤ◌, Bool, true, false, not, ◌&&◌, ◌||◌, Option, Some, refl, arith}
+use Rattle.std.proofs.lemmas.Bool.{not-false}
 use Rattle.std.specs.Int.RustNames.{int_le, int_lt}
 use Rattle.std.proofs.lemmas.Int.{ints}
 use mir.Syntax.{w128}
@@ -12,9 +13,6 @@ use Rattle.asn_bits.specs.Numbers.{above, width}
 use Rattle.asn_bits.proofs.Above.{le_of_test, above_within, kept}
 use Rattle.asn_bits.proofs.Widths.{width_fits}
 
-not_true : (b : Bool) → not b ≡ false → b ≡ true
-not_true true e = refl
-not_true false e = absurd (cc)
 
 not_below : (a b : ℤ) → int_lt a b ≡ false → b ≤ℤ a
 not_below a b e = grind (arith, ints)
@@ -41,7 +39,7 @@ module _ (low high : ℤ) (good : InProfile (integer (ranging low (Some high))))
   high_below_highest = (inside high (right_false (is_outside (Some low)) _ (ends low (Some high) good))).1
 
   pub low_below_high : low ≤ℤ high
-  low_below_high = le_of_test low high (not_true (at_most (Some high) low) (left_false _ _ (good EmptyRange)))
+  low_below_high = le_of_test low high (not-false (at_most (Some high) low) (left_false _ _ (good EmptyRange)))
 
 -- ---- the integers of a range
 

@@ -1,5 +1,5 @@
 -- The bits of a SEQUENCE as its writer puts them: the extension bit, the root, and the extension additions.
-use Rattle.std.proofs.Common.{◌≡◌, ◌≤◌, ◌-◌, ℕ, Bool, true, false, List, [], ◌∷◌, ◌++◌, length, map, take, drop, Option, Some, None, is_some, Vec, Global, refl, sym, ◌∙◌, ap, arith, append_assoc}
+use Rattle.std.proofs.Common.{◌≡◌, ◌≤◌, ◌-◌, ℕ, Bool, true, false, List, [], ◌∷◌, ◌++◌, length, map, take, drop, Option, Some, None, is_some, Vec, Global, refl, sym, ◌∙◌, ap, subst, arith, append_assoc}
 use Rattle.std.specs.List.{list_all, list_any, Any, All}
 use Rattle.std.specs.Option.{option_map}
 use Rattle.std.proofs.lemmas.List.{append-nil, length-map, take_all, drop_all}
@@ -22,7 +22,7 @@ use Rattle.asn_per.specs.Additions.{AreOptional, root_bits, addition_bits}
 use Rattle.asn_per.proofs.AdditionLanguages.{count_bits}
 use Rattle.asn_per.proofs.Sequences.{OfSequence, bits_of_parts, mark_of_fields, ours_are, theirs_are}
 use Rattle.asn_per.proofs.Spellings.{component_list-of}
-use Rattle.asn_per.proofs.Writing.{Left, Written, written_starts, written_on, written_past}
+use Rattle.asn_per.proofs.Writing.{Left, FitsHere, Written, absent_fits, written_starts, written_on, written_past}
 
 -- ---- whether one is present
 
@@ -75,15 +75,9 @@ pub opened_passes : {All : Type 0} {before all_bits now : List ℕ} {left : List
 opened_passes {left = left} {p = p} {rest = rest} {e = e} h n =
     let o = first_optional p left h.optional in
     record {
-      written = written_past h.written (absent p.demand e o.0 n) (ap (λ (x : Option Datum). open_bits (fields_of (p ∷ left)) (x ∷ rest)) n);
+      written = written_past h.written (subst (FitsHere p) (sym n) (absent_fits p.shape p.demand o.0)) (ap (λ (x : Option Datum). open_bits (fields_of (p ∷ left)) (x ∷ rest)) n);
       optional = o.1;
     }
-  where
-    absent : (demand : Demand) (e : Option Datum) → demand ≡ optional → e ≡ None → FitsDemand (λ d. Fits p.shape d) demand e
-    absent optional None k n = tt
-    absent must e k n = absurd (cc)
-    absent (default x) e k n = absurd (cc)
-    absent optional (Some d) k n = absurd (cc)
 
 -- where none is present, each entry is one of its addition
 pub none_fit : (parts : List Part) (es : List (Option Datum)) → AreOptional (fields_of parts) → length parts ≡ length es → any_present es ≡ false → FitsEach (fields_of parts) es
@@ -93,12 +87,7 @@ none_fit (p ∷ parts) [] o n e = absurd (omega (arith, n))
 none_fit (p ∷ parts) (Some d ∷ es) o n e = absurd (cc)
 none_fit (p ∷ parts) (None ∷ es) o n e =
     let w = first_optional p parts o in
-    (here p.demand w.0, none_fit parts es w.1 (omega (arith, n)) e)
-  where
-    here : (demand : Demand) → demand ≡ optional → FitsDemand (λ d. Fits p.shape d) demand None
-    here optional k = tt
-    here must k = absurd (cc)
-    here (default x) k = absurd (cc)
+    (absent_fits p.shape p.demand w.0, none_fit parts es w.1 (omega (arith, n)) e)
 
 -- ---- the additions
 

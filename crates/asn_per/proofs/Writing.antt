@@ -1,5 +1,6 @@
 -- Where the loops of the encoder over the components of a SEQUENCE stand.
 use Rattle.std.proofs.Common.{◌≡◌, ◌↔◌, ◌⊎◌, ◌≤◌, ◌<◌, ◌+◌, ◌*◌, ◌^◌, ℕ, suc, Bool, true, false, not, List, [], ◌∷◌, ◌++◌, length, map, drop, get_or, Option, Some, None, inl, inr, refl, sym, ◌∙◌, ap, subst, arith, append_assoc}
+use Rattle.std.proofs.lemmas.Bool.{not-false}
 use Rattle.std.proofs.lemmas.List.{append-nil, at_drop_more}
 use Rattle.std.proofs.Math.Nat.{pow-succ'}
 use Rattle.asn_values.specs.Datum.{Datum}
@@ -185,21 +186,18 @@ written_passes {left = left} {p = p} {rest = rest} {d = d} h s =
     default_fits : (demand : Demand) (t : Shape) (d : Datum) → InProfile t → IsGoodDemand demand t → is_spelled demand (Some d) ≡ false → FitsDemand (λ d. Fits t d) demand (Some d)
     default_fits must t d good g k = absurd (cc)
     default_fits optional t d good g k = absurd (cc)
-    default_fits (default x) t d good g k = subst (λ y. Fits t y) (default_is x d (not_false (is_default x d) k)) (good_fits t x good g)
-      where
-        not_false : (b : Bool) → not b ≡ false → b ≡ true
-        not_false true h = refl
-        not_false false h = absurd (cc)
+    default_fits (default x) t d good g k = subst (λ y. Fits t y) (default_is x d (not-false (is_default x d) k)) (good_fits t x good g)
+
+-- no value at all fits an OPTIONAL component
+pub absent_fits : (t : Shape) (demand : Demand) → demand ≡ optional → FitsDemand (λ d. Fits t d) demand None
+absent_fits t must k = absurd (cc)
+absent_fits t optional k = tt
+absent_fits t (default x) k = absurd (cc)
 
 -- one that is absent, where it may be
 pub written_absent : {All : Type 0} {before all_bits now : List ℕ} {left : List Part} {p : Part} {rest : List (Option Datum)}
     → Written component_bits All before all_bits now (p ∷ left) (None ∷ rest) → p.demand ≡ optional → Written component_bits All before all_bits now left rest
-written_absent {p = p} h o = written_past h (absent p.demand o) refl
-  where
-    absent : (demand : Demand) → demand ≡ optional → FitsDemand (λ d. Fits p.shape d) demand None
-    absent must k = absurd (cc)
-    absent optional k = tt
-    absent (default x) k = absurd (cc)
+written_absent {p = p} h o = written_past h (absent_fits p.shape p.demand o) refl
 
 -- and where it may not
 pub absent_never : {All : Type 0} {before all_bits now : List ℕ} {left : List Part} {p : Part} {rest : List (Option Datum)}

@@ -1,6 +1,6 @@
 -- The test of a DEFAULT finds exactly the values of types with two.
 use Rattle.std.proofs.Common.{◌≡◌, ◌≢◌, ◌<◌, ◌⊎◌, ℕ, zero, suc, ℤ, pos, negsuc, ◌≤ℤ◌, Bool, true, false, not, ◌&&◌, ◌||◌, List, length, Option, Some, None, inl, inr, refl, sym, ◌∙◌, ap, subst, arith, T, nat_lt}
-use Rattle.std.proofs.lemmas.Bool.{true≢false, ltb-true, ltb-false, lt-ltb, leb-true, le-leb}
+use Rattle.std.proofs.lemmas.Bool.{true≢false, and_parts, or_parts, not-true, ltb-true, ltb-false, lt-ltb, leb-true, le-leb}
 use Rattle.std.specs.Int.RustNames.{int_le, int_lt}
 use Rattle.std.specs.Int.Signed.{lt_z_no}
 use Rattle.asn_values.specs.Datum.{Datum, truth, number, item}
@@ -8,22 +8,6 @@ use Rattle.asn_values.specs.Shape.{Range, boolean, null, integer, enumerated, bi
 use Rattle.asn_values.specs.Fits.{Fits, FitsNumber, in_range, at_least, at_most, lowest_integer, highest_integer}
 use Rattle.asn_values.specs.Profile.{empty_range, low_above_high, is_outside, good_default, lowest_of, highest_of}
 use Rattle.asn_values.specs.Defaults.{MayBeDefault, DefaultsAreJudged}
-
-both_true : (a b : Bool) → (a && b) ≡ true → (a ≡ true) × (b ≡ true)
-both_true true b h = (refl, h)
-both_true false b h = absurd (true≢false (sym h))
-
-both_false : (a b : Bool) → (a || b) ≡ false → (a ≡ false) × (b ≡ false)
-both_false true b h = absurd (true≢false h)
-both_false false b h = (refl, h)
-
-not_true : (b : Bool) → not b ≡ true → b ≡ false
-not_true true e = absurd (true≢false (sym e))
-not_true false e = refl
-
-not_false : (b : Bool) → not b ≡ false → b ≡ true
-not_false true e = refl
-not_false false e = absurd (true≢false e)
 
 -- ---- the order of numbers
 
@@ -93,21 +77,21 @@ within : (low high : Option ℤ) (z : ℤ) → is_outside low ≡ false → is_o
     → (int_lt z lowest_integer ≡ false) × (int_lt highest_integer z ≡ false) × ((at_least low z && at_most high z) ≡ true)
 within None None z ol oh p q = (le_not_below z lowest_integer p, le_not_below highest_integer z q, refl)
 within (Some l) None z ol oh p q =
-    (le_not_below z lowest_integer (le_also lowest_integer l z (not_below l lowest_integer (both_false _ _ ol).0) p), le_not_below highest_integer z q, rw p refl)
+    (le_not_below z lowest_integer (le_also lowest_integer l z (not_below l lowest_integer (or_parts _ _ ol).0) p), le_not_below highest_integer z q, rw p refl)
 within None (Some u) z ol oh p q =
-    (le_not_below z lowest_integer p, le_not_below highest_integer z (le_also z u highest_integer q (not_below highest_integer u (both_false _ _ oh).1)), q)
+    (le_not_below z lowest_integer p, le_not_below highest_integer z (le_also z u highest_integer q (not_below highest_integer u (or_parts _ _ oh).1)), q)
 within (Some l) (Some u) z ol oh p q = (
-  le_not_below z lowest_integer (le_also lowest_integer l z (not_below l lowest_integer (both_false _ _ ol).0) p),
-  le_not_below highest_integer z (le_also z u highest_integer q (not_below highest_integer u (both_false _ _ oh).1)),
+  le_not_below z lowest_integer (le_also lowest_integer l z (not_below l lowest_integer (or_parts _ _ ol).0) p),
+  le_not_below highest_integer z (le_also z u highest_integer q (not_below highest_integer u (or_parts _ _ oh).1)),
   rw (p, q) refl,
 )
 
 between : (low high : Option ℤ) (z : ℤ) → int_lt z lowest_integer ≡ false → int_lt highest_integer z ≡ false → (at_least low z && at_most high z) ≡ true
     → (int_le (lowest_of low) z ≡ true) × (int_le z (highest_of high) ≡ true)
 between None None z p q r = (not_below z lowest_integer p, not_below highest_integer z q)
-between (Some l) None z p q r = ((both_true _ _ r).0, not_below highest_integer z q)
+between (Some l) None z p q r = ((and_parts _ _ r).0, not_below highest_integer z q)
 between None (Some u) z p q r = (not_below z lowest_integer p, r)
-between (Some l) (Some u) z p q r = both_true _ _ r
+between (Some l) (Some u) z p q r = and_parts _ _ r
 
 -- ---- INTEGER
 
@@ -131,12 +115,12 @@ inside b m ol oh z p q =
 
 number_good : (b : Range) (z : ℤ) → empty_range (integer b) ≡ false → good_default (integer b) (number z) ≡ true → MayBeDefault (integer b) (number z)
 number_good b z h g =
-    let o = both_false (is_outside b.low) (is_outside b.high) (both_false (low_above_high b.low b.high) _ h).1 in
-    let g1 = both_true (not b.extensible) _ g in
-    let g2 = both_true (in_range b z) _ g1.1 in
-    let g3 = both_true (not (is_outside (Some z))) _ g2.1 in
-    let m = not_true b.extensible g1.0 in
-    let oz = both_false (int_lt z lowest_integer) (int_lt highest_integer z) (not_true (is_outside (Some z)) g3.0) in
+    let o = or_parts (is_outside b.low) (is_outside b.high) (or_parts (low_above_high b.low b.high) _ h).1 in
+    let g1 = and_parts (not b.extensible) _ g in
+    let g2 = and_parts (in_range b z) _ g1.1 in
+    let g3 = and_parts (not (is_outside (Some z))) _ g2.1 in
+    let m = not-true b.extensible g1.0 in
+    let oz = or_parts (int_lt z lowest_integer) (int_lt highest_integer z) (not-true (is_outside (Some z)) g3.0) in
     let fits : FitsNumber b z = (not_less z lowest_integer oz.0, not_less highest_integer z oz.1, subst (λ x. (x || in_range b z) ≡ true) (sym m) g2.0) in
     let l = lowest_of b.low in
     let u = highest_of b.high in
@@ -180,7 +164,7 @@ number_bad b z (m, fits, other) =
 
 item_good : (root : List Label) (p : ℕ) → good_default (enumerated root closed_labels) (item p) ≡ true → MayBeDefault (enumerated root closed_labels) (item p)
 item_good root p g =
-    let w = both_true (nat_lt p (length root)) (nat_lt 1 (length root)) g in
+    let w = and_parts (nat_lt p (length root)) (nat_lt 1 (length root)) g in
     let here : p < length root = ltb-true p (length root) w.0 in
     let two : 1 < length root = ltb-true 1 (length root) w.1 in
     (tt, omega arith, go p two)

@@ -1,7 +1,7 @@
 -- The types inside a type of the profile are of the profile: the element of a SEQUENCE OF, the alternatives of a
 -- CHOICE, and the extension additions of a SEQUENCE, which are OPTIONAL.
 use Rattle.std.proofs.Common.{◌≡◌, ◌≤◌, Bool, true, false, not, ◌||◌, nat_lt, refl, arith}
-use Rattle.std.proofs.lemmas.Bool.{ltb-false, le-ltb}
+use Rattle.std.proofs.lemmas.Bool.{not-false, ltb-false, le-ltb}
 use Rattle.std.specs.List.{list_all}
 use Rattle.asn_values.specs.Shape.{Shape, SizeRange, sequence, sequence_of, choice, must, optional, default, Fields, no_fields, field, marked, demands, Alternatives, no_alternatives, one_of, MoreAlternatives, marked_choice}
 use Rattle.asn_values.specs.Measures.{depth, nodes, fields_nodes, fields_depth, choice_nodes, choice_depth}
@@ -70,11 +70,7 @@ added_alternatives_of_profile root more good =
 
 -- the additions of a SEQUENCE are OPTIONAL
 pub additions_optional : (root fs : Fields) → InProfile (sequence root (marked fs)) → list_all is_optional (demands fs) ≡ true
-additions_optional root fs good = not_false (list_all is_optional (demands fs)) (left_false (not (list_all is_optional (demands fs))) (some_field addition_not_optional root || some_field addition_not_optional fs) (good AdditionNotOptional))
-  where
-    not_false : (b : Bool) → not b ≡ false → b ≡ true
-    not_false true h = refl
-    not_false false h = absurd (cc)
+additions_optional root fs good = not-false (list_all is_optional (demands fs)) (left_false (not (list_all is_optional (demands fs))) (some_field addition_not_optional root || some_field addition_not_optional fs) (good AdditionNotOptional))
 
 -- and of the profile
 pub additions_of_profile : (root fs : Fields) → InProfile (sequence root (marked fs)) → AreOfProfile fs

@@ -1,6 +1,6 @@
 -- The components of a SEQUENCE of the profile are of the profile themselves.
 use Rattle.std.proofs.Common.{◌≡◌, ◌≤◌, ℕ, Bool, true, false, not, ◌||◌, List, nat_lt, refl, arith}
-use Rattle.std.proofs.lemmas.Bool.{ltb-false, le-ltb}
+use Rattle.std.proofs.lemmas.Bool.{not-false, ltb-false, le-ltb}
 use Rattle.asn_values.specs.Shape.{Shape, sequence, Demand, must, optional, default, Fields, no_fields, field, MoreFields, more_fields}
 use Rattle.asn_values.specs.Measures.{depth, nodes, fields_nodes, fields_depth}
 use Rattle.asn_values.specs.Profile.{EmptyRange, SizeTooLarge, DuplicateName, BadEnumeration, UselessMark, BadDefault, ZeroWidthElement, AdditionNotOptional, TooMany, TooDeep, somewhere, some_field, some_addition, empty_range, size_too_large, duplicate_name, bad_enumeration, useless_mark, bad_default, bad_default_at, good_default, zero_width_element, addition_not_optional, too_many_here, most_nodes, most_levels, InProfile}
@@ -71,17 +71,13 @@ rest_sound name demand t fs d h = record {
   flat_enough = omega (arith, h.flat_enough);
 }
 
-not_false : (b : Bool) → not b ≡ false → b ≡ true
-not_false true h = refl
-not_false false h = absurd (cc)
-
 all_of_profile : (fs : Fields) → Sound fs → AreOfProfile fs
 all_of_profile no_fields h = tt
 all_of_profile (field name must t fs) h = (first_of_profile name must t fs h, tt, all_of_profile fs (rest_sound name must t fs h.demands_here h))
 all_of_profile (field name optional t fs) h = (first_of_profile name optional t fs h, tt, all_of_profile fs (rest_sound name optional t fs h.demands_here h))
 all_of_profile (field name (default d) t fs) h = (
   first_of_profile name (default d) t fs h,
-  not_false (good_default t d) (left_false (not (good_default t d)) (bad_default_at fs) h.demands_here),
+  not-false (good_default t d) (left_false (not (good_default t d)) (bad_default_at fs) h.demands_here),
   all_of_profile fs (rest_sound name (default d) t fs (right_false (not (good_default t d)) (bad_default_at fs) h.demands_here) h),
 )
 

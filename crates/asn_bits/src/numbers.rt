@@ -12,7 +12,7 @@ pub fn width(values: u128) -> u32
     128 - values.saturating_sub(1).leading_zeros()
 }
 
-/// How many octets `n` needs, at least one.
+/// How many octets `n` needs, at least one (X.691, "semi-constrained whole number").
 pub fn octet_count(n: u64) -> u32
     ensures count { result ≡ octet_count n }
     ensures few { result ≤ 8 }
@@ -25,7 +25,8 @@ pub fn octet_count(n: u64) -> u32
     (bits + 7) / 8
 }
 
-/// How many octets of two's complement `z` needs, at least one; `z` is an integer of 64 signed bits.
+/// How many octets of two's complement `z` needs, at least one; `z` is an integer of 64 signed bits
+/// (X.691, "unconstrained whole number").
 pub fn signed_octet_count(z: i128) -> u32
     requires low { lowest_integer ≤ℤ z }
     requires high { z ≤ℤ highest_integer }

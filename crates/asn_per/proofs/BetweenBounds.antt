@@ -21,7 +21,6 @@ use Rattle.asn_per.proofs.IntegerRanges.{ranging, low_above_lowest, low_below_hi
 use Rattle.asn_per.proofs.MarkedIntegers.{root_of_profile}
 use Rattle.asn_per.proofs.Spellings.{bits_of_unmarked, bits_of_inside}
 
-
 module _ (low high : ℤ) (m : Bool) (good : InProfile (integer (between low high m))) where
   plain : InProfile (integer (ranging low (Some high)))
   plain = root_of_profile (between low high m) good

@@ -13,7 +13,6 @@ use Rattle.asn_bits.specs.Numbers.{above, width}
 use Rattle.asn_bits.proofs.Above.{le_of_test, above_within, kept}
 use Rattle.asn_bits.proofs.Widths.{width_fits}
 
-
 not_below : (a b : ℤ) → int_lt a b ≡ false → b ≤ℤ a
 not_below a b e = grind (arith, ints)
 

@@ -2,12 +2,12 @@
 ghost use Rattle.std.specs.Prelude.{◌≡◌, ◌≤◌, ◌<◌, ◌^◌, ◌++◌, IfOk, IfErr, OnOk, map, length, vec_len};
 ghost use Rattle.std.specs.Option.{option_map};
 ghost use Rattle.asn_values.specs.Fits.{Fits, FitsEach, FitsAlternative};
-ghost use Rattle.asn_values.specs.Shape.{boolean, marked, demands, sequence_of};
+ghost use Rattle.asn_values.specs.Shape.{boolean, null, integer, marked, demands, sequence_of};
 ghost use Rattle.asn_values.specs.Datum.{elements, elements_of};
 ghost use Rattle.std.specs.List.{AllByRecursion};
 ghost use Rattle.asn_values.specs.Profile.{InProfile};
 ghost use Rattle.asn_values.specs.Parts.{AreOfProfile, AreAllOfProfile, IsGoodDemand};
-ghost use Rattle.asn_values.specs.View.{shape_of, datum_of, size_range_of, fields_of, part_of_field, alternatives_of, branch_of};
+ghost use Rattle.asn_values.specs.View.{shape_of, datum_of, range_of, size_range_of, fields_of, part_of_field, alternatives_of, branch_of};
 ghost use Rattle.asn_bits.specs.Numbers.{bits};
 ghost use Rattle.asn_rules.specs.Answer.{max_octets};
 ghost use Rattle.asn_rules.specs.Chunks.{flat};
@@ -28,7 +28,9 @@ use crate::string_writer::{
 };
 use asn_bits::BitSink;
 use asn_rules::EncodeFault;
-use asn_values::{Alt, AsnType, Checked, Field, Need, Size, Value, fits, length_fits, same};
+use asn_values::{
+    Alt, AsnType, Bounds, Checked, Field, Need, Size, Value, fits, length_fits, same,
+};
 use std::alloc::Global;
 
 /// The most octets of a message.
@@ -99,14 +101,8 @@ fn write(alloc: Global, ty: &AsnType, value: &Value, sink: &mut BitSink) -> Resu
 {
     match ty {
         AsnType::Bool => write_boolean(value, sink),
-        AsnType::Null => match value {
-            Value::Null => Ok(()),
-            _ => Err(EncodeFault::NotOfType),
-        },
-        AsnType::Int(bounds) => match value {
-            Value::Int(whole) => write_integer(bounds, *whole, sink),
-            _ => Err(EncodeFault::NotOfType),
-        },
+        AsnType::Null => write_null(value),
+        AsnType::Int(bounds) => write_number(bounds, value, sink),
         AsnType::Enum { root, ext } => write_enumerated(root, ext, value, sink),
         AsnType::Bits(size) => write_bit_string(size, value, sink),
         AsnType::Octets(size) => write_octet_string(size, value, sink),
@@ -197,6 +193,28 @@ fn write_boolean(value: &Value, sink: &mut BitSink) -> Result<(), EncodeFault>
     };
     sink.push(*truth)?;
     Ok(())
+}
+
+/// Tells whether a value is NULL, which has no bits (X.691, "encoding the null type").
+fn write_null(value: &Value) -> Result<(), EncodeFault>
+    ensures of_type { TellsWhether result (Fits null (datum_of value.now)) }
+{
+    match value {
+        Value::Null => Ok(()),
+        _ => Err(EncodeFault::NotOfType),
+    }
+}
+
+/// Writes a value, where it is a number of the range.
+fn write_number(bounds: &Bounds, value: &Value, sink: &mut BitSink) -> Result<(), EncodeFault>
+    requires of_profile { InProfile (integer (range_of bounds.now)) }
+    ensures of_type { TellsWhether result (Fits (integer (range_of bounds.now)) (datum_of value.now)) }
+    ensures written { OnOk result (sink.new ≡ sink.old ++ per_bits (integer (range_of bounds.now)) (datum_of value.now)) }
+{
+    let Value::Int(whole) = value else {
+        return Err(EncodeFault::NotOfType);
+    };
+    write_integer(bounds, *whole, sink)
 }
 
 /// How many presence bits the components have, and the bitmap as a number (X.691, "encoding the

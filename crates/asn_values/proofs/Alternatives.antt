@@ -1,5 +1,5 @@
 -- The alternatives of a CHOICE: how many there are, the one at a place, and which values they have.
-use Rattle.std.proofs.Common.{◌≡◌, ◌↔◌, ◌<◌, ◌≤◌, ◌-◌, ℕ, zero, suc, Bool, IsTrue, true, false, List, [], ◌∷◌, map, length, get_or, Option, Some, None, Vec, Global, nat_lt, refl, ap, ◌∙◌, sym, rules, arith}
+use Rattle.std.proofs.Common.{◌≡◌, ◌↔◌, ◌<◌, ◌≤◌, ◌-◌, ℕ, zero, suc, Bool, IsTrue, true, false, List, [], ◌∷◌, map, length, get_or, Option, Vec, Global, nat_lt, refl, ap, ◌∙◌, rules, arith}
 use Rattle.std.specs.Global.{Box}
 use Rattle.std.proofs.lemmas.Bool.{le-ltb, lt-ltb}
 use Rattle.std.proofs.lemmas.List.{length-map}
@@ -9,7 +9,7 @@ use Rattle.asn_values.specs.declared.value.Value.{Value}
 use Rattle.asn_values.specs.declared.value.Value.TheVariants as value
 use Rattle.asn_values.specs.Datum.{Datum, alternative}
 use Rattle.asn_values.specs.Shape.{MoreAlternatives, closed_choice, marked_choice, choice, count}
-use Rattle.asn_values.specs.Fits.{Fits, FitsAlternative, FitsMoreAlternatives, FitsChoice}
+use Rattle.asn_values.specs.Fits.{Fits, FitsAlternative, FitsChoice}
 use Rattle.asn_values.specs.View.{Branch, shape_of, datum_of, branch_of, alternatives_of, more_alternatives_of}
 use Rattle.asn_values.proofs.Views.{choice_of_alternatives, datum_of-Choice}
 

@@ -1,5 +1,5 @@
 -- The elements of a SEQUENCE OF, in a type's values and in two values that are compared.
-use Rattle.std.proofs.Common.{◌≡◌, ◌↔◌, ◌≤◌, ℕ, Bool, IsTrue, true, false, List, [], ◌∷◌, map, length, Option, Vec, Global, refl, ap, ◌∙◌, sym}
+use Rattle.std.proofs.Common.{◌≡◌, ◌↔◌, Bool, IsTrue, List, map, length, Vec, Global, ap, ◌∙◌, sym}
 use Rattle.std.specs.Global.{Box}
 use Rattle.std.specs.List.{AllByRecursion}
 use Rattle.std.proofs.lemmas.List.{length-map}
@@ -7,7 +7,7 @@ use Rattle.asn_values.specs.declared.types.AsnType.{AsnType, SeqOf}
 use Rattle.asn_values.specs.declared.types.Size.{Size}
 use Rattle.asn_values.specs.declared.value.Value.{Value}
 use Rattle.asn_values.specs.declared.value.Value.TheVariants as value
-use Rattle.asn_values.specs.Datum.{Datum, elements, elements_of, element_list, alternative}
+use Rattle.asn_values.specs.Datum.{Datum, elements, elements_of, element_list}
 use Rattle.asn_values.specs.Shape.{SizeRange, Shape, sequence_of}
 use Rattle.asn_values.specs.Fits.{Fits, FitsLength}
 use Rattle.asn_values.specs.View.{shape_of, datum_of, size_range_of}

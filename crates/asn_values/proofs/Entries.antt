@@ -6,7 +6,7 @@ use Rattle.asn_values.specs.declared.types.AsnType.{AsnType, Seq}
 use Rattle.asn_values.specs.declared.value.Value.{Value}
 use Rattle.asn_values.specs.declared.value.Value.TheVariants as value
 use Rattle.asn_values.specs.Datum.{Datum, components, components_of}
-use Rattle.asn_values.specs.Shape.{Fields, no_fields, field, MoreFields, sequence, closed, marked, demands}
+use Rattle.asn_values.specs.Shape.{Fields, no_fields, field, sequence, closed, marked, demands}
 use Rattle.asn_values.specs.Fits.{Fits, FitsEach, FitsMore, FitsSequence}
 use Rattle.asn_values.specs.View.{Part, shape_of, datum_of, fields_of, part_of_field, more_fields_of}
 use Rattle.asn_values.proofs.Views.{component_list-components_of, sequence_of_fields, datum_of-Seq}

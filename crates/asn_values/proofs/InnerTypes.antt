@@ -1,6 +1,6 @@
 -- The types inside a type of the profile are of the profile: the element of a SEQUENCE OF, the alternatives of a
 -- CHOICE, and the extension additions of a SEQUENCE, which are OPTIONAL.
-use Rattle.std.proofs.Common.{◌≡◌, ◌≤◌, Bool, true, false, not, ◌||◌, nat_lt, refl, arith}
+use Rattle.std.proofs.Common.{◌≡◌, ◌≤◌, Bool, true, false, not, ◌||◌, nat_lt, arith}
 use Rattle.std.proofs.lemmas.Bool.{not-false, ltb-false, le-ltb}
 use Rattle.std.specs.List.{list_all}
 use Rattle.asn_values.specs.Shape.{Shape, SizeRange, sequence, sequence_of, choice, must, optional, default, Fields, no_fields, field, marked, demands, Alternatives, no_alternatives, one_of, MoreAlternatives, marked_choice}

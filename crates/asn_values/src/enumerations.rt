@@ -62,7 +62,8 @@ pub(crate) fn is_too_many(root: &[Item], more: &Option<Vec<Item>>) -> bool
     MOST_ADDITIONS < added || MOST_ITEMS - added < root.len()
 }
 
-/// Whether an item stands at this place, the items counted from 0 as written.
+/// Whether an item stands at this place, the items counted from 0 as they are written, those behind the
+/// extension mark last (X.680, "enumerated type").
 pub fn item_fits(root: &[Item], more: &Option<Vec<Item>>, place: u32) -> bool
     ensures { IsTrue result ↔ Fits (enumerated (map label_of root.now) (more_labels_of more.now)) (item place) }
 {

@@ -14,7 +14,8 @@ const LOWEST: i128 = i64::MIN as i128;
 /// The highest integer of the profile.
 const HIGHEST: i128 = i64::MAX as i128;
 
-/// Whether the number lies between the bounds, both counted in.
+/// Whether the number lies between the bounds, both counted in, whether or not an extension mark follows
+/// (X.680, "value range").
 pub fn is_between(bounds: &Bounds, number: i128) -> bool
     ensures { result ≡ in_range (range_of bounds.now) number }
 {
@@ -72,7 +73,8 @@ pub(crate) fn is_one_number(bounds: &Bounds) -> bool
         }
 }
 
-/// Whether the number is one of an INTEGER with these bounds.
+/// Whether the number is a value of an INTEGER with these bounds: it has 64 signed bits, and lies between
+/// the bounds unless the extension mark follows (X.680, "value range").
 pub fn number_fits(bounds: &Bounds, number: i128) -> bool
     ensures { IsTrue result ↔ FitsNumber (range_of bounds.now) number }
 {

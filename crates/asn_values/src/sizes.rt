@@ -47,14 +47,16 @@ pub(crate) fn is_fixed(size: &Size) -> bool
     !size.ext && size.high.is_some_and(|high| size.low == high)
 }
 
-/// Whether the length lies between the bounds, both counted in.
+/// Whether the length, in items, lies between the bounds, both counted in, whether or not an extension
+/// mark follows (X.680, "size constraint").
 pub fn is_in_size(size: &Size, length: usize) -> bool
     ensures { result ≡ in_size (size_range_of size.now) length }
 {
     size.low as usize <= length && size.high.is_none_or(|high| length <= high as usize)
 }
 
-/// Whether so many items are a length of this SIZE.
+/// Whether so many items are a length of this SIZE: they are at most 268,435,455, and lie between the
+/// bounds unless the extension mark follows (X.680, "size constraint").
 pub fn length_fits(size: &Size, length: usize) -> bool
     ensures { IsTrue result ↔ FitsLength (size_range_of size.now) length }
 {

@@ -12,21 +12,23 @@ use crate::types::{Size, TextKind};
 /// The most octets of a UTF8String.
 const MOST_OCTETS: usize = 268_435_455;
 
-/// Whether the octets are a value of an OCTET STRING of this size.
+/// Whether the octets are a value of an OCTET STRING of this size (X.680, "octetstring type").
 pub fn octets_fit(size: &Size, octets: &[u8]) -> bool
     ensures { IsTrue result ↔ Fits (octet_string (size_range_of size.now)) (octet_list octets.now) }
 {
     sizes::length_fits(size, octets.len())
 }
 
-/// Whether the codes are a value of a string of this kind of characters and this size.
+/// Whether the codes, one a character, are a value of a string of this kind and this size (X.680,
+/// "restricted character string types").
 pub fn text_fits(kind: TextKind, size: &Size, codes: &[u8]) -> bool
     ensures { IsTrue result ↔ Fits (restricted (alphabet_of kind) (size_range_of size.now)) (characters codes.now) }
 {
     sizes::length_fits(size, codes.len()) && characters_fit(kind, codes)
 }
 
-/// Whether the text is a value of UTF8String: its octets are not too many.
+/// Whether the text is a value of UTF8String: it has at most 268,435,455 octets (X.680, "restricted
+/// character string types").
 pub fn unicode_fits(text: &str) -> bool
     ensures { IsTrue result ↔ Fits utf8_string (unicode text.now) }
 {

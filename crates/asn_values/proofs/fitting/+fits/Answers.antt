@@ -1,6 +1,5 @@
-use Rattle.std.proofs.Common.{◌≡◌, ◌<◌, ◌≤◌, ◌∙◌, subst, map, length, option_map, Some, None, false, true, min, refl, rules, sym, ap, arith}
+use Rattle.std.proofs.Common.{◌≡◌, ◌∙◌, subst, map, length, option_map, false, min, refl, sym, arith}
 use Rattle.std.proofs.lemmas.Bool.{le-ltb}
-use Rattle.asn_values.specs.declared.types.AsnType.{the_lemmas}
 use Rattle.asn_values.specs.Fits.{FitsLength}
 use Rattle.asn_values.specs.View.{datum_of, size_range_of, part_of_field, more_alternatives_of}
 use Rattle.asn_values.proofs.Alternatives.{fits_at, fits_nowhere, choice_root, choice_more, choice_closed, fits_choices, no_truth}

@@ -2,6 +2,9 @@
 //! runtime that refuses one growth, it shows what that refusal changes.
 #![tactic(auto)]
 
+ghost use Rattle.std.specs.Prelude.{◌≡◌, true, false, IfOk};
+ghost use Rattle.asn_growths.specs.declared.outcome.Outcome.TheVariants as outcomes;
+
 mod bit_calls;
 mod composed_calls;
 mod message_calls;
@@ -85,12 +88,15 @@ fn use_up(alloc: Global, count: u32) -> Result<(), AllocError> {
 }
 
 /// Tells of a call what is not its usual answer; whether that is no fault of the call.
-fn told(rt: &impl Print, name: &str, outcome: Result<Outcome, AllocError>) -> bool {
-    let what = match outcome {
+fn told(rt: &impl Print, name: &str, outcome: Result<Outcome, AllocError>) -> bool
+    ensures right { IfOk outcome (λ o. o ≡ outcomes.Right → result ≡ true) }
+    ensures wrong { IfOk outcome (λ o. o ≡ outcomes.Wrong → result ≡ false) }
+{
+    let (what, is_fault) = match outcome {
         Ok(Outcome::Right) => return true,
-        Ok(Outcome::Memory) => "memory",
-        Ok(Outcome::Wrong) => "wrong",
-        Err(_) => "arguments",
+        Ok(Outcome::Memory) => ("memory", false),
+        Ok(Outcome::Wrong) => ("wrong", true),
+        Err(_) => ("arguments", false),
     };
-    rt.println(format_args!("{what}: {name}")).is_ok() && what != "wrong"
+    rt.println(format_args!("{what}: {name}")).is_ok() && !is_fault
 }

@@ -1,4 +1,6 @@
 //! What became of a call.
+ghost use Rattle.std.specs.Prelude.{◌≡◌, true, false};
+ghost use Rattle.asn_growths.specs.declared.outcome.Outcome.TheVariants as outcome;
 
 /// What a call answered.
 #[derive(Clone, Copy, Debug, PartialEq, Eq)]
@@ -12,7 +14,11 @@ pub enum Outcome {
 }
 
 /// The outcome of a call that was asked again where it was refused memory, and was right in the end.
-pub fn after(refused: bool, is_right: bool) -> Outcome {
+pub fn after(refused: bool, is_right: bool) -> Outcome
+    ensures wrong { is_right ≡ false → result ≡ outcome.Wrong }
+    ensures memory { is_right ≡ true → refused ≡ true → result ≡ outcome.Memory }
+    ensures right { is_right ≡ true → refused ≡ false → result ≡ outcome.Right }
+{
     match (refused, is_right) {
         (_, false) => Outcome::Wrong,
         (true, true) => Outcome::Memory,

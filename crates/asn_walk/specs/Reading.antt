@@ -1,0 +1,58 @@
+-- What the readers of the walk read, and where they stop.
+use Rattle.std.specs.Prelude.{◌≡◌, ◌++◌, ℕ, List, Option, Some, None, ⊥, map}
+use Rattle.std.specs.Option.{option_map}
+use Rattle.asn_values.specs.declared.types.Alt.{Alt}
+use Rattle.asn_values.specs.declared.types.Field.{Field}
+use Rattle.asn_values.specs.declared.value.Value.{Value}
+use Rattle.asn_values.specs.Datum.{Datum}
+use Rattle.asn_values.specs.Shape.{Shape, Fields, Alternatives}
+use Rattle.asn_values.specs.View.{datum_of, fields_of, part_of_field, alternatives_of, branch_of}
+use Rattle.asn_rules.specs.Chunks.{Chunk}
+use Rattle.asn_rules.specs.Languages.{Spells, Map, Row}
+use Rattle.asn_rules.specs.Listed.{Spelt}
+use Rattle.asn_rules.specs.Reading.{Wholes}
+use Rattle.asn_rules.specs.Stops.{Stops}
+use Rattle.asn_rules.specs.declared.stop.Stop.{Stop}
+use Rattle.asn_walk.specs.Coding.{Coding}
+
+-- ---- what the program's lists stand for
+
+-- components or extension additions
+abbrev pub fields_seen : List Field → Fields
+fields_seen fs = fields_of (map part_of_field fs)
+
+-- alternatives
+abbrev pub alternatives_seen : List Alt → Alternatives
+alternatives_seen alts = alternatives_of (map branch_of alts)
+
+-- the entries of a SEQUENCE
+abbrev pub entries_seen : List (Option Value) → List (Option Datum)
+entries_seen es = map (option_map datum_of) es
+
+-- ---- answers
+
+-- a prefix of the bits is a spelling of the value, and the others follow it
+abbrev pub Reads : {V : Type 0} → Coding → (V → List Chunk → Type 0) → V → List ℕ → List ℕ → Type 0
+Reads c L v old new = Spells c.ruling.fielding L v (c.to_units old) (c.to_units new)
+
+-- a reader of the language stops at these bits
+abbrev pub StopsAt : {V : Type 0} → Coding → (V → List Chunk → Type 0) → List ℕ → Stop → Type 0
+StopsAt c L old why = Stops c.ruling.fielding L (c.to_units old) why
+
+-- ---- languages
+
+-- the values of a type
+abbrev pub ValuesOf : Coding → Shape → Datum → List Chunk → Type 0
+ValuesOf c t = Spelt c.code None t
+
+-- those that are not its DEFAULT
+abbrev pub OthersOf : Coding → Datum → Shape → Datum → List Chunk → Type 0
+OthersOf c default t = Spelt c.code (Some default) t
+
+-- its complete encodings
+abbrev pub CompleteOf : Coding → Shape → Datum → List Chunk → Type 0
+CompleteOf c t = Wholes c.ruling t
+
+-- further values, after those that were read before
+abbrev pub After : {A : Type 0} → List A → (List A → List Chunk → Type 0) → List A → List Chunk → Type 0
+After before L = Map (λ vs. before ++ vs) L

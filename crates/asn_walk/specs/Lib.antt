@@ -4,3 +4,6 @@ pub mod Integers
 pub mod Laws
 pub mod Reading
 pub mod Views
+pub mod Composites
+pub mod Writing
+pub mod WriteLaws

@@ -7,3 +7,12 @@ mod reader;
 
 pub use leaves::{Index, ReadLeaves, Preamble};
 pub use reader::{read, read_complete};
+
+mod encoder;
+mod presence;
+mod write_leaves;
+mod writer;
+
+pub use encoder::encode;
+pub use write_leaves::WriteLeaves;
+pub use writer::{write, write_complete};

@@ -1,0 +1,109 @@
+//! What a set of encoding rules gives to a writer: the parts of types and values that it spells by itself.
+ghost use Rattle.std.specs.Prelude.{◌≡◌, ◌≤◌, ◌<◌, ◌-◌, ◌^◌, ◌++◌, List, length, Some, IfOk, OnOk};
+ghost use Rattle.asn_values.specs.Datum.{Datum, number};
+ghost use Rattle.asn_values.specs.Fits.{Fits, FitsLength, FitsNumber};
+ghost use Rattle.asn_values.specs.Profile.{InProfile};
+ghost use Rattle.asn_values.specs.Shape.{Shape, integer};
+ghost use Rattle.asn_values.specs.View.{shape_of, datum_of, range_of, size_range_of};
+ghost use Rattle.asn_bits.specs.Numbers.{bits};
+ghost use Rattle.asn_rules.specs.Chunks.{Chunk};
+ghost use Rattle.asn_walk.specs.Coding.{Coding, IsIndexWithin};
+ghost use Rattle.asn_walk.specs.Laws.{IsSimple};
+ghost use Rattle.asn_walk.specs.Views.{index_seen};
+ghost use Rattle.asn_walk.specs.WriteLaws.{WriteLaws};
+ghost use Rattle.asn_walk.specs.Writing.{TellsWhether, Writes, WritesUnits, Leaves, Advances, IsSpelling, mark_bits};
+
+use crate::leaves::Index;
+use asn_bits::BitSink;
+use asn_rules::EncodeFault;
+use asn_values::{AsnType, Bounds, Size, Value};
+use std::alloc::AllocError;
+
+/// The parts of types and values that a set of encoding rules writes by itself.
+///
+/// A writer puts bits behind those of a sink. Where it answers `Ok` it has put exactly the bits of what it was given.
+pub trait WriteLeaves {
+    ghost rules: { Coding };
+
+    /// Where a writer of a list stands between its fragments.
+    type Fragments: Drop;
+
+    ghost rest: { Self.Fragments → List (List Chunk) → List Chunk };
+
+    /// Writes a value of a type that is neither SEQUENCE, SEQUENCE OF nor CHOICE, where it is one of the type.
+    fn write_simple(ty: &AsnType, value: &Value, sink: &mut BitSink) -> Result<(), EncodeFault>
+        requires of_profile { InProfile (shape_of ty.now) }
+        requires simple { IsSimple (shape_of ty.now) }
+        ensures of_type { TellsWhether result (Fits (shape_of ty.now) (datum_of value.now)) }
+        ensures written { OnOk result (Writes rules sink.old sink.new (rules.code (shape_of ty.now) (datum_of value.now))) };
+
+    /// Writes a number, where it is one of the range.
+    fn write_number(bounds: &Bounds, whole: i128, sink: &mut BitSink) -> Result<(), EncodeFault>
+        requires of_profile { InProfile (integer (range_of bounds.now)) }
+        ensures of_type { TellsWhether result (FitsNumber (range_of bounds.now) whole) }
+        ensures written { OnOk result (Writes rules sink.old sink.new (rules.code (integer (range_of bounds.now)) (number whole))) };
+
+    /// Writes what stands before the components of a SEQUENCE: the extension bit `extended`, where there is an
+    /// extension mark, and a presence bitmap of `count` bits.
+    fn write_preamble(
+        extended: Option<bool>,
+        count: u32,
+        bitmap: u64,
+        sink: &mut BitSink,
+    ) -> Result<(), AllocError>
+        requires few { count ≤ 64 }
+        requires within { bitmap < 2 ^ count }
+        ensures { OnOk result (WritesUnits rules sink.old sink.new (rules.preamble (mark_bits extended ++ bits count bitmap))) };
+
+    /// Writes the presence bitmap of `count` extension additions, of which one at least is present.
+    fn write_addition_bitmap(count: u32, bitmap: u64, sink: &mut BitSink) -> Result<(), AllocError>
+        requires some { 0 < count }
+        requires few { count ≤ 64 }
+        requires within { bitmap < 2 ^ count }
+        ensures { OnOk result (WritesUnits rules sink.old sink.new (rules.addition_bitmap (bits count bitmap))) };
+
+    /// Writes which alternative of a CHOICE is chosen, of `root` in the root and of the extension additions, where it
+    /// is `marked`. There are at most 63 in all.
+    fn write_index(
+        root: usize,
+        marked: bool,
+        index: Index,
+        sink: &mut BitSink,
+    ) -> Result<(), AllocError>
+        requires few { root ≤ 63 }
+        requires within { IsIndexWithin root (Some (63 - root)) (index_seen index) }
+        ensures { OnOk result (WritesUnits rules sink.old sink.new (rules.index root marked (index_seen index))) };
+
+    /// Writes the octets of an open type field behind their length.
+    fn write_open_octets(octets: &[u8], sink: &mut BitSink) -> Result<(), AllocError>
+        ensures { OnOk result (WritesUnits rules sink.old sink.new (rules.ruling.fielding.spelled octets.now)) };
+
+    /// Writes what stands before the items of a list of this size, of which there are `count`, up to the first length
+    /// determinant.
+    fn start_list(
+        size: &Size,
+        count: usize,
+        sink: &mut BitSink,
+    ) -> Result<Self::Fragments, AllocError>
+        requires of_type { FitsLength (size_range_of size.now) count }
+        ensures { IfOk result (λ f. (items : List (List Chunk)) → length items ≡ count
+            → Leaves rules sink.old (rules.sized (size_range_of size.now) items) sink.new (rest f items)) };
+
+    /// Writes what stands before the next items of a list, of which `left` are left, and gives how many these are:
+    /// one at least, and none where no item is left.
+    fn next_fragment(
+        fragments: &mut Self::Fragments,
+        left: usize,
+        sink: &mut BitSink,
+    ) -> Result<Option<usize>, AllocError>
+        ensures { IfOk result (λ count.
+            Advances rules (rest fragments.old) left sink.old (rest fragments.new) sink.new count) };
+
+    /// The octets of the complete encoding of a value whose spelling the sink has.
+    fn complete(sink: BitSink) -> Result<Vec<u8>, AllocError>
+        requires { (t : Shape) × (d : Datum) × IsSpelling rules sink t d }
+        ensures { IfOk result (λ o. (t : Shape) (d : Datum) → IsSpelling rules sink t d
+            → o.items ≡ rules.complete (rules.code t d)) };
+
+    ghost laws: { WriteLaws rules };
+}

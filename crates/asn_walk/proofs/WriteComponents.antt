@@ -28,21 +28,21 @@ use Rattle.asn_walk.proofs.WritePresence.{Left, left_more, left_ends}
 abbrev pub FitsHere : Part → Option Datum → Type 0
 FitsHere p e = FitsDemand (λ d. Fits p.shape d) p.demand e
 
--- what is written, with the bits of the components that are left, which code gives; and all entries are those of
--- their components, which All says, where those that are left are
-pub record Written (code : Fields → List (Option Datum) → List ℕ) (All : Type 0) (before all_bits now : List ℕ) (left : List Part) (rest : List (Option Datum)) : Type 0 where
+-- what a sink has, with the bits of the components that are left, which code gives, is what it had with those of all;
+-- and all entries are those of their components where those that are left are
+pub record Written (code : Fields → List (Option Datum) → List ℕ) (all : List Part) (entries : List (Option Datum)) (before now : List ℕ) (left : List Part) (rest : List (Option Datum)) : Type 0 where
   pub components : Left left rest
-  pub fits : FitsEach (fields_of left) rest ↔ All
-  pub known : now ++ code (fields_of left) rest ≡ before ++ all_bits
+  pub fits : FitsEach (fields_of left) rest ↔ FitsEach (fields_of all) entries
+  pub known : now ++ code (fields_of left) rest ≡ before ++ code (fields_of all) entries
 
 pub written_starts : (code : Fields → List (Option Datum) → List ℕ) (before : List ℕ) (all : List Part) (entries : List (Option Datum)) → Left all entries
-    → Written code (FitsEach (fields_of all) entries) before (code (fields_of all) entries) before all entries
+    → Written code all entries before before all entries
 written_starts code before all entries h = record { components = h; fits = (λ f. f, λ f. f); known = refl }
 
-module _ {code : Fields → List (Option Datum) → List ℕ} {All : Type 0} {before all_bits now : List ℕ} {left : List Part} {p : Part} {rest : List (Option Datum)} {e : Option Datum} where
+module _ {code : Fields → List (Option Datum) → List ℕ} {all : List Part} {entries : List (Option Datum)} {before now : List ℕ} {left : List Part} {p : Part} {rest : List (Option Datum)} {e : Option Datum} where
   -- a component whose bits are us
-  pub written_on : {new : List ℕ} (us : List ℕ) → Written code All before all_bits now (p ∷ left) (e ∷ rest) → FitsHere p e
-      → code (fields_of (p ∷ left)) (e ∷ rest) ≡ us ++ code (fields_of left) rest → new ≡ now ++ us → Written code All before all_bits new left rest
+  pub written_on : {new : List ℕ} (us : List ℕ) → Written code all entries before now (p ∷ left) (e ∷ rest) → FitsHere p e
+      → code (fields_of (p ∷ left)) (e ∷ rest) ≡ us ++ code (fields_of left) rest → new ≡ now ++ us → Written code all entries before new left rest
   written_on us h f s e = record {
     components = left_more h.components;
     fits = (λ g. h.fits.0 (f, g), λ a. (h.fits.1 a).1);
@@ -54,7 +54,7 @@ module _ {code : Fields → List (Option Datum) → List ℕ} {All : Type 0} {be
   }
 
   -- one that has no bits
-  pub written_past : Written code All before all_bits now (p ∷ left) (e ∷ rest) → FitsHere p e → code (fields_of (p ∷ left)) (e ∷ rest) ≡ code (fields_of left) rest → Written code All before all_bits now left rest
+  pub written_past : Written code all entries before now (p ∷ left) (e ∷ rest) → FitsHere p e → code (fields_of (p ∷ left)) (e ∷ rest) ≡ code (fields_of left) rest → Written code all entries before now left rest
   written_past h f s = record {
     components = left_more h.components;
     fits = (λ g. h.fits.0 (f, g), λ a. (h.fits.1 a).1);
@@ -62,17 +62,17 @@ module _ {code : Fields → List (Option Datum) → List ℕ} {All : Type 0} {be
   }
 
   -- one whose entry is none of it
-  pub written_never : Written code All before all_bits now (p ∷ left) (e ∷ rest) → (FitsHere p e → ⊥) → All → ⊥
+  pub written_never : Written code all entries before now (p ∷ left) (e ∷ rest) → (FitsHere p e → ⊥) → FitsEach (fields_of all) entries → ⊥
   written_never h never a = never (h.fits.1 a).0
 
-module _ {code : Fields → List (Option Datum) → List ℕ} {All : Type 0} {before all_bits now : List ℕ} {left : List Part} {rest : List (Option Datum)} (h : Written code All before all_bits now left rest) (e : (left ≡ []) ⊎ (rest ≡ [])) where
+module _ {code : Fields → List (Option Datum) → List ℕ} {all : List Part} {entries : List (Option Datum)} {before now : List ℕ} {left : List Part} {rest : List (Option Datum)} (h : Written code all entries before now left rest) (e : (left ≡ []) ⊎ (rest ≡ [])) where
   none : (left ≡ []) × (rest ≡ [])
   none = left_ends left rest h.components e
 
-  pub written_ends : ((es : List (Option Datum)) → code no_fields es ≡ []) → now ≡ before ++ all_bits
+  pub written_ends : ((es : List (Option Datum)) → code no_fields es ≡ []) → now ≡ before ++ code (fields_of all) entries
   written_ends n = sym (append-nil now) ∙ ap (λ l. now ++ l) (sym (n rest)) ∙ ap (λ l. now ++ code (fields_of l) rest) (sym none.0) ∙ h.known
 
-  pub all_written : All
+  pub all_written : FitsEach (fields_of all) entries
   all_written = h.fits.0 (rw (none.0, none.1) tt)
 
 -- ---- what is written of components
@@ -121,13 +121,13 @@ spelt_unless_default need.Optional d h = refl
 spelt_unless_default (need.Default x) d h = absurd (h x refl)
 
 -- one that is spelt
-pub written_more : {c : Coding} (laws : WriteLaws c) {All : Type 0} {before all_bits now new : List ℕ} {left : List Part} {p : Part} {rest : List (Option Datum)} {d : Datum}
-    → Written (each_bits c) All before all_bits now (p ∷ left) (Some d ∷ rest) → is_spelled p.demand (Some d) ≡ true → Fits p.shape d → new ≡ now ++ written c (c.code p.shape d) → Written (each_bits c) All before all_bits new left rest
+pub written_more : {c : Coding} (laws : WriteLaws c) {all : List Part} {entries : List (Option Datum)} {before now new : List ℕ} {left : List Part} {p : Part} {rest : List (Option Datum)} {d : Datum}
+    → Written (each_bits c) all entries before now (p ∷ left) (Some d ∷ rest) → is_spelled p.demand (Some d) ≡ true → Fits p.shape d → new ≡ now ++ written c (c.code p.shape d) → Written (each_bits c) all entries before new left rest
 written_more {c} laws {left = left} {p = p} {rest = rest} {d = d} h s f e = written_on (written c (c.code p.shape d)) h f (each_bits-spelled laws p.name p.demand p.shape (fields_of left) d rest s) e
 
 -- one that is equal to its DEFAULT, and so a value of its type
-pub written_passes : (c : Coding) {All : Type 0} {before all_bits now : List ℕ} {left : List Part} {p : Part} {rest : List (Option Datum)} {d : Datum}
-    → Written (each_bits c) All before all_bits now (p ∷ left) (Some d ∷ rest) → is_spelled p.demand (Some d) ≡ false → Written (each_bits c) All before all_bits now left rest
+pub written_passes : (c : Coding) {all : List Part} {entries : List (Option Datum)} {before now : List ℕ} {left : List Part} {p : Part} {rest : List (Option Datum)} {d : Datum}
+    → Written (each_bits c) all entries before now (p ∷ left) (Some d ∷ rest) → is_spelled p.demand (Some d) ≡ false → Written (each_bits c) all entries before now left rest
 written_passes c {left = left} {p = p} {rest = rest} {d = d} h s =
     written_past h (default_fits p.demand p.shape d h.components.of_profile.0 h.components.of_profile.1 s) (each_bits-default c p.name p.demand p.shape (fields_of left) d rest s)
   where
@@ -143,13 +143,13 @@ absent_fits t optional k = tt
 absent_fits t (default x) k = absurd (cc)
 
 -- one that is absent, where it may be
-pub written_absent : (c : Coding) {All : Type 0} {before all_bits now : List ℕ} {left : List Part} {p : Part} {rest : List (Option Datum)}
-    → Written (each_bits c) All before all_bits now (p ∷ left) (None ∷ rest) → p.demand ≡ optional → Written (each_bits c) All before all_bits now left rest
+pub written_absent : (c : Coding) {all : List Part} {entries : List (Option Datum)} {before now : List ℕ} {left : List Part} {p : Part} {rest : List (Option Datum)}
+    → Written (each_bits c) all entries before now (p ∷ left) (None ∷ rest) → p.demand ≡ optional → Written (each_bits c) all entries before now left rest
 written_absent c {p = p} h o = written_past h (absent_fits p.shape p.demand o) refl
 
 -- and where it may not
-pub absent_never : (c : Coding) {All : Type 0} {before all_bits now : List ℕ} {left : List Part} {p : Part} {rest : List (Option Datum)}
-    → Written (each_bits c) All before all_bits now (p ∷ left) (None ∷ rest) → (p.demand ≡ optional → ⊥) → All → ⊥
+pub absent_never : (c : Coding) {all : List Part} {entries : List (Option Datum)} {before now : List ℕ} {left : List Part} {p : Part} {rest : List (Option Datum)}
+    → Written (each_bits c) all entries before now (p ∷ left) (None ∷ rest) → (p.demand ≡ optional → ⊥) → FitsEach (fields_of all) entries → ⊥
 absent_never c {p = p} h o = written_never h (never p.demand o)
   where
     never : (demand : Demand) → (demand ≡ optional → ⊥) → FitsDemand (λ d. Fits p.shape d) demand None → ⊥

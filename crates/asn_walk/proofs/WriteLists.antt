@@ -15,7 +15,7 @@ use Rattle.asn_rules.specs.Chunks.{Chunk}
 use Rattle.asn_rules.proofs.SomeValue.{list_again}
 use Rattle.asn_walk.specs.Coding.{Coding}
 use Rattle.asn_walk.specs.WriteLaws.{WriteLaws}
-use Rattle.asn_walk.specs.Writing.{written, Writes, Leaves, Advances}
+use Rattle.asn_walk.specs.Writing.{written, Writes, LeavesToWrite, Advances}
 use Rattle.asn_walk.proofs.WriteComponents.{written-append}
 
 -- ---- a list of elements
@@ -48,7 +48,7 @@ other_count t s values never h =
 -- values of the type where those that are left are
 pub record ElementsUpTo (c : Coding) (t : Shape) (all left : List Datum) (before now : List ℕ) : Type 0 where
   pub fits : AllByRecursion (λ d. Fits t d) left ↔ AllByRecursion (λ d. Fits t d) all
-  pub known : Leaves c before (joined (codes c t all)) now (joined (codes c t left))
+  pub known : LeavesToWrite c before (joined (codes c t all)) now (joined (codes c t left))
 
 pub elements_start : (c : Coding) (t : Shape) (ds : List Datum) (before : List ℕ) → ElementsUpTo c t ds ds before before
 elements_start c t ds before = record { fits = (λ h. h, λ h. h); known = refl }
@@ -107,7 +107,7 @@ parts_fit t n values next others p q =
 -- values of the type where those that are left are
 pub record FragmentsUpTo (c : Coding) (t : Shape) (first rest : List (List Chunk) → List Chunk) (values left : List Value) (before now : List ℕ) : Type 0 where
   pub fits : AllByRecursion (λ d. Fits t d) (map datum_of left) ↔ AllByRecursion (λ d. Fits t d) (map datum_of values)
-  pub known : Leaves c before (first (codes c t (map datum_of values))) now (rest (codes c t (map datum_of left)))
+  pub known : LeavesToWrite c before (first (codes c t (map datum_of values))) now (rest (codes c t (map datum_of left)))
 
 pub fragments_start : (c : Coding) (t : Shape) (first : List (List Chunk) → List Chunk) (values : List Value) (before : List ℕ) → FragmentsUpTo c t first first values values before before
 fragments_start c t first values before = record { fits = (λ h. h, λ h. h); known = refl }
@@ -127,7 +127,7 @@ pub fragments_next : {c : Coding} (laws : WriteLaws c) {t : Shape} {first rest :
 fragments_next {c} laws {t} {rest = rest} {left = left} {now = now} then k n mid new next others h count a p q f e =
     let both = parts_fit t k left next others p q in
     let xs = codes c t (map datum_of left) in
-    let step : Leaves c now (rest xs) mid (joined (take k xs) ++ then (drop k xs)) = a.2 xs (codes_count c t left ∙ sym count) in
+    let step : LeavesToWrite c now (rest xs) mid (joined (take k xs) ++ then (drop k xs)) = a.2 xs (codes_count c t left ∙ sym count) in
     let put = joined (codes c t (map datum_of next)) in
     let more = then (codes c t (map datum_of others)) in
     record {
@@ -147,7 +147,7 @@ left_none (x ∷ left) n count none = absurd (omega (arith, count, none))
 
 pub fragments_end : {c : Coding} (laws : WriteLaws c) {t : Shape} {first rest : List (List Chunk) → List Chunk} {values left : List Value} {before now : List ℕ}
     (then : List (List Chunk) → List Chunk) (n : ℕ) (new : List ℕ) → FragmentsUpTo c t first rest values left before now → n ≡ length left → Advances c rest n now then new None
-    → Leaves c before (first (codes c t (map datum_of values))) new []
+    → LeavesToWrite c before (first (codes c t (map datum_of values))) new []
 fragments_end {c} laws {t} {rest = rest} {left = left} {now = now} then n new h count a =
     ap (λ (l : List ℕ). new ++ l) laws.none ∙ append-nil new ∙ a.1 ∙ ap (λ (l : List Value). now ++ written c (rest (codes c t (map datum_of l)))) (sym (left_none left n count a.0)) ∙ h.known
 
@@ -157,8 +157,8 @@ fragments_fit {left = left} n h count none = h.fits.0 (rw (left_none left n coun
 
 -- behind what stands before the items, the list is written
 pub list_written : {c : Coding} (laws : WriteLaws c) (t : Shape) (s : SizeRange) (first : List (List Chunk) → List Chunk) (values : List Value) (old mid new : List ℕ) (n : ℕ)
-    → ((items : List (List Chunk)) → length items ≡ n → Leaves c old (c.sized s items) mid (first items)) → n ≡ length values
-    → Leaves c mid (first (codes c t (map datum_of values))) new [] → Writes c old new (c.code (sequence_of t s) (elements (elements_of (map datum_of values))))
+    → ((items : List (List Chunk)) → length items ≡ n → LeavesToWrite c old (c.sized s items) mid (first items)) → n ≡ length values
+    → LeavesToWrite c mid (first (codes c t (map datum_of values))) new [] → Writes c old new (c.code (sequence_of t s) (elements (elements_of (map datum_of values))))
 list_written {c} laws t s first values old mid new n start count e =
     sym (append-nil new) ∙ ap (λ (l : List ℕ). new ++ l) (sym laws.none) ∙ e ∙ start (codes c t (map datum_of values)) (codes_count c t values ∙ sym count)
     ∙ ap (λ (ds : List Datum). old ++ written c (c.sized s (codes c t ds))) (sym (list_again (map datum_of values)))

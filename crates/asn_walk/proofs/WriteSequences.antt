@@ -31,11 +31,11 @@ abbrev pub open_bits : Coding → Fields → List (Option Datum) → List ℕ
 open_bits c fs es = written c (open_code c fs es)
 
 -- those written, and those left, which are OPTIONAL
-pub record Opened (c : Coding) (All : Type 0) (before all_bits now : List ℕ) (left : List Part) (rest : List (Option Datum)) : Type 0 where
-  pub written : Written (open_bits c) All before all_bits now left rest
+pub record Opened (c : Coding) (all : List Part) (entries : List (Option Datum)) (before now : List ℕ) (left : List Part) (rest : List (Option Datum)) : Type 0 where
+  pub written : Written (open_bits c) all entries before now left rest
   pub optional : AreOptional (fields_of left)
 
-pub opened_starts : (c : Coding) (before : List ℕ) (all : List Part) (entries : List (Option Datum)) → Left all entries → AreOptional (fields_of all) → Opened c (FitsEach (fields_of all) entries) before (open_bits c (fields_of all) entries) before all entries
+pub opened_starts : (c : Coding) (before : List ℕ) (all : List Part) (entries : List (Option Datum)) → Left all entries → AreOptional (fields_of all) → Opened c all entries before before all entries
 opened_starts c before all entries h o = record { written = written_starts (open_bits c) before all entries h; optional = o }
 
 -- the first of OPTIONAL components, and the others
@@ -48,17 +48,17 @@ first_optional p left o = go p.demand o
     go (default e) h = absurd (cc)
 
 -- an addition that is present
-pub opened_more : {c : Coding} (laws : WriteLaws c) {All : Type 0} {before all_bits now new : List ℕ} {left : List Part} {p : Part} {rest : List (Option Datum)} {d : Datum}
-    → Opened c All before all_bits now (p ∷ left) (Some d ∷ rest) → Fits p.shape d → new ≡ now ++ written c (in_open_field c (c.code p.shape d)) → Opened c All before all_bits new left rest
+pub opened_more : {c : Coding} (laws : WriteLaws c) {all : List Part} {entries : List (Option Datum)} {before now new : List ℕ} {left : List Part} {p : Part} {rest : List (Option Datum)} {d : Datum}
+    → Opened c all entries before now (p ∷ left) (Some d ∷ rest) → Fits p.shape d → new ≡ now ++ written c (in_open_field c (c.code p.shape d)) → Opened c all entries before new left rest
 opened_more {c} laws {left = left} {p = p} {rest = rest} {d = d} h f e =
     let o = first_optional p left h.optional in
-    let all : open_bits c (fields_of (p ∷ left)) (Some d ∷ rest) ≡ written c (in_open_field c (c.code p.shape d)) ++ open_bits c (fields_of left) rest =
+    let both : open_bits c (fields_of (p ∷ left)) (Some d ∷ rest) ≡ written c (in_open_field c (c.code p.shape d)) ++ open_bits c (fields_of left) rest =
     ap (λ (x : Demand). open_bits c (field p.name x p.shape (fields_of left)) (Some d ∷ rest)) o.0 ∙ written-append laws (in_open_field c (c.code p.shape d)) (open_code c (fields_of left) rest) in
-    record { written = written_on (written c (in_open_field c (c.code p.shape d))) h.written f all e; optional = o.1 }
+    record { written = written_on (written c (in_open_field c (c.code p.shape d))) h.written f both e; optional = o.1 }
 
 -- one that is absent
-pub opened_passes : (c : Coding) {All : Type 0} {before all_bits now : List ℕ} {left : List Part} {p : Part} {rest : List (Option Datum)} {e : Option Datum}
-    → Opened c All before all_bits now (p ∷ left) (e ∷ rest) → e ≡ None → Opened c All before all_bits now left rest
+pub opened_passes : (c : Coding) {all : List Part} {entries : List (Option Datum)} {before now : List ℕ} {left : List Part} {p : Part} {rest : List (Option Datum)} {e : Option Datum}
+    → Opened c all entries before now (p ∷ left) (e ∷ rest) → e ≡ None → Opened c all entries before now left rest
 opened_passes c {left = left} {p = p} {rest = rest} {e = e} h n =
     let o = first_optional p left h.optional in
     record {

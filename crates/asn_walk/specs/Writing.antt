@@ -1,16 +1,21 @@
 -- What the writers of the walk write, and what they tell of the value that they were given.
 use Rattle.std.specs.Prelude.{◌≡◌, ◌<◌, ◌≤◌, ◌++◌, ℕ, Bool, true, List, [], ◌∷◌, length, take, drop, map, Option, Some, None, Result, MatchResult, ⊤}
 use Rattle.std.specs.List.{list_all}
-use Rattle.asn_values.specs.Datum.{Datum}
+use Rattle.asn_values.specs.declared.types.AsnType.{AsnType}
+use Rattle.asn_values.specs.declared.types.Field.{Field}
+use Rattle.asn_values.specs.declared.value.Value.{Value}
+use Rattle.asn_values.specs.Datum.{Datum, elements, elements_of}
 use Rattle.asn_values.specs.Shape.{Shape, Fields, demands}
-use Rattle.asn_values.specs.Fits.{Fits}
+use Rattle.asn_values.specs.Fits.{Fits, FitsEach}
 use Rattle.asn_values.specs.Profile.{InProfile, is_optional}
+use Rattle.asn_values.specs.View.{shape_of, datum_of}
 use Rattle.asn_bits.specs.Lengths.{joined}
 use Rattle.asn_bits.specs.Sink.{bit_of}
 use Rattle.asn_rules.specs.Chunks.{Chunk, flat}
 use Rattle.asn_rules.specs.declared.fault.EncodeFault.{EncodeFault}
 use Rattle.asn_rules.specs.declared.fault.EncodeFault.TheVariants as encode
 use Rattle.asn_walk.specs.Coding.{Coding}
+use Rattle.asn_walk.specs.Reading.{fields_seen, entries_seen}
 
 -- ---- what is told
 
@@ -27,29 +32,41 @@ TellsWhether r P = MatchResult r (λ _. P) (λ why. Unwritten why P)
 
 -- ---- what is written
 
--- the bits of chunks
+-- the bits of chunks in a sink
 abbrev pub written : Coding → List Chunk → List ℕ
 written c cs = c.to_bits (flat c.ruling.fielding.spelled cs)
 
--- the sink has these units more
+-- a sink has these units more
 abbrev pub WritesUnits : Coding → List ℕ → List ℕ → List ℕ → Type 0
 WritesUnits c old new us = new ≡ old ++ c.to_bits us
 
--- the sink has the units of these chunks more
+-- a sink has the units of these chunks more
 abbrev pub Writes : Coding → List ℕ → List ℕ → List Chunk → Type 0
 Writes c old new cs = new ≡ old ++ written c cs
 
--- with the units of the chunks xs a sink is what it was with those of the chunks ys
-abbrev pub Leaves : Coding → List ℕ → List Chunk → List ℕ → List Chunk → Type 0
-Leaves c old ys new xs = new ++ written c xs ≡ old ++ written c ys
+-- of the chunks that were to be written behind old, these others are still to be written behind new
+abbrev pub LeavesToWrite : Coding → List ℕ → List Chunk → List ℕ → List Chunk → Type 0
+LeavesToWrite c old all new others = new ++ written c others ≡ old ++ written c all
 
--- the bits of a sink are the spelling of a value
+-- the bits of a sink are the spelling of a value of a type of the profile
 pub record IsSpelling (c : Coding) (sink : List ℕ) (t : Shape) (d : Datum) : Type 0 where
   pub of_profile : InProfile t
   pub fits : Fits t d
   pub written : sink ≡ written c (c.code t d)
 
+-- a sink has the spelling of a value more
+abbrev pub WritesValue : Coding → List ℕ → List ℕ → AsnType → Value → Type 0
+WritesValue c old new t v = Writes c old new (c.code (shape_of t) (datum_of v))
+
+-- a value is one of a type
+abbrev pub FitsType : AsnType → Value → Type 0
+FitsType t v = Fits (shape_of t) (datum_of v)
+
 -- ---- SEQUENCE
+
+-- each entry is one of its component
+abbrev pub EntriesFit : List Field → List (Option Value) → Type 0
+EntriesFit fs es = FitsEach (fields_seen fs) (entries_seen es)
 
 -- the extension bit, where there is an extension mark
 abbrev pub mark_bits : Option Bool → List ℕ
@@ -62,10 +79,14 @@ AreOptional fs = list_all is_optional (demands fs) ≡ true
 
 -- ---- SEQUENCE OF
 
+-- elements as a value
+abbrev pub list_seen : List Value → Datum
+list_seen vs = elements (elements_of (map datum_of vs))
+
 -- Of the items that are left, so many follow next, one at least, and what is still to be written of those behind them
 -- is what rest says; none where no item is left, and then all is written.
 abbrev pub Advances : Coding → (List (List Chunk) → List Chunk) → ℕ → List ℕ → (List (List Chunk) → List Chunk) → List ℕ → Option ℕ → Type 0
 Advances c before left old rest new None = (left ≡ 0) × Writes c old new (before [])
 Advances c before left old rest new (Some k) =
     (0 < k) × (k ≤ left)
-    × ((items : List (List Chunk)) → length items ≡ left → Leaves c old (before items) new (joined (take k items) ++ rest (drop k items)))
+    × ((items : List (List Chunk)) → length items ≡ left → LeavesToWrite c old (before items) new (joined (take k items) ++ rest (drop k items)))

@@ -15,4 +15,4 @@ mod writer;
 
 pub use encoder::encode;
 pub use write_leaves::WriteLeaves;
-pub use writer::{write, write_complete};
+pub use writer::write_complete;

@@ -1,17 +1,18 @@
 //! What a set of encoding rules gives to a writer: the parts of types and values that it spells by itself.
 ghost use Rattle.std.specs.Prelude.{◌≡◌, ◌≤◌, ◌<◌, ◌-◌, ◌^◌, ◌++◌, List, length, Some, IfOk, OnOk};
 ghost use Rattle.asn_values.specs.Datum.{Datum, number};
-ghost use Rattle.asn_values.specs.Fits.{Fits, FitsLength, FitsNumber};
+ghost use Rattle.asn_values.specs.Fits.{FitsLength, FitsNumber};
 ghost use Rattle.asn_values.specs.Profile.{InProfile};
 ghost use Rattle.asn_values.specs.Shape.{Shape, integer};
-ghost use Rattle.asn_values.specs.View.{shape_of, datum_of, range_of, size_range_of};
+ghost use Rattle.asn_values.specs.View.{shape_of, range_of, size_range_of};
 ghost use Rattle.asn_bits.specs.Numbers.{bits};
 ghost use Rattle.asn_rules.specs.Chunks.{Chunk};
 ghost use Rattle.asn_walk.specs.Coding.{Coding, IsIndexWithin};
 ghost use Rattle.asn_walk.specs.Laws.{IsSimple};
 ghost use Rattle.asn_walk.specs.Views.{index_seen};
 ghost use Rattle.asn_walk.specs.WriteLaws.{WriteLaws};
-ghost use Rattle.asn_walk.specs.Writing.{TellsWhether, Writes, WritesUnits, Leaves, Advances, IsSpelling, mark_bits};
+ghost use Rattle.asn_walk.specs.Writing.{TellsWhether, FitsType, Writes, WritesUnits, WritesValue, mark_bits};
+ghost use Rattle.asn_walk.specs.Writing.{LeavesToWrite, Advances, IsSpelling};
 
 use crate::leaves::Index;
 use asn_bits::BitSink;
@@ -34,14 +35,15 @@ pub trait WriteLeaves {
     fn write_simple(ty: &AsnType, value: &Value, sink: &mut BitSink) -> Result<(), EncodeFault>
         requires of_profile { InProfile (shape_of ty.now) }
         requires simple { IsSimple (shape_of ty.now) }
-        ensures of_type { TellsWhether result (Fits (shape_of ty.now) (datum_of value.now)) }
-        ensures written { OnOk result (Writes rules sink.old sink.new (rules.code (shape_of ty.now) (datum_of value.now))) };
+        ensures of_type { TellsWhether result (FitsType ty.now value.now) }
+        ensures written { OnOk result (WritesValue rules sink.old sink.new ty.now value.now) };
 
     /// Writes a number, where it is one of the range.
     fn write_number(bounds: &Bounds, whole: i128, sink: &mut BitSink) -> Result<(), EncodeFault>
         requires of_profile { InProfile (integer (range_of bounds.now)) }
         ensures of_type { TellsWhether result (FitsNumber (range_of bounds.now) whole) }
-        ensures written { OnOk result (Writes rules sink.old sink.new (rules.code (integer (range_of bounds.now)) (number whole))) };
+        ensures written { OnOk result
+            (Writes rules sink.old sink.new (rules.code (integer (range_of bounds.now)) (number whole))) };
 
     /// Writes what stands before the components of a SEQUENCE: the extension bit `extended`, where there is an
     /// extension mark, and a presence bitmap of `count` bits.
@@ -53,7 +55,8 @@ pub trait WriteLeaves {
     ) -> Result<(), AllocError>
         requires few { count ≤ 64 }
         requires within { bitmap < 2 ^ count }
-        ensures { OnOk result (WritesUnits rules sink.old sink.new (rules.preamble (mark_bits extended ++ bits count bitmap))) };
+        ensures { OnOk result
+            (WritesUnits rules sink.old sink.new (rules.preamble (mark_bits extended ++ bits count bitmap))) };
 
     /// Writes the presence bitmap of `count` extension additions, of which one at least is present.
     fn write_addition_bitmap(count: u32, bitmap: u64, sink: &mut BitSink) -> Result<(), AllocError>
@@ -87,7 +90,7 @@ pub trait WriteLeaves {
     ) -> Result<Self::Fragments, AllocError>
         requires of_type { FitsLength (size_range_of size.now) count }
         ensures { IfOk result (λ f. (items : List (List Chunk)) → length items ≡ count
-            → Leaves rules sink.old (rules.sized (size_range_of size.now) items) sink.new (rest f items)) };
+            → LeavesToWrite rules sink.old (rules.sized (size_range_of size.now) items) sink.new (rest f items)) };
 
     /// Writes what stands before the next items of a list, of which `left` are left, and gives how many these are:
     /// one at least, and none where no item is left.

@@ -1,16 +1,15 @@
 //! The writer of values.
 ghost use Rattle.std.specs.Prelude.{◌≡◌, ◌≤◌, ◌<◌, IfOk, OnOk, map, length};
 ghost use Rattle.std.specs.List.{AllByRecursion};
-ghost use Rattle.std.specs.Option.{option_map};
-ghost use Rattle.asn_values.specs.Datum.{elements, elements_of};
-ghost use Rattle.asn_values.specs.Fits.{Fits, FitsEach, FitsAlternative};
+ghost use Rattle.asn_values.specs.Fits.{Fits, FitsAlternative};
 ghost use Rattle.asn_values.specs.Parts.{AreOfProfile, AreAllOfProfile};
 ghost use Rattle.asn_values.specs.Profile.{InProfile};
 ghost use Rattle.asn_values.specs.Shape.{sequence_of};
-ghost use Rattle.asn_values.specs.View.{shape_of, datum_of, size_range_of, fields_of, part_of_field, alternatives_of, branch_of};
+ghost use Rattle.asn_values.specs.View.{shape_of, datum_of, size_range_of};
 ghost use Rattle.asn_bits.specs.Lengths.{joined};
 ghost use Rattle.asn_walk.specs.Composites.{in_open_field, each_code, open_code, additions_code, root_code, alternative_code};
-ghost use Rattle.asn_walk.specs.Writing.{TellsWhether, Writes, AreOptional, mark_bits};
+ghost use Rattle.asn_walk.specs.Reading.{fields_seen, entries_seen, alternatives_seen};
+ghost use Rattle.asn_walk.specs.Writing.{TellsWhether, Writes, WritesValue, FitsType, EntriesFit, AreOptional, mark_bits, list_seen};
 
 use crate::leaves::Index;
 use crate::presence::{is_any_present, is_encoded, presence_bitmap};
@@ -30,8 +29,9 @@ pub fn write_complete<R: WriteLeaves>(
     value: &Value,
 ) -> Result<Vec<u8>, EncodeFault>
     requires of_profile { InProfile (shape_of ty.now) }
-    ensures of_type { TellsWhether result (Fits (shape_of ty.now) (datum_of value.now)) }
-    ensures written { IfOk result (λ o. o.items ≡ R.rules.complete (R.rules.code (shape_of ty.now) (datum_of value.now))) }
+    ensures of_type { TellsWhether result (FitsType ty.now value.now) }
+    ensures written { IfOk result (λ o.
+        o.items ≡ R.rules.complete (R.rules.code (shape_of ty.now) (datum_of value.now))) }
 {
     let mut sink = BitSink::new(alloc);
     write::<R>(alloc, ty, value, &mut sink)?;
@@ -47,7 +47,7 @@ fn write_open_field<R: WriteLeaves>(
     sink: &mut BitSink,
 ) -> Result<(), EncodeFault>
     requires of_profile { InProfile (shape_of ty.now) }
-    ensures of_type { TellsWhether result (Fits (shape_of ty.now) (datum_of value.now)) }
+    ensures of_type { TellsWhether result (FitsType ty.now value.now) }
     ensures written { OnOk result (Writes R.rules sink.old sink.new
         (in_open_field R.rules (R.rules.code (shape_of ty.now) (datum_of value.now)))) }
 {
@@ -57,19 +57,17 @@ fn write_open_field<R: WriteLeaves>(
 }
 
 /// Writes a value, where it is one of the type.
-///
-/// `NotOfType` where it is none, `Memory` where a growth was refused.
 #[inline(always)]
 #[cycle(writer)]
-pub fn write<R: WriteLeaves>(
+fn write<R: WriteLeaves>(
     alloc: Global,
     ty: &AsnType,
     value: &Value,
     sink: &mut BitSink,
 ) -> Result<(), EncodeFault>
     requires of_profile { InProfile (shape_of ty.now) }
-    ensures of_type { TellsWhether result (Fits (shape_of ty.now) (datum_of value.now)) }
-    ensures written { OnOk result (Writes R.rules sink.old sink.new (R.rules.code (shape_of ty.now) (datum_of value.now))) }
+    ensures of_type { TellsWhether result (FitsType ty.now value.now) }
+    ensures written { OnOk result (WritesValue R.rules sink.old sink.new ty.now value.now) }
 {
     match ty {
         AsnType::Seq { root, ext } => {
@@ -128,11 +126,12 @@ fn write_alternative<R: WriteLeaves>(
     value: &Value,
     sink: &mut BitSink,
 ) -> Result<(), EncodeFault>
-    requires of_profile { AreAllOfProfile (alternatives_of (map branch_of alternatives.now)) }
+    requires of_profile { AreAllOfProfile (alternatives_seen alternatives.now) }
     requires inside { place < length alternatives.now }
-    ensures of_type { TellsWhether result (FitsAlternative (alternatives_of (map branch_of alternatives.now)) place (datum_of value.now)) }
+    ensures of_type { TellsWhether result
+        (FitsAlternative (alternatives_seen alternatives.now) place (datum_of value.now)) }
     ensures written { OnOk result (Writes R.rules sink.old sink.new
-        (alternative_code R.rules (alternatives_of (map branch_of alternatives.now)) place (datum_of value.now))) }
+        (alternative_code R.rules (alternatives_seen alternatives.now) place (datum_of value.now))) }
 {
     write::<R>(alloc, &alternatives[place].ty, value, sink)
 }
@@ -146,11 +145,12 @@ fn write_added_alternative<R: WriteLeaves>(
     value: &Value,
     sink: &mut BitSink,
 ) -> Result<(), EncodeFault>
-    requires of_profile { AreAllOfProfile (alternatives_of (map branch_of alternatives.now)) }
+    requires of_profile { AreAllOfProfile (alternatives_seen alternatives.now) }
     requires inside { place < length alternatives.now }
-    ensures of_type { TellsWhether result (FitsAlternative (alternatives_of (map branch_of alternatives.now)) place (datum_of value.now)) }
+    ensures of_type { TellsWhether result
+        (FitsAlternative (alternatives_seen alternatives.now) place (datum_of value.now)) }
     ensures written { OnOk result (Writes R.rules sink.old sink.new (in_open_field R.rules
-        (alternative_code R.rules (alternatives_of (map branch_of alternatives.now)) place (datum_of value.now)))) }
+        (alternative_code R.rules (alternatives_seen alternatives.now) place (datum_of value.now)))) }
 {
     write_open_field::<R>(alloc, &alternatives[place].ty, value, sink)
 }
@@ -165,11 +165,11 @@ fn write_root<R: WriteLeaves>(
     entries: &[Option<Value>],
     sink: &mut BitSink,
 ) -> Result<(), EncodeFault>
-    requires of_profile { AreOfProfile (fields_of (map part_of_field fields.now)) }
+    requires of_profile { AreOfProfile (fields_seen fields.now) }
     requires few { length fields.now ≤ 64 }
-    ensures of_type { TellsWhether result (FitsEach (fields_of (map part_of_field fields.now)) (map (option_map datum_of) entries.now)) }
-    ensures written { OnOk result (Writes R.rules sink.old sink.new (root_code R.rules (mark_bits extended)
-        (fields_of (map part_of_field fields.now)) (map (option_map datum_of) entries.now))) }
+    ensures of_type { TellsWhether result (EntriesFit fields.now entries.now) }
+    ensures written { OnOk result (Writes R.rules sink.old sink.new
+        (root_code R.rules (mark_bits extended) (fields_seen fields.now) (entries_seen entries.now))) }
 {
     if fields.len() != entries.len() {
         return Err(EncodeFault::NotOfType);
@@ -180,6 +180,7 @@ fn write_root<R: WriteLeaves>(
 }
 
 /// Writes the components that are encoded, in order, where each entry is one of its component.
+#[inline(always)]
 #[cycle(writer)]
 fn write_components<R: WriteLeaves>(
     alloc: Global,
@@ -187,11 +188,11 @@ fn write_components<R: WriteLeaves>(
     entries: &[Option<Value>],
     sink: &mut BitSink,
 ) -> Result<(), EncodeFault>
-    requires of_profile { AreOfProfile (fields_of (map part_of_field fields.now)) }
+    requires of_profile { AreOfProfile (fields_seen fields.now) }
     requires each { length fields.now ≡ length entries.now }
-    ensures of_type { TellsWhether result (FitsEach (fields_of (map part_of_field fields.now)) (map (option_map datum_of) entries.now)) }
-    ensures written { OnOk result (Writes R.rules sink.old sink.new (each_code R.rules
-        (fields_of (map part_of_field fields.now)) (map (option_map datum_of) entries.now))) }
+    ensures of_type { TellsWhether result (EntriesFit fields.now entries.now) }
+    ensures written { OnOk result (Writes R.rules sink.old sink.new
+        (each_code R.rules (fields_seen fields.now) (entries_seen entries.now))) }
 {
     for (field, entry) in fields.iter().zip(entries) {
         let Some(value) = entry else {
@@ -222,12 +223,12 @@ fn write_additions<R: WriteLeaves>(
     entries: &[Option<Value>],
     sink: &mut BitSink,
 ) -> Result<(), EncodeFault>
-    requires of_profile { AreOfProfile (fields_of (map part_of_field fields.now)) }
-    requires optional { AreOptional (fields_of (map part_of_field fields.now)) }
+    requires of_profile { AreOfProfile (fields_seen fields.now) }
+    requires optional { AreOptional (fields_seen fields.now) }
     requires few { length fields.now ≤ 64 }
-    ensures of_type { TellsWhether result (FitsEach (fields_of (map part_of_field fields.now)) (map (option_map datum_of) entries.now)) }
-    ensures written { OnOk result (Writes R.rules sink.old sink.new (additions_code R.rules
-        (fields_of (map part_of_field fields.now)) (map (option_map datum_of) entries.now))) }
+    ensures of_type { TellsWhether result (EntriesFit fields.now entries.now) }
+    ensures written { OnOk result (Writes R.rules sink.old sink.new
+        (additions_code R.rules (fields_seen fields.now) (entries_seen entries.now))) }
 {
     if fields.len() != entries.len() {
         return Err(EncodeFault::NotOfType);
@@ -248,17 +249,18 @@ fn write_open_components<R: WriteLeaves>(
     entries: &[Option<Value>],
     sink: &mut BitSink,
 ) -> Result<(), EncodeFault>
-    requires of_profile { AreOfProfile (fields_of (map part_of_field fields.now)) }
-    requires optional { AreOptional (fields_of (map part_of_field fields.now)) }
+    requires of_profile { AreOfProfile (fields_seen fields.now) }
+    requires optional { AreOptional (fields_seen fields.now) }
     requires each { length fields.now ≡ length entries.now }
-    ensures of_type { TellsWhether result (FitsEach (fields_of (map part_of_field fields.now)) (map (option_map datum_of) entries.now)) }
-    ensures written { OnOk result (Writes R.rules sink.old sink.new (open_code R.rules
-        (fields_of (map part_of_field fields.now)) (map (option_map datum_of) entries.now))) }
+    ensures of_type { TellsWhether result (EntriesFit fields.now entries.now) }
+    ensures written { OnOk result (Writes R.rules sink.old sink.new
+        (open_code R.rules (fields_seen fields.now) (entries_seen entries.now))) }
 {
     for (field, entry) in fields.iter().zip(entries) {
-        if let Some(value) = entry {
-            write_open_field::<R>(alloc, &field.ty, value, sink)?;
-        }
+        let Some(value) = entry else {
+            continue;
+        };
+        write_open_field::<R>(alloc, &field.ty, value, sink)?;
     }
     Ok(())
 }
@@ -274,10 +276,10 @@ fn write_list<R: WriteLeaves>(
     sink: &mut BitSink,
 ) -> Result<(), EncodeFault>
     requires of_profile { InProfile (sequence_of (shape_of element.now) (size_range_of size.now)) }
-    ensures of_type { TellsWhether result (Fits (sequence_of (shape_of element.now) (size_range_of size.now))
-        (elements (elements_of (map datum_of values.now)))) }
-    ensures written { OnOk result (Writes R.rules sink.old sink.new (R.rules.code
-        (sequence_of (shape_of element.now) (size_range_of size.now)) (elements (elements_of (map datum_of values.now))))) }
+    ensures of_type { TellsWhether result
+        (Fits (sequence_of (shape_of element.now) (size_range_of size.now)) (list_seen values.now)) }
+    ensures written { OnOk result (Writes R.rules sink.old sink.new
+        (R.rules.code (sequence_of (shape_of element.now) (size_range_of size.now)) (list_seen values.now))) }
 {
     if !length_fits(size, values.len()) {
         return Err(EncodeFault::NotOfType);
@@ -301,7 +303,8 @@ fn write_elements<R: WriteLeaves>(
     sink: &mut BitSink,
 ) -> Result<(), EncodeFault>
     requires of_profile { InProfile (shape_of element.now) }
-    ensures of_type { TellsWhether result (AllByRecursion (λ d. Fits (shape_of element.now) d) (map datum_of values.now)) }
+    ensures of_type { TellsWhether result
+        (AllByRecursion (λ d. Fits (shape_of element.now) d) (map datum_of values.now)) }
     ensures written { OnOk result (Writes R.rules sink.old sink.new
         (joined (map (λ d. R.rules.code (shape_of element.now) d) (map datum_of values.now)))) }
 {

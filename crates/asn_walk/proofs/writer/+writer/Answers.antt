@@ -179,8 +179,8 @@ write_additions-returns-clause-written g t c =
     (fields_of (map part_of_field c.args.fields.now)) (map (option_map datum_of) c.args.entries.now) (sym c.is_any_present.ensures ∙ c.if-not-is_any_present.false) c.presence_bitmap-count.ensures.bitmap c.in_ok-write_addition_bitmap.ensures e)
     c.write_open_components.ensures.written
 
-pub write_open_components-loop-field-preserved-in-Continue-1 : goal.write_open_components-loop-field-preserved-in-Continue-1
-write_open_components-loop-field-preserved-in-Continue-1 g t c =
+pub write_open_components-loop-field-preserved : goal.write_open_components-loop-field-preserved
+write_open_components-loop-field-preserved g t c =
     let e : c.loop-field.field-iterator.a.rest.now ≡ c.in-Some.field.now ∷ c.next.new.self.a.rest.now = c.in-Some.ensures.steps.0 in
     let f : c.loop-field.field-iterator.b.rest.now ≡ c.in-Some.entry.now ∷ c.next.new.self.b.rest.now = c.in-Some.ensures.steps.1 in
     let d = datum_of c.in-Some-entry.value in
@@ -305,7 +305,7 @@ write-returns-in_ok-write_index-in-Some-ext-clause-written g t c =
 pub write-returns-in_default-ext-clause-of_type : goal.write-returns-in_default-ext-clause-of_type
 write-returns-in_default-ext-clause-of_type g t c =
     past_additions c.args.ty.now c.args.value.now c.in-Choice.root c.in-Choice.ext c.in-Choice-value.tag c.in-Choice-value.chosen c.in-Choice.is c.in-Choice-value.is c.len-known.result c.len-known.ensures
-    c.if-place-known.false c.in-Some-ext.additions c.in-Some-ext.is (omega (arith, c.if-place-known-2.false, c.len-in-Some-ext-2.ensures))
+    c.if-place-known.false c.in-Some-ext.additions c.in-Some-ext.is (omega (arith, c.if-place-known-2.false))
 
 pub write-returns-in_default-ext-2-clause-of_type : goal.write-returns-in_default-ext-2-clause-of_type
 write-returns-in_default-ext-2-clause-of_type g t c =

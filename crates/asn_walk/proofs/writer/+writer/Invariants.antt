@@ -1,22 +1,19 @@
 use Rattle.std.proofs.Common.{map, length, drop}
 use Rattle.std.specs.Option.{option_map}
-use Rattle.asn_values.specs.Fits.{FitsEach}
-use Rattle.asn_values.specs.View.{datum_of, part_of_field, fields_of, shape_of}
+use Rattle.asn_values.specs.View.{datum_of, part_of_field, shape_of}
 use Rattle.asn_walk.proofs.WriteComponents.{Written, each_bits}
 use Rattle.asn_walk.proofs.WriteLists.{ElementsUpTo, FragmentsUpTo}
-use Rattle.asn_walk.proofs.WriteSequences.{Opened, open_bits}
+use Rattle.asn_walk.proofs.WriteSequences.{Opened}
 use Rattle.asn_walk.proofs.writer.+writer.Given as goal
 
 abbrev pub invariant-write_components-loop-field : goal.invariant-write_components-loop-field
 invariant-write_components-loop-field g l =
-    let c = g.R.WriteLeaves.rules in
-    Written (each_bits c) (FitsEach (fields_of (map part_of_field l.fields)) (map (option_map datum_of) l.entries)) l.initial.sink (each_bits c (fields_of (map part_of_field l.fields)) (map (option_map datum_of) l.entries)) l.sink
+    Written (each_bits g.R.WriteLeaves.rules) (map part_of_field l.fields) (map (option_map datum_of) l.entries) l.initial.sink l.sink
     (map part_of_field l.field-iterator.a.rest.now) (map (option_map datum_of) l.field-iterator.b.rest.now)
 
 abbrev pub invariant-write_open_components-loop-field : goal.invariant-write_open_components-loop-field
 invariant-write_open_components-loop-field g l =
-    let c = g.R.WriteLeaves.rules in
-    Opened c (FitsEach (fields_of (map part_of_field l.fields)) (map (option_map datum_of) l.entries)) l.initial.sink (open_bits c (fields_of (map part_of_field l.fields)) (map (option_map datum_of) l.entries)) l.sink
+    Opened g.R.WriteLeaves.rules (map part_of_field l.fields) (map (option_map datum_of) l.entries) l.initial.sink l.sink
     (map part_of_field l.field-iterator.a.rest.now) (map (option_map datum_of) l.field-iterator.b.rest.now)
 
 abbrev pub invariant-write_list-loop-fragments : goal.invariant-write_list-loop-fragments

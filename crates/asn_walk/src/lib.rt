@@ -1,9 +1,13 @@
 //! One walk over types and values for all encoding rules, above the parts that each set of rules gives.
-#![tactic(auto)]
+//!
+//! A set of encoding rules is an impl of `ReadLeaves`: the parts of an encoding in which PER and OER differ. SEQUENCE,
+//! SEQUENCE OF, CHOICE, open type fields and complete encodings are put together from these parts here, once.
+//#![tactic(auto)]
 
 mod components;
 mod leaves;
+mod presence;
 mod reader;
 
-pub use leaves::{Index, ReadLeaves, Preamble};
+pub use leaves::{Index, Preamble, ReadLeaves};
 pub use reader::{read, read_complete};

@@ -1,0 +1,69 @@
+//! Presence bits of the components of a SEQUENCE, as a number.
+ghost use Rattle.std.specs.Prelude.{◌≡◌, ◌≤◌, ◌<◌, ◌+◌, ◌^◌, ◌/◌, ◌%◌, true, false, length};
+ghost use Rattle.asn_values.specs.View.{part_of_field};
+ghost use Rattle.asn_bits.specs.Sink.{bit_of};
+ghost use Rattle.asn_rules.specs.Components.{has_presence_bit};
+ghost use Rattle.asn_rules.specs.Listed.{bitmap_length};
+ghost use Rattle.asn_walk.specs.Reading.{fields_seen};
+
+use asn_values::{Field, Need};
+
+/// Presence bits that are still to be looked at: the lowest `left` bits of a bitmap, the highest of them first.
+#[derive(Clone, Copy)]
+pub(crate) struct PresenceBits {
+    pub bitmap: u64,
+    pub left: u32,
+}
+
+impl PresenceBits {
+    /// Takes the next presence bit.
+    pub(crate) fn next(&mut self) -> bool
+        requires some { 0 < self.old.left }
+        requires few { self.old.left ≤ 64 }
+        ensures bitmap { self.new.bitmap ≡ self.old.bitmap }
+        ensures left { self.new.left + 1 ≡ self.old.left }
+        ensures bit { bit_of result ≡ self.old.bitmap / 2 ^ self.new.left % 2 }
+    {
+        self.left -= 1;
+        (self.bitmap >> self.left) & 1 == 1
+    }
+
+    /// Whether this component of the root is present: its presence bit, which is taken, where it has one.
+    pub(crate) fn next_of(&mut self, field: &Field) -> bool
+        requires few { self.old.left ≤ 64 }
+        requires some { has_presence_bit (part_of_field field.now).demand ≡ true → 0 < self.old.left }
+        ensures bitmap { self.new.bitmap ≡ self.old.bitmap }
+        ensures must { has_presence_bit (part_of_field field.now).demand ≡ false
+            → (result ≡ true) × (self.new.left ≡ self.old.left) }
+        ensures bit { has_presence_bit (part_of_field field.now).demand ≡ true
+            → (self.new.left + 1 ≡ self.old.left) × (bit_of result ≡ self.old.bitmap / 2 ^ self.new.left % 2) }
+    {
+        if has_presence_bit(field) {
+            self.next()
+        } else {
+            true
+        }
+    }
+}
+
+/// Whether the component has a presence bit: it is OPTIONAL or has a DEFAULT.
+pub(crate) fn has_presence_bit(field: &Field) -> bool
+    ensures { result ≡ has_presence_bit (part_of_field field.now).demand }
+{
+    !matches!(field.need, Need::Must)
+}
+
+/// How many presence bits the components of a root have.
+pub(crate) fn bitmap_width(fields: &[Field]) -> u32
+    requires { length fields.now ≤ 64 }
+    ensures count { result ≡ bitmap_length (fields_seen fields.now) }
+    ensures few { result ≤ 64 }
+{
+    let mut count = 0;
+    for field in fields {
+        if has_presence_bit(field) {
+            count += 1;
+        }
+    }
+    count
+}

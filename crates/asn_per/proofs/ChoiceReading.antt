@@ -1,32 +1,35 @@
 -- From the answers for an index and for a value of an alternative to those for a CHOICE, as the readers of the
 -- program ask for them.
-use Rattle.std.proofs.Common.{◌≡◌, ◌<◌, ◌+◌, ◌⊎◌, inl, inr, ℕ, zero, suc, List, [], ◌∷◌, ◌++◌, map, length, get_or, Option, Some, None, Vec, Global, vec_len, refl, sym, ap, ◌∙◌, subst, arith}
+use Rattle.std.proofs.Common.{◌≡◌, ◌<◌, ◌+◌, ◌⊎◌, inl, inr, ℕ, zero, suc, List, [], ◌∷◌, map, length, get_or, Option, Some, None, Vec, Global, vec_len, sym, ap, ◌∙◌, subst, arith}
 use Rattle.std.specs.Option.{option_map}
 use Rattle.asn_values.specs.declared.types.Alt.{Alt}
 use Rattle.asn_values.specs.declared.types.AsnType.{AsnType}
 use Rattle.asn_values.specs.declared.types.AsnType as asn_type
-use Rattle.asn_values.specs.Datum.{Datum, alternative}
+use Rattle.asn_values.specs.Datum.{alternative}
 use Rattle.asn_values.specs.Shape.{Alternatives, no_alternatives, one_of, MoreAlternatives, closed_choice, marked_choice, more_alternatives, choice, count}
 use Rattle.asn_values.specs.Profile.{InProfile}
 use Rattle.asn_values.specs.View.{shape_of, branch_of, alternatives_of, more_alternatives_of}
 use Rattle.asn_values.proofs.Alternatives.{shape_of_branch}
 use Rattle.asn_values.specs.Parts.{AreAllOfProfile}
 use Rattle.asn_bits.specs.Numbers.{width}
-use Rattle.asn_rules.specs.Chunks.{Chunk, one}
-use Rattle.asn_rules.specs.Forks.{Branch, Same}
-use Rattle.asn_rules.specs.Languages.{Spells, Then, Map, Inhabited}
+use Rattle.asn_rules.specs.Chunks.{Chunk}
+use Rattle.asn_rules.specs.Forks.{Branch}
+use Rattle.asn_rules.specs.Languages.{Spells, Inhabited}
 use Rattle.asn_rules.specs.Listed.{Spelt}
 use Rattle.asn_rules.proofs.Forks.{same_flip, same_inhabited}
 use Rattle.asn_rules.proofs.Leads.{LeadsStops, Leads, leads_here, leads_on, leads_map, leads_same, leads_second, stops_first, stops_on}
 use Rattle.asn_rules.proofs.Listed.{spelt_inhabited}
 use Rattle.asn_rules.proofs.Spellings.{same_after}
 use Rattle.asn_rules.proofs.Then.{Follows}
-use Rattle.asn_per.specs.Indexes.{IndexesOf, index_at}
-use Rattle.asn_per.specs.declared.indexes.Index.{Index}
-use Rattle.asn_per.specs.declared.indexes.Index.TheVariants as an_index
-use Rattle.asn_per.specs.Kinds.{OpenValues, Below, SmallBelow, of_either, Chosen, OpenChosen, RootChoices, AddedChoices, Choices}
+use Rattle.asn_per.specs.Indexes.{IndexesOf}
+use Rattle.asn_walk.specs.Views.{index_seen}
+use Rattle.asn_walk.specs.declared.leaves.Index.{Index}
+use Rattle.asn_walk.specs.declared.leaves.Index.TheVariants as an_index
+use Rattle.asn_per.specs.Kinds.{OpenValues, Below, SmallBelow, Chosen, OpenChosen}
 use Rattle.asn_per.specs.Per.{per, per_fields}
 use Rattle.asn_per.proofs.ChoiceLanguages.{choices_compose}
+use Rattle.asn_walk.specs.Coding.{chosen_value}
+use Rattle.asn_per.proofs.WalkChoices.{ChosenBy, Told, told}
 use Rattle.asn_per.proofs.ChoiceTypes.{added_count, root_good, added_good, choice_shape, choice_good, known_count, more_count, added_alternatives}
 use Rattle.asn_per.proofs.IndexReading.{indexes_lawful}
 use Rattle.asn_per.proofs.LeftOut.{none_left_out}
@@ -60,101 +63,6 @@ open_chosen_inhabited (one_of name t alts) zero good h = open_values_inhabited t
 open_chosen_inhabited (one_of name t alts) (suc i) good h = open_chosen_inhabited alts i good.1 (omega arith)
 
 -- ---- the index, and behind it the value
-
--- the values of the alternative that an index tells
-abbrev pub ChosenBy : Alternatives → MoreAlternatives → ℕ ⊎ ℕ → Datum → List Chunk → Type 0
-ChosenBy root more (inl i) = Chosen root i
-ChosenBy root more (inr k) = OpenChosen (more_alternatives more) k
-
--- the value of the CHOICE
-abbrev pub chosen_value : Alternatives → (ℕ ⊎ ℕ) × Datum → Datum
-chosen_value root (inl i, v) = alternative i v
-chosen_value root (inr k, v) = alternative (count root + k) v
-
--- an index and a value behind it
-abbrev Told : Alternatives → MoreAlternatives → (ℕ ⊎ ℕ) × Datum → List Chunk → Type 0
-Told root more = Then (IndexesOf (count root) (added_count more)) (ChosenBy root more)
-
-module _ (root : Alternatives) where
-  -- without a mark
-  closed_there : (i : ℕ ⊎ ℕ) (v : Datum) (cs x y : List Chunk) → Map inl (Below (width (count root)) (count root)) i x → ChosenBy root closed_choice i v y → cs ≡ x ++ y → Choices root closed_choice (chosen_value root (i, v)) cs
-  closed_there (inl i) v cs x y a b e =
-      let same : i ≡ a.source = let f = a.seen in cc in
-      record { source = (i, v); spelt = record { first = x; second = y; spelt = subst (λ (n : ℕ). Below (width (count root)) (count root) n x) (sym same) a.spelt; follows = b; whole = e }; seen = refl }
-  closed_there (inr k) v cs x y a b e = absurd b
-
-  closed_back : (v : Datum) (cs : List Chunk) → Choices root closed_choice v cs → Map (chosen_value root) (Told root closed_choice) v cs
-  closed_back v cs h =
-      let p = h.spelt in
-      record {
-        source = (inl h.source.0, h.source.1);
-        spelt = record { first = p.first; second = p.second; spelt = record { source = h.source.0; spelt = p.spelt; seen = refl }; follows = p.follows; whole = p.whole };
-        seen = h.seen;
-      }
-
-  -- behind a mark
-  marked_there : (more : Alternatives) (i : ℕ ⊎ ℕ) (v : Datum) (cs x y : List Chunk) → Branch 0 inl (Below (width (count root)) (count root)) i x ⊎ Branch 1 inr (SmallBelow (count more)) i x
-      → ChosenBy root (marked_choice more) i v y → cs ≡ x ++ y → Choices root (marked_choice more) (chosen_value root (i, v)) cs
-  marked_there more i v cs x y (inl b) c e = rw b.seen (record {
-    source = inl (alternative b.value v);
-    spelt = record {
-      side = inl (record {
-        value = alternative b.value v;
-        rest = b.rest ++ y;
-        spelt = record { source = (b.value, v); spelt = record { first = b.rest; second = y; spelt = b.spelt; follows = rw b.seen at c; whole = refl }; seen = refl };
-        seen = refl;
-        same = e ∙ ap (λ (l : List Chunk). l ++ y) b.same;
-      });
-    };
-    seen = refl;
-  })
-  marked_there more i v cs x y (inr b) c e = rw b.seen (record {
-    source = inr (alternative (count root + b.value) v);
-    spelt = record {
-      side = inr (record {
-        value = alternative (count root + b.value) v;
-        rest = b.rest ++ y;
-        spelt = record { source = (b.value, v); spelt = record { first = b.rest; second = y; spelt = b.spelt; follows = rw b.seen at c; whole = refl }; seen = refl };
-        seen = refl;
-        same = e ∙ ap (λ (l : List Chunk). l ++ y) b.same;
-      });
-    };
-    seen = refl;
-  })
-
-  marked_back : (more : Alternatives) (v : Datum) (w : Datum ⊎ Datum) (cs : List Chunk) → v ≡ of_either w → Branch 0 inl (RootChoices root) w cs ⊎ Branch 1 inr (AddedChoices (count root) more) w cs
-      → Map (chosen_value root) (Told root (marked_choice more)) v cs
-  marked_back more v w cs e (inl b) =
-      let p = b.spelt.spelt in
-      record {
-        source = (inl b.spelt.source.0, b.spelt.source.1);
-        spelt = record {
-          first = one 0 ∷ p.first;
-          second = p.second;
-          spelt = record { side = inl (record { value = b.spelt.source.0; rest = p.first; spelt = p.spelt; seen = refl; same = refl }) };
-          follows = p.follows;
-          whole = b.same ∙ ap (λ (l : List Chunk). one 0 ∷ l) p.whole;
-        };
-        seen = e ∙ ap of_either b.seen ∙ b.spelt.seen;
-      }
-  marked_back more v w cs e (inr b) =
-      let p = b.spelt.spelt in
-      record {
-        source = (inr b.spelt.source.0, b.spelt.source.1);
-        spelt = record {
-          first = one 1 ∷ p.first;
-          second = p.second;
-          spelt = record { side = inr (record { value = b.spelt.source.0; rest = p.first; spelt = p.spelt; seen = refl; same = refl }) };
-          follows = p.follows;
-          whole = b.same ∙ ap (λ (l : List Chunk). one 1 ∷ l) p.whole;
-        };
-        seen = e ∙ ap of_either b.seen ∙ b.spelt.seen;
-      }
-
-  -- the language of a CHOICE
-  told : (more : MoreAlternatives) → Same (Map (chosen_value root) (Told root more)) (Choices root more)
-  told closed_choice = record { to = λ v cs h. rw h.seen (closed_there h.source.0 h.source.1 cs h.spelt.first h.spelt.second h.spelt.spelt h.spelt.follows h.spelt.whole); from = closed_back }
-  told (marked_choice more) = record { to = λ v cs h. rw h.seen (marked_there more h.source.0 h.source.1 cs h.spelt.first h.spelt.second h.spelt.spelt.side h.spelt.follows h.spelt.whole); from = λ v cs h. marked_back more v h.source cs h.seen h.spelt.side }
 
 module _ (root : Alternatives) (more : MoreAlternatives) (good : InProfile (choice root more)) where
   -- behind an index stands a value
@@ -191,9 +99,9 @@ module _ (t : AsnType) (root : Vec Alt Global) (ext : Option (Vec Alt Global)) (
     pub choice_stops : LeadsStops per_fields (IndexesOf n m) us (Spelt per None (shape_of t)) us
     choice_stops = rw (choice_shape t root ext is, ← counts) (index_stops (alternatives_of (map branch_of root.items)) (more_alternatives_of ext) (choice_good t root ext is good) us)
 
-    module _ (i : Index) (p : ℕ) (r : List ℕ) (told : Spells per_fields (IndexesOf n m) (index_at i) us r) where
-      behind : Leads per_fields (ChosenBy (alternatives_of (map branch_of root.items)) (more_alternatives_of ext) (index_at i)) r (λ v. chosen_value (alternatives_of (map branch_of root.items)) (index_at i, v)) (Spelt per None (shape_of t)) us
-      behind = rw (choice_shape t root ext is) (value_leads (alternatives_of (map branch_of root.items)) (more_alternatives_of ext) (choice_good t root ext is good) (index_at i) us r (rw counts told))
+    module _ (i : Index) (p : ℕ) (r : List ℕ) (told : Spells per_fields (IndexesOf n m) (index_seen i) us r) where
+      behind : Leads per_fields (ChosenBy (alternatives_of (map branch_of root.items)) (more_alternatives_of ext) (index_seen i)) r (λ v. chosen_value (alternatives_of (map branch_of root.items)) (index_seen i, v)) (Spelt per None (shape_of t)) us
+      behind = rw (choice_shape t root ext is) (value_leads (alternatives_of (map branch_of root.items)) (more_alternatives_of ext) (choice_good t root ext is good) (index_seen i) us r (rw counts told))
 
       -- behind the index of an alternative of the root
       pub root_value_leads : (alts : List Alt) → alts ≡ root.items → i ≡ an_index.Root p → Leads per_fields (Chosen (alternatives_of (map branch_of alts)) p) r (λ v. alternative p v) (Spelt per None (shape_of t)) us

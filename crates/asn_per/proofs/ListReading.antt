@@ -12,7 +12,8 @@ use Rattle.asn_rules.proofs.Leads.{LeadsStops, Leads, leads_on, leads_map, leads
 use Rattle.asn_rules.proofs.Spellings.{same_after, same_map}
 use Rattle.asn_per.specs.Per.{per, per_fields}
 use Rattle.asn_per.specs.Kinds.{Sized}
-use Rattle.asn_per.specs.ListsAhead.{IsSizeOfProfile, Ahead, Next}
+use Rattle.asn_walk.specs.Ahead.{Ahead, Next}
+use Rattle.asn_walk.specs.Laws.{IsSizeOfProfile}
 use Rattle.asn_per.specs.Reading.{Appends}
 use Rattle.asn_per.proofs.Appending.{appends_stops_next}
 use Rattle.asn_per.proofs.LeftOut.{none_left_out}
@@ -23,7 +24,7 @@ use Rattle.asn_per.proofs.SizedLists.{same_sized}
 -- ---- the elements
 
 -- behind i elements of a row the next one stops
-pub going_next_stops : {A : Type 0} {L : A → List Chunk → Type 0} {s : SizeRange} {ahead new : Ahead} {us rest r q : List ℕ} {vs ws : List A} (i count : ℕ) → Inhabited L → Lawful L → i + 1 ≤ count → Next ahead (Some count) new rest r
+pub going_next_stops : {A : Type 0} {L : A → List Chunk → Type 0} {s : SizeRange} {ahead new : Ahead} {us rest r q : List ℕ} {vs ws : List A} (i count : ℕ) → Inhabited L → Lawful L → i + 1 ≤ count → Next per_fields ahead (Some count) new rest r
     → Appends L i vs ws r q → Going L s us ahead vs rest → LeadsStops per_fields L q (Sized s L) us
 going_next_stops i count some law l next come going =
     stops_on (appends_stops_next i (count - (i + 1)) count law some (omega (arith, l)) come) (going_row_stops some next going)

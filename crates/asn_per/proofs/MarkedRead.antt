@@ -26,7 +26,8 @@ use Rattle.asn_rules.proofs.Parts.{map_source}
 use Rattle.asn_rules.proofs.SomeValue.{a_value}
 use Rattle.asn_rules.proofs.Spellings.{same_after, spelled_lawful, spelled_inhabited}
 use Rattle.asn_rules.proofs.Then.{Follows}
-use Rattle.asn_per.specs.Kinds.{Values, of_either, Additions, absent_entries, with_entries, MarkedSequences}
+use Rattle.asn_walk.specs.Coding.{absent_entries}
+use Rattle.asn_per.specs.Kinds.{Values, of_either, Additions, with_entries, MarkedSequences}
 use Rattle.asn_per.specs.Per.{per, per_fields}
 use Rattle.asn_per.specs.Reading.{Behind, StopsAtMark}
 use Rattle.asn_per.proofs.AdditionsRead.{some_additions}

@@ -22,7 +22,7 @@ use Rattle.asn_per.proofs.PerFields.{per_fields_part}
 use Rattle.asn_per.proofs.Whole.{per_parts}
 
 -- spellings that are filled up are whole encodings
-message_language : (t : Shape) → Same (Padded per_fields filling (Spelt per None t)) (Wholes per_ruling t)
+pub message_language : (t : Shape) → Same (Padded per_fields filling (Spelt per None t)) (Wholes per_ruling t)
 unfolding per_ruling
 message_language t = same_after (padded_spelled per_fields filling) (same_spelled (λ v h. h.0) (λ v h. (h, tt)) (λ v h. refl))
 

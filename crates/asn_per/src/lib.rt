@@ -17,6 +17,8 @@ mod length_reader;
 #[cfg(test)]
 mod list_tests;
 mod number_reader;
+mod per;
+mod read_leaves;
 mod row_reader;
 mod signed_reader;
 mod size_reader;
@@ -35,3 +37,4 @@ pub use laws::{
     answers_exclude, beginnings_are_live, codec_laws, encoding_laws, live_by_parts, live_is_closed,
     readers_tell, spellings_tell, values_and_bits,
 };
+pub use per::Per;

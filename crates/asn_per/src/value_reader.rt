@@ -14,16 +14,17 @@ ghost use Rattle.asn_rules.specs.Languages.{Spells};
 ghost use Rattle.asn_rules.specs.Listed.{Spelt, Listed, Entry, default_of, bitmap_length};
 ghost use Rattle.asn_rules.specs.Reading.{Wholes};
 ghost use Rattle.asn_rules.specs.Stops.{Stops};
-ghost use Rattle.asn_per.specs.Kinds.{OpenValues, Chosen, OpenChosen, Additions, absent_entries};
+ghost use Rattle.asn_walk.specs.Coding.{absent_entries};
+ghost use Rattle.asn_per.specs.Kinds.{OpenValues, Chosen, OpenChosen, Additions};
 ghost use Rattle.asn_per.specs.Per.{per, per_fields};
 ghost use Rattle.asn_per.specs.Reading.{Behind, StopsAtMark};
 ghost use Rattle.asn_per.specs.Rules.{per_ruling};
 ghost use Rattle.asn_per.specs.Kinds.{Sized};
-ghost use Rattle.asn_per.specs.ListsAhead.{IsSizeOfProfile};
+ghost use Rattle.asn_walk.specs.Laws.{IsSizeOfProfile};
 
 use crate::alternatives::{added_count, chosen};
 use crate::encoder::may_be_absent;
-use crate::indexes::{Index, read_index};
+use crate::indexes::read_index;
 use crate::integer_reader::{boolean, integer, power_of_two, take_between};
 use crate::items::enumerated;
 use crate::number_reader::{Numbers, bits_left, number, padding};
@@ -32,6 +33,7 @@ use crate::string_reader::{bit_string, octet_string, text, utf8_string};
 use asn_bits::BitCursor;
 use asn_rules::{Stop, Why};
 use asn_values::{Alt, AsnType, Field, Need, Size, Value};
+use asn_walk::Index;
 use std::alloc::{AllocError, Global};
 
 /// For how many elements of a list room is made at once.
@@ -455,7 +457,7 @@ fn bitmap_width(fields: &[Field]) -> u32
 }
 
 /// The highest number of so many bits.
-fn highest_bitmap(count: u32) -> u64
+pub(crate) fn highest_bitmap(count: u32) -> u64
     requires { count ≤ 64 }
     ensures { result + 1 ≡ 2 ^ count }
 {

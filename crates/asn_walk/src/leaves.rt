@@ -167,5 +167,7 @@ pub trait ReadLeaves {
         ensures stop { IfErr result (λ why.
             StopsNext rules.ruling.fielding (ahead fragments.old) (rules.to_units units.old) why) };
 
-    ghost laws: { Laws rules };
+    /// The parts keep the laws of the walk. The call does nothing: its clause is what the proofs of the walk cite.
+    fn keep_laws()
+        ensures { Laws rules };
 }

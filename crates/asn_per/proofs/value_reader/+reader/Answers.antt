@@ -28,7 +28,7 @@ use Rattle.asn_per.proofs.EnumeratedTypes.{enumerated_of_items}
 use Rattle.asn_per.proofs.StringReading.{bits_size, octets_size, text_size, bits_lead, octets_lead, text_leads, utf8_leads}
 use Rattle.asn_per.proofs.Sequences.{count_of_fields, few_components, added_of_profile, few_added}
 use Rattle.asn_values.proofs.Parts.{components_of_profile}
-use Rattle.asn_per.specs.ListsAhead.{Next}
+use Rattle.asn_walk.specs.Ahead.{Next}
 use Rattle.asn_per.specs.RowsAhead.{ahead_of}
 use Rattle.asn_per.specs.Reading.{Appends}
 use Rattle.asn_per.proofs.Appending.{appends_more, appends_one}
@@ -412,7 +412,7 @@ read_list-returns-in_err-count-clause-stop t c =
 pub read_list-loop-elements-preserved : goal.read_list-loop-elements-preserved
 read_list-loop-elements-preserved t c =
     let element = shape_of c.args.element.now in
-    let next : Next (ahead_of c.loop-elements.rows) (Some c.in-Some.count) (ahead_of c.next.new.self) c.loop-elements.cursor c.next.new.bits = rw c.in-Some.is at c.in_ok-count.ensures.done in
+    let next : Next per_fields (ahead_of c.loop-elements.rows) (Some c.in-Some.count) (ahead_of c.next.new.self) c.loop-elements.cursor c.next.new.bits = rw c.in-Some.is at c.in_ok-count.ensures.done in
     let all : c.loop-i.i ≡ c.in-Some.count = omega (arith, c.loop-i-test.false, c.loop-i.auto.i-end) in
     let come : Appends (Spelt per None element) c.in-Some.count (map datum_of c.loop-elements.elements.items) (map datum_of c.loop-i.elements.items) c.next.new.bits c.loop-i.cursor = rw (all, c.in_ok-reserve.ensures.items) at c.loop-i.invariant in
     (going_further (spelt_inhabited per element c.requires.of_profile) (spelt_lawful per per_parts None element c.requires.of_profile) next come c.loop-elements.invariant.0, c.in_ok-count.ensures.between)
@@ -420,7 +420,7 @@ read_list-loop-elements-preserved t c =
 pub read_list-returns-in_err-value-clause-stop : goal.read_list-returns-in_err-value-clause-stop
 read_list-returns-in_err-value-clause-stop t c =
     let element = shape_of c.args.element.now in
-    let next : Next (ahead_of c.loop-elements.rows) (Some c.in-Some.count) (ahead_of c.next.new.self) c.loop-elements.cursor c.next.new.bits = rw c.in-Some.is at c.in_ok-count.ensures.done in
+    let next : Next per_fields (ahead_of c.loop-elements.rows) (Some c.in-Some.count) (ahead_of c.next.new.self) c.loop-elements.cursor c.next.new.bits = rw c.in-Some.is at c.in_ok-count.ensures.done in
     let come : Appends (Spelt per None element) c.loop-i.i (map datum_of c.loop-elements.elements.items) (map datum_of c.loop-i.elements.items) c.next.new.bits c.loop-i.cursor = rw c.in_ok-reserve.ensures.items at c.loop-i.invariant in
     let p = err_from_is_err_and c.from_residual-in_err-value.result c.from_residual-in_err-value.ensures.1 in
     rw (p.1, p.2)
@@ -434,7 +434,7 @@ read_list-loop-i-preserved t c =
 
 pub read_list-returns-clause-done : goal.read_list-returns-clause-done
 read_list-returns-clause-done t c =
-    let next : Next (ahead_of c.loop-elements.rows) None (ahead_of c.next.new.self) c.loop-elements.cursor c.next.new.bits = rw c.in_default.is at c.in_ok-count.ensures.done in
+    let next : Next per_fields (ahead_of c.loop-elements.rows) None (ahead_of c.next.new.self) c.loop-elements.cursor c.next.new.bits = rw c.in_default.is at c.in_ok-count.ensures.done in
     going_ends next c.loop-elements.invariant.0
 
 -- ---- place-in-ChoiceOICE

@@ -1,7 +1,7 @@
 use Rattle.std.proofs.Common.{◌≡◌, ◌++◌, map, drop}
 use Rattle.std.specs.Option.{option_map}
 use Rattle.asn_values.specs.View.{datum_of, fields_of, part_of_field}
-use Rattle.asn_per.specs.Kinds.{absent_entries}
+use Rattle.asn_walk.specs.Coding.{absent_entries}
 use Rattle.asn_per.proofs.value_reader.push_absent.Given as goal
 
 abbrev pub invariant-loop : goal.invariant-loop

@@ -2,7 +2,7 @@
 //!
 //! A set of encoding rules is an impl of `ReadLeaves`: the parts of an encoding in which PER and OER differ. SEQUENCE,
 //! SEQUENCE OF, CHOICE, open type fields and complete encodings are put together from these parts here, once.
-//#![tactic(auto)]
+#![tactic(auto)]
 
 mod components;
 mod leaves;

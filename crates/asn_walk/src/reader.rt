@@ -44,6 +44,7 @@ pub fn read<R: ReadLeaves>(
     ensures done { IfOk result (λ v. Reads R.rules (ValuesOf R.rules (shape_of ty.now)) (datum_of v) units.old units.new) }
     ensures stop { IfErr result (λ why. StopsAt R.rules (ValuesOf R.rules (shape_of ty.now)) units.old why) }
 {
+    R::keep_laws();
     match ty {
         AsnType::Seq { root, ext } => {
             let root = root.as_slice();
@@ -116,6 +117,7 @@ pub fn read_complete<R: ReadLeaves>(
     ensures done { IfOk result (λ v. Reads R.rules (CompleteOf R.rules (shape_of ty.now)) (datum_of v) units.old units.new) }
     ensures stop { IfErr result (λ why. StopsAt R.rules (CompleteOf R.rules (shape_of ty.now)) units.old why) }
 {
+    R::keep_laws();
     let given = R::units_left(units);
     let value = read::<R>(alloc, ty, units)?;
     R::read_padding(given, units)?;
@@ -136,6 +138,7 @@ fn read_open_field<R: ReadLeaves>(
     ensures done { IfOk result (λ v. Reads R.rules (OpenOf R.rules (shape_of ty.now)) (datum_of v) units.old units.new) }
     ensures stop { IfErr result (λ why. StopsAt R.rules (OpenOf R.rules (shape_of ty.now)) units.old why) }
 {
+    R::keep_laws();
     let octets = R::read_open_octets(alloc, units)?;
     let mut content = BitCursor::over(&octets);
     let no_value = Stop::Refused {
@@ -213,6 +216,7 @@ fn read_components<R: ReadLeaves>(
     ensures stop { IfErr result (λ why. StopsAt R.rules
         (Listed R.rules.code (fields_seen fields.now) (bits presence.left presence.bitmap)) units.old why) }
 {
+    R::keep_laws();
     let mut presence = presence;
     for field in fields {
         if let Some(number) = try_bounded::<R>(field, units) {
@@ -295,6 +299,7 @@ fn read_additions<R: ReadLeaves>(
         (entries_seen entries.new.items) units.old units.new) }
     ensures stop { IfErr result (λ why. StopsAt R.rules (AdditionsOf R.rules (fields_seen fields.now)) units.old why) }
 {
+    R::keep_laws();
     let count = fields.len() as u32;
     let bitmap = R::read_addition_bitmap(count, units)?;
     let presence = PresenceBits {
@@ -324,6 +329,7 @@ fn read_open_fields<R: ReadLeaves>(
     ensures stop { IfErr result (λ why. StopsAt R.rules
         (OpenListed R.rules (fields_seen fields.now) (bits presence.left presence.bitmap)) units.old why) }
 {
+    R::keep_laws();
     let mut presence = presence;
     for field in fields {
         let entry = if presence.next() {
@@ -355,6 +361,7 @@ fn read_list<R: ReadLeaves>(
         StopsAt R.rules (ListingOf R.rules (size_range_of size.now) (ValuesOf R.rules (shape_of element.now)))
         units.old why) }
 {
+    R::keep_laws();
     let mut elements = Vec::new(alloc);
     let fragments = R::start_list(size, units)?;
     read_fragments::<R>(alloc, element, fragments, &mut elements, units)?;
@@ -381,6 +388,7 @@ fn read_fragments<R: ReadLeaves>(
     ensures stop { IfErr result (λ why. StopsAt R.rules
         (Remaining (ValuesOf R.rules (shape_of element.now)) (R.ahead fragments)) units.old why) }
 {
+    R::keep_laws();
     let mut fragments = fragments;
     while let Some(count) = R::next_fragment(&mut fragments, units)? {
         elements.reserve(count.min(units.octets_left()).min(RESERVED_AT_ONCE))?;
@@ -408,6 +416,7 @@ fn read_elements<R: ReadLeaves>(
     ensures stop { IfErr result (λ why.
         StopsAt R.rules (Row (ValuesOf R.rules (shape_of element.now)) count) units.old why) }
 {
+    R::keep_laws();
     for i in 0..count {
         let value = read::<R>(alloc, element, units)?;
         elements.push(value)?;

@@ -1,4 +1,4 @@
-use Rattle.std.proofs.Common.{◌≡◌, ◌<◌, ◌≤◌, not, ◌⊎◌, inl, inr, ◌∷◌, [], ◌++◌, ◌∙◌, true, false, map, Some, None, rules, sym, ap, ◌+◌, ◌-◌, ◌/◌, ◌%◌, ◌^◌, length, refl, arith, ℕ, Option}
+use Rattle.std.proofs.Common.{◌≡◌, ◌<◌, ◌≤◌, not, ◌⊎◌, inl, inr, ◌∷◌, [], ◌++◌, ◌∙◌, true, false, map, Some, None, rules, sym, ap, ◌+◌, ◌-◌, ◌/◌, ◌%◌, ◌^◌, length, vec_len, vec_capacity, refl, arith, ℕ, Option}
 use Rattle.std.specs.Option.{option_map}
 use Rattle.std.proofs.lemmas.List.{map-append}
 use Rattle.std.proofs.lemmas.Result.{err_from_is_err_and, IfOk-weaker}
@@ -25,10 +25,11 @@ use Rattle.asn_rules.proofs.Listed.{spelt_inhabited, spelt_lawful}
 use Rattle.asn_rules.proofs.ListedReading.{nothing_read}
 use Rattle.asn_bits.specs.Numbers.{unpacked}
 use Rattle.asn_rules.specs.Laws.{AreOctets}
-use Rattle.asn_rules.specs.Listed.{bitmap_length}
+use Rattle.asn_rules.specs.Listed.{Listed, bitmap_length}
+use Rattle.asn_bits.specs.Numbers.{bits}
 use Rattle.asn_walk.specs.Ahead.{Next}
 use Rattle.asn_walk.specs.Coding.{IsIndexWithin, PreambleOf, added}
-use Rattle.asn_walk.specs.Reading.{After, entries_seen}
+use Rattle.asn_walk.specs.Reading.{After, fields_seen, entries_seen}
 use Rattle.asn_walk.specs.Views.{index_seen, preamble_seen}
 use Rattle.asn_walk.proofs.AdditionsRead.{presence_stops_at, open_fields_lead, added_starts, addition_stops, addition_present, addition_absent, added_ends, after_leads, after_nothing}
 use Rattle.asn_walk.proofs.ChoicesRead.{choice_few, leads_at_place, open_leads_at_place, choice_stops, root_value_leads, added_value_leads}
@@ -85,7 +86,7 @@ read-returns-in_err-read_list-in-SeqOf-clause-stop g t c =
     let is = list_of_elements c.args.ty.now c.deref.result.now c.in-SeqOf.element c.in-SeqOf.size c.in-SeqOf.is c.deref.ensures in
     let good : InProfile (sequence_of element s) = rw is at c.requires.of_profile in
     let p = err_from_is_err_and c.from_residual-in_err-read_list-in-SeqOf.result c.from_residual-in_err-read_list-in-SeqOf.ensures.1 in
-    rw (p.1, p.2, is) (stops_by _ (list_leads g.R.ReadLeaves.rules g.met.R.ReadLeaves.laws element s (g.R.ReadLeaves.rules.to_units c.args.units.now) good).stops c.in_err-read_list-in-SeqOf.ensures.stop)
+    rw (p.1, p.2, is) (stops_by _ (list_leads g.R.ReadLeaves.rules c.keep_laws.ensures element s (g.R.ReadLeaves.rules.to_units c.args.units.now) good).stops c.in_err-read_list-in-SeqOf.ensures.stop)
 
 pub read-returns-in_ok-read_list-in-SeqOf-clause-done : goal.read-returns-in_ok-read_list-in-SeqOf-clause-done
 read-returns-in_ok-read_list-in-SeqOf-clause-done g t c =
@@ -94,21 +95,21 @@ read-returns-in_ok-read_list-in-SeqOf-clause-done g t c =
     let is = list_of_elements c.args.ty.now c.deref.result.now c.in-SeqOf.element c.in-SeqOf.size c.in-SeqOf.is c.deref.ensures in
     let good : InProfile (sequence_of element s) = rw is at c.requires.of_profile in
     let values = c.in_ok-read_list-in-SeqOf.field-0 in
-    rw (is, datum_of-List values) ((list_leads g.R.ReadLeaves.rules g.met.R.ReadLeaves.laws element s (g.R.ReadLeaves.rules.to_units c.args.units.now) good).done (map datum_of values.items) (g.R.ReadLeaves.rules.to_units c.read_list.new.units) c.in_ok-read_list-in-SeqOf.ensures.done)
+    rw (is, datum_of-List values) ((list_leads g.R.ReadLeaves.rules c.keep_laws.ensures element s (g.R.ReadLeaves.rules.to_units c.args.units.now) good).done (map datum_of values.items) (g.R.ReadLeaves.rules.to_units c.read_list.new.units) c.in_ok-read_list-in-SeqOf.ensures.done)
 
 pub read_list-returns-in_err-fragments-clause-stop : goal.read_list-returns-in_err-fragments-clause-stop
 read_list-returns-in_err-fragments-clause-stop g t c =
     let p = err_from_is_err_and c.from_residual.result c.from_residual.ensures.1 in
-    rw (p.1, p.2) (stops_by _ (start_stops g.R.ReadLeaves.rules g.met.R.ReadLeaves.laws (Spelt g.R.ReadLeaves.rules.code None (shape_of c.args.element.now)) (size_range_of c.args.size.now) (g.R.ReadLeaves.rules.to_units c.args.units.now) c.requires.size (spelt_inhabited g.R.ReadLeaves.rules.code (shape_of c.args.element.now) c.requires.of_profile)) c.in_err-fragments.ensures.stop)
+    rw (p.1, p.2) (stops_by _ (start_stops g.R.ReadLeaves.rules c.keep_laws.ensures (Spelt g.R.ReadLeaves.rules.code None (shape_of c.args.element.now)) (size_range_of c.args.size.now) (g.R.ReadLeaves.rules.to_units c.args.units.now) c.requires.size (spelt_inhabited g.R.ReadLeaves.rules.code (shape_of c.args.element.now) c.requires.of_profile)) c.in_err-fragments.ensures.stop)
 
 pub read_list-returns-in_err-read_fragments-clause-stop : goal.read_list-returns-in_err-read_fragments-clause-stop
 read_list-returns-in_err-read_fragments-clause-stop g t c =
     let p = err_from_is_err_and c.from_residual-in_err-read_fragments.result c.from_residual-in_err-read_fragments.ensures.1 in
-    rw (p.1, p.2) (stops_by _ (start_leads g.R.ReadLeaves.rules g.met.R.ReadLeaves.laws (Spelt g.R.ReadLeaves.rules.code None (shape_of c.args.element.now)) (size_range_of c.args.size.now) c.requires.size c.in_ok-fragments.ensures.done).stops c.in_err-read_fragments.ensures.stop)
+    rw (p.1, p.2) (stops_by _ (start_leads g.R.ReadLeaves.rules c.keep_laws.ensures (Spelt g.R.ReadLeaves.rules.code None (shape_of c.args.element.now)) (size_range_of c.args.size.now) c.requires.size c.in_ok-fragments.ensures.done).stops c.in_err-read_fragments.ensures.stop)
 
 pub read_list-returns-clause-done : goal.read_list-returns-clause-done
 read_list-returns-clause-done g t c =
-    after_nothing (after_leads [] (start_leads g.R.ReadLeaves.rules g.met.R.ReadLeaves.laws (Spelt g.R.ReadLeaves.rules.code None (shape_of c.args.element.now)) (size_range_of c.args.size.now) c.requires.size c.in_ok-fragments.ensures.done) (rw c.new-elements.ensures.items at c.in_ok-read_fragments.ensures.done))
+    after_nothing (after_leads [] (start_leads g.R.ReadLeaves.rules c.keep_laws.ensures (Spelt g.R.ReadLeaves.rules.code None (shape_of c.args.element.now)) (size_range_of c.args.size.now) c.requires.size c.in_ok-fragments.ensures.done) (rw c.new-elements.ensures.items at c.in_ok-read_fragments.ensures.done))
 
 pub read_fragments-loop-fragments-init : goal.read_fragments-loop-fragments-init
 read_fragments-loop-fragments-init g t c =
@@ -123,7 +124,7 @@ pub read_fragments-loop-fragments-preserved : goal.read_fragments-loop-fragments
 read_fragments-loop-fragments-preserved g t c =
     let next : Next g.R.ReadLeaves.rules.ruling.fielding (g.R.ReadLeaves.ahead c.loop-fragments.fragments) (Some c.in-Some.count) (g.R.ReadLeaves.ahead c.next_fragment.new.fragments) (g.R.ReadLeaves.rules.to_units c.loop-fragments.units) (g.R.ReadLeaves.rules.to_units c.next_fragment.new.units) = rw c.in-Some.is at c.in_ok-count.ensures.done in
     let come : Spells g.R.ReadLeaves.rules.ruling.fielding (After (map datum_of c.loop-fragments.elements.items) (Row (Spelt g.R.ReadLeaves.rules.code None (shape_of c.args.element.now)) c.in-Some.count)) (map datum_of c.read_elements.new.elements.items) (g.R.ReadLeaves.rules.to_units c.next_fragment.new.units) (g.R.ReadLeaves.rules.to_units c.read_elements.new.units) = rw c.in_ok-reserve.ensures.items at c.in_ok-read_elements.ensures.done in
-    (fragments_further g.R.ReadLeaves.rules g.met.R.ReadLeaves.laws (spelt_inhabited g.R.ReadLeaves.rules.code (shape_of c.args.element.now) c.requires.of_profile) (spelt_lawful g.R.ReadLeaves.rules.code g.met.R.ReadLeaves.laws.part None (shape_of c.args.element.now) c.requires.of_profile) next come c.loop-fragments.invariant.0, c.in_ok-count.ensures.between, c.in_ok-read_elements.ensures.at_unit)
+    (fragments_further g.R.ReadLeaves.rules c.keep_laws.ensures (spelt_inhabited g.R.ReadLeaves.rules.code (shape_of c.args.element.now) c.requires.of_profile) (spelt_lawful g.R.ReadLeaves.rules.code c.keep_laws.ensures.part None (shape_of c.args.element.now) c.requires.of_profile) next come c.loop-fragments.invariant.0, c.in_ok-count.ensures.between, c.in_ok-read_elements.ensures.at_unit)
 
 pub read_fragments-loop-fragments-smaller : goal.read_fragments-loop-fragments-smaller
 read_fragments-loop-fragments-smaller g t c =
@@ -135,7 +136,7 @@ pub read_fragments-returns-in_err-read_elements-clause-stop : goal.read_fragment
 read_fragments-returns-in_err-read_elements-clause-stop g t c =
     let next : Next g.R.ReadLeaves.rules.ruling.fielding (g.R.ReadLeaves.ahead c.loop-fragments.fragments) (Some c.in-Some.count) (g.R.ReadLeaves.ahead c.next_fragment.new.fragments) (g.R.ReadLeaves.rules.to_units c.loop-fragments.units) (g.R.ReadLeaves.rules.to_units c.next_fragment.new.units) = rw c.in-Some.is at c.in_ok-count.ensures.done in
     let p = err_from_is_err_and c.from_residual-in_err-read_elements.result c.from_residual-in_err-read_elements.ensures.1 in
-    rw (p.1, p.2) (stops_by _ (going_row_stops g.R.ReadLeaves.rules g.met.R.ReadLeaves.laws (spelt_inhabited g.R.ReadLeaves.rules.code (shape_of c.args.element.now) c.requires.of_profile) next c.loop-fragments.invariant.0.going) c.in_err-read_elements.ensures.stop)
+    rw (p.1, p.2) (stops_by _ (going_row_stops g.R.ReadLeaves.rules c.keep_laws.ensures (spelt_inhabited g.R.ReadLeaves.rules.code (shape_of c.args.element.now) c.requires.of_profile) next c.loop-fragments.invariant.0.going) c.in_err-read_elements.ensures.stop)
 
 pub read_fragments-returns-clause-done : goal.read_fragments-returns-clause-done
 read_fragments-returns-clause-done g t c =
@@ -145,7 +146,7 @@ read_fragments-returns-clause-done g t c =
 pub read_elements-returns-in_err-value-clause-stop : goal.read_elements-returns-in_err-value-clause-stop
 read_elements-returns-in_err-value-clause-stop g t c =
     let p = err_from_is_err_and c.from_residual.result c.from_residual.ensures.1 in
-    rw (p.1, p.2) (stops_by _ (appends_stops_next c.loop-i.i (c.args.count - (c.loop-i.i + 1)) c.args.count (fields_part_of g.R.ReadLeaves.rules g.met.R.ReadLeaves.laws) (spelt_lawful g.R.ReadLeaves.rules.code g.met.R.ReadLeaves.laws.part None (shape_of c.args.element.now) c.requires.of_profile) (spelt_inhabited g.R.ReadLeaves.rules.code (shape_of c.args.element.now) c.requires.of_profile) (omega (arith, c.loop-i-test.true)) c.loop-i.invariant.0) c.in_err-value.ensures.stop)
+    rw (p.1, p.2) (stops_by _ (appends_stops_next c.loop-i.i (c.args.count - (c.loop-i.i + 1)) c.args.count (fields_part_of g.R.ReadLeaves.rules c.keep_laws.ensures) (spelt_lawful g.R.ReadLeaves.rules.code c.keep_laws.ensures.part None (shape_of c.args.element.now) c.requires.of_profile) (spelt_inhabited g.R.ReadLeaves.rules.code (shape_of c.args.element.now) c.requires.of_profile) (omega (arith, c.loop-i-test.true)) c.loop-i.invariant.0) c.in_err-value.ensures.stop)
 
 pub read_elements-loop-i-preserved : goal.read_elements-loop-i-preserved
 read_elements-loop-i-preserved g t c =
@@ -161,17 +162,17 @@ read_elements-returns-clause-done g t c =
 pub read_complete-returns-in_err-value-clause-stop : goal.read_complete-returns-in_err-value-clause-stop
 read_complete-returns-in_err-value-clause-stop g t c =
     let p = err_from_is_err_and c.from_residual.result c.from_residual.ensures.1 in
-    rw (p.1, p.2) (stops_by _ (value_stops g.R.ReadLeaves.rules g.met.R.ReadLeaves.laws (shape_of c.args.ty.now) c.requires.of_profile (g.R.ReadLeaves.rules.to_units c.args.units.now)) c.in_err-value.ensures.stop)
+    rw (p.1, p.2) (stops_by _ (value_stops g.R.ReadLeaves.rules c.keep_laws.ensures (shape_of c.args.ty.now) c.requires.of_profile (g.R.ReadLeaves.rules.to_units c.args.units.now)) c.in_err-value.ensures.stop)
 
 pub read_complete-returns-in_err-read_padding-clause-stop : goal.read_complete-returns-in_err-read_padding-clause-stop
 read_complete-returns-in_err-read_padding-clause-stop g t c =
     let p = err_from_is_err_and c.from_residual-in_err-read_padding.result c.from_residual-in_err-read_padding.ensures.1 in
-    let lead = fill_leads g.R.ReadLeaves.rules g.met.R.ReadLeaves.laws (shape_of c.args.ty.now) c.requires.of_profile (datum_of c.in_ok-value.value) (g.R.ReadLeaves.rules.to_units c.args.units.now) (g.R.ReadLeaves.rules.to_units c.read.new.units) c.in_ok-value.ensures.done in
+    let lead = fill_leads g.R.ReadLeaves.rules c.keep_laws.ensures (shape_of c.args.ty.now) c.requires.of_profile (datum_of c.in_ok-value.value) (g.R.ReadLeaves.rules.to_units c.args.units.now) (g.R.ReadLeaves.rules.to_units c.read.new.units) c.in_ok-value.ensures.done in
     rw (p.1, p.2) (stops_by _ lead.stops (rw c.units_left-given.ensures at c.in_err-read_padding.ensures.stop))
 
 pub read_complete-returns-clause-done : goal.read_complete-returns-clause-done
 read_complete-returns-clause-done g t c =
-    let lead = fill_leads g.R.ReadLeaves.rules g.met.R.ReadLeaves.laws (shape_of c.args.ty.now) c.requires.of_profile (datum_of c.in_ok-value.value) (g.R.ReadLeaves.rules.to_units c.args.units.now) (g.R.ReadLeaves.rules.to_units c.read.new.units) c.in_ok-value.ensures.done in
+    let lead = fill_leads g.R.ReadLeaves.rules c.keep_laws.ensures (shape_of c.args.ty.now) c.requires.of_profile (datum_of c.in_ok-value.value) (g.R.ReadLeaves.rules.to_units c.args.units.now) (g.R.ReadLeaves.rules.to_units c.read.new.units) c.in_ok-value.ensures.done in
     lead.done c.in_ok-read_padding.field-0 (g.R.ReadLeaves.rules.to_units c.read_padding.new.units) (rw c.units_left-given.ensures at c.in_ok-read_padding.ensures.done)
 
 pub read_complete-read_padding-requires-clause-octets : goal.read_complete-read_padding-requires-clause-octets
@@ -180,49 +181,49 @@ read_complete-read_padding-requires-clause-octets g t c = rw c.units_left-given.
 pub read_open_field-returns-in_err-octets-clause-stop : goal.read_open_field-returns-in_err-octets-clause-stop
 read_open_field-returns-in_err-octets-clause-stop g t c =
     let p = err_from_is_err_and c.from_residual.result c.from_residual.ensures.1 in
-    rw (p.1, p.2) (stops_by _ (octets_stop g.R.ReadLeaves.rules g.met.R.ReadLeaves.laws (shape_of c.args.ty.now) c.requires.of_profile (g.R.ReadLeaves.rules.to_units c.args.units.now)) c.in_err-octets.ensures.stop)
+    rw (p.1, p.2) (stops_by _ (octets_stop g.R.ReadLeaves.rules c.keep_laws.ensures (shape_of c.args.ty.now) c.requires.of_profile (g.R.ReadLeaves.rules.to_units c.args.units.now)) c.in_err-octets.ensures.stop)
 
 pub read_open_field-read_complete-requires : goal.read_open_field-read_complete-requires
 read_open_field-read_complete-requires g t c κs within =
     let os = c.in_ok-octets.octets.items in
     let held : AreOctets os = (content_of c.in_ok-octets.ensures.done).2 in
-    let over : g.R.ReadLeaves.rules.to_units c.over-content.result ≡ g.R.ReadLeaves.rules.ruling.units os = ap g.R.ReadLeaves.rules.to_units (c.over-content.ensures ∙ ap unpacked c.deref.ensures.value) ∙ g.met.R.ReadLeaves.laws.over os held in
-    (search (rules, the_lemmas), (within.0, (within.1, (rw (c.over-content.ensures, c.deref.ensures.value) (g.met.R.ReadLeaves.laws.begin os held), (c.requires.of_profile, rw over (g.met.R.ReadLeaves.laws.octets os))))))
+    let over : g.R.ReadLeaves.rules.to_units c.over-content.result ≡ g.R.ReadLeaves.rules.ruling.units os = ap g.R.ReadLeaves.rules.to_units (c.over-content.ensures ∙ ap unpacked c.deref.ensures.value) ∙ c.keep_laws.ensures.over os held in
+    (search (rules, the_lemmas), (within.0, (within.1, (rw (c.over-content.ensures, c.deref.ensures.value) (c.keep_laws.ensures.begin os held), (c.requires.of_profile, rw over (c.keep_laws.ensures.octets os))))))
 
 pub read_open_field-returns-in-Ok-clause-done : goal.read_open_field-returns-in-Ok-clause-done
 read_open_field-returns-in-Ok-clause-done g t c =
     let os = c.in_ok-octets.octets.items in
     let held : AreOctets os = (content_of c.in_ok-octets.ensures.done).2 in
-    let over : g.R.ReadLeaves.rules.to_units c.over-content.result ≡ g.R.ReadLeaves.rules.ruling.units os = ap g.R.ReadLeaves.rules.to_units (c.over-content.ensures ∙ ap unpacked c.deref.ensures.value) ∙ g.met.R.ReadLeaves.laws.over os held in
+    let over : g.R.ReadLeaves.rules.to_units c.over-content.result ≡ g.R.ReadLeaves.rules.ruling.units os = ap g.R.ReadLeaves.rules.to_units (c.over-content.ensures ∙ ap unpacked c.deref.ensures.value) ∙ c.keep_laws.ensures.over os held in
     let read = rw over at c.in-Ok.ensures.done in
     let none : (g.R.ReadLeaves.rules.to_units c.read_complete.new.units) ≡ [] = length_none _ (sym c.units_left-in-Ok-1.ensures ∙ c.if-units_left-eq0.true) in
-    value_held g.R.ReadLeaves.rules g.met.R.ReadLeaves.laws (shape_of c.args.ty.now) c.requires.of_profile c.in_ok-octets.ensures.done read none
+    value_held g.R.ReadLeaves.rules c.keep_laws.ensures (shape_of c.args.ty.now) c.requires.of_profile c.in_ok-octets.ensures.done read none
 
 pub read_open_field-returns-in-Ok-2-clause-stop : goal.read_open_field-returns-in-Ok-2-clause-stop
 read_open_field-returns-in-Ok-2-clause-stop g t c =
     let os = c.in_ok-octets.octets.items in
     let held : AreOctets os = (content_of c.in_ok-octets.ensures.done).2 in
-    let over : g.R.ReadLeaves.rules.to_units c.over-content.result ≡ g.R.ReadLeaves.rules.ruling.units os = ap g.R.ReadLeaves.rules.to_units (c.over-content.ensures ∙ ap unpacked c.deref.ensures.value) ∙ g.met.R.ReadLeaves.laws.over os held in
+    let over : g.R.ReadLeaves.rules.to_units c.over-content.result ≡ g.R.ReadLeaves.rules.ruling.units os = ap g.R.ReadLeaves.rules.to_units (c.over-content.ensures ∙ ap unpacked c.deref.ensures.value) ∙ c.keep_laws.ensures.over os held in
     let read = rw over at c.in-Ok-2.ensures.done in
     let more : (g.R.ReadLeaves.rules.to_units c.read_complete.new.units) ≡ [] → ⊥ = λ e. c.if-units_left-eq0.false (c.units_left-in-Ok-1.ensures ∙ ap length e) in
-    rw c.units_left.ensures (record { told = more_held g.R.ReadLeaves.rules g.met.R.ReadLeaves.laws (shape_of c.args.ty.now) c.requires.of_profile c.in_ok-octets.ensures.done read more })
+    rw c.units_left.ensures (record { told = more_held g.R.ReadLeaves.rules c.keep_laws.ensures (shape_of c.args.ty.now) c.requires.of_profile c.in_ok-octets.ensures.done read more })
 
 pub read_open_field-returns-in-Err-Short-clause-stop : goal.read_open_field-returns-in-Err-Short-clause-stop
 read_open_field-returns-in-Err-Short-clause-stop g t c =
     let os = c.in_ok-octets.octets.items in
     let held : AreOctets os = (content_of c.in_ok-octets.ensures.done).2 in
-    let over : g.R.ReadLeaves.rules.to_units c.over-content.result ≡ g.R.ReadLeaves.rules.ruling.units os = ap g.R.ReadLeaves.rules.to_units (c.over-content.ensures ∙ ap unpacked c.deref.ensures.value) ∙ g.met.R.ReadLeaves.laws.over os held in
+    let over : g.R.ReadLeaves.rules.to_units c.over-content.result ≡ g.R.ReadLeaves.rules.ruling.units os = ap g.R.ReadLeaves.rules.to_units (c.over-content.ensures ∙ ap unpacked c.deref.ensures.value) ∙ c.keep_laws.ensures.over os held in
     let stopped = rw over at c.in-Err-Short.ensures.stop in
-    let told = none_held g.R.ReadLeaves.rules g.met.R.ReadLeaves.laws (shape_of c.args.ty.now) c.requires.of_profile c.in-Err-Short.field-0 (λ e. cc) c.in_ok-octets.ensures.done stopped in
+    let told = none_held g.R.ReadLeaves.rules c.keep_laws.ensures (shape_of c.args.ty.now) c.requires.of_profile c.in-Err-Short.field-0 (λ e. cc) c.in_ok-octets.ensures.done stopped in
     rw c.units_left.ensures (record { told = told })
 
 pub read_open_field-returns-in-Err-Refused-clause-stop : goal.read_open_field-returns-in-Err-Refused-clause-stop
 read_open_field-returns-in-Err-Refused-clause-stop g t c =
     let os = c.in_ok-octets.octets.items in
     let held : AreOctets os = (content_of c.in_ok-octets.ensures.done).2 in
-    let over : g.R.ReadLeaves.rules.to_units c.over-content.result ≡ g.R.ReadLeaves.rules.ruling.units os = ap g.R.ReadLeaves.rules.to_units (c.over-content.ensures ∙ ap unpacked c.deref.ensures.value) ∙ g.met.R.ReadLeaves.laws.over os held in
+    let over : g.R.ReadLeaves.rules.to_units c.over-content.result ≡ g.R.ReadLeaves.rules.ruling.units os = ap g.R.ReadLeaves.rules.to_units (c.over-content.ensures ∙ ap unpacked c.deref.ensures.value) ∙ c.keep_laws.ensures.over os held in
     let stopped = rw over at c.in-Err-Refused.ensures.stop in
-    let told = none_held g.R.ReadLeaves.rules g.met.R.ReadLeaves.laws (shape_of c.args.ty.now) c.requires.of_profile c.in-Err-Refused.field-0 (λ e. cc) c.in_ok-octets.ensures.done stopped in
+    let told = none_held g.R.ReadLeaves.rules c.keep_laws.ensures (shape_of c.args.ty.now) c.requires.of_profile c.in-Err-Refused.field-0 (λ e. cc) c.in_ok-octets.ensures.done stopped in
     rw c.units_left.ensures (record { told = told })
 
 pub read_components-loop-field-init : goal.read_components-loop-field-init
@@ -232,7 +233,7 @@ read_components-loop-field-init g t c =
 pub read_components-loop-field-preserved-in-Some : goal.read_components-loop-field-preserved-in-Some
 read_components-loop-field-preserved-in-Some g t c =
     let h = rw (next_part c.args.fields.now c.loop-field.field-index c.field-item.result c.loop-field-test.true c.field-item.is) at c.loop-field.invariant.0 in
-    let n = next_must g.R.ReadLeaves.rules g.met.R.ReadLeaves.laws h (c.in-Some.ensures.must refl) in
+    let n = next_must g.R.ReadLeaves.rules c.keep_laws.ensures h (c.in-Some.ensures.must refl) in
     let z = c.in-Some.number in
     let inside = c.in-Some.ensures.of_integers in
     let same : to_z w128 (of_z w128 z) ≡ z = kept z inside.0 inside.1 in
@@ -248,7 +249,7 @@ read_components-loop-field-preserved-in-Some g t c =
 pub read_components-returns-in_err-entry-clause-stop : goal.read_components-returns-in_err-entry-clause-stop
 read_components-returns-in_err-entry-clause-stop g t c =
     let h = rw (next_part c.args.fields.now c.loop-field.field-index c.field-item.result c.loop-field-test.true c.field-item.is) at c.loop-field.invariant.0 in
-    let n = next_either g.R.ReadLeaves.rules g.met.R.ReadLeaves.laws h c.next_of-present.result c.next_of-present.new.self.left c.next_of-present.ensures.must (λ e. (let b = c.next_of-present.ensures.bit e in (b.0, b.1 ∙ ap (λ m. m / 2 ^ c.next_of-present.new.self.left % 2) c.loop-field.invariant.1))) in
+    let n = next_either g.R.ReadLeaves.rules c.keep_laws.ensures h c.next_of-present.result c.next_of-present.new.self.left c.next_of-present.ensures.must (λ e. (let b = c.next_of-present.ensures.bit e in (b.0, b.1 ∙ ap (λ m. m / 2 ^ c.next_of-present.new.self.left % 2) c.loop-field.invariant.1))) in
     let p = err_from_is_err_and c.from_residual.result c.from_residual.ensures.1 in
     let still : c.try_bounded.new.units ≡ c.loop-field.units = c.in_default.ensures.none refl in
     rw (p.1, p.2) (stops_by _ n.stops (rw still at c.in_err-entry.ensures.stop))
@@ -256,7 +257,7 @@ read_components-returns-in_err-entry-clause-stop g t c =
 pub read_components-loop-field-preserved : goal.read_components-loop-field-preserved
 read_components-loop-field-preserved g t c =
     let h = rw (next_part c.args.fields.now c.loop-field.field-index c.field-item.result c.loop-field-test.true c.field-item.is) at c.loop-field.invariant.0 in
-    let n = next_either g.R.ReadLeaves.rules g.met.R.ReadLeaves.laws h c.next_of-present.result c.next_of-present.new.self.left c.next_of-present.ensures.must (λ e. (let b = c.next_of-present.ensures.bit e in (b.0, b.1 ∙ ap (λ m. m / 2 ^ c.next_of-present.new.self.left % 2) c.loop-field.invariant.1))) in
+    let n = next_either g.R.ReadLeaves.rules c.keep_laws.ensures h c.next_of-present.result c.next_of-present.new.self.left c.next_of-present.ensures.must (λ e. (let b = c.next_of-present.ensures.bit e in (b.0, b.1 ∙ ap (λ m. m / 2 ^ c.next_of-present.new.self.left % 2) c.loop-field.invariant.1))) in
     let still : c.try_bounded.new.units ≡ c.loop-field.units = c.in_default.ensures.none refl in
     let pushed = c.push_reserved-in-loop-field.ensures in
     let items : map (option_map datum_of) c.push_reserved-in-loop-field.new.self.items ≡ map (option_map datum_of) c.loop-field.entries.items ++ option_map datum_of c.in_ok-entry.entry ∷ [] =
@@ -311,16 +312,16 @@ read_entry-returns-in_ok-read-in-Must-clause-done g t c =
 pub read_additions-returns-in_err-bitmap-clause-stop : goal.read_additions-returns-in_err-bitmap-clause-stop
 read_additions-returns-in_err-bitmap-clause-stop g t c =
     let p = err_from_is_err_and c.from_residual.result c.from_residual.ensures.1 in
-    rw (p.1, p.2) (stops_by _ (presence_stops_at g.R.ReadLeaves.rules g.met.R.ReadLeaves.laws c.args.fields.now c.requires.of_profile (g.R.ReadLeaves.rules.to_units c.args.units.now)) c.in_err-bitmap.ensures.stop)
+    rw (p.1, p.2) (stops_by _ (presence_stops_at g.R.ReadLeaves.rules c.keep_laws.ensures c.args.fields.now c.requires.of_profile (g.R.ReadLeaves.rules.to_units c.args.units.now)) c.in_err-bitmap.ensures.stop)
 
 pub read_additions-returns-clause-done : goal.read_additions-returns-clause-done
 read_additions-returns-clause-done g t c =
-    let lead = open_fields_lead g.R.ReadLeaves.rules g.met.R.ReadLeaves.laws c.args.fields.now c.requires.of_profile c.in_ok-bitmap.bitmap (g.R.ReadLeaves.rules.to_units c.args.units.now) (g.R.ReadLeaves.rules.to_units c.read_addition_bitmap.new.units) c.in_ok-bitmap.ensures.done in
+    let lead = open_fields_lead g.R.ReadLeaves.rules c.keep_laws.ensures c.args.fields.now c.requires.of_profile c.in_ok-bitmap.bitmap (g.R.ReadLeaves.rules.to_units c.args.units.now) (g.R.ReadLeaves.rules.to_units c.read_addition_bitmap.new.units) c.in_ok-bitmap.ensures.done in
     IfOk-weaker c.read_open_fields.result _ _ (λ _ s. after_leads (entries_seen c.args.entries.now.items) lead s) c.read_open_fields.ensures.done
 
 pub read_additions-returns-clause-stop : goal.read_additions-returns-clause-stop
 read_additions-returns-clause-stop g t c =
-    let lead = open_fields_lead g.R.ReadLeaves.rules g.met.R.ReadLeaves.laws c.args.fields.now c.requires.of_profile c.in_ok-bitmap.bitmap (g.R.ReadLeaves.rules.to_units c.args.units.now) (g.R.ReadLeaves.rules.to_units c.read_addition_bitmap.new.units) c.in_ok-bitmap.ensures.done in
+    let lead = open_fields_lead g.R.ReadLeaves.rules c.keep_laws.ensures c.args.fields.now c.requires.of_profile c.in_ok-bitmap.bitmap (g.R.ReadLeaves.rules.to_units c.args.units.now) (g.R.ReadLeaves.rules.to_units c.read_addition_bitmap.new.units) c.in_ok-bitmap.ensures.done in
     if_err_weaker c.read_open_fields.result _ _ (λ why s. stops_by why lead.stops s) c.read_open_fields.ensures.stop
 
 pub read_open_fields-loop-field-init : goal.read_open_fields-loop-field-init
@@ -333,7 +334,7 @@ read_open_fields-returns-in_err-read_open_field-clause-stop g t c =
     let after : c.next.new.self.left + 1 ≡ c.loop-field.presence.left = c.next.ensures.left in
     let bit : 1 ≡ c.args.presence.bitmap / 2 ^ c.next.new.self.left % 2 = ap bit_of (sym c.if-next.true) ∙ c.next.ensures.bit ∙ ap (λ m. m / 2 ^ c.next.new.self.left % 2) c.loop-field.invariant.1 in
     let p = err_from_is_err_and c.from_residual.result c.from_residual.ensures.1 in
-    rw (p.1, p.2) (stops_by _ (addition_stops g.R.ReadLeaves.rules g.met.R.ReadLeaves.laws h c.next.new.self.left after bit) (rw (← shape_of_part c.field-item.result) at c.in_err-read_open_field.ensures.stop))
+    rw (p.1, p.2) (stops_by _ (addition_stops g.R.ReadLeaves.rules c.keep_laws.ensures h c.next.new.self.left after bit) (rw (← shape_of_part c.field-item.result) at c.in_err-read_open_field.ensures.stop))
 
 pub read_open_fields-loop-field-preserved : goal.read_open_fields-loop-field-preserved
 read_open_fields-loop-field-preserved g t c =
@@ -345,10 +346,10 @@ read_open_fields-loop-field-preserved g t c =
     rw items (elim c.if-next.branch [
       | read_open_fields-then-next+in_ok-read_open_field w ↦
           let bit : 1 ≡ c.args.presence.bitmap / 2 ^ c.next.new.self.left % 2 = ap bit_of (sym w.if-next.true) ∙ c.next.ensures.bit ∙ ap (λ m. m / 2 ^ c.next.new.self.left % 2) c.loop-field.invariant.1 in
-          rw (w.entry-is, w.units-is) (addition_present g.R.ReadLeaves.rules g.met.R.ReadLeaves.laws h c.next.new.self.left after bit _ (g.R.ReadLeaves.rules.to_units w.read_open_field.new.units) (rw (← shape_of_part c.field-item.result) at w.in_ok-read_open_field.ensures.done), same, w.in_ok-read_open_field.ensures.at_unit)
+          rw (w.entry-is, w.units-is) (addition_present g.R.ReadLeaves.rules c.keep_laws.ensures h c.next.new.self.left after bit _ (g.R.ReadLeaves.rules.to_units w.read_open_field.new.units) (rw (← shape_of_part c.field-item.result) at w.in_ok-read_open_field.ensures.done), same, w.in_ok-read_open_field.ensures.at_unit)
       | read_open_fields-else-next w ↦
           let bit : 0 ≡ c.args.presence.bitmap / 2 ^ c.next.new.self.left % 2 = ap bit_of (sym w.if-next.false) ∙ c.next.ensures.bit ∙ ap (λ m. m / 2 ^ c.next.new.self.left % 2) c.loop-field.invariant.1 in
-          rw (w.entry-is, w.units-is) (addition_absent g.R.ReadLeaves.rules g.met.R.ReadLeaves.laws h c.next.new.self.left after bit, same, c.loop-field.invariant.2)
+          rw (w.entry-is, w.units-is) (addition_absent g.R.ReadLeaves.rules c.keep_laws.ensures h c.next.new.self.left after bit, same, c.loop-field.invariant.2)
     ])
 
 pub read_open_fields-returns-clause-done : goal.read_open_fields-returns-clause-done
@@ -360,12 +361,12 @@ read-read_index-requires-clause-some g t c =
     some_root c.args.ty.now c.in-Choice.root c.in-Choice.ext c.in-Choice.is c.requires.of_profile c.len-known.result c.len-known.ensures
 
 pub read-read_index-requires-clause-few : goal.read-read_index-requires-clause-few
-read-read_index-requires-clause-few g t c = choice_few g.R.ReadLeaves.rules g.met.R.ReadLeaves.laws c.args.ty.now c.in-Choice.root c.in-Choice.ext c.in-Choice.is c.requires.of_profile c.len-known.result c.len-known.ensures c.added_count.result c.added_count.ensures (g.R.ReadLeaves.rules.to_units c.args.units.now)
+read-read_index-requires-clause-few g t c = choice_few g.R.ReadLeaves.rules c.keep_laws.ensures c.args.ty.now c.in-Choice.root c.in-Choice.ext c.in-Choice.is c.requires.of_profile c.len-known.result c.len-known.ensures c.added_count.result c.added_count.ensures (g.R.ReadLeaves.rules.to_units c.args.units.now)
 
 pub read-returns-in_err-index-in-Choice-clause-stop : goal.read-returns-in_err-index-in-Choice-clause-stop
 read-returns-in_err-index-in-Choice-clause-stop g t c =
     let p = err_from_is_err_and c.from_residual-in_err-index-in-Choice.result c.from_residual-in_err-index-in-Choice.ensures.1 in
-    rw (p.1, p.2) (stops_by _ (choice_stops g.R.ReadLeaves.rules g.met.R.ReadLeaves.laws c.args.ty.now c.in-Choice.root c.in-Choice.ext c.in-Choice.is c.requires.of_profile c.len-known.result c.len-known.ensures c.added_count.result c.added_count.ensures (g.R.ReadLeaves.rules.to_units c.args.units.now)) c.in_err-index-in-Choice.ensures.stop)
+    rw (p.1, p.2) (stops_by _ (choice_stops g.R.ReadLeaves.rules c.keep_laws.ensures c.args.ty.now c.in-Choice.root c.in-Choice.ext c.in-Choice.is c.requires.of_profile c.len-known.result c.len-known.ensures c.added_count.result c.added_count.ensures (g.R.ReadLeaves.rules.to_units c.args.units.now)) c.in_err-index-in-Choice.ensures.stop)
 
 pub read-read_alternative-requires : goal.read-read_alternative-requires
 read-read_alternative-requires g t c κs lives =
@@ -376,7 +377,7 @@ read-read_alternative-requires g t c κs lives =
 pub read-returns-in_err-value-in-Root-clause-stop : goal.read-returns-in_err-value-in-Root-clause-stop
 read-returns-in_err-value-in-Root-clause-stop g t c =
     let p = err_from_is_err_and c.from_residual-in_err-value-in-Root.result c.from_residual-in_err-value-in-Root.ensures.1 in
-    let lead = root_value_leads g.R.ReadLeaves.rules g.met.R.ReadLeaves.laws c.args.ty.now c.in-Choice.root c.in-Choice.ext c.in-Choice.is c.requires.of_profile c.len-known.result c.len-known.ensures c.added_count.result c.added_count.ensures (g.R.ReadLeaves.rules.to_units c.args.units.now) c.in_ok-index-in-Choice.field-0 c.in-Root.index (g.R.ReadLeaves.rules.to_units c.read_index.new.units) c.in_ok-index-in-Choice.ensures.done c.deref-in-Root.result.now c.deref-in-Root.ensures.value c.in-Root.is in
+    let lead = root_value_leads g.R.ReadLeaves.rules c.keep_laws.ensures c.args.ty.now c.in-Choice.root c.in-Choice.ext c.in-Choice.is c.requires.of_profile c.len-known.result c.len-known.ensures c.added_count.result c.added_count.ensures (g.R.ReadLeaves.rules.to_units c.args.units.now) c.in_ok-index-in-Choice.field-0 c.in-Root.index (g.R.ReadLeaves.rules.to_units c.read_index.new.units) c.in_ok-index-in-Choice.ensures.done c.deref-in-Root.result.now c.deref-in-Root.ensures.value c.in-Root.is in
     rw (p.1, p.2) (stops_by _ lead.stops c.in_err-value-in-Root.ensures.stop)
 
 pub read-chosen-requires : goal.read-chosen-requires
@@ -387,7 +388,7 @@ read-chosen-requires g t c =
 
 pub read-returns-in_ok-chosen-in-Root-clause-done : goal.read-returns-in_ok-chosen-in-Root-clause-done
 read-returns-in_ok-chosen-in-Root-clause-done g t c =
-    let lead = root_value_leads g.R.ReadLeaves.rules g.met.R.ReadLeaves.laws c.args.ty.now c.in-Choice.root c.in-Choice.ext c.in-Choice.is c.requires.of_profile c.len-known.result c.len-known.ensures c.added_count.result c.added_count.ensures (g.R.ReadLeaves.rules.to_units c.args.units.now) c.in_ok-index-in-Choice.field-0 c.in-Root.index (g.R.ReadLeaves.rules.to_units c.read_index.new.units) c.in_ok-index-in-Choice.ensures.done c.deref-in-Root.result.now c.deref-in-Root.ensures.value c.in-Root.is in
+    let lead = root_value_leads g.R.ReadLeaves.rules c.keep_laws.ensures c.args.ty.now c.in-Choice.root c.in-Choice.ext c.in-Choice.is c.requires.of_profile c.len-known.result c.len-known.ensures c.added_count.result c.added_count.ensures (g.R.ReadLeaves.rules.to_units c.args.units.now) c.in_ok-index-in-Choice.field-0 c.in-Root.index (g.R.ReadLeaves.rules.to_units c.read_index.new.units) c.in_ok-index-in-Choice.ensures.done c.deref-in-Root.result.now c.deref-in-Root.ensures.value c.in-Root.is in
     rw c.in_ok-chosen-in-Root.ensures (lead.done (datum_of c.in_ok-value-in-Root.value) (g.R.ReadLeaves.rules.to_units c.read_alternative.new.units) c.in_ok-value-in-Root.ensures.done)
 
 pub read-read_added_alternative-requires : goal.read-read_added_alternative-requires
@@ -399,7 +400,7 @@ read-read_added_alternative-requires g t c κs lives =
 pub read-returns-in_err-value-in-Added-clause-stop : goal.read-returns-in_err-value-in-Added-clause-stop
 read-returns-in_err-value-in-Added-clause-stop g t c =
     let p = err_from_is_err_and c.from_residual-in_err-value-in-Added.result c.from_residual-in_err-value-in-Added.ensures.1 in
-    let lead = added_value_leads g.R.ReadLeaves.rules g.met.R.ReadLeaves.laws c.args.ty.now c.in-Choice.root c.in-Choice.ext c.in-Choice.is c.requires.of_profile c.len-known.result c.len-known.ensures c.added_count.result c.added_count.ensures (g.R.ReadLeaves.rules.to_units c.args.units.now) c.in_ok-index-in-Choice.field-0 c.in-Added.index (g.R.ReadLeaves.rules.to_units c.read_index.new.units) c.in_ok-index-in-Choice.ensures.done c.in-Some-ext.additions c.deref-in-Added.result.now c.in-Some-ext.is c.deref-in-Added.ensures.value c.in-Added.is in
+    let lead = added_value_leads g.R.ReadLeaves.rules c.keep_laws.ensures c.args.ty.now c.in-Choice.root c.in-Choice.ext c.in-Choice.is c.requires.of_profile c.len-known.result c.len-known.ensures c.added_count.result c.added_count.ensures (g.R.ReadLeaves.rules.to_units c.args.units.now) c.in_ok-index-in-Choice.field-0 c.in-Added.index (g.R.ReadLeaves.rules.to_units c.read_index.new.units) c.in_ok-index-in-Choice.ensures.done c.in-Some-ext.additions c.deref-in-Added.result.now c.in-Some-ext.is c.deref-in-Added.ensures.value c.in-Added.is in
     rw (p.1, p.2) (stops_by _ lead.stops c.in_err-value-in-Added.ensures.stop)
 
 pub read-chosen-requires-in-Added : goal.read-chosen-requires-in-Added
@@ -410,7 +411,7 @@ read-chosen-requires-in-Added g t c =
 
 pub read-returns-in_ok-chosen-in-Added-clause-done : goal.read-returns-in_ok-chosen-in-Added-clause-done
 read-returns-in_ok-chosen-in-Added-clause-done g t c =
-    let lead = added_value_leads g.R.ReadLeaves.rules g.met.R.ReadLeaves.laws c.args.ty.now c.in-Choice.root c.in-Choice.ext c.in-Choice.is c.requires.of_profile c.len-known.result c.len-known.ensures c.added_count.result c.added_count.ensures (g.R.ReadLeaves.rules.to_units c.args.units.now) c.in_ok-index-in-Choice.field-0 c.in-Added.index (g.R.ReadLeaves.rules.to_units c.read_index.new.units) c.in_ok-index-in-Choice.ensures.done c.in-Some-ext.additions c.deref-in-Added.result.now c.in-Some-ext.is c.deref-in-Added.ensures.value c.in-Added.is in
+    let lead = added_value_leads g.R.ReadLeaves.rules c.keep_laws.ensures c.args.ty.now c.in-Choice.root c.in-Choice.ext c.in-Choice.is c.requires.of_profile c.len-known.result c.len-known.ensures c.added_count.result c.added_count.ensures (g.R.ReadLeaves.rules.to_units c.args.units.now) c.in_ok-index-in-Choice.field-0 c.in-Added.index (g.R.ReadLeaves.rules.to_units c.read_index.new.units) c.in_ok-index-in-Choice.ensures.done c.in-Some-ext.additions c.deref-in-Added.result.now c.in-Some-ext.is c.deref-in-Added.ensures.value c.in-Added.is in
     rw c.in_ok-chosen-in-Added.ensures (lead.done (datum_of c.in_ok-value-in-Added.value) (g.R.ReadLeaves.rules.to_units c.read_added_alternative.new.units) c.in_ok-value-in-Added.ensures.done)
 
 pub read-bitmap_width-width-requires : goal.read-bitmap_width-width-requires
@@ -423,7 +424,7 @@ read-returns-in_err-preamble-in-Seq-clause-stop g t c =
     let is = closed_type c.args.ty.now c.in-Seq.root c.in-Seq.ext c.as_slice-root.result.now c.in-Seq.is c.in_default.is c.as_slice-root.ensures.value in
     let good : InProfile (sequence (fields_of (map part_of_field c.as_slice-root.result.now)) closed) = rw is at c.requires.of_profile in
     let p = err_from_is_err_and c.from_residual.result c.from_residual.ensures.1 in
-    rw (p.1, p.2, is) (stops_by _ (preamble_stops g.R.ReadLeaves.rules g.met.R.ReadLeaves.laws (fields_of (map part_of_field c.as_slice-root.result.now)) closed good (g.R.ReadLeaves.rules.to_units c.args.units.now)) (rw c.bitmap_width-width.ensures.count at c.in_err-preamble-in-Seq.ensures.stop))
+    rw (p.1, p.2, is) (stops_by _ (preamble_stops g.R.ReadLeaves.rules c.keep_laws.ensures (fields_of (map part_of_field c.as_slice-root.result.now)) closed good (g.R.ReadLeaves.rules.to_units c.args.units.now)) (rw c.bitmap_width-width.ensures.count at c.in_err-preamble-in-Seq.ensures.stop))
 
 pub read-returns-in_err-preamble-in-Seq-2-clause-stop : goal.read-returns-in_err-preamble-in-Seq-2-clause-stop
 read-returns-in_err-preamble-in-Seq-2-clause-stop g t c =
@@ -431,13 +432,21 @@ read-returns-in_err-preamble-in-Seq-2-clause-stop g t c =
     let good : InProfile (sequence (fields_of (map part_of_field c.as_slice-root.result.now)) (marked (fields_of (map part_of_field c.as_slice-additions.result.now)))) = rw is at c.requires.of_profile in
     let count : Some (length c.as_slice-additions.result.now) ≡ added (marked (fields_of (map part_of_field c.as_slice-additions.result.now))) = ap Some (sym (count_of_fields c.as_slice-additions.result.now)) in
     let p = err_from_is_err_and c.from_residual-in_err-preamble-in-Seq-2.result c.from_residual-in_err-preamble-in-Seq-2.ensures.1 in
-    rw (p.1, p.2, is) (stops_by _ (preamble_stops g.R.ReadLeaves.rules g.met.R.ReadLeaves.laws (fields_of (map part_of_field c.as_slice-root.result.now)) (marked (fields_of (map part_of_field c.as_slice-additions.result.now))) good (g.R.ReadLeaves.rules.to_units c.args.units.now)) (rw (c.bitmap_width-width.ensures.count, count) at c.in_err-preamble-in-Seq-2.ensures.stop))
+    rw (p.1, p.2, is) (stops_by _ (preamble_stops g.R.ReadLeaves.rules c.keep_laws.ensures (fields_of (map part_of_field c.as_slice-root.result.now)) (marked (fields_of (map part_of_field c.as_slice-additions.result.now))) good (g.R.ReadLeaves.rules.to_units c.args.units.now)) (rw (c.bitmap_width-width.ensures.count, count) at c.in_err-preamble-in-Seq-2.ensures.stop))
 
 pub read-read_components-requires : goal.read-read_components-requires
-read-read_components-requires g t c κs within = ?
+read-read_components-requires g t c κs within =
+    let is = closed_type c.args.ty.now c.in-Seq.root c.in-Seq.ext c.as_slice-root.result.now c.in-Seq.is c.in_default.is c.as_slice-root.ensures.value in
+    let good : InProfile (sequence (fields_seen c.as_slice-root.result.now) closed) = rw is at c.requires.of_profile in
+    let room : vec_len c.in_ok-entries-in-Seq.entries + length c.as_slice-root.result.now ≤ vec_capacity c.in_ok-entries-in-Seq.entries = omega (arith, c.in_ok-entries-in-Seq.ensures.len, c.in_ok-entries-in-Seq.ensures.capacity) in
+    (search (rules, the_lemmas), (within.0, (within.1, (c.in_ok-preamble-in-Seq.ensures.at_unit, (components_of_profile (fields_seen c.as_slice-root.result.now) closed good, (c.bitmap_width-width.ensures.count, (c.bitmap_width-width.ensures.few, room)))))))
 
 pub read-read_components-requires-in-Seq : goal.read-read_components-requires-in-Seq
-read-read_components-requires-in-Seq g t c κs within = ?
+read-read_components-requires-in-Seq g t c κs within =
+    let is = marked_type c.args.ty.now c.in-Seq.root c.in-Seq.ext c.in-Some.additions c.as_slice-root.result.now c.as_slice-additions.result.now c.in-Seq.is c.in-Some.is c.as_slice-root.ensures.value c.as_slice-additions.ensures.value in
+    let good : InProfile (sequence (fields_seen c.as_slice-root.result.now) (marked (fields_seen c.as_slice-additions.result.now))) = rw is at c.requires.of_profile in
+    let room : vec_len c.in_ok-entries-in-Seq-2.entries + length c.as_slice-root.result.now ≤ vec_capacity c.in_ok-entries-in-Seq-2.entries = omega (arith, c.in_ok-entries-in-Seq-2.ensures.len, c.in_ok-entries-in-Seq-2.ensures.capacity) in
+    (search (rules, the_lemmas), (within.0, (within.1, (c.in_ok-preamble-in-Seq-2.ensures.at_unit, (components_of_profile (fields_seen c.as_slice-root.result.now) (marked (fields_seen c.as_slice-additions.result.now)) good, (c.bitmap_width-width.ensures.count, (c.bitmap_width-width.ensures.few, room)))))))
 
 pub read-returns-in_err-read_components-in-Seq-clause-stop : goal.read-returns-in_err-read_components-in-Seq-clause-stop
 read-returns-in_err-read_components-in-Seq-clause-stop g t c =
@@ -445,7 +454,7 @@ read-returns-in_err-read_components-in-Seq-clause-stop g t c =
     let good : InProfile (sequence (fields_of (map part_of_field c.as_slice-root.result.now)) closed) = rw is at c.requires.of_profile in
     let read : Spells g.R.ReadLeaves.rules.ruling.fielding (PreambleOf g.R.ReadLeaves.rules (bitmap_length (fields_of (map part_of_field c.as_slice-root.result.now))) (added closed)) (preamble_seen c.in_ok-preamble-in-Seq.preamble) (g.R.ReadLeaves.rules.to_units c.args.units.now) (g.R.ReadLeaves.rules.to_units c.read_preamble.new.units) = rw c.bitmap_width-width.ensures.count at c.in_ok-preamble-in-Seq.ensures.done in
     let p = err_from_is_err_and c.from_residual-in_err-read_components-in-Seq.result c.from_residual-in_err-read_components-in-Seq.ensures.1 in
-    rw (p.1, p.2, is) (stops_by _ (components_stop g.R.ReadLeaves.rules g.met.R.ReadLeaves.laws (fields_of (map part_of_field c.as_slice-root.result.now)) closed good (preamble_seen c.in_ok-preamble-in-Seq.preamble) (g.R.ReadLeaves.rules.to_units c.args.units.now) (g.R.ReadLeaves.rules.to_units c.read_preamble.new.units) read) (rw c.bitmap_width-width.ensures.count at c.in_err-read_components-in-Seq.ensures.stop))
+    rw (p.1, p.2, is) (stops_by _ (components_stop g.R.ReadLeaves.rules c.keep_laws.ensures (fields_of (map part_of_field c.as_slice-root.result.now)) closed good (preamble_seen c.in_ok-preamble-in-Seq.preamble) (g.R.ReadLeaves.rules.to_units c.args.units.now) (g.R.ReadLeaves.rules.to_units c.read_preamble.new.units) read) (rw c.bitmap_width-width.ensures.count at c.in_err-read_components-in-Seq.ensures.stop))
 
 pub read-returns-in_err-read_components-in-Seq-2-clause-stop : goal.read-returns-in_err-read_components-in-Seq-2-clause-stop
 read-returns-in_err-read_components-in-Seq-2-clause-stop g t c =
@@ -454,16 +463,43 @@ read-returns-in_err-read_components-in-Seq-2-clause-stop g t c =
     let count : Some (length c.as_slice-additions.result.now) ≡ added (marked (fields_of (map part_of_field c.as_slice-additions.result.now))) = ap Some (sym (count_of_fields c.as_slice-additions.result.now)) in
     let read : Spells g.R.ReadLeaves.rules.ruling.fielding (PreambleOf g.R.ReadLeaves.rules (bitmap_length (fields_of (map part_of_field c.as_slice-root.result.now))) (added (marked (fields_of (map part_of_field c.as_slice-additions.result.now))))) (preamble_seen c.in_ok-preamble-in-Seq-2.preamble) (g.R.ReadLeaves.rules.to_units c.args.units.now) (g.R.ReadLeaves.rules.to_units c.read_preamble-in-Seq.new.units) = rw (c.bitmap_width-width.ensures.count, count) at c.in_ok-preamble-in-Seq-2.ensures.done in
     let p = err_from_is_err_and c.from_residual-in_err-read_components-in-Seq-2.result c.from_residual-in_err-read_components-in-Seq-2.ensures.1 in
-    rw (p.1, p.2, is) (stops_by _ (components_stop g.R.ReadLeaves.rules g.met.R.ReadLeaves.laws (fields_of (map part_of_field c.as_slice-root.result.now)) (marked (fields_of (map part_of_field c.as_slice-additions.result.now))) good (preamble_seen c.in_ok-preamble-in-Seq-2.preamble) (g.R.ReadLeaves.rules.to_units c.args.units.now) (g.R.ReadLeaves.rules.to_units c.read_preamble-in-Seq.new.units) read) (rw c.bitmap_width-width.ensures.count at c.in_err-read_components-in-Seq-2.ensures.stop))
+    rw (p.1, p.2, is) (stops_by _ (components_stop g.R.ReadLeaves.rules c.keep_laws.ensures (fields_of (map part_of_field c.as_slice-root.result.now)) (marked (fields_of (map part_of_field c.as_slice-additions.result.now))) good (preamble_seen c.in_ok-preamble-in-Seq-2.preamble) (g.R.ReadLeaves.rules.to_units c.args.units.now) (g.R.ReadLeaves.rules.to_units c.read_preamble-in-Seq.new.units) read) (rw c.bitmap_width-width.ensures.count at c.in_err-read_components-in-Seq-2.ensures.stop))
 
 pub read-returns-in_default-clause-done : goal.read-returns-in_default-clause-done
-read-returns-in_default-clause-done g t c = ?
+read-returns-in_default-clause-done g t c =
+    let is = closed_type c.args.ty.now c.in-Seq.root c.in-Seq.ext c.as_slice-root.result.now c.in-Seq.is c.in_default.is c.as_slice-root.ensures.value in
+    let good : InProfile (sequence (fields_seen c.as_slice-root.result.now) closed) = rw is at c.requires.of_profile in
+    let read : Spells g.R.ReadLeaves.rules.ruling.fielding (PreambleOf g.R.ReadLeaves.rules (bitmap_length (fields_seen c.as_slice-root.result.now)) (added closed)) (preamble_seen c.in_ok-preamble-in-Seq.preamble) (g.R.ReadLeaves.rules.to_units c.args.units.now) (g.R.ReadLeaves.rules.to_units c.read_preamble.new.units) = rw c.bitmap_width-width.ensures.count at c.in_ok-preamble-in-Seq.ensures.done in
+    let components : Spells g.R.ReadLeaves.rules.ruling.fielding (Listed g.R.ReadLeaves.rules.code (fields_seen c.as_slice-root.result.now) (bits (bitmap_length (fields_seen c.as_slice-root.result.now)) c.in_ok-preamble-in-Seq.preamble.bitmap)) (entries_seen c.read_components.new.entries.items) (g.R.ReadLeaves.rules.to_units c.read_preamble.new.units) (g.R.ReadLeaves.rules.to_units c.read_components.new.units) = after_nothing (rw (c.in_ok-entries-in-Seq.ensures.items, c.bitmap_width-width.ensures.count) at c.in_ok-read_components-in-Seq.ensures.done) in
+    rw (is, datum_of-Seq c.read_components.new.entries) (closed_done g.R.ReadLeaves.rules c.keep_laws.ensures (fields_seen c.as_slice-root.result.now) good (preamble_seen c.in_ok-preamble-in-Seq.preamble) (g.R.ReadLeaves.rules.to_units c.args.units.now) (g.R.ReadLeaves.rules.to_units c.read_preamble.new.units) read (entries_seen c.read_components.new.entries.items) (g.R.ReadLeaves.rules.to_units c.read_components.new.units) components)
 
 pub read-read_additions-requires : goal.read-read_additions-requires
-read-read_additions-requires g t c κs within = ?
+read-read_additions-requires g t c κs within =
+    let is = marked_type c.args.ty.now c.in-Seq.root c.in-Seq.ext c.in-Some.additions c.as_slice-root.result.now c.as_slice-additions.result.now c.in-Seq.is c.in-Some.is c.as_slice-root.ensures.value c.as_slice-additions.ensures.value in
+    let good : InProfile (sequence (fields_seen c.as_slice-root.result.now) (marked (fields_seen c.as_slice-additions.result.now))) = rw is at c.requires.of_profile in
+    let count : Some (length c.as_slice-additions.result.now) ≡ added (marked (fields_seen c.as_slice-additions.result.now)) = ap Some (sym (count_of_fields c.as_slice-additions.result.now)) in
+    let read : Spells g.R.ReadLeaves.rules.ruling.fielding (PreambleOf g.R.ReadLeaves.rules (bitmap_length (fields_seen c.as_slice-root.result.now)) (added (marked (fields_seen c.as_slice-additions.result.now)))) (preamble_seen c.in_ok-preamble-in-Seq-2.preamble) (g.R.ReadLeaves.rules.to_units c.args.units.now) (g.R.ReadLeaves.rules.to_units c.read_preamble-in-Seq.new.units) = rw (c.bitmap_width-width.ensures.count, count) at c.in_ok-preamble-in-Seq-2.ensures.done in
+    let some : 0 < length c.as_slice-additions.result.now = rw count_of_fields at (some_listed _ (read.spelt.fits.1 c.if-preamble.true)) in
+    (search (rules, the_lemmas), (within.0, (within.1, (c.in_ok-read_components-in-Seq-2.ensures.at_unit, (added_of_profile c.as_slice-additions.result.now is c.requires.of_profile, (some, few_added c.as_slice-additions.result.now is c.requires.of_profile))))))
 
 pub read-returns-in_err-read_additions-in-Seq-clause-stop : goal.read-returns-in_err-read_additions-in-Seq-clause-stop
-read-returns-in_err-read_additions-in-Seq-clause-stop g t c = ?
+read-returns-in_err-read_additions-in-Seq-clause-stop g t c =
+    let is = marked_type c.args.ty.now c.in-Seq.root c.in-Seq.ext c.in-Some.additions c.as_slice-root.result.now c.as_slice-additions.result.now c.in-Seq.is c.in-Some.is c.as_slice-root.ensures.value c.as_slice-additions.ensures.value in
+    let good : InProfile (sequence (fields_seen c.as_slice-root.result.now) (marked (fields_seen c.as_slice-additions.result.now))) = rw is at c.requires.of_profile in
+    let count : Some (length c.as_slice-additions.result.now) ≡ added (marked (fields_seen c.as_slice-additions.result.now)) = ap Some (sym (count_of_fields c.as_slice-additions.result.now)) in
+    let read : Spells g.R.ReadLeaves.rules.ruling.fielding (PreambleOf g.R.ReadLeaves.rules (bitmap_length (fields_seen c.as_slice-root.result.now)) (added (marked (fields_seen c.as_slice-additions.result.now)))) (preamble_seen c.in_ok-preamble-in-Seq-2.preamble) (g.R.ReadLeaves.rules.to_units c.args.units.now) (g.R.ReadLeaves.rules.to_units c.read_preamble-in-Seq.new.units) = rw (c.bitmap_width-width.ensures.count, count) at c.in_ok-preamble-in-Seq-2.ensures.done in
+    let components : Spells g.R.ReadLeaves.rules.ruling.fielding (Listed g.R.ReadLeaves.rules.code (fields_seen c.as_slice-root.result.now) (bits (bitmap_length (fields_seen c.as_slice-root.result.now)) c.in_ok-preamble-in-Seq-2.preamble.bitmap)) (entries_seen c.read_components-in-Seq.new.entries.items) (g.R.ReadLeaves.rules.to_units c.read_preamble-in-Seq.new.units) (g.R.ReadLeaves.rules.to_units c.read_components-in-Seq.new.units) = after_nothing (rw (c.in_ok-entries-in-Seq-2.ensures.items, c.bitmap_width-width.ensures.count) at c.in_ok-read_components-in-Seq-2.ensures.done) in
+    let p = err_from_is_err_and c.from_residual-in_err-read_additions-in-Seq.result c.from_residual-in_err-read_additions-in-Seq.ensures.1 in
+    rw (p.1, p.2, is) (stops_by _ (additions_stop g.R.ReadLeaves.rules c.keep_laws.ensures (fields_seen c.as_slice-root.result.now) (marked (fields_seen c.as_slice-additions.result.now)) good (preamble_seen c.in_ok-preamble-in-Seq-2.preamble) (g.R.ReadLeaves.rules.to_units c.args.units.now) (g.R.ReadLeaves.rules.to_units c.read_preamble-in-Seq.new.units) read (entries_seen c.read_components-in-Seq.new.entries.items) (g.R.ReadLeaves.rules.to_units c.read_components-in-Seq.new.units) components c.if-preamble.true) c.in_err-read_additions-in-Seq.ensures.stop)
 
 pub read-returns-after-preamble-clause-done : goal.read-returns-after-preamble-clause-done
-read-returns-after-preamble-clause-done g t c = ?
+read-returns-after-preamble-clause-done g t c =
+    let is = marked_type c.args.ty.now c.in-Seq.root c.in-Seq.ext c.in-Some.additions c.as_slice-root.result.now c.as_slice-additions.result.now c.in-Seq.is c.in-Some.is c.as_slice-root.ensures.value c.as_slice-additions.ensures.value in
+    let good : InProfile (sequence (fields_seen c.as_slice-root.result.now) (marked (fields_seen c.as_slice-additions.result.now))) = rw is at c.requires.of_profile in
+    let count : Some (length c.as_slice-additions.result.now) ≡ added (marked (fields_seen c.as_slice-additions.result.now)) = ap Some (sym (count_of_fields c.as_slice-additions.result.now)) in
+    let read : Spells g.R.ReadLeaves.rules.ruling.fielding (PreambleOf g.R.ReadLeaves.rules (bitmap_length (fields_seen c.as_slice-root.result.now)) (added (marked (fields_seen c.as_slice-additions.result.now)))) (preamble_seen c.in_ok-preamble-in-Seq-2.preamble) (g.R.ReadLeaves.rules.to_units c.args.units.now) (g.R.ReadLeaves.rules.to_units c.read_preamble-in-Seq.new.units) = rw (c.bitmap_width-width.ensures.count, count) at c.in_ok-preamble-in-Seq-2.ensures.done in
+    let components : Spells g.R.ReadLeaves.rules.ruling.fielding (Listed g.R.ReadLeaves.rules.code (fields_seen c.as_slice-root.result.now) (bits (bitmap_length (fields_seen c.as_slice-root.result.now)) c.in_ok-preamble-in-Seq-2.preamble.bitmap)) (entries_seen c.read_components-in-Seq.new.entries.items) (g.R.ReadLeaves.rules.to_units c.read_preamble-in-Seq.new.units) (g.R.ReadLeaves.rules.to_units c.read_components-in-Seq.new.units) = after_nothing (rw (c.in_ok-entries-in-Seq-2.ensures.items, c.bitmap_width-width.ensures.count) at c.in_ok-read_components-in-Seq-2.ensures.done) in
+    rw (is, datum_of-Seq c.if-preamble.entries) (elim c.if-preamble.branch [
+      | read-then-preamble+in_ok-read_additions-in-Seq w ↦ rw (w.entries-is, w.units-is) (additions_done g.R.ReadLeaves.rules c.keep_laws.ensures (fields_seen c.as_slice-root.result.now) (marked (fields_seen c.as_slice-additions.result.now)) good (preamble_seen c.in_ok-preamble-in-Seq-2.preamble) (g.R.ReadLeaves.rules.to_units c.args.units.now) (g.R.ReadLeaves.rules.to_units c.read_preamble-in-Seq.new.units) read (entries_seen c.read_components-in-Seq.new.entries.items) (g.R.ReadLeaves.rules.to_units c.read_components-in-Seq.new.units) components w.if-preamble.true (entries_seen w.read_additions.new.entries.items) (g.R.ReadLeaves.rules.to_units w.read_additions.new.units) w.in_ok-read_additions-in-Seq.ensures.done)
+      | read-else-preamble+in_ok-push_absent-in-Seq w ↦ rw (w.entries-is, w.units-is, w.in_ok-push_absent-in-Seq.ensures) (none_added g.R.ReadLeaves.rules c.keep_laws.ensures (fields_seen c.as_slice-root.result.now) (marked (fields_seen c.as_slice-additions.result.now)) good (preamble_seen c.in_ok-preamble-in-Seq-2.preamble) (g.R.ReadLeaves.rules.to_units c.args.units.now) (g.R.ReadLeaves.rules.to_units c.read_preamble-in-Seq.new.units) read (entries_seen c.read_components-in-Seq.new.entries.items) (g.R.ReadLeaves.rules.to_units c.read_components-in-Seq.new.units) components w.if-preamble.false)
+    ])

@@ -1,5 +1,5 @@
 //! What a set of encoding rules gives to a reader: the parts of types and values that it spells by itself.
-ghost use Rattle.std.specs.Prelude.{◌≡◌, ◌≤◌, ◌<◌, ◌-◌, ◌%◌, true, Some, IfOk, IfErr, OnOk, IfSome, IsNone, length};
+ghost use Rattle.std.specs.Prelude.{◌≡◌, ◌≤◌, ◌<◌, ◌-◌, ◌/◌, ◌%◌, true, Some, IfOk, IfErr, OnOk, IfSome, IsNone, length};
 ghost use Rattle.asn_values.specs.Datum.{number};
 ghost use Rattle.asn_values.specs.Profile.{InProfile, good_default};
 ghost use Rattle.asn_values.specs.View.{shape_of, datum_of, size_range_of};
@@ -52,6 +52,11 @@ pub trait ReadLeaves {
     fn units_left(units: &BitCursor<'_>) -> u128
         requires at_unit { rules.at_unit units.now }
         ensures { result ≡ length (rules.to_units units.now) };
+
+    /// How many whole octets are left.
+    fn octets_left(units: &BitCursor<'_>) -> usize
+        requires at_unit { rules.at_unit units.now }
+        ensures { result ≡ length (rules.to_units units.now) / rules.octet_units };
 
     /// Reads a value of a type that is neither SEQUENCE, SEQUENCE OF nor CHOICE.
     fn read_simple(alloc: Global, ty: &AsnType, units: &mut BitCursor<'_>) -> Result<Value, Stop>

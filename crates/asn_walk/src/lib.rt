@@ -5,9 +5,13 @@
 #![tactic(auto)]
 
 mod components;
+mod decoder;
 mod leaves;
+mod limits;
 mod presence;
 mod reader;
 
+pub use decoder::decode;
 pub use leaves::{Index, Preamble, ReadLeaves};
+pub use limits::MAX_OCTETS;
 pub use reader::{read, read_complete};

@@ -34,6 +34,7 @@ use Rattle.asn_walk.specs.Views.{index_seen, preamble_seen}
 use Rattle.asn_walk.proofs.AdditionsRead.{presence_stops_at, open_fields_lead, added_starts, addition_stops, addition_present, addition_absent, added_ends, after_leads, after_nothing}
 use Rattle.asn_walk.proofs.ChoicesRead.{choice_few, leads_at_place, open_leads_at_place, choice_stops, root_value_leads, added_value_leads}
 use Rattle.asn_walk.proofs.ComponentsRead.{read_starts, next_must, next_either, bit_there, read_ends, entry_leads}
+use Rattle.asn_walk.proofs.Decoding.{units_fill}
 use Rattle.asn_walk.proofs.Exits.{if_err_weaker}
 use Rattle.asn_walk.proofs.Listing.{Appends, appends_more, appends_one, appends_end, appends_stops_next, row_appends, start_stops, start_leads, fragments_start, fragments_further, fragments_end, going_stops, going_row_stops, going_nearer, list_size, list_leads}
 use Rattle.asn_walk.proofs.OpenRead.{content_of, length_none, octets_stop, value_held, more_held, none_held, value_stops, fill_leads}
@@ -188,7 +189,7 @@ read_open_field-read_complete-requires g t c κs within =
     let os = c.in_ok-octets.octets.items in
     let held : AreOctets os = (content_of c.in_ok-octets.ensures.done).2 in
     let over : g.R.ReadLeaves.rules.to_units c.over-content.result ≡ g.R.ReadLeaves.rules.ruling.units os = ap g.R.ReadLeaves.rules.to_units (c.over-content.ensures ∙ ap unpacked c.deref.ensures.value) ∙ c.keep_laws.ensures.over os held in
-    (search (rules, the_lemmas), (within.0, (within.1, (rw (c.over-content.ensures, c.deref.ensures.value) (c.keep_laws.ensures.begin os held), (c.requires.of_profile, rw over (c.keep_laws.ensures.octets os))))))
+    (search (rules, the_lemmas), (within.0, (within.1, (rw (c.over-content.ensures, c.deref.ensures.value) (c.keep_laws.ensures.begin os held), (c.requires.of_profile, rw over (units_fill g.R.ReadLeaves.rules c.keep_laws.ensures os))))))
 
 pub read_open_field-returns-in-Ok-clause-done : goal.read_open_field-returns-in-Ok-clause-done
 read_open_field-returns-in-Ok-clause-done g t c =

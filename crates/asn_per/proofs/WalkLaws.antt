@@ -1,5 +1,5 @@
 -- The parts of PER keep the laws of the walk.
-use Rattle.std.proofs.Common.{◌≡◌, ◌≢◌, ◌+◌, ◌^◌, ◌%◌, ◌<◌, ◌⊎◌, inl, inr, ⊎_elim, ℕ, suc, Bool, true, false, List, [], ◌∷◌, ◌++◌, length, Option, None, Some, is_some, refl, sym, ap, ◌∙◌, arith}
+use Rattle.std.proofs.Common.{◌≡◌, ◌≢◌, ◌+◌, ◌*◌, ◌≤◌, ◌^◌, ◌%◌, ◌<◌, ◌⊎◌, inl, inr, ⊎_elim, ℕ, suc, Bool, true, false, List, [], ◌∷◌, ◌++◌, length, Option, None, Some, is_some, refl, sym, ap, ◌∙◌, arith}
 use Rattle.std.proofs.lemmas.Bool.{cases_eq}
 use Rattle.std.proofs.lemmas.List.{append_cancel_left, length-append}
 use Rattle.asn_values.specs.Shape.{Shape, SizeRange, sequence_of}
@@ -21,15 +21,15 @@ use Rattle.asn_bits.specs.Numbers.{bits, unpacked}
 use Rattle.asn_bits.specs.Sink.{bit_of}
 use Rattle.asn_bits.proofs.Digits.{digits_code}
 use Rattle.asn_bits.proofs.Octets.{length-digits}
+use Rattle.asn_bits.proofs.Splits.{length-unpacked}
 use Rattle.asn_rules.specs.Components.{extension_bit}
 use Rattle.asn_per.specs.Rules.{per_ruling}
 use Rattle.asn_walk.specs.Laws.{Laws, IsSizeOfProfile}
 use Rattle.asn_per.specs.Walk.{per_coding}
 use Rattle.asn_per.specs.Per.{per, small_length}
-use Rattle.asn_per.proofs.Decoding.{bits_fill}
 use Rattle.asn_per.proofs.LeftOut.{none_left_out}
 use Rattle.asn_per.proofs.ListLanguages.{lists_compose}
-use Rattle.asn_per.proofs.ListReading.{list_size}
+use Rattle.asn_walk.proofs.Listing.{list_size}
 use Rattle.asn_per.proofs.ListsAhead.{start_lawful, start_some, sized_ahead}
 use Rattle.asn_per.proofs.Messages.{message_language}
 use Rattle.asn_per.proofs.SizedLists.{same_sized}
@@ -150,9 +150,18 @@ pub walk_over : (o : List ℕ) → AreOctets o → per_coding.to_units (unpacked
 unfolding per_coding per_ruling
 walk_over o h = refl
 
-pub walk_octets : (o : List ℕ) → length (per_coding.ruling.units o) % per_coding.octet_units ≡ 0
+-- an octet is eight bits
+pub walk_count : (o : List ℕ) → length (per_coding.ruling.units o) ≡ per_coding.octet_units * length o
 unfolding per_coding per_ruling
-walk_octets o = bits_fill o
+walk_count o = length-unpacked o
+
+pub walk_some : 1 ≤ per_coding.octet_units
+unfolding per_coding
+walk_some = omega arith
+
+pub walk_few : per_coding.octet_units ≤ 8
+unfolding per_coding
+walk_few = omega arith
 
 pub walk_begin : (o : List ℕ) → AreOctets o → per_coding.at_unit (unpacked o)
 unfolding per_coding
@@ -165,7 +174,9 @@ per_laws = record {
   wholes = walk_wholes;
   part = walk_part;
   over = walk_over;
-  octets = walk_octets;
+  count = walk_count;
+  some = walk_some;
+  few = walk_few;
   begin = walk_begin;
   preamble = walk_preamble;
   addition_bitmap = walk_addition_bitmap;

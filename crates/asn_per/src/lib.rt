@@ -1,7 +1,6 @@
 //! CANONICAL-PER UNALIGNED (X.691): encoding and decoding of whole messages.
 #![tactic(auto)]
 
-mod alternatives;
 #[cfg(test)]
 mod composed_tests;
 mod decoder;
@@ -28,7 +27,6 @@ mod string_tests;
 mod string_writer;
 #[cfg(test)]
 mod tests;
-mod value_reader;
 
 pub use decoder::decode;
 pub use encoder::encode;

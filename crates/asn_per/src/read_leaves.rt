@@ -1,16 +1,17 @@
 //! What PER reads by itself: the simple types, and the parts of the composite ones.
-ghost use Rattle.std.specs.Prelude.{◌≡◌, ◌≤◌, ◌+◌, ◌^◌};
+ghost use Rattle.std.specs.Prelude.{◌≡◌, ◌≤◌, ◌+◌, ◌^◌, ◌∷◌, IfOk, IfErr, true};
+ghost use Rattle.asn_bits.specs.Sink.{bit_of};
+ghost use Rattle.asn_per.specs.Reading.{StopsAtMark};
 ghost use Rattle.asn_per.specs.RowsAhead.{ahead_of, IsBetween};
 ghost use Rattle.asn_per.specs.Walk.{per_coding};
 
 use crate::indexes;
-use crate::integer_reader::{boolean, integer, take_between};
+use crate::integer_reader::{boolean, integer, power_of_two, take_between};
 use crate::items::enumerated;
 use crate::number_reader::{Numbers, bits_left, number, padding};
 use crate::per::Per;
 use crate::size_reader::Rows;
 use crate::string_reader::{bit_string, octet_string, text, utf8_string};
-use crate::value_reader::{extension_bit, highest_bitmap};
 use asn_bits::BitCursor;
 use asn_rules::{Stop, Why};
 use asn_values::{AsnType, Size, Value};
@@ -30,6 +31,12 @@ impl ReadLeaves for Per {
     #[tactic(auto, unfolding(crate::specs::Walk::per_coding, crate::specs::Rules::per_ruling))]
     fn units_left(units: &BitCursor<'_>) -> u128 {
         bits_left(units)
+    }
+
+    #[inline(always)]
+    #[tactic(auto, unfolding(crate::specs::Walk::per_coding, crate::specs::Rules::per_ruling))]
+    fn octets_left(units: &BitCursor<'_>) -> usize {
+        units.octets_left()
     }
 
     #[inline(always)]
@@ -156,4 +163,35 @@ impl ReadLeaves for Per {
 
     #[inline(always)]
     fn keep_laws() {}
+}
+
+/// Reads an extension bit: `listed` says whether the type lists extension additions; if it does not, a set bit is
+/// refused.
+fn extension_bit(listed: bool, bits: &mut BitCursor<'_>) -> Result<bool, Stop>
+    ensures done { IfOk result (λ extended. (bits.old ≡ bit_of extended ∷ bits.new) × (extended ≡ true → listed ≡ true)) }
+    ensures stop { IfErr result (λ why. StopsAtMark listed bits.old why) }
+{
+    let Some(bit) = bits.next() else {
+        return Err(Stop::Short);
+    };
+    if bit == 1 && !listed {
+        let left = bits_left(bits);
+        return Err(Stop::Refused {
+            left,
+            why: Why::Extension,
+        });
+    }
+    Ok(bit == 1)
+}
+
+/// The highest presence bitmap of `count` bits.
+fn highest_bitmap(count: u32) -> u64
+    requires { count ≤ 64 }
+    ensures { result + 1 ≡ 2 ^ count }
+{
+    if count == 64 {
+        u64::MAX
+    } else {
+        power_of_two(count) - 1
+    }
 }

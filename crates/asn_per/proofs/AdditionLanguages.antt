@@ -38,11 +38,11 @@ open_entry_spelled t good = same_after (same_map (open_values_spelled t good)) (
     back None h = absurd h
 
 -- entries that fit, and have these presence bits
-abbrev FitBits : Fields → List ℕ → List (Option Datum) → Type 0
+abbrev pub FitBits : Fields → List ℕ → List (Option Datum) → Type 0
 FitBits fs bs es = FitsEach fs es × (presence (demands fs) es ≡ bs)
 
 -- the additions that are present by the bits are those of the entries with these presence bits
-open_listed_spelled : (fs : Fields) (bs : List ℕ) → AreOfProfile fs → AreOptional fs → AreDigits 2 bs → length bs ≡ length (demands fs) → Same (OpenListed fs bs) (SpelledBy (FitBits fs bs) (per_open fs))
+pub open_listed_spelled : (fs : Fields) (bs : List ℕ) → AreOfProfile fs → AreOptional fs → AreDigits 2 bs → length bs ≡ length (demands fs) → Same (OpenListed fs bs) (SpelledBy (FitBits fs bs) (per_open fs))
 open_listed_spelled no_fields [] good o d l = record {
   to = λ v cs h. record { fits = subst (FitBits no_fields []) (sym h.same) (tt, refl); same = h.empty };
   from = λ v cs h. record { same = is v h.fits.0; empty = h.same };
@@ -122,47 +122,56 @@ count_bits n k few h =
     let less : k ≡ n - 1 = omega arith in
     ap (λ (d : ℕ). d ∷ bits 6 k) front ∙ ap (λ (i : ℕ). 0 ∷ bits 6 i) less
 
-module _ (fs : Fields) (good : AreOfProfile fs) (o : AreOptional fs) (few : length (demands fs) ≤ 64) where
-  -- entries of which one is present
-  abbrev pub FitSome : List (Option Datum) → Type 0
-  FitSome es = FitsEach fs es × (any_present es ≡ true)
+-- entries of which one is present
+abbrev pub FitSome : Fields → List (Option Datum) → Type 0
+FitSome fs es = FitsEach fs es × (any_present es ≡ true)
+
+module _ (fs : Fields) (good : AreOfProfile fs) (o : AreOptional fs) where
+  -- where the presence bits are not all 0, one is present
+  pub some_by_bits : (b : ℕ) (es : List (Option Datum)) → (0 < b) × (b < 2 ^ length (demands fs)) → FitBits fs (bits (length (demands fs)) b) es → FitSome fs es
+  some_by_bits b es h f = (f.0, go (any_present es) refl)
+    where
+      number : weighted 2 (presence (demands fs) es) ≡ b
+      number = ap (weighted 2) f.1 ∙ (bits_are (length (demands fs)) b h.1).sum
+
+      go : (p : Bool) → any_present es ≡ p → any_present es ≡ true
+      go true e = e
+      go false e = absurd (let zero_here = none_is_zero fs es o f.0 e in omega (arith, number, zero_here, h.0))
+
+  -- and where one is present, they are the bits of such a number
+  pub bits_of_some : (es : List (Option Datum)) → FitSome fs es → (b : ℕ) × ((0 < b) × (b < 2 ^ length (demands fs))) × FitBits fs (bits (length (demands fs)) b) es
+  bits_of_some es h =
+      let n = length (demands fs) in
+      let b = weighted 2 (presence (demands fs) es) in
+      let w = bits_only n b (presence (demands fs) es) (record { digits = presence_bits (demands fs) es; count = presence_length fs es o h.0; sum = refl }) in
+      (b, (some_above_zero fs es o h.0 h.1, w.0), (h.0, w.1))
 
   -- presence bits, and the open fields behind them
-  bits_spelled : Same (Map behind_first (Then (SomePresent (length (demands fs))) (λ b. OpenListed fs (bits (length (demands fs)) b)))) (SpelledBy FitSome (λ es. ones (presence (demands fs) es) ++ per_open fs es))
+  bits_spelled : Same (Map behind_first (Then (SomePresent (length (demands fs))) (λ b. OpenListed fs (bits (length (demands fs)) b)))) (SpelledBy (FitSome fs) (λ es. ones (presence (demands fs) es) ++ per_open fs es))
   bits_spelled =
       same_after (same_map (same_after (same_then (set_spelled n (λ b. (0 < b) × (b < 2 ^ n)) (λ b h. h.1)) (λ b. open_listed_spelled fs (bits n b) good o (digits_bits n b) (length-digits 2 n b))) then_spelled)) (map_spelled there back)
     where
       n : ℕ
       n = length (demands fs)
 
-      there : (p : ℕ × List (Option Datum)) → ((0 < p.0) × (p.0 < 2 ^ n)) × FitBits fs (bits n p.0) p.1 → FitSome p.1 × (ones (bits n p.0) ++ per_open fs p.1 ≡ ones (presence (demands fs) p.1) ++ per_open fs p.1)
-      there p h = ((h.1.0, go (any_present p.1) refl), ap (λ (l : List ℕ). ones l ++ per_open fs p.1) (sym h.1.1))
-        where
-          number : weighted 2 (presence (demands fs) p.1) ≡ p.0
-          number = ap (weighted 2) h.1.1 ∙ (bits_are n p.0 h.0.1).sum
+      there : (p : ℕ × List (Option Datum)) → ((0 < p.0) × (p.0 < 2 ^ n)) × FitBits fs (bits n p.0) p.1 → FitSome fs p.1 × (ones (bits n p.0) ++ per_open fs p.1 ≡ ones (presence (demands fs) p.1) ++ per_open fs p.1)
+      there p h = (some_by_bits p.0 p.1 h.0 h.1, ap (λ (l : List ℕ). ones l ++ per_open fs p.1) (sym h.1.1))
 
-          go : (b : Bool) → any_present p.1 ≡ b → any_present p.1 ≡ true
-          go true e = e
-          go false e = absurd (let zero_here = none_is_zero fs p.1 o h.1.0 e in omega (arith, number, zero_here, h.0.0))
-
-      back : (es : List (Option Datum)) → FitSome es → (p : ℕ × List (Option Datum)) × (((0 < p.0) × (p.0 < 2 ^ n)) × FitBits fs (bits n p.0) p.1) × (es ≡ p.1)
-      back es h =
-          let b = weighted 2 (presence (demands fs) es) in
-          let w = bits_only n b (presence (demands fs) es) (record { digits = presence_bits (demands fs) es; count = presence_length fs es o h.0; sum = refl }) in
-          ((b, es), ((some_above_zero fs es o h.0 h.1, w.0), (h.0, w.1)), refl)
+      back : (es : List (Option Datum)) → FitSome fs es → (p : ℕ × List (Option Datum)) × (((0 < p.0) × (p.0 < 2 ^ n)) × FitBits fs (bits n p.0) p.1) × (es ≡ p.1)
+      back es h = (let w = bits_of_some es h in ((w.0, es), (w.1, w.2), refl))
 
   -- the additions, as the definition spells them
-  pub additions_spelled : Same (Additions fs) (SpelledBy FitSome (λ es. ones (small_length (length (demands fs)) ++ presence (demands fs) es) ++ per_open fs es))
-  additions_spelled = same_after (same_map (same_after (same_then (set_spelled 7 (λ k. k + 1 ≡ n) (λ k h. omega (arith, few))) (λ k. bits_spelled)) then_spelled)) (map_spelled there back)
+  pub additions_spelled : length (demands fs) ≤ 64 → Same (Additions fs) (SpelledBy (FitSome fs) (λ es. ones (small_length (length (demands fs)) ++ presence (demands fs) es) ++ per_open fs es))
+  additions_spelled few = same_after (same_map (same_after (same_then (set_spelled 7 (λ k. k + 1 ≡ n) (λ k h. omega (arith, few))) (λ k. bits_spelled)) then_spelled)) (map_spelled there back)
     where
       n : ℕ
       n = length (demands fs)
 
-      there : (p : ℕ × List (Option Datum)) → (p.0 + 1 ≡ n) × FitSome p.1
-          → FitSome p.1 × (ones (bits 7 p.0) ++ (ones (presence (demands fs) p.1) ++ per_open fs p.1) ≡ ones (small_length n ++ presence (demands fs) p.1) ++ per_open fs p.1)
+      there : (p : ℕ × List (Option Datum)) → (p.0 + 1 ≡ n) × FitSome fs p.1
+          → FitSome fs p.1 × (ones (bits 7 p.0) ++ (ones (presence (demands fs) p.1) ++ per_open fs p.1) ≡ ones (small_length n ++ presence (demands fs) p.1) ++ per_open fs p.1)
       there p h =
           let bitmap = presence (demands fs) p.1 in
           (h.1, ap (λ (l : List ℕ). ones l ++ (ones bitmap ++ per_open fs p.1)) (count_bits n p.0 few h.0) ∙ sym (append_assoc (ones (small_length n)) (ones bitmap) (per_open fs p.1)) ∙ ap (λ (l : List Chunk). l ++ per_open fs p.1) (sym (ones-append (small_length n) bitmap)))
 
-      back : (es : List (Option Datum)) → FitSome es → (p : ℕ × List (Option Datum)) × ((p.0 + 1 ≡ n) × FitSome p.1) × (es ≡ p.1)
+      back : (es : List (Option Datum)) → FitSome fs es → (p : ℕ × List (Option Datum)) × ((p.0 + 1 ≡ n) × FitSome fs p.1) × (es ≡ p.1)
       back es h = ((n - 1, es), (omega (arith, some_there es h.1, each_length fs es h.0), h), refl)

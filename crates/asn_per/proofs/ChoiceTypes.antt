@@ -13,9 +13,10 @@ use Rattle.asn_values.proofs.Alternatives.{count-of, shape_of_branch}
 use Rattle.asn_values.proofs.InnerTypes.{root_alternatives_of_profile, added_alternatives_of_profile}
 use Rattle.asn_values.proofs.Parts.{left_false}
 use Rattle.asn_values.proofs.Views.{choice_of_alternatives}
-use Rattle.asn_per.specs.declared.indexes.Index.{Index}
-use Rattle.asn_per.specs.declared.indexes.Index.TheVariants as an_index
-use Rattle.asn_per.specs.Indexes.{IsIndexWithin, index_at}
+use Rattle.asn_walk.specs.declared.leaves.Index.{Index}
+use Rattle.asn_walk.specs.declared.leaves.Index.TheVariants as an_index
+use Rattle.asn_walk.specs.Coding.{IsIndexWithin}
+use Rattle.asn_walk.specs.Views.{index_seen}
 use Rattle.asn_per.proofs.ChoiceLanguages.{few_choices}
 
 -- how many additions there are, where there is an extension mark
@@ -67,7 +68,7 @@ pub known_count : (root : Vec Alt Global) (n : ℕ) → n ≡ vec_len root → c
 known_count root n e = count-of root.items ∙ sym root.ok.0 ∙ sym e
 
 -- an index of an addition is one of so many
-pub added_inside : (n : ℕ) (m : Option ℕ) (ext : Option (Vec Alt Global)) (additions : Vec Alt Global) (i : Index) (p : ℕ) → m ≡ option_map vec_len ext → ext ≡ Some additions → i ≡ an_index.Added p → IsIndexWithin n m (index_at i) → p < vec_len additions
+pub added_inside : (n : ℕ) (m : Option ℕ) (ext : Option (Vec Alt Global)) (additions : Vec Alt Global) (i : Index) (p : ℕ) → m ≡ option_map vec_len ext → ext ≡ Some additions → i ≡ an_index.Added p → IsIndexWithin n m (index_seen i) → p < vec_len additions
 added_inside n m ext additions i p e f g h = rw (e, f, g) at h
 
 module _ (t : AsnType) (root : Vec Alt Global) (ext : Option (Vec Alt Global)) (is : t ≡ asn_type.Choice root ext) where

@@ -1,5 +1,5 @@
 -- The bounds of an INTEGER of the profile that has a low bound and no extension mark.
-use Rattle.std.proofs.Common.{◌≡◌, ◌<◌, ◌^◌, suc, ℤ, ◌≤ℤ◌, Bool, true, false, not, ◌&&◌, ◌||◌, Option, Some, refl, arith}
+use Rattle.std.proofs.Common.{◌≡◌, ◌<◌, ◌^◌, suc, ℤ, ◌≤ℤ◌, Bool, true, false, ◌&&◌, ◌||◌, Option, Some, refl, arith}
 use Rattle.std.proofs.lemmas.Bool.{not-false}
 use Rattle.std.specs.Int.RustNames.{int_le, int_lt}
 use Rattle.std.proofs.lemmas.Int.{ints}

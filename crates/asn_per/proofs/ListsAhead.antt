@@ -32,7 +32,9 @@ use Rattle.asn_per.specs.Kinds.{Below, of_either, IsOtherCount, CountWithin, Roo
 use Rattle.asn_per.specs.declared.number_reader.Numbers.{Numbers}
 use Rattle.asn_per.specs.Reading.{Admits, Appends}
 use Rattle.asn_per.proofs.CountedReading.{same_set}
-use Rattle.asn_per.specs.ListsAhead.{IsSizeOfProfile, Ahead, items, lengths, end, Remaining, other_counts, RootStart, Start, Advances, Next, StopsNext}
+use Rattle.asn_walk.specs.Ahead.{Ahead, items, lengths, end, Remaining, SomeAhead, Advances, Next, StopsNext}
+use Rattle.asn_walk.specs.Laws.{IsSizeOfProfile}
+use Rattle.asn_per.specs.ListsAhead.{other_counts, RootStart, Start}
 use Rattle.asn_per.proofs.PerFields.{per_fields_part}
 
 -- ---- one after the other, under views
@@ -199,7 +201,7 @@ other_ahead L low high good = same_after (same_flip (then_nothing (lengths (othe
     (same_after (starts_spanned L (other_counts low high)) (general_sets L (others_back low high good) (others_there low high good)))
 
 -- what stands in front of the items, and what is ahead from there
-sized_ahead : {A : Type 0} (L : A → List Chunk → Type 0) (s : SizeRange) → IsSizeOfProfile s → Same (Map behind_first (Then (Start s) (λ a. Remaining L a))) (Sized s L)
+pub sized_ahead : {A : Type 0} (L : A → List Chunk → Type 0) (s : SizeRange) → IsSizeOfProfile s → Same (Map behind_first (Then (Start s) (λ a. Remaining L a))) (Sized s L)
 sized_ahead {A} L s good = go s.low s.high s.extensible good
   where
     go : (low : ℕ) (high : Option ℕ) (m : Bool) → IsSizeOfProfile (record { low = low; high = high; extensible = m })
@@ -241,7 +243,7 @@ one_side (inl d) = (let s = d.seen in absurd (cc))
 one_side {c = c} {b = b} (inr d) = (let s = d.seen in let e : b ≡ d.value = cc in e ∙ d.spelt.same)
 
 -- in front of any list
-start_lawful : (s : SizeRange) → IsSizeOfProfile s → Lawful (Start s)
+pub start_lawful : (s : SizeRange) → IsSizeOfProfile s → Lawful (Start s)
 start_lawful s good = go s.low s.high s.extensible good
   where
     go : (low : ℕ) (high : Option ℕ) (m : Bool) → IsSizeOfProfile (record { low = low; high = high; extensible = m }) → Lawful (Start (record { low = low; high = high; extensible = m }))
@@ -254,26 +256,36 @@ start_lawful s good = go s.low s.high s.extensible good
         once (inl a) (inr b) x y p q e = absurd (let r = zero_side p.side in root_or_other low high good a r.0 r.1 (e ∙ one_side q.side))
         once (inr a) (inl b) x y p q e = absurd (let r = zero_side q.side in root_or_other low high good b r.0 r.1 (sym e ∙ one_side p.side))
 
--- behind what stands in front there is some list
-start_follows : {A : Type 0} (L : A → List Chunk → Type 0) (s : SizeRange) → IsSizeOfProfile s → Inhabited L → Follows (Start s) (λ a. Remaining L a)
-start_follows {A} L s good i = record { follow = λ a x h. go s.low s.high s.extensible good a x h }
+-- behind it some list is ahead
+pub start_some : (s : SizeRange) → IsSizeOfProfile s → (a : Ahead) (x : List Chunk) → Start s a x → SomeAhead a
+start_some s good a x h = go s.low s.high s.extensible good a x h
   where
-    root : (low : ℕ) (high : Option ℕ) (m : Bool) → IsSizeOfProfile (record { low = low; high = high; extensible = m }) → (a : Ahead) (x : List Chunk) → RootStart low high a x → Inhabited (Remaining L a)
-    root low (Some high) m good a x h = subst (λ b. Inhabited (Remaining L b)) (sym h.seen) (row_inhabited i h.source)
-    root low None m good a x h = subst (λ b. Inhabited (Remaining L b)) (sym h.same) (general_inhabited i low (at_start (inl (omega arith, omega (arith, low_small low None m good)))))
+    root : (low : ℕ) (high : Option ℕ) (m : Bool) → IsSizeOfProfile (record { low = low; high = high; extensible = m }) → (a : Ahead) (x : List Chunk) → RootStart low high a x → SomeAhead a
+    root low (Some high) m good a x h = subst (λ b. SomeAhead b) (sym h.seen) tt
+    root low None m good a x h = subst (λ b. SomeAhead b) (sym h.same) ((low, at_start (inl (omega arith, omega (arith, low_small low None m good)))))
 
-    other : (low : ℕ) (high : Option ℕ) → IsSizeOfProfile (record { low = low; high = high; extensible = true }) → Inhabited (General L (At (Spanned (other_counts low high)) 0 false))
-    other low None good = general_inhabited i 0 (at_start (inl (omega arith, omega arith)))
-    other zero (Some high) good = general_inhabited i (high + 1) (at_start (inl (omega arith, omega (arith, (high_small zero high true good).1))))
-    other (suc low) (Some high) good = general_inhabited i (high + 1) (at_start (inl (omega arith, omega (arith, (high_small (suc low) high true good).1))))
+    other : (low : ℕ) (high : Option ℕ) → IsSizeOfProfile (record { low = low; high = high; extensible = true }) → SomeAhead (lengths (other_counts low high) 0 false)
+    other low None good = (0, at_start (inl (omega arith, omega arith)))
+    other zero (Some high) good = (high + 1, at_start (inl (omega arith, omega (arith, (high_small zero high true good).1))))
+    other (suc low) (Some high) good = (high + 1, at_start (inl (omega arith, omega (arith, (high_small (suc low) high true good).1))))
 
-    either : (low : ℕ) (high : Option ℕ) → IsSizeOfProfile (record { low = low; high = high; extensible = true }) → (a : Ahead) (w : Ahead ⊎ Ahead) (x : List Chunk) → a ≡ of_either w → Fork (RootStart low high) (Nothing (lengths (other_counts low high) 0 false)) w x → Inhabited (Remaining L a)
-    either low high good a (inl b) x e h = (let r = zero_side h.side in subst (λ c. Inhabited (Remaining L c)) (sym e) (root low high true good b r.0 r.1))
-    either low high good a (inr b) x e h = subst (λ c. Inhabited (Remaining L c)) (sym (e ∙ one_side h.side)) (other low high good)
+    either : (low : ℕ) (high : Option ℕ) → IsSizeOfProfile (record { low = low; high = high; extensible = true }) → (a : Ahead) (w : Ahead ⊎ Ahead) (x : List Chunk) → a ≡ of_either w → Fork (RootStart low high) (Nothing (lengths (other_counts low high) 0 false)) w x → SomeAhead a
+    either low high good a (inl b) x e h = (let r = zero_side h.side in subst (λ c. SomeAhead c) (sym e) (root low high true good b r.0 r.1))
+    either low high good a (inr b) x e h = subst (λ c. SomeAhead c) (sym (e ∙ one_side h.side)) (other low high good)
 
-    go : (low : ℕ) (high : Option ℕ) (m : Bool) → IsSizeOfProfile (record { low = low; high = high; extensible = m }) → (a : Ahead) (x : List Chunk) → Start (record { low = low; high = high; extensible = m }) a x → Inhabited (Remaining L a)
+    go : (low : ℕ) (high : Option ℕ) (m : Bool) → IsSizeOfProfile (record { low = low; high = high; extensible = m }) → (a : Ahead) (x : List Chunk) → Start (record { low = low; high = high; extensible = m }) a x → SomeAhead a
     go low high false good a x h = root low high false good a x h
     go low high true good a x h = either low high good a h.source x h.seen h.spelt
+
+-- some list of values is spelt there
+ahead_inhabited : {A : Type 0} (L : A → List Chunk → Type 0) (a : Ahead) → Inhabited L → SomeAhead a → Inhabited (Remaining L a)
+ahead_inhabited L (items n) i h = row_inhabited i n
+ahead_inhabited L (lengths is come closed) i h = general_inhabited i h.0 h.1
+ahead_inhabited L end i h = nothing_inhabited []
+
+-- behind what stands in front there is some list
+start_follows : {A : Type 0} (L : A → List Chunk → Type 0) (s : SizeRange) → IsSizeOfProfile s → Inhabited L → Follows (Start s) (λ a. Remaining L a)
+start_follows L s good i = record { follow = λ a x h. ahead_inhabited L a i (start_some s good a x h) }
 
 -- ---- what a reader of what stands in front cites
 
@@ -335,25 +347,25 @@ going_starts {A} L s {ahead} {us} good h = record {
 }
 
 -- the reader of a length stops
-pub going_stops : {A : Type 0} {L : A → List Chunk → Type 0} {s : SizeRange} {us rest : List ℕ} {ahead : Ahead} {vs : List A} (why : Stop) → Inhabited L → StopsNext ahead rest why → Going L s us ahead vs rest → Stops per_fields (Sized s L) us why
+pub going_stops : {A : Type 0} {L : A → List Chunk → Type 0} {s : SizeRange} {us rest : List ℕ} {ahead : Ahead} {vs : List A} (why : Stop) → Inhabited L → StopsNext per_fields ahead rest why → Going L s us ahead vs rest → Stops per_fields (Sized s L) us why
 going_stops {A} {L} {s} {us} {rest} {ahead} {vs} why i h g =
     let l : Leads per_fields (General L (At (Spanned h.counts) h.come h.closed)) rest (λ ws. vs ++ ws) (Sized s L) us = subst (λ a. Leads per_fields (Remaining L a) rest (λ ws. vs ++ ws) (Sized s L) us) h.was g.leads in
     stops_by why (stops_on (stops_length rest i) l.stops) h.stops
 
 -- nothing is ahead
-pub going_ends : {A : Type 0} {L : A → List Chunk → Type 0} {s : SizeRange} {us rest r : List ℕ} {ahead new : Ahead} {vs : List A} → Next ahead None new rest r → Going L s us ahead vs rest → Spells per_fields (Sized s L) vs us r
+pub going_ends : {A : Type 0} {L : A → List Chunk → Type 0} {s : SizeRange} {us rest r : List ℕ} {ahead new : Ahead} {vs : List A} → Next per_fields ahead None new rest r → Going L s us ahead vs rest → Spells per_fields (Sized s L) vs us r
 going_ends {A} {L} {s} {us} {rest} {r} {ahead} {new} {vs} h g = go ahead h.advances g.leads
   where
-    go : (a : Ahead) → Advances a None new rest r → Leads per_fields (Remaining L a) rest (λ ws. vs ++ ws) (Sized s L) us → Spells per_fields (Sized s L) vs us r
+    go : (a : Ahead) → Advances per_fields a None new rest r → Leads per_fields (Remaining L a) rest (λ ws. vs ++ ws) (Sized s L) us → Spells per_fields (Sized s L) vs us r
     go end e l = rw e (subst (λ ws. Spells per_fields (Sized s L) ws us rest) (append-nil vs) (l.done [] rest (nothing_spells per_fields [] rest)))
     go (items n) e l = absurd e
     go (lengths is come closed) e l = absurd e
 
 -- the items that follow stop
-pub going_row_stops : {A : Type 0} {L : A → List Chunk → Type 0} {s : SizeRange} {us rest r : List ℕ} {ahead new : Ahead} {vs : List A} {k : ℕ} → Inhabited L → Next ahead (Some k) new rest r → Going L s us ahead vs rest → LeadsStops per_fields (Row L k) r (Sized s L) us
+pub going_row_stops : {A : Type 0} {L : A → List Chunk → Type 0} {s : SizeRange} {us rest r : List ℕ} {ahead new : Ahead} {vs : List A} {k : ℕ} → Inhabited L → Next per_fields ahead (Some k) new rest r → Going L s us ahead vs rest → LeadsStops per_fields (Row L k) r (Sized s L) us
 going_row_stops {A} {L} {s} {us} {rest} {r} {ahead} {new} {vs} {k} i h g = go ahead h.advances g.leads
   where
-    go : (a : Ahead) → Advances a (Some k) new rest r → Leads per_fields (Remaining L a) rest (λ ws. vs ++ ws) (Sized s L) us → LeadsStops per_fields (Row L k) r (Sized s L) us
+    go : (a : Ahead) → Advances per_fields a (Some k) new rest r → Leads per_fields (Remaining L a) rest (λ ws. vs ++ ws) (Sized s L) us → LeadsStops per_fields (Row L k) r (Sized s L) us
     go end e l = absurd e
     go (items n) e l = rw (e.0, e.2) l.stops
     go (lengths is come closed) e l = ⊎_elim
@@ -371,7 +383,7 @@ left_ahead L is come k m true h e =
     absurd (omega (arith, b.some))
 
 -- they have come
-pub going_further : {A : Type 0} {L : A → List Chunk → Type 0} {s : SizeRange} {us rest r t : List ℕ} {ahead new : Ahead} {vs ws : List A} {k : ℕ} → Inhabited L → Lawful L → Next ahead (Some k) new rest r → Appends L k vs ws r t → Going L s us ahead vs rest → Going L s us new ws t
+pub going_further : {A : Type 0} {L : A → List Chunk → Type 0} {s : SizeRange} {us rest r t : List ℕ} {ahead new : Ahead} {vs ws : List A} {k : ℕ} → Inhabited L → Lawful L → Next per_fields ahead (Some k) new rest r → Appends L k vs ws r t → Going L s us ahead vs rest → Going L s us new ws t
 going_further {A} {L} {s} {us} {rest} {r} {t} {ahead} {new} {vs} {ws} {k} i law h f g = record { leads = go ahead h.advances g.leads }
   where
     behind : List A → List A
@@ -389,7 +401,7 @@ going_further {A} {L} {s} {us} {rest} {r} {t} {ahead} {new} {vs} {ws} {k} i law 
             let none : f.row ++ b ≡ f.row = ap (λ c. f.row ++ c) x.spelt.same ∙ append-nil f.row in
             rw (← same, none) (l.done f.row t f.spelt)
 
-    go : (a : Ahead) → Advances a (Some k) new rest r → Leads per_fields (Remaining L a) rest (λ xs. vs ++ xs) (Sized s L) us → Leads per_fields (Remaining L new) t (λ xs. ws ++ xs) (Sized s L) us
+    go : (a : Ahead) → Advances per_fields a (Some k) new rest r → Leads per_fields (Remaining L a) rest (λ xs. vs ++ xs) (Sized s L) us → Leads per_fields (Remaining L new) t (λ xs. ws ++ xs) (Sized s L) us
     go end e l = absurd e
     go (items n) e l = ended (rw (e.0, e.2) l) e.1
     go (lengths is come closed) e l = ⊎_elim
@@ -401,7 +413,7 @@ going_further {A} {L} {s} {us} {rest} {r} {t} {ahead} {new} {vs} {ws} {k} i law 
 -- ---- a list that comes in one row: its count stands in front of it, and no length
 
 module _ {A : Type 0} {L : A → List Chunk → Type 0} {s : SizeRange} {us rest : List ℕ} {n : ℕ} (good : IsSizeOfProfile s) (i : Inhabited L) (h : Spells per_fields (Start s) (items n) us rest) where
-  all_next : Next (items n) (Some n) end rest rest
+  all_next : Next per_fields (items n) (Some n) end rest rest
   all_next = record { advances = (refl, refl, refl) }
 
   pub one_row_stops : LeadsStops per_fields (Row L n) rest (Sized s L) us
@@ -409,7 +421,7 @@ module _ {A : Type 0} {L : A → List Chunk → Type 0} {s : SizeRange} {us rest
 
   pub one_row : {vs : List A} {r : List ℕ} → Lawful L → Appends L n [] vs rest r → Spells per_fields (Sized s L) vs us r
   one_row {vs} {r} law f =
-      let at_end : Next end None end r r = record { advances = refl } in
+      let at_end : Next per_fields end None end r r = record { advances = refl } in
       going_ends at_end (going_further i law all_next f (going_starts L s good h))
 
 -- ---- each step comes nearer to the end
@@ -435,7 +447,7 @@ header_shorter {S} {l} {us} {r} h = go h.spelt.source h.spelt.spelt.side
     go w (inr b) = behind 1 b.rest b.same
 
 -- one step
-pub going_nearer : {A : Type 0} {L : A → List Chunk → Type 0} {rest r t : List ℕ} {ahead new : Ahead} {vs ws : List A} {k : ℕ} → Next ahead (Some k) new rest r → Appends L k vs ws r t → steps_left new + length t < steps_left ahead + length rest
+pub going_nearer : {A : Type 0} {L : A → List Chunk → Type 0} {rest r t : List ℕ} {ahead new : Ahead} {vs ws : List A} {k : ℕ} → Next per_fields ahead (Some k) new rest r → Appends L k vs ws r t → steps_left new + length t < steps_left ahead + length rest
 going_nearer {rest = rest} {r} {t} {ahead} {new} {k = k} h f = go ahead h.advances
   where
     at_most : (a : Ahead) → steps_left a ≤ 1
@@ -443,7 +455,7 @@ going_nearer {rest = rest} {r} {t} {ahead} {new} {k = k} h f = go ahead h.advanc
     at_most (items n) = omega arith
     at_most (lengths is come closed) = omega arith
 
-    go : (a : Ahead) → Advances a (Some k) new rest r → steps_left new + length t < steps_left a + length rest
+    go : (a : Ahead) → Advances per_fields a (Some k) new rest r → steps_left new + length t < steps_left a + length rest
     go end e = absurd e
     go (items n) e = (let none : steps_left new ≡ 0 = ap steps_left e.1 in let same : length r ≡ length rest = ap length e.2 in omega (arith, spells_shorter f.spelt))
     go (lengths is come closed) e = ⊎_elim (λ x. omega (arith, at_most new, spells_shorter f.spelt, header_shorter x.0)) (λ x. omega (arith, at_most new, spells_shorter f.spelt, header_shorter x.1)) e.read

@@ -18,19 +18,20 @@ use Rattle.asn_rules.specs.Spellings.{SpelledBy, FitsEither, either_code}
 use Rattle.asn_rules.proofs.Entries.{each_length, none_present}
 use Rattle.asn_rules.proofs.Spellings.{same_after, same_then, same_map, same_fork, then_spelled, map_spelled, fork_spelled}
 use Rattle.asn_per.specs.Per.{per, per_each, per_open, additions, small_length}
-use Rattle.asn_per.specs.Kinds.{Values, of_either, Additions, absent_entries, with_entries, MarkedSequences}
+use Rattle.asn_walk.specs.Coding.{absent_entries}
+use Rattle.asn_per.specs.Kinds.{Values, of_either, Additions, with_entries, MarkedSequences}
 use Rattle.asn_per.proofs.AdditionLanguages.{AreOptional, additions_spelled}
 use Rattle.asn_per.proofs.Spellings.{component_list-of, components_of-list}
 
 -- ---- absent entries
 
 -- none of them is present
-none_of_absent : (fs : Fields) → any_present (absent_entries fs) ≡ false
+pub none_of_absent : (fs : Fields) → any_present (absent_entries fs) ≡ false
 none_of_absent no_fields = refl
 none_of_absent (field name demand t fs) = none_of_absent fs
 
 -- they fit additions that are OPTIONAL
-absent_fit : (fs : Fields) → AreOptional fs → FitsEach fs (absent_entries fs)
+pub absent_fit : (fs : Fields) → AreOptional fs → FitsEach fs (absent_entries fs)
 absent_fit no_fields o = tt
 absent_fit (field name optional t fs) o = (tt, absent_fit fs o)
 absent_fit (field name must t fs) o = absurd (true≢false (sym o))

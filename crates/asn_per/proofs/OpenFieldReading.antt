@@ -34,7 +34,7 @@ abbrev pub SomeOctets : List ℕ → List Chunk → Type 0
 SomeOctets = Sized (record { low = 1; high = None; extensible = false }) Octet
 
 -- they are spelt as the field is
-some_octets : Same SomeOctets (Frame per_fields open_field)
+pub some_octets : Same SomeOctets (Frame per_fields open_field)
 some_octets = open_frame per_fields (λ c. refl)
 
 -- and are what such a field may hold

@@ -26,7 +26,7 @@ use Rattle.asn_per.proofs.PerFields.{per_fields_part}
 use Rattle.asn_per.proofs.Spellings.{component_list-of, entries_count}
 
 -- the components, one after the other
-per_each_is : (fs : Fields) (es : List (Option Datum)) → per_each fs es ≡ each_of per fs es
+pub per_each_is : (fs : Fields) (es : List (Option Datum)) → per_each fs es ≡ each_of per fs es
 per_each_is no_fields es = refl
 per_each_is (field name demand t fs) [] = refl
 per_each_is (field name demand t fs) (e ∷ es) = ap (λ (l : List Chunk). if_spelled demand e (λ d. per t d) ++ l) (per_each_is fs es)
@@ -41,7 +41,7 @@ chunks_of_sequence fs es h =
     ∙ ap (λ (l : List Chunk). ones (presence (demands fs) es) ++ l) (per_each_is fs es)
 
 -- there are as many presence bits as components that may be absent
-presence_length : (fs : Fields) (es : List (Option Datum)) → FitsEach fs es → length (presence (demands fs) es) ≡ bitmap_length fs
+pub presence_length : (fs : Fields) (es : List (Option Datum)) → FitsEach fs es → length (presence (demands fs) es) ≡ bitmap_length fs
 presence_length no_fields es h = refl
 presence_length (field name demand t fs) [] h = absurd h
 presence_length (field name must t fs) (e ∷ es) h = presence_length fs es h.1

@@ -8,7 +8,7 @@ use Rattle.asn_values.specs.Datum.{Datum, components, components_of}
 use Rattle.asn_values.specs.Shape.{Shape, Demand, must, optional, default, Fields, field, MoreFields, closed, marked, is_marked, demands, sequence}
 use Rattle.asn_values.specs.declared.types.Field.{Field}
 use Rattle.asn_values.specs.declared.value.Value.{Value}
-use Rattle.asn_values.specs.Fits.{Fits, FitsDemand, FitsEach}
+use Rattle.asn_values.specs.Fits.{Fits, FitsEach}
 use Rattle.asn_values.specs.View.{Part, datum_of, fields_of, more_fields_of, part_of_field}
 use Rattle.asn_values.specs.Profile.{is_optional}
 use Rattle.asn_values.proofs.Entries.{each_length}

@@ -11,7 +11,7 @@ use Rattle.asn_rules.proofs.Leads.{Leads, leads_on, leads_map, leads_same}
 use Rattle.asn_rules.proofs.Spellings.{same_after}
 use Rattle.asn_per.specs.Per.{per, per_fields}
 use Rattle.asn_per.specs.Kinds.{Bit, Character, Sized, IsUtf8Content}
-use Rattle.asn_per.specs.ListsAhead.{IsSizeOfProfile}
+use Rattle.asn_walk.specs.Laws.{IsSizeOfProfile}
 use Rattle.asn_per.proofs.LeftOut.{none_left_out}
 use Rattle.asn_per.proofs.StringLanguages.{bit_strings_compose, octet_strings_compose, texts_compose, utf8_strings_compose}
 

@@ -12,21 +12,8 @@ use Rattle.asn_rules.specs.Forks.{Fork}
 use Rattle.asn_rules.specs.Languages.{Map}
 use Rattle.asn_per.specs.Kinds.{Below, SmallBelow}
 use Rattle.asn_per.specs.Per.{rank, constrained, small}
-use Rattle.asn_per.specs.declared.indexes.Index.{Index}
-use Rattle.asn_per.specs.declared.indexes.Index.TheVariants as an_index
 
 -- ---- indexes of the root or of the additions
-
--- what an index of the program stands for: one of the root, or one of the additions
-abbrev pub index_at : Index → ℕ ⊎ ℕ
-index_at (an_index.Root n) = inl n
-index_at (an_index.Added n) = inr n
-
--- it is one of so many of the root, or of so many additions where there is an extension mark
-abbrev pub IsIndexWithin : ℕ → Option ℕ → ℕ ⊎ ℕ → Type 0
-IsIndexWithin root more (inl n) = n < root
-IsIndexWithin root None (inr n) = ⊥
-IsIndexWithin root (Some more) (inr n) = n < more
 
 -- an index of the root in bits; behind an extension mark 0 and such an index, or 1 and that of an addition
 abbrev pub IndexesOf : ℕ → Option ℕ → ℕ ⊎ ℕ → List Chunk → Type 0

@@ -19,6 +19,7 @@ use Rattle.asn_rules.specs.Fields.{Octet}
 use Rattle.asn_rules.specs.Listed.{IsOther, Spelt, Listed, bitmap_length}
 use Rattle.asn_rules.specs.Reading.{Holds}
 use Rattle.asn_rules.specs.Spellings.{SpelledBy}
+use Rattle.asn_walk.specs.Coding.{absent_entries}
 use Rattle.asn_per.specs.Per.{per, rank}
 use Rattle.asn_per.specs.Rules.{per_ruling}
 
@@ -224,11 +225,6 @@ abbrev pub Additions : Fields → List (Option Datum) → List Chunk → Type 0
 Additions fs =
     let n = length (demands fs) in
     Map behind_first (Then (AdditionCount n) (λ k. Map behind_first (Then (SomePresent n) (λ b. OpenListed fs (bits n b)))))
-
--- the entries of additions that are all absent
-abbrev pub absent_entries : Fields → List (Option Datum)
-absent_entries no_fields = []
-absent_entries (field name demand t fs) = None ∷ absent_entries fs
 
 -- a SEQUENCE with further entries
 abbrev pub with_entries : Datum × List (Option Datum) → Datum

@@ -11,6 +11,7 @@ pub mod FieldVectors
 pub mod Indexes
 pub mod StringItems
 pub mod ListsAhead
+pub mod Walk
 pub mod RowsAhead
 pub mod NextLengths
 pub mod Writers

@@ -3,7 +3,7 @@ use Rattle.std.specs.Prelude.{◌≡◌, ◌*◌, [], ⊤}
 use Rattle.asn_bits.specs.LengthBits.{BegunLengths, is_closed}
 use Rattle.asn_per.specs.declared.size_reader.Rows.{Rows}
 use Rattle.asn_per.specs.declared.size_reader.Rows.TheVariants as rows
-use Rattle.asn_per.specs.ListsAhead.{Ahead, items, lengths, end}
+use Rattle.asn_walk.specs.Ahead.{Ahead, items, lengths, end}
 
 -- where so many blocks have come
 abbrev pub lengths_of : BegunLengths → Ahead

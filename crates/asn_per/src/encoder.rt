@@ -20,7 +20,7 @@ ghost use Rattle.asn_per.specs.Additions.{AreOptional, root_bits, addition_bits}
 ghost use Rattle.asn_per.specs.StringItems.{row_bits};
 ghost use Rattle.asn_per.specs.Writers.{TellsWhether};
 
-use crate::indexes::{Index, write_index};
+use crate::indexes::write_index;
 use crate::integer_writer::write_integer;
 use crate::items::write_enumerated;
 use crate::string_writer::{
@@ -31,6 +31,7 @@ use asn_rules::EncodeFault;
 use asn_values::{
     Alt, AsnType, Bounds, Checked, Field, Need, Size, Value, fits, length_fits, same,
 };
+use asn_walk::Index;
 use std::alloc::Global;
 
 /// The most octets of a message.

@@ -7,21 +7,17 @@ ghost use Rattle.asn_rules.specs.Languages.{Spells};
 ghost use Rattle.asn_rules.specs.Stops.{Stops};
 ghost use Rattle.asn_per.specs.Kinds.{Below, SmallBelow};
 ghost use Rattle.asn_per.specs.Per.{per_fields};
-ghost use Rattle.asn_per.specs.Indexes.{IndexesOf, IsIndexWithin, index_at, index_bits};
+ghost use Rattle.asn_per.specs.Indexes.{IndexesOf, index_bits};
+ghost use Rattle.asn_walk.specs.Coding.{IsIndexWithin};
+ghost use Rattle.asn_walk.specs.Views.{index_seen};
 
 use crate::integer_reader::constrained;
 use crate::number_reader::{Numbers, bits_left, number};
 use asn_bits::numbers::width;
 use asn_bits::{BitCursor, BitSink};
 use asn_rules::{Stop, Why};
+use asn_walk::Index;
 use std::alloc::AllocError;
-
-/// An index in the root, or among the additions.
-#[derive(Clone, Copy)]
-pub(crate) enum Index {
-    Root(usize),
-    Added(usize),
-}
 
 /// Writes an index. One of the root is a constrained whole number, behind a bit 0 where there is an
 /// extension mark; an addition is a bit 1 and a normally small number, 0 and 6 bits.
@@ -33,8 +29,8 @@ pub(crate) fn write_index(
     sink: &mut BitSink,
 ) -> Result<(), AllocError>
     requires few { root ≤ 256 }
-    requires within { IsIndexWithin root (Some 64) (index_at index) }
-    ensures { OnOk result (sink.new ≡ sink.old ++ index_bits root marked (index_at index)) }
+    requires within { IsIndexWithin root (Some 64) (index_seen index) }
+    ensures { OnOk result (sink.new ≡ sink.old ++ index_bits root marked (index_seen index)) }
 {
     match index {
         Index::Root(index) => {
@@ -54,8 +50,8 @@ pub(crate) fn read_index(
     bits: &mut BitCursor<'_>,
 ) -> Result<Index, Stop>
     requires some { 0 < root }
-    ensures within { IfOk result (λ i. IsIndexWithin root additions (index_at i)) }
-    ensures done { IfOk result (λ i. Spells per_fields (IndexesOf root additions) (index_at i) bits.old bits.new) }
+    ensures within { IfOk result (λ i. IsIndexWithin root additions (index_seen i)) }
+    ensures done { IfOk result (λ i. Spells per_fields (IndexesOf root additions) (index_seen i) bits.old bits.new) }
     ensures stop { IfErr result (λ why. Stops per_fields (IndexesOf root additions) bits.old why) }
 {
     let Some(additions) = additions else {

@@ -15,11 +15,12 @@ ghost use Rattle.asn_per.specs.Per.{per, per_fields, rank};
 ghost use Rattle.asn_per.specs.Indexes.{AreRootItems, IsItemWithin, index_of};
 ghost use Rattle.asn_per.specs.Writers.{TellsWhether};
 
-use crate::indexes::{Index, read_index, write_index};
+use crate::indexes::{read_index, write_index};
 use crate::integer_reader::constrained;
 use asn_bits::{BitCursor, BitSink};
 use asn_rules::{EncodeFault, Stop};
 use asn_values::{Item, Value, item_fits};
+use asn_walk::Index;
 use std::alloc::AllocError;
 
 /// Writes an item, where the value is one of these: one of the root by its index in the order of the

@@ -1,7 +1,6 @@
 //! CANONICAL-PER UNALIGNED (X.691): encoding and decoding of whole messages.
 #![tactic(auto)]
 
-mod alternatives;
 #[cfg(test)]
 mod composed_tests;
 mod decoder;
@@ -17,6 +16,8 @@ mod length_reader;
 #[cfg(test)]
 mod list_tests;
 mod number_reader;
+mod per;
+mod read_leaves;
 mod row_reader;
 mod signed_reader;
 mod size_reader;
@@ -26,7 +27,6 @@ mod string_tests;
 mod string_writer;
 #[cfg(test)]
 mod tests;
-mod value_reader;
 
 pub use decoder::decode;
 pub use encoder::encode;
@@ -35,3 +35,4 @@ pub use laws::{
     answers_exclude, beginnings_are_live, codec_laws, encoding_laws, live_by_parts, live_is_closed,
     readers_tell, spellings_tell, values_and_bits,
 };
+pub use per::Per;

@@ -3,6 +3,7 @@
 ghost use Rattle.std.specs.Prelude.{◌≡◌, ◌≤◌, ◌<◌, ◌+◌, ◌*◌, ◌/◌, ◌%◌, ◌^◌, ◌++◌, ℕ, List, IfOk, IfErr, IsTrue, true, false, vec_len, vec_capacity};
 ghost use Rattle.asn_values.specs.View.{alphabet_of};
 ghost use Rattle.asn_bits.specs.Numbers.{bits};
+ghost use Rattle.asn_bits.specs.Sink.{bit_of};
 ghost use Rattle.asn_rules.specs.Fields.{Octet};
 ghost use Rattle.asn_rules.specs.Languages.{Spells, Row};
 ghost use Rattle.asn_rules.specs.Stops.{Stops};
@@ -11,7 +12,6 @@ ghost use Rattle.asn_per.specs.Kinds.{Bit, Character};
 ghost use Rattle.asn_per.specs.Reading.{Admits, Appends, code_width, codes_of, character_at};
 
 use crate::number_reader::{Numbers, admits, bits_left, number};
-use crate::value_reader::bit_at;
 use asn_bits::BitCursor;
 use asn_rules::{Stop, Why};
 use asn_values::TextKind;
@@ -208,4 +208,12 @@ fn character_of(kind: TextKind, code: u64) -> u8
             }
         }
     }
+}
+
+/// The bit of the number above `below` lower ones.
+fn bit_at(word: u64, below: u32) -> bool
+    requires { below < 64 }
+    ensures { bit_of result ≡ word / 2 ^ below % 2 }
+{
+    (word >> below) & 1 == 1
 }

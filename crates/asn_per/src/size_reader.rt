@@ -5,7 +5,9 @@ ghost use Rattle.asn_values.specs.View.{size_range_of};
 ghost use Rattle.asn_rules.specs.Languages.{Spells};
 ghost use Rattle.asn_rules.specs.Stops.{Stops};
 ghost use Rattle.asn_per.specs.Per.{per_fields};
-ghost use Rattle.asn_per.specs.ListsAhead.{IsSizeOfProfile, items, RootStart, Start, Next, StopsNext, lengths, other_counts};
+ghost use Rattle.asn_walk.specs.Ahead.{items, Next, StopsNext, lengths};
+ghost use Rattle.asn_walk.specs.Laws.{IsSizeOfProfile};
+ghost use Rattle.asn_per.specs.ListsAhead.{RootStart, Start, other_counts};
 ghost use Rattle.asn_per.specs.RowsAhead.{ahead_of, lengths_of, IsBetween};
 
 use crate::length_reader::next_length;
@@ -20,7 +22,7 @@ const MOST: u32 = 268_435_455;
 
 /// What is ahead of the reader of a list.
 #[derive(Drop)]
-pub(crate) enum Rows {
+pub enum Rows {
     /// So many items, and then nothing.
     Items(usize),
     /// A length, and the items that it counts.
@@ -52,8 +54,8 @@ impl Rows {
     pub(crate) fn next(&mut self, bits: &mut BitCursor<'_>) -> Result<Option<usize>, Stop>
         requires between { IsBetween self.old }
         ensures between { IfOk result (λ row. IsBetween self.new) }
-        ensures done { IfOk result (λ row. Next (ahead_of self.old) row (ahead_of self.new) bits.old bits.new) }
-        ensures stop { IfErr result (λ why. StopsNext (ahead_of self.old) bits.old why) }
+        ensures done { IfOk result (λ row. Next per_fields (ahead_of self.old) row (ahead_of self.new) bits.old bits.new) }
+        ensures stop { IfErr result (λ why. StopsNext per_fields (ahead_of self.old) bits.old why) }
     {
         match self {
             Rows::End => Ok(None),

@@ -7,7 +7,7 @@ ghost use Rattle.asn_rules.specs.Languages.{Spells, Sealed};
 ghost use Rattle.asn_rules.specs.Stops.{Stops};
 ghost use Rattle.asn_per.specs.Per.{per_fields};
 ghost use Rattle.asn_per.specs.Kinds.{Bit, Character, Sized, IsUtf8Content};
-ghost use Rattle.asn_per.specs.ListsAhead.{IsSizeOfProfile};
+ghost use Rattle.asn_walk.specs.Laws.{IsSizeOfProfile};
 
 use crate::number_reader::bits_left;
 use crate::row_reader::{append_bits, append_characters, append_octets};

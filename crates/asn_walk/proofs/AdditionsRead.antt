@@ -13,14 +13,15 @@ use Rattle.asn_bits.proofs.Octets.{length-digits}
 use Rattle.asn_bits.proofs.Widths.{lt-two_pow}
 use Rattle.asn_rules.specs.Chunks.{Chunk}
 use Rattle.asn_rules.specs.General.{behind_first}
+use Rattle.asn_rules.specs.Live.{Fielding}
 use Rattle.asn_rules.specs.Languages.{Spells, Inhabited, Then, Map, prepended}
-use Rattle.asn_rules.proofs.Leads.{LeadsStops, Leads, leads_on, leads_map, leads_second, stops_first, stops_on}
+use Rattle.asn_rules.proofs.Leads.{LeadsStops, Leads, leads_here, leads_on, leads_map, leads_second, stops_first, stops_on}
 use Rattle.asn_rules.proofs.ListedReading.{leads_entry, nothing_read}
-use Rattle.asn_rules.proofs.Parts.{map_inhabited, map_lawful, map_spells, nothing_inhabited}
+use Rattle.asn_rules.proofs.Parts.{map_inhabited, map_lawful, map_source, map_spells, nothing_inhabited}
 use Rattle.asn_rules.proofs.Then.{Follows, then_inhabited}
 use Rattle.asn_walk.specs.Coding.{Coding, AdditionBitmapOf, OpenOf, OpenListed, AdditionsOf}
 use Rattle.asn_walk.specs.Laws.{Laws}
-use Rattle.asn_walk.specs.Reading.{After}
+use Rattle.asn_walk.specs.Reading.{After, fields_seen}
 use Rattle.asn_walk.proofs.Parts.{fields_part_of, open_lawful, open_inhabited, count_of_fields}
 
 -- ---- the additions under their presence bits
@@ -60,36 +61,39 @@ module _ (c : Coding) (laws : Laws c) (fs : Fields) (good : AreOfProfile fs) whe
 
 -- ---- where the reader stands
 
--- the entries of the additions that have come, behind those of the root, and what is read of those that are left
-pub record AddedUpTo (c : Coding) (before : List (Option Datum)) (all : Fields) (us : List ℕ) (rest : List Part) (left bitmap : ℕ) (entries : List (Option Datum)) (vs : List ℕ) : Type 0 where
+-- the entries that were there before, those that were read of all additions, and what is read of the other additions
+pub record AddedUpTo (c : Coding) (before : List (Option Datum)) (all : Fields) (us : List ℕ) (count bitmap : ℕ) (rest : List Part) (left : ℕ) (entries : List (Option Datum)) (vs : List ℕ) : Type 0 where
   pub of_profile : AreOfProfile (fields_of rest)
   pub width : left ≡ length rest
   pub few : left ≤ 64
-  pub come : List (Option Datum)
-  pub behind : entries ≡ before ++ come
-  pub leads : Leads c.ruling.fielding (OpenListed c (fields_of rest) (bits left bitmap)) vs (λ es. come ++ es) (AdditionsOf c all) us
+  pub read : List (Option Datum)
+  pub after : entries ≡ before ++ read
+  pub leads : Leads c.ruling.fielding (OpenListed c (fields_of rest) (bits left bitmap)) vs (λ es. read ++ es) (OpenListed c all (bits count bitmap)) us
 
-module _ (c : Coding) (laws : Laws c) (fields : List Field) (few : length fields ≤ 64) (good : AreOfProfile (fields_of (map part_of_field fields))) where
-  abbrev fs : Fields
-  fs = fields_of (map part_of_field fields)
+-- none was read
+pub added_starts : (c : Coding) (before : List (Option Datum)) (fields : List Field) (count bitmap : ℕ) (us : List ℕ) → AreOfProfile (fields_seen fields) → count ≡ length fields → count ≤ 64
+    → AddedUpTo c before (fields_seen fields) us count bitmap (map part_of_field fields) count before us
+added_starts c before fields count bitmap us good e few = record {
+  of_profile = good;
+  width = e ∙ sym (length-map fields part_of_field);
+  few = few;
+  read = [];
+  after = sym (append-nil before);
+  leads = leads_here c.ruling.fielding (OpenListed c (fields_seen fields) (bits count bitmap)) us;
+}
 
-  each : length fields ≡ length (demands fs)
+module _ (c : Coding) (laws : Laws c) (fields : List Field) (good : AreOfProfile (fields_seen fields)) where
+  each : length fields ≡ length (demands (fields_seen fields))
   each = sym (count_of_fields fields)
 
-  -- within the presence bits
-  pub presence_stops_at : (us : List ℕ) → LeadsStops c.ruling.fielding (AdditionBitmapOf c (length fields)) us (AdditionsOf c fs) us
-  presence_stops_at us = rw each (bitmap_stops c laws fs good us)
+  -- within the presence bitmap
+  pub presence_stops_at : (us : List ℕ) → LeadsStops c.ruling.fielding (AdditionBitmapOf c (length fields)) us (AdditionsOf c (fields_seen fields)) us
+  presence_stops_at us = rw each (bitmap_stops c laws (fields_seen fields) good us)
 
-  -- behind them stand the open fields
-  pub added_starts : (before : List (Option Datum)) (b : ℕ) (us vs : List ℕ) → Spells c.ruling.fielding (AdditionBitmapOf c (length fields)) b us vs → AddedUpTo c before fs us (map part_of_field fields) (length fields) b before vs
-  added_starts before b us vs g = record {
-    of_profile = good;
-    width = sym (length-map fields part_of_field);
-    few = few;
-    come = [];
-    behind = sym (append-nil before);
-    leads = rw each (bitmap_leads c laws fs good b us vs (rw each at g));
-  }
+  -- after it stand the open fields
+  pub open_fields_lead : (b : ℕ) (us vs : List ℕ) → Spells c.ruling.fielding (AdditionBitmapOf c (length fields)) b us vs
+      → Leads c.ruling.fielding (OpenListed c (fields_seen fields) (bits (length fields) b)) vs (λ es. es) (AdditionsOf c (fields_seen fields)) us
+  open_fields_lead b us vs g = rw each (bitmap_leads c laws (fields_seen fields) good b us vs (rw each at g))
 
 -- the bits that are left begin with that of the next addition
 next_bit : (left after bitmap bit : ℕ) → after + 1 ≡ left → bit ≡ bitmap / 2 ^ after % 2 → bits left bitmap ≡ bit ∷ bits after bitmap
@@ -100,7 +104,7 @@ next_bit left after bitmap bit d b =
 some_same : (v w : Datum) → Some v ≡ Some w → v ≡ w
 some_same v w e = cc
 
-module _ (c : Coding) (laws : Laws c) {before : List (Option Datum)} {all : Fields} {us : List ℕ} {p : Part} {rest : List Part} {left bitmap : ℕ} {entries : List (Option Datum)} {vs : List ℕ} (h : AddedUpTo c before all us (p ∷ rest) left bitmap entries vs) where
+module _ (c : Coding) (laws : Laws c) {before : List (Option Datum)} {all : Fields} {us : List ℕ} {count bitmap : ℕ} {p : Part} {rest : List Part} {left : ℕ} {entries : List (Option Datum)} {vs : List ℕ} (h : AddedUpTo c before all us count bitmap (p ∷ rest) left entries vs) where
   -- a presence bit is left for it
   pub addition_bit : 0 < left
   addition_bit = omega (arith, h.width)
@@ -118,49 +122,61 @@ module _ (c : Coding) (laws : Laws c) {before : List (Option Datum)} {all : Fiel
     rest_inhabited = open_listed_inhabited c laws (fields_of rest) (bits after bitmap) h.of_profile.2 (length-digits 2 after bitmap ∙ others ∙ sym (length-demands rest))
 
     module _ (b : 1 ≡ bitmap / 2 ^ after % 2) where
-      present_leads : Leads c.ruling.fielding (Present c p.shape (OpenListed c (fields_of rest) (bits after bitmap))) vs (λ es. h.come ++ es) (AdditionsOf c all) us
+      present_leads : Leads c.ruling.fielding (Present c p.shape (OpenListed c (fields_of rest) (bits after bitmap))) vs (λ es. h.read ++ es) (OpenListed c all (bits count bitmap)) us
       present_leads = let f = next_bit left after bitmap 1 d b in rw f at h.leads
 
       -- within its open field
-      pub addition_stops : LeadsStops c.ruling.fielding (OpenOf c p.shape) vs (AdditionsOf c all) us
+      pub addition_stops : LeadsStops c.ruling.fielding (OpenOf c p.shape) vs (OpenListed c all (bits count bitmap)) us
       addition_stops =
           stops_on (leads_map c.ruling.fielding Some (OpenOf c p.shape) vs).stops
           (stops_on (stops_first c.ruling.fielding vs (record { follow = λ v cs g. rest_inhabited }))
           (stops_on (leads_map c.ruling.fielding prepended (Then (Map Some (OpenOf c p.shape)) (λ _. OpenListed c (fields_of rest) (bits after bitmap))) vs).stops present_leads.stops))
 
       -- and behind it
-      pub addition_present : (v : Datum) (r : List ℕ) → Spells c.ruling.fielding (OpenOf c p.shape) v vs r → AddedUpTo c before all us rest after bitmap (entries ++ Some v ∷ []) r
+      pub addition_present : (v : Datum) (r : List ℕ) → Spells c.ruling.fielding (OpenOf c p.shape) v vs r → AddedUpTo c before all us count bitmap rest after (entries ++ Some v ∷ []) r
       addition_present v r g = record {
         of_profile = h.of_profile.2;
         width = others;
         few = omega (arith, d, h.few);
-        come = h.come ++ Some v ∷ [];
-        behind = ap (λ (es : List (Option Datum)). es ++ Some v ∷ []) h.behind ∙ append_assoc before h.come (Some v ∷ []);
+        read = h.read ++ Some v ∷ [];
+        after = ap (λ (es : List (Option Datum)). es ++ Some v ∷ []) h.after ∙ append_assoc before h.read (Some v ∷ []);
         leads =
-            leads_entry h.come (Some v)
+            leads_entry h.read (Some v)
             (leads_on (leads_second {M = λ _. OpenListed c (fields_of rest) (bits after bitmap)} (fields_part_of c laws) (map_lawful some_same (open_lawful c laws p.shape h.of_profile.0)) (map_spells {f = Some} g))
             (leads_map c.ruling.fielding prepended (Then (Map Some (OpenOf c p.shape)) (λ _. OpenListed c (fields_of rest) (bits after bitmap))) vs))
             present_leads;
       }
 
     -- it is absent
-    pub addition_absent : 0 ≡ bitmap / 2 ^ after % 2 → AddedUpTo c before all us rest after bitmap (entries ++ None ∷ []) vs
+    pub addition_absent : 0 ≡ bitmap / 2 ^ after % 2 → AddedUpTo c before all us count bitmap rest after (entries ++ None ∷ []) vs
     addition_absent b =
         let f = next_bit left after bitmap 0 d b in
-        let l : Leads c.ruling.fielding (Map (λ es. None ∷ es) (OpenListed c (fields_of rest) (bits after bitmap))) vs (λ es. h.come ++ es) (AdditionsOf c all) us = rw f at h.leads in
+        let l : Leads c.ruling.fielding (Map (λ es. None ∷ es) (OpenListed c (fields_of rest) (bits after bitmap))) vs (λ es. h.read ++ es) (OpenListed c all (bits count bitmap)) us = rw f at h.leads in
         record {
           of_profile = h.of_profile.2;
           width = others;
           few = omega (arith, d, h.few);
-          come = h.come ++ None ∷ [];
-          behind = ap (λ (es : List (Option Datum)). es ++ None ∷ []) h.behind ∙ append_assoc before h.come (None ∷ []);
-          leads = leads_entry h.come None (leads_map c.ruling.fielding (λ es. None ∷ es) (OpenListed c (fields_of rest) (bits after bitmap)) vs) l;
+          read = h.read ++ None ∷ [];
+          after = ap (λ (es : List (Option Datum)). es ++ None ∷ []) h.after ∙ append_assoc before h.read (None ∷ []);
+          leads = leads_entry h.read None (leads_map c.ruling.fielding (λ es. None ∷ es) (OpenListed c (fields_of rest) (bits after bitmap)) vs) l;
         }
 
--- no addition is left: all entries have come
-pub added_ends : (c : Coding) {before : List (Option Datum)} {all : Fields} {us : List ℕ} {rest : List Part} {left bitmap : ℕ} {entries : List (Option Datum)} {vs : List ℕ}
-    → AddedUpTo c before all us rest left bitmap entries vs → rest ≡ [] → Spells c.ruling.fielding (After before (AdditionsOf c all)) entries us vs
-added_ends c {before} {all} {us} {rest} {left} {bitmap} {entries} {vs} h e =
-    let l : Leads c.ruling.fielding (OpenListed c no_fields (bits left bitmap)) vs (λ es. h.come ++ es) (AdditionsOf c all) us = rw e at h.leads in
-    let come : Spells c.ruling.fielding (AdditionsOf c all) h.come us vs = subst (λ (es : List (Option Datum)). Spells c.ruling.fielding (AdditionsOf c all) es us vs) (append-nil h.come) (l.done [] vs (nothing_read c.ruling.fielding [] vs)) in
-    rw h.behind (map_spells {f = λ es. before ++ es} come)
+-- no addition is left: all entries are read
+pub added_ends : (c : Coding) {before : List (Option Datum)} {all : Fields} {us : List ℕ} {count bitmap : ℕ} {rest : List Part} {left : ℕ} {entries : List (Option Datum)} {vs : List ℕ}
+    → AddedUpTo c before all us count bitmap rest left entries vs → rest ≡ [] → Spells c.ruling.fielding (After before (OpenListed c all (bits count bitmap))) entries us vs
+added_ends c {before} {all} {us} {count} {bitmap} {rest} {left} {entries} {vs} h e =
+    let l : Leads c.ruling.fielding (OpenListed c no_fields (bits left bitmap)) vs (λ es. h.read ++ es) (OpenListed c all (bits count bitmap)) us = rw e at h.leads in
+    let read : Spells c.ruling.fielding (OpenListed c all (bits count bitmap)) h.read us vs = subst (λ (es : List (Option Datum)). Spells c.ruling.fielding (OpenListed c all (bits count bitmap)) es us vs) (append-nil h.read) (l.done [] vs (nothing_read c.ruling.fielding [] vs)) in
+    rw h.after (map_spells {f = λ es. before ++ es} read)
+
+-- what was read after others, under a language that leads to another
+pub after_leads : {A : Type 0} {R : Fielding} {L M : List A → List Chunk → Type 0} (before : List A) {es : List A} {us vs r : List ℕ} → Leads R L vs (λ ws. ws) M us → Spells R (After before L) es vs r → Spells R (After before M) es us r
+after_leads before {r = r} l h =
+    let w = map_source h in
+    rw w.2 (map_spells {f = λ ws. before ++ ws} (l.done w.0 r w.1))
+
+-- after nothing
+pub after_nothing : {A : Type 0} {R : Fielding} {L : List A → List Chunk → Type 0} {es : List A} {us r : List ℕ} → Spells R (After [] L) es us r → Spells R L es us r
+after_nothing h =
+    let w = map_source h in
+    rw w.2 w.1

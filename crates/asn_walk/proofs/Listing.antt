@@ -15,18 +15,19 @@ use Rattle.asn_rules.specs.General.{Length, fragment, behind_first, Few, Many, L
 use Rattle.asn_rules.specs.Stops.{Stops}
 use Rattle.asn_rules.specs.declared.stop.Stop.{Stop}
 use Rattle.asn_rules.proofs.Chunks.{FieldsPart}
-use Rattle.asn_rules.proofs.Leads.{LeadsStops, Leads, leads_on, leads_map, leads_second, leads_same, stops_on, stops_first, stops_by}
+use Rattle.asn_rules.proofs.Leads.{LeadsStops, Leads, leads_here, leads_on, leads_map, leads_second, leads_same, stops_on, stops_first, stops_by}
 use Rattle.asn_rules.proofs.Exits.{leads_last, leads_rest, stops_length, stops_fragment, stops_next}
 use Rattle.asn_rules.proofs.Forks.{same_flip}
 use Rattle.asn_rules.proofs.General.{general_inhabited}
 use Rattle.asn_rules.proofs.Headers.{header_tells}
-use Rattle.asn_rules.proofs.Parts.{nothing_inhabited, nothing_spells}
+use Rattle.asn_rules.proofs.Parts.{map_source, map_spells, nothing_inhabited, nothing_spells}
 use Rattle.asn_rules.proofs.Ranges.{general_left}
 use Rattle.asn_rules.proofs.Rows.{row_inhabited, row_starts, row_spells, row_one}
 use Rattle.asn_rules.proofs.Then.{Follows}
 use Rattle.asn_walk.specs.Ahead.{Ahead, items, lengths, end, Remaining, SomeAhead, Advances, Next, StopsNext}
 use Rattle.asn_walk.specs.Coding.{Coding, ListingOf, ListsOf}
 use Rattle.asn_walk.specs.Laws.{Laws, IsSizeOfProfile}
+use Rattle.asn_walk.specs.Reading.{After}
 use Rattle.asn_walk.proofs.Parts.{fields_part_of}
 
 -- ---- items one after the other
@@ -54,7 +55,7 @@ pub appends_one : {A : Type 0} {R : Fielding} {L : A → List Chunk → Type 0} 
 appends_one {a = a} e h = record { row = a ∷ []; same = e; spelt = row_one h }
 
 -- behind i items the next one stops
-appends_stops_next : {A : Type 0} {R : Fielding} {L : A → List Chunk → Type 0} (i m k : ℕ) {old mid : List A} {us r : List ℕ} → FieldsPart R → Lawful L → Inhabited L → i + (m + 1) ≡ k → Appends R L i old mid us r → LeadsStops R L r (Row L k) us
+pub appends_stops_next : {A : Type 0} {R : Fielding} {L : A → List Chunk → Type 0} (i m k : ℕ) {old mid : List A} {us r : List ℕ} → FieldsPart R → Lawful L → Inhabited L → i + (m + 1) ≡ k → Appends R L i old mid us r → LeadsStops R L r (Row L k) us
 appends_stops_next {L = L} i m k part law some e f = stops_next L i m k part law some (omega (arith, e)) f.spelt
 
 -- ---- what stands in front of the items
@@ -71,41 +72,49 @@ front_follows c laws L s good i = record { follow = λ a x h. ahead_inhabited L 
 
 -- ---- where a reader of a list stands
 
--- behind the items vs: a list of what is ahead, put behind them, is the whole list
-pub record Going {A : Type 0} (c : Coding) (L : A → List Chunk → Type 0) (s : SizeRange) (us : List ℕ) (ahead : Ahead) (vs : List A) (rest : List ℕ) : Type 0 where
-  pub leads : Leads c.ruling.fielding (Remaining L ahead) rest (λ ws. vs ++ ws) (ListingOf c s L) us
-
--- in front of the items
+-- within what stands before the items
 pub start_stops : {A : Type 0} (c : Coding) (laws : Laws c) (L : A → List Chunk → Type 0) (s : SizeRange) (us : List ℕ) → IsSizeOfProfile s → Inhabited L → LeadsStops c.ruling.fielding (c.list_start s) us (ListingOf c s L) us
 start_stops c laws L s us good i = stops_on (stops_first c.ruling.fielding us (front_follows c laws L s good i)) (leads_map c.ruling.fielding behind_first (Then (c.list_start s) (λ a. Remaining L a)) us).stops
 
--- behind what stands there
-pub going_starts : {A : Type 0} (c : Coding) (laws : Laws c) (L : A → List Chunk → Type 0) (s : SizeRange) {ahead : Ahead} {us rest : List ℕ} → IsSizeOfProfile s → Spells c.ruling.fielding (c.list_start s) ahead us rest → Going c L s us ahead [] rest
-going_starts {A} c laws L s {ahead} {us} good h = record {
-  leads =
-      leads_on (leads_second {M = λ a. Remaining L a} (fields_part_of c laws) (laws.list_start s good) h) (leads_map c.ruling.fielding behind_first (Then (c.list_start s) (λ a. Remaining L a)) us);
-}
+-- after it
+pub start_leads : {A : Type 0} (c : Coding) (laws : Laws c) (L : A → List Chunk → Type 0) (s : SizeRange) {ahead : Ahead} {us rest : List ℕ} → IsSizeOfProfile s → Spells c.ruling.fielding (c.list_start s) ahead us rest → Leads c.ruling.fielding (Remaining L ahead) rest (λ ws. ws) (ListingOf c s L) us
+start_leads {A} c laws L s {ahead} {us} good h =
+    leads_on (leads_second {M = λ a. Remaining L a} (fields_part_of c laws) (laws.list_start s good) h) (leads_map c.ruling.fielding behind_first (Then (c.list_start s) (λ a. Remaining L a)) us)
+
+-- after the items vs: a list of what is ahead, put after them, is the whole list
+pub record Going {A : Type 0} (c : Coding) (L : A → List Chunk → Type 0) (T : List A → List Chunk → Type 0) (us : List ℕ) (ahead : Ahead) (vs : List A) (rest : List ℕ) : Type 0 where
+  pub leads : Leads c.ruling.fielding (Remaining L ahead) rest (λ ws. vs ++ ws) T us
+
+-- the elements that were there before, those that were read, and what is ahead
+pub record FragmentsUpTo {A : Type 0} (c : Coding) (L : A → List Chunk → Type 0) (T : List A → List Chunk → Type 0) (us : List ℕ) (before : List A) (ahead : Ahead) (elements : List A) (rest : List ℕ) : Type 0 where
+  pub read : List A
+  pub after : elements ≡ before ++ read
+  pub going : Going c L T us ahead read rest
+
+-- none was read
+pub fragments_start : {A : Type 0} (c : Coding) (L : A → List Chunk → Type 0) (us : List ℕ) (before : List A) (ahead : Ahead) → FragmentsUpTo c L (Remaining L ahead) us before ahead before us
+fragments_start c L us before ahead = record { read = []; after = sym (append-nil before); going = record { leads = leads_here c.ruling.fielding (Remaining L ahead) us } }
 
 -- the reader of a length stops
-pub going_stops : {A : Type 0} {c : Coding} {L : A → List Chunk → Type 0} {s : SizeRange} {us rest : List ℕ} {ahead : Ahead} {vs : List A} (why : Stop) → Inhabited L → StopsNext c.ruling.fielding ahead rest why → Going c L s us ahead vs rest → Stops c.ruling.fielding (ListingOf c s L) us why
-going_stops {A} {c} {L} {s} {us} {rest} {ahead} {vs} why i h g =
-    let l : Leads c.ruling.fielding (General L (At (Spanned h.counts) h.come h.closed)) rest (λ ws. vs ++ ws) (ListingOf c s L) us = subst (λ a. Leads c.ruling.fielding (Remaining L a) rest (λ ws. vs ++ ws) (ListingOf c s L) us) h.was g.leads in
+pub going_stops : {A : Type 0} {c : Coding} {L : A → List Chunk → Type 0} {T : List A → List Chunk → Type 0} {us rest : List ℕ} {ahead : Ahead} {vs : List A} (why : Stop) → Inhabited L → StopsNext c.ruling.fielding ahead rest why → Going c L T us ahead vs rest → Stops c.ruling.fielding T us why
+going_stops {A} {c} {L} {T} {us} {rest} {ahead} {vs} why i h g =
+    let l : Leads c.ruling.fielding (General L (At (Spanned h.counts) h.come h.closed)) rest (λ ws. vs ++ ws) T us = subst (λ a. Leads c.ruling.fielding (Remaining L a) rest (λ ws. vs ++ ws) T us) h.was g.leads in
     stops_by why (stops_on (stops_length rest i) l.stops) h.stops
 
 -- nothing is ahead
-pub going_ends : {A : Type 0} {c : Coding} {L : A → List Chunk → Type 0} {s : SizeRange} {us rest r : List ℕ} {ahead new : Ahead} {vs : List A} → Next c.ruling.fielding ahead None new rest r → Going c L s us ahead vs rest → Spells c.ruling.fielding (ListingOf c s L) vs us r
-going_ends {A} {c} {L} {s} {us} {rest} {r} {ahead} {new} {vs} h g = go ahead h.advances g.leads
+pub going_ends : {A : Type 0} {c : Coding} {L : A → List Chunk → Type 0} {T : List A → List Chunk → Type 0} {us rest r : List ℕ} {ahead new : Ahead} {vs : List A} → Next c.ruling.fielding ahead None new rest r → Going c L T us ahead vs rest → Spells c.ruling.fielding T vs us r
+going_ends {A} {c} {L} {T} {us} {rest} {r} {ahead} {new} {vs} h g = go ahead h.advances g.leads
   where
-    go : (a : Ahead) → Advances c.ruling.fielding a None new rest r → Leads c.ruling.fielding (Remaining L a) rest (λ ws. vs ++ ws) (ListingOf c s L) us → Spells c.ruling.fielding (ListingOf c s L) vs us r
-    go end e l = rw e (subst (λ ws. Spells c.ruling.fielding (ListingOf c s L) ws us rest) (append-nil vs) (l.done [] rest (nothing_spells c.ruling.fielding [] rest)))
+    go : (a : Ahead) → Advances c.ruling.fielding a None new rest r → Leads c.ruling.fielding (Remaining L a) rest (λ ws. vs ++ ws) T us → Spells c.ruling.fielding T vs us r
+    go end e l = rw e (subst (λ ws. Spells c.ruling.fielding T ws us rest) (append-nil vs) (l.done [] rest (nothing_spells c.ruling.fielding [] rest)))
     go (items n) e l = absurd e
     go (lengths is come closed) e l = absurd e
 
 -- the items that follow stop
-pub going_row_stops : {A : Type 0} (c : Coding) (laws : Laws c) {L : A → List Chunk → Type 0} {s : SizeRange} {us rest r : List ℕ} {ahead new : Ahead} {vs : List A} {k : ℕ} → Inhabited L → Next c.ruling.fielding ahead (Some k) new rest r → Going c L s us ahead vs rest → LeadsStops c.ruling.fielding (Row L k) r (ListingOf c s L) us
-going_row_stops {A} c laws {L} {s} {us} {rest} {r} {ahead} {new} {vs} {k} i h g = go ahead h.advances g.leads
+pub going_row_stops : {A : Type 0} (c : Coding) (laws : Laws c) {L : A → List Chunk → Type 0} {T : List A → List Chunk → Type 0} {us rest r : List ℕ} {ahead new : Ahead} {vs : List A} {k : ℕ} → Inhabited L → Next c.ruling.fielding ahead (Some k) new rest r → Going c L T us ahead vs rest → LeadsStops c.ruling.fielding (Row L k) r T us
+going_row_stops {A} c laws {L} {T} {us} {rest} {r} {ahead} {new} {vs} {k} i h g = go ahead h.advances g.leads
   where
-    go : (a : Ahead) → Advances c.ruling.fielding a (Some k) new rest r → Leads c.ruling.fielding (Remaining L a) rest (λ ws. vs ++ ws) (ListingOf c s L) us → LeadsStops c.ruling.fielding (Row L k) r (ListingOf c s L) us
+    go : (a : Ahead) → Advances c.ruling.fielding a (Some k) new rest r → Leads c.ruling.fielding (Remaining L a) rest (λ ws. vs ++ ws) T us → LeadsStops c.ruling.fielding (Row L k) r T us
     go end e l = absurd e
     go (items n) e l = rw (e.0, e.2) l.stops
     go (lengths is come closed) e l = ⊎_elim
@@ -123,25 +132,25 @@ left_ahead c L is come k m true h e =
     absurd (omega (arith, b.some))
 
 -- they have come
-pub going_further : {A : Type 0} (c : Coding) (laws : Laws c) {L : A → List Chunk → Type 0} {s : SizeRange} {us rest r t : List ℕ} {ahead new : Ahead} {vs ws : List A} {k : ℕ} → Inhabited L → Lawful L → Next c.ruling.fielding ahead (Some k) new rest r → Appends c.ruling.fielding L k vs ws r t → Going c L s us ahead vs rest → Going c L s us new ws t
-going_further {A} c laws {L} {s} {us} {rest} {r} {t} {ahead} {new} {vs} {ws} {k} i law h f g = record { leads = go ahead h.advances g.leads }
+pub going_further : {A : Type 0} (c : Coding) (laws : Laws c) {L : A → List Chunk → Type 0} {T : List A → List Chunk → Type 0} {us rest r t : List ℕ} {ahead new : Ahead} {vs ws : List A} {k : ℕ} → Inhabited L → Lawful L → Next c.ruling.fielding ahead (Some k) new rest r → Appends c.ruling.fielding L k vs ws r t → Going c L T us ahead vs rest → Going c L T us new ws t
+going_further {A} c laws {L} {T} {us} {rest} {r} {t} {ahead} {new} {vs} {ws} {k} i law h f g = record { leads = go ahead h.advances g.leads }
   where
     behind : List A → List A
     behind xs = vs ++ (f.row ++ xs)
 
-    moved : (a : Ahead) → Leads c.ruling.fielding (Remaining L a) t (λ xs. vs ++ (f.row ++ xs)) (ListingOf c s L) us → Leads c.ruling.fielding (Remaining L a) t (λ xs. ws ++ xs) (ListingOf c s L) us
+    moved : (a : Ahead) → Leads c.ruling.fielding (Remaining L a) t (λ xs. vs ++ (f.row ++ xs)) T us → Leads c.ruling.fielding (Remaining L a) t (λ xs. ws ++ xs) T us
     moved a l = record { done = λ b q x. rw (f.same, append_assoc vs f.row b) (l.done b q x); stops = l.stops }
 
-    ended : Leads c.ruling.fielding (Row L k) r (λ xs. vs ++ xs) (ListingOf c s L) us → new ≡ end → Leads c.ruling.fielding (Remaining L new) t (λ xs. ws ++ xs) (ListingOf c s L) us
+    ended : Leads c.ruling.fielding (Row L k) r (λ xs. vs ++ xs) T us → new ≡ end → Leads c.ruling.fielding (Remaining L new) t (λ xs. ws ++ xs) T us
     ended l e = rw e (moved end (record { done = λ b q x. done b q x; stops = record { short = λ x. absurd (x.none [] t (nothing_spells c.ruling.fielding [] t)); refused = λ n x. absurd (x.none [] t (nothing_spells c.ruling.fielding [] t)) } }))
       where
-        done : (b : List A) (q : List ℕ) → Spells c.ruling.fielding (Nothing []) b t q → Spells c.ruling.fielding (ListingOf c s L) (vs ++ (f.row ++ b)) us q
+        done : (b : List A) (q : List ℕ) → Spells c.ruling.fielding (Nothing []) b t q → Spells c.ruling.fielding T (vs ++ (f.row ++ b)) us q
         done b q x =
             let same : t ≡ q = x.split ∙ ap (λ cs. flat c.ruling.fielding.spelled cs ++ q) x.spelt.empty in
             let none : f.row ++ b ≡ f.row = ap (λ cs. f.row ++ cs) x.spelt.same ∙ append-nil f.row in
             rw (← same, none) (l.done f.row t f.spelt)
 
-    go : (a : Ahead) → Advances c.ruling.fielding a (Some k) new rest r → Leads c.ruling.fielding (Remaining L a) rest (λ xs. vs ++ xs) (ListingOf c s L) us → Leads c.ruling.fielding (Remaining L new) t (λ xs. ws ++ xs) (ListingOf c s L) us
+    go : (a : Ahead) → Advances c.ruling.fielding a (Some k) new rest r → Leads c.ruling.fielding (Remaining L a) rest (λ xs. vs ++ xs) T us → Leads c.ruling.fielding (Remaining L new) t (λ xs. ws ++ xs) T us
     go end e l = absurd e
     go (items n) e l = ended (rw (e.0, e.2) l) e.1
     go (lengths is come closed) e l = ⊎_elim
@@ -189,10 +198,35 @@ going_nearer {R = R} {rest = rest} {r} {t} {ahead} {new} {k = k} h f = go ahead 
 -- ---- the elements
 
 -- behind i elements of a row the next one stops
-pub going_next_stops : {A : Type 0} (c : Coding) (laws : Laws c) {L : A → List Chunk → Type 0} {s : SizeRange} {ahead new : Ahead} {us rest r q : List ℕ} {vs ws : List A} (i count : ℕ) → Inhabited L → Lawful L → i + 1 ≤ count → Next c.ruling.fielding ahead (Some count) new rest r
-    → Appends c.ruling.fielding L i vs ws r q → Going c L s us ahead vs rest → LeadsStops c.ruling.fielding L q (ListingOf c s L) us
+pub going_next_stops : {A : Type 0} (c : Coding) (laws : Laws c) {L : A → List Chunk → Type 0} {T : List A → List Chunk → Type 0} {ahead new : Ahead} {us rest r q : List ℕ} {vs ws : List A} (i count : ℕ) → Inhabited L → Lawful L → i + 1 ≤ count → Next c.ruling.fielding ahead (Some count) new rest r
+    → Appends c.ruling.fielding L i vs ws r q → Going c L T us ahead vs rest → LeadsStops c.ruling.fielding L q T us
 going_next_stops c laws i count some law l next come going =
     stops_on (appends_stops_next i (count - (i + 1)) count (fields_part_of c laws) law some (omega (arith, l)) come) (going_row_stops c laws some next going)
+
+-- the elements of the fragment have come
+pub fragments_further : {A : Type 0} (c : Coding) (laws : Laws c) {L : A → List Chunk → Type 0} {T : List A → List Chunk → Type 0} {us rest r t : List ℕ} {before : List A} {ahead new : Ahead} {vs ws : List A} {k : ℕ} → Inhabited L → Lawful L → Next c.ruling.fielding ahead (Some k) new rest r → Spells c.ruling.fielding (After vs (Row L k)) ws r t
+    → FragmentsUpTo c L T us before ahead vs rest → FragmentsUpTo c L T us before new ws t
+fragments_further c laws {L} {before = before} {vs = vs} {ws} i law next h f =
+    let w = map_source h in
+    record {
+      read = f.read ++ w.0;
+      after = w.2 ∙ ap (λ l. l ++ w.0) f.after ∙ append_assoc before f.read w.0;
+      going = going_further c laws i law next (record { row = w.0; same = refl; spelt = w.1 }) f.going;
+    }
+
+-- nothing is ahead
+pub fragments_end : {A : Type 0} {c : Coding} {L : A → List Chunk → Type 0} {T : List A → List Chunk → Type 0} {us rest r : List ℕ} {before : List A} {ahead new : Ahead} {vs : List A} → Next c.ruling.fielding ahead None new rest r → FragmentsUpTo c L T us before ahead vs rest → Spells c.ruling.fielding (After before T) vs us r
+fragments_end {before = before} next f = rw f.after (map_spells {f = λ es. before ++ es} (going_ends next f.going))
+
+-- all elements have come
+pub appends_end : {A : Type 0} {R : Fielding} {L : A → List Chunk → Type 0} {n : ℕ} {old new : List A} {us r : List ℕ} → Appends R L n old new us r → Spells R (After old (Row L n)) new us r
+appends_end {old = old} h = rw h.same (map_spells {f = λ es. old ++ es} h.spelt)
+
+-- they have come as a row after others
+pub row_appends : {A : Type 0} {R : Fielding} {L : A → List Chunk → Type 0} {n : ℕ} {old new : List A} {us r : List ℕ} → Spells R (After old (Row L n)) new us r → Appends R L n old new us r
+row_appends h =
+    let w = map_source h in
+    record { row = w.0; same = w.2; spelt = w.1 }
 
 -- ---- the type
 

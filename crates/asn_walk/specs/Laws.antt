@@ -1,5 +1,5 @@
 -- The laws that the parts keep: from them follow the readers of all composite kinds.
-use Rattle.std.specs.Prelude.{◌≡◌, ◌≤◌, ◌<◌, ◌%◌, ℕ, true, false, List, length, Option, Some, None}
+use Rattle.std.specs.Prelude.{◌≡◌, ◌≤◌, ◌<◌, ◌*◌, ℕ, true, false, List, length, Option, Some, None}
 use Rattle.asn_values.specs.Datum.{Datum}
 use Rattle.asn_values.specs.Shape.{SizeRange, Shape, boolean, null, integer, enumerated, bit_string, octet_string, restricted, utf8_string, sequence, sequence_of, choice, Fields, MoreFields, Alternatives, MoreAlternatives}
 use Rattle.asn_values.specs.Profile.{InProfile, size_above, large_size, is_every_length}
@@ -34,7 +34,10 @@ pub record Laws (c : Coding) : Type 0 where
   pub part : SpellingsPart c.code
   -- octets under a cursor are the units of the rules
   pub over : (o : List ℕ) → AreOctets o → c.to_units (unpacked o) ≡ c.ruling.units o
-  pub octets : (o : List ℕ) → length (c.ruling.units o) % c.octet_units ≡ 0
+  -- an octet has one to eight units
+  pub count : (o : List ℕ) → length (c.ruling.units o) ≡ c.octet_units * length o
+  pub some : 1 ≤ c.octet_units
+  pub few : c.octet_units ≤ 8
   pub begin : (o : List ℕ) → AreOctets o → c.at_unit (unpacked o)
   -- the parts tell their values
   pub preamble : (n : ℕ) (more : Option ℕ) → Lawful (PreambleOf c n more)

@@ -1,15 +1,15 @@
 -- What the readers of the walk read, and where they stop.
-use Rattle.std.specs.Prelude.{◌≡◌, ◌++◌, ℕ, List, Option, Some, None, ⊥, map}
+use Rattle.std.specs.Prelude.{◌++◌, ℕ, Bool, List, Option, Some, None, map}
 use Rattle.std.specs.Option.{option_map}
 use Rattle.asn_values.specs.declared.types.Alt.{Alt}
 use Rattle.asn_values.specs.declared.types.Field.{Field}
 use Rattle.asn_values.specs.declared.value.Value.{Value}
 use Rattle.asn_values.specs.Datum.{Datum}
 use Rattle.asn_values.specs.Shape.{Shape, Fields, Alternatives}
-use Rattle.asn_values.specs.View.{datum_of, fields_of, part_of_field, alternatives_of, branch_of}
+use Rattle.asn_values.specs.View.{Part, datum_of, fields_of, part_of_field, alternatives_of, branch_of}
 use Rattle.asn_rules.specs.Chunks.{Chunk}
-use Rattle.asn_rules.specs.Languages.{Spells, Map, Row}
-use Rattle.asn_rules.specs.Listed.{Spelt}
+use Rattle.asn_rules.specs.Languages.{Spells, Map}
+use Rattle.asn_rules.specs.Listed.{Spelt, Entry}
 use Rattle.asn_rules.specs.Reading.{Wholes}
 use Rattle.asn_rules.specs.Stops.{Stops}
 use Rattle.asn_rules.specs.declared.stop.Stop.{Stop}
@@ -52,6 +52,10 @@ OthersOf c default t = Spelt c.code (Some default) t
 -- its complete encodings
 abbrev pub CompleteOf : Coding → Shape → Datum → List Chunk → Type 0
 CompleteOf c t = Wholes c.ruling t
+
+-- the entry of a component, of which it is known whether it is present
+abbrev pub EntryOf : Coding → Part → Bool → Option Datum → List Chunk → Type 0
+EntryOf c p present = Entry c.code p.demand p.shape present
 
 -- further values, after those that were read before
 abbrev pub After : {A : Type 0} → List A → (List A → List Chunk → Type 0) → List A → List Chunk → Type 0

@@ -4,14 +4,12 @@ ghost use Rattle.asn_values.specs.View.{shape_of, datum_of};
 ghost use Rattle.asn_rules.specs.Answer.{IsEncoding, max_octets};
 ghost use Rattle.asn_rules.specs.Codec.{NotEncoded};
 
+use crate::limits::MAX_OCTETS;
 use crate::write_leaves::WriteLeaves;
 use crate::writer::write_complete;
 use asn_rules::EncodeFault;
 use asn_values::{Checked, Value, fits};
 use std::alloc::Global;
-
-/// The most octets of a message.
-const MAX_OCTETS: usize = 268_435_455;
 
 /// The complete encoding of a value of the type.
 ///
@@ -26,6 +24,7 @@ pub fn encode<R: WriteLeaves>(
     ensures within { IfOk result (λ o. vec_len o ≤ max_octets) }
     ensures fault { IfErr result (λ why. NotEncoded R.rules.ruling why (shape_of ty.now) (datum_of value.now)) }
 {
+    R::keep_write_laws();
     let octets = match write_complete::<R>(alloc, ty.get(), value) {
         Ok(octets) => octets,
         // a growth may be refused before the whole value was seen

@@ -1,5 +1,5 @@
 //! What a set of encoding rules gives to a reader: the parts of types and values that it spells by itself.
-ghost use Rattle.std.specs.Prelude.{◌≡◌, ◌≤◌, ◌<◌, ◌-◌, ◌%◌, true, Some, IfOk, IfErr, OnOk, IfSome, IsNone, length};
+ghost use Rattle.std.specs.Prelude.{◌≡◌, ◌≤◌, ◌<◌, ◌-◌, ◌/◌, ◌%◌, true, Some, IfOk, IfErr, OnOk, IfSome, IsNone, length};
 ghost use Rattle.asn_values.specs.Datum.{number};
 ghost use Rattle.asn_values.specs.Profile.{InProfile, good_default};
 ghost use Rattle.asn_values.specs.View.{shape_of, datum_of, size_range_of};
@@ -53,6 +53,11 @@ pub trait ReadLeaves {
         requires at_unit { rules.at_unit units.now }
         ensures { result ≡ length (rules.to_units units.now) };
 
+    /// How many whole octets are left.
+    fn octets_left(units: &BitCursor<'_>) -> usize
+        requires at_unit { rules.at_unit units.now }
+        ensures { result ≡ length (rules.to_units units.now) / rules.octet_units };
+
     /// Reads a value of a type that is neither SEQUENCE, SEQUENCE OF nor CHOICE.
     fn read_simple(alloc: Global, ty: &AsnType, units: &mut BitCursor<'_>) -> Result<Value, Stop>
         requires at_unit { rules.at_unit units.old }
@@ -64,11 +69,7 @@ pub trait ReadLeaves {
 
     /// Reads a value of the type of a component with this DEFAULT. The DEFAULT itself is refused, since an encoder
     /// leaves it out.
-    fn read_other(
-        ty: &AsnType,
-        default: &Value,
-        units: &mut BitCursor<'_>,
-    ) -> Result<Value, Stop>
+    fn read_other(ty: &AsnType, default: &Value, units: &mut BitCursor<'_>) -> Result<Value, Stop>
         requires at_unit { rules.at_unit units.old }
         requires of_profile { InProfile (shape_of ty.now) }
         requires good { good_default (shape_of ty.now) (datum_of default.now) ≡ true }
@@ -167,5 +168,7 @@ pub trait ReadLeaves {
         ensures stop { IfErr result (λ why.
             StopsNext rules.ruling.fielding (ahead fragments.old) (rules.to_units units.old) why) };
 
-    ghost laws: { Laws rules };
+    /// The parts keep the laws of the walk. The call does nothing: its clause is what the proofs of the walk cite.
+    fn keep_laws()
+        ensures { Laws rules };
 }

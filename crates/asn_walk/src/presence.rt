@@ -1,55 +1,69 @@
-//! Which components of a SEQUENCE are encoded.
-ghost use Rattle.std.specs.Prelude.{◌≡◌, ◌≤◌, ◌<◌, ◌^◌, map, length};
-ghost use Rattle.std.specs.Option.{option_map};
-ghost use Rattle.asn_values.specs.Parts.{AreOfProfile, IsGoodDemand};
-ghost use Rattle.asn_values.specs.Shape.{demands};
-ghost use Rattle.asn_values.specs.View.{datum_of, fields_of, part_of_field};
-ghost use Rattle.asn_bits.specs.Numbers.{bits};
-ghost use Rattle.asn_rules.specs.Components.{any_present, is_spelled, presence};
+//! Presence bits of the components of a SEQUENCE, as a number.
+ghost use Rattle.std.specs.Prelude.{◌≡◌, ◌≤◌, ◌<◌, ◌+◌, ◌^◌, ◌/◌, ◌%◌, true, false, length};
+ghost use Rattle.asn_values.specs.View.{part_of_field};
+ghost use Rattle.asn_bits.specs.Sink.{bit_of};
+ghost use Rattle.asn_rules.specs.Components.{has_presence_bit};
+ghost use Rattle.asn_rules.specs.Listed.{bitmap_length};
+ghost use Rattle.asn_walk.specs.Reading.{fields_seen};
 
-use crate::components::may_be_absent;
-use asn_values::{Field, Need, Value, same};
+use asn_values::{Field, Need};
 
-/// How many presence bits the components have, and the bitmap as a number, its first bit the highest.
-pub fn presence_bitmap(fields: &[Field], entries: &[Option<Value>]) -> (u32, u64)
-    requires of_profile { AreOfProfile (fields_of (map part_of_field fields.now)) }
-    requires each { length fields.now ≡ length entries.now }
-    requires few { length fields.now ≤ 64 }
-    ensures count { result.0 ≤ 64 }
-    ensures within { result.1 < 2 ^ result.0 }
-    ensures bitmap { bits result.0 result.1
-        ≡ presence (demands (fields_of (map part_of_field fields.now))) (map (option_map datum_of) entries.now) }
-{
-    let mut count = 0;
-    let mut bitmap = 0;
-    for (place, field) in fields.iter().enumerate() {
-        if may_be_absent(field) {
-            let entry = &entries[place];
-            count += 1;
-            bitmap = 2 * bitmap + u64::from(is_encoded(field, entry));
+/// Presence bits that are still to be looked at: the lowest `left` bits of a bitmap, the highest of them first.
+#[derive(Clone, Copy)]
+pub(crate) struct PresenceBits {
+    pub bitmap: u64,
+    pub left: u32,
+}
+
+impl PresenceBits {
+    /// Takes the next presence bit.
+    pub(crate) fn next(&mut self) -> bool
+        requires some { 0 < self.old.left }
+        requires few { self.old.left ≤ 64 }
+        ensures bitmap { self.new.bitmap ≡ self.old.bitmap }
+        ensures left { self.new.left + 1 ≡ self.old.left }
+        ensures bit { bit_of result ≡ self.old.bitmap / 2 ^ self.new.left % 2 }
+    {
+        self.left -= 1;
+        (self.bitmap >> self.left) & 1 == 1
+    }
+
+    /// Whether this component of the root is present: its presence bit, which is taken, where it has one.
+    pub(crate) fn next_of(&mut self, field: &Field) -> bool
+        requires few { self.old.left ≤ 64 }
+        requires some { has_presence_bit (part_of_field field.now).demand ≡ true → 0 < self.old.left }
+        ensures bitmap { self.new.bitmap ≡ self.old.bitmap }
+        ensures must { has_presence_bit (part_of_field field.now).demand ≡ false
+            → (result ≡ true) × (self.new.left ≡ self.old.left) }
+        ensures bit { has_presence_bit (part_of_field field.now).demand ≡ true
+            → (self.new.left + 1 ≡ self.old.left) × (bit_of result ≡ self.old.bitmap / 2 ^ self.new.left % 2) }
+    {
+        if has_presence_bit(field) {
+            self.next()
+        } else {
+            true
         }
     }
-    (count, bitmap)
 }
 
-/// Whether a component is encoded: it has a value, and not its DEFAULT.
-pub fn is_encoded(field: &Field, entry: &Option<Value>) -> bool
-    requires { IsGoodDemand (part_of_field field.now).demand (part_of_field field.now).shape }
-    ensures { result ≡ is_spelled (part_of_field field.now).demand (option_map datum_of entry.now) }
+/// Whether the component has a presence bit: it is OPTIONAL or has a DEFAULT.
+pub(crate) fn has_presence_bit(field: &Field) -> bool
+    ensures { result ≡ has_presence_bit (part_of_field field.now).demand }
 {
-    match &field.need {
-        Need::Must => true,
-        Need::Optional => entry.is_some(),
-        Need::Default(default) => match entry {
-            None => false,
-            Some(value) => !same(default, value),
-        },
+    !matches!(field.need, Need::Must)
+}
+
+/// How many presence bits the components of a root have.
+pub(crate) fn bitmap_width(fields: &[Field]) -> u32
+    requires { length fields.now ≤ 64 }
+    ensures count { result ≡ bitmap_length (fields_seen fields.now) }
+    ensures few { result ≤ 64 }
+{
+    let mut count = 0;
+    for field in fields {
+        if has_presence_bit(field) {
+            count += 1;
+        }
     }
-}
-
-/// Whether some entry has a value.
-pub fn is_any_present(entries: &[Option<Value>]) -> bool
-    ensures { result ≡ any_present (map (option_map datum_of) entries.now) }
-{
-    entries.iter().any(|entry| entry.is_some())
+    count
 }

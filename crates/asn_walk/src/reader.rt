@@ -1,32 +1,34 @@
-//! The reader of values.
-ghost use Rattle.std.specs.Prelude.{◌≡◌, ◌≤◌, ◌<◌, ◌%◌, IfOk, IfErr, OnOk, true, false, Some, None, map, length, ◌≤ℤ◌, IfSome, IsSome, IsNone, vec_len};
+//! The reader of values of all types, over the parts that a set of encoding rules gives.
+//!
+//! Each loop is a function that begins in the middle: it takes what is still to be read, and appends to what was read
+//! before. Only the leaves answer that units are missing.
+ghost use Rattle.std.specs.Prelude.{◌≡◌, ◌≤◌, ◌<◌, ◌+◌, ◌%◌, IfOk, IfErr, OnOk, true, false, Some, None, map, length, IfSome, IsSome, IsNone, vec_len, vec_capacity};
 ghost use Rattle.std.specs.Option.{option_map};
 ghost use Rattle.asn_values.specs.Datum.{number};
-ghost use Rattle.asn_values.specs.Fits.{lowest_integer, highest_integer};
 ghost use Rattle.asn_values.specs.Profile.{InProfile};
 ghost use Rattle.asn_values.specs.Parts.{AreOfProfile, AreAllOfProfile, IsGoodDemand};
-ghost use Rattle.asn_values.specs.View.{shape_of, datum_of, fields_of, part_of_field, size_range_of, alternatives_of, branch_of};
+ghost use Rattle.asn_values.specs.View.{shape_of, datum_of, part_of_field, size_range_of};
 ghost use Rattle.asn_bits.specs.Numbers.{bits};
 ghost use Rattle.asn_rules.specs.Components.{has_presence_bit};
-ghost use Rattle.asn_rules.specs.Languages.{Spells};
-ghost use Rattle.asn_rules.specs.Listed.{Spelt, Listed, Entry, bitmap_length};
-ghost use Rattle.asn_rules.specs.Reading.{Wholes};
-ghost use Rattle.asn_rules.specs.Stops.{Stops};
-ghost use Rattle.asn_walk.specs.Coding.{OpenOf, ChosenOf, AdditionsOf, ListingOf};
+ghost use Rattle.asn_rules.specs.Languages.{Row};
+ghost use Rattle.asn_rules.specs.Listed.{Listed, bitmap_length};
+ghost use Rattle.asn_walk.specs.Ahead.{Remaining};
+ghost use Rattle.asn_walk.specs.Coding.{OpenOf, ChosenOf, OpenListed, AdditionsOf, ListingOf};
+ghost use Rattle.asn_walk.specs.Integers.{IsOfProfile};
 ghost use Rattle.asn_walk.specs.Laws.{IsSizeOfProfile};
-ghost use Rattle.asn_walk.specs.Reading.{After};
+ghost use Rattle.asn_walk.specs.Reading.{Reads, StopsAt, ValuesOf, CompleteOf, EntryOf, After, fields_seen, alternatives_seen, entries_seen};
 
-use crate::components::{
-    absent, bit_at, bitmap_width, chosen, may_be_absent, presence_of, push_absent,
-};
+use crate::components::{absent, chosen, push_absent};
 use crate::leaves::{Index, ReadLeaves};
+use crate::presence::{PresenceBits, bitmap_width, has_presence_bit};
 use asn_bits::BitCursor;
 use asn_rules::{Stop, Why};
 use asn_values::{Alt, AsnType, Field, Need, Size, Value};
 use std::alloc::Global;
 
-/// For how many elements of a list room is made at once.
-const ROOM_AT_ONCE: usize = 1024;
+/// The most elements of a SEQUENCE OF for which capacity is reserved at once: an announced count alone must not
+/// allocate more.
+const RESERVED_AT_ONCE: usize = 1024;
 
 /// Reads a value of the type.
 #[inline(always)]
@@ -39,34 +41,32 @@ pub fn read<R: ReadLeaves>(
     requires at_unit { R.rules.at_unit units.old }
     requires of_profile { InProfile (shape_of ty.now) }
     ensures at_unit { OnOk result (R.rules.at_unit units.new) }
-    ensures done { IfOk result (λ v. Spells R.rules.ruling.fielding (Spelt R.rules.code None (shape_of ty.now)) (datum_of v) (R.rules.to_units units.old) (R.rules.to_units units.new)) }
-    ensures stop { IfErr result (λ why. Stops R.rules.ruling.fielding (Spelt R.rules.code None (shape_of ty.now)) (R.rules.to_units units.old) why) }
+    ensures done { IfOk result (λ v. Reads R.rules (ValuesOf R.rules (shape_of ty.now)) (datum_of v) units.old units.new) }
+    ensures stop { IfErr result (λ why. StopsAt R.rules (ValuesOf R.rules (shape_of ty.now)) units.old why) }
 {
+    R::keep_laws();
     match ty {
         AsnType::Seq { root, ext } => {
             let root = root.as_slice();
-            let count = bitmap_width(root);
+            let width = bitmap_width(root);
             let Some(additions) = ext else {
-                let preamble = R::preamble(count, None, units)?;
-                return Ok(Value::Seq(read_components::<R>(
-                    alloc,
-                    root,
-                    root.len(),
-                    count,
-                    preamble.bitmap,
-                    units,
-                )?));
+                let preamble = R::read_preamble(width, None, units)?;
+                let mut entries = Vec::with_capacity(alloc, root.len())?;
+                let presence = PresenceBits {
+                    bitmap: preamble.bitmap,
+                    left: width,
+                };
+                read_components::<R>(alloc, root, presence, &mut entries, units)?;
+                return Ok(Value::Seq(entries));
             };
             let additions = additions.as_slice();
-            let preamble = R::preamble(count, Some(additions.len()), units)?;
-            let mut entries = read_components::<R>(
-                alloc,
-                root,
-                root.len() + additions.len(),
-                count,
-                preamble.bitmap,
-                units,
-            )?;
+            let preamble = R::read_preamble(width, Some(additions.len()), units)?;
+            let mut entries = Vec::with_capacity(alloc, root.len() + additions.len())?;
+            let presence = PresenceBits {
+                bitmap: preamble.bitmap,
+                left: width,
+            };
+            read_components::<R>(alloc, root, presence, &mut entries, units)?;
             if preamble.extended {
                 read_additions::<R>(alloc, additions, &mut entries, units)?;
             } else {
@@ -79,15 +79,15 @@ pub fn read<R: ReadLeaves>(
         )?)),
         AsnType::Choice { root, ext } => {
             let known = root.len();
-            match R::index(known, added_count(ext), units)? {
-                Index::Root(place) => {
-                    let value = read_alternative::<R>(alloc, root, place, units)?;
-                    Ok(chosen(alloc, place, value)?)
+            match R::read_index(known, added_count(ext), units)? {
+                Index::Root(index) => {
+                    let value = read_alternative::<R>(alloc, root, index, units)?;
+                    Ok(chosen(alloc, index, value)?)
                 }
-                Index::Added(place) => {
+                Index::Added(index) => {
                     let Some(additions) = ext else { unreachable!() };
-                    let value = read_added_alternative::<R>(alloc, additions, place, units)?;
-                    Ok(chosen(alloc, known + place, value)?)
+                    let value = read_added_alternative::<R>(alloc, additions, index, units)?;
+                    Ok(chosen(alloc, known + index, value)?)
                 }
             }
         }
@@ -98,11 +98,12 @@ pub fn read<R: ReadLeaves>(
         | AsnType::Bits(_)
         | AsnType::Octets(_)
         | AsnType::Text(..)
-        | AsnType::Utf8 => R::simple(alloc, ty, units),
+        | AsnType::Utf8 => R::read_simple(alloc, ty, units),
     }
 }
 
-/// Reads a whole encoding of a value of the type: the value and what fills up its octets.
+/// Reads a complete encoding of a value of the type: the value, and what fills up its octets (X.691, "complete
+/// encoding").
 #[cycle(reader)]
 pub fn read_complete<R: ReadLeaves>(
     alloc: Global,
@@ -113,17 +114,18 @@ pub fn read_complete<R: ReadLeaves>(
     requires of_profile { InProfile (shape_of ty.now) }
     requires octets { length (R.rules.to_units units.old) % R.rules.octet_units ≡ 0 }
     ensures at_unit { OnOk result (R.rules.at_unit units.new) }
-    ensures done { IfOk result (λ v. Spells R.rules.ruling.fielding (Wholes R.rules.ruling (shape_of ty.now)) (datum_of v) (R.rules.to_units units.old) (R.rules.to_units units.new)) }
-    ensures stop { IfErr result (λ why. Stops R.rules.ruling.fielding (Wholes R.rules.ruling (shape_of ty.now)) (R.rules.to_units units.old) why) }
+    ensures done { IfOk result (λ v. Reads R.rules (CompleteOf R.rules (shape_of ty.now)) (datum_of v) units.old units.new) }
+    ensures stop { IfErr result (λ why. StopsAt R.rules (CompleteOf R.rules (shape_of ty.now)) units.old why) }
 {
+    R::keep_laws();
     let given = R::units_left(units);
     let value = read::<R>(alloc, ty, units)?;
-    R::fill(given, units)?;
+    R::read_padding(given, units)?;
     Ok(value)
 }
 
-/// Reads an open field that holds a value of the type: its octets, and once they have all come, the whole encoding
-/// that they are.
+/// Reads an open type field that holds a value of the type: its octets, and once they have all come, the complete
+/// encoding that they have to be (X.691, "open type fields"; X.696, "open type").
 #[cycle(reader)]
 fn read_open_field<R: ReadLeaves>(
     alloc: Global,
@@ -133,114 +135,122 @@ fn read_open_field<R: ReadLeaves>(
     requires at_unit { R.rules.at_unit units.old }
     requires of_profile { InProfile (shape_of ty.now) }
     ensures at_unit { OnOk result (R.rules.at_unit units.new) }
-    ensures done { IfOk result (λ v. Spells R.rules.ruling.fielding (OpenOf R.rules (shape_of ty.now)) (datum_of v) (R.rules.to_units units.old) (R.rules.to_units units.new)) }
-    ensures stop { IfErr result (λ why. Stops R.rules.ruling.fielding (OpenOf R.rules (shape_of ty.now)) (R.rules.to_units units.old) why) }
+    ensures done { IfOk result (λ v. Reads R.rules (OpenOf R.rules (shape_of ty.now)) (datum_of v) units.old units.new) }
+    ensures stop { IfErr result (λ why. StopsAt R.rules (OpenOf R.rules (shape_of ty.now)) units.old why) }
 {
-    let octets = R::open_octets(alloc, units)?;
+    R::keep_laws();
+    let octets = R::read_open_octets(alloc, units)?;
     let mut content = BitCursor::over(&octets);
-    let none = Stop::Refused {
+    let no_value = Stop::Refused {
         left: R::units_left(units),
         why: Why::Sealed,
     };
     match read_complete::<R>(alloc, ty, &mut content) {
         Ok(value) if R::units_left(&content) == 0 => Ok(value),
-        Ok(_) => Err(none),
-        Err(Stop::Short) => Err(none),
-        Err(Stop::Refused { .. }) => Err(none),
+        Ok(_) => Err(no_value),
+        Err(Stop::Short) => Err(no_value),
+        Err(Stop::Refused { .. }) => Err(no_value),
         Err(Stop::Memory) => Err(Stop::Memory),
     }
 }
 
-/// Reads a value of the alternative at this place.
+/// Reads a value of the alternative with this index in the root.
 #[cycle(reader)]
 fn read_alternative<R: ReadLeaves>(
     alloc: Global,
-    alternatives: &[Alt],
-    place: usize,
+    root: &[Alt],
+    index: usize,
     units: &mut BitCursor<'_>,
 ) -> Result<Value, Stop>
     requires at_unit { R.rules.at_unit units.old }
-    requires of_profile { AreAllOfProfile (alternatives_of (map branch_of alternatives.now)) }
-    requires inside { place < length alternatives.now }
+    requires of_profile { AreAllOfProfile (alternatives_seen root.now) }
+    requires inside { index < length root.now }
     ensures at_unit { OnOk result (R.rules.at_unit units.new) }
-    ensures done { IfOk result (λ v. Spells R.rules.ruling.fielding (ChosenOf (λ t. Spelt R.rules.code None t) (alternatives_of (map branch_of alternatives.now)) place) (datum_of v) (R.rules.to_units units.old) (R.rules.to_units units.new)) }
-    ensures stop { IfErr result (λ why. Stops R.rules.ruling.fielding (ChosenOf (λ t. Spelt R.rules.code None t) (alternatives_of (map branch_of alternatives.now)) place) (R.rules.to_units units.old) why) }
+    ensures done { IfOk result (λ v.
+        Reads R.rules (ChosenOf (ValuesOf R.rules) (alternatives_seen root.now) index) (datum_of v) units.old units.new) }
+    ensures stop { IfErr result (λ why.
+        StopsAt R.rules (ChosenOf (ValuesOf R.rules) (alternatives_seen root.now) index) units.old why) }
 {
-    read::<R>(alloc, &alternatives[place].ty, units)
+    read::<R>(alloc, &root[index].ty, units)
 }
 
-/// Reads an open field that holds a value of the alternative at this place.
+/// Reads an open type field that holds a value of the alternative with this index among the additions.
 #[cycle(reader)]
 fn read_added_alternative<R: ReadLeaves>(
     alloc: Global,
-    alternatives: &[Alt],
-    place: usize,
+    added: &[Alt],
+    index: usize,
     units: &mut BitCursor<'_>,
 ) -> Result<Value, Stop>
     requires at_unit { R.rules.at_unit units.old }
-    requires of_profile { AreAllOfProfile (alternatives_of (map branch_of alternatives.now)) }
-    requires inside { place < length alternatives.now }
+    requires of_profile { AreAllOfProfile (alternatives_seen added.now) }
+    requires inside { index < length added.now }
     ensures at_unit { OnOk result (R.rules.at_unit units.new) }
-    ensures done { IfOk result (λ v. Spells R.rules.ruling.fielding (ChosenOf (λ t. OpenOf R.rules t) (alternatives_of (map branch_of alternatives.now)) place) (datum_of v) (R.rules.to_units units.old) (R.rules.to_units units.new)) }
-    ensures stop { IfErr result (λ why. Stops R.rules.ruling.fielding (ChosenOf (λ t. OpenOf R.rules t) (alternatives_of (map branch_of alternatives.now)) place) (R.rules.to_units units.old) why) }
+    ensures done { IfOk result (λ v.
+        Reads R.rules (ChosenOf (OpenOf R.rules) (alternatives_seen added.now) index) (datum_of v) units.old units.new) }
+    ensures stop { IfErr result (λ why.
+        StopsAt R.rules (ChosenOf (OpenOf R.rules) (alternatives_seen added.now) index) units.old why) }
 {
-    read_open_field::<R>(alloc, &alternatives[place].ty, units)
+    read_open_field::<R>(alloc, &added[index].ty, units)
 }
 
-/// Reads the components whose presence bits are the `count` bits of `bitmap`, in order. A component with a DEFAULT
-/// that is absent has that value. The entries get room for `room`.
+/// Reads the components of a root that the presence bits tell, in order, and appends their entries. A component with
+/// a DEFAULT that is absent has that value.
 #[cycle(reader)]
 fn read_components<R: ReadLeaves>(
     alloc: Global,
     fields: &[Field],
-    room: usize,
-    count: u32,
-    bitmap: u64,
+    presence: PresenceBits,
+    entries: &mut Vec<Option<Value>>,
     units: &mut BitCursor<'_>,
-) -> Result<Vec<Option<Value>>, Stop>
+) -> Result<(), Stop>
     requires at_unit { R.rules.at_unit units.old }
-    requires of_profile { AreOfProfile (fields_of (map part_of_field fields.now)) }
-    requires count { count ≡ bitmap_length (fields_of (map part_of_field fields.now)) }
-    requires few { count ≤ 64 }
-    requires room { length fields.now ≤ room }
+    requires of_profile { AreOfProfile (fields_seen fields.now) }
+    requires width { presence.left ≡ bitmap_length (fields_seen fields.now) }
+    requires few { presence.left ≤ 64 }
+    requires capacity { vec_len entries.old + length fields.now ≤ vec_capacity entries.old }
     ensures at_unit { OnOk result (R.rules.at_unit units.new) }
-    ensures done { IfOk result (λ es. Spells R.rules.ruling.fielding (Listed R.rules.code (fields_of (map part_of_field fields.now)) (bits count bitmap)) (map (option_map datum_of) es.items) (R.rules.to_units units.old) (R.rules.to_units units.new)) }
-    ensures stop { IfErr result (λ why. Stops R.rules.ruling.fielding (Listed R.rules.code (fields_of (map part_of_field fields.now)) (bits count bitmap)) (R.rules.to_units units.old) why) }
+    ensures done { OnOk result (Reads R.rules (After (entries_seen entries.old.items)
+        (Listed R.rules.code (fields_seen fields.now) (bits presence.left presence.bitmap)))
+        (entries_seen entries.new.items) units.old units.new) }
+    ensures stop { IfErr result (λ why. StopsAt R.rules
+        (Listed R.rules.code (fields_seen fields.now) (bits presence.left presence.bitmap)) units.old why) }
 {
-    let mut entries = Vec::with_capacity(alloc, room)?;
-    let mut left = count;
+    R::keep_laws();
+    let mut presence = presence;
     for field in fields {
-        if let Some(whole) = take_bounded::<R>(field, units) {
-            entries.push_reserved(Some(Value::Int(whole)));
+        if let Some(number) = try_bounded::<R>(field, units) {
+            entries.push_reserved(Some(Value::Int(number)));
             continue;
         }
-        let (present, below) = presence_of(field, bitmap, left);
-        left = below;
+        let present = presence.next_of(field);
         let entry = read_entry::<R>(alloc, field, present, units)?;
         entries.push_reserved(entry);
     }
-    Ok(entries)
+    Ok(())
 }
 
-/// Takes the integer of a component that is always there and has two bounds and no extension mark, where its units
-/// are at hand and it lies between them; else all units stay.
+/// Fast path: the INTEGER of a component that is always present and has two bounds and no extension mark, where its
+/// units are at hand and it lies between them; otherwise takes nothing.
 #[inline(always)]
-fn take_bounded<R: ReadLeaves>(field: &Field, units: &mut BitCursor<'_>) -> Option<i128>
+fn try_bounded<R: ReadLeaves>(field: &Field, units: &mut BitCursor<'_>) -> Option<i128>
     requires at_unit { R.rules.at_unit units.old }
     requires of_profile { InProfile (part_of_field field.now).shape }
     ensures at_unit { R.rules.at_unit units.new }
     ensures must { IsSome result → has_presence_bit (part_of_field field.now).demand ≡ false }
-    ensures some { IfSome result (λ z. Spells R.rules.ruling.fielding (Entry R.rules.code (part_of_field field.now).demand (part_of_field field.now).shape true) (Some (number z)) (R.rules.to_units units.old) (R.rules.to_units units.new) × (lowest_integer ≤ℤ z) × (z ≤ℤ highest_integer)) }
+    ensures some { IfSome result (λ z.
+        Reads R.rules (EntryOf R.rules (part_of_field field.now) true) (Some (number z)) units.old units.new) }
+    ensures of_integers { IfSome result IsOfProfile }
     ensures none { IsNone result → units.new ≡ units.old }
 {
-    if may_be_absent(field) {
+    if has_presence_bit(field) {
         return None;
     }
     let AsnType::Int(bounds) = &field.ty else {
         return None;
     };
     match (bounds.low, bounds.high) {
-        (Some(low), Some(high)) if !bounds.ext => R::take_between(low, high, units),
+        (Some(low), Some(high)) if !bounds.ext => R::try_between(low, high, units),
         _ => None,
     }
 }
@@ -258,19 +268,20 @@ fn read_entry<R: ReadLeaves>(
     requires of_profile { InProfile (part_of_field field.now).shape }
     requires good { IsGoodDemand (part_of_field field.now).demand (part_of_field field.now).shape }
     ensures at_unit { OnOk result (R.rules.at_unit units.new) }
-    ensures done { IfOk result (λ e. Spells R.rules.ruling.fielding (Entry R.rules.code (part_of_field field.now).demand (part_of_field field.now).shape present) (option_map datum_of e) (R.rules.to_units units.old) (R.rules.to_units units.new)) }
-    ensures stop { IfErr result (λ why. Stops R.rules.ruling.fielding (Entry R.rules.code (part_of_field field.now).demand (part_of_field field.now).shape present) (R.rules.to_units units.old) why) }
+    ensures done { IfOk result (λ e. Reads R.rules (EntryOf R.rules (part_of_field field.now) present)
+        (option_map datum_of e) units.old units.new) }
+    ensures stop { IfErr result (λ why. StopsAt R.rules (EntryOf R.rules (part_of_field field.now) present) units.old why) }
 {
     if !present {
         return Ok(absent(field));
     }
     match &field.need {
-        Need::Default(default) => Ok(Some(R::other(&field.ty, default, units)?)),
+        Need::Default(default) => Ok(Some(R::read_other(&field.ty, default, units)?)),
         Need::Must | Need::Optional => Ok(Some(read::<R>(alloc, &field.ty, units)?)),
     }
 }
 
-/// Reads the extension additions of which one is present, and puts their entries behind the others.
+/// Reads the extension additions of a SEQUENCE of which one at least is present, and appends their entries.
 #[cycle(reader)]
 fn read_additions<R: ReadLeaves>(
     alloc: Global,
@@ -279,20 +290,49 @@ fn read_additions<R: ReadLeaves>(
     units: &mut BitCursor<'_>,
 ) -> Result<(), Stop>
     requires at_unit { R.rules.at_unit units.old }
-    requires of_profile { AreOfProfile (fields_of (map part_of_field fields.now)) }
+    requires of_profile { AreOfProfile (fields_seen fields.now) }
     requires some { 0 < length fields.now }
     requires few { length fields.now ≤ 64 }
     ensures at_unit { OnOk result (R.rules.at_unit units.new) }
-    ensures done { IfOk result (λ _. Spells R.rules.ruling.fielding (After (map (option_map datum_of) entries.old.items) (AdditionsOf R.rules (fields_of (map part_of_field fields.now))))
-        (map (option_map datum_of) entries.new.items) (R.rules.to_units units.old) (R.rules.to_units units.new)) }
-    ensures stop { IfErr result (λ why. Stops R.rules.ruling.fielding (AdditionsOf R.rules (fields_of (map part_of_field fields.now))) (R.rules.to_units units.old) why) }
+    ensures done { OnOk result (Reads R.rules
+        (After (entries_seen entries.old.items) (AdditionsOf R.rules (fields_seen fields.now)))
+        (entries_seen entries.new.items) units.old units.new) }
+    ensures stop { IfErr result (λ why. StopsAt R.rules (AdditionsOf R.rules (fields_seen fields.now)) units.old why) }
 {
+    R::keep_laws();
     let count = fields.len() as u32;
-    let bitmap = R::bitmap(count, units)?;
-    let mut left = count;
+    let bitmap = R::read_addition_bitmap(count, units)?;
+    let presence = PresenceBits {
+        bitmap,
+        left: count,
+    };
+    read_open_fields::<R>(alloc, fields, presence, entries, units)
+}
+
+/// Reads the extension additions that the presence bits tell, each an open type field, and appends their entries.
+#[cycle(reader)]
+fn read_open_fields<R: ReadLeaves>(
+    alloc: Global,
+    fields: &[Field],
+    presence: PresenceBits,
+    entries: &mut Vec<Option<Value>>,
+    units: &mut BitCursor<'_>,
+) -> Result<(), Stop>
+    requires at_unit { R.rules.at_unit units.old }
+    requires of_profile { AreOfProfile (fields_seen fields.now) }
+    requires width { presence.left ≡ length fields.now }
+    requires few { presence.left ≤ 64 }
+    ensures at_unit { OnOk result (R.rules.at_unit units.new) }
+    ensures done { OnOk result (Reads R.rules (After (entries_seen entries.old.items)
+        (OpenListed R.rules (fields_seen fields.now) (bits presence.left presence.bitmap)))
+        (entries_seen entries.new.items) units.old units.new) }
+    ensures stop { IfErr result (λ why. StopsAt R.rules
+        (OpenListed R.rules (fields_seen fields.now) (bits presence.left presence.bitmap)) units.old why) }
+{
+    R::keep_laws();
+    let mut presence = presence;
     for field in fields {
-        left -= 1;
-        let entry = if bit_at(bitmap, left) {
+        let entry = if presence.next() {
             Some(read_open_field::<R>(alloc, &field.ty, units)?)
         } else {
             None
@@ -302,8 +342,7 @@ fn read_additions<R: ReadLeaves>(
     Ok(())
 }
 
-/// Reads the elements of a SEQUENCE OF. However many a length announces, room is made for no more of them than octets
-/// are left, and for no more than `ROOM_AT_ONCE`; behind these the vector grows as elements come.
+/// Reads the elements of a SEQUENCE OF.
 #[cycle(reader)]
 fn read_list<R: ReadLeaves>(
     alloc: Global,
@@ -315,22 +354,77 @@ fn read_list<R: ReadLeaves>(
     requires of_profile { InProfile (shape_of element.now) }
     requires size { IsSizeOfProfile (size_range_of size.now) }
     ensures at_unit { OnOk result (R.rules.at_unit units.new) }
-    ensures done { IfOk result (λ vs. Spells R.rules.ruling.fielding (ListingOf R.rules (size_range_of size.now) (Spelt R.rules.code None (shape_of element.now))) (map datum_of vs.items) (R.rules.to_units units.old) (R.rules.to_units units.new)) }
-    ensures stop { IfErr result (λ why. Stops R.rules.ruling.fielding (ListingOf R.rules (size_range_of size.now) (Spelt R.rules.code None (shape_of element.now))) (R.rules.to_units units.old) why) }
+    ensures done { IfOk result (λ vs.
+        Reads R.rules (ListingOf R.rules (size_range_of size.now) (ValuesOf R.rules (shape_of element.now)))
+        (map datum_of vs.items) units.old units.new) }
+    ensures stop { IfErr result (λ why.
+        StopsAt R.rules (ListingOf R.rules (size_range_of size.now) (ValuesOf R.rules (shape_of element.now)))
+        units.old why) }
 {
+    R::keep_laws();
     let mut elements = Vec::new(alloc);
-    let mut rows = R::start(size, units)?;
-    while let Some(count) = R::next(&mut rows, units)? {
-        elements.reserve(count.min(units.octets_left()).min(ROOM_AT_ONCE))?;
-        for i in 0..count {
-            let value = read::<R>(alloc, element, units)?;
-            elements.push(value)?;
-        }
-    }
+    let fragments = R::start_list(size, units)?;
+    read_fragments::<R>(alloc, element, fragments, &mut elements, units)?;
     Ok(elements)
 }
 
-/// How many additions there are, where there is an extension mark.
+/// Reads the fragments of a list that are still to come, and appends their elements.
+#[inline(always)]
+#[cycle(reader)]
+fn read_fragments<R: ReadLeaves>(
+    alloc: Global,
+    element: &AsnType,
+    fragments: R::Fragments,
+    elements: &mut Vec<Value>,
+    units: &mut BitCursor<'_>,
+) -> Result<(), Stop>
+    requires at_unit { R.rules.at_unit units.old }
+    requires of_profile { InProfile (shape_of element.now) }
+    requires between { R.is_between fragments }
+    ensures at_unit { OnOk result (R.rules.at_unit units.new) }
+    ensures done { OnOk result (Reads R.rules (After (map datum_of elements.old.items)
+        (Remaining (ValuesOf R.rules (shape_of element.now)) (R.ahead fragments)))
+        (map datum_of elements.new.items) units.old units.new) }
+    ensures stop { IfErr result (λ why. StopsAt R.rules
+        (Remaining (ValuesOf R.rules (shape_of element.now)) (R.ahead fragments)) units.old why) }
+{
+    R::keep_laws();
+    let mut fragments = fragments;
+    while let Some(count) = R::next_fragment(&mut fragments, units)? {
+        elements.reserve(count.min(units.octets_left()).min(RESERVED_AT_ONCE))?;
+        read_elements::<R>(alloc, element, count, elements, units)?;
+    }
+    Ok(())
+}
+
+/// Reads `count` elements, one after the other, and appends them.
+#[inline(always)]
+#[cycle(reader)]
+fn read_elements<R: ReadLeaves>(
+    alloc: Global,
+    element: &AsnType,
+    count: usize,
+    elements: &mut Vec<Value>,
+    units: &mut BitCursor<'_>,
+) -> Result<(), Stop>
+    requires at_unit { R.rules.at_unit units.old }
+    requires of_profile { InProfile (shape_of element.now) }
+    ensures at_unit { OnOk result (R.rules.at_unit units.new) }
+    ensures done { OnOk result (Reads R.rules
+        (After (map datum_of elements.old.items) (Row (ValuesOf R.rules (shape_of element.now)) count))
+        (map datum_of elements.new.items) units.old units.new) }
+    ensures stop { IfErr result (λ why.
+        StopsAt R.rules (Row (ValuesOf R.rules (shape_of element.now)) count) units.old why) }
+{
+    R::keep_laws();
+    for i in 0..count {
+        let value = read::<R>(alloc, element, units)?;
+        elements.push(value)?;
+    }
+    Ok(())
+}
+
+/// How many extension additions there are, where there is an extension mark.
 fn added_count(ext: &Option<Vec<Alt>>) -> Option<usize>
     ensures { result ≡ option_map vec_len ext.now }
 {

@@ -108,5 +108,7 @@ pub trait WriteLeaves {
         ensures { IfOk result (λ o. (t : Shape) (d : Datum) → IsSpelling rules sink t d
             → o.items ≡ rules.complete (rules.code t d)) };
 
-    ghost laws: { WriteLaws rules };
+    /// The parts keep the laws of the writers. The call does nothing: its clause is what the proofs of the walk cite.
+    fn keep_write_laws()
+        ensures { WriteLaws rules };
 }

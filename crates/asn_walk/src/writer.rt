@@ -11,8 +11,8 @@ ghost use Rattle.asn_walk.specs.Composites.{in_open_field, each_code, open_code,
 ghost use Rattle.asn_walk.specs.Reading.{fields_seen, entries_seen, alternatives_seen};
 ghost use Rattle.asn_walk.specs.Writing.{TellsWhether, Writes, WritesValue, FitsType, EntriesFit, AreOptional, mark_bits, list_seen};
 
+use crate::encoded::{is_any_present, is_encoded, presence_bitmap};
 use crate::leaves::Index;
-use crate::presence::{is_any_present, is_encoded, presence_bitmap};
 use crate::write_leaves::WriteLeaves;
 use asn_bits::BitSink;
 use asn_rules::EncodeFault;
@@ -69,6 +69,7 @@ fn write<R: WriteLeaves>(
     ensures of_type { TellsWhether result (FitsType ty.now value.now) }
     ensures written { OnOk result (WritesValue R.rules sink.old sink.new ty.now value.now) }
 {
+    R::keep_write_laws();
     match ty {
         AsnType::Seq { root, ext } => {
             let Value::Seq(entries) = value else {
@@ -171,6 +172,7 @@ fn write_root<R: WriteLeaves>(
     ensures written { OnOk result (Writes R.rules sink.old sink.new
         (root_code R.rules (mark_bits extended) (fields_seen fields.now) (entries_seen entries.now))) }
 {
+    R::keep_write_laws();
     if fields.len() != entries.len() {
         return Err(EncodeFault::NotOfType);
     }
@@ -194,6 +196,7 @@ fn write_components<R: WriteLeaves>(
     ensures written { OnOk result (Writes R.rules sink.old sink.new
         (each_code R.rules (fields_seen fields.now) (entries_seen entries.now))) }
 {
+    R::keep_write_laws();
     for (field, entry) in fields.iter().zip(entries) {
         let Some(value) = entry else {
             if matches!(field.need, Need::Optional) {
@@ -230,6 +233,7 @@ fn write_additions<R: WriteLeaves>(
     ensures written { OnOk result (Writes R.rules sink.old sink.new
         (additions_code R.rules (fields_seen fields.now) (entries_seen entries.now))) }
 {
+    R::keep_write_laws();
     if fields.len() != entries.len() {
         return Err(EncodeFault::NotOfType);
     }
@@ -256,6 +260,7 @@ fn write_open_components<R: WriteLeaves>(
     ensures written { OnOk result (Writes R.rules sink.old sink.new
         (open_code R.rules (fields_seen fields.now) (entries_seen entries.now))) }
 {
+    R::keep_write_laws();
     for (field, entry) in fields.iter().zip(entries) {
         let Some(value) = entry else {
             continue;
@@ -281,6 +286,7 @@ fn write_list<R: WriteLeaves>(
     ensures written { OnOk result (Writes R.rules sink.old sink.new
         (R.rules.code (sequence_of (shape_of element.now) (size_range_of size.now)) (list_seen values.now))) }
 {
+    R::keep_write_laws();
     if !length_fits(size, values.len()) {
         return Err(EncodeFault::NotOfType);
     }
@@ -308,6 +314,7 @@ fn write_elements<R: WriteLeaves>(
     ensures written { OnOk result (Writes R.rules sink.old sink.new
         (joined (map (λ d. R.rules.code (shape_of element.now) d) (map datum_of values.now)))) }
 {
+    R::keep_write_laws();
     for value in values {
         write::<R>(alloc, element, value, sink)?;
     }

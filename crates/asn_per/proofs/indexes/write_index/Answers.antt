@@ -1,7 +1,7 @@
 use Rattle.std.proofs.Common.{◌≡◌, ◌<◌, ◌∙◌, inl, ap, arith}
 use Rattle.asn_bits.proofs.Prefixes.{bool_byte-is}
 use Rattle.asn_rules.specs.Components.{bit_of}
-use Rattle.asn_per.specs.Indexes.{index_at}
+use Rattle.asn_walk.specs.Views.{index_seen}
 use Rattle.asn_per.proofs.IndexBits.{few_index_bits, one_mark_bit, index_fits, root_index_bits}
 use Rattle.asn_per.proofs.indexes.write_index.Goals as goal
 
@@ -19,5 +19,5 @@ pub returns-in-Root : goal.returns-in-Root
 returns-in-Root c =
     let inside : c.in-Root.index < c.args.root = rw c.in-Root.is at c.requires.within in
     let mark : c.from-mark_bits.result ≡ bit_of c.args.marked = c.from-mark_bits.ensures ∙ bool_byte-is c.args.marked in
-    let is : index_at c.args.index ≡ inl c.in-Root.index = ap index_at c.in-Root.is in
+    let is : index_seen c.args.index ≡ inl c.in-Root.index = ap index_seen c.in-Root.is in
     rw (is, root_index_bits c.args.root c.in-Root.index inside c.args.marked c.from-mark_bits.result mark, ← c.width.ensures.width) c.push_number.ensures.ok

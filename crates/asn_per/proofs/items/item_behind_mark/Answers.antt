@@ -9,7 +9,8 @@ use Rattle.asn_values.specs.View.{label_of}
 use Rattle.asn_rules.specs.Languages.{Spells}
 use Rattle.asn_rules.specs.Stops.{Stops}
 use Rattle.asn_rules.proofs.Leads.{stops_by}
-use Rattle.asn_per.specs.Indexes.{IndexesOf, index_at}
+use Rattle.asn_per.specs.Indexes.{IndexesOf}
+use Rattle.asn_walk.specs.Views.{index_seen}
 use Rattle.asn_per.specs.Kinds.{Items}
 use Rattle.asn_per.specs.Per.{per_fields}
 use Rattle.asn_per.proofs.EnumeratedLanguages.{few_additions}
@@ -62,7 +63,7 @@ returns-in-Root-clause-done c =
     let ls = map label_of c.args.root.now in
     let more = map label_of c.args.additions.now in
     let n = lengths c.args.root.now c.args.additions.now c.requires.of_profile in
-    let is : index_at c.in_ok-index.field-0 ≡ inl c.in-Root.index = ap index_at c.in-Root.is in
+    let is : index_seen c.in_ok-index.field-0 ≡ inl c.in-Root.index = ap index_seen c.in-Root.is in
     let spelt : Spells per_fields (IndexesOf (length ls) (Some (length more))) (inl c.in-Root.index) c.args.bits.now c.read_index.new.bits = rw (n.0, n.1, ← is) c.in_ok-index.ensures.done in
     rw c.place_of_index.ensures ((index_leads ls more c.args.bits.now).done (inl c.in-Root.index) c.read_index.new.bits spelt)
 
@@ -71,7 +72,7 @@ returns-in-Added-clause-done c =
     let ls = map label_of c.args.root.now in
     let more = map label_of c.args.additions.now in
     let n = lengths c.args.root.now c.args.additions.now c.requires.of_profile in
-    let is : index_at c.in_ok-index.field-0 ≡ inr c.in-Added.index = ap index_at c.in-Added.is in
+    let is : index_seen c.in_ok-index.field-0 ≡ inr c.in-Added.index = ap index_seen c.in-Added.is in
     let spelt : Spells per_fields (IndexesOf (length ls) (Some (length more))) (inr c.in-Added.index) c.args.bits.now c.read_index.new.bits = rw (n.0, n.1, ← is) c.in_ok-index.ensures.done in
     let read : Spells per_fields (Items ls (marked_labels more)) (item (length ls + c.in-Added.index)) c.args.bits.now c.read_index.new.bits = (index_leads ls more c.args.bits.now).done (inr c.in-Added.index) c.read_index.new.bits spelt in
     subst (λ (k : ℕ). Spells per_fields (Items ls (marked_labels more)) (item (k + c.in-Added.index)) c.args.bits.now c.read_index.new.bits) n.0 read

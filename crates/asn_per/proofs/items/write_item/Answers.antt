@@ -4,7 +4,7 @@ use mir.Syntax.{w64}
 use mir.Val.{to_z, of_z}
 use Rattle.asn_values.specs.View.{label_of, more_labels_of}
 use Rattle.asn_rules.specs.Components.{number_at}
-use Rattle.asn_per.specs.Indexes.{index_at}
+use Rattle.asn_walk.specs.Views.{index_seen}
 use Rattle.asn_per.specs.Per.{rank}
 use Rattle.asn_per.proofs.Enumerations.{rank_inside}
 use Rattle.asn_per.proofs.IndexBits.{same_index_bits}
@@ -43,12 +43,12 @@ returns c =
           let d = w.index-root-place.result in
           let good = root_items ls more c.requires.of_profile in
           let here : to_z w64 (of_z w64 (get_or c.args.root.now c.args.place d).number) ≡ number_at ls c.args.place = item_kept c.args.root.now c.args.place d (get_or c.args.root.now c.args.place d) good w.if-place-root.true refl in
-          let index : index_at c.if-place-root.index ≡ inl (rank ls (number_at ls c.args.place)) = ap index_at w.index-is ∙ ap inl (w.rank.ensures ∙ ap (rank ls) here) in
+          let index : index_seen c.if-place-root.index ≡ inl (rank ls (number_at ls c.args.place)) = ap index_seen w.index-is ∙ ap inl (w.rank.ensures ∙ ap (rank ls) here) in
           rw (bits_of_root_item ls more c.args.place (simp length-map w.if-place-root.true) ∙ same_index_bits (sym same) (sym mark) (sym index)) c.write_index.ensures
           )
       | else-place-root w ↦ (
           let there = addition_there c.args.root.now c.args.more.now c.args.place c.requires.of_profile c.requires.of_type w.if-place-root.false in
-          let index : index_at c.if-place-root.index ≡ inr (c.args.place - length ls) = ap index_at w.index-is ∙ ap (λ (n : ℕ). inr (c.args.place - n)) same in
+          let index : index_seen c.if-place-root.index ≡ inr (c.args.place - length ls) = ap index_seen w.index-is ∙ ap (λ (n : ℕ). inr (c.args.place - n)) same in
           rw (bits_of_addition ls more c.args.place (simp length-map w.if-place-root.false) there.1 ∙ same_index_bits (sym same) (sym mark) (sym index)) c.write_index.ensures
           )
     ]

@@ -5,7 +5,8 @@ use Rattle.asn_rules.specs.Languages.{Spells}
 use Rattle.asn_rules.proofs.Fields.{octet_lawful, octet_inhabited}
 use Rattle.asn_rules.proofs.Leads.{stops_by}
 use Rattle.asn_per.specs.Per.{per_fields}
-use Rattle.asn_per.specs.ListsAhead.{items, Start}
+use Rattle.asn_walk.specs.Ahead.{items}
+use Rattle.asn_per.specs.ListsAhead.{Start}
 use Rattle.asn_per.proofs.ListsAhead.{start_stops, one_row, one_row_stops}
 use Rattle.asn_per.proofs.string_reader.octet_string.Goals as goal
 

@@ -71,7 +71,7 @@ write-returns-in-None-clause-written g t c =
     let s = of_sequence c.args.ty.now c.args.value.now c.in-Seq.root c.in-Seq.ext c.in-Seq-value.entries fs vs c.in-Seq.is c.in-Seq-value.is c.deref.ensures.value c.deref-in-None.ensures.value in
     let none = ap more_fields_of c.in-None.is in
     written_by c.write_root.result c.write_root.ensures.of_type
-    (λ each e. unmarked_written g.met.R.WriteLeaves.laws c.args.sink.now c.write_root.new.sink fs (more_fields_of c.in-Seq.ext) vs s c.requires.of_profile ((unmarked_fits s none).0 each) none each e)
+    (λ each e. unmarked_written c.keep_write_laws.ensures c.args.sink.now c.write_root.new.sink fs (more_fields_of c.in-Seq.ext) vs s c.requires.of_profile ((unmarked_fits s none).0 each) none each e)
     c.write_root.ensures.written
 
 pub write-returns-in_err-write_root-in-Some-clause-of_type : goal.write-returns-in_err-write_root-in-Some-clause-of_type
@@ -111,7 +111,7 @@ write-returns-in_ok-write_root-in-Some-clause-written g t c =
     let more : more_fields_of c.in-Seq.ext ≡ marked (fields_of (map part_of_field gs)) = marked_fields c.in-Seq.ext c.in-Some.additions gs c.in-Some.is c.deref-in-Some-3.ensures.value in
     let both = fits_marked fs vs gs s more c.split_at.result.0.now c.split_at.result.1.now front back in
     written_by c.write_additions.result c.write_additions.ensures.of_type
-    (λ each e. sequence_written g.met.R.WriteLeaves.laws c.args.sink.now c.write_root-in-Some.new.sink c.write_additions.new.sink fs gs c.in-Seq.ext vs c.split_at.result.0.now c.split_at.result.1.now
+    (λ each e. sequence_written c.keep_write_laws.ensures c.args.sink.now c.write_root-in-Some.new.sink c.write_additions.new.sink fs gs c.in-Seq.ext vs c.split_at.result.0.now c.split_at.result.1.now
     c.is_any_present-extended.result s c.requires.of_profile (both.0 (c.in_ok-write_root-in-Some.ensures.of_type, each)) more front back c.is_any_present-extended.ensures c.in_ok-write_root-in-Some.ensures.written e)
     c.write_additions.ensures.written
 
@@ -123,7 +123,7 @@ write_root-returns-then-fields-entries-clause-of_type g t c = λ h. other_length
 pub write_root-returns-clause-written : goal.write_root-returns-clause-written
 write_root-returns-clause-written g t c =
     on_ok_weaker c.write_components.result
-    (λ e. root_written g.met.R.WriteLeaves.laws c.args.sink.now c.write_preamble.new.sink c.write_components.new.sink (mark_bits c.args.extended) (bits c.presence_bitmap-count.result.0 c.presence_bitmap-count.result.1)
+    (λ e. root_written c.keep_write_laws.ensures c.args.sink.now c.write_preamble.new.sink c.write_components.new.sink (mark_bits c.args.extended) (bits c.presence_bitmap-count.result.0 c.presence_bitmap-count.result.1)
     (fields_of (map part_of_field c.args.fields.now)) (map (option_map datum_of) c.args.entries.now) c.presence_bitmap-count.ensures.bitmap c.in_ok-write_preamble.ensures e)
     c.write_components.ensures.written
 
@@ -143,7 +143,7 @@ write_components-loop-field-preserved-in-loop-field g t c =
     let same : to_z w128 (of_z w128 i.whole) ≡ i.whole = search (rules, the_lemmas) in
     let own : FitsNumber (range_of i.bounds) i.whole = rw same at c.in_ok-write_number.ensures.of_type in
     let fits : Fits (part_of_field c.in-Some.field.now).shape (number i.whole) = rw shape own in
-    written_more g.met.R.WriteLeaves.laws (rw (e, f, some) at c.loop-field.invariant) spelt fits
+    written_more c.keep_write_laws.ensures (rw (e, f, some) at c.loop-field.invariant) spelt fits
     (rw same at c.in_ok-write_number.ensures.written ∙ ap (λ (x : Shape). c.loop-field.sink ++ written g.R.WriteLeaves.rules (g.R.WriteLeaves.rules.code x (number i.whole))) (sym shape))
 
 pub write_components-loop-field-preserved-in_ok-write : goal.write_components-loop-field-preserved-in_ok-write
@@ -155,7 +155,7 @@ write_components-loop-field-preserved-in_ok-write g t c =
     let shape = shape_of_part c.in-Some.field.now in
     let spelt : is_spelled (part_of_field c.in-Some.field.now).demand (Some d) ≡ true =
     ap (is_spelled (part_of_field c.in-Some.field.now).demand) (sym some) ∙ sym c.is_encoded.ensures ∙ c.if-is_encoded.true in
-    written_more g.met.R.WriteLeaves.laws (rw (e, f, some) at c.loop-field.invariant) spelt (subst (λ (x : Shape). Fits x d) (sym shape) c.in_ok-write.ensures.of_type)
+    written_more c.keep_write_laws.ensures (rw (e, f, some) at c.loop-field.invariant) spelt (subst (λ (x : Shape). Fits x d) (sym shape) c.in_ok-write.ensures.of_type)
     (c.in_ok-write.ensures.written ∙ ap (λ (x : Shape). c.loop-field.sink ++ written g.R.WriteLeaves.rules (g.R.WriteLeaves.rules.code x d)) (sym shape))
 
 -- ---- its additions
@@ -175,7 +175,7 @@ write_additions-write_addition_bitmap-requires-clause-some g t c =
 pub write_additions-returns-clause-written : goal.write_additions-returns-clause-written
 write_additions-returns-clause-written g t c =
     on_ok_weaker c.write_open_components.result
-    (λ e. additions_written g.met.R.WriteLeaves.laws c.args.sink.now c.write_addition_bitmap.new.sink c.write_open_components.new.sink (bits c.presence_bitmap-count.result.0 c.presence_bitmap-count.result.1)
+    (λ e. additions_written c.keep_write_laws.ensures c.args.sink.now c.write_addition_bitmap.new.sink c.write_open_components.new.sink (bits c.presence_bitmap-count.result.0 c.presence_bitmap-count.result.1)
     (fields_of (map part_of_field c.args.fields.now)) (map (option_map datum_of) c.args.entries.now) (sym c.is_any_present.ensures ∙ c.if-not-is_any_present.false) c.presence_bitmap-count.ensures.bitmap c.in_ok-write_addition_bitmap.ensures e)
     c.write_open_components.ensures.written
 
@@ -187,7 +187,7 @@ write_open_components-loop-field-preserved g t c =
     let some : option_map datum_of c.in-Some.entry.now ≡ Some d = ap (option_map datum_of) c.in-Some-entry.is in
     let shape = shape_of_part c.in-Some.field.now in
     let r = g.R.WriteLeaves.rules in
-    opened_more g.met.R.WriteLeaves.laws (rw (e, f, some) at c.loop-field.invariant) (subst (λ (x : Shape). Fits x d) (sym shape) c.in_ok-write_open_field.ensures.of_type)
+    opened_more c.keep_write_laws.ensures (rw (e, f, some) at c.loop-field.invariant) (subst (λ (x : Shape). Fits x d) (sym shape) c.in_ok-write_open_field.ensures.of_type)
     (c.in_ok-write_open_field.ensures.written ∙ ap (λ (x : Shape). c.loop-field.sink ++ written r (in_open_field r (r.code x d))) (sym shape))
 
 -- ---- SEQUENCE OF
@@ -218,7 +218,7 @@ write_list-loop-fragments-preserved g t c =
     let left = c.loop-fragments.left.now in
     let next : Advances g.R.WriteLeaves.rules (g.R.WriteLeaves.rest c.loop-fragments.fragments) (length left) c.loop-fragments.sink (g.R.WriteLeaves.rest c.next_fragment.new.fragments) c.next_fragment.new.sink (Some c.in-Some.count) =
     rw c.in-Some.is at c.in_ok-count.ensures in
-    fragments_next g.met.R.WriteLeaves.laws (g.R.WriteLeaves.rest c.next_fragment.new.fragments) c.in-Some.count (length left) c.next_fragment.new.sink c.write_elements.new.sink c.split_at.result.0.now c.split_at.result.1.now
+    fragments_next c.keep_write_laws.ensures (g.R.WriteLeaves.rest c.next_fragment.new.fragments) c.in-Some.count (length left) c.next_fragment.new.sink c.write_elements.new.sink c.split_at.result.0.now c.split_at.result.1.now
     c.loop-fragments.invariant refl next c.split_at.ensures.front c.split_at.ensures.back c.in_ok-write_elements.ensures.of_type c.in_ok-write_elements.ensures.written
 
 pub write_list-returns-clause-of_type : goal.write_list-returns-clause-of_type
@@ -240,12 +240,12 @@ write_list-returns-clause-written g t c =
     let left = c.loop-fragments.left.now in
     let end : Advances g.R.WriteLeaves.rules (g.R.WriteLeaves.rest c.loop-fragments.fragments) (length left) c.loop-fragments.sink (g.R.WriteLeaves.rest c.next_fragment.new.fragments) c.next_fragment.new.sink None =
     rw c.in_default.is at c.in_ok-count.ensures in
-    list_written g.met.R.WriteLeaves.laws element s (g.R.WriteLeaves.rest c.in_ok-fragments.fragments) vs c.args.sink.now c.start_list.new.sink c.next_fragment.new.sink (length vs) c.in_ok-fragments.ensures refl
-    (fragments_end g.met.R.WriteLeaves.laws (g.R.WriteLeaves.rest c.next_fragment.new.fragments) (length left) c.next_fragment.new.sink c.loop-fragments.invariant refl end)
+    list_written c.keep_write_laws.ensures element s (g.R.WriteLeaves.rest c.in_ok-fragments.fragments) vs c.args.sink.now c.start_list.new.sink c.next_fragment.new.sink (length vs) c.in_ok-fragments.ensures refl
+    (fragments_end c.keep_write_laws.ensures (g.R.WriteLeaves.rest c.next_fragment.new.fragments) (length left) c.next_fragment.new.sink c.loop-fragments.invariant refl end)
 
 pub write_elements-loop-value-preserved : goal.write_elements-loop-value-preserved
 write_elements-loop-value-preserved g t c =
-    elements_next g.met.R.WriteLeaves.laws (rw (next_value c.args.values.now c.loop-value.value-index c.value-item.result c.loop-value-test.true c.value-item.is) at c.loop-value.invariant) c.in_ok-write.ensures.of_type c.in_ok-write.ensures.written
+    elements_next c.keep_write_laws.ensures (rw (next_value c.args.values.now c.loop-value.value-index c.value-item.result c.loop-value-test.true c.value-item.is) at c.loop-value.invariant) c.in_ok-write.ensures.of_type c.in_ok-write.ensures.written
 
 -- ---- CHOICE
 
@@ -269,7 +269,7 @@ write-returns-then-place-known-clause-of_type g t c =
 pub write-returns-then-place-known-clause-written : goal.write-returns-then-place-known-clause-written
 write-returns-then-place-known-clause-written g t c =
     on_ok_weaker c.write_alternative.result
-    (λ e. choice_root_written c.args.ty.now c.args.value.now c.in-Choice.root c.in-Choice.ext c.in-Choice-value.tag c.in-Choice-value.chosen c.in-Choice.is c.in-Choice-value.is c.len-known.result c.len-known.ensures g.met.R.WriteLeaves.laws
+    (λ e. choice_root_written c.args.ty.now c.args.value.now c.in-Choice.root c.in-Choice.ext c.in-Choice-value.tag c.in-Choice-value.chosen c.in-Choice.is c.in-Choice-value.is c.len-known.result c.len-known.ensures c.keep_write_laws.ensures
     c.if-place-known.true c.deref-then-place-known.result.now c.deref-then-place-known-2.result.now c.args.sink.now c.write_index.new.sink c.write_alternative.new.sink c.is_some.result c.deref-then-place-known.ensures.value c.deref-then-place-known-2.ensures c.is_some.ensures c.in_ok-write_index-in-Choice.ensures e)
     c.write_alternative.ensures.written
 
@@ -298,7 +298,7 @@ write-returns-in_ok-write_index-in-Some-ext-clause-of_type g t c =
 pub write-returns-in_ok-write_index-in-Some-ext-clause-written : goal.write-returns-in_ok-write_index-in-Some-ext-clause-written
 write-returns-in_ok-write_index-in-Some-ext-clause-written g t c =
     on_ok_weaker c.write_added_alternative.result
-    (λ e. choice_added_written c.args.ty.now c.args.value.now c.in-Choice.root c.in-Choice.ext c.in-Choice-value.tag c.in-Choice-value.chosen c.in-Choice.is c.in-Choice-value.is c.len-known.result c.len-known.ensures g.met.R.WriteLeaves.laws
+    (λ e. choice_added_written c.args.ty.now c.args.value.now c.in-Choice.root c.in-Choice.ext c.in-Choice-value.tag c.in-Choice-value.chosen c.in-Choice.is c.in-Choice-value.is c.len-known.result c.len-known.ensures c.keep_write_laws.ensures
     c.if-place-known.false c.in-Some-ext.additions c.deref-in-Some-ext.result.now c.deref-in-Some-ext-2.result.now c.args.sink.now c.write_index-in-Some-ext.new.sink c.write_added_alternative.new.sink c.in-Some-ext.is c.deref-in-Some-ext.ensures.value c.deref-in-Some-ext-2.ensures c.in_ok-write_index-in-Some-ext.ensures e)
     c.write_added_alternative.ensures.written
 

@@ -1,10 +1,10 @@
 -- The bits of a SEQUENCE as its writer puts them, in any rules: the root, and the extension additions.
-use Rattle.std.proofs.Common.{◌≡◌, ◌≤◌, ◌<◌, ◌+◌, ◌-◌, ℕ, Bool, true, false, List, [], ◌∷◌, ◌++◌, length, map, take, drop, Option, Some, None, is_some, Vec, Global, refl, sym, ◌∙◌, ap, subst, arith}
+use Rattle.std.proofs.Common.{◌≡◌, ◌<◌, ◌+◌, ℕ, Bool, true, false, List, [], ◌∷◌, ◌++◌, length, map, take, drop, Option, Some, None, Vec, Global, refl, sym, ◌∙◌, ap, subst, arith}
 use Rattle.std.specs.List.{list_all}
 use Rattle.std.specs.Option.{option_map}
-use Rattle.std.proofs.lemmas.List.{append-nil, length-map, take_all, drop_all}
+use Rattle.std.proofs.lemmas.List.{append-nil, take_all}
 use Rattle.asn_values.specs.Datum.{Datum, components, components_of}
-use Rattle.asn_values.specs.Shape.{Shape, Demand, must, optional, default, Fields, field, MoreFields, closed, marked, is_marked, demands, sequence}
+use Rattle.asn_values.specs.Shape.{Shape, Demand, must, optional, default, Fields, field, MoreFields, closed, marked, demands, sequence}
 use Rattle.asn_values.specs.declared.types.Field.{Field}
 use Rattle.asn_values.specs.declared.value.Value.{Value}
 use Rattle.asn_values.specs.Fits.{Fits, FitsEach}
@@ -15,13 +15,13 @@ use Rattle.asn_values.proofs.Views.{component_list-components_of}
 use Rattle.asn_bits.specs.Numbers.{bits}
 use Rattle.asn_bits.proofs.Octets.{length-digits}
 use Rattle.asn_rules.specs.Chunks.{Chunk, ones}
-use Rattle.asn_rules.specs.Components.{presence, any_present, extension_bit}
+use Rattle.asn_rules.specs.Components.{presence, any_present}
 use Rattle.asn_walk.specs.Coding.{Coding}
-use Rattle.asn_walk.specs.Composites.{in_open_field, each_code, open_code, additions_code, more_code, root_code, sequence_code}
+use Rattle.asn_walk.specs.Composites.{in_open_field, each_code, open_code, additions_code, root_code, sequence_code}
 use Rattle.asn_walk.specs.WriteLaws.{WriteLaws}
 use Rattle.asn_walk.specs.Writing.{AreOptional, written, Writes, WritesUnits, mark_bits}
 use Rattle.asn_walk.proofs.WriteComponents.{FitsHere, Written, absent_fits, written_starts, written_on, written_past, written-append, writes_both, writes_units, writes_nothing}
-use Rattle.asn_walk.proofs.WriteEntries.{OfSequence, mark_of_fields, ours_are, theirs_are}
+use Rattle.asn_walk.proofs.WriteEntries.{OfSequence, ours_are, theirs_are}
 use Rattle.asn_walk.proofs.WritePresence.{Left}
 
 -- ---- the open fields

@@ -1,17 +1,15 @@
-use Rattle.std.proofs.Common.{rules, ℕ, subst, take, drop, true, ◌≡◌, ◌∷◌, ◌⊎◌, ◌++◌, [], map, min, Some, None, inl, inr, refl, sym, ap, ◌∙◌, arith, ◌≤◌, ◌<◌, length, ◌+◌, ◌-◌, false, is_some}
+use Rattle.std.proofs.Common.{rules, subst, take, drop, true, ◌≡◌, ◌∷◌, ◌++◌, map, min, Some, None, refl, sym, ap, ◌∙◌, arith, ◌<◌, length, ◌-◌}
 use mir.Syntax.{w128}
 use mir.Val.{to_z, of_z}
 use Rattle.std.specs.Option.{option_map}
 use Rattle.std.proofs.lemmas.List.{length-map}
 use Rattle.std.proofs.lemmas.Result.{on_ok_weaker}
-use Rattle.std.proofs.lemmas.Slice.Zip.{either_empty_from_Zip}
 use Rattle.asn_values.specs.declared.types.AsnType.{the_lemmas}
 use Rattle.asn_values.specs.Shape.{Shape, integer, MoreFields, sequence, marked}
 use Rattle.asn_values.specs.Datum.{number}
 use Rattle.asn_values.specs.Fits.{Fits, FitsLength, FitsNumber}
-use Rattle.asn_values.specs.Profile.{InProfile}
 use Rattle.asn_values.specs.View.{shape_of, datum_of, range_of, fields_of, part_of_field, more_fields_of, size_range_of}
-use Rattle.asn_values.proofs.Views.{shape_of-Int, list_of_elements}
+use Rattle.asn_values.proofs.Views.{shape_of-Int}
 use Rattle.asn_values.proofs.Alternatives.{fits_at, no_truth}
 use Rattle.asn_values.proofs.Components.{shape_of_part}
 use Rattle.asn_values.proofs.Entries.{other_length}
@@ -25,8 +23,8 @@ use Rattle.asn_walk.proofs.Widths.{demand_of_part, datum_of-Int}
 use Rattle.asn_walk.proofs.WriteChoices.{root_fits, added_fits, past_root, past_additions, spelled_there, root_written as choice_root_written, added_written as choice_added_written}
 use Rattle.asn_walk.proofs.WriteComponents.{spelt_unless_default, written_more}
 use Rattle.asn_walk.proofs.WriteEntries.{of_sequence, parts_of_profile, unmarked_fits, marked_fits as fits_marked, first_ones, other_ones, added_optional}
-use Rattle.asn_walk.proofs.WriteLists.{list_fits, other_count, list_written, elements_next, elements_end, next_value, no_value, parts_fit, fragments_next, fragments_end, fragments_fit}
-use Rattle.asn_walk.proofs.WriteSequences.{none_fit, none_written, some_bits_there, opened_more, root_written, additions_written, sequence_written, unmarked_written}
+use Rattle.asn_walk.proofs.WriteLists.{list_fits, other_count, list_written, elements_next, next_value, parts_fit, fragments_next, fragments_end, fragments_fit}
+use Rattle.asn_walk.proofs.WriteSequences.{none_fit, some_bits_there, opened_more, root_written, additions_written, sequence_written, unmarked_written}
 use Rattle.asn_walk.proofs.WriteTells.{tells_by, tells_err, written_by}
 use Rattle.asn_walk.proofs.writer.+writer.Goals as goal
 use Rattle.asn_walk.proofs.writer.+writer.Goals.{write_components-in-Default, write_components-in_default-matches-2}

@@ -62,14 +62,14 @@ root_written low high count w h m old mid new e i f a b xs l =
 -- ---- one length after the other
 
 -- so many items follow the first length of n
-last_items : (n : ℕ) → n < 16384 → (first_length n).items ≡ n
+pub last_items : (n : ℕ) → n < 16384 → (first_length n).items ≡ n
 last_items n l = (let t : nat_lt n 16384 ≡ true = lt-ltb n 16384 l in rw (first_length, t) refl)
 
 pub fragment_items : (n : ℕ) → 16384 ≤ n → (first_length n).items ≡ 16384 * blocks n
 fragment_items n l = ap (λ (f : Length). f.items) (first_fragment n l)
 
 -- no more than there are
-first_items : (n : ℕ) → (first_length n).items ≤ n
+pub first_items : (n : ℕ) → (first_length n).items ≤ n
 first_items n = ⊎_elim (λ a. omega (arith, last_items n a)) (λ a. omega (arith, fragment_items n a)) (cases_lt n 16384)
 
 -- the bits of a length, its items, and what stands behind them
@@ -80,12 +80,12 @@ with_length l ls xs =
     ∙ ap (λ (t : List ℕ). l.bits ++ t) (flat-append spelled (joined (take l.items xs)) (with_lengths one ls (drop l.items xs)))
 
 -- what is left behind the items of the first length: nothing behind the last items
-abbrev behind : Bool → List (List Chunk) → List ℕ
+abbrev pub behind : Bool → List (List Chunk) → List ℕ
 behind true xs = []
 behind false xs = general_bits xs
 
 -- items under their general length begin with the first one
-general_first : (xs : List (List Chunk)) → general_bits xs ≡ (first_length (length xs)).bits ++ (row_bits (take (first_length (length xs)).items xs) ++ behind (nat_lt (length xs) 16384) (drop (first_length (length xs)).items xs))
+pub general_first : (xs : List (List Chunk)) → general_bits xs ≡ (first_length (length xs)).bits ++ (row_bits (take (first_length (length xs)).items xs) ++ behind (nat_lt (length xs) 16384) (drop (first_length (length xs)).items xs))
 general_first xs = go (nat_lt (length xs) 16384) refl
   where
     go : (b : Bool) → nat_lt (length xs) 16384 ≡ b → general_bits xs ≡ (first_length (length xs)).bits ++ (row_bits (take (first_length (length xs)).items xs) ++ behind b (drop (first_length (length xs)).items xs))

@@ -14,4 +14,4 @@ pub mod ListsAhead
 pub mod Walk
 pub mod RowsAhead
 pub mod NextLengths
-pub mod Writers
+pub mod Following

@@ -8,7 +8,7 @@ ghost use Rattle.asn_values.specs.View.{range_of};
 ghost use Rattle.asn_per.specs.Kinds.{between, root_of};
 ghost use Rattle.asn_per.specs.Laws.{per_bits};
 ghost use Rattle.asn_per.specs.Per.{ranged};
-ghost use Rattle.asn_per.specs.Writers.{TellsWhether};
+ghost use Rattle.asn_walk.specs.Writing.{TellsWhether};
 
 use asn_bits::BitSink;
 use asn_bits::numbers::width;

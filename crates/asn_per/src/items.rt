@@ -13,7 +13,7 @@ ghost use Rattle.asn_per.specs.Kinds.{place_of, Items, RootItemsBut, IsRootPlace
 ghost use Rattle.asn_per.specs.Laws.{per_bits};
 ghost use Rattle.asn_per.specs.Per.{per, per_fields, rank};
 ghost use Rattle.asn_per.specs.Indexes.{AreRootItems, IsItemWithin, index_of};
-ghost use Rattle.asn_per.specs.Writers.{TellsWhether};
+ghost use Rattle.asn_walk.specs.Writing.{TellsWhether};
 
 use crate::indexes::{read_index, write_index};
 use crate::integer_reader::constrained;

@@ -27,6 +27,7 @@ mod string_tests;
 mod string_writer;
 #[cfg(test)]
 mod tests;
+mod write_leaves;
 
 pub use decoder::decode;
 pub use encoder::encode;

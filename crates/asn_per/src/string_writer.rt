@@ -8,7 +8,7 @@ ghost use Rattle.asn_rules.specs.Components.{extension_bit};
 ghost use Rattle.asn_per.specs.Laws.{per_bits};
 ghost use Rattle.asn_per.specs.Per.{spelled, sized};
 ghost use Rattle.asn_per.specs.StringItems.{item_chunks, AreOfKind, general_bits, behind_count};
-ghost use Rattle.asn_per.specs.Writers.{TellsWhether};
+ghost use Rattle.asn_walk.specs.Writing.{TellsWhether};
 
 use crate::item_writer::{Items, count_of, write_items};
 use asn_bits::BitSink;

@@ -1,0 +1,11 @@
+-- What is still to be written of the items of a list, by what follows of it.
+use Rattle.std.specs.Prelude.{List}
+use Rattle.asn_bits.specs.Lengths.{joined, general}
+use Rattle.asn_rules.specs.Chunks.{Chunk, one}
+use Rattle.asn_per.specs.declared.write_leaves.Following.{Following}
+use Rattle.asn_per.specs.declared.write_leaves.Following.TheVariants as following
+
+-- the items, or the items under their general length
+abbrev pub following_chunks : Following → List (List Chunk) → List Chunk
+following_chunks following.Items items = joined items
+following_chunks following.Length items = general one items

@@ -9,6 +9,7 @@ use Rattle.asn_rules.proofs.Flat.{flat-append}
 use Rattle.asn_walk.specs.Writing.{Advances}
 use Rattle.asn_per.specs.Per.{spelled}
 use Rattle.asn_per.specs.StringItems.{row_bits, general_bits}
+use Rattle.asn_per.specs.Rules.{per_ruling}
 use Rattle.asn_per.specs.Walk.{per_coding}
 use Rattle.asn_per.proofs.SizesWritten.{behind, general_first, last_items, fragment_items, first_items}
 
@@ -21,11 +22,11 @@ joined_parts (suc n) (x ∷ xs) = append_assoc x (joined (take n xs)) (joined (d
 -- ---- items at once
 
 pub items_follow : (sink : List ℕ) (left : ℕ) → 0 < left → Advances per_coding joined left sink joined sink (Some left)
-unfolding per_coding
+unfolding per_coding per_ruling
 items_follow sink left some = (some, omega arith, λ items e. ap (λ (cs : List Chunk). sink ++ flat spelled cs) (joined_parts left items))
 
 pub items_end : (sink : List ℕ) (left : ℕ) → left ≡ 0 → Advances per_coding joined left sink joined sink None
-unfolding per_coding
+unfolding per_coding per_ruling
 items_end sink left none = (none, sym (append-nil sink))
 
 -- ---- behind a length
@@ -53,11 +54,11 @@ module _ (old mid : List ℕ) (left many : ℕ) (m : many ≡ (first_length left
       ∙ append_assoc old first.bits (row_bits items) ∙ ap (λ (l : List ℕ). old ++ l) (sym whole)
 
   pub last_follow : many < 16384 → 0 < many → Advances per_coding (general one) left old joined mid (Some many)
-  unfolding per_coding
+  unfolding per_coding per_ruling
   last_follow h some = (some, omega (arith, all h), λ items n. ap (λ (cs : List Chunk). mid ++ flat spelled cs) (joined_parts many items) ∙ last_there h items n)
 
   pub last_end : many ≡ 0 → Advances per_coding (general one) left old joined mid None
-  unfolding per_coding
+  unfolding per_coding per_ruling
   last_end none =
       let h : many < 16384 = omega (arith, none) in
       let nothing : left ≡ 0 = sym (all h) ∙ none in
@@ -65,7 +66,7 @@ module _ (old mid : List ℕ) (left many : ℕ) (m : many ≡ (first_length left
 
   -- a fragment
   pub fragment_follows : 16384 ≤ many → Advances per_coding (general one) left old (general one) mid (Some many)
-  unfolding per_coding
+  unfolding per_coding per_ruling
   fragment_follows h =
       let large : 16384 ≤ left = omega (arith, h, m, first_items left) in
       (omega (arith, h), omega (arith, m, first_items left), λ items n.

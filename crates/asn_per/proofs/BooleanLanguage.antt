@@ -14,7 +14,7 @@ use Rattle.asn_rules.specs.Listed.{IsOther, Spelt}
 use Rattle.asn_rules.proofs.Leads.{Leads, leads_on, leads_map, leads_same}
 use Rattle.asn_rules.proofs.Spellings.{same_after, same_map, set_spelled, map_spelled}
 use Rattle.asn_per.specs.Per.{per, per_fields}
-use Rattle.asn_per.specs.Reading.{Admits, up_to}
+use Rattle.asn_rules.specs.NumberSets.{Admits, up_to}
 
 -- a bit as a truth value
 abbrev pub truth_from : ℕ → Datum

@@ -23,7 +23,7 @@ use Rattle.asn_rules.specs.Listed.{Spelt, Listed, Entry, default_of, bitmap_leng
 use Rattle.asn_rules.proofs.Leads.{LeadsStops, Leads, leads_here, leads_map, stops_on}
 use Rattle.asn_rules.proofs.ListedReading.{Steps, steps_must, steps_bit, leads_entry, nothing_read}
 use Rattle.asn_per.specs.Per.{per, per_fields}
-use Rattle.asn_per.specs.Reading.{Admits, up_to}
+use Rattle.asn_rules.specs.NumberSets.{Admits, up_to}
 use Rattle.asn_per.proofs.SequenceLanguage.{bitmap_stops, components_leads}
 use Rattle.asn_per.proofs.PerFields.{per_fields_part}
 use Rattle.asn_per.proofs.Whole.{per_parts}

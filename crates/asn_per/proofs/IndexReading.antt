@@ -12,8 +12,8 @@ use Rattle.asn_rules.proofs.Sets.{set_inhabited, set_lawful}
 use Rattle.asn_per.specs.Indexes.{IndexesOf}
 use Rattle.asn_per.specs.Kinds.{Below, SmallBelow}
 use Rattle.asn_per.specs.Per.{per_fields}
-use Rattle.asn_per.specs.Reading.{Admits, up_to}
-use Rattle.asn_per.proofs.CountedReading.{same_set}
+use Rattle.asn_rules.specs.NumberSets.{Admits, up_to}
+use Rattle.asn_rules.proofs.NumberSets.{same_set}
 use Rattle.asn_per.proofs.PerFields.{per_fields_part}
 
 -- ---- numbers below a count

@@ -18,9 +18,9 @@ use Rattle.asn_rules.proofs.Spellings.{same_after}
 use Rattle.asn_per.specs.Kinds.{place_of, Below, SmallBelow, RootItems, Items, RootItemsBut, IndexesBut, IsRootPlace, of_either}
 use Rattle.asn_per.specs.Per.{per, per_fields}
 use Rattle.asn_per.specs.Indexes.{IsItemWithin, IndexesOf, index_of}
-use Rattle.asn_per.specs.Reading.{Admits, up_to}
+use Rattle.asn_rules.specs.NumberSets.{Admits, up_to}
 use Rattle.asn_per.proofs.EnumeratedLanguages.{items_compose}
-use Rattle.asn_per.proofs.CountedReading.{same_set}
+use Rattle.asn_rules.proofs.NumberSets.{same_set}
 use Rattle.asn_per.proofs.LeftOut.{enumerated_but_one, none_left_out}
 
 -- ---- sets of indexes

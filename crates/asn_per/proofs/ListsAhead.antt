@@ -29,9 +29,10 @@ use Rattle.asn_rules.proofs.Spellings.{same_after, same_map, same_fork}
 use Rattle.asn_rules.proofs.Then.{Follows}
 use Rattle.asn_per.specs.Per.{spelled, per_fields}
 use Rattle.asn_per.specs.Kinds.{Below, of_either, IsOtherCount, CountWithin, RootSized, Sized}
-use Rattle.asn_per.specs.declared.number_reader.Numbers.{Numbers}
-use Rattle.asn_per.specs.Reading.{Admits, Appends}
-use Rattle.asn_per.proofs.CountedReading.{same_set}
+use Rattle.asn_rules.specs.declared.number_reader.NumberSet.{NumberSet}
+use Rattle.asn_rules.specs.NumberSets.{Admits}
+use Rattle.asn_per.specs.Reading.{Appends}
+use Rattle.asn_rules.proofs.NumberSets.{same_set}
 use Rattle.asn_walk.specs.Ahead.{Ahead, items, lengths, end, Remaining, SomeAhead, Advances, Next, StopsNext}
 use Rattle.asn_walk.specs.Laws.{IsSizeOfProfile}
 use Rattle.asn_per.specs.ListsAhead.{other_counts, RootStart, Start}
@@ -311,8 +312,8 @@ no_mark low high true us t = absurd (cc)
 no_mark low high false us t = leads_here per_fields (RootStart low high) us
 
 -- the counts of the root
-abbrev pub root_set : ℕ → Numbers
-root_set above = record { low = 0; high = above; except = None }
+abbrev pub root_set : ℕ → NumberSet
+root_set above = record { low = 0; high = above; excluded = None }
 
 -- some number is one of them
 pub some_root_count : (k above : ℕ) → Meets (λ n. Admits (root_set above) n) 0 k

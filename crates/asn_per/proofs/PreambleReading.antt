@@ -25,13 +25,14 @@ use Rattle.asn_rules.proofs.Leads.{LeadsStops, Leads, leads_on, leads_map, leads
 use Rattle.asn_rules.proofs.Sets.{set_inhabited, set_lawful}
 use Rattle.asn_rules.proofs.Spellings.{same_after, same_map, same_then, same_spelled, set_spelled, then_spelled, map_spelled, fork_spelled, spelled_inhabited}
 use Rattle.asn_walk.specs.Coding.{CanExtend, GoodPreamble, PreambleOf, AdditionBitmapOf}
-use Rattle.asn_per.specs.declared.number_reader.Numbers.{Numbers}
+use Rattle.asn_rules.specs.declared.number_reader.NumberSet.{NumberSet}
 use Rattle.asn_per.specs.Kinds.{AdditionCount, SomePresent}
 use Rattle.asn_per.specs.Per.{per_fields, small_length}
-use Rattle.asn_per.specs.Reading.{Admits, up_to, StopsAtMark}
+use Rattle.asn_rules.specs.NumberSets.{Admits, up_to}
+use Rattle.asn_per.specs.Reading.{StopsAtMark}
 use Rattle.asn_per.specs.Walk.{per_coding}
 use Rattle.asn_per.proofs.AdditionLanguages.{count_bits}
-use Rattle.asn_per.proofs.CountedReading.{same_set}
+use Rattle.asn_rules.proofs.NumberSets.{same_set}
 use Rattle.asn_per.proofs.PerFields.{per_fields_part}
 
 -- ---- the preamble: an extension bit and presence bits
@@ -123,11 +124,11 @@ module _ (n high : ℕ) (all : high + 1 ≡ 2 ^ n) where
 -- ---- the presence bits of the additions, behind their count
 
 -- the one count, and the bitmaps that are not all 0
-abbrev pub only : ℕ → Numbers
-only n = record { low = n; high = n; except = None }
+abbrev pub only : ℕ → NumberSet
+only n = record { low = n; high = n; excluded = None }
 
-abbrev pub not_zero : ℕ → Numbers
-not_zero high = record { low = 0; high = high; except = Some 0 }
+abbrev pub not_zero : ℕ → NumberSet
+not_zero high = record { low = 0; high = high; excluded = Some 0 }
 
 module _ (n last : ℕ) (some : 0 < n) (few : n ≤ 64) (is : last + 1 ≡ n) where
   -- the count of the additions

@@ -21,7 +21,7 @@ use Rattle.asn_rules.proofs.Listed.{listed_inhabited}
 use Rattle.asn_rules.proofs.ListedEach.{listed_is, is_listed}
 use Rattle.asn_rules.proofs.Sets.{set_lawful}
 use Rattle.asn_per.specs.Per.{per, per_each, per_fields}
-use Rattle.asn_per.specs.Reading.{Admits, up_to}
+use Rattle.asn_rules.specs.NumberSets.{Admits, up_to}
 use Rattle.asn_per.proofs.PerFields.{per_fields_part}
 use Rattle.asn_per.proofs.Spellings.{component_list-of, entries_count}
 

@@ -11,7 +11,8 @@ use Rattle.asn_bits.specs.Numbers.{above}
 use Rattle.asn_bits.proofs.Above.{pos-above, le_of_test, test_of_le, above_same}
 use Rattle.asn_rules.specs.Components.{is_default}
 use Rattle.asn_per.specs.Kinds.{IsOutside}
-use Rattle.asn_per.specs.Reading.{Held, AreOffsets, IsUpTo, low_offset, high_offset}
+use Rattle.asn_rules.specs.OffsetSets.{HasOffset}
+use Rattle.asn_per.specs.Reading.{AreOffsets, IsUpTo, low_offset, high_offset}
 use Rattle.asn_per.proofs.IntegerLanguages.{default_test, default_self}
 use Rattle.asn_per.proofs.IntegerRanges.{inside}
 
@@ -99,7 +100,7 @@ outside_offsets b good = record { there = λ z h. record { least = h.0; most = h
         (and_cases (at_least b.low z) (at_most b.high z) h)
 
 -- where the mark is of use one is there
-pub some_outside : (b : Range) → InProfile (integer b) → b.extensible ≡ true → (w : ℕ) × Held (record { below = low_offset b.low; from = high_offset b.high; end = 2 ^ 64 }) w
+pub some_outside : (b : Range) → InProfile (integer b) → b.extensible ≡ true → (w : ℕ) × HasOffset (record { below = low_offset b.low; from = high_offset b.high; end = 2 ^ 64 }) w
 some_outside b good m = ⊎_elim
     (λ e. absurd (true≢false (sym m ∙ e)))
     (λ e. ⊎_elim

@@ -25,11 +25,12 @@ use Rattle.asn_rules.proofs.Forks.{same_flip, same_inhabited, map_same}
 use Rattle.asn_rules.proofs.Spellings.{same_after, same_row, same_spelled, same_map, row_spelled, units_front, units_short}
 use Rattle.asn_per.specs.Per.{per_fields}
 use Rattle.asn_per.specs.Kinds.{Bit, Character, truth_of}
-use Rattle.asn_per.specs.Reading.{Admits, Appends, code_width, codes_of, character_at}
+use Rattle.asn_rules.specs.NumberSets.{Admits}
+use Rattle.asn_per.specs.Reading.{Appends, code_width, codes_of, character_at}
 use Rattle.asn_per.proofs.PerFields.{per_fields_part}
 use Rattle.asn_per.proofs.BooleanAndNull.{bit_spelled}
 use Rattle.asn_per.proofs.StringLanguages.{bit_lawful}
-use Rattle.asn_per.proofs.CountedReading.{same_set}
+use Rattle.asn_rules.proofs.NumberSets.{same_set}
 use Rattle.asn_per.proofs.Appending.{appends_more, appends_one}
 
 -- ---- bits

@@ -13,5 +13,4 @@ pub mod StringItems
 pub mod ListsAhead
 pub mod Walk
 pub mod RowsAhead
-pub mod NextLengths
 pub mod Following

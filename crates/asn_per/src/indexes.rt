@@ -11,11 +11,9 @@ ghost use Rattle.asn_per.specs.Indexes.{IndexesOf, index_bits};
 ghost use Rattle.asn_walk.specs.Coding.{IsIndexWithin};
 ghost use Rattle.asn_walk.specs.Views.{index_seen};
 
-use crate::integer_reader::constrained;
-use crate::number_reader::{Numbers, bits_left, number};
 use asn_bits::numbers::width;
 use asn_bits::{BitCursor, BitSink};
-use asn_rules::{Stop, Why};
+use asn_rules::{NumberSet, Stop, Why, bits_left, read_constrained, read_number};
 use asn_walk::Index;
 use std::alloc::AllocError;
 
@@ -79,7 +77,7 @@ fn root_index(count: usize, bits: &mut BitCursor<'_>) -> Result<usize, Stop>
     ensures done { IfOk result (λ n. Spells per_fields (Below (width count) count) n bits.old bits.new) }
     ensures stop { IfErr result (λ why. Stops per_fields (Below (width count) count) bits.old why) }
 {
-    Ok(constrained(count as u64 - 1, None, bits)? as usize)
+    Ok(read_constrained(count as u64 - 1, None, bits)? as usize)
 }
 
 /// Reads an index among the additions: a number below the count in 7 bits, of which the first is 0.
@@ -89,10 +87,10 @@ fn added_index(count: usize, bits: &mut BitCursor<'_>) -> Result<usize, Stop>
     ensures done { IfOk result (λ n. Spells per_fields (SmallBelow count) n bits.old bits.new) }
     ensures stop { IfErr result (λ why. Stops per_fields (SmallBelow count) bits.old why) }
 {
-    let set = Numbers {
+    let set = NumberSet {
         low: 0,
         high: count as u64 - 1,
-        except: None,
+        excluded: None,
     };
-    Ok(number(7, set, Why::Number, bits)? as usize)
+    Ok(read_number(7, set, Why::Number, bits)? as usize)
 }

@@ -1,39 +1,30 @@
 //! Readers of integers and truth values, of which one may be left out: a component that has a DEFAULT is
 //! spelt with another value only.
-ghost use Rattle.std.specs.Prelude.{◌≡◌, ◌≤◌, ◌<◌, ◌≤ℤ◌, ◌+◌, ◌^◌, pos, IfOk, IfErr, IfSome, IsNone, ℕ, Some, None, true, false};
+ghost use Rattle.std.specs.Prelude.{◌≡◌, ◌≤ℤ◌, IfOk, IfErr, IfSome, IsNone, ℕ, Some, None, true, false};
 ghost use Rattle.std.specs.Option.{option_map};
 ghost use Rattle.asn_values.specs.Datum.{number, truth};
 ghost use Rattle.asn_values.specs.Shape.{integer, boolean};
 ghost use Rattle.asn_values.specs.Fits.{lowest_integer, highest_integer};
 ghost use Rattle.asn_values.specs.Profile.{InProfile, is_outside};
 ghost use Rattle.asn_values.specs.View.{range_of};
-ghost use Rattle.asn_bits.specs.Numbers.{width, above};
+ghost use Rattle.asn_bits.specs.Numbers.{above};
 ghost use Rattle.asn_bits.specs.Sink.{bit_of};
-ghost use Rattle.asn_rules.specs.Languages.{Spells, Map, Plain, Inhabited};
-ghost use Rattle.asn_rules.specs.Counted.{Counted, number_of, Least};
+ghost use Rattle.asn_rules.specs.Languages.{Spells, Inhabited};
 ghost use Rattle.asn_rules.specs.Listed.{Spelt};
-ghost use Rattle.asn_bits.specs.Sets.{Meets, InSet};
 ghost use Rattle.asn_rules.specs.Stops.{Stops};
 ghost use Rattle.asn_per.specs.Per.{per, per_fields};
 ghost use Rattle.asn_per.specs.Kinds.{Unconstrained, IsOutside};
-ghost use Rattle.asn_per.specs.Reading.{Admits, IsWithin, unmarked, up_to, least_of, highest_count_of, AreOffsets, IsUpTo, IsOpen, Held, low_offset, high_offset};
+ghost use Rattle.asn_rules.specs.OffsetSets.{IsOpen, HasOffset};
+ghost use Rattle.asn_per.specs.Reading.{IsWithin, unmarked, AreOffsets, IsUpTo, low_offset, high_offset};
 
-use crate::number_reader::{Numbers, number, take};
-use crate::signed_reader::{Offsets, unconstrained};
 use asn_bits::BitCursor;
-use asn_bits::numbers::{octet_count, width};
+use asn_bits::numbers::width;
 use asn_bits::offsets::{above, number_above};
-use asn_rules::{Stop, Why};
+use asn_rules::{
+    HIGHEST_INTEGER, INTEGER_COUNT, LOWEST_INTEGER, NumberSet, OffsetSet, Stop, Why,
+    read_constrained, read_number, read_semi_constrained, read_unconstrained, try_number,
+};
 use asn_values::Bounds;
-
-/// The lowest integer of the profile.
-const LOWEST: i128 = -9_223_372_036_854_775_808;
-
-/// The highest integer of the profile.
-const HIGHEST: i128 = 9_223_372_036_854_775_807;
-
-/// How many integers the profile has.
-const ALL: u128 = 18_446_744_073_709_551_616;
 
 /// Reads an integer of the range (X.691, "encoding the integer type"), but for `except`: behind an
 /// extension mark a bit tells whether it lies between the bounds.
@@ -99,11 +90,11 @@ fn from_low(
     let left_out = offset_left_out(low, high, except);
     match high {
         Some(high) => {
-            let offset = constrained(above(low, high), left_out, bits)?;
+            let offset = read_constrained(above(low, high), left_out, bits)?;
             Ok(number_above(low, offset))
         }
         None => {
-            let offset = counted(above(low, HIGHEST), left_out, bits)?;
+            let offset = read_semi_constrained(above(low, HIGHEST_INTEGER), left_out, bits)?;
             Ok(number_above(low, offset))
         }
     }
@@ -117,12 +108,12 @@ pub(crate) fn take_between(low: i128, high: i128, bits: &mut BitCursor<'_>) -> O
     ensures none { IsNone result → bits.new ≡ bits.old }
 {
     let highest = above(low, high);
-    let set = Numbers {
+    let set = NumberSet {
         low: 0,
         high: highest,
-        except: None,
+        excluded: None,
     };
-    let offset = take(width(u128::from(highest) + 1), set, bits)?;
+    let offset = try_number(width(u128::from(highest) + 1), set, bits)?;
     Some(number_above(low, offset))
 }
 
@@ -154,12 +145,12 @@ fn up_to_high(
         Some(_) => (Why::Default, Why::Default),
         None => (Why::Length, Why::Number),
     };
-    let offset = unconstrained(offsets_up_to(high, except), in_count, in_number, bits)?;
-    Ok(number_above(LOWEST, offset))
+    let offset = read_unconstrained(offsets_up_to(high, except), in_count, in_number, bits)?;
+    Ok(number_above(LOWEST_INTEGER, offset))
 }
 
 /// The offsets of the integers up to the high bound, but for `except`.
-fn offsets_up_to(high: Option<i128>, except: Option<i128>) -> Offsets
+fn offsets_up_to(high: Option<i128>, except: Option<i128>) -> OffsetSet
     requires of_profile { InProfile (integer (unmarked None high)) }
     requires within { IsWithin (unmarked None high) except }
     ensures same { AreOffsets result (λ z. IsUpTo high except z) }
@@ -168,14 +159,14 @@ fn offsets_up_to(high: Option<i128>, except: Option<i128>) -> Offsets
     let end = high_offset(high);
     match except {
         Some(whole) => {
-            let below = u128::from(above(LOWEST, whole));
-            Offsets {
+            let below = u128::from(above(LOWEST_INTEGER, whole));
+            OffsetSet {
                 below,
                 from: below + 1,
                 end,
             }
         }
-        None => Offsets {
+        None => OffsetSet {
             below: 0,
             from: 0,
             end,
@@ -190,22 +181,22 @@ fn outside(bounds: &Bounds, bits: &mut BitCursor<'_>) -> Result<i128, Stop>
     ensures done { IfOk result (λ z. Spells per_fields (Unconstrained (λ y. IsOutside (range_of bounds.now) y)) (number z) bits.old bits.new) }
     ensures stop { IfErr result (λ why. Stops per_fields (Unconstrained (λ y. IsOutside (range_of bounds.now) y)) bits.old why) }
 {
-    let offset = unconstrained(offsets_outside(bounds), Why::Length, Why::Number, bits)?;
-    Ok(number_above(LOWEST, offset))
+    let offset = read_unconstrained(offsets_outside(bounds), Why::Length, Why::Number, bits)?;
+    Ok(number_above(LOWEST_INTEGER, offset))
 }
 
 /// The offsets of the integers outside the bounds.
-fn offsets_outside(bounds: &Bounds) -> Offsets
+fn offsets_outside(bounds: &Bounds) -> OffsetSet
     requires of_profile { InProfile (integer (range_of bounds.now)) }
     requires mark { bounds.now.ext ≡ true }
     ensures same { AreOffsets result (λ y. IsOutside (range_of bounds.now) y) }
     ensures gap { IsOpen result }
-    ensures some { (w : ℕ) × Held result w }
+    ensures some { (w : ℕ) × HasOffset result w }
 {
-    Offsets {
+    OffsetSet {
         below: low_offset(bounds.low),
         from: high_offset(bounds.high),
-        end: ALL,
+        end: INTEGER_COUNT,
     }
 }
 
@@ -215,7 +206,7 @@ fn low_offset(low: Option<i128>) -> u128
     ensures { result ≡ low_offset low }
 {
     match low {
-        Some(low) => u128::from(above(LOWEST, low)),
+        Some(low) => u128::from(above(LOWEST_INTEGER, low)),
         None => 0,
     }
 }
@@ -226,105 +217,9 @@ fn high_offset(high: Option<i128>) -> u128
     ensures { result ≡ high_offset high }
 {
     match high {
-        Some(high) => u128::from(above(LOWEST, high)) + 1,
-        None => ALL,
+        Some(high) => u128::from(above(LOWEST_INTEGER, high)) + 1,
+        None => INTEGER_COUNT,
     }
-}
-
-/// Reads a number of 0 to `high`, but for `except`, in the fewest bits that tell so many apart
-/// (X.691, "constrained whole number").
-#[inline(always)]
-pub(crate) fn constrained(
-    high: u64,
-    except: Option<u64>,
-    bits: &mut BitCursor<'_>,
-) -> Result<u64, Stop>
-    requires { Meets (λ n. Admits (up_to high except) n) 0 (width (high + 1)) }
-    ensures done { IfOk result (λ n. Spells per_fields (Plain (InSet (width (high + 1)) (λ m. Admits (up_to high except) m))) n bits.old bits.new) }
-    ensures stop { IfErr result (λ why. Stops per_fields (Plain (InSet (width (high + 1)) (λ m. Admits (up_to high except) m))) bits.old why) }
-{
-    let set = Numbers {
-        low: 0,
-        high,
-        except,
-    };
-    let why = if except.is_some() {
-        Why::Default
-    } else {
-        Why::Number
-    };
-    number(width(u128::from(high) + 1), set, why, bits)
-}
-
-/// Reads a number of 0 to `high`, but for `except`, in the fewest octets behind their count in an octet
-/// (X.691, "semi-constrained whole number").
-fn counted(high: u64, except: Option<u64>, bits: &mut BitCursor<'_>) -> Result<u64, Stop>
-    requires { Meets (λ n. Admits (up_to high except) n) 0 64 }
-    ensures done { IfOk result (λ n. Spells per_fields (Map number_of (Counted 2 8 (Least (λ m. Admits (up_to high except) m)))) n bits.old bits.new) }
-    ensures stop { IfErr result (λ why. Stops per_fields (Map number_of (Counted 2 8 (Least (λ m. Admits (up_to high except) m)))) bits.old why) }
-{
-    let counts = Numbers {
-        low: 1,
-        high: highest_count(high, except),
-        except: None,
-    };
-    let (in_count, in_number) = match except {
-        Some(_) => (Why::Default, Why::Default),
-        None => (Why::Length, Why::Number),
-    };
-    let count = number(8, counts, in_count, bits)? as u32;
-    let set = Numbers {
-        low: least_with(count),
-        high: high.min(greatest_with(count)),
-        except,
-    };
-    number(8 * count, set, in_number, bits)
-}
-
-/// The highest count of octets that a number of 0 to `high`, but for `except`, needs.
-fn highest_count(high: u64, except: Option<u64>) -> u64
-    ensures count { result ≡ highest_count_of high except }
-    ensures few { result ≤ 8 }
-{
-    let most = octet_count(high);
-    if except == Some(high) && high == least_with(most) {
-        u64::from(most) - 1
-    } else {
-        u64::from(most)
-    }
-}
-
-/// The least number that needs so many octets.
-fn least_with(count: u32) -> u64
-    requires some { 1 ≤ count }
-    requires few { count ≤ 8 }
-    ensures { result ≡ least_of count }
-{
-    if count <= 1 {
-        0
-    } else {
-        power_of_two(8 * (count - 1))
-    }
-}
-
-/// The greatest number that so many octets hold.
-fn greatest_with(count: u32) -> u64
-    requires some { 1 ≤ count }
-    requires few { count ≤ 8 }
-    ensures { result + 1 ≡ 256 ^ count }
-{
-    if count == 8 {
-        u64::MAX
-    } else {
-        power_of_two(8 * count) - 1
-    }
-}
-
-pub(crate) fn power_of_two(exponent: u32) -> u64
-    requires { exponent < 64 }
-    ensures { result ≡ 2 ^ exponent }
-{
-    1u64 << exponent
 }
 
 /// Reads a truth value, but for `except` (X.691, "encoding the boolean type").
@@ -333,17 +228,17 @@ pub(crate) fn boolean(except: Option<bool>, bits: &mut BitCursor<'_>) -> Result<
     ensures done { IfOk result (λ b. Spells per_fields (Spelt per (option_map truth except) boolean) (truth b) bits.old bits.new) }
     ensures stop { IfErr result (λ why. Stops per_fields (Spelt per (option_map truth except) boolean) bits.old why) }
 {
-    let set = Numbers {
+    let set = NumberSet {
         low: 0,
         high: 1,
-        except: bit_left_out(except),
+        excluded: bit_left_out(except),
     };
     let why = if except.is_some() {
         Why::Default
     } else {
         Why::Number
     };
-    Ok(number(1, set, why, bits)? == 1)
+    Ok(read_number(1, set, why, bits)? == 1)
 }
 
 /// The bit of the truth value that is left out.

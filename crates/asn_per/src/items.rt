@@ -16,9 +16,8 @@ ghost use Rattle.asn_per.specs.Indexes.{AreRootItems, IsItemWithin, index_of};
 ghost use Rattle.asn_walk.specs.Writing.{TellsWhether};
 
 use crate::indexes::{read_index, write_index};
-use crate::integer_reader::constrained;
 use asn_bits::{BitCursor, BitSink};
-use asn_rules::{EncodeFault, Stop};
+use asn_rules::{EncodeFault, Stop, read_constrained};
 use asn_values::{Item, Value, item_fits};
 use asn_walk::Index;
 use std::alloc::AllocError;
@@ -106,7 +105,7 @@ fn root_item(root: &[Item], except: Option<u32>, bits: &mut BitCursor<'_>) -> Re
     ensures stop { IfErr result (λ why. Stops per_fields (RootItemsBut (map label_of root.now) except) bits.old why) }
 {
     let left_out = index_left_out(root, except);
-    let index = constrained(root.len() as u64 - 1, left_out, bits)?;
+    let index = read_constrained(root.len() as u64 - 1, left_out, bits)?;
     Ok(place_of_index(root, index as usize))
 }
 

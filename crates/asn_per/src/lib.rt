@@ -12,14 +12,11 @@ mod item_writer;
 mod items;
 mod kinds;
 mod laws;
-mod length_reader;
 #[cfg(test)]
 mod list_tests;
-mod number_reader;
 mod per;
 mod read_leaves;
 mod row_reader;
-mod signed_reader;
 mod size_reader;
 mod string_reader;
 #[cfg(test)]

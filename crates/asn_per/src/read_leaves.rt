@@ -6,14 +6,13 @@ ghost use Rattle.asn_per.specs.RowsAhead.{ahead_of, IsBetween};
 ghost use Rattle.asn_per.specs.Walk.{per_coding};
 
 use crate::indexes;
-use crate::integer_reader::{boolean, integer, power_of_two, take_between};
+use crate::integer_reader::{boolean, integer, take_between};
 use crate::items::enumerated;
-use crate::number_reader::{Numbers, bits_left, number, padding};
 use crate::per::Per;
 use crate::size_reader::Rows;
 use crate::string_reader::{bit_string, octet_string, text, utf8_string};
 use asn_bits::BitCursor;
-use asn_rules::{Stop, Why};
+use asn_rules::{NumberSet, Stop, Why, bits_left, power_of_two, read_number, read_padding};
 use asn_values::{AsnType, Size, Value};
 use asn_walk::{Index, Preamble, ReadLeaves};
 use std::alloc::Global;
@@ -88,12 +87,12 @@ impl ReadLeaves for Per {
             None => false,
             Some(listed) => extension_bit(listed > 0, units)?,
         };
-        let set = Numbers {
+        let set = NumberSet {
             low: 0,
             high: highest_bitmap(count),
-            except: None,
+            excluded: None,
         };
-        let bitmap = number(count, set, Why::Number, units)?;
+        let bitmap = read_number(count, set, Why::Number, units)?;
         Ok(Preamble { extended, bitmap })
     }
 
@@ -101,18 +100,18 @@ impl ReadLeaves for Per {
     #[tactic(auto, unfolding(crate::specs::Walk::per_coding, crate::specs::Rules::per_ruling))]
     fn read_addition_bitmap(count: u32, units: &mut BitCursor<'_>) -> Result<u64, Stop> {
         let last = u64::from(count) - 1;
-        let of_type = Numbers {
+        let of_type = NumberSet {
             low: last,
             high: last,
-            except: None,
+            excluded: None,
         };
-        number(7, of_type, Why::Extension, units)?;
-        let some_present = Numbers {
+        read_number(7, of_type, Why::Extension, units)?;
+        let some_present = NumberSet {
             low: 0,
             high: highest_bitmap(count),
-            except: Some(0),
+            excluded: Some(0),
         };
-        number(count, some_present, Why::Extension, units)
+        read_number(count, some_present, Why::Extension, units)
     }
 
     #[inline(always)]
@@ -143,7 +142,7 @@ impl ReadLeaves for Per {
         } else {
             units.rest_of_octet()
         };
-        padding(zeros, units)
+        read_padding(zeros, units)
     }
 
     #[inline(always)]

@@ -9,11 +9,11 @@ ghost use Rattle.asn_rules.specs.Languages.{Spells, Row};
 ghost use Rattle.asn_rules.specs.Stops.{Stops};
 ghost use Rattle.asn_per.specs.Per.{per_fields};
 ghost use Rattle.asn_per.specs.Kinds.{Bit, Character};
-ghost use Rattle.asn_per.specs.Reading.{Admits, Appends, code_width, codes_of, character_at};
+ghost use Rattle.asn_rules.specs.NumberSets.{Admits};
+ghost use Rattle.asn_per.specs.Reading.{Appends, code_width, codes_of, character_at};
 
-use crate::number_reader::{Numbers, admits, bits_left, number};
 use asn_bits::BitCursor;
-use asn_rules::{Stop, Why};
+use asn_rules::{NumberSet, Stop, Why, admits, bits_left, read_number};
 use asn_values::TextKind;
 use std::alloc::AllocError;
 
@@ -161,7 +161,7 @@ fn character(kind: TextKind, cursor: &mut BitCursor<'_>) -> Result<u8, Stop>
     ensures done { IfOk result (λ c. Spells per_fields (Character (alphabet_of kind)) c cursor.old cursor.new) }
     ensures stop { IfErr result (λ why. Stops per_fields (Character (alphabet_of kind)) cursor.old why) }
 {
-    let code = number(width_of(kind), codes(kind), Why::Character, cursor)?;
+    let code = read_number(width_of(kind), codes(kind), Why::Character, cursor)?;
     Ok(character_of(kind, code))
 }
 
@@ -178,7 +178,7 @@ pub(crate) fn width_of(kind: TextKind) -> u32
 }
 
 /// Which codes there are.
-fn codes(kind: TextKind) -> Numbers
+fn codes(kind: TextKind) -> NumberSet
     ensures { result ≡ codes_of (alphabet_of kind) }
 {
     let (low, high) = match kind {
@@ -186,10 +186,10 @@ fn codes(kind: TextKind) -> Numbers
         TextKind::Visible => (32, 126),
         TextKind::Numeric => (0, 10),
     };
-    Numbers {
+    NumberSet {
         low,
         high,
-        except: None,
+        excluded: None,
     }
 }
 

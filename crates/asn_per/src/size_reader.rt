@@ -10,11 +10,9 @@ ghost use Rattle.asn_walk.specs.Laws.{IsSizeOfProfile};
 ghost use Rattle.asn_per.specs.ListsAhead.{RootStart, Start, other_counts};
 ghost use Rattle.asn_per.specs.RowsAhead.{ahead_of, lengths_of, IsBetween};
 
-use crate::length_reader::next_length;
-use crate::number_reader::{Numbers, number};
 use asn_bits::numbers::width;
 use asn_bits::{BitCursor, Counts, Lengths};
-use asn_rules::{Stop, Why};
+use asn_rules::{NumberSet, Stop, Why, read_next_length, read_number};
 use asn_values::Size;
 
 /// The most items of a list.
@@ -65,7 +63,7 @@ impl Rows {
                 Ok(Some(count))
             }
             Rows::Lengths(lengths) => {
-                let count = next_length(lengths, bits)? as usize;
+                let count = read_next_length(lengths, bits)? as usize;
                 if !lengths.more() {
                     *self = Rows::End;
                 }
@@ -125,12 +123,12 @@ fn root_count(low: u32, high: u32, bits: &mut BitCursor<'_>) -> Result<usize, St
     ensures stop { IfErr result (λ why. Stops per_fields (RootStart low (Some high)) bits.old why) }
 {
     let above = u64::from(high - low);
-    let set = Numbers {
+    let set = NumberSet {
         low: 0,
         high: above,
-        except: None,
+        excluded: None,
     };
-    let count = number(width(u128::from(above) + 1), set, Why::Length, bits)?;
+    let count = read_number(width(u128::from(above) + 1), set, Why::Length, bits)?;
     Ok(low as usize + count as usize)
 }
 

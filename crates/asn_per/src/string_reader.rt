@@ -9,11 +9,10 @@ ghost use Rattle.asn_per.specs.Per.{per_fields};
 ghost use Rattle.asn_per.specs.Kinds.{Bit, Character, Sized, IsUtf8Content};
 ghost use Rattle.asn_walk.specs.Laws.{IsSizeOfProfile};
 
-use crate::number_reader::bits_left;
 use crate::row_reader::{append_bits, append_characters, append_octets};
 use crate::size_reader::{Rows, bounded_count};
 use asn_bits::BitCursor;
-use asn_rules::{Stop, Why};
+use asn_rules::{Stop, Why, bits_left};
 use asn_values::{Size, TextKind};
 use std::alloc::Global;
 

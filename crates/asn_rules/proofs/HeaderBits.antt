@@ -41,7 +41,7 @@ header_of S n s =
     (cases_lt n 128)
 
 -- the count behind what a length says
-record CountOf (S : ℕ → Type 0) (us : List ℕ) : Type 0 where
+pub record CountOf (S : ℕ → Type 0) (us : List ℕ) : Type 0 where
   count : ℕ
   member : S count
   bits_are : us ≡ (first_length count).bits
@@ -62,7 +62,7 @@ blocks_count S m us h =
     record { count = n; member = b.left.member; bits_are = ap (λ x. 1 ∷ 1 ∷ x) (bits_only 6 m us h.digits).1 ∙ ap (λ k. 1 ∷ 1 ∷ bits 6 k) (sym e) ∙ sym (ap (λ l. l.bits) (first_fragment n (omega arith))) }
 
 -- each length is that of a count
-header_first : (S : ℕ → Type 0) (l : Length) (cs : List Chunk) → Header S l cs → (us : List ℕ) × (cs ≡ ones us) × CountOf S us
+pub header_first : (S : ℕ → Type 0) (l : Length) (cs : List Chunk) → Header S l cs → (us : List ℕ) × (cs ≡ ones us) × CountOf S us
 header_first S l cs h = outer h.source cs h.spelt.side
   where
     inner : (a : ℕ ⊎ ℕ) (x : List Chunk) → Branch 0 inl (Plain (InSet 14 (Many S))) a x ⊎ Branch 1 inr (Plain (InSet 6 (Blocks S))) a x → (us : List ℕ) × (x ≡ ones us) × CountOf S (1 ∷ us)

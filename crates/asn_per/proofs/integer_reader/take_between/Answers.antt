@@ -7,7 +7,7 @@ use Rattle.asn_bits.proofs.Above.{kept}
 use Rattle.asn_rules.specs.Languages.{Spells, Plain}
 use Rattle.asn_rules.proofs.Sets.{first_spells}
 use Rattle.asn_per.specs.Per.{per_fields}
-use Rattle.asn_per.specs.Reading.{Admits, up_to}
+use Rattle.asn_rules.specs.NumberSets.{Admits, up_to}
 use Rattle.asn_per.proofs.IntegerLanguages.{constrained_leads}
 use Rattle.asn_per.proofs.IntegerRanges.{low_above_lowest, low_below_high, low_below_highest, high_below_highest, low_kept, high_kept}
 use Rattle.asn_per.proofs.integer_reader.take_between.Goals as goal
@@ -42,10 +42,10 @@ returns-clause-some c =
     let g = c.requires.of_profile in
     let top : c.above-highest.result ≡ above c.args.low c.args.high = rw (low_kept c.args.low (Some c.args.high) g, high_kept c.args.low c.args.high g) at c.above-highest.ensures in
     let n = c.in_ok-offset.offset in
-    let first : Spells per_fields (Plain (InSet c.width.result (λ m. Admits (up_to c.above-highest.result None) m))) n c.args.bits.now c.take.new.bits = first_spells per_fields c.in_ok-offset.ensures.some in
-    let spelt : Spells per_fields (Plain (InSet (width (above c.args.low c.args.high + 1)) (λ m. Admits (up_to (above c.args.low c.args.high) None) m))) n c.args.bits.now c.take.new.bits =
+    let first : Spells per_fields (Plain (InSet c.width.result (λ m. Admits (up_to c.above-highest.result None) m))) n c.args.bits.now c.try_number.new.bits = first_spells per_fields c.in_ok-offset.ensures.some in
+    let spelt : Spells per_fields (Plain (InSet (width (above c.args.low c.args.high + 1)) (λ m. Admits (up_to (above c.args.low c.args.high) None) m))) n c.args.bits.now c.try_number.new.bits =
     rw (c.width.ensures.width, c.from.ensures, top) at first in
-    let whole = (constrained_leads c.args.low c.args.high None g tt c.args.bits.now).done n c.take.new.bits spelt in
+    let whole = (constrained_leads c.args.low c.args.high None g tt c.args.bits.now).done n c.try_number.new.bits spelt in
     let value : c.number_above.result ≡ c.args.low +ℤ pos n = rw (low_kept c.args.low (Some c.args.high) g) at c.number_above.ensures in
     let same : to_z w128 (of_z w128 (c.args.low +ℤ pos n)) ≡ c.args.low +ℤ pos n = kept (c.args.low +ℤ pos n) whole.spelt.fits.0.0 whole.spelt.fits.0.1 in
     rw (value, same) (whole, whole.spelt.fits.0.0, whole.spelt.fits.0.1)

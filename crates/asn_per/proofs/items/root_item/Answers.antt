@@ -9,12 +9,12 @@ use Rattle.asn_rules.specs.Languages.{Plain, Spells}
 use Rattle.asn_rules.specs.Stops.{Stops}
 use Rattle.asn_per.specs.Per.{per_fields}
 use Rattle.asn_per.specs.Indexes.{index_of}
-use Rattle.asn_per.specs.Reading.{Admits, up_to}
+use Rattle.asn_rules.specs.NumberSets.{Admits, up_to}
 use Rattle.asn_per.proofs.ItemReading.{root_leads, some_index}
 use Rattle.asn_per.proofs.items.root_item.Goals as goal
 
-pub constrained-requires : goal.constrained-requires
-constrained-requires c =
+pub read_constrained-requires : goal.read_constrained-requires
+read_constrained-requires c =
     let some : 0 < length c.args.root.now = simp length-map at c.requires.good.some in
     let is : (length c.args.root.now - 1) + 1 ≡ length (map label_of c.args.root.now) = simp length-map (omega arith) in
     rw c.index_left_out-left_out.ensures (some_index (map label_of c.args.root.now) c.args.except (length c.args.root.now - 1) is c.requires.some)
@@ -27,7 +27,7 @@ returns-in_err-index-clause-stop c =
     let is : high + 1 ≡ length ls = simp length-map (omega arith) in
     let p = err_from_is_err_and c.from_residual.result c.from_residual.ensures.1 in
     let stop : Stops per_fields (Plain (InSet (width (high + 1)) (λ n. Admits (up_to high (index_of ls c.args.except)) n))) c.args.bits.now c.in_err-index.field-0.0 =
-    rw c.index_left_out-left_out.ensures at c.in_err-index.ensures.stop in
+    rw c.index_left_out-left_out.ensures at (c.in_err-index.ensures.stop per_fields) in
     rw (p.1, p.2) (stops_by _ (root_leads ls c.args.except high is c.args.bits.now).stops stop)
 
 pub returns-clause-done : goal.returns-clause-done
@@ -37,6 +37,12 @@ returns-clause-done c =
     let n = c.in_ok-index.index in
     let some : 0 < length c.args.root.now = simp length-map at c.requires.good.some in
     let is : high + 1 ≡ length ls = simp length-map (omega arith) in
-    let spelt : Spells per_fields (Plain (InSet (width (high + 1)) (λ m. Admits (up_to high (index_of ls c.args.except)) m))) n c.args.bits.now c.constrained.new.bits =
-    rw c.index_left_out-left_out.ensures at c.in_ok-index.ensures.done in
-    rw c.place_of_index.ensures ((root_leads ls c.args.except high is c.args.bits.now).done n c.constrained.new.bits spelt)
+    let spelt : Spells per_fields (Plain (InSet (width (high + 1)) (λ m. Admits (up_to high (index_of ls c.args.except)) m))) n c.args.bits.now c.read_constrained.new.bits =
+    rw c.index_left_out-left_out.ensures at (c.in_ok-index.ensures.done per_fields) in
+    rw c.place_of_index.ensures ((root_leads ls c.args.except high is c.args.bits.now).done n c.read_constrained.new.bits spelt)
+
+pub place_of_index-requires-clause-inside : goal.place_of_index-requires-clause-inside
+place_of_index-requires-clause-inside c =
+    let s = c.in_ok-index.ensures.done per_fields in
+    let some : 0 < length c.args.root.now = simp length-map at c.requires.good.some in
+    omega (arith, s.spelt.spelt.member.1, some)

@@ -1,6 +1,7 @@
 use Rattle.std.proofs.Common.{◌<◌, ◌*◌, ◌/◌, ◌%◌, ◌^◌, ℕ}
 use Rattle.asn_values.specs.View.{alphabet_of}
-use Rattle.asn_per.specs.Reading.{Admits, code_width, codes_of}
+use Rattle.asn_rules.specs.NumberSets.{Admits}
+use Rattle.asn_per.specs.Reading.{code_width, codes_of}
 use Rattle.asn_per.proofs.row_reader.are_of_kind.Given as goal
 
 abbrev pub invariant-loop-place : goal.invariant-loop-place

@@ -1,6 +1,7 @@
 use Rattle.std.proofs.Common.{◌<◌, ◌-◌, ◌++◌, ◌∷◌, [], ap, ◌∙◌, arith}
 use Rattle.asn_values.specs.View.{alphabet_of}
-use Rattle.asn_per.specs.Reading.{Admits, codes_of}
+use Rattle.asn_rules.specs.NumberSets.{Admits}
+use Rattle.asn_per.specs.Reading.{codes_of}
 use Rattle.asn_per.proofs.StringRows.{next_character}
 use Rattle.asn_per.proofs.row_reader.push_characters.Goals as goal
 

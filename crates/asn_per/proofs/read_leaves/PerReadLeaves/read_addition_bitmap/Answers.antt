@@ -1,29 +1,30 @@
 use Rattle.std.proofs.Common.{◌≡◌, ◌+◌, ◌-◌, arith}
 use Rattle.std.proofs.lemmas.Result.{err_from_is_err_and, IfOk-weaker}
 use Rattle.asn_rules.proofs.Leads.{stops_by}
+use Rattle.asn_per.specs.Per.{per_fields}
 use Rattle.asn_per.specs.Rules.{per_ruling}
 use Rattle.asn_per.specs.Walk.{per_coding}
 use Rattle.asn_per.proofs.Exits.{if_err_weaker}
 use Rattle.asn_per.proofs.PreambleReading.{count_stops, bitmap_leads}
 use Rattle.asn_per.proofs.read_leaves.PerReadLeaves.read_addition_bitmap.Goals as goal
 
-pub returns-in_err-number-clause-stop : goal.returns-in_err-number-clause-stop
+pub returns-in_err-read_number-clause-stop : goal.returns-in_err-read_number-clause-stop
 unfolding per_coding per_ruling
-returns-in_err-number-clause-stop c =
+returns-in_err-read_number-clause-stop c =
     let is : c.from-last.result - 1 + 1 ≡ c.args.count = omega (arith, c.from-last.ensures, c.requires.some) in
     let p = err_from_is_err_and c.from_residual.result c.from_residual.ensures.1 in
-    rw (p.1, p.2) (stops_by _ (count_stops c.args.count (c.from-last.result - 1) c.requires.some c.requires.few is c.args.units.now) c.in_err-number.ensures.stop)
+    rw (p.1, p.2) (stops_by _ (count_stops c.args.count (c.from-last.result - 1) c.requires.some c.requires.few is c.args.units.now) (c.in_err-read_number.ensures.stop per_fields))
 
 pub returns-clause-done : goal.returns-clause-done
 unfolding per_coding per_ruling
 returns-clause-done c =
     let is : c.from-last.result - 1 + 1 ≡ c.args.count = omega (arith, c.from-last.ensures, c.requires.some) in
-    let lead = bitmap_leads c.args.count (c.from-last.result - 1) c.requires.some c.requires.few is c.highest_bitmap.result c.highest_bitmap.ensures c.in_ok-number.field-0 c.args.units.now c.number.new.bits c.in_ok-number.ensures.done in
-    IfOk-weaker c.number-2.result _ _ (λ m s. lead.done m c.number-2.new.bits s) c.number-2.ensures.done
+    let lead = bitmap_leads c.args.count (c.from-last.result - 1) c.requires.some c.requires.few is c.highest_bitmap.result c.highest_bitmap.ensures c.in_ok-read_number.field-0 c.args.units.now c.read_number.new.bits (c.in_ok-read_number.ensures.done per_fields) in
+    IfOk-weaker c.read_number-2.result _ _ (λ m s. lead.done m c.read_number-2.new.bits s) (c.read_number-2.ensures.done per_fields)
 
 pub returns-clause-stop : goal.returns-clause-stop
 unfolding per_coding per_ruling
 returns-clause-stop c =
     let is : c.from-last.result - 1 + 1 ≡ c.args.count = omega (arith, c.from-last.ensures, c.requires.some) in
-    let lead = bitmap_leads c.args.count (c.from-last.result - 1) c.requires.some c.requires.few is c.highest_bitmap.result c.highest_bitmap.ensures c.in_ok-number.field-0 c.args.units.now c.number.new.bits c.in_ok-number.ensures.done in
-    if_err_weaker c.number-2.result _ _ (λ why s. stops_by why lead.stops s) c.number-2.ensures.stop
+    let lead = bitmap_leads c.args.count (c.from-last.result - 1) c.requires.some c.requires.few is c.highest_bitmap.result c.highest_bitmap.ensures c.in_ok-read_number.field-0 c.args.units.now c.read_number.new.bits (c.in_ok-read_number.ensures.done per_fields) in
+    if_err_weaker c.read_number-2.result _ _ (λ why s. stops_by why lead.stops s) (c.read_number-2.ensures.stop per_fields)

@@ -27,7 +27,7 @@ returns-in_err-bitmap-clause-stop c =
           rw (w.units-is, w.extended-is, w.in-Some.is) (marked_leads c.args.count c.highest_bitmap.result c.highest_bitmap.ensures w.in-Some.listed _ c.args.units.now w.extension_bit.new.bits mark.0 (λ e. some_listed w.in-Some.listed (mark.1 e)))
     ] in
     let p = err_from_is_err_and c.from_residual-in_err-bitmap.result c.from_residual-in_err-bitmap.ensures.1 in
-    rw (p.1, p.2) (stops_by _ lead.stops c.in_err-bitmap.ensures.stop)
+    rw (p.1, p.2) (stops_by _ lead.stops (c.in_err-bitmap.ensures.stop per_fields))
 
 pub returns-clause-done : goal.returns-clause-done
 unfolding per_coding per_ruling
@@ -38,4 +38,4 @@ returns-clause-done c =
           let mark = w.in_ok-extended-in-Some.ensures.done in
           rw (w.units-is, w.extended-is, w.in-Some.is) (marked_leads c.args.count c.highest_bitmap.result c.highest_bitmap.ensures w.in-Some.listed _ c.args.units.now w.extension_bit.new.bits mark.0 (λ e. some_listed w.in-Some.listed (mark.1 e)))
     ] in
-    lead.done c.in_ok-bitmap.bitmap c.number.new.bits c.in_ok-bitmap.ensures.done
+    lead.done c.in_ok-bitmap.bitmap c.read_number.new.bits (c.in_ok-bitmap.ensures.done per_fields)

@@ -1,7 +1,0 @@
-use Rattle.std.proofs.Common.{◌-◌, sym, ◌∙◌, arith}
-use Rattle.asn_bits.proofs.Splits.{two_pow_octets}
-use Rattle.asn_per.proofs.CountedNumbers.{least_more}
-use Rattle.asn_per.proofs.integer_reader.least_with.Goals as goal
-
-pub returns-else-count-le1 : goal.returns-else-count-le1
-returns-else-count-le1 c = c.power_of_two.ensures ∙ sym (two_pow_octets (c.args.count - 1)) ∙ sym (least_more c.args.count (omega arith))

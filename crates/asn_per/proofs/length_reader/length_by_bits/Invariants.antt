@@ -1,9 +1,0 @@
-use Rattle.std.proofs.Common.{length}
-use Rattle.asn_per.proofs.LengthReading.{InLength}
-use Rattle.asn_per.proofs.length_reader.length_by_bits.Given as goal
-
-abbrev pub invariant-loop-bit : goal.invariant-loop-bit
-invariant-loop-bit l = InLength l.initial.lengths l.initial.bits l.lengths l.bits
-
-abbrev pub decreases-loop-bit : goal.decreases-loop-bit
-decreases-loop-bit l = length l.bits

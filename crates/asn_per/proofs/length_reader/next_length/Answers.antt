@@ -1,6 +1,0 @@
--- A whole length is taken as it stands.
-use Rattle.asn_per.proofs.LengthReading.{taken_done}
-use Rattle.asn_per.proofs.length_reader.next_length.Goals as goal
-
-pub returns-in-Some-clause-done : goal.returns-in-Some-clause-done
-returns-in-Some-clause-done c = taken_done c.args.lengths.now c.take.new.self c.args.bits.now c.take.new.bits c.in-Some.items c.requires c.in-Some.ensures.some

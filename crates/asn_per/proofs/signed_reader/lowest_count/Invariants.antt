@@ -1,7 +1,0 @@
-use Rattle.std.proofs.Common.{◌<◌, ℕ}
-use Rattle.asn_rules.specs.Counted.{SomeOf, LeastSigned}
-use Rattle.asn_per.specs.Reading.{HeldInteger}
-use Rattle.asn_per.proofs.signed_reader.lowest_count.Given as goal
-
-abbrev pub invariant-loop-count : goal.invariant-loop-count
-invariant-loop-count l = (c : ℕ) → c < l.count → SomeOf (LeastSigned (λ z. HeldInteger l.set z)) c → ⊥

@@ -1,0 +1,51 @@
+-- The language of integers in the fewest octets of two's complement, in the sets that their reader tests.
+use Rattle.std.proofs.Common.{◌≤◌, ◌*◌, ℕ, ℤ, ◌≤ℤ◌, List, None, arith}
+use Rattle.asn_values.specs.Fits.{lowest_integer, highest_integer}
+use Rattle.asn_bits.specs.Sets.{InDigits, Among, Meets}
+use Rattle.asn_bits.proofs.Splits.{two_pow_octets}
+use Rattle.asn_rules.specs.Counted.{SomeOf, LeastSigned, Counted, signed_number}
+use Rattle.asn_rules.specs.Forks.{Same}
+use Rattle.asn_rules.specs.Languages.{Plain, Spells}
+use Rattle.asn_rules.specs.Live.{Fielding}
+use Rattle.asn_rules.specs.NumberSets.{Admits}
+use Rattle.asn_rules.specs.OffsetSets.{HasInteger, UnconstrainedIn, AreSigned}
+use Rattle.asn_rules.specs.declared.number_reader.NumberSet.{NumberSet}
+use Rattle.asn_rules.specs.declared.signed_reader.OffsetSet.{OffsetSet}
+use Rattle.asn_rules.proofs.Counted.{eight_bits}
+use Rattle.asn_rules.proofs.Exits.{stops_count}
+use Rattle.asn_rules.proofs.Forks.{same_spells}
+use Rattle.asn_rules.proofs.Leads.{LeadsStops, Leads, stops_on, leads_on, leads_map, leads_same}
+use Rattle.asn_rules.proofs.NumberSets.{same_set, counted_leads}
+
+-- the counts that a reader admits
+abbrev pub signed_counts : ℕ → NumberSet
+signed_counts low = record { low = low; high = 8; excluded = None }
+
+module _ (s : OffsetSet) (low : ℕ)
+    (there : (c : ℕ) → low ≤ c → c ≤ 8 → SomeOf (LeastSigned (λ z. HasInteger s z)) c)
+    (back : (c : ℕ) → SomeOf (LeastSigned (λ z. HasInteger s z)) c → (low ≤ c) × (c ≤ 8)) where
+  same_counts : Same (Plain (InDigits 2 8 (λ n. Admits (signed_counts low) n))) (Plain (InDigits 2 8 (SomeOf (LeastSigned (λ z. HasInteger s z)))))
+  same_counts = same_set 2 8 (λ c a. there c a.0 a.1) (λ c o. (let w = back c o in (w.0, w.1, tt)))
+
+  -- the reader of the count stops
+  pub stops_at_count : (R : Fielding) (us : List ℕ) → LeadsStops R (Plain (InDigits 2 8 (λ n. Admits (signed_counts low) n))) us (UnconstrainedIn s) us
+  stops_at_count R us =
+      stops_on (leads_same R us same_counts).stops (stops_on (stops_count R us eight_bits) (leads_map R signed_number (Counted 2 8 (LeastSigned (λ z. HasInteger s z))) us).stops)
+
+  -- the reader of the number answers for the whole
+  pub leads_to_number : (R : Fielding) (c : ℕ) (is : List (ℕ × ℕ)) (us r : List ℕ) → AreSigned s c is → Spells R (Plain (InDigits 2 8 (λ n. Admits (signed_counts low) n))) c us r
+      → Leads R (Plain (InDigits 2 (8 * c) (λ n. Among is n))) r (λ n. signed_number (c, n)) (UnconstrainedIn s) us
+  leads_to_number R c is us r are h =
+      leads_on (leads_same R r (same_set 2 (8 * c) are.back are.there))
+      (leads_on (counted_leads R (same_spells same_counts h)) (leads_map R signed_number (Counted 2 8 (LeastSigned (λ z. HasInteger s z))) us))
+
+-- a number is there after a count
+pub some_number : (s : OffsetSet) (c : ℕ) (is : List (ℕ × ℕ)) → AreSigned s c is → SomeOf (LeastSigned (λ z. HasInteger s z)) c → Meets (λ n. Among is n) 0 (8 * c)
+some_number s c is are o = record { number = o.number; member = are.there o.number o.member; least = omega arith; below = omega (arith, o.fits, two_pow_octets c) }
+
+-- an integer that is read is one of the profile
+pub signed_within : (R : Fielding) (s : OffsetSet) {z : ℤ} {us r : List ℕ} → Spells R (UnconstrainedIn s) z us r → (lowest_integer ≤ℤ z) × (z ≤ℤ highest_integer)
+signed_within R s {z = z} h =
+    let m : HasInteger s (signed_number h.spelt.source) = h.spelt.spelt.follows.spelt.member.member in
+    let e = h.spelt.seen in
+    rw e (m.0, m.1)

@@ -1,0 +1,10 @@
+use Rattle.std.proofs.Common.{refl}
+use Rattle.asn_bits.proofs.Prefixes.{first_bits}
+use Rattle.asn_rules.proofs.Sets.{first_spells}
+use Rattle.asn_rules.proofs.number_reader.read_number_among.Goals as goal
+
+pub read_number_by_bits-requires-clause-many : goal.read_number_by_bits-requires-clause-many
+read_number_by_bits-requires-clause-many c = first_bits c.args.k c.requires.some (c.in-None.ensures.none refl)
+
+pub returns-in-Some-clause-done : goal.returns-in-Some-clause-done
+returns-in-Some-clause-done c R = first_spells R c.in-Some.ensures.some

@@ -1,0 +1,159 @@
+//! Readers of numbers in a fixed count of bits, refused at the first bit after which no number of the set can follow.
+
+ghost use Rattle.std.specs.Prelude.{◌≡◌, ◌≤◌, ◌↔◌, ℕ, List, IfOk, IfSome, IsNone, IsTrue, length, replicate};
+ghost use Rattle.asn_bits.specs.Begun.{StandsFirst};
+ghost use Rattle.asn_bits.specs.Sets.{AreBits, Meets, Among};
+ghost use Rattle.asn_rules.specs.NumberSets.{Admits, AreAmong, NumberIn, NumberAmong};
+ghost use Rattle.asn_rules.specs.Padding.{Fixed};
+ghost use Rattle.asn_rules.specs.PlainReading.{ReadsPlain, StopsPlain};
+
+use crate::fault::Why;
+use crate::stop::Stop;
+use asn_bits::number_field::take_of;
+use asn_bits::{BitCursor, FieldState, Intervals, NumberField};
+
+/// The numbers from `low` to `high`, but for `excluded`.
+#[derive(Clone, Copy)]
+pub struct NumberSet {
+    pub low: u64,
+    pub high: u64,
+    pub excluded: Option<u64>,
+}
+
+/// Whether the number is one of the set.
+pub fn admits(set: NumberSet, n: u64) -> bool
+    ensures { IsTrue result ↔ Admits set n }
+{
+    set.low <= n && n <= set.high && set.excluded.is_none_or(|excluded| n != excluded)
+}
+
+/// The set as a union of intervals.
+fn intervals_of(set: NumberSet) -> Intervals
+    requires { (n : ℕ) × Admits set n }
+    ensures { AreAmong set result }
+{
+    match set.excluded {
+        Some(out) if out == set.low => Intervals::one(out + 1, set.high),
+        Some(out) if out == set.high => Intervals::one(set.low, out - 1),
+        Some(out) if set.low < out && out < set.high => {
+            Intervals::one(set.low, out - 1).and(out + 1, set.high)
+        }
+        _ => Intervals::one(set.low, set.high),
+    }
+}
+
+/// The count of bits that are left.
+pub fn bits_left(bits: &BitCursor<'_>) -> u128
+    ensures count { result ≡ length bits.now }
+    ensures bits { AreBits bits.now }
+{
+    8 * bits.octets_left() as u128 + u128::from(bits.rest_of_octet())
+}
+
+/// Reads a number of the set in `k` bits: in one step if they are present and hold one.
+///
+/// # Errors
+/// `Short` if the bits end before the number does. `Refused`, with the reason `why`, at the first bit after which
+/// no number of the set can follow.
+#[inline(always)]
+pub fn read_number(k: u32, set: NumberSet, why: Why, bits: &mut BitCursor<'_>) -> Result<u64, Stop>
+    requires few { k ≤ 64 }
+    requires some { Meets (λ n. Admits set n) 0 k }
+    ensures done { ReadsPlain (NumberIn k set) result bits.old bits.new }
+    ensures member { IfOk result (λ n. Admits set n) }
+    ensures stop { StopsPlain (NumberIn k set) result bits.old }
+{
+    match try_number(k, set, bits) {
+        Some(n) => Ok(n),
+        None => read_number_by_bits(k, intervals_of(set), why, bits),
+    }
+}
+
+/// Reads a number of the intervals in `k` bits: in one step if they are present and hold one.
+///
+/// # Errors
+/// As `read_number`.
+pub fn read_number_among(
+    k: u32,
+    numbers: Intervals,
+    why: Why,
+    bits: &mut BitCursor<'_>,
+) -> Result<u64, Stop>
+    requires few { k ≤ 64 }
+    requires some { Meets (λ n. Among numbers n) 0 k }
+    ensures done { ReadsPlain (NumberAmong k numbers) result bits.old bits.new }
+    ensures member { IfOk result (λ n. Among numbers n) }
+    ensures stop { StopsPlain (NumberAmong k numbers) result bits.old }
+{
+    match take_of(&numbers, k, bits) {
+        Some(n) => Ok(n),
+        None => read_number_by_bits(k, numbers, why, bits),
+    }
+}
+
+/// Reads a number of the set in `k` bits, if they are present and hold one; otherwise consumes nothing.
+#[inline(always)]
+pub fn try_number(k: u32, set: NumberSet, bits: &mut BitCursor<'_>) -> Option<u64>
+    requires { k ≤ 64 }
+    ensures some { IfSome result (λ n. StandsFirst k (λ m. Admits set m) n bits.old bits.new) }
+    ensures none { IsNone result → (n : ℕ) (rest : List ℕ) → StandsFirst k (λ m. Admits set m) n bits.old rest → ⊥ }
+    ensures unchanged { IsNone result → bits.new ≡ bits.old }
+{
+    let n = bits.peek_number(k)?;
+    if admits(set, n) {
+        bits.pass(k);
+        return Some(n);
+    }
+    None
+}
+
+/// Reads a number of the intervals in `k` bits, bit by bit.
+#[cold]
+fn read_number_by_bits(
+    k: u32,
+    numbers: Intervals,
+    why: Why,
+    bits: &mut BitCursor<'_>,
+) -> Result<u64, Stop>
+    requires many { 1 ≤ k }
+    requires few { k ≤ 64 }
+    requires some { Meets (λ n. Among numbers n) 0 k }
+    ensures done { ReadsPlain (NumberAmong k numbers) result bits.old bits.new }
+    ensures member { IfOk result (λ n. Among numbers n) }
+    ensures stop { StopsPlain (NumberAmong k numbers) result bits.old }
+{
+    let mut field = NumberField::new(k, numbers);
+    loop {
+        let Some(bit) = bits.next() else {
+            return Err(Stop::Short);
+        };
+        match field.bit(bit == 1) {
+            FieldState::Alive => {}
+            FieldState::Number(n) => return Ok(n),
+            FieldState::Dead => {
+                return Err(Stop::Refused {
+                    left: bits_left(bits),
+                    why,
+                });
+            }
+        }
+    }
+}
+
+/// Reads `zeros` zero bits, which fill up octets.
+///
+/// # Errors
+/// `Short` if fewer bits are left. `Refused`, with the reason `Padding`, at the first bit that is set.
+pub fn read_padding(zeros: u32, bits: &mut BitCursor<'_>) -> Result<(), Stop>
+    requires { zeros ≤ 8 }
+    ensures done { ReadsPlain (Fixed (replicate zeros 0)) result bits.old bits.new }
+    ensures stop { StopsPlain (Fixed (replicate zeros 0)) result bits.old }
+{
+    let set = NumberSet {
+        low: 0,
+        high: 0,
+        excluded: None,
+    };
+    read_number(zeros, set, Why::Padding, bits)?;
+    Ok(())
+}

@@ -1,0 +1,186 @@
+//! The reader of integers in the fewest octets of two's complement (X.691, "unconstrained whole number").
+
+ghost use Rattle.std.specs.Prelude.{◌≡◌, ◌≤◌, ◌<◌, ◌+◌, ◌-◌, ◌*◌, ◌^◌, ◌⊎◌, ℕ, pos, ◌+ℤ◌, length, IsTrue};
+ghost use Rattle.asn_values.specs.Fits.{lowest_integer};
+ghost use Rattle.asn_bits.specs.Sets.{Among};
+ghost use Rattle.asn_rules.specs.Counted.{signed_number};
+ghost use Rattle.asn_rules.specs.OffsetSets.{HasOffset, IsOpen, IsRaised, ReadsOffset, UnconstrainedIn, NeedsCount, least_magnitude_of, AreShifted, AreSigned};
+ghost use Rattle.asn_rules.specs.PlainReading.{StopsPlain};
+
+use crate::fault::Why;
+use crate::number_reader::{NumberSet, read_number, read_number_among};
+use crate::profile::OFFSET_OF_ZERO;
+use crate::stop::Stop;
+use asn_bits::{BitCursor, Intervals};
+
+/// Integers by their offsets, how far they lie above the lowest one of the profile: the offsets below `below` and
+/// those from `from` on, all below `end`.
+#[derive(Clone, Copy)]
+pub struct OffsetSet {
+    pub below: u128,
+    pub from: u128,
+    pub end: u128,
+}
+
+/// Reads an integer of the set, in the fewest octets of two's complement after their count in an octet. Returns
+/// its offset.
+///
+/// # Errors
+/// `Short` if the bits end before the integer does. `Refused` at the first bit after which no integer of the set
+/// can follow, with the reason `in_count` in the octet of the count and `in_number` after it.
+pub fn read_unconstrained(
+    set: OffsetSet,
+    in_count: Why,
+    in_number: Why,
+    bits: &mut BitCursor<'_>,
+) -> Result<u64, Stop>
+    requires gap { IsOpen set }
+    requires some { (w : ℕ) × HasOffset set w }
+    ensures done { ReadsOffset set result bits.old bits.new }
+    ensures stop { StopsPlain (UnconstrainedIn set) result bits.old }
+{
+    let counts = NumberSet {
+        low: u64::from(lowest_count(set)),
+        high: 8,
+        excluded: None,
+    };
+    let count = read_number(8, counts, in_count, bits)? as u32;
+    let number = read_number_among(8 * count, numbers_of_count(set, count), in_number, bits)?;
+    Ok(offset_of(count, number))
+}
+
+/// The least count of octets that an integer of the set needs.
+fn lowest_count(set: OffsetSet) -> u32
+    requires gap { IsOpen set }
+    requires some { (w : ℕ) × HasOffset set w }
+    ensures some { 1 ≤ result }
+    ensures few { result ≤ 8 }
+    ensures there { (count : ℕ) → result ≤ count → count ≤ 8 → NeedsCount set count }
+    ensures back { (count : ℕ) → NeedsCount set count → (result ≤ count) × (count ≤ 8) }
+{
+    for count in 1..8 {
+        if has_count(set, count) {
+            return count;
+        }
+    }
+    8
+}
+
+/// Whether an integer of the set needs `count` octets.
+fn has_count(set: OffsetSet, count: u32) -> bool
+    requires some { 1 ≤ count }
+    requires few { count ≤ 8 }
+    ensures there { IsTrue result → NeedsCount set count }
+    ensures back { NeedsCount set count → IsTrue result }
+{
+    let least = least_magnitude(count);
+    let weight = sign_weight(count);
+    has_between(set, OFFSET_OF_ZERO + least, OFFSET_OF_ZERO + weight)
+        || has_between(set, OFFSET_OF_ZERO - weight, OFFSET_OF_ZERO - least)
+}
+
+/// Whether an offset of the set lies in `first..end`.
+fn has_between(set: OffsetSet, first: u128, end: u128) -> bool
+    ensures there { IsTrue result → (w : ℕ) × (first ≤ w) × (w < end) × HasOffset set w }
+    ensures back { (w : ℕ) → first ≤ w → w < end → HasOffset set w → IsTrue result }
+{
+    let end = end.min(set.end);
+    first < end.min(set.below) || first.max(set.from) < end
+}
+
+/// The integers of the set that need `count` octets, as the unsigned numbers that these octets hold.
+fn numbers_of_count(set: OffsetSet, count: u32) -> Intervals
+    requires some { 1 ≤ count }
+    requires few { count ≤ 8 }
+    ensures { AreSigned set count result }
+{
+    let least = least_magnitude(count);
+    let weight = sign_weight(count);
+    let numbers = add_shifted(
+        Intervals::none(),
+        set,
+        OFFSET_OF_ZERO + least,
+        OFFSET_OF_ZERO + weight,
+        0,
+    );
+    add_shifted(
+        numbers,
+        set,
+        OFFSET_OF_ZERO - weight,
+        OFFSET_OF_ZERO - least,
+        2 * weight,
+    )
+}
+
+/// Adds the offsets of the set in `first..end`, less that of 0 and raised by `up`.
+fn add_shifted(numbers: Intervals, set: OffsetSet, first: u128, end: u128, up: u128) -> Intervals
+    requires room { length numbers ≤ 2 }
+    requires low { 2 ^ 63 ≤ first + up }
+    requires high { end + up ≤ 2 ^ 63 + 2 ^ 64 }
+    ensures numbers { AreShifted numbers result set first end up }
+    ensures room { length result ≤ length numbers + 2 }
+{
+    let end = end.min(set.end);
+    let front = add_interval(numbers, first, end.min(set.below), up);
+    add_interval(front, first.max(set.from), end, up)
+}
+
+/// Adds the offsets in `first..end`, less that of 0 and raised by `up`.
+fn add_interval(numbers: Intervals, first: u128, end: u128, up: u128) -> Intervals
+    requires room { length numbers < 4 }
+    requires low { 2 ^ 63 ≤ first + up }
+    requires high { end + up ≤ 2 ^ 63 + 2 ^ 64 }
+    ensures there { (n : ℕ) → Among result n → Among numbers n ⊎ IsRaised first end up n }
+    ensures kept { (n : ℕ) → Among numbers n → Among result n }
+    ensures added { (n : ℕ) → first + up ≤ n + 2 ^ 63 → n + 2 ^ 63 < end + up → Among result n }
+    ensures room { length result ≤ length numbers + 1 }
+{
+    if first < end {
+        numbers.and(
+            (first + up - OFFSET_OF_ZERO) as u64,
+            (end - 1 + up - OFFSET_OF_ZERO) as u64,
+        )
+    } else {
+        numbers
+    }
+}
+
+/// The weight of the sign bit in `count` octets.
+fn sign_weight(count: u32) -> u128
+    requires some { 1 ≤ count }
+    requires few { count ≤ 8 }
+    ensures is { result ≡ 2 ^ (8 * count - 1) }
+    ensures within { result ≤ 2 ^ 63 }
+{
+    1u128 << (8 * count - 1)
+}
+
+/// The least magnitude that `count - 1` octets cannot hold beside the sign.
+fn least_magnitude(count: u32) -> u128
+    requires some { 1 ≤ count }
+    requires few { count ≤ 8 }
+    ensures is { result ≡ least_magnitude_of count }
+    ensures within { result < 2 ^ (8 * count - 1) }
+{
+    if count <= 1 {
+        0
+    } else {
+        sign_weight(count - 1)
+    }
+}
+
+/// The offset of the integer for which `number` stands in `count` octets of two's complement.
+fn offset_of(count: u32, number: u64) -> u64
+    requires some { 1 ≤ count }
+    requires few { count ≤ 8 }
+    requires fits { number < 256 ^ count }
+    ensures { lowest_integer +ℤ pos result ≡ signed_number (count, number) }
+{
+    let number = u128::from(number);
+    let weight = sign_weight(count);
+    if number < weight {
+        (OFFSET_OF_ZERO + number) as u64
+    } else {
+        (OFFSET_OF_ZERO + number - 2 * weight) as u64
+    }
+}

@@ -1,0 +1,122 @@
+//! Readers of numbers from 0 to a bound: in the fewest bits, and in the fewest octets.
+
+ghost use Rattle.std.specs.Prelude.{◌≡◌, ◌≤◌, ◌<◌, ◌+◌, ◌^◌};
+ghost use Rattle.asn_bits.specs.Numbers.{width};
+ghost use Rattle.asn_bits.specs.Sets.{Meets};
+ghost use Rattle.asn_rules.specs.NumberSets.{Admits, NumberIn, SemiConstrainedIn, up_to, least_of, highest_count_of};
+ghost use Rattle.asn_rules.specs.PlainReading.{ReadsPlain, StopsPlain};
+
+use crate::fault::Why;
+use crate::number_reader::{NumberSet, read_number};
+use crate::stop::Stop;
+use asn_bits::BitCursor;
+use asn_bits::numbers::{octet_count, width};
+
+/// Reads a number from 0 to `high`, but for `excluded`, in the fewest bits that hold `high` (X.691, "constrained
+/// whole number").
+///
+/// # Errors
+/// `Short` if the bits end before the number does. `Refused` at the first bit after which no such number can
+/// follow, with the reason `Default` where a number is excluded, else `Number`.
+#[inline(always)]
+pub fn read_constrained(
+    high: u64,
+    excluded: Option<u64>,
+    bits: &mut BitCursor<'_>,
+) -> Result<u64, Stop>
+    requires { Meets (λ n. Admits (up_to high excluded) n) 0 (width (high + 1)) }
+    ensures done { ReadsPlain (NumberIn (width (high + 1)) (up_to high excluded)) result bits.old bits.new }
+    ensures stop { StopsPlain (NumberIn (width (high + 1)) (up_to high excluded)) result bits.old }
+{
+    let set = NumberSet {
+        low: 0,
+        high,
+        excluded,
+    };
+    let why = if excluded.is_some() {
+        Why::Default
+    } else {
+        Why::Number
+    };
+    read_number(width(u128::from(high) + 1), set, why, bits)
+}
+
+/// Reads a number from 0 to `high`, but for `excluded`, in the fewest octets after their count in an octet (X.691,
+/// "semi-constrained whole number").
+///
+/// # Errors
+/// `Short` if the bits end before the number does. `Refused` at the first bit after which no such number can
+/// follow, with the reason `Default` where a number is excluded, else `Length` in the count and `Number` after it.
+pub fn read_semi_constrained(
+    high: u64,
+    excluded: Option<u64>,
+    bits: &mut BitCursor<'_>,
+) -> Result<u64, Stop>
+    requires { Meets (λ n. Admits (up_to high excluded) n) 0 64 }
+    ensures done { ReadsPlain (SemiConstrainedIn (up_to high excluded)) result bits.old bits.new }
+    ensures stop { StopsPlain (SemiConstrainedIn (up_to high excluded)) result bits.old }
+{
+    let counts = NumberSet {
+        low: 1,
+        high: highest_count(high, excluded),
+        excluded: None,
+    };
+    let (in_count, in_number) = match excluded {
+        Some(_) => (Why::Default, Why::Default),
+        None => (Why::Length, Why::Number),
+    };
+    let count = read_number(8, counts, in_count, bits)? as u32;
+    let set = NumberSet {
+        low: least_with(count),
+        high: high.min(greatest_with(count)),
+        excluded,
+    };
+    read_number(8 * count, set, in_number, bits)
+}
+
+/// The highest count of octets that a number from 0 to `high`, but for `excluded`, needs.
+fn highest_count(high: u64, excluded: Option<u64>) -> u64
+    ensures count { result ≡ highest_count_of high excluded }
+    ensures few { result ≤ 8 }
+{
+    let most = octet_count(high);
+    if excluded == Some(high) && high == least_with(most) {
+        u64::from(most) - 1
+    } else {
+        u64::from(most)
+    }
+}
+
+/// The least number that needs `count` octets.
+fn least_with(count: u32) -> u64
+    requires some { 1 ≤ count }
+    requires few { count ≤ 8 }
+    ensures { result ≡ least_of count }
+{
+    if count <= 1 {
+        0
+    } else {
+        power_of_two(8 * (count - 1))
+    }
+}
+
+/// The greatest number that `count` octets hold.
+fn greatest_with(count: u32) -> u64
+    requires some { 1 ≤ count }
+    requires few { count ≤ 8 }
+    ensures { result + 1 ≡ 256 ^ count }
+{
+    if count == 8 {
+        u64::MAX
+    } else {
+        power_of_two(8 * count) - 1
+    }
+}
+
+/// 2 to the power of `exponent`.
+pub fn power_of_two(exponent: u32) -> u64
+    requires { exponent < 64 }
+    ensures { result ≡ 2 ^ exponent }
+{
+    1u64 << exponent
+}

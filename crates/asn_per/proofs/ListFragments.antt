@@ -68,16 +68,19 @@ module _ (old mid : List ℕ) (left many : ℕ) (m : many ≡ (first_length left
   pub fragment_follows : 16384 ≤ many → Advances per_coding (general one) left old (general one) mid (Some many)
   unfolding per_coding per_ruling
   fragment_follows h =
-      let large : 16384 ≤ left = omega (arith, h, m, first_items left) in
-      (omega (arith, h), omega (arith, m, first_items left), λ items n.
-      (let first = first_length (length items) in
-      let ends : nat_lt (length items) 16384 ≡ false = le-ltb (length items) 16384 (omega (arith, n, large)) in
-      let count : many ≡ first.items = m ∙ ap (λ (k : ℕ). (first_length k).items) (sym n) in
-      let whole : general_bits items ≡ first.bits ++ (row_bits (take many items) ++ general_bits (drop many items)) =
-      general_first items
-      ∙ ap (λ (b : Bool). first.bits ++ (row_bits (take first.items items) ++ behind b (drop first.items items))) ends
-      ∙ ap (λ (k : ℕ). first.bits ++ (row_bits (take k items) ++ general_bits (drop k items))) (sym count) in
-      ap (λ (l : List ℕ). mid ++ l) (flat-append spelled (joined (take many items)) (general one (drop many items)))
-      ∙ ap (λ (l : List ℕ). l ++ (row_bits (take many items) ++ general_bits (drop many items))) (e ∙ ap (λ (k : ℕ). old ++ (first_length k).bits) (sym n))
-      ∙ append_assoc old first.bits (row_bits (take many items) ++ general_bits (drop many items))
-      ∙ ap (λ (l : List ℕ). old ++ l) (sym whole)))
+      let large : 16384 ≤ left = omega (arith, h, m, first_items left) in (
+        omega (arith, h),
+        omega (arith, m, first_items left),
+        λ items n.
+            (let first = first_length (length items) in
+            let ends : nat_lt (length items) 16384 ≡ false = le-ltb (length items) 16384 (omega (arith, n, large)) in
+            let count : many ≡ first.items = m ∙ ap (λ (k : ℕ). (first_length k).items) (sym n) in
+            let whole : general_bits items ≡ first.bits ++ (row_bits (take many items) ++ general_bits (drop many items)) =
+            general_first items
+            ∙ ap (λ (b : Bool). first.bits ++ (row_bits (take first.items items) ++ behind b (drop first.items items))) ends
+            ∙ ap (λ (k : ℕ). first.bits ++ (row_bits (take k items) ++ general_bits (drop k items))) (sym count) in
+            ap (λ (l : List ℕ). mid ++ l) (flat-append spelled (joined (take many items)) (general one (drop many items)))
+            ∙ ap (λ (l : List ℕ). l ++ (row_bits (take many items) ++ general_bits (drop many items))) (e ∙ ap (λ (k : ℕ). old ++ (first_length k).bits) (sym n))
+            ∙ append_assoc old first.bits (row_bits (take many items) ++ general_bits (drop many items))
+            ∙ ap (λ (l : List ℕ). old ++ l) (sym whole)),
+      )

@@ -131,18 +131,3 @@ fn root_count(low: u32, high: u32, bits: &mut BitCursor<'_>) -> Result<usize, St
     let count = read_number(width(u128::from(above) + 1), set, Why::Length, bits)?;
     Ok(low as usize + count as usize)
 }
-
-/// Reads the count of a list under a size with an upper bound and no extension mark; under any other size it
-/// reads nothing, and gives none.
-#[inline(always)]
-pub(crate) fn bounded_count(size: &Size, bits: &mut BitCursor<'_>) -> Result<Option<usize>, Stop>
-    requires of_profile { IsSizeOfProfile (size_range_of size.now) }
-    ensures done { IfOk result (λ count. IfSome count (λ n. Spells per_fields (Start (size_range_of size.now)) (items n) bits.old bits.new)) }
-    ensures none { IfOk result (λ count. IsNone count → bits.new ≡ bits.old) }
-    ensures stop { IfErr result (λ why. Stops per_fields (Start (size_range_of size.now)) bits.old why) }
-{
-    match size.high {
-        Some(high) if !size.ext => Ok(Some(root_count(size.low, high, bits)?)),
-        _ => Ok(None),
-    }
-}

@@ -10,7 +10,7 @@ ghost use Rattle.asn_per.specs.Kinds.{Bit, Character, Sized, IsUtf8Content};
 ghost use Rattle.asn_walk.specs.Laws.{IsSizeOfProfile};
 
 use crate::row_reader::{append_bits, append_characters, append_octets};
-use crate::size_reader::{Rows, bounded_count};
+use crate::size_reader::Rows;
 use asn_bits::BitCursor;
 use asn_rules::{Stop, Why, bits_left};
 use asn_values::{Size, TextKind};
@@ -22,20 +22,6 @@ pub(crate) fn bit_string(
     size: &Size,
     cursor: &mut BitCursor<'_>,
 ) -> Result<Vec<bool>, Stop>
-    requires of_profile { IsSizeOfProfile (size_range_of size.now) }
-    ensures done { IfOk result (λ bs. Spells per_fields (Sized (size_range_of size.now) Bit) bs.items cursor.old cursor.new) }
-    ensures stop { IfErr result (λ why. Stops per_fields (Sized (size_range_of size.now) Bit) cursor.old why) }
-{
-    let Some(all) = bounded_count(size, cursor)? else {
-        return bits_in_rows(alloc, size, cursor);
-    };
-    let mut bits = Vec::new(alloc);
-    append_bits(all, &mut bits, cursor)?;
-    Ok(bits)
-}
-
-/// The same, one length after the other, each with the bits that it counts.
-fn bits_in_rows(alloc: Global, size: &Size, cursor: &mut BitCursor<'_>) -> Result<Vec<bool>, Stop>
     requires of_profile { IsSizeOfProfile (size_range_of size.now) }
     ensures done { IfOk result (λ bs. Spells per_fields (Sized (size_range_of size.now) Bit) bs.items cursor.old cursor.new) }
     ensures stop { IfErr result (λ why. Stops per_fields (Sized (size_range_of size.now) Bit) cursor.old why) }
@@ -58,20 +44,6 @@ pub(crate) fn octet_string(
     ensures done { IfOk result (λ os. Spells per_fields (Sized (size_range_of size.now) Octet) os.items cursor.old cursor.new) }
     ensures stop { IfErr result (λ why. Stops per_fields (Sized (size_range_of size.now) Octet) cursor.old why) }
 {
-    let Some(all) = bounded_count(size, cursor)? else {
-        return octets_in_rows(alloc, size, cursor);
-    };
-    let mut octets = Vec::new(alloc);
-    append_octets(all, &mut octets, cursor)?;
-    Ok(octets)
-}
-
-/// The same, one length after the other, each with the octets that it counts.
-fn octets_in_rows(alloc: Global, size: &Size, cursor: &mut BitCursor<'_>) -> Result<Vec<u8>, Stop>
-    requires of_profile { IsSizeOfProfile (size_range_of size.now) }
-    ensures done { IfOk result (λ os. Spells per_fields (Sized (size_range_of size.now) Octet) os.items cursor.old cursor.new) }
-    ensures stop { IfErr result (λ why. Stops per_fields (Sized (size_range_of size.now) Octet) cursor.old why) }
-{
     let mut octets = Vec::new(alloc);
     let mut rows = Rows::start(size, cursor)?;
     while let Some(count) = rows.next(cursor)? {
@@ -82,25 +54,6 @@ fn octets_in_rows(alloc: Global, size: &Size, cursor: &mut BitCursor<'_>) -> Res
 
 /// Reads the characters of a string (X.691, "encoding the restricted character string types").
 pub(crate) fn text(
-    alloc: Global,
-    kind: TextKind,
-    size: &Size,
-    cursor: &mut BitCursor<'_>,
-) -> Result<Vec<u8>, Stop>
-    requires of_profile { IsSizeOfProfile (size_range_of size.now) }
-    ensures done { IfOk result (λ cs. Spells per_fields (Sized (size_range_of size.now) (Character (alphabet_of kind))) cs.items cursor.old cursor.new) }
-    ensures stop { IfErr result (λ why. Stops per_fields (Sized (size_range_of size.now) (Character (alphabet_of kind))) cursor.old why) }
-{
-    let Some(all) = bounded_count(size, cursor)? else {
-        return characters_in_rows(alloc, kind, size, cursor);
-    };
-    let mut characters = Vec::new(alloc);
-    append_characters(kind, all, &mut characters, cursor)?;
-    Ok(characters)
-}
-
-/// The same, one length after the other, each with the characters that it counts.
-fn characters_in_rows(
     alloc: Global,
     kind: TextKind,
     size: &Size,

@@ -107,11 +107,7 @@ impl WriteLeaves for Per {
 
     #[inline(always)]
     #[tactic(auto, unfolding(crate::specs::Walk::per_coding, crate::specs::Rules::per_ruling))]
-    fn start_list(
-        size: &Size,
-        count: usize,
-        sink: &mut BitSink,
-    ) -> Result<Following, AllocError> {
+    fn start_list(size: &Size, count: usize, sink: &mut BitSink) -> Result<Following, AllocError> {
         if push_count(size, count, sink)? {
             Ok(Following::Items)
         } else {

@@ -3,7 +3,7 @@ use Rattle.asn_values.specs.View.{size_range_of}
 use Rattle.asn_rules.specs.Fields.{Octet}
 use Rattle.asn_per.specs.RowsAhead.{ahead_of, IsBetween}
 use Rattle.asn_per.proofs.ListsAhead.{Going, steps_left}
-use Rattle.asn_per.proofs.string_reader.octets_in_rows.Given as goal
+use Rattle.asn_per.proofs.string_reader.octet_string.Given as goal
 
 abbrev pub invariant-loop-octets : goal.invariant-loop-octets
 invariant-loop-octets l = Going Octet (size_range_of l.size) l.fn.cursor (ahead_of l.rows) l.octets.items l.cursor × IsBetween l.rows

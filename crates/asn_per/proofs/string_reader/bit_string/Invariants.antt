@@ -3,7 +3,7 @@ use Rattle.asn_values.specs.View.{size_range_of}
 use Rattle.asn_per.specs.Kinds.{Bit}
 use Rattle.asn_per.specs.RowsAhead.{ahead_of, IsBetween}
 use Rattle.asn_per.proofs.ListsAhead.{Going, steps_left}
-use Rattle.asn_per.proofs.string_reader.bits_in_rows.Given as goal
+use Rattle.asn_per.proofs.string_reader.bit_string.Given as goal
 
 abbrev pub invariant-loop-bits : goal.invariant-loop-bits
 invariant-loop-bits l = Going Bit (size_range_of l.size) l.fn.cursor (ahead_of l.rows) l.bits.items l.cursor × IsBetween l.rows

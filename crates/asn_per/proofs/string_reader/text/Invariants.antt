@@ -3,7 +3,7 @@ use Rattle.asn_values.specs.View.{size_range_of, alphabet_of}
 use Rattle.asn_per.specs.Kinds.{Character}
 use Rattle.asn_per.specs.RowsAhead.{ahead_of, IsBetween}
 use Rattle.asn_per.proofs.ListsAhead.{Going, steps_left}
-use Rattle.asn_per.proofs.string_reader.characters_in_rows.Given as goal
+use Rattle.asn_per.proofs.string_reader.text.Given as goal
 
 abbrev pub invariant-loop-characters : goal.invariant-loop-characters
 invariant-loop-characters l = Going (Character (alphabet_of l.kind)) (size_range_of l.size) l.fn.cursor (ahead_of l.rows) l.characters.items l.cursor × IsBetween l.rows

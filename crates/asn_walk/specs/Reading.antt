@@ -1,19 +1,21 @@
 -- What the readers of the walk read, and where they stop.
-use Rattle.std.specs.Prelude.{◌++◌, ℕ, Bool, List, Option, Some, None, map}
+use Rattle.std.specs.Prelude.{◌≡◌, ◌++◌, ℕ, Bool, List, Option, Some, None, map}
 use Rattle.std.specs.Option.{option_map}
 use Rattle.asn_values.specs.declared.types.Alt.{Alt}
 use Rattle.asn_values.specs.declared.types.Field.{Field}
 use Rattle.asn_values.specs.declared.value.Value.{Value}
 use Rattle.asn_values.specs.Datum.{Datum}
-use Rattle.asn_values.specs.Shape.{Shape, Fields, Alternatives}
+use Rattle.asn_values.specs.Profile.{InProfile}
+use Rattle.asn_values.specs.Shape.{Shape, Fields, MoreFields, sequence, Alternatives}
+use Rattle.asn_bits.specs.Numbers.{bits}
 use Rattle.asn_values.specs.View.{Part, datum_of, fields_of, part_of_field, alternatives_of, branch_of}
 use Rattle.asn_rules.specs.Chunks.{Chunk}
 use Rattle.asn_rules.specs.Languages.{Spells, Map}
-use Rattle.asn_rules.specs.Listed.{Spelt, Entry}
+use Rattle.asn_rules.specs.Listed.{Spelt, Entry, Listed, bitmap_length}
 use Rattle.asn_rules.specs.Reading.{Wholes}
 use Rattle.asn_rules.specs.Stops.{Stops}
 use Rattle.asn_rules.specs.declared.stop.Stop.{Stop}
-use Rattle.asn_walk.specs.Coding.{Coding}
+use Rattle.asn_walk.specs.Coding.{Coding, PreambleOf, added}
 
 -- ---- what the program's lists stand for
 
@@ -56,6 +58,22 @@ CompleteOf c t = Wholes c.ruling t
 -- the entry of a component, of which it is known whether it is present
 abbrev pub EntryOf : Coding → Part → Bool → Option Datum → List Chunk → Type 0
 EntryOf c p present = Entry c.code p.demand p.shape present
+
+-- ---- the root of a SEQUENCE
+
+-- a prefix of the bits is what stands before the components, with this extension bit, and then the components that its
+-- presence bitmap tells, with these entries
+pub record ReadsRoot (c : Coding) (root : Fields) (additions : Option ℕ) (extended : Bool) (es : List (Option Datum)) (old new : List ℕ) : Type 0 where
+  pub bitmap : ℕ
+  pub between : List ℕ
+  pub preamble : Spells c.ruling.fielding (PreambleOf c (bitmap_length root) additions) (extended, bitmap) (c.to_units old) between
+  pub components : Spells c.ruling.fielding (Listed c.code root (bits (bitmap_length root) bitmap)) es between (c.to_units new)
+
+-- a reader of the root stops: so does a reader of each SEQUENCE with this root and this count of additions
+pub record StopsInRoot (c : Coding) (root : Fields) (additions : Option ℕ) (old : List ℕ) (why : Stop) : Type 0 where
+  pub stops : (more : MoreFields) → InProfile (sequence root more) → added more ≡ additions → StopsAt c (ValuesOf c (sequence root more)) old why
+
+-- ---- values in a row
 
 -- further values, after those that were read before
 abbrev pub After : {A : Type 0} → List A → (List A → List Chunk → Type 0) → List A → List Chunk → Type 0

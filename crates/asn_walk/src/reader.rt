@@ -16,7 +16,7 @@ ghost use Rattle.asn_walk.specs.Ahead.{Remaining};
 ghost use Rattle.asn_walk.specs.Coding.{OpenOf, ChosenOf, OpenListed, AdditionsOf, ListingOf};
 ghost use Rattle.asn_walk.specs.Integers.{IsOfProfile};
 ghost use Rattle.asn_walk.specs.Laws.{IsSizeOfProfile};
-ghost use Rattle.asn_walk.specs.Reading.{Reads, StopsAt, ValuesOf, CompleteOf, EntryOf, After, fields_seen, alternatives_seen, entries_seen};
+ghost use Rattle.asn_walk.specs.Reading.{Reads, StopsAt, ValuesOf, CompleteOf, EntryOf, ReadsRoot, StopsInRoot, After, fields_seen, alternatives_seen, entries_seen};
 
 use crate::components::{absent, chosen, push_absent};
 use crate::leaves::{Index, ReadLeaves};
@@ -48,26 +48,18 @@ pub fn read<R: ReadLeaves>(
     match ty {
         AsnType::Seq { root, ext } => {
             let root = root.as_slice();
-            let width = bitmap_width(root);
             let Some(additions) = ext else {
-                let preamble = R::read_preamble(width, None, units)?;
-                let mut entries = Vec::with_capacity(alloc, root.len())?;
-                let presence = PresenceBits {
-                    bitmap: preamble.bitmap,
-                    left: width,
-                };
-                read_components::<R>(alloc, root, presence, &mut entries, units)?;
+                let (_, entries) = read_root::<R>(alloc, root, None, units)?;
                 return Ok(Value::Seq(entries));
             };
             let additions = additions.as_slice();
-            let preamble = R::read_preamble(width, Some(additions.len()), units)?;
-            let mut entries = Vec::with_capacity(alloc, root.len() + additions.len())?;
-            let presence = PresenceBits {
-                bitmap: preamble.bitmap,
-                left: width,
-            };
-            read_components::<R>(alloc, root, presence, &mut entries, units)?;
-            if preamble.extended {
+            let (extended, mut entries) = read_root::<R>(
+                alloc,
+                root,
+                Some(additions.len()),
+                units,
+            )?;
+            if extended {
                 read_additions::<R>(alloc, additions, &mut entries, units)?;
             } else {
                 push_absent(additions, &mut entries)?;
@@ -192,6 +184,36 @@ fn read_added_alternative<R: ReadLeaves>(
         StopsAt R.rules (ChosenOf (OpenOf R.rules) (alternatives_seen added.now) index) units.old why) }
 {
     read_open_field::<R>(alloc, &added[index].ty, units)
+}
+
+/// Reads the root of a SEQUENCE: what stands before its components, and these. Gives the extension bit, and the
+/// entries of the root, with capacity for those of the extension additions.
+#[cycle(reader)]
+fn read_root<R: ReadLeaves>(
+    alloc: Global,
+    root: &[Field],
+    additions: Option<usize>,
+    units: &mut BitCursor<'_>,
+) -> Result<(bool, Vec<Option<Value>>), Stop>
+    requires at_unit { R.rules.at_unit units.old }
+    requires of_profile { AreOfProfile (fields_seen root.now) }
+    requires few { length root.now ≤ 64 }
+    requires few_additions { IfSome additions (λ n. n ≤ 64) }
+    ensures at_unit { OnOk result (R.rules.at_unit units.new) }
+    ensures done { IfOk result (λ r. ReadsRoot R.rules (fields_seen root.now) additions r.0 (entries_seen r.1.items)
+        units.old units.new) }
+    ensures stop { IfErr result (λ why. StopsInRoot R.rules (fields_seen root.now) additions units.old why) }
+{
+    R::keep_laws();
+    let width = bitmap_width(root);
+    let preamble = R::read_preamble(width, additions, units)?;
+    let mut entries = Vec::with_capacity(alloc, root.len() + additions.unwrap_or(0))?;
+    let presence = PresenceBits {
+        bitmap: preamble.bitmap,
+        left: width,
+    };
+    read_components::<R>(alloc, root, presence, &mut entries, units)?;
+    Ok((preamble.extended, entries))
 }
 
 /// Reads the components of a root that the presence bits tell, in order, and appends their entries. A component with

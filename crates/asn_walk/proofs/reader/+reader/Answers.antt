@@ -29,7 +29,7 @@ use Rattle.asn_rules.specs.Listed.{Listed, bitmap_length}
 use Rattle.asn_bits.specs.Numbers.{bits}
 use Rattle.asn_walk.specs.Ahead.{Next}
 use Rattle.asn_walk.specs.Coding.{IsIndexWithin, PreambleOf, added}
-use Rattle.asn_walk.specs.Reading.{After, fields_seen, entries_seen}
+use Rattle.asn_walk.specs.Reading.{After, ReadsRoot, fields_seen, entries_seen}
 use Rattle.asn_walk.specs.Views.{index_seen, preamble_seen}
 use Rattle.asn_walk.proofs.AdditionsRead.{presence_stops_at, open_fields_lead, added_starts, addition_stops, addition_present, addition_absent, added_ends, after_leads, after_nothing}
 use Rattle.asn_walk.proofs.ChoicesRead.{choice_few, leads_at_place, open_leads_at_place, choice_stops, root_value_leads, added_value_leads}
@@ -42,7 +42,7 @@ use Rattle.asn_walk.proofs.Parts.{fields_part_of, count_of_fields, few_component
 use Rattle.asn_walk.proofs.SequencesRead.{preamble_stops, some_listed, closed_done, components_stop, none_added, additions_stop, additions_done}
 use Rattle.asn_walk.proofs.Widths.{next_part, no_part, demand_of_part, datum_of-Int}
 use Rattle.asn_walk.proofs.reader.+reader.Goals as goal
-use Rattle.asn_walk.proofs.reader.+reader.Goals.{read_open_fields-then-next+in_ok-read_open_field, read_open_fields-else-next, read-then-preamble+in_ok-read_additions-in-Seq, read-else-preamble+in_ok-push_absent-in-Seq}
+use Rattle.asn_walk.proofs.reader.+reader.Goals.{read_open_fields-then-next+in_ok-read_open_field, read_open_fields-else-next, read-then-extended+in_ok-read_additions-in-Seq, read-else-extended+in_ok-push_absent-in-Seq}
 
 pub read_alternative-read-requires : goal.read_alternative-read-requires
 read_alternative-read-requires g t c κs within =
@@ -415,92 +415,95 @@ read-returns-in_ok-chosen-in-Added-clause-done g t c =
     let lead = added_value_leads g.R.ReadLeaves.rules c.keep_laws.ensures c.args.ty.now c.in-Choice.root c.in-Choice.ext c.in-Choice.is c.requires.of_profile c.len-known.result c.len-known.ensures c.added_count.result c.added_count.ensures (g.R.ReadLeaves.rules.to_units c.args.units.now) c.in_ok-index-in-Choice.field-0 c.in-Added.index (g.R.ReadLeaves.rules.to_units c.read_index.new.units) c.in_ok-index-in-Choice.ensures.done c.in-Some-ext.additions c.deref-in-Added.result.now c.in-Some-ext.is c.deref-in-Added.ensures.value c.in-Added.is in
     rw c.in_ok-chosen-in-Added.ensures (lead.done (datum_of c.in_ok-value-in-Added.value) (g.R.ReadLeaves.rules.to_units c.read_added_alternative.new.units) c.in_ok-value-in-Added.ensures.done)
 
-pub read-bitmap_width-width-requires : goal.read-bitmap_width-width-requires
-read-bitmap_width-width-requires g t c =
-    let is = sequence_of_fields c.args.ty.now c.in-Seq.root c.in-Seq.ext c.as_slice-root.result.now c.in-Seq.is c.as_slice-root.ensures.value in
-    few_components c.as_slice-root.result.now is c.requires.of_profile
-
-pub read-returns-in_err-preamble-in-Seq-clause-stop : goal.read-returns-in_err-preamble-in-Seq-clause-stop
-read-returns-in_err-preamble-in-Seq-clause-stop g t c =
-    let is = closed_type c.args.ty.now c.in-Seq.root c.in-Seq.ext c.as_slice-root.result.now c.in-Seq.is c.in_default.is c.as_slice-root.ensures.value in
-    let good : InProfile (sequence (fields_of (map part_of_field c.as_slice-root.result.now)) closed) = rw is at c.requires.of_profile in
+pub read_root-returns-in_err-preamble-clause-stop : goal.read_root-returns-in_err-preamble-clause-stop
+read_root-returns-in_err-preamble-clause-stop g t c =
     let p = err_from_is_err_and c.from_residual.result c.from_residual.ensures.1 in
-    rw (p.1, p.2, is) (stops_by _ (preamble_stops g.R.ReadLeaves.rules c.keep_laws.ensures (fields_of (map part_of_field c.as_slice-root.result.now)) closed good (g.R.ReadLeaves.rules.to_units c.args.units.now)) (rw c.bitmap_width-width.ensures.count at c.in_err-preamble-in-Seq.ensures.stop))
+    rw (p.1, p.2) (record { stops = λ more good e. stops_by _ (preamble_stops g.R.ReadLeaves.rules c.keep_laws.ensures (fields_seen c.args.root.now) more good (g.R.ReadLeaves.rules.to_units c.args.units.now)) (rw (c.bitmap_width-width.ensures.count, ← e) at c.in_err-preamble.ensures.stop) })
 
-pub read-returns-in_err-preamble-in-Seq-2-clause-stop : goal.read-returns-in_err-preamble-in-Seq-2-clause-stop
-read-returns-in_err-preamble-in-Seq-2-clause-stop g t c =
-    let is = marked_type c.args.ty.now c.in-Seq.root c.in-Seq.ext c.in-Some.additions c.as_slice-root.result.now c.as_slice-additions.result.now c.in-Seq.is c.in-Some.is c.as_slice-root.ensures.value c.as_slice-additions.ensures.value in
-    let good : InProfile (sequence (fields_of (map part_of_field c.as_slice-root.result.now)) (marked (fields_of (map part_of_field c.as_slice-additions.result.now)))) = rw is at c.requires.of_profile in
-    let count : Some (length c.as_slice-additions.result.now) ≡ added (marked (fields_of (map part_of_field c.as_slice-additions.result.now))) = ap Some (sym (count_of_fields c.as_slice-additions.result.now)) in
-    let p = err_from_is_err_and c.from_residual-in_err-preamble-in-Seq-2.result c.from_residual-in_err-preamble-in-Seq-2.ensures.1 in
-    rw (p.1, p.2, is) (stops_by _ (preamble_stops g.R.ReadLeaves.rules c.keep_laws.ensures (fields_of (map part_of_field c.as_slice-root.result.now)) (marked (fields_of (map part_of_field c.as_slice-additions.result.now))) good (g.R.ReadLeaves.rules.to_units c.args.units.now)) (rw (c.bitmap_width-width.ensures.count, count) at c.in_err-preamble-in-Seq-2.ensures.stop))
+pub read_root-read_components-requires : goal.read_root-read_components-requires
+read_root-read_components-requires g t c κs within =
+    let room : vec_len c.in_ok-entries.entries + length c.args.root.now ≤ vec_capacity c.in_ok-entries.entries = omega (arith, c.in_ok-entries.ensures.len, c.in_ok-entries.ensures.capacity) in
+    (search (rules, the_lemmas), (within.0, (within.1, (c.in_ok-preamble.ensures.at_unit, (c.requires.of_profile, (c.bitmap_width-width.ensures.count, (c.bitmap_width-width.ensures.few, room)))))))
 
-pub read-read_components-requires : goal.read-read_components-requires
-read-read_components-requires g t c κs within =
+pub read_root-returns-in_err-read_components-clause-stop : goal.read_root-returns-in_err-read_components-clause-stop
+read_root-returns-in_err-read_components-clause-stop g t c =
+    let p = err_from_is_err_and c.from_residual-in_err-read_components.result c.from_residual-in_err-read_components.ensures.1 in
+    rw (p.1, p.2) (record {
+      stops = λ more good e.
+          (let read : Spells g.R.ReadLeaves.rules.ruling.fielding (PreambleOf g.R.ReadLeaves.rules (bitmap_length (fields_seen c.args.root.now)) (added more)) (preamble_seen c.in_ok-preamble.preamble) (g.R.ReadLeaves.rules.to_units c.args.units.now) (g.R.ReadLeaves.rules.to_units c.read_preamble.new.units) = rw (c.bitmap_width-width.ensures.count, ← e) at c.in_ok-preamble.ensures.done in
+          stops_by _ (components_stop g.R.ReadLeaves.rules c.keep_laws.ensures (fields_seen c.args.root.now) more good (preamble_seen c.in_ok-preamble.preamble) (g.R.ReadLeaves.rules.to_units c.args.units.now) (g.R.ReadLeaves.rules.to_units c.read_preamble.new.units) read) (rw c.bitmap_width-width.ensures.count at c.in_err-read_components.ensures.stop));
+    })
+
+pub read_root-returns-clause-done : goal.read_root-returns-clause-done
+read_root-returns-clause-done g t c = record {
+  bitmap = c.in_ok-preamble.preamble.bitmap;
+  between = g.R.ReadLeaves.rules.to_units c.read_preamble.new.units;
+  preamble = rw c.bitmap_width-width.ensures.count at c.in_ok-preamble.ensures.done;
+  components = after_nothing (rw (c.in_ok-entries.ensures.items, c.bitmap_width-width.ensures.count) at c.in_ok-read_components.ensures.done);
+}
+
+pub read-read_root-requires : goal.read-read_root-requires
+read-read_root-requires g t c κs within =
     let is = closed_type c.args.ty.now c.in-Seq.root c.in-Seq.ext c.as_slice-root.result.now c.in-Seq.is c.in_default.is c.as_slice-root.ensures.value in
     let good : InProfile (sequence (fields_seen c.as_slice-root.result.now) closed) = rw is at c.requires.of_profile in
-    let room : vec_len c.in_ok-entries-in-Seq.entries + length c.as_slice-root.result.now ≤ vec_capacity c.in_ok-entries-in-Seq.entries = omega (arith, c.in_ok-entries-in-Seq.ensures.len, c.in_ok-entries-in-Seq.ensures.capacity) in
-    (search (rules, the_lemmas), (within.0, (within.1, (c.in_ok-preamble-in-Seq.ensures.at_unit, (components_of_profile (fields_seen c.as_slice-root.result.now) closed good, (c.bitmap_width-width.ensures.count, (c.bitmap_width-width.ensures.few, room)))))))
+    (search (rules, the_lemmas), (within.0, (within.1, (c.requires.at_unit, (components_of_profile (fields_seen c.as_slice-root.result.now) closed good, (few_components c.as_slice-root.result.now is c.requires.of_profile, tt))))))
 
-pub read-read_components-requires-in-Seq : goal.read-read_components-requires-in-Seq
-read-read_components-requires-in-Seq g t c κs within =
-    let is = marked_type c.args.ty.now c.in-Seq.root c.in-Seq.ext c.in-Some.additions c.as_slice-root.result.now c.as_slice-additions.result.now c.in-Seq.is c.in-Some.is c.as_slice-root.ensures.value c.as_slice-additions.ensures.value in
-    let good : InProfile (sequence (fields_seen c.as_slice-root.result.now) (marked (fields_seen c.as_slice-additions.result.now))) = rw is at c.requires.of_profile in
-    let room : vec_len c.in_ok-entries-in-Seq-2.entries + length c.as_slice-root.result.now ≤ vec_capacity c.in_ok-entries-in-Seq-2.entries = omega (arith, c.in_ok-entries-in-Seq-2.ensures.len, c.in_ok-entries-in-Seq-2.ensures.capacity) in
-    (search (rules, the_lemmas), (within.0, (within.1, (c.in_ok-preamble-in-Seq-2.ensures.at_unit, (components_of_profile (fields_seen c.as_slice-root.result.now) (marked (fields_seen c.as_slice-additions.result.now)) good, (c.bitmap_width-width.ensures.count, (c.bitmap_width-width.ensures.few, room)))))))
-
-pub read-returns-in_err-read_components-in-Seq-clause-stop : goal.read-returns-in_err-read_components-in-Seq-clause-stop
-read-returns-in_err-read_components-in-Seq-clause-stop g t c =
+pub read-returns-in_err-entries-in-Seq-clause-stop : goal.read-returns-in_err-entries-in-Seq-clause-stop
+read-returns-in_err-entries-in-Seq-clause-stop g t c =
     let is = closed_type c.args.ty.now c.in-Seq.root c.in-Seq.ext c.as_slice-root.result.now c.in-Seq.is c.in_default.is c.as_slice-root.ensures.value in
-    let good : InProfile (sequence (fields_of (map part_of_field c.as_slice-root.result.now)) closed) = rw is at c.requires.of_profile in
-    let read : Spells g.R.ReadLeaves.rules.ruling.fielding (PreambleOf g.R.ReadLeaves.rules (bitmap_length (fields_of (map part_of_field c.as_slice-root.result.now))) (added closed)) (preamble_seen c.in_ok-preamble-in-Seq.preamble) (g.R.ReadLeaves.rules.to_units c.args.units.now) (g.R.ReadLeaves.rules.to_units c.read_preamble.new.units) = rw c.bitmap_width-width.ensures.count at c.in_ok-preamble-in-Seq.ensures.done in
-    let p = err_from_is_err_and c.from_residual-in_err-read_components-in-Seq.result c.from_residual-in_err-read_components-in-Seq.ensures.1 in
-    rw (p.1, p.2, is) (stops_by _ (components_stop g.R.ReadLeaves.rules c.keep_laws.ensures (fields_of (map part_of_field c.as_slice-root.result.now)) closed good (preamble_seen c.in_ok-preamble-in-Seq.preamble) (g.R.ReadLeaves.rules.to_units c.args.units.now) (g.R.ReadLeaves.rules.to_units c.read_preamble.new.units) read) (rw c.bitmap_width-width.ensures.count at c.in_err-read_components-in-Seq.ensures.stop))
-
-pub read-returns-in_err-read_components-in-Seq-2-clause-stop : goal.read-returns-in_err-read_components-in-Seq-2-clause-stop
-read-returns-in_err-read_components-in-Seq-2-clause-stop g t c =
-    let is = marked_type c.args.ty.now c.in-Seq.root c.in-Seq.ext c.in-Some.additions c.as_slice-root.result.now c.as_slice-additions.result.now c.in-Seq.is c.in-Some.is c.as_slice-root.ensures.value c.as_slice-additions.ensures.value in
-    let good : InProfile (sequence (fields_of (map part_of_field c.as_slice-root.result.now)) (marked (fields_of (map part_of_field c.as_slice-additions.result.now)))) = rw is at c.requires.of_profile in
-    let count : Some (length c.as_slice-additions.result.now) ≡ added (marked (fields_of (map part_of_field c.as_slice-additions.result.now))) = ap Some (sym (count_of_fields c.as_slice-additions.result.now)) in
-    let read : Spells g.R.ReadLeaves.rules.ruling.fielding (PreambleOf g.R.ReadLeaves.rules (bitmap_length (fields_of (map part_of_field c.as_slice-root.result.now))) (added (marked (fields_of (map part_of_field c.as_slice-additions.result.now))))) (preamble_seen c.in_ok-preamble-in-Seq-2.preamble) (g.R.ReadLeaves.rules.to_units c.args.units.now) (g.R.ReadLeaves.rules.to_units c.read_preamble-in-Seq.new.units) = rw (c.bitmap_width-width.ensures.count, count) at c.in_ok-preamble-in-Seq-2.ensures.done in
-    let p = err_from_is_err_and c.from_residual-in_err-read_components-in-Seq-2.result c.from_residual-in_err-read_components-in-Seq-2.ensures.1 in
-    rw (p.1, p.2, is) (stops_by _ (components_stop g.R.ReadLeaves.rules c.keep_laws.ensures (fields_of (map part_of_field c.as_slice-root.result.now)) (marked (fields_of (map part_of_field c.as_slice-additions.result.now))) good (preamble_seen c.in_ok-preamble-in-Seq-2.preamble) (g.R.ReadLeaves.rules.to_units c.args.units.now) (g.R.ReadLeaves.rules.to_units c.read_preamble-in-Seq.new.units) read) (rw c.bitmap_width-width.ensures.count at c.in_err-read_components-in-Seq-2.ensures.stop))
+    let good : InProfile (sequence (fields_seen c.as_slice-root.result.now) closed) = rw is at c.requires.of_profile in
+    let p = err_from_is_err_and c.from_residual.result c.from_residual.ensures.1 in
+    rw (p.1, p.2, is) (c.in_err-entries-in-Seq.ensures.stop.stops closed good refl)
 
 pub read-returns-in_default-clause-done : goal.read-returns-in_default-clause-done
 read-returns-in_default-clause-done g t c =
     let is = closed_type c.args.ty.now c.in-Seq.root c.in-Seq.ext c.as_slice-root.result.now c.in-Seq.is c.in_default.is c.as_slice-root.ensures.value in
     let good : InProfile (sequence (fields_seen c.as_slice-root.result.now) closed) = rw is at c.requires.of_profile in
-    let read : Spells g.R.ReadLeaves.rules.ruling.fielding (PreambleOf g.R.ReadLeaves.rules (bitmap_length (fields_seen c.as_slice-root.result.now)) (added closed)) (preamble_seen c.in_ok-preamble-in-Seq.preamble) (g.R.ReadLeaves.rules.to_units c.args.units.now) (g.R.ReadLeaves.rules.to_units c.read_preamble.new.units) = rw c.bitmap_width-width.ensures.count at c.in_ok-preamble-in-Seq.ensures.done in
-    let components : Spells g.R.ReadLeaves.rules.ruling.fielding (Listed g.R.ReadLeaves.rules.code (fields_seen c.as_slice-root.result.now) (bits (bitmap_length (fields_seen c.as_slice-root.result.now)) c.in_ok-preamble-in-Seq.preamble.bitmap)) (entries_seen c.read_components.new.entries.items) (g.R.ReadLeaves.rules.to_units c.read_preamble.new.units) (g.R.ReadLeaves.rules.to_units c.read_components.new.units) = after_nothing (rw (c.in_ok-entries-in-Seq.ensures.items, c.bitmap_width-width.ensures.count) at c.in_ok-read_components-in-Seq.ensures.done) in
-    rw (is, datum_of-Seq c.read_components.new.entries) (closed_done g.R.ReadLeaves.rules c.keep_laws.ensures (fields_seen c.as_slice-root.result.now) good (preamble_seen c.in_ok-preamble-in-Seq.preamble) (g.R.ReadLeaves.rules.to_units c.args.units.now) (g.R.ReadLeaves.rules.to_units c.read_preamble.new.units) read (entries_seen c.read_components.new.entries.items) (g.R.ReadLeaves.rules.to_units c.read_components.new.units) components)
+    let h = c.in_ok-entries-in-Seq.ensures.done in
+    rw (is, datum_of-Seq c.in_ok-entries-in-Seq.entries) (closed_done g.R.ReadLeaves.rules c.keep_laws.ensures (fields_seen c.as_slice-root.result.now) good (_, h.bitmap) (g.R.ReadLeaves.rules.to_units c.args.units.now) h.between h.preamble (entries_seen c.in_ok-entries-in-Seq.entries.items) (g.R.ReadLeaves.rules.to_units c.read_root.new.units) h.components)
+
+pub read-read_root-requires-in-Seq : goal.read-read_root-requires-in-Seq
+read-read_root-requires-in-Seq g t c κs within =
+    let is = marked_type c.args.ty.now c.in-Seq.root c.in-Seq.ext c.in-Some.additions c.as_slice-root.result.now c.as_slice-additions.result.now c.in-Seq.is c.in-Some.is c.as_slice-root.ensures.value c.as_slice-additions.ensures.value in
+    let good : InProfile (sequence (fields_seen c.as_slice-root.result.now) (marked (fields_seen c.as_slice-additions.result.now))) = rw is at c.requires.of_profile in
+    (search (rules, the_lemmas), (within.0, (within.1, (c.requires.at_unit, (components_of_profile (fields_seen c.as_slice-root.result.now) (marked (fields_seen c.as_slice-additions.result.now)) good, (few_components c.as_slice-root.result.now is c.requires.of_profile, few_added c.as_slice-additions.result.now is c.requires.of_profile))))))
+
+pub read-returns-in_err-extended-in-Seq-clause-stop : goal.read-returns-in_err-extended-in-Seq-clause-stop
+read-returns-in_err-extended-in-Seq-clause-stop g t c =
+    let is = marked_type c.args.ty.now c.in-Seq.root c.in-Seq.ext c.in-Some.additions c.as_slice-root.result.now c.as_slice-additions.result.now c.in-Seq.is c.in-Some.is c.as_slice-root.ensures.value c.as_slice-additions.ensures.value in
+    let good : InProfile (sequence (fields_seen c.as_slice-root.result.now) (marked (fields_seen c.as_slice-additions.result.now))) = rw is at c.requires.of_profile in
+    let count : Some (length c.as_slice-additions.result.now) ≡ added (marked (fields_seen c.as_slice-additions.result.now)) = ap Some (sym (count_of_fields c.as_slice-additions.result.now)) in
+    let p = err_from_is_err_and c.from_residual-in_err-extended-in-Seq.result c.from_residual-in_err-extended-in-Seq.ensures.1 in
+    rw (p.1, p.2, is) (c.in_err-extended-in-Seq.ensures.stop.stops (marked (fields_seen c.as_slice-additions.result.now)) good (sym count))
 
 pub read-read_additions-requires : goal.read-read_additions-requires
 read-read_additions-requires g t c κs within =
     let is = marked_type c.args.ty.now c.in-Seq.root c.in-Seq.ext c.in-Some.additions c.as_slice-root.result.now c.as_slice-additions.result.now c.in-Seq.is c.in-Some.is c.as_slice-root.ensures.value c.as_slice-additions.ensures.value in
     let good : InProfile (sequence (fields_seen c.as_slice-root.result.now) (marked (fields_seen c.as_slice-additions.result.now))) = rw is at c.requires.of_profile in
     let count : Some (length c.as_slice-additions.result.now) ≡ added (marked (fields_seen c.as_slice-additions.result.now)) = ap Some (sym (count_of_fields c.as_slice-additions.result.now)) in
-    let read : Spells g.R.ReadLeaves.rules.ruling.fielding (PreambleOf g.R.ReadLeaves.rules (bitmap_length (fields_seen c.as_slice-root.result.now)) (added (marked (fields_seen c.as_slice-additions.result.now)))) (preamble_seen c.in_ok-preamble-in-Seq-2.preamble) (g.R.ReadLeaves.rules.to_units c.args.units.now) (g.R.ReadLeaves.rules.to_units c.read_preamble-in-Seq.new.units) = rw (c.bitmap_width-width.ensures.count, count) at c.in_ok-preamble-in-Seq-2.ensures.done in
-    let some : 0 < length c.as_slice-additions.result.now = rw count_of_fields at (some_listed _ (read.spelt.fits.1 c.if-preamble.true)) in
-    (search (rules, the_lemmas), (within.0, (within.1, (c.in_ok-read_components-in-Seq-2.ensures.at_unit, (added_of_profile c.as_slice-additions.result.now is c.requires.of_profile, (some, few_added c.as_slice-additions.result.now is c.requires.of_profile))))))
+    let h : ReadsRoot g.R.ReadLeaves.rules (fields_seen c.as_slice-root.result.now) (Some (length c.as_slice-additions.result.now)) c.in_ok-extended-in-Seq.extended (entries_seen c.in_ok-extended-in-Seq.entries.items) c.args.units.now c.read_root-in-Seq.new.units = c.in_ok-extended-in-Seq.ensures.done in
+    let read : Spells g.R.ReadLeaves.rules.ruling.fielding (PreambleOf g.R.ReadLeaves.rules (bitmap_length (fields_seen c.as_slice-root.result.now)) (added (marked (fields_seen c.as_slice-additions.result.now)))) (c.in_ok-extended-in-Seq.extended, h.bitmap) (g.R.ReadLeaves.rules.to_units c.args.units.now) h.between = rw count at h.preamble in
+    let some : 0 < length c.as_slice-additions.result.now = rw count_of_fields at (some_listed _ (read.spelt.fits.1 c.if-extended.true)) in
+    (search (rules, the_lemmas), (within.0, (within.1, (c.in_ok-extended-in-Seq.ensures.at_unit, (added_of_profile c.as_slice-additions.result.now is c.requires.of_profile, (some, few_added c.as_slice-additions.result.now is c.requires.of_profile))))))
 
 pub read-returns-in_err-read_additions-in-Seq-clause-stop : goal.read-returns-in_err-read_additions-in-Seq-clause-stop
 read-returns-in_err-read_additions-in-Seq-clause-stop g t c =
     let is = marked_type c.args.ty.now c.in-Seq.root c.in-Seq.ext c.in-Some.additions c.as_slice-root.result.now c.as_slice-additions.result.now c.in-Seq.is c.in-Some.is c.as_slice-root.ensures.value c.as_slice-additions.ensures.value in
     let good : InProfile (sequence (fields_seen c.as_slice-root.result.now) (marked (fields_seen c.as_slice-additions.result.now))) = rw is at c.requires.of_profile in
     let count : Some (length c.as_slice-additions.result.now) ≡ added (marked (fields_seen c.as_slice-additions.result.now)) = ap Some (sym (count_of_fields c.as_slice-additions.result.now)) in
-    let read : Spells g.R.ReadLeaves.rules.ruling.fielding (PreambleOf g.R.ReadLeaves.rules (bitmap_length (fields_seen c.as_slice-root.result.now)) (added (marked (fields_seen c.as_slice-additions.result.now)))) (preamble_seen c.in_ok-preamble-in-Seq-2.preamble) (g.R.ReadLeaves.rules.to_units c.args.units.now) (g.R.ReadLeaves.rules.to_units c.read_preamble-in-Seq.new.units) = rw (c.bitmap_width-width.ensures.count, count) at c.in_ok-preamble-in-Seq-2.ensures.done in
-    let components : Spells g.R.ReadLeaves.rules.ruling.fielding (Listed g.R.ReadLeaves.rules.code (fields_seen c.as_slice-root.result.now) (bits (bitmap_length (fields_seen c.as_slice-root.result.now)) c.in_ok-preamble-in-Seq-2.preamble.bitmap)) (entries_seen c.read_components-in-Seq.new.entries.items) (g.R.ReadLeaves.rules.to_units c.read_preamble-in-Seq.new.units) (g.R.ReadLeaves.rules.to_units c.read_components-in-Seq.new.units) = after_nothing (rw (c.in_ok-entries-in-Seq-2.ensures.items, c.bitmap_width-width.ensures.count) at c.in_ok-read_components-in-Seq-2.ensures.done) in
+    let h : ReadsRoot g.R.ReadLeaves.rules (fields_seen c.as_slice-root.result.now) (Some (length c.as_slice-additions.result.now)) c.in_ok-extended-in-Seq.extended (entries_seen c.in_ok-extended-in-Seq.entries.items) c.args.units.now c.read_root-in-Seq.new.units = c.in_ok-extended-in-Seq.ensures.done in
+    let read : Spells g.R.ReadLeaves.rules.ruling.fielding (PreambleOf g.R.ReadLeaves.rules (bitmap_length (fields_seen c.as_slice-root.result.now)) (added (marked (fields_seen c.as_slice-additions.result.now)))) (c.in_ok-extended-in-Seq.extended, h.bitmap) (g.R.ReadLeaves.rules.to_units c.args.units.now) h.between = rw count at h.preamble in
     let p = err_from_is_err_and c.from_residual-in_err-read_additions-in-Seq.result c.from_residual-in_err-read_additions-in-Seq.ensures.1 in
-    rw (p.1, p.2, is) (stops_by _ (additions_stop g.R.ReadLeaves.rules c.keep_laws.ensures (fields_seen c.as_slice-root.result.now) (marked (fields_seen c.as_slice-additions.result.now)) good (preamble_seen c.in_ok-preamble-in-Seq-2.preamble) (g.R.ReadLeaves.rules.to_units c.args.units.now) (g.R.ReadLeaves.rules.to_units c.read_preamble-in-Seq.new.units) read (entries_seen c.read_components-in-Seq.new.entries.items) (g.R.ReadLeaves.rules.to_units c.read_components-in-Seq.new.units) components c.if-preamble.true) c.in_err-read_additions-in-Seq.ensures.stop)
+    rw (p.1, p.2, is) (stops_by _ (additions_stop g.R.ReadLeaves.rules c.keep_laws.ensures (fields_seen c.as_slice-root.result.now) (marked (fields_seen c.as_slice-additions.result.now)) good (c.in_ok-extended-in-Seq.extended, h.bitmap) (g.R.ReadLeaves.rules.to_units c.args.units.now) h.between read (entries_seen c.in_ok-extended-in-Seq.entries.items) (g.R.ReadLeaves.rules.to_units c.read_root-in-Seq.new.units) h.components c.if-extended.true) c.in_err-read_additions-in-Seq.ensures.stop)
 
-pub read-returns-after-preamble-clause-done : goal.read-returns-after-preamble-clause-done
-read-returns-after-preamble-clause-done g t c =
+pub read-returns-after-extended-clause-done : goal.read-returns-after-extended-clause-done
+read-returns-after-extended-clause-done g t c =
     let is = marked_type c.args.ty.now c.in-Seq.root c.in-Seq.ext c.in-Some.additions c.as_slice-root.result.now c.as_slice-additions.result.now c.in-Seq.is c.in-Some.is c.as_slice-root.ensures.value c.as_slice-additions.ensures.value in
     let good : InProfile (sequence (fields_seen c.as_slice-root.result.now) (marked (fields_seen c.as_slice-additions.result.now))) = rw is at c.requires.of_profile in
     let count : Some (length c.as_slice-additions.result.now) ≡ added (marked (fields_seen c.as_slice-additions.result.now)) = ap Some (sym (count_of_fields c.as_slice-additions.result.now)) in
-    let read : Spells g.R.ReadLeaves.rules.ruling.fielding (PreambleOf g.R.ReadLeaves.rules (bitmap_length (fields_seen c.as_slice-root.result.now)) (added (marked (fields_seen c.as_slice-additions.result.now)))) (preamble_seen c.in_ok-preamble-in-Seq-2.preamble) (g.R.ReadLeaves.rules.to_units c.args.units.now) (g.R.ReadLeaves.rules.to_units c.read_preamble-in-Seq.new.units) = rw (c.bitmap_width-width.ensures.count, count) at c.in_ok-preamble-in-Seq-2.ensures.done in
-    let components : Spells g.R.ReadLeaves.rules.ruling.fielding (Listed g.R.ReadLeaves.rules.code (fields_seen c.as_slice-root.result.now) (bits (bitmap_length (fields_seen c.as_slice-root.result.now)) c.in_ok-preamble-in-Seq-2.preamble.bitmap)) (entries_seen c.read_components-in-Seq.new.entries.items) (g.R.ReadLeaves.rules.to_units c.read_preamble-in-Seq.new.units) (g.R.ReadLeaves.rules.to_units c.read_components-in-Seq.new.units) = after_nothing (rw (c.in_ok-entries-in-Seq-2.ensures.items, c.bitmap_width-width.ensures.count) at c.in_ok-read_components-in-Seq-2.ensures.done) in
-    rw (is, datum_of-Seq c.if-preamble.entries) (elim c.if-preamble.branch [
-      | read-then-preamble+in_ok-read_additions-in-Seq w ↦ rw (w.entries-is, w.units-is) (additions_done g.R.ReadLeaves.rules c.keep_laws.ensures (fields_seen c.as_slice-root.result.now) (marked (fields_seen c.as_slice-additions.result.now)) good (preamble_seen c.in_ok-preamble-in-Seq-2.preamble) (g.R.ReadLeaves.rules.to_units c.args.units.now) (g.R.ReadLeaves.rules.to_units c.read_preamble-in-Seq.new.units) read (entries_seen c.read_components-in-Seq.new.entries.items) (g.R.ReadLeaves.rules.to_units c.read_components-in-Seq.new.units) components w.if-preamble.true (entries_seen w.read_additions.new.entries.items) (g.R.ReadLeaves.rules.to_units w.read_additions.new.units) w.in_ok-read_additions-in-Seq.ensures.done)
-      | read-else-preamble+in_ok-push_absent-in-Seq w ↦ rw (w.entries-is, w.units-is, w.in_ok-push_absent-in-Seq.ensures) (none_added g.R.ReadLeaves.rules c.keep_laws.ensures (fields_seen c.as_slice-root.result.now) (marked (fields_seen c.as_slice-additions.result.now)) good (preamble_seen c.in_ok-preamble-in-Seq-2.preamble) (g.R.ReadLeaves.rules.to_units c.args.units.now) (g.R.ReadLeaves.rules.to_units c.read_preamble-in-Seq.new.units) read (entries_seen c.read_components-in-Seq.new.entries.items) (g.R.ReadLeaves.rules.to_units c.read_components-in-Seq.new.units) components w.if-preamble.false)
+    let h : ReadsRoot g.R.ReadLeaves.rules (fields_seen c.as_slice-root.result.now) (Some (length c.as_slice-additions.result.now)) c.in_ok-extended-in-Seq.extended (entries_seen c.in_ok-extended-in-Seq.entries.items) c.args.units.now c.read_root-in-Seq.new.units = c.in_ok-extended-in-Seq.ensures.done in
+    let read : Spells g.R.ReadLeaves.rules.ruling.fielding (PreambleOf g.R.ReadLeaves.rules (bitmap_length (fields_seen c.as_slice-root.result.now)) (added (marked (fields_seen c.as_slice-additions.result.now)))) (c.in_ok-extended-in-Seq.extended, h.bitmap) (g.R.ReadLeaves.rules.to_units c.args.units.now) h.between = rw count at h.preamble in
+    rw (is, datum_of-Seq c.if-extended.entries) (elim c.if-extended.branch [
+      | read-then-extended+in_ok-read_additions-in-Seq w ↦ rw (w.entries-is, w.units-is) (additions_done g.R.ReadLeaves.rules c.keep_laws.ensures (fields_seen c.as_slice-root.result.now) (marked (fields_seen c.as_slice-additions.result.now)) good (c.in_ok-extended-in-Seq.extended, h.bitmap) (g.R.ReadLeaves.rules.to_units c.args.units.now) h.between read (entries_seen c.in_ok-extended-in-Seq.entries.items) (g.R.ReadLeaves.rules.to_units c.read_root-in-Seq.new.units) h.components w.if-extended.true (entries_seen w.read_additions.new.entries.items) (g.R.ReadLeaves.rules.to_units w.read_additions.new.units) w.in_ok-read_additions-in-Seq.ensures.done)
+      | read-else-extended+in_ok-push_absent-in-Seq w ↦ rw (w.entries-is, w.units-is, w.in_ok-push_absent-in-Seq.ensures) (none_added g.R.ReadLeaves.rules c.keep_laws.ensures (fields_seen c.as_slice-root.result.now) (marked (fields_seen c.as_slice-additions.result.now)) good (c.in_ok-extended-in-Seq.extended, h.bitmap) (g.R.ReadLeaves.rules.to_units c.args.units.now) h.between read (entries_seen c.in_ok-extended-in-Seq.entries.items) (g.R.ReadLeaves.rules.to_units c.read_root-in-Seq.new.units) h.components w.if-extended.false)
     ])

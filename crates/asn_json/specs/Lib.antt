@@ -1,0 +1,4 @@
+pub mod Errors
+pub mod Paths
+pub mod Shown
+pub mod Written

@@ -1,4 +1,5 @@
 pub mod Errors
 pub mod Paths
+pub mod Readers
 pub mod Shown
 pub mod Written

@@ -10,7 +10,7 @@ abbrev pub to_member : List ℕ → List ℕ
 to_member name = codes "." ++ name
 
 abbrev pub to_element : ℕ → List ℕ
-to_element i = (codes "[" ++ decimal i) ++ codes "]"
+to_element i = codes "[" ++ (decimal i ++ codes "]")
 
 -- the paths of a part: the step to the part, and then each of its own paths
 abbrev pub below : List ℕ → List (List ℕ) → List (List ℕ)

@@ -12,7 +12,7 @@ use serde_json::Value as Json;
 use std::alloc::{AllocError, Global};
 
 /// All integers of the profile.
-const INTEGERS: Bounds = Bounds {
+pub(crate) const INTEGERS: Bounds = Bounds {
     low: Some(i64::MIN as i128),
     high: Some(i64::MAX as i128),
     ext: false,

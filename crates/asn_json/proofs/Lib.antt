@@ -1,6 +1,10 @@
+pub mod Distinct
 pub mod Firsts
+pub mod LeavesBack
+pub mod MembersBack
 pub mod Names
 pub mod OneMember
+pub mod ReadBack
 pub mod ReadKinds
 pub mod ReadParts
 pub mod NamePlaces

@@ -1,4 +1,5 @@
 pub mod Errors
+pub mod Laws
 pub mod Paths
 pub mod Readers
 pub mod Shown

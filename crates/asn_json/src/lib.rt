@@ -2,6 +2,7 @@
 #![tactic(auto)]
 
 mod fault;
+mod laws;
 mod leaf_readers;
 mod leaves;
 mod paths;
@@ -10,5 +11,6 @@ mod read;
 mod write;
 
 pub use fault::JsonFault;
+pub use laws::written_is_read_back;
 pub use read::from_json;
 pub use write::to_json;

@@ -1,5 +1,5 @@
 -- The first of the paths of a part is that of the whole.
-use Rattle.std.proofs.Common.{◌≡◌, ◌≢◌, ℕ, List, [], ◌∷◌, ◌++◌, Some, slice_get, refl, sym, ap, ◌∙◌}
+use Rattle.std.proofs.Common.{◌≡◌, ℕ, List, [], ◌∷◌, ◌++◌, Some, slice_get, refl}
 use Rattle.asn_json.specs.declared.fault.JsonFault.{JsonFault}
 use Rattle.asn_json.specs.declared.fault.JsonFault.TheVariants as fault
 use Rattle.serde_json.specs.Data.{Data}

@@ -1,17 +1,14 @@
 -- What is written of values without parts is read back.
-use Rattle.std.proofs.Common.{◌≡◌, ◌<◌, ◌≤◌, ◌+◌, ◌==◌, ◌&&◌, ℕ, zero, suc, ℤ, pos, negsuc, ◌≤ℤ◌, Bool, true, false, IsTrue, List, [], ◌∷◌, ◌++◌, map, length, Some, slice_get, slice_index, refl, sym, ap, ◌∙◌, arith, rules}
+use Rattle.std.proofs.Common.{◌≡◌, ◌<◌, ◌==◌, ℕ, zero, suc, ℤ, pos, negsuc, Bool, true, false, IsTrue, List, [], ◌∷◌, map, Some, refl, ap, arith}
 use Rattle.std.specs.List.{AllByRecursion, list_all}
 use Rattle.std.specs.Str.{IsAscii, encode_utf8_all}
-use Rattle.std.specs.Int.RustNames.{int_le}
 use Rattle.std.proofs.lemmas.Str.{encodes-IsAscii}
 use Rattle.std.proofs.lemmas.Str.Ascii.{IsAscii-nil, IsAscii-cons}
 use Rattle.hex.specs.Hex.{IsBytes}
-use Rattle.serde_json.specs.Data.{number}
 use Rattle.serde_json.specs.Find.{as_integer, of_integer}
-use Rattle.asn_values.specs.Datum as datum
 use Rattle.asn_values.specs.Shape.{Alphabet, ia5, numeric, visible}
-use Rattle.asn_values.specs.Fits.{lowest_integer, highest_integer, in_range, is_of_kind}
-use Rattle.asn_json.specs.Written.{integers, bit_character}
+use Rattle.asn_values.specs.Fits.{is_of_kind}
+use Rattle.asn_json.specs.Written.{bit_character}
 use Rattle.asn_json.specs.Shown.{is_bit_character, bits_of}
 
 -- integers

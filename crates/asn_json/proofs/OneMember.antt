@@ -1,5 +1,5 @@
 -- Objects with one member.
-use Rattle.std.proofs.Common.{◌≡◌, ℕ, suc, List, [], ◌∷◌, length, Option, Some, None, slice_get, string_bytes, refl, ap, arith}
+use Rattle.std.proofs.Common.{◌≡◌, List, [], ◌∷◌, length, Some, None, slice_get, string_bytes, refl, arith}
 use Rattle.serde_json.specs.View.{view, members_view}
 use Rattle.serde_json.proofs.Views.{Entry}
 use Rattle.asn_json.specs.Shown.{single}

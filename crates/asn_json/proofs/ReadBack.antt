@@ -1,27 +1,26 @@
 -- What is written of a value of a type of the profile is read back: by induction on the type.
-use Rattle.std.proofs.Common.{◌≡◌, ◌<◌, ◌≤◌, ◌+◌, ◌-◌, ◌&&◌, ℕ, zero, suc, ℤ, ◌≤ℤ◌, Bool, true, false, not, ◌||◌, IsTrue, List, [], ◌∷◌, ◌++◌, map, length, take, drop, Option, Some, None, option_map, nat_lt, slice_get, bytes_eq, append_assoc, refl, sym, ap, ◌∙◌, arith}
-use Rattle.std.specs.Prelude.{if◌then◌else◌, MatchBool}
-use Rattle.std.specs.List.{AllByRecursion, list_any, list_all}
+use Rattle.std.proofs.Common.{◌≡◌, ◌<◌, ◌≤◌, ◌+◌, ◌-◌, ℕ, zero, suc, ℤ, ◌≤ℤ◌, Bool, true, false, not, ◌||◌, List, [], ◌∷◌, ◌++◌, map, length, take, drop, Some, nat_lt, slice_get, bytes_eq, append_assoc, refl, sym, ap, ◌∙◌, arith}
+use Rattle.std.specs.Prelude.{MatchBool}
+use Rattle.std.specs.List.{AllByRecursion, list_all}
 use Rattle.std.specs.Int.RustNames.{int_le}
 use Rattle.std.proofs.lemmas.Bool.{ltb-true, ltb-false}
 use Rattle.std.proofs.lemmas.Int.{ints}
-use Rattle.std.proofs.lemmas.List.{length-map, length-append, map-append}
+use Rattle.std.proofs.lemmas.List.{length-map, length-append}
 use Rattle.hex.specs.Hex.{decode_of, encode_lower}
 use Rattle.hex.proofs.HexLemmas.{decode_of-encode_lower}
-use Rattle.serde_json.specs.Data.{Data, array, object, Items, Members, no_members, member}
+use Rattle.serde_json.specs.Data.{Data, object, Members, no_members, member}
 use Rattle.serde_json.specs.View.{items_of}
 use Rattle.asn_values.specs.Datum.{Datum, truth, nothing, number, bit_list, octet_list, characters, unicode, components, components_of, component_list, elements, elements_of, element_list, alternative, Components, no_components, absent, present, Elements, no_elements, element}
 use Rattle.asn_values.specs.Datum as datum
-use Rattle.asn_values.specs.Shape.{Range, Shape, boolean, null, integer, enumerated, bit_string, octet_string, restricted, utf8_string, sequence, sequence_of, choice, Label, more_labels, MoreLabels, Demand, demands, Fields, no_fields, field, MoreFields, closed, marked, more_fields, field_names, append_fields, Alternatives, no_alternatives, one_of, MoreAlternatives, closed_choice, marked_choice, more_alternatives, alternative_names, count}
-use Rattle.asn_values.specs.Fits.{Fits, FitsEach, FitsMore, FitsNumber, FitsAlternative, FitsMoreAlternatives, lowest_integer, highest_integer, in_range}
+use Rattle.asn_values.specs.Shape.{Range, Shape, boolean, null, integer, enumerated, bit_string, octet_string, restricted, utf8_string, sequence, sequence_of, choice, Label, more_labels, MoreLabels, demands, Fields, no_fields, field, MoreFields, closed, marked, more_fields, field_names, append_fields, Alternatives, no_alternatives, one_of, MoreAlternatives, closed_choice, marked_choice, more_alternatives, alternative_names, count}
+use Rattle.asn_values.specs.Fits.{Fits, FitsEach, FitsNumber, FitsAlternative, FitsMoreAlternatives, lowest_integer, highest_integer, in_range}
 use Rattle.asn_values.specs.Parts.{AreOfProfile, AreAllOfProfile}
-use Rattle.asn_values.specs.Profile.{InProfile, DuplicateName, somewhere, some_field, some_addition, some_alternative, some_more, duplicate_name, has_twice, is_identifier}
+use Rattle.asn_values.specs.Profile.{InProfile, DuplicateName, some_field, some_addition, some_alternative, some_more, duplicate_name, has_twice, is_identifier}
 use Rattle.asn_values.proofs.InnerTypes.{element_of_profile, root_alternatives_of_profile}
-use Rattle.asn_values.proofs.Parts.{left_false, right_false, components_of_profile}
+use Rattle.asn_values.proofs.Parts.{left_false, components_of_profile}
 use Rattle.asn_json.specs.Errors.{errors, errors_at, added_errors_at, element_errors, field_errors, unknown_errors}
-use Rattle.asn_json.specs.Paths.{below, to_member, to_element}
 use Rattle.asn_json.specs.Readers.{Shows}
-use Rattle.asn_json.specs.Shown.{value_of, value_at, added_value_at, entries, added_entries, item_list, place_of, choice_names, component_names}
+use Rattle.asn_json.specs.Shown.{value_of, value_at, added_value_at, entries, item_list, choice_names, component_names}
 use Rattle.asn_json.specs.Written.{json_of, json_alternative, json_addition, members, added_members, label_names, integers}
 use Rattle.asn_json.proofs.Distinct.{place_of_name, name_at, all_among}
 use Rattle.asn_json.proofs.LeavesBack.{integer_back, bits_back, octets_are_bytes, characters_back}

@@ -1,6 +1,6 @@
 -- What is read of the parts of a SEQUENCE, a SEQUENCE OF and a CHOICE is what is read of the whole; and what types of the
 -- profile have inside.
-use Rattle.std.proofs.Common.{◌≡◌, ◌<◌, ◌≤◌, ◌+◌, ◌-◌, ℕ, zero, suc, true, false, ◌||◌, List, [], ◌∷◌, ◌++◌, map, length, get_or, Option, Some, None, option_map, option_and_then, Result, Ok, Err, IfOk, IsOkAnd, Vec, Global, nat_lt, refl, sym, ap, ◌∙◌, arith}
+use Rattle.std.proofs.Common.{◌≡◌, ◌<◌, ◌≤◌, ◌+◌, ◌-◌, ℕ, zero, suc, true, false, ◌||◌, List, [], ◌∷◌, ◌++◌, map, length, get_or, Option, Some, None, option_map, option_and_then, Result, Ok, Err, IfOk, IsOkAnd, Vec, Global, nat_lt, refl, ap, ◌∙◌, arith}
 use Rattle.std.specs.Global.{Box}
 use Rattle.std.proofs.lemmas.Bool.{le-ltb, lt-ltb, ltb-false}
 use Rattle.serde_json.specs.Data.{Data, Items, Members}
@@ -11,7 +11,7 @@ use Rattle.asn_values.specs.declared.types.Size.{Size}
 use Rattle.asn_values.specs.declared.types.AsnType.{AsnType, Seq, SeqOf, Choice}
 use Rattle.asn_values.specs.declared.value.Value.{Value}
 use Rattle.asn_values.specs.declared.value.Value.TheVariants as value
-use Rattle.asn_values.specs.Datum.{Datum, components, components_of, elements, elements_of, alternative}
+use Rattle.asn_values.specs.Datum.{Datum, elements, elements_of, alternative}
 use Rattle.asn_values.specs.Shape.{sequence, sequence_of, choice, enumerated, Label, MoreLabels, more_labels, Fields, MoreFields, more_fields, closed, marked, Alternatives, MoreAlternatives, closed_choice, marked_choice, more_alternatives, count}
 use Rattle.asn_values.specs.Parts.{AreOfProfile, AreAllOfProfile}
 use Rattle.asn_values.specs.Profile.{InProfile, TooMany, somewhere, some_alternative, some_more, too_many_here, most_nodes, most_items, most_additions, most_alternatives}

@@ -1,5 +1,5 @@
 -- Where a reader of the parts of a JSON value stands: the components of a SEQUENCE, and the elements of a SEQUENCE OF.
-use Rattle.std.proofs.Common.{◌≡◌, ◌<◌, ◌≤◌, ◌+◌, ℕ, suc, List, [], ◌∷◌, ◌++◌, map, length, drop, get_or, Option, Some, None, refl, sym, ap, ◌∙◌, subst, append_assoc, append-nil, add-one}
+use Rattle.std.proofs.Common.{◌≡◌, ◌<◌, ◌≤◌, ◌+◌, ℕ, suc, List, [], ◌∷◌, ◌++◌, map, length, drop, get_or, Option, refl, sym, ap, ◌∙◌, subst, append_assoc, append-nil, add-one}
 use Rattle.std.proofs.lemmas.List.{drop_all}
 use Rattle.std.proofs.Math.Seq.{drop-cons}
 use Rattle.serde_json.specs.Data.{Data, Items, no_items, item, Members}
@@ -9,8 +9,7 @@ use Rattle.serde_json.specs.declared.value.Value.{Value as Json}
 use Rattle.asn_values.specs.declared.types.Field.{Field}
 use Rattle.asn_values.specs.Datum.{Datum}
 use Rattle.asn_values.specs.Shape.{Shape, Demand, Fields, no_fields, field}
-use Rattle.asn_values.specs.Parts.{AreOfProfile, IsGoodDemand}
-use Rattle.asn_values.specs.Profile.{InProfile}
+use Rattle.asn_values.specs.Parts.{AreOfProfile}
 use Rattle.asn_values.specs.View.{fields_of, part_of_field}
 use Rattle.asn_json.specs.declared.fault.JsonFault.{JsonFault}
 use Rattle.asn_json.specs.Errors.{errors, entry_errors, field_errors, element_errors}

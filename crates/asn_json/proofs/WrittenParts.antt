@@ -1,5 +1,5 @@
 -- The JSON of a SEQUENCE, a SEQUENCE OF and a CHOICE from that of their parts.
-use Rattle.std.proofs.Common.{◌≡◌, ◌<◌, ◌≤◌, ◌-◌, ℕ, zero, suc, min, true, false, List, [], ◌∷◌, map, length, take, drop, get_or, Option, Some, None, option_map, Vec, Global, nat_lt, string_bytes, refl, sym, ap, ◌∙◌, arith, rules}
+use Rattle.std.proofs.Common.{◌≡◌, ◌<◌, ◌≤◌, ◌-◌, ℕ, zero, suc, min, true, false, List, [], ◌∷◌, map, length, take, drop, get_or, Option, option_map, Vec, Global, nat_lt, string_bytes, refl, sym, ap, ◌∙◌, arith, rules}
 use Rattle.std.specs.Global.{Box}
 use Rattle.std.proofs.lemmas.Bool.{le-ltb, lt-ltb}
 use Rattle.std.proofs.lemmas.List.{length-map, take_min, drop_min, take-map, drop-map, drop_all}
@@ -12,8 +12,8 @@ use Rattle.asn_values.specs.declared.types.Size.{Size}
 use Rattle.asn_values.specs.declared.types.AsnType.{AsnType, Seq, SeqOf, Choice, the_lemmas}
 use Rattle.asn_values.specs.declared.value.Value.{Value}
 use Rattle.asn_values.specs.declared.value.Value.TheVariants as value
-use Rattle.asn_values.specs.Datum.{Datum, components, components_of, elements, elements_of, alternative}
-use Rattle.asn_values.specs.Shape.{demands, sequence, sequence_of, choice, count, Fields, no_fields, field, MoreAlternatives, closed_choice, marked_choice}
+use Rattle.asn_values.specs.Datum.{Datum, components, components_of, elements, elements_of}
+use Rattle.asn_values.specs.Shape.{demands, sequence, sequence_of, count, Fields, no_fields, field}
 use Rattle.asn_values.specs.View.{shape_of, datum_of, fields_of, part_of_field, more_fields_of, alternatives_of, branch_of, more_alternatives_of}
 use Rattle.asn_values.proofs.Alternatives.{count-of, shape_of_branch}
 use Rattle.asn_values.proofs.Entries.{length-demands}

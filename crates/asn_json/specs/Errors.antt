@@ -1,6 +1,6 @@
 -- Where JSON is not of the shape of a type: the paths of all errors, a node before its parts, and each part whole
 -- before the next.
-use Rattle.std.specs.Prelude.{◌≡◌, ◌-◌, ℕ, zero, suc, Bool, List, [], ◌∷◌, ◌++◌, Option, Some, None, option_map, option_and_then, unwrap_or, nat_lt, if◌then◌else◌, bytes_eq, string_bytes, slice_get, codes, ⊤}
+use Rattle.std.specs.Prelude.{◌≡◌, ◌-◌, ℕ, zero, suc, List, [], ◌++◌, Option, Some, None, option_map, option_and_then, unwrap_or, nat_lt, if◌then◌else◌, bytes_eq, string_bytes, slice_get, codes, ⊤}
 use Rattle.std.specs.List.{list_any}
 use Rattle.serde_json.specs.Data.{Data, Items, no_items, item, Members, no_members, member}
 use Rattle.serde_json.specs.Find.{as_array, as_object, get_member}

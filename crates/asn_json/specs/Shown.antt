@@ -1,9 +1,9 @@
 -- The value that JSON shows of a type, and where it is not of the type's shape.
-use Rattle.std.specs.Prelude.{◌≡◌, ◌+◌, ◌-◌, ◌==◌, ◌||◌, ℕ, zero, suc, ℤ, Bool, true, false, ⊤, List, [], ◌∷◌, ◌++◌, map, length, Option, Some, None, option_map, option_and_then, unwrap_or, nat_lt, if◌then◌else◌, bytes_eq, codes}
-use Rattle.std.specs.List.{list_any, list_all}
+use Rattle.std.specs.Prelude.{◌-◌, ◌==◌, ◌||◌, ℕ, zero, suc, ℤ, Bool, List, [], ◌∷◌, ◌++◌, map, Option, Some, None, option_map, option_and_then, unwrap_or, nat_lt, if◌then◌else◌, bytes_eq}
+use Rattle.std.specs.List.{list_all}
 use Rattle.std.specs.Result.{result_ok}
 use Rattle.hex.specs.Hex.{decode_of}
-use Rattle.serde_json.specs.Data.{Data, Num, Items, no_items, item, Members, no_members, member}
+use Rattle.serde_json.specs.Data.{Data, Items, no_items, item, Members, no_members, member}
 use Rattle.serde_json.specs.Find.{as_null, as_bool, as_number, as_integer, as_str, as_array, as_object, get_member}
 use Rattle.asn_values.specs.Datum.{Datum, truth, nothing, number, bit_list, octet_list, characters, unicode, components, components_of, elements, elements_of, alternative}
 use Rattle.asn_values.specs.Datum as datum

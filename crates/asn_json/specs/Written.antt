@@ -1,6 +1,6 @@
 -- The JSON that is written of a value. It stands in serde_json's own words (`view` of its `Value`), and so do its
 -- objects, in which `put` keeps the members in order of their keys.
-use Rattle.std.specs.Prelude.{◌≡◌, ◌-◌, ℕ, zero, suc, ℤ, Bool, true, false, List, [], ◌∷◌, ◌++◌, map, take, drop, length, Option, Some, None, nat_lt, if◌then◌else◌, slice_get}
+use Rattle.std.specs.Prelude.{◌≡◌, ◌-◌, ℕ, zero, suc, Bool, true, false, List, [], ◌∷◌, ◌++◌, map, take, drop, length, Option, Some, None, nat_lt, if◌then◌else◌, slice_get}
 use Rattle.std.specs.Str.{encode_utf8_all}
 use Rattle.hex.specs.Hex.{encode_lower}
 use Rattle.serde_json.specs.Data.{Data, null, boolean, number, string, array, object, Members, no_members, member, put}

@@ -1,4 +1,4 @@
-use Rattle.std.proofs.Common.{codes, ap, ◌∙◌, rules}
+use Rattle.std.proofs.Common.{codes, ap}
 use Rattle.asn_json.specs.Paths.{below}
 use Rattle.asn_json.proofs.ReadBack.{is_back}
 use Rattle.asn_json.proofs.laws.written_is_read_back.Goals as goal

@@ -1,10 +1,9 @@
-use Rattle.std.proofs.Common.{◌≡◌, ◌≤◌, ◌∙◌, ◌-◌, [], length, ap, map, sym, rules, refl, slice_get, arith}
+use Rattle.std.proofs.Common.{◌≡◌, [], map, rules}
 use Rattle.serde_json.specs.Data.{null}
 use Rattle.serde_json.specs.View.{view}
 use Rattle.serde_json.specs.declared.value.Value.{Null, the_lemmas}
 use Rattle.asn_values.specs.Shape.{more_labels}
 use Rattle.asn_values.specs.View.{label_of, more_labels_of}
-use Rattle.asn_json.specs.Written.{json_name, label_names}
 use Rattle.asn_json.proofs.Names.{root_name, added_name}
 use Rattle.asn_json.proofs.leaves.item_json.Goals as goal
 

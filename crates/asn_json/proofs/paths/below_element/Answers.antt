@@ -1,5 +1,5 @@
-use Rattle.std.proofs.Common.{◌≡◌, ◌∷◌, ◌++◌, [], List, ℕ, ◌∙◌, string_bytes, slice_get, Some, append_assoc, rules, ap}
-use Rattle.asn_json.specs.Paths.{below, to_element}
+use Rattle.std.proofs.Common.{◌≡◌, ◌++◌, string_bytes, slice_get, Some, append_assoc, rules}
+use Rattle.asn_json.specs.Paths.{to_element}
 use Rattle.asn_json.proofs.Firsts.{first_below}
 use Rattle.asn_json.proofs.paths.below_element.Goals as goal
 

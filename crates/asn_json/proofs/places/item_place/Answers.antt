@@ -1,4 +1,4 @@
-use Rattle.std.proofs.Common.{◌≡◌, ◌∙◌, ◌+◌, ◌++◌, [], Some, None, map, option_map, length, sym, ap, append-nil}
+use Rattle.std.proofs.Common.{◌≡◌, ◌∙◌, ◌+◌, Some, None, map, option_map, length, sym, ap}
 use Rattle.asn_values.specs.Shape.{more_labels}
 use Rattle.asn_values.specs.View.{label_of, more_labels_of}
 use Rattle.asn_json.specs.Written.{label_names}

@@ -1,4 +1,4 @@
-use Rattle.std.proofs.Common.{◌≡◌, ◌∙◌, Some, None, map, option_map, option_and_then, length, string_bytes, sym, ap, arith, slice_get}
+use Rattle.std.proofs.Common.{◌≡◌, Some, length, sym, arith}
 use Rattle.serde_json.specs.Find.{as_object}
 use Rattle.serde_json.specs.View.{view, members_view}
 use Rattle.asn_json.proofs.OneMember.{one_member, other_members}

@@ -1,4 +1,4 @@
-use Rattle.std.proofs.Common.{◌≡◌, ◌<◌, ◌≤◌, ◌+◌, ◌-◌, ◌∙◌, [], ◌∷◌, ◌++◌, Some, None, List, ℕ, option_and_then, map, drop, length, string_bytes, append-nil, rules, refl, sym, ap, arith}
+use Rattle.std.proofs.Common.{◌≡◌, ◌<◌, ◌≤◌, ◌+◌, ◌-◌, ◌∙◌, [], ◌∷◌, ◌++◌, Some, List, ℕ, option_and_then, map, drop, length, string_bytes, append-nil, rules, refl, sym, ap, arith}
 use Rattle.std.specs.Option.{option_map}
 use Rattle.std.proofs.lemmas.List.{map-append, length-map}
 use Rattle.std.proofs.lemmas.Result.{err_from_is_err_and, IfOk-weaker, IfErr-weaker}
@@ -18,7 +18,7 @@ use Rattle.asn_json.specs.Errors.{errors, errors_at}
 use Rattle.asn_json.specs.Paths.{here, below, to_member}
 use Rattle.asn_json.specs.Readers.{TellsFirst, Shows, ShowsAfter, ShowsAt}
 use Rattle.asn_json.specs.Shown.{place_of, choice_names, single}
-use Rattle.asn_json.proofs.ReadKinds.{ShowsAdded, sequence_shown, root_refused, added_refused, keys_refused, list_shown, errors_here, value_here, errors_past, good_here, added_components, added_alternatives, few_items, few_alternatives, root_shown, added_shown, alternative_refused, addition_refused, alternative_read}
+use Rattle.asn_json.proofs.ReadKinds.{ShowsAdded, sequence_shown, root_refused, added_refused, list_shown, errors_here, value_here, errors_past, good_here, added_components, added_alternatives, few_items, few_alternatives, root_shown, added_shown, alternative_refused, addition_refused, alternative_read}
 use Rattle.asn_json.proofs.ReadParts.{next_component, component_read, component_stops, next_element, element_stops}
 use Rattle.asn_json.proofs.read.+reader.Goals as goal
 use Rattle.asn_json.proofs.read.+reader.Goals.{read-in-Some-ext+in_ok-entries-in-Some-ext, read-in-None}
@@ -208,7 +208,7 @@ read-returns-then-place-len-clause-shown t c =
     let shown : IfOk r (λ w. ShowsAt root place e (datum_of w)) = rw same at c.read_alternative-value.ensures.shown in
     IfOk-weaker c.choice_read.result (λ v. IsOkAnd r (λ w. datum_of v ≡ alternative place (datum_of w))) (λ v. Shows (shape_of ty) j (datum_of v))
     (λ v h. alternative_read r (λ w. ShowsAt root place e (datum_of w)) (λ w. datum_of v ≡ alternative place (datum_of w)) (Shows (shape_of ty) j (datum_of v))
-        (λ w s is. root_shown ty c.in-Choice.root c.in-Choice.ext alts j e name place c.in-Choice.is c.deref-in-Choice.ensures.value member found (datum_of v) (datum_of w) inside s is) shown h)
+    (λ w s is. root_shown ty c.in-Choice.root c.in-Choice.ext alts j e name place c.in-Choice.is c.deref-in-Choice.ensures.value member found (datum_of v) (datum_of w) inside s is) shown h)
     c.choice_read.ensures.shown
 
 pub read-returns-then-place-len-clause-refused : goal.read-returns-then-place-len-clause-refused
@@ -252,7 +252,7 @@ read-returns-in-Some-ext-2-clause-shown t c =
     let shown : IfOk r (λ w. ShowsAt added behind e (datum_of w)) = rw count at c.read_alternative-value-in-Some-ext-2.ensures.shown in
     IfOk-weaker c.choice_read-in-Some-ext-2.result (λ v. IsOkAnd r (λ w. datum_of v ≡ alternative place (datum_of w))) (λ v. Shows (shape_of ty) j (datum_of v))
     (λ v h. alternative_read r (λ w. ShowsAt added behind e (datum_of w)) (λ w. datum_of v ≡ alternative place (datum_of w)) (Shows (shape_of ty) j (datum_of v))
-        (λ w s said. added_shown ty c.in-Choice.root c.in-Choice.ext alts j e name place c.in-Choice.is c.deref-in-Choice.ensures.value member found (datum_of v) (datum_of w) outside (rw is s.no_errors) (rw is s.is) said) shown h)
+    (λ w s said. added_shown ty c.in-Choice.root c.in-Choice.ext alts j e name place c.in-Choice.is c.deref-in-Choice.ensures.value member found (datum_of v) (datum_of w) outside (rw is s.no_errors) (rw is s.is) said) shown h)
     c.choice_read-in-Some-ext-2.ensures.shown
 
 pub read-returns-in-Some-ext-2-clause-refused : goal.read-returns-in-Some-ext-2-clause-refused

@@ -1,4 +1,4 @@
-use Rattle.std.proofs.Common.{◌≡◌, ◌<◌, ◌≤◌, ◌-◌, ◌∙◌, rules, sym, ap, arith, refl, min, map, option_map, length, add-one, string_bytes}
+use Rattle.std.proofs.Common.{◌≡◌, ◌<◌, ◌≤◌, ◌-◌, ◌∙◌, rules, sym, ap, arith, refl, min, map, option_map, length, string_bytes}
 use Rattle.std.proofs.lemmas.Result.{IfOk-weaker}
 use Rattle.serde_json.specs.Data.{null, object, no_members}
 use Rattle.serde_json.specs.View.{view, members_view}
@@ -54,7 +54,7 @@ json_of-returns-in-Some-ext t c =
     let outside : length alts ≤ tag = omega (arith, c.if-place-len.false, c.len-in-Choice-Choice.ensures) in
     IfOk-weaker c.alternative_json-in-Some-ext.result (λ j. view j ≡ json_alternative (alternatives_of (map branch_of more)) (tag - c.len-in-Some-ext.result) (datum_of y)) (λ j. view j ≡ json_of (shape_of ty) (datum_of x))
     (λ j e. added_json ty x c.in-Choice-Choice.root c.in-Choice-Choice.ext tag c.in-Choice-Choice.chosen c.in-Choice-Choice.is-0 c.in-Choice-Choice.is-1 alts y refl c.deref-in-Some-ext-2.ensures (view j) outside
-        (rw (c.in-Some-ext.is, ← items, ← count) e))
+    (rw (c.in-Some-ext.is, ← items, ← count) e))
     c.alternative_json-in-Some-ext.ensures
 
 pub json_of-returns-in_ok-elements_json-in-SeqOf-List : goal.json_of-returns-in_ok-elements_json-in-SeqOf-List

@@ -10,11 +10,11 @@ use Rattle.asn_values.specs.declared.types.Field.{Field}
 use Rattle.asn_values.specs.Datum.{Datum}
 use Rattle.asn_values.specs.Shape.{Shape, Demand, Fields, no_fields, field}
 use Rattle.asn_values.specs.Parts.{AreOfProfile}
-use Rattle.asn_values.specs.View.{fields_of, part_of_field}
+use Rattle.asn_values.specs.View.{Part, fields_of, part_of_field}
 use Rattle.asn_json.specs.declared.fault.JsonFault.{JsonFault}
-use Rattle.asn_json.specs.Errors.{errors, entry_errors, field_errors, element_errors}
+use Rattle.asn_json.specs.Errors.{errors, field_errors, element_errors}
 use Rattle.asn_json.specs.Paths.{below, to_element}
-use Rattle.asn_json.specs.Readers.{TellsFirst, Shows, ShowsAfter, ShowsEntry, ShowsElements}
+use Rattle.asn_json.specs.Readers.{TellsFirst, Shows, ShowsAfter, ShowsEntry, errors_of_entry, ShowsElements}
 use Rattle.asn_json.specs.Shown.{value_of, entries, item_list}
 use Rattle.asn_json.proofs.Firsts.{tells_front}
 
@@ -35,19 +35,19 @@ next_component fs i x h e =
 
 module _ (all : Fields) (ms : Members) (given : List (Option Datum)) where
   pub component_read :
-      (name : List ℕ) (demand : Demand) (t : Shape) (fs : Fields) (es after : List (Option Datum)) (e : Option Datum) → ReadUpTo all ms given (field name demand t fs) es
-      → ShowsEntry name demand t (get_member name ms) e → after ≡ es ++ e ∷ [] → ReadUpTo all ms given fs after
-  component_read name demand t fs es after e h s is = record {
+      (p : Part) (fs : Fields) (es after : List (Option Datum)) (e : Option Datum) → ReadUpTo all ms given (field p.name p.demand p.shape fs) es
+      → ShowsEntry p (get_member p.name ms) e → after ≡ es ++ e ∷ [] → ReadUpTo all ms given fs after
+  component_read p fs es after e h s is = record {
     errors_left = sym (ap (λ first. first ++ field_errors fs ms) s.no_errors) ∙ h.errors_left;
     entries_left = ap (λ xs. xs ++ entries fs ms) is ∙ append_assoc es (e ∷ []) (entries fs ms) ∙ ap (λ x. es ++ x ∷ entries fs ms) s.is ∙ h.entries_left;
     good = h.good.2;
   }
 
   pub component_stops :
-      (name : List ℕ) (demand : Demand) (t : Shape) (fs : Fields) (es : List (Option Datum)) (f : JsonFault) → ReadUpTo all ms given (field name demand t fs) es
-      → TellsFirst (entry_errors name demand (λ j. errors t j) (get_member name ms)) f → TellsFirst (field_errors all ms) f
-  component_stops name demand t fs es f h s =
-      let whole = tells_front f (entry_errors name demand (λ j. errors t j) (get_member name ms)) (field_errors fs ms) s in
+      (p : Part) (fs : Fields) (es : List (Option Datum)) (f : JsonFault) → ReadUpTo all ms given (field p.name p.demand p.shape fs) es
+      → TellsFirst (errors_of_entry p (get_member p.name ms)) f → TellsFirst (field_errors all ms) f
+  component_stops p fs es f h s =
+      let whole = tells_front f (errors_of_entry p (get_member p.name ms)) (field_errors fs ms) s in
       subst (λ paths. TellsFirst paths f) h.errors_left whole
 
   pub all_components_read : (left : Fields) (es : List (Option Datum)) → left ≡ no_fields → ReadUpTo all ms given left es → ShowsAfter all ms given es

@@ -2,7 +2,8 @@
 use Rattle.std.specs.Prelude.{◌≡◌, ◌++◌, ℕ, List, [], Some, Option, map, slice_get, string_bytes, ⊤}
 use Rattle.serde_json.specs.Data.{Data, Items, Members}
 use Rattle.asn_values.specs.Datum.{Datum}
-use Rattle.asn_values.specs.Shape.{Shape, Demand, Fields, Alternatives}
+use Rattle.asn_values.specs.Shape.{Shape, Fields, Alternatives}
+use Rattle.asn_values.specs.View.{Part}
 use Rattle.asn_json.specs.Errors.{errors, field_errors, entry_errors, element_errors, errors_at}
 use Rattle.asn_json.specs.Shown.{value_of, entries, entry_of, item_list, value_at}
 use Rattle.asn_json.specs.declared.fault.JsonFault.{JsonFault}
@@ -27,10 +28,13 @@ pub record ShowsAfter (fs : Fields) (ms : Members) (given es : List (Option Datu
   pub no_errors : field_errors fs ms ≡ []
   pub is : es ≡ given ++ entries fs ms
 
--- of one entry
-pub record ShowsEntry (name : List ℕ) (demand : Demand) (t : Shape) (found : Option Data) (e : Option Datum) : Type 0 where
-  pub no_errors : entry_errors name demand (λ j. errors t j) found ≡ []
-  pub is : e ≡ entry_of demand (λ j. value_of t j) found
+-- of one entry, where this was found at the component's name
+abbrev pub errors_of_entry : Part → Option Data → List (List ℕ)
+errors_of_entry p found = entry_errors p.name p.demand (λ j. errors p.shape j) found
+
+pub record ShowsEntry (p : Part) (found : Option Data) (e : Option Datum) : Type 0 where
+  pub no_errors : errors_of_entry p found ≡ []
+  pub is : e ≡ entry_of p.demand (λ j. value_of p.shape j) found
 
 -- of the elements of an array
 pub record ShowsElements (t : Shape) (js : Items) (vs : List Datum) : Type 0 where

@@ -49,7 +49,8 @@ pub(crate) fn number_shown(json: &Json) -> Option<Value>
 /// The value of an ENUMERATED: the item of this name.
 pub(crate) fn item_shown(root: &[Item], ext: &Option<Vec<Item>>, json: &Json) -> Option<Value>
     requires few { length root.now + length (more_labels (more_labels_of ext.now)) ≤ 256 }
-    ensures { option_map datum_of result ≡ item_in (label_names (map label_of root.now ++ more_labels (more_labels_of ext.now))) (view json.now) }
+    ensures { option_map datum_of result
+        ≡ item_in (label_names (map label_of root.now ++ more_labels (more_labels_of ext.now))) (view json.now) }
 {
     let place = item_place(root, ext, json.as_str()?)?;
     Some(Value::Enum(place as u32))

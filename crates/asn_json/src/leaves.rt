@@ -36,7 +36,8 @@ pub(crate) fn item_json(
     ext: &Option<Vec<Item>>,
     place: u32,
 ) -> Result<Json, AllocError>
-    ensures { IfOk result (λ j. view j ≡ json_item (label_names (map label_of root.now ++ more_labels (more_labels_of ext.now))) (item place)) }
+    ensures { IfOk result (λ j. view j
+        ≡ json_item (label_names (map label_of root.now ++ more_labels (more_labels_of ext.now))) (item place)) }
 {
     let place = place as usize;
     if place < root.len() {

@@ -31,7 +31,8 @@ pub(crate) fn value_or_fault(alloc: Global, value: Option<Value>) -> Result<Valu
 
 /// What a fault of a member is told as at the object.
 pub(crate) fn below_member(alloc: Global, name: &str, fault: JsonFault) -> JsonFault
-    ensures { (paths : List (List ℕ)) → TellsFirst paths fault → TellsFirst (below (to_member name.now) paths) result }
+    ensures { (paths : List (List ℕ)) → TellsFirst paths fault
+        → TellsFirst (below (to_member name.now) paths) result }
 {
     match fault {
         JsonFault::Shape { path } => match format!(in alloc; ".{name}{path}") {
@@ -45,7 +46,8 @@ pub(crate) fn below_member(alloc: Global, name: &str, fault: JsonFault) -> JsonF
 
 /// What a fault of an element is told as at the array.
 pub(crate) fn below_element(alloc: Global, index: usize, fault: JsonFault) -> JsonFault
-    ensures { (paths : List (List ℕ)) → TellsFirst paths fault → TellsFirst (below (to_element index) paths) result }
+    ensures { (paths : List (List ℕ)) → TellsFirst paths fault
+        → TellsFirst (below (to_element index) paths) result }
 {
     match fault {
         JsonFault::Shape { path } => match format!(in alloc; "[{index}]{path}") {

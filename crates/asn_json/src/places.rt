@@ -1,5 +1,5 @@
 //! The places of names: of items, alternatives and components.
-ghost use Rattle.std.specs.Prelude.{◌≡◌, ◌≤◌, ◌<◌, ◌+◌, ◌++◌, ◌^◌, ◌||◌, IfSome, map, option_map, option_and_then, length, bytes_eq};
+ghost use Rattle.std.specs.Prelude.{◌≡◌, ◌↔◌, ◌≤◌, ◌<◌, ◌+◌, ◌++◌, ◌^◌, ◌||◌, IfSome, IsTrue, map, option_map, option_and_then, length, bytes_eq};
 ghost use Rattle.std.specs.List.{list_any};
 ghost use Rattle.serde_json.specs.Find.{as_object, get_member};
 ghost use Rattle.serde_json.specs.View.{view, members_view};
@@ -14,7 +14,8 @@ use serde_json::{Map, Value as Json};
 /// The place of the item of this name, root and then additions.
 pub(crate) fn item_place(root: &[Item], ext: &Option<Vec<Item>>, name: &str) -> Option<usize>
     requires few { length root.now + length (more_labels (more_labels_of ext.now)) ≤ 256 }
-    ensures place { result ≡ place_of name.now (label_names (map label_of root.now ++ more_labels (more_labels_of ext.now))) }
+    ensures place { result
+        ≡ place_of name.now (label_names (map label_of root.now ++ more_labels (more_labels_of ext.now))) }
     ensures inside { IfSome result (λ p. p < 256) }
 {
     match place_of_item(root, name) {
@@ -45,7 +46,8 @@ fn place_of_item(items: &[Item], name: &str) -> Option<usize>
 /// The place of the alternative of this name, root and then additions.
 pub(crate) fn alternative_place(root: &[Alt], ext: &Option<Vec<Alt>>, name: &str) -> Option<usize>
     requires few { length root.now + count (more_alternatives (more_alternatives_of ext.now)) ≤ 63 }
-    ensures place { result ≡ place_of name.now (choice_names (alternatives_of (map branch_of root.now)) (more_alternatives_of ext.now)) }
+    ensures place { result
+        ≡ place_of name.now (choice_names (alternatives_of (map branch_of root.now)) (more_alternatives_of ext.now)) }
     ensures inside { IfSome result (λ p. p < 63) }
 {
     match place_of_alternative(root, name) {
@@ -62,7 +64,8 @@ pub(crate) fn alternative_place(root: &[Alt], ext: &Option<Vec<Alt>>, name: &str
 
 /// The place of the first alternative of this name.
 fn place_of_alternative(alternatives: &[Alt], name: &str) -> Option<usize>
-    ensures place { result ≡ place_of name.now (alternative_names (alternatives_of (map branch_of alternatives.now))) }
+    ensures place { result
+        ≡ place_of name.now (alternative_names (alternatives_of (map branch_of alternatives.now))) }
     ensures inside { IfSome result (λ p. p < length alternatives.now) }
 {
     for (place, alternative) in alternatives.iter().enumerate() {
@@ -75,7 +78,8 @@ fn place_of_alternative(alternatives: &[Alt], name: &str) -> Option<usize>
 
 /// Whether a component has this name.
 pub(crate) fn is_component(root: &[Field], ext: &Option<Vec<Field>>, name: &str) -> bool
-    ensures { result ≡ list_any (bytes_eq name.now) (component_names (fields_of (map part_of_field root.now)) (more_fields_of ext.now)) }
+    ensures { result ≡ list_any (bytes_eq name.now)
+        (component_names (fields_of (map part_of_field root.now)) (more_fields_of ext.now)) }
 {
     if has_name(root, name) {
         return true;
@@ -110,11 +114,18 @@ pub(crate) fn only_member(json: &Json) -> Option<(&str, &Json)>
     ensures { option_map (λ m. (m.0.now, view m.1.now)) result ≡ option_and_then single (as_object (view json.now)) }
 {
     let object = json.as_object()?;
-    if object.len() != 1 {
+    if !has_one_member(object) {
         return None;
     }
     match object.first_key_value() {
         Some((name, value)) => Some((name.as_str(), value)),
         None => None,
     }
+}
+
+/// Whether the object has one member.
+fn has_one_member(object: &Map<String, Json>) -> bool
+    ensures { IsTrue result ↔ (length object.now.entries ≡ 1) }
+{
+    object.len() == 1
 }

@@ -7,10 +7,10 @@ ghost use Rattle.asn_values.specs.Fits.{Fits};
 ghost use Rattle.asn_values.specs.Parts.{AreOfProfile, AreAllOfProfile, IsGoodDemand};
 ghost use Rattle.asn_values.specs.Profile.{InProfile};
 ghost use Rattle.asn_values.specs.View.{shape_of, datum_of, fields_of, part_of_field, more_fields_of, alternatives_of, branch_of};
-ghost use Rattle.asn_json.specs.Errors.{Shown, Refused, errors, entry_errors, field_errors, element_errors, errors_at, unknown_errors};
+ghost use Rattle.asn_json.specs.Errors.{Shown, Refused, errors, field_errors, element_errors, errors_at, unknown_errors};
 ghost use Rattle.asn_json.specs.Paths.{below, to_member};
 ghost use Rattle.asn_json.specs.Shown.{component_names};
-ghost use Rattle.asn_json.specs.Readers.{TellsFirst, Shows, ShowsAfter, ShowsEntry, ShowsElements, ShowsAt};
+ghost use Rattle.asn_json.specs.Readers.{TellsFirst, Shows, ShowsAfter, ShowsEntry, errors_of_entry, ShowsElements, ShowsAt};
 
 use crate::fault::JsonFault;
 use crate::leaf_readers::{
@@ -113,8 +113,11 @@ fn read_entries(
     given: Vec<Option<Value>>,
 ) -> Result<Vec<Option<Value>>, JsonFault>
     requires of_profile { AreOfProfile (fields_of (map part_of_field fields.now)) }
-    ensures shown { IfOk result (λ es. ShowsAfter (fields_of (map part_of_field fields.now)) (members_view object.now.entries) (map (option_map datum_of) given.items) (map (option_map datum_of) es.items)) }
-    ensures refused { IfErr result (λ fault. TellsFirst (field_errors (fields_of (map part_of_field fields.now)) (members_view object.now.entries)) fault) }
+    ensures shown { IfOk result (λ es. ShowsAfter (fields_of (map part_of_field fields.now))
+        (members_view object.now.entries)
+        (map (option_map datum_of) given.items) (map (option_map datum_of) es.items)) }
+    ensures refused { IfErr result (λ fault. TellsFirst
+        (field_errors (fields_of (map part_of_field fields.now)) (members_view object.now.entries)) fault) }
 {
     let mut all = given;
     for field in fields {
@@ -133,8 +136,10 @@ fn read_entry(
 ) -> Result<Option<Value>, JsonFault>
     requires of_profile { InProfile (part_of_field field.now).shape }
     requires good { IsGoodDemand (part_of_field field.now).demand (part_of_field field.now).shape }
-    ensures shown { IfOk result (λ e. ShowsEntry (part_of_field field.now).name (part_of_field field.now).demand (part_of_field field.now).shape (get_member (part_of_field field.now).name (members_view object.now.entries)) (option_map datum_of e)) }
-    ensures refused { IfErr result (λ fault. TellsFirst (entry_errors (part_of_field field.now).name (part_of_field field.now).demand (λ j. errors (part_of_field field.now).shape j) (get_member (part_of_field field.now).name (members_view object.now.entries))) fault) }
+    ensures shown { IfOk result (λ e. ShowsEntry (part_of_field field.now)
+        (get_member (part_of_field field.now).name (members_view object.now.entries)) (option_map datum_of e)) }
+    ensures refused { IfErr result (λ fault. TellsFirst (errors_of_entry (part_of_field field.now)
+        (get_member (part_of_field field.now).name (members_view object.now.entries))) fault) }
 {
     match member(object, field.name.as_str()) {
         Some(json) => match read(alloc, &field.ty, json) {
@@ -148,8 +153,8 @@ fn read_entry(
 /// What a missing key stands for: the DEFAULT, or an absent component where it is OPTIONAL.
 fn missing(alloc: Global, field: &Field) -> Result<Option<Value>, JsonFault>
     requires { IsGoodDemand (part_of_field field.now).demand (part_of_field field.now).shape }
-    ensures shown { IfOk result (λ e. ShowsEntry (part_of_field field.now).name (part_of_field field.now).demand (part_of_field field.now).shape None (option_map datum_of e)) }
-    ensures refused { IfErr result (λ fault. TellsFirst (entry_errors (part_of_field field.now).name (part_of_field field.now).demand (λ j. errors (part_of_field field.now).shape j) None) fault) }
+    ensures shown { IfOk result (λ e. ShowsEntry (part_of_field field.now) None (option_map datum_of e)) }
+    ensures refused { IfErr result (λ fault. TellsFirst (errors_of_entry (part_of_field field.now) None) fault) }
 {
     match &field.need {
         Need::Must => Err(at_node(alloc)),
@@ -177,8 +182,12 @@ fn check_keys(
     ext: &Option<Vec<Field>>,
     object: &Map<String, Json>,
 ) -> Result<(), JsonFault>
-    ensures known { OnOk result (unknown_errors (component_names (fields_of (map part_of_field root.now)) (more_fields_of ext.now)) (members_view object.now.entries) ≡ []) }
-    ensures refused { IfErr result (λ fault. TellsFirst (unknown_errors (component_names (fields_of (map part_of_field root.now)) (more_fields_of ext.now)) (members_view object.now.entries)) fault) }
+    ensures known { OnOk result (unknown_errors
+        (component_names (fields_of (map part_of_field root.now)) (more_fields_of ext.now))
+        (members_view object.now.entries) ≡ []) }
+    ensures refused { IfErr result (λ fault. TellsFirst (unknown_errors
+        (component_names (fields_of (map part_of_field root.now)) (more_fields_of ext.now))
+        (members_view object.now.entries)) fault) }
 {
     for (key, _) in object.iter() {
         if !is_component(root, ext, key.as_str()) {
@@ -192,8 +201,10 @@ fn check_keys(
 #[cycle(reader)]
 fn read_elements(alloc: Global, element: &AsnType, items: &[Json]) -> Result<Vec<Value>, JsonFault>
     requires of_profile { InProfile (shape_of element.now) }
-    ensures shown { IfOk result (λ vs. ShowsElements (shape_of element.now) (items_view items.now) (map datum_of vs.items)) }
-    ensures refused { IfErr result (λ fault. TellsFirst (element_errors (λ e. errors (shape_of element.now) e) 0 (items_view items.now)) fault) }
+    ensures shown { IfOk result (λ vs.
+        ShowsElements (shape_of element.now) (items_view items.now) (map datum_of vs.items)) }
+    ensures refused { IfErr result (λ fault. TellsFirst
+        (element_errors (λ e. errors (shape_of element.now) e) 0 (items_view items.now)) fault) }
 {
     let mut all = Vec::with_capacity(alloc, items.len())?;
     for (index, json) in items.iter().enumerate() {
@@ -214,7 +225,8 @@ fn choice_read(
 ) -> Result<Value, JsonFault>
     requires { place < 2 ^ 32 }
     ensures shown { IfOk result (λ v. IsOkAnd read (λ w. datum_of v ≡ alternative place (datum_of w))) }
-    ensures refused { IfErr result (λ fault. (paths : List (List ℕ)) → IfErr read (λ f. TellsFirst paths f) → TellsFirst (below (to_member name.now) paths) fault) }
+    ensures refused { IfErr result (λ fault. (paths : List (List ℕ)) → IfErr read (λ f. TellsFirst paths f)
+        → TellsFirst (below (to_member name.now) paths) fault) }
 {
     match read {
         Ok(value) => Ok(Value::Choice(place as u32, Box::new(alloc, value)?)),
@@ -231,8 +243,10 @@ fn read_alternative(
     json: &Json,
 ) -> Result<Value, JsonFault>
     requires of_profile { AreAllOfProfile (alternatives_of (map branch_of alternatives.now)) }
-    ensures shown { IfOk result (λ v. ShowsAt (alternatives_of (map branch_of alternatives.now)) place (view json.now) (datum_of v)) }
-    ensures refused { IfErr result (λ fault. TellsFirst (errors_at (alternatives_of (map branch_of alternatives.now)) place (view json.now)) fault) }
+    ensures shown { IfOk result (λ v.
+        ShowsAt (alternatives_of (map branch_of alternatives.now)) place (view json.now) (datum_of v)) }
+    ensures refused { IfErr result (λ fault. TellsFirst
+        (errors_at (alternatives_of (map branch_of alternatives.now)) place (view json.now)) fault) }
 {
     if place >= alternatives.len() {
         return Err(at_node(alloc));

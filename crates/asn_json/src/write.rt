@@ -80,7 +80,8 @@ fn with_members(
     object: Map<String, Json>,
 ) -> Result<Map<String, Json>, AllocError>
     ensures { IfOk result (λ m. members_view m.entries
-        ≡ members (fields_of (map part_of_field fields.now)) (map (option_map datum_of) entries.now) (members_view object.entries)) }
+        ≡ members (fields_of (map part_of_field fields.now)) (map (option_map datum_of) entries.now)
+        (members_view object.entries)) }
 {
     let mut all = object;
     for (place, field) in fields.iter().enumerate() {
@@ -101,7 +102,8 @@ fn with_member(
     object: Map<String, Json>,
 ) -> Result<Map<String, Json>, AllocError>
     ensures { IfOk result (λ m. members_view m.entries
-        ≡ with_member (part_of_field field.now).name (λ d. json_of (part_of_field field.now).shape d) (option_map datum_of entry.now) (members_view object.entries)) }
+        ≡ with_member (part_of_field field.now).name (λ d. json_of (part_of_field field.now).shape d)
+        (option_map datum_of entry.now) (members_view object.entries)) }
 {
     match entry {
         None => Ok(object),
@@ -118,7 +120,8 @@ fn put_member(
     name: String,
     json: Json,
 ) -> Result<Map<String, Json>, AllocError>
-    ensures { IfOk result (λ m. members_view m.entries ≡ put (string_bytes name) (view json) (members_view object.entries)) }
+    ensures { IfOk result (λ m.
+        members_view m.entries ≡ put (string_bytes name) (view json) (members_view object.entries)) }
 {
     let mut all = object;
     all.insert(name, json)?;
@@ -132,7 +135,8 @@ fn elements_json(
     element: &AsnType,
     values: &[Value],
 ) -> Result<Vec<Json>, AllocError>
-    ensures { IfOk result (λ v. map view v.items ≡ map (λ d. json_of (shape_of element.now) d) (map datum_of values.now)) }
+    ensures { IfOk result (λ v.
+        map view v.items ≡ map (λ d. json_of (shape_of element.now) d) (map datum_of values.now)) }
 {
     let mut all = Vec::with_capacity(alloc, values.len())?;
     for value in values {
@@ -149,7 +153,8 @@ fn alternative_json(
     place: usize,
     chosen: &Value,
 ) -> Result<Json, AllocError>
-    ensures { IfOk result (λ j. view j ≡ json_alternative (alternatives_of (map branch_of alternatives.now)) place (datum_of chosen.now)) }
+    ensures { IfOk result (λ j. view j
+        ≡ json_alternative (alternatives_of (map branch_of alternatives.now)) place (datum_of chosen.now)) }
 {
     if place >= alternatives.len() {
         return Ok(Json::Null);

@@ -34,7 +34,7 @@ read_entries-loop-field-preserved t c =
     let h = rw (next_component fs i x c.loop-field-test.true c.field-item.is) at c.loop-field.invariant in
     let items : map (option_map datum_of) c.push.new.self.items ≡ es ++ option_map datum_of c.in_ok-entry.entry ∷ [] =
     ap (map (option_map datum_of)) c.in_ok-push.ensures.items ∙ map-append (option_map datum_of) c.loop-field.all.items (c.in_ok-entry.entry ∷ []) in
-    component_read (fields_of (map part_of_field fs)) ms given (part_of_field x).name (part_of_field x).demand (part_of_field x).shape (fields_of (map part_of_field (drop (i + 1) fs))) es _ (option_map datum_of c.in_ok-entry.entry)
+    component_read (fields_of (map part_of_field fs)) ms given (part_of_field x) (fields_of (map part_of_field (drop (i + 1) fs))) es _ (option_map datum_of c.in_ok-entry.entry)
     h c.in_ok-entry.ensures.shown items
 
 pub read_entries-read_entry-requires : goal.read_entries-read_entry-requires
@@ -50,7 +50,7 @@ read_entries-returns-in_err-entry-clause-refused t c =
     let ms = members_view c.args.object.now.entries in
     let h = rw (next_component fs i x c.loop-field-test.true c.field-item.is) at c.loop-field.invariant in
     let p = err_from_is_err_and c.from_residual.result c.from_residual.ensures.1 in
-    rw (p.1, p.2) (component_stops (fields_of (map part_of_field fs)) ms (map (option_map datum_of) c.args.given.items) (part_of_field x).name (part_of_field x).demand (part_of_field x).shape (fields_of (map part_of_field (drop (i + 1) fs)))
+    rw (p.1, p.2) (component_stops (fields_of (map part_of_field fs)) ms (map (option_map datum_of) c.args.given.items) (part_of_field x) (fields_of (map part_of_field (drop (i + 1) fs)))
     (map (option_map datum_of) c.loop-field.all.items) _ h c.in_err-entry.ensures.refused)
 
 pub read_elements-returns-in-Err-clause-refused : goal.read_elements-returns-in-Err-clause-refused

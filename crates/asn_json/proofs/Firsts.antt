@@ -24,10 +24,6 @@ front fault.Memory paths more h = h
 pub tells_front : (f : JsonFault) (paths more : List (List ℕ)) → TellsFirst paths f → TellsFirst (paths ++ more) f
 tells_front f paths more h = record { told = front f paths more h.told }
 
--- none may stand in front
-pub tells_behind : (f : JsonFault) (none paths : List (List ℕ)) → none ≡ [] → TellsFirst paths f → TellsFirst (none ++ paths) f
-tells_behind f none paths e h = rw e h
-
 -- the first path of a whole value
 pub refused_by : (t : Shape) (j : Data) (f : JsonFault) → TellsFirst (bad t j) f → Refused t j f
 refused_by t j (fault.Shape path) h = h.told

@@ -1,6 +1,6 @@
 -- What is read of the parts of a SEQUENCE, a SEQUENCE OF and a CHOICE is what is read of the whole; and what types of the
 -- profile have inside.
-use Rattle.std.proofs.Common.{◌≡◌, ◌<◌, ◌≤◌, ◌+◌, ◌-◌, ℕ, zero, suc, true, false, ◌||◌, List, [], ◌∷◌, ◌++◌, map, length, get_or, Option, Some, None, option_map, option_and_then, Result, Ok, Err, IfOk, IsOkAnd, Vec, Global, nat_lt, refl, ap, ◌∙◌, arith}
+use Rattle.std.proofs.Common.{◌≡◌, ◌<◌, ◌≤◌, ◌+◌, ◌-◌, ℕ, zero, suc, true, false, ◌||◌, List, [], ◌∷◌, ◌++◌, map, length, get_or, Option, Some, option_map, option_and_then, Result, Ok, Err, IfOk, IsOkAnd, Vec, Global, nat_lt, refl, ap, ◌∙◌, arith}
 use Rattle.std.specs.Global.{Box}
 use Rattle.std.proofs.lemmas.Bool.{le-ltb, lt-ltb, ltb-false}
 use Rattle.serde_json.specs.Data.{Data, Items, Members}
@@ -54,10 +54,6 @@ module _ (t : AsnType) (root : Vec Field Global) (ext : Option (Vec Field Global
 
   pub added_refused : (f : JsonFault) (ours : List (Option Datum)) → ShowsAfter (fields_of (map part_of_field fs)) ms [] ours → TellsFirst (added_errors (more_fields_of ext) ms) f → TellsFirst (errors (shape_of t) j) f
   added_refused f ours first s = rw (type, ej, first.no_errors) (tells_front f (added_errors (more_fields_of ext) ms) _ s)
-
-  pub keys_refused : (f : JsonFault) (ours es : List (Option Datum)) → ShowsAfter (fields_of (map part_of_field fs)) ms [] ours → ShowsAdded (more_fields_of ext) ms ours es
-      → TellsFirst (unknown_errors (component_names (fields_of (map part_of_field fs)) (more_fields_of ext)) ms) f → TellsFirst (errors (shape_of t) j) f
-  keys_refused f ours es first then s = rw (type, ej, first.no_errors, then.no_errors) s
 
 -- ---- a SEQUENCE OF
 
@@ -128,12 +124,6 @@ module _ (t : AsnType) (root : Vec Alt Global) (ext : Option (Vec Alt Global)) (
 pub alternative_read : (r : Result Value JsonFault) (P : Value → Type 0) (Q : Value → Type 0) (R : Type 0) → ((w : Value) → P w → Q w → R) → IfOk r P → IsOkAnd r Q → R
 alternative_read (Ok w) P Q R f p q = f w p q
 alternative_read (Err e) P Q R f p q = absurd q
-
--- no such name
-pub no_alternative :
-    (t : AsnType) (root : Vec Alt Global) (ext : Option (Vec Alt Global)) (alts : List Alt) (j e : Data) (name : List ℕ) (f : JsonFault) → t ≡ Choice root ext → alts ≡ root.items → option_and_then single (as_object j) ≡ Some (name, e)
-    → place_of name (choice_names (alternatives_of (map branch_of alts)) (more_alternatives_of ext)) ≡ None → TellsFirst here f → TellsFirst (errors (shape_of t) j) f
-no_alternative t root ext alts j e name f et ea ej ep s = rw (choice_of_alternatives t root ext alts et ea, ej, ep) s
 
 -- ---- types of the profile
 

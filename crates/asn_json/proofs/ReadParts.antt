@@ -8,7 +8,7 @@ use Rattle.serde_json.specs.View.{view, items_view}
 use Rattle.serde_json.specs.declared.value.Value.{Value as Json}
 use Rattle.asn_values.specs.declared.types.Field.{Field}
 use Rattle.asn_values.specs.Datum.{Datum}
-use Rattle.asn_values.specs.Shape.{Shape, Demand, Fields, no_fields, field}
+use Rattle.asn_values.specs.Shape.{Shape, Fields, no_fields, field}
 use Rattle.asn_values.specs.Parts.{AreOfProfile}
 use Rattle.asn_values.specs.View.{Part, fields_of, part_of_field}
 use Rattle.asn_json.specs.declared.fault.JsonFault.{JsonFault}

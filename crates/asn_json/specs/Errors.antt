@@ -1,6 +1,6 @@
 -- Where JSON is not of the shape of a type: the paths of all errors, a node before its parts, and each part whole
 -- before the next.
-use Rattle.std.specs.Prelude.{◌≡◌, ◌-◌, ℕ, zero, suc, List, [], ◌++◌, Option, Some, None, option_map, option_and_then, unwrap_or, nat_lt, if◌then◌else◌, bytes_eq, string_bytes, slice_get, codes, ⊤}
+use Rattle.std.specs.Prelude.{◌≡◌, ◌-◌, ℕ, zero, suc, List, [], ◌++◌, Option, Some, None, nat_lt, if◌then◌else◌, bytes_eq, string_bytes, slice_get, codes, ⊤}
 use Rattle.std.specs.List.{list_any}
 use Rattle.serde_json.specs.Data.{Data, Items, no_items, item, Members, no_members, member}
 use Rattle.serde_json.specs.Find.{as_array, as_object, get_member}
@@ -11,12 +11,17 @@ use Rattle.asn_json.specs.declared.fault.JsonFault.{JsonFault}
 use Rattle.asn_json.specs.declared.fault.JsonFault.TheVariants as fault
 use Rattle.asn_json.specs.Paths.{here, to_member, to_element, below}
 use Rattle.asn_json.specs.Written.{label_names}
-use Rattle.asn_json.specs.Shown.{truth_in, nothing_in, number_in, item_in, bits_in, octets_in, characters_in, unicode_in, single, place_of, choice_names, component_names, value_of}
+use Rattle.asn_json.specs.Shown.{only_member, truth_in, nothing_in, number_in, item_in, bits_in, octets_in, characters_in, unicode_in, place_of, choice_names, component_names, value_of}
 
 -- one, at the node itself, where no value is read
 abbrev pub unless_read : Option Datum → List (List ℕ)
 unless_read None = here
 unless_read (Some d) = []
+
+-- those of a part, where the node has the shape that has it; else one, at the node itself
+abbrev pub errors_within : {A : Type 0} → (A → List (List ℕ)) → Option A → List (List ℕ)
+errors_within f None = here
+errors_within f (Some part) = f part
 
 -- one, at the object itself, for each key that is none of the names
 abbrev pub unknown_errors : List (List ℕ) → Members → List (List ℕ)
@@ -35,6 +40,10 @@ entry_errors name must f None = here
 entry_errors name optional f None = []
 entry_errors name (default d) f None = []
 
+-- those of the one member of an object for a CHOICE: of the value, where the key is the name of an alternative
+abbrev pub member_errors : (ℕ → Data → List (List ℕ)) → List (List ℕ) → Option (List ℕ × Data) → List (List ℕ)
+member_errors f names found = errors_within (λ m. errors_within (λ p. below (to_member m.0) (f p m.1)) (place_of m.0 names)) found
+
 abbrev mutual
   pub errors : Shape → Data → List (List ℕ)
   errors boolean j = unless_read (truth_in j)
@@ -45,9 +54,9 @@ abbrev mutual
   errors (octet_string s) j = unless_read (octets_in j)
   errors (restricted k s) j = unless_read (characters_in j)
   errors utf8_string j = unless_read (unicode_in j)
-  errors (sequence root more) j = unwrap_or (option_map (λ ms. field_errors root ms ++ (added_errors more ms ++ unknown_errors (component_names root more) ms)) (as_object j)) here
-  errors (sequence_of t s) j = unwrap_or (option_map (λ ds. element_errors (λ e. errors t e) 0 ds) (as_array j)) here
-  errors (choice root more) j = unwrap_or (option_map (λ m. unwrap_or (option_map (λ p. below (to_member m.0) (if nat_lt p (count root) then errors_at root p m.1 else added_errors_at more (p - count root) m.1)) (place_of m.0 (choice_names root more))) here) (option_and_then single (as_object j))) here
+  errors (sequence root more) j = errors_within (λ ms. field_errors root ms ++ (added_errors more ms ++ unknown_errors (component_names root more) ms)) (as_object j)
+  errors (sequence_of t s) j = errors_within (λ ds. element_errors (λ e. errors t e) 0 ds) (as_array j)
+  errors (choice root more) j = member_errors (λ p e. if nat_lt p (count root) then errors_at root p e else added_errors_at more (p - count root) e) (choice_names root more) (only_member j)
 
   -- those of the components, in their order
   pub field_errors : Fields → Members → List (List ℕ)

@@ -1,4 +1,5 @@
 pub mod Errors
+pub mod Examples
 pub mod Laws
 pub mod Paths
 pub mod Readers

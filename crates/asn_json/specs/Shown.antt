@@ -63,11 +63,14 @@ abbrev pub item_list : Items → List Data
 item_list no_items = []
 item_list (item d ds) = d ∷ item_list ds
 
--- the one member of an object that has one
+-- the one member of an object that has one, and not two
 abbrev pub single : Members → Option (List ℕ × Data)
 single no_members = None
 single (member k d no_members) = Some (k, d)
 single (member k d (member l e ms)) = None
+
+abbrev pub only_member : Data → Option (List ℕ × Data)
+only_member j = option_and_then single (as_object j)
 
 -- where the object has no such key, a component with a DEFAULT has that value, and another is absent
 abbrev pub entry_of : Demand → (Data → Datum) → Option Data → Option Datum
@@ -106,7 +109,7 @@ abbrev mutual
   value_of utf8_string j = or_nothing (unicode_in j)
   value_of (sequence root more) j = or_nothing (option_map (λ ms. components (components_of (entries root ms ++ added_entries more ms))) (as_object j))
   value_of (sequence_of t s) j = or_nothing (option_map (λ ds. elements (elements_of (map (λ e. value_of t e) (item_list ds)))) (as_array j))
-  value_of (choice root more) j = or_nothing (option_map (λ m. chosen_value (λ p. if nat_lt p (count root) then value_at root p m.1 else added_value_at more (p - count root) m.1) (place_of m.0 (choice_names root more))) (option_and_then single (as_object j)))
+  value_of (choice root more) j = or_nothing (option_map (λ m. chosen_value (λ p. if nat_lt p (count root) then value_at root p m.1 else added_value_at more (p - count root) m.1) (place_of m.0 (choice_names root more))) (only_member j))
 
   -- the entries of a SEQUENCE, one for each component
   pub entries : Fields → Members → List (Option Datum)

@@ -1,4 +1,4 @@
-use Rattle.std.proofs.Common.{◌≡◌, refl, Some, length, sym, arith}
+use Rattle.std.proofs.Common.{◌≡◌, refl, Some, length, sym}
 use Rattle.serde_json.specs.Find.{as_object}
 use Rattle.serde_json.specs.View.{view, members_view}
 use Rattle.asn_values.proofs.Alternatives.{no_truth}

@@ -2,10 +2,10 @@ pub mod Distinct
 pub mod Firsts
 pub mod LeavesBack
 pub mod MembersBack
-pub mod Names
+pub mod ItemNames
 pub mod OneMember
 pub mod ReadBack
 pub mod ReadKinds
 pub mod ReadParts
-pub mod NamePlaces
+pub mod NameIndexes
 pub mod WrittenParts

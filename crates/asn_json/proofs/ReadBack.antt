@@ -22,11 +22,11 @@ use Rattle.asn_json.specs.Errors.{errors, errors_at, added_errors_at, element_er
 use Rattle.asn_json.specs.Readers.{Shows}
 use Rattle.asn_json.specs.Shown.{value_of, value_at, added_value_at, entries, item_list, choice_names, component_names}
 use Rattle.asn_json.specs.Written.{json_of, json_alternative, json_addition, members, added_members, label_names, integers}
-use Rattle.asn_json.proofs.Distinct.{place_of_name, name_at, all_among}
+use Rattle.asn_json.proofs.Distinct.{index_of_name, name_at, all_among}
 use Rattle.asn_json.proofs.LeavesBack.{integer_back, bits_back, octets_are_bytes, characters_back}
 use Rattle.asn_json.proofs.MembersBack.{names_append, errors_append, entries_append, members_append, fits_append, fits_more, members_more, errors_more, entries_more, all_written, all_known, AreBack, back_append, each_back}
-use Rattle.asn_json.proofs.Names.{first_part, second_part}
-use Rattle.asn_json.proofs.NamePlaces.{many_names}
+use Rattle.asn_json.proofs.ItemNames.{first_part, second_part}
+use Rattle.asn_json.proofs.NameIndexes.{many_names}
 use Rattle.asn_json.proofs.ReadKinds.{added_components, added_alternatives}
 
 -- what is written of a value is read back
@@ -66,8 +66,8 @@ item_back root more p good h =
     let names = label_names (root ++ more_labels more) in
     let many : length names ≡ length root + length (more_labels more) = length-map (root ++ more_labels more) (λ l. l.name) ∙ length-append root (more_labels more) in
     let named = name_at names p (omega arith) in
-    let place = place_of_name names p named.0 (distinct_labels root more good) named.1 in
-    record { no_errors = rw (named.1, place) refl; is = rw (named.1, place) refl }
+    let index = index_of_name names p named.0 (distinct_labels root more good) named.1 in
+    record { no_errors = rw (named.1, index) refl; is = rw (named.1, index) refl }
 
 -- ---- a SEQUENCE
 
@@ -117,7 +117,7 @@ list_back t es b h =
 
 -- ---- a CHOICE
 
--- the alternative at a place: its name, and what is written of its value
+-- the alternative at an index: its name, and what is written of its value
 pub record AlternativeBack (alts : Alternatives) (p : ℕ) (v : Datum) : Type 0 where
   pub name : List ℕ
   pub json : Data
@@ -148,19 +148,19 @@ module _ (root : Alternatives) (more : MoreAlternatives) (tag : ℕ) (v : Datum)
   root_back : tag < count root → AlternativeBack root tag v → nat_lt tag (count root) ≡ true → IsBack (choice root more) (alternative tag v)
   root_back below_count a e =
       let named : slice_get (choice_names root more) tag ≡ Some a.name = first_part (alternative_names root) (alternative_names (more_alternatives more)) tag (rw (many_names root) below_count) ∙ a.named in
-      let place = place_of_name (choice_names root more) tag a.name (distinct_alternatives root more good) named in
-      rw (e, a.written) (record { no_errors = rw (place, e, a.no_errors) refl; is = rw (place, e) (ap (alternative tag) a.is) })
+      let index = index_of_name (choice_names root more) tag a.name (distinct_alternatives root more good) named in
+      rw (e, a.written) (record { no_errors = rw (index, e, a.no_errors) refl; is = rw (index, e) (ap (alternative tag) a.is) })
 
   -- in the additions
   added_back : count root ≤ tag → AlternativeBack (more_alternatives more) (tag - count root) v → nat_lt tag (count root) ≡ false → IsBack (choice root more) (alternative tag v)
   added_back above a e =
-      let behind = tag - count root in
+      let added_index = tag - count root in
       let named : slice_get (choice_names root more) tag ≡ Some a.name =
       second_part (alternative_names root) (alternative_names (more_alternatives more)) tag (rw (many_names root) above) ∙ ap (λ n. slice_get (alternative_names (more_alternatives more)) (tag - n)) (many_names root) ∙ a.named in
-      let place = place_of_name (choice_names root more) tag a.name (distinct_alternatives root more good) named in
-      rw (e, json_added more behind v, a.written) (record {
-        no_errors = rw (place, e, errors_added more behind a.json, a.no_errors) refl;
-        is = rw (place, e, value_added more behind a.json) (ap (alternative tag) a.is);
+      let index = index_of_name (choice_names root more) tag a.name (distinct_alternatives root more good) named in
+      rw (e, json_added more added_index v, a.written) (record {
+        no_errors = rw (index, e, errors_added more added_index a.json, a.no_errors) refl;
+        is = rw (index, e, value_added more added_index a.json) (ap (alternative tag) a.is);
       })
 
 choice_back : (root : Alternatives) (more : MoreAlternatives) (tag : ℕ) (v : Datum) → InProfile (choice root more) → ((p : ℕ) (w : Datum) → FitsAlternative root p w → AlternativeBack root p w)

@@ -25,12 +25,12 @@ use Rattle.asn_json.specs.declared.fault.JsonFault.{JsonFault}
 use Rattle.asn_json.specs.Errors.{errors, errors_at, added_errors_at, field_errors, added_errors, unknown_errors}
 use Rattle.asn_json.specs.Paths.{here, below, to_member}
 use Rattle.asn_json.specs.Readers.{TellsFirst, Shows, ShowsAfter, ShowsElements, ShowsAt}
-use Rattle.asn_json.specs.Shown.{value_of, value_at, added_value_at, added_entries, single, place_of, choice_names, component_names}
+use Rattle.asn_json.specs.Shown.{value_of, value_at, added_value_at, added_entries, single, index_of, choice_names, component_names}
 use Rattle.asn_json.proofs.Firsts.{tells_front}
 
 -- ---- a SEQUENCE
 
--- the additions, where there are some: their entries come behind those of the root
+-- the additions, where there are some: their entries come after those of the root
 pub record ShowsAdded (more : MoreFields) (ms : Members) (given es : List (Option Datum)) : Type 0 where
   pub no_errors : added_errors more ms ≡ []
   pub is : es ≡ given ++ added_entries more ms
@@ -69,7 +69,7 @@ list_shown t e b size v j ds et ee ej s =
 -- ---- alternatives
 
 module _ (j : Data) where
-  -- the one at a place
+  -- the one at an index
   pub errors_here : (alts : List Alt) (i : ℕ) (x : Alt) → i < length alts → x ≡ get_or alts i x → errors_at (alternatives_of (map branch_of alts)) i j ≡ errors (shape_of x.ty) j
   errors_here [] i x h e = absurd (omega arith)
   errors_here (a ∷ alts) zero x h e = rw (e, shape_of_branch a) refl
@@ -88,7 +88,7 @@ module _ (j : Data) where
 -- ---- a CHOICE
 
 module _ (t : AsnType) (root : Vec Alt Global) (ext : Option (Vec Alt Global)) (alts : List Alt) (j e : Data) (name : List ℕ) (p : ℕ) (et : t ≡ Choice root ext) (ea : alts ≡ root.items)
-    (ej : option_and_then single (as_object j) ≡ Some (name, e)) (ep : place_of name (choice_names (alternatives_of (map branch_of alts)) (more_alternatives_of ext)) ≡ Some p) where
+    (ej : option_and_then single (as_object j) ≡ Some (name, e)) (ep : index_of name (choice_names (alternatives_of (map branch_of alts)) (more_alternatives_of ext)) ≡ Some p) where
   choice_type : shape_of t ≡ choice (alternatives_of (map branch_of alts)) (more_alternatives_of ext)
   choice_type = choice_of_alternatives t root ext alts et ea
 

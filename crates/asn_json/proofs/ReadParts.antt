@@ -20,13 +20,13 @@ use Rattle.asn_json.proofs.Firsts.{tells_front}
 
 -- ---- components
 
--- some components are left: the errors are theirs, and their entries come behind those that are there
+-- some components are left: the errors are theirs, and their entries come after those that are there
 pub record ReadUpTo (all : Fields) (ms : Members) (given : List (Option Datum)) (left : Fields) (es : List (Option Datum)) : Type 0 where
   pub errors_left : field_errors left ms ≡ field_errors all ms
   pub entries_left : es ++ entries left ms ≡ given ++ entries all ms
   pub good : AreOfProfile left
 
--- the components left are one and those behind it
+-- the components left are one and those after it
 pub next_component : (fs : List Field) (i : ℕ) (x : Field) → i < length fs → x ≡ get_or fs i x
     → fields_of (map part_of_field (drop i fs)) ≡ field (part_of_field x).name (part_of_field x).demand (part_of_field x).shape (fields_of (map part_of_field (drop (i + 1) fs)))
 next_component fs i x h e =

@@ -64,7 +64,7 @@ no_more_members fs vs i ms h = none (fields_of (map part_of_field (drop i fs))) 
 
 -- ---- a CHOICE
 
--- the alternative at a place
+-- the alternative at an index
 pub alternative_here : (alts : List Alt) (i : ℕ) (x : Alt) (d : Datum) → i < length alts → x ≡ get_or alts i x
     → json_alternative (alternatives_of (map branch_of alts)) i d ≡ object (member (string_bytes x.name) (json_of (shape_of x.ty) d) no_members)
 alternative_here [] i x d h e = absurd (omega arith)

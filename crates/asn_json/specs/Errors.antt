@@ -11,7 +11,7 @@ use Rattle.asn_json.specs.declared.fault.JsonFault.{JsonFault}
 use Rattle.asn_json.specs.declared.fault.JsonFault.TheVariants as fault
 use Rattle.asn_json.specs.Paths.{here, to_member, to_element, below}
 use Rattle.asn_json.specs.Written.{label_names}
-use Rattle.asn_json.specs.Shown.{only_member, truth_in, nothing_in, number_in, item_in, bits_in, octets_in, characters_in, unicode_in, place_of, choice_names, component_names, value_of}
+use Rattle.asn_json.specs.Shown.{only_member, truth_in, nothing_in, number_in, item_in, bits_in, octets_in, characters_in, unicode_in, index_of, choice_names, component_names, value_of}
 
 -- one, at the node itself, where no value is read
 abbrev pub unless_read : Option Datum → List (List ℕ)
@@ -42,7 +42,7 @@ entry_errors name (default d) f None = []
 
 -- those of the one member of an object for a CHOICE: of the value, where the key is the name of an alternative
 abbrev pub member_errors : (ℕ → Data → List (List ℕ)) → List (List ℕ) → Option (List ℕ × Data) → List (List ℕ)
-member_errors f names found = errors_within (λ m. errors_within (λ p. below (to_member m.0) (f p m.1)) (place_of m.0 names)) found
+member_errors f names found = errors_within (λ m. errors_within (λ p. below (to_member m.0) (f p m.1)) (index_of m.0 names)) found
 
 abbrev mutual
   pub errors : Shape → Data → List (List ℕ)
@@ -67,7 +67,7 @@ abbrev mutual
   added_errors closed ms = []
   added_errors (marked fs) ms = field_errors fs ms
 
-  -- those of a value of the alternative at this place
+  -- those of a value of the alternative at this index
   pub errors_at : Alternatives → ℕ → Data → List (List ℕ)
   errors_at no_alternatives p j = here
   errors_at (one_of name t alts) zero j = errors t j

@@ -38,7 +38,7 @@ pub errors_in_order : bad note_type (object (member (codes "id") (string (codes 
     ≡ codes "$.id" ∷ codes "$.ok" ∷ codes "$" ∷ []
 errors_in_order = refl
 
--- {"ok":0}: the missing key stands at its turn, in front of what is wrong behind it
+-- {"ok":0}: the missing key stands at its turn, before what is wrong after it
 pub missing_key : bad note_type (object (member (codes "ok") (number (unsigned 0)) no_members)) ≡ codes "$" ∷ codes "$.ok" ∷ []
 missing_key = refl
 

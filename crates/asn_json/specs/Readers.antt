@@ -23,7 +23,7 @@ pub record Shows (t : Shape) (j : Data) (v : Datum) : Type 0 where
   pub no_errors : errors t j ≡ []
   pub is : v ≡ value_of t j
 
--- the same of the entries of components, which stand behind those given
+-- the same of the entries of components, which stand after those given
 pub record ShowsAfter (fs : Fields) (ms : Members) (given es : List (Option Datum)) : Type 0 where
   pub no_errors : field_errors fs ms ≡ []
   pub is : es ≡ given ++ entries fs ms
@@ -41,7 +41,7 @@ pub record ShowsElements (t : Shape) (js : Items) (vs : List Datum) : Type 0 whe
   pub no_errors : element_errors (λ e. errors t e) 0 js ≡ []
   pub is : vs ≡ map (λ e. value_of t e) (item_list js)
 
--- of the value of the alternative at a place
+-- of the value of the alternative at an index
 pub record ShowsAt (alts : Alternatives) (p : ℕ) (j : Data) (v : Datum) : Type 0 where
   pub no_errors : errors_at alts p j ≡ []
   pub is : v ≡ value_at alts p j

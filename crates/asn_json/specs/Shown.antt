@@ -26,14 +26,14 @@ if_integer z = if in_range integers z then Some (number z) else None
 abbrev pub number_in : Data → Option Datum
 number_in j = option_and_then if_integer (option_and_then as_integer (as_number j))
 
--- the place of the first of the names that is this one
-abbrev pub place_of : List ℕ → List (List ℕ) → Option ℕ
-place_of name [] = None
-place_of name (n ∷ names) = if bytes_eq n name then Some 0 else option_map suc (place_of name names)
+-- the index of the first of the names that is this one
+abbrev pub index_of : List ℕ → List (List ℕ) → Option ℕ
+index_of name [] = None
+index_of name (n ∷ names) = if bytes_eq n name then Some 0 else option_map suc (index_of name names)
 
 -- the name of an item
 abbrev pub item_in : List (List ℕ) → Data → Option Datum
-item_in names j = option_map datum.item (option_and_then (λ name. place_of name names) (as_str j))
+item_in names j = option_map datum.item (option_and_then (λ name. index_of name names) (as_str j))
 
 -- the characters 0 and 1, and no others
 abbrev pub is_bit_character : ℕ → Bool
@@ -83,7 +83,7 @@ entry_of (default d) f None = Some d
 abbrev pub or_nothing : Option Datum → Datum
 or_nothing o = unwrap_or o nothing
 
--- the value of the alternative at a place
+-- the value of the alternative at an index
 abbrev pub chosen_value : (ℕ → Datum) → Option ℕ → Datum
 chosen_value f None = nothing
 chosen_value f (Some p) = alternative p (f p)
@@ -109,7 +109,7 @@ abbrev mutual
   value_of utf8_string j = or_nothing (unicode_in j)
   value_of (sequence root more) j = or_nothing (option_map (λ ms. components (components_of (entries root ms ++ added_entries more ms))) (as_object j))
   value_of (sequence_of t s) j = or_nothing (option_map (λ ds. elements (elements_of (map (λ e. value_of t e) (item_list ds)))) (as_array j))
-  value_of (choice root more) j = or_nothing (option_map (λ m. chosen_value (λ p. if nat_lt p (count root) then value_at root p m.1 else added_value_at more (p - count root) m.1) (place_of m.0 (choice_names root more))) (only_member j))
+  value_of (choice root more) j = or_nothing (option_map (λ m. chosen_value (λ p. if nat_lt p (count root) then value_at root p m.1 else added_value_at more (p - count root) m.1) (index_of m.0 (choice_names root more))) (only_member j))
 
   -- the entries of a SEQUENCE, one for each component
   pub entries : Fields → Members → List (Option Datum)
@@ -120,7 +120,7 @@ abbrev mutual
   added_entries closed ms = []
   added_entries (marked fs) ms = entries fs ms
 
-  -- the value of the alternative at this place
+  -- the value of the alternative at this index
   pub value_at : Alternatives → ℕ → Data → Datum
   value_at no_alternatives p j = nothing
   value_at (one_of name t alts) zero j = value_of t j

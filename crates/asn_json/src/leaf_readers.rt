@@ -8,7 +8,7 @@ ghost use Rattle.asn_json.specs.Written.{label_names};
 ghost use Rattle.asn_json.specs.Shown.{truth_in, nothing_in, number_in, item_in, is_bit_character, bits_in, octets_in, characters_in, unicode_in};
 
 use crate::leaves::INTEGERS;
-use crate::places::item_place;
+use crate::names::item_index;
 use asn_values::{Item, Value, is_between};
 use hex::FromHexError;
 use serde_json::Value as Json;
@@ -52,8 +52,8 @@ pub(crate) fn item_shown(root: &[Item], ext: &Option<Vec<Item>>, json: &Json) ->
     ensures { option_map datum_of result
         ≡ item_in (label_names (map label_of root.now ++ more_labels (more_labels_of ext.now))) (view json.now) }
 {
-    let place = item_place(root, ext, json.as_str()?)?;
-    Some(Value::Enum(place as u32))
+    let index = item_index(root, ext, json.as_str()?)?;
+    Some(Value::Enum(index as u32))
 }
 
 /// The value of a BIT STRING: a bit for each character.

@@ -29,34 +29,34 @@ pub(crate) fn number_json(whole: i128) -> Json
     }
 }
 
-/// The JSON of the item at a place, or null where there is none.
+/// The JSON of the item at an index, or null where there is none.
 pub(crate) fn item_json(
     alloc: Global,
     root: &[Item],
     ext: &Option<Vec<Item>>,
-    place: u32,
+    index: u32,
 ) -> Result<Json, AllocError>
     ensures { IfOk result (λ j. view j
-        ≡ json_item (label_names (map label_of root.now ++ more_labels (more_labels_of ext.now))) (item place)) }
+        ≡ json_item (label_names (map label_of root.now ++ more_labels (more_labels_of ext.now))) (item index)) }
 {
-    let place = place as usize;
-    if place < root.len() {
-        return name_json(alloc, root, place);
+    let index = index as usize;
+    if index < root.len() {
+        return name_json(alloc, root, index);
     }
     match ext {
         None => Ok(Json::Null),
-        Some(more) => name_json(alloc, more, place - root.len()),
+        Some(more) => name_json(alloc, more, index - root.len()),
     }
 }
 
-/// The name of the item at a place, or null where there is none.
-fn name_json(alloc: Global, items: &[Item], place: usize) -> Result<Json, AllocError>
-    ensures { IfOk result (λ j. view j ≡ json_name (slice_get (label_names (map label_of items.now)) place)) }
+/// The name of the item at an index, or null where there is none.
+fn name_json(alloc: Global, items: &[Item], index: usize) -> Result<Json, AllocError>
+    ensures { IfOk result (λ j. view j ≡ json_name (slice_get (label_names (map label_of items.now)) index)) }
 {
-    if place >= items.len() {
+    if index >= items.len() {
         return Ok(Json::Null);
     }
-    Json::try_from_str(alloc, items[place].name.as_str())
+    Json::try_from_str(alloc, items[index].name.as_str())
 }
 
 /// The JSON of bits: a character 0 or 1 for each.

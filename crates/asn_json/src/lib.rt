@@ -5,8 +5,8 @@ mod fault;
 mod laws;
 mod leaf_readers;
 mod leaves;
+mod names;
 mod paths;
-mod places;
 mod read;
 mod write;
 

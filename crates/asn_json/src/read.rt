@@ -17,8 +17,8 @@ use crate::leaf_readers::{
     bits_shown, characters_shown, item_shown, null_shown, number_shown, octets_shown, truth_shown,
     unicode_shown,
 };
+use crate::names::{alternative_index, is_component, member, only_member};
 use crate::paths::{at_node, below_element, below_member, from_top, value_or_fault};
-use crate::places::{alternative_place, is_component, member, only_member};
 use asn_values::{Alt, AsnType, Checked, Field, Need, Value, fits};
 use serde_json::{Map, Value as Json};
 use std::alloc::Global;
@@ -27,7 +27,7 @@ use std::alloc::Global;
 /// letters too, and a component with a DEFAULT that is missing has that value.
 ///
 /// Err: `Shape` exactly where the JSON is not of the shape of the type, with the path of the first
-/// place where it is not: a node is looked at before its parts, each part whole before the next, in the
+/// index where it is not: a node is looked at before its parts, each part whole before the next, in the
 /// order of components and elements, and the unknown keys of an object after its components. Of the shape
 /// are the kind of each node, whole numbers that are integers of the profile, the names of items, keys
 /// and alternatives, one key for a CHOICE, even counts of hexadecimal digits, and the characters 0 and 1
@@ -86,25 +86,25 @@ fn read(alloc: Global, ty: &AsnType, json: &Json) -> Result<Value, JsonFault>
             let Some((name, chosen)) = only_member(json) else {
                 return Err(at_node(alloc));
             };
-            let Some(place) = alternative_place(root, ext, name) else {
+            let Some(index) = alternative_index(root, ext, name) else {
                 return Err(at_node(alloc));
             };
-            if place < root.len() {
-                let value = read_alternative(alloc, root, place, chosen);
-                return choice_read(alloc, name, place, value);
+            if index < root.len() {
+                let value = read_alternative(alloc, root, index, chosen);
+                return choice_read(alloc, name, index, value);
             }
             match ext {
                 Some(more) => {
-                    let value = read_alternative(alloc, more, place - root.len(), chosen);
-                    choice_read(alloc, name, place, value)
+                    let value = read_alternative(alloc, more, index - root.len(), chosen);
+                    choice_read(alloc, name, index, value)
                 }
-                None => choice_read(alloc, name, place, Err(at_node(alloc))),
+                None => choice_read(alloc, name, index, Err(at_node(alloc))),
             }
         }
     }
 }
 
-/// Reads the entry of each component, and puts it behind those given.
+/// Reads the entry of each component, and puts it after those given.
 #[cycle(reader)]
 fn read_entries(
     alloc: Global,
@@ -161,7 +161,7 @@ fn missing(alloc: Global, field: &Field) -> Result<Option<Value>, JsonFault>
         Need::Optional => Ok(None),
         Need::Default(Value::Bool(truth)) => Ok(Some(Value::Bool(*truth))),
         Need::Default(Value::Int(whole)) => Ok(Some(Value::Int(*whole))),
-        Need::Default(Value::Enum(place)) => Ok(Some(Value::Enum(*place))),
+        Need::Default(Value::Enum(index)) => Ok(Some(Value::Enum(*index))),
         Need::Default(
             Value::Null
             | Value::Bits(_)
@@ -216,40 +216,40 @@ fn read_elements(alloc: Global, element: &AsnType, items: &[Json]) -> Result<Vec
     Ok(all)
 }
 
-/// The value of a CHOICE from that of the alternative of this name at this place.
+/// The value of a CHOICE from that of the alternative of this name at this index.
 fn choice_read(
     alloc: Global,
     name: &str,
-    place: usize,
+    index: usize,
     read: Result<Value, JsonFault>,
 ) -> Result<Value, JsonFault>
-    requires { place < 2 ^ 32 }
-    ensures shown { IfOk result (λ v. IsOkAnd read (λ w. datum_of v ≡ alternative place (datum_of w))) }
+    requires { index < 2 ^ 32 }
+    ensures shown { IfOk result (λ v. IsOkAnd read (λ w. datum_of v ≡ alternative index (datum_of w))) }
     ensures refused { IfErr result (λ fault. (paths : List (List ℕ)) → IfErr read (λ f. TellsFirst paths f)
         → TellsFirst (below (to_member name.now) paths) fault) }
 {
     match read {
-        Ok(value) => Ok(Value::Choice(place as u32, Box::new(alloc, value)?)),
+        Ok(value) => Ok(Value::Choice(index as u32, Box::new(alloc, value)?)),
         Err(fault) => Err(below_member(alloc, name, fault)),
     }
 }
 
-/// Reads a value of the alternative at a place of the list.
+/// Reads a value of the alternative at an index of the list.
 #[cycle(reader)]
 fn read_alternative(
     alloc: Global,
     alternatives: &[Alt],
-    place: usize,
+    index: usize,
     json: &Json,
 ) -> Result<Value, JsonFault>
     requires of_profile { AreAllOfProfile (alternatives_of (map branch_of alternatives.now)) }
     ensures shown { IfOk result (λ v.
-        ShowsAt (alternatives_of (map branch_of alternatives.now)) place (view json.now) (datum_of v)) }
+        ShowsAt (alternatives_of (map branch_of alternatives.now)) index (view json.now) (datum_of v)) }
     ensures refused { IfErr result (λ fault. TellsFirst
-        (errors_at (alternatives_of (map branch_of alternatives.now)) place (view json.now)) fault) }
+        (errors_at (alternatives_of (map branch_of alternatives.now)) index (view json.now)) fault) }
 {
-    if place >= alternatives.len() {
+    if index >= alternatives.len() {
         return Err(at_node(alloc));
     }
-    read(alloc, &alternatives[place].ty, json)
+    read(alloc, &alternatives[index].ty, json)
 }

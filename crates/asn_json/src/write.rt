@@ -41,7 +41,7 @@ fn json_of(alloc: Global, ty: &AsnType, value: &Value) -> Result<Json, AllocErro
     match (ty, value) {
         (AsnType::Bool, Value::Bool(truth)) => Ok(Json::from(*truth)),
         (AsnType::Int(_), Value::Int(whole)) => Ok(number_json(*whole)),
-        (AsnType::Enum { root, ext }, Value::Enum(place)) => item_json(alloc, root, ext, *place),
+        (AsnType::Enum { root, ext }, Value::Enum(index)) => item_json(alloc, root, ext, *index),
         (AsnType::Bits(_), Value::Bits(bits)) => bits_json(alloc, bits),
         (AsnType::Octets(_), Value::Octets(octets)) => octets_json(alloc, octets),
         (AsnType::Text(..), Value::Text(codes)) => characters_json(alloc, codes),
@@ -58,13 +58,13 @@ fn json_of(alloc: Global, ty: &AsnType, value: &Value) -> Result<Json, AllocErro
             Ok(Json::from(elements_json(alloc, element, values)?))
         }
         (AsnType::Choice { root, ext }, Value::Choice(tag, chosen)) => {
-            let place = *tag as usize;
-            if place < root.len() {
-                return alternative_json(alloc, root, place, chosen);
+            let index = *tag as usize;
+            if index < root.len() {
+                return alternative_json(alloc, root, index, chosen);
             }
             match ext {
                 None => Ok(Json::Null),
-                Some(more) => alternative_json(alloc, more, place - root.len(), chosen),
+                Some(more) => alternative_json(alloc, more, index - root.len(), chosen),
             }
         }
         _ => Ok(Json::Null),
@@ -84,11 +84,11 @@ fn with_members(
         (members_view object.entries)) }
 {
     let mut all = object;
-    for (place, field) in fields.iter().enumerate() {
-        if place >= entries.len() {
+    for (index, field) in fields.iter().enumerate() {
+        if index >= entries.len() {
             return Ok(all);
         }
-        all = with_member(alloc, field, &entries[place], all)?;
+        all = with_member(alloc, field, &entries[index], all)?;
     }
     Ok(all)
 }
@@ -145,21 +145,21 @@ fn elements_json(
     Ok(all)
 }
 
-/// The object with one member, for the alternative at a place, or null where there is none.
+/// The object with one member, for the alternative at an index, or null where there is none.
 #[cycle(json)]
 fn alternative_json(
     alloc: Global,
     alternatives: &[Alt],
-    place: usize,
+    index: usize,
     chosen: &Value,
 ) -> Result<Json, AllocError>
     ensures { IfOk result (λ j. view j
-        ≡ json_alternative (alternatives_of (map branch_of alternatives.now)) place (datum_of chosen.now)) }
+        ≡ json_alternative (alternatives_of (map branch_of alternatives.now)) index (datum_of chosen.now)) }
 {
-    if place >= alternatives.len() {
+    if index >= alternatives.len() {
         return Ok(Json::Null);
     }
-    let alternative = &alternatives[place];
+    let alternative = &alternatives[index];
     let json = json_of(alloc, &alternative.ty, chosen)?;
     let object = put_member(Map::new(alloc), alternative.name.clone()?, json)?;
     Ok(Json::from(object))

@@ -17,7 +17,7 @@ use Rattle.asn_values.proofs.Views.{shape_of-Enum, sequence_of_fields, list_of_e
 use Rattle.asn_json.specs.Errors.{errors, errors_at}
 use Rattle.asn_json.specs.Paths.{here, below, to_member}
 use Rattle.asn_json.specs.Readers.{TellsFirst, Shows, ShowsAfter, ShowsAt}
-use Rattle.asn_json.specs.Shown.{place_of, choice_names, single}
+use Rattle.asn_json.specs.Shown.{index_of, choice_names, single}
 use Rattle.asn_json.proofs.ReadKinds.{ShowsAdded, sequence_shown, root_refused, added_refused, list_shown, errors_here, value_here, errors_past, good_here, added_components, added_alternatives, few_items, few_alternatives, root_shown, added_shown, alternative_refused, addition_refused, alternative_read}
 use Rattle.asn_json.proofs.ReadParts.{next_component, component_read, component_stops, next_element, element_stops}
 use Rattle.asn_json.proofs.read.+reader.Goals as goal
@@ -93,29 +93,29 @@ read-returns-in_ok-read_elements-in-Some-as_array-clause-shown t c =
     list_shown c.args.ty.now c.deref-in-Some-as_array.result.now c.in-SeqOf.element c.in-SeqOf.field-1 c.in_ok-read_elements-in-Some-as_array.field-0 (view c.args.json.now) (items_view js)
     c.in-SeqOf.is c.deref-in-Some-as_array.ensures array c.in_ok-read_elements-in-Some-as_array.ensures.shown
 
-pub read_alternative-returns-then-place-alternatives-clause-refused : goal.read_alternative-returns-then-place-alternatives-clause-refused
-read_alternative-returns-then-place-alternatives-clause-refused t c = rw (errors_past (view c.args.json.now) c.args.alternatives.now c.args.place c.if-place-alternatives.true) c.at_node.ensures
+pub read_alternative-returns-then-index-alternatives-clause-refused : goal.read_alternative-returns-then-index-alternatives-clause-refused
+read_alternative-returns-then-index-alternatives-clause-refused t c = rw (errors_past (view c.args.json.now) c.args.alternatives.now c.args.index c.if-index-alternatives.true) c.at_node.ensures
 
 pub read_alternative-read-requires : goal.read_alternative-read-requires
 read_alternative-read-requires t c =
-    let good = good_here c.args.alternatives.now c.args.place c.index-alternatives-place.result c.if-place-alternatives.false c.index-alternatives-place.is c.requires.of_profile in
-    (search (rules, the_lemmas), rw (← c.index-alternatives-place.is) good)
+    let good = good_here c.args.alternatives.now c.args.index c.index-alternatives-index.result c.if-index-alternatives.false c.index-alternatives-index.is c.requires.of_profile in
+    (search (rules, the_lemmas), rw (← c.index-alternatives-index.is) good)
 
 pub read_alternative-returns-clause-shown : goal.read_alternative-returns-clause-shown
 read_alternative-returns-clause-shown t c =
     let alts = c.args.alternatives.now in
-    let i = c.args.place in
+    let i = c.args.index in
     let j = view c.args.json.now in
-    let x = c.index-alternatives-place.result in
-    let none = errors_here j alts i x c.if-place-alternatives.false c.index-alternatives-place.is in
-    let same = value_here j alts i x c.if-place-alternatives.false c.index-alternatives-place.is in
+    let x = c.index-alternatives-index.result in
+    let none = errors_here j alts i x c.if-index-alternatives.false c.index-alternatives-index.is in
+    let same = value_here j alts i x c.if-index-alternatives.false c.index-alternatives-index.is in
     IfOk-weaker c.read.result (λ v. Shows (shape_of x.ty) j (datum_of v)) (λ v. ShowsAt (alternatives_of (map branch_of alts)) i j (datum_of v))
-    (λ v s. record { no_errors = none ∙ s.no_errors; is = s.is ∙ sym same }) (rw (← c.index-alternatives-place.is) at c.read.ensures.shown)
+    (λ v s. record { no_errors = none ∙ s.no_errors; is = s.is ∙ sym same }) (rw (← c.index-alternatives-index.is) at c.read.ensures.shown)
 
 pub read_alternative-returns-clause-refused : goal.read_alternative-returns-clause-refused
 read_alternative-returns-clause-refused t c =
-    rw (errors_here (view c.args.json.now) c.args.alternatives.now c.args.place c.index-alternatives-place.result c.if-place-alternatives.false c.index-alternatives-place.is)
-    (rw (← c.index-alternatives-place.is) at c.read.ensures.refused)
+    rw (errors_here (view c.args.json.now) c.args.alternatives.now c.args.index c.index-alternatives-index.result c.if-index-alternatives.false c.index-alternatives-index.is)
+    (rw (← c.index-alternatives-index.is) at c.read.ensures.refused)
 
 pub read-read_entries-requires : goal.read-read_entries-requires
 read-read_entries-requires t c =
@@ -164,8 +164,8 @@ read-returns-in_ok-check_keys-in-Seq-clause-shown t c =
     sequence_shown c.args.ty.now c.in-Seq.root c.in-Seq.ext fs (view c.args.json.now) ms c.in-Seq.is c.deref-in-Seq.ensures.value object c.match-ext.entries ours (map (option_map datum_of) c.match-ext.entries.items) first added
     (rw same at c.in_ok-check_keys-in-Seq.ensures.known) refl
 
-pub read-alternative_place-requires : goal.read-alternative_place-requires
-read-alternative_place-requires t c =
+pub read-alternative_index-requires : goal.read-alternative_index-requires
+read-alternative_index-requires t c =
     let alts = c.deref-in-Choice.result.now in
     let root = alternatives_of (map branch_of alts) in
     let more = more_alternatives_of c.in-Choice.ext in
@@ -175,10 +175,10 @@ read-alternative_place-requires t c =
 
 pub read-read_alternative-value-requires : goal.read-read_alternative-value-requires
 read-read_alternative-value-requires t c =
-    let alts = c.deref-then-place-len.result.now in
+    let alts = c.deref-then-index-len.result.now in
     let root = alternatives_of (map branch_of alts) in
     let more = more_alternatives_of c.in-Choice.ext in
-    let type : shape_of c.args.ty.now ≡ choice root more = choice_of_alternatives c.args.ty.now c.in-Choice.root c.in-Choice.ext alts c.in-Choice.is c.deref-then-place-len.ensures.value in
+    let type : shape_of c.args.ty.now ≡ choice root more = choice_of_alternatives c.args.ty.now c.in-Choice.root c.in-Choice.ext alts c.in-Choice.is c.deref-then-index-len.ensures.value in
     (search (rules, the_lemmas), root_alternatives_of_profile root more (rw type at c.requires.of_profile))
 
 pub read-read_alternative-value-requires-in-Some-ext-2 : goal.read-read_alternative-value-requires-in-Some-ext-2
@@ -190,8 +190,8 @@ read-read_alternative-value-requires-in-Some-ext-2 t c =
     let added = added_alternatives root more (rw type at c.requires.of_profile) in
     (search (rules, the_lemmas), rw (c.in-Some-ext-2.is, ← c.deref-in-Some-ext-2.ensures.value) at added)
 
-pub read-returns-then-place-len-clause-shown : goal.read-returns-then-place-len-clause-shown
-read-returns-then-place-len-clause-shown t c =
+pub read-returns-then-index-len-clause-shown : goal.read-returns-then-index-len-clause-shown
+read-returns-then-index-len-clause-shown t c =
     let ty = c.args.ty.now in
     let alts = c.deref-in-Choice.result.now in
     let root = alternatives_of (map branch_of alts) in
@@ -199,20 +199,20 @@ read-returns-then-place-len-clause-shown t c =
     let j = view c.args.json.now in
     let e = view c.in-Some-only_member.chosen.now in
     let name = c.in-Some-only_member.name.now in
-    let place = c.in-Some-alternative_place.place in
+    let index = c.in-Some-alternative_index.index in
     let member : option_and_then single (as_object j) ≡ Some (name, e) = sym c.in-Some-only_member.ensures in
-    let found : place_of name (choice_names root more) ≡ Some place = sym c.in-Some-alternative_place.ensures.place in
-    let inside : place < length alts = omega (arith, c.if-place-len.true, c.len.ensures, c.deref-in-Choice.ensures.len) in
-    let same : c.deref-then-place-len.result.now ≡ alts = c.deref-then-place-len.ensures.value ∙ sym c.deref-in-Choice.ensures.value in
+    let found : index_of name (choice_names root more) ≡ Some index = sym c.in-Some-alternative_index.ensures.index in
+    let inside : index < length alts = omega (arith, c.if-index-len.true, c.len.ensures, c.deref-in-Choice.ensures.len) in
+    let same : c.deref-then-index-len.result.now ≡ alts = c.deref-then-index-len.ensures.value ∙ sym c.deref-in-Choice.ensures.value in
     let r = c.read_alternative-value.result in
-    let shown : IfOk r (λ w. ShowsAt root place e (datum_of w)) = rw same at c.read_alternative-value.ensures.shown in
-    IfOk-weaker c.choice_read.result (λ v. IsOkAnd r (λ w. datum_of v ≡ alternative place (datum_of w))) (λ v. Shows (shape_of ty) j (datum_of v))
-    (λ v h. alternative_read r (λ w. ShowsAt root place e (datum_of w)) (λ w. datum_of v ≡ alternative place (datum_of w)) (Shows (shape_of ty) j (datum_of v))
-    (λ w s is. root_shown ty c.in-Choice.root c.in-Choice.ext alts j e name place c.in-Choice.is c.deref-in-Choice.ensures.value member found (datum_of v) (datum_of w) inside s is) shown h)
+    let shown : IfOk r (λ w. ShowsAt root index e (datum_of w)) = rw same at c.read_alternative-value.ensures.shown in
+    IfOk-weaker c.choice_read.result (λ v. IsOkAnd r (λ w. datum_of v ≡ alternative index (datum_of w))) (λ v. Shows (shape_of ty) j (datum_of v))
+    (λ v h. alternative_read r (λ w. ShowsAt root index e (datum_of w)) (λ w. datum_of v ≡ alternative index (datum_of w)) (Shows (shape_of ty) j (datum_of v))
+    (λ w s is. root_shown ty c.in-Choice.root c.in-Choice.ext alts j e name index c.in-Choice.is c.deref-in-Choice.ensures.value member found (datum_of v) (datum_of w) inside s is) shown h)
     c.choice_read.ensures.shown
 
-pub read-returns-then-place-len-clause-refused : goal.read-returns-then-place-len-clause-refused
-read-returns-then-place-len-clause-refused t c =
+pub read-returns-then-index-len-clause-refused : goal.read-returns-then-index-len-clause-refused
+read-returns-then-index-len-clause-refused t c =
     let ty = c.args.ty.now in
     let alts = c.deref-in-Choice.result.now in
     let root = alternatives_of (map branch_of alts) in
@@ -220,15 +220,15 @@ read-returns-then-place-len-clause-refused t c =
     let j = view c.args.json.now in
     let e = view c.in-Some-only_member.chosen.now in
     let name = c.in-Some-only_member.name.now in
-    let place = c.in-Some-alternative_place.place in
+    let index = c.in-Some-alternative_index.index in
     let member : option_and_then single (as_object j) ≡ Some (name, e) = sym c.in-Some-only_member.ensures in
-    let found : place_of name (choice_names root more) ≡ Some place = sym c.in-Some-alternative_place.ensures.place in
-    let inside : place < length alts = omega (arith, c.if-place-len.true, c.len.ensures, c.deref-in-Choice.ensures.len) in
-    let same : c.deref-then-place-len.result.now ≡ alts = c.deref-then-place-len.ensures.value ∙ sym c.deref-in-Choice.ensures.value in
+    let found : index_of name (choice_names root more) ≡ Some index = sym c.in-Some-alternative_index.ensures.index in
+    let inside : index < length alts = omega (arith, c.if-index-len.true, c.len.ensures, c.deref-in-Choice.ensures.len) in
+    let same : c.deref-then-index-len.result.now ≡ alts = c.deref-then-index-len.ensures.value ∙ sym c.deref-in-Choice.ensures.value in
     let r = c.read_alternative-value.result in
-    let refused : IfErr r (λ f. TellsFirst (errors_at root place e) f) = rw same at c.read_alternative-value.ensures.refused in
+    let refused : IfErr r (λ f. TellsFirst (errors_at root index e) f) = rw same at c.read_alternative-value.ensures.refused in
     IfErr-weaker c.choice_read.result (λ f. (paths : List (List ℕ)) → IfErr r (λ g. TellsFirst paths g) → TellsFirst (below (to_member name) paths) f) (λ f. TellsFirst (errors (shape_of ty) j) f)
-    (λ f h. alternative_refused ty c.in-Choice.root c.in-Choice.ext alts j e name place c.in-Choice.is c.deref-in-Choice.ensures.value member found f inside (h (errors_at root place e) refused))
+    (λ f h. alternative_refused ty c.in-Choice.root c.in-Choice.ext alts j e name index c.in-Choice.is c.deref-in-Choice.ensures.value member found f inside (h (errors_at root index e) refused))
     c.choice_read.ensures.refused
 
 pub read-returns-in-Some-ext-2-clause-shown : goal.read-returns-in-Some-ext-2-clause-shown
@@ -240,19 +240,19 @@ read-returns-in-Some-ext-2-clause-shown t c =
     let j = view c.args.json.now in
     let e = view c.in-Some-only_member.chosen.now in
     let name = c.in-Some-only_member.name.now in
-    let place = c.in-Some-alternative_place.place in
+    let index = c.in-Some-alternative_index.index in
     let member : option_and_then single (as_object j) ≡ Some (name, e) = sym c.in-Some-only_member.ensures in
-    let found : place_of name (choice_names root more) ≡ Some place = sym c.in-Some-alternative_place.ensures.place in
-    let outside : length alts ≤ place = omega (arith, c.if-place-len.false, c.len.ensures, c.deref-in-Choice.ensures.len) in
+    let found : index_of name (choice_names root more) ≡ Some index = sym c.in-Some-alternative_index.ensures.index in
+    let outside : length alts ≤ index = omega (arith, c.if-index-len.false, c.len.ensures, c.deref-in-Choice.ensures.len) in
     let count : c.len-in-Some-ext-2.result ≡ length alts = omega (arith, c.len-in-Some-ext-2.ensures, c.deref-in-Choice.ensures.len) in
-    let behind = place - length alts in
+    let added_index = index - length alts in
     let added = alternatives_of (map branch_of c.deref-in-Some-ext-2.result.now) in
     let r = c.read_alternative-value-in-Some-ext-2.result in
     let is : more ≡ marked_choice added = rw (c.in-Some-ext-2.is, ← c.deref-in-Some-ext-2.ensures.value) refl in
-    let shown : IfOk r (λ w. ShowsAt added behind e (datum_of w)) = rw count at c.read_alternative-value-in-Some-ext-2.ensures.shown in
-    IfOk-weaker c.choice_read-in-Some-ext-2.result (λ v. IsOkAnd r (λ w. datum_of v ≡ alternative place (datum_of w))) (λ v. Shows (shape_of ty) j (datum_of v))
-    (λ v h. alternative_read r (λ w. ShowsAt added behind e (datum_of w)) (λ w. datum_of v ≡ alternative place (datum_of w)) (Shows (shape_of ty) j (datum_of v))
-    (λ w s said. added_shown ty c.in-Choice.root c.in-Choice.ext alts j e name place c.in-Choice.is c.deref-in-Choice.ensures.value member found (datum_of v) (datum_of w) outside (rw is s.no_errors) (rw is s.is) said) shown h)
+    let shown : IfOk r (λ w. ShowsAt added added_index e (datum_of w)) = rw count at c.read_alternative-value-in-Some-ext-2.ensures.shown in
+    IfOk-weaker c.choice_read-in-Some-ext-2.result (λ v. IsOkAnd r (λ w. datum_of v ≡ alternative index (datum_of w))) (λ v. Shows (shape_of ty) j (datum_of v))
+    (λ v h. alternative_read r (λ w. ShowsAt added added_index e (datum_of w)) (λ w. datum_of v ≡ alternative index (datum_of w)) (Shows (shape_of ty) j (datum_of v))
+    (λ w s said. added_shown ty c.in-Choice.root c.in-Choice.ext alts j e name index c.in-Choice.is c.deref-in-Choice.ensures.value member found (datum_of v) (datum_of w) outside (rw is s.no_errors) (rw is s.is) said) shown h)
     c.choice_read-in-Some-ext-2.ensures.shown
 
 pub read-returns-in-Some-ext-2-clause-refused : goal.read-returns-in-Some-ext-2-clause-refused
@@ -264,18 +264,18 @@ read-returns-in-Some-ext-2-clause-refused t c =
     let j = view c.args.json.now in
     let e = view c.in-Some-only_member.chosen.now in
     let name = c.in-Some-only_member.name.now in
-    let place = c.in-Some-alternative_place.place in
+    let index = c.in-Some-alternative_index.index in
     let member : option_and_then single (as_object j) ≡ Some (name, e) = sym c.in-Some-only_member.ensures in
-    let found : place_of name (choice_names root more) ≡ Some place = sym c.in-Some-alternative_place.ensures.place in
-    let outside : length alts ≤ place = omega (arith, c.if-place-len.false, c.len.ensures, c.deref-in-Choice.ensures.len) in
+    let found : index_of name (choice_names root more) ≡ Some index = sym c.in-Some-alternative_index.ensures.index in
+    let outside : length alts ≤ index = omega (arith, c.if-index-len.false, c.len.ensures, c.deref-in-Choice.ensures.len) in
     let count : c.len-in-Some-ext-2.result ≡ length alts = omega (arith, c.len-in-Some-ext-2.ensures, c.deref-in-Choice.ensures.len) in
-    let behind = place - length alts in
+    let added_index = index - length alts in
     let added = alternatives_of (map branch_of c.deref-in-Some-ext-2.result.now) in
     let r = c.read_alternative-value-in-Some-ext-2.result in
     let is : more ≡ marked_choice added = rw (c.in-Some-ext-2.is, ← c.deref-in-Some-ext-2.ensures.value) refl in
-    let refused : IfErr r (λ f. TellsFirst (errors_at added behind e) f) = rw count at c.read_alternative-value-in-Some-ext-2.ensures.refused in
+    let refused : IfErr r (λ f. TellsFirst (errors_at added added_index e) f) = rw count at c.read_alternative-value-in-Some-ext-2.ensures.refused in
     IfErr-weaker c.choice_read-in-Some-ext-2.result (λ f. (paths : List (List ℕ)) → IfErr r (λ g. TellsFirst paths g) → TellsFirst (below (to_member name) paths) f) (λ f. TellsFirst (errors (shape_of ty) j) f)
-    (λ f h. addition_refused ty c.in-Choice.root c.in-Choice.ext alts j e name place c.in-Choice.is c.deref-in-Choice.ensures.value member found f outside (rw is (h (errors_at added behind e) refused)))
+    (λ f h. addition_refused ty c.in-Choice.root c.in-Choice.ext alts j e name index c.in-Choice.is c.deref-in-Choice.ensures.value member found f outside (rw is (h (errors_at added added_index e) refused)))
     c.choice_read-in-Some-ext-2.ensures.refused
 
 pub read-returns-in-None-ext-clause-refused : goal.read-returns-in-None-ext-clause-refused
@@ -287,11 +287,11 @@ read-returns-in-None-ext-clause-refused t c =
     let j = view c.args.json.now in
     let e = view c.in-Some-only_member.chosen.now in
     let name = c.in-Some-only_member.name.now in
-    let place = c.in-Some-alternative_place.place in
+    let index = c.in-Some-alternative_index.index in
     let member : option_and_then single (as_object j) ≡ Some (name, e) = sym c.in-Some-only_member.ensures in
-    let found : place_of name (choice_names root more) ≡ Some place = sym c.in-Some-alternative_place.ensures.place in
-    let outside : length alts ≤ place = omega (arith, c.if-place-len.false, c.len.ensures, c.deref-in-Choice.ensures.len) in
+    let found : index_of name (choice_names root more) ≡ Some index = sym c.in-Some-alternative_index.ensures.index in
+    let outside : length alts ≤ index = omega (arith, c.if-index-len.false, c.len.ensures, c.deref-in-Choice.ensures.len) in
     let is : more ≡ closed_choice = rw c.in-None-ext.is refl in
     IfErr-weaker c.choice_read-in-None-ext.result (λ f. (paths : List (List ℕ)) → TellsFirst paths c.at_node-in-None-ext.result → TellsFirst (below (to_member name) paths) f) (λ f. TellsFirst (errors (shape_of ty) j) f)
-    (λ f h. addition_refused ty c.in-Choice.root c.in-Choice.ext alts j e name place c.in-Choice.is c.deref-in-Choice.ensures.value member found f outside (rw is (h here c.at_node-in-None-ext.ensures)))
+    (λ f h. addition_refused ty c.in-Choice.root c.in-Choice.ext alts j e name index c.in-Choice.is c.deref-in-Choice.ensures.value member found f outside (rw is (h here c.at_node-in-None-ext.ensures)))
     c.choice_read-in-None-ext.ensures.refused

@@ -8,36 +8,36 @@ use Rattle.asn_json.specs.Written.{json_of, members, json_alternative}
 use Rattle.asn_json.proofs.WrittenParts.{list_json, no_more_members, sequence_json, alternative_here, alternative_past, root_json, added_json}
 use Rattle.asn_json.proofs.write.+json.Goals as goal
 
-pub alternative_json-returns-then-place-alternatives : goal.alternative_json-returns-then-place-alternatives
-alternative_json-returns-then-place-alternatives t c =
+pub alternative_json-returns-then-index-alternatives : goal.alternative_json-returns-then-index-alternatives
+alternative_json-returns-then-index-alternatives t c =
     let none : view Null ≡ null = search (rules, the_lemmas) in
-    none ∙ sym (alternative_past c.args.alternatives.now c.args.place (datum_of c.args.chosen.now) c.if-place-alternatives.true)
+    none ∙ sym (alternative_past c.args.alternatives.now c.args.index (datum_of c.args.chosen.now) c.if-index-alternatives.true)
 
 pub alternative_json-returns : goal.alternative_json-returns
 alternative_json-returns t c =
-    let x = c.index-alternatives-place.result in
-    let written = alternative_here c.args.alternatives.now c.args.place x (datum_of c.args.chosen.now) c.if-place-alternatives.false c.index-alternatives-place.is in
+    let x = c.index-alternatives-index.result in
+    let written = alternative_here c.args.alternatives.now c.args.index x (datum_of c.args.chosen.now) c.if-index-alternatives.false c.index-alternatives-index.is in
     let name : string_bytes c.in_ok-clone.field-0 ≡ string_bytes x.name = search rules in
     let json : view c.in_ok-json.json ≡ json_of (shape_of x.ty) (datum_of c.args.chosen.now) = search rules in
     let empty : members_view c.new.result.entries ≡ no_members = ap members_view c.new.ensures.empty in
     c.from.ensures ∙ ap object c.in_ok-object.ensures ∙ rw (empty, name, json) (sym written)
 
-pub json_of-returns-then-place-len : goal.json_of-returns-then-place-len
-json_of-returns-then-place-len t c =
+pub json_of-returns-then-index-len : goal.json_of-returns-then-index-len
+json_of-returns-then-index-len t c =
     let ty = c.args.ty.now in
     let x = c.args.value.now in
-    let alts = c.deref-then-place-len.result.now in
-    let y = c.deref-then-place-len-2.result.now in
+    let alts = c.deref-then-index-len.result.now in
+    let y = c.deref-then-index-len-2.result.now in
     let tag = c.in-Choice-Choice.tag in
-    let inside : tag < length alts = omega (arith, c.if-place-len.true, c.len-in-Choice-Choice.ensures, c.deref-then-place-len.ensures.len) in
+    let inside : tag < length alts = omega (arith, c.if-index-len.true, c.len-in-Choice-Choice.ensures, c.deref-then-index-len.ensures.len) in
     IfOk-weaker c.alternative_json.result (λ j. view j ≡ json_alternative (alternatives_of (map branch_of alts)) tag (datum_of y)) (λ j. view j ≡ json_of (shape_of ty) (datum_of x))
-    (λ j e. root_json ty x c.in-Choice-Choice.root c.in-Choice-Choice.ext tag c.in-Choice-Choice.chosen c.in-Choice-Choice.is-0 c.in-Choice-Choice.is-1 alts y c.deref-then-place-len.ensures.value c.deref-then-place-len-2.ensures (view j) inside e)
+    (λ j e. root_json ty x c.in-Choice-Choice.root c.in-Choice-Choice.ext tag c.in-Choice-Choice.chosen c.in-Choice-Choice.is-0 c.in-Choice-Choice.is-1 alts y c.deref-then-index-len.ensures.value c.deref-then-index-len-2.ensures (view j) inside e)
     c.alternative_json.ensures
 
 pub json_of-returns-in-None-ext : goal.json_of-returns-in-None-ext
 json_of-returns-in-None-ext t c =
     let none : view Null ≡ null = search (rules, the_lemmas) in
-    let outside : length c.in-Choice-Choice.root.items ≤ c.in-Choice-Choice.tag = omega (arith, c.if-place-len.false, c.len-in-Choice-Choice.ensures) in
+    let outside : length c.in-Choice-Choice.root.items ≤ c.in-Choice-Choice.tag = omega (arith, c.if-index-len.false, c.len-in-Choice-Choice.ensures) in
     added_json c.args.ty.now c.args.value.now c.in-Choice-Choice.root c.in-Choice-Choice.ext c.in-Choice-Choice.tag c.in-Choice-Choice.chosen c.in-Choice-Choice.is-0 c.in-Choice-Choice.is-1
     c.in-Choice-Choice.root.items c.in-Choice-Choice.chosen.value refl refl (view Null) outside (rw c.in-None-ext.is none)
 
@@ -51,7 +51,7 @@ json_of-returns-in-Some-ext t c =
     let y = c.deref-in-Some-ext-2.result.now in
     let tag = c.in-Choice-Choice.tag in
     let count : c.len-in-Some-ext.result ≡ length alts = omega (arith, c.len-in-Some-ext.ensures) in
-    let outside : length alts ≤ tag = omega (arith, c.if-place-len.false, c.len-in-Choice-Choice.ensures) in
+    let outside : length alts ≤ tag = omega (arith, c.if-index-len.false, c.len-in-Choice-Choice.ensures) in
     IfOk-weaker c.alternative_json-in-Some-ext.result (λ j. view j ≡ json_alternative (alternatives_of (map branch_of more)) (tag - c.len-in-Some-ext.result) (datum_of y)) (λ j. view j ≡ json_of (shape_of ty) (datum_of x))
     (λ j e. added_json ty x c.in-Choice-Choice.root c.in-Choice-Choice.ext tag c.in-Choice-Choice.chosen c.in-Choice-Choice.is-0 c.in-Choice-Choice.is-1 alts y refl c.deref-in-Some-ext-2.ensures (view j) outside
     (rw (c.in-Some-ext.is, ← items, ← count) e))
@@ -85,6 +85,6 @@ json_of-returns-in_ok-with_members-in-Some t c =
     c.min.result n c.split_at.ensures.front c.split_at.ensures.back (members_view c.in_ok-object-in-Seq-Seq.object.entries) _ _ (c.in_ok-object-in-Seq-Seq.ensures ∙ ap (members (fields_of (map part_of_field fs)) (map (option_map datum_of) c.split_at.result.0.now)) none)
     (rw (c.in-Some.is, ← items) c.in_ok-with_members-in-Some.ensures) c.from-in-Some.ensures
 
-pub with_members-returns-then-place-entries : goal.with_members-returns-then-place-entries
-with_members-returns-then-place-entries t c =
-    sym (no_more_members c.args.fields.now c.args.entries.now c.loop-place.place (members_view c.loop-place.all.entries) c.if-place-entries.true) ∙ c.loop-place.invariant
+pub with_members-returns-then-index-entries : goal.with_members-returns-then-index-entries
+with_members-returns-then-index-entries t c =
+    sym (no_more_members c.args.fields.now c.args.entries.now c.loop-index.index (members_view c.loop-index.all.entries) c.if-index-entries.true) ∙ c.loop-index.invariant

@@ -9,7 +9,7 @@ abbrev pub invariant-elements_json-loop-value : goal.invariant-elements_json-loo
 invariant-elements_json-loop-value l = map view l.all.items ≡ map (λ d. json_of (shape_of l.element) d) (map datum_of (take l.value-index l.values))
 
 -- with the entries that are left, the members so far are those of all
-abbrev pub invariant-with_members-loop-place : goal.invariant-with_members-loop-place
-invariant-with_members-loop-place l =
-    members (fields_of (map part_of_field (drop l.place l.fields))) (map (option_map datum_of) (drop l.place l.entries)) (members_view l.all.entries)
+abbrev pub invariant-with_members-loop-index : goal.invariant-with_members-loop-index
+invariant-with_members-loop-index l =
+    members (fields_of (map part_of_field (drop l.index l.fields))) (map (option_map datum_of) (drop l.index l.entries)) (members_view l.all.entries)
     ≡ members (fields_of (map part_of_field l.fields)) (map (option_map datum_of) l.entries) (members_view l.fn.object.entries)

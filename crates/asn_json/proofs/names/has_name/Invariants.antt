@@ -2,7 +2,7 @@ use Rattle.std.proofs.Common.{◌≡◌, map, bytes_eq, drop}
 use Rattle.std.specs.List.{list_any}
 use Rattle.asn_values.specs.Shape.{field_names}
 use Rattle.asn_values.specs.View.{fields_of, part_of_field}
-use Rattle.asn_json.proofs.places.has_name.Given as goal
+use Rattle.asn_json.proofs.names.has_name.Given as goal
 
 -- what is left decides
 abbrev pub invariant-loop-field : goal.invariant-loop-field

@@ -3,7 +3,7 @@ use Rattle.serde_json.specs.Find.{as_object}
 use Rattle.serde_json.specs.View.{view, members_view}
 use Rattle.asn_values.proofs.Alternatives.{no_truth}
 use Rattle.asn_json.proofs.OneMember.{one_member, other_members}
-use Rattle.asn_json.proofs.places.only_member.Goals as goal
+use Rattle.asn_json.proofs.names.only_member.Goals as goal
 
 pub returns-then-not-has_one_member : goal.returns-then-not-has_one_member
 returns-then-not-has_one_member c =

@@ -7,7 +7,7 @@ use Rattle.asn_values.specs.Shape.{Label}
 use Rattle.asn_values.specs.View.{label_of}
 use Rattle.asn_json.specs.Written.{label_names}
 
--- the item at a place
+-- the item at an index
 pub name_here : (items : List Item) (i : ℕ) (x : Item) → i < length items → x ≡ get_or items i x → slice_get (label_names (map label_of items)) i ≡ Some (string_bytes x.name)
 name_here [] i x h e = absurd (omega arith)
 name_here (y ∷ items) zero x h e = rw (← e) refl
@@ -35,7 +35,7 @@ names_of_both xs ys = map-append (λ l. l.name) xs ys
 count_of_names : (items : List Item) → length (label_names (map label_of items)) ≡ length items
 count_of_names items = length-map (map label_of items) (λ l. l.name) ∙ length-map items label_of
 
--- the item at a place of the root, and of the additions
+-- the item at an index of the root, and of the additions
 pub root_name : (root : List Item) (more : List Label) (i : ℕ) → i < length root → slice_get (label_names (map label_of root ++ more)) i ≡ slice_get (label_names (map label_of root)) i
 root_name root more i h =
     let inside : i < length (label_names (map label_of root)) = rw (count_of_names root) h in

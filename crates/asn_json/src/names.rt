@@ -1,4 +1,4 @@
-//! The places of names: of items, alternatives and components.
+//! The indexes of names: of items, alternatives and components.
 ghost use Rattle.std.specs.Prelude.{◌≡◌, ◌↔◌, ◌≤◌, ◌<◌, ◌+◌, ◌++◌, ◌^◌, ◌||◌, IfSome, IsTrue, map, option_map, option_and_then, length, bytes_eq};
 ghost use Rattle.std.specs.List.{list_any};
 ghost use Rattle.serde_json.specs.Find.{as_object, get_member};
@@ -6,71 +6,71 @@ ghost use Rattle.serde_json.specs.View.{view, members_view};
 ghost use Rattle.asn_values.specs.Shape.{more_labels, more_alternatives, alternative_names, count, field_names};
 ghost use Rattle.asn_values.specs.View.{label_of, more_labels_of, fields_of, part_of_field, more_fields_of, alternatives_of, branch_of, more_alternatives_of};
 ghost use Rattle.asn_json.specs.Written.{label_names};
-ghost use Rattle.asn_json.specs.Shown.{place_of, choice_names, component_names, single};
+ghost use Rattle.asn_json.specs.Shown.{index_of, choice_names, component_names, single};
 
 use asn_values::{Alt, Field, Item};
 use serde_json::{Map, Value as Json};
 
-/// The place of the item of this name, root and then additions.
-pub(crate) fn item_place(root: &[Item], ext: &Option<Vec<Item>>, name: &str) -> Option<usize>
+/// The index of the item of this name, root and then additions.
+pub(crate) fn item_index(root: &[Item], ext: &Option<Vec<Item>>, name: &str) -> Option<usize>
     requires few { length root.now + length (more_labels (more_labels_of ext.now)) ≤ 256 }
-    ensures place { result
-        ≡ place_of name.now (label_names (map label_of root.now ++ more_labels (more_labels_of ext.now))) }
+    ensures index { result
+        ≡ index_of name.now (label_names (map label_of root.now ++ more_labels (more_labels_of ext.now))) }
     ensures inside { IfSome result (λ p. p < 256) }
 {
-    match place_of_item(root, name) {
-        Some(place) => Some(place),
+    match index_of_item(root, name) {
+        Some(index) => Some(index),
         None => match ext {
             None => None,
-            Some(more) => match place_of_item(more, name) {
+            Some(more) => match index_of_item(more, name) {
                 None => None,
-                Some(place) => Some(root.len() + place),
+                Some(index) => Some(root.len() + index),
             },
         },
     }
 }
 
-/// The place of the first item of this name.
-fn place_of_item(items: &[Item], name: &str) -> Option<usize>
-    ensures place { result ≡ place_of name.now (label_names (map label_of items.now)) }
+/// The index of the first item of this name.
+fn index_of_item(items: &[Item], name: &str) -> Option<usize>
+    ensures index { result ≡ index_of name.now (label_names (map label_of items.now)) }
     ensures inside { IfSome result (λ p. p < length items.now) }
 {
-    for (place, item) in items.iter().enumerate() {
+    for (index, item) in items.iter().enumerate() {
         if *item.name.as_str() == *name {
-            return Some(place);
+            return Some(index);
         }
     }
     None
 }
 
-/// The place of the alternative of this name, root and then additions.
-pub(crate) fn alternative_place(root: &[Alt], ext: &Option<Vec<Alt>>, name: &str) -> Option<usize>
+/// The index of the alternative of this name, root and then additions.
+pub(crate) fn alternative_index(root: &[Alt], ext: &Option<Vec<Alt>>, name: &str) -> Option<usize>
     requires few { length root.now + count (more_alternatives (more_alternatives_of ext.now)) ≤ 63 }
-    ensures place { result
-        ≡ place_of name.now (choice_names (alternatives_of (map branch_of root.now)) (more_alternatives_of ext.now)) }
+    ensures index { result
+        ≡ index_of name.now (choice_names (alternatives_of (map branch_of root.now)) (more_alternatives_of ext.now)) }
     ensures inside { IfSome result (λ p. p < 63) }
 {
-    match place_of_alternative(root, name) {
-        Some(place) => Some(place),
+    match index_of_alternative(root, name) {
+        Some(index) => Some(index),
         None => match ext {
             None => None,
-            Some(more) => match place_of_alternative(more, name) {
+            Some(more) => match index_of_alternative(more, name) {
                 None => None,
-                Some(place) => Some(root.len() + place),
+                Some(index) => Some(root.len() + index),
             },
         },
     }
 }
 
-/// The place of the first alternative of this name.
-fn place_of_alternative(alternatives: &[Alt], name: &str) -> Option<usize>
-    ensures place { result
-        ≡ place_of name.now (alternative_names (alternatives_of (map branch_of alternatives.now))) }
+/// The index of the first alternative of this name.
+fn index_of_alternative(alternatives: &[Alt], name: &str) -> Option<usize>
+    ensures index { result
+        ≡ index_of name.now (alternative_names (alternatives_of (map branch_of alternatives.now))) }
     ensures inside { IfSome result (λ p. p < length alternatives.now) }
 {
-    for (place, alternative) in alternatives.iter().enumerate() {
+    for (index, alternative) in alternatives.iter().enumerate() {
         if *alternative.name.as_str() == *name {
-            return Some(place);
+            return Some(index);
         }
     }
     None

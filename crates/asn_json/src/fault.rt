@@ -8,7 +8,7 @@ use thiserror::Error;
 /// Why there is no JSON of a value, or no value in JSON.
 #[derive(Debug, PartialEq, Eq, Error, Drop)]
 pub enum JsonFault {
-    /// 1: the JSON is not of the shape of the type. The path is that of the first place where it is
+    /// 1: the JSON is not of the shape of the type. The path is that of the first node where it is
     /// not: `$`, and then `.name` for each component or alternative and `[i]`, counted from 0, for each
     /// element on the way there.
     #[error("not of the type's shape at {path}")]

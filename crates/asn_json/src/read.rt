@@ -27,7 +27,7 @@ use std::alloc::Global;
 /// letters too, and a component with a DEFAULT that is missing has that value.
 ///
 /// Err: `Shape` exactly where the JSON is not of the shape of the type, with the path of the first
-/// index where it is not: a node is looked at before its parts, each part whole before the next, in the
+/// node where it is not: a node is looked at before its parts, each part whole before the next, in the
 /// order of components and elements, and the unknown keys of an object after its components. Of the shape
 /// are the kind of each node, whole numbers that are integers of the profile, the names of items, keys
 /// and alternatives, one key for a CHOICE, even counts of hexadecimal digits, and the characters 0 and 1

@@ -1,0 +1,11 @@
+pub mod Distinct
+pub mod Firsts
+pub mod LeavesBack
+pub mod MembersBack
+pub mod ItemNames
+pub mod OneMember
+pub mod ReadBack
+pub mod ReadKinds
+pub mod ReadParts
+pub mod NameIndexes
+pub mod WrittenParts

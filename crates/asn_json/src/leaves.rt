@@ -1,0 +1,86 @@
+//! The JSON of values without parts.
+ghost use Rattle.std.specs.Prelude.{◌≡◌, ◌++◌, IfOk, map, option_map, slice_get};
+ghost use Rattle.serde_json.specs.Data.{null};
+ghost use Rattle.serde_json.specs.View.{view};
+ghost use Rattle.asn_values.specs.Datum.{number, item, bit_list, octet_list, characters};
+ghost use Rattle.asn_values.specs.Shape.{more_labels};
+ghost use Rattle.asn_values.specs.View.{label_of, more_labels_of};
+ghost use Rattle.asn_json.specs.Written.{integers, json_number, json_name, json_item, json_bits, json_octets, json_characters, label_names};
+
+use asn_values::{Bounds, Item, is_between};
+use serde_json::Value as Json;
+use std::alloc::{AllocError, Global};
+
+/// All integers of the profile.
+pub(crate) const INTEGERS: Bounds = Bounds {
+    low: Some(i64::MIN as i128),
+    high: Some(i64::MAX as i128),
+    ext: false,
+};
+
+/// The JSON of an integer, or null where it is none of the profile.
+pub(crate) fn number_json(whole: i128) -> Json
+    ensures { view result ≡ json_number (number whole) }
+{
+    if is_between(&INTEGERS, whole) {
+        Json::from(whole as i64)
+    } else {
+        Json::Null
+    }
+}
+
+/// The JSON of the item at an index, or null where there is none.
+pub(crate) fn item_json(
+    alloc: Global,
+    root: &[Item],
+    ext: &Option<Vec<Item>>,
+    index: u32,
+) -> Result<Json, AllocError>
+    ensures { IfOk result (λ j. view j
+        ≡ json_item (label_names (map label_of root.now ++ more_labels (more_labels_of ext.now))) (item index)) }
+{
+    let index = index as usize;
+    if index < root.len() {
+        return name_json(alloc, root, index);
+    }
+    match ext {
+        None => Ok(Json::Null),
+        Some(more) => name_json(alloc, more, index - root.len()),
+    }
+}
+
+/// The name of the item at an index, or null where there is none.
+fn name_json(alloc: Global, items: &[Item], index: usize) -> Result<Json, AllocError>
+    ensures { IfOk result (λ j. view j ≡ json_name (slice_get (label_names (map label_of items.now)) index)) }
+{
+    if index >= items.len() {
+        return Ok(Json::Null);
+    }
+    Json::try_from_str(alloc, items[index].name.as_str())
+}
+
+/// The JSON of bits: a character 0 or 1 for each.
+pub(crate) fn bits_json(alloc: Global, bits: &[bool]) -> Result<Json, AllocError>
+    ensures { IfOk result (λ j. view j ≡ json_bits (bit_list bits.now)) }
+{
+    let mut text = String::with_capacity(alloc, bits.len())?;
+    for bit in bits {
+        text.push(if *bit { '1' } else { '0' })?;
+    }
+    Ok(Json::from(text))
+}
+
+/// The JSON of octets: two hexadecimal digits for each.
+pub(crate) fn octets_json(alloc: Global, octets: &[u8]) -> Result<Json, AllocError>
+    ensures { IfOk result (λ j. view j ≡ json_octets (octet_list octets.now)) }
+{
+    Ok(Json::from(hex::encode(alloc, octets)?))
+}
+
+/// The JSON of characters, of which these are the codes.
+pub(crate) fn characters_json(alloc: Global, codes: &[u8]) -> Result<Json, AllocError>
+    ensures { IfOk result (λ j. view j ≡ json_characters (characters codes.now)) }
+{
+    let text: String = codes.iter().map(|code| char::from(*code)).collect(alloc)?;
+    Ok(Json::from(text))
+}

@@ -1,0 +1,4 @@
+pub mod Bounds
+pub mod Meaning
+pub mod Plain
+pub mod Known

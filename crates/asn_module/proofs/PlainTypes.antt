@@ -40,12 +40,16 @@ mutual
   is_plain (sequence root more) h =
       let here : (bad_default_at root || bad_default_at (more_fields more)) ≡ false = left_false (bad_default_at root || bad_default_at (more_fields more)) (some_field bad_default root || some_addition bad_default more) h in
       let inside : (some_field bad_default root || some_addition bad_default more) ≡ false = right_false (bad_default_at root || bad_default_at (more_fields more)) (some_field bad_default root || some_addition bad_default more) h in
-      rw (are_plain root (left_false (bad_default_at root) (bad_default_at (more_fields more)) here) (left_false (some_field bad_default root) (some_addition bad_default more) inside),
-          additions_are_plain more (right_false (bad_default_at root) (bad_default_at (more_fields more)) here) (right_false (some_field bad_default root) (some_addition bad_default more) inside)) refl
+      rw (
+        are_plain root (left_false (bad_default_at root) (bad_default_at (more_fields more)) here) (left_false (some_field bad_default root) (some_addition bad_default more) inside),
+        additions_are_plain more (right_false (bad_default_at root) (bad_default_at (more_fields more)) here) (right_false (some_field bad_default root) (some_addition bad_default more) inside),
+      ) refl
   is_plain (sequence_of t s) h = ap (λ (x : Shape). sequence_of x s) (is_plain t h)
   is_plain (choice root more) h =
-      rw (alternatives_are_plain root (left_false (some_alternative bad_default root) (some_more bad_default more) h),
-          more_are_plain more (right_false (some_alternative bad_default root) (some_more bad_default more) h)) refl
+      rw (
+        alternatives_are_plain root (left_false (some_alternative bad_default root) (some_more bad_default more) h),
+        more_are_plain more (right_false (some_alternative bad_default root) (some_more bad_default more) h),
+      ) refl
 
   are_plain : (fs : Fields) → bad_default_at fs ≡ false → some_field bad_default fs ≡ false → plain_fields fs ≡ fs
   are_plain no_fields d h = refl
@@ -55,8 +59,11 @@ mutual
       rw (is_plain t (left_false (somewhere bad_default t) (some_field bad_default fs) h), are_plain fs d (right_false (somewhere bad_default t) (some_field bad_default fs) h)) refl
   are_plain (field name (default v) t fs) d h =
       let good = is_true (good_default t v) (left_false (not (good_default t v)) (bad_default_at fs) d) in
-      rw (plain_default t v good, is_plain t (left_false (somewhere bad_default t) (some_field bad_default fs) h),
-          are_plain fs (right_false (not (good_default t v)) (bad_default_at fs) d) (right_false (somewhere bad_default t) (some_field bad_default fs) h)) refl
+      rw (
+        plain_default t v good,
+        is_plain t (left_false (somewhere bad_default t) (some_field bad_default fs) h),
+        are_plain fs (right_false (not (good_default t v)) (bad_default_at fs) d) (right_false (somewhere bad_default t) (some_field bad_default fs) h),
+      ) refl
 
   additions_are_plain : (more : MoreFields) → bad_default_at (more_fields more) ≡ false → some_addition bad_default more ≡ false → plain_more more ≡ more
   additions_are_plain closed d h = refl

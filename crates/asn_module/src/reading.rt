@@ -5,7 +5,8 @@ ghost use Rattle.asn_values.specs.View.{shape_of};
 ghost use Rattle.asn_module.specs.Accepted.{Accepted, ModuleTypes, type_in};
 ghost use Rattle.asn_module.specs.ModuleView.{types_view};
 
-use crate::fault::Refusal;
+use crate::diagnosis::fault_of;
+use crate::fault::{ModuleFault, Refusal};
 use crate::module::{Module, find_type};
 use crate::table::types_of;
 use crate::twice::is_one_assigned_twice;
@@ -36,5 +37,35 @@ pub(crate) fn module_of(alloc: Global, text: &str) -> Result<Option<Module>, Ref
             Ok(Some(Module { name, types }))
         }
         None => Ok(None),
+    }
+}
+
+/// The module that a text is (X.680, "module definition"), in the notation of the profile: references
+/// followed, and the bounds along the way met.
+///
+/// Err: the text is no module of the profile. Of several faults the first is told in this order: a character
+/// that begins no token; a token with which no module goes on; a name assigned twice; a reference to no
+/// assignment; references that lead back; a constraint on a type that it may not stand on; a type that is
+/// none of the profile. `Memory` where a growth was refused.
+pub fn read(alloc: Global, text: &str) -> Result<Module, ModuleFault>
+    // What is read is the module that the text is.
+    ensures accepted { IfOk result (λ m. Accepted text.now (types_view m)) }
+    // A text that is a module is read, unless a growth was refused.
+    ensures refused { IfErr result (λ e. (e ≡ ModuleFault.Memory → ⊥) → (m : ModuleTypes) → Accepted text.now m → ⊥) }
+{
+    match module_of(alloc, text) {
+        Ok(Some(module)) => Ok(module),
+        Ok(None) => Err(fault_of(alloc, text)),
+        Err(_) => Err(ModuleFault::Memory),
+    }
+}
+
+impl Module {
+    /// The type that the module assigns to a name; None where it assigns none. Takes no memory.
+    pub fn type_named(&self, name: &str) -> Option<&Checked>
+        ensures { MatchOption result (type_in (types_view self.now).types name.now ≡ None)
+            (λ t. type_in (types_view self.now).types name.now ≡ Some (shape_of t.now)) }
+    {
+        find_type(&self.types, name)
     }
 }

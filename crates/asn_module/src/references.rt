@@ -22,6 +22,23 @@ fn may_add(before: Option<bool>, marked: bool) -> bool
     }
 }
 
+/// Whether a constraint may stand on a reference to a type.
+pub(crate) fn may_stand(built: &Built, constraint: Constraint) -> bool {
+    match constraint {
+        Constraint::None => true,
+        Constraint::Range(range) => {
+            may_add(built.constraint, range.marked) && matches!(&built.ty, AsnType::Int(_))
+        }
+        Constraint::Size(size) => {
+            may_add(built.constraint, size.marked)
+                && matches!(
+                    &built.ty,
+                    AsnType::Bits(_) | AsnType::Octets(_) | AsnType::Text(..) | AsnType::SeqOf(..)
+                )
+        }
+    }
+}
+
 /// An INTEGER with a range more; None for another type.
 fn ranged(ty: AsnType, range: RangeNotation) -> Option<AsnType>
     ensures { MatchOption result (spec.ranged (shape_of ty) range ≡ None) (λ t. spec.ranged (shape_of ty) range ≡ Some (shape_of t)) }

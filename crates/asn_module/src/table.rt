@@ -37,11 +37,7 @@ fn of_profile(
 }
 
 /// The type of a notation, where it can be built of those that are built, and is one of the profile.
-fn build_known(
-    alloc: Global,
-    names: &[Named],
-    ty: &TypeNotation,
-) -> Result<Option<Known>, Refusal>
+fn build_known(alloc: Global, names: &[Named], ty: &TypeNotation) -> Result<Option<Known>, Refusal>
     ensures known { IfOk result (λ o. MatchOption o (IsStuck (look names.now) (tree_view ty.now)) (λ k. IsKnownAs (look names.now) (tree_view ty.now) k)) }
     ensures memory { IfErr result (λ e. e ≡ Refusal.Memory) }
 {
@@ -127,10 +123,7 @@ fn are_built(names: &[Named]) -> bool
 }
 
 /// The names of the assignments, without types.
-fn names_of(
-    alloc: Global,
-    assignments: &[AssignmentNotation],
-) -> Result<Vec<Named>, AllocError>
+fn names_of(alloc: Global, assignments: &[AssignmentNotation]) -> Result<Vec<Named>, AllocError>
     ensures { IfOk result (λ v. AreSound (assignments_view assignments.now) (assignments_view assignments.now) v.items) }
 {
     let mut names = Vec::new(alloc);

@@ -9,7 +9,7 @@ use Rattle.asn_notation.specs.Tree.{Tree, Assignment, assignment_view, assignmen
 use Rattle.asn_module.specs.declared.known.Known.{Known}
 use Rattle.asn_module.specs.declared.known.Named.{Named}
 use Rattle.asn_module.specs.Meaning.{Meant, meant, assigned, stands_for}
-use Rattle.asn_module.specs.Known.{known_view, known_if, look, IsStuck, IsSound, AreSound, IsDone, AreDone, IsBuiltAt, counted, unbuilt, typed_if, types_of}
+use Rattle.asn_module.specs.Known.{known_view, known_if, look, IsStuck, IsSound, AreSound, IsDone, AreDone, IsBuiltAt, Attempted, counted, unbuilt, typed_if, types_of}
 use Rattle.asn_module.specs.Accepted.{Typed, StandsFor, AreTypes}
 use Rattle.asn_module.proofs.Meanings.{Extends, same_some, meant_more, stands_by, more_steps, one_meaning, step_at, nothing_yet}
 
@@ -90,6 +90,11 @@ attempt_sound all old new i a h less ea built =
     let (n, extends) = looked all old h in
     let stands = meant_more (look old) (stands_for n all) extends a.tree (known_view built.known) built.is in
     rw built.now (set_sound all all old i a built.named built.known h less ea built.there ((n, stands), built.of_profile))
+
+-- what is built stands after an attempt, whatever came of it
+pub attempted_sound : (b : Bool) (all : List Assignment) (old new : List Named) (i : ℕ) (a : Assignment) → AreSound all all old → i < length old → a ≡ get_or all i a → Attempted b a.tree i old new → AreSound all all new
+attempted_sound true all old new i a h less ea tried = attempt_sound all old new i a h less ea tried
+attempted_sound false all old new i a h less ea tried = subst (λ (z : List Named). AreSound all all z) (sym tried.0) h
 
 pub attempt_fewer : (tree : Tree) (old new : List Named) (i : ℕ) → i < length old → IsBuiltAt tree i old new → unbuilt new < unbuilt old
 attempt_fewer tree old new i less built = rw built.now (set_fewer old i built.named built.known less built.there built.before)

@@ -2,7 +2,7 @@
 
 use crate::expanding::{Assignments, Budget, expand};
 use crate::fault::ModuleFault;
-use crate::graph::{first_on_cycle, references_of};
+use crate::graph::{first_on_cycle, indices_of, references_of};
 use crate::listing::{assignments_listed, first_twice, first_unknown};
 use asn_notation::{Lexeme, ModuleNotation, SyntaxFault, first_token, read_notation, skip_blank};
 use asn_values::{Checked, TypeFault};
@@ -79,17 +79,20 @@ fn fault_in_names(alloc: Global, text: &str) -> Result<Option<ModuleFault>, Modu
 }
 
 /// The fault of a text of the grammar.
-fn fault_of_names(
+fn fault_of_names<'t>(
     alloc: Global,
-    text: &str,
-    notation: &ModuleNotation,
+    text: &'t str,
+    notation: &ModuleNotation<'t>,
 ) -> Result<ModuleFault, ModuleFault> {
     if let Some(fault) = fault_in_names(alloc, text)? {
         return Ok(fault);
     }
+    let listed = assignments_listed(alloc, text)?;
+    let indices = indices_of(alloc, &listed)?;
     let module = Assignments {
         alloc,
         all: notation.assignments.as_slice(),
+        indices: &indices,
     };
     let mut misplaced = 0;
     let mut first = None;

@@ -9,12 +9,14 @@ use asn_notation::{
 };
 use asn_values::{Alt, AsnType, Field};
 use std::alloc::Global;
+use std::collections::HashMap;
 
 /// The assignments of a module, and where memory comes from.
 #[derive(Clone, Copy)]
 pub(crate) struct Assignments<'m, 't> {
     pub alloc: Global,
     pub all: &'m [AssignmentNotation<'t>],
+    pub indices: &'m HashMap<&'t str, usize>,
 }
 
 /// How many types may still be built, and what was found on the way.
@@ -24,16 +26,6 @@ pub(crate) struct Budget {
     /// The number of octets of the text from the first constraint on that may not stand where it does, 0
     /// where there is none.
     pub misplaced: usize,
-}
-
-/// The index of the assignment to a name.
-fn assigned(module: Assignments, name: &str) -> Option<usize> {
-    for (index, assignment) in module.all.iter().enumerate() {
-        if *assignment.name == *name {
-            return Some(index);
-        }
-    }
-    None
 }
 
 #[cycle(expanding)]
@@ -122,9 +114,9 @@ struct Followed {
 }
 
 /// The assignment that a type refers to, where it is a reference; its constraint goes to the others.
-fn next_of(
-    module: Assignments,
-    ty: &TypeNotation,
+fn next_of<'m, 't>(
+    module: Assignments<'m, 't>,
+    ty: &TypeNotation<'t>,
     constraints: &mut Vec<(Constraint, usize)>,
 ) -> Result<Option<usize>, Refusal> {
     match ty {
@@ -134,8 +126,8 @@ fn next_of(
             left,
         } => {
             constraints.push((*constraint, *left))?;
-            match assigned(module, *name) {
-                Some(index) => Ok(Some(index)),
+            match module.indices.get(name) {
+                Some(index) => Ok(Some(*index)),
                 None => Err(Refusal::Missing),
             }
         }
@@ -144,7 +136,7 @@ fn next_of(
 }
 
 /// Follows a type's references to their end.
-fn follow(module: Assignments, ty: &TypeNotation) -> Result<Followed, Refusal> {
+fn follow<'m, 't>(module: Assignments<'m, 't>, ty: &TypeNotation<'t>) -> Result<Followed, Refusal> {
     let mut constraints = Vec::new(module.alloc);
     let mut end = next_of(module, ty, &mut constraints)?;
     // a chain without cycle has no more references than there are assignments

@@ -1,57 +1,109 @@
-//! Which assignments refer to which, and which of them lead back to themselves.
+//! Which assignments refer to which: an order to build them in, and which of them lead back to themselves.
+//! No call goes deeper for a longer chain of references.
+
+ghost use Rattle.std.specs.Prelude.{◌+◌, ◌^◌, ◌<◌, IfSome};
 
 use crate::fault::ModuleFault;
-use crate::listing::{Listed, index_of};
-use std::alloc::Global;
+use crate::listing::Listed;
+use std::alloc::{AllocError, Global};
+use std::collections::HashMap;
+
+/// The index of the assignment to each name.
+pub(crate) fn indices_of<'t>(
+    alloc: Global,
+    listed: &[Listed<'t>],
+) -> Result<HashMap<&'t str, usize>, ModuleFault> {
+    let mut indices = HashMap::new(alloc);
+    for (index, assignment) in listed.iter().enumerate() {
+        indices.insert(assignment.name, index)?;
+    }
+    Ok(indices)
+}
 
 /// Of each assignment the indices of those that it refers to.
 pub(crate) fn references_of(
     alloc: Global,
     listed: &[Listed],
 ) -> Result<Vec<Vec<usize>>, ModuleFault> {
+    let indices = indices_of(alloc, listed)?;
     let mut all = Vec::new(alloc);
     for assignment in listed {
-        let mut indices = Vec::new(alloc);
+        let mut references = Vec::new(alloc);
         for reference in &assignment.references {
-            if let Some(index) = index_of(listed, *reference) {
-                indices.push(index)?;
+            if let Some(index) = indices.get(reference) {
+                references.push(*index)?;
             }
         }
-        all.push(indices)?;
+        all.push(references)?;
     }
     Ok(all)
 }
 
-/// Marks what `from` refers to, and puts on the stack what was not marked before.
-fn mark_references(
-    references: &[Vec<usize>],
-    from: usize,
-    marks: &mut Vec<bool>,
-    stack: &mut Vec<usize>,
-) -> Result<(), ModuleFault> {
-    if from >= references.len() {
-        return Ok(());
+/// The reference with a number, counted from 0, of an assignment.
+fn reference_at(references: &[Vec<usize>], from: usize, number: usize) -> Option<usize>
+    ensures { IfSome result (λ _. number + 1 < 2 ^ 64) }
+{
+    if from < references.len() && number < references[from].len() {
+        Some(references[from][number])
+    } else {
+        None
     }
-    for index in &references[from] {
-        let index = *index;
-        if index < marks.len() && !marks[index] {
-            marks[index] = true;
-            stack.push(index)?;
+}
+
+/// Marks an index, and says whether it was not marked before.
+fn mark(marks: &mut Vec<bool>, index: usize) -> bool {
+    if index < marks.len() && !marks[index] {
+        marks[index] = true;
+        true
+    } else {
+        false
+    }
+}
+
+/// An order of the assignments in which each comes after those that it refers to, where none leads back.
+pub(crate) fn order_of(alloc: Global, references: &[Vec<usize>]) -> Result<Vec<usize>, AllocError> {
+    let mut order = Vec::new(alloc);
+    let mut marks = vec![in alloc; false; references.len()]?;
+    // assignments that are not in the order yet, each with the number of references that were followed
+    let mut stack = Vec::new(alloc);
+    for start in 0..references.len() {
+        if mark(&mut marks, start) {
+            stack.push((start, 0))?;
+        }
+        for _ in 0..u64::MAX {
+            let Some((index, number)) = stack.pop() else {
+                break;
+            };
+            match reference_at(references, index, number) {
+                Some(reference) => {
+                    stack.push((index, number + 1))?;
+                    if mark(&mut marks, reference) {
+                        stack.push((reference, 0))?;
+                    }
+                }
+                None => order.push(index)?,
+            }
         }
     }
-    Ok(())
+    Ok(order)
 }
 
 /// Whether following references from an assignment leads back to it.
 fn leads_back(alloc: Global, references: &[Vec<usize>], start: usize) -> Result<bool, ModuleFault> {
     let mut marks = vec![in alloc; false; references.len()]?;
     let mut stack = Vec::new(alloc);
-    mark_references(references, start, &mut marks, &mut stack)?;
-    // each index is put on the stack once at most
-    for _ in 0..references.len() {
-        match stack.pop() {
-            None => break,
-            Some(index) => mark_references(references, index, &mut marks, &mut stack)?,
+    stack.push(start)?;
+    for _ in 0..u64::MAX {
+        let Some(index) = stack.pop() else {
+            break;
+        };
+        if index >= references.len() {
+            continue;
+        }
+        for reference in &references[index] {
+            if mark(&mut marks, *reference) {
+                stack.push(*reference)?;
+            }
         }
     }
     Ok(start < marks.len() && marks[start])

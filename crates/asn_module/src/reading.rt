@@ -7,6 +7,8 @@ ghost use Rattle.asn_module.specs.ModuleView.{types_view};
 
 use crate::diagnosis::fault_of;
 use crate::fault::{ModuleFault, Refusal};
+use crate::graph::{order_of, references_of};
+use crate::listing::assignments_listed;
 use crate::module::{Module, find_type};
 use crate::table::types_of;
 use crate::twice::is_one_assigned_twice;
@@ -16,6 +18,19 @@ use std::alloc::Global;
 
 /// The most types inside one another in an assignment.
 const MOST_LEVELS: u32 = 32;
+
+/// An order to build the types of a text of the grammar in.
+fn building_order(alloc: Global, text: &str) -> Result<Vec<usize>, Refusal>
+    ensures { IfErr result (λ e. e ≡ Refusal.Memory) }
+{
+    match assignments_listed(alloc, text) {
+        Ok(listed) => match references_of(alloc, &listed) {
+            Ok(references) => Ok(order_of(alloc, &references)?),
+            Err(_) => Err(Refusal::Memory),
+        },
+        Err(_) => Err(Refusal::Memory),
+    }
+}
 
 /// The module that a text is; None where it is none.
 pub(crate) fn module_of(alloc: Global, text: &str) -> Result<Option<Module>, Refusal>
@@ -31,7 +46,8 @@ pub(crate) fn module_of(alloc: Global, text: &str) -> Result<Option<Module>, Ref
     if is_one_assigned_twice(&notation.assignments) {
         return Ok(None);
     }
-    match types_of(alloc, &notation.assignments)? {
+    let order = building_order(alloc, text)?;
+    match types_of(alloc, &notation.assignments, &order)? {
         Some(types) => {
             let name = String::from_str(alloc, notation.name)?;
             Ok(Some(Module { name, types }))

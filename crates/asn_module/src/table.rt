@@ -71,6 +71,42 @@ fn attempt(
     }
 }
 
+/// Builds the type of the assignment at an index, where there is one and its type can be built.
+fn build_at(
+    alloc: Global,
+    names: &mut Vec<Named>,
+    assignments: &[AssignmentNotation],
+    index: usize,
+) -> Result<(), Refusal>
+    requires { AreSound (assignments_view assignments.now) (assignments_view assignments.now) names.old.items }
+    ensures sound { OnOk result (AreSound (assignments_view assignments.now) (assignments_view assignments.now) names.new.items) }
+    ensures memory { IfErr result (λ e. e ≡ Refusal.Memory) }
+{
+    if index >= assignments.len() {
+        return Ok(());
+    }
+    let built = attempt(alloc, names, index, &assignments[index].ty)?;
+    let _ = built;
+    Ok(())
+}
+
+/// Builds the types at these indices where they can be built, one after the other.
+fn build_in_order(
+    alloc: Global,
+    names: &mut Vec<Named>,
+    assignments: &[AssignmentNotation],
+    order: &[usize],
+) -> Result<(), Refusal>
+    requires { AreSound (assignments_view assignments.now) (assignments_view assignments.now) names.old.items }
+    ensures sound { OnOk result (AreSound (assignments_view assignments.now) (assignments_view assignments.now) names.new.items) }
+    ensures memory { IfErr result (λ e. e ≡ Refusal.Memory) }
+{
+    for index in order {
+        build_at(alloc, names, assignments, *index)?;
+    }
+    Ok(())
+}
+
 /// Builds the first type that is not built yet and can be, and says whether there was one.
 fn build_next(
     alloc: Global,
@@ -134,16 +170,19 @@ fn names_of(alloc: Global, assignments: &[AssignmentNotation]) -> Result<Vec<Nam
     Ok(names)
 }
 
-/// The types of all assignments; None where one has none.
+/// The types of all assignments; None where one has none. They are first built in the order given, and then
+/// until nothing more can be built: with a good order nothing is left for that.
 pub(crate) fn types_of(
     alloc: Global,
     assignments: &[AssignmentNotation],
+    order: &[usize],
 ) -> Result<Option<Vec<Named>>, Refusal>
     ensures sound { IfOk result (λ o. IfSome o (λ v. AreTypes (assignments_view assignments.now) (assignments_view assignments.now) (spec.types_of v.items))) }
     ensures none { IfOk result (λ o. o ≡ None → (ts : List Typed) → AreTypes (assignments_view assignments.now) (assignments_view assignments.now) ts → ⊥) }
     ensures memory { IfErr result (λ e. e ≡ Refusal.Memory) }
 {
     let mut names = names_of(alloc, assignments)?;
+    build_in_order(alloc, &mut names, assignments, order)?;
     build_all(alloc, &mut names, assignments)?;
     if are_built(&names) {
         Ok(Some(names))

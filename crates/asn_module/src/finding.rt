@@ -7,7 +7,8 @@ use crate::known::{Known, Named};
 
 /// The type that a name stands for; None where there is no such name, or its type is not built.
 pub(crate) fn find<'a>(names: &'a [Named], name: &str) -> Option<&'a Known>
-    ensures { MatchOption result (spec.look names.now name.now ≡ None) (λ k. spec.look names.now name.now ≡ Some (spec.known_view k.now)) }
+    ensures { MatchOption result (spec.look names.now name.now ≡ None) (λ k. spec.look names.now name.now ≡
+        Some (spec.known_view k.now)) }
 {
     for named in names {
         if *named.name.as_str() == *name {

@@ -17,7 +17,8 @@ pub struct Module {
 
 /// The type of a name, among those that have one.
 pub(crate) fn find_type<'a>(types: &'a [Named], name: &str) -> Option<&'a Checked>
-    ensures { MatchOption result (type_in (types_of types.now) name.now ≡ None) (λ t. type_in (types_of types.now) name.now ≡ Some (shape_of t.now)) }
+    ensures { MatchOption result (type_in (types_of types.now) name.now ≡ None) (λ t. type_in
+        (types_of types.now) name.now ≡ Some (shape_of t.now)) }
 {
     for named in types {
         if *named.name.as_str() == *name {

@@ -41,7 +41,8 @@ pub(crate) fn may_stand(built: &Built, constraint: Constraint) -> bool {
 
 /// An INTEGER with a range more; None for another type.
 fn ranged(ty: AsnType, range: RangeNotation) -> Option<AsnType>
-    ensures { MatchOption result (spec.ranged (shape_of ty) range ≡ None) (λ t. spec.ranged (shape_of ty) range ≡ Some (shape_of t)) }
+    ensures { MatchOption result (spec.ranged (shape_of ty) range ≡ None) (λ t. spec.ranged
+        (shape_of ty) range ≡ Some (shape_of t)) }
 {
     match ty {
         AsnType::Int(bounds) => Some(AsnType::Int(both_bounds(bounds, bounds_of(range)))),
@@ -60,7 +61,8 @@ fn ranged(ty: AsnType, range: RangeNotation) -> Option<AsnType>
 
 /// A string or list with a size more; None for a type without size.
 fn sized(ty: AsnType, size: SizeNotation) -> Option<AsnType>
-    ensures { MatchOption result (spec.sized (shape_of ty) size ≡ None) (λ t. spec.sized (shape_of ty) size ≡ Some (shape_of t)) }
+    ensures { MatchOption result (spec.sized (shape_of ty) size ≡ None) (λ t. spec.sized (shape_of ty) size ≡
+        Some (shape_of t)) }
 {
     match ty {
         AsnType::Bits(before) => Some(AsnType::Bits(both_sizes(before, size_of(size)))),

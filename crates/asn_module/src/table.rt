@@ -1,6 +1,7 @@
 //! The types of a module's assignments, built one after the other.
 
-ghost use Rattle.std.specs.Prelude.{◌≡◌, ◌≤◌, ◌<◌, true, false, List, None, Some, length, vec_len, IfOk, IfErr, IfSome, OnOk, MatchOption};
+ghost use Rattle.std.specs.Prelude.{◌≡◌, ◌≤◌, ◌<◌, true, false, List, None};
+ghost use Rattle.std.specs.Prelude.{Some, length, vec_len, IfOk, IfErr, IfSome, OnOk, MatchOption};
 ghost use Rattle.asn_values.specs.View.{shape_of};
 ghost use Rattle.asn_values.specs.Profile.{InProfile};
 ghost use Rattle.asn_notation.specs.Tree.{tree_view, assignments_view};
@@ -38,7 +39,8 @@ fn of_profile(
 
 /// The type of a notation, where it can be built of those that are built, and is one of the profile.
 fn build_known(alloc: Global, names: &[Named], ty: &TypeNotation) -> Result<Option<Known>, Refusal>
-    ensures known { IfOk result (λ o. MatchOption o (IsStuck (look names.now) (tree_view ty.now)) (λ k. IsKnownAs (look names.now) (tree_view ty.now) k)) }
+    ensures known { IfOk result (λ o. MatchOption o (IsStuck (look names.now) (tree_view ty.now))
+        (λ k. IsKnownAs (look names.now) (tree_view ty.now) k)) }
     ensures memory { IfErr result (λ e. e ≡ Refusal.Memory) }
 {
     match build(alloc, names, ty) {
@@ -79,7 +81,8 @@ fn build_at(
     index: usize,
 ) -> Result<(), Refusal>
     requires { AreSound (assignments_view assignments.now) (assignments_view assignments.now) names.old.items }
-    ensures sound { OnOk result (AreSound (assignments_view assignments.now) (assignments_view assignments.now) names.new.items) }
+    ensures sound { OnOk result (AreSound (assignments_view assignments.now)
+        (assignments_view assignments.now) names.new.items) }
     ensures memory { IfErr result (λ e. e ≡ Refusal.Memory) }
 {
     if index >= assignments.len() {
@@ -98,7 +101,8 @@ fn build_in_order(
     order: &[usize],
 ) -> Result<(), Refusal>
     requires { AreSound (assignments_view assignments.now) (assignments_view assignments.now) names.old.items }
-    ensures sound { OnOk result (AreSound (assignments_view assignments.now) (assignments_view assignments.now) names.new.items) }
+    ensures sound { OnOk result (AreSound (assignments_view assignments.now)
+        (assignments_view assignments.now) names.new.items) }
     ensures memory { IfErr result (λ e. e ≡ Refusal.Memory) }
 {
     for index in order {
@@ -114,9 +118,11 @@ fn build_next(
     assignments: &[AssignmentNotation],
 ) -> Result<bool, Refusal>
     requires { AreSound (assignments_view assignments.now) (assignments_view assignments.now) names.old.items }
-    ensures sound { IfOk result (λ b. AreSound (assignments_view assignments.now) (assignments_view assignments.now) names.new.items) }
+    ensures sound { IfOk result (λ b. AreSound (assignments_view assignments.now)
+        (assignments_view assignments.now) names.new.items) }
     ensures fewer { IfOk result (λ b. b ≡ true → unbuilt names.new.items < unbuilt names.old.items) }
-    ensures done { IfOk result (λ b. b ≡ false → AreDone (look names.new.items) (assignments_view assignments.now) names.new.items) }
+    ensures done { IfOk result (λ b. b ≡ false → AreDone (look names.new.items)
+        (assignments_view assignments.now) names.new.items) }
     ensures memory { IfErr result (λ e. e ≡ Refusal.Memory) }
 {
     for (index, assignment) in assignments.iter().enumerate() {
@@ -134,7 +140,8 @@ fn build_all(
     assignments: &[AssignmentNotation],
 ) -> Result<(), Refusal>
     requires { AreSound (assignments_view assignments.now) (assignments_view assignments.now) names.old.items }
-    ensures sound { OnOk result (AreSound (assignments_view assignments.now) (assignments_view assignments.now) names.new.items) }
+    ensures sound { OnOk result (AreSound (assignments_view assignments.now)
+        (assignments_view assignments.now) names.new.items) }
     ensures done { OnOk result (AreDone (look names.new.items) (assignments_view assignments.now) names.new.items) }
     ensures memory { IfErr result (λ e. e ≡ Refusal.Memory) }
 {
@@ -160,7 +167,8 @@ fn are_built(names: &[Named]) -> bool
 
 /// The names of the assignments, without types.
 fn names_of(alloc: Global, assignments: &[AssignmentNotation]) -> Result<Vec<Named>, AllocError>
-    ensures { IfOk result (λ v. AreSound (assignments_view assignments.now) (assignments_view assignments.now) v.items) }
+    ensures { IfOk result (λ v. AreSound (assignments_view assignments.now)
+        (assignments_view assignments.now) v.items) }
 {
     let mut names = Vec::new(alloc);
     for assignment in assignments {
@@ -177,8 +185,10 @@ pub(crate) fn types_of(
     assignments: &[AssignmentNotation],
     order: &[usize],
 ) -> Result<Option<Vec<Named>>, Refusal>
-    ensures sound { IfOk result (λ o. IfSome o (λ v. AreTypes (assignments_view assignments.now) (assignments_view assignments.now) (spec.types_of v.items))) }
-    ensures none { IfOk result (λ o. o ≡ None → (ts : List Typed) → AreTypes (assignments_view assignments.now) (assignments_view assignments.now) ts → ⊥) }
+    ensures sound { IfOk result (λ o. IfSome o (λ v. AreTypes (assignments_view assignments.now)
+        (assignments_view assignments.now) (spec.types_of v.items))) }
+    ensures none { IfOk result (λ o. o ≡ None → (ts : List Typed) → AreTypes
+        (assignments_view assignments.now) (assignments_view assignments.now) ts → ⊥) }
     ensures memory { IfErr result (λ e. e ≡ Refusal.Memory) }
 {
     let mut names = names_of(alloc, assignments)?;

@@ -19,7 +19,8 @@ fn other_items<'t>(
     found: Vec<ItemNotation<'t>>,
     text: &'t str,
 ) -> Result<(Vec<ItemNotation<'t>>, &'t str), SyntaxFault>
-    ensures value { Reads (λ v. tree.items_view v.items) result (spec.all_others spec.item_at (tree.items_view found.entry.items) (lexed text.now)) }
+    ensures value { Reads (λ v. tree.items_view v.items) result (spec.all_others spec.item_at
+        (tree.items_view found.entry.items) (lexed text.now)) }
     ensures within { IfOk result (λ p. length (lexed p.1.now) ≤ length (lexed text.now)) }
 {
     let mut all = found;
@@ -40,7 +41,8 @@ fn more_items<'t>(
     alloc: Global,
     text: &'t str,
 ) -> Result<(Option<Vec<ItemNotation<'t>>>, &'t str), SyntaxFault>
-    ensures value { Reads (λ o. option_map (λ v. tree.items_view v.items) o) result (spec.addition_list spec.item_at (lexed text.now)) }
+    ensures value { Reads (λ o. option_map (λ v. tree.items_view v.items) o) result
+        (spec.addition_list spec.item_at (lexed text.now)) }
     ensures shorter { Shortens text.now result }
 {
     if begins_sign(Sign::Comma, text) {

@@ -15,10 +15,12 @@ pub fn tokens_are_read_again()
 
 /// Tokens that are printed as a line are read again, and then what follows the line.
 pub fn lines_are_read_again()
-    ensures { (ts : List Token) (rest : List ℕ) → AllByRecursion IsPrintable ts → lexed (line ts ++ rest) ≡ ts ++ lexed rest }
+    ensures { (ts : List Token) (rest : List ℕ) → AllByRecursion IsPrintable ts → lexed (line ts ++ rest) ≡
+        ts ++ lexed rest }
 {}
 
 /// A text is one module at most.
 pub fn one_module()
-    ensures { (levels : ℕ) (text : List ℕ) (a b : ModuleTree) → IsModuleText levels text a → IsModuleText levels text b → a ≡ b }
+    ensures { (levels : ℕ) (text : List ℕ) (a b : ModuleTree) → IsModuleText levels text a →
+        IsModuleText levels text b → a ≡ b }
 {}

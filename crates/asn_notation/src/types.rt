@@ -54,7 +54,8 @@ fn other_components<'t>(
     levels: u32,
 ) -> Result<(Vec<ComponentNotation<'t>>, &'t str), SyntaxFault>
     ensures value { Reads (λ v. tree.parts_view v.items) result
-        (spec.all_others (spec.component_at (spec.type_at levels)) (tree.parts_view found.entry.items) (lexed text.now)) }
+        (spec.all_others (spec.component_at (spec.type_at levels)) (tree.parts_view found.entry.items)
+        (lexed text.now)) }
     ensures within { IfOk result (λ p. length (lexed p.1.now) ≤ length (lexed text.now)) }
 {
     let mut all = found;
@@ -203,7 +204,8 @@ fn other_alternatives<'t>(
     levels: u32,
 ) -> Result<(Vec<AlternativeNotation<'t>>, &'t str), SyntaxFault>
     ensures value { Reads (λ v. tree.branches_view v.items) result
-        (spec.all_others (spec.alternative_at (spec.type_at levels)) (tree.branches_view found.entry.items) (lexed text.now)) }
+        (spec.all_others (spec.alternative_at (spec.type_at levels)) (tree.branches_view found.entry.items)
+        (lexed text.now)) }
     ensures within { IfOk result (λ p. length (lexed p.1.now) ≤ length (lexed text.now)) }
 {
     let mut all = found;

@@ -1,0 +1,7 @@
+use Rattle.asn_notation.specs.Tree.{tree_view}
+use Rattle.asn_module.specs.Known.{look}
+use Rattle.asn_module.proofs.Faults.{known_as}
+use Rattle.asn_module.proofs.table.build_known.Goals as goal
+
+pub returns-in-Ok-clause-known : goal.returns-in-Ok-clause-known
+returns-in-Ok-clause-known c = known_as (look c.args.names.now) (tree_view c.args.ty.now) c.in-Ok.built c.of_profile.result c.in-Ok.ensures c.of_profile.ensures.known

@@ -1,0 +1,6 @@
+pub mod Bounds
+pub mod Meaning
+pub mod Plain
+pub mod Accepted
+pub mod Known
+pub mod ModuleView

@@ -1,0 +1,126 @@
+//! Types built from their notation, with what is built of the types that they refer to.
+
+ghost use Rattle.std.specs.Prelude.{◌≡◌, None, Some, map};
+ghost use Rattle.asn_values.specs.View.{shape_of, fields_of, part_of_field, alternatives_of, branch_of};
+ghost use Rattle.asn_notation.specs.Tree as tree;
+ghost use Rattle.asn_module.specs.Known.{built_view, look, Gives};
+ghost use Rattle.asn_module.specs.Meaning as spec;
+
+use crate::copying::copy_type;
+use crate::fault::Refusal;
+use crate::finding::find;
+use crate::known::{Built, Named};
+use crate::references::constrained;
+use crate::simple::{enumerated, free, integer, list, need, string};
+use asn_notation::{AlternativeNotation, ComponentNotation, TypeNotation};
+use asn_values::{Alt, AsnType, Field};
+use std::alloc::Global;
+
+/// The components of a SEQUENCE.
+#[cycle(building)]
+#[tactic(auto, unfolding(crate::specs::Meaning::meant))]
+fn build_fields(
+    alloc: Global,
+    names: &[Named],
+    components: &[ComponentNotation],
+) -> Result<Vec<Field>, Refusal>
+    ensures { Gives (λ v. fields_of (map part_of_field v.items)) result
+        (spec.fields_meant (look names.now) (tree.components_of (tree.parts_view components.now))) }
+{
+    let mut fields = Vec::new(alloc);
+    for component in components {
+        let name = String::from_str(alloc, component.name)?;
+        let built = build(alloc, names, &component.ty)?;
+        let need = need(&built.ty, &component.need);
+        fields.push(Field {
+            name,
+            ty: built.ty,
+            need,
+        })?;
+    }
+    Ok(fields)
+}
+
+/// The alternatives of a CHOICE.
+#[cycle(building)]
+#[tactic(auto, unfolding(crate::specs::Meaning::meant))]
+fn build_alternatives(
+    alloc: Global,
+    names: &[Named],
+    alternatives: &[AlternativeNotation],
+) -> Result<Vec<Alt>, Refusal>
+    ensures { Gives (λ v. alternatives_of (map branch_of v.items)) result
+        (spec.alternatives_meant (look names.now) (tree.alternatives_of (tree.branches_view alternatives.now))) }
+{
+    let mut built = Vec::new(alloc);
+    for alternative in alternatives {
+        let name = String::from_str(alloc, alternative.name)?;
+        let inner = build(alloc, names, &alternative.ty)?;
+        built.push(Alt { name, ty: inner.ty })?;
+    }
+    Ok(built)
+}
+
+/// The type that a notation stands for, where `names` are the types that are built.
+///
+/// Err: `Missing` where it refers to a name that has no type there; `Constraint` where a constraint may not
+/// stand on the type that a name stands for; `Memory` where a growth was refused.
+#[cycle(building)]
+#[tactic(auto, unfolding(crate::specs::Meaning::meant))]
+pub(crate) fn build(alloc: Global, names: &[Named], ty: &TypeNotation) -> Result<Built, Refusal>
+    ensures { Gives built_view result (spec.meant (look names.now) (tree.tree_view ty.now)) }
+{
+    match ty {
+        TypeNotation::Boolean => Ok(free(AsnType::Bool)),
+        TypeNotation::Null => Ok(free(AsnType::Null)),
+        TypeNotation::Utf8 => Ok(free(AsnType::Utf8)),
+        TypeNotation::Integer(range) => Ok(integer(*range)),
+        TypeNotation::Enumerated { root, more } => enumerated(alloc, root, more),
+        TypeNotation::Text(kind, size) => Ok(string(*kind, *size)),
+        TypeNotation::Sequence { root, more } => {
+            let root = build_fields(alloc, names, root)?;
+            match more {
+                None => Ok(free(AsnType::Seq { root, ext: None })),
+                Some(more) => {
+                    let more = build_fields(alloc, names, more)?;
+                    Ok(free(AsnType::Seq {
+                        root,
+                        ext: Some(more),
+                    }))
+                }
+            }
+        }
+        TypeNotation::SequenceOf(size, element) => {
+            let element = build(alloc, names, element)?;
+            list(alloc, element.ty, *size)
+        }
+        TypeNotation::Choice { root, more } => {
+            let root = build_alternatives(alloc, names, root)?;
+            match more {
+                None => Ok(free(AsnType::Choice { root, ext: None })),
+                Some(more) => {
+                    let more = build_alternatives(alloc, names, more)?;
+                    Ok(free(AsnType::Choice {
+                        root,
+                        ext: Some(more),
+                    }))
+                }
+            }
+        }
+        TypeNotation::Reference {
+            name,
+            constraint,
+            left,
+        } => match find(names, *name) {
+            None => Err(Refusal::Missing),
+            Some(known) => {
+                let copy = copy_type(alloc, known.ty.get())?;
+                let referenced = Built {
+                    ty: copy,
+                    constraint: known.constraint,
+                };
+                constrained(referenced, *constraint, *left)
+            }
+        },
+    }
+}

@@ -1,0 +1,146 @@
+//! Which fault a refused text is told to have. No contract rests on what is answered here.
+
+use crate::expanding::{Assignments, Budget, expand};
+use crate::fault::ModuleFault;
+use crate::graph::{first_on_cycle, indices_of, references_of};
+use crate::listing::{assignments_listed, first_twice, first_unknown};
+use asn_notation::{Lexeme, ModuleNotation, SyntaxFault, first_token, read_notation, skip_blank};
+use asn_values::{Checked, TypeFault};
+use std::alloc::Global;
+
+/// Of a type at most this many levels are built, one more than the profile has.
+const LEVELS: u32 = 33;
+
+/// And at most this many types inside one another, one more than the profile has.
+const NODES: u32 = 10_001;
+
+/// Where the first character stands that begins no token.
+fn first_illegal(text: &str) -> Option<usize> {
+    let mut rest = text;
+    'tokens: loop {
+        match first_token(rest) {
+            None => return None,
+            Some((Lexeme::Illegal, _)) => {
+                return Some(text.len().saturating_sub(skip_blank(rest).len()));
+            }
+            Some((_, after)) => rest = after,
+        }
+    }
+}
+
+/// The fault of a text that is not read, or of one whose types are not all of the profile.
+pub(crate) fn fault_of(alloc: Global, text: &str) -> ModuleFault {
+    if let Some(at) = first_illegal(text) {
+        return ModuleFault::Character { at };
+    }
+    let length = text.len();
+    let found = match read_notation(alloc, text, 32) {
+        Ok(notation) => fault_of_names(alloc, text, &notation),
+        Err(SyntaxFault::Memory) => return ModuleFault::Memory,
+        Err(SyntaxFault::Unexpected { left }) => {
+            return ModuleFault::Unexpected {
+                at: length.saturating_sub(left),
+            };
+        }
+        Err(SyntaxFault::OutOfProfile { left }) => {
+            return ModuleFault::OutOfProfile {
+                at: length.saturating_sub(left),
+            };
+        }
+        Err(SyntaxFault::TooDeep { left }) => {
+            fault_of_deep(alloc, text, length.saturating_sub(left))
+        }
+    };
+    match found {
+        Ok(fault) => fault,
+        Err(fault) => fault,
+    }
+}
+
+/// Faults of the names: one assigned twice, a reference to none, references that lead back.
+fn fault_in_names(alloc: Global, text: &str) -> Result<Option<ModuleFault>, ModuleFault> {
+    let listed = assignments_listed(alloc, text)?;
+    if let Some(name) = first_twice(&listed) {
+        let name = String::from_str(alloc, name)?;
+        return Ok(Some(ModuleFault::Twice { name }));
+    }
+    if let Some(name) = first_unknown(&listed) {
+        let name = String::from_str(alloc, name)?;
+        return Ok(Some(ModuleFault::Unknown { name }));
+    }
+    let references = references_of(alloc, &listed)?;
+    match first_on_cycle(alloc, &references)? {
+        Some(index) if index < listed.len() => {
+            let name = String::from_str(alloc, listed[index].name)?;
+            Ok(Some(ModuleFault::Cycle { name }))
+        }
+        _ => Ok(None),
+    }
+}
+
+/// The fault of a text of the grammar.
+fn fault_of_names<'t>(
+    alloc: Global,
+    text: &'t str,
+    notation: &ModuleNotation<'t>,
+) -> Result<ModuleFault, ModuleFault> {
+    if let Some(fault) = fault_in_names(alloc, text)? {
+        return Ok(fault);
+    }
+    let listed = assignments_listed(alloc, text)?;
+    let indices = indices_of(alloc, &listed)?;
+    let module = Assignments {
+        alloc,
+        all: notation.assignments.as_slice(),
+        indices: &indices,
+    };
+    let mut misplaced = 0;
+    let mut first = None;
+    for (index, assignment) in notation.assignments.iter().enumerate() {
+        let mut budget = Budget {
+            nodes: NODES,
+            misplaced: 0,
+        };
+        let built = expand(module, &assignment.ty, LEVELS, &mut budget)?;
+        if budget.misplaced > misplaced {
+            misplaced = budget.misplaced;
+        }
+        if first.is_none() {
+            match Checked::new(alloc, built.ty) {
+                Ok(_) => {}
+                Err(TypeFault::Memory) => return Err(ModuleFault::Memory),
+                Err(fault) => first = Some((index, fault)),
+            }
+        }
+    }
+    if misplaced > 0 {
+        return Ok(ModuleFault::OutOfProfile {
+            at: text.len().saturating_sub(misplaced),
+        });
+    }
+    match first {
+        Some((index, fault)) if index < notation.assignments.len() => {
+            let name = String::from_str(alloc, notation.assignments[index].name)?;
+            Ok(ModuleFault::BadType { name, fault })
+        }
+        _ => Err(ModuleFault::Memory),
+    }
+}
+
+/// The fault of a text in which the type at an octet lies inside 32 others.
+fn fault_of_deep(alloc: Global, text: &str, at: usize) -> Result<ModuleFault, ModuleFault> {
+    if let Some(fault) = fault_in_names(alloc, text)? {
+        return Ok(fault);
+    }
+    let listed = assignments_listed(alloc, text)?;
+    let mut name = "";
+    for assignment in &listed {
+        name = assignment.name;
+    }
+    let _ = at;
+    let name = String::from_str(alloc, name)?;
+    Ok(ModuleFault::BadType {
+        name,
+        fault: TypeFault::TooDeep,
+    })
+}

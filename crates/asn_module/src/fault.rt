@@ -1,0 +1,84 @@
+//! Why a module is refused.
+
+ghost use Rattle.std.specs.Prelude.{◌≡◌};
+ghost use Rattle.asn_module.specs.declared.fault.Refusal.TheVariants.{Memory};
+
+use asn_values::TypeFault;
+use std::alloc::{AllocError, AllocFailed};
+use thiserror::Error;
+
+/// Why a text is no module of the profile. `at` is an octet of the text, counted from 0.
+#[derive(Debug, Drop, Error)]
+pub enum ModuleFault {
+    /// A character that begins no token.
+    #[error("character at {at}")]
+    Character { at: usize },
+    /// A token with which no module can go on, or the end of the text.
+    #[error("unexpected at {at}")]
+    Unexpected { at: usize },
+    /// A reference to a name that is not assigned.
+    #[error("unknown {name}")]
+    Unknown { name: String },
+    /// An assignment whose references lead back to itself.
+    #[error("cycle {name}")]
+    Cycle { name: String },
+    /// A name that is assigned twice.
+    #[error("twice {name}")]
+    Twice { name: String },
+    /// An assignment whose type is none of the profile.
+    #[error("type {name}: {fault}")]
+    BadType { name: String, fault: TypeFault },
+    /// A reserved word that the profile does not use, a number outside the integers of the profile, or a
+    /// constraint that may not stand on the type that a name stands for.
+    #[error("out of profile at {at}")]
+    OutOfProfile { at: usize },
+    /// A growth was refused.
+    #[error("memory")]
+    Memory,
+}
+
+impl From<AllocError> for ModuleFault {
+    fn from(_e: AllocError) -> ModuleFault {
+        ModuleFault::Memory
+    }
+}
+
+impl<T: Drop> From<AllocFailed<T>> for ModuleFault {
+    fn from(_e: AllocFailed<T>) -> ModuleFault {
+        ModuleFault::Memory
+    }
+}
+
+impl From<Refusal> for ModuleFault {
+    fn from(_e: Refusal) -> ModuleFault {
+        ModuleFault::Memory
+    }
+}
+
+/// Why a type was not built.
+#[derive(Debug, Drop)]
+pub(crate) enum Refusal {
+    /// A growth was refused.
+    Memory,
+    /// It refers to a name that has no type, or none yet.
+    Missing,
+    /// A constraint may not stand on the type that a name stands for; `left` is the number of octets of
+    /// the text from the constraint on.
+    Constraint { left: usize },
+}
+
+impl From<AllocError> for Refusal {
+    ghost from_gives = { λ _ e. e ≡ Memory };
+
+    fn from(_e: AllocError) -> Refusal {
+        Refusal::Memory
+    }
+}
+
+impl<T: Drop> From<AllocFailed<T>> for Refusal {
+    ghost from_gives = { λ _ e. e ≡ Memory };
+
+    fn from(_e: AllocFailed<T>) -> Refusal {
+        Refusal::Memory
+    }
+}

@@ -1,0 +1,27 @@
+//! Modules of ASN.1 (X.680): reads the text of a module, and tells what type each of its names stands for.
+#![tactic(auto)]
+
+mod bounds;
+mod building;
+mod copying;
+mod diagnosis;
+mod expanding;
+mod fault;
+mod finding;
+mod graph;
+mod items;
+mod known;
+mod listing;
+mod module;
+mod reading;
+mod references;
+mod simple;
+mod table;
+mod twice;
+
+pub use fault::ModuleFault;
+pub use module::Module;
+pub use reading::read;
+
+#[cfg(test)]
+mod tests;

@@ -1,0 +1,87 @@
+//! Reads a module.
+
+ghost use Rattle.std.specs.Prelude.{◌≡◌, None, Some, ℕ, List, IfOk, IfErr, IfSome, MatchOption, MatchResult};
+ghost use Rattle.asn_values.specs.View.{shape_of};
+ghost use Rattle.asn_module.specs.Accepted.{Accepted, ModuleTypes, type_in};
+ghost use Rattle.asn_module.specs.ModuleView.{types_view};
+
+use crate::diagnosis::fault_of;
+use crate::fault::{ModuleFault, Refusal};
+use crate::graph::{order_of, references_of};
+use crate::listing::assignments_listed;
+use crate::module::{Module, find_type};
+use crate::table::types_of;
+use crate::twice::is_one_assigned_twice;
+use asn_notation::{SyntaxFault, read_notation};
+use asn_values::Checked;
+use std::alloc::Global;
+
+/// The most types inside one another in an assignment.
+const MOST_LEVELS: u32 = 32;
+
+/// An order to build the types of a text of the grammar in.
+fn building_order(alloc: Global, text: &str) -> Result<Vec<usize>, Refusal>
+    ensures { IfErr result (λ e. e ≡ Refusal.Memory) }
+{
+    match assignments_listed(alloc, text) {
+        Ok(listed) => match references_of(alloc, &listed) {
+            Ok(references) => Ok(order_of(alloc, &references)?),
+            Err(_) => Err(Refusal::Memory),
+        },
+        Err(_) => Err(Refusal::Memory),
+    }
+}
+
+/// The module that a text is; None where it is none.
+pub(crate) fn module_of(alloc: Global, text: &str) -> Result<Option<Module>, Refusal>
+    ensures accepted { IfOk result (λ o. IfSome o (λ m. Accepted text.now (types_view m))) }
+    ensures refused { IfOk result (λ o. o ≡ None → (m : ModuleTypes) → Accepted text.now m → ⊥) }
+    ensures memory { IfErr result (λ e. e ≡ Refusal.Memory) }
+{
+    let notation = match read_notation(alloc, text, MOST_LEVELS) {
+        Ok(notation) => notation,
+        Err(SyntaxFault::Memory) => return Err(Refusal::Memory),
+        Err(_) => return Ok(None),
+    };
+    if is_one_assigned_twice(&notation.assignments) {
+        return Ok(None);
+    }
+    let order = building_order(alloc, text)?;
+    match types_of(alloc, &notation.assignments, &order)? {
+        Some(types) => {
+            let name = String::from_str(alloc, notation.name)?;
+            Ok(Some(Module { name, types }))
+        }
+        None => Ok(None),
+    }
+}
+
+/// The module that a text is (X.680, "module definition"), in the notation of the profile: references
+/// followed, and the bounds along the way met.
+///
+/// Err: the text is no module of the profile. Of several faults the first is told in this order: a character
+/// that begins no token; a token with which no module goes on; a name assigned twice; a reference to no
+/// assignment; references that lead back; a constraint on a type that it may not stand on; a type that is
+/// none of the profile. `Memory` where a growth was refused.
+pub fn read(alloc: Global, text: &str) -> Result<Module, ModuleFault>
+    // What is read is the module that the text is.
+    ensures accepted { IfOk result (λ m. Accepted text.now (types_view m)) }
+    // A text that is a module is read, unless a growth was refused.
+    ensures refused { IfErr result (λ e. (e ≡ ModuleFault.Memory → ⊥) → (m : ModuleTypes) → Accepted text.now m → ⊥) }
+{
+    match module_of(alloc, text) {
+        Ok(Some(module)) => Ok(module),
+        Ok(None) => Err(fault_of(alloc, text)),
+        Err(_) => Err(ModuleFault::Memory),
+    }
+}
+
+impl Module {
+    /// The type that the module assigns to a name; None where it assigns none. Takes no memory.
+    pub fn type_named(&self, name: &str) -> Option<&Checked>
+        ensures { MatchOption result (type_in (types_view self.now).types name.now ≡ None)
+            (λ t. type_in (types_view self.now).types name.now ≡ Some (shape_of t.now)) }
+    {
+        find_type(&self.types, name)
+    }
+}

@@ -1,0 +1,202 @@
+//! The types of a module's assignments, built one after the other.
+
+ghost use Rattle.std.specs.Prelude.{◌≡◌, ◌≤◌, ◌<◌, true, false, List, None};
+ghost use Rattle.std.specs.Prelude.{Some, length, vec_len, IfOk, IfErr, IfSome, OnOk, MatchOption};
+ghost use Rattle.asn_values.specs.View.{shape_of};
+ghost use Rattle.asn_values.specs.Profile.{InProfile};
+ghost use Rattle.asn_notation.specs.Tree.{tree_view, assignments_view};
+ghost use Rattle.asn_module.specs.Accepted.{AreTypes, Typed};
+ghost use Rattle.asn_module.specs.Known as spec;
+ghost use Rattle.asn_module.specs.Known.{look, IsKnownOf, IsKnownAs, IsStuck, AreSound, AreDone, Attempted, unbuilt};
+
+use crate::building::build;
+use crate::fault::Refusal;
+use crate::known::{Known, Named};
+use asn_notation::{AssignmentNotation, TypeNotation};
+use asn_values::{AsnType, Checked, TypeFault};
+use std::alloc::{AllocError, Global};
+
+/// A type with its constraint, where it is one of the profile.
+fn of_profile(
+    alloc: Global,
+    ty: AsnType,
+    constraint: Option<bool>,
+) -> Result<Option<Known>, Refusal>
+    ensures known { IfOk result (λ o. MatchOption o (InProfile (shape_of ty) → ⊥) (λ k. IsKnownOf ty constraint k)) }
+    ensures memory { IfErr result (λ e. e ≡ Refusal.Memory) }
+{
+    match Checked::new(alloc, ty) {
+        Ok(ty) => Ok(Some(Known { ty, constraint })),
+        Err(fault) => {
+            if fault == TypeFault::Memory {
+                Err(Refusal::Memory)
+            } else {
+                Ok(None)
+            }
+        }
+    }
+}
+
+/// The type of a notation, where it can be built of those that are built, and is one of the profile.
+fn build_known(alloc: Global, names: &[Named], ty: &TypeNotation) -> Result<Option<Known>, Refusal>
+    ensures known { IfOk result (λ o. MatchOption o (IsStuck (look names.now) (tree_view ty.now))
+        (λ k. IsKnownAs (look names.now) (tree_view ty.now) k)) }
+    ensures memory { IfErr result (λ e. e ≡ Refusal.Memory) }
+{
+    match build(alloc, names, ty) {
+        Ok(built) => of_profile(alloc, built.ty, built.constraint),
+        Err(Refusal::Memory) => Err(Refusal::Memory),
+        Err(_) => Ok(None),
+    }
+}
+
+/// Builds the type at an index where that is not built yet, and says whether it did.
+fn attempt(
+    alloc: Global,
+    names: &mut Vec<Named>,
+    index: usize,
+    ty: &TypeNotation,
+) -> Result<bool, Refusal>
+    requires { index < vec_len names.old }
+    ensures attempted { IfOk result (λ b. Attempted b (tree_view ty.now) index names.old.items names.new.items) }
+    ensures memory { IfErr result (λ e. e ≡ Refusal.Memory) }
+{
+    if names[index].known.is_some() {
+        return Ok(false);
+    }
+    match build_known(alloc, names, ty)? {
+        Some(known) => {
+            names[index].known = Some(known);
+            Ok(true)
+        }
+        None => Ok(false),
+    }
+}
+
+/// Builds the type of the assignment at an index, where there is one and its type can be built.
+fn build_at(
+    alloc: Global,
+    names: &mut Vec<Named>,
+    assignments: &[AssignmentNotation],
+    index: usize,
+) -> Result<(), Refusal>
+    requires { AreSound (assignments_view assignments.now) (assignments_view assignments.now) names.old.items }
+    ensures sound { OnOk result (AreSound (assignments_view assignments.now)
+        (assignments_view assignments.now) names.new.items) }
+    ensures memory { IfErr result (λ e. e ≡ Refusal.Memory) }
+{
+    if index >= assignments.len() {
+        return Ok(());
+    }
+    let built = attempt(alloc, names, index, &assignments[index].ty)?;
+    let _ = built;
+    Ok(())
+}
+
+/// Builds the types at these indices where they can be built, one after the other.
+fn build_in_order(
+    alloc: Global,
+    names: &mut Vec<Named>,
+    assignments: &[AssignmentNotation],
+    order: &[usize],
+) -> Result<(), Refusal>
+    requires { AreSound (assignments_view assignments.now) (assignments_view assignments.now) names.old.items }
+    ensures sound { OnOk result (AreSound (assignments_view assignments.now)
+        (assignments_view assignments.now) names.new.items) }
+    ensures memory { IfErr result (λ e. e ≡ Refusal.Memory) }
+{
+    for index in order {
+        build_at(alloc, names, assignments, *index)?;
+    }
+    Ok(())
+}
+
+/// Builds the first type that is not built yet and can be, and says whether there was one.
+fn build_next(
+    alloc: Global,
+    names: &mut Vec<Named>,
+    assignments: &[AssignmentNotation],
+) -> Result<bool, Refusal>
+    requires { AreSound (assignments_view assignments.now) (assignments_view assignments.now) names.old.items }
+    ensures sound { IfOk result (λ b. AreSound (assignments_view assignments.now)
+        (assignments_view assignments.now) names.new.items) }
+    ensures fewer { IfOk result (λ b. b ≡ true → unbuilt names.new.items < unbuilt names.old.items) }
+    ensures done { IfOk result (λ b. b ≡ false → AreDone (look names.new.items)
+        (assignments_view assignments.now) names.new.items) }
+    ensures memory { IfErr result (λ e. e ≡ Refusal.Memory) }
+{
+    for (index, assignment) in assignments.iter().enumerate() {
+        if attempt(alloc, names, index, &assignment.ty)? {
+            return Ok(true);
+        }
+    }
+    Ok(false)
+}
+
+/// Builds all types that can be built.
+fn build_all(
+    alloc: Global,
+    names: &mut Vec<Named>,
+    assignments: &[AssignmentNotation],
+) -> Result<(), Refusal>
+    requires { AreSound (assignments_view assignments.now) (assignments_view assignments.now) names.old.items }
+    ensures sound { OnOk result (AreSound (assignments_view assignments.now)
+        (assignments_view assignments.now) names.new.items) }
+    ensures done { OnOk result (AreDone (look names.new.items) (assignments_view assignments.now) names.new.items) }
+    ensures memory { IfErr result (λ e. e ≡ Refusal.Memory) }
+{
+    'builds: loop {
+        if !build_next(alloc, names, assignments)? {
+            return Ok(());
+        }
+    }
+}
+
+/// Whether all are built.
+fn are_built(names: &[Named]) -> bool
+    ensures all { result ≡ true → unbuilt names.now ≡ 0 }
+    ensures some { result ≡ false → 0 < unbuilt names.now }
+{
+    for named in names {
+        if named.known.is_none() {
+            return false;
+        }
+    }
+    true
+}
+
+/// The names of the assignments, without types.
+fn names_of(alloc: Global, assignments: &[AssignmentNotation]) -> Result<Vec<Named>, AllocError>
+    ensures { IfOk result (λ v. AreSound (assignments_view assignments.now)
+        (assignments_view assignments.now) v.items) }
+{
+    let mut names = Vec::new(alloc);
+    for assignment in assignments {
+        let name = String::from_str(alloc, assignment.name)?;
+        names.push(Named { name, known: None })?;
+    }
+    Ok(names)
+}
+
+/// The types of all assignments; None where one has none. They are first built in the order given, and then
+/// until nothing more can be built: with a good order nothing is left for that.
+pub(crate) fn types_of(
+    alloc: Global,
+    assignments: &[AssignmentNotation],
+    order: &[usize],
+) -> Result<Option<Vec<Named>>, Refusal>
+    ensures sound { IfOk result (λ o. IfSome o (λ v. AreTypes (assignments_view assignments.now)
+        (assignments_view assignments.now) (spec.types_of v.items))) }
+    ensures none { IfOk result (λ o. o ≡ None → (ts : List Typed) → AreTypes
+        (assignments_view assignments.now) (assignments_view assignments.now) ts → ⊥) }
+    ensures memory { IfErr result (λ e. e ≡ Refusal.Memory) }
+{
+    let mut names = names_of(alloc, assignments)?;
+    build_in_order(alloc, &mut names, assignments, order)?;
+    build_all(alloc, &mut names, assignments)?;
+    if are_built(&names) {
+        Ok(Some(names))
+    } else {
+        Ok(None)
+    }
+}

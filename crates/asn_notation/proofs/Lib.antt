@@ -1,0 +1,10 @@
+pub mod LexingLemmas
+pub mod Turns
+pub mod Views
+pub mod Sound
+pub mod Again
+pub mod TreesAgain
+pub mod ModulesAgain
+pub mod Fits
+pub mod Exact
+pub mod Printing

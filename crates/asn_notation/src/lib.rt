@@ -1,0 +1,27 @@
+//! Reads the notation of ASN.1 (X.680) as far as the profile has it: a module's text, as a tree.
+#![tactic(auto)]
+
+mod constraints;
+mod enumerations;
+mod fault;
+mod laws;
+mod lexer;
+mod modules;
+mod notation;
+mod parts;
+mod token;
+mod types;
+
+pub use fault::SyntaxFault;
+pub use laws::{lines_are_read_again, one_module, tokens_are_read_again};
+pub use lexer::{first_token, skip_blank};
+pub use modules::read_notation;
+pub use notation::{
+    AlternativeNotation, AssignmentNotation, ComponentNotation, Constraint, DefaultNotation,
+    ItemNotation, Limits, ListSize, ModuleNotation, NeedNotation, RangeNotation, SizeEnd,
+    SizeNotation, StringKind, TypeNotation,
+};
+pub use token::{Lexeme, Sign, Word};
+
+#[cfg(test)]
+mod tests;

@@ -1,0 +1,115 @@
+//! A module and its assignments (X.680, "module definition").
+
+ghost use Rattle.std.specs.Prelude.{◌≡◌, ◌≤◌, ◌<◌, Some, length, IfOk};
+ghost use Rattle.asn_notation.specs.Lexing.{lexed};
+ghost use Rattle.asn_notation.specs.Tree as tree;
+ghost use Rattle.asn_notation.specs.Reading as spec;
+ghost use Rattle.asn_notation.specs.Reading.{Gives, Reads, Shortens};
+ghost use Rattle.asn_notation.specs.ModuleText.{IsModuleText};
+
+use crate::constraints::{after_sign, after_word, begins_word};
+use crate::fault::SyntaxFault;
+use crate::lexer::first_token;
+use crate::notation::{AssignmentNotation, ModuleNotation};
+use crate::token::{Lexeme, Sign, Word};
+use crate::types::type_at;
+use std::alloc::Global;
+
+#[tactic(auto, unfolding(crate::specs::Reading::name_at))]
+fn name_at<'t>(text: &'t str) -> Result<(&'t str, &'t str), SyntaxFault>
+    ensures value { Reads (λ s. s.now) result (spec.name_at (lexed text.now)) }
+    ensures shorter { Shortens text.now result }
+{
+    match first_token(text) {
+        Some((lexeme, rest)) => match lexeme {
+            Lexeme::Name(name) => Ok((name, rest)),
+            _ => Err(SyntaxFault::at(text)),
+        },
+        None => Err(SyntaxFault::at(text)),
+    }
+}
+
+#[tactic(auto, unfolding(crate::specs::Reading::assignment_at))]
+fn assignment_at<'t>(
+    alloc: Global,
+    text: &'t str,
+    levels: u32,
+) -> Result<(AssignmentNotation<'t>, &'t str), SyntaxFault>
+    ensures value { Reads tree.assignment_view result (spec.assignment_at levels (lexed text.now)) }
+    ensures shorter { Shortens text.now result }
+{
+    let (name, rest) = name_at(text)?;
+    let rest = after_sign(Sign::Becomes, rest)?;
+    let (ty, rest) = type_at(alloc, rest, levels)?;
+    Ok((AssignmentNotation { name, ty }, rest))
+}
+
+/// The assignments up to END.
+fn assignments_at<'t>(
+    alloc: Global,
+    text: &'t str,
+    levels: u32,
+) -> Result<(Vec<AssignmentNotation<'t>>, &'t str), SyntaxFault>
+    ensures value { Reads (λ v. tree.assignments_view v.items) result (spec.assignments_at levels (lexed text.now)) }
+    ensures within { IfOk result (λ p. length (lexed p.1.now) ≤ length (lexed text.now)) }
+{
+    let mut all = Vec::new(alloc);
+    let mut rest = text;
+    'assignments: loop {
+        if begins_word(Word::End, rest) {
+            return Ok((all, rest));
+        }
+        let (assignment, after) = assignment_at(alloc, rest, levels)?;
+        all.push(assignment)?;
+        rest = after;
+    }
+}
+
+/// The name of a module, and the text after BEGIN.
+#[tactic(auto, unfolding(crate::specs::Reading::heading_at))]
+fn heading_at<'t>(text: &'t str) -> Result<(&'t str, &'t str), SyntaxFault>
+    ensures value { Reads (λ s. s.now) result (spec.heading_at (lexed text.now)) }
+{
+    let (name, rest) = name_at(text)?;
+    let rest = after_word(Word::Definitions, rest)?;
+    let rest = after_word(Word::Automatic, rest)?;
+    let rest = after_word(Word::Tags, rest)?;
+    let rest = after_sign(Sign::Becomes, rest)?;
+    let rest = after_word(Word::Begin, rest)?;
+    Ok((name, rest))
+}
+
+#[tactic(auto, unfolding(crate::specs::Reading::whole_module))]
+fn whole_module<'t>(
+    alloc: Global,
+    text: &'t str,
+    levels: u32,
+) -> Result<ModuleNotation<'t>, SyntaxFault>
+    ensures { Gives tree.module_view result (spec.whole_module levels (lexed text.now)) }
+{
+    let (name, rest) = heading_at(text)?;
+    let (assignments, rest) = assignments_at(alloc, rest, levels)?;
+    let rest = after_word(Word::End, rest)?;
+    match first_token(rest) {
+        None => Ok(ModuleNotation { name, assignments }),
+        Some(_) => Err(SyntaxFault::at(rest)),
+    }
+}
+
+/// The module that a text is, as it is written there, with at most `levels` types inside one another in
+/// an assignment.
+///
+/// Err: `Unexpected` and `OutOfProfile` at the first token with which no module goes on; `TooDeep` where
+/// this token begins a type inside `levels` others; `Memory` where a growth was refused.
+pub fn read_notation<'t>(
+    alloc: Global,
+    text: &'t str,
+    levels: u32,
+) -> Result<ModuleNotation<'t>, SyntaxFault>
+    // What is read is the module that the text is.
+    ensures found { IfOk result (λ m. IsModuleText levels text.now (tree.module_view m)) }
+    // A text that is a module is read as it, unless a growth was refused.
+    ensures only { (m : tree.ModuleTree) → IsModuleText levels text.now m → Gives tree.module_view result (Some m) }
+{
+    whole_module(alloc, text, levels)
+}

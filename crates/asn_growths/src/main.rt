@@ -7,7 +7,6 @@ ghost use Rattle.asn_growths.specs.declared.outcome.Outcome.TheVariants as outco
 
 mod bit_calls;
 mod composed_calls;
-mod json_calls;
 mod message_calls;
 mod outcome;
 
@@ -16,7 +15,6 @@ use bit_calls::{
     paddings, single_bits,
 };
 use composed_calls::{check_a_composed_type, decode_a_composed_value, encode_a_composed_value};
-use json_calls::{read_json, read_wrong_json, write_json};
 use message_calls::{
     check_a_type, check_simple_types, decode_a_message, decode_simple_values, encode_a_message,
     encode_simple_values,
@@ -27,7 +25,7 @@ use std::io::Read;
 use std::process::ExitCode;
 
 /// The growth that the tests refuse, counted from the first of the process.
-const REFUSED: u32 = 850;
+const REFUSED: u32 = 600;
 
 /// Takes from the input how many growths are left up to the one that is refused, uses up those before, and
 /// makes each call twice. A line is written for a call that answers `Memory`, one for a call whose arguments could
@@ -68,9 +66,6 @@ fn main(rt: HostRuntime) -> ExitCode {
             octets_of_signed_numbers(alloc),
         );
         all_right &= told(&rt, "BitSink::pad", paddings(alloc));
-        all_right &= told(&rt, "to_json", write_json(alloc));
-        all_right &= told(&rt, "from_json", read_json(alloc));
-        all_right &= told(&rt, "from_json:shape", read_wrong_json(alloc));
     }
     if rt.println("done").is_err() || !all_right {
         return ExitCode::from(1);

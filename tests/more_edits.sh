@@ -1,7 +1,6 @@
 #!/usr/bin/env bash
-# Tries the edits of tests/more_edits, which the prover must refuse like those of crates/*/must-fail. They
-# say of further places what those of the gate say of others, and are kept out of it for its time: each takes
-# half a minute. Give a crate to try its edits alone.
+# Tries the edits of tests/more_edits, which the prover must refuse like those of crates/*/must-fail: those that were
+# not tried before, and those of functions that have others in the gate. Give a crate to try its edits alone.
 set -euo pipefail
 cd "$(dirname "$0")/.."
 

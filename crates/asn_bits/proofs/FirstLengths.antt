@@ -10,11 +10,11 @@ use Rattle.asn_bits.specs.Lengths.{last_length, fragment, blocks}
 use mir.Val.{bool_byte}
 use Rattle.asn_bits.specs.Sink.{bit_of}
 use Rattle.asn_bits.specs.LengthBits.{first_length, StartsLength, StartsSome, LengthAhead}
-use Rattle.asn_bits.specs.LengthPlaces.{form_bits, form_width, form_items, place_bits, IsPlace}
+use Rattle.asn_bits.specs.LengthStates.{form_bits, form_width, form_items, state_bits, IsLengthState}
 use Rattle.asn_bits.specs.declared.general_length.Form.{Form}
 use Rattle.asn_bits.specs.declared.general_length.Form.TheVariants as form
-use Rattle.asn_bits.specs.declared.general_length.Place.{Place}
-use Rattle.asn_bits.specs.declared.general_length.Place.TheVariants as place
+use Rattle.asn_bits.specs.declared.general_length.LengthState.{LengthState}
+use Rattle.asn_bits.specs.declared.general_length.LengthState.TheVariants as place
 use Rattle.asn_bits.proofs.Digits.{digits_code}
 use Rattle.asn_bits.proofs.Octets.{length-digits}
 use Rattle.asn_bits.proofs.Prefixes.{bits_further}
@@ -71,11 +71,11 @@ first_fragment n l = (let a : nat_lt n 16384 ≡ false = le-ltb n 16384 l in rw 
 -- ---- places
 
 -- the counts whose first length begins so
-abbrev pub Stands : ℕ → Place → Type 0
+abbrev pub Stands : ℕ → LengthState → Type 0
 Stands n place.Start = Unit {0}
-Stands n place.One = 128 ≤ n
-Stands n (place.Number form.Few p l) = (n < 128) × (n / 2 ^ l ≡ p)
-Stands n (place.Number form.Many p l) = (128 ≤ n) × (n < 16384) × (n / 2 ^ l ≡ p)
+Stands n place.FirstBitSet = 128 ≤ n
+Stands n (place.Number form.Short p l) = (n < 128) × (n / 2 ^ l ≡ p)
+Stands n (place.Number form.Long p l) = (128 ≤ n) × (n < 16384) × (n / 2 ^ l ≡ p)
 Stands n (place.Number form.Fragment p l) = (16384 ≤ n) × (blocks n / 2 ^ l ≡ p)
 
 zero_one : ◌≡◌ {A = ℕ} 0 1 → ⊥
@@ -86,14 +86,14 @@ form_cases : (n : ℕ) → (n < 128) ⊎ (((128 ≤ n) × (n < 16384)) ⊎ (1638
 form_cases n = ⊎_elim inl (λ a. ⊎_elim (λ b. inr (inl (a, b))) (λ b. inr (inr b)) (cases_lt n 16384)) (cases_lt n 128)
 
 -- a length that agrees with the bits given, as far as both go, is one of those counts
-pub stands_of : (n : ℕ) (p : Place) (u t : List ℕ) → IsPlace p → (first_length n).bits ++ u ≡ place_bits p ++ t → Stands n p
+pub stands_of : (n : ℕ) (p : LengthState) (u t : List ℕ) → IsLengthState p → (first_length n).bits ++ u ≡ state_bits p ++ t → Stands n p
 stands_of n place.Start u t h e = tt
-stands_of n place.One u t h e =
+stands_of n place.FirstBitSet u t h e =
     elim (form_cases n) [
       | inl a ↦ let f : 0 ∷ (bits 7 n ++ u) ≡ 1 ∷ t = rw (first_few n a) at e in absurd (zero_one (cc))
       | inr b ↦ elim b [ inl c ↦ c.0 | inr c ↦ omega arith ]
     ]
-stands_of n (place.Number form.Few p l) u t h e =
+stands_of n (place.Number form.Short p l) u t h e =
     elim (form_cases n) [
       | inl a ↦ let f : 0 ∷ (bits 7 n ++ u) ≡ 0 ∷ (bits (7 - l) p ++ t) = rw (first_few n a) at e in (a, number_front 7 l p n u t h.0 h.1 a (cc))
       | inr b ↦ elim b [
@@ -101,7 +101,7 @@ stands_of n (place.Number form.Few p l) u t h e =
         | inr c ↦ let f : 1 ∷ 1 ∷ (bits 6 (blocks n) ++ u) ≡ 0 ∷ (bits (7 - l) p ++ t) = rw (first_fragment n c) at e in absurd (zero_one (cc))
       ]
     ]
-stands_of n (place.Number form.Many p l) u t h e =
+stands_of n (place.Number form.Long p l) u t h e =
     elim (form_cases n) [
       | inl a ↦ let f : 0 ∷ (bits 7 n ++ u) ≡ 1 ∷ 0 ∷ (bits (14 - l) p ++ t) = rw (first_few n a) at e in absurd (zero_one (cc))
       | inr b ↦ elim b [
@@ -119,19 +119,19 @@ stands_of n (place.Number form.Fragment p l) u t h e =
     ]
 
 -- and the other way round
-pub starts_of : (n : ℕ) (p : Place) → IsPlace p → Stands n p → StartsLength n (place_bits p)
+pub starts_of : (n : ℕ) (p : LengthState) → IsLengthState p → Stands n p → StartsLength n (state_bits p)
 starts_of n place.Start h s = record { more = (first_length n).bits; split = refl }
-starts_of n place.One h s =
+starts_of n place.FirstBitSet h s =
     elim (cases_lt n 16384) [
       | inl a ↦ record { more = 0 ∷ bits 14 n; split = ap (λ l. l.bits) (first_many n s a) }
       | inr b ↦ record { more = 1 ∷ bits 6 (blocks n); split = ap (λ l. l.bits) (first_fragment n b) }
     ]
-starts_of n (place.Number form.Few p l) h s = record { more = bits l n; split = ap (λ l. l.bits) (first_few n s.0) ∙ ap (λ b. 0 ∷ b) (number_begins 7 l p n h.0 s.1) }
-starts_of n (place.Number form.Many p l) h s = record { more = bits l n; split = ap (λ l. l.bits) (first_many n s.0 s.1) ∙ ap (λ b. 1 ∷ 0 ∷ b) (number_begins 14 l p n h.0 s.2) }
+starts_of n (place.Number form.Short p l) h s = record { more = bits l n; split = ap (λ l. l.bits) (first_few n s.0) ∙ ap (λ b. 0 ∷ b) (number_begins 7 l p n h.0 s.1) }
+starts_of n (place.Number form.Long p l) h s = record { more = bits l n; split = ap (λ l. l.bits) (first_many n s.0 s.1) ∙ ap (λ b. 1 ∷ 0 ∷ b) (number_begins 14 l p n h.0 s.2) }
 starts_of n (place.Number form.Fragment p l) h s = record { more = bits l (blocks n); split = ap (λ l. l.bits) (first_fragment n s.0) ∙ ap (λ b. 1 ∷ 1 ∷ b) (number_begins 6 l p (blocks n) h.0 s.1) }
 
 -- what a reader tests of a place decides which counts have a first length that begins so
-pub starts_where : (p : Place) (P : ℕ → Type 0) → IsPlace p → ((n : ℕ) → P n ↔ Stands n p) → (n : ℕ) → P n ↔ StartsLength n (place_bits p)
+pub starts_where : (p : LengthState) (P : ℕ → Type 0) → IsLengthState p → ((n : ℕ) → P n ↔ Stands n p) → (n : ℕ) → P n ↔ StartsLength n (state_bits p)
 starts_where p P h f n = (
   λ x. starts_of n p h ((f n).0 x),
   λ s. (f n).1 (stands_of n p [] s.more h (append-nil (first_length n).bits ∙ s.split)),
@@ -140,22 +140,22 @@ starts_where p P h f n = (
 -- ---- what a reader tests of each place
 
 -- a place that is known
-at_place : {P : ℕ → Type 0} (x y : Place) → x ≡ y → IsPlace x → ((n : ℕ) → P n ↔ Stands n y) → (n : ℕ) → P n ↔ StartsLength n (place_bits x)
-at_place {P} x y e h f = subst (λ (z : Place). (n : ℕ) → P n ↔ StartsLength n (place_bits z)) (sym e) (starts_where y P (subst (λ (z : Place). IsPlace z) e h) f)
+at_place : {P : ℕ → Type 0} (x y : LengthState) → x ≡ y → IsLengthState x → ((n : ℕ) → P n ↔ Stands n y) → (n : ℕ) → P n ↔ StartsLength n (state_bits x)
+at_place {P} x y e h f = subst (λ (z : LengthState). (n : ℕ) → P n ↔ StartsLength n (state_bits z)) (sym e) (starts_where y P (subst (λ (z : LengthState). IsLengthState z) e h) f)
 
 -- no bit is given
-pub exact_start : (x : Place) → x ≡ place.Start → IsPlace x → (n : ℕ) → ((0 ≤ n) × ⊤) ↔ StartsLength n (place_bits x)
+pub exact_start : (x : LengthState) → x ≡ place.Start → IsLengthState x → (n : ℕ) → ((0 ≤ n) × ⊤) ↔ StartsLength n (state_bits x)
 exact_start x e h = at_place x place.Start e h (λ n. (λ a. tt, λ a. (omega arith, tt)))
 
 -- a 1 is given
-pub exact_one : (x : Place) → x ≡ place.One → IsPlace x → (n : ℕ) → ((128 ≤ n) × ⊤) ↔ StartsLength n (place_bits x)
-exact_one x e h = at_place x place.One e h (λ n. (λ a. a.0, λ a. (a, tt)))
+pub exact_one : (x : LengthState) → x ≡ place.FirstBitSet → IsLengthState x → (n : ℕ) → ((128 ≤ n) × ⊤) ↔ StartsLength n (state_bits x)
+exact_one x e h = at_place x place.FirstBitSet e h (λ n. (λ a. a.0, λ a. (a, tt)))
 
 -- 0 and a front of 7 bits
-pub exact_few : (x : Place) (p l low high : ℕ) → x ≡ place.Number form.Few p l → IsPlace x → low ≡ p * 2 ^ l → high ≡ (p + 1) * 2 ^ l → (n : ℕ) → ((low ≤ n) × (n ≤ high - 1)) ↔ StartsLength n (place_bits x)
-exact_few x p l low high e h d f = at_place x (place.Number form.Few p l) e h (λ n.
+pub exact_few : (x : LengthState) (p l low high : ℕ) → x ≡ place.Number form.Short p l → IsLengthState x → low ≡ p * 2 ^ l → high ≡ (p + 1) * 2 ^ l → (n : ℕ) → ((low ≤ n) × (n ≤ high - 1)) ↔ StartsLength n (state_bits x)
+exact_few x p l low high e h d f = at_place x (place.Number form.Short p l) e h (λ n.
     let q = quotient_range l p n in
-    let i : IsPlace (place.Number form.Few p l) = subst (λ (z : Place). IsPlace z) e h in
+    let i : IsLengthState (place.Number form.Short p l) = subst (λ (z : LengthState). IsLengthState z) e h in
     let r = prefix_room 7 l p i.0 i.1 in
     let s : 0 < 2 ^ l = pow_pos l in (
       λ a. (omega (arith, a.1, f, r), q.1 (omega (arith, a.0, d), omega (arith, a.1, f, s))),
@@ -163,10 +163,10 @@ exact_few x p l low high e h d f = at_place x (place.Number form.Few p l) e h (�
     ))
 
 -- 10 and a front of 14 bits
-pub exact_many : (x : Place) (p l low high : ℕ) → x ≡ place.Number form.Many p l → IsPlace x → low ≡ max (p * 2 ^ l) 128 → high ≡ (p + 1) * 2 ^ l → (n : ℕ) → ((low ≤ n) × (n ≤ high - 1)) ↔ StartsLength n (place_bits x)
-exact_many x p l low high e h d f = at_place x (place.Number form.Many p l) e h (λ n.
+pub exact_many : (x : LengthState) (p l low high : ℕ) → x ≡ place.Number form.Long p l → IsLengthState x → low ≡ max (p * 2 ^ l) 128 → high ≡ (p + 1) * 2 ^ l → (n : ℕ) → ((low ≤ n) × (n ≤ high - 1)) ↔ StartsLength n (state_bits x)
+exact_many x p l low high e h d f = at_place x (place.Number form.Long p l) e h (λ n.
     let q = quotient_range l p n in
-    let i : IsPlace (place.Number form.Many p l) = subst (λ (z : Place). IsPlace z) e h in
+    let i : IsLengthState (place.Number form.Long p l) = subst (λ (z : LengthState). IsLengthState z) e h in
     let r = prefix_room 14 l p i.0 i.1 in
     let s : 0 < 2 ^ l = pow_pos l in (
       λ a. (omega (arith, a.0, d), omega (arith, a.1, f, r, s), q.1 (omega (arith, a.0, d), omega (arith, a.1, f, s))),
@@ -174,7 +174,7 @@ exact_many x p l low high e h d f = at_place x (place.Number form.Many p l) e h 
     ))
 
 -- 11 and a front of 6 bits
-pub exact_fragment : {P : ℕ → Type 0} (x : Place) (p l low high : ℕ) → x ≡ place.Number form.Fragment p l → IsPlace x → low ≡ p * 2 ^ l → high ≡ (p + 1) * 2 ^ l → ((n : ℕ) → P n ↔ ((16384 ≤ n) × (low ≤ blocks n) × (blocks n ≤ high - 1))) → (n : ℕ) → P n ↔ StartsLength n (place_bits x)
+pub exact_fragment : {P : ℕ → Type 0} (x : LengthState) (p l low high : ℕ) → x ≡ place.Number form.Fragment p l → IsLengthState x → low ≡ p * 2 ^ l → high ≡ (p + 1) * 2 ^ l → ((n : ℕ) → P n ↔ ((16384 ≤ n) × (low ≤ blocks n) × (blocks n ≤ high - 1))) → (n : ℕ) → P n ↔ StartsLength n (state_bits x)
 exact_fragment x p l low high e h d f g = at_place x (place.Number form.Fragment p l) e h (λ n.
     let q = quotient_range l p (blocks n) in
     let s : 0 < 2 ^ l = pow_pos l in (
@@ -194,15 +194,15 @@ exact_left Q C S f g n = (
 -- ---- the next bits
 
 -- a place with a number, and one bit more
-pub place_more : (x : Place) (f : Form) (p l b : ℕ) → x ≡ place.Number f p l → IsPlace x → 0 < l → b < 2 → IsPlace (place.Number f (2 * p + b) (l - 1)) × (place_bits (place.Number f (2 * p + b) (l - 1)) ≡ place_bits x ++ b ∷ [])
+pub place_more : (x : LengthState) (f : Form) (p l b : ℕ) → x ≡ place.Number f p l → IsLengthState x → 0 < l → b < 2 → IsLengthState (place.Number f (2 * p + b) (l - 1)) × (state_bits (place.Number f (2 * p + b) (l - 1)) ≡ state_bits x ++ b ∷ [])
 place_more x f p l b e h s t =
-    let i : IsPlace (place.Number f p l) = subst (λ (z : Place). IsPlace z) e h in
+    let i : IsLengthState (place.Number f p l) = subst (λ (z : LengthState). IsLengthState z) e h in
     let k = form_width f - l in
     let w : form_width f - (l - 1) ≡ k + 1 = omega (arith, i.0) in
     let v : 2 ^ (k + 1) ≡ 2 ^ k * 2 = pow-add 2 k 1 in (
       (omega (arith, i.0), subst (λ (j : ℕ). 2 * p + b < 2 ^ j) (sym w) (omega (arith, v, i.1))),
       ap (λ j. form_bits f ++ bits j (2 * p + b)) w ∙ ap (λ bs. form_bits f ++ bs) (bits_further k p b i.1 t)
-          ∙ sym (append_assoc (form_bits f) (bits k p) (b ∷ [])) ∙ ap (λ z. place_bits z ++ b ∷ []) (sym e),
+          ∙ sym (append_assoc (form_bits f) (bits k p) (b ∷ [])) ∙ ap (λ z. state_bits z ++ b ∷ []) (sym e),
     )
 
 -- 10 and 14 bits, as a number
@@ -239,9 +239,9 @@ first_some n =
     ]
 
 -- what is left of a length that began so
-pub number_left : (n : ℕ) (f : Form) (p l : ℕ) → IsPlace (place.Number f p l) → Stands n (place.Number f p l) → length (first_length n).bits ≡ length (place_bits (place.Number f p l)) + l
-number_left n form.Few p l h s = rw (first_few n s.0) (omega (arith, h.0, length-digits 2 7 n, length-digits 2 (7 - l) p))
-number_left n form.Many p l h s = rw (first_many n s.0 s.1) (omega (arith, h.0, length-digits 2 14 n, length-digits 2 (14 - l) p))
+pub number_left : (n : ℕ) (f : Form) (p l : ℕ) → IsLengthState (place.Number f p l) → Stands n (place.Number f p l) → length (first_length n).bits ≡ length (state_bits (place.Number f p l)) + l
+number_left n form.Short p l h s = rw (first_few n s.0) (omega (arith, h.0, length-digits 2 7 n, length-digits 2 (7 - l) p))
+number_left n form.Long p l h s = rw (first_many n s.0 s.1) (omega (arith, h.0, length-digits 2 14 n, length-digits 2 (14 - l) p))
 number_left n form.Fragment p l h s = rw (first_fragment n s.0) (omega (arith, h.0, length-digits 2 6 (blocks n), length-digits 2 (6 - l) p))
 
 -- ---- a whole length in front of other bits
@@ -251,11 +251,11 @@ pub ahead_some : {S : ℕ → Type 0} {us : List ℕ} → LengthAhead S us → 8
 ahead_some {S} {us} w = omega (arith, first_some w.count, ap length w.split, length-append (first_length w.count).bits w.rest)
 
 -- it agrees with the bits given, as far as both go
-ahead_stands : {S : ℕ → Type 0} {us : List ℕ} (mid : List ℕ) (p : Place) (w : LengthAhead S us) → IsPlace p → us ≡ place_bits p ++ mid → Stands w.count p
+ahead_stands : {S : ℕ → Type 0} {us : List ℕ} (mid : List ℕ) (p : LengthState) (w : LengthAhead S us) → IsLengthState p → us ≡ state_bits p ++ mid → Stands w.count p
 ahead_stands mid p w h e = stands_of w.count p w.rest mid h (sym w.split ∙ e)
 
 -- so that a length of the set begins with them
-pub ahead_starts : (S : ℕ → Type 0) (us mid : List ℕ) (p : Place) → LengthAhead S us → IsPlace p → us ≡ place_bits p ++ mid → StartsSome S (place_bits p)
+pub ahead_starts : (S : ℕ → Type 0) (us mid : List ℕ) (p : LengthState) → LengthAhead S us → IsLengthState p → us ≡ state_bits p ++ mid → StartsSome S (state_bits p)
 ahead_starts S us mid p w h e = record { count = w.count; member = w.member; starts = starts_of w.count p h (ahead_stands mid p w h e) }
 
 -- 10 and 6 bits, as an octet
@@ -268,10 +268,10 @@ many_octet a l h =
 -- behind an octet that begins with 10 it has 8 bits more
 pub ahead_many : {S : ℕ → Type 0} (us mid : List ℕ) (a : ℕ) → LengthAhead S us → 128 ≤ a → a < 192 → us ≡ bits 8 a ++ mid → 8 ≤ length mid
 ahead_many us mid a w l h e =
-    let p = place.Number form.Many 0 14 in
-    let i : IsPlace p = (omega arith, omega arith) in
+    let p = place.Number form.Long 0 14 in
+    let i : IsLengthState p = (omega arith, omega arith) in
     let s = ahead_stands (bits 6 a ++ mid) p w i (e ∙ ap (λ bs. bs ++ mid) (many_octet a l h)) in
-    let n : length (first_length w.count).bits ≡ 16 = number_left w.count form.Many 0 14 i s in
+    let n : length (first_length w.count).bits ≡ 16 = number_left w.count form.Long 0 14 i s in
     omega (arith, n, ap length w.split, length-append (first_length w.count).bits w.rest, ap length e, length-append (bits 8 a) mid, length-digits 2 8 a)
 
 -- fewer than a block follow at once
@@ -280,6 +280,6 @@ few_items n h = ⊎_elim (λ a. ap (λ l. l.items) (first_few n a)) (λ a. ap (�
 
 -- the items of a whole length
 pub whole_items : (n : ℕ) (f : Form) (p : ℕ) → Stands n (place.Number f p 0) → (first_length n).items ≡ form_items f p
-whole_items n form.Few p s = rw (first_few n s.0) (omega (arith, s.1))
-whole_items n form.Many p s = rw (first_many n s.0 s.1) (omega (arith, s.2))
+whole_items n form.Short p s = rw (first_few n s.0) (omega (arith, s.1))
+whole_items n form.Long p s = rw (first_many n s.0 s.1) (omega (arith, s.2))
 whole_items n form.Fragment p s = rw (first_fragment n s.0) (omega (arith, s.1))

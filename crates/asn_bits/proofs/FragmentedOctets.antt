@@ -1,5 +1,5 @@
 -- Octets under their general length, one length after the other.
-use Rattle.std.proofs.Common.{◌≡◌, ◌-◌, ◌*◌, ◌<◌, ◌≤◌, ℕ, List, [], ◌∷◌, ◌++◌, length, map, take, drop, refl, sym, ap, ◌∙◌, append_assoc, length-drop}
+use Rattle.std.proofs.Common.{◌≡◌, ◌-◌, ◌*◌, ◌/◌, ◌<◌, ◌≤◌, ℕ, List, [], ◌∷◌, ◌++◌, length, map, take, drop, sym, ap, ◌∙◌, append_assoc, length-drop, arith}
 use Rattle.std.proofs.lemmas.List.{append-nil, length-map, drop-map}
 use Rattle.std.proofs.Math.Seq.{take-length}
 use Rattle.asn_bits.specs.Numbers.{bits, unpacked}
@@ -46,14 +46,9 @@ octets_fragment os k h e =
     ∙ sym (append_assoc bs (unpacked (take (16384 * m) os)) (general_octets (λ u. u) (drop (16384 * m) os)))
     ∙ ap (λ j. (bs ++ unpacked (take j os)) ++ general_octets (λ u. u) (drop j os)) (sym c)
 
--- where the loop over the fragments stands
+-- where the loop over the fragments stands: with the octets left, the bits so far are those of the whole
 pub record Pushed (old sink os rest : List ℕ) : Type 0 where
   pub whole : sink ++ general_octets (λ u. u) rest ≡ old ++ general_octets (λ u. u) os
-  pub added : List ℕ
-  pub sink_is : sink ≡ old ++ added
-
-pub pushed_starts : (old os : List ℕ) → Pushed old old os os
-pushed_starts old os = record { whole = refl; added = []; sink_is = sym (append-nil old) }
 
 -- a fragment more
 pub pushed_more : {old sink mid next os rest : List ℕ} (k : ℕ) → Pushed old sink os rest → 16384 ≤ length rest → k ≡ (first_length (length rest)).items → mid ≡ sink ++ (first_length (length rest)).bits → next ≡ mid ++ unpacked (take k rest) → Pushed old next os (drop k rest)
@@ -63,8 +58,6 @@ pushed_more {old} {sink} {mid} {next} {os} {rest} k p h e f g =
     let more : next ≡ sink ++ (bs ++ u) = g ∙ ap (λ s. s ++ u) f ∙ append_assoc sink bs u in
     record {
       whole = ap (λ s. s ++ general_octets (λ u. u) (drop k rest)) more ∙ append_assoc sink (bs ++ u) (general_octets (λ u. u) (drop k rest)) ∙ ap (λ t. sink ++ t) (sym (octets_fragment rest k h e)) ∙ p.whole;
-      added = p.added ++ (bs ++ u);
-      sink_is = more ∙ ap (λ s. s ++ (bs ++ u)) p.sink_is ∙ append_assoc old p.added (bs ++ u);
     }
 
 -- the last octets
@@ -72,9 +65,6 @@ pub pushed_last : {old sink mid next os rest : List ℕ} → Pushed old sink os 
 pushed_last {old} {sink} {mid} {next} {os} {rest} p h f g =
     g ∙ ap (λ s. s ++ unpacked rest) f ∙ append_assoc sink (first_length (length rest)).bits (unpacked rest) ∙ ap (λ t. sink ++ t) (sym (octets_last rest h)) ∙ p.whole
 
--- what was added so far, and bits behind it
-pub pushed_part : {old sink mid os rest : List ℕ} (bs : List ℕ) → Pushed old sink os rest → mid ≡ sink ++ bs → (added : List ℕ) × (mid ≡ old ++ added)
-pushed_part {old} bs p f = (p.added ++ bs, f ∙ ap (λ s. s ++ bs) p.sink_is ∙ append_assoc old p.added bs)
-
-pub pushed_none : {old sink mid os rest : List ℕ} → Pushed old sink os rest → mid ≡ sink → (added : List ℕ) × (mid ≡ old ++ added)
-pushed_none p f = (p.added, f ∙ p.sink_is)
+-- a fragment has one block at least, and no more than its list
+pub fragment_items : (n k : ℕ) → 16384 ≤ n → k ≡ (first_length n).items → (k ≡ 16384 * blocks n) × (1 ≤ blocks n) × (blocks n ≤ n / 16384)
+fragment_items n k h e = (e ∙ ap (λ l. l.items) (first_fragment n h), omega arith, omega arith)

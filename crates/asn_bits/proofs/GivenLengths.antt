@@ -6,12 +6,12 @@ use Rattle.std.proofs.lemmas.List.{append-nil}
 use Rattle.asn_bits.specs.Lengths.{Length, blocks, lengths}
 use Rattle.asn_bits.specs.Ranges.{Spanned}
 use Rattle.asn_bits.specs.LengthBits.{length_bits, BeginsLengths, EndsLength, fragments, is_closed, CountsLeft, BegunLengths, given, Goes, first_length, StartsSome, OpensLength, WholeLength}
-use Rattle.asn_bits.specs.LengthPlaces.{form_items, place_bits, IsPlace, IsWhole, Behind, IsReading}
+use Rattle.asn_bits.specs.LengthStates.{form_items, state_bits, IsLengthState, IsWhole, AfterLength, IsReading}
 use Rattle.asn_bits.specs.declared.number_field.FieldState.TheVariants as state
 use Rattle.asn_bits.specs.declared.general_length.Form.{Form}
 use Rattle.asn_bits.specs.declared.general_length.Form.TheVariants as form
-use Rattle.asn_bits.specs.declared.general_length.Place.{Place}
-use Rattle.asn_bits.specs.declared.general_length.Place.TheVariants as place
+use Rattle.asn_bits.specs.declared.general_length.LengthState.{LengthState}
+use Rattle.asn_bits.specs.declared.general_length.LengthState.TheVariants as place
 use Rattle.asn_bits.proofs.FirstLengths.{Stands, stands_of, starts_of, first_some, number_left, whole_items}
 use Rattle.asn_bits.proofs.LengthBits.{lengths_first, length_bits-append, lengths_behind, behind_fragments, fragments_more, has_bits, same_place}
 
@@ -28,9 +28,9 @@ count_left is j bs b =
     (w.0, record { member = subst (λ (x : ℕ). Spanned is x) w.1 b.member; largest = w.2 }, w.1, w.3)
 
 -- and so does its first length
-pub begins_some : (is : List (ℕ × Option ℕ)) (j : ℕ) (p : Place) → IsPlace p → BeginsLengths (Spanned is) (length_bits (fragments j) ++ place_bits p) → StartsSome (CountsLeft is j) (place_bits p)
+pub begins_some : (is : List (ℕ × Option ℕ)) (j : ℕ) (p : LengthState) → IsLengthState p → BeginsLengths (Spanned is) (length_bits (fragments j) ++ state_bits p) → StartsSome (CountsLeft is j) (state_bits p)
 begins_some is j p h b =
-    let w = count_left is j (place_bits p) b in
+    let w = count_left is j (state_bits p) b in
     let f = bits_first w.0 in
     record { count = w.0; member = w.1; starts = starts_of w.0 p h (stands_of w.0 p f.0 b.more h (sym f.1 ∙ w.3)) }
 
@@ -50,8 +50,8 @@ given_more j x bs y e = append_assoc (length_bits (fragments j)) x bs ∙ ap (λ
 -- ---- a bit that comes
 
 -- no count of the set goes on so
-pub dead_bit : (is : List (ℕ × Option ℕ)) (j : ℕ) (x : List ℕ) (bs : List ℕ) (y : Place) → IsPlace y → place_bits y ≡ x ++ bs → (StartsSome (CountsLeft is j) (place_bits y) → ⊥) → BeginsLengths (Spanned is) ((length_bits (fragments j) ++ x) ++ bs) → ⊥
-dead_bit is j x bs y h e none b = none (begins_some is j y h (subst (λ (g : List ℕ). BeginsLengths (Spanned is) g) (given_more j x bs (place_bits y) e) b))
+pub dead_bit : (is : List (ℕ × Option ℕ)) (j : ℕ) (x : List ℕ) (bs : List ℕ) (y : LengthState) → IsLengthState y → state_bits y ≡ x ++ bs → (StartsSome (CountsLeft is j) (state_bits y) → ⊥) → BeginsLengths (Spanned is) ((length_bits (fragments j) ++ x) ++ bs) → ⊥
+dead_bit is j x bs y h e none b = none (begins_some is j y h (subst (λ (g : List ℕ). BeginsLengths (Spanned is) g) (given_more j x bs (state_bits y) e) b))
 
 -- some count goes on so
 pub live_bit : (is : List (ℕ × Option ℕ)) (j : ℕ) (x : List ℕ) (bs : List ℕ) (y : List ℕ) → y ≡ x ++ bs → StartsSome (CountsLeft is j) y → BeginsLengths (Spanned is) ((length_bits (fragments j) ++ x) ++ bs)
@@ -60,20 +60,20 @@ live_bit is j x bs y e s = subst (λ (g : List ℕ). BeginsLengths (Spanned is) 
 -- ---- bits that end a length
 
 -- what ends with these bits
-pub record EndsHere (is : List (ℕ × Option ℕ)) (j : ℕ) (p : Place) (k : ℕ) (after : List Length) : Type 0 where
+pub record EndsHere (is : List (ℕ × Option ℕ)) (j : ℕ) (p : LengthState) (k : ℕ) (after : List Length) : Type 0 where
   pub count : ℕ
   pub member : CountsLeft is j count
   pub stands : Stands count p
-  pub bits_are : place_bits p ≡ (first_length count).bits
+  pub bits_are : state_bits p ≡ (first_length count).bits
   pub items_are : (first_length count).items ≡ k
   pub last : count < 16384 → after ≡ []
 
 -- a place that is not the start has a bit, and not more than the length
-place_few : (n : ℕ) (p : Place) → IsPlace p → Stands n p → (p ≡ place.Start → ⊥) → (0 < length (place_bits p)) × (length (place_bits p) ≤ length (first_length n).bits)
+place_few : (n : ℕ) (p : LengthState) → IsLengthState p → Stands n p → (p ≡ place.Start → ⊥) → (0 < length (state_bits p)) × (length (state_bits p) ≤ length (first_length n).bits)
 place_few n place.Start h s begun = absurd (begun refl)
-place_few n place.One h s begun = (omega arith, omega (arith, first_some n))
-place_few n (place.Number form.Few p l) h s begun = (omega arith, omega (arith, number_left n form.Few p l h s))
-place_few n (place.Number form.Many p l) h s begun = (omega arith, omega (arith, number_left n form.Many p l h s))
+place_few n place.FirstBitSet h s begun = (omega arith, omega (arith, first_some n))
+place_few n (place.Number form.Short p l) h s begun = (omega arith, omega (arith, number_left n form.Short p l h s))
+place_few n (place.Number form.Long p l) h s begun = (omega arith, omega (arith, number_left n form.Long p l h s))
 place_few n (place.Number form.Fragment p l) h s begun = (omega arith, omega (arith, number_left n form.Fragment p l h s))
 
 -- bits that end a length begin the lengths of its count
@@ -82,23 +82,23 @@ ends_begins e =
     ap length_bits e.split ∙ length_bits-append e.before (e.here ∷ e.after) ∙ sym (append_assoc (length_bits e.before) e.here.bits (length_bits e.after)) ∙ ap (λ g. g ++ length_bits e.after) (sym e.given_is)
 
 -- bits that end a length behind the fragments so far are the whole of the first one
-pub ends_here : (is : List (ℕ × Option ℕ)) (j : ℕ) (p : Place) (k : ℕ) → IsPlace p → (p ≡ place.Start → ⊥) → (e : EndsLength (Spanned is) (length_bits (fragments j) ++ place_bits p) k) → EndsHere is j p k e.after
+pub ends_here : (is : List (ℕ × Option ℕ)) (j : ℕ) (p : LengthState) (k : ℕ) → IsLengthState p → (p ≡ place.Start → ⊥) → (e : EndsLength (Spanned is) (length_bits (fragments j) ++ state_bits p) k) → EndsHere is j p k e.after
 ends_here is j p k h begun e =
-    let w = count_left is j (place_bits p) (record { count = e.count; member = e.member; more = length_bits e.after; split = ends_begins e }) in
+    let w = count_left is j (state_bits p) (record { count = e.count; member = e.member; more = length_bits e.after; split = ends_begins e }) in
     let n = w.0 in
     let f = lengths_first n in
     let s = stands_of n p (length_bits f.0) (length_bits e.after) h (sym (ap length_bits f.1) ∙ w.3) in
     let q = place_few n p h s begun in
     let list : fragments j ++ first_length n ∷ f.0 ≡ e.before ++ e.here ∷ e.after =
     ap (λ ls. fragments j ++ ls) (sym f.1) ∙ sym (lengths_behind j n w.1.largest) ∙ ap lengths (sym w.2) ∙ e.split in
-    let r = same_place (fragments j) (first_length n) f.0 e.before e.here e.after (place_bits p) list e.given_is (has_bits e.count e.before e.here e.after e.split) q.0 q.1 in
+    let r = same_place (fragments j) (first_length n) f.0 e.before e.here e.after (state_bits p) list e.given_is (has_bits e.count e.before e.here e.after e.split) q.0 q.1 in
     record { count = n; member = w.1; stands = s; bits_are = r.2; items_are = ap (λ l. l.items) (sym r.0) ∙ e.items_are; last = λ a. r.1 ∙ f.2 a }
 
 -- a length that is not whole does not end
-pub not_ended : (is : List (ℕ × Option ℕ)) (j : ℕ) (p : Place) (k : ℕ) → IsPlace p → (p ≡ place.Start → ⊥) → (IsWhole p → ⊥) → EndsLength (Spanned is) (length_bits (fragments j) ++ place_bits p) k → ⊥
+pub not_ended : (is : List (ℕ × Option ℕ)) (j : ℕ) (p : LengthState) (k : ℕ) → IsLengthState p → (p ≡ place.Start → ⊥) → (IsWhole p → ⊥) → EndsLength (Spanned is) (length_bits (fragments j) ++ state_bits p) k → ⊥
 not_ended is j place.Start k h begun part e = begun refl
-not_ended is j place.One k h begun part e =
-    let w = ends_here is j place.One k h begun e in
+not_ended is j place.FirstBitSet k h begun part e =
+    let w = ends_here is j place.FirstBitSet k h begun e in
     omega (arith, first_some w.count, ap length w.bits_are)
 not_ended is j (place.Number f p l) k h begun part e =
     let w = ends_here is j (place.Number f p l) k h begun e in
@@ -109,27 +109,27 @@ none_of [] e = refl
 none_of (x ∷ xs) e = absurd (omega arith)
 
 -- all bits of a length are one of some count
-pub whole_first : (S : ℕ → Type 0) (f : Form) (p : ℕ) → IsPlace (place.Number f p 0) → StartsSome S (place_bits (place.Number f p 0)) → WholeLength S (place_bits (place.Number f p 0)) (form_items f p)
+pub whole_first : (S : ℕ → Type 0) (f : Form) (p : ℕ) → IsLengthState (place.Number f p 0) → StartsSome S (state_bits (place.Number f p 0)) → WholeLength S (state_bits (place.Number f p 0)) (form_items f p)
 whole_first S f p h s =
     let n = s.count in
-    let x = place_bits (place.Number f p 0) in
+    let x = state_bits (place.Number f p 0) in
     let t = stands_of n (place.Number f p 0) [] s.starts.more h (append-nil (first_length n).bits ∙ s.starts.split) in
     let few : length s.starts.more ≡ 0 = omega (arith, number_left n f p 0 h t, ap length s.starts.split, length-append x s.starts.more) in
     record { count = n; member = s.member; bits_are = s.starts.split ∙ ap (λ m. x ++ m) (none_of s.starts.more few) ∙ append-nil x; items_are = whole_items n f p t }
 
 -- and fewer go on
-pub part_first : (S : ℕ → Type 0) (y : Place) → IsPlace y → StartsSome S (place_bits y) → (IsWhole y → ⊥) → OpensLength S (place_bits y)
+pub part_first : (S : ℕ → Type 0) (y : LengthState) → IsLengthState y → StartsSome S (state_bits y) → (IsWhole y → ⊥) → OpensLength S (state_bits y)
 part_first S y h s part = go s.starts.more s.starts.split
   where
-    not_all : (n : ℕ) (y : Place) → IsPlace y → (IsWhole y → ⊥) → (first_length n).bits ≡ place_bits y → ⊥
+    not_all : (n : ℕ) (y : LengthState) → IsLengthState y → (IsWhole y → ⊥) → (first_length n).bits ≡ state_bits y → ⊥
     not_all n place.Start h part e = omega (arith, first_some n, ap length e)
-    not_all n place.One h part e = omega (arith, first_some n, ap length e)
+    not_all n place.FirstBitSet h part e = omega (arith, first_some n, ap length e)
     not_all n (place.Number f p l) h part e =
         let t = stands_of n (place.Number f p l) [] [] h (ap (λ b. b ++ []) e) in
         part (omega (arith, number_left n f p l h t, ap length e))
 
-    go : (more : List ℕ) → (first_length s.count).bits ≡ place_bits y ++ more → OpensLength S (place_bits y)
-    go [] e = absurd (not_all s.count y h part (e ∙ append-nil (place_bits y)))
+    go : (more : List ℕ) → (first_length s.count).bits ≡ state_bits y ++ more → OpensLength S (state_bits y)
+    go [] e = absurd (not_all s.count y h part (e ∙ append-nil (state_bits y)))
     go (u ∷ t) e = record { count = s.count; member = s.member; next = u; more = t; split = e }
 
 -- a whole length ends
@@ -151,7 +151,7 @@ ended is j bs k w =
 -- ---- behind a whole length
 
 -- a count whose first length is that of a fragment
-fragment_stands : (is : List (ℕ × Option ℕ)) (j p : ℕ) → IsPlace (place.Number form.Fragment p 0) → (s : StartsSome (CountsLeft is j) (place_bits (place.Number form.Fragment p 0))) → (16384 ≤ s.count) × (blocks s.count ≡ p)
+fragment_stands : (is : List (ℕ × Option ℕ)) (j p : ℕ) → IsLengthState (place.Number form.Fragment p 0) → (s : StartsSome (CountsLeft is j) (state_bits (place.Number form.Fragment p 0))) → (16384 ≤ s.count) × (blocks s.count ≡ p)
 fragment_stands is j p h s =
     let t = stands_of s.count (place.Number form.Fragment p 0) [] s.starts.more h (append-nil (first_length s.count).bits ∙ s.starts.split) in
     (t.0, omega (arith, t.1))
@@ -165,9 +165,9 @@ closed_not j n h l = go (is_closed j) h
     go false g = refl
 
 -- where the reader stands then
-pub behind_reading : (is : List (ℕ × Option ℕ)) (j : ℕ) (f : Form) (p : ℕ) (x : ℕ × ℕ × Place) → IsPlace (place.Number f p 0) → StartsSome (CountsLeft is j) (place_bits (place.Number f p 0)) → Behind j f p x → IsReading is x.1 x.2
-behind_reading is j form.Few p x h s b = rw (b.1, b.2) (record { fits = h; live = s; moved = λ n e. cc })
-behind_reading is j form.Many p x h s b = rw (b.1, b.2) (record { fits = h; live = s; moved = λ n e. cc })
+pub behind_reading : (is : List (ℕ × Option ℕ)) (j : ℕ) (f : Form) (p : ℕ) (x : ℕ × ℕ × LengthState) → IsLengthState (place.Number f p 0) → StartsSome (CountsLeft is j) (state_bits (place.Number f p 0)) → AfterLength j f p x → IsReading is x.1 x.2
+behind_reading is j form.Short p x h s b = rw (b.1, b.2) (record { fits = h; live = s; moved = λ n e. cc })
+behind_reading is j form.Long p x h s b = rw (b.1, b.2) (record { fits = h; live = s; moved = λ n e. cc })
 behind_reading is j form.Fragment p x h s b =
     let t = fragment_stands is j p h s in
     let n = s.count in
@@ -195,54 +195,54 @@ begun_same : (is : List (ℕ × Option ℕ)) {j k : ℕ} (x : List ℕ) {y : Lis
 begun_same is {j} {k} x {y} e f = ap (λ i. begun is i x) e ∙ ap (λ z. begun is k z) f
 
 -- and how far the lengths are given
-pub behind_goes : (is : List (ℕ × Option ℕ)) (j : ℕ) (f : Form) (p : ℕ) (x : ℕ × ℕ × Place) (old bs : List ℕ) → IsPlace (place.Number f p 0) → StartsSome (CountsLeft is j) (place_bits (place.Number f p 0)) → Behind j f p x → place_bits (place.Number f p 0) ≡ old ++ bs
-    → Goes (record { counts = is; blocks = j; bits = old }) bs (state.Number x.0) (record { counts = is; blocks = x.1; bits = place_bits x.2 })
-behind_goes is j form.Few p x old bs h s b e =
-    let q : begun is x.1 (place_bits x.2) ≡ begun is j (old ++ bs) = begun_same is (place_bits x.2) b.1 (ap place_bits b.2 ∙ e) in
+pub behind_goes : (is : List (ℕ × Option ℕ)) (j : ℕ) (f : Form) (p : ℕ) (x : ℕ × ℕ × LengthState) (old bs : List ℕ) → IsLengthState (place.Number f p 0) → StartsSome (CountsLeft is j) (state_bits (place.Number f p 0)) → AfterLength j f p x → state_bits (place.Number f p 0) ≡ old ++ bs
+    → Goes (record { counts = is; blocks = j; bits = old }) bs (state.Number x.0) (record { counts = is; blocks = x.1; bits = state_bits x.2 })
+behind_goes is j form.Short p x old bs h s b e =
+    let q : begun is x.1 (state_bits x.2) ≡ begun is j (old ++ bs) = begun_same is (state_bits x.2) b.1 (ap state_bits b.2 ∙ e) in
     (ap given q ∙ sym (append_assoc (length_bits (fragments j)) old bs), inl (record { few = omega (arith, h.1, b.0); new_is = q }))
-behind_goes is j form.Many p x old bs h s b e =
-    let q : begun is x.1 (place_bits x.2) ≡ begun is j (old ++ bs) = begun_same is (place_bits x.2) b.1 (ap place_bits b.2 ∙ e) in
+behind_goes is j form.Long p x old bs h s b e =
+    let q : begun is x.1 (state_bits x.2) ≡ begun is j (old ++ bs) = begun_same is (state_bits x.2) b.1 (ap state_bits b.2 ∙ e) in
     (ap given q ∙ sym (append_assoc (length_bits (fragments j)) old bs), inl (record { few = omega (arith, h.1, b.0); new_is = q }))
 behind_goes is j form.Fragment p x old bs h s b e =
     let t = fragment_stands is j p h s in
     let some : 1 ≤ p = omega (arith, t.0, t.1) in
     let most : p ≤ 4 = omega (arith, t.1) in
-    let q : begun is x.1 (place_bits x.2) ≡ begun is (j + p) [] = begun_same is (place_bits x.2) b.1 (ap place_bits b.2) in
+    let q : begun is x.1 (state_bits x.2) ≡ begun is (j + p) [] = begun_same is (state_bits x.2) b.1 (ap state_bits b.2) in
     let all : length_bits (fragments (j + p)) ++ [] ≡ (length_bits (fragments j) ++ old) ++ bs =
-    append-nil (length_bits (fragments (j + p))) ∙ fragments_more j p (closed_not j s.count s.member.largest t.0) some most ∙ sym (given_more j old bs (place_bits (place.Number form.Fragment p 0)) e) in
+    append-nil (length_bits (fragments (j + p))) ∙ fragments_more j p (closed_not j s.count s.member.largest t.0) some most ∙ sym (given_more j old bs (state_bits (place.Number form.Fragment p 0)) e) in
     (ap given q ∙ all, inr (record { blocks = p; some = some; items = b.0; new_is = q }))
 
 -- the items of the length that ended
-pub behind_items : (j : ℕ) (f : Form) (p : ℕ) (x : ℕ × ℕ × Place) → Behind j f p x → form_items f p ≡ x.0
-behind_items j form.Few p x b = sym b.0
-behind_items j form.Many p x b = sym b.0
+pub behind_items : (j : ℕ) (f : Form) (p : ℕ) (x : ℕ × ℕ × LengthState) → AfterLength j f p x → form_items f p ≡ x.0
+behind_items j form.Short p x b = sym b.0
+behind_items j form.Long p x b = sym b.0
 behind_items j form.Fragment p x b = sym b.0
 
 -- a whole length that is no fragment's is the last
 last_few : (f : Form) (p l n : ℕ) → l ≡ 0 → ((k : ℕ) → place.Number f p l ≡ place.Number form.Fragment k 0 → ⊥) → Stands n (place.Number f p l) → n < 16384
-last_few form.Few p l n e m s = omega (arith, s.0)
-last_few form.Many p l n e m s = s.1
+last_few form.Short p l n e m s = omega (arith, s.0)
+last_few form.Long p l n e m s = s.1
 last_few form.Fragment p l n e m s = absurd (m p (ap (λ k. place.Number form.Fragment p k) e))
 
 -- behind the last length no bit follows
-pub whole_dead : (is : List (ℕ × Option ℕ)) (j : ℕ) (x : Place) (b : ℕ) → IsReading is j x → IsWhole x → BeginsLengths (Spanned is) ((length_bits (fragments j) ++ place_bits x) ++ b ∷ []) → ⊥
+pub whole_dead : (is : List (ℕ × Option ℕ)) (j : ℕ) (x : LengthState) (b : ℕ) → IsReading is j x → IsWhole x → BeginsLengths (Spanned is) ((length_bits (fragments j) ++ state_bits x) ++ b ∷ []) → ⊥
 whole_dead is j place.Start b r w g = absurd w
-whole_dead is j place.One b r w g = absurd w
+whole_dead is j place.FirstBitSet b r w g = absurd w
 whole_dead is j (place.Number f p l) b r w g =
     let x = place.Number f p l in
-    let g' = subst (λ (y : List ℕ). BeginsLengths (Spanned is) y) (append_assoc (length_bits (fragments j)) (place_bits x) (b ∷ [])) g in
-    let c = count_left is j (place_bits x ++ b ∷ []) g' in
+    let g' = subst (λ (y : List ℕ). BeginsLengths (Spanned is) y) (append_assoc (length_bits (fragments j)) (state_bits x) (b ∷ [])) g in
+    let c = count_left is j (state_bits x ++ b ∷ []) g' in
     let n = c.0 in
     let a = bits_first n in
-    let e : (first_length n).bits ++ a.0 ≡ place_bits x ++ (b ∷ [] ++ g'.more) = sym a.1 ∙ c.3 ∙ append_assoc (place_bits x) (b ∷ []) g'.more in
+    let e : (first_length n).bits ++ a.0 ≡ state_bits x ++ (b ∷ [] ++ g'.more) = sym a.1 ∙ c.3 ∙ append_assoc (state_bits x) (b ∷ []) g'.more in
     let s = stands_of n x a.0 (b ∷ [] ++ g'.more) r.fits e in
     let last : a.0 ≡ [] = a.2 (last_few f p l n w r.moved s) in
     let z : length a.0 ≡ 0 = ap length last in
-    omega (arith, number_left n f p l r.fits s, w, z, ap length e, length-append (first_length n).bits a.0, length-append (place_bits x) (b ∷ [] ++ g'.more))
+    omega (arith, number_left n f p l r.fits s, w, z, ap length e, length-append (first_length n).bits a.0, length-append (state_bits x) (b ∷ [] ++ g'.more))
 
 -- and so the length does not go on
-pub whole_stops : (is : List (ℕ × Option ℕ)) (j : ℕ) (x : Place) (b : ℕ) → IsReading is j x → IsWhole x → StartsSome (CountsLeft is j) (place_bits x ++ b ∷ []) → ⊥
-whole_stops is j x b r w s = whole_dead is j x b r w (live_bit is j (place_bits x) (b ∷ []) (place_bits x ++ b ∷ []) refl s)
+pub whole_stops : (is : List (ℕ × Option ℕ)) (j : ℕ) (x : LengthState) (b : ℕ) → IsReading is j x → IsWhole x → StartsSome (CountsLeft is j) (state_bits x ++ b ∷ []) → ⊥
+whole_stops is j x b r w s = whole_dead is j x b r w (live_bit is j (state_bits x) (b ∷ []) (state_bits x ++ b ∷ []) refl s)
 
 -- ---- whether more comes
 
@@ -254,11 +254,11 @@ more_start is j k e none =
     omega (arith, first_some w.0, ap length f.1, length-append (first_length w.0).bits f.0, ap length w.3, ap (λ ls. length (length_bits ls)) none)
 
 -- behind a last length
-pub more_not : (is : List (ℕ × Option ℕ)) (j : ℕ) (x : Place) (k : ℕ) → IsReading is j x → (x ≡ place.Start → j ≡ 0) → (e : EndsLength (Spanned is) (length_bits (fragments j) ++ place_bits x) k) → e.after ≡ []
+pub more_not : (is : List (ℕ × Option ℕ)) (j : ℕ) (x : LengthState) (k : ℕ) → IsReading is j x → (x ≡ place.Start → j ≡ 0) → (e : EndsLength (Spanned is) (length_bits (fragments j) ++ state_bits x) k) → e.after ≡ []
 more_not is j place.Start k r s e =
     let z : length_bits (fragments j) ++ [] ≡ [] = ap (λ i. length_bits (fragments i) ++ []) (s refl) in
     absurd (omega (arith, has_bits e.count e.before e.here e.after e.split, ap length (sym z ∙ e.given_is), length-append (length_bits e.before) e.here.bits))
-more_not is j place.One k r s e = absurd (not_ended is j place.One k r.fits (λ q. cc) (λ q. q) e)
+more_not is j place.FirstBitSet k r s e = absurd (not_ended is j place.FirstBitSet k r.fits (λ q. cc) (λ q. q) e)
 more_not is j (place.Number f p l) k r s e =
     ⊎_elim
     (λ a. absurd (not_ended is j (place.Number f p l) k r.fits (λ q. cc) (λ q. omega (arith, a, q)) e))
@@ -276,36 +276,36 @@ starts_reading is n m =
     record { fits = tt; live = record { count = n; member = record { member = subst (λ (x : ℕ). Spanned is x) e m; largest = λ d. absurd (true≢false (sym d)) }; starts = record { more = (first_length n).bits; split = refl } }; moved = λ k e. cc }
 
 -- the number of a length is small
-pub number_small : (f : Form) (p : ℕ) → IsPlace (place.Number f p 0) → p < 16384
-number_small form.Few p h = omega (arith, h.1)
-number_small form.Many p h = omega (arith, h.1)
+pub number_small : (f : Form) (p : ℕ) → IsLengthState (place.Number f p 0) → p < 16384
+number_small form.Short p h = omega (arith, h.1)
+number_small form.Long p h = omega (arith, h.1)
 number_small form.Fragment p h = omega (arith, h.1)
 
 -- a length that is not whole waits for its bits
-pub part_reading : (is : List (ℕ × Option ℕ)) (j : ℕ) (y : Place) → IsPlace y → StartsSome (CountsLeft is j) (place_bits y) → (IsWhole y → ⊥) → IsReading is j y
-part_reading is j y h s part = record { fits = h; live = s; moved = λ n e. part (subst (λ (z : Place). IsWhole z) (sym e) refl) }
+pub part_reading : (is : List (ℕ × Option ℕ)) (j : ℕ) (y : LengthState) → IsLengthState y → StartsSome (CountsLeft is j) (state_bits y) → (IsWhole y → ⊥) → IsReading is j y
+part_reading is j y h s part = record { fits = h; live = s; moved = λ n e. part (subst (λ (z : LengthState). IsWhole z) (sym e) refl) }
 
 -- it does not end, behind a bit
-pub part_open : (is : List (ℕ × Option ℕ)) (j : ℕ) (x : List ℕ) (b : ℕ) (y : Place) (k : ℕ) → IsPlace y → place_bits y ≡ x ++ b ∷ [] → (IsWhole y → ⊥) → EndsLength (Spanned is) ((length_bits (fragments j) ++ x) ++ b ∷ []) k → ⊥
-part_open is j x b y k h e part g = not_ended is j y k h (λ q. not_start x b (sym (ap place_bits q) ∙ e)) part (subst (λ (z : List ℕ). EndsLength (Spanned is) z k) (given_more j x (b ∷ []) (place_bits y) e) g)
+pub part_open : (is : List (ℕ × Option ℕ)) (j : ℕ) (x : List ℕ) (b : ℕ) (y : LengthState) (k : ℕ) → IsLengthState y → state_bits y ≡ x ++ b ∷ [] → (IsWhole y → ⊥) → EndsLength (Spanned is) ((length_bits (fragments j) ++ x) ++ b ∷ []) k → ⊥
+part_open is j x b y k h e part g = not_ended is j y k h (λ q. not_start x b (sym (ap state_bits q) ∙ e)) part (subst (λ (z : List ℕ). EndsLength (Spanned is) z k) (given_more j x (b ∷ []) (state_bits y) e) g)
   where
     not_start : (x : List ℕ) (b : ℕ) → [] ≡ x ++ b ∷ [] → ⊥
     not_start [] b e = cc
     not_start (a ∷ x) b e = cc
 
 -- a length that is whole behind bits more
-pub whole_more : (S : ℕ → Type 0) (j : ℕ) (f : Form) (p : ℕ) (x : ℕ × ℕ × Place) (old bs : List ℕ) → IsPlace (place.Number f p 0) → StartsSome S (place_bits (place.Number f p 0)) → Behind j f p x → place_bits (place.Number f p 0) ≡ old ++ bs → WholeLength S (old ++ bs) x.0
+pub whole_more : (S : ℕ → Type 0) (j : ℕ) (f : Form) (p : ℕ) (x : ℕ × ℕ × LengthState) (old bs : List ℕ) → IsLengthState (place.Number f p 0) → StartsSome S (state_bits (place.Number f p 0)) → AfterLength j f p x → state_bits (place.Number f p 0) ≡ old ++ bs → WholeLength S (old ++ bs) x.0
 whole_more S j f p x old bs h s b e =
-    subst (λ (g : List ℕ). WholeLength S g x.0) e (subst (λ (k : ℕ). WholeLength S (place_bits (place.Number f p 0)) k) (behind_items j f p x b) (whole_first S f p h s))
+    subst (λ (g : List ℕ). WholeLength S g x.0) e (subst (λ (k : ℕ). WholeLength S (state_bits (place.Number f p 0)) k) (behind_items j f p x b) (whole_first S f p h s))
 
 -- it ends all bits given
 pub whole_ends : (is : List (ℕ × Option ℕ)) (j : ℕ) (old bs : List ℕ) (k : ℕ) → WholeLength (CountsLeft is j) (old ++ bs) k → EndsLength (Spanned is) ((length_bits (fragments j) ++ old) ++ bs) k
 whole_ends is j old bs k w = subst (λ (g : List ℕ). EndsLength (Spanned is) g k) (sym (append_assoc (length_bits (fragments j)) old bs)) (ended is j (old ++ bs) k w)
 
 -- no bit is given of the length only where none has begun
-pub start_bits : (p : Place) → place_bits p ≡ [] → p ≡ place.Start
+pub start_bits : (p : LengthState) → state_bits p ≡ [] → p ≡ place.Start
 start_bits place.Start e = refl
-start_bits place.One e = cc
-start_bits (place.Number form.Few p l) e = cc
-start_bits (place.Number form.Many p l) e = cc
+start_bits place.FirstBitSet e = cc
+start_bits (place.Number form.Short p l) e = cc
+start_bits (place.Number form.Long p l) e = cc
 start_bits (place.Number form.Fragment p l) e = cc

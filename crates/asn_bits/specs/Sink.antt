@@ -1,7 +1,13 @@
--- What the functions on bits say of a bit.
-use Rattle.std.specs.Prelude.{ℕ, Bool, true, false}
+-- What the functions on bits say of a bit, and of octets with the fewer than 64 bits after them.
+use Rattle.std.specs.Prelude.{◌≡◌, ◌++◌, ℕ, Bool, true, false, List}
+use Rattle.asn_bits.specs.Numbers.{bits, unpacked}
 
 -- a bit as a number
 abbrev pub bit_of : Bool → ℕ
 bit_of true = 1
 bit_of false = 0
+
+-- octets `old` with the low `count` bits of `pending` after them became `new` with the low bits of another word: `added`
+-- follows them
+abbrev pub IsPut : List ℕ → ℕ → ℕ → List ℕ → List ℕ → ℕ → ℕ → Type 0
+IsPut old count pending added new left word = unpacked new ++ bits left word ≡ (unpacked old ++ bits count pending) ++ added

@@ -102,7 +102,7 @@ pub fn sink_of(alloc: Global, bits: &[bool]) -> Result<BitSink, AllocError> {
     Ok(sink)
 }
 
-/// The sink has exactly these bits: it says so as it stands, and behind its padding.
+/// The sink has exactly these bits: it says so as it stands, and with its padding.
 pub fn has_bits(
     rt: &impl Abort,
     alloc: Global,

@@ -13,7 +13,7 @@ use std::marker::Model;
 #[derive(Drop)]
 pub struct BitCursor<'a> {
     octets: &'a [u8],
-    // so many bits of the first octet are read
+    // how many bits of the first octet are read
     offset: u32,
 }
 
@@ -123,7 +123,7 @@ impl<'a> BitCursor<'a> {
         Some(number_at(octets, offset, k))
     }
 
-    /// Passes the next `k` bits. So many have to be left.
+    /// Passes the next `k` bits, which have to be left.
     #[inline(always)]
     pub fn pass(&mut self, k: u32)
         requires few { k ≤ 64 }
@@ -152,7 +152,7 @@ impl<'a> BitCursor<'a> {
     }
 
     /// Takes the next `count` octets, at any bit of the octets below, and adds them to `into`, whole octets
-    /// at once. So many have to be left; `octets_left` tells how many are. An `Err` is out of memory, and
+    /// at once. They have to be left; `octets_left` tells how many are. An `Err` is out of memory, and
     /// then nothing has changed.
     pub fn take_octets(&mut self, count: usize, into: &mut Vec<u8>) -> Result<(), AllocError>
         requires { 8 * count ≤ length self.old }
@@ -166,7 +166,7 @@ impl<'a> BitCursor<'a> {
     }
 }
 
-// the bit behind the first `offset` of an octet
+// the bit after the first `offset` of an octet
 fn bit_at(octet: u8, offset: u32) -> u8
     requires { offset < 8 }
     ensures { result ≡ octet / 2 ^ (7 - offset) % 2 }
@@ -174,7 +174,7 @@ fn bit_at(octet: u8, offset: u32) -> u8
     octet >> (7 - offset) & 1
 }
 
-// the number in the k bits behind the first `offset`, where a bit is asked for and all stand in eight octets
+// the number in the k bits after the first `offset`, where a bit is asked for and all stand in eight octets
 #[inline(always)]
 fn number_in_word(octets: &[u8], offset: u32, k: u32) -> Option<u64>
     requires begun { offset < 8 }
@@ -193,7 +193,7 @@ fn number_in_word(octets: &[u8], offset: u32, k: u32) -> Option<u64>
     None
 }
 
-// the number in the k bits behind the first `offset`
+// the number in the k bits after the first `offset`
 fn number_at(octets: &[u8], offset: u32, k: u32) -> u64
     requires begun { offset < 8 }
     requires few { k ≤ 64 }
@@ -209,7 +209,11 @@ fn number_at(octets: &[u8], offset: u32, k: u32) -> u64
         }
     }
     let count = (end + 7) / 8;
-    wide_field(joined(&octets[..count as usize]), 8 * count - end, k)
+    wide_field(
+        from_be_octets(&octets[..count as usize]),
+        8 * count - end,
+        k,
+    )
 }
 
 // the k bits of n above the last `below`
@@ -233,7 +237,7 @@ fn wide_field(n: u128, below: u32, k: u32) -> u64
 }
 
 // the number of up to nine octets
-fn joined(front: &[u8]) -> u128
+fn from_be_octets(front: &[u8]) -> u128
     requires { length front.now ≤ 9 }
     ensures { octets (length front.now) result ≡ front.now }
 {

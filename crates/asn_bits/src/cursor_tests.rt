@@ -47,8 +47,8 @@ fn reads_a_number(rt: &impl Abort, cursor: &BitCursor<'_>, k: u32, bits: &[bool]
     }
 }
 
-/// `n` in `k` bits is read behind so many bits.
-fn reads_behind(rt: &impl Abort, alloc: Global, offset: u32, k: u32, n: u64) -> Result<(), Fail>
+/// `n` in `k` bits is read after `offset` bits.
+fn reads_after(rt: &impl Abort, alloc: Global, offset: u32, k: u32, n: u64) -> Result<(), Fail>
     requires { k ≤ 64 }
 {
     let mut bits = some_bits(alloc, offset)?;
@@ -70,7 +70,7 @@ fn numbers_of_few_bits_are_read(rt: HostRuntime) -> Result<(), Fail> {
     for offset in 0..=8 {
         for k in 0..=10 {
             for n in 0..limit(k) {
-                reads_behind(&rt, rt.alloc(), offset, k, n)?;
+                reads_after(&rt, rt.alloc(), offset, k, n)?;
             }
         }
     }
@@ -82,7 +82,7 @@ fn numbers_of_many_bits_are_read(rt: HostRuntime) -> Result<(), Fail> {
     for offset in 0..=8 {
         for k in 11..=64 {
             for word in WORDS {
-                reads_behind(&rt, rt.alloc(), offset, k, first_bits(word, k))?;
+                reads_after(&rt, rt.alloc(), offset, k, first_bits(word, k))?;
             }
         }
     }

@@ -87,7 +87,7 @@ fn unions_have_the_numbers_at_the_ends(rt: HostRuntime) {
     }
 }
 
-/// What is known behind `given` bits of `word`, where the set has these numbers of `k` bits.
+/// What is known after `given` bits of `word`, where the set has these numbers of `k` bits.
 fn told_by_trial(numbers: &[u64], k: u32, word: u64, given: u32) -> FieldState
     requires few { k ≤ 64 }
     requires some { 1 ≤ given }

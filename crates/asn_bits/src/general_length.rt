@@ -4,15 +4,13 @@ ghost use Rattle.asn_bits.specs.Lengths.{blocks};
 ghost use Rattle.asn_bits.specs.Sink.{bit_of};
 ghost use Rattle.asn_bits.specs.Ranges.{Spanned, AtMost, Reaches, Meet};
 ghost use Rattle.asn_bits.specs.LengthBits.{BegunLengths, given, TellsLength, Goes, EndsLength, TellsFirst, Takes, StartsLength, StartsSome, LengthAhead, CountsLeft};
-ghost use Rattle.asn_bits.specs.LengthPlaces.{spans, place_bits, IsPlace, IsWhole, IsReading, Behind};
-ghost use Rattle.asn_bits.specs.declared.general_length.Place.TheVariants.{Number};
+ghost use Rattle.asn_bits.specs.LengthStates.{spans, state_bits, IsLengthState, IsWhole, IsReading, AfterLength};
+ghost use Rattle.asn_bits.specs.declared.general_length.LengthState.TheVariants.{Number};
 
 use crate::cursor::BitCursor;
 use crate::number_field::FieldState;
+use asn_values::profile::{BLOCK, MAX_BLOCKS};
 use std::marker::Model;
-
-/// How many items a block of a fragment has.
-const BLOCK: u64 = 16384;
 
 /// Counts from `low` to `high`.
 #[derive(Clone, Copy, PartialEq, Eq, Debug)]
@@ -21,46 +19,46 @@ pub struct Counts {
     pub high: u32,
 }
 
-/// The forms of a length, told by its first bits.
+/// The forms of a length determinant, told by its first bits.
 #[derive(Clone, Copy, PartialEq, Eq)]
 enum Form {
     /// 0, and a count in 7 bits
-    Few,
+    Short,
     /// 10, and a count from 128 on in 14 bits
-    Many,
+    Long,
     /// 11, and a number of blocks in 6 bits
     Fragment,
 }
 
-/// How much of a length was given.
+/// How many bits of a length determinant were given, and what they say.
 #[derive(Clone, Copy)]
-enum Place {
+enum LengthState {
     /// no bit
     Start,
     /// a 1
-    One,
+    FirstBitSet,
     /// the form, and of the number all bits but the last `left`
     Number { form: Form, prefix: u32, left: u32 },
 }
 
 /// The lengths of a list whose count lies in a set, read bit by bit without the items between
-/// them. Contracts see the set, the blocks of 16384 items that the fragments so far have, and the
+/// them. Contracts see the set, how many blocks of 16384 items the fragments so far have, and the
 /// bits given of the length begun.
 #[derive(Drop)]
 pub struct Lengths {
     first: Counts,
     second: Option<Counts>,
-    // the blocks of the fragments so far
-    come: u32,
-    place: Place,
+    // of the fragments so far
+    blocks_read: u32,
+    state: LengthState,
 }
 
 impl Model for Lengths {
     ghost Value = { BegunLengths };
 
-    ghost view = { λ s. record { counts = spans s.first s.second; blocks = s.come; bits = place_bits s.place } };
+    ghost view = { λ s. record { counts = spans s.first s.second; blocks = s.blocks_read; bits = state_bits s.state } };
 
-    ghost invariant = { λ s. IsReading (spans s.first s.second) s.come s.place };
+    ghost invariant = { λ s. IsReading (spans s.first s.second) s.blocks_read s.state };
 }
 
 impl Lengths {
@@ -72,71 +70,70 @@ impl Lengths {
         Lengths {
             first,
             second,
-            come: 0,
-            place: Place::Start,
+            blocks_read: 0,
+            state: LengthState::Start,
         }
     }
 
-    /// Takes the next bit and says what is known. At `Number`, so many items follow at once, and
-    /// `more` says whether another length comes behind them. A bit that no list goes on with is
+    /// Takes the next bit and says what is known. At `Number(n)`, `n` items follow at once, and
+    /// `more` says whether another length comes after them. A bit that no list of the set has here is
     /// `Dead`, and then nothing has changed.
     pub fn bit(&mut self, bit: bool) -> FieldState
         ensures state { TellsLength (Spanned self.old.counts) (given self.old ++ bit_of bit ∷ []) result }
         ensures first { TellsFirst (CountsLeft self.old.counts self.old.blocks) (self.old.bits ++ bit_of bit ∷ []) result }
         ensures goes { Goes self.old (bit_of bit ∷ []) result self.new }
     {
-        let Some(place) = further(self.place, bit) else {
+        let Some(state) = after_bit(self.state, bit) else {
             return FieldState::Dead;
         };
-        if !starts_some(self.first, self.second, self.come, place) {
+        if !is_viable(self.first, self.second, self.blocks_read, state) {
             return FieldState::Dead;
         }
-        if let Some((form, number)) = whole(place) {
-            let (items, come, next) = behind(self.come, form, number);
-            self.come = come;
-            self.place = next;
+        if let Some((form, number)) = completed(state) {
+            let (items, blocks_read, next) = after_length(self.blocks_read, form, number);
+            self.blocks_read = blocks_read;
+            self.state = next;
             return FieldState::Number(items);
         }
-        self.place = place;
+        self.state = state;
         FieldState::Alive
     }
 
-    /// Whether the bits so far end a length behind whose items another one comes.
+    /// Whether the bits so far end a length, after whose items another one comes.
     pub fn more(&self) -> bool
         ensures fragment { IsTrue result ↔ ((0 < self.now.blocks) × (self.now.bits ≡ [])) }
         ensures more { (n : ℕ) (e : EndsLength (Spanned self.now.counts) (given self.now) n) → IsTrue result ↔ (e.after ≢ []) }
     {
-        self.come > 0 && matches!(self.place, Place::Start)
+        self.blocks_read > 0 && matches!(self.state, LengthState::Start)
     }
 
-    /// The items that follow the length in the next bits. `Some` exactly where no bit of a length
-    /// was given and the next bits begin with a whole length that some list of the set goes on
-    /// with; else nothing has changed.
+    /// The items that follow the length in the next bits. `Some` iff no bit of a length was given, a
+    /// complete length determinant follows and the size allows it; else nothing has changed.
     pub fn take(&mut self, bits: &mut BitCursor<'_>) -> Option<u64>
         ensures some { IfSome result (λ n. Takes self.old bits.old bits.new n self.new) }
         ensures whole { IsSome result ↔ ((self.old.bits ≡ []) × LengthAhead (CountsLeft self.old.counts self.old.blocks) bits.old) }
         ensures none { IsNone result → (self.new ≡ self.old) × (bits.new ≡ bits.old) }
         ensures live { StartsSome (CountsLeft self.old.counts self.old.blocks) self.old.bits }
     {
-        if !matches!(self.place, Place::Start) {
+        if !matches!(self.state, LengthState::Start) {
             return None;
         }
         let before = bits.copied();
         if let Some((form, number)) = next_length(bits)
-            && starts_some(
+            && is_viable(
                 self.first,
                 self.second,
-                self.come,
-                Place::Number {
+                self.blocks_read,
+                LengthState::Number {
                     form,
                     prefix: number,
                     left: 0,
                 },
             )
         {
-            let (items, come, next) = behind(self.come, form, number);
-            self.come = come;
-            self.place = next;
+            let (items, blocks_read, next) = after_length(self.blocks_read, form, number);
+            self.blocks_read = blocks_read;
+            self.state = next;
             return Some(items);
         }
         *bits = before;
@@ -144,45 +141,45 @@ impl Lengths {
     }
 }
 
-/// Where a reader stands a bit further. `None` where the length is whole.
-fn further(place: Place, bit: bool) -> Option<Place>
-    requires { IsPlace place }
-    ensures place { IfSome result (λ p. IsPlace p) }
-    ensures bits { IfSome result (λ p. place_bits p ≡ place_bits place ++ bit_of bit ∷ []) }
-    ensures none { IsNone result → IsWhole place }
+/// The state after one more bit; `None` if the length was complete.
+fn after_bit(state: LengthState, bit: bool) -> Option<LengthState>
+    requires { IsLengthState state }
+    ensures state { IfSome result (λ p. IsLengthState p) }
+    ensures bits { IfSome result (λ p. state_bits p ≡ state_bits state ++ bit_of bit ∷ []) }
+    ensures none { IsNone result → IsWhole state }
 {
-    match place {
-        Place::Start => {
+    match state {
+        LengthState::Start => {
             if bit {
-                Some(Place::One)
+                Some(LengthState::FirstBitSet)
             } else {
-                Some(Place::Number {
-                    form: Form::Few,
+                Some(LengthState::Number {
+                    form: Form::Short,
                     prefix: 0,
                     left: 7,
                 })
             }
         }
-        Place::One => {
+        LengthState::FirstBitSet => {
             if bit {
-                Some(Place::Number {
+                Some(LengthState::Number {
                     form: Form::Fragment,
                     prefix: 0,
                     left: 6,
                 })
             } else {
-                Some(Place::Number {
-                    form: Form::Many,
+                Some(LengthState::Number {
+                    form: Form::Long,
                     prefix: 0,
                     left: 14,
                 })
             }
         }
-        Place::Number { form, prefix, left } => {
+        LengthState::Number { form, prefix, left } => {
             if left == 0 {
                 return None;
             }
-            Some(Place::Number {
+            Some(LengthState::Number {
                 form,
                 prefix: 2 * prefix + u32::from(bit),
                 left: left - 1,
@@ -191,63 +188,63 @@ fn further(place: Place, bit: bool) -> Option<Place>
     }
 }
 
-/// The form and the number of a length of which all bits were given.
-fn whole(place: Place) -> Option<(Form, u32)>
-    ensures some { IfSome result (λ x. place ≡ Number x.0 x.1 0) }
-    ensures none { IsNone result → IsWhole place → ⊥ }
+/// The form and the number of a length of which all bits were given; `None` where some are left.
+fn completed(state: LengthState) -> Option<(Form, u32)>
+    ensures some { IfSome result (λ x. state ≡ Number x.0 x.1 0) }
+    ensures none { IsNone result → IsWhole state → ⊥ }
 {
-    match place {
-        Place::Number { form, prefix, left } => {
+    match state {
+        LengthState::Number { form, prefix, left } => {
             if left == 0 {
                 Some((form, prefix))
             } else {
                 None
             }
         }
-        Place::Start => None,
-        Place::One => None,
+        LengthState::Start => None,
+        LengthState::FirstBitSet => None,
     }
 }
 
 /// The form and the number of the length in the next bits. `None` where they end before it does.
 fn next_length(bits: &mut BitCursor<'_>) -> Option<(Form, u32)>
-    ensures some { IfSome result (λ x. IsPlace (Number x.0 x.1 0) × (bits.old ≡ place_bits (Number x.0 x.1 0) ++ bits.new)) }
+    ensures some { IfSome result (λ x. IsLengthState (Number x.0 x.1 0) × (bits.old ≡ state_bits (Number x.0 x.1 0) ++ bits.new)) }
     ensures none { IsNone result → LengthAhead (λ n. ⊤) bits.old → ⊥ }
 {
     let first = bits.take_number(8)? as u32;
     if first < 128 {
-        return Some((Form::Few, first));
+        return Some((Form::Short, first));
     }
     if first < 192 {
         let second = bits.take_number(8)? as u32;
-        return Some((Form::Many, (first - 128) * 256 + second));
+        return Some((Form::Long, (first - 128) * 256 + second));
     }
     Some((Form::Fragment, first - 192))
 }
 
-/// Whether the next length of some list of the set, of which so many blocks have come, begins so.
-fn starts_some(first: Counts, second: Option<Counts>, blocks: u32, place: Place) -> bool
-    requires { IsPlace place }
-    ensures exact { IsTrue result ↔ StartsSome (CountsLeft (spans first second) blocks) (place_bits place) }
+/// Whether the next length of some list of the set begins with these bits, after fragments of `blocks` blocks.
+fn is_viable(first: Counts, second: Option<Counts>, blocks: u32, state: LengthState) -> bool
+    requires { IsLengthState state }
+    ensures exact { IsTrue result ↔ StartsSome (CountsLeft (spans first second) blocks) (state_bits state) }
     ensures few { IsTrue result → 16384 * blocks < 2 ^ 32 }
 {
-    let come = BLOCK * u64::from(blocks);
-    let (low, high) = left_with(place, blocks % 4 != 0);
+    let read = BLOCK * u64::from(blocks);
+    let (low, high) = remaining_counts_after(state, blocks % 4 != 0);
     match high {
-        Some(high) => reaches(first, second, come + low, Some(come + high)),
-        None => reaches(first, second, come + low, None),
+        Some(high) => reaches(first, second, read + low, Some(read + high)),
+        None => reaches(first, second, read + low, None),
     }
 }
 
-/// From which count on, and up to which, the items left have a next length that begins so. Behind
-/// a `closed` fragment fewer than a block are left.
-fn left_with(place: Place, closed: bool) -> (u64, Option<u64>)
-    requires { IsPlace place }
+/// The remaining counts whose next length determinant starts with these bits, from the least to the largest if
+/// there is one. After a fragment that is `closed`, of fewer than 4 blocks, less than a block is left.
+fn remaining_counts_after(state: LengthState, closed: bool) -> (u64, Option<u64>)
+    requires { IsLengthState state }
     ensures low { result.0 < 2 ^ 32 }
     ensures high { IfSome result.1 (λ high. high < 2 ^ 32) }
-    ensures exact { (n : ℕ) → ((result.0 ≤ n) × AtMost n result.1) ↔ (StartsLength n (place_bits place) × (closed ≡ true → n < 16384)) }
+    ensures exact { (n : ℕ) → ((result.0 ≤ n) × AtMost n result.1) ↔ (StartsLength n (state_bits state) × (closed ≡ true → n < 16384)) }
 {
-    let (low, high) = counts_with(place);
+    let (low, high) = counts_after(state);
     match high {
         Some(high) if closed => (low, Some(high.min(BLOCK - 1))),
         None if closed => (low, Some(BLOCK - 1)),
@@ -255,22 +252,22 @@ fn left_with(place: Place, closed: bool) -> (u64, Option<u64>)
     }
 }
 
-/// From which count on, and up to which, the first length begins so.
-fn counts_with(place: Place) -> (u64, Option<u64>)
-    requires { IsPlace place }
+/// The counts whose first length determinant starts with these bits, from the least to the largest if there is one.
+fn counts_after(state: LengthState) -> (u64, Option<u64>)
+    requires { IsLengthState state }
     ensures low { result.0 < 2 ^ 32 }
     ensures high { IfSome result.1 (λ high. high < 2 ^ 32) }
-    ensures exact { (n : ℕ) → ((result.0 ≤ n) × AtMost n result.1) ↔ StartsLength n (place_bits place) }
+    ensures exact { (n : ℕ) → ((result.0 ≤ n) × AtMost n result.1) ↔ StartsLength n (state_bits state) }
 {
-    match place {
-        Place::Start => (0, None),
-        Place::One => (128, None),
-        Place::Number { form, prefix, left } => {
+    match state {
+        LengthState::Start => (0, None),
+        LengthState::FirstBitSet => (128, None),
+        LengthState::Number { form, prefix, left } => {
             let low = scaled(prefix, left);
             let high = scaled(prefix + 1, left) - 1;
             match form {
-                Form::Few => (low, Some(high)),
-                Form::Many => (low.max(128), Some(high)),
+                Form::Short => (low, Some(high)),
+                Form::Long => (low.max(128), Some(high)),
                 Form::Fragment => fragments_with(low, high),
             }
         }
@@ -285,7 +282,8 @@ fn scaled(prefix: u32, left: u32) -> u64
     u64::from(prefix) << left
 }
 
-/// From which count on, and up to which, the first fragment has `low` to `high` blocks, of 1 to 4.
+/// The counts whose first fragment has `low` to `high` blocks, of 1 to 4, from the least to the largest if there is
+/// one.
 fn fragments_with(low: u64, high: u64) -> (u64, Option<u64>)
     requires ordered { low ≤ high }
     requires few { high < 64 }
@@ -293,9 +291,9 @@ fn fragments_with(low: u64, high: u64) -> (u64, Option<u64>)
     ensures high { IfSome result.1 (λ high. high < 2 ^ 32) }
     ensures exact { (n : ℕ) → ((result.0 ≤ n) × AtMost n result.1) ↔ ((16384 ≤ n) × (low ≤ blocks n) × (blocks n ≤ high)) }
 {
-    if low > 4 {
+    if low > MAX_BLOCKS {
         (1, Some(0))
-    } else if high < 4 {
+    } else if high < MAX_BLOCKS {
         (BLOCK * low.max(1), Some(BLOCK * high + BLOCK - 1))
     } else {
         (BLOCK * low.max(1), None)
@@ -318,18 +316,21 @@ fn meets(counts: Counts, low: u64, high: Option<u64>) -> bool
     least <= most && low <= most && high.is_none_or(|end| least <= end && low <= end)
 }
 
-/// Behind a whole length: the items that follow it, the blocks that have come with them, and where
-/// its reader stands.
-fn behind(blocks: u32, form: Form, number: u32) -> (u64, u32, Place)
+/// After a complete length: the items that follow it, the blocks that are read with them, and the state.
+fn after_length(blocks: u32, form: Form, number: u32) -> (u64, u32, LengthState)
     requires few { blocks + number < 2 ^ 32 }
-    ensures { Behind blocks form number (result.0, result.1, result.2) }
+    ensures { AfterLength blocks form number (result.0, result.1, result.2) }
 {
     match form {
-        Form::Fragment => (BLOCK * u64::from(number), blocks + number, Place::Start),
+        Form::Fragment => (
+            BLOCK * u64::from(number),
+            blocks + number,
+            LengthState::Start,
+        ),
         _ => (
             u64::from(number),
             blocks,
-            Place::Number {
+            LengthState::Number {
                 form,
                 prefix: number,
                 left: 0,

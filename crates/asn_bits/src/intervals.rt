@@ -5,14 +5,14 @@ ghost use Rattle.asn_bits.specs.Sets.{Among, AreOrdered, Meets};
 use std::marker::Model;
 
 /// The most intervals of a union.
-const MOST: usize = 4;
+const MAX_INTERVALS: usize = 4;
 
 /// A union of up to four intervals of numbers, without memory of its own. Contracts see the list of
 /// their ends, the low end of an interval before its high one.
 #[derive(Drop)]
 pub struct Intervals {
-    ends: [(u64, u64); MOST],
-    // so many of them count; what stands behind them means nothing
+    ends: [(u64, u64); MAX_INTERVALS],
+    // how many of them are the set's; the others are garbage
     count: usize,
 }
 
@@ -30,7 +30,7 @@ impl Intervals {
         ensures { result ≡ [] }
     {
         Intervals {
-            ends: [(0, 0); MOST],
+            ends: [(0, 0); MAX_INTERVALS],
             count: 0,
         }
     }
@@ -41,7 +41,7 @@ impl Intervals {
         ensures { result ≡ (low, high) ∷ [] }
     {
         Intervals {
-            ends: [(low, high); MOST],
+            ends: [(low, high); MAX_INTERVALS],
             count: 1,
         }
     }

@@ -1,15 +1,14 @@
 //! The reader of lengths against the tree of the bits that the lengths of all counts of a set have.
 ghost use Rattle.std.specs.Prelude.{◌≤◌};
 
-use crate::bit_lists::{add_number, add_octets, has_bits, octets_of, sink_of, some_bits};
+use crate::bit_lists::{add_number, octets_of, some_bits};
 use crate::{BitCursor, Counts, FieldState, Lengths};
+use asn_values::profile::BLOCK;
 use std::alloc::{AllocError, Global};
 use std::process::Abort;
 use std::test::Fail;
 
-const BLOCK: u64 = 16384;
-
-/// Behind the bits that lead here: where a 0 and a 1 lead, and how many items follow a length that ends here.
+/// After the bits that lead here: where a 0 and a 1 lead, and how many items follow a length that ends here.
 #[derive(Clone, Copy)]
 struct Node {
     zero: Option<usize>,
@@ -22,7 +21,7 @@ impl Node {
         if bit { self.one } else { self.zero }
     }
 
-    /// Whether other lengths come behind.
+    /// Whether other lengths follow.
     fn goes_on(self) -> bool {
         self.zero.is_some() || self.one.is_some()
     }
@@ -50,7 +49,7 @@ impl Tree {
         self.nodes.get(at)?.child(bit)
     }
 
-    /// Adds a length behind the bits that lead to `at`, and says where it ends.
+    /// Adds a length after the bits that lead to `at`, and says where it ends.
     fn add(&mut self, at: usize, length: &Length) -> Result<usize, AllocError> {
         let mut at = at;
         for bit in &length.bits {
@@ -83,7 +82,7 @@ impl Tree {
         Ok(next)
     }
 
-    /// What is known behind the bits that lead to `at`, if any do.
+    /// What is known after the bits that lead to `at`, if any do.
     fn told(&self, at: Option<usize>) -> FieldState {
         let Some(node) = at.and_then(|at| self.nodes.get(at)) else {
             return FieldState::Dead;
@@ -94,7 +93,7 @@ impl Tree {
         }
     }
 
-    /// Whether a length ends at `at` and others come behind it.
+    /// Whether a length ends at `at` and others follow it.
     fn has_more(&self, at: usize) -> bool {
         match self.nodes.get(at) {
             Some(node) => node.items.is_some() && node.goes_on(),
@@ -105,9 +104,9 @@ impl Tree {
 
 /// The bits of one length, and how many items follow it.
 #[derive(Drop)]
-struct Length {
-    bits: Vec<bool>,
-    items: u64,
+pub(crate) struct Length {
+    pub(crate) bits: Vec<bool>,
+    pub(crate) items: u64,
 }
 
 impl Length {
@@ -120,7 +119,7 @@ impl Length {
 }
 
 /// The lengths of `count` items, by the definition: fragments of 4 blocks at most, and what is left.
-fn lengths_of(alloc: Global, count: u64) -> Result<Vec<Length>, AllocError> {
+pub(crate) fn lengths_of(alloc: Global, count: u64) -> Result<Vec<Length>, AllocError> {
     let mut lengths = Vec::new(alloc);
     let mut left = count;
     for _ in 0..count / BLOCK {
@@ -204,12 +203,12 @@ fn walks(
             assert_eq!(rt; reader.more(), tree.has_more(at), "at a length of {count}");
         }
     }
-    assert_eq!(rt; reader.bit(false), FieldState::Dead, "behind all lengths");
-    assert_eq!(rt; reader.bit(true), FieldState::Dead, "behind all lengths");
+    assert_eq!(rt; reader.bit(false), FieldState::Dead, "after all lengths");
+    assert_eq!(rt; reader.bit(true), FieldState::Dead, "after all lengths");
     Ok(())
 }
 
-/// Takes lengths one after the other, behind so many bits: each as the tree has it, up to the first one that no
+/// Takes lengths one after the other, after a given number of bits: each as the tree has it, up to the first one that no
 /// count of the set goes on with.
 fn takes(
     rt: &impl Abort,
@@ -298,7 +297,7 @@ fn lengths_are_told_bit_by_bit(rt: HostRuntime) -> Result<(), Fail> {
 }
 
 /// Counts whose lengths are taken, whether a set has them or not.
-const TAKEN: [u64; 22] = [
+pub(crate) const TAKEN: [u64; 22] = [
     0, 1, 3, 5, 100, 127, 128, 200, 300, 16_383, 16_384, 16_385, 32_768, 49_152, 65_535, 65_536,
     65_537, 81_919, 81_920, 98_304, 114_689, 131_072,
 ];
@@ -358,67 +357,6 @@ fn lengths_of_no_list_are_not_taken(rt: HostRuntime) -> Result<(), Fail> {
                 takes(&rt, alloc, reader, &tree, both.as_slice(), 3)?;
             }
         }
-    }
-    Ok(())
-}
-
-#[test]
-fn lengths_are_added(rt: HostRuntime) -> Result<(), Fail> {
-    let alloc = rt.alloc();
-    for i in 0..17_000u32 {
-        adds_lengths(&rt, alloc, u64::from(i), i % 9)?;
-    }
-    for count in TAKEN {
-        for offset in 0..8 {
-            adds_lengths(&rt, alloc, count, offset)?;
-        }
-    }
-    adds_lengths(&rt, alloc, 268_435_455, 3)
-}
-
-/// `push_length` of a list of so many items, up to its last length.
-fn adds_lengths(rt: &impl Abort, alloc: Global, count: u64, offset: u32) -> Result<(), Fail> {
-    let mut bits = some_bits(alloc, offset)?;
-    let mut sink = sink_of(alloc, bits.as_slice())?;
-    let mut left = count;
-    for length in &lengths_of(alloc, count)? {
-        bits.extend_from_slice(length.bits.as_slice())?;
-        assert_eq!(rt; sink.push_length(left)?, length.items, "{left} of {count}");
-        left = left.saturating_sub(length.items);
-    }
-    has_bits(rt, alloc, sink, bits.as_slice())
-}
-
-/// `push_general_octets` of so many octets: each length, and behind it the octets that it counts.
-fn adds_octets(rt: &impl Abort, alloc: Global, count: u32, offset: u32) -> Result<(), Fail> {
-    let octets = octets_of(alloc, some_bits(alloc, count)?.as_slice())?;
-    let mut bits = some_bits(alloc, offset)?;
-    let mut sink = sink_of(alloc, bits.as_slice())?;
-    sink.push_general_octets(octets.as_slice())?;
-    let mut rest = octets.as_slice();
-    for length in &lengths_of(alloc, octets.len() as u64)? {
-        bits.extend_from_slice(length.bits.as_slice())?;
-        let Some((counted, others)) = rest.split_at_checked(usize::try_from(length.items)?) else {
-            panic!(rt; "the lengths of {count} bits count too many octets");
-        };
-        add_octets(&mut bits, counted)?;
-        rest = others;
-    }
-    has_bits(rt, alloc, sink, bits.as_slice())
-}
-
-#[test]
-fn octets_are_added_under_their_length(rt: HostRuntime) -> Result<(), Fail> {
-    for offset in 0..=8 {
-        for count in 0..=20 {
-            adds_octets(&rt, rt.alloc(), 8 * count, offset)?;
-        }
-        for count in [127, 128, 300, 16_383, 16_384, 16_385, 40_000] {
-            adds_octets(&rt, rt.alloc(), 8 * count, offset)?;
-        }
-    }
-    for count in [65_535, 65_536, 65_537, 81_919, 81_920, 147_457] {
-        adds_octets(&rt, rt.alloc(), 8 * count, 5)?;
     }
     Ok(())
 }

@@ -1,20 +1,19 @@
 //! General lengths, and octets under them (X.691, "general length determinant").
-ghost use Rattle.std.specs.Prelude.{◌≡◌, ℕ, ◌^◌, ◌<◌, ◌≤◌, ◌≤ℤ◌, ◌++◌, List, IfOk, OnOk, OnErr};
+ghost use Rattle.std.specs.Prelude.{◌≡◌, ◌+◌, ◌*◌, ◌/◌, ◌^◌, ◌<◌, ◌≤◌, ◌≤ℤ◌, ◌++◌, length, IfOk, OnOk, OnErr, vec_len, vec_capacity};
 ghost use Rattle.asn_values.specs.Fits.{lowest_integer, highest_integer};
 ghost use Rattle.asn_bits.specs.LengthBits.{first_length};
 ghost use Rattle.asn_bits.specs.Lengths.{general_octets};
 ghost use Rattle.asn_bits.specs.Numbers.{bits, least, least_signed};
+ghost use Rattle.asn_bits.specs.Sink.{IsPut};
 
 use crate::numbers::{octet_count, signed_octet_count, signed_residue};
-use crate::sink::BitSink;
+use crate::sink::{BitSink, put, put_octets};
+use asn_values::profile::{BLOCK, MAX_BLOCKS};
 use std::alloc::AllocError;
-
-/// How many items a block of a fragment has.
-const BLOCK: u64 = 16384;
 
 impl BitSink {
     /// Adds the next length of a list of which `n` items are left, and gives how many of them follow
-    /// it at once: all, or a fragment behind which another length comes, which may be 0. An `Err`
+    /// it at once: all, or a fragment, after which another length comes, which may be 0. An `Err`
     /// is out of memory, and then nothing has changed.
     pub fn push_length(&mut self, n: u64) -> Result<u64, AllocError>
         ensures ok { OnOk result (self.new ≡ self.old ++ (first_length n).bits) }
@@ -24,23 +23,6 @@ impl BitSink {
         let (k, code, items) = next_length(n);
         self.append(k, code)?;
         Ok(items)
-    }
-
-    /// Adds octets under their general length, fragments and all. An `Err` is out of memory, and
-    /// then only a part may be added.
-    pub fn push_general_octets(&mut self, octets: &[u8]) -> Result<(), AllocError>
-        ensures ok { OnOk result (self.new ≡ self.old ++ general_octets (λ u. u) octets.now) }
-        ensures err { OnErr result ((added : List ℕ) × (self.new ≡ self.old ++ added)) }
-    {
-        let mut rest = octets;
-        while rest.len() >= BLOCK as usize {
-            let count = self.push_length(rest.len() as u64)? as usize;
-            let (fragment, others) = rest.split_at(count);
-            self.push_octets(fragment)?;
-            rest = others;
-        }
-        self.push_length(rest.len() as u64)?;
-        self.push_octets(rest)
     }
 
     /// Adds the fewest octets of `n` under their general length, as X.691 encodes a
@@ -68,7 +50,35 @@ impl BitSink {
     }
 }
 
-// the next length of n items in so many bits, as a number, and how many items follow it at once
+// adds octets under their general length after the octets and the low `count` bits of `pending`, and gives how many
+// bits then wait in what word; there is room for them, for two words at each fragment and for three at the end
+pub(crate) fn put_general_octets(
+    into: &mut Vec<u8>,
+    count: u32,
+    pending: u64,
+    octets: &[u8],
+) -> (u32, u64)
+    requires waiting { count < 64 }
+    requires room { vec_len into.old + length octets.now + length octets.now / 16384 * 16 + 24 ≤ vec_capacity into.old }
+    ensures bits { IsPut into.old.items count pending (general_octets (λ u. u) octets.now) into.new.items result.0 result.1 }
+    ensures waiting { result.0 < 8 }
+    ensures room { vec_len into.new + 8 ≤ vec_capacity into.new }
+{
+    let mut rest = octets;
+    let mut waiting = (count, pending);
+    while rest.len() >= BLOCK as usize {
+        let (k, code, items) = next_length(rest.len() as u64);
+        let (fragment, others) = rest.split_at(items as usize);
+        let (count, pending) = put(into, waiting.0, waiting.1, k, code);
+        waiting = put_octets(into, count, pending, fragment);
+        rest = others;
+    }
+    let (k, code, _) = next_length(rest.len() as u64);
+    let (count, pending) = put(into, waiting.0, waiting.1, k, code);
+    put_octets(into, count, pending, rest)
+}
+
+// the next length of n items in k bits, as a number, and how many items follow it at once
 fn next_length(n: u64) -> (u32, u64, u64)
     ensures few { result.0 ≤ 64 }
     ensures fits { result.1 < 2 ^ result.0 }
@@ -80,7 +90,7 @@ fn next_length(n: u64) -> (u32, u64, u64)
     } else if n < BLOCK {
         (16, 0x8000 + n, n)
     } else {
-        let blocks = (n / BLOCK).min(4);
+        let blocks = (n / BLOCK).min(MAX_BLOCKS);
         (8, 0xc0 + blocks, BLOCK * blocks)
     }
 }

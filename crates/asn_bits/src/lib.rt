@@ -1,6 +1,7 @@
 //! Numbers and lengths as bits and octets: what the encoding rules share.
 #![tactic(auto)]
 
+mod bit_rows;
 pub mod cursor;
 pub mod general_length;
 pub mod intervals;
@@ -26,6 +27,8 @@ mod cursor_tests;
 mod field_tests;
 #[cfg(test)]
 mod length_tests;
+#[cfg(test)]
+mod length_writer_tests;
 #[cfg(test)]
 mod number_tests;
 #[cfg(test)]

@@ -1,4 +1,4 @@
-//! Numbers of a set in so many bits, read bit by bit or in one step.
+//! Numbers of a set in a given number of bits, read bit by bit or in one step.
 ghost use Rattle.std.specs.Prelude.{◌≡◌, ℕ, ◌-◌, ◌^◌, ◌<◌, ◌≤◌, ◌++◌, ◌∷◌, [], List, length, IfSome, IsNone};
 ghost use Rattle.asn_bits.specs.Numbers.{bits};
 ghost use Rattle.asn_bits.specs.Sets.{Among};
@@ -54,7 +54,7 @@ impl NumberField {
         }
     }
 
-    /// Takes the next bit, where one is left, and says what is known of the number. Bits behind
+    /// Takes the next bit, where one is left, and says what is known of the number. Bits after
     /// those that made it dead leave it dead.
     pub fn bit(&mut self, bit: bool) -> FieldState
         requires { length self.old.given < self.old.width }

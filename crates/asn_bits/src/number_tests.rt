@@ -5,7 +5,7 @@ ghost use Rattle.asn_values.specs.Fits.{lowest_integer, highest_integer};
 
 use crate::bit_lists::{add_number, has_bits, sink_of, some_bits};
 use crate::numbers::{octet_count, signed_octet_count, signed_residue, width};
-use crate::offsets::{above, number_above};
+use crate::offsets::{at_offset, offset_from};
 use std::alloc::Global;
 use std::process::Abort;
 use std::test::Fail;
@@ -98,7 +98,7 @@ fn octets_are_the_fewest(rt: HostRuntime) -> Result<(), Fail> {
     Ok(())
 }
 
-/// The fewest octets of `z` are as many as by trial, and so they are written behind any few bits; as a number they
+/// The fewest octets of `z` are as many as by trial, and so they are written after any few bits; as a number they
 /// are what they are by trial, and so are eight octets.
 #[tactic(auto, using(crate::proofs::Octets::signed_fits))]
 fn expect_signed(rt: &impl Abort, alloc: Global, z: i128, offsets: u32) -> Result<(), Fail>
@@ -150,16 +150,16 @@ fn offsets_are_counted_from_a_bound(rt: HostRuntime) {
         let low = i128::from(i) - 20;
         for steps in 0..=50u64 {
             let n = low + i128::from(steps);
-            assert_eq!(rt; above(low, n), steps);
-            assert_eq!(rt; number_above(low, steps), n);
+            assert_eq!(rt; offset_from(low, n), steps);
+            assert_eq!(rt; at_offset(low, steps), n);
         }
     }
     let lowest = i128::from(i64::MIN);
     let highest = i128::from(i64::MAX);
-    assert_eq!(rt; above(lowest, highest), u64::MAX);
-    assert_eq!(rt; above(lowest, lowest), 0);
-    assert_eq!(rt; above(lowest, -1), u64::MAX >> 1);
-    assert_eq!(rt; above(highest, highest), 0);
-    assert_eq!(rt; number_above(lowest, u64::MAX), highest);
-    assert_eq!(rt; number_above(highest, 0), highest);
+    assert_eq!(rt; offset_from(lowest, highest), u64::MAX);
+    assert_eq!(rt; offset_from(lowest, lowest), 0);
+    assert_eq!(rt; offset_from(lowest, -1), u64::MAX >> 1);
+    assert_eq!(rt; offset_from(highest, highest), 0);
+    assert_eq!(rt; at_offset(lowest, u64::MAX), highest);
+    assert_eq!(rt; at_offset(highest, 0), highest);
 }

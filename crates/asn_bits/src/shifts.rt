@@ -3,11 +3,10 @@ ghost use Rattle.std.specs.Prelude.{◌≡◌, ◌+◌, ◌*◌, ◌/◌, ◌%�
 ghost use Rattle.asn_bits.specs.Moves.{Shifted, Taken};
 ghost use Rattle.asn_bits.specs.Numbers.{unpacked};
 
-use crate::words::{low_octet, middle};
+use crate::words::{full_word, low_octet};
 use std::alloc::AllocError;
 
-// adds the octets that the bits behind the first `offset` begin with, `count` of them; an `Err` is out of
-// memory, and then nothing has changed
+// appends `count` octets, read from bit `offset` on; an `Err` is out of memory, and then nothing has changed
 pub(crate) fn push_front(
     bytes: &mut Vec<u8>,
     octets: &[u8],
@@ -28,8 +27,8 @@ pub(crate) fn push_front(
     Ok(())
 }
 
-// adds the octets of the low `count` bits of `pending` and of all of `octets` behind them, eight at once, and
-// gives what is left over in its low `count` bits
+// adds the octets of the low `count` bits of `pending`, followed by all of `octets`, eight at once, and gives what is
+// left over in its low `count` bits
 pub(crate) fn push_shifted(bytes: &mut Vec<u8>, count: u32, pending: u64, octets: &[u8]) -> u64
     requires few { (0 < count) × (count < 8) }
     requires room { vec_len bytes.old + length octets.now ≤ vec_capacity bytes.old }
@@ -56,12 +55,12 @@ fn fill_shifted(into: &mut [u8], count: u32, pending: u64, octets: &[u8]) -> u64
     let mut high = pending;
     let mut rest = octets;
     let mut place = 0;
-    while let Some((eight, behind)) = rest.split_first_chunk::<8>() {
+    while let Some((eight, others)) = rest.split_first_chunk::<8>() {
         let n = u64::from_be_bytes(*eight);
-        let word = middle(high, 64, n, count);
+        let word = full_word(high, 64, n, count);
         into[place..place + 8].copy_from_slice(&word.to_be_bytes());
         high = n;
-        rest = behind;
+        rest = others;
         place += 8;
     }
     high
@@ -78,7 +77,7 @@ fn push_single(bytes: &mut Vec<u8>, count: u32, pending: u64, octets: &[u8]) -> 
     let mut high = pending;
     for octet in octets {
         let n = *octet as u64;
-        bytes.push_reserved(low_octet(middle(high, 8, n, count)));
+        bytes.push_reserved(low_octet(full_word(high, 8, n, count)));
         high = n;
     }
     high

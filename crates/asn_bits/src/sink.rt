@@ -1,21 +1,24 @@
 //! The bits that an encoder has made so far, packed into octets as they come.
 ghost use Rattle.std.specs.Prelude.{◌≡◌, ℕ, ◌+◌, ◌*◌, ◌/◌, ◌%◌, ◌^◌, ◌<◌, ◌≤◌, ◌↔◌, List, [], ◌∷◌, ◌++◌, length, OnOk, OnErr, IsTrue, vec_len, vec_capacity};
 ghost use Rattle.asn_bits.specs.Numbers.{bits, packed, padding, unpacked};
-ghost use Rattle.asn_bits.specs.Sink.{bit_of};
+ghost use Rattle.asn_bits.specs.Lengths.{general_octets};
+ghost use Rattle.asn_bits.specs.Sink.{bit_of, IsPut};
 
+use crate::lengths::put_general_octets;
 use crate::shifts::push_shifted;
-use crate::words::{behind, middle, push_low, push_word};
+use crate::words::{full_word, push_low, push_word, shift_in};
+use asn_values::profile::BLOCK;
 use std::alloc::{AllocError, Global};
 use std::marker::Model;
 
 /// Bits that wait to become octets. Contracts see the list of the bits pushed, each 0 or 1.
 ///
-/// Whole octets stand in a vector, and the fewer than 64 bits behind them in a word. Where bits wait, the
-/// vector has room for eight octets more, so that they can always follow.
+/// Whole octets stand in a vector, and the fewer than 64 bits after them in a word. While bits are pending, 8
+/// octets of spare capacity are kept, so flushing cannot fail.
 #[derive(Drop)]
 pub struct BitSink {
     octets: Vec<u8>,
-    // the low `count` bits of it wait; what stands above them means nothing
+    // the low `count` bits of it are pending; the higher bits are garbage
     pending: u64,
     count: u32,
 }
@@ -78,15 +81,29 @@ impl BitSink {
         ensures ok { OnOk result (self.new ≡ self.old ++ unpacked octets.now) }
         ensures err { OnErr result (self.new ≡ self.old) }
     {
-        let left = self.count % 8;
         self.octets.reserve(octets.len() + 16)?;
-        push_low(&mut self.octets, self.count / 8, self.pending >> left);
-        if left == 0 {
-            self.octets.extend_from_slice(octets)?;
-        } else {
-            self.pending = push_shifted(&mut self.octets, left, self.pending, octets);
-        }
-        self.count = left;
+        let (count, pending) = put_octets(&mut self.octets, self.count, self.pending, octets);
+        self.count = count;
+        self.pending = pending;
+        Ok(())
+    }
+
+    /// Adds octets under their general length, fragments and all (X.691, "general length determinant"). An `Err`
+    /// is out of memory, and then nothing has changed.
+    pub fn push_general_octets(&mut self, octets: &[u8]) -> Result<(), AllocError>
+        ensures ok { OnOk result (self.new ≡ self.old ++ general_octets (λ u. u) octets.now) }
+        ensures err { OnErr result (self.new ≡ self.old) }
+    {
+        let lengths = octets.len() / BLOCK as usize * 16;
+        make_room(&mut self.octets, octets.len() + lengths + 24)?;
+        let (count, pending) = put_general_octets(
+            &mut self.octets,
+            self.count,
+            self.pending,
+            octets,
+        );
+        self.count = count;
+        self.pending = pending;
         Ok(())
     }
 
@@ -130,7 +147,7 @@ impl BitSink {
         if count == 0 || count + k >= 64 {
             return self.append_word(k, n);
         }
-        self.pending = behind(self.pending, k, n);
+        self.pending = shift_in(self.pending, k, n);
         self.count = count + k;
         Ok(())
     }
@@ -160,21 +177,21 @@ impl BitSink {
         ensures ok { OnOk result (self.new ≡ self.old ++ bits k n) }
         ensures err { OnErr result (self.new ≡ self.old) }
     {
-        make_room(&mut self.octets)?;
+        make_room(&mut self.octets, 24)?;
         let (count, pending) = put(&mut self.octets, self.count, self.pending, k, n);
         self.count = count;
         self.pending = pending;
         Ok(())
     }
 
-    // adds m in j bits and n in k bits behind it
+    // adds m in j bits, and then n in k bits
     pub(crate) fn append_both(&mut self, j: u32, m: u64, k: u32, n: u64) -> Result<(), AllocError>
         requires few { (j ≤ 64) × (k ≤ 64) }
         requires fits { (m < 2 ^ j) × (n < 2 ^ k) }
         ensures ok { OnOk result (self.new ≡ (self.old ++ bits j m) ++ bits k n) }
         ensures err { OnErr result (self.new ≡ self.old) }
     {
-        make_room(&mut self.octets)?;
+        make_room(&mut self.octets, 24)?;
         let (count, pending) = put(&mut self.octets, self.count, self.pending, j, m);
         let (count, pending) = put(&mut self.octets, count, pending, k, n);
         self.count = count;
@@ -190,41 +207,60 @@ fn has_room(octets: &Vec<u8>) -> bool
     octets.capacity() - octets.len() >= 24
 }
 
-// makes room for three words: two that go out and one that waits; where memory is needed, for as many octets
-// as a message of the road has, so that it is not moved as it grows
-fn make_room(octets: &mut Vec<u8>) -> Result<(), AllocError>
-    ensures ok { OnOk result (vec_len octets.new + 24 ≤ vec_capacity octets.new) }
+// makes room for `room` octets; where memory is needed, for 512 at least, so that a typical message never reallocates
+fn make_room(octets: &mut Vec<u8>, room: usize) -> Result<(), AllocError>
+    ensures ok { OnOk result (vec_len octets.new + room ≤ vec_capacity octets.new) }
     ensures items { octets.new.items ≡ octets.old.items }
     ensures len { vec_len octets.new ≡ vec_len octets.old }
     ensures capacity { vec_capacity octets.old ≤ vec_capacity octets.new }
 {
-    if !has_room(octets) {
-        octets.reserve(512)?;
+    if octets.capacity() - octets.len() < room {
+        octets.reserve(room.max(512))?;
     }
     Ok(())
 }
 
-// adds n in k bits behind the octets and the low `count` bits of `pending`, a word of eight octets at once,
+// adds n in k bits after the octets and the low `count` bits of `pending`, a word of eight octets at once,
 // and gives how many bits then wait in what word
-fn put(octets: &mut Vec<u8>, count: u32, pending: u64, k: u32, n: u64) -> (u32, u64)
+pub(crate) fn put(octets: &mut Vec<u8>, count: u32, pending: u64, k: u32, n: u64) -> (u32, u64)
     requires waiting { count < 64 }
     requires few { k ≤ 64 }
     requires fits { n < 2 ^ k }
     requires room { vec_len octets.old + 8 ≤ vec_capacity octets.old }
-    ensures bits { unpacked octets.new.items ++ bits result.0 result.1 ≡ (unpacked octets.old.items ++ bits count pending) ++ bits k n }
+    ensures bits { IsPut octets.old.items count pending (bits k n) octets.new.items result.0 result.1 }
     ensures waiting { result.0 < 64 }
     ensures len { vec_len octets.new ≤ vec_len octets.old + 8 }
     ensures capacity { vec_capacity octets.old ≤ vec_capacity octets.new }
 {
     let total = count + k;
     if total < 64 {
-        return (total, behind(pending, k, n));
+        return (total, shift_in(pending, k, n));
     }
     let left = total - 64;
     if count == 0 {
         push_word(octets, n);
     } else {
-        push_word(octets, middle(pending, k, n, left));
+        push_word(octets, full_word(pending, k, n, left));
     }
     (left, n)
+}
+
+// adds all bits of the octets after those octets and bits, in the same way
+pub(crate) fn put_octets(into: &mut Vec<u8>, count: u32, pending: u64, octets: &[u8]) -> (u32, u64)
+    requires waiting { count < 64 }
+    requires room { vec_len into.old + length octets.now + 16 ≤ vec_capacity into.old }
+    ensures bits { IsPut into.old.items count pending (unpacked octets.now) into.new.items result.0 result.1 }
+    ensures waiting { result.0 < 8 }
+    ensures len { vec_len into.new ≤ vec_len into.old + length octets.now + 7 }
+    ensures capacity { vec_capacity into.old ≤ vec_capacity into.new }
+{
+    let left = count % 8;
+    push_low(into, count / 8, pending >> left);
+    if left != 0 {
+        return (left, push_shifted(into, left, pending, octets));
+    }
+    if into.extend_from_slice(octets).is_err() {
+        unreachable!()
+    }
+    (left, pending)
 }

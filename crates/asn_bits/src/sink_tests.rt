@@ -8,7 +8,7 @@ use std::alloc::Global;
 use std::process::Abort;
 use std::test::Fail;
 
-/// `push_number` behind so many bits, and bits behind it.
+/// `push_number` after a given number of bits, and bits after it.
 fn adds_a_number(rt: &impl Abort, alloc: Global, offset: u32, k: u32, n: u64) -> Result<(), Fail>
     requires few { k ≤ 64 }
     requires fits { n < 2 ^ k }

@@ -137,7 +137,7 @@ fn counts_bits_and_octets(rt: HostRuntime) {
     assert_eq!(rt; octet_count(u64::MAX), 8);
 }
 
-// what a reader that tries all numbers of k bits says behind these bits: `given` of them, of which
+// what a reader that tries all numbers of k bits says after these bits: `given` of them, of which
 // the number is `prefix`
 fn by_trial(numbers: &Intervals, k: u32, prefix: u64, given: u32) -> FieldState
     requires few { k < 64 }

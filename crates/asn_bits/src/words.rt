@@ -34,8 +34,8 @@ pub(crate) fn low_octet(n: u64) -> u8
     (n & 0xff) as u8
 }
 
-// the last bits of high, and n in k bits behind them
-pub(crate) fn behind(high: u64, k: u32, n: u64) -> u64
+// high with n in k bits after it, truncated to 64 bits
+pub(crate) fn shift_in(high: u64, k: u32, n: u64) -> u64
     requires few { k < 64 }
     requires fits { n < 2 ^ k }
     ensures { result ≡ high * 2 ^ k % 2 ^ 64 + n }
@@ -43,12 +43,12 @@ pub(crate) fn behind(high: u64, k: u32, n: u64) -> u64
     high << k | n
 }
 
-// of n in k bits behind high, the word above the last `left` bits
-pub(crate) fn middle(high: u64, k: u32, n: u64, left: u32) -> u64
+// the 64 bits of `high ++ n`, n in k bits, above its lowest `left` bits
+pub(crate) fn full_word(high: u64, k: u32, n: u64, left: u32) -> u64
     requires fits { n < 2 ^ k }
     requires within { left ≤ k }
     requires few { (k < 64 + left) × (left < 64) }
     ensures { result ≡ (high * 2 ^ k + n) / 2 ^ left % 2 ^ 64 }
 {
-    behind(high, k - left, n >> left)
+    shift_in(high, k - left, n >> left)
 }

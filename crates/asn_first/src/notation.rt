@@ -2,7 +2,7 @@
 use asn_values::{AsnType, Field, Value};
 use std::alloc::{AllocError, Global};
 
-/// A value of the type as text: the components of a SEQUENCE that have a value, each behind its name,
+/// A value of the type as text: the components of a SEQUENCE that have a value, each after its name,
 /// joined by a comma and a SPACE (X.680, value notation, here without the outer braces).
 pub fn text_of(alloc: Global, ty: &AsnType, value: &Value) -> Result<String, AllocError> {
     let mut text = String::new(alloc);
@@ -145,7 +145,7 @@ fn put_item(text: &mut String, ty: &AsnType, place: u32) -> Result<(), AllocErro
     write!(text, "{place}")
 }
 
-/// Bits between apostrophes, with a B behind them.
+/// Bits between apostrophes, and a B.
 fn put_bits(text: &mut String, bits: &[bool]) -> Result<(), AllocError> {
     text.push_str("'")?;
     for bit in bits {
@@ -154,7 +154,7 @@ fn put_bits(text: &mut String, bits: &[bool]) -> Result<(), AllocError> {
     text.push_str("'B")
 }
 
-/// Octets in hexadecimal between apostrophes, with an H behind them.
+/// Octets in hexadecimal between apostrophes, and an H.
 fn put_octets(text: &mut String, octets: &[u8]) -> Result<(), AllocError> {
     text.push_str("'")?;
     for octet in octets {

@@ -7,8 +7,8 @@ ghost use Rattle.hex.specs.Hex.{IsBytes};
 
 use crate::notation::text_of;
 use crate::sample::sample_type;
-use asn_per::{decode, encode};
-use asn_rules::{DecodeFault, EncodeFault};
+use asn_per::Per;
+use asn_rules::{DecodeFault, EncodeFault, Rules, decode};
 use std::alloc::{AllocError, AllocFailed, Global};
 use std::io;
 use std::io::{BufRead, BufReader, ErrorKind, Read, Write};
@@ -23,7 +23,7 @@ pub enum FirstFault {
     /// The output could not be written.
     #[error("write failed")]
     Write = 2,
-    /// A growth was refused.
+    /// An allocation failed.
     #[error("memory")]
     Memory = 3,
 }
@@ -33,13 +33,14 @@ pub enum FirstFault {
 /// Where they are the complete encoding of a value of the sample type, two lines are written: the
 /// components that have a value, and the octets encoded again; the result is true. Otherwise the one
 /// line `! refused` is written, and the result is false. `Read` and `Write` come where the reader or
-/// the writer failed, `Memory` where a growth was refused, before any writing.
+/// the writer failed, `Memory` where an allocation failed, before any writing.
 pub fn first<R: Read, W: Write>(
     alloc: Global,
     input: &mut R,
     output: &mut W,
 ) -> Result<bool, FirstFault>
-    ensures answer { IfOk result (λ ok. Answered ok (R.remaining input.old) (W.contents output.old) (W.contents output.new)) }
+    ensures answer { IfOk result (λ ok.
+        Answered ok (R.remaining input.old) (W.contents output.old) (W.contents output.new)) }
     ensures unwritten { IfErr result (λ fault. IsUnwritten fault (W.contents output.old) (W.contents output.new)) }
 {
     let line = first_line(alloc, input)?;
@@ -82,7 +83,8 @@ fn first_line<R: Read>(alloc: Global, input: &mut R) -> Result<Vec<u8>, FirstFau
 
 /// The two lines of the answer, or `None` where the line is refused.
 fn answer_to(alloc: Global, line: &[u8]) -> Result<Option<String>, FirstFault>
-    ensures answer { IfOk result (λ answer. MatchOption answer (IsNoMessage line.now) (λ text. Shows line.now (string_bytes text))) }
+    ensures answer { IfOk result (λ answer.
+        MatchOption answer (IsNoMessage line.now) (λ text. Shows line.now (string_bytes text))) }
     ensures memory { IfErr result (λ fault. fault ≡ FirstFault.Memory) }
 {
     let octets = match hex::decode(alloc, line) {
@@ -91,12 +93,12 @@ fn answer_to(alloc: Global, line: &[u8]) -> Result<Option<String>, FirstFault>
         Err(_) => return Ok(None),
     };
     let ty = sample_type(alloc)?;
-    let value = match decode(alloc, &ty, octets.as_slice()) {
+    let value = match decode::<Per>(alloc, &ty, octets.as_slice()) {
         Ok(value) => value,
         Err(DecodeFault::Memory) => return Err(FirstFault::Memory),
         Err(_) => return Ok(None),
     };
-    let again = match encode(alloc, &ty, &value) {
+    let again = match Per::encode(alloc, &ty, &value) {
         Ok(again) => again,
         Err(EncodeFault::Memory) => return Err(FirstFault::Memory),
         Err(_) => unreachable!(),

@@ -1,6 +1,6 @@
-//! The calls on bits that grow. Each is asked again where memory was refused: the octets at the end show whether
+//! The calls on bits that allocate. Each is asked again where memory was refused: the octets at the end show whether
 //! the refused call had changed anything.
-use crate::outcome::{Outcome, after};
+use crate::outcome::{Outcome, judge};
 use asn_bits::{BitCursor, BitSink};
 use std::alloc::{AllocError, Global};
 
@@ -14,7 +14,7 @@ const TIMES: usize = 80;
 /// 4 bits, 15 octets and 4 bits.
 const GIVEN: &[u8] = b"\x98\x12\x34\x56\x78\x9a\xbc\xde\xf0\x12\x34\x56\x78\x9a\xbc\xd5";
 
-/// An octet, and behind it those 15.
+/// An octet, and then those 15.
 const TAKEN: &[u8] = b"\x03\x81\x23\x45\x67\x89\xab\xcd\xef\x01\x23\x45\x67\x89\xab\xcd";
 
 /// `push`, a whole octet at a time.
@@ -29,7 +29,7 @@ pub fn single_bits(alloc: Global) -> Result<Outcome, AllocError> {
             }
         }
     }
-    Ok(after(refused, holds(sink, TIMES, b"\xb2")))
+    Ok(judge(refused, holds(sink, TIMES, b"\xb2")))
 }
 
 /// `push_number`, in 64 bits.
@@ -42,7 +42,7 @@ pub fn numbers(alloc: Global) -> Result<Outcome, AllocError> {
             sink.push_number(64, NUMBER)?;
         }
     }
-    Ok(after(
+    Ok(judge(
         refused,
         holds(sink, TIMES, b"\x81\x23\x45\x67\x89\xab\xcd\xef"),
     ))
@@ -64,11 +64,10 @@ pub fn lengths(alloc: Global) -> Result<Outcome, AllocError> {
             return Ok(Outcome::Wrong);
         }
     }
-    Ok(after(refused, holds(sink, TIMES, b"\x81\x2c")))
+    Ok(judge(refused, holds(sink, TIMES, b"\x81\x2c")))
 }
 
-/// `push_general_octets`, of a fragment and an octet behind an octet. A refused call may have added a part, and is
-/// asked again of another sink.
+/// `push_general_octets`, of a fragment and an octet, after an octet.
 pub fn fragments(alloc: Global) -> Result<Outcome, AllocError> {
     let octets = vec![in alloc; 0x5a; 16_385]?;
     let mut whole = vec![in alloc; 0x98, 0xc1]?;
@@ -76,14 +75,11 @@ pub fn fragments(alloc: Global) -> Result<Outcome, AllocError> {
     whole.insert(whole.len() - 1, 1)?;
     let mut sink = BitSink::new(alloc);
     sink.push_number(8, 0x98)?;
-    if sink.push_general_octets(octets.as_slice()).is_ok() {
-        return Ok(after(false, ends_as(sink, whole.as_slice())));
+    let refused = sink.push_general_octets(octets.as_slice()).is_err();
+    if refused {
+        sink.push_general_octets(octets.as_slice())?;
     }
-    let is_part = begins(sink, whole.as_slice());
-    let mut again = BitSink::new(alloc);
-    again.push_number(8, 0x98)?;
-    again.push_general_octets(octets.as_slice())?;
-    Ok(after(true, is_part && ends_as(again, whole.as_slice())))
+    Ok(judge(refused, ends_as(sink, whole.as_slice())))
 }
 
 /// `push_least_octets`, of eight octets.
@@ -96,7 +92,7 @@ pub fn octets_of_numbers(alloc: Global) -> Result<Outcome, AllocError> {
             sink.push_least_octets(NUMBER)?;
         }
     }
-    Ok(after(
+    Ok(judge(
         refused,
         holds(sink, TIMES, b"\x08\x81\x23\x45\x67\x89\xab\xcd\xef"),
     ))
@@ -112,7 +108,7 @@ pub fn octets_of_signed_numbers(alloc: Global) -> Result<Outcome, AllocError> {
             sink.push_least_signed_octets(SIGNED)?;
         }
     }
-    Ok(after(
+    Ok(judge(
         refused,
         holds(sink, TIMES, b"\x08\x80\x00\x00\x00\x00\x00\x00\x01"),
     ))
@@ -130,10 +126,10 @@ pub fn octets(alloc: Global) -> Result<Outcome, AllocError> {
         }
         sink.push_number(4, 10)?;
     }
-    Ok(after(refused, holds(sink, 4 * TIMES, b"\x98\x12\x34\x56\x7a")))
+    Ok(judge(refused, holds(sink, 4 * TIMES, b"\x98\x12\x34\x56\x7a")))
 }
 
-/// `take_octets`, three at a time from the middle of an octet on, behind others.
+/// `take_octets`, three at a time from the middle of an octet on, after others.
 pub fn octets_taken(alloc: Global) -> Result<Outcome, AllocError> {
     let mut given = BitCursor::over(GIVEN);
     let mut taken = vec![in alloc; 3]?;
@@ -149,11 +145,11 @@ pub fn octets_taken(alloc: Global) -> Result<Outcome, AllocError> {
         }
     }
     let is_right = start == Some(9) && given.take_number(4) == Some(5) && taken.as_slice() == TAKEN;
-    Ok(after(refused, is_right))
+    Ok(judge(refused, is_right))
 }
 
-/// `pad`, of the last bits of a word behind so many others: where the room that a sink begins with ends, `pad`
-/// is what grows.
+/// `pad`, of the last bits of a word after 56 to 79 others: where the room that a sink begins with ends, `pad` is
+/// what allocates.
 pub fn paddings(alloc: Global) -> Result<Outcome, AllocError> {
     let mut refused = false;
     for words in TIMES - 24..TIMES {
@@ -170,16 +166,7 @@ pub fn paddings(alloc: Global) -> Result<Outcome, AllocError> {
             return Ok(Outcome::Wrong);
         }
     }
-    Ok(after(refused, true))
-}
-
-/// Whether the sink has one octet or more, which are the front of these.
-fn begins(sink: BitSink, whole: &[u8]) -> bool {
-    if !sink.ends_at_octet() {
-        return false;
-    }
-    let octets = sink.into_octets();
-    !octets.is_empty() && whole.starts_with(octets.as_slice())
+    Ok(judge(refused, true))
 }
 
 /// Whether the sink has these octets and nothing else.
@@ -187,7 +174,7 @@ fn ends_as(sink: BitSink, whole: &[u8]) -> bool {
     sink.ends_at_octet() && sink.into_octets().as_slice() == whole
 }
 
-/// Whether these octets are in the sink, so many times, and nothing else.
+/// Whether the sink has these octets `times` times, and nothing else.
 fn holds(sink: BitSink, times: usize, part: &[u8]) -> bool {
     if !sink.ends_at_octet() {
         return false;
@@ -195,10 +182,10 @@ fn holds(sink: BitSink, times: usize, part: &[u8]) -> bool {
     let octets = sink.into_octets();
     let mut rest = octets.as_slice();
     for _ in 0..times {
-        let Some(after) = rest.strip_prefix(part) else {
+        let Some(others) = rest.strip_prefix(part) else {
             return false;
         };
-        rest = after;
+        rest = others;
     }
     rest.is_empty()
 }

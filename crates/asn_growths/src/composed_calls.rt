@@ -1,7 +1,7 @@
-//! The calls on lists, choices and extension additions that grow.
-use crate::outcome::{Outcome, after};
-use asn_per::{decode, encode};
-use asn_rules::{DecodeFault, EncodeFault};
+//! The calls on lists, choices and extension additions that allocate.
+use crate::outcome::{Outcome, judge};
+use asn_per::Per;
+use asn_rules::{DecodeFault, EncodeFault, Rules, decode};
 use asn_values::{Alt, AsnType, Bounds, Checked, Field, Need, Size, TypeFault, Value, same};
 use std::alloc::{AllocError, Global};
 
@@ -17,7 +17,7 @@ pub fn check_a_composed_type(alloc: Global) -> Result<Outcome, AllocError> {
     let ty = composed_type(alloc)?;
     Ok(match Checked::new(alloc, ty) {
         Ok(checked) => match checked.get() {
-            AsnType::Seq { ext, .. } => after(false, ext.is_some()),
+            AsnType::Seq { ext, .. } => judge(false, ext.is_some()),
             _ => Outcome::Wrong,
         },
         Err(TypeFault::Memory) => Outcome::Memory,
@@ -29,8 +29,8 @@ pub fn check_a_composed_type(alloc: Global) -> Result<Outcome, AllocError> {
 pub fn encode_a_composed_value(alloc: Global) -> Result<Outcome, AllocError> {
     let ty = checked(alloc)?;
     let value = composed_value(alloc)?;
-    Ok(match encode(alloc, &ty, &value) {
-        Ok(octets) => after(false, octets.as_slice() == MESSAGE),
+    Ok(match Per::encode(alloc, &ty, &value) {
+        Ok(octets) => judge(false, octets.as_slice() == MESSAGE),
         Err(EncodeFault::Memory) => Outcome::Memory,
         Err(_) => Outcome::Wrong,
     })
@@ -40,8 +40,8 @@ pub fn encode_a_composed_value(alloc: Global) -> Result<Outcome, AllocError> {
 pub fn decode_a_composed_value(alloc: Global) -> Result<Outcome, AllocError> {
     let ty = checked(alloc)?;
     let value = composed_value(alloc)?;
-    Ok(match decode(alloc, &ty, MESSAGE) {
-        Ok(decoded) => after(false, same(&decoded, &value)),
+    Ok(match decode::<Per>(alloc, &ty, MESSAGE) {
+        Ok(decoded) => judge(false, same(&decoded, &value)),
         Err(DecodeFault::Memory) => Outcome::Memory,
         Err(_) => Outcome::Wrong,
     })

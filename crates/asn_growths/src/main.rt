@@ -1,5 +1,5 @@
 //! Makes each call of the libraries that can answer `Memory`, and tells of each what it answered. Run under a
-//! runtime that refuses one growth, it shows what that refusal changes.
+//! runtime that refuses one allocation, it shows what that refusal changes.
 #![tactic(auto)]
 
 ghost use Rattle.std.specs.Prelude.{◌≡◌, true, false, IfOk};
@@ -9,6 +9,7 @@ mod bit_calls;
 mod composed_calls;
 mod message_calls;
 mod outcome;
+mod session_calls;
 
 use bit_calls::{
     fragments, lengths, numbers, octets, octets_of_numbers, octets_of_signed_numbers, octets_taken,
@@ -20,14 +21,15 @@ use message_calls::{
     encode_simple_values,
 };
 use outcome::Outcome;
+use session_calls::{copy_a_type, feed_a_message, open_a_session};
 use std::alloc::{AllocError, Global};
 use std::io::Read;
 use std::process::ExitCode;
 
-/// The growth that the tests refuse, counted from the first of the process.
-const REFUSED: u32 = 600;
+/// The allocation that the tests refuse, counted from the first of the process.
+const REFUSED: u32 = 900;
 
-/// Takes from the input how many growths are left up to the one that is refused, uses up those before, and
+/// Takes from the input how many allocations are left up to the one that is refused, uses up those before, and
 /// makes each call twice. A line is written for a call that answers `Memory`, one for a call whose arguments could
 /// not be built, and the line `done` behind all. Status 1 where a call answers anything else than it should.
 fn main(rt: HostRuntime) -> ExitCode {
@@ -39,38 +41,59 @@ fn main(rt: HostRuntime) -> ExitCode {
         return ExitCode::from(2);
     };
     let alloc = rt.alloc();
-    if use_up(alloc, REFUSED.saturating_sub(left)).is_err() {
+    if burn(alloc, REFUSED.saturating_sub(left)).is_err() {
         return ExitCode::from(2);
     }
     let mut all_right = true;
     for _ in 0..2 {
-        all_right &= told(&rt, "Checked::new", check_a_type(alloc));
-        all_right &= told(&rt, "encode", encode_a_message(alloc));
-        all_right &= told(&rt, "decode", decode_a_message(alloc));
-        all_right &= told(&rt, "Checked::new:simple", check_simple_types(alloc));
-        all_right &= told(&rt, "encode:simple", encode_simple_values(alloc));
-        all_right &= told(&rt, "decode:simple", decode_simple_values(alloc));
-        all_right &= told(&rt, "Checked::new:composed", check_a_composed_type(alloc));
-        all_right &= told(&rt, "encode:composed", encode_a_composed_value(alloc));
-        all_right &= told(&rt, "decode:composed", decode_a_composed_value(alloc));
-        all_right &= told(&rt, "BitSink::push", single_bits(alloc));
-        all_right &= told(&rt, "BitSink::push_number", numbers(alloc));
-        all_right &= told(&rt, "BitSink::push_octets", octets(alloc));
-        all_right &= told(&rt, "BitCursor::take_octets", octets_taken(alloc));
-        all_right &= told(&rt, "BitSink::push_length", lengths(alloc));
-        all_right &= told(&rt, "BitSink::push_general_octets", fragments(alloc));
-        all_right &= told(&rt, "BitSink::push_least_octets", octets_of_numbers(alloc));
-        all_right &= told(
-            &rt,
-            "BitSink::push_least_signed_octets",
-            octets_of_signed_numbers(alloc),
-        );
-        all_right &= told(&rt, "BitSink::pad", paddings(alloc));
+        all_right &= message_calls_are_right(&rt, alloc);
+        all_right &= session_calls_are_right(&rt, alloc);
+        all_right &= bit_calls_are_right(&rt, alloc);
     }
     if rt.println("done").is_err() || !all_right {
         return ExitCode::from(1);
     }
     ExitCode::from(0)
+}
+
+/// Whether each call on whole types and messages answers as it should.
+fn message_calls_are_right(rt: &impl Print, alloc: Global) -> bool {
+    let mut right = report(rt, "Checked::new", check_a_type(alloc));
+    right &= report(rt, "encode", encode_a_message(alloc));
+    right &= report(rt, "decode", decode_a_message(alloc));
+    right &= report(rt, "Checked::new:simple", check_simple_types(alloc));
+    right &= report(rt, "encode:simple", encode_simple_values(alloc));
+    right &= report(rt, "decode:simple", decode_simple_values(alloc));
+    right &= report(rt, "Checked::new:composed", check_a_composed_type(alloc));
+    right &= report(rt, "encode:composed", encode_a_composed_value(alloc));
+    right &= report(rt, "decode:composed", decode_a_composed_value(alloc));
+    right
+}
+
+/// Whether each call on sessions does.
+fn session_calls_are_right(rt: &impl Print, alloc: Global) -> bool {
+    let mut right = report(rt, "Checked::copy", copy_a_type(alloc));
+    right &= report(rt, "open", open_a_session(alloc));
+    right &= report(rt, "feed", feed_a_message(alloc));
+    right
+}
+
+/// Whether each call on bits does.
+fn bit_calls_are_right(rt: &impl Print, alloc: Global) -> bool {
+    let mut right = report(rt, "BitSink::push", single_bits(alloc));
+    right &= report(rt, "BitSink::push_number", numbers(alloc));
+    right &= report(rt, "BitSink::push_octets", octets(alloc));
+    right &= report(rt, "BitCursor::take_octets", octets_taken(alloc));
+    right &= report(rt, "BitSink::push_length", lengths(alloc));
+    right &= report(rt, "BitSink::push_general_octets", fragments(alloc));
+    right &= report(rt, "BitSink::push_least_octets", octets_of_numbers(alloc));
+    right &= report(
+        rt,
+        "BitSink::push_least_signed_octets",
+        octets_of_signed_numbers(alloc),
+    );
+    right &= report(rt, "BitSink::pad", paddings(alloc));
+    right
 }
 
 /// The number that the digits in front are.
@@ -80,7 +103,7 @@ fn number_in(text: &[u8]) -> Option<u32> {
 }
 
 /// So many growths.
-fn use_up(alloc: Global, count: u32) -> Result<(), AllocError> {
+fn burn(alloc: Global, count: u32) -> Result<(), AllocError> {
     for _ in 0..count {
         let _: Vec<u8> = Vec::with_capacity(alloc, 1)?;
     }
@@ -88,7 +111,7 @@ fn use_up(alloc: Global, count: u32) -> Result<(), AllocError> {
 }
 
 /// Tells of a call what is not its usual answer; whether that is no fault of the call.
-fn told(rt: &impl Print, name: &str, outcome: Result<Outcome, AllocError>) -> bool
+fn report(rt: &impl Print, name: &str, outcome: Result<Outcome, AllocError>) -> bool
     ensures right { IfOk outcome (λ o. o ≡ outcomes.Right → result ≡ true) }
     ensures wrong { IfOk outcome (λ o. o ≡ outcomes.Wrong → result ≡ false) }
 {

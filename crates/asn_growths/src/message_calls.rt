@@ -1,7 +1,7 @@
-//! The calls on whole types and messages that grow.
-use crate::outcome::{Outcome, after};
-use asn_per::{decode, encode};
-use asn_rules::{DecodeFault, EncodeFault};
+//! The calls on whole types and messages that allocate.
+use crate::outcome::{Outcome, judge};
+use asn_per::Per;
+use asn_rules::{DecodeFault, EncodeFault, Rules, decode};
 use asn_values::{
     AsnType, Bounds, Checked, Field, Item, Need, Size, TextKind, TypeFault, Value, same,
 };
@@ -10,7 +10,7 @@ use std::alloc::{AllocError, Global};
 const NUMBER: i128 = 0x0123_4567_89ab_cdef;
 
 /// Four times the number in eight octets under their length; then `ok` and `flag` are there, FALSE and TRUE.
-const MESSAGE: &[u8] =
+pub const MESSAGE: &[u8] =
     b"\x08\x01\x23\x45\x67\x89\xab\xcd\xef\x08\x01\x23\x45\x67\x89\xab\xcd\xef\x08\x01\x23\x45\x67\x89\xab\xcd\xef\x08\x01\x23\x45\x67\x89\xab\xcd\xef\xd0";
 
 /// How often é stands in the text of `simple_values`: its octets are a fragment.
@@ -27,7 +27,7 @@ pub fn check_a_type(alloc: Global) -> Result<Outcome, AllocError> {
     let ty = message_type(alloc)?;
     Ok(match Checked::new(alloc, ty) {
         Ok(checked) => match checked.get() {
-            AsnType::Seq { root, .. } => after(false, root.len() == 5),
+            AsnType::Seq { root, .. } => judge(false, root.len() == 5),
             _ => Outcome::Wrong,
         },
         Err(TypeFault::Memory) => Outcome::Memory,
@@ -39,8 +39,8 @@ pub fn check_a_type(alloc: Global) -> Result<Outcome, AllocError> {
 pub fn encode_a_message(alloc: Global) -> Result<Outcome, AllocError> {
     let ty = checked(alloc)?;
     let value = message(alloc)?;
-    Ok(match encode(alloc, &ty, &value) {
-        Ok(octets) => after(false, octets.as_slice() == MESSAGE),
+    Ok(match Per::encode(alloc, &ty, &value) {
+        Ok(octets) => judge(false, octets.as_slice() == MESSAGE),
         Err(EncodeFault::Memory) => Outcome::Memory,
         Err(_) => Outcome::Wrong,
     })
@@ -50,8 +50,8 @@ pub fn encode_a_message(alloc: Global) -> Result<Outcome, AllocError> {
 pub fn decode_a_message(alloc: Global) -> Result<Outcome, AllocError> {
     let ty = checked(alloc)?;
     let value = message(alloc)?;
-    Ok(match decode(alloc, &ty, MESSAGE) {
-        Ok(decoded) => after(false, same(&decoded, &value)),
+    Ok(match decode::<Per>(alloc, &ty, MESSAGE) {
+        Ok(decoded) => judge(false, same(&decoded, &value)),
         Err(DecodeFault::Memory) => Outcome::Memory,
         Err(_) => Outcome::Wrong,
     })
@@ -62,7 +62,7 @@ pub fn check_simple_types(alloc: Global) -> Result<Outcome, AllocError> {
     let ty = simple_types(alloc)?;
     Ok(match Checked::new(alloc, ty) {
         Ok(checked) => match checked.get() {
-            AsnType::Seq { root, .. } => after(false, root.len() == 13),
+            AsnType::Seq { root, .. } => judge(false, root.len() == 13),
             _ => Outcome::Wrong,
         },
         Err(TypeFault::Memory) => Outcome::Memory,
@@ -75,8 +75,8 @@ pub fn encode_simple_values(alloc: Global) -> Result<Outcome, AllocError> {
     let ty = checked_simple_types(alloc)?;
     let value = simple_values(alloc)?;
     let spelt = simple_octets(alloc)?;
-    Ok(match encode(alloc, &ty, &value) {
-        Ok(octets) => after(false, octets.as_slice() == spelt.as_slice()),
+    Ok(match Per::encode(alloc, &ty, &value) {
+        Ok(octets) => judge(false, octets.as_slice() == spelt.as_slice()),
         Err(EncodeFault::Memory) => Outcome::Memory,
         Err(_) => Outcome::Wrong,
     })
@@ -87,14 +87,15 @@ pub fn decode_simple_values(alloc: Global) -> Result<Outcome, AllocError> {
     let ty = checked_simple_types(alloc)?;
     let value = simple_values(alloc)?;
     let spelt = simple_octets(alloc)?;
-    Ok(match decode(alloc, &ty, spelt.as_slice()) {
-        Ok(decoded) => after(false, same(&decoded, &value)),
+    Ok(match decode::<Per>(alloc, &ty, spelt.as_slice()) {
+        Ok(decoded) => judge(false, same(&decoded, &value)),
         Err(DecodeFault::Memory) => Outcome::Memory,
         Err(_) => Outcome::Wrong,
     })
 }
 
-fn checked(alloc: Global) -> Result<Checked, AllocError> {
+/// The type of the message.
+pub fn checked(alloc: Global) -> Result<Checked, AllocError> {
     Checked::new(alloc, message_type(alloc)?).map_err(|_| AllocError)
 }
 
@@ -139,7 +140,7 @@ fn field(alloc: Global, name: &str, ty: AsnType, need: Need) -> Result<Field, Al
 }
 
 /// The value that `MESSAGE` encodes.
-fn message(alloc: Global) -> Result<Value, AllocError> {
+pub fn message(alloc: Global) -> Result<Value, AllocError> {
     let inner = vec![in alloc; Some(Value::Bool(false)), Some(Value::Bool(true))]?;
     Ok(Value::Seq(vec![in alloc;
         Some(Value::Int(NUMBER)),

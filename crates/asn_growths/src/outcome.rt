@@ -14,7 +14,7 @@ pub enum Outcome {
 }
 
 /// The outcome of a call that was asked again where it was refused memory, and was right in the end.
-pub fn after(refused: bool, is_right: bool) -> Outcome
+pub fn judge(refused: bool, is_right: bool) -> Outcome
     ensures wrong { is_right ≡ false → result ≡ outcome.Wrong }
     ensures memory { is_right ≡ true → refused ≡ true → result ≡ outcome.Memory }
     ensures right { is_right ≡ true → refused ≡ false → result ≡ outcome.Right }

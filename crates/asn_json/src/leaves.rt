@@ -7,14 +7,15 @@ ghost use Rattle.asn_values.specs.Shape.{more_labels};
 ghost use Rattle.asn_values.specs.View.{label_of, more_labels_of};
 ghost use Rattle.asn_json.specs.Written.{integers, json_number, json_name, json_item, json_bits, json_octets, json_characters, label_names};
 
+use asn_values::profile::{HIGHEST_INTEGER, LOWEST_INTEGER};
 use asn_values::{Bounds, Item, is_between};
 use serde_json::Value as Json;
 use std::alloc::{AllocError, Global};
 
 /// All integers of the profile.
 pub(crate) const INTEGERS: Bounds = Bounds {
-    low: Some(i64::MIN as i128),
-    high: Some(i64::MAX as i128),
+    low: Some(LOWEST_INTEGER),
+    high: Some(HIGHEST_INTEGER),
     ext: false,
 };
 

@@ -4,3 +4,4 @@ pub mod Copies
 pub mod Meanings
 pub mod Faults
 pub mod Tables
+pub mod Spaces

@@ -4,3 +4,4 @@ pub mod Plain
 pub mod Accepted
 pub mod Known
 pub mod ModuleView
+pub mod Printing

@@ -5,6 +5,7 @@ ghost use Rattle.asn_values.specs.View.{range_of, size_range_of};
 ghost use Rattle.asn_module.specs.Bounds as spec;
 
 use asn_notation::{Limits, RangeNotation, SizeEnd, SizeNotation};
+use asn_values::profile::MAX_SIZE_BOUND;
 use asn_values::{Bounds, Size};
 
 /// The bounds of an INTEGER without a range.
@@ -86,7 +87,11 @@ pub(crate) fn any_size() -> Size
 fn size_bound(bound: u64) -> u32
     ensures { result ≡ spec.size_bound bound }
 {
-    if bound > 65_535 { 65_536 } else { bound as u32 }
+    if bound > MAX_SIZE_BOUND as u64 {
+        MAX_SIZE_BOUND + 1
+    } else {
+        bound as u32
+    }
 }
 
 /// The bounds of a size.

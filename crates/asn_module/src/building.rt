@@ -64,7 +64,7 @@ fn build_alternatives(
 /// The type that a notation stands for, where `names` are the types that are built.
 ///
 /// Err: `Missing` where it refers to a name that has no type there; `Constraint` where a constraint may not
-/// stand on the type that a name stands for; `Memory` where a growth was refused.
+/// stand on the type that a name stands for; `Memory` where an allocation failed.
 #[cycle(building)]
 #[tactic(auto, unfolding(crate::specs::Meaning::meant))]
 pub(crate) fn build(alloc: Global, names: &[Named], ty: &TypeNotation) -> Result<Built, Refusal>

@@ -5,14 +5,18 @@ use crate::fault::ModuleFault;
 use crate::graph::{first_on_cycle, indices_of, references_of};
 use crate::listing::{assignments_listed, first_twice, first_unknown};
 use asn_notation::{Lexeme, ModuleNotation, SyntaxFault, first_token, read_notation, skip_blank};
+use asn_values::profile::{MAX_LEVELS, MAX_TYPES};
 use asn_values::{Checked, TypeFault};
 use std::alloc::Global;
 
 /// Of a type at most this many levels are built, one more than the profile has.
-const LEVELS: u32 = 33;
+const LEVELS: u32 = MAX_LEVELS + 1;
 
 /// And at most this many types inside one another, one more than the profile has.
-const NODES: u32 = 10_001;
+const NODES: u32 = MAX_TYPES + 1;
+
+/// A type inside more others than these is no longer read.
+const READ_LEVELS: u32 = 256;
 
 /// Where the first character stands that begins no token.
 fn first_illegal(text: &str) -> Option<usize> {
@@ -28,28 +32,33 @@ fn first_illegal(text: &str) -> Option<usize> {
     }
 }
 
+/// The fault of the grammar at a token; None where there is none.
+fn fault_of_syntax(text: &str, fault: SyntaxFault) -> Option<ModuleFault> {
+    let length = text.len();
+    match fault {
+        SyntaxFault::Memory => Some(ModuleFault::Memory),
+        SyntaxFault::Unexpected { left } => Some(ModuleFault::Unexpected {
+            at: length.saturating_sub(left),
+        }),
+        SyntaxFault::OutOfProfile { left } => Some(ModuleFault::OutOfProfile {
+            at: length.saturating_sub(left),
+        }),
+        SyntaxFault::TooDeep { .. } => None,
+    }
+}
+
 /// The fault of a text that is not read, or of one whose types are not all of the profile.
 pub(crate) fn fault_of(alloc: Global, text: &str) -> ModuleFault {
     if let Some(at) = first_illegal(text) {
         return ModuleFault::Character { at };
     }
-    let length = text.len();
-    let found = match read_notation(alloc, text, 32) {
+    let found = match read_notation(alloc, text, READ_LEVELS) {
         Ok(notation) => fault_of_names(alloc, text, &notation),
-        Err(SyntaxFault::Memory) => return ModuleFault::Memory,
-        Err(SyntaxFault::Unexpected { left }) => {
-            return ModuleFault::Unexpected {
-                at: length.saturating_sub(left),
-            };
-        }
-        Err(SyntaxFault::OutOfProfile { left }) => {
-            return ModuleFault::OutOfProfile {
-                at: length.saturating_sub(left),
-            };
-        }
-        Err(SyntaxFault::TooDeep { left }) => {
-            fault_of_deep(alloc, text, length.saturating_sub(left))
-        }
+        Err(SyntaxFault::TooDeep { left }) => fault_of_deep(alloc, text, left),
+        Err(fault) => match fault_of_syntax(text, fault) {
+            Some(fault) => Ok(fault),
+            None => Err(ModuleFault::Memory),
+        },
     };
     match found {
         Ok(fault) => fault,
@@ -127,17 +136,19 @@ fn fault_of_names<'t>(
     }
 }
 
-/// The fault of a text in which the type at an octet lies inside 32 others.
-fn fault_of_deep(alloc: Global, text: &str, at: usize) -> Result<ModuleFault, ModuleFault> {
+/// The fault of a text in which a type that `left` octets of the text are left of lies inside too many others to be
+/// read. Of the assignments' types it is looked at no other.
+fn fault_of_deep(alloc: Global, text: &str, left: usize) -> Result<ModuleFault, ModuleFault> {
     if let Some(fault) = fault_in_names(alloc, text)? {
         return Ok(fault);
     }
     let listed = assignments_listed(alloc, text)?;
     let mut name = "";
     for assignment in &listed {
-        name = assignment.name;
+        if assignment.left >= left {
+            name = assignment.name;
+        }
     }
-    let _ = at;
     let name = String::from_str(alloc, name)?;
     Ok(ModuleFault::BadType {
         name,

@@ -32,7 +32,7 @@ pub enum ModuleFault {
     /// constraint that may not stand on the type that a name stands for.
     #[error("out of profile at {at}")]
     OutOfProfile { at: usize },
-    /// A growth was refused.
+    /// An allocation failed.
     #[error("memory")]
     Memory,
 }
@@ -58,7 +58,7 @@ impl From<Refusal> for ModuleFault {
 /// Why a type was not built.
 #[derive(Debug, Drop)]
 pub(crate) enum Refusal {
-    /// A growth was refused.
+    /// An allocation failed.
     Memory,
     /// It refers to a name that has no type, or none yet.
     Missing,

@@ -6,6 +6,7 @@ mod building;
 mod copying;
 mod diagnosis;
 mod expanding;
+mod explaining;
 mod fault;
 mod finding;
 mod graph;
@@ -13,15 +14,20 @@ mod items;
 mod known;
 mod listing;
 mod module;
+mod print;
+mod printing;
 mod reading;
 mod references;
 mod simple;
 mod table;
 mod twice;
 
+pub use explaining::explain;
 pub use fault::ModuleFault;
 pub use module::Module;
 pub use reading::read;
 
+#[cfg(test)]
+mod print_tests;
 #[cfg(test)]
 mod tests;

@@ -9,6 +9,8 @@ use std::alloc::Global;
 #[derive(Drop)]
 pub(crate) struct Listed<'t> {
     pub name: &'t str,
+    /// The number of octets of the text after the name.
+    pub left: usize,
     pub references: Vec<&'t str>,
 }
 
@@ -46,6 +48,7 @@ pub(crate) fn assignments_listed<'t>(
                 if is_assignment(after) {
                     listed.push(Listed {
                         name,
+                        left: after.len(),
                         references: Vec::new(alloc),
                     })?;
                 } else if let Some(last) = listed.last_mut() {

@@ -14,10 +14,8 @@ use crate::table::types_of;
 use crate::twice::is_one_assigned_twice;
 use asn_notation::{SyntaxFault, read_notation};
 use asn_values::Checked;
+use asn_values::profile::MAX_LEVELS;
 use std::alloc::Global;
-
-/// The most types inside one another in an assignment.
-const MOST_LEVELS: u32 = 32;
 
 /// An order to build the types of a text of the grammar in.
 fn building_order(alloc: Global, text: &str) -> Result<Vec<usize>, Refusal>
@@ -38,7 +36,7 @@ pub(crate) fn module_of(alloc: Global, text: &str) -> Result<Option<Module>, Ref
     ensures refused { IfOk result (λ o. o ≡ None → (m : ModuleTypes) → Accepted text.now m → ⊥) }
     ensures memory { IfErr result (λ e. e ≡ Refusal.Memory) }
 {
-    let notation = match read_notation(alloc, text, MOST_LEVELS) {
+    let notation = match read_notation(alloc, text, MAX_LEVELS) {
         Ok(notation) => notation,
         Err(SyntaxFault::Memory) => return Err(Refusal::Memory),
         Err(_) => return Ok(None),
@@ -62,12 +60,13 @@ pub(crate) fn module_of(alloc: Global, text: &str) -> Result<Option<Module>, Ref
 /// Err: the text is no module of the profile. Of several faults the first is told in this order: a character
 /// that begins no token; a token with which no module goes on; a name assigned twice; a reference to no
 /// assignment; references that lead back; a constraint on a type that it may not stand on; a type that is
-/// none of the profile. `Memory` where a growth was refused.
+/// none of the profile. `Memory` where an allocation failed.
 pub fn read(alloc: Global, text: &str) -> Result<Module, ModuleFault>
     // What is read is the module that the text is.
     ensures accepted { IfOk result (λ m. Accepted text.now (types_view m)) }
-    // A text that is a module is read, unless a growth was refused.
-    ensures refused { IfErr result (λ e. (e ≡ ModuleFault.Memory → ⊥) → (m : ModuleTypes) → Accepted text.now m → ⊥) }
+    // A text that is a module is read, unless an allocation failed.
+    ensures refused { IfErr result (λ e. (e ≡ ModuleFault.Memory → ⊥) → (m : ModuleTypes) →
+        Accepted text.now m → ⊥) }
 {
     match module_of(alloc, text) {
         Ok(Some(module)) => Ok(module),

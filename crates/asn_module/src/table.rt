@@ -22,7 +22,8 @@ fn of_profile(
     ty: AsnType,
     constraint: Option<bool>,
 ) -> Result<Option<Known>, Refusal>
-    ensures known { IfOk result (λ o. MatchOption o (InProfile (shape_of ty) → ⊥) (λ k. IsKnownOf ty constraint k)) }
+    ensures known { IfOk result (λ o. MatchOption o (InProfile (shape_of ty) → ⊥)
+        (λ k. IsKnownOf ty constraint k)) }
     ensures memory { IfErr result (λ e. e ≡ Refusal.Memory) }
 {
     match Checked::new(alloc, ty) {

@@ -1,6 +1,6 @@
 //! Modules that are read, and the faults of those that are not. Rules: X.680 as far as the profile has it; the
 //! places are counted by hand.
-use crate::{Module, ModuleFault, read};
+use crate::{Module, ModuleFault, explain, read};
 use asn_values::{AsnType, TypeFault};
 use std::alloc::Global;
 use std::process::Abort;
@@ -281,4 +281,45 @@ fn is_range(module: &Module, name: &str, low: i128, high: i128) -> bool {
         },
         None => false,
     }
+}
+
+#[test]
+fn faults_are_explained(rt: HostRuntime) -> Result<(), Fail> {
+    let alloc = rt.alloc();
+    for (text, want) in [
+        (
+            "M DEFINITIONS AUTOMATIC TAGS ::= BEGIN\n\nT ::= SET { a }\nEND",
+            "line 3, column 7: \"SET\" is outside the profile",
+        ),
+        (
+            "M DEFINITIONS AUTOMATIC TAGS ::= BEGIN\nT ::= SEQUENCE { a }\nEND",
+            "line 2, column 20: \"}\" where a type was expected",
+        ),
+        (
+            "M DEFINITIONS AUTOMATIC TAGS ::= BEGIN T ::= INTEGER (1 2) END",
+            "line 1, column 57: \"2\" where \"..\" or \")\" or \",\" was expected",
+        ),
+        (
+            "M DEFINITIONS AUTOMATIC TAGS ::= BEGIN -- \u{e9}\n\u{e9} END",
+            "line 2, column 1: no token begins with \"\u{e9}\"",
+        ),
+        (
+            "M DEFINITIONS",
+            "line 1, column 14: the end of the text where AUTOMATIC was expected",
+        ),
+        ("m", "line 1, column 1: \"m\" where a name was expected"),
+        (
+            "M DEFINITIONS AUTOMATIC TAGS ::= BEGIN T ::= U END",
+            "unknown U",
+        ),
+    ] {
+        match read(alloc, text) {
+            Ok(_) => assert!(rt; false, "{text}: read"),
+            Err(fault) => {
+                let said = explain(alloc, text, &fault)?;
+                assert!(rt; *said.as_str() == *want, "{text}: {said}");
+            }
+        }
+    }
+    Ok(())
 }

@@ -8,3 +8,4 @@ pub mod ModulesAgain
 pub mod Fits
 pub mod Exact
 pub mod Printing
+pub mod LexedWords

@@ -74,6 +74,18 @@ IsPrintable too_large = ⊥
 IsPrintable (sign s) = ⊤
 IsPrintable illegal = ⊥
 
+-- an identifier or a name, as a text can have it, is a whole word, and can be printed
+abbrev pub IsRead : Token → Type 0
+IsRead (identifier s) = IsPrintable (identifier s)
+IsRead (name s) = IsPrintable (name s)
+IsRead (word w) = ⊤
+IsRead out_of_profile = ⊤
+IsRead (number n) = ⊤
+IsRead (negative n) = ⊤
+IsRead too_large = ⊤
+IsRead (sign s) = ⊤
+IsRead illegal = ⊤
+
 -- tokens, each followed by the white space c
 abbrev pub spaced : ℕ → List Token → List ℕ
 spaced c [] = []

@@ -9,9 +9,10 @@ use crate::fault::SyntaxFault;
 use crate::lexer::{after_first, first_token};
 use crate::notation::{Constraint, Limits, ListSize, RangeNotation, SizeEnd, SizeNotation};
 use crate::token::{Lexeme, Sign, Word};
+use asn_values::profile::HIGHEST_INTEGER;
 
 /// The largest number of the profile.
-const LARGEST: u64 = 0x7FFF_FFFF_FFFF_FFFF;
+const LARGEST: u64 = HIGHEST_INTEGER as u64;
 
 #[tactic(auto, unfolding(crate::specs::Reading::begins_sign))]
 pub(crate) fn begins_sign(sign: Sign, text: &str) -> bool

@@ -11,7 +11,7 @@ use std::alloc::{AllocError, AllocFailed};
 /// its end.
 #[derive(Debug, Drop)]
 pub enum SyntaxFault {
-    /// A growth was refused.
+    /// An allocation failed.
     Memory,
     /// No module goes on with this token.
     Unexpected { left: usize },

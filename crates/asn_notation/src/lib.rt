@@ -13,7 +13,7 @@ mod token;
 mod types;
 
 pub use fault::SyntaxFault;
-pub use laws::{lines_are_read_again, one_module, tokens_are_read_again};
+pub use laws::{lines_are_read_again, one_module, tokens_are_read_again, words_are_whole};
 pub use lexer::{first_token, skip_blank};
 pub use modules::read_notation;
 pub use notation::{

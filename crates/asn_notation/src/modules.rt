@@ -16,7 +16,7 @@ use crate::types::type_at;
 use std::alloc::Global;
 
 #[tactic(auto, unfolding(crate::specs::Reading::name_at))]
-fn name_at<'t>(text: &'t str) -> Result<(&'t str, &'t str), SyntaxFault>
+pub(crate) fn name_at<'t>(text: &'t str) -> Result<(&'t str, &'t str), SyntaxFault>
     ensures value { Reads (λ s. s.now) result (spec.name_at (lexed text.now)) }
     ensures shorter { Shortens text.now result }
 {
@@ -67,7 +67,7 @@ fn assignments_at<'t>(
 
 /// The name of a module, and the text after BEGIN.
 #[tactic(auto, unfolding(crate::specs::Reading::heading_at))]
-fn heading_at<'t>(text: &'t str) -> Result<(&'t str, &'t str), SyntaxFault>
+pub(crate) fn heading_at<'t>(text: &'t str) -> Result<(&'t str, &'t str), SyntaxFault>
     ensures value { Reads (λ s. s.now) result (spec.heading_at (lexed text.now)) }
 {
     let (name, rest) = name_at(text)?;
@@ -100,7 +100,7 @@ fn whole_module<'t>(
 /// an assignment.
 ///
 /// Err: `Unexpected` and `OutOfProfile` at the first token with which no module goes on; `TooDeep` where
-/// this token begins a type inside `levels` others; `Memory` where a growth was refused.
+/// this token begins a type inside `levels` others; `Memory` where an allocation failed.
 pub fn read_notation<'t>(
     alloc: Global,
     text: &'t str,
@@ -108,7 +108,7 @@ pub fn read_notation<'t>(
 ) -> Result<ModuleNotation<'t>, SyntaxFault>
     // What is read is the module that the text is.
     ensures found { IfOk result (λ m. IsModuleText levels text.now (tree.module_view m)) }
-    // A text that is a module is read as it, unless a growth was refused.
+    // A text that is a module is read as it, unless an allocation failed.
     ensures only { (m : tree.ModuleTree) → IsModuleText levels text.now m → Gives tree.module_view result (Some m) }
 {
     whole_module(alloc, text, levels)

@@ -260,8 +260,8 @@ fn alternative_list<'t>(
     ),
     SyntaxFault,
 >
-    ensures value { Reads (λ l. (tree.branches_view l.0.items, option_map (λ v. tree.branches_view v.items) l.1)) result
-        (spec.marked_list (spec.alternative_at (spec.type_at levels)) (lexed text.now)) }
+    ensures value { Reads (λ l. (tree.branches_view l.0.items, option_map (λ v. tree.branches_view v.items) l.1))
+        result (spec.marked_list (spec.alternative_at (spec.type_at levels)) (lexed text.now)) }
     ensures shorter { Shortens text.now result }
 {
     let (first, rest) = alternative_at(alloc, text, levels)?;

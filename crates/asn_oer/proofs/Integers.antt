@@ -82,7 +82,7 @@ signed_code l u y z r s p q a b e =
 -- ---- all bounds
 
 -- a number not below one from 0 is from 0
-from_zero : (l : ℕ) (y : ℤ) → int_le (pos l) y ≡ true → int_le (pos 0) y ≡ true
+pub from_zero : (l : ℕ) (y : ℤ) → int_le (pos l) y ≡ true → int_le (pos 0) y ≡ true
 from_zero l (pos n) h = le-leb 0 n (omega arith)
 from_zero l (negsuc n) h = absurd (true≢false (sym h))
 

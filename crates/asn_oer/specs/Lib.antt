@@ -10,3 +10,7 @@ pub mod Constructed
 pub mod Kinds
 pub mod Preambles
 pub mod Sequences
+pub mod Reading
+pub mod Walk
+pub mod BitsWritten
+pub mod ElementsAhead

@@ -4,7 +4,7 @@ ghost use Rattle.asn_oer.specs.Kinds.{BooleansCompose, NullsCompose, IntegersCom
 
 /// The encodings of each kind of type of the profile are put together from those of its parts.
 ///
-/// An octet of a set, a number in so many octets or behind their count, octets behind a length, a
+/// An octet of a set, a number in a fixed count of octets or after their count, octets after a length, a
 /// field that is judged at its end: each kind of type is some of these, one after the other, of
 /// which the earlier may decide what follows, seen as a value of the type. The parts spell each
 /// value as its encoding does, and nothing else, so what holds of readers of the parts holds of

@@ -6,13 +6,15 @@ ghost use Rattle.asn_rules.specs.Parted.{SpellingsPart};
 ghost use Rattle.asn_rules.specs.Reading.{RulesTell};
 ghost use Rattle.asn_oer.specs.Oer.{oer, oer_fields, oer_octets};
 ghost use Rattle.asn_oer.specs.Rules.{oer_ruling};
+ghost use Rattle.asn_oer.specs.Walk.{oer_coding};
+ghost use Rattle.asn_walk.specs.Laws.{Laws};
 
 /// A spelling tells its value and where it ends, whatever follows it.
 ///
 /// Two encodings at the front of one list of octets are one, of one value. Octets are the encoding
 /// of one value only, and no encoding begins another. Two spellings of one type are one, of one
 /// value, or they part at an octet or inside sealed fields that stand in one place.
-pub fn spellings_tell()
+pub fn decoding_is_unique()
     ensures octets { UnitsTellTheValue oer_octets }
     ensures one_value { OneValue oer_octets }
     ensures none_begins { NoneBegins oer_octets }
@@ -33,8 +35,8 @@ pub fn live_by_parts()
     ensures { LiveByParts oer_fields oer }
 {}
 
-/// What an encoding may still follow, it may follow each beginning of.
-pub fn live_is_closed()
+/// If some encoding extends these octets, one extends each prefix of them.
+pub fn viability_is_prefix_closed()
     ensures { LiveIsClosed oer_fields oer }
 {}
 
@@ -46,7 +48,7 @@ pub fn answers_exclude()
 
 /// Of an encoding of at most 2 ^ 28 - 1 octets each beginning is live, so the octets of an encoding
 /// are at no place refused, however many of them have come.
-pub fn beginnings_are_live()
+pub fn prefixes_are_viable()
     ensures live { BeginningsAreLive oer_ruling }
     ensures not_refused { BeginningsAreNotRefused oer_ruling }
 {}
@@ -81,4 +83,9 @@ pub fn codec_laws()
     ensures one_front { RestFollowsOneFront oer_ruling }
     ensures cut { TellsTheCut oer_ruling }
     ensures one_answer { DecodersAgree oer_ruling }
+{}
+
+/// The parts of types and values in OER keep the laws of the walk over all types.
+pub fn walk_laws()
+    ensures { Laws oer_coding }
 {}

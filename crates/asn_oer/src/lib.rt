@@ -1,11 +1,40 @@
 //! Canonical OER (X.696).
 #![tactic(auto)]
 
+mod bits_writer;
+mod boolean_reader;
+mod counted_reader;
+mod elements;
+mod encoder;
+#[cfg(test)]
+mod encoder_tests;
+mod enumerated_writer;
+mod filled_reader;
+mod index_reader;
+mod integer_sizes;
+mod integer_writer;
 mod kinds;
 mod laws;
+mod length_reader;
+mod length_writer;
+mod octet_string_reader;
+mod octets;
+mod oer;
+mod preamble_reader;
+mod quantity_reader;
+#[cfg(test)]
+mod reader_tests;
+mod signed_reader;
+mod sizes;
+mod string_writer;
+mod utf8_reader;
+mod write_leaves;
 
+pub use elements::Elements;
+pub use encoder::encode;
 pub use kinds::kinds_compose;
 pub use laws::{
-    answers_exclude, beginnings_are_live, codec_laws, encoding_laws, live_by_parts, live_is_closed,
-    readers_tell, spellings_tell,
+    answers_exclude, codec_laws, decoding_is_unique, encoding_laws, live_by_parts,
+    prefixes_are_viable, readers_tell, viability_is_prefix_closed, walk_laws,
 };
+pub use oer::Oer;

@@ -28,7 +28,7 @@ constrained_empty r n e = subst (λ k. constrained k n ≡ []) (sym e) refl
 
 -- between such bounds a number takes no bits
 ranged_empty : (low high : Option ℤ) (m : Bool) → is_one_number (record { low = low; high = high; extensible = m }) ≡ true → (z : ℤ) → (m ≡ false) × (ranged low high z ≡ [])
-ranged_empty (Some l) (Some u) false e z = (refl, constrained_empty (suc (above l u)) _ (omega (arith, above_zero l u e)))
+ranged_empty (Some l) (Some u) false e z = (refl, constrained_empty (suc (above l u)) _ (omega (arith, above_zero l u (and_parts (int_le l u) (int_le u l) e).1)))
 ranged_empty low high true e z = absurd (true≢false (sym e))
 ranged_empty (Some l) None false e z = absurd (true≢false (sym e))
 ranged_empty None high false e z = absurd (true≢false (sym e))
@@ -70,7 +70,7 @@ sized_zero_empty {A} code z xs e fits = go z.extensible z.high e fits.1
     go true high e f = absurd (true≢false (sym e))
     go false None e f = absurd (true≢false (sym e))
     go false (Some h) e f =
-        let none : h ≡ 0 = eqb-true h 0 e in
+        let none : h ≡ 0 = eqb-true h 0 (and_parts (z.low == 0) (h == 0) e).1 in
         let w = and_parts (nat_le z.low (length xs)) (nat_le (length xs) h) f in
         let empty : xs ≡ [] = no_items xs (omega (arith, leb-true (length xs) h w.1)) in
         within_empty z.low h (map code xs) (omega arith) (ap (λ ys. joined (map code ys)) empty)

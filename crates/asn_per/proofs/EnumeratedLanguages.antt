@@ -16,7 +16,7 @@ use Rattle.asn_rules.specs.Spellings.{SpelledBy, FitsEither, either_code}
 use Rattle.asn_rules.proofs.Items.{numbers}
 use Rattle.asn_rules.proofs.Spellings.{same_after, same_map, same_fork, same_spelled, map_spelled, fork_spelled}
 use Rattle.asn_per.specs.Per.{per, constrained, small, rank}
-use Rattle.asn_per.specs.Kinds.{Values, SmallBelow, of_either, place_of, RootItems, Items}
+use Rattle.asn_per.specs.Kinds.{Values, SmallBelow, of_either, position_of, RootItems, Items}
 use Rattle.asn_per.proofs.BooleanAndNull.{below_spelled}
 use Rattle.asn_per.proofs.Enumerations.{rank_inside}
 use Rattle.asn_per.proofs.Ranks.{place_there, place_back}
@@ -38,10 +38,10 @@ root_code root _ = []
 root_spelled : (root : List Label) → has_twice int_eq (numbers root) ≡ false → Same (RootItems root) (SpelledBy (IsRootItem root) (root_code root))
 root_spelled root once = same_after (same_map (below_spelled (length root))) (map_spelled there back)
   where
-    there : (n : ℕ) → n < length root → IsRootItem root (item (place_of root n)) × (ones (constrained (length root) n) ≡ root_code root (item (place_of root n)))
+    there : (n : ℕ) → n < length root → IsRootItem root (item (position_of root n)) × (ones (constrained (length root) n) ≡ root_code root (item (position_of root n)))
     there n h = let w = place_there root once n h in (w.0, ap (λ k. ones (constrained (length root) k)) (sym w.1))
 
-    back : (v : Datum) → IsRootItem root v → (n : ℕ) × (n < length root) × (v ≡ item (place_of root n))
+    back : (v : Datum) → IsRootItem root v → (n : ℕ) × (n < length root) × (v ≡ item (position_of root n))
     back (item p) h = (rank root (number_at root p), rank_inside root p h, ap item (sym (place_back root once p h)))
     back _ h = absurd h
 

@@ -1,7 +1,9 @@
 -- Where the reader of an index of the root or of the additions stands, and what it cites at each exit.
-use Rattle.std.proofs.Common.{◌≡◌, ◌≢◌, ◌<◌, ◌-◌, ◌^◌, inl, inr, ℕ, List, [], ◌∷◌, length, Option, Some, None, sym, ap, ◌∙◌, subst, arith}
+use Rattle.std.proofs.Common.{◌≡◌, ◌<◌, ◌-◌, ◌^◌, inl, inr, ℕ, Bool, true, false, nat_lt, List, [], ◌∷◌, length, Option, Some, None, sym, ap, ◌∙◌, subst, arith}
+use Rattle.std.proofs.lemmas.Bool.{ltb-false}
 use Rattle.asn_bits.specs.Numbers.{width}
 use Rattle.asn_bits.specs.Sets.{InSet, Meets}
+use Rattle.asn_bits.specs.Sink.{bit_of}
 use Rattle.asn_bits.proofs.Unions.{set_meets}
 use Rattle.asn_bits.proofs.Widths.{width_fits}
 use Rattle.asn_rules.specs.Languages.{Inhabited, Lawful, Plain, Short, Refused}
@@ -12,6 +14,10 @@ use Rattle.asn_rules.proofs.Sets.{set_inhabited, set_lawful}
 use Rattle.asn_per.specs.Indexes.{IndexesOf}
 use Rattle.asn_per.specs.Kinds.{Below, SmallBelow}
 use Rattle.asn_per.specs.Per.{per_fields}
+use Rattle.asn_per.specs.Reading.{StopsAtMark}
+use Rattle.asn_rules.specs.Stops.{Stops}
+use Rattle.asn_rules.specs.declared.stop.Stop.{Stop}
+use Rattle.asn_rules.specs.declared.stop.Stop.TheVariants as stop
 use Rattle.asn_rules.specs.NumberSets.{Admits, up_to}
 use Rattle.asn_rules.proofs.NumberSets.{same_set}
 use Rattle.asn_per.proofs.PerFields.{per_fields_part}
@@ -40,27 +46,29 @@ indexes_lawful root (Some more) = fork_lawful (set_lawful 2 (width root) (λ n. 
 
 module _ (root more : ℕ) (some : 0 < root) where
   -- no bit comes
-  pub mark_wanted : Short per_fields (IndexesOf root (Some more)) []
+  mark_wanted : Short per_fields (IndexesOf root (Some more)) []
   mark_wanted = fork_short (fork_inhabited_zero (below_inhabited root some))
 
   -- where there is no addition, a 1 is refused
-  pub one_refused : more ≡ 0 → (us after : List ℕ) → us ≡ 1 ∷ after → Refused per_fields (IndexesOf root (Some more)) us (length after)
+  one_refused : more ≡ 0 → (us after : List ℕ) → us ≡ 1 ∷ after → Refused per_fields (IndexesOf root (Some more)) us (length after)
   one_refused none us after e =
       subst (λ (bs : List ℕ). Refused per_fields (IndexesOf root (Some more)) bs (length after)) (sym e)
       (fork_refused per_fields_part (fork_inhabited_zero (below_inhabited root some)) 1 after (λ f. absurd (omega arith)) (λ f i. absurd (let m = i.spelt.spelt.member in omega (arith, m))))
+
+  -- so stops the reader of the extension bit
+  pub index_stops : (us : List ℕ) (why : Stop) → StopsAtMark (nat_lt 0 more) us why → Stops per_fields (IndexesOf root (Some more)) us why
+  index_stops us stop.Short h = rw h (record { told = mark_wanted })
+  index_stops us (stop.Refused left why) h = rw h.3 (record { told = one_refused (omega (arith, ltb-false 0 more h.0)) us h.1 h.2 })
+  index_stops us stop.Memory h = absurd h
 
 -- without a mark the index is one of the root
 pub root_leads : (root : ℕ) (us : List ℕ) → Leads per_fields (Below (width root) root) us inl (IndexesOf root None) us
 root_leads root us = leads_map per_fields inl (Below (width root) root) us
 
--- and so it is behind a 0
-pub zero_leads : (root more mark : ℕ) (us after : List ℕ) → us ≡ mark ∷ after → mark ≡ 0 → Leads per_fields (Below (width root) root) after inl (IndexesOf root (Some more)) us
-zero_leads root more mark us after e f = leads_zero per_fields (e ∙ ap (λ (b : ℕ). b ∷ after) f)
+-- where the extension bit is 0, so it is with a mark
+pub zero_leads : (root more : ℕ) (us after : List ℕ) (b : Bool) → us ≡ bit_of b ∷ after → b ≡ false → Leads per_fields (Below (width root) root) after inl (IndexesOf root (Some more)) us
+zero_leads root more us after b e f = leads_zero per_fields (e ∙ ap (λ (x : Bool). bit_of x ∷ after) f)
 
--- the bit is 1
-pub is_one : (mark : ℕ) (us after : List ℕ) → us ≡ mark ∷ after → mark < 2 → mark ≢ 0 → us ≡ 1 ∷ after
-is_one mark us after e h n = let f : mark ≡ 1 = omega (arith, n) in e ∙ ap (λ (b : ℕ). b ∷ after) f
-
--- behind a 1 stands the index of an addition
-pub one_leads : (root more : ℕ) (us after : List ℕ) → us ≡ 1 ∷ after → Leads per_fields (SmallBelow more) after inr (IndexesOf root (Some more)) us
-one_leads root more us after e = leads_one per_fields e
+-- and after a 1 stands the index of an addition
+pub one_leads : (root more : ℕ) (us after : List ℕ) (b : Bool) → us ≡ bit_of b ∷ after → b ≡ true → Leads per_fields (SmallBelow more) after inr (IndexesOf root (Some more)) us
+one_leads root more us after b e f = leads_one per_fields (e ∙ ap (λ (x : Bool). bit_of x ∷ after) f)

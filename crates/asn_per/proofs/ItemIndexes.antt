@@ -16,7 +16,7 @@ use Rattle.asn_values.proofs.Parts.{left_false}
 use Rattle.asn_rules.specs.Components.{number_at}
 use Rattle.asn_rules.proofs.Items.{numbers, good_items}
 use Rattle.asn_per.specs.Per.{rank}
-use Rattle.asn_per.specs.Kinds.{place_of}
+use Rattle.asn_per.specs.Kinds.{position_of}
 use Rattle.asn_per.specs.Indexes.{AreRootItems}
 use Rattle.asn_per.proofs.Enumerations.{compare, rank_rises}
 use Rattle.asn_per.proofs.Ranks.{place_there, place_back}
@@ -79,19 +79,19 @@ item_kept is p d x good h e =
 
 -- of the items from a place on one has the index, and its number lies between these two
 pub record IsSought (ls : List Label) (index from : ℕ) (above below : ℤ) : Type 0 where
-  pub ahead : from ≤ place_of ls index
-  pub over : int_lt above (number_at ls (place_of ls index)) ≡ true
-  pub under : int_lt (number_at ls (place_of ls index)) below ≡ true
+  pub ahead : from ≤ position_of ls index
+  pub over : int_lt above (number_at ls (position_of ls index)) ≡ true
+  pub under : int_lt (number_at ls (position_of ls index)) below ≡ true
 
 module _ (ls : List Label) (good : AreRootItems ls) (index : ℕ) (inside : index < length ls) where
-  there : (place_of ls index < length ls) × (rank ls (number_at ls (place_of ls index)) ≡ index)
+  there : (position_of ls index < length ls) × (rank ls (number_at ls (position_of ls index)) ≡ index)
   there = place_there ls good.once index inside
 
   -- before the first item
   pub sought_starts : IsSought ls index 0 (negsuc 9223372036854775807) (pos 9223372036854775807)
   sought_starts =
-      let small = number_small ls (place_of ls index) good.narrow there.0 in
-      record { ahead = omega arith; over = over (number_at ls (place_of ls index)) small; under = under (number_at ls (place_of ls index)) small }
+      let small = number_small ls (position_of ls index) good.narrow there.0 in
+      record { ahead = omega arith; over = over (number_at ls (position_of ls index)) small; under = under (number_at ls (position_of ls index)) small }
     where
       over : (z : ℤ) → is_not_32_bits z ≡ false → int_lt (negsuc 9223372036854775807) z ≡ true
       over (pos n) e = refl
@@ -102,12 +102,12 @@ module _ (ls : List Label) (good : AreRootItems ls) (index : ℕ) (inside : inde
       under (negsuc n) e = refl
 
   -- an item that has the index is the one
-  pub sought_found : (p : ℕ) → p < length ls → rank ls (number_at ls p) ≡ index → p ≡ place_of ls index
-  sought_found p h e = sym (place_back ls good.once p h) ∙ ap (place_of ls) e
+  pub sought_found : (p : ℕ) → p < length ls → rank ls (number_at ls p) ≡ index → p ≡ position_of ls index
+  sought_found p h e = sym (place_back ls good.once p h) ∙ ap (position_of ls) e
 
   module _ (p : ℕ) (a b : ℤ) (s : IsSought ls index p a b) where
     -- past an item that is not the one
-    past : p ≢ place_of ls index → p + 1 ≤ place_of ls index
+    past : p ≢ position_of ls index → p + 1 ≤ position_of ls index
     past n = let k = s.ahead in omega (arith, n)
 
     -- an item that lies not above the lower number
@@ -119,28 +119,28 @@ module _ (ls : List Label) (good : AreRootItems ls) (index : ℕ) (inside : inde
     sought_not_below e = record { ahead = past (λ f. true≢false (sym s.under ∙ subst (λ (q : ℕ). int_lt (number_at ls q) b ≡ false) f e)); over = s.over; under = s.under }
 
     -- an item with another index is not the one
-    other : rank ls (number_at ls p) ≢ index → p ≢ place_of ls index
+    other : rank ls (number_at ls p) ≢ index → p ≢ position_of ls index
     other n e = n (ap (λ (q : ℕ). rank ls (number_at ls q)) e ∙ there.1)
 
     -- one with a lower index has a lower number
     pub sought_above : rank ls (number_at ls p) < index → IsSought ls index (p + 1) (number_at ls p) b
-    sought_above h = record { ahead = past (other (λ e. omega arith)); over = over (compare (number_at ls p) (number_at ls (place_of ls index))); under = s.under }
+    sought_above h = record { ahead = past (other (λ e. omega arith)); over = over (compare (number_at ls p) (number_at ls (position_of ls index))); under = s.under }
       where
-        over : (int_lt (number_at ls p) (number_at ls (place_of ls index)) ≡ true) ⊎ (number_at ls p ≡ number_at ls (place_of ls index)) ⊎ (int_lt (number_at ls (place_of ls index)) (number_at ls p) ≡ true)
-            → int_lt (number_at ls p) (number_at ls (place_of ls index)) ≡ true
+        over : (int_lt (number_at ls p) (number_at ls (position_of ls index)) ≡ true) ⊎ (number_at ls p ≡ number_at ls (position_of ls index)) ⊎ (int_lt (number_at ls (position_of ls index)) (number_at ls p) ≡ true)
+            → int_lt (number_at ls p) (number_at ls (position_of ls index)) ≡ true
         over (inl e) = e
         over (inr (inl e)) = absurd (let f : rank ls (number_at ls p) ≡ index = ap (rank ls) e ∙ there.1 in omega arith)
-        over (inr (inr e)) = absurd (omega (arith, rank_rises ls (number_at ls (place_of ls index)) (number_at ls p) e, there.1))
+        over (inr (inr e)) = absurd (omega (arith, rank_rises ls (number_at ls (position_of ls index)) (number_at ls p) e, there.1))
 
     -- one with a higher index has a higher number
     pub sought_below : index < rank ls (number_at ls p) → IsSought ls index (p + 1) a (number_at ls p)
-    sought_below h = record { ahead = past (other (λ e. omega arith)); over = s.over; under = under (compare (number_at ls (place_of ls index)) (number_at ls p)) }
+    sought_below h = record { ahead = past (other (λ e. omega arith)); over = s.over; under = under (compare (number_at ls (position_of ls index)) (number_at ls p)) }
       where
-        under : (int_lt (number_at ls (place_of ls index)) (number_at ls p) ≡ true) ⊎ (number_at ls (place_of ls index) ≡ number_at ls p) ⊎ (int_lt (number_at ls p) (number_at ls (place_of ls index)) ≡ true)
-            → int_lt (number_at ls (place_of ls index)) (number_at ls p) ≡ true
+        under : (int_lt (number_at ls (position_of ls index)) (number_at ls p) ≡ true) ⊎ (number_at ls (position_of ls index) ≡ number_at ls p) ⊎ (int_lt (number_at ls p) (number_at ls (position_of ls index)) ≡ true)
+            → int_lt (number_at ls (position_of ls index)) (number_at ls p) ≡ true
         under (inl e) = e
         under (inr (inl e)) = absurd (let f : rank ls (number_at ls p) ≡ index = ap (rank ls) (sym e) ∙ there.1 in omega arith)
-        under (inr (inr e)) = absurd (omega (arith, rank_rises ls (number_at ls p) (number_at ls (place_of ls index)) e, there.1))
+        under (inr (inr e)) = absurd (omega (arith, rank_rises ls (number_at ls p) (number_at ls (position_of ls index)) e, there.1))
 
     -- it comes before the last
     pub sought_ends : length ls ≤ p → ⊥

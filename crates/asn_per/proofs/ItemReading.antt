@@ -15,7 +15,7 @@ use Rattle.asn_rules.proofs.Forks.{same_flip, same_inhabited}
 use Rattle.asn_rules.proofs.Leads.{Leads, leads_on, leads_map, leads_same}
 use Rattle.asn_bits.proofs.Unions.{set_meets}
 use Rattle.asn_rules.proofs.Spellings.{same_after}
-use Rattle.asn_per.specs.Kinds.{place_of, Below, SmallBelow, RootItems, Items, RootItemsBut, IndexesBut, IsRootPlace, of_either}
+use Rattle.asn_per.specs.Kinds.{position_of, Below, SmallBelow, RootItems, Items, RootItemsBut, IndexesBut, IsRootPosition, of_either}
 use Rattle.asn_per.specs.Per.{per, per_fields}
 use Rattle.asn_per.specs.Indexes.{IsItemWithin, IndexesOf, index_of}
 use Rattle.asn_rules.specs.NumberSets.{Admits, up_to}
@@ -38,13 +38,13 @@ index_back root (Some p) n some h = (omega arith, omega (arith, h.0), h.1)
 
 module _ (root : List Label) (p : Option ℕ) (high : ℕ) (is : high + 1 ≡ length root) where
   -- the reader of an index answers for the item
-  pub root_leads : (us : List ℕ) → Leads per_fields (Plain (InSet (width (high + 1)) (λ n. Admits (up_to high (index_of root p)) n))) us (λ n. item (place_of root n)) (RootItemsBut root p) us
+  pub root_leads : (us : List ℕ) → Leads per_fields (Plain (InSet (width (high + 1)) (λ n. Admits (up_to high (index_of root p)) n))) us (λ n. item (position_of root n)) (RootItemsBut root p) us
   root_leads us =
       let less : high ≡ length root - 1 = omega arith in
       let some : 0 < length root = omega arith in
-      subst (λ (w : ℕ). Leads per_fields (Plain (InSet (width w) (λ n. Admits (up_to high (index_of root p)) n))) us (λ n. item (place_of root n)) (RootItemsBut root p) us) (sym is)
-      (subst (λ (h : ℕ). Leads per_fields (Plain (InSet (width (length root)) (λ n. Admits (up_to h (index_of root p)) n))) us (λ n. item (place_of root n)) (RootItemsBut root p) us) (sym less)
-      (leads_on (leads_same per_fields us (same_set 2 (width (length root)) (λ n h. index_there root p n some h) (λ n h. index_back root p n some h))) (leads_map per_fields (λ n. item (place_of root n)) (Plain (InSet (width (length root)) (IndexesBut root p))) us)))
+      subst (λ (w : ℕ). Leads per_fields (Plain (InSet (width w) (λ n. Admits (up_to high (index_of root p)) n))) us (λ n. item (position_of root n)) (RootItemsBut root p) us) (sym is)
+      (subst (λ (h : ℕ). Leads per_fields (Plain (InSet (width (length root)) (λ n. Admits (up_to h (index_of root p)) n))) us (λ n. item (position_of root n)) (RootItemsBut root p) us) (sym less)
+      (leads_on (leads_same per_fields us (same_set 2 (width (length root)) (λ n h. index_there root p n some h) (λ n h. index_back root p n some h))) (leads_map per_fields (λ n. item (position_of root n)) (Plain (InSet (width (length root)) (IndexesBut root p))) us)))
 
   -- an item that is not left out has an index that the reader admits
   pub some_index : Inhabited (RootItemsBut root p) → Meets (λ n. Admits (up_to high (index_of root p)) n) 0 (width (high + 1))
@@ -57,7 +57,7 @@ module _ (root : List Label) (p : Option ℕ) (high : ℕ) (is : high + 1 ≡ le
 -- ---- without a mark
 
 -- an item that may be left out is one of the root
-root_place : (root : List Label) (p : Option ℕ) → IsItemWithin root closed_labels p → IsRootPlace root p
+root_place : (root : List Label) (p : Option ℕ) → IsItemWithin root closed_labels p → IsRootPosition root p
 root_place root None h = tt
 root_place root (Some q) h = h
 
@@ -86,14 +86,14 @@ module _ (root more : List Label) where
 
   -- the item of an index
   abbrev item_at : ℕ ⊎ ℕ → Datum
-  item_at (inl n) = item (place_of root n)
+  item_at (inl n) = item (position_of root n)
   item_at (inr k) = item (length root + k)
 
   -- an index behind the mark is that of an item
   item_there : (i : ℕ ⊎ ℕ) (cs : List Chunk) → Branch 0 inl (Below (width (length root)) (length root)) i cs ⊎ Branch 1 inr (SmallBelow (length more)) i cs → Items root (marked_labels more) (item_at i) cs
   item_there i cs (inl b) = record {
-    source = inl (item (place_of root b.value));
-    spelt = record { side = inl (record { value = item (place_of root b.value); rest = b.rest; spelt = record { source = b.value; spelt = b.spelt; seen = refl }; seen = refl; same = b.same }) };
+    source = inl (item (position_of root b.value));
+    spelt = record { side = inl (record { value = item (position_of root b.value); rest = b.rest; spelt = record { source = b.value; spelt = b.spelt; seen = refl }; seen = refl; same = b.same }) };
     seen = ap item_at b.seen;
   }
   item_there i cs (inr b) = record {

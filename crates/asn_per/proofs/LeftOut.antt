@@ -16,7 +16,7 @@ use Rattle.asn_rules.specs.Listed.{IsOther, Spelt}
 use Rattle.asn_rules.proofs.Items.{numbers}
 use Rattle.asn_rules.proofs.Spellings.{same_after, same_map, same_spelled, set_spelled, map_spelled}
 use Rattle.asn_per.specs.Per.{per, rank}
-use Rattle.asn_per.specs.Kinds.{Values, place_of, IndexesBut, IsRootPlace, EnumeratedButOne, UnboundedButOne}
+use Rattle.asn_per.specs.Kinds.{Values, position_of, IndexesBut, IsRootPosition, EnumeratedButOne, UnboundedButOne}
 use Rattle.asn_per.proofs.Enumerations.{rank_inside}
 use Rattle.asn_per.proofs.EnumeratedLanguages.{root_once}
 use Rattle.asn_per.proofs.MarkedIntegers.{unconstrained_spelled}
@@ -51,21 +51,21 @@ other_item p q n = go (p == q) refl
 
 module _ (root : List Label) (once : has_twice int_eq (numbers root) ≡ false) where
   -- an index that is not left out is that of a value
-  item_there : (p : Option ℕ) → IsRootPlace root p → (n : ℕ) → IndexesBut root p n
-      → (Fits (enumerated root closed_labels) (item (place_of root n)) × IsOther (option_map item p) (item (place_of root n))) × (ones (bits (width (length root)) n) ≡ per (enumerated root closed_labels) (item (place_of root n)))
+  item_there : (p : Option ℕ) → IsRootPosition root p → (n : ℕ) → IndexesBut root p n
+      → (Fits (enumerated root closed_labels) (item (position_of root n)) × IsOther (option_map item p) (item (position_of root n))) × (ones (bits (width (length root)) n) ≡ per (enumerated root closed_labels) (item (position_of root n)))
   item_there None inside n h =
       let w = place_there root once n h in ((omega (arith, w.0), tt), ap (λ (k : ℕ). ones (bits (width (length root)) k)) (sym w.1))
   item_there (Some p) inside n h =
       let w = place_there root once n h.0 in
-      ((omega (arith, w.0), other_item p (place_of root n) (λ e. h.1 (sym w.1 ∙ ap (λ (i : ℕ). rank root (number_at root i)) (sym e)))), ap (λ (k : ℕ). ones (bits (width (length root)) k)) (sym w.1))
+      ((omega (arith, w.0), other_item p (position_of root n) (λ e. h.1 (sym w.1 ∙ ap (λ (i : ℕ). rank root (number_at root i)) (sym e)))), ap (λ (k : ℕ). ones (bits (width (length root)) k)) (sym w.1))
 
   -- and each value that is not left out has such an index
-  item_back : (p : Option ℕ) → IsRootPlace root p → (v : Datum) → Fits (enumerated root closed_labels) v × IsOther (option_map item p) v → (n : ℕ) × IndexesBut root p n × (v ≡ item (place_of root n))
+  item_back : (p : Option ℕ) → IsRootPosition root p → (v : Datum) → Fits (enumerated root closed_labels) v × IsOther (option_map item p) v → (n : ℕ) × IndexesBut root p n × (v ≡ item (position_of root n))
   item_back None inside (item q) h =
       let l : q < length root = omega (arith, h.0) in (rank root (number_at root q), rank_inside root q l, ap item (sym (place_back root once q l)))
   item_back (Some p) inside (item q) h =
       let l : q < length root = omega (arith, h.0) in
-      (rank root (number_at root q), (rank_inside root q l, λ e. absurd (true≢false (sym (eq-eqb p q (sym (place_back root once p inside) ∙ ap (place_of root) (sym e) ∙ place_back root once q l)) ∙ h.1))), ap item (sym (place_back root once q l)))
+      (rank root (number_at root q), (rank_inside root q l, λ e. absurd (true≢false (sym (eq-eqb p q (sym (place_back root once p inside) ∙ ap (position_of root) (sym e) ∙ place_back root once q l)) ∙ h.1))), ap item (sym (place_back root once q l)))
   item_back p inside _ h = absurd h.0
 
   -- an index has so many bits

@@ -1,5 +1,5 @@
 -- Spellings in PER that have at least one chunk.
-use Rattle.std.proofs.Common.{◌≡◌, ◌≢◌, ◌≤◌, ◌<◌, ◌-◌, ◌/◌, ◌^◌, ◌⊎◌, ℕ, zero, suc, Bool, true, false, List, [], ◌∷◌, ◌++◌, length, map, replicate, Option, Some, None, inl, inr, refl, sym, ◌∙◌, ap, subst, arith, nat_lt}
+use Rattle.std.proofs.Common.{◌≡◌, ◌≢◌, ◌≤◌, ◌<◌, ◌-◌, ◌/◌, ◌^◌, ◌⊎◌, ℕ, zero, suc, Bool, true, false, ◌==◌, ◌&&◌, List, [], ◌∷◌, ◌++◌, length, map, replicate, Option, Some, None, inl, inr, refl, sym, ◌∙◌, ap, subst, arith, nat_lt}
 use Rattle.asn_values.specs.Shape.{SizeRange}
 use Rattle.std.proofs.lemmas.Bool.{true≢false, ltb-false, eq-eqb, cases_lt}
 use Rattle.std.proofs.Math.Nat.{pow-zero}
@@ -78,6 +78,9 @@ joined_not_empty : {A B : Type 0} (code : A → List B) (a : A) (n : ℕ) → 0 
 joined_not_empty code a zero h g = absurd (omega arith)
 joined_not_empty code a (suc n) h g = left_not_empty (code a) _ g
 
+both_zero : (l n : ℕ) → l ≡ 0 → n ≡ 0 → ((l == 0) && (n == 0)) ≡ true
+both_zero l n a b = rw (eq-eqb l 0 a, eq-eqb n 0 b) refl
+
 -- a list with a size in the root that is not one of elements without chunks, fixed or zero
 within_not_empty : {A : Type 0} (code : A → List Chunk) (a : A) (low : ℕ) (high : Option ℕ) (items : List (List Chunk)) → items ≡ map code (replicate low a)
     → size_above (record { low = low; high = high; extensible = false }) ≡ false → is_zero_size (record { low = low; high = high; extensible = false }) ≡ false
@@ -90,7 +93,7 @@ within_not_empty code a low (Some n) items e h z (inl f) =
 within_not_empty code a low (Some n) items e h z (inr f) = elim (cases_lt 0 low) [
   | inl l ↦ right_not_empty (ones (constrained (suc (n - low)) (length items - low))) (joined items) (subst (λ xs. joined xs ≢ []) (sym e) (joined_not_empty code a low l f))
   | inr l ↦
-      let some : n ≢ 0 = λ s. true≢false (sym (eq-eqb n 0 s) ∙ z) in
+      let some : n ≢ 0 = λ s. true≢false (sym (both_zero low n (omega (arith, l)) s) ∙ z) in
       left_not_empty _ (joined items) (ones_not_empty _ (constrained_not_empty (suc (n - low)) _ (omega arith)))
 ]
 

@@ -9,7 +9,7 @@ use Rattle.asn_bits.proofs.Octets.{least_from_below}
 use Rattle.asn_rules.specs.Components.{number_at}
 use Rattle.asn_rules.proofs.Items.{numbers, one_place}
 use Rattle.asn_per.specs.Per.{rank}
-use Rattle.asn_per.specs.Kinds.{place_of}
+use Rattle.asn_per.specs.Kinds.{position_of}
 use Rattle.asn_per.proofs.Enumerations.{compare, rank_yes, rank_no, rank_rises, rank_below, rank_le, rank_inside, rank_once, lt_not_self, lt_also}
 
 -- the least number that passes a test passes it, where one within reach does
@@ -75,15 +75,15 @@ has_index (l ∷ ls) d n h = go (λ m k. has_index ls (or_parts _ _ d).1 m k) (c
 
 module _ (ls : List Label) (once : has_twice int_eq (numbers ls) ≡ false) where
   -- what is found by an index is an item, which has it
-  pub place_there : (n : ℕ) → n < length ls → (place_of ls n < length ls) × (rank ls (number_at ls (place_of ls n)) ≡ n)
+  pub place_there : (n : ℕ) → n < length ls → (position_of ls n < length ls) × (rank ls (number_at ls (position_of ls n)) ≡ n)
   place_there n h =
       let i = has_index ls once n h in
       let found : (rank ls (number_at ls i.place) == n) ≡ true = subst (λ (k : ℕ). (k == n) ≡ true) (sym i.index) (eq-eqb n n refl) in
       let last : i.place ≤ length ls = omega (arith, i.inside) in
-      (omega (arith, least_from_below (λ p. rank ls (number_at ls p) == n) (length ls) 0 i.place (omega arith) found, i.inside), eqb-true (rank ls (number_at ls (place_of ls n))) n (least_holds (λ p. rank ls (number_at ls p) == n) (length ls) 0 i.place (omega arith) (omega (arith, last)) found))
+      (omega (arith, least_from_below (λ p. rank ls (number_at ls p) == n) (length ls) 0 i.place (omega arith) found, i.inside), eqb-true (rank ls (number_at ls (position_of ls n))) n (least_holds (λ p. rank ls (number_at ls p) == n) (length ls) 0 i.place (omega arith) (omega (arith, last)) found))
 
   -- an item is found by its index
-  pub place_back : (p : ℕ) → p < length ls → place_of ls (rank ls (number_at ls p)) ≡ p
+  pub place_back : (p : ℕ) → p < length ls → position_of ls (rank ls (number_at ls p)) ≡ p
   place_back p h =
       let w = place_there (rank ls (number_at ls p)) (rank_inside ls p h) in
-      rank_once ls (place_of ls (rank ls (number_at ls p))) p once w.0 h w.1
+      rank_once ls (position_of ls (rank ls (number_at ls p))) p once w.0 h w.1

@@ -1,7 +1,7 @@
 -- Where a writer of items under a size stands: what is in front of them, and one length after the other.
-use Rattle.std.proofs.Common.{⊎_elim, ◌≡◌, ◌≤◌, ◌<◌, ◌+◌, ◌-◌, ◌*◌, ◌^◌, ℕ, suc, Bool, true, false, ◌&&◌, nat_lt, nat_le, Option, Some, List, [], ◌∷◌, ◌++◌, length, take, drop, refl, sym, ◌∙◌, ap, subst, arith, append_assoc}
+use Rattle.std.proofs.Common.{⊎_elim, ◌≡◌, ◌≤◌, ◌<◌, ◌+◌, ◌-◌, ◌*◌, ◌^◌, ℕ, suc, Bool, true, false, ◌&&◌, nat_lt, nat_le, Option, Some, None, List, [], ◌∷◌, ◌++◌, length, take, drop, refl, sym, ◌∙◌, ap, subst, arith, append_assoc}
 use Rattle.std.proofs.lemmas.Bool.{cases_lt, and_parts, leb-true, lt-ltb, le-ltb, ltb-true, ltb-false}
-use Rattle.std.proofs.lemmas.List.{append-nil, length-drop, drop-drop}
+use Rattle.std.proofs.lemmas.List.{length-drop, drop-drop, drop_all}
 use Rattle.asn_values.specs.Shape.{SizeRange}
 use Rattle.asn_values.specs.Fits.{in_size}
 use Rattle.asn_bits.specs.Numbers.{bits, width}
@@ -14,7 +14,10 @@ use Rattle.asn_rules.specs.Chunks.{Chunk, one, ones, flat}
 use Rattle.asn_rules.proofs.Flat.{flat-append, flat-ones}
 use Rattle.asn_rules.specs.Components.{extension_bit}
 use Rattle.asn_per.specs.Per.{spelled, sized, behind_mark, constrained, within}
+use Rattle.asn_per.specs.Rules.{per_ruling}
 use Rattle.asn_per.specs.StringItems.{row_bits, general_bits}
+use Rattle.asn_per.specs.Walk.{per_coding}
+use Rattle.asn_walk.specs.Writing.{Advances}
 
 -- ---- in front of the items
 
@@ -100,48 +103,34 @@ general_first xs = go (nat_lt (length xs) 16384) refl
         ∙ ap (λ n. (fragment m).bits ++ (row_bits (take (16384 * m) xs) ++ flat spelled (with_lengths one (lengths n) (drop (16384 * m) xs)))) (sym (length-drop (16384 * m) xs))
         ∙ ap (λ (l : Length). l.bits ++ (row_bits (take l.items xs) ++ general_bits (drop l.items xs))) (sym f)
 
--- what a sink has, with the items that are left under their general length, is what it had with all
-pub record Written (xs : List (List Chunk)) (before now : List ℕ) (done : ℕ) : Type 0 where
+-- ---- items in fragments
+
+-- what a sink has, with what is still to be written of the items that are left, is the whole
+pub record Written (xs : List (List Chunk)) (whole : List ℕ) (rest : List (List Chunk) → List Chunk) (now : List ℕ) (done : ℕ) : Type 0 where
   pub few : done ≤ length xs
-  pub known : now ++ general_bits (drop done xs) ≡ before ++ general_bits xs
+  pub known : now ++ flat spelled (rest (drop done xs)) ≡ whole
 
-pub written_none : (xs : List (List Chunk)) (before : List ℕ) → Written xs before before 0
-written_none xs before = record { few = omega arith; known = refl }
+-- the items of a fragment more
+pub written_next : (xs : List (List Chunk)) (whole : List ℕ) (rest then : List (List Chunk) → List Chunk) (now mid new : List ℕ) (done many : ℕ)
+    → Written xs whole rest now done → Advances per_coding rest (length xs - done) now then mid (Some many) → new ≡ mid ++ row_bits (take many (drop done xs)) → Written xs whole then new (done + many)
+unfolding per_coding per_ruling
+written_next xs whole rest then now mid new done many h a e =
+    let ys = drop done xs in
+    let left : length ys ≡ length xs - done = length-drop done xs in
+    let after = then (drop (done + many) xs) in
+    record {
+      few = omega (arith, a.1, h.few);
+      known =
+          ap (λ (l : List ℕ). l ++ flat spelled after) e ∙ append_assoc mid (row_bits (take many ys)) (flat spelled after)
+          ∙ ap (λ (l : List ℕ). mid ++ l) (sym (flat-append spelled (joined (take many ys)) after))
+          ∙ ap (λ (zs : List (List Chunk)). mid ++ flat spelled (joined (take many ys) ++ then zs)) (sym (drop-drop many done xs))
+          ∙ a.2 ys left ∙ h.known;
+    }
 
--- the next length and its items are there
-pub many_there : (xs : List (List Chunk)) (before now : List ℕ) (done many count : ℕ) → Written xs before now done → count ≡ length xs → many ≡ (first_length (count - done)).items → done + many ≤ length xs
-many_there xs before now done many count h c m = omega (arith, first_items (count - done), h.few)
-
--- a length and its items more
-written_step : (xs : List (List Chunk)) (before now mid new : List ℕ) (done many count : ℕ) → Written xs before now done → count ≡ length xs → many ≡ (first_length (count - done)).items
-    → mid ≡ now ++ (first_length (count - done)).bits → new ≡ mid ++ row_bits (take many (drop done xs))
-    → new ++ behind (nat_lt (length (drop done xs)) 16384) (drop (done + many) xs) ≡ before ++ general_bits xs
-written_step xs before now mid new done many count h c m a b =
-    let left = drop done xs in
-    let n : count - done ≡ length left = omega (arith, length-drop done xs) in
-    let first = first_length (length left) in
-    let rest = behind (nat_lt (length left) 16384) (drop (done + many) xs) in
-    let items : many ≡ first.items = m ∙ ap (λ (i : ℕ). (first_length i).items) n in
-    let whole : general_bits left ≡ first.bits ++ (row_bits (take many left) ++ rest) =
-    general_first left ∙ ap (λ (i : ℕ). first.bits ++ (row_bits (take i left) ++ behind (nat_lt (length left) 16384) (drop i left))) (sym items)
-    ∙ ap (λ ys. first.bits ++ (row_bits (take many left) ++ behind (nat_lt (length left) 16384) ys)) (drop-drop many done xs) in
-    ap (λ (t : List ℕ). t ++ rest) (b ∙ ap (λ (t : List ℕ). t ++ row_bits (take many left)) (a ∙ ap (λ (i : ℕ). now ++ (first_length i).bits) n))
-    ∙ append_assoc (now ++ first.bits) (row_bits (take many left)) rest ∙ append_assoc now first.bits (row_bits (take many left) ++ rest)
-    ∙ ap (λ (t : List ℕ). now ++ t) (sym whole) ∙ h.known
-
--- a fragment
-pub written_more : (xs : List (List Chunk)) (before now mid new : List ℕ) (done many count : ℕ) → Written xs before now done → count ≡ length xs → many ≡ (first_length (count - done)).items
-    → mid ≡ now ++ (first_length (count - done)).bits → new ≡ mid ++ row_bits (take many (drop done xs)) → 16384 ≤ many → Written xs before new (done + many)
-written_more xs before now mid new done many count h c m a b l =
-    let there = many_there xs before now done many count h c m in
-    let large : nat_lt (length (drop done xs)) 16384 ≡ false = le-ltb (length (drop done xs)) 16384 (omega (arith, length-drop done xs)) in
-    record { few = there; known = ap (λ (b : Bool). new ++ behind b (drop (done + many) xs)) (sym large) ∙ written_step xs before now mid new done many count h c m a b }
-
--- the last items
-pub written_all : (xs : List (List Chunk)) (before now mid new : List ℕ) (done many count : ℕ) → Written xs before now done → count ≡ length xs → many ≡ (first_length (count - done)).items
-    → mid ≡ now ++ (first_length (count - done)).bits → new ≡ mid ++ row_bits (take many (drop done xs)) → many < 16384 → new ≡ before ++ general_bits xs
-written_all xs before now mid new done many count h c m a b l =
-    let left = drop done xs in
-    let n : count - done ≡ length left = omega (arith, length-drop done xs) in
-    let few : nat_lt (length left) 16384 ≡ true = lt-ltb (length left) 16384 (⊎_elim (λ f. omega (arith, n, f)) (λ f. omega (arith, fragment_items (count - done) f, f, m, l)) (cases_lt (count - done) 16384)) in
-    sym (append-nil new) ∙ ap (λ (b : Bool). new ++ behind b (drop (done + many) xs)) (sym few) ∙ written_step xs before now mid new done many count h c m a b
+-- no item is left
+pub written_end : (xs : List (List Chunk)) (whole : List ℕ) (rest then : List (List Chunk) → List Chunk) (now new : List ℕ) (done : ℕ)
+    → Written xs whole rest now done → Advances per_coding rest (length xs - done) now then new None → new ≡ whole
+unfolding per_coding per_ruling
+written_end xs whole rest then now new done h a =
+    let none : drop done xs ≡ [] = drop_all done xs (omega (arith, a.0, h.few)) in
+    a.1 ∙ ap (λ (ys : List (List Chunk)). now ++ flat spelled (rest ys)) (sym none) ∙ h.known

@@ -1,5 +1,5 @@
 -- A type of the profile has a value that takes a bit, unless no_bits says that it has none.
-use Rattle.std.proofs.Common.{◌≡◌, ◌≢◌, ◌≤◌, ◌<◌, ◌-◌, ◌==◌, ◌⊎◌, ◌↔◌, ℕ, suc, ℤ, pos, negsuc, Bool, true, false, ◌&&◌, ◌||◌, List, [], ◌∷◌, ◌++◌, length, map, take, drop, replicate, Option, Some, None, inl, inr, refl, sym, ◌∙◌, ap, subst, arith, IsTrue, nat_lt, MatchBool}
+use Rattle.std.proofs.Common.{◌≡◌, ◌≢◌, ◌≤◌, ◌<◌, ◌-◌, ◌==◌, ◌⊎◌, ◌↔◌, ℕ, suc, ℤ, pos, negsuc, Bool, true, false, not, ◌&&◌, ◌||◌, List, [], ◌∷◌, ◌++◌, length, map, take, drop, replicate, Option, Some, None, inl, inr, refl, sym, ◌∙◌, ap, subst, arith, IsTrue, nat_lt, MatchBool}
 use Rattle.std.proofs.lemmas.Bool.{or_parts, true≢false, leb-false, eq-eqb}
 use Rattle.std.proofs.Math.Seq.{take-append_seam, drop-append_seam}
 use Rattle.std.proofs.lemmas.Str.{IsUtf8-nil}
@@ -8,7 +8,7 @@ use Rattle.std.specs.Int.RustNames.{int_le}
 use Rattle.asn_values.specs.Datum.{Datum, truth, number, item, bit_list, octet_list, characters, unicode, components, elements, alternative, Components, component_list, elements_of, components_of}
 use Rattle.asn_values.specs.Shape.{Alphabet, Range, ia5, numeric, visible, Shape, boolean, null, integer, enumerated, bit_string, octet_string, restricted, utf8_string, sequence, sequence_of, choice, Label, MoreLabels, closed_labels, marked_labels, must, optional, default, Fields, no_fields, field, MoreFields, closed, marked, is_marked, demands, Alternatives, no_alternatives, one_of, MoreAlternatives, closed_choice, marked_choice, is_marked_choice, count}
 use Rattle.asn_values.specs.Fits.{Fits, FitsEach, FitsMoreAlternatives, FitsLength, is_of_kind, in_range}
-use Rattle.asn_values.specs.Profile.{somewhere, some_field, some_alternative, empty_range, size_too_large, size_above, large_size, no_bits, no_field_bits, is_zero_size, is_fixed_size, is_one_number, is_closed}
+use Rattle.asn_values.specs.Profile.{somewhere, some_field, some_alternative, empty_range, size_too_large, size_above, large_size, no_bits, no_field_bits, is_zero_size, is_fixed_size, is_one_number, is_closed, int_eq, low_above_high}
 use Rattle.asn_bits.specs.Numbers.{bits, above, least, least_signed}
 use Rattle.asn_bits.specs.Lengths.{general_octets}
 use Rattle.asn_rules.specs.Chunks.{one, ones}
@@ -31,18 +31,26 @@ above_some (negsuc l) (negsuc h) e = omega (arith, leb-false l h e)
 octets_not_empty : (os : List ℕ) → general_octets (λ u. u) os ≢ []
 octets_not_empty os = general_not_empty (λ u. u) (map (λ o. map (λ u. u) (bits 8 o)) os)
 
+-- bounds that are not the same, and not the wrong way round
+not_below : (l u : ℤ) → not (int_le l u) ≡ false → int_eq l u ≡ false → int_le u l ≡ false
+not_below l u o e = go (int_le l u) (int_le u l) o e
+  where
+    go : (a b : Bool) → not a ≡ false → (a && b) ≡ false → b ≡ false
+    go true b o e = e
+    go false b o e = absurd (true≢false o)
+
 -- a number between such bounds has bits
-ranged_not_empty : (low high : Option ℤ) → is_one_number (record { low = low; high = high; extensible = false }) ≡ false → (z : ℤ) → ranged low high z ≢ []
-ranged_not_empty (Some l) (Some u) e z = constrained_not_empty (suc (above l u)) _ (omega (arith, above_some l u e))
-ranged_not_empty (Some l) None e z = octets_not_empty (least (above l z))
-ranged_not_empty None high e z = octets_not_empty (least_signed z)
+ranged_not_empty : (low high : Option ℤ) → low_above_high low high ≡ false → is_one_number (record { low = low; high = high; extensible = false }) ≡ false → (z : ℤ) → ranged low high z ≢ []
+ranged_not_empty (Some l) (Some u) o e z = constrained_not_empty (suc (above l u)) _ (omega (arith, above_some l u (not_below l u o e)))
+ranged_not_empty (Some l) None o e z = octets_not_empty (least (above l z))
+ranged_not_empty None high o e z = octets_not_empty (least_signed z)
 
 -- so has each number of a range that is not one number
-number_not_empty : (b : Range) → is_one_number b ≡ false → (z : ℤ) → whole_number b z ≢ []
-number_not_empty b e z = go b.extensible (in_range b z) e
+number_not_empty : (b : Range) → low_above_high b.low b.high ≡ false → is_one_number b ≡ false → (z : ℤ) → whole_number b z ≢ []
+number_not_empty b o e z = go b.extensible (in_range b z) e
   where
     go : (m i : Bool) → is_one_number (record { low = b.low; high = b.high; extensible = m }) ≡ false → behind_mark (λ u. u) m i (ranged b.low b.high z) (unconstrained z) ≢ []
-    go false i e = ranged_not_empty b.low b.high e z
+    go false i e = ranged_not_empty b.low b.high o e z
     go true true e = cons_not_empty 0 _
     go true false e = cons_not_empty 1 _
 
@@ -105,7 +113,7 @@ mutual
   pub some_bits : (t : Shape) → somewhere empty_range t ≡ false → somewhere size_too_large t ≡ false → no_bits t ≡ false → WithBits t
   some_bits boolean h g n = (truth true, tt, cons_not_empty (one 1) [])
   some_bits null h g n = absurd (true≢false n)
-  some_bits (integer b) h g n = let w = number_between b.low b.high b.extensible h in (number w.0, w.1, ones_not_empty (whole_number b w.0) (number_not_empty b n w.0))
+  some_bits (integer b) h g n = let w = number_between b.low b.high b.extensible h in (number w.0, w.1, ones_not_empty (whole_number b w.0) (number_not_empty b (or_parts (low_above_high b.low b.high) _ h).0 n w.0))
   some_bits (enumerated root more) h g n =
       let l = some_length root more h in
       (item 0, omega arith, ones_not_empty (enumeration root more 0) (enumeration_not_empty root more 0 l n))

@@ -98,12 +98,12 @@ Integers b = elim b.extensible [
 -- ---- ENUMERATED
 
 -- the place of the item that has the index
-abbrev pub place_of : List Label → ℕ → ℕ
-place_of root n = least_from (λ p. rank root (number_at root p) == n) (length root) 0
+abbrev pub position_of : List Label → ℕ → ℕ
+position_of root n = least_from (λ p. rank root (number_at root p) == n) (length root) 0
 
 -- the items of the root: an index in bits
 abbrev pub RootItems : List Label → Datum → List Chunk → Type 0
-RootItems root = Map (λ n. item (place_of root n)) (Below (width (length root)) (length root))
+RootItems root = Map (λ n. item (position_of root n)) (Below (width (length root)) (length root))
 
 -- behind an extension mark, 0 and an item of the root, or 1 and the index of an addition
 abbrev pub Items : List Label → MoreLabels → Datum → List Chunk → Type 0
@@ -312,18 +312,18 @@ IndexesBut root None n = n < length root
 IndexesBut root (Some p) n = (n < length root) × (n ≢ rank root (number_at root p))
 
 -- an item of the root that may be left out is one of it
-abbrev pub IsRootPlace : List Label → Option ℕ → Type 0
-IsRootPlace root None = ⊤
-IsRootPlace root (Some p) = p < length root
+abbrev pub IsRootPosition : List Label → Option ℕ → Type 0
+IsRootPosition root None = ⊤
+IsRootPosition root (Some p) = p < length root
 
 -- the items of the root but for that one: an index in bits
 abbrev pub RootItemsBut : List Label → Option ℕ → Datum → List Chunk → Type 0
-RootItemsBut root p = Map (λ n. item (place_of root n)) (Plain (InSet (width (length root)) (IndexesBut root p)))
+RootItemsBut root p = Map (λ n. item (position_of root n)) (Plain (InSet (width (length root)) (IndexesBut root p)))
 
 -- ENUMERATED but for one item
 abbrev pub EnumeratedButOne : Type 0
 EnumeratedButOne =
-    (root : List Label) (p : Option ℕ) → InProfile (enumerated root closed_labels) → IsRootPlace root p →
+    (root : List Label) (p : Option ℕ) → InProfile (enumerated root closed_labels) → IsRootPosition root p →
     Same (RootItemsBut root p) (Spelt per (option_map item p) (enumerated root closed_labels))
 
 -- INTEGER without a low bound but for one

@@ -1,20 +1,58 @@
 -- What the readers of the decoder read.
-use Rattle.std.specs.Prelude.{◌≡◌, ◌+◌, ◌^◌, ℕ, ℤ, Bool, false, List, [], ◌∷◌, ◌++◌, length, Option, Some, None, ⊤}
-use Rattle.asn_values.specs.Shape.{Range, Alphabet, ia5, numeric, visible}
+use Rattle.std.specs.Prelude.{◌≡◌, ◌<◌, ◌+◌, ◌*◌, ◌/◌, ◌%◌, ◌^◌, ℕ, ℤ, Bool, false, List, [], ◌∷◌, ◌++◌, length, map, Option, Some, None, Result, IfOk, IfErr, ⊤}
+use Rattle.std.specs.Global.{Vec}
+use Rattle.asn_values.specs.declared.types.Item.{Item}
+use Rattle.asn_values.specs.declared.types.TextKind.{TextKind}
+use Rattle.asn_values.specs.Shape.{Shape, Range, integer, boolean, enumerated, marked_labels, Alphabet, ia5, numeric, visible}
+use Rattle.asn_values.specs.View.{alphabet_of, label_of, more_labels_of}
 use Rattle.asn_values.specs.Fits.{FitsNumber, lowest_integer}
 use Rattle.asn_bits.specs.Numbers.{above}
 use Rattle.asn_rules.specs.Chunks.{Chunk}
 use Rattle.asn_rules.specs.declared.stop.Stop.{Stop}
 use Rattle.asn_rules.specs.declared.stop.Stop.TheVariants as stop
 use Rattle.asn_rules.specs.Languages.{Spells, Map, Row}
-use Rattle.asn_rules.specs.Listed.{IsOther}
-use Rattle.asn_values.specs.Datum.{number}
+use Rattle.asn_rules.specs.Listed.{IsOther, Spelt}
+use Rattle.asn_rules.specs.NumberSets.{Admits}
+use Rattle.asn_rules.specs.Stops.{Stops}
+use Rattle.asn_values.specs.Datum.{Datum, number, truth, item}
 use Rattle.std.specs.Option.{option_map}
-use Rattle.asn_per.specs.Per.{per_fields}
-use Rattle.asn_per.specs.Kinds.{numeric_at}
+use Rattle.asn_per.specs.Per.{per, per_fields}
+use Rattle.asn_per.specs.Kinds.{Character, Items, Unconstrained, IsOutside, numeric_at}
 use Rattle.asn_rules.specs.OffsetSets.{HasInteger}
 use Rattle.asn_rules.specs.declared.number_reader.NumberSet.{NumberSet}
 use Rattle.asn_rules.specs.declared.signed_reader.OffsetSet.{OffsetSet}
+
+-- ---- what a reader says of its result
+
+-- a value that is given, as the view has it, is spelt at the front of the bits, and the others follow its spelling
+abbrev pub Reads : {V W : Type 0} → Result W Stop → (W → V) → (V → List Chunk → Type 0) → List ℕ → List ℕ → Type 0
+Reads result view L old new = IfOk result (λ v. Spells per_fields L (view v) old new)
+
+-- where none is given, the reader stopped for that reason
+abbrev pub StopsIn : {V W : Type 0} → Result W Stop → (V → List Chunk → Type 0) → List ℕ → Type 0
+StopsIn result L old = IfErr result (λ why. Stops per_fields L old why)
+
+-- ---- values but for one, which is the DEFAULT of a component
+
+-- the integers of a range
+abbrev pub IntegersBut : Option ℤ → Range → Datum → List Chunk → Type 0
+IntegersBut except b = Spelt per (option_map number except) (integer b)
+
+-- the truth values
+abbrev pub BooleansBut : Option Bool → Datum → List Chunk → Type 0
+BooleansBut except = Spelt per (option_map truth except) boolean
+
+-- the type ENUMERATED that has these items in its root and these additions
+abbrev pub enumeration_of : List Item → Option (Vec Item) → Shape
+enumeration_of root additions = enumerated (map label_of root) (more_labels_of additions)
+
+-- its items
+abbrev pub ItemsBut : Option ℕ → List Item → Option (Vec Item) → Datum → List Chunk → Type 0
+ItemsBut except root additions = Spelt per (option_map item except) (enumeration_of root additions)
+
+-- the items of a type with an extension mark
+abbrev pub MarkedItems : List Item → List Item → Datum → List Chunk → Type 0
+MarkedItems root additions = Items (map label_of root) (marked_labels (map label_of additions))
 
 -- ---- integers
 
@@ -26,6 +64,10 @@ unmarked low high = record { low = low; high = high; extensible = false }
 abbrev pub IsWithin : Range → Option ℤ → Type 0
 IsWithin b None = ⊤
 IsWithin b (Some d) = FitsNumber b d × (b.extensible ≡ false)
+
+-- the integers outside a range
+abbrev pub IntegersOutside : Range → Datum → List Chunk → Type 0
+IntegersOutside b = Unconstrained (λ y. IsOutside b y)
 
 -- the offsets are those of the integers of a set
 pub record AreOffsets (s : OffsetSet) (S : ℤ → Type 0) : Type 0 where
@@ -87,3 +129,15 @@ abbrev pub character_at : Alphabet → ℕ → ℕ
 character_at ia5 n = n
 character_at visible n = n
 character_at numeric n = numeric_at n
+
+-- a character of this kind
+abbrev pub CharacterOf : TextKind → ℕ → List Chunk → Type 0
+CharacterOf kind = Character (alphabet_of kind)
+
+-- the bits of a character in a word, with this many characters after it
+abbrev pub code_in : TextKind → ℕ → ℕ → ℕ
+code_in kind word after = word / 2 ^ (code_width (alphabet_of kind) * after) % 2 ^ code_width (alphabet_of kind)
+
+-- the word holds the bits of this many characters
+abbrev pub AreCodes : TextKind → ℕ → ℕ → Type 0
+AreCodes kind count word = (after : ℕ) → after < count → Admits (codes_of (alphabet_of kind)) (code_in kind word after)

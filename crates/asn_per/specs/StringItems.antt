@@ -1,13 +1,14 @@
 -- What the writers of strings and lists write: items, in front of which stand a count or lengths.
 use Rattle.std.specs.Prelude.{Bool, true, false, ℕ, List, [], ◌∷◌, map, ⊤, IsTrue}
 use Rattle.std.specs.List.{AllByRecursion}
+use Rattle.asn_values.specs.Shape.{SizeRange}
 use Rattle.asn_values.specs.Fits.{is_of_kind}
 use Rattle.asn_values.specs.View.{alphabet_of}
 use Rattle.asn_bits.specs.Numbers.{bits}
 use Rattle.asn_bits.specs.Lengths.{joined, general}
 use Rattle.asn_rules.specs.Chunks.{Chunk, one, ones, flat}
 use Rattle.asn_rules.specs.Components.{bit_of}
-use Rattle.asn_per.specs.Per.{spelled, character_bits}
+use Rattle.asn_per.specs.Per.{spelled, sized, character_bits}
 use Rattle.asn_per.specs.declared.item_writer.Items.{Items}
 use Rattle.asn_per.specs.declared.item_writer.Items.TheVariants as items
 
@@ -30,6 +31,10 @@ row_bits xs = flat spelled (joined xs)
 -- items in bits, under their general length
 abbrev pub general_bits : List (List Chunk) → List ℕ
 general_bits xs = flat spelled (general one xs)
+
+-- items in bits, under a size
+abbrev pub sized_bits : SizeRange → List (List Chunk) → List ℕ
+sized_bits size xs = flat spelled (sized size xs)
 
 -- what stands behind the count of items: the items at once, or under their general length
 abbrev pub behind_count : Bool → List (List Chunk) → List ℕ

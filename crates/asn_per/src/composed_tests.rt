@@ -1,8 +1,8 @@
 //! What no clause says: that lists, choices and extension additions are encoded and decoded where there is memory,
 //! the reason of a refusal, and octets that were worked out by hand from X.691.
+use crate::per::Per;
 use crate::tests::{expect_fault, expect_pair, field, integer, refused};
-use crate::{decode, encode};
-use asn_rules::{DecodeFault, EncodeFault, Why};
+use asn_rules::{DecodeFault, EncodeFault, Rules, Why, decode};
 use asn_values::{Alt, AsnType, Bounds, Checked, Field, Need, Size, Value, same};
 use std::alloc::{AllocError, Global};
 use std::process::Abort;
@@ -202,7 +202,7 @@ fn choices_have_octets_or_are_refused(rt: HostRuntime) -> Result<(), Fail> {
     ] {
         expect_fault(&rt, alloc, &ty, octets, want);
     }
-    let past = encode(alloc, &ty, &chosen(alloc, 4, Value::Null)?).err();
+    let past = Per::encode(alloc, &ty, &chosen(alloc, 4, Value::Null)?).err();
     assert_eq!(rt; past, Some(EncodeFault::NotOfType));
     Ok(())
 }
@@ -453,8 +453,8 @@ fn the_deepest_types_have_octets(rt: HostRuntime) -> Result<(), Fail> {
     let lists = Checked::new(alloc, lists)?;
     expect_pair(&rt, alloc, &lists, &value, &want)?;
     let fields = Checked::new(alloc, fields)?;
-    let encoded = encode(alloc, &fields, &inside)?;
-    let decoded = decode(alloc, &fields, &encoded)?;
+    let encoded = Per::encode(alloc, &fields, &inside)?;
+    let decoded = decode::<Per>(alloc, &fields, &encoded)?;
     assert!(rt; same(&decoded, &inside));
     Ok(())
 }

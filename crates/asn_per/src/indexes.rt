@@ -1,24 +1,22 @@
-//! The index of an item of an ENUMERATED or of an alternative of a CHOICE, written and read: one of the
-//! root, or one of the additions behind an extension mark (X.691, "encoding the enumerated type",
-//! "encoding the choice type").
-ghost use Rattle.std.specs.Prelude.{◌≡◌, ◌≤◌, ◌<◌, ◌++◌, IfOk, IfErr, OnOk, Some};
+//! The index of an item of an ENUMERATED or of an alternative of a CHOICE, written and read: one of the root, or one
+//! of the extension additions (X.691, "encoding the enumerated type", "encoding the choice type").
+ghost use Rattle.std.specs.Prelude.{◌≡◌, ◌≤◌, ◌<◌, ◌++◌, ◌∷◌, IfOk, IfErr, OnOk, Some, true};
 ghost use Rattle.asn_bits.specs.Numbers.{width};
-ghost use Rattle.asn_rules.specs.Languages.{Spells};
-ghost use Rattle.asn_rules.specs.Stops.{Stops};
+ghost use Rattle.asn_bits.specs.Sink.{bit_of};
 ghost use Rattle.asn_per.specs.Kinds.{Below, SmallBelow};
-ghost use Rattle.asn_per.specs.Per.{per_fields};
 ghost use Rattle.asn_per.specs.Indexes.{IndexesOf, index_bits};
 ghost use Rattle.asn_walk.specs.Coding.{IsIndexWithin};
 ghost use Rattle.asn_walk.specs.Views.{index_seen};
+ghost use Rattle.asn_per.specs.Reading.{Reads, StopsAtMark, StopsIn};
 
 use asn_bits::numbers::width;
 use asn_bits::{BitCursor, BitSink};
-use asn_rules::{NumberSet, Stop, Why, bits_left, read_constrained, read_number};
+use asn_rules::{Stop, Why, bits_left, read_constrained, read_up_to};
 use asn_walk::Index;
 use std::alloc::AllocError;
 
-/// Writes an index. One of the root is a constrained whole number, behind a bit 0 where there is an
-/// extension mark; an addition is a bit 1 and a normally small number, 0 and 6 bits.
+/// Writes an index. One of the root is a constrained whole number, after an extension bit 0 where there is an
+/// extension mark; one of an addition is a bit 1 and a normally small number, 0 and 6 bits.
 #[inline(always)]
 pub(crate) fn write_index(
     root: usize,
@@ -39,8 +37,7 @@ pub(crate) fn write_index(
     }
 }
 
-/// Reads an index of so many alternatives of the root, and of so many additions where there is an
-/// extension mark.
+/// Reads an index among `root` alternatives of the root, and among `additions` where there is an extension mark.
 #[inline(always)]
 pub(crate) fn read_index(
     root: usize,
@@ -49,48 +46,57 @@ pub(crate) fn read_index(
 ) -> Result<Index, Stop>
     requires some { 0 < root }
     ensures within { IfOk result (λ i. IsIndexWithin root additions (index_seen i)) }
-    ensures done { IfOk result (λ i. Spells per_fields (IndexesOf root additions) (index_seen i) bits.old bits.new) }
-    ensures stop { IfErr result (λ why. Stops per_fields (IndexesOf root additions) bits.old why) }
+    ensures done { Reads result index_seen (IndexesOf root additions) bits.old bits.new }
+    ensures stop { StopsIn result (IndexesOf root additions) bits.old }
 {
     let Some(additions) = additions else {
-        return Ok(Index::Root(root_index(root, bits)?));
+        return Ok(Index::Root(read_root_index(root, bits)?));
     };
-    let Some(mark) = bits.next() else {
-        return Err(Stop::Short);
-    };
-    if mark == 0 {
-        return Ok(Index::Root(root_index(root, bits)?));
+    let extended = read_extension_bit(additions > 0, bits)?;
+    if extended {
+        Ok(Index::Added(read_added_index(additions, bits)?))
+    } else {
+        Ok(Index::Root(read_root_index(root, bits)?))
     }
-    if additions == 0 {
-        return Err(Stop::Refused {
-            left: bits_left(bits),
-            why: Why::Extension,
-        });
-    }
-    Ok(Index::Added(added_index(additions, bits)?))
 }
 
-/// Reads an index of the root: a number below the count in the fewest bits that tell so many apart.
+/// Reads an index of the root: a constrained whole number below `count`.
 #[inline(always)]
-fn root_index(count: usize, bits: &mut BitCursor<'_>) -> Result<usize, Stop>
+fn read_root_index(count: usize, bits: &mut BitCursor<'_>) -> Result<usize, Stop>
     requires { 0 < count }
-    ensures done { IfOk result (λ n. Spells per_fields (Below (width count) count) n bits.old bits.new) }
-    ensures stop { IfErr result (λ why. Stops per_fields (Below (width count) count) bits.old why) }
+    ensures done { Reads result (λ n. n) (Below (width count) count) bits.old bits.new }
+    ensures stop { StopsIn result (Below (width count) count) bits.old }
 {
     Ok(read_constrained(count as u64 - 1, None, bits)? as usize)
 }
 
-/// Reads an index among the additions: a number below the count in 7 bits, of which the first is 0.
+/// Reads an index among the additions: a normally small number below `count`, 0 and 6 bits.
 #[inline(always)]
-fn added_index(count: usize, bits: &mut BitCursor<'_>) -> Result<usize, Stop>
+fn read_added_index(count: usize, bits: &mut BitCursor<'_>) -> Result<usize, Stop>
     requires { 0 < count }
-    ensures done { IfOk result (λ n. Spells per_fields (SmallBelow count) n bits.old bits.new) }
-    ensures stop { IfErr result (λ why. Stops per_fields (SmallBelow count) bits.old why) }
+    ensures done { Reads result (λ n. n) (SmallBelow count) bits.old bits.new }
+    ensures stop { StopsIn result (SmallBelow count) bits.old }
 {
-    let set = NumberSet {
-        low: 0,
-        high: count as u64 - 1,
-        excluded: None,
+    Ok(read_up_to(7, count as u64 - 1, Why::Number, bits)? as usize)
+}
+
+/// Reads an extension bit: `listed` says whether the type lists extension additions; if it does not, a set bit is
+/// refused.
+#[inline(always)]
+pub(crate) fn read_extension_bit(listed: bool, bits: &mut BitCursor<'_>) -> Result<bool, Stop>
+    ensures done { IfOk result (λ extended.
+        (bits.old ≡ bit_of extended ∷ bits.new) × (extended ≡ true → listed ≡ true)) }
+    ensures stop { IfErr result (λ why. StopsAtMark listed bits.old why) }
+{
+    let Some(bit) = bits.next() else {
+        return Err(Stop::Short);
     };
-    Ok(read_number(7, set, Why::Number, bits)? as usize)
+    if bit == 1 && !listed {
+        let left = bits_left(bits);
+        return Err(Stop::Refused {
+            left,
+            why: Why::Extension,
+        });
+    }
+    Ok(bit == 1)
 }

@@ -1,61 +1,59 @@
-//! Readers of integers and truth values, of which one may be left out: a component that has a DEFAULT is
-//! spelt with another value only.
-ghost use Rattle.std.specs.Prelude.{◌≡◌, ◌≤ℤ◌, IfOk, IfErr, IfSome, IsNone, ℕ, Some, None, true, false};
+//! Readers of integers and truth values, of which one may be excluded: the DEFAULT of a component, which an encoder
+//! leaves out.
+ghost use Rattle.std.specs.Prelude.{◌≡◌, IfSome, IsNone, ℕ, Some, None, true, false};
 ghost use Rattle.std.specs.Option.{option_map};
 ghost use Rattle.asn_values.specs.Datum.{number, truth};
-ghost use Rattle.asn_values.specs.Shape.{integer, boolean};
-ghost use Rattle.asn_values.specs.Fits.{lowest_integer, highest_integer};
+ghost use Rattle.asn_values.specs.Shape.{integer};
 ghost use Rattle.asn_values.specs.Profile.{InProfile, is_outside};
 ghost use Rattle.asn_values.specs.View.{range_of};
 ghost use Rattle.asn_bits.specs.Numbers.{above};
 ghost use Rattle.asn_bits.specs.Sink.{bit_of};
 ghost use Rattle.asn_rules.specs.Languages.{Spells, Inhabited};
-ghost use Rattle.asn_rules.specs.Listed.{Spelt};
-ghost use Rattle.asn_rules.specs.Stops.{Stops};
-ghost use Rattle.asn_per.specs.Per.{per, per_fields};
-ghost use Rattle.asn_per.specs.Kinds.{Unconstrained, IsOutside};
+ghost use Rattle.asn_per.specs.Per.{per_fields};
+ghost use Rattle.asn_per.specs.Kinds.{IsOutside};
 ghost use Rattle.asn_rules.specs.OffsetSets.{IsOpen, HasOffset};
-ghost use Rattle.asn_per.specs.Reading.{IsWithin, unmarked, AreOffsets, IsUpTo, low_offset, high_offset};
+ghost use Rattle.asn_per.specs.Reading.{IsWithin, unmarked, AreOffsets, IsUpTo, low_offset, high_offset, Reads, StopsIn, IntegersBut, BooleansBut, IntegersOutside};
+ghost use Rattle.asn_walk.specs.Integers.{IsOfProfile};
 
 use asn_bits::BitCursor;
 use asn_bits::numbers::width;
-use asn_bits::offsets::{above, number_above};
+use asn_bits::offsets::{at_offset, offset_from};
 use asn_rules::{
     HIGHEST_INTEGER, INTEGER_COUNT, LOWEST_INTEGER, NumberSet, OffsetSet, Stop, Why,
-    read_constrained, read_number, read_semi_constrained, read_unconstrained, try_number,
+    read_constrained, read_semi_constrained, read_unconstrained, try_number,
 };
 use asn_values::Bounds;
 
-/// Reads an integer of the range (X.691, "encoding the integer type"), but for `except`: behind an
-/// extension mark a bit tells whether it lies between the bounds.
+/// Reads an integer of the range (X.691, "encoding the integer type"), but for `except`. With an extension mark the
+/// extension bit tells whether it lies outside the bounds.
 #[inline(always)]
-pub(crate) fn integer(
+pub(crate) fn read_integer(
     bounds: &Bounds,
     except: Option<i128>,
     bits: &mut BitCursor<'_>,
 ) -> Result<i128, Stop>
     requires of_profile { InProfile (integer (range_of bounds.now)) }
     requires within { IsWithin (range_of bounds.now) except }
-    requires some { Inhabited (Spelt per (option_map number except) (integer (range_of bounds.now))) }
-    ensures done { IfOk result (λ z. Spells per_fields (Spelt per (option_map number except) (integer (range_of bounds.now))) (number z) bits.old bits.new) }
-    ensures stop { IfErr result (λ why. Stops per_fields (Spelt per (option_map number except) (integer (range_of bounds.now))) bits.old why) }
+    requires some { Inhabited (IntegersBut except (range_of bounds.now)) }
+    ensures done { Reads result number (IntegersBut except (range_of bounds.now)) bits.old bits.new }
+    ensures stop { StopsIn result (IntegersBut except (range_of bounds.now)) bits.old }
 {
     if !bounds.ext {
-        return ranged(bounds.low, bounds.high, except, bits);
+        return read_ranged(bounds.low, bounds.high, except, bits);
     }
     let Some(mark) = bits.next() else {
         return Err(Stop::Short);
     };
     if mark == 0 {
-        ranged(bounds.low, bounds.high, None, bits)
+        read_ranged(bounds.low, bounds.high, None, bits)
     } else {
-        outside(bounds, bits)
+        read_outside(bounds, bits)
     }
 }
 
 /// Reads an integer between the bounds, but for `except`.
 #[inline(always)]
-fn ranged(
+fn read_ranged(
     low: Option<i128>,
     high: Option<i128>,
     except: Option<i128>,
@@ -63,19 +61,19 @@ fn ranged(
 ) -> Result<i128, Stop>
     requires of_profile { InProfile (integer (unmarked low high)) }
     requires within { IsWithin (unmarked low high) except }
-    requires some { Inhabited (Spelt per (option_map number except) (integer (unmarked low high))) }
-    ensures done { IfOk result (λ z. Spells per_fields (Spelt per (option_map number except) (integer (unmarked low high))) (number z) bits.old bits.new) }
-    ensures stop { IfErr result (λ why. Stops per_fields (Spelt per (option_map number except) (integer (unmarked low high))) bits.old why) }
+    requires some { Inhabited (IntegersBut except (unmarked low high)) }
+    ensures done { Reads result number (IntegersBut except (unmarked low high)) bits.old bits.new }
+    ensures stop { StopsIn result (IntegersBut except (unmarked low high)) bits.old }
 {
     match low {
-        Some(low) => from_low(low, high, except, bits),
-        None => up_to_high(high, except, bits),
+        Some(low) => read_from_low(low, high, except, bits),
+        None => read_up_to_high(high, except, bits),
     }
 }
 
 /// Reads an integer from the low bound on, but for `except`.
 #[inline(always)]
-fn from_low(
+fn read_from_low(
     low: i128,
     high: Option<i128>,
     except: Option<i128>,
@@ -83,70 +81,72 @@ fn from_low(
 ) -> Result<i128, Stop>
     requires of_profile { InProfile (integer (unmarked (Some low) high)) }
     requires within { IsWithin (unmarked (Some low) high) except }
-    requires some { Inhabited (Spelt per (option_map number except) (integer (unmarked (Some low) high))) }
-    ensures done { IfOk result (λ z. Spells per_fields (Spelt per (option_map number except) (integer (unmarked (Some low) high))) (number z) bits.old bits.new) }
-    ensures stop { IfErr result (λ why. Stops per_fields (Spelt per (option_map number except) (integer (unmarked (Some low) high))) bits.old why) }
+    requires some { Inhabited (IntegersBut except (unmarked (Some low) high)) }
+    ensures done { Reads result number (IntegersBut except (unmarked (Some low) high)) bits.old bits.new }
+    ensures stop { StopsIn result (IntegersBut except (unmarked (Some low) high)) bits.old }
 {
-    let left_out = offset_left_out(low, high, except);
+    let left_out = excluded_offset(low, high, except);
     match high {
         Some(high) => {
-            let offset = read_constrained(above(low, high), left_out, bits)?;
-            Ok(number_above(low, offset))
+            let offset = read_constrained(offset_from(low, high), left_out, bits)?;
+            Ok(at_offset(low, offset))
         }
         None => {
-            let offset = read_semi_constrained(above(low, HIGHEST_INTEGER), left_out, bits)?;
-            Ok(number_above(low, offset))
+            let offset = read_semi_constrained(offset_from(low, HIGHEST_INTEGER), left_out, bits)?;
+            Ok(at_offset(low, offset))
         }
     }
 }
 
-/// Takes an integer between these bounds, where its bits are at hand and it is one; else all bits stay.
+/// Fast path: an integer between these bounds, if its bits are present and in range; otherwise consumes nothing.
 #[inline(always)]
-pub(crate) fn take_between(low: i128, high: i128, bits: &mut BitCursor<'_>) -> Option<i128>
+pub(crate) fn try_constrained(low: i128, high: i128, bits: &mut BitCursor<'_>) -> Option<i128>
     requires of_profile { InProfile (integer (unmarked (Some low) (Some high))) }
-    ensures some { IfSome result (λ z. Spells per_fields (Spelt per None (integer (unmarked (Some low) (Some high)))) (number z) bits.old bits.new × (lowest_integer ≤ℤ z) × (z ≤ℤ highest_integer)) }
+    ensures some { IfSome result (λ z.
+        Spells per_fields (IntegersBut None (unmarked (Some low) (Some high))) (number z) bits.old bits.new) }
+    ensures of_integers { IfSome result IsOfProfile }
     ensures none { IsNone result → bits.new ≡ bits.old }
 {
-    let highest = above(low, high);
+    let highest = offset_from(low, high);
     let set = NumberSet {
         low: 0,
         high: highest,
         excluded: None,
     };
     let offset = try_number(width(u128::from(highest) + 1), set, bits)?;
-    Some(number_above(low, offset))
+    Some(at_offset(low, offset))
 }
 
-/// How far the integer that is left out lies above the low bound.
-fn offset_left_out(low: i128, high: Option<i128>, except: Option<i128>) -> Option<u64>
+/// The offset of the excluded integer from the low bound.
+fn excluded_offset(low: i128, high: Option<i128>, except: Option<i128>) -> Option<u64>
     requires of_profile { InProfile (integer (unmarked (Some low) high)) }
     requires within { IsWithin (unmarked (Some low) high) except }
     ensures { result ≡ option_map (λ z. above low z) except }
 {
     match except {
-        Some(whole) => Some(above(low, whole)),
+        Some(excluded) => Some(offset_from(low, excluded)),
         None => None,
     }
 }
 
 /// Reads an integer up to the high bound, if there is one, but for `except`.
-fn up_to_high(
+fn read_up_to_high(
     high: Option<i128>,
     except: Option<i128>,
     bits: &mut BitCursor<'_>,
 ) -> Result<i128, Stop>
     requires of_profile { InProfile (integer (unmarked None high)) }
     requires within { IsWithin (unmarked None high) except }
-    requires some { Inhabited (Spelt per (option_map number except) (integer (unmarked None high))) }
-    ensures done { IfOk result (λ z. Spells per_fields (Spelt per (option_map number except) (integer (unmarked None high))) (number z) bits.old bits.new) }
-    ensures stop { IfErr result (λ why. Stops per_fields (Spelt per (option_map number except) (integer (unmarked None high))) bits.old why) }
+    requires some { Inhabited (IntegersBut except (unmarked None high)) }
+    ensures done { Reads result number (IntegersBut except (unmarked None high)) bits.old bits.new }
+    ensures stop { StopsIn result (IntegersBut except (unmarked None high)) bits.old }
 {
     let (in_count, in_number) = match except {
         Some(_) => (Why::Default, Why::Default),
         None => (Why::Length, Why::Number),
     };
     let offset = read_unconstrained(offsets_up_to(high, except), in_count, in_number, bits)?;
-    Ok(number_above(LOWEST_INTEGER, offset))
+    Ok(at_offset(LOWEST_INTEGER, offset))
 }
 
 /// The offsets of the integers up to the high bound, but for `except`.
@@ -158,8 +158,8 @@ fn offsets_up_to(high: Option<i128>, except: Option<i128>) -> OffsetSet
 {
     let end = high_offset(high);
     match except {
-        Some(whole) => {
-            let below = u128::from(above(LOWEST_INTEGER, whole));
+        Some(excluded) => {
+            let below = u128::from(offset_from(LOWEST_INTEGER, excluded));
             OffsetSet {
                 below,
                 from: below + 1,
@@ -175,14 +175,14 @@ fn offsets_up_to(high: Option<i128>, except: Option<i128>) -> OffsetSet
 }
 
 /// Reads an integer outside the bounds.
-fn outside(bounds: &Bounds, bits: &mut BitCursor<'_>) -> Result<i128, Stop>
+fn read_outside(bounds: &Bounds, bits: &mut BitCursor<'_>) -> Result<i128, Stop>
     requires of_profile { InProfile (integer (range_of bounds.now)) }
     requires mark { bounds.now.ext ≡ true }
-    ensures done { IfOk result (λ z. Spells per_fields (Unconstrained (λ y. IsOutside (range_of bounds.now) y)) (number z) bits.old bits.new) }
-    ensures stop { IfErr result (λ why. Stops per_fields (Unconstrained (λ y. IsOutside (range_of bounds.now) y)) bits.old why) }
+    ensures done { Reads result number (IntegersOutside (range_of bounds.now)) bits.old bits.new }
+    ensures stop { StopsIn result (IntegersOutside (range_of bounds.now)) bits.old }
 {
     let offset = read_unconstrained(offsets_outside(bounds), Why::Length, Why::Number, bits)?;
-    Ok(number_above(LOWEST_INTEGER, offset))
+    Ok(at_offset(LOWEST_INTEGER, offset))
 }
 
 /// The offsets of the integers outside the bounds.
@@ -200,49 +200,39 @@ fn offsets_outside(bounds: &Bounds) -> OffsetSet
     }
 }
 
-/// How many integers lie below the low bound.
+/// The count of the integers below the low bound.
 fn low_offset(low: Option<i128>) -> u128
     requires { is_outside low ≡ false }
     ensures { result ≡ low_offset low }
 {
     match low {
-        Some(low) => u128::from(above(LOWEST_INTEGER, low)),
+        Some(low) => u128::from(offset_from(LOWEST_INTEGER, low)),
         None => 0,
     }
 }
 
-/// How many integers lie at the high bound or below it.
+/// The count of the integers at the high bound or below it.
 fn high_offset(high: Option<i128>) -> u128
     requires { is_outside high ≡ false }
     ensures { result ≡ high_offset high }
 {
     match high {
-        Some(high) => u128::from(above(LOWEST_INTEGER, high)) + 1,
+        Some(high) => u128::from(offset_from(LOWEST_INTEGER, high)) + 1,
         None => INTEGER_COUNT,
     }
 }
 
 /// Reads a truth value, but for `except` (X.691, "encoding the boolean type").
 #[inline(always)]
-pub(crate) fn boolean(except: Option<bool>, bits: &mut BitCursor<'_>) -> Result<bool, Stop>
-    ensures done { IfOk result (λ b. Spells per_fields (Spelt per (option_map truth except) boolean) (truth b) bits.old bits.new) }
-    ensures stop { IfErr result (λ why. Stops per_fields (Spelt per (option_map truth except) boolean) bits.old why) }
+pub(crate) fn read_boolean(except: Option<bool>, bits: &mut BitCursor<'_>) -> Result<bool, Stop>
+    ensures done { Reads result truth (BooleansBut except) bits.old bits.new }
+    ensures stop { StopsIn result (BooleansBut except) bits.old }
 {
-    let set = NumberSet {
-        low: 0,
-        high: 1,
-        excluded: bit_left_out(except),
-    };
-    let why = if except.is_some() {
-        Why::Default
-    } else {
-        Why::Number
-    };
-    Ok(read_number(1, set, why, bits)? == 1)
+    Ok(read_constrained(1, excluded_bit(except), bits)? == 1)
 }
 
-/// The bit of the truth value that is left out.
-fn bit_left_out(except: Option<bool>) -> Option<u64>
+/// The bit of the excluded truth value.
+fn excluded_bit(except: Option<bool>) -> Option<u64>
     ensures { result ≡ option_map (λ b. bit_of b) except }
 {
     match except {

@@ -12,7 +12,7 @@ ghost use Rattle.asn_walk.specs.Writing.{TellsWhether};
 
 use asn_bits::BitSink;
 use asn_bits::numbers::width;
-use asn_bits::offsets::above;
+use asn_bits::offsets::offset_from;
 use asn_rules::EncodeFault;
 use asn_values::{Bounds, is_between, number_fits};
 use std::alloc::AllocError;
@@ -21,39 +21,38 @@ use std::alloc::AllocError;
 #[inline(always)]
 pub(crate) fn write_integer(
     bounds: &Bounds,
-    whole: i128,
+    value: i128,
     sink: &mut BitSink,
 ) -> Result<(), EncodeFault>
     requires of_profile { InProfile (integer (range_of bounds.now)) }
-    ensures of_type { TellsWhether result (FitsNumber (range_of bounds.now) whole) }
-    ensures written { OnOk result (sink.new ≡ sink.old ++ per_bits (integer (range_of bounds.now)) (number whole)) }
+    ensures of_type { TellsWhether result (FitsNumber (range_of bounds.now) value) }
+    ensures written { OnOk result (sink.new ≡ sink.old ++ per_bits (integer (range_of bounds.now)) (number value)) }
 {
     if let (Some(low), Some(high)) = (bounds.low, bounds.high)
-        && low <= whole
-        && whole <= high
+        && low <= value
+        && value <= high
     {
-        write_between(low, high, bounds.ext, whole, sink)?;
+        write_between(low, high, bounds.ext, value, sink)?;
         return Ok(());
     }
-    write_unbounded(bounds, whole, sink)
+    write_unbounded(bounds, value, sink)
 }
 
-/// Writes a number between two bounds as a constrained whole number, behind a bit 0 where an extension mark
-/// follows them.
+/// Writes a number between two bounds as a constrained whole number, after an extension bit 0 where there is one.
 #[inline(always)]
 fn write_between(
     low: i128,
     high: i128,
     ext: bool,
-    whole: i128,
+    value: i128,
     sink: &mut BitSink,
 ) -> Result<(), AllocError>
     requires of_profile { InProfile (integer (between low high ext)) }
-    requires of_type { (low ≤ℤ whole) × (whole ≤ℤ high) }
-    ensures { OnOk result (sink.new ≡ sink.old ++ per_bits (integer (between low high ext)) (number whole)) }
+    requires of_type { (low ≤ℤ value) × (value ≤ℤ high) }
+    ensures { OnOk result (sink.new ≡ sink.old ++ per_bits (integer (between low high ext)) (number value)) }
 {
-    let count = width(u128::from(above(low, high)) + 1);
-    let offset = above(low, whole);
+    let count = width(u128::from(offset_from(low, high)) + 1);
+    let offset = offset_from(low, value);
     if ext {
         if count < 64 {
             return sink.push_number(1 + count, offset);
@@ -63,42 +62,42 @@ fn write_between(
     sink.push_number(count, offset)
 }
 
-/// Writes a number, where it is one of the range: behind an extension mark a bit tells whether it lies
-/// between the bounds, and outside them it is an unconstrained whole number.
+/// Writes a number, where it is one of the range. With an extension mark the extension bit tells whether it lies
+/// outside the bounds, and there it is an unconstrained whole number.
 #[inline(never)]
-fn write_unbounded(bounds: &Bounds, whole: i128, sink: &mut BitSink) -> Result<(), EncodeFault>
+fn write_unbounded(bounds: &Bounds, value: i128, sink: &mut BitSink) -> Result<(), EncodeFault>
     requires of_profile { InProfile (integer (range_of bounds.now)) }
-    ensures of_type { TellsWhether result (FitsNumber (range_of bounds.now) whole) }
-    ensures written { OnOk result (sink.new ≡ sink.old ++ per_bits (integer (range_of bounds.now)) (number whole)) }
+    ensures of_type { TellsWhether result (FitsNumber (range_of bounds.now) value) }
+    ensures written { OnOk result (sink.new ≡ sink.old ++ per_bits (integer (range_of bounds.now)) (number value)) }
 {
-    if !number_fits(bounds, whole) {
+    if !number_fits(bounds, value) {
         return Err(EncodeFault::NotOfType);
     }
     if bounds.ext {
-        let inside = is_between(bounds, whole);
+        let inside = is_between(bounds, value);
         sink.push(!inside)?;
         if !inside {
-            sink.push_least_signed_octets(whole)?;
+            sink.push_least_signed_octets(value)?;
             return Ok(());
         }
     }
-    write_ranged(bounds, whole, sink)?;
+    write_ranged(bounds, value, sink)?;
     Ok(())
 }
 
 /// Writes a number between the bounds: as a constrained whole number where there are both, a
 /// semi-constrained one where there is a lower bound, else an unconstrained one.
-fn write_ranged(bounds: &Bounds, whole: i128, sink: &mut BitSink) -> Result<(), AllocError>
+fn write_ranged(bounds: &Bounds, value: i128, sink: &mut BitSink) -> Result<(), AllocError>
     requires of_profile { InProfile (integer (root_of (range_of bounds.now))) }
-    requires of_type { FitsNumber (root_of (range_of bounds.now)) whole }
-    ensures { OnOk result (sink.new ≡ sink.old ++ ranged bounds.now.low bounds.now.high whole) }
+    requires of_type { FitsNumber (root_of (range_of bounds.now)) value }
+    ensures { OnOk result (sink.new ≡ sink.old ++ ranged bounds.now.low bounds.now.high value) }
 {
     let Some(low) = bounds.low else {
-        return sink.push_least_signed_octets(whole);
+        return sink.push_least_signed_octets(value);
     };
-    let offset = above(low, whole);
+    let offset = offset_from(low, value);
     match bounds.high {
-        Some(high) => sink.push_number(width(u128::from(above(low, high)) + 1), offset),
+        Some(high) => sink.push_number(width(u128::from(offset_from(low, high)) + 1), offset),
         None => sink.push_least_octets(offset),
     }
 }

@@ -1,19 +1,19 @@
-//! Writers of the items of a string, which stand one after the other: octets at once, bits and
-//! characters as many at a time as a word holds.
+//! The writer of the items of a string under a size: octets at once, bits and characters as many at a time as a
+//! word holds.
 ghost use Rattle.std.specs.Prelude.{◌≡◌, ◌≤◌, ◌<◌, ◌+◌, ◌*◌, ◌^◌, ◌++◌, OnOk, IsTrue, length, map, take, drop};
 ghost use Rattle.std.specs.List.{AllByRecursion};
-ghost use Rattle.asn_values.specs.Fits.{is_of_kind};
-ghost use Rattle.asn_values.specs.View.{alphabet_of};
+ghost use Rattle.asn_values.specs.Fits.{FitsLength, is_of_kind};
+ghost use Rattle.asn_values.specs.View.{alphabet_of, size_range_of};
 ghost use Rattle.asn_bits.specs.Lengths.{joined};
 ghost use Rattle.asn_bits.specs.Numbers.{bits};
-ghost use Rattle.asn_bits.specs.Sink.{bit_of};
 ghost use Rattle.asn_per.specs.Per.{character_bits};
 ghost use Rattle.asn_per.specs.Reading.{code_width};
-ghost use Rattle.asn_per.specs.StringItems.{item_chunks, AreOfKind, row_bits};
+ghost use Rattle.asn_per.specs.StringItems.{item_chunks, AreOfKind, row_bits, sized_bits};
 
-use crate::row_reader::width_of;
+use crate::item_reader::width_of;
+use crate::size_writer::write_size;
 use asn_bits::BitSink;
-use asn_values::TextKind;
+use asn_values::{Size, TextKind};
 use std::alloc::AllocError;
 
 /// The items of a string.
@@ -24,8 +24,28 @@ pub(crate) enum Items<'a> {
     Characters(TextKind, &'a [u8]),
 }
 
-/// How many there are.
-pub(crate) fn count_of(items: Items<'_>) -> usize
+/// Writes items under a size (X.691, "encoding the bitstring type" and those of the other strings).
+pub(crate) fn write_sized(
+    size: &Size,
+    items: Items<'_>,
+    sink: &mut BitSink,
+) -> Result<(), AllocError>
+    requires of_type { FitsLength (size_range_of size.now) (length (item_chunks items)) }
+    requires of_kind { AreOfKind items }
+    ensures { OnOk result (sink.new ≡ sink.old ++ sized_bits (size_range_of size.now) (item_chunks items.entry)) }
+{
+    let count = count_of(items);
+    let mut following = write_size(size, count, sink)?;
+    let mut done = 0;
+    while let Some(many) = following.next(count - done, sink)? {
+        write_items(items, done, many, sink)?;
+        done += many;
+    }
+    Ok(())
+}
+
+/// The count of the items.
+fn count_of(items: Items<'_>) -> usize
     ensures { result ≡ length (item_chunks items.entry) }
 {
     match items {
@@ -35,8 +55,8 @@ pub(crate) fn count_of(items: Items<'_>) -> usize
     }
 }
 
-/// Writes `count` items behind the first `from`.
-pub(crate) fn write_items(
+/// Writes `count` items, from the one at index `from` on.
+fn write_items(
     items: Items<'_>,
     from: usize,
     count: usize,
@@ -47,41 +67,14 @@ pub(crate) fn write_items(
     ensures { OnOk result (sink.new ≡ sink.old ++ row_bits (take count (drop from (item_chunks items.entry)))) }
 {
     match items {
-        Items::Bits(bits) => push_bits(&bits[from..from + count], sink),
+        Items::Bits(bits) => sink.push_bits(&bits[from..from + count]),
         Items::Octets(octets) => sink.push_octets(&octets[from..from + count]),
         Items::Characters(kind, text) => push_characters(kind, &text[from..from + count], sink),
     }
 }
 
-/// Adds bits, up to 64 at a time.
-fn push_bits(truths: &[bool], sink: &mut BitSink) -> Result<(), AllocError>
-    ensures { OnOk result (sink.new ≡ sink.old ++ map bit_of truths.now) }
-{
-    let mut done = 0;
-    while done < truths.len() {
-        let many = (truths.len() - done).min(64);
-        let word = word_of_bits(&truths[done..done + many]);
-        sink.push_number(many as u32, word)?;
-        done += many;
-    }
-    Ok(())
-}
-
-/// The number that the bits are.
-fn word_of_bits(truths: &[bool]) -> u64
-    requires few { length truths.now ≤ 64 }
-    ensures within { result < 2 ^ length truths.now }
-    ensures bits { bits (length truths.now) result ≡ map bit_of truths.now }
-{
-    let mut word = 0;
-    for truth in truths {
-        word = 2 * word + u64::from(*truth);
-    }
-    word
-}
-
-/// Adds characters, as many at a time as a word holds (X.691, "encoding the restricted character
-/// string types").
+/// Appends characters, as many at a time as a word holds (X.691, "encoding the restricted character string
+/// types").
 fn push_characters(kind: TextKind, text: &[u8], sink: &mut BitSink) -> Result<(), AllocError>
     requires { AllByRecursion (λ c. IsTrue (is_of_kind (alphabet_of kind) c)) text.now }
     ensures { OnOk result (sink.new ≡ sink.old ++ joined (map (λ c. character_bits (alphabet_of kind) c) text.now)) }
@@ -114,7 +107,7 @@ fn word_of_characters(kind: TextKind, text: &[u8]) -> u64
     word
 }
 
-/// How many codes the bits of a character tell apart.
+/// The count of the codes that the bits of a character hold.
 fn radix_of(kind: TextKind) -> u64
     ensures { result ≡ 2 ^ code_width (alphabet_of kind) }
 {

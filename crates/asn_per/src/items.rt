@@ -1,19 +1,16 @@
 //! ENUMERATED (X.691, "encoding the enumerated type"): writing an item and reading one.
-ghost use Rattle.std.specs.Prelude.{◌≡◌, ◌<◌, ◌++◌, IfOk, IfErr, OnOk, map, length, None};
-ghost use Rattle.std.specs.Option.{option_map};
+ghost use Rattle.std.specs.Prelude.{◌≡◌, ◌<◌, ◌++◌, OnOk, map, length, None};
 ghost use Rattle.asn_values.specs.Datum.{item};
 ghost use Rattle.asn_values.specs.Shape.{enumerated, marked_labels};
 ghost use Rattle.asn_values.specs.Fits.{Fits};
 ghost use Rattle.asn_values.specs.Profile.{InProfile};
-ghost use Rattle.asn_values.specs.View.{datum_of, label_of, more_labels_of};
-ghost use Rattle.asn_rules.specs.Languages.{Spells, Inhabited};
-ghost use Rattle.asn_rules.specs.Listed.{Spelt};
-ghost use Rattle.asn_rules.specs.Stops.{Stops};
-ghost use Rattle.asn_per.specs.Kinds.{place_of, Items, RootItemsBut, IsRootPlace};
+ghost use Rattle.asn_values.specs.View.{label_of, more_labels_of};
+ghost use Rattle.asn_rules.specs.Languages.{Inhabited};
+ghost use Rattle.asn_per.specs.Kinds.{position_of, Items, RootItemsBut, IsRootPosition};
 ghost use Rattle.asn_per.specs.Laws.{per_bits};
-ghost use Rattle.asn_per.specs.Per.{per, per_fields, rank};
+ghost use Rattle.asn_per.specs.Per.{rank};
 ghost use Rattle.asn_per.specs.Indexes.{AreRootItems, IsItemWithin, index_of};
-ghost use Rattle.asn_walk.specs.Writing.{TellsWhether};
+ghost use Rattle.asn_per.specs.Reading.{Reads, StopsIn, enumeration_of, ItemsBut, MarkedItems};
 
 use crate::indexes::{read_index, write_index};
 use asn_bits::{BitCursor, BitSink};
@@ -22,49 +19,29 @@ use asn_values::{Item, Value, item_fits};
 use asn_walk::Index;
 use std::alloc::AllocError;
 
-/// Writes an item, where the value is one of these: one of the root by its index in the order of the
-/// numbers, an addition by its index among the additions.
-pub(crate) fn write_enumerated(
-    root: &[Item],
-    more: &Option<Vec<Item>>,
-    value: &Value,
-    sink: &mut BitSink,
-) -> Result<(), EncodeFault>
-    requires of_profile { InProfile (enumerated (map label_of root.now) (more_labels_of more.now)) }
-    ensures of_type { TellsWhether result (Fits (enumerated (map label_of root.now) (more_labels_of more.now)) (datum_of value.now)) }
-    ensures written { OnOk result (sink.new ≡ sink.old ++ per_bits (enumerated (map label_of root.now) (more_labels_of more.now)) (datum_of value.now)) }
-{
-    match value {
-        Value::Enum(place) if item_fits(root, more, *place) => {
-            write_item(root, more, *place, sink)?;
-            Ok(())
-        }
-        _ => Err(EncodeFault::NotOfType),
-    }
-}
-
-/// Writes the item at this place.
+/// Writes the item at this position: one of the root by its index in the order of the numbers, an addition by its
+/// index among the additions.
 #[inline(always)]
-fn write_item(
+pub(crate) fn write_item(
     root: &[Item],
     more: &Option<Vec<Item>>,
-    place: u32,
+    position: u32,
     sink: &mut BitSink,
 ) -> Result<(), AllocError>
-    requires of_profile { InProfile (enumerated (map label_of root.now) (more_labels_of more.now)) }
-    requires of_type { Fits (enumerated (map label_of root.now) (more_labels_of more.now)) (item place) }
-    ensures { OnOk result (sink.new ≡ sink.old ++ per_bits (enumerated (map label_of root.now) (more_labels_of more.now)) (item place)) }
+    requires of_profile { InProfile (enumeration_of root.now more.now) }
+    requires of_type { Fits (enumeration_of root.now more.now) (item position) }
+    ensures { OnOk result (sink.new ≡ sink.old ++ per_bits (enumeration_of root.now more.now) (item position)) }
 {
-    let place = place as usize;
-    let index = if place < root.len() {
-        Index::Root(rank(root, root[place].number))
+    let position = position as usize;
+    let index = if position < root.len() {
+        Index::Root(rank(root, root[position].number))
     } else {
-        Index::Added(place - root.len())
+        Index::Added(position - root.len())
     };
     write_index(root.len(), more.is_some(), index, sink)
 }
 
-/// How many of the items have a lower number.
+/// The count of the items that have a lower number.
 fn rank(items: &[Item], number: i64) -> usize
     ensures { result ≡ rank (map label_of items.now) number }
 {
@@ -77,79 +54,78 @@ fn rank(items: &[Item], number: i64) -> usize
     lower
 }
 
-/// Reads an item, but for the one at the place `except`: returns its place.
-pub(crate) fn enumerated(
+/// Reads an item, but for the one at the position `except`. Returns its position.
+pub(crate) fn read_item(
     root: &[Item],
     more: &Option<Vec<Item>>,
     except: Option<u32>,
     bits: &mut BitCursor<'_>,
 ) -> Result<u32, Stop>
-    requires of_profile { InProfile (enumerated (map label_of root.now) (more_labels_of more.now)) }
+    requires of_profile { InProfile (enumeration_of root.now more.now) }
     requires within { IsItemWithin (map label_of root.now) (more_labels_of more.now) except }
-    requires some { Inhabited (Spelt per (option_map item except) (enumerated (map label_of root.now) (more_labels_of more.now))) }
-    ensures done { IfOk result (λ p. Spells per_fields (Spelt per (option_map item except) (enumerated (map label_of root.now) (more_labels_of more.now))) (item p) bits.old bits.new) }
-    ensures stop { IfErr result (λ why. Stops per_fields (Spelt per (option_map item except) (enumerated (map label_of root.now) (more_labels_of more.now))) bits.old why) }
+    requires some { Inhabited (ItemsBut except root.now more.now) }
+    ensures done { Reads result item (ItemsBut except root.now more.now) bits.old bits.new }
+    ensures stop { StopsIn result (ItemsBut except root.now more.now) bits.old }
 {
     match more {
-        None => root_item(root, except, bits),
-        Some(additions) => item_behind_mark(root, additions, bits),
+        None => read_root_item(root, except, bits),
+        Some(additions) => read_marked_item(root, additions, bits),
     }
 }
 
-/// Reads an item of the root, but for the one at the place `except`, by its index.
-fn root_item(root: &[Item], except: Option<u32>, bits: &mut BitCursor<'_>) -> Result<u32, Stop>
+/// Reads an item of the root by its index, but for the one at the position `except`.
+fn read_root_item(root: &[Item], except: Option<u32>, bits: &mut BitCursor<'_>) -> Result<u32, Stop>
     requires good { AreRootItems (map label_of root.now) }
-    requires within { IsRootPlace (map label_of root.now) except }
+    requires within { IsRootPosition (map label_of root.now) except }
     requires some { Inhabited (RootItemsBut (map label_of root.now) except) }
-    ensures done { IfOk result (λ p. Spells per_fields (RootItemsBut (map label_of root.now) except) (item p) bits.old bits.new) }
-    ensures stop { IfErr result (λ why. Stops per_fields (RootItemsBut (map label_of root.now) except) bits.old why) }
+    ensures done { Reads result item (RootItemsBut (map label_of root.now) except) bits.old bits.new }
+    ensures stop { StopsIn result (RootItemsBut (map label_of root.now) except) bits.old }
 {
-    let left_out = index_left_out(root, except);
+    let left_out = excluded_index(root, except);
     let index = read_constrained(root.len() as u64 - 1, left_out, bits)?;
-    Ok(place_of_index(root, index as usize))
+    Ok(position_of_index(root, index as usize))
 }
 
-/// The index of the item that is left out.
-fn index_left_out(root: &[Item], except: Option<u32>) -> Option<u64>
+/// The index of the excluded item.
+fn excluded_index(root: &[Item], except: Option<u32>) -> Option<u64>
     requires good { AreRootItems (map label_of root.now) }
-    requires within { IsRootPlace (map label_of root.now) except }
+    requires within { IsRootPosition (map label_of root.now) except }
     ensures { result ≡ index_of (map label_of root.now) except }
 {
     match except {
-        Some(place) => Some(rank(root, root[place as usize].number) as u64),
+        Some(position) => Some(rank(root, root[position as usize].number) as u64),
         None => None,
     }
 }
 
-/// The place of the item of the root with this index. Where the items stand in the order of their
-/// numbers that is the index itself, which one pass over them confirms.
-fn place_of_index(root: &[Item], index: usize) -> u32
+/// The position of the item of the root with this index. Where the items stand in the order of their numbers that is
+/// the index itself, which one pass over them confirms.
+fn position_of_index(root: &[Item], index: usize) -> u32
     requires good { AreRootItems (map label_of root.now) }
     requires inside { index < length root.now }
-    ensures { result ≡ place_of (map label_of root.now) index }
+    ensures { result ≡ position_of (map label_of root.now) index }
 {
     if rank(root, root[index].number) == index {
         index as u32
     } else {
-        place_by_numbers(root, index)
+        position_by_numbers(root, index)
     }
 }
 
-/// The same where the items may stand in any order: each index that is found narrows the interval in
-/// which the number sought lies, and items outside it are passed over. In a random order that takes
-/// a few passes over the items, and at worst one for each.
-fn place_by_numbers(root: &[Item], index: usize) -> u32
+/// Fallback for unsorted items: each probe narrows the range of the number sought, and items outside it are passed
+/// over. In a random order that takes a few passes over the items, and at worst one for each.
+fn position_by_numbers(root: &[Item], index: usize) -> u32
     requires good { AreRootItems (map label_of root.now) }
     requires inside { index < length root.now }
-    ensures { result ≡ place_of (map label_of root.now) index }
+    ensures { result ≡ position_of (map label_of root.now) index }
 {
     let mut above = i64::MIN;
     let mut below = i64::MAX;
-    for (place, item) in root.iter().enumerate() {
+    for (position, item) in root.iter().enumerate() {
         if above < item.number && item.number < below {
             let lower = rank(root, item.number);
             if lower == index {
-                return place as u32;
+                return position as u32;
             }
             if lower < index {
                 above = item.number;
@@ -161,18 +137,18 @@ fn place_by_numbers(root: &[Item], index: usize) -> u32
     unreachable!()
 }
 
-/// Reads an item behind an extension mark: 0 and one of the root, or 1 and one of the additions.
-fn item_behind_mark(
+/// Reads an item of a type with an extension mark: 0 and one of the root, or 1 and one of the additions.
+fn read_marked_item(
     root: &[Item],
     additions: &[Item],
     bits: &mut BitCursor<'_>,
 ) -> Result<u32, Stop>
     requires of_profile { InProfile (enumerated (map label_of root.now) (marked_labels (map label_of additions.now))) }
-    ensures done { IfOk result (λ p. Spells per_fields (Items (map label_of root.now) (marked_labels (map label_of additions.now))) (item p) bits.old bits.new) }
-    ensures stop { IfErr result (λ why. Stops per_fields (Items (map label_of root.now) (marked_labels (map label_of additions.now))) bits.old why) }
+    ensures done { Reads result item (MarkedItems root.now additions.now) bits.old bits.new }
+    ensures stop { StopsIn result (MarkedItems root.now additions.now) bits.old }
 {
     match read_index(root.len(), Some(additions.len()), bits)? {
-        Index::Root(index) => Ok(place_of_index(root, index)),
+        Index::Root(index) => Ok(position_of_index(root, index)),
         Index::Added(index) => Ok(root.len() as u32 + index as u32),
     }
 }

@@ -13,7 +13,7 @@ ghost use Rattle.asn_per.specs.Laws.{per_bits, NoBitsIsExact};
 /// Two spellings at the front of one list of bits are one, of one value. Octets are the complete
 /// encoding of one value only, and no complete encoding begins another. Two spellings of one type
 /// are one, of one value, or they part at a bit or inside sealed fields that stand in one place.
-pub fn spellings_tell()
+pub fn decoding_is_unique()
     ensures bits { UnitsTellTheValue per_bits }
     ensures one_value { OneValue per_octets }
     ensures none_begins { NoneBegins per_octets }
@@ -40,8 +40,8 @@ pub fn live_by_parts()
     ensures { LiveByParts per_fields per_whole }
 {}
 
-/// What an encoding may still follow, it may follow each beginning of.
-pub fn live_is_closed()
+/// If some encoding extends these bits, one extends each prefix of them.
+pub fn viability_is_prefix_closed()
     ensures { LiveIsClosed per_fields per_whole }
 {}
 
@@ -51,9 +51,9 @@ pub fn answers_exclude()
     ensures { OneAnswer per_ruling }
 {}
 
-/// Of an encoding of at most 2 ^ 28 - 1 octets each beginning is live, so the octets of an encoding
-/// are at no place refused, however many of them have come.
-pub fn beginnings_are_live()
+/// Each prefix of an encoding of at most 2 ^ 28 - 1 octets is viable, an encoding may still follow it: so no octet of
+/// an encoding is refused, however many of them were read.
+pub fn prefixes_are_viable()
     ensures live { BeginningsAreLive per_ruling }
     ensures not_refused { BeginningsAreNotRefused per_ruling }
 {}

@@ -3,11 +3,10 @@
 
 #[cfg(test)]
 mod composed_tests;
-mod decoder;
-mod encoder;
 mod indexes;
 mod integer_reader;
 mod integer_writer;
+mod item_reader;
 mod item_writer;
 mod items;
 mod kinds;
@@ -16,21 +15,21 @@ mod laws;
 mod list_tests;
 mod per;
 mod read_leaves;
-mod row_reader;
+mod rules;
+#[cfg(test)]
+mod session_tests;
 mod size_reader;
+mod size_writer;
 mod string_reader;
 #[cfg(test)]
 mod string_tests;
-mod string_writer;
 #[cfg(test)]
 mod tests;
 mod write_leaves;
 
-pub use decoder::decode;
-pub use encoder::encode;
 pub use kinds::kinds_compose;
 pub use laws::{
-    answers_exclude, beginnings_are_live, codec_laws, encoding_laws, live_by_parts, live_is_closed,
-    readers_tell, spellings_tell, values_and_bits,
+    answers_exclude, codec_laws, decoding_is_unique, encoding_laws, live_by_parts,
+    prefixes_are_viable, readers_tell, values_and_bits, viability_is_prefix_closed,
 };
 pub use per::Per;

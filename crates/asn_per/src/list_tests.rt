@@ -1,8 +1,8 @@
 //! What no clause says: that lists are encoded and decoded where there is memory, the reason of a refusal, and
 //! octets that were worked out by hand from X.691.
-use crate::decode;
+use crate::per::Per;
 use crate::string_tests::{any, expect, expect_refusal, size};
-use asn_rules::{DecodeFault, Why};
+use asn_rules::{DecodeFault, Why, decode};
 use asn_values::{AsnType, Bounds, Checked, Size, Value};
 use std::alloc::{AllocError, Global};
 use std::test::Fail;
@@ -103,7 +103,7 @@ fn lists_wait_for_their_elements(rt: HostRuntime) -> Result<(), Fail> {
     let alloc = rt.alloc();
     for (octets, taken) in [(b"\xc4".as_slice(), 8), (b"\x09\xff".as_slice(), 16)] {
         let ty = Checked::new(alloc, list(alloc, AsnType::Bool, any())?)?;
-        let fault = decode(alloc, &ty, octets).err();
+        let fault = decode::<Per>(alloc, &ty, octets).err();
         assert_eq!(rt;
             fault,
             Some(DecodeFault::Truncated { taken }),

@@ -1,18 +1,17 @@
 //! What PER reads by itself: the simple types, and the parts of the composite ones.
-ghost use Rattle.std.specs.Prelude.{◌≡◌, ◌≤◌, ◌+◌, ◌^◌, ◌∷◌, IfOk, IfErr, true};
-ghost use Rattle.asn_bits.specs.Sink.{bit_of};
-ghost use Rattle.asn_per.specs.Reading.{StopsAtMark};
 ghost use Rattle.asn_per.specs.RowsAhead.{ahead_of, IsBetween};
 ghost use Rattle.asn_per.specs.Walk.{per_coding};
 
-use crate::indexes;
-use crate::integer_reader::{boolean, integer, take_between};
-use crate::items::enumerated;
+use crate::indexes::{self, read_extension_bit};
+use crate::integer_reader::{read_boolean, read_integer, try_constrained};
+use crate::items::read_item;
 use crate::per::Per;
-use crate::size_reader::Rows;
-use crate::string_reader::{bit_string, octet_string, text, utf8_string};
+use crate::size_reader::Fragments;
+use crate::string_reader::{read_bit_string, read_octet_string, read_text, read_utf8};
 use asn_bits::BitCursor;
-use asn_rules::{NumberSet, Stop, Why, bits_left, power_of_two, read_number, read_padding};
+use asn_rules::{
+    NumberSet, Stop, Why, bits_left, greatest_of_width, read_number, read_padding, read_up_to,
+};
 use asn_values::{AsnType, Size, Value};
 use asn_walk::{Index, Preamble, ReadLeaves};
 use std::alloc::Global;
@@ -20,7 +19,7 @@ use std::alloc::Global;
 impl ReadLeaves for Per {
     ghost rules = { per_coding };
 
-    type Fragments = Rows;
+    type Fragments = Fragments;
 
     ghost ahead = { ahead_of };
 
@@ -42,14 +41,14 @@ impl ReadLeaves for Per {
     #[tactic(auto, unfolding(crate::specs::Walk::per_coding, crate::specs::Rules::per_ruling))]
     fn read_simple(alloc: Global, ty: &AsnType, units: &mut BitCursor<'_>) -> Result<Value, Stop> {
         match ty {
-            AsnType::Bool => Ok(Value::Bool(boolean(None, units)?)),
+            AsnType::Bool => Ok(Value::Bool(read_boolean(None, units)?)),
             AsnType::Null => Ok(Value::Null),
-            AsnType::Int(bounds) => Ok(Value::Int(integer(bounds, None, units)?)),
-            AsnType::Enum { root, ext } => Ok(Value::Enum(enumerated(root, ext, None, units)?)),
-            AsnType::Bits(size) => Ok(Value::Bits(bit_string(alloc, size, units)?)),
-            AsnType::Octets(size) => Ok(Value::Octets(octet_string(alloc, size, units)?)),
-            AsnType::Text(kind, size) => Ok(Value::Text(text(alloc, *kind, size, units)?)),
-            AsnType::Utf8 => Ok(Value::Utf8(utf8_string(alloc, units)?)),
+            AsnType::Int(bounds) => Ok(Value::Int(read_integer(bounds, None, units)?)),
+            AsnType::Enum { root, ext } => Ok(Value::Enum(read_item(root, ext, None, units)?)),
+            AsnType::Bits(size) => Ok(Value::Bits(read_bit_string(alloc, size, units)?)),
+            AsnType::Octets(size) => Ok(Value::Octets(read_octet_string(alloc, size, units)?)),
+            AsnType::Text(kind, size) => Ok(Value::Text(read_text(alloc, *kind, size, units)?)),
+            AsnType::Utf8 => Ok(Value::Utf8(read_utf8(alloc, units)?)),
             AsnType::Seq { .. } | AsnType::SeqOf(..) | AsnType::Choice { .. } => unreachable!(),
         }
     }
@@ -58,13 +57,13 @@ impl ReadLeaves for Per {
     fn read_other(ty: &AsnType, default: &Value, units: &mut BitCursor<'_>) -> Result<Value, Stop> {
         match (ty, default) {
             (AsnType::Bool, Value::Bool(truth)) => {
-                Ok(Value::Bool(boolean(Some(*truth), units)?))
+                Ok(Value::Bool(read_boolean(Some(*truth), units)?))
             }
-            (AsnType::Int(bounds), Value::Int(whole)) => {
-                Ok(Value::Int(integer(bounds, Some(*whole), units)?))
+            (AsnType::Int(bounds), Value::Int(number)) => {
+                Ok(Value::Int(read_integer(bounds, Some(*number), units)?))
             }
-            (AsnType::Enum { root, ext }, Value::Enum(place)) => {
-                Ok(Value::Enum(enumerated(root, ext, Some(*place), units)?))
+            (AsnType::Enum { root, ext }, Value::Enum(position)) => {
+                Ok(Value::Enum(read_item(root, ext, Some(*position), units)?))
             }
             _ => unreachable!(),
         }
@@ -73,7 +72,7 @@ impl ReadLeaves for Per {
     #[inline(always)]
     #[tactic(auto, unfolding(crate::specs::Walk::per_coding, crate::specs::Rules::per_ruling))]
     fn try_between(low: i128, high: i128, units: &mut BitCursor<'_>) -> Option<i128> {
-        take_between(low, high, units)
+        try_constrained(low, high, units)
     }
 
     #[inline(always)]
@@ -85,14 +84,9 @@ impl ReadLeaves for Per {
     ) -> Result<Preamble, Stop> {
         let extended = match additions {
             None => false,
-            Some(listed) => extension_bit(listed > 0, units)?,
+            Some(listed) => read_extension_bit(listed > 0, units)?,
         };
-        let set = NumberSet {
-            low: 0,
-            high: highest_bitmap(count),
-            excluded: None,
-        };
-        let bitmap = read_number(count, set, Why::Number, units)?;
+        let bitmap = read_up_to(count, greatest_of_width(count), Why::Number, units)?;
         Ok(Preamble { extended, bitmap })
     }
 
@@ -108,7 +102,7 @@ impl ReadLeaves for Per {
         read_number(7, of_type, Why::Extension, units)?;
         let some_present = NumberSet {
             low: 0,
-            high: highest_bitmap(count),
+            high: greatest_of_width(count),
             excluded: Some(0),
         };
         read_number(count, some_present, Why::Extension, units)
@@ -132,7 +126,7 @@ impl ReadLeaves for Per {
             high: None,
             ext: false,
         };
-        octet_string(alloc, &some, units)
+        read_octet_string(alloc, &some, units)
     }
 
     #[tactic(auto, unfolding(crate::specs::Walk::per_coding, crate::specs::Rules::per_ruling))]
@@ -147,14 +141,14 @@ impl ReadLeaves for Per {
 
     #[inline(always)]
     #[tactic(auto, unfolding(crate::specs::Walk::per_coding, crate::specs::Rules::per_ruling))]
-    fn start_list(size: &Size, units: &mut BitCursor<'_>) -> Result<Rows, Stop> {
-        Rows::start(size, units)
+    fn start_list(size: &Size, units: &mut BitCursor<'_>) -> Result<Fragments, Stop> {
+        Fragments::start(size, units)
     }
 
     #[inline(always)]
     #[tactic(auto, unfolding(crate::specs::Walk::per_coding, crate::specs::Rules::per_ruling))]
     fn next_fragment(
-        fragments: &mut Rows,
+        fragments: &mut Fragments,
         units: &mut BitCursor<'_>,
     ) -> Result<Option<usize>, Stop> {
         fragments.next(units)
@@ -162,35 +156,4 @@ impl ReadLeaves for Per {
 
     #[inline(always)]
     fn keep_laws() {}
-}
-
-/// Reads an extension bit: `listed` says whether the type lists extension additions; if it does not, a set bit is
-/// refused.
-fn extension_bit(listed: bool, bits: &mut BitCursor<'_>) -> Result<bool, Stop>
-    ensures done { IfOk result (λ extended. (bits.old ≡ bit_of extended ∷ bits.new) × (extended ≡ true → listed ≡ true)) }
-    ensures stop { IfErr result (λ why. StopsAtMark listed bits.old why) }
-{
-    let Some(bit) = bits.next() else {
-        return Err(Stop::Short);
-    };
-    if bit == 1 && !listed {
-        let left = bits_left(bits);
-        return Err(Stop::Refused {
-            left,
-            why: Why::Extension,
-        });
-    }
-    Ok(bit == 1)
-}
-
-/// The highest presence bitmap of `count` bits.
-fn highest_bitmap(count: u32) -> u64
-    requires { count ≤ 64 }
-    ensures { result + 1 ≡ 2 ^ count }
-{
-    if count == 64 {
-        u64::MAX
-    } else {
-        power_of_two(count) - 1
-    }
 }

@@ -1,71 +1,69 @@
-//! The reader of what stands in front of the items of a list under a size, and between them: counts and
-//! lengths.
-ghost use Rattle.std.specs.Prelude.{◌≡◌, ◌≤◌, [], true, false, Some, IfOk, IfErr, IfSome, IsNone};
+//! The reader of what stands before the items of a list under a size, and between them: counts and length
+//! determinants.
+ghost use Rattle.std.specs.Prelude.{◌≡◌, ◌≤◌, [], true, false, Some, IfOk, IfErr};
 ghost use Rattle.asn_values.specs.View.{size_range_of};
-ghost use Rattle.asn_rules.specs.Languages.{Spells};
-ghost use Rattle.asn_rules.specs.Stops.{Stops};
 ghost use Rattle.asn_per.specs.Per.{per_fields};
 ghost use Rattle.asn_walk.specs.Ahead.{items, Next, StopsNext, lengths};
 ghost use Rattle.asn_walk.specs.Laws.{IsSizeOfProfile};
 ghost use Rattle.asn_per.specs.ListsAhead.{RootStart, Start, other_counts};
 ghost use Rattle.asn_per.specs.RowsAhead.{ahead_of, lengths_of, IsBetween};
+ghost use Rattle.asn_per.specs.Reading.{Reads, StopsIn};
 
 use asn_bits::numbers::width;
 use asn_bits::{BitCursor, Counts, Lengths};
-use asn_rules::{NumberSet, Stop, Why, read_next_length, read_number};
+use asn_rules::{Stop, Why, read_next_length, read_up_to};
 use asn_values::Size;
+use asn_values::profile::MAX_LEN;
 
-/// The most items of a list.
-const MOST: u32 = 268_435_455;
-
-/// What is ahead of the reader of a list.
+/// What follows of a list that is read.
 #[derive(Drop)]
-pub enum Rows {
-    /// So many items, and then nothing.
+pub enum Fragments {
+    /// This count of items, and then nothing.
     Items(usize),
-    /// A length, and the items that it counts.
+    /// A length determinant, and the items that it counts.
     Lengths(Lengths),
     /// Nothing.
     End,
 }
 
-impl Rows {
-    /// Reads what stands in front of a list under the size: the extension bit, and the count of a list of
+impl Fragments {
+    /// Reads what stands before the items of a list under the size: the extension bit, and the count of a list of
     /// the root that has an upper bound.
-    pub(crate) fn start(size: &Size, bits: &mut BitCursor<'_>) -> Result<Rows, Stop>
+    pub(crate) fn start(size: &Size, bits: &mut BitCursor<'_>) -> Result<Fragments, Stop>
         requires of_profile { IsSizeOfProfile (size_range_of size.now) }
-        ensures done { IfOk result (λ rows. Spells per_fields (Start (size_range_of size.now)) (ahead_of rows) bits.old bits.new) }
+        ensures done { Reads result ahead_of (Start (size_range_of size.now)) bits.old bits.new }
         ensures between { IfOk result (λ rows. IsBetween rows) }
-        ensures stop { IfErr result (λ why. Stops per_fields (Start (size_range_of size.now)) bits.old why) }
+        ensures stop { StopsIn result (Start (size_range_of size.now)) bits.old }
     {
         if !size.ext {
-            return root_start(size, bits);
+            return read_root_start(size, bits);
         }
         match bits.next() {
             None => Err(Stop::Short),
-            Some(0) => root_start(size, bits),
-            Some(_) => Ok(Rows::Lengths(other_lengths(size))),
+            Some(0) => read_root_start(size, bits),
+            Some(_) => Ok(Fragments::Lengths(other_lengths(size))),
         }
     }
 
-    /// Reads as far as the items that follow next, and tells how many they are: none where the list ends.
+    /// Reads as far as the next items. Returns their count: `None` if the list has ended.
     pub(crate) fn next(&mut self, bits: &mut BitCursor<'_>) -> Result<Option<usize>, Stop>
         requires between { IsBetween self.old }
         ensures between { IfOk result (λ row. IsBetween self.new) }
-        ensures done { IfOk result (λ row. Next per_fields (ahead_of self.old) row (ahead_of self.new) bits.old bits.new) }
+        ensures done { IfOk result (λ count.
+            Next per_fields (ahead_of self.old) count (ahead_of self.new) bits.old bits.new) }
         ensures stop { IfErr result (λ why. StopsNext per_fields (ahead_of self.old) bits.old why) }
     {
         match self {
-            Rows::End => Ok(None),
-            Rows::Items(count) => {
+            Fragments::End => Ok(None),
+            Fragments::Items(count) => {
                 let count = *count;
-                *self = Rows::End;
+                *self = Fragments::End;
                 Ok(Some(count))
             }
-            Rows::Lengths(lengths) => {
+            Fragments::Lengths(lengths) => {
                 let count = read_next_length(lengths, bits)? as usize;
                 if !lengths.more() {
-                    *self = Rows::End;
+                    *self = Fragments::End;
                 }
                 Ok(Some(count))
             }
@@ -89,7 +87,7 @@ fn other_lengths(size: &Size) -> Lengths
     };
     let above = Counts {
         low: high + 1,
-        high: MOST,
+        high: MAX_LEN,
     };
     if size.low == 0 {
         Lengths::new(above, None)
@@ -98,36 +96,31 @@ fn other_lengths(size: &Size) -> Lengths
     }
 }
 
-/// Reads what stands in front of a list of the root.
-fn root_start(size: &Size, bits: &mut BitCursor<'_>) -> Result<Rows, Stop>
+/// Reads what stands before the items of a list of the root.
+fn read_root_start(size: &Size, bits: &mut BitCursor<'_>) -> Result<Fragments, Stop>
     requires of_profile { IsSizeOfProfile (size_range_of size.now) }
-    ensures done { IfOk result (λ rows. Spells per_fields (RootStart size.now.low size.now.high) (ahead_of rows) bits.old bits.new) }
+    ensures done { Reads result ahead_of (RootStart size.now.low size.now.high) bits.old bits.new }
     ensures between { IfOk result (λ rows. IsBetween rows) }
-    ensures stop { IfErr result (λ why. Stops per_fields (RootStart size.now.low size.now.high) bits.old why) }
+    ensures stop { StopsIn result (RootStart size.now.low size.now.high) bits.old }
 {
     let Some(high) = size.high else {
         let counts = Counts {
             low: size.low,
-            high: MOST,
+            high: MAX_LEN,
         };
-        return Ok(Rows::Lengths(Lengths::new(counts, None)));
+        return Ok(Fragments::Lengths(Lengths::new(counts, None)));
     };
-    Ok(Rows::Items(root_count(size.low, high, bits)?))
+    Ok(Fragments::Items(read_root_count(size.low, high, bits)?))
 }
 
 /// Reads the count of a list of a root with these bounds.
 #[inline(always)]
-fn root_count(low: u32, high: u32, bits: &mut BitCursor<'_>) -> Result<usize, Stop>
+fn read_root_count(low: u32, high: u32, bits: &mut BitCursor<'_>) -> Result<usize, Stop>
     requires { low ≤ high }
-    ensures done { IfOk result (λ n. Spells per_fields (RootStart low (Some high)) (items n) bits.old bits.new) }
-    ensures stop { IfErr result (λ why. Stops per_fields (RootStart low (Some high)) bits.old why) }
+    ensures done { Reads result items (RootStart low (Some high)) bits.old bits.new }
+    ensures stop { StopsIn result (RootStart low (Some high)) bits.old }
 {
     let above = u64::from(high - low);
-    let set = NumberSet {
-        low: 0,
-        high: above,
-        excluded: None,
-    };
-    let count = read_number(width(u128::from(above) + 1), set, Why::Length, bits)?;
+    let count = read_up_to(width(u128::from(above) + 1), above, Why::Length, bits)?;
     Ok(low as usize + count as usize)
 }

@@ -1,7 +1,8 @@
 //! What no clause says: that strings are encoded and decoded where there is memory, the reason of a refusal, and
 //! octets that were worked out by hand from X.691.
-use crate::{decode, encode};
-use asn_rules::{DecodeFault, Why};
+use crate::per::Per;
+use crate::session_tests::expect_in_pieces;
+use asn_rules::{DecodeFault, Rules, Why, decode};
 use asn_values::{AsnType, Checked, Size, TextKind, Value, same};
 use std::alloc::{AllocError, Global};
 use std::process::Abort;
@@ -26,10 +27,11 @@ pub(crate) fn expect(
     value: &Value,
 ) -> Result<(), Fail> {
     let ty = Checked::new(alloc, ty)?;
-    let encoded = encode(alloc, &ty, value)?;
+    let encoded = Per::encode(alloc, &ty, value)?;
     assert_eq!(rt; encoded.as_slice(), octets);
-    let decoded = decode(alloc, &ty, octets)?;
+    let decoded = decode::<Per>(alloc, &ty, octets)?;
     assert!(rt; same(&decoded, value), "at {octets:?}");
+    expect_in_pieces(rt, alloc, &ty, octets, &Ok(decoded));
     Ok(())
 }
 
@@ -43,8 +45,10 @@ pub(crate) fn expect_refusal(
     why: Why,
 ) -> Result<(), Fail> {
     let ty = Checked::new(alloc, ty)?;
-    let fault = decode(alloc, &ty, octets).err();
-    assert_eq!(rt; fault, Some(DecodeFault::Refused { at, why }), "at {at}");
+    let fault = decode::<Per>(alloc, &ty, octets).err();
+    let want = DecodeFault::Refused { at, why };
+    assert_eq!(rt; fault, Some(want), "at {at}");
+    expect_in_pieces(rt, alloc, &ty, octets, &Err(want));
     Ok(())
 }
 
@@ -220,7 +224,7 @@ fn characters_are_refused(rt: HostRuntime) -> Result<(), Fail> {
     expect_refusal(&rt, alloc, ty, b"\x81", 7, Why::Length)?;
     let ty = AsnType::Text(TextKind::Ia5, size(0, Some(3), true));
     let ty = Checked::new(alloc, ty)?;
-    let fault = decode(alloc, &ty, b"\x82").err();
+    let fault = decode::<Per>(alloc, &ty, b"\x82").err();
     assert_eq!(rt; fault, Some(DecodeFault::Truncated { taken: 8 }));
     Ok(())
 }

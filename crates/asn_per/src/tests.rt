@@ -1,7 +1,8 @@
 //! What no clause says: that the calls succeed, the reason of a refusal, and octets that were worked out by
 //! hand from X.691.
-use crate::{decode, encode};
-use asn_rules::{DecodeFault, EncodeFault, Why};
+use crate::per::Per;
+use crate::session_tests::expect_in_pieces;
+use asn_rules::{DecodeFault, EncodeFault, Rules, Why, decode};
 use asn_values::{AsnType, Bounds, Checked, Field, Item, Need, Size, TextKind, Value, same};
 use std::alloc::{AllocError, Global};
 use std::process::Abort;
@@ -105,7 +106,7 @@ fn no_components(alloc: Global) -> Result<Checked, Fail> {
     Ok(Checked::new(alloc, AsnType::Seq { root, ext: None })?)
 }
 
-/// The octets are the encoding of the value, to both sides.
+/// The octets are the encoding of the value, to both sides, and to a session in pieces.
 pub(crate) fn expect_pair(
     rt: &impl Abort,
     alloc: Global,
@@ -113,14 +114,15 @@ pub(crate) fn expect_pair(
     value: &Value,
     octets: &[u8],
 ) -> Result<(), Fail> {
-    let encoded = encode(alloc, ty, value)?;
+    let encoded = Per::encode(alloc, ty, value)?;
     assert_eq!(rt; encoded.as_slice(), octets);
-    let decoded = decode(alloc, ty, octets)?;
+    let decoded = decode::<Per>(alloc, ty, octets)?;
     assert!(rt; same(&decoded, value), "at {octets:?}");
+    expect_in_pieces(rt, alloc, ty, octets, &Ok(decoded));
     Ok(())
 }
 
-/// The octets are not decoded, for this fault.
+/// The octets are not decoded, for this fault, whole and in pieces.
 pub(crate) fn expect_fault(
     rt: &impl Abort,
     alloc: Global,
@@ -129,10 +131,11 @@ pub(crate) fn expect_fault(
     want: DecodeFault,
 ) {
     assert_eq!(rt;
-        decode(alloc, ty, octets).err(),
+        decode::<Per>(alloc, ty, octets).err(),
         Some(want),
         "at {octets:?}"
     );
+    expect_in_pieces(rt, alloc, ty, octets, &Err(want));
 }
 
 pub(crate) fn refused(at: u64, why: Why) -> DecodeFault {
@@ -153,7 +156,7 @@ fn messages_have_octets(rt: HostRuntime) -> Result<(), Fail> {
         expect_pair(&rt, alloc, &ty, &message(alloc, id, ok, flag)?, &[octet])?;
     }
     let absent = vec![in alloc; Some(Value::Int(8)), Some(Value::Bool(true)), None]?;
-    let fault = encode(alloc, &ty, &Value::Seq(absent)).err();
+    let fault = Per::encode(alloc, &ty, &Value::Seq(absent)).err();
     assert_eq!(rt; fault, Some(EncodeFault::NotOfType));
     Ok(())
 }
@@ -394,14 +397,27 @@ fn single_octets_are_counted(rt: HostRuntime) -> Result<(), Fail> {
     let number = Checked::new(alloc, integer(0, Some(5)))?;
     let mut messages = 0u32;
     let mut numbers = 0u32;
+    // by the bit that is refused
+    let mut refusals = [0u32; 9];
     for octet in 0..=255u8 {
-        let fault = decode(alloc, &message, &[octet]).err();
+        let fault = decode::<Per>(alloc, &message, &[octet]).err();
         assert_eq!(rt; fault, fault_of(octet), "at {octet}");
         messages = messages.saturating_add(u32::from(fault.is_none()));
-        numbers = numbers.saturating_add(u32::from(decode(alloc, &number, &[octet]).is_ok()));
+        let answer = decode::<Per>(alloc, &number, &[octet]);
+        expect_in_pieces(&rt, alloc, &number, &[octet], &answer);
+        match answer {
+            Ok(_) => numbers = numbers.saturating_add(1),
+            Err(DecodeFault::Refused { at, .. }) => {
+                if let Some(count) = refusals.get_mut(at as usize) {
+                    *count = count.saturating_add(1);
+                }
+            }
+            Err(_) => {}
+        }
     }
     assert_eq!(rt; messages, 48);
     assert_eq!(rt; numbers, 6);
+    assert_eq!(rt; refusals, [0, 0, 64, 0, 96, 48, 24, 12, 6]);
     Ok(())
 }
 

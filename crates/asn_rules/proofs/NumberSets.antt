@@ -1,5 +1,5 @@
 -- Numbers of a set in a fixed count of bits: the same set in other words, and what their reader cites at each exit.
-use Rattle.std.proofs.Common.{◌≡◌, ◌*◌, ℕ, List, [], ◌∷◌, ◌++◌, length, Result, Ok, Err, IfErr}
+use Rattle.std.proofs.Common.{◌≡◌, ◌*◌, ℕ, List, [], ◌∷◌, ◌++◌, length}
 use Rattle.asn_bits.specs.Begun.{Begins}
 use Rattle.asn_bits.specs.Sets.{InDigits}
 use Rattle.asn_rules.specs.Counted.{SomeOf, Counted}
@@ -33,8 +33,3 @@ counted_leads {T} {k} R s =
     let octets = plain_units (InDigits 2 (8 * k) (T k)) in
     let both : AreUnits (Counted 2 8 T) = then_units count (λ j. plain_units (InDigits 2 (8 * j) (T j))) in
     leads_under octets both (leads_octets no_fields_part (spells_under count s))
-
--- what a result says, made weaker
-pub if_err_weaker : {X Y : Type 0} (r : Result X Y) (P Q : Y → Type 0) → ((y : Y) → P y → Q y) → IfErr r P → IfErr r Q
-if_err_weaker (Ok x) P Q f h = tt
-if_err_weaker (Err y) P Q f h = f y h

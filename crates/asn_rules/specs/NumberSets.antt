@@ -1,5 +1,6 @@
 -- Which numbers a reader of numbers admits, and their spellings in bits.
 use Rattle.std.specs.Prelude.{◌≢◌, ◌≤◌, ◌-◌, ◌^◌, ◌==◌, ◌&&◌, ℕ, true, false, nat_lt, List, Option, Some, None, ⊤}
+use Rattle.asn_bits.specs.Begun.{StandsFirst}
 use Rattle.asn_bits.specs.Numbers.{octet_count}
 use Rattle.asn_bits.specs.Sets.{Among, InSet}
 use Rattle.asn_rules.specs.Chunks.{Chunk}
@@ -34,6 +35,10 @@ NumberIn k s = Plain (InSet k (λ m. Admits s m))
 -- a number of the intervals in k bits
 abbrev pub NumberAmong : ℕ → List (ℕ × ℕ) → ℕ → List Chunk → Type 0
 NumberAmong k is = Plain (InSet k (λ m. Among is m))
+
+-- no number of the set in k bits is a prefix of the units
+abbrev pub NoneStandsFirst : ℕ → NumberSet → List ℕ → Type 0
+NoneStandsFirst k s us = (n : ℕ) (rest : List ℕ) → StandsFirst k (λ m. Admits s m) n us rest → ⊥
 
 -- ---- in the fewest octets
 

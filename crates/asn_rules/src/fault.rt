@@ -1,3 +1,5 @@
+//! Why a value is not encoded, and why octets are not decoded.
+
 ghost use Rattle.std.specs.Prelude.{◌≡◌};
 ghost use Rattle.asn_rules.specs.declared.fault.EncodeFault.TheVariants as encode;
 ghost use Rattle.asn_rules.specs.declared.fault.DecodeFault.TheVariants as decode;
@@ -33,7 +35,7 @@ pub enum EncodeFault {
     /// The encoding would have more than 268,435,455 octets.
     #[error("too long")]
     TooLong = 2,
-    /// A growth was refused.
+    /// An allocation failed.
     #[error("memory")]
     Memory = 3,
 }
@@ -53,7 +55,7 @@ pub enum DecodeFault {
     /// No encoding of at most 268,435,455 octets begins the octets.
     #[error("too long")]
     TooLong,
-    /// A growth was refused.
+    /// An allocation failed.
     #[error("memory")]
     Memory,
 }

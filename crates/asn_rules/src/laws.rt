@@ -10,9 +10,9 @@ ghost use Rattle.asn_rules.specs.Laws.{AreOctets, RulesLaws, WholesTell, LiveIsC
 ghost use Rattle.asn_rules.specs.Live.{Fielding};
 ghost use Rattle.asn_rules.specs.Reading.{RulesTell};
 
-/// What an encoding may still follow, it may follow each beginning of. So once no encoding can
-/// follow the octets, none can follow them with more octets behind.
-pub fn live_is_closed()
+/// If some encoding extends these units, one extends each prefix of them. So once no encoding extends the octets,
+/// none extends them with more octets appended.
+pub fn viability_is_prefix_closed()
     ensures { (r : Fielding) (whole : Shape → Datum → List Chunk) → LiveIsClosed r whole }
 {}
 
@@ -28,9 +28,9 @@ pub fn answers_exclude()
     ensures { (r : Ruling) → RulesLaws r → OneAnswer r }
 {}
 
-/// Of an encoding of at most 2 ^ 28 - 1 octets each beginning is live, so the octets of an
-/// encoding are at no place refused, however many of them have come.
-pub fn beginnings_are_live()
+/// Each prefix of an encoding of at most 2 ^ 28 - 1 octets is viable, an encoding may still follow it: so no octet
+/// of an encoding is refused, however many of them were read.
+pub fn prefixes_are_viable()
     ensures live { (r : Ruling) → RulesTell r → BeginningsAreLive r }
     ensures not_refused { (r : Ruling) → RulesTell r → BeginningsAreNotRefused r }
 {}

@@ -4,23 +4,34 @@
 mod fault;
 mod laws;
 mod length_reader;
+mod limits;
 mod number_reader;
-mod profile;
 mod readings;
+pub mod rereading;
+mod rules;
+mod session;
 mod signed_reader;
 mod stop;
 mod whole_number_reader;
 
+pub use asn_values::profile::{HIGHEST_INTEGER, INTEGER_COUNT, LOWEST_INTEGER, OFFSET_OF_ZERO};
 pub use fault::{DecodeFault, EncodeFault, Why};
 pub use laws::{
-    answers_exclude, are_octets, beginnings_are_live, codec_laws, laws_from_units, live_is_closed,
+    answers_exclude, are_octets, codec_laws, laws_from_units, prefixes_are_viable,
+    viability_is_prefix_closed,
 };
 pub use length_reader::read_next_length;
+pub use limits::MAX_OCTETS;
 pub use number_reader::{
-    NumberSet, admits, bits_left, read_number, read_number_among, read_padding, try_number,
+    NumberSet, admits, bits_left, read_number, read_number_among, read_padding, read_up_to,
+    try_number,
 };
-pub use profile::{HIGHEST_INTEGER, INTEGER_COUNT, LOWEST_INTEGER, OFFSET_OF_ZERO};
 pub use readings::{one_reading, readings_answer};
+pub use rereading::{Reads, Rereading};
+pub use rules::{Rules, decode};
+pub use session::{FeedFault, OpenFault, Step, Truncated};
 pub use signed_reader::{OffsetSet, read_unconstrained};
 pub use stop::Stop;
-pub use whole_number_reader::{power_of_two, read_constrained, read_semi_constrained};
+pub use whole_number_reader::{
+    greatest_of_width, power_of_two, read_constrained, read_semi_constrained,
+};

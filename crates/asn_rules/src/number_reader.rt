@@ -1,9 +1,9 @@
 //! Readers of numbers in a fixed count of bits, refused at the first bit after which no number of the set can follow.
 
-ghost use Rattle.std.specs.Prelude.{◌≡◌, ◌≤◌, ◌↔◌, ℕ, List, IfOk, IfSome, IsNone, IsTrue, length, replicate};
+ghost use Rattle.std.specs.Prelude.{◌≡◌, ◌≤◌, ◌↔◌, ℕ, IfOk, IfSome, IsNone, IsTrue, None, length, replicate};
 ghost use Rattle.asn_bits.specs.Begun.{StandsFirst};
 ghost use Rattle.asn_bits.specs.Sets.{AreBits, Meets, Among};
-ghost use Rattle.asn_rules.specs.NumberSets.{Admits, AreAmong, NumberIn, NumberAmong};
+ghost use Rattle.asn_rules.specs.NumberSets.{Admits, AreAmong, NoneStandsFirst, NumberIn, NumberAmong, up_to};
 ghost use Rattle.asn_rules.specs.Padding.{Fixed};
 ghost use Rattle.asn_rules.specs.PlainReading.{ReadsPlain, StopsPlain};
 
@@ -69,6 +69,23 @@ pub fn read_number(k: u32, set: NumberSet, why: Why, bits: &mut BitCursor<'_>) -
     }
 }
 
+/// Reads a number from 0 to `high` in `k` bits, as `read_number` does.
+#[inline(always)]
+pub fn read_up_to(k: u32, high: u64, why: Why, bits: &mut BitCursor<'_>) -> Result<u64, Stop>
+    requires few { k ≤ 64 }
+    requires some { Meets (λ n. Admits (up_to high None) n) 0 k }
+    ensures done { ReadsPlain (NumberIn k (up_to high None)) result bits.old bits.new }
+    ensures member { IfOk result (λ n. Admits (up_to high None) n) }
+    ensures stop { StopsPlain (NumberIn k (up_to high None)) result bits.old }
+{
+    let set = NumberSet {
+        low: 0,
+        high,
+        excluded: None,
+    };
+    read_number(k, set, why, bits)
+}
+
 /// Reads a number of the intervals in `k` bits: in one step if they are present and hold one.
 ///
 /// # Errors
@@ -96,7 +113,7 @@ pub fn read_number_among(
 pub fn try_number(k: u32, set: NumberSet, bits: &mut BitCursor<'_>) -> Option<u64>
     requires { k ≤ 64 }
     ensures some { IfSome result (λ n. StandsFirst k (λ m. Admits set m) n bits.old bits.new) }
-    ensures none { IsNone result → (n : ℕ) (rest : List ℕ) → StandsFirst k (λ m. Admits set m) n bits.old rest → ⊥ }
+    ensures none { IsNone result → NoneStandsFirst k set bits.old }
     ensures unchanged { IsNone result → bits.new ≡ bits.old }
 {
     let n = bits.peek_number(k)?;
@@ -149,11 +166,6 @@ pub fn read_padding(zeros: u32, bits: &mut BitCursor<'_>) -> Result<(), Stop>
     ensures done { ReadsPlain (Fixed (replicate zeros 0)) result bits.old bits.new }
     ensures stop { StopsPlain (Fixed (replicate zeros 0)) result bits.old }
 {
-    let set = NumberSet {
-        low: 0,
-        high: 0,
-        excluded: None,
-    };
-    read_number(zeros, set, Why::Padding, bits)?;
+    read_up_to(zeros, 0, Why::Padding, bits)?;
     Ok(())
 }

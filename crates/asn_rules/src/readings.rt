@@ -12,9 +12,8 @@ pub fn one_reading()
     ensures { (r : Ruling) (t : Shape) (us : List ℕ) → RulesTell r → InProfile t → HasOneReading r t us }
 {}
 
-/// What a reader says of the units of octets is the answer to the octets: the value of the
-/// encoding in front, the place of a refusal, counted from the units that lie behind it, or that
-/// more octets are wanted.
+/// What a reader says of the units of octets is the answer to the octets: the value of the encoding in front, the
+/// refused unit, found from how many units follow it, or that more octets are wanted.
 pub fn readings_answer()
     ensures { (r : Ruling) (t : Shape) (s : List ℕ) → RulesTell r → InProfile t → ReadingsAnswer r t s }
 {}

@@ -9,9 +9,9 @@ ghost use Rattle.asn_rules.specs.PlainReading.{StopsPlain};
 
 use crate::fault::Why;
 use crate::number_reader::{NumberSet, read_number, read_number_among};
-use crate::profile::OFFSET_OF_ZERO;
 use crate::stop::Stop;
 use asn_bits::{BitCursor, Intervals};
+use asn_values::profile::OFFSET_OF_ZERO;
 
 /// Integers by their offsets, how far they lie above the lowest one of the profile: the offsets below `below` and
 /// those from `from` on, all below `end`.

@@ -1,3 +1,5 @@
+//! Why a reader of units gave no value.
+
 ghost use Rattle.std.specs.Prelude.{◌≡◌};
 ghost use Rattle.asn_rules.specs.declared.stop.Stop.TheVariants.{Memory};
 
@@ -7,11 +9,11 @@ use std::alloc::{AllocError, AllocFailed};
 /// Why a reader of units gave no value.
 #[derive(Clone, Copy, Debug, PartialEq, Eq)]
 pub enum Stop {
-    /// No value has a spelling that begins so: `left` units lie behind the first that shows it.
+    /// No encoding starts so; `left` units follow the first offending one.
     Refused { left: u128, why: Why },
-    /// The units end before a spelling does.
+    /// The units end before an encoding does.
     Short,
-    /// A growth was refused.
+    /// An allocation failed.
     Memory,
 }
 

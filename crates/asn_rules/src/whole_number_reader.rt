@@ -106,10 +106,18 @@ fn greatest_with(count: u32) -> u64
     requires few { count ≤ 8 }
     ensures { result + 1 ≡ 256 ^ count }
 {
-    if count == 8 {
+    greatest_of_width(8 * count)
+}
+
+/// The greatest number of `width` bits.
+pub fn greatest_of_width(width: u32) -> u64
+    requires { width ≤ 64 }
+    ensures { result + 1 ≡ 2 ^ width }
+{
+    if width == 64 {
         u64::MAX
     } else {
-        power_of_two(8 * count) - 1
+        power_of_two(width) - 1
     }
 }
 

@@ -12,7 +12,7 @@ use Rattle.asn_values.specs.declared.types.Item.{Item}
 use Rattle.asn_values.specs.declared.types.Size.{Size}
 use Rattle.asn_values.specs.declared.types.TextKind.{TextKind}
 use Rattle.asn_values.specs.Shape.{Shape, Fields, Alternatives}
-use Rattle.asn_values.specs.Measures.{fields_depth, fields_nodes, choice_depth, choice_nodes}
+use Rattle.asn_values.specs.Measures.{depth, fields_depth, fields_nodes, choice_depth, choice_nodes}
 use Rattle.asn_values.specs.Profile.{some_field, some_alternative}
 use Rattle.asn_values.specs.Walk.{IsFaultless, Extent, of_type, of_types, beside, IsSoundWithin}
 use Rattle.asn_values.specs.View.{shape_of, fields_of, part_of_field, alternatives_of, branch_of}
@@ -108,5 +108,5 @@ simple t (inr (inr (inr (inr (inr (inr (inr e))))))) = rw (e, shape_of-Utf8) (re
 
 -- it is sound where it has no fault by itself
 pub simple_is_sound : (levels start : ℕ) (t : AsnType) → OneOfSimple t →
-    0 < levels → 0 < start → IsFaultless (shape_of t) → IsSoundWithin levels start (start - 1) (of_type (shape_of t))
+    0 < levels → 0 < start → (depth (shape_of t) ≤ levels - 1 + 1 → IsFaultless (shape_of t)) → IsSoundWithin levels start (start - 1) (of_type (shape_of t))
 simple_is_sound levels start t which some more here = sound_simple levels start (shape_of t) (simple t which) some more here

@@ -4,9 +4,9 @@ use Rattle.std.specs.List.{list_all}
 use Rattle.std.proofs.lemmas.Bool.{le-ltb, lt-ltb, ne_eqb}
 use Rattle.std.proofs.lemmas.List.{length-map}
 use Rattle.asn_values.specs.declared.types.Field.{Field}
-use Rattle.asn_values.specs.Shape.{sequence, choice, Fields, MoreFields, more_fields, demands, field_names, Alternatives, MoreAlternatives, more_alternatives, alternative_names, count}
-use Rattle.asn_values.specs.Profile.{EmptyRange, SizeTooLarge, DuplicateName, BadEnumeration, UselessMark, BadDefault, ZeroWidthElement, AdditionNotOptional, TooMany, TooDeep, bad_names, bad_default_at, is_optional, too_many_here, most_components, most_additions, most_alternatives}
-use Rattle.asn_values.specs.Walk.{IsFaultless}
+use Rattle.asn_values.specs.Shape.{SizeRange, Shape, sequence, sequence_of, choice, Fields, MoreFields, more_fields, demands, field_names, Alternatives, MoreAlternatives, more_alternatives, alternative_names, count}
+use Rattle.asn_values.specs.Profile.{EmptyRange, SizeTooLarge, DuplicateName, BadEnumeration, UselessMark, BadDefault, ZeroWidthElement, AdditionNotOptional, TooMany, TooDeep, bad_names, bad_default_at, is_optional, too_many_here, no_bits, most_components, most_additions, most_alternatives}
+use Rattle.asn_values.specs.Walk.{IsFaultless, IsFaultlessSize}
 use Rattle.asn_values.specs.View.{fields_of, part_of_field}
 use Rattle.asn_values.proofs.Entries.{length-demands}
 
@@ -56,3 +56,18 @@ faultless_choice root more some names few ZeroWidthElement = refl
 faultless_choice root more some names few AdditionNotOptional = refl
 faultless_choice root more some names few TooMany = le-ltb most_alternatives (count root + count (more_alternatives more)) few
 faultless_choice root more some names few TooDeep = refl
+
+-- ---- a SEQUENCE OF
+
+-- its size is right, and its element has bits
+pub faultless_list : (t : Shape) (s : SizeRange) → IsFaultlessSize s → no_bits t ≡ false → IsFaultless (sequence_of t s)
+faultless_list t s size bits EmptyRange = size.ranged
+faultless_list t s size bits SizeTooLarge = size.small
+faultless_list t s size bits DuplicateName = refl
+faultless_list t s size bits BadEnumeration = refl
+faultless_list t s size bits UselessMark = size.marked
+faultless_list t s size bits BadDefault = refl
+faultless_list t s size bits ZeroWidthElement = bits
+faultless_list t s size bits AdditionNotOptional = refl
+faultless_list t s size bits TooMany = refl
+faultless_list t s size bits TooDeep = refl

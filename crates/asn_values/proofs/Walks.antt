@@ -1,5 +1,5 @@
 -- How what a walk found of the parts of a type tells what holds of the whole.
-use Rattle.std.proofs.Common.{◌≡◌, ◌<◌, ◌-◌, ◌||◌, inl, inr, ℕ, suc, Bool, true, false, List, [], ◌∷◌, nat_lt, Option, Some, None, refl, sym, subst, arith}
+use Rattle.std.proofs.Common.{◌≡◌, ◌≤◌, ◌<◌, ◌+◌, ◌-◌, ap, ◌||◌, inl, inr, ℕ, suc, Bool, true, false, List, [], ◌∷◌, nat_lt, Option, Some, None, refl, sym, subst, arith}
 use Rattle.asn_values.specs.declared.fault.TypeFault.{TypeFault}
 use Rattle.asn_values.specs.declared.fault.TypeFault.TheVariants as fault
 use Rattle.asn_values.specs.Shape.{Shape}
@@ -81,12 +81,15 @@ pub record IsAround (t : Shape) (inside : Extent) : Type 0 where
 
 module _ (levels start : ℕ) (t : Shape) (inside : Extent) (is : IsAround t inside) (some : 0 < levels) (any : 0 < start) where
   -- it is sound where it is so by itself and they are
-  pub sound_around : (left : ℕ) → IsFaultless t → IsSoundWithin (levels - 1) (start - 1) left inside → IsSoundWithin levels start left (of_type t)
-  sound_around left here h = rw is.same (record {
-    counted = omega (arith, h.counted);
-    shallow = omega (arith, h.shallow);
-    faultless = λ c. rw (here c) (h.faultless c);
-  })
+  pub sound_around : (left : ℕ) → (depth t ≤ levels - 1 + 1 → IsFaultless t) → IsSoundWithin (levels - 1) (start - 1) left inside → IsSoundWithin levels start left (of_type t)
+  sound_around left here h =
+      let deep : depth t ≡ suc inside.levels = ap (λ (e : Extent). e.levels) is.same in
+      let faultless : IsFaultless t = here (omega (arith, h.shallow, deep)) in
+      rw is.same (record {
+        counted = omega (arith, h.counted);
+        shallow = omega (arith, h.shallow);
+        faultless = λ c. rw (faultless c) (h.faultless c);
+      })
 
   -- a fault of them is one of it
   pub fault_around : (f : TypeFault) → IsFaultWithin f (levels - 1) (start - 1) inside → IsFaultWithin f levels start (of_type t)
@@ -106,11 +109,11 @@ pub record IsSimple (t : Shape) : Type 0 where
   pub only_itself : (condition : Shape → Bool) → somewhere condition t ≡ condition t
 
 -- it is sound where it has no fault by itself
-pub sound_simple : (levels start : ℕ) (t : Shape) → IsSimple t → 0 < levels → 0 < start → IsFaultless t → IsSoundWithin levels start (start - 1) (of_type t)
+pub sound_simple : (levels start : ℕ) (t : Shape) → IsSimple t → 0 < levels → 0 < start → (depth t ≤ levels - 1 + 1 → IsFaultless t) → IsSoundWithin levels start (start - 1) (of_type t)
 sound_simple levels start t s some more here = record {
   counted = omega (arith, s.one_node);
   shallow = omega (arith, s.one_level);
-  faultless = λ c. rw (s.only_itself (test_of c)) (here c);
+  faultless = λ c. rw (s.only_itself (test_of c)) (here (omega (arith, s.one_level)) c);
 }
 
 -- ---- the whole type

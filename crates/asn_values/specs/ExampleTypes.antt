@@ -83,17 +83,17 @@ optional_component name t rest = field name optional t rest
 abbrev pub default_component : List ℕ → Datum → Shape → Fields → Fields
 default_component name d t rest = field name (default d) t rest
 
--- so many alternatives of one type; their names play no part in an encoding
+-- n alternatives of one type; their names play no part in an encoding
 abbrev pub alternatives_of : ℕ → Shape → Alternatives
 alternatives_of zero t = no_alternatives
 alternatives_of (suc n) t = one_of [] t (alternatives_of n t)
 
--- so many OPTIONAL components of one type
+-- n OPTIONAL components of one type
 abbrev pub optionals_of : ℕ → Shape → Fields
 optionals_of zero t = no_fields
 optionals_of (suc n) t = field [] optional t (optionals_of n t)
 
--- so many items with the numbers from first on
+-- items with the numbers from first on
 abbrev pub labels_from : ℕ → ℕ → List Label
 labels_from first zero = []
 labels_from first (suc n) = label [] (pos first) ∷ labels_from (suc first) n
@@ -204,12 +204,12 @@ negative_default_type = sequence (default_component (codes "n") (number (negsuc 
 abbrev pub false_default_type : Shape
 false_default_type = sequence (default_component (codes "b") (truth false) boolean no_fields) closed
 
--- so many lists around a type
+-- n lists around a type
 abbrev pub lists_around : ℕ → Shape → Shape
 lists_around zero t = t
 lists_around (suc n) t = sequence_of (lists_around n t) any_size
 
--- a SEQUENCE of so many BOOLEANs, each OPTIONAL
+-- a SEQUENCE of n BOOLEANs, each OPTIONAL
 abbrev pub truths : ℕ → Shape
 truths n = sequence (optionals_of n boolean) closed
 
@@ -221,7 +221,7 @@ large_type n =
     (component [] (sequence (optionals_of 25 (truths 64)) closed)
     (component [] (truths n) no_fields)))) closed
 
--- BOOLEAN, and so many times a SEQUENCE with two components of the type before
+-- BOOLEAN, and n times a SEQUENCE with two components of the type before
 abbrev pub doubled : ℕ → Shape
 doubled zero = boolean
 doubled (suc n) = sequence (component (codes "a") (doubled n) (component (codes "b") (doubled n) no_fields)) closed

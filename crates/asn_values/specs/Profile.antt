@@ -179,14 +179,14 @@ abbrev pub bad_default : Shape → Bool
 bad_default (sequence root more) = bad_default_at root || bad_default_at (more_fields more)
 bad_default _ = false
 
--- ---- ZeroWidthElement: a SEQUENCE OF whose element is spelt in PER by no bits
+-- ---- ZeroWidthElement: a SEQUENCE OF whose element is encoded in PER by no bits
 
 abbrev pub is_zero_size : SizeRange → Bool
 is_zero_size s = not s.extensible && at_zero s.high
   where
     at_zero : Option ℕ → Bool
     at_zero None = false
-    at_zero (Some high) = high == 0
+    at_zero (Some high) = s.low == 0 && high == 0
 
 abbrev pub is_fixed_size : SizeRange → Bool
 is_fixed_size s = not s.extensible && same s.high
@@ -199,7 +199,7 @@ abbrev pub is_one_number : Range → Bool
 is_one_number b = not b.extensible && one b.low b.high
   where
     one : Option ℤ → Option ℤ → Bool
-    one (Some low) (Some high) = int_le high low
+    one (Some low) (Some high) = int_eq low high
     one _ _ = false
 
 abbrev pub is_closed : MoreLabels → Bool

@@ -25,7 +25,7 @@ pub record Label : Type 0 where
   pub name : List ℕ
   pub number : ℤ
 
--- the items behind the extension mark of an ENUMERATED, where it has the mark
+-- the additions of an ENUMERATED, where it has an extension marker
 pub data MoreLabels : Type 0 where
   closed_labels : MoreLabels
   marked_labels : List Label → MoreLabels

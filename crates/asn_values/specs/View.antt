@@ -56,7 +56,7 @@ alphabet_of text_kind.Visible = visible
 abbrev pub label_of : Item → Label
 label_of i = record { name = string_bytes i.name; number = i.number }
 
--- the items behind the extension mark of an ENUMERATED, where it has one
+-- the additions of an ENUMERATED, where it has an extension marker
 abbrev pub more_labels_of : Option (Vec Item) → MoreLabels
 more_labels_of None = closed_labels
 more_labels_of (Some more) = marked_labels (map label_of more.items)
@@ -90,7 +90,7 @@ abbrev pub alternatives_of : List Branch → Alternatives
 alternatives_of [] = no_alternatives
 alternatives_of (b ∷ bs) = one_of b.name b.shape (alternatives_of bs)
 
--- the alternatives behind the extension mark, where there is one
+-- the additions of a CHOICE, where it has an extension marker
 abbrev pub more_branches : Option (Vec Branch) → MoreAlternatives
 more_branches None = closed_choice
 more_branches (Some more) = marked_choice (alternatives_of more.items)
@@ -124,7 +124,7 @@ part_of_field = fold-Field Shape Branch Part shape_step branch_step field_step
 abbrev pub branch_of : Alt → Branch
 branch_of = fold-Alt Shape Branch Part shape_step branch_step field_step
 
--- the same of the lists behind an extension mark, as the program holds them
+-- the same of the additions, as the program holds them
 abbrev pub more_fields_of : Option (Vec Field) → MoreFields
 more_fields_of None = closed
 more_fields_of (Some more) = marked (fields_of (map part_of_field more.items))

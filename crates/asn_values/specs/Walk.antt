@@ -1,10 +1,10 @@
 -- What a walk over a type finds, which has some levels and some nodes to go.
-use Rattle.std.specs.Prelude.{◌≡◌, ◌≤◌, ◌<◌, ◌+◌, ◌⊎◌, ◌||◌, ℕ, max, Bool, true, false, List, [], ◌∷◌, Option, Some, None}
+use Rattle.std.specs.Prelude.{◌≡◌, ◌≤◌, ◌<◌, ◌+◌, ◌-◌, ◌⊎◌, ◌&&◌, ◌||◌, ℕ, max, Bool, true, false, List, [], ◌∷◌, length, Option, Some, None, nat_lt, ◌==◌}
 use Rattle.asn_values.specs.declared.fault.TypeFault.{TypeFault}
 use Rattle.asn_values.specs.declared.fault.TypeFault.TheVariants as fault
-use Rattle.asn_values.specs.Shape.{SizeRange, Shape}
+use Rattle.asn_values.specs.Shape.{SizeRange, Shape, boolean, null, integer, enumerated, bit_string, octet_string, restricted, utf8_string, sequence, sequence_of, choice, must, Fields, no_fields, field, Alternatives, one_of, no_alternatives}
 use Rattle.asn_values.specs.Measures.{depth, nodes}
-use Rattle.asn_values.specs.Profile.{Condition, EmptyRange, SizeTooLarge, DuplicateName, BadEnumeration, UselessMark, BadDefault, ZeroWidthElement, AdditionNotOptional, TooMany, TooDeep, somewhere, empty_range, size_above, size_too_large, large_size, is_every_length, duplicate_name, bad_enumeration, useless_mark, bad_default, zero_width_element, addition_not_optional, too_many_here}
+use Rattle.asn_values.specs.Profile.{Condition, EmptyRange, SizeTooLarge, DuplicateName, BadEnumeration, UselessMark, BadDefault, ZeroWidthElement, AdditionNotOptional, TooMany, TooDeep, somewhere, empty_range, size_above, size_too_large, large_size, is_every_length, duplicate_name, bad_enumeration, useless_mark, bad_default, zero_width_element, addition_not_optional, too_many_here, is_one_number, is_closed, is_zero_size, is_fixed_size, no_more_bits, no_more_choice}
 
 -- ---- one node
 
@@ -63,6 +63,33 @@ HoldsOfSize fault.SizeTooLarge s = large_size (Some s) ≡ true
 HoldsOfSize fault.UselessMark s = is_every_length (Some s) ≡ true
 HoldsOfSize _ s = ⊥
 
+-- ---- types without bits
+
+abbrev mutual
+  -- no value of the type has a bit in PER; `levels` levels of types inside it are looked at, and a type below them
+  -- counts as one with bits
+  pub no_bits_within : ℕ → Shape → Bool
+  no_bits_within levels boolean = false
+  no_bits_within levels null = true
+  no_bits_within levels (integer b) = is_one_number b
+  no_bits_within levels (enumerated root more) = length root == 1 && is_closed more
+  no_bits_within levels (bit_string s) = is_zero_size s
+  no_bits_within levels (octet_string s) = is_zero_size s
+  no_bits_within levels (restricted k s) = is_zero_size s
+  no_bits_within levels utf8_string = false
+  no_bits_within levels (sequence root more) = no_field_bits_within levels root && no_more_bits more
+  no_bits_within levels (sequence_of t s) = is_zero_size s || (is_fixed_size s && (nat_lt 0 levels && no_bits_within (levels - 1) t))
+  no_bits_within levels (choice root more) = single_no_bits_within levels root && no_more_choice more
+
+  pub no_field_bits_within : ℕ → Fields → Bool
+  no_field_bits_within levels no_fields = true
+  no_field_bits_within levels (field name must t fs) = (nat_lt 0 levels && no_bits_within (levels - 1) t) && no_field_bits_within levels fs
+  no_field_bits_within levels (field name _ t fs) = false
+
+  pub single_no_bits_within : ℕ → Alternatives → Bool
+  single_no_bits_within levels (one_of name t no_alternatives) = nat_lt 0 levels && no_bits_within (levels - 1) t
+  single_no_bits_within levels _ = false
+
 -- ---- types with all inside them
 
 -- what a walk goes over: how many nodes, how many levels, and which conditions hold of one of the nodes
@@ -83,7 +110,7 @@ abbrev pub of_types : List Shape → Extent
 of_types [] = record { count = 0; levels = 0; holds = λ condition. false }
 of_types (t ∷ ts) = beside (of_type t) (of_types ts)
 
--- no condition holds anywhere, the levels suffice, and of the nodes so many are left
+-- no condition holds anywhere, the levels suffice, and of the nodes `left` are left
 pub record IsSoundWithin (levels start left : ℕ) (e : Extent) : Type 0 where
   pub counted : left + e.count ≡ start
   pub shallow : e.levels ≤ levels

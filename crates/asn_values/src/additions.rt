@@ -1,4 +1,4 @@
-//! What stands behind an extension mark: the additions of a SEQUENCE and of a CHOICE.
+//! Extension additions: those of a SEQUENCE and of a CHOICE.
 ghost use Rattle.std.specs.Prelude.{◌≡◌, map};
 ghost use Rattle.std.specs.List.{list_all};
 ghost use Rattle.asn_values.specs.Profile.{is_optional};
@@ -7,7 +7,7 @@ ghost use Rattle.asn_values.specs.View.{fields_of, part_of_field, more_fields_of
 
 use crate::types::{Alt, Field, Need};
 
-/// The additions of a SEQUENCE, of which there are none where there is no mark.
+/// The additions of a SEQUENCE: none where there is no extension marker.
 pub(crate) fn of_sequence(ext: &Option<Vec<Field>>) -> &[Field]
     ensures { fields_of (map part_of_field result.now) ≡ more_fields (more_fields_of ext.now) }
 {
@@ -17,7 +17,7 @@ pub(crate) fn of_sequence(ext: &Option<Vec<Field>>) -> &[Field]
     }
 }
 
-/// The additions of a CHOICE, of which there are none where there is no mark.
+/// The additions of a CHOICE: none where there is no extension marker.
 pub(crate) fn of_choice(ext: &Option<Vec<Alt>>) -> &[Alt]
     ensures { alternatives_of (map branch_of result.now) ≡ more_alternatives (more_alternatives_of ext.now) }
 {

@@ -1,11 +1,13 @@
+//! Types of the profile.
 ghost use Rattle.std.specs.Prelude.{◌≡◌, IfOk, IfErr, OnOk};
 ghost use Rattle.asn_values.specs.Profile.{InProfile};
 ghost use Rattle.asn_values.specs.View.{shape_of, Holds};
 
 use crate::fault::TypeFault;
+use crate::profile::{MAX_LEVELS, MAX_TYPES};
 use crate::types::AsnType;
 use crate::walk;
-use std::alloc::Global;
+use std::alloc::{AllocError, Global};
 use std::marker::Model;
 use std::rc::Rc;
 
@@ -32,36 +34,43 @@ impl Model for Checked {
     ghost invariant = { λ c. InProfile (shape_of c.tree.value) };
 }
 
-/// The most levels of types inside one another.
-const MOST_LEVELS: u32 = 32;
-
-/// The most types inside one another, the outermost one counted.
-const MOST_NODES: u32 = 10_000;
-
 impl Checked {
-    /// The type, where all conditions of the profile hold of it. Its only growth is the cell that
-    /// all copies share.
+    /// The type, where all conditions of the profile hold of it. Allocates one shared cell.
     ///
     /// Err: the fault of the first type inside it that has one, a type before those inside it and
     /// these from left to right, and of several faults of that type the one with the least number.
-    /// A type at level 33 is `TooDeep`, and the 10,001st is `TooMany`. `Memory` where there is no
-    /// fault, and the growth was refused. The type is given up.
+    /// A type at level 33 is `TooDeep`, whatever else holds of it, and the 10,001st is `TooMany`.
+    /// `Memory` where there is no fault, and the allocation failed. On error the type is dropped.
+    ///
+    /// No type below level 32 is looked at, but to drop a type takes stack for each of its levels: some
+    /// 26,000 levels overflow it. So who builds a type from what a stranger sent bounds its nesting before.
     pub fn new(alloc: Global, ty: AsnType) -> Result<Checked, TypeFault>
         ensures same { IfOk result (λ c. c ≡ ty) }
         ensures of_profile { OnOk result (InProfile (shape_of ty)) }
         ensures fault { IfErr result (λ f. Holds f (shape_of ty)) }
         ensures memory { IfErr result (λ f. f ≡ TypeFault.Memory → InProfile (shape_of ty)) }
     {
-        walk::nodes_left(&ty, MOST_LEVELS, MOST_NODES)?;
+        walk::check_type(&ty, MAX_LEVELS, MAX_TYPES)?;
         let tree = Rc::new(alloc, ty).map_err(|_| TypeFault::Memory)?;
         Ok(Checked { tree })
     }
 
-    /// The type itself, of which all conditions of the profile hold. Takes no memory.
+    /// The type itself, of which all conditions of the profile hold. Allocates nothing.
     pub fn get(&self) -> &AsnType
         ensures same { result.now ≡ self.now }
         ensures of_profile { InProfile (shape_of self.now) }
     {
         &self.tree
+    }
+
+    /// The same type, for a holder of its own: the copy shares the tree.
+    ///
+    /// # Errors
+    /// `AllocError` where an allocation failed.
+    pub fn copy(&self) -> Result<Checked, AllocError>
+        ensures { IfOk result (λ c. c ≡ self.now) }
+    {
+        let tree = self.tree.clone()?;
+        Ok(Checked { tree })
     }
 }

@@ -31,7 +31,7 @@ fn is_good(ty: &AsnType, value: &Value) -> bool
             matches!(value, Value::Int(number) if ranges::is_good_number(bounds, *number))
         }
         AsnType::Enum { root, ext } => {
-            matches!(value, Value::Enum(place) if enumerations::is_good_item(root, ext, *place))
+            matches!(value, Value::Enum(index) if enumerations::is_good_item(root, ext, *index))
         }
         AsnType::Null
         | AsnType::Bits(_)

@@ -1,4 +1,4 @@
-//! ENUMERATED: which items there may be, and which places are those of items.
+//! ENUMERATED: which items there may be, and which indexes are those of items.
 ghost use Rattle.std.specs.Prelude.{◌≡◌, ◌↔◌, ◌++◌, ◌==◌, IsTrue, map, length};
 ghost use Rattle.std.specs.List.{list_any, list_all};
 ghost use Rattle.std.specs.Int.RustNames.{int_lt};
@@ -9,25 +9,20 @@ ghost use Rattle.asn_values.specs.Profile.{duplicate_name, bad_enumeration, too_
 ghost use Rattle.asn_values.specs.View.{label_of, more_labels_of};
 
 use crate::names;
+use crate::profile::{MAX_ADDITIONS, MAX_ITEMS};
 use crate::types::Item;
 
-/// The most items, those of the root and the additions together.
-const MOST_ITEMS: usize = 256;
-
-/// The most items behind the extension mark.
-const MOST_ADDITIONS: usize = 64;
-
-/// The items behind the extension mark, of which there are none where there is no mark.
-fn additions(more: &Option<Vec<Item>>) -> &[Item]
-    ensures { map label_of result.now ≡ more_labels (more_labels_of more.now) }
+/// The additions: none where there is no extension marker.
+fn additions(ext: &Option<Vec<Item>>) -> &[Item]
+    ensures { map label_of result.now ≡ more_labels (more_labels_of ext.now) }
 {
-    match more {
+    match ext {
         Some(items) => items,
         None => &[],
     }
 }
 
-/// Whether no item stands in front of the extension mark.
+/// Whether no item stands before the extension marker.
 pub(crate) fn is_empty(root: &[Item]) -> bool
     ensures { result ≡ (length (map label_of root.now) == 0) }
 {
@@ -35,18 +30,18 @@ pub(crate) fn is_empty(root: &[Item]) -> bool
 }
 
 /// Whether a name stands twice among the items, or one is no identifier.
-pub(crate) fn has_bad_names(root: &[Item], more: &Option<Vec<Item>>) -> bool
-    ensures { result ≡ duplicate_name (enumerated (map label_of root.now) (more_labels_of more.now)) }
+pub(crate) fn has_bad_names(root: &[Item], ext: &Option<Vec<Item>>) -> bool
+    ensures { result ≡ duplicate_name (enumerated (map label_of root.now) (more_labels_of ext.now)) }
 {
-    names::are_bad(root, additions(more))
+    names::are_bad(root, additions(ext))
 }
 
 /// Whether a number stands twice or is not of 32 signed bits, or an addition's is not above all
 /// those before it.
-pub(crate) fn has_bad_numbers(root: &[Item], more: &Option<Vec<Item>>) -> bool
-    ensures { result ≡ bad_enumeration (enumerated (map label_of root.now) (more_labels_of more.now)) }
+pub(crate) fn has_bad_numbers(root: &[Item], ext: &Option<Vec<Item>>) -> bool
+    ensures { result ≡ bad_enumeration (enumerated (map label_of root.now) (more_labels_of ext.now)) }
 {
-    let additions = additions(more);
+    let additions = additions(ext);
     has_number_twice(root)
         || has_large_number(root)
         || has_large_number(additions)
@@ -54,37 +49,36 @@ pub(crate) fn has_bad_numbers(root: &[Item], more: &Option<Vec<Item>>) -> bool
         || !is_below(root, additions)
 }
 
-/// Whether there are more items than the profile allows.
-pub(crate) fn is_too_many(root: &[Item], more: &Option<Vec<Item>>) -> bool
-    ensures { result ≡ too_many_here (enumerated (map label_of root.now) (more_labels_of more.now)) }
+/// Whether there are ext items than the profile allows.
+pub(crate) fn is_too_many(root: &[Item], ext: &Option<Vec<Item>>) -> bool
+    ensures { result ≡ too_many_here (enumerated (map label_of root.now) (more_labels_of ext.now)) }
 {
-    let added = additions(more).len();
-    MOST_ADDITIONS < added || MOST_ITEMS - added < root.len()
+    let added = additions(ext).len();
+    MAX_ADDITIONS < added || MAX_ITEMS - added < root.len()
 }
 
-/// Whether an item stands at this place, the items counted from 0 as they are written, those behind the
-/// extension mark last (X.680, "enumerated type").
-pub fn item_fits(root: &[Item], more: &Option<Vec<Item>>, place: u32) -> bool
-    ensures { IsTrue result ↔ Fits (enumerated (map label_of root.now) (more_labels_of more.now)) (item place) }
+/// Whether an item has this index, the items counted from 0 as they are written, the additions last (X.680, "enumerated type").
+pub fn item_fits(root: &[Item], ext: &Option<Vec<Item>>, index: u32) -> bool
+    ensures { IsTrue result ↔ Fits (enumerated (map label_of root.now) (more_labels_of ext.now)) (item index) }
 {
-    let place = place as usize;
-    place < root.len() || place - root.len() < additions(more).len()
+    let index = index as usize;
+    index < root.len() || index - root.len() < additions(ext).len()
 }
 
-/// Whether the item at this place may be a DEFAULT: it is one of several, and there is no
-/// extension mark.
-pub(crate) fn is_good_item(root: &[Item], more: &Option<Vec<Item>>, place: u32) -> bool
-    ensures { result ≡ good_default (enumerated (map label_of root.now) (more_labels_of more.now)) (item place) }
+/// Whether the item with this index may be a DEFAULT: it is one of several, and there is no
+/// extension marker.
+pub(crate) fn is_good_item(root: &[Item], ext: &Option<Vec<Item>>, index: u32) -> bool
+    ensures { result ≡ good_default (enumerated (map label_of root.now) (more_labels_of ext.now)) (item index) }
 {
-    more.is_none() && (place as usize) < root.len() && 1 < root.len()
+    ext.is_none() && (index as usize) < root.len() && 1 < root.len()
 }
 
 /// Whether two of the items have the same number.
 fn has_number_twice(items: &[Item]) -> bool
     ensures { result ≡ has_twice int_eq (map (λ l. l.number) (map label_of items.now)) }
 {
-    for (place, item) in items.iter().enumerate() {
-        if has_number(&items[place + 1..], item.number) {
+    for (index, item) in items.iter().enumerate() {
+        if has_number(&items[index + 1..], item.number) {
             return true;
         }
     }
@@ -119,8 +113,8 @@ fn has_large_number(items: &[Item]) -> bool
 fn is_rising(items: &[Item]) -> bool
     ensures { result ≡ is_rising (map (λ l. l.number) (map label_of items.now)) }
 {
-    for (place, item) in items.iter().enumerate() {
-        if !is_below_each(item.number, &items[place + 1..]) {
+    for (index, item) in items.iter().enumerate() {
+        if !is_below_each(item.number, &items[index + 1..]) {
             return false;
         }
     }

@@ -4,7 +4,7 @@ ghost use Rattle.asn_values.specs.View.{datum_of};
 
 use crate::value::Value;
 
-/// Whether both are the same value. Takes no memory.
+/// Whether both are the same value. Allocates nothing.
 #[cycle(same)]
 pub fn same(left: &Value, right: &Value) -> bool
     ensures { IsTrue result ↔ (datum_of left.now ≡ datum_of right.now) }
@@ -13,7 +13,7 @@ pub fn same(left: &Value, right: &Value) -> bool
         Value::Bool(truth) => matches!(right, Value::Bool(other) if *truth == *other),
         Value::Null => matches!(right, Value::Null),
         Value::Int(number) => matches!(right, Value::Int(other) if *number == *other),
-        Value::Enum(place) => matches!(right, Value::Enum(other) if *place == *other),
+        Value::Enum(index) => matches!(right, Value::Enum(other) if *index == *other),
         Value::Bits(bits) => matches!(right, Value::Bits(others) if same_bits(bits, others)),
         Value::Octets(octets) => matches!(right, Value::Octets(others) if **octets == **others),
         Value::Text(codes) => matches!(right, Value::Text(others) if **codes == **others),
@@ -48,10 +48,10 @@ fn same_entries(left: &[Option<Value>], right: &[Option<Value>]) -> bool
     if left.len() != right.len() {
         return false;
     }
-    for (place, entry) in left.iter().enumerate() {
+    for (index, entry) in left.iter().enumerate() {
         let is_same = match entry {
-            None => right[place].is_none(),
-            Some(value) => match &right[place] {
+            None => right[index].is_none(),
+            Some(value) => match &right[index] {
                 None => false,
                 Some(other) => same(value, other),
             },
@@ -71,8 +71,8 @@ fn same_elements(left: &[Value], right: &[Value]) -> bool
     if right.len() != left.len() {
         return false;
     }
-    for (place, element) in left.iter().enumerate() {
-        if !same(element, &right[place]) {
+    for (index, element) in left.iter().enumerate() {
+        if !same(element, &right[index]) {
             return false;
         }
     }

@@ -1,3 +1,5 @@
+//! Why a type is not one of the profile.
+
 use thiserror::Error;
 
 /// Why a type is not one of the profile.
@@ -7,7 +9,7 @@ use thiserror::Error;
 #[derive(Clone, Copy, Debug, PartialEq, Eq, Error)]
 pub enum TypeFault {
     /// A low bound above the high one, a bound of an INTEGER that is no integer of 64 signed bits,
-    /// or an ENUMERATED or CHOICE without an item or alternative in front of its extension mark.
+    /// or an ENUMERATED or CHOICE without an item or alternative before its extension marker.
     #[error("empty range")]
     EmptyRange = 1,
     /// A bound of a SIZE above 65,535.
@@ -20,29 +22,29 @@ pub enum TypeFault {
     /// whose number is not above all before it.
     #[error("bad enumeration")]
     BadEnumeration = 4,
-    /// An extension mark on an INTEGER whose root is already every integer of 64 signed bits, or on
+    /// An extension marker on an INTEGER whose root is already every integer of 64 signed bits, or on
     /// a SIZE whose root is already every length.
     #[error("useless mark")]
     UselessMark = 5,
     /// A DEFAULT on another type than BOOLEAN, INTEGER and ENUMERATED, on a type with an extension
-    /// mark or one value only, or one that is no value of its type.
+    /// marker or one value only, or one that is no value of its type.
     #[error("bad default")]
     BadDefault = 6,
     /// A SEQUENCE OF whose element is encoded in PER by no bits, whatever its value.
-    #[error("zero-width element")]
+    #[error("zero width element")]
     ZeroWidthElement = 7,
     /// An extension addition of a SEQUENCE that is not OPTIONAL.
-    #[error("addition not OPTIONAL")]
+    #[error("addition not optional")]
     AdditionNotOptional = 8,
-    /// More than 64 components in front of the extension mark of a SEQUENCE or 64 behind it, more than
-    /// 63 alternatives in a CHOICE, more than 256 items in an ENUMERATED or 64 behind its extension
-    /// mark, or more than 10,000 types inside one another.
+    /// More than 64 components before the extension marker of a SEQUENCE or 64 additions, more than
+    /// 63 alternatives in a CHOICE, more than 256 items in an ENUMERATED or 64 additions to them, or
+    /// more than 10,000 types inside one another.
     #[error("too many")]
     TooMany = 9,
     /// More than 32 levels of types inside one another.
     #[error("too deep")]
     TooDeep = 10,
-    /// A growth was refused.
+    /// An allocation failed.
     #[error("memory")]
     Memory = 11,
 }

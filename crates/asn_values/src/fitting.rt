@@ -10,8 +10,8 @@ use crate::value::Value;
 use crate::{enumerations, ranges, sizes, texts};
 
 /// Whether the value is one of the type (X.680), an INTEGER being of 64 signed bits, a string of at
-/// most 268,435,455 bits, octets or characters, and a list of at most so many elements. Takes no
-/// memory.
+/// most 268,435,455 bits, octets or characters, and a list of at most 268,435,455 elements. Allocates
+/// nothing.
 pub fn fits(ty: &Checked, value: &Value) -> bool
     ensures { IsTrue result ↔ Fits (shape_of ty.now) (datum_of value.now) }
 {
@@ -31,7 +31,7 @@ pub(crate) fn type_has(ty: &AsnType, value: &Value) -> bool
             matches!(value, Value::Int(number) if ranges::number_fits(bounds, *number))
         }
         AsnType::Enum { root, ext } => {
-            matches!(value, Value::Enum(place) if enumerations::item_fits(root, ext, *place))
+            matches!(value, Value::Enum(index) if enumerations::item_fits(root, ext, *index))
         }
         AsnType::Bits(size) => {
             matches!(value, Value::Bits(bits) if sizes::length_fits(size, bits.len()))
@@ -46,9 +46,11 @@ pub(crate) fn type_has(ty: &AsnType, value: &Value) -> bool
         AsnType::Seq { root, ext } => match value {
             Value::Seq(entries) => match ext {
                 None => fields_have(root, entries),
-                Some(more) => {
-                    let (ours, theirs) = entries.split_at(root.len().min(entries.len()));
-                    fields_have(root, ours) && fields_have(more, theirs)
+                Some(additions) => {
+                    let (root_entries, addition_entries) = entries.split_at(
+                        root.len().min(entries.len()),
+                    );
+                    fields_have(root, root_entries) && fields_have(additions, addition_entries)
                 }
             },
             _ => false,
@@ -61,13 +63,13 @@ pub(crate) fn type_has(ty: &AsnType, value: &Value) -> bool
         },
         AsnType::Choice { root, ext } => match value {
             Value::Choice(tag, chosen) => {
-                let place = *tag as usize;
-                if place < root.len() {
-                    return alternative_has(root, place, chosen);
+                let index = *tag as usize;
+                if index < root.len() {
+                    return alternative_has(root, index, chosen);
                 }
                 match ext {
                     None => false,
-                    Some(more) => alternative_has(more, place - root.len(), chosen),
+                    Some(additions) => alternative_has(additions, index - root.len(), chosen),
                 }
             }
             _ => false,
@@ -88,12 +90,12 @@ fn elements_fit(element: &AsnType, elements: &[Value]) -> bool
     true
 }
 
-/// Whether there is an alternative at this place, and the value is one of its type.
+/// Whether there is an alternative with this index, and the value is one of its type.
 #[cycle(fits)]
-fn alternative_has(alternatives: &[Alt], place: usize, chosen: &Value) -> bool
-    ensures { IsTrue result ↔ FitsAlternative (alternatives_of (map branch_of alternatives.now)) place (datum_of chosen.now) }
+fn alternative_has(alternatives: &[Alt], index: usize, chosen: &Value) -> bool
+    ensures { IsTrue result ↔ FitsAlternative (alternatives_of (map branch_of alternatives.now)) index (datum_of chosen.now) }
 {
-    place < alternatives.len() && type_has(&alternatives[place].ty, chosen)
+    index < alternatives.len() && type_has(&alternatives[index].ty, chosen)
 }
 
 /// Whether there is one entry for each component, and each is right for its own.
@@ -104,8 +106,8 @@ fn fields_have(fields: &[Field], entries: &[Option<Value>]) -> bool
     if fields.len() != entries.len() {
         return false;
     }
-    for (place, field) in fields.iter().enumerate() {
-        if !field_has(field, &entries[place]) {
+    for (index, field) in fields.iter().enumerate() {
+        if !field_has(field, &entries[index]) {
             return false;
         }
     }

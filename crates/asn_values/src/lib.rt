@@ -10,13 +10,14 @@ mod fault;
 mod fitting;
 mod laws;
 mod names;
+pub mod profile;
 mod ranges;
 mod sizes;
 mod texts;
 mod types;
 mod value;
 mod walk;
-mod widths;
+mod zero_bits;
 
 pub use checked::Checked;
 pub use enumerations::item_fits;
@@ -31,6 +32,10 @@ pub use types::{Alt, AsnType, Bounds, Field, Item, Need, Size, TextKind};
 pub use value::Value;
 
 #[cfg(test)]
+mod builders;
+#[cfg(test)]
 mod profile_tests;
 #[cfg(test)]
 mod tests;
+#[cfg(test)]
+mod value_tests;

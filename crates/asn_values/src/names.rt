@@ -39,21 +39,21 @@ impl Named for Item {
 }
 
 /// Whether a name stands twice in the lists, or one is no identifier.
-pub(crate) fn are_bad<T: Named>(root: &[T], more: &[T]) -> bool
-    ensures { result ≡ profile.bad_names (map T.name_of root.now ++ map T.name_of more.now) }
+pub(crate) fn are_bad<T: Named>(root: &[T], additions: &[T]) -> bool
+    ensures { result ≡ profile.bad_names (map T.name_of root.now ++ map T.name_of additions.now) }
 {
-    for (place, part) in root.iter().enumerate() {
+    for (index, part) in root.iter().enumerate() {
         let name = part.name();
         if !is_identifier(name.as_bytes())
-            || is_among(name, &root[place + 1..])
-            || is_among(name, more)
+            || is_among(name, &root[index + 1..])
+            || is_among(name, additions)
         {
             return true;
         }
     }
-    for (place, part) in more.iter().enumerate() {
+    for (index, part) in additions.iter().enumerate() {
         let name = part.name();
-        if !is_identifier(name.as_bytes()) || is_among(name, &more[place + 1..]) {
+        if !is_identifier(name.as_bytes()) || is_among(name, &additions[index + 1..]) {
             return true;
         }
     }
@@ -87,10 +87,10 @@ fn is_identifier(text: &[u8]) -> bool
 fn goes_on(text: &[u8]) -> bool
     ensures { result ≡ profile.goes_on text.now }
 {
-    for (place, code) in text.iter().enumerate() {
+    for (index, code) in text.iter().enumerate() {
         let is_hyphen = *code == b'-'
-            && place + 1 < text.len()
-            && is_letter_or_digit(text[place + 1]);
+            && index + 1 < text.len()
+            && is_letter_or_digit(text[index + 1]);
         if !is_letter_or_digit(*code) && !is_hyphen {
             return false;
         }

@@ -1,147 +1,13 @@
 //! The faults of SEQUENCE OF, CHOICE and extension additions, and the limits of the profile through
 //! each of them.
-use crate::tests::{
-    around, booleans, bounded, expect_fault, field, int, items, levels, types, with_default,
+use crate::builders::{
+    PLACES, Place, alternative, alternative_row, alternatives, any_size, around, booleans, bounded,
+    choice, expect_fault, field, field_row, fields, int, items, levels, list, sized, types,
+    with_addition, with_default, wrap,
 };
-use crate::{Alt, AsnType, Field, Need, Size, TextKind, TypeFault, Value};
+use crate::{AsnType, Need, Size, TextKind, TypeFault, Value};
 use std::alloc::{AllocError, Global};
 use std::test::Fail;
-
-/// SIZE (low..high), and the extension mark where `ext`
-fn sized(low: u32, high: u32, ext: bool) -> Size {
-    Size {
-        low,
-        high: Some(high),
-        ext,
-    }
-}
-
-/// SIZE (0..MAX)
-fn any_size() -> Size {
-    Size {
-        low: 0,
-        high: None,
-        ext: false,
-    }
-}
-
-/// SEQUENCE (SIZE) OF element
-fn list(alloc: Global, element: AsnType, size: Size) -> Result<AsnType, AllocError> {
-    Ok(AsnType::SeqOf(Box::new(alloc, element)?, size))
-}
-
-/// Components of BOOLEAN OPTIONAL with these names.
-fn fields(alloc: Global, names: &[&str]) -> Result<Vec<Field>, AllocError> {
-    let mut list = Vec::new(alloc);
-    for name in names {
-        list.push(field(alloc, *name, AsnType::Bool, Need::Optional)?)?;
-    }
-    Ok(list)
-}
-
-/// So many of them, with the prefix and a number as their names.
-fn field_row(alloc: Global, prefix: &str, count: usize) -> Result<Vec<Field>, AllocError> {
-    let mut list = Vec::new(alloc);
-    for place in 0..count {
-        let name = format!(in alloc; "{prefix}{place}")?;
-        list.push(Field {
-            name,
-            ty: AsnType::Bool,
-            need: Need::Optional,
-        })?;
-    }
-    Ok(list)
-}
-
-fn alternative(alloc: Global, name: &str, ty: AsnType) -> Result<Alt, AllocError> {
-    Ok(Alt {
-        name: String::from_str(alloc, name)?,
-        ty,
-    })
-}
-
-/// Alternatives of NULL with these names.
-fn alternatives(alloc: Global, names: &[&str]) -> Result<Vec<Alt>, AllocError> {
-    let mut list = Vec::new(alloc);
-    for name in names {
-        list.push(alternative(alloc, *name, AsnType::Null)?)?;
-    }
-    Ok(list)
-}
-
-/// So many of them, with the prefix and a number as their names.
-fn alternative_row(alloc: Global, prefix: &str, count: usize) -> Result<Vec<Alt>, AllocError> {
-    let mut list = Vec::new(alloc);
-    for place in 0..count {
-        let name = format!(in alloc; "{prefix}{place}")?;
-        list.push(Alt {
-            name,
-            ty: AsnType::Null,
-        })?;
-    }
-    Ok(list)
-}
-
-/// SEQUENCE { .., ..., name type need }
-fn with_addition(
-    alloc: Global,
-    root: &[&str],
-    name: &str,
-    ty: AsnType,
-    need: Need,
-) -> Result<AsnType, AllocError> {
-    Ok(AsnType::Seq {
-        root: fields(alloc, root)?,
-        ext: Some(vec![in alloc; field(alloc, name, ty, need)?]?),
-    })
-}
-
-/// CHOICE of alternatives of NULL, and of more of them behind the mark; no mark for `None`.
-fn choice(alloc: Global, root: &[&str], more: Option<&[&str]>) -> Result<AsnType, AllocError> {
-    let ext = match more {
-        Some(names) => Some(alternatives(alloc, names)?),
-        None => None,
-    };
-    Ok(AsnType::Choice {
-        root: alternatives(alloc, root)?,
-        ext,
-    })
-}
-
-/// Where a type may stand inside another.
-#[derive(Clone, Copy, Debug)]
-enum Place {
-    Component,
-    Addition,
-    Element,
-    Alternative,
-    AddedAlternative,
-}
-
-const PLACES: [Place; 5] = [
-    Place::Component,
-    Place::Addition,
-    Place::Element,
-    Place::Alternative,
-    Place::AddedAlternative,
-];
-
-/// A type around this one, with no other inside it but the NULL that a CHOICE has in its root.
-fn wrap(alloc: Global, place: Place, ty: AsnType) -> Result<AsnType, AllocError> {
-    Ok(match place {
-        Place::Component => around(alloc, "a", ty, Need::Must)?,
-        Place::Addition => with_addition(alloc, &[], "a", ty, Need::Optional)?,
-        Place::Element => list(alloc, ty, any_size())?,
-        Place::Alternative => AsnType::Choice {
-            root: vec![in alloc; alternative(alloc, "a", ty)?]?,
-            ext: None,
-        },
-        Place::AddedAlternative => AsnType::Choice {
-            root: alternatives(alloc, &["a"])?,
-            ext: Some(vec![in alloc; alternative(alloc, "b", ty)?]?),
-        },
-    })
-}
 
 #[test]
 fn lists_have_faults(rt: HostRuntime) -> Result<(), Fail> {
@@ -370,6 +236,37 @@ fn levels_are_counted_everywhere(rt: HostRuntime) -> Result<(), Fail> {
         expect_fault(&rt, alloc, "32 levels, mixed", mixed, None);
         let mixed = wrap(alloc, place, levels(alloc, 32, AsnType::Bool)?)?;
         expect_fault(&rt, alloc, "33 levels, mixed", mixed, deep);
+    }
+    Ok(())
+}
+
+#[test]
+fn types_below_the_last_level_are_too_deep(rt: HostRuntime) -> Result<(), Fail> {
+    let alloc = rt.alloc();
+    let deep = Some(TypeFault::TooDeep);
+    let bottom = levels(alloc, 33, int(1, 0))?;
+    expect_fault(&rt, alloc, "an empty range at level 33", bottom, deep);
+    let mut lists = AsnType::Null;
+    for _ in 0..40 {
+        lists = list(alloc, lists, sized(1, 1, false))?;
+    }
+    expect_fault(&rt, alloc, "40 lists without bits", lists, deep);
+    let mut lists = AsnType::Null;
+    for _ in 0..31 {
+        lists = list(alloc, lists, sized(1, 1, false))?;
+    }
+    let zero = Some(TypeFault::ZeroWidthElement);
+    expect_fault(&rt, alloc, "31 lists without bits", lists, zero);
+    Ok(())
+}
+
+#[test]
+fn empty_ranges_of_elements_are_told_as_such(rt: HostRuntime) -> Result<(), Fail> {
+    let alloc = rt.alloc();
+    let empty = Some(TypeFault::EmptyRange);
+    for element in [int(7, 0), AsnType::Octets(sized(3, 0, false))] {
+        let ty = list(alloc, element, any_size())?;
+        expect_fault(&rt, alloc, "an empty range of an element", ty, empty);
     }
     Ok(())
 }

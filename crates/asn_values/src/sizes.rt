@@ -4,13 +4,8 @@ ghost use Rattle.asn_values.specs.Fits.{FitsLength, in_size};
 ghost use Rattle.asn_values.specs.Profile.{size_above, large_size, is_every_length, is_zero_size, is_fixed_size};
 ghost use Rattle.asn_values.specs.View.{size_range_of};
 
+use crate::profile::{MAX_LEN, MAX_SIZE_BOUND};
 use crate::types::Size;
-
-/// The most items of a string or list.
-const MOST_ITEMS: usize = 268_435_455;
-
-/// The largest bound of a SIZE.
-const LARGEST_BOUND: u32 = 65_535;
 
 /// Whether the low bound is above the high one.
 pub(crate) fn is_empty(size: &Size) -> bool
@@ -23,10 +18,10 @@ pub(crate) fn is_empty(size: &Size) -> bool
 pub(crate) fn is_too_large(size: &Size) -> bool
     ensures { result ≡ large_size (Some (size_range_of size.now)) }
 {
-    LARGEST_BOUND < size.low || size.high.is_some_and(|high| LARGEST_BOUND < high)
+    MAX_SIZE_BOUND < size.low || size.high.is_some_and(|high| MAX_SIZE_BOUND < high)
 }
 
-/// Whether there is an extension mark, and the bounds take every length already.
+/// Whether there is an extension marker, and the bounds take every length already.
 pub(crate) fn has_useless_mark(size: &Size) -> bool
     ensures { result ≡ is_every_length (Some (size_range_of size.now)) }
 {
@@ -37,7 +32,7 @@ pub(crate) fn has_useless_mark(size: &Size) -> bool
 pub(crate) fn is_zero(size: &Size) -> bool
     ensures { result ≡ is_zero_size (size_range_of size.now) }
 {
-    !size.ext && size.high.is_some_and(|high| high == 0)
+    !size.ext && size.high.is_some_and(|high| size.low == 0 && high == 0)
 }
 
 /// Whether there is one length only.
@@ -55,10 +50,10 @@ pub fn is_in_size(size: &Size, length: usize) -> bool
     size.low as usize <= length && size.high.is_none_or(|high| length <= high as usize)
 }
 
-/// Whether so many items are a length of this SIZE: they are at most 268,435,455, and lie between the
-/// bounds unless the extension mark follows (X.680, "size constraint").
+/// Whether the length, in items, is one of this SIZE: it is at most 268,435,455, and lies between the
+/// bounds unless the extension marker follows (X.680, "size constraint").
 pub fn length_fits(size: &Size, length: usize) -> bool
     ensures { IsTrue result ↔ FitsLength (size_range_of size.now) length }
 {
-    length <= MOST_ITEMS && (size.ext || is_in_size(size, length))
+    length <= MAX_LEN as usize && (size.ext || is_in_size(size, length))
 }

@@ -6,11 +6,9 @@ ghost use Rattle.asn_values.specs.Shape.{octet_string, restricted, utf8_string};
 ghost use Rattle.asn_values.specs.Fits.{Fits, is_of_kind};
 ghost use Rattle.asn_values.specs.View.{size_range_of, alphabet_of};
 
+use crate::profile::MAX_LEN;
 use crate::sizes;
 use crate::types::{Size, TextKind};
-
-/// The most octets of a UTF8String.
-const MOST_OCTETS: usize = 268_435_455;
 
 /// Whether the octets are a value of an OCTET STRING of this size (X.680, "octetstring type").
 pub fn octets_fit(size: &Size, octets: &[u8]) -> bool
@@ -32,19 +30,14 @@ pub fn text_fits(kind: TextKind, size: &Size, codes: &[u8]) -> bool
 pub fn unicode_fits(text: &str) -> bool
     ensures { IsTrue result ↔ Fits utf8_string (unicode text.now) }
 {
-    text.len() <= MOST_OCTETS
+    text.len() <= MAX_LEN as usize
 }
 
 /// Whether each code is one of this kind of characters.
 fn characters_fit(kind: TextKind, codes: &[u8]) -> bool
     ensures { IsTrue result ↔ AllByRecursion (λ c. IsTrue (is_of_kind (alphabet_of kind) c)) codes.now }
 {
-    for code in codes {
-        if !is_of_kind(kind, *code) {
-            return false;
-        }
-    }
-    true
+    codes.iter().all(|code| is_of_kind(kind, *code))
 }
 
 /// Whether the code is one of this kind of characters.

@@ -1,3 +1,4 @@
+//! Types as trees, each with its notation in X.680.
 use crate::value::Value;
 
 /// The bounds of an INTEGER, both counted in (X.680, "value range").
@@ -7,7 +8,7 @@ pub struct Bounds {
     pub low: Option<i128>,
     /// `None` where there is no upper bound (MAX).
     pub high: Option<i128>,
-    /// Whether the extension mark follows: then other integers are values too.
+    /// Whether an extension marker follows: then other integers are values too.
     pub ext: bool,
 }
 
@@ -17,7 +18,7 @@ pub struct Size {
     pub low: u32,
     /// `None` where there is no upper bound.
     pub high: Option<u32>,
-    /// Whether the extension mark follows: then other lengths are values too.
+    /// Whether an extension marker follows: then other lengths are values too.
     pub ext: bool,
 }
 
@@ -77,8 +78,8 @@ pub enum AsnType {
     Null,
     /// INTEGER with bounds
     Int(Bounds),
-    /// ENUMERATED of the items in `root`, and those in `ext` behind the extension mark; `None` where
-    /// there is no mark
+    /// ENUMERATED of the items in `root`, and the additions in `ext`; `None` where there is no
+    /// extension marker
     Enum {
         root: Vec<Item>,
         ext: Option<Vec<Item>>,
@@ -91,16 +92,16 @@ pub enum AsnType {
     Text(TextKind, Size),
     /// UTF8String
     Utf8,
-    /// SEQUENCE of the components in `root`, in this order, and the extension additions in `ext` behind
-    /// the extension mark; `None` where there is no mark
+    /// SEQUENCE of the components in `root`, in this order, and the extension additions in `ext`;
+    /// `None` where there is no extension marker
     Seq {
         root: Vec<Field>,
         ext: Option<Vec<Field>>,
     },
     /// SEQUENCE OF this many values of the type
     SeqOf(Box<AsnType>, Size),
-    /// CHOICE of the alternatives in `root`, and those in `ext` behind the extension mark; `None` where
-    /// there is no mark
+    /// CHOICE of the alternatives in `root`, and the additions in `ext`; `None` where there is no
+    /// extension marker
     Choice {
         root: Vec<Alt>,
         ext: Option<Vec<Alt>>,

@@ -1,3 +1,5 @@
+//! Values as trees, one form a kind of type.
+
 /// A value of an ASN.1 type.
 #[derive(Debug, Drop)]
 pub enum Value {
@@ -7,7 +9,7 @@ pub enum Value {
     Null,
     /// of an INTEGER
     Int(i128),
-    /// of an ENUMERATED: the place of the item, counted from 0 as written, root then additions
+    /// of an ENUMERATED: the index of the item, counted from 0 as written, root then additions
     Enum(u32),
     /// of a BIT STRING
     Bits(Vec<bool>),

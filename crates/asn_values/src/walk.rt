@@ -1,35 +1,31 @@
 //! The walk that finds the first fault of a type, from the outside in and from left to right.
-ghost use Rattle.std.specs.Prelude.{IfOk, IfErr, map};
+ghost use Rattle.std.specs.Prelude.{◌+◌, ◌≤◌, IfOk, IfErr, map};
 ghost use Rattle.asn_values.specs.Shape.{integer, enumerated, sequence, sequence_of, choice};
+ghost use Rattle.asn_values.specs.Measures.{depth};
 ghost use Rattle.asn_values.specs.Walk.{IsFaultless, HoldsHere, IsFaultlessSize, HoldsOfSize, IsSoundWithin, IsFaultWithin, of_type, of_types};
 ghost use Rattle.asn_values.specs.View.{shape_of, range_of, size_range_of, label_of, more_labels_of, fields_of, part_of_field, more_fields_of, alternatives_of, branch_of, more_alternatives_of};
 
 use crate::fault::TypeFault;
+use crate::profile::{MAX_ADDITIONS, MAX_ALTERNATIVES, MAX_COMPONENTS};
 use crate::types::{Alt, AsnType, Bounds, Field, Item, Size};
-use crate::{additions, default_values, enumerations, names, ranges, sizes, widths};
+use crate::{additions, default_values, enumerations, names, ranges, sizes, zero_bits};
 
-/// The most components of a SEQUENCE in front of its extension mark, and the most behind it.
-const MOST_COMPONENTS: usize = 64;
-
-/// The most alternatives of a CHOICE, those of the root and the additions together.
-const MOST_ALTERNATIVES: usize = 63;
-
-/// Looks at the type and at all inside it, and counts them. There may be `levels` levels of types,
-/// and `start` types; returns how many more types there might have been.
+/// Checks the type and all types inside it. Fails past `levels` levels of nesting or a budget of `start` types;
+/// returns the budget left.
 ///
-/// Err: the first type that has a fault, a type before those inside it, and of its faults the one
-/// with the least number. Nothing inside a type below the last level is looked at.
+/// Err: the first type that has a fault, a type before those inside it, and of its faults the one with the
+/// least number. A type below the last level is `TooDeep`, and it is not looked at.
 #[cycle(walk)]
-pub(crate) fn nodes_left(ty: &AsnType, levels: u32, start: u32) -> Result<u32, TypeFault>
+pub(crate) fn check_type(ty: &AsnType, levels: u32, start: u32) -> Result<u32, TypeFault>
     ensures sound { IfOk result (λ left. IsSoundWithin levels start left (of_type (shape_of ty.now))) }
     ensures fault { IfErr result (λ f. IsFaultWithin f levels start (of_type (shape_of ty.now))) }
 {
-    check_node(ty)?;
-    if start == 0 {
-        return Err(TypeFault::TooMany);
-    }
     if levels == 0 {
         return Err(TypeFault::TooDeep);
+    }
+    check_node(ty, levels - 1)?;
+    if start == 0 {
+        return Err(TypeFault::TooMany);
     }
     match ty {
         AsnType::Bool
@@ -41,52 +37,53 @@ pub(crate) fn nodes_left(ty: &AsnType, levels: u32, start: u32) -> Result<u32, T
         | AsnType::Text(..)
         | AsnType::Utf8 => Ok(start - 1),
         AsnType::Seq { root, ext } => {
-            let left = nodes_left_behind(root, levels - 1, start - 1)?;
+            let left = check_fields(root, levels - 1, start - 1)?;
             match ext {
                 None => Ok(left),
-                Some(more) => nodes_left_behind(more, levels - 1, left),
+                Some(more) => check_fields(more, levels - 1, left),
             }
         }
-        AsnType::SeqOf(element, _) => nodes_left(element, levels - 1, start - 1),
+        AsnType::SeqOf(element, _) => check_type(element, levels - 1, start - 1),
         AsnType::Choice { root, ext } => {
-            let left = nodes_left_among(root, levels - 1, start - 1)?;
+            let left = check_alternatives(root, levels - 1, start - 1)?;
             match ext {
                 None => Ok(left),
-                Some(more) => nodes_left_among(more, levels - 1, left),
+                Some(more) => check_alternatives(more, levels - 1, left),
             }
         }
     }
 }
 
-/// The same of the types of the components, one after the other.
+/// Checks the types of the components, one after the other, in the same way.
 #[cycle(walk)]
-fn nodes_left_behind(fields: &[Field], levels: u32, start: u32) -> Result<u32, TypeFault>
+fn check_fields(fields: &[Field], levels: u32, start: u32) -> Result<u32, TypeFault>
     ensures sound { IfOk result (λ left. IsSoundWithin levels start left (of_types (map (λ f. shape_of f.ty) fields.now))) }
     ensures fault { IfErr result (λ f. IsFaultWithin f levels start (of_types (map (λ f. shape_of f.ty) fields.now))) }
 {
     let mut left = start;
     for field in fields {
-        left = nodes_left(&field.ty, levels, left)?;
+        left = check_type(&field.ty, levels, left)?;
     }
     Ok(left)
 }
 
-/// The same of the types of the alternatives, one after the other.
+/// Checks the types of the alternatives, one after the other, in the same way.
 #[cycle(walk)]
-fn nodes_left_among(alternatives: &[Alt], levels: u32, start: u32) -> Result<u32, TypeFault>
+fn check_alternatives(alternatives: &[Alt], levels: u32, start: u32) -> Result<u32, TypeFault>
     ensures sound { IfOk result (λ left. IsSoundWithin levels start left (of_types (map (λ a. shape_of a.ty) alternatives.now))) }
     ensures fault { IfErr result (λ f. IsFaultWithin f levels start (of_types (map (λ a. shape_of a.ty) alternatives.now))) }
 {
     let mut left = start;
     for alternative in alternatives {
-        left = nodes_left(&alternative.ty, levels, left)?;
+        left = check_type(&alternative.ty, levels, left)?;
     }
     Ok(left)
 }
 
-/// Looks at the type itself. Err: its fault with the least number.
-fn check_node(ty: &AsnType) -> Result<(), TypeFault>
-    ensures faultless { IfOk result (λ done. IsFaultless (shape_of ty.now)) }
+/// Checks the type itself. Err: its fault with the least number. At most `levels` levels of the types inside it are
+/// looked at: a fault may be missed where there are more.
+fn check_node(ty: &AsnType, levels: u32) -> Result<(), TypeFault>
+    ensures faultless { IfOk result (λ done. depth (shape_of ty.now) ≤ levels + 1 → IsFaultless (shape_of ty.now)) }
     ensures fault { IfErr result (λ f. HoldsHere f (shape_of ty.now)) }
 {
     match ty {
@@ -94,9 +91,9 @@ fn check_node(ty: &AsnType) -> Result<(), TypeFault>
         AsnType::Int(bounds) => check_bounds(bounds),
         AsnType::Enum { root, ext } => check_items(root, ext),
         AsnType::Bits(size) | AsnType::Octets(size) | AsnType::Text(_, size) => check_size(size),
-        AsnType::Seq { root, ext } => check_components(root, ext),
-        AsnType::SeqOf(element, size) => check_list(element, size),
-        AsnType::Choice { root, ext } => check_alternatives(root, ext),
+        AsnType::Seq { root, ext } => check_sequence(root, ext),
+        AsnType::SeqOf(element, size) => check_list(element, size, levels),
+        AsnType::Choice { root, ext } => check_choice(root, ext),
     }
 }
 
@@ -114,7 +111,7 @@ fn check_bounds(bounds: &Bounds) -> Result<(), TypeFault>
     Ok(())
 }
 
-/// Looks at an ENUMERATED of these items. Err: its fault with the least number.
+/// Checks an ENUMERATED of these items. Err: its fault with the least number.
 fn check_items(root: &[Item], more: &Option<Vec<Item>>) -> Result<(), TypeFault>
     ensures faultless { IfOk result (λ done. IsFaultless (enumerated (map label_of root.now) (more_labels_of more.now))) }
     ensures fault { IfErr result (λ f. HoldsHere f (enumerated (map label_of root.now) (more_labels_of more.now))) }
@@ -134,7 +131,7 @@ fn check_items(root: &[Item], more: &Option<Vec<Item>>) -> Result<(), TypeFault>
     Ok(())
 }
 
-/// Looks at the bounds of a length. Err: their fault with the least number.
+/// Checks the bounds of a length. Err: their fault with the least number.
 fn check_size(size: &Size) -> Result<(), TypeFault>
     ensures faultless { IfOk result (λ done. IsFaultlessSize (size_range_of size.now)) }
     ensures fault { IfErr result (λ f. HoldsOfSize f (size_range_of size.now)) }
@@ -151,9 +148,8 @@ fn check_size(size: &Size) -> Result<(), TypeFault>
     Ok(())
 }
 
-/// Looks at a SEQUENCE of these components, and at nothing inside them. Err: its fault with the
-/// least number.
-fn check_components(root: &[Field], ext: &Option<Vec<Field>>) -> Result<(), TypeFault>
+/// Checks a SEQUENCE of these components, and nothing inside them. Err: its fault with the least number.
+fn check_sequence(root: &[Field], ext: &Option<Vec<Field>>) -> Result<(), TypeFault>
     ensures faultless { IfOk result (λ done. IsFaultless (sequence (fields_of (map part_of_field root.now)) (more_fields_of ext.now))) }
     ensures fault { IfErr result (λ f. HoldsHere f (sequence (fields_of (map part_of_field root.now)) (more_fields_of ext.now))) }
 {
@@ -167,28 +163,27 @@ fn check_components(root: &[Field], ext: &Option<Vec<Field>>) -> Result<(), Type
     if !additions::are_optional(more) {
         return Err(TypeFault::AdditionNotOptional);
     }
-    if MOST_COMPONENTS < root.len() || MOST_COMPONENTS < more.len() {
+    if MAX_COMPONENTS < root.len() || MAX_ADDITIONS < more.len() {
         return Err(TypeFault::TooMany);
     }
     Ok(())
 }
 
-/// Looks at a SEQUENCE OF, and of the element only at whether it has bits. Err: its fault with the
-/// least number.
-fn check_list(element: &AsnType, size: &Size) -> Result<(), TypeFault>
-    ensures faultless { IfOk result (λ done. IsFaultless (sequence_of (shape_of element.now) (size_range_of size.now))) }
+/// Checks a SEQUENCE OF, and of the element only whether it has bits, as far as `levels` levels tell. Err: its
+/// fault with the least number.
+fn check_list(element: &AsnType, size: &Size, levels: u32) -> Result<(), TypeFault>
+    ensures faultless { IfOk result (λ done. depth (shape_of element.now) ≤ levels → IsFaultless (sequence_of (shape_of element.now) (size_range_of size.now))) }
     ensures fault { IfErr result (λ f. HoldsHere f (sequence_of (shape_of element.now) (size_range_of size.now))) }
 {
     check_size(size)?;
-    if widths::has_no_bits(element) {
+    if zero_bits::has_no_bits(element, levels) {
         return Err(TypeFault::ZeroWidthElement);
     }
     Ok(())
 }
 
-/// Looks at a CHOICE of these alternatives, and at nothing inside them. Err: its fault with the
-/// least number.
-fn check_alternatives(root: &[Alt], ext: &Option<Vec<Alt>>) -> Result<(), TypeFault>
+/// Checks a CHOICE of these alternatives, and nothing inside them. Err: its fault with the least number.
+fn check_choice(root: &[Alt], ext: &Option<Vec<Alt>>) -> Result<(), TypeFault>
     ensures faultless { IfOk result (λ done. IsFaultless (choice (alternatives_of (map branch_of root.now)) (more_alternatives_of ext.now))) }
     ensures fault { IfErr result (λ f. HoldsHere f (choice (alternatives_of (map branch_of root.now)) (more_alternatives_of ext.now))) }
 {
@@ -199,7 +194,7 @@ fn check_alternatives(root: &[Alt], ext: &Option<Vec<Alt>>) -> Result<(), TypeFa
     if names::are_bad(root, added) {
         return Err(TypeFault::DuplicateName);
     }
-    if MOST_ALTERNATIVES < root.len() || MOST_ALTERNATIVES - root.len() < added.len() {
+    if MAX_ALTERNATIVES < root.len() || MAX_ALTERNATIVES - root.len() < added.len() {
         return Err(TypeFault::TooMany);
     }
     Ok(())

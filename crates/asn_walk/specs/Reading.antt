@@ -2,20 +2,21 @@
 use Rattle.std.specs.Prelude.{◌≡◌, ◌++◌, ℕ, Bool, List, Option, Some, None, map}
 use Rattle.std.specs.Option.{option_map}
 use Rattle.asn_values.specs.declared.types.Alt.{Alt}
+use Rattle.asn_values.specs.declared.types.AsnType.{AsnType}
 use Rattle.asn_values.specs.declared.types.Field.{Field}
 use Rattle.asn_values.specs.declared.value.Value.{Value}
 use Rattle.asn_values.specs.Datum.{Datum}
 use Rattle.asn_values.specs.Profile.{InProfile}
 use Rattle.asn_values.specs.Shape.{Shape, Fields, MoreFields, sequence, Alternatives}
 use Rattle.asn_bits.specs.Numbers.{bits}
-use Rattle.asn_values.specs.View.{Part, datum_of, fields_of, part_of_field, alternatives_of, branch_of}
+use Rattle.asn_values.specs.View.{Part, datum_of, shape_of, fields_of, part_of_field, alternatives_of, branch_of}
 use Rattle.asn_rules.specs.Chunks.{Chunk}
 use Rattle.asn_rules.specs.Languages.{Spells, Map}
 use Rattle.asn_rules.specs.Listed.{Spelt, Entry, Listed, bitmap_length}
 use Rattle.asn_rules.specs.Reading.{Wholes}
 use Rattle.asn_rules.specs.Stops.{Stops}
 use Rattle.asn_rules.specs.declared.stop.Stop.{Stop}
-use Rattle.asn_walk.specs.Coding.{Coding, PreambleOf, added}
+use Rattle.asn_walk.specs.Coding.{Coding, PreambleOf, OpenOf, added}
 
 -- ---- what the program's lists stand for
 
@@ -58,6 +59,19 @@ CompleteOf c t = Wholes c.ruling t
 -- the entry of a component, of which it is known whether it is present
 abbrev pub EntryOf : Coding → Part → Bool → Option Datum → List Chunk → Type 0
 EntryOf c p present = Entry c.code p.demand p.shape present
+
+-- ---- a value of a type, as the program holds them
+
+abbrev pub ReadsValue : Coding → AsnType → Value → List ℕ → List ℕ → Type 0
+ReadsValue c t v old new = Reads c (ValuesOf c (shape_of t)) (datum_of v) old new
+
+-- its complete encoding
+abbrev pub ReadsComplete : Coding → AsnType → Value → List ℕ → List ℕ → Type 0
+ReadsComplete c t v old new = Reads c (CompleteOf c (shape_of t)) (datum_of v) old new
+
+-- the open type field that holds it
+abbrev pub ReadsOpen : Coding → AsnType → Value → List ℕ → List ℕ → Type 0
+ReadsOpen c t v old new = Reads c (OpenOf c (shape_of t)) (datum_of v) old new
 
 -- ---- the root of a SEQUENCE
 

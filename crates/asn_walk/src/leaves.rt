@@ -1,5 +1,5 @@
 //! What a set of encoding rules gives to a reader: the parts of types and values that it spells by itself.
-ghost use Rattle.std.specs.Prelude.{◌≡◌, ◌≤◌, ◌<◌, ◌-◌, ◌/◌, ◌%◌, true, Some, IfOk, IfErr, OnOk, IfSome, IsNone, length};
+ghost use Rattle.std.specs.Prelude.{◌≡◌, ◌≤◌, ◌<◌, ◌-◌, ◌/◌, ◌%◌, true, IfOk, IfErr, OnOk, IfSome, IsNone, length};
 ghost use Rattle.asn_values.specs.Datum.{number};
 ghost use Rattle.asn_values.specs.Profile.{InProfile, good_default};
 ghost use Rattle.asn_values.specs.View.{shape_of, datum_of, size_range_of};
@@ -10,7 +10,7 @@ ghost use Rattle.asn_walk.specs.Ahead.{Ahead, Next, StopsNext};
 ghost use Rattle.asn_walk.specs.Coding.{Coding, PreambleOf, AdditionBitmapOf, AreFew, IndexOf};
 ghost use Rattle.asn_walk.specs.Integers.{between, IsOfProfile};
 ghost use Rattle.asn_walk.specs.Laws.{Laws, IsSimple, IsSizeOfProfile};
-ghost use Rattle.asn_walk.specs.Reading.{Reads, StopsAt, ValuesOf, OthersOf};
+ghost use Rattle.asn_walk.specs.Reading.{Reads, ReadsValue, StopsAt, ValuesOf, OthersOf};
 ghost use Rattle.asn_walk.specs.Views.{preamble_seen, index_seen};
 
 use asn_bits::BitCursor;
@@ -64,7 +64,7 @@ pub trait ReadLeaves {
         requires of_profile { InProfile (shape_of ty.now) }
         requires simple { IsSimple (shape_of ty.now) }
         ensures at_unit { OnOk result (rules.at_unit units.new) }
-        ensures done { IfOk result (λ v. Reads rules (ValuesOf rules (shape_of ty.now)) (datum_of v) units.old units.new) }
+        ensures done { IfOk result (λ v. ReadsValue rules ty.now v units.old units.new) }
         ensures stop { IfErr result (λ why. StopsAt rules (ValuesOf rules (shape_of ty.now)) units.old why) };
 
     /// Reads a value of the type of a component with this DEFAULT. The DEFAULT itself is refused, since an encoder
@@ -85,7 +85,8 @@ pub trait ReadLeaves {
         requires at_unit { rules.at_unit units.old }
         requires of_profile { InProfile (between low high) }
         ensures at_unit { rules.at_unit units.new }
-        ensures some { IfSome result (λ z. Reads rules (ValuesOf rules (between low high)) (number z) units.old units.new) }
+        ensures some { IfSome result (λ z.
+            Reads rules (ValuesOf rules (between low high)) (number z) units.old units.new) }
         ensures of_integers { IfSome result IsOfProfile }
         ensures none { IsNone result → units.new ≡ units.old };
 
@@ -99,7 +100,8 @@ pub trait ReadLeaves {
         requires at_unit { rules.at_unit units.old }
         requires few { count ≤ 64 }
         ensures at_unit { OnOk result (rules.at_unit units.new) }
-        ensures done { IfOk result (λ p. Reads rules (PreambleOf rules count additions) (preamble_seen p) units.old units.new) }
+        ensures done { IfOk result (λ p.
+            Reads rules (PreambleOf rules count additions) (preamble_seen p) units.old units.new) }
         ensures stop { IfErr result (λ why. StopsAt rules (PreambleOf rules count additions) units.old why) };
 
     /// Reads the presence bitmap of `count` extension additions, of which one at least is present.
@@ -122,7 +124,8 @@ pub trait ReadLeaves {
         requires some { 0 < root }
         requires few { AreFew root additions }
         ensures at_unit { OnOk result (rules.at_unit units.new) }
-        ensures done { IfOk result (λ i. Reads rules (IndexOf rules root additions) (index_seen i) units.old units.new) }
+        ensures done { IfOk result (λ i.
+            Reads rules (IndexOf rules root additions) (index_seen i) units.old units.new) }
         ensures stop { IfErr result (λ why. StopsAt rules (IndexOf rules root additions) units.old why) };
 
     /// Reads the octets of an open type field, without its length.

@@ -1,26 +1,14 @@
-//! One walk over types and values for all encoding rules, above the parts that each set of rules gives.
+//! What the walk over types and values wants of a set of encoding rules.
 //!
-//! A set of encoding rules is an impl of `ReadLeaves`: the parts of an encoding in which PER and OER differ. SEQUENCE,
-//! SEQUENCE OF, CHOICE, open type fields and complete encodings are put together from these parts here, once.
+//! A set of encoding rules is an impl of `ReadLeaves` and of `WriteLeaves`: the parts of an encoding in which PER and
+//! OER differ. `asn_walk_read` and `asn_walk_write` put SEQUENCE, SEQUENCE OF, CHOICE, open type fields and complete
+//! encodings together from these parts, each once for all rules.
 #![tactic(auto)]
 
-mod components;
-mod decoder;
 mod leaves;
-mod limits;
 mod presence;
-mod reader;
-
-pub use decoder::decode;
-pub use leaves::{Index, Preamble, ReadLeaves};
-pub use limits::MAX_OCTETS;
-pub use reader::{read, read_complete};
-
-mod encoded;
-mod encoder;
 mod write_leaves;
-mod writer;
 
-pub use encoder::encode;
+pub use leaves::{Index, Preamble, ReadLeaves};
+pub use presence::{PresenceBits, bitmap_width, has_presence_bit};
 pub use write_leaves::WriteLeaves;
-pub use writer::write_complete;

@@ -10,14 +10,14 @@ use asn_values::{Field, Need};
 
 /// Presence bits that are still to be looked at: the lowest `left` bits of a bitmap, the highest of them first.
 #[derive(Clone, Copy)]
-pub(crate) struct PresenceBits {
+pub struct PresenceBits {
     pub bitmap: u64,
     pub left: u32,
 }
 
 impl PresenceBits {
     /// Takes the next presence bit.
-    pub(crate) fn next(&mut self) -> bool
+    pub fn next(&mut self) -> bool
         requires some { 0 < self.old.left }
         requires few { self.old.left ≤ 64 }
         ensures bitmap { self.new.bitmap ≡ self.old.bitmap }
@@ -29,7 +29,7 @@ impl PresenceBits {
     }
 
     /// Whether this component of the root is present: its presence bit, which is taken, where it has one.
-    pub(crate) fn next_of(&mut self, field: &Field) -> bool
+    pub fn next_of(&mut self, field: &Field) -> bool
         requires few { self.old.left ≤ 64 }
         requires some { has_presence_bit (part_of_field field.now).demand ≡ true → 0 < self.old.left }
         ensures bitmap { self.new.bitmap ≡ self.old.bitmap }
@@ -47,14 +47,14 @@ impl PresenceBits {
 }
 
 /// Whether the component has a presence bit: it is OPTIONAL or has a DEFAULT.
-pub(crate) fn has_presence_bit(field: &Field) -> bool
+pub fn has_presence_bit(field: &Field) -> bool
     ensures { result ≡ has_presence_bit (part_of_field field.now).demand }
 {
     !matches!(field.need, Need::Must)
 }
 
 /// How many presence bits the components of a root have.
-pub(crate) fn bitmap_width(fields: &[Field]) -> u32
+pub fn bitmap_width(fields: &[Field]) -> u32
     requires { length fields.now ≤ 64 }
     ensures count { result ≡ bitmap_length (fields_seen fields.now) }
     ensures few { result ≤ 64 }

@@ -22,7 +22,7 @@ use std::alloc::AllocError;
 
 /// The parts of types and values that a set of encoding rules writes by itself.
 ///
-/// A writer puts bits behind those of a sink. Where it answers `Ok` it has put exactly the bits of what it was given.
+/// A writer appends bits to a sink. On `Ok` it has appended exactly the bits of what it was given.
 pub trait WriteLeaves {
     ghost rules: { Coding };
 
@@ -77,7 +77,7 @@ pub trait WriteLeaves {
         requires within { IsIndexWithin root (Some (63 - root)) (index_seen index) }
         ensures { OnOk result (WritesUnits rules sink.old sink.new (rules.index root marked (index_seen index))) };
 
-    /// Writes the octets of an open type field behind their length.
+    /// Writes the octets of an open type field, after their length determinant.
     fn write_open_octets(octets: &[u8], sink: &mut BitSink) -> Result<(), AllocError>
         ensures { OnOk result (WritesUnits rules sink.old sink.new (rules.ruling.fielding.spelled octets.now)) };
 

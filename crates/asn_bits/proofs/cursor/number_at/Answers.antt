@@ -24,5 +24,5 @@ returns-clause-here c =
     let k = c.args.k in
     let m = (f + k + 7) / 8 in
     let count : length (take m os) ≡ m = length-take-le m os (omega arith) in
-    let front : octets m c.joined.result ≡ take m os = ap (λ i. octets i c.joined.result) (sym count) ∙ c.joined.ensures in
-    field_read os f k (8 * m - (f + k)) m c.joined.result c.wide_field-2.result front (omega arith) c.wide_field-2.ensures
+    let front : octets m c.from_be_octets.result ≡ take m os = ap (λ i. octets i c.from_be_octets.result) (sym count) ∙ c.from_be_octets.ensures in
+    field_read os f k (8 * m - (f + k)) m c.from_be_octets.result c.wide_field-2.result front (omega arith) c.wide_field-2.ensures

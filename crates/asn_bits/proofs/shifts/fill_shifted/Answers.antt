@@ -17,7 +17,7 @@ loop-eight-preserved c =
     let l = c.loop-eight in
     let rest = l.rest.now in
     let eight = c.in-Some.eight.now in
-    let behind = c.in-Some.behind.now in
+    let behind = c.in-Some.others.now in
     let n = c.from_be_bytes-n.result in
     let h = l.invariant.0 in
     let front = c.in-Some.ensures.cases in
@@ -28,16 +28,16 @@ loop-eight-preserved c =
     let parts : rest ≡ eight ++ behind = sym (take-append-drop 8 rest) ∙ ap (λ t. t ++ drop 8 rest) (sym front.0) ∙ ap (λ t. eight ++ t) (sym front.1) in
     let bytes = c.copy_from_slice.new.self in
     let here : length (take l.place l.into) ≡ l.place = length-take-le l.place l.into (omega (arith, l.invariant.1, l.invariant.2)) in
-    let word : bytes ≡ octets 8 c.middle-word.result = c.copy_from_slice.ensures.after ∙ c.to_be_bytes.ensures ∙ bytes-octets 8 c.middle-word.result in
-    let long : length bytes ≡ 8 = ap length word ∙ length-digits 256 8 c.middle-word.result in
+    let word : bytes ≡ octets 8 c.full_word-word.result = c.copy_from_slice.ensures.after ∙ c.to_be_bytes.ensures ∙ bytes-octets 8 c.full_word-word.result in
+    let long : length bytes ≡ 8 = ap length word ∙ length-digits 256 8 c.full_word-word.result in
     let k = l.place + 8 - l.place in
     let post = drop k (drop l.place l.into) in
     let all_there : length (take l.place l.into ++ (bytes ++ post)) ≡ length a.octets.now =
     omega (arith, length-append (take l.place l.into) (bytes ++ post), length-append bytes post, length-drop k (drop l.place l.into), length-drop l.place l.into, here, long, l.invariant.1, l.invariant.2, left, front.2) in
     let next =
     take-put_mid l.place (l.place + 8 - l.place) l.into bytes (l.place + 8) (omega (arith, long)) (omega (arith, l.invariant.1, l.invariant.2)) ∙ ap (λ t. take l.place l.into ++ t) word in (
-      begun_word [] (take l.place l.into) _ a.octets.now rest eight behind a.count a.pending l.high n c.middle-word.result h c.requires.few.1 parts number
-          (omega arith) c.middle-word.ensures next,
+      begun_word [] (take l.place l.into) _ a.octets.now rest eight behind a.count a.pending l.high n c.full_word-word.result h c.requires.few.1 parts number
+          (omega arith) c.full_word-word.ensures next,
       omega (arith, l.invariant.1, left, front.2),
       all_there,
       omega (arith, l.invariant.3),

@@ -19,7 +19,7 @@ loop-octet-preserved c =
     let o = get_or a.octets.now i 0 in
     let b = c.low_octet.result in
     let fits : o < 256 = omega (arith, c.type_inv.octets i) in
-    let here : b ≡ (c.loop-octet.high * 2 ^ 8 + o) / 2 ^ a.count % 256 = omega (arith, c.low_octet.ensures, c.middle.ensures) in
+    let here : b ≡ (c.loop-octet.high * 2 ^ 8 + o) / 2 ^ a.count % 256 = omega (arith, c.low_octet.ensures, c.full_word.ensures) in
     let more = shifted_octet a.bytes.now.items c.loop-octet.bytes.items (take i a.octets.now) a.count a.pending c.loop-octet.high o b c.loop-octet.invariant.0 fits c.requires.few.1 here in
     let front : take i a.octets.now ++ o ∷ [] ≡ take (i + 1) a.octets.now = sym (take_more a.octets.now i 0 c.loop-octet-test.true) in (
       subst (λ t. Shifted a.bytes.now.items t (take (i + 1) a.octets.now) a.count a.pending o) (sym c.push_reserved.ensures.items)

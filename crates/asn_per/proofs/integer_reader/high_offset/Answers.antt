@@ -7,15 +7,15 @@ use Rattle.asn_per.specs.Reading.{high_offset}
 use Rattle.asn_per.proofs.IntegerRanges.{inside}
 use Rattle.asn_per.proofs.integer_reader.high_offset.Goals as goal
 
-pub above-requires-clause-ordered : goal.above-requires-clause-ordered
-above-requires-clause-ordered c =
+pub offset_from-requires-clause-ordered : goal.offset_from-requires-clause-ordered
+offset_from-requires-clause-ordered c =
     let z = c.in-Some.high in
     let e : is_outside (Some z) ≡ false = rw c.in-Some.is at c.requires in
     let w = inside z e in
     subst (λ (x : ℤ). lowest_integer ≤ℤ x) (sym (kept z w.0 w.1)) w.0
 
-pub above-requires-clause-within_high : goal.above-requires-clause-within_high
-above-requires-clause-within_high c =
+pub offset_from-requires-clause-within_high : goal.offset_from-requires-clause-within_high
+offset_from-requires-clause-within_high c =
     let z = c.in-Some.high in
     let e : is_outside (Some z) ≡ false = rw c.in-Some.is at c.requires in
     let w = inside z e in
@@ -26,5 +26,5 @@ returns-in-Some c =
     let z = c.in-Some.high in
     let e : is_outside (Some z) ≡ false = rw c.in-Some.is at c.requires in
     let w = inside z e in
-    let a : c.above.result ≡ above lowest_integer z = rw (kept z w.0 w.1) at c.above.ensures in
+    let a : c.offset_from.result ≡ above lowest_integer z = rw (kept z w.0 w.1) at c.offset_from.ensures in
     omega (arith, c.from.ensures, a, ap high_offset c.in-Some.is)

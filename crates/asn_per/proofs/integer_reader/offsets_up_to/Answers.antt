@@ -12,9 +12,9 @@ high_offset-end-requires c = (bounds_inside (unmarked None c.args.high) c.requir
 pub returns-in-Some-clause-same : goal.returns-in-Some-clause-same
 returns-in-Some-clause-same c =
     let out = (bounds_inside (unmarked None c.args.high) c.requires.of_profile).1 in
-    let d = c.in-Some.whole in
+    let d = c.in-Some.excluded in
     let w : IsWithin (unmarked None c.args.high) (Some d) = rw c.in-Some.is at c.requires.within in
-    let b : c.from-below.result ≡ above lowest_integer d = rw (kept d w.0.0 w.0.1) at (rw c.above.ensures at c.from-below.ensures) in
+    let b : c.from-below.result ≡ above lowest_integer d = rw (kept d w.0.0 w.0.1) at (rw c.offset_from.ensures at c.from-below.ensures) in
     rw (c.in-Some.is, c.high_offset-end.ensures, b) (other_offsets c.args.high out d w.0.0)
 
 pub returns-in-Some-clause-gap : goal.returns-in-Some-clause-gap

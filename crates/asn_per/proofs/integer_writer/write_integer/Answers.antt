@@ -12,7 +12,7 @@ returns-clause-of_type c =
     let high = c.in-Some-Some.high in
     let ext = c.args.bounds.now.ext in
     let good : InProfile (integer (between low high ext)) = rw (c.in-Some-Some.is-0, c.in-Some-Some.is-1) at c.requires.of_profile in
-    let least : low ≤ℤ c.args.whole = search rules in
-    let most : c.args.whole ≤ℤ high = search rules in
-    let fits : FitsNumber (between low high ext) c.args.whole = between_fits low high c.args.whole ext good least most in
+    let least : low ≤ℤ c.args.value = search rules in
+    let most : c.args.value ≤ℤ high = search rules in
+    let fits : FitsNumber (between low high ext) c.args.value = between_fits low high c.args.value ext good least most in
     rw (c.in-Some-Some.is-0, c.in-Some-Some.is-1) fits

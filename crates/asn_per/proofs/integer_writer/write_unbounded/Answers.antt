@@ -10,7 +10,7 @@ use Rattle.asn_per.proofs.integer_writer.write_unbounded.Goals as goal
 pub returns-then-not-inside-clause-written : goal.returns-then-not-inside-clause-written
 returns-then-not-inside-clause-written c =
     let b = range_of c.args.bounds.now in
-    let z = c.args.whole in
+    let z = c.args.value in
     let same : to_z w128 (of_z w128 z) ≡ z = search rules in
     let outside : in_range b z ≡ false = sym (rw same at c.is_between-inside.ensures) ∙ c.if-not-inside.true in
     let all = bits_of_outside b z c.if-bounds.true outside in
@@ -19,7 +19,7 @@ returns-then-not-inside-clause-written c =
 pub returns-clause-written : goal.returns-clause-written
 returns-clause-written c =
     let b = range_of c.args.bounds.now in
-    let z = c.args.whole in
+    let z = c.args.value in
     let same : to_z w128 (of_z w128 z) ≡ z = search rules in
     elim c.if-bounds.branch [
       | then-bounds+in_ok-push+else-not-inside w ↦ (

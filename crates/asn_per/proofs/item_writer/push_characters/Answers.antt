@@ -5,7 +5,7 @@ use Rattle.asn_bits.specs.Lengths.{joined}
 use Rattle.asn_bits.specs.Numbers.{bits}
 use Rattle.asn_per.specs.Reading.{code_width}
 use Rattle.asn_per.specs.Per.{character_bits}
-use Rattle.asn_per.proofs.Words.{row_begins, part_length, row_goes_on, row_ends}
+use Rattle.asn_bits.proofs.ItemRows.{row_begins, part_length, row_goes_on, row_ends}
 use Rattle.asn_per.proofs.item_writer.push_characters.Goals as goal
 
 pub loop-done-init : goal.loop-done-init

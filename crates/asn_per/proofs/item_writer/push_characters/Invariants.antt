@@ -1,7 +1,7 @@
 use Rattle.std.proofs.Common.{length, ◌-◌}
 use Rattle.asn_values.specs.View.{alphabet_of}
 use Rattle.asn_per.specs.Per.{character_bits}
-use Rattle.asn_per.proofs.Words.{Row}
+use Rattle.asn_bits.proofs.ItemRows.{Row}
 use Rattle.asn_per.proofs.item_writer.push_characters.Given as goal
 
 abbrev pub invariant-loop-done : goal.invariant-loop-done

@@ -8,7 +8,7 @@ use Rattle.asn_bits.specs.Lengths.{joined}
 use Rattle.asn_bits.specs.Numbers.{bits}
 use Rattle.asn_per.specs.Per.{character_bits}
 use Rattle.asn_per.specs.Reading.{code_width}
-use Rattle.asn_per.proofs.Words.{Word, no_word, word_more, word_fits, row_more}
+use Rattle.asn_bits.proofs.ItemRows.{Word, no_word, word_more, word_fits, row_more}
 use Rattle.asn_per.proofs.item_writer.word_of_characters.Goals as goal
 
 -- the bits of the first characters

@@ -3,7 +3,7 @@ use Rattle.asn_values.specs.View.{alphabet_of}
 use Rattle.asn_bits.specs.Lengths.{joined}
 use Rattle.asn_per.specs.Per.{character_bits}
 use Rattle.asn_per.specs.Reading.{code_width}
-use Rattle.asn_per.proofs.Words.{Word}
+use Rattle.asn_bits.proofs.ItemRows.{Word}
 use Rattle.asn_per.proofs.item_writer.word_of_characters.Given as goal
 
 abbrev pub invariant-loop-character : goal.invariant-loop-character

@@ -7,7 +7,8 @@ use Rattle.asn_bits.specs.Numbers.{bits, unpacked}
 use Rattle.asn_bits.specs.Sink.{bit_of}
 use Rattle.asn_per.specs.Per.{character_bits}
 use Rattle.asn_per.specs.StringItems.{item_chunks, row_bits}
-use Rattle.asn_per.proofs.Words.{one_bit, bits_joined, octets_joined, part_of}
+use Rattle.asn_bits.proofs.ItemRows.{one_bit, bits_joined}
+use Rattle.asn_per.proofs.Words.{octets_joined, part_of}
 use Rattle.asn_per.proofs.item_writer.write_items.Goals as goal
 
 pub returns-in-Bits : goal.returns-in-Bits

@@ -11,7 +11,7 @@ use Rattle.asn_per.proofs.IndexBits.{same_index_bits}
 use Rattle.asn_per.proofs.ItemIndexes.{item_kept, root_items}
 use Rattle.asn_per.proofs.ItemBits.{mark_there, bits_of_root_item, bits_of_addition, addition_there}
 use Rattle.asn_per.proofs.items.write_item.Goals as goal
-use Rattle.asn_per.proofs.items.write_item.Goals.{then-place-root, else-place-root}
+use Rattle.asn_per.proofs.items.write_item.Goals.{then-position-root, else-position-root}
 
 pub write_index-requires-clause-few : goal.write_index-requires-clause-few
 write_index-requires-clause-few c = simp length-map at (root_items (map label_of c.args.root.now) (more_labels_of c.args.more.now) c.requires.of_profile).few
@@ -20,16 +20,16 @@ pub write_index-requires-clause-within : goal.write_index-requires-clause-within
 write_index-requires-clause-within c =
     let ls = map label_of c.args.root.now in
     let same : length ls ≡ length c.args.root.now = simp length-map in
-    elim c.if-place-root.branch [
-      | then-place-root w ↦ (
-          let d = w.index-root-place.result in
+    elim c.if-position-root.branch [
+      | then-position-root w ↦ (
+          let d = w.index-root-position.result in
           let good = root_items ls (more_labels_of c.args.more.now) c.requires.of_profile in
-          let here : to_z w64 (of_z w64 (get_or c.args.root.now c.args.place d).number) ≡ number_at ls c.args.place = item_kept c.args.root.now c.args.place d (get_or c.args.root.now c.args.place d) good w.if-place-root.true refl in
-          let index : w.rank.result ≡ rank ls (number_at ls c.args.place) = w.rank.ensures ∙ ap (rank ls) here in
-          let inside : rank ls (number_at ls c.args.place) < length ls = rank_inside ls c.args.place (simp length-map w.if-place-root.true) in
+          let here : to_z w64 (of_z w64 (get_or c.args.root.now c.args.position d).number) ≡ number_at ls c.args.position = item_kept c.args.root.now c.args.position d (get_or c.args.root.now c.args.position d) good w.if-position-root.true refl in
+          let index : w.rank.result ≡ rank ls (number_at ls c.args.position) = w.rank.ensures ∙ ap (rank ls) here in
+          let inside : rank ls (number_at ls c.args.position) < length ls = rank_inside ls c.args.position (simp length-map w.if-position-root.true) in
           rw w.index-is (omega (arith, index, inside, same))
           )
-      | else-place-root w ↦ rw w.index-is (addition_there c.args.root.now c.args.more.now c.args.place c.requires.of_profile c.requires.of_type w.if-place-root.false).0
+      | else-position-root w ↦ rw w.index-is (addition_there c.args.root.now c.args.more.now c.args.position c.requires.of_profile c.requires.of_type w.if-position-root.false).0
     ]
 
 pub returns : goal.returns
@@ -38,17 +38,17 @@ returns c =
     let more = more_labels_of c.args.more.now in
     let same : length c.args.root.now ≡ length ls = simp length-map in
     let mark = c.is_some.ensures ∙ mark_there c.args.more.now in
-    elim c.if-place-root.branch [
-      | then-place-root w ↦ (
-          let d = w.index-root-place.result in
+    elim c.if-position-root.branch [
+      | then-position-root w ↦ (
+          let d = w.index-root-position.result in
           let good = root_items ls more c.requires.of_profile in
-          let here : to_z w64 (of_z w64 (get_or c.args.root.now c.args.place d).number) ≡ number_at ls c.args.place = item_kept c.args.root.now c.args.place d (get_or c.args.root.now c.args.place d) good w.if-place-root.true refl in
-          let index : index_seen c.if-place-root.index ≡ inl (rank ls (number_at ls c.args.place)) = ap index_seen w.index-is ∙ ap inl (w.rank.ensures ∙ ap (rank ls) here) in
-          rw (bits_of_root_item ls more c.args.place (simp length-map w.if-place-root.true) ∙ same_index_bits (sym same) (sym mark) (sym index)) c.write_index.ensures
+          let here : to_z w64 (of_z w64 (get_or c.args.root.now c.args.position d).number) ≡ number_at ls c.args.position = item_kept c.args.root.now c.args.position d (get_or c.args.root.now c.args.position d) good w.if-position-root.true refl in
+          let index : index_seen c.if-position-root.index ≡ inl (rank ls (number_at ls c.args.position)) = ap index_seen w.index-is ∙ ap inl (w.rank.ensures ∙ ap (rank ls) here) in
+          rw (bits_of_root_item ls more c.args.position (simp length-map w.if-position-root.true) ∙ same_index_bits (sym same) (sym mark) (sym index)) c.write_index.ensures
           )
-      | else-place-root w ↦ (
-          let there = addition_there c.args.root.now c.args.more.now c.args.place c.requires.of_profile c.requires.of_type w.if-place-root.false in
-          let index : index_seen c.if-place-root.index ≡ inr (c.args.place - length ls) = ap index_seen w.index-is ∙ ap (λ (n : ℕ). inr (c.args.place - n)) same in
-          rw (bits_of_addition ls more c.args.place (simp length-map w.if-place-root.false) there.1 ∙ same_index_bits (sym same) (sym mark) (sym index)) c.write_index.ensures
+      | else-position-root w ↦ (
+          let there = addition_there c.args.root.now c.args.more.now c.args.position c.requires.of_profile c.requires.of_type w.if-position-root.false in
+          let index : index_seen c.if-position-root.index ≡ inr (c.args.position - length ls) = ap index_seen w.index-is ∙ ap (λ (n : ℕ). inr (c.args.position - n)) same in
+          rw (bits_of_addition ls more c.args.position (simp length-map w.if-position-root.false) there.1 ∙ same_index_bits (sym same) (sym mark) (sym index)) c.write_index.ensures
           )
     ]

@@ -1,12 +1,11 @@
 use Rattle.std.proofs.Common.{◌≤◌, ◌*◌, ℕ, None, sym, subst}
-use Rattle.std.proofs.lemmas.Result.{err_from_is_err_and, IfOk-weaker}
+use Rattle.std.proofs.lemmas.Result.{err_from_is_err_and, IfOk-weaker, IfErr-weaker}
 use Rattle.asn_rules.specs.Languages.{Plain, Spells}
 use Rattle.asn_bits.specs.Sets.{InSet, Meets}
 use Rattle.asn_rules.specs.Stops.{Stops}
 use Rattle.asn_rules.proofs.Leads.{stops_by}
 use Rattle.asn_rules.specs.NumberSets.{Admits}
 use Rattle.asn_rules.proofs.CountedReading.{counts_of, count_there, some_count, some_number, at_most_eight, stops_at_count, leads_to_number}
-use Rattle.asn_rules.proofs.NumberSets.{if_err_weaker}
 use Rattle.asn_rules.proofs.whole_number_reader.read_semi_constrained.Goals as goal
 
 pub read_number-requires-clause-some : goal.read_number-requires-clause-some
@@ -47,4 +46,4 @@ returns-clause-stop c R =
     let spelt : Spells R (Plain (InSet 8 (λ n. Admits (counts_of c.args.high c.args.excluded) n))) count c.args.bits.now c.read_number.new.bits =
     rw c.highest_count.ensures.count at (c.in_ok-count.ensures.done R) in
     let lead = leads_to_number R c.args.high c.args.excluded count c.greatest_with.result c.args.bits.now c.read_number.new.bits (at_most_eight c.args.high c.ranges.high.fits) one c.greatest_with.ensures spelt in
-    if_err_weaker c.read_number-2.result _ _ (λ why s. stops_by why lead.stops s) (rw (c.least_with.ensures, c.min.ensures) at (c.read_number-2.ensures.stop R))
+    IfErr-weaker c.read_number-2.result _ _ (λ why s. stops_by why lead.stops s) (rw (c.least_with.ensures, c.min.ensures) at (c.read_number-2.ensures.stop R))

@@ -7,4 +7,4 @@ use Rattle.asn_values.proofs.enumerations.has_bad_names.Goals as goal
 
 pub returns : goal.returns
 returns c =
-    c.are_bad.ensures ∙ ap bad_names (names_of_items c.args.root.now c.additions.result.now (more_labels (more_labels_of c.args.more.now)) c.additions.ensures)
+    c.are_bad.ensures ∙ ap bad_names (names_of_items c.args.root.now c.additions.result.now (more_labels (more_labels_of c.args.ext.now)) c.additions.ensures)

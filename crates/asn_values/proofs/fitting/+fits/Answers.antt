@@ -11,37 +11,37 @@ use Rattle.asn_values.proofs.fitting.+fits.Goals as goal
 pub fields_have-returns-then-fields-entries : goal.fields_have-returns-then-fields-entries
 fields_have-returns-then-fields-entries t c = (λ h. cc, λ h. absurd (other_length c.args.fields.now c.args.entries.now h c.if-fields-entries.true))
 
-pub alternative_has-returns-then-place-alternatives : goal.alternative_has-returns-then-place-alternatives
-alternative_has-returns-then-place-alternatives t c =
-    let both = fits_at c.args.alternatives.now c.args.place c.index-alternatives-place.result (datum_of c.args.chosen.now) c.if-place-alternatives.true c.index-alternatives-place.is in
-    (λ h. both.1 ((rw (← c.index-alternatives-place.is) at c.type_has.ensures).0 h), λ f. (rw (← c.index-alternatives-place.is) at c.type_has.ensures).1 (both.0 f))
+pub alternative_has-returns-then-index-alternatives : goal.alternative_has-returns-then-index-alternatives
+alternative_has-returns-then-index-alternatives t c =
+    let both = fits_at c.args.alternatives.now c.args.index c.index-alternatives-index.result (datum_of c.args.chosen.now) c.if-index-alternatives.true c.index-alternatives-index.is in
+    (λ h. both.1 ((rw (← c.index-alternatives-index.is) at c.type_has.ensures).0 h), λ f. (rw (← c.index-alternatives-index.is) at c.type_has.ensures).1 (both.0 f))
 
-pub alternative_has-returns-else-place-alternatives : goal.alternative_has-returns-else-place-alternatives
-alternative_has-returns-else-place-alternatives t c = (
-  λ h. no_truth (rw (le-ltb c.args.place (length c.args.alternatives.now) c.if-place-alternatives.false) at h),
-  λ f. absurd (fits_nowhere c.args.alternatives.now c.args.place (datum_of c.args.chosen.now) c.if-place-alternatives.false f),
+pub alternative_has-returns-else-index-alternatives : goal.alternative_has-returns-else-index-alternatives
+alternative_has-returns-else-index-alternatives t c = (
+  λ h. no_truth (rw (le-ltb c.args.index (length c.args.alternatives.now) c.if-index-alternatives.false) at h),
+  λ f. absurd (fits_nowhere c.args.alternatives.now c.args.index (datum_of c.args.chosen.now) c.if-index-alternatives.false f),
 )
 
-pub type_has-returns-then-place-len : goal.type_has-returns-then-place-len
-type_has-returns-then-place-len t c =
+pub type_has-returns-then-index-len : goal.type_has-returns-then-index-len
+type_has-returns-then-index-len t c =
     fits_choices c.args.ty.now c.args.value.now c.in-Choice.root c.in-Choice.ext c.in-Choice-value.tag c.in-Choice-value.chosen c.in-Choice.is c.in-Choice-value.is
-    c.deref-then-place-len.result.now c.deref-then-place-len-2.result.now c.deref-then-place-len.ensures.value c.deref-then-place-len-2.ensures c.alternative_has.result
-    (choice_root c.deref-then-place-len.result.now (more_alternatives_of c.in-Choice.ext) c.in-Choice-value.tag (datum_of c.deref-then-place-len-2.result.now) c.alternative_has.result (omega (arith, c.if-place-len.true, c.len-in-Choice-value.ensures, c.deref-then-place-len.ensures.len)) c.alternative_has.ensures)
+    c.deref-then-index-len.result.now c.deref-then-index-len-2.result.now c.deref-then-index-len.ensures.value c.deref-then-index-len-2.ensures c.alternative_has.result
+    (choice_root c.deref-then-index-len.result.now (more_alternatives_of c.in-Choice.ext) c.in-Choice-value.tag (datum_of c.deref-then-index-len-2.result.now) c.alternative_has.result (omega (arith, c.if-index-len.true, c.len-in-Choice-value.ensures, c.deref-then-index-len.ensures.len)) c.alternative_has.ensures)
 
 pub type_has-returns-in-None-ext : goal.type_has-returns-in-None-ext
 type_has-returns-in-None-ext t c =
     fits_choices c.args.ty.now c.args.value.now c.in-Choice.root c.in-Choice.ext c.in-Choice-value.tag c.in-Choice-value.chosen c.in-Choice.is c.in-Choice-value.is
     c.in-Choice.root.items c.in-Choice-value.chosen.value refl refl false
-    (rw c.in-None-ext.is (choice_closed c.in-Choice.root.items c.in-Choice-value.tag (datum_of c.in-Choice-value.chosen.value) (omega (arith, c.if-place-len.false, c.len-in-Choice-value.ensures))))
+    (rw c.in-None-ext.is (choice_closed c.in-Choice.root.items c.in-Choice-value.tag (datum_of c.in-Choice-value.chosen.value) (omega (arith, c.if-index-len.false, c.len-in-Choice-value.ensures))))
 
 pub type_has-returns-in-Some-ext : goal.type_has-returns-in-Some-ext
 type_has-returns-in-Some-ext t c =
-    let more : c.deref-in-Some-ext.result.now ≡ c.in-Some-ext.more.items = c.deref-in-Some-ext.ensures.value in
+    let more : c.deref-in-Some-ext.result.now ≡ c.in-Some-ext.additions.items = c.deref-in-Some-ext.ensures.value in
     let count : c.len-in-Some-ext.result ≡ length c.in-Choice.root.items = omega (arith, c.len-in-Some-ext.ensures) in
     fits_choices c.args.ty.now c.args.value.now c.in-Choice.root c.in-Choice.ext c.in-Choice-value.tag c.in-Choice-value.chosen c.in-Choice.is c.in-Choice-value.is
     c.in-Choice.root.items c.deref-in-Some-ext-2.result.now refl c.deref-in-Some-ext-2.ensures c.alternative_has-in-Some-ext.result
     (rw (c.in-Some-ext.is, ← more)
-    (choice_more c.in-Choice.root.items c.deref-in-Some-ext.result.now c.in-Choice-value.tag (datum_of c.deref-in-Some-ext-2.result.now) c.alternative_has-in-Some-ext.result (omega (arith, c.if-place-len.false, c.len-in-Choice-value.ensures)) (rw count at c.alternative_has-in-Some-ext.ensures)))
+    (choice_more c.in-Choice.root.items c.deref-in-Some-ext.result.now c.in-Choice-value.tag (datum_of c.deref-in-Some-ext-2.result.now) c.alternative_has-in-Some-ext.result (omega (arith, c.if-index-len.false, c.len-in-Choice-value.ensures)) (rw count at c.alternative_has-in-Some-ext.ensures)))
 
 pub type_has-returns-in-None : goal.type_has-returns-in-None
 type_has-returns-in-None t c =
@@ -54,7 +54,7 @@ type_has-returns-then-fields_have t c =
     let fs = c.deref-in-Some-2.result.now in
     let vs = c.deref-in-Some.result.now in
     let more = c.deref-then-fields_have.result.now in
-    let items : more ≡ c.in-Some.more.items = c.deref-then-fields_have.ensures.value in
+    let items : more ≡ c.in-Some.additions.items = c.deref-then-fields_have.ensures.value in
     let n : c.min.result ≡ min (length fs) (length vs) = omega (arith, c.min.ensures, c.len-in-Some.ensures, c.len-in-Some-2.ensures, c.deref-in-Some.ensures.len, c.deref-in-Some-2.ensures.len) in
     let both = c.fields_have-then-fields_have.ensures in
     let ours = c.if-fields_have.ensures.0 refl in
@@ -66,7 +66,7 @@ pub type_has-returns-else-fields_have : goal.type_has-returns-else-fields_have
 type_has-returns-else-fields_have t c =
     let fs = c.deref-in-Some-2.result.now in
     let vs = c.deref-in-Some.result.now in
-    let more = c.in-Some.more.items in
+    let more = c.in-Some.additions.items in
     let n : c.min.result ≡ min (length fs) (length vs) = omega (arith, c.min.ensures, c.len-in-Some.ensures, c.len-in-Some-2.ensures, c.deref-in-Some.ensures.len, c.deref-in-Some-2.ensures.len) in
     let none = c.fields_have-in-Some.ensures in
     fits_sequences c.args.ty.now c.args.value.now c.in-Seq.root c.in-Seq.ext c.in-Seq-value.entries c.in-Seq.is c.in-Seq-value.is

@@ -5,9 +5,9 @@ use Rattle.asn_values.specs.View.{shape_of, datum_of, fields_of, part_of_field}
 use Rattle.asn_values.proofs.fitting.+fits.Given as goal
 
 -- the entries fit where those that are still to be looked at do
-abbrev pub invariant-fields_have-loop-place : goal.invariant-fields_have-loop-place
-invariant-fields_have-loop-place l =
-    FitsEach (fields_of (map part_of_field (drop l.place l.fields))) (map (option_map datum_of) (drop l.place l.entries))
+abbrev pub invariant-fields_have-loop-index : goal.invariant-fields_have-loop-index
+invariant-fields_have-loop-index l =
+    FitsEach (fields_of (map part_of_field (drop l.index l.fields))) (map (option_map datum_of) (drop l.index l.entries))
     ↔ FitsEach (fields_of (map part_of_field l.fields)) (map (option_map datum_of) l.entries)
 
 -- all elements fit where those that are still to be looked at do

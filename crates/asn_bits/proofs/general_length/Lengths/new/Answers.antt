@@ -1,7 +1,7 @@
 -- The low end of the first interval is a count.
 use Rattle.std.proofs.Common.{Option, Some, None, inl, ◌≤◌, arith}
 use Rattle.asn_bits.specs.Ranges.{Spanned}
-use Rattle.asn_bits.specs.LengthPlaces.{spans}
+use Rattle.asn_bits.specs.LengthStates.{spans}
 use Rattle.asn_bits.specs.declared.general_length.Counts.{Counts}
 use Rattle.asn_bits.proofs.GivenLengths.{starts_reading}
 use Rattle.asn_bits.proofs.general_length.Lengths.new.Goals as goal

@@ -2,16 +2,16 @@
 use Rattle.std.proofs.Common.{rules, ◌≡◌, ◌↔◌, ◌++◌, ℕ, true, [], IsTrue, refl, sym, ap, ◌∙◌, subst}
 use Rattle.std.proofs.lemmas.Bool.{true≢false}
 use Rattle.asn_bits.specs.LengthBits.{BegunLengths, CountsLeft, StartsSome, LengthAhead, Takes}
-use Rattle.asn_bits.specs.LengthPlaces.{spans, place_bits}
-use Rattle.asn_bits.specs.declared.general_length.Place.{Place}
-use Rattle.asn_bits.specs.declared.general_length.Place.TheVariants as place
+use Rattle.asn_bits.specs.LengthStates.{spans, state_bits}
+use Rattle.asn_bits.specs.declared.general_length.LengthState.{LengthState}
+use Rattle.asn_bits.specs.declared.general_length.LengthState.TheVariants as place
 use Rattle.asn_bits.proofs.FirstLengths.{ahead_starts}
 use Rattle.asn_bits.proofs.GivenLengths.{behind_reading, behind_goes, whole_first, whole_more, whole_ends}
 use Rattle.asn_bits.proofs.general_length.Lengths.take.Goals as goal
-use Rattle.asn_bits.proofs.general_length.Lengths.take.Goals.{in-Start, in_default, in_default-via-in-None-1, in_default-via-in-Some+else-starts_some}
+use Rattle.asn_bits.proofs.general_length.Lengths.take.Goals.{in-Start, in_default, in_default-via-in-None-1, in_default-via-in-Some+else-is_viable}
 
 -- no bit of the length is given
-at_start : (c : goal.After-self-2-1) → c.self.inside.place ≡ place.Start
+at_start : (c : goal.After-self-2-1) → c.self.inside.state ≡ place.Start
 at_start c = elim c.match-matches.branch [ in-Start w ↦ w.in-Start.is | in_default w ↦ absurd (true≢false (sym c.if-not-matches.false ∙ w.matches-is)) ]
 
 pub returns-then-not-matches-clause-live : goal.returns-then-not-matches-clause-live
@@ -22,33 +22,33 @@ returns-then-not-matches-clause-live c =
 pub invariant_of-self : goal.invariant_of-self
 invariant_of-self c =
     let s = c.self.inside in
-    behind_reading (spans s.first s.second) s.come c.in-Some.form c.in-Some.number (c.behind-items.result.0, c.behind-items.result.1, c.behind-items.result.2) c.in-Some.ensures.some.0 (c.starts_some.ensures.exact.0 c.if-starts_some.true) c.behind-items.ensures
+    behind_reading (spans s.first s.second) s.blocks_read c.in-Some.form c.in-Some.number (c.after_length-items.result.0, c.after_length-items.result.1, c.after_length-items.result.2) c.in-Some.ensures.some.0 (c.is_viable.ensures.exact.0 c.if-is_viable.true) c.after_length-items.ensures
 
 pub returns-clause-some : goal.returns-clause-some
 returns-clause-some c =
     let s = c.self.inside in
     let is = spans s.first s.second in
-    let x : ℕ × ℕ × Place = (c.behind-items.result.0, c.behind-items.result.1, c.behind-items.result.2) in
-    let front = place_bits (place.Number c.in-Some.form c.in-Some.number 0) in
-    let some = c.starts_some.ensures.exact.0 c.if-starts_some.true in
-    let new : BegunLengths = record { counts = is; blocks = c.behind-items.result.1; bits = place_bits c.behind-items.result.2 } in
-    let whole : front ≡ place_bits s.place ++ front = ap (λ p. place_bits p ++ front) (sym (at_start c)) in
-    let all = whole_more (CountsLeft is s.come) s.come c.in-Some.form c.in-Some.number x (place_bits s.place) front c.in-Some.ensures.some.0 some c.behind-items.ensures whole in
-    subst (λ (v : BegunLengths). Takes v c.args.bits.now c.next_length.new.bits c.behind-items.result.0 new) c.self.view_is (record {
+    let x : ℕ × ℕ × LengthState = (c.after_length-items.result.0, c.after_length-items.result.1, c.after_length-items.result.2) in
+    let front = state_bits (place.Number c.in-Some.form c.in-Some.number 0) in
+    let some = c.is_viable.ensures.exact.0 c.if-is_viable.true in
+    let new : BegunLengths = record { counts = is; blocks = c.after_length-items.result.1; bits = state_bits c.after_length-items.result.2 } in
+    let whole : front ≡ state_bits s.state ++ front = ap (λ p. state_bits p ++ front) (sym (at_start c)) in
+    let all = whole_more (CountsLeft is s.blocks_read) s.blocks_read c.in-Some.form c.in-Some.number x (state_bits s.state) front c.in-Some.ensures.some.0 some c.after_length-items.ensures whole in
+    subst (λ (v : BegunLengths). Takes v c.args.bits.now c.next_length.new.bits c.after_length-items.result.0 new) c.self.view_is (record {
       front = front;
       split = c.in-Some.ensures.some.1;
-      ends = whole_ends is s.come (place_bits s.place) front x.0 all;
+      ends = whole_ends is s.blocks_read (state_bits s.state) front x.0 all;
       whole = all;
-      goes = behind_goes is s.come c.in-Some.form c.in-Some.number x (place_bits s.place) front c.in-Some.ensures.some.0 some c.behind-items.ensures whole;
+      goes = behind_goes is s.blocks_read c.in-Some.form c.in-Some.number x (state_bits s.state) front c.in-Some.ensures.some.0 some c.after_length-items.ensures whole;
     })
 
 pub returns-clause-whole : goal.returns-clause-whole
 returns-clause-whole c =
     let s = c.self.inside in
     let is = spans s.first s.second in
-    let w = whole_first (CountsLeft is s.come) c.in-Some.form c.in-Some.number c.in-Some.ensures.some.0 (c.starts_some.ensures.exact.0 c.if-starts_some.true) in
+    let w = whole_first (CountsLeft is s.blocks_read) c.in-Some.form c.in-Some.number c.in-Some.ensures.some.0 (c.is_viable.ensures.exact.0 c.if-is_viable.true) in
     subst (λ (v : BegunLengths). IsTrue true ↔ ((v.bits ≡ []) × LengthAhead (CountsLeft v.counts v.blocks) c.args.bits.now)) c.self.view_is
-    (λ t. (ap place_bits (at_start c), record { count = w.count; member = w.member; rest = c.next_length.new.bits; split = c.in-Some.ensures.some.1 ∙ ap (λ bs. bs ++ c.next_length.new.bits) (sym w.bits_are) }), λ h. refl)
+    (λ t. (ap state_bits (at_start c), record { count = w.count; member = w.member; rest = c.next_length.new.bits; split = c.in-Some.ensures.some.1 ∙ ap (λ bs. bs ++ c.next_length.new.bits) (sym w.bits_are) }), λ h. refl)
 
 pub returns-clause-live : goal.returns-clause-live
 returns-clause-live c =
@@ -60,10 +60,10 @@ returns-2-clause-whole c =
     let ahead : LengthAhead (CountsLeft c.args.self.now.counts c.args.self.now.blocks) c.args.bits.now → ⊥ = λ h.
     elim c.in_default.branch [
       | in_default-via-in-None-1 w ↦ c.next_length.ensures.none (search rules) (record { count = h.count; member = tt; rest = h.rest; split = h.split })
-      | in_default-via-in-Some+else-starts_some w ↦
+      | in_default-via-in-Some+else-is_viable w ↦
           let p = place.Number w.in-Some.form w.in-Some.number 0 in
           let starts = ahead_starts (CountsLeft c.args.self.now.counts c.args.self.now.blocks) c.args.bits.now c.next_length.new.bits p h w.in-Some.ensures.some.0 w.in-Some.ensures.some.1 in
-          true≢false (sym (w.starts_some.ensures.exact.1 (subst (λ (v : BegunLengths). StartsSome (CountsLeft v.counts v.blocks) (place_bits p)) (sym c.self.view_is) starts)) ∙ w.if-starts_some.false)
+          true≢false (sym (w.is_viable.ensures.exact.1 (subst (λ (v : BegunLengths). StartsSome (CountsLeft v.counts v.blocks) (state_bits p)) (sym c.self.view_is) starts)) ∙ w.if-is_viable.false)
     ] in
     (λ t. absurd (true≢false (sym t)), λ h. absurd (ahead h.1))
 

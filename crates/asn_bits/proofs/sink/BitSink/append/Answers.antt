@@ -9,4 +9,4 @@ returns-clause-ok c =
     let s = c.self.inside in
     let a = c.args in
     let v : unpacked s.octets.items ++ bits s.count s.pending ≡ a.self.now = c.self.view_is in
-    waiting_view s.octets.items s.count s.pending a.k a.n c.behind-self-inside.result c.requires.fits (omega arith) c.behind-self-inside.ensures ∙ ap (λ t. t ++ bits a.k a.n) v
+    waiting_view s.octets.items s.count s.pending a.k a.n c.shift_in-self-inside.result c.requires.fits (omega arith) c.shift_in-self-inside.ensures ∙ ap (λ t. t ++ bits a.k a.n) v

@@ -1,10 +1,9 @@
 use Rattle.std.proofs.Common.{◌≡◌, ◌+◌, ◌-◌, arith}
-use Rattle.std.proofs.lemmas.Result.{err_from_is_err_and, IfOk-weaker}
+use Rattle.std.proofs.lemmas.Result.{err_from_is_err_and, IfOk-weaker, IfErr-weaker}
 use Rattle.asn_rules.proofs.Leads.{stops_by}
 use Rattle.asn_per.specs.Per.{per_fields}
 use Rattle.asn_per.specs.Rules.{per_ruling}
 use Rattle.asn_per.specs.Walk.{per_coding}
-use Rattle.asn_per.proofs.Exits.{if_err_weaker}
 use Rattle.asn_per.proofs.PreambleReading.{count_stops, bitmap_leads}
 use Rattle.asn_per.proofs.read_leaves.PerReadLeaves.read_addition_bitmap.Goals as goal
 
@@ -19,12 +18,12 @@ pub returns-clause-done : goal.returns-clause-done
 unfolding per_coding per_ruling
 returns-clause-done c =
     let is : c.from-last.result - 1 + 1 ≡ c.args.count = omega (arith, c.from-last.ensures, c.requires.some) in
-    let lead = bitmap_leads c.args.count (c.from-last.result - 1) c.requires.some c.requires.few is c.highest_bitmap.result c.highest_bitmap.ensures c.in_ok-read_number.field-0 c.args.units.now c.read_number.new.bits (c.in_ok-read_number.ensures.done per_fields) in
+    let lead = bitmap_leads c.args.count (c.from-last.result - 1) c.requires.some c.requires.few is c.greatest_of_width.result c.greatest_of_width.ensures c.in_ok-read_number.field-0 c.args.units.now c.read_number.new.bits (c.in_ok-read_number.ensures.done per_fields) in
     IfOk-weaker c.read_number-2.result _ _ (λ m s. lead.done m c.read_number-2.new.bits s) (c.read_number-2.ensures.done per_fields)
 
 pub returns-clause-stop : goal.returns-clause-stop
 unfolding per_coding per_ruling
 returns-clause-stop c =
     let is : c.from-last.result - 1 + 1 ≡ c.args.count = omega (arith, c.from-last.ensures, c.requires.some) in
-    let lead = bitmap_leads c.args.count (c.from-last.result - 1) c.requires.some c.requires.few is c.highest_bitmap.result c.highest_bitmap.ensures c.in_ok-read_number.field-0 c.args.units.now c.read_number.new.bits (c.in_ok-read_number.ensures.done per_fields) in
-    if_err_weaker c.read_number-2.result _ _ (λ why s. stops_by why lead.stops s) (c.read_number-2.ensures.stop per_fields)
+    let lead = bitmap_leads c.args.count (c.from-last.result - 1) c.requires.some c.requires.few is c.greatest_of_width.result c.greatest_of_width.ensures c.in_ok-read_number.field-0 c.args.units.now c.read_number.new.bits (c.in_ok-read_number.ensures.done per_fields) in
+    IfErr-weaker c.read_number-2.result _ _ (λ why s. stops_by why lead.stops s) (c.read_number-2.ensures.stop per_fields)

@@ -1,10 +1,9 @@
-use Rattle.std.proofs.lemmas.Result.{IfOk-weaker}
+use Rattle.std.proofs.lemmas.Result.{IfOk-weaker, IfErr-weaker}
 use Rattle.asn_rules.proofs.Forks.{same_spells}
 use Rattle.asn_rules.proofs.Leads.{stops_by, leads_same}
 use Rattle.asn_per.specs.Per.{per_fields}
 use Rattle.asn_per.specs.Rules.{per_ruling}
 use Rattle.asn_per.specs.Walk.{per_coding}
-use Rattle.asn_per.proofs.Exits.{if_err_weaker}
 use Rattle.asn_per.proofs.WalkChoices.{index_spelled}
 use Rattle.asn_per.proofs.read_leaves.PerReadLeaves.read_index.Goals as goal
 
@@ -18,4 +17,4 @@ pub returns-clause-stop : goal.returns-clause-stop
 unfolding per_coding per_ruling
 returns-clause-stop c =
     let same = index_spelled c.args.root c.args.additions c.requires.few in
-    if_err_weaker c.read_index.result _ _ (λ why s. stops_by why (leads_same per_fields c.args.units.now same).stops s) c.read_index.ensures.stop
+    IfErr-weaker c.read_index.result _ _ (λ why s. stops_by why (leads_same per_fields c.args.units.now same).stops s) c.read_index.ensures.stop

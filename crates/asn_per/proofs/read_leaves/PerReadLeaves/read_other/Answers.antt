@@ -12,19 +12,19 @@ use Rattle.asn_per.proofs.ComponentsRead.{datum_of-Int}
 use Rattle.asn_per.proofs.EnumeratedTypes.{enumerated_of_items, datum_of-Enum}
 use Rattle.asn_per.proofs.read_leaves.PerReadLeaves.read_other.Goals as goal
 
-pub integer-requires-clause-some : goal.integer-requires-clause-some
-integer-requires-clause-some c =
+pub read_integer-requires-clause-some : goal.read_integer-requires-clause-some
+read_integer-requires-clause-some c =
     let t = integer (range_of c.in-Int-Int.bounds) in
     let p : InProfile t = rw (c.in-Int-Int.is-0, shape_of-Int) at c.requires.of_profile in
-    let g : good_default t (number c.in-Int-Int.whole) ≡ true = rw (c.in-Int-Int.is-0, shape_of-Int, c.in-Int-Int.is-1, datum_of-Int) at c.requires.good in
-    let f = good_fits t (number c.in-Int-Int.whole) p g in
-    rw (kept c.in-Int-Int.whole f.0 f.1) (other_inhabited per t (number c.in-Int-Int.whole) p g)
+    let g : good_default t (number c.in-Int-Int.number) ≡ true = rw (c.in-Int-Int.is-0, shape_of-Int, c.in-Int-Int.is-1, datum_of-Int) at c.requires.good in
+    let f = good_fits t (number c.in-Int-Int.number) p g in
+    rw (kept c.in-Int-Int.number f.0 f.1) (other_inhabited per t (number c.in-Int-Int.number) p g)
 
-pub enumerated-requires-clause-some : goal.enumerated-requires-clause-some
-enumerated-requires-clause-some c =
+pub read_item-requires-clause-some : goal.read_item-requires-clause-some
+read_item-requires-clause-some c =
     let t = enumerated (map label_of c.deref.result.now) (more_labels_of c.in-Enum-Enum.ext) in
     let is : shape_of c.args.ty.now ≡ t = enumerated_of_items c.args.ty.now c.in-Enum-Enum.root c.in-Enum-Enum.ext c.deref.result.now c.in-Enum-Enum.is-0 c.deref.ensures.value in
-    let value : datum_of c.args.default.now ≡ item c.in-Enum-Enum.place = ap datum_of c.in-Enum-Enum.is-1 ∙ datum_of-Enum c.in-Enum-Enum.place in
+    let value : datum_of c.args.default.now ≡ item c.in-Enum-Enum.position = ap datum_of c.in-Enum-Enum.is-1 ∙ datum_of-Enum c.in-Enum-Enum.position in
     let p : InProfile t = rw is at c.requires.of_profile in
-    let g : good_default t (item c.in-Enum-Enum.place) ≡ true = rw (is, value) at c.requires.good in
-    other_inhabited per t (item c.in-Enum-Enum.place) p g
+    let g : good_default t (item c.in-Enum-Enum.position) ≡ true = rw (is, value) at c.requires.good in
+    other_inhabited per t (item c.in-Enum-Enum.position) p g

@@ -20,11 +20,11 @@ returns-in_err-extended-in-Some-clause-stop c =
 pub returns-in_err-bitmap-clause-stop : goal.returns-in_err-bitmap-clause-stop
 unfolding per_coding per_ruling
 returns-in_err-bitmap-clause-stop c =
-    let lead : Leads per_fields (Bitmaps c.args.count c.highest_bitmap.result c.highest_bitmap.ensures) c.match-additions.units (λ m. (c.match-additions.extended, m)) (PreambleOf per_coding c.args.count c.args.additions) c.args.units.now = elim c.match-additions.branch [
-      | in-None w ↦ rw (w.units-is, w.extended-is, w.in-None.is) (unmarked_leads c.args.count c.highest_bitmap.result c.highest_bitmap.ensures c.args.units.now)
+    let lead : Leads per_fields (Bitmaps c.args.count c.greatest_of_width.result c.greatest_of_width.ensures) c.match-additions.units (λ m. (c.match-additions.extended, m)) (PreambleOf per_coding c.args.count c.args.additions) c.args.units.now = elim c.match-additions.branch [
+      | in-None w ↦ rw (w.units-is, w.extended-is, w.in-None.is) (unmarked_leads c.args.count c.greatest_of_width.result c.greatest_of_width.ensures c.args.units.now)
       | in-Some+in_ok-extended-in-Some w ↦
           let mark = w.in_ok-extended-in-Some.ensures.done in
-          rw (w.units-is, w.extended-is, w.in-Some.is) (marked_leads c.args.count c.highest_bitmap.result c.highest_bitmap.ensures w.in-Some.listed _ c.args.units.now w.extension_bit.new.bits mark.0 (λ e. some_listed w.in-Some.listed (mark.1 e)))
+          rw (w.units-is, w.extended-is, w.in-Some.is) (marked_leads c.args.count c.greatest_of_width.result c.greatest_of_width.ensures w.in-Some.listed _ c.args.units.now w.read_extension_bit.new.bits mark.0 (λ e. some_listed w.in-Some.listed (mark.1 e)))
     ] in
     let p = err_from_is_err_and c.from_residual-in_err-bitmap.result c.from_residual-in_err-bitmap.ensures.1 in
     rw (p.1, p.2) (stops_by _ lead.stops (c.in_err-bitmap.ensures.stop per_fields))
@@ -32,10 +32,10 @@ returns-in_err-bitmap-clause-stop c =
 pub returns-clause-done : goal.returns-clause-done
 unfolding per_coding per_ruling
 returns-clause-done c =
-    let lead : Leads per_fields (Bitmaps c.args.count c.highest_bitmap.result c.highest_bitmap.ensures) c.match-additions.units (λ m. (c.match-additions.extended, m)) (PreambleOf per_coding c.args.count c.args.additions) c.args.units.now = elim c.match-additions.branch [
-      | in-None w ↦ rw (w.units-is, w.extended-is, w.in-None.is) (unmarked_leads c.args.count c.highest_bitmap.result c.highest_bitmap.ensures c.args.units.now)
+    let lead : Leads per_fields (Bitmaps c.args.count c.greatest_of_width.result c.greatest_of_width.ensures) c.match-additions.units (λ m. (c.match-additions.extended, m)) (PreambleOf per_coding c.args.count c.args.additions) c.args.units.now = elim c.match-additions.branch [
+      | in-None w ↦ rw (w.units-is, w.extended-is, w.in-None.is) (unmarked_leads c.args.count c.greatest_of_width.result c.greatest_of_width.ensures c.args.units.now)
       | in-Some+in_ok-extended-in-Some w ↦
           let mark = w.in_ok-extended-in-Some.ensures.done in
-          rw (w.units-is, w.extended-is, w.in-Some.is) (marked_leads c.args.count c.highest_bitmap.result c.highest_bitmap.ensures w.in-Some.listed _ c.args.units.now w.extension_bit.new.bits mark.0 (λ e. some_listed w.in-Some.listed (mark.1 e)))
+          rw (w.units-is, w.extended-is, w.in-Some.is) (marked_leads c.args.count c.greatest_of_width.result c.greatest_of_width.ensures w.in-Some.listed _ c.args.units.now w.read_extension_bit.new.bits mark.0 (λ e. some_listed w.in-Some.listed (mark.1 e)))
     ] in
-    lead.done c.in_ok-bitmap.bitmap c.read_number.new.bits (c.in_ok-bitmap.ensures.done per_fields)
+    lead.done c.in_ok-bitmap.bitmap c.read_up_to.new.bits (c.in_ok-bitmap.ensures.done per_fields)

@@ -12,74 +12,74 @@ use Rattle.asn_per.proofs.read_leaves.PerReadLeaves.read_simple.Goals as goal
 use Rattle.asn_per.specs.Rules.{per_ruling}
 use Rattle.asn_per.specs.Walk.{per_coding}
 
-pub integer-requires-clause-some : goal.integer-requires-clause-some
+pub read_integer-requires-clause-some : goal.read_integer-requires-clause-some
 unfolding per_coding per_ruling
-integer-requires-clause-some c =
+read_integer-requires-clause-some c =
     spelt_inhabited per (integer (range_of c.in-Int.bounds)) (rw (c.in-Int.is, shape_of-Int) at c.requires.of_profile)
 
-pub enumerated-requires-clause-some : goal.enumerated-requires-clause-some
+pub read_item-requires-clause-some : goal.read_item-requires-clause-some
 unfolding per_coding per_ruling
-enumerated-requires-clause-some c =
+read_item-requires-clause-some c =
     let type = enumerated (map label_of c.deref.result.now) (more_labels_of c.in-Enum.ext) in
     let is : shape_of c.args.ty.now ≡ type = enumerated_of_items c.args.ty.now c.in-Enum.root c.in-Enum.ext c.deref.result.now c.in-Enum.is c.deref.ensures.value in
     spelt_inhabited per type (rw is at c.requires.of_profile)
 
-pub bit_string-requires : goal.bit_string-requires
+pub read_bit_string-requires : goal.read_bit_string-requires
 unfolding per_coding per_ruling
-bit_string-requires c =
+read_bit_string-requires c =
     record { of_profile = bits_size (size_range_of c.in-Bits.size) (rw (c.in-Bits.is, shape_of-Bits) at c.requires.of_profile) }
 
-pub returns-in_err-bit_string-in-Bits-clause-stop : goal.returns-in_err-bit_string-in-Bits-clause-stop
+pub returns-in_err-read_bit_string-in-Bits-clause-stop : goal.returns-in_err-read_bit_string-in-Bits-clause-stop
 unfolding per_coding per_ruling
-returns-in_err-bit_string-in-Bits-clause-stop c =
+returns-in_err-read_bit_string-in-Bits-clause-stop c =
     let good = rw (c.in-Bits.is, shape_of-Bits) at c.requires.of_profile in
-    let p = err_from_is_err_and c.from_residual-in_err-bit_string-in-Bits.result c.from_residual-in_err-bit_string-in-Bits.ensures.1 in
-    rw (p.1, p.2, c.in-Bits.is, shape_of-Bits) (stops_by _ (bits_lead (size_range_of c.in-Bits.size) c.args.units.now good).stops c.in_err-bit_string-in-Bits.ensures.stop)
+    let p = err_from_is_err_and c.from_residual-in_err-read_bit_string-in-Bits.result c.from_residual-in_err-read_bit_string-in-Bits.ensures.1 in
+    rw (p.1, p.2, c.in-Bits.is, shape_of-Bits) (stops_by _ (bits_lead (size_range_of c.in-Bits.size) c.args.units.now good).stops c.in_err-read_bit_string-in-Bits.ensures.stop)
 
-pub returns-in_ok-bit_string-in-Bits-clause-done : goal.returns-in_ok-bit_string-in-Bits-clause-done
+pub returns-in_ok-read_bit_string-in-Bits-clause-done : goal.returns-in_ok-read_bit_string-in-Bits-clause-done
 unfolding per_coding per_ruling
-returns-in_ok-bit_string-in-Bits-clause-done c =
+returns-in_ok-read_bit_string-in-Bits-clause-done c =
     let good = rw (c.in-Bits.is, shape_of-Bits) at c.requires.of_profile in
-    rw (c.in-Bits.is, shape_of-Bits, datum_of-Bits) ((bits_lead (size_range_of c.in-Bits.size) c.args.units.now good).done c.in_ok-bit_string-in-Bits.field-0.items c.bit_string.new.cursor c.in_ok-bit_string-in-Bits.ensures.done)
+    rw (c.in-Bits.is, shape_of-Bits, datum_of-Bits) ((bits_lead (size_range_of c.in-Bits.size) c.args.units.now good).done c.in_ok-read_bit_string-in-Bits.field-0.items c.read_bit_string.new.cursor c.in_ok-read_bit_string-in-Bits.ensures.done)
 
-pub octet_string-requires : goal.octet_string-requires
+pub read_octet_string-requires : goal.read_octet_string-requires
 unfolding per_coding per_ruling
-octet_string-requires c =
+read_octet_string-requires c =
     record { of_profile = octets_size (size_range_of c.in-Octets.size) (rw (c.in-Octets.is, shape_of-Octets) at c.requires.of_profile) }
 
-pub returns-in_err-octet_string-in-Octets-clause-stop : goal.returns-in_err-octet_string-in-Octets-clause-stop
+pub returns-in_err-read_octet_string-in-Octets-clause-stop : goal.returns-in_err-read_octet_string-in-Octets-clause-stop
 unfolding per_coding per_ruling
-returns-in_err-octet_string-in-Octets-clause-stop c =
+returns-in_err-read_octet_string-in-Octets-clause-stop c =
     let good = rw (c.in-Octets.is, shape_of-Octets) at c.requires.of_profile in
-    let p = err_from_is_err_and c.from_residual-in_err-octet_string-in-Octets.result c.from_residual-in_err-octet_string-in-Octets.ensures.1 in
-    rw (p.1, p.2, c.in-Octets.is, shape_of-Octets) (stops_by _ (octets_lead (size_range_of c.in-Octets.size) c.args.units.now good).stops c.in_err-octet_string-in-Octets.ensures.stop)
+    let p = err_from_is_err_and c.from_residual-in_err-read_octet_string-in-Octets.result c.from_residual-in_err-read_octet_string-in-Octets.ensures.1 in
+    rw (p.1, p.2, c.in-Octets.is, shape_of-Octets) (stops_by _ (octets_lead (size_range_of c.in-Octets.size) c.args.units.now good).stops c.in_err-read_octet_string-in-Octets.ensures.stop)
 
-pub returns-in_ok-octet_string-in-Octets-clause-done : goal.returns-in_ok-octet_string-in-Octets-clause-done
+pub returns-in_ok-read_octet_string-in-Octets-clause-done : goal.returns-in_ok-read_octet_string-in-Octets-clause-done
 unfolding per_coding per_ruling
-returns-in_ok-octet_string-in-Octets-clause-done c =
+returns-in_ok-read_octet_string-in-Octets-clause-done c =
     let good = rw (c.in-Octets.is, shape_of-Octets) at c.requires.of_profile in
-    rw (c.in-Octets.is, shape_of-Octets, datum_of-Octets) ((octets_lead (size_range_of c.in-Octets.size) c.args.units.now good).done c.in_ok-octet_string-in-Octets.field-0.items c.octet_string.new.cursor c.in_ok-octet_string-in-Octets.ensures.done)
+    rw (c.in-Octets.is, shape_of-Octets, datum_of-Octets) ((octets_lead (size_range_of c.in-Octets.size) c.args.units.now good).done c.in_ok-read_octet_string-in-Octets.field-0.items c.read_octet_string.new.cursor c.in_ok-read_octet_string-in-Octets.ensures.done)
 
-pub text-requires : goal.text-requires
+pub read_text-requires : goal.read_text-requires
 unfolding per_coding per_ruling
-text-requires c =
+read_text-requires c =
     record { of_profile = text_size (alphabet_of c.in-Text.kind) (size_range_of c.in-Text.size) (rw (c.in-Text.is, shape_of-Text) at c.requires.of_profile) }
 
-pub returns-in_err-text-in-Text-clause-stop : goal.returns-in_err-text-in-Text-clause-stop
+pub returns-in_err-read_text-in-Text-clause-stop : goal.returns-in_err-read_text-in-Text-clause-stop
 unfolding per_coding per_ruling
-returns-in_err-text-in-Text-clause-stop c =
+returns-in_err-read_text-in-Text-clause-stop c =
     let good = rw (c.in-Text.is, shape_of-Text) at c.requires.of_profile in
-    let p = err_from_is_err_and c.from_residual-in_err-text-in-Text.result c.from_residual-in_err-text-in-Text.ensures.1 in
-    rw (p.1, p.2, c.in-Text.is, shape_of-Text) (stops_by _ (text_leads (alphabet_of c.in-Text.kind) (size_range_of c.in-Text.size) c.args.units.now good).stops c.in_err-text-in-Text.ensures.stop)
+    let p = err_from_is_err_and c.from_residual-in_err-read_text-in-Text.result c.from_residual-in_err-read_text-in-Text.ensures.1 in
+    rw (p.1, p.2, c.in-Text.is, shape_of-Text) (stops_by _ (text_leads (alphabet_of c.in-Text.kind) (size_range_of c.in-Text.size) c.args.units.now good).stops c.in_err-read_text-in-Text.ensures.stop)
 
-pub returns-in_ok-text-in-Text-clause-done : goal.returns-in_ok-text-in-Text-clause-done
+pub returns-in_ok-read_text-in-Text-clause-done : goal.returns-in_ok-read_text-in-Text-clause-done
 unfolding per_coding per_ruling
-returns-in_ok-text-in-Text-clause-done c =
+returns-in_ok-read_text-in-Text-clause-done c =
     let good = rw (c.in-Text.is, shape_of-Text) at c.requires.of_profile in
-    rw (c.in-Text.is, shape_of-Text, datum_of-Text) ((text_leads (alphabet_of c.in-Text.kind) (size_range_of c.in-Text.size) c.args.units.now good).done c.in_ok-text-in-Text.field-0.items c.text.new.cursor c.in_ok-text-in-Text.ensures.done)
+    rw (c.in-Text.is, shape_of-Text, datum_of-Text) ((text_leads (alphabet_of c.in-Text.kind) (size_range_of c.in-Text.size) c.args.units.now good).done c.in_ok-read_text-in-Text.field-0.items c.read_text.new.cursor c.in_ok-read_text-in-Text.ensures.done)
 
-pub returns-in_err-utf8_string-in-Utf8-clause-stop : goal.returns-in_err-utf8_string-in-Utf8-clause-stop
+pub returns-in_err-read_utf8-in-Utf8-clause-stop : goal.returns-in_err-read_utf8-in-Utf8-clause-stop
 unfolding per_coding per_ruling
-returns-in_err-utf8_string-in-Utf8-clause-stop c =
-    let p = err_from_is_err_and c.from_residual-in_err-utf8_string-in-Utf8.result c.from_residual-in_err-utf8_string-in-Utf8.ensures.1 in
-    rw (p.1, p.2, c.in-Utf8.is, shape_of-Utf8) (stops_by _ (utf8_leads c.args.units.now).stops c.in_err-utf8_string-in-Utf8.ensures.stop)
+returns-in_err-read_utf8-in-Utf8-clause-stop c =
+    let p = err_from_is_err_and c.from_residual-in_err-read_utf8-in-Utf8.result c.from_residual-in_err-read_utf8-in-Utf8.ensures.1 in
+    rw (p.1, p.2, c.in-Utf8.is, shape_of-Utf8) (stops_by _ (utf8_leads c.args.units.now).stops c.in_err-read_utf8-in-Utf8.ensures.stop)

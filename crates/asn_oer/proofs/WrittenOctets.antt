@@ -1,0 +1,130 @@
+-- The bits of the octets that the writers of OER write.
+use Rattle.std.proofs.Common.{◌≡◌, ◌≤◌, ◌<◌, ◌+◌, ◌*◌, ℕ, zero, suc, ℤ, true, false, List, [], ◌∷◌, ◌++◌, length, sym, ◌∙◌, ap, arith, append_assoc, length-append, nat_lt}
+use Rattle.std.proofs.lemmas.Bool.{lt-ltb, le-ltb}
+use Rattle.std.proofs.lemmas.List.{append-nil}
+use Rattle.asn_bits.specs.Lengths.{octet_length, general_octets, joined}
+use Rattle.asn_bits.specs.Numbers.{bits, octets, octet_count, least, least_signed, magnitude, padding, unpacked}
+use Rattle.asn_bits.proofs.FilledBits.{AreBits, length-padding, filled_up, filled_up_bits, filled_up_fills, unpacked-packed, length-packed}
+use Rattle.asn_bits.proofs.LeastLengths.{general_short}
+use Rattle.asn_bits.proofs.Octets.{length-digits, octet_count_below, length-least_signed, signed_count_below}
+use Rattle.asn_bits.proofs.Packing.{bits_zero}
+use Rattle.asn_bits.proofs.Splits.{unpacked-append, unpacked-octets}
+use Rattle.asn_rules.specs.Chunks.{Chunk, ones, flat}
+use Rattle.asn_rules.proofs.Flat.{flat-append, flat-ones}
+use Rattle.asn_oer.specs.BitsWritten.{bits_header}
+use Rattle.asn_oer.specs.Oer.{spelled, counted_signed, filled_bits, variable_bits, tag}
+use Rattle.asn_oer.specs.Preambles.{filled_octets, unused_bits}
+use Rattle.asn_oer.specs.Walk.{counted_items}
+use Rattle.asn_oer.proofs.Leaves.{tag_is}
+
+-- ---- octets
+
+-- one octet
+pub one_octet : (n : ℕ) → unpacked (n ∷ []) ≡ bits 8 n
+one_octet n = append-nil (bits 8 n)
+
+-- an octet and others
+pub first_octet : (n k m : ℕ) → unpacked (n ∷ octets k m) ≡ bits 8 n ++ bits (8 * k) m
+first_octet n k m = ap (λ (t : List ℕ). bits 8 n ++ t) (unpacked-octets k m)
+
+-- ---- lengths
+
+pub short_length : (n : ℕ) → n < 128 → unpacked (octet_length n) ≡ bits 8 n
+short_length n h = let e : nat_lt n 128 ≡ true = lt-ltb n 128 h in rw (e, octet_length) (one_octet n)
+
+pub long_length : (n c : ℕ) → 128 ≤ n → c ≡ octet_count n → unpacked (octet_length n) ≡ bits 8 (128 + c) ++ bits (8 * c) n
+long_length n c h k =
+    let e : nat_lt n 128 ≡ false = le-ltb n 128 h in
+    let all : unpacked (octet_length n) ≡ bits 8 (128 + octet_count n) ++ bits (8 * octet_count n) n = rw (e, octet_length) (first_octet (128 + octet_count n) (octet_count n) n) in
+    all ∙ ap (λ (i : ℕ). bits 8 (128 + i) ++ bits (8 * i) n) (sym k)
+
+-- octets and their length
+pub content : (os : List ℕ) → unpacked (spelled os) ≡ unpacked (octet_length (length os)) ++ unpacked os
+content os = unpacked-append (octet_length (length os)) os
+
+-- few octets and their length are the same in both rules
+pub few_counted : (os : List ℕ) → length os < 128 → general_octets (λ u. u) os ≡ unpacked (spelled os)
+few_counted os h = general_short os h ∙ sym (content os ∙ ap (λ (t : List ℕ). t ++ unpacked os) (short_length (length os) h))
+
+-- a number in the fewest octets behind their length
+pub least_counted : (n : ℕ) → n < 18446744073709551616 → general_octets (λ u. u) (least n) ≡ unpacked (spelled (least n))
+least_counted n h = few_counted (least n) (omega (arith, length-digits 256 (octet_count n) n, octet_count_below n 8 (omega arith) (omega arith)))
+
+pub signed_counted : (z : ℤ) → magnitude z < 9223372036854775808 → general_octets (λ u. u) (least_signed z) ≡ unpacked (counted_signed z)
+signed_counted z h = few_counted (least_signed z) (omega (arith, length-least_signed z, signed_count_below z 8 (omega arith) (omega arith)))
+
+-- ---- bits that are filled up to octets
+
+-- the digits of a number in base 2 are bits
+pub digits_bits : (k n : ℕ) → AreBits (bits k n)
+digits_bits zero n = tt
+digits_bits (suc k) n = (omega arith, digits_bits k n)
+
+-- filled up, they are the bits and the zeros that fill the last octet
+pub filled_is : (bs : List ℕ) → AreBits bs → unpacked (filled_bits bs) ≡ bs ++ padding (length bs)
+filled_is bs h = unpacked-packed (filled_up bs) (filled_up_bits bs h) (filled_up_fills bs)
+
+-- the octets that they fill
+pub filled_count : (bs : List ℕ) → length (filled_bits bs) ≡ filled_octets (length bs)
+filled_count bs =
+    omega (arith, length-packed (filled_up bs) (filled_up_fills bs), length-append bs (padding (length bs)), length-padding (length bs))
+
+-- behind what stands before them
+pub variable_is : (bs : List ℕ) → unpacked (variable_bits bs) ≡ unpacked (bits_header (length bs)) ++ unpacked (filled_bits bs)
+variable_is bs =
+    let front : octet_length (suc (length (filled_bits bs))) ≡ octet_length (suc (filled_octets (length bs))) = ap (λ (n : ℕ). octet_length (suc n)) (filled_count bs) in
+    let unused : length (padding (length bs)) ≡ unused_bits (length bs) = length-padding (length bs) in
+    let all : variable_bits bs ≡ bits_header (length bs) ++ filled_bits bs =
+    ap (λ (t : List ℕ). t ++ (length (padding (length bs)) ∷ filled_bits bs)) front
+    ∙ ap (λ (u : ℕ). octet_length (suc (filled_octets (length bs))) ++ (u ∷ filled_bits bs)) unused
+    ∙ sym (append_assoc (octet_length (suc (filled_octets (length bs)))) (unused_bits (length bs) ∷ []) (filled_bits bs)) in
+    ap unpacked all ∙ unpacked-append (bits_header (length bs)) (filled_bits bs)
+
+-- the bits in a sink, filled up
+pub filled_written : (old bs : List ℕ) (n : ℕ) → AreBits bs → n ≡ length bs → (old ++ bs) ++ padding n ≡ old ++ unpacked (filled_bits bs)
+filled_written old bs n h e =
+    append_assoc old bs (padding n) ∙ ap (λ (i : ℕ). old ++ (bs ++ padding i)) e ∙ ap (λ (t : List ℕ). old ++ t) (sym (filled_is bs h))
+
+-- and behind what stands before them
+pub variable_written : (old mid bs : List ℕ) (n : ℕ) → n ≡ length bs → mid ≡ old ++ unpacked (bits_header n) → mid ++ unpacked (filled_bits bs) ≡ old ++ unpacked (variable_bits bs)
+variable_written old mid bs n e m =
+    ap (λ (t : List ℕ). t ++ unpacked (filled_bits bs)) (m ∙ ap (λ (i : ℕ). old ++ unpacked (bits_header i)) e)
+    ∙ append_assoc old (unpacked (bits_header (length bs))) (unpacked (filled_bits bs)) ∙ ap (λ (t : List ℕ). old ++ t) (sym (variable_is bs))
+
+-- the zeros behind n bits as a number
+pub filling_bits : (n u : ℕ) → u ≡ unused_bits n → bits u 0 ≡ padding n
+filling_bits n u e = ap (λ (i : ℕ). bits i 0) e ∙ bits_zero (unused_bits n)
+
+-- what stands before n bits
+pub header_bits : (old mid : List ℕ) (n l u : ℕ) → l ≡ suc (filled_octets n) → u ≡ unused_bits n → mid ≡ old ++ unpacked (octet_length l) → mid ++ bits 8 u ≡ old ++ unpacked (bits_header n)
+header_bits old mid n l u a b m =
+    ap (λ (t : List ℕ). t ++ bits 8 u) (m ∙ ap (λ (i : ℕ). old ++ unpacked (octet_length i)) a)
+    ∙ ap (λ (i : ℕ). (old ++ unpacked (octet_length (suc (filled_octets n)))) ++ bits 8 i) b
+    ∙ append_assoc old (unpacked (octet_length (suc (filled_octets n)))) (bits 8 (unused_bits n))
+    ∙ ap (λ (t : List ℕ). old ++ (unpacked (octet_length (suc (filled_octets n))) ++ t)) (sym (one_octet (unused_bits n)))
+    ∙ ap (λ (t : List ℕ). old ++ t) (sym (unpacked-append (octet_length (suc (filled_octets n))) (unused_bits n ∷ [])))
+
+-- ---- tags and items
+
+-- a tag of the profile
+pub tag_bits : (t : ℕ) → t < 63 → unpacked (tag t) ≡ bits 8 (128 + t)
+tag_bits t h = ap unpacked (tag_is t h) ∙ one_octet (128 + t)
+
+-- ---- simple types
+
+-- octets as the spelling of a value
+pub plain : (os : List ℕ) → unpacked (flat spelled (ones os)) ≡ unpacked os
+plain os = ap unpacked (flat-ones spelled os)
+
+-- ---- SEQUENCE OF
+
+-- a quantity in a sink, and the elements behind it
+pub list_written : (old new : List ℕ) (n : ℕ) (items : List (List Chunk)) → length items ≡ n → n < 18446744073709551616 → new ≡ old ++ general_octets (λ u. u) (least n)
+    → new ++ unpacked (flat spelled (joined items)) ≡ old ++ unpacked (flat spelled (counted_items items))
+list_written old new n items l h e =
+    let front = spelled (least (length items)) in
+    let rest = flat spelled (joined items) in
+    let all : unpacked (flat spelled (counted_items items)) ≡ unpacked front ++ unpacked rest =
+    ap unpacked (flat-append spelled (ones front) (joined items) ∙ ap (λ (t : List ℕ). t ++ rest) (flat-ones spelled front)) ∙ unpacked-append front rest in
+    ap (λ (t : List ℕ). t ++ unpacked rest) (e ∙ ap (λ (t : List ℕ). old ++ t) (least_counted n h) ∙ ap (λ (i : ℕ). old ++ unpacked (spelled (least i))) (sym l))
+    ∙ append_assoc old (unpacked front) (unpacked rest) ∙ ap (λ (t : List ℕ). old ++ t) (sym all)

@@ -1,6 +1,0 @@
-use Rattle.asn_rules.proofs.Closed.{live_closed}
-use Rattle.asn_oer.specs.Oer.{oer, oer_fields}
-use Rattle.asn_oer.proofs.laws.live_is_closed.Goals as goal
-
-pub returns : goal.returns
-returns c = live_closed oer_fields oer

@@ -1,8 +1,0 @@
-use Rattle.std.proofs.Common.{◌≤ℤ◌, ℤ, sym, subst}
-use Rattle.asn_values.specs.Fits.{lowest_integer}
-use Rattle.asn_per.proofs.IntegerRanges.{low_above_lowest, low_kept}
-use Rattle.asn_per.proofs.integer_reader.offset_left_out.Goals as goal
-
-pub above-requires-clause-within_low : goal.above-requires-clause-within_low
-above-requires-clause-within_low c =
-    subst (λ (z : ℤ). lowest_integer ≤ℤ z) (sym (low_kept c.args.low c.args.high c.requires.of_profile)) (low_above_lowest c.args.low c.args.high c.requires.of_profile)

@@ -1,9 +1,0 @@
-use Rattle.std.proofs.Common.{length, ◌-◌}
-use Rattle.asn_per.proofs.Words.{one_bit, Row}
-use Rattle.asn_per.proofs.item_writer.push_bits.Given as goal
-
-abbrev pub invariant-loop-done : goal.invariant-loop-done
-invariant-loop-done l = Row one_bit l.truths l.fn.sink l.sink l.done
-
-abbrev pub decreases-loop-done : goal.decreases-loop-done
-decreases-loop-done l = length l.truths - l.done

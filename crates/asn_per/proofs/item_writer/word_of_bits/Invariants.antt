@@ -1,7 +1,0 @@
-use Rattle.std.proofs.Common.{map, take}
-use Rattle.asn_bits.specs.Sink.{bit_of}
-use Rattle.asn_per.proofs.Words.{Word}
-use Rattle.asn_per.proofs.item_writer.word_of_bits.Given as goal
-
-abbrev pub invariant-loop-truth : goal.invariant-loop-truth
-invariant-loop-truth l = Word l.truth-index l.word (map bit_of (take l.truth-index l.truths))

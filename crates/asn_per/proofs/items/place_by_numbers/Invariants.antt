@@ -1,8 +1,0 @@
-use Rattle.std.proofs.Common.{map}
-use Rattle.asn_values.specs.View.{label_of}
-use Rattle.asn_per.proofs.ItemIndexes.{IsSought}
-use Rattle.asn_per.proofs.items.place_by_numbers.Given as goal
-
--- the item that is sought is not behind, and its number lies in the interval
-abbrev pub invariant-loop-place : goal.invariant-loop-place
-invariant-loop-place l = IsSought (map label_of l.root) l.index l.place l.above l.below

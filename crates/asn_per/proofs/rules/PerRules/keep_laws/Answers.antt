@@ -1,0 +1,9 @@
+use Rattle.asn_per.proofs.Tells.{per_tells}
+use Rattle.asn_per.proofs.Whole.{per_laws}
+use Rattle.asn_per.proofs.rules.PerRules.keep_laws.Goals as goal
+
+pub returns-clause-laws : goal.returns-clause-laws
+returns-clause-laws c = per_laws
+
+pub returns-clause-tells : goal.returns-clause-tells
+returns-clause-tells c = per_tells

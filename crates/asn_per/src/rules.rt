@@ -1,0 +1,61 @@
+//! PER as encoding rules: the encoder, and sessions that keep all octets and read them again with each piece.
+ghost use Rattle.asn_rules.specs.Rereading.{Keeps};
+ghost use Rattle.asn_per.specs.Rules.{per_ruling};
+
+use crate::per::Per;
+use asn_rules::{
+    EncodeFault, FeedFault, OpenFault, Reads, Rereading, Rules, Step, Truncated, rereading,
+};
+use asn_values::{Checked, Value};
+use std::alloc::{AllocError, Global};
+
+impl Reads for Per {
+    ghost ruling = { per_ruling };
+
+    #[inline(always)]
+    #[tactic(auto, unfolding(crate::specs::Walk::per_coding))]
+    fn read(alloc: Global, ty: &Checked, octets: &[u8]) -> Result<Step, FeedFault> {
+        asn_walk_read::read_message::<Per>(alloc, ty, octets)
+    }
+
+    #[inline(always)]
+    fn may_be_empty(_alloc: Global, _ty: &Checked) -> Result<bool, AllocError> {
+        Ok(false)
+    }
+
+    #[inline(always)]
+    #[tactic(auto, unfolding(crate::specs::Rules::per_ruling))]
+    fn units_of(octets: usize) -> u64 {
+        8 * octets as u64
+    }
+
+    #[inline(always)]
+    fn keep_reading_laws() {}
+}
+
+impl Rules for Per {
+    type Session = Rereading;
+
+    ghost ruling = { per_ruling };
+
+    ghost took = { Keeps per_ruling };
+
+    #[tactic(auto, unfolding(crate::specs::Walk::per_coding))]
+    fn encode(alloc: Global, ty: &Checked, value: &Value) -> Result<Vec<u8>, EncodeFault> {
+        asn_walk_write::encode::<Per>(alloc, ty, value)
+    }
+
+    fn open(alloc: Global, ty: Checked) -> Result<Rereading, OpenFault> {
+        rereading::open::<Per>(alloc, ty)
+    }
+
+    fn feed(session: &mut Rereading, piece: &[u8]) -> Result<Step, FeedFault> {
+        rereading::feed::<Per>(session, piece)
+    }
+
+    fn finish(session: Rereading) -> Result<(), Truncated> {
+        rereading::finish::<Per>(session)
+    }
+
+    fn keep_laws() {}
+}

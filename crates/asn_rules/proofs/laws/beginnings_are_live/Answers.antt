@@ -1,8 +1,0 @@
-use Rattle.asn_rules.proofs.Beginnings.{beginnings_live, beginnings_not_refused}
-use Rattle.asn_rules.proofs.laws.beginnings_are_live.Goals as goal
-
-pub returns-clause-live : goal.returns-clause-live
-returns-clause-live c = beginnings_live
-
-pub returns-clause-not_refused : goal.returns-clause-not_refused
-returns-clause-not_refused c = beginnings_not_refused

@@ -1,5 +1,0 @@
-use Rattle.asn_rules.proofs.Closed.{live_closed}
-use Rattle.asn_rules.proofs.laws.live_is_closed.Goals as goal
-
-pub returns : goal.returns
-returns c = live_closed

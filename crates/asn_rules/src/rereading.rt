@@ -1,0 +1,180 @@
+//! Sessions that keep all octets and read them again with each piece, for any encoding rules whose reader takes the
+//! octets of a message at once.
+//!
+//! A first piece is read where it lies, and kept only where more is wanted: a message in one piece is not copied. Of n
+//! octets that come one by one, the first is read n times.
+ghost use Rattle.std.specs.Prelude.{◌≡◌, ◌≤◌, ◌<◌, ◌++◌, ℕ, List, [], length, IfOk};
+ghost use Rattle.asn_values.specs.Shape.{Shape};
+ghost use Rattle.asn_values.specs.View.{shape_of};
+ghost use Rattle.asn_rules.specs.Answer.{Ruling, max_octets};
+ghost use Rattle.asn_rules.specs.Reading.{RulesTell};
+ghost use Rattle.asn_rules.specs.Rereading.{FedAtOnce, TellsIfNone, Keeps, MoreKeeps};
+ghost use Rattle.asn_rules.specs.Sessions.{Past, waiting, FeedsTo, Finished};
+
+use crate::limits::MAX_OCTETS;
+use crate::session::{FeedFault, OpenFault, Step, Truncated};
+use asn_values::Checked;
+use bytes::BytesMut;
+use std::alloc::{AllocError, Global};
+
+/// Encoding rules whose reader takes the octets of a message at once.
+pub trait Reads {
+    /// How values are spelt.
+    ghost ruling: { Ruling };
+
+    /// Reads the value whose encoding the octets begin with. Only the first 268,435,455 octets are read.
+    ///
+    /// # Errors
+    /// As a session's answer to its first piece (`Rules::feed`).
+    fn read(alloc: Global, ty: &Checked, octets: &[u8]) -> Result<Step, FeedFault>
+        ensures { FedAtOnce ruling (shape_of ty.now) octets.now result };
+
+    /// Whether no octets are the encoding of a value of the type.
+    ///
+    /// # Errors
+    /// `AllocError` where an allocation failed.
+    fn may_be_empty(alloc: Global, ty: &Checked) -> Result<bool, AllocError>
+        ensures { IfOk result (TellsIfNone ruling (shape_of ty.now)) };
+
+    /// How many units so many octets are.
+    fn units_of(octets: usize) -> u64
+        requires { octets ≤ max_octets }
+        ensures { (o : List ℕ) → length o ≡ octets → length (ruling.units o) ≡ result };
+
+    /// Readers can tell the encodings, unit by unit. The call does nothing: its clause is what proofs cite.
+    fn keep_reading_laws()
+        ensures { RulesTell ruling };
+}
+
+/// How a session goes on.
+#[derive(Clone, Copy)]
+enum State {
+    /// By all octets so far.
+    Waiting,
+    /// With this fault.
+    Stopped(FeedFault),
+    /// With `Spent`.
+    Over,
+}
+
+/// A session that keeps all octets.
+#[derive(Drop)]
+pub struct Rereading {
+    alloc: Global,
+    ty: Checked,
+    // all octets so far, while it waits for more
+    kept: BytesMut,
+    state: State,
+    // what `finish` answers
+    end: Result<(), Truncated>,
+}
+
+/// A session for a value of the type, which has taken no octet.
+///
+/// # Errors
+/// `Memory` where an allocation failed.
+pub fn open<R: Reads>(alloc: Global, ty: Checked) -> Result<Rereading, OpenFault>
+    ensures { IfOk result (λ q. Keeps R.ruling q (shape_of ty) (waiting [])) }
+{
+    R::keep_reading_laws();
+    let _ = ty.get();
+    let end = if R::may_be_empty(alloc, &ty)? {
+        Ok(())
+    } else {
+        Err(cut_after::<R>(0))
+    };
+    Ok(Rereading {
+        alloc,
+        ty,
+        kept: BytesMut::new(alloc),
+        state: State::Waiting,
+        end,
+    })
+}
+
+/// Takes the next piece: see `Rules::feed`.
+///
+/// # Errors
+/// As `Rules::feed`.
+pub fn feed<R: Reads>(session: &mut Rereading, piece: &[u8]) -> Result<Step, FeedFault>
+    ensures { (t : Shape) (past : Past) → Keeps R.ruling session.old t past
+        → FeedsTo R.ruling (Keeps R.ruling) session.old session.new t past piece.now result }
+{
+    match session.state {
+        State::Waiting => {}
+        State::Stopped(fault) => return Err(fault),
+        State::Over => return Err(FeedFault::Spent),
+    }
+    let before = session.kept.len();
+    match read_on::<R>(session.alloc, &session.ty, &mut session.kept, piece) {
+        Ok(Step::Done { value, used }) => {
+            session.state = State::Over;
+            session.end = Ok(());
+            let used = used.saturating_sub(before);
+            Ok(Step::Done { value, used })
+        }
+        Ok(Step::More) => {
+            session.end = Err(cut_after::<R>(session.kept.len()));
+            Ok(Step::More)
+        }
+        Err(FeedFault::Refused { at, why }) => {
+            let taken = at.saturating_sub(1);
+            session.end = Err(Truncated { taken });
+            session.state = State::Stopped(FeedFault::Refused { at, why });
+            Err(FeedFault::Refused { at, why })
+        }
+        Err(FeedFault::TooLong) => {
+            session.end = Err(cut_after::<R>(MAX_OCTETS));
+            session.state = State::Stopped(FeedFault::TooLong);
+            Err(FeedFault::TooLong)
+        }
+        Err(FeedFault::Memory | FeedFault::Spent) => {
+            session.state = State::Over;
+            Err(FeedFault::Memory)
+        }
+    }
+}
+
+/// Ends a session: whether the octets taken are a whole encoding. Takes no memory.
+///
+/// # Errors
+/// As `Rules::finish`.
+pub fn finish<R: Reads>(session: Rereading) -> Result<(), Truncated>
+    ensures { (t : Shape) (past : Past) → Keeps R.ruling session t past → Finished R.ruling t past result }
+{
+    session.end
+}
+
+/// What is answered to the octets kept with the piece after them, which are kept where more is wanted.
+fn read_on<R: Reads>(
+    alloc: Global,
+    ty: &Checked,
+    kept: &mut BytesMut,
+    piece: &[u8],
+) -> Result<Step, FeedFault>
+    ensures answered { length kept.old.items < max_octets
+        → FedAtOnce R.ruling (shape_of ty.now) (kept.old.items ++ piece.now) result }
+    ensures kept { IfOk result (λ step. length kept.old.items < max_octets
+        → MoreKeeps step kept.old.items piece.now kept.new.items) }
+{
+    if kept.is_empty() {
+        return match R::read(alloc, ty, piece)? {
+            Step::Done { value, used } => Ok(Step::Done { value, used }),
+            Step::More => {
+                kept.extend_from_slice(piece)?;
+                Ok(Step::More)
+            }
+        };
+    }
+    let room = MAX_OCTETS.saturating_sub(kept.len());
+    kept.extend_from_slice(&piece[..piece.len().min(room)])?;
+    R::read(alloc, ty, kept.as_slice())
+}
+
+/// Where an encoding could still follow so many octets, of which at most 268,435,455 are counted.
+fn cut_after<R: Reads>(octets: usize) -> Truncated
+    ensures { (o : List ℕ) → length o ≡ octets → octets ≤ max_octets → length (R.ruling.units o) ≡ result.taken }
+{
+    let taken = R::units_of(octets.min(MAX_OCTETS));
+    Truncated { taken }
+}

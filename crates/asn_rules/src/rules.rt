@@ -1,0 +1,108 @@
+//! Encoding rules as a trait, and what is built on any of them.
+ghost use Rattle.std.specs.Prelude.{◌≤◌, IfOk, IfErr, [], vec_len};
+ghost use Rattle.asn_values.specs.Shape.{Shape};
+ghost use Rattle.asn_values.specs.View.{shape_of, datum_of};
+ghost use Rattle.asn_rules.specs.Answer.{Ruling, IsEncoding, max_octets};
+ghost use Rattle.asn_rules.specs.Codec.{NotEncoded, Decoded};
+ghost use Rattle.asn_rules.specs.Laws.{RulesLaws};
+ghost use Rattle.asn_rules.specs.Reading.{RulesTell};
+ghost use Rattle.asn_rules.specs.Sessions.{Past, waiting, FeedsTo, Finished};
+
+use crate::fault::{DecodeFault, EncodeFault};
+use crate::session::{FeedFault, OpenFault, Step, Truncated};
+use asn_values::{Checked, Value};
+use std::alloc::Global;
+
+/// Encoding rules: an encoder, sessions that take an encoding in pieces, and the laws that both keep.
+///
+/// The laws are the contracts. `keep_laws`: an encoding has one value, a value that fits its type has one encoding,
+/// and no encoding begins another. `feed`: what a session answers depends on all octets so far alone, however they were
+/// cut, and a refusal is told at the first unit after which no encoding can follow.
+pub trait Rules {
+    /// What is kept of a message whose octets come in pieces.
+    type Session: Drop;
+
+    /// How values are spelt.
+    ghost ruling: { Ruling };
+
+    /// The session is of the type and has this past.
+    ghost took: { Self.Session → Shape → Past → Type 0 };
+
+    /// The encoding of a value of the type.
+    ///
+    /// # Errors
+    /// `NotOfType` where the value is none of the type, `TooLong` where it is and its encoding has more than
+    /// 268,435,455 octets, `Memory` where it is and an allocation failed.
+    fn encode(alloc: Global, ty: &Checked, value: &Value) -> Result<Vec<u8>, EncodeFault>
+        ensures encoding { IfOk result (λ o. IsEncoding ruling (shape_of ty.now) (datum_of value.now) o.items) }
+        ensures within { IfOk result (λ o. vec_len o ≤ max_octets) }
+        ensures fault { IfErr result (λ why. NotEncoded ruling why (shape_of ty.now) (datum_of value.now)) };
+
+    /// A session for a value of the type, which has taken no octet.
+    ///
+    /// # Errors
+    /// `Memory` where an allocation failed.
+    fn open(alloc: Global, ty: Checked) -> Result<Self::Session, OpenFault>
+        ensures { IfOk result (λ q. took q (shape_of ty) (waiting [])) };
+
+    /// Takes the next piece. Of all octets so far the first 268,435,455 are read.
+    ///
+    /// `Done` where they begin with the encoding of a value, with that value and how many octets of this piece belong
+    /// to it; `More` where they do not, and an encoding may still follow.
+    ///
+    /// # Errors
+    /// `Refused` where no encoding begins so, with the first unit, counted from 1, after which none can follow;
+    /// `TooLong` where 268,435,455 octets came and only a longer encoding may begin so; `Memory` where an allocation
+    /// failed. A session that answered `Refused` or `TooLong` answers the same to every further piece, and one that
+    /// answered `Done` or `Memory` answers `Spent`.
+    fn feed(session: &mut Self::Session, piece: &[u8]) -> Result<Step, FeedFault>
+        ensures { (t : Shape) (past : Past) → took session.old t past
+            → FeedsTo ruling took session.old session.new t past piece.now result };
+
+    /// Ends a session. Takes no memory.
+    ///
+    /// # Errors
+    /// `Truncated` where the octets taken are no whole encoding, with the number of units that came while an encoding
+    /// could still follow. After `Done` the octets taken are those of the value, after `Memory` those before the call
+    /// that failed.
+    fn finish(session: Self::Session) -> Result<(), Truncated>
+        ensures { (t : Shape) (past : Past) → took session t past → Finished ruling t past result };
+
+    /// The rules keep the laws: an encoding has one value, a value that fits has one encoding, and no encoding begins
+    /// another. The call does nothing: its clauses are what proofs cite.
+    fn keep_laws()
+        ensures laws { RulesLaws ruling }
+        ensures tells { RulesTell ruling };
+}
+
+/// The value of the type whose complete encoding the octets are. Only the first 268,435,455 octets are read.
+///
+/// # Errors
+/// `Refused` where no encoding of a value of the type begins so: `at` is the first unit, counted from 1, after which
+/// none can follow, and `why` is what was being read there. `Truncated` where an encoding may still follow: `taken` is
+/// the number of units of all the octets. `Rest` where the first `used` octets are an encoding, and more follow it.
+/// `TooLong` where the octets that are read are 268,435,455 and only a longer encoding may begin so. `Memory` where an
+/// allocation failed.
+pub fn decode<R: Rules>(alloc: Global, ty: &Checked, octets: &[u8]) -> Result<Value, DecodeFault>
+    ensures { Decoded R.ruling result (shape_of ty.now) octets.now }
+{
+    let Ok(mut session) = R::open(alloc, ty.copy()?) else {
+        return Err(DecodeFault::Memory);
+    };
+    match R::feed(&mut session, octets) {
+        Ok(Step::Done { value, used }) => {
+            if used < octets.len() {
+                return Err(DecodeFault::Rest { used });
+            }
+            Ok(value)
+        }
+        Ok(Step::More) => match R::finish(session) {
+            Err(Truncated { taken }) => Err(DecodeFault::Truncated { taken }),
+            Ok(()) => unreachable!(),
+        },
+        Err(FeedFault::Refused { at, why }) => Err(DecodeFault::Refused { at, why }),
+        Err(FeedFault::TooLong) => Err(DecodeFault::TooLong),
+        Err(FeedFault::Memory) => Err(DecodeFault::Memory),
+        Err(FeedFault::Spent) => unreachable!(),
+    }
+}

@@ -1,0 +1,12 @@
+//! The walk over types and values that reads, once for all encoding rules.
+//!
+//! SEQUENCE, SEQUENCE OF, CHOICE, open type fields and complete encodings are read here by the parts that a set of
+//! rules gives as an impl of `asn_walk::ReadLeaves`.
+#![tactic(auto)]
+
+mod components;
+mod message_reader;
+mod reader;
+
+pub use message_reader::read_message;
+pub use reader::{read, read_complete};

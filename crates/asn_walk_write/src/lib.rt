@@ -1,0 +1,12 @@
+//! The walk over types and values that writes, once for all encoding rules.
+//!
+//! SEQUENCE, SEQUENCE OF, CHOICE, open type fields and complete encodings are written here by the parts that a set of
+//! rules gives as an impl of `asn_walk::WriteLeaves`.
+#![tactic(auto)]
+
+mod encoded;
+mod encoder;
+mod writer;
+
+pub use encoder::encode;
+pub use writer::write_complete;

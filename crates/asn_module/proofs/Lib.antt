@@ -10,3 +10,4 @@ pub mod PrintedBounds
 pub mod PrintedNames
 pub mod PrintedTypes
 pub mod PrintedModules
+pub mod Counts

@@ -5,3 +5,4 @@ pub mod Accepted
 pub mod Known
 pub mod ModuleView
 pub mod Printing
+pub mod Counting

@@ -4,6 +4,7 @@
 mod bounds;
 mod building;
 mod copying;
+mod counting;
 mod diagnosis;
 mod expanding;
 mod explaining;

@@ -10,9 +10,11 @@ ghost use Rattle.asn_module.specs.Known as spec;
 ghost use Rattle.asn_module.specs.Known.{look, IsKnownOf, IsKnownAs, IsStuck, AreSound, AreDone, Attempted, unbuilt};
 
 use crate::building::build;
+use crate::counting::count;
 use crate::fault::Refusal;
 use crate::known::{Known, Named};
 use asn_notation::{AssignmentNotation, TypeNotation};
+use asn_values::profile::MAX_TYPES;
 use asn_values::{AsnType, Checked, TypeFault};
 use std::alloc::{AllocError, Global};
 
@@ -38,12 +40,16 @@ fn of_profile(
     }
 }
 
-/// The type of a notation, where it can be built of those that are built, and is one of the profile.
+/// The type of a notation, where it can be built of those that are built, and is one of the profile. Where it has more
+/// types inside it than one of the profile may have, none of them is built.
 fn build_known(alloc: Global, names: &[Named], ty: &TypeNotation) -> Result<Option<Known>, Refusal>
     ensures known { IfOk result (λ o. MatchOption o (IsStuck (look names.now) (tree_view ty.now))
         (λ k. IsKnownAs (look names.now) (tree_view ty.now) k)) }
     ensures memory { IfErr result (λ e. e ≡ Refusal.Memory) }
 {
+    if count(names, ty) > MAX_TYPES {
+        return Ok(None);
+    }
     match build(alloc, names, ty) {
         Ok(built) => of_profile(alloc, built.ty, built.constraint),
         Err(Refusal::Memory) => Err(Refusal::Memory),

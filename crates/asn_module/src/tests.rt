@@ -59,166 +59,160 @@ fn expect_faults(rt: &impl Abort, alloc: Global, rows: &[(&str, Fault)]) -> Resu
     Ok(())
 }
 
+const PLACES: [(&str, Fault); 14] = [
+    ("T ::= SET { } END", Fault::OutOfProfile(45)),
+    (
+        "T ::= INTEGER (7..0) END",
+        Fault::BadType("T", TypeFault::EmptyRange),
+    ),
+    (
+        "T ::= SEQUENCE OF NULL END",
+        Fault::BadType("T", TypeFault::ZeroWidthElement),
+    ),
+    (
+        "T ::= INTEGER (MIN..MAX, ...) END",
+        Fault::BadType("T", TypeFault::UselessMark),
+    ),
+    ("A ::= B B ::= A END", Fault::Cycle("A")),
+    ("T ::= INTEGER (007) END", Fault::Unexpected(55)),
+    ("T ::= INTEGER (MIN) END", Fault::Unexpected(57)),
+    ("T ::= INTEGER (-0..1) END", Fault::Character(54)),
+    ("T ::= BOOLEAN (0..1) END", Fault::Unexpected(53)),
+    ("A ::= BOOLEAN B ::= A (0..1) END", Fault::OutOfProfile(61)),
+    (
+        "T ::= INTEGER (0..9223372036854775808) END",
+        Fault::OutOfProfile(57),
+    ),
+    ("T ::= U END", Fault::Unknown("U")),
+    ("T ::= NULL T ::= NULL END", Fault::Twice("T")),
+    (
+        "T ::= ENUMERATED { a, b(5) } END",
+        Fault::BadType("T", TypeFault::BadEnumeration),
+    ),
+];
+
 #[test]
 fn faults_have_their_places_and_names(rt: HostRuntime) -> Result<(), Fail> {
-    expect_faults(
-        &rt,
-        rt.alloc(),
-        &[
-            ("T ::= SET { } END", Fault::OutOfProfile(45)),
-            (
-                "T ::= INTEGER (7..0) END",
-                Fault::BadType("T", TypeFault::EmptyRange),
-            ),
-            (
-                "T ::= SEQUENCE OF NULL END",
-                Fault::BadType("T", TypeFault::ZeroWidthElement),
-            ),
-            (
-                "T ::= INTEGER (MIN..MAX, ...) END",
-                Fault::BadType("T", TypeFault::UselessMark),
-            ),
-            ("A ::= B B ::= A END", Fault::Cycle("A")),
-            ("T ::= INTEGER (007) END", Fault::Unexpected(55)),
-            ("T ::= INTEGER (MIN) END", Fault::Unexpected(57)),
-            ("T ::= INTEGER (-0..1) END", Fault::Character(54)),
-            ("T ::= BOOLEAN (0..1) END", Fault::Unexpected(53)),
-            ("A ::= BOOLEAN B ::= A (0..1) END", Fault::OutOfProfile(61)),
-            (
-                "T ::= INTEGER (0..9223372036854775808) END",
-                Fault::OutOfProfile(57),
-            ),
-            ("T ::= U END", Fault::Unknown("U")),
-            ("T ::= NULL T ::= NULL END", Fault::Twice("T")),
-            (
-                "T ::= ENUMERATED { a, b(5) } END",
-                Fault::BadType("T", TypeFault::BadEnumeration),
-            ),
-        ],
-    )
+    expect_faults(&rt, rt.alloc(), &PLACES)
 }
+
+const ORDER: [(&str, Fault); 14] = [
+    ("T ::= T ::= ; END", Fault::Character(51)),
+    ("T ::= SET T ::= NULL END", Fault::OutOfProfile(45)),
+    ("T ::= U T ::= NULL END", Fault::Twice("T")),
+    ("A ::= A T ::= SEQUENCE { a U } END", Fault::Unknown("U")),
+    (
+        "T ::= INTEGER (7..0) C ::= A A ::= B B ::= A END",
+        Fault::Cycle("A"),
+    ),
+    (
+        "T ::= INTEGER (7..0) A ::= SEQUENCE { a A } END",
+        Fault::Cycle("A"),
+    ),
+    (
+        "T ::= INTEGER (7..0) A ::= NULL B ::= A (1) END",
+        Fault::OutOfProfile(79),
+    ),
+    // a constraint on a type that has a marked one, and a marked one on a type that has one
+    (
+        "A ::= INTEGER (0..9, ...) B ::= A (1..2) END",
+        Fault::OutOfProfile(73),
+    ),
+    (
+        "A ::= INTEGER (0..9) B ::= A (1..2, ...) END",
+        Fault::OutOfProfile(68),
+    ),
+    (
+        "A ::= INTEGER (MIN..MAX) B ::= A (1..2, ...) END",
+        Fault::OutOfProfile(72),
+    ),
+    (
+        "A ::= SEQUENCE (SIZE (0..MAX)) OF NULL B ::= A (SIZE (1, ...)) END",
+        Fault::OutOfProfile(86),
+    ),
+    (
+        "A ::= UTF8String B ::= A (SIZE (1)) END",
+        Fault::OutOfProfile(64),
+    ),
+    (
+        "A ::= INTEGER B ::= A (SIZE (1)) END",
+        Fault::OutOfProfile(61),
+    ),
+    // of two constraints the first in the text
+    (
+        "C ::= B (1) B ::= A (1) A ::= NULL END",
+        Fault::OutOfProfile(47),
+    ),
+];
 
 #[test]
 fn faults_come_in_their_order(rt: HostRuntime) -> Result<(), Fail> {
-    expect_faults(
-        &rt,
-        rt.alloc(),
-        &[
-            ("T ::= T ::= ; END", Fault::Character(51)),
-            ("T ::= SET T ::= NULL END", Fault::OutOfProfile(45)),
-            ("T ::= U T ::= NULL END", Fault::Twice("T")),
-            ("A ::= A T ::= SEQUENCE { a U } END", Fault::Unknown("U")),
-            (
-                "T ::= INTEGER (7..0) C ::= A A ::= B B ::= A END",
-                Fault::Cycle("A"),
-            ),
-            (
-                "T ::= INTEGER (7..0) A ::= SEQUENCE { a A } END",
-                Fault::Cycle("A"),
-            ),
-            (
-                "T ::= INTEGER (7..0) A ::= NULL B ::= A (1) END",
-                Fault::OutOfProfile(79),
-            ),
-            // a constraint on a type that has a marked one, and a marked one on a type that has one
-            (
-                "A ::= INTEGER (0..9, ...) B ::= A (1..2) END",
-                Fault::OutOfProfile(73),
-            ),
-            (
-                "A ::= INTEGER (0..9) B ::= A (1..2, ...) END",
-                Fault::OutOfProfile(68),
-            ),
-            (
-                "A ::= INTEGER (MIN..MAX) B ::= A (1..2, ...) END",
-                Fault::OutOfProfile(72),
-            ),
-            (
-                "A ::= SEQUENCE (SIZE (0..MAX)) OF NULL B ::= A (SIZE (1, ...)) END",
-                Fault::OutOfProfile(86),
-            ),
-            (
-                "A ::= UTF8String B ::= A (SIZE (1)) END",
-                Fault::OutOfProfile(64),
-            ),
-            (
-                "A ::= INTEGER B ::= A (SIZE (1)) END",
-                Fault::OutOfProfile(61),
-            ),
-            // of two constraints the first in the text
-            (
-                "C ::= B (1) B ::= A (1) A ::= NULL END",
-                Fault::OutOfProfile(47),
-            ),
-        ],
-    )
+    expect_faults(&rt, rt.alloc(), &ORDER)
 }
+
+const TYPE_FAULTS: [(&str, Fault); 14] = [
+    (
+        "A ::= INTEGER (0..3) B ::= A (4..9) END",
+        Fault::BadType("B", TypeFault::EmptyRange),
+    ),
+    (
+        "A ::= B B ::= INTEGER (7..0) END",
+        Fault::BadType("A", TypeFault::EmptyRange),
+    ),
+    (
+        "A ::= OCTET STRING (SIZE (65536)) END",
+        Fault::BadType("A", TypeFault::SizeTooLarge),
+    ),
+    (
+        "A ::= OCTET STRING (SIZE (4..3)) END",
+        Fault::BadType("A", TypeFault::EmptyRange),
+    ),
+    (
+        "A ::= SEQUENCE { a NULL, a NULL } END",
+        Fault::BadType("A", TypeFault::DuplicateName),
+    ),
+    (
+        "A ::= ENUMERATED { a(1), b(1) } END",
+        Fault::BadType("A", TypeFault::BadEnumeration),
+    ),
+    (
+        "A ::= ENUMERATED { a(2147483648) } END",
+        Fault::BadType("A", TypeFault::BadEnumeration),
+    ),
+    (
+        "A ::= ENUMERATED { a, ..., b(7) } END",
+        Fault::BadType("A", TypeFault::BadEnumeration),
+    ),
+    (
+        "A ::= SEQUENCE { a BOOLEAN DEFAULT 1 } END",
+        Fault::BadType("A", TypeFault::BadDefault),
+    ),
+    (
+        "A ::= SEQUENCE { a INTEGER DEFAULT x } END",
+        Fault::BadType("A", TypeFault::BadDefault),
+    ),
+    (
+        "A ::= SEQUENCE { a E DEFAULT x } E ::= ENUMERATED { y, z } END",
+        Fault::BadType("A", TypeFault::BadDefault),
+    ),
+    (
+        "A ::= SEQUENCE { a NULL, ..., b NULL } END",
+        Fault::BadType("A", TypeFault::AdditionNotOptional),
+    ),
+    // the outer type first, and then from left to right
+    (
+        "A ::= SEQUENCE { a INTEGER (7..0), ..., b NULL } END",
+        Fault::BadType("A", TypeFault::AdditionNotOptional),
+    ),
+    (
+        "A ::= SEQUENCE { a INTEGER (7..0), b OCTET STRING (SIZE (65536)) } END",
+        Fault::BadType("A", TypeFault::EmptyRange),
+    ),
+];
 
 #[test]
 fn types_have_faults(rt: HostRuntime) -> Result<(), Fail> {
-    expect_faults(
-        &rt,
-        rt.alloc(),
-        &[
-            (
-                "A ::= INTEGER (0..3) B ::= A (4..9) END",
-                Fault::BadType("B", TypeFault::EmptyRange),
-            ),
-            (
-                "A ::= B B ::= INTEGER (7..0) END",
-                Fault::BadType("A", TypeFault::EmptyRange),
-            ),
-            (
-                "A ::= OCTET STRING (SIZE (65536)) END",
-                Fault::BadType("A", TypeFault::SizeTooLarge),
-            ),
-            (
-                "A ::= OCTET STRING (SIZE (4..3)) END",
-                Fault::BadType("A", TypeFault::EmptyRange),
-            ),
-            (
-                "A ::= SEQUENCE { a NULL, a NULL } END",
-                Fault::BadType("A", TypeFault::DuplicateName),
-            ),
-            (
-                "A ::= ENUMERATED { a(1), b(1) } END",
-                Fault::BadType("A", TypeFault::BadEnumeration),
-            ),
-            (
-                "A ::= ENUMERATED { a(2147483648) } END",
-                Fault::BadType("A", TypeFault::BadEnumeration),
-            ),
-            (
-                "A ::= ENUMERATED { a, ..., b(7) } END",
-                Fault::BadType("A", TypeFault::BadEnumeration),
-            ),
-            (
-                "A ::= SEQUENCE { a BOOLEAN DEFAULT 1 } END",
-                Fault::BadType("A", TypeFault::BadDefault),
-            ),
-            (
-                "A ::= SEQUENCE { a INTEGER DEFAULT x } END",
-                Fault::BadType("A", TypeFault::BadDefault),
-            ),
-            (
-                "A ::= SEQUENCE { a E DEFAULT x } E ::= ENUMERATED { y, z } END",
-                Fault::BadType("A", TypeFault::BadDefault),
-            ),
-            (
-                "A ::= SEQUENCE { a NULL, ..., b NULL } END",
-                Fault::BadType("A", TypeFault::AdditionNotOptional),
-            ),
-            // the outer type first, and then from left to right
-            (
-                "A ::= SEQUENCE { a INTEGER (7..0), ..., b NULL } END",
-                Fault::BadType("A", TypeFault::AdditionNotOptional),
-            ),
-            (
-                "A ::= SEQUENCE { a INTEGER (7..0), b OCTET STRING (SIZE (65536)) } END",
-                Fault::BadType("A", TypeFault::EmptyRange),
-            ),
-        ],
-    )
+    expect_faults(&rt, rt.alloc(), &TYPE_FAULTS)
 }
 
 /// `T0 ::= BOOLEAN`, then for each k up to `last` Tk with two components of the type before it
@@ -283,41 +277,43 @@ fn is_range(module: &Module, name: &str, low: i128, high: i128) -> bool {
     }
 }
 
+const EXPLANATIONS: [(&str, &str); 7] = [
+    (
+        "M DEFINITIONS AUTOMATIC TAGS ::= BEGIN\n\nT ::= SET { a }\nEND",
+        "line 3, column 7: \"SET\" is outside the profile",
+    ),
+    (
+        "M DEFINITIONS AUTOMATIC TAGS ::= BEGIN\nT ::= SEQUENCE { a }\nEND",
+        "line 2, column 20: \"}\" where a type was expected",
+    ),
+    (
+        "M DEFINITIONS AUTOMATIC TAGS ::= BEGIN T ::= INTEGER (1 2) END",
+        "line 1, column 57: \"2\" where \"..\" or \")\" or \",\" was expected",
+    ),
+    (
+        "M DEFINITIONS AUTOMATIC TAGS ::= BEGIN -- \u{e9}\n\u{e9} END",
+        "line 2, column 1: no token begins with \"\u{e9}\"",
+    ),
+    (
+        "M DEFINITIONS",
+        "line 1, column 14: the end of the text where AUTOMATIC was expected",
+    ),
+    ("m", "line 1, column 1: \"m\" where a name was expected"),
+    (
+        "M DEFINITIONS AUTOMATIC TAGS ::= BEGIN T ::= U END",
+        "unknown U",
+    ),
+];
+
 #[test]
 fn faults_are_explained(rt: HostRuntime) -> Result<(), Fail> {
     let alloc = rt.alloc();
-    for (text, want) in [
-        (
-            "M DEFINITIONS AUTOMATIC TAGS ::= BEGIN\n\nT ::= SET { a }\nEND",
-            "line 3, column 7: \"SET\" is outside the profile",
-        ),
-        (
-            "M DEFINITIONS AUTOMATIC TAGS ::= BEGIN\nT ::= SEQUENCE { a }\nEND",
-            "line 2, column 20: \"}\" where a type was expected",
-        ),
-        (
-            "M DEFINITIONS AUTOMATIC TAGS ::= BEGIN T ::= INTEGER (1 2) END",
-            "line 1, column 57: \"2\" where \"..\" or \")\" or \",\" was expected",
-        ),
-        (
-            "M DEFINITIONS AUTOMATIC TAGS ::= BEGIN -- \u{e9}\n\u{e9} END",
-            "line 2, column 1: no token begins with \"\u{e9}\"",
-        ),
-        (
-            "M DEFINITIONS",
-            "line 1, column 14: the end of the text where AUTOMATIC was expected",
-        ),
-        ("m", "line 1, column 1: \"m\" where a name was expected"),
-        (
-            "M DEFINITIONS AUTOMATIC TAGS ::= BEGIN T ::= U END",
-            "unknown U",
-        ),
-    ] {
+    for (text, want) in &EXPLANATIONS {
         match read(alloc, text) {
             Ok(_) => assert!(rt; false, "{text}: read"),
             Err(fault) => {
                 let said = explain(alloc, text, &fault)?;
-                assert!(rt; *said.as_str() == *want, "{text}: {said}");
+                assert!(rt; *said.as_str() == **want, "{text}: {said}");
             }
         }
     }

@@ -1,6 +1,5 @@
 -- A text is read exactly where it is a module, as that module.
-use Rattle.std.proofs.Common.{◌≡◌, ℕ, suc, List, [], ◌∷◌, ◌++◌, length, Option, Some, None, Result, Ok, Err, refl, sym, ap, ◌∙◌, append_assoc}
-use Rattle.std.proofs.lemmas.List.{append-nil}
+use Rattle.std.proofs.Common.{◌≡◌, ℕ, suc, List, [], ◌∷◌, ◌++◌, length, Option, Some, None, Result, Ok, Err, sym, ap, ◌∙◌}
 use Rattle.std.specs.Prelude.{IfOk}
 use Rattle.std.specs.List.{AllByRecursion}
 use Rattle.asn_notation.specs.declared.fault.SyntaxFault.{SyntaxFault}
@@ -9,11 +8,13 @@ use Rattle.asn_notation.specs.declared.token.Word.TheVariants as words
 use Rattle.asn_notation.specs.Token.{Token, word}
 use Rattle.asn_notation.specs.Tree.{Assignment, ModuleTree, module_view}
 use Rattle.asn_notation.specs.Lexing.{lexed}
-use Rattle.asn_notation.specs.Reading.{Gives, ◌>>=◌, after_word, heading_at, more_assignments, assignments_at, if_end, whole_module}
+use Rattle.asn_notation.specs.Reading.{Gives, after_word}
+use Rattle.asn_notation.specs.ModuleReading.{heading_at, assignments_at, if_end, whole_module}
 use Rattle.asn_notation.specs.Grammar as g
 use Rattle.asn_notation.specs.Fitting.{IsTree, IsModule}
 use Rattle.asn_notation.specs.ModuleText.{IsModuleText}
-use Rattle.asn_notation.proofs.Sound.{Is, none, now, bind, after_word_takes, assignments_take, heading_takes}
+use Rattle.asn_notation.proofs.Sound.{Is, none, now, bind, after_word_takes}
+use Rattle.asn_notation.proofs.SoundTypes.{assignments_take, heading_takes}
 use Rattle.asn_notation.proofs.Fits.{assignments_fit}
 use Rattle.asn_notation.proofs.ModulesAgain.{module_again}
 

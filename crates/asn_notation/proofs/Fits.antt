@@ -14,7 +14,8 @@ use Rattle.asn_notation.specs.declared.notation.StringKind.TheVariants as string
 use Rattle.asn_notation.specs.Token.{Token, identifier, name, word, out_of_profile, number, negative, too_large, sign, illegal}
 use Rattle.asn_notation.specs.Tree as t
 use Rattle.asn_notation.specs.Tree.{Tree, Components, More, Item, Need, Part, Branch, Assignment, components_of, more_of, alternatives_of, more_alternatives_of}
-use Rattle.asn_notation.specs.Reading.{Read, ◌>>=◌, begins_sign, begins_word, after_sign, after_word, identifier_at, number_at, int_at, mark_at, high_at, limits_at, range_after_paren, range_at, size_end_at, size_at, size_after_paren, size_con_at, list_size_at, constraint_at, goes_on, others, all_others, addition_list, marked_list, item_number_at, item_at, named_default_at, default_at, need_at, component_at, body_at, sequence_at, alternative_at, choice_at, enumerated_at, text_at, type_after_word, type_at, name_at, assignment_at, more_assignments}
+use Rattle.asn_notation.specs.Reading.{Read, ◌>>=◌, begins_sign, begins_word, after_sign, after_word, identifier_at, number_at, int_at, mark_at, high_at, limits_at, range_after_paren, range_at, size_end_at, size_at, size_after_paren, size_con_at, list_size_at, constraint_at, goes_on, others, all_others, addition_list, marked_list, item_number_at, item_at, named_default_at, default_at, need_at, component_at, body_at, sequence_at, alternative_at, choice_at, enumerated_at, text_at, type_after_word, type_at}
+use Rattle.asn_notation.specs.ModuleReading.{name_at, assignment_at, more_assignments}
 use Rattle.asn_notation.specs.Fitting.{IsInt, AreLimits, IsSizeEnd, IsSize, IsListSize, IsConstraint, IsItem, IsDefault, IsNeed, IsTree, AreComponents, AreMore, HasAlternative, AreAlternatives, AreMoreAlternatives}
 use Rattle.asn_notation.proofs.Sound.{Is, none, now, bind, test, weaker}
 

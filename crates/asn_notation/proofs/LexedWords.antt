@@ -1,5 +1,5 @@
 -- The words among the tokens of a text are whole words, which can be printed.
-use Rattle.std.proofs.Common.{◌≡◌, ℕ, zero, suc, ◌^◌, Bool, true, false, cond, List, [], ◌∷◌, length, take, refl, sym, ap, ◌∙◌, rules, arith}
+use Rattle.std.proofs.Common.{◌≡◌, ℕ, zero, suc, ◌^◌, Bool, true, false, cond, List, [], ◌∷◌, length, take, refl, ap, ◌∙◌, arith}
 use Rattle.std.proofs.lemmas.Bool.Decides.{nat_tests}
 use Rattle.std.specs.Prelude.{◌==◌, ◌&&◌, slice_index, bytes_eq, drop, map, nat_lt}
 use Rattle.std.specs.Str.Parse.{digits_value}
@@ -9,7 +9,7 @@ use Rattle.asn_notation.specs.declared.token.Reserved.TheVariants as reserved
 use Rattle.asn_notation.specs.declared.token.TheConstants.{RESERVED}
 use Rattle.asn_notation.specs.Token.{Token, identifier, name, word, out_of_profile, number, negative, too_large, sign, illegal}
 use Rattle.asn_notation.specs.Lexing.{is_small, is_letter, is_digit, is_in_word, word_len, digits_len, reserved_token, looked_up, capital_word, word_token, number_token, negative_token, leading_sign, leading_token, blank_len, lex, lexed}
-use Rattle.asn_notation.specs.Printed.{IsWord, IsPrintable, IsRead}
+use Rattle.asn_notation.specs.Printed.{IsWord, IsRead}
 
 -- ---- words
 

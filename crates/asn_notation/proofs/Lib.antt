@@ -2,6 +2,7 @@ pub mod LexingLemmas
 pub mod Turns
 pub mod Views
 pub mod Sound
+pub mod SoundTypes
 pub mod Again
 pub mod TreesAgain
 pub mod ModulesAgain

@@ -4,9 +4,10 @@ use Rattle.std.proofs.lemmas.List.{append-nil, length-append}
 use Rattle.std.specs.List.{AllByRecursion}
 use Rattle.asn_notation.specs.declared.token.Word.TheVariants as words
 use Rattle.asn_notation.specs.declared.token.Sign.TheVariants as signs
-use Rattle.asn_notation.specs.Token.{Token, name, word}
+use Rattle.asn_notation.specs.Token.{Token, word}
 use Rattle.asn_notation.specs.Tree.{Assignment, ModuleTree}
-use Rattle.asn_notation.specs.Reading.{begins_sign, begins_word, after_sign, after_word, name_at, assignment_at, more_assignments, assignments_at, heading_at, whole_module}
+use Rattle.asn_notation.specs.Reading.{begins_sign, begins_word, after_sign, after_word}
+use Rattle.asn_notation.specs.ModuleReading.{name_at, assignment_at, more_assignments, assignments_at, heading_at, whole_module}
 use Rattle.asn_notation.specs.Grammar as g
 use Rattle.asn_notation.specs.Fitting.{IsTree, IsModule}
 use Rattle.asn_notation.proofs.TreesAgain.{tree_again}

@@ -11,7 +11,8 @@ use Rattle.asn_notation.specs.declared.notation.AlternativeNotation.{Alternative
 use Rattle.asn_notation.specs.declared.token.Sign.TheVariants.{RightBrace, Dots}
 use Rattle.asn_notation.specs.declared.token.Word.TheVariants.{End}
 use Rattle.asn_notation.specs.Tree.{Tree, Part, sequence, no_components, marked, components_of, item_view, items_view, part_view, parts_view, branch_view, branches_view, Assignment}
-use Rattle.asn_notation.specs.Reading.{Read, Gives, goes_on, others, all_others, begins_sign, after_sign, begins_word, component_at, body_at, assignment_at, more_assignments, assignments_at}
+use Rattle.asn_notation.specs.Reading.{Read, Gives, goes_on, others, all_others, begins_sign, after_sign, begins_word, component_at, body_at}
+use Rattle.asn_notation.specs.ModuleReading.{assignment_at, more_assignments, assignments_at}
 
 -- an error that a `?` passes on
 pub gives_err : {A B : Type 0} (f : A → B) (r : Result A SyntaxFault) (expected : Option B) (e : SyntaxFault) (Q : SyntaxFault → Type 0)

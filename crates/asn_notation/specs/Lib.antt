@@ -2,6 +2,7 @@ pub mod Token
 pub mod Tree
 pub mod Lexing
 pub mod Reading
+pub mod ModuleReading
 pub mod Grammar
 pub mod Fitting
 pub mod ModuleText

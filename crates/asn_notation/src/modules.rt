@@ -3,7 +3,7 @@
 ghost use Rattle.std.specs.Prelude.{◌≡◌, ◌≤◌, ◌<◌, Some, length, IfOk};
 ghost use Rattle.asn_notation.specs.Lexing.{lexed};
 ghost use Rattle.asn_notation.specs.Tree as tree;
-ghost use Rattle.asn_notation.specs.Reading as spec;
+ghost use Rattle.asn_notation.specs.ModuleReading as spec;
 ghost use Rattle.asn_notation.specs.Reading.{Gives, Reads, Shortens};
 ghost use Rattle.asn_notation.specs.ModuleText.{IsModuleText};
 
@@ -15,7 +15,7 @@ use crate::token::{Lexeme, Sign, Word};
 use crate::types::type_at;
 use std::alloc::Global;
 
-#[tactic(auto, unfolding(crate::specs::Reading::name_at))]
+#[tactic(auto, unfolding(crate::specs::ModuleReading::name_at))]
 pub(crate) fn name_at<'t>(text: &'t str) -> Result<(&'t str, &'t str), SyntaxFault>
     ensures value { Reads (λ s. s.now) result (spec.name_at (lexed text.now)) }
     ensures shorter { Shortens text.now result }
@@ -29,7 +29,7 @@ pub(crate) fn name_at<'t>(text: &'t str) -> Result<(&'t str, &'t str), SyntaxFau
     }
 }
 
-#[tactic(auto, unfolding(crate::specs::Reading::assignment_at))]
+#[tactic(auto, unfolding(crate::specs::ModuleReading::assignment_at))]
 fn assignment_at<'t>(
     alloc: Global,
     text: &'t str,
@@ -66,7 +66,7 @@ fn assignments_at<'t>(
 }
 
 /// The name of a module, and the text after BEGIN.
-#[tactic(auto, unfolding(crate::specs::Reading::heading_at))]
+#[tactic(auto, unfolding(crate::specs::ModuleReading::heading_at))]
 pub(crate) fn heading_at<'t>(text: &'t str) -> Result<(&'t str, &'t str), SyntaxFault>
     ensures value { Reads (λ s. s.now) result (spec.heading_at (lexed text.now)) }
 {
@@ -79,7 +79,7 @@ pub(crate) fn heading_at<'t>(text: &'t str) -> Result<(&'t str, &'t str), Syntax
     Ok((name, rest))
 }
 
-#[tactic(auto, unfolding(crate::specs::Reading::whole_module))]
+#[tactic(auto, unfolding(crate::specs::ModuleReading::whole_module))]
 fn whole_module<'t>(
     alloc: Global,
     text: &'t str,

@@ -1,9 +1,9 @@
-use Rattle.std.proofs.Common.{◌≡◌, ◌∙◌, ◌-◌, ◌<◌, ap, true, false, le_refl, refl, suc, length, [], arith, rules}
+use Rattle.std.proofs.Common.{◌≡◌, ◌∙◌, ◌-◌, true, false, le_refl, refl, suc, length, arith, rules}
 use Rattle.std.proofs.lemmas.Grind.{common_steps}
 use Rattle.std.proofs.lemmas.List.{map_push}
 use Rattle.asn_notation.specs.Lexing.{lexed}
 use Rattle.asn_notation.specs.Tree.{assignment_view, assignments_view}
-use Rattle.asn_notation.specs.Reading.{begins_word, assignment_at}
+use Rattle.asn_notation.specs.Reading.{begins_word}
 use Rattle.asn_notation.specs.declared.token.Word.TheVariants.{End}
 use Rattle.asn_notation.proofs.Turns.{gives_err, assignments_end, assignments_more, assignments_none, assignments_are}
 use Rattle.asn_notation.proofs.modules.assignments_at.Goals as goal

@@ -3,7 +3,7 @@ use denote.Text.{Utf8}
 use denote.Shadow.{shadow}
 use Rattle.asn_notation.specs.Lexing.{lexed}
 use Rattle.asn_notation.specs.Tree.{assignments_view}
-use Rattle.asn_notation.specs.Reading.{more_assignments, assignments_at}
+use Rattle.asn_notation.specs.ModuleReading.{more_assignments, assignments_at}
 use Rattle.asn_notation.proofs.modules.assignments_at.Given as goal
 
 abbrev pub invariant-assignments : goal.invariant-assignments

@@ -1,9 +1,9 @@
 -- What readers of octets read from the bits of a cursor, and where they stop.
 use Rattle.std.specs.Prelude.{◌≡◌, ◌≤◌, ◌<◌, ◌+◌, ◌-◌, ◌^◌, ◌/◌, ◌%◌, ℕ, ℤ, Bool, List, [], ◌∷◌, ◌++◌, length, Option, None}
 use Rattle.std.specs.Option.{option_map}
-use Rattle.asn_values.specs.Datum.{truth}
+use Rattle.asn_values.specs.Datum.{Datum, truth}
 use Rattle.asn_values.specs.Fits.{FitsLength}
-use Rattle.asn_values.specs.Shape.{SizeRange}
+use Rattle.asn_values.specs.Shape.{Shape, SizeRange}
 use Rattle.asn_bits.specs.Numbers.{bits, packed}
 use Rattle.asn_bits.specs.Sets.{InDigits, Among}
 use Rattle.asn_rules.specs.Chunks.{Chunk, ones}
@@ -11,14 +11,14 @@ use Rattle.asn_rules.specs.Counted.{Counted, number_of, Least, signed_number, Le
 use Rattle.asn_rules.specs.OffsetSets.{HasInteger}
 use Rattle.asn_rules.specs.declared.signed_reader.OffsetSet.{OffsetSet}
 use Rattle.asn_rules.specs.Languages.{Spells, Then, Map, Plain}
-use Rattle.asn_rules.specs.Listed.{IsOther}
+use Rattle.asn_rules.specs.Listed.{IsOther, Spelt}
 use Rattle.asn_rules.specs.NumberSets.{Admits, NumberIn}
 use Rattle.asn_rules.specs.Spellings.{SpelledBy}
 use Rattle.asn_rules.specs.Stops.{Stops}
 use Rattle.asn_rules.specs.declared.number_reader.NumberSet.{NumberSet}
 use Rattle.asn_rules.specs.declared.stop.Stop.{Stop}
 use Rattle.asn_rules.specs.declared.stop.Stop.TheVariants as stop
-use Rattle.asn_oer.specs.Oer.{oer_fields, filled_bits}
+use Rattle.asn_oer.specs.Oer.{oer, oer_fields, filled_bits}
 use Rattle.asn_oer.specs.SimpleTypes.{truth_told}
 
 -- the bits are those of octets
@@ -32,6 +32,10 @@ ReadsOctets L v old new = Spells oer_fields L v (packed old) (packed new)
 -- a reader of the language stops at these octets
 abbrev pub StopsAtOctets : {V : Type 0} → (V → List Chunk → Type 0) → List ℕ → Stop → Type 0
 StopsAtOctets L old why = Stops oer_fields L (packed old) why
+
+-- the values of a type
+abbrev pub ValuesOf : Shape → Datum → List Chunk → Type 0
+ValuesOf t = Spelt oer None t
 
 -- what a reader of bits says, where octets are counted
 abbrev pub counted_in_octets : Stop → Stop

@@ -22,11 +22,14 @@ mod octets;
 mod oer;
 mod preamble_reader;
 mod quantity_reader;
+mod read_leaves;
 #[cfg(test)]
 mod reader_tests;
+mod rules;
 mod signed_reader;
 mod sizes;
 mod string_writer;
+mod text_reader;
 mod utf8_reader;
 mod write_leaves;
 

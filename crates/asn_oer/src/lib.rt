@@ -1,6 +1,7 @@
 //! Canonical OER (X.696).
 #![tactic(auto)]
 
+mod bits_reader;
 mod bits_writer;
 mod boolean_reader;
 mod counted_reader;
@@ -8,6 +9,7 @@ mod elements;
 mod encoder;
 #[cfg(test)]
 mod encoder_tests;
+mod enumerated_reader;
 mod enumerated_writer;
 mod filled_reader;
 mod index_reader;

@@ -11,6 +11,7 @@ mod encoder_tests;
 mod enumerated_writer;
 mod filled_reader;
 mod index_reader;
+mod integer_reader;
 mod integer_sizes;
 mod integer_writer;
 mod kinds;

@@ -1,9 +1,9 @@
 -- What readers of octets read from the bits of a cursor, and where they stop.
-use Rattle.std.specs.Prelude.{◌≡◌, ◌≤◌, ◌<◌, ◌+◌, ◌-◌, ◌^◌, ◌/◌, ◌%◌, ℕ, ℤ, Bool, List, [], ◌∷◌, ◌++◌, length, Option, None}
+use Rattle.std.specs.Prelude.{◌≡◌, ◌≤◌, ◌<◌, ◌+◌, ◌-◌, ◌^◌, ◌/◌, ◌%◌, ℕ, ℤ, Bool, false, List, [], ◌∷◌, ◌++◌, length, Option, Some, None, ⊤}
 use Rattle.std.specs.Option.{option_map}
-use Rattle.asn_values.specs.Datum.{Datum, truth}
-use Rattle.asn_values.specs.Fits.{FitsLength}
-use Rattle.asn_values.specs.Shape.{Shape, SizeRange}
+use Rattle.asn_values.specs.Datum.{Datum, truth, number}
+use Rattle.asn_values.specs.Fits.{FitsNumber, FitsLength}
+use Rattle.asn_values.specs.Shape.{Range, Shape, SizeRange, integer}
 use Rattle.asn_bits.specs.Numbers.{bits, packed}
 use Rattle.asn_bits.specs.Sets.{InDigits, Among}
 use Rattle.asn_rules.specs.Chunks.{Chunk, ones}
@@ -98,3 +98,18 @@ pub record AreCounts (s : SizeRange) (t : NumberSet) : Type 0 where
 -- an integer of the set in the fewest octets of two's complement after their count ("encoding of integer types")
 abbrev pub CountedSignedIn : OffsetSet → ℤ → List Chunk → Type 0
 CountedSignedIn s = Map signed_number (Counted 256 1 (LeastSigned (λ z. HasInteger s z)))
+
+-- ---- integers, but for one, which is the DEFAULT of a component
+
+-- the integers of a range
+abbrev pub IntegersBut : Option ℤ → Range → Datum → List Chunk → Type 0
+IntegersBut except b = Spelt oer (option_map number except) (integer b)
+
+-- an integer that may be left out of a range is one of it, and the range has no extension mark
+abbrev pub IsWithin : Range → Option ℤ → Type 0
+IsWithin b None = ⊤
+IsWithin b (Some d) = FitsNumber b d × (b.extensible ≡ false)
+
+-- a range without an extension mark
+abbrev pub unmarked : Option ℤ → Option ℤ → Range
+unmarked low high = record { low = low; high = high; extensible = false }

@@ -13,6 +13,7 @@ mod enumerated_reader;
 mod enumerated_writer;
 mod filled_reader;
 mod index_reader;
+mod integer_reader;
 mod integer_sizes;
 mod integer_writer;
 mod kinds;

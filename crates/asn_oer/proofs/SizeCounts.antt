@@ -3,7 +3,7 @@ use Rattle.std.proofs.Common.{◌≡◌, ◌-◌, ℕ, Bool, true, false, nat_lt
 use Rattle.asn_values.specs.Datum.{octet_list}
 use Rattle.asn_values.specs.Fits.{FitsLength}
 use Rattle.asn_values.specs.Profile.{InProfile, EmptyRange, SizeTooLarge, UselessMark, is_fixed_size}
-use Rattle.asn_values.specs.Shape.{SizeRange, octet_string}
+use Rattle.asn_values.specs.Shape.{SizeRange, bit_string, octet_string}
 use Rattle.asn_bits.specs.Sets.{Between, InDigits}
 use Rattle.asn_rules.specs.Chunks.{Chunk}
 use Rattle.asn_rules.specs.Fields.{OneOctet, LongLength, FirstOctet, OctetLength, octets_told}
@@ -114,3 +114,6 @@ octets_lead s us good = leads_on (leads_map oer_fields octet_list (Sized s OneOc
 -- the sizes of types of the profile are of the profile
 pub octets_size : (s : SizeRange) → InProfile (octet_string s) → IsSizeOfProfile s
 octets_size s good = record { ordered = good EmptyRange; small = good SizeTooLarge; useful = good UselessMark }
+
+pub bits_size : (s : SizeRange) → InProfile (bit_string s) → IsSizeOfProfile s
+bits_size s good = record { ordered = good EmptyRange; small = good SizeTooLarge; useful = good UselessMark }

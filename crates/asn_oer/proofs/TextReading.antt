@@ -9,15 +9,19 @@ use Rattle.asn_values.specs.Fits.{is_of_kind}
 use Rattle.asn_values.specs.Profile.{InProfile, EmptyRange, SizeTooLarge, UselessMark}
 use Rattle.asn_values.specs.Shape.{Alphabet, SizeRange, restricted}
 use Rattle.asn_bits.specs.Sets.{InDigits}
-use Rattle.asn_bits.proofs.Weights.{digits_only}
-use Rattle.asn_rules.specs.Chunks.{ones}
+use Rattle.asn_bits.proofs.Weights.{digits_only, digits-first}
+use Rattle.asn_rules.specs.Chunks.{Chunk, ones, flat}
 use Rattle.asn_rules.specs.Fields.{OneOctet}
 use Rattle.asn_rules.specs.Forks.{Same}
 use Rattle.asn_rules.specs.Languages.{Spells, Short, Refused, Lawful, Inhabited, Row}
 use Rattle.asn_rules.specs.Spellings.{SpelledBy}
+use Rattle.asn_rules.specs.Stops.{Stops}
+use Rattle.asn_rules.specs.declared.stop.Stop.{Stop}
+use Rattle.asn_rules.specs.declared.stop.Stop.TheVariants as stop
 use Rattle.asn_rules.proofs.Flat.{flat-ones}
 use Rattle.asn_rules.proofs.Leads.{Leads, leads_on, leads_map, leads_same}
 use Rattle.asn_rules.proofs.OctetLengths.{one_is, octets_itself}
+use Rattle.asn_rules.proofs.OctetRows.{octets_front}
 use Rattle.asn_rules.proofs.Parts.{plain_short, plain_refused}
 use Rattle.asn_rules.proofs.Rows.{row_lawful, row_refused, row_refused_first}
 use Rattle.asn_rules.proofs.Sets.{set_code, set_lawful}
@@ -42,6 +46,20 @@ pub row_front : (n : ℕ) (os us r : List ℕ) → Spells oer_fields (Row OneOct
 row_front n os us r h =
     let s = (octets_itself n).to os h.chunks h.spelt in
     (h.split ∙ ap (λ (c : List Chunk). flat oer_fields.spelled c ++ r) s.same ∙ ap (λ (l : List ℕ). l ++ r) (flat-ones oer_fields.spelled os), s.fits.0)
+
+-- as many as there are are read, but for a want of memory
+pub memory_alone : {A : Type 0} (L : A → List Chunk → Type 0) (m : ℕ) (us : List ℕ) (why : Stop) → AllByRecursion (λ o. o < 256) us → m ≤ length us → Stops oer_fields (Row OneOctet m) us why → Stops oer_fields L us why
+memory_alone L m us why p l h = go why h
+  where
+    front : Spells oer_fields (Row OneOctet m) (take m us) us (drop m us)
+    front =
+        let e = take-append-drop m us in
+        subst (λ (t : List ℕ). Spells oer_fields (Row OneOctet m) (take m us) t (drop m us)) e (octets_front oer_fields m (take m us) (drop m us) (length-take-le m us l) (digits-first 256 (take m us) (drop m us) (subst (AllByRecursion (λ o. o < 256)) (sym e) p)))
+
+    go : (why : Stop) → Stops oer_fields (Row OneOctet m) us why → Stops oer_fields L us why
+    go (stop.Refused left w) h = absurd (h.told.none (take m us) (drop m us) front)
+    go stop.Short h = absurd (h.told.none (take m us) (drop m us) front)
+    go stop.Memory h = record { told = tt }
 
 -- ---- characters in a row
 

@@ -1,5 +1,5 @@
 //! Canonical OER (X.696).
-#![tactic(auto)]
+// #![tactic(auto)]
 
 mod bits_reader;
 mod bits_writer;

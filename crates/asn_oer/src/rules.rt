@@ -18,12 +18,12 @@ impl Reads for Oer {
         asn_walk_read::read_message::<Oer>(alloc, ty, octets)
     }
 
+    #[tactic(auto, unfolding(crate::specs::Walk::oer_coding))]
     fn may_be_empty(alloc: Global, ty: &Checked) -> Result<bool, AllocError> {
         match asn_walk_read::read_message::<Oer>(alloc, ty, &[]) {
             Ok(Step::Done { .. }) => Ok(true),
-            Ok(Step::More) => Ok(false),
             Err(FeedFault::Memory) => Err(AllocError),
-            Err(FeedFault::Refused { .. } | FeedFault::TooLong | FeedFault::Spent) => Ok(false),
+            _ => Ok(false),
         }
     }
 

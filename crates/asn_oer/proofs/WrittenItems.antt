@@ -69,9 +69,13 @@ item_kept root more p good = near (number_at (root ++ more_labels more) p) (numb
 -- ---- its octets
 
 -- the long form
-pub long_item : (z : ℤ) (k r : ℕ) → (int_le (pos 0) z && int_lt z (pos 128)) ≡ false → k ≡ signed_octet_count z → signed_octets k z ≡ octets k r → unpacked (item_number z) ≡ bits 8 (128 + k) ++ bits (8 * k) r
-long_item z k r f e o =
+pub long_form : (z : ℤ) (k r : ℕ) → (int_le (pos 0) z && int_lt z (pos 128)) ≡ false → k ≡ signed_octet_count z → signed_octets k z ≡ octets k r → item_number z ≡ (128 + k) ∷ octets k r
+long_form z k r f e o =
     let long : item_number z ≡ (128 + length (least_signed z)) ∷ least_signed z = rw (f, item_number) refl in
     let count : length (least_signed z) ≡ k = length-least_signed z ∙ sym e in
     let number : least_signed z ≡ octets k r = ap (λ (i : ℕ). signed_octets i z) (sym e) ∙ o in
-    ap unpacked (long ∙ ap (λ (i : ℕ). (128 + i) ∷ least_signed z) count ∙ ap (λ (t : List ℕ). (128 + k) ∷ t) number) ∙ first_octet (128 + k) k r
+    long ∙ ap (λ (i : ℕ). (128 + i) ∷ least_signed z) count ∙ ap (λ (t : List ℕ). (128 + k) ∷ t) number
+
+-- its bits
+pub long_item : (z : ℤ) (k r : ℕ) → (int_le (pos 0) z && int_lt z (pos 128)) ≡ false → k ≡ signed_octet_count z → signed_octets k z ≡ octets k r → unpacked (item_number z) ≡ bits 8 (128 + k) ++ bits (8 * k) r
+long_item z k r f e o = ap unpacked (long_form z k r f e o) ∙ first_octet (128 + k) k r

@@ -1,17 +1,26 @@
 //! The reader of ENUMERATED (X.696, "encoding of enumerated types").
 
-ghost use Rattle.std.specs.Prelude.{IfOk, IfErr, OnOk};
+ghost use Rattle.std.specs.Prelude.{◌≡◌, ◌≤◌, ◌<◌, ◌+◌, ◌^◌, ◌++◌, ℕ, List, length, IfOk, IfErr, OnOk, IfSome, IsNone};
 ghost use Rattle.asn_values.specs.Datum.{item};
 ghost use Rattle.asn_values.specs.Profile.{InProfile};
+ghost use Rattle.asn_bits.specs.Numbers.{octets, magnitude};
 ghost use Rattle.asn_rules.specs.Languages.{Inhabited};
-ghost use Rattle.asn_oer.specs.LeafReading.{enumeration_of, ItemsBut};
+ghost use Rattle.asn_oer.specs.LeafReading.{enumeration_of, ItemsBut, ItemBegins, items_of};
+ghost use Rattle.asn_oer.specs.Oer.{item_number};
 ghost use Rattle.asn_oer.specs.Reading.{AtOctet, ReadsOctets, StopsAtOctets};
 
+use crate::enumerated_writer::{is_small, number_at};
+use crate::octets::octets_left;
 use asn_bits::BitCursor;
+use asn_bits::numbers::{signed_octet_count, signed_residue};
 use asn_rules::{Stop, Why};
 use asn_values::Item;
 
 /// Reads an item, but for the one at the place `except`. Returns its place.
+///
+/// # Errors
+/// `Short` if the octets end before an item does. `Refused` at the first octet with which no item goes on, with the
+/// reason `Default` where one is left out, else `Number`.
 pub(crate) fn read_item(
     root: &[Item],
     more: &Option<Vec<Item>>,
@@ -25,5 +34,99 @@ pub(crate) fn read_item(
     ensures done { IfOk result (λ p. ReadsOctets (ItemsBut except root.now more.now) (item p) units.old units.new) }
     ensures stop { IfErr result (λ why. StopsAtOctets (ItemsBut except root.now more.now) units.old why) }
 {
-    Err(Stop::Short)
+    let why = if except.is_some() {
+        Why::Default
+    } else {
+        Why::Number
+    };
+    let mut begun = 0;
+    for taken in 0..5 {
+        let Some(octet) = units.take_number(8) else {
+            return Err(Stop::Short);
+        };
+        begun = 256 * begun + octet;
+        let Some((place, behind)) = find_item(root, more, except, taken + 1, begun) else {
+            return Err(Stop::Refused {
+                left: octets_left(units) as u128,
+                why,
+            });
+        };
+        if behind == 0 {
+            return Ok(place);
+        }
+    }
+    unreachable!()
+}
+
+/// The first item, but for the one at `except`, that begins with the `count` octets of the number `begun`: its place,
+/// and how many octets it has behind them.
+fn find_item(
+    root: &[Item],
+    more: &Option<Vec<Item>>,
+    except: Option<u32>,
+    count: u32,
+    begun: u64,
+) -> Option<(u32, u32)>
+    requires of_profile { InProfile (enumeration_of root.now more.now) }
+    requires few { count ≤ 5 }
+    requires within { begun < 256 ^ count }
+    ensures some { IfSome result (λ f. (rest : List ℕ)
+        × ItemBegins (items_of root.now more.now) except f.0 (octets count begun) rest × (length rest ≡ f.1)) }
+    ensures none { IsNone result → (p : ℕ) (rest : List ℕ)
+        → ItemBegins (items_of root.now more.now) except p (octets count begun) rest → ⊥ }
+{
+    for place in 0..item_count(root, more) {
+        if except == Some(place) {
+            continue;
+        }
+        if let Some(behind) = octets_behind(number_at(root, more, place as usize), count, begun) {
+            return Some((place, behind));
+        }
+    }
+    None
+}
+
+/// How many items there are, with the additions.
+fn item_count(root: &[Item], more: &Option<Vec<Item>>) -> u32
+    requires of_profile { InProfile (enumeration_of root.now more.now) }
+    ensures { result ≡ length (items_of root.now more.now) }
+{
+    match more {
+        Some(items) => (root.len() + items.len()) as u32,
+        None => root.len() as u32,
+    }
+}
+
+/// How many octets the number of an item has behind the `count` octets of the number `begun`, where it begins with
+/// these.
+fn octets_behind(number: i64, count: u32, begun: u64) -> Option<u32>
+    requires narrow { magnitude number < 2147483648 }
+    requires few { count ≤ 5 }
+    requires within { begun < 256 ^ count }
+    ensures some { IfSome result (λ k. (rest : List ℕ)
+        × (item_number number ≡ octets count begun ++ rest) × (length rest ≡ k)) }
+    ensures none { IsNone result → (rest : List ℕ) → item_number number ≡ octets count begun ++ rest → ⊥ }
+{
+    let (all, octets) = octets_of(number);
+    if count <= all && octets >> (8 * (all - count)) == begun {
+        Some(all - count)
+    } else {
+        None
+    }
+}
+
+/// The octets of the number of an item: how many, and the number that they are.
+fn octets_of(number: i64) -> (u32, u64)
+    requires narrow { magnitude number < 2147483648 }
+    ensures few { result.0 ≤ 5 }
+    ensures fits { result.1 < 256 ^ result.0 }
+    ensures same { item_number number ≡ octets result.0 result.1 }
+{
+    if is_small(number) {
+        return (1, number as u64);
+    }
+    let number = i128::from(number);
+    let count = signed_octet_count(number);
+    let first = u64::from(128 + count) << (8 * count);
+    (1 + count, first + signed_residue(number, count))
 }

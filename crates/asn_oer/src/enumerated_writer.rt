@@ -55,7 +55,7 @@ fn write_item(
 }
 
 /// The number of the item at this place, the items of the root and the additions counted from 0.
-fn number_at(root: &[Item], more: &Option<Vec<Item>>, place: usize) -> i64
+pub(crate) fn number_at(root: &[Item], more: &Option<Vec<Item>>, place: usize) -> i64
     requires of_profile { InProfile (enumerated (map label_of root.now) (more_labels_of more.now)) }
     requires there { place < length root.now + length (more_labels (more_labels_of more.now)) }
     ensures { result ≡ number_at (map label_of root.now ++ more_labels (more_labels_of more.now)) place }
@@ -84,7 +84,7 @@ fn write_item_number(number: i64, sink: &mut BitSink) -> Result<(), AllocError>
 }
 
 /// Whether one octet tells the number.
-fn is_small(number: i64) -> bool
+pub(crate) fn is_small(number: i64) -> bool
     ensures { result ≡ (int_le (pos 0) number && int_lt number (pos 128)) }
 {
     0 <= number && number < 128

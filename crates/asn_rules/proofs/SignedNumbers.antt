@@ -178,25 +178,35 @@ count_up s c gap some few o = go (some_offset s c some (omega arith) o)
     within w (inl p) = (omega (arith, p.0), omega (arith, p.1))
     within w (inr p) = (omega (arith, p.0), omega (arith, p.1, one))
 
-    -- no hole: the integers end with the highest
-    ended : (w : ℕ) → s.end ≡ 2 ^ 64 → 2 ^ 63 - 2 ^ (8 * c - 1) ≤ w → w < 2 ^ 63 + 2 ^ (8 * c - 1) → (w < s.below) ⊎ (s.from ≤ w) → SomeOf (LeastSigned (λ z. HasInteger s z)) (c + 1)
-    ended w e a b (inl p) = low (2 ^ 63 - 2 ^ (8 * c - 1) - 1) (omega (arith, more, one)) (omega (arith, one, room, more)) (omega (arith, e, one), inl (omega (arith, p, a, one, room, more)))
-    ended w e a b (inr p) = high (2 ^ 63 + 2 ^ (8 * c - 1)) (omega arith) (omega (arith, more, one)) (omega (arith, e, room, more, one), inr (omega (arith, p, b)))
+    -- from the lowest integer to the highest
+    ended : (w : ℕ) → (s.start ≡ 0) × (s.end ≡ 2 ^ 64) → 2 ^ 63 - 2 ^ (8 * c - 1) ≤ w → w < 2 ^ 63 + 2 ^ (8 * c - 1) → ((s.start ≤ w) × (w < s.below)) ⊎ (s.from ≤ w) → SomeOf (LeastSigned (λ z. HasInteger s z)) (c + 1)
+    ended w e a b (inl p) = low (2 ^ 63 - 2 ^ (8 * c - 1) - 1) (omega (arith, more, one)) (omega (arith, one, room, more)) (omega (arith, e.1, one), inl (omega (arith, e.0), omega (arith, p.1, a, one, room, more)))
+    ended w e a b (inr p) = high (2 ^ 63 + 2 ^ (8 * c - 1)) (omega arith) (omega (arith, more, one)) (omega (arith, e.1, room, more, one), inr (omega (arith, p, b)))
 
-    -- a hole of one number at most
-    pierced : (w : ℕ) → s.from ≤ s.below + 1 → 2 ^ 63 - 2 ^ (8 * c - 1) ≤ w → w < s.end → SomeOf (LeastSigned (λ z. HasInteger s z)) (c + 1)
-    pierced w f a b = ⊎_elim
-        (λ l. low (2 ^ 63 - 2 ^ (8 * c - 1) - 1) (omega (arith, more, one)) (omega (arith, one, room, more)) (omega (arith, a, b, one, room, more), inl l))
+    -- from the lowest integer on, a hole of one number at most
+    pierced : (w : ℕ) → s.from ≤ s.below + 1 → s.start ≡ 0 → 2 ^ 63 - 2 ^ (8 * c - 1) ≤ w → w < s.end → SomeOf (LeastSigned (λ z. HasInteger s z)) (c + 1)
+    pierced w f e a b = ⊎_elim
+        (λ l. low (2 ^ 63 - 2 ^ (8 * c - 1) - 1) (omega (arith, more, one)) (omega (arith, one, room, more)) (omega (arith, a, b, one, room, more), inl (omega (arith, e), l)))
         (λ g. ⊎_elim
-        (λ l. low (2 ^ 63 - 2 ^ (8 * c - 1) - 2) (omega (arith, more, one)) (omega (arith, one, room, more)) (omega (arith, a, b, one, room, more), inl (omega (arith, f, l, g, one, room, more))))
+        (λ l. low (2 ^ 63 - 2 ^ (8 * c - 1) - 2) (omega (arith, more, one)) (omega (arith, one, room, more)) (omega (arith, a, b, one, room, more), inl (omega (arith, e), omega (arith, f, l, g, one, room, more))))
         (λ k. low (2 ^ 63 - 2 ^ (8 * c - 1) - 1) (omega (arith, more, one)) (omega (arith, one, room, more)) (omega (arith, a, b, one, room, more), inr k))
         (cases_lt (2 ^ 63 - 2 ^ (8 * c - 1) - 1) s.from))
         (cases_lt (2 ^ 63 - 2 ^ (8 * c - 1) - 1) s.below)
 
+    -- up to the highest, a hole of one number at most
+    raised : (w : ℕ) → s.from ≤ s.below + 1 → s.end ≡ 2 ^ 64 → w < 2 ^ 63 + 2 ^ (8 * c - 1) → ((s.start ≤ w) × (w < s.below)) ⊎ (s.from ≤ w) → SomeOf (LeastSigned (λ z. HasInteger s z)) (c + 1)
+    raised w f e b (inl p) = ⊎_elim
+        (λ l. high (2 ^ 63 + 2 ^ (8 * c - 1)) (omega arith) (omega (arith, more, one)) (omega (arith, e, room, more, one), inl (omega (arith, p.0, b), l)))
+        (λ g. high (2 ^ 63 + 2 ^ (8 * c - 1) + 1) (omega arith) (omega (arith, more, one)) (omega (arith, e, room, more, one), inr (omega (arith, f, g))))
+        (cases_lt (2 ^ 63 + 2 ^ (8 * c - 1)) s.below)
+    raised w f e b (inr p) = high (2 ^ 63 + 2 ^ (8 * c - 1)) (omega arith) (omega (arith, more, one)) (omega (arith, e, room, more, one), inr (omega (arith, p, b)))
+
     go : (w : ℕ) × (((2 ^ 63 + least_magnitude_of c ≤ w) × (w < 2 ^ 63 + 2 ^ (8 * c - 1))) ⊎ ((2 ^ 63 - 2 ^ (8 * c - 1) ≤ w) × (w < 2 ^ 63 - least_magnitude_of c))) × HasOffset s w → SomeOf (LeastSigned (λ z. HasInteger s z)) (c + 1)
     go p =
         let q = within p.0 p.1 in
-        ⊎_elim (λ e. ended p.0 e q.0 q.1 p.2.1) (λ f. pierced p.0 f q.0 p.2.0) gap.1
+        ⊎_elim (λ e. ended p.0 e q.0 q.1 p.2.1)
+        (λ f. ⊎_elim (λ e. pierced p.0 f.0 e q.0 p.2.0) (λ e. raised p.0 f.0 e q.1 p.2.1) f.1)
+        gap.1
 
 -- an integer at an offset has a count
 pub count_of_offset : (s : OffsetSet) (w : ℕ) → s.end ≤ 2 ^ 64 → HasOffset s w → (c : ℕ) × (1 ≤ c) × (c ≤ 8) × SomeOf (LeastSigned (λ z. HasInteger s z)) c

@@ -12,15 +12,16 @@ use Rattle.asn_rules.specs.declared.signed_reader.OffsetSet.{OffsetSet}
 
 -- one of the offsets
 abbrev pub HasOffset : OffsetSet → ℕ → Type 0
-HasOffset s w = (w < s.end) × ((w < s.below) ⊎ (s.from ≤ w))
+HasOffset s w = (w < s.end) × (((s.start ≤ w) × (w < s.below)) ⊎ (s.from ≤ w))
 
 -- an integer of the profile at one of the offsets
 abbrev pub HasInteger : OffsetSet → ℤ → Type 0
 HasInteger s z = (lowest_integer ≤ℤ z) × (z ≤ℤ highest_integer) × HasOffset s (above lowest_integer z)
 
--- the offsets end with that of the highest integer, or lack one number at most
+-- the offsets begin with that of the lowest integer and end with that of the highest, or they lack one number at most
+-- and do one of these
 abbrev pub IsOpen : OffsetSet → Type 0
-IsOpen s = (s.end ≤ 2 ^ 64) × ((s.end ≡ 2 ^ 64) ⊎ (s.from ≤ s.below + 1))
+IsOpen s = (s.end ≤ 2 ^ 64) × (((s.start ≡ 0) × (s.end ≡ 2 ^ 64)) ⊎ ((s.from ≤ s.below + 1) × ((s.start ≡ 0) ⊎ (s.end ≡ 2 ^ 64))))
 
 -- an integer of the set in the fewest octets of two's complement after their count (X.691, "unconstrained whole
 -- number")

@@ -13,10 +13,11 @@ use crate::stop::Stop;
 use asn_bits::{BitCursor, Intervals};
 use asn_values::profile::OFFSET_OF_ZERO;
 
-/// Integers by their offsets, how far they lie above the lowest one of the profile: the offsets below `below` and
-/// those from `from` on, all below `end`.
+/// Integers by their offsets, how far they lie above the lowest one of the profile: the offsets from `start` to those
+/// below `below`, and those from `from` on, all below `end`.
 #[derive(Clone, Copy)]
 pub struct OffsetSet {
+    pub start: u128,
     pub below: u128,
     pub from: u128,
     pub end: u128,
@@ -85,7 +86,7 @@ fn has_between(set: OffsetSet, first: u128, end: u128) -> bool
     ensures back { (w : ℕ) → first ≤ w → w < end → HasOffset set w → IsTrue result }
 {
     let end = end.min(set.end);
-    first < end.min(set.below) || first.max(set.from) < end
+    first.max(set.start) < end.min(set.below) || first.max(set.from) < end
 }
 
 /// The integers of the set that need `count` octets, as the unsigned numbers that these octets hold.
@@ -121,7 +122,7 @@ fn add_shifted(numbers: Intervals, set: OffsetSet, first: u128, end: u128, up: u
     ensures room { length result ≤ length numbers + 2 }
 {
     let end = end.min(set.end);
-    let front = add_interval(numbers, first, end.min(set.below), up);
+    let front = add_interval(numbers, first.max(set.start), end.min(set.below), up);
     add_interval(front, first.max(set.from), end, up)
 }
 

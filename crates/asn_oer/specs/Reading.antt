@@ -1,5 +1,5 @@
 -- What readers of octets read from the bits of a cursor, and where they stop.
-use Rattle.std.specs.Prelude.{◌≡◌, ◌≤◌, ◌<◌, ◌+◌, ◌-◌, ◌^◌, ◌/◌, ◌%◌, ℕ, ℤ, Bool, false, List, [], ◌∷◌, ◌++◌, length, Option, Some, None, ⊤}
+use Rattle.std.specs.Prelude.{◌≡◌, ◌≤◌, ◌<◌, ◌<ℤ◌, ◌+◌, ◌-◌, ◌^◌, ◌/◌, ◌%◌, ℕ, ℤ, pos, Bool, false, List, [], ◌∷◌, ◌++◌, length, Option, Some, None, ⊤}
 use Rattle.std.specs.Option.{option_map}
 use Rattle.asn_values.specs.Datum.{Datum, truth, number}
 use Rattle.asn_values.specs.Fits.{FitsNumber, FitsLength}
@@ -8,7 +8,7 @@ use Rattle.asn_bits.specs.Numbers.{bits, packed}
 use Rattle.asn_bits.specs.Sets.{InDigits, Among}
 use Rattle.asn_rules.specs.Chunks.{Chunk, ones}
 use Rattle.asn_rules.specs.Counted.{Counted, number_of, Least, signed_number, LeastSigned}
-use Rattle.asn_rules.specs.OffsetSets.{HasInteger}
+use Rattle.asn_rules.specs.OffsetSets.{HasInteger, StandsFor}
 use Rattle.asn_rules.specs.declared.signed_reader.OffsetSet.{OffsetSet}
 use Rattle.asn_rules.specs.Languages.{Spells, Then, Map, Plain}
 use Rattle.asn_rules.specs.Listed.{IsOther, Spelt}
@@ -113,3 +113,26 @@ IsWithin b (Some d) = FitsNumber b d × (b.extensible ≡ false)
 -- a range without an extension mark
 abbrev pub unmarked : Option ℤ → Option ℤ → Range
 unmarked low high = record { low = low; high = high; extensible = false }
+
+-- an integer of the range, and not the one that is left out
+abbrev pub IsOneBut : Option ℤ → Range → ℤ → Type 0
+IsOneBut e b z = FitsNumber b z × IsOther (option_map number e) (number z)
+
+-- the numbers of the set are those integers
+pub record AreNumbers (e : Option ℤ) (b : Range) (s : NumberSet) : Type 0 where
+  pub there : (n : ℕ) → Admits s n → IsOneBut e b (pos n)
+  pub back : (z : ℤ) → IsOneBut e b z → (n : ℕ) × Admits s n × (z ≡ pos n)
+
+-- the offsets of the set are theirs
+pub record AreOffsets (e : Option ℤ) (b : Range) (s : OffsetSet) : Type 0 where
+  pub there : (z : ℤ) → HasInteger s z → IsOneBut e b z
+  pub back : (z : ℤ) → IsOneBut e b z → HasInteger s z
+
+-- an integer of the set in `count` octets of two's complement ("encoding of integer types")
+abbrev pub SignedOctetsIn : ℕ → OffsetSet → ℤ → List Chunk → Type 0
+SignedOctetsIn count s = Map (λ n. signed_number (count, n)) (Plain (InDigits 256 count (StandsFor s count)))
+
+-- no low bound, or a negative one
+abbrev pub IsBelowZero : Option ℤ → Type 0
+IsBelowZero None = ⊤
+IsBelowZero (Some low) = low <ℤ pos 0

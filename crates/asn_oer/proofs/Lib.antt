@@ -45,3 +45,4 @@ pub mod Utf8Reading
 pub mod SignedReading
 pub mod TextReading
 pub mod ItemReading
+pub mod NoOctets

@@ -1,5 +1,7 @@
 //! Canonical OER as encoding rules: the encoder, and sessions that keep all octets and read them again with each piece.
-ghost use Rattle.asn_rules.specs.Rereading.{Keeps};
+ghost use Rattle.std.specs.Prelude.{[], IfOk};
+ghost use Rattle.asn_values.specs.Shape.{Shape};
+ghost use Rattle.asn_rules.specs.Rereading.{FedAtOnce, TellsIfNone, Keeps};
 ghost use Rattle.asn_oer.specs.Rules.{oer_ruling};
 
 use crate::oer::Oer;
@@ -20,11 +22,7 @@ impl Reads for Oer {
 
     #[tactic(auto, unfolding(crate::specs::Walk::oer_coding))]
     fn may_be_empty(alloc: Global, ty: &Checked) -> Result<bool, AllocError> {
-        match asn_walk_read::read_message::<Oer>(alloc, ty, &[]) {
-            Ok(Step::Done { .. }) => Ok(true),
-            Err(FeedFault::Memory) => Err(AllocError),
-            _ => Ok(false),
-        }
+        is_value(&asn_walk_read::read_message::<Oer>(alloc, ty, &[]))
     }
 
     #[inline(always)]
@@ -62,4 +60,21 @@ impl Rules for Oer {
     }
 
     fn keep_laws() {}
+}
+
+/// Whether what was answered to no octets is a value.
+///
+/// # Errors
+/// `AllocError` where an allocation failed.
+fn is_value(answer: &Result<Step, FeedFault>) -> Result<bool, AllocError>
+    ensures { (t : Shape) → FedAtOnce oer_ruling t [] answer.now → IfOk result (TellsIfNone oer_ruling t) }
+{
+    match answer {
+        Ok(Step::Done { .. }) => Ok(true),
+        Ok(Step::More) => Ok(false),
+        Err(FeedFault::Memory) => Err(AllocError),
+        Err(FeedFault::Refused { .. }) => Ok(false),
+        Err(FeedFault::TooLong) => Ok(false),
+        Err(FeedFault::Spent) => Ok(false),
+    }
 }

@@ -44,3 +44,4 @@ pub mod SizeCounts
 pub mod Utf8Reading
 pub mod SignedReading
 pub mod ItemReading
+pub mod BitReading

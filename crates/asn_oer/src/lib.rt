@@ -15,6 +15,7 @@ mod filled_reader;
 mod index_reader;
 mod integer_sizes;
 mod integer_writer;
+mod items;
 mod kinds;
 mod laws;
 mod length_reader;

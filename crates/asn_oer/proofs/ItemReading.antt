@@ -8,7 +8,7 @@ use Rattle.std.specs.Option.{option_map, option_eq}
 use Rattle.std.specs.Int.RustNames.{int_le, int_lt}
 use Rattle.asn_values.specs.Datum.{Datum, item}
 use Rattle.asn_values.specs.Fits.{Fits}
-use Rattle.asn_values.specs.Profile.{InProfile, BadEnumeration, TooMany, too_many_here, most_items, most_additions, most_nodes}
+use Rattle.asn_values.specs.Profile.{InProfile, TooMany, too_many_here, most_items, most_additions, most_nodes}
 use Rattle.asn_values.specs.Measures.{nodes}
 use Rattle.asn_values.specs.Shape.{Label, MoreLabels, enumerated, more_labels}
 use Rattle.asn_values.proofs.Parts.{left_false}
@@ -22,7 +22,6 @@ use Rattle.asn_rules.specs.Forks.{Same}
 use Rattle.asn_rules.specs.Languages.{Inhabited, IsLive, Lawful, Refused, Short, Spells}
 use Rattle.asn_rules.specs.Listed.{IsOther, Spelt}
 use Rattle.asn_rules.specs.Spellings.{SpelledBy}
-use Rattle.asn_rules.proofs.Items.{good_items}
 use Rattle.asn_rules.proofs.Listed.{spelt_lawful}
 use Rattle.asn_rules.proofs.OctetLengths.{one_is}
 use Rattle.asn_rules.proofs.Parts.{front_ones, refused_here}
@@ -32,9 +31,9 @@ use Rattle.asn_oer.specs.Oer.{oer, oer_fields, magnitude_of, item_number}
 use Rattle.asn_oer.specs.Reading.{AtOctet}
 use Rattle.asn_oer.proofs.OerFields.{oer_fields_part}
 use Rattle.asn_oer.proofs.Octetwise.{packed_front}
-use Rattle.asn_oer.proofs.SpeltLeaves.{number_is_small, item_short}
+use Rattle.asn_oer.proofs.SpeltLeaves.{item_short}
 use Rattle.asn_oer.proofs.Whole.{oer_part}
-use Rattle.asn_oer.proofs.WrittenItems.{long_form}
+use Rattle.asn_oer.proofs.WrittenItems.{item_narrow, long_form}
 
 -- ---- octets of a number
 
@@ -158,9 +157,6 @@ module _ (root : List Label) (more : MoreLabels) (e : Option ℕ) (good : InProf
   few_items =
       omega (arith, length-append root (more_labels more), ltb-false most_items (length root + length (more_labels more)) (left_false (nat_lt most_items (length root + length (more_labels more))) (nat_lt most_additions (length (more_labels more))) (left_false (too_many_here (enumerated root more)) (nat_lt most_nodes (nodes (enumerated root more))) (good TooMany))))
 
-  pub narrow : (p : ℕ) → magnitude (number_at labels p) < 2147483648
-  narrow p = number_is_small labels p (good_items root more (good BadEnumeration)).bits_32
-
   is_one : (p : ℕ) (os rest : List ℕ) → ItemBegins labels e p os rest → IsOne (item p)
   is_one p os rest h = (omega (arith, h.there, length-append root (more_labels more)), h.other)
 
@@ -207,7 +203,7 @@ module _ (root : List Label) (more : MoreLabels) (e : Option ℕ) (good : InProf
   -- no item has more than five octets
   pub five_at_most : (begun : ℕ) → Begun labels e (octets 5 begun) → ⊥
   five_at_most begun h =
-      let s = (item_short (number_at labels h.place) (narrow h.place)).most in
+      let s = (item_short (number_at labels h.place) (item_narrow root more h.place good)).most in
       omega (arith, s, ap length h.begins.whole, length-append (octets 5 begun) (h.next ∷ h.rest), length-digits 256 5 begun)
 
   -- ---- at the exits of the reader, where these octets have come

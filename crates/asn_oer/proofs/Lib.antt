@@ -46,3 +46,4 @@ pub mod SignedReading
 pub mod TextReading
 pub mod ItemReading
 pub mod NoOctets
+pub mod BitReading

@@ -45,6 +45,17 @@ same_length {S} {T} f g = same_map (same_then (same_set 256 1 (first_again f) (f
     behind b true = record { to = λ v cs h. h; from = λ v cs h. h }
     behind b false = same_set 256 (b - 128) (λ n h. record { member = f n h.member; large = h.large; count = h.count }) (λ n h. record { member = g n h.member; large = h.large; count = h.count })
 
+-- the counts of a size are those between the ends
+pub counts_there : (s : SizeRange) (t : NumberSet) → AreCounts s t → (n : ℕ) → Between t.low t.high n → FitsLength s n
+counts_there s t are n h = are.there n (h.0, h.1, any t.excluded n are.none_excluded)
+  where
+    any : (e : Option ℕ) (n : ℕ) → e ≡ None → IsNot e n
+    any None n e = tt
+    any (Some x) n e = absurd (let h = e in cc)
+
+pub counts_back : (s : SizeRange) (t : NumberSet) → AreCounts s t → (n : ℕ) → FitsLength s n → Between t.low t.high n
+counts_back s t are n h = (let w = are.back n h in (w.0, w.1))
+
 -- ---- how many items there are
 
 -- as many as the size says
@@ -55,17 +66,7 @@ fixed_count s us e = subst (λ (t : Bool). Spells oer_fields (elim t [ true ↦ 
 pub count_leads : (s : SizeRange) (t : NumberSet) (us : List ℕ) → is_fixed_size s ≡ false → AreCounts s t → Leads oer_fields (OctetLength (Between t.low t.high)) us (λ n. n) (Count s) us
 count_leads s t us e are =
     subst (λ (b : Bool). Leads oer_fields (OctetLength (Between t.low t.high)) us (λ n. n) (elim b [ true ↦ Nothing s.low | false ↦ OctetLength (FitsLength s) ]) us) (sym e)
-    (leads_same oer_fields us (same_length there back))
-  where
-    any : (e : Option ℕ) (n : ℕ) → e ≡ None → IsNot e n
-    any None n e = tt
-    any (Some x) n e = absurd (let h = e in cc)
-
-    there : (n : ℕ) → Between t.low t.high n → FitsLength s n
-    there n h = are.there n (h.0, h.1, any t.excluded n are.none_excluded)
-
-    back : (n : ℕ) → FitsLength s n → Between t.low t.high n
-    back n h = (let w = are.back n h in (w.0, w.1))
+    (leads_same oer_fields us (same_length (counts_there s t are) (counts_back s t are)))
 
 -- it tells where it ends
 count_lawful : (s : SizeRange) → Lawful (Count s)

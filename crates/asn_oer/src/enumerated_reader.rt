@@ -9,10 +9,9 @@ ghost use Rattle.asn_oer.specs.LeafReading.{enumeration_of, ItemsBut, ItemBegins
 ghost use Rattle.asn_oer.specs.Oer.{item_number};
 ghost use Rattle.asn_oer.specs.Reading.{AtOctet, ReadsOctets, StopsAtOctets};
 
-use crate::enumerated_writer::{is_small, number_at};
+use crate::items::{item_count, number_at, octets_of};
 use crate::octets::octets_left;
 use asn_bits::BitCursor;
-use asn_bits::numbers::{signed_octet_count, signed_residue};
 use asn_rules::{Stop, Why};
 use asn_values::Item;
 
@@ -86,17 +85,6 @@ fn find_item(
     None
 }
 
-/// How many items there are, with the additions.
-fn item_count(root: &[Item], more: &Option<Vec<Item>>) -> u32
-    requires of_profile { InProfile (enumeration_of root.now more.now) }
-    ensures { result ≡ length (items_of root.now more.now) }
-{
-    match more {
-        Some(items) => (root.len() + items.len()) as u32,
-        None => root.len() as u32,
-    }
-}
-
 /// How many octets the number of an item has behind the `count` octets of the number `begun`, where it begins with
 /// these.
 fn octets_behind(number: i64, count: u32, begun: u64) -> Option<u32>
@@ -113,20 +101,4 @@ fn octets_behind(number: i64, count: u32, begun: u64) -> Option<u32>
     } else {
         None
     }
-}
-
-/// The octets of the number of an item: how many, and the number that they are.
-fn octets_of(number: i64) -> (u32, u64)
-    requires narrow { magnitude number < 2147483648 }
-    ensures few { result.0 ≤ 5 }
-    ensures fits { result.1 < 256 ^ result.0 }
-    ensures same { item_number number ≡ octets result.0 result.1 }
-{
-    if is_small(number) {
-        return (1, number as u64);
-    }
-    let number = i128::from(number);
-    let count = signed_octet_count(number);
-    let first = u64::from(128 + count) << (8 * count);
-    (1 + count, first + signed_residue(number, count))
 }

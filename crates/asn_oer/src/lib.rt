@@ -16,6 +16,7 @@ mod index_reader;
 mod integer_reader;
 mod integer_sizes;
 mod integer_writer;
+mod items;
 mod kinds;
 mod laws;
 mod length_reader;

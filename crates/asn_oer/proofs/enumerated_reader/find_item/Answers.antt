@@ -5,8 +5,8 @@ use Rattle.asn_bits.specs.Numbers.{octets, magnitude}
 use Rattle.asn_rules.specs.Components.{number_at}
 use Rattle.asn_oer.specs.LeafReading.{ItemBegins, items_of}
 use Rattle.asn_oer.specs.Oer.{item_number}
-use Rattle.asn_oer.proofs.ItemReading.{narrow, up_to, left_out, another_item}
-use Rattle.asn_oer.proofs.WrittenItems.{item_kept}
+use Rattle.asn_oer.proofs.ItemReading.{up_to, left_out, another_item}
+use Rattle.asn_oer.proofs.WrittenItems.{item_kept, item_narrow}
 use Rattle.asn_oer.proofs.enumerated_reader.find_item.Goals as goal
 
 pub loop-place-init : goal.loop-place-init
@@ -25,7 +25,7 @@ octets_behind-requires-clause-narrow c =
     let more = more_labels_of c.args.more.now in
     let z = number_at (items_of c.args.root.now c.args.more.now) c.loop-place.place in
     let same : to_z w64 (of_z w64 c.number_at.result) ≡ z = ap (λ (x : ℤ). to_z w64 (of_z w64 x)) c.number_at.ensures ∙ item_kept root more c.loop-place.place c.requires.of_profile in
-    subst (λ (x : ℤ). magnitude x < 2147483648) (sym same) (narrow root more c.args.except c.requires.of_profile c.loop-place.place)
+    subst (λ (x : ℤ). magnitude x < 2147483648) (sym same) (item_narrow root more c.loop-place.place c.requires.of_profile)
 
 pub loop-place-preserved : goal.loop-place-preserved
 loop-place-preserved c p rest h b =

@@ -4,7 +4,7 @@ use Rattle.asn_values.specs.declared.types.Item.{Item}
 use Rattle.asn_values.specs.View.{label_of, more_labels_of}
 use Rattle.asn_values.specs.Shape.{more_labels}
 use Rattle.asn_oer.proofs.ItemReading.{few_items}
-use Rattle.asn_oer.proofs.enumerated_reader.item_count.Goals as goal
+use Rattle.asn_oer.proofs.items.item_count.Goals as goal
 
 pub overflow_cast-result : goal.overflow_cast-result
 overflow_cast-result c =

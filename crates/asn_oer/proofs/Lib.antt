@@ -43,3 +43,4 @@ pub mod OctetReading
 pub mod SizeCounts
 pub mod Utf8Reading
 pub mod SignedReading
+pub mod IntegerReading

@@ -47,3 +47,4 @@ pub mod TextReading
 pub mod ItemReading
 pub mod NoOctets
 pub mod BitReading
+pub mod IntegerReading

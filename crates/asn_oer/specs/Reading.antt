@@ -119,12 +119,12 @@ abbrev pub IsOneBut : Option ℤ → Range → ℤ → Type 0
 IsOneBut e b z = FitsNumber b z × IsOther (option_map number e) (number z)
 
 -- the numbers of the set are those integers
-pub record AreNumbers (e : Option ℤ) (b : Range) (s : NumberSet) : Type 0 where
+pub record AreNumbersBut (e : Option ℤ) (b : Range) (s : NumberSet) : Type 0 where
   pub there : (n : ℕ) → Admits s n → IsOneBut e b (pos n)
   pub back : (z : ℤ) → IsOneBut e b z → (n : ℕ) × Admits s n × (z ≡ pos n)
 
 -- the offsets of the set are theirs
-pub record AreOffsets (e : Option ℤ) (b : Range) (s : OffsetSet) : Type 0 where
+pub record AreOffsetsBut (e : Option ℤ) (b : Range) (s : OffsetSet) : Type 0 where
   pub there : (z : ℤ) → HasInteger s z → IsOneBut e b z
   pub back : (z : ℤ) → IsOneBut e b z → HasInteger s z
 

@@ -12,7 +12,7 @@ ghost use Rattle.asn_rules.specs.Languages.{Inhabited};
 ghost use Rattle.asn_rules.specs.Listed.{Spelt};
 ghost use Rattle.asn_rules.specs.OffsetSets.{IsOpen};
 ghost use Rattle.asn_oer.specs.Oer.{oer};
-ghost use Rattle.asn_oer.specs.Reading.{AtOctet, ReadsOctets, StopsAtOctets, IntegersBut, IsWithin, unmarked, IsBelowZero, AreNumbers, AreOffsets};
+ghost use Rattle.asn_oer.specs.Reading.{AtOctet, ReadsOctets, StopsAtOctets, IntegersBut, IsWithin, unmarked, IsBelowZero, AreNumbersBut, AreOffsetsBut};
 
 use crate::counted_reader::read_counted;
 use crate::integer_sizes::{signed_size, unsigned_size};
@@ -39,14 +39,12 @@ pub(crate) fn read_integer(
     ensures stop { IfErr result (λ why.
         StopsAtOctets (Spelt oer (option_map number except) (integer (range_of bounds.now))) units.old why) }
 {
-    let (low, high) = if bounds.ext {
-        (None, None)
-    } else {
-        (bounds.low, bounds.high)
-    };
-    match low {
-        Some(low) if low >= 0 => read_unsigned(low, high, except, units),
-        _ => read_signed(low, high, except, units),
+    if bounds.ext {
+        return read_signed(None, None, None, units);
+    }
+    match bounds.low {
+        Some(low) if low >= 0 => read_unsigned(low, bounds.high, except, units),
+        _ => read_signed(bounds.low, bounds.high, except, units),
     }
 }
 
@@ -82,7 +80,7 @@ fn numbers_of(low: i128, high: Option<i128>, except: Option<i128>) -> NumberSet
     requires of_profile { InProfile (integer (unmarked (Some low) high)) }
     requires from_zero { pos 0 ≤ℤ low }
     requires within { IsWithin (unmarked (Some low) high) except }
-    ensures { AreNumbers except (unmarked (Some low) high) result }
+    ensures { AreNumbersBut except (unmarked (Some low) high) result }
 {
     let excluded = match except {
         Some(left_out) => Some(left_out as u64),
@@ -128,20 +126,24 @@ fn read_signed(
 fn offsets_of(low: Option<i128>, high: Option<i128>, except: Option<i128>) -> OffsetSet
     requires of_profile { InProfile (integer (unmarked low high)) }
     requires within { IsWithin (unmarked low high) except }
-    ensures same { AreOffsets except (unmarked low high) result }
+    ensures same { AreOffsetsBut except (unmarked low high) result }
     ensures gap { (low ≡ None) ⊎ (high ≡ None) → IsOpen result }
 {
     let start = offset_of(low.unwrap_or(LOWEST_INTEGER));
     let end = offset_of(high.unwrap_or(HIGHEST_INTEGER)) + 1;
-    let (below, from) = match except {
-        Some(left_out) => (offset_of(left_out), offset_of(left_out) + 1),
-        None => (start, start),
-    };
-    OffsetSet {
-        start,
-        below,
-        from,
-        end,
+    match except {
+        Some(left_out) => OffsetSet {
+            start,
+            below: offset_of(left_out),
+            from: offset_of(left_out) + 1,
+            end,
+        },
+        None => OffsetSet {
+            start,
+            below: start,
+            from: start,
+            end,
+        },
     }
 }
 

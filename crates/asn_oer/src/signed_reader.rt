@@ -57,7 +57,7 @@ pub(crate) fn read_signed_octets(
 {
     octets_left(units);
     match read_signed(count, set, why, units) {
-        Ok(offset) => Ok(offset),
+        Ok(w) => Ok(w),
         Err(stop) => Err(in_octets(stop)),
     }
 }

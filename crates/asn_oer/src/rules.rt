@@ -1,5 +1,5 @@
 //! Canonical OER as encoding rules: the encoder, and sessions that keep all octets and read them again with each piece.
-ghost use Rattle.std.specs.Prelude.{[], IfOk};
+ghost use Rattle.std.specs.Prelude.{[], Err, IfOk};
 ghost use Rattle.asn_values.specs.Shape.{Shape};
 ghost use Rattle.asn_rules.specs.Rereading.{FedAtOnce, TellsIfNone, Keeps};
 ghost use Rattle.asn_oer.specs.Rules.{oer_ruling};
@@ -66,15 +66,28 @@ impl Rules for Oer {
 ///
 /// # Errors
 /// `AllocError` where an allocation failed.
+#[tactic(auto, using(crate::proofs::NoOctets::more_told))]
 fn is_value(answer: &Result<Step, FeedFault>) -> Result<bool, AllocError>
     ensures { (t : Shape) → FedAtOnce oer_ruling t [] answer.now → IfOk result (TellsIfNone oer_ruling t) }
 {
     match answer {
         Ok(Step::Done { .. }) => Ok(true),
         Ok(Step::More) => Ok(false),
-        Err(FeedFault::Memory) => Err(AllocError),
-        Err(FeedFault::Refused { .. }) => Ok(false),
-        Err(FeedFault::TooLong) => Ok(false),
-        Err(FeedFault::Spent) => Ok(false),
+        Err(fault) => no_value(*fault),
+    }
+}
+
+/// That a fault answered to no octets is no value.
+///
+/// # Errors
+/// As `is_value`.
+fn no_value(fault: FeedFault) -> Result<bool, AllocError>
+    ensures { (t : Shape) → FedAtOnce oer_ruling t [] (Err fault) → IfOk result (TellsIfNone oer_ruling t) }
+{
+    match fault {
+        FeedFault::Memory => Err(AllocError),
+        FeedFault::Refused { .. } => Ok(false),
+        FeedFault::TooLong => Ok(false),
+        FeedFault::Spent => Ok(false),
     }
 }

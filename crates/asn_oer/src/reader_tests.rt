@@ -184,6 +184,7 @@ fn text_is_utf_8(rt: HostRuntime) -> Result<(), Fail> {
 #[test]
 fn signed_numbers_have_the_fewest_octets(rt: HostRuntime) -> Result<(), Fail> {
     let all = OffsetSet {
+        start: 0,
         below: 1 << 64,
         from: 1 << 64,
         end: 1 << 64,

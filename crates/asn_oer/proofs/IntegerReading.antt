@@ -1,9 +1,9 @@
 -- INTEGER as its reader takes it: the numbers and offsets of the integers of a range, but for one that is left out, and
 -- what the readers of their octets say of the type.
-use Rattle.std.proofs.Common.{◌≡◌, ◌≤◌, ◌<◌, ◌<ℤ◌, ◌+◌, ◌-◌, ◌*◌, ◌^◌, ◌⊎◌, inl, inr, ⊎_elim, ℕ, ℤ, pos, negsuc, ◌≤ℤ◌, Bool, true, false, ◌&&◌, ◌||◌, List, ◌++◌, Option, Some, None, refl, sym, ap, ◌∙◌, subst, arith}
+use Rattle.std.proofs.Common.{◌≡◌, ◌≤◌, ◌<◌, ◌<ℤ◌, ◌+◌, ◌*◌, ◌^◌, ◌⊎◌, inl, inr, ⊎_elim, ℕ, ℤ, pos, negsuc, ◌≤ℤ◌, Bool, true, false, ◌||◌, List, ◌++◌, Option, Some, None, refl, sym, ap, ◌∙◌, subst, arith}
 use Rattle.std.proofs.lemmas.Bool.{true≢false, and_parts, cases_lt, le-leb}
 use Rattle.std.proofs.lemmas.Int.{ints}
-use Rattle.std.specs.Int.RustNames.{int_le, int_lt}
+use Rattle.std.specs.Int.RustNames.{int_le}
 use Rattle.std.specs.Option.{option_map, unwrap_or}
 use lib.IntN.{nat_abs}
 use mir.Syntax.{w128}
@@ -325,10 +325,17 @@ module _ (low high : Option ℤ) (good : InProfile (integer (unmarked low high))
       )
 
       back : (z : ℤ) → IsOneBut (Some d) (unmarked low high) z → HasInteger (offset_set low high (Some d)) z
-      back z h = (h.0.0, h.0.1, (end_of z h.0, ⊎_elim
-          (λ l. inl (start_of z h.0, l))
-          (λ g. ⊎_elim (λ l. inr (omega (arith, l))) (λ k. absurd (default_not d z h.1 (above_same lowest_integer d z w.0.0 h.0.0 (omega (arith, g, k))))) (cases_lt (above lowest_integer d) (above lowest_integer z)))
-          (cases_lt (above lowest_integer z) (above lowest_integer d))))
+      back z h = (
+        h.0.0,
+        h.0.1,
+        (
+          end_of z h.0,
+          ⊎_elim
+              (λ l. inl (start_of z h.0, l))
+              (λ g. ⊎_elim (λ l. inr (omega (arith, l))) (λ k. absurd (default_not d z h.1 (above_same lowest_integer d z w.0.0 h.0.0 (omega (arith, g, k))))) (cases_lt (above lowest_integer d) (above lowest_integer z)))
+              (cases_lt (above lowest_integer z) (above lowest_integer d)),
+        ),
+      )
 
   -- where one bound is missing
   pub offsets_open : (e : Option ℤ) → (low ≡ None) ⊎ (high ≡ None) → IsOpen (offset_set low high e)

@@ -24,6 +24,10 @@ use asn_rules::{HIGHEST_INTEGER, LOWEST_INTEGER, NumberSet, OffsetSet, Stop, Why
 use asn_values::Bounds;
 
 /// Reads an integer of the range, but for `except`. A range with an extension mark counts as none.
+///
+/// # Errors
+/// `Short` if the octets end before the integer does. `Refused` at the first octet after which no such integer can
+/// follow, with the reason `Default` where one is left out, else `Length` in a count of octets and `Number` after it.
 pub(crate) fn read_integer(
     bounds: &Bounds,
     except: Option<i128>,

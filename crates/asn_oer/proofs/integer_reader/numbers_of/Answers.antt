@@ -1,11 +1,7 @@
-use Rattle.std.proofs.Common.{rules, ◌≡◌, pos, Some, None, ℕ, ℤ, ap, ◌∙◌, sym, subst, refl, to_z, of_z}
-use lib.IntN.{nat_abs}
-use mir.Syntax.{w128}
-use Rattle.std.specs.Option.{unwrap_or}
+use Rattle.std.proofs.Common.{rules, ◌≡◌, Some, ℕ, ap, ◌∙◌, sym}
 use Rattle.asn_values.specs.Fits.{FitsNumber}
 use Rattle.asn_values.specs.Profile.{highest_of}
 use Rattle.asn_bits.proofs.Above.{kept}
-use Rattle.asn_oer.specs.Oer.{magnitude_of}
 use Rattle.asn_oer.specs.Reading.{unmarked}
 use Rattle.asn_oer.proofs.IntegerReading.{numbers_are, magnitudes, low_inside, high_is, high_inside, high_from_zero, within_from_zero, magnitude_kept}
 use Rattle.asn_oer.proofs.integer_reader.numbers_of.Goals as goal

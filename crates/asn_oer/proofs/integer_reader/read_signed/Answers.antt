@@ -1,15 +1,15 @@
-use Rattle.std.proofs.Common.{rules, ◌≡◌, ◌⊎◌, inl, inr, ℤ, ℕ, pos, ◌+ℤ◌, Some, None, true, false, to_z, of_z}
+use Rattle.std.proofs.Common.{rules, ◌≡◌, ◌⊎◌, inl, inr, pos, ◌+ℤ◌, Some, None, to_z, of_z}
 use Rattle.std.proofs.lemmas.Result.{err_from_is_err_and}
 use mir.Syntax.{w128}
 use Rattle.asn_values.specs.Datum.{number}
 use Rattle.asn_values.specs.Fits.{lowest_integer}
 use Rattle.asn_bits.specs.Numbers.{packed}
 use Rattle.asn_bits.proofs.Above.{kept}
-use Rattle.asn_rules.specs.Languages.{Spells, Inhabited}
+use Rattle.asn_rules.specs.Languages.{Spells}
 use Rattle.asn_rules.proofs.Leads.{stops_by}
 use Rattle.asn_oer.specs.Oer.{signed_size, oer_fields}
 use Rattle.asn_oer.specs.Reading.{IntegersBut, unmarked, AreOffsetsBut}
-use Rattle.asn_oer.proofs.IntegerReading.{low_inside, high_inside, signed_leads, signed_some, counted_signed_leads, counted_signed_some, counted_where, negative, given}
+use Rattle.asn_oer.proofs.IntegerReading.{low_inside, high_inside, signed_leads, signed_some, counted_signed_leads, counted_where, negative, given}
 use Rattle.asn_oer.proofs.integer_reader.read_signed.Goals as goal
 use Rattle.asn_oer.proofs.integer_reader.read_signed.Goals.{in-Some-Some+in_ok-offset-in-Some-Some, in_default+in_ok-offset-in_default, in_default-via-in-Some+in_default, in_default-via-in_default}
 

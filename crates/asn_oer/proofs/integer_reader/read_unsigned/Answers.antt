@@ -1,15 +1,14 @@
-use Rattle.std.proofs.Common.{rules, ◌≡◌, ℤ, ℕ, pos, Some, None, true, to_z, of_z}
+use Rattle.std.proofs.Common.{rules, ◌≡◌, pos, Some, None, to_z, of_z}
 use Rattle.std.proofs.lemmas.Result.{err_from_is_err_and}
 use mir.Syntax.{w128}
-use Rattle.std.specs.Int.RustNames.{int_le}
 use Rattle.asn_values.specs.Datum.{number}
 use Rattle.asn_bits.specs.Numbers.{packed}
 use Rattle.asn_bits.proofs.Above.{kept, test_of_le}
-use Rattle.asn_rules.specs.Languages.{Spells, Inhabited}
+use Rattle.asn_rules.specs.Languages.{Spells}
 use Rattle.asn_rules.proofs.Leads.{stops_by}
 use Rattle.asn_oer.specs.Oer.{unsigned_octets, oer_fields}
 use Rattle.asn_oer.specs.Reading.{IntegersBut, unmarked, AreNumbersBut}
-use Rattle.asn_oer.proofs.IntegerReading.{high_inside, unsigned_leads, unsigned_meets, counted_leads, counted_some, given}
+use Rattle.asn_oer.proofs.IntegerReading.{high_inside, unsigned_leads, unsigned_meets, counted_leads, given}
 use Rattle.asn_oer.proofs.integer_reader.read_unsigned.Goals as goal
 use Rattle.asn_oer.proofs.integer_reader.read_unsigned.Goals.{in-Some+in_ok-n-in-Some, in-None+in_ok-n-in-None}
 

@@ -1,6 +1,6 @@
 -- BIT STRING in OER: bits as octets of which the last ends in zeros, behind a length and the number of unused bits where
 -- the size is not fixed.
-use Rattle.std.proofs.Common.{◌≡◌, ◌≤◌, ◌<◌, ◌+◌, ◌-◌, ◌*◌, ◌/◌, ◌%◌, ◌^◌, ℕ, zero, suc, Bool, true, false, List, [], ◌∷◌, ◌++◌, map, length, take, drop, length-append, length-drop, refl, sym, ap, ◌∙◌, subst, arith, append_assoc}
+use Rattle.std.proofs.Common.{◌≡◌, ◌≤◌, ◌<◌, ◌+◌, ◌-◌, ◌*◌, ◌/◌, ◌%◌, ◌^◌, ℕ, zero, suc, Bool, true, false, List, [], ◌∷◌, ◌++◌, map, Some, length, take, drop, length-append, length-drop, refl, sym, ap, ◌∙◌, subst, arith, append_assoc}
 use Rattle.std.specs.Prelude.{replicate}
 use Rattle.std.proofs.lemmas.List.{append-nil, length-map, take-append-drop, length-take-le}
 use Rattle.std.proofs.lemmas.Nat.{pow_pos}
@@ -10,7 +10,7 @@ use Rattle.std.specs.List.{AllByRecursion}
 use Rattle.asn_values.specs.Datum.{Datum, bit_list}
 use Rattle.asn_values.specs.Shape.{SizeRange, bit_string}
 use Rattle.asn_values.specs.Fits.{Fits, FitsLength}
-use Rattle.asn_values.specs.Profile.{InProfile, SizeTooLarge, is_fixed_size}
+use Rattle.asn_values.specs.Profile.{InProfile, SizeTooLarge, large_size, is_fixed_size}
 use Rattle.asn_bits.specs.Numbers.{digits, bits, octet_count, padding, packed, unpacked}
 use Rattle.asn_bits.specs.Lengths.{octet_length}
 use Rattle.asn_bits.proofs.FilledBits.{unpacked-packed, length-packed, length-padding, bits_append, padding_bits}
@@ -19,10 +19,10 @@ use Rattle.asn_bits.proofs.Packing.{bits_zero}
 use Rattle.asn_bits.proofs.Splits.{digits-add, digits-mod, unpacked-append, length-unpacked}
 use Rattle.asn_rules.specs.Chunks.{one, ones}
 use Rattle.asn_rules.specs.Components.{bit_of}
-use Rattle.asn_rules.specs.Languages.{Then, Row}
-use Rattle.asn_bits.specs.Sets.{AreBits, weighted, IsBits}
+use Rattle.asn_rules.specs.Languages.{Then, Row, Plain}
+use Rattle.asn_bits.specs.Sets.{AreBits, weighted, IsBits, InDigits}
 use Rattle.asn_rules.specs.Forks.{Same}
-use Rattle.asn_rules.specs.Fields.{OneOctet}
+use Rattle.asn_rules.specs.Fields.{OneOctet, OctetLength}
 use Rattle.asn_rules.specs.Spellings.{SpelledBy}
 use Rattle.asn_rules.proofs.Chunks.{ones-append}
 use Rattle.asn_bits.proofs.Weights.{digits-append, digits-first, digits-second, weighted-append, bits_are, bits_only, are_digits}
@@ -38,20 +38,20 @@ use Rattle.asn_oer.proofs.Strings.{one_length, list_bits}
 -- ---- bits and truth values
 
 -- the bits of truth values give them back
-truths_again : (bs : List Bool) → map is_one (map bit_of bs) ≡ bs
+pub truths_again : (bs : List Bool) → map is_one (map bit_of bs) ≡ bs
 truths_again [] = refl
 truths_again (true ∷ bs) = ap (λ (l : List Bool). true ∷ l) (truths_again bs)
 truths_again (false ∷ bs) = ap (λ (l : List Bool). false ∷ l) (truths_again bs)
 
 -- truth values of bits give the bits back
-bits_again : (us : List ℕ) → AreBits us → map bit_of (map is_one us) ≡ us
+pub bits_again : (us : List ℕ) → AreBits us → map bit_of (map is_one us) ≡ us
 bits_again [] h = refl
 bits_again (zero ∷ us) h = ap (λ (l : List ℕ). 0 ∷ l) (bits_again us h.1)
 bits_again (suc zero ∷ us) h = ap (λ (l : List ℕ). 1 ∷ l) (bits_again us h.1)
 bits_again (suc (suc u) ∷ us) h = absurd (omega (arith, h.0))
 
 -- the bits of octets are bits
-unpacked_bits : (os : List ℕ) → AreBits (unpacked os)
+pub unpacked_bits : (os : List ℕ) → AreBits (unpacked os)
 unpacked_bits [] = tt
 unpacked_bits (o ∷ os) = digits-append 2 (bits 8 o) (unpacked os) (are_digits 2 8 o (omega arith)) (unpacked_bits os)
 
@@ -207,9 +207,16 @@ packed_language n = same_after (same_map (parts_spelled n)) (map_spelled there b
 
 -- ---- bits of a count that is told
 
+-- a length of some set, unused bits of some set, and the bits
+pub three_parts : (A : ℕ → Type 0) (B : ℕ → ℕ → Type 0) → ((l : ℕ) → A l → octet_count l < 128) → ((l u : ℕ) → B l u → u < 256)
+    → Same (Then (OctetLength A) (λ l. Then (Plain (InDigits 256 1 (B l))) (λ u. PackedBits (8 * (l - 1) - u))))
+    (SpelledBy (λ p. A p.0 × (B p.0 p.1.0 × (length p.1.1 ≡ 8 * (p.0 - 1) - p.1.0))) (λ p. ones (octet_length p.0) ++ (ones (digits 256 1 p.1.0) ++ ones (filled_bits (map bit_of p.1.1)))))
+three_parts A B short byte =
+    same_after (same_then (length_spelled A short) (λ l. same_after (same_then (digits_spelled 256 1 (B l) (byte l)) (λ u. packed_language (8 * (l - 1) - u))) then_spelled)) then_spelled
+
 module _ (S : ℕ → Type 0) (few : (n : ℕ) → S n → n ≤ 268435455) where
   -- such a length has few octets
-  short : (l : ℕ) → BitsLength S l → octet_count l < 128
+  pub short : (l : ℕ) → BitsLength S l → octet_count l < 128
   short l h =
       let n = few h.count h.member in
       let c : octet_count l ≤ 4 = octet_count_below l 4 (omega arith) (omega (arith, h.same)) in
@@ -235,10 +242,10 @@ module _ (S : ℕ → Type 0) (few : (n : ℕ) → S n → n ≤ 268435455) wher
       ap (λ (l : List ℕ). length (filled_bits l)) (bits_only (length us) m us is).1 ∙ length-filled_bits (length us) m
 
   -- a length, the unused bits, and the bits
-  variable_language : Same (VariableBits S) (SpelledBy (λ bs. S (length bs)) (λ bs. ones (variable_bits (map bit_of bs))))
+  pub variable_language : Same (VariableBits S) (SpelledBy (λ bs. S (length bs)) (λ bs. ones (variable_bits (map bit_of bs))))
   variable_language =
       same_after
-      (same_map (same_after (same_then (length_spelled (BitsLength S) short) (λ l. same_after (same_then (digits_spelled 256 1 (UnusedBits S l) (λ u k. omega (arith, k.few))) (λ u. packed_language (8 * (l - 1) - u))) then_spelled)) then_spelled))
+      (same_map (three_parts (BitsLength S) (UnusedBits S) short (λ l u k. omega (arith, k.few))))
       (map_spelled there back)
     where
       there : (p : ℕ × (ℕ × List Bool)) → Tells p → S (length (last_told p)) × (ones (octet_length p.0) ++ (ones (digits 256 1 p.1.0) ++ ones (filled_bits (map bit_of p.1.1))) ≡ ones (variable_bits (map bit_of (last_told p))))
@@ -266,17 +273,20 @@ module _ (S : ℕ → Type 0) (few : (n : ℕ) → S n → n ≤ 268435455) wher
             refl,
           )
 
--- BIT STRING
-pub bit_string_language : (s : SizeRange) → InProfile (bit_string s) → Same (BitStrings s) (SpelledBy (Fits (bit_string s)) (oer (bit_string s)))
-bit_string_language s good = same_after (same_map (sized (is_fixed_size s) refl)) (map_spelled (λ bs h. (h, refl)) back)
-  where
-    sized : (t : Bool) → is_fixed_size s ≡ t
-        → Same (elim t [ true ↦ PackedBits s.low | false ↦ VariableBits (FitsLength s) ]) (SpelledBy (λ bs. FitsLength s (length bs)) (λ bs. ones (elim t [ true ↦ filled_bits (map bit_of bs) | false ↦ variable_bits (map bit_of bs) ])))
-    sized true e =
-        same_after (packed_language s.low)
-        (same_spelled (λ bs h. subst (FitsLength s) (sym h) (fixed_fits s (good SizeTooLarge) e)) (λ bs h. one_length s (length bs) e h) (λ bs h. refl))
-    sized false e = variable_language (FitsLength s) (λ n h. h.0)
+-- bits of a size
+pub sized_bits : (s : SizeRange) → large_size (Some s) ≡ false → (t : Bool) → is_fixed_size s ≡ t
+    → Same (elim t [ true ↦ PackedBits s.low | false ↦ VariableBits (FitsLength s) ]) (SpelledBy (λ bs. FitsLength s (length bs)) (λ bs. ones (elim t [ true ↦ filled_bits (map bit_of bs) | false ↦ variable_bits (map bit_of bs) ])))
+sized_bits s small true e =
+    same_after (packed_language s.low) (same_spelled (λ bs h. subst (FitsLength s) (sym h) (fixed_fits s small e)) (λ bs h. one_length s (length bs) e h) (λ bs h. refl))
+sized_bits s small false e = variable_language (FitsLength s) (λ n h. h.0)
 
+-- BIT STRING, where the size is not too large
+pub bit_strings : (s : SizeRange) → large_size (Some s) ≡ false → Same (BitStrings s) (SpelledBy (Fits (bit_string s)) (oer (bit_string s)))
+bit_strings s small = same_after (same_map (sized_bits s small (is_fixed_size s) refl)) (map_spelled (λ bs h. (h, refl)) back)
+  where
     back : (v : Datum) → Fits (bit_string s) v → (bs : List Bool) × FitsLength s (length bs) × (v ≡ bit_list bs)
     back (bit_list bs) f = (bs, f, refl)
     back _ f = absurd f
+
+pub bit_string_language : (s : SizeRange) → InProfile (bit_string s) → Same (BitStrings s) (SpelledBy (Fits (bit_string s)) (oer (bit_string s)))
+bit_string_language s good = bit_strings s (good SizeTooLarge)

@@ -33,9 +33,9 @@ Spelling b = SpelledBy (FitsNumber b) (λ z. ones (whole_number b z))
 -- ---- from 0 on
 
 -- the integers of the range are the numbers from low to high
-record AreNumbers (b : Range) (low high : ℕ) : Type 0 where
-  fit : (n : ℕ) → Between low high n → FitsNumber b (pos n)
-  are : (z : ℤ) → FitsNumber b z → (n : ℕ) × Between low high n × (z ≡ pos n)
+pub record AreNumbers (b : Range) (low high : ℕ) : Type 0 where
+  pub fit : (n : ℕ) → Between low high n → FitsNumber b (pos n)
+  pub are : (z : ℤ) → FitsNumber b z → (n : ℕ) × Between low high n × (z ≡ pos n)
 
 -- in k octets, where that is how they are spelt
 fixed_unsigned : (b : Range) (k low high : ℕ) → AreNumbers b low high → high < 256 ^ k → ((n : ℕ) → whole_number b (pos n) ≡ octets k n) → Same (FixedUnsigned k low high) (Spelling b)
@@ -170,11 +170,11 @@ high_inside : (low : Option ℤ) (high : ℤ) → InProfile (integer (plain low 
 high_inside low high good = (inside high (right_false (is_outside low) _ (right_false (low_above_high low (Some high)) _ (good EmptyRange)))).1
 
 -- the low bound is not above the high one
-ordered : (low high : ℤ) → InProfile (integer (plain (Some low) (Some high))) → int_le low high ≡ true
+pub ordered : (low high : ℤ) → InProfile (integer (plain (Some low) (Some high))) → int_le low high ≡ true
 ordered low high good = not-false (int_le low high) (left_false _ _ (good EmptyRange))
 
 -- the integers from one number to another
-from_to : (low high : ℕ) → InProfile (integer (plain (Some (pos low)) (Some (pos high)))) → AreNumbers (plain (Some (pos low)) (Some (pos high))) low high
+pub from_to : (low high : ℕ) → InProfile (integer (plain (Some (pos low)) (Some (pos high)))) → AreNumbers (plain (Some (pos low)) (Some (pos high))) low high
 from_to low high good = record { fit = fit; are = are }
   where
     fit : (n : ℕ) → Between low high n → FitsNumber (plain (Some (pos low)) (Some (pos high))) (pos n)
@@ -190,7 +190,7 @@ from_to low high good = record { fit = fit; are = are }
     are (negsuc n) f = absurd (true≢false (sym f.2))
 
 -- the integers from a number on
-from_on : (low : ℕ) → AreNumbers (plain (Some (pos low)) None) low 9223372036854775807
+pub from_on : (low : ℕ) → AreNumbers (plain (Some (pos low)) None) low 9223372036854775807
 from_on low = record { fit = fit; are = are }
   where
     fit : (n : ℕ) → Between low 9223372036854775807 n → FitsNumber (plain (Some (pos low)) None) (pos n)

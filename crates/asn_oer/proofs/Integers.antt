@@ -27,7 +27,7 @@ unsigned_cases u = go (int_lt u (pos (2 ^ 8))) (int_lt u (pos (2 ^ 16))) (int_lt
     go false false false false ea eb ec ed = inr (rw (ea, eb, ec, ed, unsigned_octets) refl)
 
 -- a number up to a bound that is below n is below n
-below_bound : (u y : ℤ) (n : ℕ) → int_le (pos 0) y ≡ true → int_le y u ≡ true → int_lt u (pos n) ≡ true → magnitude_of y < n
+pub below_bound : (u y : ℤ) (n : ℕ) → int_le (pos 0) y ≡ true → int_le y u ≡ true → int_lt u (pos n) ≡ true → magnitude_of y < n
 below_bound (pos m) (pos k) n p q l = omega (arith, leb-true k m q, ltb-true m n l)
 below_bound (negsuc m) (pos k) n p q l = absurd (true≢false (sym q))
 below_bound u (negsuc k) n p q l = absurd (true≢false (sym p))

@@ -1,16 +1,22 @@
 -- The values of a type but for one that is left out, as a component with a DEFAULT is spelt: BOOLEAN and ENUMERATED.
-use Rattle.std.proofs.Common.{List, ◌++◌, sym, subst}
-use Rattle.asn_values.specs.Shape.{more_labels}
+use Rattle.std.proofs.Common.{List, ◌++◌, None, refl, sym, subst}
+use Rattle.asn_values.specs.Shape.{Shape, more_labels}
 use Rattle.asn_rules.specs.Chunks.{Chunk}
 use Rattle.asn_rules.specs.Languages.{Map}
 use Rattle.asn_rules.specs.Forks.{Same}
-use Rattle.asn_rules.specs.Listed.{IsOther}
+use Rattle.asn_rules.specs.Listed.{IsOther, Spelt}
 use Rattle.asn_rules.specs.Spellings.{SpelledBy}
-use Rattle.asn_rules.proofs.Spellings.{same_after, same_map, digits_spelled, map_spelled}
+use Rattle.asn_rules.proofs.Spellings.{same_after, same_map, same_spelled, digits_spelled, map_spelled}
+use Rattle.asn_oer.specs.Constructed.{Values}
+use Rattle.asn_oer.specs.Oer.{oer}
 use Rattle.asn_oer.specs.SimpleTypes.{truth_told, item_told, IsNumberOf}
 use Rattle.asn_oer.specs.Kinds.{BooleansButOne, EnumeratedButOne}
 use Rattle.asn_oer.proofs.SimpleLanguages.{Truths, truth_there, truth_back, truth_below}
 use Rattle.asn_oer.proofs.ItemLanguages.{item_numbers_spelled, items_few, items_seen}
+
+-- no value is left out
+pub none_left_out : (t : Shape) → Same (Values t) (Spelt oer None t)
+none_left_out t = same_spelled (λ v h. (h, tt)) (λ v h. h.0) (λ v h. refl)
 
 -- of values that are seen another way, those that O holds of
 pub but_map : {A B : Type 0} {P : A → Type 0} {Q : B → Type 0} {view : A → B} {f : A → List Chunk} {g : B → List Chunk} (O : B → Type 0) → Same (Map view (SpelledBy P f)) (SpelledBy Q g) → Same (Map view (SpelledBy (λ a. P a × O (view a)) f)) (SpelledBy (λ b. Q b × O b) g)

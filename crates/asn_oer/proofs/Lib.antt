@@ -43,3 +43,8 @@ pub mod OctetReading
 pub mod SizeCounts
 pub mod Utf8Reading
 pub mod SignedReading
+pub mod TextReading
+pub mod ItemReading
+pub mod NoOctets
+pub mod BitReading
+pub mod IntegerReading

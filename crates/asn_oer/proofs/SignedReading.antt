@@ -3,9 +3,9 @@ use Rattle.std.proofs.Common.{◌≡◌, ◌*◌, ℕ, subst, arith}
 use Rattle.asn_bits.specs.Sets.{InDigits}
 use Rattle.asn_rules.specs.Counted.{SomeOf, Counted, signed_number, LeastSigned}
 use Rattle.asn_rules.specs.Languages.{Plain}
-use Rattle.asn_rules.specs.OffsetSets.{HasInteger, UnconstrainedIn}
+use Rattle.asn_rules.specs.OffsetSets.{HasInteger, StandsFor, SignedIn, UnconstrainedIn}
 use Rattle.asn_rules.specs.declared.signed_reader.OffsetSet.{OffsetSet}
-use Rattle.asn_oer.specs.Reading.{CountedSignedIn}
+use Rattle.asn_oer.specs.Reading.{CountedSignedIn, SignedOctetsIn}
 use Rattle.asn_oer.proofs.Octetwise.{InOctets, number_octets, then_octets, map_octets}
 
 -- a count in an octet, and so many octets
@@ -17,3 +17,6 @@ counted_in_octets T = then_octets (number_octets 1 (SomeOf T)) behind
 
 pub signed_in_octets : (s : OffsetSet) → InOctets (UnconstrainedIn s) (CountedSignedIn s)
 signed_in_octets s = map_octets signed_number (counted_in_octets (LeastSigned (λ z. HasInteger s z)))
+
+pub fixed_in_octets : (k : ℕ) (s : OffsetSet) → InOctets (SignedIn k s) (SignedOctetsIn k s)
+fixed_in_octets k s = map_octets (λ n. signed_number (k, n)) (number_octets k (StandsFor s k))

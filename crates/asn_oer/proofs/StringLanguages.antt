@@ -82,7 +82,7 @@ octet_string_language z good = same_after (same_map (sized_language octet_itself
     back _ f = absurd f
 
 -- a character is spelt by itself
-character_itself : (k : Alphabet) → Same (Character k) (SpelledBy (λ c. IsTrue (is_of_kind k c)) (λ c. one c ∷ []))
+pub character_itself : (k : Alphabet) → Same (Character k) (SpelledBy (λ c. IsTrue (is_of_kind k c)) (λ c. one c ∷ []))
 character_itself k = same_after (digits_spelled 256 1 (λ c. IsTrue (is_of_kind k c)) (λ c h. omega (arith, below c h))) (same_spelled (λ c h. h) (λ c h. h) (λ c h. ap ones (one_is c (below c h))))
   where
     below : (c : ℕ) → IsTrue (is_of_kind k c) → c < 256

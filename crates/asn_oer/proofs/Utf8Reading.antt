@@ -2,6 +2,7 @@
 use Rattle.std.proofs.Common.{◌≡◌, ◌≤◌, ◌<◌, ℕ, List, [], length, IsUtf8, refl, arith}
 use Rattle.std.specs.List.{AllByRecursion}
 use Rattle.asn_values.specs.Datum.{unicode}
+use Rattle.asn_values.specs.Shape.{utf8_string}
 use Rattle.asn_bits.specs.Numbers.{octet_count}
 use Rattle.asn_bits.specs.Sets.{Between}
 use Rattle.asn_bits.proofs.Octets.{octet_count_below}
@@ -13,12 +14,15 @@ use Rattle.asn_rules.specs.Languages.{Spells, Refused, SomeContent}
 use Rattle.asn_rules.proofs.Exits.{stops_field}
 use Rattle.asn_rules.proofs.Fields.{field_spells, field_refused_content}
 use Rattle.asn_rules.proofs.Forks.{same_flip}
-use Rattle.asn_rules.proofs.Leads.{LeadsStops}
+use Rattle.asn_rules.proofs.Leads.{LeadsStops, Leads, leads_same}
 use Rattle.asn_rules.proofs.OctetLengths.{octets_behind}
 use Rattle.asn_rules.proofs.Spellings.{same_after, plain_spelled}
 use Rattle.asn_oer.specs.Oer.{spelled, oer_fields}
+use Rattle.asn_oer.specs.Reading.{ValuesOf}
 use Rattle.asn_oer.specs.Strings.{IsUnicodeOf, Utf8Strings}
+use Rattle.asn_oer.proofs.LeftOut.{none_left_out}
 use Rattle.asn_oer.proofs.OerFields.{oer_fields_part}
+use Rattle.asn_oer.proofs.StringLanguages.{utf8_language}
 
 -- octets of any number of the profile
 abbrev pub AnyCount : ℕ → Type 0
@@ -54,3 +58,7 @@ text_spells {os} t h =
 -- they are not
 pub no_text : {os us r : List ℕ} → (IsUtf8 os → ⊥) → Spells oer_fields (OctetsBehind AnyCount) os us r → Refused oer_fields Utf8Strings us (length r)
 no_text {os} never h = field_refused_content oer_fields_part some_text text_spelled h (λ a d. never d.utf8)
+
+-- they are the values of the type
+pub utf8_leads : (us : List ℕ) → Leads oer_fields Utf8Strings us (λ v. v) (ValuesOf utf8_string) us
+utf8_leads us = leads_same oer_fields us (same_after utf8_language (none_left_out utf8_string))

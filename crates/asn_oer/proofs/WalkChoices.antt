@@ -16,11 +16,8 @@ use Rattle.asn_walk.specs.Coding.{added_alternatives, IsIndexWithin, OpenOf, Cho
 use Rattle.asn_oer.specs.Constructed.{Values}
 use Rattle.asn_oer.specs.Oer.{oer, tag, an_open_field, oer_alternative, oer_more}
 use Rattle.asn_oer.specs.Walk.{oer_coding, tag_of}
+use Rattle.asn_oer.proofs.LeftOut.{none_left_out}
 use Rattle.asn_oer.proofs.OpenTypes.{open_language}
-
--- no value is left out
-pub none_left_out : (t : Shape) → Same (Values t) (Spelt oer None t)
-none_left_out t = same_spelled (λ v h. (h, tt)) (λ v h. h.0) (λ v h. refl)
 
 -- the values of an alternative
 chosen_root : (alts : Alternatives) (i : ℕ) → Same (ChosenOf (λ t. Spelt oer None t) alts i) (SpelledBy (FitsAlternative alts i) (oer_alternative alts i))

@@ -41,7 +41,8 @@ use Rattle.asn_oer.proofs.Leaves.{tag_is}
 use Rattle.asn_oer.proofs.ListLanguages.{sequence_of_language}
 use Rattle.asn_oer.proofs.PreambleReading.{bitmap_front, bitmap_is}
 use Rattle.asn_oer.proofs.Tells.{oer_tells}
-use Rattle.asn_oer.proofs.WalkChoices.{none_left_out, walk_choices}
+use Rattle.asn_oer.proofs.LeftOut.{none_left_out}
+use Rattle.asn_oer.proofs.WalkChoices.{walk_choices}
 use Rattle.asn_oer.proofs.WalkSequences.{walk_sequences}
 use Rattle.asn_oer.proofs.Whole.{oer_part, oer_wholes}
 

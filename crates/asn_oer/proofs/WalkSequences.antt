@@ -35,7 +35,7 @@ use Rattle.asn_oer.proofs.FilledLanguages.{bitmap_language}
 use Rattle.asn_oer.proofs.GoodTypes.{good}
 use Rattle.asn_oer.proofs.SequenceLanguages.{length-presence_bits}
 use Rattle.asn_oer.proofs.SpeltTypes.{few_additions}
-use Rattle.asn_oer.proofs.WalkChoices.{none_left_out}
+use Rattle.asn_oer.proofs.LeftOut.{none_left_out}
 
 -- components of a list are that list
 list_of_components : (es : List (Option Datum)) → component_list (components_of es) ≡ es

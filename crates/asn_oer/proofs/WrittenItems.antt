@@ -15,7 +15,6 @@ use Rattle.asn_rules.specs.Components.{number_at}
 use Rattle.asn_rules.proofs.Items.{good_items}
 use Rattle.asn_oer.specs.Oer.{item_number}
 use Rattle.asn_oer.proofs.SpeltLeaves.{number_is_small}
-use Rattle.asn_oer.proofs.WrittenOctets.{first_octet}
 
 -- ---- the number
 
@@ -62,16 +61,20 @@ added_number root items p d good l h =
     let small = number_is_small (ls ++ ms) p (good_items ls (marked_labels ms) (good BadEnumeration)).bits_32 in
     near (get_or items (p - length root) d).number (subst (λ (z : ℤ). magnitude z < 2147483648) there small) ∙ sym there
 
--- each keeps its value
+-- each is a number of 32 bits
+pub item_narrow : (root : List Label) (more : MoreLabels) (p : ℕ) → InProfile (enumerated root more) → magnitude (number_at (root ++ more_labels more) p) < 2147483648
+item_narrow root more p good = number_is_small (root ++ more_labels more) p (good_items root more (good BadEnumeration)).bits_32
+
+-- and keeps its value
 pub item_kept : (root : List Label) (more : MoreLabels) (p : ℕ) → InProfile (enumerated root more) → to_z w64 (of_z w64 (number_at (root ++ more_labels more) p)) ≡ number_at (root ++ more_labels more) p
-item_kept root more p good = near (number_at (root ++ more_labels more) p) (number_is_small (root ++ more_labels more) p (good_items root more (good BadEnumeration)).bits_32)
+item_kept root more p good = near (number_at (root ++ more_labels more) p) (item_narrow root more p good)
 
 -- ---- its octets
 
 -- the long form
-pub long_item : (z : ℤ) (k r : ℕ) → (int_le (pos 0) z && int_lt z (pos 128)) ≡ false → k ≡ signed_octet_count z → signed_octets k z ≡ octets k r → unpacked (item_number z) ≡ bits 8 (128 + k) ++ bits (8 * k) r
-long_item z k r f e o =
+pub long_form : (z : ℤ) (k r : ℕ) → (int_le (pos 0) z && int_lt z (pos 128)) ≡ false → k ≡ signed_octet_count z → signed_octets k z ≡ octets k r → item_number z ≡ (128 + k) ∷ octets k r
+long_form z k r f e o =
     let long : item_number z ≡ (128 + length (least_signed z)) ∷ least_signed z = rw (f, item_number) refl in
     let count : length (least_signed z) ≡ k = length-least_signed z ∙ sym e in
     let number : least_signed z ≡ octets k r = ap (λ (i : ℕ). signed_octets i z) (sym e) ∙ o in
-    ap unpacked (long ∙ ap (λ (i : ℕ). (128 + i) ∷ least_signed z) count ∙ ap (λ (t : List ℕ). (128 + k) ∷ t) number) ∙ first_octet (128 + k) k r
+    long ∙ ap (λ (i : ℕ). (128 + i) ∷ least_signed z) count ∙ ap (λ (t : List ℕ). (128 + k) ∷ t) number

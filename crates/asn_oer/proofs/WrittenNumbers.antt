@@ -19,25 +19,25 @@ use Rattle.asn_oer.proofs.WrittenOctets.{least_counted, signed_counted}
 
 -- ---- which octets
 
-some_same : {j k : ℕ} → Some j ≡ Some k → j ≡ k
+pub some_same : {j k : ℕ} → Some j ≡ Some k → j ≡ k
 some_same e = cc
 
 -- from zero on
-unsigned_form : (low high z : ℤ) (k : ℕ) → int_le (pos 0) low ≡ true → unsigned_octets high ≡ Some k → ranged (Some low) (Some high) z ≡ octets k (magnitude_of z)
+pub unsigned_form : (low high z : ℤ) (k : ℕ) → int_le (pos 0) low ≡ true → unsigned_octets high ≡ Some k → ranged (Some low) (Some high) z ≡ octets k (magnitude_of z)
 unsigned_form (pos l) high z k p e = ap (λ o. unsigned_in o z) e
 unsigned_form (negsuc l) high z k p e = absurd (true≢false (sym p))
 
 -- from below zero on
-signed_form : (low high z : ℤ) (k : ℕ) → int_le (pos 0) low ≡ false → signed_size low high ≡ Some k → ranged (Some low) (Some high) z ≡ signed_octets k z
+pub signed_form : (low high z : ℤ) (k : ℕ) → int_le (pos 0) low ≡ false → signed_size low high ≡ Some k → ranged (Some low) (Some high) z ≡ signed_octets k z
 signed_form (pos l) high z k p e = absurd (true≢false (sym (le-leb 0 l (omega arith)) ∙ p))
 signed_form (negsuc l) high z k p e = ap (λ o. signed_in o z) e
 
 -- without a high bound
-counted_form : (low z : ℤ) → int_le (pos 0) low ≡ true → ranged (Some low) None z ≡ counted z
+pub counted_form : (low z : ℤ) → int_le (pos 0) low ≡ true → ranged (Some low) None z ≡ counted z
 counted_form (pos l) z p = refl
 counted_form (negsuc l) z p = absurd (true≢false (sym p))
 
-counted_signed_form : (low z : ℤ) → int_le (pos 0) low ≡ false → ranged (Some low) None z ≡ counted_signed z
+pub counted_signed_form : (low z : ℤ) → int_le (pos 0) low ≡ false → ranged (Some low) None z ≡ counted_signed z
 counted_signed_form (pos l) z p = absurd (true≢false (sym (le-leb 0 l (omega arith)) ∙ p))
 counted_signed_form (negsuc l) z p = refl
 
@@ -46,7 +46,7 @@ not_negative : (low z : ℤ) → int_le (pos 0) low ≡ true → int_le low z �
 not_negative (pos l) z p a = from_zero l z a
 not_negative (negsuc l) z p a = absurd (true≢false (sym p))
 
-size_is : (z : ℤ) → int_le (pos 0) z ≡ true → nat_abs z ≡ magnitude_of z
+pub size_is : (z : ℤ) → int_le (pos 0) z ≡ true → nat_abs z ≡ magnitude_of z
 size_is (pos n) p = refl
 size_is (negsuc n) p = absurd (true≢false (sym p))
 

@@ -14,3 +14,4 @@ pub mod Reading
 pub mod Walk
 pub mod BitsWritten
 pub mod ElementsAhead
+pub mod LeafReading

@@ -1,24 +1,24 @@
 -- What readers of octets read from the bits of a cursor, and where they stop.
-use Rattle.std.specs.Prelude.{◌≡◌, ◌≤◌, ◌<◌, ◌+◌, ◌-◌, ◌^◌, ◌/◌, ◌%◌, ℕ, ℤ, Bool, List, [], ◌∷◌, ◌++◌, length, Option, None}
+use Rattle.std.specs.Prelude.{◌≡◌, ◌≤◌, ◌<◌, ◌<ℤ◌, ◌+◌, ◌-◌, ◌^◌, ◌/◌, ◌%◌, ℕ, ℤ, pos, Bool, false, List, [], ◌∷◌, ◌++◌, length, Option, Some, None, ⊤}
 use Rattle.std.specs.Option.{option_map}
-use Rattle.asn_values.specs.Datum.{truth}
-use Rattle.asn_values.specs.Fits.{FitsLength}
-use Rattle.asn_values.specs.Shape.{SizeRange}
+use Rattle.asn_values.specs.Datum.{Datum, truth, number}
+use Rattle.asn_values.specs.Fits.{FitsNumber, FitsLength}
+use Rattle.asn_values.specs.Shape.{Range, Shape, SizeRange, integer}
 use Rattle.asn_bits.specs.Numbers.{bits, packed}
 use Rattle.asn_bits.specs.Sets.{InDigits, Among}
 use Rattle.asn_rules.specs.Chunks.{Chunk, ones}
 use Rattle.asn_rules.specs.Counted.{Counted, number_of, Least, signed_number, LeastSigned}
-use Rattle.asn_rules.specs.OffsetSets.{HasInteger}
+use Rattle.asn_rules.specs.OffsetSets.{HasInteger, StandsFor}
 use Rattle.asn_rules.specs.declared.signed_reader.OffsetSet.{OffsetSet}
 use Rattle.asn_rules.specs.Languages.{Spells, Then, Map, Plain}
-use Rattle.asn_rules.specs.Listed.{IsOther}
+use Rattle.asn_rules.specs.Listed.{IsOther, Spelt}
 use Rattle.asn_rules.specs.NumberSets.{Admits, NumberIn}
 use Rattle.asn_rules.specs.Spellings.{SpelledBy}
 use Rattle.asn_rules.specs.Stops.{Stops}
 use Rattle.asn_rules.specs.declared.number_reader.NumberSet.{NumberSet}
 use Rattle.asn_rules.specs.declared.stop.Stop.{Stop}
 use Rattle.asn_rules.specs.declared.stop.Stop.TheVariants as stop
-use Rattle.asn_oer.specs.Oer.{oer_fields, filled_bits}
+use Rattle.asn_oer.specs.Oer.{oer, oer_fields, filled_bits}
 use Rattle.asn_oer.specs.SimpleTypes.{truth_told}
 
 -- the bits are those of octets
@@ -32,6 +32,10 @@ ReadsOctets L v old new = Spells oer_fields L v (packed old) (packed new)
 -- a reader of the language stops at these octets
 abbrev pub StopsAtOctets : {V : Type 0} → (V → List Chunk → Type 0) → List ℕ → Stop → Type 0
 StopsAtOctets L old why = Stops oer_fields L (packed old) why
+
+-- the values of a type
+abbrev pub ValuesOf : Shape → Datum → List Chunk → Type 0
+ValuesOf t = Spelt oer None t
 
 -- what a reader of bits says, where octets are counted
 abbrev pub counted_in_octets : Stop → Stop
@@ -94,3 +98,41 @@ pub record AreCounts (s : SizeRange) (t : NumberSet) : Type 0 where
 -- an integer of the set in the fewest octets of two's complement after their count ("encoding of integer types")
 abbrev pub CountedSignedIn : OffsetSet → ℤ → List Chunk → Type 0
 CountedSignedIn s = Map signed_number (Counted 256 1 (LeastSigned (λ z. HasInteger s z)))
+
+-- ---- integers, but for one, which is the DEFAULT of a component
+
+-- the integers of a range
+abbrev pub IntegersBut : Option ℤ → Range → Datum → List Chunk → Type 0
+IntegersBut except b = Spelt oer (option_map number except) (integer b)
+
+-- an integer that may be left out of a range is one of it, and the range has no extension mark
+abbrev pub IsWithin : Range → Option ℤ → Type 0
+IsWithin b None = ⊤
+IsWithin b (Some d) = FitsNumber b d × (b.extensible ≡ false)
+
+-- a range without an extension mark
+abbrev pub unmarked : Option ℤ → Option ℤ → Range
+unmarked low high = record { low = low; high = high; extensible = false }
+
+-- an integer of the range, and not the one that is left out
+abbrev pub IsOneBut : Option ℤ → Range → ℤ → Type 0
+IsOneBut e b z = FitsNumber b z × IsOther (option_map number e) (number z)
+
+-- the numbers of the set are those integers
+pub record AreNumbersBut (e : Option ℤ) (b : Range) (s : NumberSet) : Type 0 where
+  pub there : (n : ℕ) → Admits s n → IsOneBut e b (pos n)
+  pub back : (z : ℤ) → IsOneBut e b z → (n : ℕ) × Admits s n × (z ≡ pos n)
+
+-- the offsets of the set are theirs
+pub record AreOffsetsBut (e : Option ℤ) (b : Range) (s : OffsetSet) : Type 0 where
+  pub there : (z : ℤ) → HasInteger s z → IsOneBut e b z
+  pub back : (z : ℤ) → IsOneBut e b z → HasInteger s z
+
+-- an integer of the set in `count` octets of two's complement ("encoding of integer types")
+abbrev pub SignedOctetsIn : ℕ → OffsetSet → ℤ → List Chunk → Type 0
+SignedOctetsIn count s = Map (λ n. signed_number (count, n)) (Plain (InDigits 256 count (StandsFor s count)))
+
+-- no low bound, or a negative one
+abbrev pub IsBelowZero : Option ℤ → Type 0
+IsBelowZero None = ⊤
+IsBelowZero (Some low) = low <ℤ pos 0

@@ -1,12 +1,13 @@
 -- What encodings of strings consist of in Canonical OER (X.696).
-use Rattle.std.specs.Prelude.{◌≡◌, ◌+◌, ◌-◌, ◌*◌, ◌/◌, ◌%◌, ◌^◌, ◌≤◌, ◌<◌, ℕ, zero, suc, Bool, true, false, List, ◌++◌, map, length, take, IsTrue, IsUtf8}
+use Rattle.std.specs.Prelude.{◌≡◌, ◌+◌, ◌-◌, ◌*◌, ◌/◌, ◌%◌, ◌^◌, ◌≤◌, ◌<◌, ℕ, zero, suc, Bool, true, false, List, ◌++◌, map, length, take, get_or, IsTrue, IsUtf8}
+use Rattle.std.specs.List.{AllByRecursion}
 use Rattle.asn_values.specs.Datum.{Datum, bit_list, octet_list, characters, unicode}
 use Rattle.asn_values.specs.Shape.{SizeRange, Alphabet}
 use Rattle.asn_values.specs.Fits.{FitsLength, is_of_kind, max_len}
 use Rattle.asn_values.specs.Profile.{is_fixed_size}
 use Rattle.asn_bits.specs.Numbers.{unpacked}
 use Rattle.asn_rules.specs.Chunks.{Chunk, utf8_field}
-use Rattle.asn_rules.specs.Languages.{Then, Map, Row, Plain, Sealed}
+use Rattle.asn_rules.specs.Languages.{Then, Map, Nothing, Row, Plain, Sealed}
 use Rattle.asn_bits.specs.Sets.{InDigits}
 use Rattle.asn_rules.specs.Fields.{OneOctet, OctetLength, octets_told}
 use Rattle.asn_oer.specs.Preambles.{filled_octets}
@@ -16,6 +17,10 @@ use Rattle.asn_oer.specs.Preambles.{filled_octets}
 -- items of a count of the set, behind it
 abbrev pub ItemsBehind : (ℕ → Type 0) → (ℕ → List Chunk → Type 0) → List ℕ → List Chunk → Type 0
 ItemsBehind S L = Map octets_told (Then (OctetLength S) (λ n. Row L n))
+
+-- how many items there are: as many as the size says, or, where it leaves more than one count, one that stands there
+abbrev pub Count : SizeRange → ℕ → List Chunk → Type 0
+Count s = elim (is_fixed_size s) [ true ↦ Nothing s.low | false ↦ OctetLength (FitsLength s) ]
 
 -- as many items as the size says, or, where it leaves more than one count, items behind their count
 abbrev pub Sized : SizeRange → (ℕ → List Chunk → Type 0) → List ℕ → List Chunk → Type 0
@@ -28,6 +33,12 @@ OctetStrings s = Map octet_list (Sized s OneOctet)
 -- a character, as one octet
 abbrev pub Character : Alphabet → ℕ → List Chunk → Type 0
 Character k = Plain (InDigits 256 1 (λ c. IsTrue (is_of_kind k c)))
+
+-- so many octets in front are characters of the kind, and the next one, where there is one, is none
+pub record IsValidCount (k : Alphabet) (os : List ℕ) (n : ℕ) : Type 0 where
+  pub within : n ≤ length os
+  pub valid : AllByRecursion (λ c. IsTrue (is_of_kind k c)) (take n os)
+  pub other : n < length os → is_of_kind k (get_or os n 0) ≡ false
 
 -- characters of a size ("encoding of restricted character string types", one octet a character)
 abbrev pub CharacterStrings : Alphabet → SizeRange → Datum → List Chunk → Type 0

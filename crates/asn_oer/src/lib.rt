@@ -1,18 +1,19 @@
 //! Canonical OER (X.696).
 #![tactic(auto)]
 
+mod bits_reader;
 mod bits_writer;
 mod boolean_reader;
 mod counted_reader;
 mod elements;
-mod encoder;
-#[cfg(test)]
-mod encoder_tests;
+mod enumerated_reader;
 mod enumerated_writer;
 mod filled_reader;
 mod index_reader;
+mod integer_reader;
 mod integer_sizes;
 mod integer_writer;
+mod items;
 mod kinds;
 mod laws;
 mod length_reader;
@@ -20,18 +21,22 @@ mod length_writer;
 mod octet_string_reader;
 mod octets;
 mod oer;
+#[cfg(test)]
+mod pair_tests;
 mod preamble_reader;
 mod quantity_reader;
+mod read_leaves;
 #[cfg(test)]
-mod reader_tests;
+mod refusal_tests;
+mod rules;
 mod signed_reader;
 mod sizes;
 mod string_writer;
+mod text_reader;
 mod utf8_reader;
 mod write_leaves;
 
 pub use elements::Elements;
-pub use encoder::encode;
 pub use kinds::kinds_compose;
 pub use laws::{
     answers_exclude, codec_laws, decoding_is_unique, encoding_laws, live_by_parts,

@@ -1,7 +1,9 @@
 //! Readers of octets in a row, and of octets after their length (X.696, "length determinant", "open type").
 
-ghost use Rattle.std.specs.Prelude.{◌≡◌, ◌≤◌, IfOk, IfErr, OnOk};
-ghost use Rattle.asn_values.specs.Profile.{is_fixed_size};
+ghost use Rattle.std.specs.Prelude.{◌≤◌, IfOk, IfErr, OnOk};
+ghost use Rattle.asn_values.specs.Datum.{octet_list};
+ghost use Rattle.asn_values.specs.Profile.{InProfile};
+ghost use Rattle.asn_values.specs.Shape.{octet_string};
 ghost use Rattle.asn_values.specs.View.{size_range_of};
 ghost use Rattle.asn_bits.specs.Sets.{Between};
 ghost use Rattle.asn_rules.specs.Chunks.{open_field};
@@ -10,12 +12,13 @@ ghost use Rattle.asn_rules.specs.Frames.{Frame};
 ghost use Rattle.asn_rules.specs.Languages.{Row};
 ghost use Rattle.asn_walk.specs.Laws.{IsSizeOfProfile};
 ghost use Rattle.asn_oer.specs.Oer.{oer_fields};
-ghost use Rattle.asn_oer.specs.Reading.{AtOctet, ReadsOctets, StopsAtOctets};
-ghost use Rattle.asn_oer.specs.Strings.{Sized};
+ghost use Rattle.asn_oer.specs.Reading.{AtOctet, ReadsOctets, StopsAtOctets, ValuesOf};
+ghost use Rattle.asn_oer.specs.Strings.{Count};
 
 use crate::length_reader::read_length;
 use crate::octets::octets_left;
 use crate::quantity_reader::counts_of;
+use crate::sizes::is_fixed;
 use asn_bits::BitCursor;
 use asn_rules::{MAX_OCTETS, Stop};
 use asn_values::Size;
@@ -63,38 +66,44 @@ pub(crate) fn read_octets_behind(
     read_row(alloc, count as usize, units)
 }
 
-/// Reads the octets of an OCTET STRING: as many as the size says, or, where it leaves more than one count, after their
-/// length (X.696, "encoding of octet string types").
+/// Reads how many octets a string of this size has: as many as the size says, or, where it leaves more than one count,
+/// the length that stands before them.
 ///
 /// # Errors
-/// As `read_octets_behind`.
+/// As `read_length`.
+pub(crate) fn read_count(size: &Size, units: &mut BitCursor<'_>) -> Result<usize, Stop>
+    requires at_octet { AtOctet units.old }
+    requires of_profile { IsSizeOfProfile (size_range_of size.now) }
+    ensures at_octet { OnOk result (AtOctet units.new) }
+    ensures done { IfOk result (λ n. ReadsOctets (Count (size_range_of size.now)) n units.old units.new) }
+    ensures stop { IfErr result (λ why. StopsAtOctets (Count (size_range_of size.now)) units.old why) }
+{
+    if is_fixed(size) {
+        return Ok(size.low as usize);
+    }
+    let counts = counts_of(size);
+    Ok(read_length(counts.low, counts.high, units)? as usize)
+}
+
+/// Reads the octets of an OCTET STRING (X.696, "encoding of octet string types").
+///
+/// # Errors
+/// As `read_count` and `read_row`.
 pub(crate) fn read_octet_string(
     alloc: Global,
     size: &Size,
     units: &mut BitCursor<'_>,
 ) -> Result<Vec<u8>, Stop>
     requires at_octet { AtOctet units.old }
-    requires of_profile { IsSizeOfProfile (size_range_of size.now) }
+    requires of_profile { InProfile (octet_string (size_range_of size.now)) }
     ensures at_octet { OnOk result (AtOctet units.new) }
     ensures done { IfOk result (λ os.
-        ReadsOctets (Sized (size_range_of size.now) OneOctet) os.items units.old units.new) }
-    ensures stop { IfErr result (λ why. StopsAtOctets (Sized (size_range_of size.now) OneOctet) units.old why) }
+        ReadsOctets (ValuesOf (octet_string (size_range_of size.now))) (octet_list os.items) units.old units.new) }
+    ensures stop { IfErr result (λ why.
+        StopsAtOctets (ValuesOf (octet_string (size_range_of size.now))) units.old why) }
 {
-    if is_fixed(size) {
-        return read_row(alloc, size.low as usize, units);
-    }
-    let counts = counts_of(size);
-    read_octets_behind(alloc, counts.low, counts.high, units)
-}
-
-/// Whether a size leaves one count.
-fn is_fixed(size: &Size) -> bool
-    ensures { result ≡ is_fixed_size (size_range_of size.now) }
-{
-    match size.high {
-        Some(high) => !size.ext && size.low == high,
-        None => false,
-    }
+    let count = read_count(size, units)?;
+    read_row(alloc, count, units)
 }
 
 /// Reads the octets of an open type field, without its length.

@@ -50,27 +50,27 @@ high_offset_within (Some high) o = (let w = inside high o in omega (arith, offse
 -- ---- up to a high bound
 
 module _ (high : Option ℤ) (o : is_outside high ≡ false) where
-  pub all_offsets : AreOffsets (record { below = 0; from = 0; end = high_offset high }) (λ z. IsUpTo high None z)
+  pub all_offsets : AreOffsets (record { start = 0; below = 0; from = 0; end = high_offset high }) (λ z. IsUpTo high None z)
   all_offsets = record {
     there = λ z h. ((h.0, h.1, offset_most high z o h.0 h.2.0), tt);
     back = λ z h. (h.0.0, h.0.1, (most_offset high z o h.0.0 h.0.1 h.0.2, inr (omega arith)));
   }
 
-  pub other_offsets : (d : ℤ) → lowest_integer ≤ℤ d → AreOffsets (record { below = above lowest_integer d; from = above lowest_integer d + 1; end = high_offset high }) (λ z. IsUpTo high (Some d) z)
+  pub other_offsets : (d : ℤ) → lowest_integer ≤ℤ d → AreOffsets (record { start = 0; below = above lowest_integer d; from = above lowest_integer d + 1; end = high_offset high }) (λ z. IsUpTo high (Some d) z)
   other_offsets d least = record {
     there = λ z h. ((h.0, h.1, offset_most high z o h.0 h.2.0), other z h.2.1);
     back = λ z h. (h.0.0, h.0.1, (most_offset high z o h.0.0 h.0.1 h.0.2, apart z h.0.0 h.1));
   }
     where
-      other : (z : ℤ) → (above lowest_integer z < above lowest_integer d) ⊎ (above lowest_integer d + 1 ≤ above lowest_integer z) → is_default (number d) (number z) ≡ false
+      other : (z : ℤ) → ((0 ≤ above lowest_integer z) × (above lowest_integer z < above lowest_integer d)) ⊎ (above lowest_integer d + 1 ≤ above lowest_integer z) → is_default (number d) (number z) ≡ false
       other z h = go (is_default (number d) (number z)) refl
         where
           go : (b : Bool) → is_default (number d) (number z) ≡ b → b ≡ false
           go false e = refl
-          go true e = (let same = ap (above lowest_integer) (default_test d z e) in absurd (⊎_elim (λ l. omega (arith, l, same)) (λ l. omega (arith, l, same)) h))
+          go true e = (let same = ap (above lowest_integer) (default_test d z e) in absurd (⊎_elim (λ l. omega (arith, l.1, same)) (λ l. omega (arith, l, same)) h))
 
-      apart : (z : ℤ) → lowest_integer ≤ℤ z → is_default (number d) (number z) ≡ false → (above lowest_integer z < above lowest_integer d) ⊎ (above lowest_integer d + 1 ≤ above lowest_integer z)
-      apart z p n = ⊎_elim inl (λ g. ⊎_elim (λ l. inr (omega (arith, l))) (λ l. absurd (same (omega (arith, g, l)))) (cases_lt (above lowest_integer d) (above lowest_integer z))) (cases_lt (above lowest_integer z) (above lowest_integer d))
+      apart : (z : ℤ) → lowest_integer ≤ℤ z → is_default (number d) (number z) ≡ false → ((0 ≤ above lowest_integer z) × (above lowest_integer z < above lowest_integer d)) ⊎ (above lowest_integer d + 1 ≤ above lowest_integer z)
+      apart z p n = ⊎_elim (λ l. inl (omega arith, l)) (λ g. ⊎_elim (λ l. inr (omega (arith, l))) (λ l. absurd (same (omega (arith, g, l)))) (cases_lt (above lowest_integer d) (above lowest_integer z))) (cases_lt (above lowest_integer z) (above lowest_integer d))
         where
           same : above lowest_integer z ≡ above lowest_integer d → ⊥
           same e =
@@ -79,32 +79,32 @@ module _ (high : Option ℤ) (o : is_outside high ≡ false) where
 
 -- ---- outside a root
 
-pub outside_offsets : (b : Range) → InProfile (integer b) → AreOffsets (record { below = low_offset b.low; from = high_offset b.high; end = 2 ^ 64 }) (λ z. IsOutside b z)
+pub outside_offsets : (b : Range) → InProfile (integer b) → AreOffsets (record { start = 0; below = low_offset b.low; from = high_offset b.high; end = 2 ^ 64 }) (λ z. IsOutside b z)
 outside_offsets b good = record { there = λ z h. record { least = h.0; most = h.1; outside = out z h.0 h.1 h.2.1 }; back = λ z h. (h.least, h.most, (offset_below z h.least h.most, back z h.least h.most h.outside)) }
   where
     ends : (is_outside b.low ≡ false) × (is_outside b.high ≡ false)
     ends = bounds_inside b good
 
-    out : (z : ℤ) → lowest_integer ≤ℤ z → z ≤ℤ highest_integer → (above lowest_integer z < low_offset b.low) ⊎ (high_offset b.high ≤ above lowest_integer z) → in_range b z ≡ false
+    out : (z : ℤ) → lowest_integer ≤ℤ z → z ≤ℤ highest_integer → ((0 ≤ above lowest_integer z) × (above lowest_integer z < low_offset b.low)) ⊎ (high_offset b.high ≤ above lowest_integer z) → in_range b z ≡ false
     out z p q h = go (at_least b.low z) (at_most b.high z) refl refl
       where
         go : (x y : Bool) → at_least b.low z ≡ x → at_most b.high z ≡ y → (x && y) ≡ false
         go false y e f = refl
         go true false e f = refl
-        go true true e f = (let l = least_offset b.low z ends.0 p e in let m = most_offset b.high z ends.1 p q f in absurd (⊎_elim (λ k. omega (arith, k, l)) (λ k. omega (arith, k, m)) h))
+        go true true e f = (let l = least_offset b.low z ends.0 p e in let m = most_offset b.high z ends.1 p q f in absurd (⊎_elim (λ k. omega (arith, k.1, l)) (λ k. omega (arith, k, m)) h))
 
-    back : (z : ℤ) → lowest_integer ≤ℤ z → z ≤ℤ highest_integer → in_range b z ≡ false → (above lowest_integer z < low_offset b.low) ⊎ (high_offset b.high ≤ above lowest_integer z)
+    back : (z : ℤ) → lowest_integer ≤ℤ z → z ≤ℤ highest_integer → in_range b z ≡ false → ((0 ≤ above lowest_integer z) × (above lowest_integer z < low_offset b.low)) ⊎ (high_offset b.high ≤ above lowest_integer z)
     back z p q h = ⊎_elim
-        (λ e. inl (⊎_elim (λ l. l) (λ g. absurd (true≢false (sym (offset_least b.low z ends.0 p g) ∙ e))) (cases_lt (above lowest_integer z) (low_offset b.low))))
+        (λ e. inl (omega arith, ⊎_elim (λ l. l) (λ g. absurd (true≢false (sym (offset_least b.low z ends.0 p g) ∙ e))) (cases_lt (above lowest_integer z) (low_offset b.low))))
         (λ e. inr (⊎_elim (λ l. absurd (true≢false (sym (offset_most b.high z ends.1 p l) ∙ e))) (λ g. g) (cases_lt (above lowest_integer z) (high_offset b.high))))
         (and_cases (at_least b.low z) (at_most b.high z) h)
 
 -- where the mark is of use one is there
-pub some_outside : (b : Range) → InProfile (integer b) → b.extensible ≡ true → (w : ℕ) × HasOffset (record { below = low_offset b.low; from = high_offset b.high; end = 2 ^ 64 }) w
+pub some_outside : (b : Range) → InProfile (integer b) → b.extensible ≡ true → (w : ℕ) × HasOffset (record { start = 0; below = low_offset b.low; from = high_offset b.high; end = 2 ^ 64 }) w
 some_outside b good m = ⊎_elim
     (λ e. absurd (true≢false (sym m ∙ e)))
     (λ e. ⊎_elim
-    (λ f. (0, (omega arith, inl (⊎_elim (λ l. l) (λ g. absurd (true≢false (sym (offset_least b.low lowest_integer ends.0 (omega (arith, ints)) g) ∙ f))) (cases_lt 0 (low_offset b.low))))))
+    (λ f. (0, (omega arith, inl (omega arith, ⊎_elim (λ l. l) (λ g. absurd (true≢false (sym (offset_least b.low lowest_integer ends.0 (omega (arith, ints)) g) ∙ f))) (cases_lt 0 (low_offset b.low))))))
     (λ f. (18446744073709551615, (omega arith, inr (⊎_elim (λ l. absurd (true≢false (sym (offset_most b.high highest_integer ends.1 (omega (arith, ints)) l) ∙ f))) (λ g. g) (cases_lt 18446744073709551615 (high_offset b.high))))))
     (and_cases (at_least b.low lowest_integer) (at_most b.high highest_integer) e))
     (and_cases b.extensible (at_least b.low lowest_integer && at_most b.high highest_integer) (good UselessMark))

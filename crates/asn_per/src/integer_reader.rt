@@ -161,12 +161,14 @@ fn offsets_up_to(high: Option<i128>, except: Option<i128>) -> OffsetSet
         Some(excluded) => {
             let below = u128::from(offset_from(LOWEST_INTEGER, excluded));
             OffsetSet {
+                start: 0,
                 below,
                 from: below + 1,
                 end,
             }
         }
         None => OffsetSet {
+            start: 0,
             below: 0,
             from: 0,
             end,
@@ -194,6 +196,7 @@ fn offsets_outside(bounds: &Bounds) -> OffsetSet
     ensures some { (w : ℕ) × HasOffset result w }
 {
     OffsetSet {
+        start: 0,
         below: low_offset(bounds.low),
         from: high_offset(bounds.high),
         end: INTEGER_COUNT,

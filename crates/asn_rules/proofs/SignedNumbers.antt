@@ -12,7 +12,7 @@ use Rattle.asn_rules.specs.Counted.{SomeOf, LeastSigned, signed_number}
 use Rattle.asn_rules.proofs.Counted.{number_again}
 use Rattle.asn_rules.specs.declared.signed_reader.OffsetSet.{OffsetSet}
 use Rattle.asn_bits.specs.Sets.{Among}
-use Rattle.asn_rules.specs.OffsetSets.{HasOffset, HasInteger, IsOpen, least_magnitude_of, AreShifted, AreSigned}
+use Rattle.asn_rules.specs.OffsetSets.{HasOffset, HasInteger, IsOpen, StandsFor, least_magnitude_of, AreShifted, AreSigned, AreStanding}
 
 -- ---- the weight of the sign bit
 
@@ -83,50 +83,68 @@ module _ (s : OffsetSet) (c : ℕ) (some : 1 ≤ c) (few : c ≤ 8) where
   abbrev pub Those : ℤ → Type 0
   Those z = HasInteger s z
 
-  pub from_zero : (n : ℕ) → least_magnitude_of c ≤ n → n < 2 ^ (8 * c - 1) → HasOffset s (n + 2 ^ 63) → LeastSigned Those c n
-  from_zero n low high held =
+  -- an offset on either side of that of 0, of a magnitude from i on
+  abbrev pub Sides : ℕ → ℕ → Type 0
+  Sides i n = ((i ≤ n) × (n < 2 ^ (8 * c - 1)) × HasOffset s (n + 2 ^ 63)) ⊎ ((2 ^ (8 * c - 1) ≤ n) × (n + i < 2 * 2 ^ (8 * c - 1)) × HasOffset s (n + 2 ^ 63 - 2 * 2 ^ (8 * c - 1)))
+
+  stands_above : (n : ℕ) → n < 2 ^ (8 * c - 1) → HasOffset s (n + 2 ^ 63) → StandsFor s c n
+  stands_above n high held =
       let is = number_pos c n high in
       let within = weight_within c some few in
-      record {
-        member = rw is (omega (arith, ints), omega (arith, ints, high, within), held);
-        count = rw is (count_is (pos n) c some low high);
-        fits = omega (arith, half c some, high);
-      }
+      record { member = rw is (omega (arith, ints), omega (arith, ints, high, within), held); fits = omega (arith, half c some, high) }
 
-  pub below_zero : (n : ℕ) → 2 ^ (8 * c - 1) ≤ n → n + least_magnitude_of c < 2 * 2 ^ (8 * c - 1) → HasOffset s (n + 2 ^ 63 - 2 * 2 ^ (8 * c - 1)) → LeastSigned Those c n
-  below_zero n low high held =
+  stands_below : (n : ℕ) → 2 ^ (8 * c - 1) ≤ n → n < 2 * 2 ^ (8 * c - 1) → HasOffset s (n + 2 ^ 63 - 2 * 2 ^ (8 * c - 1)) → StandsFor s c n
+  stands_below n low high held =
       let is = number_neg c n low in
       let within = weight_within c some few in
       let two = half c some in
       let at : 9223372036854775807 - (256 ^ c - 1 - n) ≡ n + 2 ^ 63 - 2 * 2 ^ (8 * c - 1) = omega (arith, two, low, high, within) in
       let most : 256 ^ c - 1 - n ≤ 9223372036854775807 = omega (arith, two, low, within) in
-      record {
-        member = rw is (omega (arith, ints, most), omega (arith, ints), subst (HasOffset s) (sym at) held);
-        count = rw is (count_is (negsuc (256 ^ c - 1 - n)) c some (omega (arith, two, high)) (omega (arith, two, low, high)));
-        fits = omega (arith, two, high);
-      }
+      record { member = rw is (omega (arith, ints, most), omega (arith, ints), subst (HasOffset s) (sym at) held); fits = omega (arith, two, high) }
+
+  -- an integer of the set
+  pub stands : (n : ℕ) → Sides 0 n → StandsFor s c n
+  stands n (inl h) = stands_above n h.1 h.2
+  stands n (inr h) = stands_below n h.0 (omega (arith, h.1)) h.2
 
   -- and back
-  pub at_offset : (n : ℕ) → LeastSigned Those c n → ((least_magnitude_of c ≤ n) × (n < 2 ^ (8 * c - 1)) × HasOffset s (n + 2 ^ 63)) ⊎ ((2 ^ (8 * c - 1) ≤ n) × (n + least_magnitude_of c < 2 * 2 ^ (8 * c - 1)) × HasOffset s (n + 2 ^ 63 - 2 * 2 ^ (8 * c - 1)))
-  at_offset n l = ⊎_elim first second (cases_lt n (2 ^ (8 * c - 1)))
+  pub sides : (n : ℕ) → StandsFor s c n → Sides 0 n
+  sides n l = ⊎_elim first second (cases_lt n (2 ^ (8 * c - 1)))
     where
-      first : n < 2 ^ (8 * c - 1) → ((least_magnitude_of c ≤ n) × (n < 2 ^ (8 * c - 1)) × HasOffset s (n + 2 ^ 63)) ⊎ ((2 ^ (8 * c - 1) ≤ n) × (n + least_magnitude_of c < 2 * 2 ^ (8 * c - 1)) × HasOffset s (n + 2 ^ 63 - 2 * 2 ^ (8 * c - 1)))
+      first : n < 2 ^ (8 * c - 1) → Sides 0 n
       first h =
           let is = number_pos c n h in
           let member = rw is at l.member in
-          let count = rw is at l.count in
-          inl (count_least (pos n) c count, h, member.2)
+          inl (omega arith, h, member.2)
 
-      second : 2 ^ (8 * c - 1) ≤ n → ((least_magnitude_of c ≤ n) × (n < 2 ^ (8 * c - 1)) × HasOffset s (n + 2 ^ 63)) ⊎ ((2 ^ (8 * c - 1) ≤ n) × (n + least_magnitude_of c < 2 * 2 ^ (8 * c - 1)) × HasOffset s (n + 2 ^ 63 - 2 * 2 ^ (8 * c - 1)))
+      second : 2 ^ (8 * c - 1) ≤ n → Sides 0 n
       second h =
           let is = number_neg c n h in
           let member = rw is at l.member in
-          let count = rw is at l.count in
           let two = half c some in
-          let low = count_least (negsuc (256 ^ c - 1 - n)) c count in
           let within = weight_within c some few in
-          let at : 9223372036854775807 - (256 ^ c - 1 - n) ≡ n + 2 ^ 63 - 2 * 2 ^ (8 * c - 1) = omega (arith, two, low, h, within, l.fits) in
-          inr (h, omega (arith, two, low, l.fits), subst (HasOffset s) at member.2)
+          let at : 9223372036854775807 - (256 ^ c - 1 - n) ≡ n + 2 ^ 63 - 2 * 2 ^ (8 * c - 1) = omega (arith, two, h, within, l.fits) in
+          inr (h, omega (arith, two, l.fits), subst (HasOffset s) at member.2)
+
+  pub from_zero : (n : ℕ) → least_magnitude_of c ≤ n → n < 2 ^ (8 * c - 1) → HasOffset s (n + 2 ^ 63) → LeastSigned Those c n
+  from_zero n low high held =
+      let is = number_pos c n high in
+      let t = stands_above n high held in
+      record { member = t.member; count = rw is (count_is (pos n) c some low high); fits = t.fits }
+
+  pub below_zero : (n : ℕ) → 2 ^ (8 * c - 1) ≤ n → n + least_magnitude_of c < 2 * 2 ^ (8 * c - 1) → HasOffset s (n + 2 ^ 63 - 2 * 2 ^ (8 * c - 1)) → LeastSigned Those c n
+  below_zero n low high held =
+      let is = number_neg c n low in
+      let two = half c some in
+      let t = stands_below n low (omega (arith, high)) held in
+      record { member = t.member; count = rw is (count_is (negsuc (256 ^ c - 1 - n)) c some (omega (arith, two, high)) (omega (arith, two, low, high))); fits = t.fits }
+
+  -- and back
+  pub at_offset : (n : ℕ) → LeastSigned Those c n → Sides (least_magnitude_of c) n
+  at_offset n l = ⊎_elim
+      (λ h. (let is = number_pos c n h.1 in let count = rw is at l.count in inl (count_least (pos n) c count, h.1, h.2)))
+      (λ h. (let is = number_neg c n h.0 in let count = rw is at l.count in inr (h.0, omega (arith, half c some, count_least (negsuc (256 ^ c - 1 - n)) c count, l.fits), h.2)))
+      (sides n (record { member = l.member; fits = l.fits }))
 
   -- an offset among those that a count of octets have
   pub some_above : (w : ℕ) → 2 ^ 63 + least_magnitude_of c ≤ w → w < 2 ^ 63 + 2 ^ (8 * c - 1) → HasOffset s w → SomeOf (LeastSigned Those) c
@@ -178,25 +196,35 @@ count_up s c gap some few o = go (some_offset s c some (omega arith) o)
     within w (inl p) = (omega (arith, p.0), omega (arith, p.1))
     within w (inr p) = (omega (arith, p.0), omega (arith, p.1, one))
 
-    -- no hole: the integers end with the highest
-    ended : (w : ℕ) → s.end ≡ 2 ^ 64 → 2 ^ 63 - 2 ^ (8 * c - 1) ≤ w → w < 2 ^ 63 + 2 ^ (8 * c - 1) → (w < s.below) ⊎ (s.from ≤ w) → SomeOf (LeastSigned (λ z. HasInteger s z)) (c + 1)
-    ended w e a b (inl p) = low (2 ^ 63 - 2 ^ (8 * c - 1) - 1) (omega (arith, more, one)) (omega (arith, one, room, more)) (omega (arith, e, one), inl (omega (arith, p, a, one, room, more)))
-    ended w e a b (inr p) = high (2 ^ 63 + 2 ^ (8 * c - 1)) (omega arith) (omega (arith, more, one)) (omega (arith, e, room, more, one), inr (omega (arith, p, b)))
+    -- from the lowest integer to the highest
+    ended : (w : ℕ) → (s.start ≡ 0) × (s.end ≡ 2 ^ 64) → 2 ^ 63 - 2 ^ (8 * c - 1) ≤ w → w < 2 ^ 63 + 2 ^ (8 * c - 1) → ((s.start ≤ w) × (w < s.below)) ⊎ (s.from ≤ w) → SomeOf (LeastSigned (λ z. HasInteger s z)) (c + 1)
+    ended w e a b (inl p) = low (2 ^ 63 - 2 ^ (8 * c - 1) - 1) (omega (arith, more, one)) (omega (arith, one, room, more)) (omega (arith, e.1, one), inl (omega (arith, e.0), omega (arith, p.1, a, one, room, more)))
+    ended w e a b (inr p) = high (2 ^ 63 + 2 ^ (8 * c - 1)) (omega arith) (omega (arith, more, one)) (omega (arith, e.1, room, more, one), inr (omega (arith, p, b)))
 
-    -- a hole of one number at most
-    pierced : (w : ℕ) → s.from ≤ s.below + 1 → 2 ^ 63 - 2 ^ (8 * c - 1) ≤ w → w < s.end → SomeOf (LeastSigned (λ z. HasInteger s z)) (c + 1)
-    pierced w f a b = ⊎_elim
-        (λ l. low (2 ^ 63 - 2 ^ (8 * c - 1) - 1) (omega (arith, more, one)) (omega (arith, one, room, more)) (omega (arith, a, b, one, room, more), inl l))
+    -- from the lowest integer on, a hole of one number at most
+    pierced : (w : ℕ) → s.from ≤ s.below + 1 → s.start ≡ 0 → 2 ^ 63 - 2 ^ (8 * c - 1) ≤ w → w < s.end → SomeOf (LeastSigned (λ z. HasInteger s z)) (c + 1)
+    pierced w f e a b = ⊎_elim
+        (λ l. low (2 ^ 63 - 2 ^ (8 * c - 1) - 1) (omega (arith, more, one)) (omega (arith, one, room, more)) (omega (arith, a, b, one, room, more), inl (omega (arith, e), l)))
         (λ g. ⊎_elim
-        (λ l. low (2 ^ 63 - 2 ^ (8 * c - 1) - 2) (omega (arith, more, one)) (omega (arith, one, room, more)) (omega (arith, a, b, one, room, more), inl (omega (arith, f, l, g, one, room, more))))
+        (λ l. low (2 ^ 63 - 2 ^ (8 * c - 1) - 2) (omega (arith, more, one)) (omega (arith, one, room, more)) (omega (arith, a, b, one, room, more), inl (omega (arith, e), omega (arith, f, l, g, one, room, more))))
         (λ k. low (2 ^ 63 - 2 ^ (8 * c - 1) - 1) (omega (arith, more, one)) (omega (arith, one, room, more)) (omega (arith, a, b, one, room, more), inr k))
         (cases_lt (2 ^ 63 - 2 ^ (8 * c - 1) - 1) s.from))
         (cases_lt (2 ^ 63 - 2 ^ (8 * c - 1) - 1) s.below)
 
+    -- up to the highest, a hole of one number at most
+    raised : (w : ℕ) → s.from ≤ s.below + 1 → s.end ≡ 2 ^ 64 → w < 2 ^ 63 + 2 ^ (8 * c - 1) → ((s.start ≤ w) × (w < s.below)) ⊎ (s.from ≤ w) → SomeOf (LeastSigned (λ z. HasInteger s z)) (c + 1)
+    raised w f e b (inl p) = ⊎_elim
+        (λ l. high (2 ^ 63 + 2 ^ (8 * c - 1)) (omega arith) (omega (arith, more, one)) (omega (arith, e, room, more, one), inl (omega (arith, p.0, b), l)))
+        (λ g. high (2 ^ 63 + 2 ^ (8 * c - 1) + 1) (omega arith) (omega (arith, more, one)) (omega (arith, e, room, more, one), inr (omega (arith, f, g))))
+        (cases_lt (2 ^ 63 + 2 ^ (8 * c - 1)) s.below)
+    raised w f e b (inr p) = high (2 ^ 63 + 2 ^ (8 * c - 1)) (omega arith) (omega (arith, more, one)) (omega (arith, e, room, more, one), inr (omega (arith, p, b)))
+
     go : (w : ℕ) × (((2 ^ 63 + least_magnitude_of c ≤ w) × (w < 2 ^ 63 + 2 ^ (8 * c - 1))) ⊎ ((2 ^ 63 - 2 ^ (8 * c - 1) ≤ w) × (w < 2 ^ 63 - least_magnitude_of c))) × HasOffset s w → SomeOf (LeastSigned (λ z. HasInteger s z)) (c + 1)
     go p =
         let q = within p.0 p.1 in
-        ⊎_elim (λ e. ended p.0 e q.0 q.1 p.2.1) (λ f. pierced p.0 f q.0 p.2.0) gap.1
+        ⊎_elim (λ e. ended p.0 e q.0 q.1 p.2.1)
+        (λ f. ⊎_elim (λ e. pierced p.0 f.0 e q.0 p.2.0) (λ e. raised p.0 f.0 e q.1 p.2.1) f.1)
+        gap.1
 
 -- an integer at an offset has a count
 pub count_of_offset : (s : OffsetSet) (w : ℕ) → s.end ≤ 2 ^ 64 → HasOffset s w → (c : ℕ) × (1 ≤ c) × (c ≤ 8) × SomeOf (LeastSigned (λ z. HasInteger s z)) c
@@ -255,34 +283,38 @@ count_eight s w most held none =
     let k = count_of_offset s w most held in
     ⊎_elim (λ l. absurd (none k.0 l k.3)) (λ g. (let e : k.0 ≡ 8 = omega (arith, g, k.2) in subst (SomeOf (LeastSigned (λ z. HasInteger s z))) e k.3)) (cases_lt k.0 8)
 
--- the numbers of both signs
-pub are_signed : (s : OffsetSet) (c : ℕ) → 1 ≤ c → c ≤ 8 → (mid new : List (ℕ × ℕ)) (i h : ℕ) → i ≡ least_magnitude_of c → h ≡ 2 ^ (8 * c - 1)
-    → AreShifted [] mid s (2 ^ 63 + i) (2 ^ 63 + h) 0 → AreShifted mid new s (2 ^ 63 - h) (2 ^ 63 - i) (2 * h) → AreSigned s c new
-are_signed s c some few mid new i h ei eh p q = record { there = there; back = back }
-  where
-    within : 2 ^ (8 * c - 1) ≤ 2 ^ 63
-    within = weight_within c some few
+-- the numbers of both signs, of a magnitude from i on
+module _ (s : OffsetSet) (c : ℕ) (some : 1 ≤ c) (few : c ≤ 8) (mid new : List (ℕ × ℕ)) (i h : ℕ) (less : i < 2 ^ (8 * c - 1)) (eh : h ≡ 2 ^ (8 * c - 1))
+    (p : AreShifted [] mid s (2 ^ 63 + i) (2 ^ 63 + h) 0) (q : AreShifted mid new s (2 ^ 63 - h) (2 ^ 63 - i) (2 * h)) where
+  within : 2 ^ (8 * c - 1) ≤ 2 ^ 63
+  within = weight_within c some few
 
-    less : least_magnitude_of c < 2 ^ (8 * c - 1)
-    less = least_within c some
+  same : (n : ℕ) → n + 2 ^ 63 - 0 ≡ n + 2 ^ 63
+  same n = omega arith
 
-    same : (n : ℕ) → n + 2 ^ 63 - 0 ≡ n + 2 ^ 63
-    same n = omega arith
+  shifted_there : (n : ℕ) → Sides s c some few i n → Among new n
+  shifted_there n (inl k) = q.kept n (p.added n (omega (arith, k.0)) (omega (arith, k.1, eh)) (subst (HasOffset s) (sym (same n)) k.2))
+  shifted_there n (inr k) = q.added n (omega (arith, k.0, eh, within)) (omega (arith, k.1, eh, less, within)) (subst (λ (x : ℕ). HasOffset s (n + 2 ^ 63 - 2 * x)) (sym eh) k.2)
 
-    there : (n : ℕ) → LeastSigned (λ z. HasInteger s z) c n → Among new n
-    there n l = ⊎_elim
-        (λ k. q.kept n (p.added n (omega (arith, k.0, ei)) (omega (arith, k.1, eh)) (subst (HasOffset s) (sym (same n)) k.2)))
-        (λ k. q.added n (omega (arith, k.0, eh, within)) (omega (arith, k.1, ei, eh, less, within)) (subst (λ (x : ℕ). HasOffset s (n + 2 ^ 63 - 2 * x)) (sym eh) k.2))
-        (at_offset s c some few n l)
+  shifted_back : (n : ℕ) → Among new n → Sides s c some few i n
+  shifted_back n a = ⊎_elim
+      (λ m. ⊎_elim (λ e. absurd e) (λ k. inl (omega (arith, k.0), omega (arith, k.1, eh), subst (HasOffset s) (same n) k.2)) (p.there n m))
+      (λ k. inr (omega (arith, k.0, eh, within), omega (arith, k.1, eh, less, within), subst (λ (x : ℕ). HasOffset s (n + 2 ^ 63 - 2 * x)) eh k.2))
+      (q.there n a)
 
-    first : (n : ℕ) → Among mid n → LeastSigned (λ z. HasInteger s z) c n
-    first n a = ⊎_elim
-        (λ e. absurd e)
-        (λ k. from_zero s c some few n (omega (arith, k.0, ei)) (omega (arith, k.1, eh)) (subst (HasOffset s) (same n) k.2))
-        (p.there n a)
+  -- those that need so many octets
+  pub are_signed : i ≡ least_magnitude_of c → AreSigned s c new
+  are_signed e = record {
+    there = λ n l. shifted_there n (subst (λ (x : ℕ). Sides s c some few x n) (sym e) (at_offset s c some few n l));
+    back = λ n a. ⊎_elim
+        (λ k. from_zero s c some few n (omega (arith, k.0, e)) k.1 k.2)
+        (λ k. below_zero s c some few n k.0 (omega (arith, k.1, e)) k.2)
+        (shifted_back n a);
+  }
 
-    back : (n : ℕ) → Among new n → LeastSigned (λ z. HasInteger s z) c n
-    back n a = ⊎_elim
-        (first n)
-        (λ k. below_zero s c some few n (omega (arith, k.0, eh, within)) (omega (arith, k.1, ei, eh, less, within)) (subst (λ (x : ℕ). HasOffset s (n + 2 ^ 63 - 2 * x)) eh k.2))
-        (q.there n a)
+  -- all of them
+  pub are_standing : i ≡ 0 → AreStanding s c new
+  are_standing e = record {
+    there = λ n l. shifted_there n (subst (λ (x : ℕ). Sides s c some few x n) (sym e) (sides s c some few n l));
+    back = λ n a. stands s c some few n (subst (λ (x : ℕ). Sides s c some few x n) e (shifted_back n a));
+  }

@@ -8,7 +8,7 @@ use Rattle.asn_rules.specs.Forks.{Same}
 use Rattle.asn_rules.specs.Languages.{Plain, Spells}
 use Rattle.asn_rules.specs.Live.{Fielding}
 use Rattle.asn_rules.specs.NumberSets.{Admits}
-use Rattle.asn_rules.specs.OffsetSets.{HasInteger, UnconstrainedIn, AreSigned}
+use Rattle.asn_rules.specs.OffsetSets.{HasInteger, StandsFor, SignedIn, UnconstrainedIn, AreSigned, AreStanding}
 use Rattle.asn_rules.specs.declared.number_reader.NumberSet.{NumberSet}
 use Rattle.asn_rules.specs.declared.signed_reader.OffsetSet.{OffsetSet}
 use Rattle.asn_rules.proofs.Counted.{eight_bits}
@@ -42,6 +42,10 @@ module _ (s : OffsetSet) (low : ℕ)
 -- a number is there after a count
 pub some_number : (s : OffsetSet) (c : ℕ) (is : List (ℕ × ℕ)) → AreSigned s c is → SomeOf (LeastSigned (λ z. HasInteger s z)) c → Meets (λ n. Among is n) 0 (8 * c)
 some_number s c is are o = record { number = o.number; member = are.there o.number o.member; least = omega arith; below = omega (arith, o.fits, two_pow_octets c) }
+
+-- a number in so many octets is read for its integer
+pub standing_leads : (s : OffsetSet) (c : ℕ) (is : List (ℕ × ℕ)) → AreStanding s c is → (R : Fielding) (us : List ℕ) → Leads R (Plain (InDigits 2 (8 * c) (λ n. Among is n))) us (λ n. signed_number (c, n)) (SignedIn c s) us
+standing_leads s c is are R us = leads_on (leads_same R us (same_set 2 (8 * c) are.back are.there)) (leads_map R (λ n. signed_number (c, n)) (Plain (InDigits 2 (8 * c) (StandsFor s c))) us)
 
 -- an integer that is read is one of the profile
 pub signed_within : (R : Fielding) (s : OffsetSet) {z : ℤ} {us r : List ℕ} → Spells R (UnconstrainedIn s) z us r → (lowest_integer ≤ℤ z) × (z ≤ℤ highest_integer)

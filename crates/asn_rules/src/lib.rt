@@ -30,7 +30,7 @@ pub use readings::{one_reading, readings_answer};
 pub use rereading::{Reads, Rereading};
 pub use rules::{Rules, decode};
 pub use session::{FeedFault, OpenFault, Step, Truncated};
-pub use signed_reader::{OffsetSet, read_unconstrained};
+pub use signed_reader::{OffsetSet, read_signed, read_unconstrained};
 pub use stop::Stop;
 pub use whole_number_reader::{
     greatest_of_width, power_of_two, read_constrained, read_semi_constrained,

@@ -4,7 +4,7 @@ ghost use Rattle.std.specs.Prelude.{◌≡◌, ◌≤◌, ◌<◌, ◌+◌, ◌-
 ghost use Rattle.asn_values.specs.Fits.{lowest_integer};
 ghost use Rattle.asn_bits.specs.Sets.{Among};
 ghost use Rattle.asn_rules.specs.Counted.{signed_number};
-ghost use Rattle.asn_rules.specs.OffsetSets.{HasOffset, IsOpen, IsRaised, ReadsOffset, UnconstrainedIn, NeedsCount, least_magnitude_of, AreShifted, AreSigned};
+ghost use Rattle.asn_rules.specs.OffsetSets.{HasOffset, IsOpen, IsRaised, ReadsOffset, SignedIn, StandsFor, UnconstrainedIn, NeedsCount, least_magnitude_of, AreShifted, AreSigned, AreStanding};
 ghost use Rattle.asn_rules.specs.PlainReading.{StopsPlain};
 
 use crate::fault::Why;
@@ -13,10 +13,11 @@ use crate::stop::Stop;
 use asn_bits::{BitCursor, Intervals};
 use asn_values::profile::OFFSET_OF_ZERO;
 
-/// Integers by their offsets, how far they lie above the lowest one of the profile: the offsets below `below` and
-/// those from `from` on, all below `end`.
+/// Integers by their offsets, how far they lie above the lowest one of the profile: the offsets from `start` to those
+/// below `below`, and those from `from` on, all below `end`.
 #[derive(Clone, Copy)]
 pub struct OffsetSet {
+    pub start: u128,
     pub below: u128,
     pub from: u128,
     pub end: u128,
@@ -36,7 +37,7 @@ pub fn read_unconstrained(
 ) -> Result<u64, Stop>
     requires gap { IsOpen set }
     requires some { (w : ℕ) × HasOffset set w }
-    ensures done { ReadsOffset set result bits.old bits.new }
+    ensures done { ReadsOffset (UnconstrainedIn set) result bits.old bits.new }
     ensures stop { StopsPlain (UnconstrainedIn set) result bits.old }
 {
     let counts = NumberSet {
@@ -46,6 +47,27 @@ pub fn read_unconstrained(
     };
     let count = read_number(8, counts, in_count, bits)? as u32;
     let number = read_number_among(8 * count, numbers_of_count(set, count), in_number, bits)?;
+    Ok(offset_of(count, number))
+}
+
+/// Reads an integer of the set in `count` octets of two's complement. Returns its offset.
+///
+/// # Errors
+/// `Short` if the bits end before the integer does. `Refused`, with the reason `why`, at the first bit after which no
+/// integer of the set can follow.
+pub fn read_signed(
+    count: u32,
+    set: OffsetSet,
+    why: Why,
+    bits: &mut BitCursor<'_>,
+) -> Result<u64, Stop>
+    requires many { 1 ≤ count }
+    requires few { count ≤ 8 }
+    requires some { (n : ℕ) × StandsFor set count n }
+    ensures done { ReadsOffset (SignedIn count set) result bits.old bits.new }
+    ensures stop { StopsPlain (SignedIn count set) result bits.old }
+{
+    let number = read_number_among(8 * count, numbers_in(set, count), why, bits)?;
     Ok(offset_of(count, number))
 }
 
@@ -85,7 +107,30 @@ fn has_between(set: OffsetSet, first: u128, end: u128) -> bool
     ensures back { (w : ℕ) → first ≤ w → w < end → HasOffset set w → IsTrue result }
 {
     let end = end.min(set.end);
-    first < end.min(set.below) || first.max(set.from) < end
+    first.max(set.start) < end.min(set.below) || first.max(set.from) < end
+}
+
+/// The integers of the set, as the unsigned numbers that `count` octets hold.
+fn numbers_in(set: OffsetSet, count: u32) -> Intervals
+    requires some { 1 ≤ count }
+    requires few { count ≤ 8 }
+    ensures { AreStanding set count result }
+{
+    let weight = sign_weight(count);
+    let numbers = add_shifted(
+        Intervals::none(),
+        set,
+        OFFSET_OF_ZERO,
+        OFFSET_OF_ZERO + weight,
+        0,
+    );
+    add_shifted(
+        numbers,
+        set,
+        OFFSET_OF_ZERO - weight,
+        OFFSET_OF_ZERO,
+        2 * weight,
+    )
 }
 
 /// The integers of the set that need `count` octets, as the unsigned numbers that these octets hold.
@@ -121,7 +166,7 @@ fn add_shifted(numbers: Intervals, set: OffsetSet, first: u128, end: u128, up: u
     ensures room { length result ≤ length numbers + 2 }
 {
     let end = end.min(set.end);
-    let front = add_interval(numbers, first, end.min(set.below), up);
+    let front = add_interval(numbers, first.max(set.start), end.min(set.below), up);
     add_interval(front, first.max(set.from), end, up)
 }
 

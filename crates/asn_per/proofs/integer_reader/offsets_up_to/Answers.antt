@@ -1,4 +1,4 @@
-use Rattle.std.proofs.Common.{◌≡◌, Some, None, inr, arith}
+use Rattle.std.proofs.Common.{◌≡◌, Some, None, inl, inr, refl, arith}
 use Rattle.asn_values.specs.Fits.{lowest_integer}
 use Rattle.asn_bits.specs.Numbers.{above}
 use Rattle.asn_bits.proofs.Above.{kept}
@@ -20,7 +20,7 @@ returns-in-Some-clause-same c =
 pub returns-in-Some-clause-gap : goal.returns-in-Some-clause-gap
 returns-in-Some-clause-gap c =
     let out = (bounds_inside (unmarked None c.args.high) c.requires.of_profile).1 in
-    (omega (arith, high_offset_within c.args.high out, c.high_offset-end.ensures), inr (omega arith))
+    (omega (arith, high_offset_within c.args.high out, c.high_offset-end.ensures), inr (omega arith, inl refl))
 
 pub returns-in-None-clause-same : goal.returns-in-None-clause-same
 returns-in-None-clause-same c =
@@ -30,4 +30,4 @@ returns-in-None-clause-same c =
 pub returns-in-None-clause-gap : goal.returns-in-None-clause-gap
 returns-in-None-clause-gap c =
     let out = (bounds_inside (unmarked None c.args.high) c.requires.of_profile).1 in
-    (omega (arith, high_offset_within c.args.high out, c.high_offset-end.ensures), inr (omega arith))
+    (omega (arith, high_offset_within c.args.high out, c.high_offset-end.ensures), inr (omega arith, inl refl))

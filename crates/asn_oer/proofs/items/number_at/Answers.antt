@@ -5,7 +5,7 @@ use Rattle.asn_values.specs.Profile.{InProfile}
 use Rattle.asn_values.specs.Shape.{enumerated, marked_labels}
 use Rattle.asn_values.specs.View.{label_of, more_labels_of}
 use Rattle.asn_oer.proofs.WrittenItems.{root_number, added_number}
-use Rattle.asn_oer.proofs.enumerated_writer.number_at.Goals as goal
+use Rattle.asn_oer.proofs.items.number_at.Goals as goal
 
 pub returns-then-place-root : goal.returns-then-place-root
 returns-then-place-root c =

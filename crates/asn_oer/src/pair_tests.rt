@@ -1,33 +1,34 @@
-//! What no clause says: that values are encoded where there is memory, and octets that were worked out by hand from
-//! X.696.
-use crate::encode;
-use asn_rules::EncodeFault;
-use asn_values::{Alt, AsnType, Bounds, Checked, Field, Item, Need, Size, TextKind, Value};
+//! What no clause says: that values are encoded and octets decoded where there is memory, at once and octet by octet, and
+//! octets that were worked out by hand from X.696.
+use crate::oer::Oer;
+use crate::refusal_tests::answer_octet_by_octet;
+use asn_rules::{EncodeFault, Rules, decode};
+use asn_values::{Alt, AsnType, Bounds, Checked, Field, Item, Need, Size, TextKind, Value, same};
 use std::alloc::{AllocError, Global};
 use std::process::Abort;
 use std::test::Fail;
 
 /// INTEGER with these bounds, and an extension mark where `ext`
-fn integer(low: Option<i128>, high: Option<i128>, ext: bool) -> AsnType {
+pub(crate) fn integer(low: Option<i128>, high: Option<i128>, ext: bool) -> AsnType {
     AsnType::Int(Bounds { low, high, ext })
 }
 
 /// SIZE (low..high), with an extension mark where `ext`
-fn size(low: u32, high: Option<u32>, ext: bool) -> Size {
+pub(crate) fn size(low: u32, high: Option<u32>, ext: bool) -> Size {
     Size { low, high, ext }
 }
 
 /// no SIZE
-fn any() -> Size {
+pub(crate) fn any() -> Size {
     size(0, None, false)
 }
 
 /// SIZE (count)
-fn exactly(count: u32) -> Size {
+pub(crate) fn exactly(count: u32) -> Size {
     size(count, Some(count), false)
 }
 
-fn field(alloc: Global, name: &str, ty: AsnType, need: Need) -> Result<Field, AllocError> {
+pub(crate) fn field(alloc: Global, name: &str, ty: AsnType, need: Need) -> Result<Field, AllocError> {
     let name = String::from_str(alloc, name)?;
     Ok(Field { name, ty, need })
 }
@@ -49,7 +50,7 @@ fn items(alloc: Global, named: &[(&str, i64)]) -> Result<Vec<Item>, AllocError> 
 }
 
 /// ENUMERATED { red(0), green(5), blue(200), ..., grey(300) }
-fn colours(alloc: Global) -> Result<AsnType, AllocError> {
+pub(crate) fn colours(alloc: Global) -> Result<AsnType, AllocError> {
     Ok(AsnType::Enum {
         root: items(alloc, &[("red", 0), ("green", 5), ("blue", 200)])?,
         ext: Some(items(alloc, &[("grey", 300)])?),
@@ -66,7 +67,7 @@ fn heights(alloc: Global) -> Result<AsnType, AllocError> {
 }
 
 /// SEQUENCE { id INTEGER (0..7), ok BOOLEAN DEFAULT TRUE, note IA5String (SIZE (0..3)) OPTIONAL }
-fn noted(alloc: Global) -> Result<AsnType, AllocError> {
+pub(crate) fn noted(alloc: Global) -> Result<AsnType, AllocError> {
     let note = AsnType::Text(TextKind::Ia5, size(0, Some(3), false));
     let root = vec![in alloc;
         field(alloc, "id", integer(Some(0), Some(7), false), Need::Must)?,
@@ -77,7 +78,7 @@ fn noted(alloc: Global) -> Result<AsnType, AllocError> {
 }
 
 /// SEQUENCE { a BOOLEAN, ..., additions }
-fn marked(alloc: Global, additions: Vec<Field>) -> Result<AsnType, AllocError> {
+pub(crate) fn marked(alloc: Global, additions: Vec<Field>) -> Result<AsnType, AllocError> {
     Ok(AsnType::Seq {
         root: vec![in alloc; field(alloc, "a", AsnType::Bool, Need::Must)?]?,
         ext: Some(additions),
@@ -85,7 +86,7 @@ fn marked(alloc: Global, additions: Vec<Field>) -> Result<AsnType, AllocError> {
 }
 
 /// SEQUENCE { a BOOLEAN, ..., b INTEGER (0..255) OPTIONAL, c OCTET STRING OPTIONAL }, without c where there is `one`
-fn extended(alloc: Global, one: bool) -> Result<AsnType, AllocError> {
+pub(crate) fn extended(alloc: Global, one: bool) -> Result<AsnType, AllocError> {
     let octet = integer(Some(0), Some(255), false);
     let mut additions = vec![in alloc; field(alloc, "b", octet, Need::Optional)?]?;
     if !one {
@@ -95,7 +96,7 @@ fn extended(alloc: Global, one: bool) -> Result<AsnType, AllocError> {
 }
 
 /// CHOICE { x NULL, y BOOLEAN, z INTEGER (0..3), ..., w OCTET STRING }
-fn letters(alloc: Global) -> Result<AsnType, AllocError> {
+pub(crate) fn letters(alloc: Global) -> Result<AsnType, AllocError> {
     let root = vec![in alloc;
         alternative(alloc, "x", AsnType::Null)?,
         alternative(alloc, "y", AsnType::Bool)?,
@@ -106,7 +107,7 @@ fn letters(alloc: Global) -> Result<AsnType, AllocError> {
 }
 
 /// SEQUENCE (SIZE) OF BOOLEAN
-fn truths_of(alloc: Global, size: Size) -> Result<AsnType, AllocError> {
+pub(crate) fn truths_of(alloc: Global, size: Size) -> Result<AsnType, AllocError> {
     Ok(AsnType::SeqOf(Box::new(alloc, AsnType::Bool)?, size))
 }
 
@@ -129,7 +130,7 @@ fn row(alloc: Global, count: usize, octet: u8) -> Result<Vec<u8>, AllocError> {
     Ok(octets)
 }
 
-/// The octets are the encoding of the value.
+/// The octets are the encoding of the value, to both sides, and to a session octet by octet.
 fn expect(
     rt: &impl Abort,
     alloc: Global,
@@ -138,12 +139,16 @@ fn expect(
     octets: &[u8],
 ) -> Result<(), Fail> {
     let ty = Checked::new(alloc, ty)?;
-    let encoded = encode(alloc, &ty, &value)?;
+    let encoded = Oer::encode(alloc, &ty, &value)?;
     assert_eq!(rt; encoded.as_slice(), octets);
+    let decoded = decode::<Oer>(alloc, &ty, octets)?;
+    assert!(rt; same(&decoded, &value), "at {octets:?}");
+    let fed = answer_octet_by_octet(alloc, &ty, octets)?;
+    assert!(rt; same(&fed, &value), "at {octets:?}, octet by octet");
     Ok(())
 }
 
-/// The octets in front of the encoding of the value, which ends with `count` equal ones.
+/// The octets in front of the encoding of the value, behind which `count` others stand; it is decoded again.
 fn expect_front(
     rt: &impl Abort,
     alloc: Global,
@@ -153,9 +158,11 @@ fn expect_front(
     count: usize,
 ) -> Result<(), Fail> {
     let ty = Checked::new(alloc, ty)?;
-    let encoded = encode(alloc, &ty, &value)?;
+    let encoded = Oer::encode(alloc, &ty, &value)?;
     assert!(rt; encoded.as_slice().starts_with(front));
     assert_eq!(rt; encoded.len().checked_sub(front.len()), Some(count));
+    let decoded = decode::<Oer>(alloc, &ty, encoded.as_slice())?;
+    assert!(rt; same(&decoded, &value), "behind {front:?}");
     Ok(())
 }
 
@@ -163,7 +170,7 @@ fn expect_front(
 fn expect_refusal(rt: &impl Abort, alloc: Global, ty: AsnType, value: Value) -> Result<(), Fail> {
     let ty = Checked::new(alloc, ty)?;
     assert_eq!(rt;
-        encode(alloc, &ty, &value).err(),
+        Oer::encode(alloc, &ty, &value).err(),
         Some(EncodeFault::NotOfType)
     );
     Ok(())
@@ -412,10 +419,10 @@ fn additions_have_octets(rt: HostRuntime) -> Result<(), Fail> {
 }
 
 /// The name of the place.
-fn name_of(alloc: Global, place: u8) -> Result<String, AllocError> {
+fn name_of(alloc: Global, place: u16) -> Result<String, AllocError> {
     let mut name = String::from_str(alloc, "n")?;
-    for digit in [place / 10, place % 10] {
-        name.push(char::from(b'0' + digit))?;
+    for unit in [100, 10, 1] {
+        name.push(char::from(b'0' + (place / unit % 10) as u8))?;
     }
     Ok(name)
 }
@@ -471,5 +478,34 @@ fn limits_of_the_profile_are_met(rt: HostRuntime) -> Result<(), Fail> {
         AsnType::Choice { root, ext: None },
         last,
         b"\xbe\xff",
-    )
+    )?;
+    let mut named = Vec::new(alloc);
+    for number in 0..256 {
+        named.push(Item {
+            name: name_of(alloc, number)?,
+            number: i64::from(number),
+        })?;
+    }
+    let ty = AsnType::Enum {
+        root: named,
+        ext: None,
+    };
+    expect(&rt, alloc, ty, Value::Enum(255), b"\x82\x00\xff")
+}
+
+#[test]
+fn types_are_nested_to_the_limit(rt: HostRuntime) -> Result<(), Fail> {
+    let alloc = rt.alloc();
+    let mut ty = AsnType::Bool;
+    let mut value = Value::Bool(true);
+    for _ in 0..31 {
+        ty = AsnType::SeqOf(Box::new(alloc, ty)?, any());
+        value = Value::List(vec![in alloc; value]?);
+    }
+    let mut octets = Vec::new(alloc);
+    for _ in 0..31 {
+        octets.extend_from_slice(b"\x01\x01")?;
+    }
+    octets.push(0xff)?;
+    expect(&rt, alloc, ty, value, octets.as_slice())
 }

@@ -1,0 +1,5 @@
+use Rattle.asn_oer.proofs.Tells.{oer_tells}
+use Rattle.asn_oer.proofs.rules.OerReads.keep_reading_laws.Goals as goal
+
+pub returns : goal.returns
+returns c = oer_tells

@@ -1,0 +1,9 @@
+use Rattle.asn_oer.proofs.Tells.{oer_tells}
+use Rattle.asn_oer.proofs.Whole.{oer_laws}
+use Rattle.asn_oer.proofs.rules.OerRules.keep_laws.Goals as goal
+
+pub returns-clause-laws : goal.returns-clause-laws
+returns-clause-laws c = oer_laws
+
+pub returns-clause-tells : goal.returns-clause-tells
+returns-clause-tells c = oer_tells

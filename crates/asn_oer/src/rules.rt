@@ -1,0 +1,93 @@
+//! Canonical OER as encoding rules: the encoder, and sessions that keep all octets and read them again with each piece.
+ghost use Rattle.std.specs.Prelude.{[], Err, IfOk};
+ghost use Rattle.asn_values.specs.Shape.{Shape};
+ghost use Rattle.asn_rules.specs.Rereading.{FedAtOnce, TellsIfNone, Keeps};
+ghost use Rattle.asn_oer.specs.Rules.{oer_ruling};
+
+use crate::oer::Oer;
+use asn_rules::{
+    EncodeFault, FeedFault, OpenFault, Reads, Rereading, Rules, Step, Truncated, rereading,
+};
+use asn_values::{Checked, Value};
+use std::alloc::{AllocError, Global};
+
+impl Reads for Oer {
+    ghost ruling = { oer_ruling };
+
+    #[inline(always)]
+    #[tactic(auto, unfolding(crate::specs::Walk::oer_coding))]
+    fn read(alloc: Global, ty: &Checked, octets: &[u8]) -> Result<Step, FeedFault> {
+        asn_walk_read::read_message::<Oer>(alloc, ty, octets)
+    }
+
+    #[tactic(auto, unfolding(crate::specs::Walk::oer_coding))]
+    fn may_be_empty(alloc: Global, ty: &Checked) -> Result<bool, AllocError> {
+        is_value(&asn_walk_read::read_message::<Oer>(alloc, ty, &[]))
+    }
+
+    #[inline(always)]
+    #[tactic(auto, unfolding(crate::specs::Rules::oer_ruling))]
+    fn units_of(octets: usize) -> u64 {
+        octets as u64
+    }
+
+    #[inline(always)]
+    fn keep_reading_laws() {}
+}
+
+impl Rules for Oer {
+    type Session = Rereading;
+
+    ghost ruling = { oer_ruling };
+
+    ghost took = { Keeps oer_ruling };
+
+    #[tactic(auto, unfolding(crate::specs::Walk::oer_coding))]
+    fn encode(alloc: Global, ty: &Checked, value: &Value) -> Result<Vec<u8>, EncodeFault> {
+        asn_walk_write::encode::<Oer>(alloc, ty, value)
+    }
+
+    fn open(alloc: Global, ty: Checked) -> Result<Rereading, OpenFault> {
+        rereading::open::<Oer>(alloc, ty)
+    }
+
+    fn feed(session: &mut Rereading, piece: &[u8]) -> Result<Step, FeedFault> {
+        rereading::feed::<Oer>(session, piece)
+    }
+
+    fn finish(session: Rereading) -> Result<(), Truncated> {
+        rereading::finish::<Oer>(session)
+    }
+
+    fn keep_laws() {}
+}
+
+/// Whether what was answered to no octets is a value.
+///
+/// # Errors
+/// `AllocError` where an allocation failed.
+#[tactic(auto, using(crate::proofs::NoOctets::more_told))]
+fn is_value(answer: &Result<Step, FeedFault>) -> Result<bool, AllocError>
+    ensures { (t : Shape) → FedAtOnce oer_ruling t [] answer.now → IfOk result (TellsIfNone oer_ruling t) }
+{
+    match answer {
+        Ok(Step::Done { .. }) => Ok(true),
+        Ok(Step::More) => Ok(false),
+        Err(fault) => no_value(*fault),
+    }
+}
+
+/// That a fault answered to no octets is no value.
+///
+/// # Errors
+/// As `is_value`.
+fn no_value(fault: FeedFault) -> Result<bool, AllocError>
+    ensures { (t : Shape) → FedAtOnce oer_ruling t [] (Err fault) → IfOk result (TellsIfNone oer_ruling t) }
+{
+    match fault {
+        FeedFault::Memory => Err(AllocError),
+        FeedFault::Refused { .. } => Ok(false),
+        FeedFault::TooLong => Ok(false),
+        FeedFault::Spent => Ok(false),
+    }
+}

@@ -1,0 +1,10 @@
+//! Conversion between encoding rules, and jobs: a module text and lines go in, an answer for each line comes out.
+#![tactic(auto)]
+
+mod conversion;
+mod job;
+mod laws;
+
+pub use conversion::{ConvertFault, convert};
+pub use job::{Job, Order, RuleName, RunFault, Status};
+pub use laws::conversion_turns_back;

@@ -25,7 +25,7 @@ decoded_encodes r t o v os d = record { octets = os; encoding = subst (IsEncodin
 
 -- octets that are converted are decoded
 never_refused : (a b : Ruling) (t : Shape) (o p : List ℕ) (why : DecodeFault) → RulesLaws a → InProfile t → Decoded a (Err why) t o → Converts a b t o p → why ≡ decode.Memory
-never_refused a b t o p why la good d c = ⊎_elim (λ h. cc (h.1.0)) (λ e. cc) (decodes_encoded a la t c.0 o (Err why) good c.1 d)
+never_refused a b t o p why la good d c = ⊎_elim (λ h. cc h.1) (λ e. cc e) (decodes_encoded a la t c.0 o (Err why) good c.1 d)
 
 read_memory : (why : DecodeFault) (p : List ℕ) → why ≡ decode.Memory → GivesUnlessMemory (Err (fault.Read why)) p
 read_memory why p e = rw e tt

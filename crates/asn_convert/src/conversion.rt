@@ -3,7 +3,7 @@ ghost use Rattle.std.specs.Prelude.{ℕ, List};
 ghost use Rattle.asn_values.specs.View.{shape_of};
 ghost use Rattle.asn_convert.specs.Converted.{Converts, Converted, GivesUnlessMemory};
 
-use asn_rules::{DecodeFault, EncodeFault, Rules, are_octets, codec_laws, decode};
+use asn_rules::{DecodeFault, EncodeFault, Rules, are_octets, decode};
 use asn_values::Checked;
 use std::alloc::Global;
 use thiserror::Error;
@@ -41,7 +41,18 @@ pub fn convert<A: Rules, B: Rules>(
 {
     A::keep_laws();
     B::keep_laws();
-    codec_laws();
+    let _of_profile = ty.get();
+    recode::<A, B>(alloc, ty, octets)
+}
+
+/// Decodes the octets by A and encodes their value by B.
+fn recode<A: Rules, B: Rules>(
+    alloc: Global,
+    ty: &Checked,
+    octets: &[u8],
+) -> Result<Vec<u8>, ConvertFault>
+    ensures { Converted A.ruling B.ruling result (shape_of ty.now) octets.now }
+{
     are_octets(octets);
     let value = match decode::<A>(alloc, ty, octets) {
         Ok(value) => value,

@@ -2,6 +2,7 @@
 #![tactic(auto)]
 
 mod conversion;
+mod cut;
 mod job;
 mod laws;
 

@@ -1,2 +1,4 @@
 pub mod Converting
 pub mod Lines
+pub mod PlainJson
+pub mod Told

@@ -1,11 +1,12 @@
 -- What is written of a value has no floating point number.
-use Rattle.std.proofs.Common.{◌≡◌, ◌-◌, ℕ, zero, suc, ℤ, Bool, true, false, ◌||◌, List, [], ◌∷◌, ◌++◌, map, length, take, drop, Option, Some, None, nat_lt, slice_get, if◌then◌else◌, refl}
-use Rattle.std.specs.Prelude.{nat_cmp, Less, Equal, Greater, match_ordering, slice_cmp, pos, negsuc}
+use Rattle.std.proofs.Common.{◌≡◌, ◌-◌, ℕ, zero, suc, ℤ, Bool, true, false, ◌||◌, List, [], ◌∷◌, ◌++◌, map, length, take, drop, Option, Some, None, nat_lt, slice_get, if◌then◌else◌, refl, subst}
+use Rattle.std.specs.Global.{Global}
+use Rattle.std.specs.Prelude.{Result, Ok, Err, IfOk, String, string_bytes, nat_cmp, Less, Equal, Greater, match_ordering, slice_cmp, pos, negsuc}
 use Rattle.serde_json.specs.Data as data
 use Rattle.serde_json.specs.Data.{Data, Members, no_members, member, put, number}
 use Rattle.serde_json.specs.Find.{is_float, of_integer}
 use Rattle.serde_json.specs.View.{items_of}
-use Rattle.serde_json.specs.Written.{has_float, items_have_float, members_have_float}
+use Rattle.serde_json.specs.Written.{has_float, items_have_float, members_have_float, compact_text}
 use Rattle.asn_values.specs.Datum.{Datum, truth, item, bit_list, octet_list, characters, unicode, components, elements, alternative, component_list, element_list}
 use Rattle.asn_values.specs.Datum as datum
 use Rattle.asn_values.specs.Shape.{Shape, integer, enumerated, bit_string, octet_string, restricted, utf8_string, sequence, sequence_of, choice, Fields, no_fields, field, MoreFields, closed, marked, demands, Alternatives, no_alternatives, one_of, MoreAlternatives, closed_choice, marked_choice, count, more_labels}
@@ -117,3 +118,11 @@ mutual
   addition_plain : (more : MoreAlternatives) (p : ℕ) (d : Datum) → has_float (json_addition more p d) ≡ false
   addition_plain closed_choice p d = refl
   addition_plain (marked_choice alts) p d = alternative_plain alts p d
+
+-- ---- its text
+
+-- the text that is written of JSON without floating point numbers, for the JSON of a value
+pub text_plain : {E : Type 0} (r : Result (String Global) E) (t : Shape) (v : Datum) (j : Data) → j ≡ json_of t v → IfOk r (λ s. has_float j ≡ false → string_bytes s ≡ compact_text j)
+    → IfOk r (λ s. string_bytes s ≡ compact_text (json_of t v))
+text_plain (Ok s) t v j e h = subst (λ d. string_bytes s ≡ compact_text d) e (h (rw e (plain t v)))
+text_plain (Err x) t v j e h = tt

@@ -3,7 +3,7 @@ use Rattle.std.specs.Prelude.{◌≡◌, ◌≢◌, ◌<◌, ◌⊎◌, ℕ, Boo
 use Rattle.std.specs.Fmt.{decimal}
 use Rattle.hex.specs.Hex.{decode_of, encode_lower}
 use Rattle.serde_json.specs.Data.{Data}
-use Rattle.serde_json.specs.Read.{read_text}
+use Rattle.serde_json.specs.Read.{read}
 use Rattle.serde_json.specs.Written.{compact_text}
 use Rattle.asn_values.specs.Datum.{Datum}
 use Rattle.asn_values.specs.Shape.{Shape}
@@ -25,12 +25,13 @@ use Rattle.asn_convert.specs.declared.job.Order.TheVariants as order
 use Rattle.asn_convert.specs.Converted.{Converts}
 
 -- what lines are answered by: the rules of the octets, those that they are converted to, the name of the former,
--- and the type
+-- the type, and what is made of a line
 pub record Terms : Type 0 where
   pub from : Ruling
   pub to : Ruling
   pub name : RuleName
   pub shape : Shape
+  pub order : Order
 
 -- ---- faults in words
 
@@ -56,37 +57,46 @@ TellsJsonFault json.Memory text = ⊥
 -- ---- octets
 
 -- the JSON of the value that they encode
-abbrev pub Shows : Terms → List ℕ → List ℕ → Type 0
-Shows w o text = (v : Datum) × Encoded w.from w.shape v o × (text ≡ compact_text (json_of w.shape v))
+abbrev pub Shows : Ruling → Shape → List ℕ → List ℕ → Type 0
+Shows r t o text = (v : Datum) × Encoded r t v o × (text ≡ compact_text (json_of t v))
 
 -- they encode a value: how many they are
-abbrev pub Checks : Terms → List ℕ → List ℕ → Type 0
-Checks w o text = (v : Datum) × Encoded w.from w.shape v o × (text ≡ codes "ok " ++ decimal (length o))
-
--- the octets of their value by the other rules
-abbrev pub IsConverted : Terms → List ℕ → List ℕ → Type 0
-IsConverted w o text = (p : List ℕ) × Converts w.from w.to w.shape o p × (text ≡ encode_lower p)
+abbrev pub Checks : Ruling → Shape → List ℕ → List ℕ → Type 0
+Checks r t o text = (v : Datum) × Encoded r t v o × (text ≡ codes "ok " ++ decimal (length o))
 
 -- why they are not decoded
-abbrev pub IsNotDecoded : Terms → List ℕ → List ℕ → Type 0
-IsNotDecoded w o text = (fault : DecodeFault) × Decoded w.from (Err fault) w.shape o × TellsDecodeFault w.name fault text
+abbrev pub IsNotDecoded : Ruling → RuleName → Shape → List ℕ → List ℕ → Type 0
+IsNotDecoded r name t o text = (fault : DecodeFault) × Decoded r (Err fault) t o × TellsDecodeFault name fault text
+
+-- the octets of their value by the other rules
+abbrev pub IsConverted : Ruling → Ruling → Shape → List ℕ → List ℕ → Type 0
+IsConverted a b t o text = (p : List ℕ) × Converts a b t o p × (text ≡ encode_lower p)
 
 -- each encoding of the value has more octets than a message may have
 abbrev pub IsTooLong : Ruling → Shape → Datum → Type 0
 IsTooLong r t v = (p : List ℕ) → IsEncoding r t v p → max_octets < length p
 
 -- they encode a value that is too long by the other rules
-abbrev pub IsNotConverted : Terms → List ℕ → List ℕ → Type 0
-IsNotConverted w o text = (v : Datum) × Encoded w.from w.shape v o × IsTooLong w.to w.shape v × (text ≡ codes "! too long")
+abbrev pub IsNotConverted : Ruling → Ruling → Shape → List ℕ → List ℕ → Type 0
+IsNotConverted a b t o text = (v : Datum) × Encoded a t v o × IsTooLong b t v × (text ≡ codes "! too long")
 
--- what is answered to octets: true where it is no refusal
+-- what is answered to octets, by order: true where it is no refusal
+abbrev pub AnswersShow : Ruling → RuleName → Shape → List ℕ → List ℕ → Bool → Type 0
+AnswersShow r name t o text true = Shows r t o text
+AnswersShow r name t o text false = IsNotDecoded r name t o text
+
+abbrev pub AnswersCheck : Ruling → RuleName → Shape → List ℕ → List ℕ → Bool → Type 0
+AnswersCheck r name t o text true = Checks r t o text
+AnswersCheck r name t o text false = IsNotDecoded r name t o text
+
+abbrev pub AnswersConvert : Ruling → Ruling → RuleName → Shape → List ℕ → List ℕ → Bool → Type 0
+AnswersConvert a b name t o text true = IsConverted a b t o text
+AnswersConvert a b name t o text false = IsNotDecoded a name t o text ⊎ IsNotConverted a b t o text
+
 abbrev pub AnswersOctets : Terms → Order → List ℕ → List ℕ → Bool → Type 0
-AnswersOctets w order.Show o text true = Shows w o text
-AnswersOctets w order.Show o text false = IsNotDecoded w o text
-AnswersOctets w order.Check o text true = Checks w o text
-AnswersOctets w order.Check o text false = IsNotDecoded w o text
-AnswersOctets w order.Convert o text true = IsConverted w o text
-AnswersOctets w order.Convert o text false = IsNotDecoded w o text ⊎ IsNotConverted w o text
+AnswersOctets w order.Show o text good = AnswersShow w.from w.name w.shape o text good
+AnswersOctets w order.Check o text good = AnswersCheck w.from w.name w.shape o text good
+AnswersOctets w order.Convert o text good = AnswersConvert w.from w.to w.name w.shape o text good
 AnswersOctets w order.Encode o text good = ⊥
 
 -- what is answered to a line of hexadecimal
@@ -98,24 +108,27 @@ AnswersHex w by line text good = (((octets : List ℕ) → decode_of line ≡ Ok
 
 -- the line is this JSON
 abbrev pub IsJson : List ℕ → Data → Type 0
-IsJson line j = IsUtf8 line × (read_text line ≡ Some j)
+IsJson line j = IsUtf8 line × (read line ≡ Some j)
 
 -- what is answered to the JSON of a value
-abbrev pub AnswersJson : Terms → Data → List ℕ → Bool → Type 0
-AnswersJson w j text true = (v : Datum) × (o : List ℕ) × Shown w.shape j v × Encoded w.from w.shape v o × (text ≡ encode_lower o)
-AnswersJson w j text false = ((fault : JsonFault) × Refused w.shape j fault × TellsJsonFault fault text)
-    ⊎ ((v : Datum) × Shown w.shape j v × Fits w.shape v × IsTooLong w.from w.shape v × (text ≡ codes "! too long"))
+abbrev pub AnswersValue : Ruling → Shape → Data → List ℕ → Bool → Type 0
+AnswersValue r t j text true = (v : Datum) × (o : List ℕ) × Shown t j v × Encoded r t v o × (text ≡ encode_lower o)
+AnswersValue r t j text false = ((fault : JsonFault) × Refused t j fault × TellsJsonFault fault text)
+    ⊎ ((v : Datum) × Shown t j v × Fits t v × IsTooLong r t v × (text ≡ codes "! too long"))
 
 -- what is answered to a line of JSON
-abbrev pub AnswersText : Terms → List ℕ → List ℕ → Bool → Type 0
-AnswersText w line text good = (((j : Data) → IsJson line j → ⊥) × (text ≡ codes "! json") × (good ≡ false))
-    ⊎ ((j : Data) × IsJson line j × AnswersJson w j text good)
+abbrev pub AnswersJson : Ruling → Shape → List ℕ → List ℕ → Bool → Type 0
+AnswersJson r t line text good = (((j : Data) → IsJson line j → ⊥) × (text ≡ codes "! json") × (good ≡ false))
+    ⊎ ((j : Data) × IsJson line j × AnswersValue r t j text good)
 
 -- ---- a line
 
+abbrev pub AnswersBy : Terms → Order → List ℕ → List ℕ → Bool → Type 0
+AnswersBy w order.Encode line text good = AnswersJson w.from w.shape line text good
+AnswersBy w order.Show line text good = AnswersHex w order.Show line text good
+AnswersBy w order.Check line text good = AnswersHex w order.Check line text good
+AnswersBy w order.Convert line text good = AnswersHex w order.Convert line text good
+
 -- the answer to a line, without its LF: true where it is no refusal
-abbrev pub Answers : Terms → Order → List ℕ → List ℕ → Bool → Type 0
-Answers w order.Encode line text good = AnswersText w line text good
-Answers w order.Show line text good = AnswersHex w order.Show line text good
-Answers w order.Check line text good = AnswersHex w order.Check line text good
-Answers w order.Convert line text good = AnswersHex w order.Convert line text good
+abbrev pub Answers : Terms → List ℕ → List ℕ → Bool → Type 0
+Answers w line text good = AnswersBy w w.order line text good

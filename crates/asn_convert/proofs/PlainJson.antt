@@ -1,8 +1,10 @@
 -- What is written of a value has no floating point number.
-use Rattle.std.proofs.Common.{◌≡◌, ◌-◌, ℕ, zero, suc, ℤ, Bool, true, false, ◌||◌, List, [], ◌∷◌, ◌++◌, map, length, take, drop, Option, Some, None, nat_lt, slice_get, if◌then◌else◌, refl, subst}
+use Rattle.std.proofs.Common.{◌≡◌, ◌-◌, ℕ, zero, suc, ℤ, Bool, true, false, ◌||◌, List, [], ◌∷◌, ◌++◌, map, length, take, drop, Option, Some, None, nat_lt, slice_get, if◌then◌else◌, refl, subst, Less, Equal, Greater}
 use Rattle.std.specs.Global.{Global}
-use Rattle.std.specs.Prelude.{Result, Ok, Err, IfOk, String, string_bytes, nat_cmp, Less, Equal, Greater, match_ordering, slice_cmp, pos, negsuc}
-use Rattle.serde_json.specs.Data as data
+use Rattle.std.specs.Prelude.{Result, Ok, Err, IfOk, String, string_bytes, pos, negsuc}
+use Rattle.std.specs.Ordering.{nat_cmp, match_ordering}
+use Rattle.std.specs.Cmp.Lexicographic.{slice_cmp}
+use Rattle.serde_json.specs.Data as json
 use Rattle.serde_json.specs.Data.{Data, Members, no_members, member, put, number}
 use Rattle.serde_json.specs.Find.{is_float, of_integer}
 use Rattle.serde_json.specs.View.{items_of}
@@ -48,7 +50,7 @@ integer_plain (pos n) = refl
 integer_plain (negsuc n) = refl
 
 number_plain : (d : Datum) → has_float (json_number d) ≡ false
-number_plain (datum.number z) = elim (in_range integers z) as (λ b. has_float (if b then number (of_integer z) else data.null) ≡ false) [ true ↦ integer_plain z | false ↦ refl ]
+number_plain (datum.number z) = elim (in_range integers z) as (λ b. has_float (if b then number (of_integer z) else json.null) ≡ false) [ true ↦ integer_plain z | false ↦ refl ]
 number_plain _ = refl
 
 truth_plain : (d : Datum) → has_float (json_truth d) ≡ false

@@ -15,9 +15,12 @@ use Rattle.asn_convert.specs.declared.job.Job.{Job}
 use Rattle.asn_convert.specs.declared.job.Job.TheVariants as job
 use Rattle.asn_convert.specs.declared.job.RunFault.{RunFault}
 use Rattle.asn_convert.specs.declared.job.RunFault.TheVariants as fault
-use Rattle.asn_convert.specs.Lines.{lines_of, IsFirstLine, job_lines}
-use Rattle.asn_convert.specs.Text.{Told, IsBegun, IsAnswered, IsAnswerBegun, IsFront, ended, Writes, Stops, Fails, Text, Tells, TellsBegun, Begun, IsGiven, IsReadFault, terms}
+use Rattle.asn_convert.specs.Lines.{lines_of, IsFirstLine, module_text, job_lines}
+use Rattle.asn_convert.specs.Text.{Told, IsBegun, IsAnswered, IsAnswerBegun, IsFront, ended, Writes, Stops, Fails, Text, Tells, TellsBegun, Begun, IsGiven, IsReadFault, IsModule, IsRefusal, no_type, terms}
 use Rattle.asn_convert.specs.declared.job.Status.{Status}
+use Rattle.asn_convert.specs.declared.job.Status.TheVariants as status
+use Rattle.std.specs.Prelude.{Result, Ok, Err, IfErr, String, string_bytes, min}
+use Rattle.std.specs.Global.{Global}
 
 -- these octets were written for the lines before `left`, with no fault: with answers to the lines left they are answers to all
 pub record Sofar (o : Terms) (all left : List (List ℕ)) (good : Bool) (old new : State) (written : List ℕ) : Type 0 where
@@ -130,6 +133,38 @@ pub read_fails : (a b : Ruling) (j : Job) (why : RunFault) (from behind old : St
 read_fails a b j fault.Read from behind old h = (keeps_same old.octets, h)
 read_fails a b j fault.Write from behind old h = absurd h
 read_fails a b j fault.Memory from behind old h = let given = given_some from.octets in (given.0, given.1, ([], inl refl, appends_nothing old.octets))
+
+-- ---- parts of a run that stop
+
+-- want of memory before anything was written
+pub stops_memory : (why : RunFault) (Q : List ℕ → Type 0) (old : State) → why ≡ fault.Memory → Q [] → Stops why Q old old
+stops_memory why Q old e q = rw e ([], q, appends_nothing old.octets)
+
+-- what stopped a part stops the whole
+pub err_stops_so : {T : Type 0} (r : Result T RunFault) (P Q : List ℕ → Type 0) (old new : State) → ((out : List ℕ) → P out → Q out) → IfErr r (λ why. Stops why P old new) → IfErr r (λ why. Stops why Q old new)
+err_stops_so (Ok x) P Q old new f s = tt
+err_stops_so (Err why) P Q old new f s = stops_so why P Q old new f s
+
+-- a front of the refusal of a name
+pub begun_no_type : (a b : Ruling) (j : Job) (m : ModuleTypes) (lines : List (List ℕ)) (out : List ℕ) (by : Order) (name : String Global) (rules : RuleName) → j ≡ job.Lines by name rules → type_in m.types (string_bytes name) ≡ None
+    → IsFront out (ended (no_type (string_bytes name))) → TellsBegun a b j m lines out
+begun_no_type a b j m lines out by name rules is none front = rw is (inl (none, front))
+
+-- a front of the refusal of a module
+pub begun_refusal : (a b : Ruling) (j : Job) (input text line out : List ℕ) → text ≡ module_text input → IsRefusal text line → IsFront out line → Begun a b j input out
+begun_refusal a b j input text line out same refused front = inr (inl (line, subst (λ t. IsRefusal t line) same refused, front))
+
+-- a beginning for the module that the text is
+pub begun_module : (a b : Ruling) (j : Job) (input text : List ℕ) (lines : List (List ℕ)) (m : ModuleTypes) (out : List ℕ) → text ≡ module_text input → lines ≡ job_lines input → IsModule text m → TellsBegun a b j m lines out → Begun a b j input out
+begun_module a b j input text lines m out same rest is tells = inr (inr (m, subst (λ t. IsModule t m) same is, subst (λ ls. TellsBegun a b j m ls out) rest tells))
+
+-- the refusal of a module is the whole text
+pub text_refusal : (a b : Ruling) (j : Job) (input text line out : List ℕ) → text ≡ module_text input → IsRefusal text line → out ≡ line → Text a b j input out status.NoModule
+text_refusal a b j input text line out same refused is = inl (subst (λ t. IsRefusal t out) same (rw is refused), refl)
+
+-- a count that went up by one rose
+pub flush_rose : (old new : ℕ) → new ≡ min (old + 1) (2 ^ 64 - 1) → Rose old new
+flush_rose old new e = λ below. omega arith
 
 -- ---- reading
 

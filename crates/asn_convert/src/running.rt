@@ -1,8 +1,9 @@
 //! A whole job: reads all, and writes the text of the job.
-ghost use Rattle.std.specs.Prelude.{◌≡◌, IfOk, IfErr, OnOk, string_bytes};
+ghost use Rattle.std.specs.Prelude.{◌≡◌, ◌≢◌, IfOk, IfErr, OnOk, string_bytes};
 ghost use Rattle.asn_values.specs.View.{shape_of};
 ghost use Rattle.asn_rules.specs.Faults.{inner_of, state_of};
 ghost use Rattle.asn_module.specs.ModuleView.{types_view};
+ghost use Rattle.asn_module.specs.declared.fault.ModuleFault.{ModuleFault};
 ghost use Rattle.asn_convert.specs.Lines.{lines_of};
 ghost use Rattle.asn_convert.specs.Text.{Text, Begun, Tells, TellsBegun, Told, IsBegun, IsAnswered, IsAnswerBegun, IsFront, IsModule, IsRefusal, Writes, Stops, Runs, Fails, terms};
 
@@ -15,11 +16,11 @@ use asn_module::{Module, ModuleFault, read};
 use asn_rules::Rules;
 use asn_rules::counting::Counted;
 use asn_values::Checked;
-use std::alloc::Global;
+use std::alloc::{AllocError, Global};
 use std::io::{Read, Write};
 
 /// Reads all, and writes the text of the job, octets being those of the rules A, or converted to those of B.
-pub(crate) fn run_with<A: Rules, B: Rules, R: Read, W: Write>(
+pub fn run_with<A: Rules, B: Rules, R: Read, W: Write>(
     alloc: Global,
     input: &mut Counted<R>,
     output: &mut Counted<W>,
@@ -67,7 +68,7 @@ fn answer_input<A: Rules, B: Rules, W: Write>(
 {
     let (text, lines) = cut_input(input);
     match module_in(alloc, text)? {
-        Ok(module) => answer_module::<A, B, W>(alloc, output, job, &module, lines),
+        Ok(accepted) => answer_module::<A, B, W>(alloc, output, job, &accepted, lines),
         Err(refusal) => {
             put(output, refusal.as_str())?;
             Ok(Status::NoModule)
@@ -85,13 +86,25 @@ fn module_in(alloc: Global, text: &[u8]) -> Result<Result<Module, String>, RunFa
         return Ok(Err(String::from_str(alloc, "! module not text\n")?));
     };
     match read(alloc, text) {
-        Ok(module) => Ok(Ok(module)),
-        Err(ModuleFault::Memory) => Err(RunFault::Memory),
+        Ok(accepted) => Ok(Ok(accepted)),
         Err(fault) => {
-            let words = format!(in alloc; "{fault}")?;
-            Ok(Err(format!(in alloc; "! module {words}\n")?))
+            let words = words_of(alloc, fault)?;
+            let line = format!(in alloc; "! module {words}\n")?;
+            Ok(Err(line))
         }
     }
+}
+
+/// What a fault of a module says.
+///
+/// Err: an allocation failed, here or while the module was read.
+fn words_of(alloc: Global, fault: ModuleFault) -> Result<String, AllocError>
+    ensures { OnOk result (fault ≢ ModuleFault.Memory) }
+{
+    if let ModuleFault::Memory = fault {
+        return Err(AllocError);
+    }
+    format!(in alloc; "{fault}")
 }
 
 /// Writes the text of the job for this module and these lines.
@@ -99,22 +112,22 @@ fn answer_module<A: Rules, B: Rules, W: Write>(
     alloc: Global,
     output: &mut Counted<W>,
     job: &Job,
-    module: &Module,
+    accepted: &Module,
     lines: &[u8],
 ) -> Result<Status, RunFault>
-    ensures text { IfOk result (λ status. Writes (λ out. Tells A.ruling B.ruling job.now (types_view module.now)
+    ensures text { IfOk result (λ status. Writes (λ out. Tells A.ruling B.ruling job.now (types_view accepted.now)
         (lines_of lines.now) out status) (state_of W.contents output.old) (state_of W.contents output.new)) }
     ensures fault { IfErr result (λ fault. Stops fault (λ out. TellsBegun A.ruling B.ruling job.now
-        (types_view module.now) (lines_of lines.now) out) (state_of W.contents output.old)
+        (types_view accepted.now) (lines_of lines.now) out) (state_of W.contents output.old)
         (state_of W.contents output.new)) }
 {
     match job {
         Job::Module => {
-            let text = module.print(alloc)?;
+            let text = accepted.print(alloc)?;
             put(output, text.as_str())?;
             Ok(Status::Good)
         }
-        Job::Lines { order, type_name, rules } => match module.type_named(type_name.as_str()) {
+        Job::Lines { order, type_name, rules } => match accepted.type_named(type_name.as_str()) {
             Some(ty) => {
                 if answer_lines::<A, B, W>(alloc, output, ty, *order, *rules, lines)? {
                     Ok(Status::Good)

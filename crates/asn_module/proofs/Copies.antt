@@ -1,5 +1,4 @@
 -- Loops that copy and build the components of a SEQUENCE and the alternatives of a CHOICE, one turn at a time.
-use Rattle.std.specs.Global.{Box}
 use Rattle.std.proofs.Common.{◌≡◌, ◌<◌, ◌+◌, ℕ, List, [], ◌∷◌, ◌++◌, map, length, drop, get_or, Vec, Global, Bor, Option, Some, None, refl, sym, ap, ◌∙◌, rules}
 use Rattle.std.proofs.lemmas.List.{map_push}
 use Rattle.std.proofs.Math.Seq.{drop-cons}
@@ -26,17 +25,17 @@ use Rattle.asn_module.specs.Known.{built_view}
 use Rattle.asn_module.specs.Meaning.{Meant, ◌>>=◌, free, meant, fields_meant, alternatives_meant, demand_meant, constrained}
 use Rattle.asn_module.proofs.Lists.{before_fields, before_one, before_alternatives, before_one_alternative}
 
-name_of_part : (x : Field) → (part_of_field x).name ≡ string_bytes x.name
+pub name_of_part : (x : Field) → (part_of_field x).name ≡ string_bytes x.name
 name_of_part x = search (rules, the_lemmas)
 
-demand_of_part : (x : Field) → (part_of_field x).demand ≡ demand_of x.need
+pub demand_of_part : (x : Field) → (part_of_field x).demand ≡ demand_of x.need
 demand_of_part x = search (rules, the_lemmas)
 
-name_of_branch : (x : Alt) → (branch_of x).name ≡ string_bytes x.name
+pub name_of_branch : (x : Alt) → (branch_of x).name ≡ string_bytes x.name
 name_of_branch x = search (rules, the_lemmas)
 
 -- the next of a list, and those after it
-next : {A : Type 0} (xs : List A) (i : ℕ) (x : A) → i < length xs → x ≡ get_or xs i x → drop i xs ≡ x ∷ drop (i + 1) xs
+pub next : {A : Type 0} (xs : List A) (i : ℕ) (x : A) → i < length xs → x ≡ get_or xs i x → drop i xs ≡ x ∷ drop (i + 1) xs
 next xs i x h e = rw (add-one, drop-cons xs i x h, ← e) refl
 
 -- ---- copies
@@ -82,10 +81,10 @@ choice_copied ty root more copied also et er em = shape_of-Choice copied (Some a
 
 -- ---- types that are built
 
-part_of_component : (x : ComponentNotation) → tree.part_view x ≡ record { name = x.name.now; tree = tree.tree_view x.ty; need = tree.need_view x.need }
+pub part_of_component : (x : ComponentNotation) → tree.part_view x ≡ record { name = x.name.now; tree = tree.tree_view x.ty; need = tree.need_view x.need }
 part_of_component x = search (rules, notation.the_lemmas)
 
-branch_of_alternative : (x : AlternativeNotation) → tree.branch_view x ≡ record { name = x.name.now; tree = tree.tree_view x.ty }
+pub branch_of_alternative : (x : AlternativeNotation) → tree.branch_view x ≡ record { name = x.name.now; tree = tree.tree_view x.ty }
 branch_of_alternative x = search (rules, notation.the_lemmas)
 
 part_built : (look : List ℕ → Option Meant) (ps : List Part) (p : Part) (q : tree.Part) (rest : List tree.Part) (all : Option Fields) (m : Meant)

@@ -11,7 +11,7 @@ use Rattle.asn_module.specs.declared.fault.Refusal.{Refusal}
 use Rattle.asn_module.specs.declared.known.Built.{Built}
 use Rattle.asn_module.specs.declared.known.Known.{Known}
 use Rattle.asn_module.specs.Meaning.{Meant, meant}
-use Rattle.asn_module.specs.Known.{built_view, known_view, IsKnownOf, IsKnownAs, IsStuck}
+use Rattle.asn_module.specs.Known.{built_view, IsKnownOf, IsKnownAs, IsStuck}
 use Rattle.asn_module.proofs.Meanings.{same_some}
 
 both_ways : (b : Bool) → b ≡ true → b ≡ false → ⊥

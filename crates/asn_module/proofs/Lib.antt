@@ -5,3 +5,8 @@ pub mod Meanings
 pub mod Faults
 pub mod Tables
 pub mod Spaces
+pub mod Adding
+pub mod PrintedBounds
+pub mod PrintedNames
+pub mod PrintedTypes
+pub mod PrintedModules

@@ -1,6 +1,5 @@
 -- What trees stand for, where more is known of names.
-use Rattle.std.proofs.Common.{◌≡◌, ◌+◌, ◌<◌, ℕ, zero, suc, Bool, true, false, cond, List, [], ◌∷◌, Option, Some, None, refl, sym, ap, ◌∙◌, arith, length}
-use Rattle.std.specs.Prelude.{bytes_eq}
+use Rattle.std.proofs.Common.{◌≡◌, ◌+◌, ℕ, zero, suc, List, Option, Some, None, refl, sym, ◌∙◌, arith}
 use Rattle.asn_values.specs.Shape.{Fields, MoreFields, Alternatives, MoreAlternatives}
 use Rattle.asn_values.specs.Shape as s
 use Rattle.asn_notation.specs.Tree as t
@@ -12,7 +11,7 @@ abbrev pub Extends : (List ℕ → Option Meant) → (List ℕ → Option Meant)
 Extends look more = (name : List ℕ) (m : Meant) → look name ≡ Some m → more name ≡ Some m
 
 -- a step that gives a value, and the value of what follows it
-taken : {A B : Type 0} (r : Option A) (f : A → Option B) (y : B) → (r >>= f) ≡ Some y → (x : A) × (r ≡ Some x) × (f x ≡ Some y)
+pub taken : {A B : Type 0} (r : Option A) (f : A → Option B) (y : B) → (r >>= f) ≡ Some y → (x : A) × (r ≡ Some x) × (f x ≡ Some y)
 taken None f y e = absurd cc
 taken (Some x) f y e = (x, refl, e)
 

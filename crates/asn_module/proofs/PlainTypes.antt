@@ -1,10 +1,10 @@
 -- A type of the profile is plain: each DEFAULT in it is a value that a copy keeps.
-use Rattle.std.proofs.Common.{◌≡◌, Bool, true, false, not, ◌||◌, refl, ap, ◌∙◌}
+use Rattle.std.proofs.Common.{◌≡◌, Bool, true, false, not, ◌||◌, refl, ap}
 use Rattle.asn_values.specs.Datum.{Datum, truth, number, item}
-use Rattle.asn_values.specs.Shape.{Shape, boolean, null, integer, enumerated, bit_string, octet_string, restricted, utf8_string, sequence, sequence_of, choice, Demand, must, optional, default, closed_labels, marked_labels, Fields, no_fields, field, MoreFields, closed, marked, more_fields, Alternatives, no_alternatives, one_of, MoreAlternatives, closed_choice, marked_choice}
+use Rattle.asn_values.specs.Shape.{Shape, boolean, null, integer, enumerated, bit_string, octet_string, restricted, utf8_string, sequence, sequence_of, choice, must, optional, default, closed_labels, marked_labels, Fields, no_fields, field, MoreFields, closed, marked, more_fields, Alternatives, no_alternatives, one_of, MoreAlternatives, closed_choice, marked_choice}
 use Rattle.asn_values.specs.Profile.{BadDefault, InProfile, somewhere, some_field, some_addition, some_alternative, some_more, bad_default, bad_default_at, good_default}
 use Rattle.asn_values.proofs.Parts.{left_false, right_false}
-use Rattle.asn_module.specs.Plain.{plain_value, plain_demand, plain, plain_fields, plain_more, plain_alternatives, plain_more_choice}
+use Rattle.asn_module.specs.Plain.{plain_value, plain, plain_fields, plain_more, plain_alternatives, plain_more_choice}
 
 is_true : (b : Bool) → not b ≡ false → b ≡ true
 is_true true e = refl

@@ -1,16 +1,15 @@
 -- The types built so far: what is built stands, and where no more can be built, all that have a type are.
-use Rattle.std.proofs.Common.{◌≡◌, ◌+◌, ◌<◌, ◌≤◌, ℕ, zero, suc, Bool, true, false, cond, List, [], ◌∷◌, ◌++◌, get_or, set, take, length, Option, Some, None, refl, sym, ap, subst, ◌∙◌, arith}
+use Rattle.std.proofs.Common.{◌≡◌, ◌+◌, ◌<◌, ℕ, zero, suc, Bool, true, false, cond, List, [], ◌∷◌, ◌++◌, get_or, set, take, length, Option, Some, None, refl, sym, ap, subst, arith}
 use Rattle.std.specs.Prelude.{bytes_eq, string_bytes}
 use Rattle.std.specs.List.{AllByRecursion}
-use Rattle.asn_values.specs.View.{shape_of}
 use Rattle.asn_values.specs.Profile.{InProfile}
 use Rattle.asn_notation.specs.declared.notation.AssignmentNotation.{AssignmentNotation}
 use Rattle.asn_notation.specs.Tree.{Tree, Assignment, assignment_view, assignments_view}
 use Rattle.asn_module.specs.declared.known.Known.{Known}
 use Rattle.asn_module.specs.declared.known.Named.{Named}
 use Rattle.asn_module.specs.Meaning.{Meant, meant, assigned, stands_for}
-use Rattle.asn_module.specs.Known.{known_view, known_if, look, IsStuck, IsSound, AreSound, IsDone, AreDone, IsBuiltAt, Attempted, counted, unbuilt, typed_if, types_of}
-use Rattle.asn_module.specs.Accepted.{Typed, StandsFor, AreTypes}
+use Rattle.asn_module.specs.Known.{known_view, known_if, look, IsSound, AreSound, IsDone, AreDone, IsBuiltAt, Attempted, counted, unbuilt, typed_if, types_of}
+use Rattle.asn_module.specs.Accepted.{Typed, AreTypes}
 use Rattle.asn_module.proofs.Meanings.{Extends, same_some, meant_more, stands_by, more_steps, one_meaning, step_at, nothing_yet}
 
 abbrev with_known : Named → Known → Named

@@ -4,7 +4,7 @@ use Rattle.asn_values.specs.Shape.{Shape}
 use Rattle.asn_values.specs.Profile.{InProfile, has_twice}
 use Rattle.asn_notation.specs.Tree.{Assignment, ModuleTree}
 use Rattle.asn_notation.specs.ModuleText.{IsModuleText}
-use Rattle.asn_module.specs.Meaning.{Meant, meant, stands_for}
+use Rattle.asn_module.specs.Meaning.{meant, stands_for}
 
 -- a name, and the type that it has
 pub record Typed : Type 0 where

@@ -1,5 +1,5 @@
 -- The bounds that a constraint writes, and those of two constraints together (X.680, "value range", "size constraint").
-use Rattle.std.specs.Prelude.{ℕ, ℤ, Bool, true, false, Option, Some, None, nat_le, nat_lt, if◌then◌else◌, int_lt, max, min}
+use Rattle.std.specs.Prelude.{ℕ, ℤ, false, Option, Some, None, nat_lt, if◌then◌else◌, int_lt}
 use Rattle.asn_values.specs.Shape.{Range, SizeRange}
 use Rattle.asn_notation.specs.declared.notation.Limits.{Limits}
 use Rattle.asn_notation.specs.declared.notation.Limits.TheVariants.{One, Between}

@@ -1,5 +1,5 @@
 -- What the types that are built stand for, and what names stand for among them.
-use Rattle.std.specs.Prelude.{◌≡◌, ℕ, ⊤, Bool, true, false, List, [], ◌∷◌, get_or, set, length, suc, Option, Some, None, Result, MatchResult, string_bytes, bytes_eq, if◌then◌else◌}
+use Rattle.std.specs.Prelude.{◌≡◌, ℕ, ⊤, Bool, true, false, List, [], ◌∷◌, get_or, set, suc, Option, Some, None, Result, MatchResult, string_bytes, bytes_eq, if◌then◌else◌}
 use Rattle.asn_values.specs.declared.types.AsnType.{AsnType}
 use Rattle.asn_values.specs.View.{shape_of}
 use Rattle.asn_module.specs.declared.fault.Refusal.{Refusal}

@@ -1,16 +1,12 @@
 -- What the types of a module stand for (X.680): references followed, and the bounds written along the way met.
-use Rattle.std.specs.Prelude.{◌≡◌, ◌+◌, ℕ, zero, suc, ℤ, pos, negsuc, Bool, true, false, not, ◌&&◌, ◌||◌, List, [], ◌∷◌, ◌++◌, length, Option, Some, None, bytes_eq, nat_lt, nat_le, if◌then◌else◌, map, is_some, int_lt}
+use Rattle.std.specs.Prelude.{ℕ, zero, suc, ℤ, pos, negsuc, Bool, true, false, not, ◌&&◌, ◌||◌, List, [], ◌∷◌, length, Option, Some, None, bytes_eq, nat_lt, if◌then◌else◌, is_some, int_lt}
 use Rattle.std.specs.List.{list_any}
 use Rattle.asn_values.specs.Datum as datum
 use Rattle.asn_values.specs.Datum.{Datum}
 use Rattle.asn_values.specs.Shape as s
 use Rattle.asn_values.specs.Shape.{Shape, Range, SizeRange, Alphabet, Label, MoreLabels, Demand, Fields, MoreFields, Alternatives, MoreAlternatives}
-use Rattle.asn_notation.specs.declared.notation.Limits.{Limits}
-use Rattle.asn_notation.specs.declared.notation.Limits.TheVariants.{One, Between}
 use Rattle.asn_notation.specs.declared.notation.RangeNotation.{RangeNotation}
 use Rattle.asn_notation.specs.declared.notation.SizeNotation.{SizeNotation}
-use Rattle.asn_notation.specs.declared.notation.SizeEnd.{SizeEnd}
-use Rattle.asn_notation.specs.declared.notation.SizeEnd.TheVariants.{Same, To, ToMax}
 use Rattle.asn_notation.specs.declared.notation.ListSize.{ListSize}
 use Rattle.asn_notation.specs.declared.notation.ListSize.TheVariants as list_size
 use Rattle.asn_notation.specs.declared.notation.Constraint.{Constraint}

@@ -2,10 +2,13 @@
 
 ghost use Rattle.std.specs.Prelude.{◌≡◌, ◌∷◌, ◌++◌, OnOk, map, string_bytes};
 ghost use Rattle.asn_values.specs.View as view;
+ghost use Rattle.asn_values.specs.Shape.{enumerated};
 ghost use Rattle.asn_notation.specs.Grammar as g;
+ghost use Rattle.asn_notation.specs.Tree.{integer, text};
 ghost use Rattle.asn_module.specs.Printing as spec;
 ghost use Rattle.asn_module.specs.Printing.{Adds};
 
+use asn_notation::StringKind;
 use asn_values::{Alt, AsnType, Bounds, Field, Item, Need, Size, TextKind, Value};
 use std::alloc::{AllocError, Global};
 
@@ -42,12 +45,29 @@ fn write_high(out: &mut String, alloc: Global, high: Option<i128>) -> Result<(),
     }
 }
 
+/// A comma, where something stands before.
+fn write_comma(out: &mut String, comma: bool) -> Result<(), AllocError>
+    ensures { OnOk result (Adds (spec.comma_if comma) (string_bytes out.old) (string_bytes out.new)) }
+{
+    if comma {
+        write_token(out, ",")?;
+    }
+    Ok(())
+}
+
+/// The extension mark, after a comma where something stands before it.
+fn write_dots(out: &mut String, comma: bool) -> Result<(), AllocError>
+    ensures { OnOk result (Adds (spec.dots_tokens comma) (string_bytes out.old) (string_bytes out.new)) }
+{
+    write_comma(out, comma)?;
+    write_token(out, "...")
+}
+
 fn write_mark(out: &mut String, marked: bool) -> Result<(), AllocError>
     ensures { OnOk result (Adds (g.mark marked) (string_bytes out.old) (string_bytes out.new)) }
 {
     if marked {
-        write_token(out, ",")?;
-        write_token(out, "...")?;
+        write_dots(out, true)?;
     }
     Ok(())
 }
@@ -122,9 +142,7 @@ fn write_items(
 {
     let mut comma = follow;
     for item in items {
-        if comma {
-            write_token(out, ",")?;
-        }
+        write_comma(out, comma)?;
         write_item(out, alloc, item)?;
         comma = true;
     }
@@ -132,40 +150,111 @@ fn write_items(
 }
 
 /// An ENUMERATED.
+#[tactic(auto, using(crate::proofs::Spaces::spaces_append), unfolding(asn_notation::specs::Grammar::written))]
 fn write_enumerated(
     out: &mut String,
     alloc: Global,
     root: &[Item],
     more: &Option<Vec<Item>>,
-) -> Result<(), AllocError> {
+) -> Result<(), AllocError>
+    ensures { OnOk result (Adds (g.written (spec.type_printed (enumerated (map view.label_of root.now)
+        (view.more_labels_of more.now)))) (string_bytes out.old) (string_bytes out.new)) }
+{
     write_token(out, "ENUMERATED")?;
     write_token(out, "{")?;
     write_items(out, alloc, root, false)?;
-    if let Some(more) = more {
-        write_token(out, ",")?;
-        write_token(out, "...")?;
-        write_items(out, alloc, more, true)?;
+    match more {
+        None => write_token(out, "}"),
+        Some(more) => {
+            write_dots(out, true)?;
+            write_items(out, alloc, more, true)?;
+            write_token(out, "}")
+        }
     }
-    write_token(out, "}")
+}
+
+/// The kind of a string.
+fn string_kind(kind: TextKind) -> StringKind
+    ensures { result ≡ spec.kind_printed (view.alphabet_of kind) }
+{
+    match kind {
+        TextKind::Ia5 => StringKind::Ia5,
+        TextKind::Numeric => StringKind::Numeric,
+        TextKind::Visible => StringKind::Visible,
+    }
 }
 
 /// The words with which a string of this kind begins.
-fn write_kind(out: &mut String, kind: TextKind) -> Result<(), AllocError>
-    ensures { OnOk result (Adds (g.string_words (spec.kind_printed (view.alphabet_of kind)))
-        (string_bytes out.old) (string_bytes out.new)) }
+fn write_kind(out: &mut String, kind: StringKind) -> Result<(), AllocError>
+    ensures { OnOk result (Adds (g.string_words kind) (string_bytes out.old) (string_bytes out.new)) }
 {
     match kind {
-        TextKind::Ia5 => write_token(out, "IA5String"),
-        TextKind::Numeric => write_token(out, "NumericString"),
-        TextKind::Visible => write_token(out, "VisibleString"),
+        StringKind::Bits => {
+            write_token(out, "BIT")?;
+            write_token(out, "STRING")
+        }
+        StringKind::Octets => {
+            write_token(out, "OCTET")?;
+            write_token(out, "STRING")
+        }
+        StringKind::Ia5 => write_token(out, "IA5String"),
+        StringKind::Numeric => write_token(out, "NumericString"),
+        StringKind::Visible => write_token(out, "VisibleString"),
+    }
+}
+
+/// A string other than a UTF8String.
+#[tactic(auto, using(crate::proofs::Spaces::spaces_append), unfolding(asn_notation::specs::Grammar::written))]
+fn write_string(
+    out: &mut String,
+    alloc: Global,
+    kind: StringKind,
+    size: Size,
+) -> Result<(), AllocError>
+    ensures { OnOk result (Adds (g.written (text kind (spec.size_printed (view.size_range_of size))))
+        (string_bytes out.old) (string_bytes out.new)) }
+{
+    write_kind(out, kind)?;
+    write_size(out, alloc, size)
+}
+
+/// An INTEGER.
+#[tactic(auto, using(crate::proofs::Spaces::spaces_append), unfolding(asn_notation::specs::Grammar::written))]
+fn write_integer(out: &mut String, alloc: Global, bounds: Bounds) -> Result<(), AllocError>
+    ensures { OnOk result (Adds (g.written (integer (spec.range_printed (view.range_of bounds))))
+        (string_bytes out.old) (string_bytes out.new)) }
+{
+    write_token(out, "INTEGER")?;
+    write_range(out, alloc, bounds)
+}
+
+/// The name of the item at an index; nothing where there is none.
+fn label_name<'a>(items: &'a [Item], index: usize) -> &'a str
+    ensures { result.now ≡ spec.label_name (map view.label_of items.now) index }
+{
+    if index < items.len() {
+        items[index].name.as_str()
+    } else {
+        ""
     }
 }
 
 /// The name of the item of a type at an index; nothing where there is none.
-fn item_name<'a>(ty: &'a AsnType, index: usize) -> &'a str {
+fn item_name<'a>(ty: &'a AsnType, index: usize) -> &'a str
+    ensures { result.now ≡ spec.item_name (view.shape_of ty.now) index }
+{
     match ty {
-        AsnType::Enum { root, .. } if index < root.len() => root[index].name.as_str(),
-        _ => "",
+        AsnType::Enum { root, .. } => label_name(root, index),
+        AsnType::Bool
+        | AsnType::Null
+        | AsnType::Int(_)
+        | AsnType::Bits(_)
+        | AsnType::Octets(_)
+        | AsnType::Text(..)
+        | AsnType::Utf8
+        | AsnType::Seq { .. }
+        | AsnType::SeqOf(..)
+        | AsnType::Choice { .. } => "",
     }
 }
 
@@ -175,7 +264,10 @@ fn write_default(
     alloc: Global,
     ty: &AsnType,
     value: &Value,
-) -> Result<(), AllocError> {
+) -> Result<(), AllocError>
+    ensures { OnOk result (Adds (g.default (spec.default_printed (view.shape_of ty.now) (view.datum_of value.now)))
+        (string_bytes out.old) (string_bytes out.new)) }
+{
     match value {
         Value::Bool(true) => write_token(out, "TRUE"),
         Value::Int(number) => write_int(out, alloc, *number),
@@ -185,12 +277,10 @@ fn write_default(
 }
 
 /// What follows the type of a component.
-fn write_need(
-    out: &mut String,
-    alloc: Global,
-    ty: &AsnType,
-    need: &Need,
-) -> Result<(), AllocError> {
+fn write_need(out: &mut String, alloc: Global, ty: &AsnType, need: &Need) -> Result<(), AllocError>
+    ensures { OnOk result (Adds (g.need (spec.need_printed (view.shape_of ty.now) (view.demand_of need.now)))
+        (string_bytes out.old) (string_bytes out.new)) }
+{
     match need {
         Need::Must => Ok(()),
         Need::Optional => write_token(out, "OPTIONAL"),
@@ -203,17 +293,19 @@ fn write_need(
 
 /// Components with commas between them, and one before the first where they follow others.
 #[cycle(printing)]
+#[tactic(auto, using(crate::proofs::Spaces::spaces_append), unfolding(asn_notation::specs::Grammar::written))]
 fn write_components(
     out: &mut String,
     alloc: Global,
     fields: &[Field],
     follow: bool,
-) -> Result<(), AllocError> {
+) -> Result<(), AllocError>
+    ensures { OnOk result (Adds (spec.components_tokens follow (view.fields_of (map view.part_of_field fields.now)))
+        (string_bytes out.old) (string_bytes out.new)) }
+{
     let mut comma = follow;
     for field in fields {
-        if comma {
-            write_token(out, ",")?;
-        }
+        write_comma(out, comma)?;
         write_token(out, field.name.as_str())?;
         write_type(out, alloc, &field.ty)?;
         write_need(out, alloc, &field.ty, &field.need)?;
@@ -224,17 +316,19 @@ fn write_components(
 
 /// Alternatives with commas between them, and one before the first where they follow others.
 #[cycle(printing)]
+#[tactic(auto, using(crate::proofs::Spaces::spaces_append), unfolding(asn_notation::specs::Grammar::written))]
 fn write_alternatives(
     out: &mut String,
     alloc: Global,
     alternatives: &[Alt],
     follow: bool,
-) -> Result<(), AllocError> {
+) -> Result<(), AllocError>
+    ensures { OnOk result (Adds (spec.alternatives_tokens follow (view.alternatives_of (map view.branch_of alternatives.now)))
+        (string_bytes out.old) (string_bytes out.new)) }
+{
     let mut comma = follow;
     for alternative in alternatives {
-        if comma {
-            write_token(out, ",")?;
-        }
+        write_comma(out, comma)?;
         write_token(out, alternative.name.as_str())?;
         write_type(out, alloc, &alternative.ty)?;
         comma = true;
@@ -242,50 +336,34 @@ fn write_alternatives(
     Ok(())
 }
 
-/// A type that holds no others.
-fn write_simple(out: &mut String, alloc: Global, ty: &AsnType) -> Result<(), AllocError> {
+/// A type.
+#[cycle(printing)]
+#[tactic(auto, unfolding(asn_notation::specs::Grammar::written))]
+pub(crate) fn write_type(out: &mut String, alloc: Global, ty: &AsnType) -> Result<(), AllocError>
+    ensures { OnOk result (Adds (g.written (spec.type_printed (view.shape_of ty.now))) (string_bytes out.old)
+        (string_bytes out.new)) }
+{
     match ty {
         AsnType::Bool => write_token(out, "BOOLEAN"),
         AsnType::Null => write_token(out, "NULL"),
-        AsnType::Int(bounds) => {
-            write_token(out, "INTEGER")?;
-            write_range(out, alloc, *bounds)
-        }
+        AsnType::Utf8 => write_token(out, "UTF8String"),
+        AsnType::Int(bounds) => write_integer(out, alloc, *bounds),
         AsnType::Enum { root, ext } => write_enumerated(out, alloc, root, ext),
-        AsnType::Bits(size) => {
-            write_token(out, "BIT")?;
-            write_token(out, "STRING")?;
-            write_size(out, alloc, *size)
-        }
-        AsnType::Octets(size) => {
-            write_token(out, "OCTET")?;
-            write_token(out, "STRING")?;
-            write_size(out, alloc, *size)
-        }
-        AsnType::Text(kind, size) => {
-            write_kind(out, *kind)?;
-            write_size(out, alloc, *size)
-        }
-        _ => write_token(out, "UTF8String"),
-    }
-}
-
-/// A type.
-#[cycle(printing)]
-pub(crate) fn write_type(out: &mut String, alloc: Global, ty: &AsnType) -> Result<(), AllocError> {
-    match ty {
+        AsnType::Bits(size) => write_string(out, alloc, StringKind::Bits, *size),
+        AsnType::Octets(size) => write_string(out, alloc, StringKind::Octets, *size),
+        AsnType::Text(kind, size) => write_string(out, alloc, string_kind(*kind), *size),
         AsnType::Seq { root, ext } => {
             write_token(out, "SEQUENCE")?;
             write_token(out, "{")?;
             write_components(out, alloc, root, false)?;
-            if let Some(more) = ext {
-                if !root.is_empty() {
-                    write_token(out, ",")?;
+            match ext {
+                None => write_token(out, "}"),
+                Some(more) => {
+                    write_dots(out, !root.is_empty())?;
+                    write_components(out, alloc, more, true)?;
+                    write_token(out, "}")
                 }
-                write_token(out, "...")?;
-                write_components(out, alloc, more, true)?;
             }
-            write_token(out, "}")
         }
         AsnType::SeqOf(element, size) => {
             write_token(out, "SEQUENCE")?;
@@ -297,13 +375,14 @@ pub(crate) fn write_type(out: &mut String, alloc: Global, ty: &AsnType) -> Resul
             write_token(out, "CHOICE")?;
             write_token(out, "{")?;
             write_alternatives(out, alloc, root, false)?;
-            if let Some(more) = ext {
-                write_token(out, ",")?;
-                write_token(out, "...")?;
-                write_alternatives(out, alloc, more, true)?;
+            match ext {
+                None => write_token(out, "}"),
+                Some(more) => {
+                    write_dots(out, true)?;
+                    write_alternatives(out, alloc, more, true)?;
+                    write_token(out, "}")
+                }
             }
-            write_token(out, "}")
         }
-        _ => write_simple(out, alloc, ty),
     }
 }

@@ -1,9 +1,8 @@
-use Rattle.std.proofs.Common.{◌≡◌, ◌∙◌, ◌+◌, refl, map, drop, [], get_or, length, arith, sym, ap, Some, rules}
+use Rattle.std.proofs.Common.{◌≡◌, ◌∙◌, refl, map, drop, [], ap, Some, rules}
 use Rattle.std.proofs.lemmas.List.{drop_all}
-use Rattle.asn_values.specs.View.{shape_of, fields_of, part_of_field, alternatives_of, branch_of}
-use Rattle.asn_notation.specs.Tree as tree
+use Rattle.asn_values.specs.View.{shape_of, part_of_field, branch_of}
 use Rattle.asn_module.specs.Known.{look, built_view, known_view}
-use Rattle.asn_module.specs.Meaning.{meant, fields_meant, alternatives_meant}
+use Rattle.asn_module.specs.Meaning.{meant}
 use Rattle.asn_module.proofs.Lists.{before_none, before_no_alternatives}
 use Rattle.asn_module.proofs.PlainTypes.{plain_of_profile}
 use Rattle.asn_module.proofs.Copies.{field_built, alternative_built, sequence_built, choice_built, reference_meant}

@@ -1,7 +1,6 @@
-use Rattle.std.proofs.Common.{◌≡◌, ◌∙◌, ◌+◌, refl, map, drop, [], get_or, length, arith, sym, rules, Some}
+use Rattle.std.proofs.Common.{◌≡◌, ◌∙◌, refl, map, drop, [], sym, rules}
 use Rattle.std.proofs.lemmas.List.{drop_all}
-use Rattle.asn_values.proofs.Views.{shape_of-Seq, shape_of-Choice, sequence_of_fields, choice_of_alternatives}
-use Rattle.asn_values.specs.View.{fields_of, part_of_field, alternatives_of, branch_of}
+use Rattle.asn_values.specs.View.{part_of_field, branch_of}
 use Rattle.asn_module.proofs.Lists.{before_none, before_no_alternatives}
 use Rattle.asn_module.proofs.Copies.{field_copied, alternative_copied, sequence_copied, choice_copied}
 use Rattle.asn_module.proofs.copying.+copying.Goals as goal

@@ -1,6 +1,5 @@
-use Rattle.std.proofs.Common.{◌≡◌, Option, Some, None, refl, arith, get_or, sym}
+use Rattle.std.proofs.Common.{refl, arith}
 use Rattle.std.proofs.lemmas.Grind.{common_steps}
-use Rattle.asn_module.proofs.Tables.{all_built}
 use Rattle.asn_module.proofs.table.attempt.Goals as goal
 
 pub returns-in-Some-clause-attempted : goal.returns-in-Some-clause-attempted

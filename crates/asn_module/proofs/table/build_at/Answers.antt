@@ -1,4 +1,4 @@
-use Rattle.std.proofs.Common.{◌≡◌, ◌∙◌, ◌<◌, length, arith}
+use Rattle.std.proofs.Common.{◌≡◌, ◌∙◌, length, arith}
 use Rattle.asn_notation.specs.Tree.{assignment_view, assignments_view}
 use Rattle.asn_module.proofs.Tables.{same_length, attempted_sound, view_at, length_view}
 use Rattle.asn_module.proofs.table.build_at.Goals as goal

@@ -1,4 +1,4 @@
-use Rattle.std.proofs.Common.{◌≡◌, ◌∙◌, ◌<◌, ◌+◌, suc, length, get_or, take, refl, sym, ap, arith, ℕ}
+use Rattle.std.proofs.Common.{◌≡◌, ◌∙◌, ◌<◌, length, take, ap, arith}
 use Rattle.std.proofs.Math.Numerals.{add-one}
 use Rattle.asn_notation.specs.Tree.{assignment_view, assignments_view}
 use Rattle.asn_module.specs.Known.{look, AreDone}

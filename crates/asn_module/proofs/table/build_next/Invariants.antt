@@ -1,4 +1,4 @@
-use Rattle.std.proofs.Common.{◌≡◌, ◌≤◌, take, length}
+use Rattle.std.proofs.Common.{◌≡◌, take}
 use Rattle.asn_notation.specs.Tree.{assignments_view}
 use Rattle.asn_module.specs.Known.{look, AreDone}
 use Rattle.asn_module.proofs.table.build_next.Given as goal

@@ -1,4 +1,4 @@
-use Rattle.std.proofs.Common.{◌≡◌, ◌+◌, suc, length, get_or, take, refl, sym, ap, arith, rules, None, map}
+use Rattle.std.proofs.Common.{refl, arith, rules, None}
 use Rattle.std.proofs.Math.Numerals.{add-one}
 use Rattle.asn_notation.specs.Tree.{assignment_view, assignments_view}
 use Rattle.asn_module.proofs.Tables.{names_next, view_at, length_view}

@@ -10,6 +10,7 @@ use Rattle.asn_convert.specs.declared.job.RuleName.{RuleName}
 use Rattle.asn_values.specs.Shape.{Shape}
 use Rattle.asn_rules.specs.Answer.{Ruling}
 use Rattle.asn_module.specs.Accepted.{ModuleTypes, type_in}
+use Rattle.asn_module.specs.Printing.{printed}
 use Rattle.asn_rules.proofs.Known.{appends_then_keeps}
 use Rattle.asn_convert.specs.declared.job.Job.{Job}
 use Rattle.asn_convert.specs.declared.job.Job.TheVariants as job
@@ -102,7 +103,7 @@ told_begun o [] out good h = h.0
 told_begun o (line ∷ lines) out good (text, rest, here, later, answer, told, is, all) = inr (text, rest, here, answer, told_begun o lines rest later told, is)
 
 tells_begun : (a b : Ruling) (j : Job) (m : ModuleTypes) (lines : List (List ℕ)) (out : List ℕ) (s : Status) → Tells a b j m lines out s → TellsBegun a b j m lines out
-tells_begun a b job.Module m lines out s h = tt
+tells_begun a b job.Module m lines out s h = ([], append_none out ∙ h.0)
 tells_begun a b (job.Lines by name rules) m lines out s (inl h) = inl (h.0, ([], append_none out ∙ h.1))
 tells_begun a b (job.Lines by name rules) m lines out s (inr (t, has, good, told, is)) = inr (t, has, told_begun (terms a b rules by t) lines out good told)
 
@@ -144,6 +145,10 @@ stops_memory why Q old e q = rw e ([], q, appends_nothing old.octets)
 pub err_stops_so : {T : Type 0} (r : Result T RunFault) (P Q : List ℕ → Type 0) (old new : State) → ((out : List ℕ) → P out → Q out) → IfErr r (λ why. Stops why P old new) → IfErr r (λ why. Stops why Q old new)
 err_stops_so (Ok x) P Q old new f s = tt
 err_stops_so (Err why) P Q old new f s = stops_so why P Q old new f s
+
+-- a front of the module that is printed
+pub begun_printed : (a b : Ruling) (j : Job) (m : ModuleTypes) (lines : List (List ℕ)) (out : List ℕ) → j ≡ job.Module → IsFront out (printed m) → TellsBegun a b j m lines out
+begun_printed a b j m lines out is front = rw is front
 
 -- a front of the refusal of a name
 pub begun_no_type : (a b : Ruling) (j : Job) (m : ModuleTypes) (lines : List (List ℕ)) (out : List ℕ) (by : Order) (name : String Global) (rules : RuleName) → j ≡ job.Lines by name rules → type_in m.types (string_bytes name) ≡ None

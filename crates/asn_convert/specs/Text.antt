@@ -5,6 +5,7 @@ use Rattle.asn_values.specs.Shape.{Shape}
 use Rattle.asn_rules.specs.Answer.{Ruling}
 use Rattle.asn_rules.specs.Faults.{Rose, State}
 use Rattle.asn_module.specs.Accepted.{ModuleTypes, Accepted, type_in}
+use Rattle.asn_module.specs.Printing.{printed}
 use Rattle.asn_convert.specs.Answers.{Terms, Answers}
 use Rattle.asn_convert.specs.Lines.{module_text, job_lines}
 use Rattle.asn_convert.specs.declared.job.Order.{Order}
@@ -86,10 +87,9 @@ status_of false = status.Marked
 abbrev pub terms : Ruling → Ruling → RuleName → Order → Shape → Terms
 terms a b name by t = record { from = a; to = b; name = name; shape = t; order = by }
 
--- what a job makes of an accepted module and of the lines, octets being those of the rules a, or converted to b:
--- of the printed module nothing is said here
+-- what a job makes of an accepted module and of the lines, octets being those of the rules a, or converted to b
 abbrev pub Tells : Ruling → Ruling → Job → ModuleTypes → List (List ℕ) → List ℕ → Status → Type 0
-Tells a b job.Module m lines out s = s ≡ status.Good
+Tells a b job.Module m lines out s = (out ≡ printed m) × (s ≡ status.Good)
 Tells a b (job.Lines by name rules) m lines out s =
     ((type_in m.types (string_bytes name) ≡ None) × (out ≡ ended (no_type (string_bytes name))) × (s ≡ status.NoModule))
     ⊎ ((t : Shape) × (type_in m.types (string_bytes name) ≡ Some t) × (good : Bool) × Told (terms a b rules by t) lines out good × (s ≡ status_of good))
@@ -100,7 +100,7 @@ Text a b j input out s = (IsRefusal (module_text input) out × (s ≡ status.NoM
 
 -- a beginning of such a text
 abbrev pub TellsBegun : Ruling → Ruling → Job → ModuleTypes → List (List ℕ) → List ℕ → Type 0
-TellsBegun a b job.Module m lines out = ⊤
+TellsBegun a b job.Module m lines out = IsFront out (printed m)
 TellsBegun a b (job.Lines by name rules) m lines out = ((type_in m.types (string_bytes name) ≡ None) × IsFront out (ended (no_type (string_bytes name))))
     ⊎ ((t : Shape) × (type_in m.types (string_bytes name) ≡ Some t) × IsBegun (terms a b rules by t) lines out)
 

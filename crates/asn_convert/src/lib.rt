@@ -14,3 +14,6 @@ pub use conversion::{ConvertFault, convert};
 pub use job::{Job, Order, RuleName, RunFault, Status};
 pub use running::run_with;
 pub use laws::conversion_turns_back;
+
+#[cfg(test)]
+mod tests;

@@ -3,8 +3,10 @@
 ghost use Rattle.std.specs.Prelude.{◌≡◌};
 ghost use Rattle.asn_rules.specs.declared.fault.EncodeFault.TheVariants as encode;
 ghost use Rattle.asn_rules.specs.declared.fault.DecodeFault.TheVariants as decode;
+ghost use Rattle.asn_rules.specs.Reasons.{word_of};
 
 use std::alloc::{AllocError, AllocFailed};
+use std::fmt;
 use thiserror::Error;
 
 /// What was being read where octets were refused.
@@ -24,6 +26,34 @@ pub enum Why {
     Padding = 6,
     /// Anything else.
     Number = 7,
+}
+
+impl Why {
+    /// The reason in one word.
+    pub fn word(self) -> &'static str
+        ensures { result.now ≡ word_of self }
+    {
+        match self {
+            Why::Sealed => "sealed",
+            Why::Default => "default",
+            Why::Length => "length",
+            Why::Extension => "extension",
+            Why::Character => "character",
+            Why::Padding => "padding",
+            Why::Number => "number",
+        }
+    }
+}
+
+impl fmt::Display for Why {
+    ghost use Rattle.std.specs.Prelude.{Some};
+    ghost use Rattle.asn_rules.specs.Reasons.{word_of};
+
+    ghost output = { λ why. Some (word_of why) };
+
+    fn fmt<W: fmt::Write>(&self, f: &mut fmt::Formatter<W>) -> fmt::Result {
+        f.write_str(self.word())
+    }
 }
 
 /// Why a value is not encoded.

@@ -1,6 +1,7 @@
 //! What encoding rules are, what an encoder and a decoder answer, and the readers of fields that PER and OER share.
 #![tactic(auto)]
 
+pub mod counting;
 mod fault;
 mod laws;
 mod length_reader;

@@ -1,0 +1,5 @@
+pub mod Converting
+pub mod Lines
+pub mod Modules
+pub mod PlainJson
+pub mod Told

@@ -1,0 +1,4 @@
+pub mod Answers
+pub mod Converted
+pub mod Lines
+pub mod Text

@@ -1,0 +1,178 @@
+//! The answer to one line.
+ghost use Rattle.std.specs.Prelude.{◌≡◌, IfOk, IfSome, None, Ok, List, ℕ, string_bytes};
+ghost use Rattle.hex.specs.Hex.{decode_of};
+ghost use Rattle.serde_json.specs.Data.{Data};
+ghost use Rattle.serde_json.specs.View.{view};
+ghost use Rattle.serde_json.specs.Written.{compact_text};
+ghost use Rattle.asn_values.specs.Fits.{Fits};
+ghost use Rattle.asn_values.specs.View.{shape_of, datum_of};
+ghost use Rattle.asn_json.specs.Written.{json_of};
+ghost use Rattle.asn_convert.specs.Answers.{Answers, AnswersShow, AnswersCheck, AnswersConvert, AnswersJson, AnswersValue, IsJson};
+ghost use Rattle.asn_convert.specs.Text.{terms};
+
+use crate::conversion::{ConvertFault, convert};
+use crate::job::{Order, RuleName};
+use crate::texts::{Answer, decode_refusal, json_refusal, refusal};
+use asn_json::{from_json, to_json};
+use asn_rules::{EncodeFault, Rules, are_octets, decode};
+use asn_values::{Checked, Value};
+use serde_json::Value as Json;
+use std::alloc::{AllocError, Global};
+
+/// The answer to one line.
+pub(crate) fn answer_to<A: Rules, B: Rules>(
+    alloc: Global,
+    ty: &Checked,
+    order: Order,
+    rules: RuleName,
+    line: &[u8],
+) -> Result<Answer, AllocError>
+    ensures { IfOk result (λ a. Answers (terms A.ruling B.ruling rules order (shape_of ty.now)) line.now
+        (string_bytes a.text) a.is_good) }
+{
+    if let Order::Encode = order {
+        return answer_json::<A>(alloc, ty, line);
+    }
+    let octets = match octets_in(alloc, line)? {
+        Some(octets) => octets,
+        None => return refusal(alloc, "! hex"),
+    };
+    match order {
+        Order::Show => show_octets::<A>(alloc, ty, rules, octets.as_slice()),
+        Order::Check => check_octets::<A>(alloc, ty, rules, octets.as_slice()),
+        Order::Convert => convert_octets::<A, B>(alloc, ty, rules, octets.as_slice()),
+        Order::Encode => unreachable!(),
+    }
+}
+
+/// The octets that a line of hexadecimal stands for; None where it is none.
+fn octets_in(alloc: Global, line: &[u8]) -> Result<Option<Vec<u8>>, AllocError>
+    ensures some { IfOk result (λ o. IfSome o (λ octets. decode_of line.now ≡ Ok octets.items)) }
+    ensures none { IfOk result (λ o. o ≡ None → (octets : List ℕ) → decode_of line.now ≡ Ok octets → ⊥) }
+{
+    match hex::decode(alloc, line) {
+        Ok(octets) => Ok(Some(octets)),
+        Err(hex::FromHexError::OutOfMemory) => Err(AllocError),
+        Err(_) => Ok(None),
+    }
+}
+
+/// The JSON of the value that the octets encode.
+fn show_octets<A: Rules>(
+    alloc: Global,
+    ty: &Checked,
+    rules: RuleName,
+    octets: &[u8],
+) -> Result<Answer, AllocError>
+    ensures { IfOk result (λ a. AnswersShow A.ruling rules (shape_of ty.now) octets.now
+        (string_bytes a.text) a.is_good) }
+{
+    are_octets(octets);
+    match decode::<A>(alloc, ty, octets) {
+        Ok(value) => {
+            let text = json_text(alloc, ty, &value)?;
+            Ok(Answer { text, is_good: true })
+        }
+        Err(fault) => decode_refusal(alloc, rules, fault),
+    }
+}
+
+/// The text of the JSON of a value of the type.
+fn json_text(alloc: Global, ty: &Checked, value: &Value) -> Result<String, AllocError>
+    requires { Fits (shape_of ty.now) (datum_of value.now) }
+    ensures { IfOk result (λ text. string_bytes text ≡ compact_text (json_of (shape_of ty.now) (datum_of value.now))) }
+{
+    match to_json(alloc, ty, value) {
+        Ok(json) => json.to_string(alloc),
+        Err(_) => Err(AllocError),
+    }
+}
+
+/// How many the octets are, where they encode a value.
+fn check_octets<A: Rules>(
+    alloc: Global,
+    ty: &Checked,
+    rules: RuleName,
+    octets: &[u8],
+) -> Result<Answer, AllocError>
+    ensures { IfOk result (λ a. AnswersCheck A.ruling rules (shape_of ty.now) octets.now
+        (string_bytes a.text) a.is_good) }
+{
+    are_octets(octets);
+    match decode::<A>(alloc, ty, octets) {
+        Ok(_) => {
+            let count = octets.len();
+            let text = format!(in alloc; "ok {count}")?;
+            Ok(Answer { text, is_good: true })
+        }
+        Err(fault) => decode_refusal(alloc, rules, fault),
+    }
+}
+
+/// The octets of the same value by the other rules.
+fn convert_octets<A: Rules, B: Rules>(
+    alloc: Global,
+    ty: &Checked,
+    rules: RuleName,
+    octets: &[u8],
+) -> Result<Answer, AllocError>
+    ensures { IfOk result (λ a. AnswersConvert A.ruling B.ruling rules (shape_of ty.now) octets.now
+        (string_bytes a.text) a.is_good) }
+{
+    match convert::<A, B>(alloc, ty, octets) {
+        Ok(other) => {
+            let text = hex::encode(alloc, other.as_slice())?;
+            Ok(Answer { text, is_good: true })
+        }
+        Err(ConvertFault::Read(fault)) => decode_refusal(alloc, rules, fault),
+        Err(ConvertFault::TooLong) => refusal(alloc, "! too long"),
+        Err(ConvertFault::Memory) => Err(AllocError),
+    }
+}
+
+/// The octets of the value that a line of JSON shows.
+fn answer_json<A: Rules>(alloc: Global, ty: &Checked, line: &[u8]) -> Result<Answer, AllocError>
+    ensures { IfOk result (λ a. AnswersJson A.ruling (shape_of ty.now) line.now (string_bytes a.text) a.is_good) }
+{
+    match json_in(alloc, line)? {
+        Some(json) => encode_json::<A>(alloc, ty, &json),
+        None => refusal(alloc, "! json"),
+    }
+}
+
+/// The JSON that a line is; None where it is none.
+fn json_in(alloc: Global, line: &[u8]) -> Result<Option<Json>, AllocError>
+    ensures some { IfOk result (λ o. IfSome o (λ j. IsJson line.now (view j))) }
+    ensures none { IfOk result (λ o. o ≡ None → (j : Data) → IsJson line.now j → ⊥) }
+{
+    match Json::from_slice(alloc, line) {
+        Ok(json) => Ok(Some(json)),
+        Err(fault) => {
+            if fault.is_memory() {
+                return Err(AllocError);
+            }
+            Ok(None)
+        }
+    }
+}
+
+/// The octets of the value that JSON shows.
+fn encode_json<A: Rules>(alloc: Global, ty: &Checked, json: &Json) -> Result<Answer, AllocError>
+    ensures { IfOk result (λ a. AnswersValue A.ruling (shape_of ty.now) (view json.now)
+        (string_bytes a.text) a.is_good) }
+{
+    let value = match from_json(alloc, ty, json) {
+        Ok(value) => value,
+        Err(fault) => return json_refusal(alloc, &fault),
+    };
+    match A::encode(alloc, ty, &value) {
+        Ok(octets) => {
+            are_octets(octets.as_slice());
+            let text = hex::encode(alloc, octets.as_slice())?;
+            Ok(Answer { text, is_good: true })
+        }
+        Err(EncodeFault::TooLong) => refusal(alloc, "! too long"),
+        Err(EncodeFault::Memory) => Err(AllocError),
+        Err(EncodeFault::NotOfType) => unreachable!(),
+    }
+}

@@ -1,0 +1,42 @@
+//! The input as lines, and the module text before the mark.
+ghost use Rattle.std.specs.Prelude.{◌≡◌, ◌<◌, [], IfNone, IfSome, length};
+ghost use Rattle.asn_convert.specs.Lines.{lines_of, module_text, job_lines, IsFirstLine, is_mark_line};
+
+/// The first line without its LF, and what stands behind it; `None` where there is nothing.
+pub(crate) fn next_line(rest: &[u8]) -> Option<(&[u8], &[u8])>
+    ensures none { IfNone result (rest.now ≡ []) }
+    ensures some { IfSome result (λ p. IsFirstLine rest.now p.0.now p.1.now) }
+{
+    if rest.is_empty() {
+        return None;
+    }
+    for (place, octet) in rest.iter().enumerate() {
+        if *octet == b'\n' {
+            let (line, ended) = rest.split_at(place);
+            return Some((line, ended.split_at(1).1));
+        }
+    }
+    Some(rest.split_at(rest.len()))
+}
+
+/// The module text, and what stands behind the mark.
+pub(crate) fn cut_input(input: &[u8]) -> (&[u8], &[u8])
+    ensures text { result.0.now ≡ module_text input.now }
+    ensures lines { lines_of result.1.now ≡ job_lines input.now }
+{
+    let mut rest = input;
+    while let Some((line, behind)) = next_line(rest) {
+        if is_mark(line) {
+            return (input.split_at(input.len() - rest.len()).0, behind);
+        }
+        rest = behind;
+    }
+    (input, rest)
+}
+
+/// Whether the line is the mark.
+fn is_mark(line: &[u8]) -> bool
+    ensures { result ≡ is_mark_line line.now }
+{
+    line == b"====".as_slice()
+}

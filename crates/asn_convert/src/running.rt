@@ -1,0 +1,203 @@
+//! A whole job: reads all, and writes the text of the job.
+ghost use Rattle.std.specs.Prelude.{◌≡◌, ◌≢◌, IfOk, IfErr, OnOk, string_bytes};
+ghost use Rattle.asn_values.specs.View.{shape_of};
+ghost use Rattle.asn_rules.specs.Faults.{inner_of, state_of};
+ghost use Rattle.asn_module.specs.ModuleView.{types_view};
+ghost use Rattle.asn_module.specs.declared.fault.ModuleFault.{ModuleFault};
+ghost use Rattle.asn_convert.specs.Lines.{lines_of};
+ghost use Rattle.asn_convert.specs.Text.{Text, Begun, Tells, TellsBegun, Told, IsBegun, IsAnswered, IsAnswerBegun, IsFront, IsModule, IsRefusal, Writes, Stops, Runs, Fails, terms};
+
+use crate::answers::answer_to;
+use crate::cut::{cut_input, next_line};
+use crate::job::{Job, Order, RuleName, RunFault, Status};
+use crate::reading::read_all;
+use crate::texts::Answer;
+use asn_module::{Module, ModuleFault, read};
+use asn_rules::Rules;
+use asn_rules::counting::Counted;
+use asn_values::Checked;
+use std::alloc::{AllocError, Global};
+use std::io::{Read, Write};
+
+/// Reads all, and writes the text of the job, octets being those of the rules A, or converted to those of B.
+pub fn run_with<A: Rules, B: Rules, R: Read, W: Write>(
+    alloc: Global,
+    input: &mut Counted<R>,
+    output: &mut Counted<W>,
+    job: &Job,
+) -> Result<Status, RunFault>
+    ensures text { IfOk result (λ status. Runs A.ruling B.ruling job.now status (R.remaining (inner_of input.old))
+        (state_of W.contents output.old) (state_of W.contents output.new)) }
+    ensures fault { IfErr result (λ fault. Fails A.ruling B.ruling job.now fault (state_of R.remaining input.old)
+        (state_of R.remaining input.new) (state_of W.contents output.old) (state_of W.contents output.new)) }
+{
+    let octets = read_all(alloc, input)?;
+    write_text::<A, B, W>(alloc, output, job, octets.as_slice())
+}
+
+/// Writes the text of the job for this input, and lets the writer hold nothing back.
+fn write_text<A: Rules, B: Rules, W: Write>(
+    alloc: Global,
+    output: &mut Counted<W>,
+    job: &Job,
+    input: &[u8],
+) -> Result<Status, RunFault>
+    ensures text { IfOk result (λ status. Writes (λ out. Text A.ruling B.ruling job.now input.now out status)
+        (state_of W.contents output.old) (state_of W.contents output.new)) }
+    ensures fault { IfErr result (λ fault. Stops fault (λ out. Begun A.ruling B.ruling job.now input.now out)
+        (state_of W.contents output.old) (state_of W.contents output.new)) }
+{
+    let status = answer_input::<A, B, W>(alloc, output, job, input)?;
+    match output.flush() {
+        Ok(()) => Ok(status),
+        Err(_) => Err(RunFault::Write),
+    }
+}
+
+/// Writes the text of the job for this input.
+fn answer_input<A: Rules, B: Rules, W: Write>(
+    alloc: Global,
+    output: &mut Counted<W>,
+    job: &Job,
+    input: &[u8],
+) -> Result<Status, RunFault>
+    ensures text { IfOk result (λ status. Writes (λ out. Text A.ruling B.ruling job.now input.now out status)
+        (state_of W.contents output.old) (state_of W.contents output.new)) }
+    ensures fault { IfErr result (λ fault. Stops fault (λ out. Begun A.ruling B.ruling job.now input.now out)
+        (state_of W.contents output.old) (state_of W.contents output.new)) }
+{
+    let (text, lines) = cut_input(input);
+    match module_in(alloc, text)? {
+        Ok(accepted) => answer_module::<A, B, W>(alloc, output, job, &accepted, lines),
+        Err(refusal) => {
+            put(output, refusal.as_str())?;
+            Ok(Status::NoModule)
+        }
+    }
+}
+
+/// The module of the text, or the line that refuses it.
+fn module_in(alloc: Global, text: &[u8]) -> Result<Result<Module, String>, RunFault>
+    ensures accepted { IfOk result (λ r. IfOk r (λ m. IsModule text.now (types_view m))) }
+    ensures refused { IfOk result (λ r. IfErr r (λ line. IsRefusal text.now (string_bytes line))) }
+    ensures fault { IfErr result (λ fault. fault ≡ RunFault.Memory) }
+{
+    let Ok(text) = std::str::from_utf8(text) else {
+        return Ok(Err(String::from_str(alloc, "! module not text\n")?));
+    };
+    match read(alloc, text) {
+        Ok(accepted) => Ok(Ok(accepted)),
+        Err(fault) => {
+            let words = words_of(alloc, fault)?;
+            let line = format!(in alloc; "! module {words}\n")?;
+            Ok(Err(line))
+        }
+    }
+}
+
+/// What a fault of a module says.
+///
+/// Err: an allocation failed, here or while the module was read.
+fn words_of(alloc: Global, fault: ModuleFault) -> Result<String, AllocError>
+    ensures { OnOk result (fault ≢ ModuleFault.Memory) }
+{
+    if let ModuleFault::Memory = fault {
+        return Err(AllocError);
+    }
+    format!(in alloc; "{fault}")
+}
+
+/// Writes the text of the job for this module and these lines.
+fn answer_module<A: Rules, B: Rules, W: Write>(
+    alloc: Global,
+    output: &mut Counted<W>,
+    job: &Job,
+    accepted: &Module,
+    lines: &[u8],
+) -> Result<Status, RunFault>
+    ensures text { IfOk result (λ status. Writes (λ out. Tells A.ruling B.ruling job.now (types_view accepted.now)
+        (lines_of lines.now) out status) (state_of W.contents output.old) (state_of W.contents output.new)) }
+    ensures fault { IfErr result (λ fault. Stops fault (λ out. TellsBegun A.ruling B.ruling job.now
+        (types_view accepted.now) (lines_of lines.now) out) (state_of W.contents output.old)
+        (state_of W.contents output.new)) }
+{
+    match job {
+        Job::Module => {
+            let text = accepted.print(alloc)?;
+            put(output, text.as_str())?;
+            Ok(Status::Good)
+        }
+        Job::Lines { order, type_name, rules } => match accepted.type_named(type_name.as_str()) {
+            Some(ty) => {
+                if answer_lines::<A, B, W>(alloc, output, ty, *order, *rules, lines)? {
+                    Ok(Status::Good)
+                } else {
+                    Ok(Status::Marked)
+                }
+            }
+            None => {
+                let line = format!(in alloc; "! no type {type_name}\n")?;
+                put(output, line.as_str())?;
+                Ok(Status::NoModule)
+            }
+        },
+    }
+}
+
+/// Answers each line, and tells whether no answer is a refusal.
+fn answer_lines<A: Rules, B: Rules, W: Write>(
+    alloc: Global,
+    output: &mut Counted<W>,
+    ty: &Checked,
+    order: Order,
+    rules: RuleName,
+    lines: &[u8],
+) -> Result<bool, RunFault>
+    ensures told { IfOk result (λ all_good. Writes (λ out. Told (terms A.ruling B.ruling rules order (shape_of ty.now))
+        (lines_of lines.now) out all_good) (state_of W.contents output.old) (state_of W.contents output.new)) }
+    ensures begun { IfErr result (λ fault. Stops fault (λ out. IsBegun (terms A.ruling B.ruling rules order
+        (shape_of ty.now)) (lines_of lines.now) out) (state_of W.contents output.old)
+        (state_of W.contents output.new)) }
+{
+    let mut rest = lines;
+    let mut all_good = true;
+    while let Some((line, behind)) = next_line(rest) {
+        let is_good = answer_line::<A, B, W>(alloc, output, ty, order, rules, line)?;
+        all_good &= is_good;
+        rest = behind;
+    }
+    Ok(all_good)
+}
+
+/// Answers one line, and tells whether the answer is no refusal. The answer is let go at the end.
+fn answer_line<A: Rules, B: Rules, W: Write>(
+    alloc: Global,
+    output: &mut Counted<W>,
+    ty: &Checked,
+    order: Order,
+    rules: RuleName,
+    line: &[u8],
+) -> Result<bool, RunFault>
+    ensures told { IfOk result (λ good. Writes (λ out. IsAnswered (terms A.ruling B.ruling rules order (shape_of ty.now))
+        line.now out good) (state_of W.contents output.old) (state_of W.contents output.new)) }
+    ensures begun { IfErr result (λ fault. Stops fault (λ out. IsAnswerBegun (terms A.ruling B.ruling rules order
+        (shape_of ty.now)) line.now out) (state_of W.contents output.old) (state_of W.contents output.new)) }
+{
+    let Answer { text: mut text, is_good } = answer_to::<A, B>(alloc, ty, order, rules, line)?;
+    text.push_str("\n")?;
+    put(output, text.as_str())?;
+    Ok(is_good)
+}
+
+/// Writes the text.
+fn put<W: Write>(output: &mut Counted<W>, text: &str) -> Result<(), RunFault>
+    ensures ok { OnOk result (Writes (λ out. out ≡ text.now) (state_of W.contents output.old)
+        (state_of W.contents output.new)) }
+    ensures err { IfErr result (λ fault. Stops fault (λ out. IsFront out text.now) (state_of W.contents output.old)
+        (state_of W.contents output.new)) }
+{
+    match output.write_all(text.as_bytes()) {
+        Ok(()) => Ok(()),
+        Err(_) => Err(RunFault::Write),
+    }
+}

@@ -89,7 +89,7 @@ abbrev pub Told : List Text → LineFault → Type 0
 Told words (line.Line e) = IsRefused words e
 Told words line.Memory = ⊤
 
-abbrev of_kind : ErrorKind → Error → LineFault
+abbrev pub of_kind : ErrorKind → Error → LineFault
 of_kind kind.OutOfMemory e = line.Memory
 of_kind _ e = line.Line e
 

@@ -8,7 +8,7 @@ mod job;
 mod words;
 
 use asn_convert::{Job, run};
-use asn_rules::Counted;
+use asn_rules::counting::Counted;
 use ending::ending;
 use job::{LineFault, job_of};
 use std::env;

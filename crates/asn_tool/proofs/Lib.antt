@@ -1,0 +1,2 @@
+pub mod FoundJob
+pub mod Refusals

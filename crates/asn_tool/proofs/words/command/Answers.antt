@@ -1,0 +1,27 @@
+use Rattle.std.proofs.Common.{ap, ap₂, codes, true, false, ◌≡◌, ◌∙◌}
+use Rattle.std.proofs.lemmas.Result.{IfOk-weaker}
+use Rattle.clap.specs.Simple.{app_of_fields, on_top}
+use Rattle.clap.specs.Words.{App, app_of, shape_of, new_app, with_subcommand}
+use Rattle.clap.specs.declared.builder.Command.TheViews.{out-Command}
+use Rattle.asn_tool.proofs.words.command.Goals as goal
+
+pub returns : goal.returns
+returns c =
+    let version_is : app_of c.version.result ≡ on_top (λ s. record s { has_version = true }) (new_app (codes "asn_tool")) = ap app_of_fields c.version.ensures ∙ ap (on_top (λ s. record s { has_version = true })) c.new-2.ensures.app in
+    let help_is : app_of c.after_help.result ≡ app_of c.version.result = ap app_of_fields c.after_help.ensures ∙ ap app_of_fields c.about-2.ensures in
+    let bare_is : app_of c.no_binary_name.result ≡ on_top (λ s. record s { no_binary_name = true }) (app_of c.after_help.result) = ap app_of_fields c.no_binary_name.ensures in
+    let top_is : app_of c.subcommand_required.result ≡ on_top (λ s. record s { subcommand_required = true }) (app_of c.no_binary_name.result) = ap app_of_fields c.subcommand_required.ensures in
+    let all_is = top_is ∙ ap (on_top (λ s. record s { subcommand_required = true })) (bare_is ∙ ap (on_top (λ s. record s { no_binary_name = true })) (help_is ∙ version_is)) in
+    let module_is : shape_of c.after_help-module.result ≡ (new_app (codes "module")).top = ap (λ (a : App). a.top) (ap app_of_fields c.after_help-module.ensures ∙ (ap app_of_fields c.about.ensures ∙ c.new.ensures.app)) in
+    let module_local : (out-Command c.after_help-module.result).has_globals ≡ false = ap (λ f. f.has_globals) c.after_help-module.ensures ∙ (ap (λ f. f.has_globals) c.about.ensures ∙ c.new.ensures.local) in
+    let one = c.in_ok-subcommand.ensures.shape module_local ∙ ap₂ with_subcommand all_is module_is in
+    let show = c.in_ok-order.ensures.shape in
+    let check = c.in_ok-order-2.ensures.shape in
+    let encode = c.in_ok-order-3.ensures.shape in
+    let convert = c.in_ok-order-4.ensures.shape in
+    let two = c.in_ok-subcommand-2.ensures.shape c.in_ok-order.ensures.local ∙ ap₂ with_subcommand one show.2 in
+    let three = c.in_ok-subcommand-3.ensures.shape c.in_ok-order-2.ensures.local ∙ ap₂ with_subcommand two check.2 in
+    let four = c.in_ok-subcommand-4.ensures.shape c.in_ok-order-3.ensures.local ∙ ap₂ with_subcommand three encode.2 in
+    IfOk-weaker c.subcommand-5.result _ _
+    (λ d h. (show.0, check.0, encode.0, convert.0, show.1, check.1, encode.1, convert.1, h.shape c.in_ok-order-4.ensures.local ∙ ap₂ with_subcommand four convert.2))
+    c.subcommand-5.ensures

@@ -1,0 +1,23 @@
+//! How the program ends.
+ghost use Rattle.std.specs.Prelude.{◌≡◌};
+ghost use Rattle.asn_tool.specs.Tool.{end_of};
+
+use asn_convert::{RunFault, Status};
+
+/// The exit status, and the line for standard error, which is empty where there is none.
+///
+/// 0 where every line was answered well, 1 where at least one was refused, 2 where the module was refused or has no
+/// type of the name, and 3 where reading, writing or memory failed, which the line tells. No memory is taken.
+pub fn ending(answer: &Result<Status, RunFault>) -> (u8, &'static str)
+    ensures status { result.0 ≡ (end_of answer.now).0 }
+    ensures line { result.1.now ≡ (end_of answer.now).1 }
+{
+    match answer {
+        Ok(Status::Good) => (0, ""),
+        Ok(Status::Marked) => (1, ""),
+        Ok(Status::NoModule) => (2, ""),
+        Err(RunFault::Read) => (3, "read failed"),
+        Err(RunFault::Write) => (3, "write failed"),
+        Err(RunFault::Memory) => (3, "memory"),
+    }
+}

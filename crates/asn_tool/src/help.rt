@@ -1,0 +1,83 @@
+//! What `--help` says beneath the options.
+
+/// Of the program.
+pub static PROGRAM: &str = "\
+In: on standard input the text of a module; for all but `module` then a line that is ====, and a line for each message.
+Out: on standard output a line for each message, which begins with ! where it is refused.
+
+Exit status: 0 if all went well; 1 if at least one message was refused; 2 if the words were not understood, the module
+was refused or it has no type of the name; 3 if reading, writing or memory failed, with a line on standard error.
+
+Example:
+  printf '%s\\n' 'M DEFINITIONS AUTOMATIC TAGS ::= BEGIN' 'T ::= INTEGER (0..7)' END ==== a0 |
+    asn_tool show --type T --rules per
+writes 5.";
+
+/// Of `module`.
+pub static MODULE: &str = "\
+In: the text of a module. Lines after one that is ==== are ignored.
+Out: the module, a line for each assignment, in order, each reference followed and each bound effective.
+
+Exit status: 0; 2 if the module was refused, which the only line of output tells; 3 if reading, writing or memory
+failed.
+
+Example:
+  echo 'M DEFINITIONS AUTOMATIC TAGS ::= BEGIN T ::= SEQUENCE OF U U ::= BOOLEAN END' | asn_tool module
+writes
+  M DEFINITIONS AUTOMATIC TAGS ::= BEGIN
+  T ::= SEQUENCE OF BOOLEAN
+  U ::= BOOLEAN
+  END";
+
+/// Of `show`.
+pub static SHOW: &str = "\
+In: the text of a module, a line that is ====, and messages in hexadecimal, one a line.
+Out: for each message its value as JSON, or a line that begins with ! and tells why it is refused.
+
+Exit status: 0 if each message was shown; 1 if at least one was refused; 2 if the module was refused or has no type of
+the name, which the only line of output tells; 3 if reading, writing or memory failed.
+
+Example:
+  printf '%s\\n' 'M DEFINITIONS AUTOMATIC TAGS ::= BEGIN' 'T ::= SEQUENCE { id INTEGER (0..7) }' END ==== a0 |
+    asn_tool show --type T --rules per
+writes {\"id\":5}.";
+
+/// Of `check`.
+pub static CHECK: &str = "\
+In: the text of a module, a line that is ====, and messages in hexadecimal, one a line.
+Out: for each message `ok` and how many octets it has, or a line that begins with ! and tells why it is refused.
+
+Exit status: 0 if each line is a message; 1 if at least one was refused; 2 if the module was refused or has no type of
+the name, which the only line of output tells; 3 if reading, writing or memory failed.
+
+Example:
+  printf '%s\\n' 'M DEFINITIONS AUTOMATIC TAGS ::= BEGIN' 'T ::= INTEGER (0..7)' END ==== a0 a1 |
+    asn_tool check --type T --rules per
+writes `ok 1` and `! refused at bit 8: padding`.";
+
+/// Of `encode`.
+pub static ENCODE: &str = "\
+In: the text of a module, a line that is ====, and values as JSON, one a line.
+Out: for each value its octets in hexadecimal, or a line that begins with ! and tells why it is refused.
+
+Exit status: 0 if each value was encoded; 1 if at least one was refused; 2 if the module was refused or has no type of
+the name, which the only line of output tells; 3 if reading, writing or memory failed.
+
+Example:
+  printf '%s\\n' 'M DEFINITIONS AUTOMATIC TAGS ::= BEGIN' 'T ::= SEQUENCE { id INTEGER (0..7) }' END ==== '{\"id\":5}' |
+    asn_tool encode --type T --rules per
+writes a0.";
+
+/// Of `convert`.
+pub static CONVERT: &str = "\
+In: the text of a module, a line that is ====, and messages in hexadecimal, one a line, in the encoding rules named.
+Out: for each message the octets of the same value in the other encoding rules, in hexadecimal, or a line that begins
+with ! and tells why it is refused.
+
+Exit status: 0 if each message was converted; 1 if at least one was refused; 2 if the module was refused or has no type
+of the name, which the only line of output tells; 3 if reading, writing or memory failed.
+
+Example:
+  printf '%s\\n' 'M DEFINITIONS AUTOMATIC TAGS ::= BEGIN' 'T ::= SEQUENCE { id INTEGER (0..7) }' END ==== a0 |
+    asn_tool convert --type T --rules per
+writes 05.";

@@ -28,7 +28,12 @@ pub(crate) fn exactly(count: u32) -> Size {
     size(count, Some(count), false)
 }
 
-pub(crate) fn field(alloc: Global, name: &str, ty: AsnType, need: Need) -> Result<Field, AllocError> {
+pub(crate) fn field(
+    alloc: Global,
+    name: &str,
+    ty: AsnType,
+    need: Need,
+) -> Result<Field, AllocError> {
     let name = String::from_str(alloc, name)?;
     Ok(Field { name, ty, need })
 }

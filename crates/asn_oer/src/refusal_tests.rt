@@ -49,13 +49,7 @@ pub(crate) fn answer_octet_by_octet(
 }
 
 /// The octets are answered with this fault, at once and octet by octet.
-fn expect_fault(
-    rt: &impl Abort,
-    alloc: Global,
-    ty: &Checked,
-    octets: &[u8],
-    fault: DecodeFault,
-) {
+fn expect_fault(rt: &impl Abort, alloc: Global, ty: &Checked, octets: &[u8], fault: DecodeFault) {
     let at_once = decode::<Oer>(alloc, ty, octets).err();
     assert_eq!(rt; at_once, Some(fault), "at {octets:?}");
     let one_by_one = answer_octet_by_octet(alloc, ty, octets).err();

@@ -28,7 +28,7 @@ returns-then-valid-len-clause-stop c =
     let e : us ≡ (some.0 ++ some.1 ∷ some.2) ++ r = w.0 ∙ ap (λ (t : List ℕ). t ++ r) some.3 in
     let fewer : length some.0 < c.args.count = omega (arith, w.1, c.min-present.ensures, ap length some.3, length-append some.0 (some.1 ∷ some.2)) in
     let left : length some.2 + length r ≡ c.octets_left-then-valid-len.result + (c.len-then-valid-len.result - c.valid_count-valid.result - 1) =
-        omega (arith, ap length some.3, length-append some.0 (some.1 ∷ some.2), some.4, c.octets_left-then-valid-len.ensures.count, c.len-then-valid-len.ensures) in
+    omega (arith, ap length some.3, length-append some.0 (some.1 ∷ some.2), some.4, c.octets_left-then-valid-len.ensures.count, c.len-then-valid-len.ensures) in
     record { told = subst (λ (i : ℕ). Refused oer_fields (Row (Character k) c.args.count) us i) left (text_refused k c.args.count some.0 some.2 some.1 us r e fewer some.5 some.6) }
 
 pub returns-then-present-count-clause-stop : goal.returns-then-present-count-clause-stop

@@ -81,11 +81,7 @@ fn read_variable(
 /// # Errors
 /// `Short` if fewer octets are left than the bits fill. `Refused`, with the reason `Padding`, at the last octet where
 /// it does not end in zeros. `Memory` if an allocation failed.
-fn read_packed(
-    alloc: Global,
-    count: usize,
-    units: &mut BitCursor<'_>,
-) -> Result<Vec<bool>, Stop>
+fn read_packed(alloc: Global, count: usize, units: &mut BitCursor<'_>) -> Result<Vec<bool>, Stop>
     requires at_octet { AtOctet units.old }
     ensures at_octet { OnOk result (AtOctet units.new) }
     ensures done { IfOk result (λ bs. ReadsOctets (PackedBits count) bs.items units.old units.new) }

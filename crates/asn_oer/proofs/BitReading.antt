@@ -1,17 +1,16 @@
 -- Bits that fill octets, and those behind their length and the number of unused ones, as they are read.
-use Rattle.std.proofs.Common.{◌≡◌, ◌≤◌, ◌<◌, ◌+◌, ◌-◌, ◌*◌, ◌/◌, ◌%◌, ◌^◌, ℕ, zero, suc, Bool, true, false, Option, Some, None, List, [], ◌∷◌, ◌++◌, map, length, take, drop, get_or, min, refl, sym, ap, ◌∙◌, subst, arith, append_assoc, length-append, length-drop}
+use Rattle.std.proofs.Common.{◌≡◌, ◌≤◌, ◌<◌, ◌+◌, ◌-◌, ◌*◌, ◌/◌, ◌%◌, ◌^◌, ℕ, suc, Bool, true, false, Some, None, List, [], ◌∷◌, ◌++◌, map, length, take, drop, get_or, min, refl, sym, ap, ◌∙◌, subst, arith, append_assoc, length-append, length-drop}
 use Rattle.std.specs.Prelude.{replicate}
 use Rattle.std.specs.List.{AllByRecursion}
 use Rattle.std.proofs.lemmas.List.{length-map, length-replicate, map-append, take-append-drop, length-take-le}
 use Rattle.std.proofs.lemmas.Nat.{pow_pos}
 use Rattle.std.proofs.Math.Seq.{drop-cons}
-use Rattle.asn_values.specs.Datum.{Datum, bit_list}
-use Rattle.asn_values.specs.Shape.{SizeRange, bit_string}
-use Rattle.asn_values.specs.Fits.{Fits, FitsLength, max_len}
+use Rattle.asn_values.specs.Datum.{bit_list}
+use Rattle.asn_values.specs.Shape.{SizeRange}
+use Rattle.asn_values.specs.Fits.{FitsLength, max_len}
 use Rattle.asn_values.specs.Profile.{is_fixed_size, large_size}
-use Rattle.asn_bits.specs.Numbers.{digits, bits, octet_count, padding, packed, unpacked}
-use Rattle.asn_bits.specs.Lengths.{octet_length}
-use Rattle.asn_bits.specs.Sets.{AreBits, Between, IsBits, Meets, weighted}
+use Rattle.asn_bits.specs.Numbers.{bits, octet_count, padding, packed, unpacked}
+use Rattle.asn_bits.specs.Sets.{AreBits, Between, weighted}
 use Rattle.asn_bits.proofs.FilledBits.{unpacked-packed, length-packed}
 use Rattle.asn_bits.proofs.Octets.{length-digits, octet_count_below, packed_octets}
 use Rattle.asn_bits.proofs.Splits.{length-unpacked}
@@ -22,10 +21,8 @@ use Rattle.asn_rules.specs.Components.{bit_of}
 use Rattle.asn_rules.specs.Fields.{OneOctet, OctetLength}
 use Rattle.asn_rules.specs.Forks.{Same}
 use Rattle.asn_rules.specs.Languages.{Inhabited, Map, Row, Spells, Then}
-use Rattle.asn_rules.specs.Listed.{IsOther}
 use Rattle.asn_rules.specs.NumberSets.{Admits}
 use Rattle.asn_rules.specs.declared.number_reader.NumberSet.{NumberSet}
-use Rattle.asn_rules.specs.Spellings.{SpelledBy}
 use Rattle.asn_rules.proofs.Chunks.{ones-append}
 use Rattle.asn_rules.proofs.Forks.{same_flip, same_inhabited}
 use Rattle.asn_rules.proofs.Leads.{LeadsStops, Leads, leads_on, leads_map, leads_same, leads_second, stops_first, stops_on}
@@ -34,9 +31,9 @@ use Rattle.asn_rules.proofs.Rows.{row_lawful}
 use Rattle.asn_rules.proofs.Sets.{set_inhabited, set_lawful}
 use Rattle.asn_rules.proofs.Spellings.{same_after, same_map, same_spelled, same_then, map_spelled, spelled_inhabited, then_spelled}
 use Rattle.asn_rules.proofs.Then.{Follows, then_inhabited}
-use Rattle.asn_oer.specs.Oer.{oer, oer_fields, bit_octets, filled_bits, variable_bits}
+use Rattle.asn_oer.specs.Oer.{oer_fields, filled_bits}
 use Rattle.asn_oer.specs.LeafReading.{BitStringsOf}
-use Rattle.asn_oer.specs.Reading.{AreCounts, FilledFields, OctetsIn, from_to}
+use Rattle.asn_oer.specs.Reading.{AreCounts, FilledFields, OctetsIn}
 use Rattle.asn_oer.specs.Strings.{is_one, last_told, BitsLength, PackedBits, UnusedBits, VariableBits}
 use Rattle.asn_oer.proofs.BitLanguages.{bit_strings, bits_again, packed_language, short, three_parts, truths_again, unpacked_bits, variable_language}
 use Rattle.asn_oer.proofs.OerFields.{oer_fields_part}

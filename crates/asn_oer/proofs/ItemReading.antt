@@ -1,5 +1,5 @@
 -- The number of an item of an ENUMERATED as octets: where the reader of an item stands, and what it cites at each exit.
-use Rattle.std.proofs.Common.{◌==◌, ◌⊎◌, inl, inr, ◌≡◌, ◌≤◌, ◌<◌, ◌+◌, ◌-◌, ◌*◌, ◌/◌, ◌%◌, ◌^◌, ◌&&◌, ℕ, zero, suc, ℤ, pos, negsuc, Bool, true, false, Option, Some, None, List, [], ◌∷◌, ◌++◌, map, length, refl, sym, ap, ◌∙◌, subst, arith, append_assoc, length-append, nat_lt}
+use Rattle.std.proofs.Common.{◌==◌, ◌⊎◌, inl, inr, ◌≡◌, ◌≤◌, ◌<◌, ◌+◌, ◌-◌, ◌*◌, ◌/◌, ◌%◌, ◌^◌, ◌&&◌, ℕ, zero, suc, ℤ, pos, Bool, true, false, Option, Some, None, List, [], ◌∷◌, ◌++◌, length, refl, sym, ap, ◌∙◌, subst, arith, append_assoc, length-append, nat_lt}
 use Rattle.std.proofs.lemmas.Bool.{ltb-false, ltb-true, true≢false}
 use Rattle.std.proofs.lemmas.List.{append-nil}
 use Rattle.std.proofs.lemmas.Nat.{pow_pos, pow-add}
@@ -12,7 +12,7 @@ use Rattle.asn_values.specs.Profile.{InProfile, TooMany, too_many_here, most_ite
 use Rattle.asn_values.specs.Measures.{nodes}
 use Rattle.asn_values.specs.Shape.{Label, MoreLabels, enumerated, more_labels}
 use Rattle.asn_values.proofs.Parts.{left_false}
-use Rattle.asn_bits.specs.Numbers.{bits, digits, octets, packed, signed_octets, signed_octet_count, least_signed, magnitude}
+use Rattle.asn_bits.specs.Numbers.{bits, octets, packed, signed_octets, signed_octet_count, least_signed, magnitude}
 use Rattle.asn_bits.proofs.Digits.{digits_code}
 use Rattle.asn_bits.proofs.Octets.{length-digits, signed_count_below}
 use Rattle.asn_bits.proofs.Splits.{digits-add, digits-join, two_pow_octets}

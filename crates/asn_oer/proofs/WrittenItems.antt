@@ -1,5 +1,5 @@
 -- The number of an item of an ENUMERATED, as the program has it, and its octets in OER.
-use Rattle.std.proofs.Common.{◌≡◌, ◌≤◌, ◌<◌, ◌+◌, ◌-◌, ◌*◌, ◌&&◌, ℕ, zero, suc, ℤ, pos, negsuc, false, List, [], ◌∷◌, ◌++◌, map, length, get_or, refl, sym, ◌∙◌, ap, subst, arith}
+use Rattle.std.proofs.Common.{◌≡◌, ◌≤◌, ◌<◌, ◌+◌, ◌-◌, ◌&&◌, ℕ, zero, suc, ℤ, pos, negsuc, false, List, [], ◌∷◌, ◌++◌, map, length, get_or, refl, sym, ◌∙◌, ap, subst, arith}
 use Rattle.std.proofs.lemmas.Int.{ints}
 use Rattle.std.proofs.lemmas.List.{length-map}
 use Rattle.std.specs.Int.RustNames.{int_le, int_lt}
@@ -9,7 +9,7 @@ use Rattle.asn_values.specs.declared.types.Item.{Item}
 use Rattle.asn_values.specs.Shape.{Label, MoreLabels, marked_labels, enumerated, more_labels}
 use Rattle.asn_values.specs.Profile.{InProfile, BadEnumeration}
 use Rattle.asn_values.specs.View.{label_of}
-use Rattle.asn_bits.specs.Numbers.{bits, octets, signed_octets, signed_octet_count, least_signed, magnitude, unpacked}
+use Rattle.asn_bits.specs.Numbers.{octets, signed_octets, signed_octet_count, least_signed, magnitude}
 use Rattle.asn_bits.proofs.Octets.{length-least_signed}
 use Rattle.asn_rules.specs.Components.{number_at}
 use Rattle.asn_rules.proofs.Items.{good_items}

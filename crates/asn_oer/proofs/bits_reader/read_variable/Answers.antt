@@ -1,8 +1,5 @@
-use Rattle.std.proofs.Common.{◌≡◌, ◌+◌, ◌-◌, ◌*◌, ◌/◌, min, arith}
 use Rattle.std.proofs.lemmas.Result.{err_from_is_err_and, IfOk-weaker, IfErr-weaker}
 use Rattle.asn_bits.specs.Numbers.{packed}
-use Rattle.asn_bits.specs.Sets.{Between}
-use Rattle.asn_rules.specs.Fields.{OctetLength}
 use Rattle.asn_rules.specs.Languages.{Spells}
 use Rattle.asn_rules.specs.Stops.{Stops}
 use Rattle.asn_rules.proofs.Leads.{stops_by}

@@ -1,9 +1,9 @@
-use Rattle.std.proofs.Common.{◌≡◌, ◌<◌, ◌++◌, inl, inr, ℕ, List, ℤ, map, refl, ap, subst, sym, ◌∙◌, arith, to_z, of_z}
+use Rattle.std.proofs.Common.{◌≡◌, ◌<◌, ◌++◌, inl, inr, ℕ, ℤ, map, refl, ap, subst, sym, ◌∙◌, arith, to_z, of_z}
 use mir.Syntax.{w64}
 use Rattle.asn_values.specs.View.{label_of, more_labels_of}
 use Rattle.asn_bits.specs.Numbers.{octets, magnitude}
 use Rattle.asn_rules.specs.Components.{number_at}
-use Rattle.asn_oer.specs.LeafReading.{ItemBegins, items_of}
+use Rattle.asn_oer.specs.LeafReading.{items_of}
 use Rattle.asn_oer.specs.Oer.{item_number}
 use Rattle.asn_oer.proofs.ItemReading.{up_to, left_out, another_item}
 use Rattle.asn_oer.proofs.WrittenItems.{item_kept, item_narrow}

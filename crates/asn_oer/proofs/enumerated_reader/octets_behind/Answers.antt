@@ -1,4 +1,4 @@
-use Rattle.std.proofs.Common.{rules, ◌≡◌, ◌-◌, ◌++◌, List, ℕ, ◌∙◌, sym, ap, ℤ, arith, to_z, of_z}
+use Rattle.std.proofs.Common.{rules, ◌≡◌, ◌-◌, ◌∙◌, sym, ap, ℤ, arith, to_z, of_z}
 use mir.Syntax.{w64}
 use Rattle.asn_bits.specs.Numbers.{octets}
 use Rattle.asn_bits.proofs.Octets.{length-digits}

@@ -1,6 +1,5 @@
-use Rattle.std.proofs.Common.{◌≡◌, ◌+◌, List, None, length, map, ◌∙◌, ap, arith, length-append}
+use Rattle.std.proofs.Common.{◌≡◌, None, length, map, ◌∙◌, ap, arith, length-append}
 use Rattle.std.proofs.lemmas.List.{length-map}
-use Rattle.asn_values.specs.declared.types.Item.{Item}
 use Rattle.asn_values.specs.View.{label_of, more_labels_of}
 use Rattle.asn_values.specs.Shape.{more_labels}
 use Rattle.asn_oer.proofs.ItemReading.{few_items}

@@ -1,4 +1,4 @@
-use Rattle.std.proofs.Common.{rules, ◌≡◌, ◌≤◌, ◌&&◌, ℕ, ℤ, pos, false, sym, ◌∙◌, ap, subst, arith, to_z, of_z}
+use Rattle.std.proofs.Common.{rules, ◌≡◌, ◌≤◌, ◌&&◌, ℤ, pos, false, sym, ◌∙◌, ap, arith, to_z, of_z}
 use Rattle.std.specs.Int.RustNames.{int_le, int_lt}
 use mir.Syntax.{w64, w128}
 use Rattle.asn_bits.specs.Numbers.{signed_octets, signed_octet_count}

@@ -71,7 +71,10 @@ fn show_octets<A: Rules>(
     match decode::<A>(alloc, ty, octets) {
         Ok(value) => {
             let text = json_text(alloc, ty, &value)?;
-            Ok(Answer { text, is_good: true })
+            Ok(Answer {
+                text,
+                is_good: true,
+            })
         }
         Err(fault) => decode_refusal(alloc, rules, fault),
     }
@@ -80,7 +83,8 @@ fn show_octets<A: Rules>(
 /// The text of the JSON of a value of the type.
 fn json_text(alloc: Global, ty: &Checked, value: &Value) -> Result<String, AllocError>
     requires { Fits (shape_of ty.now) (datum_of value.now) }
-    ensures { IfOk result (λ text. string_bytes text ≡ compact_text (json_of (shape_of ty.now) (datum_of value.now))) }
+    ensures { IfOk result (λ text. string_bytes text
+        ≡ compact_text (json_of (shape_of ty.now) (datum_of value.now))) }
 {
     match to_json(alloc, ty, value) {
         Ok(json) => json.to_string(alloc),
@@ -103,7 +107,10 @@ fn check_octets<A: Rules>(
         Ok(_) => {
             let count = octets.len();
             let text = format!(in alloc; "ok {count}")?;
-            Ok(Answer { text, is_good: true })
+            Ok(Answer {
+                text,
+                is_good: true,
+            })
         }
         Err(fault) => decode_refusal(alloc, rules, fault),
     }
@@ -122,7 +129,10 @@ fn convert_octets<A: Rules, B: Rules>(
     match convert::<A, B>(alloc, ty, octets) {
         Ok(other) => {
             let text = hex::encode(alloc, other.as_slice())?;
-            Ok(Answer { text, is_good: true })
+            Ok(Answer {
+                text,
+                is_good: true,
+            })
         }
         Err(ConvertFault::Read(fault)) => decode_refusal(alloc, rules, fault),
         Err(ConvertFault::TooLong) => refusal(alloc, "! too long"),
@@ -169,7 +179,10 @@ fn encode_json<A: Rules>(alloc: Global, ty: &Checked, json: &Json) -> Result<Ans
         Ok(octets) => {
             are_octets(octets.as_slice());
             let text = hex::encode(alloc, octets.as_slice())?;
-            Ok(Answer { text, is_good: true })
+            Ok(Answer {
+                text,
+                is_good: true,
+            })
         }
         Err(EncodeFault::TooLong) => refusal(alloc, "! too long"),
         Err(EncodeFault::Memory) => Err(AllocError),

@@ -12,8 +12,8 @@ mod texts;
 
 pub use conversion::{ConvertFault, convert};
 pub use job::{Job, Order, RuleName, RunFault, Status};
-pub use running::run_with;
 pub use laws::conversion_turns_back;
+pub use running::run_with;
 
 #[cfg(test)]
 mod tests;

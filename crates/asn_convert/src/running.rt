@@ -127,7 +127,11 @@ fn answer_module<A: Rules, B: Rules, W: Write>(
             put(output, text.as_str())?;
             Ok(Status::Good)
         }
-        Job::Lines { order, type_name, rules } => match accepted.type_named(type_name.as_str()) {
+        Job::Lines {
+            order,
+            type_name,
+            rules,
+        } => match accepted.type_named(type_name.as_str()) {
             Some(ty) => {
                 if answer_lines::<A, B, W>(alloc, output, ty, *order, *rules, lines)? {
                     Ok(Status::Good)
@@ -153,8 +157,9 @@ fn answer_lines<A: Rules, B: Rules, W: Write>(
     rules: RuleName,
     lines: &[u8],
 ) -> Result<bool, RunFault>
-    ensures told { IfOk result (λ all_good. Writes (λ out. Told (terms A.ruling B.ruling rules order (shape_of ty.now))
-        (lines_of lines.now) out all_good) (state_of W.contents output.old) (state_of W.contents output.new)) }
+    ensures told { IfOk result (λ all_good. Writes (λ out. Told (terms A.ruling B.ruling rules order
+        (shape_of ty.now)) (lines_of lines.now) out all_good) (state_of W.contents output.old)
+        (state_of W.contents output.new)) }
     ensures begun { IfErr result (λ fault. Stops fault (λ out. IsBegun (terms A.ruling B.ruling rules order
         (shape_of ty.now)) (lines_of lines.now) out) (state_of W.contents output.old)
         (state_of W.contents output.new)) }
@@ -178,12 +183,15 @@ fn answer_line<A: Rules, B: Rules, W: Write>(
     rules: RuleName,
     line: &[u8],
 ) -> Result<bool, RunFault>
-    ensures told { IfOk result (λ good. Writes (λ out. IsAnswered (terms A.ruling B.ruling rules order (shape_of ty.now))
-        line.now out good) (state_of W.contents output.old) (state_of W.contents output.new)) }
+    ensures told { IfOk result (λ good. Writes (λ out. IsAnswered (terms A.ruling B.ruling rules order
+        (shape_of ty.now)) line.now out good) (state_of W.contents output.old) (state_of W.contents output.new)) }
     ensures begun { IfErr result (λ fault. Stops fault (λ out. IsAnswerBegun (terms A.ruling B.ruling rules order
         (shape_of ty.now)) line.now out) (state_of W.contents output.old) (state_of W.contents output.new)) }
 {
-    let Answer { text: mut text, is_good } = answer_to::<A, B>(alloc, ty, order, rules, line)?;
+    let Answer {
+        text: mut text,
+        is_good,
+    } = answer_to::<A, B>(alloc, ty, order, rules, line)?;
     text.push_str("\n")?;
     put(output, text.as_str())?;
     Ok(is_good)

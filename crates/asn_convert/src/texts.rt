@@ -22,7 +22,10 @@ pub(crate) fn refusal(alloc: Global, words: &str) -> Result<Answer, AllocError>
     ensures refused { IfOk result (λ a. a.is_good ≡ false) }
 {
     let text = String::from_str(alloc, words)?;
-    Ok(Answer { text, is_good: false })
+    Ok(Answer {
+        text,
+        is_good: false,
+    })
 }
 
 /// What a unit is called.
@@ -59,7 +62,10 @@ pub(crate) fn decode_refusal(
         DecodeFault::TooLong => String::from_str(alloc, "! too long")?,
         DecodeFault::Memory => return Err(AllocError),
     };
-    Ok(Answer { text, is_good: false })
+    Ok(Answer {
+        text,
+        is_good: false,
+    })
 }
 
 /// The refusal of JSON that shows no value of the type.
@@ -72,7 +78,10 @@ pub(crate) fn json_refusal(alloc: Global, fault: &JsonFault) -> Result<Answer, A
     match fault {
         JsonFault::Shape { path } => {
             let text = format!(in alloc; "! shape {path}")?;
-            Ok(Answer { text, is_good: false })
+            Ok(Answer {
+                text,
+                is_good: false,
+            })
         }
         JsonFault::NotOfType => refusal(alloc, "! not of type"),
         JsonFault::Memory => Err(AllocError),

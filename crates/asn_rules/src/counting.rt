@@ -53,7 +53,8 @@ impl<R: Read> Read for Counted<R> {
 
     fn read(&mut self, buf: &mut [u8]) -> io::Result<usize>
         ensures bound { ReadsAtMost result buf.new }
-        ensures bytes { ReadConsumes (R.remaining (inner_of self.old)) (R.remaining (inner_of self.new)) result buf.new }
+        ensures bytes { ReadConsumes (R.remaining (inner_of self.old)) (R.remaining (inner_of self.new))
+            result buf.new }
         ensures faults { faults_of self.new ≡ count_after (failed result) (faults_of self.old) }
     {
         let result = self.inner.read(buf);
@@ -98,8 +99,10 @@ impl<W: Write> Write for Counted<W> {
 
     /// Writes all of it, trying nothing again.
     fn write_all(&mut self, buf: &[u8]) -> io::Result<()>
-        ensures bytes { OnOk result (Appends (W.contents (inner_of self.old)) (W.contents (inner_of self.new)) buf.now) }
-        ensures beginning { OnErr result (IsBeginning (W.contents (inner_of self.old)) (W.contents (inner_of self.new)) buf.now) }
+        ensures bytes { OnOk result (Appends (W.contents (inner_of self.old)) (W.contents (inner_of self.new))
+            buf.now) }
+        ensures beginning { OnErr result (IsBeginning (W.contents (inner_of self.old))
+            (W.contents (inner_of self.new)) buf.now) }
         ensures fault { OnErr result (Rose (faults_of self.old) (faults_of self.new)) }
         ensures same { OnOk result (faults_of self.new ≡ faults_of self.old) }
     {

@@ -22,8 +22,8 @@ returns-in_err-put-in-Err-clause-fault g c =
     let refused : IsRefusal c.cut_input.result.0.now line = rw c.in-Err.is at c.in_ok-accepted.ensures.refused in
     let value : c.as_str.result.now ≡ line = search rules in
     rw (p.1, p.2) (stops_so _ (λ out. IsFront out c.as_str.result.now) (λ out. Begun a b c.args.job.now c.args.input.now out) _ _
-      (λ out front. begun_refusal a b c.args.job.now c.args.input.now c.cut_input.result.0.now line out c.cut_input.ensures.text refused (subst (λ x. IsFront out x) value front))
-      c.in_err-put-in-Err.ensures.err)
+    (λ out front. begun_refusal a b c.args.job.now c.args.input.now c.cut_input.result.0.now line out c.cut_input.ensures.text refused (subst (λ x. IsFront out x) value front))
+    c.in_err-put-in-Err.ensures.err)
 
 pub returns-in-Ok-clause-fault : goal.returns-in-Ok-clause-fault
 returns-in-Ok-clause-fault g c =
@@ -32,8 +32,8 @@ returns-in-Ok-clause-fault g c =
     let m = types_view c.in-Ok.accepted in
     let is : IsModule c.cut_input.result.0.now m = rw c.in-Ok.is at c.in_ok-accepted.ensures.accepted in
     err_stops_so c.answer_module.result (λ out. TellsBegun a b c.args.job.now m (lines_of c.cut_input.result.1.now) out) (λ out. Begun a b c.args.job.now c.args.input.now out) _ _
-      (λ out tells. begun_module a b c.args.job.now c.args.input.now c.cut_input.result.0.now (lines_of c.cut_input.result.1.now) m out c.cut_input.ensures.text c.cut_input.ensures.lines is tells)
-      c.answer_module.ensures.fault
+    (λ out tells. begun_module a b c.args.job.now c.args.input.now c.cut_input.result.0.now (lines_of c.cut_input.result.1.now) m out c.cut_input.ensures.text c.cut_input.ensures.lines is tells)
+    c.answer_module.ensures.fault
 
 pub returns-in_ok-put-in-Err-clause-text : goal.returns-in_ok-put-in-Err-clause-text
 returns-in_ok-put-in-Err-clause-text g c =
@@ -43,5 +43,5 @@ returns-in_ok-put-in-Err-clause-text g c =
     let refused : IsRefusal c.cut_input.result.0.now line = rw c.in-Err.is at c.in_ok-accepted.ensures.refused in
     let value : c.as_str.result.now ≡ line = search rules in
     writes_so (λ out. out ≡ c.as_str.result.now) (λ out. Text a b c.args.job.now c.args.input.now out status.NoModule) _ _
-      (λ out same. text_refusal a b c.args.job.now c.args.input.now c.cut_input.result.0.now line out c.cut_input.ensures.text refused (same ∙ value))
-      c.in_ok-put-in-Err.ensures.ok
+    (λ out same. text_refusal a b c.args.job.now c.args.input.now c.cut_input.result.0.now line out c.cut_input.ensures.text refused (same ∙ value))
+    c.in_ok-put-in-Err.ensures.ok

@@ -18,17 +18,17 @@ returns-in_err-line-in-None-clause-fault g c =
     let lines = lines_of c.args.lines.now in
     let none : type_in m.types (string_bytes c.in-Lines.type_name) ≡ None = search rules in
     rw p.1 (stops_memory _ (λ out. TellsBegun a b c.args.job.now m lines out) _ p.2
-      (begun_no_type a b c.args.job.now m lines [] c.in-Lines.order c.in-Lines.type_name c.in-Lines.rules c.in-Lines.is none (ended (no_type (string_bytes c.in-Lines.type_name)), refl)))
+    (begun_no_type a b c.args.job.now m lines [] c.in-Lines.order c.in-Lines.type_name c.in-Lines.rules c.in-Lines.is none (ended (no_type (string_bytes c.in-Lines.type_name)), refl)))
 
 pub returns-in_err-text-in-Module-clause-fault : goal.returns-in_err-text-in-Module-clause-fault
 returns-in_err-text-in-Module-clause-fault g c =
-    let p = err_from_is_err_and c.from_residual-in_err-text-in-Module.result c.from_residual-in_err-text-in-Module.ensures.1 in
+    let p = err_from_is_err_and c.from_residual.result c.from_residual.ensures.1 in
     let a = g.A.Rules.ruling in
     let b = g.B.Rules.ruling in
     let m = types_view c.args.accepted.now in
     let lines = lines_of c.args.lines.now in
     rw p.1 (stops_memory _ (λ out. TellsBegun a b c.args.job.now m lines out) _ p.2
-      (begun_printed a b c.args.job.now m lines [] c.in-Module.is (printed m, refl)))
+    (begun_printed a b c.args.job.now m lines [] c.in-Module.is (printed m, refl)))
 
 pub returns-in_err-put-in-Module-clause-fault : goal.returns-in_err-put-in-Module-clause-fault
 returns-in_err-put-in-Module-clause-fault g c =
@@ -37,7 +37,7 @@ returns-in_err-put-in-Module-clause-fault g c =
     let b = g.B.Rules.ruling in
     let m = types_view c.args.accepted.now in
     let lines = lines_of c.args.lines.now in
-    let value : c.as_str-in-Module.result.now ≡ printed m = search rules in
-    rw (p.1, p.2) (stops_so _ (λ out. IsFront out c.as_str-in-Module.result.now) (λ out. TellsBegun a b c.args.job.now m lines out) _ _
-      (λ out front. begun_printed a b c.args.job.now m lines out c.in-Module.is (subst (λ x. IsFront out x) value front))
-      c.in_err-put-in-Module.ensures.err)
+    let value : c.as_str.result.now ≡ printed m = search rules in
+    rw (p.1, p.2) (stops_so _ (λ out. IsFront out c.as_str.result.now) (λ out. TellsBegun a b c.args.job.now m lines out) _ _
+    (λ out front. begun_printed a b c.args.job.now m lines out c.in-Module.is (subst (λ x. IsFront out x) value front))
+    c.in_err-put-in-Module.ensures.err)

@@ -8,5 +8,5 @@ returns-in-Err-clause-fault g c =
     let a = g.A.Rules.ruling in
     let b = g.B.Rules.ruling in
     flush_fails (λ out. Text a b c.args.job.now c.args.input.now out c.in_ok-status.status) (λ out. Begun a b c.args.job.now c.args.input.now out)
-      (state_of g.W.Write.contents c.args.output.now) (state_of g.W.Write.contents c.answer_input.new.output) (state_of g.W.Write.contents c.flush.new.self)
-      (λ out h. text_begun a b c.args.job.now c.args.input.now out c.in_ok-status.status h) c.in_ok-status.ensures.text c.in-Err.ensures.bytes (flush_rose _ _ c.in-Err.ensures.faults)
+    (state_of g.W.Write.contents c.args.output.now) (state_of g.W.Write.contents c.answer_input.new.output) (state_of g.W.Write.contents c.flush.new.self)
+    (λ out h. text_begun a b c.args.job.now c.args.input.now out c.in_ok-status.status h) c.in_ok-status.ensures.text c.in-Err.ensures.bytes (flush_rose _ _ c.in-Err.ensures.faults)

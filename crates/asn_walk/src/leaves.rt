@@ -67,6 +67,25 @@ pub trait ReadLeaves {
         ensures done { IfOk result (λ v. ReadsValue rules ty.now v units.old units.new) }
         ensures stop { IfErr result (λ why. StopsAt rules (ValuesOf rules (shape_of ty.now)) units.old why) };
 
+    /// Reads a value of a type that is neither SEQUENCE, SEQUENCE OF nor CHOICE into the one that is there, whose memory
+    /// it may keep. At `Err` some value is left there.
+    fn read_simple_into(
+        alloc: Global,
+        ty: &AsnType,
+        units: &mut BitCursor<'_>,
+        slot: &mut Value,
+    ) -> Result<(), Stop>
+        requires at_unit { rules.at_unit units.old }
+        requires of_profile { InProfile (shape_of ty.now) }
+        requires simple { IsSimple (shape_of ty.now) }
+        ensures at_unit { OnOk result (rules.at_unit units.new) }
+        ensures done { OnOk result (ReadsValue rules ty.now slot.new units.old units.new) }
+        ensures stop { IfErr result (λ why. StopsAt rules (ValuesOf rules (shape_of ty.now)) units.old why) }
+    {
+        *slot = Self::read_simple(alloc, ty, units)?;
+        Ok(())
+    }
+
     /// Reads a value of the type of a component with this DEFAULT. The DEFAULT itself is refused, since an encoder
     /// leaves it out.
     fn read_other(ty: &AsnType, default: &Value, units: &mut BitCursor<'_>) -> Result<Value, Stop>

@@ -8,5 +8,6 @@ mod components;
 mod message_reader;
 mod reader;
 
+pub use components::absent;
 pub use message_reader::read_message;
-pub use reader::{read, read_complete};
+pub use reader::{added_count, read, read_complete, try_bounded};

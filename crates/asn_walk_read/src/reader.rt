@@ -254,7 +254,7 @@ fn read_components<R: ReadLeaves>(
 /// Fast path: the INTEGER of a component that is always present and has two bounds and no extension mark, where its
 /// units are at hand and it lies between them; otherwise takes nothing.
 #[inline(always)]
-fn try_bounded<R: ReadLeaves>(field: &Field, units: &mut BitCursor<'_>) -> Option<i128>
+pub fn try_bounded<R: ReadLeaves>(field: &Field, units: &mut BitCursor<'_>) -> Option<i128>
     requires at_unit { R.rules.at_unit units.old }
     requires of_profile { InProfile (part_of_field field.now).shape }
     ensures at_unit { R.rules.at_unit units.new }
@@ -447,7 +447,7 @@ fn read_elements<R: ReadLeaves>(
 }
 
 /// How many extension additions there are, where there is an extension mark.
-fn added_count(ext: &Option<Vec<Alt>>) -> Option<usize>
+pub fn added_count(ext: &Option<Vec<Alt>>) -> Option<usize>
     ensures { result ≡ option_map vec_len ext.now }
 {
     match ext {

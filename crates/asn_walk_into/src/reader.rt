@@ -1,0 +1,522 @@
+//! The reader of values of all types into values that are there, over the parts that a set of encoding rules gives.
+//!
+//! Each reader has the contract of the one of `asn_walk_read` that gives its value, said of what stands in the slot
+//! afterwards. At `Err` some value is left there.
+ghost use Rattle.std.specs.Prelude.{◌≡◌, ◌≤◌, ◌<◌, ◌+◌, ◌%◌, IfOk, IfErr, IfSome, OnOk, map, take, length, vec_len};
+ghost use Rattle.std.specs.Option.{option_map};
+ghost use Rattle.asn_values.specs.Profile.{InProfile};
+ghost use Rattle.asn_values.specs.Parts.{AreOfProfile, AreAllOfProfile, IsGoodDemand};
+ghost use Rattle.asn_values.specs.View.{shape_of, datum_of, part_of_field};
+ghost use Rattle.asn_bits.specs.Numbers.{bits};
+ghost use Rattle.asn_rules.specs.Languages.{Row};
+ghost use Rattle.asn_rules.specs.Listed.{Listed, bitmap_length};
+ghost use Rattle.asn_walk.specs.Ahead.{Remaining};
+ghost use Rattle.asn_walk.specs.Coding.{OpenOf, ChosenOf, OpenListed, AdditionsOf};
+ghost use Rattle.asn_walk.specs.Reading.{Reads, ReadsValue, ReadsComplete, ReadsOpen, StopsAt, ValuesOf, CompleteOf, EntryOf, ReadsRoot, StopsInRoot, After, fields_seen, alternatives_seen, entries_seen};
+
+use crate::entries::{
+    clear_entries, make_place, make_present, read_anew, set_absent, set_integer, take_elements,
+    take_entries,
+};
+use asn_bits::BitCursor;
+use asn_rules::{Stop, Why};
+use asn_values::{Alt, AsnType, Field, Need, Value};
+use asn_walk::{Index, PresenceBits, ReadLeaves, bitmap_width};
+use asn_walk_read::{added_count, try_bounded};
+use std::alloc::Global;
+
+/// The most elements of a SEQUENCE OF for which capacity is reserved at once: an announced count alone must not
+/// allocate more.
+const RESERVED_AT_ONCE: usize = 1024;
+
+/// Reads a value of the type into the one that is there, which may be any value.
+#[cycle(reader)]
+pub fn read_into<R: ReadLeaves>(
+    alloc: Global,
+    ty: &AsnType,
+    units: &mut BitCursor<'_>,
+    slot: &mut Value,
+) -> Result<(), Stop>
+    requires at_unit { R.rules.at_unit units.old }
+    requires of_profile { InProfile (shape_of ty.now) }
+    ensures at_unit { OnOk result (R.rules.at_unit units.new) }
+    ensures done { OnOk result (ReadsValue R.rules ty.now slot.new units.old units.new) }
+    ensures stop { IfErr result (λ why. StopsAt R.rules (ValuesOf R.rules (shape_of ty.now)) units.old why) }
+{
+    match ty {
+        AsnType::Seq { ext: None, .. } => read_sequence_into::<R>(alloc, ty, units, slot),
+        AsnType::Seq { ext: Some(_), .. } => read_marked_into::<R>(alloc, ty, units, slot),
+        AsnType::SeqOf(..) => read_list_into::<R>(alloc, ty, units, slot),
+        AsnType::Choice { .. } => read_choice_into::<R>(alloc, ty, units, slot),
+        AsnType::Bool
+        | AsnType::Null
+        | AsnType::Int(_)
+        | AsnType::Enum { .. }
+        | AsnType::Bits(_)
+        | AsnType::Octets(_)
+        | AsnType::Text(..)
+        | AsnType::Utf8 => R::read_simple_into(alloc, ty, units, slot),
+    }
+}
+
+/// Reads a SEQUENCE without an extension mark.
+#[inline(never)]
+#[cycle(reader)]
+fn read_sequence_into<R: ReadLeaves>(
+    alloc: Global,
+    ty: &AsnType,
+    units: &mut BitCursor<'_>,
+    slot: &mut Value,
+) -> Result<(), Stop>
+    requires at_unit { R.rules.at_unit units.old }
+    requires of_profile { InProfile (shape_of ty.now) }
+    ensures at_unit { OnOk result (R.rules.at_unit units.new) }
+    ensures done { OnOk result (ReadsValue R.rules ty.now slot.new units.old units.new) }
+    ensures stop { IfErr result (λ why. StopsAt R.rules (ValuesOf R.rules (shape_of ty.now)) units.old why) }
+{
+    R::keep_laws();
+    let AsnType::Seq { root, ext } = ty else {
+        return read_anew::<R>(alloc, ty, units, slot);
+    };
+    let None = ext else {
+        return read_anew::<R>(alloc, ty, units, slot);
+    };
+    let root = root.as_slice();
+    let Ok(mut entries) = take_entries(slot, root.len()) else {
+        return read_anew::<R>(alloc, ty, units, slot);
+    };
+    read_root_into::<R>(alloc, root, None, entries.as_mut_slice(), units)?;
+    *slot = Value::Seq(entries);
+    Ok(())
+}
+
+/// Reads a SEQUENCE with an extension mark.
+#[inline(never)]
+#[cycle(reader)]
+fn read_marked_into<R: ReadLeaves>(
+    alloc: Global,
+    ty: &AsnType,
+    units: &mut BitCursor<'_>,
+    slot: &mut Value,
+) -> Result<(), Stop>
+    requires at_unit { R.rules.at_unit units.old }
+    requires of_profile { InProfile (shape_of ty.now) }
+    ensures at_unit { OnOk result (R.rules.at_unit units.new) }
+    ensures done { OnOk result (ReadsValue R.rules ty.now slot.new units.old units.new) }
+    ensures stop { IfErr result (λ why. StopsAt R.rules (ValuesOf R.rules (shape_of ty.now)) units.old why) }
+{
+    R::keep_laws();
+    let AsnType::Seq { root, ext } = ty else {
+        return read_anew::<R>(alloc, ty, units, slot);
+    };
+    let Some(additions) = ext else {
+        return read_anew::<R>(alloc, ty, units, slot);
+    };
+    let root = root.as_slice();
+    let additions = additions.as_slice();
+    let Ok(mut entries) = take_entries(slot, root.len() + additions.len()) else {
+        return read_anew::<R>(alloc, ty, units, slot);
+    };
+    let (ours, theirs) = entries.split_at_mut(root.len());
+    if read_root_into::<R>(alloc, root, Some(additions.len()), ours, units)? {
+        read_additions_into::<R>(alloc, additions, theirs, units)?;
+        *slot = Value::Seq(entries);
+    } else {
+        clear_entries(additions, theirs);
+        *slot = Value::Seq(entries);
+    }
+    Ok(())
+}
+
+/// Reads the root of a SEQUENCE: what stands before its components, and these. Gives the extension bit.
+#[cycle(reader)]
+fn read_root_into<R: ReadLeaves>(
+    alloc: Global,
+    root: &[Field],
+    additions: Option<usize>,
+    entries: &mut [Option<Value>],
+    units: &mut BitCursor<'_>,
+) -> Result<bool, Stop>
+    requires at_unit { R.rules.at_unit units.old }
+    requires of_profile { AreOfProfile (fields_seen root.now) }
+    requires few { length root.now ≤ 64 }
+    requires few_additions { IfSome additions (λ n. n ≤ 64) }
+    requires each { length entries.old ≡ length root.now }
+    ensures at_unit { OnOk result (R.rules.at_unit units.new) }
+    ensures done { IfOk result (λ extended. ReadsRoot R.rules (fields_seen root.now) additions extended
+        (entries_seen entries.new) units.old units.new) }
+    ensures stop { IfErr result (λ why. StopsInRoot R.rules (fields_seen root.now) additions units.old why) }
+{
+    R::keep_laws();
+    let width = bitmap_width(root);
+    let preamble = R::read_preamble(width, additions, units)?;
+    let presence = PresenceBits {
+        bitmap: preamble.bitmap,
+        left: width,
+    };
+    read_components_into::<R>(alloc, root, presence, entries, units)?;
+    Ok(preamble.extended)
+}
+
+/// Reads the components of a root that the presence bits tell, in order, each into its entry. A component with a
+/// DEFAULT that is absent has that value.
+#[cycle(reader)]
+fn read_components_into<R: ReadLeaves>(
+    alloc: Global,
+    fields: &[Field],
+    presence: PresenceBits,
+    entries: &mut [Option<Value>],
+    units: &mut BitCursor<'_>,
+) -> Result<(), Stop>
+    requires at_unit { R.rules.at_unit units.old }
+    requires of_profile { AreOfProfile (fields_seen fields.now) }
+    requires width { presence.left ≡ bitmap_length (fields_seen fields.now) }
+    requires few { presence.left ≤ 64 }
+    requires each { length entries.old ≡ length fields.now }
+    ensures at_unit { OnOk result (R.rules.at_unit units.new) }
+    ensures done { OnOk result (Reads R.rules
+        (Listed R.rules.code (fields_seen fields.now) (bits presence.left presence.bitmap))
+        (entries_seen entries.new) units.old units.new) }
+    ensures stop { IfErr result (λ why. StopsAt R.rules
+        (Listed R.rules.code (fields_seen fields.now) (bits presence.left presence.bitmap)) units.old why) }
+{
+    R::keep_laws();
+    let mut presence = presence;
+    let mut at = 0;
+    for field in fields {
+        if let Some(number) = try_bounded::<R>(field, units) {
+            set_integer(&mut entries[at], number);
+            at += 1;
+            continue;
+        }
+        let present = presence.next_of(field);
+        read_entry_into::<R>(alloc, field, present, &mut entries[at], units)?;
+        at += 1;
+    }
+    Ok(())
+}
+
+/// Reads the entry of a component, of which `present` says whether it is there.
+#[cycle(reader)]
+fn read_entry_into<R: ReadLeaves>(
+    alloc: Global,
+    field: &Field,
+    present: bool,
+    entry: &mut Option<Value>,
+    units: &mut BitCursor<'_>,
+) -> Result<(), Stop>
+    requires at_unit { R.rules.at_unit units.old }
+    requires of_profile { InProfile (part_of_field field.now).shape }
+    requires good { IsGoodDemand (part_of_field field.now).demand (part_of_field field.now).shape }
+    ensures at_unit { OnOk result (R.rules.at_unit units.new) }
+    ensures done { OnOk result (Reads R.rules (EntryOf R.rules (part_of_field field.now) present)
+        (option_map datum_of entry.new) units.old units.new) }
+    ensures stop { IfErr result (λ why.
+        StopsAt R.rules (EntryOf R.rules (part_of_field field.now) present) units.old why) }
+{
+    if !present {
+        set_absent(field, entry);
+        return Ok(());
+    }
+    match &field.need {
+        Need::Default(default) => {
+            *entry = Some(R::read_other(&field.ty, default, units)?);
+            Ok(())
+        }
+        Need::Must | Need::Optional => {
+            make_present(entry);
+            let Some(value) = entry else { unreachable!() };
+            read_into::<R>(alloc, &field.ty, units, value)
+        }
+    }
+}
+
+/// Reads the extension additions of a SEQUENCE of which one at least is present, each into its entry.
+#[cycle(reader)]
+fn read_additions_into<R: ReadLeaves>(
+    alloc: Global,
+    fields: &[Field],
+    entries: &mut [Option<Value>],
+    units: &mut BitCursor<'_>,
+) -> Result<(), Stop>
+    requires at_unit { R.rules.at_unit units.old }
+    requires of_profile { AreOfProfile (fields_seen fields.now) }
+    requires some { 0 < length fields.now }
+    requires few { length fields.now ≤ 64 }
+    requires each { length entries.old ≡ length fields.now }
+    ensures at_unit { OnOk result (R.rules.at_unit units.new) }
+    ensures done { OnOk result (Reads R.rules (AdditionsOf R.rules (fields_seen fields.now))
+        (entries_seen entries.new) units.old units.new) }
+    ensures stop { IfErr result (λ why. StopsAt R.rules (AdditionsOf R.rules (fields_seen fields.now)) units.old why) }
+{
+    R::keep_laws();
+    let count = fields.len() as u32;
+    let bitmap = R::read_addition_bitmap(count, units)?;
+    let presence = PresenceBits {
+        bitmap,
+        left: count,
+    };
+    read_open_fields_into::<R>(alloc, fields, presence, entries, units)
+}
+
+/// Reads the extension additions that the presence bits tell, each an open type field, into their entries.
+#[cycle(reader)]
+fn read_open_fields_into<R: ReadLeaves>(
+    alloc: Global,
+    fields: &[Field],
+    presence: PresenceBits,
+    entries: &mut [Option<Value>],
+    units: &mut BitCursor<'_>,
+) -> Result<(), Stop>
+    requires at_unit { R.rules.at_unit units.old }
+    requires of_profile { AreOfProfile (fields_seen fields.now) }
+    requires width { presence.left ≡ length fields.now }
+    requires few { presence.left ≤ 64 }
+    requires each { length entries.old ≡ length fields.now }
+    ensures at_unit { OnOk result (R.rules.at_unit units.new) }
+    ensures done { OnOk result (Reads R.rules
+        (OpenListed R.rules (fields_seen fields.now) (bits presence.left presence.bitmap))
+        (entries_seen entries.new) units.old units.new) }
+    ensures stop { IfErr result (λ why. StopsAt R.rules
+        (OpenListed R.rules (fields_seen fields.now) (bits presence.left presence.bitmap)) units.old why) }
+{
+    R::keep_laws();
+    let mut presence = presence;
+    let mut at = 0;
+    for field in fields {
+        let entry = &mut entries[at];
+        at += 1;
+        if !presence.next() {
+            *entry = None;
+            continue;
+        }
+        make_present(entry);
+        let Some(value) = entry else { unreachable!() };
+        read_open_into::<R>(alloc, &field.ty, units, value)?;
+    }
+    Ok(())
+}
+
+/// Reads a complete encoding of a value of the type into the one that is there: the value, and what fills up its octets
+/// (X.691, "complete encoding").
+#[cycle(reader)]
+pub fn read_complete_into<R: ReadLeaves>(
+    alloc: Global,
+    ty: &AsnType,
+    units: &mut BitCursor<'_>,
+    slot: &mut Value,
+) -> Result<(), Stop>
+    requires at_unit { R.rules.at_unit units.old }
+    requires of_profile { InProfile (shape_of ty.now) }
+    requires octets { length (R.rules.to_units units.old) % R.rules.octet_units ≡ 0 }
+    ensures at_unit { OnOk result (R.rules.at_unit units.new) }
+    ensures done { OnOk result (ReadsComplete R.rules ty.now slot.new units.old units.new) }
+    ensures stop { IfErr result (λ why. StopsAt R.rules (CompleteOf R.rules (shape_of ty.now)) units.old why) }
+{
+    R::keep_laws();
+    let given = R::units_left(units);
+    read_into::<R>(alloc, ty, units, slot)?;
+    R::read_padding(given, units)
+}
+
+/// Reads an open type field that holds a value of the type: its octets, and once they have all come, the complete
+/// encoding that they have to be (X.691, "open type fields"; X.696, "open type").
+#[inline(never)]
+#[cycle(reader)]
+fn read_open_into<R: ReadLeaves>(
+    alloc: Global,
+    ty: &AsnType,
+    units: &mut BitCursor<'_>,
+    slot: &mut Value,
+) -> Result<(), Stop>
+    requires at_unit { R.rules.at_unit units.old }
+    requires of_profile { InProfile (shape_of ty.now) }
+    ensures at_unit { OnOk result (R.rules.at_unit units.new) }
+    ensures done { OnOk result (ReadsOpen R.rules ty.now slot.new units.old units.new) }
+    ensures stop { IfErr result (λ why. StopsAt R.rules (OpenOf R.rules (shape_of ty.now)) units.old why) }
+{
+    R::keep_laws();
+    let octets = R::read_open_octets(alloc, units)?;
+    let mut content = BitCursor::over(&octets);
+    let no_value = Stop::Refused {
+        left: R::units_left(units),
+        why: Why::Sealed,
+    };
+    match read_complete_into::<R>(alloc, ty, &mut content, slot) {
+        Ok(()) if R::units_left(&content) == 0 => Ok(()),
+        Ok(()) => Err(no_value),
+        Err(Stop::Short) => Err(no_value),
+        Err(Stop::Refused { .. }) => Err(no_value),
+        Err(Stop::Memory) => Err(Stop::Memory),
+    }
+}
+
+/// Reads a CHOICE, whose box is kept.
+#[inline(never)]
+#[cycle(reader)]
+fn read_choice_into<R: ReadLeaves>(
+    alloc: Global,
+    ty: &AsnType,
+    units: &mut BitCursor<'_>,
+    slot: &mut Value,
+) -> Result<(), Stop>
+    requires at_unit { R.rules.at_unit units.old }
+    requires of_profile { InProfile (shape_of ty.now) }
+    ensures at_unit { OnOk result (R.rules.at_unit units.new) }
+    ensures done { OnOk result (ReadsValue R.rules ty.now slot.new units.old units.new) }
+    ensures stop { IfErr result (λ why. StopsAt R.rules (ValuesOf R.rules (shape_of ty.now)) units.old why) }
+{
+    R::keep_laws();
+    let AsnType::Choice { root, ext } = ty else {
+        return read_anew::<R>(alloc, ty, units, slot);
+    };
+    let Value::Choice(tag, value) = slot else {
+        return read_anew::<R>(alloc, ty, units, slot);
+    };
+    let known = root.len();
+    match R::read_index(known, added_count(ext), units)? {
+        Index::Root(index) => {
+            *tag = index as u32;
+            read_alternative_into::<R>(alloc, root, index, units, value)
+        }
+        Index::Added(index) => {
+            let Some(additions) = ext else { unreachable!() };
+            *tag = (known + index) as u32;
+            read_added_alternative_into::<R>(alloc, additions, index, units, value)
+        }
+    }
+}
+
+/// Reads a value of the alternative with this index in the root.
+#[cycle(reader)]
+fn read_alternative_into<R: ReadLeaves>(
+    alloc: Global,
+    root: &[Alt],
+    index: usize,
+    units: &mut BitCursor<'_>,
+    slot: &mut Value,
+) -> Result<(), Stop>
+    requires at_unit { R.rules.at_unit units.old }
+    requires of_profile { AreAllOfProfile (alternatives_seen root.now) }
+    requires inside { index < length root.now }
+    ensures at_unit { OnOk result (R.rules.at_unit units.new) }
+    ensures done { OnOk result (Reads R.rules
+        (ChosenOf (ValuesOf R.rules) (alternatives_seen root.now) index) (datum_of slot.new) units.old units.new) }
+    ensures stop { IfErr result (λ why.
+        StopsAt R.rules (ChosenOf (ValuesOf R.rules) (alternatives_seen root.now) index) units.old why) }
+{
+    read_into::<R>(alloc, &root[index].ty, units, slot)
+}
+
+/// Reads an open type field that holds a value of the alternative with this index among the additions.
+#[cycle(reader)]
+fn read_added_alternative_into<R: ReadLeaves>(
+    alloc: Global,
+    added: &[Alt],
+    index: usize,
+    units: &mut BitCursor<'_>,
+    slot: &mut Value,
+) -> Result<(), Stop>
+    requires at_unit { R.rules.at_unit units.old }
+    requires of_profile { AreAllOfProfile (alternatives_seen added.now) }
+    requires inside { index < length added.now }
+    ensures at_unit { OnOk result (R.rules.at_unit units.new) }
+    ensures done { OnOk result (Reads R.rules
+        (ChosenOf (OpenOf R.rules) (alternatives_seen added.now) index) (datum_of slot.new) units.old units.new) }
+    ensures stop { IfErr result (λ why.
+        StopsAt R.rules (ChosenOf (OpenOf R.rules) (alternatives_seen added.now) index) units.old why) }
+{
+    read_open_into::<R>(alloc, &added[index].ty, units, slot)
+}
+
+/// Reads a SEQUENCE OF.
+#[inline(never)]
+#[cycle(reader)]
+fn read_list_into<R: ReadLeaves>(
+    alloc: Global,
+    ty: &AsnType,
+    units: &mut BitCursor<'_>,
+    slot: &mut Value,
+) -> Result<(), Stop>
+    requires at_unit { R.rules.at_unit units.old }
+    requires of_profile { InProfile (shape_of ty.now) }
+    ensures at_unit { OnOk result (R.rules.at_unit units.new) }
+    ensures done { OnOk result (ReadsValue R.rules ty.now slot.new units.old units.new) }
+    ensures stop { IfErr result (λ why. StopsAt R.rules (ValuesOf R.rules (shape_of ty.now)) units.old why) }
+{
+    R::keep_laws();
+    let AsnType::SeqOf(element, size) = ty else {
+        return read_anew::<R>(alloc, ty, units, slot);
+    };
+    let Ok(mut elements) = take_elements(slot) else {
+        return read_anew::<R>(alloc, ty, units, slot);
+    };
+    let fragments = R::start_list(size, units)?;
+    read_fragments_into::<R>(alloc, element, fragments, &mut elements, units)?;
+    *slot = Value::List(elements);
+    Ok(())
+}
+
+/// Reads the fragments of a list that are still to come, from its first element on. Elements that were there and have
+/// no successor are cut off.
+#[cycle(reader)]
+fn read_fragments_into<R: ReadLeaves>(
+    alloc: Global,
+    element: &AsnType,
+    fragments: R::Fragments,
+    elements: &mut Vec<Value>,
+    units: &mut BitCursor<'_>,
+) -> Result<(), Stop>
+    requires at_unit { R.rules.at_unit units.old }
+    requires of_profile { InProfile (shape_of element.now) }
+    requires between { R.is_between fragments }
+    ensures at_unit { OnOk result (R.rules.at_unit units.new) }
+    ensures done { OnOk result (Reads R.rules
+        (Remaining (ValuesOf R.rules (shape_of element.now)) (R.ahead fragments))
+        (map datum_of elements.new.items) units.old units.new) }
+    ensures stop { IfErr result (λ why. StopsAt R.rules
+        (Remaining (ValuesOf R.rules (shape_of element.now)) (R.ahead fragments)) units.old why) }
+{
+    R::keep_laws();
+    let mut fragments = fragments;
+    let mut come = 0;
+    while let Some(count) = R::next_fragment(&mut fragments, units)? {
+        let there = elements.len() - come;
+        let wanted = count.min(units.octets_left()).min(RESERVED_AT_ONCE);
+        elements.reserve(wanted.saturating_sub(there))?;
+        read_elements_into::<R>(alloc, element, count, come, elements, units)?;
+        come += count;
+    }
+    elements.truncate(come);
+    Ok(())
+}
+
+/// Reads `count` elements, one after the other, behind the first `come`: each into the element that is there, or else
+/// into a new one.
+#[cycle(reader)]
+fn read_elements_into<R: ReadLeaves>(
+    alloc: Global,
+    element: &AsnType,
+    count: usize,
+    come: usize,
+    elements: &mut Vec<Value>,
+    units: &mut BitCursor<'_>,
+) -> Result<(), Stop>
+    requires at_unit { R.rules.at_unit units.old }
+    requires of_profile { InProfile (shape_of element.now) }
+    requires inside { come ≤ vec_len elements.old }
+    ensures at_unit { OnOk result (R.rules.at_unit units.new) }
+    ensures inside { OnOk result (come + count ≤ vec_len elements.new) }
+    ensures done { OnOk result (Reads R.rules
+        (After (map datum_of (take come elements.old.items)) (Row (ValuesOf R.rules (shape_of element.now)) count))
+        (map datum_of (take (come + count) elements.new.items)) units.old units.new) }
+    ensures stop { IfErr result (λ why.
+        StopsAt R.rules (Row (ValuesOf R.rules (shape_of element.now)) count) units.old why) }
+{
+    R::keep_laws();
+    for i in 0..count {
+        make_place(elements, come + i)?;
+        read_into::<R>(alloc, element, units, &mut elements[come + i])?;
+    }
+    Ok(())
+}

@@ -5,15 +5,16 @@
 mod ending;
 mod help;
 mod job;
+#[cfg(test)]
+mod tests;
 mod words;
 
 use asn_convert::{Job, run};
 use asn_rules::counting::Counted;
 use ending::ending;
 use job::{LineFault, job_of};
-use std::env;
-use std::io;
 use std::process::ExitCode;
+use std::{env, io};
 
 /// Does the job that the words after the program's name ask for, on standard input and output. The exit status is that
 /// of `ending`; 0 after help or the version, and 2 where the words ask for no job.

@@ -28,7 +28,12 @@ pub fn command<'a>(alloc: Global) -> Result<Command<'a>, AllocError>
         .subcommand(order(alloc, "show", "Shows messages as JSON", help::SHOW)?)?
         .subcommand(order(alloc, "check", "Checks messages", help::CHECK)?)?
         .subcommand(order(alloc, "encode", "Encodes JSON", help::ENCODE)?)?
-        .subcommand(order(alloc, "convert", "Converts messages to the other rules", help::CONVERT)?)
+        .subcommand(order(
+            alloc,
+            "convert",
+            "Converts messages to the other rules",
+            help::CONVERT,
+        )?)
 }
 
 /// The subcommand of an order, with its two options, both required.

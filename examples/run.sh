@@ -1,0 +1,71 @@
+#!/usr/bin/env bash
+# Runs the program on the examples of this folder, and compares what it writes.
+#
+#     examples/run.sh PROGRAM    every order, in both encoding rules, by a program that is built
+#     examples/run.sh            three orders on the larger modules, under `rt try`, which proves nothing
+#
+# Of each module NAME.asn there are values as JSON (NAME.values), what `show` makes of them (NAME.json), and their octets
+# in PER and OER (NAME.per, NAME.oer), a line a message. The octets were worked out by reference.py.
+set -euo pipefail
+cd "$(dirname "$0")"
+
+work=$(mktemp -d)
+trap 'rm -rf "$work"' EXIT
+
+fail() {
+  echo "examples: $*" >&2
+  exit 1
+}
+
+input() { # the module, and the lines of which the job is
+  cat "$1.asn"
+  echo ====
+  cat "$2"
+}
+
+# ---- a program that is built: each order, and the module's own printed form printed again
+
+expect() { # the module, its type, the order, the rules, the lines, and what is wanted
+  input "$1" "$5" | "$program" "$3" --type "$2" --rules "$4" >"$work/out" || fail "$3 $1 $4: status $?"
+  cmp "$work/out" "$6" || fail "$3 $1 $4"
+}
+
+if [ $# -gt 0 ]; then
+  program=$(realpath "$1")
+  for name in rows cam bsm signalling; do
+    type=Message
+    if [ "$name" = rows ]; then type=Msg; fi
+    for rules in per oer; do
+      other=$([ "$rules" = per ] && echo oer || echo per)
+      expect "$name" "$type" encode "$rules" "$name.values" "$name.$rules"
+      expect "$name" "$type" show "$rules" "$name.$rules" "$name.json"
+      expect "$name" "$type" convert "$rules" "$name.$rules" "$name.$other"
+      awk '{ print "ok " length($0) / 2 }' "$name.$rules" >"$work/counts"
+      expect "$name" "$type" check "$rules" "$name.$rules" "$work/counts"
+    done
+    "$program" module <"$name.asn" >"$work/$name.asn" || fail "module $name: status $?"
+    "$program" module <"$work/$name.asn" | cmp - "$work/$name.asn" || fail "module $name"
+  done
+  echo "examples: each order on four modules, in both encoding rules"
+  exit
+fi
+
+# ---- under `rt try`: the program is built once an order
+
+try() { # the order, the rules, the lines of each module, and what is wanted
+  mkdir "$work/$1"
+  for name in bsm cam signalling; do input "$name" "$name.$3" >"$work/$1/$name"; done
+  # in a few steps the interpreter gives no answer, and only the compiled program is run
+  (cd ../crates/asn_tool && rt try --steps 1000 --cases "$work/$1" -- "$1" --type Message --rules "$2") \
+    >"$work/told" 2>"$work/ends" || fail "$1: $(tail -n 20 "$work/told" "$work/ends")"
+  for name in bsm cam signalling; do
+    echo "== $name"
+    cat "$name.$4"
+  done >"$work/wanted"
+  diff "$work/wanted" "$work/told" >&2 || fail "$1 does not write what is wanted"
+}
+
+try encode per values per
+try show per per json
+try convert per per oer
+echo "examples: three orders on three modules"

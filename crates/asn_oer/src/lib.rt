@@ -6,8 +6,6 @@ mod boolean_reader;
 mod counted_reader;
 mod elements;
 mod encoder;
-#[cfg(test)]
-mod encoder_tests;
 mod enumerated_writer;
 mod filled_reader;
 mod index_reader;

@@ -1,8 +1,6 @@
 //! CANONICAL-PER UNALIGNED (X.691): encoding and decoding of whole messages.
 #![tactic(auto)]
 
-#[cfg(test)]
-mod composed_tests;
 mod indexes;
 mod integer_reader;
 mod integer_writer;
@@ -11,20 +9,12 @@ mod item_writer;
 mod items;
 mod kinds;
 mod laws;
-#[cfg(test)]
-mod list_tests;
 mod per;
 mod read_leaves;
 mod rules;
-#[cfg(test)]
-mod session_tests;
 mod size_reader;
 mod size_writer;
 mod string_reader;
-#[cfg(test)]
-mod string_tests;
-#[cfg(test)]
-mod tests;
 mod write_leaves;
 
 pub use kinds::kinds_compose;

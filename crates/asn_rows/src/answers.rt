@@ -1,0 +1,66 @@
+//! What a decoder and a session answer, as text.
+use anyhow::Result;
+use asn_json::to_json;
+use asn_rules::{DecodeFault, FeedFault, Step, Truncated, Why};
+use asn_values::{Checked, Value};
+use std::alloc::Global;
+
+/// What was being read where octets were refused.
+fn name_of(why: Why) -> &'static str {
+    match why {
+        Why::Sealed => "sealed",
+        Why::Default => "default",
+        Why::Length => "length",
+        Why::Extension => "extension",
+        Why::Character => "character",
+        Why::Padding => "padding",
+        Why::Number => "number",
+    }
+}
+
+/// The value as JSON.
+fn shown(alloc: Global, ty: &Checked, value: &Value) -> Result<String> {
+    Ok(to_json(alloc, ty, value)?.to_string(alloc)?)
+}
+
+/// The answer of `decode`.
+pub fn decoded(
+    alloc: Global,
+    ty: &Checked,
+    answer: &std::result::Result<Value, DecodeFault>,
+) -> Result<String> {
+    match answer {
+        Ok(value) => shown(alloc, ty, value),
+        Err(DecodeFault::Refused { at, why }) => {
+            Ok(format!(in alloc; "refused at {at}: {}", name_of(*why))?)
+        }
+        Err(fault) => Ok(format!(in alloc; "{fault}")?),
+    }
+}
+
+/// The answer to a piece.
+pub fn fed(
+    alloc: Global,
+    ty: &Checked,
+    answer: &std::result::Result<Step, FeedFault>,
+) -> Result<String> {
+    match answer {
+        Ok(Step::Done { value, used }) => {
+            let shown = shown(alloc, ty, value)?;
+            Ok(format!(in alloc; "done {used} {shown}")?)
+        }
+        Ok(Step::More) => Ok(String::from_str(alloc, "more")?),
+        Err(FeedFault::Refused { at, why }) => {
+            Ok(format!(in alloc; "refused at {at}: {}", name_of(*why))?)
+        }
+        Err(fault) => Ok(format!(in alloc; "{fault}")?),
+    }
+}
+
+/// The answer at the end.
+pub fn finished(alloc: Global, answer: std::result::Result<(), Truncated>) -> Result<String> {
+    match answer {
+        Ok(()) => Ok(String::from_str(alloc, "whole")?),
+        Err(fault) => Ok(format!(in alloc; "{fault}")?),
+    }
+}

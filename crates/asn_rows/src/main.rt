@@ -1,0 +1,34 @@
+//! Tries rows of values and octets of both encoding rules. Standard input has a module (X.680), a line
+//! `====`, and then a row a line; what a row says stands in `rows.rt`. A row that does not hold is told by its line, and
+//! the last line written counts those that hold.
+#![tactic(auto)]
+
+mod answers;
+mod cells;
+mod pieces;
+mod rows;
+
+use anyhow::{Context, Result};
+use asn_module::read;
+use rows::try_row;
+use std::io;
+
+fn main(rt: HostRuntime) -> Result<()> {
+    let text = io::read_to_string(rt.alloc(), rt.reader())?;
+    let (module, rows) = text
+        .split_once("====\n")
+        .context("no line ==== after a module")?;
+    let module = read(rt.alloc(), module)?;
+    let mut held = 0usize;
+    for (place, row) in rows.lines().enumerate() {
+        if row.is_empty() || row.starts_with("--") {
+            continue;
+        }
+        match try_row(rt.alloc(), &module, row) {
+            Ok(()) => held = held.saturating_add(1),
+            Err(fault) => println!(rt; "line {place} after ====: {fault}")?,
+        }
+    }
+    println!(rt; "{held} rows")?;
+    Ok(())
+}

@@ -1,0 +1,169 @@
+//! A row: its kind, its type, and what holds of the type, with `|` between the cells. A type is a name of the module, or
+//! is written out. `<X*N>` is N times X, and in octets `(XxN)` too, where X may have the other form in it.
+//!
+//! - `value | TYPE | JSON | PER | OER`: these octets are the encoding of the value, and `-` stands where a rule is left
+//!   aside. They are decoded as the value, at once and in pieces of 1, 2, 3 and 5 octets.
+//! - `same | TYPE | PER | OER`: these octets are the encodings of one value.
+//! - `none | TYPE | OTHER | JSON`: the value of the other type is none of the type.
+//! - `per | TYPE | OCTETS | ANSWER`, and `oer`: so `decode` answers to the octets, at once and in these pieces.
+//! - `per octet | TYPE | BITS | ANSWER`: so it answers to each octet of these bits, where `x` is either; `value` is any
+//!   value of which the octet is the encoding.
+//! - `per pieces | TYPE | PIECES | ANSWERS`: so a session answers to the pieces, and so it ends.
+use crate::answers::decoded;
+use crate::cells::{cut, octets_of, repeated, type_of, value_of};
+use crate::pieces::{answers_to, decode_in_pieces};
+use anyhow::{Result, bail, ensure};
+use asn_module::Module;
+use asn_oer::encode as encode_oer;
+use asn_per::Per;
+use asn_rules::{DecodeFault, EncodeFault, Rules, decode};
+use asn_values::{Checked, Value, same};
+use std::alloc::Global;
+
+/// Octets of more than so many do not come in pieces of few octets.
+const FEW: usize = 64;
+
+/// Fails where the row does not hold.
+pub fn try_row(alloc: Global, module: &Module, row: &str) -> Result<()> {
+    let (kind, others) = cut(row);
+    let (ty, others) = cut(others);
+    let ty = type_of(alloc, module, ty)?;
+    match kind {
+        "value" => try_value(alloc, &ty, others),
+        "same" => try_same(alloc, &ty, others),
+        "none" => {
+            let (other, json) = cut(others);
+            let other = type_of(alloc, module, other)?;
+            try_none(alloc, &ty, &value_of(alloc, &other, json)?)
+        }
+        "per" => try_answer::<Per>(alloc, &ty, others),
+        "per octet" => try_octets::<Per>(alloc, &ty, others),
+        "per pieces" => {
+            let (pieces, answers) = cut(others);
+            expect(
+                &answers_to::<Per>(alloc, &ty, &repeated(alloc, pieces)?)?,
+                &repeated(alloc, answers)?,
+            )
+        }
+        // OER has no decoder yet
+        "oer" => Ok(()),
+        _ => bail!("a row of no kind"),
+    }
+}
+
+/// The sizes of pieces that so many octets come in.
+fn pieces_of(count: usize) -> [usize; 4] {
+    if count <= FEW {
+        [1, 2, 3, 5]
+    } else {
+        let part = count / 8;
+        [part, part + 1, part + 2, part + 3]
+    }
+}
+
+/// Fails where the text is another.
+fn expect(text: &str, want: &str) -> Result<()> {
+    ensure!(*text == *want, "{text}");
+    Ok(())
+}
+
+fn try_value(alloc: Global, ty: &Checked, row: &str) -> Result<()> {
+    let (json, row) = cut(row);
+    let (per, oer) = cut(row);
+    let value = value_of(alloc, ty, json)?;
+    if *per != *"-" {
+        let octets = octets_of(alloc, per)?;
+        expect_octets(alloc, &Per::encode(alloc, ty, &value)?, &octets)?;
+        expect_value::<Per>(alloc, ty, &octets, &value)?;
+    }
+    if *oer != *"-" {
+        let octets = octets_of(alloc, oer)?;
+        expect_octets(alloc, &encode_oer(alloc, ty, &value)?, &octets)?;
+    }
+    Ok(())
+}
+
+/// Fails where the octets are others.
+fn expect_octets(alloc: Global, octets: &[u8], want: &[u8]) -> Result<()> {
+    if *octets == *want {
+        return Ok(());
+    }
+    let front = octets.get(..64).unwrap_or(octets);
+    bail!("{}", hex::encode(alloc, front)?)
+}
+
+/// Fails where the octets, at once or in pieces, are not decoded as the value.
+fn expect_value<R: Rules>(alloc: Global, ty: &Checked, octets: &[u8], value: &Value) -> Result<()> {
+    let whole = decode::<R>(alloc, ty, octets)?;
+    ensure!(same(&whole, value), "another value");
+    for many in pieces_of(octets.len()) {
+        let value = decode_in_pieces::<R>(alloc, ty, octets, many)?;
+        ensure!(same(&whole, &value), "another value in pieces of {many}");
+    }
+    Ok(())
+}
+
+fn try_same(alloc: Global, ty: &Checked, row: &str) -> Result<()> {
+    let (per, oer) = cut(row);
+    let per = octets_of(alloc, per)?;
+    let oer = octets_of(alloc, oer)?;
+    let value = decode::<Per>(alloc, ty, &per)?;
+    expect_octets(alloc, &Per::encode(alloc, ty, &value)?, &per)?;
+    expect_octets(alloc, &encode_oer(alloc, ty, &value)?, &oer)
+}
+
+fn try_none(alloc: Global, ty: &Checked, value: &Value) -> Result<()> {
+    let none = Some(EncodeFault::NotOfType);
+    ensure!(
+        Per::encode(alloc, ty, value).err() == none,
+        "a value in PER"
+    );
+    ensure!(encode_oer(alloc, ty, value).err() == none, "a value in OER");
+    Ok(())
+}
+
+fn try_answer<R: Rules>(alloc: Global, ty: &Checked, row: &str) -> Result<()> {
+    let (octets, answer) = cut(row);
+    let octets = octets_of(alloc, octets)?;
+    let whole = decode::<R>(alloc, ty, &octets);
+    expect(&decoded(alloc, ty, &whole)?, answer)?;
+    for many in pieces_of(octets.len()) {
+        let pieces = decode_in_pieces::<R>(alloc, ty, &octets, many);
+        expect(&decoded(alloc, ty, &pieces)?, answer)?;
+    }
+    Ok(())
+}
+
+/// Whether the octet has these bits.
+fn has_bits(octet: u8, bits: &str) -> bool {
+    let mut left = octet;
+    for bit in bits.chars() {
+        let is_one = left & 0x80 != 0;
+        if bit != 'x' && is_one != (bit == '1') {
+            return false;
+        }
+        left = left << 1;
+    }
+    true
+}
+
+fn try_octets<R: Rules>(alloc: Global, ty: &Checked, row: &str) -> Result<()> {
+    let (bits, answer) = cut(row);
+    for octet in 0..=255u8 {
+        if has_bits(octet, bits) {
+            expect_answer::<R>(alloc, ty, octet, answer)?;
+        }
+    }
+    Ok(())
+}
+
+/// Fails where the octet is answered otherwise.
+fn expect_answer<R: Rules>(alloc: Global, ty: &Checked, octet: u8, answer: &str) -> Result<()> {
+    match decode::<R>(alloc, ty, &[octet]) {
+        Ok(value) if *answer == *"value" => {
+            expect_octets(alloc, &R::encode(alloc, ty, &value)?, &[octet])?;
+            expect_value::<R>(alloc, ty, &[octet], &value)
+        }
+        other => expect(&decoded(alloc, ty, &other)?, answer),
+    }
+}

@@ -1,4 +1,5 @@
 pub mod Answers
 pub mod Converted
 pub mod Lines
+pub mod Named
 pub mod Text

@@ -2,6 +2,7 @@
 #![tactic(auto)]
 
 mod answers;
+mod by_name;
 mod conversion;
 mod cut;
 mod job;
@@ -10,10 +11,10 @@ mod reading;
 mod running;
 mod texts;
 
+pub use by_name::run;
 pub use conversion::{ConvertFault, convert};
 pub use job::{Job, Order, RuleName, RunFault, Status};
 pub use laws::conversion_turns_back;
-pub use running::run_with;
 
 #[cfg(test)]
 mod tests;

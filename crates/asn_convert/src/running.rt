@@ -20,7 +20,7 @@ use std::alloc::{AllocError, Global};
 use std::io::{Read, Write};
 
 /// Reads all, and writes the text of the job, octets being those of the rules A, or converted to those of B.
-pub fn run_with<A: Rules, B: Rules, R: Read, W: Write>(
+pub(crate) fn run_with<A: Rules, B: Rules, R: Read, W: Write>(
     alloc: Global,
     input: &mut Counted<R>,
     output: &mut Counted<W>,

@@ -1,22 +1,9 @@
 //! What a decoder and a session answer, as text.
 use anyhow::Result;
 use asn_json::to_json;
-use asn_rules::{DecodeFault, FeedFault, Step, Truncated, Why};
+use asn_rules::{DecodeFault, FeedFault, Step, Truncated};
 use asn_values::{Checked, Value};
 use std::alloc::Global;
-
-/// What was being read where octets were refused.
-fn name_of(why: Why) -> &'static str {
-    match why {
-        Why::Sealed => "sealed",
-        Why::Default => "default",
-        Why::Length => "length",
-        Why::Extension => "extension",
-        Why::Character => "character",
-        Why::Padding => "padding",
-        Why::Number => "number",
-    }
-}
 
 /// The value as JSON.
 fn shown(alloc: Global, ty: &Checked, value: &Value) -> Result<String> {
@@ -32,7 +19,7 @@ pub fn decoded(
     match answer {
         Ok(value) => shown(alloc, ty, value),
         Err(DecodeFault::Refused { at, why }) => {
-            Ok(format!(in alloc; "refused at {at}: {}", name_of(*why))?)
+            Ok(format!(in alloc; "refused at {at}: {why}")?)
         }
         Err(fault) => Ok(format!(in alloc; "{fault}")?),
     }
@@ -51,7 +38,7 @@ pub fn fed(
         }
         Ok(Step::More) => Ok(String::from_str(alloc, "more")?),
         Err(FeedFault::Refused { at, why }) => {
-            Ok(format!(in alloc; "refused at {at}: {}", name_of(*why))?)
+            Ok(format!(in alloc; "refused at {at}: {why}")?)
         }
         Err(fault) => Ok(format!(in alloc; "{fault}")?),
     }

@@ -6,15 +6,15 @@
 //! - `same | TYPE | PER | OER`: these octets are the encodings of one value.
 //! - `none | TYPE | OTHER | JSON`: the value of the other type is none of the type.
 //! - `per | TYPE | OCTETS | ANSWER`, and `oer`: so `decode` answers to the octets, at once and in these pieces.
-//! - `per octet | TYPE | BITS | ANSWER`: so it answers to each octet of these bits, where `x` is either; `value` is any
+//! - `per octet | TYPE | BITS | ANSWER`, and `oer octet`: so it answers to each octet of these bits, where `x` is either; `value` is any
 //!   value of which the octet is the encoding.
-//! - `per pieces | TYPE | PIECES | ANSWERS`: so a session answers to the pieces, and so it ends.
+//! - `per pieces | TYPE | PIECES | ANSWERS`, and `oer pieces`: so a session answers to the pieces, and so it ends.
 use crate::answers::decoded;
 use crate::cells::{cut, octets_of, repeated, type_of, value_of};
 use crate::pieces::{answers_to, decode_in_pieces};
 use anyhow::{Result, bail, ensure};
 use asn_module::Module;
-use asn_oer::encode as encode_oer;
+use asn_oer::Oer;
 use asn_per::Per;
 use asn_rules::{DecodeFault, EncodeFault, Rules, decode};
 use asn_values::{Checked, Value, same};
@@ -38,15 +38,10 @@ pub fn try_row(alloc: Global, module: &Module, row: &str) -> Result<()> {
         }
         "per" => try_answer::<Per>(alloc, &ty, others),
         "per octet" => try_octets::<Per>(alloc, &ty, others),
-        "per pieces" => {
-            let (pieces, answers) = cut(others);
-            expect(
-                &answers_to::<Per>(alloc, &ty, &repeated(alloc, pieces)?)?,
-                &repeated(alloc, answers)?,
-            )
-        }
-        // OER has no decoder yet
-        "oer" => Ok(()),
+        "per pieces" => try_pieces::<Per>(alloc, &ty, others),
+        "oer" => try_answer::<Oer>(alloc, &ty, others),
+        "oer octet" => try_octets::<Oer>(alloc, &ty, others),
+        "oer pieces" => try_pieces::<Oer>(alloc, &ty, others),
         _ => bail!("a row of no kind"),
     }
 }
@@ -71,16 +66,18 @@ fn try_value(alloc: Global, ty: &Checked, row: &str) -> Result<()> {
     let (json, row) = cut(row);
     let (per, oer) = cut(row);
     let value = value_of(alloc, ty, json)?;
-    if *per != *"-" {
-        let octets = octets_of(alloc, per)?;
-        expect_octets(alloc, &Per::encode(alloc, ty, &value)?, &octets)?;
-        expect_value::<Per>(alloc, ty, &octets, &value)?;
+    try_encoding::<Per>(alloc, ty, &value, per)?;
+    try_encoding::<Oer>(alloc, ty, &value, oer)
+}
+
+/// Fails where the octets, if the row has any, are not the encoding of the value.
+fn try_encoding<R: Rules>(alloc: Global, ty: &Checked, value: &Value, octets: &str) -> Result<()> {
+    if *octets == *"-" {
+        return Ok(());
     }
-    if *oer != *"-" {
-        let octets = octets_of(alloc, oer)?;
-        expect_octets(alloc, &encode_oer(alloc, ty, &value)?, &octets)?;
-    }
-    Ok(())
+    let octets = octets_of(alloc, octets)?;
+    expect_octets(alloc, &R::encode(alloc, ty, value)?, &octets)?;
+    expect_value::<R>(alloc, ty, &octets, value)
 }
 
 /// Fails where the octets are others.
@@ -109,7 +106,8 @@ fn try_same(alloc: Global, ty: &Checked, row: &str) -> Result<()> {
     let oer = octets_of(alloc, oer)?;
     let value = decode::<Per>(alloc, ty, &per)?;
     expect_octets(alloc, &Per::encode(alloc, ty, &value)?, &per)?;
-    expect_octets(alloc, &encode_oer(alloc, ty, &value)?, &oer)
+    expect_octets(alloc, &Oer::encode(alloc, ty, &value)?, &oer)?;
+    expect_value::<Oer>(alloc, ty, &oer, &value)
 }
 
 fn try_none(alloc: Global, ty: &Checked, value: &Value) -> Result<()> {
@@ -118,7 +116,10 @@ fn try_none(alloc: Global, ty: &Checked, value: &Value) -> Result<()> {
         Per::encode(alloc, ty, value).err() == none,
         "a value in PER"
     );
-    ensure!(encode_oer(alloc, ty, value).err() == none, "a value in OER");
+    ensure!(
+        Oer::encode(alloc, ty, value).err() == none,
+        "a value in OER"
+    );
     Ok(())
 }
 
@@ -132,6 +133,14 @@ fn try_answer<R: Rules>(alloc: Global, ty: &Checked, row: &str) -> Result<()> {
         expect(&decoded(alloc, ty, &pieces)?, answer)?;
     }
     Ok(())
+}
+
+fn try_pieces<R: Rules>(alloc: Global, ty: &Checked, row: &str) -> Result<()> {
+    let (pieces, answers) = cut(row);
+    expect(
+        &answers_to::<R>(alloc, ty, &repeated(alloc, pieces)?)?,
+        &repeated(alloc, answers)?,
+    )
 }
 
 /// Whether the octet has these bits.

@@ -3,8 +3,6 @@ ghost use Rattle.std.specs.Prelude.{◌≡◌, ℕ, ◌^◌, ◌<◌, ◌≤◌}
 
 use crate::sink::BitSink;
 use std::alloc::{AllocError, Global};
-use std::process::Abort;
-use std::test::Fail;
 
 /// How many numbers `k` bits tell apart.
 pub fn limit(k: u32) -> u64
@@ -102,18 +100,15 @@ pub fn sink_of(alloc: Global, bits: &[bool]) -> Result<BitSink, AllocError> {
     Ok(sink)
 }
 
-/// The sink has exactly these bits: it says so as it stands, and with its padding.
-pub fn has_bits(
-    rt: &impl Abort,
-    alloc: Global,
-    mut sink: BitSink,
-    bits: &[bool],
-) -> Result<(), Fail> {
-    assert_eq!(rt; sink.is_empty(), bits.is_empty());
-    assert_eq!(rt; sink.ends_at_octet(), bits.len() % 8 == 0);
+/// Whether the sink has exactly these bits: as it says as it stands, and with its padding.
+pub fn has_bits(alloc: Global, mut sink: BitSink, bits: &[bool]) -> Result<bool, AllocError> {
+    if sink.is_empty() != bits.is_empty() || sink.ends_at_octet() != (bits.len() % 8 == 0) {
+        return Ok(false);
+    }
     sink.pad()?;
-    assert!(rt; sink.ends_at_octet());
+    if !sink.ends_at_octet() {
+        return Ok(false);
+    }
     let octets = sink.into_octets();
-    assert_eq!(rt; octets.as_slice(), octets_of(alloc, bits)?.as_slice());
-    Ok(())
+    Ok(*octets.as_slice() == *octets_of(alloc, bits)?.as_slice())
 }

@@ -5,50 +5,46 @@ use crate::BitCursor;
 use crate::bit_lists::{
     WORDS, add_number, add_octets, fill, first_bits, limit, number_of, octets_of, some_bits,
 };
-use std::alloc::Global;
-use std::process::Abort;
+use std::alloc::{AllocError, Global};
 use std::test::Fail;
 
-/// The cursor has exactly these bits left.
-fn has_left(rt: &impl Abort, cursor: &BitCursor<'_>, bits: &[bool]) {
-    assert_eq!(rt; cursor.is_empty(), bits.is_empty());
-    assert_eq!(rt; cursor.rest_of_octet() as usize, bits.len() % 8);
-    assert_eq!(rt; cursor.octets_left(), bits.len() / 8);
+/// Whether the cursor has exactly these bits left.
+fn has_left(cursor: &BitCursor<'_>, bits: &[bool]) -> bool {
     let mut cursor = cursor.copied();
-    for bit in bits {
-        assert_eq!(rt; cursor.next(), Some(u8::from(*bit)));
+    if cursor.is_empty() != bits.is_empty()
+        || cursor.rest_of_octet() as usize != bits.len() % 8
+        || cursor.octets_left() != bits.len() / 8
+    {
+        return false;
     }
-    assert_eq!(rt; cursor.next(), None);
-    assert!(rt; cursor.is_empty());
+    for bit in bits {
+        if cursor.next() != Some(u8::from(*bit)) {
+            return false;
+        }
+    }
+    cursor.next().is_none() && cursor.is_empty()
 }
 
-/// `peek_number`, `pass` and `take_number` of `k` bits, at a cursor that has these bits left.
-fn reads_a_number(rt: &impl Abort, cursor: &BitCursor<'_>, k: u32, bits: &[bool])
+/// Whether `peek_number`, `pass` and `take_number` of `k` bits do so at a cursor that has these bits left.
+fn reads_a_number(cursor: &BitCursor<'_>, k: u32, bits: &[bool]) -> bool
     requires { k ≤ 64 }
 {
     let mut passed = cursor.copied();
     let mut taken = cursor.copied();
     let peeked = passed.peek_number(k);
-    match bits.split_at_checked(k as usize) {
-        Some((number, rest)) => {
-            assert_eq!(rt; peeked, Some(number_of(number)));
-            assert!(rt; peeked.is_some());
-            has_left(rt, &passed, bits);
-            passed.pass(k);
-            has_left(rt, &passed, rest);
-            assert_eq!(rt; taken.take_number(k), Some(number_of(number)));
-            has_left(rt, &taken, rest);
-        }
-        None => {
-            assert_eq!(rt; peeked, None);
-            assert_eq!(rt; taken.take_number(k), None);
-            has_left(rt, &taken, bits);
-        }
+    let Some((front, rest)) = bits.split_at_checked(k as usize) else {
+        return peeked.is_none() && taken.take_number(k).is_none() && has_left(&taken, bits);
+    };
+    let number = number_of(front);
+    if peeked != Some(number) || peeked.is_none() || !has_left(&passed, bits) {
+        return false;
     }
+    passed.pass(k);
+    has_left(&passed, rest) && taken.take_number(k) == Some(number) && has_left(&taken, rest)
 }
 
-/// `n` in `k` bits is read after `offset` bits.
-fn reads_after(rt: &impl Abort, alloc: Global, offset: u32, k: u32, n: u64) -> Result<(), Fail>
+/// Whether `n` in `k` bits is read after `offset` bits.
+fn reads_after(alloc: Global, offset: u32, k: u32, n: u64) -> Result<bool, AllocError>
     requires { k ≤ 64 }
 {
     let mut bits = some_bits(alloc, offset)?;
@@ -59,52 +55,65 @@ fn reads_after(rt: &impl Abort, alloc: Global, offset: u32, k: u32, n: u64) -> R
     for _ in 0..offset {
         cursor.next();
     }
-    if let Some((_, rest)) = bits.as_slice().split_at_checked(offset as usize) {
-        reads_a_number(rt, &cursor, k, rest);
-    }
-    Ok(())
+    let rest = bits.as_slice().get(offset as usize..).unwrap_or(&[]);
+    Ok(reads_a_number(&cursor, k, rest))
 }
 
 #[test]
-fn numbers_of_few_bits_are_read(rt: HostRuntime) -> Result<(), Fail> {
+fn numbers_are_read(rt: HostRuntime) -> Result<(), Fail> {
+    let alloc = rt.alloc();
     for offset in 0..=8 {
         for k in 0..=10 {
             for n in 0..limit(k) {
-                reads_after(&rt, rt.alloc(), offset, k, n)?;
+                assert!(rt; reads_after(alloc, offset, k, n)?);
             }
         }
-    }
-    Ok(())
-}
-
-#[test]
-fn numbers_of_many_bits_are_read(rt: HostRuntime) -> Result<(), Fail> {
-    for offset in 0..=8 {
         for k in 11..=64 {
             for word in WORDS {
-                reads_after(&rt, rt.alloc(), offset, k, first_bits(word, k))?;
+                assert!(rt; reads_after(alloc, offset, k, first_bits(word, k))?);
             }
         }
     }
-    Ok(())
-}
-
-#[test]
-fn all_widths_are_read_at_all_bits(rt: HostRuntime) -> Result<(), Fail> {
-    let bits = some_bits(rt.alloc(), 88)?;
-    let octets = octets_of(rt.alloc(), bits.as_slice())?;
+    let bits = some_bits(alloc, 88)?;
+    let octets = octets_of(alloc, bits.as_slice())?;
     let mut cursor = BitCursor::over(octets.as_slice());
     for passed in 0..=88 {
-        let Some((_, rest)) = bits.as_slice().split_at_checked(passed) else {
-            panic!(rt; "more bits than there are");
-        };
-        has_left(&rt, &cursor, rest);
+        let rest = bits.as_slice().get(passed..).unwrap_or(&[]);
+        assert!(rt; has_left(&cursor, rest));
         for k in 0..=64 {
-            reads_a_number(&rt, &cursor, k, rest);
+            assert!(rt; reads_a_number(&cursor, k, rest));
         }
         cursor.next();
     }
     Ok(())
+}
+
+/// Whether so many octets are taken after `offset` of these bits, behind an octet that was there.
+fn takes_octets(
+    alloc: Global,
+    octets: &[u8],
+    bits: &[bool],
+    offset: u32,
+    count: usize,
+) -> Result<bool, AllocError> {
+    let mut cursor = BitCursor::over(octets);
+    for _ in 0..offset {
+        cursor.next();
+    }
+    if cursor.octets_left() < count {
+        return Ok(false);
+    }
+    let mut into = vec![in alloc; 7u8]?;
+    cursor.take_octets(count, &mut into)?;
+    let mut told = some_bits(alloc, offset)?;
+    let Some((7, taken)) = into.as_slice().split_first() else {
+        return Ok(false);
+    };
+    add_octets(&mut told, taken)?;
+    let Some((front, rest)) = bits.split_at_checked(told.len()) else {
+        return Ok(false);
+    };
+    Ok(taken.len() == count && *told.as_slice() == *front && has_left(&cursor, rest))
 }
 
 #[test]
@@ -114,24 +123,7 @@ fn octets_are_taken(rt: HostRuntime) -> Result<(), Fail> {
     let octets = octets_of(alloc, bits.as_slice())?;
     for offset in 0..=15 {
         for count in 0..=20 {
-            let mut cursor = BitCursor::over(octets.as_slice());
-            for _ in 0..offset {
-                cursor.next();
-            }
-            assert!(rt; count <= cursor.octets_left());
-            let mut into = vec![in alloc; 7]?;
-            cursor.take_octets(count, &mut into)?;
-            let mut told = some_bits(alloc, offset)?;
-            let Some((7, taken)) = into.as_slice().split_first() else {
-                panic!(rt; "the octets that were there are gone");
-            };
-            assert_eq!(rt; taken.len(), count);
-            add_octets(&mut told, taken)?;
-            let Some((front, rest)) = bits.as_slice().split_at_checked(told.len()) else {
-                panic!(rt; "more bits than there are");
-            };
-            assert_eq!(rt; told.as_slice(), front);
-            has_left(&rt, &cursor, rest);
+            assert!(rt; takes_octets(alloc, octets.as_slice(), bits.as_slice(), offset, count)?);
         }
     }
     Ok(())

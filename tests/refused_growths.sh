@@ -39,7 +39,8 @@ calls=0
 for call in Checked::new encode decode Checked::new:simple encode:simple decode:simple \
   Checked::new:composed encode:composed decode:composed feed BitSink::push \
   BitSink::push_number BitSink::push_octets BitSink::push_length BitSink::push_general_octets \
-  BitSink::push_least_octets BitSink::push_least_signed_octets BitSink::pad BitCursor::take_octets; do
+  BitSink::push_least_octets BitSink::push_least_signed_octets BitSink::pad BitCursor::take_octets \
+  to_json from_json from_json:shape; do
   count=$(grep -c "|memory: $call|" "$work/cases.told") || fail "no growth of $call was refused"
   calls=$((calls + count))
 done

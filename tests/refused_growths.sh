@@ -17,10 +17,10 @@ fail() {
 
 # ---- the calls of the libraries, each growth of the program's run refused in one case
 
-refused=900 # REFUSED of crates/asn_growths/src/main.rt
+refused=1150 # REFUSED of crates/asn_growths/src/main.rt
 mkdir "$work/cases"
 for left in $(seq 1 $((refused - 1))); do
-  echo "$left" >"$work/cases/$(printf %03d "$left")"
+  echo "$left" >"$work/cases/$(printf %04d "$left")"
 done
 # in a few steps the interpreter gives no answer, and only the compiled program is run
 (cd crates/asn_growths && rt try --steps 1000 --fail-alloc "$refused" --cases "$work/cases") \
@@ -39,7 +39,8 @@ calls=0
 for call in Checked::new encode decode Checked::new:simple encode:simple decode:simple \
   Checked::new:composed encode:composed decode:composed feed BitSink::push \
   BitSink::push_number BitSink::push_octets BitSink::push_length BitSink::push_general_octets \
-  BitSink::push_least_octets BitSink::push_least_signed_octets BitSink::pad BitCursor::take_octets; do
+  BitSink::push_least_octets BitSink::push_least_signed_octets BitSink::pad BitCursor::take_octets \
+  to_json from_json from_json:shape; do
   count=$(grep -c "|memory: $call|" "$work/cases.told") || fail "no growth of $call was refused"
   calls=$((calls + count))
 done

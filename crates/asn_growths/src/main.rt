@@ -7,6 +7,7 @@ ghost use Rattle.asn_growths.specs.declared.outcome.Outcome.TheVariants as outco
 
 mod bit_calls;
 mod composed_calls;
+mod json_calls;
 mod message_calls;
 mod outcome;
 mod session_calls;
@@ -16,6 +17,7 @@ use bit_calls::{
     paddings, single_bits,
 };
 use composed_calls::{check_a_composed_type, decode_a_composed_value, encode_a_composed_value};
+use json_calls::{read_json, read_wrong_json, write_json};
 use message_calls::{
     check_a_type, check_simple_types, decode_a_message, decode_simple_values, encode_a_message,
     encode_simple_values,
@@ -27,7 +29,7 @@ use std::io::Read;
 use std::process::ExitCode;
 
 /// The allocation that the tests refuse, counted from the first of the process.
-const REFUSED: u32 = 900;
+const REFUSED: u32 = 1150;
 
 /// Takes from the input how many allocations are left up to the one that is refused, uses up those before, and
 /// makes each call twice. A line is written for a call that answers `Memory`, one for a call whose arguments could
@@ -49,6 +51,7 @@ fn main(rt: HostRuntime) -> ExitCode {
         all_right &= message_calls_are_right(&rt, alloc);
         all_right &= session_calls_are_right(&rt, alloc);
         all_right &= bit_calls_are_right(&rt, alloc);
+        all_right &= json_calls_are_right(&rt, alloc);
     }
     if rt.println("done").is_err() || !all_right {
         return ExitCode::from(1);
@@ -93,6 +96,14 @@ fn bit_calls_are_right(rt: &impl Print, alloc: Global) -> bool {
         octets_of_signed_numbers(alloc),
     );
     right &= report(rt, "BitSink::pad", paddings(alloc));
+    right
+}
+
+/// Whether each call on JSON does.
+fn json_calls_are_right(rt: &impl Print, alloc: Global) -> bool {
+    let mut right = report(rt, "to_json", write_json(alloc));
+    right &= report(rt, "from_json", read_json(alloc));
+    right &= report(rt, "from_json:shape", read_wrong_json(alloc));
     right
 }
 

@@ -31,7 +31,8 @@ pub enum LineFault {
 /// too where the words ask for help or the version, which is the text of the error then. `Memory` comes where an
 /// allocation failed.
 pub fn job_of<'a>(alloc: Global, words: &'a [&'a str]) -> Result<Job, LineFault>
-    ensures job { IfOk result (λ job. (a : _) × IsTool a × HasJob (subcommand_of a (map (λ w. w.now) words.entry.now)) job) }
+    ensures job { IfOk result (λ job.
+        (a : _) × IsTool a × HasJob (subcommand_of a (map (λ w. w.now) words.entry.now)) job) }
     ensures fault { IfErr result (λ fault. Told (map (λ w. w.now) words.entry.now) fault) }
 {
     let mut command = command(alloc)?;
@@ -54,7 +55,8 @@ fn no_job(command: &mut Command<'_>) -> LineFault
 
 /// The job of the subcommand that was met and of its options, where they are there.
 fn job_in(alloc: Global, matches: &ArgMatches<'_>) -> Result<Option<Job>, AllocError>
-    ensures { IfOk result (λ found. MatchOption found (NoJob (subcommand_rows_of matches.now)) (HasJob (subcommand_rows_of matches.now))) }
+    ensures { IfOk result (λ found. MatchOption found
+        (NoJob (subcommand_rows_of matches.now)) (HasJob (subcommand_rows_of matches.now))) }
 {
     let Some((name, options)) = matches.subcommand() else {
         return Ok(None);
@@ -84,7 +86,8 @@ fn job_in(alloc: Global, matches: &ArgMatches<'_>) -> Result<Option<Job>, AllocE
 
 /// The order of this name.
 fn order_named(name: &str) -> Option<Order>
-    ensures { MatchOption result ((order : Order) → order_name order ≢ name.now) (λ order. order_name order ≡ name.now) }
+    ensures { MatchOption result
+        ((order : Order) → order_name order ≢ name.now) (λ order. order_name order ≡ name.now) }
 {
     match name {
         "show" => Some(Order::Show),
@@ -97,7 +100,8 @@ fn order_named(name: &str) -> Option<Order>
 
 /// The encoding rules of this name.
 fn rules_named(name: &str) -> Option<RuleName>
-    ensures { MatchOption result ((rules : RuleName) → rule_name rules ≢ name.now) (λ rules. rule_name rules ≡ name.now) }
+    ensures { MatchOption result
+        ((rules : RuleName) → rule_name rules ≢ name.now) (λ rules. rule_name rules ≡ name.now) }
 {
     match name {
         "per" => Some(RuleName::Per),

@@ -53,7 +53,7 @@ fn words_are_jobs(rt: HostRuntime) -> Result<(), Fail> {
 }
 
 /// The words are refused by an error of this kind.
-fn expect_fault(rt: &impl Abort, alloc: Global, words: &[&str], want: ErrorKind) {
+fn expect_fault<'a>(rt: &impl Abort, alloc: Global, words: &'a [&'a str], want: ErrorKind) {
     match job_of(alloc, words) {
         Err(LineFault::Line(error)) => assert!(rt; error.kind() == want, "at {words:?}"),
         _ => assert!(rt; false, "at {words:?}"),

@@ -17,10 +17,10 @@ fail() {
 
 # ---- the calls of the libraries, each growth of the program's run refused in one case
 
-refused=1150 # REFUSED of crates/asn_growths/src/main.rt
+refused=950 # REFUSED of crates/asn_growths/src/main.rt
 mkdir "$work/cases"
 for left in $(seq 1 $((refused - 1))); do
-  echo "$left" >"$work/cases/$(printf %04d "$left")"
+  echo "$left" >"$work/cases/$(printf %03d "$left")"
 done
 # in a few steps the interpreter gives no answer, and only the compiled program is run
 (cd crates/asn_growths && rt try --steps 1000 --fail-alloc "$refused" --cases "$work/cases") \

@@ -29,7 +29,7 @@ use std::io::Read;
 use std::process::ExitCode;
 
 /// The allocation that the tests refuse, counted from the first of the process.
-const REFUSED: u32 = 1150;
+const REFUSED: u32 = 950;
 
 /// Takes from the input how many allocations are left up to the one that is refused, uses up those before, and
 /// makes each call twice. A line is written for a call that answers `Memory`, one for a call whose arguments could

@@ -18,6 +18,7 @@ mod read_leaves;
 mod rules;
 #[cfg(test)]
 mod session_tests;
+mod simple_into;
 mod size_reader;
 mod size_writer;
 mod string_reader;
@@ -33,3 +34,4 @@ pub use laws::{
     prefixes_are_viable, readers_tell, values_and_bits, viability_is_prefix_closed,
 };
 pub use per::Per;
+pub use rules::decode_into;

@@ -12,6 +12,7 @@ mod laws;
 mod per;
 mod read_leaves;
 mod rules;
+mod simple_into;
 mod size_reader;
 mod size_writer;
 mod string_reader;
@@ -23,3 +24,4 @@ pub use laws::{
     prefixes_are_viable, readers_tell, values_and_bits, viability_is_prefix_closed,
 };
 pub use per::Per;
+pub use rules::decode_into;

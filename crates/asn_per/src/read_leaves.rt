@@ -6,6 +6,10 @@ use crate::indexes::{self, read_extension_bit};
 use crate::integer_reader::{read_boolean, read_integer, try_constrained};
 use crate::items::read_item;
 use crate::per::Per;
+use crate::simple_into::{
+    read_bit_string_into, read_boolean_into, read_integer_into, read_item_into,
+    read_octet_string_into, read_text_into,
+};
 use crate::size_reader::Fragments;
 use crate::string_reader::{read_bit_string, read_octet_string, read_text, read_utf8};
 use asn_bits::BitCursor;
@@ -49,6 +53,29 @@ impl ReadLeaves for Per {
             AsnType::Octets(size) => Ok(Value::Octets(read_octet_string(alloc, size, units)?)),
             AsnType::Text(kind, size) => Ok(Value::Text(read_text(alloc, *kind, size, units)?)),
             AsnType::Utf8 => Ok(Value::Utf8(read_utf8(alloc, units)?)),
+            AsnType::Seq { .. } | AsnType::SeqOf(..) | AsnType::Choice { .. } => unreachable!(),
+        }
+    }
+
+    #[inline(always)]
+    #[tactic(auto, unfolding(crate::specs::Walk::per_coding, crate::specs::Rules::per_ruling))]
+    fn read_simple_into(
+        alloc: Global,
+        ty: &AsnType,
+        units: &mut BitCursor<'_>,
+        slot: &mut Value,
+    ) -> Result<(), Stop> {
+        match ty {
+            AsnType::Bool => read_boolean_into(slot, units),
+            AsnType::Int(bounds) => read_integer_into(bounds, slot, units),
+            AsnType::Enum { root, ext } => read_item_into(root, ext, slot, units),
+            AsnType::Bits(size) => read_bit_string_into(alloc, size, slot, units),
+            AsnType::Octets(size) => read_octet_string_into(alloc, size, slot, units),
+            AsnType::Text(kind, size) => read_text_into(alloc, *kind, size, slot, units),
+            AsnType::Null | AsnType::Utf8 => {
+                *slot = Self::read_simple(alloc, ty, units)?;
+                Ok(())
+            }
             AsnType::Seq { .. } | AsnType::SeqOf(..) | AsnType::Choice { .. } => unreachable!(),
         }
     }

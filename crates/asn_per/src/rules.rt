@@ -1,10 +1,14 @@
 //! PER as encoding rules: the encoder, and sessions that keep all octets and read them again with each piece.
+ghost use Rattle.std.specs.Prelude.{IfErr, OnOk, Ok, Err};
+ghost use Rattle.asn_values.specs.View.{shape_of};
+ghost use Rattle.asn_rules.specs.Codec.{Decoded};
 ghost use Rattle.asn_rules.specs.Rereading.{Keeps};
 ghost use Rattle.asn_per.specs.Rules.{per_ruling};
 
 use crate::per::Per;
 use asn_rules::{
-    EncodeFault, FeedFault, OpenFault, Reads, Rereading, Rules, Step, Truncated, rereading,
+    DecodeFault, EncodeFault, FeedFault, OpenFault, Reads, Rereading, Rules, Step, Truncated,
+    rereading,
 };
 use asn_values::{Checked, Value};
 use std::alloc::{AllocError, Global};
@@ -58,4 +62,23 @@ impl Rules for Per {
     }
 
     fn keep_laws() {}
+}
+
+/// Decodes the value of the type whose complete encoding the octets are into the one that is there, whose memory is
+/// used again as far as it serves: entries, elements, boxes and strings. Any value may be given, at first `Value::Null`.
+/// Only the first 268,435,455 octets are read.
+///
+/// # Errors
+/// As `asn_rules::decode`. What is left of the value then is some value.
+#[tactic(auto, unfolding(crate::specs::Walk::per_coding))]
+pub fn decode_into(
+    alloc: Global,
+    ty: &Checked,
+    octets: &[u8],
+    value: &mut Value,
+) -> Result<(), DecodeFault>
+    ensures done { OnOk result (Decoded per_ruling (Ok value.new) (shape_of ty.now) octets.now) }
+    ensures fault { IfErr result (λ why. Decoded per_ruling (Err why) (shape_of ty.now) octets.now) }
+{
+    asn_walk_into::decode_into::<Per>(alloc, ty, octets, value)
 }

@@ -9,33 +9,33 @@ use Rattle.asn_walk.specs.Ahead.{Next}
 use Rattle.asn_per.specs.Per.{per_fields}
 use Rattle.asn_per.specs.RowsAhead.{ahead_of}
 use Rattle.asn_per.proofs.ListsAhead.{start_stops, going_starts, going_stops, going_ends, going_row_stops, going_further}
-use Rattle.asn_per.proofs.string_reader.read_bit_string.Goals as goal
+use Rattle.asn_per.proofs.string_reader.fill_bits.Goals as goal
 
 pub returns-in_err-rows-clause-stop : goal.returns-in_err-rows-clause-stop
 returns-in_err-rows-clause-stop c =
     let p = err_from_is_err_and c.from_residual.result c.from_residual.ensures.1 in
     rw (p.1, p.2) (stops_by _ (start_stops Bit (size_range_of c.args.size.now) c.args.cursor.now c.requires.of_profile bit_inhabited) c.in_err-rows.ensures.stop)
 
-pub loop-bits-init : goal.loop-bits-init
-loop-bits-init c = (rw c.new-bits.ensures.items (going_starts Bit (size_range_of c.args.size.now) c.requires.of_profile c.in_ok-rows.ensures.done), c.in_ok-rows.ensures.between)
+pub loop-count-init : goal.loop-count-init
+loop-count-init c = (rw c.clear.ensures.items (going_starts Bit (size_range_of c.args.size.now) c.requires.of_profile c.in_ok-rows.ensures.done), c.in_ok-rows.ensures.between)
 
 pub returns-in_err-count-clause-stop : goal.returns-in_err-count-clause-stop
 returns-in_err-count-clause-stop c =
     let p = err_from_is_err_and c.from_residual-in_err-count.result c.from_residual-in_err-count.ensures.1 in
-    rw (p.1, p.2) (going_stops _ bit_inhabited c.in_err-count.ensures.stop c.loop-bits.invariant.0)
+    rw (p.1, p.2) (going_stops _ bit_inhabited c.in_err-count.ensures.stop c.loop-count.invariant.0)
 
-pub loop-bits-preserved : goal.loop-bits-preserved
-loop-bits-preserved c =
-    let next : Next per_fields (ahead_of c.loop-bits.rows) (Some c.in-Some.count) (ahead_of c.next.new.self) c.loop-bits.cursor c.next.new.bits = rw c.in-Some.is at c.in_ok-count.ensures.done in
-    (going_further bit_inhabited bit_lawful next c.in_ok-append_bits.ensures.done c.loop-bits.invariant.0, c.in_ok-count.ensures.between)
+pub loop-count-preserved : goal.loop-count-preserved
+loop-count-preserved c =
+    let next : Next per_fields (ahead_of c.loop-count.rows) (Some c.in-Some.count) (ahead_of c.next.new.self) c.loop-count.cursor c.next.new.bits = rw c.in-Some.is at c.in_ok-count.ensures.done in
+    (going_further bit_inhabited bit_lawful next c.in_ok-append_bits.ensures.done c.loop-count.invariant.0, c.in_ok-count.ensures.between)
 
 pub returns-in_err-append_bits-clause-stop : goal.returns-in_err-append_bits-clause-stop
 returns-in_err-append_bits-clause-stop c =
-    let next : Next per_fields (ahead_of c.loop-bits.rows) (Some c.in-Some.count) (ahead_of c.next.new.self) c.loop-bits.cursor c.next.new.bits = rw c.in-Some.is at c.in_ok-count.ensures.done in
+    let next : Next per_fields (ahead_of c.loop-count.rows) (Some c.in-Some.count) (ahead_of c.next.new.self) c.loop-count.cursor c.next.new.bits = rw c.in-Some.is at c.in_ok-count.ensures.done in
     let p = err_from_is_err_and c.from_residual-in_err-append_bits.result c.from_residual-in_err-append_bits.ensures.1 in
-    rw (p.1, p.2) (stops_by _ (going_row_stops bit_inhabited next c.loop-bits.invariant.0) c.in_err-append_bits.ensures.stop)
+    rw (p.1, p.2) (stops_by _ (going_row_stops bit_inhabited next c.loop-count.invariant.0) c.in_err-append_bits.ensures.stop)
 
 pub returns-clause-done : goal.returns-clause-done
 returns-clause-done c =
-    let next : Next per_fields (ahead_of c.loop-bits.rows) None (ahead_of c.next.new.self) c.loop-bits.cursor c.next.new.bits = rw c.in_default.is at c.in_ok-count.ensures.done in
-    going_ends next c.loop-bits.invariant.0
+    let next : Next per_fields (ahead_of c.loop-count.rows) None (ahead_of c.next.new.self) c.loop-count.cursor c.next.new.bits = rw c.in_default.is at c.in_ok-count.ensures.done in
+    going_ends next c.loop-count.invariant.0

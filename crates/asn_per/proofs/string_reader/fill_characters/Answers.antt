@@ -9,33 +9,33 @@ use Rattle.asn_walk.specs.Ahead.{Next}
 use Rattle.asn_per.specs.Per.{per_fields}
 use Rattle.asn_per.specs.RowsAhead.{ahead_of}
 use Rattle.asn_per.proofs.ListsAhead.{start_stops, going_starts, going_stops, going_ends, going_row_stops, going_further}
-use Rattle.asn_per.proofs.string_reader.read_text.Goals as goal
+use Rattle.asn_per.proofs.string_reader.fill_characters.Goals as goal
 
 pub returns-in_err-rows-clause-stop : goal.returns-in_err-rows-clause-stop
 returns-in_err-rows-clause-stop c =
     let p = err_from_is_err_and c.from_residual.result c.from_residual.ensures.1 in
     rw (p.1, p.2) (stops_by _ (start_stops (Character (alphabet_of c.args.kind)) (size_range_of c.args.size.now) c.args.cursor.now c.requires.of_profile (character_inhabited (alphabet_of c.args.kind))) c.in_err-rows.ensures.stop)
 
-pub loop-characters-init : goal.loop-characters-init
-loop-characters-init c = (rw c.new-characters.ensures.items (going_starts (Character (alphabet_of c.args.kind)) (size_range_of c.args.size.now) c.requires.of_profile c.in_ok-rows.ensures.done), c.in_ok-rows.ensures.between)
+pub loop-count-init : goal.loop-count-init
+loop-count-init c = (rw c.clear.ensures.items (going_starts (Character (alphabet_of c.args.kind)) (size_range_of c.args.size.now) c.requires.of_profile c.in_ok-rows.ensures.done), c.in_ok-rows.ensures.between)
 
 pub returns-in_err-count-clause-stop : goal.returns-in_err-count-clause-stop
 returns-in_err-count-clause-stop c =
     let p = err_from_is_err_and c.from_residual-in_err-count.result c.from_residual-in_err-count.ensures.1 in
-    rw (p.1, p.2) (going_stops _ (character_inhabited (alphabet_of c.args.kind)) c.in_err-count.ensures.stop c.loop-characters.invariant.0)
+    rw (p.1, p.2) (going_stops _ (character_inhabited (alphabet_of c.args.kind)) c.in_err-count.ensures.stop c.loop-count.invariant.0)
 
-pub loop-characters-preserved : goal.loop-characters-preserved
-loop-characters-preserved c =
-    let next : Next per_fields (ahead_of c.loop-characters.rows) (Some c.in-Some.count) (ahead_of c.next.new.self) c.loop-characters.cursor c.next.new.bits = rw c.in-Some.is at c.in_ok-count.ensures.done in
-    (going_further (character_inhabited (alphabet_of c.args.kind)) (character_lawful (alphabet_of c.args.kind)) next c.in_ok-append_characters.ensures.done c.loop-characters.invariant.0, c.in_ok-count.ensures.between)
+pub loop-count-preserved : goal.loop-count-preserved
+loop-count-preserved c =
+    let next : Next per_fields (ahead_of c.loop-count.rows) (Some c.in-Some.count) (ahead_of c.next.new.self) c.loop-count.cursor c.next.new.bits = rw c.in-Some.is at c.in_ok-count.ensures.done in
+    (going_further (character_inhabited (alphabet_of c.args.kind)) (character_lawful (alphabet_of c.args.kind)) next c.in_ok-append_characters.ensures.done c.loop-count.invariant.0, c.in_ok-count.ensures.between)
 
 pub returns-in_err-append_characters-clause-stop : goal.returns-in_err-append_characters-clause-stop
 returns-in_err-append_characters-clause-stop c =
-    let next : Next per_fields (ahead_of c.loop-characters.rows) (Some c.in-Some.count) (ahead_of c.next.new.self) c.loop-characters.cursor c.next.new.bits = rw c.in-Some.is at c.in_ok-count.ensures.done in
+    let next : Next per_fields (ahead_of c.loop-count.rows) (Some c.in-Some.count) (ahead_of c.next.new.self) c.loop-count.cursor c.next.new.bits = rw c.in-Some.is at c.in_ok-count.ensures.done in
     let p = err_from_is_err_and c.from_residual-in_err-append_characters.result c.from_residual-in_err-append_characters.ensures.1 in
-    rw (p.1, p.2) (stops_by _ (going_row_stops (character_inhabited (alphabet_of c.args.kind)) next c.loop-characters.invariant.0) c.in_err-append_characters.ensures.stop)
+    rw (p.1, p.2) (stops_by _ (going_row_stops (character_inhabited (alphabet_of c.args.kind)) next c.loop-count.invariant.0) c.in_err-append_characters.ensures.stop)
 
 pub returns-clause-done : goal.returns-clause-done
 returns-clause-done c =
-    let next : Next per_fields (ahead_of c.loop-characters.rows) None (ahead_of c.next.new.self) c.loop-characters.cursor c.next.new.bits = rw c.in_default.is at c.in_ok-count.ensures.done in
-    going_ends next c.loop-characters.invariant.0
+    let next : Next per_fields (ahead_of c.loop-count.rows) None (ahead_of c.next.new.self) c.loop-count.cursor c.next.new.bits = rw c.in_default.is at c.in_ok-count.ensures.done in
+    going_ends next c.loop-count.invariant.0

@@ -43,3 +43,4 @@ pub use laws::{
     prefixes_are_viable, readers_tell, viability_is_prefix_closed, walk_laws,
 };
 pub use oer::Oer;
+pub use rules::decode_into;

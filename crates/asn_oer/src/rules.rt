@@ -1,12 +1,14 @@
 //! Canonical OER as encoding rules: the encoder, and sessions that keep all octets and read them again with each piece.
-ghost use Rattle.std.specs.Prelude.{[], Err, IfOk};
+ghost use Rattle.std.specs.Prelude.{[], Ok, Err, IfOk, IfErr, OnOk};
 ghost use Rattle.asn_values.specs.Shape.{Shape};
+ghost use Rattle.asn_values.specs.View.{shape_of};
+ghost use Rattle.asn_rules.specs.Codec.{Decoded};
 ghost use Rattle.asn_rules.specs.Rereading.{FedAtOnce, TellsIfNone, Keeps};
 ghost use Rattle.asn_oer.specs.Rules.{oer_ruling};
 
 use crate::oer::Oer;
 use asn_rules::{
-    EncodeFault, FeedFault, OpenFault, Reads, Rereading, Rules, Step, Truncated, rereading,
+    DecodeFault, EncodeFault, FeedFault, OpenFault, Reads, Rereading, Rules, Step, Truncated, rereading,
 };
 use asn_values::{Checked, Value};
 use std::alloc::{AllocError, Global};
@@ -60,6 +62,25 @@ impl Rules for Oer {
     }
 
     fn keep_laws() {}
+}
+
+/// Decodes the value of the type whose complete encoding the octets are into the one that is there, whose memory is
+/// used again as far as it serves: entries, elements, boxes and strings. Any value may be given, at first `Value::Null`.
+/// Only the first 268,435,455 octets are read.
+///
+/// # Errors
+/// As `asn_rules::decode`. What is left of the value then is some value.
+#[tactic(auto, unfolding(crate::specs::Walk::oer_coding))]
+pub fn decode_into(
+    alloc: Global,
+    ty: &Checked,
+    octets: &[u8],
+    value: &mut Value,
+) -> Result<(), DecodeFault>
+    ensures done { OnOk result (Decoded oer_ruling (Ok value.new) (shape_of ty.now) octets.now) }
+    ensures fault { IfErr result (λ why. Decoded oer_ruling (Err why) (shape_of ty.now) octets.now) }
+{
+    asn_walk_into::decode_into::<Oer>(alloc, ty, octets, value)
 }
 
 /// Whether what was answered to no octets is a value.

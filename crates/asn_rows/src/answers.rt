@@ -37,9 +37,7 @@ pub fn fed(
             Ok(format!(in alloc; "done {used} {shown}")?)
         }
         Ok(Step::More) => Ok(String::from_str(alloc, "more")?),
-        Err(FeedFault::Refused { at, why }) => {
-            Ok(format!(in alloc; "refused at {at}: {why}")?)
-        }
+        Err(FeedFault::Refused { at, why }) => { Ok(format!(in alloc; "refused at {at}: {why}")?) }
         Err(fault) => Ok(format!(in alloc; "{fault}")?),
     }
 }

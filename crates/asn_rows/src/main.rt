@@ -10,6 +10,7 @@ mod rows;
 
 use anyhow::{Context, Result};
 use asn_module::read;
+use asn_values::Value;
 use rows::try_row;
 use std::io;
 
@@ -20,11 +21,12 @@ fn main(rt: HostRuntime) -> Result<()> {
         .context("no line ==== after a module")?;
     let module = read(rt.alloc(), module)?;
     let mut held = 0usize;
+    let mut slot = Value::Null;
     for (place, row) in rows.lines().enumerate() {
         if row.is_empty() || row.starts_with("--") {
             continue;
         }
-        match try_row(rt.alloc(), &module, row) {
+        match try_row(rt.alloc(), &module, row, &mut slot) {
             Ok(()) => held = held.saturating_add(1),
             Err(fault) => println!(rt; "line {place} after ====: {fault}")?,
         }

@@ -2,12 +2,13 @@
 //! is written out. `<X*N>` is N times X, and in octets `(XxN)` too, where X may have the other form in it.
 //!
 //! - `value | TYPE | JSON | PER | OER`: these octets are the encoding of the value, and `-` stands where a rule is left
-//!   aside. They are decoded as the value, at once and in pieces of 1, 2, 3 and 5 octets.
+//!   aside. They are decoded as the value, at once, in pieces of 1, 2, 3 and 5 octets, and into the value of the
+//!   row before.
 //! - `same | TYPE | PER | OER`: these octets are the encodings of one value.
 //! - `none | TYPE | OTHER | JSON`: the value of the other type is none of the type.
 //! - `per | TYPE | OCTETS | ANSWER`, and `oer`: so `decode` answers to the octets, at once and in these pieces.
-//! - `per octet | TYPE | BITS | ANSWER`, and `oer octet`: so it answers to each octet of these bits, where `x` is either; `value` is any
-//!   value of which the octet is the encoding.
+//! - `per octet | TYPE | BITS | ANSWER`, and `oer octet`: so it answers to each octet of these bits, where `x` is either;
+//!   `value` is any value of which the octet is the encoding.
 //! - `per pieces | TYPE | PIECES | ANSWERS`, and `oer pieces`: so a session answers to the pieces, and so it ends.
 use crate::answers::decoded;
 use crate::cells::{cut, octets_of, repeated, type_of, value_of};
@@ -18,18 +19,20 @@ use asn_oer::Oer;
 use asn_per::Per;
 use asn_rules::{DecodeFault, EncodeFault, Rules, decode};
 use asn_values::{Checked, Value, same};
+use asn_walk::ReadLeaves;
+use asn_walk_into::decode_into;
 use std::alloc::Global;
 
 /// Octets of more than so many do not come in pieces of few octets.
 const FEW: usize = 64;
 
-/// Fails where the row does not hold.
-pub fn try_row(alloc: Global, module: &Module, row: &str) -> Result<()> {
+/// Fails where the row does not hold. Values are decoded into `slot` too, which holds that of a row before.
+pub fn try_row(alloc: Global, module: &Module, row: &str, slot: &mut Value) -> Result<()> {
     let (kind, others) = cut(row);
     let (ty, others) = cut(others);
     let ty = type_of(alloc, module, ty)?;
     match kind {
-        "value" => try_value(alloc, &ty, others),
+        "value" => try_value(alloc, &ty, others, slot),
         "same" => try_same(alloc, &ty, others),
         "none" => {
             let (other, json) = cut(others);
@@ -62,22 +65,31 @@ fn expect(text: &str, want: &str) -> Result<()> {
     Ok(())
 }
 
-fn try_value(alloc: Global, ty: &Checked, row: &str) -> Result<()> {
+fn try_value(alloc: Global, ty: &Checked, row: &str, slot: &mut Value) -> Result<()> {
     let (json, row) = cut(row);
     let (per, oer) = cut(row);
     let value = value_of(alloc, ty, json)?;
-    try_encoding::<Per>(alloc, ty, &value, per)?;
-    try_encoding::<Oer>(alloc, ty, &value, oer)
+    try_encoding::<Per>(alloc, ty, &value, per, slot)?;
+    try_encoding::<Oer>(alloc, ty, &value, oer, slot)
 }
 
 /// Fails where the octets, if the row has any, are not the encoding of the value.
-fn try_encoding<R: Rules>(alloc: Global, ty: &Checked, value: &Value, octets: &str) -> Result<()> {
+fn try_encoding<R: Rules + ReadLeaves>(
+    alloc: Global,
+    ty: &Checked,
+    value: &Value,
+    octets: &str,
+    slot: &mut Value,
+) -> Result<()> {
     if *octets == *"-" {
         return Ok(());
     }
     let octets = octets_of(alloc, octets)?;
     expect_octets(alloc, &R::encode(alloc, ty, value)?, &octets)?;
-    expect_value::<R>(alloc, ty, &octets, value)
+    expect_value::<R>(alloc, ty, &octets, value)?;
+    decode_into::<R>(alloc, ty, &octets, slot)?;
+    ensure!(same(slot, value), "another value in the place of one");
+    Ok(())
 }
 
 /// Fails where the octets are others.

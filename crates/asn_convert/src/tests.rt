@@ -14,12 +14,7 @@ END
 ====
 ";
 
-fn lines(
-    alloc: Global,
-    order: Order,
-    type_name: &str,
-    rules: RuleName,
-) -> Result<Job, AllocError> {
+fn lines(alloc: Global, order: Order, type_name: &str, rules: RuleName) -> Result<Job, AllocError> {
     Ok(Job::Lines {
         order,
         type_name: String::from_str(alloc, type_name)?,
@@ -83,14 +78,49 @@ fn lines_have_answers(rt: HostRuntime) -> Result<(), Fail> {
             "ok 2\n! cut short after 0 octets\n! refused at octet 3: default\n",
             Status::Marked,
         ),
-        (Order::Convert, "N", RuleName::Per, "00\n", "\n", Status::Good),
-        (Order::Convert, "N", RuleName::Oer, "\n", "00\n", Status::Good),
-        (Order::Check, "X", RuleName::Per, "", "! no type X\n", Status::NoModule),
+        (
+            Order::Convert,
+            "N",
+            RuleName::Per,
+            "00\n",
+            "\n",
+            Status::Good,
+        ),
+        (
+            Order::Convert,
+            "N",
+            RuleName::Oer,
+            "\n",
+            "00\n",
+            Status::Good,
+        ),
+        (
+            Order::Check,
+            "X",
+            RuleName::Per,
+            "",
+            "! no type X\n",
+            Status::NoModule,
+        ),
         (Order::Check, "Msg", RuleName::Per, "", "", Status::Good),
-        (Order::Check, "Msg", RuleName::Per, "28\r\n", "! hex\n", Status::Marked),
+        (
+            Order::Check,
+            "Msg",
+            RuleName::Per,
+            "28\r\n",
+            "! hex\n",
+            Status::Marked,
+        ),
     ] {
         let job = lines(rt.alloc(), order, name, rules)?;
-        expect(&rt, rt.alloc(), &job, MODULE, given.as_bytes(), (want, status))?;
+        expect(
+            &rt,
+            rt.alloc(),
+            &job,
+            MODULE,
+            given.as_bytes(),
+            (want, status),
+        )?;
     }
     Ok(())
 }
@@ -100,23 +130,45 @@ fn modules_that_are_refused_are_told(rt: HostRuntime) -> Result<(), Fail> {
     for (given, want) in [
         (b"\xff\n====\n28\n".as_slice(), "! module not text\n"),
         (b"".as_slice(), "! module unexpected at 0\n"),
-        (b"M DEFINITIONS AUTOMATIC TAGS ::= BEGIN ? END".as_slice(), "! module character at 39\n"),
-        (b"M DEFINITIONS AUTOMATIC TAGS ::= BEGIN T ::= U END".as_slice(), "! module unknown U\n"),
+        (
+            b"M DEFINITIONS AUTOMATIC TAGS ::= BEGIN ? END".as_slice(),
+            "! module character at 39\n",
+        ),
+        (
+            b"M DEFINITIONS AUTOMATIC TAGS ::= BEGIN T ::= U END".as_slice(),
+            "! module unknown U\n",
+        ),
         (
             b"M DEFINITIONS AUTOMATIC TAGS ::= BEGIN T ::= INTEGER (7..0) END".as_slice(),
             "! module type T: empty range\n",
         ),
     ] {
-        expect(&rt, rt.alloc(), &Job::Module, "", given, (want, Status::NoModule))?;
+        expect(
+            &rt,
+            rt.alloc(),
+            &Job::Module,
+            "",
+            given,
+            (want, Status::NoModule),
+        )?;
     }
     Ok(())
 }
 
 #[test]
 fn a_module_is_printed(rt: HostRuntime) -> Result<(), Fail> {
-    let want = "M DEFINITIONS AUTOMATIC TAGS ::= BEGIN\nCol ::= ENUMERATED { red ( 0 ) , green ( 5 ) , blue ( 200 ) , ... , grey ( 300 ) }\nEND\n";
-    let text = "M DEFINITIONS AUTOMATIC TAGS ::= BEGIN Col ::= ENUMERATED { red(0), green(5), blue(200), ..., grey(300) } END";
-    expect(&rt, rt.alloc(), &Job::Module, text, b"", (want, Status::Good))
+    let want =
+        "M DEFINITIONS AUTOMATIC TAGS ::= BEGIN\nCol ::= ENUMERATED { red ( 0 ) , green ( 5 ) , blue ( 200 ) , ... , grey ( 300 ) }\nEND\n";
+    let text =
+        "M DEFINITIONS AUTOMATIC TAGS ::= BEGIN Col ::= ENUMERATED { red(0), green(5), blue(200), ..., grey(300) } END";
+    expect(
+        &rt,
+        rt.alloc(),
+        &Job::Module,
+        text,
+        b"",
+        (want, Status::Good),
+    )
 }
 
 /// Gives the octets, and fails behind the first `cut`.
@@ -179,7 +231,11 @@ fn faults_of_reader_and_writer_are_told(rt: HostRuntime) -> Result<(), Fail> {
     let job = lines(rt.alloc(), Order::Check, "N", RuleName::Per)?;
     for cut in [0, 60, given.len()] {
         let octets = given.as_bytes();
-        let mut input = Counted::new(Source { octets, given: 0, cut });
+        let mut input = Counted::new(Source {
+            octets,
+            given: 0,
+            cut,
+        });
         let mut output = Counted::new(Vec::new(rt.alloc()));
         let answer = run(rt.alloc(), &mut input, &mut output, &job);
         assert_eq!(rt; answer, Err(RunFault::Read), "at {cut}");
@@ -188,7 +244,10 @@ fn faults_of_reader_and_writer_are_told(rt: HostRuntime) -> Result<(), Fail> {
     }
     for cut in 0..12 {
         let mut input = Counted::new(given.as_bytes());
-        let mut output = Counted::new(Target { taken: Vec::new(rt.alloc()), cut });
+        let mut output = Counted::new(Target {
+            taken: Vec::new(rt.alloc()),
+            cut,
+        });
         let answer = run(rt.alloc(), &mut input, &mut output, &job);
         assert_eq!(rt; answer, Err(RunFault::Write), "at {cut}");
         assert_eq!(rt; output.faults(), 1, "at {cut}");

@@ -6,10 +6,12 @@ use serde_json::Value as Json;
 use std::alloc::{AllocError, Global};
 
 /// What is written of `shown_value`.
-const TEXT: &str = "{\"bits\":\"101\",\"list\":[{\"octets\":\"abff\"},{\"octets\":\"\"}],\"name\":\"tulvorn\"}";
+const TEXT: &str =
+    "{\"bits\":\"101\",\"list\":[{\"octets\":\"abff\"},{\"octets\":\"\"}],\"name\":\"tulvorn\"}";
 
 /// JSON of another shape: the octets of the second element are none.
-const WRONG: &str = "{\"bits\":\"101\",\"list\":[{\"octets\":\"abff\"},{\"octets\":\"0\"}],\"name\":\"tulvorn\"}";
+const WRONG: &str =
+    "{\"bits\":\"101\",\"list\":[{\"octets\":\"abff\"},{\"octets\":\"0\"}],\"name\":\"tulvorn\"}";
 
 /// `to_json`, of `shown_value`.
 pub fn write_json(alloc: Global) -> Result<Outcome, AllocError> {
@@ -63,7 +65,12 @@ fn checked(alloc: Global) -> Result<Checked, AllocError> {
     };
     let list = AsnType::SeqOf(Box::new(alloc, choice)?, any());
     let root = vec![in alloc;
-        field(alloc, "name", AsnType::Text(TextKind::Ia5, any()), Need::Must)?,
+        field(
+            alloc,
+            "name",
+            AsnType::Text(TextKind::Ia5, any()),
+            Need::Must
+        )?,
         field(alloc, "bits", AsnType::Bits(any()), Need::Must)?,
         field(alloc, "list", list, Need::Optional)?,
     ]?;

@@ -8,7 +8,8 @@ ghost use Rattle.asn_oer.specs.Rules.{oer_ruling};
 
 use crate::oer::Oer;
 use asn_rules::{
-    DecodeFault, EncodeFault, FeedFault, OpenFault, Reads, Rereading, Rules, Step, Truncated, rereading,
+    DecodeFault, EncodeFault, FeedFault, OpenFault, Reads, Rereading, Rules, Step, Truncated,
+    rereading,
 };
 use asn_values::{Checked, Value};
 use std::alloc::{AllocError, Global};

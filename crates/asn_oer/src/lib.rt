@@ -21,13 +21,9 @@ mod length_writer;
 mod octet_string_reader;
 mod octets;
 mod oer;
-#[cfg(test)]
-mod pair_tests;
 mod preamble_reader;
 mod quantity_reader;
 mod read_leaves;
-#[cfg(test)]
-mod refusal_tests;
 mod rules;
 mod signed_reader;
 mod sizes;

@@ -17,10 +17,13 @@ pub fn decode_in_pieces<R: Rules>(
         return Err(DecodeFault::Memory);
     };
     let mut before = 0usize;
-    // no octets come as one piece of none
-    if octets.is_empty() {
-        if let Ok(Step::Done { value, .. }) = R::feed(&mut session, octets) {
-            return Ok(value);
+    // no octets come as one piece of none, and octets one by one come behind such a piece
+    if octets.is_empty() || many == 1 {
+        if let Ok(Step::Done { value, .. }) = R::feed(&mut session, b"") {
+            if octets.is_empty() {
+                return Ok(value);
+            }
+            return Err(DecodeFault::Rest { used: 0 });
         }
     }
     for piece in octets.chunks(many.max(1)) {

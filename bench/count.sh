@@ -2,7 +2,9 @@
 # Prints how many instructions a message takes in each form, which other work on the machine does not change, once
 # run.sh has built the programs.
 #
-# usage: bash bench/count.sh encode|decode|build NAME
+# usage: bash bench/count.sh encode|decode|build|into|encode-oer|decode-oer NAME
+#
+# `into` decodes into the value of the message before. It and OER have no form by hand yet.
 #
 # BENCH_ROOM is that of run.sh. It needs valgrind.
 set -euo pipefail
@@ -18,7 +20,11 @@ small) times=200000 ;;
 wide | cam | bsm) times=20000 ;;
 *) times=500 ;;
 esac
-for form in rattle same hand tree; do
+forms=(rattle same hand tree)
+case $what in
+into | *-oer) forms=(rattle) ;;
+esac
+for form in "${forms[@]}"; do
     program=(target/release/baseline "$form")
     if [ "$form" = rattle ]; then program=(crates/asn_bench/out/asn_bench); fi
     if ! "${program[@]}" 0 | grep "^octets $name " >/dev/null; then continue; fi

@@ -27,7 +27,7 @@ for from in "$top"/crates/*/; do
     if [ -d "${from}out" ] && [ ! -d "$to/out" ]; then cp -a "${from}out" "$to/out"; fi
 done
 cp "$top/HANDLES" "$room/"
-{ cat "$top/crates.txt"; echo "asn_bench: asn_values asn_rules asn_per anyhow"; } >"$room/crates.txt"
+{ cat "$top/crates.txt"; echo "asn_bench: asn_values asn_rules asn_per asn_oer anyhow"; } >"$room/crates.txt"
 for file in "$here"/codec/*.rt.in; do
     cp "$file" "$room/crates/asn_bench/src/$(basename "$file" .in)"
 done

@@ -7,6 +7,7 @@
 # Of each module NAME.asn there are values as JSON (NAME.values), what `show` makes of them (NAME.json), and their octets
 # in PER and OER (NAME.per, NAME.oer), a line a message. The octets were worked out by reference.py.
 set -euo pipefail
+program=${1:+$(realpath "$1")}
 cd "$(dirname "$0")"
 
 work=$(mktemp -d)
@@ -30,8 +31,7 @@ expect() { # the module, its type, the order, the rules, the lines, and what is 
   cmp "$work/out" "$6" || fail "$3 $1 $4"
 }
 
-if [ $# -gt 0 ]; then
-  program=$(realpath "$1")
+if [ -n "$program" ]; then
   for name in rows cam bsm signalling; do
     type=Message
     if [ "$name" = rows ]; then type=Msg; fi

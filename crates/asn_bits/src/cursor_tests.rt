@@ -88,7 +88,7 @@ fn numbers_are_read(rt: HostRuntime) -> Result<(), Fail> {
     Ok(())
 }
 
-/// Whether so many octets are taken after `offset` of these bits, behind an octet that was there.
+/// Whether `count` octets are taken after `offset` of these bits, and appended to an octet that was there.
 fn takes_octets(
     alloc: Global,
     octets: &[u8],

@@ -14,7 +14,7 @@ use std::io::{Read, Write};
 
 /// Reads all of the input, and writes the text of the job: the module printed, or an answer for each line.
 ///
-/// The input is cut at LF. The module text is all before the first line that is exactly `====`, and the lines behind
+/// The input is cut at LF. The module text is all before the first line that is exactly `====`, and the lines after
 /// it are the job's; without such a line all is module text. Each line is answered, written and let go before the
 /// next. The writer is flushed at the end. Nothing is tried again after a fault.
 ///

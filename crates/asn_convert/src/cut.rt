@@ -2,7 +2,7 @@
 ghost use Rattle.std.specs.Prelude.{◌≡◌, ◌<◌, [], IfNone, IfSome, length};
 ghost use Rattle.asn_convert.specs.Lines.{lines_of, module_text, job_lines, IsFirstLine, is_mark_line};
 
-/// The first line without its LF, and what stands behind it; `None` where there is nothing.
+/// The first line without its LF, and what follows it; `None` where there is nothing.
 pub(crate) fn next_line(rest: &[u8]) -> Option<(&[u8], &[u8])>
     ensures none { IfNone result (rest.now ≡ []) }
     ensures some { IfSome result (λ p. IsFirstLine rest.now p.0.now p.1.now) }
@@ -19,7 +19,7 @@ pub(crate) fn next_line(rest: &[u8]) -> Option<(&[u8], &[u8])>
     Some(rest.split_at(rest.len()))
 }
 
-/// The module text, and what stands behind the mark.
+/// The module text, and what follows the mark.
 pub(crate) fn cut_input(input: &[u8]) -> (&[u8], &[u8])
     ensures text { result.0.now ≡ module_text input.now }
     ensures lines { lines_of result.1.now ≡ job_lines input.now }

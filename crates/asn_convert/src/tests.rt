@@ -171,7 +171,7 @@ fn a_module_is_printed(rt: HostRuntime) -> Result<(), Fail> {
     )
 }
 
-/// Gives the octets, and fails behind the first `cut`.
+/// Gives the octets, and fails after the first `cut`.
 #[derive(Drop)]
 struct Source<'a> {
     octets: &'a [u8],

@@ -58,7 +58,7 @@ pub(crate) fn read_item(
 }
 
 /// The first item, but for the one at `except`, that begins with the `count` octets of the number `begun`: its place,
-/// and how many octets it has behind them.
+/// and how many octets it has after them.
 fn find_item(
     root: &[Item],
     more: &Option<Vec<Item>>,

@@ -8,6 +8,7 @@ use crate::profile::{MAX_LEVELS, MAX_TYPES};
 use crate::types::AsnType;
 use crate::walk;
 use std::alloc::{AllocError, Global};
+use std::fmt;
 use std::marker::Model;
 use std::rc::Rc;
 
@@ -72,5 +73,12 @@ impl Checked {
     {
         let tree = self.tree.clone()?;
         Ok(Checked { tree })
+    }
+}
+
+impl fmt::Debug for Checked {
+    /// As the type itself.
+    fn fmt<W: fmt::Write>(&self, f: &mut fmt::Formatter<W>) -> fmt::Result {
+        self.get().fmt(f)
     }
 }

@@ -2,6 +2,7 @@
 #![tactic(auto)]
 
 mod additions;
+mod building;
 mod checked;
 mod default_values;
 mod enumerations;

@@ -2,9 +2,10 @@
 # Prints how many instructions a message takes in each form, which other work on the machine does not change, once
 # run.sh has built the programs.
 #
-# usage: bash bench/count.sh encode|decode|build|into|encode-oer|decode-oer NAME
+# usage: bash bench/count.sh encode|decode|build|encode-oer|decode-oer|into|decode-turns|into-turns NAME
 #
-# `into` decodes into the value of the message before. It and OER have no form by hand yet.
+# `into` decodes into the value of the message before; the forms in Rust have no such. `decode-turns` and
+# `into-turns` decode messages of changing shape in turn, of cam, bsm, aligned and list.
 #
 # BENCH_ROOM is that of run.sh. It needs valgrind.
 set -euo pipefail
@@ -22,7 +23,9 @@ wide | cam | bsm) times=20000 ;;
 esac
 forms=(rattle same hand tree)
 case $what in
-into | *-oer) forms=(rattle) ;;
+*-oer) forms=(rattle same) ;;
+decode-turns) forms=(rattle same hand) ;;
+into | into-turns) forms=(rattle) ;;
 esac
 for form in "${forms[@]}"; do
     program=(target/release/baseline "$form")

@@ -42,7 +42,7 @@ fi
 cd "$here/baseline"
 RUSTFLAGS="-C target-cpu=$cpu" nice cargo build --quiet --release --offline --locked --target-dir "$room/target"
 
-# the same octets: of each message that a form has, and both forms by hand have all
+# the same octets: by hand, same values, has all messages in both rules, by hand has all in PER, and the trees some
 cd "$room"
 form() {
     if [ "$1" = rattle ]; then
@@ -51,8 +51,9 @@ form() {
         nice target/release/baseline "$@"
     fi
 }
-for name in rattle same hand tree; do form "$name" 0 | grep '^octets ' >"$name.octets"; done
-if ! cmp -s rattle.octets same.octets || ! cmp -s rattle.octets hand.octets || grep -qvxFf rattle.octets tree.octets; then
+for name in rattle same hand tree; do form "$name" 0 | grep '^octets' >"$name.octets"; done
+grep -v '^octets-oer ' rattle.octets >rattle.per
+if ! cmp -s rattle.octets same.octets || ! cmp -s rattle.per hand.octets || grep -qvxFf rattle.octets tree.octets; then
     echo "bench: the programs do not write the same octets" >&2
     exit 1
 fi
@@ -63,7 +64,7 @@ if [ "$rounds" -eq 0 ]; then exit; fi
 rm -f rattle.txt same.txt hand.txt tree.txt
 for ((done = 0; done < rounds; done += 5)); do
     for name in rattle same hand tree; do
-        form "$name" $((rounds - done < 5 ? rounds - done : 5)) | grep -v '^octets ' >>"$name.txt"
+        form "$name" $((rounds - done < 5 ? rounds - done : 5)) | grep -v '^octets' >>"$name.txt"
     done
 done
 
@@ -72,7 +73,8 @@ echo "built for $cpu; load before: $load, after: $(cut -d' ' -f1-3 /proc/loadavg
 echo "ns a message, the least of $rounds rounds and their median; MB/s of encoded octets at the least"
 echo
 awk '
-    FILENAME ~ /octets$/ { size[$2] = NF - 2; next }
+    # how many octets a message has, and all that are decoded in turn
+    FILENAME ~ /octets$/ { size[$1, $2] += NF - 2; count_of[$1, $2]++; next }
     FNR == 1 { form = FILENAME; sub(/\.txt$/, "", form) }
     {
         row = $1 " " $2
@@ -99,7 +101,9 @@ awk '
         print "| | octets | Rattle ns | MB/s | by hand, same values | ratio | by hand | ratio | same trees | ratio |"
         print "|---|---|---|---|---|---|---|---|---|---|"
         for (at = 1; at <= count; at++) {
-            row = rows[at]; split(row, words, " "); octets = size[words[2]]
+            row = rows[at]; split(row, words, " ")
+            kind = words[1] ~ /oer$/ ? "octets-oer" : words[1] ~ /turns$/ ? "octets-turns" : "octets"
+            octets = size[kind, words[2]] / count_of[kind, words[2]]
             text = times("rattle", row)
             printf "| %s | %d | %s | %.0f%s%s%s |\n", row, octets, text, octets * 1000 / least["rattle", row],
                 beside("same", row), beside("hand", row), beside("tree", row)

@@ -1,7 +1,7 @@
 #!/usr/bin/env bash
 # Prints where the time of one row goes, by samples, once run.sh has built the programs.
 #
-# usage: bash bench/where.sh encode|decode|build NAME [rattle|same|hand|tree] [ROUNDS]
+# usage: bash bench/where.sh encode|decode|.. NAME [rattle|same|hand|tree] [ROUNDS], with the rows of count.sh
 #
 # BENCH_ROOM is that of run.sh. It needs perf.
 set -euo pipefail

@@ -2,13 +2,19 @@
 //! proved crates have. It prints what the Rattle program prints.
 mod bits;
 mod hand;
+mod octets;
+mod oer;
+mod per;
 mod rows;
+mod rules;
 mod same;
 #[cfg(test)]
 mod tests;
 mod tree;
 mod value;
 
+use bits::{BitReader, BitWriter};
+use octets::{OctetReader, OctetWriter};
 use std::hint::black_box;
 use std::time::Instant;
 
@@ -36,28 +42,58 @@ fn main() {
 }
 
 fn by_hand(plan: &Plan) {
-    use hand::{Aligned, Bsm, Cam, Shifted, Small, Wide};
+    use hand::{Aligned, Bsm, Cam, List, Shifted, Small, Wide};
     let source = rows::source();
     let cut = || black_box(source.as_slice());
     run(plan, "small", Small::sample, Small::encode, Small::decode);
     run(plan, "wide", Wide::sample, Wide::encode, Wide::decode);
     run(plan, "shifted", || Shifted::sample(cut()), Shifted::encode, Shifted::decode);
     run(plan, "aligned", || Aligned::sample(cut()), Aligned::encode, Aligned::decode);
+    run_turns(plan, "aligned", &encoded("aligned"), Aligned::decode);
     run(plan, "cam", Cam::sample, Cam::encode, Cam::decode);
+    run_turns(plan, "cam", &encoded("cam"), Cam::decode);
     run(plan, "bsm", Bsm::sample, Bsm::encode, Bsm::decode);
+    run_turns(plan, "bsm", &encoded("bsm"), Bsm::decode);
+    run(plan, "list", List::sample, List::encode, List::decode);
+    run_turns(plan, "list", &encoded("list"), List::decode);
+}
+
+/// The messages that are decoded in turn, in PER.
+fn encoded(name: &str) -> Vec<Vec<u8>> {
+    use same::{bsm, cam, list, strings::Aligned};
+    type Encode = fn(&value::Value) -> Option<Vec<u8>>;
+    let (turns, encode): (_, Encode) = match name {
+        "aligned" => (Aligned::turns(&rows::source()), Aligned::encode::<BitWriter>),
+        "cam" => (cam::turns(), cam::encode::<BitWriter>),
+        "bsm" => (bsm::turns(), bsm::encode::<BitWriter>),
+        _ => (list::turns(), list::encode::<BitWriter>),
+    };
+    turns.iter().map(|value| encode(value).unwrap()).collect()
 }
 
 fn by_hand_same_values(plan: &Plan) {
     use same::strings::{Aligned, Shifted};
-    use same::{bsm, cam, small, wide};
+    use same::{bsm, cam, list, small, wide};
     let source = rows::source();
     let cut = || black_box(source.as_slice());
-    run(plan, "small", small::sample, small::encode, small::decode);
-    run(plan, "wide", wide::sample, wide::encode, wide::decode);
-    run(plan, "shifted", || Shifted::sample(cut()), Shifted::encode, Shifted::decode);
-    run(plan, "aligned", || Aligned::sample(cut()), Aligned::encode, Aligned::decode);
-    run(plan, "cam", cam::sample, cam::encode, cam::decode);
-    run(plan, "bsm", bsm::sample, bsm::encode, bsm::decode);
+    // both rules, and messages in turn where there are such
+    macro_rules! run_both {
+        ($name:literal, $message:ident, $sample:expr) => {
+            run(plan, $name, $sample, $message::encode::<BitWriter>, |octets| $message::decode::<BitReader>(octets));
+            run_oer(plan, $name, $sample, $message::encode::<OctetWriter>, |octets| $message::decode::<OctetReader>(octets));
+        };
+        ($name:literal, $message:ident, $sample:expr, turns) => {
+            run_both!($name, $message, $sample);
+            run_turns(plan, $name, &encoded($name), |octets| $message::decode::<BitReader>(octets));
+        };
+    }
+    run_both!("small", small, small::sample);
+    run_both!("wide", wide, wide::sample);
+    run_both!("shifted", Shifted, || Shifted::sample(cut()));
+    run_both!("aligned", Aligned, || Aligned::sample(cut()), turns);
+    run_both!("cam", cam, cam::sample, turns);
+    run_both!("bsm", bsm, bsm::sample, turns);
+    run_both!("list", list, list::sample, turns);
 }
 
 fn by_tree(plan: &Plan) {
@@ -102,6 +138,39 @@ fn run<T>(
         measure(plan, "build", name, times, &build);
         measure(plan, "encode", name, times, || encode(black_box(&message)).unwrap());
         measure(plan, "decode", name, times, || decode(black_box(&octets)).unwrap());
+    }
+}
+
+/// Measures one message in OER.
+fn run_oer<T>(
+    plan: &Plan,
+    name: &str,
+    build: impl Fn() -> T,
+    encode: impl Fn(&T) -> Option<Vec<u8>>,
+    decode: impl Fn(&[u8]) -> Option<T>,
+) {
+    let message = build();
+    let octets = encode(&message).unwrap();
+    assert_eq!(encode(&decode(&octets).unwrap()).unwrap(), octets);
+    println!("octets-oer {name} {octets:?}");
+    let times = times(name);
+    for _ in 0..plan.rounds {
+        measure(plan, "encode-oer", name, times, || encode(black_box(&message)).unwrap());
+        measure(plan, "decode-oer", name, times, || decode(black_box(&octets)).unwrap());
+    }
+}
+
+/// Measures messages of changing shape, decoded in turn.
+fn run_turns<T>(plan: &Plan, name: &str, turns: &[Vec<u8>], decode: impl Fn(&[u8]) -> Option<T>) {
+    for octets in turns {
+        println!("octets-turns {name} {octets:?}");
+    }
+    let next = std::cell::Cell::new(0);
+    for _ in 0..plan.rounds {
+        measure(plan, "decode-turns", name, times(name), || {
+            let octets = &turns[next.replace((next.get() + 1) % 4)];
+            decode(black_box(octets)).unwrap()
+        });
     }
 }
 

@@ -91,6 +91,9 @@ pub const STRINGS: usize = 18;
 /// How many octets each has.
 pub const LENGTH: usize = 1000;
 
+/// How many octets the longest string has that is decoded in turn.
+pub const MOST: usize = 1255;
+
 /// The octets that the strings are cut from: the string behind `place` others begins at `place`.
 pub fn source() -> Vec<u8> {
     let mut octet = 0u8;
@@ -99,5 +102,11 @@ pub fn source() -> Vec<u8> {
         octet = octet.wrapping_mul(165).wrapping_add(77);
         now
     };
-    (0..LENGTH + STRINGS).map(|_| next()).collect()
+    (0..MOST + STRINGS).map(|_| next()).collect()
+}
+
+/// A number for each of so many readings of `list`, from whose bits the reading is made.
+pub fn states(count: usize, seed: u32) -> impl Iterator<Item = u32> {
+    let next = |state: &u32| Some(state.wrapping_mul(1664525).wrapping_add(1013904223));
+    std::iter::successors(Some(seed), next).skip(1).take(count)
 }

@@ -2,12 +2,14 @@
 mod bsm;
 mod cam;
 mod enumerated;
+mod list;
 mod small;
 mod strings;
 mod wide;
 
 pub use bsm::Bsm;
 pub use cam::Cam;
+pub use list::List;
 pub use small::Small;
 pub use strings::{Aligned, Shifted};
 pub use wide::Wide;

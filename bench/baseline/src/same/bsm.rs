@@ -1,64 +1,55 @@
 //! The message of `modules/bsm.asn`, as a value of the same kinds as the proved crates have.
-use crate::bits::{BitReader, BitWriter};
+use crate::rules::{Reader, Writer};
 use crate::rows::CRUMBS;
 use crate::value::{flags, integers, Value};
 
 /// The octets, or `None` where this is no value of the type.
-pub fn encode(value: &Value) -> Option<Vec<u8>> {
+pub fn encode<W: Writer>(value: &Value) -> Option<Vec<u8>> {
     let [Some(core), parts, id, note] = value.entries()? else {
         return None;
     };
-    let mut bits = BitWriter::with_capacity(512);
+    let mut bits = W::with_capacity(512);
     let is_extended = id.is_some() || note.is_some();
-    bits.put_flags([is_extended, parts.is_some()]);
+    bits.put_preamble([is_extended, parts.is_some()]);
     put_core(&mut bits, core)?;
     if let Some(parts) = parts {
         let Value::List(parts) = parts else {
             return None;
         };
-        bits.put_ranged::<1, 8>(parts.len() as i64)?;
+        bits.put_count::<1, 8>(parts.len())?;
         parts.iter().try_for_each(|part| put_part(&mut bits, part))?;
     }
     if is_extended {
-        bits.put(7, 1);
-        bits.put_flags([id.is_some(), note.is_some()]);
+        bits.put_additions([id.is_some(), note.is_some()]);
     }
     if let Some(id) = id {
-        let mut content = BitWriter::with_capacity(8);
-        put_id(&mut content, id)?;
-        bits.put_open(content);
+        bits.put_open(8, |bits| put_id(bits, id))?;
     }
     if let Some(note) = note {
-        let mut content = BitWriter::with_capacity(64);
-        content.put_ia5::<1, 63>(note)?;
-        bits.put_open(content);
+        bits.put_open(64, |bits| bits.put_ia5::<1, 63>(note))?;
     }
     Some(bits.finish())
 }
 
 /// The value, or `None` where the octets are no encoding of one.
-pub fn decode(octets: &[u8]) -> Option<Value> {
-    let mut bits = BitReader::new(octets);
-    let [is_extended, has_parts] = bits.take_flags()?;
+pub fn decode<'a, R: Reader + From<&'a [u8]>>(octets: &'a [u8]) -> Option<Value> {
+    let mut bits = R::from(octets);
+    let [is_extended, has_parts] = bits.take_preamble()?;
     let core = take_core(&mut bits)?;
     let parts = bits.take_if(has_parts, take_parts)?;
     let mut has_id = false;
     let mut has_note = false;
     if is_extended {
-        bits.take_constant(7, 1)?;
-        [has_id, has_note] = bits.take_flags()?;
-        if !has_id && !has_note {
-            return None;
-        }
+        [has_id, has_note] = bits.take_additions()?;
     }
     let id = bits.take_if(has_id, |bits| bits.take_open(take_id))?;
-    let note = bits.take_if(has_note, |bits| bits.take_open(BitReader::take_ia5::<1, 63>))?;
+    let note = bits.take_if(has_note, |bits| bits.take_open(R::take_ia5::<1, 63>))?;
     let message = Value::Seq(vec![Some(core), parts, id, note]);
     bits.is_at_end().then_some(message)
 }
 
-fn take_parts(bits: &mut BitReader) -> Option<Value> {
-    let count = bits.take_ranged::<1, 8>()? as usize;
+fn take_parts<R: Reader>(bits: &mut R) -> Option<Value> {
+    let count = bits.take_count::<1, 8>()?;
     let mut parts = Vec::with_capacity(count);
     for _ in 0..count {
         parts.push(take_part(bits)?);
@@ -67,7 +58,7 @@ fn take_parts(bits: &mut BitReader) -> Option<Value> {
 }
 
 /// Writes BSMcoreData.
-fn put_core(bits: &mut BitWriter, value: &Value) -> Option<()> {
+fn put_core(bits: &mut impl Writer, value: &Value) -> Option<()> {
     let [Some(count), Some(id), Some(second), Some(latitude), Some(longitude), Some(elevation), Some(accuracy), Some(transmission), Some(speed), Some(heading), Some(angle), Some(acceleration), Some(brakes), Some(size)] =
         value.entries()?
     else {
@@ -93,7 +84,7 @@ fn put_core(bits: &mut BitWriter, value: &Value) -> Option<()> {
     bits.put_int::<0, 4095>(length)
 }
 
-fn take_core(bits: &mut BitReader) -> Option<Value> {
+fn take_core<R: Reader>(bits: &mut R) -> Option<Value> {
     Some(Value::Seq(vec![
         Some(bits.take_int::<0, 127>()?),
         Some(bits.take_four_octets()?),
@@ -113,7 +104,7 @@ fn take_core(bits: &mut BitReader) -> Option<Value> {
 }
 
 /// Writes PositionalAccuracy.
-fn put_accuracy(bits: &mut BitWriter, value: &Value) -> Option<()> {
+fn put_accuracy(bits: &mut impl Writer, value: &Value) -> Option<()> {
     let [Some(major), Some(minor), Some(orientation)] = value.entries()? else {
         return None;
     };
@@ -122,7 +113,7 @@ fn put_accuracy(bits: &mut BitWriter, value: &Value) -> Option<()> {
     bits.put_int::<0, 65535>(orientation)
 }
 
-fn take_accuracy(bits: &mut BitReader) -> Option<Value> {
+fn take_accuracy<R: Reader>(bits: &mut R) -> Option<Value> {
     Some(Value::Seq(vec![
         Some(bits.take_int::<0, 255>()?),
         Some(bits.take_int::<0, 255>()?),
@@ -131,7 +122,7 @@ fn take_accuracy(bits: &mut BitReader) -> Option<Value> {
 }
 
 /// Writes AccelerationSet4Way.
-fn put_acceleration(bits: &mut BitWriter, value: &Value) -> Option<()> {
+fn put_acceleration(bits: &mut impl Writer, value: &Value) -> Option<()> {
     let [Some(along), Some(across), Some(vertical), Some(yaw)] = value.entries()? else {
         return None;
     };
@@ -141,7 +132,7 @@ fn put_acceleration(bits: &mut BitWriter, value: &Value) -> Option<()> {
     bits.put_int::<-32767, 32767>(yaw)
 }
 
-fn take_acceleration(bits: &mut BitReader) -> Option<Value> {
+fn take_acceleration<R: Reader>(bits: &mut R) -> Option<Value> {
     Some(Value::Seq(vec![
         Some(bits.take_int::<-2000, 2001>()?),
         Some(bits.take_int::<-2000, 2001>()?),
@@ -151,7 +142,7 @@ fn take_acceleration(bits: &mut BitReader) -> Option<Value> {
 }
 
 /// Writes BrakeSystemStatus.
-fn put_brakes(bits: &mut BitWriter, value: &Value) -> Option<()> {
+fn put_brakes(bits: &mut impl Writer, value: &Value) -> Option<()> {
     let [Some(wheels), Some(traction), Some(antilock), Some(stability), Some(boost), Some(auxiliary)] =
         value.entries()?
     else {
@@ -165,7 +156,7 @@ fn put_brakes(bits: &mut BitWriter, value: &Value) -> Option<()> {
     bits.put_enum::<4>(auxiliary)
 }
 
-fn take_brakes(bits: &mut BitReader) -> Option<Value> {
+fn take_brakes<R: Reader>(bits: &mut R) -> Option<Value> {
     Some(Value::Seq(vec![
         Some(bits.take_fixed_bits::<5>()?),
         Some(bits.take_enum::<4>()?),
@@ -177,65 +168,58 @@ fn take_brakes(bits: &mut BitReader) -> Option<Value> {
 }
 
 /// Writes VehicleID.
-fn put_id(bits: &mut BitWriter, value: &Value) -> Option<()> {
+fn put_id(bits: &mut impl Writer, value: &Value) -> Option<()> {
     match value {
         Value::Choice(0, entity) => {
-            bits.put(1, 0);
+            bits.put_alternative::<2>(0);
             bits.put_four_octets(entity)
         }
         Value::Choice(1, station) => {
-            bits.put(1, 1);
+            bits.put_alternative::<2>(1);
             bits.put_int::<0, 4294967295>(station)
         }
         _ => None,
     }
 }
 
-fn take_id(bits: &mut BitReader) -> Option<Value> {
-    Some(match bits.take_flag()? {
-        false => Value::Choice(0, Box::new(bits.take_four_octets()?)),
-        true => Value::Choice(1, Box::new(bits.take_int::<0, 4294967295>()?)),
+fn take_id<R: Reader>(bits: &mut R) -> Option<Value> {
+    Some(match bits.take_alternative::<2>()? {
+        0 => Value::Choice(0, Box::new(bits.take_four_octets()?)),
+        _ => Value::Choice(1, Box::new(bits.take_int::<0, 4294967295>()?)),
     })
 }
 
 /// Writes PartIIcontent.
-fn put_part(bits: &mut BitWriter, value: &Value) -> Option<()> {
+fn put_part(bits: &mut impl Writer, value: &Value) -> Option<()> {
     match value {
         Value::Choice(0, safety) => {
-            bits.put(2, 0);
+            bits.put_marked_alternative::<2>(0);
             put_safety(bits, safety)
         }
         Value::Choice(1, special) => {
-            bits.put(2, 1);
+            bits.put_marked_alternative::<2>(1);
             put_special(bits, special)
         }
         Value::Choice(2, supplemental) => {
-            bits.put(8, 1 << 7);
-            let mut content = BitWriter::with_capacity(32);
-            put_supplemental(&mut content, supplemental)?;
-            bits.put_open(content);
-            Some(())
+            bits.put_marked_alternative::<2>(2);
+            bits.put_open(32, |bits| put_supplemental(bits, supplemental))
         }
         _ => None,
     }
 }
 
-fn take_part(bits: &mut BitReader) -> Option<Value> {
-    if bits.take_flag()? {
-        bits.take_constant(7, 0)?;
-        let supplemental = bits.take_open(take_supplemental)?;
-        return Some(Value::Choice(2, Box::new(supplemental)));
-    }
-    Some(match bits.take_flag()? {
-        false => Value::Choice(0, Box::new(take_safety(bits)?)),
-        true => Value::Choice(1, Box::new(take_special(bits)?)),
+fn take_part<R: Reader>(bits: &mut R) -> Option<Value> {
+    Some(match bits.take_marked_alternative::<2, 3>()? {
+        0 => Value::Choice(0, Box::new(take_safety(bits)?)),
+        1 => Value::Choice(1, Box::new(take_special(bits)?)),
+        _ => Value::Choice(2, Box::new(bits.take_open(take_supplemental)?)),
     })
 }
 
 /// Writes VehicleSafetyExtensions.
-fn put_safety(bits: &mut BitWriter, value: &Value) -> Option<()> {
+fn put_safety(bits: &mut impl Writer, value: &Value) -> Option<()> {
     let [events, history, prediction, lights] = value.entries()?;
-    bits.put_flags([false, events.is_some(), history.is_some(), prediction.is_some(), lights.is_some()]);
+    bits.put_preamble([false, events.is_some(), history.is_some(), prediction.is_some(), lights.is_some()]);
     if let Some(events) = events {
         bits.put_marked_bits::<13>(events)?;
     }
@@ -251,54 +235,57 @@ fn put_safety(bits: &mut BitWriter, value: &Value) -> Option<()> {
     }
 }
 
-fn take_safety(bits: &mut BitReader) -> Option<Value> {
-    let [is_extended, has_events, has_history, has_prediction, has_lights] = bits.take_flags()?;
+fn take_safety<R: Reader>(bits: &mut R) -> Option<Value> {
+    let [is_extended, has_events, has_history, has_prediction, has_lights] = bits.take_preamble()?;
     if is_extended {
         return None;
     }
     Some(Value::Seq(vec![
-        bits.take_if(has_events, BitReader::take_marked_bits::<13>)?,
+        bits.take_if(has_events, R::take_marked_bits::<13>)?,
         bits.take_if(has_history, take_history)?,
         bits.take_if(has_prediction, take_prediction)?,
-        bits.take_if(has_lights, BitReader::take_marked_bits::<9>)?,
+        bits.take_if(has_lights, R::take_marked_bits::<9>)?,
     ]))
 }
 
 /// Writes PathPrediction.
-fn put_prediction(bits: &mut BitWriter, value: &Value) -> Option<()> {
+fn put_prediction(bits: &mut impl Writer, value: &Value) -> Option<()> {
     let [Some(radius), Some(confidence)] = value.entries()? else {
         return None;
     };
-    bits.put(1, 0);
+    bits.put_preamble([false]);
     bits.put_int::<-32767, 32767>(radius)?;
     bits.put_int::<0, 200>(confidence)
 }
 
-fn take_prediction(bits: &mut BitReader) -> Option<Value> {
-    bits.take_constant(1, 0)?;
+fn take_prediction<R: Reader>(bits: &mut R) -> Option<Value> {
+    let [is_extended] = bits.take_preamble()?;
+    if is_extended {
+        return None;
+    }
     Some(Value::Seq(vec![Some(bits.take_int::<-32767, 32767>()?), Some(bits.take_int::<0, 200>()?)]))
 }
 
 /// Writes PathHistory.
-fn put_history(bits: &mut BitWriter, value: &Value) -> Option<()> {
+fn put_history(bits: &mut impl Writer, value: &Value) -> Option<()> {
     let [status, Some(Value::List(crumbs))] = value.entries()? else {
         return None;
     };
-    bits.put_flags([false, status.is_some()]);
+    bits.put_preamble([false, status.is_some()]);
     if let Some(status) = status {
         bits.put_fixed_bits::<8>(status)?;
     }
-    bits.put_ranged::<1, 23>(crumbs.len() as i64)?;
+    bits.put_count::<1, 23>(crumbs.len())?;
     crumbs.iter().try_for_each(|crumb| put_crumb(bits, crumb))
 }
 
-fn take_history(bits: &mut BitReader) -> Option<Value> {
-    let [is_extended, has_status] = bits.take_flags()?;
+fn take_history<R: Reader>(bits: &mut R) -> Option<Value> {
+    let [is_extended, has_status] = bits.take_preamble()?;
     if is_extended {
         return None;
     }
-    let status = bits.take_if(has_status, BitReader::take_fixed_bits::<8>)?;
-    let count = bits.take_ranged::<1, 23>()? as usize;
+    let status = bits.take_if(has_status, R::take_fixed_bits::<8>)?;
+    let count = bits.take_count::<1, 23>()?;
     let mut crumbs = Vec::with_capacity(count);
     for _ in 0..count {
         crumbs.push(take_crumb(bits)?);
@@ -307,13 +294,13 @@ fn take_history(bits: &mut BitReader) -> Option<Value> {
 }
 
 /// Writes PathHistoryPoint.
-fn put_crumb(bits: &mut BitWriter, value: &Value) -> Option<()> {
+fn put_crumb(bits: &mut impl Writer, value: &Value) -> Option<()> {
     let [Some(latitude), Some(longitude), Some(elevation), Some(time), speed, accuracy, heading] =
         value.entries()?
     else {
         return None;
     };
-    bits.put_flags([false, speed.is_some(), accuracy.is_some(), heading.is_some()]);
+    bits.put_preamble([false, speed.is_some(), accuracy.is_some(), heading.is_some()]);
     bits.put_int::<-131072, 131071>(latitude)?;
     bits.put_int::<-131072, 131071>(longitude)?;
     bits.put_int::<-2048, 2047>(elevation)?;
@@ -330,8 +317,8 @@ fn put_crumb(bits: &mut BitWriter, value: &Value) -> Option<()> {
     }
 }
 
-fn take_crumb(bits: &mut BitReader) -> Option<Value> {
-    let [is_extended, has_speed, has_accuracy, has_heading] = bits.take_flags()?;
+fn take_crumb<R: Reader>(bits: &mut R) -> Option<Value> {
+    let [is_extended, has_speed, has_accuracy, has_heading] = bits.take_preamble()?;
     if is_extended {
         return None;
     }
@@ -340,16 +327,16 @@ fn take_crumb(bits: &mut BitReader) -> Option<Value> {
         Some(bits.take_int::<-131072, 131071>()?),
         Some(bits.take_int::<-2048, 2047>()?),
         Some(bits.take_int::<1, 65535>()?),
-        bits.take_if(has_speed, BitReader::take_int::<0, 8191>)?,
+        bits.take_if(has_speed, R::take_int::<0, 8191>)?,
         bits.take_if(has_accuracy, take_accuracy)?,
-        bits.take_if(has_heading, BitReader::take_int::<0, 240>)?,
+        bits.take_if(has_heading, R::take_int::<0, 240>)?,
     ]))
 }
 
 /// Writes SpecialVehicleExtensions.
-fn put_special(bits: &mut BitWriter, value: &Value) -> Option<()> {
+fn put_special(bits: &mut impl Writer, value: &Value) -> Option<()> {
     let [alerts, description] = value.entries()?;
-    bits.put_flags([false, alerts.is_some(), description.is_some()]);
+    bits.put_preamble([false, alerts.is_some(), description.is_some()]);
     if let Some(alerts) = alerts {
         put_alerts(bits, alerts)?;
     }
@@ -359,8 +346,8 @@ fn put_special(bits: &mut BitWriter, value: &Value) -> Option<()> {
     }
 }
 
-fn take_special(bits: &mut BitReader) -> Option<Value> {
-    let [is_extended, has_alerts, has_description] = bits.take_flags()?;
+fn take_special<R: Reader>(bits: &mut R) -> Option<Value> {
+    let [is_extended, has_alerts, has_description] = bits.take_preamble()?;
     if is_extended {
         return None;
     }
@@ -371,11 +358,11 @@ fn take_special(bits: &mut BitReader) -> Option<Value> {
 }
 
 /// Writes EmergencyDetails.
-fn put_alerts(bits: &mut BitWriter, value: &Value) -> Option<()> {
+fn put_alerts(bits: &mut impl Writer, value: &Value) -> Option<()> {
     let [Some(rights), Some(siren), Some(lights), Some(multi), response] = value.entries()? else {
         return None;
     };
-    bits.put_flags([false, response.is_some()]);
+    bits.put_preamble([false, response.is_some()]);
     bits.put_int::<0, 31>(rights)?;
     bits.put_enum::<4>(siren)?;
     bits.put_enum::<8>(lights)?;
@@ -383,12 +370,11 @@ fn put_alerts(bits: &mut BitWriter, value: &Value) -> Option<()> {
     let Some(response) = response else {
         return Some(());
     };
-    bits.put(1, 0);
-    bits.put_enum::<7>(response)
+    bits.put_marked_enum::<0, 7, 7>(response)
 }
 
-fn take_alerts(bits: &mut BitReader) -> Option<Value> {
-    let [is_extended, has_response] = bits.take_flags()?;
+fn take_alerts<R: Reader>(bits: &mut R) -> Option<Value> {
+    let [is_extended, has_response] = bits.take_preamble()?;
     if is_extended {
         return None;
     }
@@ -397,25 +383,22 @@ fn take_alerts(bits: &mut BitReader) -> Option<Value> {
         Some(bits.take_enum::<4>()?),
         Some(bits.take_enum::<8>()?),
         Some(bits.take_enum::<4>()?),
-        bits.take_if(has_response, |bits| {
-            bits.take_constant(1, 0)?;
-            bits.take_enum::<7>()
-        })?,
+        bits.take_if(has_response, R::take_marked_enum::<0, 7, 7>)?,
     ]))
 }
 
 /// Writes EventDescription.
-fn put_description(bits: &mut BitWriter, value: &Value) -> Option<()> {
+fn put_description(bits: &mut impl Writer, value: &Value) -> Option<()> {
     let [Some(event), codes, heading] = value.entries()? else {
         return None;
     };
-    bits.put_flags([false, codes.is_some(), heading.is_some()]);
+    bits.put_preamble([false, codes.is_some(), heading.is_some()]);
     bits.put_int::<0, 65535>(event)?;
     if let Some(codes) = codes {
         let Value::List(codes) = codes else {
             return None;
         };
-        bits.put_ranged::<1, 8>(codes.len() as i64)?;
+        bits.put_count::<1, 8>(codes.len())?;
         codes.iter().try_for_each(|code| bits.put_int::<0, 65535>(code))?;
     }
     match heading {
@@ -424,20 +407,20 @@ fn put_description(bits: &mut BitWriter, value: &Value) -> Option<()> {
     }
 }
 
-fn take_description(bits: &mut BitReader) -> Option<Value> {
-    let [is_extended, has_codes, has_heading] = bits.take_flags()?;
+fn take_description<R: Reader>(bits: &mut R) -> Option<Value> {
+    let [is_extended, has_codes, has_heading] = bits.take_preamble()?;
     if is_extended {
         return None;
     }
     Some(Value::Seq(vec![
         Some(bits.take_int::<0, 65535>()?),
         bits.take_if(has_codes, take_codes)?,
-        bits.take_if(has_heading, BitReader::take_fixed_bits::<16>)?,
+        bits.take_if(has_heading, R::take_fixed_bits::<16>)?,
     ]))
 }
 
-fn take_codes(bits: &mut BitReader) -> Option<Value> {
-    let count = bits.take_ranged::<1, 8>()? as usize;
+fn take_codes<R: Reader>(bits: &mut R) -> Option<Value> {
+    let count = bits.take_count::<1, 8>()?;
     let mut codes = Vec::with_capacity(count);
     for _ in 0..count {
         codes.push(bits.take_int::<0, 65535>()?);
@@ -446,9 +429,9 @@ fn take_codes(bits: &mut BitReader) -> Option<Value> {
 }
 
 /// Writes SupplementalVehicleExtensions.
-fn put_supplemental(bits: &mut BitWriter, value: &Value) -> Option<()> {
+fn put_supplemental(bits: &mut impl Writer, value: &Value) -> Option<()> {
     let [classification, vehicle, weather] = value.entries()?;
-    bits.put_flags([false, classification.is_some(), vehicle.is_some(), weather.is_some()]);
+    bits.put_preamble([false, classification.is_some(), vehicle.is_some(), weather.is_some()]);
     if let Some(classification) = classification {
         bits.put_int::<0, 255>(classification)?;
     }
@@ -461,22 +444,22 @@ fn put_supplemental(bits: &mut BitWriter, value: &Value) -> Option<()> {
     }
 }
 
-fn take_supplemental(bits: &mut BitReader) -> Option<Value> {
-    let [is_extended, has_classification, has_vehicle, has_weather] = bits.take_flags()?;
+fn take_supplemental<R: Reader>(bits: &mut R) -> Option<Value> {
+    let [is_extended, has_classification, has_vehicle, has_weather] = bits.take_preamble()?;
     if is_extended {
         return None;
     }
     Some(Value::Seq(vec![
-        bits.take_if(has_classification, BitReader::take_int::<0, 255>)?,
+        bits.take_if(has_classification, R::take_int::<0, 255>)?,
         bits.take_if(has_vehicle, take_vehicle)?,
         bits.take_if(has_weather, take_weather)?,
     ]))
 }
 
 /// Writes VehicleData.
-fn put_vehicle(bits: &mut BitWriter, value: &Value) -> Option<()> {
+fn put_vehicle(bits: &mut impl Writer, value: &Value) -> Option<()> {
     let [height, bumpers, mass, weight] = value.entries()?;
-    bits.put_flags([false, height.is_some(), bumpers.is_some(), mass.is_some(), weight.is_some()]);
+    bits.put_preamble([false, height.is_some(), bumpers.is_some(), mass.is_some(), weight.is_some()]);
     if let Some(height) = height {
         bits.put_int::<0, 127>(height)?;
     }
@@ -496,34 +479,33 @@ fn put_vehicle(bits: &mut BitWriter, value: &Value) -> Option<()> {
     }
 }
 
-fn take_vehicle(bits: &mut BitReader) -> Option<Value> {
-    let [is_extended, has_height, has_bumpers, has_mass, has_weight] = bits.take_flags()?;
+fn take_vehicle<R: Reader>(bits: &mut R) -> Option<Value> {
+    let [is_extended, has_height, has_bumpers, has_mass, has_weight] = bits.take_preamble()?;
     if is_extended {
         return None;
     }
     Some(Value::Seq(vec![
-        bits.take_if(has_height, BitReader::take_int::<0, 127>)?,
+        bits.take_if(has_height, R::take_int::<0, 127>)?,
         bits.take_if(has_bumpers, |bits| {
             Some(Value::Seq(vec![Some(bits.take_int::<0, 127>()?), Some(bits.take_int::<0, 127>()?)]))
         })?,
-        bits.take_if(has_mass, BitReader::take_int::<0, 255>)?,
-        bits.take_if(has_weight, BitReader::take_int::<0, 64255>)?,
+        bits.take_if(has_mass, R::take_int::<0, 255>)?,
+        bits.take_if(has_weight, R::take_int::<0, 64255>)?,
     ]))
 }
 
 /// Writes WeatherReport.
-fn put_weather(bits: &mut BitWriter, value: &Value) -> Option<()> {
+fn put_weather(bits: &mut impl Writer, value: &Value) -> Option<()> {
     let [Some(rain), rate, situation, friction, road] = value.entries()? else {
         return None;
     };
-    bits.put_flags([false, rate.is_some(), situation.is_some(), friction.is_some(), road.is_some()]);
-    bits.put_enum::<3>(rain)?;
+    bits.put_preamble([false, rate.is_some(), situation.is_some(), friction.is_some(), road.is_some()]);
+    bits.put_enum_from::<1, 3>(rain)?;
     if let Some(rate) = rate {
         bits.put_int::<0, 65535>(rate)?;
     }
     if let Some(situation) = situation {
-        bits.put(1, 0);
-        bits.put_enum::<15>(situation)?;
+        bits.put_marked_enum::<1, 15, 15>(situation)?;
     }
     if let Some(friction) = friction {
         bits.put_int::<0, 101>(friction)?;
@@ -534,20 +516,17 @@ fn put_weather(bits: &mut BitWriter, value: &Value) -> Option<()> {
     }
 }
 
-fn take_weather(bits: &mut BitReader) -> Option<Value> {
-    let [is_extended, has_rate, has_situation, has_friction, has_road] = bits.take_flags()?;
+fn take_weather<R: Reader>(bits: &mut R) -> Option<Value> {
+    let [is_extended, has_rate, has_situation, has_friction, has_road] = bits.take_preamble()?;
     if is_extended {
         return None;
     }
     Some(Value::Seq(vec![
-        Some(bits.take_enum::<3>()?),
-        bits.take_if(has_rate, BitReader::take_int::<0, 65535>)?,
-        bits.take_if(has_situation, |bits| {
-            bits.take_constant(1, 0)?;
-            bits.take_enum::<15>()
-        })?,
-        bits.take_if(has_friction, BitReader::take_int::<0, 101>)?,
-        bits.take_if(has_road, BitReader::take_int::<0, 50>)?,
+        Some(bits.take_enum_from::<1, 3>()?),
+        bits.take_if(has_rate, R::take_int::<0, 65535>)?,
+        bits.take_if(has_situation, R::take_marked_enum::<1, 15, 15>)?,
+        bits.take_if(has_friction, R::take_int::<0, 101>)?,
+        bits.take_if(has_road, R::take_int::<0, 50>)?,
     ]))
 }
 
@@ -555,17 +534,43 @@ fn take_weather(bits: &mut BitReader) -> Option<Value> {
 pub fn sample() -> Value {
     let safety = Value::Seq(vec![
         Some(flags(13, 0b0_0000_0100_0000)),
-        Some(history_sample()),
+        Some(history_sample(None, CRUMBS.len())),
         Some(integers([-4120, 180])),
         Some(flags(9, 0b1_0000_0000)),
     ]);
     let parts = vec![Value::Choice(0, Box::new(safety)), Value::Choice(2, Box::new(supplemental_sample()))];
-    Value::Seq(vec![
-        Some(core_sample()),
-        Some(Value::List(parts)),
-        Some(Value::Choice(1, Box::new(Value::Int(2_718_281_828)))),
-        None,
-    ])
+    let id = Value::Choice(1, Box::new(Value::Int(2_718_281_828)));
+    Value::Seq(vec![Some(core_sample()), Some(Value::List(parts)), Some(id), None])
+}
+
+/// Four messages of changing shape.
+pub fn turns() -> Vec<Value> {
+    let special = Value::List(vec![Value::Choice(1, Box::new(special_sample()))]);
+    let entity = Value::Choice(0, Box::new(Value::Octets(vec![0x0a, 0xfe, 0x31, 0x99])));
+    let note = Value::Text(b"slow vehicle".to_vec());
+    let history = history_sample(Some(flags(8, 0b1100_0001)), 3);
+    let safety = Value::Seq(vec![None, Some(history), None, None]);
+    let safety = Value::List(vec![Value::Choice(0, Box::new(safety))]);
+    let station = Value::Choice(1, Box::new(Value::Int(99)));
+    vec![
+        sample(),
+        Value::Seq(vec![Some(core_sample()), None, None, None]),
+        Value::Seq(vec![Some(core_sample()), Some(special), Some(entity), Some(note)]),
+        Value::Seq(vec![Some(core_sample()), Some(safety), Some(station), None]),
+    ]
+}
+
+fn special_sample() -> Value {
+    let alerts = Value::Seq(vec![
+        Some(Value::Int(3)),
+        Some(Value::Enum(2)),
+        Some(Value::Enum(3)),
+        Some(Value::Enum(1)),
+        Some(Value::Enum(1)),
+    ]);
+    let codes = Value::List(vec![Value::Int(257), Value::Int(513)]);
+    let description = vec![Some(Value::Int(1025)), Some(codes), Some(flags(16, 0xc001))];
+    Value::Seq(vec![Some(alerts), Some(Value::Seq(description))])
 }
 
 fn core_sample() -> Value {
@@ -595,8 +600,8 @@ fn core_sample() -> Value {
     ])
 }
 
-fn history_sample() -> Value {
-    let crumbs = CRUMBS.iter().map(|(latitude, longitude, elevation, time, speed)| {
+fn history_sample(status: Option<Value>, points: usize) -> Value {
+    let crumbs = CRUMBS.iter().take(points).map(|(latitude, longitude, elevation, time, speed)| {
         Value::Seq(vec![
             Some(Value::Int((*latitude).into())),
             Some(Value::Int((*longitude).into())),
@@ -607,7 +612,7 @@ fn history_sample() -> Value {
             None,
         ])
     });
-    Value::Seq(vec![None, Some(Value::List(crumbs.collect()))])
+    Value::Seq(vec![status, Some(Value::List(crumbs.collect()))])
 }
 
 fn supplemental_sample() -> Value {

@@ -1,5 +1,5 @@
 //! SEQUENCE { id INTEGER (0..7), ok BOOLEAN DEFAULT TRUE, flag BOOLEAN OPTIONAL }
-use crate::bits::{BitReader, BitWriter};
+use crate::rules::{Reader, Writer};
 use crate::value::Value;
 
 pub fn sample() -> Value {
@@ -7,16 +7,15 @@ pub fn sample() -> Value {
 }
 
 /// The octets, or `None` where this is no value of the type.
-pub fn encode(value: &Value) -> Option<Vec<u8>> {
+pub fn encode<W: Writer>(value: &Value) -> Option<Vec<u8>> {
     let [Some(id), Some(Value::Bool(ok)), flag] = value.entries()? else {
         return None;
     };
-    let mut bits = BitWriter::with_capacity(1);
-    bits.put(1, u64::from(!ok));
-    bits.put(1, u64::from(flag.is_some()));
+    let mut bits = W::with_capacity(3);
+    bits.put_preamble([!ok, flag.is_some()]);
     bits.put_int::<0, 7>(id)?;
     if !ok {
-        bits.put(1, 0);
+        bits.put_truth(false);
     }
     if let Some(flag) = flag {
         bits.put_bool(flag)?;
@@ -25,12 +24,11 @@ pub fn encode(value: &Value) -> Option<Vec<u8>> {
 }
 
 /// The value, or `None` where the octets are no encoding of one.
-pub fn decode(octets: &[u8]) -> Option<Value> {
-    let mut bits = BitReader::new(octets);
-    let has_ok = bits.take(1)? == 1;
-    let has_flag = bits.take(1)? == 1;
+pub fn decode<'a, R: Reader + From<&'a [u8]>>(octets: &'a [u8]) -> Option<Value> {
+    let mut bits = R::from(octets);
+    let [has_ok, has_flag] = bits.take_preamble()?;
     let id = bits.take_int::<0, 7>()?;
-    if has_ok && bits.take(1)? == 1 {
+    if has_ok && bits.take_truth()? {
         return None;
     }
     let flag = match has_flag {

@@ -1,6 +1,6 @@
 //! 18 OCTET STRING (SIZE (LOW..HIGH)), behind a BOOLEAN where the message is flagged.
-use crate::bits::{BitReader, BitWriter};
-use crate::rows::{LENGTH, STRINGS};
+use crate::rows::{LENGTH, MOST, STRINGS};
+use crate::rules::{Reader, Writer};
 use crate::value::Value;
 
 /// A SEQUENCE of these strings.
@@ -27,8 +27,18 @@ impl<const FLAGGED: bool, const LOW: i64, const HIGH: i64> Strings<FLAGGED, LOW,
         Value::Seq(entries)
     }
 
+    /// Four messages without the BOOLEAN, of strings of 1000 to 1255 octets, each length at another place.
+    pub fn turns(source: &[u8]) -> Vec<Value> {
+        let turn = |turn: usize| {
+            let parts = source.windows(MOST).take(STRINGS).enumerate();
+            let strings = parts.map(|(place, part)| &part[..LENGTH + ((place * 37 + turn * 64) & 255)]);
+            Value::Seq(strings.map(|string| Some(Value::Octets(string.to_vec()))).collect())
+        };
+        vec![Self::sample(source), turn(1), turn(2), turn(3)]
+    }
+
     /// The octets, or `None` where this is no value of the type.
-    pub fn encode(value: &Value) -> Option<Vec<u8>> {
+    pub fn encode<W: Writer>(value: &Value) -> Option<Vec<u8>> {
         let Value::Seq(entries) = value else {
             return None;
         };
@@ -37,7 +47,7 @@ impl<const FLAGGED: bool, const LOW: i64, const HIGH: i64> Strings<FLAGGED, LOW,
         }
         let (flags, strings) = entries.split_at(FLAGGED as usize);
         let all: usize = strings.iter().map(most_octets).sum();
-        let mut bits = BitWriter::with_capacity(8 + all);
+        let mut bits = W::with_capacity(8 + all);
         for flag in flags {
             bits.put_bool(flag.as_ref()?)?;
         }
@@ -48,8 +58,8 @@ impl<const FLAGGED: bool, const LOW: i64, const HIGH: i64> Strings<FLAGGED, LOW,
     }
 
     /// The value, or `None` where the octets are no encoding of one.
-    pub fn decode(octets: &[u8]) -> Option<Value> {
-        let mut bits = BitReader::new(octets);
+    pub fn decode<'a, R: Reader + From<&'a [u8]>>(octets: &'a [u8]) -> Option<Value> {
+        let mut bits = R::from(octets);
         let mut entries = Vec::with_capacity(Self::COMPONENTS);
         if FLAGGED {
             entries.push(Some(bits.take_bool()?));
@@ -64,7 +74,7 @@ impl<const FLAGGED: bool, const LOW: i64, const HIGH: i64> Strings<FLAGGED, LOW,
 /// The most octets that a string and its length take.
 fn most_octets(entry: &Option<Value>) -> usize {
     match entry {
-        Some(Value::Octets(octets)) => 2 + octets.len(),
+        Some(Value::Octets(octets)) => 3 + octets.len(),
         _ => 0,
     }
 }

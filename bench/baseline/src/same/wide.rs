@@ -1,29 +1,29 @@
 //! A SEQUENCE of 40 ranged integers.
-use crate::bits::{width, BitReader, BitWriter};
+use crate::rules::{Reader, Writer};
 use crate::value::{integers, Value};
 
 macro_rules! wide {
     ($($name:ident: $low:literal..=$high:literal = $number:literal,)*) => {
-        /// The most octets of a message.
-        const OCTETS: usize = (0 $(+ width($low, $high) as usize)*).div_ceil(8);
+        /// Room for eight octets a number.
+        const OCTETS: usize = 8 * [$($low as i64,)*].len();
 
         pub fn sample() -> Value {
             integers([$($number,)*])
         }
 
         /// The octets, or `None` where this is no value of the type.
-        pub fn encode(value: &Value) -> Option<Vec<u8>> {
+        pub fn encode<W: Writer>(value: &Value) -> Option<Vec<u8>> {
             let [$(Some($name),)*] = value.entries()? else {
                 return None;
             };
-            let mut bits = BitWriter::with_capacity(OCTETS);
+            let mut bits = W::with_capacity(OCTETS);
             $(bits.put_int::<$low, $high>($name)?;)*
             Some(bits.finish())
         }
 
         /// The value, or `None` where the octets are no encoding of one.
-        pub fn decode(octets: &[u8]) -> Option<Value> {
-            let mut bits = BitReader::new(octets);
+        pub fn decode<'a, R: Reader + From<&'a [u8]>>(octets: &'a [u8]) -> Option<Value> {
+            let mut bits = R::from(octets);
             let entries = vec![$(Some(bits.take_int::<$low, $high>()?),)*];
             bits.is_at_end().then_some(Value::Seq(entries))
         }

@@ -6,6 +6,7 @@ pub mod Profile
 pub mod Parts
 pub mod Defaults
 pub mod View
+pub mod Equality
 pub mod Building
 pub mod ExampleTypes
 pub mod ProfileExamples

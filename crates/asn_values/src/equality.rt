@@ -1,5 +1,8 @@
 //! Which values are the same.
 ghost use Rattle.std.specs.Prelude.{◌≡◌, ◌↔◌, IsTrue, map, option_map};
+ghost use Rattle.std.specs.Cmp.{on_per};
+ghost use Rattle.std.specs.Ordering.{on};
+ghost use Rattle.asn_values.specs.Equality.{datum_eq, datum_eq_per};
 ghost use Rattle.asn_values.specs.View.{datum_of};
 
 use crate::value::Value;
@@ -30,6 +33,17 @@ pub fn same(left: &Value, right: &Value) -> bool
             Value::Choice(other_tag, other) => *tag == *other_tag && same(chosen, other),
             _ => false,
         },
+    }
+}
+
+/// Two values are equal where they are the same.
+impl PartialEq for Value {
+    ghost eq = { on datum_of datum_eq };
+
+    ghost laws = { on_per datum_of datum_eq_per };
+
+    fn eq(&self, other: &Self) -> bool {
+        same(self, other)
     }
 }
 

@@ -5,13 +5,16 @@
 
 mod answers;
 mod cells;
+mod overwritten;
 mod pieces;
 mod rows;
 
 use anyhow::{Context, Result};
-use asn_module::read;
+use asn_module::{Module, read};
 use asn_values::Value;
+use overwritten::try_overwriting;
 use rows::try_row;
+use std::alloc::Global;
 use std::io;
 
 fn main(rt: HostRuntime) -> Result<()> {
@@ -26,11 +29,17 @@ fn main(rt: HostRuntime) -> Result<()> {
         if row.is_empty() || row.starts_with("--") {
             continue;
         }
-        match try_row(rt.alloc(), &module, row, &mut slot) {
+        match try_all(rt.alloc(), &module, row, rows, &mut slot) {
             Ok(()) => held = held.saturating_add(1),
             Err(fault) => println!(rt; "line {place} after ====: {fault}")?,
         }
     }
     println!(rt; "{held} rows")?;
     Ok(())
+}
+
+/// Fails where the row does not hold, or where its octets are not decoded over the value of another of the rows.
+fn try_all(alloc: Global, module: &Module, row: &str, rows: &str, slot: &mut Value) -> Result<()> {
+    try_row(alloc, module, row, slot)?;
+    try_overwriting(alloc, module, row, rows)
 }

@@ -7,6 +7,7 @@ pub mod Parts
 pub mod Defaults
 pub mod View
 pub mod Equality
+pub mod LookUp
 pub mod Building
 pub mod ExampleTypes
 pub mod ProfileExamples

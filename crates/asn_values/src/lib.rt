@@ -10,6 +10,7 @@ mod equality;
 mod fault;
 mod fitting;
 mod laws;
+mod lookup;
 mod names;
 pub mod profile;
 mod ranges;

@@ -31,7 +31,8 @@ for form in "${forms[@]}"; do
     program=(target/release/baseline "$form")
     if [ "$form" = rattle ]; then program=(crates/asn_bench/out/asn_bench); fi
     if ! "${program[@]}" 0 | grep "^octets $name " >/dev/null; then continue; fi
+    # what a round takes over none
+    none=$(instructions "${program[@]}" 0 "$what" "$name")
     once=$(instructions "${program[@]}" 1 "$what" "$name")
-    twice=$(instructions "${program[@]}" 2 "$what" "$name")
-    echo "$what $name $form $(((twice - once) / times))"
+    echo "$what $name $form $(((once - none) / times))"
 done

@@ -17,7 +17,7 @@ pub fn decode_in_pieces<R: Rules>(
         return Err(DecodeFault::Memory);
     };
     let mut before = 0usize;
-    // no octets come as one piece of none, and octets one by one come behind such a piece
+    // no octets come as one piece of none, and octets one by one follow such a piece
     if octets.is_empty() || many == 1 {
         if let Ok(Step::Done { value, .. }) = R::feed(&mut session, b"") {
             if octets.is_empty() {

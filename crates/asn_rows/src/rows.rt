@@ -3,7 +3,7 @@
 //!
 //! - `value | TYPE | JSON | PER | OER`: these octets are the encoding of the value, and `-` stands where a rule is left
 //!   aside. They are decoded as the value, at once, in pieces of 1, 2, 3 and 5 octets, and into the value of the
-//!   row before.
+//!   row before; `overwritten.rt` has the values of its type.
 //! - `same | TYPE | PER | OER`: these octets are the encodings of one value.
 //! - `none | TYPE | OTHER | JSON`: the value of the other type is none of the type.
 //! - `per | TYPE | OCTETS | ANSWER`, and `oer`: so `decode` answers to the octets, at once and in these pieces.

@@ -79,8 +79,12 @@ fn by_hand_same_values(plan: &Plan) {
     // both rules, and messages in turn where there are such
     macro_rules! run_both {
         ($name:literal, $message:ident, $sample:expr) => {
-            run(plan, $name, $sample, $message::encode::<BitWriter>, |octets| $message::decode::<BitReader>(octets));
-            run_oer(plan, $name, $sample, $message::encode::<OctetWriter>, |octets| $message::decode::<OctetReader>(octets));
+            run(plan, $name, $sample, $message::encode::<BitWriter>, |octets| {
+                $message::decode::<BitReader>(octets)
+            });
+            run_oer(plan, $name, $sample, $message::encode::<OctetWriter>, |octets| {
+                $message::decode::<OctetReader>(octets)
+            });
         };
         ($name:literal, $message:ident, $sample:expr, turns) => {
             run_both!($name, $message, $sample);

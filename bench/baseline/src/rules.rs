@@ -144,11 +144,7 @@ pub trait Reader: Sized {
 
     /// What `take` reads, where it is there.
     #[inline(always)]
-    fn take_if<T>(
-        &mut self,
-        is_there: bool,
-        take: impl FnOnce(&mut Self) -> Option<T>,
-    ) -> Option<Option<T>> {
+    fn take_if<T>(&mut self, is_there: bool, take: impl FnOnce(&mut Self) -> Option<T>) -> Option<Option<T>> {
         match is_there {
             true => take(self).map(Some),
             false => Some(None),

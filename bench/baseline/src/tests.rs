@@ -67,11 +67,15 @@ fn both_forms_agree() {
     );
     agree(
         &Cam::sample().encode().unwrap(),
-        [&|octets| Some(Cam::decode(octets)?.encode()), &|octets| Some(cam::encode::<BitWriter>(&cam::decode::<BitReader>(octets)?))],
+        [&|octets| Some(Cam::decode(octets)?.encode()), &|octets| {
+            Some(cam::encode::<BitWriter>(&cam::decode::<BitReader>(octets)?))
+        }],
     );
     agree(
         &Bsm::sample().encode().unwrap(),
-        [&|octets| Some(Bsm::decode(octets)?.encode()), &|octets| Some(bsm::encode::<BitWriter>(&bsm::decode::<BitReader>(octets)?))],
+        [&|octets| Some(Bsm::decode(octets)?.encode()), &|octets| {
+            Some(bsm::encode::<BitWriter>(&bsm::decode::<BitReader>(octets)?))
+        }],
     );
 }
 

@@ -1,6 +1,6 @@
 //! The message of `modules/cam.asn`, as a value of the same kinds as the proved crates have.
-use crate::rules::{Reader, Writer};
 use crate::rows::PATH;
+use crate::rules::{Reader, Writer};
 use crate::value::{flags, integers, Value};
 
 /// The octets, or `None` where this is no value of the type.

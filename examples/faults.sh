@@ -67,6 +67,8 @@ lines_stand() { # lines, each of which is one of the file
 end_case() { # the status that is wanted
   if [ -n "$program" ]; then
     run_case "$1"
+  elif grep -qavxP '[ -~]*' "$name.args"; then
+    rm "$name" "$name.args" "$name.stdout" # `rt try` gives a program no words that are not text
   elif [ -s "$work/has_out" ]; then
     rm "$name.stdout"
   fi
@@ -117,7 +119,12 @@ status=0
 [ "$(cat "$work/told")" = 'write failed' ] || fail "write failed: standard error: $(cat "$work/told")"
 
 # 64 MiB of input, where the process may have 48 MiB
-(ulimit -v 49152 && head -c 67108864 /dev/zero | stops memory module; exit "$failed") || failed=1
+head -c 67108864 /dev/zero >"$work/input"
+(
+  ulimit -v 49152
+  stops memory module <"$work/input"
+  exit "$failed"
+) || failed=1
 
 [ "$failed" = 0 ] || exit 1
 echo "faults: $count cases, and a read, a write and an allocation that fail"

@@ -8,7 +8,6 @@ use Rattle.asn_rules.specs.Answer.{IsEncoding}
 use Rattle.asn_rules.specs.Chunks.{open_field, flat}
 use Rattle.asn_rules.specs.Laws.{AreOctets}
 use Rattle.asn_walk.specs.WriteLaws.{WriteLaws}
-use Rattle.asn_newer.specs.Skipped.{Skipped}
 use Rattle.asn_newer.specs.Loose.{LooseCoding, IsLoose, AnyItem}
 use Rattle.asn_newer.specs.Versions.{LabelVersions, Newer, AreVersions, item_received, received, cut, dropped, wide}
 
@@ -37,12 +36,6 @@ abbrev pub NewerReads : LooseCoding → Type 0
 NewerReads l =
     (old new : Shape) (v : Datum) (o : List ℕ) → InProfile old → InProfile new → Newer old new → Encodes l old v o
     → IsLoose l new (wide l old new v) [] o
-
--- octets are read as one value, with one list of skipped fields
-abbrev pub OneReading : LooseCoding → Type 0
-OneReading l =
-    (t : Shape) (v w : Datum) (r s : List Skipped) (o : List ℕ) → InProfile t → IsLoose l t v r o → IsLoose l t w s o
-    → (v ≡ w) × (r ≡ s)
 
 -- ---- what these laws follow from
 

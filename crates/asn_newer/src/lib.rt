@@ -3,4 +3,4 @@
 
 mod laws;
 
-pub use laws::nothing_is_claimed_yet;
+pub use laws::{OtherVersions, version_laws};

@@ -1,9 +1,9 @@
 #!/usr/bin/env bash
-# Refuses in turn each growth of each call that can answer `Memory`. The call has to answer `Memory` and
-# nothing else, and asked again what it answers with memory at hand.
+# Refuses in turn each allocation of the programs that `rt ci` has built, by tests/refuse_growth.c.
 #
-# For the libraries, crates/asn_growths makes the calls. For the runner, its own program is run on its line,
-# which is once built and run for each growth. Both run unproved, under `rt try`.
+# crates/asn_growths makes the calls of the libraries: one call has to answer `Memory`, and each other call, and that one
+# when it is made again, what it answers with memory at hand. The runner asn_first has to end with `memory` and status 3.
+# A program that is not there is proved and built first.
 set -euo pipefail
 cd "$(dirname "$0")/.."
 
@@ -11,66 +11,81 @@ work=$(mktemp -d)
 trap 'rm -rf "$work"' EXIT
 
 fail() {
-  echo "refused growths: $*" >&2
+  echo "refused allocations: $*" >&2
   exit 1
 }
 
-# ---- the calls of the libraries, each growth of the program's run refused in one case
+# ---- the library that refuses, by the kit's clang, which has no headers, or by another C compiler
 
-refused=950 # REFUSED of crates/asn_growths/src/main.rt
-mkdir "$work/cases"
-for left in $(seq 1 $((refused - 1))); do
-  echo "$left" >"$work/cases/$(printf %03d "$left")"
-done
-# in a few steps the interpreter gives no answer, and only the compiled program is run
-(cd crates/asn_growths && rt try --steps 1000 --fail-alloc "$refused" --cases "$work/cases") \
-  >"$work/told" 2>"$work/ends" || fail "a call did not end as it should: $(tail -n 20 "$work/told" "$work/ends")"
-
-# what a case tells stands on one line, behind its number
-awk '/^== / { if (told != "") print told; told = $2; next } { told = told "|" $0 } END { print told }' \
-  "$work/told" | sort >"$work/cases.told"
-[ "$(wc -l <"$work/cases.told")" = $((refused - 1)) ] || fail "a case is not told"
-if grep -vE '^[0-9]+(\|(memory|arguments): [A-Za-z:_]+)?\|done$' "$work/cases.told" >&2; then
-  fail "the calls above answer anything else than Memory where a growth is refused"
+kit=$(dirname "$(rt doc)")/toolchain
+refuse=$work/refuse_growth.so
+if [ -x "$kit/bin/clang" ]; then
+  "$kit/bin/clang" -O2 -Wall -shared -fPIC -nostdlib -B"$kit/lib" -fuse-ld="$kit/bin/ld.lld" -o "$refuse" \
+    tests/refuse_growth.c
+else
+  "${CC:-cc}" -O2 -shared -fPIC -nostdlib -o "$refuse" tests/refuse_growth.c
 fi
-# the last cases reach no growth, so each growth was refused in a case before
-grep -qE "^$((refused - 1))\\|done$" "$work/cases.told" || fail "there are more growths than cases"
-calls=0
-for call in Checked::new encode decode Checked::new:simple encode:simple decode:simple \
+
+# ---- one run after another, with the first allocation refused, then the second, until a run reaches no refusal
+
+runs=0 # in which an allocation was refused
+number=0
+status=0
+
+run() { # the program; what it writes is in $work/out and $work/err, and `r` in $work/refused if it was refused memory
+  number=$((number + 1))
+  status=0
+  timeout 60 env REFUSED_GROWTH="$number" LD_PRELOAD="$refuse" "$@" \
+    <"$given" >"$work/out" 2>"$work/err" 3>"$work/refused" || status=$?
+}
+
+refuse_each() { # the crate, and the function that looks at a run in which an allocation was refused
+  local crate=$1 look=$2 program=crates/$1/out/$1 words=()
+  [ -x "$program" ] || (cd "crates/$crate" && rt run)
+  given=crates/$crate/stdin
+  [ -f "$given" ] || given=/dev/null
+  if [ -f "crates/$crate/args" ]; then mapfile -t words <"crates/$crate/args"; fi
+  number=0
+  while run "$program" "${words[@]}" && [ -s "$work/refused" ]; do
+    [ "$(<"$work/refused")" = r ] || fail "$crate: more than one allocation was refused in run $number"
+    "$look" || fail "$crate, allocation $number refused: status $status; $(cat "$work/out" "$work/err")"
+  done
+  runs=$((number - 1))
+  [ "$runs" -gt 0 ] || fail "$crate: no allocation was refused"
+  [ "$status" = 0 ] && cmp "$work/out" "crates/$crate/stdout" ||
+    fail "$crate does not write its answer where no allocation is refused"
+}
+
+# ---- the calls of the libraries
+
+call='(memory|arguments): [A-Za-z_:]+'
+line=$'\n'
+
+one_call_tells() {
+  local said
+  said=$(<"$work/out")
+  [ "$status" = 0 ] && [[ $said =~ ^${call}${line}again${line}done$ || $said =~ ^again${line}${call}${line}done$ ]] &&
+    grep -E "^$call$" "$work/out" >>"$work/told"
+}
+
+refuse_each asn_growths one_call_tells
+for name in Checked::new encode decode Checked::new:simple encode:simple decode:simple \
   Checked::new:composed encode:composed decode:composed feed BitSink::push \
   BitSink::push_number BitSink::push_octets BitSink::push_length BitSink::push_general_octets \
   BitSink::push_least_octets BitSink::push_least_signed_octets BitSink::pad BitCursor::take_octets \
   to_json from_json from_json:shape; do
-  count=$(grep -c "|memory: $call|" "$work/cases.told") || fail "no growth of $call was refused"
-  calls=$((calls + count))
+  grep -qx "memory: $name" "$work/told" || fail "no allocation of $name was refused"
 done
+calls=$(grep -c '^memory' "$work/told")
 
-# Checked::copy and PER's open allocate nothing: no case tells that they were refused
+# Checked::copy and PER's open allocate nothing: no run tells that they were refused
 
 # ---- the runner: the line `memory` and status 3, and nothing written before
 
-runner() { # the growth that is refused
-  local status=0
-  (cd crates/asn_first && rt try --fail-alloc "$1" <stdin) >"$work/out.$1" 2>"$work/err.$1" || status=$?
-  echo "$status" >"$work/status.$1"
+runner_tells() {
+  [ "$status" = 3 ] && [ "$(<"$work/err")" = memory ] && [ ! -s "$work/out" ]
 }
 
-growths=0
-for first in 1 5 9 13 17 21 25 29; do
-  for growth in $(seq "$first" $((first + 3))); do runner "$growth" & done
-  wait
-  for growth in $(seq "$first" $((first + 3))); do
-    if [ "$(cat "$work/status.$growth")" = 0 ]; then
-      cmp -s "$work/out.$growth" crates/asn_first/stdout ||
-        fail "the runner ends well without its answer, where growth $growth is refused"
-      break 2
-    fi
-    [ "$(cat "$work/status.$growth")" = 3 ] && grep -qx memory "$work/err.$growth" && [ ! -s "$work/out.$growth" ] ||
-      fail "the runner does not answer memory where growth $growth is refused: $(cat "$work/out.$growth" "$work/err.$growth")"
-    growths=$growth
-  done
-done
-[ "$growths" -gt 0 ] || fail "no growth of the runner was refused"
-[ "$growths" -lt 32 ] || fail "the runner has more growths than are tried"
+refuse_each asn_first runner_tells
 
-echo "refused growths: $calls of the calls of the libraries and $growths of the runner, each answered by memory"
+echo "refused allocations: $calls of the calls of the libraries and $runs of the runner, each answered by memory"

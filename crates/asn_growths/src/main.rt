@@ -1,5 +1,5 @@
-//! Makes each call of the libraries that can answer `Memory`, and tells of each what it answered. Run under a
-//! runtime that refuses one allocation, it shows what that refusal changes.
+//! Makes each call of the libraries that can answer `Memory`, and tells of each whether memory was refused to it. Run
+//! while one allocation is refused, it shows what that refusal changes.
 #![tactic(auto)]
 
 ghost use Rattle.std.specs.Prelude.{◌≡◌, true, false, IfOk};
@@ -25,38 +25,27 @@ use message_calls::{
 use outcome::Outcome;
 use session_calls::{copy_a_type, feed_a_message, open_a_session};
 use std::alloc::{AllocError, Global};
-use std::io::Read;
 use std::process::ExitCode;
 
-/// The allocation that the tests refuse, counted from the first of the process.
-const REFUSED: u32 = 950;
-
-/// Takes from the input how many allocations are left up to the one that is refused, uses up those before, and
-/// makes each call twice. A line is written for a call that answers `Memory`, one for a call whose arguments could
-/// not be built, and the line `done` behind all. Status 1 where a call answers anything else than it should.
+/// Makes each call twice, with the line `again` between the two rounds and the line `done` at the end. A line is
+/// written for a call that answers `Memory`, and one for a call whose arguments could not be built. Status 1 where a
+/// call answers anything else than it should.
 fn main(rt: HostRuntime) -> ExitCode {
-    let mut buffer = [0; 16];
-    let Ok(count) = rt.reader().read(&mut buffer) else {
-        return ExitCode::from(2);
-    };
-    let Some(left) = number_in(&buffer[..count]) else {
-        return ExitCode::from(2);
-    };
+    let mut all_right = calls_are_right(&rt);
+    all_right &= rt.println("again").is_ok();
+    all_right &= calls_are_right(&rt);
+    all_right &= rt.println("done").is_ok();
+    ExitCode::from(u8::from(!all_right))
+}
+
+/// Whether each call answers as it should.
+fn calls_are_right(rt: &HostRuntime) -> bool {
     let alloc = rt.alloc();
-    if burn(alloc, REFUSED.saturating_sub(left)).is_err() {
-        return ExitCode::from(2);
-    }
-    let mut all_right = true;
-    for _ in 0..2 {
-        all_right &= message_calls_are_right(&rt, alloc);
-        all_right &= session_calls_are_right(&rt, alloc);
-        all_right &= bit_calls_are_right(&rt, alloc);
-        all_right &= json_calls_are_right(&rt, alloc);
-    }
-    if rt.println("done").is_err() || !all_right {
-        return ExitCode::from(1);
-    }
-    ExitCode::from(0)
+    let mut right = message_calls_are_right(rt, alloc);
+    right &= session_calls_are_right(rt, alloc);
+    right &= bit_calls_are_right(rt, alloc);
+    right &= json_calls_are_right(rt, alloc);
+    right
 }
 
 /// Whether each call on whole types and messages answers as it should.
@@ -105,20 +94,6 @@ fn json_calls_are_right(rt: &impl Print, alloc: Global) -> bool {
     right &= report(rt, "from_json", read_json(alloc));
     right &= report(rt, "from_json:shape", read_wrong_json(alloc));
     right
-}
-
-/// The number that the digits in front are.
-fn number_in(text: &[u8]) -> Option<u32> {
-    let text = str::from_utf8(text).ok()?;
-    text.trim().parse::<u32>().ok()
-}
-
-/// So many growths.
-fn burn(alloc: Global, count: u32) -> Result<(), AllocError> {
-    for _ in 0..count {
-        let _: Vec<u8> = Vec::with_capacity(alloc, 1)?;
-    }
-    Ok(())
 }
 
 /// Tells of a call what is not its usual answer; whether that is no fault of the call.

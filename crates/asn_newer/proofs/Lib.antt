@@ -1,0 +1,4 @@
+pub mod Read
+pub mod Flipped
+pub mod PerParts
+pub mod OerParts

@@ -1,0 +1,18 @@
+use Rattle.std.proofs.Common.{true, false, List, subst}
+use Rattle.asn_newer.specs.Skipped.{Skipped}
+use Rattle.asn_newer.specs.Loose.{IsLoose}
+use Rattle.asn_newer.specs.Versions.{received}
+use Rattle.asn_newer.proofs.Flipped.{flipped, skips_nothing}
+use Rattle.asn_newer.proofs.Read.{message_read}
+use Rattle.asn_newer.proofs.laws.version_laws.Goals as goal
+
+pub returns-clause-reads_versions : goal.returns-clause-reads_versions
+returns-clause-reads_versions g c t u v o p q w e = message_read g.R.OtherVersions.loose c.keep_version_laws.ensures true true t u v o p w e
+
+pub returns-clause-older_reads : goal.returns-clause-older_reads
+returns-clause-older_reads g c old new v o p q w e = message_read g.R.OtherVersions.loose c.keep_version_laws.ensures true false new old v o q (flipped false true old new w) e
+
+pub returns-clause-newer_reads : goal.returns-clause-newer_reads
+returns-clause-newer_reads g c old new v o p q w e =
+    let l = g.R.OtherVersions.loose in
+    subst (λ (s : List Skipped). IsLoose l new (received l old new v).0 s o) (skips_nothing l true old new v w) (message_read l c.keep_version_laws.ensures false true old new v o p w e)

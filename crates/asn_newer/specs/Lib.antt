@@ -1,0 +1,6 @@
+pub mod Skipped
+pub mod Loose
+pub mod Versions
+pub mod NewerLaws
+pub mod Rules
+pub mod Examples

@@ -1,0 +1,45 @@
+//! The laws of messages that another version of their type reads.
+ghost use Rattle.asn_newer.specs.Loose.{LooseCoding};
+ghost use Rattle.asn_newer.specs.NewerLaws.{PartLaws, ReadsVersions, OlderReads, NewerReads};
+ghost use Rattle.asn_newer.specs.Rules.{per_loose, oer_loose};
+
+use asn_oer::Oer;
+use asn_per::Per;
+
+/// Encoding rules whose messages other versions of a type can read.
+pub trait OtherVersions {
+    /// What the rules say of the parts, and of items that a type has not.
+    ghost loose: { LooseCoding };
+
+    /// The rules keep the laws from which those of `version_laws` follow. The call does nothing: its clause is what
+    /// proofs cite.
+    fn keep_version_laws()
+        ensures { PartLaws loose };
+}
+
+impl OtherVersions for Per {
+    ghost loose = { per_loose };
+
+    fn keep_version_laws() {}
+}
+
+impl OtherVersions for Oer {
+    ghost loose = { oer_loose };
+
+    fn keep_version_laws() {}
+}
+
+/// What a receiver reads whose type is another version of the sender's. The call does nothing: its clauses are the
+/// laws.
+///
+/// - `reads_versions`: where at each marked list, at any depth, one of the two types has the additions of the other
+///   and perhaps more, the canonical octets of the sender are read as `received` says.
+/// - `older_reads`: an older receiver reads `cut` of the value, and skips the `dropped` fields.
+/// - `newer_reads`: a newer receiver reads `wide` of the value, and skips nothing.
+pub fn version_laws<R: OtherVersions>()
+    ensures reads_versions { ReadsVersions R.loose }
+    ensures older_reads { OlderReads R.loose }
+    ensures newer_reads { NewerReads R.loose }
+{
+    R::keep_version_laws();
+}

@@ -1,14 +1,17 @@
 -- Names and their indexes: one name more in front, and what stands at an index.
 use Rattle.std.proofs.Common.{◌≡◌, ◌+◌, ◌-◌, ◌<◌, ◌≤◌, ℕ, zero, suc, Bool, true, false, cond, ◌||◌, List, [], ◌∷◌, get_or, drop, length, map, Option, Some, None, refl, sym, ap, subst, ◌∙◌, arith}
-use Rattle.std.specs.Prelude.{bytes_eq, string_bytes, is_some}
+use denote.Ref.{Bor}
+use Rattle.std.specs.Prelude.{bytes_eq, string_bytes, is_some, MatchOption}
+use Rattle.std.specs.Option.{option_copied}
 use Rattle.std.specs.List.{list_any}
 use Rattle.std.specs.Cmp.Lexicographic.{nat_list_eq_equiv}
 use Rattle.asn_values.specs.Profile.{has_twice}
 use Rattle.asn_notation.specs.declared.notation.AssignmentNotation.{AssignmentNotation}
 use Rattle.asn_notation.specs.Tree.{Assignment, assignment_view, assignments_view}
+use Rattle.asn_module.specs.declared.known.Known.{Known}
 use Rattle.asn_module.specs.declared.known.Named.{Named}
 use Rattle.asn_module.specs.Meaning.{Meant}
-use Rattle.asn_module.specs.Known.{known_if, look, AreSound}
+use Rattle.asn_module.specs.Known.{known_view, known_if, look, AreSound}
 use Rattle.asn_module.specs.Lookup.{index_from, names_in, assigned_names}
 
 -- ---- one name more
@@ -98,3 +101,8 @@ same_names all [] [] h = refl
 same_names all [] (n ∷ ns) h = absurd h
 same_names all (a ∷ rest) [] h = absurd h
 same_names all (a ∷ rest) (n ∷ ns) h = rw (h.0, same_names all rest ns h.2) refl
+
+-- what a reference to the type built at an index says of the name
+pub is_looked : (look : Option Meant) (o : Option Known) (r : Option (Bor Known)) → look ≡ known_if o → option_copied r ≡ o → MatchOption r (look ≡ None) (λ k. look ≡ Some (known_view k.now))
+is_looked look o None here e = here ∙ ap known_if (sym e)
+is_looked look o (Some k) here e = here ∙ ap known_if (sym e)

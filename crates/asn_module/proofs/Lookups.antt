@@ -2,6 +2,7 @@
 use Rattle.std.proofs.Common.{◌≡◌, ◌+◌, ◌-◌, ◌<◌, ◌≤◌, ℕ, zero, suc, Bool, true, false, cond, ◌||◌, List, [], ◌∷◌, get_or, drop, length, map, Option, Some, None, refl, sym, ap, subst, ◌∙◌, arith}
 use denote.Ref.{Bor}
 use Rattle.std.specs.Prelude.{bytes_eq, string_bytes, is_some, MatchOption}
+use Rattle.std.specs.HashMap.{HashMap}
 use Rattle.std.specs.Option.{option_copied}
 use Rattle.std.specs.List.{list_any}
 use Rattle.std.specs.Cmp.Lexicographic.{nat_list_eq_equiv}
@@ -12,7 +13,7 @@ use Rattle.asn_module.specs.declared.known.Known.{Known}
 use Rattle.asn_module.specs.declared.known.Named.{Named}
 use Rattle.asn_module.specs.Meaning.{Meant}
 use Rattle.asn_module.specs.Known.{known_view, known_if, look, AreSound}
-use Rattle.asn_module.specs.Lookup.{index_from, names_in, assigned_names}
+use Rattle.asn_module.specs.Lookup.{Finds, index_from, names_in, assigned_names}
 
 -- ---- one name more
 
@@ -95,12 +96,23 @@ looked_nowhere (m ∷ ns) from q e = by_test (bytes_eq (string_bytes m.name) q) 
     by_test true h after = absurd cc
     by_test false h after = after h
 
+-- each index is below the number of the names
+pub nowhere_above : (ns : List Named) (j : ℕ) (q : List ℕ) → index_from 0 q (names_in ns) ≡ Some j → length ns ≤ j → look ns q ≡ None
+nowhere_above [] j q e high = refl
+nowhere_above (m ∷ ns) j q e high =
+    let at = looked_from (m ∷ ns) 0 j q m e in
+    absurd (omega (arith, at.1, high))
+
 -- the names that are built so far are those that are assigned
 pub same_names : (all rest : List Assignment) (ns : List Named) → AreSound all rest ns → names_in ns ≡ assigned_names rest
 same_names all [] [] h = refl
 same_names all [] (n ∷ ns) h = absurd h
 same_names all (a ∷ rest) [] h = absurd h
 same_names all (a ∷ rest) (n ∷ ns) h = rw (h.0, same_names all rest ns h.2) refl
+
+-- a map that finds the names that are assigned finds those that are built so far
+pub finds_built : {S : Type 0} (indices : HashMap (Bor (List ℕ)) ℕ S) (all : List Assignment) (ns : List Named) → AreSound all all ns → Finds indices (assigned_names all) → Finds indices (names_in ns)
+finds_built indices all ns sound finds q = rw (same_names all all ns sound) (finds q)
 
 -- what a reference to the type built at an index says of the name
 pub is_looked : (look : Option Meant) (o : Option Known) (r : Option (Bor Known)) → look ≡ known_if o → option_copied r ≡ o → MatchOption r (look ≡ None) (λ k. look ≡ Some (known_view k.now))

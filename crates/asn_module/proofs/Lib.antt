@@ -11,3 +11,4 @@ pub mod PrintedNames
 pub mod PrintedTypes
 pub mod PrintedModules
 pub mod Counts
+pub mod Lookups

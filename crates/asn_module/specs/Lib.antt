@@ -6,3 +6,4 @@ pub mod Known
 pub mod ModuleView
 pub mod Printing
 pub mod Counting
+pub mod Lookup

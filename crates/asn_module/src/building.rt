@@ -4,6 +4,7 @@ ghost use Rattle.std.specs.Prelude.{◌≡◌, None, Some, map};
 ghost use Rattle.asn_values.specs.View.{shape_of, fields_of, part_of_field, alternatives_of, branch_of};
 ghost use Rattle.asn_notation.specs.Tree as tree;
 ghost use Rattle.asn_module.specs.Known.{built_view, look, Gives};
+ghost use Rattle.asn_module.specs.Lookup.{Finds, names_in};
 ghost use Rattle.asn_module.specs.Meaning as spec;
 
 use crate::copying::copy_type;
@@ -15,6 +16,7 @@ use crate::simple::{enumerated, free, integer, list, need, string};
 use asn_notation::{AlternativeNotation, ComponentNotation, TypeNotation};
 use asn_values::{Alt, AsnType, Field};
 use std::alloc::Global;
+use std::collections::HashMap;
 
 /// The components of a SEQUENCE.
 #[cycle(building)]
@@ -22,15 +24,17 @@ use std::alloc::Global;
 fn build_fields(
     alloc: Global,
     names: &[Named],
+    indices: &HashMap<&str, usize>,
     components: &[ComponentNotation],
 ) -> Result<Vec<Field>, Refusal>
+    requires { Finds indices.now (names_in names.now) }
     ensures { Gives (λ v. fields_of (map part_of_field v.items)) result
         (spec.fields_meant (look names.now) (tree.components_of (tree.parts_view components.now))) }
 {
     let mut fields = Vec::new(alloc);
     for component in components {
         let name = String::from_str(alloc, component.name)?;
-        let built = build(alloc, names, &component.ty)?;
+        let built = build(alloc, names, indices, &component.ty)?;
         let need = need(&built.ty, &component.need);
         fields.push(Field {
             name,
@@ -47,27 +51,35 @@ fn build_fields(
 fn build_alternatives(
     alloc: Global,
     names: &[Named],
+    indices: &HashMap<&str, usize>,
     alternatives: &[AlternativeNotation],
 ) -> Result<Vec<Alt>, Refusal>
+    requires { Finds indices.now (names_in names.now) }
     ensures { Gives (λ v. alternatives_of (map branch_of v.items)) result
         (spec.alternatives_meant (look names.now) (tree.alternatives_of (tree.branches_view alternatives.now))) }
 {
     let mut built = Vec::new(alloc);
     for alternative in alternatives {
         let name = String::from_str(alloc, alternative.name)?;
-        let inner = build(alloc, names, &alternative.ty)?;
+        let inner = build(alloc, names, indices, &alternative.ty)?;
         built.push(Alt { name, ty: inner.ty })?;
     }
     Ok(built)
 }
 
-/// The type that a notation stands for, where `names` are the types that are built.
+/// The type that a notation stands for, where `names` are the types that are built, and `indices` has their indexes.
 ///
 /// Err: `Missing` where it refers to a name that has no type there; `Constraint` where a constraint may not
 /// stand on the type that a name stands for; `Memory` where an allocation failed.
 #[cycle(building)]
 #[tactic(auto, unfolding(crate::specs::Meaning::meant))]
-pub(crate) fn build(alloc: Global, names: &[Named], ty: &TypeNotation) -> Result<Built, Refusal>
+pub(crate) fn build(
+    alloc: Global,
+    names: &[Named],
+    indices: &HashMap<&str, usize>,
+    ty: &TypeNotation,
+) -> Result<Built, Refusal>
+    requires { Finds indices.now (names_in names.now) }
     ensures { Gives built_view result (spec.meant (look names.now) (tree.tree_view ty.now)) }
 {
     match ty {
@@ -78,11 +90,11 @@ pub(crate) fn build(alloc: Global, names: &[Named], ty: &TypeNotation) -> Result
         TypeNotation::Enumerated { root, more } => enumerated(alloc, root, more),
         TypeNotation::Text(kind, size) => Ok(string(*kind, *size)),
         TypeNotation::Sequence { root, more } => {
-            let root = build_fields(alloc, names, root)?;
+            let root = build_fields(alloc, names, indices, root)?;
             match more {
                 None => Ok(free(AsnType::Seq { root, ext: None })),
                 Some(more) => {
-                    let more = build_fields(alloc, names, more)?;
+                    let more = build_fields(alloc, names, indices, more)?;
                     Ok(free(AsnType::Seq {
                         root,
                         ext: Some(more),
@@ -91,15 +103,15 @@ pub(crate) fn build(alloc: Global, names: &[Named], ty: &TypeNotation) -> Result
             }
         }
         TypeNotation::SequenceOf(size, element) => {
-            let element = build(alloc, names, element)?;
+            let element = build(alloc, names, indices, element)?;
             list(alloc, element.ty, *size)
         }
         TypeNotation::Choice { root, more } => {
-            let root = build_alternatives(alloc, names, root)?;
+            let root = build_alternatives(alloc, names, indices, root)?;
             match more {
                 None => Ok(free(AsnType::Choice { root, ext: None })),
                 Some(more) => {
-                    let more = build_alternatives(alloc, names, more)?;
+                    let more = build_alternatives(alloc, names, indices, more)?;
                     Ok(free(AsnType::Choice {
                         root,
                         ext: Some(more),
@@ -111,7 +123,7 @@ pub(crate) fn build(alloc: Global, names: &[Named], ty: &TypeNotation) -> Result
             name,
             constraint,
             left,
-        } => match find(names, *name) {
+        } => match find(names, indices, *name) {
             None => Err(Refusal::Missing),
             Some(known) => {
                 let copy = copy_type(alloc, known.ty.get())?;

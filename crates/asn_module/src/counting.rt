@@ -8,12 +8,14 @@ ghost use Rattle.asn_notation.specs.Tree as tree;
 ghost use Rattle.asn_module.specs.Known.{look};
 ghost use Rattle.asn_module.specs.Counting as spec;
 ghost use Rattle.asn_module.specs.Counting.{capped};
+ghost use Rattle.asn_module.specs.Lookup.{Finds, names_in};
 
 use crate::finding::find;
 use crate::known::Named;
 use asn_notation::{AlternativeNotation, ComponentNotation, TypeNotation};
 use asn_values::profile::MAX_TYPES;
 use asn_values::{Alt, AsnType, Field};
+use std::collections::HashMap;
 
 /// Two numbers of types together, as far as they are counted.
 fn together(first: u32, second: u32) -> u32
@@ -86,13 +88,18 @@ fn count_type(ty: &AsnType) -> u32
 
 /// The types that components stand for.
 #[cycle(counting)]
-fn count_components(names: &[Named], components: &[ComponentNotation]) -> u32
+fn count_components(
+    names: &[Named],
+    indices: &HashMap<&str, usize>,
+    components: &[ComponentNotation],
+) -> u32
+    requires { Finds indices.now (names_in names.now) }
     ensures { result ≡ capped (spec.components_weight (look names.now) (tree.components_of
         (tree.parts_view components.now))) }
 {
     let mut total = 0;
     for component in components {
-        total = together(total, count(names, &component.ty));
+        total = together(total, count(names, indices, &component.ty));
         if total > MAX_TYPES {
             return total;
         }
@@ -102,13 +109,18 @@ fn count_components(names: &[Named], components: &[ComponentNotation]) -> u32
 
 /// The types that alternatives stand for.
 #[cycle(counting)]
-fn count_branches(names: &[Named], alternatives: &[AlternativeNotation]) -> u32
+fn count_branches(
+    names: &[Named],
+    indices: &HashMap<&str, usize>,
+    alternatives: &[AlternativeNotation],
+) -> u32
+    requires { Finds indices.now (names_in names.now) }
     ensures { result ≡ capped (spec.alternatives_weight (look names.now) (tree.alternatives_of
         (tree.branches_view alternatives.now))) }
 {
     let mut total = 0;
     for alternative in alternatives {
-        total = together(total, count(names, &alternative.ty));
+        total = together(total, count(names, indices, &alternative.ty));
         if total > MAX_TYPES {
             return total;
         }
@@ -118,7 +130,8 @@ fn count_branches(names: &[Named], alternatives: &[AlternativeNotation]) -> u32
 
 /// How many types a notation stands for, where `names` are the types that are built; 10,001 where they are more.
 #[cycle(counting)]
-pub(crate) fn count(names: &[Named], ty: &TypeNotation) -> u32
+pub(crate) fn count(names: &[Named], indices: &HashMap<&str, usize>, ty: &TypeNotation) -> u32
+    requires { Finds indices.now (names_in names.now) }
     ensures { result ≡ capped (spec.weight (look names.now) (tree.tree_view ty.now)) }
 {
     match ty {
@@ -128,22 +141,22 @@ pub(crate) fn count(names: &[Named], ty: &TypeNotation) -> u32
         | TypeNotation::Integer(_)
         | TypeNotation::Enumerated { .. }
         | TypeNotation::Text(..) => 1,
-        TypeNotation::SequenceOf(_, element) => together(1, count(names, element)),
+        TypeNotation::SequenceOf(_, element) => together(1, count(names, indices, element)),
         TypeNotation::Sequence { root, more } => {
-            let total = together(1, count_components(names, root));
+            let total = together(1, count_components(names, indices, root));
             match more {
                 None => total,
-                Some(more) => together(total, count_components(names, more)),
+                Some(more) => together(total, count_components(names, indices, more)),
             }
         }
         TypeNotation::Choice { root, more } => {
-            let total = together(1, count_branches(names, root));
+            let total = together(1, count_branches(names, indices, root));
             match more {
                 None => total,
-                Some(more) => together(total, count_branches(names, more)),
+                Some(more) => together(total, count_branches(names, indices, more)),
             }
         }
-        TypeNotation::Reference { name, .. } => match find(names, *name) {
+        TypeNotation::Reference { name, .. } => match find(names, indices, *name) {
             None => 0,
             Some(known) => count_type(known.ty.get()),
         },

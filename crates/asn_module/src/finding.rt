@@ -2,18 +2,30 @@
 
 ghost use Rattle.std.specs.Prelude.{◌≡◌, None, Some, MatchOption};
 ghost use Rattle.asn_module.specs.Known as spec;
+ghost use Rattle.asn_module.specs.Lookup.{Finds, names_in};
 
 use crate::known::{Known, Named};
+use std::collections::HashMap;
 
-/// The type that a name stands for; None where there is no such name, or its type is not built.
-pub(crate) fn find<'a>(names: &'a [Named], name: &str) -> Option<&'a Known>
+/// The type that a name stands for; None where there is no such name, or its type is not built. `indices`
+/// has the index of each name.
+pub(crate) fn find<'a>(
+    names: &'a [Named],
+    indices: &HashMap<&str, usize>,
+    name: &str,
+) -> Option<&'a Known>
+    requires { Finds indices.now (names_in names.now) }
     ensures { MatchOption result (spec.look names.now name.now ≡ None) (λ k. spec.look names.now name.now ≡
         Some (spec.known_view k.now)) }
 {
-    for named in names {
-        if *named.name.as_str() == *name {
-            return named.known.as_ref();
+    match indices.get(name) {
+        Some(index) => {
+            if *index < names.len() {
+                names[*index].known.as_ref()
+            } else {
+                None
+            }
         }
+        None => None,
     }
-    None
 }

@@ -11,6 +11,7 @@ mod explaining;
 mod fault;
 mod finding;
 mod graph;
+mod indexing;
 mod items;
 mod known;
 mod listing;
@@ -21,7 +22,6 @@ mod reading;
 mod references;
 mod simple;
 mod table;
-mod twice;
 
 pub use explaining::explain;
 pub use fault::ModuleFault;

@@ -8,10 +8,10 @@ ghost use Rattle.asn_module.specs.ModuleView.{types_view};
 use crate::diagnosis::fault_of;
 use crate::fault::{ModuleFault, Refusal};
 use crate::graph::{order_of, references_of};
+use crate::indexing::indices_of;
 use crate::listing::assignments_listed;
 use crate::module::{Module, find_type};
 use crate::table::types_of;
-use crate::twice::is_one_assigned_twice;
 use asn_notation::{SyntaxFault, read_notation};
 use asn_values::Checked;
 use asn_values::profile::MAX_LEVELS;
@@ -41,11 +41,11 @@ pub(crate) fn module_of(alloc: Global, text: &str) -> Result<Option<Module>, Ref
         Err(SyntaxFault::Memory) => return Err(Refusal::Memory),
         Err(_) => return Ok(None),
     };
-    if is_one_assigned_twice(&notation.assignments) {
+    let Some(indices) = indices_of(alloc, &notation.assignments)? else {
         return Ok(None);
-    }
+    };
     let order = building_order(alloc, text)?;
-    match types_of(alloc, &notation.assignments, &order)? {
+    match types_of(alloc, &notation.assignments, &indices, &order)? {
         Some(types) => {
             let name = String::from_str(alloc, notation.name)?;
             Ok(Some(Module { name, types }))

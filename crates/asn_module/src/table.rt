@@ -7,6 +7,7 @@ ghost use Rattle.asn_values.specs.Profile.{InProfile};
 ghost use Rattle.asn_notation.specs.Tree.{tree_view, assignments_view};
 ghost use Rattle.asn_module.specs.Accepted.{AreTypes, Typed};
 ghost use Rattle.asn_module.specs.Known as spec;
+ghost use Rattle.asn_module.specs.Lookup.{Finds, names_in, assigned_names};
 ghost use Rattle.asn_module.specs.Known.{look, IsKnownOf, IsKnownAs, IsStuck, AreSound, AreDone, Attempted, unbuilt};
 
 use crate::building::build;
@@ -17,6 +18,7 @@ use asn_notation::{AssignmentNotation, TypeNotation};
 use asn_values::profile::MAX_TYPES;
 use asn_values::{AsnType, Checked, TypeFault};
 use std::alloc::{AllocError, Global};
+use std::collections::HashMap;
 
 /// A type with its constraint, where it is one of the profile.
 fn of_profile(
@@ -42,15 +44,21 @@ fn of_profile(
 
 /// The type of a notation, where it can be built of those that are built, and is one of the profile. Where it has more
 /// types inside it than one of the profile may have, none of them is built.
-fn build_known(alloc: Global, names: &[Named], ty: &TypeNotation) -> Result<Option<Known>, Refusal>
+fn build_known(
+    alloc: Global,
+    names: &[Named],
+    indices: &HashMap<&str, usize>,
+    ty: &TypeNotation,
+) -> Result<Option<Known>, Refusal>
+    requires { Finds indices.now (names_in names.now) }
     ensures known { IfOk result (λ o. MatchOption o (IsStuck (look names.now) (tree_view ty.now))
         (λ k. IsKnownAs (look names.now) (tree_view ty.now) k)) }
     ensures memory { IfErr result (λ e. e ≡ Refusal.Memory) }
 {
-    if count(names, ty) > MAX_TYPES {
+    if count(names, indices, ty) > MAX_TYPES {
         return Ok(None);
     }
-    match build(alloc, names, ty) {
+    match build(alloc, names, indices, ty) {
         Ok(built) => of_profile(alloc, built.ty, built.constraint),
         Err(Refusal::Memory) => Err(Refusal::Memory),
         Err(_) => Ok(None),
@@ -61,17 +69,19 @@ fn build_known(alloc: Global, names: &[Named], ty: &TypeNotation) -> Result<Opti
 fn attempt(
     alloc: Global,
     names: &mut Vec<Named>,
+    indices: &HashMap<&str, usize>,
     index: usize,
     ty: &TypeNotation,
 ) -> Result<bool, Refusal>
-    requires { index < vec_len names.old }
+    requires inside { index < vec_len names.old }
+    requires finds { Finds indices.now (names_in names.old.items) }
     ensures attempted { IfOk result (λ b. Attempted b (tree_view ty.now) index names.old.items names.new.items) }
     ensures memory { IfErr result (λ e. e ≡ Refusal.Memory) }
 {
     if names[index].known.is_some() {
         return Ok(false);
     }
-    match build_known(alloc, names, ty)? {
+    match build_known(alloc, names, indices, ty)? {
         Some(known) => {
             names[index].known = Some(known);
             Ok(true)
@@ -84,10 +94,12 @@ fn attempt(
 fn build_at(
     alloc: Global,
     names: &mut Vec<Named>,
+    indices: &HashMap<&str, usize>,
     assignments: &[AssignmentNotation],
     index: usize,
 ) -> Result<(), Refusal>
-    requires { AreSound (assignments_view assignments.now) (assignments_view assignments.now) names.old.items }
+    requires finds { Finds indices.now (assigned_names (assignments_view assignments.now)) }
+    requires sound { AreSound (assignments_view assignments.now) (assignments_view assignments.now) names.old.items }
     ensures sound { OnOk result (AreSound (assignments_view assignments.now)
         (assignments_view assignments.now) names.new.items) }
     ensures memory { IfErr result (λ e. e ≡ Refusal.Memory) }
@@ -95,7 +107,7 @@ fn build_at(
     if index >= assignments.len() {
         return Ok(());
     }
-    let built = attempt(alloc, names, index, &assignments[index].ty)?;
+    let built = attempt(alloc, names, indices, index, &assignments[index].ty)?;
     let _ = built;
     Ok(())
 }
@@ -104,16 +116,18 @@ fn build_at(
 fn build_in_order(
     alloc: Global,
     names: &mut Vec<Named>,
+    indices: &HashMap<&str, usize>,
     assignments: &[AssignmentNotation],
     order: &[usize],
 ) -> Result<(), Refusal>
-    requires { AreSound (assignments_view assignments.now) (assignments_view assignments.now) names.old.items }
+    requires finds { Finds indices.now (assigned_names (assignments_view assignments.now)) }
+    requires sound { AreSound (assignments_view assignments.now) (assignments_view assignments.now) names.old.items }
     ensures sound { OnOk result (AreSound (assignments_view assignments.now)
         (assignments_view assignments.now) names.new.items) }
     ensures memory { IfErr result (λ e. e ≡ Refusal.Memory) }
 {
     for index in order {
-        build_at(alloc, names, assignments, *index)?;
+        build_at(alloc, names, indices, assignments, *index)?;
     }
     Ok(())
 }
@@ -122,9 +136,11 @@ fn build_in_order(
 fn build_next(
     alloc: Global,
     names: &mut Vec<Named>,
+    indices: &HashMap<&str, usize>,
     assignments: &[AssignmentNotation],
 ) -> Result<bool, Refusal>
-    requires { AreSound (assignments_view assignments.now) (assignments_view assignments.now) names.old.items }
+    requires finds { Finds indices.now (assigned_names (assignments_view assignments.now)) }
+    requires sound { AreSound (assignments_view assignments.now) (assignments_view assignments.now) names.old.items }
     ensures sound { IfOk result (λ b. AreSound (assignments_view assignments.now)
         (assignments_view assignments.now) names.new.items) }
     ensures fewer { IfOk result (λ b. b ≡ true → unbuilt names.new.items < unbuilt names.old.items) }
@@ -133,7 +149,7 @@ fn build_next(
     ensures memory { IfErr result (λ e. e ≡ Refusal.Memory) }
 {
     for (index, assignment) in assignments.iter().enumerate() {
-        if attempt(alloc, names, index, &assignment.ty)? {
+        if attempt(alloc, names, indices, index, &assignment.ty)? {
             return Ok(true);
         }
     }
@@ -144,16 +160,18 @@ fn build_next(
 fn build_all(
     alloc: Global,
     names: &mut Vec<Named>,
+    indices: &HashMap<&str, usize>,
     assignments: &[AssignmentNotation],
 ) -> Result<(), Refusal>
-    requires { AreSound (assignments_view assignments.now) (assignments_view assignments.now) names.old.items }
+    requires finds { Finds indices.now (assigned_names (assignments_view assignments.now)) }
+    requires sound { AreSound (assignments_view assignments.now) (assignments_view assignments.now) names.old.items }
     ensures sound { OnOk result (AreSound (assignments_view assignments.now)
         (assignments_view assignments.now) names.new.items) }
     ensures done { OnOk result (AreDone (look names.new.items) (assignments_view assignments.now) names.new.items) }
     ensures memory { IfErr result (λ e. e ≡ Refusal.Memory) }
 {
     'builds: loop {
-        if !build_next(alloc, names, assignments)? {
+        if !build_next(alloc, names, indices, assignments)? {
             return Ok(());
         }
     }
@@ -190,8 +208,10 @@ fn names_of(alloc: Global, assignments: &[AssignmentNotation]) -> Result<Vec<Nam
 pub(crate) fn types_of(
     alloc: Global,
     assignments: &[AssignmentNotation],
+    indices: &HashMap<&str, usize>,
     order: &[usize],
 ) -> Result<Option<Vec<Named>>, Refusal>
+    requires { Finds indices.now (assigned_names (assignments_view assignments.now)) }
     ensures sound { IfOk result (λ o. IfSome o (λ v. AreTypes (assignments_view assignments.now)
         (assignments_view assignments.now) (spec.types_of v.items))) }
     ensures none { IfOk result (λ o. o ≡ None → (ts : List Typed) → AreTypes
@@ -199,8 +219,8 @@ pub(crate) fn types_of(
     ensures memory { IfErr result (λ e. e ≡ Refusal.Memory) }
 {
     let mut names = names_of(alloc, assignments)?;
-    build_in_order(alloc, &mut names, assignments, order)?;
-    build_all(alloc, &mut names, assignments)?;
+    build_in_order(alloc, &mut names, indices, assignments, order)?;
+    build_all(alloc, &mut names, indices, assignments)?;
     if are_built(&names) {
         Ok(Some(names))
     } else {

@@ -1,5 +1,6 @@
 use Rattle.std.proofs.Common.{◌≡◌, ◌∙◌, refl, map, drop, [], ap, Some, rules}
 use Rattle.std.proofs.lemmas.List.{drop_all}
+use Rattle.asn_notation.specs.declared.notation.TypeNotation.{the_lemmas}
 use Rattle.asn_values.specs.View.{shape_of, part_of_field, branch_of}
 use Rattle.asn_module.specs.Known.{look, built_view, known_view}
 use Rattle.asn_module.specs.Meaning.{meant}
@@ -51,3 +52,9 @@ build-returns-in_ok-copy-in-Some-find t c =
     let known = c.in-Some-find.known.now.ty in
     let copied : shape_of c.in_ok-copy-in-Some-find.copy ≡ shape_of known = (rw c.get.ensures.same at c.in_ok-copy-in-Some-find.ensures) ∙ plain_of_profile (shape_of known) c.get.ensures.of_profile in
     rw same (rw copied at c.constrained.ensures)
+
+pub build-build_fields-requires-in-Some : goal.build-build_fields-requires-in-Some
+build-build_fields-requires-in-Some t c = (search (rules, the_lemmas), c.requires)
+
+pub build-build_alternatives-requires-in-Some-more : goal.build-build_alternatives-requires-in-Some-more
+build-build_alternatives-requires-in-Some-more t c = (search (rules, the_lemmas), c.requires)

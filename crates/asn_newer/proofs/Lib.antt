@@ -1,4 +1,5 @@
 pub mod Read
 pub mod Flipped
+pub mod Itself
 pub mod PerParts
 pub mod OerParts

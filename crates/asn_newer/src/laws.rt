@@ -1,6 +1,6 @@
 //! The laws of messages that another version of their type reads.
 ghost use Rattle.asn_newer.specs.Loose.{LooseCoding};
-ghost use Rattle.asn_newer.specs.NewerLaws.{PartLaws, ReadsVersions, OlderReads, NewerReads};
+ghost use Rattle.asn_newer.specs.NewerLaws.{PartLaws, ReadsItself, ReadsVersions, OlderReads, NewerReads};
 ghost use Rattle.asn_newer.specs.Rules.{per_loose, oer_loose};
 
 use asn_oer::Oer;
@@ -32,11 +32,13 @@ impl OtherVersions for Oer {
 /// What a receiver reads whose type is another version of the sender's. The call does nothing: its clauses are the
 /// laws.
 ///
+/// - `reads_itself`: a receiver of the sender's version reads the value itself, and skips nothing.
 /// - `reads_versions`: where at each marked list, at any depth, one of the two types has the additions of the other
 ///   and perhaps more, the canonical octets of the sender are read as `received` says.
 /// - `older_reads`: an older receiver reads `cut` of the value, and skips the `dropped` fields.
 /// - `newer_reads`: a newer receiver reads `wide` of the value, and skips nothing.
 pub fn version_laws<R: OtherVersions>()
+    ensures reads_itself { ReadsItself R.loose }
     ensures reads_versions { ReadsVersions R.loose }
     ensures older_reads { OlderReads R.loose }
     ensures newer_reads { NewerReads R.loose }

@@ -1,10 +1,16 @@
 use Rattle.std.proofs.Common.{true, false, List, subst}
-use Rattle.asn_newer.specs.Skipped.{Skipped}
-use Rattle.asn_newer.specs.Loose.{IsLoose}
+use Rattle.asn_newer.specs.Skipped.{Skipped, Reading}
+use Rattle.asn_newer.specs.Loose.{IsLoose, Complete, Loose}
 use Rattle.asn_newer.specs.Versions.{received}
 use Rattle.asn_newer.proofs.Flipped.{flipped, skips_nothing}
+use Rattle.asn_newer.proofs.Itself.{same_version, itself}
 use Rattle.asn_newer.proofs.Read.{message_read}
 use Rattle.asn_newer.proofs.laws.version_laws.Goals as goal
+
+pub returns-clause-reads_itself : goal.returns-clause-reads_itself
+returns-clause-reads_itself g c t v o p e =
+    let l = g.R.OtherVersions.loose in
+    subst (λ (r : Reading). Complete l.coding (Loose l t) r o) (itself l t v e.1.0) (message_read l c.keep_version_laws.ensures true true t t v o p (same_version true true t) e)
 
 pub returns-clause-reads_versions : goal.returns-clause-reads_versions
 returns-clause-reads_versions g c t u v o p q w e = message_read g.R.OtherVersions.loose c.keep_version_laws.ensures true true t u v o p w e

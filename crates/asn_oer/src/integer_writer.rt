@@ -1,11 +1,11 @@
 //! Writers of INTEGER.
-ghost use Rattle.std.specs.Prelude.{◌≡◌, ◌≤ℤ◌, ◌++◌, false, Some, None, OnOk};
+ghost use Rattle.std.specs.Prelude.{◌≡◌, ◌≤ℤ◌, false, Some, None};
 ghost use Rattle.asn_values.specs.Datum.{number};
 ghost use Rattle.asn_values.specs.Fits.{FitsNumber, lowest_integer, highest_integer};
 ghost use Rattle.asn_values.specs.Shape.{integer};
 ghost use Rattle.asn_values.specs.Profile.{InProfile};
 ghost use Rattle.asn_values.specs.View.{range_of};
-ghost use Rattle.asn_bits.specs.Numbers.{unpacked};
+ghost use Rattle.asn_oer.specs.BitsWritten.{Adds};
 ghost use Rattle.asn_oer.specs.Oer.{oer_octets, ranged};
 ghost use Rattle.asn_walk.specs.Writing.{TellsWhether};
 
@@ -26,8 +26,7 @@ pub(crate) fn write_integer(
 ) -> Result<(), EncodeFault>
     requires of_profile { InProfile (integer (range_of bounds.now)) }
     ensures of_type { TellsWhether result (FitsNumber (range_of bounds.now) whole) }
-    ensures written { OnOk result
-        (sink.new ≡ sink.old ++ unpacked (oer_octets (integer (range_of bounds.now)) (number whole))) }
+    ensures written { Adds result sink.old sink.new (oer_octets (integer (range_of bounds.now)) (number whole)) }
 {
     if !number_fits(bounds, whole) {
         return Err(EncodeFault::NotOfType);
@@ -46,7 +45,7 @@ fn write_ranged(bounds: &Bounds, whole: i128, sink: &mut BitSink) -> Result<(), 
     requires of_profile { InProfile (integer (range_of bounds.now)) }
     requires closed { bounds.now.ext ≡ false }
     requires of_type { FitsNumber (range_of bounds.now) whole }
-    ensures { OnOk result (sink.new ≡ sink.old ++ unpacked (ranged bounds.now.low bounds.now.high whole)) }
+    ensures { Adds result sink.old sink.new (ranged bounds.now.low bounds.now.high whole) }
 {
     let Some(low) = bounds.low else {
         return sink.push_least_signed_octets(whole);
@@ -62,7 +61,7 @@ fn write_ranged(bounds: &Bounds, whole: i128, sink: &mut BitSink) -> Result<(), 
 fn write_between(low: i128, high: i128, whole: i128, sink: &mut BitSink) -> Result<(), AllocError>
     requires within { (lowest_integer ≤ℤ low) × (high ≤ℤ highest_integer) }
     requires of_type { (low ≤ℤ whole) × (whole ≤ℤ high) }
-    ensures { OnOk result (sink.new ≡ sink.old ++ unpacked (ranged (Some low) (Some high) whole)) }
+    ensures { Adds result sink.old sink.new (ranged (Some low) (Some high) whole) }
 {
     if low >= 0 {
         return sink.push_number(8 * unsigned_size(high), whole as u64);
@@ -77,7 +76,7 @@ fn write_from(low: i128, whole: i128, sink: &mut BitSink) -> Result<(), AllocErr
     requires within { whole ≤ℤ highest_integer }
     requires lowest { lowest_integer ≤ℤ low }
     requires of_type { low ≤ℤ whole }
-    ensures { OnOk result (sink.new ≡ sink.old ++ unpacked (ranged (Some low) None whole)) }
+    ensures { Adds result sink.old sink.new (ranged (Some low) None whole) }
 {
     if low >= 0 {
         return sink.push_least_octets(whole as u64);

@@ -1,16 +1,21 @@
 //! The items of an ENUMERATED, and the octets of their numbers (X.696, "encoding of enumerated types").
-ghost use Rattle.std.specs.Prelude.{◌≡◌, ◌≤◌, ◌<◌, ◌+◌, ◌^◌, ◌++◌, ◌&&◌, map, length, pos};
+ghost use Rattle.std.specs.Prelude.{◌≡◌, ◌≤◌, ◌<◌, ◌+◌, ◌^◌, ◌++◌, ◌&&◌, length, pos};
 ghost use Rattle.std.specs.Int.RustNames.{int_le, int_lt};
+ghost use Rattle.asn_values.specs.Datum.{item};
+ghost use Rattle.asn_values.specs.Fits.{Fits};
 ghost use Rattle.asn_values.specs.Profile.{InProfile};
-ghost use Rattle.asn_values.specs.Shape.{enumerated, more_labels};
-ghost use Rattle.asn_values.specs.View.{label_of, more_labels_of};
+ghost use Rattle.asn_values.specs.Shape.{more_labels};
+ghost use Rattle.asn_values.specs.View.{more_labels_of};
 ghost use Rattle.asn_bits.specs.Numbers.{octets, magnitude};
 ghost use Rattle.asn_rules.specs.Components.{number_at};
 ghost use Rattle.asn_oer.specs.LeafReading.{enumeration_of, items_of};
-ghost use Rattle.asn_oer.specs.Oer.{item_number};
+ghost use Rattle.asn_oer.specs.BitsWritten.{Adds};
+ghost use Rattle.asn_oer.specs.Oer.{oer_octets, item_number};
 
+use asn_bits::BitSink;
 use asn_bits::numbers::{signed_octet_count, signed_residue};
 use asn_values::Item;
+use std::alloc::AllocError;
 
 /// How many items there are, with the additions.
 pub(crate) fn item_count(root: &[Item], more: &Option<Vec<Item>>) -> u32
@@ -25,9 +30,9 @@ pub(crate) fn item_count(root: &[Item], more: &Option<Vec<Item>>) -> u32
 
 /// The number of the item at this place, the items of the root and the additions counted from 0.
 pub(crate) fn number_at(root: &[Item], more: &Option<Vec<Item>>, place: usize) -> i64
-    requires of_profile { InProfile (enumerated (map label_of root.now) (more_labels_of more.now)) }
+    requires of_profile { InProfile (enumeration_of root.now more.now) }
     requires there { place < length root.now + length (more_labels (more_labels_of more.now)) }
-    ensures { result ≡ number_at (map label_of root.now ++ more_labels (more_labels_of more.now)) place }
+    ensures { result ≡ number_at (items_of root.now more.now) place }
 {
     if place < root.len() {
         return root[place].number;
@@ -60,4 +65,19 @@ fn is_small(number: i64) -> bool
     ensures { result ≡ (int_le (pos 0) number && int_lt number (pos 128)) }
 {
     0 <= number && number < 128
+}
+
+/// Writes the item at this place, by its number.
+pub(crate) fn write_item(
+    root: &[Item],
+    more: &Option<Vec<Item>>,
+    place: u32,
+    sink: &mut BitSink,
+) -> Result<(), AllocError>
+    requires of_profile { InProfile (enumeration_of root.now more.now) }
+    requires of_type { Fits (enumeration_of root.now more.now) (item place) }
+    ensures { Adds result sink.old sink.new (oer_octets (enumeration_of root.now more.now) (item place)) }
+{
+    let (count, octets) = octets_of(number_at(root, more, place as usize));
+    sink.push_number(8 * count, octets)
 }

@@ -2,12 +2,10 @@
 #![tactic(auto)]
 
 mod bits_reader;
-mod bits_writer;
 mod boolean_reader;
 mod counted_reader;
 mod elements;
 mod enumerated_reader;
-mod enumerated_writer;
 mod filled_reader;
 mod index_reader;
 mod integer_reader;
@@ -17,7 +15,6 @@ mod items;
 mod kinds;
 mod laws;
 mod length_reader;
-mod length_writer;
 mod octet_string_reader;
 mod octets;
 mod oer;
@@ -27,10 +24,10 @@ mod read_leaves;
 mod rules;
 mod signed_reader;
 mod sizes;
-mod string_writer;
 mod text_reader;
 mod utf8_reader;
 mod write_leaves;
+mod writer;
 
 pub use elements::Elements;
 pub use kinds::kinds_compose;

@@ -3,7 +3,7 @@ use Rattle.std.proofs.lemmas.Result.{on_ok_weaker}
 use Rattle.asn_bits.specs.Lengths.{octet_length}
 use Rattle.asn_bits.specs.Numbers.{unpacked}
 use Rattle.asn_oer.proofs.WrittenOctets.{content}
-use Rattle.asn_oer.proofs.length_writer.write_content.Goals as goal
+use Rattle.asn_oer.proofs.writer.write_content.Goals as goal
 
 pub returns : goal.returns
 returns c =

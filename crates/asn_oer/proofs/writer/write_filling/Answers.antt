@@ -1,7 +1,7 @@
 use Rattle.std.proofs.Common.{◌++◌, List, ℕ, ◌∙◌, ap}
 use Rattle.std.proofs.lemmas.Result.{on_ok_weaker}
 use Rattle.asn_oer.proofs.WrittenOctets.{filling_bits}
-use Rattle.asn_oer.proofs.bits_writer.write_filling.Goals as goal
+use Rattle.asn_oer.proofs.writer.write_filling.Goals as goal
 
 pub returns : goal.returns
 returns c =

@@ -2,10 +2,13 @@ use Rattle.std.proofs.Common.{◌++◌, List, ℕ, sym, ◌∙◌, ap}
 use Rattle.std.proofs.lemmas.Result.{on_ok_weaker}
 use Rattle.asn_bits.specs.Numbers.{bits, padding}
 use Rattle.asn_bits.proofs.Octets.{length-digits}
+use Rattle.asn_oer.specs.Rules.{oer_ruling}
+use Rattle.asn_oer.specs.Walk.{oer_coding}
 use Rattle.asn_oer.proofs.WrittenOctets.{digits_bits, filled_written, variable_written}
-use Rattle.asn_oer.proofs.bits_writer.write_bitmap.Goals as goal
+use Rattle.asn_oer.proofs.write_leaves.OerWriteLeaves.write_addition_bitmap.Goals as goal
 
 pub returns : goal.returns
+unfolding oer_coding oer_ruling
 returns c =
     let n = c.args.count in
     let bs = bits n c.args.bitmap in

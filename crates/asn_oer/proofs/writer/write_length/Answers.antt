@@ -2,7 +2,7 @@ use Rattle.std.proofs.Common.{◌≡◌, ◌+◌, ◌*◌, ◌++◌, ℕ, List, 
 use Rattle.std.proofs.lemmas.Result.{on_ok_weaker}
 use Rattle.asn_bits.specs.Numbers.{bits}
 use Rattle.asn_oer.proofs.WrittenOctets.{short_length, long_length}
-use Rattle.asn_oer.proofs.length_writer.write_length.Goals as goal
+use Rattle.asn_oer.proofs.writer.write_length.Goals as goal
 
 pub returns-then-length-lt-LONG : goal.returns-then-length-lt-LONG
 returns-then-length-lt-LONG c =

@@ -7,9 +7,11 @@ use Rattle.asn_bits.proofs.Octets.{length-digits}
 use Rattle.asn_bits.proofs.Prefixes.{bool_byte-is, bit_below}
 use Rattle.asn_bits.specs.Sink.{bit_of}
 use Rattle.asn_walk.specs.Writing.{mark_bits}
+use Rattle.asn_oer.specs.Rules.{oer_ruling}
+use Rattle.asn_oer.specs.Walk.{oer_coding}
 use Rattle.asn_oer.proofs.WrittenOctets.{digits_bits, filled_written}
-use Rattle.asn_oer.proofs.bits_writer.write_preamble.Goals.{in-Some+in_ok-push, in_default}
-use Rattle.asn_oer.proofs.bits_writer.write_preamble.Goals as goal
+use Rattle.asn_oer.proofs.write_leaves.OerWriteLeaves.write_preamble.Goals.{in-Some+in_ok-push, in_default}
+use Rattle.asn_oer.proofs.write_leaves.OerWriteLeaves.write_preamble.Goals as goal
 
 -- the extension bit is a bit, where there is one
 one_mark : (e : Option Bool) → bit_of (is_some e) ≡ length (mark_bits e)
@@ -21,6 +23,7 @@ mark_is_bits None = tt
 mark_is_bits (Some b) = (bit_below b, tt)
 
 pub returns : goal.returns
+unfolding oer_coding oer_ruling
 returns c =
     let old = c.args.sink.now in
     let e = c.args.extended in

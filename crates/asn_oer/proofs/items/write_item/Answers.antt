@@ -9,7 +9,7 @@ use Rattle.asn_rules.specs.Components.{number_at}
 use Rattle.asn_oer.specs.Oer.{item_number}
 use Rattle.asn_oer.proofs.WrittenItems.{item_kept, item_narrow}
 use Rattle.asn_oer.proofs.WrittenOctets.{plain}
-use Rattle.asn_oer.proofs.enumerated_writer.write_item.Goals as goal
+use Rattle.asn_oer.proofs.items.write_item.Goals as goal
 
 pub octets_of-count-requires : goal.octets_of-count-requires
 octets_of-count-requires c =

@@ -2,9 +2,9 @@
 ghost use Rattle.asn_bits.specs.Lengths.{joined};
 ghost use Rattle.asn_oer.specs.Walk.{oer_coding};
 
-use crate::integer_writer::write_integer;
-use crate::items::write_item;
-use crate::oer::Oer;
+use crate::enumerated::write_item;
+use crate::integer::write_integer;
+use crate::rules::Oer;
 use crate::writer::{write_bits, write_content, write_filling, write_header, write_sized};
 use asn_bits::BitSink;
 use asn_rules::EncodeFault;

@@ -1,5 +1,6 @@
 //! Readers of numbers in whole octets, each refused at the first octet after which no number of the set can follow:
-//! in a fixed count of octets, after their count, as a length, and bits that zeros fill up.
+//! in a fixed count of octets, after their count, as a length, and bits that zeros fill up. A reader answers `Short` if
+//! the octets end before what it reads does, and `Refused` with the reason that it is given or that its docstring names.
 ghost use Rattle.std.specs.Prelude.{◌≡◌, ◌≤◌, ◌*◌, IfOk, IfErr, OnOk, length, ℕ, pos, ◌+ℤ◌, ◌<◌, ◌+◌, ◌^◌, ◌%◌, ◌-◌};
 ghost use Rattle.asn_values.specs.Fits.{lowest_integer};
 ghost use Rattle.asn_bits.specs.Numbers.{packed};
@@ -43,10 +44,6 @@ pub(crate) fn in_octets(stop: Stop) -> Stop
 }
 
 /// Reads a number of the set in `k` octets: in one step if they are present and hold one.
-///
-/// # Errors
-/// `Short` if the octets end before the number does. `Refused`, with the reason `why`, at the first octet after which
-/// no number of the set can follow.
 #[inline(always)]
 pub(crate) fn read_octets(
     k: u32,
@@ -70,9 +67,6 @@ pub(crate) fn read_octets(
 }
 
 /// Reads a number of the intervals in `k` octets: in one step if they are present and hold one.
-///
-/// # Errors
-/// As `read_octets`.
 pub(crate) fn read_octets_among(
     k: u32,
     numbers: Intervals,
@@ -96,10 +90,6 @@ pub(crate) fn read_octets_among(
 
 /// Reads a number of the set in the fewest octets, after their count in an octet (X.696, "encoding of integer
 /// types").
-///
-/// # Errors
-/// `Short` if the octets end before the number does. `Refused` at the first octet after which no number of the set
-/// can follow, with the reason `in_count` in the octet of the count and `in_number` after it.
 pub(crate) fn read_counted(
     set: NumberSet,
     in_count: Why,
@@ -168,10 +158,6 @@ pub(crate) fn with_count(set: NumberSet, count: u32) -> NumberSet
 
 /// Reads an integer of the set, in the fewest octets of two's complement after their count in an octet. Returns its
 /// offset, how far it lies above the lowest integer of the profile.
-///
-/// # Errors
-/// `Short` if the octets end before the integer does. `Refused` at the first octet after which no integer of the set
-/// can follow, with the reason `in_count` in the octet of the count and `in_number` after it.
 pub(crate) fn read_counted_signed(
     set: OffsetSet,
     in_count: Why,
@@ -193,10 +179,6 @@ pub(crate) fn read_counted_signed(
 }
 
 /// Reads an integer of the set in `count` octets of two's complement. Returns its offset.
-///
-/// # Errors
-/// `Short` if the octets end before the integer does. `Refused`, with the reason `why`, at the first octet after which
-/// no integer of the set can follow.
 pub(crate) fn read_signed_octets(
     count: u32,
     set: OffsetSet,
@@ -220,10 +202,7 @@ pub(crate) fn read_signed_octets(
 }
 
 /// Reads a length from `low` to `high`: below 128 in one octet, else in the fewest octets after 128 and their count.
-///
-/// # Errors
-/// `Short` if the octets end before the length does. `Refused`, with the reason `Length`, at the first octet after
-/// which no such length can follow.
+/// A refusal has the reason `Length`.
 pub(crate) fn read_length(low: u64, high: u64, units: &mut BitCursor<'_>) -> Result<u64, Stop>
     requires at_octet { AtOctet units.old }
     requires ordered { low ≤ high }
@@ -266,10 +245,7 @@ fn first_octets(low: u64, high: u64) -> Intervals
 
 /// Reads a number up to `most` in `marks` bits and one from `low` on in `count` bits, and the zeros that fill up the
 /// last octet.
-///
-/// # Errors
-/// `Short` if the octets end before. `Refused` at the first octet after which no such numbers can follow, with the
-/// reason `in_zeros` in the zeros, else `Extension`.
+/// A refusal has the reason `in_zeros` in the zeros, else `Extension`.
 pub(crate) fn read_filled(
     marks: u32,
     most: u64,

@@ -20,9 +20,7 @@ pub(crate) fn is_fixed(size: &Size) -> bool
 }
 
 /// Reads how many elements a list of this size has: an INTEGER from 0 on.
-///
-/// # Errors
-/// As `read_counted`, with the reason `Length`.
+/// A refusal has the reason `Length`.
 pub(crate) fn read_quantity(size: &Size, units: &mut BitCursor<'_>) -> Result<usize, Stop>
     requires at_octet { AtOctet units.old }
     requires of_profile { IsSizeOfProfile (size_range_of size.now) }

@@ -1,4 +1,6 @@
-//! Readers of strings, and of octets after their length (X.696, "length determinant", "open type").
+//! Readers of strings, and of octets after their length (X.696, "length determinant", "open type"). Each answers `Short`
+//! if the octets end before what it reads does, `Refused` as `read_length` for a length, and `Memory` if an allocation
+//! failed.
 ghost use Rattle.std.specs.Prelude.{◌≤◌, IfOk, IfErr, OnOk, ◌≡◌, string_bytes, ◌<◌, ◌/◌, ◌%◌, ◌^◌, ◌++◌, map, length};
 ghost use Rattle.asn_values.specs.Datum.{octet_list, characters, unicode, bit_list};
 ghost use Rattle.asn_values.specs.Profile.{InProfile};
@@ -23,9 +25,6 @@ use asn_values::{Size, TextKind};
 use std::alloc::{AllocError, Global};
 
 /// Reads `count` octets, all at once.
-///
-/// # Errors
-/// `Short` if fewer are left. `Memory` if an allocation failed.
 pub(crate) fn read_row(
     alloc: Global,
     count: usize,
@@ -45,9 +44,6 @@ pub(crate) fn read_row(
 }
 
 /// Reads octets after their length, which is from `low` to `high`.
-///
-/// # Errors
-/// As `read_length` and `read_row`.
 pub(crate) fn read_octets_behind(
     alloc: Global,
     low: u64,
@@ -66,9 +62,6 @@ pub(crate) fn read_octets_behind(
 
 /// Reads how many octets a string of this size has: as many as the size says, or, where it leaves more than one count,
 /// the length that stands before them.
-///
-/// # Errors
-/// As `read_length`.
 pub(crate) fn read_count(size: &Size, units: &mut BitCursor<'_>) -> Result<usize, Stop>
     requires at_octet { AtOctet units.old }
     requires of_profile { IsSizeOfProfile (size_range_of size.now) }
@@ -84,9 +77,6 @@ pub(crate) fn read_count(size: &Size, units: &mut BitCursor<'_>) -> Result<usize
 }
 
 /// Reads the octets of an OCTET STRING (X.696, "encoding of octet string types").
-///
-/// # Errors
-/// As `read_count` and `read_row`.
 pub(crate) fn read_octet_string(
     alloc: Global,
     size: &Size,
@@ -106,11 +96,8 @@ pub(crate) fn read_octet_string(
 
 /// Reads the characters of a string, an octet each: as many as the size says, or, where it leaves more than one count,
 /// after their length.
-///
-/// # Errors
-/// As `read_count`. `Short` if the octets end before the string does, and are characters of the kind. `Refused`, with
-/// the reason `Character`, at the first octet that is none, also where octets are missing after it. `Memory` if an
-/// allocation failed.
+/// The first octet that is no character of the kind is refused, with the reason `Character`, also where octets are
+/// missing after it.
 pub(crate) fn read_text(
     alloc: Global,
     kind: TextKind,
@@ -130,9 +117,6 @@ pub(crate) fn read_text(
 }
 
 /// Reads `count` characters.
-///
-/// # Errors
-/// As `read_text`.
 fn read_characters(
     alloc: Global,
     kind: TextKind,
@@ -184,9 +168,7 @@ fn is_character(kind: TextKind, octet: u8) -> bool
 }
 
 /// Reads a UTF8String: its octets after their length, and that they are UTF-8 is asked once they have all come.
-///
-/// # Errors
-/// As `read_octets_behind`. `Refused`, with the reason `Sealed`, at the last octet where they are not UTF-8.
+/// Where they are not, the last octet is refused, with the reason `Sealed`.
 pub(crate) fn read_utf8_string(alloc: Global, units: &mut BitCursor<'_>) -> Result<String, Stop>
     requires at_octet { AtOctet units.old }
     ensures at_octet { OnOk result (AtOctet units.new) }
@@ -205,9 +187,6 @@ pub(crate) fn read_utf8_string(alloc: Global, units: &mut BitCursor<'_>) -> Resu
 
 /// Reads the bits of a BIT STRING: as many as the size says, or, where it leaves more than one count, after their
 /// length and the number of unused bits.
-///
-/// # Errors
-/// As `read_packed` and `read_variable`.
 pub(crate) fn read_bit_string(
     alloc: Global,
     size: &Size,
@@ -228,10 +207,7 @@ pub(crate) fn read_bit_string(
 }
 
 /// Reads bits of a count from `low` to `high`: the length of what follows, the number of unused bits, and the bits.
-///
-/// # Errors
-/// As `read_length` and `read_packed`. `Refused`, with the reason `Padding`, at the number of unused bits where it
-/// leaves no such count.
+/// The number of unused bits is refused, with the reason `Padding`, where it leaves no such count.
 fn read_variable(
     alloc: Global,
     low: u64,
@@ -257,10 +233,7 @@ fn read_variable(
 }
 
 /// Reads `count` bits, and the zeros that fill up the last octet.
-///
-/// # Errors
-/// `Short` if fewer octets are left than the bits fill. `Refused`, with the reason `Padding`, at the last octet where
-/// it does not end in zeros. `Memory` if an allocation failed.
+/// The last octet is refused, with the reason `Padding`, where it does not end in zeros.
 fn read_packed(alloc: Global, count: usize, units: &mut BitCursor<'_>) -> Result<Vec<bool>, Stop>
     requires at_octet { AtOctet units.old }
     ensures at_octet { OnOk result (AtOctet units.new) }

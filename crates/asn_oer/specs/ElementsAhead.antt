@@ -1,6 +1,6 @@
 -- What is ahead of the reader of a list, as the program holds it.
-use Rattle.asn_oer.specs.declared.elements.Elements.{Elements}
-use Rattle.asn_oer.specs.declared.elements.Elements.TheVariants as some
+use Rattle.asn_oer.specs.declared.read_leaves.Elements.{Elements}
+use Rattle.asn_oer.specs.declared.read_leaves.Elements.TheVariants as some
 use Rattle.asn_walk.specs.Ahead.{Ahead, items, end}
 
 abbrev pub ahead_of : Elements → Ahead

@@ -1,23 +1,36 @@
 //! What Canonical OER reads by itself: the simple types, and the parts of the composite ones.
-ghost use Rattle.std.specs.Prelude.{⊤};
+ghost use Rattle.std.specs.Prelude.{◌≡◌, ◌≤◌, ℕ, IfOk, IfErr, OnOk, ⊤};
+ghost use Rattle.std.specs.Option.{option_map};
+ghost use Rattle.asn_values.specs.Datum.{truth};
+ghost use Rattle.asn_values.specs.Shape.{boolean};
+ghost use Rattle.asn_bits.specs.Sets.{Among, Meets};
+ghost use Rattle.asn_rules.specs.Listed.{Spelt};
+ghost use Rattle.asn_walk.specs.Coding.{AreFew};
 ghost use Rattle.asn_oer.specs.ElementsAhead.{ahead_of};
-ghost use Rattle.asn_oer.specs.Walk.{oer_coding};
+ghost use Rattle.asn_oer.specs.Oer.{oer};
+ghost use Rattle.asn_oer.specs.Reading.{AtOctet, ReadsOctets, StopsAtOctets, TruthOctet};
+ghost use Rattle.asn_oer.specs.Walk.{oer_coding, mark_of, alternatives_of};
 
-use crate::bits_reader::read_bit_string;
-use crate::boolean_reader::read_boolean;
-use crate::elements::Elements;
-use crate::enumerated_reader::read_item;
-use crate::integer_reader::read_integer;
-use crate::octet_string_reader::{self, read_octet_string};
-use crate::oer::Oer;
-use crate::text_reader::read_text;
-use crate::utf8_reader::read_utf8_string;
-use crate::{index_reader, octets, preamble_reader};
-use asn_bits::BitCursor;
-use asn_rules::Stop;
+use crate::enumerated::read_item;
+use crate::integer::read_integer;
+use crate::octets::{self, read_filled, read_length, read_octets, read_octets_among};
+use crate::rules::Oer;
+use crate::sizes::read_quantity;
+use crate::string_reader::{
+    read_bit_string, read_octet_string, read_octets_behind, read_text, read_utf8_string,
+};
+use asn_bits::{BitCursor, Intervals};
+use asn_rules::{MAX_OCTETS, NumberSet, Stop, Why};
 use asn_values::{AsnType, Size, Value};
 use asn_walk::{Index, Preamble, ReadLeaves};
 use std::alloc::Global;
+
+/// What is still to be read of a list: a number of elements, or nothing.
+#[derive(Drop)]
+pub enum Elements {
+    Items(usize),
+    End,
+}
 
 impl ReadLeaves for Oer {
     ghost rules = { oer_coding };
@@ -85,13 +98,29 @@ impl ReadLeaves for Oer {
         additions: Option<usize>,
         units: &mut BitCursor<'_>,
     ) -> Result<Preamble, Stop> {
-        preamble_reader::read_preamble(count, additions, units)
+        let (marks, most) = marks(additions);
+        let (mark, bitmap) = read_filled(marks, most, count, 0, Why::Padding, units)?;
+        Ok(Preamble {
+            extended: 0 < mark,
+            bitmap,
+        })
     }
 
     #[inline(always)]
     #[tactic(auto, unfolding(crate::specs::Walk::oer_coding, crate::specs::Rules::oer_ruling))]
     fn read_addition_bitmap(count: u32, units: &mut BitCursor<'_>) -> Result<u64, Stop> {
-        preamble_reader::read_addition_bitmap(count, units)
+        // a BIT STRING with its length and the count of its unused bits
+        let length = u64::from((count + 7) / 8 + 1);
+        let unused = u64::from((8 - count % 8) % 8);
+        read_length(length, length, units)?;
+        let only = NumberSet {
+            low: unused,
+            high: unused,
+            excluded: None,
+        };
+        read_octets(1, only, Why::Extension, units)?;
+        let (_, bitmap) = read_filled(0, 0, count, 1, Why::Extension, units)?;
+        Ok(bitmap)
     }
 
     #[inline(always)]
@@ -101,13 +130,24 @@ impl ReadLeaves for Oer {
         additions: Option<usize>,
         units: &mut BitCursor<'_>,
     ) -> Result<Index, Stop> {
-        index_reader::read_index(root, additions, units)
+        // the octet of a context-specific tag, which counts the alternatives from 0, root first
+        let tags = NumberSet {
+            low: 128,
+            high: 127 + alternatives(root, additions) as u64,
+            excluded: None,
+        };
+        let tag = (read_octets(1, tags, Why::Number, units)? - 128) as usize;
+        if tag < root {
+            Ok(Index::Root(tag))
+        } else {
+            Ok(Index::Added(tag - root))
+        }
     }
 
     #[inline(always)]
     #[tactic(auto, unfolding(crate::specs::Walk::oer_coding, crate::specs::Rules::oer_ruling))]
     fn read_open_octets(alloc: Global, units: &mut BitCursor<'_>) -> Result<Vec<u8>, Stop> {
-        octet_string_reader::read_open_octets(alloc, units)
+        read_octets_behind(alloc, 0, MAX_OCTETS as u64, units)
     }
 
     #[inline(always)]
@@ -119,7 +159,7 @@ impl ReadLeaves for Oer {
     #[inline(always)]
     #[tactic(auto, unfolding(crate::specs::Walk::oer_coding, crate::specs::Rules::oer_ruling))]
     fn start_list(size: &Size, units: &mut BitCursor<'_>) -> Result<Elements, Stop> {
-        Elements::start(size, units)
+        Ok(Elements::Items(read_quantity(size, units)?))
     }
 
     #[inline(always)]
@@ -128,9 +168,69 @@ impl ReadLeaves for Oer {
         fragments: &mut Elements,
         _units: &mut BitCursor<'_>,
     ) -> Result<Option<usize>, Stop> {
-        Ok(fragments.next())
+        match fragments {
+            Elements::End => Ok(None),
+            Elements::Items(count) => {
+                let count = *count;
+                *fragments = Elements::End;
+                Ok(Some(count))
+            }
+        }
     }
 
     #[inline(always)]
     fn keep_laws() {}
+}
+
+/// How many bits the extension bit has, and the highest number that they may hold: 1 only where additions are listed.
+fn marks(additions: Option<usize>) -> (u32, u64)
+    ensures { result ≡ mark_of additions }
+{
+    match additions {
+        None => (0, 0),
+        Some(0) => (1, 0),
+        Some(_) => (1, 1),
+    }
+}
+
+/// How many alternatives there are.
+fn alternatives(root: usize, additions: Option<usize>) -> usize
+    requires { AreFew root additions }
+    ensures count { result ≡ alternatives_of root additions }
+    ensures few { result ≤ 63 }
+{
+    match additions {
+        None => root,
+        Some(more) => root + more,
+    }
+}
+
+/// Reads a truth value, but for the one that is left out: FALSE is the octet 0 and TRUE the octet 255.
+pub(crate) fn read_boolean(except: Option<bool>, units: &mut BitCursor<'_>) -> Result<bool, Stop>
+    requires at_octet { AtOctet units.old }
+    ensures at_octet { OnOk result (AtOctet units.new) }
+    ensures done { IfOk result (λ b.
+        ReadsOctets (Spelt oer (option_map truth except) boolean) (truth b) units.old units.new) }
+    ensures stop { IfErr result (λ why. StopsAtOctets (Spelt oer (option_map truth except) boolean) units.old why) }
+{
+    let why = if except.is_some() {
+        Why::Default
+    } else {
+        Why::Number
+    };
+    let octet = read_octets_among(1, truth_octets(except), why, units)?;
+    Ok(0 < octet)
+}
+
+/// The octets of the truth values.
+fn truth_octets(except: Option<bool>) -> Intervals
+    ensures there { (n : ℕ) → Among result n → TruthOctet except n }
+    ensures back { (n : ℕ) → TruthOctet except n → Among result n }
+    ensures some { Meets (λ n. Among result n) 0 8 }
+{
+    match except {
+        None => Intervals::one(0, 0).and(255, 255),
+        Some(false) => Intervals::one(255, 255),
+        Some(true) => Intervals::one(0, 0),
+    }
 }

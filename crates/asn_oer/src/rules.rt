@@ -6,13 +6,15 @@ ghost use Rattle.asn_rules.specs.Codec.{Decoded};
 ghost use Rattle.asn_rules.specs.Rereading.{FedAtOnce, TellsIfNone, Keeps};
 ghost use Rattle.asn_oer.specs.Rules.{oer_ruling};
 
-use crate::oer::Oer;
 use asn_rules::{
     DecodeFault, EncodeFault, FeedFault, OpenFault, Reads, Rereading, Rules, Step, Truncated,
     rereading,
 };
 use asn_values::{Checked, Value};
 use std::alloc::{AllocError, Global};
+
+/// Canonical OER (X.696), as the walk over types and values asks for a set of encoding rules: its units are octets.
+pub struct Oer;
 
 impl Reads for Oer {
     ghost ruling = { oer_ruling };

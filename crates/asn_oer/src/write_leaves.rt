@@ -1,24 +1,16 @@
 //! What Canonical OER writes by itself: the simple types, and the parts of the composite ones.
-ghost use Rattle.std.specs.Prelude.{◌≡◌, ◌++◌, OnOk};
-ghost use Rattle.asn_values.specs.Fits.{Fits};
-ghost use Rattle.asn_values.specs.Shape.{boolean, null, integer};
-ghost use Rattle.asn_values.specs.Profile.{InProfile};
-ghost use Rattle.asn_values.specs.View.{datum_of, range_of};
 ghost use Rattle.asn_bits.specs.Lengths.{joined};
-ghost use Rattle.asn_bits.specs.Numbers.{unpacked};
-ghost use Rattle.asn_walk.specs.Writing.{TellsWhether};
-ghost use Rattle.asn_oer.specs.Oer.{oer_octets};
 ghost use Rattle.asn_oer.specs.Walk.{oer_coding};
 
-use crate::bits_writer;
-use crate::enumerated_writer::write_enumerated;
-use crate::integer_writer::write_integer;
-use crate::length_writer::write_content;
-use crate::oer::Oer;
-use crate::string_writer::{write_bit_string, write_octet_string, write_text, write_utf8};
+use crate::enumerated::write_item;
+use crate::integer::write_integer;
+use crate::rules::Oer;
+use crate::writer::{write_bits, write_content, write_filling, write_header, write_sized};
 use asn_bits::BitSink;
 use asn_rules::EncodeFault;
-use asn_values::{AsnType, Bounds, Size, Value};
+use asn_values::{
+    AsnType, Bounds, Size, Value, item_fits, length_fits, octets_fit, text_fits, unicode_fits,
+};
 use asn_walk::{Index, WriteLeaves};
 use std::alloc::AllocError;
 
@@ -36,16 +28,29 @@ impl WriteLeaves for Oer {
     #[inline(always)]
     #[tactic(auto, unfolding(crate::specs::Walk::oer_coding, crate::specs::Rules::oer_ruling))]
     fn write_simple(ty: &AsnType, value: &Value, sink: &mut BitSink) -> Result<(), EncodeFault> {
-        match ty {
-            AsnType::Bool => write_boolean(value, sink),
-            AsnType::Null => write_null(value),
-            AsnType::Int(bounds) => write_whole(bounds, value, sink),
-            AsnType::Enum { root, ext } => write_enumerated(root, ext, value, sink),
-            AsnType::Bits(size) => write_bit_string(size, value, sink),
-            AsnType::Octets(size) => write_octet_string(size, value, sink),
-            AsnType::Text(kind, size) => write_text(*kind, size, value, sink),
-            AsnType::Utf8 => write_utf8(value, sink),
-            AsnType::Seq { .. } | AsnType::SeqOf(..) | AsnType::Choice { .. } => unreachable!(),
+        match (ty, value) {
+            (AsnType::Bool, Value::Bool(truth)) => {
+                Ok(sink.push_number(8, if *truth { 0xff } else { 0 })?)
+            }
+            (AsnType::Null, Value::Null) => Ok(()),
+            (AsnType::Int(bounds), Value::Int(whole)) => write_integer(bounds, *whole, sink),
+            (AsnType::Enum { root, ext }, Value::Enum(index)) if item_fits(root, ext, *index) => {
+                Ok(write_item(root, ext, *index, sink)?)
+            }
+            (AsnType::Bits(size), Value::Bits(truths)) if length_fits(size, truths.len()) => {
+                Ok(write_bits(size, truths.as_slice(), sink)?)
+            }
+            (AsnType::Octets(size), Value::Octets(data)) if octets_fit(size, data.as_slice()) => {
+                Ok(write_sized(size, data.as_slice(), sink)?)
+            }
+            (AsnType::Text(kind, size), Value::Text(text))
+                if text_fits(*kind, size, text.as_slice()) => {
+                Ok(write_sized(size, text.as_slice(), sink)?)
+            }
+            (AsnType::Utf8, Value::Utf8(text)) if unicode_fits(text) => {
+                Ok(write_content(text.as_bytes(), sink)?)
+            }
+            _ => Err(EncodeFault::NotOfType),
         }
     }
 
@@ -63,7 +68,12 @@ impl WriteLeaves for Oer {
         bitmap: u64,
         sink: &mut BitSink,
     ) -> Result<(), AllocError> {
-        bits_writer::write_preamble(extended, count, bitmap, sink)
+        let mark = usize::from(extended.is_some());
+        if let Some(bit) = extended {
+            sink.push(bit)?;
+        }
+        sink.push_number(count, bitmap)?;
+        write_filling(mark + count as usize, sink)
     }
 
     #[tactic(auto, unfolding(crate::specs::Walk::oer_coding, crate::specs::Rules::oer_ruling))]
@@ -72,7 +82,9 @@ impl WriteLeaves for Oer {
         bitmap: u64,
         sink: &mut BitSink,
     ) -> Result<(), AllocError> {
-        bits_writer::write_bitmap(count, bitmap, sink)
+        write_header(count as usize, sink)?;
+        sink.push_number(count, bitmap)?;
+        write_filling(count as usize, sink)
     }
 
     #[inline(always)]
@@ -125,39 +137,4 @@ impl WriteLeaves for Oer {
 
     #[inline(always)]
     fn keep_write_laws() {}
-}
-
-/// Writes a truth value in an octet, all bits 1 for TRUE and 0 for FALSE (X.696, "encoding of boolean types").
-fn write_boolean(value: &Value, sink: &mut BitSink) -> Result<(), EncodeFault>
-    ensures of_type { TellsWhether result (Fits boolean (datum_of value.now)) }
-    ensures written { OnOk result (sink.new ≡ sink.old ++ unpacked (oer_octets boolean (datum_of value.now))) }
-{
-    let Value::Bool(truth) = value else {
-        return Err(EncodeFault::NotOfType);
-    };
-    sink.push_number(8, if *truth { 0xff } else { 0 })?;
-    Ok(())
-}
-
-/// Tells whether a value is NULL, which has no octets (X.696, "encoding of null types").
-fn write_null(value: &Value) -> Result<(), EncodeFault>
-    ensures of_type { TellsWhether result (Fits null (datum_of value.now)) }
-{
-    match value {
-        Value::Null => Ok(()),
-        _ => Err(EncodeFault::NotOfType),
-    }
-}
-
-/// Writes a value, where it is a number of the range.
-fn write_whole(bounds: &Bounds, value: &Value, sink: &mut BitSink) -> Result<(), EncodeFault>
-    requires of_profile { InProfile (integer (range_of bounds.now)) }
-    ensures of_type { TellsWhether result (Fits (integer (range_of bounds.now)) (datum_of value.now)) }
-    ensures written { OnOk result
-        (sink.new ≡ sink.old ++ unpacked (oer_octets (integer (range_of bounds.now)) (datum_of value.now))) }
-{
-    let Value::Int(whole) = value else {
-        return Err(EncodeFault::NotOfType);
-    };
-    write_integer(bounds, *whole, sink)
 }

@@ -1,0 +1,10 @@
+use Rattle.std.proofs.Common.{◌≡◌, ◌<◌, ◌^◌, ◌++◌}
+use Rattle.asn_bits.specs.Numbers.{octets, packed}
+use Rattle.asn_oer.specs.LeafReading.{items_of}
+use Rattle.asn_oer.specs.Reading.{AtOctet}
+use Rattle.asn_oer.proofs.ItemReading.{Begun}
+use Rattle.asn_oer.proofs.enumerated.read_item.Given as goal
+
+abbrev pub invariant-loop-taken : goal.invariant-loop-taken
+invariant-loop-taken l =
+    AtOctet l.units × (packed l.fn.units ≡ octets l.taken l.begun ++ packed l.units) × (l.begun < 256 ^ l.taken) × Begun (items_of l.root l.more) l.except (octets l.taken l.begun)

@@ -1,0 +1,14 @@
+use Rattle.asn_oer.specs.Oer.{oer_fields}
+use Rattle.asn_oer.proofs.Octetwise.{spells_octets, spells_whole, stops_octets}
+use Rattle.asn_oer.proofs.SignedReading.{fixed_in_octets}
+use Rattle.asn_oer.proofs.octets.read_signed_octets.Goals as goal
+
+pub returns-in-Ok-clause-at_octet : goal.returns-in-Ok-clause-at_octet
+returns-in-Ok-clause-at_octet c = spells_whole (fixed_in_octets c.args.count c.args.set) oer_fields (c.in-Ok.ensures.done oer_fields) c.requires.at_octet
+
+pub returns-in-Ok-clause-done : goal.returns-in-Ok-clause-done
+returns-in-Ok-clause-done c = spells_octets (fixed_in_octets c.args.count c.args.set) oer_fields (c.in-Ok.ensures.done oer_fields)
+
+pub returns-in-Err-clause-stop : goal.returns-in-Err-clause-stop
+returns-in-Err-clause-stop c =
+    rw c.in_octets.ensures (stops_octets (fixed_in_octets c.args.count c.args.set) oer_fields c.args.units.now c.in-Err.stop c.octets_left.ensures.bits c.requires.at_octet (c.in-Err.ensures.stop oer_fields))

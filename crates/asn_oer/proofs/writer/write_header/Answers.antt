@@ -1,0 +1,11 @@
+use Rattle.std.proofs.Common.{◌+◌, ◌/◌, ◌∙◌, arith}
+use Rattle.std.proofs.lemmas.Result.{on_ok_weaker}
+use Rattle.asn_oer.proofs.WrittenOctets.{header_bits}
+use Rattle.asn_oer.proofs.writer.write_header.Goals as goal
+
+pub returns : goal.returns
+returns c =
+    let n = c.args.count in
+    on_ok_weaker c.push_number.result
+    (λ e. e ∙ header_bits c.args.sink.now c.write_length.new.sink n (1 + (n + 7) / 8) c.from.result (omega arith) (c.from.ensures ∙ c.unused.ensures) c.in_ok-write_length.ensures)
+    c.push_number.ensures.ok

@@ -1,0 +1,175 @@
+//! ENUMERATED (X.696, "encoding of enumerated types").
+ghost use Rattle.std.specs.Prelude.{◌≡◌, ◌≤◌, ◌<◌, ◌+◌, ◌^◌, ◌++◌, ◌&&◌, length, pos, ℕ, List, IfOk, IfErr, OnOk, IfSome, IsNone};
+ghost use Rattle.std.specs.Int.RustNames.{int_le, int_lt};
+ghost use Rattle.asn_values.specs.Datum.{item};
+ghost use Rattle.asn_values.specs.Fits.{Fits};
+ghost use Rattle.asn_values.specs.Profile.{InProfile};
+ghost use Rattle.asn_values.specs.Shape.{more_labels};
+ghost use Rattle.asn_values.specs.View.{more_labels_of};
+ghost use Rattle.asn_bits.specs.Numbers.{octets, magnitude};
+ghost use Rattle.asn_rules.specs.Components.{number_at};
+ghost use Rattle.asn_rules.specs.Languages.{Inhabited};
+ghost use Rattle.asn_oer.specs.LeafReading.{enumeration_of, items_of, ItemsBut, ItemBegins};
+ghost use Rattle.asn_oer.specs.BitsWritten.{Adds};
+ghost use Rattle.asn_oer.specs.Oer.{oer_octets, item_number};
+ghost use Rattle.asn_oer.specs.Reading.{AtOctet, ReadsOctets, StopsAtOctets};
+
+use crate::octets::octets_left;
+use asn_bits::numbers::{signed_octet_count, signed_residue};
+use asn_bits::{BitCursor, BitSink};
+use asn_rules::{Stop, Why};
+use asn_values::Item;
+use std::alloc::AllocError;
+
+/// How many items there are, with the additions.
+pub(crate) fn item_count(root: &[Item], more: &Option<Vec<Item>>) -> u32
+    requires of_profile { InProfile (enumeration_of root.now more.now) }
+    ensures { result ≡ length (items_of root.now more.now) }
+{
+    match more {
+        Some(items) => (root.len() + items.len()) as u32,
+        None => root.len() as u32,
+    }
+}
+
+/// The number of the item at this place, the items of the root and the additions counted from 0.
+pub(crate) fn number_at(root: &[Item], more: &Option<Vec<Item>>, place: usize) -> i64
+    requires of_profile { InProfile (enumeration_of root.now more.now) }
+    requires there { place < length root.now + length (more_labels (more_labels_of more.now)) }
+    ensures { result ≡ number_at (items_of root.now more.now) place }
+{
+    if place < root.len() {
+        return root[place].number;
+    }
+    match more {
+        Some(items) => items.as_slice()[place - root.len()].number,
+        None => unreachable!(),
+    }
+}
+
+/// The octets of the number of an item, how many and the number that they are: one octet from 0 to 127, and else 128
+/// and a count of octets, and the number in the fewest octets of two's complement.
+pub(crate) fn octets_of(number: i64) -> (u32, u64)
+    requires narrow { magnitude number < 2147483648 }
+    ensures few { result.0 ≤ 5 }
+    ensures fits { result.1 < 256 ^ result.0 }
+    ensures same { item_number number ≡ octets result.0 result.1 }
+{
+    if is_small(number) {
+        return (1, number as u64);
+    }
+    let number = i128::from(number);
+    let count = signed_octet_count(number);
+    let first = u64::from(128 + count) << (8 * count);
+    (1 + count, first + signed_residue(number, count))
+}
+
+/// Whether one octet tells the number.
+fn is_small(number: i64) -> bool
+    ensures { result ≡ (int_le (pos 0) number && int_lt number (pos 128)) }
+{
+    0 <= number && number < 128
+}
+
+/// Writes the item at this place, by its number.
+pub(crate) fn write_item(
+    root: &[Item],
+    more: &Option<Vec<Item>>,
+    place: u32,
+    sink: &mut BitSink,
+) -> Result<(), AllocError>
+    requires of_profile { InProfile (enumeration_of root.now more.now) }
+    requires of_type { Fits (enumeration_of root.now more.now) (item place) }
+    ensures { Adds result sink.old sink.new (oer_octets (enumeration_of root.now more.now) (item place)) }
+{
+    let (count, octets) = octets_of(number_at(root, more, place as usize));
+    sink.push_number(8 * count, octets)
+}
+
+/// Reads an item, but for the one at the place `except`. Returns its place.
+///
+/// # Errors
+/// `Short` if the octets end before an item does. `Refused` at the first octet with which no item goes on, with the
+/// reason `Default` where one is left out, else `Number`.
+pub(crate) fn read_item(
+    root: &[Item],
+    more: &Option<Vec<Item>>,
+    except: Option<u32>,
+    units: &mut BitCursor<'_>,
+) -> Result<u32, Stop>
+    requires at_octet { AtOctet units.old }
+    requires of_profile { InProfile (enumeration_of root.now more.now) }
+    requires some { Inhabited (ItemsBut except root.now more.now) }
+    ensures at_octet { OnOk result (AtOctet units.new) }
+    ensures done { IfOk result (λ p. ReadsOctets (ItemsBut except root.now more.now) (item p) units.old units.new) }
+    ensures stop { IfErr result (λ why. StopsAtOctets (ItemsBut except root.now more.now) units.old why) }
+{
+    let why = if except.is_some() {
+        Why::Default
+    } else {
+        Why::Number
+    };
+    let mut begun = 0;
+    for taken in 0..5 {
+        let Some(octet) = units.take_number(8) else {
+            return Err(Stop::Short);
+        };
+        begun = 256 * begun + octet;
+        let Some((place, behind)) = find_item(root, more, except, taken + 1, begun) else {
+            return Err(Stop::Refused {
+                left: octets_left(units) as u128,
+                why,
+            });
+        };
+        if behind == 0 {
+            return Ok(place);
+        }
+    }
+    unreachable!()
+}
+
+/// The first item, but for the one at `except`, that begins with the `count` octets of the number `begun`: its place,
+/// and how many octets it has after them.
+fn find_item(
+    root: &[Item],
+    more: &Option<Vec<Item>>,
+    except: Option<u32>,
+    count: u32,
+    begun: u64,
+) -> Option<(u32, u32)>
+    requires of_profile { InProfile (enumeration_of root.now more.now) }
+    requires few { count ≤ 5 }
+    requires within { begun < 256 ^ count }
+    ensures some { IfSome result (λ f. (rest : List ℕ)
+        × ItemBegins (items_of root.now more.now) except f.0 (octets count begun) rest × (length rest ≡ f.1)) }
+    ensures none { IsNone result → (p : ℕ) (rest : List ℕ)
+        → ItemBegins (items_of root.now more.now) except p (octets count begun) rest → ⊥ }
+{
+    for place in 0..item_count(root, more) {
+        if except == Some(place) {
+            continue;
+        }
+        if let Some(behind) = octets_behind(number_at(root, more, place as usize), count, begun) {
+            return Some((place, behind));
+        }
+    }
+    None
+}
+
+/// How many octets the number of an item has behind the `count` octets of the number `begun`, where it begins with
+/// these.
+fn octets_behind(number: i64, count: u32, begun: u64) -> Option<u32>
+    requires narrow { magnitude number < 2147483648 }
+    requires few { count ≤ 5 }
+    requires within { begun < 256 ^ count }
+    ensures some { IfSome result (λ k. (rest : List ℕ)
+        × (item_number number ≡ octets count begun ++ rest) × (length rest ≡ k)) }
+    ensures none { IsNone result → (rest : List ℕ) → item_number number ≡ octets count begun ++ rest → ⊥ }
+{
+    let (all, octets) = octets_of(number);
+    if count <= all && octets >> (8 * (all - count)) == begun {
+        Some(all - count)
+    } else {
+        None
+    }
+}

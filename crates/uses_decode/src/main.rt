@@ -28,7 +28,11 @@ fn told(alloc: Global, message: &Value) -> Result<String> {
         [Some(Value::Int(id)), Some(Value::Bool(ok)), None] => {
             Ok(format!(in alloc; "id {id}, ok {ok}, no note")?)
         }
-        [Some(Value::Int(id)), Some(Value::Bool(ok)), Some(Value::Text(note))] => {
+        [
+            Some(Value::Int(id)),
+            Some(Value::Bool(ok)),
+            Some(Value::Text(note)),
+        ] => {
             let note = str::from_utf8(note)?;
             Ok(format!(in alloc; "id {id}, ok {ok}, note {note}")?)
         }

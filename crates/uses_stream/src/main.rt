@@ -20,8 +20,8 @@ fn track_type(alloc: Global) -> Result<Checked> {
 }
 
 /// Takes the octets of a stream one by one, and tells what each settles: no octet after that is taken.
-fn follow(rt: &(impl Alloc + Print), ty: &Checked, stream: &[u8]) -> Result<()> {
-    let mut session = Per::open(rt.alloc(), ty.copy()?)?;
+fn follow(rt: &impl Print, alloc: Global, ty: &Checked, stream: &[u8]) -> Result<()> {
+    let mut session = Per::open(alloc, ty.copy()?)?;
     for octet in stream {
         match Per::feed(&mut session, &[*octet]) {
             Ok(Step::More) => println!(rt; "{octet:02x} more")?,
@@ -46,7 +46,7 @@ fn main(rt: HostRuntime) -> Result<()> {
     let ty = track_type(rt.alloc())?;
     for line in ["1234203900", "1234", "123430393f80"] {
         let stream = hex::decode(rt.alloc(), line)?;
-        follow(&rt, &ty, &stream)?;
+        follow(&rt, rt.alloc(), &ty, &stream)?;
     }
     Ok(())
 }

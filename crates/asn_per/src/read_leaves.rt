@@ -57,7 +57,7 @@ impl ReadLeaves for Per {
         }
     }
 
-    #[inline(always)]
+    #[inline(never)]
     #[tactic(auto, unfolding(crate::specs::Walk::per_coding, crate::specs::Rules::per_ruling))]
     fn read_simple_into(
         alloc: Global,

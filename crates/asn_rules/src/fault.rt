@@ -74,7 +74,7 @@ pub enum EncodeFault {
 #[derive(Clone, Copy, Debug, PartialEq, Eq, Error)]
 pub enum DecodeFault {
     /// No encoding begins so: `at` is the unit that shows it, counted from 1.
-    #[error("refused at unit {at}")]
+    #[error("refused at unit {at}: {why}")]
     Refused { at: u64, why: Why },
     /// The octets end before the encoding does, after `taken` units.
     #[error("cut short after {taken} units")]

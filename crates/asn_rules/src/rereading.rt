@@ -73,6 +73,7 @@ pub struct Rereading {
 ///
 /// # Errors
 /// `Memory` where an allocation failed.
+#[inline(always)]
 pub fn open<R: Reads>(alloc: Global, ty: Checked) -> Result<Rereading, OpenFault>
     ensures { IfOk result (λ q. Keeps R.ruling q (shape_of ty) (waiting [])) }
 {
@@ -96,6 +97,7 @@ pub fn open<R: Reads>(alloc: Global, ty: Checked) -> Result<Rereading, OpenFault
 ///
 /// # Errors
 /// As `Rules::feed`.
+#[inline(always)]
 pub fn feed<R: Reads>(session: &mut Rereading, piece: &[u8]) -> Result<Step, FeedFault>
     ensures { (t : Shape) (past : Past) → Keeps R.ruling session.old t past
         → FeedsTo R.ruling (Keeps R.ruling) session.old session.new t past piece.now result }
@@ -139,10 +141,12 @@ pub fn feed<R: Reads>(session: &mut Rereading, piece: &[u8]) -> Result<Step, Fee
 ///
 /// # Errors
 /// As `Rules::finish`.
+#[inline(always)]
 pub fn finish<R: Reads>(session: Rereading) -> Result<(), Truncated>
     ensures { (t : Shape) (past : Past) → Keeps R.ruling session t past → Finished R.ruling t past result }
 {
-    session.end
+    let Rereading { end, .. } = session;
+    end
 }
 
 /// What is answered to the octets kept with the piece after them, which are kept where more is wanted.

@@ -89,14 +89,16 @@ pub fn decode<R: Rules>(alloc: Global, ty: &Checked, octets: &[u8]) -> Result<Va
     let Ok(mut session) = R::open(alloc, ty.copy()?) else {
         return Err(DecodeFault::Memory);
     };
-    match R::feed(&mut session, octets) {
+    let answer = R::feed(&mut session, octets);
+    let end = R::finish(session);
+    match answer {
         Ok(Step::Done { value, used }) => {
             if used < octets.len() {
                 return Err(DecodeFault::Rest { used });
             }
             Ok(value)
         }
-        Ok(Step::More) => match R::finish(session) {
+        Ok(Step::More) => match end {
             Err(Truncated { taken }) => Err(DecodeFault::Truncated { taken }),
             Ok(()) => unreachable!(),
         },

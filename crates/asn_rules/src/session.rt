@@ -31,7 +31,7 @@ pub enum OpenFault {
 pub enum FeedFault {
     /// No encoding begins so: `at` is the first unit of the message, counted from 1, after which none can follow, and
     /// `why` is what was being read there.
-    #[error("refused at unit {at}")]
+    #[error("refused at unit {at}: {why}")]
     Refused { at: u64, why: Why },
     /// The first 268,435,455 octets are no encoding, and only a longer one may begin so.
     #[error("too long")]

@@ -5,6 +5,7 @@
 //! value of another kind is replaced by one that `asn_walk_read` reads.
 #![tactic(auto)]
 
+mod components;
 mod decoder;
 mod entries;
 mod reader;

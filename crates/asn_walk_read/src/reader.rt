@@ -2,28 +2,24 @@
 //!
 //! Each loop is a function that begins in the middle: it takes what is still to be read, and appends to what was read
 //! before. Only the leaves answer that units are missing.
-ghost use Rattle.std.specs.Prelude.{◌≡◌, ◌≤◌, ◌<◌, ◌+◌, ◌%◌, IfOk, IfErr, OnOk, true, false, Some, None, map, length, IfSome, IsSome, IsNone, vec_len, vec_capacity};
+ghost use Rattle.std.specs.Prelude.{◌≡◌, ◌<◌, ◌%◌, ◌^◌, IfOk, IfErr, OnOk, map, length, vec_len};
 ghost use Rattle.std.specs.Option.{option_map};
-ghost use Rattle.asn_values.specs.Datum.{number};
+ghost use Rattle.asn_values.specs.Datum.{alternative};
 ghost use Rattle.asn_values.specs.Profile.{InProfile};
-ghost use Rattle.asn_values.specs.Parts.{AreOfProfile, AreAllOfProfile, IsGoodDemand};
-ghost use Rattle.asn_values.specs.View.{shape_of, datum_of, part_of_field, size_range_of};
-ghost use Rattle.asn_bits.specs.Numbers.{bits};
-ghost use Rattle.asn_rules.specs.Components.{has_presence_bit};
+ghost use Rattle.asn_values.specs.Parts.{AreAllOfProfile};
+ghost use Rattle.asn_values.specs.View.{shape_of, datum_of, size_range_of};
 ghost use Rattle.asn_rules.specs.Languages.{Row};
-ghost use Rattle.asn_rules.specs.Listed.{Listed, bitmap_length};
 ghost use Rattle.asn_walk.specs.Ahead.{Remaining};
-ghost use Rattle.asn_walk.specs.Coding.{OpenOf, ChosenOf, OpenListed, AdditionsOf, ListingOf};
-ghost use Rattle.asn_walk.specs.Integers.{IsOfProfile};
+ghost use Rattle.asn_walk.specs.Coding.{OpenOf, ChosenOf, ListingOf};
 ghost use Rattle.asn_walk.specs.Laws.{IsSizeOfProfile};
-ghost use Rattle.asn_walk.specs.Reading.{Reads, ReadsValue, ReadsComplete, ReadsOpen, StopsAt, ValuesOf, CompleteOf, EntryOf, ReadsRoot, StopsInRoot, After, fields_seen, alternatives_seen, entries_seen};
+ghost use Rattle.asn_walk.specs.Reading.{Reads, ReadsValue, ReadsComplete, ReadsOpen, StopsAt, ValuesOf, CompleteOf, After, alternatives_seen};
 
-use crate::components::{absent, chosen, push_absent};
+use crate::components::{push_absent, read_additions, read_root};
 use asn_bits::BitCursor;
 use asn_rules::{Stop, Why};
-use asn_values::{Alt, AsnType, Field, Need, Size, Value};
-use asn_walk::{Index, PresenceBits, ReadLeaves, bitmap_width, has_presence_bit};
-use std::alloc::Global;
+use asn_values::{Alt, AsnType, Size, Value};
+use asn_walk::{Index, ReadLeaves};
+use std::alloc::{AllocError, Global};
 
 /// The most elements of a SEQUENCE OF for which capacity is reserved at once: an announced count alone must not
 /// allocate more.
@@ -118,7 +114,7 @@ pub fn read_complete<R: ReadLeaves>(
 /// Reads an open type field that holds a value of the type: its octets, and once they have all come, the complete
 /// encoding that they have to be (X.691, "open type fields"; X.696, "open type").
 #[cycle(reader)]
-fn read_open_field<R: ReadLeaves>(
+pub(crate) fn read_open_field<R: ReadLeaves>(
     alloc: Global,
     ty: &AsnType,
     units: &mut BitCursor<'_>,
@@ -183,185 +179,6 @@ fn read_added_alternative<R: ReadLeaves>(
         StopsAt R.rules (ChosenOf (OpenOf R.rules) (alternatives_seen added.now) index) units.old why) }
 {
     read_open_field::<R>(alloc, &added[index].ty, units)
-}
-
-/// Reads the root of a SEQUENCE: what stands before its components, and these. Gives the extension bit, and the
-/// entries of the root, with capacity for those of the extension additions.
-#[cycle(reader)]
-fn read_root<R: ReadLeaves>(
-    alloc: Global,
-    root: &[Field],
-    additions: Option<usize>,
-    units: &mut BitCursor<'_>,
-) -> Result<(bool, Vec<Option<Value>>), Stop>
-    requires at_unit { R.rules.at_unit units.old }
-    requires of_profile { AreOfProfile (fields_seen root.now) }
-    requires few { length root.now ≤ 64 }
-    requires few_additions { IfSome additions (λ n. n ≤ 64) }
-    ensures at_unit { OnOk result (R.rules.at_unit units.new) }
-    ensures done { IfOk result (λ r. ReadsRoot R.rules (fields_seen root.now) additions r.0 (entries_seen r.1.items)
-        units.old units.new) }
-    ensures stop { IfErr result (λ why. StopsInRoot R.rules (fields_seen root.now) additions units.old why) }
-{
-    R::keep_laws();
-    let width = bitmap_width(root);
-    let preamble = R::read_preamble(width, additions, units)?;
-    let mut entries = Vec::with_capacity(alloc, root.len() + additions.unwrap_or(0))?;
-    let presence = PresenceBits {
-        bitmap: preamble.bitmap,
-        left: width,
-    };
-    read_components::<R>(alloc, root, presence, &mut entries, units)?;
-    Ok((preamble.extended, entries))
-}
-
-/// Reads the components of a root that the presence bits tell, in order, and appends their entries. A component with
-/// a DEFAULT that is absent has that value.
-#[cycle(reader)]
-fn read_components<R: ReadLeaves>(
-    alloc: Global,
-    fields: &[Field],
-    presence: PresenceBits,
-    entries: &mut Vec<Option<Value>>,
-    units: &mut BitCursor<'_>,
-) -> Result<(), Stop>
-    requires at_unit { R.rules.at_unit units.old }
-    requires of_profile { AreOfProfile (fields_seen fields.now) }
-    requires width { presence.left ≡ bitmap_length (fields_seen fields.now) }
-    requires few { presence.left ≤ 64 }
-    requires capacity { vec_len entries.old + length fields.now ≤ vec_capacity entries.old }
-    ensures at_unit { OnOk result (R.rules.at_unit units.new) }
-    ensures done { OnOk result (Reads R.rules (After (entries_seen entries.old.items)
-        (Listed R.rules.code (fields_seen fields.now) (bits presence.left presence.bitmap)))
-        (entries_seen entries.new.items) units.old units.new) }
-    ensures stop { IfErr result (λ why. StopsAt R.rules
-        (Listed R.rules.code (fields_seen fields.now) (bits presence.left presence.bitmap)) units.old why) }
-{
-    R::keep_laws();
-    let mut presence = presence;
-    for field in fields {
-        if let Some(number) = try_bounded::<R>(field, units) {
-            entries.push_reserved(Some(Value::Int(number)));
-            continue;
-        }
-        let present = presence.next_of(field);
-        let entry = read_entry::<R>(alloc, field, present, units)?;
-        entries.push_reserved(entry);
-    }
-    Ok(())
-}
-
-/// Fast path: the INTEGER of a component that is always present and has two bounds and no extension mark, where its
-/// units are at hand and it lies between them; otherwise takes nothing.
-#[inline(always)]
-pub fn try_bounded<R: ReadLeaves>(field: &Field, units: &mut BitCursor<'_>) -> Option<i128>
-    requires at_unit { R.rules.at_unit units.old }
-    requires of_profile { InProfile (part_of_field field.now).shape }
-    ensures at_unit { R.rules.at_unit units.new }
-    ensures must { IsSome result → has_presence_bit (part_of_field field.now).demand ≡ false }
-    ensures some { IfSome result (λ z.
-        Reads R.rules (EntryOf R.rules (part_of_field field.now) true) (Some (number z)) units.old units.new) }
-    ensures of_integers { IfSome result IsOfProfile }
-    ensures none { IsNone result → units.new ≡ units.old }
-{
-    if has_presence_bit(field) {
-        return None;
-    }
-    let AsnType::Int(bounds) = &field.ty else {
-        return None;
-    };
-    match (bounds.low, bounds.high) {
-        (Some(low), Some(high)) if !bounds.ext => R::try_between(low, high, units),
-        _ => None,
-    }
-}
-
-/// Reads the entry of a component, of which `present` says whether it is there.
-#[inline(always)]
-#[cycle(reader)]
-fn read_entry<R: ReadLeaves>(
-    alloc: Global,
-    field: &Field,
-    present: bool,
-    units: &mut BitCursor<'_>,
-) -> Result<Option<Value>, Stop>
-    requires at_unit { R.rules.at_unit units.old }
-    requires of_profile { InProfile (part_of_field field.now).shape }
-    requires good { IsGoodDemand (part_of_field field.now).demand (part_of_field field.now).shape }
-    ensures at_unit { OnOk result (R.rules.at_unit units.new) }
-    ensures done { IfOk result (λ e. Reads R.rules (EntryOf R.rules (part_of_field field.now) present)
-        (option_map datum_of e) units.old units.new) }
-    ensures stop { IfErr result (λ why.
-        StopsAt R.rules (EntryOf R.rules (part_of_field field.now) present) units.old why) }
-{
-    if !present {
-        return Ok(absent(field));
-    }
-    match &field.need {
-        Need::Default(default) => Ok(Some(R::read_other(&field.ty, default, units)?)),
-        Need::Must | Need::Optional => Ok(Some(read::<R>(alloc, &field.ty, units)?)),
-    }
-}
-
-/// Reads the extension additions of a SEQUENCE of which one at least is present, and appends their entries.
-#[cycle(reader)]
-fn read_additions<R: ReadLeaves>(
-    alloc: Global,
-    fields: &[Field],
-    entries: &mut Vec<Option<Value>>,
-    units: &mut BitCursor<'_>,
-) -> Result<(), Stop>
-    requires at_unit { R.rules.at_unit units.old }
-    requires of_profile { AreOfProfile (fields_seen fields.now) }
-    requires some { 0 < length fields.now }
-    requires few { length fields.now ≤ 64 }
-    ensures at_unit { OnOk result (R.rules.at_unit units.new) }
-    ensures done { OnOk result (Reads R.rules
-        (After (entries_seen entries.old.items) (AdditionsOf R.rules (fields_seen fields.now)))
-        (entries_seen entries.new.items) units.old units.new) }
-    ensures stop { IfErr result (λ why. StopsAt R.rules (AdditionsOf R.rules (fields_seen fields.now)) units.old why) }
-{
-    R::keep_laws();
-    let count = fields.len() as u32;
-    let bitmap = R::read_addition_bitmap(count, units)?;
-    let presence = PresenceBits {
-        bitmap,
-        left: count,
-    };
-    read_open_fields::<R>(alloc, fields, presence, entries, units)
-}
-
-/// Reads the extension additions that the presence bits tell, each an open type field, and appends their entries.
-#[cycle(reader)]
-fn read_open_fields<R: ReadLeaves>(
-    alloc: Global,
-    fields: &[Field],
-    presence: PresenceBits,
-    entries: &mut Vec<Option<Value>>,
-    units: &mut BitCursor<'_>,
-) -> Result<(), Stop>
-    requires at_unit { R.rules.at_unit units.old }
-    requires of_profile { AreOfProfile (fields_seen fields.now) }
-    requires width { presence.left ≡ length fields.now }
-    requires few { presence.left ≤ 64 }
-    ensures at_unit { OnOk result (R.rules.at_unit units.new) }
-    ensures done { OnOk result (Reads R.rules (After (entries_seen entries.old.items)
-        (OpenListed R.rules (fields_seen fields.now) (bits presence.left presence.bitmap)))
-        (entries_seen entries.new.items) units.old units.new) }
-    ensures stop { IfErr result (λ why. StopsAt R.rules
-        (OpenListed R.rules (fields_seen fields.now) (bits presence.left presence.bitmap)) units.old why) }
-{
-    R::keep_laws();
-    let mut presence = presence;
-    for field in fields {
-        let entry = if presence.next() {
-            Some(read_open_field::<R>(alloc, &field.ty, units)?)
-        } else {
-            None
-        };
-        entries.push(entry)?;
-    }
-    Ok(())
 }
 
 /// Reads the elements of a SEQUENCE OF.
@@ -454,4 +271,12 @@ pub fn added_count(ext: &Option<Vec<Alt>>) -> Option<usize>
         None => None,
         Some(additions) => Some(additions.len()),
     }
+}
+
+/// The value of a CHOICE with this tag, of which `value` is the alternative's.
+fn chosen(alloc: Global, tag: usize, value: Value) -> Result<Value, AllocError>
+    requires { tag < 2 ^ 32 }
+    ensures { IfOk result (λ v. datum_of v ≡ alternative tag (datum_of value)) }
+{
+    Ok(Value::Choice(tag as u32, Box::new(alloc, value)?))
 }

@@ -40,47 +40,47 @@ use Rattle.asn_walk_read.proofs.OpenRead.{content_of, length_none, octets_stop, 
 use Rattle.asn_walk.proofs.Parts.{fields_part_of, count_of_fields, few_components, marked_type, closed_type, added_of_profile, few_added, good_at, some_root, few_root, few_all, roots_good, additions_good, added_inside}
 use Rattle.asn_walk_read.proofs.SequencesRead.{preamble_stops, some_listed, closed_done, components_stop, none_added, additions_stop, additions_done}
 use Rattle.asn_walk.proofs.Widths.{next_part, no_part, demand_of_part, datum_of-Int}
-use Rattle.asn_walk_read.proofs.reader.+reader.Goals as goal
-use Rattle.asn_walk_read.proofs.reader.+reader.Goals.{read_open_fields-then-next+in_ok-read_open_field, read_open_fields-else-next, read-then-extended+in_ok-read_additions-in-Seq, read-else-extended+in_ok-push_absent-in-Seq}
+use Rattle.asn_walk_read.proofs.+reader.Goals as goal
+use Rattle.asn_walk_read.proofs.+reader.Goals.{components::read_open_fields-then-next+in_ok-read_open_field, components::read_open_fields-else-next, reader::read-then-extended+in_ok-read_additions-in-Seq, reader::read-else-extended+in_ok-push_absent-in-Seq}
 
-pub read_alternative-read-requires : goal.read_alternative-read-requires
-read_alternative-read-requires g t c κs within =
+pub reader::read_alternative-read-requires : goal.reader::read_alternative-read-requires
+reader::read_alternative-read-requires g t c κs within =
     (search (rules, the_lemmas), (within.0, (within.1, (c.requires.at_unit, good_at c.args.root.now c.args.index c.index-root-index.result c.requires.of_profile c.requires.inside))))
 
-pub read_alternative-returns-clause-done : goal.read_alternative-returns-clause-done
-read_alternative-returns-clause-done g t c =
+pub reader::read_alternative-returns-clause-done : goal.reader::read_alternative-returns-clause-done
+reader::read_alternative-returns-clause-done g t c =
     let lead = leads_at_place g.R.ReadLeaves.rules c.args.root.now c.args.index c.index-root-index.result (g.R.ReadLeaves.rules.to_units c.args.units.now) c.requires.inside in
     IfOk-weaker c.read.result _ _ (λ v s. lead.done (datum_of v) (g.R.ReadLeaves.rules.to_units c.read.new.units) s) c.read.ensures.done
 
-pub read_alternative-returns-clause-stop : goal.read_alternative-returns-clause-stop
-read_alternative-returns-clause-stop g t c =
+pub reader::read_alternative-returns-clause-stop : goal.reader::read_alternative-returns-clause-stop
+reader::read_alternative-returns-clause-stop g t c =
     let lead = leads_at_place g.R.ReadLeaves.rules c.args.root.now c.args.index c.index-root-index.result (g.R.ReadLeaves.rules.to_units c.args.units.now) c.requires.inside in
     IfErr-weaker c.read.result _ _ (λ why s. stops_by why lead.stops s) c.read.ensures.stop
 
-pub read_added_alternative-read_open_field-requires : goal.read_added_alternative-read_open_field-requires
-read_added_alternative-read_open_field-requires g t c κs within =
+pub reader::read_added_alternative-read_open_field-requires : goal.reader::read_added_alternative-read_open_field-requires
+reader::read_added_alternative-read_open_field-requires g t c κs within =
     (search (rules, the_lemmas), (within.0, (within.1, (c.requires.at_unit, good_at c.args.added.now c.args.index c.index-added-index.result c.requires.of_profile c.requires.inside))))
 
-pub read_added_alternative-returns-clause-done : goal.read_added_alternative-returns-clause-done
-read_added_alternative-returns-clause-done g t c =
+pub reader::read_added_alternative-returns-clause-done : goal.reader::read_added_alternative-returns-clause-done
+reader::read_added_alternative-returns-clause-done g t c =
     let lead = open_leads_at_place g.R.ReadLeaves.rules c.args.added.now c.args.index c.index-added-index.result (g.R.ReadLeaves.rules.to_units c.args.units.now) c.requires.inside in
     IfOk-weaker c.read_open_field.result _ _ (λ v s. lead.done (datum_of v) (g.R.ReadLeaves.rules.to_units c.read_open_field.new.units) s) c.read_open_field.ensures.done
 
-pub read_added_alternative-returns-clause-stop : goal.read_added_alternative-returns-clause-stop
-read_added_alternative-returns-clause-stop g t c =
+pub reader::read_added_alternative-returns-clause-stop : goal.reader::read_added_alternative-returns-clause-stop
+reader::read_added_alternative-returns-clause-stop g t c =
     let lead = open_leads_at_place g.R.ReadLeaves.rules c.args.added.now c.args.index c.index-added-index.result (g.R.ReadLeaves.rules.to_units c.args.units.now) c.requires.inside in
     IfErr-weaker c.read_open_field.result _ _ (λ why s. stops_by why lead.stops s) c.read_open_field.ensures.stop
 
-pub read-read_list-requires : goal.read-read_list-requires
-read-read_list-requires g t c κs within =
+pub reader::read-read_list-requires : goal.reader::read-read_list-requires
+reader::read-read_list-requires g t c κs within =
     let element = shape_of c.deref.result.now in
     let s = size_range_of c.in-SeqOf.size in
     let is = list_of_elements c.args.ty.now c.deref.result.now c.in-SeqOf.element c.in-SeqOf.size c.in-SeqOf.is c.deref.ensures in
     let good : InProfile (sequence_of element s) = rw is at c.requires.of_profile in
     (search (rules, the_lemmas), (within.0, (within.1, (c.requires.at_unit, (element_of_profile element s good, list_size element s good)))))
 
-pub read-returns-in_err-read_list-in-SeqOf-clause-stop : goal.read-returns-in_err-read_list-in-SeqOf-clause-stop
-read-returns-in_err-read_list-in-SeqOf-clause-stop g t c =
+pub reader::read-returns-in_err-read_list-in-SeqOf-clause-stop : goal.reader::read-returns-in_err-read_list-in-SeqOf-clause-stop
+reader::read-returns-in_err-read_list-in-SeqOf-clause-stop g t c =
     let element = shape_of c.deref.result.now in
     let s = size_range_of c.in-SeqOf.size in
     let is = list_of_elements c.args.ty.now c.deref.result.now c.in-SeqOf.element c.in-SeqOf.size c.in-SeqOf.is c.deref.ensures in
@@ -88,8 +88,8 @@ read-returns-in_err-read_list-in-SeqOf-clause-stop g t c =
     let p = err_from_is_err_and c.from_residual-in_err-read_list-in-SeqOf.result c.from_residual-in_err-read_list-in-SeqOf.ensures.1 in
     rw (p.1, p.2, is) (stops_by _ (list_leads g.R.ReadLeaves.rules c.keep_laws.ensures element s (g.R.ReadLeaves.rules.to_units c.args.units.now) good).stops c.in_err-read_list-in-SeqOf.ensures.stop)
 
-pub read-returns-in_ok-read_list-in-SeqOf-clause-done : goal.read-returns-in_ok-read_list-in-SeqOf-clause-done
-read-returns-in_ok-read_list-in-SeqOf-clause-done g t c =
+pub reader::read-returns-in_ok-read_list-in-SeqOf-clause-done : goal.reader::read-returns-in_ok-read_list-in-SeqOf-clause-done
+reader::read-returns-in_ok-read_list-in-SeqOf-clause-done g t c =
     let element = shape_of c.deref.result.now in
     let s = size_range_of c.in-SeqOf.size in
     let is = list_of_elements c.args.ty.now c.deref.result.now c.in-SeqOf.element c.in-SeqOf.size c.in-SeqOf.is c.deref.ensures in
@@ -97,101 +97,101 @@ read-returns-in_ok-read_list-in-SeqOf-clause-done g t c =
     let values = c.in_ok-read_list-in-SeqOf.field-0 in
     rw (is, datum_of-List values) ((list_leads g.R.ReadLeaves.rules c.keep_laws.ensures element s (g.R.ReadLeaves.rules.to_units c.args.units.now) good).done (map datum_of values.items) (g.R.ReadLeaves.rules.to_units c.read_list.new.units) c.in_ok-read_list-in-SeqOf.ensures.done)
 
-pub read_list-returns-in_err-fragments-clause-stop : goal.read_list-returns-in_err-fragments-clause-stop
-read_list-returns-in_err-fragments-clause-stop g t c =
+pub reader::read_list-returns-in_err-fragments-clause-stop : goal.reader::read_list-returns-in_err-fragments-clause-stop
+reader::read_list-returns-in_err-fragments-clause-stop g t c =
     let p = err_from_is_err_and c.from_residual.result c.from_residual.ensures.1 in
     rw (p.1, p.2) (stops_by _ (start_stops g.R.ReadLeaves.rules c.keep_laws.ensures (Spelt g.R.ReadLeaves.rules.code None (shape_of c.args.element.now)) (size_range_of c.args.size.now) (g.R.ReadLeaves.rules.to_units c.args.units.now) c.requires.size (spelt_inhabited g.R.ReadLeaves.rules.code (shape_of c.args.element.now) c.requires.of_profile)) c.in_err-fragments.ensures.stop)
 
-pub read_list-returns-in_err-read_fragments-clause-stop : goal.read_list-returns-in_err-read_fragments-clause-stop
-read_list-returns-in_err-read_fragments-clause-stop g t c =
+pub reader::read_list-returns-in_err-read_fragments-clause-stop : goal.reader::read_list-returns-in_err-read_fragments-clause-stop
+reader::read_list-returns-in_err-read_fragments-clause-stop g t c =
     let p = err_from_is_err_and c.from_residual-in_err-read_fragments.result c.from_residual-in_err-read_fragments.ensures.1 in
     rw (p.1, p.2) (stops_by _ (start_leads g.R.ReadLeaves.rules c.keep_laws.ensures (Spelt g.R.ReadLeaves.rules.code None (shape_of c.args.element.now)) (size_range_of c.args.size.now) c.requires.size c.in_ok-fragments.ensures.done).stops c.in_err-read_fragments.ensures.stop)
 
-pub read_list-returns-clause-done : goal.read_list-returns-clause-done
-read_list-returns-clause-done g t c =
+pub reader::read_list-returns-clause-done : goal.reader::read_list-returns-clause-done
+reader::read_list-returns-clause-done g t c =
     after_nothing (after_leads [] (start_leads g.R.ReadLeaves.rules c.keep_laws.ensures (Spelt g.R.ReadLeaves.rules.code None (shape_of c.args.element.now)) (size_range_of c.args.size.now) c.requires.size c.in_ok-fragments.ensures.done) (rw c.new-elements.ensures.items at c.in_ok-read_fragments.ensures.done))
 
-pub read_fragments-loop-fragments-init : goal.read_fragments-loop-fragments-init
-read_fragments-loop-fragments-init g t c =
+pub reader::read_fragments-loop-fragments-init : goal.reader::read_fragments-loop-fragments-init
+reader::read_fragments-loop-fragments-init g t c =
     (fragments_start g.R.ReadLeaves.rules (Spelt g.R.ReadLeaves.rules.code None (shape_of c.args.element.now)) (g.R.ReadLeaves.rules.to_units c.args.units.now) (map datum_of c.args.elements.now.items) (g.R.ReadLeaves.ahead c.args.fragments), c.requires.between, c.requires.at_unit)
 
-pub read_fragments-returns-in_err-count-clause-stop : goal.read_fragments-returns-in_err-count-clause-stop
-read_fragments-returns-in_err-count-clause-stop g t c =
+pub reader::read_fragments-returns-in_err-count-clause-stop : goal.reader::read_fragments-returns-in_err-count-clause-stop
+reader::read_fragments-returns-in_err-count-clause-stop g t c =
     let p = err_from_is_err_and c.from_residual.result c.from_residual.ensures.1 in
     rw (p.1, p.2) (going_stops _ (spelt_inhabited g.R.ReadLeaves.rules.code (shape_of c.args.element.now) c.requires.of_profile) c.in_err-count.ensures.stop c.loop-fragments.invariant.0.going)
 
-pub read_fragments-loop-fragments-preserved : goal.read_fragments-loop-fragments-preserved
-read_fragments-loop-fragments-preserved g t c =
+pub reader::read_fragments-loop-fragments-preserved : goal.reader::read_fragments-loop-fragments-preserved
+reader::read_fragments-loop-fragments-preserved g t c =
     let next : Next g.R.ReadLeaves.rules.ruling.fielding (g.R.ReadLeaves.ahead c.loop-fragments.fragments) (Some c.in-Some.count) (g.R.ReadLeaves.ahead c.next_fragment.new.fragments) (g.R.ReadLeaves.rules.to_units c.loop-fragments.units) (g.R.ReadLeaves.rules.to_units c.next_fragment.new.units) = rw c.in-Some.is at c.in_ok-count.ensures.done in
     let come : Spells g.R.ReadLeaves.rules.ruling.fielding (After (map datum_of c.loop-fragments.elements.items) (Row (Spelt g.R.ReadLeaves.rules.code None (shape_of c.args.element.now)) c.in-Some.count)) (map datum_of c.read_elements.new.elements.items) (g.R.ReadLeaves.rules.to_units c.next_fragment.new.units) (g.R.ReadLeaves.rules.to_units c.read_elements.new.units) = rw c.in_ok-reserve.ensures.items at c.in_ok-read_elements.ensures.done in
     (fragments_further g.R.ReadLeaves.rules c.keep_laws.ensures (spelt_inhabited g.R.ReadLeaves.rules.code (shape_of c.args.element.now) c.requires.of_profile) (spelt_lawful g.R.ReadLeaves.rules.code c.keep_laws.ensures.part None (shape_of c.args.element.now) c.requires.of_profile) next come c.loop-fragments.invariant.0, c.in_ok-count.ensures.between, c.in_ok-read_elements.ensures.at_unit)
 
-pub read_fragments-loop-fragments-smaller : goal.read_fragments-loop-fragments-smaller
-read_fragments-loop-fragments-smaller g t c =
+pub reader::read_fragments-loop-fragments-smaller : goal.reader::read_fragments-loop-fragments-smaller
+reader::read_fragments-loop-fragments-smaller g t c =
     let next : Next g.R.ReadLeaves.rules.ruling.fielding (g.R.ReadLeaves.ahead c.loop-fragments.fragments) (Some c.in-Some.count) (g.R.ReadLeaves.ahead c.next_fragment.new.fragments) (g.R.ReadLeaves.rules.to_units c.loop-fragments.units) (g.R.ReadLeaves.rules.to_units c.next_fragment.new.units) = rw c.in-Some.is at c.in_ok-count.ensures.done in
     let come : Spells g.R.ReadLeaves.rules.ruling.fielding (After (map datum_of c.loop-fragments.elements.items) (Row (Spelt g.R.ReadLeaves.rules.code None (shape_of c.args.element.now)) c.in-Some.count)) (map datum_of c.read_elements.new.elements.items) (g.R.ReadLeaves.rules.to_units c.next_fragment.new.units) (g.R.ReadLeaves.rules.to_units c.read_elements.new.units) = rw c.in_ok-reserve.ensures.items at c.in_ok-read_elements.ensures.done in
     going_nearer next (row_appends come)
 
-pub read_fragments-returns-in_err-read_elements-clause-stop : goal.read_fragments-returns-in_err-read_elements-clause-stop
-read_fragments-returns-in_err-read_elements-clause-stop g t c =
+pub reader::read_fragments-returns-in_err-read_elements-clause-stop : goal.reader::read_fragments-returns-in_err-read_elements-clause-stop
+reader::read_fragments-returns-in_err-read_elements-clause-stop g t c =
     let next : Next g.R.ReadLeaves.rules.ruling.fielding (g.R.ReadLeaves.ahead c.loop-fragments.fragments) (Some c.in-Some.count) (g.R.ReadLeaves.ahead c.next_fragment.new.fragments) (g.R.ReadLeaves.rules.to_units c.loop-fragments.units) (g.R.ReadLeaves.rules.to_units c.next_fragment.new.units) = rw c.in-Some.is at c.in_ok-count.ensures.done in
     let p = err_from_is_err_and c.from_residual-in_err-read_elements.result c.from_residual-in_err-read_elements.ensures.1 in
     rw (p.1, p.2) (stops_by _ (going_row_stops g.R.ReadLeaves.rules c.keep_laws.ensures (spelt_inhabited g.R.ReadLeaves.rules.code (shape_of c.args.element.now) c.requires.of_profile) next c.loop-fragments.invariant.0.going) c.in_err-read_elements.ensures.stop)
 
-pub read_fragments-returns-clause-done : goal.read_fragments-returns-clause-done
-read_fragments-returns-clause-done g t c =
+pub reader::read_fragments-returns-clause-done : goal.reader::read_fragments-returns-clause-done
+reader::read_fragments-returns-clause-done g t c =
     let next : Next g.R.ReadLeaves.rules.ruling.fielding (g.R.ReadLeaves.ahead c.loop-fragments.fragments) None (g.R.ReadLeaves.ahead c.next_fragment.new.fragments) (g.R.ReadLeaves.rules.to_units c.loop-fragments.units) (g.R.ReadLeaves.rules.to_units c.next_fragment.new.units) = rw c.in_default.is at c.in_ok-count.ensures.done in
     fragments_end next c.loop-fragments.invariant.0
 
-pub read_elements-returns-in_err-value-clause-stop : goal.read_elements-returns-in_err-value-clause-stop
-read_elements-returns-in_err-value-clause-stop g t c =
+pub reader::read_elements-returns-in_err-value-clause-stop : goal.reader::read_elements-returns-in_err-value-clause-stop
+reader::read_elements-returns-in_err-value-clause-stop g t c =
     let p = err_from_is_err_and c.from_residual.result c.from_residual.ensures.1 in
     rw (p.1, p.2) (stops_by _ (appends_stops_next c.loop-i.i (c.args.count - (c.loop-i.i + 1)) c.args.count (fields_part_of g.R.ReadLeaves.rules c.keep_laws.ensures) (spelt_lawful g.R.ReadLeaves.rules.code c.keep_laws.ensures.part None (shape_of c.args.element.now) c.requires.of_profile) (spelt_inhabited g.R.ReadLeaves.rules.code (shape_of c.args.element.now) c.requires.of_profile) (omega (arith, c.loop-i-test.true)) c.loop-i.invariant.0) c.in_err-value.ensures.stop)
 
-pub read_elements-loop-i-preserved : goal.read_elements-loop-i-preserved
-read_elements-loop-i-preserved g t c =
+pub reader::read_elements-loop-i-preserved : goal.reader::read_elements-loop-i-preserved
+reader::read_elements-loop-i-preserved g t c =
     let items : map datum_of c.push.new.self.items ≡ map datum_of c.loop-i.elements.items ++ datum_of c.in_ok-value.value ∷ [] =
     ap (map datum_of) c.in_ok-push.ensures.items ∙ map-append datum_of c.loop-i.elements.items (c.in_ok-value.value ∷ []) in
     (appends_more c.loop-i.i 1 (c.loop-i.i + 1) refl c.loop-i.invariant.0 (appends_one items c.in_ok-value.ensures.done), c.in_ok-value.ensures.at_unit)
 
-pub read_elements-returns-clause-done : goal.read_elements-returns-clause-done
-read_elements-returns-clause-done g t c =
+pub reader::read_elements-returns-clause-done : goal.reader::read_elements-returns-clause-done
+reader::read_elements-returns-clause-done g t c =
     let all : c.loop-i.i ≡ c.args.count = omega (arith, c.loop-i-test.false, c.loop-i.auto.i-end) in
     appends_end (rw all at c.loop-i.invariant.0)
 
-pub read_complete-returns-in_err-value-clause-stop : goal.read_complete-returns-in_err-value-clause-stop
-read_complete-returns-in_err-value-clause-stop g t c =
+pub reader::read_complete-returns-in_err-value-clause-stop : goal.reader::read_complete-returns-in_err-value-clause-stop
+reader::read_complete-returns-in_err-value-clause-stop g t c =
     let p = err_from_is_err_and c.from_residual.result c.from_residual.ensures.1 in
     rw (p.1, p.2) (stops_by _ (value_stops g.R.ReadLeaves.rules c.keep_laws.ensures (shape_of c.args.ty.now) c.requires.of_profile (g.R.ReadLeaves.rules.to_units c.args.units.now)) c.in_err-value.ensures.stop)
 
-pub read_complete-returns-in_err-read_padding-clause-stop : goal.read_complete-returns-in_err-read_padding-clause-stop
-read_complete-returns-in_err-read_padding-clause-stop g t c =
+pub reader::read_complete-returns-in_err-read_padding-clause-stop : goal.reader::read_complete-returns-in_err-read_padding-clause-stop
+reader::read_complete-returns-in_err-read_padding-clause-stop g t c =
     let p = err_from_is_err_and c.from_residual-in_err-read_padding.result c.from_residual-in_err-read_padding.ensures.1 in
     let lead = fill_leads g.R.ReadLeaves.rules c.keep_laws.ensures (shape_of c.args.ty.now) c.requires.of_profile (datum_of c.in_ok-value.value) (g.R.ReadLeaves.rules.to_units c.args.units.now) (g.R.ReadLeaves.rules.to_units c.read.new.units) c.in_ok-value.ensures.done in
     rw (p.1, p.2) (stops_by _ lead.stops (rw c.units_left-given.ensures at c.in_err-read_padding.ensures.stop))
 
-pub read_complete-returns-clause-done : goal.read_complete-returns-clause-done
-read_complete-returns-clause-done g t c =
+pub reader::read_complete-returns-clause-done : goal.reader::read_complete-returns-clause-done
+reader::read_complete-returns-clause-done g t c =
     let lead = fill_leads g.R.ReadLeaves.rules c.keep_laws.ensures (shape_of c.args.ty.now) c.requires.of_profile (datum_of c.in_ok-value.value) (g.R.ReadLeaves.rules.to_units c.args.units.now) (g.R.ReadLeaves.rules.to_units c.read.new.units) c.in_ok-value.ensures.done in
     lead.done c.in_ok-read_padding.field-0 (g.R.ReadLeaves.rules.to_units c.read_padding.new.units) (rw c.units_left-given.ensures at c.in_ok-read_padding.ensures.done)
 
-pub read_complete-read_padding-requires-clause-octets : goal.read_complete-read_padding-requires-clause-octets
-read_complete-read_padding-requires-clause-octets g t c = rw c.units_left-given.ensures c.requires.octets
+pub reader::read_complete-read_padding-requires-clause-octets : goal.reader::read_complete-read_padding-requires-clause-octets
+reader::read_complete-read_padding-requires-clause-octets g t c = rw c.units_left-given.ensures c.requires.octets
 
-pub read_open_field-returns-in_err-octets-clause-stop : goal.read_open_field-returns-in_err-octets-clause-stop
-read_open_field-returns-in_err-octets-clause-stop g t c =
+pub reader::read_open_field-returns-in_err-octets-clause-stop : goal.reader::read_open_field-returns-in_err-octets-clause-stop
+reader::read_open_field-returns-in_err-octets-clause-stop g t c =
     let p = err_from_is_err_and c.from_residual.result c.from_residual.ensures.1 in
     rw (p.1, p.2) (stops_by _ (octets_stop g.R.ReadLeaves.rules c.keep_laws.ensures (shape_of c.args.ty.now) c.requires.of_profile (g.R.ReadLeaves.rules.to_units c.args.units.now)) c.in_err-octets.ensures.stop)
 
-pub read_open_field-read_complete-requires : goal.read_open_field-read_complete-requires
-read_open_field-read_complete-requires g t c κs within =
+pub reader::read_open_field-read_complete-requires : goal.reader::read_open_field-read_complete-requires
+reader::read_open_field-read_complete-requires g t c κs within =
     let os = c.in_ok-octets.octets.items in
     let held : AreOctets os = (content_of c.in_ok-octets.ensures.done).2 in
     let over : g.R.ReadLeaves.rules.to_units c.over-content.result ≡ g.R.ReadLeaves.rules.ruling.units os = ap g.R.ReadLeaves.rules.to_units (c.over-content.ensures ∙ ap unpacked c.deref.ensures.value) ∙ c.keep_laws.ensures.over os held in
     (search (rules, the_lemmas), (within.0, (within.1, (rw (c.over-content.ensures, c.deref.ensures.value) (c.keep_laws.ensures.begin os held), (c.requires.of_profile, rw over (units_fill g.R.ReadLeaves.rules c.keep_laws.ensures os))))))
 
-pub read_open_field-returns-in-Ok-clause-done : goal.read_open_field-returns-in-Ok-clause-done
-read_open_field-returns-in-Ok-clause-done g t c =
+pub reader::read_open_field-returns-in-Ok-clause-done : goal.reader::read_open_field-returns-in-Ok-clause-done
+reader::read_open_field-returns-in-Ok-clause-done g t c =
     let os = c.in_ok-octets.octets.items in
     let held : AreOctets os = (content_of c.in_ok-octets.ensures.done).2 in
     let over : g.R.ReadLeaves.rules.to_units c.over-content.result ≡ g.R.ReadLeaves.rules.ruling.units os = ap g.R.ReadLeaves.rules.to_units (c.over-content.ensures ∙ ap unpacked c.deref.ensures.value) ∙ c.keep_laws.ensures.over os held in
@@ -199,8 +199,8 @@ read_open_field-returns-in-Ok-clause-done g t c =
     let none : (g.R.ReadLeaves.rules.to_units c.read_complete.new.units) ≡ [] = length_none _ (sym c.units_left-in-Ok-1.ensures ∙ c.if-units_left-eq0.true) in
     value_held g.R.ReadLeaves.rules c.keep_laws.ensures (shape_of c.args.ty.now) c.requires.of_profile c.in_ok-octets.ensures.done read none
 
-pub read_open_field-returns-in-Ok-2-clause-stop : goal.read_open_field-returns-in-Ok-2-clause-stop
-read_open_field-returns-in-Ok-2-clause-stop g t c =
+pub reader::read_open_field-returns-in-Ok-2-clause-stop : goal.reader::read_open_field-returns-in-Ok-2-clause-stop
+reader::read_open_field-returns-in-Ok-2-clause-stop g t c =
     let os = c.in_ok-octets.octets.items in
     let held : AreOctets os = (content_of c.in_ok-octets.ensures.done).2 in
     let over : g.R.ReadLeaves.rules.to_units c.over-content.result ≡ g.R.ReadLeaves.rules.ruling.units os = ap g.R.ReadLeaves.rules.to_units (c.over-content.ensures ∙ ap unpacked c.deref.ensures.value) ∙ c.keep_laws.ensures.over os held in
@@ -208,8 +208,8 @@ read_open_field-returns-in-Ok-2-clause-stop g t c =
     let more : (g.R.ReadLeaves.rules.to_units c.read_complete.new.units) ≡ [] → ⊥ = λ e. c.if-units_left-eq0.false (c.units_left-in-Ok-1.ensures ∙ ap length e) in
     rw c.units_left.ensures (record { told = more_held g.R.ReadLeaves.rules c.keep_laws.ensures (shape_of c.args.ty.now) c.requires.of_profile c.in_ok-octets.ensures.done read more })
 
-pub read_open_field-returns-in-Err-Short-clause-stop : goal.read_open_field-returns-in-Err-Short-clause-stop
-read_open_field-returns-in-Err-Short-clause-stop g t c =
+pub reader::read_open_field-returns-in-Err-Short-clause-stop : goal.reader::read_open_field-returns-in-Err-Short-clause-stop
+reader::read_open_field-returns-in-Err-Short-clause-stop g t c =
     let os = c.in_ok-octets.octets.items in
     let held : AreOctets os = (content_of c.in_ok-octets.ensures.done).2 in
     let over : g.R.ReadLeaves.rules.to_units c.over-content.result ≡ g.R.ReadLeaves.rules.ruling.units os = ap g.R.ReadLeaves.rules.to_units (c.over-content.ensures ∙ ap unpacked c.deref.ensures.value) ∙ c.keep_laws.ensures.over os held in
@@ -217,8 +217,8 @@ read_open_field-returns-in-Err-Short-clause-stop g t c =
     let told = none_held g.R.ReadLeaves.rules c.keep_laws.ensures (shape_of c.args.ty.now) c.requires.of_profile c.in-Err-Short.field-0 (λ e. cc) c.in_ok-octets.ensures.done stopped in
     rw c.units_left.ensures (record { told = told })
 
-pub read_open_field-returns-in-Err-Refused-clause-stop : goal.read_open_field-returns-in-Err-Refused-clause-stop
-read_open_field-returns-in-Err-Refused-clause-stop g t c =
+pub reader::read_open_field-returns-in-Err-Refused-clause-stop : goal.reader::read_open_field-returns-in-Err-Refused-clause-stop
+reader::read_open_field-returns-in-Err-Refused-clause-stop g t c =
     let os = c.in_ok-octets.octets.items in
     let held : AreOctets os = (content_of c.in_ok-octets.ensures.done).2 in
     let over : g.R.ReadLeaves.rules.to_units c.over-content.result ≡ g.R.ReadLeaves.rules.ruling.units os = ap g.R.ReadLeaves.rules.to_units (c.over-content.ensures ∙ ap unpacked c.deref.ensures.value) ∙ c.keep_laws.ensures.over os held in
@@ -226,12 +226,12 @@ read_open_field-returns-in-Err-Refused-clause-stop g t c =
     let told = none_held g.R.ReadLeaves.rules c.keep_laws.ensures (shape_of c.args.ty.now) c.requires.of_profile c.in-Err-Refused.field-0 (λ e. cc) c.in_ok-octets.ensures.done stopped in
     rw c.units_left.ensures (record { told = told })
 
-pub read_components-loop-field-init : goal.read_components-loop-field-init
-read_components-loop-field-init g t c =
+pub components::read_components-loop-field-init : goal.components::read_components-loop-field-init
+components::read_components-loop-field-init g t c =
     (read_starts g.R.ReadLeaves.rules (entries_seen c.args.entries.now.items) (map part_of_field c.args.fields.now) c.args.presence.left c.args.presence.bitmap (g.R.ReadLeaves.rules.to_units c.args.units.now) c.requires.of_profile c.requires.width c.requires.few, refl, omega arith, c.requires.capacity, c.requires.at_unit)
 
-pub read_components-loop-field-preserved-in-Some : goal.read_components-loop-field-preserved-in-Some
-read_components-loop-field-preserved-in-Some g t c =
+pub components::read_components-loop-field-preserved-in-Some : goal.components::read_components-loop-field-preserved-in-Some
+components::read_components-loop-field-preserved-in-Some g t c =
     let h = rw (next_part c.args.fields.now c.loop-field.field-index c.field-item.result c.loop-field-test.true c.field-item.is) at c.loop-field.invariant.0 in
     let n = next_must g.R.ReadLeaves.rules c.keep_laws.ensures h (c.in-Some.ensures.must refl) in
     let z = c.in-Some.number in
@@ -246,16 +246,16 @@ read_components-loop-field-preserved-in-Some g t c =
       c.try_bounded.ensures.at_unit,
     )
 
-pub read_components-returns-in_err-entry-clause-stop : goal.read_components-returns-in_err-entry-clause-stop
-read_components-returns-in_err-entry-clause-stop g t c =
+pub components::read_components-returns-in_err-entry-clause-stop : goal.components::read_components-returns-in_err-entry-clause-stop
+components::read_components-returns-in_err-entry-clause-stop g t c =
     let h = rw (next_part c.args.fields.now c.loop-field.field-index c.field-item.result c.loop-field-test.true c.field-item.is) at c.loop-field.invariant.0 in
     let n = next_either g.R.ReadLeaves.rules c.keep_laws.ensures h c.next_of-present.result c.next_of-present.new.self.left c.next_of-present.ensures.must (λ e. (let b = c.next_of-present.ensures.bit e in (b.0, b.1 ∙ ap (λ m. m / 2 ^ c.next_of-present.new.self.left % 2) c.loop-field.invariant.1))) in
     let p = err_from_is_err_and c.from_residual.result c.from_residual.ensures.1 in
     let still : c.try_bounded.new.units ≡ c.loop-field.units = c.in_default.ensures.none refl in
     rw (p.1, p.2) (stops_by _ n.stops (rw still at c.in_err-entry.ensures.stop))
 
-pub read_components-loop-field-preserved : goal.read_components-loop-field-preserved
-read_components-loop-field-preserved g t c =
+pub components::read_components-loop-field-preserved : goal.components::read_components-loop-field-preserved
+components::read_components-loop-field-preserved g t c =
     let h = rw (next_part c.args.fields.now c.loop-field.field-index c.field-item.result c.loop-field-test.true c.field-item.is) at c.loop-field.invariant.0 in
     let n = next_either g.R.ReadLeaves.rules c.keep_laws.ensures h c.next_of-present.result c.next_of-present.new.self.left c.next_of-present.ensures.must (λ e. (let b = c.next_of-present.ensures.bit e in (b.0, b.1 ∙ ap (λ m. m / 2 ^ c.next_of-present.new.self.left % 2) c.loop-field.invariant.1))) in
     let still : c.try_bounded.new.units ≡ c.loop-field.units = c.in_default.ensures.none refl in
@@ -269,24 +269,24 @@ read_components-loop-field-preserved g t c =
       c.in_ok-entry.ensures.at_unit,
     )
 
-pub read_components-returns-clause-done : goal.read_components-returns-clause-done
-read_components-returns-clause-done g t c =
+pub components::read_components-returns-clause-done : goal.components::read_components-returns-clause-done
+components::read_components-returns-clause-done g t c =
     read_ends c.loop-field.invariant.0 (no_part c.args.fields.now c.loop-field.field-index c.loop-field-test.false)
 
-pub read_entry-returns-then-not-present-clause-done : goal.read_entry-returns-then-not-present-clause-done
-read_entry-returns-then-not-present-clause-done g t c =
+pub components::read_entry-returns-then-not-present-clause-done : goal.components::read_entry-returns-then-not-present-clause-done
+components::read_entry-returns-then-not-present-clause-done g t c =
     let e : c.args.present ≡ false = c.if-not-present.true in
     rw (e, c.absent.ensures) (nothing_read g.R.ReadLeaves.rules.ruling.fielding (default_of (part_of_field c.args.field.now).demand) (g.R.ReadLeaves.rules.to_units c.args.units.now))
 
-pub read_entry-returns-in_err-read_other-in-Default-clause-stop : goal.read_entry-returns-in_err-read_other-in-Default-clause-stop
-read_entry-returns-in_err-read_other-in-Default-clause-stop g t c =
+pub components::read_entry-returns-in_err-read_other-in-Default-clause-stop : goal.components::read_entry-returns-in_err-read_other-in-Default-clause-stop
+components::read_entry-returns-in_err-read_other-in-Default-clause-stop g t c =
     let e : c.args.present ≡ true = c.if-not-present.false in
     let d : default_of (part_of_field c.args.field.now).demand ≡ Some (datum_of c.in-Default.default) = ap default_of (demand_of_part c.args.field.now ∙ ap demand_of c.in-Default.is) in
     let p = err_from_is_err_and c.from_residual.result c.from_residual.ensures.1 in
     rw (p.1, p.2) (stops_by _ (entry_leads g.R.ReadLeaves.rules c.args.field.now c.args.present _ (g.R.ReadLeaves.rules.to_units c.args.units.now) e d).stops c.in_err-read_other-in-Default.ensures.stop)
 
-pub read_entry-returns-in_ok-read_other-in-Default-clause-done : goal.read_entry-returns-in_ok-read_other-in-Default-clause-done
-read_entry-returns-in_ok-read_other-in-Default-clause-done g t c =
+pub components::read_entry-returns-in_ok-read_other-in-Default-clause-done : goal.components::read_entry-returns-in_ok-read_other-in-Default-clause-done
+components::read_entry-returns-in_ok-read_other-in-Default-clause-done g t c =
     let e : c.args.present ≡ true = c.if-not-present.false in
     let d : default_of (part_of_field c.args.field.now).demand ≡ Some (datum_of c.in-Default.default) = ap default_of (demand_of_part c.args.field.now ∙ ap demand_of c.in-Default.is) in
     (entry_leads g.R.ReadLeaves.rules c.args.field.now c.args.present _ (g.R.ReadLeaves.rules.to_units c.args.units.now) e d).done (datum_of c.in_ok-read_other-in-Default.field-0) (g.R.ReadLeaves.rules.to_units c.read_other.new.units) c.in_ok-read_other-in-Default.ensures.done
@@ -296,136 +296,136 @@ no_default : (need : Need) → (need ≡ needs.Must) ⊎ (need ≡ needs.Optiona
 no_default need (inl e) = ap (λ n. default_of (demand_of n)) e
 no_default need (inr e) = ap (λ n. default_of (demand_of n)) e
 
-pub read_entry-returns-in_err-read-in-Must-clause-stop : goal.read_entry-returns-in_err-read-in-Must-clause-stop
-read_entry-returns-in_err-read-in-Must-clause-stop g t c =
+pub components::read_entry-returns-in_err-read-in-Must-clause-stop : goal.components::read_entry-returns-in_err-read-in-Must-clause-stop
+components::read_entry-returns-in_err-read-in-Must-clause-stop g t c =
     let e : c.args.present ≡ true = c.if-not-present.false in
     let d : default_of (part_of_field c.args.field.now).demand ≡ None = ap default_of (demand_of_part c.args.field.now) ∙ no_default c.args.field.now.need c.in-Must.is in
     let p = err_from_is_err_and c.from_residual-in_err-read-in-Must.result c.from_residual-in_err-read-in-Must.ensures.1 in
     rw (p.1, p.2) (stops_by _ (entry_leads g.R.ReadLeaves.rules c.args.field.now c.args.present None (g.R.ReadLeaves.rules.to_units c.args.units.now) e d).stops c.in_err-read-in-Must.ensures.stop)
 
-pub read_entry-returns-in_ok-read-in-Must-clause-done : goal.read_entry-returns-in_ok-read-in-Must-clause-done
-read_entry-returns-in_ok-read-in-Must-clause-done g t c =
+pub components::read_entry-returns-in_ok-read-in-Must-clause-done : goal.components::read_entry-returns-in_ok-read-in-Must-clause-done
+components::read_entry-returns-in_ok-read-in-Must-clause-done g t c =
     let e : c.args.present ≡ true = c.if-not-present.false in
     let d : default_of (part_of_field c.args.field.now).demand ≡ None = ap default_of (demand_of_part c.args.field.now) ∙ no_default c.args.field.now.need c.in-Must.is in
     (entry_leads g.R.ReadLeaves.rules c.args.field.now c.args.present None (g.R.ReadLeaves.rules.to_units c.args.units.now) e d).done (datum_of c.in_ok-read-in-Must.field-0) (g.R.ReadLeaves.rules.to_units c.read.new.units) c.in_ok-read-in-Must.ensures.done
 
-pub read_additions-returns-in_err-bitmap-clause-stop : goal.read_additions-returns-in_err-bitmap-clause-stop
-read_additions-returns-in_err-bitmap-clause-stop g t c =
+pub components::read_additions-returns-in_err-bitmap-clause-stop : goal.components::read_additions-returns-in_err-bitmap-clause-stop
+components::read_additions-returns-in_err-bitmap-clause-stop g t c =
     let p = err_from_is_err_and c.from_residual.result c.from_residual.ensures.1 in
     rw (p.1, p.2) (stops_by _ (presence_stops_at g.R.ReadLeaves.rules c.keep_laws.ensures c.args.fields.now c.requires.of_profile (g.R.ReadLeaves.rules.to_units c.args.units.now)) c.in_err-bitmap.ensures.stop)
 
-pub read_additions-returns-clause-done : goal.read_additions-returns-clause-done
-read_additions-returns-clause-done g t c =
+pub components::read_additions-returns-clause-done : goal.components::read_additions-returns-clause-done
+components::read_additions-returns-clause-done g t c =
     let lead = open_fields_lead g.R.ReadLeaves.rules c.keep_laws.ensures c.args.fields.now c.requires.of_profile c.in_ok-bitmap.bitmap (g.R.ReadLeaves.rules.to_units c.args.units.now) (g.R.ReadLeaves.rules.to_units c.read_addition_bitmap.new.units) c.in_ok-bitmap.ensures.done in
     IfOk-weaker c.read_open_fields.result _ _ (λ _ s. after_leads (entries_seen c.args.entries.now.items) lead s) c.read_open_fields.ensures.done
 
-pub read_additions-returns-clause-stop : goal.read_additions-returns-clause-stop
-read_additions-returns-clause-stop g t c =
+pub components::read_additions-returns-clause-stop : goal.components::read_additions-returns-clause-stop
+components::read_additions-returns-clause-stop g t c =
     let lead = open_fields_lead g.R.ReadLeaves.rules c.keep_laws.ensures c.args.fields.now c.requires.of_profile c.in_ok-bitmap.bitmap (g.R.ReadLeaves.rules.to_units c.args.units.now) (g.R.ReadLeaves.rules.to_units c.read_addition_bitmap.new.units) c.in_ok-bitmap.ensures.done in
     IfErr-weaker c.read_open_fields.result _ _ (λ why s. stops_by why lead.stops s) c.read_open_fields.ensures.stop
 
-pub read_open_fields-loop-field-init : goal.read_open_fields-loop-field-init
-read_open_fields-loop-field-init g t c =
+pub components::read_open_fields-loop-field-init : goal.components::read_open_fields-loop-field-init
+components::read_open_fields-loop-field-init g t c =
     (added_starts g.R.ReadLeaves.rules (entries_seen c.args.entries.now.items) c.args.fields.now c.args.presence.left c.args.presence.bitmap (g.R.ReadLeaves.rules.to_units c.args.units.now) c.requires.of_profile c.requires.width c.requires.few, refl, c.requires.at_unit)
 
-pub read_open_fields-returns-in_err-read_open_field-clause-stop : goal.read_open_fields-returns-in_err-read_open_field-clause-stop
-read_open_fields-returns-in_err-read_open_field-clause-stop g t c =
+pub components::read_open_fields-returns-in_err-read_open_field-clause-stop : goal.components::read_open_fields-returns-in_err-read_open_field-clause-stop
+components::read_open_fields-returns-in_err-read_open_field-clause-stop g t c =
     let h = rw (next_part c.args.fields.now c.loop-field.field-index c.field-item.result c.loop-field-test.true c.field-item.is) at c.loop-field.invariant.0 in
     let after : c.next.new.self.left + 1 ≡ c.loop-field.presence.left = c.next.ensures.left in
     let bit : 1 ≡ c.args.presence.bitmap / 2 ^ c.next.new.self.left % 2 = ap bit_of (sym c.if-next.true) ∙ c.next.ensures.bit ∙ ap (λ m. m / 2 ^ c.next.new.self.left % 2) c.loop-field.invariant.1 in
     let p = err_from_is_err_and c.from_residual.result c.from_residual.ensures.1 in
     rw (p.1, p.2) (stops_by _ (addition_stops g.R.ReadLeaves.rules c.keep_laws.ensures h c.next.new.self.left after bit) (rw (← shape_of_part c.field-item.result) at c.in_err-read_open_field.ensures.stop))
 
-pub read_open_fields-loop-field-preserved : goal.read_open_fields-loop-field-preserved
-read_open_fields-loop-field-preserved g t c =
+pub components::read_open_fields-loop-field-preserved : goal.components::read_open_fields-loop-field-preserved
+components::read_open_fields-loop-field-preserved g t c =
     let h = rw (next_part c.args.fields.now c.loop-field.field-index c.field-item.result c.loop-field-test.true c.field-item.is) at c.loop-field.invariant.0 in
     let after : c.next.new.self.left + 1 ≡ c.loop-field.presence.left = c.next.ensures.left in
     let same : c.next.new.self.bitmap ≡ c.args.presence.bitmap = c.next.ensures.bitmap ∙ c.loop-field.invariant.1 in
     let items : map (option_map datum_of) c.push.new.self.items ≡ map (option_map datum_of) c.loop-field.entries.items ++ option_map datum_of c.if-next.entry ∷ [] =
     ap (map (option_map datum_of)) c.in_ok-push.ensures.items ∙ map-append (option_map datum_of) c.loop-field.entries.items (c.if-next.entry ∷ []) in
     rw items (elim c.if-next.branch [
-      | read_open_fields-then-next+in_ok-read_open_field w ↦
+      | components::read_open_fields-then-next+in_ok-read_open_field w ↦
           let bit : 1 ≡ c.args.presence.bitmap / 2 ^ c.next.new.self.left % 2 = ap bit_of (sym w.if-next.true) ∙ c.next.ensures.bit ∙ ap (λ m. m / 2 ^ c.next.new.self.left % 2) c.loop-field.invariant.1 in
           rw (w.entry-is, w.units-is) (addition_present g.R.ReadLeaves.rules c.keep_laws.ensures h c.next.new.self.left after bit _ (g.R.ReadLeaves.rules.to_units w.read_open_field.new.units) (rw (← shape_of_part c.field-item.result) at w.in_ok-read_open_field.ensures.done), same, w.in_ok-read_open_field.ensures.at_unit)
-      | read_open_fields-else-next w ↦
+      | components::read_open_fields-else-next w ↦
           let bit : 0 ≡ c.args.presence.bitmap / 2 ^ c.next.new.self.left % 2 = ap bit_of (sym w.if-next.false) ∙ c.next.ensures.bit ∙ ap (λ m. m / 2 ^ c.next.new.self.left % 2) c.loop-field.invariant.1 in
           rw (w.entry-is, w.units-is) (addition_absent g.R.ReadLeaves.rules c.keep_laws.ensures h c.next.new.self.left after bit, same, c.loop-field.invariant.2)
     ])
 
-pub read_open_fields-returns-clause-done : goal.read_open_fields-returns-clause-done
-read_open_fields-returns-clause-done g t c =
+pub components::read_open_fields-returns-clause-done : goal.components::read_open_fields-returns-clause-done
+components::read_open_fields-returns-clause-done g t c =
     added_ends g.R.ReadLeaves.rules c.loop-field.invariant.0 (no_part c.args.fields.now c.loop-field.field-index c.loop-field-test.false)
 
-pub read-read_index-requires-clause-some : goal.read-read_index-requires-clause-some
-read-read_index-requires-clause-some g t c =
+pub reader::read-read_index-requires-clause-some : goal.reader::read-read_index-requires-clause-some
+reader::read-read_index-requires-clause-some g t c =
     some_root c.args.ty.now c.in-Choice.root c.in-Choice.ext c.in-Choice.is c.requires.of_profile c.len-known.result c.len-known.ensures
 
-pub read-read_index-requires-clause-few : goal.read-read_index-requires-clause-few
-read-read_index-requires-clause-few g t c = choice_few g.R.ReadLeaves.rules c.keep_laws.ensures c.args.ty.now c.in-Choice.root c.in-Choice.ext c.in-Choice.is c.requires.of_profile c.len-known.result c.len-known.ensures c.added_count.result c.added_count.ensures (g.R.ReadLeaves.rules.to_units c.args.units.now)
+pub reader::read-read_index-requires-clause-few : goal.reader::read-read_index-requires-clause-few
+reader::read-read_index-requires-clause-few g t c = choice_few g.R.ReadLeaves.rules c.keep_laws.ensures c.args.ty.now c.in-Choice.root c.in-Choice.ext c.in-Choice.is c.requires.of_profile c.len-known.result c.len-known.ensures c.added_count.result c.added_count.ensures (g.R.ReadLeaves.rules.to_units c.args.units.now)
 
-pub read-returns-in_err-index-in-Choice-clause-stop : goal.read-returns-in_err-index-in-Choice-clause-stop
-read-returns-in_err-index-in-Choice-clause-stop g t c =
+pub reader::read-returns-in_err-index-in-Choice-clause-stop : goal.reader::read-returns-in_err-index-in-Choice-clause-stop
+reader::read-returns-in_err-index-in-Choice-clause-stop g t c =
     let p = err_from_is_err_and c.from_residual-in_err-index-in-Choice.result c.from_residual-in_err-index-in-Choice.ensures.1 in
     rw (p.1, p.2) (stops_by _ (choice_stops g.R.ReadLeaves.rules c.keep_laws.ensures c.args.ty.now c.in-Choice.root c.in-Choice.ext c.in-Choice.is c.requires.of_profile c.len-known.result c.len-known.ensures c.added_count.result c.added_count.ensures (g.R.ReadLeaves.rules.to_units c.args.units.now)) c.in_err-index-in-Choice.ensures.stop)
 
-pub read-read_alternative-requires : goal.read-read_alternative-requires
-read-read_alternative-requires g t c κs lives =
+pub reader::read-read_alternative-requires : goal.reader::read-read_alternative-requires
+reader::read-read_alternative-requires g t c κs lives =
     let within : IsIndexWithin c.len-known.result c.added_count.result (index_seen c.in_ok-index-in-Choice.field-0) = c.in_ok-index-in-Choice.ensures.done.spelt.fits in
     let inside : c.in-Root.index < c.len-known.result = rw c.in-Root.is at within in
     (search (rules, the_lemmas), (lives.0, (lives.1, (c.in_ok-index-in-Choice.ensures.at_unit, (roots_good c.args.ty.now c.in-Choice.root c.in-Choice.ext c.in-Choice.is c.requires.of_profile c.deref-in-Root.result.now c.deref-in-Root.ensures.value, omega (arith, inside, c.len-known.ensures, c.deref-in-Root.ensures.len))))))
 
-pub read-returns-in_err-value-in-Root-clause-stop : goal.read-returns-in_err-value-in-Root-clause-stop
-read-returns-in_err-value-in-Root-clause-stop g t c =
+pub reader::read-returns-in_err-value-in-Root-clause-stop : goal.reader::read-returns-in_err-value-in-Root-clause-stop
+reader::read-returns-in_err-value-in-Root-clause-stop g t c =
     let p = err_from_is_err_and c.from_residual-in_err-value-in-Root.result c.from_residual-in_err-value-in-Root.ensures.1 in
     let lead = root_value_leads g.R.ReadLeaves.rules c.keep_laws.ensures c.args.ty.now c.in-Choice.root c.in-Choice.ext c.in-Choice.is c.requires.of_profile c.len-known.result c.len-known.ensures c.added_count.result c.added_count.ensures (g.R.ReadLeaves.rules.to_units c.args.units.now) c.in_ok-index-in-Choice.field-0 c.in-Root.index (g.R.ReadLeaves.rules.to_units c.read_index.new.units) c.in_ok-index-in-Choice.ensures.done c.deref-in-Root.result.now c.deref-in-Root.ensures.value c.in-Root.is in
     rw (p.1, p.2) (stops_by _ lead.stops c.in_err-value-in-Root.ensures.stop)
 
-pub read-chosen-requires : goal.read-chosen-requires
-read-chosen-requires g t c =
+pub reader::read-chosen-requires : goal.reader::read-chosen-requires
+reader::read-chosen-requires g t c =
     let within : IsIndexWithin c.len-known.result c.added_count.result (index_seen c.in_ok-index-in-Choice.field-0) = c.in_ok-index-in-Choice.ensures.done.spelt.fits in
     let inside : c.in-Root.index < c.len-known.result = rw c.in-Root.is at within in
     omega (arith, inside, few_root c.args.ty.now c.in-Choice.root c.in-Choice.ext c.in-Choice.is c.requires.of_profile c.len-known.result c.len-known.ensures)
 
-pub read-returns-in_ok-chosen-in-Root-clause-done : goal.read-returns-in_ok-chosen-in-Root-clause-done
-read-returns-in_ok-chosen-in-Root-clause-done g t c =
+pub reader::read-returns-in_ok-chosen-in-Root-clause-done : goal.reader::read-returns-in_ok-chosen-in-Root-clause-done
+reader::read-returns-in_ok-chosen-in-Root-clause-done g t c =
     let lead = root_value_leads g.R.ReadLeaves.rules c.keep_laws.ensures c.args.ty.now c.in-Choice.root c.in-Choice.ext c.in-Choice.is c.requires.of_profile c.len-known.result c.len-known.ensures c.added_count.result c.added_count.ensures (g.R.ReadLeaves.rules.to_units c.args.units.now) c.in_ok-index-in-Choice.field-0 c.in-Root.index (g.R.ReadLeaves.rules.to_units c.read_index.new.units) c.in_ok-index-in-Choice.ensures.done c.deref-in-Root.result.now c.deref-in-Root.ensures.value c.in-Root.is in
     rw c.in_ok-chosen-in-Root.ensures (lead.done (datum_of c.in_ok-value-in-Root.value) (g.R.ReadLeaves.rules.to_units c.read_alternative.new.units) c.in_ok-value-in-Root.ensures.done)
 
-pub read-read_added_alternative-requires : goal.read-read_added_alternative-requires
-read-read_added_alternative-requires g t c κs lives =
+pub reader::read-read_added_alternative-requires : goal.reader::read-read_added_alternative-requires
+reader::read-read_added_alternative-requires g t c κs lives =
     let within : IsIndexWithin c.len-known.result c.added_count.result (index_seen c.in_ok-index-in-Choice.field-0) = c.in_ok-index-in-Choice.ensures.done.spelt.fits in
     let inside = added_inside c.len-known.result c.added_count.result c.in-Choice.ext c.in-Some-ext.additions c.in_ok-index-in-Choice.field-0 c.in-Added.index c.added_count.ensures c.in-Some-ext.is c.in-Added.is within in
     (search (rules, the_lemmas), (lives.0, (lives.1, (c.in_ok-index-in-Choice.ensures.at_unit, (additions_good c.args.ty.now c.in-Choice.root c.in-Choice.ext c.in-Choice.is c.requires.of_profile c.in-Some-ext.additions c.deref-in-Added.result.now c.in-Some-ext.is c.deref-in-Added.ensures.value, rw c.deref-in-Added.ensures.len inside)))))
 
-pub read-returns-in_err-value-in-Added-clause-stop : goal.read-returns-in_err-value-in-Added-clause-stop
-read-returns-in_err-value-in-Added-clause-stop g t c =
+pub reader::read-returns-in_err-value-in-Added-clause-stop : goal.reader::read-returns-in_err-value-in-Added-clause-stop
+reader::read-returns-in_err-value-in-Added-clause-stop g t c =
     let p = err_from_is_err_and c.from_residual-in_err-value-in-Added.result c.from_residual-in_err-value-in-Added.ensures.1 in
     let lead = added_value_leads g.R.ReadLeaves.rules c.keep_laws.ensures c.args.ty.now c.in-Choice.root c.in-Choice.ext c.in-Choice.is c.requires.of_profile c.len-known.result c.len-known.ensures c.added_count.result c.added_count.ensures (g.R.ReadLeaves.rules.to_units c.args.units.now) c.in_ok-index-in-Choice.field-0 c.in-Added.index (g.R.ReadLeaves.rules.to_units c.read_index.new.units) c.in_ok-index-in-Choice.ensures.done c.in-Some-ext.additions c.deref-in-Added.result.now c.in-Some-ext.is c.deref-in-Added.ensures.value c.in-Added.is in
     rw (p.1, p.2) (stops_by _ lead.stops c.in_err-value-in-Added.ensures.stop)
 
-pub read-chosen-requires-in-Added : goal.read-chosen-requires-in-Added
-read-chosen-requires-in-Added g t c =
+pub reader::read-chosen-requires-in-Added : goal.reader::read-chosen-requires-in-Added
+reader::read-chosen-requires-in-Added g t c =
     let within : IsIndexWithin c.len-known.result c.added_count.result (index_seen c.in_ok-index-in-Choice.field-0) = c.in_ok-index-in-Choice.ensures.done.spelt.fits in
     let inside = added_inside c.len-known.result c.added_count.result c.in-Choice.ext c.in-Some-ext.additions c.in_ok-index-in-Choice.field-0 c.in-Added.index c.added_count.ensures c.in-Some-ext.is c.in-Added.is within in
     omega (arith, inside, few_all c.args.ty.now c.in-Choice.root c.in-Choice.ext c.in-Choice.is c.requires.of_profile c.len-known.result c.len-known.ensures c.in-Some-ext.additions c.in-Some-ext.is)
 
-pub read-returns-in_ok-chosen-in-Added-clause-done : goal.read-returns-in_ok-chosen-in-Added-clause-done
-read-returns-in_ok-chosen-in-Added-clause-done g t c =
+pub reader::read-returns-in_ok-chosen-in-Added-clause-done : goal.reader::read-returns-in_ok-chosen-in-Added-clause-done
+reader::read-returns-in_ok-chosen-in-Added-clause-done g t c =
     let lead = added_value_leads g.R.ReadLeaves.rules c.keep_laws.ensures c.args.ty.now c.in-Choice.root c.in-Choice.ext c.in-Choice.is c.requires.of_profile c.len-known.result c.len-known.ensures c.added_count.result c.added_count.ensures (g.R.ReadLeaves.rules.to_units c.args.units.now) c.in_ok-index-in-Choice.field-0 c.in-Added.index (g.R.ReadLeaves.rules.to_units c.read_index.new.units) c.in_ok-index-in-Choice.ensures.done c.in-Some-ext.additions c.deref-in-Added.result.now c.in-Some-ext.is c.deref-in-Added.ensures.value c.in-Added.is in
     rw c.in_ok-chosen-in-Added.ensures (lead.done (datum_of c.in_ok-value-in-Added.value) (g.R.ReadLeaves.rules.to_units c.read_added_alternative.new.units) c.in_ok-value-in-Added.ensures.done)
 
-pub read_root-returns-in_err-preamble-clause-stop : goal.read_root-returns-in_err-preamble-clause-stop
-read_root-returns-in_err-preamble-clause-stop g t c =
+pub components::read_root-returns-in_err-preamble-clause-stop : goal.components::read_root-returns-in_err-preamble-clause-stop
+components::read_root-returns-in_err-preamble-clause-stop g t c =
     let p = err_from_is_err_and c.from_residual.result c.from_residual.ensures.1 in
     rw (p.1, p.2) (record { stops = λ more good e. stops_by _ (preamble_stops g.R.ReadLeaves.rules c.keep_laws.ensures (fields_seen c.args.root.now) more good (g.R.ReadLeaves.rules.to_units c.args.units.now)) (rw (c.bitmap_width-width.ensures.count, ← e) at c.in_err-preamble.ensures.stop) })
 
-pub read_root-read_components-requires : goal.read_root-read_components-requires
-read_root-read_components-requires g t c κs within =
+pub components::read_root-read_components-requires : goal.components::read_root-read_components-requires
+components::read_root-read_components-requires g t c κs within =
     let room : vec_len c.in_ok-entries.entries + length c.args.root.now ≤ vec_capacity c.in_ok-entries.entries = omega (arith, c.in_ok-entries.ensures.len, c.in_ok-entries.ensures.capacity) in
     (search (rules, the_lemmas), (within.0, (within.1, (c.in_ok-preamble.ensures.at_unit, (c.requires.of_profile, (c.bitmap_width-width.ensures.count, (c.bitmap_width-width.ensures.few, room)))))))
 
-pub read_root-returns-in_err-read_components-clause-stop : goal.read_root-returns-in_err-read_components-clause-stop
-read_root-returns-in_err-read_components-clause-stop g t c =
+pub components::read_root-returns-in_err-read_components-clause-stop : goal.components::read_root-returns-in_err-read_components-clause-stop
+components::read_root-returns-in_err-read_components-clause-stop g t c =
     let p = err_from_is_err_and c.from_residual-in_err-read_components.result c.from_residual-in_err-read_components.ensures.1 in
     rw (p.1, p.2) (record {
       stops = λ more good e.
@@ -433,50 +433,50 @@ read_root-returns-in_err-read_components-clause-stop g t c =
           stops_by _ (components_stop g.R.ReadLeaves.rules c.keep_laws.ensures (fields_seen c.args.root.now) more good (preamble_seen c.in_ok-preamble.preamble) (g.R.ReadLeaves.rules.to_units c.args.units.now) (g.R.ReadLeaves.rules.to_units c.read_preamble.new.units) read) (rw c.bitmap_width-width.ensures.count at c.in_err-read_components.ensures.stop));
     })
 
-pub read_root-returns-clause-done : goal.read_root-returns-clause-done
-read_root-returns-clause-done g t c = record {
+pub components::read_root-returns-clause-done : goal.components::read_root-returns-clause-done
+components::read_root-returns-clause-done g t c = record {
   bitmap = c.in_ok-preamble.preamble.bitmap;
   between = g.R.ReadLeaves.rules.to_units c.read_preamble.new.units;
   preamble = rw c.bitmap_width-width.ensures.count at c.in_ok-preamble.ensures.done;
   components = after_nothing (rw (c.in_ok-entries.ensures.items, c.bitmap_width-width.ensures.count) at c.in_ok-read_components.ensures.done);
 }
 
-pub read-read_root-requires : goal.read-read_root-requires
-read-read_root-requires g t c κs within =
+pub reader::read-read_root-requires : goal.reader::read-read_root-requires
+reader::read-read_root-requires g t c κs within =
     let is = closed_type c.args.ty.now c.in-Seq.root c.in-Seq.ext c.as_slice-root.result.now c.in-Seq.is c.in_default.is c.as_slice-root.ensures.value in
     let good : InProfile (sequence (fields_seen c.as_slice-root.result.now) closed) = rw is at c.requires.of_profile in
     (search (rules, the_lemmas), (within.0, (within.1, (c.requires.at_unit, (components_of_profile (fields_seen c.as_slice-root.result.now) closed good, (few_components c.as_slice-root.result.now is c.requires.of_profile, tt))))))
 
-pub read-returns-in_err-entries-in-Seq-clause-stop : goal.read-returns-in_err-entries-in-Seq-clause-stop
-read-returns-in_err-entries-in-Seq-clause-stop g t c =
+pub reader::read-returns-in_err-entries-in-Seq-clause-stop : goal.reader::read-returns-in_err-entries-in-Seq-clause-stop
+reader::read-returns-in_err-entries-in-Seq-clause-stop g t c =
     let is = closed_type c.args.ty.now c.in-Seq.root c.in-Seq.ext c.as_slice-root.result.now c.in-Seq.is c.in_default.is c.as_slice-root.ensures.value in
     let good : InProfile (sequence (fields_seen c.as_slice-root.result.now) closed) = rw is at c.requires.of_profile in
     let p = err_from_is_err_and c.from_residual.result c.from_residual.ensures.1 in
     rw (p.1, p.2, is) (c.in_err-entries-in-Seq.ensures.stop.stops closed good refl)
 
-pub read-returns-in_default-clause-done : goal.read-returns-in_default-clause-done
-read-returns-in_default-clause-done g t c =
+pub reader::read-returns-in_default-clause-done : goal.reader::read-returns-in_default-clause-done
+reader::read-returns-in_default-clause-done g t c =
     let is = closed_type c.args.ty.now c.in-Seq.root c.in-Seq.ext c.as_slice-root.result.now c.in-Seq.is c.in_default.is c.as_slice-root.ensures.value in
     let good : InProfile (sequence (fields_seen c.as_slice-root.result.now) closed) = rw is at c.requires.of_profile in
     let h = c.in_ok-entries-in-Seq.ensures.done in
     rw (is, datum_of-Seq c.in_ok-entries-in-Seq.entries) (closed_done g.R.ReadLeaves.rules c.keep_laws.ensures (fields_seen c.as_slice-root.result.now) good (_, h.bitmap) (g.R.ReadLeaves.rules.to_units c.args.units.now) h.between h.preamble (entries_seen c.in_ok-entries-in-Seq.entries.items) (g.R.ReadLeaves.rules.to_units c.read_root.new.units) h.components)
 
-pub read-read_root-requires-in-Seq : goal.read-read_root-requires-in-Seq
-read-read_root-requires-in-Seq g t c κs within =
+pub reader::read-read_root-requires-in-Seq : goal.reader::read-read_root-requires-in-Seq
+reader::read-read_root-requires-in-Seq g t c κs within =
     let is = marked_type c.args.ty.now c.in-Seq.root c.in-Seq.ext c.in-Some.additions c.as_slice-root.result.now c.as_slice-additions.result.now c.in-Seq.is c.in-Some.is c.as_slice-root.ensures.value c.as_slice-additions.ensures.value in
     let good : InProfile (sequence (fields_seen c.as_slice-root.result.now) (marked (fields_seen c.as_slice-additions.result.now))) = rw is at c.requires.of_profile in
     (search (rules, the_lemmas), (within.0, (within.1, (c.requires.at_unit, (components_of_profile (fields_seen c.as_slice-root.result.now) (marked (fields_seen c.as_slice-additions.result.now)) good, (few_components c.as_slice-root.result.now is c.requires.of_profile, few_added c.as_slice-additions.result.now is c.requires.of_profile))))))
 
-pub read-returns-in_err-extended-in-Seq-clause-stop : goal.read-returns-in_err-extended-in-Seq-clause-stop
-read-returns-in_err-extended-in-Seq-clause-stop g t c =
+pub reader::read-returns-in_err-extended-in-Seq-clause-stop : goal.reader::read-returns-in_err-extended-in-Seq-clause-stop
+reader::read-returns-in_err-extended-in-Seq-clause-stop g t c =
     let is = marked_type c.args.ty.now c.in-Seq.root c.in-Seq.ext c.in-Some.additions c.as_slice-root.result.now c.as_slice-additions.result.now c.in-Seq.is c.in-Some.is c.as_slice-root.ensures.value c.as_slice-additions.ensures.value in
     let good : InProfile (sequence (fields_seen c.as_slice-root.result.now) (marked (fields_seen c.as_slice-additions.result.now))) = rw is at c.requires.of_profile in
     let count : Some (length c.as_slice-additions.result.now) ≡ added (marked (fields_seen c.as_slice-additions.result.now)) = ap Some (sym (count_of_fields c.as_slice-additions.result.now)) in
     let p = err_from_is_err_and c.from_residual-in_err-extended-in-Seq.result c.from_residual-in_err-extended-in-Seq.ensures.1 in
     rw (p.1, p.2, is) (c.in_err-extended-in-Seq.ensures.stop.stops (marked (fields_seen c.as_slice-additions.result.now)) good (sym count))
 
-pub read-read_additions-requires : goal.read-read_additions-requires
-read-read_additions-requires g t c κs within =
+pub reader::read-read_additions-requires : goal.reader::read-read_additions-requires
+reader::read-read_additions-requires g t c κs within =
     let is = marked_type c.args.ty.now c.in-Seq.root c.in-Seq.ext c.in-Some.additions c.as_slice-root.result.now c.as_slice-additions.result.now c.in-Seq.is c.in-Some.is c.as_slice-root.ensures.value c.as_slice-additions.ensures.value in
     let good : InProfile (sequence (fields_seen c.as_slice-root.result.now) (marked (fields_seen c.as_slice-additions.result.now))) = rw is at c.requires.of_profile in
     let count : Some (length c.as_slice-additions.result.now) ≡ added (marked (fields_seen c.as_slice-additions.result.now)) = ap Some (sym (count_of_fields c.as_slice-additions.result.now)) in
@@ -485,8 +485,8 @@ read-read_additions-requires g t c κs within =
     let some : 0 < length c.as_slice-additions.result.now = rw count_of_fields at (some_listed _ (read.spelt.fits.1 c.if-extended.true)) in
     (search (rules, the_lemmas), (within.0, (within.1, (c.in_ok-extended-in-Seq.ensures.at_unit, (added_of_profile c.as_slice-additions.result.now is c.requires.of_profile, (some, few_added c.as_slice-additions.result.now is c.requires.of_profile))))))
 
-pub read-returns-in_err-read_additions-in-Seq-clause-stop : goal.read-returns-in_err-read_additions-in-Seq-clause-stop
-read-returns-in_err-read_additions-in-Seq-clause-stop g t c =
+pub reader::read-returns-in_err-read_additions-in-Seq-clause-stop : goal.reader::read-returns-in_err-read_additions-in-Seq-clause-stop
+reader::read-returns-in_err-read_additions-in-Seq-clause-stop g t c =
     let is = marked_type c.args.ty.now c.in-Seq.root c.in-Seq.ext c.in-Some.additions c.as_slice-root.result.now c.as_slice-additions.result.now c.in-Seq.is c.in-Some.is c.as_slice-root.ensures.value c.as_slice-additions.ensures.value in
     let good : InProfile (sequence (fields_seen c.as_slice-root.result.now) (marked (fields_seen c.as_slice-additions.result.now))) = rw is at c.requires.of_profile in
     let count : Some (length c.as_slice-additions.result.now) ≡ added (marked (fields_seen c.as_slice-additions.result.now)) = ap Some (sym (count_of_fields c.as_slice-additions.result.now)) in
@@ -495,14 +495,14 @@ read-returns-in_err-read_additions-in-Seq-clause-stop g t c =
     let p = err_from_is_err_and c.from_residual-in_err-read_additions-in-Seq.result c.from_residual-in_err-read_additions-in-Seq.ensures.1 in
     rw (p.1, p.2, is) (stops_by _ (additions_stop g.R.ReadLeaves.rules c.keep_laws.ensures (fields_seen c.as_slice-root.result.now) (marked (fields_seen c.as_slice-additions.result.now)) good (c.in_ok-extended-in-Seq.extended, h.bitmap) (g.R.ReadLeaves.rules.to_units c.args.units.now) h.between read (entries_seen c.in_ok-extended-in-Seq.entries.items) (g.R.ReadLeaves.rules.to_units c.read_root-in-Seq.new.units) h.components c.if-extended.true) c.in_err-read_additions-in-Seq.ensures.stop)
 
-pub read-returns-after-extended-clause-done : goal.read-returns-after-extended-clause-done
-read-returns-after-extended-clause-done g t c =
+pub reader::read-returns-after-extended-clause-done : goal.reader::read-returns-after-extended-clause-done
+reader::read-returns-after-extended-clause-done g t c =
     let is = marked_type c.args.ty.now c.in-Seq.root c.in-Seq.ext c.in-Some.additions c.as_slice-root.result.now c.as_slice-additions.result.now c.in-Seq.is c.in-Some.is c.as_slice-root.ensures.value c.as_slice-additions.ensures.value in
     let good : InProfile (sequence (fields_seen c.as_slice-root.result.now) (marked (fields_seen c.as_slice-additions.result.now))) = rw is at c.requires.of_profile in
     let count : Some (length c.as_slice-additions.result.now) ≡ added (marked (fields_seen c.as_slice-additions.result.now)) = ap Some (sym (count_of_fields c.as_slice-additions.result.now)) in
     let h : ReadsRoot g.R.ReadLeaves.rules (fields_seen c.as_slice-root.result.now) (Some (length c.as_slice-additions.result.now)) c.in_ok-extended-in-Seq.extended (entries_seen c.in_ok-extended-in-Seq.entries.items) c.args.units.now c.read_root-in-Seq.new.units = c.in_ok-extended-in-Seq.ensures.done in
     let read : Spells g.R.ReadLeaves.rules.ruling.fielding (PreambleOf g.R.ReadLeaves.rules (bitmap_length (fields_seen c.as_slice-root.result.now)) (added (marked (fields_seen c.as_slice-additions.result.now)))) (c.in_ok-extended-in-Seq.extended, h.bitmap) (g.R.ReadLeaves.rules.to_units c.args.units.now) h.between = rw count at h.preamble in
     rw (is, datum_of-Seq c.if-extended.entries) (elim c.if-extended.branch [
-      | read-then-extended+in_ok-read_additions-in-Seq w ↦ rw (w.entries-is, w.units-is) (additions_done g.R.ReadLeaves.rules c.keep_laws.ensures (fields_seen c.as_slice-root.result.now) (marked (fields_seen c.as_slice-additions.result.now)) good (c.in_ok-extended-in-Seq.extended, h.bitmap) (g.R.ReadLeaves.rules.to_units c.args.units.now) h.between read (entries_seen c.in_ok-extended-in-Seq.entries.items) (g.R.ReadLeaves.rules.to_units c.read_root-in-Seq.new.units) h.components w.if-extended.true (entries_seen w.read_additions.new.entries.items) (g.R.ReadLeaves.rules.to_units w.read_additions.new.units) w.in_ok-read_additions-in-Seq.ensures.done)
-      | read-else-extended+in_ok-push_absent-in-Seq w ↦ rw (w.entries-is, w.units-is, w.in_ok-push_absent-in-Seq.ensures) (none_added g.R.ReadLeaves.rules c.keep_laws.ensures (fields_seen c.as_slice-root.result.now) (marked (fields_seen c.as_slice-additions.result.now)) good (c.in_ok-extended-in-Seq.extended, h.bitmap) (g.R.ReadLeaves.rules.to_units c.args.units.now) h.between read (entries_seen c.in_ok-extended-in-Seq.entries.items) (g.R.ReadLeaves.rules.to_units c.read_root-in-Seq.new.units) h.components w.if-extended.false)
+      | reader::read-then-extended+in_ok-read_additions-in-Seq w ↦ rw (w.entries-is, w.units-is) (additions_done g.R.ReadLeaves.rules c.keep_laws.ensures (fields_seen c.as_slice-root.result.now) (marked (fields_seen c.as_slice-additions.result.now)) good (c.in_ok-extended-in-Seq.extended, h.bitmap) (g.R.ReadLeaves.rules.to_units c.args.units.now) h.between read (entries_seen c.in_ok-extended-in-Seq.entries.items) (g.R.ReadLeaves.rules.to_units c.read_root-in-Seq.new.units) h.components w.if-extended.true (entries_seen w.read_additions.new.entries.items) (g.R.ReadLeaves.rules.to_units w.read_additions.new.units) w.in_ok-read_additions-in-Seq.ensures.done)
+      | reader::read-else-extended+in_ok-push_absent-in-Seq w ↦ rw (w.entries-is, w.units-is, w.in_ok-push_absent-in-Seq.ensures) (none_added g.R.ReadLeaves.rules c.keep_laws.ensures (fields_seen c.as_slice-root.result.now) (marked (fields_seen c.as_slice-additions.result.now)) good (c.in_ok-extended-in-Seq.extended, h.bitmap) (g.R.ReadLeaves.rules.to_units c.args.units.now) h.between read (entries_seen c.in_ok-extended-in-Seq.entries.items) (g.R.ReadLeaves.rules.to_units c.read_root-in-Seq.new.units) h.components w.if-extended.false)
     ])

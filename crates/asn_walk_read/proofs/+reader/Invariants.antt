@@ -5,27 +5,27 @@ use Rattle.asn_walk.specs.Reading.{ValuesOf, fields_seen, entries_seen}
 use Rattle.asn_walk_read.proofs.AdditionsRead.{AddedUpTo}
 use Rattle.asn_walk_read.proofs.ComponentsRead.{ReadUpTo}
 use Rattle.asn_walk_read.proofs.Listing.{Appends, FragmentsUpTo, steps_left}
-use Rattle.asn_walk_read.proofs.reader.+reader.Given as goal
+use Rattle.asn_walk_read.proofs.+reader.Given as goal
 
-abbrev pub invariant-read_components-loop-field : goal.invariant-read_components-loop-field
-invariant-read_components-loop-field g l =
+abbrev pub invariant-components::read_components-loop-field : goal.invariant-components::read_components-loop-field
+invariant-components::read_components-loop-field g l =
     ReadUpTo g.R.ReadLeaves.rules (entries_seen l.fn.entries.items) (map part_of_field l.fields) l.fn.presence.left l.fn.presence.bitmap (g.R.ReadLeaves.rules.to_units l.fn.units) (map part_of_field (drop l.field-index l.fields)) l.presence.left (entries_seen l.entries.items) (g.R.ReadLeaves.rules.to_units l.units)
     × (l.presence.bitmap ≡ l.fn.presence.bitmap) × (vec_len l.entries ≡ vec_len l.fn.entries + l.field-index) × (vec_len l.fn.entries + length l.fields ≤ vec_capacity l.entries) × g.R.ReadLeaves.rules.at_unit l.units
 
-abbrev pub invariant-read_open_fields-loop-field : goal.invariant-read_open_fields-loop-field
-invariant-read_open_fields-loop-field g l =
+abbrev pub invariant-components::read_open_fields-loop-field : goal.invariant-components::read_open_fields-loop-field
+invariant-components::read_open_fields-loop-field g l =
     AddedUpTo g.R.ReadLeaves.rules (entries_seen l.fn.entries.items) (fields_seen l.fields) (g.R.ReadLeaves.rules.to_units l.fn.units) l.fn.presence.left l.fn.presence.bitmap (map part_of_field (drop l.field-index l.fields)) l.presence.left (entries_seen l.entries.items) (g.R.ReadLeaves.rules.to_units l.units)
     × (l.presence.bitmap ≡ l.fn.presence.bitmap) × g.R.ReadLeaves.rules.at_unit l.units
 
-abbrev pub invariant-read_elements-loop-i : goal.invariant-read_elements-loop-i
-invariant-read_elements-loop-i g l =
+abbrev pub invariant-reader::read_elements-loop-i : goal.invariant-reader::read_elements-loop-i
+invariant-reader::read_elements-loop-i g l =
     Appends g.R.ReadLeaves.rules.ruling.fielding (ValuesOf g.R.ReadLeaves.rules (shape_of l.element)) l.i (map datum_of l.fn.elements.items) (map datum_of l.elements.items) (g.R.ReadLeaves.rules.to_units l.fn.units) (g.R.ReadLeaves.rules.to_units l.units)
     × g.R.ReadLeaves.rules.at_unit l.units
 
-abbrev pub invariant-read_fragments-loop-fragments : goal.invariant-read_fragments-loop-fragments
-invariant-read_fragments-loop-fragments g l =
+abbrev pub invariant-reader::read_fragments-loop-fragments : goal.invariant-reader::read_fragments-loop-fragments
+invariant-reader::read_fragments-loop-fragments g l =
     FragmentsUpTo g.R.ReadLeaves.rules (ValuesOf g.R.ReadLeaves.rules (shape_of l.element)) (Remaining (ValuesOf g.R.ReadLeaves.rules (shape_of l.element)) (g.R.ReadLeaves.ahead l.fn.fragments)) (g.R.ReadLeaves.rules.to_units l.fn.units) (map datum_of l.fn.elements.items) (g.R.ReadLeaves.ahead l.fragments) (map datum_of l.elements.items) (g.R.ReadLeaves.rules.to_units l.units)
     × g.R.ReadLeaves.is_between l.fragments × g.R.ReadLeaves.rules.at_unit l.units
 
-abbrev pub decreases-read_fragments-loop-fragments : goal.decreases-read_fragments-loop-fragments
-decreases-read_fragments-loop-fragments g l = steps_left (g.R.ReadLeaves.ahead l.fragments) + length (g.R.ReadLeaves.rules.to_units l.units)
+abbrev pub decreases-reader::read_fragments-loop-fragments : goal.decreases-reader::read_fragments-loop-fragments
+decreases-reader::read_fragments-loop-fragments g l = steps_left (g.R.ReadLeaves.ahead l.fragments) + length (g.R.ReadLeaves.rules.to_units l.units)

@@ -1,0 +1,188 @@
+//! The components of a SEQUENCE, each read into its entry: those of the root and the extension additions.
+ghost use Rattle.std.specs.Prelude.{◌≡◌, ◌≤◌, ◌<◌, IfOk, IfErr, IfSome, OnOk, length};
+ghost use Rattle.std.specs.Option.{option_map};
+ghost use Rattle.asn_values.specs.Profile.{InProfile};
+ghost use Rattle.asn_values.specs.Parts.{AreOfProfile, IsGoodDemand};
+ghost use Rattle.asn_values.specs.View.{datum_of, part_of_field};
+ghost use Rattle.asn_bits.specs.Numbers.{bits};
+ghost use Rattle.asn_rules.specs.Listed.{Listed, bitmap_length};
+ghost use Rattle.asn_walk.specs.Coding.{OpenListed, AdditionsOf};
+ghost use Rattle.asn_walk.specs.Reading.{Reads, StopsAt, EntryOf, ReadsRoot, StopsInRoot, fields_seen, entries_seen};
+
+use crate::entries::{make_present, set_absent, set_integer};
+use crate::reader::{read_into, read_open_into};
+use asn_bits::BitCursor;
+use asn_rules::Stop;
+use asn_values::{Field, Need, Value};
+use asn_walk::{PresenceBits, ReadLeaves, bitmap_width};
+use asn_walk_read::try_bounded;
+use std::alloc::Global;
+
+/// Reads the root of a SEQUENCE: what stands before its components, and these. Gives the extension bit.
+#[cycle(reader)]
+pub(crate) fn read_root_into<R: ReadLeaves>(
+    alloc: Global,
+    root: &[Field],
+    additions: Option<usize>,
+    entries: &mut [Option<Value>],
+    units: &mut BitCursor<'_>,
+) -> Result<bool, Stop>
+    requires at_unit { R.rules.at_unit units.old }
+    requires of_profile { AreOfProfile (fields_seen root.now) }
+    requires few { length root.now ≤ 64 }
+    requires few_additions { IfSome additions (λ n. n ≤ 64) }
+    requires each { length entries.old ≡ length root.now }
+    ensures at_unit { OnOk result (R.rules.at_unit units.new) }
+    ensures done { IfOk result (λ extended. ReadsRoot R.rules (fields_seen root.now) additions extended
+        (entries_seen entries.new) units.old units.new) }
+    ensures stop { IfErr result (λ why. StopsInRoot R.rules (fields_seen root.now) additions units.old why) }
+{
+    R::keep_laws();
+    let width = bitmap_width(root);
+    let preamble = R::read_preamble(width, additions, units)?;
+    let presence = PresenceBits {
+        bitmap: preamble.bitmap,
+        left: width,
+    };
+    read_components_into::<R>(alloc, root, presence, entries, units)?;
+    Ok(preamble.extended)
+}
+
+/// Reads the components of a root that the presence bits tell, in order, each into its entry. A component with a
+/// DEFAULT that is absent has that value.
+#[cycle(reader)]
+fn read_components_into<R: ReadLeaves>(
+    alloc: Global,
+    fields: &[Field],
+    presence: PresenceBits,
+    entries: &mut [Option<Value>],
+    units: &mut BitCursor<'_>,
+) -> Result<(), Stop>
+    requires at_unit { R.rules.at_unit units.old }
+    requires of_profile { AreOfProfile (fields_seen fields.now) }
+    requires width { presence.left ≡ bitmap_length (fields_seen fields.now) }
+    requires few { presence.left ≤ 64 }
+    requires each { length entries.old ≡ length fields.now }
+    ensures at_unit { OnOk result (R.rules.at_unit units.new) }
+    ensures done { OnOk result (Reads R.rules
+        (Listed R.rules.code (fields_seen fields.now) (bits presence.left presence.bitmap))
+        (entries_seen entries.new) units.old units.new) }
+    ensures stop { IfErr result (λ why. StopsAt R.rules
+        (Listed R.rules.code (fields_seen fields.now) (bits presence.left presence.bitmap)) units.old why) }
+{
+    R::keep_laws();
+    let mut presence = presence;
+    let mut at = 0;
+    for field in fields {
+        if let Some(number) = try_bounded::<R>(field, units) {
+            set_integer(&mut entries[at], number);
+            at += 1;
+            continue;
+        }
+        let present = presence.next_of(field);
+        read_entry_into::<R>(alloc, field, present, &mut entries[at], units)?;
+        at += 1;
+    }
+    Ok(())
+}
+
+/// Reads the entry of a component, of which `present` says whether it is there.
+#[cycle(reader)]
+fn read_entry_into<R: ReadLeaves>(
+    alloc: Global,
+    field: &Field,
+    present: bool,
+    entry: &mut Option<Value>,
+    units: &mut BitCursor<'_>,
+) -> Result<(), Stop>
+    requires at_unit { R.rules.at_unit units.old }
+    requires of_profile { InProfile (part_of_field field.now).shape }
+    requires good { IsGoodDemand (part_of_field field.now).demand (part_of_field field.now).shape }
+    ensures at_unit { OnOk result (R.rules.at_unit units.new) }
+    ensures done { OnOk result (Reads R.rules (EntryOf R.rules (part_of_field field.now) present)
+        (option_map datum_of entry.new) units.old units.new) }
+    ensures stop { IfErr result (λ why.
+        StopsAt R.rules (EntryOf R.rules (part_of_field field.now) present) units.old why) }
+{
+    if !present {
+        set_absent(field, entry);
+        return Ok(());
+    }
+    match &field.need {
+        Need::Default(default) => {
+            *entry = Some(R::read_other(&field.ty, default, units)?);
+            Ok(())
+        }
+        Need::Must | Need::Optional => {
+            make_present(entry);
+            let Some(value) = entry else { unreachable!() };
+            read_into::<R>(alloc, &field.ty, units, value)
+        }
+    }
+}
+
+/// Reads the extension additions of a SEQUENCE of which one at least is present, each into its entry.
+#[cycle(reader)]
+pub(crate) fn read_additions_into<R: ReadLeaves>(
+    alloc: Global,
+    fields: &[Field],
+    entries: &mut [Option<Value>],
+    units: &mut BitCursor<'_>,
+) -> Result<(), Stop>
+    requires at_unit { R.rules.at_unit units.old }
+    requires of_profile { AreOfProfile (fields_seen fields.now) }
+    requires some { 0 < length fields.now }
+    requires few { length fields.now ≤ 64 }
+    requires each { length entries.old ≡ length fields.now }
+    ensures at_unit { OnOk result (R.rules.at_unit units.new) }
+    ensures done { OnOk result (Reads R.rules (AdditionsOf R.rules (fields_seen fields.now))
+        (entries_seen entries.new) units.old units.new) }
+    ensures stop { IfErr result (λ why. StopsAt R.rules (AdditionsOf R.rules (fields_seen fields.now)) units.old why) }
+{
+    R::keep_laws();
+    let count = fields.len() as u32;
+    let bitmap = R::read_addition_bitmap(count, units)?;
+    let presence = PresenceBits {
+        bitmap,
+        left: count,
+    };
+    read_open_fields_into::<R>(alloc, fields, presence, entries, units)
+}
+
+/// Reads the extension additions that the presence bits tell, each an open type field, into their entries.
+#[cycle(reader)]
+fn read_open_fields_into<R: ReadLeaves>(
+    alloc: Global,
+    fields: &[Field],
+    presence: PresenceBits,
+    entries: &mut [Option<Value>],
+    units: &mut BitCursor<'_>,
+) -> Result<(), Stop>
+    requires at_unit { R.rules.at_unit units.old }
+    requires of_profile { AreOfProfile (fields_seen fields.now) }
+    requires width { presence.left ≡ length fields.now }
+    requires few { presence.left ≤ 64 }
+    requires each { length entries.old ≡ length fields.now }
+    ensures at_unit { OnOk result (R.rules.at_unit units.new) }
+    ensures done { OnOk result (Reads R.rules
+        (OpenListed R.rules (fields_seen fields.now) (bits presence.left presence.bitmap))
+        (entries_seen entries.new) units.old units.new) }
+    ensures stop { IfErr result (λ why. StopsAt R.rules
+        (OpenListed R.rules (fields_seen fields.now) (bits presence.left presence.bitmap)) units.old why) }
+{
+    R::keep_laws();
+    let mut presence = presence;
+    let mut at = 0;
+    for field in fields {
+        let entry = &mut entries[at];
+        at += 1;
+        if !presence.next() {
+            *entry = None;
+            continue;
+        }
+        make_present(entry);
+        let Some(value) = entry else { unreachable!() };
+        read_open_into::<R>(alloc, &field.ty, units, value)?;
+    }
+    Ok(())
+}

@@ -1,7 +1,7 @@
 //! Reads messages whose octets come one by one, and stops at the first bit after which no message can follow.
 #![tactic(auto)]
 
-use anyhow::{Result, bail};
+use anyhow::Result;
 use asn_per::Per;
 use asn_rules::{FeedFault, Rules, Step};
 use asn_values::{AsnType, Bounds, Checked, Field, Size};
@@ -33,7 +33,7 @@ fn follow(rt: &impl Print, alloc: Global, ty: &Checked, stream: &[u8]) -> Result
                 println!(rt; "{octet:02x} no message begins so: bit {at}, {why}")?;
                 return Ok(());
             }
-            Err(fault) => bail!("{fault}"),
+            Err(fault) => return Err(fault.into()),
         }
     }
     match Per::finish(session) {

@@ -181,7 +181,8 @@ fn number_in_word(octets: &[u8], offset: u32, k: u32) -> Option<u64>
     requires few { k ≤ 64 }
     ensures fits { IfSome result (λ n. n < 2 ^ k) }
     ensures there { IfSome result (λ n. offset + k ≤ 8 * length octets.now) }
-    ensures here { IfSome result (λ n. drop offset (unpacked octets.now) ≡ bits k n ++ drop (offset + k) (unpacked octets.now)) }
+    ensures here { IfSome result (λ n.
+        drop offset (unpacked octets.now) ≡ bits k n ++ drop (offset + k) (unpacked octets.now)) }
 {
     let end = offset + k;
     if k > 0

@@ -80,7 +80,8 @@ impl Lengths {
     /// `Dead`, and then nothing has changed.
     pub fn bit(&mut self, bit: bool) -> FieldState
         ensures state { TellsLength (Spanned self.old.counts) (given self.old ++ bit_of bit ∷ []) result }
-        ensures first { TellsFirst (CountsLeft self.old.counts self.old.blocks) (self.old.bits ++ bit_of bit ∷ []) result }
+        ensures first { TellsFirst (CountsLeft self.old.counts self.old.blocks)
+            (self.old.bits ++ bit_of bit ∷ []) result }
         ensures goes { Goes self.old (bit_of bit ∷ []) result self.new }
     {
         let Some(state) = after_bit(self.state, bit) else {
@@ -102,7 +103,8 @@ impl Lengths {
     /// Whether the bits so far end a length, after whose items another one comes.
     pub fn more(&self) -> bool
         ensures fragment { IsTrue result ↔ ((0 < self.now.blocks) × (self.now.bits ≡ [])) }
-        ensures more { (n : ℕ) (e : EndsLength (Spanned self.now.counts) (given self.now) n) → IsTrue result ↔ (e.after ≢ []) }
+        ensures more { (n : ℕ) (e : EndsLength (Spanned self.now.counts) (given self.now) n) →
+            IsTrue result ↔ (e.after ≢ []) }
     {
         self.blocks_read > 0 && matches!(self.state, LengthState::Start)
     }
@@ -111,7 +113,8 @@ impl Lengths {
     /// complete length determinant follows and the size allows it; else nothing has changed.
     pub fn take(&mut self, bits: &mut BitCursor<'_>) -> Option<u64>
         ensures some { IfSome result (λ n. Takes self.old bits.old bits.new n self.new) }
-        ensures whole { IsSome result ↔ ((self.old.bits ≡ []) × LengthAhead (CountsLeft self.old.counts self.old.blocks) bits.old) }
+        ensures whole { IsSome result
+            ↔ ((self.old.bits ≡ []) × LengthAhead (CountsLeft self.old.counts self.old.blocks) bits.old) }
         ensures none { IsNone result → (self.new ≡ self.old) × (bits.new ≡ bits.old) }
         ensures live { StartsSome (CountsLeft self.old.counts self.old.blocks) self.old.bits }
     {
@@ -208,7 +211,8 @@ fn completed(state: LengthState) -> Option<(Form, u32)>
 
 /// The form and the number of the length in the next bits. `None` where they end before it does.
 fn next_length(bits: &mut BitCursor<'_>) -> Option<(Form, u32)>
-    ensures some { IfSome result (λ x. IsLengthState (Number x.0 x.1 0) × (bits.old ≡ state_bits (Number x.0 x.1 0) ++ bits.new)) }
+    ensures some { IfSome result (λ x.
+        IsLengthState (Number x.0 x.1 0) × (bits.old ≡ state_bits (Number x.0 x.1 0) ++ bits.new)) }
     ensures none { IsNone result → LengthAhead (λ n. ⊤) bits.old → ⊥ }
 {
     let first = bits.take_number(8)? as u32;
@@ -242,7 +246,8 @@ fn remaining_counts_after(state: LengthState, closed: bool) -> (u64, Option<u64>
     requires { IsLengthState state }
     ensures low { result.0 < 2 ^ 32 }
     ensures high { IfSome result.1 (λ high. high < 2 ^ 32) }
-    ensures exact { (n : ℕ) → ((result.0 ≤ n) × AtMost n result.1) ↔ (StartsLength n (state_bits state) × (closed ≡ true → n < 16384)) }
+    ensures exact { (n : ℕ) → ((result.0 ≤ n) × AtMost n result.1)
+        ↔ (StartsLength n (state_bits state) × (closed ≡ true → n < 16384)) }
 {
     let (low, high) = counts_after(state);
     match high {
@@ -289,7 +294,8 @@ fn fragments_with(low: u64, high: u64) -> (u64, Option<u64>)
     requires few { high < 64 }
     ensures low { result.0 < 2 ^ 32 }
     ensures high { IfSome result.1 (λ high. high < 2 ^ 32) }
-    ensures exact { (n : ℕ) → ((result.0 ≤ n) × AtMost n result.1) ↔ ((16384 ≤ n) × (low ≤ blocks n) × (blocks n ≤ high)) }
+    ensures exact { (n : ℕ) → ((result.0 ≤ n) × AtMost n result.1)
+        ↔ ((16384 ≤ n) × (low ≤ blocks n) × (blocks n ≤ high)) }
 {
     if low > MAX_BLOCKS {
         (1, Some(0))

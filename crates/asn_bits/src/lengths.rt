@@ -60,7 +60,8 @@ pub(crate) fn put_general_octets(
 ) -> (u32, u64)
     requires waiting { count < 64 }
     requires room { vec_len into.old + length octets.now + length octets.now / 16384 * 16 + 24 ≤ vec_capacity into.old }
-    ensures bits { IsPut into.old.items count pending (general_octets (λ u. u) octets.now) into.new.items result.0 result.1 }
+    ensures bits { IsPut into.old.items count pending (general_octets (λ u. u) octets.now)
+        into.new.items result.0 result.1 }
     ensures waiting { result.0 < 8 }
     ensures room { vec_len into.new + 8 ≤ vec_capacity into.new }
 {

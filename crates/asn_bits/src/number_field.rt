@@ -58,7 +58,11 @@ impl NumberField {
     /// those that made it dead leave it dead.
     pub fn bit(&mut self, bit: bool) -> FieldState
         requires { length self.old.given < self.old.width }
-        ensures given { self.new ≡ record { numbers = self.old.numbers; width = self.old.width; given = self.old.given ++ bit_of bit ∷ [] } }
+        ensures given { self.new ≡ record {
+          numbers = self.old.numbers;
+          width = self.old.width;
+          given = self.old.given ++ bit_of bit ∷ [];
+        } }
         ensures state { Tells self.new result }
     {
         self.prefix = 2 * self.prefix + u64::from(bit);
@@ -78,7 +82,8 @@ impl NumberField {
 pub fn take_of(numbers: &Intervals, k: u32, bits: &mut BitCursor<'_>) -> Option<u64>
     requires { k ≤ 64 }
     ensures some { IfSome result (λ n. StandsFirst k (λ m. Among numbers.now m) n bits.old bits.new) }
-    ensures none { IsNone result → (n : ℕ) (rest : List ℕ) → StandsFirst k (λ m. Among numbers.now m) n bits.old rest → ⊥ }
+    ensures none { IsNone result → (n : ℕ) (rest : List ℕ) →
+        StandsFirst k (λ m. Among numbers.now m) n bits.old rest → ⊥ }
     ensures unchanged { IsNone result → bits.new ≡ bits.old }
 {
     let before = bits.copied();

@@ -15,7 +15,8 @@ pub(crate) fn push_front(
 ) -> Result<(), AllocError>
     requires begun { offset < 8 }
     requires there { 8 * count + offset ≤ 8 * length octets.now }
-    ensures ok { OnOk result (Taken count (drop offset (unpacked octets.now)) (drop offset (unpacked (drop count octets.now))) bytes.old.items bytes.new.items) }
+    ensures ok { OnOk result (Taken count (drop offset (unpacked octets.now))
+        (drop offset (unpacked (drop count octets.now))) bytes.old.items bytes.new.items) }
     ensures err { OnErr result (bytes.new.items ≡ bytes.old.items) }
 {
     if offset == 0 {
@@ -54,14 +55,14 @@ fn fill_shifted(into: &mut [u8], count: u32, pending: u64, octets: &[u8]) -> u64
 {
     let mut high = pending;
     let mut rest = octets;
-    let mut place = 0;
+    let mut index = 0;
     while let Some((eight, others)) = rest.split_first_chunk::<8>() {
         let n = u64::from_be_bytes(*eight);
         let word = full_word(high, 64, n, count);
-        into[place..place + 8].copy_from_slice(&word.to_be_bytes());
+        into[index..index + 8].copy_from_slice(&word.to_be_bytes());
         high = n;
         rest = others;
-        place += 8;
+        index += 8;
     }
     high
 }

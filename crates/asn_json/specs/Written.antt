@@ -1,16 +1,18 @@
 -- The JSON that is written of a value. It stands in serde_json's own words (`view` of its `Value`), and so do its
 -- objects, in which `put` keeps the members in order of their keys.
 use Rattle.std.specs.Prelude.{◌≡◌, ◌-◌, ℕ, zero, suc, Bool, true, false, List, [], ◌∷◌, ◌++◌, map, take, drop, length, Option, Some, None, nat_lt, if◌then◌else◌, slice_get}
+use Rattle.std.specs.Fmt.{decimal, signed_decimal}
 use Rattle.std.specs.Str.{encode_utf8_all}
 use Rattle.hex.specs.Hex.{encode_lower}
 use Rattle.serde_json.specs.Data.{Data, null, boolean, number, string, array, object, Members, no_members, member, put}
 use Rattle.serde_json.specs.Find.{of_integer}
 use Rattle.serde_json.specs.View.{items_of}
-use Rattle.asn_values.specs.Datum.{Datum, truth, item, bit_list, octet_list, characters, unicode, components, elements, alternative, component_list, element_list}
+use Rattle.asn_values.specs.Datum.{Datum, truth, item, bit_list, octet_list, characters, unicode, components, elements, alternative, unknown_item, unknown_alternative, component_list, element_list}
 use Rattle.asn_values.specs.Datum as datum
 use Rattle.asn_values.specs.Shape.{Range, Shape, integer, enumerated, bit_string, octet_string, restricted, utf8_string, sequence, sequence_of, choice, Label, more_labels, Fields, no_fields, field, MoreFields, closed, marked, demands, Alternatives, no_alternatives, one_of, MoreAlternatives, closed_choice, marked_choice, count}
 use Rattle.asn_values.specs.Shape as shape
-use Rattle.asn_values.specs.Fits.{Fits, lowest_integer, highest_integer, in_range}
+use Rattle.asn_values.specs.Fits.{lowest_integer, highest_integer, in_range}
+use Rattle.asn_values.specs.Received.{FitsReceived}
 use Rattle.asn_json.specs.declared.fault.JsonFault.{JsonFault}
 use Rattle.asn_json.specs.declared.fault.JsonFault.TheVariants as fault
 
@@ -34,9 +36,10 @@ abbrev pub json_name : Option (List ℕ) → Data
 json_name None = null
 json_name (Some name) = string name
 
--- the name of the item
+-- the name of the item; of one that the type has not, `?` and its number in decimal
 abbrev pub json_item : List (List ℕ) → Datum → Data
 json_item names (item p) = json_name (slice_get names p)
+json_item names (unknown_item z) = string (63 ∷ signed_decimal z)
 json_item names _ = null
 
 -- the characters 0 and 1
@@ -72,8 +75,10 @@ abbrev pub json_elements : (Datum → Data) → Datum → Data
 json_elements f (elements ds) = array (items_of (map f (element_list ds)))
 json_elements f _ = null
 
+-- of an alternative that the type has not, `?` and its tag in decimal
 abbrev pub json_chosen : (ℕ → Datum → Data) → Datum → Data
 json_chosen f (alternative tag d) = f tag d
+json_chosen f (unknown_alternative tag) = object (member (63 ∷ decimal tag) null no_members)
 json_chosen f _ = null
 
 -- a member for an entry that is there; an absent one has none
@@ -120,13 +125,13 @@ abbrev mutual
   json_addition closed_choice p d = null
   json_addition (marked_choice alts) p d = json_alternative alts p d
 
--- j is what is written of v, which is a value of the type
+-- j is what is written of v, which is a value of the type, or one that a receiver gives of a message of a newer sender
 pub record Written (t : Shape) (v : Datum) (j : Data) : Type 0 where
-  pub fits : Fits t v
+  pub fits : FitsReceived t v
   pub is : j ≡ json_of t v
 
 -- what a fault of writing tells
 abbrev pub Unwritten : Shape → Datum → JsonFault → Type 0
 Unwritten t v (fault.Shape path) = ⊥
-Unwritten t v fault.NotOfType = ¬ Fits t v
-Unwritten t v fault.Memory = Fits t v
+Unwritten t v fault.NotOfType = ¬ FitsReceived t v
+Unwritten t v fault.Memory = FitsReceived t v

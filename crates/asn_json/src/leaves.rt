@@ -1,10 +1,11 @@
 //! The JSON of values without parts.
-ghost use Rattle.std.specs.Prelude.{◌≡◌, ◌++◌, IfOk, map, option_map, slice_get};
-ghost use Rattle.serde_json.specs.Data.{null};
+ghost use Rattle.std.specs.Prelude.{◌≡◌, ◌++◌, ◌∷◌, IfOk, map, slice_get};
+ghost use Rattle.std.specs.Fmt.{signed_decimal};
+ghost use Rattle.serde_json.specs.Data.{null, string};
 ghost use Rattle.serde_json.specs.View.{view};
 ghost use Rattle.asn_values.specs.Datum.{number, item, bit_list, octet_list, characters};
 ghost use Rattle.asn_values.specs.Shape.{more_labels};
-ghost use Rattle.asn_values.specs.View.{label_of, more_labels_of};
+ghost use Rattle.asn_values.specs.View.{more_labels_of, labels_seen};
 ghost use Rattle.asn_json.specs.Written.{integers, json_number, json_name, json_item, json_bits, json_octets, json_characters, label_names};
 
 use asn_values::profile::{HIGHEST_INTEGER, LOWEST_INTEGER};
@@ -20,11 +21,11 @@ pub(crate) const INTEGERS: Bounds = Bounds {
 };
 
 /// The JSON of an integer, or null where it is none of the profile.
-pub(crate) fn number_json(whole: i128) -> Json
-    ensures { view result ≡ json_number (number whole) }
+pub(crate) fn number_json(integer: i128) -> Json
+    ensures { view result ≡ json_number (number integer) }
 {
-    if is_between(&INTEGERS, whole) {
-        Json::from(whole as i64)
+    if is_between(&INTEGERS, integer) {
+        Json::from(integer as i64)
     } else {
         Json::Null
     }
@@ -38,7 +39,7 @@ pub(crate) fn item_json(
     index: u32,
 ) -> Result<Json, AllocError>
     ensures { IfOk result (λ j. view j
-        ≡ json_item (label_names (map label_of root.now ++ more_labels (more_labels_of ext.now))) (item index)) }
+        ≡ json_item (label_names (labels_seen root.now ++ more_labels (more_labels_of ext.now))) (item index)) }
 {
     let index = index as usize;
     if index < root.len() {
@@ -50,9 +51,16 @@ pub(crate) fn item_json(
     }
 }
 
+/// The JSON of an item that the type has not: `?` and its number in decimal.
+pub(crate) fn unknown_item_json(alloc: Global, number: i128) -> Result<Json, AllocError>
+    ensures { IfOk result (λ j. view j ≡ string (63 ∷ signed_decimal number)) }
+{
+    Ok(Json::from(format!(in alloc; "?{number}")?))
+}
+
 /// The name of the item at an index, or null where there is none.
 fn name_json(alloc: Global, items: &[Item], index: usize) -> Result<Json, AllocError>
-    ensures { IfOk result (λ j. view j ≡ json_name (slice_get (label_names (map label_of items.now)) index)) }
+    ensures { IfOk result (λ j. view j ≡ json_name (slice_get (label_names (labels_seen items.now)) index)) }
 {
     if index >= items.len() {
         return Ok(Json::Null);

@@ -1,10 +1,10 @@
 //! The indexes of names: of items, alternatives and components.
-ghost use Rattle.std.specs.Prelude.{◌≡◌, ◌↔◌, ◌≤◌, ◌<◌, ◌+◌, ◌++◌, ◌^◌, ◌||◌, IfSome, IsTrue, map, option_map, option_and_then, length, bytes_eq};
+ghost use Rattle.std.specs.Prelude.{◌≡◌, ◌↔◌, ◌≤◌, ◌<◌, ◌+◌, ◌++◌, ◌^◌, ◌||◌, IfSome, IsTrue, option_map, option_and_then, length, bytes_eq};
 ghost use Rattle.std.specs.List.{list_any};
 ghost use Rattle.serde_json.specs.Find.{as_object, get_member};
 ghost use Rattle.serde_json.specs.View.{view, members_view};
 ghost use Rattle.asn_values.specs.Shape.{more_labels, more_alternatives, alternative_names, count, field_names};
-ghost use Rattle.asn_values.specs.View.{label_of, more_labels_of, fields_of, part_of_field, more_fields_of, alternatives_of, branch_of, more_alternatives_of};
+ghost use Rattle.asn_values.specs.View.{more_labels_of, more_fields_of, more_alternatives_of, fields_seen, alternatives_seen, labels_seen};
 ghost use Rattle.asn_json.specs.Written.{label_names};
 ghost use Rattle.asn_json.specs.Shown.{index_of, choice_names, component_names, single};
 
@@ -15,7 +15,7 @@ use serde_json::{Map, Value as Json};
 pub(crate) fn item_index(root: &[Item], ext: &Option<Vec<Item>>, name: &str) -> Option<usize>
     requires few { length root.now + length (more_labels (more_labels_of ext.now)) ≤ 256 }
     ensures index { result
-        ≡ index_of name.now (label_names (map label_of root.now ++ more_labels (more_labels_of ext.now))) }
+        ≡ index_of name.now (label_names (labels_seen root.now ++ more_labels (more_labels_of ext.now))) }
     ensures inside { IfSome result (λ p. p < 256) }
 {
     match index_of_item(root, name) {
@@ -32,7 +32,7 @@ pub(crate) fn item_index(root: &[Item], ext: &Option<Vec<Item>>, name: &str) -> 
 
 /// The index of the first item of this name.
 fn index_of_item(items: &[Item], name: &str) -> Option<usize>
-    ensures index { result ≡ index_of name.now (label_names (map label_of items.now)) }
+    ensures index { result ≡ index_of name.now (label_names (labels_seen items.now)) }
     ensures inside { IfSome result (λ p. p < length items.now) }
 {
     for (index, item) in items.iter().enumerate() {
@@ -47,7 +47,7 @@ fn index_of_item(items: &[Item], name: &str) -> Option<usize>
 pub(crate) fn alternative_index(root: &[Alt], ext: &Option<Vec<Alt>>, name: &str) -> Option<usize>
     requires few { length root.now + count (more_alternatives (more_alternatives_of ext.now)) ≤ 63 }
     ensures index { result
-        ≡ index_of name.now (choice_names (alternatives_of (map branch_of root.now)) (more_alternatives_of ext.now)) }
+        ≡ index_of name.now (choice_names (alternatives_seen root.now) (more_alternatives_of ext.now)) }
     ensures inside { IfSome result (λ p. p < 63) }
 {
     match index_of_alternative(root, name) {
@@ -65,7 +65,7 @@ pub(crate) fn alternative_index(root: &[Alt], ext: &Option<Vec<Alt>>, name: &str
 /// The index of the first alternative of this name.
 fn index_of_alternative(alternatives: &[Alt], name: &str) -> Option<usize>
     ensures index { result
-        ≡ index_of name.now (alternative_names (alternatives_of (map branch_of alternatives.now))) }
+        ≡ index_of name.now (alternative_names (alternatives_seen alternatives.now)) }
     ensures inside { IfSome result (λ p. p < length alternatives.now) }
 {
     for (index, alternative) in alternatives.iter().enumerate() {
@@ -79,7 +79,7 @@ fn index_of_alternative(alternatives: &[Alt], name: &str) -> Option<usize>
 /// Whether a component has this name.
 pub(crate) fn is_component(root: &[Field], ext: &Option<Vec<Field>>, name: &str) -> bool
     ensures { result ≡ list_any (bytes_eq name.now)
-        (component_names (fields_of (map part_of_field root.now)) (more_fields_of ext.now)) }
+        (component_names (fields_seen root.now) (more_fields_of ext.now)) }
 {
     if has_name(root, name) {
         return true;
@@ -92,7 +92,7 @@ pub(crate) fn is_component(root: &[Field], ext: &Option<Vec<Field>>, name: &str)
 
 /// Whether one of the components has this name.
 fn has_name(fields: &[Field], name: &str) -> bool
-    ensures { result ≡ list_any (bytes_eq name.now) (field_names (fields_of (map part_of_field fields.now))) }
+    ensures { result ≡ list_any (bytes_eq name.now) (field_names (fields_seen fields.now)) }
 {
     for field in fields {
         if *name == *field.name.as_str() {

@@ -6,7 +6,7 @@ ghost use Rattle.asn_values.specs.Datum.{alternative};
 ghost use Rattle.asn_values.specs.Fits.{Fits};
 ghost use Rattle.asn_values.specs.Parts.{AreOfProfile, AreAllOfProfile, IsGoodDemand};
 ghost use Rattle.asn_values.specs.Profile.{InProfile};
-ghost use Rattle.asn_values.specs.View.{shape_of, datum_of, fields_of, part_of_field, more_fields_of, alternatives_of, branch_of};
+ghost use Rattle.asn_values.specs.View.{shape_of, datum_of, part_of_field, more_fields_of, fields_seen, alternatives_seen, entries_seen};
 ghost use Rattle.asn_json.specs.Errors.{Shown, Refused, errors, field_errors, element_errors, errors_at, unknown_errors};
 ghost use Rattle.asn_json.specs.Paths.{below, to_member};
 ghost use Rattle.asn_json.specs.Shown.{component_names};
@@ -112,12 +112,12 @@ fn read_entries(
     object: &Map<String, Json>,
     given: Vec<Option<Value>>,
 ) -> Result<Vec<Option<Value>>, JsonFault>
-    requires of_profile { AreOfProfile (fields_of (map part_of_field fields.now)) }
-    ensures shown { IfOk result (λ es. ShowsAfter (fields_of (map part_of_field fields.now))
+    requires of_profile { AreOfProfile (fields_seen fields.now) }
+    ensures shown { IfOk result (λ es. ShowsAfter (fields_seen fields.now)
         (members_view object.now.entries)
-        (map (option_map datum_of) given.items) (map (option_map datum_of) es.items)) }
+        (entries_seen given.items) (entries_seen es.items)) }
     ensures refused { IfErr result (λ fault. TellsFirst
-        (field_errors (fields_of (map part_of_field fields.now)) (members_view object.now.entries)) fault) }
+        (field_errors (fields_seen fields.now) (members_view object.now.entries)) fault) }
 {
     let mut all = given;
     for field in fields {
@@ -170,7 +170,9 @@ fn missing(alloc: Global, field: &Field) -> Result<Option<Value>, JsonFault>
             | Value::Utf8(_)
             | Value::Seq(_)
             | Value::List(_)
-            | Value::Choice(..),
+            | Value::Choice(..)
+            | Value::UnknownItem(_)
+            | Value::UnknownAlternative(_),
         ) => unreachable!(),
     }
 }
@@ -183,10 +185,10 @@ fn check_keys(
     object: &Map<String, Json>,
 ) -> Result<(), JsonFault>
     ensures known { OnOk result (unknown_errors
-        (component_names (fields_of (map part_of_field root.now)) (more_fields_of ext.now))
+        (component_names (fields_seen root.now) (more_fields_of ext.now))
         (members_view object.now.entries) ≡ []) }
     ensures refused { IfErr result (λ fault. TellsFirst (unknown_errors
-        (component_names (fields_of (map part_of_field root.now)) (more_fields_of ext.now))
+        (component_names (fields_seen root.now) (more_fields_of ext.now))
         (members_view object.now.entries)) fault) }
 {
     for (key, _) in object.iter() {
@@ -242,11 +244,11 @@ fn read_alternative(
     index: usize,
     json: &Json,
 ) -> Result<Value, JsonFault>
-    requires of_profile { AreAllOfProfile (alternatives_of (map branch_of alternatives.now)) }
+    requires of_profile { AreAllOfProfile (alternatives_seen alternatives.now) }
     ensures shown { IfOk result (λ v.
-        ShowsAt (alternatives_of (map branch_of alternatives.now)) index (view json.now) (datum_of v)) }
+        ShowsAt (alternatives_seen alternatives.now) index (view json.now) (datum_of v)) }
     ensures refused { IfErr result (λ fault. TellsFirst
-        (errors_at (alternatives_of (map branch_of alternatives.now)) index (view json.now)) fault) }
+        (errors_at (alternatives_seen alternatives.now) index (view json.now)) fault) }
 {
     if index >= alternatives.len() {
         return Err(at_node(alloc));

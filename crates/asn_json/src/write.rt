@@ -2,12 +2,14 @@
 ghost use Rattle.std.specs.Prelude.{◌≡◌, IfOk, IfErr, map, option_map, string_bytes};
 ghost use Rattle.serde_json.specs.Data.{put};
 ghost use Rattle.serde_json.specs.View.{view, members_view};
-ghost use Rattle.asn_values.specs.View.{shape_of, datum_of, fields_of, part_of_field, alternatives_of, branch_of};
+ghost use Rattle.asn_values.specs.View.{shape_of, datum_of, part_of_field, fields_seen, alternatives_seen, entries_seen};
 ghost use Rattle.asn_json.specs.Written.{Written, Unwritten, json_of, json_alternative, members, with_member};
 
 use crate::fault::JsonFault;
-use crate::leaves::{bits_json, characters_json, item_json, number_json, octets_json};
-use asn_values::{Alt, AsnType, Checked, Field, Value, fits};
+use crate::leaves::{
+    bits_json, characters_json, item_json, number_json, octets_json, unknown_item_json,
+};
+use asn_values::{Alt, AsnType, Checked, Field, Value, fits_received};
 use serde_json::{Map, Value as Json};
 use std::alloc::{AllocError, Global};
 
@@ -17,14 +19,16 @@ use std::alloc::{AllocError, Global};
 /// BIT STRING a string of the characters `0` and `1`, OCTET STRING a string of hexadecimal digits in
 /// small letters, a character string a string. SEQUENCE is an object, with no member for an absent
 /// component and one for each other, SEQUENCE OF an array, CHOICE an object with one member, the name of
-/// the alternative and its value.
+/// the alternative and its value. Of what a newer sender sent: an item that the type has not is the string of `?` and
+/// its number in decimal, an alternative that it has not an object whose one member is `?` with the tag in decimal and
+/// `null`; `from_json` reads neither.
 ///
-/// Err: `NotOfType` exactly where the value is none of the type; `Memory` where a growth was refused.
+/// Err: `NotOfType` exactly where the value is none of the type, nor one that a receiver gives of such a message; `Memory` where a growth was refused.
 pub fn to_json(alloc: Global, ty: &Checked, value: &Value) -> Result<Json, JsonFault>
     ensures written { IfOk result (λ j. Written (shape_of ty.now) (datum_of value.now) (view j)) }
     ensures refused { IfErr result (λ fault. Unwritten (shape_of ty.now) (datum_of value.now) fault) }
 {
-    if !fits(ty, value) {
+    if !fits_received(ty, value) {
         return Err(JsonFault::NotOfType);
     }
     match json_of(alloc, ty.get(), value) {
@@ -42,6 +46,7 @@ fn json_of(alloc: Global, ty: &AsnType, value: &Value) -> Result<Json, AllocErro
         (AsnType::Bool, Value::Bool(truth)) => Ok(Json::from(*truth)),
         (AsnType::Int(_), Value::Int(whole)) => Ok(number_json(*whole)),
         (AsnType::Enum { root, ext }, Value::Enum(index)) => item_json(alloc, root, ext, *index),
+        (AsnType::Enum { .. }, Value::UnknownItem(number)) => unknown_item_json(alloc, *number),
         (AsnType::Bits(_), Value::Bits(bits)) => bits_json(alloc, bits),
         (AsnType::Octets(_), Value::Octets(octets)) => octets_json(alloc, octets),
         (AsnType::Text(..), Value::Text(codes)) => characters_json(alloc, codes),
@@ -67,6 +72,10 @@ fn json_of(alloc: Global, ty: &AsnType, value: &Value) -> Result<Json, AllocErro
                 Some(more) => alternative_json(alloc, more, index - root.len(), chosen),
             }
         }
+        (AsnType::Choice { .. }, Value::UnknownAlternative(tag)) => {
+            let name = format!(in alloc; "?{tag}")?;
+            Ok(Json::from(put_member(Map::new(alloc), name, Json::Null)?))
+        }
         _ => Ok(Json::Null),
     }
 }
@@ -80,7 +89,7 @@ fn with_members(
     object: Map<String, Json>,
 ) -> Result<Map<String, Json>, AllocError>
     ensures { IfOk result (λ m. members_view m.entries
-        ≡ members (fields_of (map part_of_field fields.now)) (map (option_map datum_of) entries.now)
+        ≡ members (fields_seen fields.now) (entries_seen entries.now)
         (members_view object.entries)) }
 {
     let mut all = object;
@@ -154,7 +163,7 @@ fn alternative_json(
     chosen: &Value,
 ) -> Result<Json, AllocError>
     ensures { IfOk result (λ j. view j
-        ≡ json_alternative (alternatives_of (map branch_of alternatives.now)) index (datum_of chosen.now)) }
+        ≡ json_alternative (alternatives_seen alternatives.now) index (datum_of chosen.now)) }
 {
     if index >= alternatives.len() {
         return Ok(Json::Null);

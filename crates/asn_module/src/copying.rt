@@ -23,7 +23,9 @@ fn copy_value(value: &Value) -> Value
         | Value::Utf8(_)
         | Value::Seq(_)
         | Value::List(_)
-        | Value::Choice(..) => Value::Null,
+        | Value::Choice(..)
+        | Value::UnknownItem(_)
+        | Value::UnknownAlternative(_) => Value::Null,
     }
 }
 

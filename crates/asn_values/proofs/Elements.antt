@@ -13,31 +13,6 @@ use Rattle.asn_values.specs.Fits.{Fits, FitsLength}
 use Rattle.asn_values.specs.View.{shape_of, datum_of, size_range_of}
 use Rattle.asn_values.proofs.Views.{list_of_elements, datum_of-List, element_list-elements_of}
 
--- ---- the values of a SEQUENCE OF
-
--- a list is one where its length is in the size and each element is a value of the type
-pub fits_list : (t : Shape) (s : SizeRange) (ds : List Datum) → (FitsLength s (length ds) × AllByRecursion (λ d. Fits t d) ds) ↔ Fits (sequence_of t s) (elements (elements_of ds))
-fits_list t s ds = rw (element_list-elements_of ds) (λ h. h, λ h. h)
-
-module _ (t e : AsnType) (x : Value) (inner : Box AsnType) (s : Size) (v : Vec Value Global) (et : t ≡ SeqOf inner s) (ex : x ≡ value.List v) (ee : e ≡ inner.value) where
-  is_list : shape_of t ≡ sequence_of (shape_of e) (size_range_of s)
-  is_list = list_of_elements t e inner s et ee
-
-  -- a test of the elements is one of the list, where the length is one of the size
-  pub fits_lists : (vs : List Value) → vs ≡ v.items → FitsLength (size_range_of s) (length vs) → (b : Bool)
-      → IsTrue b ↔ AllByRecursion (λ d. Fits (shape_of e) d) (map datum_of vs) → IsTrue b ↔ Fits (shape_of t) (datum_of x)
-  fits_lists vs ev few b (there, back) =
-      let value : datum_of x ≡ elements (elements_of (map datum_of vs)) = rw (ex, ev) (datum_of-List v) in
-      let both = fits_list (shape_of e) (size_range_of s) (map datum_of vs) in
-      rw (is_list, value) (λ h. both.0 (rw (length-map vs datum_of) few, there h), λ h. back (both.1 h).1)
-
-  -- and else the list is none
-  pub other_length : (FitsLength (size_range_of s) (length v.items) → ⊥) → Fits (shape_of t) (datum_of x) → ⊥
-  other_length never h =
-      let value : datum_of x ≡ elements (elements_of (map datum_of v.items)) = rw ex (datum_of-List v) in
-      let fit = (fits_list (shape_of e) (size_range_of s) (map datum_of v.items)).1 (rw (is_list, value) at h) in
-      never (rw (length-map v.items datum_of) at fit.0)
-
 -- ---- two lists
 
 -- values of SEQUENCE OF are the same where their elements are

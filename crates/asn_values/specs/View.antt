@@ -1,5 +1,6 @@
 -- What the types, values and faults of the program stand for.
-use Rattle.std.specs.Prelude.{◌≡◌, true, ⊤, List, [], ◌∷◌, ℕ, string_bytes, map, Option, Some, None}
+use Rattle.std.specs.Prelude.{◌≡◌, true, ⊤, List, [], ◌∷◌, ℕ, ℤ, string_bytes, map, Option, Some, None}
+use Rattle.std.specs.Option.{option_map}
 use Rattle.std.specs.Global.{Vec}
 use Rattle.asn_values.specs.declared.types.Bounds.{Bounds}
 use Rattle.asn_values.specs.declared.types.Size.{Size}
@@ -17,7 +18,7 @@ use Rattle.asn_values.specs.declared.value.Value.{Value, fold-Value}
 use Rattle.asn_values.specs.declared.value.Value.TheOpen.{Value-F}
 use Rattle.asn_values.specs.declared.fault.TypeFault.{TypeFault}
 use Rattle.asn_values.specs.declared.fault.TypeFault.TheVariants as fault
-use Rattle.asn_values.specs.Datum.{Datum, truth, nothing, number, item, bit_list, octet_list, characters, unicode, components, components_of, elements, elements_of, alternative}
+use Rattle.asn_values.specs.Datum.{Datum, truth, nothing, number, item, bit_list, octet_list, characters, unicode, components, components_of, elements, elements_of, alternative, unknown_item, unknown_alternative}
 use Rattle.asn_values.specs.Shape.{Range, SizeRange, Alphabet, ia5, numeric, visible, Label, MoreLabels, closed_labels, marked_labels, Shape, boolean, null, integer, enumerated, bit_string, octet_string, restricted, utf8_string, sequence, sequence_of, choice, Demand, must, optional, default, Fields, no_fields, field, MoreFields, closed, marked, Alternatives, no_alternatives, one_of, MoreAlternatives, closed_choice, marked_choice}
 use Rattle.asn_values.specs.Profile.{EmptyRange, SizeTooLarge, DuplicateName, BadEnumeration, UselessMark, BadDefault, ZeroWidthElement, AdditionNotOptional, TooMany, TooDeep, has}
 
@@ -36,6 +37,8 @@ datum_step (Value-F.Utf8 s) = unicode (string_bytes s)
 datum_step (Value-F.Seq v) = components (components_of v.items)
 datum_step (Value-F.List v) = elements (elements_of v.items)
 datum_step (Value-F.Choice t b) = alternative t b.value
+datum_step (Value-F.UnknownItem z) = unknown_item z
+datum_step (Value-F.UnknownAlternative t) = unknown_alternative t
 
 abbrev pub datum_of : Value → Datum
 datum_of = fold-Value Datum datum_step
@@ -124,6 +127,22 @@ part_of_field = fold-Field Shape Branch Part shape_step branch_step field_step
 abbrev pub branch_of : Alt → Branch
 branch_of = fold-Alt Shape Branch Part shape_step branch_step field_step
 
+-- components or extension additions, alternatives, items, and the entries of a SEQUENCE, as the program's lists have them
+abbrev pub fields_seen : List Field → Fields
+fields_seen fs = fields_of (map part_of_field fs)
+
+abbrev pub alternatives_seen : List Alt → Alternatives
+alternatives_seen alts = alternatives_of (map branch_of alts)
+
+abbrev pub labels_seen : List Item → List Label
+labels_seen items = map label_of items
+
+abbrev pub numbers_seen : List Item → List ℤ
+numbers_seen items = map (λ l. l.number) (labels_seen items)
+
+abbrev pub entries_seen : List (Option Value) → List (Option Datum)
+entries_seen es = map (option_map datum_of) es
+
 -- the same of the additions, as the program holds them
 abbrev pub more_fields_of : Option (Vec Field) → MoreFields
 more_fields_of None = closed
@@ -132,6 +151,23 @@ more_fields_of (Some more) = marked (fields_of (map part_of_field more.items))
 abbrev pub more_alternatives_of : Option (Vec Alt) → MoreAlternatives
 more_alternatives_of None = closed_choice
 more_alternatives_of (Some more) = marked_choice (alternatives_of (map branch_of more.items))
+
+-- the types of components and of alternatives
+abbrev pub types_of_fields : List Field → List Shape
+types_of_fields fs = map (λ f. shape_of f.ty) fs
+
+abbrev pub types_of_alternatives : List Alt → List Shape
+types_of_alternatives alts = map (λ a. shape_of a.ty) alts
+
+-- an ENUMERATED, a SEQUENCE and a CHOICE of these parts, as the program holds them
+abbrev pub enumerated_seen : List Item → Option (Vec Item) → Shape
+enumerated_seen root ext = enumerated (labels_seen root) (more_labels_of ext)
+
+abbrev pub sequence_seen : List Field → Option (Vec Field) → Shape
+sequence_seen root ext = sequence (fields_seen root) (more_fields_of ext)
+
+abbrev pub choice_seen : List Alt → Option (Vec Alt) → Shape
+choice_seen root ext = choice (alternatives_seen root) (more_alternatives_of ext)
 
 -- ---- faults
 

@@ -1,8 +1,8 @@
 //! Builders of types and of their parts.
-ghost use Rattle.std.specs.Prelude.{◌≡◌, IfOk, Some, None, map};
+ghost use Rattle.std.specs.Prelude.{◌≡◌, IfOk, Some, None};
 ghost use Rattle.asn_values.specs.Building.{closed_range, extensible_range, closed_size, extensible_size, IsItem, IsComponent, IsAlternative};
 ghost use Rattle.asn_values.specs.Shape.{must, optional, default, closed_labels, marked_labels, enumerated, closed, marked, sequence, sequence_of, closed_choice, marked_choice, choice};
-ghost use Rattle.asn_values.specs.View.{range_of, size_range_of, label_of, part_of_field, branch_of, fields_of, alternatives_of, shape_of, datum_of};
+ghost use Rattle.asn_values.specs.View.{range_of, size_range_of, label_of, part_of_field, branch_of, shape_of, datum_of, fields_seen, alternatives_seen, labels_seen};
 
 use crate::types::{Alt, AsnType, Bounds, Field, Item, Need, Size};
 use crate::value::Value;
@@ -165,7 +165,8 @@ impl Field {
 
     /// The same component, DEFAULT this value.
     pub fn default_to(self, value: Value) -> Field
-        ensures { IsComponent (part_of_field self).name (default (datum_of value)) (part_of_field self).shape (part_of_field result) }
+        ensures { IsComponent (part_of_field self).name (default (datum_of value)) (part_of_field self).shape
+            (part_of_field result) }
     {
         Field {
             name: self.name,
@@ -178,14 +179,14 @@ impl Field {
 impl AsnType {
     /// ENUMERATED { root }.
     pub fn enumerated(root: Vec<Item>) -> AsnType
-        ensures { shape_of result ≡ enumerated (map label_of root.items) closed_labels }
+        ensures { shape_of result ≡ enumerated (labels_seen root.items) closed_labels }
     {
         AsnType::Enum { root, ext: None }
     }
 
     /// ENUMERATED { root, ..., additions }.
     pub fn extensible_enumerated(root: Vec<Item>, additions: Vec<Item>) -> AsnType
-        ensures { shape_of result ≡ enumerated (map label_of root.items) (marked_labels (map label_of additions.items)) }
+        ensures { shape_of result ≡ enumerated (labels_seen root.items) (marked_labels (labels_seen additions.items)) }
     {
         AsnType::Enum {
             root,
@@ -195,7 +196,7 @@ impl AsnType {
 
     /// SEQUENCE { root }.
     pub fn sequence(root: Vec<Field>) -> AsnType
-        ensures { shape_of result ≡ sequence (fields_of (map part_of_field root.items)) closed }
+        ensures { shape_of result ≡ sequence (fields_seen root.items) closed }
     {
         AsnType::Seq { root, ext: None }
     }
@@ -203,7 +204,7 @@ impl AsnType {
     /// SEQUENCE { root, ..., additions }.
     pub fn extensible_sequence(root: Vec<Field>, additions: Vec<Field>) -> AsnType
         ensures { shape_of result
-            ≡ sequence (fields_of (map part_of_field root.items)) (marked (fields_of (map part_of_field additions.items))) }
+            ≡ sequence (fields_seen root.items) (marked (fields_seen additions.items)) }
     {
         AsnType::Seq {
             root,
@@ -223,7 +224,7 @@ impl AsnType {
 
     /// CHOICE { root }.
     pub fn choice(root: Vec<Alt>) -> AsnType
-        ensures { shape_of result ≡ choice (alternatives_of (map branch_of root.items)) closed_choice }
+        ensures { shape_of result ≡ choice (alternatives_seen root.items) closed_choice }
     {
         AsnType::Choice { root, ext: None }
     }
@@ -231,7 +232,7 @@ impl AsnType {
     /// CHOICE { root, ..., additions }.
     pub fn extensible_choice(root: Vec<Alt>, additions: Vec<Alt>) -> AsnType
         ensures { shape_of result
-            ≡ choice (alternatives_of (map branch_of root.items)) (marked_choice (alternatives_of (map branch_of additions.items))) }
+            ≡ choice (alternatives_seen root.items) (marked_choice (alternatives_seen additions.items)) }
     {
         AsnType::Choice {
             root,

@@ -1,7 +1,7 @@
 //! The DEFAULTs of components: a value of a type that has others, and no constructed one.
-ghost use Rattle.std.specs.Prelude.{◌≡◌, map};
+ghost use Rattle.std.specs.Prelude.{◌≡◌};
 ghost use Rattle.asn_values.specs.Profile.{good_default, bad_default_at};
-ghost use Rattle.asn_values.specs.View.{shape_of, datum_of, fields_of, part_of_field};
+ghost use Rattle.asn_values.specs.View.{shape_of, datum_of, fields_seen};
 
 use crate::types::{AsnType, Field, Need};
 use crate::value::Value;
@@ -9,7 +9,7 @@ use crate::{enumerations, ranges};
 
 /// Whether one of the components has a DEFAULT that it may not have.
 pub(crate) fn are_bad(fields: &[Field]) -> bool
-    ensures { result ≡ bad_default_at (fields_of (map part_of_field fields.now)) }
+    ensures { result ≡ bad_default_at (fields_seen fields.now) }
 {
     for field in fields {
         if let Need::Default(value) = &field.need {

@@ -1,12 +1,12 @@
 //! ENUMERATED: which items there may be, and which indexes are those of items.
-ghost use Rattle.std.specs.Prelude.{◌≡◌, ◌↔◌, ◌++◌, ◌==◌, IsTrue, map, length};
+ghost use Rattle.std.specs.Prelude.{◌≡◌, ◌↔◌, ◌++◌, ◌==◌, IsTrue, length};
 ghost use Rattle.std.specs.List.{list_any, list_all};
 ghost use Rattle.std.specs.Int.RustNames.{int_lt};
 ghost use Rattle.asn_values.specs.Datum.{item};
 ghost use Rattle.asn_values.specs.Shape.{enumerated, more_labels};
 ghost use Rattle.asn_values.specs.Fits.{Fits};
 ghost use Rattle.asn_values.specs.Profile.{duplicate_name, bad_enumeration, too_many_here, good_default, has_twice, int_eq, is_not_32_bits, is_rising};
-ghost use Rattle.asn_values.specs.View.{label_of, more_labels_of};
+ghost use Rattle.asn_values.specs.View.{more_labels_of, labels_seen, numbers_seen, enumerated_seen};
 
 use crate::names;
 use crate::profile::{MAX_ADDITIONS, MAX_ITEMS};
@@ -14,7 +14,7 @@ use crate::types::Item;
 
 /// The additions: none where there is no extension marker.
 fn additions(ext: &Option<Vec<Item>>) -> &[Item]
-    ensures { map label_of result.now ≡ more_labels (more_labels_of ext.now) }
+    ensures { labels_seen result.now ≡ more_labels (more_labels_of ext.now) }
 {
     match ext {
         Some(items) => items,
@@ -24,14 +24,14 @@ fn additions(ext: &Option<Vec<Item>>) -> &[Item]
 
 /// Whether no item stands before the extension marker.
 pub(crate) fn is_empty(root: &[Item]) -> bool
-    ensures { result ≡ (length (map label_of root.now) == 0) }
+    ensures { result ≡ (length (labels_seen root.now) == 0) }
 {
     root.is_empty()
 }
 
 /// Whether a name stands twice among the items, or one is no identifier.
 pub(crate) fn has_bad_names(root: &[Item], ext: &Option<Vec<Item>>) -> bool
-    ensures { result ≡ duplicate_name (enumerated (map label_of root.now) (more_labels_of ext.now)) }
+    ensures { result ≡ duplicate_name (enumerated_seen root.now ext.now) }
 {
     names::are_bad(root, additions(ext))
 }
@@ -39,7 +39,7 @@ pub(crate) fn has_bad_names(root: &[Item], ext: &Option<Vec<Item>>) -> bool
 /// Whether a number stands twice or is not of 32 signed bits, or an addition's is not above all
 /// those before it.
 pub(crate) fn has_bad_numbers(root: &[Item], ext: &Option<Vec<Item>>) -> bool
-    ensures { result ≡ bad_enumeration (enumerated (map label_of root.now) (more_labels_of ext.now)) }
+    ensures { result ≡ bad_enumeration (enumerated_seen root.now ext.now) }
 {
     let additions = additions(ext);
     has_number_twice(root)
@@ -51,15 +51,16 @@ pub(crate) fn has_bad_numbers(root: &[Item], ext: &Option<Vec<Item>>) -> bool
 
 /// Whether there are ext items than the profile allows.
 pub(crate) fn is_too_many(root: &[Item], ext: &Option<Vec<Item>>) -> bool
-    ensures { result ≡ too_many_here (enumerated (map label_of root.now) (more_labels_of ext.now)) }
+    ensures { result ≡ too_many_here (enumerated_seen root.now ext.now) }
 {
     let added = additions(ext).len();
     MAX_ADDITIONS < added || MAX_ITEMS - added < root.len()
 }
 
-/// Whether an item has this index, the items counted from 0 as they are written, the additions last (X.680, "enumerated type").
+/// Whether an item has this index, the items counted from 0 as they are written, the additions last (X.680,
+/// "enumerated type").
 pub fn item_fits(root: &[Item], ext: &Option<Vec<Item>>, index: u32) -> bool
-    ensures { IsTrue result ↔ Fits (enumerated (map label_of root.now) (more_labels_of ext.now)) (item index) }
+    ensures { IsTrue result ↔ Fits (enumerated_seen root.now ext.now) (item index) }
 {
     let index = index as usize;
     index < root.len() || index - root.len() < additions(ext).len()
@@ -68,14 +69,14 @@ pub fn item_fits(root: &[Item], ext: &Option<Vec<Item>>, index: u32) -> bool
 /// Whether the item with this index may be a DEFAULT: it is one of several, and there is no
 /// extension marker.
 pub(crate) fn is_good_item(root: &[Item], ext: &Option<Vec<Item>>, index: u32) -> bool
-    ensures { result ≡ good_default (enumerated (map label_of root.now) (more_labels_of ext.now)) (item index) }
+    ensures { result ≡ good_default (enumerated_seen root.now ext.now) (item index) }
 {
     ext.is_none() && (index as usize) < root.len() && 1 < root.len()
 }
 
 /// Whether two of the items have the same number.
 fn has_number_twice(items: &[Item]) -> bool
-    ensures { result ≡ has_twice int_eq (map (λ l. l.number) (map label_of items.now)) }
+    ensures { result ≡ has_twice int_eq (numbers_seen items.now) }
 {
     for (index, item) in items.iter().enumerate() {
         if has_number(&items[index + 1..], item.number) {
@@ -87,7 +88,7 @@ fn has_number_twice(items: &[Item]) -> bool
 
 /// Whether one of the items has this number.
 fn has_number(items: &[Item], number: i64) -> bool
-    ensures { result ≡ list_any (int_eq number) (map (λ l. l.number) (map label_of items.now)) }
+    ensures { result ≡ list_any (int_eq number) (numbers_seen items.now) }
 {
     for item in items {
         if number == item.number {
@@ -99,7 +100,7 @@ fn has_number(items: &[Item], number: i64) -> bool
 
 /// Whether one of the numbers is not of 32 signed bits.
 fn has_large_number(items: &[Item]) -> bool
-    ensures { result ≡ list_any is_not_32_bits (map (λ l. l.number) (map label_of items.now)) }
+    ensures { result ≡ list_any is_not_32_bits (numbers_seen items.now) }
 {
     for item in items {
         if item.number < i64::from(i32::MIN) || i64::from(i32::MAX) < item.number {
@@ -111,7 +112,7 @@ fn has_large_number(items: &[Item]) -> bool
 
 /// Whether each number is above those before it.
 fn is_rising(items: &[Item]) -> bool
-    ensures { result ≡ is_rising (map (λ l. l.number) (map label_of items.now)) }
+    ensures { result ≡ is_rising (numbers_seen items.now) }
 {
     for (index, item) in items.iter().enumerate() {
         if !is_below_each(item.number, &items[index + 1..]) {
@@ -123,7 +124,7 @@ fn is_rising(items: &[Item]) -> bool
 
 /// Whether each number of the lower items is below each of the others.
 fn is_below(lower: &[Item], others: &[Item]) -> bool
-    ensures { result ≡ list_all (λ x. list_all (int_lt x) (map (λ l. l.number) (map label_of others.now))) (map (λ l. l.number) (map label_of lower.now)) }
+    ensures { result ≡ list_all (λ x. list_all (int_lt x) (numbers_seen others.now)) (numbers_seen lower.now) }
 {
     for item in lower {
         if !is_below_each(item.number, others) {
@@ -135,7 +136,7 @@ fn is_below(lower: &[Item], others: &[Item]) -> bool
 
 /// Whether the number is below that of each item.
 fn is_below_each(number: i64, items: &[Item]) -> bool
-    ensures { result ≡ list_all (int_lt number) (map (λ l. l.number) (map label_of items.now)) }
+    ensures { result ≡ list_all (int_lt number) (numbers_seen items.now) }
 {
     for item in items {
         if item.number <= number {

@@ -1,9 +1,9 @@
 //! Which values are the same.
-ghost use Rattle.std.specs.Prelude.{◌≡◌, ◌↔◌, IsTrue, map, option_map};
+ghost use Rattle.std.specs.Prelude.{◌≡◌, ◌↔◌, IsTrue, map};
 ghost use Rattle.std.specs.Cmp.{on_per};
 ghost use Rattle.std.specs.Ordering.{on};
 ghost use Rattle.asn_values.specs.Equality.{datum_eq, datum_eq_per};
-ghost use Rattle.asn_values.specs.View.{datum_of};
+ghost use Rattle.asn_values.specs.View.{datum_of, entries_seen};
 
 use crate::value::Value;
 
@@ -33,6 +33,12 @@ pub fn same(left: &Value, right: &Value) -> bool
             Value::Choice(other_tag, other) => *tag == *other_tag && same(chosen, other),
             _ => false,
         },
+        Value::UnknownItem(number) => {
+            matches!(right, Value::UnknownItem(other) if *number == *other)
+        }
+        Value::UnknownAlternative(tag) => {
+            matches!(right, Value::UnknownAlternative(other) if *tag == *other)
+        }
     }
 }
 
@@ -57,7 +63,7 @@ fn same_bits(left: &[bool], right: &[bool]) -> bool
 /// Whether both have the same entries, one after the other.
 #[cycle(same)]
 fn same_entries(left: &[Option<Value>], right: &[Option<Value>]) -> bool
-    ensures { IsTrue result ↔ (map (option_map datum_of) left.now ≡ map (option_map datum_of) right.now) }
+    ensures { IsTrue result ↔ (entries_seen left.now ≡ entries_seen right.now) }
 {
     if left.len() != right.len() {
         return false;

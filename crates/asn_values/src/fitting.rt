@@ -1,8 +1,9 @@
 //! Which values a type has.
 ghost use Rattle.std.specs.Prelude.{◌≡◌, ◌↔◌, IsTrue, map, option_map};
 ghost use Rattle.std.specs.List.{AllByRecursion};
-ghost use Rattle.asn_values.specs.Fits.{Fits, FitsEach, FitsDemand, FitsAlternative};
-ghost use Rattle.asn_values.specs.View.{shape_of, datum_of, demand_of, fields_of, part_of_field, alternatives_of, branch_of};
+ghost use Rattle.asn_values.specs.Fits.{Fits, FitsDemand};
+ghost use Rattle.asn_values.specs.Received.{FitsReceived, FitsBy, FitsEachBy, FitsAlternativeBy};
+ghost use Rattle.asn_values.specs.View.{shape_of, datum_of, part_of_field, fields_seen, alternatives_seen, entries_seen};
 
 use crate::checked::Checked;
 use crate::types::{Alt, AsnType, Field, Need};
@@ -15,14 +16,23 @@ use crate::{enumerations, ranges, sizes, texts};
 pub fn fits(ty: &Checked, value: &Value) -> bool
     ensures { IsTrue result ↔ Fits (shape_of ty.now) (datum_of value.now) }
 {
-    type_has(ty.get(), value)
+    type_has(ty.get(), value, false)
 }
 
-/// Whether the value is one of the type.
+/// Whether the value is one that a receiver of the type may be given of a message of a newer sender: one of the type as
+/// in [`fits`], but that an `UnknownItem` may stand for an item of an ENUMERATED with an extension marker, and an
+/// `UnknownAlternative` for an alternative of such a CHOICE. Allocates nothing.
+pub fn fits_received(ty: &Checked, value: &Value) -> bool
+    ensures { IsTrue result ↔ FitsReceived (shape_of ty.now) (datum_of value.now) }
+{
+    type_has(ty.get(), value, true)
+}
+
+/// Whether the value is one of the type, with unknown items and alternatives where `unknown` is true.
 #[inline(always)]
 #[cycle(fits)]
-pub(crate) fn type_has(ty: &AsnType, value: &Value) -> bool
-    ensures { IsTrue result ↔ Fits (shape_of ty.now) (datum_of value.now) }
+fn type_has(ty: &AsnType, value: &Value, unknown: bool) -> bool
+    ensures { IsTrue result ↔ FitsBy unknown (shape_of ty.now) (datum_of value.now) }
 {
     match ty {
         AsnType::Bool => matches!(value, Value::Bool(_)),
@@ -30,9 +40,11 @@ pub(crate) fn type_has(ty: &AsnType, value: &Value) -> bool
         AsnType::Int(bounds) => {
             matches!(value, Value::Int(number) if ranges::number_fits(bounds, *number))
         }
-        AsnType::Enum { root, ext } => {
-            matches!(value, Value::Enum(index) if enumerations::item_fits(root, ext, *index))
-        }
+        AsnType::Enum { root, ext } => match value {
+            Value::Enum(index) => enumerations::item_fits(root, ext, *index),
+            Value::UnknownItem(_) => unknown && ext.is_some(),
+            _ => false,
+        },
         AsnType::Bits(size) => {
             matches!(value, Value::Bits(bits) if sizes::length_fits(size, bits.len()))
         }
@@ -45,19 +57,20 @@ pub(crate) fn type_has(ty: &AsnType, value: &Value) -> bool
         AsnType::Utf8 => matches!(value, Value::Utf8(text) if texts::unicode_fits(text)),
         AsnType::Seq { root, ext } => match value {
             Value::Seq(entries) => match ext {
-                None => fields_have(root, entries),
+                None => fields_have(root, entries, unknown),
                 Some(additions) => {
                     let (root_entries, addition_entries) = entries.split_at(
                         root.len().min(entries.len()),
                     );
-                    fields_have(root, root_entries) && fields_have(additions, addition_entries)
+                    fields_have(root, root_entries, unknown)
+                        && fields_have(additions, addition_entries, unknown)
                 }
             },
             _ => false,
         },
         AsnType::SeqOf(element, size) => match value {
             Value::List(elements) => {
-                sizes::length_fits(size, elements.len()) && elements_fit(element, elements)
+                sizes::length_fits(size, elements.len()) && elements_fit(element, elements, unknown)
             }
             _ => false,
         },
@@ -65,13 +78,19 @@ pub(crate) fn type_has(ty: &AsnType, value: &Value) -> bool
             Value::Choice(tag, chosen) => {
                 let index = *tag as usize;
                 if index < root.len() {
-                    return alternative_has(root, index, chosen);
+                    return alternative_has(root, index, chosen, unknown);
                 }
                 match ext {
                     None => false,
-                    Some(additions) => alternative_has(additions, index - root.len(), chosen),
+                    Some(additions) => alternative_has(
+                        additions,
+                        index - root.len(),
+                        chosen,
+                        unknown,
+                    ),
                 }
             }
+            Value::UnknownAlternative(_) => unknown && ext.is_some(),
             _ => false,
         },
     }
@@ -79,11 +98,11 @@ pub(crate) fn type_has(ty: &AsnType, value: &Value) -> bool
 
 /// Whether each element is a value of the type.
 #[cycle(fits)]
-fn elements_fit(element: &AsnType, elements: &[Value]) -> bool
-    ensures { IsTrue result ↔ AllByRecursion (λ d. Fits (shape_of element.now) d) (map datum_of elements.now) }
+fn elements_fit(element: &AsnType, elements: &[Value], unknown: bool) -> bool
+    ensures { IsTrue result ↔ AllByRecursion (λ d. FitsBy unknown (shape_of element.now) d) (map datum_of elements.now) }
 {
     for value in elements {
-        if !type_has(element, value) {
+        if !type_has(element, value, unknown) {
             return false;
         }
     }
@@ -92,22 +111,22 @@ fn elements_fit(element: &AsnType, elements: &[Value]) -> bool
 
 /// Whether there is an alternative with this index, and the value is one of its type.
 #[cycle(fits)]
-fn alternative_has(alternatives: &[Alt], index: usize, chosen: &Value) -> bool
-    ensures { IsTrue result ↔ FitsAlternative (alternatives_of (map branch_of alternatives.now)) index (datum_of chosen.now) }
+fn alternative_has(alternatives: &[Alt], index: usize, chosen: &Value, unknown: bool) -> bool
+    ensures { IsTrue result ↔ FitsAlternativeBy unknown (alternatives_seen alternatives.now) index (datum_of chosen.now) }
 {
-    index < alternatives.len() && type_has(&alternatives[index].ty, chosen)
+    index < alternatives.len() && type_has(&alternatives[index].ty, chosen, unknown)
 }
 
 /// Whether there is one entry for each component, and each is right for its own.
 #[cycle(fits)]
-fn fields_have(fields: &[Field], entries: &[Option<Value>]) -> bool
-    ensures { IsTrue result ↔ FitsEach (fields_of (map part_of_field fields.now)) (map (option_map datum_of) entries.now) }
+fn fields_have(fields: &[Field], entries: &[Option<Value>], unknown: bool) -> bool
+    ensures { IsTrue result ↔ FitsEachBy unknown (fields_seen fields.now) (entries_seen entries.now) }
 {
     if fields.len() != entries.len() {
         return false;
     }
     for (index, field) in fields.iter().enumerate() {
-        if !field_has(field, &entries[index]) {
+        if !field_has(field, &entries[index], unknown) {
             return false;
         }
     }
@@ -117,11 +136,13 @@ fn fields_have(fields: &[Field], entries: &[Option<Value>]) -> bool
 /// Whether the entry is a value of the component, or absent where the component is OPTIONAL.
 #[inline(always)]
 #[cycle(fits)]
-fn field_has(field: &Field, entry: &Option<Value>) -> bool
-    ensures { IsTrue result ↔ FitsDemand (λ d. Fits (part_of_field field.now).shape d) (part_of_field field.now).demand (option_map datum_of entry.now) }
+fn field_has(field: &Field, entry: &Option<Value>, unknown: bool) -> bool
+    ensures { IsTrue result
+        ↔ FitsDemand (λ d. FitsBy unknown (part_of_field field.now).shape d) (part_of_field field.now).demand
+        (option_map datum_of entry.now) }
 {
     match entry {
-        Some(value) => type_has(&field.ty, value),
+        Some(value) => type_has(&field.ty, value, unknown),
         None => matches!(field.need, Need::Optional),
     }
 }

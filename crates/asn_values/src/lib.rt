@@ -25,7 +25,7 @@ pub use checked::Checked;
 pub use enumerations::item_fits;
 pub use equality::same;
 pub use fault::TypeFault;
-pub use fitting::fits;
+pub use fitting::{fits, fits_received};
 pub use laws::defaults_are_judged;
 pub use ranges::{is_between, number_fits};
 pub use sizes::{is_in_size, length_fits};

@@ -1,9 +1,9 @@
 //! The walk that finds the first fault of a type, from the outside in and from left to right.
-ghost use Rattle.std.specs.Prelude.{◌+◌, ◌≤◌, IfOk, IfErr, map};
-ghost use Rattle.asn_values.specs.Shape.{integer, enumerated, sequence, sequence_of, choice};
+ghost use Rattle.std.specs.Prelude.{◌+◌, ◌≤◌, IfOk, IfErr};
+ghost use Rattle.asn_values.specs.Shape.{integer, sequence_of};
 ghost use Rattle.asn_values.specs.Measures.{depth};
 ghost use Rattle.asn_values.specs.Walk.{IsFaultless, HoldsHere, IsFaultlessSize, HoldsOfSize, IsSoundWithin, IsFaultWithin, of_type, of_types};
-ghost use Rattle.asn_values.specs.View.{shape_of, range_of, size_range_of, label_of, more_labels_of, fields_of, part_of_field, more_fields_of, alternatives_of, branch_of, more_alternatives_of};
+ghost use Rattle.asn_values.specs.View.{shape_of, range_of, size_range_of, enumerated_seen, sequence_seen, choice_seen, types_of_fields, types_of_alternatives};
 
 use crate::fault::TypeFault;
 use crate::profile::{MAX_ADDITIONS, MAX_ALTERNATIVES, MAX_COMPONENTS};
@@ -57,8 +57,8 @@ pub(crate) fn check_type(ty: &AsnType, levels: u32, start: u32) -> Result<u32, T
 /// Checks the types of the components, one after the other, in the same way.
 #[cycle(walk)]
 fn check_fields(fields: &[Field], levels: u32, start: u32) -> Result<u32, TypeFault>
-    ensures sound { IfOk result (λ left. IsSoundWithin levels start left (of_types (map (λ f. shape_of f.ty) fields.now))) }
-    ensures fault { IfErr result (λ f. IsFaultWithin f levels start (of_types (map (λ f. shape_of f.ty) fields.now))) }
+    ensures sound { IfOk result (λ left. IsSoundWithin levels start left (of_types (types_of_fields fields.now))) }
+    ensures fault { IfErr result (λ f. IsFaultWithin f levels start (of_types (types_of_fields fields.now))) }
 {
     let mut left = start;
     for field in fields {
@@ -70,8 +70,10 @@ fn check_fields(fields: &[Field], levels: u32, start: u32) -> Result<u32, TypeFa
 /// Checks the types of the alternatives, one after the other, in the same way.
 #[cycle(walk)]
 fn check_alternatives(alternatives: &[Alt], levels: u32, start: u32) -> Result<u32, TypeFault>
-    ensures sound { IfOk result (λ left. IsSoundWithin levels start left (of_types (map (λ a. shape_of a.ty) alternatives.now))) }
-    ensures fault { IfErr result (λ f. IsFaultWithin f levels start (of_types (map (λ a. shape_of a.ty) alternatives.now))) }
+    ensures sound { IfOk result (λ left.
+        IsSoundWithin levels start left (of_types (types_of_alternatives alternatives.now))) }
+    ensures fault { IfErr result (λ f.
+        IsFaultWithin f levels start (of_types (types_of_alternatives alternatives.now))) }
 {
     let mut left = start;
     for alternative in alternatives {
@@ -113,8 +115,8 @@ fn check_bounds(bounds: &Bounds) -> Result<(), TypeFault>
 
 /// Checks an ENUMERATED of these items. Err: its fault with the least number.
 fn check_items(root: &[Item], more: &Option<Vec<Item>>) -> Result<(), TypeFault>
-    ensures faultless { IfOk result (λ done. IsFaultless (enumerated (map label_of root.now) (more_labels_of more.now))) }
-    ensures fault { IfErr result (λ f. HoldsHere f (enumerated (map label_of root.now) (more_labels_of more.now))) }
+    ensures faultless { IfOk result (λ done. IsFaultless (enumerated_seen root.now more.now)) }
+    ensures fault { IfErr result (λ f. HoldsHere f (enumerated_seen root.now more.now)) }
 {
     if enumerations::is_empty(root) {
         return Err(TypeFault::EmptyRange);
@@ -150,8 +152,8 @@ fn check_size(size: &Size) -> Result<(), TypeFault>
 
 /// Checks a SEQUENCE of these components, and nothing inside them. Err: its fault with the least number.
 fn check_sequence(root: &[Field], ext: &Option<Vec<Field>>) -> Result<(), TypeFault>
-    ensures faultless { IfOk result (λ done. IsFaultless (sequence (fields_of (map part_of_field root.now)) (more_fields_of ext.now))) }
-    ensures fault { IfErr result (λ f. HoldsHere f (sequence (fields_of (map part_of_field root.now)) (more_fields_of ext.now))) }
+    ensures faultless { IfOk result (λ done. IsFaultless (sequence_seen root.now ext.now)) }
+    ensures fault { IfErr result (λ f. HoldsHere f (sequence_seen root.now ext.now)) }
 {
     let more = additions::of_sequence(ext);
     if names::are_bad(root, more) {
@@ -172,7 +174,9 @@ fn check_sequence(root: &[Field], ext: &Option<Vec<Field>>) -> Result<(), TypeFa
 /// Checks a SEQUENCE OF, and of the element only whether it has bits, as far as `levels` levels tell. Err: its
 /// fault with the least number.
 fn check_list(element: &AsnType, size: &Size, levels: u32) -> Result<(), TypeFault>
-    ensures faultless { IfOk result (λ done. depth (shape_of element.now) ≤ levels → IsFaultless (sequence_of (shape_of element.now) (size_range_of size.now))) }
+    ensures faultless { IfOk result (λ done.
+        depth (shape_of element.now) ≤ levels
+        → IsFaultless (sequence_of (shape_of element.now) (size_range_of size.now))) }
     ensures fault { IfErr result (λ f. HoldsHere f (sequence_of (shape_of element.now) (size_range_of size.now))) }
 {
     check_size(size)?;
@@ -184,8 +188,8 @@ fn check_list(element: &AsnType, size: &Size, levels: u32) -> Result<(), TypeFau
 
 /// Checks a CHOICE of these alternatives, and nothing inside them. Err: its fault with the least number.
 fn check_choice(root: &[Alt], ext: &Option<Vec<Alt>>) -> Result<(), TypeFault>
-    ensures faultless { IfOk result (λ done. IsFaultless (choice (alternatives_of (map branch_of root.now)) (more_alternatives_of ext.now))) }
-    ensures fault { IfErr result (λ f. HoldsHere f (choice (alternatives_of (map branch_of root.now)) (more_alternatives_of ext.now))) }
+    ensures faultless { IfOk result (λ done. IsFaultless (choice_seen root.now ext.now)) }
+    ensures fault { IfErr result (λ f. HoldsHere f (choice_seen root.now ext.now)) }
 {
     if root.is_empty() {
         return Err(TypeFault::EmptyRange);

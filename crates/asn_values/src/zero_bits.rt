@@ -1,7 +1,7 @@
 //! Types whose PER encoding is empty.
-ghost use Rattle.std.specs.Prelude.{◌≡◌, map};
+ghost use Rattle.std.specs.Prelude.{◌≡◌};
 ghost use Rattle.asn_values.specs.Walk.{no_bits_within, no_field_bits_within, single_no_bits_within};
-ghost use Rattle.asn_values.specs.View.{shape_of, fields_of, part_of_field, alternatives_of, branch_of};
+ghost use Rattle.asn_values.specs.View.{shape_of, fields_seen, alternatives_seen};
 
 use crate::types::{Alt, AsnType, Field, Need};
 use crate::{ranges, sizes};
@@ -32,7 +32,7 @@ pub(crate) fn has_no_bits(ty: &AsnType, levels: u32) -> bool
 /// Whether all components are mandatory, and none has a bit.
 #[cycle(no_bits)]
 fn have_no_bits(fields: &[Field], levels: u32) -> bool
-    ensures { result ≡ no_field_bits_within levels (fields_of (map part_of_field fields.now)) }
+    ensures { result ≡ no_field_bits_within levels (fields_seen fields.now) }
 {
     for field in fields {
         if !matches!(field.need, Need::Must) || levels == 0 || !has_no_bits(&field.ty, levels - 1) {
@@ -45,7 +45,7 @@ fn have_no_bits(fields: &[Field], levels: u32) -> bool
 /// Whether there is one alternative only, and it has no bit.
 #[cycle(no_bits)]
 fn is_single_without_bits(root: &[Alt], levels: u32) -> bool
-    ensures { result ≡ single_no_bits_within levels (alternatives_of (map branch_of root.now)) }
+    ensures { result ≡ single_no_bits_within levels (alternatives_seen root.now) }
 {
     match root {
         [only] => levels > 0 && has_no_bits(&only.ty, levels - 1),

@@ -18,20 +18,6 @@ use Rattle.asn_rules.specs.Stops.{Stops}
 use Rattle.asn_rules.specs.declared.stop.Stop.{Stop}
 use Rattle.asn_walk.specs.Coding.{Coding, PreambleOf, OpenOf, added}
 
--- ---- what the program's lists stand for
-
--- components or extension additions
-abbrev pub fields_seen : List Field → Fields
-fields_seen fs = fields_of (map part_of_field fs)
-
--- alternatives
-abbrev pub alternatives_seen : List Alt → Alternatives
-alternatives_seen alts = alternatives_of (map branch_of alts)
-
--- the entries of a SEQUENCE
-abbrev pub entries_seen : List (Option Value) → List (Option Datum)
-entries_seen es = map (option_map datum_of) es
-
 -- ---- answers
 
 -- a prefix of the bits is a spelling of the value, and the others follow it

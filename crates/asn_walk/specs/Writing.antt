@@ -8,14 +8,13 @@ use Rattle.asn_values.specs.Datum.{Datum, elements, elements_of}
 use Rattle.asn_values.specs.Shape.{Shape, Fields, demands}
 use Rattle.asn_values.specs.Fits.{Fits, FitsEach}
 use Rattle.asn_values.specs.Profile.{InProfile, is_optional}
-use Rattle.asn_values.specs.View.{shape_of, datum_of}
+use Rattle.asn_values.specs.View.{shape_of, datum_of, fields_seen, entries_seen}
 use Rattle.asn_bits.specs.Lengths.{joined}
 use Rattle.asn_bits.specs.Sink.{bit_of}
 use Rattle.asn_rules.specs.Chunks.{Chunk, flat}
 use Rattle.asn_rules.specs.declared.fault.EncodeFault.{EncodeFault}
 use Rattle.asn_rules.specs.declared.fault.EncodeFault.TheVariants as encode
 use Rattle.asn_walk.specs.Coding.{Coding}
-use Rattle.asn_walk.specs.Reading.{fields_seen, entries_seen}
 
 -- ---- what is told
 

@@ -1,10 +1,9 @@
 //! Presence bits of the components of a SEQUENCE, as a number.
 ghost use Rattle.std.specs.Prelude.{◌≡◌, ◌≤◌, ◌<◌, ◌+◌, ◌^◌, ◌/◌, ◌%◌, true, false, length};
-ghost use Rattle.asn_values.specs.View.{part_of_field};
+ghost use Rattle.asn_values.specs.View.{part_of_field, fields_seen};
 ghost use Rattle.asn_bits.specs.Sink.{bit_of};
 ghost use Rattle.asn_rules.specs.Components.{has_presence_bit};
 ghost use Rattle.asn_rules.specs.Listed.{bitmap_length};
-ghost use Rattle.asn_walk.specs.Reading.{fields_seen};
 
 use asn_values::{Field, Need};
 

@@ -5,9 +5,8 @@ use Rattle.std.proofs.lemmas.List.{map-append, take_more_set, take_all, append-n
 use Rattle.asn_values.specs.declared.types.Field.{Field}
 use Rattle.asn_values.specs.declared.value.Value.{Value}
 use Rattle.asn_values.specs.Datum.{Datum}
-use Rattle.asn_values.specs.View.{datum_of, fields_of, part_of_field}
+use Rattle.asn_values.specs.View.{datum_of, fields_of, part_of_field, fields_seen, entries_seen}
 use Rattle.asn_walk.specs.Coding.{absent_entries}
-use Rattle.asn_walk.specs.Reading.{fields_seen, entries_seen}
 use Rattle.asn_walk.proofs.Widths.{next_part, no_part}
 
 -- an entry that is overwritten stands behind those in front of it

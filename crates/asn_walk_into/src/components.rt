@@ -3,11 +3,11 @@ ghost use Rattle.std.specs.Prelude.{◌≡◌, ◌≤◌, ◌<◌, IfOk, IfErr, 
 ghost use Rattle.std.specs.Option.{option_map};
 ghost use Rattle.asn_values.specs.Profile.{InProfile};
 ghost use Rattle.asn_values.specs.Parts.{AreOfProfile, IsGoodDemand};
-ghost use Rattle.asn_values.specs.View.{datum_of, part_of_field};
+ghost use Rattle.asn_values.specs.View.{datum_of, part_of_field, fields_seen, entries_seen};
 ghost use Rattle.asn_bits.specs.Numbers.{bits};
 ghost use Rattle.asn_rules.specs.Listed.{Listed, bitmap_length};
 ghost use Rattle.asn_walk.specs.Coding.{OpenListed, AdditionsOf};
-ghost use Rattle.asn_walk.specs.Reading.{Reads, StopsAt, EntryOf, ReadsRoot, StopsInRoot, fields_seen, entries_seen};
+ghost use Rattle.asn_walk.specs.Reading.{Reads, StopsAt, EntryOf, ReadsRoot, StopsInRoot};
 
 use crate::entries::{make_present, set_absent, set_integer};
 use crate::reader::{read_into, read_open_into};

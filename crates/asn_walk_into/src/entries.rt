@@ -4,10 +4,10 @@ ghost use Rattle.std.specs.Option.{option_map};
 ghost use Rattle.asn_values.specs.Datum.{number};
 ghost use Rattle.asn_values.specs.Parts.{IsGoodDemand};
 ghost use Rattle.asn_values.specs.Profile.{InProfile};
-ghost use Rattle.asn_values.specs.View.{shape_of, datum_of, part_of_field};
+ghost use Rattle.asn_values.specs.View.{shape_of, datum_of, part_of_field, fields_seen, entries_seen};
 ghost use Rattle.asn_rules.specs.Listed.{default_of};
 ghost use Rattle.asn_walk.specs.Coding.{absent_entries};
-ghost use Rattle.asn_walk.specs.Reading.{ReadsValue, StopsAt, ValuesOf, fields_seen, entries_seen};
+ghost use Rattle.asn_walk.specs.Reading.{ReadsValue, StopsAt, ValuesOf};
 
 use asn_bits::BitCursor;
 use asn_rules::Stop;

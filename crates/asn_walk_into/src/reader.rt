@@ -5,11 +5,11 @@
 ghost use Rattle.std.specs.Prelude.{◌≡◌, ◌≤◌, ◌<◌, ◌+◌, ◌%◌, IfOk, IfErr, OnOk, map, take, length, vec_len};
 ghost use Rattle.asn_values.specs.Profile.{InProfile};
 ghost use Rattle.asn_values.specs.Parts.{AreAllOfProfile};
-ghost use Rattle.asn_values.specs.View.{shape_of, datum_of};
+ghost use Rattle.asn_values.specs.View.{shape_of, datum_of, alternatives_seen};
 ghost use Rattle.asn_rules.specs.Languages.{Row};
 ghost use Rattle.asn_walk.specs.Ahead.{Remaining};
 ghost use Rattle.asn_walk.specs.Coding.{OpenOf, ChosenOf};
-ghost use Rattle.asn_walk.specs.Reading.{Reads, ReadsValue, ReadsComplete, ReadsOpen, StopsAt, ValuesOf, CompleteOf, After, alternatives_seen};
+ghost use Rattle.asn_walk.specs.Reading.{Reads, ReadsValue, ReadsComplete, ReadsOpen, StopsAt, ValuesOf, CompleteOf, After};
 
 use crate::components::{read_additions_into, read_root_into};
 use crate::entries::{clear_entries, make_place, read_anew, take_elements, take_entries};

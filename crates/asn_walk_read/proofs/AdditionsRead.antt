@@ -5,7 +5,7 @@ use Rattle.asn_values.specs.Datum.{Datum}
 use Rattle.asn_values.specs.Shape.{Shape, Fields, no_fields, field, demands}
 use Rattle.asn_values.specs.Parts.{AreOfProfile}
 use Rattle.asn_values.specs.Profile.{InProfile}
-use Rattle.asn_values.specs.View.{Part, fields_of, part_of_field}
+use Rattle.asn_values.specs.View.{Part, fields_of, part_of_field, fields_seen}
 use Rattle.asn_values.specs.declared.types.Field.{Field}
 use Rattle.asn_values.proofs.Entries.{length-demands}
 use Rattle.asn_bits.specs.Numbers.{bits}
@@ -21,7 +21,7 @@ use Rattle.asn_rules.proofs.Parts.{map_inhabited, map_lawful, map_source, map_sp
 use Rattle.asn_rules.proofs.Then.{Follows, then_inhabited}
 use Rattle.asn_walk.specs.Coding.{Coding, AdditionBitmapOf, OpenOf, OpenListed, AdditionsOf}
 use Rattle.asn_walk.specs.Laws.{Laws}
-use Rattle.asn_walk.specs.Reading.{After, fields_seen}
+use Rattle.asn_walk.specs.Reading.{After}
 use Rattle.asn_walk.proofs.Parts.{fields_part_of, open_lawful, open_inhabited, count_of_fields}
 
 -- ---- the additions under their presence bits

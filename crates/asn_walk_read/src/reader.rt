@@ -7,12 +7,12 @@ ghost use Rattle.std.specs.Option.{option_map};
 ghost use Rattle.asn_values.specs.Datum.{alternative};
 ghost use Rattle.asn_values.specs.Profile.{InProfile};
 ghost use Rattle.asn_values.specs.Parts.{AreAllOfProfile};
-ghost use Rattle.asn_values.specs.View.{shape_of, datum_of, size_range_of};
+ghost use Rattle.asn_values.specs.View.{shape_of, datum_of, size_range_of, alternatives_seen};
 ghost use Rattle.asn_rules.specs.Languages.{Row};
 ghost use Rattle.asn_walk.specs.Ahead.{Remaining};
 ghost use Rattle.asn_walk.specs.Coding.{OpenOf, ChosenOf, ListingOf};
 ghost use Rattle.asn_walk.specs.Laws.{IsSizeOfProfile};
-ghost use Rattle.asn_walk.specs.Reading.{Reads, ReadsValue, ReadsComplete, ReadsOpen, StopsAt, ValuesOf, CompleteOf, After, alternatives_seen};
+ghost use Rattle.asn_walk.specs.Reading.{Reads, ReadsValue, ReadsComplete, ReadsOpen, StopsAt, ValuesOf, CompleteOf, After};
 
 use crate::components::{push_absent, read_additions, read_root};
 use asn_bits::BitCursor;
@@ -154,7 +154,8 @@ fn read_alternative<R: ReadLeaves>(
     requires inside { index < length root.now }
     ensures at_unit { OnOk result (R.rules.at_unit units.new) }
     ensures done { IfOk result (λ v.
-        Reads R.rules (ChosenOf (ValuesOf R.rules) (alternatives_seen root.now) index) (datum_of v) units.old units.new) }
+        Reads R.rules (ChosenOf (ValuesOf R.rules) (alternatives_seen root.now) index) (datum_of v)
+        units.old units.new) }
     ensures stop { IfErr result (λ why.
         StopsAt R.rules (ChosenOf (ValuesOf R.rules) (alternatives_seen root.now) index) units.old why) }
 {
@@ -174,7 +175,8 @@ fn read_added_alternative<R: ReadLeaves>(
     requires inside { index < length added.now }
     ensures at_unit { OnOk result (R.rules.at_unit units.new) }
     ensures done { IfOk result (λ v.
-        Reads R.rules (ChosenOf (OpenOf R.rules) (alternatives_seen added.now) index) (datum_of v) units.old units.new) }
+        Reads R.rules (ChosenOf (OpenOf R.rules) (alternatives_seen added.now) index) (datum_of v)
+        units.old units.new) }
     ensures stop { IfErr result (λ why.
         StopsAt R.rules (ChosenOf (OpenOf R.rules) (alternatives_seen added.now) index) units.old why) }
 {

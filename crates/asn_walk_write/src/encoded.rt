@@ -3,10 +3,9 @@ ghost use Rattle.std.specs.Prelude.{◌≡◌, ◌≤◌, ◌<◌, ◌^◌, leng
 ghost use Rattle.std.specs.Option.{option_map};
 ghost use Rattle.asn_values.specs.Parts.{AreOfProfile, IsGoodDemand};
 ghost use Rattle.asn_values.specs.Shape.{demands};
-ghost use Rattle.asn_values.specs.View.{datum_of, part_of_field};
+ghost use Rattle.asn_values.specs.View.{datum_of, part_of_field, fields_seen, entries_seen};
 ghost use Rattle.asn_bits.specs.Numbers.{bits};
 ghost use Rattle.asn_rules.specs.Components.{any_present, is_spelled, presence};
-ghost use Rattle.asn_walk.specs.Reading.{fields_seen, entries_seen};
 
 use asn_values::{Field, Need, Value, same};
 use asn_walk::has_presence_bit;

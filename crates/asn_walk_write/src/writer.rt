@@ -5,10 +5,9 @@ ghost use Rattle.asn_values.specs.Fits.{Fits, FitsAlternative};
 ghost use Rattle.asn_values.specs.Parts.{AreOfProfile, AreAllOfProfile};
 ghost use Rattle.asn_values.specs.Profile.{InProfile};
 ghost use Rattle.asn_values.specs.Shape.{sequence_of};
-ghost use Rattle.asn_values.specs.View.{shape_of, datum_of, size_range_of};
+ghost use Rattle.asn_values.specs.View.{shape_of, datum_of, size_range_of, fields_seen, entries_seen, alternatives_seen};
 ghost use Rattle.asn_bits.specs.Lengths.{joined};
 ghost use Rattle.asn_walk.specs.Composites.{in_open_field, each_code, open_code, additions_code, root_code, alternative_code};
-ghost use Rattle.asn_walk.specs.Reading.{fields_seen, entries_seen, alternatives_seen};
 ghost use Rattle.asn_walk.specs.Writing.{TellsWhether, Writes, WritesValue, FitsType, EntriesFit, AreOptional, mark_bits, list_seen};
 
 use crate::encoded::{is_any_present, is_encoded, presence_bitmap};

@@ -12,7 +12,7 @@ use Rattle.asn_values.specs.Datum.{number}
 use Rattle.asn_values.specs.declared.types.Need.{Need}
 use Rattle.asn_values.specs.declared.types.Need.TheVariants as needs
 use Rattle.asn_values.specs.Shape.{MoreFields, sequence, closed, marked, sequence_of}
-use Rattle.asn_values.specs.View.{shape_of, datum_of, fields_of, part_of_field, size_range_of, demand_of}
+use Rattle.asn_values.specs.View.{shape_of, datum_of, fields_of, part_of_field, size_range_of, demand_of, alternatives_seen, fields_seen, entries_seen}
 use Rattle.asn_values.proofs.Components.{shape_of_part}
 use Rattle.asn_values.proofs.Parts.{components_of_profile}
 use Rattle.asn_values.proofs.InnerTypes.{element_of_profile}
@@ -27,7 +27,6 @@ use Rattle.std.specs.Vec.{with_items}
 use Rattle.std.specs.Box.{with_value}
 use Rattle.asn_walk.specs.Ahead.{Remaining}
 use Rattle.asn_walk.specs.Coding.{OpenOf, ChosenOf}
-use Rattle.asn_walk.specs.Reading.{alternatives_seen}
 use Rattle.asn_rules.proofs.Listed.{spelt_inhabited, spelt_lawful}
 use Rattle.asn_rules.proofs.ListedReading.{nothing_read}
 use Rattle.asn_bits.specs.Numbers.{unpacked}
@@ -36,7 +35,7 @@ use Rattle.asn_rules.specs.Listed.{Listed, bitmap_length}
 use Rattle.asn_bits.specs.Numbers.{bits}
 use Rattle.asn_walk.specs.Ahead.{Next}
 use Rattle.asn_walk.specs.Coding.{IsIndexWithin, PreambleOf, added}
-use Rattle.asn_walk.specs.Reading.{After, ReadsRoot, fields_seen, entries_seen}
+use Rattle.asn_walk.specs.Reading.{After, ReadsRoot}
 use Rattle.asn_walk.specs.Views.{index_seen, preamble_seen}
 use Rattle.asn_walk_read.proofs.AdditionsRead.{presence_stops_at, open_fields_lead, added_starts, addition_stops, addition_present, addition_absent, added_ends, after_leads, after_nothing}
 use Rattle.asn_walk_read.proofs.ChoicesRead.{choice_few, leads_at_place, open_leads_at_place, choice_stops, root_value_leads, added_value_leads}

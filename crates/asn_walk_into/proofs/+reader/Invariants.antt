@@ -1,7 +1,7 @@
 use Rattle.std.proofs.Common.{◌≡◌, ◌≤◌, length, map, drop, take, vec_len, ◌+◌, []}
-use Rattle.asn_values.specs.View.{datum_of, part_of_field, shape_of}
+use Rattle.asn_values.specs.View.{datum_of, part_of_field, shape_of, fields_seen, entries_seen}
 use Rattle.asn_walk.specs.Ahead.{Remaining}
-use Rattle.asn_walk.specs.Reading.{ValuesOf, fields_seen, entries_seen}
+use Rattle.asn_walk.specs.Reading.{ValuesOf}
 use Rattle.asn_walk_read.proofs.AdditionsRead.{AddedUpTo}
 use Rattle.asn_walk_read.proofs.ComponentsRead.{ReadUpTo}
 use Rattle.asn_walk_read.proofs.Listing.{Appends, FragmentsUpTo, steps_left}

@@ -27,16 +27,16 @@ loop-eight-preserved c =
     let number : octets 8 n ≡ eight = octets_eight rest eight n front.0 (omega (arith, front.2)) range c.from_be_bytes-n.ensures ∙ sym front.0 in
     let parts : rest ≡ eight ++ behind = sym (take-append-drop 8 rest) ∙ ap (λ t. t ++ drop 8 rest) (sym front.0) ∙ ap (λ t. eight ++ t) (sym front.1) in
     let bytes = c.copy_from_slice.new.self in
-    let here : length (take l.place l.into) ≡ l.place = length-take-le l.place l.into (omega (arith, l.invariant.1, l.invariant.2)) in
+    let here : length (take l.index l.into) ≡ l.index = length-take-le l.index l.into (omega (arith, l.invariant.1, l.invariant.2)) in
     let word : bytes ≡ octets 8 c.full_word-word.result = c.copy_from_slice.ensures.after ∙ c.to_be_bytes.ensures ∙ bytes-octets 8 c.full_word-word.result in
     let long : length bytes ≡ 8 = ap length word ∙ length-digits 256 8 c.full_word-word.result in
-    let k = l.place + 8 - l.place in
-    let post = drop k (drop l.place l.into) in
-    let all_there : length (take l.place l.into ++ (bytes ++ post)) ≡ length a.octets.now =
-    omega (arith, length-append (take l.place l.into) (bytes ++ post), length-append bytes post, length-drop k (drop l.place l.into), length-drop l.place l.into, here, long, l.invariant.1, l.invariant.2, left, front.2) in
+    let k = l.index + 8 - l.index in
+    let post = drop k (drop l.index l.into) in
+    let all_there : length (take l.index l.into ++ (bytes ++ post)) ≡ length a.octets.now =
+    omega (arith, length-append (take l.index l.into) (bytes ++ post), length-append bytes post, length-drop k (drop l.index l.into), length-drop l.index l.into, here, long, l.invariant.1, l.invariant.2, left, front.2) in
     let next =
-    take-put_mid l.place (l.place + 8 - l.place) l.into bytes (l.place + 8) (omega (arith, long)) (omega (arith, l.invariant.1, l.invariant.2)) ∙ ap (λ t. take l.place l.into ++ t) word in (
-      begun_word [] (take l.place l.into) _ a.octets.now rest eight behind a.count a.pending l.high n c.full_word-word.result h c.requires.few.1 parts number
+    take-put_mid l.index (l.index + 8 - l.index) l.into bytes (l.index + 8) (omega (arith, long)) (omega (arith, l.invariant.1, l.invariant.2)) ∙ ap (λ t. take l.index l.into ++ t) word in (
+      begun_word [] (take l.index l.into) _ a.octets.now rest eight behind a.count a.pending l.high n c.full_word-word.result h c.requires.few.1 parts number
           (omega arith) c.full_word-word.ensures next,
       omega (arith, l.invariant.1, left, front.2),
       all_there,
@@ -48,11 +48,11 @@ returns c =
     let a = c.args in
     let l = c.loop-eight in
     let few : length l.rest.now < 8 = c.in_default.ensures.cases in
-    let all : l.place ≡ length l.into = omega (arith, few, l.invariant.1, l.invariant.2, l.invariant.3, c.requires.whole) in
-    let whole : take l.place l.into ≡ l.into = ap (λ t. take t l.into) all ∙ take-length l.into in
+    let all : l.index ≡ length l.into = omega (arith, few, l.invariant.1, l.invariant.2, l.invariant.3, c.requires.whole) in
+    let whole : take l.index l.into ≡ l.into = ap (λ t. take t l.into) all ∙ take-length l.into in
     record {
       shifted =
           subst (λ t. Shifted [] t a.octets.now a.count a.pending l.high) whole
-          (begun_whole [] (take l.place l.into) a.octets.now l.rest.now a.count a.pending l.high l.invariant.0
+          (begun_whole [] (take l.index l.into) a.octets.now l.rest.now a.count a.pending l.high l.invariant.0
           (omega (arith, few, l.invariant.1, l.invariant.2, l.invariant.3, c.requires.whole)));
     }

@@ -4,8 +4,8 @@ use Rattle.asn_bits.proofs.shifts.fill_shifted.Given as goal
 
 abbrev pub invariant-loop-eight : goal.invariant-loop-eight
 invariant-loop-eight l =
-    Begun [] (take l.place l.into) l.octets l.rest l.count l.pending l.high
-    × (l.place + length l.rest ≡ length l.octets) × (length l.into ≡ length l.octets) × (l.place % 8 ≡ 0)
+    Begun [] (take l.index l.into) l.octets l.rest l.count l.pending l.high
+    × (l.index + length l.rest ≡ length l.octets) × (length l.into ≡ length l.octets) × (l.index % 8 ≡ 0)
 
 abbrev pub decreases-loop-eight : goal.decreases-loop-eight
 decreases-loop-eight l = length l.rest

@@ -1,6 +1,6 @@
+use Rattle.asn_values.specs.View.{fields_seen, entries_seen}
 use Rattle.std.proofs.Common.{◌≡◌, ◌++◌, length, take, drop}
 use Rattle.asn_walk.specs.Coding.{absent_entries}
-use Rattle.asn_walk.specs.Reading.{fields_seen, entries_seen}
 use Rattle.asn_walk_into.proofs.entries.clear_entries.Given as goal
 
 abbrev pub invariant-loop-field : goal.invariant-loop-field

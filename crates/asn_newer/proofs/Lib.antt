@@ -3,3 +3,4 @@ pub mod Flipped
 pub mod Itself
 pub mod PerParts
 pub mod OerParts
+pub mod OneWay

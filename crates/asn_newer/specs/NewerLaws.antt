@@ -1,5 +1,5 @@
 -- The laws of messages that another version of the type reads.
-use Rattle.std.specs.Prelude.{◌≡◌, ◌+◌, ◌<◌, ◌≤◌, ◌++◌, Bool, true, false, ℕ, List, [], length}
+use Rattle.std.specs.Prelude.{◌≡◌, ◌+◌, ◌<◌, ◌≤◌, ◌++◌, Bool, ℕ, List, [], length}
 use Rattle.asn_values.specs.Datum.{Datum, item}
 use Rattle.asn_values.specs.Shape.{Shape, enumerated, Label, marked_labels}
 use Rattle.asn_values.specs.Fits.{Fits}

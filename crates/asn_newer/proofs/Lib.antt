@@ -4,3 +4,7 @@ pub mod Itself
 pub mod PerParts
 pub mod OerParts
 pub mod OneWay
+pub mod OneReading
+pub mod ItemWays
+pub mod PerWays
+pub mod OerWays

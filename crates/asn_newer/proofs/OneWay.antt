@@ -1,14 +1,25 @@
 -- Of the units there is one front that is read, as one value: languages of which this holds, put together from parts.
-use Rattle.std.proofs.Common.{◌≡◌, ◌*◌, ◌⊎◌, inl, inr, ℕ, zero, suc, List, [], ◌++◌, sym, ap, subst, ◌∙◌}
+use Rattle.std.proofs.Common.{◌≡◌, ◌*◌, ◌⊎◌, inl, inr, ℕ, zero, suc, List, [], ◌∷◌, ◌++◌, Option, sym, ap, subst, ◌∙◌, refl}
 use Rattle.std.proofs.lemmas.List.{append-nil, append_cancel_left}
 use Rattle.asn_bits.specs.Ranges.{Spanned, At}
-use Rattle.asn_rules.specs.Chunks.{Chunk, ones, open_field, flat}
+use Rattle.asn_rules.specs.Chunks.{Chunk, one, sealed, ones, open_field, flat}
 use Rattle.asn_rules.specs.Forks.{Same, Branch, Fork}
 use Rattle.asn_rules.specs.General.{Length, last, fragment, Few, Many, Blocks, Left, together, Header, Body, Within, General}
 use Rattle.asn_rules.specs.Languages.{AllContents, Spells, Lawful, Then, Map, Nothing, Row, Plain, Sealed}
 use Rattle.asn_rules.specs.Live.{Fielding, IsContent}
 use Rattle.asn_rules.specs.Reading.{IsSealed, AllSealed}
+use Rattle.asn_rules.specs.Listed.{Spelt}
 use Rattle.asn_rules.specs.Spellings.{SpelledBy}
+use Rattle.asn_rules.proofs.Flat.{flat-ones}
+use Rattle.asn_rules.proofs.Listed.{spelt_lawful}
+use Rattle.asn_bits.proofs.Codes.{IsCode}
+use Rattle.asn_values.specs.Datum.{Datum}
+use Rattle.asn_values.specs.Fits.{Fits}
+use Rattle.asn_values.specs.Profile.{InProfile}
+use Rattle.asn_values.specs.Shape.{Shape}
+use Rattle.asn_walk.specs.Coding.{Coding}
+use Rattle.asn_walk.specs.Laws.{Laws}
+use Rattle.asn_walk.proofs.Parts.{fields_part_of}
 use Rattle.asn_bits.specs.Sets.{InSet}
 use Rattle.asn_rules.proofs.Chunks.{FieldsPart}
 use Rattle.asn_rules.proofs.Forks.{same_flip, same_spells}
@@ -150,3 +161,54 @@ module _ {A : Type 0} {R : Fielding} {L : A → List Chunk → Type 0} (part : F
   remaining_way (items n) = row_way part o n
   remaining_way (lengths is come closed) = general_way (At (Spanned is) come closed)
   remaining_way end = nothing_way [] part
+
+-- ---- values that are spelt canonically
+
+-- what begins a list of chunks has sealed fields that may stand there
+sealed_first : (R : Fielding) (xs ys : List Chunk) → AllSealed R (xs ++ ys) → AllSealed R xs
+sealed_first R [] ys h = tt
+sealed_first R (one u ∷ xs) ys h = sealed_first R xs ys h
+sealed_first R (sealed k c ∷ xs) ys h = (h.0, sealed_first R xs ys h.1)
+
+module _ (c : Coding) (laws : Laws c) where
+  pub spelt_way : (e : Option Datum) (t : Shape) → InProfile t → OneWay c.ruling.fielding (Spelt c.code e t)
+  spelt_way e t good = lawful_way (fields_part_of c laws) (spelt_lawful c.code laws.part e t good) (λ v cs s. subst (AllSealed c.ruling.fielding) (sym s.same) (fields v s.fits.0))
+    where
+      fields : (v : Datum) → Fits t v → AllSealed c.ruling.fielding (c.code t v)
+      fields v f =
+          let units = c.padding (length (flat c.ruling.fielding.spelled (c.code t v))) in
+          let w = (laws.filled t good).to v (c.code t v ++ ones units) (record {
+            source = (v, tt);
+            spelt = record {
+              first = c.code t v;
+              second = ones units;
+              spelt = record { fits = (f, tt); same = refl };
+              follows = record { chunks = c.code t v; spelt = record { fits = (f, tt); same = refl }; behind = record { units = units; spelt = record { same = refl }; same = refl } };
+              whole = refl;
+            };
+            seen = refl;
+          }) in
+          sealed_first c.ruling.fielding (c.code t v) (ones units) (subst (AllSealed c.ruling.fielding) w.same (laws.tells.sealed t v good f))
+
+-- ---- codes, and one of two
+
+-- plain units that are a code
+pub code_way : {V : Type 0} {R : Fielding} {P : V → Type 0} (units : V → List ℕ) → IsCode P units → OneWay R (SpelledBy P (λ v. ones (units v)))
+code_way {V} {R} {P} units code = record { sealed = λ v cs h. subst (AllSealed R) (sym h.same) (sealed-ones R (units v)); once = λ v w us r s a b. code v w r s a.spelt.fits b.spelt.fits (sym (front v us r a) ∙ front w us s b) }
+  where
+    front : (v : V) (us r : List ℕ) (a : Spells R (SpelledBy P (λ x. ones (units x))) v us r) → us ≡ units v ++ r
+    front v us r a = a.split ∙ ap (λ (cs : List Chunk). flat R.spelled cs ++ r) a.spelt.same ∙ ap (λ (l : List ℕ). l ++ r) (flat-ones R.spelled (units v))
+
+-- one of two languages, of which no spelling of the one is at the front of units with one of the other
+pub either_way : {V : Type 0} {R : Fielding} (X Y : V → List Chunk → Type 0) → OneWay R X → OneWay R Y → ((v w : V) (us r s : List ℕ) → Spells R X v us r → Spells R Y w us s → ⊥) → OneWay R (λ v cs. X v cs ⊎ Y v cs)
+either_way {V} {R} X Y x y apart = record { sealed = λ v cs h. fields v cs h; once = λ v w us r s a b. go v w us r s a.chunks b.chunks a.contents b.contents a.split b.split a.spelt b.spelt }
+  where
+    fields : (v : V) (cs : List Chunk) → X v cs ⊎ Y v cs → AllSealed R cs
+    fields v cs (inl p) = x.sealed v cs p
+    fields v cs (inr p) = y.sealed v cs p
+
+    go : (v w : V) (us r s : List ℕ) (cs ds : List Chunk) → AllContents R cs → AllContents R ds → us ≡ flat R.spelled cs ++ r → us ≡ flat R.spelled ds ++ s → X v cs ⊎ Y v cs → X w ds ⊎ Y w ds → (v ≡ w) × (r ≡ s)
+    go v w us r s cs ds k m e f (inl p) (inl q) = x.once v w us r s (record { chunks = cs; spelt = p; contents = k; split = e }) (record { chunks = ds; spelt = q; contents = m; split = f })
+    go v w us r s cs ds k m e f (inr p) (inr q) = y.once v w us r s (record { chunks = cs; spelt = p; contents = k; split = e }) (record { chunks = ds; spelt = q; contents = m; split = f })
+    go v w us r s cs ds k m e f (inl p) (inr q) = absurd (apart v w us r s (record { chunks = cs; spelt = p; contents = k; split = e }) (record { chunks = ds; spelt = q; contents = m; split = f }))
+    go v w us r s cs ds k m e f (inr p) (inl q) = absurd (apart w v us s r (record { chunks = ds; spelt = q; contents = m; split = f }) (record { chunks = cs; spelt = p; contents = k; split = e }))

@@ -1,5 +1,5 @@
 -- Items of an ENUMERATED that may be unknown, read in one way.
-use Rattle.std.proofs.Common.{◌≡◌, ◌++◌, ℕ, ℤ, List, None, sym, ap, subst, ◌∙◌}
+use Rattle.std.proofs.Common.{◌≡◌, ◌++◌, ℕ, ℤ, List, None, sym, ap, ◌∙◌}
 use Rattle.asn_values.specs.Datum.{Datum}
 use Rattle.asn_values.specs.Fits.{Fits}
 use Rattle.asn_values.specs.Profile.{InProfile}
@@ -38,6 +38,6 @@ module _ (l : LooseCoding) (laws : Laws l.coding) (root additions : List Label) 
       parted v w us r s a b =
           let p = map_source a in
           let q = map_source b in
-          let e = a.split ∙ ap (λ (cs : List Chunk). flat R.spelled cs ++ r) p.1.spelt.same in
-          let f = b.split ∙ ap (λ (cs : List Chunk). flat R.spelled cs ++ s) q.1.spelt.same ∙ ap (λ (us : List ℕ). us ++ s) (flat-ones R.spelled (l.unknown_units q.0)) in
+          let e = p.1.split ∙ ap (λ (cs : List Chunk). flat R.spelled cs ++ r) p.1.spelt.same in
+          let f = q.1.split ∙ ap (λ (cs : List Chunk). flat R.spelled cs ++ s) q.1.spelt.same ∙ ap (λ (us : List ℕ). us ++ s) (flat-ones R.spelled (l.unknown_units q.0)) in
           apart p.0 q.0 r s p.1.spelt.fits.0 q.1.spelt.fits (sym e ∙ f)

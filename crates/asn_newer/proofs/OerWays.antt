@@ -7,20 +7,20 @@ use Rattle.asn_values.specs.Datum.{Datum, item}
 use Rattle.asn_values.specs.Shape.{SizeRange, enumerated, Label, marked_labels}
 use Rattle.asn_values.specs.Fits.{Fits}
 use Rattle.asn_values.specs.Profile.{InProfile}
-use Rattle.asn_bits.specs.Numbers.{bits, padding, packed}
+use Rattle.asn_bits.specs.Numbers.{bits, padding}
 use Rattle.asn_bits.proofs.Codes.{IsCode}
 use Rattle.asn_bits.proofs.Digits.{digits_code}
-use Rattle.asn_bits.proofs.FilledBits.{filled_up, filled_up_once}
+use Rattle.asn_bits.proofs.FilledBits.{filled_up_once}
 use Rattle.asn_bits.proofs.Octets.{length-digits}
 use Rattle.asn_bits.proofs.Weights.{are_digits}
-use Rattle.asn_rules.specs.Chunks.{Chunk, ones, open_field, flat}
+use Rattle.asn_rules.specs.Chunks.{Chunk, open_field, flat}
 use Rattle.asn_rules.specs.Components.{number_at}
 use Rattle.asn_rules.specs.Reading.{AllSealed}
 use Rattle.asn_rules.proofs.Flat.{flat-ones}
 use Rattle.asn_rules.proofs.Fronts.{sealed-ones, sealed-append}
 use Rattle.asn_walk.specs.Ahead.{Ahead}
 use Rattle.asn_walk.specs.Laws.{Laws}
-use Rattle.asn_oer.specs.Oer.{oer, filled_bits, variable_bits, item_number, oer_fields, spelled}
+use Rattle.asn_oer.specs.Oer.{oer, filled_bits, variable_bits, item_number, oer_fields}
 use Rattle.asn_oer.specs.Rules.{oer_ruling}
 use Rattle.asn_oer.specs.Walk.{oer_coding}
 use Rattle.asn_oer.proofs.Leaves.{item_code}

@@ -1,11 +1,10 @@
 -- Octets are read loosely in one way: one value, one list of skipped fields, and none begins another.
-use Rattle.std.proofs.Common.{◌≡◌, ◌+◌, ◌-◌, ◌*◌, ◌≤◌, ℕ, zero, suc, Bool, true, false, List, [], ◌∷◌, ◌++◌, length, length-append, Option, Some, None, is_some, ◌⊎◌, ◌<◌, refl, sym, ap, subst, ◌∙◌, arith, append_assoc, inl, inr}
+use Rattle.std.proofs.Common.{◌≡◌, ◌+◌, ◌*◌, ◌≤◌, ℕ, zero, suc, Bool, true, false, List, [], ◌∷◌, ◌++◌, length, length-append, Some, None, is_some, ◌⊎◌, ◌<◌, refl, sym, ap, subst, ◌∙◌, arith, append_assoc, inl, inr}
 use Rattle.std.proofs.Math.Nat.{mul-le-mul_left}
 use Rattle.std.proofs.lemmas.List.{append-nil, append_cancel_right}
 use Rattle.std.specs.List.{AllByRecursion}
-use Rattle.asn_values.specs.Datum.{Datum}
-use Rattle.asn_values.specs.Shape.{SizeRange, Shape, boolean, null, integer, enumerated, bit_string, octet_string, restricted, utf8_string, sequence, sequence_of, choice, Label, closed_labels, marked_labels, must, optional, default, Fields, no_fields, field, MoreFields, closed, marked, Alternatives, no_alternatives, one_of, MoreAlternatives, closed_choice, marked_choice, more_alternatives, count}
-use Rattle.asn_values.specs.Fits.{Fits, max_len}
+use Rattle.asn_values.specs.Shape.{Shape, boolean, null, integer, enumerated, bit_string, octet_string, restricted, utf8_string, sequence, sequence_of, choice, closed_labels, marked_labels, must, optional, default, Fields, no_fields, field, MoreFields, closed, marked, Alternatives, no_alternatives, one_of, MoreAlternatives, closed_choice, marked_choice, more_alternatives, count}
+use Rattle.asn_values.specs.Fits.{max_len}
 use Rattle.asn_values.specs.Parts.{AreOfProfile, AreAllOfProfile}
 use Rattle.asn_values.specs.Profile.{InProfile}
 use Rattle.asn_values.proofs.InnerTypes.{element_of_profile, root_alternatives_of_profile, added_alternatives_of_profile, additions_of_profile}
@@ -13,19 +12,17 @@ use Rattle.asn_values.proofs.Parts.{components_of_profile}
 use Rattle.asn_bits.specs.Numbers.{bits}
 use Rattle.asn_rules.specs.Answer.{max_octets}
 use Rattle.asn_rules.specs.Components.{extension_bit}
-use Rattle.asn_rules.specs.Chunks.{Chunk, one, sealed, ones, open_field, flat}
+use Rattle.asn_rules.specs.Chunks.{Chunk, open_field, flat}
 use Rattle.asn_rules.specs.Languages.{Spells, AllContents}
-use Rattle.asn_rules.specs.Listed.{Spelt, bitmap_length}
-use Rattle.asn_rules.specs.Live.{Fielding, Begins, IsContent}
-use Rattle.asn_rules.specs.Reading.{IsSealed, AllSealed}
+use Rattle.asn_rules.specs.Listed.{bitmap_length}
+use Rattle.asn_rules.specs.Live.{Fielding}
 use Rattle.asn_rules.proofs.Chunks.{FieldsPart}
-use Rattle.asn_rules.proofs.Listed.{spelt_lawful}
 use Rattle.asn_rules.proofs.Places.{contents_by_length}
 use Rattle.asn_walk.specs.Coding.{AreFew, IndexOf, absent_entries}
 use Rattle.asn_walk.proofs.Parts.{fields_part_of, few_indexes}
 use Rattle.asn_walk_read.proofs.Listing.{list_size}
-use Rattle.asn_newer.specs.Skipped.{Skipped, Reading}
-use Rattle.asn_newer.specs.Loose.{LooseCoding, IsLoose, Complete, AnyOctets, Unknown, Known, AllUnknown, additions_to_come, alternatives_to_come, by_index, Loose, LooseEach, LooseMore, LooseOpen, LooseRoot, LooseOther, LooseAdded}
+use Rattle.asn_newer.specs.Skipped.{Reading}
+use Rattle.asn_newer.specs.Loose.{LooseCoding, Complete, Unknown, Known, AllUnknown, additions_to_come, alternatives_to_come, by_index, Loose, LooseEach, LooseMore, LooseOpen, LooseRoot, LooseOther, LooseAdded}
 use Rattle.asn_newer.specs.Ways.{OneWay, OneReading, WayLaws}
 use Rattle.asn_newer.proofs.OneWay.{lawful_way, plain_way, map_way, then_way, nothing_way, never_way, sealed_way, remaining_way, spelt_way}
 

@@ -1,5 +1,5 @@
 -- Of the units there is one front that is read, as one value: languages of which this holds, put together from parts.
-use Rattle.std.proofs.Common.{◌≡◌, ◌*◌, ◌⊎◌, inl, inr, ℕ, zero, suc, List, [], ◌∷◌, ◌++◌, Option, sym, ap, subst, ◌∙◌, refl}
+use Rattle.std.proofs.Common.{◌≡◌, ◌*◌, ◌⊎◌, inl, inr, ℕ, zero, suc, List, [], ◌∷◌, ◌++◌, length, Option, sym, ap, subst, ◌∙◌, refl}
 use Rattle.std.proofs.lemmas.List.{append-nil, append_cancel_left}
 use Rattle.asn_bits.specs.Ranges.{Spanned, At}
 use Rattle.asn_rules.specs.Chunks.{Chunk, one, sealed, ones, open_field, flat}
@@ -188,7 +188,7 @@ module _ (c : Coding) (laws : Laws c) where
             };
             seen = refl;
           }) in
-          sealed_first c.ruling.fielding (c.code t v) (ones units) (subst (AllSealed c.ruling.fielding) w.same (laws.tells.sealed t v good f))
+          sealed_first c.ruling.fielding (c.code t v) (ones units) (subst (AllSealed c.ruling.fielding) (sym w.same) (laws.tells.sealed t v good f))
 
 -- ---- codes, and one of two
 

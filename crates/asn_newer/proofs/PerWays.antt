@@ -1,21 +1,19 @@
 -- In PER a presence bitmap of any count of additions, and an item that may be unknown, are told by their bits.
-use Rattle.std.proofs.Common.{◌≡◌, ◌+◌, ◌-◌, ◌^◌, ◌<◌, ◌≤◌, ℕ, zero, suc, ℤ, pos, negsuc, Bool, true, false, nat_lt, List, [], ◌∷◌, ◌++◌, length, length-append, Option, Some, None, refl, sym, ap, subst, ◌∙◌, arith, append_assoc, inl, inr, ◌⊎◌}
-use Rattle.std.proofs.lemmas.Bool.{ltb-false}
+use Rattle.std.proofs.Common.{◌≡◌, ◌-◌, ◌/◌, ◌%◌, ◌^◌, ◌<◌, ◌≤◌, ℕ, zero, suc, ℤ, pos, negsuc, Bool, true, false, nat_lt, List, [], ◌∷◌, ◌++◌, length, length-append, Option, Some, None, refl, sym, ap, subst, ◌∙◌, arith, append_assoc, inl, inr, ◌⊎◌}
+use Rattle.std.proofs.lemmas.Bool.{ltb-false, lt-ltb}
 use Rattle.asn_values.specs.Datum.{Datum, item}
-use Rattle.asn_values.specs.Shape.{SizeRange, Shape, enumerated, Label, marked_labels}
+use Rattle.asn_values.specs.Shape.{SizeRange, enumerated, Label, marked_labels}
 use Rattle.asn_values.specs.Fits.{Fits}
 use Rattle.asn_values.specs.Profile.{InProfile}
 use Rattle.asn_bits.specs.Numbers.{bits, padding}
 use Rattle.asn_bits.proofs.Codes.{IsCode, equal_fronts}
 use Rattle.asn_bits.proofs.Digits.{digits_code}
 use Rattle.asn_bits.proofs.Octets.{length-digits}
-use Rattle.asn_rules.specs.Chunks.{Chunk, ones, open_field, flat}
+use Rattle.asn_rules.specs.Chunks.{Chunk, open_field, flat}
 use Rattle.asn_rules.specs.Components.{number_at}
-use Rattle.asn_rules.specs.Forks.{Branch, Fork}
+use Rattle.asn_rules.specs.Forks.{Branch}
 use Rattle.asn_rules.specs.Languages.{Nothing}
-use Rattle.asn_rules.specs.Listed.{Spelt}
 use Rattle.asn_rules.specs.Reading.{AllSealed}
-use Rattle.asn_rules.specs.Live.{Fielding}
 use Rattle.asn_rules.proofs.Flat.{flat-ones}
 use Rattle.asn_rules.proofs.Fronts.{sealed-ones}
 use Rattle.asn_walk.specs.Ahead.{Ahead, lengths}
@@ -26,9 +24,7 @@ use Rattle.asn_per.specs.Rules.{per_ruling}
 use Rattle.asn_per.specs.Walk.{per_coding}
 use Rattle.asn_oer.specs.Oer.{magnitude_of}
 use Rattle.asn_per.proofs.EnumeratedLanguages.{few_additions}
-use Rattle.asn_per.proofs.SmallNumbers.{small_is}
 use Rattle.asn_per.proofs.WalkLaws.{per_laws}
-use Rattle.asn_newer.specs.Skipped.{Reading, nothing_skipped, item_skipped}
 use Rattle.asn_newer.specs.Loose.{IsBitmap, AnyBitmap, AnyItem}
 use Rattle.asn_newer.specs.Rules.{per_loose, IsUnknownIndex}
 use Rattle.asn_newer.specs.Ways.{OneWay, WayLaws}
@@ -72,6 +68,12 @@ unfolding per_loose per_coding
 per_bitmap = code_way (λ p. small_length (length (bits p.0 p.1)) ++ bits p.0 p.1) bitmap_code
 
 -- ---- items
+
+-- a normally small number below 64 is a number in 7 bits
+small_is : (k : ℕ) → k < 64 → small k ≡ bits 7 k
+small_is k h =
+    let front : 0 ≡ (k / 2 ^ 6) % 2 = omega (arith, h) in
+    rw (lt-ltb k 64 h, small) (ap (λ (d : ℕ). d ∷ bits 6 k) front)
 
 unknown_code : (root additions : List Label) → IsCode (IsUnknownIndex root additions) (λ z. per_loose.unknown_units z)
 unfolding per_loose

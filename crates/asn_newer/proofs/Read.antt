@@ -2,10 +2,10 @@
 use Rattle.std.proofs.Common.{◌≡◌, ◌+◌, ◌-◌, ◌*◌, ◌<◌, ◌≤◌, ℕ, zero, suc, Bool, true, false, not, IsTrue, nat_lt, MatchBool, List, [], ◌∷◌, ◌++◌, length, map, take, drop, Option, None, Some, is_some, refl, sym, ap, subst, ◌∙◌, arith, append_assoc, inl, inr}
 use Rattle.std.proofs.lemmas.Bool.{true≢false, ltb-true, ltb-false}
 use Rattle.std.proofs.lemmas.List.{map-append}
-use Rattle.std.specs.List.{AllByRecursion, list_all}
+use Rattle.std.specs.List.{list_all}
 use Rattle.asn_values.specs.Datum.{Datum, item, components, component_list, Elements, elements, element_list, elements_of, alternative}
 use Rattle.asn_values.specs.Shape.{SizeRange, Shape, boolean, null, integer, enumerated, bit_string, octet_string, restricted, utf8_string, sequence, sequence_of, choice, Label, closed_labels, marked_labels, Demand, must, optional, default, demands, Fields, no_fields, field, MoreFields, closed, marked, is_marked, Alternatives, no_alternatives, one_of, MoreAlternatives, closed_choice, marked_choice, is_marked_choice, more_alternatives, count}
-use Rattle.asn_values.specs.Fits.{Fits, FitsEach, FitsMore, FitsAlternative, FitsMoreAlternatives, FitsLength}
+use Rattle.asn_values.specs.Fits.{Fits, FitsEach, FitsMore, FitsAlternative, FitsMoreAlternatives}
 use Rattle.asn_values.specs.Parts.{AreOfProfile, AreAllOfProfile}
 use Rattle.asn_values.specs.Profile.{InProfile, good_default, is_optional, most_additions, TooMany, too_many_here, somewhere}
 use Rattle.asn_values.proofs.InnerTypes.{element_of_profile, root_alternatives_of_profile, added_alternatives_of_profile, additions_optional, additions_of_profile}
@@ -26,7 +26,7 @@ use Rattle.asn_walk.specs.Composites.{in_open_field, each_code, open_code, more_
 use Rattle.asn_per.proofs.AdditionLanguages.{bits_of_some}
 use Rattle.asn_per.proofs.ChoiceLanguages.{few_choices}
 use Rattle.asn_per.proofs.SequenceLanguage.{presence_length}
-use Rattle.asn_newer.specs.Skipped.{Skipped, Reading, Entries, nothing_skipped, entry_read, entry_left, list_read, alternative_read}
+use Rattle.asn_newer.specs.Skipped.{Reading, Entries, nothing_skipped, entry_read, entry_left, list_read}
 use Rattle.asn_newer.specs.Loose.{LooseCoding, IsLoose, Complete, Unknown, additions_to_come, alternatives_to_come, Loose, LooseEach, LooseMore, LooseOpen, LooseRoot, LooseOther, LooseAdded}
 use Rattle.asn_newer.specs.Versions.{Versions, FieldVersions, MoreVersions, AddedVersions, AlternativeVersions, MoreChoiceVersions, AddedAlternatives, received, entries_received, more_received, added_received, root_received, other_received, addition_received, unknown}
 use Rattle.asn_newer.specs.NewerLaws.{PartLaws, Encodes}

@@ -4,6 +4,7 @@
 mod additions;
 mod building;
 mod checked;
+mod copying;
 mod default_values;
 mod enumerations;
 mod equality;

@@ -2,9 +2,9 @@
 use Rattle.std.proofs.Common.{◌≡◌, ℕ, Bool, List, map, option_map, Option, Vec, Global, ap, ◌∙◌, sym}
 use Rattle.asn_values.specs.declared.value.Value.{Value}
 use Rattle.asn_values.specs.declared.value.Value.TheVariants as value
-use Rattle.asn_values.specs.Datum.{components, components_of, elements, elements_of, bit_list, octet_list, characters}
+use Rattle.asn_values.specs.Datum.{components, components_of, bit_list, octet_list, characters}
 use Rattle.asn_values.specs.View.{datum_of}
-use Rattle.asn_values.proofs.Views.{datum_of-Bits, datum_of-Octets, datum_of-Text, datum_of-Seq, datum_of-List}
+use Rattle.asn_values.proofs.Views.{datum_of-Bits, datum_of-Octets, datum_of-Text, datum_of-Seq}
 
 pub copied_bits : (x : Value) (v w : Vec Bool Global) → x ≡ value.Bits v → w.items ≡ v.items → datum_of (value.Bits w) ≡ datum_of x
 copied_bits x v w e same = rw e (datum_of-Bits w ∙ ap bit_list same ∙ sym (datum_of-Bits v))
@@ -20,7 +20,3 @@ pub copied_entries :
     map (option_map datum_of) w.items ≡ map (option_map datum_of) v.items → datum_of (value.Seq w) ≡ datum_of x
 copied_entries x v w e same = rw e (datum_of-Seq w ∙ ap (λ es. components (components_of es)) same ∙ sym (datum_of-Seq v))
 
-pub copied_elements :
-    (x : Value) (v w : Vec Value Global) → x ≡ value.List v →
-    map datum_of w.items ≡ map datum_of v.items → datum_of (value.List w) ≡ datum_of x
-copied_elements x v w e same = rw e (datum_of-List w ∙ ap (λ ds. elements (elements_of ds)) same ∙ sym (datum_of-List v))

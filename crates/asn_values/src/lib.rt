@@ -17,6 +17,7 @@ pub mod profile;
 mod ranges;
 mod sizes;
 mod texts;
+mod type_equality;
 mod types;
 mod value;
 mod walk;

@@ -1,6 +1,6 @@
 -- When two types are equal, as a test.
 use Rattle.std.specs.Prelude.{◌≡◌, ◌==◌, ◌&&◌, ℕ, ℤ, Bool, true, false, List, [], ◌∷◌, Option, Some, None, Decides, bytes_eq}
-use Rattle.std.proofs.Common.{refl, ap, sym, subst}
+use Rattle.std.proofs.Common.{refl, ap, sym, ◌∙◌, subst}
 use mathlib.Core.Bool.{true≢false, beq}
 use Rattle.std.specs.Cmp.{booleans_Decides, unsigned_Decides, signed_Decides, first_so, second_so, decided, partial_equiv_from_equiv, IsPartialEquivalence}
 use Rattle.std.specs.Cmp.Lexicographic.{pointwise, pointwise_decides}
@@ -92,6 +92,24 @@ from eq alike itself x y = (alike x y, λ e. subst (λ z. eq x z ≡ true) e (it
 both : (a b : Bool) → a ≡ true → b ≡ true → (a && b) ≡ true
 both a b h k = rw (h, k) refl
 
+make_range : Option ℤ → Option ℤ → Bool → Range
+make_range x y z = record { low = x; high = y; extensible = z }
+
+range_from : (a b : Range) → a.low ≡ b.low → a.high ≡ b.high → a.extensible ≡ b.extensible → a ≡ b
+range_from a b h0 h1 h2 = ap (λ z. make_range z a.high a.extensible) h0 ∙ ap (λ z. make_range b.low z a.extensible) h1 ∙ ap (λ z. make_range b.low b.high z) h2
+
+make_size : ℕ → Option ℕ → Bool → SizeRange
+make_size x y z = record { low = x; high = y; extensible = z }
+
+size_from : (a b : SizeRange) → a.low ≡ b.low → a.high ≡ b.high → a.extensible ≡ b.extensible → a ≡ b
+size_from a b h0 h1 h2 = ap (λ z. make_size z a.high a.extensible) h0 ∙ ap (λ z. make_size b.low z a.extensible) h1 ∙ ap (λ z. make_size b.low b.high z) h2
+
+make_label : List ℕ → ℤ → Label
+make_label x y = record { name = x; number = y }
+
+label_from : (a b : Label) → a.name ≡ b.name → a.number ≡ b.number → a ≡ b
+label_from a b h0 h1 = ap (λ z. make_label z a.number) h0 ∙ ap (λ z. make_label b.name z) h1
+
 bound_alike : (x y : Option ℤ) → bound_eq x y ≡ true → x ≡ y
 bound_alike None None h = refl
 bound_alike (Some a) (Some b) h = ap Some ((signed_Decides a b).0 h)
@@ -116,7 +134,7 @@ range_alike x y h =
     let rest = second_so (bound_eq x.low y.low) _ h in
     let high : x.high ≡ y.high = bound_alike x.high y.high (first_so (bound_eq x.high y.high) _ rest) in
     let mark : x.extensible ≡ y.extensible = (booleans_Decides x.extensible y.extensible).0 (second_so (bound_eq x.high y.high) _ rest) in
-    cc
+    range_from x y low high mark
 
 range_itself : (x : Range) → range_eq x x ≡ true
 range_itself x = both _ _ (bound_itself x.low) (both _ _ (bound_itself x.high) ((booleans_Decides x.extensible x.extensible).1 refl))
@@ -127,7 +145,7 @@ size_alike x y h =
     let rest = second_so (x.low == y.low) _ h in
     let high : x.high ≡ y.high = most_alike x.high y.high (first_so (most_eq x.high y.high) _ rest) in
     let mark : x.extensible ≡ y.extensible = (booleans_Decides x.extensible y.extensible).0 (second_so (most_eq x.high y.high) _ rest) in
-    cc
+    size_from x y low high mark
 
 size_itself : (x : SizeRange) → size_eq x x ≡ true
 size_itself x = both _ _ ((unsigned_Decides x.low x.low).1 refl) (both _ _ (most_itself x.high) ((booleans_Decides x.extensible x.extensible).1 refl))
@@ -153,7 +171,7 @@ label_alike : (x y : Label) → label_eq x y ≡ true → x ≡ y
 label_alike x y h =
     let name : x.name ≡ y.name = octets_alike x.name y.name (first_so (bytes_eq x.name y.name) _ h) in
     let number : x.number ≡ y.number = (signed_Decides x.number y.number).0 (second_so (bytes_eq x.name y.name) _ h) in
-    cc
+    label_from x y name number
 
 label_itself : (x : Label) → label_eq x x ≡ true
 label_itself x = both _ _ (octets_itself x.name) ((signed_Decides x.number x.number).1 refl)

@@ -3,7 +3,7 @@ ghost use Rattle.std.specs.Prelude.{◌≡◌, ◌↔◌, IsTrue, map};
 ghost use Rattle.std.specs.Cmp.{on_per};
 ghost use Rattle.std.specs.Ordering.{on};
 ghost use Rattle.asn_values.specs.TypeEquality.{shape_eq, shape_eq_per};
-ghost use Rattle.asn_values.specs.View.{shape_of, label_of, more_labels_of, demand_of, part_of_field, branch_of, more_fields_of, more_alternatives_of, labels_seen};
+ghost use Rattle.asn_values.specs.View.{shape_of, label_of, more_labels_of, demand_of, part_of_field, branch_of, labels_seen};
 
 use crate::equality::same;
 use crate::types::{Alt, AsnType, Field, Item, Need};
@@ -47,7 +47,14 @@ fn is_same_type(left: &AsnType, right: &AsnType) -> bool
             AsnType::Seq {
                 root: fields,
                 ext: more,
-            } => are_same_fields(root, fields) && are_same_added_fields(ext, more),
+            } => {
+                are_same_fields(root, fields)
+                    && match (ext, more) {
+                        (None, None) => true,
+                        (Some(added), Some(others)) => are_same_fields(added, others),
+                        _ => false,
+                    }
+            }
             _ => false,
         },
         AsnType::SeqOf(element, size) => match right {
@@ -58,7 +65,14 @@ fn is_same_type(left: &AsnType, right: &AsnType) -> bool
             AsnType::Choice {
                 root: alternatives,
                 ext: more,
-            } => are_same_alternatives(root, alternatives) && are_same_added_alternatives(ext, more),
+            } => {
+                are_same_alternatives(root, alternatives)
+                    && match (ext, more) {
+                        (None, None) => true,
+                        (Some(added), Some(others)) => are_same_alternatives(added, others),
+                        _ => false,
+                    }
+            }
             _ => false,
         },
     }
@@ -90,20 +104,6 @@ fn is_same_field(left: &Field, right: &Field) -> bool
         && is_same_type(&left.ty, &right.ty)
 }
 
-/// Whether both are the same extension additions, or there is no extension marker in either.
-#[cycle(is_same_type)]
-fn are_same_added_fields(left: &Option<Vec<Field>>, right: &Option<Vec<Field>>) -> bool
-    ensures { IsTrue result ↔ (more_fields_of left.now ≡ more_fields_of right.now) }
-{
-    match left {
-        None => right.is_none(),
-        Some(fields) => match right {
-            None => false,
-            Some(others) => are_same_fields(fields, others),
-        },
-    }
-}
-
 /// Whether both are the same alternatives, one after the other.
 #[cycle(is_same_type)]
 fn are_same_alternatives(left: &[Alt], right: &[Alt]) -> bool
@@ -126,20 +126,6 @@ fn is_same_alternative(left: &Alt, right: &Alt) -> bool
     ensures { IsTrue result ↔ (branch_of left.now ≡ branch_of right.now) }
 {
     *left.name == *right.name && is_same_type(&left.ty, &right.ty)
-}
-
-/// Whether both are the same additions, or there is no extension marker in either.
-#[cycle(is_same_type)]
-fn are_same_added_alternatives(left: &Option<Vec<Alt>>, right: &Option<Vec<Alt>>) -> bool
-    ensures { IsTrue result ↔ (more_alternatives_of left.now ≡ more_alternatives_of right.now) }
-{
-    match left {
-        None => right.is_none(),
-        Some(alternatives) => match right {
-            None => false,
-            Some(others) => are_same_alternatives(alternatives, others),
-        },
-    }
 }
 
 /// Whether both say the same of when a component is there.

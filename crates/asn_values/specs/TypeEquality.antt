@@ -92,19 +92,19 @@ from eq alike itself x y = (alike x y, λ e. subst (λ z. eq x z ≡ true) e (it
 both : (a b : Bool) → a ≡ true → b ≡ true → (a && b) ≡ true
 both a b h k = rw (h, k) refl
 
-make_range : Option ℤ → Option ℤ → Bool → Range
+abbrev make_range : Option ℤ → Option ℤ → Bool → Range
 make_range x y z = record { low = x; high = y; extensible = z }
 
 range_from : (a b : Range) → a.low ≡ b.low → a.high ≡ b.high → a.extensible ≡ b.extensible → a ≡ b
 range_from a b h0 h1 h2 = ap (λ z. make_range z a.high a.extensible) h0 ∙ ap (λ z. make_range b.low z a.extensible) h1 ∙ ap (λ z. make_range b.low b.high z) h2
 
-make_size : ℕ → Option ℕ → Bool → SizeRange
+abbrev make_size : ℕ → Option ℕ → Bool → SizeRange
 make_size x y z = record { low = x; high = y; extensible = z }
 
 size_from : (a b : SizeRange) → a.low ≡ b.low → a.high ≡ b.high → a.extensible ≡ b.extensible → a ≡ b
 size_from a b h0 h1 h2 = ap (λ z. make_size z a.high a.extensible) h0 ∙ ap (λ z. make_size b.low z a.extensible) h1 ∙ ap (λ z. make_size b.low b.high z) h2
 
-make_label : List ℕ → ℤ → Label
+abbrev make_label : List ℕ → ℤ → Label
 make_label x y = record { name = x; number = y }
 
 label_from : (a b : Label) → a.name ≡ b.name → a.number ≡ b.number → a ≡ b

@@ -13,6 +13,7 @@ mod fitting;
 mod laws;
 mod lookup;
 mod names;
+mod notation;
 pub mod profile;
 mod ranges;
 mod sizes;
@@ -29,6 +30,7 @@ pub use equality::same;
 pub use fault::TypeFault;
 pub use fitting::{fits, fits_received};
 pub use laws::defaults_are_judged;
+pub use notation::Notation;
 pub use ranges::{is_between, number_fits};
 pub use sizes::{is_in_size, length_fits};
 pub use texts::{octets_fit, text_fits, unicode_fits};
@@ -37,6 +39,8 @@ pub use value::Value;
 
 #[cfg(test)]
 mod builders;
+#[cfg(test)]
+mod notation_tests;
 #[cfg(test)]
 mod profile_tests;
 #[cfg(test)]

@@ -10,7 +10,7 @@ use Rattle.asn_values.proofs.Views.{shape_of-Seq, shape_of-Choice}
 
 -- ---- components
 
-parts_in : Fields → List Part
+abbrev parts_in : Fields → List Part
 parts_in no_fields = []
 parts_in (field name demand t fs) = record { name = name; demand = demand; shape = t } ∷ parts_in fs
 
@@ -55,8 +55,8 @@ pub other_root :
     (fs gs : List Field) → fs ≡ v.items → gs ≡ w.items →
     (b : Bool) → IsTrue b ↔ (map part_of_field fs ≡ map part_of_field gs) → b ≡ false →
     IsTrue b ↔ (shape_of x ≡ shape_of y)
-other_root x y v w m n ex ey fs gs ef eg b (there, back) no = (
-  λ h. absurd (true≢false (sym h ∙ no)),
+other_root x y v w m n ex ey fs gs ef eg b (there, back) failed = (
+  λ h. absurd (true≢false (sym h ∙ failed)),
   λ e. back (ap (map part_of_field) ef ∙ (roots_of_same x y v w m n ex ey e ∙ sym (ap (map part_of_field) eg))),
 )
 
@@ -78,7 +78,7 @@ by_additions x y v w m n ex ey fs gs ef eg root more others em en hs is eh ei b 
 
 -- ---- alternatives
 
-branches_in : Alternatives → List Branch
+abbrev branches_in : Alternatives → List Branch
 branches_in no_alternatives = []
 branches_in (one_of name t alts) = record { name = name; shape = t } ∷ branches_in alts
 
@@ -123,8 +123,8 @@ pub other_choice :
     (fs gs : List Alt) → fs ≡ v.items → gs ≡ w.items →
     (b : Bool) → IsTrue b ↔ (map branch_of fs ≡ map branch_of gs) → b ≡ false →
     IsTrue b ↔ (shape_of x ≡ shape_of y)
-other_choice x y v w m n ex ey fs gs ef eg b (there, back) no = (
-  λ h. absurd (true≢false (sym h ∙ no)),
+other_choice x y v w m n ex ey fs gs ef eg b (there, back) failed = (
+  λ h. absurd (true≢false (sym h ∙ failed)),
   λ e. back (ap (map branch_of) ef ∙ (roots_of_same_choice x y v w m n ex ey e ∙ sym (ap (map branch_of) eg))),
 )
 

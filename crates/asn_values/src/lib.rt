@@ -9,6 +9,7 @@ mod default_values;
 mod enumerations;
 mod equality;
 mod fault;
+mod fault_paths;
 mod fitting;
 mod laws;
 mod lookup;
@@ -28,6 +29,7 @@ pub use checked::Checked;
 pub use enumerations::item_fits;
 pub use equality::same;
 pub use fault::TypeFault;
+pub use fault_paths::FoundFault;
 pub use fitting::{fits, fits_received};
 pub use laws::defaults_are_judged;
 pub use notation::Notation;
@@ -39,6 +41,8 @@ pub use value::Value;
 
 #[cfg(test)]
 mod builders;
+#[cfg(test)]
+mod fault_path_tests;
 #[cfg(test)]
 mod notation_tests;
 #[cfg(test)]

@@ -5,7 +5,7 @@ use crate::types::{Alt, AsnType, Field, Item};
 use crate::value::Value;
 use std::fmt;
 
-/// A value beside its type, to be displayed: `{id 5, list {TRUE, FALSE}, side left : NULL}`.
+/// A value beside its type, to be displayed: `{ id 5, list { TRUE, FALSE }, side left : NULL }`.
 ///
 /// Components, items and alternatives stand by their names; by their index, counted from 0 as written, root then
 /// additions, where the type has none there. A string stands in quotation marks, each of its own twice.
@@ -87,9 +87,7 @@ fn put_entries<W: fmt::Write>(
     let mut is_first = true;
     for (index, entry) in entries.iter().enumerate() {
         if let Some(value) = entry {
-            if !is_first {
-                f.write_str(", ")?;
-            }
+            f.write_str(if is_first { " " } else { ", " })?;
             is_first = false;
             match field_at(ty, index) {
                 Some(field) => {
@@ -104,7 +102,7 @@ fn put_entries<W: fmt::Write>(
             }
         }
     }
-    f.write_str("}")
+    f.write_str(" }")
 }
 
 /// The elements of a SEQUENCE OF.
@@ -116,12 +114,10 @@ fn put_elements<W: fmt::Write>(
 ) -> fmt::Result {
     f.write_str("{")?;
     for (index, value) in values.iter().enumerate() {
-        if 0 < index {
-            f.write_str(", ")?;
-        }
+        f.write_str(if index == 0 { " " } else { ", " })?;
         put_value(f, element, value)?;
     }
-    f.write_str("}")
+    f.write_str(" }")
 }
 
 /// Bits between apostrophes, and a B.

@@ -47,8 +47,8 @@ fn values_are_shown_with_names(rt: HostRuntime) -> Result<(), Fail> {
     let text = format!(in alloc; "{}", value.notation(&ty))?;
     assert_eq!(rt;
         text.as_str(),
-        "{id 5, side right, way b : NULL, list {TRUE, FALSE}, bits '01'B, octets '0AFF'H, \
-         code \"a\"\"\", last NULL}"
+        "{ id 5, side right, way b : NULL, list { TRUE, FALSE }, bits '01'B, octets '0AFF'H, \
+         code \"a\"\"\", last NULL }"
     );
     Ok(())
 }
@@ -60,12 +60,12 @@ fn values_are_shown_without_names(rt: HostRuntime) -> Result<(), Fail> {
     let text = format!(in alloc; "{value}")?;
     assert_eq!(rt;
         text.as_str(),
-        "{0 5, 1 1, 2 1 : NULL, 3 {TRUE, FALSE}, 4 '01'B, 5 '0AFF'H, 6 \"a\"\"\", 8 NULL}"
+        "{ 0 5, 1 1, 2 1 : NULL, 3 { TRUE, FALSE }, 4 '01'B, 5 '0AFF'H, 6 \"a\"\"\", 8 NULL }"
     );
     for (value, want) in [
         (Value::UnknownItem(-3), "unknown item -3"),
         (Value::UnknownAlternative(2), "unknown alternative 2"),
-        (Value::List(Vec::new(alloc)), "{}"),
+        (Value::List(Vec::new(alloc)), "{ }"),
         (Value::Utf8(String::from_str(alloc, "é")?), "\"é\""),
     ] {
         let text = format!(in alloc; "{value}")?;

@@ -1,5 +1,5 @@
 //! Where in a type its first fault is.
-ghost use Rattle.std.specs.Prelude.{IfOk, MatchOption};
+ghost use Rattle.std.specs.Prelude.{◌≢◌, IfOk, IfSome, MatchOption};
 ghost use Rattle.asn_values.specs.Profile.{InProfile};
 ghost use Rattle.asn_values.specs.View.{shape_of, Holds};
 
@@ -21,7 +21,7 @@ pub struct FoundFault {
 
 impl AsnType {
     /// The fault that `Checked::new` answers for this type, and the path to where it is; None where the type is of the
-    /// profile. Allocates the path. It is no path of `TypeFault::Memory`, which no type has.
+    /// profile. Allocates the path. The fault is never `Memory`.
     ///
     /// A type that is too deep is told by the path to its first type at level 33, one that has too many types inside by
     /// that to the 10,001st.
@@ -29,8 +29,9 @@ impl AsnType {
     /// # Errors
     /// `AllocError` where an allocation failed.
     pub fn first_fault(&self, alloc: Global) -> Result<Option<FoundFault>, AllocError>
-        ensures { IfOk result (λ found.
+        ensures found { IfOk result (λ found.
             MatchOption found (InProfile (shape_of self.now)) (λ f. Holds f.fault (shape_of self.now))) }
+        ensures memory { IfOk result (λ found. IfSome found (λ f. f.fault ≢ TypeFault.Memory)) }
     {
         match check_type(self, MAX_LEVELS, MAX_TYPES) {
             Ok(_) => Ok(None),

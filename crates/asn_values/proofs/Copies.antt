@@ -19,4 +19,3 @@ pub copied_entries :
     (x : Value) (v w : Vec (Option Value) Global) → x ≡ value.Seq v →
     map (option_map datum_of) w.items ≡ map (option_map datum_of) v.items → datum_of (value.Seq w) ≡ datum_of x
 copied_entries x v w e same = rw e (datum_of-Seq w ∙ ap (λ es. components (components_of es)) same ∙ sym (datum_of-Seq v))
-

@@ -38,7 +38,13 @@ fn the_path_leads_to_the_first_fault(rt: HostRuntime) -> Result<(), Fail> {
     let alloc = rt.alloc();
     let empty = || AsnType::Int(Bounds::between(1, 0));
     expect(&rt, alloc, &empty(), TypeFault::EmptyRange, "$")?;
-    expect(&rt, alloc, &message(alloc, empty())?, TypeFault::EmptyRange, "$.header.speed")?;
+    expect(
+        &rt,
+        alloc,
+        &message(alloc, empty())?,
+        TypeFault::EmptyRange,
+        "$.header.speed",
+    )?;
     assert!(rt; message(alloc, AsnType::Bool)?.first_fault(alloc)?.is_none());
     let list = AsnType::sequence_of(alloc, message(alloc, empty())?, Size::any())?;
     let way = vec![in alloc; Alt::new(alloc, "none", AsnType::Null)?]?;
@@ -46,7 +52,13 @@ fn the_path_leads_to_the_first_fault(rt: HostRuntime) -> Result<(), Fail> {
     let choice = AsnType::extensible_choice(way, more);
     let more = vec![in alloc; Field::new(alloc, "way", choice)?.optional()]?;
     let ty = AsnType::extensible_sequence(Vec::new(alloc), more);
-    expect(&rt, alloc, &ty, TypeFault::EmptyRange, "$.way.list[].header.speed")
+    expect(
+        &rt,
+        alloc,
+        &ty,
+        TypeFault::EmptyRange,
+        "$.way.list[].header.speed",
+    )
 }
 
 #[test]
@@ -55,9 +67,21 @@ fn a_type_comes_before_those_inside_it(rt: HostRuntime) -> Result<(), Fail> {
     let size = Size::between(2, 1);
     let inner = AsnType::Bits(size);
     let list = AsnType::sequence_of(alloc, inner, size)?;
-    expect(&rt, alloc, &message(alloc, list)?, TypeFault::EmptyRange, "$.header.speed")?;
+    expect(
+        &rt,
+        alloc,
+        &message(alloc, list)?,
+        TypeFault::EmptyRange,
+        "$.header.speed",
+    )?;
     let many = booleans(alloc, 65)?;
-    expect(&rt, alloc, &message(alloc, many)?, TypeFault::TooMany, "$.header.speed")
+    expect(
+        &rt,
+        alloc,
+        &message(alloc, many)?,
+        TypeFault::TooMany,
+        "$.header.speed",
+    )
 }
 
 #[test]
@@ -67,7 +91,13 @@ fn levels_and_types_are_counted(rt: HostRuntime) -> Result<(), Fail> {
     let path = ".a".repeat(alloc, 32)?;
     let path = format!(in alloc; "${path}")?;
     expect(&rt, alloc, &deep, TypeFault::TooDeep, &path)?;
-    expect(&rt, alloc, &types(alloc, 51)?, TypeFault::TooMany, "$.c.last.c50")
+    expect(
+        &rt,
+        alloc,
+        &types(alloc, 51)?,
+        TypeFault::TooMany,
+        "$.c.last.c50",
+    )
 }
 
 #[test]

@@ -11,7 +11,11 @@ fn every_kind(alloc: Global) -> Result<AsnType, AllocError> {
     let list = AsnType::sequence_of(alloc, AsnType::Bool, any)?;
     let root = vec![in alloc;
         Field::new(alloc, "id", AsnType::Int(Bounds::between(0, 7)))?,
-        Field::new(alloc, "side", items(alloc, &[("left", 0), ("right", 1)], None)?)?,
+        Field::new(
+            alloc,
+            "side",
+            items(alloc, &[("left", 0), ("right", 1)], None)?
+        )?,
         Field::new(alloc, "way", choice(alloc, &["a"], Some(&["b"]))?)?,
         Field::new(alloc, "list", list)?,
         Field::new(alloc, "bits", AsnType::Bits(any))?,

@@ -6,6 +6,7 @@ ghost use Rattle.asn_bits.specs.Sets.{AreBits};
 
 use crate::shifts::push_front;
 use std::alloc::AllocError;
+use std::fmt;
 use std::marker::Model;
 
 /// The bits of octets that are left to read, the highest bit of an octet first. Contracts see
@@ -269,4 +270,14 @@ fn from_be_octets(front: &[u8]) -> u128
         n = n * 256 + *octet as u128;
     }
     n
+}
+
+/// How many octets there are, the first of them perhaps read in part, and how many bits of that one are read.
+impl<'a> fmt::Debug for BitCursor<'a> {
+    fn fmt<W: fmt::Write>(&self, f: &mut fmt::Formatter<W>) -> fmt::Result {
+        f.debug_struct("BitCursor")
+            .field("octets", &self.octets.len())
+            .field("bits_read", &self.offset)
+            .finish()
+    }
 }

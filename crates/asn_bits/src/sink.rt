@@ -9,6 +9,7 @@ use crate::shifts::push_shifted;
 use crate::words::{full_word, push_low, push_word, shift_in};
 use asn_values::profile::BLOCK;
 use std::alloc::{AllocError, Global};
+use std::fmt;
 use std::marker::Model;
 
 /// Bits that wait to become octets. Contracts see the list of the bits pushed, each 0 or 1.
@@ -263,4 +264,14 @@ pub(crate) fn put_octets(into: &mut Vec<u8>, count: u32, pending: u64, octets: &
         unreachable!()
     }
     (left, pending)
+}
+
+/// How many whole octets there are, and how many bits after them.
+impl fmt::Debug for BitSink {
+    fn fmt<W: fmt::Write>(&self, f: &mut fmt::Formatter<W>) -> fmt::Result {
+        f.debug_struct("BitSink")
+            .field("octets", &self.octets.len())
+            .field("bits_after", &self.count)
+            .finish()
+    }
 }

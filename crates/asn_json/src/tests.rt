@@ -1,106 +1,49 @@
 //! JSON of each kind of value both ways, and what is answered to JSON of another shape.
 use crate::{JsonFault, from_json, to_json};
 use asn_values::{
-    Alt, AsnType, Bounds, Checked, Field, Item, Need, Size, TextKind, TypeFault, Value, same,
+    Alt, AsnType, Bounds, Checked, Field, Item, Size, TextKind, TypeFault, Value, same,
 };
 use serde_json::Value as Json;
 use std::alloc::{AllocError, Global};
 use std::process::Abort;
 use std::test::Fail;
 
-/// INTEGER (low..high)
-fn int(low: i128, high: i128) -> AsnType {
-    AsnType::Int(Bounds {
-        low: Some(low),
-        high: Some(high),
-        ext: false,
-    })
-}
-
-/// INTEGER
-fn any_int() -> AsnType {
-    AsnType::Int(Bounds {
-        low: None,
-        high: None,
-        ext: false,
-    })
-}
-
-/// SIZE (0..high)
-fn up_to(high: u32) -> Size {
-    Size {
-        low: 0,
-        high: Some(high),
-        ext: false,
-    }
-}
-
-fn field(alloc: Global, name: &str, ty: AsnType, need: Need) -> Result<Field, AllocError> {
-    Ok(Field {
-        name: String::from_str(alloc, name)?,
-        ty,
-        need,
-    })
-}
-
-fn alternative(alloc: Global, name: &str, ty: AsnType) -> Result<Alt, AllocError> {
-    Ok(Alt {
-        name: String::from_str(alloc, name)?,
-        ty,
-    })
-}
-
-fn item(alloc: Global, name: &str, number: i64) -> Result<Item, AllocError> {
-    Ok(Item {
-        name: String::from_str(alloc, name)?,
-        number,
-    })
-}
-
 /// SEQUENCE { id INTEGER (0..7), ok BOOLEAN DEFAULT TRUE, note IA5String (SIZE (0..3)) OPTIONAL }
 fn message(alloc: Global) -> Result<AsnType, AllocError> {
-    let id = field(alloc, "id", int(0, 7), Need::Must)?;
-    let ok = field(alloc, "ok", AsnType::Bool, Need::Default(Value::Bool(true)))?;
-    let text = AsnType::Text(TextKind::Ia5, up_to(3));
-    let note = field(alloc, "note", text, Need::Optional)?;
-    Ok(AsnType::Seq {
-        root: vec![in alloc; id, ok, note]?,
-        ext: None,
-    })
+    let id = Field::new(alloc, "id", AsnType::Int(Bounds::between(0, 7)))?;
+    let ok = Field::new(alloc, "ok", AsnType::Bool)?.default_to(Value::Bool(true));
+    let text = AsnType::Text(TextKind::Ia5, Size::between(0, 3));
+    let note = Field::new(alloc, "note", text)?.optional();
+    Ok(AsnType::sequence(vec![in alloc; id, ok, note]?))
 }
 
 /// SEQUENCE { a BOOLEAN, ..., b SEQUENCE OF INTEGER (0..255) OPTIONAL, c NULL OPTIONAL }
 fn extended(alloc: Global) -> Result<AsnType, AllocError> {
-    let a = field(alloc, "a", AsnType::Bool, Need::Must)?;
-    let list = AsnType::SeqOf(Box::new(alloc, int(0, 255))?, up_to(3));
-    let b = field(alloc, "b", list, Need::Optional)?;
-    let c = field(alloc, "c", AsnType::Null, Need::Optional)?;
-    Ok(AsnType::Seq {
-        root: vec![in alloc; a]?,
-        ext: Some(vec![in alloc; b, c]?),
-    })
+    let a = Field::new(alloc, "a", AsnType::Bool)?;
+    let number = AsnType::Int(Bounds::between(0, 255));
+    let list = AsnType::sequence_of(alloc, number, Size::between(0, 3))?;
+    let b = Field::new(alloc, "b", list)?.optional();
+    let c = Field::new(alloc, "c", AsnType::Null)?.optional();
+    let root = vec![in alloc; a]?;
+    Ok(AsnType::extensible_sequence(root, vec![in alloc; b, c]?))
 }
 
 /// CHOICE { x NULL, y BOOLEAN, ..., w OCTET STRING (SIZE (0..3)) }
 fn choice(alloc: Global) -> Result<AsnType, AllocError> {
-    let x = alternative(alloc, "x", AsnType::Null)?;
-    let y = alternative(alloc, "y", AsnType::Bool)?;
-    let w = alternative(alloc, "w", AsnType::Octets(up_to(3)))?;
-    Ok(AsnType::Choice {
-        root: vec![in alloc; x, y]?,
-        ext: Some(vec![in alloc; w]?),
-    })
+    let x = Alt::new(alloc, "x", AsnType::Null)?;
+    let y = Alt::new(alloc, "y", AsnType::Bool)?;
+    let w = Alt::new(alloc, "w", AsnType::Octets(Size::between(0, 3)))?;
+    let root = vec![in alloc; x, y]?;
+    Ok(AsnType::extensible_choice(root, vec![in alloc; w]?))
 }
 
 /// ENUMERATED { red(0), green(5), ..., grey(300) }
 fn color(alloc: Global) -> Result<AsnType, AllocError> {
-    let red = item(alloc, "red", 0)?;
-    let green = item(alloc, "green", 5)?;
-    let grey = item(alloc, "grey", 300)?;
-    Ok(AsnType::Enum {
-        root: vec![in alloc; red, green]?,
-        ext: Some(vec![in alloc; grey]?),
-    })
+    let red = Item::new(alloc, "red", 0)?;
+    let green = Item::new(alloc, "green", 5)?;
+    let grey = Item::new(alloc, "grey", 300)?;
+    let root = vec![in alloc; red, green]?;
+    Ok(AsnType::extensible_enumerated(root, vec![in alloc; grey]?))
 }
 
 fn checked(alloc: Global, ty: AsnType) -> Result<Checked, TypeFault> {
@@ -216,7 +159,7 @@ fn numbers_and_names_are_read_back(rt: HostRuntime) -> Result<(), Fail> {
         ("1e2", "shape $"),
         ("\"1\"", "shape $"),
     ];
-    assert_answers(&rt, alloc, any_int(), numbers.as_slice())?;
+    assert_answers(&rt, alloc, AsnType::Int(Bounds::any()), numbers.as_slice())?;
     let names = [
         ("\"green\"", "\"green\""),
         ("\"grey\"", "\"grey\""),
@@ -237,13 +180,13 @@ fn strings_are_read_back(rt: HostRuntime) -> Result<(), Fail> {
         ("\"1011\"", "not of type"),
         ("101", "shape $"),
     ];
-    assert_answers(&rt, alloc, AsnType::Bits(up_to(3)), bits.as_slice())?;
+    assert_answers(&rt, alloc, AsnType::Bits(Size::between(0, 3)), bits.as_slice())?;
     let digits = [
         ("\"12 \"", "\"12 \""),
         ("\"1a\"", "not of type"),
         ("12", "shape $"),
     ];
-    let numeric = AsnType::Text(TextKind::Numeric, up_to(3));
+    let numeric = AsnType::Text(TextKind::Numeric, Size::between(0, 3));
     assert_answers(&rt, alloc, numeric, digits.as_slice())?;
     let any = [("\"\\u00e9\"", "\"\u{e9}\""), ("{}", "shape $")];
     assert_answers(&rt, alloc, AsnType::Utf8, any.as_slice())

@@ -14,14 +14,14 @@ pub(crate) struct Built {
 }
 
 /// A type of the profile with its constraint.
-#[derive(Drop)]
+#[derive(Debug, Drop)]
 pub(crate) struct Known {
     pub ty: Checked,
     pub constraint: Option<bool>,
 }
 
 /// A name, and its type where this is built.
-#[derive(Drop)]
+#[derive(Debug, Drop)]
 pub(crate) struct Named {
     pub name: String,
     pub known: Option<Known>,

@@ -9,7 +9,7 @@ use crate::known::Named;
 use asn_values::Checked;
 
 /// A module: its name, and the names that it assigns with their types, in the order of the text.
-#[derive(Drop)]
+#[derive(Debug, Drop)]
 pub struct Module {
     pub(crate) name: String,
     pub(crate) types: Vec<Named>,

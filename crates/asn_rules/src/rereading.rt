@@ -16,6 +16,7 @@ use crate::session::{FeedFault, OpenFault, Step, Truncated};
 use asn_values::Checked;
 use bytes::BytesMut;
 use std::alloc::{AllocError, Global};
+use std::fmt;
 
 /// Encoding rules whose reader takes the octets of a message at once.
 pub trait Reads {
@@ -47,7 +48,7 @@ pub trait Reads {
 }
 
 /// How a session goes on.
-#[derive(Clone, Copy)]
+#[derive(Clone, Copy, Debug)]
 enum State {
     /// By all octets so far.
     Waiting,
@@ -181,4 +182,15 @@ fn cut_after<R: Reads>(octets: usize) -> Truncated
 {
     let taken = R::units_of(octets.min(MAX_OCTETS));
     Truncated { taken }
+}
+
+/// How many octets are kept, and how the session stands; not its type.
+impl fmt::Debug for Rereading {
+    fn fmt<W: fmt::Write>(&self, f: &mut fmt::Formatter<W>) -> fmt::Result {
+        f.debug_struct("Rereading")
+            .field("octets_kept", &self.kept.len())
+            .field("state", &self.state)
+            .field("end", &self.end)
+            .finish_non_exhaustive()
+    }
 }

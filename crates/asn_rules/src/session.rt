@@ -10,7 +10,7 @@ use std::alloc::AllocError;
 use thiserror::Error;
 
 /// What a session answers to a piece that it took.
-#[derive(Drop)]
+#[derive(Debug, Drop)]
 pub enum Step {
     /// The octets so far begin with the encoding of `value`, which ends after the first `used` octets of this piece.
     Done { value: Value, used: usize },

@@ -8,6 +8,7 @@ pub mod Parts
 pub mod Defaults
 pub mod View
 pub mod Equality
+pub mod TypeEquality
 pub mod LookUp
 pub mod Building
 pub mod ExampleTypes

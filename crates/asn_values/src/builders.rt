@@ -1,30 +1,11 @@
-//! Types and parts of types, as the tests put them together.
+//! Types that many tests begin with, and what they expect of them.
 use crate::{Alt, AsnType, Bounds, Checked, Field, Item, Need, Size, TypeFault, Value};
 use std::alloc::{AllocError, Global};
 use std::process::Abort;
 
-/// INTEGER with these bounds, and the extension mark where `ext`
-pub(crate) fn bounded(low: Option<i128>, high: Option<i128>, ext: bool) -> AsnType {
-    AsnType::Int(Bounds { low, high, ext })
-}
-
 /// INTEGER (low..high)
 pub(crate) fn int(low: i128, high: i128) -> AsnType {
-    bounded(Some(low), Some(high), false)
-}
-
-/// INTEGER (low..MAX)
-pub(crate) fn int_from(low: i128) -> AsnType {
-    bounded(Some(low), None, false)
-}
-
-/// SIZE (0..MAX)
-pub(crate) fn any_size() -> Size {
-    Size {
-        low: 0,
-        high: None,
-        ext: false,
-    }
+    AsnType::Int(Bounds::between(low, high))
 }
 
 /// ENUMERATED { name(number), .., ..., name(number), .. }, the mark only where there are `more`
@@ -33,24 +14,17 @@ pub(crate) fn items(
     root: &[(&str, i64)],
     more: Option<&[(&str, i64)]>,
 ) -> Result<AsnType, AllocError> {
-    let ext = match more {
-        Some(more) => Some(item_list(alloc, more)?),
-        None => None,
-    };
-    Ok(AsnType::Enum {
-        root: item_list(alloc, root)?,
-        ext,
+    let root = item_list(alloc, root)?;
+    Ok(match more {
+        Some(more) => AsnType::extensible_enumerated(root, item_list(alloc, more)?),
+        None => AsnType::enumerated(root),
     })
 }
 
 pub(crate) fn item_list(alloc: Global, items: &[(&str, i64)]) -> Result<Vec<Item>, AllocError> {
     let mut list = Vec::new(alloc);
     for (name, number) in items {
-        let name = String::from_str(alloc, *name)?;
-        list.push(Item {
-            name,
-            number: *number,
-        })?;
+        list.push(Item::new(alloc, *name, *number)?)?;
     }
     Ok(list)
 }
@@ -61,45 +35,36 @@ pub(crate) fn item_row(alloc: Global, start: u32, count: u32) -> Result<Vec<Item
     for place in 0..count {
         let number = i64::from(start) + i64::from(place);
         let name = format!(in alloc; "i{number}")?;
-        list.push(Item { name, number })?;
+        list.push(Item::new(alloc, &name, number)?)?;
     }
     Ok(list)
 }
 
-pub(crate) fn field(
-    alloc: Global,
-    name: &str,
-    ty: AsnType,
-    need: Need,
-) -> Result<Field, AllocError> {
-    Ok(Field {
-        name: String::from_str(alloc, name)?,
-        ty,
-        need,
+/// name type need
+fn needed(alloc: Global, name: &str, ty: AsnType, need: Need) -> Result<Field, AllocError> {
+    let field = Field::new(alloc, name, ty)?;
+    Ok(match need {
+        Need::Must => field,
+        Need::Optional => field.optional(),
+        Need::Default(value) => field.default_to(value),
     })
 }
 
-/// SEQUENCE { name type }
+/// SEQUENCE { name type need }
 pub(crate) fn around(
     alloc: Global,
     name: &str,
     ty: AsnType,
     need: Need,
 ) -> Result<AsnType, AllocError> {
-    Ok(AsnType::Seq {
-        root: vec![in alloc; field(alloc, name, ty, need)?]?,
-        ext: None,
-    })
+    Ok(AsnType::sequence(vec![in alloc; needed(alloc, name, ty, need)?]?))
 }
 
 /// SEQUENCE { a first, b second }
 pub(crate) fn pair(alloc: Global, first: AsnType, second: AsnType) -> Result<AsnType, AllocError> {
-    let a = field(alloc, "a", first, Need::Must)?;
-    let b = field(alloc, "b", second, Need::Must)?;
-    Ok(AsnType::Seq {
-        root: vec![in alloc; a, b]?,
-        ext: None,
-    })
+    let a = Field::new(alloc, "a", first)?;
+    let b = Field::new(alloc, "b", second)?;
+    Ok(AsnType::sequence(vec![in alloc; a, b]?))
 }
 
 /// A SEQUENCE of `count` components of BOOLEAN.
@@ -107,13 +72,9 @@ pub(crate) fn booleans(alloc: Global, count: usize) -> Result<AsnType, AllocErro
     let mut root = Vec::new(alloc);
     for place in 0..count {
         let name = format!(in alloc; "c{place}")?;
-        root.push(Field {
-            name,
-            ty: AsnType::Bool,
-            need: Need::Must,
-        })?;
+        root.push(Field::new(alloc, &name, AsnType::Bool)?)?;
     }
-    Ok(AsnType::Seq { root, ext: None })
+    Ok(AsnType::sequence(root))
 }
 
 /// A type of that many levels: SEQUENCEs of one component, and the innermost type.
@@ -134,25 +95,18 @@ pub(crate) fn bundle(alloc: Global, full: usize, last: usize) -> Result<AsnType,
     let mut root = Vec::new(alloc);
     for place in 0..full {
         let name = format!(in alloc; "c{place}")?;
-        root.push(Field {
-            name,
-            ty: booleans(alloc, 64)?,
-            need: Need::Must,
-        })?;
+        root.push(Field::new(alloc, &name, booleans(alloc, 64)?)?)?;
     }
-    root.push(field(alloc, "last", booleans(alloc, last)?, Need::Must)?)?;
-    Ok(AsnType::Seq { root, ext: None })
+    root.push(Field::new(alloc, "last", booleans(alloc, last)?)?)?;
+    Ok(AsnType::sequence(root))
 }
 
 /// A type of 9,950 + last types: 1 + 4,161 + 4,161 + 1,627 + last.
 pub(crate) fn types(alloc: Global, last: usize) -> Result<AsnType, AllocError> {
-    let a = field(alloc, "a", bundle(alloc, 63, 64)?, Need::Must)?;
-    let b = field(alloc, "b", bundle(alloc, 63, 64)?, Need::Must)?;
-    let c = field(alloc, "c", bundle(alloc, 25, last)?, Need::Must)?;
-    Ok(AsnType::Seq {
-        root: vec![in alloc; a, b, c]?,
-        ext: None,
-    })
+    let a = Field::new(alloc, "a", bundle(alloc, 63, 64)?)?;
+    let b = Field::new(alloc, "b", bundle(alloc, 63, 64)?)?;
+    let c = Field::new(alloc, "c", bundle(alloc, 25, last)?)?;
+    Ok(AsnType::sequence(vec![in alloc; a, b, c]?))
 }
 
 /// SEQUENCE { a type DEFAULT value }
@@ -175,25 +129,11 @@ pub(crate) fn expect_fault(
     assert_eq!(rt; Checked::new(alloc, ty).err(), want, "{what}");
 }
 
-/// SIZE (low..high), and the extension mark where `ext`
-pub(crate) fn sized(low: u32, high: u32, ext: bool) -> Size {
-    Size {
-        low,
-        high: Some(high),
-        ext,
-    }
-}
-
-/// SEQUENCE (SIZE) OF element
-pub(crate) fn list(alloc: Global, element: AsnType, size: Size) -> Result<AsnType, AllocError> {
-    Ok(AsnType::SeqOf(Box::new(alloc, element)?, size))
-}
-
 /// Components of BOOLEAN OPTIONAL with these names.
 pub(crate) fn fields(alloc: Global, names: &[&str]) -> Result<Vec<Field>, AllocError> {
     let mut list = Vec::new(alloc);
     for name in names {
-        list.push(field(alloc, *name, AsnType::Bool, Need::Optional)?)?;
+        list.push(Field::new(alloc, *name, AsnType::Bool)?.optional())?;
     }
     Ok(list)
 }
@@ -207,27 +147,16 @@ pub(crate) fn field_row(
     let mut list = Vec::new(alloc);
     for place in 0..count {
         let name = format!(in alloc; "{prefix}{place}")?;
-        list.push(Field {
-            name,
-            ty: AsnType::Bool,
-            need: Need::Optional,
-        })?;
+        list.push(Field::new(alloc, &name, AsnType::Bool)?.optional())?;
     }
     Ok(list)
-}
-
-pub(crate) fn alternative(alloc: Global, name: &str, ty: AsnType) -> Result<Alt, AllocError> {
-    Ok(Alt {
-        name: String::from_str(alloc, name)?,
-        ty,
-    })
 }
 
 /// Alternatives of NULL with these names.
 pub(crate) fn alternatives(alloc: Global, names: &[&str]) -> Result<Vec<Alt>, AllocError> {
     let mut list = Vec::new(alloc);
     for name in names {
-        list.push(alternative(alloc, *name, AsnType::Null)?)?;
+        list.push(Alt::new(alloc, *name, AsnType::Null)?)?;
     }
     Ok(list)
 }
@@ -241,10 +170,7 @@ pub(crate) fn alternative_row(
     let mut list = Vec::new(alloc);
     for place in 0..count {
         let name = format!(in alloc; "{prefix}{place}")?;
-        list.push(Alt {
-            name,
-            ty: AsnType::Null,
-        })?;
+        list.push(Alt::new(alloc, &name, AsnType::Null)?)?;
     }
     Ok(list)
 }
@@ -257,10 +183,8 @@ pub(crate) fn with_addition(
     ty: AsnType,
     need: Need,
 ) -> Result<AsnType, AllocError> {
-    Ok(AsnType::Seq {
-        root: fields(alloc, root)?,
-        ext: Some(vec![in alloc; field(alloc, name, ty, need)?]?),
-    })
+    let more = vec![in alloc; needed(alloc, name, ty, need)?]?;
+    Ok(AsnType::extensible_sequence(fields(alloc, root)?, more))
 }
 
 /// CHOICE of alternatives of NULL, and of more of them as additions; no extension marker for `None`.
@@ -269,13 +193,10 @@ pub(crate) fn choice(
     root: &[&str],
     more: Option<&[&str]>,
 ) -> Result<AsnType, AllocError> {
-    let ext = match more {
-        Some(names) => Some(alternatives(alloc, names)?),
-        None => None,
-    };
-    Ok(AsnType::Choice {
-        root: alternatives(alloc, root)?,
-        ext,
+    let root = alternatives(alloc, root)?;
+    Ok(match more {
+        Some(names) => AsnType::extensible_choice(root, alternatives(alloc, names)?),
+        None => AsnType::choice(root),
     })
 }
 
@@ -302,14 +223,11 @@ pub(crate) fn wrap(alloc: Global, place: Place, ty: AsnType) -> Result<AsnType, 
     Ok(match place {
         Place::Component => around(alloc, "a", ty, Need::Must)?,
         Place::Addition => with_addition(alloc, &[], "a", ty, Need::Optional)?,
-        Place::Element => list(alloc, ty, any_size())?,
-        Place::Alternative => AsnType::Choice {
-            root: vec![in alloc; alternative(alloc, "a", ty)?]?,
-            ext: None,
-        },
-        Place::AddedAlternative => AsnType::Choice {
-            root: alternatives(alloc, &["a"])?,
-            ext: Some(vec![in alloc; alternative(alloc, "b", ty)?]?),
-        },
+        Place::Element => AsnType::sequence_of(alloc, ty, Size::any())?,
+        Place::Alternative => AsnType::choice(vec![in alloc; Alt::new(alloc, "a", ty)?]?),
+        Place::AddedAlternative => AsnType::extensible_choice(
+            alternatives(alloc, &["a"])?,
+            vec![in alloc; Alt::new(alloc, "b", ty)?]?,
+        ),
     })
 }

@@ -1,11 +1,10 @@
 //! The faults of SEQUENCE OF, CHOICE and extension additions, and the limits of the profile through
 //! each of them.
 use crate::builders::{
-    PLACES, Place, alternative, alternative_row, alternatives, any_size, around, booleans, bounded,
-    choice, expect_fault, field, field_row, fields, int, items, levels, list, sized, types,
-    with_addition, with_default, wrap,
+    PLACES, Place, alternative_row, alternatives, around, booleans, choice, expect_fault,
+    field_row, fields, int, items, levels, types, with_addition, with_default, wrap,
 };
-use crate::{AsnType, Need, Size, TextKind, TypeFault, Value};
+use crate::{Alt, AsnType, Bounds, Field, Need, Size, TextKind, TypeFault, Value};
 use std::alloc::{AllocError, Global};
 use std::test::Fail;
 
@@ -25,7 +24,7 @@ fn lists_have_faults(rt: HostRuntime) -> Result<(), Fail> {
         (0, Some(65_536), true, large),
         (0, None, true, useless),
     ] {
-        let ty = list(alloc, AsnType::Bool, Size { low, high, ext })?;
+        let ty = AsnType::sequence_of(alloc, AsnType::Bool, Size { low, high, ext })?;
         expect_fault(&rt, alloc, "of SEQUENCE OF", ty, want);
     }
     Ok(())
@@ -33,11 +32,11 @@ fn lists_have_faults(rt: HostRuntime) -> Result<(), Fail> {
 
 /// Types that are spelt in PER by no bits.
 fn types_without_bits(alloc: Global) -> Result<Vec<AsnType>, AllocError> {
-    let zero = sized(0, 0, false);
+    let zero = Size::fixed(0);
     let empty = booleans(alloc, 0)?;
     let within = around(alloc, "a", int(5, 5), Need::Must)?;
-    let zero_list = list(alloc, AsnType::Bool, zero)?;
-    let of_empty = list(alloc, booleans(alloc, 0)?, sized(3, 3, false))?;
+    let zero_list = AsnType::sequence_of(alloc, AsnType::Bool, zero)?;
+    let of_empty = AsnType::sequence_of(alloc, booleans(alloc, 0)?, Size::fixed(3))?;
     let types = vec![in alloc;
         AsnType::Null,
         int(5, 5),
@@ -58,12 +57,22 @@ fn types_without_bits(alloc: Global) -> Result<Vec<AsnType>, AllocError> {
 fn elements_have_bits(rt: HostRuntime) -> Result<(), Fail> {
     let alloc = rt.alloc();
     let zero = Some(TypeFault::ZeroWidthElement);
-    for size in [any_size(), sized(0, 0, false), sized(2, 3, true)] {
+    for size in [
+        Size::any(),
+        Size::fixed(0),
+        Size::between(2, 3).extensible(),
+    ] {
         for element in types_without_bits(alloc)? {
-            expect_fault(&rt, alloc, "no bits", list(alloc, element, size)?, zero);
+            expect_fault(
+                &rt,
+                alloc,
+                "no bits",
+                AsnType::sequence_of(alloc, element, size)?,
+                zero,
+            );
         }
     }
-    let addition = list(alloc, AsnType::Null, any_size())?;
+    let addition = AsnType::sequence_of(alloc, AsnType::Null, Size::any())?;
     let addition = with_addition(alloc, &[], "a", addition, Need::Optional)?;
     expect_fault(&rt, alloc, "no bits in an addition", addition, zero);
     Ok(())
@@ -72,24 +81,21 @@ fn elements_have_bits(rt: HostRuntime) -> Result<(), Fail> {
 /// Types that a bit tells apart from those without.
 fn types_with_bits(alloc: Global) -> Result<Vec<AsnType>, AllocError> {
     let none: &[(&str, i64)] = &[];
-    let marked = AsnType::Seq {
-        root: vec![in alloc]?,
-        ext: Some(vec![in alloc]?),
-    };
+    let marked = AsnType::extensible_sequence(vec![in alloc]?, vec![in alloc]?);
     let types = vec![in alloc;
         AsnType::Bool,
         AsnType::Utf8,
         int(5, 6),
-        bounded(Some(5), Some(5), true),
+        AsnType::Int(Bounds::between(5, 5).extensible()),
         items(alloc, &[("a", 7)], Some(none))?,
         items(alloc, &[("a", 7), ("b", 8)], None)?,
-        AsnType::Octets(sized(0, 1, false)),
-        AsnType::Octets(sized(0, 0, true)),
+        AsnType::Octets(Size::between(0, 1)),
+        AsnType::Octets(Size::fixed(0).extensible()),
         marked,
         around(alloc, "a", AsnType::Null, Need::Optional)?,
-        list(alloc, AsnType::Bool, sized(0, 1, false))?,
-        list(alloc, AsnType::Bool, sized(0, 0, true))?,
-        list(alloc, AsnType::Bool, sized(2, 2, false))?,
+        AsnType::sequence_of(alloc, AsnType::Bool, Size::between(0, 1))?,
+        AsnType::sequence_of(alloc, AsnType::Bool, Size::fixed(0).extensible())?,
+        AsnType::sequence_of(alloc, AsnType::Bool, Size::fixed(2))?,
         choice(alloc, &["a"], Some(&[]))?,
         choice(alloc, &["a", "b"], None)?,
     ]?;
@@ -100,7 +106,7 @@ fn types_with_bits(alloc: Global) -> Result<Vec<AsnType>, AllocError> {
 fn elements_may_have_one_bit(rt: HostRuntime) -> Result<(), Fail> {
     let alloc = rt.alloc();
     for element in types_with_bits(alloc)? {
-        let ty = list(alloc, element, any_size())?;
+        let ty = AsnType::sequence_of(alloc, element, Size::any())?;
         expect_fault(&rt, alloc, "bits", ty, None);
     }
     Ok(())
@@ -119,13 +125,13 @@ fn additions_have_faults(rt: HostRuntime) -> Result<(), Fail> {
         let ty = with_addition(alloc, &["a"], "b", AsnType::Bool, need)?;
         expect_fault(&rt, alloc, "an addition", ty, want);
     }
-    let second = AsnType::Seq {
-        root: fields(alloc, &["a"])?,
-        ext: Some(vec![in alloc;
-            field(alloc, "b", AsnType::Bool, Need::Optional)?,
-            field(alloc, "c", AsnType::Bool, Need::Must)?,
-        ]?),
-    };
+    let second = AsnType::extensible_sequence(
+        fields(alloc, &["a"])?,
+        vec![in alloc;
+            Field::new(alloc, "b", AsnType::Bool)?.optional(),
+            Field::new(alloc, "c", AsnType::Bool)?,
+        ]?,
+    );
     let must = Some(TypeFault::AdditionNotOptional);
     expect_fault(&rt, alloc, "the second addition", second, must);
     let name = Some(TypeFault::DuplicateName);
@@ -135,10 +141,7 @@ fn additions_have_faults(rt: HostRuntime) -> Result<(), Fail> {
         (&["a"][..], &["c", "c"][..], name),
         (&["a"][..], &["c-"][..], name),
     ] {
-        let ty = AsnType::Seq {
-            root: fields(alloc, root)?,
-            ext: Some(fields(alloc, more)?),
-        };
+        let ty = AsnType::extensible_sequence(fields(alloc, root)?, fields(alloc, more)?);
         expect_fault(&rt, alloc, "the names of additions", ty, want);
     }
     Ok(())
@@ -178,10 +181,10 @@ fn components_are_counted(rt: HostRuntime) -> Result<(), Fail> {
         (64, 65, many),
         (0, 65, many),
     ] {
-        let ty = AsnType::Seq {
-            root: field_row(alloc, "r", root)?,
-            ext: Some(field_row(alloc, "x", more)?),
-        };
+        let ty = AsnType::extensible_sequence(
+            field_row(alloc, "r", root)?,
+            field_row(alloc, "x", more)?,
+        );
         expect_fault(&rt, alloc, "components", ty, want);
     }
     Ok(())
@@ -200,17 +203,14 @@ fn alternatives_are_counted(rt: HostRuntime) -> Result<(), Fail> {
         (62, 2, many),
         (1, 63, many),
     ] {
-        let ty = AsnType::Choice {
-            root: alternative_row(alloc, "r", root)?,
-            ext: Some(alternative_row(alloc, "x", more)?),
-        };
+        let ty = AsnType::extensible_choice(
+            alternative_row(alloc, "r", root)?,
+            alternative_row(alloc, "x", more)?,
+        );
         expect_fault(&rt, alloc, "alternatives", ty, want);
     }
     for (count, want) in [(63, None), (64, many)] {
-        let ty = AsnType::Choice {
-            root: alternative_row(alloc, "r", count)?,
-            ext: None,
-        };
+        let ty = AsnType::choice(alternative_row(alloc, "r", count)?);
         expect_fault(&rt, alloc, "alternatives without a mark", ty, want);
     }
     Ok(())
@@ -248,12 +248,12 @@ fn types_below_the_last_level_are_too_deep(rt: HostRuntime) -> Result<(), Fail> 
     expect_fault(&rt, alloc, "an empty range at level 33", bottom, deep);
     let mut lists = AsnType::Null;
     for _ in 0..40 {
-        lists = list(alloc, lists, sized(1, 1, false))?;
+        lists = AsnType::sequence_of(alloc, lists, Size::fixed(1))?;
     }
     expect_fault(&rt, alloc, "40 lists without bits", lists, deep);
     let mut lists = AsnType::Null;
     for _ in 0..31 {
-        lists = list(alloc, lists, sized(1, 1, false))?;
+        lists = AsnType::sequence_of(alloc, lists, Size::fixed(1))?;
     }
     let zero = Some(TypeFault::ZeroWidthElement);
     expect_fault(&rt, alloc, "31 lists without bits", lists, zero);
@@ -264,8 +264,8 @@ fn types_below_the_last_level_are_too_deep(rt: HostRuntime) -> Result<(), Fail> 
 fn empty_ranges_of_elements_are_told_as_such(rt: HostRuntime) -> Result<(), Fail> {
     let alloc = rt.alloc();
     let empty = Some(TypeFault::EmptyRange);
-    for element in [int(7, 0), AsnType::Octets(sized(3, 0, false))] {
-        let ty = list(alloc, element, any_size())?;
+    for element in [int(7, 0), AsnType::Octets(Size::between(3, 0))] {
+        let ty = AsnType::sequence_of(alloc, element, Size::any())?;
         expect_fault(&rt, alloc, "an empty range of an element", ty, empty);
     }
     Ok(())
@@ -292,19 +292,12 @@ fn types_are_counted_everywhere(rt: HostRuntime) -> Result<(), Fail> {
 fn size_is_judged_before_the_element(rt: HostRuntime) -> Result<(), Fail> {
     let alloc = rt.alloc();
     for (size, want) in [
-        (sized(65_537, 65_536, false), Some(TypeFault::EmptyRange)),
-        (sized(65_536, 65_536, false), Some(TypeFault::SizeTooLarge)),
-        (
-            Size {
-                low: 0,
-                high: None,
-                ext: true,
-            },
-            Some(TypeFault::UselessMark),
-        ),
-        (any_size(), Some(TypeFault::ZeroWidthElement)),
+        (Size::between(65_537, 65_536), Some(TypeFault::EmptyRange)),
+        (Size::fixed(65_536), Some(TypeFault::SizeTooLarge)),
+        (Size::any().extensible(), Some(TypeFault::UselessMark)),
+        (Size::any(), Some(TypeFault::ZeroWidthElement)),
     ] {
-        let ty = list(alloc, AsnType::Null, size)?;
+        let ty = AsnType::sequence_of(alloc, AsnType::Null, size)?;
         expect_fault(&rt, alloc, "a SIZE before the element", ty, want);
     }
     Ok(())
@@ -319,20 +312,14 @@ fn least_fault_of_a_type_is_answered(rt: HostRuntime) -> Result<(), Fail> {
     let twice = choice(alloc, none, Some(&["A", "A"]))?;
     expect_fault(&rt, alloc, "no root before names", twice, empty);
     let mut row = alternative_row(alloc, "r", 63)?;
-    row.push(alternative(alloc, "r0", AsnType::Null)?)?;
-    let many = AsnType::Choice {
-        root: row,
-        ext: None,
-    };
+    row.push(Alt::new(alloc, "r0", AsnType::Null)?)?;
+    let many = AsnType::choice(row);
     expect_fault(&rt, alloc, "names before a count", many, name);
     let ty = with_addition(alloc, &["b"], "b", AsnType::Bool, Need::Must)?;
     expect_fault(&rt, alloc, "names before an addition", ty, name);
     let mut more = field_row(alloc, "x", 64)?;
-    more.push(field(alloc, "last", AsnType::Bool, Need::Must)?)?;
-    let many = AsnType::Seq {
-        root: fields(alloc, &["a"])?,
-        ext: Some(more),
-    };
+    more.push(Field::new(alloc, "last", AsnType::Bool)?)?;
+    let many = AsnType::extensible_sequence(fields(alloc, &["a"])?, more);
     let must = Some(TypeFault::AdditionNotOptional);
     expect_fault(&rt, alloc, "an addition before a count", many, must);
     Ok(())
@@ -344,7 +331,7 @@ fn outer_and_left_faults_come_first(rt: HostRuntime) -> Result<(), Fail> {
     let empty = Some(TypeFault::EmptyRange);
     let zero = Some(TypeFault::ZeroWidthElement);
     let bad_element = choice(alloc, &["A"], None)?;
-    let outer = list(alloc, bad_element, any_size())?;
+    let outer = AsnType::sequence_of(alloc, bad_element, Size::any())?;
     expect_fault(&rt, alloc, "a list before its element", outer, zero);
     for place in PLACES {
         let inner = wrap(alloc, place, int(1, 0))?;
@@ -352,18 +339,18 @@ fn outer_and_left_faults_come_first(rt: HostRuntime) -> Result<(), Fail> {
         let must = Some(TypeFault::AdditionNotOptional);
         expect_fault(&rt, alloc, "a type before those inside it", outer, must);
     }
-    let of_null = list(alloc, AsnType::Null, any_size())?;
-    let sequence = AsnType::Seq {
-        root: vec![in alloc; field(alloc, "a", of_null, Need::Must)?]?,
-        ext: Some(vec![in alloc; field(alloc, "b", int(1, 0), Need::Optional)?]?),
-    };
+    let of_null = AsnType::sequence_of(alloc, AsnType::Null, Size::any())?;
+    let sequence = AsnType::extensible_sequence(
+        vec![in alloc; Field::new(alloc, "a", of_null)?]?,
+        vec![in alloc; Field::new(alloc, "b", int(1, 0))?.optional()]?,
+    );
     expect_fault(&rt, alloc, "the root before additions", sequence, zero);
-    let first = alternative(alloc, "a", int(1, 0))?;
-    let second = list(alloc, AsnType::Null, any_size())?;
-    let alternatives = AsnType::Choice {
-        root: vec![in alloc; first]?,
-        ext: Some(vec![in alloc; alternative(alloc, "b", second)?]?),
-    };
+    let first = Alt::new(alloc, "a", int(1, 0))?;
+    let second = AsnType::sequence_of(alloc, AsnType::Null, Size::any())?;
+    let alternatives = AsnType::extensible_choice(
+        vec![in alloc; first]?,
+        vec![in alloc; Alt::new(alloc, "b", second)?]?,
+    );
     expect_fault(
         &rt,
         alloc,
@@ -371,10 +358,10 @@ fn outer_and_left_faults_come_first(rt: HostRuntime) -> Result<(), Fail> {
         alternatives,
         empty,
     );
-    let bottom = list(alloc, AsnType::Null, any_size())?;
+    let bottom = AsnType::sequence_of(alloc, AsnType::Null, Size::any())?;
     let bottom = levels(alloc, 32, bottom)?;
     expect_fault(&rt, alloc, "a list at the last level", bottom, zero);
-    let bottom = list(alloc, AsnType::Bool, any_size())?;
+    let bottom = AsnType::sequence_of(alloc, AsnType::Bool, Size::any())?;
     let bottom = levels(alloc, 32, bottom)?;
     let deep = Some(TypeFault::TooDeep);
     expect_fault(&rt, alloc, "its element past it", bottom, deep);
@@ -386,7 +373,7 @@ fn constructed_types_have_no_default(rt: HostRuntime) -> Result<(), Fail> {
     let alloc = rt.alloc();
     let bad = Some(TypeFault::BadDefault);
     let none = Value::List(vec![in alloc]?);
-    let of_booleans = list(alloc, AsnType::Bool, any_size())?;
+    let of_booleans = AsnType::sequence_of(alloc, AsnType::Bool, Size::any())?;
     let ty = with_default(alloc, of_booleans, none)?;
     expect_fault(&rt, alloc, "of SEQUENCE OF", ty, bad);
     let chosen = Value::Choice(0, Box::new(alloc, Value::Null)?);

@@ -1,9 +1,8 @@
 //! The faults of types one by one and in their order.
 use crate::builders::{
-    any_size, around, booleans, bounded, expect_fault, field, int, int_from, item_row, items,
-    levels, pair, types, with_default,
+    around, booleans, expect_fault, int, item_row, items, levels, pair, types, with_default,
 };
-use crate::{AsnType, Need, Size, TextKind, TypeFault, Value};
+use crate::{AsnType, Bounds, Field, Need, Size, TextKind, TypeFault, Value};
 use std::test::Fail;
 
 #[test]
@@ -16,13 +15,25 @@ fn ranges_have_faults(rt: HostRuntime) {
     expect_fault(&rt, alloc, "low above high", int(7, 6), empty);
     expect_fault(&rt, alloc, "the whole profile", int(lowest, highest), None);
     expect_fault(&rt, alloc, "low too low", int(lowest - 1, 0), empty);
-    expect_fault(&rt, alloc, "low too high", int_from(highest + 1), empty);
+    expect_fault(
+        &rt,
+        alloc,
+        "low too high",
+        AsnType::Int(Bounds::at_least(highest + 1)),
+        empty,
+    );
     expect_fault(&rt, alloc, "high too high", int(0, highest + 1), empty);
-    expect_fault(&rt, alloc, "to MAX", int_from(highest), None);
-    let from_min = bounded(None, Some(lowest - 1), false);
+    expect_fault(
+        &rt,
+        alloc,
+        "to MAX",
+        AsnType::Int(Bounds::at_least(highest)),
+        None,
+    );
+    let from_min = AsnType::Int(Bounds::at_most(lowest - 1));
     expect_fault(&rt, alloc, "high too low", from_min, empty);
-    expect_fault(&rt, alloc, "none", bounded(None, None, false), None);
-    let marked = bounded(Some(7), Some(6), true);
+    expect_fault(&rt, alloc, "none", AsnType::Int(Bounds::any()), None);
+    let marked = AsnType::Int(Bounds::between(7, 6).extensible());
     expect_fault(&rt, alloc, "low above high, marked", marked, empty);
 }
 
@@ -37,7 +48,17 @@ fn marks_have_faults(rt: HostRuntime) {
         (Some(lowest + 1), None, None),
         (None, Some(highest - 1), None),
     ] {
-        expect_fault(&rt, alloc, "of INTEGER", bounded(low, high, true), want);
+        expect_fault(
+            &rt,
+            alloc,
+            "of INTEGER",
+            AsnType::Int(Bounds {
+                low,
+                high,
+                ext: true,
+            }),
+            want,
+        );
     }
 }
 
@@ -66,20 +87,11 @@ fn names_have_faults(rt: HostRuntime) -> Result<(), Fail> {
         );
     }
     let twice = vec![in alloc;
-        field(alloc, "ab", AsnType::Bool, Need::Must)?,
-        field(alloc, "c", AsnType::Bool, Need::Must)?,
-        field(alloc, "ab", AsnType::Bool, Need::Must)?,
+        Field::new(alloc, "ab", AsnType::Bool)?,
+        Field::new(alloc, "c", AsnType::Bool)?,
+        Field::new(alloc, "ab", AsnType::Bool)?,
     ]?;
-    expect_fault(
-        &rt,
-        alloc,
-        "twice",
-        AsnType::Seq {
-            root: twice,
-            ext: None,
-        },
-        bad,
-    );
+    expect_fault(&rt, alloc, "twice", AsnType::sequence(twice), bad);
     let inner = around(alloc, "a", AsnType::Bool, Need::Must)?;
     let outer = around(alloc, "a", inner, Need::Must)?;
     expect_fault(&rt, alloc, "one in the other", outer, None);
@@ -122,10 +134,10 @@ fn items_have_faults(rt: HostRuntime) -> Result<(), Fail> {
         (193, 64, many),
         (1, 65, many),
     ] {
-        let ty = AsnType::Enum {
-            root: item_row(alloc, 0, count)?,
-            ext: Some(item_row(alloc, count, added)?),
-        };
+        let ty = AsnType::extensible_enumerated(
+            item_row(alloc, 0, count)?,
+            item_row(alloc, count, added)?,
+        );
         expect_fault(&rt, alloc, "many items", ty, want);
     }
     Ok(())
@@ -157,7 +169,7 @@ fn sizes_have_faults(rt: HostRuntime) -> Result<(), Fail> {
     }
     expect_fault(&rt, alloc, "of UTF8String", AsnType::Utf8, None);
     let octets = Value::Octets(vec![in alloc; 0u8]?);
-    let default = with_default(alloc, AsnType::Octets(any_size()), octets)?;
+    let default = with_default(alloc, AsnType::Octets(Size::any()), octets)?;
     let bad = Some(TypeFault::BadDefault);
     expect_fault(&rt, alloc, "a DEFAULT of OCTET STRING", default, bad);
     Ok(())
@@ -182,16 +194,32 @@ fn defaults_have_faults(rt: HostRuntime) -> Result<(), Fail> {
         let ty = with_default(alloc, int(low, high), Value::Int(number))?;
         expect_fault(&rt, alloc, "of INTEGER", ty, want);
     }
-    let half_open = with_default(alloc, int_from(highest - 1), Value::Int(highest))?;
+    let half_open = with_default(
+        alloc,
+        AsnType::Int(Bounds::at_least(highest - 1)),
+        Value::Int(highest),
+    )?;
     expect_fault(&rt, alloc, "of a half-open range", half_open, None);
-    let past = with_default(alloc, int_from(0), Value::Int(highest + 1))?;
+    let past = with_default(
+        alloc,
+        AsnType::Int(Bounds::at_least(0)),
+        Value::Int(highest + 1),
+    )?;
     expect_fault(&rt, alloc, "past the profile", past, bad);
-    let top = with_default(alloc, int_from(highest), Value::Int(highest))?;
+    let top = with_default(
+        alloc,
+        AsnType::Int(Bounds::at_least(highest)),
+        Value::Int(highest),
+    )?;
     expect_fault(&rt, alloc, "of the one number up to MAX", top, bad);
     let none = Value::Seq(vec![in alloc]?);
-    let any = with_default(alloc, bounded(None, None, false), Value::Int(-1))?;
+    let any = with_default(alloc, AsnType::Int(Bounds::any()), Value::Int(-1))?;
     expect_fault(&rt, alloc, "of any INTEGER", any, None);
-    let marked = with_default(alloc, bounded(Some(0), Some(7), true), Value::Int(0))?;
+    let marked = with_default(
+        alloc,
+        AsnType::Int(Bounds::between(0, 7).extensible()),
+        Value::Int(0),
+    )?;
     expect_fault(&rt, alloc, "of an INTEGER with a mark", marked, bad);
     for (root, more, place, want) in [
         (&[("a", 0), ("b", 1)][..], None, 1, None),
@@ -204,14 +232,7 @@ fn defaults_have_faults(rt: HostRuntime) -> Result<(), Fail> {
     }
     let null = with_default(alloc, AsnType::Null, Value::Null)?;
     expect_fault(&rt, alloc, "of NULL", null, bad);
-    let constructed = with_default(
-        alloc,
-        AsnType::Seq {
-            root: vec![in alloc]?,
-            ext: None,
-        },
-        none,
-    )?;
+    let constructed = with_default(alloc, AsnType::sequence(vec![in alloc]?), none)?;
     expect_fault(&rt, alloc, "of SEQUENCE", constructed, bad);
     Ok(())
 }

@@ -2,7 +2,7 @@
 use crate::value::Value;
 
 /// The bounds of an INTEGER, both counted in (X.680, "value range").
-#[derive(Clone, Copy, Debug)]
+#[derive(Clone, Copy, Debug, PartialEq, Eq)]
 pub struct Bounds {
     /// `None` where there is no lower bound (MIN).
     pub low: Option<i128>,
@@ -13,7 +13,7 @@ pub struct Bounds {
 }
 
 /// The bounds of a length (X.680, "size constraint"), in items, both counted in.
-#[derive(Clone, Copy, Debug)]
+#[derive(Clone, Copy, Debug, PartialEq, Eq)]
 pub struct Size {
     pub low: u32,
     /// `None` where there is no upper bound.

@@ -1,17 +1,17 @@
 //! Which values fit a type, and which are the same.
-use crate::builders::{any_size, bounded, field, int, items, types};
-use crate::{AsnType, Checked, Need, TextKind, Value, fits, same};
+use crate::builders::{int, items, types};
+use crate::{AsnType, Bounds, Checked, Field, Size, TextKind, Value, fits, same};
 use std::alloc::{AllocError, Global};
 use std::test::Fail;
 
 /// SEQUENCE { id INTEGER (0..7), ok BOOLEAN DEFAULT TRUE, flag BOOLEAN OPTIONAL }
 fn sample(alloc: Global) -> Result<AsnType, AllocError> {
     let root = vec![in alloc;
-        field(alloc, "id", int(0, 7), Need::Must)?,
-        field(alloc, "ok", AsnType::Bool, Need::Default(Value::Bool(true)))?,
-        field(alloc, "flag", AsnType::Bool, Need::Optional)?,
+        Field::new(alloc, "id", int(0, 7))?,
+        Field::new(alloc, "ok", AsnType::Bool)?.default_to(Value::Bool(true)),
+        Field::new(alloc, "flag", AsnType::Bool)?.optional(),
     ]?;
-    Ok(AsnType::Seq { root, ext: None })
+    Ok(AsnType::sequence(root))
 }
 
 /// A value of it.
@@ -47,11 +47,11 @@ fn simple_types(alloc: Global) -> Result<Vec<AsnType>, AllocError> {
     let types = vec![in alloc;
         AsnType::Bool,
         AsnType::Null,
-        bounded(Some(0), Some(1), true),
+        AsnType::Int(Bounds::between(0, 1).extensible()),
         items(alloc, &[("a", 0)], Some(&[("b", 1)]))?,
-        AsnType::Bits(any_size()),
-        AsnType::Octets(any_size()),
-        AsnType::Text(TextKind::Numeric, any_size()),
+        AsnType::Bits(Size::any()),
+        AsnType::Octets(Size::any()),
+        AsnType::Text(TextKind::Numeric, Size::any()),
         AsnType::Utf8,
     ]?;
     Ok(types)

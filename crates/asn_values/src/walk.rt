@@ -84,7 +84,7 @@ fn check_alternatives(alternatives: &[Alt], levels: u32, start: u32) -> Result<u
 
 /// Checks the type itself. Err: its fault with the least number. At most `levels` levels of the types inside it are
 /// looked at: a fault may be missed where there are more.
-fn check_node(ty: &AsnType, levels: u32) -> Result<(), TypeFault>
+pub(crate) fn check_node(ty: &AsnType, levels: u32) -> Result<(), TypeFault>
     ensures faultless { IfOk result (λ done. depth (shape_of ty.now) ≤ levels + 1 → IsFaultless (shape_of ty.now)) }
     ensures fault { IfErr result (λ f. HoldsHere f (shape_of ty.now)) }
 {

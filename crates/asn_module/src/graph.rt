@@ -115,10 +115,7 @@ fn give(numbers: &mut Vec<Option<usize>>, index: usize, number: usize) -> bool {
 }
 
 /// A number for each assignment; two have the same number where the references of each lead to the other.
-fn numbers_of(
-    alloc: Global,
-    references: &[Vec<usize>],
-) -> Result<Vec<Option<usize>>, AllocError> {
+fn numbers_of(alloc: Global, references: &[Vec<usize>]) -> Result<Vec<Option<usize>>, AllocError> {
     let order = order_of(alloc, references)?;
     let referrers = referrers_of(alloc, references)?;
     let mut numbers = vec![in alloc; None; references.len()]?;

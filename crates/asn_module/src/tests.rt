@@ -98,12 +98,30 @@ fn faults_have_their_places_and_names(rt: HostRuntime) -> Result<(), Fail> {
 
 const ORDER: [(&str, Fault); 20] = [
     // of the names that lead back the first that lies on a cycle itself
-    ("A ::= B B ::= C C ::= SEQUENCE { b B } D ::= D END", Fault::Cycle("B")),
-    ("A ::= SEQUENCE { c C, d D } B ::= NULL C ::= SEQUENCE { b B, d D } D ::= SEQUENCE OF E E ::= CHOICE { b B, c C } END", Fault::Cycle("C")),
-    ("A ::= B B ::= C C ::= D D ::= SEQUENCE OF D END", Fault::Cycle("D")),
-    ("A ::= SEQUENCE { b B, c C } B ::= SEQUENCE { c C } C ::= SEQUENCE { a A } END", Fault::Cycle("A")),
-    ("A ::= B U ::= V T ::= NULL T ::= NULL A ::= NULL END", Fault::Twice("T")),
-    ("A ::= B B ::= SEQUENCE { a X, b Y } END", Fault::Unknown("X")),
+    (
+        "A ::= B B ::= C C ::= SEQUENCE { b B } D ::= D END",
+        Fault::Cycle("B"),
+    ),
+    (
+        "A ::= SEQUENCE { c C, d D } B ::= NULL C ::= SEQUENCE { b B, d D } D ::= SEQUENCE OF E E ::= CHOICE { b B, c C } END",
+        Fault::Cycle("C"),
+    ),
+    (
+        "A ::= B B ::= C C ::= D D ::= SEQUENCE OF D END",
+        Fault::Cycle("D"),
+    ),
+    (
+        "A ::= SEQUENCE { b B, c C } B ::= SEQUENCE { c C } C ::= SEQUENCE { a A } END",
+        Fault::Cycle("A"),
+    ),
+    (
+        "A ::= B U ::= V T ::= NULL T ::= NULL A ::= NULL END",
+        Fault::Twice("T"),
+    ),
+    (
+        "A ::= B B ::= SEQUENCE { a X, b Y } END",
+        Fault::Unknown("X"),
+    ),
     ("T ::= T ::= ; END", Fault::Character(51)),
     ("T ::= SET T ::= NULL END", Fault::OutOfProfile(45)),
     ("T ::= U T ::= NULL END", Fault::Twice("T")),

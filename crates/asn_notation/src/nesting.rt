@@ -164,10 +164,7 @@ fn begin_type<'t>(alloc: Global, text: &'t str) -> Result<(Begun, &'t str), Synt
 }
 
 /// After a type: the lists that end there, and whether a further entry was read up to its type.
-fn end_types<'t>(
-    open: &mut Vec<Open>,
-    text: &'t str,
-) -> Result<(bool, &'t str), SyntaxFault>
+fn end_types<'t>(open: &mut Vec<Open>, text: &'t str) -> Result<(bool, &'t str), SyntaxFault>
     ensures within { IfOk result (λ p. length (lexed p.1.now) ≤ length (lexed text.now)) }
 {
     let mut rest = text;

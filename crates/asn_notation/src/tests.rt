@@ -358,13 +358,22 @@ fn later_faults_of_deep_texts(rt: HostRuntime) -> Result<(), Fail> {
         ("", Outcome::Unexpected(end)),
         ("} END", Outcome::Unexpected(end)),
         (" T ::= SET END", Outcome::OutOfProfile(end + 7)),
-        (" T ::= SEQUENCE {..., ...} END", Outcome::Unexpected(end + 22)),
+        (
+            " T ::= SEQUENCE {..., ...} END",
+            Outcome::Unexpected(end + 22),
+        ),
         (" T ::= SEQUENCE {a NULL, ...} END", Outcome::TooDeep(0)),
         (" T ::= SEQUENCE {...} END", Outcome::TooDeep(0)),
         (" T ::= SEQUENCE {} END END", Outcome::Unexpected(end + 23)),
         (" T ::= CHOICE {} END", Outcome::Unexpected(end + 15)),
-        (" T ::= CHOICE {a NULL, ..., b NULL, ...} END", Outcome::Unexpected(end + 36)),
-        (" T ::= CHOICE {a NULL OPTIONAL} END", Outcome::Unexpected(end + 22)),
+        (
+            " T ::= CHOICE {a NULL, ..., b NULL, ...} END",
+            Outcome::Unexpected(end + 36),
+        ),
+        (
+            " T ::= CHOICE {a NULL OPTIONAL} END",
+            Outcome::Unexpected(end + 22),
+        ),
     ] {
         let all = format!(in alloc; "{text}{rest}")?;
         let got = outcome_of(alloc, &all);

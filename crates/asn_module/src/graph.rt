@@ -21,10 +21,10 @@ pub(crate) fn indices_of<'t>(
 }
 
 /// Of each assignment the indices of those that it refers to. `indices` has the index of each name.
-pub(crate) fn references_of(
+pub(crate) fn references_of<'t>(
     alloc: Global,
-    listed: &[Listed],
-    indices: &HashMap<&str, usize>,
+    listed: &[Listed<'t>],
+    indices: &HashMap<&'t str, usize>,
 ) -> Result<Vec<Vec<usize>>, ModuleFault> {
     let mut all = Vec::new(alloc);
     for assignment in listed {

@@ -19,10 +19,10 @@ use std::alloc::Global;
 use std::collections::HashMap;
 
 /// An order to build the types of a text of the grammar in. `indices` has the index of each name that is assigned.
-fn building_order(
+fn building_order<'t>(
     alloc: Global,
-    text: &str,
-    indices: &HashMap<&str, usize>,
+    text: &'t str,
+    indices: &HashMap<&'t str, usize>,
 ) -> Result<Vec<usize>, Refusal>
     ensures { IfErr result (λ e. e ≡ Refusal.Memory) }
 {

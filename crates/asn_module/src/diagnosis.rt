@@ -3,11 +3,12 @@
 use crate::expanding::{Assignments, Budget, expand};
 use crate::fault::ModuleFault;
 use crate::graph::{first_on_cycle, indices_of, references_of};
-use crate::listing::{assignments_listed, first_twice, first_unknown};
+use crate::listing::{Listed, assignments_listed, first_twice, first_unknown};
 use asn_notation::{Lexeme, ModuleNotation, SyntaxFault, first_token, read_notation, skip_blank};
 use asn_values::profile::{MAX_LEVELS, MAX_TYPES};
 use asn_values::{Checked, TypeFault};
 use std::alloc::Global;
+use std::collections::HashMap;
 
 /// Of a type at most this many levels are built, one more than the profile has.
 const LEVELS: u32 = MAX_LEVELS + 1;
@@ -15,7 +16,7 @@ const LEVELS: u32 = MAX_LEVELS + 1;
 /// And at most this many types inside one another, one more than the profile has.
 const NODES: u32 = MAX_TYPES + 1;
 
-/// A type inside more others than these is no longer read.
+/// A type inside more others than these is no longer read; that its text is of the grammar is known all the same.
 const READ_LEVELS: u32 = 256;
 
 /// Where the first character stands that begins no token.
@@ -66,18 +67,22 @@ pub(crate) fn fault_of(alloc: Global, text: &str) -> ModuleFault {
     }
 }
 
-/// Faults of the names: one assigned twice, a reference to none, references that lead back.
-fn fault_in_names(alloc: Global, text: &str) -> Result<Option<ModuleFault>, ModuleFault> {
-    let listed = assignments_listed(alloc, text)?;
-    if let Some(name) = first_twice(&listed) {
+/// Faults of the names: one assigned twice, a reference to none, references that lead back. `indices` has the index
+/// of each name.
+fn fault_in_names<'t>(
+    alloc: Global,
+    listed: &[Listed<'t>],
+    indices: &HashMap<&'t str, usize>,
+) -> Result<Option<ModuleFault>, ModuleFault> {
+    if let Some(name) = first_twice(alloc, listed)? {
         let name = String::from_str(alloc, name)?;
         return Ok(Some(ModuleFault::Twice { name }));
     }
-    if let Some(name) = first_unknown(&listed) {
+    if let Some(name) = first_unknown(listed, indices) {
         let name = String::from_str(alloc, name)?;
         return Ok(Some(ModuleFault::Unknown { name }));
     }
-    let references = references_of(alloc, &listed)?;
+    let references = references_of(alloc, listed, indices)?;
     match first_on_cycle(alloc, &references)? {
         Some(index) if index < listed.len() => {
             let name = String::from_str(alloc, listed[index].name)?;
@@ -93,11 +98,11 @@ fn fault_of_names<'t>(
     text: &'t str,
     notation: &ModuleNotation<'t>,
 ) -> Result<ModuleFault, ModuleFault> {
-    if let Some(fault) = fault_in_names(alloc, text)? {
-        return Ok(fault);
-    }
     let listed = assignments_listed(alloc, text)?;
     let indices = indices_of(alloc, &listed)?;
+    if let Some(fault) = fault_in_names(alloc, &listed, &indices)? {
+        return Ok(fault);
+    }
     let module = Assignments {
         alloc,
         all: notation.assignments.as_slice(),
@@ -136,13 +141,14 @@ fn fault_of_names<'t>(
     }
 }
 
-/// The fault of a text in which a type that `left` octets of the text are left of lies inside too many others to be
-/// read. Of the assignments' types it is looked at no other.
+/// The fault of a text of the grammar in which a type lies inside too many others to be read; `left` is the number of
+/// octets of the text from this type on. No other type of the text is looked at.
 fn fault_of_deep(alloc: Global, text: &str, left: usize) -> Result<ModuleFault, ModuleFault> {
-    if let Some(fault) = fault_in_names(alloc, text)? {
+    let listed = assignments_listed(alloc, text)?;
+    let indices = indices_of(alloc, &listed)?;
+    if let Some(fault) = fault_in_names(alloc, &listed, &indices)? {
         return Ok(fault);
     }
-    let listed = assignments_listed(alloc, text)?;
     let mut name = "";
     for assignment in &listed {
         if assignment.left >= left {

@@ -20,12 +20,12 @@ pub(crate) fn indices_of<'t>(
     Ok(indices)
 }
 
-/// Of each assignment the indices of those that it refers to.
-pub(crate) fn references_of(
+/// Of each assignment the indices of those that it refers to. `indices` has the index of each name.
+pub(crate) fn references_of<'t>(
     alloc: Global,
-    listed: &[Listed],
+    listed: &[Listed<'t>],
+    indices: &HashMap<&'t str, usize>,
 ) -> Result<Vec<Vec<usize>>, ModuleFault> {
-    let indices = indices_of(alloc, listed)?;
     let mut all = Vec::new(alloc);
     for assignment in listed {
         let mut references = Vec::new(alloc);
@@ -88,35 +88,66 @@ pub(crate) fn order_of(alloc: Global, references: &[Vec<usize>]) -> Result<Vec<u
     Ok(order)
 }
 
-/// Whether following references from an assignment leads back to it.
-fn leads_back(alloc: Global, references: &[Vec<usize>], start: usize) -> Result<bool, ModuleFault> {
-    let mut marks = vec![in alloc; false; references.len()]?;
-    let mut stack = Vec::new(alloc);
-    stack.push(start)?;
-    for _ in 0..u64::MAX {
-        let Some(index) = stack.pop() else {
-            break;
-        };
-        if index >= references.len() {
-            continue;
-        }
-        for reference in &references[index] {
-            if mark(&mut marks, *reference) {
-                stack.push(*reference)?;
+/// Of each assignment the indices of those that refer to it.
+fn referrers_of(alloc: Global, references: &[Vec<usize>]) -> Result<Vec<Vec<usize>>, AllocError> {
+    let mut all = Vec::new(alloc);
+    for _ in 0..references.len() {
+        all.push(Vec::new(alloc))?;
+    }
+    for (index, refers_to) in references.iter().enumerate() {
+        for reference in refers_to {
+            if let Some(referrers) = all.get_mut(*reference) {
+                referrers.push(index)?;
             }
         }
     }
-    Ok(start < marks.len() && marks[start])
+    Ok(all)
+}
+
+/// Gives the number to an assignment that has none yet, and says whether it did.
+fn give(numbers: &mut Vec<Option<usize>>, index: usize, number: usize) -> bool {
+    if index < numbers.len() && numbers[index].is_none() {
+        numbers[index] = Some(number);
+        true
+    } else {
+        false
+    }
+}
+
+/// A number for each assignment; two have the same number where the references of each lead to the other.
+fn numbers_of(alloc: Global, references: &[Vec<usize>]) -> Result<Vec<Option<usize>>, AllocError> {
+    let order = order_of(alloc, references)?;
+    let referrers = referrers_of(alloc, references)?;
+    let mut numbers = vec![in alloc; None; references.len()]?;
+    // Of the assignments without a number the last in the order is led to by those alone that it leads to itself.
+    let mut stack = Vec::new(alloc);
+    for start in order.iter().rev() {
+        stack.push(*start)?;
+        for _ in 0..u64::MAX {
+            let Some(index) = stack.pop() else {
+                break;
+            };
+            if give(&mut numbers, index, *start) && index < referrers.len() {
+                for referrer in &referrers[index] {
+                    stack.push(*referrer)?;
+                }
+            }
+        }
+    }
+    Ok(numbers)
 }
 
 /// The first assignment whose references lead back to itself.
 pub(crate) fn first_on_cycle(
     alloc: Global,
     references: &[Vec<usize>],
-) -> Result<Option<usize>, ModuleFault> {
-    for start in 0..references.len() {
-        if leads_back(alloc, references, start)? {
-            return Ok(Some(start));
+) -> Result<Option<usize>, AllocError> {
+    let numbers = numbers_of(alloc, references)?;
+    for (index, refers_to) in references.iter().enumerate() {
+        for reference in refers_to {
+            if numbers.get(index) == numbers.get(*reference) {
+                return Ok(Some(index));
+            }
         }
     }
     Ok(None)

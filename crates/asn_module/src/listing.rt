@@ -4,6 +4,7 @@
 use crate::fault::ModuleFault;
 use asn_notation::{Lexeme, Sign, Word, first_token};
 use std::alloc::Global;
+use std::collections::HashMap;
 
 /// An assignment, and the names that its type refers to, in the order of the text.
 #[derive(Drop)]
@@ -61,31 +62,28 @@ pub(crate) fn assignments_listed<'t>(
     }
 }
 
-/// The index of the assignment to a name.
-pub(crate) fn index_of(listed: &[Listed], name: &str) -> Option<usize> {
-    for (index, assignment) in listed.iter().enumerate() {
-        if *assignment.name == *name {
-            return Some(index);
-        }
-    }
-    None
-}
-
 /// The first name that is assigned a second time.
-pub(crate) fn first_twice<'t>(listed: &[Listed<'t>]) -> Option<&'t str> {
-    for (index, assignment) in listed.iter().enumerate() {
-        if index_of(&listed[..index], assignment.name).is_some() {
-            return Some(assignment.name);
+pub(crate) fn first_twice<'t>(
+    alloc: Global,
+    listed: &[Listed<'t>],
+) -> Result<Option<&'t str>, ModuleFault> {
+    let mut names = HashMap::new(alloc);
+    for assignment in listed {
+        if names.insert(assignment.name, ())?.is_some() {
+            return Ok(Some(assignment.name));
         }
     }
-    None
+    Ok(None)
 }
 
-/// The first reference to a name that is not assigned.
-pub(crate) fn first_unknown<'t>(listed: &[Listed<'t>]) -> Option<&'t str> {
+/// The first reference to a name that is not assigned. `indices` has the names that are.
+pub(crate) fn first_unknown<'t>(
+    listed: &[Listed<'t>],
+    indices: &HashMap<&'t str, usize>,
+) -> Option<&'t str> {
     for assignment in listed {
         for reference in &assignment.references {
-            if index_of(listed, *reference).is_none() {
+            if indices.get(reference).is_none() {
                 return Some(*reference);
             }
         }

@@ -16,13 +16,18 @@ use asn_notation::{SyntaxFault, read_notation};
 use asn_values::Checked;
 use asn_values::profile::MAX_LEVELS;
 use std::alloc::Global;
+use std::collections::HashMap;
 
-/// An order to build the types of a text of the grammar in.
-fn building_order(alloc: Global, text: &str) -> Result<Vec<usize>, Refusal>
+/// An order to build the types of a text of the grammar in. `indices` has the index of each name that is assigned.
+fn building_order<'t>(
+    alloc: Global,
+    text: &'t str,
+    indices: &HashMap<&'t str, usize>,
+) -> Result<Vec<usize>, Refusal>
     ensures { IfErr result (λ e. e ≡ Refusal.Memory) }
 {
     match assignments_listed(alloc, text) {
-        Ok(listed) => match references_of(alloc, &listed) {
+        Ok(listed) => match references_of(alloc, &listed, indices) {
             Ok(references) => Ok(order_of(alloc, &references)?),
             Err(_) => Err(Refusal::Memory),
         },
@@ -44,7 +49,7 @@ pub(crate) fn module_of(alloc: Global, text: &str) -> Result<Option<Module>, Ref
     let Some(indices) = indices_of(alloc, &notation.assignments)? else {
         return Ok(None);
     };
-    let order = building_order(alloc, text)?;
+    let order = building_order(alloc, text, &indices)?;
     match types_of(alloc, &notation.assignments, &indices, &order)? {
         Some(types) => {
             let name = String::from_str(alloc, notation.name)?;

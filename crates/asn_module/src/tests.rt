@@ -96,7 +96,32 @@ fn faults_have_their_places_and_names(rt: HostRuntime) -> Result<(), Fail> {
     expect_faults(&rt, rt.alloc(), &PLACES)
 }
 
-const ORDER: [(&str, Fault); 14] = [
+const ORDER: [(&str, Fault); 20] = [
+    // of the names that lead back the first that lies on a cycle itself
+    (
+        "A ::= B B ::= C C ::= SEQUENCE { b B } D ::= D END",
+        Fault::Cycle("B"),
+    ),
+    (
+        "A ::= SEQUENCE { c C, d D } B ::= NULL C ::= SEQUENCE { b B, d D } D ::= SEQUENCE OF E E ::= CHOICE { b B, c C } END",
+        Fault::Cycle("C"),
+    ),
+    (
+        "A ::= B B ::= C C ::= D D ::= SEQUENCE OF D END",
+        Fault::Cycle("D"),
+    ),
+    (
+        "A ::= SEQUENCE { b B, c C } B ::= SEQUENCE { c C } C ::= SEQUENCE { a A } END",
+        Fault::Cycle("A"),
+    ),
+    (
+        "A ::= B U ::= V T ::= NULL T ::= NULL A ::= NULL END",
+        Fault::Twice("T"),
+    ),
+    (
+        "A ::= B B ::= SEQUENCE { a X, b Y } END",
+        Fault::Unknown("X"),
+    ),
     ("T ::= T ::= ; END", Fault::Character(51)),
     ("T ::= SET T ::= NULL END", Fault::OutOfProfile(45)),
     ("T ::= U T ::= NULL END", Fault::Twice("T")),
@@ -316,6 +341,30 @@ fn faults_are_explained(rt: HostRuntime) -> Result<(), Fail> {
                 assert!(rt; *said.as_str() == **want, "{text}: {said}");
             }
         }
+    }
+    Ok(())
+}
+
+#[test]
+fn deep_texts_are_searched_for_later_faults(rt: HostRuntime) -> Result<(), Fail> {
+    let alloc = rt.alloc();
+    let mut text = format!(in alloc; "{HEADING}T ::= ")?;
+    for _ in 0..20000 {
+        text.push_str("SEQUENCE { a ")?;
+    }
+    text.push_str("NULL ")?;
+    for _ in 0..20000 {
+        text.push_str("} ")?;
+    }
+    let all = format!(in alloc; "{text}END END")?;
+    match read(alloc, &all) {
+        Err(ModuleFault::Unexpected { at }) => assert!(rt; at == text.len() + 4),
+        _ => assert!(rt; false, "no fault at the end"),
+    }
+    let all = format!(in alloc; "{text}END")?;
+    match read(alloc, &all) {
+        Err(fault) => assert!(rt; is_fault(&fault, Fault::BadType("T", TypeFault::TooDeep))),
+        Ok(_) => assert!(rt; false, "read"),
     }
     Ok(())
 }

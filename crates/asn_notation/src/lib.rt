@@ -7,6 +7,7 @@ mod fault;
 mod laws;
 mod lexer;
 mod modules;
+mod nesting;
 mod notation;
 mod parts;
 mod token;

@@ -10,6 +10,7 @@ ghost use Rattle.asn_notation.specs.ModuleText.{IsModuleText};
 use crate::constraints::{after_sign, after_word, begins_word};
 use crate::fault::SyntaxFault;
 use crate::lexer::first_token;
+use crate::nesting::check_grammar;
 use crate::notation::{AssignmentNotation, ModuleNotation};
 use crate::token::{Lexeme, Sign, Word};
 use crate::types::type_at;
@@ -96,11 +97,30 @@ fn whole_module<'t>(
     }
 }
 
+/// As `whole_module`; where a type lies inside too many others the text is searched for a later fault.
+fn module_or_fault<'t>(
+    alloc: Global,
+    text: &'t str,
+    levels: u32,
+) -> Result<ModuleNotation<'t>, SyntaxFault>
+    ensures { Gives tree.module_view result (spec.whole_module levels (lexed text.now)) }
+{
+    match whole_module(alloc, text, levels) {
+        Ok(module) => Ok(module),
+        Err(SyntaxFault::TooDeep { left }) => match check_grammar(alloc, text) {
+            Ok(()) => Err(SyntaxFault::TooDeep { left }),
+            Err(fault) => Err(fault),
+        },
+        Err(fault) => Err(fault),
+    }
+}
+
 /// The module that a text is, as it is written there, with at most `levels` types inside one another in
 /// an assignment.
 ///
-/// Err: `Unexpected` and `OutOfProfile` at the first token with which no module goes on; `TooDeep` where
-/// this token begins a type inside `levels` others; `Memory` where an allocation failed.
+/// Err: `Unexpected` and `OutOfProfile` at the first token with which no module goes on, however deep; where there
+/// is none, `TooDeep` at the first token that begins a type inside `levels` others; `Memory` where an allocation
+/// failed.
 pub fn read_notation<'t>(
     alloc: Global,
     text: &'t str,
@@ -111,5 +131,5 @@ pub fn read_notation<'t>(
     // A text that is a module is read as it, unless an allocation failed.
     ensures only { (m : tree.ModuleTree) → IsModuleText levels text.now m → Gives tree.module_view result (Some m) }
 {
-    whole_module(alloc, text, levels)
+    module_or_fault(alloc, text, levels)
 }

@@ -339,3 +339,49 @@ fn types_inside_one_another(rt: HostRuntime) -> Result<(), Fail> {
     }
     Ok(())
 }
+
+#[test]
+fn later_faults_of_deep_texts(rt: HostRuntime) -> Result<(), Fail> {
+    let alloc = rt.alloc();
+    let mut text = format!(in alloc; "{HEADING}T ::= ")?;
+    for _ in 0..40 {
+        text.push_str("SEQUENCE {a CHOICE {b SEQUENCE OF ")?;
+    }
+    let length = text.len();
+    text.push_str("BOOLEAN")?;
+    for _ in 0..40 {
+        text.push_str("} OPTIONAL, c NULL DEFAULT TRUE, ..., d U (SIZE (1))}")?;
+    }
+    let end = text.len();
+    for (rest, want) in [
+        (" END", Outcome::TooDeep(0)),
+        ("", Outcome::Unexpected(end)),
+        ("} END", Outcome::Unexpected(end)),
+        (" T ::= SET END", Outcome::OutOfProfile(end + 7)),
+        (
+            " T ::= SEQUENCE {..., ...} END",
+            Outcome::Unexpected(end + 22),
+        ),
+        (" T ::= SEQUENCE {a NULL, ...} END", Outcome::TooDeep(0)),
+        (" T ::= SEQUENCE {...} END", Outcome::TooDeep(0)),
+        (" T ::= SEQUENCE {} END END", Outcome::Unexpected(end + 23)),
+        (" T ::= CHOICE {} END", Outcome::Unexpected(end + 15)),
+        (
+            " T ::= CHOICE {a NULL, ..., b NULL, ...} END",
+            Outcome::Unexpected(end + 36),
+        ),
+        (
+            " T ::= CHOICE {a NULL OPTIONAL} END",
+            Outcome::Unexpected(end + 22),
+        ),
+    ] {
+        let all = format!(in alloc; "{text}{rest}")?;
+        let got = outcome_of(alloc, &all);
+        let got = match got {
+            Outcome::TooDeep(_) => Outcome::TooDeep(0),
+            other => other,
+        };
+        assert!(rt; got == want, "{rest}: {got:?} {length}");
+    }
+    Ok(())
+}

@@ -291,7 +291,7 @@ fn choice_at<'t>(
 /// What follows a reserved word with which a type begins; `from` is the text from that word on.
 #[cycle(types)]
 #[tactic(auto, unfolding(crate::specs::Reading::type_after_word))]
-fn type_after_word<'t>(
+pub(crate) fn type_after_word<'t>(
     alloc: Global,
     word: Word,
     from: &'t str,

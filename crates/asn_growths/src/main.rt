@@ -21,6 +21,14 @@ use simple::simple;
 use std::alloc::Global;
 use std::process::ExitCode;
 
+const MESSAGE: [&str; 3] = ["message", "message in PER", "message in OER"];
+
+const SIMPLE: [&str; 3] = ["simple", "simple in PER", "simple in OER"];
+
+const COMPOSED: [&str; 3] = ["composed", "composed in PER", "composed in OER"];
+
+const EMPTY: [&str; 3] = ["empty", "empty in PER", "empty in OER"];
+
 /// Makes each call twice, with the line `again` between the two rounds and the line `done` at the end. A line is
 /// written for a call that answers `Memory`, and one for a call whose arguments could not be built. Status 1 where a
 /// call answers anything else than it should.
@@ -34,10 +42,10 @@ fn main(rt: HostRuntime) -> ExitCode {
 
 /// Whether each call answers as it should.
 fn calls_are_right(rt: &impl Print, alloc: Global) -> bool {
-    let mut right = calls_on(rt, alloc, "message", message(alloc));
-    right &= calls_on(rt, alloc, "simple", simple(alloc));
-    right &= calls_on(rt, alloc, "composed", composed(alloc));
-    right &= calls_on(rt, alloc, "empty", empty(alloc));
+    let mut right = calls_on(rt, alloc, MESSAGE, message(alloc));
+    right &= calls_on(rt, alloc, SIMPLE, simple(alloc));
+    right &= calls_on(rt, alloc, COMPOSED, composed(alloc));
+    right &= calls_on(rt, alloc, EMPTY, empty(alloc));
     right &= calls_on_sinks(rt, alloc);
     right &= calls_on_octets(rt, alloc);
     right

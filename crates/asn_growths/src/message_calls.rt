@@ -12,23 +12,26 @@ use std::alloc::{AllocError, Global};
 /// How many octets a piece has.
 const PIECE: usize = 13;
 
-/// A value and its octets by a set of rules, in which an octet has so many units.
+/// A value and its octets by a set of rules, in which an octet has so many units; and what is told of it.
 #[derive(Drop)]
 struct Message<'a> {
+    name: &'a str,
     ty: &'a Checked,
     value: &'a Value,
     octets: &'a [u8],
     units: u64,
 }
 
-/// Whether each call on the example answers as it should. Where `Checked::new` or the arguments are refused memory,
+/// Whether each call on the example answers as it should: told by the first of the names, in PER by the second, and in
+/// OER by the third. Where `Checked::new` or the arguments are refused memory,
 /// none of the others is made.
 pub fn calls_on(
     rt: &impl Print,
     alloc: Global,
-    name: &str,
+    names: [&str; 3],
     example: Result<Example, AllocError>,
 ) -> bool {
+    let [name, in_per, in_oer] = names;
     let Ok(example) = example else {
         return report(rt, name, "arguments", Err(AllocError));
     };
@@ -38,20 +41,22 @@ pub fn calls_on(
         Err(_) => return report(rt, name, "Checked::new", Ok(Outcome::Wrong)),
     };
     let per = Message {
+        name: in_per,
         ty: &ty,
         value: &example.value,
         octets: example.per.as_slice(),
         units: 8,
     };
     let oer = Message {
+        name: in_oer,
         ty: &ty,
         value: &example.value,
         octets: example.oer.as_slice(),
         units: 1,
     };
     let mut right = report(rt, name, "Checked::copy", copy(&ty));
-    right &= calls_by::<Per>(rt, alloc, name, &per);
-    right &= calls_by::<Oer>(rt, alloc, name, &oer);
+    right &= calls_by::<Per>(rt, alloc, &per);
+    right &= calls_by::<Oer>(rt, alloc, &oer);
     right
 }
 
@@ -59,9 +64,9 @@ pub fn calls_on(
 fn calls_by<R: Rules + ReadLeaves>(
     rt: &impl Print,
     alloc: Global,
-    name: &str,
     message: &Message<'_>,
 ) -> bool {
+    let name = message.name;
     let mut right = report(rt, name, "encode", encoded::<R>(alloc, message));
     right &= report(rt, name, "decode", decoded::<R>(alloc, message));
     right &= report(rt, name, "decode_into", decoded_into::<R>(alloc, message));

@@ -10,12 +10,7 @@ use std::alloc::AllocError;
 /// WHAT is `memory` where it was refused memory, `arguments` where an allocation of what the call is given was
 /// refused, and `wrong`, which is a fault, where it answered anything else than it should. So is a line that cannot be
 /// written.
-pub fn report(
-    rt: &impl Print,
-    of: &str,
-    call: &str,
-    outcome: Result<Outcome, AllocError>,
-) -> bool
+pub fn report(rt: &impl Print, of: &str, call: &str, outcome: Result<Outcome, AllocError>) -> bool
     ensures right { IfOk outcome (λ o. o ≡ outcomes.Right → result ≡ true) }
     ensures wrong { IfOk outcome (λ o. o ≡ outcomes.Wrong → result ≡ false) }
 {

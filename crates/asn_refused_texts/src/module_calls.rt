@@ -33,7 +33,8 @@ const WORDS: &str =
     "line 1, column 64: \"b\" where OPTIONAL or DEFAULT or \"}\" or \",\" was expected";
 
 /// A type that is a part of itself.
-const CYCLE: &str = "M DEFINITIONS AUTOMATIC TAGS ::= BEGIN T ::= SEQUENCE { u U } U ::= SEQUENCE OF T END";
+const CYCLE: &str =
+    "M DEFINITIONS AUTOMATIC TAGS ::= BEGIN T ::= SEQUENCE { u U } U ::= SEQUENCE OF T END";
 
 /// `read`, of `TEXT`.
 pub fn read_a_module(alloc: Global) -> Outcome {

@@ -19,8 +19,7 @@ const PER_LINES: &str = "b5820207026000\nb582\n";
 const OER_LINES: &str = "a0050141020780078101020582012c\na\n";
 
 /// Its value as JSON, and one of another shape.
-const JSON_LINES: &str =
-    "{\"id\":5,\"note\":\"A\",\"pick\":{\"many\":[\"green\",\"grey\"]}}\n\
+const JSON_LINES: &str = "{\"id\":5,\"note\":\"A\",\"pick\":{\"many\":[\"green\",\"grey\"]}}\n\
 {\"id\":5,\"pick\":{\"many\":[0]}}\n";
 
 const SHOWN: &str =
@@ -55,15 +54,16 @@ pub fn convert_octets<A: Rules, B: Rules>(
 
 /// `run`, of `Module`.
 pub fn print_by_a_job(alloc: Global) -> Result<Outcome, AllocError> {
-    judge_job(alloc, &Job::Module, TEXT.as_bytes(), (PRINTED, Status::Good))
+    judge_job(
+        alloc,
+        &Job::Module,
+        TEXT.as_bytes(),
+        (PRINTED, Status::Good),
+    )
 }
 
 /// `run`, of this order.
-pub fn answer_lines(
-    alloc: Global,
-    order: Order,
-    rules: RuleName,
-) -> Result<Outcome, AllocError> {
+pub fn answer_lines(alloc: Global, order: Order, rules: RuleName) -> Result<Outcome, AllocError> {
     let (lines, text) = match order {
         Order::Show => (PER_LINES, SHOWN),
         Order::Check => (OER_LINES, CHECKED),
@@ -93,7 +93,10 @@ fn judge_job(
     let answer = run(alloc, &mut Counted::new(given), &mut output, job);
     let written = output.into_inner();
     Ok(match answer {
-        Ok(end) => judge(false, end == status && written.as_slice() == text.as_bytes()),
+        Ok(end) => judge(
+            false,
+            end == status && written.as_slice() == text.as_bytes(),
+        ),
         Err(RunFault::Memory) => judge(true, text.as_bytes().starts_with(written.as_slice())),
         Err(_) => Outcome::Wrong,
     })

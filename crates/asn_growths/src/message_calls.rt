@@ -9,8 +9,8 @@ use asn_walk::ReadLeaves;
 use asn_walk_into::decode_into;
 use std::alloc::{AllocError, Global};
 
-/// How many octets a piece has.
-const PIECE: usize = 13;
+/// How many pieces a message comes in, or one more.
+const PIECES: usize = 4;
 
 /// A value and its octets by a set of rules, in which an octet has so many units; and what is told of it.
 #[derive(Drop)]
@@ -61,11 +61,7 @@ pub fn calls_on(
 }
 
 /// Whether each call by these rules does.
-fn calls_by<R: Rules + ReadLeaves>(
-    rt: &impl Print,
-    alloc: Global,
-    message: &Message<'_>,
-) -> bool {
+fn calls_by<R: Rules + ReadLeaves>(rt: &impl Print, alloc: Global, message: &Message<'_>) -> bool {
     let name = message.name;
     let mut right = report(rt, name, "encode", encoded::<R>(alloc, message));
     right &= report(rt, name, "decode", decoded::<R>(alloc, message));
@@ -137,11 +133,12 @@ fn opened<R: Rules>(alloc: Global, message: &Message<'_>) -> Result<Outcome, All
 
 /// `feed`, piece by piece.
 fn fed<R: Rules>(alloc: Global, message: &Message<'_>) -> Result<Outcome, AllocError> {
+    let length = message.octets.len() / PIECES + 1;
     let mut session = R::open(alloc, message.ty.copy()?).map_err(|_| AllocError)?;
     let mut before = 0u64;
-    for piece in message.octets.chunks(PIECE) {
+    for piece in message.octets.chunks(length) {
         match R::feed(&mut session, piece) {
-            Ok(Step::More) => before = before.saturating_add(PIECE as u64),
+            Ok(Step::More) => before = before.saturating_add(length as u64),
             Ok(Step::Done { value, .. }) => return Ok(judge(false, same(&value, message.value))),
             Err(FeedFault::Memory) => {
                 let end = cut_after(before.saturating_mul(message.units));

@@ -1,5 +1,6 @@
 #!/usr/bin/env bash
-# Runs the program on the examples of this folder, and compares what it writes.
+# Runs the program on the examples of this folder, and compares what it writes. Then faults.sh runs it on the command
+# lines and inputs of faults.txt, where not all is well.
 #
 #     examples/run.sh PROGRAM    every order, in both encoding rules, by a program that is built
 #     examples/run.sh            three orders on the larger modules, under `rt try`, which proves nothing
@@ -47,6 +48,7 @@ if [ -n "$program" ]; then
     "$program" module <"$work/$name.asn" | cmp - "$work/$name.asn" || fail "module $name"
   done
   echo "examples: each order on four modules, in both encoding rules"
+  ./faults.sh "$program"
   exit
 fi
 
@@ -69,3 +71,4 @@ try encode per values per
 try show per per json
 try convert per per oer
 echo "examples: three orders on three modules"
+./faults.sh

@@ -1,5 +1,7 @@
 //! Rows of jobs: a module and lines go in, a text and a status come out.
+use crate::texts::decode_refusal;
 use crate::{Job, Order, RuleName, RunFault, Status, run};
+use asn_rules::DecodeFault;
 use asn_rules::counting::Counted;
 use std::alloc::{AllocError, Global};
 use std::io;
@@ -169,6 +171,14 @@ fn a_module_is_printed(rt: HostRuntime) -> Result<(), Fail> {
         b"",
         (want, Status::Good),
     )
+}
+
+#[test]
+fn octets_of_too_many_are_told(rt: HostRuntime) -> Result<(), Fail> {
+    let answer = decode_refusal(rt.alloc(), RuleName::Oer, DecodeFault::TooLong)?;
+    assert_eq!(rt; answer.text.as_str(), "! too long");
+    assert!(rt; !answer.is_good);
+    Ok(())
 }
 
 /// Gives the octets, and fails after the first `cut`.

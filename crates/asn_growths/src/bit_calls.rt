@@ -1,7 +1,7 @@
 //! The calls on bits that allocate. Each is asked again where memory was refused: the octets at the end show whether
 //! the refused call had changed anything.
-use crate::outcome::{Outcome, judge};
 use asn_bits::{BitCursor, BitSink};
+use asn_refused::{Outcome, judge};
 use std::alloc::{AllocError, Global};
 
 const NUMBER: u64 = 0x8123_4567_89ab_cdef;

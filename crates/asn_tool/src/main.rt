@@ -13,14 +13,17 @@ use asn_convert::{Job, run};
 use asn_rules::counting::Counted;
 use ending::ending;
 use job::{LineFault, job_of};
+use std::io::ErrorKind;
 use std::process::ExitCode;
 use std::{env, io};
 
 /// Does the job that the words after the program's name ask for, on standard input and output. The exit status is that
-/// of `ending`; 0 after help or the version, and 2 where the words ask for no job.
+/// of `ending`; 0 after help or the version, 2 where the words ask for no job, and 3 where there is no memory for them.
 fn main(rt: HostRuntime) -> ExitCode {
-    let Ok(given) = env::args(&rt) else {
-        return told(&rt, 2, "the words are not text");
+    let given = match env::args(&rt) {
+        Ok(given) => given,
+        Err(fault) if fault.kind() == ErrorKind::OutOfMemory => return told(&rt, 3, "memory"),
+        Err(_) => return told(&rt, 2, "the words are not text"),
     };
     let mut words = Vec::new(rt.alloc());
     for word in given.skip(1) {

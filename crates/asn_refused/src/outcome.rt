@@ -1,6 +1,6 @@
 //! What became of a call.
 ghost use Rattle.std.specs.Prelude.{◌≡◌, true, false};
-ghost use Rattle.asn_growths.specs.declared.outcome.Outcome.TheVariants as outcome;
+ghost use Rattle.asn_refused.specs.declared.outcome.Outcome.TheVariants as outcome;
 
 /// What a call answered.
 #[derive(Clone, Copy, Debug, PartialEq, Eq)]

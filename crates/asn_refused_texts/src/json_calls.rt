@@ -1,7 +1,7 @@
-//! The calls on JSON that grow.
-use crate::outcome::{Outcome, judge};
+//! The calls on JSON that allocate.
 use asn_json::{JsonFault, from_json, to_json};
-use asn_values::{Alt, AsnType, Checked, Field, Need, Size, TextKind, Value, same};
+use asn_refused::{Outcome, judge};
+use asn_values::{Alt, AsnType, Checked, Field, Size, TextKind, Value, same};
 use serde_json::Value as Json;
 use std::alloc::{AllocError, Global};
 
@@ -55,43 +55,15 @@ fn json_of(alloc: Global, text: &str) -> Result<Json, AllocError> {
 
 /// SEQUENCE { name IA5String, bits BIT STRING, list SEQUENCE OF CHOICE { octets OCTET STRING } OPTIONAL }
 fn checked(alloc: Global) -> Result<Checked, AllocError> {
-    let octets = Alt {
-        name: String::from_str(alloc, "octets")?,
-        ty: AsnType::Octets(any()),
-    };
-    let choice = AsnType::Choice {
-        root: vec![in alloc; octets]?,
-        ext: None,
-    };
-    let list = AsnType::SeqOf(Box::new(alloc, choice)?, any());
-    let root = vec![in alloc;
-        field(
-            alloc,
-            "name",
-            AsnType::Text(TextKind::Ia5, any()),
-            Need::Must
-        )?,
-        field(alloc, "bits", AsnType::Bits(any()), Need::Must)?,
-        field(alloc, "list", list, Need::Optional)?,
-    ]?;
-    Checked::new(alloc, AsnType::Seq { root, ext: None }).map_err(|_| AllocError)
-}
-
-/// no SIZE
-fn any() -> Size {
-    Size {
-        low: 0,
-        high: None,
-        ext: false,
-    }
-}
-
-fn field(alloc: Global, name: &str, ty: AsnType, need: Need) -> Result<Field, AllocError> {
-    Ok(Field {
-        name: String::from_str(alloc, name)?,
-        ty,
-        need,
-    })
+    let octets = Alt::new(alloc, "octets", AsnType::Octets(Size::any()))?;
+    let element = AsnType::choice(vec![in alloc; octets]?);
+    let list = AsnType::sequence_of(alloc, element, Size::any())?;
+    let name = AsnType::Text(TextKind::Ia5, Size::any());
+    let mut root = Vec::new(alloc);
+    root.push(Field::new(alloc, "name", name)?)?;
+    root.push(Field::new(alloc, "bits", AsnType::Bits(Size::any()))?)?;
+    root.push(Field::new(alloc, "list", list)?.optional())?;
+    Checked::new(alloc, AsnType::sequence(root)).map_err(|_| AllocError)
 }
 
 /// The value that `TEXT` shows.

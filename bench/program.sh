@@ -7,7 +7,8 @@
 # The program of bench/parts is built beside copies of the crates in a room outside the repository, BENCH_ROOM (in
 # TMPDIR or /tmp, if not set), which is kept. The input is made beforehand and the output goes to /dev/null. A time is
 # that of a processor, of the process as a whole; of the rounds the shortest counts. MB is 1,000,000 octets: of standard
-# input, and of the messages in PER. RT is the command rt, if it is not found as that.
+# input, and of the messages in PER. RT is the command rt, if it is not found as that. PARTS is the program of bench/parts,
+# where it is built already.
 set -euo pipefail
 program=$(realpath "$1")
 lines=${2:-100000}
@@ -15,26 +16,6 @@ rounds=${3:-5}
 here=$(cd "$(dirname "$0")" && pwd)
 top=$(dirname "$here")
 room=${BENCH_ROOM:-${TMPDIR:-/tmp}/asn-bench-parts-$(id -u)}
-
-# ---- the program that does one part
-
-mkdir -p "$room/crates/bench_parts/src"
-for from in "$top"/crates/*/; do
-  to=$room/crates/$(basename "$from")
-  mkdir -p "$to"
-  for part in src specs proofs; do
-    rm -rf "${to:?}/$part"
-    if [ -d "$from$part" ]; then cp -a "$from$part" "$to/$part"; fi
-  done
-  if [ -d "${from}out" ] && [ ! -d "$to/out" ]; then cp -a "${from}out" "$to/out"; fi
-done
-cp "$top/HANDLES" "$room/"
-uses='asn_values asn_bits asn_rules asn_walk asn_walk_read asn_walk_write asn_walk_into asn_per asn_oer asn_notation'
-{ cat "$top/crates.txt"; echo "bench_parts: $uses asn_module asn_json anyhow hex serde_json"; } >"$room/crates.txt"
-cp "$here/parts/main.rt.in" "$room/crates/bench_parts/src/main.rt"
-parts=$room/crates/bench_parts/out/bench_parts
-echo none >"$room/crates/bench_parts/args"
-echo 0 >>"$room/crates/bench_parts/args"
 
 cd "$top/examples"
 work=$(mktemp -d)
@@ -51,7 +32,29 @@ input 1 cam.per >"$work/one"
 input "$lines" cam.per >"$work/hex"
 input "$lines" cam.values >"$work/json"
 
-if ! (cd "$room/crates/bench_parts" && ${RT:-rt} run -- none 0 <"$work/one" >"$room/parts.log" 2>&1); then
+# ---- the program that does one part
+
+build() {
+  local uses from to part
+  mkdir -p "$room/crates/bench_parts/src"
+  for from in "$top"/crates/*/; do
+    to=$room/crates/$(basename "$from")
+    mkdir -p "$to"
+    for part in src specs proofs; do
+      rm -rf "${to:?}/$part"
+      if [ -d "$from$part" ]; then cp -a "$from$part" "$to/$part"; fi
+    done
+    if [ -d "${from}out" ] && [ ! -d "$to/out" ]; then cp -a "${from}out" "$to/out"; fi
+  done
+  cp "$top/HANDLES" "$room/"
+  uses='asn_values asn_bits asn_rules asn_walk asn_walk_read asn_walk_write asn_walk_into asn_per asn_oer asn_notation'
+  { cat "$top/crates.txt"; echo "bench_parts: $uses asn_module asn_json anyhow hex serde_json"; } >"$room/crates.txt"
+  cp "$here/parts/main.rt.in" "$room/crates/bench_parts/src/main.rt"
+  (cd "$room/crates/bench_parts" && ${RT:-rt} run -- none 0 <"$work/one") >"$room/parts.log" 2>&1
+}
+
+parts=${PARTS:-$room/crates/bench_parts/out/bench_parts}
+if [ -z "${PARTS:-}" ] && ! build; then
   tail -n 20 "$room/parts.log" >&2
   echo "bench: the program of the parts was not built" >&2
   exit 1

@@ -80,6 +80,8 @@ fn put_value(text: &mut String, ty: &AsnType, value: &Value) -> Result<(), Alloc
             text.push_str(" }")
         }
         Value::Choice(tag, chosen) => put_choice(text, ty, *tag, chosen),
+        Value::UnknownItem(number) => write!(text, "{number}"),
+        Value::UnknownAlternative(tag) => write!(text, "{tag}"),
     }
 }
 

@@ -4,8 +4,8 @@
 //! - `module | TEXT | ANSWER`: so `read` answers to the text after the heading of 39 octets; `read`, or the fault.
 //! - `text | TEXT | ANSWER`: the same of a whole text.
 //! - `grammar | TEXT | ANSWER`, and `whole grammar`: so `read_notation` answers, with 32 levels.
-//! - `print | TEXT | LINES`: so the text after the heading is printed, and what is printed is read and printed alike; the
-//!   end of each line is written too.
+//! - `print | TEXT | LINES`: so the text after the heading is printed, and what is printed is read and printed alike.
+//!   The end of each line is written too.
 //! - `type | TYPE | TYPE`: so a type is printed.
 //! - `named | NAME | TEXT | ANSWER`: whether the text after the heading assigns the name, `yes` or `no`.
 //! - `explain | TEXT | WORDS`: so the fault of a whole text is explained.

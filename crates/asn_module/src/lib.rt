@@ -27,8 +27,3 @@ pub use explaining::explain;
 pub use fault::ModuleFault;
 pub use module::Module;
 pub use reading::read;
-
-#[cfg(test)]
-mod print_tests;
-#[cfg(test)]
-mod tests;

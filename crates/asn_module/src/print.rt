@@ -46,7 +46,8 @@ fn write_assignment(
 
 /// The line of a name, where it has a type.
 fn write_named(out: &mut String, alloc: Global, named: &Named) -> Result<(), AllocError>
-    ensures { OnOk result (string_bytes out.new ≡ string_bytes out.old ++ spec.lines_printed (types_of (named.now ∷ []))) }
+    ensures { OnOk result (string_bytes out.new ≡ string_bytes out.old ++
+        spec.lines_printed (types_of (named.now ∷ []))) }
 {
     match &named.known {
         Some(known) => write_assignment(out, alloc, named.name.as_str(), known.ty.get()),

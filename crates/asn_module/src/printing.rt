@@ -323,8 +323,8 @@ fn write_alternatives(
     alternatives: &[Alt],
     follow: bool,
 ) -> Result<(), AllocError>
-    ensures { OnOk result (Adds (spec.alternatives_tokens follow (view.alternatives_of (map view.branch_of alternatives.now)))
-        (string_bytes out.old) (string_bytes out.new)) }
+    ensures { OnOk result (Adds (spec.alternatives_tokens follow
+        (view.alternatives_of (map view.branch_of alternatives.now))) (string_bytes out.old) (string_bytes out.new)) }
 {
     let mut comma = follow;
     for alternative in alternatives {

@@ -23,6 +23,3 @@ pub use notation::{
     SizeNotation, StringKind, TypeNotation,
 };
 pub use token::{Lexeme, Sign, Word};
-
-#[cfg(test)]
-mod tests;

@@ -31,7 +31,7 @@ fn push_shortened(text: &mut String, shortened: &str) -> Result<()> {
     Ok(())
 }
 
-/// The text of a cell, with `<X*N>` and `<NUMBER>` written out, behind what stands in front of it.
+/// The text of a cell, with `<X*N>` and `<NUMBER>` written out, after a text that stands in front of it.
 pub fn text_of(alloc: Global, front: &str, cell: &str) -> Result<String> {
     let mut text = String::from_str(alloc, front)?;
     for part in cell.split('<') {

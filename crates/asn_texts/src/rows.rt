@@ -1,13 +1,13 @@
 //! A row: its kind, a text, and what is answered to it, with `|` between the cells. In a text `<X*N>` is N times X, and
 //! `<NUMBER>` the character of a number in hexadecimal.
 //!
-//! - `module | TEXT | ANSWER`: so `read` answers to the text behind the heading of 39 octets; `read`, or the fault.
+//! - `module | TEXT | ANSWER`: so `read` answers to the text after the heading of 39 octets; `read`, or the fault.
 //! - `text | TEXT | ANSWER`: the same of a whole text.
 //! - `grammar | TEXT | ANSWER`, and `whole grammar`: so `read_notation` answers, with 32 levels.
-//! - `print | TEXT | LINES`: so the text behind the heading is printed, and what is printed is read and printed alike; of
-//!   each line its end is written too.
+//! - `print | TEXT | LINES`: so the text after the heading is printed, and what is printed is read and printed alike.
+//!   The end of each line is written too.
 //! - `type | TYPE | TYPE`: so a type is printed.
-//! - `named | NAME | TEXT | ANSWER`: whether the text behind the heading assigns the name, `yes` or `no`.
+//! - `named | NAME | TEXT | ANSWER`: whether the text after the heading assigns the name, `yes` or `no`.
 //! - `explain | TEXT | WORDS`: so the fault of a whole text is explained.
 use crate::cells::{HEADING, cut, printed, text_of};
 use anyhow::{Result, bail, ensure};

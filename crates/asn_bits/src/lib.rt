@@ -20,18 +20,4 @@ pub use number_field::{FieldState, NumberField};
 pub use sink::BitSink;
 
 #[cfg(test)]
-mod bit_lists;
-#[cfg(test)]
-mod cursor_tests;
-#[cfg(test)]
-mod field_tests;
-#[cfg(test)]
-mod length_tests;
-#[cfg(test)]
-mod length_writer_tests;
-#[cfg(test)]
-mod number_tests;
-#[cfg(test)]
-mod sink_tests;
-#[cfg(test)]
 mod tests;

@@ -1,10 +1,9 @@
-//! What no clause says: that the calls succeed, vectors from outside, and fields of few bits.
+//! What no clause says: that the calls succeed where memory is at hand, and octets from outside.
 ghost use Rattle.std.specs.Prelude.{◌≡◌, ℕ, ◌^◌, ◌<◌, ◌≤◌};
 
-use crate::bit_lists::limit;
 use crate::number_field::take_of;
 use crate::numbers::{octet_count, width};
-use crate::{BitCursor, BitSink, FieldState, Intervals, NumberField};
+use crate::{BitCursor, BitSink, Counts, FieldState, Intervals, Lengths, NumberField};
 use std::alloc::{AllocError, Global};
 use std::process::Abort;
 use std::test::Fail;
@@ -137,68 +136,74 @@ fn counts_bits_and_octets(rt: HostRuntime) {
     assert_eq!(rt; octet_count(u64::MAX), 8);
 }
 
-// what a reader that tries all numbers of k bits says after these bits: `given` of them, of which
-// the number is `prefix`
-fn by_trial(numbers: &Intervals, k: u32, prefix: u64, given: u32) -> FieldState
-    requires few { k < 64 }
-    requires given { given ≤ k }
-{
-    for n in 0..limit(k) {
-        if numbers.has(n) && n >> (k - given) == prefix {
-            return if given == k {
-                FieldState::Number(n)
-            } else {
-                FieldState::Alive
-            };
-        }
-    }
-    FieldState::Dead
+// INTEGER (3..6) of X.691, "constrained whole number": two bits, and no number above 3 in them
+#[test]
+fn a_field_takes_the_numbers_of_its_set(rt: HostRuntime) {
+    let numbers = Intervals::one(0, 1).and(2, 2);
+    let mut field = NumberField::new(2, numbers.copied());
+    assert_eq!(rt; field.bit(true), FieldState::Alive);
+    assert_eq!(rt; field.bit(true), FieldState::Dead);
+    let mut cursor = BitCursor::over(b"\xb0");
+    assert_eq!(rt; take_of(&numbers, 2, &mut cursor), Some(2));
+    assert_eq!(rt; take_of(&numbers, 2, &mut cursor), None);
+    assert_eq!(rt; cursor.rest_of_octet(), 6);
 }
 
-// each number of k bits, bit by bit and in one step
-fn reads_as_by_trial(
-    rt: &impl Abort,
-    alloc: Global,
-    k: u32,
-    numbers: &Intervals,
-) -> Result<(), Fail>
-    requires { k < 64 }
-{
-    for n in 0..limit(k) {
-        let mut field = NumberField::new(k, numbers.copied());
-        for given in 0..k {
-            let prefix = n >> (k - 1 - given);
-            let told = field.bit(prefix & 1 == 1);
-            assert_eq!(rt; told, by_trial(numbers, k, prefix, given + 1));
-        }
-        let mut sink = BitSink::new(alloc);
-        put(&mut sink, k, n)?;
-        fill_octets(&mut sink)?;
-        assert!(rt; sink.ends_at_octet());
-        let octets = sink.into_octets();
-        let mut cursor = BitCursor::over(octets.as_slice());
-        let taken = take_of(numbers, k, &mut cursor);
-        assert_eq!(rt; taken, if numbers.has(n) { Some(n) } else { None });
-    }
+// the three forms of X.691, "general length determinant"
+#[test]
+fn lengths_have_three_forms(rt: HostRuntime) -> Result<(), Fail> {
+    let mut sink = BitSink::new(rt.alloc());
+    assert_eq!(rt; sink.push_length(127)?, 127);
+    assert_eq!(rt; sink.push_length(128)?, 128);
+    assert_eq!(rt; sink.push_length(16_383)?, 16_383);
+    assert_eq!(rt; sink.push_length(16_384)?, 16_384);
+    assert_eq!(rt; sink.push_length(100_000)?, 65_536);
+    assert!(rt; sink.ends_at_octet());
+    let octets = sink.into_octets();
+    assert_eq!(rt;
+        octets.as_slice(),
+        b"\x7f\x80\x80\xbf\xff\xc1\xc4".as_slice()
+    );
     Ok(())
 }
 
 #[test]
-fn fields_are_read_as_by_trial(rt: HostRuntime) -> Result<(), Fail> {
-    for k in 1..6 {
-        let last = limit(k) - 1;
-        for low in 0..=last {
-            for high in low..=last {
-                reads_as_by_trial(&rt, rt.alloc(), k, &Intervals::one(low, high))?;
-                let two = Intervals::one(low, high).and(last, last);
-                reads_as_by_trial(&rt, rt.alloc(), k, &two)?;
-                let four = Intervals::one(low, low)
-                    .and(high, high)
-                    .and(0, 0)
-                    .and(last, last);
-                reads_as_by_trial(&rt, rt.alloc(), k, &four)?;
-            }
-        }
-    }
+fn octets_are_pushed_and_taken(rt: HostRuntime) -> Result<(), Fail> {
+    let mut sink = BitSink::new(rt.alloc());
+    sink.push_bits(&[true, false])?;
+    sink.push_general_octets(b"PER")?;
+    sink.push_octets(b"!")?;
+    fill_octets(&mut sink)?;
+    assert!(rt; sink.ends_at_octet());
+    let octets = sink.into_octets();
+    let mut cursor = BitCursor::over(octets.as_slice());
+    assert_eq!(rt; cursor.take_number(10), Some(515));
+    assert!(rt; cursor.octets_left() >= 4);
+    let mut taken = Vec::new(rt.alloc());
+    cursor.take_octets(4, &mut taken)?;
+    assert_eq!(rt; taken.as_slice(), b"PER!".as_slice());
     Ok(())
+}
+
+#[test]
+fn lengths_are_read(rt: HostRuntime) {
+    let counts = Counts {
+        low: 3,
+        high: 16_384,
+    };
+    let mut lengths = Lengths::new(counts, None);
+    let mut cursor = BitCursor::over(b"\x80\x80\xc1\x00\x02");
+    assert_eq!(rt; lengths.take(&mut cursor), Some(128));
+    assert_eq!(rt; cursor.octets_left(), 3);
+    let mut lengths = Lengths::new(counts, None);
+    assert_eq!(rt; lengths.take(&mut cursor), Some(16_384));
+    assert!(rt; lengths.more());
+    assert_eq!(rt; lengths.take(&mut cursor), Some(0));
+    assert!(rt; !lengths.more());
+    let mut lengths = Lengths::new(counts, None);
+    assert_eq!(rt; lengths.take(&mut cursor), None);
+    for bit in [false, false, false, false, false, false] {
+        assert_eq!(rt; lengths.bit(bit), FieldState::Alive);
+    }
+    assert_eq!(rt; lengths.bit(false), FieldState::Dead);
 }

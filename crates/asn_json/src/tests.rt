@@ -180,7 +180,12 @@ fn strings_are_read_back(rt: HostRuntime) -> Result<(), Fail> {
         ("\"1011\"", "not of type"),
         ("101", "shape $"),
     ];
-    assert_answers(&rt, alloc, AsnType::Bits(Size::between(0, 3)), bits.as_slice())?;
+    assert_answers(
+        &rt,
+        alloc,
+        AsnType::Bits(Size::between(0, 3)),
+        bits.as_slice(),
+    )?;
     let digits = [
         ("\"12 \"", "\"12 \""),
         ("\"1a\"", "not of type"),

@@ -93,6 +93,9 @@ pub fn read_up_to(k: u32, high: u64, why: Why, bits: &mut BitCursor<'_>) -> Resu
     ensures member { IfOk result (λ n. Admits (up_to high None) n) }
     ensures stop { StopsPlain (NumberIn k (up_to high None)) result bits.old }
 {
+    if k == 0 {
+        return Ok(0);
+    }
     let set = NumberSet {
         low: 0,
         high,

@@ -43,8 +43,16 @@ pub(crate) fn set_integer(entry: &mut Option<Value>, whole: i128)
     if let Some(Value::Int(old)) = entry {
         *old = whole;
     } else {
-        *entry = Some(Value::Int(whole));
+        replace_by_integer(entry, whole);
     }
+}
+
+/// The entry becomes an INTEGER, where it was none.
+#[inline(never)]
+fn replace_by_integer(entry: &mut Option<Value>, whole: i128)
+    ensures { option_map datum_of entry.new ≡ Some (number whole) }
+{
+    *entry = Some(Value::Int(whole));
 }
 
 /// The entry becomes that of a component that is absent: its DEFAULT, where it has one.
@@ -75,8 +83,16 @@ pub(crate) fn make_present(entry: &mut Option<Value>)
     ensures { IsSome entry.new }
 {
     if entry.is_none() {
-        *entry = Some(Value::Null);
+        replace_by_null(entry);
     }
+}
+
+/// The entry becomes NULL.
+#[inline(never)]
+fn replace_by_null(entry: &mut Option<Value>)
+    ensures { IsSome entry.new }
+{
+    *entry = Some(Value::Null);
 }
 
 /// Where the list has no element at this index, which is at most its length, one is appended.
@@ -95,23 +111,6 @@ pub(crate) fn make_place(elements: &mut Vec<Value>, at: usize) -> Result<(), All
 /// The value is not one whose parts can be overwritten.
 #[derive(Clone, Copy)]
 pub(crate) struct Unlike;
-
-/// Takes the entries out of a SEQUENCE that has so many. The value is then NULL.
-#[inline(always)]
-pub(crate) fn take_entries(slot: &mut Value, count: usize) -> Result<Vec<Option<Value>>, Unlike>
-    ensures { IfOk result (λ entries. vec_len entries ≡ count) }
-{
-    match mem::replace(slot, Value::Null) {
-        Value::Seq(entries) => {
-            if entries.len() == count {
-                Ok(entries)
-            } else {
-                Err(Unlike)
-            }
-        }
-        _ => Err(Unlike),
-    }
-}
 
 /// Takes the elements out of a SEQUENCE OF. The value is then NULL.
 #[inline(always)]

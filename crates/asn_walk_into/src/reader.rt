@@ -12,7 +12,7 @@ ghost use Rattle.asn_walk.specs.Coding.{OpenOf, ChosenOf};
 ghost use Rattle.asn_walk.specs.Reading.{Reads, ReadsValue, ReadsComplete, ReadsOpen, StopsAt, ValuesOf, CompleteOf, After};
 
 use crate::components::{read_additions_into, read_root_into};
-use crate::entries::{clear_entries, make_place, read_anew, take_elements, take_entries};
+use crate::entries::{clear_entries, make_place, read_anew, take_elements};
 use asn_bits::BitCursor;
 use asn_rules::{Stop, Why};
 use asn_values::{Alt, AsnType, Value};
@@ -78,11 +78,13 @@ fn read_sequence_into<R: ReadLeaves>(
         return read_anew::<R>(alloc, ty, units, slot);
     };
     let root = root.as_slice();
-    let Ok(mut entries) = take_entries(slot, root.len()) else {
+    let Value::Seq(entries) = slot else {
         return read_anew::<R>(alloc, ty, units, slot);
     };
+    if entries.len() != root.len() {
+        return read_anew::<R>(alloc, ty, units, slot);
+    }
     read_root_into::<R>(alloc, root, None, entries.as_mut_slice(), units)?;
-    *slot = Value::Seq(entries);
     Ok(())
 }
 
@@ -110,16 +112,17 @@ fn read_marked_into<R: ReadLeaves>(
     };
     let root = root.as_slice();
     let additions = additions.as_slice();
-    let Ok(mut entries) = take_entries(slot, root.len() + additions.len()) else {
+    let Value::Seq(entries) = slot else {
         return read_anew::<R>(alloc, ty, units, slot);
     };
+    if entries.len() != root.len() + additions.len() {
+        return read_anew::<R>(alloc, ty, units, slot);
+    }
     let (of_root, of_additions) = entries.split_at_mut(root.len());
     if read_root_into::<R>(alloc, root, Some(additions.len()), of_root, units)? {
         read_additions_into::<R>(alloc, additions, of_additions, units)?;
-        *slot = Value::Seq(entries);
     } else {
         clear_entries(additions, of_additions);
-        *slot = Value::Seq(entries);
     }
     Ok(())
 }

@@ -7,6 +7,7 @@ use mir.Syntax.{w128}
 use mir.Val.{to_z, of_z}
 use Rattle.asn_bits.proofs.Above.{kept}
 use Rattle.asn_values.specs.declared.types.AsnType.{the_lemmas}
+use Rattle.asn_values.specs.declared.value.Value as views
 use Rattle.asn_values.specs.declared.value.Value.TheVariants as value
 use Rattle.asn_values.specs.Datum.{number}
 use Rattle.asn_values.specs.declared.types.Need.{Need}
@@ -378,7 +379,7 @@ pub reader::read_sequence_into-read_root_into-requires : goal.reader::read_seque
 reader::read_sequence_into-read_root_into-requires g t c κs lives =
     let is = closed_type c.args.ty.now c.in-Seq.root c.in-Seq.ext c.as_slice-root.result.now c.in-Seq.is c.in-None.is c.as_slice-root.ensures.value in
     let good : InProfile (sequence (fields_seen c.as_slice-root.result.now) closed) = rw is at c.requires.of_profile in
-    let each : length c.as_mut_slice.result.now ≡ length c.as_slice-root.result.now = omega (arith, c.as_mut_slice.ensures.len, c.in-Ok.ensures) in
+    let each : length c.as_mut_slice.result.now ≡ length c.as_slice-root.result.now = omega (arith, c.as_mut_slice.ensures.len, c.len.ensures, c.if-len-root.false) in
     (search (rules, the_lemmas), (lives.0, (lives.1, (c.requires.at_unit, (components_of_profile (fields_seen c.as_slice-root.result.now) closed good, (few_components c.as_slice-root.result.now is c.requires.of_profile, (tt, each)))))))
 
 pub reader::read_sequence_into-returns-in_err-read_root_into-clause-stop : goal.reader::read_sequence_into-returns-in_err-read_root_into-clause-stop
@@ -389,15 +390,16 @@ reader::read_sequence_into-returns-in_err-read_root_into-clause-stop g t c =
     rw (p.1, p.2, is) (c.in_err-read_root_into.ensures.stop.stops closed good refl)
 
 pub reader::read_sequence_into-returns-clause-done : goal.reader::read_sequence_into-returns-clause-done
+unfolding views.out-Value denote.Hole.Carrier.out
 reader::read_sequence_into-returns-clause-done g t c =
     let is = closed_type c.args.ty.now c.in-Seq.root c.in-Seq.ext c.as_slice-root.result.now c.in-Seq.is c.in-None.is c.as_slice-root.ensures.value in
     let good : InProfile (sequence (fields_seen c.as_slice-root.result.now) closed) = rw is at c.requires.of_profile in
     let h = c.in_ok-read_root_into.ensures.done in
-    let es = with_items c.in-Ok.entries c.read_root_into.new.entries in
-    let many : length c.read_root_into.new.entries ≡ c.in-Ok.entries.len = omega (arith, c.read_root_into.auto.entries, c.as_mut_slice.ensures.len) in
-    let items : es.items ≡ c.read_root_into.new.entries = with_items_is c.in-Ok.entries c.read_root_into.new.entries many in
+    let es = with_items c.in-Seq-slot.entries c.read_root_into.new.entries in
+    let many : length c.read_root_into.new.entries ≡ c.in-Seq-slot.entries.len = omega (arith, c.read_root_into.auto.entries, rw c.in-Seq-slot.entries-is at c.as_mut_slice.ensures.len) in
+    let items : es.items ≡ c.read_root_into.new.entries = with_items_is c.in-Seq-slot.entries c.read_root_into.new.entries many in
     let told : Spells g.R.ReadLeaves.rules.ruling.fielding (Spelt g.R.ReadLeaves.rules.code None (shape_of c.args.ty.now)) (datum_of (value.Seq es)) (g.R.ReadLeaves.rules.to_units c.args.units.now) (g.R.ReadLeaves.rules.to_units c.read_root_into.new.units) = rw (is, datum_of-Seq es, items) (closed_done g.R.ReadLeaves.rules c.keep_laws.ensures (fields_seen c.as_slice-root.result.now) good (_, h.bitmap) (g.R.ReadLeaves.rules.to_units c.args.units.now) h.between h.preamble (entries_seen c.read_root_into.new.entries) (g.R.ReadLeaves.rules.to_units c.read_root_into.new.units) h.components) in
-    told
+    rw (c.in-Seq-slot.entries-is, c.in-Seq-slot.is) told
 
 pub reader::read_marked_into-overflow_add-root : goal.reader::read_marked_into-overflow_add-root
 reader::read_marked_into-overflow_add-root g t c =
@@ -430,7 +432,7 @@ reader::read_marked_into-read_additions_into-requires g t c κs lives =
     let h : ReadsRoot g.R.ReadLeaves.rules (fields_seen c.as_slice-root.result.now) (Some (length c.as_slice-additions.result.now)) c.in_ok-read_root_into.field-0 (entries_seen c.read_root_into.new.entries) c.args.units.now c.read_root_into.new.units = c.in_ok-read_root_into.ensures.done in
     let read : Spells g.R.ReadLeaves.rules.ruling.fielding (PreambleOf g.R.ReadLeaves.rules (bitmap_length (fields_seen c.as_slice-root.result.now)) (added (marked (fields_seen c.as_slice-additions.result.now)))) (c.in_ok-read_root_into.field-0, h.bitmap) (g.R.ReadLeaves.rules.to_units c.args.units.now) h.between = rw count at h.preamble in
     let some : 0 < length c.as_slice-additions.result.now = rw count_of_fields at (some_listed _ (read.spelt.fits.1 c.if-branch.true)) in
-    let each : length c.split_at_mut-of_root.result.1.now ≡ length c.as_slice-additions.result.now = omega (arith, c.split_at_mut-of_root.ensures.back_len, c.deref_mut.ensures.len, c.in-Ok.ensures) in
+    let each : length c.split_at_mut-of_root.result.1.now ≡ length c.as_slice-additions.result.now = omega (arith, c.split_at_mut-of_root.ensures.back_len, c.deref_mut.ensures.len, c.len.ensures, c.if-len-root.false) in
     (search (rules, the_lemmas), (lives.0, (lives.1, (c.in_ok-read_root_into.ensures.at_unit, (added_of_profile c.as_slice-additions.result.now is c.requires.of_profile, (some, (few_added c.as_slice-additions.result.now is c.requires.of_profile, each)))))))
 
 pub reader::read_marked_into-returns-in_err-read_additions_into-clause-stop : goal.reader::read_marked_into-returns-in_err-read_additions_into-clause-stop
@@ -444,6 +446,7 @@ reader::read_marked_into-returns-in_err-read_additions_into-clause-stop g t c =
     rw (p.1, p.2, is) (stops_by _ (additions_stop g.R.ReadLeaves.rules c.keep_laws.ensures (fields_seen c.as_slice-root.result.now) (marked (fields_seen c.as_slice-additions.result.now)) good (c.in_ok-read_root_into.field-0, h.bitmap) (g.R.ReadLeaves.rules.to_units c.args.units.now) h.between read (entries_seen c.read_root_into.new.entries) (g.R.ReadLeaves.rules.to_units c.read_root_into.new.units) h.components c.if-branch.true) c.in_err-read_additions_into.ensures.stop)
 
 pub reader::read_marked_into-returns-in_ok-read_additions_into-clause-done : goal.reader::read_marked_into-returns-in_ok-read_additions_into-clause-done
+unfolding views.out-Value denote.Hole.Carrier.out
 reader::read_marked_into-returns-in_ok-read_additions_into-clause-done g t c =
     let is = marked_type c.args.ty.now c.in-Seq.root c.in-Seq.ext c.in-Some.additions c.as_slice-root.result.now c.as_slice-additions.result.now c.in-Seq.is c.in-Some.is c.as_slice-root.ensures.value c.as_slice-additions.ensures.value in
     let good : InProfile (sequence (fields_seen c.as_slice-root.result.now) (marked (fields_seen c.as_slice-additions.result.now))) = rw is at c.requires.of_profile in
@@ -452,14 +455,15 @@ reader::read_marked_into-returns-in_ok-read_additions_into-clause-done g t c =
     let read : Spells g.R.ReadLeaves.rules.ruling.fielding (PreambleOf g.R.ReadLeaves.rules (bitmap_length (fields_seen c.as_slice-root.result.now)) (added (marked (fields_seen c.as_slice-additions.result.now)))) (c.in_ok-read_root_into.field-0, h.bitmap) (g.R.ReadLeaves.rules.to_units c.args.units.now) h.between = rw count at h.preamble in
     let of_root = c.read_root_into.new.entries in
     let of_additions = c.read_additions_into.new.entries in
-    let es = with_items c.in-Ok.entries (of_root ++ of_additions) in
-    let many : length (of_root ++ of_additions) ≡ c.in-Ok.entries.len = omega (arith, length-append of_root of_additions, c.read_root_into.auto.entries, c.read_additions_into.auto.entries, c.split_at_mut-of_root.ensures.front_len, c.split_at_mut-of_root.ensures.back_len, c.in-Ok.ensures, c.deref_mut.ensures.len) in
-    let items : es.items ≡ of_root ++ of_additions = with_items_is c.in-Ok.entries (of_root ++ of_additions) many in
+    let es = with_items c.in-Seq-slot.entries (of_root ++ of_additions) in
+    let many : length (of_root ++ of_additions) ≡ c.in-Seq-slot.entries.len = omega (arith, length-append of_root of_additions, c.read_root_into.auto.entries, c.read_additions_into.auto.entries, c.split_at_mut-of_root.ensures.front_len, c.split_at_mut-of_root.ensures.back_len, c.if-len-root.false, rw c.in-Seq-slot.entries-is at c.len.ensures, rw c.in-Seq-slot.entries-is at c.deref_mut.ensures.len) in
+    let items : es.items ≡ of_root ++ of_additions = with_items_is c.in-Seq-slot.entries (of_root ++ of_additions) many in
     let both : entries_seen (of_root ++ of_additions) ≡ entries_seen of_root ++ entries_seen of_additions = map-append (option_map datum_of) of_root of_additions in
     let told : Spells g.R.ReadLeaves.rules.ruling.fielding (Spelt g.R.ReadLeaves.rules.code None (shape_of c.args.ty.now)) (datum_of (value.Seq es)) (g.R.ReadLeaves.rules.to_units c.args.units.now) (g.R.ReadLeaves.rules.to_units c.read_additions_into.new.units) = rw (is, datum_of-Seq es, items, both) (additions_done g.R.ReadLeaves.rules c.keep_laws.ensures (fields_seen c.as_slice-root.result.now) (marked (fields_seen c.as_slice-additions.result.now)) good (c.in_ok-read_root_into.field-0, h.bitmap) (g.R.ReadLeaves.rules.to_units c.args.units.now) h.between read (entries_seen c.read_root_into.new.entries) (g.R.ReadLeaves.rules.to_units c.read_root_into.new.units) h.components c.if-branch.true (entries_seen of_root ++ entries_seen of_additions) (g.R.ReadLeaves.rules.to_units c.read_additions_into.new.units) (map_spells {f = λ ws. entries_seen of_root ++ ws} c.in_ok-read_additions_into.ensures.done)) in
-    told
+    rw (c.in-Seq-slot.entries-is, c.in-Seq-slot.is) told
 
 pub reader::read_marked_into-returns-else-branch-clause-done : goal.reader::read_marked_into-returns-else-branch-clause-done
+unfolding views.out-Value denote.Hole.Carrier.out
 reader::read_marked_into-returns-else-branch-clause-done g t c =
     let is = marked_type c.args.ty.now c.in-Seq.root c.in-Seq.ext c.in-Some.additions c.as_slice-root.result.now c.as_slice-additions.result.now c.in-Seq.is c.in-Some.is c.as_slice-root.ensures.value c.as_slice-additions.ensures.value in
     let good : InProfile (sequence (fields_seen c.as_slice-root.result.now) (marked (fields_seen c.as_slice-additions.result.now))) = rw is at c.requires.of_profile in
@@ -468,12 +472,12 @@ reader::read_marked_into-returns-else-branch-clause-done g t c =
     let read : Spells g.R.ReadLeaves.rules.ruling.fielding (PreambleOf g.R.ReadLeaves.rules (bitmap_length (fields_seen c.as_slice-root.result.now)) (added (marked (fields_seen c.as_slice-additions.result.now)))) (c.in_ok-read_root_into.field-0, h.bitmap) (g.R.ReadLeaves.rules.to_units c.args.units.now) h.between = rw count at h.preamble in
     let of_root = c.read_root_into.new.entries in
     let of_additions = c.clear_entries.new.entries in
-    let es = with_items c.in-Ok.entries (of_root ++ of_additions) in
-    let many : length (of_root ++ of_additions) ≡ c.in-Ok.entries.len = omega (arith, length-append of_root of_additions, c.read_root_into.auto.entries, c.clear_entries.auto.entries, c.split_at_mut-of_root.ensures.front_len, c.split_at_mut-of_root.ensures.back_len, c.in-Ok.ensures, c.deref_mut.ensures.len) in
-    let items : es.items ≡ of_root ++ of_additions = with_items_is c.in-Ok.entries (of_root ++ of_additions) many in
+    let es = with_items c.in-Seq-slot.entries (of_root ++ of_additions) in
+    let many : length (of_root ++ of_additions) ≡ c.in-Seq-slot.entries.len = omega (arith, length-append of_root of_additions, c.read_root_into.auto.entries, c.clear_entries.auto.entries, c.split_at_mut-of_root.ensures.front_len, c.split_at_mut-of_root.ensures.back_len, c.if-len-root.false, rw c.in-Seq-slot.entries-is at c.len.ensures, rw c.in-Seq-slot.entries-is at c.deref_mut.ensures.len) in
+    let items : es.items ≡ of_root ++ of_additions = with_items_is c.in-Seq-slot.entries (of_root ++ of_additions) many in
     let both : entries_seen (of_root ++ of_additions) ≡ entries_seen of_root ++ entries_seen of_additions = map-append (option_map datum_of) of_root of_additions in
     let told : Spells g.R.ReadLeaves.rules.ruling.fielding (Spelt g.R.ReadLeaves.rules.code None (shape_of c.args.ty.now)) (datum_of (value.Seq es)) (g.R.ReadLeaves.rules.to_units c.args.units.now) (g.R.ReadLeaves.rules.to_units c.read_root_into.new.units) = rw (is, datum_of-Seq es, items, both, c.clear_entries.ensures) (none_added g.R.ReadLeaves.rules c.keep_laws.ensures (fields_seen c.as_slice-root.result.now) (marked (fields_seen c.as_slice-additions.result.now)) good (c.in_ok-read_root_into.field-0, h.bitmap) (g.R.ReadLeaves.rules.to_units c.args.units.now) h.between read (entries_seen c.read_root_into.new.entries) (g.R.ReadLeaves.rules.to_units c.read_root_into.new.units) h.components c.if-branch.false) in
-    told
+    rw (c.in-Seq-slot.entries-is, c.in-Seq-slot.is) told
 
 pub reader::read_list_into-start_list-requires-clause-of_profile : goal.reader::read_list_into-start_list-requires-clause-of_profile
 reader::read_list_into-start_list-requires-clause-of_profile g t c =

@@ -10,15 +10,15 @@ use std::fmt;
 /// Components, items and alternatives stand by their names; by their index, counted from 0 as written, root then
 /// additions, where the type has none there. A string stands in quotation marks, each of its own twice.
 #[derive(Clone, Copy, Drop)]
-pub struct Notation<'a> {
-    pub value: &'a Value,
-    pub ty: &'a AsnType,
+pub struct Notation<'v, 't> {
+    pub value: &'v Value,
+    pub ty: &'t AsnType,
 }
 
 impl Value {
     /// The value with the names of the type, to be displayed: `format!(in alloc; "{}", value.notation(ty))`.
     /// Allocates nothing.
-    pub fn notation<'a>(&'a self, ty: &'a AsnType) -> Notation<'a>
+    pub fn notation<'v, 't>(&'v self, ty: &'t AsnType) -> Notation<'v, 't>
         ensures value { result.value.now ≡ self.now }
         ensures ty { result.ty.now ≡ ty.now }
     {
@@ -26,7 +26,7 @@ impl Value {
     }
 }
 
-impl fmt::Display for Notation<'_> {
+impl fmt::Display for Notation<'_, '_> {
     fn fmt<W: fmt::Write>(&self, f: &mut fmt::Formatter<W>) -> fmt::Result {
         put_value(f, Some(self.ty), self.value)
     }

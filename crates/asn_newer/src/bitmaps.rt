@@ -1,0 +1,92 @@
+//! The presence bits of extension additions, of any count that the profile allows.
+ghost use Rattle.std.specs.Prelude.{◌≡◌, ◌≤◌, ◌<◌, IfOk, IfErr, OnErr, OnOk};
+ghost use Rattle.asn_walk.specs.Reading.{Reads};
+ghost use Rattle.asn_newer.specs.Halting.{HaltsAt};
+ghost use Rattle.asn_newer.specs.Loose.{AnyBitmap};
+ghost use Rattle.asn_newer.specs.Bitmaps.{bitmap_seen, StopsCount};
+
+use crate::halt::Halt;
+use asn_bits::BitCursor;
+use asn_rules::Stop;
+use asn_walk::{PresenceBits, ReadLeaves};
+
+/// The most extension additions of a type.
+const MOST_ADDITIONS: u32 = 64;
+
+/// Reads the presence bits of extension additions, of which one at least is present: as many as the sender's type has,
+/// from 1 to 64. Those of `expected` additions are tried first.
+///
+/// # Errors
+/// `TooMany` where no such count can begin so. `Short` where the presence bits of such a count may still follow, else
+/// `Refused`; of both, which one it is, is not promised.
+pub fn read_any_bitmap<R: ReadLeaves>(
+    expected: u32,
+    units: &mut BitCursor<'_>,
+) -> Result<PresenceBits, Halt>
+    requires at_unit { R.rules.at_unit units.old }
+    ensures at_unit { OnOk result (R.rules.at_unit units.new) }
+    ensures few { IfOk result (λ p. p.left ≤ 64) }
+    ensures done { IfOk result (λ p. Reads R.rules (AnyBitmap R.rules) (bitmap_seen p) units.old units.new) }
+    ensures stop { IfErr result (λ why. HaltsAt R.rules (AnyBitmap R.rules) units.old why) }
+{
+    if 0 < expected && expected <= MOST_ADDITIONS {
+        if let Ok(presence) = read_bitmap_of::<R>(expected, units) {
+            return Ok(presence);
+        }
+    }
+    try_counts::<R>(units)
+}
+
+/// The same, one count after the other.
+#[cold]
+fn try_counts<R: ReadLeaves>(units: &mut BitCursor<'_>) -> Result<PresenceBits, Halt>
+    requires at_unit { R.rules.at_unit units.old }
+    ensures at_unit { OnOk result (R.rules.at_unit units.new) }
+    ensures few { IfOk result (λ p. p.left ≤ 64) }
+    ensures done { IfOk result (λ p. Reads R.rules (AnyBitmap R.rules) (bitmap_seen p) units.old units.new) }
+    ensures stop { IfErr result (λ why. HaltsAt R.rules (AnyBitmap R.rules) units.old why) }
+{
+    let all = R::units_left(units);
+    let mut why = Halt::TooMany;
+    for count in 1..MOST_ADDITIONS + 1 {
+        match read_bitmap_of::<R>(count, units) {
+            Ok(presence) => return Ok(presence),
+            Err(Stop::Memory) => return Err(Halt::Memory),
+            Err(Stop::Short) => why = Halt::Short,
+            Err(Stop::Refused { left, .. }) => {
+                if matches!(why, Halt::TooMany) && left < all.saturating_sub(1) {
+                    why = Halt::Refused;
+                }
+            }
+        }
+    }
+    Err(why)
+}
+
+/// Reads the presence bits of `count` extension additions, of which one at least is present. Takes nothing where it
+/// gives none.
+fn read_bitmap_of<R: ReadLeaves>(
+    count: u32,
+    units: &mut BitCursor<'_>,
+) -> Result<PresenceBits, Stop>
+    requires at_unit { R.rules.at_unit units.old }
+    requires some { 0 < count }
+    requires few { count ≤ 64 }
+    ensures at_unit { OnOk result (R.rules.at_unit units.new) }
+    ensures few { IfOk result (λ p. p.left ≤ 64) }
+    ensures done { IfOk result (λ p. Reads R.rules (AnyBitmap R.rules) (bitmap_seen p) units.old units.new) }
+    ensures stop { IfErr result (λ why. StopsCount R.rules count (R.rules.to_units units.old) why) }
+    ensures unchanged { OnErr result (units.new ≡ units.old) }
+{
+    let mut ahead = units.copied();
+    match R::read_addition_bitmap(count, &mut ahead) {
+        Ok(bitmap) => {
+            *units = ahead;
+            Ok(PresenceBits {
+                bitmap,
+                left: count,
+            })
+        }
+        Err(stop) => Err(stop),
+    }
+}

@@ -4,10 +4,10 @@ use Rattle.std.proofs.lemmas.Bool.{cases_lt}
 use Rattle.asn_rules.specs.Chunks.{Chunk}
 use Rattle.asn_rules.specs.Languages.{Spells, NoSpelling}
 use Rattle.asn_rules.specs.Stops.{Stops}
-use Rattle.asn_rules.specs.declared.stop.Stop.{Stop}
+use Rattle.asn_rules.specs.declared.fault.Why.{Why}
 use Rattle.asn_rules.specs.declared.stop.Stop.TheVariants as stop
 use Rattle.asn_walk.specs.Coding.{Coding, AdditionBitmapOf, fields_of_rules}
-use Rattle.asn_newer.specs.Bitmaps.{NotOfCount, StopsCount}
+use Rattle.asn_newer.specs.Bitmaps.{NotOfCount}
 use Rattle.asn_newer.specs.Halting.{Halts}
 use Rattle.asn_newer.specs.Loose.{AnyBitmap}
 use Rattle.asn_newer.specs.declared.halt.Halt.{Halt}
@@ -27,10 +27,11 @@ of_count : (c : Coding) (n m : ℕ) (us rest : List ℕ) → Spells (fields_of_r
 of_count c n m us rest h = record { chunks = h.chunks; spelt = record { fits = (h.spelt.fits.some, h.spelt.fits.below); same = h.spelt.same }; contents = h.contents; split = h.split }
 
 -- where the reader of a count stops
-pub count_stops : (c : Coding) (n : ℕ) (us : List ℕ) (why : Stop) → Stops (fields_of_rules c) (AdditionBitmapOf c n) us why → StopsCount c n us why
-count_stops c n us (stop.Refused left why) h = record { told = λ m rest s. h.told.none m rest (of_count c n m us rest s) }
-count_stops c n us stop.Short h = record { told = λ m rest s. h.told.none m rest (of_count c n m us rest s) }
-count_stops c n us stop.Memory h = record { told = tt }
+pub not_of_refused : (c : Coding) (n : ℕ) (us : List ℕ) (left : ℕ) (why : Why) → Stops (fields_of_rules c) (AdditionBitmapOf c n) us (stop.Refused left why) → NotOfCount c n us
+not_of_refused c n us left why h m rest s = h.told.none m rest (of_count c n m us rest s)
+
+pub not_of_short : (c : Coding) (n : ℕ) (us : List ℕ) → Stops (fields_of_rules c) (AdditionBitmapOf c n) us stop.Short → NotOfCount c n us
+not_of_short c n us h m rest s = h.told.none m rest (of_count c n m us rest s)
 
 -- no bitmap is of no additions
 pub none_of_none : (c : Coding) (us : List ℕ) → NotOfCount c 0 us
@@ -39,6 +40,11 @@ none_of_none c us m rest h = absurd (omega (arith, h.spelt.fits.some, h.spelt.fi
 -- one count more
 pub none_further : (c : Coding) (n : ℕ) (us : List ℕ) → ((k : ℕ) → k < n → NotOfCount c k us) → NotOfCount c n us → (k : ℕ) → k < n + 1 → NotOfCount c k us
 none_further c n us before here k h = ⊎_elim (λ l. before k l) (λ l. (let e : n ≡ k = omega (arith, h, l) in subst (λ (i : ℕ). NotOfCount c i us) e here)) (cases_lt k n)
+
+-- no count is below 1
+pub before_one : (c : Coding) (us : List ℕ) (k : ℕ) → k < 1 → NotOfCount c k us
+before_one c us zero h = none_of_none c us
+before_one c us (suc k) h = absurd (omega (arith, h))
 
 -- all counts were tried
 pub none_of_all : (c : Coding) (us : List ℕ) → ((k : ℕ) → k < 65 → NotOfCount c k us) → NoSpelling (fields_of_rules c) (AnyBitmap c) us

@@ -1,8 +1,6 @@
 -- Presence bitmaps of extension additions, of any count.
-use Rattle.std.specs.Prelude.{ℕ, List, ⊤}
+use Rattle.std.specs.Prelude.{ℕ, List}
 use Rattle.asn_rules.specs.Languages.{Spells}
-use Rattle.asn_rules.specs.declared.stop.Stop.{Stop}
-use Rattle.asn_rules.specs.declared.stop.Stop.TheVariants as stop
 use Rattle.asn_walk.specs.Coding.{Coding, fields_of_rules}
 use Rattle.asn_walk.specs.declared.presence.PresenceBits.{PresenceBits}
 use Rattle.asn_newer.specs.Loose.{AnyBitmap}
@@ -14,11 +12,3 @@ bitmap_seen p = (p.left, p.bitmap)
 -- no presence bitmap of so many additions stands at the front
 abbrev pub NotOfCount : Coding → ℕ → List ℕ → Type 0
 NotOfCount c n us = (bitmap : ℕ) (rest : List ℕ) → Spells (fields_of_rules c) (AnyBitmap c) (n, bitmap) us rest → ⊥
-
-abbrev pub TellsCount : Coding → ℕ → List ℕ → Stop → Type 0
-TellsCount c n us stop.Memory = ⊤
-TellsCount c n us _ = NotOfCount c n us
-
--- a reader of a bitmap of so many additions stopped
-pub record StopsCount (c : Coding) (n : ℕ) (us : List ℕ) (why : Stop) : Type 0 where
-  pub told : TellsCount c n us why

@@ -15,34 +15,12 @@ use std::alloc::AllocError;
 const MOST_ADDITIONS: u32 = 64;
 
 /// Reads the presence bits of extension additions, of which one at least is present: as many as the sender's type has,
-/// from 1 to 64. Those of `expected` additions are tried first.
+/// from 1 to 64.
 ///
 /// # Errors
-/// `TooMany` where no such count can begin so. `Short` where the presence bits of such a count may still follow, else
-/// `Refused`; of both, which one it is, is not promised.
-pub fn read_any_bitmap<R: ReadLeaves>(
-    expected: u32,
-    units: &mut BitCursor<'_>,
-) -> Result<PresenceBits, Halt>
-    requires at_unit { R.rules.at_unit units.old }
-    ensures at_unit { OnOk result (R.rules.at_unit units.new) }
-    ensures few { IfOk result (λ p. p.left ≤ 64) }
-    ensures done { IfOk result (λ p. Reads R.rules (AnyBitmap R.rules) (bitmap_seen p) units.old units.new) }
-    ensures stop { IfErr result (λ why. HaltsAt R.rules (AnyBitmap R.rules) units.old why) }
-{
-    let all = R::units_left(units);
-    let mut why = Halt::TooMany;
-    if 0 < expected && expected <= MOST_ADDITIONS {
-        if let Ok(Some(presence)) = try_count::<R>(expected, all, &mut why, units) {
-            return Ok(presence);
-        }
-    }
-    try_counts::<R>(units)
-}
-
-/// The same, one count after the other.
-#[cold]
-fn try_counts<R: ReadLeaves>(units: &mut BitCursor<'_>) -> Result<PresenceBits, Halt>
+/// `Memory` where memory was wanting; else no such bits stand there, of any count. `TooMany` tells that no such count
+/// begins so, `Short` that the bits of one may still follow, `Refused` the rest: which of the three is not promised.
+pub fn read_any_bitmap<R: ReadLeaves>(units: &mut BitCursor<'_>) -> Result<PresenceBits, Halt>
     requires at_unit { R.rules.at_unit units.old }
     ensures at_unit { OnOk result (R.rules.at_unit units.new) }
     ensures few { IfOk result (λ p. p.left ≤ 64) }

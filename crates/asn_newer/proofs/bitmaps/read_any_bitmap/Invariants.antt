@@ -1,6 +1,6 @@
 use Rattle.std.proofs.Common.{◌≡◌, ◌<◌, ℕ}
 use Rattle.asn_newer.specs.Bitmaps.{NotOfCount}
-use Rattle.asn_newer.proofs.bitmaps.try_counts.Given as goal
+use Rattle.asn_newer.proofs.bitmaps.read_any_bitmap.Given as goal
 
 abbrev pub invariant-loop-count : goal.invariant-loop-count
 invariant-loop-count g l =

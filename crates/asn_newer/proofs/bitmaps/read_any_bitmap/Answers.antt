@@ -8,7 +8,7 @@ loop-count-init g c = (refl, before_one g.R.ReadLeaves.rules (g.R.ReadLeaves.rul
 
 pub loop-count-preserved : goal.loop-count-preserved
 loop-count-preserved g c =
-    let none = subst (λ (o : Option PresenceBits). IsNone o) (sym c.in-Ok-None.field-0-is) tt in
+    let none = subst (λ (o : Option PresenceBits). IsNone o) (sym c.in-Ok-None.field-0-is) refl in
     let here = rw c.loop-count.invariant.0 at (c.in-Ok-None.ensures.none none) in
     (c.in-Ok-None.ensures.unchanged none ∙ c.loop-count.invariant.0, none_further g.R.ReadLeaves.rules c.loop-count.count (g.R.ReadLeaves.rules.to_units c.args.units.now) c.loop-count.invariant.1 here)
 

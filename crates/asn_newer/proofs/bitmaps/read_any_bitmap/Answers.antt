@@ -1,4 +1,4 @@
-use Rattle.std.proofs.Common.{◌≡◌, ◌<◌, ◌∙◌, ℕ, Option, IsNone, refl, sym, subst, arith}
+use Rattle.std.proofs.Common.{◌∙◌, Option, IsNone, refl, sym, subst, arith}
 use Rattle.asn_walk.specs.declared.presence.PresenceBits.{PresenceBits}
 use Rattle.asn_newer.proofs.AnyBitmaps.{before_one, none_further, none_of_all, halts}
 use Rattle.asn_newer.proofs.bitmaps.read_any_bitmap.Goals as goal

@@ -1,4 +1,3 @@
-use Rattle.std.proofs.Common.{◌≡◌, ℕ}
 use Rattle.asn_newer.proofs.AnyBitmaps.{not_of_refused, not_of_short}
 use Rattle.asn_newer.proofs.bitmaps.try_count.Goals as goal
 

@@ -85,6 +85,11 @@ field_read os f k r m n v e l i =
     ap (drop f) all ∙ field_left f k r n rest ∙ ap (λ t. t ++ (bits r n ++ rest)) here
     ∙ ap (λ t. bits k v ++ t) (sym (field_passed f k r n rest) ∙ ap (drop (f + k)) (sym all))
 
+-- one octet as a number
+pub octets_one : (os : List ℕ) (o : ℕ) → o < 256 → 0 < length os → o ≡ get_or os 0 0 → octets 1 o ≡ take 1 os
+octets_one [] o h l e = absurd (omega arith)
+octets_one (p ∷ os) o h l e = ap (λ t. t ∷ []) (omega (arith, e))
+
 -- one octet more
 pub octets_next : (xs : List ℕ) (i n o : ℕ) → octets i n ≡ xs → o < 256 → octets (i + 1) (n * 256 + o) ≡ xs ++ o ∷ []
 octets_next xs i n o e h =

@@ -209,12 +209,34 @@ fn number_at(octets: &[u8], offset: u32, k: u32) -> u64
             return wide_field(front, 72 - end, k);
         }
     }
+    if let Some(n) = number_in_octet(octets, offset, k) {
+        return n;
+    }
     let count = (end + 7) / 8;
     wide_field(
         from_be_octets(&octets[..count as usize]),
         8 * count - end,
         k,
     )
+}
+
+// the number in the k bits after the first `offset`, where a bit is asked for and all stand in the first octet
+#[inline(always)]
+fn number_in_octet(octets: &[u8], offset: u32, k: u32) -> Option<u64>
+    requires begun { offset < 8 }
+    requires few { k ≤ 64 }
+    ensures fits { IfSome result (λ n. n < 2 ^ k) }
+    ensures here { IfSome result (λ n.
+        drop offset (unpacked octets.now) ≡ bits k n ++ drop (offset + k) (unpacked octets.now)) }
+{
+    let end = offset + k;
+    if k > 0
+        && end <= 8
+        && let Some(first) = octets.first()
+    {
+        return Some(field(u64::from(*first), 8 - end, k));
+    }
+    None
 }
 
 // the k bits of n above the last `below`

@@ -65,8 +65,23 @@ pub fn read_number(k: u32, set: NumberSet, why: Why, bits: &mut BitCursor<'_>) -
 {
     match try_number(k, set, bits) {
         Some(n) => Ok(n),
-        None => read_number_by_bits(k, intervals_of(set), why, bits),
+        None => read_set_by_bits(k, set, why, bits),
     }
+}
+
+/// Reads a number of the set in `k` bits, bit by bit. A function apart, so that the intervals of the set take no part of
+/// the frame of those that read numbers.
+#[cold]
+#[inline(never)]
+fn read_set_by_bits(k: u32, set: NumberSet, why: Why, bits: &mut BitCursor<'_>) -> Result<u64, Stop>
+    requires many { 1 ≤ k }
+    requires few { k ≤ 64 }
+    requires some { Meets (λ n. Admits set n) 0 k }
+    ensures done { ReadsPlain (NumberIn k set) result bits.old bits.new }
+    ensures member { IfOk result (λ n. Admits set n) }
+    ensures stop { StopsPlain (NumberIn k set) result bits.old }
+{
+    read_number_by_bits(k, intervals_of(set), why, bits)
 }
 
 /// Reads a number from 0 to `high` in `k` bits, as `read_number` does.

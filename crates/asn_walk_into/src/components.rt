@@ -19,6 +19,7 @@ use asn_walk_read::try_bounded;
 use std::alloc::Global;
 
 /// Reads the root of a SEQUENCE: what stands before its components, and these. Gives the extension bit.
+#[inline(always)]
 #[cycle(reader)]
 pub(crate) fn read_root_into<R: ReadLeaves>(
     alloc: Global,

@@ -1,0 +1,16 @@
+-- The numbers of the set are those of its intervals.
+use Rattle.std.proofs.lemmas.Result.{IfOk-weaker, IfErr-weaker}
+use Rattle.asn_rules.proofs.Forks.{same_spells}
+use Rattle.asn_rules.proofs.Leads.{leads_same, stops_by}
+use Rattle.asn_rules.proofs.NumberSets.{same_set}
+use Rattle.asn_rules.proofs.number_reader.read_set_by_bits.Goals as goal
+
+pub returns-clause-stop : goal.returns-clause-stop
+returns-clause-stop c R =
+    let same = same_set 2 c.args.k c.intervals_of.ensures.back c.intervals_of.ensures.there in
+    IfErr-weaker c.read_number_by_bits.result _ _ (λ why s. stops_by why (leads_same R c.args.bits.now same).stops s) (c.read_number_by_bits.ensures.stop R)
+
+pub returns-clause-done : goal.returns-clause-done
+returns-clause-done c R =
+    let same = same_set 2 c.args.k c.intervals_of.ensures.back c.intervals_of.ensures.there in
+    IfOk-weaker c.read_number_by_bits.result _ _ (λ n s. same_spells same s) (c.read_number_by_bits.ensures.done R)

@@ -8,3 +8,4 @@ pub mod OneReading
 pub mod ItemWays
 pub mod PerWays
 pub mod OerWays
+pub mod AnyBitmaps

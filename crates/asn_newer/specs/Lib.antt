@@ -5,3 +5,5 @@ pub mod NewerLaws
 pub mod Ways
 pub mod Rules
 pub mod Examples
+pub mod Halting
+pub mod Bitmaps

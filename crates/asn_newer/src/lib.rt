@@ -1,6 +1,10 @@
 //! Messages of newer and older senders: what a receiver reads of them whose type has fewer or more extension additions.
 #![tactic(auto)]
 
+mod bitmaps;
+mod halt;
 mod laws;
 
+pub use bitmaps::read_any_bitmap;
+pub use halt::Halt;
 pub use laws::{OtherVersions, version_laws};

@@ -1,0 +1,48 @@
+//! Why a reader of messages of newer and older senders gave no value.
+ghost use Rattle.std.specs.Prelude.{◌≡◌};
+ghost use Rattle.asn_newer.specs.Halting.{halt_of};
+ghost use Rattle.asn_newer.specs.declared.halt.Halt.TheVariants.{Memory};
+
+use asn_rules::Stop;
+use std::alloc::{AllocError, AllocFailed};
+
+/// Why a reader gave no value.
+#[derive(Clone, Copy, Debug, PartialEq, Eq)]
+pub enum Halt {
+    /// No message of any version begins so.
+    Refused,
+    /// The units end before a message does.
+    Short,
+    /// A count of extension additions past the profile.
+    TooMany,
+    /// An allocation failed.
+    Memory,
+}
+
+impl From<Stop> for Halt {
+    ghost from_gives = { λ s e. e ≡ halt_of s };
+
+    fn from(stop: Stop) -> Halt {
+        match stop {
+            Stop::Refused { .. } => Halt::Refused,
+            Stop::Short => Halt::Short,
+            Stop::Memory => Halt::Memory,
+        }
+    }
+}
+
+impl From<AllocError> for Halt {
+    ghost from_gives = { λ _ e. e ≡ Memory };
+
+    fn from(_: AllocError) -> Halt {
+        Halt::Memory
+    }
+}
+
+impl<T: Drop> From<AllocFailed<T>> for Halt {
+    ghost from_gives = { λ _ e. e ≡ Memory };
+
+    fn from(_: AllocFailed<T>) -> Halt {
+        Halt::Memory
+    }
+}

@@ -3,3 +3,8 @@ pub mod Flipped
 pub mod Itself
 pub mod PerParts
 pub mod OerParts
+pub mod OneWay
+pub mod OneReading
+pub mod ItemWays
+pub mod PerWays
+pub mod OerWays

@@ -1,5 +1,5 @@
 -- What OER says of the parts.
-use Rattle.std.proofs.Common.{◌≡◌, ◌+◌, ◌-◌, ◌<◌, ◌≤◌, ℕ, zero, suc, ℤ, pos, Bool, true, false, not, nat_lt, IsTrue, List, [], ◌∷◌, ◌++◌, length, length-append, refl, sym, ap, subst, ◌∙◌, arith, inl, inr}
+use Rattle.std.proofs.Common.{◌≡◌, ◌+◌, ◌-◌, ◌<◌, ◌≤◌, ℕ, zero, suc, ℤ, Bool, true, false, not, nat_lt, IsTrue, List, [], ◌∷◌, ◌++◌, length, length-append, refl, sym, ap, subst, ◌∙◌, arith, inl, inr}
 use Rattle.std.proofs.lemmas.Bool.{ltb-true, ltb-false, and_parts, or_parts, not-false}
 use Rattle.std.proofs.lemmas.List.{append-nil}
 use Rattle.std.specs.List.{AllByRecursion, list_all, list_any}
@@ -12,7 +12,9 @@ use Rattle.asn_rules.specs.Chunks.{open_field, ones, flat}
 use Rattle.asn_rules.specs.Components.{number_at}
 use Rattle.asn_rules.specs.Laws.{AreOctets}
 use Rattle.asn_rules.proofs.Items.{numbers, good_items}
+use Rattle.asn_walk.specs.Laws.{Laws}
 use Rattle.asn_walk.specs.WriteLaws.{WriteLaws}
+use Rattle.asn_oer.proofs.WalkLaws.{oer_laws}
 use Rattle.asn_oer.specs.Oer.{spelled, oer, item_number}
 use Rattle.asn_oer.specs.Rules.{oer_ruling}
 use Rattle.asn_oer.specs.Walk.{oer_coding}
@@ -24,6 +26,10 @@ use Rattle.asn_newer.specs.Loose.{AnyItem}
 use Rattle.asn_newer.specs.Versions.{LabelVersions, item_received}
 use Rattle.asn_newer.specs.NewerLaws.{PartLaws}
 use Rattle.asn_newer.specs.Rules.{oer_loose}
+
+oer_walk_laws : Laws oer_loose.coding
+unfolding oer_loose
+oer_walk_laws = oer_laws
 
 oer_writes : WriteLaws oer_loose.coding
 unfolding oer_loose
@@ -127,4 +133,4 @@ oer_items a b root ls more p h w f = go (nat_lt p (length root + length more)) r
         })
 
 pub oer_part_laws : PartLaws oer_loose
-oer_part_laws = record { writes = oer_writes; filled = oer_filled; octets = oer_octets; some = oer_some; items = oer_items }
+oer_part_laws = record { laws = oer_walk_laws; writes = oer_writes; filled = oer_filled; octets = oer_octets; some = oer_some; items = oer_items }

@@ -1,14 +1,16 @@
 -- What PER says of the parts.
-use Rattle.std.proofs.Common.{◌≡◌, ◌≢◌, ◌+◌, ◌-◌, ◌<◌, ◌≤◌, ℕ, zero, suc, pos, Bool, true, false, nat_lt, List, [], ◌∷◌, ◌++◌, length, refl, sym, ap, subst, ◌∙◌, arith, inl, inr}
+use Rattle.std.proofs.Common.{◌≡◌, ◌≢◌, ◌+◌, ◌-◌, ◌<◌, ◌≤◌, ℕ, pos, Bool, true, false, nat_lt, List, [], ◌∷◌, ◌++◌, length, refl, sym, ap, ◌∙◌, arith, inl, inr}
 use Rattle.std.proofs.lemmas.Bool.{ltb-true, ltb-false}
 use Rattle.asn_values.specs.Datum.{Datum, item}
 use Rattle.asn_values.specs.Shape.{Shape, enumerated, Label, marked_labels}
 use Rattle.asn_values.specs.Fits.{Fits}
 use Rattle.asn_values.specs.Profile.{InProfile}
-use Rattle.asn_bits.specs.Numbers.{packed, unpacked}
+use Rattle.asn_bits.specs.Numbers.{unpacked}
 use Rattle.asn_rules.specs.Chunks.{open_field, ones, flat}
 use Rattle.asn_rules.specs.Laws.{AreOctets}
+use Rattle.asn_walk.specs.Laws.{Laws}
 use Rattle.asn_walk.specs.WriteLaws.{WriteLaws}
+use Rattle.asn_per.proofs.WalkLaws.{per_laws}
 use Rattle.asn_per.specs.Per.{per, complete, constrained, rank, small, behind_mark}
 use Rattle.asn_per.specs.Rules.{per_ruling}
 use Rattle.asn_per.specs.Walk.{per_coding}
@@ -23,6 +25,10 @@ use Rattle.asn_newer.specs.Loose.{AnyItem}
 use Rattle.asn_newer.specs.Versions.{LabelVersions, item_received}
 use Rattle.asn_newer.specs.NewerLaws.{PartLaws}
 use Rattle.asn_newer.specs.Rules.{per_loose}
+
+per_walk_laws : Laws per_loose.coding
+unfolding per_loose
+per_walk_laws = per_laws
 
 per_writes : WriteLaws per_loose.coding
 unfolding per_loose
@@ -83,4 +89,4 @@ per_items a b root ls more p good w f = go (nat_lt p (length root + length more)
         })
 
 pub per_part_laws : PartLaws per_loose
-per_part_laws = record { writes = per_writes; filled = per_filled; octets = per_octets; some = per_some; items = per_items }
+per_part_laws = record { laws = per_walk_laws; writes = per_writes; filled = per_filled; octets = per_octets; some = per_some; items = per_items }

@@ -1,30 +1,34 @@
 -- What a canonical encoding is read as by another version of its type: as `received` says.
-use Rattle.std.proofs.Common.{◌≡◌, ◌+◌, ◌-◌, ◌*◌, ◌^◌, ◌<◌, ◌≤◌, ℕ, zero, suc, Bool, true, false, not, IsTrue, nat_lt, MatchBool, List, [], ◌∷◌, ◌++◌, length, map, take, drop, Option, None, Some, is_some, refl, sym, ap, subst, ◌∙◌, arith, append_assoc, inl, inr}
+use Rattle.std.proofs.Common.{◌≡◌, ◌+◌, ◌-◌, ◌*◌, ◌<◌, ◌≤◌, ℕ, zero, suc, Bool, true, false, not, IsTrue, nat_lt, MatchBool, List, [], ◌∷◌, ◌++◌, length, map, take, drop, Option, None, Some, is_some, refl, sym, ap, subst, ◌∙◌, arith, append_assoc, inl, inr}
 use Rattle.std.proofs.lemmas.Bool.{true≢false, ltb-true, ltb-false}
-use Rattle.std.proofs.lemmas.List.{length-map}
-use Rattle.std.specs.List.{AllByRecursion, list_all}
-use Rattle.asn_values.specs.Datum.{Datum, truth, nothing, number, item, components, component_list, elements, element_list, alternative}
-use Rattle.asn_values.specs.Shape.{SizeRange, Shape, boolean, null, integer, enumerated, bit_string, octet_string, restricted, utf8_string, sequence, sequence_of, choice, Label, closed_labels, marked_labels, Demand, must, optional, default, demands, Fields, no_fields, field, MoreFields, closed, marked, is_marked, more_fields, Alternatives, no_alternatives, one_of, MoreAlternatives, closed_choice, marked_choice, is_marked_choice, more_alternatives, count}
-use Rattle.asn_values.specs.Fits.{Fits, FitsEach, FitsMore, FitsAlternative, FitsMoreAlternatives, FitsLength}
+use Rattle.std.proofs.lemmas.List.{map-append}
+use Rattle.std.specs.List.{list_all}
+use Rattle.asn_values.specs.Datum.{Datum, item, components, component_list, Elements, elements, element_list, elements_of, alternative}
+use Rattle.asn_values.specs.Shape.{SizeRange, Shape, boolean, null, integer, enumerated, bit_string, octet_string, restricted, utf8_string, sequence, sequence_of, choice, Label, closed_labels, marked_labels, Demand, must, optional, default, demands, Fields, no_fields, field, MoreFields, closed, marked, is_marked, Alternatives, no_alternatives, one_of, MoreAlternatives, closed_choice, marked_choice, is_marked_choice, more_alternatives, count}
+use Rattle.asn_values.specs.Fits.{Fits, FitsEach, FitsMore, FitsAlternative, FitsMoreAlternatives}
 use Rattle.asn_values.specs.Parts.{AreOfProfile, AreAllOfProfile}
-use Rattle.asn_values.specs.Profile.{InProfile, good_default, is_optional, most_alternatives, most_additions, TooMany, too_many_here, somewhere}
+use Rattle.asn_values.specs.Profile.{InProfile, good_default, is_optional, most_additions, TooMany, too_many_here, somewhere}
 use Rattle.asn_values.proofs.InnerTypes.{element_of_profile, root_alternatives_of_profile, added_alternatives_of_profile, additions_optional, additions_of_profile}
 use Rattle.asn_values.proofs.Parts.{components_of_profile, left_false, right_false}
 use Rattle.asn_bits.specs.Numbers.{bits}
-use Rattle.asn_bits.specs.Sets.{IsBits, weighted}
+use Rattle.asn_bits.specs.Sets.{weighted}
 use Rattle.asn_bits.proofs.Weights.{bits_only}
-use Rattle.asn_rules.specs.Chunks.{Chunk, ones, flat}
+use Rattle.asn_rules.specs.Chunks.{Chunk, ones}
 use Rattle.asn_rules.specs.Components.{is_default, presence, any_present, extension_bit, bit_of}
-use Rattle.asn_rules.specs.Listed.{bitmap_length}
+use Rattle.asn_bits.specs.Ranges.{Spanned, At}
+use Rattle.asn_rules.specs.General.{Length, last, fragment, Left, Body, Within}
+use Rattle.asn_rules.specs.Languages.{Row}
+use Rattle.asn_rules.specs.Listed.{Spelt, bitmap_length}
 use Rattle.asn_rules.proofs.Entries.{presence_bits, default_is}
-use Rattle.asn_walk.specs.Coding.{CanExtend, IsIndexWithin, absent_entries}
+use Rattle.asn_walk.specs.Ahead.{Ahead, items, lengths, end, Remaining}
+use Rattle.asn_walk.specs.Coding.{Coding, ListingOf, CanExtend, IsIndexWithin, absent_entries}
 use Rattle.asn_walk.specs.Composites.{in_open_field, each_code, open_code, more_code, alternative_code, added_code, choice_parts}
 use Rattle.asn_per.proofs.AdditionLanguages.{bits_of_some}
 use Rattle.asn_per.proofs.ChoiceLanguages.{few_choices}
 use Rattle.asn_per.proofs.SequenceLanguage.{presence_length}
-use Rattle.asn_newer.specs.Skipped.{Skipped, Reading, Entries, nothing_skipped, entry_read, entry_left, list_read, alternative_read}
-use Rattle.asn_newer.specs.Loose.{LooseCoding, IsLoose, AllSpelt, Complete, Unknown, additions_to_come, alternatives_to_come, Loose, LooseEach, LooseMore, LooseOpen, LooseRoot, LooseOther, LooseAdded}
-use Rattle.asn_newer.specs.Versions.{Versions, MoreLabelVersions, FieldVersions, MoreVersions, AddedVersions, AlternativeVersions, MoreChoiceVersions, AddedAlternatives, received, entries_received, more_received, added_received, root_received, other_received, addition_received, unknown}
+use Rattle.asn_newer.specs.Skipped.{Reading, Entries, nothing_skipped, entry_read, entry_left, list_read}
+use Rattle.asn_newer.specs.Loose.{LooseCoding, IsLoose, Complete, Unknown, additions_to_come, alternatives_to_come, Loose, LooseEach, LooseMore, LooseOpen, LooseRoot, LooseOther, LooseAdded}
+use Rattle.asn_newer.specs.Versions.{Versions, FieldVersions, MoreVersions, AddedVersions, AlternativeVersions, MoreChoiceVersions, AddedAlternatives, received, entries_received, more_received, added_received, root_received, other_received, addition_received, unknown}
 use Rattle.asn_newer.specs.NewerLaws.{PartLaws, Encodes}
 
 -- ---- what versions have in common
@@ -88,13 +92,69 @@ none_received l place a b (field name demand t fs) no_fields (None ∷ es) w f e
     go (field name demand t fs) (None ∷ es) f e k = go fs es f.1 e (suc k)
 none_received l place a b (field name demand t fs) (field other need u gs) (None ∷ es) w f e = ap (entry_left None) (none_received l (suc place) a b fs gs es w.3 f.1 e)
 
-module _ (l : LooseCoding) (h : PartLaws l) (a b : Bool) where
-  -- each element
-  all_spelt : (t u : Shape) → ((d : Datum) → Fits t d → Loose l u (received l t u d) (l.coding.code t d)) → (ds : List Datum) → AllByRecursion (λ d. Fits t d) ds
-      → AllSpelt (Loose l u) (map (λ d. received l t u d) ds) (map (λ d. l.coding.code t d) ds)
-  all_spelt t u each [] f = tt
-  all_spelt t u each (d ∷ ds) f = (each d f.0, all_spelt t u each ds f.1)
+-- ---- lists
 
+module _ {A B : Type 0} (L : A → List Chunk → Type 0) (M : B → List Chunk → Type 0) (f : A → B) (each : (a : A) (cs : List Chunk) → L a cs → M (f a) cs) where
+  row_map : (n : ℕ) (vs : List A) (cs : List Chunk) → Row L n vs cs → Row M n (map f vs) cs
+  row_map zero vs cs h = record { same = ap (map f) h.same; empty = h.empty }
+  row_map (suc n) vs cs h =
+      let t = h.spelt in
+      record {
+        source = (f h.source.0, map f h.source.1);
+        spelt = record { first = t.first; second = t.second; spelt = each h.source.0 t.first t.spelt; follows = row_map n h.source.1 t.second t.follows; whole = t.whole };
+        seen = ap (map f) h.seen;
+      }
+
+  body_map : (n : ℕ) (S : ℕ → Type 0) → ((m : ℕ) (vs : List A) (cs : List Chunk) → Within L n (Left S m) vs cs → Within M n (Left S m) (map f vs) cs)
+      → (k : Length) (vs : List A) (cs : List Chunk) → Body L (Within L n) S k vs cs → Body M (Within M n) S k (map f vs) cs
+  body_map n S again (last k) vs cs h = row_map k vs cs h
+  body_map n S again (fragment m) vs cs h =
+      let t = h.spelt in
+      record {
+        source = (map f h.source.0, map f h.source.1);
+        spelt = record { first = t.first; second = t.second; spelt = row_map (16384 * m) h.source.0 t.first t.spelt; follows = again m h.source.1 t.second t.follows; whole = t.whole };
+        seen = ap (map f) h.seen ∙ map-append f h.source.0 h.source.1;
+      }
+
+  within_map : (n : ℕ) (S : ℕ → Type 0) (vs : List A) (cs : List Chunk) → Within L n S vs cs → Within M n S (map f vs) cs
+  within_map zero S vs cs h = absurd h
+  within_map (suc n) S vs cs h =
+      let t = h.spelt in
+      record {
+        source = (h.source.0, map f h.source.1);
+        spelt = record { first = t.first; second = t.second; spelt = t.spelt; follows = body_map n S (λ m ws ds g. within_map n (Left S m) ws ds g) h.source.0 h.source.1 t.second t.follows; whole = t.whole };
+        seen = ap (map f) h.seen;
+      }
+
+  remaining_map : (a : Ahead) (vs : List A) (cs : List Chunk) → Remaining L a vs cs → Remaining M a (map f vs) cs
+  remaining_map (items n) vs cs h = row_map n vs cs h
+  remaining_map (lengths is come ended) vs cs h = record { lengths = h.lengths; spelt = within_map h.lengths (At (Spanned is) come ended) vs cs h.spelt }
+  remaining_map end vs cs h = record { same = ap (map f) h.same; empty = h.empty }
+
+-- a list, where each item is read as another
+listing_map : {A B : Type 0} (L : A → List Chunk → Type 0) (M : B → List Chunk → Type 0) (c : Coding) (s : SizeRange) (f : A → B) → ((a : A) (cs : List Chunk) → L a cs → M (f a) cs)
+    → (vs : List A) (cs : List Chunk) → ListingOf c s L vs cs → ListingOf c s M (map f vs) cs
+listing_map L M c s f each vs cs h =
+    let t = h.spelt in
+    record {
+      source = (h.source.0, map f h.source.1);
+      spelt = record { first = t.first; second = t.second; spelt = t.spelt; follows = remaining_map L M f each h.source.0 h.source.1 t.second t.follows; whole = t.whole };
+      seen = ap (map f) h.seen;
+    }
+
+-- the elements of a list
+listed : (ds : List Datum) → element_list (elements_of ds) ≡ ds
+listed [] = refl
+listed (d ∷ ds) = ap (λ (l : List Datum). d ∷ l) (listed ds)
+
+same_elements : (es : Elements) (ds : List Datum) → elements es ≡ elements (elements_of ds) → ds ≡ element_list es
+same_elements es ds e = sym (listed ds) ∙ ap listed_of (sym e)
+  where
+    listed_of : Datum → List Datum
+    listed_of (elements x) = element_list x
+    listed_of _ = []
+
+module _ (l : LooseCoding) (h : PartLaws l) (a b : Bool) where
   -- the content of an open type field
   complete : (t u : Shape) (d : Datum) → InProfile t → Fits t d → Loose l u (received l t u d) (l.coding.code t d) → Complete l.coding (Loose l u) (received l t u d) (l.coding.complete (l.coding.code t d))
   complete t u d good f r = record { octets = h.octets t d good f; chunks = l.coding.code t d; spelt = r; units = h.writes.complete t d good f ∙ h.filled t d good f }
@@ -281,16 +341,11 @@ module _ (l : LooseCoding) (h : PartLaws l) (a b : Bool) where
         }
     reads (sequence root more) (sequence roots mores) _ good w f = absurd f
     reads (sequence root more) _ v good w f = absurd w
-    reads (sequence_of t s) (sequence_of u z) (elements ds) good w f = record {
-      source = map (λ d. received l t u d) (element_list ds);
-      spelt = record {
-        each = map (λ d. l.coding.code t d) (element_list ds);
-        spelt = all_spelt t u (λ d g. reads t u d (element_of_profile t s good) w.0 g) (element_list ds) f.1;
-        length = subst (λ (x : SizeRange). FitsLength x (length (map (λ d. received l t u d) (element_list ds)))) w.1 (subst (FitsLength s) (sym (length-map (element_list ds) (λ d. received l t u d))) f.0);
-        whole = h.writes.lists t s ds ∙ ap (λ (x : SizeRange). l.coding.sized x (map (λ d. l.coding.code t d) (element_list ds))) w.1;
-      };
-      seen = refl;
-    }
+    reads (sequence_of t s) (sequence_of u z) (elements ds) good w f =
+        let there = (h.laws.lists t s good).from (elements ds) (l.coding.code (sequence_of t s) (elements ds)) (record { fits = (f, tt); same = refl }) in
+        let ours = subst (λ (x : SizeRange). ListingOf l.coding x (Loose l u) (map (λ d. received l t u d) there.source) (l.coding.code (sequence_of t s) (elements ds))) w.1
+        (listing_map (Spelt l.coding.code None t) (Loose l u) l.coding s (λ d. received l t u d) (λ d cs k. subst (λ (x : List Chunk). Loose l u (received l t u d) x) (sym k.same) (reads t u d (element_of_profile t s good) w.0 k.fits.0)) there.source (l.coding.code (sequence_of t s) (elements ds)) there.spelt) in
+        record { source = map (λ d. received l t u d) there.source; spelt = ours; seen = ap (λ (es : List Datum). list_read (map (λ d. received l t u d) es)) (sym (same_elements ds there.source there.seen)) }
     reads (sequence_of t s) (sequence_of u z) _ good w f = absurd f
     reads (sequence_of t s) _ v good w f = absurd w
     reads (choice root more) (choice roots mores) (alternative tag d) good w f =

@@ -1,6 +1,6 @@
 -- What receivers make of values of other versions of their types, worked out.
-use Rattle.std.specs.Prelude.{◌≡◌, pos, true, false, [], ◌∷◌, Some, None, refl, codes}
-use Rattle.asn_values.specs.Datum.{truth, number, components, components_of}
+use Rattle.std.specs.Prelude.{◌≡◌, pos, true, [], ◌∷◌, Some, None, refl, codes}
+use Rattle.asn_values.specs.Datum.{truth, number}
 use Rattle.asn_values.specs.Shape.{Shape, boolean, integer, sequence, no_fields, marked}
 use Rattle.asn_values.specs.ExampleTypes.{hex, between, entries, component, optional_component}
 use Rattle.asn_oer.specs.Walk.{oer_coding}

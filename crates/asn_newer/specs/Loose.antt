@@ -1,12 +1,11 @@
 -- Messages as a receiver takes them that may be older or newer than the sender: an encoding, with three more clauses.
 -- A SEQUENCE may count fewer additions than its type has, or more; a CHOICE may have an alternative and an ENUMERATED
 -- an item that its type has not. All three only where the type has an extension mark.
-use Rattle.std.specs.Prelude.{◌≡◌, ◌-◌, ◌+◌, ◌^◌, ◌<◌, ◌≤◌, ◌⊎◌, ℕ, zero, suc, ℤ, Bool, true, false, List, [], ◌∷◌, ◌++◌, length, Option, Some, None, ⊤}
+use Rattle.std.specs.Prelude.{◌≡◌, ◌-◌, ◌+◌, ◌^◌, ◌<◌, ◌≤◌, ◌⊎◌, ℕ, zero, suc, ℤ, Bool, true, false, List, [], ◌∷◌, ◌++◌, length, Option, Some, None}
 use mathlib.Core.Logic.{inl, inr}
 use Rattle.std.specs.List.{AllByRecursion}
 use Rattle.asn_values.specs.Datum.{Datum}
-use Rattle.asn_values.specs.Shape.{SizeRange, Shape, boolean, null, integer, enumerated, bit_string, octet_string, restricted, utf8_string, sequence, sequence_of, choice, Label, closed_labels, marked_labels, must, optional, default, Fields, no_fields, field, MoreFields, closed, marked, Alternatives, no_alternatives, one_of, MoreAlternatives, closed_choice, marked_choice, count}
-use Rattle.asn_values.specs.Fits.{FitsLength}
+use Rattle.asn_values.specs.Shape.{Shape, boolean, null, integer, enumerated, bit_string, octet_string, restricted, utf8_string, sequence, sequence_of, choice, Label, closed_labels, marked_labels, must, optional, default, Fields, no_fields, field, MoreFields, closed, marked, Alternatives, no_alternatives, one_of, MoreAlternatives, closed_choice, marked_choice, count}
 use Rattle.asn_values.specs.Profile.{most_additions, most_alternatives}
 use Rattle.asn_bits.specs.Numbers.{bits}
 use Rattle.asn_rules.specs.Chunks.{Chunk, open_field, ones, flat}
@@ -14,7 +13,7 @@ use Rattle.asn_rules.specs.General.{behind_first}
 use Rattle.asn_rules.specs.Languages.{Then, Map, Nothing, Sealed}
 use Rattle.asn_rules.specs.Listed.{Spelt, bitmap_length}
 use Rattle.asn_rules.specs.Spellings.{SpelledBy}
-use Rattle.asn_walk.specs.Coding.{Coding, PreambleOf, IndexOf, absent_entries}
+use Rattle.asn_walk.specs.Coding.{Coding, PreambleOf, ListingOf, IndexOf, absent_entries}
 use Rattle.asn_newer.specs.Skipped.{Skipped, Reading, Entries, nothing_skipped, entry_read, entry_left, sequence_read, list_read, alternative_read, alternative_skipped, item_skipped}
 
 -- what a set of encoding rules says of items that a type has not, beside what it says of the parts
@@ -91,20 +90,6 @@ AnyItem l root additions r cs =
     Map nothing_skipped (Spelt l.coding.code None (enumerated root (marked_labels additions))) r cs
     ⊎ Map item_skipped (SpelledBy (l.IsUnknown root additions) (λ z. ones (l.unknown_units z))) r cs
 
--- ---- lists under a size
-
--- each value has the spelling that stands in its place
-abbrev pub AllSpelt : {A : Type 0} → (A → List Chunk → Type 0) → List A → List (List Chunk) → Type 0
-AllSpelt L [] [] = ⊤
-AllSpelt L (v ∷ vs) (cs ∷ each) = L v cs × AllSpelt L vs each
-AllSpelt L _ _ = ⊥
-
-pub record Sized {A : Type 0} (c : Coding) (s : SizeRange) (L : A → List Chunk → Type 0) (vs : List A) (cs : List Chunk) : Type 0 where
-  pub each : List (List Chunk)
-  pub spelt : AllSpelt L vs each
-  pub length : FitsLength s (length vs)
-  pub whole : cs ≡ c.sized s each
-
 -- ---- all types
 
 abbrev mutual
@@ -114,7 +99,7 @@ abbrev mutual
   Loose l (sequence root more) =
       Map (λ p. sequence_read p.1) (Then (PreambleOf l.coding (bitmap_length root) (additions_to_come more))
       (λ p. Then (LooseEach l root (bits (bitmap_length root) p.1)) (λ _. LooseMore l more p.0)))
-  Loose l (sequence_of t s) = Map list_read (Sized l.coding s (Loose l t))
+  Loose l (sequence_of t s) = Map list_read (ListingOf l.coding s (Loose l t))
   Loose l (choice root more) = Map behind_first (Then (IndexOf l.coding (count root) (alternatives_to_come root more)) (by_index (λ i. LooseRoot l i root i) (λ i. LooseOther l (count root) more i)))
   Loose l boolean = Map nothing_skipped (Spelt l.coding.code None boolean)
   Loose l null = Map nothing_skipped (Spelt l.coding.code None null)

@@ -1,5 +1,5 @@
 -- The laws of messages that another version of the type reads.
-use Rattle.std.specs.Prelude.{◌≡◌, ◌+◌, ◌<◌, ◌≤◌, ◌++◌, Bool, true, false, ℕ, List, [], length}
+use Rattle.std.specs.Prelude.{◌≡◌, ◌+◌, ◌<◌, ◌≤◌, ◌++◌, Bool, ℕ, List, [], length}
 use Rattle.asn_values.specs.Datum.{Datum, item}
 use Rattle.asn_values.specs.Shape.{Shape, enumerated, Label, marked_labels}
 use Rattle.asn_values.specs.Fits.{Fits}
@@ -7,6 +7,7 @@ use Rattle.asn_values.specs.Profile.{InProfile}
 use Rattle.asn_rules.specs.Answer.{IsEncoding}
 use Rattle.asn_rules.specs.Chunks.{open_field, flat}
 use Rattle.asn_rules.specs.Laws.{AreOctets}
+use Rattle.asn_walk.specs.Laws.{Laws}
 use Rattle.asn_walk.specs.WriteLaws.{WriteLaws}
 use Rattle.asn_newer.specs.Loose.{LooseCoding, IsLoose, AnyItem}
 use Rattle.asn_newer.specs.Versions.{LabelVersions, Newer, AreVersions, item_received, received, cut, dropped, wide}
@@ -41,6 +42,7 @@ NewerReads l =
 
 -- what is said of the parts
 pub record PartLaws (l : LooseCoding) : Type 0 where
+  pub laws : Laws l.coding
   pub writes : WriteLaws l.coding
   -- a whole encoding is the spelling, and what fills it up
   pub filled : (t : Shape) (v : Datum) → InProfile t → Fits t v

@@ -1,5 +1,5 @@
 -- What PER and OER say of items that a type has not.
-use Rattle.std.specs.Prelude.{◌-◌, ◌+◌, ◌<◌, ◌≤◌, ℕ, ℤ, pos, negsuc, true, false, List, ◌∷◌, ◌++◌, length, IsTrue, IsFalse}
+use Rattle.std.specs.Prelude.{◌-◌, ◌<◌, ◌≤◌, ℤ, pos, negsuc, List, ◌∷◌, ◌++◌, length, IsTrue, IsFalse}
 use Rattle.std.specs.List.{AllByRecursion}
 use Rattle.std.specs.Int.RustNames.{int_lt}
 use Rattle.asn_values.specs.Shape.{Label}

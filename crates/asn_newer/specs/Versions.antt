@@ -1,7 +1,7 @@
 -- Versions of a type, and what a receiver that has one of them makes of a value of a sender that has another.
-use Rattle.std.specs.Prelude.{◌≡◌, ◌-◌, ◌+◌, ℕ, zero, suc, ℤ, Bool, true, false, List, [], ◌∷◌, map, length, take, drop, Option, Some, None, IsTrue, nat_lt, ⊤}
+use Rattle.std.specs.Prelude.{◌≡◌, ◌-◌, ◌+◌, ℕ, zero, suc, Bool, true, false, List, [], ◌∷◌, map, length, take, drop, Option, Some, None, IsTrue, nat_lt, ⊤}
 use Rattle.asn_values.specs.Datum.{Datum, item, components, component_list, elements, element_list, alternative}
-use Rattle.asn_values.specs.Shape.{Shape, boolean, null, integer, enumerated, bit_string, octet_string, restricted, utf8_string, sequence, sequence_of, choice, Label, MoreLabels, closed_labels, marked_labels, Fields, no_fields, field, MoreFields, closed, marked, demands, Alternatives, no_alternatives, one_of, MoreAlternatives, closed_choice, marked_choice, count}
+use Rattle.asn_values.specs.Shape.{Shape, enumerated, sequence, sequence_of, choice, Label, MoreLabels, closed_labels, marked_labels, Fields, no_fields, field, MoreFields, closed, marked, demands, Alternatives, no_alternatives, one_of, MoreAlternatives, closed_choice, marked_choice, count}
 use Rattle.asn_walk.specs.Coding.{Coding, absent_entries}
 use Rattle.asn_newer.specs.Skipped.{Skipped, Reading, Entries, nothing_skipped, entry_read, entry_left, sequence_read, list_read, alternative_read, alternative_skipped, item_skipped}
 use Rattle.asn_newer.specs.Loose.{LooseCoding}

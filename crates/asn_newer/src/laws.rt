@@ -2,6 +2,7 @@
 ghost use Rattle.asn_newer.specs.Loose.{LooseCoding};
 ghost use Rattle.asn_newer.specs.NewerLaws.{PartLaws, ReadsItself, ReadsVersions, OlderReads, NewerReads};
 ghost use Rattle.asn_newer.specs.Rules.{per_loose, oer_loose};
+ghost use Rattle.asn_newer.specs.Ways.{OneReading, WayLaws};
 
 use asn_oer::Oer;
 use asn_per::Per;
@@ -14,7 +15,8 @@ pub trait OtherVersions {
     /// The rules keep the laws from which those of `version_laws` follow. The call does nothing: its clause is what
     /// proofs cite.
     fn keep_version_laws()
-        ensures { PartLaws loose };
+        ensures parts { PartLaws loose }
+        ensures ways { WayLaws loose };
 }
 
 impl OtherVersions for Per {
@@ -37,11 +39,13 @@ impl OtherVersions for Oer {
 ///   and perhaps more, the canonical octets of the sender are read as `received` says.
 /// - `older_reads`: an older receiver reads `cut` of the value, and skips the `dropped` fields.
 /// - `newer_reads`: a newer receiver reads `wide` of the value, and skips nothing.
+/// - `one_way`: octets are read as one value, with one list of skipped fields, and none that are read begin others.
 pub fn version_laws<R: OtherVersions>()
     ensures reads_itself { ReadsItself R.loose }
     ensures reads_versions { ReadsVersions R.loose }
     ensures older_reads { OlderReads R.loose }
     ensures newer_reads { NewerReads R.loose }
+    ensures one_way { OneReading R.loose }
 {
     R::keep_version_laws();
 }

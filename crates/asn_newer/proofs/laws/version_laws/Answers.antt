@@ -4,21 +4,25 @@ use Rattle.asn_newer.specs.Loose.{IsLoose, Complete, Loose}
 use Rattle.asn_newer.specs.Versions.{received}
 use Rattle.asn_newer.proofs.Flipped.{flipped, skips_nothing}
 use Rattle.asn_newer.proofs.Itself.{same_version, itself}
+use Rattle.asn_newer.proofs.OneReading.{one_reading}
 use Rattle.asn_newer.proofs.Read.{message_read}
 use Rattle.asn_newer.proofs.laws.version_laws.Goals as goal
 
 pub returns-clause-reads_itself : goal.returns-clause-reads_itself
 returns-clause-reads_itself g c t v o p e =
     let l = g.R.OtherVersions.loose in
-    subst (λ (r : Reading). Complete l.coding (Loose l t) r o) (itself l t v e.1.0) (message_read l c.keep_version_laws.ensures true true t t v o p (same_version true true t) e)
+    subst (λ (r : Reading). Complete l.coding (Loose l t) r o) (itself l t v e.1.0) (message_read l c.keep_version_laws.ensures.parts true true t t v o p (same_version true true t) e)
 
 pub returns-clause-reads_versions : goal.returns-clause-reads_versions
-returns-clause-reads_versions g c t u v o p q w e = message_read g.R.OtherVersions.loose c.keep_version_laws.ensures true true t u v o p w e
+returns-clause-reads_versions g c t u v o p q w e = message_read g.R.OtherVersions.loose c.keep_version_laws.ensures.parts true true t u v o p w e
 
 pub returns-clause-older_reads : goal.returns-clause-older_reads
-returns-clause-older_reads g c old new v o p q w e = message_read g.R.OtherVersions.loose c.keep_version_laws.ensures true false new old v o q (flipped false true old new w) e
+returns-clause-older_reads g c old new v o p q w e = message_read g.R.OtherVersions.loose c.keep_version_laws.ensures.parts true false new old v o q (flipped false true old new w) e
 
 pub returns-clause-newer_reads : goal.returns-clause-newer_reads
 returns-clause-newer_reads g c old new v o p q w e =
     let l = g.R.OtherVersions.loose in
-    subst (λ (s : List Skipped). IsLoose l new (received l old new v).0 s o) (skips_nothing l true old new v w) (message_read l c.keep_version_laws.ensures false true old new v o p w e)
+    subst (λ (s : List Skipped). IsLoose l new (received l old new v).0 s o) (skips_nothing l true old new v w) (message_read l c.keep_version_laws.ensures.parts false true old new v o p w e)
+
+pub returns-clause-one_way : goal.returns-clause-one_way
+returns-clause-one_way g c = one_reading g.R.OtherVersions.loose c.keep_version_laws.ensures.ways

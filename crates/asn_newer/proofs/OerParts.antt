@@ -12,10 +12,11 @@ use Rattle.asn_rules.specs.Chunks.{open_field, ones, flat}
 use Rattle.asn_rules.specs.Components.{number_at}
 use Rattle.asn_rules.specs.Laws.{AreOctets}
 use Rattle.asn_rules.proofs.Items.{numbers, good_items}
+use Rattle.asn_rules.specs.Fields.{spelled}
 use Rattle.asn_walk.specs.Laws.{Laws}
 use Rattle.asn_walk.specs.WriteLaws.{WriteLaws}
 use Rattle.asn_oer.proofs.WalkLaws.{oer_laws}
-use Rattle.asn_oer.specs.Oer.{spelled, oer, item_number}
+use Rattle.asn_oer.specs.Oer.{oer, item_number}
 use Rattle.asn_oer.specs.Rules.{oer_ruling}
 use Rattle.asn_oer.specs.Walk.{oer_coding}
 use Rattle.asn_oer.proofs.GoodTypes.{good}

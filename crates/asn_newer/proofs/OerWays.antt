@@ -20,11 +20,12 @@ use Rattle.asn_rules.proofs.Flat.{flat-ones}
 use Rattle.asn_rules.proofs.Fronts.{sealed-ones, sealed-append}
 use Rattle.asn_walk.specs.Ahead.{Ahead}
 use Rattle.asn_walk.specs.Laws.{Laws}
-use Rattle.asn_oer.specs.Oer.{oer, filled_bits, variable_bits, item_number, oer_fields}
+use Rattle.asn_rules.specs.Filled.{filled_bits}
+use Rattle.asn_rules.proofs.OctetFields.{spelled_code}
+use Rattle.asn_oer.specs.Oer.{oer, variable_bits, item_number, oer_fields}
 use Rattle.asn_oer.specs.Rules.{oer_ruling}
 use Rattle.asn_oer.specs.Walk.{oer_coding}
 use Rattle.asn_oer.proofs.Leaves.{item_code}
-use Rattle.asn_oer.proofs.Lengths.{spelled_code}
 use Rattle.asn_oer.proofs.WalkLaws.{oer_laws}
 use Rattle.asn_per.proofs.Enumerations.{lt_not_self}
 use Rattle.asn_newer.specs.Loose.{IsBitmap, AnyBitmap, AnyItem}

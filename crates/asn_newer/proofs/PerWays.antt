@@ -22,7 +22,7 @@ use Rattle.asn_per.specs.ListsAhead.{RootStart, Start, other_counts}
 use Rattle.asn_per.specs.Per.{per, small, small_length, constrained, rank, behind_mark, per_fields}
 use Rattle.asn_per.specs.Rules.{per_ruling}
 use Rattle.asn_per.specs.Walk.{per_coding}
-use Rattle.asn_oer.specs.Oer.{magnitude_of}
+use Rattle.asn_rules.specs.IntegerSets.{magnitude_of}
 use Rattle.asn_per.proofs.EnumeratedLanguages.{few_additions}
 use Rattle.asn_per.proofs.WalkLaws.{per_laws}
 use Rattle.asn_newer.specs.Loose.{IsBitmap, AnyBitmap, AnyItem}

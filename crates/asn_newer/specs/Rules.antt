@@ -5,7 +5,8 @@ use Rattle.std.specs.Int.RustNames.{int_lt}
 use Rattle.asn_values.specs.Shape.{Label}
 use Rattle.asn_values.specs.Profile.{most_additions, is_not_32_bits}
 use Rattle.asn_rules.specs.Components.{number_at}
-use Rattle.asn_oer.specs.Oer.{item_number, magnitude_of}
+use Rattle.asn_rules.specs.IntegerSets.{magnitude_of}
+use Rattle.asn_oer.specs.Oer.{item_number}
 use Rattle.asn_oer.specs.Walk.{oer_coding}
 use Rattle.asn_per.specs.Per.{small}
 use Rattle.asn_per.specs.Walk.{per_coding}

@@ -1,12 +1,11 @@
 -- Bits that are filled up to octets are spelt as a number in so many octets.
-use Rattle.std.proofs.Common.{◌≡◌, ◌+◌, ◌*◌, ◌/◌, ◌%◌, ◌^◌, ◌≤◌, ◌<◌, ℕ, zero, suc, List, [], ◌∷◌, ◌++◌, length, get_or, refl, sym, ap, ◌∙◌, subst, arith, pow-add}
+use Rattle.std.proofs.Common.{◌≡◌, ◌+◌, ◌*◌, ◌/◌, ◌%◌, ◌^◌, ◌≤◌, ◌<◌, ℕ, suc, List, [], ◌∷◌, ◌++◌, length, refl, sym, ap, ◌∙◌, subst, arith, pow-add}
 use Rattle.std.proofs.lemmas.Nat.{pow_pos}
 use Rattle.std.proofs.Math.Nat.{mul-le-mul_right, mul-mod_left, mul-div_cancel, div-add-mod'}
-use Rattle.std.specs.List.{AllByRecursion}
 use Rattle.asn_bits.specs.Numbers.{digits, bits, octets, octet_count, padding, packed, unpacked}
 use Rattle.asn_bits.specs.Lengths.{octet_length}
 use Rattle.asn_bits.proofs.Octets.{length-digits, all_octets, octet_power, octet_count_below}
-use Rattle.asn_bits.proofs.Packing.{packed-unpacked, bits_zero}
+use Rattle.asn_bits.proofs.Packing.{bits_zero}
 use Rattle.asn_bits.proofs.Splits.{digits-join, unpacked-octets}
 use Rattle.asn_bits.proofs.FilledBits.{length-padding}
 use Rattle.asn_rules.specs.Chunks.{ones}
@@ -15,18 +14,10 @@ use Rattle.asn_rules.specs.Spellings.{SpelledBy}
 use Rattle.asn_rules.proofs.Chunks.{ones-append}
 use Rattle.asn_rules.proofs.OctetLengths.{one_is, length_spelled}
 use Rattle.asn_rules.proofs.Spellings.{same_after, same_then, same_map, digits_spelled, map_spelled, then_spelled}
-use Rattle.asn_oer.specs.Oer.{filled_bits, variable_bits}
-use Rattle.asn_oer.specs.Preambles.{filled_octets, unused_bits, BeforeZeros, without_zeros, FilledNumbers, SomeBits, bitmap_told, Bitmap}
-
--- each of a list of octets is one
-each_octet : (os : List ℕ) → AllByRecursion (λ o. o < 256) os → (i d : ℕ) → i < length os → get_or os i d < 256
-each_octet [] h i d l = absurd (omega arith)
-each_octet (o ∷ os) h zero d l = h.0
-each_octet (o ∷ os) h (suc i) d l = each_octet os h.1 i d (omega arith)
-
--- octets are what their bits are packed to
-pub packed_again : (os : List ℕ) → AllByRecursion (λ o. o < 256) os → packed (unpacked os) ≡ os
-packed_again os h = packed-unpacked os (each_octet os h)
+use Rattle.asn_rules.specs.Filled.{filled_bits, filled_octets, unused_bits}
+use Rattle.asn_rules.proofs.Octetwise.{packed_again}
+use Rattle.asn_oer.specs.Oer.{variable_bits}
+use Rattle.asn_oer.specs.Preambles.{BeforeZeros, without_zeros, FilledNumbers, SomeBits, bitmap_told, Bitmap}
 
 -- the bits and the unused ones fill the octets
 pub filled_count : (n : ℕ) → n + unused_bits n ≡ 8 * filled_octets n

@@ -9,9 +9,9 @@ use Rattle.asn_rules.specs.NumberSets.{Admits}
 use Rattle.asn_rules.proofs.Leads.{Leads, leads_on, leads_map, leads_same}
 use Rattle.asn_rules.proofs.OctetLengths.{one_is}
 use Rattle.asn_rules.proofs.Spellings.{same_after, same_map, digits_spelled, map_spelled}
+use Rattle.asn_rules.specs.OctetReading.{OctetsIn, from_to}
 use Rattle.asn_walk.specs.Coding.{IsIndexWithin, AreFew, IndexOf}
 use Rattle.asn_oer.specs.Oer.{oer_fields, tag}
-use Rattle.asn_oer.specs.Reading.{OctetsIn, from_to}
 use Rattle.asn_oer.specs.Walk.{oer_coding, tag_of, alternatives_of}
 use Rattle.asn_oer.proofs.Leaves.{tag_is}
 

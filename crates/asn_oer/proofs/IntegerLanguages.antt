@@ -1,7 +1,7 @@
 -- INTEGER in OER: which octets the integers of a range have, of a fixed number or behind their count, from 0 on or in
 -- two's complement.
 use Rattle.std.proofs.Common.{◌≡◌, ◌≤◌, ◌<◌, ◌-◌, ◌*◌, ◌^◌, ◌⊎◌, ℕ, ℤ, pos, negsuc, ◌≤ℤ◌, Bool, true, false, List, ◌++◌, Option, Some, None, inl, inr, refl, sym, ap, ◌∙◌, subst, nat_lt, arith}
-use Rattle.std.proofs.lemmas.Bool.{true≢false, not-false, ltb-true, lt-ltb, leb-true, le-leb, and_parts}
+use Rattle.std.proofs.lemmas.Bool.{true≢false, ltb-true, lt-ltb, leb-true, le-leb, and_parts}
 use Rattle.std.proofs.lemmas.Int.{ints}
 use Rattle.std.proofs.lemmas.Nat.{pow_pos}
 use Rattle.std.specs.Int.RustNames.{int_le, int_lt}
@@ -21,6 +21,7 @@ use Rattle.asn_rules.specs.Counted.{signed_number}
 use Rattle.asn_rules.specs.Spellings.{SpelledBy}
 use Rattle.asn_rules.proofs.Counted.{counted_octets, counted_signed_octets, residue_of, number_again}
 use Rattle.asn_rules.proofs.Spellings.{same_after, same_map, same_spelled, digits_spelled, map_spelled}
+use Rattle.asn_rules.proofs.IntegerSets.{AreNumbers, ordered, numbers_between, numbers_from}
 use Rattle.asn_oer.specs.Oer.{counted, counted_signed, unsigned_octets, unsigned_in, both_in, signed_size, signed_in, whole_number, oer}
 use Rattle.asn_oer.specs.SimpleTypes.{FixedUnsigned, CountedUnsigned, residues, FixedSigned, CountedSigned, UnsignedIn, SignedIn, BoundedIntegers, Integers}
 use Rattle.asn_oer.proofs.Integers.{unsigned_cases, signed_cases, in_bound}
@@ -31,11 +32,6 @@ abbrev Spelling : Range → ℤ → List Chunk → Type 0
 Spelling b = SpelledBy (FitsNumber b) (λ z. ones (whole_number b z))
 
 -- ---- from 0 on
-
--- the integers of the range are the numbers from low to high
-pub record AreNumbers (b : Range) (low high : ℕ) : Type 0 where
-  pub fit : (n : ℕ) → Between low high n → FitsNumber b (pos n)
-  pub are : (z : ℤ) → FitsNumber b z → (n : ℕ) × Between low high n × (z ≡ pos n)
 
 -- in k octets, where that is how they are spelt
 fixed_unsigned : (b : Range) (k low high : ℕ) → AreNumbers b low high → high < 256 ^ k → ((n : ℕ) → whole_number b (pos n) ≡ octets k n) → Same (FixedUnsigned k low high) (Spelling b)
@@ -169,41 +165,6 @@ low_inside low high good = (inside low (left_false _ _ (right_false (low_above_h
 high_inside : (low : Option ℤ) (high : ℤ) → InProfile (integer (plain low (Some high))) → high ≤ℤ highest_integer
 high_inside low high good = (inside high (right_false (is_outside low) _ (right_false (low_above_high low (Some high)) _ (good EmptyRange)))).1
 
--- the low bound is not above the high one
-pub ordered : (low high : ℤ) → InProfile (integer (plain (Some low) (Some high))) → int_le low high ≡ true
-ordered low high good = not-false (int_le low high) (left_false _ _ (good EmptyRange))
-
--- the integers from one number to another
-pub from_to : (low high : ℕ) → InProfile (integer (plain (Some (pos low)) (Some (pos high)))) → AreNumbers (plain (Some (pos low)) (Some (pos high))) low high
-from_to low high good = record { fit = fit; are = are }
-  where
-    fit : (n : ℕ) → Between low high n → FitsNumber (plain (Some (pos low)) (Some (pos high))) (pos n)
-    fit n s =
-        let a = le-leb low n s.0 in
-        let b = le-leb n high s.1 in
-        (omega (arith, ints), omega (arith, ints, s.1, high_inside (Some (pos low)) (pos high) good), rw (a, b) refl)
-
-    are : (z : ℤ) → FitsNumber (plain (Some (pos low)) (Some (pos high))) z → (n : ℕ) × Between low high n × (z ≡ pos n)
-    are (pos n) f =
-        let w = and_parts _ _ f.2 in
-        (n, (leb-true low n w.0, leb-true n high w.1), refl)
-    are (negsuc n) f = absurd (true≢false (sym f.2))
-
--- the integers from a number on
-pub from_on : (low : ℕ) → AreNumbers (plain (Some (pos low)) None) low 9223372036854775807
-from_on low = record { fit = fit; are = are }
-  where
-    fit : (n : ℕ) → Between low 9223372036854775807 n → FitsNumber (plain (Some (pos low)) None) (pos n)
-    fit n s =
-        let a = le-leb low n s.0 in
-        (omega (arith, ints), omega (arith, ints, s.1), rw a refl)
-
-    are : (z : ℤ) → FitsNumber (plain (Some (pos low)) None) z → (n : ℕ) × Between low 9223372036854775807 n × (z ≡ pos n)
-    are (pos n) f =
-        let w = and_parts _ _ f.2 in
-        (n, (leb-true low n w.0, omega (arith, ints, f.1)), refl)
-    are (negsuc n) f = absurd (true≢false (sym f.2))
-
 -- the integers between bounds that k octets hold
 signed_between : (low high : ℤ) (k : ℕ) → InProfile (integer (plain (Some low) (Some high))) → 1 ≤ k → both_in k low high ≡ true → AreSigned (plain (Some low) (Some high)) k low high
 signed_between low high k good some held = record { some = some; fit = fit; above_low = above; below_high = below; room = room }
@@ -239,10 +200,10 @@ unsigned_language low high good = go (unsigned_cases (pos high))
     go : ((k : ℕ) × (unsigned_octets (pos high) ≡ Some k) × (int_lt (pos high) (pos (256 ^ k)) ≡ true) × (k ≤ 8)) ⊎ (unsigned_octets (pos high) ≡ None) → Same (UnsignedIn (unsigned_octets (pos high)) low high) (Spelling (plain (Some (pos low)) (Some (pos high))))
     go (inl k) =
         subst (λ o. Same (UnsignedIn o low high) (Spelling b)) (sym k.1)
-        (fixed_unsigned b k.0 low high (from_to low high good) (ltb-true high (256 ^ k.0) k.2) (λ n. ap (λ o. unsigned_in o (pos n)) k.1))
+        (fixed_unsigned b k.0 low high (numbers_between low high good) (ltb-true high (256 ^ k.0) k.2) (λ n. ap (λ o. unsigned_in o (pos n)) k.1))
     go (inr e) =
         subst (λ o. Same (UnsignedIn o low high) (Spelling b)) (sym e)
-        (counted_unsigned b low high (from_to low high good) (omega (arith, ints, high_inside (Some (pos low)) (pos high) good)) (λ n. ap (λ o. unsigned_in o (pos n)) e))
+        (counted_unsigned b low high (numbers_between low high good) (omega (arith, ints, high_inside (Some (pos low)) (pos high) good)) (λ n. ap (λ o. unsigned_in o (pos n)) e))
 
 -- the integers between two bounds, the low one negative
 signed_language : (low : ℕ) (high : ℤ) → InProfile (integer (plain (Some (negsuc low)) (Some high))) → Same (SignedIn (plain (Some (negsuc low)) (Some high)) (signed_size (negsuc low) high) (negsuc low) high) (Spelling (plain (Some (negsuc low)) (Some high)))
@@ -264,7 +225,7 @@ signed_language low high good = go (signed_cases (negsuc low) high)
 bounded_language : (low high : Option ℤ) → InProfile (integer (plain low high)) → Same (BoundedIntegers (plain low high) low high) (Spelling (plain low high))
 bounded_language (Some (pos low)) (Some (pos high)) good = unsigned_language low high good
 bounded_language (Some (pos low)) (Some (negsuc high)) good = absurd (true≢false (sym (ordered (pos low) (negsuc high) good)))
-bounded_language (Some (pos low)) None good = counted_unsigned (plain (Some (pos low)) None) low 9223372036854775807 (from_on low) (omega arith) (λ n. refl)
+bounded_language (Some (pos low)) None good = counted_unsigned (plain (Some (pos low)) None) low 9223372036854775807 (numbers_from low) (omega arith) (λ n. refl)
 bounded_language (Some (negsuc low)) (Some high) good = signed_language low high good
 bounded_language (Some (negsuc low)) None good = counted_signed_language (plain (Some (negsuc low)) None) (λ z. refl)
 bounded_language None high good = counted_signed_language (plain None high) (λ z. refl)

@@ -9,8 +9,9 @@ use Rattle.asn_bits.specs.Numbers.{magnitude}
 use Rattle.asn_bits.proofs.Codes.{IsCode}
 use Rattle.asn_bits.proofs.Digits.{digits_code}
 use Rattle.asn_bits.proofs.Octets.{signed_octets_code}
-use Rattle.asn_oer.specs.Oer.{magnitude_of, counted_signed, unsigned_octets, unsigned_in, both_in, signed_size, signed_in, ranged, whole_number}
+use Rattle.asn_oer.specs.Oer.{counted_signed, unsigned_octets, unsigned_in, both_in, signed_size, signed_in, ranged, whole_number}
 use Rattle.asn_oer.proofs.Leaves.{magnitude_once, counted_code, counted_signed_code}
+use Rattle.asn_rules.specs.IntegerSets.{magnitude_of}
 
 -- ---- from zero on
 

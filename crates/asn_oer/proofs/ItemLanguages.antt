@@ -20,9 +20,9 @@ use Rattle.asn_rules.proofs.Entries.{le_z_antisymm}
 use Rattle.asn_rules.proofs.Items.{int_eq_refl, good_items, item_once}
 use Rattle.asn_rules.proofs.OctetLengths.{one_is}
 use Rattle.asn_rules.proofs.Spellings.{same_after, same_then, same_map, same_spelled, digits_spelled, map_spelled, nothing_spelled, then_spelled}
+use Rattle.asn_walk.proofs.ItemNumbers.{number_is_small}
 use Rattle.asn_oer.specs.Oer.{item_number, oer}
 use Rattle.asn_oer.specs.SimpleTypes.{IsNumberOf, place_of, is_short, LongOnes, ItemOctet, BehindItemOctet, ItemNumbers, item_told, Items}
-use Rattle.asn_oer.proofs.SpeltLeaves.{number_is_small}
 
 -- ---- the numbers
 

@@ -8,10 +8,8 @@ use Rattle.std.specs.Option.{option_map, option_eq}
 use Rattle.std.specs.Int.RustNames.{int_le, int_lt}
 use Rattle.asn_values.specs.Datum.{Datum, item}
 use Rattle.asn_values.specs.Fits.{Fits}
-use Rattle.asn_values.specs.Profile.{InProfile, TooMany, too_many_here, most_items, most_additions, most_nodes}
-use Rattle.asn_values.specs.Measures.{nodes}
+use Rattle.asn_values.specs.Profile.{InProfile}
 use Rattle.asn_values.specs.Shape.{Label, MoreLabels, enumerated, more_labels}
-use Rattle.asn_values.proofs.Parts.{left_false}
 use Rattle.asn_bits.specs.Numbers.{bits, octets, packed, signed_octets, signed_octet_count, least_signed, magnitude}
 use Rattle.asn_bits.proofs.Digits.{digits_code}
 use Rattle.asn_bits.proofs.Octets.{length-digits, signed_count_below}
@@ -26,11 +24,12 @@ use Rattle.asn_rules.proofs.Listed.{spelt_lawful}
 use Rattle.asn_rules.proofs.OctetLengths.{one_is}
 use Rattle.asn_rules.proofs.Parts.{front_ones, refused_here}
 use Rattle.asn_rules.proofs.Spellings.{same_spelled, units_front, units_short}
+use Rattle.asn_rules.specs.OctetReading.{AtOctet}
+use Rattle.asn_rules.proofs.OctetFields.{octet_fields_part}
+use Rattle.asn_rules.proofs.Octetwise.{packed_front}
+use Rattle.asn_rules.specs.IntegerSets.{magnitude_of}
 use Rattle.asn_oer.specs.LeafReading.{ItemBegins}
-use Rattle.asn_oer.specs.Oer.{oer, oer_fields, magnitude_of, item_number}
-use Rattle.asn_oer.specs.Reading.{AtOctet}
-use Rattle.asn_oer.proofs.OerFields.{oer_fields_part}
-use Rattle.asn_oer.proofs.Octetwise.{packed_front}
+use Rattle.asn_oer.specs.Oer.{oer, oer_fields, item_number}
 use Rattle.asn_oer.proofs.SpeltLeaves.{item_short}
 use Rattle.asn_oer.proofs.Whole.{oer_part}
 use Rattle.asn_oer.proofs.WrittenItems.{item_narrow, long_form}
@@ -153,10 +152,6 @@ module _ (root : List Label) (more : MoreLabels) (e : Option ℕ) (good : InProf
   others_lawful : Lawful Others
   others_lawful = spelt_lawful oer oer_part (option_map item e) (enumerated root more) good
 
-  pub few_items : length labels ≤ 256
-  few_items =
-      omega (arith, length-append root (more_labels more), ltb-false most_items (length root + length (more_labels more)) (left_false (nat_lt most_items (length root + length (more_labels more))) (nat_lt most_additions (length (more_labels more))) (left_false (too_many_here (enumerated root more)) (nat_lt most_nodes (nodes (enumerated root more))) (good TooMany))))
-
   is_one : (p : ℕ) (os rest : List ℕ) → ItemBegins labels e p os rest → IsOne (item p)
   is_one p os rest h = (omega (arith, h.there, length-append root (more_labels more)), h.other)
 
@@ -167,11 +162,11 @@ module _ (root : List Label) (more : MoreLabels) (e : Option ℕ) (good : InProf
       subst (λ (l : List ℕ). Spells oer_fields Others (item p) (l ++ us) us) whole (units_front octets_of oer_fields others_spelled (item p) (is_one p os [] h) us)
 
   pub item_short_of : (os : List ℕ) → Begun labels e os → Short oer_fields Others os
-  item_short_of os h = units_short octets_of oer_fields_part others_lawful others_spelled (item h.place) (is_one h.place os (h.next ∷ h.rest) h.begins) os h.next h.rest (sym h.begins.whole)
+  item_short_of os h = units_short octets_of octet_fields_part others_lawful others_spelled (item h.place) (is_one h.place os (h.next ∷ h.rest) h.begins) os h.next h.rest (sym h.begins.whole)
 
   -- an octet with which no item goes on
   pub item_refused : (os : List ℕ) (o : ℕ) (us : List ℕ) → Begun labels e os → ((p : ℕ) (rest : List ℕ) → ItemBegins labels e p (os ++ o ∷ []) rest → ⊥) → Refused oer_fields Others (os ++ o ∷ us) (length us)
-  item_refused os o us h none = refused_here oer_fields_part os o us (item_short_of os h) dead
+  item_refused os o us h none = refused_here octet_fields_part os o us (item_short_of os h) dead
     where
       dead : IsLive oer_fields Others (os ++ o ∷ []) → ⊥
       dead l =

@@ -12,7 +12,8 @@ use Rattle.asn_rules.specs.Forks.{Same}
 use Rattle.asn_rules.specs.Spellings.{SpelledBy}
 use Rattle.asn_rules.proofs.Counted.{counted_octets}
 use Rattle.asn_rules.proofs.Spellings.{same_after, same_then, same_map, same_spelled, map_spelled, row_spelled, then_spelled}
-use Rattle.asn_oer.specs.Oer.{spelled, oer}
+use Rattle.asn_rules.specs.Fields.{spelled}
+use Rattle.asn_oer.specs.Oer.{oer}
 use Rattle.asn_oer.specs.Constructed.{Values, Quantity, elements_told, Lists}
 use Rattle.asn_oer.proofs.StringLanguages.{length_few}
 

@@ -20,13 +20,13 @@ use Rattle.asn_rules.proofs.OctetLengths.{one_is, length_spelled, length_lawful}
 use Rattle.asn_rules.proofs.Sets.{set_inhabited, set_lawful}
 use Rattle.asn_rules.proofs.Spellings.{same_after, same_map, same_then, digits_spelled, then_spelled, map_spelled, spelled_inhabited}
 use Rattle.asn_rules.proofs.Then.{Follows, then_inhabited}
+use Rattle.asn_rules.specs.Filled.{filled_bits, filled_octets, unused_bits}
+use Rattle.asn_rules.specs.OctetReading.{OctetsIn, from_to, FilledFields}
+use Rattle.asn_rules.proofs.OctetFields.{octet_fields_part}
 use Rattle.asn_walk.specs.Coding.{GoodPreamble, PreambleOf, AdditionBitmapOf}
-use Rattle.asn_oer.specs.Oer.{oer_fields, filled_bits, variable_bits}
-use Rattle.asn_oer.specs.Preambles.{filled_octets, unused_bits}
-use Rattle.asn_oer.specs.Reading.{OctetsIn, from_to, FilledFields}
+use Rattle.asn_oer.specs.Oer.{oer_fields, variable_bits}
 use Rattle.asn_oer.specs.Walk.{oer_coding, mark_of}
 use Rattle.asn_oer.proofs.FilledLanguages.{length-filled_bits}
-use Rattle.asn_oer.proofs.OerFields.{oer_fields_part}
 
 -- ---- the preamble
 
@@ -137,11 +137,11 @@ module _ (n l : ℕ) (some : 0 < n) (few : n ≤ 64) (is : l ≡ suc (filled_oct
   stops_at_length us = stops_on (stops_first oer_fields us length_follows) (whole us).stops
 
   behind_length : (i : ℕ) (us r : List ℕ) → Spells oer_fields Lengths i us r → Leads oer_fields (Then Unused (λ _. Presences)) r (λ p. told (i, p)) (AdditionBitmapOf oer_coding n) us
-  behind_length i us r h = leads_on (leads_second {M = λ _. Then Unused (λ _. Presences)} oer_fields_part (length_lawful (Between l l)) h) (whole us)
+  behind_length i us r h = leads_on (leads_second {M = λ _. Then Unused (λ _. Presences)} octet_fields_part (length_lawful (Between l l)) h) (whole us)
 
   pub stops_at_unused : (i : ℕ) (us r : List ℕ) → Spells oer_fields Lengths i us r → LeadsStops oer_fields Unused r (AdditionBitmapOf oer_coding n) us
   stops_at_unused i us r h = stops_on (stops_first oer_fields r unused_follows) (behind_length i us r h).stops
 
   pub presences_lead : (i u : ℕ) (us r s : List ℕ) → Spells oer_fields Lengths i us r → Spells oer_fields Unused u r s → Leads oer_fields Presences s (λ p. p.1) (AdditionBitmapOf oer_coding n) us
   presences_lead i u us r s h g =
-      leads_on (leads_second {M = λ _. Presences} oer_fields_part (set_lawful 256 1 (λ v. Admits (from_to (unused_bits n) (unused_bits n)) v)) g) (behind_length i us r h)
+      leads_on (leads_second {M = λ _. Presences} octet_fields_part (set_lawful 256 1 (λ v. Admits (from_to (unused_bits n) (unused_bits n)) v)) g) (behind_length i us r h)

@@ -17,14 +17,16 @@ use Rattle.asn_rules.proofs.OctetLengths.{length_lawful}
 use Rattle.asn_rules.proofs.Parts.{nothing_lawful, nothing_spells}
 use Rattle.asn_rules.proofs.Rows.{row_inhabited}
 use Rattle.asn_rules.proofs.Spellings.{same_after, same_map, same_then}
+use Rattle.asn_rules.specs.OctetReading.{CountedIn}
+use Rattle.asn_rules.proofs.CountedOctets.{same_counted}
+use Rattle.asn_rules.proofs.OctetFields.{octet_fields_part}
+use Rattle.asn_walk.specs.Sizes.{AreCounts}
 use Rattle.asn_walk.specs.Laws.{IsSizeOfProfile}
 use Rattle.asn_oer.specs.Constructed.{Quantity}
 use Rattle.asn_oer.specs.Oer.{oer_fields}
-use Rattle.asn_oer.specs.Reading.{AreCounts, CountedIn, ValuesOf}
+use Rattle.asn_oer.specs.Reading.{ValuesOf}
 use Rattle.asn_oer.specs.Strings.{Count, ItemsBehind, Sized}
-use Rattle.asn_oer.proofs.CountedOctets.{same_counted}
 use Rattle.asn_oer.proofs.LeftOut.{none_left_out}
-use Rattle.asn_oer.proofs.OerFields.{oer_fields_part}
 use Rattle.asn_oer.proofs.StringLanguages.{octet_string_language}
 
 pub quantity_leads : (s : SizeRange) (t : NumberSet) (us : List ℕ) → AreCounts s t → Leads oer_fields (CountedIn t) us (λ n. n) (Quantity (FitsLength s)) us
@@ -106,7 +108,7 @@ module _ {L : ℕ → List Chunk → Type 0} (some : Inhabited L) (s : SizeRange
 
   -- the items behind it
   pub items_lead : (n : ℕ) (us r : List ℕ) → Spells oer_fields (Count s) n us r → Leads oer_fields (Row L n) r (λ os. os) (Sized s L) us
-  items_lead n us r h = leads_on (leads_second {M = λ n. Row L n} oer_fields_part (count_lawful s) h) (whole us)
+  items_lead n us r h = leads_on (leads_second {M = λ n. Row L n} octet_fields_part (count_lawful s) h) (whole us)
 
 -- OCTET STRING
 pub octets_lead : (s : SizeRange) (us : List ℕ) → InProfile (octet_string s) → Leads oer_fields (Sized s OneOctet) us octet_list (ValuesOf (octet_string s)) us

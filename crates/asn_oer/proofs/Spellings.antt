@@ -16,11 +16,13 @@ use Rattle.asn_rules.proofs.Entries.{front_bits, presence_bits, length-extension
 use Rattle.asn_rules.proofs.Facing.{FieldsTell, Facing, IsFacing, facing_parts, plain_facing, code_facing, sealed_facing, joined_facing}
 use Rattle.asn_rules.proofs.FromFacing.{SpellingsFace, facing_code}
 use Rattle.asn_rules.proofs.Items.{good_items, item_once}
-use Rattle.asn_oer.specs.Oer.{spelled, whole_number, bit_octets, sized_octets, item_number, tag, filled_bits, variable_bits, truth_octet, an_open_field, oer, oer_each, oer_open, oer_additions, oer_alternative, oer_more}
+use Rattle.asn_rules.specs.Fields.{spelled}
+use Rattle.asn_rules.specs.Filled.{filled_bits}
+use Rattle.asn_rules.proofs.OctetFields.{spelled_code}
+use Rattle.asn_oer.specs.Oer.{whole_number, bit_octets, sized_octets, item_number, tag, variable_bits, truth_octet, an_open_field, oer, oer_each, oer_open, oer_additions, oer_alternative, oer_more}
 use Rattle.asn_oer.proofs.GoodTypes.{Good, GoodFields, GoodAlternatives, good, first_good, rest_good, here_good, later_good, root_good, additions_good, choice_good, choice_additions_good, few_alternatives, tag_below}
 use Rattle.asn_oer.proofs.Integers.{number_code}
 use Rattle.asn_oer.proofs.Leaves.{item_code, tag_code}
-use Rattle.asn_oer.proofs.Lengths.{spelled_code}
 use Rattle.asn_oer.proofs.Strings.{sized_code, bits_code, variable_code}
 
 -- ---- parts

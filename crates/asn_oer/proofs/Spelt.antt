@@ -13,7 +13,8 @@ use Rattle.asn_rules.specs.Laws.{AreOctets}
 use Rattle.asn_rules.specs.Reading.{AllSealed}
 use Rattle.asn_rules.proofs.Fronts.{sealed-ones, sealed-append}
 use Rattle.asn_rules.proofs.Flat.{flat-append, flat-ones}
-use Rattle.asn_oer.specs.Oer.{spelled, an_open_field, oer_fields}
+use Rattle.asn_rules.specs.Fields.{spelled}
+use Rattle.asn_oer.specs.Oer.{an_open_field, oer_fields}
 
 -- ---- how many octets a length can count
 

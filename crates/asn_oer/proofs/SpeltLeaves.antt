@@ -1,19 +1,19 @@
 -- The spellings of the simple types in OER, and what stands in front of the others, are octets and not too many.
-use Rattle.std.proofs.Common.{◌≡◌, ◌≤◌, ◌<◌, ◌+◌, ◌-◌, ◌*◌, ◌^◌, ◌==◌, ℕ, zero, suc, ℤ, pos, negsuc, ◌≤ℤ◌, Bool, true, false, ◌&&◌, ◌||◌, List, [], ◌∷◌, length, Option, Some, None, inl, inr, refl, sym, subst, arith, IsTrue, nat_lt, nat_le, length-append}
-use Rattle.std.proofs.lemmas.Bool.{ltb-true, ltb-false, leb-true, eqb-true, and_parts, or_parts}
+use Rattle.std.proofs.Common.{◌≡◌, ◌≤◌, ◌<◌, ◌+◌, ◌-◌, ◌*◌, ◌^◌, ℕ, ℤ, pos, negsuc, ◌≤ℤ◌, Bool, true, false, ◌&&◌, List, ◌∷◌, length, Option, Some, None, inl, inr, refl, sym, subst, arith, length-append}
+use Rattle.std.proofs.lemmas.Bool.{ltb-true, and_parts}
 use Rattle.std.proofs.lemmas.Int.{ints}
-use Rattle.std.specs.List.{AllByRecursion, list_any}
 use Rattle.std.specs.Int.RustNames.{int_le, int_lt}
-use Rattle.asn_values.specs.Shape.{Range, SizeRange, Alphabet, ia5, numeric, visible, Label}
-use Rattle.asn_values.specs.Fits.{FitsNumber, lowest_integer, highest_integer, is_of_kind, max_len}
-use Rattle.asn_values.specs.Profile.{is_fixed_size, is_not_32_bits}
+use Rattle.asn_values.specs.Shape.{Range, SizeRange}
+use Rattle.asn_values.specs.Fits.{FitsNumber, lowest_integer, highest_integer, max_len}
+use Rattle.asn_values.specs.Profile.{is_fixed_size}
 use Rattle.asn_bits.specs.Numbers.{octets, octet_count, least, least_signed, signed_octets, signed_octet_count, magnitude, padding}
 use Rattle.asn_bits.proofs.Octets.{all_signed, octet_count_below, length-least_signed, signed_count_below}
 use Rattle.asn_bits.proofs.FilledBits.{AreBits, length-padding, length-packed, filled_up, filled_up_fills, filled_up_octets}
-use Rattle.asn_rules.specs.Components.{number_at}
 use Rattle.asn_rules.specs.Laws.{AreOctets}
-use Rattle.asn_rules.proofs.Items.{numbers}
-use Rattle.asn_oer.specs.Oer.{spelled, magnitude_of, counted, counted_signed, unsigned_octets, unsigned_in, signed_size, signed_in, ranged, whole_number, filled_bits, variable_bits, bit_octets, sized_octets, item_number, tag}
+use Rattle.asn_rules.specs.Fields.{spelled}
+use Rattle.asn_rules.specs.Filled.{filled_bits}
+use Rattle.asn_rules.specs.IntegerSets.{magnitude_of}
+use Rattle.asn_oer.specs.Oer.{counted, counted_signed, unsigned_octets, unsigned_in, signed_size, signed_in, ranged, whole_number, variable_bits, bit_octets, sized_octets, item_number, tag}
 use Rattle.asn_oer.proofs.Integers.{unsigned_cases, signed_cases}
 use Rattle.asn_oer.proofs.Leaves.{tag_is}
 use Rattle.asn_oer.proofs.Spelt.{Short, short_more, octets_short, few_octets, short_spelled}
@@ -95,17 +95,6 @@ number_short b z f = go b.extensible
 
 -- ---- ENUMERATED
 
--- a number of 32 bits
-small_magnitude : (z : ℤ) → is_not_32_bits z ≡ false → magnitude z < 2147483648
-small_magnitude (pos n) h = let w = ltb-false 2147483647 n (or_parts (int_lt (pos n) (negsuc 2147483647)) _ h).1 in omega arith
-small_magnitude (negsuc n) h = let w = ltb-false 2147483647 n (or_parts (nat_lt 2147483647 n) _ h).0 in omega arith
-
--- the numbers of items are numbers of 32 bits
-pub number_is_small : (ls : List Label) (p : ℕ) → list_any is_not_32_bits (numbers ls) ≡ false → magnitude (number_at ls p) < 2147483648
-number_is_small [] p h = omega arith
-number_is_small (l ∷ ls) zero h = small_magnitude l.number (or_parts (is_not_32_bits l.number) _ h).0
-number_is_small (l ∷ ls) (suc p) h = number_is_small ls p (or_parts (is_not_32_bits l.number) _ h).1
-
 -- a number of 0 to 127 is an octet
 magnitude_small : (z : ℤ) → int_le (pos 0) z ≡ true → int_lt z (pos 128) ≡ true → magnitude_of z < 256
 magnitude_small (pos n) p q = omega (arith, ltb-true n 128 q)
@@ -164,21 +153,6 @@ sized_short z os l h = go (is_fixed_size z)
     go : (b : Bool) → Short 2147483648 (elim b [ true ↦ os | false ↦ spelled os ])
     go true = record { octets = h; most = omega arith }
     go false = content_short os l h
-
--- a character of each alphabet is an octet
-character_octet : (k : Alphabet) (c : ℕ) → IsTrue (is_of_kind k c) → c < 256
-character_octet ia5 c h = omega (arith, ltb-true c 128 h)
-character_octet visible c h = omega (arith, leb-true c 126 (and_parts (nat_le 32 c) (nat_le c 126) h).1)
-character_octet numeric c h = go (c == 32) refl h
-  where
-    go : (b : Bool) → (c == 32) ≡ b → (b || (nat_le 48 c && nat_le c 57)) ≡ true → c < 256
-    go true e h = omega (arith, eqb-true c 32 e)
-    go false e h = omega (arith, leb-true c 57 (and_parts (nat_le 48 c) (nat_le c 57) h).1)
-
--- characters are octets
-pub characters_octets : (k : Alphabet) (cs : List ℕ) → AllByRecursion (λ c. IsTrue (is_of_kind k c)) cs → AreOctets cs
-characters_octets k [] h = tt
-characters_octets k (c ∷ cs) h = (character_octet k c h.0, characters_octets k cs h.1)
 
 -- ---- quantities and tags
 

@@ -15,12 +15,16 @@ use Rattle.asn_rules.specs.Chunks.{ones}
 use Rattle.asn_rules.specs.Components.{bit_of, number_at, presence, if_spelled, any_present, extension_bit}
 use Rattle.asn_rules.proofs.Entries.{front_bits, entry_has, presence_bits, few_presence, few_extension}
 use Rattle.asn_rules.proofs.Items.{good_items}
-use Rattle.asn_oer.specs.Oer.{spelled, whole_number, bit_octets, sized_octets, item_number, tag, filled_bits, variable_bits, an_open_field, oer, oer_each, oer_open, oer_additions, oer_alternative, oer_more}
+use Rattle.asn_rules.specs.Fields.{spelled}
+use Rattle.asn_rules.specs.Filled.{filled_bits}
+use Rattle.asn_rules.proofs.Characters.{characters_octets}
+use Rattle.asn_rules.proofs.BitStrings.{list_bits}
+use Rattle.asn_walk.proofs.ItemNumbers.{number_is_small}
+use Rattle.asn_oer.specs.Oer.{whole_number, bit_octets, sized_octets, item_number, tag, variable_bits, an_open_field, oer, oer_each, oer_open, oer_additions, oer_alternative, oer_more}
 use Rattle.asn_oer.proofs.GoodTypes.{Good, GoodFields, GoodAlternatives, first_good, rest_good, here_good, later_good, root_good, additions_good, choice_good, choice_additions_good, few_alternatives, tag_below}
 use Rattle.asn_oer.proofs.Spellings.{front}
 use Rattle.asn_oer.proofs.Spelt.{room, room_grows, Short, short_append, short_more, Spelt, spelt_none, spelt_more, spelt_ones, spelt_append, spelt_open, spelt_joined}
-use Rattle.asn_oer.proofs.SpeltLeaves.{number_short, number_is_small, item_short, bits_short, variable_short, preamble_short, content_short, sized_short, characters_octets, quantity_short, tag_short}
-use Rattle.asn_oer.proofs.Strings.{list_bits}
+use Rattle.asn_oer.proofs.SpeltLeaves.{number_short, item_short, bits_short, variable_short, preamble_short, content_short, sized_short, quantity_short, tag_short}
 
 -- ---- room
 

@@ -14,12 +14,13 @@ use Rattle.asn_rules.specs.Languages.{Row}
 use Rattle.asn_rules.specs.Forks.{Same}
 use Rattle.asn_rules.specs.Spellings.{SpelledBy}
 use Rattle.asn_rules.proofs.Chunks.{ones-append}
-use Rattle.asn_rules.proofs.OctetLengths.{one_is, octet_itself, joined_octets, length_spelled}
-use Rattle.asn_rules.proofs.Spellings.{same_after, same_then, same_map, same_row, same_spelled, digits_spelled, map_spelled, row_spelled, then_spelled, sealed_spelled}
-use Rattle.asn_oer.specs.Oer.{spelled, sized_octets, oer}
-use Rattle.asn_oer.specs.Strings.{ItemsBehind, Sized, OctetStrings, Character, CharacterStrings, IsUnicodeOf, Utf8Strings}
+use Rattle.asn_rules.proofs.OctetLengths.{octet_itself, length_spelled}
+use Rattle.asn_rules.proofs.Spellings.{same_after, same_then, same_map, same_spelled, map_spelled, then_spelled, sealed_spelled}
+use Rattle.asn_rules.specs.Fields.{spelled}
+use Rattle.asn_rules.proofs.Characters.{items_themselves, character_itself}
+use Rattle.asn_oer.specs.Oer.{sized_octets, oer}
+use Rattle.asn_oer.specs.Strings.{ItemsBehind, Sized, OctetStrings, CharacterStrings, IsUnicodeOf, Utf8Strings}
 use Rattle.asn_oer.proofs.Strings.{one_length}
-use Rattle.asn_oer.proofs.SpeltLeaves.{characters_octets}
 
 -- ---- sizes
 
@@ -46,13 +47,9 @@ length_few z n h = (let l = octet_count_below n 4 (omega arith) (omega (arith, h
 -- ---- octets and characters
 
 module _ {L : ℕ → List Chunk → Type 0} {P : ℕ → Type 0} (items : Same L (SpelledBy P (λ o. one o ∷ []))) where
-  -- items in a row are spelt by themselves
-  pub items_themselves : (n : ℕ) → Same (Row L n) (SpelledBy (λ c. (length c ≡ n) × AllByRecursion P c) ones)
-  items_themselves n = same_after (same_row items n) (same_after (row_spelled n) (same_spelled (λ c h. h) (λ c h. h) (λ c h. joined_octets c)))
-
   -- items behind their count
   pub items_behind : (S : ℕ → Type 0) → ((n : ℕ) → S n → octet_count n < 128) → Same (ItemsBehind S L) (SpelledBy (λ c. S (length c) × AllByRecursion P c) (λ c. ones (spelled c)))
-  items_behind S few = same_after (same_map (same_after (same_then (length_spelled S few) items_themselves) then_spelled)) (map_spelled there back)
+  items_behind S few = same_after (same_map (same_after (same_then (length_spelled S few) (items_themselves items)) then_spelled)) (map_spelled there back)
     where
       there : (p : ℕ × List ℕ) → S p.0 × ((length p.1 ≡ p.0) × AllByRecursion P p.1) → (S (length p.1) × AllByRecursion P p.1) × (ones (octet_length p.0) ++ ones p.1 ≡ ones (spelled p.1))
       there p h = (
@@ -69,7 +66,7 @@ module _ {L : ℕ → List Chunk → Type 0} {P : ℕ → Type 0} (items : Same 
     where
       go : (t : Bool) → is_fixed_size z ≡ t → Same (elim t [ true ↦ Row L z.low | false ↦ ItemsBehind (FitsLength z) L ]) (SpelledBy (λ c. FitsLength z (length c) × AllByRecursion P c) (λ c. ones (elim t [ true ↦ c | false ↦ spelled c ])))
       go true e =
-          same_after (items_themselves z.low)
+          same_after (items_themselves items z.low)
           (same_spelled (λ c h. (subst (FitsLength z) (sym h.0) (fixed_fits z good e), h.1)) (λ c h. (one_length z (length c) e h.0, h.1)) (λ c h. refl))
       go false e = items_behind (FitsLength z) (length_few z)
 
@@ -80,13 +77,6 @@ octet_string_language z good = same_after (same_map (sized_language octet_itself
     back : (v : Datum) → Fits (octet_string z) v → (c : List ℕ) × (FitsLength z (length c) × AllByRecursion (λ o. o < 256) c) × (v ≡ octet_list c)
     back (octet_list c) f = (c, f, refl)
     back _ f = absurd f
-
--- a character is spelt by itself
-pub character_itself : (k : Alphabet) → Same (Character k) (SpelledBy (λ c. IsTrue (is_of_kind k c)) (λ c. one c ∷ []))
-character_itself k = same_after (digits_spelled 256 1 (λ c. IsTrue (is_of_kind k c)) (λ c h. omega (arith, below c h))) (same_spelled (λ c h. h) (λ c h. h) (λ c h. ap ones (one_is c (below c h))))
-  where
-    below : (c : ℕ) → IsTrue (is_of_kind k c) → c < 256
-    below c h = (characters_octets k (c ∷ []) (h, tt)).0
 
 -- IA5String, NumericString and VisibleString
 pub restricted_language : (k : Alphabet) (z : SizeRange) → InProfile (restricted k z) → Same (CharacterStrings k z) (SpelledBy (Fits (restricted k z)) (oer (restricted k z)))

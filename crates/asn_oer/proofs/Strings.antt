@@ -9,9 +9,12 @@ use Rattle.asn_bits.specs.Numbers.{padding}
 use Rattle.asn_bits.proofs.Codes.{IsCode, equal_fronts}
 use Rattle.asn_bits.proofs.FilledBits.{AreBits, filled_up_code, filled_up_once}
 use Rattle.asn_rules.specs.Components.{bit_of}
-use Rattle.asn_rules.proofs.Entries.{bit_of_same, bit_of_is}
-use Rattle.asn_oer.specs.Oer.{spelled, filled_bits, variable_bits, bit_octets, sized_octets}
-use Rattle.asn_oer.proofs.Lengths.{spelled_code}
+use Rattle.asn_rules.proofs.Entries.{bit_of_same}
+use Rattle.asn_rules.specs.Fields.{spelled}
+use Rattle.asn_rules.specs.Filled.{filled_bits}
+use Rattle.asn_rules.proofs.OctetFields.{spelled_code}
+use Rattle.asn_rules.proofs.BitStrings.{list_bits}
+use Rattle.asn_oer.specs.Oer.{variable_bits, bit_octets, sized_octets}
 
 -- ---- sizes
 
@@ -45,11 +48,6 @@ sized_code z x y r s p q e = go (is_fixed_size z) refl e
     go false h e = spelled_code x y r s e
 
 -- ---- bits
-
--- truth values are bits
-pub list_bits : (bs : List Bool) → AreBits (map bit_of bs)
-list_bits [] = tt
-list_bits (b ∷ bs) = (bit_of_is b, list_bits bs)
 
 -- and their bits tell them
 map_bits_same : (x y : List Bool) → map bit_of x ≡ map bit_of y → x ≡ y

@@ -2,11 +2,11 @@
 use Rattle.std.proofs.Common.{◌*◌, ◌≤◌, ℕ, List, length, length-append, refl, arith}
 use Rattle.asn_bits.specs.Lengths.{octet_length}
 use Rattle.asn_rules.specs.Reading.{RulesTell}
-use Rattle.asn_oer.specs.Oer.{spelled}
+use Rattle.asn_rules.specs.Fields.{spelled}
+use Rattle.asn_rules.proofs.OctetFields.{spelled_code, some_octets}
 use Rattle.asn_oer.specs.Rules.{oer_ruling}
 use Rattle.asn_oer.proofs.GoodTypes.{good}
-use Rattle.asn_oer.proofs.Lengths.{spelled_code}
-use Rattle.asn_oer.proofs.LiveParts.{some_octets, open_starts, utf8_starts}
+use Rattle.asn_oer.proofs.LiveParts.{open_starts, utf8_starts}
 use Rattle.asn_oer.proofs.SpeltTypes.{oer_spelt, few_levels}
 use Rattle.asn_oer.proofs.Whole.{oer_part}
 

@@ -9,8 +9,9 @@ use Rattle.asn_rules.specs.Languages.{Plain}
 use Rattle.asn_rules.specs.Listed.{IsOther, Spelt}
 use Rattle.asn_rules.proofs.Leads.{Leads, leads_on, leads_map, leads_same}
 use Rattle.asn_rules.proofs.NumberSets.{same_set}
+use Rattle.asn_rules.specs.OctetReading.{OctetsAmong}
 use Rattle.asn_oer.specs.Oer.{oer, oer_fields}
-use Rattle.asn_oer.specs.Reading.{TruthOctet, OctetsAmong}
+use Rattle.asn_oer.specs.Reading.{TruthOctet}
 use Rattle.asn_oer.specs.SimpleTypes.{truth_told}
 use Rattle.asn_oer.proofs.LeftOut.{boolean_but_one}
 

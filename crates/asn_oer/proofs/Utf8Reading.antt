@@ -7,7 +7,7 @@ use Rattle.asn_bits.specs.Numbers.{octet_count}
 use Rattle.asn_bits.specs.Sets.{Between}
 use Rattle.asn_bits.proofs.Octets.{octet_count_below}
 use Rattle.asn_rules.specs.Chunks.{utf8_field}
-use Rattle.asn_rules.specs.Fields.{OctetsBehind}
+use Rattle.asn_rules.specs.Fields.{OctetsBehind, spelled}
 use Rattle.asn_rules.specs.Forks.{Same}
 use Rattle.asn_rules.specs.Frames.{IsField, Frame}
 use Rattle.asn_rules.specs.Languages.{Spells, Refused, SomeContent}
@@ -17,11 +17,11 @@ use Rattle.asn_rules.proofs.Forks.{same_flip}
 use Rattle.asn_rules.proofs.Leads.{LeadsStops, Leads, leads_same}
 use Rattle.asn_rules.proofs.OctetLengths.{octets_behind}
 use Rattle.asn_rules.proofs.Spellings.{same_after, plain_spelled}
-use Rattle.asn_oer.specs.Oer.{spelled, oer_fields}
+use Rattle.asn_rules.proofs.OctetFields.{octet_fields_part}
+use Rattle.asn_oer.specs.Oer.{oer_fields}
 use Rattle.asn_oer.specs.Reading.{ValuesOf}
 use Rattle.asn_oer.specs.Strings.{IsUnicodeOf, Utf8Strings}
 use Rattle.asn_oer.proofs.LeftOut.{none_left_out}
-use Rattle.asn_oer.proofs.OerFields.{oer_fields_part}
 use Rattle.asn_oer.proofs.StringLanguages.{utf8_language}
 
 -- octets of any number of the profile
@@ -47,7 +47,7 @@ some_text = record { value = unicode []; content = []; spelt = record { seen = r
 
 -- the octets stop
 pub octets_stop : (us : List ℕ) → LeadsStops oer_fields (OctetsBehind AnyCount) us Utf8Strings us
-octets_stop us = stops_field us oer_fields_part some_text text_spelled
+octets_stop us = stops_field us octet_fields_part some_text text_spelled
 
 -- they are UTF-8
 pub text_spells : {os us r : List ℕ} → IsUtf8 os → Spells oer_fields (OctetsBehind AnyCount) os us r → Spells oer_fields Utf8Strings (unicode os) us r
@@ -57,7 +57,7 @@ text_spells {os} t h =
 
 -- they are not
 pub no_text : {os us r : List ℕ} → (IsUtf8 os → ⊥) → Spells oer_fields (OctetsBehind AnyCount) os us r → Refused oer_fields Utf8Strings us (length r)
-no_text {os} never h = field_refused_content oer_fields_part some_text text_spelled h (λ a d. never d.utf8)
+no_text {os} never h = field_refused_content octet_fields_part some_text text_spelled h (λ a d. never d.utf8)
 
 -- they are the values of the type
 pub utf8_leads : (us : List ℕ) → Leads oer_fields Utf8Strings us (λ v. v) (ValuesOf utf8_string) us

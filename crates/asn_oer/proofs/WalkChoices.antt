@@ -2,7 +2,7 @@
 use Rattle.std.proofs.Common.{◌≡◌, ◌≤◌, ◌<◌, ◌+◌, ◌-◌, ◌⊎◌, inl, inr, ⊎_elim, ℕ, zero, suc, Bool, true, false, nat_lt, MatchBool, List, ◌++◌, None, refl, sym, ap, ◌∙◌, subst, arith}
 use Rattle.std.proofs.lemmas.Bool.{cases_lt, lt-ltb, le-ltb}
 use Rattle.asn_values.specs.Datum.{Datum, alternative}
-use Rattle.asn_values.specs.Shape.{Shape, choice, Alternatives, no_alternatives, one_of, MoreAlternatives, closed_choice, marked_choice, more_alternatives, count}
+use Rattle.asn_values.specs.Shape.{choice, Alternatives, no_alternatives, one_of, MoreAlternatives, closed_choice, marked_choice, more_alternatives, count}
 use Rattle.asn_values.specs.Fits.{Fits, FitsAlternative, FitsMoreAlternatives}
 use Rattle.asn_values.specs.Parts.{AreAllOfProfile}
 use Rattle.asn_values.specs.Profile.{InProfile}
@@ -11,9 +11,8 @@ use Rattle.asn_rules.specs.Chunks.{Chunk, ones}
 use Rattle.asn_rules.specs.Forks.{Same}
 use Rattle.asn_rules.specs.Listed.{Spelt}
 use Rattle.asn_rules.specs.Spellings.{SpelledBy}
-use Rattle.asn_rules.proofs.Spellings.{same_after, same_map, same_then, same_spelled, map_spelled, then_spelled}
+use Rattle.asn_rules.proofs.Spellings.{same_after, same_map, same_then, map_spelled, then_spelled}
 use Rattle.asn_walk.specs.Coding.{added_alternatives, IsIndexWithin, OpenOf, ChosenOf, ChosenBy, chosen_value, ChoicesOf}
-use Rattle.asn_oer.specs.Constructed.{Values}
 use Rattle.asn_oer.specs.Oer.{oer, tag, an_open_field, oer_alternative, oer_more}
 use Rattle.asn_oer.specs.Walk.{oer_coding, tag_of}
 use Rattle.asn_oer.proofs.LeftOut.{none_left_out}

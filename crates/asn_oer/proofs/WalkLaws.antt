@@ -27,15 +27,16 @@ use Rattle.asn_rules.proofs.Counted.{counted_lawful}
 use Rattle.asn_rules.proofs.Forks.{map_lawful_on, map_map}
 use Rattle.asn_rules.proofs.Parts.{map_lawful}
 use Rattle.asn_rules.proofs.Spellings.{spelled_lawful, same_after, same_map, same_then, same_row, same_spelled, padded_spelled}
+use Rattle.asn_rules.specs.Filled.{filled_bits}
+use Rattle.asn_rules.proofs.Octetwise.{packed_again}
 use Rattle.std.proofs.lemmas.List.{append-nil}
 use Rattle.asn_walk.specs.Ahead.{Ahead, items, SomeAhead, Remaining}
 use Rattle.asn_walk.specs.Coding.{ListsOf, GoodPreamble, PreambleOf, AdditionBitmapOf, IsIndexWithin, AreFew, IndexOf}
 use Rattle.asn_walk.specs.Laws.{Laws, IsSizeOfProfile}
 use Rattle.asn_oer.specs.Constructed.{Quantity}
-use Rattle.asn_oer.specs.Oer.{oer, filled_bits, variable_bits, tag}
+use Rattle.asn_oer.specs.Oer.{oer, variable_bits, tag}
 use Rattle.asn_oer.specs.Rules.{oer_ruling}
 use Rattle.asn_oer.specs.Walk.{oer_coding, tag_of}
-use Rattle.asn_oer.proofs.FilledLanguages.{packed_again}
 use Rattle.asn_oer.proofs.IndexReading.{tag_within}
 use Rattle.asn_oer.proofs.Leaves.{tag_is}
 use Rattle.asn_oer.proofs.ListLanguages.{sequence_of_language}

@@ -23,9 +23,10 @@ use Rattle.asn_rules.specs.Spellings.{SpelledBy}
 use Rattle.asn_rules.proofs.Entries.{each_length, presence_bits, same_components}
 use Rattle.asn_rules.proofs.Forks.{same_flip}
 use Rattle.asn_rules.proofs.Spellings.{same_after, same_then, same_map, same_spelled, map_spelled, then_spelled}
+use Rattle.asn_rules.specs.Filled.{filled_bits}
 use Rattle.asn_walk.specs.Coding.{absent_entries, added, CanExtend, GoodPreamble, AdditionBitmapOf, AddedOf, sequence_told, SequencesOf}
 use Rattle.asn_walk.specs.Coding as walk
-use Rattle.asn_oer.specs.Oer.{oer, oer_each, oer_additions, filled_bits}
+use Rattle.asn_oer.specs.Oer.{oer, oer_each, oer_additions}
 use Rattle.asn_oer.specs.Preambles.{Bitmap}
 use Rattle.asn_oer.specs.Sequences.{OpenListed, Additions}
 use Rattle.asn_oer.specs.Walk.{oer_coding}

@@ -11,9 +11,11 @@ use Rattle.asn_bits.specs.Numbers.{least}
 use Rattle.asn_bits.proofs.Splits.{unpacked-append}
 use Rattle.asn_rules.specs.Chunks.{Chunk, ones, flat}
 use Rattle.asn_rules.specs.Components.{presence, if_spelled, any_present, extension_bit}
+use Rattle.asn_rules.specs.Fields.{spelled}
+use Rattle.asn_rules.specs.Filled.{filled_bits}
 use Rattle.asn_walk.specs.Composites.{each_code, open_code, alternative_code, added_code, more_code, sequence_code, choice_code, choice_parts}
 use Rattle.asn_walk.specs.WriteLaws.{WriteLaws}
-use Rattle.asn_oer.specs.Oer.{spelled, filled_bits, variable_bits, tag, oer, oer_each, oer_open, oer_additions, oer_alternative, oer_more, an_open_field}
+use Rattle.asn_oer.specs.Oer.{variable_bits, tag, oer, oer_each, oer_open, oer_additions, oer_alternative, oer_more, an_open_field}
 use Rattle.asn_oer.specs.Rules.{oer_ruling}
 use Rattle.asn_oer.specs.Walk.{oer_coding}
 

@@ -5,7 +5,8 @@ use Rattle.asn_rules.specs.Laws.{EncodesAs, UnitsTellTheValue, OneValue, NoneBeg
 use Rattle.asn_rules.specs.Parted.{SpellingsPart}
 use Rattle.asn_rules.proofs.FromFacing.{units_tell, spellings_part}
 use Rattle.asn_rules.proofs.FromUnits.{rules_laws}
-use Rattle.asn_oer.specs.Oer.{spelled, oer, oer_octets}
+use Rattle.asn_rules.specs.Fields.{spelled}
+use Rattle.asn_oer.specs.Oer.{oer, oer_octets}
 use Rattle.asn_oer.specs.Rules.{oer_ruling}
 use Rattle.asn_oer.proofs.Spellings.{oer_faces}
 use Rattle.asn_oer.proofs.GoodTypes.{good}

@@ -1,21 +1,20 @@
 -- The octets that the writers of INTEGER and ENUMERATED write in OER.
-use Rattle.std.proofs.Common.{◌≡◌, ◌≤◌, ◌<◌, ◌-◌, ◌*◌, ◌^◌, ℕ, ℤ, pos, negsuc, ◌≤ℤ◌, true, false, ◌||◌, Some, None, inl, inr, refl, sym, ◌∙◌, ap, subst, arith}
+use Rattle.std.proofs.Common.{◌≡◌, ◌≤◌, ◌<◌, ◌-◌, ◌*◌, ◌^◌, ℕ, ℤ, pos, negsuc, ◌≤ℤ◌, true, false, Some, None, inl, inr, refl, sym, ◌∙◌, ap, subst, arith}
 use Rattle.std.proofs.lemmas.Bool.{true≢false, le-leb, and_parts}
 use Rattle.std.proofs.lemmas.Nat.{pow_pos}
 use Rattle.std.specs.Int.RustNames.{int_le, int_lt}
 use Rattle.std.proofs.lemmas.Int.{ints}
-use Rattle.asn_values.specs.Shape.{Range, integer}
 use Rattle.asn_values.specs.Fits.{lowest_integer, highest_integer}
-use Rattle.asn_values.specs.Profile.{InProfile, EmptyRange, is_outside, low_above_high}
-use Rattle.asn_values.proofs.Parts.{left_false, right_false}
 use lib.IntN.{nat_abs}
 use Rattle.asn_bits.specs.Lengths.{general_octets}
 use Rattle.asn_bits.specs.Numbers.{bits, octets, least, least_signed, signed_octets, magnitude, unpacked}
 use Rattle.asn_bits.proofs.Splits.{unpacked-octets}
-use Rattle.asn_oer.specs.Oer.{magnitude_of, counted, counted_signed, unsigned_octets, unsigned_in, signed_size, signed_in, ranged}
+use Rattle.asn_oer.specs.Oer.{counted, counted_signed, unsigned_octets, unsigned_in, signed_size, signed_in, ranged}
 use Rattle.asn_oer.proofs.Integers.{signed_cases, from_zero, in_bound}
 use Rattle.asn_oer.proofs.SpeltLeaves.{in_64_bits}
 use Rattle.asn_oer.proofs.WrittenOctets.{least_counted, signed_counted}
+use Rattle.asn_rules.specs.IntegerSets.{magnitude_of}
+use Rattle.asn_rules.proofs.IntegerSets.{size_is}
 
 -- ---- which octets
 
@@ -45,10 +44,6 @@ counted_signed_form (negsuc l) z p = refl
 not_negative : (low z : ℤ) → int_le (pos 0) low ≡ true → int_le low z ≡ true → int_le (pos 0) z ≡ true
 not_negative (pos l) z p a = from_zero l z a
 not_negative (negsuc l) z p a = absurd (true≢false (sym p))
-
-pub size_is : (z : ℤ) → int_le (pos 0) z ≡ true → nat_abs z ≡ magnitude_of z
-size_is (pos n) p = refl
-size_is (negsuc n) p = absurd (true≢false (sym p))
 
 magnitude_small : (z : ℤ) → z ≤ℤ highest_integer → magnitude_of z < 18446744073709551616
 magnitude_small (pos n) q = omega (arith, ints)
@@ -90,21 +85,3 @@ signed_room low high z k e a b =
     ]
 
 -- ---- the bounds of a range of the profile
-
-not_below : (a b : ℤ) → int_lt a b ≡ false → b ≤ℤ a
-not_below a b e = grind (arith, ints)
-
-inside : (z : ℤ) → is_outside (Some z) ≡ false → (lowest_integer ≤ℤ z) × (z ≤ℤ highest_integer)
-inside z e = (not_below z lowest_integer (left_false _ _ e), not_below highest_integer z (right_false (int_lt z lowest_integer) _ e))
-
--- the low bound is of the profile
-pub low_bound : (b : Range) (low : ℤ) → InProfile (integer b) → b.low ≡ Some low → (lowest_integer ≤ℤ low) × (low ≤ℤ highest_integer)
-low_bound b low good p =
-    let w : (is_outside b.low || is_outside b.high) ≡ false = right_false (low_above_high b.low b.high) _ (good EmptyRange) in
-    inside low (ap is_outside (sym p) ∙ left_false _ _ w)
-
--- and so is the high one
-pub high_bound : (b : Range) (high : ℤ) → InProfile (integer b) → b.high ≡ Some high → (lowest_integer ≤ℤ high) × (high ≤ℤ highest_integer)
-high_bound b high good q =
-    let w : (is_outside b.low || is_outside b.high) ≡ false = right_false (low_above_high b.low b.high) _ (good EmptyRange) in
-    inside high (ap is_outside (sym q) ∙ right_false (is_outside b.low) _ w)

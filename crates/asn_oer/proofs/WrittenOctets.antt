@@ -1,46 +1,22 @@
 -- The bits of the octets that the writers of OER write.
-use Rattle.std.proofs.Common.{◌≡◌, ◌≤◌, ◌<◌, ◌+◌, ◌*◌, ℕ, zero, suc, ℤ, true, false, List, [], ◌∷◌, ◌++◌, length, sym, ◌∙◌, ap, arith, append_assoc, length-append, nat_lt}
-use Rattle.std.proofs.lemmas.Bool.{lt-ltb, le-ltb}
-use Rattle.std.proofs.lemmas.List.{append-nil}
+use Rattle.std.proofs.Common.{◌≡◌, ◌<◌, ◌+◌, ℕ, zero, suc, ℤ, List, [], ◌∷◌, ◌++◌, length, sym, ◌∙◌, ap, arith, append_assoc, length-append}
 use Rattle.asn_bits.specs.Lengths.{octet_length, general_octets, joined}
 use Rattle.asn_bits.specs.Numbers.{bits, octets, octet_count, least, least_signed, magnitude, padding, unpacked}
 use Rattle.asn_bits.proofs.FilledBits.{AreBits, length-padding, filled_up, filled_up_bits, filled_up_fills, unpacked-packed, length-packed}
 use Rattle.asn_bits.proofs.LeastLengths.{general_short}
 use Rattle.asn_bits.proofs.Octets.{length-digits, octet_count_below, length-least_signed, signed_count_below}
-use Rattle.asn_bits.proofs.Packing.{bits_zero}
-use Rattle.asn_bits.proofs.Splits.{unpacked-append, unpacked-octets}
+use Rattle.asn_bits.proofs.Splits.{unpacked-append}
 use Rattle.asn_rules.specs.Chunks.{Chunk, ones, flat}
 use Rattle.asn_rules.proofs.Flat.{flat-append, flat-ones}
+use Rattle.asn_rules.specs.Fields.{spelled}
+use Rattle.asn_rules.specs.Filled.{filled_bits, filled_octets, unused_bits}
+use Rattle.asn_rules.proofs.OctetsWritten.{one_octet, short_length, content}
 use Rattle.asn_oer.specs.BitsWritten.{bits_header}
-use Rattle.asn_oer.specs.Oer.{spelled, counted_signed, filled_bits, variable_bits, tag}
-use Rattle.asn_oer.specs.Preambles.{filled_octets, unused_bits}
+use Rattle.asn_oer.specs.Oer.{counted_signed, variable_bits, tag}
 use Rattle.asn_oer.specs.Walk.{counted_items}
 use Rattle.asn_oer.proofs.Leaves.{tag_is}
 
--- ---- octets
-
--- one octet
-pub one_octet : (n : ℕ) → unpacked (n ∷ []) ≡ bits 8 n
-one_octet n = append-nil (bits 8 n)
-
--- an octet and others
-pub first_octet : (n k m : ℕ) → unpacked (n ∷ octets k m) ≡ bits 8 n ++ bits (8 * k) m
-first_octet n k m = ap (λ (t : List ℕ). bits 8 n ++ t) (unpacked-octets k m)
-
 -- ---- lengths
-
-pub short_length : (n : ℕ) → n < 128 → unpacked (octet_length n) ≡ bits 8 n
-short_length n h = let e : nat_lt n 128 ≡ true = lt-ltb n 128 h in rw (e, octet_length) (one_octet n)
-
-pub long_length : (n c : ℕ) → 128 ≤ n → c ≡ octet_count n → unpacked (octet_length n) ≡ bits 8 (128 + c) ++ bits (8 * c) n
-long_length n c h k =
-    let e : nat_lt n 128 ≡ false = le-ltb n 128 h in
-    let all : unpacked (octet_length n) ≡ bits 8 (128 + octet_count n) ++ bits (8 * octet_count n) n = rw (e, octet_length) (first_octet (128 + octet_count n) (octet_count n) n) in
-    all ∙ ap (λ (i : ℕ). bits 8 (128 + i) ++ bits (8 * i) n) (sym k)
-
--- octets and their length
-pub content : (os : List ℕ) → unpacked (spelled os) ≡ unpacked (octet_length (length os)) ++ unpacked os
-content os = unpacked-append (octet_length (length os)) os
 
 -- few octets and their length are the same in both rules
 pub few_counted : (os : List ℕ) → length os < 128 → general_octets (λ u. u) os ≡ unpacked (spelled os)
@@ -90,10 +66,6 @@ pub variable_written : (old mid bs : List ℕ) (n : ℕ) → n ≡ length bs →
 variable_written old mid bs n e m =
     ap (λ (t : List ℕ). t ++ unpacked (filled_bits bs)) (m ∙ ap (λ (i : ℕ). old ++ unpacked (bits_header i)) e)
     ∙ append_assoc old (unpacked (bits_header (length bs))) (unpacked (filled_bits bs)) ∙ ap (λ (t : List ℕ). old ++ t) (sym (variable_is bs))
-
--- the zeros behind n bits as a number
-pub filling_bits : (n u : ℕ) → u ≡ unused_bits n → bits u 0 ≡ padding n
-filling_bits n u e = ap (λ (i : ℕ). bits i 0) e ∙ bits_zero (unused_bits n)
 
 -- what stands before n bits
 pub header_bits : (old mid : List ℕ) (n l u : ℕ) → l ≡ suc (filled_octets n) → u ≡ unused_bits n → mid ≡ old ++ unpacked (octet_length l) → mid ++ bits 8 u ≡ old ++ unpacked (bits_header n)

@@ -5,7 +5,8 @@ use Rattle.asn_values.specs.Shape.{boolean, null, integer, bit_string, utf8_stri
 use Rattle.asn_values.specs.ExampleTypes.{hex, bits_of, between, size_between, any_size, entries, items, note_type, twice_extended_type, extended_type, outer_type, extended_choice}
 use Rattle.asn_values.specs.FitsExamples.{truth_fits, null_fits, seven_fits, three_bits_fit, a_unicode_text_fits, two_components_fit, three_components_fit, two_elements_fit, an_entry_for_each_addition_fits, an_added_alternative_fits}
 use Rattle.asn_rules.specs.Chunks.{open_field, utf8_field, fields}
-use Rattle.asn_oer.specs.Oer.{spelled, oer}
+use Rattle.asn_rules.specs.Fields.{spelled}
+use Rattle.asn_oer.specs.Oer.{oer}
 use Rattle.asn_oer.specs.Rules.{oer_ruling, IsOerEncoding}
 
 -- ---- sealed fields: how many octets stand before each and before what follows it

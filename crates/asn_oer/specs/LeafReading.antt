@@ -1,19 +1,15 @@
 -- What the readers of ENUMERATED and BIT STRING read from octets in Canonical OER (X.696).
-use Rattle.std.specs.Prelude.{◌≡◌, ◌<◌, ℕ, List, ◌++◌, length, map, Option, None}
+use Rattle.std.specs.Prelude.{◌≡◌, ◌<◌, ℕ, List, ◌++◌, length, Option, None}
 use Rattle.std.specs.Global.{Vec}
 use Rattle.std.specs.Option.{option_map}
 use Rattle.asn_values.specs.declared.types.Item.{Item}
 use Rattle.asn_values.specs.Datum.{Datum, item}
-use Rattle.asn_values.specs.Shape.{Shape, SizeRange, enumerated, bit_string, Label, more_labels}
-use Rattle.asn_values.specs.View.{label_of, more_labels_of}
+use Rattle.asn_values.specs.Shape.{SizeRange, bit_string, Label}
 use Rattle.asn_rules.specs.Chunks.{Chunk}
 use Rattle.asn_rules.specs.Components.{number_at}
 use Rattle.asn_rules.specs.Listed.{IsOther, Spelt}
+use Rattle.asn_walk.specs.Items.{enumeration_of}
 use Rattle.asn_oer.specs.Oer.{oer, item_number}
-
--- the type ENUMERATED that has these items in its root and these additions
-abbrev pub enumeration_of : List Item → Option (Vec Item) → Shape
-enumeration_of root additions = enumerated (map label_of root) (more_labels_of additions)
 
 -- its items, but for one that is left out
 abbrev pub ItemsBut : Option ℕ → List Item → Option (Vec Item) → Datum → List Chunk → Type 0
@@ -24,10 +20,6 @@ pub record ItemBegins (labels : List Label) (except : Option ℕ) (place : ℕ) 
   pub there : place < length labels
   pub other : IsOther (option_map item except) (item place)
   pub whole : item_number (number_at labels place) ≡ os ++ rest
-
--- all items, those behind the mark too
-abbrev pub items_of : List Item → Option (Vec Item) → List Label
-items_of root additions = map label_of root ++ more_labels (more_labels_of additions)
 
 -- the values of the type BIT STRING that has this size
 abbrev pub BitStringsOf : SizeRange → Datum → List Chunk → Type 0

@@ -7,14 +7,7 @@ use Rattle.asn_rules.specs.Languages.{Then, Map, Plain}
 use Rattle.asn_bits.specs.Sets.{InDigits}
 use Rattle.asn_rules.specs.Listed.{bitmap_length}
 use Rattle.asn_rules.specs.Fields.{OctetLength}
-
--- how many octets n bits fill
-abbrev pub filled_octets : ℕ → ℕ
-filled_octets n = (n + 7) / 8
-
--- and how many bits are unused then
-abbrev pub unused_bits : ℕ → ℕ
-unused_bits n = (8 - n % 8) % 8
+use Rattle.asn_rules.specs.Filled.{filled_octets, unused_bits}
 
 -- a number of the set before u zero bits
 pub record BeforeZeros (u : ℕ) (S : ℕ → Type 0) (x : ℕ) : Type 0 where

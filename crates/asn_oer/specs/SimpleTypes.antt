@@ -10,7 +10,8 @@ use Rattle.asn_rules.specs.Components.{number_at}
 use Rattle.asn_rules.specs.Languages.{Then, Map, Nothing, Plain}
 use Rattle.asn_bits.specs.Sets.{InDigits, Between, Among}
 use Rattle.asn_rules.specs.Counted.{SomeOf, Counted, number_of, Least, signed_number, LeastSigned}
-use Rattle.asn_oer.specs.Oer.{magnitude_of, unsigned_octets, signed_size}
+use Rattle.asn_rules.specs.IntegerSets.{magnitude_of}
+use Rattle.asn_oer.specs.Oer.{unsigned_octets, signed_size}
 
 -- ---- BOOLEAN and NULL
 

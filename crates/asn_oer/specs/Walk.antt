@@ -7,10 +7,12 @@ use Rattle.asn_bits.specs.Lengths.{joined}
 use Rattle.asn_bits.specs.Numbers.{least, packed, unpacked}
 use Rattle.asn_rules.specs.Chunks.{Chunk, ones, flat}
 use Rattle.asn_rules.specs.Languages.{Map}
+use Rattle.asn_rules.specs.Fields.{spelled}
+use Rattle.asn_rules.specs.Filled.{filled_bits}
 use Rattle.asn_walk.specs.Ahead.{Ahead, items}
 use Rattle.asn_walk.specs.Coding.{Coding}
 use Rattle.asn_oer.specs.Constructed.{Quantity}
-use Rattle.asn_oer.specs.Oer.{oer, spelled, filled_bits, variable_bits, tag}
+use Rattle.asn_oer.specs.Oer.{oer, variable_bits, tag}
 use Rattle.asn_oer.specs.Rules.{oer_ruling}
 
 -- the tag of an alternative, by its index in a root of so many or among the additions ("encoding of tags")

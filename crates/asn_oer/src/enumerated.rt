@@ -4,48 +4,22 @@ ghost use Rattle.std.specs.Int.RustNames.{int_le, int_lt};
 ghost use Rattle.asn_values.specs.Datum.{item};
 ghost use Rattle.asn_values.specs.Fits.{Fits};
 ghost use Rattle.asn_values.specs.Profile.{InProfile};
-ghost use Rattle.asn_values.specs.Shape.{more_labels};
-ghost use Rattle.asn_values.specs.View.{more_labels_of};
 ghost use Rattle.asn_bits.specs.Numbers.{octets, magnitude};
 ghost use Rattle.asn_rules.specs.Components.{number_at};
 ghost use Rattle.asn_rules.specs.Languages.{Inhabited};
-ghost use Rattle.asn_oer.specs.LeafReading.{enumeration_of, items_of, ItemsBut, ItemBegins};
-ghost use Rattle.asn_oer.specs.BitsWritten.{Adds};
+ghost use Rattle.asn_rules.specs.OctetsWritten.{Adds};
+ghost use Rattle.asn_rules.specs.OctetReading.{AtOctet, ReadsOctets, StopsAtOctets};
+ghost use Rattle.asn_walk.specs.Items.{enumeration_of, items_of};
+ghost use Rattle.asn_oer.specs.LeafReading.{ItemsBut, ItemBegins};
 ghost use Rattle.asn_oer.specs.Oer.{oer_octets, item_number};
-ghost use Rattle.asn_oer.specs.Reading.{AtOctet, ReadsOctets, StopsAtOctets};
 
-use crate::octets::octets_left;
 use asn_bits::numbers::{signed_octet_count, signed_residue};
 use asn_bits::{BitCursor, BitSink};
+use asn_rules::octet_reader::octets_left;
 use asn_rules::{Stop, Why};
 use asn_values::Item;
+use asn_walk::items::{item_count, number_at};
 use std::alloc::AllocError;
-
-/// How many items there are, with the additions.
-pub(crate) fn item_count(root: &[Item], more: &Option<Vec<Item>>) -> u32
-    requires of_profile { InProfile (enumeration_of root.now more.now) }
-    ensures { result ≡ length (items_of root.now more.now) }
-{
-    match more {
-        Some(items) => (root.len() + items.len()) as u32,
-        None => root.len() as u32,
-    }
-}
-
-/// The number of the item at this place, the items of the root and the additions counted from 0.
-pub(crate) fn number_at(root: &[Item], more: &Option<Vec<Item>>, place: usize) -> i64
-    requires of_profile { InProfile (enumeration_of root.now more.now) }
-    requires there { place < length root.now + length (more_labels (more_labels_of more.now)) }
-    ensures { result ≡ number_at (items_of root.now more.now) place }
-{
-    if place < root.len() {
-        return root[place].number;
-    }
-    match more {
-        Some(items) => items.as_slice()[place - root.len()].number,
-        None => unreachable!(),
-    }
-}
 
 /// The octets of the number of an item, how many and the number that they are: one octet from 0 to 127, and else 128
 /// and a count of octets, and the number in the fewest octets of two's complement.
@@ -104,11 +78,7 @@ pub(crate) fn read_item(
     ensures done { IfOk result (λ p. ReadsOctets (ItemsBut except root.now more.now) (item p) units.old units.new) }
     ensures stop { IfErr result (λ why. StopsAtOctets (ItemsBut except root.now more.now) units.old why) }
 {
-    let why = if except.is_some() {
-        Why::Default
-    } else {
-        Why::Number
-    };
+    let why = Why::in_number(except.is_some());
     let mut begun = 0;
     for taken in 0..5 {
         let Some(octet) = units.take_number(8) else {

@@ -1,26 +1,26 @@
 //! INTEGER (X.696, "encoding of integer types"). A reader may leave one integer out: the DEFAULT of a component, which
 //! an encoder does not spell.
-ghost use Rattle.std.specs.Prelude.{◌≡◌, ◌≤ℤ◌, ◌<ℤ◌, ◌≤◌, pos, Some, ◌⊎◌, None, IfOk, IfErr, OnOk, false};
+ghost use Rattle.std.specs.Prelude.{◌≡◌, ◌≤ℤ◌, ◌≤◌, pos, Some, None, IfOk, IfErr, OnOk, false};
 ghost use Rattle.std.specs.Option.{option_map};
 ghost use Rattle.asn_values.specs.Fits.{lowest_integer, highest_integer, FitsNumber};
 ghost use Rattle.asn_values.specs.Datum.{number};
 ghost use Rattle.asn_values.specs.Shape.{integer};
 ghost use Rattle.asn_values.specs.Profile.{InProfile};
 ghost use Rattle.asn_values.specs.View.{range_of};
-ghost use Rattle.asn_bits.specs.Numbers.{above};
 ghost use Rattle.asn_rules.specs.Languages.{Inhabited};
 ghost use Rattle.asn_rules.specs.Listed.{Spelt};
-ghost use Rattle.asn_rules.specs.OffsetSets.{IsOpen};
+ghost use Rattle.asn_rules.specs.OctetReading.{AtOctet, ReadsOctets, StopsAtOctets};
+ghost use Rattle.asn_rules.specs.OctetsWritten.{Adds};
+ghost use Rattle.asn_rules.specs.IntegerSets.{IsWithin, unmarked};
 ghost use Rattle.asn_walk.specs.Writing.{TellsWhether};
 ghost use Rattle.asn_oer.specs.Oer.{unsigned_octets, signed_size, oer, oer_octets, ranged};
-ghost use Rattle.asn_oer.specs.Reading.{AtOctet, ReadsOctets, StopsAtOctets, IntegersBut, IsWithin, unmarked, IsBelowZero, AreNumbersBut, AreOffsetsBut};
-ghost use Rattle.asn_oer.specs.BitsWritten.{Adds};
+ghost use Rattle.asn_oer.specs.Reading.{IntegersBut, IsBelowZero};
 
-use crate::octets::{read_counted, read_counted_signed, read_octets, read_signed_octets};
 use asn_bits::numbers::signed_residue;
-use asn_bits::offsets::{at_offset, offset_from};
+use asn_bits::offsets::at_offset;
 use asn_bits::{BitCursor, BitSink};
-use asn_rules::{EncodeFault, HIGHEST_INTEGER, LOWEST_INTEGER, NumberSet, OffsetSet, Stop, Why};
+use asn_rules::octet_reader::{read_counted, read_counted_signed, read_octets, read_signed_octets};
+use asn_rules::{EncodeFault, LOWEST_INTEGER, Stop, Why, numbers_of, offsets_of};
 use asn_values::{Bounds, number_fits};
 use std::alloc::AllocError;
 
@@ -105,30 +105,17 @@ fn read_unsigned(
     ensures stop { IfErr result (λ why. StopsAtOctets (IntegersBut except (unmarked (Some low) high)) units.old why) }
 {
     let set = numbers_of(low, high, except);
-    let (in_count, in_number) = reasons(except);
+    let left_out = except.is_some();
     let n = match high {
-        Some(high) => read_octets(unsigned_size(high), set, in_number, units)?,
-        None => read_counted(set, in_count, in_number, units)?,
+        Some(high) => read_octets(unsigned_size(high), set, Why::in_number(left_out), units)?,
+        None => read_counted(
+            set,
+            Why::in_count(left_out),
+            Why::in_number(left_out),
+            units,
+        )?,
     };
     Ok(i128::from(n))
-}
-
-/// The integers of the range, but for `except`.
-fn numbers_of(low: i128, high: Option<i128>, except: Option<i128>) -> NumberSet
-    requires of_profile { InProfile (integer (unmarked (Some low) high)) }
-    requires from_zero { pos 0 ≤ℤ low }
-    requires within { IsWithin (unmarked (Some low) high) except }
-    ensures { AreNumbersBut except (unmarked (Some low) high) result }
-{
-    let excluded = match except {
-        Some(left_out) => Some(left_out as u64),
-        None => None,
-    };
-    NumberSet {
-        low: low as u64,
-        high: high.unwrap_or(HIGHEST_INTEGER) as u64,
-        excluded,
-    }
 }
 
 /// Reads an integer of a range that is not from 0 on, but for `except`, in two's complement: in a fixed number of
@@ -150,56 +137,19 @@ fn read_signed(
     ensures stop { IfErr result (λ why. StopsAtOctets (IntegersBut except (unmarked low high)) units.old why) }
 {
     let set = offsets_of(low, high, except);
-    let (in_count, in_number) = reasons(except);
+    let left_out = except.is_some();
     let offset = match (low, high) {
         (Some(low), Some(high)) => {
-            read_signed_octets(signed_size(low, high), set, in_number, units)?
+            read_signed_octets(signed_size(low, high), set, Why::in_number(left_out), units)?
         }
-        _ => read_counted_signed(set, in_count, in_number, units)?,
+        _ => read_counted_signed(
+            set,
+            Why::in_count(left_out),
+            Why::in_number(left_out),
+            units,
+        )?,
     };
     Ok(at_offset(LOWEST_INTEGER, offset))
-}
-
-/// The offsets of the integers of the range, but for `except`.
-fn offsets_of(low: Option<i128>, high: Option<i128>, except: Option<i128>) -> OffsetSet
-    requires of_profile { InProfile (integer (unmarked low high)) }
-    requires within { IsWithin (unmarked low high) except }
-    ensures same { AreOffsetsBut except (unmarked low high) result }
-    ensures gap { (low ≡ None) ⊎ (high ≡ None) → IsOpen result }
-{
-    let start = offset_of(low.unwrap_or(LOWEST_INTEGER));
-    let end = offset_of(high.unwrap_or(HIGHEST_INTEGER)) + 1;
-    match except {
-        Some(left_out) => OffsetSet {
-            start,
-            below: offset_of(left_out),
-            from: offset_of(left_out) + 1,
-            end,
-        },
-        None => OffsetSet {
-            start,
-            below: start,
-            from: start,
-            end,
-        },
-    }
-}
-
-/// How far an integer lies above the lowest one.
-fn offset_of(whole: i128) -> u128
-    requires low { lowest_integer ≤ℤ whole }
-    requires high { whole ≤ℤ highest_integer }
-    ensures { result ≡ above lowest_integer whole }
-{
-    u128::from(offset_from(LOWEST_INTEGER, whole))
-}
-
-/// The reasons of a refusal in the count of the octets, and after it.
-fn reasons(except: Option<i128>) -> (Why, Why) {
-    match except {
-        Some(_) => (Why::Default, Why::Default),
-        None => (Why::Length, Why::Number),
-    }
 }
 
 /// Writes a number, where it is one of the range (X.696, "encoding of integer types"). A range with an extension mark

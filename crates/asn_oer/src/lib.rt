@@ -4,10 +4,8 @@
 mod enumerated;
 mod integer;
 mod laws;
-mod octets;
 mod read_leaves;
 mod rules;
-mod sizes;
 mod string_reader;
 mod write_leaves;
 mod writer;

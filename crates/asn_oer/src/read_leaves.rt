@@ -5,23 +5,25 @@ ghost use Rattle.asn_values.specs.Datum.{truth};
 ghost use Rattle.asn_values.specs.Shape.{boolean};
 ghost use Rattle.asn_bits.specs.Sets.{Among, Meets};
 ghost use Rattle.asn_rules.specs.Listed.{Spelt};
+ghost use Rattle.asn_rules.specs.OctetReading.{AtOctet, ReadsOctets, StopsAtOctets};
 ghost use Rattle.asn_walk.specs.Coding.{AreFew};
 ghost use Rattle.asn_oer.specs.ElementsAhead.{ahead_of};
 ghost use Rattle.asn_oer.specs.Oer.{oer};
-ghost use Rattle.asn_oer.specs.Reading.{AtOctet, ReadsOctets, StopsAtOctets, TruthOctet};
+ghost use Rattle.asn_oer.specs.Reading.{TruthOctet};
 ghost use Rattle.asn_oer.specs.Walk.{oer_coding, mark_of, alternatives_of};
 
 use crate::enumerated::read_item;
 use crate::integer::read_integer;
-use crate::octets::{self, read_filled, read_length, read_octets, read_octets_among};
 use crate::rules::Oer;
-use crate::sizes::read_quantity;
-use crate::string_reader::{
-    read_bit_string, read_octet_string, read_octets_behind, read_text, read_utf8_string,
-};
+use crate::string_reader::{read_bit_string, read_octet_string, read_text, read_utf8_string};
 use asn_bits::{BitCursor, Intervals};
+use asn_rules::octet_reader::{
+    self, read_counted, read_filled, read_length, read_octets, read_octets_among,
+    read_octets_with_length,
+};
 use asn_rules::{MAX_OCTETS, NumberSet, Stop, Why};
 use asn_values::{AsnType, Size, Value};
+use asn_walk::sizes::counts_of;
 use asn_walk::{Index, Preamble, ReadLeaves};
 use std::alloc::Global;
 
@@ -32,6 +34,7 @@ pub enum Elements {
     End,
 }
 
+#[tactic(auto, unfolding(crate::specs::Walk::oer_coding, crate::specs::Rules::oer_ruling))]
 impl ReadLeaves for Oer {
     ghost rules = { oer_coding };
 
@@ -42,19 +45,16 @@ impl ReadLeaves for Oer {
     ghost is_between = { λ e. ⊤ };
 
     #[inline(always)]
-    #[tactic(auto, unfolding(crate::specs::Walk::oer_coding, crate::specs::Rules::oer_ruling))]
     fn units_left(units: &BitCursor<'_>) -> u128 {
-        octets::octets_left(units) as u128
+        octet_reader::octets_left(units) as u128
     }
 
     #[inline(always)]
-    #[tactic(auto, unfolding(crate::specs::Walk::oer_coding, crate::specs::Rules::oer_ruling))]
     fn octets_left(units: &BitCursor<'_>) -> usize {
-        octets::octets_left(units)
+        octet_reader::octets_left(units)
     }
 
     #[inline(always)]
-    #[tactic(auto, unfolding(crate::specs::Walk::oer_coding, crate::specs::Rules::oer_ruling))]
     fn read_simple(alloc: Global, ty: &AsnType, units: &mut BitCursor<'_>) -> Result<Value, Stop> {
         match ty {
             AsnType::Bool => Ok(Value::Bool(read_boolean(None, units)?)),
@@ -69,7 +69,6 @@ impl ReadLeaves for Oer {
         }
     }
 
-    #[tactic(auto, unfolding(crate::specs::Walk::oer_coding, crate::specs::Rules::oer_ruling))]
     fn read_other(ty: &AsnType, default: &Value, units: &mut BitCursor<'_>) -> Result<Value, Stop> {
         match (ty, default) {
             (AsnType::Bool, Value::Bool(truth)) => {
@@ -86,13 +85,11 @@ impl ReadLeaves for Oer {
     }
 
     #[inline(always)]
-    #[tactic(auto, unfolding(crate::specs::Walk::oer_coding, crate::specs::Rules::oer_ruling))]
     fn try_between(_low: i128, _high: i128, _units: &mut BitCursor<'_>) -> Option<i128> {
         None
     }
 
     #[inline(always)]
-    #[tactic(auto, unfolding(crate::specs::Walk::oer_coding, crate::specs::Rules::oer_ruling))]
     fn read_preamble(
         count: u32,
         additions: Option<usize>,
@@ -107,7 +104,6 @@ impl ReadLeaves for Oer {
     }
 
     #[inline(always)]
-    #[tactic(auto, unfolding(crate::specs::Walk::oer_coding, crate::specs::Rules::oer_ruling))]
     fn read_addition_bitmap(count: u32, units: &mut BitCursor<'_>) -> Result<u64, Stop> {
         // a BIT STRING with its length and the count of its unused bits
         let length = u64::from((count + 7) / 8 + 1);
@@ -124,7 +120,6 @@ impl ReadLeaves for Oer {
     }
 
     #[inline(always)]
-    #[tactic(auto, unfolding(crate::specs::Walk::oer_coding, crate::specs::Rules::oer_ruling))]
     fn read_index(
         root: usize,
         additions: Option<usize>,
@@ -145,25 +140,23 @@ impl ReadLeaves for Oer {
     }
 
     #[inline(always)]
-    #[tactic(auto, unfolding(crate::specs::Walk::oer_coding, crate::specs::Rules::oer_ruling))]
     fn read_open_octets(alloc: Global, units: &mut BitCursor<'_>) -> Result<Vec<u8>, Stop> {
-        read_octets_behind(alloc, 0, MAX_OCTETS as u64, units)
+        read_octets_with_length(alloc, 0, MAX_OCTETS as u64, units)
     }
 
     #[inline(always)]
-    #[tactic(auto, unfolding(crate::specs::Walk::oer_coding, crate::specs::Rules::oer_ruling))]
     fn read_padding(_given: u128, _units: &mut BitCursor<'_>) -> Result<(), Stop> {
         Ok(())
     }
 
     #[inline(always)]
-    #[tactic(auto, unfolding(crate::specs::Walk::oer_coding, crate::specs::Rules::oer_ruling))]
     fn start_list(size: &Size, units: &mut BitCursor<'_>) -> Result<Elements, Stop> {
-        Ok(Elements::Items(read_quantity(size, units)?))
+        // the quantity, an INTEGER from 0 on
+        let count = read_counted(counts_of(size), Why::Length, Why::Length, units)?;
+        Ok(Elements::Items(count as usize))
     }
 
     #[inline(always)]
-    #[tactic(auto, unfolding(crate::specs::Walk::oer_coding, crate::specs::Rules::oer_ruling))]
     fn next_fragment(
         fragments: &mut Elements,
         _units: &mut BitCursor<'_>,
@@ -213,12 +206,12 @@ pub(crate) fn read_boolean(except: Option<bool>, units: &mut BitCursor<'_>) -> R
         ReadsOctets (Spelt oer (option_map truth except) boolean) (truth b) units.old units.new) }
     ensures stop { IfErr result (λ why. StopsAtOctets (Spelt oer (option_map truth except) boolean) units.old why) }
 {
-    let why = if except.is_some() {
-        Why::Default
-    } else {
-        Why::Number
-    };
-    let octet = read_octets_among(1, truth_octets(except), why, units)?;
+    let octet = read_octets_among(
+        1,
+        truth_octets(except),
+        Why::in_number(except.is_some()),
+        units,
+    )?;
     Ok(0 < octet)
 }
 

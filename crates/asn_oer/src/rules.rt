@@ -1,14 +1,13 @@
 //! Canonical OER as encoding rules: the encoder, and sessions that keep all octets and read them again with each piece.
-ghost use Rattle.std.specs.Prelude.{[], Ok, Err, IfOk, IfErr, OnOk};
-ghost use Rattle.asn_values.specs.Shape.{Shape};
+ghost use Rattle.std.specs.Prelude.{[], Ok, Err, IfErr, OnOk};
 ghost use Rattle.asn_values.specs.View.{shape_of};
 ghost use Rattle.asn_rules.specs.Codec.{Decoded};
-ghost use Rattle.asn_rules.specs.Rereading.{FedAtOnce, TellsIfNone, Keeps};
+ghost use Rattle.asn_rules.specs.Rereading.{Keeps};
 ghost use Rattle.asn_oer.specs.Rules.{oer_ruling};
 
 use asn_rules::{
     DecodeFault, EncodeFault, FeedFault, OpenFault, Reads, Rereading, Rules, Step, Truncated,
-    rereading,
+    is_value_of_none, rereading,
 };
 use asn_values::{Checked, Value};
 use std::alloc::{AllocError, Global};
@@ -27,7 +26,7 @@ impl Reads for Oer {
 
     #[tactic(auto, unfolding(crate::specs::Walk::oer_coding))]
     fn may_be_empty(alloc: Global, ty: &Checked) -> Result<bool, AllocError> {
-        is_value(&asn_walk_read::read_message::<Oer>(alloc, ty, &[]))
+        is_value_of_none(&asn_walk_read::read_message::<Oer>(alloc, ty, &[]))
     }
 
     #[inline(always)]
@@ -84,34 +83,4 @@ pub fn decode_into(
     ensures fault { IfErr result (λ why. Decoded oer_ruling (Err why) (shape_of ty.now) octets.now) }
 {
     asn_walk_into::decode_into::<Oer>(alloc, ty, octets, value)
-}
-
-/// Whether what was answered to no octets is a value.
-///
-/// # Errors
-/// `AllocError` where an allocation failed.
-#[tactic(auto, using(crate::proofs::NoOctets::more_told))]
-fn is_value(answer: &Result<Step, FeedFault>) -> Result<bool, AllocError>
-    ensures { (t : Shape) → FedAtOnce oer_ruling t [] answer.now → IfOk result (TellsIfNone oer_ruling t) }
-{
-    match answer {
-        Ok(Step::Done { .. }) => Ok(true),
-        Ok(Step::More) => Ok(false),
-        Err(fault) => no_value(*fault),
-    }
-}
-
-/// That a fault answered to no octets is no value.
-///
-/// # Errors
-/// As `is_value`.
-fn no_value(fault: FeedFault) -> Result<bool, AllocError>
-    ensures { (t : Shape) → FedAtOnce oer_ruling t [] (Err fault) → IfOk result (TellsIfNone oer_ruling t) }
-{
-    match fault {
-        FeedFault::Memory => Err(AllocError),
-        FeedFault::Refused { .. } => Ok(false),
-        FeedFault::TooLong => Ok(false),
-        FeedFault::Spent => Ok(false),
-    }
 }

@@ -5,9 +5,10 @@ ghost use Rattle.asn_oer.specs.Walk.{oer_coding};
 use crate::enumerated::write_item;
 use crate::integer::write_integer;
 use crate::rules::Oer;
-use crate::writer::{write_bits, write_content, write_filling, write_header, write_sized};
+use crate::writer::{write_bits, write_header, write_sized};
 use asn_bits::BitSink;
 use asn_rules::EncodeFault;
+use asn_rules::octet_writer::{write_content, write_filling};
 use asn_values::{
     AsnType, Bounds, Size, Value, item_fits, length_fits, octets_fit, text_fits, unicode_fits,
 };
@@ -18,6 +19,7 @@ use std::alloc::AllocError;
 #[derive(Drop)]
 pub struct Following;
 
+#[tactic(auto, unfolding(crate::specs::Walk::oer_coding, crate::specs::Rules::oer_ruling))]
 impl WriteLeaves for Oer {
     ghost rules = { oer_coding };
 
@@ -26,7 +28,6 @@ impl WriteLeaves for Oer {
     ghost rest = { λ f items. joined items };
 
     #[inline(always)]
-    #[tactic(auto, unfolding(crate::specs::Walk::oer_coding, crate::specs::Rules::oer_ruling))]
     fn write_simple(ty: &AsnType, value: &Value, sink: &mut BitSink) -> Result<(), EncodeFault> {
         match (ty, value) {
             (AsnType::Bool, Value::Bool(truth)) => {
@@ -55,13 +56,11 @@ impl WriteLeaves for Oer {
     }
 
     #[inline(always)]
-    #[tactic(auto, unfolding(crate::specs::Walk::oer_coding, crate::specs::Rules::oer_ruling))]
     fn write_number(bounds: &Bounds, whole: i128, sink: &mut BitSink) -> Result<(), EncodeFault> {
         write_integer(bounds, whole, sink)
     }
 
     #[inline(always)]
-    #[tactic(auto, unfolding(crate::specs::Walk::oer_coding, crate::specs::Rules::oer_ruling))]
     fn write_preamble(
         extended: Option<bool>,
         count: u32,
@@ -76,7 +75,6 @@ impl WriteLeaves for Oer {
         write_filling(mark + count as usize, sink)
     }
 
-    #[tactic(auto, unfolding(crate::specs::Walk::oer_coding, crate::specs::Rules::oer_ruling))]
     fn write_addition_bitmap(
         count: u32,
         bitmap: u64,
@@ -88,7 +86,6 @@ impl WriteLeaves for Oer {
     }
 
     #[inline(always)]
-    #[tactic(auto, unfolding(crate::specs::Walk::oer_coding, crate::specs::Rules::oer_ruling))]
     fn write_index(
         root: usize,
         marked: bool,
@@ -104,20 +101,17 @@ impl WriteLeaves for Oer {
     }
 
     #[inline(always)]
-    #[tactic(auto, unfolding(crate::specs::Walk::oer_coding, crate::specs::Rules::oer_ruling))]
     fn write_open_octets(octets: &[u8], sink: &mut BitSink) -> Result<(), AllocError> {
         write_content(octets, sink)
     }
 
     #[inline(always)]
-    #[tactic(auto, unfolding(crate::specs::Walk::oer_coding, crate::specs::Rules::oer_ruling))]
     fn start_list(size: &Size, count: usize, sink: &mut BitSink) -> Result<Following, AllocError> {
         sink.push_least_octets(count as u64)?;
         Ok(Following)
     }
 
     #[inline(always)]
-    #[tactic(auto, unfolding(crate::specs::Walk::oer_coding, crate::specs::Rules::oer_ruling))]
     fn next_fragment(
         fragments: &mut Following,
         left: usize,
@@ -130,7 +124,6 @@ impl WriteLeaves for Oer {
     }
 
     #[inline(always)]
-    #[tactic(auto, unfolding(crate::specs::Walk::oer_coding, crate::specs::Rules::oer_ruling))]
     fn complete(sink: BitSink) -> Result<Vec<u8>, AllocError> {
         Ok(sink.into_octets())
     }

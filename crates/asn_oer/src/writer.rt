@@ -1,45 +1,17 @@
 //! Writers of what values consist of: lengths, octets after their length, and bits that are filled up to octets.
-ghost use Rattle.std.specs.Prelude.{◌≡◌, ◌≤◌, length, map};
+ghost use Rattle.std.specs.Prelude.{◌≤◌, length, map};
 ghost use Rattle.asn_values.specs.Fits.{max_len};
 ghost use Rattle.asn_values.specs.View.{size_range_of};
-ghost use Rattle.asn_bits.specs.Lengths.{octet_length};
-ghost use Rattle.asn_bits.specs.Numbers.{padding};
 ghost use Rattle.asn_bits.specs.Sink.{bit_of};
-ghost use Rattle.asn_oer.specs.Oer.{bit_octets, sized_octets, spelled};
-ghost use Rattle.asn_oer.specs.Preambles.{unused_bits};
-ghost use Rattle.asn_oer.specs.BitsWritten.{Adds, AddsBits, bits_header};
+ghost use Rattle.asn_oer.specs.Oer.{bit_octets, sized_octets};
+ghost use Rattle.asn_oer.specs.BitsWritten.{bits_header};
+ghost use Rattle.asn_rules.specs.OctetsWritten.{Adds};
 
-use crate::sizes::is_fixed;
 use asn_bits::BitSink;
-use asn_bits::numbers::octet_count;
+use asn_rules::octet_writer::{unused_bits, write_content, write_filling, write_length};
 use asn_values::Size;
+use asn_walk::sizes::is_fixed;
 use std::alloc::AllocError;
-
-/// The first length that one octet does not tell.
-const LONG: u64 = 128;
-
-/// Writes a length (X.696, "length determinant"): one octet to 127, and else 128 and a count of octets, and the length
-/// in the fewest octets.
-#[inline(always)]
-pub(crate) fn write_length(length: usize, sink: &mut BitSink) -> Result<(), AllocError>
-    ensures { Adds result sink.old sink.new (octet_length length) }
-{
-    let length = length as u64;
-    if length < LONG {
-        return sink.push_number(8, length);
-    }
-    let count = octet_count(length);
-    sink.push_number(8, 128 + u64::from(count))?;
-    sink.push_number(8 * count, length)
-}
-
-/// Writes octets after their length.
-pub(crate) fn write_content(octets: &[u8], sink: &mut BitSink) -> Result<(), AllocError>
-    ensures { Adds result sink.old sink.new (spelled octets.now) }
-{
-    write_length(octets.len(), sink)?;
-    sink.push_octets(octets)
-}
 
 /// Writes octets, after their length unless the size is fixed.
 pub(crate) fn write_sized(size: &Size, octets: &[u8], sink: &mut BitSink) -> Result<(), AllocError>
@@ -72,19 +44,5 @@ pub(crate) fn write_header(count: usize, sink: &mut BitSink) -> Result<(), Alloc
     ensures { Adds result sink.old sink.new (bits_header count) }
 {
     write_length(1 + (count + 7) / 8, sink)?;
-    sink.push_number(8, u64::from(unused(count)))
-}
-
-/// Writes the zeros that fill up the last octet of `count` bits.
-pub(crate) fn write_filling(count: usize, sink: &mut BitSink) -> Result<(), AllocError>
-    ensures { AddsBits result sink.old sink.new (padding count) }
-{
-    sink.push_number(unused(count), 0)
-}
-
-/// How many bits of the last octet of `count` bits are unused.
-fn unused(count: usize) -> u32
-    ensures { result ≡ unused_bits count }
-{
-    (8 - (count % 8) as u32) % 8
+    sink.push_number(8, u64::from(unused_bits(count)))
 }

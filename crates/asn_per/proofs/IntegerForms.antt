@@ -19,16 +19,16 @@ use Rattle.asn_rules.specs.declared.signed_reader.OffsetSet.{OffsetSet}
 use Rattle.asn_per.specs.Kinds.{Values, Unconstrained, IsOutside, Ranged, of_either}
 use Rattle.asn_per.specs.Per.{per, per_fields}
 use Rattle.asn_rules.specs.OffsetSets.{HasOffset, HasInteger}
-use Rattle.asn_per.specs.Reading.{AreOffsets, IsUpTo, IsWithin, unmarked}
+use Rattle.asn_rules.specs.IntegerSets.{AreOffsetsBut, IsOneBut, IsWithin, unmarked}
 use Rattle.asn_per.proofs.LeftOut.{none_left_out, unbounded_but_one}
 use Rattle.asn_per.proofs.MarkedIntegers.{integers_compose, ranged_compose, root_of_profile}
 use Rattle.asn_per.proofs.SignedReading.{signed_leads}
 
 -- ---- without a low bound
 
-module _ (high e : Option ℤ) (s : OffsetSet) (same : AreOffsets s (λ z. IsUpTo high e z)) where
+module _ (high e : Option ℤ) (s : OffsetSet) (same : AreOffsetsBut e (unmarked None high) s) where
   pub up_to_leads : (us : List ℕ) → Leads per_fields (Map signed_number (Counted 2 8 (LeastSigned (λ z. HasInteger s z)))) us number (Spelt per (option_map number e) (integer (unmarked None high))) us
-  up_to_leads us = leads_on (signed_leads s (λ z. IsUpTo high e z) same us) (leads_same per_fields us (unbounded_but_one high e))
+  up_to_leads us = leads_on (signed_leads s (λ z. IsOneBut e (unmarked None high) z) same us) (leads_same per_fields us (unbounded_but_one high e))
 
   pub up_to_some : Inhabited (Spelt per (option_map number e) (integer (unmarked None high))) → (w : ℕ) × HasOffset s w
   up_to_some i = go i.value i.spelt.fits

@@ -1,19 +1,17 @@
 -- Integers without a low bound, and those outside a root, by how far they lie above the lowest one.
-use Rattle.std.proofs.Common.{◌≡◌, ◌≤◌, ◌<◌, ◌+◌, ◌^◌, ◌⊎◌, ⊎_elim, inl, inr, ℕ, ℤ, ◌≤ℤ◌, Bool, true, false, ◌&&◌, Option, Some, None, refl, sym, ap, ◌∙◌, arith}
+use Rattle.std.proofs.Common.{◌≡◌, ◌≤◌, ◌<◌, ◌^◌, ◌⊎◌, ⊎_elim, inl, inr, ℕ, ℤ, ◌≤ℤ◌, Bool, true, false, ◌&&◌, Option, Some, None, refl, sym, ◌∙◌, arith}
 use Rattle.std.proofs.lemmas.Bool.{and_cases, cases_lt, true≢false}
 use Rattle.std.proofs.lemmas.Int.{ints}
-use Rattle.asn_values.specs.Datum.{number}
 use Rattle.asn_values.specs.Shape.{Range, integer}
 use Rattle.asn_values.specs.Fits.{lowest_integer, highest_integer, at_least, at_most, in_range}
 use Rattle.asn_values.specs.Profile.{InProfile, EmptyRange, UselessMark, is_outside, low_above_high}
 use Rattle.asn_values.proofs.Parts.{left_false, right_false}
 use Rattle.asn_bits.specs.Numbers.{above}
-use Rattle.asn_bits.proofs.Above.{pos-above, le_of_test, test_of_le, above_same}
-use Rattle.asn_rules.specs.Components.{is_default}
+use Rattle.asn_bits.proofs.Above.{pos-above, le_of_test, test_of_le}
 use Rattle.asn_per.specs.Kinds.{IsOutside}
 use Rattle.asn_rules.specs.OffsetSets.{HasOffset}
-use Rattle.asn_per.specs.Reading.{AreOffsets, IsUpTo, low_offset, high_offset}
-use Rattle.asn_per.proofs.IntegerLanguages.{default_test, default_self}
+use Rattle.asn_rules.specs.IntegerSets.{AreOffsets}
+use Rattle.asn_per.specs.Reading.{low_offset, high_offset}
 use Rattle.asn_per.proofs.IntegerRanges.{inside}
 
 -- the bounds of a range of the profile
@@ -46,36 +44,6 @@ offset_least (Some low) z o p h = test_of_le low z (omega (arith, ints, h, pos-a
 pub high_offset_within : (high : Option ℤ) → is_outside high ≡ false → high_offset high ≤ 2 ^ 64
 high_offset_within None o = omega arith
 high_offset_within (Some high) o = (let w = inside high o in omega (arith, offset_below high w.0 w.1))
-
--- ---- up to a high bound
-
-module _ (high : Option ℤ) (o : is_outside high ≡ false) where
-  pub all_offsets : AreOffsets (record { start = 0; below = 0; from = 0; end = high_offset high }) (λ z. IsUpTo high None z)
-  all_offsets = record {
-    there = λ z h. ((h.0, h.1, offset_most high z o h.0 h.2.0), tt);
-    back = λ z h. (h.0.0, h.0.1, (most_offset high z o h.0.0 h.0.1 h.0.2, inr (omega arith)));
-  }
-
-  pub other_offsets : (d : ℤ) → lowest_integer ≤ℤ d → AreOffsets (record { start = 0; below = above lowest_integer d; from = above lowest_integer d + 1; end = high_offset high }) (λ z. IsUpTo high (Some d) z)
-  other_offsets d least = record {
-    there = λ z h. ((h.0, h.1, offset_most high z o h.0 h.2.0), other z h.2.1);
-    back = λ z h. (h.0.0, h.0.1, (most_offset high z o h.0.0 h.0.1 h.0.2, apart z h.0.0 h.1));
-  }
-    where
-      other : (z : ℤ) → ((0 ≤ above lowest_integer z) × (above lowest_integer z < above lowest_integer d)) ⊎ (above lowest_integer d + 1 ≤ above lowest_integer z) → is_default (number d) (number z) ≡ false
-      other z h = go (is_default (number d) (number z)) refl
-        where
-          go : (b : Bool) → is_default (number d) (number z) ≡ b → b ≡ false
-          go false e = refl
-          go true e = (let same = ap (above lowest_integer) (default_test d z e) in absurd (⊎_elim (λ l. omega (arith, l.1, same)) (λ l. omega (arith, l, same)) h))
-
-      apart : (z : ℤ) → lowest_integer ≤ℤ z → is_default (number d) (number z) ≡ false → ((0 ≤ above lowest_integer z) × (above lowest_integer z < above lowest_integer d)) ⊎ (above lowest_integer d + 1 ≤ above lowest_integer z)
-      apart z p n = ⊎_elim (λ l. inl (omega arith, l)) (λ g. ⊎_elim (λ l. inr (omega (arith, l))) (λ l. absurd (same (omega (arith, g, l)))) (cases_lt (above lowest_integer d) (above lowest_integer z))) (cases_lt (above lowest_integer z) (above lowest_integer d))
-        where
-          same : above lowest_integer z ≡ above lowest_integer d → ⊥
-          same e =
-              let is : z ≡ d = above_same lowest_integer z d p least e in
-              true≢false (sym (ap (λ x. is_default (number d) (number x)) is ∙ default_self d) ∙ n)
 
 -- ---- outside a root
 

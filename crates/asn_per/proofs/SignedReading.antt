@@ -9,9 +9,9 @@ use Rattle.asn_rules.specs.declared.signed_reader.OffsetSet.{OffsetSet}
 use Rattle.asn_rules.proofs.Leads.{Leads, leads_on, leads_map, leads_same}
 use Rattle.asn_rules.proofs.NumberSets.{same_set}
 use Rattle.asn_rules.proofs.Spellings.{same_then, same_map}
+use Rattle.asn_rules.specs.IntegerSets.{AreOffsets}
 use Rattle.asn_per.specs.Per.{per_fields}
 use Rattle.asn_per.specs.Kinds.{Unconstrained}
-use Rattle.asn_per.specs.Reading.{AreOffsets}
 
 same_counted : (T U : ℕ → ℕ → Type 0) → ((k n : ℕ) → T k n → U k n) → ((k n : ℕ) → U k n → T k n) → Same (Counted 2 8 T) (Counted 2 8 U)
 same_counted T U there back = same_then

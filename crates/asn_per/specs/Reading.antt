@@ -1,26 +1,25 @@
 -- What the readers of the decoder read.
-use Rattle.std.specs.Prelude.{◌≡◌, ◌<◌, ◌+◌, ◌*◌, ◌/◌, ◌%◌, ◌^◌, ℕ, ℤ, Bool, false, List, [], ◌∷◌, ◌++◌, length, map, Option, Some, None, Result, IfOk, IfErr, ⊤}
+use Rattle.std.specs.Prelude.{◌≡◌, ◌<◌, ◌+◌, ◌*◌, ◌/◌, ◌%◌, ◌^◌, ℕ, ℤ, Bool, false, List, [], ◌∷◌, ◌++◌, length, map, Option, Some, None, Result, IfOk, IfErr}
 use Rattle.std.specs.Global.{Vec}
 use Rattle.asn_values.specs.declared.types.Item.{Item}
 use Rattle.asn_values.specs.declared.types.TextKind.{TextKind}
-use Rattle.asn_values.specs.Shape.{Shape, Range, integer, boolean, enumerated, marked_labels, Alphabet, ia5, numeric, visible}
-use Rattle.asn_values.specs.View.{alphabet_of, label_of, more_labels_of}
-use Rattle.asn_values.specs.Fits.{FitsNumber, lowest_integer}
+use Rattle.asn_values.specs.Shape.{Range, integer, boolean, marked_labels, Alphabet, ia5, numeric, visible}
+use Rattle.asn_values.specs.View.{alphabet_of, label_of}
+use Rattle.asn_values.specs.Fits.{lowest_integer}
 use Rattle.asn_bits.specs.Numbers.{above}
 use Rattle.asn_rules.specs.Chunks.{Chunk}
 use Rattle.asn_rules.specs.declared.stop.Stop.{Stop}
 use Rattle.asn_rules.specs.declared.stop.Stop.TheVariants as stop
 use Rattle.asn_rules.specs.Languages.{Spells, Map, Row}
-use Rattle.asn_rules.specs.Listed.{IsOther, Spelt}
+use Rattle.asn_rules.specs.Listed.{Spelt}
 use Rattle.asn_rules.specs.NumberSets.{Admits}
 use Rattle.asn_rules.specs.Stops.{Stops}
 use Rattle.asn_values.specs.Datum.{Datum, number, truth, item}
 use Rattle.std.specs.Option.{option_map}
 use Rattle.asn_per.specs.Per.{per, per_fields}
 use Rattle.asn_per.specs.Kinds.{Character, Items, Unconstrained, IsOutside, numeric_at}
-use Rattle.asn_rules.specs.OffsetSets.{HasInteger}
 use Rattle.asn_rules.specs.declared.number_reader.NumberSet.{NumberSet}
-use Rattle.asn_rules.specs.declared.signed_reader.OffsetSet.{OffsetSet}
+use Rattle.asn_walk.specs.Items.{enumeration_of}
 
 -- ---- what a reader says of its result
 
@@ -42,10 +41,6 @@ IntegersBut except b = Spelt per (option_map number except) (integer b)
 abbrev pub BooleansBut : Option Bool → Datum → List Chunk → Type 0
 BooleansBut except = Spelt per (option_map truth except) boolean
 
--- the type ENUMERATED that has these items in its root and these additions
-abbrev pub enumeration_of : List Item → Option (Vec Item) → Shape
-enumeration_of root additions = enumerated (map label_of root) (more_labels_of additions)
-
 -- its items
 abbrev pub ItemsBut : Option ℕ → List Item → Option (Vec Item) → Datum → List Chunk → Type 0
 ItemsBut except root additions = Spelt per (option_map item except) (enumeration_of root additions)
@@ -56,23 +51,9 @@ MarkedItems root additions = Items (map label_of root) (marked_labels (map label
 
 -- ---- integers
 
--- a range without an extension mark
-abbrev pub unmarked : Option ℤ → Option ℤ → Range
-unmarked low high = record { low = low; high = high; extensible = false }
-
--- an integer that may be left out of a range is one of it, and the range has no extension mark
-abbrev pub IsWithin : Range → Option ℤ → Type 0
-IsWithin b None = ⊤
-IsWithin b (Some d) = FitsNumber b d × (b.extensible ≡ false)
-
 -- the integers outside a range
 abbrev pub IntegersOutside : Range → Datum → List Chunk → Type 0
 IntegersOutside b = Unconstrained (λ y. IsOutside b y)
-
--- the offsets are those of the integers of a set
-pub record AreOffsets (s : OffsetSet) (S : ℤ → Type 0) : Type 0 where
-  pub there : (z : ℤ) → HasInteger s z → S z
-  pub back : (z : ℤ) → S z → HasInteger s z
 
 -- how many integers lie below a low bound
 abbrev pub low_offset : Option ℤ → ℕ
@@ -83,10 +64,6 @@ low_offset (Some low) = above lowest_integer low
 abbrev pub high_offset : Option ℤ → ℕ
 high_offset None = 2 ^ 64
 high_offset (Some high) = above lowest_integer high + 1
-
--- the integers up to the high bound, but for the one that is left out
-abbrev pub IsUpTo : Option ℤ → Option ℤ → ℤ → Type 0
-IsUpTo high except z = FitsNumber (unmarked None high) z × IsOther (option_map number except) (number z)
 
 -- ---- items one after the other
 

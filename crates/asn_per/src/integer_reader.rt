@@ -12,14 +12,15 @@ ghost use Rattle.asn_rules.specs.Languages.{Spells, Inhabited};
 ghost use Rattle.asn_per.specs.Per.{per_fields};
 ghost use Rattle.asn_per.specs.Kinds.{IsOutside};
 ghost use Rattle.asn_rules.specs.OffsetSets.{IsOpen, HasOffset};
-ghost use Rattle.asn_per.specs.Reading.{IsWithin, unmarked, AreOffsets, IsUpTo, low_offset, high_offset, Reads, StopsIn, IntegersBut, BooleansBut, IntegersOutside};
+ghost use Rattle.asn_rules.specs.IntegerSets.{IsWithin, unmarked, AreOffsets};
+ghost use Rattle.asn_per.specs.Reading.{low_offset, high_offset, Reads, StopsIn, IntegersBut, BooleansBut, IntegersOutside};
 ghost use Rattle.asn_walk.specs.Integers.{IsOfProfile};
 
 use asn_bits::BitCursor;
 use asn_bits::numbers::width;
 use asn_bits::offsets::{at_offset, offset_from};
 use asn_rules::{
-    HIGHEST_INTEGER, INTEGER_COUNT, LOWEST_INTEGER, NumberSet, OffsetSet, Stop, Why,
+    HIGHEST_INTEGER, INTEGER_COUNT, LOWEST_INTEGER, NumberSet, OffsetSet, Stop, Why, offsets_of,
     read_constrained, read_semi_constrained, read_unconstrained, try_number,
 };
 use asn_values::Bounds;
@@ -141,39 +142,10 @@ fn read_up_to_high(
     ensures done { Reads result number (IntegersBut except (unmarked None high)) bits.old bits.new }
     ensures stop { StopsIn result (IntegersBut except (unmarked None high)) bits.old }
 {
-    let (in_count, in_number) = match except {
-        Some(_) => (Why::Default, Why::Default),
-        None => (Why::Length, Why::Number),
-    };
-    let offset = read_unconstrained(offsets_up_to(high, except), in_count, in_number, bits)?;
+    let set = offsets_of(None, high, except);
+    let left_out = except.is_some();
+    let offset = read_unconstrained(set, Why::in_count(left_out), Why::in_number(left_out), bits)?;
     Ok(at_offset(LOWEST_INTEGER, offset))
-}
-
-/// The offsets of the integers up to the high bound, but for `except`.
-fn offsets_up_to(high: Option<i128>, except: Option<i128>) -> OffsetSet
-    requires of_profile { InProfile (integer (unmarked None high)) }
-    requires within { IsWithin (unmarked None high) except }
-    ensures same { AreOffsets result (λ z. IsUpTo high except z) }
-    ensures gap { IsOpen result }
-{
-    let end = high_offset(high);
-    match except {
-        Some(excluded) => {
-            let below = u128::from(offset_from(LOWEST_INTEGER, excluded));
-            OffsetSet {
-                start: 0,
-                below,
-                from: below + 1,
-                end,
-            }
-        }
-        None => OffsetSet {
-            start: 0,
-            below: 0,
-            from: 0,
-            end,
-        },
-    }
 }
 
 /// Reads an integer outside the bounds.

@@ -1,9 +1,8 @@
 //! Append runs of octets, bits and characters to a vector: octets all at once, bits and characters as many at a time
 //! as a word holds.
-ghost use Rattle.std.specs.Prelude.{◌≡◌, ◌≤◌, ◌<◌, ◌+◌, ◌*◌, ◌/◌, ◌%◌, ◌^◌, ◌++◌, ℕ, List, IfOk, IsTrue, true, false, vec_len, vec_capacity};
+ghost use Rattle.std.specs.Prelude.{◌≡◌, ◌≤◌, ◌<◌, ◌+◌, ◌*◌, ◌/◌, ◌++◌, ℕ, List, IfOk, IsTrue, true, false, vec_len, vec_capacity};
 ghost use Rattle.asn_values.specs.View.{alphabet_of};
 ghost use Rattle.asn_bits.specs.Numbers.{bits};
-ghost use Rattle.asn_bits.specs.Sink.{bit_of};
 ghost use Rattle.asn_rules.specs.Fields.{Octet};
 ghost use Rattle.asn_rules.specs.Languages.{Row};
 ghost use Rattle.asn_per.specs.Kinds.{Bit};
@@ -11,6 +10,7 @@ ghost use Rattle.asn_rules.specs.NumberSets.{Admits};
 ghost use Rattle.asn_per.specs.Reading.{Appends, code_width, codes_of, character_at, Reads, StopsIn, CharacterOf, code_in, AreCodes};
 
 use asn_bits::BitCursor;
+use asn_rules::bit_vectors::bit_at;
 use asn_rules::{NumberSet, Stop, Why, admits, bits_left, read_number};
 use asn_values::TextKind;
 use std::alloc::AllocError;
@@ -209,12 +209,4 @@ fn character_of(kind: TextKind, code: u64) -> u8
             }
         }
     }
-}
-
-/// The bit of the number above `below` lower ones.
-fn bit_at(word: u64, below: u32) -> bool
-    requires { below < 64 }
-    ensures { bit_of result ≡ word / 2 ^ below % 2 }
-{
-    (word >> below) & 1 == 1
 }

@@ -6,11 +6,12 @@ ghost use Rattle.asn_values.specs.Fits.{Fits};
 ghost use Rattle.asn_values.specs.Profile.{InProfile};
 ghost use Rattle.asn_values.specs.View.{label_of, more_labels_of};
 ghost use Rattle.asn_rules.specs.Languages.{Inhabited};
-ghost use Rattle.asn_per.specs.Kinds.{position_of, Items, RootItemsBut, IsRootPosition};
+ghost use Rattle.asn_walk.specs.Items.{enumeration_of};
+ghost use Rattle.asn_per.specs.Kinds.{position_of, RootItemsBut, IsRootPosition};
 ghost use Rattle.asn_per.specs.Laws.{per_bits};
 ghost use Rattle.asn_per.specs.Per.{rank};
 ghost use Rattle.asn_per.specs.Indexes.{AreRootItems, IsItemWithin, index_of};
-ghost use Rattle.asn_per.specs.Reading.{Reads, StopsIn, enumeration_of, ItemsBut, MarkedItems};
+ghost use Rattle.asn_per.specs.Reading.{Reads, StopsIn, ItemsBut, MarkedItems};
 
 use crate::indexes::{read_index, write_index};
 use asn_bits::{BitCursor, BitSink};

@@ -20,6 +20,7 @@ use asn_values::{AsnType, Size, Value};
 use asn_walk::{Index, Preamble, ReadLeaves};
 use std::alloc::Global;
 
+#[tactic(auto, unfolding(crate::specs::Walk::per_coding, crate::specs::Rules::per_ruling))]
 impl ReadLeaves for Per {
     ghost rules = { per_coding };
 
@@ -30,19 +31,16 @@ impl ReadLeaves for Per {
     ghost is_between = { IsBetween };
 
     #[inline(always)]
-    #[tactic(auto, unfolding(crate::specs::Walk::per_coding, crate::specs::Rules::per_ruling))]
     fn units_left(units: &BitCursor<'_>) -> u128 {
         bits_left(units)
     }
 
     #[inline(always)]
-    #[tactic(auto, unfolding(crate::specs::Walk::per_coding, crate::specs::Rules::per_ruling))]
     fn octets_left(units: &BitCursor<'_>) -> usize {
         units.octets_left()
     }
 
     #[inline(always)]
-    #[tactic(auto, unfolding(crate::specs::Walk::per_coding, crate::specs::Rules::per_ruling))]
     fn read_simple(alloc: Global, ty: &AsnType, units: &mut BitCursor<'_>) -> Result<Value, Stop> {
         match ty {
             AsnType::Bool => Ok(Value::Bool(read_boolean(None, units)?)),
@@ -58,7 +56,6 @@ impl ReadLeaves for Per {
     }
 
     #[inline(never)]
-    #[tactic(auto, unfolding(crate::specs::Walk::per_coding, crate::specs::Rules::per_ruling))]
     fn read_simple_into(
         alloc: Global,
         ty: &AsnType,
@@ -80,7 +77,6 @@ impl ReadLeaves for Per {
         }
     }
 
-    #[tactic(auto, unfolding(crate::specs::Walk::per_coding, crate::specs::Rules::per_ruling))]
     fn read_other(ty: &AsnType, default: &Value, units: &mut BitCursor<'_>) -> Result<Value, Stop> {
         match (ty, default) {
             (AsnType::Bool, Value::Bool(truth)) => {
@@ -97,13 +93,11 @@ impl ReadLeaves for Per {
     }
 
     #[inline(always)]
-    #[tactic(auto, unfolding(crate::specs::Walk::per_coding, crate::specs::Rules::per_ruling))]
     fn try_between(low: i128, high: i128, units: &mut BitCursor<'_>) -> Option<i128> {
         try_constrained(low, high, units)
     }
 
     #[inline(always)]
-    #[tactic(auto, unfolding(crate::specs::Walk::per_coding, crate::specs::Rules::per_ruling))]
     fn read_preamble(
         count: u32,
         additions: Option<usize>,
@@ -118,7 +112,6 @@ impl ReadLeaves for Per {
     }
 
     #[inline(always)]
-    #[tactic(auto, unfolding(crate::specs::Walk::per_coding, crate::specs::Rules::per_ruling))]
     fn read_addition_bitmap(count: u32, units: &mut BitCursor<'_>) -> Result<u64, Stop> {
         let last = u64::from(count) - 1;
         let of_type = NumberSet {
@@ -136,7 +129,6 @@ impl ReadLeaves for Per {
     }
 
     #[inline(always)]
-    #[tactic(auto, unfolding(crate::specs::Walk::per_coding, crate::specs::Rules::per_ruling))]
     fn read_index(
         root: usize,
         additions: Option<usize>,
@@ -146,7 +138,6 @@ impl ReadLeaves for Per {
     }
 
     #[inline(always)]
-    #[tactic(auto, unfolding(crate::specs::Walk::per_coding, crate::specs::Rules::per_ruling))]
     fn read_open_octets(alloc: Global, units: &mut BitCursor<'_>) -> Result<Vec<u8>, Stop> {
         let some = Size {
             low: 1,
@@ -156,7 +147,6 @@ impl ReadLeaves for Per {
         read_octet_string(alloc, &some, units)
     }
 
-    #[tactic(auto, unfolding(crate::specs::Walk::per_coding, crate::specs::Rules::per_ruling))]
     fn read_padding(given: u128, units: &mut BitCursor<'_>) -> Result<(), Stop> {
         let zeros = if bits_left(units) == given {
             8
@@ -167,13 +157,11 @@ impl ReadLeaves for Per {
     }
 
     #[inline(always)]
-    #[tactic(auto, unfolding(crate::specs::Walk::per_coding, crate::specs::Rules::per_ruling))]
     fn start_list(size: &Size, units: &mut BitCursor<'_>) -> Result<Fragments, Stop> {
         Fragments::start(size, units)
     }
 
     #[inline(always)]
-    #[tactic(auto, unfolding(crate::specs::Walk::per_coding, crate::specs::Rules::per_ruling))]
     fn next_fragment(
         fragments: &mut Fragments,
         units: &mut BitCursor<'_>,

@@ -16,6 +16,7 @@ use asn_values::{
 use asn_walk::{Index, WriteLeaves};
 use std::alloc::AllocError;
 
+#[tactic(auto, unfolding(crate::specs::Walk::per_coding, crate::specs::Rules::per_ruling))]
 impl WriteLeaves for Per {
     ghost rules = { per_coding };
 
@@ -24,7 +25,6 @@ impl WriteLeaves for Per {
     ghost rest = { following_chunks };
 
     #[inline(always)]
-    #[tactic(auto, unfolding(crate::specs::Walk::per_coding, crate::specs::Rules::per_ruling))]
     fn write_simple(ty: &AsnType, value: &Value, sink: &mut BitSink) -> Result<(), EncodeFault> {
         match (ty, value) {
             (AsnType::Bool, Value::Bool(truth)) => Ok(sink.push(*truth)?),
@@ -51,13 +51,11 @@ impl WriteLeaves for Per {
     }
 
     #[inline(always)]
-    #[tactic(auto, unfolding(crate::specs::Walk::per_coding, crate::specs::Rules::per_ruling))]
     fn write_number(bounds: &Bounds, whole: i128, sink: &mut BitSink) -> Result<(), EncodeFault> {
         write_integer(bounds, whole, sink)
     }
 
     #[inline(always)]
-    #[tactic(auto, unfolding(crate::specs::Walk::per_coding, crate::specs::Rules::per_ruling))]
     fn write_preamble(
         extended: Option<bool>,
         count: u32,
@@ -73,7 +71,6 @@ impl WriteLeaves for Per {
         Ok(())
     }
 
-    #[tactic(auto, unfolding(crate::specs::Walk::per_coding, crate::specs::Rules::per_ruling))]
     fn write_addition_bitmap(
         count: u32,
         bitmap: u64,
@@ -85,7 +82,6 @@ impl WriteLeaves for Per {
     }
 
     #[inline(always)]
-    #[tactic(auto, unfolding(crate::specs::Walk::per_coding, crate::specs::Rules::per_ruling))]
     fn write_index(
         root: usize,
         marked: bool,
@@ -96,19 +92,16 @@ impl WriteLeaves for Per {
     }
 
     #[inline(always)]
-    #[tactic(auto, unfolding(crate::specs::Walk::per_coding, crate::specs::Rules::per_ruling))]
     fn write_open_octets(octets: &[u8], sink: &mut BitSink) -> Result<(), AllocError> {
         sink.push_general_octets(octets)
     }
 
     #[inline(always)]
-    #[tactic(auto, unfolding(crate::specs::Walk::per_coding, crate::specs::Rules::per_ruling))]
     fn start_list(size: &Size, count: usize, sink: &mut BitSink) -> Result<Following, AllocError> {
         write_size(size, count, sink)
     }
 
     #[inline(always)]
-    #[tactic(auto, unfolding(crate::specs::Walk::per_coding, crate::specs::Rules::per_ruling))]
     fn next_fragment(
         fragments: &mut Following,
         left: usize,
@@ -118,7 +111,6 @@ impl WriteLeaves for Per {
     }
 
     #[inline(always)]
-    #[tactic(auto, unfolding(crate::specs::Walk::per_coding, crate::specs::Rules::per_ruling))]
     fn complete(sink: BitSink) -> Result<Vec<u8>, AllocError> {
         let mut sink = sink;
         if sink.is_empty() {

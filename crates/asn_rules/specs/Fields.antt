@@ -1,9 +1,11 @@
 -- Octets as items of a list, in either unit, and octets behind their length in octets (X.696, "length
 -- determinant").
-use Rattle.std.specs.Prelude.{◌≡◌, ◌-◌, ◌<◌, ◌≤◌, ◌⊎◌, ℕ, true, false, List, nat_lt}
+use Rattle.std.specs.Prelude.{◌≡◌, ◌-◌, ◌<◌, ◌≤◌, ◌⊎◌, ◌++◌, ℕ, true, false, List, length, nat_lt}
+use Rattle.asn_bits.specs.Lengths.{octet_length}
 use Rattle.asn_bits.specs.Numbers.{octet_count}
 use Rattle.asn_rules.specs.Chunks.{Chunk}
 use Rattle.asn_rules.specs.Languages.{Then, Map, Nothing, Row, Plain}
+use Rattle.asn_rules.specs.Live.{Fielding}
 use Rattle.asn_bits.specs.Sets.{InDigits, InSet}
 
 -- an octet, in eight bits
@@ -49,3 +51,13 @@ octets_told p = p.1
 -- octets of a count of the set, behind it
 abbrev pub OctetsBehind : (ℕ → Type 0) → List ℕ → List Chunk → Type 0
 OctetsBehind S = Map octets_told (Then (OctetLength S) (λ n. Row OneOctet n))
+
+-- ---- sealed fields in octets
+
+-- the length of the content in octets, and the content (X.696, "length determinant")
+abbrev pub spelled : List ℕ → List ℕ
+spelled content = octet_length (length content) ++ content
+
+-- a sealed field of either kind is so spelt, and may have no content
+abbrev pub octet_fields : Fielding
+octet_fields = record { spelled = spelled; shortest = λ k. 0 }

@@ -3,7 +3,7 @@
 ghost use Rattle.std.specs.Prelude.{◌≡◌};
 ghost use Rattle.asn_rules.specs.declared.fault.EncodeFault.TheVariants as encode;
 ghost use Rattle.asn_rules.specs.declared.fault.DecodeFault.TheVariants as decode;
-ghost use Rattle.asn_rules.specs.Reasons.{word_of};
+ghost use Rattle.asn_rules.specs.Reasons.{word_of, reason_in_number, reason_in_count};
 
 use std::alloc::{AllocError, AllocFailed};
 use std::fmt;
@@ -42,6 +42,20 @@ impl Why {
             Why::Padding => "padding",
             Why::Number => "number",
         }
+    }
+
+    /// The reason of a refusal in a number: `left_out` says whether one is left out, the DEFAULT of a component.
+    pub fn in_number(left_out: bool) -> Why
+        ensures { result ≡ reason_in_number left_out }
+    {
+        if left_out { Why::Default } else { Why::Number }
+    }
+
+    /// The reason of a refusal in the count of octets before a number, likewise.
+    pub fn in_count(left_out: bool) -> Why
+        ensures { result ≡ reason_in_count left_out }
+    {
+        if left_out { Why::Default } else { Why::Length }
     }
 }
 

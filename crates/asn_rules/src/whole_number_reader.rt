@@ -33,11 +33,7 @@ pub fn read_constrained(
         high,
         excluded,
     };
-    let why = if excluded.is_some() {
-        Why::Default
-    } else {
-        Why::Number
-    };
+    let why = Why::in_number(excluded.is_some());
     read_number(width(u128::from(high) + 1), set, why, bits)
 }
 
@@ -61,17 +57,14 @@ pub fn read_semi_constrained(
         high: highest_count(high, excluded),
         excluded: None,
     };
-    let (in_count, in_number) = match excluded {
-        Some(_) => (Why::Default, Why::Default),
-        None => (Why::Length, Why::Number),
-    };
-    let count = read_number(8, counts, in_count, bits)? as u32;
+    let left_out = excluded.is_some();
+    let count = read_number(8, counts, Why::in_count(left_out), bits)? as u32;
     let set = NumberSet {
         low: least_with(count),
         high: high.min(greatest_with(count)),
         excluded,
     };
-    read_number(8 * count, set, in_number, bits)
+    read_number(8 * count, set, Why::in_number(left_out), bits)
 }
 
 /// The highest count of octets that a number from 0 to `high`, but for `excluded`, needs.
@@ -88,7 +81,7 @@ fn highest_count(high: u64, excluded: Option<u64>) -> u64
 }
 
 /// The least number that needs `count` octets.
-fn least_with(count: u32) -> u64
+pub(crate) fn least_with(count: u32) -> u64
     requires some { 1 ≤ count }
     requires few { count ≤ 8 }
     ensures { result ≡ least_of count }
@@ -101,7 +94,7 @@ fn least_with(count: u32) -> u64
 }
 
 /// The greatest number that `count` octets hold.
-fn greatest_with(count: u32) -> u64
+pub(crate) fn greatest_with(count: u32) -> u64
     requires some { 1 ≤ count }
     requires few { count ≤ 8 }
     ensures { result + 1 ≡ 256 ^ count }

@@ -7,3 +7,5 @@ pub mod Views
 pub mod Composites
 pub mod Writing
 pub mod WriteLaws
+pub mod Items
+pub mod Sizes

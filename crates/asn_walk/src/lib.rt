@@ -5,8 +5,11 @@
 //! encodings together from these parts, each once for all rules.
 #![tactic(auto)]
 
+pub mod items;
 mod leaves;
 mod presence;
+pub mod sizes;
+pub mod slots;
 mod write_leaves;
 
 pub use leaves::{Index, Preamble, ReadLeaves};

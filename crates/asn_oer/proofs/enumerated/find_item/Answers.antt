@@ -3,7 +3,7 @@ use mir.Syntax.{w64}
 use Rattle.asn_values.specs.View.{label_of, more_labels_of}
 use Rattle.asn_bits.specs.Numbers.{octets, magnitude}
 use Rattle.asn_rules.specs.Components.{number_at}
-use Rattle.asn_oer.specs.LeafReading.{items_of}
+use Rattle.asn_walk.specs.Items.{items_of}
 use Rattle.asn_oer.specs.Oer.{item_number}
 use Rattle.asn_oer.proofs.ItemReading.{up_to, left_out, another_item}
 use Rattle.asn_oer.proofs.WrittenItems.{item_kept, item_narrow}

@@ -1,6 +1,7 @@
 use Rattle.std.proofs.Common.{◌<◌, ℕ, List}
 use Rattle.asn_bits.specs.Numbers.{octets}
-use Rattle.asn_oer.specs.LeafReading.{ItemBegins, items_of}
+use Rattle.asn_oer.specs.LeafReading.{ItemBegins}
+use Rattle.asn_walk.specs.Items.{items_of}
 use Rattle.asn_oer.proofs.enumerated.find_item.Given as goal
 
 abbrev pub invariant-loop-place : goal.invariant-loop-place

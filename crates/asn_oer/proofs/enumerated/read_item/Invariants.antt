@@ -1,8 +1,8 @@
 use Rattle.std.proofs.Common.{◌≡◌, ◌<◌, ◌^◌, ◌++◌}
 use Rattle.asn_bits.specs.Numbers.{octets, packed}
-use Rattle.asn_oer.specs.LeafReading.{items_of}
-use Rattle.asn_oer.specs.Reading.{AtOctet}
 use Rattle.asn_oer.proofs.ItemReading.{Begun}
+use Rattle.asn_rules.specs.OctetReading.{AtOctet}
+use Rattle.asn_walk.specs.Items.{items_of}
 use Rattle.asn_oer.proofs.enumerated.read_item.Given as goal
 
 abbrev pub invariant-loop-taken : goal.invariant-loop-taken

@@ -7,9 +7,11 @@ use Rattle.asn_bits.specs.Numbers.{packed}
 use Rattle.asn_bits.proofs.Above.{kept}
 use Rattle.asn_rules.specs.Languages.{Spells}
 use Rattle.asn_rules.proofs.Leads.{stops_by}
+use Rattle.asn_rules.specs.IntegerSets.{unmarked, AreOffsetsBut}
+use Rattle.asn_rules.proofs.IntegerSets.{low_inside, high_inside}
 use Rattle.asn_oer.specs.Oer.{signed_size, oer_fields}
-use Rattle.asn_oer.specs.Reading.{IntegersBut, unmarked, AreOffsetsBut}
-use Rattle.asn_oer.proofs.IntegerReading.{low_inside, high_inside, signed_leads, signed_some, counted_signed_leads, counted_where, negative, given}
+use Rattle.asn_oer.specs.Reading.{IntegersBut}
+use Rattle.asn_oer.proofs.IntegerReading.{signed_leads, signed_some, counted_signed_leads, counted_where, negative, given}
 use Rattle.asn_oer.proofs.integer.read_signed.Goals as goal
 use Rattle.asn_oer.proofs.integer.read_signed.Goals.{in-Some-Some+in_ok-offset-in-Some-Some, in_default+in_ok-offset-in_default, in_default-via-in-Some+in_default, in_default-via-in_default}
 

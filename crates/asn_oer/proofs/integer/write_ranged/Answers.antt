@@ -9,7 +9,7 @@ use Rattle.asn_bits.proofs.Above.{kept}
 use Rattle.asn_oer.specs.Oer.{ranged}
 use Rattle.asn_oer.proofs.SpeltLeaves.{in_64_bits}
 use Rattle.asn_oer.proofs.WrittenOctets.{signed_counted}
-use Rattle.asn_oer.proofs.WrittenNumbers.{low_bound, high_bound}
+use Rattle.asn_rules.proofs.IntegerSets.{low_bound, high_bound}
 use Rattle.asn_oer.proofs.integer.write_ranged.Goals as goal
 
 pub returns-in_default : goal.returns-in_default

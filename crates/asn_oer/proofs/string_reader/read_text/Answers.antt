@@ -2,8 +2,9 @@ use Rattle.std.proofs.lemmas.Result.{err_from_is_err_and, IfOk-weaker, IfErr-wea
 use Rattle.asn_values.specs.View.{alphabet_of, size_range_of}
 use Rattle.asn_bits.specs.Numbers.{packed}
 use Rattle.asn_rules.proofs.Leads.{leads_on, stops_by, stops_on}
+use Rattle.asn_rules.proofs.Characters.{character_inhabited}
 use Rattle.asn_oer.proofs.SizeCounts.{stops_at_count, items_lead}
-use Rattle.asn_oer.proofs.TextReading.{character_inhabited, text_leads, text_size}
+use Rattle.asn_oer.proofs.TextReading.{text_leads, text_size}
 use Rattle.asn_oer.proofs.string_reader.read_text.Goals as goal
 
 pub read_count-requires-clause-of_profile : goal.read_count-requires-clause-of_profile

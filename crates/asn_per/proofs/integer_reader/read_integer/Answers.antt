@@ -5,8 +5,8 @@ use Rattle.asn_values.specs.Shape.{integer}
 use Rattle.asn_values.specs.View.{range_of}
 use Rattle.asn_rules.proofs.Leads.{stops_by}
 use Rattle.asn_rules.proofs.Listed.{spelt_inhabited}
+use Rattle.asn_rules.specs.IntegerSets.{unmarked}
 use Rattle.asn_per.specs.Per.{per}
-use Rattle.asn_per.specs.Reading.{unmarked}
 use Rattle.asn_per.proofs.IntegerForms.{none_out, root_leads, outside_leads}
 use Rattle.asn_per.proofs.MarkedIntegers.{root_of_profile}
 use Rattle.asn_per.proofs.integer_reader.read_integer.Goals as goal

@@ -1,6 +1,6 @@
 use Rattle.asn_rules.proofs.Listed.{spelt_inhabited}
+use Rattle.asn_walk.specs.Items.{enumeration_of}
 use Rattle.asn_per.specs.Per.{per}
-use Rattle.asn_per.specs.Reading.{enumeration_of}
 use Rattle.asn_per.proofs.simple_into.read_item_into.Goals as goal
 
 pub read_item-requires-clause-some : goal.read_item-requires-clause-some

@@ -4,8 +4,8 @@ use Rattle.asn_bits.specs.Numbers.{packed}
 use Rattle.asn_rules.specs.Languages.{Spells}
 use Rattle.asn_rules.specs.Stops.{Stops}
 use Rattle.asn_rules.proofs.Leads.{stops_by}
+use Rattle.asn_rules.specs.OctetReading.{OctetsIn, from_to}
 use Rattle.asn_oer.specs.Oer.{oer_fields}
-use Rattle.asn_oer.specs.Reading.{OctetsIn, from_to}
 use Rattle.asn_oer.proofs.IndexReading.{told_root, told_added, tag_leads}
 use Rattle.asn_oer.specs.Rules.{oer_ruling}
 use Rattle.asn_oer.specs.Walk.{oer_coding, alternatives_of}

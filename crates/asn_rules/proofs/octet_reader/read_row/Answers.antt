@@ -1,0 +1,22 @@
+use Rattle.std.proofs.Common.{[], arith}
+use Rattle.asn_bits.specs.Moves.{Taken}
+use Rattle.asn_bits.proofs.FilledBits.{length-packed}
+use Rattle.asn_rules.proofs.OctetReading.{row_short, row_taken, row_whole}
+use Rattle.asn_rules.proofs.octet_reader.read_row.Goals as goal
+
+pub returns-then-octets_left-count-clause-stop : goal.returns-then-octets_left-count-clause-stop
+returns-then-octets_left-count-clause-stop c =
+    record { told = row_short c.args.count c.args.units.now c.octets_left.ensures.bits (omega (arith, c.octets_left.ensures.count, c.if-octets_left-count.true)) }
+
+pub take_octets-requires : goal.take_octets-requires
+take_octets-requires c = omega (arith, length-packed c.args.units.now c.requires.at_octet, c.octets_left.ensures.count, c.if-octets_left-count.false)
+
+pub returns-clause-at_octet : goal.returns-clause-at_octet
+returns-clause-at_octet c =
+    let t : Taken c.args.count c.args.units.now c.take_octets.new.self [] c.take_octets.new.into.items = rw c.new-octets.ensures.items at c.in_ok-take_octets.ensures.ok in
+    row_whole c.args.count c.args.units.now c.take_octets.new.self c.take_octets.new.into.items c.requires.at_octet t
+
+pub returns-clause-done : goal.returns-clause-done
+returns-clause-done c =
+    let t : Taken c.args.count c.args.units.now c.take_octets.new.self [] c.take_octets.new.into.items = rw c.new-octets.ensures.items at c.in_ok-take_octets.ensures.ok in
+    row_taken c.args.count c.args.units.now c.take_octets.new.self c.take_octets.new.into.items t

@@ -1,0 +1,66 @@
+//! The integers of a range, but for one that may be left out: the DEFAULT of a component, which an encoder does not
+//! spell.
+ghost use Rattle.std.specs.Prelude.{◌≡◌, ◌≤ℤ◌, pos, Some, None, ◌⊎◌};
+ghost use Rattle.asn_values.specs.Fits.{lowest_integer, highest_integer};
+ghost use Rattle.asn_values.specs.Profile.{InProfile};
+ghost use Rattle.asn_values.specs.Shape.{integer};
+ghost use Rattle.asn_bits.specs.Numbers.{above};
+ghost use Rattle.asn_rules.specs.IntegerSets.{unmarked, IsWithin, AreNumbersBut, AreOffsetsBut};
+ghost use Rattle.asn_rules.specs.OffsetSets.{IsOpen};
+
+use crate::number_reader::NumberSet;
+use crate::signed_reader::OffsetSet;
+use asn_bits::offsets::offset_from;
+use asn_values::profile::{HIGHEST_INTEGER, LOWEST_INTEGER};
+
+/// The integers of the range, but for `except`, where the low bound is not negative.
+pub fn numbers_of(low: i128, high: Option<i128>, except: Option<i128>) -> NumberSet
+    requires of_profile { InProfile (integer (unmarked (Some low) high)) }
+    requires from_zero { pos 0 ≤ℤ low }
+    requires within { IsWithin (unmarked (Some low) high) except }
+    ensures { AreNumbersBut except (unmarked (Some low) high) result }
+{
+    let excluded = match except {
+        Some(left_out) => Some(left_out as u64),
+        None => None,
+    };
+    NumberSet {
+        low: low as u64,
+        high: high.unwrap_or(HIGHEST_INTEGER) as u64,
+        excluded,
+    }
+}
+
+/// The offsets of the integers of the range, but for `except`.
+pub fn offsets_of(low: Option<i128>, high: Option<i128>, except: Option<i128>) -> OffsetSet
+    requires of_profile { InProfile (integer (unmarked low high)) }
+    requires within { IsWithin (unmarked low high) except }
+    ensures same { AreOffsetsBut except (unmarked low high) result }
+    ensures gap { (low ≡ None) ⊎ (high ≡ None) → IsOpen result }
+{
+    let start = offset_of(low.unwrap_or(LOWEST_INTEGER));
+    let end = offset_of(high.unwrap_or(HIGHEST_INTEGER)) + 1;
+    match except {
+        Some(left_out) => OffsetSet {
+            start,
+            below: offset_of(left_out),
+            from: offset_of(left_out) + 1,
+            end,
+        },
+        None => OffsetSet {
+            start,
+            below: start,
+            from: start,
+            end,
+        },
+    }
+}
+
+/// How far an integer lies above the lowest one.
+fn offset_of(whole: i128) -> u128
+    requires low { lowest_integer ≤ℤ whole }
+    requires high { whole ≤ℤ highest_integer }
+    ensures { result ≡ above lowest_integer whole }
+{
+    u128::from(offset_from(LOWEST_INTEGER, whole))
+}

@@ -1,0 +1,357 @@
+//! Readers of whole octets, each refused at the first octet after which nothing that it reads can follow: numbers in a
+//! fixed count of octets and after their count, lengths, bits that zeros fill up, and octets in a row.
+ghost use Rattle.std.specs.Prelude.{◌≡◌, ◌≤◌, ◌*◌, IfOk, IfErr, OnOk, length, ℕ, pos, ◌+ℤ◌, ◌<◌, ◌+◌, ◌^◌, ◌%◌, ◌-◌};
+ghost use Rattle.asn_values.specs.Fits.{lowest_integer};
+ghost use Rattle.asn_bits.specs.Numbers.{packed};
+ghost use Rattle.asn_bits.specs.Sets.{AreBits, Meets, Among, Between};
+ghost use Rattle.asn_rules.specs.NumberSets.{Admits};
+ghost use Rattle.asn_rules.specs.OffsetSets.{HasOffset, IsOpen, StandsFor};
+ghost use Rattle.asn_rules.specs.Fields.{FirstOctet, OctetLength, OctetsBehind, OneOctet, octet_fields};
+ghost use Rattle.asn_rules.specs.Languages.{Row, Spells};
+ghost use Rattle.asn_rules.specs.Stops.{Stops};
+ghost use Rattle.asn_rules.specs.OctetReading.{AtOctet, ReadsOctets, StopsAtOctets, counted_in_octets, OctetsIn, OctetsAmong, AreWithCount, AreTrimmed, CountedIn, CountedSignedIn, SignedOctetsIn, FilledFields, FilledBits, from_to};
+
+use crate::fault::Why;
+use crate::number_reader::{NumberSet, read_number, read_number_among};
+use crate::signed_reader::{OffsetSet, read_signed, read_unconstrained};
+use crate::stop::Stop;
+use crate::whole_number_reader::{greatest_of_width, greatest_with, least_with};
+use asn_bits::numbers::octet_count;
+use asn_bits::{BitCursor, Intervals};
+use std::alloc::Global;
+
+/// How many octets are left.
+pub fn octets_left(units: &BitCursor<'_>) -> usize
+    requires at_octet { AtOctet units.now }
+    ensures count { result ≡ length (packed units.now) }
+    ensures bits { AreBits units.now }
+{
+    units.octets_left()
+}
+
+/// What a reader of bits says, where octets are counted: those after the octet of a refused bit.
+pub(crate) fn in_octets(stop: Stop) -> Stop
+    ensures { result ≡ counted_in_octets stop }
+{
+    match stop {
+        Stop::Refused { left, why } => Stop::Refused {
+            left: left / 8,
+            why,
+        },
+        Stop::Short => Stop::Short,
+        Stop::Memory => Stop::Memory,
+    }
+}
+
+/// Reads a number of the set in `k` octets: in one step if they are present and hold one.
+///
+/// # Errors
+/// `Short` if the octets end before the number does. `Refused`, with the reason `why`, at the first octet after which no
+/// number of the set can follow.
+#[inline(always)]
+pub fn read_octets(k: u32, set: NumberSet, why: Why, units: &mut BitCursor<'_>) -> Result<u64, Stop>
+    requires at_octet { AtOctet units.old }
+    requires few { k ≤ 8 }
+    requires some { Meets (λ n. Admits set n) 0 (8 * k) }
+    ensures at_octet { OnOk result (AtOctet units.new) }
+    ensures member { IfOk result (λ n. Admits set n) }
+    ensures done { IfOk result (λ n. ReadsOctets (OctetsIn k set) n units.old units.new) }
+    ensures stop { IfErr result (λ why. StopsAtOctets (OctetsIn k set) units.old why) }
+{
+    octets_left(units);
+    match read_number(8 * k, set, why, units) {
+        Ok(n) => Ok(n),
+        Err(stop) => Err(in_octets(stop)),
+    }
+}
+
+/// Reads a number of the intervals in `k` octets: in one step if they are present and hold one.
+///
+/// # Errors
+/// As `read_octets`.
+pub fn read_octets_among(
+    k: u32,
+    numbers: Intervals,
+    why: Why,
+    units: &mut BitCursor<'_>,
+) -> Result<u64, Stop>
+    requires at_octet { AtOctet units.old }
+    requires few { k ≤ 8 }
+    requires some { Meets (λ n. Among numbers n) 0 (8 * k) }
+    ensures at_octet { OnOk result (AtOctet units.new) }
+    ensures member { IfOk result (λ n. Among numbers n) }
+    ensures done { IfOk result (λ n. ReadsOctets (OctetsAmong k numbers) n units.old units.new) }
+    ensures stop { IfErr result (λ why. StopsAtOctets (OctetsAmong k numbers) units.old why) }
+{
+    octets_left(units);
+    match read_number_among(8 * k, numbers, why, units) {
+        Ok(n) => Ok(n),
+        Err(stop) => Err(in_octets(stop)),
+    }
+}
+
+/// Reads a number of the set in the fewest octets, after their count in an octet (X.696, "encoding of integer
+/// types").
+///
+/// # Errors
+/// `Short` if the octets end before the number does. `Refused` at the first octet after which no such number can
+/// follow, with the reason `in_count` in the count and `in_number` after it.
+pub fn read_counted(
+    set: NumberSet,
+    in_count: Why,
+    in_number: Why,
+    units: &mut BitCursor<'_>,
+) -> Result<u64, Stop>
+    requires at_octet { AtOctet units.old }
+    requires some { (n : ℕ) × Admits set n }
+    ensures at_octet { OnOk result (AtOctet units.new) }
+    ensures member { IfOk result (λ n. Admits set n) }
+    ensures done { IfOk result (λ n. ReadsOctets (CountedIn set) n units.old units.new) }
+    ensures stop { IfErr result (λ why. StopsAtOctets (CountedIn set) units.old why) }
+{
+    let set = trimmed(set);
+    let counts = NumberSet {
+        low: u64::from(octet_count(set.low)),
+        high: u64::from(octet_count(set.high)),
+        excluded: None,
+    };
+    let count = read_octets(1, counts, in_count, units)? as u32;
+    read_octets(count, with_count(set, count), in_number, units)
+}
+
+/// The same numbers, where the ends are some of them.
+fn trimmed(set: NumberSet) -> NumberSet
+    requires some { (n : ℕ) × Admits set n }
+    ensures { AreTrimmed set result }
+{
+    match set.excluded {
+        Some(out) if out == set.low => NumberSet {
+            low: out + 1,
+            high: set.high,
+            excluded: None,
+        },
+        Some(out) if out == set.high => NumberSet {
+            low: set.low,
+            high: out - 1,
+            excluded: None,
+        },
+        _ => set,
+    }
+}
+
+/// The numbers of the set that need `count` octets.
+fn with_count(set: NumberSet, count: u32) -> NumberSet
+    requires some { 1 ≤ count }
+    requires few { count ≤ 8 }
+    ensures { AreWithCount set count result }
+{
+    NumberSet {
+        low: set.low.max(least_with(count)),
+        high: set.high.min(greatest_with(count)),
+        excluded: set.excluded,
+    }
+}
+
+/// Reads an integer of the set, in the fewest octets of two's complement after their count in an octet. Returns its
+/// offset, how far it lies above the lowest integer of the profile.
+///
+/// # Errors
+/// As `read_counted`.
+pub fn read_counted_signed(
+    set: OffsetSet,
+    in_count: Why,
+    in_number: Why,
+    units: &mut BitCursor<'_>,
+) -> Result<u64, Stop>
+    requires at_octet { AtOctet units.old }
+    requires gap { IsOpen set }
+    requires some { (w : ℕ) × HasOffset set w }
+    ensures at_octet { OnOk result (AtOctet units.new) }
+    ensures done { IfOk result (λ w. ReadsOctets (CountedSignedIn set) (lowest_integer +ℤ pos w) units.old units.new) }
+    ensures stop { IfErr result (λ why. StopsAtOctets (CountedSignedIn set) units.old why) }
+{
+    octets_left(units);
+    match read_unconstrained(set, in_count, in_number, units) {
+        Ok(offset) => Ok(offset),
+        Err(stop) => Err(in_octets(stop)),
+    }
+}
+
+/// Reads an integer of the set in `count` octets of two's complement. Returns its offset.
+///
+/// # Errors
+/// As `read_octets`.
+pub fn read_signed_octets(
+    count: u32,
+    set: OffsetSet,
+    why: Why,
+    units: &mut BitCursor<'_>,
+) -> Result<u64, Stop>
+    requires at_octet { AtOctet units.old }
+    requires many { 1 ≤ count }
+    requires few { count ≤ 8 }
+    requires some { (n : ℕ) × StandsFor set count n }
+    ensures at_octet { OnOk result (AtOctet units.new) }
+    ensures done { IfOk result (λ w.
+        ReadsOctets (SignedOctetsIn count set) (lowest_integer +ℤ pos w) units.old units.new) }
+    ensures stop { IfErr result (λ why. StopsAtOctets (SignedOctetsIn count set) units.old why) }
+{
+    octets_left(units);
+    match read_signed(count, set, why, units) {
+        Ok(w) => Ok(w),
+        Err(stop) => Err(in_octets(stop)),
+    }
+}
+
+/// Reads a length from `low` to `high` (X.696, "length determinant"): below 128 in one octet, else in the fewest octets
+/// after 128 and their count.
+///
+/// # Errors
+/// `Short` if the octets end before the length does. `Refused`, with the reason `Length`, at the first octet after
+/// which no such length can follow.
+pub fn read_length(low: u64, high: u64, units: &mut BitCursor<'_>) -> Result<u64, Stop>
+    requires at_octet { AtOctet units.old }
+    requires ordered { low ≤ high }
+    ensures at_octet { OnOk result (AtOctet units.new) }
+    ensures within { IfOk result (λ n. Between low high n) }
+    ensures done { IfOk result (λ n. ReadsOctets (OctetLength (Between low high)) n units.old units.new) }
+    ensures stop { IfErr result (λ why. StopsAtOctets (OctetLength (Between low high)) units.old why) }
+{
+    let first = read_octets_among(1, first_octets(low, high), Why::Length, units)?;
+    if first < 128 {
+        return Ok(first);
+    }
+    let count = (first - 128) as u32;
+    let long = NumberSet {
+        low: low.max(128),
+        high,
+        excluded: None,
+    };
+    read_octets(count, with_count(long, count), Why::Length, units)
+}
+
+/// The first octets of lengths from `low` to `high`.
+fn first_octets(low: u64, high: u64) -> Intervals
+    requires { low ≤ high }
+    ensures there { (n : ℕ) → Among result n → FirstOctet (Between low high) n }
+    ensures back { (n : ℕ) → FirstOctet (Between low high) n → Among result n }
+    ensures some { Meets (λ n. Among result n) 0 8 }
+{
+    if high < 128 {
+        return Intervals::one(low, high);
+    }
+    let fewest = 128 + u64::from(octet_count(low.max(128)));
+    let most = 128 + u64::from(octet_count(high));
+    if low < 128 {
+        Intervals::one(low, 127).and(fewest, most)
+    } else {
+        Intervals::one(fewest, most)
+    }
+}
+
+/// Reads a number up to `most` in `marks` bits and one from `low` on in `count` bits, and the zeros that fill up the
+/// last octet.
+///
+/// # Errors
+/// `Short` if the octets end before the last one does. `Refused` at the first octet after which no such numbers can
+/// follow, with the reason `in_zeros` in the zeros, else `Extension`.
+pub fn read_filled(
+    marks: u32,
+    most: u64,
+    count: u32,
+    low: u64,
+    in_zeros: Why,
+    units: &mut BitCursor<'_>,
+) -> Result<(u64, u64), Stop>
+    requires at_octet { AtOctet units.old }
+    requires mark { marks ≤ 1 }
+    requires marks_hold { most < 2 ^ marks }
+    requires few { count ≤ 64 }
+    requires some { low < 2 ^ count }
+    ensures at_octet { OnOk result (AtOctet units.new) }
+    ensures done { IfOk result (λ p. ReadsOctets (FilledFields marks most count low) p units.old units.new) }
+    ensures stop { IfErr result (λ why. StopsAtOctets (FilledFields marks most count low) units.old why) }
+{
+    octets_left(units);
+    match read_bits(marks, most, count, low, in_zeros, units) {
+        Ok(numbers) => Ok(numbers),
+        Err(stop) => Err(in_octets(stop)),
+    }
+}
+
+/// The same, where bits are counted.
+fn read_bits(
+    marks: u32,
+    most: u64,
+    count: u32,
+    low: u64,
+    in_zeros: Why,
+    units: &mut BitCursor<'_>,
+) -> Result<(u64, u64), Stop>
+    requires mark { marks ≤ 1 }
+    requires marks_hold { most < 2 ^ marks }
+    requires few { count ≤ 64 }
+    requires some { low < 2 ^ count }
+    ensures done { IfOk result (λ p. Spells octet_fields (FilledBits marks most count low) p units.old units.new) }
+    ensures stop { IfErr result (λ why. Stops octet_fields (FilledBits marks most count low) units.old why) }
+{
+    let zeros = (8 - (marks + count) % 8) % 8;
+    let mark = read_number(marks, numbers(0, most), Why::Extension, units)?;
+    let number = read_number(
+        count,
+        numbers(low, greatest_of_width(count)),
+        Why::Extension,
+        units,
+    )?;
+    read_number(zeros, numbers(0, 0), in_zeros, units)?;
+    Ok((mark, number))
+}
+
+/// The numbers from `low` to `high`.
+fn numbers(low: u64, high: u64) -> NumberSet
+    ensures { result ≡ from_to low high }
+{
+    NumberSet {
+        low,
+        high,
+        excluded: None,
+    }
+}
+
+/// Reads `count` octets, all at once.
+///
+/// # Errors
+/// `Short` if fewer octets are left. `Memory` if an allocation failed.
+pub fn read_row(alloc: Global, count: usize, units: &mut BitCursor<'_>) -> Result<Vec<u8>, Stop>
+    requires at_octet { AtOctet units.old }
+    ensures at_octet { OnOk result (AtOctet units.new) }
+    ensures done { IfOk result (λ os. ReadsOctets (Row OneOctet count) os.items units.old units.new) }
+    ensures stop { IfErr result (λ why. StopsAtOctets (Row OneOctet count) units.old why) }
+{
+    if octets_left(units) < count {
+        return Err(Stop::Short);
+    }
+    let mut octets = Vec::new(alloc);
+    units.take_octets(count, &mut octets)?;
+    Ok(octets)
+}
+
+/// Reads octets after their length, which is from `low` to `high`.
+///
+/// # Errors
+/// As `read_length`, and `read_row` for the octets.
+pub fn read_octets_with_length(
+    alloc: Global,
+    low: u64,
+    high: u64,
+    units: &mut BitCursor<'_>,
+) -> Result<Vec<u8>, Stop>
+    requires at_octet { AtOctet units.old }
+    requires ordered { low ≤ high }
+    ensures at_octet { OnOk result (AtOctet units.new) }
+    ensures done { IfOk result (λ os. ReadsOctets (OctetsBehind (Between low high)) os.items units.old units.new) }
+    ensures stop { IfErr result (λ why. StopsAtOctets (OctetsBehind (Between low high)) units.old why) }
+{
+    let count = read_length(low, high, units)?;
+    read_row(alloc, count as usize, units)
+}

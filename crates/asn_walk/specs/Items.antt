@@ -1,0 +1,14 @@
+-- The items of an ENUMERATED, as the program has them.
+use Rattle.std.specs.Prelude.{List, ◌++◌, map, Option}
+use Rattle.std.specs.Global.{Vec}
+use Rattle.asn_values.specs.declared.types.Item.{Item}
+use Rattle.asn_values.specs.Shape.{Shape, enumerated, Label, more_labels}
+use Rattle.asn_values.specs.View.{label_of, more_labels_of}
+
+-- the type ENUMERATED that has these items in its root and these additions
+abbrev pub enumeration_of : List Item → Option (Vec Item) → Shape
+enumeration_of root additions = enumerated (map label_of root) (more_labels_of additions)
+
+-- all items, those behind the mark too
+abbrev pub items_of : List Item → Option (Vec Item) → List Label
+items_of root additions = map label_of root ++ more_labels (more_labels_of additions)

@@ -12,7 +12,7 @@ use std::alloc::{AllocError, Global};
 /// How many pieces a message comes in, or one more.
 const PIECES: usize = 4;
 
-/// A value and its octets by a set of rules, in which an octet has so many units; and what is told of it.
+/// A value and its octets by a set of rules, in which an octet has that many units; and what is told of it.
 #[derive(Drop)]
 struct Message<'a> {
     name: &'a str,

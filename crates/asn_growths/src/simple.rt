@@ -11,7 +11,7 @@ const PER_LENGTH: &[u8] = b"\xc1";
 
 /// What follows it: the last octet of the text under its length; the items, integers and bits of an octet; the integer
 /// -129; 16 bits, 16 octets and 8 characters under their counts; 4 digits and 8 characters; the item of an addition;
-/// the integer 8 behind the extension bit.
+/// the integer 8 after the extension bit.
 const PER: &[u8] =
     b"\x01A\x2b\x02\xff\x7f\x10\xb2\x5a\x10sixteen octets..\x08\x83\x06\x0c\x18\x30\x60\xc1\x23\x45\xfd\xfb\xf7\xef\xdf\xbf\x7e\x80\x80\x84\x00";
 

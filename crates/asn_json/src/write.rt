@@ -23,7 +23,7 @@ use std::alloc::{AllocError, Global};
 /// its number in decimal, an alternative that it has not an object whose one member is `?` with the tag in decimal and
 /// `null`; `from_json` reads neither.
 ///
-/// Err: `NotOfType` exactly where the value is none of the type, nor one that a receiver gives of such a message; `Memory` where a growth was refused.
+/// Err: `NotOfType` exactly where the value is none of the type, nor one that a receiver gives of such a message; `Memory` where an allocation was refused.
 pub fn to_json(alloc: Global, ty: &Checked, value: &Value) -> Result<Json, JsonFault>
     ensures written { IfOk result (λ j. Written (shape_of ty.now) (datum_of value.now) (view j)) }
     ensures refused { IfErr result (λ fault. Unwritten (shape_of ty.now) (datum_of value.now) fault) }

@@ -78,7 +78,7 @@ fn try_count<R: ReadLeaves>(
     }
 }
 
-/// Where a count was refused behind its first unit, some count can begin so.
+/// Where a count was refused after its first unit, some count can begin so.
 fn note_refusal(why: &mut Halt, left: u128, all: u128) {
     if matches!(why, Halt::TooMany) && left < all.saturating_sub(1) {
         *why = Halt::Refused;

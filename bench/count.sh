@@ -2,7 +2,7 @@
 # Prints how many instructions a message takes in each form, which other work on the machine does not change, once
 # run.sh has built the programs.
 #
-# usage: bash bench/count.sh encode|decode|build|encode-oer|decode-oer|into|decode-turns|into-turns NAME
+# usage: bash bench/count.sh encode|decode|build|clone|encode-oer|decode-oer|into|decode-turns|into-turns NAME
 #
 # `into` decodes into the value of the message before; the forms in Rust have no such. `decode-turns` and
 # `into-turns` decode messages of changing shape in turn, of cam, bsm, aligned and list.
@@ -14,7 +14,7 @@ what=$1 name=$2
 cd "$room"
 # all instructions of so many rounds
 instructions() {
-    valgrind --tool=callgrind --callgrind-out-file=/dev/null "$@" 2>&1 >/dev/null | sed -n 's/.*Collected : //p'
+    valgrind --tool=callgrind --callgrind-out-file=/dev/null "$@" 2>&1 >/dev/null <messages | sed -n 's/.*Collected : //p'
 }
 case $name in
 small) times=200000 ;;
@@ -25,12 +25,13 @@ forms=(rattle same hand tree)
 case $what in
 *-oer) forms=(rattle same) ;;
 decode-turns) forms=(rattle same hand) ;;
-into | into-turns) forms=(rattle) ;;
+clone | into | into-turns) forms=(rattle) ;;
+build) forms=(same hand tree) ;;
 esac
 for form in "${forms[@]}"; do
     program=(target/release/baseline "$form")
     if [ "$form" = rattle ]; then program=(crates/asn_bench/out/asn_bench); fi
-    if ! "${program[@]}" 0 | grep "^octets $name " >/dev/null; then continue; fi
+    if ! "${program[@]}" 0 <messages | grep "^octets $name " >/dev/null; then continue; fi
     # what a round takes over none
     none=$(instructions "${program[@]}" 0 "$what" "$name")
     once=$(instructions "${program[@]}" 1 "$what" "$name")

@@ -27,26 +27,43 @@ for from in "$top"/crates/*/; do
     if [ -d "${from}out" ] && [ ! -d "$to/out" ]; then cp -a "${from}out" "$to/out"; fi
 done
 cp "$top/HANDLES" "$room/"
-{ cat "$top/crates.txt"; echo "asn_bench: asn_values asn_rules asn_per asn_oer anyhow"; } >"$room/crates.txt"
-for file in "$here"/codec/*.rt.in; do
-    cp "$file" "$room/crates/asn_bench/src/$(basename "$file" .in)"
-done
+{ cat "$top/crates.txt"; echo "asn_bench: asn_values asn_rules asn_per asn_oer asn_module anyhow hex"; } >"$room/crates.txt"
+cp "$here/codec/main.rt.in" "$room/crates/asn_bench/src/main.rt"
+
+# the messages: a module of all types, and the octets that the Rust program gives by hand
+cd "$here/baseline"
+RUSTFLAGS="-C target-cpu=$cpu" nice cargo build --quiet --release --offline --locked --target-dir "$room/target"
+{
+    echo "Messages DEFINITIONS AUTOMATIC TAGS ::= BEGIN"
+    sed -e '/DEFINITIONS AUTOMATIC TAGS/d' -e '/^END$/d' "$here"/modules/*.asn
+    printf 'END\n====\n'
+    "$room/target/release/baseline" same 0 | awk '
+        BEGIN {
+            split("small wide shifted aligned cam bsm list", names)
+            split("Small Wide Shifted Aligned CAM BasicSafetyMessage Readings", types)
+            split("200000 20000 500 500 20000 20000 500", times)
+        }
+        $1 == "octets" || $1 == "octets-turns" {
+            hex = " "
+            for (at = 3; at <= NF; at++) { gsub(/[^0-9]/, "", $at); hex = hex sprintf("%02x", $at) }
+            if ($1 == "octets") first[$2] = hex; else turns[$2] = turns[$2] hex
+        }
+        END { for (at = 1; at <= 7; at++) print names[at], types[at], times[at] first[names[at]] turns[names[at]] }'
+} >"$room/messages"
 
 # both programs; in no round nothing is measured
 cd "$room/crates/asn_bench"
-if ! nice ${RT:-rt} run -- 0 >"$room/build.log" 2>&1; then
+if ! nice ${RT:-rt} run -- 0 <"$room/messages" >"$room/build.log" 2>&1; then
     grep -E 'error|no proof|not proved|logic=' "$room/build.log" || tail -n 20 "$room/build.log"
     echo "bench: the program was not built; $room/build.log says more" >&2
     exit 1
 fi
-cd "$here/baseline"
-RUSTFLAGS="-C target-cpu=$cpu" nice cargo build --quiet --release --offline --locked --target-dir "$room/target"
 
 # the same octets: by hand, same values, has all messages in both rules, by hand has all in PER, and the trees some
 cd "$room"
 form() {
     if [ "$1" = rattle ]; then
-        nice crates/asn_bench/out/asn_bench "${@:2}"
+        nice crates/asn_bench/out/asn_bench "${@:2}" <messages
     else
         nice target/release/baseline "$@"
     fi
@@ -102,6 +119,7 @@ awk '
         print "|---|---|---|---|---|---|---|---|---|---|"
         for (at = 1; at <= count; at++) {
             row = rows[at]; split(row, words, " ")
+            if (!so_far["rattle", row]) continue
             kind = words[1] ~ /oer$/ ? "octets-oer" : words[1] ~ /turns$/ ? "octets-turns" : "octets"
             octets = size[kind, words[2]] / count_of[kind, words[2]]
             text = times("rattle", row)

@@ -13,5 +13,5 @@ if [ "$form" = rattle ]; then
 else
     program=(target/release/baseline "$form" "$rounds" "$what" "$name")
 fi
-perf record -q -e cpu-clock -o where.data "${program[@]}" >/dev/null
+perf record -q -e cpu-clock -o where.data "${program[@]}" <messages >/dev/null
 perf report -i where.data --stdio --percent-limit 0.7 2>/dev/null | grep -v '^#' | grep -v '^$'

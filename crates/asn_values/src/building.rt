@@ -186,7 +186,8 @@ impl AsnType {
 
     /// ENUMERATED { root, ..., additions }.
     pub fn extensible_enumerated(root: Vec<Item>, additions: Vec<Item>) -> AsnType
-        ensures { shape_of result ≡ enumerated (labels_seen root.items) (marked_labels (labels_seen additions.items)) }
+        ensures { shape_of result
+            ≡ enumerated (labels_seen root.items) (marked_labels (labels_seen additions.items)) }
     {
         AsnType::Enum {
             root,

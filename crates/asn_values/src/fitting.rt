@@ -99,7 +99,7 @@ fn type_has(ty: &AsnType, value: &Value, unknown: bool) -> bool
 /// Whether each element is a value of the type.
 #[cycle(fits)]
 fn elements_fit(element: &AsnType, elements: &[Value], unknown: bool) -> bool
-    ensures { IsTrue result ↔ AllByRecursion (λ d. FitsBy unknown (shape_of element.now) d) (map datum_of elements.now) }
+    ensures { IsTrue result ↔ AllByRecursion (FitsBy unknown (shape_of element.now)) (map datum_of elements.now) }
 {
     for value in elements {
         if !type_has(element, value, unknown) {
@@ -112,7 +112,8 @@ fn elements_fit(element: &AsnType, elements: &[Value], unknown: bool) -> bool
 /// Whether there is an alternative with this index, and the value is one of its type.
 #[cycle(fits)]
 fn alternative_has(alternatives: &[Alt], index: usize, chosen: &Value, unknown: bool) -> bool
-    ensures { IsTrue result ↔ FitsAlternativeBy unknown (alternatives_seen alternatives.now) index (datum_of chosen.now) }
+    ensures { IsTrue result
+        ↔ FitsAlternativeBy unknown (alternatives_seen alternatives.now) index (datum_of chosen.now) }
 {
     index < alternatives.len() && type_has(&alternatives[index].ty, chosen, unknown)
 }

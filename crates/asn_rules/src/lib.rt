@@ -20,6 +20,7 @@ mod rules;
 mod session;
 mod signed_reader;
 mod stop;
+mod units;
 mod whole_number_reader;
 
 pub use counting::Counted;
@@ -27,3 +28,4 @@ pub use fault::{DecodeFault, EncodeFault, Why};
 pub use limits::MAX_OCTETS;
 pub use rules::{Rules, decode};
 pub use session::{FeedFault, OpenFault, Step, Truncated};
+pub use units::{CountedFault, Unit};

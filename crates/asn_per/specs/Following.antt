@@ -2,8 +2,8 @@
 use Rattle.std.specs.Prelude.{List}
 use Rattle.asn_bits.specs.Lengths.{joined, general}
 use Rattle.asn_rules.specs.Chunks.{Chunk, one}
-use Rattle.asn_per.specs.declared.size_writer.Following.{Following}
-use Rattle.asn_per.specs.declared.size_writer.Following.TheVariants as following
+use Rattle.asn_per.specs.declared.sizes.Following.{Following}
+use Rattle.asn_per.specs.declared.sizes.Following.TheVariants as following
 
 -- the items, or the items under their general length
 abbrev pub following_chunks : Following → List (List Chunk) → List Chunk

@@ -1,8 +1,8 @@
 -- What is ahead of the reader of a list, as the program holds it.
 use Rattle.std.specs.Prelude.{◌≡◌, ◌*◌, [], ⊤}
 use Rattle.asn_bits.specs.LengthBits.{BegunLengths, is_closed}
-use Rattle.asn_per.specs.declared.size_reader.Fragments.{Fragments}
-use Rattle.asn_per.specs.declared.size_reader.Fragments.TheVariants as rows
+use Rattle.asn_per.specs.declared.sizes.Fragments.{Fragments}
+use Rattle.asn_per.specs.declared.sizes.Fragments.TheVariants as rows
 use Rattle.asn_walk.specs.Ahead.{Ahead, items, lengths, end}
 
 -- where so many blocks have come

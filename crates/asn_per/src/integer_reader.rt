@@ -4,7 +4,7 @@ ghost use Rattle.std.specs.Prelude.{◌≡◌, IfSome, IsNone, ℕ, Some, None, 
 ghost use Rattle.std.specs.Option.{option_map};
 ghost use Rattle.asn_values.specs.Datum.{number, truth};
 ghost use Rattle.asn_values.specs.Shape.{integer};
-ghost use Rattle.asn_values.specs.Profile.{InProfile, is_outside};
+ghost use Rattle.asn_values.specs.Profile.{InProfile};
 ghost use Rattle.asn_values.specs.View.{range_of};
 ghost use Rattle.asn_bits.specs.Numbers.{above};
 ghost use Rattle.asn_bits.specs.Sink.{bit_of};
@@ -13,7 +13,7 @@ ghost use Rattle.asn_per.specs.Per.{per_fields};
 ghost use Rattle.asn_per.specs.Kinds.{IsOutside};
 ghost use Rattle.asn_rules.specs.OffsetSets.{IsOpen, HasOffset};
 ghost use Rattle.asn_rules.specs.IntegerSets.{IsWithin, unmarked, AreOffsets};
-ghost use Rattle.asn_per.specs.Reading.{low_offset, high_offset, Reads, StopsIn, IntegersBut, BooleansBut, IntegersOutside};
+ghost use Rattle.asn_per.specs.Reading.{Reads, StopsIn, IntegersBut, BooleansBut, IntegersOutside};
 ghost use Rattle.asn_walk.specs.Integers.{IsOfProfile};
 
 use asn_bits::BitCursor;
@@ -167,33 +167,13 @@ fn offsets_outside(bounds: &Bounds) -> OffsetSet
     ensures gap { IsOpen result }
     ensures some { (w : ℕ) × HasOffset result w }
 {
+    let low = bounds.low.unwrap_or(LOWEST_INTEGER);
+    let high = bounds.high.unwrap_or(HIGHEST_INTEGER);
     OffsetSet {
         start: 0,
-        below: low_offset(bounds.low),
-        from: high_offset(bounds.high),
+        below: u128::from(offset_from(LOWEST_INTEGER, low)),
+        from: u128::from(offset_from(LOWEST_INTEGER, high)) + 1,
         end: INTEGER_COUNT,
-    }
-}
-
-/// The count of the integers below the low bound.
-fn low_offset(low: Option<i128>) -> u128
-    requires { is_outside low ≡ false }
-    ensures { result ≡ low_offset low }
-{
-    match low {
-        Some(low) => u128::from(offset_from(LOWEST_INTEGER, low)),
-        None => 0,
-    }
-}
-
-/// The count of the integers at the high bound or below it.
-fn high_offset(high: Option<i128>) -> u128
-    requires { is_outside high ≡ false }
-    ensures { result ≡ high_offset high }
-{
-    match high {
-        Some(high) => u128::from(offset_from(LOWEST_INTEGER, high)) + 1,
-        None => INTEGER_COUNT,
     }
 }
 

@@ -5,11 +5,11 @@ ghost use Rattle.asn_values.specs.Shape.{integer};
 ghost use Rattle.asn_values.specs.Datum.{number};
 ghost use Rattle.asn_values.specs.Profile.{InProfile};
 ghost use Rattle.asn_values.specs.View.{range_of};
-ghost use Rattle.asn_per.specs.Kinds.{between, root_of};
+ghost use Rattle.asn_per.specs.Kinds.{between, IsNotBetween};
 ghost use Rattle.asn_per.specs.Laws.{per_bits};
-ghost use Rattle.asn_per.specs.Per.{ranged};
 ghost use Rattle.asn_walk.specs.Writing.{TellsWhether};
 
+use crate::sizes::write_extension_bit;
 use asn_bits::BitSink;
 use asn_bits::numbers::width;
 use asn_bits::offsets::offset_from;
@@ -62,42 +62,23 @@ fn write_between(
     sink.push_number(count, offset)
 }
 
-/// Writes a number, where it is one of the range. With an extension mark the extension bit tells whether it lies
-/// outside the bounds, and there it is an unconstrained whole number.
+/// Writes a number that does not lie between two bounds, where it is one of the range. With an extension mark the
+/// extension bit tells whether it lies outside the bounds. From a low bound on it is a semi-constrained whole number,
+/// else and outside the bounds an unconstrained one.
 #[inline(never)]
 fn write_unbounded(bounds: &Bounds, value: i128, sink: &mut BitSink) -> Result<(), EncodeFault>
     requires of_profile { InProfile (integer (range_of bounds.now)) }
+    requires open { IsNotBetween (range_of bounds.now) value }
     ensures of_type { TellsWhether result (FitsNumber (range_of bounds.now) value) }
     ensures written { OnOk result (sink.new ≡ sink.old ++ per_bits (integer (range_of bounds.now)) (number value)) }
 {
     if !number_fits(bounds, value) {
         return Err(EncodeFault::NotOfType);
     }
-    if bounds.ext {
-        let inside = is_between(bounds, value);
-        sink.push(!inside)?;
-        if !inside {
-            sink.push_least_signed_octets(value)?;
-            return Ok(());
-        }
-    }
-    write_ranged(bounds, value, sink)?;
-    Ok(())
-}
-
-/// Writes a number between the bounds: as a constrained whole number where there are both, a
-/// semi-constrained one where there is a lower bound, else an unconstrained one.
-fn write_ranged(bounds: &Bounds, value: i128, sink: &mut BitSink) -> Result<(), AllocError>
-    requires of_profile { InProfile (integer (root_of (range_of bounds.now))) }
-    requires of_type { FitsNumber (root_of (range_of bounds.now)) value }
-    ensures { OnOk result (sink.new ≡ sink.old ++ ranged bounds.now.low bounds.now.high value) }
-{
-    let Some(low) = bounds.low else {
-        return sink.push_least_signed_octets(value);
-    };
-    let offset = offset_from(low, value);
-    match bounds.high {
-        Some(high) => sink.push_number(width(u128::from(offset_from(low, high)) + 1), offset),
-        None => sink.push_least_octets(offset),
+    let inside = is_between(bounds, value);
+    write_extension_bit(bounds.ext, !inside, sink)?;
+    match bounds.low {
+        Some(low) if inside => Ok(sink.push_least_octets(offset_from(low, value))?),
+        _ => Ok(sink.push_least_signed_octets(value)?),
     }
 }

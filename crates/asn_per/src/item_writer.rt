@@ -11,8 +11,9 @@ ghost use Rattle.asn_per.specs.Reading.{code_width};
 ghost use Rattle.asn_per.specs.StringItems.{item_chunks, AreOfKind, row_bits, sized_bits};
 
 use crate::item_reader::width_of;
-use crate::size_writer::write_size;
+use crate::sizes::write_size;
 use asn_bits::BitSink;
+use asn_rules::power_of_two;
 use asn_values::{Size, TextKind};
 use std::alloc::AllocError;
 
@@ -99,26 +100,15 @@ fn word_of_characters(kind: TextKind, text: &[u8]) -> u64
     ensures bits { bits (code_width (alphabet_of kind) * length text.now) result
         ≡ joined (map (λ c. character_bits (alphabet_of kind) c) text.now) }
 {
+    let radix = power_of_two(width_of(kind));
     let mut word = 0;
     for character in text {
-        let code = code_of(kind, *character);
-        word = word * radix_of(kind) + code;
+        word = word * radix + code_of(kind, *character);
     }
     word
 }
 
-/// The count of the codes that the bits of a character hold.
-fn radix_of(kind: TextKind) -> u64
-    ensures { result ≡ 2 ^ code_width (alphabet_of kind) }
-{
-    match kind {
-        TextKind::Ia5 | TextKind::Visible => 128,
-        TextKind::Numeric => 16,
-    }
-}
-
-/// The code that is spelt for a character: of a NumericString, 0 for SPACE and one more than the
-/// digit says.
+/// The code that is spelt for a character: of a NumericString, 0 for SPACE and one more than the digit says.
 fn code_of(kind: TextKind, character: u8) -> u64
     requires { IsTrue (is_of_kind (alphabet_of kind) character) }
     ensures within { result < 2 ^ code_width (alphabet_of kind) }

@@ -1,5 +1,4 @@
 //! The laws of CANONICAL-PER UNALIGNED (X.691), for every type of the profile.
-
 ghost use Rattle.asn_rules.specs.CodecLaws.{DecodesTheEncoded, EncodesTheDecoded, OnlyMemoryIsWanting, EqualExactly, TellsTheRest, RestFollowsOneFront, TellsTheCut, DecodersAgree};
 ghost use Rattle.asn_rules.specs.Laws.{BeginningsAreLive, BeginningsAreNotRefused, EachHasAValue, EncodesAs, UnitsTellTheValue, OneValue, NoneBegins, RulesLaws, LiveIsClosed, LiveByParts, OneAnswer};
 ghost use Rattle.asn_rules.specs.Parted.{SpellingsPart};
@@ -7,6 +6,7 @@ ghost use Rattle.asn_rules.specs.Reading.{RulesTell};
 ghost use Rattle.asn_per.specs.Per.{per, per_fields, per_octets, per_whole};
 ghost use Rattle.asn_per.specs.Rules.{per_ruling};
 ghost use Rattle.asn_per.specs.Laws.{per_bits, NoBitsIsExact};
+ghost use Rattle.asn_per.specs.Kinds.{BooleansCompose, NullsCompose, IntegersCompose, EnumeratedCompose, BitStringsCompose, OctetStringsCompose, TextsCompose, Utf8StringsCompose, ListsCompose, FixedSizesCompose, ChoicesCompose, SequencesCompose, MarkedSequencesCompose, EnumeratedButOne, UnboundedButOne};
 
 /// A spelling tells its value and where it ends, whatever follows it.
 ///
@@ -87,4 +87,26 @@ pub fn codec_laws()
     ensures one_front { RestFollowsOneFront per_ruling }
     ensures cut { TellsTheCut per_ruling }
     ensures one_answer { DecodersAgree per_ruling }
+{}
+
+/// Of each kind of type of the profile the spellings of its values are those of its parts, put together: numbers of a
+/// set in a fixed count of bits, lengths, items in a row, extension bits that fork, presence bits and open fields. A
+/// list whose size is fixed has no count. Of an ENUMERATED without a mark, and of an INTEGER without a low bound and
+/// without a mark, the same is said of the values but for one, as a component with a DEFAULT is spelt.
+pub fn kinds_compose()
+    ensures booleans { BooleansCompose }
+    ensures nulls { NullsCompose }
+    ensures integers { IntegersCompose }
+    ensures enumerated { EnumeratedCompose }
+    ensures bit_strings { BitStringsCompose }
+    ensures octet_strings { OctetStringsCompose }
+    ensures texts { TextsCompose }
+    ensures utf8_strings { Utf8StringsCompose }
+    ensures lists { ListsCompose }
+    ensures fixed_sizes { FixedSizesCompose }
+    ensures choices { ChoicesCompose }
+    ensures sequences { SequencesCompose }
+    ensures marked_sequences { MarkedSequencesCompose }
+    ensures enumerated_but_one { EnumeratedButOne }
+    ensures unbounded_but_one { UnboundedButOne }
 {}

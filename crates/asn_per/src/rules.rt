@@ -5,13 +5,16 @@ ghost use Rattle.asn_rules.specs.Codec.{Decoded};
 ghost use Rattle.asn_rules.specs.Rereading.{Keeps};
 ghost use Rattle.asn_per.specs.Rules.{per_ruling};
 
-use crate::per::Per;
 use asn_rules::{
     DecodeFault, EncodeFault, FeedFault, OpenFault, Reads, Rereading, Rules, Step, Truncated,
     rereading,
 };
 use asn_values::{Checked, Value};
 use std::alloc::{AllocError, Global};
+
+/// CANONICAL-PER UNALIGNED (X.691), as the walk over types and values asks for a set of encoding rules: its units
+/// are bits.
+pub struct Per;
 
 impl Reads for Per {
     ghost ruling = { per_ruling };

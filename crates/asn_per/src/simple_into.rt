@@ -12,7 +12,7 @@ ghost use Rattle.asn_per.specs.Reading.{StopsIn, BooleansBut, IntegersBut, Items
 
 use crate::integer_reader::{read_boolean, read_integer};
 use crate::items::read_item;
-use crate::string_reader::{fill_bits, fill_characters, fill_octets};
+use crate::string_reader::{read_bits, read_characters, read_octets};
 use asn_bits::BitCursor;
 use asn_rules::Stop;
 use asn_values::{Bounds, Item, Size, TextKind, Value};
@@ -78,7 +78,7 @@ pub(crate) fn read_bit_string_into(
     ensures stop { StopsIn result (Spelt per None (bit_string (size_range_of size.now))) cursor.old }
 {
     let mut bits = take_bits(alloc, slot);
-    fill_bits(size, &mut bits, cursor)?;
+    read_bits(size, &mut bits, cursor)?;
     *slot = Value::Bits(bits);
     Ok(())
 }
@@ -97,7 +97,7 @@ pub(crate) fn read_octet_string_into(
     ensures stop { StopsIn result (Spelt per None (octet_string (size_range_of size.now))) cursor.old }
 {
     let mut octets = take_octets(alloc, slot);
-    fill_octets(size, &mut octets, cursor)?;
+    read_octets(size, &mut octets, cursor)?;
     *slot = Value::Octets(octets);
     Ok(())
 }
@@ -118,7 +118,7 @@ pub(crate) fn read_text_into(
     ensures stop { StopsIn result (Spelt per None (restricted (alphabet_of kind) (size_range_of size.now))) cursor.old }
 {
     let mut characters = take_characters(alloc, slot);
-    fill_characters(kind, size, &mut characters, cursor)?;
+    read_characters(kind, size, &mut characters, cursor)?;
     *slot = Value::Text(characters);
     Ok(())
 }

@@ -6,8 +6,8 @@ use crate::indexes;
 use crate::integer_writer::write_integer;
 use crate::item_writer::{Items, write_sized};
 use crate::items::write_item;
-use crate::per::Per;
-use crate::size_writer::{Following, write_size};
+use crate::rules::Per;
+use crate::sizes::{Following, write_size};
 use asn_bits::BitSink;
 use asn_rules::EncodeFault;
 use asn_values::{

@@ -1,5 +1,5 @@
 use Rattle.asn_per.proofs.ListFragments.{fragment_follows}
-use Rattle.asn_per.proofs.size_writer.Following.next.Goals as goal
+use Rattle.asn_per.proofs.sizes.Following.next.Goals as goal
 
 pub returns-then-count-ge-BLOCK : goal.returns-then-count-ge-BLOCK
 returns-then-count-ge-BLOCK c =

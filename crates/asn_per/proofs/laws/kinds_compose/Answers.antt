@@ -10,7 +10,7 @@ use Rattle.asn_per.proofs.MarkedSequences.{marked_sequences_compose}
 use Rattle.asn_per.proofs.PlainSequences.{sequences_compose}
 use Rattle.asn_per.proofs.SizedLists.{fixed_sized}
 use Rattle.asn_per.proofs.LeftOut.{enumerated_but_one, unbounded_but_one}
-use Rattle.asn_per.proofs.kinds.kinds_compose.Goals as goal
+use Rattle.asn_per.proofs.laws.kinds_compose.Goals as goal
 
 pub returns-clause-booleans : goal.returns-clause-booleans
 returns-clause-booleans c = booleans_compose

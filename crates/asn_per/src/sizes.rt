@@ -1,19 +1,103 @@
-//! The reader of what stands before the items of a list under a size, and between them: counts and length
+//! What stands before the items of a list under a size, and between them, written and read: counts and length
 //! determinants.
-ghost use Rattle.std.specs.Prelude.{◌≡◌, ◌≤◌, [], true, false, Some, IfOk, IfErr};
+ghost use Rattle.std.specs.Prelude.{◌≡◌, ◌≤◌, [], true, false, Some, IfOk, IfErr, ◌++◌, List, OnOk, length};
 ghost use Rattle.asn_values.specs.View.{size_range_of};
-ghost use Rattle.asn_per.specs.Per.{per_fields};
+ghost use Rattle.asn_per.specs.Per.{per_fields, spelled};
 ghost use Rattle.asn_walk.specs.Ahead.{items, Next, StopsNext, lengths};
 ghost use Rattle.asn_walk.specs.Laws.{IsSizeOfProfile};
 ghost use Rattle.asn_per.specs.ListsAhead.{RootStart, Start, other_counts};
 ghost use Rattle.asn_per.specs.RowsAhead.{ahead_of, lengths_of, IsBetween};
 ghost use Rattle.asn_per.specs.Reading.{Reads, StopsIn};
+ghost use Rattle.asn_values.specs.Fits.{FitsLength};
+ghost use Rattle.asn_rules.specs.Chunks.{Chunk, flat};
+ghost use Rattle.asn_rules.specs.Components.{extension_bit};
+ghost use Rattle.asn_per.specs.Following.{following_chunks};
+ghost use Rattle.asn_per.specs.StringItems.{sized_bits};
+ghost use Rattle.asn_per.specs.Walk.{per_coding};
+ghost use Rattle.asn_walk.specs.Writing.{Advances};
 
 use asn_bits::numbers::width;
-use asn_bits::{BitCursor, Counts, Lengths};
+use asn_bits::{BitCursor, BitSink, Counts, Lengths};
 use asn_rules::{Stop, Why, read_next_length, read_up_to};
-use asn_values::Size;
-use asn_values::profile::MAX_LEN;
+use asn_values::profile::{self, MAX_LEN};
+use asn_values::{Size, is_in_size};
+use std::alloc::AllocError;
+
+/// The least count of items in a fragment.
+const BLOCK: usize = profile::BLOCK as usize;
+
+/// What follows of a list.
+#[derive(Drop)]
+pub enum Following {
+    /// The items that are left, or nothing.
+    Items,
+    /// A length determinant (X.691, "general length determinant").
+    Length,
+}
+
+impl Following {
+    /// Writes as far as the next items, of which `left` are left. Returns their count: `None` if no item is left.
+    #[inline(always)]
+    #[tactic(auto, unfolding(crate::specs::Walk::per_coding, crate::specs::Rules::per_ruling))]
+    pub(crate) fn next(
+        &mut self,
+        left: usize,
+        sink: &mut BitSink,
+    ) -> Result<Option<usize>, AllocError>
+        ensures { IfOk result (λ count. Advances per_coding
+            (following_chunks self.old) left sink.old (following_chunks self.new) sink.new count) }
+    {
+        match self {
+            Following::Items => {
+                if left == 0 {
+                    return Ok(None);
+                }
+                Ok(Some(left))
+            }
+            Following::Length => {
+                let count = sink.push_length(left as u64)? as usize;
+                if count >= BLOCK {
+                    return Ok(Some(count));
+                }
+                *self = Following::Items;
+                if count == 0 {
+                    return Ok(None);
+                }
+                Ok(Some(count))
+            }
+        }
+    }
+}
+
+/// Writes what stands before `count` items under a size: the extension bit where there is an extension mark, and in
+/// the root the count where there is an upper bound (X.691, "constrained whole number"). Returns what follows.
+pub(crate) fn write_size(
+    size: &Size,
+    count: usize,
+    sink: &mut BitSink,
+) -> Result<Following, AllocError>
+    requires { FitsLength (size_range_of size.now) count }
+    ensures { IfOk result (λ f. (xs : List (List Chunk)) → length xs ≡ count
+        → sink.new ++ flat spelled (following_chunks f xs) ≡ sink.old ++ sized_bits (size_range_of size.now) xs) }
+{
+    let inside = is_in_size(size, count);
+    write_extension_bit(size.ext, !inside, sink)?;
+    match size.high {
+        Some(high) if inside => {
+            let values = u128::from(high - size.low) + 1;
+            sink.push_number(width(values), count as u64 - u64::from(size.low))?;
+            Ok(Following::Items)
+        }
+        _ => Ok(Following::Length),
+    }
+}
+
+/// Writes the extension bit of a type that has an extension mark: 1 where the value lies outside the root.
+pub(crate) fn write_extension_bit(marked: bool, outside: bool, sink: &mut BitSink) -> Result<(), AllocError>
+    ensures { OnOk result (sink.new ≡ sink.old ++ extension_bit marked outside) }
+{
+    if marked { sink.push(outside) } else { Ok(()) }
+}
 
 /// What follows of a list that is read.
 #[derive(Drop)]
@@ -110,17 +194,7 @@ fn read_root_start(size: &Size, bits: &mut BitCursor<'_>) -> Result<Fragments, S
         };
         return Ok(Fragments::Lengths(Lengths::new(counts, None)));
     };
-    Ok(Fragments::Items(read_root_count(size.low, high, bits)?))
-}
-
-/// Reads the count of a list of a root with these bounds.
-#[inline(always)]
-fn read_root_count(low: u32, high: u32, bits: &mut BitCursor<'_>) -> Result<usize, Stop>
-    requires { low ≤ high }
-    ensures done { Reads result items (RootStart low (Some high)) bits.old bits.new }
-    ensures stop { StopsIn result (RootStart low (Some high)) bits.old }
-{
-    let above = u64::from(high - low);
+    let above = u64::from(high - size.low);
     let count = read_up_to(width(u128::from(above) + 1), above, Why::Length, bits)?;
-    Ok(low as usize + count as usize)
+    Ok(Fragments::Items(size.low as usize + count as usize))
 }

@@ -6,7 +6,7 @@ use Rattle.asn_rules.proofs.LengthReading.{fragment_left}
 use Rattle.asn_walk.specs.Ahead.{lengths, ReadsLength}
 use Rattle.asn_per.specs.Per.{per_fields}
 use Rattle.asn_per.specs.RowsAhead.{ahead_of, lengths_of}
-use Rattle.asn_per.proofs.size_reader.Fragments.next.Goals as goal
+use Rattle.asn_per.proofs.sizes.Fragments.next.Goals as goal
 
 -- a length is ahead after the items of a fragment
 fragment_ahead : {old new : BegunLengths} {us rest : List ℕ} {n : ℕ} → NextLength old n us rest new → new.bits ≡ [] → ReadsLength per_fields old.counts (16384 * old.blocks) (is_closed old.blocks) n (lengths_of new) us rest

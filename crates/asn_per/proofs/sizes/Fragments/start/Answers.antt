@@ -7,7 +7,7 @@ use Rattle.asn_per.specs.Per.{per_fields}
 use Rattle.asn_per.specs.ListsAhead.{RootStart}
 use Rattle.asn_per.specs.RowsAhead.{ahead_of}
 use Rattle.asn_per.proofs.ListsAhead.{mark_waits, mark_zero, mark_one}
-use Rattle.asn_per.proofs.size_reader.Fragments.start.Goals as goal
+use Rattle.asn_per.proofs.sizes.Fragments.start.Goals as goal
 
 pub returns-in-None-clause-stop : goal.returns-in-None-clause-stop
 returns-in-None-clause-stop c = record { told = mark_waits c.args.size.now.low c.args.size.now.high c.args.size.now.ext c.args.bits.now c.if-not-size.false (c.in-None.ensures.none.0 refl) }

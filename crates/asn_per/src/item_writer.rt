@@ -13,7 +13,7 @@ ghost use Rattle.asn_per.specs.StringItems.{item_chunks, AreOfKind, row_bits, si
 use crate::item_reader::width_of;
 use crate::sizes::write_size;
 use asn_bits::BitSink;
-use asn_rules::power_of_two;
+use asn_rules::internal::power_of_two;
 use asn_values::{Size, TextKind};
 use std::alloc::AllocError;
 

@@ -13,8 +13,9 @@ use crate::simple_into::{
 use crate::sizes::Fragments;
 use crate::string_reader::{read_bits, read_characters, read_octet_string, read_utf8};
 use asn_bits::BitCursor;
-use asn_rules::{
-    NumberSet, Stop, Why, bits_left, greatest_of_width, read_number, read_padding, read_up_to,
+use asn_rules::Why;
+use asn_rules::internal::{
+    NumberSet, Stop, bits_left, greatest_of_width, read_number, read_padding, read_up_to,
 };
 use asn_values::{AsnType, Size, Value};
 use asn_walk::{Index, Preamble, ReadLeaves};

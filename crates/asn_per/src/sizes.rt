@@ -16,11 +16,13 @@ ghost use Rattle.asn_per.specs.StringItems.{sized_bits};
 ghost use Rattle.asn_per.specs.Walk.{per_coding};
 ghost use Rattle.asn_walk.specs.Writing.{Advances};
 
-use asn_bits::numbers::width;
+use asn_bits::internal::width;
 use asn_bits::{BitCursor, BitSink, Counts, Lengths};
-use asn_rules::{Stop, Why, read_next_length, read_up_to};
+use asn_rules::Why;
+use asn_rules::internal::{Stop, read_next_length, read_up_to};
+use asn_values::Size;
+use asn_values::internal::is_in_size;
 use asn_values::profile::{self, MAX_LEN};
-use asn_values::{Size, is_in_size};
 use std::alloc::AllocError;
 
 /// The least count of items in a fragment.

@@ -10,9 +10,9 @@ ghost use Rattle.asn_per.specs.Kinds.{BooleansCompose, NullsCompose, IntegersCom
 
 /// A spelling tells its value and where it ends, whatever follows it.
 ///
-/// Two spellings at the front of one list of bits are one, of one value. Octets are the complete
-/// encoding of one value only, and no complete encoding begins another. Two spellings of one type
-/// are one, of one value, or they part at a bit or inside sealed fields that stand in one place.
+/// Two spellings at the front of one list of bits are one, of one value. Octets are the complete encoding of one value
+/// only, and no complete encoding begins another. Two spellings of one type are one, of one value, or they part at a
+/// bit or inside sealed fields that stand in one place.
 pub fn decoding_is_unique()
     ensures bits { UnitsTellTheValue per_bits }
     ensures one_value { OneValue per_octets }
@@ -20,22 +20,22 @@ pub fn decoding_is_unique()
     ensures part { SpellingsPart per }
 {}
 
-/// PER keeps the laws of encoding rules: an encoding has one value, a value that fits has one
-/// encoding, and no encoding begins another. The encoding of a value is `per_octets` of it.
+/// PER keeps the laws of encoding rules: an encoding has one value, a value that fits has one encoding, and no encoding
+/// begins another. The encoding of a value is `per_octets` of it.
 pub fn encoding_laws()
     ensures laws { RulesLaws per_ruling }
     ensures octets { EncodesAs per_ruling per_octets }
 {}
 
-/// Each type of the profile has a value, and `no_bits` says exactly which types have only values
-/// that are spelt by no bit.
+/// Each type of the profile has a value, and `no_bits` says exactly which types have only values that are spelt by no
+/// bit.
 pub fn values_and_bits()
     ensures a_value { EachHasAValue }
     ensures no_bits { NoBitsIsExact }
 {}
 
-/// Whether an encoding may follow some bits, said of all its bits and sealed fields at once, is
-/// the same said chunk by chunk.
+/// Whether an encoding may follow some bits, said of all its bits and sealed fields at once, is the same said chunk by
+/// chunk.
 pub fn live_by_parts()
     ensures { LiveByParts per_fields per_whole }
 {}
@@ -45,8 +45,8 @@ pub fn viability_is_prefix_closed()
     ensures { LiveIsClosed per_fields per_whole }
 {}
 
-/// To one list of octets there is one answer: done with one value and count of octets, refused at
-/// one place, too long, or more to come.
+/// To one list of octets there is one answer: done with one value and count of octets, refused at one place, too long,
+/// or more to come.
 pub fn answers_exclude()
     ensures { OneAnswer per_ruling }
 {}
@@ -58,9 +58,9 @@ pub fn prefixes_are_viable()
     ensures not_refused { BeginningsAreNotRefused per_ruling }
 {}
 
-/// What makes a reader of PER exact: two complete encodings of one type are one, of one value, or
-/// part at a bit or inside sealed fields of one kind; each sealed field is at least as long as its
-/// content and begins no other; and the bits of octets are those of each, one after the other.
+/// What makes a reader of PER exact: two complete encodings of one type are one, of one value, or part at a bit or
+/// inside sealed fields of one kind; each sealed field is at least as long as its content and begins no other; and the
+/// bits of octets are those of each, one after the other.
 pub fn readers_tell()
     ensures { RulesTell per_ruling }
 {}

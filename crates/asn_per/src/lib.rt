@@ -2,16 +2,14 @@
 #![tactic(auto)]
 
 mod indexes;
-mod integer_reader;
-mod integer_writer;
-mod item_reader;
-mod item_writer;
+mod integers;
 mod items;
 pub mod laws;
 mod read_leaves;
 mod rules;
 mod simple_into;
 mod sizes;
+mod string_items;
 mod string_reader;
 mod write_leaves;
 

@@ -2,8 +2,8 @@
 ghost use Rattle.asn_per.specs.RowsAhead.{ahead_of, IsBetween};
 ghost use Rattle.asn_per.specs.Walk.{per_coding};
 
-use crate::indexes::{self, read_extension_bit};
-use crate::integer_reader::{read_boolean, read_integer, try_constrained};
+use crate::indexes::{self, read_extension_bit, read_small_length};
+use crate::integers::{read_boolean, read_integer, try_constrained};
 use crate::items::read_item;
 use crate::rules::Per;
 use crate::simple_into::{
@@ -122,13 +122,7 @@ impl ReadLeaves for Per {
 
     #[inline(always)]
     fn read_addition_bitmap(count: u32, units: &mut BitCursor<'_>) -> Result<u64, Stop> {
-        let last = u64::from(count) - 1;
-        let of_type = NumberSet {
-            low: last,
-            high: last,
-            excluded: None,
-        };
-        read_number(7, of_type, Why::Extension, units)?;
+        read_small_length(count, units)?;
         let some_present = NumberSet {
             low: 0,
             high: greatest_of_width(count),

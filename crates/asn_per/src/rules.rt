@@ -10,8 +10,7 @@ use asn_rules::{DecodeFault, EncodeFault, FeedFault, OpenFault, Rules, Step, Tru
 use asn_values::{Checked, Value};
 use std::alloc::{AllocError, Global};
 
-/// CANONICAL-PER UNALIGNED (X.691), as the walk over types and values asks for a set of encoding rules: its units
-/// are bits.
+/// CANONICAL-PER UNALIGNED (X.691) as a set of encoding rules, whose units are bits.
 pub struct Per;
 
 impl Reads for Per {

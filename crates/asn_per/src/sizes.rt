@@ -1,32 +1,26 @@
-//! What stands before the items of a list under a size, and between them, written and read: counts and length
-//! determinants.
-ghost use Rattle.std.specs.Prelude.{◌≡◌, ◌≤◌, [], true, false, Some, IfOk, IfErr, ◌++◌, List, OnOk, length};
+//! What stands before the items of a list under a size, and between them: counts and length determinants.
+ghost use Rattle.std.specs.Prelude.{◌≡◌, [], true, false, IfOk, IfErr, ◌++◌, OnOk};
 ghost use Rattle.asn_values.specs.View.{size_range_of};
-ghost use Rattle.asn_per.specs.Per.{per_fields, spelled};
-ghost use Rattle.asn_walk.specs.Ahead.{items, Next, StopsNext, lengths};
+ghost use Rattle.asn_per.specs.Per.{per_fields};
+ghost use Rattle.asn_walk.specs.Ahead.{StopsNext, lengths};
 ghost use Rattle.asn_walk.specs.Laws.{IsSizeOfProfile};
 ghost use Rattle.asn_per.specs.ListsAhead.{RootStart, Start, other_counts};
-ghost use Rattle.asn_per.specs.RowsAhead.{ahead_of, lengths_of, IsBetween};
+ghost use Rattle.asn_per.specs.RowsAhead.{ahead_of, lengths_of, IsBetween, GoesOn};
 ghost use Rattle.asn_per.specs.Reading.{Reads, StopsIn};
 ghost use Rattle.asn_values.specs.Fits.{FitsLength};
-ghost use Rattle.asn_rules.specs.Chunks.{Chunk, flat};
 ghost use Rattle.asn_rules.specs.Components.{extension_bit};
-ghost use Rattle.asn_per.specs.Following.{following_chunks};
-ghost use Rattle.asn_per.specs.StringItems.{sized_bits};
-ghost use Rattle.asn_per.specs.Walk.{per_coding};
-ghost use Rattle.asn_walk.specs.Writing.{Advances};
+ghost use Rattle.asn_per.specs.Following.{Proceeds};
+ghost use Rattle.asn_per.specs.StringItems.{FollowsSize};
 
+use crate::indexes::read_extension_bit;
 use asn_bits::internal::width;
 use asn_bits::{BitCursor, BitSink, Counts, Lengths};
 use asn_rules::Why;
 use asn_rules::internal::{Stop, read_next_length, read_up_to};
 use asn_values::Size;
 use asn_values::internal::is_in_size;
-use asn_values::profile::{self, MAX_LEN};
+use asn_values::profile::{BLOCK, MAX_LEN};
 use std::alloc::AllocError;
-
-/// The least count of items in a fragment.
-const BLOCK: usize = profile::BLOCK as usize;
 
 /// What follows of a list.
 #[derive(Drop)]
@@ -46,8 +40,7 @@ impl Following {
         left: usize,
         sink: &mut BitSink,
     ) -> Result<Option<usize>, AllocError>
-        ensures { IfOk result (λ count. Advances per_coding
-            (following_chunks self.old) left sink.old (following_chunks self.new) sink.new count) }
+        ensures { IfOk result (λ count. Proceeds self.old left sink.old self.new sink.new count) }
     {
         match self {
             Following::Items => {
@@ -58,7 +51,7 @@ impl Following {
             }
             Following::Length => {
                 let count = sink.push_length(left as u64)? as usize;
-                if count >= BLOCK {
+                if count as u64 >= BLOCK {
                     return Ok(Some(count));
                 }
                 *self = Following::Items;
@@ -79,8 +72,7 @@ pub(crate) fn write_size(
     sink: &mut BitSink,
 ) -> Result<Following, AllocError>
     requires { FitsLength (size_range_of size.now) count }
-    ensures { IfOk result (λ f. (xs : List (List Chunk)) → length xs ≡ count
-        → sink.new ++ flat spelled (following_chunks f xs) ≡ sink.old ++ sized_bits (size_range_of size.now) xs) }
+    ensures { IfOk result (λ f. FollowsSize (size_range_of size.now) count sink.old sink.new f) }
 {
     let inside = is_in_size(size, count);
     write_extension_bit(size.ext, !inside, sink)?;
@@ -118,16 +110,17 @@ impl Fragments {
     pub(crate) fn start(size: &Size, bits: &mut BitCursor<'_>) -> Result<Fragments, Stop>
         requires of_profile { IsSizeOfProfile (size_range_of size.now) }
         ensures done { Reads result ahead_of (Start (size_range_of size.now)) bits.old bits.new }
-        ensures between { IfOk result (λ rows. IsBetween rows) }
+        ensures between { IfOk result (λ fragments. IsBetween fragments) }
         ensures stop { StopsIn result (Start (size_range_of size.now)) bits.old }
     {
         if !size.ext {
             return read_root_start(size, bits);
         }
-        match bits.next() {
-            None => Err(Stop::Short),
-            Some(0) => read_root_start(size, bits),
-            Some(_) => Ok(Fragments::Lengths(other_lengths(size))),
+        let outside = read_extension_bit(true, bits)?;
+        if outside {
+            Ok(Fragments::Lengths(other_lengths(size)))
+        } else {
+            read_root_start(size, bits)
         }
     }
 
@@ -135,8 +128,7 @@ impl Fragments {
     pub(crate) fn next(&mut self, bits: &mut BitCursor<'_>) -> Result<Option<usize>, Stop>
         requires between { IsBetween self.old }
         ensures between { IfOk result (λ row. IsBetween self.new) }
-        ensures done { IfOk result (λ count.
-            Next per_fields (ahead_of self.old) count (ahead_of self.new) bits.old bits.new) }
+        ensures done { IfOk result (λ count. GoesOn self.old count self.new bits.old bits.new) }
         ensures stop { IfErr result (λ why. StopsNext per_fields (ahead_of self.old) bits.old why) }
     {
         match self {
@@ -186,7 +178,7 @@ fn other_lengths(size: &Size) -> Lengths
 fn read_root_start(size: &Size, bits: &mut BitCursor<'_>) -> Result<Fragments, Stop>
     requires of_profile { IsSizeOfProfile (size_range_of size.now) }
     ensures done { Reads result ahead_of (RootStart size.now.low size.now.high) bits.old bits.new }
-    ensures between { IfOk result (λ rows. IsBetween rows) }
+    ensures between { IfOk result (λ fragments. IsBetween fragments) }
     ensures stop { StopsIn result (RootStart size.now.low size.now.high) bits.old }
 {
     let Some(high) = size.high else {

@@ -1,15 +1,14 @@
 //! Readers of strings: bits, octets and characters under a size, and UTF8String.
-ghost use Rattle.std.specs.Prelude.{OnOk, string_bytes};
+ghost use Rattle.std.specs.Prelude.{string_bytes};
 ghost use Rattle.asn_values.specs.View.{size_range_of};
 ghost use Rattle.asn_rules.specs.Chunks.{utf8_field};
 ghost use Rattle.asn_rules.specs.Fields.{Octet};
-ghost use Rattle.asn_rules.specs.Languages.{Spells, Sealed};
+ghost use Rattle.asn_rules.specs.Languages.{Sealed};
 ghost use Rattle.asn_per.specs.Kinds.{Bit, Sized, IsUtf8Content};
-ghost use Rattle.asn_per.specs.Per.{per_fields};
 ghost use Rattle.asn_walk.specs.Laws.{IsSizeOfProfile};
-ghost use Rattle.asn_per.specs.Reading.{Reads, StopsIn, CharacterOf};
+ghost use Rattle.asn_per.specs.Reading.{Reads, ReadsInto, StopsIn, CharactersOf};
 
-use crate::item_reader::{append_bits, append_characters, append_octets};
+use crate::string_items::{append_bits, append_characters, append_octets};
 use crate::sizes::Fragments;
 use asn_bits::BitCursor;
 use asn_rules::Why;
@@ -17,8 +16,7 @@ use asn_rules::internal::{Stop, bits_left};
 use asn_values::{Size, TextKind};
 use std::alloc::Global;
 
-/// Reads the bits of a BIT STRING (X.691, "encoding the bitstring type") into the vector, in place of those that it
-/// has.
+/// Reads a BIT STRING (X.691, "encoding the bitstring type") into the vector, in place of the bits that it has.
 #[inline(always)]
 pub(crate) fn read_bits(
     size: &Size,
@@ -26,8 +24,7 @@ pub(crate) fn read_bits(
     cursor: &mut BitCursor<'_>,
 ) -> Result<(), Stop>
     requires of_profile { IsSizeOfProfile (size_range_of size.now) }
-    ensures done { OnOk result (Spells per_fields
-        (Sized (size_range_of size.now) Bit) bits.new.items cursor.old cursor.new) }
+    ensures done { ReadsInto result (Sized (size_range_of size.now) Bit) bits.new.items cursor.old cursor.new }
     ensures stop { StopsIn result (Sized (size_range_of size.now) Bit) cursor.old }
 {
     bits.clear();
@@ -61,8 +58,7 @@ pub(crate) fn read_octets(
     cursor: &mut BitCursor<'_>,
 ) -> Result<(), Stop>
     requires of_profile { IsSizeOfProfile (size_range_of size.now) }
-    ensures done { OnOk result (Spells per_fields
-        (Sized (size_range_of size.now) Octet) octets.new.items cursor.old cursor.new) }
+    ensures done { ReadsInto result (Sized (size_range_of size.now) Octet) octets.new.items cursor.old cursor.new }
     ensures stop { StopsIn result (Sized (size_range_of size.now) Octet) cursor.old }
 {
     octets.clear();
@@ -73,8 +69,7 @@ pub(crate) fn read_octets(
     Ok(())
 }
 
-/// Reads the characters of a string (X.691, "encoding the restricted character string types") into the vector, in
-/// place of those that it has.
+/// Reads a string (X.691, "encoding the restricted character string types") into the vector, in place of what it has.
 #[inline(always)]
 pub(crate) fn read_characters(
     kind: TextKind,
@@ -83,9 +78,8 @@ pub(crate) fn read_characters(
     cursor: &mut BitCursor<'_>,
 ) -> Result<(), Stop>
     requires of_profile { IsSizeOfProfile (size_range_of size.now) }
-    ensures done { OnOk result (Spells per_fields
-        (Sized (size_range_of size.now) (CharacterOf kind)) characters.new.items cursor.old cursor.new) }
-    ensures stop { StopsIn result (Sized (size_range_of size.now) (CharacterOf kind)) cursor.old }
+    ensures done { ReadsInto result (CharactersOf kind (size_range_of size.now)) characters.new.items cursor.old cursor.new }
+    ensures stop { StopsIn result (CharactersOf kind (size_range_of size.now)) cursor.old }
 {
     characters.clear();
     let mut fragments = Fragments::start(size, cursor)?;

@@ -34,7 +34,7 @@ bits_of_inside b z e i =
     ∙ ap (λ (m : Bool). behind_mark (λ u. u) true m (ranged b.low b.high z) (unconstrained z)) i
 
 -- the extension bit where there is one, and the form of the root or the other
-form : Bool → List ℕ → List ℕ → List ℕ
+abbrev form : Bool → List ℕ → List ℕ → List ℕ
 form true root other = root
 form false root other = other
 

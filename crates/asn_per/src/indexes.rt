@@ -1,5 +1,4 @@
-//! The index of an item of an ENUMERATED or of an alternative of a CHOICE, written and read: one of the root, or one
-//! of the extension additions (X.691, "encoding the enumerated type", "encoding the choice type").
+//! The index of an item of an ENUMERATED or an alternative of a CHOICE: of the root, or of the extension additions.
 ghost use Rattle.std.specs.Prelude.{◌≡◌, ◌≤◌, ◌<◌, ◌-◌, ◌++◌, IfOk, IfErr, OnOk, Some};
 ghost use Rattle.asn_bits.specs.Numbers.{width};
 ghost use Rattle.asn_rules.specs.NumberSets.{NumberIn};
@@ -130,9 +129,8 @@ pub(crate) fn read_extension_bit(listed: bool, bits: &mut BitCursor<'_>) -> Resu
         return Err(Stop::Short);
     };
     if bit == 1 && !listed {
-        let left = bits_left(bits);
         return Err(Stop::Refused {
-            left,
+            left: bits_left(bits),
             why: Why::Extension,
         });
     }

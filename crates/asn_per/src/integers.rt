@@ -1,5 +1,4 @@
-//! INTEGER (X.691, "encoding the integer type") and BOOLEAN: writers, and readers of which one value may be excluded:
-//! the DEFAULT of a component, which an encoder leaves out.
+//! INTEGER and BOOLEAN (X.691). A reader may exclude one value: a component's DEFAULT, which an encoder leaves out.
 ghost use Rattle.std.specs.Prelude.{◌≡◌, ◌≤ℤ◌, ◌++◌, OnOk, IfSome, IsNone, ℕ, Some, None, true, false};
 ghost use Rattle.std.specs.Option.{option_map};
 ghost use Rattle.asn_values.specs.Fits.{FitsNumber};
@@ -78,9 +77,8 @@ fn write_between(
     sink.push_number(count, offset)
 }
 
-/// Writes a number that does not lie between two bounds, where it is one of the range. With an extension mark the
-/// extension bit tells whether it lies outside the bounds. From a low bound on it is a semi-constrained whole number,
-/// else and outside the bounds an unconstrained one.
+/// Writes a number that does not lie between two bounds, where it is one of the range: after the extension bit, from
+/// a low bound on as a semi-constrained whole number, and else as an unconstrained one.
 #[inline(never)]
 fn write_unbounded(bounds: &Bounds, value: i128, sink: &mut BitSink) -> Result<(), EncodeFault>
     requires of_profile { InProfile (integer (range_of bounds.now)) }
@@ -254,5 +252,9 @@ pub(crate) fn read_boolean(excluded: Option<bool>, bits: &mut BitCursor<'_>) -> 
     ensures done { Reads result truth (BooleansBut excluded) bits.old bits.new }
     ensures stop { StopsIn result (BooleansBut excluded) bits.old }
 {
-    Ok(read_constrained(1, excluded.map(|truth| u64::from(truth)), bits)? == 1)
+    let left_out = match excluded {
+        Some(truth) => Some(u64::from(truth)),
+        None => None,
+    };
+    Ok(read_constrained(1, left_out, bits)? == 1)
 }

@@ -71,13 +71,13 @@ pub(crate) fn read_item(
     ensures stop { StopsIn result (ItemsBut excluded root.now more.now) bits.old }
 {
     match more {
-        None => read_root_item(root, excluded, bits),
+        None => read_of_root(root, excluded, bits),
         Some(additions) => read_marked_item(root, additions, bits),
     }
 }
 
 /// Reads an item of the root by its index, but for the one at the position `excluded`.
-fn read_root_item(root: &[Item], excluded: Option<u32>, bits: &mut BitCursor<'_>) -> Result<u32, Stop>
+fn read_of_root(root: &[Item], excluded: Option<u32>, bits: &mut BitCursor<'_>) -> Result<u32, Stop>
     requires good { AreRootItems (map label_of root.now) }
     requires within { IsRootPosition (map label_of root.now) excluded }
     requires some { Inhabited (RootItemsBut (map label_of root.now) excluded) }
@@ -141,16 +141,12 @@ fn position_by_numbers(root: &[Item], index: usize) -> u32
 }
 
 /// Reads an item of a type with an extension mark: 0 and one of the root, or 1 and one of the additions.
-fn read_marked_item(
-    root: &[Item],
-    additions: &[Item],
-    bits: &mut BitCursor<'_>,
-) -> Result<u32, Stop>
-    requires of_profile { InProfile (enumerated (map label_of root.now) (marked_labels (map label_of additions.now))) }
-    ensures done { Reads result item (MarkedItems root.now additions.now) bits.old bits.new }
-    ensures stop { StopsIn result (MarkedItems root.now additions.now) bits.old }
+fn read_marked_item(root: &[Item], more: &[Item], bits: &mut BitCursor<'_>) -> Result<u32, Stop>
+    requires of_profile { InProfile (enumerated (map label_of root.now) (marked_labels (map label_of more.now))) }
+    ensures done { Reads result item (MarkedItems root.now more.now) bits.old bits.new }
+    ensures stop { StopsIn result (MarkedItems root.now more.now) bits.old }
 {
-    match read_index(root.len(), Some(additions.len()), bits)? {
+    match read_index(root.len(), Some(more.len()), bits)? {
         Index::Root(index) => Ok(position_of_index(root, index)),
         Index::Added(index) => Ok(root.len() as u32 + index as u32),
     }

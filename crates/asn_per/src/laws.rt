@@ -69,15 +69,14 @@ pub fn readers_tell()
 /// octets.
 ///
 /// - `decodes`: to the octets that `encode` gave for a value `decode` answers that value.
-/// - `encodes_again`: a value that `decode` answered has the octets that it was given as its
-///   encoding, and no others. `only_memory`: where `encode` gives none for it, it had no memory.
+/// - `encodes_again`: a value that `decode` answered has the octets that it was given as its encoding, and no others.
+///   `only_memory`: where `encode` gives none for it, it had no memory.
 /// - `equal_exactly`: two values are equal exactly where their octets are.
-/// - `begins`: where octets follow an encoding, `decode` tells where it ends. `one_front`: where
-///   `decode` tells so, the octets in front are the encoding of a value, and no other front is an
-///   encoding.
+/// - `begins`: where octets follow an encoding, `decode` tells where it ends. `one_front`: where `decode` tells so, the
+///   octets in front are the encoding of a value, and no other front is an encoding.
 /// - `cut`: to each proper beginning of an encoding `decode` answers `Truncated`, with all its bits.
-/// - `one_answer`: two answers to the same octets, neither being `Memory`, say the same, but for the
-///   reason of a refusal.
+/// - `one_answer`: two answers to the same octets, neither being `Memory`, say the same, but for the reason of a
+///   refusal.
 pub fn codec_laws()
     ensures decodes { DecodesTheEncoded per_ruling }
     ensures encodes_again { EncodesTheDecoded per_ruling }

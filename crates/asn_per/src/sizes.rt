@@ -87,7 +87,11 @@ pub(crate) fn write_size(
 }
 
 /// Writes the extension bit of a type that has an extension mark: 1 where the value lies outside the root.
-pub(crate) fn write_extension_bit(marked: bool, outside: bool, sink: &mut BitSink) -> Result<(), AllocError>
+pub(crate) fn write_extension_bit(
+    marked: bool,
+    outside: bool,
+    sink: &mut BitSink,
+) -> Result<(), AllocError>
     ensures { OnOk result (sink.new ≡ sink.old ++ extension_bit marked outside) }
 {
     if marked { sink.push(outside) } else { Ok(()) }

@@ -105,7 +105,8 @@ fn word_of_characters(kind: TextKind, text: &[u8]) -> u64
     let radix = power_of_two(width_of(kind));
     let mut word = 0;
     for character in text {
-        word = word * radix + code_of(kind, *character);
+        let code = code_of(kind, *character);
+        word = word * radix + code;
     }
     word
 }

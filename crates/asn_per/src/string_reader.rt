@@ -8,8 +8,8 @@ ghost use Rattle.asn_per.specs.Kinds.{Bit, Sized, IsUtf8Content};
 ghost use Rattle.asn_walk.specs.Laws.{IsSizeOfProfile};
 ghost use Rattle.asn_per.specs.Reading.{Reads, ReadsInto, StopsIn, CharactersOf};
 
-use crate::string_items::{append_bits, append_characters, append_octets};
 use crate::sizes::Fragments;
+use crate::string_items::{append_bits, append_characters, append_octets};
 use asn_bits::BitCursor;
 use asn_rules::Why;
 use asn_rules::internal::{Stop, bits_left};

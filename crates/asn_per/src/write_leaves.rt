@@ -4,10 +4,10 @@ ghost use Rattle.asn_per.specs.Walk.{per_coding};
 
 use crate::indexes::{self, write_small_length};
 use crate::integers::write_integer;
-use crate::string_items::{Items, write_sized};
 use crate::items::write_item;
 use crate::rules::Per;
 use crate::sizes::{Following, write_size};
+use crate::string_items::{Items, write_sized};
 use asn_bits::BitSink;
 use asn_rules::EncodeFault;
 use asn_values::internal::{item_fits, length_fits, octets_fit, text_fits, unicode_fits};

@@ -24,15 +24,15 @@ offset_from-requires-clause-within_high c =
     let same : c.unwrap_or-low.result ≡ lowest_of b.low = c.unwrap_or-low.ensures ∙ low_is b.low in
     rw (same, kept (lowest_of b.low) l.0 l.1) l.1
 
-pub offset_from-2-requires-clause-ordered : goal.offset_from-2-requires-clause-ordered
-offset_from-2-requires-clause-ordered c =
+pub offset_from-requires-2-clause-ordered : goal.offset_from-requires-2-clause-ordered
+offset_from-requires-2-clause-ordered c =
     let b = range_of c.args.bounds.now in
     let h = high_inside b.low b.high (root_of_profile b c.requires.of_profile) in
     let same : c.unwrap_or-high.result ≡ highest_of b.high = c.unwrap_or-high.ensures ∙ high_is b.high in
     rw (same, kept (highest_of b.high) h.0 h.1) h.0
 
-pub offset_from-2-requires-clause-within_high : goal.offset_from-2-requires-clause-within_high
-offset_from-2-requires-clause-within_high c =
+pub offset_from-requires-2-clause-within_high : goal.offset_from-requires-2-clause-within_high
+offset_from-requires-2-clause-within_high c =
     let b = range_of c.args.bounds.now in
     let h = high_inside b.low b.high (root_of_profile b c.requires.of_profile) in
     let same : c.unwrap_or-high.result ≡ highest_of b.high = c.unwrap_or-high.ensures ∙ high_is b.high in

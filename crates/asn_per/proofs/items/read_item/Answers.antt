@@ -17,11 +17,11 @@ use Rattle.asn_per.proofs.items.read_item.Goals as goal
 
 -- ---- without a mark
 
-pub read_root_item-requires-clause-good : goal.read_root_item-requires-clause-good
-read_root_item-requires-clause-good c = root_items (map label_of c.args.root.now) (more_labels_of c.args.more.now) c.requires.of_profile
+pub read_of_root-requires-clause-good : goal.read_of_root-requires-clause-good
+read_of_root-requires-clause-good c = root_items (map label_of c.args.root.now) (more_labels_of c.args.more.now) c.requires.of_profile
 
-pub read_root_item-requires-clause-some : goal.read_root_item-requires-clause-some
-read_root_item-requires-clause-some c =
+pub read_of_root-requires-clause-some : goal.read_of_root-requires-clause-some
+read_of_root-requires-clause-some c =
     let ls = map label_of c.args.root.now in
     let good : InProfile (enumerated ls closed_labels) = rw c.in-None.is at c.requires.of_profile in
     let within : IsItemWithin ls closed_labels c.args.excluded = rw c.in-None.is at c.requires.within in
@@ -34,7 +34,7 @@ returns-in-None-clause-done c =
     let good : InProfile (enumerated ls closed_labels) = rw c.in-None.is at c.requires.of_profile in
     let within : IsItemWithin ls closed_labels c.args.excluded = rw c.in-None.is at c.requires.within in
     let lead = closed_leads ls c.args.excluded good within c.args.bits.now in
-    rw c.in-None.is (IfOk-weaker c.read_root_item.result _ _ (λ p s. lead.done (item p) c.read_root_item.new.bits s) c.read_root_item.ensures.done)
+    rw c.in-None.is (IfOk-weaker c.read_of_root.result _ _ (λ p s. lead.done (item p) c.read_of_root.new.bits s) c.read_of_root.ensures.done)
 
 pub returns-in-None-clause-stop : goal.returns-in-None-clause-stop
 returns-in-None-clause-stop c =
@@ -42,7 +42,7 @@ returns-in-None-clause-stop c =
     let good : InProfile (enumerated ls closed_labels) = rw c.in-None.is at c.requires.of_profile in
     let within : IsItemWithin ls closed_labels c.args.excluded = rw c.in-None.is at c.requires.within in
     let lead = closed_leads ls c.args.excluded good within c.args.bits.now in
-    rw c.in-None.is (IfErr-weaker c.read_root_item.result _ _ (λ why s. stops_by why lead.stops s) c.read_root_item.ensures.stop)
+    rw c.in-None.is (IfErr-weaker c.read_of_root.result _ _ (λ why s. stops_by why lead.stops s) c.read_of_root.ensures.stop)
 
 -- ---- behind a mark
 

@@ -35,7 +35,7 @@ pub overflow_mul-word : goal.overflow_mul-word
 overflow_mul-word c =
     let k = alphabet_of c.args.kind in
     let i = c.loop-character.character-index in
-    let h = next k c.args.text.now i c.loop-character.word c.power_of_two-radix.result c.code_of.result c.loop-character.invariant c.loop-character-test.true (c.power_of_two-radix.ensures ∙ ap (λ (n : ℕ). 2 ^ n) c.width_of.ensures.width) c.code_of.ensures.within c.code_of.ensures.bits in
+    let h = next k c.args.text.now i c.loop-character.word c.power_of_two-radix.result c.code_of-code.result c.loop-character.invariant c.loop-character-test.true (c.power_of_two-radix.ensures ∙ ap (λ (n : ℕ). 2 ^ n) c.width_of.ensures.width) c.code_of-code.ensures.within c.code_of-code.ensures.bits in
     let l = word_fits _ _ _ h (room (code_width k) i (length c.args.text.now) c.loop-character-test.true c.requires.few) in
     omega (arith, l)
 
@@ -43,13 +43,13 @@ pub overflow_add-word : goal.overflow_add-word
 overflow_add-word c =
     let k = alphabet_of c.args.kind in
     let i = c.loop-character.character-index in
-    let h = next k c.args.text.now i c.loop-character.word c.power_of_two-radix.result c.code_of.result c.loop-character.invariant c.loop-character-test.true (c.power_of_two-radix.ensures ∙ ap (λ (n : ℕ). 2 ^ n) c.width_of.ensures.width) c.code_of.ensures.within c.code_of.ensures.bits in
+    let h = next k c.args.text.now i c.loop-character.word c.power_of_two-radix.result c.code_of-code.result c.loop-character.invariant c.loop-character-test.true (c.power_of_two-radix.ensures ∙ ap (λ (n : ℕ). 2 ^ n) c.width_of.ensures.width) c.code_of-code.ensures.within c.code_of-code.ensures.bits in
     let l = word_fits _ _ _ h (room (code_width k) i (length c.args.text.now) c.loop-character-test.true c.requires.few) in
     omega (arith, l)
 
 pub loop-character-preserved : goal.loop-character-preserved
 loop-character-preserved c =
-    next (alphabet_of c.args.kind) c.args.text.now c.loop-character.character-index c.loop-character.word c.power_of_two-radix.result c.code_of.result c.loop-character.invariant c.loop-character-test.true (c.power_of_two-radix.ensures ∙ ap (λ (n : ℕ). 2 ^ n) c.width_of.ensures.width) c.code_of.ensures.within c.code_of.ensures.bits
+    next (alphabet_of c.args.kind) c.args.text.now c.loop-character.character-index c.loop-character.word c.power_of_two-radix.result c.code_of-code.result c.loop-character.invariant c.loop-character-test.true (c.power_of_two-radix.ensures ∙ ap (λ (n : ℕ). 2 ^ n) c.width_of.ensures.width) c.code_of-code.ensures.within c.code_of-code.ensures.bits
 
 pub returns-clause-within : goal.returns-clause-within
 returns-clause-within c =

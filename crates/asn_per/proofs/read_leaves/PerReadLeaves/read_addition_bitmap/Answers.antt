@@ -4,7 +4,7 @@ use Rattle.asn_rules.proofs.Leads.{stops_by}
 use Rattle.asn_per.specs.Per.{per_fields}
 use Rattle.asn_per.specs.Rules.{per_ruling}
 use Rattle.asn_per.specs.Walk.{per_coding}
-use Rattle.asn_per.proofs.PreambleReading.{count_stops, bitmap_leads}
+use Rattle.asn_per.proofs.PreambleReading.{count_stops, some_present, bitmap_leads}
 use Rattle.asn_per.proofs.read_leaves.PerReadLeaves.read_addition_bitmap.Goals as goal
 
 pub returns-in_err-read_small_length-clause-stop : goal.returns-in_err-read_small_length-clause-stop
@@ -27,3 +27,9 @@ returns-clause-stop c =
     let is : c.args.count - 1 + 1 ≡ c.args.count = omega (arith, c.requires.some) in
     let lead = bitmap_leads c.args.count (c.args.count - 1) c.requires.some c.requires.few is c.greatest_of_width.result c.greatest_of_width.ensures c.in_ok-read_small_length.field-0 c.args.units.now c.read_small_length.new.bits (c.in_ok-read_small_length.ensures.done per_fields) in
     IfErr-weaker c.read_number.result _ _ (λ why s. stops_by why lead.stops s) (c.read_number.ensures.stop per_fields)
+
+pub read_number-requires-clause-some : goal.read_number-requires-clause-some
+unfolding per_coding per_ruling
+read_number-requires-clause-some c =
+    let is : c.args.count - 1 + 1 ≡ c.args.count = omega (arith, c.requires.some) in
+    some_present c.args.count (c.args.count - 1) c.requires.some c.requires.few is c.greatest_of_width.result c.greatest_of_width.ensures

@@ -9,8 +9,8 @@ use Rattle.asn_per.proofs.read_leaves.PerReadLeaves.read_open_octets.Goals as go
 
 pub returns-clause-done : goal.returns-clause-done
 unfolding per_coding per_ruling
-returns-clause-done c = IfOk-weaker c.read_octet_string.result _ _ (λ v s. same_spells some_octets s) c.read_octet_string.ensures.done
+returns-clause-done c = IfOk-weaker c.read_octet_string.result _ _ (λ v s. same_spells some_octets s) (rw c.at_least.ensures at c.read_octet_string.ensures.done)
 
 pub returns-clause-stop : goal.returns-clause-stop
 unfolding per_coding per_ruling
-returns-clause-stop c = IfErr-weaker c.read_octet_string.result _ _ (λ why s. stops_by why (leads_same per_fields _ some_octets).stops s) c.read_octet_string.ensures.stop
+returns-clause-stop c = IfErr-weaker c.read_octet_string.result _ _ (λ why s. stops_by why (leads_same per_fields _ some_octets).stops s) (rw c.at_least.ensures at c.read_octet_string.ensures.stop)

@@ -8,6 +8,7 @@ pub mod intervals;
 pub mod lengths;
 pub mod number_field;
 pub mod numbers;
+pub mod octet_lengths;
 pub mod offsets;
 mod shifts;
 pub mod sink;
@@ -16,6 +17,7 @@ mod words;
 pub use cursor::BitCursor;
 pub use general_length::{Counts, Lengths};
 pub use intervals::Intervals;
+pub use octet_lengths::OctetLengths;
 pub use number_field::{FieldState, NumberField};
 pub use sink::BitSink;
 

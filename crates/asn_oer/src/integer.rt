@@ -1,6 +1,6 @@
 //! INTEGER (X.696, "encoding of integer types"). A reader may leave one integer out: the DEFAULT of a component, which
 //! an encoder does not spell.
-ghost use Rattle.std.specs.Prelude.{◌≡◌, ◌≤ℤ◌, ◌≤◌, pos, Some, None, IfOk, IfErr, OnOk, false};
+ghost use Rattle.std.specs.Prelude.{◌≡◌, ◌≤ℤ◌, ◌≤◌, pos, Some, None, IfOk, IfErr, OnOk, IfSome, IsNone, false};
 ghost use Rattle.std.specs.Option.{option_map};
 ghost use Rattle.asn_values.specs.Fits.{lowest_integer, highest_integer, FitsNumber};
 ghost use Rattle.asn_values.specs.Datum.{number};
@@ -14,12 +14,16 @@ ghost use Rattle.asn_rules.specs.OctetsWritten.{Adds};
 ghost use Rattle.asn_rules.specs.IntegerSets.{IsWithin, unmarked};
 ghost use Rattle.asn_walk.specs.Writing.{TellsWhether};
 ghost use Rattle.asn_oer.specs.Oer.{unsigned_octets, signed_size, oer, oer_octets, ranged};
-ghost use Rattle.asn_oer.specs.Reading.{IntegersBut, IsBelowZero};
+ghost use Rattle.asn_walk.specs.Integers.{between, IsOfProfile};
+ghost use Rattle.asn_oer.specs.Reading.{IntegersBut, IsBelowZero, ValuesOf};
 
 use asn_bits::numbers::signed_residue;
 use asn_bits::offsets::at_offset;
 use asn_bits::{BitCursor, BitSink};
-use asn_rules::octet_reader::{read_counted, read_counted_signed, read_octets, read_signed_octets};
+use asn_rules::octet_reader::{
+    read_counted, read_counted_signed, read_octets, read_signed_octets, try_octets,
+    try_signed_octets,
+};
 use asn_rules::{EncodeFault, LOWEST_INTEGER, Stop, Why, numbers_of, offsets_of};
 use asn_values::{Bounds, number_fits};
 use std::alloc::AllocError;
@@ -84,6 +88,26 @@ pub(crate) fn read_integer(
         Some(low) if low >= 0 => read_unsigned(low, bounds.high, except, units),
         _ => read_signed(bounds.low, bounds.high, except, units),
     }
+}
+
+/// Fast path: an integer between two bounds, where its octets are at hand and it lies between them; otherwise takes
+/// nothing.
+#[inline(always)]
+pub(crate) fn try_fixed(low: i128, high: i128, units: &mut BitCursor<'_>) -> Option<i128>
+    requires at_octet { AtOctet units.old }
+    requires of_profile { InProfile (between low high) }
+    ensures at_octet { AtOctet units.new }
+    ensures some { IfSome result (λ z. ReadsOctets (ValuesOf (between low high)) (number z) units.old units.new) }
+    ensures of_integers { IfSome result IsOfProfile }
+    ensures none { IsNone result → units.new ≡ units.old }
+{
+    if low >= 0 {
+        let set = numbers_of(low, Some(high), None);
+        return Some(i128::from(try_octets(unsigned_size(high), set, units)?));
+    }
+    let set = offsets_of(Some(low), Some(high), None);
+    let offset = try_signed_octets(signed_size(low, high), set, units)?;
+    Some(at_offset(LOWEST_INTEGER, offset))
 }
 
 /// Reads an integer of a range from a bound on that is not negative, but for `except`: in a fixed number of octets

@@ -52,7 +52,8 @@ pub fn read_unconstrained(
     Ok(offset_of(count, number))
 }
 
-/// Reads an integer of the set in `count` octets of two's complement. Returns its offset.
+/// Reads an integer of the set in `count` octets of two's complement: in one step if they are present and hold one.
+/// Returns its offset.
 ///
 /// # Errors
 /// `Short` if the bits end before the integer does. `Refused`, with the reason `why`, at the first bit after which no
@@ -69,9 +70,27 @@ pub fn read_signed(
     ensures done { ReadsOffset (SignedIn count set) result bits.old bits.new }
     ensures stop { StopsPlain (SignedIn count set) result bits.old }
 {
-    if let Some(offset) = try_signed(count, set, bits) {
-        return Ok(offset);
+    match try_signed(count, set, bits) {
+        Some(offset) => Ok(offset),
+        None => read_signed_by_bits(count, set, why, bits),
     }
+}
+
+/// Reads an integer of the set in `count` octets of two's complement, bit by bit.
+#[cold]
+#[inline(never)]
+fn read_signed_by_bits(
+    count: u32,
+    set: OffsetSet,
+    why: Why,
+    bits: &mut BitCursor<'_>,
+) -> Result<u64, Stop>
+    requires many { 1 ≤ count }
+    requires few { count ≤ 8 }
+    requires some { (n : ℕ) × StandsFor set count n }
+    ensures done { ReadsOffset (SignedIn count set) result bits.old bits.new }
+    ensures stop { StopsPlain (SignedIn count set) result bits.old }
+{
     let number = read_number_among(8 * count, numbers_in(set, count), why, bits)?;
     Ok(offset_of(count, number))
 }

@@ -103,7 +103,8 @@ pub(crate) fn try_fixed(low: i128, high: i128, units: &mut BitCursor<'_>) -> Opt
 {
     if low >= 0 {
         let set = numbers_of(low, Some(high), None);
-        return Some(i128::from(try_octets(unsigned_size(high), set, units)?));
+        let n = try_octets(unsigned_size(high), set, units)?;
+        return Some(i128::from(n));
     }
     let set = offsets_of(Some(low), Some(high), None);
     let offset = try_signed_octets(signed_size(low, high), set, units)?;

@@ -4,7 +4,8 @@ ghost use Rattle.std.specs.Prelude.{◌≡◌, ◌≤◌, ◌*◌, IfOk, IfErr, 
 ghost use Rattle.asn_values.specs.Fits.{lowest_integer};
 ghost use Rattle.asn_bits.specs.Numbers.{packed};
 ghost use Rattle.asn_bits.specs.Sets.{AreBits, Meets, Among, Between};
-ghost use Rattle.asn_rules.specs.NumberSets.{Admits};
+ghost use Rattle.asn_rules.specs.NumberSets.{Admits, NumberIn};
+ghost use Rattle.asn_rules.specs.PlainReading.{ReadsPlain, StopsPlain};
 ghost use Rattle.asn_rules.specs.OffsetSets.{HasOffset, IsOpen, StandsFor};
 ghost use Rattle.asn_rules.specs.Fields.{OctetLength, OctetsBehind, OneOctet, octet_fields};
 ghost use Rattle.asn_rules.specs.Languages.{Row, Spells};
@@ -12,7 +13,9 @@ ghost use Rattle.asn_rules.specs.Stops.{Stops};
 ghost use Rattle.asn_rules.specs.OctetReading.{AtOctet, ReadsOctets, StopsAtOctets, counted_in_octets, OctetsIn, OctetsAmong, AreWithCount, AreTrimmed, CountedIn, CountedSignedIn, SignedOctetsIn, FilledFields, FilledBits, from_to};
 
 use crate::fault::Why;
-use crate::number_reader::{NumberSet, read_number, read_number_among, try_number};
+use crate::number_reader::{
+    NumberSet, read_number, read_number_among, read_up_to, try_number,
+};
 use crate::signed_reader::{OffsetSet, read_signed, read_unconstrained, try_signed};
 use crate::stop::Stop;
 use crate::whole_number_reader::{greatest_of_width, greatest_with, least_with};
@@ -331,15 +334,24 @@ fn read_bits(
     ensures stop { IfErr result (λ why. Stops octet_fields (FilledBits marks most count low) units.old why) }
 {
     let zeros = (8 - (marks + count) % 8) % 8;
-    let mark = read_number(marks, numbers(0, most), Why::Extension, units)?;
-    let number = read_number(
-        count,
-        numbers(low, greatest_of_width(count)),
-        Why::Extension,
-        units,
-    )?;
-    read_number(zeros, numbers(0, 0), in_zeros, units)?;
+    let mark = read_up_to(marks, most, Why::Extension, units)?;
+    let number = read_from(count, low, units)?;
+    read_up_to(zeros, 0, in_zeros, units)?;
     Ok((mark, number))
+}
+
+/// Reads a number from `low` on in `k` bits, as `read_number` does.
+#[inline(always)]
+fn read_from(k: u32, low: u64, units: &mut BitCursor<'_>) -> Result<u64, Stop>
+    requires few { k ≤ 64 }
+    requires some { low < 2 ^ k }
+    ensures done { ReadsPlain (NumberIn k (from_to low (2 ^ k - 1))) result units.old units.new }
+    ensures stop { StopsPlain (NumberIn k (from_to low (2 ^ k - 1))) result units.old }
+{
+    if k == 0 {
+        return Ok(0);
+    }
+    read_number(k, numbers(low, greatest_of_width(k)), Why::Extension, units)
 }
 
 /// The numbers from `low` to `high`.

@@ -2,23 +2,24 @@
 #![tactic(auto)]
 
 mod bit_rows;
-pub mod cursor;
-pub mod general_length;
-pub mod intervals;
-pub mod lengths;
-pub mod number_field;
-pub mod numbers;
-pub mod octet_lengths;
-pub mod offsets;
+mod cursor;
+mod general_length;
+pub mod internal;
+mod intervals;
+mod lengths;
+mod number_field;
+mod numbers;
+mod octet_lengths;
+mod offsets;
 mod shifts;
-pub mod sink;
+mod sink;
 mod words;
 
 pub use cursor::BitCursor;
 pub use general_length::{Counts, Lengths};
 pub use intervals::Intervals;
-pub use octet_lengths::OctetLengths;
 pub use number_field::{FieldState, NumberField};
+pub use octet_lengths::OctetLengths;
 pub use sink::BitSink;
 
 #[cfg(test)]

@@ -86,7 +86,11 @@ fn after_octet(state: OctetState, octet: u8) -> Option<OctetState>
     match state {
         OctetState::Start => first_octet(u32::from(octet)),
         OctetState::Short { .. } => None,
-        OctetState::Long { count, prefix, left } => {
+        OctetState::Long {
+            count,
+            prefix,
+            left,
+        } => {
             if left == 0 {
                 return None;
             }
@@ -147,7 +151,11 @@ fn lengths_after(state: OctetState) -> (u64, u64)
     match state {
         OctetState::Start => unreachable!(),
         OctetState::Short { length } => (u64::from(length), u64::from(length)),
-        OctetState::Long { count, prefix, left } => {
+        OctetState::Long {
+            count,
+            prefix,
+            left,
+        } => {
             let low = scaled(prefix, left);
             let high = scaled(prefix + 1, left) - 1;
             (low.max(least_long(count)), high)

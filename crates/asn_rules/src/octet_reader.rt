@@ -13,13 +13,11 @@ ghost use Rattle.asn_rules.specs.Stops.{Stops};
 ghost use Rattle.asn_rules.specs.OctetReading.{AtOctet, ReadsOctets, StopsAtOctets, counted_in_octets, OctetsIn, OctetsAmong, AreWithCount, AreTrimmed, CountedIn, CountedSignedIn, SignedOctetsIn, FilledFields, FilledBits, from_to};
 
 use crate::fault::Why;
-use crate::number_reader::{
-    NumberSet, read_number, read_number_among, read_up_to, try_number,
-};
+use crate::number_reader::{NumberSet, read_number, read_number_among, read_up_to, try_number};
 use crate::signed_reader::{OffsetSet, read_signed, read_unconstrained, try_signed};
 use crate::stop::Stop;
 use crate::whole_number_reader::{greatest_of_width, greatest_with, least_with};
-use asn_bits::numbers::octet_count;
+use asn_bits::internal::octet_count;
 use asn_bits::{BitCursor, Counts, FieldState, Intervals, OctetLengths};
 use std::alloc::Global;
 

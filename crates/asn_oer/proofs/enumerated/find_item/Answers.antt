@@ -13,5 +13,5 @@ loop-place-preserved c p rest h b =
       | inr l ↦ c.in_default.ensures.none refl rest (rw l at b)
     ]
 
-pub returns-clause-none : goal.returns-clause-none
-returns-clause-none c _ p rest b = c.loop-place.invariant p rest (omega (arith, b.there, c.item_count-all.ensures, c.loop-place-test.false)) b
+pub returns-2-clause-none : goal.returns-2-clause-none
+returns-2-clause-none c _ p rest b = c.loop-place.invariant p rest (omega (arith, b.there, c.item_count-all.ensures, c.loop-place-test.false)) b

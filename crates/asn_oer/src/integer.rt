@@ -203,6 +203,7 @@ pub(crate) fn write_integer(
 
 /// Writes a number between the bounds: in a fixed number of octets where there are both, and else after a length,
 /// unsigned where the lower one is not negative, and else in two's complement.
+#[inline(always)]
 fn write_ranged(bounds: &Bounds, whole: i128, sink: &mut BitSink) -> Result<(), AllocError>
     requires of_profile { InProfile (integer (range_of bounds.now)) }
     requires closed { bounds.now.ext ≡ false }
@@ -220,6 +221,7 @@ fn write_ranged(bounds: &Bounds, whole: i128, sink: &mut BitSink) -> Result<(), 
 
 /// Writes a number between two bounds in a fixed number of octets: unsigned where the lower bound is not negative, and
 /// else in two's complement.
+#[inline(always)]
 fn write_between(low: i128, high: i128, whole: i128, sink: &mut BitSink) -> Result<(), AllocError>
     requires within { (lowest_integer ≤ℤ low) × (high ≤ℤ highest_integer) }
     requires of_type { (low ≤ℤ whole) × (whole ≤ℤ high) }

@@ -104,13 +104,10 @@ impl<'a> BitCursor<'a> {
         if let Some(n) = number_in_word(self.octets, self.offset, k) {
             return Some(n);
         }
-        if let Some(n) = number_in_octet(self.octets, self.offset, k) {
-            return Some(n);
-        }
         self.peek_across(k)
     }
 
-    // the same, where the bits do not all stand in the first of fewer than eight octets, or in the first eight
+    // the same, where the bits do not all stand in the first eight octets
     #[inline(never)]
     fn peek_across(&self, k: u32) -> Option<u64>
         requires { k ≤ 64 }
@@ -213,6 +210,9 @@ fn number_at(octets: &[u8], offset: u32, k: u32) -> u64
             return wide_field(front, 72 - end, k);
         }
     }
+    if let Some(n) = number_in_octet(octets, offset, k) {
+        return n;
+    }
     let count = (end + 7) / 8;
     wide_field(
         from_be_octets(&octets[..count as usize]),
@@ -227,7 +227,6 @@ fn number_in_octet(octets: &[u8], offset: u32, k: u32) -> Option<u64>
     requires begun { offset < 8 }
     requires few { k ≤ 64 }
     ensures fits { IfSome result (λ n. n < 2 ^ k) }
-    ensures there { IfSome result (λ n. offset + k ≤ 8 * length octets.now) }
     ensures here { IfSome result (λ n.
         drop offset (unpacked octets.now) ≡ bits k n ++ drop (offset + k) (unpacked octets.now)) }
 {

@@ -40,36 +40,6 @@ pub fn read<R: ReadLeaves>(
     ensures done { IfOk result (λ v. ReadsValue R.rules ty.now v units.old units.new) }
     ensures stop { IfErr result (λ why. StopsAt R.rules (ValuesOf R.rules (shape_of ty.now)) units.old why) }
 {
-    match ty {
-        AsnType::Seq { .. } | AsnType::SeqOf(..) | AsnType::Choice { .. } => {
-            read_parts::<R>(alloc, ty, units)
-        }
-        AsnType::Bool
-        | AsnType::Null
-        | AsnType::Int(_)
-        | AsnType::Enum { .. }
-        | AsnType::Bits(_)
-        | AsnType::Octets(_)
-        | AsnType::Text(..)
-        | AsnType::Utf8 => R::read_simple(alloc, ty, units),
-    }
-}
-
-/// Reads a value of the type, as `read` does, which calls it for types with parts. A function apart, so that readers of
-/// other types do not fill its locals with zeros.
-#[inline(always)]
-#[cycle(reader)]
-fn read_parts<R: ReadLeaves>(
-    alloc: Global,
-    ty: &AsnType,
-    units: &mut BitCursor<'_>,
-) -> Result<Value, Stop>
-    requires at_unit { R.rules.at_unit units.old }
-    requires of_profile { InProfile (shape_of ty.now) }
-    ensures at_unit { OnOk result (R.rules.at_unit units.new) }
-    ensures done { IfOk result (λ v. ReadsValue R.rules ty.now v units.old units.new) }
-    ensures stop { IfErr result (λ why. StopsAt R.rules (ValuesOf R.rules (shape_of ty.now)) units.old why) }
-{
     R::keep_laws();
     match ty {
         AsnType::Seq { root, ext } => {

@@ -41,7 +41,7 @@ use Rattle.asn_walk.proofs.Parts.{fields_part_of, count_of_fields, few_component
 use Rattle.asn_walk_read.proofs.SequencesRead.{preamble_stops, some_listed, closed_done, components_stop, none_added, additions_stop, additions_done}
 use Rattle.asn_walk.proofs.Widths.{next_part, no_part, demand_of_part, datum_of-Int}
 use Rattle.asn_walk_read.proofs.+reader.Goals as goal
-use Rattle.asn_walk_read.proofs.+reader.Goals.{components::read_open_fields-then-next+in_ok-read_open_field, components::read_open_fields-else-next, reader::read_parts-then-extended+in_ok-read_additions-in-Seq, reader::read_parts-else-extended+in_ok-push_absent-in-Seq}
+use Rattle.asn_walk_read.proofs.+reader.Goals.{components::read_open_fields-then-next+in_ok-read_open_field, components::read_open_fields-else-next, reader::read-then-extended+in_ok-read_additions-in-Seq, reader::read-else-extended+in_ok-push_absent-in-Seq}
 
 pub reader::read_alternative-read-requires : goal.reader::read_alternative-read-requires
 reader::read_alternative-read-requires g t c κs within =
@@ -71,16 +71,16 @@ reader::read_added_alternative-returns-clause-stop g t c =
     let lead = open_leads_at_place g.R.ReadLeaves.rules c.args.added.now c.args.index c.index-added-index.result (g.R.ReadLeaves.rules.to_units c.args.units.now) c.requires.inside in
     IfErr-weaker c.read_open_field.result _ _ (λ why s. stops_by why lead.stops s) c.read_open_field.ensures.stop
 
-pub reader::read_parts-read_list-requires : goal.reader::read_parts-read_list-requires
-reader::read_parts-read_list-requires g t c κs within =
+pub reader::read-read_list-requires : goal.reader::read-read_list-requires
+reader::read-read_list-requires g t c κs within =
     let element = shape_of c.deref.result.now in
     let s = size_range_of c.in-SeqOf.size in
     let is = list_of_elements c.args.ty.now c.deref.result.now c.in-SeqOf.element c.in-SeqOf.size c.in-SeqOf.is c.deref.ensures in
     let good : InProfile (sequence_of element s) = rw is at c.requires.of_profile in
     (search (rules, the_lemmas), (within.0, (within.1, (c.requires.at_unit, (element_of_profile element s good, list_size element s good)))))
 
-pub reader::read_parts-returns-in_err-read_list-in-SeqOf-clause-stop : goal.reader::read_parts-returns-in_err-read_list-in-SeqOf-clause-stop
-reader::read_parts-returns-in_err-read_list-in-SeqOf-clause-stop g t c =
+pub reader::read-returns-in_err-read_list-in-SeqOf-clause-stop : goal.reader::read-returns-in_err-read_list-in-SeqOf-clause-stop
+reader::read-returns-in_err-read_list-in-SeqOf-clause-stop g t c =
     let element = shape_of c.deref.result.now in
     let s = size_range_of c.in-SeqOf.size in
     let is = list_of_elements c.args.ty.now c.deref.result.now c.in-SeqOf.element c.in-SeqOf.size c.in-SeqOf.is c.deref.ensures in
@@ -88,8 +88,8 @@ reader::read_parts-returns-in_err-read_list-in-SeqOf-clause-stop g t c =
     let p = err_from_is_err_and c.from_residual-in_err-read_list-in-SeqOf.result c.from_residual-in_err-read_list-in-SeqOf.ensures.1 in
     rw (p.1, p.2, is) (stops_by _ (list_leads g.R.ReadLeaves.rules c.keep_laws.ensures element s (g.R.ReadLeaves.rules.to_units c.args.units.now) good).stops c.in_err-read_list-in-SeqOf.ensures.stop)
 
-pub reader::read_parts-returns-in_ok-read_list-in-SeqOf-clause-done : goal.reader::read_parts-returns-in_ok-read_list-in-SeqOf-clause-done
-reader::read_parts-returns-in_ok-read_list-in-SeqOf-clause-done g t c =
+pub reader::read-returns-in_ok-read_list-in-SeqOf-clause-done : goal.reader::read-returns-in_ok-read_list-in-SeqOf-clause-done
+reader::read-returns-in_ok-read_list-in-SeqOf-clause-done g t c =
     let element = shape_of c.deref.result.now in
     let s = size_range_of c.in-SeqOf.size in
     let is = list_of_elements c.args.ty.now c.deref.result.now c.in-SeqOf.element c.in-SeqOf.size c.in-SeqOf.is c.deref.ensures in
@@ -296,29 +296,18 @@ no_default : (need : Need) → (need ≡ needs.Must) ⊎ (need ≡ needs.Optiona
 no_default need (inl e) = ap (λ n. default_of (demand_of n)) e
 no_default need (inr e) = ap (λ n. default_of (demand_of n)) e
 
-pub components::read_entry-returns-in-Some-clause-done : goal.components::read_entry-returns-in-Some-clause-done
-components::read_entry-returns-in-Some-clause-done g t c =
-    let e : c.args.present ≡ true = c.if-not-present.false in
-    let d : default_of (part_of_field c.args.field.now).demand ≡ None = ap default_of (demand_of_part c.args.field.now) ∙ no_default c.args.field.now.need c.in-Must.is in
-    let z = c.in-Some.number in
-    let inside = c.in-Some.ensures.of_integers in
-    let same : to_z w128 (of_z w128 z) ≡ z = kept z inside.0 inside.1 in
-    rw (same, datum_of-Int z) ((entry_leads g.R.ReadLeaves.rules c.args.field.now c.args.present None (g.R.ReadLeaves.rules.to_units c.args.units.now) e d).done (number z) (g.R.ReadLeaves.rules.to_units c.try_integer.new.units) c.in-Some.ensures.some)
-
 pub components::read_entry-returns-in_err-read-in-Must-clause-stop : goal.components::read_entry-returns-in_err-read-in-Must-clause-stop
 components::read_entry-returns-in_err-read-in-Must-clause-stop g t c =
     let e : c.args.present ≡ true = c.if-not-present.false in
     let d : default_of (part_of_field c.args.field.now).demand ≡ None = ap default_of (demand_of_part c.args.field.now) ∙ no_default c.args.field.now.need c.in-Must.is in
     let p = err_from_is_err_and c.from_residual-in_err-read-in-Must.result c.from_residual-in_err-read-in-Must.ensures.1 in
-    let still : c.try_integer.new.units ≡ c.args.units.now = c.in_default.ensures.none refl in
-    rw (p.1, p.2) (stops_by _ (entry_leads g.R.ReadLeaves.rules c.args.field.now c.args.present None (g.R.ReadLeaves.rules.to_units c.args.units.now) e d).stops (rw still at c.in_err-read-in-Must.ensures.stop))
+    rw (p.1, p.2) (stops_by _ (entry_leads g.R.ReadLeaves.rules c.args.field.now c.args.present None (g.R.ReadLeaves.rules.to_units c.args.units.now) e d).stops c.in_err-read-in-Must.ensures.stop)
 
 pub components::read_entry-returns-in_ok-read-in-Must-clause-done : goal.components::read_entry-returns-in_ok-read-in-Must-clause-done
 components::read_entry-returns-in_ok-read-in-Must-clause-done g t c =
     let e : c.args.present ≡ true = c.if-not-present.false in
     let d : default_of (part_of_field c.args.field.now).demand ≡ None = ap default_of (demand_of_part c.args.field.now) ∙ no_default c.args.field.now.need c.in-Must.is in
-    let still : c.try_integer.new.units ≡ c.args.units.now = c.in_default.ensures.none refl in
-    (entry_leads g.R.ReadLeaves.rules c.args.field.now c.args.present None (g.R.ReadLeaves.rules.to_units c.args.units.now) e d).done (datum_of c.in_ok-read-in-Must.field-0) (g.R.ReadLeaves.rules.to_units c.read.new.units) (rw still at c.in_ok-read-in-Must.ensures.done)
+    (entry_leads g.R.ReadLeaves.rules c.args.field.now c.args.present None (g.R.ReadLeaves.rules.to_units c.args.units.now) e d).done (datum_of c.in_ok-read-in-Must.field-0) (g.R.ReadLeaves.rules.to_units c.read.new.units) c.in_ok-read-in-Must.ensures.done
 
 pub components::read_additions-returns-in_err-bitmap-clause-stop : goal.components::read_additions-returns-in_err-bitmap-clause-stop
 components::read_additions-returns-in_err-bitmap-clause-stop g t c =
@@ -367,61 +356,61 @@ pub components::read_open_fields-returns-clause-done : goal.components::read_ope
 components::read_open_fields-returns-clause-done g t c =
     added_ends g.R.ReadLeaves.rules c.loop-field.invariant.0 (no_part c.args.fields.now c.loop-field.field-index c.loop-field-test.false)
 
-pub reader::read_parts-read_index-requires-clause-some : goal.reader::read_parts-read_index-requires-clause-some
-reader::read_parts-read_index-requires-clause-some g t c =
+pub reader::read-read_index-requires-clause-some : goal.reader::read-read_index-requires-clause-some
+reader::read-read_index-requires-clause-some g t c =
     some_root c.args.ty.now c.in-Choice.root c.in-Choice.ext c.in-Choice.is c.requires.of_profile c.len-known.result c.len-known.ensures
 
-pub reader::read_parts-read_index-requires-clause-few : goal.reader::read_parts-read_index-requires-clause-few
-reader::read_parts-read_index-requires-clause-few g t c = choice_few g.R.ReadLeaves.rules c.keep_laws.ensures c.args.ty.now c.in-Choice.root c.in-Choice.ext c.in-Choice.is c.requires.of_profile c.len-known.result c.len-known.ensures c.added_count.result c.added_count.ensures (g.R.ReadLeaves.rules.to_units c.args.units.now)
+pub reader::read-read_index-requires-clause-few : goal.reader::read-read_index-requires-clause-few
+reader::read-read_index-requires-clause-few g t c = choice_few g.R.ReadLeaves.rules c.keep_laws.ensures c.args.ty.now c.in-Choice.root c.in-Choice.ext c.in-Choice.is c.requires.of_profile c.len-known.result c.len-known.ensures c.added_count.result c.added_count.ensures (g.R.ReadLeaves.rules.to_units c.args.units.now)
 
-pub reader::read_parts-returns-in_err-index-in-Choice-clause-stop : goal.reader::read_parts-returns-in_err-index-in-Choice-clause-stop
-reader::read_parts-returns-in_err-index-in-Choice-clause-stop g t c =
+pub reader::read-returns-in_err-index-in-Choice-clause-stop : goal.reader::read-returns-in_err-index-in-Choice-clause-stop
+reader::read-returns-in_err-index-in-Choice-clause-stop g t c =
     let p = err_from_is_err_and c.from_residual-in_err-index-in-Choice.result c.from_residual-in_err-index-in-Choice.ensures.1 in
     rw (p.1, p.2) (stops_by _ (choice_stops g.R.ReadLeaves.rules c.keep_laws.ensures c.args.ty.now c.in-Choice.root c.in-Choice.ext c.in-Choice.is c.requires.of_profile c.len-known.result c.len-known.ensures c.added_count.result c.added_count.ensures (g.R.ReadLeaves.rules.to_units c.args.units.now)) c.in_err-index-in-Choice.ensures.stop)
 
-pub reader::read_parts-read_alternative-requires : goal.reader::read_parts-read_alternative-requires
-reader::read_parts-read_alternative-requires g t c κs lives =
+pub reader::read-read_alternative-requires : goal.reader::read-read_alternative-requires
+reader::read-read_alternative-requires g t c κs lives =
     let within : IsIndexWithin c.len-known.result c.added_count.result (index_seen c.in_ok-index-in-Choice.field-0) = c.in_ok-index-in-Choice.ensures.done.spelt.fits in
     let inside : c.in-Root.index < c.len-known.result = rw c.in-Root.is at within in
     (search (rules, the_lemmas), (lives.0, (lives.1, (c.in_ok-index-in-Choice.ensures.at_unit, (roots_good c.args.ty.now c.in-Choice.root c.in-Choice.ext c.in-Choice.is c.requires.of_profile c.deref-in-Root.result.now c.deref-in-Root.ensures.value, omega (arith, inside, c.len-known.ensures, c.deref-in-Root.ensures.len))))))
 
-pub reader::read_parts-returns-in_err-value-in-Root-clause-stop : goal.reader::read_parts-returns-in_err-value-in-Root-clause-stop
-reader::read_parts-returns-in_err-value-in-Root-clause-stop g t c =
+pub reader::read-returns-in_err-value-in-Root-clause-stop : goal.reader::read-returns-in_err-value-in-Root-clause-stop
+reader::read-returns-in_err-value-in-Root-clause-stop g t c =
     let p = err_from_is_err_and c.from_residual-in_err-value-in-Root.result c.from_residual-in_err-value-in-Root.ensures.1 in
     let lead = root_value_leads g.R.ReadLeaves.rules c.keep_laws.ensures c.args.ty.now c.in-Choice.root c.in-Choice.ext c.in-Choice.is c.requires.of_profile c.len-known.result c.len-known.ensures c.added_count.result c.added_count.ensures (g.R.ReadLeaves.rules.to_units c.args.units.now) c.in_ok-index-in-Choice.field-0 c.in-Root.index (g.R.ReadLeaves.rules.to_units c.read_index.new.units) c.in_ok-index-in-Choice.ensures.done c.deref-in-Root.result.now c.deref-in-Root.ensures.value c.in-Root.is in
     rw (p.1, p.2) (stops_by _ lead.stops c.in_err-value-in-Root.ensures.stop)
 
-pub reader::read_parts-chosen-requires : goal.reader::read_parts-chosen-requires
-reader::read_parts-chosen-requires g t c =
+pub reader::read-chosen-requires : goal.reader::read-chosen-requires
+reader::read-chosen-requires g t c =
     let within : IsIndexWithin c.len-known.result c.added_count.result (index_seen c.in_ok-index-in-Choice.field-0) = c.in_ok-index-in-Choice.ensures.done.spelt.fits in
     let inside : c.in-Root.index < c.len-known.result = rw c.in-Root.is at within in
     omega (arith, inside, few_root c.args.ty.now c.in-Choice.root c.in-Choice.ext c.in-Choice.is c.requires.of_profile c.len-known.result c.len-known.ensures)
 
-pub reader::read_parts-returns-in_ok-chosen-in-Root-clause-done : goal.reader::read_parts-returns-in_ok-chosen-in-Root-clause-done
-reader::read_parts-returns-in_ok-chosen-in-Root-clause-done g t c =
+pub reader::read-returns-in_ok-chosen-in-Root-clause-done : goal.reader::read-returns-in_ok-chosen-in-Root-clause-done
+reader::read-returns-in_ok-chosen-in-Root-clause-done g t c =
     let lead = root_value_leads g.R.ReadLeaves.rules c.keep_laws.ensures c.args.ty.now c.in-Choice.root c.in-Choice.ext c.in-Choice.is c.requires.of_profile c.len-known.result c.len-known.ensures c.added_count.result c.added_count.ensures (g.R.ReadLeaves.rules.to_units c.args.units.now) c.in_ok-index-in-Choice.field-0 c.in-Root.index (g.R.ReadLeaves.rules.to_units c.read_index.new.units) c.in_ok-index-in-Choice.ensures.done c.deref-in-Root.result.now c.deref-in-Root.ensures.value c.in-Root.is in
     rw c.in_ok-chosen-in-Root.ensures (lead.done (datum_of c.in_ok-value-in-Root.value) (g.R.ReadLeaves.rules.to_units c.read_alternative.new.units) c.in_ok-value-in-Root.ensures.done)
 
-pub reader::read_parts-read_added_alternative-requires : goal.reader::read_parts-read_added_alternative-requires
-reader::read_parts-read_added_alternative-requires g t c κs lives =
+pub reader::read-read_added_alternative-requires : goal.reader::read-read_added_alternative-requires
+reader::read-read_added_alternative-requires g t c κs lives =
     let within : IsIndexWithin c.len-known.result c.added_count.result (index_seen c.in_ok-index-in-Choice.field-0) = c.in_ok-index-in-Choice.ensures.done.spelt.fits in
     let inside = added_inside c.len-known.result c.added_count.result c.in-Choice.ext c.in-Some-ext.additions c.in_ok-index-in-Choice.field-0 c.in-Added.index c.added_count.ensures c.in-Some-ext.is c.in-Added.is within in
     (search (rules, the_lemmas), (lives.0, (lives.1, (c.in_ok-index-in-Choice.ensures.at_unit, (additions_good c.args.ty.now c.in-Choice.root c.in-Choice.ext c.in-Choice.is c.requires.of_profile c.in-Some-ext.additions c.deref-in-Added.result.now c.in-Some-ext.is c.deref-in-Added.ensures.value, rw c.deref-in-Added.ensures.len inside)))))
 
-pub reader::read_parts-returns-in_err-value-in-Added-clause-stop : goal.reader::read_parts-returns-in_err-value-in-Added-clause-stop
-reader::read_parts-returns-in_err-value-in-Added-clause-stop g t c =
+pub reader::read-returns-in_err-value-in-Added-clause-stop : goal.reader::read-returns-in_err-value-in-Added-clause-stop
+reader::read-returns-in_err-value-in-Added-clause-stop g t c =
     let p = err_from_is_err_and c.from_residual-in_err-value-in-Added.result c.from_residual-in_err-value-in-Added.ensures.1 in
     let lead = added_value_leads g.R.ReadLeaves.rules c.keep_laws.ensures c.args.ty.now c.in-Choice.root c.in-Choice.ext c.in-Choice.is c.requires.of_profile c.len-known.result c.len-known.ensures c.added_count.result c.added_count.ensures (g.R.ReadLeaves.rules.to_units c.args.units.now) c.in_ok-index-in-Choice.field-0 c.in-Added.index (g.R.ReadLeaves.rules.to_units c.read_index.new.units) c.in_ok-index-in-Choice.ensures.done c.in-Some-ext.additions c.deref-in-Added.result.now c.in-Some-ext.is c.deref-in-Added.ensures.value c.in-Added.is in
     rw (p.1, p.2) (stops_by _ lead.stops c.in_err-value-in-Added.ensures.stop)
 
-pub reader::read_parts-chosen-requires-in-Added : goal.reader::read_parts-chosen-requires-in-Added
-reader::read_parts-chosen-requires-in-Added g t c =
+pub reader::read-chosen-requires-in-Added : goal.reader::read-chosen-requires-in-Added
+reader::read-chosen-requires-in-Added g t c =
     let within : IsIndexWithin c.len-known.result c.added_count.result (index_seen c.in_ok-index-in-Choice.field-0) = c.in_ok-index-in-Choice.ensures.done.spelt.fits in
     let inside = added_inside c.len-known.result c.added_count.result c.in-Choice.ext c.in-Some-ext.additions c.in_ok-index-in-Choice.field-0 c.in-Added.index c.added_count.ensures c.in-Some-ext.is c.in-Added.is within in
     omega (arith, inside, few_all c.args.ty.now c.in-Choice.root c.in-Choice.ext c.in-Choice.is c.requires.of_profile c.len-known.result c.len-known.ensures c.in-Some-ext.additions c.in-Some-ext.is)
 
-pub reader::read_parts-returns-in_ok-chosen-in-Added-clause-done : goal.reader::read_parts-returns-in_ok-chosen-in-Added-clause-done
-reader::read_parts-returns-in_ok-chosen-in-Added-clause-done g t c =
+pub reader::read-returns-in_ok-chosen-in-Added-clause-done : goal.reader::read-returns-in_ok-chosen-in-Added-clause-done
+reader::read-returns-in_ok-chosen-in-Added-clause-done g t c =
     let lead = added_value_leads g.R.ReadLeaves.rules c.keep_laws.ensures c.args.ty.now c.in-Choice.root c.in-Choice.ext c.in-Choice.is c.requires.of_profile c.len-known.result c.len-known.ensures c.added_count.result c.added_count.ensures (g.R.ReadLeaves.rules.to_units c.args.units.now) c.in_ok-index-in-Choice.field-0 c.in-Added.index (g.R.ReadLeaves.rules.to_units c.read_index.new.units) c.in_ok-index-in-Choice.ensures.done c.in-Some-ext.additions c.deref-in-Added.result.now c.in-Some-ext.is c.deref-in-Added.ensures.value c.in-Added.is in
     rw c.in_ok-chosen-in-Added.ensures (lead.done (datum_of c.in_ok-value-in-Added.value) (g.R.ReadLeaves.rules.to_units c.read_added_alternative.new.units) c.in_ok-value-in-Added.ensures.done)
 
@@ -452,42 +441,42 @@ components::read_root-returns-clause-done g t c = record {
   components = after_nothing (rw (c.in_ok-entries.ensures.items, c.bitmap_width-width.ensures.count) at c.in_ok-read_components.ensures.done);
 }
 
-pub reader::read_parts-read_root-requires : goal.reader::read_parts-read_root-requires
-reader::read_parts-read_root-requires g t c κs within =
+pub reader::read-read_root-requires : goal.reader::read-read_root-requires
+reader::read-read_root-requires g t c κs within =
     let is = closed_type c.args.ty.now c.in-Seq.root c.in-Seq.ext c.as_slice-root.result.now c.in-Seq.is c.in_default.is c.as_slice-root.ensures.value in
     let good : InProfile (sequence (fields_seen c.as_slice-root.result.now) closed) = rw is at c.requires.of_profile in
     (search (rules, the_lemmas), (within.0, (within.1, (c.requires.at_unit, (components_of_profile (fields_seen c.as_slice-root.result.now) closed good, (few_components c.as_slice-root.result.now is c.requires.of_profile, tt))))))
 
-pub reader::read_parts-returns-in_err-entries-in-Seq-clause-stop : goal.reader::read_parts-returns-in_err-entries-in-Seq-clause-stop
-reader::read_parts-returns-in_err-entries-in-Seq-clause-stop g t c =
+pub reader::read-returns-in_err-entries-in-Seq-clause-stop : goal.reader::read-returns-in_err-entries-in-Seq-clause-stop
+reader::read-returns-in_err-entries-in-Seq-clause-stop g t c =
     let is = closed_type c.args.ty.now c.in-Seq.root c.in-Seq.ext c.as_slice-root.result.now c.in-Seq.is c.in_default.is c.as_slice-root.ensures.value in
     let good : InProfile (sequence (fields_seen c.as_slice-root.result.now) closed) = rw is at c.requires.of_profile in
     let p = err_from_is_err_and c.from_residual.result c.from_residual.ensures.1 in
     rw (p.1, p.2, is) (c.in_err-entries-in-Seq.ensures.stop.stops closed good refl)
 
-pub reader::read_parts-returns-in_default-clause-done : goal.reader::read_parts-returns-in_default-clause-done
-reader::read_parts-returns-in_default-clause-done g t c =
+pub reader::read-returns-in_default-clause-done : goal.reader::read-returns-in_default-clause-done
+reader::read-returns-in_default-clause-done g t c =
     let is = closed_type c.args.ty.now c.in-Seq.root c.in-Seq.ext c.as_slice-root.result.now c.in-Seq.is c.in_default.is c.as_slice-root.ensures.value in
     let good : InProfile (sequence (fields_seen c.as_slice-root.result.now) closed) = rw is at c.requires.of_profile in
     let h = c.in_ok-entries-in-Seq.ensures.done in
     rw (is, datum_of-Seq c.in_ok-entries-in-Seq.entries) (closed_done g.R.ReadLeaves.rules c.keep_laws.ensures (fields_seen c.as_slice-root.result.now) good (_, h.bitmap) (g.R.ReadLeaves.rules.to_units c.args.units.now) h.between h.preamble (entries_seen c.in_ok-entries-in-Seq.entries.items) (g.R.ReadLeaves.rules.to_units c.read_root.new.units) h.components)
 
-pub reader::read_parts-read_root-requires-in-Seq : goal.reader::read_parts-read_root-requires-in-Seq
-reader::read_parts-read_root-requires-in-Seq g t c κs within =
+pub reader::read-read_root-requires-in-Seq : goal.reader::read-read_root-requires-in-Seq
+reader::read-read_root-requires-in-Seq g t c κs within =
     let is = marked_type c.args.ty.now c.in-Seq.root c.in-Seq.ext c.in-Some.additions c.as_slice-root.result.now c.as_slice-additions.result.now c.in-Seq.is c.in-Some.is c.as_slice-root.ensures.value c.as_slice-additions.ensures.value in
     let good : InProfile (sequence (fields_seen c.as_slice-root.result.now) (marked (fields_seen c.as_slice-additions.result.now))) = rw is at c.requires.of_profile in
     (search (rules, the_lemmas), (within.0, (within.1, (c.requires.at_unit, (components_of_profile (fields_seen c.as_slice-root.result.now) (marked (fields_seen c.as_slice-additions.result.now)) good, (few_components c.as_slice-root.result.now is c.requires.of_profile, few_added c.as_slice-additions.result.now is c.requires.of_profile))))))
 
-pub reader::read_parts-returns-in_err-extended-in-Seq-clause-stop : goal.reader::read_parts-returns-in_err-extended-in-Seq-clause-stop
-reader::read_parts-returns-in_err-extended-in-Seq-clause-stop g t c =
+pub reader::read-returns-in_err-extended-in-Seq-clause-stop : goal.reader::read-returns-in_err-extended-in-Seq-clause-stop
+reader::read-returns-in_err-extended-in-Seq-clause-stop g t c =
     let is = marked_type c.args.ty.now c.in-Seq.root c.in-Seq.ext c.in-Some.additions c.as_slice-root.result.now c.as_slice-additions.result.now c.in-Seq.is c.in-Some.is c.as_slice-root.ensures.value c.as_slice-additions.ensures.value in
     let good : InProfile (sequence (fields_seen c.as_slice-root.result.now) (marked (fields_seen c.as_slice-additions.result.now))) = rw is at c.requires.of_profile in
     let count : Some (length c.as_slice-additions.result.now) ≡ added (marked (fields_seen c.as_slice-additions.result.now)) = ap Some (sym (count_of_fields c.as_slice-additions.result.now)) in
     let p = err_from_is_err_and c.from_residual-in_err-extended-in-Seq.result c.from_residual-in_err-extended-in-Seq.ensures.1 in
     rw (p.1, p.2, is) (c.in_err-extended-in-Seq.ensures.stop.stops (marked (fields_seen c.as_slice-additions.result.now)) good (sym count))
 
-pub reader::read_parts-read_additions-requires : goal.reader::read_parts-read_additions-requires
-reader::read_parts-read_additions-requires g t c κs within =
+pub reader::read-read_additions-requires : goal.reader::read-read_additions-requires
+reader::read-read_additions-requires g t c κs within =
     let is = marked_type c.args.ty.now c.in-Seq.root c.in-Seq.ext c.in-Some.additions c.as_slice-root.result.now c.as_slice-additions.result.now c.in-Seq.is c.in-Some.is c.as_slice-root.ensures.value c.as_slice-additions.ensures.value in
     let good : InProfile (sequence (fields_seen c.as_slice-root.result.now) (marked (fields_seen c.as_slice-additions.result.now))) = rw is at c.requires.of_profile in
     let count : Some (length c.as_slice-additions.result.now) ≡ added (marked (fields_seen c.as_slice-additions.result.now)) = ap Some (sym (count_of_fields c.as_slice-additions.result.now)) in
@@ -496,8 +485,8 @@ reader::read_parts-read_additions-requires g t c κs within =
     let some : 0 < length c.as_slice-additions.result.now = rw count_of_fields at (some_listed _ (read.spelt.fits.1 c.if-extended.true)) in
     (search (rules, the_lemmas), (within.0, (within.1, (c.in_ok-extended-in-Seq.ensures.at_unit, (added_of_profile c.as_slice-additions.result.now is c.requires.of_profile, (some, few_added c.as_slice-additions.result.now is c.requires.of_profile))))))
 
-pub reader::read_parts-returns-in_err-read_additions-in-Seq-clause-stop : goal.reader::read_parts-returns-in_err-read_additions-in-Seq-clause-stop
-reader::read_parts-returns-in_err-read_additions-in-Seq-clause-stop g t c =
+pub reader::read-returns-in_err-read_additions-in-Seq-clause-stop : goal.reader::read-returns-in_err-read_additions-in-Seq-clause-stop
+reader::read-returns-in_err-read_additions-in-Seq-clause-stop g t c =
     let is = marked_type c.args.ty.now c.in-Seq.root c.in-Seq.ext c.in-Some.additions c.as_slice-root.result.now c.as_slice-additions.result.now c.in-Seq.is c.in-Some.is c.as_slice-root.ensures.value c.as_slice-additions.ensures.value in
     let good : InProfile (sequence (fields_seen c.as_slice-root.result.now) (marked (fields_seen c.as_slice-additions.result.now))) = rw is at c.requires.of_profile in
     let count : Some (length c.as_slice-additions.result.now) ≡ added (marked (fields_seen c.as_slice-additions.result.now)) = ap Some (sym (count_of_fields c.as_slice-additions.result.now)) in
@@ -506,14 +495,14 @@ reader::read_parts-returns-in_err-read_additions-in-Seq-clause-stop g t c =
     let p = err_from_is_err_and c.from_residual-in_err-read_additions-in-Seq.result c.from_residual-in_err-read_additions-in-Seq.ensures.1 in
     rw (p.1, p.2, is) (stops_by _ (additions_stop g.R.ReadLeaves.rules c.keep_laws.ensures (fields_seen c.as_slice-root.result.now) (marked (fields_seen c.as_slice-additions.result.now)) good (c.in_ok-extended-in-Seq.extended, h.bitmap) (g.R.ReadLeaves.rules.to_units c.args.units.now) h.between read (entries_seen c.in_ok-extended-in-Seq.entries.items) (g.R.ReadLeaves.rules.to_units c.read_root-in-Seq.new.units) h.components c.if-extended.true) c.in_err-read_additions-in-Seq.ensures.stop)
 
-pub reader::read_parts-returns-after-extended-clause-done : goal.reader::read_parts-returns-after-extended-clause-done
-reader::read_parts-returns-after-extended-clause-done g t c =
+pub reader::read-returns-after-extended-clause-done : goal.reader::read-returns-after-extended-clause-done
+reader::read-returns-after-extended-clause-done g t c =
     let is = marked_type c.args.ty.now c.in-Seq.root c.in-Seq.ext c.in-Some.additions c.as_slice-root.result.now c.as_slice-additions.result.now c.in-Seq.is c.in-Some.is c.as_slice-root.ensures.value c.as_slice-additions.ensures.value in
     let good : InProfile (sequence (fields_seen c.as_slice-root.result.now) (marked (fields_seen c.as_slice-additions.result.now))) = rw is at c.requires.of_profile in
     let count : Some (length c.as_slice-additions.result.now) ≡ added (marked (fields_seen c.as_slice-additions.result.now)) = ap Some (sym (count_of_fields c.as_slice-additions.result.now)) in
     let h : ReadsRoot g.R.ReadLeaves.rules (fields_seen c.as_slice-root.result.now) (Some (length c.as_slice-additions.result.now)) c.in_ok-extended-in-Seq.extended (entries_seen c.in_ok-extended-in-Seq.entries.items) c.args.units.now c.read_root-in-Seq.new.units = c.in_ok-extended-in-Seq.ensures.done in
     let read : Spells g.R.ReadLeaves.rules.ruling.fielding (PreambleOf g.R.ReadLeaves.rules (bitmap_length (fields_seen c.as_slice-root.result.now)) (added (marked (fields_seen c.as_slice-additions.result.now)))) (c.in_ok-extended-in-Seq.extended, h.bitmap) (g.R.ReadLeaves.rules.to_units c.args.units.now) h.between = rw count at h.preamble in
     rw (is, datum_of-Seq c.if-extended.entries) (elim c.if-extended.branch [
-      | reader::read_parts-then-extended+in_ok-read_additions-in-Seq w ↦ rw (w.entries-is, w.units-is) (additions_done g.R.ReadLeaves.rules c.keep_laws.ensures (fields_seen c.as_slice-root.result.now) (marked (fields_seen c.as_slice-additions.result.now)) good (c.in_ok-extended-in-Seq.extended, h.bitmap) (g.R.ReadLeaves.rules.to_units c.args.units.now) h.between read (entries_seen c.in_ok-extended-in-Seq.entries.items) (g.R.ReadLeaves.rules.to_units c.read_root-in-Seq.new.units) h.components w.if-extended.true (entries_seen w.read_additions.new.entries.items) (g.R.ReadLeaves.rules.to_units w.read_additions.new.units) w.in_ok-read_additions-in-Seq.ensures.done)
-      | reader::read_parts-else-extended+in_ok-push_absent-in-Seq w ↦ rw (w.entries-is, w.units-is, w.in_ok-push_absent-in-Seq.ensures) (none_added g.R.ReadLeaves.rules c.keep_laws.ensures (fields_seen c.as_slice-root.result.now) (marked (fields_seen c.as_slice-additions.result.now)) good (c.in_ok-extended-in-Seq.extended, h.bitmap) (g.R.ReadLeaves.rules.to_units c.args.units.now) h.between read (entries_seen c.in_ok-extended-in-Seq.entries.items) (g.R.ReadLeaves.rules.to_units c.read_root-in-Seq.new.units) h.components w.if-extended.false)
+      | reader::read-then-extended+in_ok-read_additions-in-Seq w ↦ rw (w.entries-is, w.units-is) (additions_done g.R.ReadLeaves.rules c.keep_laws.ensures (fields_seen c.as_slice-root.result.now) (marked (fields_seen c.as_slice-additions.result.now)) good (c.in_ok-extended-in-Seq.extended, h.bitmap) (g.R.ReadLeaves.rules.to_units c.args.units.now) h.between read (entries_seen c.in_ok-extended-in-Seq.entries.items) (g.R.ReadLeaves.rules.to_units c.read_root-in-Seq.new.units) h.components w.if-extended.true (entries_seen w.read_additions.new.entries.items) (g.R.ReadLeaves.rules.to_units w.read_additions.new.units) w.in_ok-read_additions-in-Seq.ensures.done)
+      | reader::read-else-extended+in_ok-push_absent-in-Seq w ↦ rw (w.entries-is, w.units-is, w.in_ok-push_absent-in-Seq.ensures) (none_added g.R.ReadLeaves.rules c.keep_laws.ensures (fields_seen c.as_slice-root.result.now) (marked (fields_seen c.as_slice-additions.result.now)) good (c.in_ok-extended-in-Seq.extended, h.bitmap) (g.R.ReadLeaves.rules.to_units c.args.units.now) h.between read (entries_seen c.in_ok-extended-in-Seq.entries.items) (g.R.ReadLeaves.rules.to_units c.read_root-in-Seq.new.units) h.components w.if-extended.false)
     ])

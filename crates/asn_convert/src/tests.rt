@@ -1,8 +1,7 @@
 //! Rows of jobs: a module and lines go in, a text and a status come out.
 use crate::texts::decode_refusal;
 use crate::{Job, Order, RuleName, RunFault, Status, run};
-use asn_rules::DecodeFault;
-use asn_rules::counting::Counted;
+use asn_rules::{Counted, DecodeFault};
 use std::alloc::{AllocError, Global};
 use std::io;
 use std::io::{Read, Write};

@@ -101,10 +101,17 @@ fn before<'t>(text: &'t str, end: &str) -> &'t str {
         .unwrap_or("")
 }
 
+/// Sixteen spaces.
+const SPACES: &str = "                ";
+
 /// Writes NULL and spaces in the place of a type.
 fn push_null(out: &mut String, ty: &str) -> Result<(), AllocError> {
     out.push_str("NULL")?;
-    for _ in 4..ty.len() {
+    let left = ty.len().saturating_sub(4);
+    for _ in 0..left / 16 {
+        out.push_str(SPACES)?;
+    }
+    for _ in 0..left % 16 {
         out.push(' ')?;
     }
     Ok(())

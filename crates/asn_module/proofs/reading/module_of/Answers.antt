@@ -1,11 +1,7 @@
-use Rattle.std.proofs.Common.{◌≡◌, sym, ap, subst}
-use Rattle.std.specs.Prelude.{vec_len}
-use Rattle.asn_module.specs.Known.{unbuilt}
-use Rattle.asn_module.specs.Lookup.{FindsText, names_in}
 use Rattle.asn_module.proofs.reading.module_of.Goals as goal
 
 pub invariant_of-result : goal.invariant_of-result
 invariant_of-result c = record {
-    built = rw c.in-Some-2.is at c.in_ok-types.ensures.built;
-    finds = rw c.deref-in-Some-2.ensures.value at c.in_ok-indices-in-Some-2.ensures;
-  }
+  built = rw c.in-Some-2.is at c.in_ok-types.ensures.built;
+  finds = rw c.deref-in-Some-2.ensures.value at c.in_ok-indices-in-Some-2.ensures;
+}

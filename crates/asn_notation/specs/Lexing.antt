@@ -122,8 +122,10 @@ leading_token text =
     else if c == 48 then (number 0, 1)
     else if is_digit c then (number_token (digits_value 10 (take (digits_len text) text)), digits_len text)
     else if c == 45 && (is_digit (slice_index text 1) && nat_lt 48 (slice_index text 1))
-    then (negative_token (digits_value 10 (take (digits_len (drop 1 text)) (drop 1 text))),
-        suc (digits_len (drop 1 text)))
+    then (
+      negative_token (digits_value 10 (take (digits_len (drop 1 text)) (drop 1 text))),
+      suc (digits_len (drop 1 text)),
+    )
     else leading_sign text
 
 -- at most n tokens

@@ -141,8 +141,8 @@ limits_at ts =
     if begins_word words.Min ts
     then after_sign signs.UpTo (drop 1 ts) >>= (λ rest. high_at rest >>= (λ high. Some (Between None high.0, high.1)))
     else int_at ts >>= (λ low. if begins_sign signs.UpTo low.1
-        then high_at (drop 1 low.1) >>= (λ high. Some (Between (Some low.0) high.0, high.1))
-        else Some (One low.0, low.1))
+    then high_at (drop 1 low.1) >>= (λ high. Some (Between (Some low.0) high.0, high.1))
+    else Some (One low.0, low.1))
 
 -- what follows the "(" of a Range
 unfoldable pub range_after_paren : Read RangeNotation
@@ -163,7 +163,7 @@ unfoldable pub size_end_at : Read SizeEnd
 size_end_at ts =
     if begins_sign signs.UpTo ts
     then (if begins_word words.Max (drop 1 ts) then Some (ToMax, drop 2 ts)
-        else number_at (drop 1 ts) >>= (λ n. Some (To n.0, n.1)))
+    else number_at (drop 1 ts) >>= (λ n. Some (To n.0, n.1)))
     else Some (Same, ts)
 
 -- Size
@@ -202,8 +202,8 @@ unfoldable pub constraint_at : Read Constraint
 constraint_at ts =
     if begins_sign signs.LeftParen ts
     then (if begins_word words.Size (drop 1 ts)
-        then size_after_paren (drop 1 ts) >>= (λ s. Some (constraint.Size s.0, s.1))
-        else range_after_paren (drop 1 ts) >>= (λ r. Some (constraint.Range r.0, r.1)))
+    then size_after_paren (drop 1 ts) >>= (λ s. Some (constraint.Size s.0, s.1))
+    else range_after_paren (drop 1 ts) >>= (λ r. Some (constraint.Range r.0, r.1)))
     else Some (constraint.None, ts)
 
 -- ---- lists

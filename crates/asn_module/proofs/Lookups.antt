@@ -12,7 +12,10 @@ use Rattle.asn_notation.specs.Tree.{Assignment, assignment_view, assignments_vie
 use Rattle.asn_module.specs.declared.known.Known.{Known}
 use Rattle.asn_module.specs.declared.known.Named.{Named}
 use Rattle.asn_module.specs.Meaning.{Meant}
-use Rattle.asn_module.specs.Known.{known_view, known_if, look, AreSound}
+use Rattle.asn_values.specs.Shape.{Shape}
+use Rattle.asn_values.specs.View.{shape_of}
+use Rattle.asn_module.specs.Accepted.{type_in}
+use Rattle.asn_module.specs.Known.{known_view, known_if, look, AreSound, counted, unbuilt, typed_if, types_of}
 use Rattle.asn_module.specs.Lookup.{Finds, index_from, names_in, assigned_names}
 
 -- ---- one name more
@@ -33,13 +36,24 @@ has_index i q (n ∷ ns) = rw (nat_list_eq_equiv.symm n q) (by_test (bytes_eq q 
     by_test false e = e
 
 -- the index of each name among those from k on, and then among those from i on, one more
+pub found_step : (ns : List (List ℕ)) (k i : ℕ) (n : List ℕ) (old new : List ℕ → Option ℕ) → k ≡ suc i → drop i ns ≡ n ∷ drop (suc i) ns
+    → ((q : List ℕ) → old q ≡ index_from k q (drop k ns)) → ((q : List ℕ) → new q ≡ cond (bytes_eq n q) (Some i) (old q))
+    → (q : List ℕ) → new q ≡ index_from i q (drop i ns)
+found_step ns k i n old new e first found put q =
+    let others = rw e at (found q) in
+    rw (first, put q, others) refl
+
 pub found_next : (xs : List AssignmentNotation) (k i : ℕ) (x : AssignmentNotation) (old new : List ℕ → Option ℕ) → k ≡ suc i → k ≤ length xs → x ≡ get_or xs i x
     → ((q : List ℕ) → old q ≡ index_from k q (drop k (assigned_names (assignments_view xs)))) → ((q : List ℕ) → new q ≡ cond (bytes_eq x.name.now q) (Some i) (old q))
     → (q : List ℕ) → new q ≡ index_from i q (drop i (assigned_names (assignments_view xs)))
-found_next xs k i x old new e inside ex found put q =
-    let first = name_first xs i x (omega (arith, e, inside)) ex in
-    let others = rw e at (found q) in
-    rw (first, put q, others) refl
+found_next xs k i x old new e inside ex found put =
+    found_step (assigned_names (assignments_view xs)) k i x.name.now old new e (name_first xs i x (omega (arith, e, inside)) ex) found put
+
+-- the same for names with their types
+pub named_first : (xs : List Named) (i : ℕ) (x : Named) → i < length xs → x ≡ get_or xs i x → drop i (names_in xs) ≡ string_bytes x.name ∷ drop (suc i) (names_in xs)
+named_first [] i x less e = absurd (omega arith)
+named_first (y ∷ xs) zero x less e = ap (λ (z : Named). string_bytes z.name ∷ names_in xs) (sym e)
+named_first (y ∷ xs) (suc i) x less e = named_first xs i x (omega arith) e
 
 -- a name is assigned twice from i on where it has an index from k on, or one is there
 pub twice_next : (xs : List AssignmentNotation) (k i : ℕ) (x : AssignmentNotation) (old : List ℕ → Option ℕ) → k ≡ suc i → k ≤ length xs → x ≡ get_or xs i x
@@ -118,3 +132,24 @@ finds_built indices all ns sound finds q = rw (same_names all all ns sound) (fin
 pub is_looked : (look : Option Meant) (o : Option Known) (r : Option (Bor Known)) → look ≡ known_if o → option_copied r ≡ o → MatchOption r (look ≡ None) (λ k. look ≡ Some (known_view k.now))
 is_looked look o None here e = here ∙ ap known_if (sym e)
 is_looked look o (Some k) here e = here ∙ ap known_if (sym e)
+
+-- ---- the type of a name, where all are built
+
+abbrev pub shape_if : Option Meant → Option Shape
+shape_if None = None
+shape_if (Some m) = Some m.shape
+
+-- what a name has as its type is that of what it stands for
+pub type_looked : (ns : List Named) (q : List ℕ) → unbuilt ns ≡ 0 → type_in (types_of ns) q ≡ shape_if (look ns q)
+type_looked [] q e = refl
+type_looked (n ∷ ns) q e = by_known n.known e (type_looked ns q)
+  where
+    by_known : (o : Option Known) → counted o (unbuilt ns) ≡ 0 → (unbuilt ns ≡ 0 → type_in (types_of ns) q ≡ shape_if (look ns q))
+        → type_in (typed_if (string_bytes n.name) o (types_of ns)) q ≡ shape_if (cond (bytes_eq (string_bytes n.name) q) (known_if o) (look ns q))
+    by_known None e others = absurd (omega (arith, e))
+    by_known (Some k) e others = by_test (bytes_eq (string_bytes n.name) q) (others e)
+      where
+        by_test : (b : Bool) → type_in (types_of ns) q ≡ shape_if (look ns q)
+            → cond b (Some (shape_of k.ty)) (type_in (types_of ns) q) ≡ shape_if (cond b (Some (known_view k)) (look ns q))
+        by_test true h = refl
+        by_test false h = h

@@ -27,7 +27,8 @@ abbrev pub AreTypes : List Assignment → List Assignment → List Typed → Typ
 AreTypes all [] [] = ⊤
 AreTypes all [] (t ∷ ts) = ⊥
 AreTypes all (a ∷ rest) [] = ⊥
-AreTypes all (a ∷ rest) (t ∷ ts) = (t.name ≡ a.name) × StandsFor all a t.shape × InProfile t.shape × AreTypes all rest ts
+AreTypes all (a ∷ rest) (t ∷ ts) =
+    (t.name ≡ a.name) × StandsFor all a t.shape × InProfile t.shape × AreTypes all rest ts
 
 -- the text is of the grammar, assigns no name twice, and gives each name its type
 pub record Accepted (text : List ℕ) (m : ModuleTypes) : Type 0 where

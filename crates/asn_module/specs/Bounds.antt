@@ -63,4 +63,9 @@ lesser_size (Some x) None = Some x
 lesser_size (Some x) (Some y) = if nat_lt x y then Some x else Some y
 
 abbrev pub sizes_meet : SizeRange → SizeRange → SizeRange
-sizes_meet a b = record { low = if nat_lt a.low b.low then b.low else a.low; high = lesser_size a.high b.high; extensible = b.extensible }
+sizes_meet a b =
+    record {
+      low = if nat_lt a.low b.low then b.low else a.low;
+      high = lesser_size a.high b.high;
+      extensible = b.extensible;
+    }

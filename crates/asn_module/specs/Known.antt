@@ -1,5 +1,6 @@
 -- What the types that are built stand for, and what names stand for among them.
-use Rattle.std.specs.Prelude.{◌≡◌, ℕ, ⊤, Bool, true, false, List, [], ◌∷◌, get_or, set, suc, Option, Some, None, Result, MatchResult, string_bytes, bytes_eq, if◌then◌else◌}
+use Rattle.std.specs.Prelude.{◌≡◌, ℕ, ⊤, Bool, true, false, List, [], ◌∷◌, get_or, set, suc, Option, Some, None, Result}
+use Rattle.std.specs.Prelude.{MatchResult, string_bytes, bytes_eq, if◌then◌else◌}
 use Rattle.asn_values.specs.declared.types.AsnType.{AsnType}
 use Rattle.asn_values.specs.View.{shape_of}
 use Rattle.asn_module.specs.declared.fault.Refusal.{Refusal}
@@ -33,7 +34,8 @@ Gives f r expected = MatchResult r (λ a. expected ≡ Some (f a)) (λ e. (e ≡
 
 -- this type with this constraint, and it is one of the profile
 abbrev pub IsKnownOf : AsnType → Option Bool → Known → Type 0
-IsKnownOf ty constraint k = (known_view k ≡ record { shape = shape_of ty; constraint = constraint }) × InProfile (shape_of k.ty)
+IsKnownOf ty constraint k =
+    (known_view k ≡ record { shape = shape_of ty; constraint = constraint }) × InProfile (shape_of k.ty)
 
 -- what the tree stands for, and it is one of the profile
 abbrev pub IsKnownAs : (List ℕ → Option Meant) → Tree → Known → Type 0
@@ -46,7 +48,8 @@ IsStuck look tree = (m : Meant) → meant look tree ≡ Some m → InProfile m.s
 -- what is built of a tree is what it stands for
 abbrev pub IsSound : List Assignment → Tree → Option Known → Type 0
 IsSound all tree None = ⊤
-IsSound all tree (Some k) = ((n : ℕ) × (meant (stands_for n all) tree ≡ Some (known_view k))) × InProfile (shape_of k.ty)
+IsSound all tree (Some k) =
+    ((n : ℕ) × (meant (stands_for n all) tree ≡ Some (known_view k))) × InProfile (shape_of k.ty)
 
 -- the assignments have these names, and what is built of each is what it stands for
 abbrev pub AreSound : List Assignment → List Assignment → List Named → Type 0
@@ -96,4 +99,5 @@ pub record IsBuiltAt (tree : Tree) (index : ℕ) (old new : List Named) : Type 0
 -- what an attempt to build at an index came to
 abbrev pub Attempted : Bool → Tree → ℕ → List Named → List Named → Type 0
 Attempted true tree index old new = IsBuiltAt tree index old new
-Attempted false tree index old new = (new ≡ old) × ((n : Named) → n ≡ get_or old index n → IsDone (look old) tree n.known)
+Attempted false tree index old new =
+    (new ≡ old) × ((n : Named) → n ≡ get_or old index n → IsDone (look old) tree n.known)

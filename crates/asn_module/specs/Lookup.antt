@@ -1,7 +1,8 @@
 -- Names and their indexes.
-use Rattle.std.specs.Prelude.{◌≡◌, ℕ, suc, List, [], ◌∷◌, map, Option, Some, None, string_bytes, bytes_eq, if◌then◌else◌}
+use Rattle.std.specs.Prelude.{◌≡◌, ℕ, suc, List, [], ◌∷◌, map, Option, Some, None, string_bytes, bytes_eq}
+use Rattle.std.specs.Prelude.{if◌then◌else◌, String}
 use denote.Ref.{Bor}
-use Rattle.std.specs.HashMap.{HashMap, get_by}
+use Rattle.std.specs.HashMap.{HashMap, get_by, get_by_text}
 use Rattle.asn_notation.specs.Tree.{Assignment}
 use Rattle.asn_module.specs.declared.known.Named.{Named}
 
@@ -13,6 +14,10 @@ index_from i name (n ∷ ns) = if bytes_eq n name then Some i else index_from (s
 -- the map gives the index of each name, and none of what is no name
 abbrev pub Finds : {S : Type 0} → HashMap (Bor (List ℕ)) ℕ S → List (List ℕ) → Type 0
 Finds index names = (q : List ℕ) → get_by (λ k. bytes_eq q k.now) index ≡ index_from 0 q names
+
+-- the same of a map that has the names as texts of its own
+abbrev pub FindsText : {Y S : Type 0} → HashMap (String Y) ℕ S → List (List ℕ) → Type 0
+FindsText index names = (q : List ℕ) → get_by_text index q ≡ index_from 0 q names
 
 abbrev pub names_in : List Named → List (List ℕ)
 names_in ns = map (λ n. string_bytes n.name) ns

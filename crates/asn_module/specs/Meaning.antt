@@ -1,10 +1,12 @@
 -- What the types of a module stand for (X.680): references followed, and the bounds written along the way met.
-use Rattle.std.specs.Prelude.{ℕ, zero, suc, ℤ, pos, negsuc, Bool, true, false, not, ◌&&◌, ◌||◌, List, [], ◌∷◌, length, Option, Some, None, bytes_eq, nat_lt, if◌then◌else◌, is_some, int_lt}
+use Rattle.std.specs.Prelude.{ℕ, zero, suc, ℤ, pos, negsuc, Bool, true, false, not, ◌&&◌, ◌||◌, List, [], ◌∷◌, length}
+use Rattle.std.specs.Prelude.{Option, Some, None, bytes_eq, nat_lt, if◌then◌else◌, is_some, int_lt}
 use Rattle.std.specs.List.{list_any}
 use Rattle.asn_values.specs.Datum as datum
 use Rattle.asn_values.specs.Datum.{Datum}
 use Rattle.asn_values.specs.Shape as s
-use Rattle.asn_values.specs.Shape.{Shape, Range, SizeRange, Alphabet, Label, MoreLabels, Demand, Fields, MoreFields, Alternatives, MoreAlternatives}
+use Rattle.asn_values.specs.Shape.{Shape, Range, SizeRange, Alphabet, Label, MoreLabels, Demand, Fields, MoreFields}
+use Rattle.asn_values.specs.Shape.{Alternatives, MoreAlternatives}
 use Rattle.asn_notation.specs.declared.notation.RangeNotation.{RangeNotation}
 use Rattle.asn_notation.specs.declared.notation.SizeNotation.{SizeNotation}
 use Rattle.asn_notation.specs.declared.notation.ListSize.{ListSize}
@@ -22,7 +24,8 @@ abbrev pub ◌>>=◌ : {A B : Type 0} → Option A → (A → Option B) → Opti
 None >>= f = None
 (Some x) >>= f = f x
 
--- a type, and the constraint that was written on it or on a type that it refers to: None, or whether it has the extension mark
+-- a type, and the constraint that was written on it or on a type that it refers to: None, or whether it has the
+-- extension mark
 pub record Meant : Type 0 where
   pub shape : Shape
   pub constraint : Option Bool
@@ -73,14 +76,16 @@ item_number false index written = written_number (Some (pos index))
 -- the items from an index on; where some carry numbers, one that carries none has no number of the profile
 abbrev pub labels_from : Bool → ℕ → List Item → List Label
 labels_from numbered index [] = []
-labels_from numbered index (i ∷ items) = (record { name = i.name; number = item_number numbered index i.number }) ∷ labels_from numbered (suc index) items
+labels_from numbered index (i ∷ items) =
+    (record { name = i.name; number = item_number numbered index i.number }) ∷ labels_from numbered (suc index) items
 
 abbrev pub more_labels_meant : Bool → ℕ → Option (List Item) → MoreLabels
 more_labels_meant numbered index None = s.closed_labels
 more_labels_meant numbered index (Some more) = s.marked_labels (labels_from numbered index more)
 
 abbrev pub enumerated_shape : Bool → List Item → Option (List Item) → Shape
-enumerated_shape numbered root more = s.enumerated (labels_from numbered 0 root) (more_labels_meant numbered (length root) more)
+enumerated_shape numbered root more =
+    s.enumerated (labels_from numbered 0 root) (more_labels_meant numbered (length root) more)
 
 -- ---- DEFAULT
 
@@ -88,7 +93,9 @@ enumerated_shape numbered root more = s.enumerated (labels_from numbered 0 root)
 -- either past the 256 items that the profile allows
 abbrev pub item_named : List ℕ → ℕ → List Label → Datum
 item_named name index [] = datum.nothing
-item_named name index (l ∷ ls) = if bytes_eq l.name name then (if nat_lt index 256 then datum.item index else datum.nothing) else item_named name (suc index) ls
+item_named name index (l ∷ ls) =
+    if bytes_eq l.name name then (if nat_lt index 256 then datum.item index else datum.nothing)
+    else item_named name (suc index) ls
 
 -- of the items before the extension mark: an ENUMERATED with the mark has no DEFAULT in the profile
 abbrev pub named_value : Shape → List ℕ → Datum
@@ -129,15 +136,19 @@ with_shape marked shape = Some (record { shape = shape; constraint = Some marked
 -- the type that a reference with this constraint stands for; None where the constraint may not stand on the type
 abbrev pub constrained : Meant → Constraint → Option Meant
 constrained m constraint.None = Some m
-constrained m (constraint.Range r) = if may_add m.constraint r.marked then ranged m.shape r >>= with_shape r.marked else None
-constrained m (constraint.Size size) = if may_add m.constraint size.marked then sized m.shape size >>= with_shape size.marked else None
+constrained m (constraint.Range r) =
+    if may_add m.constraint r.marked then ranged m.shape r >>= with_shape r.marked else None
+constrained m (constraint.Size size) =
+    if may_add m.constraint size.marked then sized m.shape size >>= with_shape size.marked else None
 
 -- ---- types
 
 abbrev pub list_meant : Shape → ListSize → Meant
 list_meant element list_size.Any = free (s.sequence_of element any_size)
-list_meant element (list_size.Bare size) = record { shape = s.sequence_of element (size_meant size); constraint = Some size.marked }
-list_meant element (list_size.Bracketed size) = record { shape = s.sequence_of element (size_meant size); constraint = Some size.marked }
+list_meant element (list_size.Bare size) =
+    record { shape = s.sequence_of element (size_meant size); constraint = Some size.marked }
+list_meant element (list_size.Bracketed size) =
+    record { shape = s.sequence_of element (size_meant size); constraint = Some size.marked }
 
 -- the type that a tree stands for, where `look` tells what names stand for; None where a name stands for nothing, or a
 -- constraint may not stand where it does
@@ -149,15 +160,19 @@ unfoldable mutual
   meant look (t.integer r) = Some (integer_meant r)
   meant look (t.enumerated root more) = Some (free (enumerated_shape (has_numbers root more) root more))
   meant look (t.text kind size) = Some (string_meant kind size)
-  meant look (t.sequence root more) = fields_meant look root >>= (λ fs. more_meant look more >>= (λ ms. Some (free (s.sequence fs ms))))
+  meant look (t.sequence root more) =
+      fields_meant look root >>= (λ fs. more_meant look more >>= (λ ms. Some (free (s.sequence fs ms))))
   meant look (t.sequence_of size element) = meant look element >>= (λ m. Some (list_meant m.shape size))
-  meant look (t.choice root more) = alternatives_meant look root >>= (λ xs. more_alternatives_meant look more >>= (λ ms. Some (free (s.choice xs ms))))
+  meant look (t.choice root more) =
+      alternatives_meant look root
+      >>= (λ xs. more_alternatives_meant look more >>= (λ ms. Some (free (s.choice xs ms))))
   meant look (t.reference name c) = look name >>= (λ m. constrained m c)
 
   pub fields_meant : (List ℕ → Option Meant) → Components → Option Fields
   fields_meant look t.no_components = Some s.no_fields
   fields_meant look (t.component name tree need rest) =
-      meant look tree >>= (λ m. fields_meant look rest >>= (λ fs. Some (s.field name (demand_meant m.shape need) m.shape fs)))
+      meant look tree
+      >>= (λ m. fields_meant look rest >>= (λ fs. Some (s.field name (demand_meant m.shape need) m.shape fs)))
 
   pub more_meant : (List ℕ → Option Meant) → More → Option MoreFields
   more_meant look t.closed = Some s.closed
@@ -170,7 +185,8 @@ unfoldable mutual
 
   pub more_alternatives_meant : (List ℕ → Option Meant) → t.MoreAlternatives → Option MoreAlternatives
   more_alternatives_meant look t.closed_choice = Some s.closed_choice
-  more_alternatives_meant look (t.marked_choice rest) = alternatives_meant look rest >>= (λ xs. Some (s.marked_choice xs))
+  more_alternatives_meant look (t.marked_choice rest) =
+      alternatives_meant look rest >>= (λ xs. Some (s.marked_choice xs))
 
 -- ---- references
 

@@ -1,6 +1,9 @@
 -- Types of which each DEFAULT is a BOOLEAN, a number or an item, as in the profile.
 use Rattle.asn_values.specs.Datum.{Datum, truth, nothing, number, item}
-use Rattle.asn_values.specs.Shape.{Shape, boolean, null, integer, enumerated, bit_string, octet_string, restricted, utf8_string, sequence, sequence_of, choice, Demand, must, optional, default, Fields, no_fields, field, MoreFields, closed, marked, Alternatives, no_alternatives, one_of, MoreAlternatives, closed_choice, marked_choice}
+use Rattle.asn_values.specs.Shape.{Shape, boolean, null, integer, enumerated, bit_string, octet_string, restricted}
+use Rattle.asn_values.specs.Shape.{utf8_string, sequence, sequence_of, choice, Demand, must, optional, default, Fields}
+use Rattle.asn_values.specs.Shape.{no_fields, field, MoreFields, closed, marked, Alternatives, no_alternatives, one_of}
+use Rattle.asn_values.specs.Shape.{MoreAlternatives, closed_choice, marked_choice}
 
 -- a value that a DEFAULT may have, and else no value
 abbrev pub plain_value : Datum → Datum

@@ -1,9 +1,11 @@
 -- What the types of a module are printed as: a tree for each type, and a line for each name.
-use Rattle.std.specs.Prelude.{◌≡◌, ℕ, zero, suc, Bool, true, false, ◌||◌, List, [], ◌∷◌, ◌++◌, map, Option, Some, None, is_some, nat_lt, if◌then◌else◌}
+use Rattle.std.specs.Prelude.{◌≡◌, ℕ, zero, suc, Bool, true, false, ◌||◌, List, [], ◌∷◌, ◌++◌, map, Option, Some, None}
+use Rattle.std.specs.Prelude.{is_some, nat_lt, if◌then◌else◌}
 use Rattle.asn_values.specs.Datum as datum
 use Rattle.asn_values.specs.Datum.{Datum}
 use Rattle.asn_values.specs.Shape as s
-use Rattle.asn_values.specs.Shape.{Shape, Range, SizeRange, Alphabet, Label, MoreLabels, Demand, Fields, MoreFields, Alternatives, MoreAlternatives}
+use Rattle.asn_values.specs.Shape.{Shape, Range, SizeRange, Alphabet, Label, MoreLabels, Demand, Fields, MoreFields}
+use Rattle.asn_values.specs.Shape.{Alternatives, MoreAlternatives}
 use Rattle.asn_notation.specs.declared.token.Word.TheVariants as words
 use Rattle.asn_notation.specs.declared.notation.Limits.TheVariants.{Between}
 use Rattle.asn_notation.specs.declared.notation.RangeNotation.{RangeNotation}
@@ -25,7 +27,9 @@ use Rattle.asn_module.specs.Accepted.{Typed, ModuleTypes}
 
 -- both bounds with `..`; nothing where there are none
 abbrev pub range_printed : Range → Option RangeNotation
-range_printed b = if (is_some b.low || is_some b.high) || b.extensible then Some (record { limits = Between b.low b.high; marked = b.extensible }) else None
+range_printed b =
+    if (is_some b.low || is_some b.high) || b.extensible
+    then Some (record { limits = Between b.low b.high; marked = b.extensible }) else None
 
 abbrev pub size_end_printed : Option ℕ → SizeEnd
 size_end_printed None = ToMax
@@ -33,7 +37,9 @@ size_end_printed (Some high) = To high
 
 -- both bounds with `..`; nothing where any length is allowed
 abbrev pub size_printed : SizeRange → Option SizeNotation
-size_printed b = if (nat_lt 0 b.low || is_some b.high) || b.extensible then Some (record { low = b.low; high = size_end_printed b.high; marked = b.extensible }) else None
+size_printed b =
+    if (nat_lt 0 b.low || is_some b.high) || b.extensible
+    then Some (record { low = b.low; high = size_end_printed b.high; marked = b.extensible }) else None
 
 -- ---- ENUMERATED: each item with its number
 
@@ -104,7 +110,8 @@ abbrev mutual
 
   pub components_printed : Fields → Components
   components_printed s.no_fields = t.no_components
-  components_printed (s.field name demand shape fs) = t.component name (type_printed shape) (need_printed shape demand) (components_printed fs)
+  components_printed (s.field name demand shape fs) =
+      t.component name (type_printed shape) (need_printed shape demand) (components_printed fs)
 
   pub additions_printed : MoreFields → More
   additions_printed s.closed = t.closed

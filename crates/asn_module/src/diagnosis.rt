@@ -1,9 +1,11 @@
 //! Which fault a refused text is told to have. No contract rests on what is answered here.
 
-use crate::expanding::{Assignments, Budget, expand};
+use crate::expanding::{Assignments, expand};
 use crate::fault::ModuleFault;
-use crate::graph::{first_on_cycle, indices_of, references_of};
+use crate::graph::{first_on_cycle, indices_of, order_of, references_of};
+use crate::heads::{Head, heads_of, may_stand};
 use crate::listing::{Listed, assignments_listed, first_twice, first_unknown};
+use crate::shallow::without_deep_types;
 use asn_notation::{Lexeme, ModuleNotation, SyntaxFault, first_token, read_notation, skip_blank};
 use asn_values::profile::{MAX_LEVELS, MAX_TYPES};
 use asn_values::{Checked, TypeFault};
@@ -16,8 +18,8 @@ const LEVELS: u32 = MAX_LEVELS + 1;
 /// And at most this many types inside one another, one more than the profile has.
 const NODES: u32 = MAX_TYPES + 1;
 
-/// A type inside more others than these is no longer read; that its text is of the grammar is known all the same.
-const READ_LEVELS: u32 = 256;
+/// The types inside those are read where no others are inside them, and else left out.
+const READ_LEVELS: u32 = LEVELS + 1;
 
 /// Where the first character stands that begins no token.
 fn first_illegal(text: &str) -> Option<usize> {
@@ -55,7 +57,7 @@ pub(crate) fn fault_of(alloc: Global, text: &str) -> ModuleFault {
     }
     let found = match read_notation(alloc, text, READ_LEVELS) {
         Ok(notation) => fault_of_names(alloc, text, &notation),
-        Err(SyntaxFault::TooDeep { left }) => fault_of_deep(alloc, text, left),
+        Err(SyntaxFault::TooDeep { .. }) => fault_of_deep(alloc, text),
         Err(fault) => match fault_of_syntax(text, fault) {
             Some(fault) => Ok(fault),
             None => Err(ModuleFault::Memory),
@@ -67,12 +69,22 @@ pub(crate) fn fault_of(alloc: Global, text: &str) -> ModuleFault {
     }
 }
 
+/// The fault of a text of the grammar in which a type lies inside too many others to be read.
+fn fault_of_deep(alloc: Global, text: &str) -> Result<ModuleFault, ModuleFault> {
+    let shallow = without_deep_types(alloc, text, LEVELS)?;
+    match read_notation(alloc, &shallow, READ_LEVELS) {
+        Ok(notation) => fault_of_names(alloc, text, &notation),
+        Err(_) => Err(ModuleFault::Memory),
+    }
+}
+
 /// Faults of the names: one assigned twice, a reference to none, references that lead back. `indices` has the index
-/// of each name.
+/// of each name, and `references` the indices that each assignment refers to.
 fn fault_in_names<'t>(
     alloc: Global,
     listed: &[Listed<'t>],
     indices: &HashMap<&'t str, usize>,
+    references: &[Vec<usize>],
 ) -> Result<Option<ModuleFault>, ModuleFault> {
     if let Some(name) = first_twice(alloc, listed)? {
         let name = String::from_str(alloc, name)?;
@@ -82,8 +94,7 @@ fn fault_in_names<'t>(
         let name = String::from_str(alloc, name)?;
         return Ok(Some(ModuleFault::Unknown { name }));
     }
-    let references = references_of(alloc, listed, indices)?;
-    match first_on_cycle(alloc, &references)? {
+    match first_on_cycle(alloc, references)? {
         Some(index) if index < listed.len() => {
             let name = String::from_str(alloc, listed[index].name)?;
             Ok(Some(ModuleFault::Cycle { name }))
@@ -92,72 +103,76 @@ fn fault_in_names<'t>(
     }
 }
 
-/// The fault of a text of the grammar.
-fn fault_of_names<'t>(
+/// The number of octets of the text from the first constraint on that may not stand on the type that its reference
+/// stands for.
+fn first_misplaced<'t>(
+    listed: &[Listed<'t>],
+    indices: &HashMap<&'t str, usize>,
+    heads: &[Head],
+) -> Option<usize> {
+    for assignment in listed {
+        for reference in &assignment.references {
+            let head = match indices.get(reference.name) {
+                Some(index) => heads.get(*index),
+                None => None,
+            };
+            if let Some(head) = head {
+                if !may_stand(head, reference.constraint) {
+                    return Some(reference.left);
+                }
+            }
+        }
+    }
+    None
+}
+
+/// The first assignment whose type is none of the profile, and the fault of its type.
+fn first_bad_type<'m, 't, 'n>(
+    module: Assignments<'m, 't, 'n>,
+) -> Result<Option<ModuleFault>, ModuleFault> {
+    let alloc = module.alloc;
+    for assignment in module.all {
+        let mut nodes = NODES;
+        let ty = expand(module, &assignment.ty, LEVELS, &mut nodes)?;
+        match Checked::new(alloc, ty) {
+            Ok(_) => {}
+            Err(TypeFault::Memory) => return Err(ModuleFault::Memory),
+            Err(fault) => {
+                let name = String::from_str(alloc, assignment.name)?;
+                return Ok(Some(ModuleFault::BadType { name, fault }));
+            }
+        }
+    }
+    Ok(None)
+}
+
+/// The fault of a text of the grammar. `notation` has its assignments, with types that are nested too deep left out.
+fn fault_of_names<'t, 'n>(
     alloc: Global,
     text: &'t str,
-    notation: &ModuleNotation<'t>,
+    notation: &ModuleNotation<'n>,
 ) -> Result<ModuleFault, ModuleFault> {
     let listed = assignments_listed(alloc, text)?;
     let indices = indices_of(alloc, &listed)?;
-    if let Some(fault) = fault_in_names(alloc, &listed, &indices)? {
+    let references = references_of(alloc, &listed, &indices)?;
+    if let Some(fault) = fault_in_names(alloc, &listed, &indices, &references)? {
         return Ok(fault);
+    }
+    let order = order_of(alloc, &references)?;
+    let heads = heads_of(alloc, &notation.assignments, &indices, &order)?;
+    if let Some(left) = first_misplaced(&listed, &indices, &heads) {
+        return Ok(ModuleFault::OutOfProfile {
+            at: text.len().saturating_sub(left),
+        });
     }
     let module = Assignments {
         alloc,
         all: notation.assignments.as_slice(),
         indices: &indices,
+        heads: heads.as_slice(),
     };
-    let mut misplaced = 0;
-    let mut first = None;
-    for (index, assignment) in notation.assignments.iter().enumerate() {
-        let mut budget = Budget {
-            nodes: NODES,
-            misplaced: 0,
-        };
-        let built = expand(module, &assignment.ty, LEVELS, &mut budget)?;
-        if budget.misplaced > misplaced {
-            misplaced = budget.misplaced;
-        }
-        if first.is_none() {
-            match Checked::new(alloc, built.ty) {
-                Ok(_) => {}
-                Err(TypeFault::Memory) => return Err(ModuleFault::Memory),
-                Err(fault) => first = Some((index, fault)),
-            }
-        }
+    match first_bad_type(module)? {
+        Some(fault) => Ok(fault),
+        None => Err(ModuleFault::Memory),
     }
-    if misplaced > 0 {
-        return Ok(ModuleFault::OutOfProfile {
-            at: text.len().saturating_sub(misplaced),
-        });
-    }
-    match first {
-        Some((index, fault)) if index < notation.assignments.len() => {
-            let name = String::from_str(alloc, notation.assignments[index].name)?;
-            Ok(ModuleFault::BadType { name, fault })
-        }
-        _ => Err(ModuleFault::Memory),
-    }
-}
-
-/// The fault of a text of the grammar in which a type lies inside too many others to be read; `left` is the number of
-/// octets of the text from this type on. No other type of the text is looked at.
-fn fault_of_deep(alloc: Global, text: &str, left: usize) -> Result<ModuleFault, ModuleFault> {
-    let listed = assignments_listed(alloc, text)?;
-    let indices = indices_of(alloc, &listed)?;
-    if let Some(fault) = fault_in_names(alloc, &listed, &indices)? {
-        return Ok(fault);
-    }
-    let mut name = "";
-    for assignment in &listed {
-        if assignment.left >= left {
-            name = assignment.name;
-        }
-    }
-    let name = String::from_str(alloc, name)?;
-    Ok(ModuleFault::BadType {
-        name,
-        fault: TypeFault::TooDeep,
-    })
 }

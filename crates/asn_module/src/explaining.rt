@@ -162,6 +162,11 @@ pub fn explain(alloc: Global, text: &str, fault: &ModuleFault) -> Result<String,
         ModuleFault::OutOfProfile { at } => {
             let Place { line, column, .. } = place_at(alloc, text, *at)?;
             let token = token_at(alloc, text, *at)?;
+            if *token.as_str() == *"\"(\"" {
+                return format!(in alloc;
+                    "line {line}, column {column}: a constraint that may not stand on this type"
+                );
+            }
             format!(in alloc; "line {line}, column {column}: {token} is outside the profile")
         }
         other => format!(in alloc; "{other}"),

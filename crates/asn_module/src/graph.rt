@@ -30,7 +30,7 @@ pub(crate) fn references_of<'t>(
     for assignment in listed {
         let mut references = Vec::new(alloc);
         for reference in &assignment.references {
-            if let Some(index) = indices.get(reference) {
+            if let Some(index) = indices.get(reference.name) {
                 references.push(*index)?;
             }
         }

@@ -11,6 +11,7 @@ mod explaining;
 mod fault;
 mod finding;
 mod graph;
+mod heads;
 mod indexing;
 mod items;
 mod known;
@@ -20,6 +21,7 @@ mod print;
 mod printing;
 mod reading;
 mod references;
+mod shallow;
 mod simple;
 mod table;
 

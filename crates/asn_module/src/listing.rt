@@ -2,17 +2,24 @@
 //! is nested, no call goes deeper. The text is one of the grammar.
 
 use crate::fault::ModuleFault;
-use asn_notation::{Lexeme, Sign, Word, first_token};
+use asn_notation::{Constraint, Lexeme, Sign, Word, constraint_at, first_token, skip_blank};
 use std::alloc::Global;
 use std::collections::HashMap;
 
-/// An assignment, and the names that its type refers to, in the order of the text.
+/// A name that a type refers to, and the constraint after it.
+#[derive(Clone, Copy)]
+pub(crate) struct Reference<'t> {
+    pub name: &'t str,
+    pub constraint: Constraint,
+    /// The number of octets of the text from the constraint on.
+    pub left: usize,
+}
+
+/// An assignment, and the references of its type, in the order of the text.
 #[derive(Drop)]
 pub(crate) struct Listed<'t> {
     pub name: &'t str,
-    /// The number of octets of the text after the name.
-    pub left: usize,
-    pub references: Vec<&'t str>,
+    pub references: Vec<Reference<'t>>,
 }
 
 /// The text after BEGIN.
@@ -35,6 +42,19 @@ fn is_assignment(text: &str) -> bool {
     }
 }
 
+/// The reference to a name, and the text from its constraint on.
+fn reference_to<'t>(name: &'t str, text: &str) -> Reference<'t> {
+    let constraint = match constraint_at(text) {
+        Ok((constraint, _)) => constraint,
+        Err(_) => Constraint::None,
+    };
+    Reference {
+        name,
+        constraint,
+        left: skip_blank(text).len(),
+    }
+}
+
 /// The assignments of a text.
 pub(crate) fn assignments_listed<'t>(
     alloc: Global,
@@ -49,11 +69,10 @@ pub(crate) fn assignments_listed<'t>(
                 if is_assignment(after) {
                     listed.push(Listed {
                         name,
-                        left: after.len(),
                         references: Vec::new(alloc),
                     })?;
                 } else if let Some(last) = listed.last_mut() {
-                    last.references.push(name)?;
+                    last.references.push(reference_to(name, after))?;
                 }
                 rest = after;
             }
@@ -83,8 +102,8 @@ pub(crate) fn first_unknown<'t>(
 ) -> Option<&'t str> {
     for assignment in listed {
         for reference in &assignment.references {
-            if indices.get(reference).is_none() {
-                return Some(*reference);
+            if indices.get(reference.name).is_none() {
+                return Some(reference.name);
             }
         }
     }

@@ -1,31 +1,81 @@
 //! Modules that were read.
 
-ghost use Rattle.std.specs.Prelude.{◌≡◌, None, Some, IfOk, IfErr, IfSome, MatchOption};
+ghost use Rattle.std.specs.Prelude.{◌≡◌, None, Some, ℕ, IfOk, MatchOption};
+ghost use Rattle.std.specs.HashMap.{get_by_text};
 ghost use Rattle.asn_values.specs.View.{shape_of};
 ghost use Rattle.asn_module.specs.Accepted.{type_in};
-ghost use Rattle.asn_module.specs.Known.{types_of};
+ghost use Rattle.asn_module.specs.Known.{known_view, look, types_of, unbuilt};
+ghost use Rattle.asn_module.specs.Lookup.{FindsText, names_in};
 
-use crate::known::Named;
+use crate::known::{Known, Named};
 use asn_values::Checked;
+use std::alloc::{AllocError, Global};
+use std::collections::HashMap;
 
 /// A module: its name, and the names that it assigns with their types, in the order of the text.
 #[derive(Debug, Drop)]
 pub struct Module {
     pub(crate) name: String,
     pub(crate) types: Vec<Named>,
+    /// The index of each name among the types.
+    pub(crate) indices: HashMap<String, usize>,
+    ghost built: { unbuilt types.items ≡ 0 },
+    ghost finds: { FindsText indices (names_in types.items) },
 }
 
-/// The type of a name, among those that have one.
-pub(crate) fn find_type<'a>(types: &'a [Named], name: &str) -> Option<&'a Checked>
+/// The index of each name, the first one where a name is there twice.
+pub(crate) fn index_names(
+    alloc: Global,
+    types: &[Named],
+) -> Result<HashMap<String, usize>, AllocError>
+    ensures { IfOk result (λ m. FindsText m (names_in types.now)) }
+{
+    let mut indices = HashMap::new(alloc);
+    let mut index = types.len();
+    'names: while index > 0 {
+        index -= 1;
+        let name = String::from_str(alloc, types[index].name.as_str())?;
+        indices.insert(name, index)?;
+    }
+    Ok(indices)
+}
+
+/// What a name stands for; None where there is no such name, or its type is not built. `indices` has the index of
+/// each name.
+fn find_named<'a>(
+    names: &'a [Named],
+    indices: &HashMap<String, usize>,
+    name: &str,
+) -> Option<&'a Known>
+    requires { FindsText indices.now (names_in names.now) }
+    ensures { MatchOption result (look names.now name.now ≡ None) (λ k. look names.now name.now ≡
+        Some (known_view k.now)) }
+{
+    match indices.get(name) {
+        Some(index) => {
+            if *index < names.len() {
+                names[*index].known.as_ref()
+            } else {
+                None
+            }
+        }
+        None => None,
+    }
+}
+
+/// The type of a name, where `indices` has the index of each name, and all types are built.
+pub(crate) fn find_type<'a>(
+    types: &'a [Named],
+    indices: &HashMap<String, usize>,
+    name: &str,
+) -> Option<&'a Checked>
+    requires built { unbuilt types.now ≡ 0 }
+    requires finds { FindsText indices.now (names_in types.now) }
     ensures { MatchOption result (type_in (types_of types.now) name.now ≡ None) (λ t. type_in
         (types_of types.now) name.now ≡ Some (shape_of t.now)) }
 {
-    for named in types {
-        if *named.name.as_str() == *name {
-            if let Some(known) = &named.known {
-                return Some(&known.ty);
-            }
-        }
+    match find_named(types, indices, name) {
+        Some(known) => Some(&known.ty),
+        None => None,
     }
-    None
 }

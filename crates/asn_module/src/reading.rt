@@ -10,7 +10,7 @@ use crate::fault::{ModuleFault, Refusal};
 use crate::graph::{order_of, references_of};
 use crate::indexing::indices_of;
 use crate::listing::assignments_listed;
-use crate::module::{Module, find_type};
+use crate::module::{Module, find_type, index_names};
 use crate::table::types_of;
 use asn_notation::{SyntaxFault, read_notation};
 use asn_values::Checked;
@@ -53,7 +53,12 @@ pub(crate) fn module_of(alloc: Global, text: &str) -> Result<Option<Module>, Ref
     match types_of(alloc, &notation.assignments, &indices, &order)? {
         Some(types) => {
             let name = String::from_str(alloc, notation.name)?;
-            Ok(Some(Module { name, types }))
+            let indices = index_names(alloc, &types)?;
+            Ok(Some(Module {
+                name,
+                types,
+                indices,
+            }))
         }
         None => Ok(None),
     }
@@ -86,6 +91,6 @@ impl Module {
         ensures { MatchOption result (type_in (types_view self.now).types name.now ≡ None)
             (λ t. type_in (types_view self.now).types name.now ≡ Some (shape_of t.now)) }
     {
-        find_type(&self.types, name)
+        find_type(&self.types, &self.indices, name)
     }
 }

@@ -13,29 +13,12 @@ use asn_values::AsnType;
 
 /// Whether a constraint may be added to what was written before: none to one with the extension mark, and
 /// none with the mark to any.
-fn may_add(before: Option<bool>, marked: bool) -> bool
+pub(crate) fn may_add(before: Option<bool>, marked: bool) -> bool
     ensures { result ≡ spec.may_add before marked }
 {
     match before {
         None => true,
         Some(before) => !before && !marked,
-    }
-}
-
-/// Whether a constraint may stand on a reference to a type.
-pub(crate) fn may_stand(built: &Built, constraint: Constraint) -> bool {
-    match constraint {
-        Constraint::None => true,
-        Constraint::Range(range) => {
-            may_add(built.constraint, range.marked) && matches!(&built.ty, AsnType::Int(_))
-        }
-        Constraint::Size(size) => {
-            may_add(built.constraint, size.marked)
-                && matches!(
-                    &built.ty,
-                    AsnType::Bits(_) | AsnType::Octets(_) | AsnType::Text(..) | AsnType::SeqOf(..)
-                )
-        }
     }
 }
 

@@ -214,6 +214,7 @@ pub(crate) fn types_of(
     requires { Finds indices.now (assigned_names (assignments_view assignments.now)) }
     ensures sound { IfOk result (λ o. IfSome o (λ v. AreTypes (assignments_view assignments.now)
         (assignments_view assignments.now) (spec.types_of v.items))) }
+    ensures built { IfOk result (λ o. IfSome o (λ v. unbuilt v.items ≡ 0)) }
     ensures none { IfOk result (λ o. o ≡ None → (ts : List Typed) → AreTypes
         (assignments_view assignments.now) (assignments_view assignments.now) ts → ⊥) }
     ensures memory { IfErr result (λ e. e ≡ Refusal.Memory) }

@@ -11,7 +11,8 @@ use Rattle.asn_notation.specs.declared.notation.ListSize.TheVariants as list_siz
 use Rattle.asn_notation.specs.declared.notation.Constraint.{Constraint}
 use Rattle.asn_notation.specs.declared.notation.Constraint.TheVariants as constraint
 use Rattle.asn_notation.specs.Tree as t
-use Rattle.asn_notation.specs.Tree.{Tree, Components, More, Alternatives, MoreAlternatives, Item, Default, Need, ModuleTree}
+use Rattle.asn_notation.specs.Tree.{Tree, Components, More, Alternatives, MoreAlternatives, Item, Default, Need}
+use Rattle.asn_notation.specs.Tree.{ModuleTree}
 
 abbrev pub IsInt : ℤ → Type 0
 IsInt (pos n) = n < 2 ^ 63
@@ -69,11 +70,13 @@ unfoldable mutual
   IsTree t.null levels = Below levels (λ inner. ⊤)
   IsTree t.utf8 levels = Below levels (λ inner. ⊤)
   IsTree (t.integer r) levels = Below levels (λ inner. IfSome r (λ r. AreLimits r.limits))
-  IsTree (t.enumerated root more) levels = Below levels (λ inner. (0 < length root) × AllByRecursion IsItem root × IfSome more (AllByRecursion IsItem))
+  IsTree (t.enumerated root more) levels =
+      Below levels (λ inner. (0 < length root) × AllByRecursion IsItem root × IfSome more (AllByRecursion IsItem))
   IsTree (t.text kind s) levels = Below levels (λ inner. IfSome s IsSize)
   IsTree (t.sequence root more) levels = Below levels (λ inner. AreComponents root inner × AreMore more inner)
   IsTree (t.sequence_of s element) levels = Below levels (λ inner. IsListSize s × IsTree element inner)
-  IsTree (t.choice root more) levels = Below levels (λ inner. HasAlternative root × AreAlternatives root inner × AreMoreAlternatives more inner)
+  IsTree (t.choice root more) levels =
+      Below levels (λ inner. HasAlternative root × AreAlternatives root inner × AreMoreAlternatives more inner)
   IsTree (t.reference n c) levels = Below levels (λ inner. IsConstraint c)
 
   pub AreComponents : Components → ℕ → Type 0

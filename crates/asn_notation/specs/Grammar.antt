@@ -16,7 +16,8 @@ use Rattle.asn_notation.specs.declared.notation.StringKind.{StringKind}
 use Rattle.asn_notation.specs.declared.notation.StringKind.TheVariants as string_kind
 use Rattle.asn_notation.specs.Token.{Token, identifier, name, word, number, negative, sign}
 use Rattle.asn_notation.specs.Tree as t
-use Rattle.asn_notation.specs.Tree.{Tree, Components, More, Alternatives, MoreAlternatives, Item, Default, Need, Assignment, ModuleTree}
+use Rattle.asn_notation.specs.Tree.{Tree, Components, More, Alternatives, MoreAlternatives, Item, Default, Need}
+use Rattle.asn_notation.specs.Tree.{Assignment, ModuleTree}
 
 abbrev pub Text : Type 0
 Text = List Token
@@ -154,11 +155,14 @@ unfoldable mutual
   written t.null = word words.Null ∷ []
   written t.utf8 = word words.Utf8String ∷ []
   written (t.integer r) = word words.Integer ∷ maybe range r
-  written (t.enumerated root more) = word words.Enumerated ∷ open_brace ∷ (with_commas item root ++ additions item more) ++ close_brace ∷ []
+  written (t.enumerated root more) =
+      word words.Enumerated ∷ open_brace ∷ (with_commas item root ++ additions item more) ++ close_brace ∷ []
   written (t.text kind s) = string_words kind ++ maybe size_con s
-  written (t.sequence root more) = word words.Sequence ∷ open_brace ∷ (components root ++ separator root more ++ extension more) ++ close_brace ∷ []
+  written (t.sequence root more) =
+      word words.Sequence ∷ open_brace ∷ (components root ++ separator root more ++ extension more) ++ close_brace ∷ []
   written (t.sequence_of s element) = word words.Sequence ∷ list_sized s ++ word words.Of ∷ written element
-  written (t.choice root more) = word words.Choice ∷ open_brace ∷ (alternatives root ++ more_alternatives more) ++ close_brace ∷ []
+  written (t.choice root more) =
+      word words.Choice ∷ open_brace ∷ (alternatives root ++ more_alternatives more) ++ close_brace ∷ []
   written (t.reference n c) = name n ∷ constrained c
 
   -- Comp,+
@@ -169,7 +173,8 @@ unfoldable mutual
   -- each component after a comma
   pub following_components : Components → Text
   following_components t.no_components = []
-  following_components (t.component n ty nd cs) = comma ∷ (identifier n ∷ written ty ++ need nd) ++ following_components cs
+  following_components (t.component n ty nd cs) =
+      comma ∷ (identifier n ∷ written ty ++ need nd) ++ following_components cs
 
   -- "..." ["," Comp,+]
   pub extension : More → Text

@@ -1,5 +1,6 @@
 -- From a text to its tokens, from left to right.
-use Rattle.std.specs.Prelude.{ℕ, zero, suc, ◌^◌, Bool, ◌&&◌, ◌||◌, ◌==◌, nat_lt, nat_le, if◌then◌else◌, List, [], ◌∷◌, length, take, drop, slice_index, map, Option, Some, None}
+use Rattle.std.specs.Prelude.{ℕ, zero, suc, ◌^◌, Bool, ◌&&◌, ◌||◌, ◌==◌, nat_lt, nat_le, if◌then◌else◌, List, [], ◌∷◌}
+use Rattle.std.specs.Prelude.{length, take, drop, slice_index, map, Option, Some, None}
 use Rattle.std.specs.List.{prefix_len}
 use Rattle.std.specs.Str.{bytes_eq}
 use Rattle.std.specs.Str.Parse.{digits_value}
@@ -9,7 +10,8 @@ use Rattle.asn_notation.specs.declared.token.Reserved.TheVariants as reserved
 use Rattle.asn_notation.specs.declared.lexer.Blank.{Blank}
 use Rattle.asn_notation.specs.declared.lexer.Blank.TheVariants as blank
 use Rattle.asn_notation.specs.declared.token.TheConstants.{RESERVED}
-use Rattle.asn_notation.specs.Token.{Token, identifier, name, word, out_of_profile, number, negative, too_large, sign, illegal}
+use Rattle.asn_notation.specs.Token.{Token, identifier, name, word, out_of_profile, number, negative, too_large, sign}
+use Rattle.asn_notation.specs.Token.{illegal}
 
 -- ---- characters
 
@@ -36,9 +38,12 @@ is_word_character c = is_letter c || is_digit c
 
 -- what state follows the octet c, which `next` follows; None where c is neither white space nor of a comment
 unfoldable pub after_octet : Blank → ℕ → ℕ → Option Blank
-after_octet blank.Outside c next = if is_white c then Some blank.Outside else if c == 45 && next == 45 then Some blank.Opened else None
+after_octet blank.Outside c next =
+    if is_white c then Some blank.Outside else if c == 45 && next == 45 then Some blank.Opened else None
 after_octet blank.Opened c next = Some blank.Inside
-after_octet blank.Inside c next = if is_end_of_line c then Some blank.Outside else if c == 45 && next == 45 then Some blank.Closing else Some blank.Inside
+after_octet blank.Inside c next =
+    if is_end_of_line c then Some blank.Outside else if c == 45 && next == 45 then Some blank.Closing
+    else Some blank.Inside
 after_octet blank.Closing c next = Some blank.Outside
 
 abbrev pub counted_on : Option Blank → (Blank → ℕ) → ℕ
@@ -117,7 +122,10 @@ leading_token text =
     else if c == 48 then (number 0, 1)
     else if is_digit c then (number_token (digits_value 10 (take (digits_len text) text)), digits_len text)
     else if c == 45 && (is_digit (slice_index text 1) && nat_lt 48 (slice_index text 1))
-    then (negative_token (digits_value 10 (take (digits_len (drop 1 text)) (drop 1 text))), suc (digits_len (drop 1 text)))
+    then (
+      negative_token (digits_value 10 (take (digits_len (drop 1 text)) (drop 1 text))),
+      suc (digits_len (drop 1 text)),
+    )
     else leading_sign text
 
 -- at most n tokens

@@ -2,7 +2,8 @@
 use Rattle.std.specs.Prelude.{ℕ, zero, suc, List, [], ◌∷◌, ◌++◌, length, Option, Some, None, if◌then◌else◌}
 use Rattle.asn_notation.specs.declared.token.Word.TheVariants as words
 use Rattle.asn_notation.specs.declared.token.Sign.TheVariants as signs
-use Rattle.asn_notation.specs.Token.{Token, identifier, name, word, out_of_profile, number, negative, too_large, sign, illegal}
+use Rattle.asn_notation.specs.Token.{Token, identifier, name, word, out_of_profile, number, negative, too_large, sign}
+use Rattle.asn_notation.specs.Token.{illegal}
 use Rattle.asn_notation.specs.Tree.{Assignment, ModuleTree}
 use Rattle.asn_notation.specs.Reading.{◌>>=◌, Read, begins_word, after_sign, after_word, type_at}
 

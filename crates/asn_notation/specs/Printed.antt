@@ -5,7 +5,8 @@ use Rattle.asn_notation.specs.declared.token.Word.{Word}
 use Rattle.asn_notation.specs.declared.token.Word.TheVariants as words
 use Rattle.asn_notation.specs.declared.token.Sign.{Sign}
 use Rattle.asn_notation.specs.declared.token.Sign.TheVariants as signs
-use Rattle.asn_notation.specs.Token.{Token, identifier, name, word, out_of_profile, number, negative, too_large, sign, illegal}
+use Rattle.asn_notation.specs.Token.{Token, identifier, name, word, out_of_profile, number, negative, too_large, sign}
+use Rattle.asn_notation.specs.Token.{illegal}
 use Rattle.asn_notation.specs.Lexing.{is_small, is_letter, word_len, capital_word}
 
 abbrev pub word_text : Word → List ℕ

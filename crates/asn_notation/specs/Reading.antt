@@ -1,5 +1,7 @@
 -- Reading tokens from left to right: what is read, and the tokens after it; None where no text goes on so.
-use Rattle.std.specs.Prelude.{◌≡◌, ℕ, zero, suc, ◌^◌, ◌<◌, ℤ, pos, neg_ℤ, Bool, true, false, not, ◌&&◌, List, [], ◌∷◌, ◌++◌, length, drop, Option, Some, None, Result, MatchResult, nat_lt, nat_le, if◌then◌else◌, IfOk}
+use Rattle.std.specs.Prelude.{◌≡◌, ℕ, zero, suc, ◌^◌, ◌<◌, ℤ, pos, neg_ℤ, Bool, true, false, not, ◌&&◌, List, [], ◌∷◌}
+use Rattle.std.specs.Prelude.{◌++◌, length, drop, Option, Some, None, Result, MatchResult, nat_lt, nat_le}
+use Rattle.std.specs.Prelude.{if◌then◌else◌, IfOk}
 use Rattle.std.specs.Borrow.{Bor}
 use denote.Enum.Bare.{sameb}
 use Rattle.asn_notation.specs.declared.token.Word.{Word}
@@ -22,10 +24,12 @@ use Rattle.asn_notation.specs.declared.notation.StringKind.{StringKind}
 use Rattle.asn_notation.specs.declared.notation.StringKind.TheVariants as string_kind
 use Rattle.asn_notation.specs.declared.fault.SyntaxFault.{SyntaxFault}
 use Rattle.asn_notation.specs.declared.fault.SyntaxFault.TheVariants.{Memory}
-use Rattle.asn_notation.specs.Token.{Token, identifier, name, word, out_of_profile, number, negative, too_large, sign, illegal}
+use Rattle.asn_notation.specs.Token.{Token, identifier, name, word, out_of_profile, number, negative, too_large, sign}
+use Rattle.asn_notation.specs.Token.{illegal}
 use Rattle.asn_notation.specs.Lexing.{lexed}
 use Rattle.asn_notation.specs.Tree as t
-use Rattle.asn_notation.specs.Tree.{Tree, Item, Default, Need, Part, Branch, Assignment, ModuleTree, components_of, more_of, alternatives_of, more_alternatives_of}
+use Rattle.asn_notation.specs.Tree.{Tree, Item, Default, Need, Part, Branch, Assignment, ModuleTree, components_of}
+use Rattle.asn_notation.specs.Tree.{more_of, alternatives_of, more_alternatives_of}
 
 infixl 10 ◌>>=◌
 abbrev pub ◌>>=◌ : {A B : Type 0} → Option A → (A → Option B) → Option B
@@ -122,7 +126,10 @@ int_at (sign u ∷ ts) = None
 
 -- ["," "..."]
 unfoldable pub mark_at : Read Bool
-mark_at ts = if begins_sign signs.Comma ts then after_sign signs.Dots (drop 1 ts) >>= (λ rest. Some (true, rest)) else Some (false, ts)
+mark_at ts =
+    if begins_sign signs.Comma ts
+    then after_sign signs.Dots (drop 1 ts) >>= (λ rest. Some (true, rest))
+    else Some (false, ts)
 
 -- High
 unfoldable pub high_at : Read (Option ℤ)
@@ -131,8 +138,11 @@ high_at ts = if begins_word words.Max ts then Some (None, drop 1 ts) else int_at
 -- Low [".." High], where MIN is not alone
 unfoldable pub limits_at : Read Limits
 limits_at ts =
-    if begins_word words.Min ts then after_sign signs.UpTo (drop 1 ts) >>= (λ rest. high_at rest >>= (λ high. Some (Between None high.0, high.1)))
-    else int_at ts >>= (λ low. if begins_sign signs.UpTo low.1 then high_at (drop 1 low.1) >>= (λ high. Some (Between (Some low.0) high.0, high.1)) else Some (One low.0, low.1))
+    if begins_word words.Min ts
+    then after_sign signs.UpTo (drop 1 ts) >>= (λ rest. high_at rest >>= (λ high. Some (Between None high.0, high.1)))
+    else int_at ts >>= (λ low. if begins_sign signs.UpTo low.1
+    then high_at (drop 1 low.1) >>= (λ high. Some (Between (Some low.0) high.0, high.1))
+    else Some (One low.0, low.1))
 
 -- what follows the "(" of a Range
 unfoldable pub range_after_paren : Read RangeNotation
@@ -144,13 +154,16 @@ range_after_paren ts = do
 
 -- [Range]
 unfoldable pub range_at : Read (Option RangeNotation)
-range_at ts = if begins_sign signs.LeftParen ts then range_after_paren (drop 1 ts) >>= (λ r. Some (Some r.0, r.1)) else Some (None, ts)
+range_at ts =
+    if begins_sign signs.LeftParen ts then range_after_paren (drop 1 ts) >>= (λ r. Some (Some r.0, r.1))
+    else Some (None, ts)
 
 -- [".." (number | MAX)]
 unfoldable pub size_end_at : Read SizeEnd
 size_end_at ts =
     if begins_sign signs.UpTo ts
-    then (if begins_word words.Max (drop 1 ts) then Some (ToMax, drop 2 ts) else number_at (drop 1 ts) >>= (λ n. Some (To n.0, n.1)))
+    then (if begins_word words.Max (drop 1 ts) then Some (ToMax, drop 2 ts)
+    else number_at (drop 1 ts) >>= (λ n. Some (To n.0, n.1)))
     else Some (Same, ts)
 
 -- Size
@@ -173,7 +186,9 @@ size_after_paren ts = do
 
 -- [SizeCon]
 unfoldable pub size_con_at : Read (Option SizeNotation)
-size_con_at ts = if begins_sign signs.LeftParen ts then size_after_paren (drop 1 ts) >>= (λ s. Some (Some s.0, s.1)) else Some (None, ts)
+size_con_at ts =
+    if begins_sign signs.LeftParen ts then size_after_paren (drop 1 ts) >>= (λ s. Some (Some s.0, s.1))
+    else Some (None, ts)
 
 -- [SizeCon | Size]
 unfoldable pub list_size_at : Read ListSize
@@ -186,7 +201,9 @@ list_size_at ts =
 unfoldable pub constraint_at : Read Constraint
 constraint_at ts =
     if begins_sign signs.LeftParen ts
-    then (if begins_word words.Size (drop 1 ts) then size_after_paren (drop 1 ts) >>= (λ s. Some (constraint.Size s.0, s.1)) else range_after_paren (drop 1 ts) >>= (λ r. Some (constraint.Range r.0, r.1)))
+    then (if begins_word words.Size (drop 1 ts)
+    then size_after_paren (drop 1 ts) >>= (λ s. Some (constraint.Size s.0, s.1))
+    else range_after_paren (drop 1 ts) >>= (λ r. Some (constraint.Range r.0, r.1)))
     else Some (constraint.None, ts)
 
 -- ---- lists
@@ -199,7 +216,8 @@ module _ {A : Type 0} (one : Read A) where
   -- more of them, each after a comma, after those found; fewer than n
   unfoldable pub others : ℕ → List A → Read (List A)
   others zero found ts = None
-  others (suc n) found ts = if goes_on ts then one (drop 1 ts) >>= (λ x. others n (found ++ x.0 ∷ []) x.1) else Some (found, ts)
+  others (suc n) found ts =
+      if goes_on ts then one (drop 1 ts) >>= (λ x. others n (found ++ x.0 ∷ []) x.1) else Some (found, ts)
 
   -- all of them
   unfoldable pub all_others : List A → Read (List A)
@@ -229,7 +247,8 @@ module _ {A : Type 0} (one : Read A) where
 -- ["(" Int ")"]
 unfoldable pub item_number_at : Read (Option ℤ)
 item_number_at ts =
-    if begins_sign signs.LeftParen ts then int_at (drop 1 ts) >>= (λ z. after_sign signs.RightParen z.1 >>= (λ rest. Some (Some z.0, rest)))
+    if begins_sign signs.LeftParen ts
+    then int_at (drop 1 ts) >>= (λ z. after_sign signs.RightParen z.1 >>= (λ rest. Some (Some z.0, rest)))
     else Some (None, ts)
 
 -- Item

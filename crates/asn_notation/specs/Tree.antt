@@ -11,8 +11,10 @@ use Rattle.asn_notation.specs.declared.notation.DefaultNotation.TheVariants as d
 use Rattle.asn_notation.specs.declared.notation.NeedNotation.{NeedNotation}
 use Rattle.asn_notation.specs.declared.notation.NeedNotation.TheVariants as need_notation
 use Rattle.asn_notation.specs.declared.notation.TypeNotation.{TypeNotation}
-use Rattle.asn_notation.specs.declared.notation.TypeNotation.TheOpen.{TypeNotation-F, AlternativeNotation-F, ComponentNotation-F}
-use Rattle.asn_notation.specs.declared.notation.TypeNotation.TheFolds.{fold-TypeNotation, fold-AlternativeNotation, fold-ComponentNotation}
+use Rattle.asn_notation.specs.declared.notation.TypeNotation.TheOpen.{TypeNotation-F, AlternativeNotation-F}
+use Rattle.asn_notation.specs.declared.notation.TypeNotation.TheOpen.{ComponentNotation-F}
+use Rattle.asn_notation.specs.declared.notation.TypeNotation.TheFolds.{fold-TypeNotation, fold-AlternativeNotation}
+use Rattle.asn_notation.specs.declared.notation.TypeNotation.TheFolds.{fold-ComponentNotation}
 use Rattle.asn_notation.specs.declared.notation.AlternativeNotation.{AlternativeNotation}
 use Rattle.asn_notation.specs.declared.notation.ComponentNotation.{ComponentNotation}
 use Rattle.asn_notation.specs.declared.notation.AssignmentNotation.{AssignmentNotation}
@@ -124,11 +126,14 @@ type_step TypeNotation-F.Boolean = boolean
 type_step TypeNotation-F.Null = null
 type_step TypeNotation-F.Utf8 = utf8
 type_step (TypeNotation-F.Integer r) = integer r
-type_step (TypeNotation-F.Enumerated root more) = enumerated (items_view root.items) (option_map (λ v. items_view v.items) more)
+type_step (TypeNotation-F.Enumerated root more) =
+    enumerated (items_view root.items) (option_map (λ v. items_view v.items) more)
 type_step (TypeNotation-F.Text k s) = text k s
-type_step (TypeNotation-F.Sequence root more) = sequence (components_of root.items) (more_of (option_map (λ v. v.items) more))
+type_step (TypeNotation-F.Sequence root more) =
+    sequence (components_of root.items) (more_of (option_map (λ v. v.items) more))
 type_step (TypeNotation-F.SequenceOf s b) = sequence_of s b.value
-type_step (TypeNotation-F.Choice root more) = choice (alternatives_of root.items) (more_alternatives_of (option_map (λ v. v.items) more))
+type_step (TypeNotation-F.Choice root more) =
+    choice (alternatives_of root.items) (more_alternatives_of (option_map (λ v. v.items) more))
 type_step (TypeNotation-F.Reference n c left) = reference n.now c
 
 abbrev pub branch_step : AlternativeNotation-F Tree Branch Part → Branch

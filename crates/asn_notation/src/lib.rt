@@ -13,6 +13,7 @@ mod parts;
 mod token;
 mod types;
 
+pub use constraints::constraint_at;
 pub use fault::SyntaxFault;
 pub use laws::{lines_are_read_again, one_module, tokens_are_read_again, words_are_whole};
 pub use lexer::{first_token, skip_blank};

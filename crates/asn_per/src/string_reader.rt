@@ -17,7 +17,7 @@ use asn_values::{Size, TextKind};
 use std::alloc::Global;
 
 /// Reads a BIT STRING (X.691, "encoding the bitstring type") into the vector, in place of the bits that it has.
-#[inline(always)]
+#[inline(never)]
 pub(crate) fn read_bits(
     size: &Size,
     bits: &mut Vec<bool>,
@@ -70,7 +70,7 @@ pub(crate) fn read_octets(
 }
 
 /// Reads a string (X.691, "encoding the restricted character string types") into the vector, in place of what it has.
-#[inline(always)]
+#[inline(never)]
 pub(crate) fn read_characters(
     kind: TextKind,
     size: &Size,

@@ -107,6 +107,24 @@ impl<'a> BitCursor<'a> {
         self.peek_across(k)
     }
 
+    /// As `peek_number`, and quicker where the bits stand in the next octet and fewer than eight octets are left, as
+    /// those of a presence bitmap or a BOOLEAN often do.
+    #[inline(always)]
+    pub fn peek_short_number(&self, k: u32) -> Option<u64>
+        requires { k ≤ 64 }
+        ensures fits { IfSome result (λ n. n < 2 ^ k) }
+        ensures some { IfSome result (λ n. self.now ≡ bits k n ++ drop k self.now) }
+        ensures none { IsNone result ↔ (length self.now < k) }
+    {
+        if let Some(n) = number_in_word(self.octets, self.offset, k) {
+            return Some(n);
+        }
+        if let Some(n) = number_in_octet(self.octets, self.offset, k) {
+            return Some(n);
+        }
+        self.peek_across(k)
+    }
+
     // the same, where the bits do not all stand in the first eight octets
     #[inline(never)]
     fn peek_across(&self, k: u32) -> Option<u64>
@@ -227,6 +245,7 @@ fn number_in_octet(octets: &[u8], offset: u32, k: u32) -> Option<u64>
     requires begun { offset < 8 }
     requires few { k ≤ 64 }
     ensures fits { IfSome result (λ n. n < 2 ^ k) }
+    ensures there { IfSome result (λ n. offset + k ≤ 8 * length octets.now) }
     ensures here { IfSome result (λ n.
         drop offset (unpacked octets.now) ≡ bits k n ++ drop (offset + k) (unpacked octets.now)) }
 {

@@ -1,10 +1,9 @@
 -- Characters in a row, an octet each: where octets that were taken are characters of the kind, where they are too few,
 -- and the first that is none.
-use Rattle.std.proofs.Common.{◌≡◌, ◌<◌, ◌≤◌, ◌+◌, ◌-◌, ℕ, suc, true, false, List, [], ◌∷◌, ◌++◌, length, length-append, take, drop, replicate, get_or, refl, sym, ap, ◌∙◌, subst, arith, append_assoc, IsTrue, ◌||◌, ◌&&◌, ◌==◌, not, Bool, nat_le}
+use Rattle.std.proofs.Common.{◌≡◌, ◌<◌, ◌≤◌, ◌+◌, ◌-◌, ℕ, suc, true, false, List, [], ◌∷◌, ◌++◌, length, length-append, take, drop, replicate, get_or, refl, sym, ap, ◌∙◌, subst, arith, append_assoc, IsTrue, ◌||◌, ◌&&◌, ◌==◌, Bool, nat_le}
 use Rattle.std.proofs.lemmas.Bool.{true≢false, eqb-true, ltb-true, leb-true, and_parts}
 use Rattle.std.proofs.lemmas.List.{length-replicate, length-take-le, take-append-drop, take_all, drop_more}
 use Rattle.std.specs.List.{AllByRecursion}
-use Rattle.asn_values.specs.Datum.{characters}
 use Rattle.asn_values.specs.Fits.{is_of_kind}
 use Rattle.asn_values.specs.Shape.{Alphabet, ia5, numeric, visible}
 use Rattle.asn_bits.specs.Sets.{InDigits}
@@ -27,7 +26,6 @@ use Rattle.asn_rules.proofs.Sets.{set_code, set_lawful}
 use Rattle.asn_rules.proofs.SomeValue.{character_fits, all_same}
 use Rattle.asn_rules.proofs.Spellings.{same_after, units_front, units_short, same_row, same_spelled, digits_spelled, row_spelled}
 use Rattle.asn_rules.proofs.OctetFields.{octet_fields_part}
-use Rattle.asn_bits.specs.Numbers.{octets}
 use Rattle.asn_rules.specs.Laws.{AreOctets}
 use Rattle.asn_rules.specs.OctetStrings.{Character, IsValidCount}
 

@@ -1,5 +1,5 @@
 -- Bytes that a writer holds, where they are known, as they grow.
-use Rattle.std.proofs.Common.{◌≡◌, ◌==◌, ◌&&◌, length, nat_lt, false, ◌+◌, ◌-◌, ◌^◌, ◌<◌, min, true, Result, arith, ℕ, List, [], ◌++◌, take, drop, ◌∙◌, ap, sym, refl, append_assoc, Some, None, Option}
+use Rattle.std.proofs.Common.{◌≡◌, ◌==◌, ◌&&◌, length, nat_lt, false, ◌+◌, ◌-◌, ◌^◌, ◌<◌, min, true, Result, arith, ℕ, List, [], ◌++◌, ◌∙◌, ap, refl, append_assoc, Some, None, Option}
 use Rattle.std.proofs.Common.{rules}
 use Rattle.std.proofs.lemmas.Grind.{common_steps}
 use Rattle.std.proofs.lemmas.Bool.Decides.{nat_tests}

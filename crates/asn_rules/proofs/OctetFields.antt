@@ -1,12 +1,8 @@
 -- A length and what it counts are a code, so sealed fields in octets are told by their units.
-use Rattle.std.proofs.Common.{◌≡◌, ◌≤◌, ◌<◌, ◌+◌, ◌^◌, ◌⊎◌, ℕ, Bool, true, false, List, [], ◌∷◌, ◌++◌, length, inl, inr, refl, sym, ◌∙◌, ap, subst, arith, append_assoc, nat_lt, length-append}
-use Rattle.std.proofs.lemmas.Bool.{ltb-true, ltb-false}
-use Rattle.asn_bits.specs.Numbers.{octets, octet_count}
+use Rattle.std.proofs.Common.{◌≡◌, ◌<◌, ℕ, Bool, true, false, List, ◌++◌, length, refl, sym, ◌∙◌, ap, arith, append_assoc, nat_lt, length-append}
 use Rattle.asn_bits.specs.Lengths.{octet_length}
 use Rattle.asn_bits.proofs.Codes.{equal_fronts}
 use Rattle.asn_bits.proofs.LengthsInOctets.{length_code}
-use Rattle.asn_bits.proofs.Digits.{digits_code}
-use Rattle.asn_bits.proofs.Octets.{octet_count_fits}
 use Rattle.asn_rules.specs.Fields.{spelled, octet_fields}
 use Rattle.asn_rules.proofs.Chunks.{FieldsPart}
 use Rattle.asn_rules.proofs.PartingFields.{fields_part}

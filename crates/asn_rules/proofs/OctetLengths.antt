@@ -17,7 +17,6 @@ use Rattle.asn_rules.proofs.Chunks.{ones-append}
 use Rattle.asn_rules.proofs.Then.{Follows, then_lawful}
 use Rattle.asn_rules.proofs.Parts.{nothing_lawful, plain_inhabited}
 use Rattle.asn_rules.proofs.Forks.{map_lawful_on}
-use Rattle.asn_bits.proofs.Weights.{digits_only}
 use Rattle.asn_bits.proofs.Unions.{set_spelt}
 use Rattle.asn_rules.proofs.Sets.{set_lawful}
 use Rattle.asn_rules.proofs.Rows.{row_inhabited}

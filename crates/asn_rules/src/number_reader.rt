@@ -63,7 +63,7 @@ pub fn read_number(k: u32, set: NumberSet, why: Why, bits: &mut BitCursor<'_>) -
     ensures member { IfOk result (λ n. Admits set n) }
     ensures stop { StopsPlain (NumberIn k set) result bits.old }
 {
-    match try_number(k, set, bits) {
+    match try_short_number(k, set, bits) {
         Some(n) => Ok(n),
         None => read_set_by_bits(k, set, why, bits),
     }
@@ -135,6 +135,22 @@ pub fn try_number(k: u32, set: NumberSet, bits: &mut BitCursor<'_>) -> Option<u6
     ensures unchanged { IsNone result → bits.new ≡ bits.old }
 {
     let n = bits.peek_number(k)?;
+    if admits(set, n) {
+        bits.pass(k);
+        return Some(n);
+    }
+    None
+}
+
+/// As `try_number`, and quicker where the bits stand in the next octet and few octets are left.
+#[inline(always)]
+fn try_short_number(k: u32, set: NumberSet, bits: &mut BitCursor<'_>) -> Option<u64>
+    requires { k ≤ 64 }
+    ensures some { IfSome result (λ n. StandsFirst k (λ m. Admits set m) n bits.old bits.new) }
+    ensures none { IsNone result → NoneStandsFirst k set bits.old }
+    ensures unchanged { IsNone result → bits.new ≡ bits.old }
+{
+    let n = bits.peek_short_number(k)?;
     if admits(set, n) {
         bits.pass(k);
         return Some(n);

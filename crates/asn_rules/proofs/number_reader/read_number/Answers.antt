@@ -1,6 +1,5 @@
 use Rattle.std.proofs.Common.{refl}
 use Rattle.asn_bits.proofs.Prefixes.{first_bits}
-use Rattle.std.proofs.lemmas.Result.{IfOk-weaker, IfErr-weaker}
 use Rattle.asn_rules.proofs.Sets.{first_spells}
 use Rattle.asn_rules.proofs.number_reader.read_number.Goals as goal
 

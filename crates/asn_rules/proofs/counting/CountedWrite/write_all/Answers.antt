@@ -1,6 +1,6 @@
-use Rattle.std.proofs.Common.{rules, ◌≡◌, true, OnOk, OnErr, ℕ, ◌+◌, ◌-◌, ◌<◌, ◌≤◌, length, List, [], ◌++◌, take, drop, ap, refl, sym, ◌∙◌, append_assoc, take-append-drop, Ok, nat_lt, nat_eq, Bool, ◌&&◌}
-use Rattle.std.specs.Io.KnownBytes.{Appends, WriteAppends}
-use Rattle.asn_rules.specs.Faults.{inner_of, faults_of, count_after, write_failed, failed, Rose, IsBeginning}
+use Rattle.std.proofs.Common.{rules, ◌≡◌, ◌<◌, length, ◌++◌, take, ap, refl, ◌∙◌, append_assoc, take-append-drop, Ok}
+use Rattle.std.specs.Io.KnownBytes.{Appends}
+use Rattle.asn_rules.specs.Faults.{inner_of, faults_of, count_after, write_failed}
 use Rattle.asn_rules.proofs.Known.{rose_after, appends_twice, failed_at_none, same_at_some}
 use Rattle.asn_rules.proofs.counting.CountedWrite.write_all.Goals as goal
 

@@ -9,13 +9,13 @@ ghost use Rattle.asn_rules.specs.Listed.{Listed, bitmap_length};
 ghost use Rattle.asn_walk.specs.Coding.{OpenListed, AdditionsOf};
 ghost use Rattle.asn_walk.specs.Reading.{Reads, StopsAt, EntryOf, ReadsRoot, StopsInRoot};
 
-use crate::entries::{make_present, set_absent, set_integer};
+use crate::entries::{make_present, read_other_into, set_absent, set_integer};
 use crate::reader::{read_into, read_open_into};
 use asn_bits::BitCursor;
 use asn_rules::internal::Stop;
 use asn_values::{Field, Need, Value};
 use asn_walk::{PresenceBits, ReadLeaves, bitmap_width};
-use asn_walk_read::try_bounded;
+use asn_walk_read::{try_bounded, try_integer};
 use std::alloc::Global;
 
 /// Reads the root of a SEQUENCE: what stands before its components, and these. Gives the extension bit.
@@ -51,6 +51,7 @@ pub(crate) fn read_root_into<R: ReadLeaves>(
 
 /// Reads the components of a root that the presence bits tell, in order, each into its entry. A component with a
 /// DEFAULT that is absent has that value.
+#[inline(always)]
 #[cycle(reader)]
 fn read_components_into<R: ReadLeaves>(
     alloc: Global,
@@ -88,6 +89,7 @@ fn read_components_into<R: ReadLeaves>(
 }
 
 /// Reads the entry of a component, of which `present` says whether it is there.
+#[inline(always)]
 #[cycle(reader)]
 fn read_entry_into<R: ReadLeaves>(
     alloc: Global,
@@ -111,10 +113,15 @@ fn read_entry_into<R: ReadLeaves>(
     }
     match &field.need {
         Need::Default(default) => {
-            *entry = Some(R::read_other(&field.ty, default, units)?);
-            Ok(())
+            make_present(entry);
+            let Some(value) = entry else { unreachable!() };
+            read_other_into::<R>(&field.ty, default, units, value)
         }
         Need::Must | Need::Optional => {
+            if let Some(number) = try_integer::<R>(&field.ty, units) {
+                set_integer(entry, number);
+                return Ok(());
+            }
             make_present(entry);
             let Some(value) = entry else { unreachable!() };
             read_into::<R>(alloc, &field.ty, units, value)

@@ -1,13 +1,13 @@
 //! Entries of a SEQUENCE that are overwritten without reading, and values that are read anew.
-ghost use Rattle.std.specs.Prelude.{◌≡◌, ◌≤◌, ◌<◌, OnOk, IfErr, IfOk, Some, IsSome, length, take, vec_len};
+ghost use Rattle.std.specs.Prelude.{◌≡◌, ◌≤◌, ◌<◌, true, OnOk, IfErr, IfOk, Some, IsSome, length, take, vec_len};
 ghost use Rattle.std.specs.Option.{option_map};
 ghost use Rattle.asn_values.specs.Datum.{number};
 ghost use Rattle.asn_values.specs.Parts.{IsGoodDemand};
-ghost use Rattle.asn_values.specs.Profile.{InProfile};
+ghost use Rattle.asn_values.specs.Profile.{InProfile, good_default};
 ghost use Rattle.asn_values.specs.View.{shape_of, datum_of, part_of_field, fields_seen, entries_seen};
 ghost use Rattle.asn_rules.specs.Listed.{default_of};
 ghost use Rattle.asn_walk.specs.Coding.{absent_entries};
-ghost use Rattle.asn_walk.specs.Reading.{ReadsValue, StopsAt, ValuesOf};
+ghost use Rattle.asn_walk.specs.Reading.{Reads, ReadsValue, StopsAt, ValuesOf, OthersOf};
 
 use asn_bits::BitCursor;
 use asn_rules::internal::Stop;
@@ -35,6 +35,27 @@ pub(crate) fn read_anew<R: ReadLeaves>(
     Ok(())
 }
 
+/// Reads a value of the type of a component with this DEFAULT, which it is not, in place of the one that is there.
+#[inline(never)]
+pub(crate) fn read_other_into<R: ReadLeaves>(
+    ty: &AsnType,
+    default: &Value,
+    units: &mut BitCursor<'_>,
+    slot: &mut Value,
+) -> Result<(), Stop>
+    requires at_unit { R.rules.at_unit units.old }
+    requires of_profile { InProfile (shape_of ty.now) }
+    requires good { good_default (shape_of ty.now) (datum_of default.now) ≡ true }
+    ensures at_unit { OnOk result (R.rules.at_unit units.new) }
+    ensures done { OnOk result (Reads R.rules (OthersOf R.rules (datum_of default.now) (shape_of ty.now))
+        (datum_of slot.new) units.old units.new) }
+    ensures stop { IfErr result (λ why.
+        StopsAt R.rules (OthersOf R.rules (datum_of default.now) (shape_of ty.now)) units.old why) }
+{
+    *slot = R::read_other(ty, default, units)?;
+    Ok(())
+}
+
 /// The entry becomes an INTEGER.
 #[inline(always)]
 pub(crate) fn set_integer(entry: &mut Option<Value>, whole: i128)
@@ -56,8 +77,23 @@ fn replace_by_integer(entry: &mut Option<Value>, whole: i128)
 }
 
 /// The entry becomes that of a component that is absent: its DEFAULT, where it has one.
-#[inline(never)]
+#[inline(always)]
 pub(crate) fn set_absent(field: &Field, entry: &mut Option<Value>)
+    requires { IsGoodDemand (part_of_field field.now).demand (part_of_field field.now).shape }
+    ensures { option_map datum_of entry.new ≡ default_of (part_of_field field.now).demand }
+{
+    if entry.is_none() {
+        match &field.need {
+            Need::Must | Need::Optional => return,
+            Need::Default(_) => {}
+        }
+    }
+    replace_by_absent(field, entry);
+}
+
+/// The entry becomes that of a component that is absent, where it was another.
+#[inline(never)]
+fn replace_by_absent(field: &Field, entry: &mut Option<Value>)
     requires { IsGoodDemand (part_of_field field.now).demand (part_of_field field.now).shape }
     ensures { option_map datum_of entry.new ≡ default_of (part_of_field field.now).demand }
 {

@@ -8,6 +8,6 @@ mod components;
 mod message_reader;
 mod reader;
 
-pub use components::{absent, try_bounded};
+pub use components::{absent, try_bounded, try_integer};
 pub use message_reader::read_message;
 pub use reader::{added_count, read, read_complete};

@@ -131,37 +131,51 @@ components::read_entry_into-returns-then-not-present-clause-done g t c =
     let e : c.args.present ≡ false = c.if-not-present.true in
     rw (e, c.set_absent.ensures) (nothing_read g.R.ReadLeaves.rules.ruling.fielding (default_of (part_of_field c.args.field.now).demand) (g.R.ReadLeaves.rules.to_units c.args.units.now))
 
-pub components::read_entry_into-returns-in_err-read_other-in-Default-clause-stop : goal.components::read_entry_into-returns-in_err-read_other-in-Default-clause-stop
-components::read_entry_into-returns-in_err-read_other-in-Default-clause-stop g t c =
+pub components::read_entry_into-returns-in-Some-clause-done : goal.components::read_entry_into-returns-in-Some-clause-done
+components::read_entry_into-returns-in-Some-clause-done g t c =
     let e : c.args.present ≡ true = c.if-not-present.false in
     let d : default_of (part_of_field c.args.field.now).demand ≡ Some (datum_of c.in-Default.default) = ap default_of (demand_of_part c.args.field.now ∙ ap demand_of c.in-Default.is) in
-    let p = err_from_is_err_and c.from_residual.result c.from_residual.ensures.1 in
-    rw (p.1, p.2) (stops_by _ (entry_leads g.R.ReadLeaves.rules c.args.field.now c.args.present _ (g.R.ReadLeaves.rules.to_units c.args.units.now) e d).stops c.in_err-read_other-in-Default.ensures.stop)
+    let lead = entry_leads g.R.ReadLeaves.rules c.args.field.now c.args.present _ (g.R.ReadLeaves.rules.to_units c.args.units.now) e d in
+    IfOk-weaker c.read_other_into.result _ _ (λ _ s. lead.done (datum_of c.read_other_into.new.slot) (g.R.ReadLeaves.rules.to_units c.read_other_into.new.units) s) c.read_other_into.ensures.done
 
-pub components::read_entry_into-returns-in_ok-read_other-in-Default-clause-done : goal.components::read_entry_into-returns-in_ok-read_other-in-Default-clause-done
-components::read_entry_into-returns-in_ok-read_other-in-Default-clause-done g t c =
+pub components::read_entry_into-returns-in-Some-clause-stop : goal.components::read_entry_into-returns-in-Some-clause-stop
+components::read_entry_into-returns-in-Some-clause-stop g t c =
     let e : c.args.present ≡ true = c.if-not-present.false in
     let d : default_of (part_of_field c.args.field.now).demand ≡ Some (datum_of c.in-Default.default) = ap default_of (demand_of_part c.args.field.now ∙ ap demand_of c.in-Default.is) in
-    (entry_leads g.R.ReadLeaves.rules c.args.field.now c.args.present _ (g.R.ReadLeaves.rules.to_units c.args.units.now) e d).done (datum_of c.in_ok-read_other-in-Default.field-0) (g.R.ReadLeaves.rules.to_units c.read_other.new.units) c.in_ok-read_other-in-Default.ensures.done
+    let lead = entry_leads g.R.ReadLeaves.rules c.args.field.now c.args.present _ (g.R.ReadLeaves.rules.to_units c.args.units.now) e d in
+    IfErr-weaker c.read_other_into.result _ _ (λ why s. stops_by why lead.stops s) c.read_other_into.ensures.stop
 
 -- a component without a DEFAULT
 no_default : (need : Need) → (need ≡ needs.Must) ⊎ (need ≡ needs.Optional) → default_of (demand_of need) ≡ None
 no_default need (inl e) = ap (λ n. default_of (demand_of n)) e
 no_default need (inr e) = ap (λ n. default_of (demand_of n)) e
 
-pub components::read_entry_into-returns-in-Some-clause-done : goal.components::read_entry_into-returns-in-Some-clause-done
-components::read_entry_into-returns-in-Some-clause-done g t c =
+pub components::read_entry_into-returns-in-Some-try_integer-clause-done : goal.components::read_entry_into-returns-in-Some-try_integer-clause-done
+components::read_entry_into-returns-in-Some-try_integer-clause-done g t c =
     let e : c.args.present ≡ true = c.if-not-present.false in
     let d : default_of (part_of_field c.args.field.now).demand ≡ None = ap default_of (demand_of_part c.args.field.now) ∙ no_default c.args.field.now.need c.in-Must.is in
     let lead = entry_leads g.R.ReadLeaves.rules c.args.field.now c.args.present None (g.R.ReadLeaves.rules.to_units c.args.units.now) e d in
-    IfOk-weaker c.read_into.result _ _ (λ _ s. lead.done (datum_of c.read_into.new.slot) (g.R.ReadLeaves.rules.to_units c.read_into.new.units) s) c.read_into.ensures.done
+    let z = c.in-Some-try_integer.number in
+    let whole = c.in-Some-try_integer.ensures.of_integers in
+    let same : to_z w128 (of_z w128 z) ≡ z = kept z whole.0 whole.1 in
+    let set : option_map datum_of c.set_integer.new.entry ≡ Some (number z) = rw same at c.set_integer.ensures in
+    rw set (lead.done (number z) (g.R.ReadLeaves.rules.to_units c.try_integer.new.units) c.in-Some-try_integer.ensures.some)
 
-pub components::read_entry_into-returns-in-Some-clause-stop : goal.components::read_entry_into-returns-in-Some-clause-stop
-components::read_entry_into-returns-in-Some-clause-stop g t c =
+pub components::read_entry_into-returns-in-Some-entry-clause-done : goal.components::read_entry_into-returns-in-Some-entry-clause-done
+components::read_entry_into-returns-in-Some-entry-clause-done g t c =
     let e : c.args.present ≡ true = c.if-not-present.false in
     let d : default_of (part_of_field c.args.field.now).demand ≡ None = ap default_of (demand_of_part c.args.field.now) ∙ no_default c.args.field.now.need c.in-Must.is in
     let lead = entry_leads g.R.ReadLeaves.rules c.args.field.now c.args.present None (g.R.ReadLeaves.rules.to_units c.args.units.now) e d in
-    IfErr-weaker c.read_into.result _ _ (λ why s. stops_by why lead.stops s) c.read_into.ensures.stop
+    let still : c.try_integer.new.units ≡ c.args.units.now = c.in_default-try_integer.ensures.none refl in
+    IfOk-weaker c.read_into.result _ _ (λ _ s. lead.done (datum_of c.read_into.new.slot) (g.R.ReadLeaves.rules.to_units c.read_into.new.units) s) (rw still at c.read_into.ensures.done)
+
+pub components::read_entry_into-returns-in-Some-entry-clause-stop : goal.components::read_entry_into-returns-in-Some-entry-clause-stop
+components::read_entry_into-returns-in-Some-entry-clause-stop g t c =
+    let e : c.args.present ≡ true = c.if-not-present.false in
+    let d : default_of (part_of_field c.args.field.now).demand ≡ None = ap default_of (demand_of_part c.args.field.now) ∙ no_default c.args.field.now.need c.in-Must.is in
+    let lead = entry_leads g.R.ReadLeaves.rules c.args.field.now c.args.present None (g.R.ReadLeaves.rules.to_units c.args.units.now) e d in
+    let still : c.try_integer.new.units ≡ c.args.units.now = c.in_default-try_integer.ensures.none refl in
+    IfErr-weaker c.read_into.result _ _ (λ why s. stops_by why lead.stops s) (rw still at c.read_into.ensures.stop)
 
 pub reader::read_complete_into-returns-in_err-read_into-clause-stop : goal.reader::read_complete_into-returns-in_err-read_into-clause-stop
 reader::read_complete_into-returns-in_err-read_into-clause-stop g t c =

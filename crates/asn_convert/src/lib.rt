@@ -6,7 +6,7 @@ mod by_name;
 mod conversion;
 mod cut;
 mod job;
-mod laws;
+pub mod laws;
 mod reading;
 mod running;
 mod texts;
@@ -14,7 +14,6 @@ mod texts;
 pub use by_name::run;
 pub use conversion::{ConvertFault, convert};
 pub use job::{Job, Order, RuleName, RunFault, Status};
-pub use laws::conversion_turns_back;
 
 #[cfg(test)]
 mod tests;

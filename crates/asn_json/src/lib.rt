@@ -2,7 +2,7 @@
 #![tactic(auto)]
 
 mod fault;
-mod laws;
+pub mod laws;
 mod leaf_readers;
 mod leaves;
 mod names;
@@ -11,6 +11,5 @@ mod read;
 mod write;
 
 pub use fault::JsonFault;
-pub use laws::written_is_read_back;
 pub use read::from_json;
 pub use write::to_json;

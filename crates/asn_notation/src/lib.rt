@@ -4,7 +4,7 @@
 mod constraints;
 mod enumerations;
 mod fault;
-mod laws;
+pub mod laws;
 mod lexer;
 mod modules;
 mod nesting;
@@ -15,7 +15,6 @@ mod types;
 
 pub use constraints::constraint_at;
 pub use fault::SyntaxFault;
-pub use laws::{lines_are_read_again, one_module, tokens_are_read_again, words_are_whole};
 pub use lexer::{first_token, skip_blank};
 pub use modules::read_notation;
 pub use notation::{

@@ -4,7 +4,9 @@
 mod bitmaps;
 mod halt;
 mod laws;
+mod reader;
 
 pub use bitmaps::read_any_bitmap;
 pub use halt::Halt;
+pub use reader::{Newer, NewerFault, ReadNewer, SkippedField};
 pub use laws::{OtherVersions, version_laws};

@@ -2,15 +2,16 @@
 #![tactic(auto)]
 
 mod bit_rows;
-pub mod cursor;
-pub mod general_length;
-pub mod intervals;
-pub mod lengths;
-pub mod number_field;
-pub mod numbers;
-pub mod offsets;
+mod cursor;
+mod general_length;
+pub mod internal;
+mod intervals;
+mod lengths;
+mod number_field;
+mod numbers;
+mod offsets;
 mod shifts;
-pub mod sink;
+mod sink;
 mod words;
 
 pub use cursor::BitCursor;

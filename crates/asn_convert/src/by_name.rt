@@ -8,7 +8,7 @@ use crate::job::{Job, RuleName, RunFault, Status};
 use crate::running::run_with;
 use asn_oer::Oer;
 use asn_per::Per;
-use asn_rules::counting::Counted;
+use asn_rules::Counted;
 use std::alloc::Global;
 use std::io::{Read, Write};
 

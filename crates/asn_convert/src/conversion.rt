@@ -3,7 +3,8 @@ ghost use Rattle.std.specs.Prelude.{ℕ, List};
 ghost use Rattle.asn_values.specs.View.{shape_of};
 ghost use Rattle.asn_convert.specs.Converted.{Converts, Converted, GivesUnlessMemory};
 
-use asn_rules::{DecodeFault, EncodeFault, Rules, are_octets, decode};
+use asn_rules::laws::are_octets;
+use asn_rules::{DecodeFault, EncodeFault, Rules, decode};
 use asn_values::Checked;
 use std::alloc::Global;
 use thiserror::Error;

@@ -7,7 +7,7 @@ ghost use Rattle.asn_convert.specs.Answers.{AnswersNewer, skipped_texts};
 use crate::answers::json_text;
 use crate::texts::{Answer, newer_refusal};
 use asn_newer::{ReadNewer, SkippedField, version_laws};
-use asn_rules::are_octets;
+use asn_rules::laws::are_octets;
 use asn_values::Checked;
 use std::alloc::{AllocError, Global};
 

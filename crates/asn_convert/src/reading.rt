@@ -4,7 +4,7 @@ ghost use Rattle.asn_rules.specs.Faults.{inner_of, faults_of, Rose};
 ghost use Rattle.asn_convert.specs.Text.{IsGiven, IsReadFault};
 
 use crate::job::RunFault;
-use asn_rules::counting::Counted;
+use asn_rules::Counted;
 use std::alloc::Global;
 use std::io::Read;
 

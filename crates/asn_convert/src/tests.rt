@@ -2,8 +2,7 @@
 use crate::texts::{decode_refusal, newer_refusal};
 use crate::{Job, Order, RuleName, RunFault, Status, run};
 use asn_newer::NewerFault;
-use asn_rules::DecodeFault;
-use asn_rules::counting::Counted;
+use asn_rules::{Counted, DecodeFault};
 use std::alloc::{AllocError, Global};
 use std::io;
 use std::io::{Read, Write};

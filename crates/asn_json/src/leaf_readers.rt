@@ -9,7 +9,8 @@ ghost use Rattle.asn_json.specs.Shown.{truth_in, nothing_in, number_in, item_in,
 
 use crate::leaves::INTEGERS;
 use crate::names::item_index;
-use asn_values::{Item, Value, is_between};
+use asn_values::internal::is_between;
+use asn_values::{Item, Value};
 use hex::FromHexError;
 use serde_json::Value as Json;
 use std::alloc::{AllocError, Global};

@@ -8,8 +8,9 @@ ghost use Rattle.asn_values.specs.Shape.{more_labels};
 ghost use Rattle.asn_values.specs.View.{more_labels_of, labels_seen};
 ghost use Rattle.asn_json.specs.Written.{integers, json_number, json_name, json_item, json_bits, json_octets, json_characters, label_names};
 
+use asn_values::internal::is_between;
 use asn_values::profile::{HIGHEST_INTEGER, LOWEST_INTEGER};
-use asn_values::{Bounds, Item, is_between};
+use asn_values::{Bounds, Item};
 use serde_json::Value as Json;
 use std::alloc::{AllocError, Global};
 

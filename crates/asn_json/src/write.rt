@@ -9,7 +9,8 @@ use crate::fault::JsonFault;
 use crate::leaves::{
     bits_json, characters_json, item_json, number_json, octets_json, unknown_item_json,
 };
-use asn_values::{Alt, AsnType, Checked, Field, Value, fits_received};
+use asn_values::internal::fits_received;
+use asn_values::{Alt, AsnType, Checked, Field, Value};
 use serde_json::{Map, Value as Json};
 use std::alloc::{AllocError, Global};
 

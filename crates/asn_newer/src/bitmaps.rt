@@ -7,7 +7,7 @@ ghost use Rattle.asn_newer.specs.Bitmaps.{bitmap_seen, NotOfCount};
 
 use crate::halt::Halt;
 use asn_bits::BitCursor;
-use asn_rules::Stop;
+use asn_rules::internal::Stop;
 use asn_walk::{PresenceBits, ReadLeaves};
 use std::alloc::AllocError;
 

@@ -3,7 +3,7 @@ ghost use Rattle.std.specs.Prelude.{◌≡◌};
 ghost use Rattle.asn_newer.specs.Halting.{halt_of};
 ghost use Rattle.asn_newer.specs.declared.halt.Halt.TheVariants.{Memory};
 
-use asn_rules::Stop;
+use asn_rules::internal::Stop;
 use std::alloc::{AllocError, AllocFailed};
 
 /// Why a reader gave no value.

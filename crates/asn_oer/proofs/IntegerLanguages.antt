@@ -19,7 +19,7 @@ use Rattle.asn_bits.specs.Sets.{Between, Among}
 use Rattle.asn_rules.specs.Forks.{Same}
 use Rattle.asn_rules.specs.Counted.{signed_number}
 use Rattle.asn_rules.specs.Spellings.{SpelledBy}
-use Rattle.asn_rules.proofs.Counted.{counted_octets, counted_signed_octets, residue_of, number_again}
+use Rattle.asn_rules.proofs.CountedCodes.{counted_octets, counted_signed_octets, residue_of, number_again}
 use Rattle.asn_rules.proofs.Spellings.{same_after, same_map, same_spelled, digits_spelled, map_spelled}
 use Rattle.asn_rules.proofs.IntegerSets.{AreNumbers, ordered, numbers_between, numbers_from}
 use Rattle.asn_oer.specs.Oer.{counted, counted_signed, unsigned_octets, unsigned_in, both_in, signed_size, signed_in, whole_number, oer}

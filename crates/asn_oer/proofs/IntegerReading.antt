@@ -28,7 +28,7 @@ use Rattle.asn_rules.specs.OffsetSets.{HasOffset, HasInteger, StandsFor}
 use Rattle.asn_rules.specs.Spellings.{SpelledBy}
 use Rattle.asn_rules.specs.declared.number_reader.NumberSet.{NumberSet}
 use Rattle.asn_rules.specs.declared.signed_reader.OffsetSet.{OffsetSet}
-use Rattle.asn_rules.proofs.Counted.{counted_octets, counted_signed_octets, residue_of, number_again}
+use Rattle.asn_rules.proofs.CountedCodes.{counted_octets, counted_signed_octets, residue_of, number_again}
 use Rattle.asn_rules.proofs.Leads.{Leads, leads_on, leads_map, leads_same}
 use Rattle.asn_rules.proofs.Spellings.{same_after, same_map, same_spelled, digits_spelled, map_spelled, spelled_inhabited}
 use Rattle.asn_rules.specs.OctetReading.{OctetsIn, CountedIn, CountedSignedIn, SignedOctetsIn}

@@ -15,7 +15,7 @@ use Rattle.asn_bits.specs.Sets.{InDigits}
 use Rattle.asn_rules.specs.Forks.{Same}
 use Rattle.asn_rules.specs.Counted.{SomeOf, signed_number, LeastSigned}
 use Rattle.asn_rules.specs.Spellings.{SpelledBy}
-use Rattle.asn_rules.proofs.Counted.{residue_of, number_again}
+use Rattle.asn_rules.proofs.CountedCodes.{residue_of, number_again}
 use Rattle.asn_rules.proofs.Entries.{le_z_antisymm}
 use Rattle.asn_rules.proofs.Items.{int_eq_refl, good_items, item_once}
 use Rattle.asn_rules.proofs.OctetLengths.{one_is}

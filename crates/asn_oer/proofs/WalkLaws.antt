@@ -23,7 +23,7 @@ use Rattle.asn_rules.specs.Padding.{Padded}
 use Rattle.asn_rules.specs.Parted.{Parted, SpellingsPart}
 use Rattle.asn_rules.specs.Reading.{Wholes, RulesTell}
 use Rattle.asn_rules.specs.Spellings.{SpelledBy}
-use Rattle.asn_rules.proofs.Counted.{counted_lawful}
+use Rattle.asn_rules.proofs.CountedCodes.{counted_lawful}
 use Rattle.asn_rules.proofs.Forks.{map_lawful_on, map_map}
 use Rattle.asn_rules.proofs.Parts.{map_lawful}
 use Rattle.asn_rules.proofs.Spellings.{spelled_lawful, same_after, same_map, same_then, same_row, same_spelled, padded_spelled}

@@ -13,10 +13,10 @@ ghost use Rattle.asn_walk.specs.Items.{enumeration_of, items_of};
 ghost use Rattle.asn_oer.specs.LeafReading.{ItemsBut, ItemBegins};
 ghost use Rattle.asn_oer.specs.Oer.{oer_octets, item_number};
 
-use asn_bits::numbers::{signed_octet_count, signed_residue};
+use asn_bits::internal::{signed_octet_count, signed_residue};
 use asn_bits::{BitCursor, BitSink};
-use asn_rules::octet_reader::octets_left;
-use asn_rules::{Stop, Why};
+use asn_rules::Why;
+use asn_rules::internal::{Stop, octets_left};
 use asn_values::Item;
 use asn_walk::items::{item_count, number_at};
 use std::alloc::AllocError;

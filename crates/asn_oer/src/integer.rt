@@ -16,12 +16,16 @@ ghost use Rattle.asn_walk.specs.Writing.{TellsWhether};
 ghost use Rattle.asn_oer.specs.Oer.{unsigned_octets, signed_size, oer, oer_octets, ranged};
 ghost use Rattle.asn_oer.specs.Reading.{IntegersBut, IsBelowZero};
 
-use asn_bits::numbers::signed_residue;
-use asn_bits::offsets::at_offset;
+use asn_bits::internal::{at_offset, signed_residue};
 use asn_bits::{BitCursor, BitSink};
-use asn_rules::octet_reader::{read_counted, read_counted_signed, read_octets, read_signed_octets};
-use asn_rules::{EncodeFault, LOWEST_INTEGER, Stop, Why, numbers_of, offsets_of};
-use asn_values::{Bounds, number_fits};
+use asn_rules::internal::{
+    Stop, numbers_of, offsets_of, read_counted, read_counted_signed, read_octets,
+    read_signed_octets,
+};
+use asn_rules::{EncodeFault, Why};
+use asn_values::Bounds;
+use asn_values::internal::number_fits;
+use asn_values::profile::LOWEST_INTEGER;
 use std::alloc::AllocError;
 
 /// How many octets hold the numbers from 0 to `high` (X.696, "encoding of integer types").

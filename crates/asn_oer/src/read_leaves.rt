@@ -17,11 +17,11 @@ use crate::integer::read_integer;
 use crate::rules::Oer;
 use crate::string_reader::{read_bit_string, read_octet_string, read_text, read_utf8_string};
 use asn_bits::{BitCursor, Intervals};
-use asn_rules::octet_reader::{
-    self, read_counted, read_filled, read_length, read_octets, read_octets_among,
+use asn_rules::internal::{
+    self, NumberSet, Stop, read_counted, read_filled, read_length, read_octets, read_octets_among,
     read_octets_with_length,
 };
-use asn_rules::{MAX_OCTETS, NumberSet, Stop, Why};
+use asn_rules::{MAX_OCTETS, Why};
 use asn_values::{AsnType, Size, Value};
 use asn_walk::sizes::counts_of;
 use asn_walk::{Index, Preamble, ReadLeaves};
@@ -46,12 +46,12 @@ impl ReadLeaves for Oer {
 
     #[inline(always)]
     fn units_left(units: &BitCursor<'_>) -> u128 {
-        octet_reader::octets_left(units) as u128
+        internal::octets_left(units) as u128
     }
 
     #[inline(always)]
     fn octets_left(units: &BitCursor<'_>) -> usize {
-        octet_reader::octets_left(units)
+        internal::octets_left(units)
     }
 
     #[inline(always)]

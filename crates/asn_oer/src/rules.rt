@@ -5,10 +5,8 @@ ghost use Rattle.asn_rules.specs.Codec.{Decoded};
 ghost use Rattle.asn_rules.specs.Rereading.{Keeps};
 ghost use Rattle.asn_oer.specs.Rules.{oer_ruling};
 
-use asn_rules::{
-    DecodeFault, EncodeFault, FeedFault, OpenFault, Reads, Rereading, Rules, Step, Truncated,
-    is_value_of_none, rereading,
-};
+use asn_rules::internal::{self, Reads, Rereading, is_value_of_none};
+use asn_rules::{DecodeFault, EncodeFault, FeedFault, OpenFault, Rules, Step, Truncated};
 use asn_values::{Checked, Value};
 use std::alloc::{AllocError, Global};
 
@@ -52,15 +50,15 @@ impl Rules for Oer {
     }
 
     fn open(alloc: Global, ty: Checked) -> Result<Rereading, OpenFault> {
-        rereading::open::<Oer>(alloc, ty)
+        internal::open::<Oer>(alloc, ty)
     }
 
     fn feed(session: &mut Rereading, piece: &[u8]) -> Result<Step, FeedFault> {
-        rereading::feed::<Oer>(session, piece)
+        internal::feed::<Oer>(session, piece)
     }
 
     fn finish(session: Rereading) -> Result<(), Truncated> {
-        rereading::finish::<Oer>(session)
+        internal::finish::<Oer>(session)
     }
 
     fn keep_laws() {}

@@ -15,9 +15,11 @@ ghost use Rattle.asn_oer.specs.Strings.{Count, Utf8Strings};
 ghost use Rattle.asn_oer.specs.LeafReading.{BitStringsOf};
 
 use asn_bits::BitCursor;
-use asn_rules::octet_reader::{octets_left, read_length, read_octets_with_length, read_row};
-use asn_rules::octet_strings::{read_characters, read_packed, read_variable};
-use asn_rules::{MAX_OCTETS, Stop, Why};
+use asn_rules::internal::{
+    Stop, octets_left, read_characters, read_length, read_octets_with_length, read_packed,
+    read_row, read_variable,
+};
+use asn_rules::{MAX_OCTETS, Why};
 use asn_values::{Size, TextKind};
 use asn_walk::sizes::{counts_of, is_fixed};
 use std::alloc::Global;

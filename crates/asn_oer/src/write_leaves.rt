@@ -8,10 +8,9 @@ use crate::rules::Oer;
 use crate::writer::{write_bits, write_header, write_sized};
 use asn_bits::BitSink;
 use asn_rules::EncodeFault;
-use asn_rules::octet_writer::{write_content, write_filling};
-use asn_values::{
-    AsnType, Bounds, Size, Value, item_fits, length_fits, octets_fit, text_fits, unicode_fits,
-};
+use asn_rules::internal::{write_content, write_filling};
+use asn_values::internal::{item_fits, length_fits, octets_fit, text_fits, unicode_fits};
+use asn_values::{AsnType, Bounds, Size, Value};
 use asn_walk::{Index, WriteLeaves};
 use std::alloc::AllocError;
 

@@ -8,7 +8,7 @@ ghost use Rattle.asn_oer.specs.BitsWritten.{bits_header};
 ghost use Rattle.asn_rules.specs.OctetsWritten.{Adds};
 
 use asn_bits::BitSink;
-use asn_rules::octet_writer::{unused_bits, write_content, write_filling, write_length};
+use asn_rules::internal::{unused_bits, write_content, write_filling, write_length};
 use asn_values::Size;
 use asn_walk::sizes::is_fixed;
 use std::alloc::AllocError;

@@ -9,9 +9,10 @@ ghost use Rattle.asn_walk.specs.Coding.{IsIndexWithin};
 ghost use Rattle.asn_walk.specs.Views.{index_seen};
 ghost use Rattle.asn_per.specs.Reading.{Reads, StopsAtMark, StopsIn};
 
-use asn_bits::numbers::width;
+use asn_bits::internal::width;
 use asn_bits::{BitCursor, BitSink};
-use asn_rules::{Stop, Why, bits_left, read_constrained, read_up_to};
+use asn_rules::Why;
+use asn_rules::internal::{Stop, bits_left, read_constrained, read_up_to};
 use asn_walk::Index;
 use std::alloc::AllocError;
 

@@ -17,13 +17,14 @@ ghost use Rattle.asn_per.specs.Reading.{low_offset, high_offset, Reads, StopsIn,
 ghost use Rattle.asn_walk.specs.Integers.{IsOfProfile};
 
 use asn_bits::BitCursor;
-use asn_bits::numbers::width;
-use asn_bits::offsets::{at_offset, offset_from};
-use asn_rules::{
-    HIGHEST_INTEGER, INTEGER_COUNT, LOWEST_INTEGER, NumberSet, OffsetSet, Stop, Why, offsets_of,
-    read_constrained, read_semi_constrained, read_unconstrained, try_number,
+use asn_bits::internal::{at_offset, offset_from, width};
+use asn_rules::Why;
+use asn_rules::internal::{
+    NumberSet, OffsetSet, Stop, offsets_of, read_constrained, read_semi_constrained,
+    read_unconstrained, try_number,
 };
 use asn_values::Bounds;
+use asn_values::profile::{HIGHEST_INTEGER, INTEGER_COUNT, LOWEST_INTEGER};
 
 /// Reads an integer of the range (X.691, "encoding the integer type"), but for `except`. With an extension mark the
 /// extension bit tells whether it lies outside the bounds.

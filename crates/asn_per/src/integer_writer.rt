@@ -11,10 +11,10 @@ ghost use Rattle.asn_per.specs.Per.{ranged};
 ghost use Rattle.asn_walk.specs.Writing.{TellsWhether};
 
 use asn_bits::BitSink;
-use asn_bits::numbers::width;
-use asn_bits::offsets::offset_from;
+use asn_bits::internal::{offset_from, width};
 use asn_rules::EncodeFault;
-use asn_values::{Bounds, is_between, number_fits};
+use asn_values::Bounds;
+use asn_values::internal::{is_between, number_fits};
 use std::alloc::AllocError;
 
 /// Writes a number, where it is one of the range (X.691, "encoding the integer type").

@@ -10,8 +10,8 @@ ghost use Rattle.asn_rules.specs.NumberSets.{Admits};
 ghost use Rattle.asn_per.specs.Reading.{Appends, code_width, codes_of, character_at, Reads, StopsIn, CharacterOf, code_in, AreCodes};
 
 use asn_bits::BitCursor;
-use asn_rules::bit_vectors::bit_at;
-use asn_rules::{NumberSet, Stop, Why, admits, bits_left, read_number};
+use asn_rules::Why;
+use asn_rules::internal::{NumberSet, Stop, admits, bit_at, bits_left, read_number};
 use asn_values::TextKind;
 use std::alloc::AllocError;
 

@@ -15,8 +15,10 @@ ghost use Rattle.asn_per.specs.Reading.{Reads, StopsIn, ItemsBut, MarkedItems};
 
 use crate::indexes::{read_index, write_index};
 use asn_bits::{BitCursor, BitSink};
-use asn_rules::{EncodeFault, Stop, read_constrained};
-use asn_values::{Item, Value, item_fits};
+use asn_rules::EncodeFault;
+use asn_rules::internal::{Stop, read_constrained};
+use asn_values::internal::item_fits;
+use asn_values::{Item, Value};
 use asn_walk::Index;
 use std::alloc::AllocError;
 

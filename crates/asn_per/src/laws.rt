@@ -8,6 +8,8 @@ ghost use Rattle.asn_per.specs.Per.{per, per_fields, per_octets, per_whole};
 ghost use Rattle.asn_per.specs.Rules.{per_ruling};
 ghost use Rattle.asn_per.specs.Laws.{per_bits, NoBitsIsExact};
 
+pub use crate::kinds::kinds_compose;
+
 /// A spelling tells its value and where it ends, whatever follows it.
 ///
 /// Two spellings at the front of one list of bits are one, of one value. Octets are the complete

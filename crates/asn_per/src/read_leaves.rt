@@ -13,8 +13,9 @@ use crate::simple_into::{
 use crate::size_reader::Fragments;
 use crate::string_reader::{read_bit_string, read_octet_string, read_text, read_utf8};
 use asn_bits::BitCursor;
-use asn_rules::{
-    NumberSet, Stop, Why, bits_left, greatest_of_width, read_number, read_padding, read_up_to,
+use asn_rules::Why;
+use asn_rules::internal::{
+    NumberSet, Stop, bits_left, greatest_of_width, read_number, read_padding, read_up_to,
 };
 use asn_values::{AsnType, Size, Value};
 use asn_walk::{Index, Preamble, ReadLeaves};

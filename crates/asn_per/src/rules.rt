@@ -6,10 +6,8 @@ ghost use Rattle.asn_rules.specs.Rereading.{Keeps};
 ghost use Rattle.asn_per.specs.Rules.{per_ruling};
 
 use crate::per::Per;
-use asn_rules::{
-    DecodeFault, EncodeFault, FeedFault, OpenFault, Reads, Rereading, Rules, Step, Truncated,
-    rereading,
-};
+use asn_rules::internal::{self, Reads, Rereading};
+use asn_rules::{DecodeFault, EncodeFault, FeedFault, OpenFault, Rules, Step, Truncated};
 use asn_values::{Checked, Value};
 use std::alloc::{AllocError, Global};
 
@@ -50,15 +48,15 @@ impl Rules for Per {
     }
 
     fn open(alloc: Global, ty: Checked) -> Result<Rereading, OpenFault> {
-        rereading::open::<Per>(alloc, ty)
+        internal::open::<Per>(alloc, ty)
     }
 
     fn feed(session: &mut Rereading, piece: &[u8]) -> Result<Step, FeedFault> {
-        rereading::feed::<Per>(session, piece)
+        internal::feed::<Per>(session, piece)
     }
 
     fn finish(session: Rereading) -> Result<(), Truncated> {
-        rereading::finish::<Per>(session)
+        internal::finish::<Per>(session)
     }
 
     fn keep_laws() {}

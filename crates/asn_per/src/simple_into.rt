@@ -14,7 +14,7 @@ use crate::integer_reader::{read_boolean, read_integer};
 use crate::items::read_item;
 use crate::string_reader::{fill_bits, fill_characters, fill_octets};
 use asn_bits::BitCursor;
-use asn_rules::Stop;
+use asn_rules::internal::Stop;
 use asn_values::{Bounds, Item, Size, TextKind, Value};
 use asn_walk::slots::{
     set_boolean, set_integer, set_item, take_bits, take_characters, take_octets,

@@ -9,9 +9,10 @@ ghost use Rattle.asn_per.specs.ListsAhead.{RootStart, Start, other_counts};
 ghost use Rattle.asn_per.specs.RowsAhead.{ahead_of, lengths_of, IsBetween};
 ghost use Rattle.asn_per.specs.Reading.{Reads, StopsIn};
 
-use asn_bits::numbers::width;
+use asn_bits::internal::width;
 use asn_bits::{BitCursor, Counts, Lengths};
-use asn_rules::{Stop, Why, read_next_length, read_up_to};
+use asn_rules::Why;
+use asn_rules::internal::{Stop, read_next_length, read_up_to};
 use asn_values::Size;
 use asn_values::profile::MAX_LEN;
 

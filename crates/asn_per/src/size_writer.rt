@@ -12,8 +12,9 @@ ghost use Rattle.asn_per.specs.Walk.{per_coding};
 ghost use Rattle.asn_walk.specs.Writing.{Advances};
 
 use asn_bits::BitSink;
-use asn_bits::numbers::width;
-use asn_values::{Size, is_in_size, profile};
+use asn_bits::internal::width;
+use asn_values::internal::is_in_size;
+use asn_values::{Size, profile};
 use std::alloc::AllocError;
 
 /// The least count of items in a fragment.

@@ -12,7 +12,8 @@ ghost use Rattle.asn_per.specs.Reading.{Reads, StopsIn, CharacterOf};
 use crate::item_reader::{append_bits, append_characters, append_octets};
 use crate::size_reader::Fragments;
 use asn_bits::BitCursor;
-use asn_rules::{Stop, Why, bits_left};
+use asn_rules::Why;
+use asn_rules::internal::{Stop, bits_left};
 use asn_values::{Size, TextKind};
 use std::alloc::Global;
 

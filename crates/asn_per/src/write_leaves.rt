@@ -10,9 +10,8 @@ use crate::per::Per;
 use crate::size_writer::{Following, write_size};
 use asn_bits::BitSink;
 use asn_rules::EncodeFault;
-use asn_values::{
-    AsnType, Bounds, Size, Value, item_fits, length_fits, octets_fit, text_fits, unicode_fits,
-};
+use asn_values::internal::{item_fits, length_fits, octets_fit, text_fits, unicode_fits};
+use asn_values::{AsnType, Bounds, Size, Value};
 use asn_walk::{Index, WriteLeaves};
 use std::alloc::AllocError;
 

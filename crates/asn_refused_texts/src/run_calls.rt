@@ -2,8 +2,7 @@
 use crate::module_calls::{PRINTED, TEXT, module_of};
 use asn_convert::{ConvertFault, Job, Order, RuleName, RunFault, Status, convert, run};
 use asn_refused::{Outcome, judge};
-use asn_rules::counting::Counted;
-use asn_rules::{DecodeFault, Rules};
+use asn_rules::{Counted, DecodeFault, Rules};
 use std::alloc::{AllocError, Global};
 
 /// A message of the module's type `Msg` in PER: `id` is 5, `note` is `A`, and `pick` is a list of green and grey.

@@ -12,7 +12,7 @@ use Rattle.asn_rules.specs.Forks.{Same}
 use Rattle.asn_rules.specs.Languages.{Spells, Plain}
 use Rattle.asn_rules.specs.NumberSets.{IsNot, Admits, least_of}
 use Rattle.asn_rules.specs.declared.number_reader.NumberSet.{NumberSet}
-use Rattle.asn_rules.proofs.Counted.{one_octet}
+use Rattle.asn_rules.proofs.CountedCodes.{one_octet}
 use Rattle.asn_rules.proofs.CountedNumbers.{least_more, least_holds, power_holds, count_is, count_up}
 use Rattle.asn_rules.proofs.Exits.{stops_count, leads_octets}
 use Rattle.asn_rules.proofs.Forks.{same_spells}

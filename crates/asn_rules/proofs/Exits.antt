@@ -21,7 +21,7 @@ use Rattle.asn_rules.proofs.Sets.{set_lawful}
 use Rattle.asn_rules.proofs.General.{general_short, general_refused, general_last_spells, general_last_short, general_last_refused, general_row_short, general_row_refused, general_rest_spells, general_rest_short, general_rest_refused}
 use Rattle.asn_rules.proofs.Headers.{header_few, header_many, header_blocks}
 use Rattle.asn_rules.proofs.Fields.{field_short, field_refused}
-use Rattle.asn_rules.proofs.Counted.{AreAnOctet, counted_follows}
+use Rattle.asn_rules.proofs.CountedCodes.{AreAnOctet, counted_follows}
 
 -- the answers for what is left behind units
 pub leads_behind : {A : Type 0} {R : Fielding} {M L : A → List Chunk → Type 0} (us s : List ℕ) → Carries R M L us → Leads R M s (λ a. a) L (us ++ s)

@@ -9,7 +9,7 @@ use Rattle.asn_bits.proofs.Octets.{residue, residue_fits, half, signed_fits, sig
 use Rattle.asn_bits.proofs.Fewest.{magnitude_below}
 use Rattle.asn_bits.proofs.Above.{above-add}
 use Rattle.asn_rules.specs.Counted.{SomeOf, LeastSigned, signed_number}
-use Rattle.asn_rules.proofs.Counted.{number_again}
+use Rattle.asn_rules.proofs.CountedCodes.{number_again}
 use Rattle.asn_rules.specs.declared.signed_reader.OffsetSet.{OffsetSet}
 use Rattle.asn_bits.specs.Sets.{Among}
 use Rattle.asn_rules.specs.OffsetSets.{HasOffset, HasInteger, IsOpen, StandsFor, least_magnitude_of, AreShifted, AreSigned, AreStanding}

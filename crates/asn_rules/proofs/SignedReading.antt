@@ -11,7 +11,7 @@ use Rattle.asn_rules.specs.NumberSets.{Admits}
 use Rattle.asn_rules.specs.OffsetSets.{HasInteger, StandsFor, SignedIn, UnconstrainedIn, AreSigned, AreStanding}
 use Rattle.asn_rules.specs.declared.number_reader.NumberSet.{NumberSet}
 use Rattle.asn_rules.specs.declared.signed_reader.OffsetSet.{OffsetSet}
-use Rattle.asn_rules.proofs.Counted.{eight_bits}
+use Rattle.asn_rules.proofs.CountedCodes.{eight_bits}
 use Rattle.asn_rules.proofs.Exits.{stops_count}
 use Rattle.asn_rules.proofs.Forks.{same_spells}
 use Rattle.asn_rules.proofs.Leads.{LeadsStops, Leads, stops_on, leads_on, leads_map, leads_same}

@@ -10,7 +10,7 @@ ghost use Rattle.asn_rules.specs.OffsetSets.{IsOpen};
 
 use crate::number_reader::NumberSet;
 use crate::signed_reader::OffsetSet;
-use asn_bits::offsets::offset_from;
+use asn_bits::internal::offset_from;
 use asn_values::profile::{HIGHEST_INTEGER, LOWEST_INTEGER};
 
 /// The integers of the range, but for `except`, where the low bound is not negative.

@@ -9,7 +9,7 @@ ghost use Rattle.asn_rules.specs.PlainReading.{ReadsPlain, StopsPlain};
 
 use crate::fault::Why;
 use crate::stop::Stop;
-use asn_bits::number_field::take_of;
+use asn_bits::internal::take_of;
 use asn_bits::{BitCursor, FieldState, Intervals, NumberField};
 
 /// The numbers from `low` to `high`, but for `excluded`.

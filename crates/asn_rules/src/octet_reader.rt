@@ -16,7 +16,7 @@ use crate::number_reader::{NumberSet, read_number, read_number_among};
 use crate::signed_reader::{OffsetSet, read_signed, read_unconstrained};
 use crate::stop::Stop;
 use crate::whole_number_reader::{greatest_of_width, greatest_with, least_with};
-use asn_bits::numbers::octet_count;
+use asn_bits::internal::octet_count;
 use asn_bits::{BitCursor, Intervals};
 use std::alloc::Global;
 

@@ -7,7 +7,7 @@ ghost use Rattle.asn_rules.specs.Filled.{unused_bits};
 ghost use Rattle.asn_rules.specs.OctetsWritten.{Adds, AddsBits};
 
 use asn_bits::BitSink;
-use asn_bits::numbers::octet_count;
+use asn_bits::internal::octet_count;
 use std::alloc::AllocError;
 
 /// The first length that one octet does not tell.

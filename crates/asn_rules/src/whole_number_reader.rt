@@ -10,7 +10,7 @@ use crate::fault::Why;
 use crate::number_reader::{NumberSet, read_number};
 use crate::stop::Stop;
 use asn_bits::BitCursor;
-use asn_bits::numbers::{octet_count, width};
+use asn_bits::internal::{octet_count, width};
 
 /// Reads a number from 0 to `high`, but for `excluded`, in the fewest bits that hold `high` (X.691, "constrained
 /// whole number").

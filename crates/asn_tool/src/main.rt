@@ -10,7 +10,7 @@ mod tests;
 mod words;
 
 use asn_convert::{Job, run};
-use asn_rules::counting::Counted;
+use asn_rules::Counted;
 use ending::ending;
 use job::{LineFault, job_of};
 use std::io::ErrorKind;

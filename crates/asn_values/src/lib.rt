@@ -11,7 +11,8 @@ mod equality;
 mod fault;
 mod fault_paths;
 mod fitting;
-mod laws;
+pub mod internal;
+pub mod laws;
 mod lookup;
 mod names;
 mod notation;
@@ -26,16 +27,11 @@ mod walk;
 mod zero_bits;
 
 pub use checked::Checked;
-pub use enumerations::item_fits;
 pub use equality::same;
 pub use fault::TypeFault;
 pub use fault_paths::FoundFault;
-pub use fitting::{fits, fits_received};
-pub use laws::defaults_are_judged;
+pub use fitting::fits;
 pub use notation::Notation;
-pub use ranges::{is_between, number_fits};
-pub use sizes::{is_in_size, length_fits};
-pub use texts::{octets_fit, text_fits, unicode_fits};
 pub use types::{Alt, AsnType, Bounds, Field, Item, Need, Size, TextKind};
 pub use value::Value;
 

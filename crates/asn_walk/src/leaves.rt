@@ -14,7 +14,7 @@ ghost use Rattle.asn_walk.specs.Reading.{Reads, ReadsValue, StopsAt, ValuesOf, O
 ghost use Rattle.asn_walk.specs.Views.{preamble_seen, index_seen};
 
 use asn_bits::BitCursor;
-use asn_rules::Stop;
+use asn_rules::internal::Stop;
 use asn_values::{AsnType, Size, Value};
 use std::alloc::Global;
 

@@ -5,7 +5,8 @@ ghost use Rattle.asn_values.specs.View.{size_range_of};
 ghost use Rattle.asn_walk.specs.Laws.{IsSizeOfProfile};
 ghost use Rattle.asn_walk.specs.Sizes.{AreCounts};
 
-use asn_rules::{MAX_OCTETS, NumberSet};
+use asn_rules::MAX_OCTETS;
+use asn_rules::internal::NumberSet;
 use asn_values::Size;
 
 /// Whether there is one length only. A size with an extension mark has more.

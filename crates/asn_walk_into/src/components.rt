@@ -12,7 +12,7 @@ ghost use Rattle.asn_walk.specs.Reading.{Reads, StopsAt, EntryOf, ReadsRoot, Sto
 use crate::entries::{make_present, set_absent, set_integer};
 use crate::reader::{read_into, read_open_into};
 use asn_bits::BitCursor;
-use asn_rules::Stop;
+use asn_rules::internal::Stop;
 use asn_values::{Field, Need, Value};
 use asn_walk::{PresenceBits, ReadLeaves, bitmap_width};
 use asn_walk_read::try_bounded;

@@ -5,7 +5,9 @@ ghost use Rattle.asn_rules.specs.Codec.{Decoded};
 
 use crate::reader::read_complete_into;
 use asn_bits::BitCursor;
-use asn_rules::{DecodeFault, MAX_OCTETS, Stop, are_octets};
+use asn_rules::internal::Stop;
+use asn_rules::laws::are_octets;
+use asn_rules::{DecodeFault, MAX_OCTETS};
 use asn_values::{Checked, Value};
 use asn_walk::ReadLeaves;
 use std::alloc::Global;

@@ -10,7 +10,7 @@ ghost use Rattle.asn_walk.specs.Coding.{absent_entries};
 ghost use Rattle.asn_walk.specs.Reading.{ReadsValue, StopsAt, ValuesOf};
 
 use asn_bits::BitCursor;
-use asn_rules::Stop;
+use asn_rules::internal::Stop;
 use asn_values::{AsnType, Field, Need, Value};
 use asn_walk::ReadLeaves;
 use asn_walk_read::{absent, read};

@@ -14,7 +14,8 @@ ghost use Rattle.asn_walk.specs.Reading.{Reads, ReadsValue, ReadsComplete, Reads
 use crate::components::{read_additions_into, read_root_into};
 use crate::entries::{clear_entries, make_place, read_anew, take_elements};
 use asn_bits::BitCursor;
-use asn_rules::{Stop, Why};
+use asn_rules::Why;
+use asn_rules::internal::Stop;
 use asn_values::{Alt, AsnType, Value};
 use asn_walk::{Index, ReadLeaves};
 use asn_walk_read::added_count;

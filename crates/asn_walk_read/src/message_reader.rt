@@ -4,7 +4,9 @@ ghost use Rattle.asn_rules.specs.Rereading.{FedAtOnce};
 
 use crate::reader::read_complete;
 use asn_bits::BitCursor;
-use asn_rules::{FeedFault, MAX_OCTETS, Step, Stop, are_octets};
+use asn_rules::internal::Stop;
+use asn_rules::laws::are_octets;
+use asn_rules::{FeedFault, MAX_OCTETS, Step};
 use asn_values::Checked;
 use asn_walk::ReadLeaves;
 use std::alloc::Global;

@@ -16,7 +16,8 @@ ghost use Rattle.asn_walk.specs.Reading.{Reads, ReadsValue, ReadsComplete, Reads
 
 use crate::components::{push_absent, read_additions, read_root};
 use asn_bits::BitCursor;
-use asn_rules::{Stop, Why};
+use asn_rules::Why;
+use asn_rules::internal::Stop;
 use asn_values::{Alt, AsnType, Size, Value};
 use asn_walk::{Index, ReadLeaves};
 use std::alloc::{AllocError, Global};

@@ -13,7 +13,8 @@ ghost use Rattle.asn_walk.specs.Writing.{TellsWhether, Writes, WritesValue, Fits
 use crate::encoded::{is_any_present, is_encoded, presence_bitmap};
 use asn_bits::BitSink;
 use asn_rules::EncodeFault;
-use asn_values::{Alt, AsnType, Field, Need, Size, Value, length_fits};
+use asn_values::internal::length_fits;
+use asn_values::{Alt, AsnType, Field, Need, Size, Value};
 use asn_walk::{Index, WriteLeaves};
 use std::alloc::Global;
 

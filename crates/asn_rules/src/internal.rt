@@ -1,0 +1,23 @@
+//! What the crates of this repository need of this one, and its users do not: the readers and writers of fields that PER
+//! and OER share, and the session that both have.
+pub use crate::bit_vectors::{bit_at, push_bits, push_octets};
+pub use crate::integer_sets::{numbers_of, offsets_of};
+pub use crate::length_reader::read_next_length;
+pub use crate::no_octets::is_value_of_none;
+pub use crate::number_reader::{
+    NumberSet, admits, bits_left, read_number, read_number_among, read_padding, read_up_to,
+    try_number,
+};
+pub use crate::octet_reader::{
+    octets_left, read_counted, read_counted_signed, read_filled, read_length, read_octets,
+    read_octets_among, read_octets_with_length, read_row, read_signed_octets,
+};
+pub use crate::octet_strings::{read_characters, read_packed, read_variable};
+pub use crate::octet_writer::{unused_bits, write_content, write_filling, write_length};
+pub use crate::readings::{one_reading, readings_answer};
+pub use crate::rereading::{Reads, Rereading, feed, finish, open};
+pub use crate::signed_reader::{OffsetSet, read_signed, read_unconstrained};
+pub use crate::stop::Stop;
+pub use crate::whole_number_reader::{
+    greatest_of_width, power_of_two, read_constrained, read_semi_constrained,
+};

@@ -14,9 +14,9 @@ use Rattle.asn_rules.specs.CodecLaws.{Encoded}
 use Rattle.asn_rules.specs.Reasons.{word_of}
 use Rattle.asn_rules.specs.declared.fault.DecodeFault.{DecodeFault}
 use Rattle.asn_rules.specs.declared.fault.DecodeFault.TheVariants as decode
-use Rattle.asn_newer.specs.declared.reader.NewerFault.{NewerFault}
-use Rattle.asn_newer.specs.declared.reader.NewerFault.TheVariants as newer
-use Rattle.asn_newer.specs.Reader.{NewerRead}
+use Rattle.asn_newer.specs.declared.fault.NewerFault.{NewerFault}
+use Rattle.asn_newer.specs.declared.fault.NewerFault.TheVariants as newer
+use Rattle.asn_newer.specs.Reading.{NotNewer}
 use Rattle.asn_newer.specs.Skipped.{Skipped}
 use Rattle.asn_newer.specs.Loose.{LooseCoding, IsLoose}
 use Rattle.asn_json.specs.Written.{json_of}
@@ -114,7 +114,7 @@ ShowsNewer l t o text = (v : Datum) (s : List Skipped) × IsLoose l t v s o × (
 
 -- why nothing is read of them
 abbrev pub IsNotRead : LooseCoding → Shape → List ℕ → List ℕ → Type 0
-IsNotRead l t o text = (fault : NewerFault) × NewerRead l (Err fault) t o × TellsNewerFault fault text
+IsNotRead l t o text = (fault : NewerFault) × NotNewer l t o fault × TellsNewerFault fault text
 
 -- what is answered to octets, by order: true where it is no refusal
 abbrev pub AnswersShow : Ruling → RuleName → Shape → List ℕ → List ℕ → Bool → Type 0

@@ -1,13 +1,12 @@
 //! What is read of messages of newer and older senders, as answers.
 ghost use Rattle.std.specs.Prelude.{◌≡◌, ◌++◌, IfOk, OnOk, string_bytes};
 ghost use Rattle.asn_values.specs.View.{shape_of};
-ghost use Rattle.asn_newer.specs.Reader.{skipped_seen};
-ghost use Rattle.asn_convert.specs.Answers.{AnswersNewer, skipped_texts};
+ghost use Rattle.asn_newer.specs.Reading.{skipped_of, skipped_seen};
+ghost use Rattle.asn_convert.specs.Answers.{AnswersNewer, skipped_text, skipped_texts};
 
 use crate::answers::json_text;
 use crate::texts::{Answer, newer_refusal};
-use asn_newer::{ReadNewer, SkippedField, version_laws};
-use asn_rules::laws::are_octets;
+use asn_newer::{ReadNewer, Skipped, version_laws};
 use asn_values::Checked;
 use std::alloc::{AllocError, Global};
 
@@ -21,7 +20,6 @@ pub(crate) fn newer_octets<A: ReadNewer>(
 {
     version_laws::<A>();
     let _of_profile = ty.get();
-    are_octets(octets);
     match A::read_newer(alloc, ty, octets) {
         Ok(newer) => {
             let mut text = json_text(alloc, ty, &newer.value)?;
@@ -36,13 +34,21 @@ pub(crate) fn newer_octets<A: ReadNewer>(
 }
 
 /// Puts the skipped fields at the end of the text.
-fn push_skipped(alloc: Global, text: &mut String, skipped: &[SkippedField]) -> Result<(), AllocError>
+fn push_skipped(alloc: Global, text: &mut String, skipped: &[Skipped]) -> Result<(), AllocError>
     ensures { OnOk result (string_bytes text.new ≡ string_bytes text.old ++ skipped_texts (skipped_seen skipped.now)) }
 {
-    for SkippedField { place, octets } in skipped {
-        let octets = hex::encode(alloc, octets.as_slice())?;
-        let field = format!(in alloc; " +{place}:{octets}")?;
-        text.push_str(field.as_str())?;
+    for field in skipped {
+        let more = field_text(alloc, field)?;
+        text.push_str(more.as_str())?;
     }
     Ok(())
+}
+
+/// A skipped field: its place, and its octets in hexadecimal.
+fn field_text(alloc: Global, field: &Skipped) -> Result<String, AllocError>
+    ensures { IfOk result (λ text. string_bytes text ≡ skipped_text (skipped_of field.now)) }
+{
+    let place = field.place;
+    let octets = hex::encode(alloc, field.octets.as_slice())?;
+    format!(in alloc; " +{place}:{octets}")
 }

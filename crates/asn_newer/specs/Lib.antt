@@ -7,4 +7,4 @@ pub mod Rules
 pub mod Examples
 pub mod Halting
 pub mod Bitmaps
-pub mod Reader
+pub mod Reading

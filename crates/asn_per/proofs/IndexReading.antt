@@ -6,6 +6,8 @@ use Rattle.asn_bits.specs.Sets.{InSet, Meets}
 use Rattle.asn_bits.specs.Sink.{bit_of}
 use Rattle.asn_bits.proofs.Unions.{set_meets}
 use Rattle.asn_bits.proofs.Widths.{width_fits}
+use Rattle.asn_rules.specs.Chunks.{Chunk}
+use Rattle.asn_rules.specs.Forks.{Fork}
 use Rattle.asn_rules.specs.Languages.{Inhabited, Lawful, Plain, Short, Refused}
 use Rattle.asn_rules.proofs.Exits.{leads_zero, leads_one}
 use Rattle.asn_rules.proofs.Forks.{map_lawful_on, fork_lawful, fork_short, fork_refused, fork_inhabited_zero}
@@ -36,6 +38,14 @@ module _ (count : ℕ) (some : 0 < count) where
   -- so some index of the root is spelt
   pub below_inhabited : Inhabited (Below (width count) count)
   below_inhabited = set_inhabited (set_meets 2 (width count) 0 some (width_fits count 0 some))
+
+-- ---- the extension bit
+
+-- where its reader stops, if a 1 may stand there
+pub fork_stops : {A B : Type 0} {X : A → List Chunk → Type 0} {Y : B → List Chunk → Type 0} → Inhabited X → (us : List ℕ) (why : Stop) → StopsAtMark true us why → Stops per_fields (Fork X Y) us why
+fork_stops i us stop.Short h = rw h (record { told = fork_short (fork_inhabited_zero i) })
+fork_stops i us (stop.Refused left why) h = absurd (let e = h.0 in cc)
+fork_stops i us stop.Memory h = absurd h
 
 -- ---- the index
 

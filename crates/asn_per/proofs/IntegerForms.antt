@@ -13,13 +13,18 @@ use Rattle.asn_rules.specs.Languages.{Map, Inhabited}
 use Rattle.asn_rules.specs.Listed.{IsOther, Spelt}
 use Rattle.asn_rules.proofs.Forks.{same_flip}
 use Rattle.asn_rules.proofs.Exits.{leads_zero, leads_one}
-use Rattle.asn_rules.proofs.Leads.{Leads, leads_on, leads_map, leads_same}
+use Rattle.asn_rules.specs.Stops.{Stops}
+use Rattle.asn_rules.specs.declared.stop.Stop.{Stop}
+use Rattle.asn_rules.proofs.Leads.{Leads, leads_on, leads_map, leads_same, stops_by}
+use Rattle.asn_rules.proofs.Listed.{spelt_inhabited}
 use Rattle.asn_rules.proofs.Spellings.{same_after, same_map, same_fork}
 use Rattle.asn_rules.specs.declared.signed_reader.OffsetSet.{OffsetSet}
 use Rattle.asn_per.specs.Kinds.{Values, Unconstrained, IsOutside, Ranged, of_either}
 use Rattle.asn_per.specs.Per.{per, per_fields}
 use Rattle.asn_rules.specs.OffsetSets.{HasOffset, HasInteger}
 use Rattle.asn_rules.specs.IntegerSets.{AreOffsetsBut, IsOneBut, IsWithin, unmarked}
+use Rattle.asn_per.specs.Reading.{StopsAtMark}
+use Rattle.asn_per.proofs.IndexReading.{fork_stops}
 use Rattle.asn_per.proofs.LeftOut.{none_left_out, unbounded_but_one}
 use Rattle.asn_per.proofs.MarkedIntegers.{integers_compose, ranged_compose, root_of_profile}
 use Rattle.asn_per.proofs.SignedReading.{signed_leads}
@@ -54,6 +59,12 @@ module _ (b : Range) (good : InProfile (integer b)) (mark : b.extensible ≡ tru
       there : (low high : Option ℤ) (m : Bool) → m ≡ true → InProfile (integer (record { low = low; high = high; extensible = m })) → Same (Map of_either (Fork (Ranged low high) (Unconstrained (IsOutside (record { low = low; high = high; extensible = m }))))) (Values (integer (record { low = low; high = high; extensible = m })))
       there low high true e g = integers_compose (record { low = low; high = high; extensible = true }) g
       there low high false e g = absurd (cc)
+
+  -- no bit comes
+  pub mark_stops : (us : List ℕ) (why : Stop) → StopsAtMark true us why → Stops per_fields (Spelt per None (integer b)) us why
+  mark_stops us why h =
+      let forks = fork_stops {Y = Unconstrained (λ z. IsOutside b z)} (spelt_inhabited per (integer (unmarked b.low b.high)) (root_of_profile b good)) us why h in
+      stops_by why (leads_on (leads_map per_fields of_either (Fork (Spelt per None (integer (unmarked b.low b.high))) (Unconstrained (λ z. IsOutside b z))) us) (leads_same per_fields us marked)).stops forks
 
   -- behind a 0
   pub root_leads : (us after : List ℕ) → us ≡ 0 ∷ after → Leads per_fields (Spelt per None (integer (unmarked b.low b.high))) after (λ v. v) (Spelt per None (integer b)) us

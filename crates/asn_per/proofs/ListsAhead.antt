@@ -16,6 +16,7 @@ use Rattle.asn_rules.specs.Forks.{Branch, Fork, Same}
 use Rattle.asn_rules.specs.General.{Length, fragment, behind_first, Few, Many, Left, Blocks, Header, General}
 use Rattle.asn_rules.specs.Stops.{Stops}
 use Rattle.asn_rules.specs.declared.stop.Stop.{Stop}
+use Rattle.asn_rules.specs.declared.stop.Stop.TheVariants as stop
 use Rattle.asn_rules.proofs.Leads.{LeadsStops, Leads, leads_here, leads_on, leads_map, leads_second, leads_same, stops_on, stops_first, stops_by}
 use Rattle.asn_rules.proofs.Exits.{leads_zero, leads_one, leads_last, leads_rest, stops_length, stops_fragment}
 use Rattle.asn_rules.proofs.Forks.{same_flip, map_lawful_on, fork_lawful, fork_short, fork_inhabited_one}
@@ -31,7 +32,7 @@ use Rattle.asn_per.specs.Per.{spelled, per_fields}
 use Rattle.asn_per.specs.Kinds.{Below, of_either, IsOtherCount, CountWithin, RootSized, Sized}
 use Rattle.asn_rules.specs.declared.number_reader.NumberSet.{NumberSet}
 use Rattle.asn_rules.specs.NumberSets.{Admits}
-use Rattle.asn_per.specs.Reading.{Appends}
+use Rattle.asn_per.specs.Reading.{Appends, StopsAtMark}
 use Rattle.asn_rules.proofs.NumberSets.{same_set}
 use Rattle.asn_walk.specs.Ahead.{Ahead, items, lengths, end, Remaining, SomeAhead, Advances, Next, StopsNext}
 use Rattle.asn_walk.specs.Laws.{IsSizeOfProfile}
@@ -291,9 +292,15 @@ start_follows L s good i = record { follow = λ a x h. ahead_inhabited L a i (st
 -- ---- what a reader of what stands in front cites
 
 -- no extension bit comes
-pub mark_waits : (low : ℕ) (high : Option ℕ) (m : Bool) (us : List ℕ) → m ≡ true → us ≡ [] → Short per_fields (Start (record { low = low; high = high; extensible = m })) us
+mark_waits : (low : ℕ) (high : Option ℕ) (m : Bool) (us : List ℕ) → m ≡ true → us ≡ [] → Short per_fields (Start (record { low = low; high = high; extensible = m })) us
 mark_waits low high false us t e = absurd (cc)
 mark_waits low high true us t e = rw e (map_short (fork_short (fork_inhabited_one (nothing_inhabited (lengths (other_counts low high) 0 false)))))
+
+-- so stops the reader of the extension bit
+pub mark_stops : (low : ℕ) (high : Option ℕ) (m : Bool) (us : List ℕ) (why : Stop) → m ≡ true → StopsAtMark true us why → Stops per_fields (Start (record { low = low; high = high; extensible = m })) us why
+mark_stops low high m us stop.Short t h = record { told = mark_waits low high m us t h }
+mark_stops low high m us (stop.Refused left why) t h = absurd (let e = h.0 in cc)
+mark_stops low high m us stop.Memory t h = absurd h
 
 -- a 0: what stands in front of a list of the root
 pub mark_zero : (low : ℕ) (high : Option ℕ) (m : Bool) (us after : List ℕ) → m ≡ true → us ≡ 0 ∷ after → Leads per_fields (RootStart low high) after (λ a. a) (Start (record { low = low; high = high; extensible = m })) us

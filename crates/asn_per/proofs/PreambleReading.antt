@@ -29,7 +29,7 @@ use Rattle.asn_rules.specs.declared.number_reader.NumberSet.{NumberSet}
 use Rattle.asn_per.specs.Kinds.{AdditionCount, SomePresent}
 use Rattle.asn_per.specs.Per.{per_fields, small_length}
 use Rattle.asn_rules.specs.NumberSets.{Admits, up_to}
-use Rattle.asn_per.specs.Reading.{StopsAtMark}
+use Rattle.asn_per.specs.Reading.{StopsAtMark, only}
 use Rattle.asn_per.specs.Walk.{per_coding}
 use Rattle.asn_per.proofs.AdditionLanguages.{count_bits}
 use Rattle.asn_rules.proofs.NumberSets.{same_set}
@@ -123,10 +123,7 @@ module _ (n high : ℕ) (all : high + 1 ≡ 2 ^ n) where
 
 -- ---- the presence bits of the additions, behind their count
 
--- the one count, and the bitmaps that are not all 0
-abbrev pub only : ℕ → NumberSet
-only n = record { low = n; high = n; excluded = None }
-
+-- the bitmaps that are not all 0
 abbrev pub not_zero : ℕ → NumberSet
 not_zero high = record { low = 0; high = high; excluded = Some 0 }
 
@@ -172,6 +169,10 @@ module _ (n last : ℕ) (some : 0 < n) (few : n ≤ 64) (is : last + 1 ≡ n) wh
 
     same_presences : Same Presences (SomePresent n)
     same_presences = same_set 2 n (λ m h. (omega (arith, h.2), omega (arith, h.1, all))) (λ m h. (omega arith, omega (arith, h.1, all), λ e. omega (arith, h.0, e)))
+
+    -- some bitmap is one
+    pub some_present : Meets (λ m. Admits (not_zero high) m) 0 n
+    some_present = set_meets 2 n 1 (omega arith, omega (arith, two, all), λ e. omega (arith, e)) two
 
     -- behind the count
     pub bitmap_leads : (k : ℕ) (us r : List ℕ) → Spells per_fields Counts k us r → Leads per_fields Presences r (λ m. m) (AdditionBitmapOf per_coding n) us

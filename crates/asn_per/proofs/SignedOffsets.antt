@@ -1,10 +1,10 @@
 -- Integers without a low bound, and those outside a root, by how far they lie above the lowest one.
-use Rattle.std.proofs.Common.{◌≡◌, ◌≤◌, ◌<◌, ◌^◌, ◌⊎◌, ⊎_elim, inl, inr, ℕ, ℤ, ◌≤ℤ◌, Bool, true, false, ◌&&◌, Option, Some, None, refl, sym, ◌∙◌, arith}
+use Rattle.std.proofs.Common.{◌≡◌, ◌≤◌, ◌<◌, ◌+◌, ◌^◌, ◌⊎◌, ⊎_elim, inl, inr, ℕ, ℤ, ◌≤ℤ◌, Bool, true, false, ◌&&◌, Option, Some, None, refl, sym, ◌∙◌, arith}
 use Rattle.std.proofs.lemmas.Bool.{and_cases, cases_lt, true≢false}
 use Rattle.std.proofs.lemmas.Int.{ints}
 use Rattle.asn_values.specs.Shape.{Range, integer}
 use Rattle.asn_values.specs.Fits.{lowest_integer, highest_integer, at_least, at_most, in_range}
-use Rattle.asn_values.specs.Profile.{InProfile, EmptyRange, UselessMark, is_outside, low_above_high}
+use Rattle.asn_values.specs.Profile.{InProfile, EmptyRange, UselessMark, is_outside, low_above_high, lowest_of, highest_of}
 use Rattle.asn_values.proofs.Parts.{left_false, right_false}
 use Rattle.asn_bits.specs.Numbers.{above}
 use Rattle.asn_bits.proofs.Above.{pos-above, le_of_test, test_of_le}
@@ -21,6 +21,15 @@ bounds_inside b good =
     (left_false _ _ ends, right_false (is_outside b.low) _ ends)
 
 -- ---- offsets and bounds
+
+-- a bound that is missing is the end of the profile's integers
+pub low_offset_is : (low : Option ℤ) → low_offset low ≡ above lowest_integer (lowest_of low)
+low_offset_is None = refl
+low_offset_is (Some low) = refl
+
+pub high_offset_is : (high : Option ℤ) → high_offset high ≡ above lowest_integer (highest_of high) + 1
+high_offset_is None = refl
+high_offset_is (Some high) = refl
 
 offset_below : (z : ℤ) → lowest_integer ≤ℤ z → z ≤ℤ highest_integer → above lowest_integer z < 2 ^ 64
 offset_below z p q = omega (arith, ints, pos-above lowest_integer z p)

@@ -10,7 +10,7 @@ use Rattle.asn_per.specs.Per.{small}
 use Rattle.asn_per.specs.Kinds.{SmallBelow}
 
 -- a normally small number below 64
-small_is : (k : ℕ) → k < 64 → small k ≡ bits 7 k
+pub small_is : (k : ℕ) → k < 64 → small k ≡ bits 7 k
 small_is k h =
     let front : 0 ≡ (k / 2 ^ 6) % 2 = omega (arith, h) in
     rw (lt-ltb k 64 h, small) (ap (λ (d : ℕ). d ∷ bits 6 k) front)

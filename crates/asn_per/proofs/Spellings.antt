@@ -1,15 +1,17 @@
 -- The bits of each kind of value, as a writer puts them and a reader takes them.
-use Rattle.std.proofs.Common.{◌≡◌, ℕ, suc, ℤ, Bool, true, false, List, [], ◌∷◌, ◌++◌, length, take, Option, Some, None, refl, sym, ◌∙◌, ap}
+use Rattle.std.proofs.Common.{◌≡◌, ◌⊎◌, inl, inr, ◌||◌, not, IsTrue, ℕ, suc, ℤ, Bool, true, false, List, [], ◌∷◌, ◌++◌, length, take, Option, Some, None, refl, sym, ◌∙◌, ap}
 use Rattle.std.proofs.lemmas.List.{append-nil}
 use Rattle.std.proofs.Math.Seq.{take-length}
 use Rattle.asn_values.specs.Datum.{Datum, truth, number, components, Components, component_list, components_of}
 use Rattle.asn_values.specs.Shape.{Range, Shape, boolean, integer, sequence, Demand, Fields, no_fields, field, closed, demands}
 use Rattle.asn_values.specs.Fits.{FitsEach}
 use Rattle.asn_rules.specs.Chunks.{ones, flat}
-use Rattle.asn_rules.specs.Components.{bit_of, presence, is_spelled}
+use Rattle.asn_rules.specs.Components.{bit_of, extension_bit, presence, is_spelled}
 use Rattle.asn_rules.proofs.Flat.{flat-append, flat-ones}
-use Rattle.asn_values.specs.Fits.{in_range}
-use Rattle.asn_per.specs.Per.{spelled, per, per_each, whole_number, behind_mark, ranged, unconstrained}
+use Rattle.asn_values.specs.Fits.{in_range, FitsNumber}
+use Rattle.asn_bits.specs.Numbers.{above}
+use Rattle.asn_per.specs.Per.{spelled, per, per_each, whole_number, behind_mark, ranged, semi_constrained, unconstrained}
+use Rattle.asn_per.specs.Kinds.{IsNotBetween}
 use Rattle.asn_per.specs.Laws.{per_bits, component_bits}
 
 -- ---- simple types
@@ -31,11 +33,43 @@ bits_of_inside b z e i =
     bits_of_integer b z ∙ ap (λ (m : Bool). behind_mark (λ u. u) m (in_range b z) (ranged b.low b.high z) (unconstrained z)) e
     ∙ ap (λ (m : Bool). behind_mark (λ u. u) true m (ranged b.low b.high z) (unconstrained z)) i
 
--- and outside them
-pub bits_of_outside : (b : Range) (z : ℤ) → b.extensible ≡ true → in_range b z ≡ false → per_bits (integer b) (number z) ≡ 1 ∷ unconstrained z
-bits_of_outside b z e i =
-    bits_of_integer b z ∙ ap (λ (m : Bool). behind_mark (λ u. u) m (in_range b z) (ranged b.low b.high z) (unconstrained z)) e
-    ∙ ap (λ (m : Bool). behind_mark (λ u. u) true m (ranged b.low b.high z) (unconstrained z)) i
+-- the extension bit where there is one, and the form of the root or the other
+abbrev form : Bool → List ℕ → List ℕ → List ℕ
+form true root other = root
+form false root other = other
+
+marked_form : (m i : Bool) (root other : List ℕ) → IsTrue (m || i) → behind_mark (λ u. u) m i root other ≡ extension_bit m (not i) ++ form i root other
+marked_form false true root other h = refl
+marked_form false false root other h = absurd (cc)
+marked_form true true root other h = refl
+marked_form true false root other h = refl
+
+same_form : (i : Bool) (us : List ℕ) → form i us us ≡ us
+same_form true us = refl
+same_form false us = refl
+
+bits_of_form : (b : Range) (z : ℤ) → FitsNumber b z → per_bits (integer b) (number z) ≡ extension_bit b.extensible (not (in_range b z)) ++ form (in_range b z) (ranged b.low b.high z) (unconstrained z)
+bits_of_form b z f = bits_of_integer b z ∙ marked_form b.extensible (in_range b z) (ranged b.low b.high z) (unconstrained z) f.2
+
+-- without a low bound, and outside the bounds
+pub bits_of_unconstrained : (b : Range) (z : ℤ) → FitsNumber b z → (b.low ≡ None) ⊎ (in_range b z ≡ false) → per_bits (integer b) (number z) ≡ extension_bit b.extensible (not (in_range b z)) ++ unconstrained z
+bits_of_unconstrained b z f (inl e) =
+    let u = unconstrained z in
+    let mark = extension_bit b.extensible (not (in_range b z)) in
+    bits_of_form b z f ∙ ap (λ (l : Option ℤ). mark ++ form (in_range b z) (ranged l b.high z) u) e ∙ ap (λ (t : List ℕ). mark ++ t) (same_form (in_range b z) u)
+bits_of_unconstrained b z f (inr e) =
+    let mark = extension_bit b.extensible (not (in_range b z)) in
+    bits_of_form b z f ∙ ap (λ (i : Bool). mark ++ form i (ranged b.low b.high z) (unconstrained z)) e
+
+-- from a low bound on
+pub bits_of_semi_constrained : (b : Range) (low z : ℤ) → FitsNumber b z → b.low ≡ Some low → in_range b z ≡ true → IsNotBetween b z
+    → per_bits (integer b) (number z) ≡ extension_bit b.extensible (not (in_range b z)) ++ semi_constrained (above low z)
+bits_of_semi_constrained b low z f l i (inl n) = absurd (cc)
+bits_of_semi_constrained b low z f l i (inr (inl n)) =
+    let mark = extension_bit b.extensible (not (in_range b z)) in
+    bits_of_form b z f ∙ ap (λ (j : Bool). mark ++ form j (ranged b.low b.high z) (unconstrained z)) i
+    ∙ ap (λ (o : Option ℤ). mark ++ ranged o b.high z) l ∙ ap (λ (o : Option ℤ). mark ++ ranged (Some low) o z) n
+bits_of_semi_constrained b low z f l i (inr (inr o)) = absurd (cc)
 
 -- ---- SEQUENCE
 

@@ -71,6 +71,10 @@ root_of b = record { low = b.low; high = b.high; extensible = false }
 abbrev pub between : ℤ → ℤ → Bool → Range
 between low high m = record { low = Some low; high = Some high; extensible = m }
 
+-- a number that does not lie between two bounds
+abbrev pub IsNotBetween : Range → ℤ → Type 0
+IsNotBetween b z = (b.low ≡ None) ⊎ ((b.high ≡ None) ⊎ (in_range b z ≡ false))
+
 -- an integer of the profile outside the root
 pub record IsOutside (b : Range) (z : ℤ) : Type 0 where
   pub least : lowest_integer ≤ℤ z

@@ -1,6 +1,7 @@
 -- What the writers of strings and lists write: items, in front of which stand a count or lengths.
-use Rattle.std.specs.Prelude.{Bool, true, false, ℕ, List, [], ◌∷◌, map, ⊤, IsTrue}
+use Rattle.std.specs.Prelude.{◌≡◌, ◌++◌, ◌*◌, length, Bool, true, false, ℕ, List, [], ◌∷◌, map, ⊤, IsTrue}
 use Rattle.std.specs.List.{AllByRecursion}
+use Rattle.asn_values.specs.declared.types.TextKind.{TextKind}
 use Rattle.asn_values.specs.Shape.{SizeRange}
 use Rattle.asn_values.specs.Fits.{is_of_kind}
 use Rattle.asn_values.specs.View.{alphabet_of}
@@ -9,8 +10,11 @@ use Rattle.asn_bits.specs.Lengths.{joined, general}
 use Rattle.asn_rules.specs.Chunks.{Chunk, one, ones, flat}
 use Rattle.asn_rules.specs.Components.{bit_of}
 use Rattle.asn_per.specs.Per.{spelled, sized, character_bits}
-use Rattle.asn_per.specs.declared.item_writer.Items.{Items}
-use Rattle.asn_per.specs.declared.item_writer.Items.TheVariants as items
+use Rattle.asn_per.specs.Following.{following_chunks}
+use Rattle.asn_per.specs.Reading.{code_width}
+use Rattle.asn_per.specs.declared.sizes.Following.{Following}
+use Rattle.asn_per.specs.declared.string_items.Items.{Items}
+use Rattle.asn_per.specs.declared.string_items.Items.TheVariants as items
 
 -- the spelling of each item of a string
 abbrev pub item_chunks : Items → List (List Chunk)
@@ -40,3 +44,11 @@ sized_bits size xs = flat spelled (sized size xs)
 abbrev pub behind_count : Bool → List (List Chunk) → List ℕ
 behind_count true xs = row_bits xs
 behind_count false xs = general_bits xs
+
+-- a word holds the bits of the characters
+abbrev pub HoldsText : TextKind → ℕ → List ℕ → Type 0
+HoldsText kind word text = bits (code_width (alphabet_of kind) * length text) word ≡ joined (map (λ c. character_bits (alphabet_of kind) c) text)
+
+-- what stands in front of n items under a size is written, whatever they are, and they follow in this way
+abbrev pub FollowsSize : SizeRange → ℕ → List ℕ → List ℕ → Following → Type 0
+FollowsSize size n old new f = (xs : List (List Chunk)) → length xs ≡ n → new ++ flat spelled (following_chunks f xs) ≡ old ++ sized_bits size xs

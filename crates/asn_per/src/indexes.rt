@@ -1,23 +1,24 @@
-//! The index of an item of an ENUMERATED or of an alternative of a CHOICE, written and read: one of the root, or one
-//! of the extension additions (X.691, "encoding the enumerated type", "encoding the choice type").
-ghost use Rattle.std.specs.Prelude.{◌≡◌, ◌≤◌, ◌<◌, ◌++◌, ◌∷◌, IfOk, IfErr, OnOk, Some, true};
+//! The index of an item of an ENUMERATED or an alternative of a CHOICE: of the root, or of the extension additions.
+ghost use Rattle.std.specs.Prelude.{◌≡◌, ◌≤◌, ◌<◌, ◌-◌, ◌++◌, IfOk, IfErr, OnOk, Some};
 ghost use Rattle.asn_bits.specs.Numbers.{width};
-ghost use Rattle.asn_bits.specs.Sink.{bit_of};
+ghost use Rattle.asn_rules.specs.NumberSets.{NumberIn};
+ghost use Rattle.asn_rules.specs.PlainReading.{ReadsPlain, StopsPlain};
+ghost use Rattle.asn_per.specs.Per.{small, small_length};
 ghost use Rattle.asn_per.specs.Kinds.{Below, SmallBelow};
 ghost use Rattle.asn_per.specs.Indexes.{IndexesOf, index_bits};
 ghost use Rattle.asn_walk.specs.Coding.{IsIndexWithin};
 ghost use Rattle.asn_walk.specs.Views.{index_seen};
-ghost use Rattle.asn_per.specs.Reading.{Reads, StopsAtMark, StopsIn};
+ghost use Rattle.asn_per.specs.Reading.{Reads, ReadsMark, StopsAtMark, StopsIn, only};
 
 use asn_bits::internal::width;
 use asn_bits::{BitCursor, BitSink};
 use asn_rules::Why;
-use asn_rules::internal::{Stop, bits_left, read_constrained, read_up_to};
+use asn_rules::internal::{NumberSet, Stop, bits_left, read_constrained, read_number, read_up_to};
 use asn_walk::Index;
 use std::alloc::AllocError;
 
 /// Writes an index. One of the root is a constrained whole number, after an extension bit 0 where there is an
-/// extension mark; one of an addition is a bit 1 and a normally small number, 0 and 6 bits.
+/// extension mark; one of an addition is a bit 1 and a normally small number.
 #[inline(always)]
 pub(crate) fn write_index(
     root: usize,
@@ -34,8 +35,44 @@ pub(crate) fn write_index(
             let mark_bits = u32::from(marked);
             sink.push_number(mark_bits + width(root as u128), index as u64)
         }
-        Index::Added(index) => sink.push_number(8, 128 + index as u64),
+        Index::Added(index) => {
+            sink.push(true)?;
+            write_small_number(index, sink)
+        }
     }
+}
+
+/// Writes a normally small number up to 63: 0, and the number in 6 bits.
+fn write_small_number(number: usize, sink: &mut BitSink) -> Result<(), AllocError>
+    requires { number < 64 }
+    ensures { OnOk result (sink.new ≡ sink.old ++ small number) }
+{
+    sink.push_number(7, number as u64)
+}
+
+/// Writes a normally small length, 1 to 64: 0, and one less in 6 bits.
+pub(crate) fn write_small_length(length: u32, sink: &mut BitSink) -> Result<(), AllocError>
+    requires some { 1 ≤ length }
+    requires few { length ≤ 64 }
+    ensures { OnOk result (sink.new ≡ sink.old ++ small_length length) }
+{
+    sink.push_number(7, u64::from(length) - 1)
+}
+
+/// Reads a normally small length, which has to be this one: how many additions the type lists.
+pub(crate) fn read_small_length(length: u32, bits: &mut BitCursor<'_>) -> Result<u64, Stop>
+    requires some { 1 ≤ length }
+    requires few { length ≤ 64 }
+    ensures done { ReadsPlain (NumberIn 7 (only (length - 1))) result bits.old bits.new }
+    ensures stop { StopsPlain (NumberIn 7 (only (length - 1))) result bits.old }
+{
+    let last = u64::from(length) - 1;
+    let listed = NumberSet {
+        low: last,
+        high: last,
+        excluded: None,
+    };
+    read_number(7, listed, Why::Extension, bits)
 }
 
 /// Reads an index among `root` alternatives of the root, and among `additions` where there is an extension mark.
@@ -55,7 +92,7 @@ pub(crate) fn read_index(
     };
     let extended = read_extension_bit(additions > 0, bits)?;
     if extended {
-        Ok(Index::Added(read_added_index(additions, bits)?))
+        Ok(Index::Added(read_small_number(additions, bits)?))
     } else {
         Ok(Index::Root(read_root_index(root, bits)?))
     }
@@ -71,9 +108,9 @@ fn read_root_index(count: usize, bits: &mut BitCursor<'_>) -> Result<usize, Stop
     Ok(read_constrained(count as u64 - 1, None, bits)? as usize)
 }
 
-/// Reads an index among the additions: a normally small number below `count`, 0 and 6 bits.
+/// Reads a normally small number below `count`: 0, and the number in 6 bits.
 #[inline(always)]
-fn read_added_index(count: usize, bits: &mut BitCursor<'_>) -> Result<usize, Stop>
+fn read_small_number(count: usize, bits: &mut BitCursor<'_>) -> Result<usize, Stop>
     requires { 0 < count }
     ensures done { Reads result (λ n. n) (SmallBelow count) bits.old bits.new }
     ensures stop { StopsIn result (SmallBelow count) bits.old }
@@ -85,17 +122,15 @@ fn read_added_index(count: usize, bits: &mut BitCursor<'_>) -> Result<usize, Sto
 /// refused.
 #[inline(always)]
 pub(crate) fn read_extension_bit(listed: bool, bits: &mut BitCursor<'_>) -> Result<bool, Stop>
-    ensures done { IfOk result (λ extended.
-        (bits.old ≡ bit_of extended ∷ bits.new) × (extended ≡ true → listed ≡ true)) }
+    ensures done { IfOk result (λ extended. ReadsMark listed extended bits.old bits.new) }
     ensures stop { IfErr result (λ why. StopsAtMark listed bits.old why) }
 {
     let Some(bit) = bits.next() else {
         return Err(Stop::Short);
     };
     if bit == 1 && !listed {
-        let left = bits_left(bits);
         return Err(Stop::Refused {
-            left,
+            left: bits_left(bits),
             why: Why::Extension,
         });
     }

@@ -57,45 +57,45 @@ fn rank(items: &[Item], number: i64) -> usize
     lower
 }
 
-/// Reads an item, but for the one at the position `except`. Returns its position.
+/// Reads an item, but for the one at the position `excluded`. Returns its position.
 pub(crate) fn read_item(
     root: &[Item],
     more: &Option<Vec<Item>>,
-    except: Option<u32>,
+    excluded: Option<u32>,
     bits: &mut BitCursor<'_>,
 ) -> Result<u32, Stop>
     requires of_profile { InProfile (enumeration_of root.now more.now) }
-    requires within { IsItemWithin (map label_of root.now) (more_labels_of more.now) except }
-    requires some { Inhabited (ItemsBut except root.now more.now) }
-    ensures done { Reads result item (ItemsBut except root.now more.now) bits.old bits.new }
-    ensures stop { StopsIn result (ItemsBut except root.now more.now) bits.old }
+    requires within { IsItemWithin (map label_of root.now) (more_labels_of more.now) excluded }
+    requires some { Inhabited (ItemsBut excluded root.now more.now) }
+    ensures done { Reads result item (ItemsBut excluded root.now more.now) bits.old bits.new }
+    ensures stop { StopsIn result (ItemsBut excluded root.now more.now) bits.old }
 {
     match more {
-        None => read_root_item(root, except, bits),
+        None => read_of_root(root, excluded, bits),
         Some(additions) => read_marked_item(root, additions, bits),
     }
 }
 
-/// Reads an item of the root by its index, but for the one at the position `except`.
-fn read_root_item(root: &[Item], except: Option<u32>, bits: &mut BitCursor<'_>) -> Result<u32, Stop>
+/// Reads an item of the root by its index, but for the one at the position `excluded`.
+fn read_of_root(root: &[Item], excluded: Option<u32>, bits: &mut BitCursor<'_>) -> Result<u32, Stop>
     requires good { AreRootItems (map label_of root.now) }
-    requires within { IsRootPosition (map label_of root.now) except }
-    requires some { Inhabited (RootItemsBut (map label_of root.now) except) }
-    ensures done { Reads result item (RootItemsBut (map label_of root.now) except) bits.old bits.new }
-    ensures stop { StopsIn result (RootItemsBut (map label_of root.now) except) bits.old }
+    requires within { IsRootPosition (map label_of root.now) excluded }
+    requires some { Inhabited (RootItemsBut (map label_of root.now) excluded) }
+    ensures done { Reads result item (RootItemsBut (map label_of root.now) excluded) bits.old bits.new }
+    ensures stop { StopsIn result (RootItemsBut (map label_of root.now) excluded) bits.old }
 {
-    let left_out = excluded_index(root, except);
+    let left_out = excluded_index(root, excluded);
     let index = read_constrained(root.len() as u64 - 1, left_out, bits)?;
     Ok(position_of_index(root, index as usize))
 }
 
 /// The index of the excluded item.
-fn excluded_index(root: &[Item], except: Option<u32>) -> Option<u64>
+fn excluded_index(root: &[Item], excluded: Option<u32>) -> Option<u64>
     requires good { AreRootItems (map label_of root.now) }
-    requires within { IsRootPosition (map label_of root.now) except }
-    ensures { result ≡ index_of (map label_of root.now) except }
+    requires within { IsRootPosition (map label_of root.now) excluded }
+    ensures { result ≡ index_of (map label_of root.now) excluded }
 {
-    match except {
+    match excluded {
         Some(position) => Some(rank(root, root[position as usize].number) as u64),
         None => None,
     }
@@ -141,16 +141,12 @@ fn position_by_numbers(root: &[Item], index: usize) -> u32
 }
 
 /// Reads an item of a type with an extension mark: 0 and one of the root, or 1 and one of the additions.
-fn read_marked_item(
-    root: &[Item],
-    additions: &[Item],
-    bits: &mut BitCursor<'_>,
-) -> Result<u32, Stop>
-    requires of_profile { InProfile (enumerated (map label_of root.now) (marked_labels (map label_of additions.now))) }
-    ensures done { Reads result item (MarkedItems root.now additions.now) bits.old bits.new }
-    ensures stop { StopsIn result (MarkedItems root.now additions.now) bits.old }
+fn read_marked_item(root: &[Item], more: &[Item], bits: &mut BitCursor<'_>) -> Result<u32, Stop>
+    requires of_profile { InProfile (enumerated (map label_of root.now) (marked_labels (map label_of more.now))) }
+    ensures done { Reads result item (MarkedItems root.now more.now) bits.old bits.new }
+    ensures stop { StopsIn result (MarkedItems root.now more.now) bits.old }
 {
-    match read_index(root.len(), Some(additions.len()), bits)? {
+    match read_index(root.len(), Some(more.len()), bits)? {
         Index::Root(index) => Ok(position_of_index(root, index)),
         Index::Added(index) => Ok(root.len() as u32 + index as u32),
     }

@@ -1,5 +1,4 @@
 //! The laws of CANONICAL-PER UNALIGNED (X.691), for every type of the profile.
-
 ghost use Rattle.asn_rules.specs.CodecLaws.{DecodesTheEncoded, EncodesTheDecoded, OnlyMemoryIsWanting, EqualExactly, TellsTheRest, RestFollowsOneFront, TellsTheCut, DecodersAgree};
 ghost use Rattle.asn_rules.specs.Laws.{BeginningsAreLive, BeginningsAreNotRefused, EachHasAValue, EncodesAs, UnitsTellTheValue, OneValue, NoneBegins, RulesLaws, LiveIsClosed, LiveByParts, OneAnswer};
 ghost use Rattle.asn_rules.specs.Parted.{SpellingsPart};
@@ -7,14 +6,13 @@ ghost use Rattle.asn_rules.specs.Reading.{RulesTell};
 ghost use Rattle.asn_per.specs.Per.{per, per_fields, per_octets, per_whole};
 ghost use Rattle.asn_per.specs.Rules.{per_ruling};
 ghost use Rattle.asn_per.specs.Laws.{per_bits, NoBitsIsExact};
-
-pub use crate::kinds::kinds_compose;
+ghost use Rattle.asn_per.specs.Kinds.{BooleansCompose, NullsCompose, IntegersCompose, EnumeratedCompose, BitStringsCompose, OctetStringsCompose, TextsCompose, Utf8StringsCompose, ListsCompose, FixedSizesCompose, ChoicesCompose, SequencesCompose, MarkedSequencesCompose, EnumeratedButOne, UnboundedButOne};
 
 /// A spelling tells its value and where it ends, whatever follows it.
 ///
-/// Two spellings at the front of one list of bits are one, of one value. Octets are the complete
-/// encoding of one value only, and no complete encoding begins another. Two spellings of one type
-/// are one, of one value, or they part at a bit or inside sealed fields that stand in one place.
+/// Two spellings at the front of one list of bits are one, of one value. Octets are the complete encoding of one value
+/// only, and no complete encoding begins another. Two spellings of one type are one, of one value, or they part at a
+/// bit or inside sealed fields that stand in one place.
 pub fn decoding_is_unique()
     ensures bits { UnitsTellTheValue per_bits }
     ensures one_value { OneValue per_octets }
@@ -22,22 +20,22 @@ pub fn decoding_is_unique()
     ensures part { SpellingsPart per }
 {}
 
-/// PER keeps the laws of encoding rules: an encoding has one value, a value that fits has one
-/// encoding, and no encoding begins another. The encoding of a value is `per_octets` of it.
+/// PER keeps the laws of encoding rules: an encoding has one value, a value that fits has one encoding, and no encoding
+/// begins another. The encoding of a value is `per_octets` of it.
 pub fn encoding_laws()
     ensures laws { RulesLaws per_ruling }
     ensures octets { EncodesAs per_ruling per_octets }
 {}
 
-/// Each type of the profile has a value, and `no_bits` says exactly which types have only values
-/// that are spelt by no bit.
+/// Each type of the profile has a value, and `no_bits` says exactly which types have only values that are spelt by no
+/// bit.
 pub fn values_and_bits()
     ensures a_value { EachHasAValue }
     ensures no_bits { NoBitsIsExact }
 {}
 
-/// Whether an encoding may follow some bits, said of all its bits and sealed fields at once, is
-/// the same said chunk by chunk.
+/// Whether an encoding may follow some bits, said of all its bits and sealed fields at once, is the same said chunk by
+/// chunk.
 pub fn live_by_parts()
     ensures { LiveByParts per_fields per_whole }
 {}
@@ -47,8 +45,8 @@ pub fn viability_is_prefix_closed()
     ensures { LiveIsClosed per_fields per_whole }
 {}
 
-/// To one list of octets there is one answer: done with one value and count of octets, refused at
-/// one place, too long, or more to come.
+/// To one list of octets there is one answer: done with one value and count of octets, refused at one place, too long,
+/// or more to come.
 pub fn answers_exclude()
     ensures { OneAnswer per_ruling }
 {}
@@ -60,9 +58,9 @@ pub fn prefixes_are_viable()
     ensures not_refused { BeginningsAreNotRefused per_ruling }
 {}
 
-/// What makes a reader of PER exact: two complete encodings of one type are one, of one value, or
-/// part at a bit or inside sealed fields of one kind; each sealed field is at least as long as its
-/// content and begins no other; and the bits of octets are those of each, one after the other.
+/// What makes a reader of PER exact: two complete encodings of one type are one, of one value, or part at a bit or
+/// inside sealed fields of one kind; each sealed field is at least as long as its content and begins no other; and the
+/// bits of octets are those of each, one after the other.
 pub fn readers_tell()
     ensures { RulesTell per_ruling }
 {}
@@ -71,15 +69,14 @@ pub fn readers_tell()
 /// octets.
 ///
 /// - `decodes`: to the octets that `encode` gave for a value `decode` answers that value.
-/// - `encodes_again`: a value that `decode` answered has the octets that it was given as its
-///   encoding, and no others. `only_memory`: where `encode` gives none for it, it had no memory.
+/// - `encodes_again`: a value that `decode` answered has the octets that it was given as its encoding, and no others.
+///   `only_memory`: where `encode` gives none for it, it had no memory.
 /// - `equal_exactly`: two values are equal exactly where their octets are.
-/// - `begins`: where octets follow an encoding, `decode` tells where it ends. `one_front`: where
-///   `decode` tells so, the octets in front are the encoding of a value, and no other front is an
-///   encoding.
+/// - `begins`: where octets follow an encoding, `decode` tells where it ends. `one_front`: where `decode` tells so, the
+///   octets in front are the encoding of a value, and no other front is an encoding.
 /// - `cut`: to each proper beginning of an encoding `decode` answers `Truncated`, with all its bits.
-/// - `one_answer`: two answers to the same octets, neither being `Memory`, say the same, but for the
-///   reason of a refusal.
+/// - `one_answer`: two answers to the same octets, neither being `Memory`, say the same, but for the reason of a
+///   refusal.
 pub fn codec_laws()
     ensures decodes { DecodesTheEncoded per_ruling }
     ensures encodes_again { EncodesTheDecoded per_ruling }
@@ -89,4 +86,26 @@ pub fn codec_laws()
     ensures one_front { RestFollowsOneFront per_ruling }
     ensures cut { TellsTheCut per_ruling }
     ensures one_answer { DecodersAgree per_ruling }
+{}
+
+/// Of each kind of type of the profile the spellings of its values are those of its parts, put together: numbers of a
+/// set in a fixed count of bits, lengths, items in a row, extension bits that fork, presence bits and open fields. A
+/// list whose size is fixed has no count. Of an ENUMERATED without a mark, and of an INTEGER without a low bound and
+/// without a mark, the same is said of the values but for one, as a component with a DEFAULT is spelt.
+pub fn kinds_compose()
+    ensures booleans { BooleansCompose }
+    ensures nulls { NullsCompose }
+    ensures integers { IntegersCompose }
+    ensures enumerated { EnumeratedCompose }
+    ensures bit_strings { BitStringsCompose }
+    ensures octet_strings { OctetStringsCompose }
+    ensures texts { TextsCompose }
+    ensures utf8_strings { Utf8StringsCompose }
+    ensures lists { ListsCompose }
+    ensures fixed_sizes { FixedSizesCompose }
+    ensures choices { ChoicesCompose }
+    ensures sequences { SequencesCompose }
+    ensures marked_sequences { MarkedSequencesCompose }
+    ensures enumerated_but_one { EnumeratedButOne }
+    ensures unbounded_but_one { UnboundedButOne }
 {}

@@ -2,16 +2,16 @@
 ghost use Rattle.asn_per.specs.RowsAhead.{ahead_of, IsBetween};
 ghost use Rattle.asn_per.specs.Walk.{per_coding};
 
-use crate::indexes::{self, read_extension_bit};
-use crate::integer_reader::{read_boolean, read_integer, try_constrained};
+use crate::indexes::{self, read_extension_bit, read_small_length};
+use crate::integers::{read_boolean, read_integer, try_constrained};
 use crate::items::read_item;
-use crate::per::Per;
+use crate::rules::Per;
 use crate::simple_into::{
     read_bit_string_into, read_boolean_into, read_integer_into, read_item_into,
     read_octet_string_into, read_text_into,
 };
-use crate::size_reader::Fragments;
-use crate::string_reader::{read_bit_string, read_octet_string, read_text, read_utf8};
+use crate::sizes::Fragments;
+use crate::string_reader::{read_bits, read_characters, read_octet_string, read_utf8};
 use asn_bits::BitCursor;
 use asn_rules::Why;
 use asn_rules::internal::{
@@ -48,9 +48,17 @@ impl ReadLeaves for Per {
             AsnType::Null => Ok(Value::Null),
             AsnType::Int(bounds) => Ok(Value::Int(read_integer(bounds, None, units)?)),
             AsnType::Enum { root, ext } => Ok(Value::Enum(read_item(root, ext, None, units)?)),
-            AsnType::Bits(size) => Ok(Value::Bits(read_bit_string(alloc, size, units)?)),
+            AsnType::Bits(size) => {
+                let mut bits = Vec::new(alloc);
+                read_bits(size, &mut bits, units)?;
+                Ok(Value::Bits(bits))
+            }
             AsnType::Octets(size) => Ok(Value::Octets(read_octet_string(alloc, size, units)?)),
-            AsnType::Text(kind, size) => Ok(Value::Text(read_text(alloc, *kind, size, units)?)),
+            AsnType::Text(kind, size) => {
+                let mut characters = Vec::new(alloc);
+                read_characters(*kind, size, &mut characters, units)?;
+                Ok(Value::Text(characters))
+            }
             AsnType::Utf8 => Ok(Value::Utf8(read_utf8(alloc, units)?)),
             AsnType::Seq { .. } | AsnType::SeqOf(..) | AsnType::Choice { .. } => unreachable!(),
         }
@@ -114,13 +122,7 @@ impl ReadLeaves for Per {
 
     #[inline(always)]
     fn read_addition_bitmap(count: u32, units: &mut BitCursor<'_>) -> Result<u64, Stop> {
-        let last = u64::from(count) - 1;
-        let of_type = NumberSet {
-            low: last,
-            high: last,
-            excluded: None,
-        };
-        read_number(7, of_type, Why::Extension, units)?;
+        read_small_length(count, units)?;
         let some_present = NumberSet {
             low: 0,
             high: greatest_of_width(count),
@@ -140,12 +142,7 @@ impl ReadLeaves for Per {
 
     #[inline(always)]
     fn read_open_octets(alloc: Global, units: &mut BitCursor<'_>) -> Result<Vec<u8>, Stop> {
-        let some = Size {
-            low: 1,
-            high: None,
-            ext: false,
-        };
-        read_octet_string(alloc, &some, units)
+        read_octet_string(alloc, &Size::at_least(1), units)
     }
 
     fn read_padding(given: u128, units: &mut BitCursor<'_>) -> Result<(), Stop> {

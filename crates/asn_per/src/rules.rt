@@ -5,11 +5,13 @@ ghost use Rattle.asn_rules.specs.Codec.{Decoded};
 ghost use Rattle.asn_rules.specs.Rereading.{Keeps};
 ghost use Rattle.asn_per.specs.Rules.{per_ruling};
 
-use crate::per::Per;
 use asn_rules::internal::{self, Reads, Rereading};
 use asn_rules::{DecodeFault, EncodeFault, FeedFault, OpenFault, Rules, Step, Truncated};
 use asn_values::{Checked, Value};
 use std::alloc::{AllocError, Global};
+
+/// CANONICAL-PER UNALIGNED (X.691) as a set of encoding rules, whose units are bits.
+pub struct Per;
 
 impl Reads for Per {
     ghost ruling = { per_ruling };

@@ -1,18 +1,14 @@
 //! Readers of simple types into the value that is there: a number is overwritten, a string is cleared and filled.
-ghost use Rattle.std.specs.Prelude.{None, OnOk};
-ghost use Rattle.asn_values.specs.Datum.{number};
+ghost use Rattle.std.specs.Prelude.{None};
 ghost use Rattle.asn_values.specs.Profile.{InProfile};
 ghost use Rattle.asn_values.specs.Shape.{integer, bit_string, octet_string, restricted};
 ghost use Rattle.asn_values.specs.View.{datum_of, range_of, size_range_of, alphabet_of};
-ghost use Rattle.asn_rules.specs.Languages.{Spells};
-ghost use Rattle.asn_rules.specs.Listed.{Spelt};
 ghost use Rattle.asn_walk.specs.Items.{enumeration_of};
-ghost use Rattle.asn_per.specs.Per.{per, per_fields};
-ghost use Rattle.asn_per.specs.Reading.{StopsIn, BooleansBut, IntegersBut, ItemsBut};
+ghost use Rattle.asn_per.specs.Reading.{ReadsInto, StopsIn, BooleansBut, IntegersBut, ItemsBut, BitStringsOf, OctetStringsOf, TextsOf};
 
-use crate::integer_reader::{read_boolean, read_integer};
+use crate::integers::{read_boolean, read_integer};
 use crate::items::read_item;
-use crate::string_reader::{fill_bits, fill_characters, fill_octets};
+use crate::string_reader::{read_bits, read_characters, read_octets};
 use asn_bits::BitCursor;
 use asn_rules::internal::Stop;
 use asn_values::{Bounds, Item, Size, TextKind, Value};
@@ -24,7 +20,7 @@ use std::alloc::Global;
 /// Reads a BOOLEAN (X.691, "encoding the boolean type").
 #[inline(never)]
 pub(crate) fn read_boolean_into(slot: &mut Value, bits: &mut BitCursor<'_>) -> Result<(), Stop>
-    ensures done { OnOk result (Spells per_fields (BooleansBut None) (datum_of slot.new) bits.old bits.new) }
+    ensures done { ReadsInto result (BooleansBut None) (datum_of slot.new) bits.old bits.new }
     ensures stop { StopsIn result (BooleansBut None) bits.old }
 {
     set_boolean(read_boolean(None, bits)?, slot);
@@ -39,8 +35,7 @@ pub(crate) fn read_integer_into(
     bits: &mut BitCursor<'_>,
 ) -> Result<(), Stop>
     requires of_profile { InProfile (integer (range_of bounds.now)) }
-    ensures done { OnOk result (Spells per_fields (IntegersBut None (range_of bounds.now)) (datum_of slot.new)
-        bits.old bits.new) }
+    ensures done { ReadsInto result (IntegersBut None (range_of bounds.now)) (datum_of slot.new) bits.old bits.new }
     ensures stop { StopsIn result (IntegersBut None (range_of bounds.now)) bits.old }
 {
     set_integer(read_integer(bounds, None, bits)?, slot);
@@ -56,8 +51,7 @@ pub(crate) fn read_item_into(
     bits: &mut BitCursor<'_>,
 ) -> Result<(), Stop>
     requires of_profile { InProfile (enumeration_of root.now more.now) }
-    ensures done { OnOk result (Spells per_fields (ItemsBut None root.now more.now) (datum_of slot.new)
-        bits.old bits.new) }
+    ensures done { ReadsInto result (ItemsBut None root.now more.now) (datum_of slot.new) bits.old bits.new }
     ensures stop { StopsIn result (ItemsBut None root.now more.now) bits.old }
 {
     set_item(read_item(root, more, None, bits)?, slot);
@@ -73,12 +67,11 @@ pub(crate) fn read_bit_string_into(
     cursor: &mut BitCursor<'_>,
 ) -> Result<(), Stop>
     requires of_profile { InProfile (bit_string (size_range_of size.now)) }
-    ensures done { OnOk result (Spells per_fields (Spelt per None (bit_string (size_range_of size.now)))
-        (datum_of slot.new) cursor.old cursor.new) }
-    ensures stop { StopsIn result (Spelt per None (bit_string (size_range_of size.now))) cursor.old }
+    ensures done { ReadsInto result (BitStringsOf (size_range_of size.now)) (datum_of slot.new) cursor.old cursor.new }
+    ensures stop { StopsIn result (BitStringsOf (size_range_of size.now)) cursor.old }
 {
     let mut bits = take_bits(alloc, slot);
-    fill_bits(size, &mut bits, cursor)?;
+    read_bits(size, &mut bits, cursor)?;
     *slot = Value::Bits(bits);
     Ok(())
 }
@@ -92,12 +85,11 @@ pub(crate) fn read_octet_string_into(
     cursor: &mut BitCursor<'_>,
 ) -> Result<(), Stop>
     requires of_profile { InProfile (octet_string (size_range_of size.now)) }
-    ensures done { OnOk result (Spells per_fields (Spelt per None (octet_string (size_range_of size.now)))
-        (datum_of slot.new) cursor.old cursor.new) }
-    ensures stop { StopsIn result (Spelt per None (octet_string (size_range_of size.now))) cursor.old }
+    ensures done { ReadsInto result (OctetStringsOf (size_range_of size.now)) (datum_of slot.new) cursor.old cursor.new }
+    ensures stop { StopsIn result (OctetStringsOf (size_range_of size.now)) cursor.old }
 {
     let mut octets = take_octets(alloc, slot);
-    fill_octets(size, &mut octets, cursor)?;
+    read_octets(size, &mut octets, cursor)?;
     *slot = Value::Octets(octets);
     Ok(())
 }
@@ -112,13 +104,11 @@ pub(crate) fn read_text_into(
     cursor: &mut BitCursor<'_>,
 ) -> Result<(), Stop>
     requires of_profile { InProfile (restricted (alphabet_of kind) (size_range_of size.now)) }
-    ensures done { OnOk result (Spells per_fields
-        (Spelt per None (restricted (alphabet_of kind) (size_range_of size.now))) (datum_of slot.new)
-        cursor.old cursor.new) }
-    ensures stop { StopsIn result (Spelt per None (restricted (alphabet_of kind) (size_range_of size.now))) cursor.old }
+    ensures done { ReadsInto result (TextsOf kind (size_range_of size.now)) (datum_of slot.new) cursor.old cursor.new }
+    ensures stop { StopsIn result (TextsOf kind (size_range_of size.now)) cursor.old }
 {
     let mut characters = take_characters(alloc, slot);
-    fill_characters(kind, size, &mut characters, cursor)?;
+    read_characters(kind, size, &mut characters, cursor)?;
     *slot = Value::Text(characters);
     Ok(())
 }

@@ -2,12 +2,12 @@
 ghost use Rattle.asn_per.specs.Following.{following_chunks};
 ghost use Rattle.asn_per.specs.Walk.{per_coding};
 
-use crate::indexes;
-use crate::integer_writer::write_integer;
-use crate::item_writer::{Items, write_sized};
+use crate::indexes::{self, write_small_length};
+use crate::integers::write_integer;
 use crate::items::write_item;
-use crate::per::Per;
-use crate::size_writer::{Following, write_size};
+use crate::rules::Per;
+use crate::sizes::{Following, write_size};
+use crate::string_items::{Items, write_sized};
 use asn_bits::BitSink;
 use asn_rules::EncodeFault;
 use asn_values::internal::{item_fits, length_fits, octets_fit, text_fits, unicode_fits};
@@ -75,8 +75,7 @@ impl WriteLeaves for Per {
         bitmap: u64,
         sink: &mut BitSink,
     ) -> Result<(), AllocError> {
-        // a normally small length: 0, and one less than the number in 6 bits
-        sink.push_number(7, u64::from(count) - 1)?;
+        write_small_length(count, sink)?;
         sink.push_number(count, bitmap)
     }
 

@@ -25,13 +25,13 @@ fn main(rt: HostRuntime) -> Result<()> {
     let module = read(rt.alloc(), module)?;
     let mut held = 0usize;
     let mut slot = Value::Null;
-    for (place, row) in rows.lines().enumerate() {
+    for (index, row) in rows.lines().enumerate() {
         if row.is_empty() || row.starts_with("--") {
             continue;
         }
         match try_all(rt.alloc(), &module, row, rows, &mut slot) {
             Ok(()) => held = held.saturating_add(1),
-            Err(fault) => println!(rt; "line {place} after ====: {fault}")?,
+            Err(fault) => println!(rt; "line {index} after ====: {fault}")?,
         }
     }
     println!(rt; "{held} rows")?;

@@ -23,7 +23,7 @@ use asn_walk::ReadLeaves;
 use asn_walk_into::decode_into;
 use std::alloc::Global;
 
-/// Octets of more than so many do not come in pieces of few octets.
+/// More octets than these are not fed in pieces of few octets.
 const FEW: usize = 64;
 
 /// Fails where the row does not hold. Values are decoded into `slot` too, which holds that of a row before.
@@ -49,7 +49,7 @@ pub fn try_row(alloc: Global, module: &Module, row: &str, slot: &mut Value) -> R
     }
 }
 
-/// The sizes of pieces that so many octets come in.
+/// The sizes of the pieces that `count` octets are fed in.
 fn pieces_of(count: usize) -> [usize; 4] {
     if count <= FEW {
         [1, 2, 3, 5]

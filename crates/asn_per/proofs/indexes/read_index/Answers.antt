@@ -31,13 +31,13 @@ returns-in_ok-read_root_index-2-clause-done c =
     let lead = zero_leads c.args.root c.in-Some.additions c.args.bits.now c.read_extension_bit.new.bits c.in_ok-extended.extended c.in_ok-extended.ensures.done.0 c.if-extended.false in
     rw c.in-Some.is (lead.done c.in_ok-read_root_index-2.field-0 c.read_root_index-else-extended.new.bits c.in_ok-read_root_index-2.ensures.done)
 
-pub returns-in_err-read_added_index-clause-stop : goal.returns-in_err-read_added_index-clause-stop
-returns-in_err-read_added_index-clause-stop c =
+pub returns-in_err-read_small_number-clause-stop : goal.returns-in_err-read_small_number-clause-stop
+returns-in_err-read_small_number-clause-stop c =
     let lead = one_leads c.args.root c.in-Some.additions c.args.bits.now c.read_extension_bit.new.bits c.in_ok-extended.extended c.in_ok-extended.ensures.done.0 c.if-extended.true in
-    let p = err_from_is_err_and c.from_residual-in_err-read_added_index.result c.from_residual-in_err-read_added_index.ensures.1 in
-    rw (p.1, p.2, c.in-Some.is) (stops_by _ lead.stops c.in_err-read_added_index.ensures.stop)
+    let p = err_from_is_err_and c.from_residual-in_err-read_small_number.result c.from_residual-in_err-read_small_number.ensures.1 in
+    rw (p.1, p.2, c.in-Some.is) (stops_by _ lead.stops c.in_err-read_small_number.ensures.stop)
 
-pub returns-in_ok-read_added_index-clause-done : goal.returns-in_ok-read_added_index-clause-done
-returns-in_ok-read_added_index-clause-done c =
+pub returns-in_ok-read_small_number-clause-done : goal.returns-in_ok-read_small_number-clause-done
+returns-in_ok-read_small_number-clause-done c =
     let lead = one_leads c.args.root c.in-Some.additions c.args.bits.now c.read_extension_bit.new.bits c.in_ok-extended.extended c.in_ok-extended.ensures.done.0 c.if-extended.true in
-    rw c.in-Some.is (lead.done c.in_ok-read_added_index.field-0 c.read_added_index.new.bits c.in_ok-read_added_index.ensures.done)
+    rw c.in-Some.is (lead.done c.in_ok-read_small_number.field-0 c.read_small_number.new.bits c.in_ok-read_small_number.ensures.done)

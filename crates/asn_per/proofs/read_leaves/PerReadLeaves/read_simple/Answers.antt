@@ -24,23 +24,23 @@ read_item-requires-clause-some c =
     let is : shape_of c.args.ty.now ≡ type = enumerated_of_items c.args.ty.now c.in-Enum.root c.in-Enum.ext c.deref.result.now c.in-Enum.is c.deref.ensures.value in
     spelt_inhabited per type (rw is at c.requires.of_profile)
 
-pub read_bit_string-requires : goal.read_bit_string-requires
+pub read_bits-requires : goal.read_bits-requires
 unfolding per_coding per_ruling
-read_bit_string-requires c =
+read_bits-requires c =
     record { of_profile = bits_size (size_range_of c.in-Bits.size) (rw (c.in-Bits.is, shape_of-Bits) at c.requires.of_profile) }
 
-pub returns-in_err-read_bit_string-in-Bits-clause-stop : goal.returns-in_err-read_bit_string-in-Bits-clause-stop
+pub returns-in_err-read_bits-in-Bits-clause-stop : goal.returns-in_err-read_bits-in-Bits-clause-stop
 unfolding per_coding per_ruling
-returns-in_err-read_bit_string-in-Bits-clause-stop c =
+returns-in_err-read_bits-in-Bits-clause-stop c =
     let good = rw (c.in-Bits.is, shape_of-Bits) at c.requires.of_profile in
-    let p = err_from_is_err_and c.from_residual-in_err-read_bit_string-in-Bits.result c.from_residual-in_err-read_bit_string-in-Bits.ensures.1 in
-    rw (p.1, p.2, c.in-Bits.is, shape_of-Bits) (stops_by _ (bits_lead (size_range_of c.in-Bits.size) c.args.units.now good).stops c.in_err-read_bit_string-in-Bits.ensures.stop)
+    let p = err_from_is_err_and c.from_residual-in_err-read_bits-in-Bits.result c.from_residual-in_err-read_bits-in-Bits.ensures.1 in
+    rw (p.1, p.2, c.in-Bits.is, shape_of-Bits) (stops_by _ (bits_lead (size_range_of c.in-Bits.size) c.args.units.now good).stops c.in_err-read_bits-in-Bits.ensures.stop)
 
-pub returns-in_ok-read_bit_string-in-Bits-clause-done : goal.returns-in_ok-read_bit_string-in-Bits-clause-done
+pub returns-in_ok-read_bits-in-Bits-clause-done : goal.returns-in_ok-read_bits-in-Bits-clause-done
 unfolding per_coding per_ruling
-returns-in_ok-read_bit_string-in-Bits-clause-done c =
+returns-in_ok-read_bits-in-Bits-clause-done c =
     let good = rw (c.in-Bits.is, shape_of-Bits) at c.requires.of_profile in
-    rw (c.in-Bits.is, shape_of-Bits, datum_of-Bits) ((bits_lead (size_range_of c.in-Bits.size) c.args.units.now good).done c.in_ok-read_bit_string-in-Bits.field-0.items c.read_bit_string.new.cursor c.in_ok-read_bit_string-in-Bits.ensures.done)
+    rw (c.in-Bits.is, shape_of-Bits, datum_of-Bits) ((bits_lead (size_range_of c.in-Bits.size) c.args.units.now good).done c.read_bits.new.bits.items c.read_bits.new.cursor c.in_ok-read_bits-in-Bits.ensures.done)
 
 pub read_octet_string-requires : goal.read_octet_string-requires
 unfolding per_coding per_ruling
@@ -60,23 +60,23 @@ returns-in_ok-read_octet_string-in-Octets-clause-done c =
     let good = rw (c.in-Octets.is, shape_of-Octets) at c.requires.of_profile in
     rw (c.in-Octets.is, shape_of-Octets, datum_of-Octets) ((octets_lead (size_range_of c.in-Octets.size) c.args.units.now good).done c.in_ok-read_octet_string-in-Octets.field-0.items c.read_octet_string.new.cursor c.in_ok-read_octet_string-in-Octets.ensures.done)
 
-pub read_text-requires : goal.read_text-requires
+pub read_characters-requires : goal.read_characters-requires
 unfolding per_coding per_ruling
-read_text-requires c =
+read_characters-requires c =
     record { of_profile = text_size (alphabet_of c.in-Text.kind) (size_range_of c.in-Text.size) (rw (c.in-Text.is, shape_of-Text) at c.requires.of_profile) }
 
-pub returns-in_err-read_text-in-Text-clause-stop : goal.returns-in_err-read_text-in-Text-clause-stop
+pub returns-in_err-read_characters-in-Text-clause-stop : goal.returns-in_err-read_characters-in-Text-clause-stop
 unfolding per_coding per_ruling
-returns-in_err-read_text-in-Text-clause-stop c =
+returns-in_err-read_characters-in-Text-clause-stop c =
     let good = rw (c.in-Text.is, shape_of-Text) at c.requires.of_profile in
-    let p = err_from_is_err_and c.from_residual-in_err-read_text-in-Text.result c.from_residual-in_err-read_text-in-Text.ensures.1 in
-    rw (p.1, p.2, c.in-Text.is, shape_of-Text) (stops_by _ (text_leads (alphabet_of c.in-Text.kind) (size_range_of c.in-Text.size) c.args.units.now good).stops c.in_err-read_text-in-Text.ensures.stop)
+    let p = err_from_is_err_and c.from_residual-in_err-read_characters-in-Text.result c.from_residual-in_err-read_characters-in-Text.ensures.1 in
+    rw (p.1, p.2, c.in-Text.is, shape_of-Text) (stops_by _ (text_leads (alphabet_of c.in-Text.kind) (size_range_of c.in-Text.size) c.args.units.now good).stops c.in_err-read_characters-in-Text.ensures.stop)
 
-pub returns-in_ok-read_text-in-Text-clause-done : goal.returns-in_ok-read_text-in-Text-clause-done
+pub returns-in_ok-read_characters-in-Text-clause-done : goal.returns-in_ok-read_characters-in-Text-clause-done
 unfolding per_coding per_ruling
-returns-in_ok-read_text-in-Text-clause-done c =
+returns-in_ok-read_characters-in-Text-clause-done c =
     let good = rw (c.in-Text.is, shape_of-Text) at c.requires.of_profile in
-    rw (c.in-Text.is, shape_of-Text, datum_of-Text) ((text_leads (alphabet_of c.in-Text.kind) (size_range_of c.in-Text.size) c.args.units.now good).done c.in_ok-read_text-in-Text.field-0.items c.read_text.new.cursor c.in_ok-read_text-in-Text.ensures.done)
+    rw (c.in-Text.is, shape_of-Text, datum_of-Text) ((text_leads (alphabet_of c.in-Text.kind) (size_range_of c.in-Text.size) c.args.units.now good).done c.read_characters.new.characters.items c.read_characters.new.cursor c.in_ok-read_characters-in-Text.ensures.done)
 
 pub returns-in_err-read_utf8-in-Utf8-clause-stop : goal.returns-in_err-read_utf8-in-Utf8-clause-stop
 unfolding per_coding per_ruling

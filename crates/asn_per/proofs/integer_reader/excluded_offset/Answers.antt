@@ -1,8 +1,0 @@
-use Rattle.std.proofs.Common.{◌≤ℤ◌, ℤ, sym, subst}
-use Rattle.asn_values.specs.Fits.{lowest_integer}
-use Rattle.asn_per.proofs.IntegerRanges.{low_above_lowest, low_kept}
-use Rattle.asn_per.proofs.integer_reader.excluded_offset.Goals as goal
-
-pub offset_from-requires-clause-within_low : goal.offset_from-requires-clause-within_low
-offset_from-requires-clause-within_low c =
-    subst (λ (z : ℤ). lowest_integer ≤ℤ z) (sym (low_kept c.args.low c.args.high c.requires.of_profile)) (low_above_lowest c.args.low c.args.high c.requires.of_profile)

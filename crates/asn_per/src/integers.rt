@@ -1,0 +1,260 @@
+//! INTEGER and BOOLEAN (X.691). A reader may exclude one value: a component's DEFAULT, which an encoder leaves out.
+ghost use Rattle.std.specs.Prelude.{◌≡◌, ◌≤ℤ◌, ◌++◌, OnOk, IfSome, IsNone, ℕ, Some, None, true, false};
+ghost use Rattle.std.specs.Option.{option_map};
+ghost use Rattle.asn_values.specs.Fits.{FitsNumber};
+ghost use Rattle.asn_values.specs.Shape.{integer};
+ghost use Rattle.asn_values.specs.Datum.{number, truth};
+ghost use Rattle.asn_values.specs.Profile.{InProfile};
+ghost use Rattle.asn_values.specs.View.{range_of};
+ghost use Rattle.asn_bits.specs.Numbers.{above};
+ghost use Rattle.asn_bits.specs.Sink.{bit_of};
+ghost use Rattle.asn_rules.specs.Languages.{Spells, Inhabited};
+ghost use Rattle.asn_rules.specs.OffsetSets.{IsOpen, HasOffset};
+ghost use Rattle.asn_rules.specs.IntegerSets.{IsWithin, unmarked, AreOffsets};
+ghost use Rattle.asn_walk.specs.Writing.{TellsWhether};
+ghost use Rattle.asn_walk.specs.Integers.{IsOfProfile};
+ghost use Rattle.asn_per.specs.Kinds.{between, IsNotBetween, IsOutside};
+ghost use Rattle.asn_per.specs.Laws.{per_bits};
+ghost use Rattle.asn_per.specs.Per.{per_fields};
+ghost use Rattle.asn_per.specs.Reading.{Reads, StopsIn, IntegersBut, IntegersBetween, BooleansBut, IntegersOutside};
+
+use crate::indexes::read_extension_bit;
+use crate::sizes::write_extension_bit;
+use asn_bits::internal::{at_offset, offset_from, width};
+use asn_bits::{BitCursor, BitSink};
+use asn_rules::internal::{
+    NumberSet, OffsetSet, Stop, offsets_of, read_constrained, read_semi_constrained,
+    read_unconstrained, try_number,
+};
+use asn_rules::{EncodeFault, Why};
+use asn_values::Bounds;
+use asn_values::internal::{is_between, number_fits};
+use asn_values::profile::{HIGHEST_INTEGER, INTEGER_COUNT, LOWEST_INTEGER};
+use std::alloc::AllocError;
+
+/// Writes a number, where it is one of the range (X.691, "encoding the integer type").
+#[inline(always)]
+pub(crate) fn write_integer(
+    bounds: &Bounds,
+    value: i128,
+    sink: &mut BitSink,
+) -> Result<(), EncodeFault>
+    requires of_profile { InProfile (integer (range_of bounds.now)) }
+    ensures of_type { TellsWhether result (FitsNumber (range_of bounds.now) value) }
+    ensures written { OnOk result (sink.new ≡ sink.old ++ per_bits (integer (range_of bounds.now)) (number value)) }
+{
+    if let (Some(low), Some(high)) = (bounds.low, bounds.high)
+        && low <= value
+        && value <= high
+    {
+        write_between(low, high, bounds.ext, value, sink)?;
+        return Ok(());
+    }
+    write_unbounded(bounds, value, sink)
+}
+
+/// Writes a number between two bounds as a constrained whole number, after an extension bit 0 where there is one.
+#[inline(always)]
+fn write_between(
+    low: i128,
+    high: i128,
+    ext: bool,
+    value: i128,
+    sink: &mut BitSink,
+) -> Result<(), AllocError>
+    requires of_profile { InProfile (integer (between low high ext)) }
+    requires of_type { (low ≤ℤ value) × (value ≤ℤ high) }
+    ensures { OnOk result (sink.new ≡ sink.old ++ per_bits (integer (between low high ext)) (number value)) }
+{
+    let count = width(u128::from(offset_from(low, high)) + 1);
+    let offset = offset_from(low, value);
+    if ext {
+        if count < 64 {
+            return sink.push_number(1 + count, offset);
+        }
+        sink.push(false)?;
+    }
+    sink.push_number(count, offset)
+}
+
+/// Writes a number that does not lie between two bounds, where it is one of the range: after the extension bit, from
+/// a low bound on as a semi-constrained whole number, and else as an unconstrained one.
+#[inline(never)]
+fn write_unbounded(bounds: &Bounds, value: i128, sink: &mut BitSink) -> Result<(), EncodeFault>
+    requires of_profile { InProfile (integer (range_of bounds.now)) }
+    requires open { IsNotBetween (range_of bounds.now) value }
+    ensures of_type { TellsWhether result (FitsNumber (range_of bounds.now) value) }
+    ensures written { OnOk result (sink.new ≡ sink.old ++ per_bits (integer (range_of bounds.now)) (number value)) }
+{
+    if !number_fits(bounds, value) {
+        return Err(EncodeFault::NotOfType);
+    }
+    let inside = is_between(bounds, value);
+    write_extension_bit(bounds.ext, !inside, sink)?;
+    match bounds.low {
+        Some(low) if inside => Ok(sink.push_least_octets(offset_from(low, value))?),
+        _ => Ok(sink.push_least_signed_octets(value)?),
+    }
+}
+
+/// Reads an integer of the range (X.691, "encoding the integer type"), but for `excluded`. With an extension mark the
+/// extension bit tells whether it lies outside the bounds.
+#[inline(always)]
+pub(crate) fn read_integer(
+    bounds: &Bounds,
+    excluded: Option<i128>,
+    bits: &mut BitCursor<'_>,
+) -> Result<i128, Stop>
+    requires of_profile { InProfile (integer (range_of bounds.now)) }
+    requires within { IsWithin (range_of bounds.now) excluded }
+    requires some { Inhabited (IntegersBut excluded (range_of bounds.now)) }
+    ensures done { Reads result number (IntegersBut excluded (range_of bounds.now)) bits.old bits.new }
+    ensures stop { StopsIn result (IntegersBut excluded (range_of bounds.now)) bits.old }
+{
+    if !bounds.ext {
+        return read_ranged(bounds.low, bounds.high, excluded, bits);
+    }
+    let outside = read_extension_bit(true, bits)?;
+    if outside {
+        read_outside(bounds, bits)
+    } else {
+        read_ranged(bounds.low, bounds.high, None, bits)
+    }
+}
+
+/// Reads an integer between the bounds, but for `excluded`.
+#[inline(always)]
+fn read_ranged(
+    low: Option<i128>,
+    high: Option<i128>,
+    excluded: Option<i128>,
+    bits: &mut BitCursor<'_>,
+) -> Result<i128, Stop>
+    requires of_profile { InProfile (integer (unmarked low high)) }
+    requires within { IsWithin (unmarked low high) excluded }
+    requires some { Inhabited (IntegersBut excluded (unmarked low high)) }
+    ensures done { Reads result number (IntegersBut excluded (unmarked low high)) bits.old bits.new }
+    ensures stop { StopsIn result (IntegersBut excluded (unmarked low high)) bits.old }
+{
+    match low {
+        Some(low) => read_from_low(low, high, excluded, bits),
+        None => read_up_to_high(high, excluded, bits),
+    }
+}
+
+/// Reads an integer from the low bound on, but for `excluded`.
+#[inline(always)]
+fn read_from_low(
+    low: i128,
+    high: Option<i128>,
+    excluded: Option<i128>,
+    bits: &mut BitCursor<'_>,
+) -> Result<i128, Stop>
+    requires of_profile { InProfile (integer (unmarked (Some low) high)) }
+    requires within { IsWithin (unmarked (Some low) high) excluded }
+    requires some { Inhabited (IntegersBut excluded (unmarked (Some low) high)) }
+    ensures done { Reads result number (IntegersBut excluded (unmarked (Some low) high)) bits.old bits.new }
+    ensures stop { StopsIn result (IntegersBut excluded (unmarked (Some low) high)) bits.old }
+{
+    let left_out = excluded_offset(low, high, excluded);
+    match high {
+        Some(high) => {
+            let offset = read_constrained(offset_from(low, high), left_out, bits)?;
+            Ok(at_offset(low, offset))
+        }
+        None => {
+            let offset = read_semi_constrained(offset_from(low, HIGHEST_INTEGER), left_out, bits)?;
+            Ok(at_offset(low, offset))
+        }
+    }
+}
+
+/// Fast path: an integer between these bounds, if its bits are present and in range; otherwise consumes nothing.
+#[inline(always)]
+pub(crate) fn try_constrained(low: i128, high: i128, bits: &mut BitCursor<'_>) -> Option<i128>
+    requires of_profile { InProfile (integer (unmarked (Some low) (Some high))) }
+    ensures some { IfSome result (λ z. Spells per_fields (IntegersBetween low high) (number z) bits.old bits.new) }
+    ensures of_integers { IfSome result IsOfProfile }
+    ensures none { IsNone result → bits.new ≡ bits.old }
+{
+    let highest = offset_from(low, high);
+    let set = NumberSet {
+        low: 0,
+        high: highest,
+        excluded: None,
+    };
+    let offset = try_number(width(u128::from(highest) + 1), set, bits)?;
+    Some(at_offset(low, offset))
+}
+
+/// The offset of the excluded integer from the low bound.
+fn excluded_offset(low: i128, high: Option<i128>, excluded: Option<i128>) -> Option<u64>
+    requires of_profile { InProfile (integer (unmarked (Some low) high)) }
+    requires within { IsWithin (unmarked (Some low) high) excluded }
+    ensures { result ≡ option_map (λ z. above low z) excluded }
+{
+    match excluded {
+        Some(integer) => Some(offset_from(low, integer)),
+        None => None,
+    }
+}
+
+/// Reads an integer up to the high bound, if there is one, but for `excluded`.
+fn read_up_to_high(
+    high: Option<i128>,
+    excluded: Option<i128>,
+    bits: &mut BitCursor<'_>,
+) -> Result<i128, Stop>
+    requires of_profile { InProfile (integer (unmarked None high)) }
+    requires within { IsWithin (unmarked None high) excluded }
+    requires some { Inhabited (IntegersBut excluded (unmarked None high)) }
+    ensures done { Reads result number (IntegersBut excluded (unmarked None high)) bits.old bits.new }
+    ensures stop { StopsIn result (IntegersBut excluded (unmarked None high)) bits.old }
+{
+    let set = offsets_of(None, high, excluded);
+    let left_out = excluded.is_some();
+    let offset = read_unconstrained(set, Why::in_count(left_out), Why::in_number(left_out), bits)?;
+    Ok(at_offset(LOWEST_INTEGER, offset))
+}
+
+/// Reads an integer outside the bounds.
+fn read_outside(bounds: &Bounds, bits: &mut BitCursor<'_>) -> Result<i128, Stop>
+    requires of_profile { InProfile (integer (range_of bounds.now)) }
+    requires mark { bounds.now.ext ≡ true }
+    ensures done { Reads result number (IntegersOutside (range_of bounds.now)) bits.old bits.new }
+    ensures stop { StopsIn result (IntegersOutside (range_of bounds.now)) bits.old }
+{
+    let offset = read_unconstrained(offsets_outside(bounds), Why::Length, Why::Number, bits)?;
+    Ok(at_offset(LOWEST_INTEGER, offset))
+}
+
+/// The offsets of the integers outside the bounds.
+fn offsets_outside(bounds: &Bounds) -> OffsetSet
+    requires of_profile { InProfile (integer (range_of bounds.now)) }
+    requires mark { bounds.now.ext ≡ true }
+    ensures same { AreOffsets result (λ y. IsOutside (range_of bounds.now) y) }
+    ensures gap { IsOpen result }
+    ensures some { (w : ℕ) × HasOffset result w }
+{
+    let low = bounds.low.unwrap_or(LOWEST_INTEGER);
+    let high = bounds.high.unwrap_or(HIGHEST_INTEGER);
+    OffsetSet {
+        start: 0,
+        below: u128::from(offset_from(LOWEST_INTEGER, low)),
+        from: u128::from(offset_from(LOWEST_INTEGER, high)) + 1,
+        end: INTEGER_COUNT,
+    }
+}
+
+/// Reads a truth value, but for `excluded` (X.691, "encoding the boolean type").
+#[inline(always)]
+pub(crate) fn read_boolean(excluded: Option<bool>, bits: &mut BitCursor<'_>) -> Result<bool, Stop>
+    ensures done { Reads result truth (BooleansBut excluded) bits.old bits.new }
+    ensures stop { StopsIn result (BooleansBut excluded) bits.old }
+{
+    let left_out = match excluded {
+        Some(truth) => Some(u64::from(truth)),
+        None => None,
+    };
+    Ok(read_constrained(1, left_out, bits)? == 1)
+}

@@ -6,7 +6,7 @@ use Rattle.std.proofs.lemmas.List.{length-map}
 use Rattle.std.proofs.Math.Seq.{take-append_seam, drop-append_seam}
 use Rattle.std.specs.List.{AllByRecursion, list_all}
 use Rattle.asn_values.specs.Datum.{Datum, elements, elements_of, element_list, alternative, unknown_alternative}
-use Rattle.asn_values.specs.Shape.{SizeRange, Shape, boolean, null, integer, enumerated, bit_string, octet_string, restricted, utf8_string, sequence, sequence_of, choice, Label, closed_labels, marked_labels, must, optional, default, demands, Fields, no_fields, field, MoreFields, closed, marked, Alternatives, no_alternatives, one_of, MoreAlternatives, closed_choice, marked_choice, count}
+use Rattle.asn_values.specs.Shape.{SizeRange, Shape, boolean, null, integer, enumerated, bit_string, octet_string, restricted, utf8_string, sequence, sequence_of, choice, Label, closed_labels, marked_labels, must, optional, default, demands, Fields, no_fields, field, MoreFields, closed, marked, Alternatives, no_alternatives, one_of, MoreAlternatives, closed_choice, marked_choice, more_alternatives, count}
 use Rattle.asn_values.specs.Fits.{Fits, FitsLength}
 use Rattle.asn_values.specs.Parts.{AreOfProfile, AreAllOfProfile}
 use Rattle.asn_values.specs.Profile.{InProfile, is_optional}
@@ -166,6 +166,14 @@ abbrev IsAlternativeAt : ℕ → Alternatives → ℕ → Datum → Type 0
 IsAlternativeAt tag alts i v = (d : Datum) × (v ≡ alternative tag d) × FitsAlternativeBy true alts i d
 
 -- that of an addition, or of one that the type has not
+abbrev IsOtherAt : ℕ → MoreAlternatives → ℕ → Datum → Type 0
+IsOtherAt tag closed_choice i v = ⊥
+IsOtherAt tag (marked_choice alts) i v = IsAlternativeAt tag alts i v ⊎ (v ≡ unknown_alternative tag)
+
+others_of_profile : (root : Alternatives) (more : MoreAlternatives) → InProfile (choice root more) → AreAllOfProfile (more_alternatives more)
+others_of_profile root closed_choice good = tt
+others_of_profile root (marked_choice alts) good = added_alternatives_of_profile root alts good
+
 addition_of : (root alts : Alternatives) (i : ℕ) (v : Datum) → IsAlternativeAt (count root + i) alts i v ⊎ (v ≡ unknown_alternative (count root + i)) → FitsReceived (choice root (marked_choice alts)) v
 addition_of root alts i v (inr e) = subst (FitsReceived (choice root (marked_choice alts))) (sym e) tt
 addition_of root alts i v (inl (d, e, f)) =
@@ -186,6 +194,15 @@ module _ (l : LooseCoding) (laws : Laws l.coding) where
   item_fits : (root additions : List Label) (r : Reading) (cs : List Chunk) → AnyItem l root additions r cs → FitsReceived (enumerated root (marked_labels additions)) r.0
   item_fits root additions r cs (inl h) = spelt_fits None (enumerated root (marked_labels additions)) r cs h
   item_fits root additions r cs (inr h) = subst (λ (q : Reading). FitsReceived (enumerated root (marked_labels additions)) q.0) (sym h.seen) tt
+
+  chosen_fits : (root : Alternatives) (more : MoreAlternatives) (k : ℕ ⊎ ℕ) (r : Reading) (cs : List Chunk) → ((i : ℕ) → LooseRoot l i root i r cs → IsAlternativeAt i root i r.0)
+      → ((i : ℕ) → LooseOther l (count root) more i r cs → IsOtherAt (count root + i) more i r.0) → IsIndexWithin (count root) (alternatives_to_come root more) k
+      → by_index (λ i. LooseRoot l i root i) (λ i. LooseOther l (count root) more i) k r cs → FitsReceived (choice root more) r.0
+  chosen_fits root more (inl i) r cs here there within h =
+      let d = here i h in
+      subst (FitsReceived (choice root more)) (sym d.1) (subst (λ b. MatchBool b (FitsAlternativeBy true root i d.0) (FitsMoreAlternativesBy true more (i - count root) d.0)) (sym (lt-ltb i (count root) within)) d.2)
+  chosen_fits root closed_choice (inr i) r cs here there within h = absurd h
+  chosen_fits root (marked_choice alts) (inr i) r cs here there within h = addition_of root alts i r.0 (there i h)
 
   mutual
     pub fits : (t : Shape) (r : Reading) (cs : List Chunk) → InProfile t → Loose l t r cs → FitsReceived t r.0
@@ -212,7 +229,9 @@ module _ (l : LooseCoding) (laws : Laws l.coding) where
         let all = values_all (FitsReceived t) rs (listing_all (Loose l t) (λ (q : Reading). FitsReceived t q.0) (λ q ks g. fits t q ks (element_of_profile t s good) g) l.coding s rs cs h.spelt) in
         subst (λ (q : Reading). FitsReceived (sequence_of t s) q.0) (sym h.seen)
         (subst (λ (xs : List Datum). FitsLength s (length xs) × AllByRecursion (FitsReceived t) xs) (sym (element_list-elements_of ds)) (subst (FitsLength s) (sym (length-map rs (λ (q : Reading). q.0))) few, all))
-    fits (choice root more) r cs good h = subst (λ (q : Reading). FitsReceived (choice root more) q.0) (sym h.seen) (chosen_fits root more h.source.0 h.source.1 h.spelt.second good h.spelt.spelt.fits h.spelt.follows)
+    fits (choice root more) r cs good h = subst (λ (q : Reading). FitsReceived (choice root more) q.0) (sym h.seen)
+        (chosen_fits root more h.source.0 h.source.1 h.spelt.second (λ i f. root_fits i root i h.source.1 h.spelt.second (root_alternatives_of_profile root more good) f)
+        (λ i f. other_fits (count root) more i h.source.1 h.spelt.second (others_of_profile root more good) f) h.spelt.spelt.fits h.spelt.follows)
 
     fits_each : (fs : Fields) (present : List ℕ) (p : Entries) (cs : List Chunk) → AreOfProfile fs → LooseEach l fs present p cs → FitsEachBy true fs p.0
     fits_each no_fields present p cs good h = subst (λ (q : Entries). FitsEachBy true no_fields q.0) (sym h.same) tt
@@ -263,13 +282,9 @@ module _ (l : LooseCoding) (laws : Laws l.coding) where
     addition_fits tag place (one_of name t alts) zero r cs good h = let content = h.spelt.spelt in inl (h.source.0, ap (λ (q : Reading). q.0) h.seen, fits t h.source content.chunks good.0 content.spelt)
     addition_fits tag place (one_of name t alts) (suc i) r cs good h = addition_fits tag place alts i r cs good.1 h
 
-    chosen_fits : (root : Alternatives) (more : MoreAlternatives) (k : ℕ ⊎ ℕ) (r : Reading) (cs : List Chunk) → InProfile (choice root more) → IsIndexWithin (count root) (alternatives_to_come root more) k
-        → by_index (λ i. LooseRoot l i root i) (λ i. LooseOther l (count root) more i) k r cs → FitsReceived (choice root more) r.0
-    chosen_fits root more (inl i) r cs good within h =
-        let d = root_fits i root i r cs (root_alternatives_of_profile root more good) h in
-        subst (FitsReceived (choice root more)) (sym d.1) (subst (λ b. MatchBool b (FitsAlternativeBy true root i d.0) (FitsMoreAlternativesBy true more (i - count root) d.0)) (sym (lt-ltb i (count root) within)) d.2)
-    chosen_fits root closed_choice (inr i) r cs good within h = absurd h
-    chosen_fits root (marked_choice alts) (inr i) r cs good within h = addition_of root alts i r.0 (addition_fits (count root + i) i alts i r cs (added_alternatives_of_profile root alts good) h)
+    other_fits : (n : ℕ) (more : MoreAlternatives) (i : ℕ) (r : Reading) (cs : List Chunk) → AreAllOfProfile (more_alternatives more) → LooseOther l n more i r cs → IsOtherAt (n + i) more i r.0
+    other_fits n closed_choice i r cs good h = absurd h
+    other_fits n (marked_choice alts) i r cs good h = addition_fits (n + i) i alts i r cs good h
 
 -- what is read of a message fits
 pub reads_fit : (l : LooseCoding) → Laws l.coding → ReadsFit l

@@ -1,19 +1,21 @@
 -- The job of the subcommand that clap met, by its name and the values of its options.
-use Rattle.std.proofs.Common.{◌≡◌, ◌≢◌, ◌∙◌, ap, ap₂, sym, subst, refl, true, true≢false, codes, string_bytes, Option, Some, None, List, option_map, Result}
+use Rattle.std.proofs.Common.{◌≡◌, ◌≢◌, ◌∙◌, ◌⊎◌, ap, ap₂, sym, subst, refl, inl, inr, true, true≢false, codes, string_bytes, Option, Some, None, List, option_map}
 use Rattle.std.specs.Option.{is_some, unwrap_or}
-use Rattle.clap.specs.Words.{Row, Text, first_of, first_value, found_of, rows_of, subcommand_name_of, subcommand_rows_of}
+use Rattle.std.specs.Prelude.{Box, false}
+use Rattle.std.specs.Str.{bytes_eq}
+use Rattle.std.specs.Box.{box_value}
+use Rattle.clap.specs.Words.{Row, Text, first_of, subcommand_name_of, subcommand_rows_of}
 use Rattle.clap.specs.Simple.{subcommand_rows}
 use Rattle.clap.specs.declared.parser.matches.ArgMatches.{ArgMatches}
 use Rattle.clap.specs.declared.parser.matches.ArgMatches.TheViews.{out-ArgMatches, out-SubCommand}
 use Rattle.clap.specs.declared.parser.matches.SubCommand.{SubCommand}
-use Rattle.std.specs.Prelude.{Box, false}
-use Rattle.std.specs.Str.{bytes_eq}
-use Rattle.std.specs.Box.{box_value}
-use Rattle.asn_convert.specs.declared.job.Job.{Job}
 use Rattle.asn_convert.specs.declared.job.Job.TheVariants as job
 use Rattle.asn_convert.specs.declared.job.Order.{Order}
+use Rattle.asn_convert.specs.declared.job.Order.TheVariants as order
 use Rattle.asn_convert.specs.declared.job.RuleName.{RuleName}
-use Rattle.asn_tool.specs.Tool.{HasJob, IsJobOf, order_name, rule_name}
+use Rattle.asn_convert.specs.declared.job.RuleName.TheVariants as rules
+use Rattle.asn_tool.specs.Command.{HasOptions, IsOneOf, IsTaken, order_names, rule_names}
+use Rattle.asn_tool.specs.Tool.{HasJob, order_name, rule_name}
 
 some≢none : {X : Type 0} (x : X) → Some x ≡ None → ⊥
 some≢none x e = true≢false (ap (λ o. is_some o) e)
@@ -39,32 +41,37 @@ pub other_name : (name text : Text) → false ≡ bytes_eq name text → true �
 other_name name text differs self is = true≢false (self ∙ (ap (λ n. bytes_eq n text) (sym is) ∙ sym differs))
 
 module _ (m : ArgMatches) (found : Text × List Row) (is : subcommand_rows_of m ≡ Some found) where
-  -- the command has no value for the type
-  pub no_type : (found.0 ≢ codes "module") → None ≡ first_of (codes "type") found.1 → (j : Job) → HasJob (subcommand_rows_of m) j → ⊥
-  no_type other none j h = go j (subst (λ o. HasJob o j) is h)
+  -- a subcommand other than `module` has its options
+  pub options : IsTaken (subcommand_rows_of m) → (found.0 ≢ codes "module") → HasOptions found
+  options taken other = go (subst IsTaken is taken)
     where
-      go : (j : Job) → IsJobOf found j → ⊥
-      go job.Module e = other e
-      go (job.Lines o t r) e = some≢none (string_bytes t) (sym e.1 ∙ sym none)
-
-  -- nor for the encoding rules
-  pub no_rules : (found.0 ≢ codes "module") → None ≡ first_of (codes "rules") found.1 → (j : Job) → HasJob (subcommand_rows_of m) j → ⊥
-  no_rules other none j h = go j (subst (λ o. HasJob o j) is h)
-    where
-      go : (j : Job) → IsJobOf found j → ⊥
-      go job.Module e = other e
-      go (job.Lines o t r) e = some≢none (rule_name r) (sym e.2 ∙ sym none)
-
-  -- or one that names none
-  pub other_rules : (text : Text) → (found.0 ≢ codes "module") → Some text ≡ first_of (codes "rules") found.1 → ((r : RuleName) → rule_name r ≢ text)
-      → (j : Job) → HasJob (subcommand_rows_of m) j → ⊥
-  other_rules text other given none j h = go j (subst (λ o. HasJob o j) is h)
-    where
-      go : (j : Job) → IsJobOf found j → ⊥
-      go job.Module e = other e
-      go (job.Lines o t r) e = none r (same _ _ (sym e.2 ∙ sym given))
+      go : (found.0 ≡ codes "module") ⊎ HasOptions found → HasOptions found
+      go (inl named) = absurd (other named)
+      go (inr has) = has
 
   -- the job of an order
   pub job_of_lines : (o : Order) (t : _) (r : RuleName) → order_name o ≡ found.0 → Some (string_bytes t) ≡ first_of (codes "type") found.1 → Some (rule_name r) ≡ first_of (codes "rules") found.1
       → HasJob (subcommand_rows_of m) (job.Lines o t r)
   job_of_lines o t r named type rules = subst (λ x. HasJob x (job.Lines o t r)) (sym is) (sym named, sym type, sym rules)
+
+-- each name of an order is found
+pub order_known : (name : Text) → IsOneOf name order_names → ((o : Order) → order_name o ≢ name) → ⊥
+order_known name (inl e) none = none order.Show (sym e)
+order_known name (inr (inl e)) none = none order.Check (sym e)
+order_known name (inr (inr (inl e))) none = none order.Encode (sym e)
+order_known name (inr (inr (inr (inl e)))) none = none order.Convert (sym e)
+order_known name (inr (inr (inr (inr e)))) none = e
+
+-- and each of encoding rules
+pub rules_known : (name : Text) → IsOneOf name rule_names → ((r : RuleName) → rule_name r ≢ name) → ⊥
+rules_known name (inl e) none = none rules.Per (sym e)
+rules_known name (inr (inl e)) none = none rules.Oer (sym e)
+rules_known name (inr (inr e)) none = e
+
+-- a value that is there is found
+pub value_known : (found : Option Text) → ((t : Text) × (found ≡ Some t)) → None ≡ found → ⊥
+value_known found has none = some≢none has.0 (sym has.1 ∙ sym none)
+
+-- the value that is found is the one that is there
+pub known_rules : (found : Option Text) (text : Text) → ((r : Text) × (found ≡ Some r) × IsOneOf r rule_names) → Some text ≡ found → IsOneOf text rule_names
+known_rules found text has given = subst (λ t. IsOneOf t rule_names) (same _ _ (sym has.1 ∙ sym given)) has.2

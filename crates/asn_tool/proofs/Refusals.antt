@@ -1,20 +1,15 @@
--- What job_of cites at its exits: the command is a simple one of clap's, and which faults its errors are.
-use Rattle.std.proofs.Common.{◌≡◌, ◌≢◌, ◌⊎◌, ◌∙◌, ap, sym, subst, refl, inl, inr, true, false, true≢false, Bool, List, Option}
-use Rattle.clap.specs.Words.{App, Text, HasMatchesOf, HasKind, IsAmong, fault_of, is_simple, is_simple_and_free, kind_of, subcommand_of, subcommand_rows_of}
+-- What job_of cites at its exits: which faults clap's errors are, and what clap finds where it tells none.
+use Rattle.std.proofs.Common.{◌≡◌, ◌≢◌, ◌⊎◌, ◌∙◌, ap, sym, subst, refl, inl, inr, true, false, true≢false, Bool, List, []}
+use Rattle.clap.specs.Words.{App, Text, HasMatchesOf, HasKind, fault_of, kind_of, subcommand_of, subcommand_rows_of}
 use Rattle.clap.specs.declared.error.Error.{Error}
 use Rattle.clap.specs.declared.error.ErrorKind.{ErrorKind}
 use Rattle.clap.specs.declared.error.ErrorKind.TheVariants as kind
 use Rattle.clap.specs.declared.parser.matches.ArgMatches.{ArgMatches}
 use Rattle.asn_convert.specs.declared.job.Job.{Job}
-use Rattle.asn_tool.specs.declared.job.LineFault.{LineFault}
 use Rattle.asn_tool.specs.declared.job.LineFault.TheVariants as line
-use Rattle.asn_tool.specs.Tool.{HasJob, IsMissing, IsTool, NoJob, Told, fault_by, of_kind}
-
-pub tool_simple : (a : App) → IsTool a → is_simple a ≡ true
-tool_simple a t = ap is_simple t.8
-
-pub tool_free : (a : App) → IsTool a → is_simple_and_free a ≡ true
-tool_free a t = ap is_simple_and_free t.8
+use Rattle.asn_tool.specs.Command.{IsTaken, IsTool}
+use Rattle.asn_tool.specs.Tool.{HasJob, Told, fault_by, of_kind}
+use Rattle.asn_tool.proofs.Taken.{taken, tool_simple}
 
 abbrev is_memory : ErrorKind → Bool
 is_memory kind.OutOfMemory = true
@@ -49,20 +44,15 @@ memory_or kind.Format = inr (differs kind.Format refl, λ e. refl)
 told_kind : (words : List Text) (e : Error) (a : App) (k : ErrorKind) → kind_of e ≡ k → IsTool a → HasKind (fault_of a words) e → (k ≡ kind.OutOfMemory) ⊎ Other k → Told words (of_kind k e)
 told_kind words e a k is t h (inl memory) = subst (λ x. Told words (of_kind x e)) (sym memory) tt
 told_kind words e a k is t (inl memory) (inr other) = absurd (other.0 (sym is ∙ memory))
-told_kind words e a k is t (inr among) (inr other) = subst (Told words) (other.1 e) ((λ bad. other.0 (sym is ∙ bad)), (a, t, inl among))
+told_kind words e a k is t (inr among) (inr other) = subst (Told words) (other.1 e) ((λ bad. other.0 (sym is ∙ bad)), (a, t, among))
 
 -- an error of clap is told by its kind
 pub told_by : (words : List Text) (e : Error) (a : App) → IsTool a → HasKind (fault_of a words) e → Told words (fault_by e)
 told_by words e a t h = told_kind words e a (kind_of e) refl t h (memory_or (kind_of e))
 
--- matches that are no job
-pub told_missing : (words : List Text) (a : App) (m : ArgMatches) (f : LineFault) → IsTool a → HasMatchesOf a words m → NoJob (subcommand_rows_of m) → IsMissing f → Told words f
-told_missing words a m (line.Line e) t h none is = (
-  (λ bad. differs kind.MissingRequiredArgument refl (sym is ∙ bad)),
-  (a, t, inr (subst (λ o. NoJob o) (h (tool_simple a t)).1 none)),
-)
-told_missing words a m line.Memory t h none is = tt
+-- matches of words of which clap tells no fault
+pub found_taken : (words : List Text) (a : App) (m : ArgMatches) → IsTool a → HasMatchesOf a words m → fault_of a words ≡ [] → IsTaken (subcommand_rows_of m)
+found_taken words a m t h none = subst IsTaken (sym (h (tool_simple a t)).1) (taken a words t none)
 
--- and those that are
 pub found_job : (words : List Text) (a : App) (m : ArgMatches) (j : Job) → IsTool a → HasMatchesOf a words m → HasJob (subcommand_rows_of m) j → HasJob (subcommand_of a words) j
 found_job words a m j t h has = subst (λ o. HasJob o j) (h (tool_simple a t)).1 has

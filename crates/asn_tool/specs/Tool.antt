@@ -1,13 +1,9 @@
--- The command line, as clap's own words state it, and the job that its words ask for.
-use Rattle.std.specs.Prelude.{◌≡◌, ◌≢◌, ◌⊎◌, ℕ, true, false, List, [], ◌∷◌, codes, map, Option, Some, None, Result, Ok, Err, string_bytes, ⊤}
-use Rattle.std.specs.Borrow.{Bor}
-use Rattle.clap.specs.Words.{App, Shape, Rule, Row, Text, new_app, new_rule, with_rule, with_subcommand, first_of, subcommand_of, kind_of, fault_of, IsAmong}
+-- The job that words ask for, as clap states what it finds in them, and how the program ends.
+use Rattle.std.specs.Prelude.{◌≡◌, ◌≢◌, ℕ, List, [], codes, Option, Some, None, Result, Ok, Err, string_bytes, ⊤}
+use Rattle.clap.specs.Words.{Row, Text, first_of, subcommand_of, kind_of, fault_of, IsAmong}
 use Rattle.clap.specs.declared.error.Error.{Error}
 use Rattle.clap.specs.declared.error.ErrorKind.{ErrorKind}
 use Rattle.clap.specs.declared.error.ErrorKind.TheVariants as kind
-use Rattle.clap.specs.declared.builder.ValueParser.{ValueParser}
-use Rattle.clap.specs.declared.builder.ValueParser.TheVariants.{Names}
-use Rattle.clap.specs.declared.builder.ArgAction.TheVariants.{Set}
 use Rattle.asn_convert.specs.declared.job.Job.{Job}
 use Rattle.asn_convert.specs.declared.job.Job.TheVariants as job
 use Rattle.asn_convert.specs.declared.job.Order.{Order}
@@ -20,38 +16,7 @@ use Rattle.asn_convert.specs.declared.job.Status.{Status}
 use Rattle.asn_convert.specs.declared.job.Status.TheVariants as status
 use Rattle.asn_tool.specs.declared.job.LineFault.{LineFault}
 use Rattle.asn_tool.specs.declared.job.LineFault.TheVariants as line
-
--- ---- the command
-
-abbrev pub type_rule : Rule
-type_rule = record (new_rule (codes "type")) { long = Some (codes "type"); required = true; action = Some Set; value_names = 1 }
-
-abbrev pub rules_rule : Option ValueParser → Rule
-rules_rule p = record (new_rule (codes "rules")) { long = Some (codes "rules"); required = true; action = Some Set; value_names = 1; parser = p }
-
--- the parser takes the names of the two encoding rules
-abbrev pub IsRules : Option ValueParser → Type 0
-IsRules p = (names : Bor (List (Bor (List ℕ)))) × (p ≡ Some (Names names)) × (map (λ name. name.now) names.now ≡ codes "per" ∷ codes "oer" ∷ [])
-
--- the subcommand of an order, with its two options
-abbrev pub order_shape : Text → Option ValueParser → Shape
-order_shape name p = (with_rule (with_rule (new_app name) type_rule) (rules_rule p)).top
-
-abbrev pub top_app : App
-top_app = record { top = record (new_app (codes "asn_tool")).top { has_version = true; no_binary_name = true; subcommand_required = true }; subs = [] }
-
--- the command, with what each order takes as encoding rules
-abbrev pub tool : Option ValueParser → Option ValueParser → Option ValueParser → Option ValueParser → App
-tool p q r s = with_subcommand (with_subcommand (with_subcommand (with_subcommand (with_subcommand top_app
-    (new_app (codes "module")).top)
-    (order_shape (codes "show") p))
-    (order_shape (codes "check") q))
-    (order_shape (codes "encode") r))
-    (order_shape (codes "convert") s)
-
--- the command is that of the program
-abbrev pub IsTool : App → Type 0
-IsTool a = (p q r s : Option ValueParser) × IsRules p × IsRules q × IsRules r × IsRules s × (a ≡ tool p q r s)
+use Rattle.asn_tool.specs.Command.{IsTool}
 
 -- ---- the job
 
@@ -76,14 +41,13 @@ abbrev pub HasJob : Option (Text × List Row) → Job → Type 0
 HasJob None j = ⊥
 HasJob (Some found) j = IsJobOf found j
 
--- the command is met by no job: no subcommand, or none of these names, or a value is missing
-abbrev pub NoJob : Option (Text × List Row) → Type 0
-NoJob found = (j : Job) → HasJob found j → ⊥
+-- clap tells no fault of the words, and the subcommand that it finds is the job's
+abbrev pub Asks : List Text → Job → Type 0
+Asks words j = (a : _) × IsTool a × (fault_of a words ≡ []) × HasJob (subcommand_of a words) j
 
--- clap refuses the words by this error, or answers them with help or the version; or what it finds is no job
+-- clap refuses the words by this error, or answers them with help or the version
 abbrev pub IsRefused : List Text → Error → Type 0
-IsRefused words e = (kind_of e ≢ kind.OutOfMemory)
-    × ((a : App) × IsTool a × (IsAmong (kind_of e) (fault_of a words) ⊎ NoJob (subcommand_of a words)))
+IsRefused words e = (kind_of e ≢ kind.OutOfMemory) × ((a : _) × IsTool a × IsAmong (kind_of e) (fault_of a words))
 
 abbrev pub Told : List Text → LineFault → Type 0
 Told words (line.Line e) = IsRefused words e
@@ -96,10 +60,6 @@ of_kind _ e = line.Line e
 -- the fault of an error of clap
 abbrev pub fault_by : Error → LineFault
 fault_by e = of_kind (kind_of e) e
-
-abbrev pub IsMissing : LineFault → Type 0
-IsMissing (line.Line e) = kind_of e ≡ kind.MissingRequiredArgument
-IsMissing line.Memory = ⊤
 
 -- ---- the end
 

@@ -1,16 +1,17 @@
 //! From the words of a command line to a job.
 ghost use Rattle.std.specs.Prelude.{◌≡◌, ◌≢◌, IfOk, IfErr, MatchOption, map};
-ghost use Rattle.clap.specs.Words.{subcommand_of, subcommand_rows_of, kind_of};
+ghost use Rattle.clap.specs.Words.{subcommand_rows_of, kind_of};
 ghost use Rattle.asn_convert.specs.declared.job.Order.{Order};
 ghost use Rattle.asn_convert.specs.declared.job.RuleName.{RuleName};
 ghost use Rattle.asn_tool.specs.declared.job.LineFault.{LineFault};
-ghost use Rattle.asn_tool.specs.Tool.{IsTool, HasJob, NoJob, Told, order_name, rule_name, fault_by, IsMissing};
+ghost use Rattle.asn_tool.specs.Command.{IsTaken};
+ghost use Rattle.asn_tool.specs.Tool.{Asks, HasJob, Told, order_name, rule_name, fault_by};
 
 use crate::words::command;
 use asn_convert::{Job, Order, RuleName};
+use clap::ArgMatches;
 use clap::error::ErrorKind;
-use clap::{ArgMatches, Command};
-use std::alloc::{AllocError, AllocFailed, Global};
+use std::alloc::{AllocError, Global};
 use thiserror::Error;
 
 /// Why words are no job.
@@ -24,64 +25,51 @@ pub enum LineFault {
     Memory,
 }
 
-/// The job that the words ask for, which are those after the program's name.
+/// The job that the words ask for, which are those after the program's name: that of the subcommand and of the values
+/// of its options that `clap` finds in them.
 ///
 /// `Line` comes where the command does not take the words: no subcommand or one that it does not have, an option that
 /// it does not have, that is missing, has no value or comes twice, rules that are neither `per` nor `oer`. It comes
-/// too where the words ask for help or the version, which is the text of the error then. `Memory` comes where an
-/// allocation failed.
+/// too where the words ask for help or the version, which is the text of the error then. It comes for no other words.
+/// `Memory` comes where an allocation failed.
 pub fn job_of<'a>(alloc: Global, words: &'a [&'a str]) -> Result<Job, LineFault>
-    ensures job { IfOk result (λ job.
-        (a : _) × IsTool a × HasJob (subcommand_of a (map (λ w. w.now) words.entry.now)) job) }
+    ensures job { IfOk result (λ job. Asks (map (λ w. w.now) words.entry.now) job) }
     ensures fault { IfErr result (λ fault. Told (map (λ w. w.now) words.entry.now) fault) }
 {
-    let mut command = command(alloc)?;
-    let matches = command.try_get_matches_from_mut(words)?;
-    match job_in(alloc, &matches)? {
-        Some(job) => Ok(job),
-        None => Err(no_job(&mut command)),
-    }
+    let command = command(alloc)?;
+    let matches = command.try_get_matches_from(words)?;
+    Ok(job_in(alloc, &matches)?)
 }
 
-/// What is told where no subcommand was met or an option has no value.
-fn no_job(command: &mut Command<'_>) -> LineFault
-    ensures { IsMissing result }
-{
-    match command.error(ErrorKind::MissingRequiredArgument, "an option is missing") {
-        Ok(error) => LineFault::Line(error),
-        Err(_) => LineFault::Memory,
-    }
-}
-
-/// The job of the subcommand that was met and of its options, where they are there.
-fn job_in(alloc: Global, matches: &ArgMatches<'_>) -> Result<Option<Job>, AllocError>
-    ensures { IfOk result (λ found. MatchOption found
-        (NoJob (subcommand_rows_of matches.now)) (HasJob (subcommand_rows_of matches.now))) }
+/// The job of the subcommand that was met and of its options. `Err` comes where there is no memory for the type's name.
+fn job_in(alloc: Global, matches: &ArgMatches<'_>) -> Result<Job, AllocError>
+    requires { IsTaken (subcommand_rows_of matches.now) }
+    ensures { IfOk result (λ job. HasJob (subcommand_rows_of matches.now) job) }
 {
     let Some((name, options)) = matches.subcommand() else {
-        return Ok(None);
+        unreachable!()
     };
     if name == "module" {
-        return Ok(Some(Job::Module));
+        return Ok(Job::Module);
     }
     let Some(order) = order_named(name) else {
-        return Ok(None);
+        unreachable!()
     };
     let Some(type_name) = options.get_str("type") else {
-        return Ok(None);
+        unreachable!()
     };
     let Some(rules) = options.get_str("rules") else {
-        return Ok(None);
+        unreachable!()
     };
     let Some(rules) = rules_named(rules) else {
-        return Ok(None);
+        unreachable!()
     };
     let type_name = String::from_str(alloc, type_name)?;
-    Ok(Some(Job::Lines {
+    Ok(Job::Lines {
         order,
         type_name,
         rules,
-    }))
+    })
 }
 
 /// The order of this name.

@@ -2,7 +2,7 @@
 ghost use Rattle.std.specs.Prelude.{◌≡◌, IfOk, false};
 ghost use Rattle.clap.specs.Words.{app_of, shape_of};
 ghost use Rattle.clap.specs.declared.builder.Command.TheViews.{out-Command};
-ghost use Rattle.asn_tool.specs.Tool.{order_shape, IsRules, IsTool};
+ghost use Rattle.asn_tool.specs.Command.{IsOrder, IsTool};
 
 use crate::help;
 use clap::{Arg, ArgAction, Command};
@@ -43,7 +43,7 @@ fn order<'a>(
     about: &'a str,
     help: &'a str,
 ) -> Result<Command<'a>, AllocError>
-    ensures shape { IfOk result (λ c. (p : _) × IsRules p × (shape_of c ≡ order_shape name.entry.now p)) }
+    ensures shape { IfOk result (λ c. IsOrder name.entry.now (shape_of c)) }
     ensures local { IfOk result (λ c. (out-Command c).has_globals ≡ false) }
 {
     let type_name = Arg::new(alloc, "type")

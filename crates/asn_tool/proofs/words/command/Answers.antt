@@ -1,4 +1,4 @@
-use Rattle.std.proofs.Common.{ap, ap₂, codes, true, false, ◌≡◌, ◌∙◌}
+use Rattle.std.proofs.Common.{ap, ap₂, codes, true, false, ◌≡◌, ◌∙◌, ◌∷◌, []}
 use Rattle.std.proofs.lemmas.Result.{IfOk-weaker}
 use Rattle.clap.specs.Simple.{app_of_fields, on_top}
 use Rattle.clap.specs.Words.{App, app_of, shape_of, new_app, with_subcommand}
@@ -19,9 +19,13 @@ returns c =
     let check = c.in_ok-order-2.ensures.shape in
     let encode = c.in_ok-order-3.ensures.shape in
     let convert = c.in_ok-order-4.ensures.shape in
-    let two = c.in_ok-subcommand-2.ensures.shape c.in_ok-order.ensures.local ∙ ap₂ with_subcommand one show.2 in
-    let three = c.in_ok-subcommand-3.ensures.shape c.in_ok-order-2.ensures.local ∙ ap₂ with_subcommand two check.2 in
-    let four = c.in_ok-subcommand-4.ensures.shape c.in_ok-order-3.ensures.local ∙ ap₂ with_subcommand three encode.2 in
+    let two = c.in_ok-subcommand-2.ensures.shape c.in_ok-order.ensures.local ∙ ap (λ b. with_subcommand b (shape_of c.in_ok-order.field-0)) one in
+    let three = c.in_ok-subcommand-3.ensures.shape c.in_ok-order-2.ensures.local ∙ ap (λ b. with_subcommand b (shape_of c.in_ok-order-2.field-0)) two in
+    let four = c.in_ok-subcommand-4.ensures.shape c.in_ok-order-3.ensures.local ∙ ap (λ b. with_subcommand b (shape_of c.in_ok-order-3.field-0)) three in
     IfOk-weaker c.subcommand-5.result _ _
-    (λ d h. (show.0, check.0, encode.0, convert.0, show.1, check.1, encode.1, convert.1, h.shape c.in_ok-order-4.ensures.local ∙ ap₂ with_subcommand four convert.2))
+    (λ d h. (
+      shape_of c.in_ok-order.field-0 ∷ shape_of c.in_ok-order-2.field-0 ∷ shape_of c.in_ok-order-3.field-0 ∷ shape_of c.in_ok-order-4.field-0 ∷ [],
+      (show, (check, (encode, (convert, tt)))),
+      h.shape c.in_ok-order-4.ensures.local ∙ ap (λ b. with_subcommand b (shape_of c.in_ok-order-4.field-0)) four,
+    ))
     c.subcommand-5.ensures

@@ -4,7 +4,7 @@ use Rattle.clap.specs.Simple.{app_of_fields}
 use Rattle.clap.specs.Words.{App, app_of, new_app, rule_of, with_rule}
 use Rattle.clap.specs.declared.builder.Arg.{Arg}
 use Rattle.clap.specs.declared.builder.Command.TheViews.{out-Command}
-use Rattle.asn_tool.specs.Tool.{type_rule, rules_rule, IsRules}
+use Rattle.asn_tool.specs.Command.{type_rule, rules_rule, IsRules}
 use Rattle.asn_tool.proofs.words.order.Goals as goal
 
 pub returns-clause-shape : goal.returns-clause-shape

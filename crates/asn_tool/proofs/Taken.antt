@@ -1,0 +1,188 @@
+-- What clap takes as words of the command: the subcommand `module`, or an order with its two options.
+use Rattle.std.proofs.Common.{◌≡◌, ◌∙◌, ◌⊎◌, ◌∷◌, ◌++◌, ◌||◌, ap, sym, subst, refl, arith, inl, inr, true, false, not, true≢false, Bool, cond, codes, map, List, [], Option, Some, None, ℕ}
+use Rattle.std.specs.Prelude.{find, slice_get, slice_index_or, option_and_then, option_map}
+use Rattle.std.specs.Borrow.{Bor}
+use Rattle.std.specs.List.{list_all, list_any}
+use Rattle.std.specs.Option.{is_some, option_map_or}
+use Rattle.std.specs.Str.{bytes_eq}
+use Rattle.std.proofs.lemmas.Slice.Eq.{bytes_eq-Decides}
+use Rattle.clap.specs.Kinds.{Kinds, check_kinds, value_kinds}
+use Rattle.clap.specs.Simple.{App, Shape, built, built_leaf, entered, help_shape, inherited, is_ready_leaf, is_simple, is_simple_leaf, label_of, names_of, rows_at, subcommand_of}
+use Rattle.clap.specs.Takes.{is_given}
+use Rattle.clap.specs.Walk.{Row, Rule, Text, answers_to, nothing_held, rows_after, walk, walk_from}
+use Rattle.clap.specs.Faults.{check_fault, entered_fault, fault_of, has_free_rules, is_free_app, is_simple_and_free, level_fault}
+use Rattle.clap.specs.declared.builder.value_parser.ValueParser.{ValueParser}
+use Rattle.clap.specs.declared.builder.value_parser.ValueParser.TheVariants.{Names}
+use Rattle.clap.specs.declared.error.kind.ErrorKind.TheVariants as kind
+use Rattle.clap.proofs.WalkLemmas.{list_any-map}
+use Rattle.asn_tool.specs.Command.{AreOrders, HasOptions, IsOneOf, IsRules, IsTaken, IsTool, order_names, order_shape, rule_names, tool}
+use Rattle.asn_tool.proofs.SetOptions.{Each, IsOption, check_passes, found, given_row, level_good, no_kind, none_first, none_next}
+use Rattle.asn_tool.proofs.NotHelp.{StopsElsewhere, walk_stops}
+
+-- what a subcommand takes from the command above it, once that is built
+abbrev above : Shape
+above = record (tool []).top { is_built = true }
+
+abbrev built_order : Text → Option ValueParser → Shape
+built_order name p = built_leaf (inherited above (order_shape name p))
+
+abbrev built_subs : List Shape → List Shape
+built_subs shapes = map built_leaf (map (inherited above) shapes ++ help_shape ∷ [])
+
+-- ---- the command is a simple one
+
+each_leaf : (f : Shape → Bool) → f (built_leaf help_shape) ≡ true → ((name : Text) (p : Option ValueParser) → f (built_order name p) ≡ true)
+    → (names : List Text) (shapes : List Shape) → AreOrders names shapes → list_all f (built_subs shapes) ≡ true
+each_leaf f help order [] [] are = rw help refl
+each_leaf f help order [] (s ∷ shapes) are = absurd are
+each_leaf f help order (name ∷ names) [] are = absurd are
+each_leaf f help order (name ∷ names) (s ∷ shapes) are =
+    let here : f (built_leaf (inherited above s)) ≡ true = subst (λ x. f (built_leaf (inherited above x)) ≡ true) (sym are.0.2) (order name are.0.0) in
+    rw here (each_leaf f help order names shapes are.1)
+
+each_given : (names : List Text) (shapes : List Shape) → AreOrders names shapes → list_all is_simple_leaf shapes ≡ true
+each_given [] [] are = refl
+each_given [] (s ∷ shapes) are = absurd are
+each_given (name ∷ names) [] are = absurd are
+each_given (name ∷ names) (s ∷ shapes) are =
+    let here : is_simple_leaf s ≡ true = subst (λ x. is_simple_leaf x ≡ true) (sym are.0.2) refl in
+    rw here (each_given names shapes are.1)
+
+pub tool_simple : (a : App) → IsTool a → is_simple a ≡ true
+tool_simple a t = subst (λ x. is_simple x ≡ true) (sym t.2)
+    (rw (each_given order_names t.0 t.1, each_leaf is_ready_leaf refl (λ name p. refl) order_names t.0 t.1) refl)
+
+pub tool_free : (a : App) → IsTool a → is_simple_and_free a ≡ true
+tool_free a t =
+    let free : is_free_app (built a) ≡ true = subst (λ x. is_free_app (built x) ≡ true) (sym t.2)
+    (rw (each_leaf has_free_rules refl (λ name p. refl) order_names t.0 t.1) refl) in
+    rw (tool_simple a t, free) refl
+
+-- ---- the options of an order
+
+-- a value of an option, which is a name of encoding rules where it is of that option
+abbrev HasValue : Bor (List (Bor (List ℕ))) → Row → Type 0
+HasValue names r = (t : Text) × (slice_get r.values 0 ≡ Some t) × (r.id ≡ codes "rules" → value_kinds false (Names names) t ≡ [])
+
+abbrev leaf_rules : Bor (List (Bor (List ℕ))) → List Rule
+leaf_rules names = (built_order (codes "show") (Some (Names names))).rules
+
+other_option : (t : Text) → codes "type" ≡ codes "rules" → ⊥
+other_option t e = let bad : ◌≡◌ {A = ℕ} 116 114 = ap (λ l. slice_index_or l 0 0) e in absurd (omega arith)
+
+leaf_options : (names : Bor (List (Bor (List ℕ)))) → Each (IsOption (HasValue names)) (leaf_rules names)
+leaf_options names = (
+  inr (refl, refl, λ how v vs ok. (v, refl, λ e. absurd (other_option v e))),
+  (inr (refl, refl, λ how v vs ok. (v, refl, λ e. ok)), (inl refl, tt)),
+)
+
+both_given : (b c : Bool) → (not b || (not c || false)) ≡ false → (b ≡ true) × (c ≡ true)
+both_given true true e = (refl, refl)
+both_given true false e = absurd (true≢false e)
+both_given false c e = absurd (true≢false e)
+
+last_kind : (b : Bool) → check_kinds false false b ≡ [] → b ≡ false
+last_kind true e = absurd (no_kind _ _ e)
+last_kind false e = refl
+
+accepted : (b : Bool) (k : Kinds) → cond b [] (kind.InvalidValue ∷ []) ≡ [] → b ≡ true
+accepted true k e = refl
+accepted false k e = absurd (no_kind _ _ e)
+
+one_of_two : (t : Text) → (bytes_eq (codes "per") t || (bytes_eq (codes "oer") t || false)) ≡ true → IsOneOf t rule_names
+one_of_two t e = go (bytes_eq (codes "per") t) (bytes_eq (codes "oer") t) refl refl e
+  where
+    go : (b c : Bool) → bytes_eq (codes "per") t ≡ b → bytes_eq (codes "oer") t ≡ c → (b || (c || false)) ≡ true → IsOneOf t rule_names
+    go true c per oer e = inl (sym ((bytes_eq-Decides (codes "per") t).0 per))
+    go false true per oer e = inr (inl (sym ((bytes_eq-Decides (codes "oer") t).0 oer)))
+    go false false per oer e = absurd (true≢false (sym e))
+
+is_rules : (names : Bor (List (Bor (List ℕ)))) (t : Text) → map (λ name. name.now) names.now ≡ rule_names → value_kinds false (Names names) t ≡ [] → IsOneOf t rule_names
+is_rules names t are e =
+    let any : list_any (λ name. bytes_eq name.now t) names.now ≡ true = accepted _ [] e in
+    one_of_two t (ap (list_any (λ n. bytes_eq n t)) (sym are) ∙ (sym (list_any-map (λ n. bytes_eq n t) (λ name. name.now) names.now) ∙ any))
+
+module _ (names : Bor (List (Bor (List ℕ)))) (are : map (λ name. name.now) names.now ≡ rule_names) (name : Text) (named : IsOneOf name order_names) where
+  has_options : (words : List Text) → level_fault (built_order name (Some (Names names))) [] nothing_held words false [] ≡ []
+      → HasOptions (rows_at (built_order name (Some (Names names))) words)
+  has_options words e =
+      let s = built_order name (Some (Names names)) in
+      let rows = rows_after s.rules [] words in
+      let all : Each (HasValue names) rows =
+      level_good (HasValue names) (leaf_rules names) (leaf_options names) s [] refl refl (λ i. refl) words false [] (refl, (refl, (refl, tt))) e in
+      let given = both_given (is_given (codes "type") rows) (is_given (codes "rules") rows) (last_kind _ (check_passes s [] words false [] e)) in
+      let type = given_row (HasValue names) (codes "type") rows all given.0 in
+      let rules = given_row (HasValue names) (codes "rules") rows all given.1 in (
+        named,
+        (type.2.0, ap (option_and_then (λ r. slice_get r.values 0)) type.1 ∙ type.2.1),
+        (
+          rules.2.0,
+          ap (option_and_then (λ r. slice_get r.values 0)) rules.1 ∙ rules.2.1,
+          is_rules names rules.2.0 are (rules.2.2 ((bytes_eq-Decides rules.0.id (codes "rules")).0 rules.3)),
+        ),
+      )
+
+-- ---- the subcommands
+
+abbrev IsBuilt : Shape → Type 0
+IsBuilt s = (s.name ≡ codes "module") ⊎ ((label_of s ≡ (codes "help", []))
+    ⊎ ((name : Text) × IsOneOf name order_names × ((p : Option ValueParser) × IsRules p × (s ≡ built_order name p))))
+
+each_sub : (names : List Text) (shapes : List Shape) → ((name : Text) → IsOneOf name names → IsOneOf name order_names) → AreOrders names shapes → Each IsBuilt (built_subs shapes)
+each_sub [] [] known are = (inr (inl refl), tt)
+each_sub [] (s ∷ shapes) known are = absurd are
+each_sub (name ∷ names) [] known are = absurd are
+each_sub (name ∷ names) (s ∷ shapes) known are = (
+  inr (inr (name, known name (inl refl), (are.0.0, are.0.1, ap (λ x. built_leaf (inherited above x)) are.0.2))),
+  each_sub names shapes (λ n i. known n (inr i)) are.1,
+)
+
+module _ (shapes : List Shape) (are : AreOrders order_names shapes) (words : List Text) (e : fault_of (tool shapes) words ≡ []) where
+  abbrev whole : App
+  whole = built (tool shapes)
+
+  stops : StopsElsewhere (walk whole.top.rules (names_of whole) nothing_held words).stopped
+  stops = walk_stops whole.top (names_of whole) refl (walk_from nothing_held) words (none_first _ _ e) tt
+
+  no_subcommand : check_fault whole.top (rows_after whole.top.rules (names_of whole) words) false ≡ [] → ⊥
+  no_subcommand e = no_kind _ _ e
+
+  taken_sub : (s : Shape) (p : Text × List Text) → (StopsElsewhere (Some p)) → IsBuilt s → answers_to p.0 (label_of s) ≡ true → level_fault s [] nothing_held p.1 false [] ≡ []
+      → IsTaken (Some (rows_at s p.1))
+  taken_sub s p elsewhere (inl named) answers passed = inl named
+  taken_sub s p elsewhere (inr (inl help)) answers passed = absurd (true≢false (sym same ∙ elsewhere))
+    where
+      or_nothing : (b : Bool) → (b || false) ≡ true → b ≡ true
+      or_nothing true e = refl
+      or_nothing false e = e
+
+      same : bytes_eq p.0 (codes "help") ≡ true
+      same = let is : codes "help" ≡ p.0 = (bytes_eq-Decides (codes "help") p.0).0 (or_nothing _ (subst (λ l. answers_to p.0 l ≡ true) help answers)) in
+          subst (λ t. bytes_eq t (codes "help") ≡ true) is refl
+  taken_sub s p elsewhere (inr (inr order)) answers passed =
+      let names = order.2.1.0 in
+      let is : s ≡ built_order order.0 (Some (Names names)) = order.2.2 ∙ ap (built_order order.0) order.2.1.1 in
+      inr (subst (λ x. HasOptions (rows_at x p.1)) (sym is)
+      (has_options names order.2.1.2 order.0 order.1 p.1 (subst (λ x. level_fault x [] nothing_held p.1 false [] ≡ []) is passed)))
+
+  taken_tool : IsTaken (subcommand_of (tool shapes) words)
+  taken_tool = go (walk whole.top.rules (names_of whole) nothing_held words).stopped stops e
+    where
+      met : (p : Text × List Text) → StopsElsewhere (Some p) → (o : Option Shape) → find (λ s. answers_to p.0 (label_of s)) whole.subs ≡ o
+          → level_fault whole.top (names_of whole) nothing_held words (is_some (option_map (λ s. rows_at s p.1) o))
+          (option_map_or (λ s. level_fault s [] nothing_held p.1 false []) o []) ≡ []
+          → IsTaken (option_map (λ s. rows_at s p.1) o)
+      met p elsewhere None is e = absurd (no_subcommand (check_passes whole.top (names_of whole) words false [] e))
+      met p elsewhere (Some s) is e =
+          let got = found IsBuilt (λ s. answers_to p.0 (label_of s)) whole.subs s (inl refl, each_sub order_names shapes (λ n i. i) are) is in
+          taken_sub s p elsewhere got.0 got.1 (none_first _ _ (none_next _ _ e))
+
+      go : (stop : Option (Text × List Text)) → StopsElsewhere stop
+          → level_fault whole.top (names_of whole) nothing_held words (is_some (entered whole stop)) (entered_fault whole stop) ≡ []
+          → IsTaken (entered whole stop)
+      go None elsewhere e = absurd (no_subcommand (check_passes whole.top (names_of whole) words false [] e))
+      go (Some p) elsewhere e = met p elsewhere (find (λ s. answers_to p.0 (label_of s)) whole.subs) refl e
+
+-- words of which clap tells no fault are a subcommand with its options
+pub taken : (a : App) (words : List Text) → IsTool a → fault_of a words ≡ [] → IsTaken (subcommand_of a words)
+taken a words t e = subst (λ x. IsTaken (subcommand_of x words)) (sym t.2) (taken_tool t.0 t.1 words (subst (λ x. fault_of x words ≡ []) t.2 e))

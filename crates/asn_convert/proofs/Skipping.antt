@@ -7,8 +7,8 @@ use Rattle.asn_values.specs.View.{datum_of}
 use Rattle.asn_json.specs.Written.{json_of}
 use Rattle.asn_newer.specs.Loose.{LooseCoding}
 use Rattle.asn_newer.specs.Reading.{skipped_of, skipped_seen, IsNewer}
-use Rattle.asn_newer.specs.declared.newer.Newer.{Newer}
-use Rattle.asn_newer.specs.declared.newer.Skipped.{Skipped}
+use Rattle.asn_rules.specs.declared.newer.Newer.{Newer}
+use Rattle.asn_rules.specs.declared.newer.Skipped.{Skipped}
 use Rattle.asn_convert.specs.Answers.{ShowsNewer, skipped_text, skipped_texts}
 
 -- one more field

@@ -4,8 +4,8 @@ use Rattle.asn_values.specs.Datum.{Datum}
 use Rattle.asn_values.specs.Shape.{Shape}
 use Rattle.asn_values.specs.View.{datum_of}
 use Rattle.asn_rules.specs.Answer.{max_octets}
-use Rattle.asn_newer.specs.declared.newer.Newer.{Newer}
-use Rattle.asn_newer.specs.declared.newer.Skipped.{Skipped}
+use Rattle.asn_rules.specs.declared.newer.Newer.{Newer}
+use Rattle.asn_rules.specs.declared.newer.Skipped.{Skipped}
 use Rattle.asn_newer.specs.Loose.{LooseCoding, IsLoose}
 use Rattle.asn_newer.specs.Skipped as fields
 use Rattle.asn_newer.specs.declared.fault.NewerFault.{NewerFault}

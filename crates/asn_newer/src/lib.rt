@@ -5,12 +5,10 @@ mod bitmaps;
 mod fault;
 mod halt;
 mod laws;
-mod newer;
 mod reader;
 
 pub use bitmaps::read_any_bitmap;
 pub use halt::Halt;
 pub use fault::NewerFault;
-pub use newer::{Newer, Skipped};
 pub use reader::ReadNewer;
 pub use laws::{OtherVersions, version_laws};

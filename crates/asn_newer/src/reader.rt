@@ -7,8 +7,7 @@ use crate::fault::NewerFault;
 use crate::laws::OtherVersions;
 use asn_oer::Oer;
 use asn_per::Per;
-use crate::newer::Newer;
-use asn_rules::{MAX_OCTETS, Rules};
+use asn_rules::{MAX_OCTETS, Newer, Rules};
 use asn_values::Checked;
 use std::alloc::Global;
 

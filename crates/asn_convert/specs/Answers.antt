@@ -110,7 +110,7 @@ skipped_texts (s ∷ ss) = skipped_text s ++ skipped_texts ss
 
 -- the JSON of what is read of a message of a newer or older sender, and the fields that are skipped in it
 abbrev pub ShowsNewer : LooseCoding → Shape → List ℕ → List ℕ → Type 0
-ShowsNewer l t o text = (v : Datum) (s : List Skipped) × IsLoose l t v s o × (length o ≤ max_octets) × (text ≡ compact_text (json_of t v) ++ skipped_texts s)
+ShowsNewer l t o text = (v : Datum) × (s : List Skipped) × IsLoose l t v s o × (length o ≤ max_octets) × (text ≡ compact_text (json_of t v) ++ skipped_texts s)
 
 -- why nothing is read of them
 abbrev pub IsNotRead : LooseCoding → Shape → List ℕ → List ℕ → Type 0

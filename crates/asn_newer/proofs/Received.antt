@@ -45,12 +45,14 @@ module _ {A B : Type 0} (L : A → List Chunk → Type 0) (M : B → List Chunk 
   row_filled zero vs cs h = ([], record { same = ap (map (λ _. b)) h.same; empty = refl })
   row_filled (suc n) vs cs h =
       let t = h.spelt in
-      let r = row_filled n h.source.1 t.second t.follows in
-      (ks ++ r.0, record {
-        source = (b, map (λ _. b) h.source.1);
-        spelt = record { first = ks; second = r.0; spelt = m; follows = r.1; whole = refl };
-        seen = ap (map (λ _. b)) h.seen;
-      })
+      let r = row_filled n h.source.1 t.second t.follows in (
+        ks ++ r.0,
+        record {
+          source = (b, map (λ _. b) h.source.1);
+          spelt = record { first = ks; second = r.0; spelt = m; follows = r.1; whole = refl };
+          seen = ap (map (λ _. b)) h.seen;
+        },
+      )
 
   body_filled : (n : ℕ) (S : ℕ → Type 0) → ((k : ℕ) (vs : List A) (cs : List Chunk) → Within L n (Left S k) vs cs → (ds : List Chunk) × Within M n (Left S k) (map (λ _. b) vs) ds)
       → (k : Length) (vs : List A) (cs : List Chunk) → Body L (Within L n) S k vs cs → (ds : List Chunk) × Body M (Within M n) S k (map (λ _. b) vs) ds
@@ -58,23 +60,27 @@ module _ {A B : Type 0} (L : A → List Chunk → Type 0) (M : B → List Chunk 
   body_filled n S again (fragment k) vs cs h =
       let t = h.spelt in
       let r = row_filled (16384 * k) h.source.0 t.first t.spelt in
-      let q = again k h.source.1 t.second t.follows in
-      (r.0 ++ q.0, record {
-        source = (map (λ _. b) h.source.0, map (λ _. b) h.source.1);
-        spelt = record { first = r.0; second = q.0; spelt = r.1; follows = q.1; whole = refl };
-        seen = ap (map (λ _. b)) h.seen ∙ map_of_both (λ _. b) h.source.0 h.source.1;
-      })
+      let q = again k h.source.1 t.second t.follows in (
+        r.0 ++ q.0,
+        record {
+          source = (map (λ _. b) h.source.0, map (λ _. b) h.source.1);
+          spelt = record { first = r.0; second = q.0; spelt = r.1; follows = q.1; whole = refl };
+          seen = ap (map (λ _. b)) h.seen ∙ map_of_both (λ _. b) h.source.0 h.source.1;
+        },
+      )
 
   within_filled : (n : ℕ) (S : ℕ → Type 0) (vs : List A) (cs : List Chunk) → Within L n S vs cs → (ds : List Chunk) × Within M n S (map (λ _. b) vs) ds
   within_filled zero S vs cs h = absurd h
   within_filled (suc n) S vs cs h =
       let t = h.spelt in
-      let r = body_filled n S (λ k ws es g. within_filled n (Left S k) ws es g) h.source.0 h.source.1 t.second t.follows in
-      (t.first ++ r.0, record {
-        source = (h.source.0, map (λ _. b) h.source.1);
-        spelt = record { first = t.first; second = r.0; spelt = t.spelt; follows = r.1; whole = refl };
-        seen = ap (map (λ _. b)) h.seen;
-      })
+      let r = body_filled n S (λ k ws es g. within_filled n (Left S k) ws es g) h.source.0 h.source.1 t.second t.follows in (
+        t.first ++ r.0,
+        record {
+          source = (h.source.0, map (λ _. b) h.source.1);
+          spelt = record { first = t.first; second = r.0; spelt = t.spelt; follows = r.1; whole = refl };
+          seen = ap (map (λ _. b)) h.seen;
+        },
+      )
 
   remaining_filled : (a : Ahead) (vs : List A) (cs : List Chunk) → Remaining L a vs cs → (ds : List Chunk) × Remaining M a (map (λ _. b) vs) ds
   remaining_filled (items n) vs cs h = row_filled n vs cs h
@@ -86,12 +92,14 @@ module _ {A B : Type 0} (L : A → List Chunk → Type 0) (M : B → List Chunk 
   listing_filled : (c : Coding) (s : SizeRange) (vs : List A) (cs : List Chunk) → ListingOf c s L vs cs → (ds : List Chunk) × ListingOf c s M (map (λ _. b) vs) ds
   listing_filled c s vs cs h =
       let t = h.spelt in
-      let r = remaining_filled h.source.0 h.source.1 t.second t.follows in
-      (t.first ++ r.0, record {
-        source = (h.source.0, map (λ _. b) h.source.1);
-        spelt = record { first = t.first; second = r.0; spelt = t.spelt; follows = r.1; whole = refl };
-        seen = ap (map (λ _. b)) h.seen;
-      })
+      let r = remaining_filled h.source.0 h.source.1 t.second t.follows in (
+        t.first ++ r.0,
+        record {
+          source = (h.source.0, map (λ _. b) h.source.1);
+          spelt = record { first = t.first; second = r.0; spelt = t.spelt; follows = r.1; whole = refl };
+          seen = ap (map (λ _. b)) h.seen;
+        },
+      )
 
 module _ {A : Type 0} (L : A → List Chunk → Type 0) (P : A → Type 0) (each : (v : A) (cs : List Chunk) → L v cs → P v) where
   row_all : (n : ℕ) (vs : List A) (cs : List Chunk) → Row L n vs cs → AllByRecursion P vs
@@ -153,8 +161,7 @@ as_many (field name demand t fs) (e ∷ es) h = ap suc (as_many fs es h.1)
 -- those of the root and of the additions
 both_fit : (root : Fields) (more : MoreFields) (es gs : List (Option Datum)) → FitsEachBy true root es → FitsMoreBy true more gs → SequenceBy true root more (es ++ gs)
 both_fit root more es gs f g =
-    let n = as_many root es f in
-    (
+    let n = as_many root es f in (
       subst (FitsEachBy true root) (sym (take-append_seam es gs) ∙ ap (λ k. take k (es ++ gs)) n) f,
       subst (FitsMoreBy true more) (sym (drop-append_seam es gs) ∙ ap (λ k. drop k (es ++ gs)) n) g,
     )

@@ -1,5 +1,5 @@
 -- Skipped fields as texts, one after the other.
-use Rattle.std.proofs.Common.{◌≡◌, ◌+◌, ◌<◌, ◌++◌, ℕ, zero, suc, List, [], ◌∷◌, length, get_or, take, refl, sym, ap, subst, ◌∙◌, append_assoc, arith}
+use Rattle.std.proofs.Common.{◌≡◌, ◌+◌, ◌<◌, ◌++◌, ℕ, zero, suc, List, [], ◌∷◌, length, get_or, take, sym, ap, subst, ◌∙◌, append_assoc, arith}
 use Rattle.std.proofs.lemmas.List.{append-nil}
 use Rattle.asn_newer.specs.Reading.{skipped_of, skipped_seen}
 use Rattle.asn_rules.specs.declared.newer.Skipped.{Skipped}

@@ -8,7 +8,7 @@ mod laws;
 mod reader;
 
 pub use bitmaps::read_any_bitmap;
-pub use halt::Halt;
 pub use fault::NewerFault;
-pub use reader::ReadNewer;
+pub use halt::Halt;
 pub use laws::{OtherVersions, version_laws};
+pub use reader::ReadNewer;

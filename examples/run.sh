@@ -6,7 +6,8 @@
 #     examples/run.sh            three orders on the larger modules, under `rt try`, which proves nothing
 #
 # Of each module NAME.asn there are values as JSON (NAME.values), what `show` makes of them (NAME.json), and their octets
-# in PER and OER (NAME.per, NAME.oer), a line a message. The octets were worked out by reference.py.
+# in PER and OER (NAME.per, NAME.oer), a line a message. The octets were worked out by reference.py. Of the two versions of
+# a module, meter-1.asn and meter-2.asn, there is what each reads of the messages of the other (meter-1.reads-per and so on).
 set -euo pipefail
 program=${1:+$(realpath "$1")}
 cd "$(dirname "$0")"
@@ -47,7 +48,15 @@ if [ -n "$program" ]; then
     "$program" module <"$name.asn" >"$work/$name.asn" || fail "module $name: status $?"
     "$program" module <"$work/$name.asn" | cmp - "$work/$name.asn" || fail "module $name"
   done
-  echo "examples: each order on four modules, in both encoding rules"
+  # two versions of a module: what each makes of the messages of the other
+  for rules in per oer; do
+    for version in 1 2; do
+      other=$((3 - version))
+      expect "meter-$version" Report encode "$rules" "meter-$version.values" "meter-$version.$rules"
+      expect "meter-$version" Report newer "$rules" "meter-$other.$rules" "meter-$version.reads-$rules"
+    done
+  done
+  echo "examples: each order on four modules, and newer on two versions of one, in both encoding rules"
   ./faults.sh "$program"
   exit
 fi

@@ -103,7 +103,7 @@ told_of 'wrong text' read explain
 told_of cycle read
 told_of PER convert
 told_of OER convert
-for order in show check encode convert; do told_of "$order" run; done
+for order in show check encode convert newer; do told_of "$order" run; done
 calls=$(grep -c '^memory' "$work/told")
 
 # Checked::copy and PER's open allocate nothing: no run tells that they were refused

@@ -4,11 +4,10 @@ use Rattle.std.proofs.lemmas.Grind.{common_steps}
 use Rattle.std.specs.Io.KnownBytes.{Appends, Keeps, Consumes, IsAtEnd}
 use Rattle.asn_rules.specs.Faults.{State, Rose}
 use Rattle.asn_rules.proofs.Known.{appends_twice, appends_nothing}
-use Rattle.asn_convert.specs.Answers.{Terms}
+use Rattle.asn_convert.specs.Answers.{Rulings, Terms}
 use Rattle.asn_convert.specs.declared.job.Order.{Order}
 use Rattle.asn_convert.specs.declared.job.RuleName.{RuleName}
 use Rattle.asn_values.specs.Shape.{Shape}
-use Rattle.asn_rules.specs.Answer.{Ruling}
 use Rattle.asn_module.specs.Accepted.{ModuleTypes, type_in}
 use Rattle.asn_module.specs.Printing.{printed}
 use Rattle.asn_rules.proofs.Known.{appends_then_keeps}
@@ -104,14 +103,14 @@ told_begun : (o : Terms) (lines : List (List ℕ)) (out : List ℕ) (good : Bool
 told_begun o [] out good h = h.0
 told_begun o (line ∷ lines) out good (text, rest, here, later, answer, told, is, all) = inr (text, rest, here, answer, told_begun o lines rest later told, is)
 
-tells_begun : (a b : Ruling) (j : Job) (m : ModuleTypes) (lines : List (List ℕ)) (out : List ℕ) (s : Status) → Tells a b j m lines out s → TellsBegun a b j m lines out
-tells_begun a b job.Module m lines out s h = ([], append_none out ∙ h.0)
-tells_begun a b (job.Lines by name rules) m lines out s (inl h) = inl (h.0, ([], append_none out ∙ h.1))
-tells_begun a b (job.Lines by name rules) m lines out s (inr (t, has, good, told, is)) = inr (t, has, told_begun (terms a b rules by t) lines out good told)
+tells_begun : (w : Rulings) (j : Job) (m : ModuleTypes) (lines : List (List ℕ)) (out : List ℕ) (s : Status) → Tells w j m lines out s → TellsBegun w j m lines out
+tells_begun w job.Module m lines out s h = ([], append_none out ∙ h.0)
+tells_begun w (job.Lines by name rules) m lines out s (inl h) = inl (h.0, ([], append_none out ∙ h.1))
+tells_begun w (job.Lines by name rules) m lines out s (inr (t, has, good, told, is)) = inr (t, has, told_begun (terms w rules by t) lines out good told)
 
-pub text_begun : (a b : Ruling) (j : Job) (input out : List ℕ) (s : Status) → Text a b j input out s → Begun a b j input out
-text_begun a b j input out s (inl h) = inr (inl (out, h.0, whole_front out))
-text_begun a b j input out s (inr (m, is, tells)) = inr (inr (m, is, tells_begun a b j m (job_lines input) out s tells))
+pub text_begun : (w : Rulings) (j : Job) (input out : List ℕ) (s : Status) → Text w j input out s → Begun w j input out
+text_begun w j input out s (inl h) = inr (inl (out, h.0, whole_front out))
+text_begun w j input out s (inr (m, is, tells)) = inr (inr (m, is, tells_begun w j m (job_lines input) out s tells))
 
 -- a writer that holds nothing back has what was written
 pub flushed : (P : List ℕ → Type 0) (old mid new : State) → Writes P old mid → Keeps mid.octets new.octets → new.faults ≡ mid.faults → Writes P old new
@@ -132,10 +131,10 @@ keeps_same None = tt
 keeps_same (Some xs) = refl
 
 -- reading failed
-pub read_fails : (a b : Ruling) (j : Job) (why : RunFault) (from behind old : State) → IsReadFault why from.faults behind.faults → Fails a b j why from behind old old
-read_fails a b j fault.Read from behind old h = (keeps_same old.octets, h)
-read_fails a b j fault.Write from behind old h = absurd h
-read_fails a b j fault.Memory from behind old h = let given = given_some from.octets in (given.0, given.1, ([], inl refl, appends_nothing old.octets))
+pub read_fails : (w : Rulings) (j : Job) (why : RunFault) (from behind old : State) → IsReadFault why from.faults behind.faults → Fails w j why from behind old old
+read_fails w j fault.Read from behind old h = (keeps_same old.octets, h)
+read_fails w j fault.Write from behind old h = absurd h
+read_fails w j fault.Memory from behind old h = let given = given_some from.octets in (given.0, given.1, ([], inl refl, appends_nothing old.octets))
 
 -- ---- parts of a run that stop
 
@@ -149,25 +148,25 @@ err_stops_so (Ok x) P Q old new f s = tt
 err_stops_so (Err why) P Q old new f s = stops_so why P Q old new f s
 
 -- a front of the module that is printed
-pub begun_printed : (a b : Ruling) (j : Job) (m : ModuleTypes) (lines : List (List ℕ)) (out : List ℕ) → j ≡ job.Module → IsFront out (printed m) → TellsBegun a b j m lines out
-begun_printed a b j m lines out is front = rw is front
+pub begun_printed : (w : Rulings) (j : Job) (m : ModuleTypes) (lines : List (List ℕ)) (out : List ℕ) → j ≡ job.Module → IsFront out (printed m) → TellsBegun w j m lines out
+begun_printed w j m lines out is front = rw is front
 
 -- a front of the refusal of a name
-pub begun_no_type : (a b : Ruling) (j : Job) (m : ModuleTypes) (lines : List (List ℕ)) (out : List ℕ) (by : Order) (name : String Global) (rules : RuleName) → j ≡ job.Lines by name rules → type_in m.types (string_bytes name) ≡ None
-    → IsFront out (ended (no_type (string_bytes name))) → TellsBegun a b j m lines out
-begun_no_type a b j m lines out by name rules is none front = rw is (inl (none, front))
+pub begun_no_type : (w : Rulings) (j : Job) (m : ModuleTypes) (lines : List (List ℕ)) (out : List ℕ) (by : Order) (name : String Global) (rules : RuleName) → j ≡ job.Lines by name rules → type_in m.types (string_bytes name) ≡ None
+    → IsFront out (ended (no_type (string_bytes name))) → TellsBegun w j m lines out
+begun_no_type w j m lines out by name rules is none front = rw is (inl (none, front))
 
 -- a front of the refusal of a module
-pub begun_refusal : (a b : Ruling) (j : Job) (input text line out : List ℕ) → text ≡ module_text input → IsRefusal text line → IsFront out line → Begun a b j input out
-begun_refusal a b j input text line out same refused front = inr (inl (line, subst (λ t. IsRefusal t line) same refused, front))
+pub begun_refusal : (w : Rulings) (j : Job) (input text line out : List ℕ) → text ≡ module_text input → IsRefusal text line → IsFront out line → Begun w j input out
+begun_refusal w j input text line out same refused front = inr (inl (line, subst (λ t. IsRefusal t line) same refused, front))
 
 -- a beginning for the module that the text is
-pub begun_module : (a b : Ruling) (j : Job) (input text : List ℕ) (lines : List (List ℕ)) (m : ModuleTypes) (out : List ℕ) → text ≡ module_text input → lines ≡ job_lines input → IsModule text m → TellsBegun a b j m lines out → Begun a b j input out
-begun_module a b j input text lines m out same rest is tells = inr (inr (m, subst (λ t. IsModule t m) same is, subst (λ ls. TellsBegun a b j m ls out) rest tells))
+pub begun_module : (w : Rulings) (j : Job) (input text : List ℕ) (lines : List (List ℕ)) (m : ModuleTypes) (out : List ℕ) → text ≡ module_text input → lines ≡ job_lines input → IsModule text m → TellsBegun w j m lines out → Begun w j input out
+begun_module w j input text lines m out same rest is tells = inr (inr (m, subst (λ t. IsModule t m) same is, subst (λ ls. TellsBegun w j m ls out) rest tells))
 
 -- the refusal of a module is the whole text
-pub text_refusal : (a b : Ruling) (j : Job) (input text line out : List ℕ) → text ≡ module_text input → IsRefusal text line → out ≡ line → Text a b j input out status.NoModule
-text_refusal a b j input text line out same refused is = inl (subst (λ t. IsRefusal t out) same (rw is refused), refl)
+pub text_refusal : (w : Rulings) (j : Job) (input text line out : List ℕ) → text ≡ module_text input → IsRefusal text line → out ≡ line → Text w j input out status.NoModule
+text_refusal w j input text line out same refused is = inl (subst (λ t. IsRefusal t out) same (rw is refused), refl)
 
 -- a count that went up by one rose
 pub flush_rose : (old new : ℕ) → new ≡ min (old + 1) (2 ^ 64 - 1) → Rose old new

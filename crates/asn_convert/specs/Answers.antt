@@ -1,5 +1,5 @@
 -- What is answered to one line.
-use Rattle.std.specs.Prelude.{◌≡◌, ◌≢◌, ◌<◌, ◌⊎◌, ℕ, Bool, true, false, List, [], ◌++◌, length, codes, string_bytes, Some, Ok, Err, IsUtf8}
+use Rattle.std.specs.Prelude.{◌≡◌, ◌≢◌, ◌<◌, ◌≤◌, ◌⊎◌, ℕ, Bool, true, false, List, [], ◌∷◌, ◌++◌, length, codes, string_bytes, Some, Ok, Err, IsUtf8}
 use Rattle.std.specs.Fmt.{decimal}
 use Rattle.hex.specs.Hex.{decode_of, encode_lower}
 use Rattle.serde_json.specs.Data.{Data}
@@ -14,6 +14,11 @@ use Rattle.asn_rules.specs.CodecLaws.{Encoded}
 use Rattle.asn_rules.specs.Reasons.{word_of}
 use Rattle.asn_rules.specs.declared.fault.DecodeFault.{DecodeFault}
 use Rattle.asn_rules.specs.declared.fault.DecodeFault.TheVariants as decode
+use Rattle.asn_newer.specs.declared.fault.NewerFault.{NewerFault}
+use Rattle.asn_newer.specs.declared.fault.NewerFault.TheVariants as newer
+use Rattle.asn_newer.specs.Reading.{NotNewer}
+use Rattle.asn_newer.specs.Skipped.{Skipped}
+use Rattle.asn_newer.specs.Loose.{LooseCoding, IsLoose}
 use Rattle.asn_json.specs.Written.{json_of}
 use Rattle.asn_json.specs.Errors.{Shown, Refused}
 use Rattle.asn_json.specs.declared.fault.JsonFault.{JsonFault}
@@ -24,11 +29,18 @@ use Rattle.asn_convert.specs.declared.job.Order.{Order}
 use Rattle.asn_convert.specs.declared.job.Order.TheVariants as order
 use Rattle.asn_convert.specs.Converted.{Converts}
 
--- what lines are answered by: the rules of the octets, those that they are converted to, the name of the former,
--- the type, and what is made of a line
-pub record Terms : Type 0 where
+-- the rules of the octets, those that they are converted to, and what the former say of messages of other versions
+pub record Rulings : Type 1 where
   pub from : Ruling
   pub to : Ruling
+  pub newer : LooseCoding
+
+abbrev pub rulings : Ruling → Ruling → LooseCoding → Rulings
+rulings a b l = record { from = a; to = b; newer = l }
+
+-- what lines are answered by: the encoding rules, the name of those of the octets, the type, and what is made of a line
+pub record Terms : Type 1 where
+  pub rulings : Rulings
   pub name : RuleName
   pub shape : Shape
   pub order : Order
@@ -53,6 +65,14 @@ abbrev pub TellsJsonFault : JsonFault → List ℕ → Type 0
 TellsJsonFault (json.Shape path) text = text ≡ codes "! shape " ++ string_bytes path
 TellsJsonFault json.NotOfType text = text ≡ codes "! not of type"
 TellsJsonFault json.Memory text = ⊥
+
+-- the words of a fault of reading a message of a newer or older sender: which of the first three faults comes is open
+abbrev pub TellsNewerFault : NewerFault → List ℕ → Type 0
+TellsNewerFault newer.Refused text = text ≡ codes "! refused"
+TellsNewerFault newer.Truncated text = text ≡ codes "! cut short"
+TellsNewerFault newer.TooManyAdditions text = text ≡ codes "! too many additions"
+TellsNewerFault newer.TooLong text = text ≡ codes "! too long"
+TellsNewerFault newer.Memory text = ⊥
 
 -- ---- octets
 
@@ -80,6 +100,22 @@ IsTooLong r t v = (p : List ℕ) → IsEncoding r t v p → max_octets < length 
 abbrev pub IsNotConverted : Ruling → Ruling → Shape → List ℕ → List ℕ → Type 0
 IsNotConverted a b t o text = (v : Datum) × Encoded a t v o × IsTooLong b t v × (text ≡ codes "! too long")
 
+-- a field that was skipped: its place, and its octets in hexadecimal
+abbrev pub skipped_text : Skipped → List ℕ
+skipped_text s = codes " +" ++ (decimal s.place ++ (codes ":" ++ encode_lower s.octets))
+
+abbrev pub skipped_texts : List Skipped → List ℕ
+skipped_texts [] = []
+skipped_texts (s ∷ ss) = skipped_text s ++ skipped_texts ss
+
+-- the JSON of what is read of a message of a newer or older sender, and the fields that are skipped in it
+abbrev pub ShowsNewer : LooseCoding → Shape → List ℕ → List ℕ → Type 0
+ShowsNewer l t o text = (v : Datum) × (s : List Skipped) × IsLoose l t v s o × (length o ≤ max_octets) × (text ≡ compact_text (json_of t v) ++ skipped_texts s)
+
+-- why nothing is read of them
+abbrev pub IsNotRead : LooseCoding → Shape → List ℕ → List ℕ → Type 0
+IsNotRead l t o text = (fault : NewerFault) × NotNewer l t o fault × TellsNewerFault fault text
+
 -- what is answered to octets, by order: true where it is no refusal
 abbrev pub AnswersShow : Ruling → RuleName → Shape → List ℕ → List ℕ → Bool → Type 0
 AnswersShow r name t o text true = Shows r t o text
@@ -93,10 +129,15 @@ abbrev pub AnswersConvert : Ruling → Ruling → RuleName → Shape → List �
 AnswersConvert a b name t o text true = IsConverted a b t o text
 AnswersConvert a b name t o text false = IsNotDecoded a name t o text ⊎ IsNotConverted a b t o text
 
+abbrev pub AnswersNewer : LooseCoding → Shape → List ℕ → List ℕ → Bool → Type 0
+AnswersNewer l t o text true = ShowsNewer l t o text
+AnswersNewer l t o text false = IsNotRead l t o text
+
 abbrev pub AnswersOctets : Terms → Order → List ℕ → List ℕ → Bool → Type 0
-AnswersOctets w order.Show o text good = AnswersShow w.from w.name w.shape o text good
-AnswersOctets w order.Check o text good = AnswersCheck w.from w.name w.shape o text good
-AnswersOctets w order.Convert o text good = AnswersConvert w.from w.to w.name w.shape o text good
+AnswersOctets w order.Show o text good = AnswersShow w.rulings.from w.name w.shape o text good
+AnswersOctets w order.Check o text good = AnswersCheck w.rulings.from w.name w.shape o text good
+AnswersOctets w order.Convert o text good = AnswersConvert w.rulings.from w.rulings.to w.name w.shape o text good
+AnswersOctets w order.Newer o text good = AnswersNewer w.rulings.newer w.shape o text good
 AnswersOctets w order.Encode o text good = ⊥
 
 -- what is answered to a line of hexadecimal
@@ -124,10 +165,11 @@ AnswersJson r t line text good = (((j : Data) → IsJson line j → ⊥) × (tex
 -- ---- a line
 
 abbrev pub AnswersBy : Terms → Order → List ℕ → List ℕ → Bool → Type 0
-AnswersBy w order.Encode line text good = AnswersJson w.from w.shape line text good
+AnswersBy w order.Encode line text good = AnswersJson w.rulings.from w.shape line text good
 AnswersBy w order.Show line text good = AnswersHex w order.Show line text good
 AnswersBy w order.Check line text good = AnswersHex w order.Check line text good
 AnswersBy w order.Convert line text good = AnswersHex w order.Convert line text good
+AnswersBy w order.Newer line text good = AnswersHex w order.Newer line text good
 
 -- the answer to a line, without its LF: true where it is no refusal
 abbrev pub Answers : Terms → List ℕ → List ℕ → Bool → Type 0

@@ -2,11 +2,10 @@
 use Rattle.std.specs.Prelude.{◌≡◌, ◌⊎◌, ◌&&◌, ℕ, Bool, true, false, List, [], ◌∷◌, ◌++◌, codes, string_bytes, Option, Some, None, IfSome, IsUtf8, ⊤}
 use Rattle.std.specs.Io.KnownBytes.{Appends, Keeps}
 use Rattle.asn_values.specs.Shape.{Shape}
-use Rattle.asn_rules.specs.Answer.{Ruling}
 use Rattle.asn_rules.specs.Faults.{Rose, State}
 use Rattle.asn_module.specs.Accepted.{ModuleTypes, Accepted, type_in}
 use Rattle.asn_module.specs.Printing.{printed}
-use Rattle.asn_convert.specs.Answers.{Terms, Answers}
+use Rattle.asn_convert.specs.Answers.{Rulings, Terms, Answers}
 use Rattle.asn_convert.specs.Lines.{module_text, job_lines}
 use Rattle.asn_convert.specs.declared.job.Order.{Order}
 use Rattle.asn_convert.specs.declared.job.RuleName.{RuleName}
@@ -84,30 +83,30 @@ status_of true = status.Good
 status_of false = status.Marked
 
 -- what lines are answered by, for a type
-abbrev pub terms : Ruling → Ruling → RuleName → Order → Shape → Terms
-terms a b name by t = record { from = a; to = b; name = name; shape = t; order = by }
+abbrev pub terms : Rulings → RuleName → Order → Shape → Terms
+terms w name by t = record { rulings = w; name = name; shape = t; order = by }
 
--- what a job makes of an accepted module and of the lines, octets being those of the rules a, or converted to b
-abbrev pub Tells : Ruling → Ruling → Job → ModuleTypes → List (List ℕ) → List ℕ → Status → Type 0
-Tells a b job.Module m lines out s = (out ≡ printed m) × (s ≡ status.Good)
-Tells a b (job.Lines by name rules) m lines out s =
+-- what a job makes of an accepted module and of the lines, octets being those of these rules
+abbrev pub Tells : Rulings → Job → ModuleTypes → List (List ℕ) → List ℕ → Status → Type 0
+Tells w job.Module m lines out s = (out ≡ printed m) × (s ≡ status.Good)
+Tells w (job.Lines by name rules) m lines out s =
     ((type_in m.types (string_bytes name) ≡ None) × (out ≡ ended (no_type (string_bytes name))) × (s ≡ status.NoModule))
-    ⊎ ((t : Shape) × (type_in m.types (string_bytes name) ≡ Some t) × (good : Bool) × Told (terms a b rules by t) lines out good × (s ≡ status_of good))
+    ⊎ ((t : Shape) × (type_in m.types (string_bytes name) ≡ Some t) × (good : Bool) × Told (terms w rules by t) lines out good × (s ≡ status_of good))
 
-abbrev pub Text : Ruling → Ruling → Job → List ℕ → List ℕ → Status → Type 0
-Text a b j input out s = (IsRefusal (module_text input) out × (s ≡ status.NoModule))
-    ⊎ ((m : ModuleTypes) × IsModule (module_text input) m × Tells a b j m (job_lines input) out s)
+abbrev pub Text : Rulings → Job → List ℕ → List ℕ → Status → Type 0
+Text w j input out s = (IsRefusal (module_text input) out × (s ≡ status.NoModule))
+    ⊎ ((m : ModuleTypes) × IsModule (module_text input) m × Tells w j m (job_lines input) out s)
 
 -- a beginning of such a text
-abbrev pub TellsBegun : Ruling → Ruling → Job → ModuleTypes → List (List ℕ) → List ℕ → Type 0
-TellsBegun a b job.Module m lines out = IsFront out (printed m)
-TellsBegun a b (job.Lines by name rules) m lines out = ((type_in m.types (string_bytes name) ≡ None) × IsFront out (ended (no_type (string_bytes name))))
-    ⊎ ((t : Shape) × (type_in m.types (string_bytes name) ≡ Some t) × IsBegun (terms a b rules by t) lines out)
+abbrev pub TellsBegun : Rulings → Job → ModuleTypes → List (List ℕ) → List ℕ → Type 0
+TellsBegun w job.Module m lines out = IsFront out (printed m)
+TellsBegun w (job.Lines by name rules) m lines out = ((type_in m.types (string_bytes name) ≡ None) × IsFront out (ended (no_type (string_bytes name))))
+    ⊎ ((t : Shape) × (type_in m.types (string_bytes name) ≡ Some t) × IsBegun (terms w rules by t) lines out)
 
-abbrev pub Begun : Ruling → Ruling → Job → List ℕ → List ℕ → Type 0
-Begun a b j input out = (out ≡ [])
+abbrev pub Begun : Rulings → Job → List ℕ → List ℕ → Type 0
+Begun w j input out = (out ≡ [])
     ⊎ ((line : List ℕ) × IsRefusal (module_text input) line × IsFront out line)
-    ⊎ ((m : ModuleTypes) × IsModule (module_text input) m × TellsBegun a b j m (job_lines input) out)
+    ⊎ ((m : ModuleTypes) × IsModule (module_text input) m × TellsBegun w j m (job_lines input) out)
 
 -- ---- what was read, and faults
 
@@ -132,11 +131,11 @@ Stops fault.Write Kind old new = (out : List ℕ) × Kind out × Appends old.oct
 Stops fault.Memory Kind old new = (out : List ℕ) × Kind out × Appends old.octets new.octets out
 
 -- a run to its end: what was written is a text of the job, for what the reader was to give
-abbrev pub Runs : Ruling → Ruling → Job → Status → Option (List ℕ) → State → State → Type 0
-Runs a b j s given old new = (input : List ℕ) × IsGiven given input × Writes (λ out. Text a b j input out s) old new
+abbrev pub Runs : Rulings → Job → Status → Option (List ℕ) → State → State → Type 0
+Runs w j s given old new = (input : List ℕ) × IsGiven given input × Writes (λ out. Text w j input out s) old new
 
 -- a run that failed: nothing was written where the reader failed, else a beginning of a text of the job
-abbrev pub Fails : Ruling → Ruling → Job → RunFault → State → State → State → State → Type 0
-Fails a b j fault.Read from behind old new = Keeps old.octets new.octets × Rose from.faults behind.faults
-Fails a b j fault.Write from behind old new = (input : List ℕ) × IsGiven from.octets input × Stops fault.Write (λ out. Begun a b j input out) old new
-Fails a b j fault.Memory from behind old new = (input : List ℕ) × IsGiven from.octets input × Stops fault.Memory (λ out. Begun a b j input out) old new
+abbrev pub Fails : Rulings → Job → RunFault → State → State → State → State → Type 0
+Fails w j fault.Read from behind old new = Keeps old.octets new.octets × Rose from.faults behind.faults
+Fails w j fault.Write from behind old new = (input : List ℕ) × IsGiven from.octets input × Stops fault.Write (λ out. Begun w j input out) old new
+Fails w j fault.Memory from behind old new = (input : List ℕ) × IsGiven from.octets input × Stops fault.Memory (λ out. Begun w j input out) old new

@@ -4,16 +4,18 @@ ghost use Rattle.hex.specs.Hex.{decode_of};
 ghost use Rattle.serde_json.specs.Data.{Data};
 ghost use Rattle.serde_json.specs.View.{view};
 ghost use Rattle.serde_json.specs.Written.{compact_text};
-ghost use Rattle.asn_values.specs.Fits.{Fits};
+ghost use Rattle.asn_values.specs.Received.{FitsReceived};
 ghost use Rattle.asn_values.specs.View.{shape_of, datum_of};
 ghost use Rattle.asn_json.specs.Written.{json_of};
-ghost use Rattle.asn_convert.specs.Answers.{Answers, AnswersShow, AnswersCheck, AnswersConvert, AnswersJson, AnswersValue, IsJson};
+ghost use Rattle.asn_convert.specs.Answers.{rulings, Answers, AnswersShow, AnswersCheck, AnswersConvert, AnswersJson, AnswersValue, IsJson};
 ghost use Rattle.asn_convert.specs.Text.{terms};
 
 use crate::conversion::{ConvertFault, convert};
 use crate::job::{Order, RuleName};
+use crate::newer::newer_octets;
 use crate::texts::{Answer, decode_refusal, json_refusal, refusal};
 use asn_json::{from_json, to_json};
+use asn_newer::ReadNewer;
 use asn_rules::laws::are_octets;
 use asn_rules::{EncodeFault, Rules, decode};
 use asn_values::{Checked, Value};
@@ -21,15 +23,15 @@ use serde_json::Value as Json;
 use std::alloc::{AllocError, Global};
 
 /// The answer to one line.
-pub(crate) fn answer_to<A: Rules, B: Rules>(
+pub(crate) fn answer_to<A: ReadNewer, B: Rules>(
     alloc: Global,
     ty: &Checked,
     order: Order,
     rules: RuleName,
     line: &[u8],
 ) -> Result<Answer, AllocError>
-    ensures { IfOk result (λ a. Answers (terms A.ruling B.ruling rules order (shape_of ty.now)) line.now
-        (string_bytes a.text) a.is_good) }
+    ensures { IfOk result (λ a. Answers (terms (rulings A.ruling B.ruling A.loose) rules order (shape_of ty.now))
+        line.now (string_bytes a.text) a.is_good) }
 {
     if let Order::Encode = order {
         return answer_json::<A>(alloc, ty, line);
@@ -42,6 +44,7 @@ pub(crate) fn answer_to<A: Rules, B: Rules>(
         Order::Show => show_octets::<A>(alloc, ty, rules, octets.as_slice()),
         Order::Check => check_octets::<A>(alloc, ty, rules, octets.as_slice()),
         Order::Convert => convert_octets::<A, B>(alloc, ty, rules, octets.as_slice()),
+        Order::Newer => newer_octets::<A>(alloc, ty, octets.as_slice()),
         Order::Encode => unreachable!(),
     }
 }
@@ -81,9 +84,9 @@ fn show_octets<A: Rules>(
     }
 }
 
-/// The text of the JSON of a value of the type.
-fn json_text(alloc: Global, ty: &Checked, value: &Value) -> Result<String, AllocError>
-    requires { Fits (shape_of ty.now) (datum_of value.now) }
+/// The text of the JSON of a value of the type, or of one that is read of a message of a newer sender.
+pub(crate) fn json_text(alloc: Global, ty: &Checked, value: &Value) -> Result<String, AllocError>
+    requires { FitsReceived (shape_of ty.now) (datum_of value.now) }
     ensures { IfOk result (λ text. string_bytes text
         ≡ compact_text (json_of (shape_of ty.now) (datum_of value.now))) }
 {

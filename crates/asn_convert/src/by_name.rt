@@ -1,7 +1,7 @@
 //! Jobs under the encoding rules that they name.
 ghost use Rattle.std.specs.Prelude.{IfOk, IfErr};
 ghost use Rattle.asn_rules.specs.Faults.{inner_of, state_of};
-ghost use Rattle.asn_convert.specs.Named.{ruling_of, other_ruling, rules_of};
+ghost use Rattle.asn_convert.specs.Named.{rulings_of, rules_of};
 ghost use Rattle.asn_convert.specs.Text.{Runs, Fails};
 
 use crate::job::{Job, RuleName, RunFault, Status};
@@ -27,10 +27,10 @@ pub fn run<R: Read, W: Write>(
     output: &mut Counted<W>,
     job: &Job,
 ) -> Result<Status, RunFault>
-    ensures text { IfOk result (λ status. Runs (ruling_of (rules_of job.now)) (other_ruling (rules_of job.now)) job.now
-        status (R.remaining (inner_of input.old)) (state_of W.contents output.old) (state_of W.contents output.new)) }
-    ensures fault { IfErr result (λ fault. Fails (ruling_of (rules_of job.now)) (other_ruling (rules_of job.now))
-        job.now fault (state_of R.remaining input.old) (state_of R.remaining input.new)
+    ensures text { IfOk result (λ status. Runs (rulings_of (rules_of job.now)) job.now status
+        (R.remaining (inner_of input.old)) (state_of W.contents output.old) (state_of W.contents output.new)) }
+    ensures fault { IfErr result (λ fault. Fails (rulings_of (rules_of job.now)) job.now fault
+        (state_of R.remaining input.old) (state_of R.remaining input.new)
         (state_of W.contents output.old) (state_of W.contents output.new)) }
 {
     let rules = match job {

@@ -25,6 +25,9 @@ pub enum Order {
     Encode,
     /// Octets become those of the same value in the other rules.
     Convert,
+    /// Octets of a sender whose type has more or fewer extension additions become the JSON of what is read of them, and
+    /// the fields that are skipped.
+    Newer,
 }
 
 /// What is to be done.

@@ -7,6 +7,7 @@ mod conversion;
 mod cut;
 mod job;
 pub mod laws;
+mod newer;
 mod reading;
 mod running;
 mod texts;

@@ -4,6 +4,7 @@ ghost use Rattle.asn_values.specs.View.{shape_of};
 ghost use Rattle.asn_rules.specs.Faults.{inner_of, state_of};
 ghost use Rattle.asn_module.specs.ModuleView.{types_view};
 ghost use Rattle.asn_module.specs.declared.fault.ModuleFault.{ModuleFault};
+ghost use Rattle.asn_convert.specs.Answers.{rulings};
 ghost use Rattle.asn_convert.specs.Lines.{lines_of};
 ghost use Rattle.asn_convert.specs.Text.{Text, Begun, Tells, TellsBegun, Told, IsBegun, IsAnswered, IsAnswerBegun, IsFront, IsModule, IsRefusal, Writes, Stops, Runs, Fails, terms};
 
@@ -13,38 +14,40 @@ use crate::job::{Job, Order, RuleName, RunFault, Status};
 use crate::reading::read_all;
 use crate::texts::Answer;
 use asn_module::{Module, ModuleFault, read};
+use asn_newer::ReadNewer;
 use asn_rules::{Counted, Rules};
 use asn_values::Checked;
 use std::alloc::{AllocError, Global};
 use std::io::{Read, Write};
 
 /// Reads all, and writes the text of the job, octets being those of the rules A, or converted to those of B.
-pub(crate) fn run_with<A: Rules, B: Rules, R: Read, W: Write>(
+pub(crate) fn run_with<A: ReadNewer, B: Rules, R: Read, W: Write>(
     alloc: Global,
     input: &mut Counted<R>,
     output: &mut Counted<W>,
     job: &Job,
 ) -> Result<Status, RunFault>
-    ensures text { IfOk result (λ status. Runs A.ruling B.ruling job.now status (R.remaining (inner_of input.old))
+    ensures text { IfOk result (λ status. Runs (rulings A.ruling B.ruling A.loose) job.now status
+        (R.remaining (inner_of input.old)) (state_of W.contents output.old) (state_of W.contents output.new)) }
+    ensures fault { IfErr result (λ fault. Fails (rulings A.ruling B.ruling A.loose) job.now fault
+        (state_of R.remaining input.old) (state_of R.remaining input.new)
         (state_of W.contents output.old) (state_of W.contents output.new)) }
-    ensures fault { IfErr result (λ fault. Fails A.ruling B.ruling job.now fault (state_of R.remaining input.old)
-        (state_of R.remaining input.new) (state_of W.contents output.old) (state_of W.contents output.new)) }
 {
     let octets = read_all(alloc, input)?;
     write_text::<A, B, W>(alloc, output, job, octets.as_slice())
 }
 
 /// Writes the text of the job for this input, and lets the writer hold nothing back.
-fn write_text<A: Rules, B: Rules, W: Write>(
+fn write_text<A: ReadNewer, B: Rules, W: Write>(
     alloc: Global,
     output: &mut Counted<W>,
     job: &Job,
     input: &[u8],
 ) -> Result<Status, RunFault>
-    ensures text { IfOk result (λ status. Writes (λ out. Text A.ruling B.ruling job.now input.now out status)
-        (state_of W.contents output.old) (state_of W.contents output.new)) }
-    ensures fault { IfErr result (λ fault. Stops fault (λ out. Begun A.ruling B.ruling job.now input.now out)
-        (state_of W.contents output.old) (state_of W.contents output.new)) }
+    ensures text { IfOk result (λ status. Writes (λ out. Text (rulings A.ruling B.ruling A.loose) job.now input.now
+        out status) (state_of W.contents output.old) (state_of W.contents output.new)) }
+    ensures fault { IfErr result (λ fault. Stops fault (λ out. Begun (rulings A.ruling B.ruling A.loose) job.now
+        input.now out) (state_of W.contents output.old) (state_of W.contents output.new)) }
 {
     let status = answer_input::<A, B, W>(alloc, output, job, input)?;
     match output.flush() {
@@ -54,16 +57,16 @@ fn write_text<A: Rules, B: Rules, W: Write>(
 }
 
 /// Writes the text of the job for this input.
-fn answer_input<A: Rules, B: Rules, W: Write>(
+fn answer_input<A: ReadNewer, B: Rules, W: Write>(
     alloc: Global,
     output: &mut Counted<W>,
     job: &Job,
     input: &[u8],
 ) -> Result<Status, RunFault>
-    ensures text { IfOk result (λ status. Writes (λ out. Text A.ruling B.ruling job.now input.now out status)
-        (state_of W.contents output.old) (state_of W.contents output.new)) }
-    ensures fault { IfErr result (λ fault. Stops fault (λ out. Begun A.ruling B.ruling job.now input.now out)
-        (state_of W.contents output.old) (state_of W.contents output.new)) }
+    ensures text { IfOk result (λ status. Writes (λ out. Text (rulings A.ruling B.ruling A.loose) job.now input.now
+        out status) (state_of W.contents output.old) (state_of W.contents output.new)) }
+    ensures fault { IfErr result (λ fault. Stops fault (λ out. Begun (rulings A.ruling B.ruling A.loose) job.now
+        input.now out) (state_of W.contents output.old) (state_of W.contents output.new)) }
 {
     let (text, lines) = cut_input(input);
     match module_in(alloc, text)? {
@@ -107,16 +110,17 @@ fn words_of(alloc: Global, fault: ModuleFault) -> Result<String, AllocError>
 }
 
 /// Writes the text of the job for this module and these lines.
-fn answer_module<A: Rules, B: Rules, W: Write>(
+fn answer_module<A: ReadNewer, B: Rules, W: Write>(
     alloc: Global,
     output: &mut Counted<W>,
     job: &Job,
     accepted: &Module,
     lines: &[u8],
 ) -> Result<Status, RunFault>
-    ensures text { IfOk result (λ status. Writes (λ out. Tells A.ruling B.ruling job.now (types_view accepted.now)
-        (lines_of lines.now) out status) (state_of W.contents output.old) (state_of W.contents output.new)) }
-    ensures fault { IfErr result (λ fault. Stops fault (λ out. TellsBegun A.ruling B.ruling job.now
+    ensures text { IfOk result (λ status. Writes (λ out. Tells (rulings A.ruling B.ruling A.loose) job.now
+        (types_view accepted.now) (lines_of lines.now) out status) (state_of W.contents output.old)
+        (state_of W.contents output.new)) }
+    ensures fault { IfErr result (λ fault. Stops fault (λ out. TellsBegun (rulings A.ruling B.ruling A.loose) job.now
         (types_view accepted.now) (lines_of lines.now) out) (state_of W.contents output.old)
         (state_of W.contents output.new)) }
 {
@@ -148,7 +152,7 @@ fn answer_module<A: Rules, B: Rules, W: Write>(
 }
 
 /// Answers each line, and tells whether no answer is a refusal.
-fn answer_lines<A: Rules, B: Rules, W: Write>(
+fn answer_lines<A: ReadNewer, B: Rules, W: Write>(
     alloc: Global,
     output: &mut Counted<W>,
     ty: &Checked,
@@ -156,11 +160,11 @@ fn answer_lines<A: Rules, B: Rules, W: Write>(
     rules: RuleName,
     lines: &[u8],
 ) -> Result<bool, RunFault>
-    ensures told { IfOk result (λ all_good. Writes (λ out. Told (terms A.ruling B.ruling rules order
+    ensures told { IfOk result (λ all_good. Writes (λ out. Told (terms (rulings A.ruling B.ruling A.loose) rules order
         (shape_of ty.now)) (lines_of lines.now) out all_good) (state_of W.contents output.old)
         (state_of W.contents output.new)) }
-    ensures begun { IfErr result (λ fault. Stops fault (λ out. IsBegun (terms A.ruling B.ruling rules order
-        (shape_of ty.now)) (lines_of lines.now) out) (state_of W.contents output.old)
+    ensures begun { IfErr result (λ fault. Stops fault (λ out. IsBegun (terms (rulings A.ruling B.ruling A.loose) rules
+        order (shape_of ty.now)) (lines_of lines.now) out) (state_of W.contents output.old)
         (state_of W.contents output.new)) }
 {
     let mut rest = lines;
@@ -174,7 +178,7 @@ fn answer_lines<A: Rules, B: Rules, W: Write>(
 }
 
 /// Answers one line, and tells whether the answer is no refusal. The answer is let go at the end.
-fn answer_line<A: Rules, B: Rules, W: Write>(
+fn answer_line<A: ReadNewer, B: Rules, W: Write>(
     alloc: Global,
     output: &mut Counted<W>,
     ty: &Checked,
@@ -182,10 +186,11 @@ fn answer_line<A: Rules, B: Rules, W: Write>(
     rules: RuleName,
     line: &[u8],
 ) -> Result<bool, RunFault>
-    ensures told { IfOk result (λ good. Writes (λ out. IsAnswered (terms A.ruling B.ruling rules order
+    ensures told { IfOk result (λ good. Writes (λ out. IsAnswered (terms (rulings A.ruling B.ruling A.loose) rules order
         (shape_of ty.now)) line.now out good) (state_of W.contents output.old) (state_of W.contents output.new)) }
-    ensures begun { IfErr result (λ fault. Stops fault (λ out. IsAnswerBegun (terms A.ruling B.ruling rules order
-        (shape_of ty.now)) line.now out) (state_of W.contents output.old) (state_of W.contents output.new)) }
+    ensures begun { IfErr result (λ fault. Stops fault (λ out. IsAnswerBegun (terms (rulings A.ruling B.ruling A.loose)
+        rules order (shape_of ty.now)) line.now out) (state_of W.contents output.old)
+        (state_of W.contents output.new)) }
 {
     let Answer {
         text: mut text,

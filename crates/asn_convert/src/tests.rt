@@ -1,6 +1,7 @@
 //! Rows of jobs: a module and lines go in, a text and a status come out.
-use crate::texts::decode_refusal;
+use crate::texts::{decode_refusal, newer_refusal};
 use crate::{Job, Order, RuleName, RunFault, Status, run};
+use asn_newer::NewerFault;
 use asn_rules::{Counted, DecodeFault};
 use std::alloc::{AllocError, Global};
 use std::io;
@@ -126,6 +127,98 @@ fn lines_have_answers(rt: HostRuntime) -> Result<(), Fail> {
     Ok(())
 }
 
+const VERSIONS: &str = "Versions DEFINITIONS AUTOMATIC TAGS ::= BEGIN
+Old ::= SEQUENCE { a BOOLEAN, ... }
+Two ::= SEQUENCE { a BOOLEAN, ..., b INTEGER (0..255) OPTIONAL, c OCTET STRING OPTIONAL }
+In ::= SEQUENCE { p BOOLEAN, ... }
+Out ::= SEQUENCE { a BOOLEAN, ..., b In OPTIONAL, c BOOLEAN OPTIONAL }
+Ch ::= CHOICE { x NULL, y BOOLEAN, z INTEGER (0..3), ... }
+Col ::= ENUMERATED { red(0), green(5), blue(200), ... }
+END
+====
+";
+
+#[test]
+fn messages_of_other_versions_have_answers(rt: HostRuntime) -> Result<(), Fail> {
+    for (name, rules, given, want, status) in [
+        (
+            "Old",
+            RuleName::Per,
+            "c04041c0\nc040bfffc0\ne0\nc000\nc040\nz\n",
+            "{\"a\":true} +0:07\n{\"a\":true} +0:ffff\n! too many additions\n! refused\n! cut short\n! hex\n",
+            Status::Marked,
+        ),
+        (
+            "Old",
+            RuleName::Oer,
+            "80ff0207800107\n",
+            "{\"a\":true} +0:07\n",
+            Status::Good,
+        ),
+        (
+            "Two",
+            RuleName::Per,
+            "c04041c0\n",
+            "{\"a\":true,\"b\":7}\n",
+            Status::Good,
+        ),
+        (
+            "Two",
+            RuleName::Oer,
+            "80ff0207800107\n",
+            "{\"a\":true,\"b\":7}\n",
+            Status::Good,
+        ),
+        (
+            "Out",
+            RuleName::Per,
+            "c0e098080838003000\n",
+            "{\"a\":true,\"b\":{\"p\":true},\"c\":true} +0:07\n",
+            Status::Good,
+        ),
+        (
+            "Out",
+            RuleName::Oer,
+            "80ff0206c00780ff020780010701ff\n",
+            "{\"a\":true,\"b\":{\"p\":true},\"c\":true} +0:07\n",
+            Status::Good,
+        ),
+        (
+            "Ch",
+            RuleName::Per,
+            "800201ab\n",
+            "{\"?3\":null} +0:01ab\n",
+            Status::Good,
+        ),
+        (
+            "Ch",
+            RuleName::Oer,
+            "830201ab\n",
+            "{\"?3\":null} +0:01ab\n",
+            Status::Good,
+        ),
+        ("Col", RuleName::Per, "80\n", "\"?0\"\n", Status::Good),
+        (
+            "Col",
+            RuleName::Oer,
+            "82012c\n8200c9\n64\n",
+            "\"?300\"\n\"?201\"\n! refused\n",
+            Status::Marked,
+        ),
+    ] {
+        let job = lines(rt.alloc(), Order::Newer, name, rules)?;
+        expect(
+            &rt,
+            rt.alloc(),
+            &job,
+            VERSIONS,
+            given.as_bytes(),
+            (want, status),
+        )?;
+    }
+    Ok(())
+}
+
 #[test]
 fn modules_that_are_refused_are_told(rt: HostRuntime) -> Result<(), Fail> {
     for (given, want) in [
@@ -175,6 +268,9 @@ fn a_module_is_printed(rt: HostRuntime) -> Result<(), Fail> {
 #[test]
 fn octets_of_too_many_are_told(rt: HostRuntime) -> Result<(), Fail> {
     let answer = decode_refusal(rt.alloc(), RuleName::Oer, DecodeFault::TooLong)?;
+    assert_eq!(rt; answer.text.as_str(), "! too long");
+    assert!(rt; !answer.is_good);
+    let answer = newer_refusal(rt.alloc(), NewerFault::TooLong)?;
     assert_eq!(rt; answer.text.as_str(), "! too long");
     assert!(rt; !answer.is_good);
     Ok(())

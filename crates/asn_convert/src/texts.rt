@@ -1,9 +1,10 @@
 //! What is written for a line that is refused.
 ghost use Rattle.std.specs.Prelude.{◌≡◌, false, IfOk, string_bytes};
-ghost use Rattle.asn_convert.specs.Answers.{unit_of, TellsDecodeFault, TellsJsonFault};
+ghost use Rattle.asn_convert.specs.Answers.{unit_of, TellsDecodeFault, TellsJsonFault, TellsNewerFault};
 
 use crate::job::RuleName;
 use asn_json::JsonFault;
+use asn_newer::NewerFault;
 use asn_rules::DecodeFault;
 use std::alloc::{AllocError, Global};
 
@@ -85,5 +86,21 @@ pub(crate) fn json_refusal(alloc: Global, fault: &JsonFault) -> Result<Answer, A
         }
         JsonFault::NotOfType => refusal(alloc, "! not of type"),
         JsonFault::Memory => Err(AllocError),
+    }
+}
+
+/// The refusal of octets of which nothing is read.
+///
+/// Err: an allocation failed, here or while they were read.
+pub(crate) fn newer_refusal(alloc: Global, fault: NewerFault) -> Result<Answer, AllocError>
+    ensures text { IfOk result (λ a. TellsNewerFault fault (string_bytes a.text)) }
+    ensures refused { IfOk result (λ a. a.is_good ≡ false) }
+{
+    match fault {
+        NewerFault::Refused => refusal(alloc, "! refused"),
+        NewerFault::Truncated => refusal(alloc, "! cut short"),
+        NewerFault::TooManyAdditions => refusal(alloc, "! too many additions"),
+        NewerFault::TooLong => refusal(alloc, "! too long"),
+        NewerFault::Memory => Err(AllocError),
     }
 }

@@ -7,3 +7,4 @@ pub mod Rules
 pub mod Examples
 pub mod Halting
 pub mod Bitmaps
+pub mod Reading

@@ -2,9 +2,13 @@
 #![tactic(auto)]
 
 mod bitmaps;
+mod fault;
 mod halt;
 mod laws;
+mod reader;
 
 pub use bitmaps::read_any_bitmap;
+pub use fault::NewerFault;
 pub use halt::Halt;
 pub use laws::{OtherVersions, version_laws};
+pub use reader::ReadNewer;

@@ -100,5 +100,11 @@ fn jobs(rt: &impl Print, alloc: Global) -> bool {
         "run",
         answer_lines(alloc, Order::Convert, RuleName::Oer),
     );
+    right &= report(
+        rt,
+        "newer",
+        "run",
+        answer_lines(alloc, Order::Newer, RuleName::Per),
+    );
     right
 }

@@ -21,6 +21,10 @@ const OER_LINES: &str = "a0050141020780078101020582012c\na\n";
 const JSON_LINES: &str = "{\"id\":5,\"note\":\"A\",\"pick\":{\"many\":[\"green\",\"grey\"]}}\n\
 {\"id\":5,\"pick\":{\"many\":[0]}}\n";
 
+/// A message in PER of a later version of the module, in which `Msg` has one addition more and `Colour` another item, and
+/// two octets of it.
+const NEWER_LINES: &str = "b58207038130200109\nb582\n";
+
 const SHOWN: &str =
     "{\"id\":5,\"note\":\"A\",\"ok\":true,\"pick\":{\"many\":[\"green\",\"grey\"]}}\n\
 ! cut short after 16 bits\n";
@@ -30,6 +34,10 @@ const CHECKED: &str = "ok 15\n! hex\n";
 const ENCODED: &str = "b5820207026000\n! shape $.pick.many[0]\n";
 
 const CONVERTED: &str = "b5820207026000\n! hex\n";
+
+const READ: &str =
+    "{\"id\":5,\"note\":\"A\",\"ok\":true,\"pick\":{\"many\":[\"green\",\"?1\"]}} +1:09\n\
+! cut short\n";
 
 /// How many octets a job may write.
 const ROOM: usize = 1024;
@@ -68,6 +76,7 @@ pub fn answer_lines(alloc: Global, order: Order, rules: RuleName) -> Result<Outc
         Order::Check => (OER_LINES, CHECKED),
         Order::Encode => (JSON_LINES, ENCODED),
         Order::Convert => (OER_LINES, CONVERTED),
+        Order::Newer => (NEWER_LINES, READ),
     };
     let mut input = String::from_str(alloc, TEXT)?;
     input.push_str("====\n")?;

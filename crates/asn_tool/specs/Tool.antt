@@ -25,6 +25,7 @@ order_name order.Show = codes "show"
 order_name order.Check = codes "check"
 order_name order.Encode = codes "encode"
 order_name order.Convert = codes "convert"
+order_name order.Newer = codes "newer"
 
 abbrev pub rule_name : RuleName → Text
 rule_name rules.Per = codes "per"

@@ -82,6 +82,7 @@ fn order_named(name: &str) -> Option<Order>
         "check" => Some(Order::Check),
         "encode" => Some(Order::Encode),
         "convert" => Some(Order::Convert),
+        "newer" => Some(Order::Newer),
         _ => None,
     }
 }

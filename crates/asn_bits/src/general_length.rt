@@ -307,7 +307,7 @@ fn fragments_with(low: u64, high: u64) -> (u64, Option<u64>)
 }
 
 /// Whether some count of the set is at or above `low`, and at or below `high` if there is one.
-fn reaches(first: Counts, second: Option<Counts>, low: u64, high: Option<u64>) -> bool
+pub(crate) fn reaches(first: Counts, second: Option<Counts>, low: u64, high: Option<u64>) -> bool
     ensures exact { IsTrue result ↔ Reaches (spans first second) low high }
     ensures few { IsTrue result → low < 2 ^ 32 }
 {

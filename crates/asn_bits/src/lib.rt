@@ -9,6 +9,7 @@ mod intervals;
 mod lengths;
 mod number_field;
 mod numbers;
+mod octet_lengths;
 mod offsets;
 mod shifts;
 mod sink;
@@ -18,6 +19,7 @@ pub use cursor::BitCursor;
 pub use general_length::{Counts, Lengths};
 pub use intervals::Intervals;
 pub use number_field::{FieldState, NumberField};
+pub use octet_lengths::OctetLengths;
 pub use sink::BitSink;
 
 #[cfg(test)]

@@ -82,7 +82,7 @@ impl BitSink {
         ensures ok { OnOk result (self.new ≡ self.old ++ unpacked octets.now) }
         ensures err { OnErr result (self.new ≡ self.old) }
     {
-        self.octets.reserve(octets.len() + 16)?;
+        make_room(&mut self.octets, octets.len() + 16)?;
         let (count, pending) = put_octets(&mut self.octets, self.count, self.pending, octets);
         self.count = count;
         self.pending = pending;
@@ -208,7 +208,8 @@ fn has_room(octets: &Vec<u8>) -> bool
     octets.capacity() - octets.len() >= 24
 }
 
-// makes room for `room` octets; where memory is needed, for 512 at least, so that a typical message never reallocates
+// makes room for `room` octets; where memory is needed, for 512 at least, so that a typical message never reallocates,
+// and for as many as there are, so that a long one is moved few times
 fn make_room(octets: &mut Vec<u8>, room: usize) -> Result<(), AllocError>
     ensures ok { OnOk result (vec_len octets.new + room ≤ vec_capacity octets.new) }
     ensures items { octets.new.items ≡ octets.old.items }
@@ -216,7 +217,7 @@ fn make_room(octets: &mut Vec<u8>, room: usize) -> Result<(), AllocError>
     ensures capacity { vec_capacity octets.old ≤ vec_capacity octets.new }
 {
     if octets.capacity() - octets.len() < room {
-        octets.reserve(room.max(512))?;
+        octets.reserve(room.max(octets.len()).max(512))?;
     }
     Ok(())
 }

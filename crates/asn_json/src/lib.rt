@@ -14,6 +14,3 @@ pub use fault::JsonFault;
 pub use laws::written_is_read_back;
 pub use read::from_json;
 pub use write::to_json;
-
-#[cfg(test)]
-mod tests;

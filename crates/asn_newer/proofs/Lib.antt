@@ -9,3 +9,4 @@ pub mod ItemWays
 pub mod PerWays
 pub mod OerWays
 pub mod AnyBitmaps
+pub mod Received

@@ -4,11 +4,13 @@ use Rattle.asn_values.specs.Datum.{Datum, item}
 use Rattle.asn_values.specs.Shape.{Shape, enumerated, Label, marked_labels}
 use Rattle.asn_values.specs.Fits.{Fits}
 use Rattle.asn_values.specs.Profile.{InProfile}
+use Rattle.asn_values.specs.Received.{FitsReceived}
 use Rattle.asn_rules.specs.Answer.{IsEncoding}
 use Rattle.asn_rules.specs.Chunks.{open_field, flat}
 use Rattle.asn_rules.specs.Laws.{AreOctets}
 use Rattle.asn_walk.specs.Laws.{Laws}
 use Rattle.asn_walk.specs.WriteLaws.{WriteLaws}
+use Rattle.asn_newer.specs.Skipped.{Skipped}
 use Rattle.asn_newer.specs.Loose.{LooseCoding, IsLoose, AnyItem}
 use Rattle.asn_newer.specs.Versions.{LabelVersions, Newer, AreVersions, item_received, received, cut, dropped, wide}
 
@@ -37,6 +39,10 @@ abbrev pub NewerReads : LooseCoding → Type 0
 NewerReads l =
     (old new : Shape) (v : Datum) (o : List ℕ) → InProfile old → InProfile new → Newer old new → Encodes l old v o
     → IsLoose l new (wide l old new v) [] o
+
+-- what is read is a value of the type, or one in which items and alternatives that the type has not stand as such
+abbrev pub ReadsFit : LooseCoding → Type 0
+ReadsFit l = (t : Shape) (v : Datum) (s : List Skipped) (o : List ℕ) → InProfile t → IsLoose l t v s o → FitsReceived t v
 
 -- ---- what these laws follow from
 

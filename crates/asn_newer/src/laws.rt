@@ -1,6 +1,6 @@
 //! The laws of messages that another version of their type reads.
 ghost use Rattle.asn_newer.specs.Loose.{LooseCoding};
-ghost use Rattle.asn_newer.specs.NewerLaws.{PartLaws, ReadsItself, ReadsVersions, OlderReads, NewerReads};
+ghost use Rattle.asn_newer.specs.NewerLaws.{PartLaws, ReadsItself, ReadsVersions, OlderReads, NewerReads, ReadsFit};
 ghost use Rattle.asn_newer.specs.Rules.{per_loose, oer_loose};
 ghost use Rattle.asn_newer.specs.Ways.{OneReading, WayLaws};
 
@@ -39,12 +39,15 @@ impl OtherVersions for Oer {
 ///   and perhaps more, the canonical octets of the sender are read as `received` says.
 /// - `older_reads`: an older receiver reads `cut` of the value, and skips the `dropped` fields.
 /// - `newer_reads`: a newer receiver reads `wide` of the value, and skips nothing.
+/// - `reads_fit`: what is read is a value of the type, or one in which items and alternatives that it has not stand as
+///   such.
 /// - `one_way`: octets are read as one value, with one list of skipped fields, and none that are read begin others.
 pub fn version_laws<R: OtherVersions>()
     ensures reads_itself { ReadsItself R.loose }
     ensures reads_versions { ReadsVersions R.loose }
     ensures older_reads { OlderReads R.loose }
     ensures newer_reads { NewerReads R.loose }
+    ensures reads_fit { ReadsFit R.loose }
     ensures one_way { OneReading R.loose }
 {
     R::keep_version_laws();

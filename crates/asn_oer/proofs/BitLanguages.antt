@@ -16,7 +16,7 @@ use Rattle.asn_rules.specs.Forks.{Same}
 use Rattle.asn_rules.specs.Spellings.{SpelledBy}
 use Rattle.asn_rules.proofs.Chunks.{ones-append}
 use Rattle.asn_bits.proofs.Weights.{bits_only}
-use Rattle.asn_rules.proofs.OctetLengths.{one_is}
+use Rattle.asn_bits.proofs.LengthsInOctets.{one_is}
 use Rattle.asn_rules.proofs.Spellings.{same_after, same_map, same_spelled, map_spelled}
 use Rattle.asn_rules.specs.Filled.{filled_bits, filled_octets, unused_bits}
 use Rattle.asn_rules.specs.OctetStrings.{PackedBits, BitsLength, UnusedBits, last_told, VariableBits}

@@ -12,7 +12,8 @@ use Rattle.asn_rules.specs.Chunks.{ones}
 use Rattle.asn_rules.specs.Forks.{Same}
 use Rattle.asn_rules.specs.Spellings.{SpelledBy}
 use Rattle.asn_rules.proofs.Chunks.{ones-append}
-use Rattle.asn_rules.proofs.OctetLengths.{one_is, length_spelled}
+use Rattle.asn_bits.proofs.LengthsInOctets.{one_is}
+use Rattle.asn_rules.proofs.OctetLengths.{length_spelled}
 use Rattle.asn_rules.proofs.Spellings.{same_after, same_then, same_map, digits_spelled, map_spelled, then_spelled}
 use Rattle.asn_rules.specs.Filled.{filled_bits, filled_octets, unused_bits}
 use Rattle.asn_rules.proofs.Octetwise.{packed_again}

@@ -18,7 +18,7 @@ use Rattle.asn_rules.specs.Spellings.{SpelledBy}
 use Rattle.asn_rules.proofs.CountedCodes.{residue_of, number_again}
 use Rattle.asn_rules.proofs.Entries.{le_z_antisymm}
 use Rattle.asn_rules.proofs.Items.{int_eq_refl, good_items, item_once}
-use Rattle.asn_rules.proofs.OctetLengths.{one_is}
+use Rattle.asn_bits.proofs.LengthsInOctets.{one_is}
 use Rattle.asn_rules.proofs.Spellings.{same_after, same_then, same_map, same_spelled, digits_spelled, map_spelled, nothing_spelled, then_spelled}
 use Rattle.asn_walk.proofs.ItemNumbers.{number_is_small}
 use Rattle.asn_oer.specs.Oer.{item_number, oer}

@@ -21,12 +21,12 @@ use Rattle.asn_rules.specs.Languages.{Inhabited, IsLive, Lawful, Refused, Short,
 use Rattle.asn_rules.specs.Listed.{IsOther, Spelt}
 use Rattle.asn_rules.specs.Spellings.{SpelledBy}
 use Rattle.asn_rules.proofs.Listed.{spelt_lawful}
-use Rattle.asn_rules.proofs.OctetLengths.{one_is}
+use Rattle.asn_bits.proofs.LengthsInOctets.{one_is, one_more}
 use Rattle.asn_rules.proofs.Parts.{front_ones, refused_here}
 use Rattle.asn_rules.proofs.Spellings.{same_spelled, units_front, units_short}
 use Rattle.asn_rules.specs.OctetReading.{AtOctet}
 use Rattle.asn_rules.proofs.OctetFields.{octet_fields_part}
-use Rattle.asn_rules.proofs.Octetwise.{packed_front}
+use Rattle.asn_rules.proofs.Octetwise.{next_octet, no_octet}
 use Rattle.asn_rules.specs.IntegerSets.{magnitude_of}
 use Rattle.asn_oer.specs.LeafReading.{ItemBegins}
 use Rattle.asn_oer.specs.Oer.{oer, oer_fields, item_number}
@@ -84,20 +84,6 @@ begins_so all n count begun rest h l e = (fits, sym (ap (λ (p : ℕ). n / p) (t
 
     w : (n / 256 ^ (all - count) ≡ begun) × (octets (all - count) n ≡ rest)
     w = digits_code 256 (omega arith) count (n / 256 ^ (all - count)) begun (octets (all - count) n) rest below l (sym (digits-add 256 count (all - count) n) ∙ ap (λ (i : ℕ). octets i n) (sym sum) ∙ e)
-
--- one more octet
-pub one_more : (t begun o : ℕ) → o < 256 → octets t begun ++ o ∷ [] ≡ octets (t + 1) (256 * begun + o)
-one_more t begun o h =
-    ap (λ (l : List ℕ). octets t begun ++ l) (sym (one_is o h)) ∙ digits-join 256 (omega arith) t 1 begun o (omega (arith, h)) ∙ ap (λ (i : ℕ). octets (t + 1) i) (omega arith)
-
--- the next octet of the bits
-pub next_octet : (o : ℕ) (us : List ℕ) → o < 256 → packed (bits 8 o ++ us) ≡ o ∷ packed us
-next_octet o us h = ap (λ (l : List ℕ). packed (l ++ us)) (sym (append-nil (bits 8 o))) ∙ packed_front (o ∷ []) us (h, tt)
-
--- fewer bits than an octet are none
-pub no_octet : (us : List ℕ) → AtOctet us → length us < 8 → packed us ≡ []
-no_octet [] a h = refl
-no_octet (u ∷ us) a h = absurd (omega (arith, a, h))
 
 -- ---- places
 
@@ -228,10 +214,6 @@ module _ (root : List Label) (more : MoreLabels) (e : Option ℕ) (good : InProf
       pub item_goes_on : (p : ℕ) (rest : List ℕ) → ItemBegins labels e p (octets (taken + 1) (256 * begun + o)) rest → 0 < length rest → Begun labels e (octets (taken + 1) (256 * begun + o))
       item_goes_on p [] b l = absurd (omega (arith, l))
       item_goes_on p (x ∷ rest) b l = record { place = p; next = x; rest = rest; begins = b }
-
--- with one more octet the number is below one more power
-pub below_power : (t b o : ℕ) → b < 256 ^ t → o < 256 → 256 * b + o < 256 ^ (t + 1)
-below_power t b o h l = omega (arith, h, l, pow-add 256 t 1)
 
 -- five octets are a number of 64 bits
 pub below_word : (t b : ℕ) → t < 5 → b < 256 ^ t → 256 * b + 255 < 18446744073709551616

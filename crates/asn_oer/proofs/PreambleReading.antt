@@ -16,7 +16,8 @@ use Rattle.asn_rules.specs.Languages.{Spells, Then, Map}
 use Rattle.asn_rules.specs.NumberSets.{Admits}
 use Rattle.asn_rules.proofs.Chunks.{ones-append}
 use Rattle.asn_rules.proofs.Leads.{LeadsStops, Leads, leads_on, leads_map, leads_same, leads_second, stops_first, stops_on}
-use Rattle.asn_rules.proofs.OctetLengths.{one_is, length_spelled, length_lawful}
+use Rattle.asn_bits.proofs.LengthsInOctets.{one_is}
+use Rattle.asn_rules.proofs.OctetLengths.{length_spelled, length_lawful}
 use Rattle.asn_rules.proofs.Sets.{set_inhabited, set_lawful}
 use Rattle.asn_rules.proofs.Spellings.{same_after, same_map, same_then, digits_spelled, then_spelled, map_spelled, spelled_inhabited}
 use Rattle.asn_rules.proofs.Then.{Follows, then_inhabited}

@@ -98,8 +98,8 @@ pub(crate) fn read_item(
     unreachable!()
 }
 
-/// The first item, but for the one at `except`, that begins with the `count` octets of the number `begun`: its place,
-/// and how many octets it has after them.
+/// An item, but for the one at `except`, that begins with the `count` octets of the number `begun`: its place, and how
+/// many octets it has after them. The item at the place of that number is tried first.
 fn find_item(
     root: &[Item],
     more: &Option<Vec<Item>>,
@@ -115,15 +115,46 @@ fn find_item(
     ensures none { IsNone result → (p : ℕ) (rest : List ℕ)
         → ItemBegins (items_of root.now more.now) except p (octets count begun) rest → ⊥ }
 {
-    for place in 0..item_count(root, more) {
-        if except == Some(place) {
-            continue;
-        }
-        if let Some(behind) = octets_behind(number_at(root, more, place as usize), count, begun) {
+    let all = item_count(root, more);
+    if begun < u64::from(all)
+        && let Some(behind) = item_behind(root, more, except, begun as u32, count, begun)
+    {
+        return Some((begun as u32, behind));
+    }
+    for place in 0..all {
+        if let Some(behind) = item_behind(root, more, except, place, count, begun) {
             return Some((place, behind));
         }
     }
     None
+}
+
+/// How many octets the item at this place, which is not the one at `except`, has behind the `count` octets of the
+/// number `begun`, where it begins with these.
+fn item_behind(
+    root: &[Item],
+    more: &Option<Vec<Item>>,
+    except: Option<u32>,
+    place: u32,
+    count: u32,
+    begun: u64,
+) -> Option<u32>
+    requires of_profile { InProfile (enumeration_of root.now more.now) }
+    requires there { place < length (items_of root.now more.now) }
+    requires few { count ≤ 5 }
+    requires within { begun < 256 ^ count }
+    ensures some { IfSome result (λ k. (rest : List ℕ)
+        × ItemBegins (items_of root.now more.now) except place (octets count begun) rest × (length rest ≡ k)) }
+    ensures none { IsNone result → (rest : List ℕ)
+        → ItemBegins (items_of root.now more.now) except place (octets count begun) rest → ⊥ }
+{
+    if except == Some(place) {
+        return None;
+    }
+    match octets_behind(number_at(root, more, place as usize), count, begun) {
+        Some(behind) => Some(behind),
+        None => None,
+    }
 }
 
 /// How many octets the number of an item has behind the `count` octets of the number `begun`, where it begins with

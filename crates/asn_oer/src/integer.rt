@@ -1,6 +1,6 @@
 //! INTEGER (X.696, "encoding of integer types"). A reader may leave one integer out: the DEFAULT of a component, which
 //! an encoder does not spell.
-ghost use Rattle.std.specs.Prelude.{◌≡◌, ◌≤ℤ◌, ◌≤◌, pos, Some, None, IfOk, IfErr, OnOk, false};
+ghost use Rattle.std.specs.Prelude.{◌≡◌, ◌≤ℤ◌, ◌≤◌, pos, Some, None, IfOk, IfErr, OnOk, IfSome, IsNone, false};
 ghost use Rattle.std.specs.Option.{option_map};
 ghost use Rattle.asn_values.specs.Fits.{lowest_integer, highest_integer, FitsNumber};
 ghost use Rattle.asn_values.specs.Datum.{number};
@@ -14,13 +14,14 @@ ghost use Rattle.asn_rules.specs.OctetsWritten.{Adds};
 ghost use Rattle.asn_rules.specs.IntegerSets.{IsWithin, unmarked};
 ghost use Rattle.asn_walk.specs.Writing.{TellsWhether};
 ghost use Rattle.asn_oer.specs.Oer.{unsigned_octets, signed_size, oer, oer_octets, ranged};
-ghost use Rattle.asn_oer.specs.Reading.{IntegersBut, IsBelowZero};
+ghost use Rattle.asn_walk.specs.Integers.{between, IsOfProfile};
+ghost use Rattle.asn_oer.specs.Reading.{IntegersBut, IsBelowZero, ValuesOf};
 
 use asn_bits::internal::{at_offset, signed_residue};
 use asn_bits::{BitCursor, BitSink};
 use asn_rules::internal::{
     Stop, numbers_of, offsets_of, read_counted, read_counted_signed, read_octets,
-    read_signed_octets,
+    read_signed_octets, try_octets, try_signed_octets,
 };
 use asn_rules::{EncodeFault, Why};
 use asn_values::Bounds;
@@ -88,6 +89,27 @@ pub(crate) fn read_integer(
         Some(low) if low >= 0 => read_unsigned(low, bounds.high, except, units),
         _ => read_signed(bounds.low, bounds.high, except, units),
     }
+}
+
+/// Fast path: an integer between two bounds, where its octets are at hand and it lies between them; otherwise takes
+/// nothing.
+#[inline(always)]
+pub(crate) fn try_fixed(low: i128, high: i128, units: &mut BitCursor<'_>) -> Option<i128>
+    requires at_octet { AtOctet units.old }
+    requires of_profile { InProfile (between low high) }
+    ensures at_octet { AtOctet units.new }
+    ensures some { IfSome result (λ z. ReadsOctets (ValuesOf (between low high)) (number z) units.old units.new) }
+    ensures of_integers { IfSome result IsOfProfile }
+    ensures none { IsNone result → units.new ≡ units.old }
+{
+    if low >= 0 {
+        let set = numbers_of(low, Some(high), None);
+        let n = try_octets(unsigned_size(high), set, units)?;
+        return Some(i128::from(n));
+    }
+    let set = offsets_of(Some(low), Some(high), None);
+    let offset = try_signed_octets(signed_size(low, high), set, units)?;
+    Some(at_offset(LOWEST_INTEGER, offset))
 }
 
 /// Reads an integer of a range from a bound on that is not negative, but for `except`: in a fixed number of octets
@@ -181,6 +203,7 @@ pub(crate) fn write_integer(
 
 /// Writes a number between the bounds: in a fixed number of octets where there are both, and else after a length,
 /// unsigned where the lower one is not negative, and else in two's complement.
+#[inline(always)]
 fn write_ranged(bounds: &Bounds, whole: i128, sink: &mut BitSink) -> Result<(), AllocError>
     requires of_profile { InProfile (integer (range_of bounds.now)) }
     requires closed { bounds.now.ext ≡ false }
@@ -198,6 +221,7 @@ fn write_ranged(bounds: &Bounds, whole: i128, sink: &mut BitSink) -> Result<(), 
 
 /// Writes a number between two bounds in a fixed number of octets: unsigned where the lower bound is not negative, and
 /// else in two's complement.
+#[inline(always)]
 fn write_between(low: i128, high: i128, whole: i128, sink: &mut BitSink) -> Result<(), AllocError>
     requires within { (lowest_integer ≤ℤ low) × (high ≤ℤ highest_integer) }
     requires of_type { (low ≤ℤ whole) × (whole ≤ℤ high) }

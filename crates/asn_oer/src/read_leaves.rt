@@ -13,7 +13,7 @@ ghost use Rattle.asn_oer.specs.Reading.{TruthOctet};
 ghost use Rattle.asn_oer.specs.Walk.{oer_coding, mark_of, alternatives_of};
 
 use crate::enumerated::read_item;
-use crate::integer::read_integer;
+use crate::integer::{read_integer, try_fixed};
 use crate::rules::Oer;
 use crate::string_reader::{read_bit_string, read_octet_string, read_text, read_utf8_string};
 use asn_bits::{BitCursor, Intervals};
@@ -85,8 +85,8 @@ impl ReadLeaves for Oer {
     }
 
     #[inline(always)]
-    fn try_between(_low: i128, _high: i128, _units: &mut BitCursor<'_>) -> Option<i128> {
-        None
+    fn try_between(low: i128, high: i128, units: &mut BitCursor<'_>) -> Option<i128> {
+        try_fixed(low, high, units)
     }
 
     #[inline(always)]

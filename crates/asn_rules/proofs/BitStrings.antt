@@ -23,7 +23,8 @@ use Rattle.asn_rules.specs.Fields.{OneOctet, OctetLength, octet_fields}
 use Rattle.asn_rules.specs.Spellings.{SpelledBy}
 use Rattle.asn_rules.proofs.Chunks.{ones-append}
 use Rattle.asn_bits.proofs.Weights.{digits-append, digits-first, digits-second, weighted-append, bits_are, bits_only, are_digits}
-use Rattle.asn_rules.proofs.OctetLengths.{one_is, octets_itself, length_spelled, length_lawful, one_octet_lawful}
+use Rattle.asn_bits.proofs.LengthsInOctets.{one_is}
+use Rattle.asn_rules.proofs.OctetLengths.{octets_itself, length_spelled, length_lawful, one_octet_lawful}
 use Rattle.asn_rules.proofs.Spellings.{same_after, same_then, same_map, same_spelled, digits_spelled, map_spelled, then_spelled, spelled_inhabited}
 use Rattle.asn_rules.specs.Filled.{filled_bits}
 use Rattle.asn_rules.proofs.Octetwise.{packed_again, packed_front}

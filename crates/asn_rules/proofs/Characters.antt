@@ -18,7 +18,8 @@ use Rattle.asn_rules.specs.Stops.{Stops}
 use Rattle.asn_rules.specs.declared.stop.Stop.{Stop}
 use Rattle.asn_rules.specs.declared.stop.Stop.TheVariants as stop
 use Rattle.asn_rules.proofs.Flat.{flat-ones}
-use Rattle.asn_rules.proofs.OctetLengths.{one_is, octets_itself, joined_octets}
+use Rattle.asn_bits.proofs.LengthsInOctets.{one_is}
+use Rattle.asn_rules.proofs.OctetLengths.{octets_itself, joined_octets}
 use Rattle.asn_rules.proofs.OctetRows.{octets_front}
 use Rattle.asn_rules.proofs.Parts.{plain_short, plain_refused}
 use Rattle.asn_rules.proofs.Rows.{row_lawful, row_refused, row_refused_first}

@@ -1,147 +1,125 @@
--- Lengths between two bounds: their first octets, and what a reader of them cites at each exit.
-use Rattle.std.proofs.Common.{◌≡◌, ◌≤◌, ◌<◌, ◌+◌, ◌-◌, ◌*◌, ◌^◌, ℕ, max, Bool, true, false, nat_lt, List, [], ◌∷◌, None, inl, inr, sym, subst, arith}
-use Rattle.std.proofs.lemmas.Bool.{true≢false, lt-ltb, le-ltb}
-use Rattle.asn_bits.specs.Numbers.{octet_count}
-use Rattle.asn_bits.specs.Sets.{Among, Between, InDigits, Meets}
-use Rattle.asn_bits.proofs.Octets.{octet_count_fits, octet_count_some}
-use Rattle.asn_bits.proofs.Splits.{two_pow_octets}
-use Rattle.asn_bits.proofs.Unions.{set_meets}
-use Rattle.asn_rules.specs.Counted.{SomeOf, Least}
-use Rattle.asn_rules.specs.Fields.{LongLength, SomeLong, FirstOctet, BehindFirst, length_told, OctetLength}
+-- Lengths between two bounds, octet by octet: where their reader stands, and what it cites at each exit.
+use Rattle.std.proofs.Common.{◌≡◌, ◌≤◌, ◌<◌, ◌+◌, ◌%◌, ◌^◌, ℕ, min, Option, Some, None, List, [], ◌∷◌, ◌++◌, length, length-append, append_assoc, inl, inr, refl, sym, ap, ◌∙◌, subst, arith}
+use Rattle.std.proofs.lemmas.List.{append-nil}
+use Rattle.asn_bits.specs.Begun.{StandsFirst}
+use Rattle.asn_bits.specs.Lengths.{octet_length}
+use Rattle.asn_bits.specs.Numbers.{bits, packed}
+use Rattle.asn_bits.specs.OctetLengths.{BegunOctets, BeginsLength, GoesOn, TakesOctet}
+use Rattle.asn_bits.specs.Ranges.{Spanned}
+use Rattle.asn_bits.specs.Sets.{Between}
+use Rattle.asn_bits.specs.declared.number_field.FieldState.TheVariants as state
+use Rattle.asn_bits.proofs.LengthsInOctets.{length_cases, small_is}
+use Rattle.asn_bits.proofs.Octets.{length-digits, octet_count_below}
+use Rattle.asn_bits.proofs.Weights.{bits_only}
+use Rattle.asn_rules.specs.Chunks.{ones}
+use Rattle.asn_rules.specs.Fields.{OctetLength, octet_fields}
 use Rattle.asn_rules.specs.Forks.{Same}
-use Rattle.asn_rules.specs.Languages.{Spells, Then, Nothing, Plain}
+use Rattle.asn_rules.specs.Languages.{IsLive, Refused, Short, Spells}
 use Rattle.asn_rules.specs.NumberSets.{Admits}
-use Rattle.asn_rules.specs.declared.number_reader.NumberSet.{NumberSet}
-use Rattle.asn_rules.proofs.CountedNumbers.{count_up}
-use Rattle.asn_rules.proofs.Forks.{same_spells}
-use Rattle.asn_rules.proofs.Leads.{LeadsStops, Leads, leads_on, leads_map, leads_same, leads_second, stops_first, stops_on}
-use Rattle.asn_rules.proofs.NumberSets.{same_set}
-use Rattle.asn_rules.proofs.OctetLengths.{length_follows}
-use Rattle.asn_rules.proofs.Parts.{nothing_spells}
-use Rattle.asn_rules.proofs.Sets.{set_lawful}
-use Rattle.asn_rules.specs.OctetReading.{AreWithCount, OctetsIn, OctetsAmong}
-use Rattle.asn_rules.proofs.CountedOctets.{count_there, count_back}
+use Rattle.asn_rules.specs.OctetReading.{AtOctet, from_to}
+use Rattle.asn_rules.specs.Spellings.{SpelledBy}
 use Rattle.asn_rules.proofs.OctetFields.{octet_fields_part}
-use Rattle.asn_rules.specs.Fields.{octet_fields}
+use Rattle.asn_rules.proofs.OctetLengths.{length_lawful, length_spelled}
+use Rattle.asn_rules.proofs.Octetwise.{next_octet, no_octet}
+use Rattle.asn_rules.proofs.Parts.{front_ones, refused_here}
+use Rattle.asn_rules.proofs.Spellings.{units_front, units_short}
 
--- the lengths from 128 on
-abbrev pub long_lengths : ℕ → ℕ → NumberSet
-long_lengths low high = record { low = max low 128; high = high; excluded = None }
+-- some octets of a length have come, and it goes on
+pub record InLength (low high : ℕ) (us : List ℕ) (now : BegunOctets) (rest : List ℕ) : Type 0 where
+  pub at_octet : AtOctet rest
+  pub come : packed us ≡ now.given ++ packed rest
+  pub counts : now.counts ≡ (low, Some high) ∷ []
+  pub goes : GoesOn (Spanned ((low, Some high) ∷ [])) now.given
 
-module _ (low high : ℕ) (ordered : low ≤ high) where
-  -- a length is long
-  long_there : (k n : ℕ) → Least (λ m. Admits (long_lengths low high) m) k n → LongLength (Between low high) k n
-  long_there k n h = record { member = (omega (arith, h.member.0), h.member.1); large = omega (arith, h.member.0); count = h.count }
+-- behind an octet whole octets are left
+octet_less : (o : ℕ) (rest after : List ℕ) → AtOctet rest → rest ≡ bits 8 o ++ after → AtOctet after
+octet_less o rest after a e = omega (arith, a, ap length e, length-append (bits 8 o) after, length-digits 2 8 o)
 
-  long_back : (k n : ℕ) → LongLength (Between low high) k n → Least (λ m. Admits (long_lengths low high) m) k n
-  long_back k n h = record { member = (omega (arith, h.member.0, h.large), h.member.1, tt); count = h.count }
+-- the next octet of what is left
+next_of : (o : ℕ) (rest after given us : List ℕ) → o < 256 → packed us ≡ given ++ packed rest → rest ≡ bits 8 o ++ after → packed us ≡ given ++ o ∷ packed after
+next_of o rest after given us h come e = come ∙ ap (λ (r : List ℕ). given ++ r) (ap packed e ∙ next_octet o after h)
 
-  some_there : (k : ℕ) → SomeOf (Least (λ m. Admits (long_lengths low high) m)) k → SomeLong (Between low high) k
-  some_there k o = record { few = o.few; number = o.number; length = long_there k o.number o.member }
+module _ (low high : ℕ) (narrow : high < 2 ^ 32) where
+  abbrev one_set : List (ℕ × Option ℕ)
+  one_set = (low, Some high) ∷ []
 
-  -- only short ones
-  pub short_there : high < 128 → (b : ℕ) → Among ((low, high) ∷ []) b → FirstOctet (Between low high) b
-  short_there h b (inl f) = inl (omega (arith, f.1, h), f)
-  short_there h b (inr f) = absurd f
+  there : (n : ℕ) → Spanned one_set n → Between low high n
+  there n (inl h) = h
+  there n (inr h) = absurd h
 
-  pub short_back : high < 128 → (b : ℕ) → FirstOctet (Between low high) b → Among ((low, high) ∷ []) b
-  short_back h b (inl f) = inl f.1
-  short_back h b (inr f) = (let l = f.1.length in absurd (omega (arith, l.large, l.member.1, h)))
+  spelt_so : Same (OctetLength (Between low high)) (SpelledBy (Between low high) (λ n. ones (octet_length n)))
+  spelt_so = length_spelled (Between low high) (λ n s. (let w = octet_count_below n 4 (omega arith) (omega (arith, s.1, narrow)) in omega (arith, w)))
 
-  module _ (large : 128 ≤ high) (few : octet_count high ≤ 8) where
-    -- the counts of octets
-    abbrev fewest : ℕ
-    fewest = octet_count (max low 128)
+  -- the octets of a length, and others behind it
+  length_done : (n : ℕ) (us rest : List ℕ) → Between low high n → us ≡ octet_length n ++ rest → Spells octet_fields (OctetLength (Between low high)) n us rest
+  length_done n us rest s e =
+      subst (λ (l : List ℕ). Spells octet_fields (OctetLength (Between low high)) n l rest) (sym e) (units_front octet_length octet_fields spelt_so n s rest)
 
-    abbrev most : ℕ
-    most = octet_count high
+  length_short : (os : List ℕ) → GoesOn (Spanned one_set) os → Short octet_fields (OctetLength (Between low high)) os
+  length_short os g = units_short octet_length octet_fields_part (length_lawful (Between low high)) spelt_so g.count (there g.count g.member) os g.next g.more (sym g.split)
 
-    ends : Admits (long_lengths low high) (max low 128) × Admits (long_lengths low high) high
-    ends = ((omega arith, omega (arith, ordered, large), tt), (omega (arith, ordered, large), omega arith, tt))
+  length_refused : (os : List ℕ) (o : ℕ) (after : List ℕ) → GoesOn (Spanned one_set) os → (BeginsLength (Spanned one_set) (os ++ o ∷ []) → ⊥) → Refused octet_fields (OctetLength (Between low high)) (os ++ o ∷ after) (length after)
+  length_refused os o after g none = refused_here octet_fields_part os o after (length_short os g) dead
+    where
+      dead : IsLive octet_fields (OctetLength (Between low high)) (os ++ o ∷ []) → ⊥
+      dead l =
+          let w = spelt_so.to l.value l.chunks l.spelt in
+          let f = front_ones octet_fields (octet_length l.value) (os ++ o ∷ []) (rw w.same at l.front) in
+          none (record { count = l.value; member = inl w.fits; starts = record { more = f.0; split = f.1 } })
 
-    pub counts_ordered : fewest ≤ most
-    counts_ordered = count_up (max low 128) high (omega (arith, ordered, large))
+  -- ---- in one step
 
-    pub long_octet : (b : ℕ) → Between (128 + fewest) (128 + most) b → FirstOctet (Between low high) b
-    long_octet b f = inr (omega (arith, f.0), some_there (b - 128) (count_there (long_lengths low high) ends.0 ends.1 few (b - 128) (omega (arith, f.0)) (omega (arith, f.1, f.0))))
+  pub short_taken : (n : ℕ) (us rest : List ℕ) → StandsFirst 8 (λ m. Admits (from_to low (min high 127)) m) n us rest → (us ≡ bits 8 n ++ rest) × (n < 128) × Between low high n
+  short_taken n us rest s =
+      let w = bits_only 8 n s.number s.spelt.digits in
+      let m = s.spelt.member in
+      (s.split ∙ ap (λ (l : List ℕ). l ++ rest) w.1, omega (arith, m.1), (m.0, omega (arith, m.1)))
 
-    octet_long : (b : ℕ) → 128 ≤ b → SomeLong (Between low high) (b - 128) → Between (128 + fewest) (128 + most) b
-    octet_long b l o =
-        let w = count_back (long_lengths low high) ends.0 ends.1 few (b - 128) (record { few = o.few; number = o.number; member = long_back (b - 128) o.number o.length; fits = fits (b - 128) o.number o.length.count }) in
-        (omega (arith, w.0, l), omega (arith, w.1, l))
-      where
-        fits : (k n : ℕ) → octet_count n ≡ k → n < 256 ^ k
-        fits k n e = subst (λ i. n < 256 ^ i) e (octet_count_fits n)
+  pub short_whole : (n : ℕ) (us rest : List ℕ) → AtOctet us → StandsFirst 8 (λ m. Admits (from_to low (min high 127)) m) n us rest → AtOctet rest
+  short_whole n us rest a s = octet_less n us rest a (short_taken n us rest s).0
 
-    -- short and long ones
-    pub both_there : low < 128 → (b : ℕ) → Among ((low, 127) ∷ (128 + fewest, 128 + most) ∷ []) b → FirstOctet (Between low high) b
-    both_there h b (inl f) = inl (omega (arith, f.1), (f.0, omega (arith, f.1, large)))
-    both_there h b (inr (inl f)) = long_octet b f
-    both_there h b (inr (inr f)) = absurd f
+  pub short_done : (n : ℕ) (us rest : List ℕ) → StandsFirst 8 (λ m. Admits (from_to low (min high 127)) m) n us rest → Spells octet_fields (OctetLength (Between low high)) n (packed us) (packed rest)
+  short_done n us rest s =
+      let w = short_taken n us rest s in
+      length_done n (packed us) (packed rest) w.2 (ap packed w.0 ∙ next_octet n rest (omega (arith, w.1)) ∙ ap (λ (l : List ℕ). l ++ packed rest) (sym (small_is n w.1)))
 
-    pub both_back : low < 128 → (b : ℕ) → FirstOctet (Between low high) b → Among ((low, 127) ∷ (128 + fewest, 128 + most) ∷ []) b
-    both_back h b (inl f) = inl (f.1.0, omega (arith, f.0))
-    both_back h b (inr f) = inr (inl (octet_long b f.0 f.1))
+  -- ---- octet by octet
 
-    -- only long ones
-    pub all_there : 128 ≤ low → (b : ℕ) → Among ((128 + fewest, 128 + most) ∷ []) b → FirstOctet (Between low high) b
-    all_there h b (inl f) = long_octet b f
-    all_there h b (inr f) = absurd f
+  pub in_length_starts : (us : List ℕ) (now : BegunOctets) → AtOctet us → low ≤ high → now ≡ record { counts = one_set; given = [] } → InLength low high us now us
+  in_length_starts us now a h e =
+      subst (λ (b : BegunOctets). InLength low high us b us) (sym e) (record { at_octet = a; come = refl; counts = refl; goes = some (octet_length low) refl })
+    where
+      some : (l : List ℕ) → octet_length low ≡ l → GoesOn (Spanned one_set) []
+      some (o ∷ t) f = record { count = low; member = inl (omega arith, h); next = o; more = t; split = f }
+      some [] f = absurd (elim (length_cases low) [ inl c ↦ omega (arith, ap length (sym c.1 ∙ f)) | inr c ↦ omega (arith, ap length (sym c.1 ∙ f)) ])
 
-    pub all_back : 128 ≤ low → (b : ℕ) → FirstOctet (Between low high) b → Among ((128 + fewest, 128 + most) ∷ []) b
-    all_back h b (inl f) = absurd (omega (arith, f.0, f.1.0, h))
-    all_back h b (inr f) = inl (octet_long b f.0 f.1)
+  module _ {us rest : List ℕ} {now : BegunOctets} (h : InLength low high us now rest) where
+    pub in_length_short : length rest < 8 → Short octet_fields (OctetLength (Between low high)) (packed us)
+    in_length_short l =
+        let all : packed us ≡ now.given = h.come ∙ ap (λ (r : List ℕ). now.given ++ r) (no_octet rest h.at_octet l) ∙ append-nil now.given in
+        subst (λ (r : List ℕ). Short octet_fields (OctetLength (Between low high)) r) (sym all) (length_short now.given h.goes)
 
-  -- ---- the answers
+    module _ {o : ℕ} {after : List ℕ} (octet : o < 256) (split : rest ≡ bits 8 o ++ after) where
+      pub in_length_whole : AtOctet after
+      in_length_whole = octet_less o rest after h.at_octet split
 
-  same_first : (is : List (ℕ × ℕ)) → ((n : ℕ) → Among is n → FirstOctet (Between low high) n) → ((n : ℕ) → FirstOctet (Between low high) n → Among is n) → Same (OctetsAmong 1 is) (Plain (InDigits 256 1 (FirstOctet (Between low high))))
-  same_first is there back = same_set 256 1 there back
+      pub in_length_refused : (BeginsLength (Spanned now.counts) (now.given ++ o ∷ []) → ⊥) → Refused octet_fields (OctetLength (Between low high)) (packed us) (length (packed after))
+      in_length_refused none =
+          subst (λ (r : List ℕ). Refused octet_fields (OctetLength (Between low high)) r (length (packed after))) (sym (next_of o rest after now.given us octet h.come split))
+          (length_refused now.given o (packed after) h.goes (subst (λ (is : List (ℕ × Option ℕ)). BeginsLength (Spanned is) (now.given ++ o ∷ []) → ⊥) h.counts none))
 
-  whole : (us : List ℕ) → Leads octet_fields (Then (Plain (InDigits 256 1 (FirstOctet (Between low high)))) (BehindFirst (Between low high))) us length_told (OctetLength (Between low high)) us
-  whole us = leads_map octet_fields length_told (Then (Plain (InDigits 256 1 (FirstOctet (Between low high)))) (BehindFirst (Between low high))) us
+      pub in_length_member : (n : ℕ) → Spanned now.counts n → Between low high n
+      in_length_member n s = there n (subst (λ (is : List (ℕ × Option ℕ)). Spanned is n) h.counts s)
 
-  module _ (is : List (ℕ × ℕ)) (there : (n : ℕ) → Among is n → FirstOctet (Between low high) n) (back : (n : ℕ) → FirstOctet (Between low high) n → Among is n) where
-    pub stops_at_first : (us : List ℕ) → LeadsStops octet_fields (OctetsAmong 1 is) us (OctetLength (Between low high)) us
-    stops_at_first us =
-        stops_on (leads_same octet_fields us (same_first is there back)).stops (stops_on (stops_first octet_fields us (length_follows (Between low high))) (whole us).stops)
+      pub in_length_done : (n : ℕ) → Spanned now.counts n × (octet_length n ≡ now.given ++ o ∷ []) → Spells octet_fields (OctetLength (Between low high)) n (packed us) (packed after)
+      in_length_done n w =
+          length_done n (packed us) (packed after) (in_length_member n w.0) (next_of o rest after now.given us octet h.come split ∙ sym (append_assoc now.given (o ∷ []) (packed after)) ∙ ap (λ (l : List ℕ). l ++ packed after) (sym w.1))
 
-    behind : (b : ℕ) (us r : List ℕ) → Spells octet_fields (OctetsAmong 1 is) b us r → Leads octet_fields (BehindFirst (Between low high) b) r (λ n. n) (OctetLength (Between low high)) us
-    behind b us r h =
-        leads_on (leads_second octet_fields_part (set_lawful 256 1 (FirstOctet (Between low high))) (same_spells (same_first is there back) h)) (whole us)
-
-    -- a short one is read
-    pub short_done : (b : ℕ) (us r : List ℕ) → b < 128 → Spells octet_fields (OctetsAmong 1 is) b us r → Spells octet_fields (OctetLength (Between low high)) b us r
-    short_done b us r l h = (behind b us r h).done b r (nothing (nat_lt b 128) (lt-ltb b 128 l))
-      where
-        nothing : (t : Bool) → t ≡ true → Spells {V = ℕ} octet_fields (elim t [ true ↦ Nothing b | false ↦ Plain (InDigits 256 (b - 128) (LongLength (Between low high) (b - 128))) ]) b r r
-        nothing true e = nothing_spells octet_fields b r
-        nothing false e = absurd (true≢false (sym e))
-
-    -- behind a long one stand its octets
-    pub long_leads : (b : ℕ) (t : NumberSet) (us r : List ℕ) → 128 ≤ b → AreWithCount (long_lengths low high) (b - 128) t → Spells octet_fields (OctetsAmong 1 is) b us r → Leads octet_fields (OctetsIn (b - 128) t) r (λ n. n) (OctetLength (Between low high)) us
-    long_leads b t us r l are h = leads_on (plain (nat_lt b 128) (le-ltb b 128 l)) (behind b us r h)
-      where
-        plain : (u : Bool) → u ≡ false → Leads octet_fields (OctetsIn (b - 128) t) r (λ n. n) (elim u [ true ↦ Nothing b | false ↦ Plain (InDigits 256 (b - 128) (LongLength (Between low high) (b - 128))) ]) r
-        plain true e = absurd (true≢false e)
-        plain false e = leads_same octet_fields r (same_set 256 (b - 128) (λ n a. long_there (b - 128) n (are.there n a)) (λ n a. are.back n (long_back (b - 128) n a)))
-
-    -- some length is there behind a long one
-    pub some_long : (b : ℕ) (t : NumberSet) → 128 ≤ b → AreWithCount (long_lengths low high) (b - 128) t → Among is b → Meets (λ n. Admits t n) 0 (8 * (b - 128))
-    some_long b t l are a = go (there b a)
-      where
-        go : FirstOctet (Between low high) b → Meets (λ n. Admits t n) 0 (8 * (b - 128))
-        go (inl f) = absurd (omega (arith, l, f.0))
-        go (inr f) =
-            let n = f.1.number in
-            set_meets 2 (8 * (b - 128)) n (are.back n (long_back (b - 128) n f.1.length)) (omega (arith, subst (λ i. n < 256 ^ i) f.1.length.count (octet_count_fits n), two_pow_octets (b - 128)))
-
-    -- a long one has some octets, and not too many
-    pub long_count : (b : ℕ) → octet_count high ≤ 8 → 128 ≤ b → Among is b → (1 ≤ b - 128) × (b - 128 ≤ 8)
-    long_count b few l a = go (there b a)
-      where
-        go : FirstOctet (Between low high) b → (1 ≤ b - 128) × (b - 128 ≤ 8)
-        go (inl f) = absurd (omega (arith, l, f.0))
-        go (inr f) =
-            let n = f.1.number in
-            let e = f.1.length.count in
-            (omega (arith, octet_count_some n, e), omega (arith, count_up n high f.1.length.member.1, e, few))
+      pub in_length_more : (new : BegunOctets) → TakesOctet now o state.Alive new → GoesOn (Spanned now.counts) (now.given ++ o ∷ []) → InLength low high us new after
+      in_length_more new t g =
+          subst (λ (b : BegunOctets). InLength low high us b after) (sym t) (record {
+            at_octet = in_length_whole;
+            come = next_of o rest after now.given us octet h.come split ∙ sym (append_assoc now.given (o ∷ []) (packed after));
+            counts = h.counts;
+            goes = subst (λ (is : List (ℕ × Option ℕ)). GoesOn (Spanned is) (now.given ++ o ∷ [])) h.counts g;
+          })

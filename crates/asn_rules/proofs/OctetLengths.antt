@@ -5,6 +5,7 @@ use Rattle.std.proofs.lemmas.Bool.{ltb-true, ltb-false, cases_lt}
 use Rattle.std.specs.List.{AllByRecursion}
 use Rattle.asn_bits.specs.Numbers.{digits, octet_count, octets}
 use Rattle.asn_bits.specs.Lengths.{joined, octet_length}
+use Rattle.asn_bits.proofs.LengthsInOctets.{one_is, small_is, large_is}
 use Rattle.asn_bits.proofs.Octets.{octet_count_fits}
 use Rattle.asn_rules.specs.Chunks.{Chunk, one, ones}
 use Rattle.asn_rules.specs.Languages.{Lawful, Inhabited, Then, Nothing, Row, Plain}
@@ -23,10 +24,6 @@ use Rattle.asn_rules.proofs.Rows.{row_inhabited}
 use Rattle.asn_rules.proofs.Spellings.{same_after, same_then, same_map, same_row, same_spelled, digits_spelled, nothing_spelled, then_spelled, map_spelled, row_spelled}
 
 -- ---- octets
-
--- one octet in one unit
-pub one_is : (o : ℕ) → o < 256 → digits 256 1 o ≡ o ∷ []
-one_is o h = sym (digits_only 256 1 o (o ∷ []) (record { digits = (h, tt); count = refl; sum = omega arith })).1
 
 -- an octet is spelt by itself
 pub octet_itself : Same OneOctet (SpelledBy (λ o. o < 256) (λ o. one o ∷ []))
@@ -79,22 +76,6 @@ first_fits : (S : ℕ → Type 0) (b : ℕ) → FirstOctet S b → b < 256 ^ 1
 first_fits S b (inl h) = (let l = h.0 in omega arith)
 first_fits S b (inr h) = (let f = h.1.few in omega arith)
 
--- a small length is itself
-small_code : (n : ℕ) → n < 128 → octet_length n ≡ n ∷ []
-small_code n h = go (nat_lt n 128) refl
-  where
-    go : (t : Bool) → nat_lt n 128 ≡ t → octet_length n ≡ n ∷ []
-    go true e = rw (e, octet_length) refl
-    go false e = absurd (let l = ltb-false n 128 e in omega arith)
-
--- a large one stands behind the count of its octets
-large_code : (n : ℕ) → 128 ≤ n → octet_length n ≡ (128 + octet_count n) ∷ octets (octet_count n) n
-large_code n h = go (nat_lt n 128) refl
-  where
-    go : (t : Bool) → nat_lt n 128 ≡ t → octet_length n ≡ (128 + octet_count n) ∷ octets (octet_count n) n
-    go true e = absurd (let l = ltb-true n 128 e in omega arith)
-    go false e = rw (e, octet_length) refl
-
 -- behind a small first octet nothing stands
 small_behind : (b n : ℕ) → b < 128 → behind_code b n ≡ []
 small_behind b n h = go (nat_lt b 128) refl
@@ -121,13 +102,13 @@ length_spelled S few = same_after (same_map (same_after (same_then (digits_spell
     small : (b n : ℕ) → b < 128 → n ≡ b → code b n ≡ ones (octet_length n)
     small b n l e =
         let first : ones (digits 256 1 b) ≡ one b ∷ [] = ap ones (one_is b (omega arith)) in
-        ap (λ (t : List Chunk). t ++ behind_code b n) first ∙ ap (λ (t : List Chunk). one b ∷ t) (small_behind b n l) ∙ ap (λ (i : ℕ). one i ∷ []) (sym e) ∙ ap ones (sym (small_code n (omega (arith, e))))
+        ap (λ (t : List Chunk). t ++ behind_code b n) first ∙ ap (λ (t : List Chunk). one b ∷ t) (small_behind b n l) ∙ ap (λ (i : ℕ). one i ∷ []) (sym e) ∙ ap ones (sym (small_is n (omega (arith, e))))
 
     large : (b n : ℕ) → 128 ≤ b → b < 256 → LongLength S (b - 128) n → code b n ≡ ones (octet_length n)
     large b n l w h =
         let first : ones (digits 256 1 b) ≡ one b ∷ [] = ap ones (one_is b w) in
         let again : b ≡ 128 + octet_count n = omega (arith, h.count) in
-        ap (λ (t : List Chunk). t ++ behind_code b n) first ∙ ap (λ (t : List Chunk). one b ∷ t) (large_behind b n l ∙ ap (λ (i : ℕ). ones (octets i n)) (sym h.count)) ∙ ap (λ (i : ℕ). one i ∷ ones (octets (octet_count n) n)) again ∙ ap ones (sym (large_code n h.large))
+        ap (λ (t : List Chunk). t ++ behind_code b n) first ∙ ap (λ (t : List Chunk). one b ∷ t) (large_behind b n l ∙ ap (λ (i : ℕ). ones (octets i n)) (sym h.count)) ∙ ap (λ (i : ℕ). one i ∷ ones (octets (octet_count n) n)) again ∙ ap ones (sym (large_is n (octet_count n) h.large refl))
 
     there : (p : ℕ × ℕ) → FirstOctet S p.0 × BehindFits S p.0 p.1 → S p.1 × (code p.0 p.1 ≡ ones (octet_length p.1))
     there p h = elim h.1 [

@@ -4,6 +4,7 @@ use Rattle.asn_bits.specs.Numbers.{octets, bits, packed, unpacked}
 use Rattle.asn_bits.specs.Sets.{AreBits, InDigits}
 use Rattle.asn_bits.proofs.FilledBits.{unpacked-packed, length-packed}
 use Rattle.std.specs.List.{AllByRecursion}
+use Rattle.std.proofs.lemmas.List.{append-nil}
 use Rattle.asn_bits.proofs.Octets.{packed_octets, all_octets}
 use Rattle.asn_bits.proofs.Packing.{packed-unpacked}
 use Rattle.asn_bits.proofs.Splits.{unpacked-append, length-unpacked, unpacked-octets, two_pow_octets}
@@ -129,6 +130,15 @@ packed_front (o ∷ os) r h =
   where
     octet_of : (o : ℕ) → o < 256 → 128 * (o / 2 ^ 7 % 2) + 64 * (o / 2 ^ 6 % 2) + 32 * (o / 2 ^ 5 % 2) + 16 * (o / 2 ^ 4 % 2) + 8 * (o / 2 ^ 3 % 2) + 4 * (o / 2 ^ 2 % 2) + 2 * (o / 2 ^ 1 % 2) + o / 2 ^ 0 % 2 ≡ o
     octet_of o h = omega arith
+
+-- the next octet of the bits
+pub next_octet : (o : ℕ) (us : List ℕ) → o < 256 → packed (bits 8 o ++ us) ≡ o ∷ packed us
+next_octet o us h = ap (λ (l : List ℕ). packed (l ++ us)) (sym (append-nil (bits 8 o))) ∙ packed_front (o ∷ []) us (h, tt)
+
+-- fewer bits than an octet are none
+pub no_octet : (us : List ℕ) → AtOctet us → length us < 8 → packed us ≡ []
+no_octet [] a h = refl
+no_octet (u ∷ us) a h = absurd (omega (arith, a, h))
 
 -- so many octets, the next one and those behind it
 octet_at : (q : ℕ) (ps : List ℕ) → q < length ps → (before : List ℕ) × (o : ℕ) × (after : List ℕ) × (ps ≡ before ++ o ∷ after) × (length before ≡ q)

@@ -1,14 +1,21 @@
 -- The language of integers in the fewest octets of two's complement, in the sets that their reader tests.
-use Rattle.std.proofs.Common.{◌≤◌, ◌*◌, ℕ, ℤ, ◌≤ℤ◌, List, None, arith}
+use Rattle.std.proofs.Common.{◌≡◌, ◌<◌, ◌≤◌, ◌*◌, ◌^◌, ◌++◌, ◌+ℤ◌, ℕ, ℤ, pos, ◌≤ℤ◌, List, None, refl, sym, ap, ◌∙◌, subst, arith}
+use Rattle.std.proofs.lemmas.Int.{ints}
 use Rattle.asn_values.specs.Fits.{lowest_integer, highest_integer}
+use Rattle.asn_bits.specs.Numbers.{bits}
 use Rattle.asn_bits.specs.Sets.{InDigits, Among, Meets}
+use Rattle.asn_bits.proofs.Above.{above-add}
+use Rattle.asn_bits.proofs.Weights.{bits_are}
 use Rattle.asn_bits.proofs.Splits.{two_pow_octets}
 use Rattle.asn_rules.specs.Counted.{SomeOf, LeastSigned, Counted, signed_number}
 use Rattle.asn_rules.specs.Forks.{Same}
 use Rattle.asn_rules.specs.Languages.{Plain, Spells}
 use Rattle.asn_rules.specs.Live.{Fielding}
 use Rattle.asn_rules.specs.NumberSets.{Admits}
-use Rattle.asn_rules.specs.OffsetSets.{HasInteger, StandsFor, SignedIn, UnconstrainedIn, AreSigned, AreStanding}
+use Rattle.asn_rules.specs.Chunks.{ones}
+use Rattle.asn_rules.proofs.Flat.{flat-ones}
+use Rattle.asn_rules.proofs.Parts.{contents-ones}
+use Rattle.asn_rules.specs.OffsetSets.{HasInteger, HasOffset, StandsFor, SignedIn, UnconstrainedIn, AreSigned, AreStanding}
 use Rattle.asn_rules.specs.declared.number_reader.NumberSet.{NumberSet}
 use Rattle.asn_rules.specs.declared.signed_reader.OffsetSet.{OffsetSet}
 use Rattle.asn_rules.proofs.CountedCodes.{eight_bits}
@@ -53,3 +60,25 @@ signed_within R s {z = z} h =
     let m : HasInteger s (signed_number h.spelt.source) = h.spelt.spelt.follows.spelt.member.member in
     let e = h.spelt.seen in
     rw e (m.0, m.1)
+
+-- ---- in one step
+
+-- a number that stands for an integer at one of the offsets
+stands_at : (s : OffsetSet) (c n w : ℕ) → w < 2 ^ 64 → lowest_integer +ℤ pos w ≡ signed_number (c, n) → HasOffset s w → n < 256 ^ c → StandsFor s c n
+stands_at s c n w few e has fits = record {
+  member = subst (λ (z : ℤ). HasInteger s z) e (omega (arith, ints), omega (arith, ints, few), subst (λ (i : ℕ). HasOffset s i) (sym (above-add lowest_integer w)) has);
+  fits = fits;
+}
+
+-- it is read for that integer
+pub standing_spells : (R : Fielding) (s : OffsetSet) (c n w : ℕ) (us rest : List ℕ) → w < 2 ^ 64 → lowest_integer +ℤ pos w ≡ signed_number (c, n) → HasOffset s w → n < 2 ^ (8 * c) → us ≡ bits (8 * c) n ++ rest → Spells R (SignedIn c s) (lowest_integer +ℤ pos w) us rest
+standing_spells R s c n w us rest few e has fits split = record {
+  chunks = ones (bits (8 * c) n);
+  spelt = record {
+    source = n;
+    spelt = record { units = bits (8 * c) n; spelt = record { digits = bits_are (8 * c) n fits; member = stands_at s c n w few e has (omega (arith, fits, two_pow_octets c)) }; same = refl };
+    seen = e;
+  };
+  contents = contents-ones R (bits (8 * c) n);
+  split = split ∙ ap (λ (l : List ℕ). l ++ rest) (sym (flat-ones R.spelled (bits (8 * c) n)));
+}

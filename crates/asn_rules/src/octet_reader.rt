@@ -1,23 +1,24 @@
 //! Readers of whole octets, each refused at the first octet after which nothing that it reads can follow: numbers in a
 //! fixed count of octets and after their count, lengths, bits that zeros fill up, and octets in a row.
-ghost use Rattle.std.specs.Prelude.{◌≡◌, ◌≤◌, ◌*◌, IfOk, IfErr, OnOk, length, ℕ, pos, ◌+ℤ◌, ◌<◌, ◌+◌, ◌^◌, ◌%◌, ◌-◌};
+ghost use Rattle.std.specs.Prelude.{◌≡◌, ◌≤◌, ◌*◌, IfOk, IfErr, OnOk, IfSome, IsNone, length, ℕ, pos, ◌+ℤ◌, ◌<◌, ◌+◌, ◌^◌, ◌%◌, ◌-◌};
 ghost use Rattle.asn_values.specs.Fits.{lowest_integer};
 ghost use Rattle.asn_bits.specs.Numbers.{packed};
 ghost use Rattle.asn_bits.specs.Sets.{AreBits, Meets, Among, Between};
-ghost use Rattle.asn_rules.specs.NumberSets.{Admits};
+ghost use Rattle.asn_rules.specs.NumberSets.{Admits, NumberIn};
+ghost use Rattle.asn_rules.specs.PlainReading.{ReadsPlain, StopsPlain};
 ghost use Rattle.asn_rules.specs.OffsetSets.{HasOffset, IsOpen, StandsFor};
-ghost use Rattle.asn_rules.specs.Fields.{FirstOctet, OctetLength, OctetsBehind, OneOctet, octet_fields};
+ghost use Rattle.asn_rules.specs.Fields.{OctetLength, OctetsBehind, OneOctet, octet_fields};
 ghost use Rattle.asn_rules.specs.Languages.{Row, Spells};
 ghost use Rattle.asn_rules.specs.Stops.{Stops};
 ghost use Rattle.asn_rules.specs.OctetReading.{AtOctet, ReadsOctets, StopsAtOctets, counted_in_octets, OctetsIn, OctetsAmong, AreWithCount, AreTrimmed, CountedIn, CountedSignedIn, SignedOctetsIn, FilledFields, FilledBits, from_to};
 
 use crate::fault::Why;
-use crate::number_reader::{NumberSet, read_number, read_number_among};
-use crate::signed_reader::{OffsetSet, read_signed, read_unconstrained};
+use crate::number_reader::{NumberSet, read_number, read_number_among, read_up_to, try_number};
+use crate::signed_reader::{OffsetSet, read_signed, read_unconstrained, try_signed};
 use crate::stop::Stop;
 use crate::whole_number_reader::{greatest_of_width, greatest_with, least_with};
 use asn_bits::internal::octet_count;
-use asn_bits::{BitCursor, Intervals};
+use asn_bits::{BitCursor, Counts, FieldState, Intervals, OctetLengths};
 use std::alloc::Global;
 
 /// How many octets are left.
@@ -63,6 +64,19 @@ pub fn read_octets(k: u32, set: NumberSet, why: Why, units: &mut BitCursor<'_>) 
         Ok(n) => Ok(n),
         Err(stop) => Err(in_octets(stop)),
     }
+}
+
+/// Fast path: a number of the set in `k` octets, where they are present and hold one; otherwise takes nothing.
+#[inline(always)]
+pub fn try_octets(k: u32, set: NumberSet, units: &mut BitCursor<'_>) -> Option<u64>
+    requires at_octet { AtOctet units.old }
+    requires few { k ≤ 8 }
+    ensures at_octet { AtOctet units.new }
+    ensures done { IfSome result (λ n. ReadsOctets (OctetsIn k set) n units.old units.new) }
+    ensures unchanged { IsNone result → units.new ≡ units.old }
+{
+    let n = try_number(8 * k, set, units)?;
+    Some(n)
 }
 
 /// Reads a number of the intervals in `k` octets: in one step if they are present and hold one.
@@ -203,50 +217,72 @@ pub fn read_signed_octets(
     }
 }
 
-/// Reads a length from `low` to `high` (X.696, "length determinant"): below 128 in one octet, else in the fewest octets
-/// after 128 and their count.
+/// Fast path: an integer of the set in `count` octets of two's complement, where they are present and hold one;
+/// otherwise takes nothing. Returns its offset.
+#[inline(always)]
+pub fn try_signed_octets(count: u32, set: OffsetSet, units: &mut BitCursor<'_>) -> Option<u64>
+    requires at_octet { AtOctet units.old }
+    requires many { 1 ≤ count }
+    requires few { count ≤ 8 }
+    ensures at_octet { AtOctet units.new }
+    ensures done { IfSome result (λ w.
+        ReadsOctets (SignedOctetsIn count set) (lowest_integer +ℤ pos w) units.old units.new) }
+    ensures unchanged { IsNone result → units.new ≡ units.old }
+{
+    let offset = try_signed(count, set, units)?;
+    Some(offset)
+}
+
+/// Reads a length from `low` to `high` (X.696, "length determinant"): in one step if one octet tells it.
 ///
 /// # Errors
 /// `Short` if the octets end before the length does. `Refused`, with the reason `Length`, at the first octet after
 /// which no such length can follow.
+#[inline(always)]
 pub fn read_length(low: u64, high: u64, units: &mut BitCursor<'_>) -> Result<u64, Stop>
     requires at_octet { AtOctet units.old }
     requires ordered { low ≤ high }
+    requires narrow { high < 2 ^ 32 }
     ensures at_octet { OnOk result (AtOctet units.new) }
     ensures within { IfOk result (λ n. Between low high n) }
     ensures done { IfOk result (λ n. ReadsOctets (OctetLength (Between low high)) n units.old units.new) }
     ensures stop { IfErr result (λ why. StopsAtOctets (OctetLength (Between low high)) units.old why) }
 {
-    let first = read_octets_among(1, first_octets(low, high), Why::Length, units)?;
-    if first < 128 {
-        return Ok(first);
+    match try_number(8, numbers(low, high.min(127)), units) {
+        Some(n) => Ok(n),
+        None => read_length_by_octets(low, high, units),
     }
-    let count = (first - 128) as u32;
-    let long = NumberSet {
-        low: low.max(128),
-        high,
-        excluded: None,
-    };
-    read_octets(count, with_count(long, count), Why::Length, units)
 }
 
-/// The first octets of lengths from `low` to `high`.
-fn first_octets(low: u64, high: u64) -> Intervals
-    requires { low ≤ high }
-    ensures there { (n : ℕ) → Among result n → FirstOctet (Between low high) n }
-    ensures back { (n : ℕ) → FirstOctet (Between low high) n → Among result n }
-    ensures some { Meets (λ n. Among result n) 0 8 }
+/// Reads a length from `low` to `high`, octet by octet.
+#[inline(never)]
+fn read_length_by_octets(low: u64, high: u64, units: &mut BitCursor<'_>) -> Result<u64, Stop>
+    requires at_octet { AtOctet units.old }
+    requires ordered { low ≤ high }
+    requires narrow { high < 2 ^ 32 }
+    ensures at_octet { OnOk result (AtOctet units.new) }
+    ensures within { IfOk result (λ n. Between low high n) }
+    ensures done { IfOk result (λ n. ReadsOctets (OctetLength (Between low high)) n units.old units.new) }
+    ensures stop { IfErr result (λ why. StopsAtOctets (OctetLength (Between low high)) units.old why) }
 {
-    if high < 128 {
-        return Intervals::one(low, high);
+    let counts = Counts {
+        low: low as u32,
+        high: high as u32,
+    };
+    let mut lengths = OctetLengths::new(counts, None);
+    while let Some(octet) = units.take_number(8) {
+        match lengths.octet(octet as u8) {
+            FieldState::Alive => {}
+            FieldState::Number(n) => return Ok(n),
+            FieldState::Dead => {
+                return Err(Stop::Refused {
+                    left: octets_left(units) as u128,
+                    why: Why::Length,
+                });
+            }
+        }
     }
-    let fewest = 128 + u64::from(octet_count(low.max(128)));
-    let most = 128 + u64::from(octet_count(high));
-    if low < 128 {
-        Intervals::one(low, 127).and(fewest, most)
-    } else {
-        Intervals::one(fewest, most)
-    }
+    Err(Stop::Short)
 }
 
 /// Reads a number up to `most` in `marks` bits and one from `low` on in `count` bits, and the zeros that fill up the
@@ -296,15 +332,24 @@ fn read_bits(
     ensures stop { IfErr result (λ why. Stops octet_fields (FilledBits marks most count low) units.old why) }
 {
     let zeros = (8 - (marks + count) % 8) % 8;
-    let mark = read_number(marks, numbers(0, most), Why::Extension, units)?;
-    let number = read_number(
-        count,
-        numbers(low, greatest_of_width(count)),
-        Why::Extension,
-        units,
-    )?;
-    read_number(zeros, numbers(0, 0), in_zeros, units)?;
+    let mark = read_up_to(marks, most, Why::Extension, units)?;
+    let number = read_from(count, low, units)?;
+    read_up_to(zeros, 0, in_zeros, units)?;
     Ok((mark, number))
+}
+
+/// Reads a number from `low` on in `k` bits, as `read_number` does.
+#[inline(always)]
+fn read_from(k: u32, low: u64, units: &mut BitCursor<'_>) -> Result<u64, Stop>
+    requires few { k ≤ 64 }
+    requires some { low < 2 ^ k }
+    ensures done { ReadsPlain (NumberIn k (from_to low (2 ^ k - 1))) result units.old units.new }
+    ensures stop { StopsPlain (NumberIn k (from_to low (2 ^ k - 1))) result units.old }
+{
+    if k == 0 {
+        return Ok(0);
+    }
+    read_number(k, numbers(low, greatest_of_width(k)), Why::Extension, units)
 }
 
 /// The numbers from `low` to `high`.
@@ -348,6 +393,7 @@ pub fn read_octets_with_length(
 ) -> Result<Vec<u8>, Stop>
     requires at_octet { AtOctet units.old }
     requires ordered { low ≤ high }
+    requires narrow { high < 2 ^ 32 }
     ensures at_octet { OnOk result (AtOctet units.new) }
     ensures done { IfOk result (λ os. ReadsOctets (OctetsBehind (Between low high)) os.items units.old units.new) }
     ensures stop { IfErr result (λ why. StopsAtOctets (OctetsBehind (Between low high)) units.old why) }

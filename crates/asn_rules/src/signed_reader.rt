@@ -1,9 +1,11 @@
 //! The reader of integers in the fewest octets of two's complement (X.691, "unconstrained whole number").
 
-ghost use Rattle.std.specs.Prelude.{◌≡◌, ◌≤◌, ◌<◌, ◌+◌, ◌-◌, ◌*◌, ◌^◌, ◌⊎◌, ℕ, pos, ◌+ℤ◌, length, IsTrue};
+ghost use Rattle.std.specs.Prelude.{◌≡◌, ◌≤◌, ◌<◌, ◌+◌, ◌-◌, ◌*◌, ◌^◌, ◌⊎◌, ℕ, pos, ◌+ℤ◌, length, IsTrue, IsNone, IfSome};
 ghost use Rattle.asn_values.specs.Fits.{lowest_integer};
 ghost use Rattle.asn_bits.specs.Sets.{Among};
 ghost use Rattle.asn_rules.specs.Counted.{signed_number};
+ghost use Rattle.asn_rules.specs.Languages.{Spells};
+ghost use Rattle.asn_rules.specs.Live.{Fielding};
 ghost use Rattle.asn_rules.specs.OffsetSets.{HasOffset, IsOpen, IsRaised, ReadsOffset, SignedIn, StandsFor, UnconstrainedIn, NeedsCount, least_magnitude_of, AreShifted, AreSigned, AreStanding};
 ghost use Rattle.asn_rules.specs.PlainReading.{StopsPlain};
 
@@ -50,7 +52,8 @@ pub fn read_unconstrained(
     Ok(offset_of(count, number))
 }
 
-/// Reads an integer of the set in `count` octets of two's complement. Returns its offset.
+/// Reads an integer of the set in `count` octets of two's complement: in one step if they are present and hold one.
+/// Returns its offset.
 ///
 /// # Errors
 /// `Short` if the bits end before the integer does. `Refused`, with the reason `why`, at the first bit after which no
@@ -67,8 +70,55 @@ pub fn read_signed(
     ensures done { ReadsOffset (SignedIn count set) result bits.old bits.new }
     ensures stop { StopsPlain (SignedIn count set) result bits.old }
 {
+    match try_signed(count, set, bits) {
+        Some(offset) => Ok(offset),
+        None => read_signed_by_bits(count, set, why, bits),
+    }
+}
+
+/// Reads an integer of the set in `count` octets of two's complement, bit by bit.
+#[cold]
+#[inline(never)]
+fn read_signed_by_bits(
+    count: u32,
+    set: OffsetSet,
+    why: Why,
+    bits: &mut BitCursor<'_>,
+) -> Result<u64, Stop>
+    requires many { 1 ≤ count }
+    requires few { count ≤ 8 }
+    requires some { (n : ℕ) × StandsFor set count n }
+    ensures done { ReadsOffset (SignedIn count set) result bits.old bits.new }
+    ensures stop { StopsPlain (SignedIn count set) result bits.old }
+{
     let number = read_number_among(8 * count, numbers_in(set, count), why, bits)?;
     Ok(offset_of(count, number))
+}
+
+/// Fast path: an integer of the set in `count` octets of two's complement, where they are present and hold one;
+/// otherwise takes nothing. Returns its offset.
+#[inline(always)]
+pub(crate) fn try_signed(count: u32, set: OffsetSet, bits: &mut BitCursor<'_>) -> Option<u64>
+    requires many { 1 ≤ count }
+    requires few { count ≤ 8 }
+    ensures done { (R : Fielding) → IfSome result (λ w.
+        Spells R (SignedIn count set) (lowest_integer +ℤ pos w) bits.old bits.new) }
+    ensures unchanged { IsNone result → bits.new ≡ bits.old }
+{
+    let number = bits.peek_number(8 * count)?;
+    let offset = offset_of(count, number);
+    if has_offset(set, u128::from(offset)) {
+        bits.pass(8 * count);
+        return Some(offset);
+    }
+    None
+}
+
+/// Whether the offset is one of the set.
+fn has_offset(set: OffsetSet, w: u128) -> bool
+    ensures { IsTrue result → HasOffset set w }
+{
+    w < set.end && (set.from <= w || set.start <= w && w < set.below)
 }
 
 /// The least count of octets that an integer of the set needs.

@@ -9,10 +9,14 @@
 //! - `type | TYPE | TYPE`: so a type is printed.
 //! - `named | NAME | TEXT | ANSWER`: whether the text after the heading assigns the name, `yes` or `no`.
 //! - `explain | TEXT | WORDS`: so the fault of a whole text is explained.
+//! - `json | TYPE | JSON | ANSWER`: so `from_json` answers to the JSON: what `to_json` makes of the value, or the fault.
 use crate::cells::{HEADING, cut, printed, text_of};
-use anyhow::{Result, bail, ensure};
+use anyhow::{Context, Result, bail, ensure};
+use asn_json::{JsonFault, from_json, to_json};
 use asn_module::{explain, read};
 use asn_notation::{SyntaxFault, read_notation};
+use asn_values::Checked;
+use serde_json::Value as Json;
 use std::alloc::Global;
 
 /// Fails where the row does not hold.
@@ -32,6 +36,7 @@ pub fn try_row(alloc: Global, row: &str) -> Result<()> {
         }
         "named" => try_name(alloc, cell, want),
         "explain" => try_explaining(alloc, &text_of(alloc, "", cell)?, want),
+        "json" => try_json(alloc, cell, want),
         _ => bail!("a row of no kind"),
     }
 }
@@ -83,5 +88,24 @@ fn try_explaining(alloc: Global, text: &str, want: &str) -> Result<()> {
     match read(alloc, text) {
         Ok(_) => bail!("read"),
         Err(fault) => expect(&explain(alloc, text, &fault)?, want),
+    }
+}
+
+fn try_json(alloc: Global, cell: &str, row: &str) -> Result<()> {
+    let (json, want) = cut(row);
+    let text = format!(in alloc; "T ::= {cell} END")?;
+    let module = read(alloc, &text_of(alloc, HEADING, &text)?)?;
+    let ty = module.type_named("T").context("no type")?;
+    expect(&answer_to_json(alloc, ty, json)?, want)
+}
+
+/// What `from_json` answers, and `to_json` to the value.
+fn answer_to_json(alloc: Global, ty: &Checked, text: &str) -> Result<String> {
+    let json = Json::from_str(alloc, text)?;
+    match from_json(alloc, ty, &json) {
+        Ok(value) => Ok(to_json(alloc, ty, &value)?.to_string(alloc)?),
+        Err(JsonFault::Shape { path }) => Ok(format!(in alloc; "shape {path}")?),
+        Err(JsonFault::NotOfType) => Ok(String::from_str(alloc, "not of type")?),
+        Err(JsonFault::Memory) => bail!("memory"),
     }
 }

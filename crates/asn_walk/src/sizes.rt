@@ -1,5 +1,5 @@
 //! Sizes of strings and lists.
-ghost use Rattle.std.specs.Prelude.{◌≡◌};
+ghost use Rattle.std.specs.Prelude.{◌≡◌, ◌<◌, ◌^◌};
 ghost use Rattle.asn_values.specs.Profile.{is_fixed_size};
 ghost use Rattle.asn_values.specs.View.{size_range_of};
 ghost use Rattle.asn_walk.specs.Laws.{IsSizeOfProfile};
@@ -19,7 +19,8 @@ pub fn is_fixed(size: &Size) -> bool
 /// The counts that a size leaves, within the limit of the profile.
 pub fn counts_of(size: &Size) -> NumberSet
     requires of_profile { IsSizeOfProfile (size_range_of size.now) }
-    ensures { AreCounts (size_range_of size.now) result }
+    ensures are { AreCounts (size_range_of size.now) result }
+    ensures narrow { result.high < 2 ^ 32 }
 {
     let (low, high) = if size.ext {
         (0, MAX_OCTETS as u64)

@@ -6,6 +6,7 @@ use Rattle.asn_newer.proofs.Flipped.{flipped, skips_nothing}
 use Rattle.asn_newer.proofs.Itself.{same_version, itself}
 use Rattle.asn_newer.proofs.OneReading.{one_reading}
 use Rattle.asn_newer.proofs.Read.{message_read}
+use Rattle.asn_newer.proofs.Received.{reads_fit}
 use Rattle.asn_newer.proofs.laws.version_laws.Goals as goal
 
 pub returns-clause-reads_itself : goal.returns-clause-reads_itself
@@ -23,6 +24,9 @@ pub returns-clause-newer_reads : goal.returns-clause-newer_reads
 returns-clause-newer_reads g c old new v o p q w e =
     let l = g.R.OtherVersions.loose in
     subst (λ (s : List Skipped). IsLoose l new (received l old new v).0 s o) (skips_nothing l true old new v w) (message_read l c.keep_version_laws.ensures.parts false true old new v o p w e)
+
+pub returns-clause-reads_fit : goal.returns-clause-reads_fit
+returns-clause-reads_fit g c = reads_fit g.R.OtherVersions.loose c.keep_version_laws.ensures.parts.laws
 
 pub returns-clause-one_way : goal.returns-clause-one_way
 returns-clause-one_way g c = one_reading g.R.OtherVersions.loose c.keep_version_laws.ensures.ways

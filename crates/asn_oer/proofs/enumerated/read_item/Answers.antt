@@ -2,7 +2,8 @@ use Rattle.std.proofs.Common.{◌≡◌, length, map, refl, ap, ◌∙◌, arith
 use Rattle.asn_values.specs.View.{label_of, more_labels_of}
 use Rattle.asn_bits.specs.Numbers.{bits}
 use Rattle.asn_bits.proofs.Octets.{length-digits}
-use Rattle.asn_oer.proofs.ItemReading.{below_power, below_word, item_ahead, five_at_most, no_octet_comes, comes, no_item_goes_on, item_ends, item_goes_on}
+use Rattle.asn_bits.proofs.LengthsInOctets.{below_power}
+use Rattle.asn_oer.proofs.ItemReading.{below_word, item_ahead, five_at_most, no_octet_comes, comes, no_item_goes_on, item_ends, item_goes_on}
 use Rattle.asn_oer.proofs.enumerated.read_item.Goals as goal
 
 pub loop-taken-init : goal.loop-taken-init

@@ -18,14 +18,14 @@ returns-then-is_fixed-clause-stop c =
 
 pub read_variable-requires-clause-few : goal.read_variable-requires-clause-few
 read_variable-requires-clause-few c =
-    (counts_few (size_range_of c.args.size.now) c.requires.of_profile.small c.counts_of-counts.result c.counts_of-counts.ensures).1
+    (counts_few (size_range_of c.args.size.now) c.requires.of_profile.small c.counts_of-counts.result c.counts_of-counts.ensures.are).1
 
 pub returns-clause-done : goal.returns-clause-done
 returns-clause-done c =
-    let l = variable_leads (size_range_of c.args.size.now) c.requires.of_profile.small c.counts_of-counts.result c.counts_of-counts.ensures (sym c.is_fixed.ensures ∙ c.if-is_fixed.false) (packed c.args.units.now) in
+    let l = variable_leads (size_range_of c.args.size.now) c.requires.of_profile.small c.counts_of-counts.result c.counts_of-counts.ensures.are (sym c.is_fixed.ensures ∙ c.if-is_fixed.false) (packed c.args.units.now) in
     IfOk-weaker c.read_variable.result _ _ (λ bs h. l.done bs.items (packed c.read_variable.new.units) h) c.read_variable.ensures.done
 
 pub returns-clause-stop : goal.returns-clause-stop
 returns-clause-stop c =
-    let l = variable_leads (size_range_of c.args.size.now) c.requires.of_profile.small c.counts_of-counts.result c.counts_of-counts.ensures (sym c.is_fixed.ensures ∙ c.if-is_fixed.false) (packed c.args.units.now) in
+    let l = variable_leads (size_range_of c.args.size.now) c.requires.of_profile.small c.counts_of-counts.result c.counts_of-counts.ensures.are (sym c.is_fixed.ensures ∙ c.if-is_fixed.false) (packed c.args.units.now) in
     IfErr-weaker c.read_variable.result _ _ (λ why h. stops_by why l.stops h) c.read_variable.ensures.stop

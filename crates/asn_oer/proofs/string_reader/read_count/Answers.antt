@@ -12,10 +12,10 @@ returns-then-is_fixed-clause-done c = fixed_count (size_range_of c.args.size.now
 pub returns-in_err-read_length-clause-stop : goal.returns-in_err-read_length-clause-stop
 returns-in_err-read_length-clause-stop c =
     let p = err_from_is_err_and c.from_residual.result c.from_residual.ensures.1 in
-    let l = count_leads (size_range_of c.args.size.now) c.counts_of-counts.result (packed c.args.units.now) (sym c.is_fixed.ensures ∙ c.if-is_fixed.false) c.counts_of-counts.ensures in
+    let l = count_leads (size_range_of c.args.size.now) c.counts_of-counts.result (packed c.args.units.now) (sym c.is_fixed.ensures ∙ c.if-is_fixed.false) c.counts_of-counts.ensures.are in
     rw (p.1, p.2) (stops_by _ l.stops c.in_err-read_length.ensures.stop)
 
 pub returns-clause-done : goal.returns-clause-done
 returns-clause-done c =
-    let l = count_leads (size_range_of c.args.size.now) c.counts_of-counts.result (packed c.args.units.now) (sym c.is_fixed.ensures ∙ c.if-is_fixed.false) c.counts_of-counts.ensures in
+    let l = count_leads (size_range_of c.args.size.now) c.counts_of-counts.result (packed c.args.units.now) (sym c.is_fixed.ensures ∙ c.if-is_fixed.false) c.counts_of-counts.ensures.are in
     l.done c.in_ok-read_length.field-0 (packed c.read_length.new.units) c.in_ok-read_length.ensures.done

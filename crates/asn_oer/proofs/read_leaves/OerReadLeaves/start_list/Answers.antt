@@ -17,7 +17,7 @@ returns-in_err-count-clause-stop c =
     let p = err_from_is_err_and c.from_residual.result c.from_residual.ensures.1 in
     let s = size_range_of c.args.size.now in
     let us = packed c.args.units.now in
-    let lead = leads_on (quantity_leads s c.counts_of.result us c.counts_of.ensures) (leads_map oer_fields items (Quantity (FitsLength s)) us) in
+    let lead = leads_on (quantity_leads s c.counts_of.result us c.counts_of.ensures.are) (leads_map oer_fields items (Quantity (FitsLength s)) us) in
     rw (p.1, p.2) (stops_by _ lead.stops c.in_err-count.ensures.stop)
 
 pub returns-clause-done : goal.returns-clause-done
@@ -25,5 +25,5 @@ unfolding oer_coding oer_ruling
 returns-clause-done c =
     let s = size_range_of c.args.size.now in
     let us = packed c.args.units.now in
-    let lead = leads_on (quantity_leads s c.counts_of.result us c.counts_of.ensures) (leads_map oer_fields items (Quantity (FitsLength s)) us) in
+    let lead = leads_on (quantity_leads s c.counts_of.result us c.counts_of.ensures.are) (leads_map oer_fields items (Quantity (FitsLength s)) us) in
     lead.done c.in_ok-count.count (packed c.read_counted.new.units) c.in_ok-count.ensures.done

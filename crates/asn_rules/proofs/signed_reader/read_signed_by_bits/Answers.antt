@@ -6,7 +6,7 @@ use Rattle.asn_rules.specs.Languages.{Spells}
 use Rattle.asn_rules.specs.OffsetSets.{SignedIn}
 use Rattle.asn_rules.proofs.Leads.{stops_by}
 use Rattle.asn_rules.proofs.SignedReading.{standing_leads}
-use Rattle.asn_rules.proofs.signed_reader.read_signed.Goals as goal
+use Rattle.asn_rules.proofs.signed_reader.read_signed_by_bits.Goals as goal
 
 pub read_number_among-requires-clause-some : goal.read_number_among-requires-clause-some
 read_number_among-requires-clause-some c =

@@ -60,7 +60,8 @@ order_known name (inl e) none = none order.Show (sym e)
 order_known name (inr (inl e)) none = none order.Check (sym e)
 order_known name (inr (inr (inl e))) none = none order.Encode (sym e)
 order_known name (inr (inr (inr (inl e)))) none = none order.Convert (sym e)
-order_known name (inr (inr (inr (inr e)))) none = e
+order_known name (inr (inr (inr (inr (inl e))))) none = none order.Newer (sym e)
+order_known name (inr (inr (inr (inr (inr e))))) none = e
 
 -- and each of encoding rules
 pub rules_known : (name : Text) → IsOneOf name rule_names → ((r : RuleName) → rule_name r ≢ name) → ⊥

@@ -8,7 +8,7 @@ use Rattle.clap.specs.declared.builder.ArgAction.TheVariants.{Set}
 
 -- the names of the subcommands that have a type and encoding rules
 abbrev pub order_names : List Text
-order_names = codes "show" ∷ codes "check" ∷ codes "encode" ∷ codes "convert" ∷ []
+order_names = codes "show" ∷ codes "check" ∷ codes "encode" ∷ codes "convert" ∷ codes "newer" ∷ []
 
 abbrev pub rule_names : List Text
 rule_names = codes "per" ∷ codes "oer" ∷ []

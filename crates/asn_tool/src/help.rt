@@ -81,3 +81,19 @@ Example:
   printf '%s\\n' 'M DEFINITIONS AUTOMATIC TAGS ::= BEGIN' 'T ::= SEQUENCE { id INTEGER (0..7) }' END ==== a0 |
     asn_tool convert --type T --rules per
 writes 05.";
+
+/// Of `newer`.
+pub static NEWER: &str = "\
+In: the text of a module, a line that is ====, and messages in hexadecimal, one a line, of senders whose types have more
+or fewer extension additions than those of the module.
+Out: for each message its value as JSON, without the additions that the module does not have, of each of which then
+stand a space, +, its number among the additions of its type, from 0, a colon and its octets in hexadecimal; or a line
+that begins with ! and tells why it is refused.
+
+Exit status: 0 if each message was shown; 1 if at least one was refused; 2 if the module was refused or has no type of
+the name, which the only line of output tells; 3 if reading, writing or memory failed.
+
+Example:
+  printf '%s\\n' 'M DEFINITIONS AUTOMATIC TAGS ::= BEGIN' 'T ::= SEQUENCE { a BOOLEAN, ... }' END ==== c04041c0 |
+    asn_tool newer --type T --rules per
+writes {\"a\":true} +0:07.";

@@ -33,6 +33,7 @@ fn words_are_jobs(rt: HostRuntime) -> Result<(), Fail> {
         ("check", Order::Check),
         ("encode", Order::Encode),
         ("convert", Order::Convert),
+        ("newer", Order::Newer),
     ] {
         expect_order(
             &rt,
@@ -118,7 +119,7 @@ fn other_words_are_refused(rt: HostRuntime) {
 #[test]
 fn help_names_the_statuses_and_an_example(rt: HostRuntime) -> Result<(), Fail> {
     let alloc = rt.alloc();
-    for name in ["module", "show", "check", "encode", "convert"] {
+    for name in ["module", "show", "check", "encode", "convert", "newer"] {
         let Err(fault) = job_of(alloc, &[name, "--help"]) else {
             return Err(Fail::from("help"));
         };

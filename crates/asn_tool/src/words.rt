@@ -33,6 +33,12 @@ pub fn command<'a>(alloc: Global) -> Result<Command<'a>, AllocError>
             "convert",
             "Converts messages to the other rules",
             help::CONVERT,
+        )?)?
+        .subcommand(order(
+            alloc,
+            "newer",
+            "Shows messages of other versions of a type",
+            help::NEWER,
         )?)
 }
 

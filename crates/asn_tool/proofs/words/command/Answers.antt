@@ -19,13 +19,15 @@ returns c =
     let check = c.in_ok-order-2.ensures.shape in
     let encode = c.in_ok-order-3.ensures.shape in
     let convert = c.in_ok-order-4.ensures.shape in
+    let newer = c.in_ok-order-5.ensures.shape in
     let two = c.in_ok-subcommand-2.ensures.shape c.in_ok-order.ensures.local ∙ ap (λ b. with_subcommand b (shape_of c.in_ok-order.field-0)) one in
     let three = c.in_ok-subcommand-3.ensures.shape c.in_ok-order-2.ensures.local ∙ ap (λ b. with_subcommand b (shape_of c.in_ok-order-2.field-0)) two in
     let four = c.in_ok-subcommand-4.ensures.shape c.in_ok-order-3.ensures.local ∙ ap (λ b. with_subcommand b (shape_of c.in_ok-order-3.field-0)) three in
-    IfOk-weaker c.subcommand-5.result _ _
+    let five = c.in_ok-subcommand-5.ensures.shape c.in_ok-order-4.ensures.local ∙ ap (λ b. with_subcommand b (shape_of c.in_ok-order-4.field-0)) four in
+    IfOk-weaker c.subcommand-6.result _ _
     (λ d h. (
-      shape_of c.in_ok-order.field-0 ∷ shape_of c.in_ok-order-2.field-0 ∷ shape_of c.in_ok-order-3.field-0 ∷ shape_of c.in_ok-order-4.field-0 ∷ [],
-      (show, (check, (encode, (convert, tt)))),
-      h.shape c.in_ok-order-4.ensures.local ∙ ap (λ b. with_subcommand b (shape_of c.in_ok-order-4.field-0)) four,
+      shape_of c.in_ok-order.field-0 ∷ shape_of c.in_ok-order-2.field-0 ∷ shape_of c.in_ok-order-3.field-0 ∷ shape_of c.in_ok-order-4.field-0 ∷ shape_of c.in_ok-order-5.field-0 ∷ [],
+      (show, (check, (encode, (convert, (newer, tt))))),
+      h.shape c.in_ok-order-5.ensures.local ∙ ap (λ b. with_subcommand b (shape_of c.in_ok-order-5.field-0)) five,
     ))
-    c.subcommand-5.ensures
+    c.subcommand-6.ensures

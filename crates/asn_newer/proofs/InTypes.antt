@@ -1,14 +1,17 @@
 -- Types of the profile, as the reader holds them: what they are seen as, and how many parts they have at the most.
-use Rattle.std.proofs.Common.{◌≡◌, ◌≢◌, ◌≤◌, ◌<◌, ◌+◌, ◌==◌, ℕ, zero, suc, false, true, List, length, map, Option, Some, None, Vec, Global, refl, sym, ap, subst, ◌∙◌, arith}
+use Rattle.std.proofs.Common.{rules, ◌≡◌, ◌≢◌, ◌≤◌, ◌<◌, ◌+◌, ◌==◌, ℕ, zero, suc, false, true, List, length, map, Option, Some, None, Vec, Global, refl, sym, ap, subst, ◌∙◌, arith}
 use Rattle.std.proofs.lemmas.Bool.{true≢false}
 use Rattle.asn_values.specs.declared.types.Alt.{Alt}
+use Rattle.asn_values.specs.declared.value.Value as values
+use Rattle.asn_values.specs.declared.value.Value.TheVariants as value
+use Rattle.asn_values.specs.Datum.{unknown_alternative}
 use Rattle.asn_values.specs.declared.types.Field.{Field}
 use Rattle.asn_values.specs.declared.types.Item.{Item}
 use Rattle.asn_values.specs.declared.types.AsnType.{AsnType}
 use Rattle.asn_values.specs.declared.types.AsnType as asn_type
 use Rattle.asn_values.specs.Shape.{Shape, enumerated, closed_labels, marked_labels, Fields, MoreFields, sequence, marked, Alternatives, MoreAlternatives, closed_choice, marked_choice, choice, count, MoreLabels}
 use Rattle.asn_values.specs.Profile.{InProfile, EmptyRange, empty_range}
-use Rattle.asn_values.specs.View.{shape_of, fields_of, part_of_field, branch_of, alternatives_of, more_alternatives_of, label_of, labels_seen, more_labels_of}
+use Rattle.asn_values.specs.View.{datum_of, shape_of, fields_of, part_of_field, branch_of, alternatives_of, more_alternatives_of, label_of, labels_seen, more_labels_of}
 use Rattle.asn_values.proofs.Alternatives.{count-of}
 use Rattle.asn_values.proofs.Parts.{left_false}
 use Rattle.asn_values.proofs.Views.{choice_of_alternatives, shape_of-Enum}
@@ -57,3 +60,9 @@ closed_enum_type t root ext e f = rw (e, f) (shape_of-Enum root None)
 pub marked_enum_type : (t : AsnType) (root : Vec Item Global) (ext : Option (Vec Item Global)) (more : Vec Item Global) (xs ys : List Item) → t ≡ asn_type.Enum root ext → ext ≡ Some more → xs ≡ root.items → ys ≡ more.items
     → shape_of t ≡ enumerated (labels_seen xs) (marked_labels (labels_seen ys))
 marked_enum_type t root ext more xs ys e f g h = rw (e, f, g, h) (shape_of-Enum root (Some more))
+
+-- ---- values
+
+-- an alternative that a type has not
+pub datum_of-UnknownAlternative : (tag : ℕ) → datum_of (value.UnknownAlternative tag) ≡ unknown_alternative tag
+datum_of-UnknownAlternative tag = search (rules, values.the_lemmas)

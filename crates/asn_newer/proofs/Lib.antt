@@ -15,5 +15,6 @@ pub mod ItemsRead
 pub mod ContentsRead
 pub mod ElementsRead
 pub mod InTypes
+pub mod Sizes
 pub mod ChoicesAndSequences
 pub mod PerItems

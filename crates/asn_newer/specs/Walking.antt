@@ -1,6 +1,11 @@
 -- What the readers of the walk over types read: languages of values with the fields that were skipped in them, put
 -- behind those that were skipped before.
 use Rattle.std.specs.Prelude.{◌≡◌, ℕ, ℤ, Bool, true, false, List, [], ◌∷◌, ◌++◌, map, Option, Some, ⊤}
+use Rattle.std.specs.Global.{Vec}
+use Rattle.asn_values.specs.declared.types.Alt.{Alt}
+use Rattle.asn_values.specs.declared.types.AsnType.{AsnType}
+use Rattle.asn_values.specs.declared.types.AsnType as asn_type
+use Rattle.asn_values.specs.declared.types.Field.{Field}
 use Rattle.asn_values.specs.Datum.{Datum, item}
 use Rattle.asn_values.specs.Shape.{Shape, Label, Demand, must, optional, default, Fields, marked}
 use Rattle.asn_rules.specs.Chunks.{Chunk, ones}
@@ -55,6 +60,24 @@ FieldsAfter before = Map (λ s. before ++ s)
 
 abbrev pub FieldAfter : List Skipped → (Skipped → List Chunk → Type 0) → List Skipped → List Chunk → Type 0
 FieldAfter before = Map (λ s. before ++ s ∷ [])
+
+-- ---- types, as the reader holds them
+
+-- a SEQUENCE with an extension mark, this root and these additions
+pub record IsMarkedSequence (t : AsnType) (root additions : List Field) : Type 0 where
+  pub components : Vec Field
+  pub more : Vec Field
+  pub is : t ≡ asn_type.Seq components (Some more)
+  pub root_is : root ≡ components.items
+  pub additions_are : additions ≡ more.items
+
+-- a CHOICE with one
+pub record IsMarkedChoice (t : AsnType) (root additions : List Alt) : Type 0 where
+  pub alternatives : Vec Alt
+  pub more : Vec Alt
+  pub is : t ≡ asn_type.Choice alternatives (Some more)
+  pub root_is : root ≡ alternatives.items
+  pub additions_are : additions ≡ more.items
 
 -- ---- octets
 

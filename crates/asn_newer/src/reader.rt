@@ -16,7 +16,8 @@ ghost use Rattle.asn_walk.specs.Reading.{Reads};
 ghost use Rattle.asn_newer.specs.Halting.{HaltsAt};
 ghost use Rattle.asn_newer.specs.Loose.{Loose, LooseRoot, LooseAdded, Known};
 ghost use Rattle.asn_newer.specs.Reading.{skipped_seen};
-ghost use Rattle.asn_newer.specs.Walking.{loose_by, ReadingAfter, ItemsAfter, ReadsContent, HaltsContent};
+ghost use Rattle.asn_newer.specs.Walking.{loose_by, ReadingAfter, ItemsAfter, ReadsContent, HaltsContent,
+    IsMarkedSequence, IsMarkedChoice};
 
 use crate::components::{push_absent, read_additions, read_components};
 use crate::halt::Halt;
@@ -63,7 +64,7 @@ pub(crate) fn read<R: ReadVersions>(
                 return read_closed::<R>(alloc, root, skipped, units);
             };
             let additions = additions.as_slice();
-            read_marked::<R>(alloc, root, additions, skipped, units)
+            read_marked::<R>(alloc, ty, root, additions, skipped, units)
         }
         AsnType::SeqOf(element, size) => read_list::<R>(alloc, element, size, skipped, units),
         AsnType::Choice { root, ext } => {
@@ -72,7 +73,7 @@ pub(crate) fn read<R: ReadVersions>(
                 return read_closed_choice::<R>(alloc, root, skipped, units);
             };
             let additions = additions.as_slice();
-            read_marked_choice::<R>(alloc, root, additions, skipped, units)
+            read_marked_choice::<R>(alloc, ty, root, additions, skipped, units)
         }
         AsnType::Enum { root, ext } => {
             let Some(additions) = ext else {
@@ -119,10 +120,11 @@ fn read_closed<R: ReadVersions>(
     Ok(Value::Seq(entries))
 }
 
-/// Reads a SEQUENCE with an extension mark.
+/// Reads the SEQUENCE `_ty`, which has an extension mark, this root and these additions.
 #[cycle(newer)]
 fn read_marked<R: ReadVersions>(
     alloc: Global,
+    _ty: &AsnType,
     root: &[Field],
     additions: &[Field],
     skipped: &mut Vec<Skipped>,
@@ -130,6 +132,7 @@ fn read_marked<R: ReadVersions>(
 ) -> Result<Value, Halt>
     requires at_unit { R.rules.at_unit units.old }
     requires of_profile { InProfile (sequence (fields_seen root.now) (marked (fields_seen additions.now))) }
+    requires parts { IsMarkedSequence _ty.now root.now additions.now }
     ensures at_unit { OnOk result (R.rules.at_unit units.new) }
     ensures done { IfOk result (λ v. Reads R.rules (ReadingAfter (skipped_seen skipped.old.items)
         (Loose (loose_by R.rules R.loose) (sequence (fields_seen root.now) (marked (fields_seen additions.now)))))
@@ -313,17 +316,20 @@ fn read_closed_choice<R: ReadVersions>(
     }
 }
 
-/// Reads a CHOICE with an extension mark.
+/// Reads the CHOICE `_ty`, which has an extension mark, this root and these additions.
 #[cycle(newer)]
 fn read_marked_choice<R: ReadVersions>(
     alloc: Global,
+    _ty: &AsnType,
     root: &[Alt],
     additions: &[Alt],
     skipped: &mut Vec<Skipped>,
     units: &mut BitCursor<'_>,
 ) -> Result<Value, Halt>
     requires at_unit { R.rules.at_unit units.old }
-    requires of_profile { InProfile (choice (alternatives_seen root.now) (marked_choice (alternatives_seen additions.now))) }
+    requires of_profile {
+        InProfile (choice (alternatives_seen root.now) (marked_choice (alternatives_seen additions.now))) }
+    requires parts { IsMarkedChoice _ty.now root.now additions.now }
     ensures at_unit { OnOk result (R.rules.at_unit units.new) }
     ensures done { IfOk result (λ v. Reads R.rules (ReadingAfter (skipped_seen skipped.old.items)
         (Loose (loose_by R.rules R.loose)

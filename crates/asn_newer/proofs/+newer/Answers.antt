@@ -4,6 +4,7 @@ use Rattle.std.proofs.Math.Numerals.{add-one}
 use Rattle.std.proofs.lemmas.List.{map-append}
 use Rattle.std.proofs.lemmas.Result.{err_from_is_err_and, IfOk-weaker, IfErr-weaker}
 use Rattle.asn_values.specs.declared.types.AsnType.{the_lemmas}
+use Rattle.asn_values.specs.declared.types.AsnType as asn_type
 use Rattle.asn_values.specs.Datum.{alternative}
 use Rattle.asn_values.specs.Shape.{default, sequence, closed, marked, choice, closed_choice, marked_choice}
 use Rattle.asn_values.specs.View.{shape_of, datum_of, labels_seen, alternatives_seen, part_of_field, size_range_of, demand_of, fields_seen, entries_seen}
@@ -32,6 +33,7 @@ use Rattle.asn_newer.specs.Skipped.{Reading, nothing_skipped}
 use Rattle.asn_newer.specs.Walking.{loose_by, ItemsAfter, FieldsAfter}
 use Rattle.asn_newer.proofs.Behind.{unmapped, none_taken, taken_on, each_starts, each_next, each_ends, open_starts, open_absent, open_present, open_none, open_ends, open_ends_none, bit_set, bit_unset, entry_on}
 use Rattle.asn_newer.proofs.ChoicesAndSequences.{preamble_none, root_none, more_none, sequence_done, no_more, none_present, bitmap_none, additions_done, open_on, root_at, closed_none, closed_on, marked_none, marked_root_on, marked_added_on, added_at, unknown_at, alternative_missed, closed_enum_on, plain_on}
+use Rattle.asn_newer.proofs.Sizes.{root_smaller, additions_smaller, alternatives_smaller, added_smaller}
 use Rattle.asn_newer.proofs.InTypes.{few_of_root, few_additions, some_known, few_closed, few_marked, closed_choice_type, marked_choice_type, closed_enum_type, marked_enum_type, datum_of-UnknownAlternative}
 use Rattle.asn_newer.proofs.ContentsRead.{no_value, no_filling, too_much, content_read, known_read, known_none}
 use Rattle.asn_newer.proofs.ElementsRead.{row_begins, row_none, row_next, row_ends, list_begins, no_length, list_ends, items_none, list_next, list_nearer, start_none, rest_none, rest_read}
@@ -375,7 +377,7 @@ pub reader::read-read_marked-requires : goal.reader::read-read_marked-requires
 reader::read-read_marked-requires g t c κs within =
     let is = marked_type c.args.ty.now c.in-Seq.root c.in-Seq.ext c.in-Some.additions c.as_slice-root.result.now c.as_slice-additions.result.now c.in-Seq.is c.in-Some.is c.as_slice-root.ensures.value c.as_slice-additions.ensures.value in
     let good : InProfile (sequence (fields_seen c.as_slice-root.result.now) (marked (fields_seen c.as_slice-additions.result.now))) = rw is at c.requires.of_profile in
-    (search (rules, the_lemmas), (within.0, (within.1, (c.requires.at_unit, good))))
+    (search (rules, the_lemmas), (within.0, (within.1, (c.requires.at_unit, (good, record { components = c.in-Seq.root; more = c.in-Some.additions; is = c.in-Seq.is ∙ ap (λ x. asn_type.Seq c.in-Seq.root x) c.in-Some.is; root_is = c.as_slice-root.ensures.value; additions_are = c.as_slice-additions.ensures.value })))))
 
 pub reader::read-returns-in_default-ext-clause-done : goal.reader::read-returns-in_default-ext-clause-done
 reader::read-returns-in_default-ext-clause-done g t c =
@@ -391,7 +393,7 @@ pub reader::read-read_marked_choice-requires : goal.reader::read-read_marked_cho
 reader::read-read_marked_choice-requires g t c κs within =
     let is = marked_choice_type c.args.ty.now c.in-Choice.root c.in-Choice.ext c.in-Some-ext.additions c.as_slice-root-in-Choice.result.now c.as_slice-additions-in-Choice.result.now c.in-Choice.is c.in-Some-ext.is c.as_slice-root-in-Choice.ensures.value c.as_slice-additions-in-Choice.ensures.value in
     let good : InProfile (choice (alternatives_seen c.as_slice-root-in-Choice.result.now) (marked_choice (alternatives_seen c.as_slice-additions-in-Choice.result.now))) = rw is at c.requires.of_profile in
-    (search (rules, the_lemmas), (within.0, (within.1, (c.requires.at_unit, good))))
+    (search (rules, the_lemmas), (within.0, (within.1, (c.requires.at_unit, (good, record { alternatives = c.in-Choice.root; more = c.in-Some-ext.additions; is = c.in-Choice.is ∙ ap (λ x. asn_type.Choice c.in-Choice.root x) c.in-Some-ext.is; root_is = c.as_slice-root-in-Choice.ensures.value; additions_are = c.as_slice-additions-in-Choice.ensures.value })))))
 
 pub reader::read-returns-in_err-read_simple-in-Enum-clause-stop : goal.reader::read-returns-in_err-read_simple-in-Enum-clause-stop
 reader::read-returns-in_err-read_simple-in-Enum-clause-stop g t c =
@@ -527,12 +529,14 @@ reader::read_marked-bitmap_width-width-requires g t c =
 
 pub reader::read_marked-read_components-requires : goal.reader::read_marked-read_components-requires
 reader::read_marked-read_components-requires g t c κs within =
+    let small = root_smaller c.args._ty.now c.requires.parts.components c.requires.parts.more c.args.root.now c.requires.parts.is c.requires.parts.root_is in
     let room : vec_len c.in_ok-entries.entries + length c.args.root.now ≤ vec_capacity c.in_ok-entries.entries = omega (arith, c.in_ok-entries.ensures.len, c.in_ok-entries.ensures.capacity) in
-    (search (rules, the_lemmas), (within.0, (within.1, (c.in_ok-preamble.ensures.at_unit, (components_of_profile (fields_seen c.args.root.now) (marked (fields_seen c.args.additions.now)) c.requires.of_profile, (c.bitmap_width-width.ensures.count, (c.bitmap_width-width.ensures.few, room)))))))
+    (search (rules, the_lemmas, small), (within.0, (within.1, (c.in_ok-preamble.ensures.at_unit, (components_of_profile (fields_seen c.args.root.now) (marked (fields_seen c.args.additions.now)) c.requires.of_profile, (c.bitmap_width-width.ensures.count, (c.bitmap_width-width.ensures.few, room)))))))
 
 pub reader::read_marked-read_additions-requires : goal.reader::read_marked-read_additions-requires
 reader::read_marked-read_additions-requires g t c κs within =
-    (search (rules, the_lemmas), (within.0, (within.1, (c.in_ok-read_components.ensures.at_unit, (additions_of_profile (fields_seen c.args.root.now) (fields_seen c.args.additions.now) c.requires.of_profile, few_additions (fields_seen c.args.root.now) c.args.additions.now c.requires.of_profile)))))
+    let small = additions_smaller c.args._ty.now c.requires.parts.components c.requires.parts.more c.args.additions.now c.requires.parts.is c.requires.parts.additions_are in
+    (search (rules, the_lemmas, small), (within.0, (within.1, (c.in_ok-read_components.ensures.at_unit, (additions_of_profile (fields_seen c.args.root.now) (fields_seen c.args.additions.now) c.requires.of_profile, few_additions (fields_seen c.args.root.now) c.args.additions.now c.requires.of_profile)))))
 
 pub reader::read_marked-returns-in_err-read_additions-clause-stop : goal.reader::read_marked-returns-in_err-read_additions-clause-stop
 reader::read_marked-returns-in_err-read_additions-clause-stop g t c =
@@ -573,16 +577,18 @@ reader::read_marked_choice-returns-in_err-index-clause-stop g t c =
 
 pub reader::read_marked_choice-read_root_alternative-requires : goal.reader::read_marked_choice-read_root_alternative-requires
 reader::read_marked_choice-read_root_alternative-requires g t c κs within =
+    let small = alternatives_smaller c.args._ty.now c.requires.parts.alternatives c.requires.parts.more c.args.root.now c.requires.parts.is c.requires.parts.root_is in
     let index : IsIndexWithin (length c.args.root.now) (Some (63 - length c.args.root.now)) (index_seen c.in_ok-index.field-0) = c.in_ok-index.ensures.done.spelt.fits in
     let inside : c.in-Root.index < length c.args.root.now = rw c.in-Root.is at index in
     let few = few_marked c.args.root.now c.args.additions.now c.requires.of_profile in
-    (search (rules, the_lemmas), (within.0, (within.1, (c.in_ok-index.ensures.at_unit, (root_good (alternatives_seen c.args.root.now) (marked_choice (alternatives_seen c.args.additions.now)) c.requires.of_profile, (inside, omega (arith, inside, few)))))))
+    (search (rules, the_lemmas, small), (within.0, (within.1, (c.in_ok-index.ensures.at_unit, (root_good (alternatives_seen c.args.root.now) (marked_choice (alternatives_seen c.args.additions.now)) c.requires.of_profile, (inside, omega (arith, inside, few)))))))
 
 pub reader::read_marked_choice-read_added_alternative-requires : goal.reader::read_marked_choice-read_added_alternative-requires
 reader::read_marked_choice-read_added_alternative-requires g t c κs within =
+    let small = added_smaller c.args._ty.now c.requires.parts.alternatives c.requires.parts.more c.args.additions.now c.requires.parts.is c.requires.parts.additions_are in
     let index : IsIndexWithin (length c.args.root.now) (Some (63 - length c.args.root.now)) (index_seen c.in_ok-index.field-0) = c.in_ok-index.ensures.done.spelt.fits in
     let inside : c.in-Added.index < 63 - length c.args.root.now = rw c.in-Added.is at index in
-    (search (rules, the_lemmas), (within.0, (within.1, (c.in_ok-index.ensures.at_unit, (added_good (alternatives_seen c.args.root.now) (marked_choice (alternatives_seen c.args.additions.now)) c.requires.of_profile, (omega (arith, inside), omega (arith, inside)))))))
+    (search (rules, the_lemmas, small), (within.0, (within.1, (c.in_ok-index.ensures.at_unit, (added_good (alternatives_seen c.args.root.now) (marked_choice (alternatives_seen c.args.additions.now)) c.requires.of_profile, (omega (arith, inside), omega (arith, inside)))))))
 
 pub reader::read_marked_choice-returns-in-Root-clause-done : goal.reader::read_marked_choice-returns-in-Root-clause-done
 reader::read_marked_choice-returns-in-Root-clause-done g t c =

@@ -9,3 +9,10 @@ pub mod ItemWays
 pub mod PerWays
 pub mod OerWays
 pub mod AnyBitmaps
+pub mod Halts
+pub mod Behind
+pub mod ItemsRead
+pub mod ContentsRead
+pub mod ElementsRead
+pub mod ChoicesAndSequences
+pub mod PerItems

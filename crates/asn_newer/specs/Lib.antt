@@ -7,3 +7,5 @@ pub mod Rules
 pub mod Examples
 pub mod Halting
 pub mod Bitmaps
+pub mod Reading
+pub mod Walking

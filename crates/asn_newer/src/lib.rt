@@ -2,9 +2,18 @@
 #![tactic(auto)]
 
 mod bitmaps;
+mod components;
+mod fault;
 mod halt;
+mod items;
 mod laws;
+mod leaves;
+mod presence;
+mod reader;
+mod skipping;
 
 pub use bitmaps::read_any_bitmap;
+pub use fault::NewerFault;
 pub use halt::Halt;
 pub use laws::{OtherVersions, version_laws};
+pub use leaves::ReadVersions;

@@ -1,0 +1,1 @@
+use Rattle.asn_newer.proofs.skipping.skip_fields.Goals as goal

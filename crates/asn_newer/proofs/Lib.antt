@@ -11,8 +11,10 @@ pub mod OerWays
 pub mod AnyBitmaps
 pub mod Halts
 pub mod Behind
+pub mod FieldsSkipped
 pub mod ItemsRead
 pub mod ContentsRead
 pub mod ElementsRead
 pub mod ChoicesAndSequences
 pub mod PerItems
+pub mod OerItems

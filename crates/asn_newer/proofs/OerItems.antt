@@ -41,7 +41,7 @@ octet_taken n us vs h e = octets_taken 1 n us vs e ∙ ap (λ (l : List ℕ). l 
 
 -- ---- numbers
 
-abbrev is_short : ℤ → Bool
+abbrev pub is_short : ℤ → Bool
 is_short z = int_le (pos 0) z && int_lt z (pos 128)
 
 short_code : (b : ℕ) → b < 128 → item_number (pos b) ≡ b ∷ []
@@ -271,16 +271,17 @@ fronts_above z (l ∷ root) ls h = (let p = fronts_above z root ls h.1 in ((h.0,
 
 module _ (root additions : List Label) where
   -- the number of one
-  pub number_read : (z y : ℤ) (us r : List ℕ) → IsItemNumber z us r → y ≡ to_z w128 (of_z w128 z) → list_all (λ (x : ℤ). int_lt x z) (map (λ (l : Label). l.number) root) ≡ true → list_all (λ (x : ℤ). int_lt x z) (map (λ (l : Label). l.number) additions) ≡ true
+  pub number_read : (z y : ℤ) (us r : List ℕ) → IsItemNumber z us r → y ≡ to_z w128 (of_z w128 z) → list_all (λ (x : ℤ). int_lt x y) (map (λ (l : Label). l.number) root) ≡ true → list_all (λ (x : ℤ). int_lt x y) (map (λ (l : Label). l.number) additions) ≡ true
       → Spells oer_coding.ruling.fielding (UnknownItem oer_loose root additions) y us r
   unfolding oer_loose
   number_read z y us r h e f g =
-      subst (λ (x : ℤ). Spells oer_coding.ruling.fielding (UnknownItem oer_loose root additions) x us r) (sym (kept_32 z (narrow_is z h.narrow)) ∙ sym e) (record {
-        chunks = ones (item_number z);
-        spelt = record { fits = record { above = above_all z root additions f (above_each z additions g); narrow = h.narrow }; same = refl };
-        contents = contents-ones oer_coding.ruling.fielding (item_number z);
-        split = h.split ∙ ap (λ (l : List ℕ). l ++ r) (sym (flat-ones oer_coding.ruling.fielding.spelled (item_number z)));
-      })
+      let k : y ≡ z = e ∙ kept_32 z (narrow_is z h.narrow) in
+      record {
+        chunks = ones (item_number y);
+        spelt = record { fits = record { above = above_all y root additions f (above_each y additions g); narrow = subst (λ (x : ℤ). IsFalse (is_not_32_bits x)) (sym k) h.narrow }; same = refl };
+        contents = contents-ones oer_coding.ruling.fielding (item_number y);
+        split = h.split ∙ ap (λ (x : ℤ). item_number x ++ r) (sym k) ∙ ap (λ (l : List ℕ). l ++ r) (sym (flat-ones oer_coding.ruling.fielding.spelled (item_number y)));
+      }
 
   number_of : (z : ℤ) (us r : List ℕ) → Spells oer_coding.ruling.fielding (UnknownItem oer_loose root additions) z us r → IsItemNumber z us r × AllByRecursion (λ (l : Label). IsTrue (int_lt l.number z)) (root ++ additions)
   unfolding oer_loose
@@ -294,10 +295,10 @@ module _ (root additions : List Label) where
   no_number us n = λ z r k. n z r (number_of z us r k).0
 
   -- that of an item of the type, or one below
-  pub not_above : (z : ℤ) (us r : List ℕ) → IsItemNumber z us r → (list_all (λ (x : ℤ). int_lt x z) (map (λ (l : Label). l.number) root) ≡ true → list_all (λ (x : ℤ). int_lt x z) (map (λ (l : Label). l.number) additions) ≡ true → ⊥)
+  pub not_above : (z x : ℤ) (us r : List ℕ) → IsItemNumber z us r → x ≡ to_z w128 (of_z w128 z) → (list_all (λ (k : ℤ). int_lt k x) (map (λ (l : Label). l.number) root) ≡ true → list_all (λ (k : ℤ). int_lt k x) (map (λ (l : Label). l.number) additions) ≡ true → ⊥)
       → NoSpelling oer_coding.ruling.fielding (UnknownItem oer_loose root additions) us
-  not_above z us r h never = λ y s k.
+  not_above z x us r h f never = λ y s k.
       let n = number_of y us s k in
-      let e : y ≡ z = (item_code y z s r (sym n.0.split ∙ h.split)).0 in
-      let p = fronts_above z root additions (subst (λ (x : ℤ). AllByRecursion (λ (l : Label). IsTrue (int_lt l.number x)) (root ++ additions)) e n.1) in
-      never (all_above z root p.0) (all_above z additions p.1)
+      let e : y ≡ x = (item_code y z s r (sym n.0.split ∙ h.split)).0 ∙ sym (f ∙ kept_32 z (narrow_is z h.narrow)) in
+      let p = fronts_above x root additions (subst (λ (i : ℤ). AllByRecursion (λ (l : Label). IsTrue (int_lt l.number i)) (root ++ additions)) e n.1) in
+      never (all_above x root p.0) (all_above x additions p.1)

@@ -11,6 +11,7 @@ pub mod OerWays
 pub mod AnyBitmaps
 pub mod Halts
 pub mod Behind
+pub mod FieldsSkipped
 pub mod ItemsRead
 pub mod ContentsRead
 pub mod ElementsRead
@@ -18,3 +19,4 @@ pub mod InTypes
 pub mod Sizes
 pub mod ChoicesAndSequences
 pub mod PerItems
+pub mod OerItems

@@ -1,6 +1,11 @@
 -- Where the reader of the index of an unknown item in PER stands.
-use Rattle.std.proofs.Common.{◌≡◌, ◌<◌, ◌≤◌, ◌^◌, ℕ, ℤ, pos, negsuc, List, [], ◌∷◌, ◌++◌, length, length-append, refl, sym, ap, ◌∙◌, arith, append_assoc}
+use Rattle.std.proofs.Common.{◌≡◌, ◌<◌, ◌≤◌, ◌^◌, ℕ, ℤ, pos, negsuc, List, [], ◌∷◌, ◌++◌, length, length-append, refl, sym, ap, ◌∙◌, arith, append_assoc, map, to_z, of_z}
+use Rattle.std.proofs.lemmas.Int.{ints}
+use mir.Syntax.{w128}
+use Rattle.std.proofs.lemmas.List.{length-map}
 use Rattle.asn_values.specs.Shape.{Label}
+use Rattle.asn_values.specs.View.{label_of, labels_seen}
+use Rattle.asn_values.specs.declared.types.Item.{Item}
 use Rattle.asn_bits.specs.Numbers.{bits}
 use Rattle.asn_bits.proofs.Digits.{digits_code}
 use Rattle.asn_bits.proofs.Octets.{length-digits}
@@ -70,3 +75,14 @@ none_else additions us mid r bit n e f fits never h =
     let high = h.high in
     let d = digits_code 2 (omega arith) 7 n h.index r h.rest fits (omega (arith, high)) g in
     never (omega (arith, d.0, h.low)) (omega (arith, d.0, h.high))
+
+-- a label for each item
+pub few_labels : (is : List Item) → length (labels_seen is) ≡ length is
+few_labels is = simp length-map
+
+-- the index as the program counts
+pub index_told : (z : ℤ) (n : ℕ) → z ≡ pos n → n < 64 → pos n ≡ to_z w128 (of_z w128 z)
+index_told z n e h = sym (ap (λ (y : ℤ). to_z w128 (of_z w128 y)) e ∙ near n h)
+  where
+    near : (n : ℕ) → n < 64 → to_z w128 (of_z w128 (pos n)) ≡ pos n
+    near n h = omega (arith, ints)

@@ -9,3 +9,4 @@ pub mod Halting
 pub mod Bitmaps
 pub mod Reading
 pub mod Walking
+pub mod ItemNumbers

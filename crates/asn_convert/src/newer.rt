@@ -6,7 +6,8 @@ ghost use Rattle.asn_convert.specs.Answers.{AnswersNewer, skipped_text, skipped_
 
 use crate::answers::json_text;
 use crate::texts::{Answer, newer_refusal};
-use asn_newer::{ReadNewer, version_laws};
+use asn_newer::ReadNewer;
+use asn_newer::laws::version_laws;
 use asn_rules::Skipped;
 use asn_values::Checked;
 use std::alloc::{AllocError, Global};

@@ -10,3 +10,14 @@ pub mod PerWays
 pub mod OerWays
 pub mod AnyBitmaps
 pub mod Received
+pub mod Halts
+pub mod Behind
+pub mod FieldsSkipped
+pub mod ItemsRead
+pub mod ContentsRead
+pub mod ElementsRead
+pub mod InTypes
+pub mod Sizes
+pub mod ChoicesAndSequences
+pub mod PerItems
+pub mod OerItems

@@ -30,7 +30,7 @@ module _ (l : LooseCoding) (h : WayLaws l) where
   abbrev R : Fielding
   R = l.coding.ruling.fielding
 
-  part : FieldsPart R
+  pub part : FieldsPart R
   part = fields_part_of l.coding h.laws
 
   -- ---- open type fields
@@ -46,11 +46,11 @@ module _ (l : LooseCoding) (h : WayLaws l) where
       bound w n a b f e = let g : w * n ≤ w * max_len = mul-le-mul_left w f in omega (arith, e, g)
 
   -- a complete encoding at the front of units
-  front : {A : Type 0} {L : A → List Chunk → Type 0} (a : A) (o : List ℕ) → OneWay R L → length o ≤ max_octets → (x : Complete l.coding L a o) → Spells R L a (l.coding.ruling.units o) (l.coding.padding (length (flat R.spelled x.chunks)))
-  front a o way few x = record { chunks = x.chunks; spelt = x.spelt; contents = contents a o way few x; split = x.units }
+  pub complete_front : {A : Type 0} {L : A → List Chunk → Type 0} (a : A) (o : List ℕ) → OneWay R L → length o ≤ max_octets → (x : Complete l.coding L a o) → Spells R L a (l.coding.ruling.units o) (l.coding.padding (length (flat R.spelled x.chunks)))
+  complete_front a o way few x = record { chunks = x.chunks; spelt = x.spelt; contents = contents a o way few x; split = x.units }
 
   complete_once : {A : Type 0} {L : A → List Chunk → Type 0} → OneWay R L → (a b : A) (o : List ℕ) → length o ≤ max_octets → Complete l.coding L a o → Complete l.coding L b o → a ≡ b
-  complete_once way a b o few x y = (way.once a b (l.coding.ruling.units o) _ _ (front a o way few x) (front b o way few y)).0
+  complete_once way a b o few x y = (way.once a b (l.coding.ruling.units o) _ _ (complete_front a o way few x) (complete_front b o way few y)).0
 
   pub known_way : {A : Type 0} {L : A → List Chunk → Type 0} → OneWay R L → OneWay R (Known l.coding L)
   known_way way = sealed_way part (λ a c x b. (h.some (flat R.spelled x.chunks) c x.units, b, x.octets)) (λ a b c x p q. complete_once way a b c x.1 p q)
@@ -142,7 +142,7 @@ module _ (l : LooseCoding) (h : WayLaws l) where
       let way = loose_way t good in
       let tells = h.laws.tells in
       let fits : length o ≤ max_octets = omega (arith, few, ap length b.1, length-append o b.0) in
-      let c = front (w, z) p way few y in
+      let c = complete_front (w, z) p way few y in
       let fill = l.coding.padding (length (flat R.spelled x.chunks)) in
       let filled = l.coding.padding (length (flat R.spelled y.chunks)) in
       let units : l.coding.ruling.units p ≡ flat R.spelled x.chunks ++ (fill ++ l.coding.ruling.units b.0) =

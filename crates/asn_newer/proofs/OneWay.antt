@@ -110,7 +110,7 @@ header_plain R S l cs h = outer h.source h.spelt.side
     outer a (inl b) = subst (AllSealed R) (sym b.same) (subst (AllSealed R) (sym b.spelt.same) (sealed-ones R b.spelt.units))
     outer a (inr b) = subst (AllSealed R) (sym b.same) (inner b.value b.rest b.spelt.side)
 
-header_way : {R : Fielding} → FieldsPart R → (S : ℕ → Type 0) → OneWay R (Header S)
+pub header_way : {R : Fielding} → FieldsPart R → (S : ℕ → Type 0) → OneWay R (Header S)
 header_way {R} part S = lawful_way part (header_lawful S) (λ l cs h. header_plain R S l cs h)
 
 module _ {A : Type 0} {R : Fielding} {L : A → List Chunk → Type 0} (part : FieldsPart R) (o : OneWay R L) where

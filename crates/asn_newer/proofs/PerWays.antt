@@ -70,7 +70,7 @@ per_bitmap = code_way (λ p. small_length (length (bits p.0 p.1)) ++ bits p.0 p.
 -- ---- items
 
 -- a normally small number below 64 is a number in 7 bits
-small_is : (k : ℕ) → k < 64 → small k ≡ bits 7 k
+pub small_is : (k : ℕ) → k < 64 → small k ≡ bits 7 k
 small_is k h =
     let front : 0 ≡ (k / 2 ^ 6) % 2 = omega (arith, h) in
     rw (lt-ltb k 64 h, small) (ap (λ (d : ℕ). d ∷ bits 6 k) front)

@@ -8,3 +8,5 @@ pub mod Examples
 pub mod Halting
 pub mod Bitmaps
 pub mod Reading
+pub mod Walking
+pub mod ItemNumbers

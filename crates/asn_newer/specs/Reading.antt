@@ -8,6 +8,8 @@ use Rattle.asn_rules.specs.declared.newer.Newer.{Newer}
 use Rattle.asn_rules.specs.declared.newer.Skipped.{Skipped}
 use Rattle.asn_newer.specs.Loose.{LooseCoding, IsLoose}
 use Rattle.asn_newer.specs.Skipped as fields
+use Rattle.asn_newer.specs.declared.halt.Halt.{Halt}
+use Rattle.asn_newer.specs.declared.halt.Halt.TheVariants as halt
 use Rattle.asn_newer.specs.declared.fault.NewerFault.{NewerFault}
 use Rattle.asn_newer.specs.declared.fault.NewerFault.TheVariants as fault
 
@@ -31,3 +33,10 @@ abbrev pub NotNewer : LooseCoding → Shape → List ℕ → NewerFault → Type
 NotNewer l t o fault.Memory = length o ≤ max_octets
 NotNewer l t o fault.TooLong = max_octets < length o
 NotNewer l t o _ = (length o ≤ max_octets) × IsNoMessage l t o
+
+-- what is told of a message where its reader halts
+abbrev pub fault_of : Halt → NewerFault
+fault_of halt.Refused = fault.Refused
+fault_of halt.Short = fault.Truncated
+fault_of halt.TooMany = fault.TooManyAdditions
+fault_of halt.Memory = fault.Memory

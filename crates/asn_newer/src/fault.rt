@@ -1,22 +1,22 @@
-//! STUB: why nothing is read.
+//! Why octets are read as no message of any version of a type.
 use thiserror::Error;
 
-/// Why nothing is read.
+/// Why octets are read as no message of any version of a type.
 #[derive(Clone, Copy, Debug, PartialEq, Eq, Error)]
 pub enum NewerFault {
-    /// No message of any version begins so.
+    /// No message of any version begins so, or more octets follow one.
     #[error("refused")]
     Refused = 1,
     /// The octets end before a message does.
     #[error("cut short")]
     Truncated = 2,
-    /// A count past the profile.
+    /// More extension additions than the profile allows: a count of them, an index or a tag.
     #[error("too many additions")]
     TooManyAdditions = 3,
     /// An allocation failed.
     #[error("memory")]
     Memory = 4,
-    /// Too many octets.
+    /// The octets are more than 268,435,455.
     #[error("too long")]
     TooLong = 5,
 }

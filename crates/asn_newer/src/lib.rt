@@ -2,13 +2,22 @@
 #![tactic(auto)]
 
 mod bitmaps;
+mod components;
 mod fault;
 mod halt;
-mod laws;
+mod items;
+pub mod laws;
+mod leaves;
+mod message;
+mod oer_items;
+mod per_items;
+mod presence;
 mod reader;
+mod skipping;
 
 pub use bitmaps::read_any_bitmap;
 pub use fault::NewerFault;
 pub use halt::Halt;
-pub use laws::{OtherVersions, version_laws};
-pub use reader::ReadNewer;
+pub use laws::OtherVersions;
+pub use leaves::ReadVersions;
+pub use message::ReadNewer;

@@ -1,0 +1,18 @@
+use Rattle.std.proofs.Common.{◌≡◌, [], ◌∷◌, ◌++◌, map, rules, sym, ap, ◌∙◌, IfErr, IfOk}
+use Rattle.std.proofs.lemmas.List.{map-append}
+use Rattle.std.proofs.lemmas.Result.{err_from_is_err_and}
+use Rattle.asn_newer.specs.Reading.{skipped_of, skipped_seen}
+use Rattle.asn_newer.proofs.Behind.{field_skipped, none_skipped}
+use Rattle.asn_newer.proofs.Halts.{stops_on}
+use Rattle.asn_newer.proofs.skipping.skip_field.Goals as goal
+
+pub returns-in_err-octets-clause-stop : goal.returns-in_err-octets-clause-stop
+returns-in_err-octets-clause-stop g c =
+    let p = err_from_is_err_and c.from_residual.result c.from_residual.ensures.1 in
+    rw (p.1, p.2) (stops_on _ (none_skipped g.R.ReadLeaves.rules c.args.place) c.in_err-octets.ensures.stop)
+
+pub returns-clause-done : goal.returns-clause-done
+returns-clause-done g c =
+    let items : skipped_seen c.push.new.self.items ≡ skipped_seen c.args.skipped.now.items ++ record { place = c.args.place; octets = c.in_ok-octets.octets.items } ∷ [] =
+    ap skipped_seen c.in_ok-push.ensures.items ∙ map-append skipped_of c.args.skipped.now.items _ in
+    rw items (field_skipped g.R.ReadLeaves.rules c.args.place (skipped_seen c.args.skipped.now.items) c.in_ok-octets.ensures.done)

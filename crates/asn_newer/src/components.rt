@@ -1,0 +1,166 @@
+//! The components of a SEQUENCE in messages of newer and older senders: those of the root, and the extension additions.
+ghost use Rattle.std.specs.Prelude.{◌≡◌, ◌≤◌, ◌<◌, ◌+◌, ◌++◌, IfOk, IfErr, OnOk, length, vec_len, vec_capacity};
+ghost use Rattle.std.specs.Option.{option_map};
+ghost use Rattle.asn_values.specs.Profile.{InProfile};
+ghost use Rattle.asn_values.specs.Parts.{AreOfProfile, IsGoodDemand};
+ghost use Rattle.asn_values.specs.View.{datum_of, part_of_field, fields_seen, entries_seen};
+ghost use Rattle.asn_bits.specs.Numbers.{bits};
+ghost use Rattle.asn_rules.specs.Listed.{bitmap_length};
+ghost use Rattle.asn_walk.specs.Coding.{absent_entries};
+ghost use Rattle.asn_walk.specs.Reading.{Reads};
+ghost use Rattle.asn_newer.specs.Bitmaps.{bits_left};
+ghost use Rattle.asn_newer.specs.Halting.{HaltsAt};
+ghost use Rattle.asn_newer.specs.Loose.{LooseEach, LooseOpen};
+ghost use Rattle.asn_newer.specs.Reading.{skipped_seen};
+ghost use Rattle.asn_newer.specs.Walking.{loose_by, LooseAdditions, LooseEntry, ReadingAfter, EntriesAfter};
+
+use crate::bitmaps::read_any_bitmap;
+use crate::halt::Halt;
+use crate::leaves::ReadVersions;
+use crate::presence::next_present;
+use crate::reader::{read, read_known};
+use crate::skipping::skip_fields;
+use asn_bits::BitCursor;
+use asn_rules::Skipped;
+use asn_values::{Field, Need, Value};
+use asn_walk::PresenceBits;
+use asn_walk_read::absent;
+use std::alloc::{AllocError, Global};
+
+/// Reads the components of a root that the presence bits tell, in order, and appends their entries.
+#[cycle(newer)]
+pub(crate) fn read_components<R: ReadVersions>(
+    alloc: Global,
+    fields: &[Field],
+    presence: PresenceBits,
+    entries: &mut Vec<Option<Value>>,
+    skipped: &mut Vec<Skipped>,
+    units: &mut BitCursor<'_>,
+) -> Result<(), Halt>
+    requires at_unit { R.rules.at_unit units.old }
+    requires of_profile { AreOfProfile (fields_seen fields.now) }
+    requires width { presence.left ≡ bitmap_length (fields_seen fields.now) }
+    requires few { presence.left ≤ 64 }
+    requires capacity { vec_len entries.old + length fields.now ≤ vec_capacity entries.old }
+    ensures at_unit { OnOk result (R.rules.at_unit units.new) }
+    ensures done { OnOk result (Reads R.rules
+        (EntriesAfter (entries_seen entries.old.items) (skipped_seen skipped.old.items)
+        (LooseEach (loose_by R.rules R.loose) (fields_seen fields.now) (bits_left presence)))
+        (entries_seen entries.new.items, skipped_seen skipped.new.items) units.old units.new) }
+    ensures stop { IfErr result (λ why. HaltsAt R.rules
+        (LooseEach (loose_by R.rules R.loose) (fields_seen fields.now) (bits_left presence)) units.old why) }
+{
+    R::keep_walk_laws();
+    let mut presence = presence;
+    for field in fields {
+        let present = presence.next_of(field);
+        let entry = read_entry::<R>(alloc, field, present, skipped, units)?;
+        entries.push_reserved(entry);
+    }
+    Ok(())
+}
+
+/// Reads the entry of a component, of which `present` says whether it is there.
+#[inline(always)]
+#[cycle(newer)]
+fn read_entry<R: ReadVersions>(
+    alloc: Global,
+    field: &Field,
+    present: bool,
+    skipped: &mut Vec<Skipped>,
+    units: &mut BitCursor<'_>,
+) -> Result<Option<Value>, Halt>
+    requires at_unit { R.rules.at_unit units.old }
+    requires of_profile { InProfile (part_of_field field.now).shape }
+    requires good { IsGoodDemand (part_of_field field.now).demand (part_of_field field.now).shape }
+    ensures at_unit { OnOk result (R.rules.at_unit units.new) }
+    ensures done { IfOk result (λ e. Reads R.rules (ReadingAfter (skipped_seen skipped.old.items)
+        (LooseEntry (loose_by R.rules R.loose) (part_of_field field.now).demand (part_of_field field.now).shape present))
+        (option_map datum_of e, skipped_seen skipped.new.items) units.old units.new) }
+    ensures stop { IfErr result (λ why. HaltsAt R.rules
+        (LooseEntry (loose_by R.rules R.loose) (part_of_field field.now).demand (part_of_field field.now).shape present)
+        units.old why) }
+{
+    if !present {
+        return Ok(absent(field));
+    }
+    match &field.need {
+        Need::Default(default) => Ok(Some(R::read_other(&field.ty, default, units)?)),
+        Need::Must | Need::Optional => Ok(Some(read::<R>(alloc, &field.ty, skipped, units)?)),
+    }
+}
+
+/// Reads the extension additions of a SEQUENCE of which one at least is present, appends the entries of those that the
+/// type has, and skips the others.
+#[cycle(newer)]
+pub(crate) fn read_additions<R: ReadVersions>(
+    alloc: Global,
+    fields: &[Field],
+    entries: &mut Vec<Option<Value>>,
+    skipped: &mut Vec<Skipped>,
+    units: &mut BitCursor<'_>,
+) -> Result<(), Halt>
+    requires at_unit { R.rules.at_unit units.old }
+    requires of_profile { AreOfProfile (fields_seen fields.now) }
+    requires few { length fields.now ≤ 64 }
+    ensures at_unit { OnOk result (R.rules.at_unit units.new) }
+    ensures done { OnOk result (Reads R.rules
+        (EntriesAfter (entries_seen entries.old.items) (skipped_seen skipped.old.items)
+        (LooseAdditions (loose_by R.rules R.loose) (fields_seen fields.now)))
+        (entries_seen entries.new.items, skipped_seen skipped.new.items) units.old units.new) }
+    ensures stop { IfErr result (λ why. HaltsAt R.rules
+        (LooseAdditions (loose_by R.rules R.loose) (fields_seen fields.now)) units.old why) }
+{
+    R::keep_walk_laws();
+    let presence = read_any_bitmap::<R>(units)?;
+    read_open_fields::<R>(alloc, fields, presence, entries, skipped, units)
+}
+
+/// Reads the extension additions that the presence bits tell, each an open type field.
+#[cycle(newer)]
+fn read_open_fields<R: ReadVersions>(
+    alloc: Global,
+    fields: &[Field],
+    presence: PresenceBits,
+    entries: &mut Vec<Option<Value>>,
+    skipped: &mut Vec<Skipped>,
+    units: &mut BitCursor<'_>,
+) -> Result<(), Halt>
+    requires at_unit { R.rules.at_unit units.old }
+    requires of_profile { AreOfProfile (fields_seen fields.now) }
+    requires few { length fields.now ≤ 64 }
+    requires few_bits { presence.left ≤ 64 }
+    ensures at_unit { OnOk result (R.rules.at_unit units.new) }
+    ensures done { OnOk result (Reads R.rules
+        (EntriesAfter (entries_seen entries.old.items) (skipped_seen skipped.old.items)
+        (LooseOpen (loose_by R.rules R.loose) 0 (fields_seen fields.now) (bits_left presence)))
+        (entries_seen entries.new.items, skipped_seen skipped.new.items) units.old units.new) }
+    ensures stop { IfErr result (λ why. HaltsAt R.rules
+        (LooseOpen (loose_by R.rules R.loose) 0 (fields_seen fields.now) (bits_left presence)) units.old why) }
+{
+    R::keep_walk_laws();
+    let mut presence = presence;
+    for field in fields {
+        let entry = if next_present(&mut presence) {
+            Some(read_known::<R>(alloc, &field.ty, skipped, units)?)
+        } else {
+            None
+        };
+        entries.push(entry)?;
+    }
+    skip_fields::<R>(alloc, fields.len() as u32, presence, skipped, units)
+}
+
+/// Appends an absent entry for each extension addition.
+pub(crate) fn push_absent(
+    additions: &[Field],
+    entries: &mut Vec<Option<Value>>,
+) -> Result<(), AllocError>
+    ensures { OnOk result (entries_seen entries.new.items
+        ≡ entries_seen entries.old.items ++ absent_entries (fields_seen additions.now)) }
+{
+    for _ in additions {
+        entries.push(None)?;
+    }
+    Ok(())
+}

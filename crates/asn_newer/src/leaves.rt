@@ -1,0 +1,40 @@
+//! What a set of encoding rules gives to the reader of messages of newer and older senders, beside its parts.
+ghost use Rattle.std.specs.Prelude.{◌≡◌, IfOk, IfErr, OnOk};
+ghost use Rattle.asn_values.specs.Profile.{InProfile};
+ghost use Rattle.asn_values.specs.Shape.{enumerated, marked_labels};
+ghost use Rattle.asn_values.specs.View.{labels_seen};
+ghost use Rattle.asn_walk.specs.Reading.{Reads};
+ghost use Rattle.asn_newer.specs.Halting.{HaltsAt};
+ghost use Rattle.asn_newer.specs.Walking.{loose_by, SameReadings, UnknownItem};
+ghost use Rattle.asn_newer.specs.Ways.{WayLaws};
+
+use crate::halt::Halt;
+use crate::laws::OtherVersions;
+use asn_bits::BitCursor;
+use asn_values::Item;
+use asn_walk::ReadLeaves;
+
+/// Encoding rules of which the parts and the unknown items can be read.
+pub trait ReadVersions: ReadLeaves + OtherVersions {
+    /// Reads the number that tells an item that an ENUMERATED with an extension mark has not.
+    fn read_unknown_item(
+        root: &[Item],
+        additions: &[Item],
+        units: &mut BitCursor<'_>,
+    ) -> Result<i128, Halt>
+        requires at_unit { Self.rules.at_unit units.old }
+        requires of_profile {
+            InProfile (enumerated (labels_seen root.now) (marked_labels (labels_seen additions.now))) }
+        ensures at_unit { OnOk result (Self.rules.at_unit units.new) }
+        ensures done { IfOk result (λ z.
+            Reads Self.rules (UnknownItem Self.loose (labels_seen root.now) (labels_seen additions.now)) z
+            units.old units.new) }
+        ensures stop { IfErr result (λ why. HaltsAt Self.rules
+            (UnknownItem Self.loose (labels_seen root.now) (labels_seen additions.now)) units.old why) };
+
+    /// What is said of versions is said of the parts that are read. The call does nothing: its clauses are what proofs
+    /// cite.
+    fn keep_walk_laws()
+        ensures same { SameReadings (loose_by Self.rules Self.loose) Self.loose }
+        ensures ways { WayLaws (loose_by Self.rules Self.loose) };
+}

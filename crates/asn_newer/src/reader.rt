@@ -16,8 +16,15 @@ ghost use Rattle.asn_walk.specs.Reading.{Reads};
 ghost use Rattle.asn_newer.specs.Halting.{HaltsAt};
 ghost use Rattle.asn_newer.specs.Loose.{Loose, LooseRoot, LooseAdded, Known};
 ghost use Rattle.asn_newer.specs.Reading.{skipped_seen};
-ghost use Rattle.asn_newer.specs.Walking.{loose_by, ReadingAfter, ItemsAfter, ReadsContent, HaltsContent,
-    IsMarkedSequence, IsMarkedChoice};
+ghost use Rattle.asn_newer.specs.Walking.{
+  loose_by,
+  ReadingAfter,
+  ItemsAfter,
+  ReadsContent,
+  HaltsContent,
+  IsMarkedSequence,
+  IsMarkedChoice,
+};
 
 use crate::components::{push_absent, read_additions, read_components};
 use crate::halt::Halt;
@@ -327,8 +334,7 @@ fn read_marked_choice<R: ReadVersions>(
     units: &mut BitCursor<'_>,
 ) -> Result<Value, Halt>
     requires at_unit { R.rules.at_unit units.old }
-    requires of_profile {
-        InProfile (choice (alternatives_seen root.now) (marked_choice (alternatives_seen additions.now))) }
+    requires of_profile { InProfile (choice (alternatives_seen root.now) (marked_choice (alternatives_seen additions.now))) }
     requires parts { IsMarkedChoice _ty.now root.now additions.now }
     ensures at_unit { OnOk result (R.rules.at_unit units.new) }
     ensures done { IfOk result (λ v. Reads R.rules (ReadingAfter (skipped_seen skipped.old.items)

@@ -18,3 +18,4 @@ pub mod ElementsRead
 pub mod ChoicesAndSequences
 pub mod PerItems
 pub mod OerItems
+pub mod MessagesRead

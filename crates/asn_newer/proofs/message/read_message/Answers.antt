@@ -18,4 +18,4 @@ returns-in-Err-clause-fault g c =
     let few : length c.args.octets.now ≤ max_octets = omega (arith, c.if-octets-gt-MAX_OCTETS.false) in
     let l = loose_by g.R.ReadLeaves.rules g.R.OtherVersions.loose in
     subst (λ (f : NewerFault). NotNewer g.R.OtherVersions.loose (shape_of c.args.ty.now) c.args.octets.now f) (sym c.fault_of.ensures)
-        (no_message l g.R.OtherVersions.loose c.keep_walk_laws.ensures.same (shape_of c.args.ty.now) c.args.octets.now few c.in-Err.halt (rw c.get.ensures.same at c.in-Err.ensures.stop))
+    (no_message l g.R.OtherVersions.loose c.keep_walk_laws.ensures.same (shape_of c.args.ty.now) c.args.octets.now few c.in-Err.halt (rw c.get.ensures.same at c.in-Err.ensures.stop))

@@ -20,3 +20,4 @@ pub mod Sizes
 pub mod ChoicesAndSequences
 pub mod PerItems
 pub mod OerItems
+pub mod MessagesRead

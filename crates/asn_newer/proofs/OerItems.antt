@@ -285,10 +285,13 @@ module _ (root additions : List Label) where
 
   number_of : (z : ℤ) (us r : List ℕ) → Spells oer_coding.ruling.fielding (UnknownItem oer_loose root additions) z us r → IsItemNumber z us r × AllByRecursion (λ (l : Label). IsTrue (int_lt l.number z)) (root ++ additions)
   unfolding oer_loose
-  number_of z us r k = (record {
+  number_of z us r k = (
+    record {
       narrow = k.spelt.fits.narrow;
       split = k.split ∙ ap (λ (cs : List Chunk). flat oer_coding.ruling.fielding.spelled cs ++ r) k.spelt.same ∙ ap (λ (l : List ℕ). l ++ r) (flat-ones oer_coding.ruling.fielding.spelled (item_number z));
-    }, k.spelt.fits.above)
+    },
+    k.spelt.fits.above,
+  )
 
   -- no number stands there
   pub no_number : (us : List ℕ) → ((z : ℤ) (r : List ℕ) → IsItemNumber z us r → ⊥) → NoSpelling oer_coding.ruling.fielding (UnknownItem oer_loose root additions) us

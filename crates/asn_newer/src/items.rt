@@ -54,8 +54,7 @@ fn read_unknown<R: ReadVersions>(
     units: &mut BitCursor<'_>,
 ) -> Result<Value, Halt>
     requires at_unit { R.rules.at_unit units.old }
-    requires of_profile {
-        InProfile (enumerated (labels_seen root.now) (marked_labels (labels_seen additions.now))) }
+    requires of_profile { InProfile (enumerated (labels_seen root.now) (marked_labels (labels_seen additions.now))) }
     ensures at_unit { OnOk result (R.rules.at_unit units.new) }
     ensures done { IfOk result (λ v. Reads R.rules
         (AnyItem (loose_by R.rules R.loose) (labels_seen root.now) (labels_seen additions.now))

@@ -23,8 +23,7 @@ pub trait ReadVersions: ReadLeaves + OtherVersions {
         units: &mut BitCursor<'_>,
     ) -> Result<i128, Halt>
         requires at_unit { Self.rules.at_unit units.old }
-        requires of_profile {
-            InProfile (enumerated (labels_seen root.now) (marked_labels (labels_seen additions.now))) }
+        requires of_profile { InProfile (enumerated (labels_seen root.now) (marked_labels (labels_seen additions.now))) }
         ensures at_unit { OnOk result (Self.rules.at_unit units.new) }
         ensures done { IfOk result (λ z.
             Reads Self.rules (UnknownItem Self.loose (labels_seen root.now) (labels_seen additions.now)) z

@@ -34,7 +34,7 @@ pub returns-else-is_above_each-clause-stop : goal.returns-else-is_above_each-cla
 unfolding oer_coding
 returns-else-is_above_each-clause-stop c =
     halts_none oer_coding (UnknownItem oer_loose (labels_seen c.args.root.now) (labels_seen c.args.additions.now)) (packed c.args.units.now) _ (not_above (labels_seen c.args.root.now) (labels_seen c.args.additions.now) c.in_ok-number.number _ (packed c.args.units.now) (packed c.read_number.new.units) c.in_ok-number.ensures.done refl
-        (λ e f. elim c.else-is_above_each.branch [
-          | else-is_above_each-via-then-is_above_each+else-is_above_each-2 w ↦ true≢false (sym f ∙ sym w.is_above_each-then-is_above_each.ensures ∙ w.if-is_above_each-2.false)
-          | else-is_above_each-via-else-is_above_each w ↦ true≢false (sym e ∙ sym c.is_above_each.ensures ∙ w.if-is_above_each.false)
-        ]))
+    (λ e f. elim c.else-is_above_each.branch [
+      | else-is_above_each-via-then-is_above_each+else-is_above_each-2 w ↦ true≢false (sym f ∙ sym w.is_above_each-then-is_above_each.ensures ∙ w.if-is_above_each-2.false)
+      | else-is_above_each-via-else-is_above_each w ↦ true≢false (sym e ∙ sym c.is_above_each.ensures ∙ w.if-is_above_each.false)
+    ]))

@@ -12,35 +12,35 @@ pub returns-in_default-clause-stop : goal.returns-in_default-clause-stop
 unfolding per_coding per_loose
 returns-in_default-clause-stop c =
     halts_none per_coding (UnknownItem per_loose (labels_seen c.args._root.now) (labels_seen c.args.additions.now)) c.args.units.now _
-        (no_index (labels_seen c.args._root.now) (labels_seen c.args.additions.now) c.args.units.now (none_empty (labels_seen c.args.additions.now) c.args.units.now (c.in_default.ensures.none.0 refl)))
+    (no_index (labels_seen c.args._root.now) (labels_seen c.args.additions.now) c.args.units.now (none_empty (labels_seen c.args.additions.now) c.args.units.now (c.in_default.ensures.none.0 refl)))
 
 pub returns-then-bit-eq0-clause-stop : goal.returns-then-bit-eq0-clause-stop
 unfolding per_coding per_loose
 returns-then-bit-eq0-clause-stop c =
     halts_none per_coding (UnknownItem per_loose (labels_seen c.args._root.now) (labels_seen c.args.additions.now)) c.args.units.now _
-        (no_index (labels_seen c.args._root.now) (labels_seen c.args.additions.now) c.args.units.now (none_root (labels_seen c.args.additions.now) c.args.units.now c.next.new.self c.in-Some.bit c.if-bit-eq0.true c.in-Some.ensures.some))
+    (no_index (labels_seen c.args._root.now) (labels_seen c.args.additions.now) c.args.units.now (none_root (labels_seen c.args.additions.now) c.args.units.now c.next.new.self c.in-Some.bit c.if-bit-eq0.true c.in-Some.ensures.some))
 
 pub returns-in_default-take_number-clause-stop : goal.returns-in_default-take_number-clause-stop
 unfolding per_coding per_loose
 returns-in_default-take_number-clause-stop c =
     halts_none per_coding (UnknownItem per_loose (labels_seen c.args._root.now) (labels_seen c.args.additions.now)) c.args.units.now _
-        (no_index (labels_seen c.args._root.now) (labels_seen c.args.additions.now) c.args.units.now (none_short (labels_seen c.args.additions.now) c.args.units.now c.next.new.self c.in-Some.bit c.in-Some.ensures.some (c.in_default-take_number.ensures.none.0 refl)))
+    (no_index (labels_seen c.args._root.now) (labels_seen c.args.additions.now) c.args.units.now (none_short (labels_seen c.args.additions.now) c.args.units.now c.next.new.self c.in-Some.bit c.in-Some.ensures.some (c.in_default-take_number.ensures.none.0 refl)))
 
 pub returns-then-index-additions-clause-stop : goal.returns-then-index-additions-clause-stop
 unfolding per_coding per_loose
 returns-then-index-additions-clause-stop c =
     halts_none per_coding (UnknownItem per_loose (labels_seen c.args._root.now) (labels_seen c.args.additions.now)) c.args.units.now _
-        (no_index (labels_seen c.args._root.now) (labels_seen c.args.additions.now) c.args.units.now
-          (none_else (labels_seen c.args.additions.now) c.args.units.now c.next.new.self c.take_number.new.self c.in-Some.bit c.in-Some-take_number.index c.in-Some.ensures.some c.in-Some-take_number.ensures.some c.in-Some-take_number.ensures.fits
-            (λ low high. omega (arith, low, high, few_labels c.args.additions.now, c.if-index-additions.true))))
+    (no_index (labels_seen c.args._root.now) (labels_seen c.args.additions.now) c.args.units.now
+    (none_else (labels_seen c.args.additions.now) c.args.units.now c.next.new.self c.take_number.new.self c.in-Some.bit c.in-Some-take_number.index c.in-Some.ensures.some c.in-Some-take_number.ensures.some c.in-Some-take_number.ensures.fits
+    (λ low high. omega (arith, low, high, few_labels c.args.additions.now, c.if-index-additions.true))))
 
 pub returns-then-index-gt63-clause-stop : goal.returns-then-index-gt63-clause-stop
 unfolding per_coding per_loose
 returns-then-index-gt63-clause-stop c =
     halts_none per_coding (UnknownItem per_loose (labels_seen c.args._root.now) (labels_seen c.args.additions.now)) c.args.units.now _
-        (no_index (labels_seen c.args._root.now) (labels_seen c.args.additions.now) c.args.units.now
-          (none_else (labels_seen c.args.additions.now) c.args.units.now c.next.new.self c.take_number.new.self c.in-Some.bit c.in-Some-take_number.index c.in-Some.ensures.some c.in-Some-take_number.ensures.some c.in-Some-take_number.ensures.fits
-            (λ low high. omega (arith, high, c.if-index-gt63.true))))
+    (no_index (labels_seen c.args._root.now) (labels_seen c.args.additions.now) c.args.units.now
+    (none_else (labels_seen c.args.additions.now) c.args.units.now c.next.new.self c.take_number.new.self c.in-Some.bit c.in-Some-take_number.index c.in-Some.ensures.some c.in-Some-take_number.ensures.some c.in-Some-take_number.ensures.fits
+    (λ low high. omega (arith, high, c.if-index-gt63.true))))
 
 pub returns-clause-at_unit : goal.returns-clause-at_unit
 unfolding per_coding per_loose
@@ -54,4 +54,4 @@ returns-clause-done c =
     let high : c.in-Some-take_number.index < 64 = omega (arith, c.if-index-gt63.false) in
     let low : length (labels_seen c.args.additions.now) ≤ c.in-Some-take_number.index = omega (arith, few_labels c.args.additions.now, c.if-index-additions.false) in
     subst (λ (z : ℤ). Spells per_coding.ruling.fielding (UnknownItem per_loose (labels_seen c.args._root.now) (labels_seen c.args.additions.now)) z c.args.units.now c.take_number.new.self) (index_told c.from.result c.in-Some-take_number.index c.from.ensures high)
-        (index_read (labels_seen c.args._root.now) (labels_seen c.args.additions.now) c.in-Some-take_number.index c.args.units.now c.next.new.self c.take_number.new.self e c.in-Some-take_number.ensures.some low high)
+    (index_read (labels_seen c.args._root.now) (labels_seen c.args.additions.now) c.in-Some-take_number.index c.args.units.now c.next.new.self c.take_number.new.self e c.in-Some-take_number.ensures.some low high)

@@ -2,6 +2,12 @@
 use Rattle.std.proofs.Common.{◌≡◌, ◌⊎◌, inl, inr, ⊎_elim, ℕ, ℤ, List, [], None, refl, sym, subst}
 use Rattle.asn_values.specs.Datum.{Datum, unknown_item}
 use Rattle.asn_values.specs.Shape.{Shape, Label, enumerated, marked_labels}
+use Rattle.asn_rules.specs.Chunks.{Chunk}
+use Rattle.asn_rules.specs.Stops.{Stops}
+use Rattle.asn_rules.specs.declared.fault.Why.{Why}
+use Rattle.asn_rules.specs.declared.stop.Stop.{Stop}
+use Rattle.asn_rules.specs.declared.stop.Stop.TheVariants as stop
+use Rattle.asn_walk.specs.Coding.{Coding}
 use Rattle.asn_rules.specs.Languages.{Spells, NoSpelling}
 use Rattle.asn_rules.specs.Listed.{Spelt}
 use Rattle.asn_rules.proofs.Parts.{map_source, map_spells}
@@ -26,3 +32,14 @@ module _ (l : LooseCoding) (root additions : List Label) (t : Shape) (is : t ≡
 -- one that it has not
 pub unknown_read : (l : LooseCoding) (root additions : List Label) (z : ℤ) (us r : List ℕ) → Spells l.coding.ruling.fielding (UnknownItem l root additions) z us r → Spells l.coding.ruling.fielding (AnyItem l root additions) (unknown_item z, []) us r
 unknown_read l root additions z us r k = record { chunks = k.chunks; spelt = inr (record { source = z; spelt = k.spelt; seen = refl }); contents = k.contents; split = k.split }
+
+-- where the reader of those that it has stops at the same units
+pub none_of_short : (c : Coding) (L : Datum → List Chunk → Type 0) (us vs : List ℕ) (why : Stop) → Stops c.ruling.fielding L vs why → why ≡ stop.Short → vs ≡ us → NoSpelling c.ruling.fielding L us
+none_of_short c L us vs why s e f =
+    let h : Stops c.ruling.fielding L us stop.Short = subst (λ (l : List ℕ). Stops c.ruling.fielding L l stop.Short) f (subst (λ (w : Stop). Stops c.ruling.fielding L vs w) e s) in
+    h.told.none
+
+pub none_of_refused : (c : Coding) (L : Datum → List Chunk → Type 0) (us vs : List ℕ) (why : Stop) {left : ℕ} {reason : Why} → Stops c.ruling.fielding L vs why → why ≡ stop.Refused left reason → vs ≡ us → NoSpelling c.ruling.fielding L us
+none_of_refused c L us vs why {left} {reason} s e f =
+    let h : Stops c.ruling.fielding L us (stop.Refused left reason) = subst (λ (l : List ℕ). Stops c.ruling.fielding L l (stop.Refused left reason)) f (subst (λ (w : Stop). Stops c.ruling.fielding L vs w) e s) in
+    h.told.none

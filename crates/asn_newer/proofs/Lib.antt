@@ -21,3 +21,4 @@ pub mod Sizes
 pub mod ChoicesAndSequences
 pub mod PerItems
 pub mod OerItems
+pub mod MessagesRead

@@ -1,9 +1,8 @@
-use Rattle.std.proofs.Common.{◌≡◌, ◌≤◌, ◌<◌, ◌*◌, ◌-◌, ℕ, ℤ, List, arith, sym, ap, subst, refl, ◌∙◌}
+use Rattle.std.proofs.Common.{◌≤◌, ◌-◌, ℤ, arith, sym, ap, subst, refl, ◌∙◌}
 use Rattle.std.proofs.lemmas.Bool.{true≢false}
-use Rattle.std.specs.Int.RustNames.{int_le, int_lt}
 use Rattle.asn_bits.specs.Numbers.{packed, signed_octet_count}
 use Rattle.asn_newer.specs.ItemNumbers.{IsItemNumber}
-use Rattle.asn_newer.proofs.OerItems.{is_short as short, none_here, short_read, none_of_count, none_behind, none_else, long_read, octets_behind, kept_32}
+use Rattle.asn_newer.proofs.OerItems.{is_short as short, none_of_count, none_behind, none_else, long_read, octets_behind, kept_32}
 use Rattle.asn_newer.proofs.oer_items.read_number.Goals.{then-count-eq0-via-then-count-eq0, then-count-eq0-via-else-count-eq0+then-count-gt4, then-is_short-via-then-is_short, then-is_short-via-else-is_short+then-signed_octet_count-count}
 use Rattle.asn_newer.proofs.oer_items.read_number.Goals as goal
 

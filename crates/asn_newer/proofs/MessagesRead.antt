@@ -1,0 +1,24 @@
+-- From a complete encoding that was read, or was not, to the answer of the reader of messages.
+use Rattle.std.proofs.Common.{◌≡◌, ◌≤◌, ℕ, List, [], ◌++◌, length, sym, ap, subst, ◌∙◌}
+use Rattle.asn_values.specs.Datum.{Datum}
+use Rattle.asn_values.specs.Shape.{Shape}
+use Rattle.asn_rules.specs.Answer.{max_octets}
+use Rattle.asn_newer.specs.Skipped.{Skipped}
+use Rattle.asn_newer.specs.Loose.{LooseCoding, Complete, Loose, IsLoose}
+use Rattle.asn_newer.specs.Reading.{NotNewer, fault_of}
+use Rattle.asn_newer.specs.Walking.{SameReadings, ReadsContent, HaltsContent}
+use Rattle.asn_newer.specs.declared.halt.Halt.{Halt}
+use Rattle.asn_newer.specs.declared.halt.Halt.TheVariants as halt
+
+module _ (l m : LooseCoding) (same : SameReadings l m) (t : Shape) (o : List ℕ) where
+  -- nothing was skipped before
+  pub message_read : (before : List Skipped) (v : Datum) (after : List Skipped) → before ≡ [] → ReadsContent l t before v after o → IsLoose m t v after o
+  message_read before v after e h =
+      let s : after ≡ h.skipped = h.same ∙ ap (λ (b : List Skipped). b ++ h.skipped) e in
+      same.to t v after o (subst (λ (k : List Skipped). Complete l.coding (Loose l t) (v, k) o) (sym s) h.complete)
+
+  pub no_message : length o ≤ max_octets → (why : Halt) → HaltsContent l t o why → NotNewer m t o (fault_of why)
+  no_message few halt.Refused h = (few, λ v s x. h.told (v, s) (same.from t v s o x))
+  no_message few halt.Short h = (few, λ v s x. h.told (v, s) (same.from t v s o x))
+  no_message few halt.TooMany h = (few, λ v s x. h.told (v, s) (same.from t v s o x))
+  no_message few halt.Memory h = few

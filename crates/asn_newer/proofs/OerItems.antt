@@ -16,7 +16,7 @@ use Rattle.asn_bits.proofs.Splits.{unpacked-octets}
 use Rattle.asn_rules.specs.Counted.{signed_number}
 use Rattle.asn_rules.specs.OctetReading.{AtOctet}
 use Rattle.asn_rules.proofs.CountedCodes.{residue_of, number_again}
-use Rattle.asn_rules.proofs.OctetLengths.{one_is}
+use Rattle.asn_bits.proofs.LengthsInOctets.{one_is}
 use Rattle.asn_rules.proofs.SignedNumbers.{number_neg}
 use Rattle.asn_rules.proofs.Octetwise.{packed_front}
 use Rattle.asn_rules.specs.Chunks.{Chunk, ones, flat}

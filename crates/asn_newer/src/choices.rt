@@ -59,8 +59,7 @@ pub(crate) fn read_marked_choice<R: ReadVersions>(
     units: &mut BitCursor<'_>,
 ) -> Result<Value, Halt>
     requires at_unit { R.rules.at_unit units.old }
-    requires of_profile {
-        InProfile (choice (alternatives_seen root.now) (marked_choice (alternatives_seen additions.now))) }
+    requires of_profile { InProfile (choice (alternatives_seen root.now) (marked_choice (alternatives_seen additions.now))) }
     requires parts { IsMarkedChoice _ty.now root.now additions.now }
     ensures at_unit { OnOk result (R.rules.at_unit units.new) }
     ensures done { IfOk result (λ v. Reads R.rules (ReadingAfter (skipped_seen skipped.old.items)

@@ -14,8 +14,14 @@ ghost use Rattle.asn_walk.specs.Reading.{Reads};
 ghost use Rattle.asn_newer.specs.Halting.{HaltsAt};
 ghost use Rattle.asn_newer.specs.Loose.{Loose, Known};
 ghost use Rattle.asn_newer.specs.Reading.{skipped_seen};
-ghost use Rattle.asn_newer.specs.Walking.{loose_by, ReadingAfter, ItemsAfter, ReadsContent, HaltsContent,
-    IsMarkedSequence};
+ghost use Rattle.asn_newer.specs.Walking.{
+  loose_by,
+  ReadingAfter,
+  ItemsAfter,
+  ReadsContent,
+  HaltsContent,
+  IsMarkedSequence,
+};
 
 use crate::choices::{read_closed_choice, read_marked_choice};
 use crate::components::{push_absent, read_additions, read_components};

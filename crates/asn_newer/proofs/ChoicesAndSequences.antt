@@ -103,7 +103,6 @@ module _ (l : LooseCoding) (h : WayLaws l) (fs : Fields) (us : List ℕ) where
 -- ---- CHOICE
 
 module _ (l : LooseCoding) (h : WayLaws l) (root : Alternatives) (more : MoreAlternatives) (good : InProfile (choice root more)) (us : List ℕ) where
-
   choice_on : Onward l.coding.ruling.fielding (Then (IndexOf l.coding (count root) (alternatives_to_come root more)) (by_index (λ i. LooseRoot l i root i) (λ i. LooseOther l (count root) more i))) us behind_first (Loose l (choice root more)) us
   choice_on = mapped l.coding.ruling.fielding behind_first (Then (IndexOf l.coding (count root) (alternatives_to_come root more)) (by_index (λ i. LooseRoot l i root i) (λ i. LooseOther l (count root) more i))) us
 

@@ -168,11 +168,11 @@ module _ (l : LooseCoding) (h : WayLaws l) (L : Reading → List Chunk → Type 
             go (lengths is come closed) e o = ⊎_elim
                 (λ x. last_items x.1 (on (second {M = Body L (General L) (At (Spanned is) come closed)} (header_way (part l h) (At (Spanned is) come closed)) x.0) (on (behind_header is come closed vs) o)))
                 (λ x.
-                    (let S = At (Spanned is) come closed in
-                    let f : Onward R (Map together (Then (Row L (16384 * x.0)) (λ _. General L (Left S x.0)))) r (put_items ds ss) T us = on (second {M = Body L (General L) S} (header_way (part l h) S) x.1) (on (behind_header is come closed vs) o) in
-                    let b : Spells R (Row L (16384 * x.0)) rows r t = subst (λ (j : ℕ). Spells R (Row L j) rows r t) x.2 row in
-                    let q = on (second {M = λ _. General L (Left S x.0)} (row_way (part l h) way (16384 * x.0)) b) (on (mapped R together (Then (Row L (16384 * x.0)) (λ _. General L (Left S x.0))) r) f) in
-                    subst (λ (a : Ahead). Onward R (Remaining L a) t (put_items es now) T us) (sym x.3) (moved (on (alike R t (same_flip (left_ahead is come x.0 closed x.1 x.2))) q))))
+                (let S = At (Spanned is) come closed in
+                let f : Onward R (Map together (Then (Row L (16384 * x.0)) (λ _. General L (Left S x.0)))) r (put_items ds ss) T us = on (second {M = Body L (General L) S} (header_way (part l h) S) x.1) (on (behind_header is come closed vs) o) in
+                let b : Spells R (Row L (16384 * x.0)) rows r t = subst (λ (j : ℕ). Spells R (Row L j) rows r t) x.2 row in
+                let q = on (second {M = λ _. General L (Left S x.0)} (row_way (part l h) way (16384 * x.0)) b) (on (mapped R together (Then (Row L (16384 * x.0)) (λ _. General L (Left S x.0))) r) f) in
+                subst (λ (a : Ahead). Onward R (Remaining L a) t (put_items es now) T us) (sym x.3) (moved (on (alike R t (same_flip (left_ahead is come x.0 closed x.1 x.2))) q))))
                 e.read
 
 -- ---- the type

@@ -2,6 +2,7 @@
 #![tactic(auto)]
 
 mod bitmaps;
+mod choices;
 mod components;
 mod fault;
 mod halt;

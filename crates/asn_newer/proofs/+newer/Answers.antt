@@ -273,18 +273,18 @@ pub reader::read_elements-returns-clause-done : goal.reader::read_elements-retur
 reader::read_elements-returns-clause-done g t c =
     row_ends (c.args.count - c.loop-i.i) (omega (arith, c.loop-i-test.false)) c.loop-i.invariant.0
 
-pub reader::read_root_alternative-read-requires : goal.reader::read_root_alternative-read-requires
-reader::read_root_alternative-read-requires g t c κs within =
+pub choices::read_root_alternative-read-requires : goal.choices::read_root_alternative-read-requires
+choices::read_root_alternative-read-requires g t c κs within =
     (search (rules, the_lemmas), (within.0, (within.1, (c.requires.at_unit, good_at c.args.root.now c.args.index c.index-root-index.result c.requires.of_profile c.requires.inside))))
 
-pub reader::read_root_alternative-returns-in_err-value-clause-stop : goal.reader::read_root_alternative-returns-in_err-value-clause-stop
-reader::read_root_alternative-returns-in_err-value-clause-stop g t c =
+pub choices::read_root_alternative-returns-in_err-value-clause-stop : goal.choices::read_root_alternative-returns-in_err-value-clause-stop
+choices::read_root_alternative-returns-in_err-value-clause-stop g t c =
     let o = root_at (loose_by g.R.ReadLeaves.rules g.R.OtherVersions.loose) c.args.index c.args.root.now c.args.index c.index-root-index.result (g.R.ReadLeaves.rules.to_units c.args.units.now) c.requires.inside in
     let p = err_from_is_err_and c.from_residual.result c.from_residual.ensures.1 in
     rw (p.1, p.2) (halts_on _ o.none c.in_err-value.ensures.stop)
 
-pub reader::read_root_alternative-returns-clause-done : goal.reader::read_root_alternative-returns-clause-done
-reader::read_root_alternative-returns-clause-done g t c =
+pub choices::read_root_alternative-returns-clause-done : goal.choices::read_root_alternative-returns-clause-done
+choices::read_root_alternative-returns-clause-done g t c =
     let o = root_at (loose_by g.R.ReadLeaves.rules g.R.OtherVersions.loose) c.args.index c.args.root.now c.args.index c.index-root-index.result (g.R.ReadLeaves.rules.to_units c.args.units.now) c.requires.inside in
     rw c.in_ok-chosen.ensures (taken_on (alternative c.args.index) (skipped_seen c.args.skipped.now.items) (datum_of c.in_ok-value.value) o c.in_ok-value.ensures.done)
 
@@ -438,28 +438,28 @@ reader::read-returns-in_ok-read_simple-in-Bool-clause-done g t c =
     let o = plain_on l (g.R.ReadLeaves.rules.to_units c.args.units.now) c.args.ty.now c.in-Bool.is in
     none_taken (skipped_seen c.args.skipped.now.items) (o.done (datum_of c.in_ok-read_simple-in-Bool.field-0) (g.R.ReadLeaves.rules.to_units c.read_simple-in-Bool.new.units) c.in_ok-read_simple-in-Bool.ensures.done)
 
-pub reader::read_added_alternative-read_known-requires : goal.reader::read_added_alternative-read_known-requires
-reader::read_added_alternative-read_known-requires g t c κs within =
+pub choices::read_added_alternative-read_known-requires : goal.choices::read_added_alternative-read_known-requires
+choices::read_added_alternative-read_known-requires g t c κs within =
     (search (rules, the_lemmas), (within.0, (within.1, (c.requires.at_unit, good_at c.args.added.now c.args.index c.index-added-index.result c.requires.of_profile c.if-index-added.true))))
 
-pub reader::read_added_alternative-returns-in_err-value-clause-stop : goal.reader::read_added_alternative-returns-in_err-value-clause-stop
-reader::read_added_alternative-returns-in_err-value-clause-stop g t c =
+pub choices::read_added_alternative-returns-in_err-value-clause-stop : goal.choices::read_added_alternative-returns-in_err-value-clause-stop
+choices::read_added_alternative-returns-in_err-value-clause-stop g t c =
     let o = added_at (loose_by g.R.ReadLeaves.rules g.R.OtherVersions.loose) c.args.tag c.args.index c.args.added.now c.args.index c.index-added-index.result (g.R.ReadLeaves.rules.to_units c.args.units.now) c.if-index-added.true in
     let p = err_from_is_err_and c.from_residual.result c.from_residual.ensures.1 in
     rw (p.1, p.2) (halts_on _ o.none c.in_err-value.ensures.stop)
 
-pub reader::read_added_alternative-returns-then-index-added-clause-done : goal.reader::read_added_alternative-returns-then-index-added-clause-done
-reader::read_added_alternative-returns-then-index-added-clause-done g t c =
+pub choices::read_added_alternative-returns-then-index-added-clause-done : goal.choices::read_added_alternative-returns-then-index-added-clause-done
+choices::read_added_alternative-returns-then-index-added-clause-done g t c =
     let o = added_at (loose_by g.R.ReadLeaves.rules g.R.OtherVersions.loose) c.args.tag c.args.index c.args.added.now c.args.index c.index-added-index.result (g.R.ReadLeaves.rules.to_units c.args.units.now) c.if-index-added.true in
     rw c.in_ok-chosen.ensures (taken_on (alternative c.args.tag) (skipped_seen c.args.skipped.now.items) (datum_of c.in_ok-value.value) o c.in_ok-value.ensures.done)
 
-pub reader::read_added_alternative-returns-in_err-skip_field-clause-stop : goal.reader::read_added_alternative-returns-in_err-skip_field-clause-stop
-reader::read_added_alternative-returns-in_err-skip_field-clause-stop g t c =
+pub choices::read_added_alternative-returns-in_err-skip_field-clause-stop : goal.choices::read_added_alternative-returns-in_err-skip_field-clause-stop
+choices::read_added_alternative-returns-in_err-skip_field-clause-stop g t c =
     let p = err_from_is_err_and c.from_residual-in_err-skip_field.result c.from_residual-in_err-skip_field.ensures.1 in
     rw (p.1, p.2) (halts_on _ (unknown_at (loose_by g.R.ReadLeaves.rules g.R.OtherVersions.loose) c.args.tag c.args.index c.args.added.now c.args.index (g.R.ReadLeaves.rules.to_units c.args.units.now) c.if-index-added.false).none c.in_err-skip_field.ensures.stop)
 
-pub reader::read_added_alternative-returns-clause-done : goal.reader::read_added_alternative-returns-clause-done
-reader::read_added_alternative-returns-clause-done g t c =
+pub choices::read_added_alternative-returns-clause-done : goal.choices::read_added_alternative-returns-clause-done
+choices::read_added_alternative-returns-clause-done g t c =
     rw (datum_of-UnknownAlternative c.args.tag) (alternative_missed (loose_by g.R.ReadLeaves.rules g.R.OtherVersions.loose) c.args.tag c.args.index c.args.added.now c.args.index (skipped_seen c.args.skipped.now.items) c.if-index-added.false c.in_ok-skip_field.ensures.done)
 
 pub reader::read_closed-bitmap_width-width-requires : goal.reader::read_closed-bitmap_width-width-requires
@@ -471,37 +471,37 @@ reader::read_closed-read_components-requires g t c κs within =
     let room : vec_len c.in_ok-entries.entries + length c.args.root.now ≤ vec_capacity c.in_ok-entries.entries = omega (arith, c.in_ok-entries.ensures.len, c.in_ok-entries.ensures.capacity) in
     (search (rules, the_lemmas), (within.0, (within.1, (c.in_ok-preamble.ensures.at_unit, (components_of_profile (fields_seen c.args.root.now) closed c.requires.of_profile, (c.bitmap_width-width.ensures.count, (c.bitmap_width-width.ensures.few, room)))))))
 
-pub reader::read_closed_choice-read_index-requires-clause-some : goal.reader::read_closed_choice-read_index-requires-clause-some
-reader::read_closed_choice-read_index-requires-clause-some g t c =
+pub choices::read_closed_choice-read_index-requires-clause-some : goal.choices::read_closed_choice-read_index-requires-clause-some
+choices::read_closed_choice-read_index-requires-clause-some g t c =
     some_known c.args.root.now closed_choice c.requires.of_profile
 
-pub reader::read_closed_choice-read_index-requires-clause-few : goal.reader::read_closed_choice-read_index-requires-clause-few
-reader::read_closed_choice-read_index-requires-clause-few g t c =
+pub choices::read_closed_choice-read_index-requires-clause-few : goal.choices::read_closed_choice-read_index-requires-clause-few
+choices::read_closed_choice-read_index-requires-clause-few g t c =
     few_closed c.args.root.now c.requires.of_profile
 
-pub reader::read_closed_choice-returns-in_err-index-clause-stop : goal.reader::read_closed_choice-returns-in_err-index-clause-stop
-reader::read_closed_choice-returns-in_err-index-clause-stop g t c =
+pub choices::read_closed_choice-returns-in_err-index-clause-stop : goal.choices::read_closed_choice-returns-in_err-index-clause-stop
+choices::read_closed_choice-returns-in_err-index-clause-stop g t c =
     let l = loose_by g.R.ReadLeaves.rules g.R.OtherVersions.loose in
     let ways = c.keep_walk_laws.ensures.ways in
     let p = err_from_is_err_and c.from_residual.result c.from_residual.ensures.1 in
     rw (p.1, p.2) (stops_on _ (closed_none l ways c.args.root.now c.requires.of_profile (g.R.ReadLeaves.rules.to_units c.args.units.now)) c.in_err-index.ensures.stop)
 
-pub reader::read_closed_choice-read_root_alternative-requires : goal.reader::read_closed_choice-read_root_alternative-requires
-reader::read_closed_choice-read_root_alternative-requires g t c κs within =
+pub choices::read_closed_choice-read_root_alternative-requires : goal.choices::read_closed_choice-read_root_alternative-requires
+choices::read_closed_choice-read_root_alternative-requires g t c κs within =
     let index : IsIndexWithin (length c.args.root.now) None (index_seen c.in_ok-index.field-0) = c.in_ok-index.ensures.done.spelt.fits in
     let inside : c.in-Root.index < length c.args.root.now = rw c.in-Root.is at index in
     let few = few_closed c.args.root.now c.requires.of_profile in
     (search (rules, the_lemmas), (within.0, (within.1, (c.in_ok-index.ensures.at_unit, (root_good (alternatives_seen c.args.root.now) closed_choice c.requires.of_profile, (inside, omega (arith, inside, few)))))))
 
-pub reader::read_closed_choice-returns-clause-done : goal.reader::read_closed_choice-returns-clause-done
-reader::read_closed_choice-returns-clause-done g t c =
+pub choices::read_closed_choice-returns-clause-done : goal.choices::read_closed_choice-returns-clause-done
+choices::read_closed_choice-returns-clause-done g t c =
     let l = loose_by g.R.ReadLeaves.rules g.R.OtherVersions.loose in
     let ways = c.keep_walk_laws.ensures.ways in
     let k : Spells g.R.ReadLeaves.rules.ruling.fielding (IndexOf g.R.ReadLeaves.rules (length c.args.root.now) None) (inl c.in-Root.index) (g.R.ReadLeaves.rules.to_units c.args.units.now) (g.R.ReadLeaves.rules.to_units c.read_index.new.units) = rw c.in-Root.is at c.in_ok-index.ensures.done in
     IfOk-weaker c.read_root_alternative.result _ _ (λ v s. taken_on (λ d. d) (skipped_seen c.args.skipped.now.items) (datum_of v) (closed_on l ways c.args.root.now c.requires.of_profile (g.R.ReadLeaves.rules.to_units c.args.units.now) k) s) c.read_root_alternative.ensures.done
 
-pub reader::read_closed_choice-returns-clause-stop : goal.reader::read_closed_choice-returns-clause-stop
-reader::read_closed_choice-returns-clause-stop g t c =
+pub choices::read_closed_choice-returns-clause-stop : goal.choices::read_closed_choice-returns-clause-stop
+choices::read_closed_choice-returns-clause-stop g t c =
     let l = loose_by g.R.ReadLeaves.rules g.R.OtherVersions.loose in
     let ways = c.keep_walk_laws.ensures.ways in
     let k : Spells g.R.ReadLeaves.rules.ruling.fielding (IndexOf g.R.ReadLeaves.rules (length c.args.root.now) None) (inl c.in-Root.index) (g.R.ReadLeaves.rules.to_units c.args.units.now) (g.R.ReadLeaves.rules.to_units c.read_index.new.units) = rw c.in-Root.is at c.in_ok-index.ensures.done in
@@ -556,63 +556,63 @@ reader::read_marked-returns-clause-done g t c =
       | reader::read_marked-else-preamble+in_ok-push_absent w ↦ rw (w.entries-is, w.units-is, w.skipped-is, datum_of-Seq w.push_absent.new.entries) (sequence_done l ways (fields_seen c.args.root.now) (marked (fields_seen c.args.additions.now)) c.requires.of_profile (g.R.ReadLeaves.rules.to_units c.args.units.now) (rw (c.bitmap_width-width.ensures.count, w.if-preamble.false) at c.in_ok-preamble.ensures.done) (skipped_seen c.args.skipped.now.items) each (rw w.in_ok-push_absent.ensures (none_present l (fields_seen c.args.additions.now) (entries_seen c.read_components.new.entries.items) (skipped_seen c.read_components.new.skipped.items) (g.R.ReadLeaves.rules.to_units c.read_components.new.units))))
     ]
 
-pub reader::read_marked_choice-overflow_sub-known : goal.reader::read_marked_choice-overflow_sub-known
-reader::read_marked_choice-overflow_sub-known g t c =
+pub choices::read_marked_choice-overflow_sub-known : goal.choices::read_marked_choice-overflow_sub-known
+choices::read_marked_choice-overflow_sub-known g t c =
     omega (arith, few_marked c.args.root.now c.args.additions.now c.requires.of_profile)
 
-pub reader::read_marked_choice-read_index-requires-clause-some : goal.reader::read_marked_choice-read_index-requires-clause-some
-reader::read_marked_choice-read_index-requires-clause-some g t c =
+pub choices::read_marked_choice-read_index-requires-clause-some : goal.choices::read_marked_choice-read_index-requires-clause-some
+choices::read_marked_choice-read_index-requires-clause-some g t c =
     some_known c.args.root.now (marked_choice (alternatives_seen c.args.additions.now)) c.requires.of_profile
 
-pub reader::read_marked_choice-read_index-requires-clause-few : goal.reader::read_marked_choice-read_index-requires-clause-few
-reader::read_marked_choice-read_index-requires-clause-few g t c =
+pub choices::read_marked_choice-read_index-requires-clause-few : goal.choices::read_marked_choice-read_index-requires-clause-few
+choices::read_marked_choice-read_index-requires-clause-few g t c =
     omega (arith, few_marked c.args.root.now c.args.additions.now c.requires.of_profile)
 
-pub reader::read_marked_choice-returns-in_err-index-clause-stop : goal.reader::read_marked_choice-returns-in_err-index-clause-stop
-reader::read_marked_choice-returns-in_err-index-clause-stop g t c =
+pub choices::read_marked_choice-returns-in_err-index-clause-stop : goal.choices::read_marked_choice-returns-in_err-index-clause-stop
+choices::read_marked_choice-returns-in_err-index-clause-stop g t c =
     let l = loose_by g.R.ReadLeaves.rules g.R.OtherVersions.loose in
     let ways = c.keep_walk_laws.ensures.ways in
     let p = err_from_is_err_and c.from_residual.result c.from_residual.ensures.1 in
     rw (p.1, p.2) (stops_on _ (marked_none l ways c.args.root.now c.args.additions.now c.requires.of_profile (g.R.ReadLeaves.rules.to_units c.args.units.now)) c.in_err-index.ensures.stop)
 
-pub reader::read_marked_choice-read_root_alternative-requires : goal.reader::read_marked_choice-read_root_alternative-requires
-reader::read_marked_choice-read_root_alternative-requires g t c κs within =
+pub choices::read_marked_choice-read_root_alternative-requires : goal.choices::read_marked_choice-read_root_alternative-requires
+choices::read_marked_choice-read_root_alternative-requires g t c κs within =
     let small = alternatives_smaller c.args._ty.now c.requires.parts.alternatives c.requires.parts.more c.args.root.now c.requires.parts.is c.requires.parts.root_is in
     let index : IsIndexWithin (length c.args.root.now) (Some (63 - length c.args.root.now)) (index_seen c.in_ok-index.field-0) = c.in_ok-index.ensures.done.spelt.fits in
     let inside : c.in-Root.index < length c.args.root.now = rw c.in-Root.is at index in
     let few = few_marked c.args.root.now c.args.additions.now c.requires.of_profile in
     (search (rules, the_lemmas, small), (within.0, (within.1, (c.in_ok-index.ensures.at_unit, (root_good (alternatives_seen c.args.root.now) (marked_choice (alternatives_seen c.args.additions.now)) c.requires.of_profile, (inside, omega (arith, inside, few)))))))
 
-pub reader::read_marked_choice-read_added_alternative-requires : goal.reader::read_marked_choice-read_added_alternative-requires
-reader::read_marked_choice-read_added_alternative-requires g t c κs within =
+pub choices::read_marked_choice-read_added_alternative-requires : goal.choices::read_marked_choice-read_added_alternative-requires
+choices::read_marked_choice-read_added_alternative-requires g t c κs within =
     let small = added_smaller c.args._ty.now c.requires.parts.alternatives c.requires.parts.more c.args.additions.now c.requires.parts.is c.requires.parts.additions_are in
     let index : IsIndexWithin (length c.args.root.now) (Some (63 - length c.args.root.now)) (index_seen c.in_ok-index.field-0) = c.in_ok-index.ensures.done.spelt.fits in
     let inside : c.in-Added.index < 63 - length c.args.root.now = rw c.in-Added.is at index in
     (search (rules, the_lemmas, small), (within.0, (within.1, (c.in_ok-index.ensures.at_unit, (added_good (alternatives_seen c.args.root.now) (marked_choice (alternatives_seen c.args.additions.now)) c.requires.of_profile, (omega (arith, inside), omega (arith, inside)))))))
 
-pub reader::read_marked_choice-returns-in-Root-clause-done : goal.reader::read_marked_choice-returns-in-Root-clause-done
-reader::read_marked_choice-returns-in-Root-clause-done g t c =
+pub choices::read_marked_choice-returns-in-Root-clause-done : goal.choices::read_marked_choice-returns-in-Root-clause-done
+choices::read_marked_choice-returns-in-Root-clause-done g t c =
     let l = loose_by g.R.ReadLeaves.rules g.R.OtherVersions.loose in
     let ways = c.keep_walk_laws.ensures.ways in
     let k : Spells g.R.ReadLeaves.rules.ruling.fielding (IndexOf g.R.ReadLeaves.rules (length c.args.root.now) (Some (63 - length c.args.root.now))) (inl c.in-Root.index) (g.R.ReadLeaves.rules.to_units c.args.units.now) (g.R.ReadLeaves.rules.to_units c.read_index.new.units) = rw c.in-Root.is at c.in_ok-index.ensures.done in
     IfOk-weaker c.read_root_alternative.result _ _ (λ v s. taken_on (λ d. d) (skipped_seen c.args.skipped.now.items) (datum_of v) (marked_root_on l ways c.args.root.now c.args.additions.now c.requires.of_profile (g.R.ReadLeaves.rules.to_units c.args.units.now) k) s) c.read_root_alternative.ensures.done
 
-pub reader::read_marked_choice-returns-in-Root-clause-stop : goal.reader::read_marked_choice-returns-in-Root-clause-stop
-reader::read_marked_choice-returns-in-Root-clause-stop g t c =
+pub choices::read_marked_choice-returns-in-Root-clause-stop : goal.choices::read_marked_choice-returns-in-Root-clause-stop
+choices::read_marked_choice-returns-in-Root-clause-stop g t c =
     let l = loose_by g.R.ReadLeaves.rules g.R.OtherVersions.loose in
     let ways = c.keep_walk_laws.ensures.ways in
     let k : Spells g.R.ReadLeaves.rules.ruling.fielding (IndexOf g.R.ReadLeaves.rules (length c.args.root.now) (Some (63 - length c.args.root.now))) (inl c.in-Root.index) (g.R.ReadLeaves.rules.to_units c.args.units.now) (g.R.ReadLeaves.rules.to_units c.read_index.new.units) = rw c.in-Root.is at c.in_ok-index.ensures.done in
     IfErr-weaker c.read_root_alternative.result _ _ (λ why s. halts_on why (marked_root_on l ways c.args.root.now c.args.additions.now c.requires.of_profile (g.R.ReadLeaves.rules.to_units c.args.units.now) k).none s) c.read_root_alternative.ensures.stop
 
-pub reader::read_marked_choice-returns-in-Added-clause-done : goal.reader::read_marked_choice-returns-in-Added-clause-done
-reader::read_marked_choice-returns-in-Added-clause-done g t c =
+pub choices::read_marked_choice-returns-in-Added-clause-done : goal.choices::read_marked_choice-returns-in-Added-clause-done
+choices::read_marked_choice-returns-in-Added-clause-done g t c =
     let l = loose_by g.R.ReadLeaves.rules g.R.OtherVersions.loose in
     let ways = c.keep_walk_laws.ensures.ways in
     let k : Spells g.R.ReadLeaves.rules.ruling.fielding (IndexOf g.R.ReadLeaves.rules (length c.args.root.now) (Some (63 - length c.args.root.now))) (inr c.in-Added.index) (g.R.ReadLeaves.rules.to_units c.args.units.now) (g.R.ReadLeaves.rules.to_units c.read_index.new.units) = rw c.in-Added.is at c.in_ok-index.ensures.done in
     IfOk-weaker c.read_added_alternative.result _ _ (λ v s. taken_on (λ d. d) (skipped_seen c.args.skipped.now.items) (datum_of v) (marked_added_on l ways c.args.root.now c.args.additions.now c.requires.of_profile (g.R.ReadLeaves.rules.to_units c.args.units.now) k) s) c.read_added_alternative.ensures.done
 
-pub reader::read_marked_choice-returns-in-Added-clause-stop : goal.reader::read_marked_choice-returns-in-Added-clause-stop
-reader::read_marked_choice-returns-in-Added-clause-stop g t c =
+pub choices::read_marked_choice-returns-in-Added-clause-stop : goal.choices::read_marked_choice-returns-in-Added-clause-stop
+choices::read_marked_choice-returns-in-Added-clause-stop g t c =
     let l = loose_by g.R.ReadLeaves.rules g.R.OtherVersions.loose in
     let ways = c.keep_walk_laws.ensures.ways in
     let k : Spells g.R.ReadLeaves.rules.ruling.fielding (IndexOf g.R.ReadLeaves.rules (length c.args.root.now) (Some (63 - length c.args.root.now))) (inr c.in-Added.index) (g.R.ReadLeaves.rules.to_units c.args.units.now) (g.R.ReadLeaves.rules.to_units c.read_index.new.units) = rw c.in-Added.is at c.in_ok-index.ensures.done in

@@ -49,7 +49,7 @@ impl OctetLengths {
     }
 
     /// Takes the next octet and says what is known: `Number(n)` where the octets are the length n of the set. An octet
-    /// with which no length of the set goes on is `Dead`, also behind a whole length, and then nothing has changed.
+    /// with which no length of the set goes on is `Dead`, also after a whole length, and then nothing has changed.
     pub fn octet(&mut self, octet: u8) -> FieldState
         ensures state { TellsOctets (Spanned self.old.counts) (self.old.given ++ octet ∷ []) result }
         ensures goes { TakesOctet self.old octet result self.new }
@@ -163,7 +163,7 @@ fn lengths_after(state: OctetState) -> (u64, u64)
     }
 }
 
-/// The least length that has `count` octets behind the first one.
+/// The least length that has `count` octets after the first one.
 fn least_long(count: u32) -> u64
     requires some { 1 ≤ count }
     requires few { count ≤ 4 }

@@ -12,7 +12,7 @@ AreBits us = AllByRecursion (λ u. u < 2) us
 
 -- ---- lists of bits
 
--- bits behind bits are bits
+-- bits after bits are bits
 pub bits_append : (xs ys : List ℕ) → AreBits xs → AreBits ys → AreBits (xs ++ ys)
 bits_append [] ys p q = q
 bits_append (x ∷ xs) ys p q = (p.0, bits_append xs ys p.1 q)

@@ -31,7 +31,7 @@ quotient_range l p n =
       λ h. (let a = above.1 h.0 in let b = below.1 h.1 in omega (arith, a, b)),
     )
 
--- what so many bits hold, split at any place
+-- what this many bits hold, split anywhere
 pub power_split : (k l : ℕ) → l ≤ k → 2 ^ k ≡ 2 ^ (k - l) * 2 ^ l
 power_split k l h = (let e : k ≡ k - l + l = omega arith in ap (λ i. 2 ^ i) e ∙ pow-add 2 (k - l) l)
 
@@ -45,7 +45,7 @@ number_begins k l p n h e =
     let w : k ≡ k - l + l = omega arith in
     ap (λ i. bits i n) w ∙ digits-add 2 (k - l) l n ∙ ap (λ q. bits (k - l) q ++ bits l n) e
 
--- and the other way round, whatever stands behind
+-- and the other way round, whatever follows
 pub number_front : (k l p n : ℕ) (u t : List ℕ) → l ≤ k → p < 2 ^ (k - l) → n < 2 ^ k → bits k n ++ u ≡ bits (k - l) p ++ t → n / 2 ^ l ≡ p
 number_front k l p n u t h w m e =
     let two : 0 < 2 = omega arith in
@@ -68,7 +68,7 @@ first_many n l h = (let a : nat_lt n 16384 ≡ true = lt-ltb n 16384 h in let b 
 pub first_fragment : (n : ℕ) → 16384 ≤ n → first_length n ≡ fragment (blocks n)
 first_fragment n l = (let a : nat_lt n 16384 ≡ false = le-ltb n 16384 l in rw (first_length, a) refl)
 
--- ---- places
+-- ---- the states of a reader of lengths
 
 -- the counts whose first length begins so
 abbrev pub Stands : ℕ → LengthState → Type 0
@@ -130,16 +130,16 @@ starts_of n (place.Number form.Short p l) h s = record { more = bits l n; split 
 starts_of n (place.Number form.Long p l) h s = record { more = bits l n; split = ap (λ l. l.bits) (first_many n s.0 s.1) ∙ ap (λ b. 1 ∷ 0 ∷ b) (number_begins 14 l p n h.0 s.2) }
 starts_of n (place.Number form.Fragment p l) h s = record { more = bits l (blocks n); split = ap (λ l. l.bits) (first_fragment n s.0) ∙ ap (λ b. 1 ∷ 1 ∷ b) (number_begins 6 l p (blocks n) h.0 s.1) }
 
--- what a reader tests of a place decides which counts have a first length that begins so
+-- what a reader tests of a state decides which counts have a first length that begins so
 pub starts_where : (p : LengthState) (P : ℕ → Type 0) → IsLengthState p → ((n : ℕ) → P n ↔ Stands n p) → (n : ℕ) → P n ↔ StartsLength n (state_bits p)
 starts_where p P h f n = (
   λ x. starts_of n p h ((f n).0 x),
   λ s. (f n).1 (stands_of n p [] s.more h (append-nil (first_length n).bits ∙ s.split)),
 )
 
--- ---- what a reader tests of each place
+-- ---- what a reader tests of each state
 
--- a place that is known
+-- a state that is known
 at_place : {P : ℕ → Type 0} (x y : LengthState) → x ≡ y → IsLengthState x → ((n : ℕ) → P n ↔ Stands n y) → (n : ℕ) → P n ↔ StartsLength n (state_bits x)
 at_place {P} x y e h f = subst (λ (z : LengthState). (n : ℕ) → P n ↔ StartsLength n (state_bits z)) (sym e) (starts_where y P (subst (λ (z : LengthState). IsLengthState z) e h) f)
 
@@ -184,7 +184,7 @@ exact_fragment x p l low high e h d f g = at_place x (place.Number form.Fragment
 
 -- ---- the counts left
 
--- behind a fragment of fewer than 4 blocks, fewer than a block: the range is cut
+-- after a fragment of fewer than 4 blocks, fewer than a block: the range is cut
 pub exact_left : {P : ℕ → Type 0} (Q C S : ℕ → Type 0) → ((n : ℕ) → P n ↔ S n) → ((n : ℕ) → Q n ↔ (P n × C n)) → (n : ℕ) → Q n ↔ (S n × C n)
 exact_left Q C S f g n = (
   λ a. (let b = (g n).0 a in ((f n).0 b.0, b.1)),
@@ -193,7 +193,7 @@ exact_left Q C S f g n = (
 
 -- ---- the next bits
 
--- a place with a number, and one bit more
+-- a state with a number, and one bit more
 pub place_more : (x : LengthState) (f : Form) (p l b : ℕ) → x ≡ place.Number f p l → IsLengthState x → 0 < l → b < 2 → IsLengthState (place.Number f (2 * p + b) (l - 1)) × (state_bits (place.Number f (2 * p + b) (l - 1)) ≡ state_bits x ++ b ∷ [])
 place_more x f p l b e h s t =
     let i : IsLengthState (place.Number f p l) = subst (λ (z : LengthState). IsLengthState z) e h in
@@ -265,7 +265,7 @@ many_octet a l h =
     let zero : a / 2 ^ 6 % 2 ≡ 0 = omega arith in
     ap (λ x. x ∷ bits 7 a) one ∙ ap (λ x. 1 ∷ x ∷ bits 6 a) zero
 
--- behind an octet that begins with 10 it has 8 bits more
+-- after an octet that begins with 10 it has 8 bits more
 pub ahead_many : {S : ℕ → Type 0} (us mid : List ℕ) (a : ℕ) → LengthAhead S us → 128 ≤ a → a < 192 → us ≡ bits 8 a ++ mid → 8 ≤ length mid
 ahead_many us mid a w l h e =
     let p = place.Number form.Long 0 14 in

@@ -26,7 +26,7 @@ octets_last os h =
     ∙ ap (λ b. b ++ (joined (take (first_length (length os)).items items) ++ [])) (map_same (first_length (length os)).bits)
     ∙ ap (λ t. (first_length (length os)).bits ++ t) (append-nil (joined (take (first_length (length os)).items items)) ∙ ap (λ k. joined (take k items)) count ∙ ap joined (take-length items) ∙ joined_octets os)
 
--- a fragment, and the octets behind it
+-- a fragment, and the octets after it
 pub octets_fragment : (os : List ℕ) (k : ℕ) → 16384 ≤ length os → k ≡ (first_length (length os)).items
     → general_octets (λ u. u) os ≡ ((first_length (length os)).bits ++ unpacked (take k os)) ++ general_octets (λ u. u) (drop k os)
 octets_fragment os k h e =

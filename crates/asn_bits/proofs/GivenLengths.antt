@@ -21,7 +21,7 @@ bits_first n =
     let f = lengths_first n in
     (length_bits f.0, ap length_bits f.1, λ h. ap length_bits (f.2 h))
 
--- a count whose lengths begin with these bits leaves a count behind the fragments so far, whose lengths begin so
+-- a count whose lengths begin with these bits leaves a count after the fragments so far, whose lengths begin so
 pub count_left : (is : List (ℕ × Option ℕ)) (j : ℕ) (bs : List ℕ) (b : BeginsLengths (Spanned is) (length_bits (fragments j) ++ bs)) → (n : ℕ) × CountsLeft is j n × (b.count ≡ 16384 * j + n) × (length_bits (lengths n) ≡ bs ++ b.more)
 count_left is j bs b =
     let w = behind_fragments j b.count (bs ++ b.more) (b.split ∙ append_assoc (length_bits (fragments j)) bs b.more) in
@@ -68,7 +68,7 @@ pub record EndsHere (is : List (ℕ × Option ℕ)) (j : ℕ) (p : LengthState) 
   pub items_are : (first_length count).items ≡ k
   pub last : count < 16384 → after ≡ []
 
--- a place that is not the start has a bit, and not more than the length
+-- a state that is not the start has a bit, and not more than the length
 place_few : (n : ℕ) (p : LengthState) → IsLengthState p → Stands n p → (p ≡ place.Start → ⊥) → (0 < length (state_bits p)) × (length (state_bits p) ≤ length (first_length n).bits)
 place_few n place.Start h s begun = absurd (begun refl)
 place_few n place.FirstBitSet h s begun = (omega arith, omega (arith, first_some n))
@@ -81,7 +81,7 @@ ends_begins : {S : ℕ → Type 0} {bs : List ℕ} {k : ℕ} (e : EndsLength S b
 ends_begins e =
     ap length_bits e.split ∙ length_bits-append e.before (e.here ∷ e.after) ∙ sym (append_assoc (length_bits e.before) e.here.bits (length_bits e.after)) ∙ ap (λ g. g ++ length_bits e.after) (sym e.given_is)
 
--- bits that end a length behind the fragments so far are the whole of the first one
+-- bits that end a length after the fragments so far are the whole of the first one
 pub ends_here : (is : List (ℕ × Option ℕ)) (j : ℕ) (p : LengthState) (k : ℕ) → IsLengthState p → (p ≡ place.Start → ⊥) → (e : EndsLength (Spanned is) (length_bits (fragments j) ++ state_bits p) k) → EndsHere is j p k e.after
 ends_here is j p k h begun e =
     let w = count_left is j (state_bits p) (record { count = e.count; member = e.member; more = length_bits e.after; split = ends_begins e }) in
@@ -148,7 +148,7 @@ ended is j bs k w =
       items_are = w.items_are;
     }
 
--- ---- behind a whole length
+-- ---- after a whole length
 
 -- a count whose first length is that of a fragment
 fragment_stands : (is : List (ℕ × Option ℕ)) (j p : ℕ) → IsLengthState (place.Number form.Fragment p 0) → (s : StartsSome (CountsLeft is j) (state_bits (place.Number form.Fragment p 0))) → (16384 ≤ s.count) × (blocks s.count ≡ p)
@@ -224,7 +224,7 @@ last_few form.Short p l n e m s = omega (arith, s.0)
 last_few form.Long p l n e m s = s.1
 last_few form.Fragment p l n e m s = absurd (m p (ap (λ k. place.Number form.Fragment p k) e))
 
--- behind the last length no bit follows
+-- after the last length no bit follows
 pub whole_dead : (is : List (ℕ × Option ℕ)) (j : ℕ) (x : LengthState) (b : ℕ) → IsReading is j x → IsWhole x → BeginsLengths (Spanned is) ((length_bits (fragments j) ++ state_bits x) ++ b ∷ []) → ⊥
 whole_dead is j place.Start b r w g = absurd w
 whole_dead is j place.FirstBitSet b r w g = absurd w
@@ -246,14 +246,14 @@ whole_stops is j x b r w s = whole_dead is j x b r w (live_bit is j (state_bits 
 
 -- ---- whether more comes
 
--- behind a fragment
+-- after a fragment
 pub more_start : (is : List (ℕ × Option ℕ)) (j k : ℕ) (e : EndsLength (Spanned is) (length_bits (fragments j) ++ []) k) → e.after ≢ []
 more_start is j k e none =
     let w = count_left is j [] (record { count = e.count; member = e.member; more = length_bits e.after; split = ends_begins e }) in
     let f = bits_first w.0 in
     omega (arith, first_some w.0, ap length f.1, length-append (first_length w.0).bits f.0, ap length w.3, ap (λ ls. length (length_bits ls)) none)
 
--- behind a last length
+-- after a last length
 pub more_not : (is : List (ℕ × Option ℕ)) (j : ℕ) (x : LengthState) (k : ℕ) → IsReading is j x → (x ≡ place.Start → j ≡ 0) → (e : EndsLength (Spanned is) (length_bits (fragments j) ++ state_bits x) k) → e.after ≡ []
 more_not is j place.Start k r s e =
     let z : length_bits (fragments j) ++ [] ≡ [] = ap (λ i. length_bits (fragments i) ++ []) (s refl) in
@@ -285,7 +285,7 @@ number_small form.Fragment p h = omega (arith, h.1)
 pub part_reading : (is : List (ℕ × Option ℕ)) (j : ℕ) (y : LengthState) → IsLengthState y → StartsSome (CountsLeft is j) (state_bits y) → (IsWhole y → ⊥) → IsReading is j y
 part_reading is j y h s part = record { fits = h; live = s; moved = λ n e. part (subst (λ (z : LengthState). IsWhole z) (sym e) refl) }
 
--- it does not end, behind a bit
+-- it does not end, after a bit
 pub part_open : (is : List (ℕ × Option ℕ)) (j : ℕ) (x : List ℕ) (b : ℕ) (y : LengthState) (k : ℕ) → IsLengthState y → state_bits y ≡ x ++ b ∷ [] → (IsWhole y → ⊥) → EndsLength (Spanned is) ((length_bits (fragments j) ++ x) ++ b ∷ []) k → ⊥
 part_open is j x b y k h e part g = not_ended is j y k h (λ q. not_start x b (sym (ap state_bits q) ∙ e)) part (subst (λ (z : List ℕ). EndsLength (Spanned is) z k) (given_more j x (b ∷ []) (state_bits y) e) g)
   where
@@ -293,7 +293,7 @@ part_open is j x b y k h e part g = not_ended is j y k h (λ q. not_start x b (s
     not_start [] b e = cc
     not_start (a ∷ x) b e = cc
 
--- a length that is whole behind bits more
+-- a length that is whole after more bits
 pub whole_more : (S : ℕ → Type 0) (j : ℕ) (f : Form) (p : ℕ) (x : ℕ × ℕ × LengthState) (old bs : List ℕ) → IsLengthState (place.Number f p 0) → StartsSome S (state_bits (place.Number f p 0)) → AfterLength j f p x → state_bits (place.Number f p 0) ≡ old ++ bs → WholeLength S (old ++ bs) x.0
 whole_more S j f p x old bs h s b e =
     subst (λ (g : List ℕ). WholeLength S g x.0) e (subst (λ (k : ℕ). WholeLength S (state_bits (place.Number f p 0)) k) (behind_items j f p x b) (whole_first S f p h s))

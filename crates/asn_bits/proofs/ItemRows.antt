@@ -39,7 +39,7 @@ word_fits k word bs h l = omega (arith, h.within, pow_mono l)
 
 -- ---- items one after the other
 
--- the first items, and those behind them
+-- the first items, and those after them
 pub row-append : {A : Type 0} (code : A → List ℕ) (xs ys : List A) → joined (map code (xs ++ ys)) ≡ joined (map code xs) ++ joined (map code ys)
 row-append code xs ys = ap joined (map-append code xs ys) ∙ joined-append (map code xs) (map code ys)
 
@@ -57,7 +57,7 @@ pub record Row {A : Type 0} (code : A → List ℕ) (xs : List A) (before now : 
 pub row_begins : {A : Type 0} (code : A → List ℕ) (xs : List A) (before : List ℕ) → Row code xs before before 0
 row_begins code xs before = record { few = omega arith; known = refl }
 
--- so many items behind the first
+-- this many items after the first
 pub part_length : {A : Type 0} (xs : List A) (from count : ℕ) → from + count ≤ length xs → length (take (from + count - from) (drop from xs)) ≡ count
 part_length xs from count l =
     let n : from + count - from ≡ count = omega arith in

@@ -16,7 +16,7 @@ short_length n h =
       | inr a ↦ absurd (omega arith)
     ]
 
--- octets one behind the other
+-- octets one after the other
 pub joined_octets : (os : List ℕ) → joined (map (λ o. map (λ u. u) (bits 8 o)) os) ≡ unpacked os
 joined_octets [] = refl
 joined_octets (o ∷ os) = let rest = joined_octets os in ap (λ t. t ++ joined (map (λ o. map (λ u. u) (bits 8 o)) os)) (map_same (bits 8 o)) ∙ ap (λ t. bits 8 o ++ t) rest

@@ -1,4 +1,4 @@
--- The lengths of a list one behind the other: what stands behind the fragments so far are the lengths of the items
+-- The lengths of a list one after the other: what follows the fragments so far are the lengths of the items
 -- left, and bits that end a length are the whole of it.
 use Rattle.std.proofs.Common.{◌≡◌, ◌+◌, ◌-◌, ◌*◌, ◌/◌, ◌%◌, ◌<◌, ◌≤◌, ◌==◌, inl, inr, ⊎_elim, ℕ, zero, suc, true, false, not, nat_lt, List, [], ◌∷◌, ◌++◌, length, length-append, replicate, refl, sym, ap, ◌∙◌, subst, append_assoc, arith}
 use Rattle.std.proofs.lemmas.Bool.{lt-ltb, le-ltb, cases_lt, ne_eqb, true≢false}
@@ -41,7 +41,7 @@ lengths_fragment n h =
     ap (λ f. lengths_within f n) e ∙ within_fragment k n h
     ∙ ap (λ ls. fragment (blocks n) ∷ ls) (within_same k ((n - 16384 * blocks n) / 16384) (n - 16384 * blocks n) (omega arith) (omega arith))
 
--- the first length, and those behind it
+-- the first length, and those after it
 pub lengths_first : (n : ℕ) → (rest : List Length) × (lengths n ≡ first_length n ∷ rest) × (n < 16384 → rest ≡ [])
 lengths_first n =
     ⊎_elim
@@ -49,13 +49,13 @@ lengths_first n =
     (λ a. (let t : nat_lt n 16384 ≡ false = le-ltb n 16384 a in (lengths (n - 16384 * blocks n), rw (first_length, t) (lengths_fragment n a), λ b. absurd (omega arith))))
     (cases_lt n 16384)
 
--- ---- behind the fragments so far
+-- ---- after the fragments so far
 
 pub length_bits-append : (xs ys : List Length) → length_bits (xs ++ ys) ≡ length_bits xs ++ length_bits ys
 length_bits-append [] ys = refl
 length_bits-append (x ∷ xs) ys = ap (λ t. x.bits ++ t) (length_bits-append xs ys) ∙ sym (append_assoc x.bits (length_bits xs) (length_bits ys))
 
--- so many fragments of 4 blocks
+-- this many fragments of 4 blocks
 behind_full : (q n : ℕ) → lengths (65536 * q + n) ≡ replicate q (fragment 4) ++ lengths n
 behind_full zero n = (let e : 65536 * 0 + n ≡ n = omega arith in ap (λ k. lengths k) e)
 behind_full (suc q) n =
@@ -97,7 +97,7 @@ behind_part b n h c =
           ∙ ap (λ t. t ++ lengths n) (sym (part_some b e.0))
     ]
 
--- the lengths of the items left stand behind the fragments
+-- the lengths of the items left follow the fragments
 pub lengths_behind : (j n : ℕ) → (is_closed j ≡ true → n < 16384) → lengths (16384 * j + n) ≡ fragments j ++ lengths n
 lengths_behind j n c =
     let e : 16384 * j + n ≡ 65536 * (j / 4) + (16384 * (j % 4) + n) = omega arith in
@@ -116,7 +116,7 @@ front_fragment c m t w e =
     (a, g.0, ap (λ b. length_bits (lengths (c - 16384 * b))) (sym g.0) ∙ g.1))
     (cases_lt c 16384)
 
--- with those of so many fragments of 4 blocks
+-- with those of this many fragments of 4 blocks
 front_full : (q c : ℕ) (t : List ℕ) → length_bits (lengths c) ≡ length_bits (replicate q (fragment 4)) ++ t → (n : ℕ) × (c ≡ 65536 * q + n) × (length_bits (lengths n) ≡ t)
 front_full zero c t e = (c, omega arith, e)
 front_full (suc q) c t e =
@@ -134,7 +134,7 @@ front_part b c t h e =
           (c - 16384 * b, omega (arith, a.0, a.1), λ x. omega (arith, a.0, a.1), a.2)
     ]
 
--- a count whose lengths begin with the fragments so far: what stands behind them are the lengths of the items left
+-- a count whose lengths begin with the fragments so far: what follows them are the lengths of the items left
 pub behind_fragments : (j c : ℕ) (t : List ℕ) → length_bits (lengths c) ≡ length_bits (fragments j) ++ t → (n : ℕ) × (c ≡ 16384 * j + n) × (is_closed j ≡ true → n < 16384) × (length_bits (lengths n) ≡ t)
 behind_fragments j c t e =
     let split : length_bits (fragments j) ≡ length_bits (replicate (j / 4) (fragment 4)) ++ length_bits (part (j % 4)) = ap length_bits (fragments_are j) ∙ length_bits-append (replicate (j / 4) (fragment 4)) (part (j % 4)) in
@@ -171,7 +171,7 @@ fragments_more j m c l h =
     one_more : (ls : List Length) (k : ℕ) → length_bits (ls ++ fragment k ∷ []) ≡ length_bits ls ++ (fragment k).bits
     one_more ls k = length_bits-append ls (fragment k ∷ []) ∙ ap (λ t. length_bits ls ++ t) (append-nil (fragment k).bits)
 
--- behind a fragment of fewer than 4 blocks no other comes
+-- after a fragment of fewer than 4 blocks no other comes
 pub closed_more : (j m : ℕ) → is_closed j ≡ false → 1 ≤ m → m ≤ 4 → is_closed (j + m) ≡ nat_lt m 4
 closed_more j m c l h =
     elim (eqb_tells (j % 4) 0) [

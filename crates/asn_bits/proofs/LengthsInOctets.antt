@@ -61,7 +61,7 @@ length_code m n r s e =
 pub length_once : (m n : ℕ) → octet_length m ≡ octet_length n → m ≡ n
 length_once m n e = (length_code m n [] [] (ap (λ (l : List ℕ). l ++ []) e)).0
 
--- ---- which counts have so many octets behind the first one
+-- ---- which counts have this many octets after the first one
 
 least_is : (k : ℕ) → ((k < 2) × (least_long k ≡ 128)) ⊎ ((2 ≤ k) × (least_long k ≡ 256 ^ (k - 1)))
 least_is k = go (nat_lt k 2) refl
@@ -128,7 +128,7 @@ short_split n m t l e = go (length_cases n)
         let g : 128 + octet_count n ≡ m = cc in
         absurd (omega (arith, l, g))
 
--- a small one is itself, a large one stands behind its count
+-- a small one is itself, a large one follows its count
 pub small_is : (n : ℕ) → n < 128 → octet_length n ≡ n ∷ []
 small_is n l = elim (length_cases n) [ inl a ↦ a.1 | inr a ↦ absurd (let g = a.0 in omega arith) ]
 
@@ -263,7 +263,7 @@ no_first b n l c few s =
       | inr x ↦ absurd (omega (arith, x, w.1, most))
     ]
 
--- nothing goes on behind a whole length
+-- nothing goes on after a whole length
 pub behind_short : (m o n : ℕ) → m < 128 → StartsOctets n ((m ∷ []) ++ o ∷ []) → ⊥
 behind_short m o n l s = (let w = short_split n m (o ∷ s.more) l s.split in absurd (omega (arith, ap length w.1)))
 

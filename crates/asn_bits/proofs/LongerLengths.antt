@@ -12,7 +12,7 @@ pub joined-append : (xs ys : List (List ℕ)) → joined (xs ++ ys) ≡ joined x
 joined-append [] ys = refl
 joined-append (x ∷ xs) ys = ap (λ t. x ++ t) (joined-append xs ys) ∙ sym (append_assoc x (joined xs) (joined ys))
 
--- lists of so many fragments are at least as long as their items
+-- lists of this many fragments are at least as long as their items
 abbrev IsLonger : ℕ → Type 0
 IsLonger f = (items : List (List ℕ)) → length items < 16384 * suc f → length (joined items) ≤ length (with_lengths (λ u. u) (lengths_within f (length items)) items)
 
@@ -23,7 +23,7 @@ longer_last items =
     let all : joined (take (length items) items) ++ [] ≡ joined items = append-nil (joined (take (length items) items)) ∙ ap joined (take-length items) in
     omega (arith, length-append front (joined (take (length items) items) ++ []), ap length all)
 
--- a fragment under its length, and what stands behind it
+-- a fragment under its length, and what follows it
 longer_fragment : (f m : ℕ) → IsLonger f → (items : List (List ℕ)) → m ≡ blocks (length items) → 16384 ≤ length items → length items < 16384 * suc (suc f)
     → length (joined items) ≤ length (with_lengths (λ u. u) (fragment m ∷ lengths_within f (length items - 16384 * m)) items)
 longer_fragment f m again items is large w =

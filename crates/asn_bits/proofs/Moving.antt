@@ -81,7 +81,7 @@ begun_word old new next all rest eight behind c p w n b h few e i less word g =
       parts = h.parts ∙ ap (λ t. h.from ++ t) e ∙ sym (append_assoc h.from eight behind);
     }
 
--- the rest behind what was shifted
+-- the rest after what was shifted
 pub begun_all : (old mid new all rest : List ℕ) (c p w v : ℕ) → Begun old mid all rest c p w → Shifted mid new rest c w v → Shifted old new all c p v
 begun_all old mid new all rest c p w v h t =
     let s = h.shifted in
@@ -102,7 +102,7 @@ pub begun_whole : (old new all rest : List ℕ) (c p w : ℕ) → Begun old new 
 begun_whole old new all [] c p w h z = subst (λ t. Shifted old new t c p w) (sym (h.parts ∙ append-nil h.from)) h.shifted
 begun_whole old new all (x ∷ rest) c p w h z = absurd (omega arith)
 
--- and all of it stands behind something
+-- and all of it follows something
 pub shifted_behind : (front new from : List ℕ) (c p w : ℕ) → Shifted [] new from c p w → Shifted front (front ++ new) from c p w
 shifted_behind front new from c p w h =
     record { octets = h.octets; added = ap (λ t. front ++ t) h.added; count = h.count; each = h.each; same = h.same }
@@ -121,13 +121,13 @@ filled_behind old into held post tail s n e l =
     ap (λ t. (t ++ (into ++ post)) ++ tail) e ∙ ap (λ t. t ++ tail) (sym (append_assoc old into post)) ∙ append_assoc (old ++ into) post tail in
     ap (take n) parts ∙ take_at (old ++ into) (post ++ tail) n (length-append old into ∙ sym l)
 
--- words and what stands behind them
+-- words and what follows them
 pub begun_front : (old new all words rest : List ℕ) (c p w : ℕ) → Shifted old new words c p w → all ≡ words ++ rest → Begun old new all rest c p w
 begun_front old new all words rest c p w h e = record { from = words; shifted = h; parts = e }
 
 -- ---- taken from a cursor
 
--- behind n octets of the bits stands what the cursor then holds
+-- after n octets of the bits stands what the cursor then holds
 taken_seam : (os taken rest : List ℕ) (f n : ℕ) → drop f (unpacked os) ≡ unpacked taken ++ rest → length taken ≡ n
     → drop f (unpacked os) ≡ unpacked taken ++ drop f (unpacked (drop n os))
 taken_seam os taken rest f n e l =
@@ -174,7 +174,7 @@ taken_shifted (o ∷ os) old new f n w less enough h =
 
 -- ---- pushed to a sink
 
--- what a sink holds once the octets stand behind the c bits that waited
+-- what a sink holds once the octets follow the c bits that waited
 pub pushed_shifted : (old new from : List ℕ) (c p w : ℕ) → Shifted old new from c p w → unpacked new ++ bits c w ≡ (unpacked old ++ bits c p) ++ unpacked from
 pushed_shifted old new from c p w h =
     ap (λ t. unpacked t ++ bits c w) h.added ∙ ap (λ t. t ++ bits c w) (unpacked-append old h.octets) ∙ append_assoc (unpacked old) (unpacked h.octets) (bits c w)

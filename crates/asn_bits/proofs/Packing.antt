@@ -1,4 +1,4 @@
--- Octets and the fewer than 64 bits behind them, as a sink holds them.
+-- Octets and the fewer than 64 bits after them, as a sink holds them.
 use Rattle.std.proofs.Common.{◌≡◌, ◌<◌, ◌≤◌, ◌+◌, ◌*◌, ◌-◌, ◌/◌, ◌%◌, ◌^◌, ℕ, zero, suc, List, [], ◌∷◌, ◌++◌, length, get_or, replicate, refl, sym, ◌∙◌, ap, arith, append_assoc, mul_assoc, mul_comm, length-append}
 use Rattle.std.proofs.lemmas.List.{append-nil}
 use Rattle.std.proofs.lemmas.Nat.{shr-shr, shr_below, pow-add, mul-add-lt, mod-mul-add, div-add-mod'}
@@ -15,7 +15,7 @@ length-unpacked_bits os c p = omega (arith, length-append (unpacked os) (bits c 
 pub octets_wait : (os : List ℕ) (c p : ℕ) → length (unpacked os ++ bits c p) % 8 ≡ 0 → c % 8 ≡ 0
 octets_wait os c p e = omega (arith, length-unpacked_bits os c p)
 
--- the octets that wait go behind the others
+-- the octets that wait are appended to the others
 pub waiting_out : (os new : List ℕ) (c p : ℕ) → c % 8 ≡ 0 → new ≡ os ++ octets (c / 8) p → unpacked new ≡ unpacked os ++ bits c p
 waiting_out os new c p z e =
     let all : 8 * (c / 8) ≡ c = omega arith in
@@ -51,7 +51,7 @@ pub bits_zero : (k : ℕ) → bits k 0 ≡ replicate k 0
 bits_zero zero = refl
 bits_zero (suc k) = let z : 0 / 2 ^ k % 2 ≡ 0 = ap (λ t. t % 2) (zero-div (2 ^ k)) in let rest = bits_zero k in cc
 
--- the padding of c bits behind octets
+-- the padding of c bits after octets
 pub padding_view : (os : List ℕ) (c p : ℕ) → padding (length (unpacked os ++ bits c p)) ≡ bits ((8 - c % 8) % 8) 0
 padding_view os c p =
     let e : (8 - length (unpacked os ++ bits c p) % 8) % 8 ≡ (8 - c % 8) % 8 = omega (arith, length-unpacked_bits os c p) in
@@ -84,7 +84,7 @@ shifted_out p k w h =
     ap (λ t. t * 2 ^ k) (sym (div-add-mod' p (2 ^ m))) ∙ add-mul (q * 2 ^ m) r (2 ^ k) ∙ ap (λ t. t + r * 2 ^ k) (mul_assoc q (2 ^ m) (2 ^ k)) in
     ap (λ t. p * 2 ^ k % t) e ∙ ap (λ t. t % (2 ^ m * 2 ^ k)) parts ∙ mod-mul-add q (2 ^ m * 2 ^ k) (r * 2 ^ k) less
 
--- the bits above the last l of two numbers one behind the other
+-- the bits above the last l of two numbers one after the other
 pub above_last : (k n l : ℕ) → n < 2 ^ k → l ≤ k → n / 2 ^ l < 2 ^ (k - l)
 above_last k n l h less =
     let e : 2 ^ k ≡ 2 ^ (k - l + l) = ap (λ i. 2 ^ i) (omega arith) in
@@ -108,7 +108,7 @@ middle_is h k n l fits less few =
     let parts : b + h * 2 ^ m ≡ h * 2 ^ m / 2 ^ 64 * 2 ^ 64 + (x + b) = omega (arith, div-add-mod' (h * 2 ^ m) (2 ^ 64)) in
     sym (ap (λ t. t % 2 ^ 64) (quotient ∙ parts) ∙ mod-mul-add (h * 2 ^ m / 2 ^ 64) (2 ^ 64) (x + b) small)
 
--- what a sink holds once n stands in k bits behind the c bits that waited, and all of them wait
+-- what a sink holds once n stands in k bits after the c bits that waited, and all of them wait
 pub waiting_view : (os : List ℕ) (c p k n j : ℕ) → n < 2 ^ k → c + k ≤ 64 → j ≡ p * 2 ^ k % 2 ^ 64 + n → unpacked os ++ bits (c + k) j ≡ (unpacked os ++ bits c p) ++ bits k n
 waiting_view os c p k n j h few e =
     let r = p % 2 ^ (64 - k) in
@@ -137,7 +137,7 @@ octets_out os new c p e =
     ∙ append_assoc (unpacked os) (unpacked (octets (c / 8) (p / 2 ^ l))) (bits l p)
     ∙ ap (λ t. unpacked os ++ t) (ap (λ t. t ++ bits l p) (unpacked-octets (c / 8) (p / 2 ^ l)) ∙ sym (digits-add 2 (8 * (c / 8)) l p) ∙ ap (λ i. bits i p) all)
 
--- behind whole octets
+-- after whole octets
 pub whole_behind : (os new from : List ℕ) (c p : ℕ) → c ≡ 0 → new ≡ os ++ from → unpacked new ++ bits c p ≡ (unpacked os ++ bits c p) ++ unpacked from
 whole_behind os new from c p z e =
     unpacked_whole new c p z ∙ ap unpacked e ∙ unpacked-append os from ∙ ap (λ t. t ++ unpacked from) (sym (unpacked_whole os c p z))

@@ -50,7 +50,7 @@ meets_whole k g r p h e z m =
     let i = bits_are g p h in
     record { digits = record { digits = i.digits; count = omega (arith, i.count, e, z); sum = i.sum }; member = meets_member (rw z at m) }
 
--- so many bits are given
+-- this many bits are given
 pub given_length : (g p : ℕ) → length (bits g p) ≡ g
 given_length g p = length-digits 2 g p
 

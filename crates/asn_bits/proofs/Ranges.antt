@@ -34,26 +34,26 @@ spanned_reaches (i ∷ is) a b n (inr h) l m = inr (spanned_reaches is a b n h l
 pub some_reaches : (is : List (ℕ × Option ℕ)) (a : ℕ) (b : Option ℕ) → SomeIn (Spanned is) a b → Reaches is a b
 some_reaches is a b s = spanned_reaches is a b s.number s.member s.least s.most
 
--- a range of counts behind those that have come, and the counts left that begin so
-pub starts_reached : (is : List (ℕ × Option ℕ)) (come low : ℕ) (high end : Option ℕ) (closed : Bool) (bs : List ℕ)
-    → ((n : ℕ) → AtMost n high ↔ AtMost (come + n) end)
+-- a range of counts after those read so far, and the counts left that begin so
+pub starts_reached : (is : List (ℕ × Option ℕ)) (so_far low : ℕ) (high end : Option ℕ) (closed : Bool) (bs : List ℕ)
+    → ((n : ℕ) → AtMost n high ↔ AtMost (so_far + n) end)
     → ((n : ℕ) → ((low ≤ n) × AtMost n high) ↔ (StartsLength n bs × (closed ≡ true → n < 16384)))
-    → Reaches is (come + low) end ↔ StartsSome (At (Spanned is) come closed) bs
-starts_reached is come low high end closed bs f g = (
+    → Reaches is (so_far + low) end ↔ StartsSome (At (Spanned is) so_far closed) bs
+starts_reached is so_far low high end closed bs f g = (
   λ r.
-      let s = reaches_some is (come + low) end r in
+      let s = reaches_some is (so_far + low) end r in
       let l = s.least in
-      let e : s.number ≡ come + (s.number - come) = omega arith in
-      let w = (g (s.number - come)).0 (omega arith, (f (s.number - come)).1 (subst (λ (x : ℕ). AtMost x end) e s.most)) in
-      record { count = s.number - come; member = record { member = subst (λ (x : ℕ). Spanned is x) e s.member; largest = w.1 }; starts = w.0 },
+      let e : s.number ≡ so_far + (s.number - so_far) = omega arith in
+      let w = (g (s.number - so_far)).0 (omega arith, (f (s.number - so_far)).1 (subst (λ (x : ℕ). AtMost x end) e s.most)) in
+      record { count = s.number - so_far; member = record { member = subst (λ (x : ℕ). Spanned is x) e s.member; largest = w.1 }; starts = w.0 },
   λ s.
       let w = (g s.count).1 (s.starts, s.member.largest) in
-      some_reaches is (come + low) end (record { number = come + s.count; member = s.member.member; least = omega (arith, w.0); most = (f s.count).0 w.1 }),
+      some_reaches is (so_far + low) end (record { number = so_far + s.count; member = s.member.member; least = omega (arith, w.0); most = (f s.count).0 w.1 }),
 )
 
--- an end, behind those that have come
-pub end_behind : (come high n : ℕ) → AtMost n (Some high) ↔ AtMost (come + n) (Some (come + high))
-end_behind come high n = (λ a. omega (arith, a), λ a. omega (arith, a))
+-- an end, after those read so far
+pub end_behind : (so_far high n : ℕ) → AtMost n (Some high) ↔ AtMost (so_far + n) (Some (so_far + high))
+end_behind so_far high n = (λ a. omega (arith, a), λ a. omega (arith, a))
 
 -- a range whose end is known
 pub range_end : (low : ℕ) (high end : Option ℕ) (S : ℕ → Type 0) → high ≡ end → ((n : ℕ) → ((low ≤ n) × AtMost n high) ↔ S n) → (n : ℕ) → ((low ≤ n) × AtMost n end) ↔ S n

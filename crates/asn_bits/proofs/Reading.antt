@@ -1,4 +1,4 @@
--- The bits of octets, read from a place within the first octet.
+-- The bits of octets, read from a bit within the first octet.
 use Rattle.std.proofs.Common.{◌≡◌, ◌≤◌, ◌<◌, ◌+◌, ◌-◌, ◌*◌, ◌/◌, ◌%◌, ◌^◌, ℕ, zero, suc, List, [], ◌∷◌, ◌++◌, length, take, drop, get_or, sym, ◌∙◌, ap, subst, arith, append_assoc, length-drop}
 use Rattle.std.proofs.lemmas.List.{take-append-drop, take_more, get_or-drop, length-take-le}
 use Rattle.std.proofs.Math.Seq.{drop-nil, drop-append-add, drop-append_seam, take-length}
@@ -21,7 +21,7 @@ unpacked_bits : (os : List ℕ) → AreBits (unpacked os)
 unpacked_bits [] = tt
 unpacked_bits (o ∷ os) = bits_append (bits 8 o) (unpacked os) (digits_bits 8 o) (unpacked_bits os)
 
--- and so are those behind some
+-- and so are those after some
 drop_bits : (n : ℕ) (us : List ℕ) → AreBits us → AreBits (drop n us)
 drop_bits zero us h = h
 drop_bits (suc n) [] h = tt
@@ -60,7 +60,7 @@ unpacked_front os m n e =
 drop_digits : (k n : ℕ) (r : List ℕ) → drop k (bits k n ++ r) ≡ r
 drop_digits k n r = ap (λ i. drop i (bits k n ++ r)) (sym (length-digits 2 k n)) ∙ drop-append_seam (bits k n) r
 
--- k bits behind the first f of a number of f + (k + r) bits
+-- k bits after the first f of a number of f + (k + r) bits
 field_left : (f k r n : ℕ) (s : List ℕ) → drop f (bits (f + (k + r)) n ++ s) ≡ bits k (n / 2 ^ r) ++ (bits r n ++ s)
 field_left f k r n s =
     let split : bits (f + (k + r)) n ≡ bits f (n / 2 ^ (k + r)) ++ (bits k (n / 2 ^ r) ++ bits r n) =
@@ -75,7 +75,7 @@ field_passed f k r n s =
     let e : f + (k + r) ≡ (f + k) + (0 + r) = omega arith in
     ap (λ i. drop (f + k) (bits i n ++ s)) e ∙ field_left (f + k) 0 r n s
 
--- the k bits behind the first f are those of a field of the first m octets' number
+-- the k bits after the first f are those of a field of the first m octets' number
 pub field_read : (os : List ℕ) (f k r m n v : ℕ) → octets m n ≡ take m os → f + (k + r) ≡ 8 * m → v ≡ n / 2 ^ r % 2 ^ k
     → drop f (unpacked os) ≡ bits k v ++ drop (f + k) (unpacked os)
 field_read os f k r m n v e l i =
@@ -96,7 +96,7 @@ octets_next xs i n o e h =
     let one : octets 1 o ≡ o ∷ [] = ap (λ t. t ∷ []) (omega arith) in
     sym (digits-join 256 (omega arith) i 1 n o (omega arith)) ∙ cc (e, one)
 
--- the bit behind the first f of an octet
+-- the bit after the first f of an octet
 pub bit_read : (o f : ℕ) (os : List ℕ) → f < 8 → drop f (unpacked (o ∷ os)) ≡ (o / 2 ^ (7 - f) % 2) ∷ drop (f + 1) (unpacked (o ∷ os))
 bit_read o f os h =
     let r = 7 - f in
@@ -106,13 +106,13 @@ bit_read o f os h =
     ap (drop f) all ∙ field_left f 1 r o (unpacked os) ∙ ap (λ t. t ++ (bits r o ++ unpacked os)) one
     ∙ ap (λ t. o / 2 ^ r % 2 ∷ t) (sym (field_passed f 1 r o (unpacked os)) ∙ ap (drop (f + 1)) (sym all))
 
--- the next bit, and what stands behind it
+-- the next bit, and what follows it
 pub next_read : (os rest old : List ℕ) (o f b : ℕ) → os ≡ o ∷ rest → drop f (unpacked os) ≡ old → f < 8 → b ≡ o / 2 ^ (7 - f) % 2 → old ≡ b ∷ drop (f + 1) (unpacked os)
 next_read os rest old o f b e v h i =
     sym v ∙ ap (λ t. drop f (unpacked t)) e ∙ bit_read o f rest h ∙ ap (λ t. t ∷ drop (f + 1) (unpacked (o ∷ rest))) (sym i)
     ∙ ap (λ t. b ∷ drop (f + 1) (unpacked t)) (sym e)
 
--- behind the last bit of an octet stands the next octet
+-- after the last bit of an octet stands the next octet
 pub octet_passed : (os rest : List ℕ) (o f : ℕ) → os ≡ o ∷ rest → f ≡ 7 → drop (f + 1) (unpacked os) ≡ unpacked rest
 octet_passed os rest o f e h = ap (λ t. drop (f + 1) (unpacked t)) e ∙ ap (λ i. drop (i + 1) (unpacked (o ∷ rest))) h
 

@@ -1,4 +1,4 @@
--- Digits split at any place: the high ones are those of the quotient, the low ones those of the remainder.
+-- Digits split anywhere: the high ones are those of the quotient, the low ones those of the remainder.
 use Rattle.std.proofs.Common.{◌≡◌, ◌<◌, ◌+◌, ◌*◌, ◌/◌, ◌%◌, ◌^◌, ℕ, zero, suc, List, [], ◌∷◌, ◌++◌, length, drop, refl, sym, ◌∙◌, ap, arith, append_assoc, mul_assoc, mul_comm}
 use Rattle.std.proofs.lemmas.Nat.{pow-add, div-mul-add, div-add-mod'}
 use Rattle.std.proofs.Math.Nat.{pow-zero, pow-succ', div-one, add-mul-div_left, add-mul-mod_self_right, div-div-eq-div-mul, one-le-pow}
@@ -46,7 +46,7 @@ pub digits-mod : (base : ℕ) → 0 < base → (k n : ℕ) → digits base k (n 
 digits-mod base h k n =
     sym (digits_above base h k (n / base ^ k) (n % base ^ k)) ∙ ap (digits base k) (div-add-mod' n (base ^ k))
 
--- digits of two numbers one behind the other are those of one number
+-- digits of two numbers one after the other are those of one number
 pub digits-join : (base : ℕ) → 0 < base → (j k m n : ℕ) → n < base ^ k → digits base j m ++ digits base k n ≡ digits base (j + k) (m * base ^ k + n)
 digits-join base b j k m n h =
     let high : (m * base ^ k + n) / base ^ k ≡ m = div-mul-add m (base ^ k) n h in
@@ -88,7 +88,7 @@ bytes-octets (suc k) n = ap (λ b. b ∷ bytes_high_first k n) (byte k) ∙ ap (
 
 -- ---- the sink
 
--- what a sink holds once the k bits of n stand behind the c bits of p that waited: w octets more, and l bits wait
+-- what a sink holds once the k bits of n follow the c bits of p that waited: w octets more, and l bits wait
 pub appended : (os : List ℕ) (c p k n w l j : ℕ) → n < 2 ^ k → 8 * w + l ≡ c + k → j ≡ p * 2 ^ k + n
     → unpacked (os ++ octets w (j / 2 ^ l)) ++ bits l j ≡ (unpacked os ++ bits c p) ++ bits k n
 appended os c p k n w l j h e i =

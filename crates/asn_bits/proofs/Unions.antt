@@ -1,4 +1,4 @@
--- Sets of numbers, and the test of intervals: some number of a set begins with the digits that have come.
+-- Sets of numbers, and the test of intervals: some number of a set begins with the digits read so far.
 use Rattle.std.proofs.Common.{◌≡◌, ◌⊎◌, ℕ, zero, suc, ◌+◌, ◌*◌, ◌/◌, ◌^◌, ◌↔◌, ◌<◌, ◌≤◌, inl, inr, ⊎_elim, List, [], ◌∷◌, ◌++◌, length, drop, get_or, arith}
 use Rattle.std.proofs.Math.Nat.{pow-zero, div-lt_iff_lt-mul, le-div_iff_mul-le}
 use Rattle.std.proofs.lemmas.Nat.{pow_pos}
@@ -15,7 +15,7 @@ set_spelt base k n m w = record { digits = digits_are base k n w; member = m }
 pub set_meets : (base k : ℕ) {S : ℕ → Type 0} (n : ℕ) → S n → n < base ^ k → MeetsIn base S 0 k
 set_meets base k n m w = record { number = n; member = m; least = omega arith; below = omega arith }
 
--- with no bits behind it a number that meets the set is one of it
+-- with no bits after it a number that meets the set is one of it
 pub meets_member : {S : ℕ → Type 0} {base p : ℕ} → MeetsIn base S p 0 → S p
 meets_member {S} {base} {p} m =
     let l : p * 1 ≤ m.number = rw pow-zero at m.least in
@@ -72,7 +72,7 @@ touches_at base p r [] k d h l m = absurd (omega arith)
 touches_at base p r (i ∷ is) zero d h l m = inl (l, m)
 touches_at base p r (i ∷ is) (suc k) d h l m = inr (touches_at base p r is k d (omega arith) l m)
 
--- the next interval does not begin so: then one behind it does
+-- the next interval does not begin so: then one after it does
 pub touches_behind : (base p r : ℕ) (is : List (ℕ × ℕ)) (k : ℕ) (d : ℕ × ℕ) → k < length is → Touches base (drop k is) p r → (p * base ^ r ≤ (get_or is k d).1 → (get_or is k d).0 < (p + 1) * base ^ r → ⊥) → Touches base (drop (k + 1) is) p r
 touches_behind base p r [] k d h t f = absurd (omega arith)
 touches_behind base p r (i ∷ is) zero d h (inl t) f = absurd (f t.0 t.1)

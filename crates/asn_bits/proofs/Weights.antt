@@ -7,7 +7,7 @@ use Rattle.asn_bits.specs.Numbers.{digits, bits}
 use Rattle.asn_bits.proofs.Octets.{length-digits}
 use Rattle.asn_bits.specs.Sets.{AreDigits, weighted, IsDigits, IsBits}
 
--- digits behind digits
+-- digits after digits
 pub digits-append : (base : ℕ) (xs ys : List ℕ) → AreDigits base xs → AreDigits base ys → AreDigits base (xs ++ ys)
 digits-append base [] ys f g = g
 digits-append base (x ∷ xs) ys f g = (f.0, digits-append base xs ys f.1 g)
@@ -22,7 +22,7 @@ pub digits-second : (base : ℕ) (xs ys : List ℕ) → AreDigits base (xs ++ ys
 digits-second base [] ys f = f
 digits-second base (x ∷ xs) ys f = digits-second base xs ys f.1
 
--- so many digits stand for less than that power of the base
+-- this many digits stand for less than that power of the base
 pub weighted_bound : (base : ℕ) (ds : List ℕ) → AreDigits base ds → weighted base ds < base ^ length ds
 weighted_bound base [] h = omega (arith, pow-zero base)
 weighted_bound base (d ∷ ds) h =
@@ -30,7 +30,7 @@ weighted_bound base (d ∷ ds) h =
     let room : (d + 1) * base ^ length ds ≤ base * base ^ length ds = mul-le-mul_right (base ^ length ds) (omega (arith, h.0)) in
     omega (arith, w, room, pow-succ' base (length ds))
 
--- digits behind digits stand for the first, moved up, and the second
+-- digits after digits stand for the first, moved up, and the second
 pub weighted-append : (base : ℕ) (xs ys : List ℕ) → weighted base (xs ++ ys) ≡ weighted base xs * base ^ length ys + weighted base ys
 weighted-append base [] ys = omega arith
 weighted-append base (x ∷ xs) ys =

@@ -10,7 +10,7 @@ pub record Begins (k : ℕ) (S : ℕ → Type 0) (given : List ℕ) : Type 0 whe
   pub more : List ℕ
   pub spelt : InSet k S number (given ++ more)
 
--- a number of the intervals in so many bits, and those of them that are given
+-- a number of the intervals in this many bits, and those of them that are given
 pub record BegunField : Type 0 where
   pub numbers : List (ℕ × ℕ)
   pub width : ℕ

@@ -14,7 +14,7 @@ six_in_no_bits = refl
 300_in_two_octets : octets 2 300 ≡ 1 ∷ 44 ∷ []
 300_in_two_octets = refl
 
--- ---- the fewest bits that tell so many numbers apart
+-- ---- the fewest bits that tell this many numbers apart
 
 width_of_one : width 1 ≡ 0
 width_of_one = refl
@@ -125,11 +125,11 @@ base_128_of_16384 = refl
 
 -- ---- bits and octets
 
-no_padding_behind_eight_bits : padding 8 ≡ []
-no_padding_behind_eight_bits = refl
+no_padding_after_eight_bits : padding 8 ≡ []
+no_padding_after_eight_bits = refl
 
-seven_behind_nine_bits : padding 9 ≡ replicate 7 0
-seven_behind_nine_bits = refl
+seven_after_nine_bits : padding 9 ≡ replicate 7 0
+seven_after_nine_bits = refl
 
 eight_bits_are_an_octet : packed (1 ∷ 0 ∷ 1 ∷ 0 ∷ 1 ∷ 0 ∷ 1 ∷ 1 ∷ []) ≡ 171 ∷ []
 eight_bits_are_an_octet = refl

@@ -19,7 +19,7 @@ pub record BeginsLengths (S : ℕ → Type 0) (given : List ℕ) : Type 0 where
   pub more : List ℕ
   pub split : length_bits (lengths count) ≡ given ++ more
 
--- the bits end a length of some count of the set, which so many items follow at once, and then other lengths
+-- the bits end a length of some count of the set, which this many items follow at once, and then other lengths
 pub record EndsLength (S : ℕ → Type 0) (given : List ℕ) (items : ℕ) : Type 0 where
   pub count : ℕ
   pub member : S count
@@ -38,9 +38,10 @@ TellsLength S given state.Dead = BeginsLengths S given → ⊥
 
 -- ---- how far they were given
 
--- the lengths of so many blocks of 16384 items: fragments of 4 blocks, and one of those left over
+-- the lengths of a number of blocks of 16384 items: fragments of 4 blocks, and one of those left over
 abbrev pub fragments : ℕ → List Length
-fragments blocks = replicate (blocks / 4) (fragment 4) ++ elim (blocks % 4 == 0) [ true ↦ [] | false ↦ fragment (blocks % 4) ∷ [] ]
+fragments blocks = replicate (blocks / 4) (fragment 4)
+    ++ elim (blocks % 4 == 0) [ true ↦ [] | false ↦ fragment (blocks % 4) ∷ [] ]
 
 -- the counts that a list may have, the blocks that its fragments so far have, and the bits of the length begun
 pub record BegunLengths : Type 0 where
@@ -56,7 +57,7 @@ given l = length_bits (fragments l.blocks) ++ l.bits
 abbrev pub is_closed : ℕ → Bool
 is_closed blocks = not (blocks % 4 == 0)
 
--- how many items may be left behind so many blocks of a list
+-- how many items may be left after this many blocks of a list
 abbrev pub CountsLeft : List (ℕ × Option ℕ) → ℕ → ℕ → Type 0
 CountsLeft counts blocks = At (Spanned counts) (16384 * blocks) (is_closed blocks)
 
@@ -65,14 +66,14 @@ pub record Last (old : BegunLengths) (bs : List ℕ) (n : ℕ) (new : BegunLengt
   pub few : n < 16384
   pub new_is : new ≡ record { counts = old.counts; blocks = old.blocks; bits = old.bits ++ bs }
 
--- the length of a fragment has ended, and another length comes behind its items
+-- the length of a fragment has ended, and another length comes after its items
 pub record Fragment (old : BegunLengths) (n : ℕ) (new : BegunLengths) : Type 0 where
   pub blocks : ℕ
   pub some : 1 ≤ blocks
   pub items : n ≡ 16384 * blocks
   pub new_is : new ≡ record { counts = old.counts; blocks = old.blocks + blocks; bits = [] }
 
--- how far they are given behind these bits more: where they are dead, nothing changes
+-- how far they are given after these further bits: where they are dead, nothing changes
 abbrev pub Goes : BegunLengths → List ℕ → FieldState → BegunLengths → Type 0
 Goes old bs state.Alive new = new ≡ record { counts = old.counts; blocks = old.blocks; bits = old.bits ++ bs }
 Goes old bs (state.Number n) new = (given new ≡ given old ++ bs) × (Last old bs n new ⊎ Fragment old n new)
@@ -110,7 +111,7 @@ pub record OpensLength (S : ℕ → Type 0) (bs : List ℕ) : Type 0 where
   pub more : List ℕ
   pub split : (first_length count).bits ≡ bs ++ next ∷ more
 
--- these bits are the first length of some count of the set, which so many items follow
+-- these bits are the first length of some count of the set, which this many items follow
 pub record WholeLength (S : ℕ → Type 0) (bs : List ℕ) (items : ℕ) : Type 0 where
   pub count : ℕ
   pub member : S count

@@ -19,7 +19,7 @@ form_bits form.Short = 0 ∷ []
 form_bits form.Long = 1 ∷ 0 ∷ []
 form_bits form.Fragment = 1 ∷ 1 ∷ []
 
--- how many bits the number behind them has
+-- how many bits the number after them has
 abbrev pub form_width : Form → ℕ
 form_width form.Short = 7
 form_width form.Long = 14
@@ -49,7 +49,7 @@ IsLengthState place.Start = ⊤
 IsLengthState place.FirstBitSet = ⊤
 IsLengthState (place.Number f p left) = (left ≤ form_width f) × (p < 2 ^ (form_width f - left))
 
--- behind a whole length: how many items follow it, how many blocks have come with them, and where the reader stands
+-- after a whole length: how many items follow it, how many blocks have been read with them, and where the reader stands
 abbrev pub AfterLength : ℕ → Form → ℕ → ℕ × ℕ × LengthState → Type 0
 AfterLength blocks form.Short p x = (x.0 ≡ p) × (x.1 ≡ blocks) × (x.2 ≡ place.Number form.Short p 0)
 AfterLength blocks form.Long p x = (x.0 ≡ p) × (x.1 ≡ blocks) × (x.2 ≡ place.Number form.Long p 0)

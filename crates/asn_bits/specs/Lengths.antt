@@ -23,7 +23,7 @@ fragment m = record { bits = 1 ∷ 1 ∷ bits 6 m; items = 16384 * m }
 abbrev pub blocks : ℕ → ℕ
 blocks n = min 4 (n / 16384)
 
--- the lengths of n items, with so many fragments at most
+-- the lengths of n items, with this many fragments at most
 abbrev pub lengths_within : ℕ → ℕ → List Length
 lengths_within zero n = last_length n ∷ []
 lengths_within (suc turns) n =
@@ -40,7 +40,7 @@ abbrev pub joined : {A : Type 0} → List (List A) → List A
 joined [] = []
 joined (x ∷ xs) = x ++ joined xs
 
--- each length, and behind it the items that it counts
+-- each length, and after it the items that it counts
 abbrev pub with_lengths : {A : Type 0} → (ℕ → A) → List Length → List (List A) → List A
 with_lengths bit [] items = []
 with_lengths bit (l ∷ ls) items =

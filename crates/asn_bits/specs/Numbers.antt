@@ -1,7 +1,7 @@
 -- Numbers as bits and as octets.
 use Rattle.std.specs.Prelude.{◌+◌, ◌-◌, ◌*◌, ◌/◌, ◌%◌, ◌^◌, ◌==◌, ℕ, zero, suc, ℤ, pos, negsuc, Bool, true, false, List, [], ◌∷◌, ◌++◌, replicate, nat_le, nat_lt}
 
--- ---- so many digits
+-- ---- a given number of digits
 
 -- the last k digits of n in a base, the highest first
 abbrev pub digits : ℕ → ℕ → ℕ → List ℕ
@@ -67,7 +67,8 @@ above (pos low) (negsuc n) = 0
 -- n in base 128 before the octets last; turns is at least the number of octets that this needs
 abbrev pub base_128_before : ℕ → ℕ → List ℕ → List ℕ
 base_128_before zero n last = last
-base_128_before (suc turns) n last = elim (n == 0) [ true ↦ last | false ↦ base_128_before turns (n / 128) ((128 + n % 128) ∷ last) ]
+base_128_before (suc turns) n last =
+    elim (n == 0) [ true ↦ last | false ↦ base_128_before turns (n / 128) ((128 + n % 128) ∷ last) ]
 
 -- n in the fewest octets of base 128, the high bit set on all but the last
 abbrev pub base_128 : ℕ → List ℕ
@@ -75,7 +76,7 @@ base_128 n = base_128_before n (n / 128) (n % 128 ∷ [])
 
 -- ---- bits and octets
 
--- the zeros that fill octets behind n bits
+-- the zeros that fill octets after n bits
 abbrev pub padding : ℕ → List ℕ
 padding n = replicate ((8 - n % 8) % 8) 0
 

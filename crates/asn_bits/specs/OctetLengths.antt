@@ -18,7 +18,7 @@ pub record BeginsLength (S : ℕ → Type 0) (os : List ℕ) : Type 0 where
   pub member : S count
   pub starts : StartsOctets count os
 
--- that of some count of the set goes on behind them
+-- that of some count of the set goes on after them
 pub record GoesOn (S : ℕ → Type 0) (os : List ℕ) : Type 0 where
   pub count : ℕ
   pub member : S count
@@ -55,7 +55,8 @@ state_octets (place.Long count prefix left) = (128 + count) ∷ octets (count - 
 abbrev pub IsOctetState : OctetState → Type 0
 IsOctetState place.Start = ⊤
 IsOctetState (place.Short n) = n < 128
-IsOctetState (place.Long count prefix left) = (1 ≤ count) × (count ≤ 4) × (left ≤ count) × (prefix < 256 ^ (count - left))
+IsOctetState (place.Long count prefix left) =
+    (1 ≤ count) × (count ≤ 4) × (left ≤ count) × (prefix < 256 ^ (count - left))
 
 -- all octets of the length are given
 abbrev pub IsWholeLength : OctetState → Type 0
@@ -63,6 +64,6 @@ IsWholeLength place.Start = ⊥
 IsWholeLength (place.Short n) = ⊤
 IsWholeLength (place.Long count prefix left) = left ≡ 0
 
--- the least length that has so many octets behind the first one
+-- the least length that has this many octets after the first one
 abbrev pub least_long : ℕ → ℕ
 least_long count = elim (nat_lt count 2) [ true ↦ 128 | false ↦ 256 ^ (count - 1) ]

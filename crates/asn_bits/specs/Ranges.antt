@@ -27,7 +27,7 @@ abbrev pub Reaches : List (ℕ × Option ℕ) → ℕ → Option ℕ → Type 0
 Reaches [] a b = ⊥
 Reaches (i ∷ is) a b = Meet i.0 i.1 a b ⊎ Reaches is a b
 
--- the counts of what is left where so many items have come; closed: the last fragment had fewer than 4 blocks
-pub record At (S : ℕ → Type 0) (come : ℕ) (closed : Bool) (n : ℕ) : Type 0 where
-  pub member : S (come + n)
+-- the counts of what is left where this many items have been read; closed: the last fragment had fewer than 4 blocks
+pub record At (S : ℕ → Type 0) (so_far : ℕ) (closed : Bool) (n : ℕ) : Type 0 where
+  pub member : S (so_far + n)
   pub largest : closed ≡ true → n < 16384

@@ -7,7 +7,8 @@ abbrev pub bit_of : Bool → ℕ
 bit_of true = 1
 bit_of false = 0
 
--- octets `old` with the low `count` bits of `pending` after them became `new` with the low bits of another word: `added`
--- follows them
+-- octets `old` with the low `count` bits of `pending` after them became `new` with the low bits of another word, so
+-- that `added` follows them
 abbrev pub IsPut : List ℕ → ℕ → ℕ → List ℕ → List ℕ → ℕ → ℕ → Type 0
-IsPut old count pending added new left word = unpacked new ++ bits left word ≡ (unpacked old ++ bits count pending) ++ added
+IsPut old count pending added new left word =
+    unpacked new ++ bits left word ≡ (unpacked old ++ bits count pending) ++ added

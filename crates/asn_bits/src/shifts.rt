@@ -1,6 +1,6 @@
 //! Whole octets, moved by fewer bits than an octet has.
 ghost use Rattle.std.specs.Prelude.{◌≡◌, ◌+◌, ◌*◌, ◌/◌, ◌%◌, ◌^◌, ◌<◌, ◌≤◌, length, drop, [], OnOk, OnErr, vec_len, vec_capacity};
-ghost use Rattle.asn_bits.specs.Moves.{Shifted, Taken};
+ghost use Rattle.asn_bits.specs.Moves.{Shifted, TakenFrom};
 ghost use Rattle.asn_bits.specs.Numbers.{unpacked};
 
 use crate::words::{full_word, low_octet};
@@ -15,8 +15,7 @@ pub(crate) fn push_front(
 ) -> Result<(), AllocError>
     requires begun { offset < 8 }
     requires there { 8 * count + offset ≤ 8 * length octets.now }
-    ensures ok { OnOk result (Taken count (drop offset (unpacked octets.now))
-        (drop offset (unpacked (drop count octets.now))) bytes.old.items bytes.new.items) }
+    ensures ok { OnOk result (TakenFrom offset count octets.now bytes.old.items bytes.new.items) }
     ensures err { OnErr result (bytes.new.items ≡ bytes.old.items) }
 {
     if offset == 0 {

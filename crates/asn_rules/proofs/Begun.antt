@@ -18,11 +18,11 @@ use Rattle.asn_rules.specs.Languages.{AllContents, IsFront, Spells, NoSpelling, 
 use Rattle.asn_rules.specs.Live.{Fielding}
 use Rattle.asn_rules.specs.Parted.{Parted}
 
--- a row stands behind anything
+-- a row follows anything
 follows_row : {A : Type 0} {L : A → List Chunk → Type 0} {B : Type 0} {N : B → List Chunk → Type 0} → Inhabited L → (n : ℕ) → Follows N (λ _. Row L n)
 follows_row i n = record { follow = λ a x h. row_inhabited i n }
 
--- Behind i values of a row, the others.
+-- After i values of a row, the others.
 pub row_behind : {A : Type 0} {R : Fielding} (L : A → List Chunk → Type 0) → FieldsPart R → Lawful L → Inhabited L → (i m k : ℕ) {vs : List A} {us : List ℕ} → i + m ≡ k → Whole R (Row L i) vs us → Carries R (Map (λ (ws : List A). vs ++ ws) (Row L m)) (Row L k) us
 row_behind {A} {R} L ok law i zero m k {vs} {us} e h =
     let base : Carries R (Map (λ (ws : List A). [] ++ ws) (Row L m)) (Row L m) [] = carries_left (same_flip (map_same (λ a. refl))) (carries_none R (Row L m)) in
@@ -47,11 +47,11 @@ row_behind {A} {R} L ok law i (suc n) m (suc k) {vs} {us} e h = go (map_source h
           from = λ v cs w. record { source = w.spelt.spelt.source; spelt = w.spelt.spelt.spelt; seen = w.seen ∙ ap prepended w.spelt.seen ∙ ap (λ (l : List A). p.0.0 ∷ l) w.spelt.spelt.seen };
         }
 
--- A row of which some values have come and one has begun: what is left, and how it goes on.
+-- A row of which some values have been read and one has begun: what is left, and how it goes on.
 abbrev pub InRow : {A : Type 0} → (A → List Chunk → Type 0) → (A → List Chunk → Type 0) → List A → ℕ → List A → List Chunk → Type 0
 InRow L N vs m = Map (λ p. vs ++ (p.0 ∷ p.1)) (Then N (λ _. Row L m))
 
--- some values have come and one has begun
+-- some values have been read and one has begun
 pub row_begun : {A : Type 0} {R : Fielding} (L N : A → List Chunk → Type 0) → FieldsPart R → Lawful L → Inhabited L → (i m k : ℕ) {vs : List A} {us ws : List ℕ} → i + suc m ≡ k → Whole R (Row L i) vs us → Carries R N L ws → Carries R (InRow L N vs m) (Row L k) (us ++ ws)
 row_begun {A} {R} L N ok law i n m k {vs} {us} {ws} e h c = carries_left (same_flip (map_map (λ p. refl))) (carries_both (row_behind L ok law i n (suc m) k e h) (carries_map (carries_map (carries_first (λ _. Row L m) ok (follows_row i m) (follows_row i m) c))))
 
@@ -86,7 +86,7 @@ then_plain a b = record {
       (x.0 ++ y.0, h.whole ∙ ap (λ (l : List Chunk). l ++ h.second) x.1 ∙ ap (λ (l : List Chunk). ones x.0 ++ l) y.1 ∙ sym (ones-append x.0 y.0));
 }
 
--- behind a bit
+-- after a bit
 pub fork_plain : {A B : Type 0} {X : A → List Chunk → Type 0} {Y : B → List Chunk → Type 0} → AllPlain X → AllPlain Y → AllPlain (Fork X Y)
 fork_plain {A} {B} {X} {Y} a b = record { plain = λ v cs h. go v cs h.side }
   where
@@ -98,17 +98,17 @@ fork_plain {A} {B} {X} {Y} a b = record { plain = λ v cs h. go v cs h.side }
 pub header_plain : (S : ℕ → Type 0) → AllPlain (Header S)
 header_plain S = map_plain (fork_plain plain_plain (fork_plain plain_plain plain_plain))
 
--- what begins a spelling, behind plain units
+-- what begins a spelling, after plain units
 front_after : (R : Fielding) (us : List ℕ) (x : List Chunk) (s : List ℕ) → IsFront R x s → IsFront R (ones us ++ x) (us ++ s)
 front_after R [] x s h = h
 front_after R (u ∷ us) x s h = (refl, front_after R us x s h)
 
--- contents, behind plain units
+-- contents, after plain units
 fine_after : (R : Fielding) (us : List ℕ) (x : List Chunk) → AllContents R x → AllContents R (ones us ++ x)
 fine_after R [] x h = h
 fine_after R (u ∷ us) x h = fine_after R us x h
 
--- units, behind plain units
+-- units, after plain units
 flat_after : (R : Fielding) (us : List ℕ) (x : List Chunk) → flat R.spelled (ones us ++ x) ≡ us ++ flat R.spelled x
 flat_after R [] x = refl
 flat_after R (u ∷ us) x = ap (λ (l : List ℕ). u ∷ l) (flat_after R us x)
@@ -118,7 +118,7 @@ front_of_ones : (R : Fielding) (us t : List ℕ) → IsFront R (ones (us ++ t)) 
 front_of_ones R [] t = tt
 front_of_ones R (u ∷ us) t = (refl, front_of_ones R us t)
 
--- Behind units that are no spelling and have none in front, what is left of a plain language.
+-- After units that are no spelling and have none in front, what is left of a plain language.
 pub carries_begun : {V : Type 0} {R : Fielding} {L : V → List Chunk → Type 0} (us : List ℕ) → AllPlain L → NoSpelling R L us → Carries R (Behind us L) L us
 carries_begun {V} {R} {L} us plain never = record {
   reads = λ v s r h. record {
@@ -153,7 +153,7 @@ carries_begun {V} {R} {L} us plain never = record {
         let c : h.chunks ≡ ones us ++ ones (s ++ p.0) = w.1 ∙ ap ones (p.1 ∙ append_assoc us s p.0) ∙ ones-append us (s ++ p.0) in
         record { value = h.value; chunks = ones (s ++ p.0); spelt = record { spelt = subst (λ (d : List Chunk). L h.value d) c h.spelt }; front = front_of_ones R s p.0 }
 
--- what parts behind the same units parts
+-- what parts after the same units parts
 strip : (us : List ℕ) (x y : List Chunk) → Parted (ones us ++ x) (ones us ++ y) → Parted x y
 strip [] x y p = p
 strip (u ∷ us) x y (inl n) = absurd (n refl)

@@ -1,4 +1,4 @@
--- Bits as octets of which the last ends in zeros, and those behind a length and the number of unused bits, as they are
+-- Bits as octets of which the last ends in zeros, and those after a length and the number of unused bits, as they are
 -- spelt and as they are read.
 use Rattle.std.proofs.Common.{◌≡◌, ◌≤◌, ◌<◌, ◌+◌, ◌-◌, ◌*◌, ◌/◌, ◌%◌, ◌^◌, ℕ, zero, suc, Bool, true, false, List, [], ◌∷◌, ◌++◌, map, length, take, drop, length-append, length-drop, refl, sym, ap, ◌∙◌, subst, arith, append_assoc, None, min}
 use Rattle.std.specs.Prelude.{replicate}
@@ -69,7 +69,7 @@ unpacked_bits (o ∷ os) = digits-append 2 (bits 8 o) (unpacked os) (are_digits 
 
 -- ---- the last octet
 
--- an octet that ends in so many zeros as r bits leave
+-- an octet that ends in as many zeros as r bits leave
 abbrev IsEnd : ℕ → ℕ → Type 0
 IsEnd r o = (o < 256) × (o % 2 ^ (8 - r) ≡ 0)
 
@@ -94,9 +94,9 @@ zeros_end o u us h e =
     sym b.sum ∙ ap (weighted 2) e ∙ weighted-append 2 us (replicate u 0) ∙ ap (λ (i : ℕ). weighted 2 us * 2 ^ length {A = ℕ} (replicate u 0) + i) zero_sum ∙ ap (λ (i : ℕ). weighted 2 us * 2 ^ i + 0) zero_count ∙ omega arith in
     ap (λ (i : ℕ). i % 2 ^ u) is ∙ mul-mod_left (weighted 2 us) (2 ^ u)
 
--- ---- so many bits
+-- ---- this many bits
 
--- the octets have these bits, and zeros behind them
+-- the octets have these bits, and zeros after them
 record Unpacks (n : ℕ) (os us : List ℕ) : Type 0 where
   are : AreBits us
   count : length us ≡ n
@@ -111,7 +111,7 @@ Parts n p = ((length p.0 ≡ n / 8) × AllByRecursion (λ o. o < 256) p.0) × ((
 parts_spelled : (n : ℕ) → Same (Then (Row OneOctet (n / 8)) (λ _. Row (EndOctet (n % 8)) ((n % 8 + 7) / 8))) (SpelledBy (Parts n) (λ p. ones p.0 ++ ones p.1))
 parts_spelled n = same_after (same_then (octets_itself (n / 8)) (λ _. items_themselves (end_itself (n % 8)) ((n % 8 + 7) / 8))) then_spelled
 
--- such octets have n bits, and zeros behind them
+-- such octets have n bits, and zeros after them
 parts_unpack : (n : ℕ) (os ls : List ℕ) → length os ≡ n / 8 → AllByRecursion (λ o. o < 256) os → length ls ≡ (n % 8 + 7) / 8 → AllByRecursion (IsEnd (n % 8)) ls → (us : List ℕ) × Unpacks n (os ++ ls) us
 parts_unpack n os [] l p m q =
     let none : (8 - n % 8) % 8 ≡ 0 = omega arith in
@@ -233,7 +233,7 @@ short S few l h =
     let c : octet_count l ≤ 4 = octet_count_below l 4 (omega arith) (omega (arith, h.same)) in
     omega arith
 
--- ---- n bits and the zeros behind them
+-- ---- n bits and the zeros after them
 
 module _ (n : ℕ) where
   -- the octets that the bits fill
@@ -312,7 +312,7 @@ module _ (n : ℕ) where
       let is : told (os, (e, x)) ≡ bs = ap (map is_one) (sym same) ∙ truths_again bs in
       subst (λ (v : List Bool). Spells octet_fields (PackedBits n) v us s) is ((rest_leads os us r h).done (e, x) s g)
 
--- ---- behind a length and the number of unused bits
+-- ---- after a length and the number of unused bits
 
 module _ (low high : ℕ) (ordered : low ≤ high) (few : high ≤ max_len) where
   abbrev fewest : ℕ

@@ -1,4 +1,4 @@
--- What is left of a language behind some units, and the answers for it.
+-- What is left of a language after some units, and the answers for it.
 use Rattle.std.proofs.Common.{◌≡◌, ◌≢◌, ℕ, ◌⊎◌, inl, inr, ⊎_elim, List, [], ◌∷◌, ◌++◌, refl, sym, ap, ◌∙◌, subst, append_assoc}
 use Rattle.std.proofs.lemmas.List.{append-nil, append_cancel_left}
 use Rattle.asn_rules.proofs.Chunks.{FieldsPart, front_longer, parted_front}
@@ -65,7 +65,7 @@ carries_first {A} {B} {R} {N} {L} M {us} ok f g c = record {
     behind2 : {a : A} {s r : List ℕ} → Spells R N a s r → IsLive R (M a) r → IsLive R (Then N M) s
     behind2 {a} {s} {r} h l = rw h.split (then_live_second ok a h.chunks r h.spelt h.contents l)
 
--- nothing begins a lawful language behind one of its spellings
+-- nothing begins a lawful language after one of its spellings
 pub live_over : {A : Type 0} {R : Fielding} {L : A → List Chunk → Type 0} → FieldsPart R → Lawful L → (a : A) (x : List Chunk) (u : ℕ) (us : List ℕ) → L a x → AllContents R x → IsLive R L (flat R.spelled x ++ u ∷ us) → ⊥
 live_over {R = R} ok law a x u us l f h = go (law.law h.value a h.chunks x h.spelt l)
   where
@@ -73,7 +73,7 @@ live_over {R = R} ok law a x u us l f h = go (law.law h.value a h.chunks x h.spe
     go (inl p) = front_over ok x (u ∷ us) f (λ e. cc) (rw p.1 at h.front)
     go (inr p) = parted_front ok h.chunks x [] (u ∷ us) f p.1 (front_longer R h.chunks [] (flat R.spelled x ++ u ∷ us) h.front)
 
--- Behind the first of two.
+-- After the first of two.
 pub carries_second : {A B : Type 0} {R : Fielding} {L : A → List Chunk → Type 0} (M : A → B → List Chunk → Type 0) (a : A) (x : List Chunk) → FieldsPart R → Lawful L → Follows L M → L a x → AllContents R x → Carries R (Map (λ (b : B). (a, b)) (M a)) (Then L M) (flat R.spelled x)
 carries_second {A} {B} {R} {L} M a x ok law f l g = record {
   reads = λ v s r h. (let y = map_source h in subst (λ (p : A × B). Spells R (Then L M) p (flat R.spelled x ++ s) r) (sym y.2) (then_spells (mine s) y.1));
@@ -166,7 +166,7 @@ back_refused {V} {R} {M} {L} {us} {s} {n} c l h = go (cut us s h.before (h.unit 
     go (inl w) = at (w.next ∷ w.more) (sym w.split) (append_cancel_left us s ((w.next ∷ w.more) ++ h.unit ∷ h.after) (h.split ∙ ap (λ (l : List ℕ). l ++ h.unit ∷ h.after) (sym w.split) ∙ append_assoc us (w.next ∷ w.more) (h.unit ∷ h.after)))
     go (inr w) = inner w.rest w.front w.back
 
--- What is left behind more units is left of what is left behind fewer.
+-- What is left after more units is left of what is left after fewer.
 pub carries_between : {V : Type 0} {R : Fielding} {N M L : V → List Chunk → Type 0} {us ws : List ℕ} → Carries R M L us → Carries R N L (us ++ ws) → Carries R N M ws
 carries_between {R = R} {N = N} {L = L} {us = us} {ws = ws} c d = record {
   reads = λ v s r h. c.read v (ws ++ s) r (subst (λ (l : List ℕ). Spells R L v l r) (append_assoc us ws s) (d.reads v s r h));
@@ -175,7 +175,7 @@ carries_between {R = R} {N = N} {L = L} {us = us} {ws = ws} c d = record {
   live = λ s h. d.live s (subst (λ (l : List ℕ). IsLive R L l) (sym (append_assoc us ws s)) (c.lives (ws ++ s) h));
 }
 
--- The first of two has come whole.
+-- The first of two has been read whole.
 pub carries_behind : {A B : Type 0} {R : Fielding} {L : A → List Chunk → Type 0} (M : A → B → List Chunk → Type 0) {a : A} {us : List ℕ} → FieldsPart R → Lawful L → Follows L M → Whole R L a us → Carries R (Map (λ (b : B). (a, b)) (M a)) (Then L M) us
 carries_behind {A} {B} {R} {L} M {a} {us} ok law f h =
     let e : flat R.spelled h.chunks ≡ us = sym (append-nil (flat R.spelled h.chunks)) ∙ sym h.split in

@@ -77,7 +77,7 @@ front_longer R (one a ∷ x) y (u ∷ us) h = (h.0, front_longer R x y us h.1)
 front_longer R (sealed k c ∷ x) y (u ∷ us) (inl h) = inl h
 front_longer R (sealed k c ∷ x) y (u ∷ us) (inr h) = inr (h.0, h.1, h.2, front_longer R x y h.0 h.3)
 
--- behind x, what begins y begins x ++ y
+-- after x, what begins y begins x ++ y
 pub front_behind : {R : Fielding} → FieldsPart R → (x y : List Chunk) (us : List ℕ) → AllContents R x → IsFront R y us → IsFront R (x ++ y) (flat R.spelled x ++ us)
 front_behind ok [] y us f h = h
 front_behind ok (one a ∷ x) y us f h = (refl, front_behind ok x y us f h)
@@ -94,7 +94,7 @@ pub record After (R : Fielding) (x y : List Chunk) (us : List ℕ) : Type 0 wher
   pub split : us ≡ flat R.spelled x ++ rest
   pub front : IsFront R y rest
 
--- what begins both begins the first, or has it whole and begins the second behind it
+-- what begins both begins the first, or has it whole and begins the second after it
 pub front_parts : (R : Fielding) (x y : List Chunk) (us : List ℕ) → IsFront R (x ++ y) us → IsFront R x us ⊎ After R x y us
 front_parts R x y [] h = inl tt
 front_parts R [] y (u ∷ us) h = inr (record { rest = u ∷ us; contents = tt; split = refl; front = h })

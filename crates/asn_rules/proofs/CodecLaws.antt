@@ -110,7 +110,7 @@ report r t o (Err decode.Memory) d = inr refl
 
 -- ---- octets that have an encoding in front, or are one that was cut
 
--- octets with more octets behind
+-- octets followed by more octets
 front_shorter : (o s : List ℕ) → BeginsProperly o s → length o < length s
 front_shorter o s b = rw (b.2, length-append o (b.0 ∷ b.1)) (omega arith)
 

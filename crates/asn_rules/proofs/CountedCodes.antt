@@ -49,7 +49,7 @@ count_fits base h k octet few =
 pub counted_lawful : (base h : ℕ) (T : ℕ → ℕ → Type 0) → Lawful (Counted base h T)
 counted_lawful base h T = then_lawful (set_lawful base h (SomeOf T)) (λ k. set_lawful base (h * k) (T k))
 
--- behind each count some number stands
+-- after each count some number stands
 pub counted_follows : (base h : ℕ) (T : ℕ → ℕ → Type 0) → AreAnOctet base h → Follows (Plain (InDigits base h (SomeOf T))) (λ k. Plain (InDigits base (h * k) (T k)))
 counted_follows base h T octet = record { follow = λ k cs s. number k s.spelt.member }
   where

@@ -56,7 +56,7 @@ bit_of_same true true e = refl
 bit_of_same false true e = absurd (omega arith)
 bit_of_same true false e = absurd (omega arith)
 
--- the presence bits of as many components end in one place
+-- the presence bits of as many components end at one position
 pub presence_code : (ds : List Demand) (es gs : List (Option Datum)) (r s : List ℕ) → length es ≡ length ds → length gs ≡ length ds
     → presence ds es ++ r ≡ presence ds gs ++ s → (presence ds es ≡ presence ds gs) × (r ≡ s)
 presence_code [] es gs r s p q e = (refl, e)

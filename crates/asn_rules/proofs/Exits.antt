@@ -23,7 +23,7 @@ use Rattle.asn_rules.proofs.Headers.{header_few, header_many, header_blocks}
 use Rattle.asn_rules.proofs.Fields.{field_short, field_refused}
 use Rattle.asn_rules.proofs.CountedCodes.{AreAnOctet, counted_follows}
 
--- the answers for what is left behind units
+-- the answers for what is left after units
 pub leads_behind : {A : Type 0} {R : Fielding} {M L : A → List Chunk → Type 0} (us s : List ℕ) → Carries R M L us → Leads R M s (λ a. a) L (us ++ s)
 leads_behind us s c = record { done = λ b r h. c.reads b s r h; stops = record { short = λ h. carries_short {s = s} c h; refused = λ n h. carries_refused {s = s} c h } }
 
@@ -33,11 +33,11 @@ leads_at {R = R} {M} {vs} {f} {L} e l = subst (λ (u : List ℕ). Leads R M vs f
 
 -- ---- forks
 
--- behind a 0
+-- after a 0
 pub leads_zero : {A B : Type 0} {X : A → List Chunk → Type 0} {Y : B → List Chunk → Type 0} {us after : List ℕ} (R : Fielding) → us ≡ 0 ∷ after → Leads R X after inl (Fork X Y) us
 leads_zero {X = X} {after = after} R e = leads_at e (leads_on (leads_map R inl X after) (leads_behind (0 ∷ []) after (fork_zero R)))
 
--- behind a 1
+-- after a 1
 pub leads_one : {A B : Type 0} {X : A → List Chunk → Type 0} {Y : B → List Chunk → Type 0} {us after : List ℕ} (R : Fielding) → us ≡ 1 ∷ after → Leads R Y after inr (Fork X Y) us
 leads_one {Y = Y} {after = after} R e = leads_at e (leads_on (leads_map R inr Y after) (leads_behind (1 ∷ []) after (fork_one R)))
 
@@ -59,7 +59,7 @@ leads_fragment {S} {after = after} R e = leads_at e (leads_on (leads_map R fragm
 pub stops_length : {A : Type 0} {R : Fielding} {L : A → List Chunk → Type 0} {S : ℕ → Type 0} (us : List ℕ) → Inhabited L → LeadsStops R (Header S) us (General L S) us
 stops_length us i = record { short = λ h. general_short i h; refused = λ n h. general_refused i h }
 
--- the items behind the last length
+-- the items after the last length
 pub leads_last : {A : Type 0} {R : Fielding} (L : A → List Chunk → Type 0) {S : ℕ → Type 0} {n : ℕ} {us r : List ℕ} → FieldsPart R → Inhabited L → Spells R (Header S) (last n) us r → Leads R (Row L n) r (λ vs. vs) (General L S) us
 leads_last L p i h = record { done = λ vs s g. general_last_spells p i h g; stops = record { short = λ g. general_last_short L p i h g; refused = λ k g. general_last_refused L p i h g } }
 
@@ -67,7 +67,7 @@ leads_last L p i h = record { done = λ vs s g. general_last_spells p i h g; sto
 pub stops_fragment : {A : Type 0} {R : Fielding} (L : A → List Chunk → Type 0) {S : ℕ → Type 0} {m : ℕ} {us r : List ℕ} → FieldsPart R → Inhabited L → Spells R (Header S) (fragment m) us r → LeadsStops R (Row L (16384 * m)) r (General L S) us
 stops_fragment L p i h = record { short = λ g. general_row_short L p i h g; refused = λ k g. general_row_refused L p i h g }
 
--- what stands behind a fragment
+-- what follows a fragment
 pub leads_rest : {A : Type 0} {R : Fielding} (L : A → List Chunk → Type 0) {S : ℕ → Type 0} {m : ℕ} {vs : List A} {us r s : List ℕ} → FieldsPart R → Inhabited L → Lawful L → Spells R (Header S) (fragment m) us r → Spells R (Row L (16384 * m)) vs r s → Leads R (General L (Left S m)) s (λ ws. vs ++ ws) (General L S) us
 leads_rest L p i law h f = record { done = λ ws t g. general_rest_spells L p i h f g; stops = record { short = λ g. general_rest_short L p i law h f g; refused = λ k g. general_rest_refused L p i law h f g } }
 
@@ -90,7 +90,7 @@ row_further L i h g = row_spells L i 1 (i + 1) refl h (row_one g)
 pub stops_count : {base h : ℕ} {T : ℕ → ℕ → Type 0} (R : Fielding) (us : List ℕ) → AreAnOctet base h → LeadsStops R (Plain (InDigits base h (SomeOf T))) us (Counted base h T) us
 stops_count {base} {h} {T} R us octet = stops_first R us (counted_follows base h T octet)
 
--- the octets behind the count
+-- the octets after the count
 pub leads_octets : {base h : ℕ} {T : ℕ → ℕ → Type 0} {R : Fielding} {k : ℕ} {us r : List ℕ} → FieldsPart R → Spells R (Plain (InDigits base h (SomeOf T))) k us r → Leads R (Plain (InDigits base (h * k) (T k))) r (λ n. (k, n)) (Counted base h T) us
 leads_octets {base} {h} {T} p s = leads_second p (set_lawful base h (SomeOf T)) s
 

@@ -1,4 +1,4 @@
--- Sealed fields that are octets under their general length, in PER, or behind their length, in OER: a length that
+-- Sealed fields that are octets under their general length, in PER, or after their length, in OER: a length that
 -- is not well spelt is refused inside it, and a content that is none at the last unit of its field.
 use Rattle.std.proofs.Common.{◌≡◌, ℕ, ◌<◌, List, [], ◌∷◌, ◌++◌, map, length, take, drop, refl, sym, ap, ◌∙◌, arith}
 use Rattle.std.proofs.lemmas.List.{length-map, drop-map}
@@ -103,7 +103,7 @@ utf8_frame R is = frame_by R utf8_field (Between (R.shortest utf8_field) max_len
 few_octets : (low n : ℕ) → Between low max_len n → octet_count n < 128
 few_octets low n h = (let l = octet_count_below n 4 (omega arith) (omega (arith, h.1)) in omega arith)
 
--- in OER an open field is octets behind their length
+-- in OER an open field is octets after their length
 pub open_octets : (R : Fielding) → ((c : List ℕ) → R.spelled c ≡ octet_length (length c) ++ c) → Same (OctetsBehind (Between (R.shortest open_field) max_len)) (Frame R open_field)
 open_octets R is =
     let S = Between (R.shortest open_field) max_len in
@@ -125,7 +125,7 @@ field_short ok i e h = frame_short ok i (same_short e h)
 pub field_refused : {A : Type 0} {R : Fielding} {k : Kind} {D : A → List ℕ → Type 0} {L : List ℕ → List Chunk → Type 0} {us : List ℕ} {n : ℕ} → FieldsPart R → SomeContent D → Same (L) (Frame R k) → Refused R (L) us n → Refused R (Sealed k D) us n
 field_refused ok i e h = frame_refused ok i (same_refused e h)
 
--- the octets have come, and their content is one that may stand there
+-- the octets have been read, and their content is one that may stand there
 pub field_spells : {A : Type 0} {R : Fielding} {k : Kind} {D : A → List ℕ → Type 0} {L : List ℕ → List Chunk → Type 0} {a : A} {c us r : List ℕ} → Same (L) (Frame R k) → Spells R (L) c us r → D a c → Spells R (Sealed k D) a us r
 field_spells e h d = frame_spells (same_spells e h) d
 

@@ -28,7 +28,7 @@ same_spells {v = v} e h = record { chunks = h.chunks; spelt = e.to v h.chunks h.
 pub same_live : {V : Type 0} {R : Fielding} {L M : V → List Chunk → Type 0} {us : List ℕ} → Same L M → IsLive R L us → IsLive R M us
 same_live e h = record { value = h.value; chunks = h.chunks; spelt = e.to h.value h.chunks h.spelt; front = h.front }
 
--- behind no units one is left of the other
+-- after no units one is left of the other
 pub same_carries : {V : Type 0} {L M : V → List Chunk → Type 0} (R : Fielding) → Same L M → Carries R L M []
 same_carries R e = record {
   reads = λ v s r h. same_spells e h;
@@ -88,7 +88,7 @@ fork_inhabited_zero i = record { value = inl i.value; chunks = one 0 ∷ i.chunk
 pub fork_inhabited_one : {A B : Type 0} {X : A → List Chunk → Type 0} {Y : B → List Chunk → Type 0} → Inhabited Y → Inhabited (Fork X Y)
 fork_inhabited_one i = record { value = inr i.value; chunks = one 1 ∷ i.chunks; spelt = record { side = inr (record { value = i.value; rest = i.chunks; spelt = i.spelt; seen = refl; same = refl }) } }
 
--- what begins behind a branch's unit begins the branch
+-- what begins after a branch's unit begins the branch
 branch_spells : {A V : Type 0} {R : Fielding} {f : A → V} {L : A → List Chunk → Type 0} {u x : ℕ} {v : V} {us r : List ℕ} {ds : List Chunk} → (b : Branch u f L v ds) → AllContents R ds → x ∷ us ≡ flat R.spelled ds ++ r → (u ≡ x) × Spells R (Map f L) v us r
 branch_spells {R = R} {r = r} b g e =
     let d = e ∙ ap (λ c. flat R.spelled c ++ r) b.same in
@@ -100,7 +100,7 @@ branch_live {R = R} {x = x} {v = v} {us = us} b h =
     let g : IsFront R (one _ ∷ b.rest) (x ∷ us) = rw b.same at h in
     (g.0, record { value = v; chunks = b.rest; spelt = record { source = b.value; spelt = b.spelt; seen = b.seen }; front = g.1 })
 
--- Behind a 0, what is left is the first language, and behind a 1 the second.
+-- After a 0, what is left is the first language, and after a 1 the second.
 pub fork_zero : {A B : Type 0} {X : A → List Chunk → Type 0} {Y : B → List Chunk → Type 0} (R : Fielding) → Carries R (Map inl X) (Fork X Y) (0 ∷ [])
 fork_zero {A} {B} {X} {Y} R = record {
   reads = λ v s r h. record { chunks = one 0 ∷ h.chunks; spelt = record { side = inl (record { value = h.spelt.source; rest = h.chunks; spelt = h.spelt.spelt; seen = h.spelt.seen; same = refl }) }; contents = h.contents; split = ap (λ (l : List ℕ). 0 ∷ l) h.split };
@@ -117,7 +117,7 @@ fork_zero {A} {B} {X} {Y} R = record {
     live s h (inl b) = (branch_live {R = R} b h.front).1
     live s h (inr b) = (let e = (branch_live {R = R} b h.front).0 in absurd (omega arith))
 
--- behind a 1 the second language is left
+-- after a 1 the second language is left
 pub fork_one : {A B : Type 0} {X : A → List Chunk → Type 0} {Y : B → List Chunk → Type 0} (R : Fielding) → Carries R (Map inr Y) (Fork X Y) (1 ∷ [])
 fork_one {A} {B} {X} {Y} R = record {
   reads = λ v s r h. record { chunks = one 1 ∷ h.chunks; spelt = record { side = inr (record { value = h.spelt.source; rest = h.chunks; spelt = h.spelt.spelt; seen = h.spelt.seen; same = refl }) }; contents = h.contents; split = ap (λ (l : List ℕ). 1 ∷ l) h.split };
@@ -134,7 +134,7 @@ fork_one {A} {B} {X} {Y} R = record {
     live s h (inl b) = (let e = (branch_live {R = R} b h.front).0 in absurd (omega arith))
     live s h (inr b) = (branch_live {R = R} b h.front).1
 
--- No units have come.
+-- No units have been read.
 pub fork_short : {A B : Type 0} {R : Fielding} {X : A → List Chunk → Type 0} {Y : B → List Chunk → Type 0} → Inhabited (Fork X Y) → Short R (Fork X Y) []
 fork_short {A} {B} {R} {X} {Y} i = record {
   live = record { value = i.value; chunks = i.chunks; spelt = i.spelt; front = tt };

@@ -81,7 +81,7 @@ module _ {A : Type 0} (P : A → Type 0) (code : A → List Chunk) where
         seen = refl;
       })
 
-  -- a fragment under its length, and what stands behind it
+  -- a fragment under its length, and what follows it
   spelt_fragment : (f m : ℕ) → Spelt f → (S : ℕ → Type 0) (vs : List A) → AllByRecursion P vs → m ≡ blocks (length vs) → 16384 ≤ length vs → length vs < 16384 * suc (suc f) → S (length vs)
       → General Item S vs (with_lengths one (fragment_length m ∷ lengths_within f (length vs - 16384 * m)) (map code vs))
   spelt_fragment f m again S vs p is large w h =

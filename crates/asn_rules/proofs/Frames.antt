@@ -13,7 +13,7 @@ use Rattle.asn_rules.specs.Languages.{InField, Spells, IsLive, Short, Refused, L
 use Rattle.asn_rules.specs.Live.{Fielding, IsContent}
 use Rattle.asn_rules.specs.Parted.{Parted}
 
--- lists that nothing behind them makes one part
+-- lists that nothing after them makes one part
 apart : (us vs : List ℕ) → ((s t : List ℕ) → us ++ s ≡ vs ++ t → ⊥) → Parted (ones us) (ones vs)
 apart [] vs f = absurd (f vs [] (sym (append-nil vs)))
 apart (u ∷ us) [] f = absurd (f [] (u ∷ us) (append-nil (u ∷ us)))
@@ -67,14 +67,14 @@ frame_refused {A} {R} {k} {D} {us} {n} ok i s = rw s.split (rw (← s.left_is) (
     whole : (c : List ℕ) → IsContent R k c → s.before ++ s.unit ∷ [] ≡ field_units R.spelled k c → ⊥
     whole c f e = s.dead (plain_live c (s.before ++ s.unit ∷ []) [] (record { contents = f; same = append-nil (s.before ++ s.unit ∷ []) ∙ e }))
 
--- The field has come, and its content is what it must be.
+-- The field has been read, and its content is what it must be.
 pub frame_spells : {A : Type 0} {R : Fielding} {k : Kind} {D : A → List ℕ → Type 0} {a : A} {c us r : List ℕ} → Spells R (Frame R k) c us r → D a c → Spells R (Sealed k D) a us r
 frame_spells {A} {R} {k} {D} {a} {c} {us} {r} s d =
     let p = plain_front s in
     let e : us ≡ field_units R.spelled k c ++ r = p.2 ∙ ap (λ (l : List ℕ). l ++ r) p.1.same in
     rw e (sealed_spells R a c r d p.1.contents)
 
--- The field has come, and its content is nothing that it must be: refused at its last unit.
+-- The field has been read, and its content is nothing that it must be: refused at its last unit.
 pub frame_refused_content : {A : Type 0} {R : Fielding} {k : Kind} {D : A → List ℕ → Type 0} {c us r : List ℕ} → FieldsPart R → SomeContent D → Spells R (Frame R k) c us r → ((a : A) → D a c → ⊥) → Refused R (Sealed k D) us (length r)
 frame_refused_content {A} {R} {k} {D} {c} {us} {r} ok i s never = go p.1.contents (p.2 ∙ ap (λ (l : List ℕ). l ++ r) p.1.same) (last_unit (field_units R.spelled k c) (ok.some_units k c p.1.contents))
   where

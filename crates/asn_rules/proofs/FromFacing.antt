@@ -16,7 +16,7 @@ abbrev pub SpellingsFace : (List ℕ → List ℕ) → (Shape → Datum → List
 SpellingsFace sp code = (t : Shape) → InProfile t → IsFacing sp (Fits t) (code t)
 
 module _ (sp : List ℕ → List ℕ) where
-  -- facing, with nothing behind the spellings
+  -- facing, with nothing after the spellings
   alone : {A : Type 0} (P : A → Type 0) (code : A → List Chunk) → IsFacing sp P code → (x y : A) → P x → P y → Facing sp (x ≡ y) (code x) (code y)
   alone P code h x y p q =
       subst (λ z. Facing sp (x ≡ y) z (code y)) (append-nil (code x)) (subst (λ z. Facing sp (x ≡ y) (code x ++ []) z) (append-nil (code y))

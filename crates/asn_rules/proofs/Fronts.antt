@@ -41,7 +41,7 @@ module _ (r : Fielding) where
       (Begins (pre ++ us) (pre ++ flat r.spelled cs) × AllByRecursion (BoundedBefore (length (pre ++ us))) (fields_from r.spelled (length pre) cs))
       ⊎ SomeWithEarlier (λ f. Bounded f.kind f.content) (Inside r (pre ++ flat r.spelled cs) (pre ++ us)) (fields_from r.spelled (length pre) cs)
 
-  -- fields from the end on start behind it
+  -- fields from the end on start after it
   pub none_before : (cs : List Chunk) (end start : ℕ) → end ≤ start → AllByRecursion (BoundedBefore end) (fields_from r.spelled start cs)
   none_before [] end start h = tt
   none_before (one x ∷ cs) end start h = none_before cs end (start + 1) (omega arith)

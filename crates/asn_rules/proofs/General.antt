@@ -49,12 +49,12 @@ within_counted {A} L (suc f) S vs cs h = subst (λ (l : List A). S (length l)) (
         let e : 16384 * m + length b.source.1 ≡ length ws = sym (ap length b.seen ∙ together_length b.source.0 b.source.1 ∙ ap (λ (x : ℕ). x + length b.source.1) r) in
         subst (λ (x : ℕ). S x) e c.member
 
--- what a length and the count of what stands behind it have to do with each other
+-- what a length and the count of what follows it have to do with each other
 abbrev Counts : Length → ℕ → Type 0
 Counts (last n) k = (k ≡ n) × (n < 16384)
 Counts (fragment m) k = (1 ≤ m) × (m ≤ 4) × ((r : ℕ) × (16384 * m + r ≡ k) × (m < 4 → r < 16384))
 
--- a length and the items behind it
+-- a length and the items after it
 body_counts : {A : Type 0} (L : A → List Chunk → Type 0) (f : ℕ) (S : ℕ → Type 0) (l : Length) (ws : List A) (ds : List Chunk) → Tells S l → Body L (Within L f) S l ws ds → Counts l (length ws)
 body_counts L f S (last n) ws ds t b = (row_length L n ws ds b, t.1)
 body_counts L f S (fragment m) ws ds t b =
@@ -72,7 +72,7 @@ one_length (fragment m) (fragment n) k a b = ap fragment (blocks m n k a b)
     blocks : (m n k : ℕ) → Counts (fragment m) k → Counts (fragment n) k → m ≡ n
     blocks m n k a b = ⊎_elim (λ h. (let g : a.2.0 < 16384 = a.2.2 (omega (arith, b.1)) in absurd (omega (arith, a.2.1, b.2.1)))) (λ h. ⊎_elim (λ f. (let g : b.2.0 < 16384 = b.2.2 (omega (arith, a.1)) in absurd (omega (arith, a.2.1, b.2.1)))) (λ f. omega arith) (cases_lt n m)) (cases_lt m n)
 
--- what stands behind a length is one or parts
+-- what follows a length is one or parts
 body_lawful : {A : Type 0} {L : A → List Chunk → Type 0} → Lawful L → (f : ℕ) (S : ℕ → Type 0) → ((m : ℕ) → Lawful (Within L f (Left S m))) → (l : Length) → Lawful (Body L (Within L f) S l)
 body_lawful l f S again (last n) = row_lawful l n
 body_lawful {A} {L} l f S again (fragment m) = map_lawful_on once (then_lawful (row_lawful l (16384 * m)) (λ _. again m))
@@ -99,7 +99,7 @@ body_more : {A : Type 0} (L : A → List Chunk → Type 0) (G H : (ℕ → Type 
 body_more L G H S f (last n) vs cs h = h
 body_more L G H S f (fragment m) vs cs h = record { source = h.source; spelt = record { first = h.spelt.first; second = h.spelt.second; spelt = h.spelt.spelt; follows = f m h.source.1 h.spelt.second h.spelt.follows; whole = h.spelt.whole }; seen = h.seen }
 
--- a length and what stands behind it
+-- a length and what follows it
 once_more : {A : Type 0} (L : A → List Chunk → Type 0) (G H : (ℕ → Type 0) → List A → List Chunk → Type 0) (S : ℕ → Type 0) → ((m : ℕ) (vs : List A) (cs : List Chunk) → G (Left S m) vs cs → H (Left S m) vs cs) → (vs : List A) (cs : List Chunk) → Once L G S vs cs → Once L H S vs cs
 once_more L G H S f vs cs h = record { source = h.source; spelt = record { first = h.spelt.first; second = h.spelt.second; spelt = h.spelt.spelt; follows = body_more L G H S f h.source.0 h.source.1 h.spelt.second h.spelt.follows; whole = h.spelt.whole }; seen = h.seen }
 
@@ -126,7 +126,7 @@ general_lawful {A} {L} l S = record {
       (within_lawful l (p.lengths + q.lengths) S).law v w x y a (within_plus L p.lengths q.lengths S w y q.spelt);
 }
 
--- The general length is one length, and what stands behind it.
+-- The general length is one length, and what follows it.
 pub general_once : {A : Type 0} (L : A → List Chunk → Type 0) (S : ℕ → Type 0) → Same (Once L (General L) S) (General L S)
 general_once {A} L S = record { to = to; from = from }
   where
@@ -154,7 +154,7 @@ general_counted {L = L} {S = S} {vs = vs} {cs = cs} h = within_counted L h.lengt
 then_inhabited_at : {A B : Type 0} {L : A → List Chunk → Type 0} {M : A → B → List Chunk → Type 0} (a : A) (x : List Chunk) → L a x → Inhabited (M a) → Inhabited (Then L M)
 then_inhabited_at a x l i = record { value = (a, i.value); chunks = x ++ i.chunks; spelt = record { first = x; second = i.chunks; spelt = l; follows = i.spelt; whole = refl } }
 
--- a fragment, and what stands behind it
+-- a fragment, and what follows it
 part_inhabited : {A : Type 0} {L : A → List Chunk → Type 0} {S : ℕ → Type 0} → Inhabited L → (m : ℕ) → Inhabited (General L (Left S m)) → Inhabited (Body L (General L) S (fragment m))
 part_inhabited i m j = map_inhabited (then_inhabited (row_inhabited i (16384 * m)) (record { follow = λ a x h. j }))
 
@@ -178,7 +178,7 @@ inhabited_within {A} {L} i (suc f) S n w h = ⊎_elim few (λ a. blocks (block_c
 pub general_inhabited : {A : Type 0} {L : A → List Chunk → Type 0} {S : ℕ → Type 0} → Inhabited L → (n : ℕ) → S n → Inhabited (General L S)
 general_inhabited {S = S} i n h = inhabited_within i (suc n) S n (omega arith) h
 
--- behind each length something stands
+-- after each length something stands
 pub general_follows : {A : Type 0} {L : A → List Chunk → Type 0} (S : ℕ → Type 0) → Inhabited L → Follows (Header S) (Body L (General L) S)
 general_follows {A} {L} S i = record { follow = λ l x h. follow l (header_tells h) }
   where
@@ -194,7 +194,7 @@ general_short {L = L} {S = S} i h = same_short (general_once L S) (map_short (th
 pub general_refused : {A : Type 0} {R : Fielding} {L : A → List Chunk → Type 0} {S : ℕ → Type 0} {us : List ℕ} {n : ℕ} → Inhabited L → Refused R (Header S) us n → Refused R (General L S) us n
 general_refused {L = L} {S = S} i h = same_refused (general_once L S) (map_refused (then_refused_first (general_follows S i) h))
 
--- Behind a length, what is left is what stands behind it.
+-- After a length, what is left is what follows it.
 general_behind : {A : Type 0} {R : Fielding} (L : A → List Chunk → Type 0) (S : ℕ → Type 0) (l : Length) {us : List ℕ} → FieldsPart R → Inhabited L → Whole R (Header S) l us → Carries R (Body L (General L) S l) (General L S) us
 general_behind {A} {R} L S l {us} ok i h = carries_left same (carries_whole (general_once L S) (carries_map (carries_behind (Body L (General L) S) ok (header_lawful S) (general_follows S i) h)))
   where
@@ -204,15 +204,15 @@ general_behind {A} {R} L S l {us} ok i h = carries_left same (carries_whole (gen
       from = λ v cs m. (let e : v ≡ m.spelt.source = m.seen ∙ ap behind_first m.spelt.seen in subst (λ (x : List A). Body L (General L) S l x cs) (sym e) m.spelt.spelt);
     }
 
--- Behind the last length so many items are left.
+-- After the last length this many items are left.
 pub general_last : {A : Type 0} {R : Fielding} (L : A → List Chunk → Type 0) (S : ℕ → Type 0) (n : ℕ) {us : List ℕ} → FieldsPart R → Inhabited L → Whole R (Header S) (last n) us → Carries R (Row L n) (General L S) us
 general_last L S n ok i h = general_behind L S (last n) ok i h
 
--- Behind the length of m blocks so many items are left, and then a general length.
+-- After the length of m blocks this many items are left, and then a general length.
 pub general_fragment : {A : Type 0} {R : Fielding} (L : A → List Chunk → Type 0) (S : ℕ → Type 0) (m : ℕ) {us : List ℕ} → FieldsPart R → Inhabited L → Whole R (Header S) (fragment m) us → Carries R (Map together (Then (Row L (16384 * m)) (λ _. General L (Left S m)))) (General L S) us
 general_fragment L S m ok i h = general_behind L S (fragment m) ok i h
 
--- Behind m blocks of items a general length is left.
+-- After m blocks of items a general length is left.
 pub general_blocks : {A : Type 0} {R : Fielding} (L : A → List Chunk → Type 0) (S : ℕ → Type 0) (m : ℕ) {vs : List A} {us ws : List ℕ} → FieldsPart R → Inhabited L → Lawful L → Whole R (Header S) (fragment m) us → Whole R (Row L (16384 * m)) vs ws → Carries R (Map (λ (rest : List A). vs ++ rest) (General L (Left S m))) (General L S) (us ++ ws)
 general_blocks {A} {R} L S m {vs} {us} {ws} ok i law h w = carries_both (general_fragment L S m ok i h) (carries_left (same_flip (map_map (λ rest. refl))) (carries_map (carries_behind (λ _. General L (Left S m)) ok (row_lawful law (16384 * m)) (rests (header_tells h.spelt)) w)))
   where
@@ -237,7 +237,7 @@ general_last_refused {A} {R} L {S} {n} {k} ok i h g =
     let t = taken h in
     subst (λ (l : List ℕ). Refused R (General L S) l k) (sym t.2) (carries_refused (general_last L S n ok i t.1) g)
 
--- behind a fragment something stands
+-- after a fragment something stands
 rest_follows : {A : Type 0} {R : Fielding} {L : A → List Chunk → Type 0} {S : ℕ → Type 0} {m : ℕ} {us r : List ℕ} → Inhabited L → Spells R (Header S) (fragment m) us r → Follows (Row L (16384 * m)) (λ _. General L (Left S m))
 rest_follows {A} {R} {L} {S} {m} i h = rests (header_tells h.spelt)
   where
@@ -256,19 +256,19 @@ general_row_refused {A} {R} L {S} {m} {k} ok i h g =
     let t = taken h in
     subst (λ (l : List ℕ). Refused R (General L S) l k) (sym t.2) (carries_refused (general_fragment L S m ok i t.1) (map_refused (then_refused_first (rest_follows i h) g)))
 
--- a fragment, and what stands behind it
+-- a fragment, and what follows it
 pub general_rest_spells : {A : Type 0} {R : Fielding} (L : A → List Chunk → Type 0) {S : ℕ → Type 0} {m : ℕ} {vs ws : List A} {us r s t : List ℕ} → FieldsPart R → Inhabited L → Spells R (Header S) (fragment m) us r → Spells R (Row L (16384 * m)) vs r s → Spells R (General L (Left S m)) ws s t → Spells R (General L S) (vs ++ ws) us t
 general_rest_spells {A} {R} L {S} {m} {vs} {ws} {us} {r} {s} {t} ok i h f g =
     let p = taken h in
     subst (λ (l : List ℕ). Spells R (General L S) (vs ++ ws) l t) (sym p.2) ((general_fragment L S m ok i p.1).reads (vs ++ ws) r t (map_spells (then_spells f g)))
 
--- what stands behind a fragment wants more
+-- what follows a fragment wants more
 pub general_rest_short : {A : Type 0} {R : Fielding} (L : A → List Chunk → Type 0) {S : ℕ → Type 0} {m : ℕ} {vs : List A} {us r s : List ℕ} → FieldsPart R → Inhabited L → Lawful L → Spells R (Header S) (fragment m) us r → Spells R (Row L (16384 * m)) vs r s → Short R (General L (Left S m)) s → Short R (General L S) us
 general_rest_short {A} {R} L {S} {m} ok i law h f g =
     let t = taken h in
     subst (λ (l : List ℕ). Short R (General L S) l) (sym t.2) (carries_short (general_fragment L S m ok i t.1) (map_short (then_short_second ok (row_lawful law (16384 * m)) f g)))
 
--- what stands behind a fragment is refused
+-- what follows a fragment is refused
 pub general_rest_refused : {A : Type 0} {R : Fielding} (L : A → List Chunk → Type 0) {S : ℕ → Type 0} {m k : ℕ} {vs : List A} {us r s : List ℕ} → FieldsPart R → Inhabited L → Lawful L → Spells R (Header S) (fragment m) us r → Spells R (Row L (16384 * m)) vs r s → Refused R (General L (Left S m)) s k → Refused R (General L S) us k
 general_rest_refused {A} {R} L {S} {m} {k} ok i law h f g =
     let t = taken h in

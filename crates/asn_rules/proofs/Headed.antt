@@ -78,7 +78,7 @@ headed_refused_length {A} {R} {k} {C} {D} {us} {n} ok w i s = rw s.split (rw (�
     whole : (c : List ℕ) → IsContent R k c → s.before ++ s.unit ∷ [] ≡ field_units R.spelled k c → ⊥
     whole c f e = over c [] f (append-nil (s.before ++ s.unit ∷ []) ∙ e)
 
--- the content has come
+-- the content has been read
 pub headed_spells : {A : Type 0} {R : Fielding} {k : Kind} {C : ℕ → List ℕ → Type 0} {D : A → List ℕ → Type 0} {us r : List ℕ} {n : ℕ} {a : A} (c s : List ℕ) → Headed R k C → Spells R (Plain C) n us r → r ≡ c ++ s → length c ≡ n → D a c → Spells R (Sealed k D) a us s
 headed_spells {R = R} {k = k} {C = C} {us = us} {a = a} c s w h e l d =
     let p = plain_front h in
@@ -86,7 +86,7 @@ headed_spells {R = R} {k = k} {C = C} {us = us} {a = a} c s w h e l d =
     let g : us ≡ field_units R.spelled k c ++ s = p.2 ∙ ap (λ (x : List ℕ). p.0 ++ x) e ∙ sym (append_assoc p.0 c s) ∙ ap (λ (x : List ℕ). x ++ s) (sym f.1) in
     rw g (sealed_spells R a c s d f.0)
 
--- the field has come, and its content is none: refused at its last unit
+-- the field has been read, and its content is none: refused at its last unit
 pub headed_refused_content : {A : Type 0} {R : Fielding} {k : Kind} {C : ℕ → List ℕ → Type 0} {D : A → List ℕ → Type 0} {us r : List ℕ} {n : ℕ} (c s : List ℕ) → FieldsPart R → Headed R k C → SomeContent D → Spells R (Plain C) n us r → r ≡ c ++ s → length c ≡ n → ((a : A) → D a c → ⊥) → Refused R (Sealed k D) us (length s)
 headed_refused_content {A} {R} {k} {C} {D} {us} {r} {n} c s ok w i h e l never =
     let p = plain_front h in

@@ -40,7 +40,7 @@ header_of S n s =
     (cases_lt n 16384))
     (cases_lt n 128)
 
--- the count behind what a length says
+-- the count after what a length says
 pub record CountOf (S : ℕ → Type 0) (us : List ℕ) : Type 0 where
   count : ℕ
   member : S count

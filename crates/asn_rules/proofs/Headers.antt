@@ -89,11 +89,11 @@ header_blocks_is S m us f b = record { source = inr (inr m); spelt = record { si
 pub last_is : (S : ℕ → Type 0) (n : ℕ) → S n → n < 16384 → (cs : List Chunk) × Header S (last n) cs
 last_is S n h w = ⊎_elim (λ a. (ones (0 ∷ bits 7 n), header_few_is S n (bits 7 n) (record { member = h; below = a }) (bits_are 7 n (omega arith)))) (λ a. (ones (1 ∷ 0 ∷ bits 14 n), header_many_is S n (bits 14 n) (record { member = h; least = a; below = w }) (bits_are 14 n (omega arith)))) (cases_lt n 128)
 
--- Behind the first bits, what is left is a number.
+-- After the first bits, what is left is a number.
 pub header_few : (R : Fielding) (S : ℕ → Type 0) → Carries R (Map last (Plain (InSet 7 (Few S)))) (Header S) (0 ∷ [])
 header_few R S = carries_both (carries_map (fork_zero R)) (same_carries R (same_flip (map_map (λ n. refl))))
 
--- behind 10 a count in 14 bits
+-- after 10 a count in 14 bits
 pub header_many : (R : Fielding) (S : ℕ → Type 0) → Carries R (Map last (Plain (InSet 14 (Many S)))) (Header S) (1 ∷ 0 ∷ [])
 header_many R S = carries_both (carries_both (carries_map (fork_one R)) (carries_map (carries_map (fork_zero R)))) (same_carries R (many S))
   where
@@ -103,7 +103,7 @@ header_many R S = carries_both (carries_both (carries_map (fork_one R)) (carries
       from = λ v cs m. record { source = m.spelt.spelt.source; spelt = m.spelt.spelt.spelt; seen = m.seen ∙ ap length_of m.spelt.seen ∙ ap (λ (x : ℕ ⊎ ℕ). length_of (inr x)) m.spelt.spelt.seen };
     }
 
--- behind 11 a number of blocks in 6 bits
+-- after 11 a number of blocks in 6 bits
 pub header_blocks : (R : Fielding) (S : ℕ → Type 0) → Carries R (Map fragment (Plain (InSet 6 (Blocks S)))) (Header S) (1 ∷ 1 ∷ [])
 header_blocks R S = carries_both (carries_both (carries_map (fork_one R)) (carries_map (carries_map (fork_one R)))) (same_carries R (blocks S))
   where
@@ -122,7 +122,7 @@ header_inhabited {S} n h = ⊎_elim
     record { value = fragment p.0; chunks = ones (1 ∷ 1 ∷ bits 6 p.0); spelt = b }))
     (cases_lt n 16384)
 
--- The bits of a length one by one: none has come, a first one that cannot stand there, a second one that cannot.
+-- The bits of a length one by one: none has been read, a first one that cannot stand there, a second one that cannot.
 pub header_starts : {R : Fielding} {S : ℕ → Type 0} (n : ℕ) → S n → Short R (Header S) []
 header_starts {R} {S} n h = starts (header_inhabited n h)
   where
@@ -137,11 +137,11 @@ set_some {k} {T} i =
     let q = ap (λ (x : ℕ). 2 ^ x) c.digits.count in
     set_meets 2 k i.value c.member (omega (arith, b, q, c.digits.sum))
 
--- what may stand behind a first 1
+-- what may follow a first 1
 abbrev pub Longer : (ℕ → Type 0) → Type 0
 Longer S = Meets (Many S) 0 14 ⊎ Meets (Blocks S) 0 6
 
--- what is spelt behind a 1 tells which
+-- what is spelt after a 1 tells which
 longer_fork : {S : ℕ → Type 0} → Inhabited (Fork (Plain (InSet 14 (Many S))) (Plain (InSet 6 (Blocks S)))) → Longer S
 longer_fork {S} i = go i.value i.chunks i.spelt.side
   where
@@ -161,11 +161,11 @@ header_refused_first {R} {S} ok n h u us f g = refused (header_inhabited n h)
     refused : Inhabited (Header S) → Refused R (Header S) (u ∷ us) (length us)
     refused i = map_refused (fork_refused ok (record { value = i.spelt.source; chunks = i.chunks; spelt = i.spelt.spelt }) u us (λ e j. f e (set_some j)) (λ e j. g e (longer_fork j)))
 
--- behind a first 1, what is left is the rest of the fork
+-- after a first 1, what is left is the rest of the fork
 header_one : (R : Fielding) (S : ℕ → Type 0) → Carries R (Map length_of (Map inr (Fork (Plain (InSet 14 (Many S))) (Plain (InSet 6 (Blocks S)))))) (Header S) (1 ∷ [])
 header_one R S = carries_map (fork_one R)
 
--- a 1 has come
+-- a 1 has been read
 pub header_short_second : {R : Fielding} {S : ℕ → Type 0} → (l : Longer S) → Short R (Header S) (1 ∷ [])
 header_short_second {R} {S} l = carries_short {s = []} (header_one R S) (map_short (map_short (fork_short (fork_longer S l))))
 

@@ -164,7 +164,7 @@ magnitude_kept z from most = ap nat_abs (kept z (omega (arith, ints, from)) most
 
 -- ---- offsets
 
--- where the one that is left out lies, and those behind it begin
+-- where the one that is left out lies, and those after it begin
 abbrev pub hole : Option ℤ → Option ℤ → ℕ
 hole low None = above lowest_integer (lowest_of low)
 hole low (Some d) = above lowest_integer d

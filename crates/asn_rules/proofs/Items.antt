@@ -1,4 +1,4 @@
--- The items of an ENUMERATED of the profile have distinct numbers, so a number has one place.
+-- The items of an ENUMERATED of the profile have distinct numbers, so a number has one index.
 use Rattle.std.proofs.Common.{◌≡◌, ◌<◌, ◌+◌, ℕ, zero, suc, ℤ, pos, negsuc, Bool, true, false, not, ◌&&◌, ◌||◌, List, [], ◌∷◌, ◌++◌, length, map, refl, sym, ◌∙◌, ap, subst, arith, nat_le, length-append}
 use Rattle.std.proofs.lemmas.Bool.{true≢false, ltb-true, leb-false, lt-leb, and_parts, or_parts, or_from, not-false}
 use Rattle.std.proofs.lemmas.List.{map-append}
@@ -25,7 +25,7 @@ int_eq_refl (negsuc n) = go (nat_le n n) refl
     go true e = refl
     go false e = absurd (omega (arith, leb-false n n e))
 
--- the number at a place is among the numbers
+-- the number at an index is among the numbers
 among : (ls : List Label) (p : ℕ) (z : ℤ) → p < length ls → z ≡ number_at ls p → list_any (int_eq z) (numbers ls) ≡ true
 among [] p z h e = absurd (omega arith)
 among (k ∷ ls) zero z h e = let f : int_eq z k.number ≡ true = subst (λ n. int_eq z n ≡ true) e (int_eq_refl z) in rw f refl
@@ -35,7 +35,7 @@ among (k ∷ ls) (suc p) z h e = go (int_eq z k.number) (among ls p z (omega ari
     go true h = refl
     go false h = h
 
--- distinct numbers have one place each
+-- distinct numbers have one index each
 pub one_place : (ls : List Label) (p q : ℕ) → has_twice int_eq (numbers ls) ≡ false → p < length ls → q < length ls → number_at ls p ≡ number_at ls q → p ≡ q
 one_place [] p q d hp hq e = absurd (omega arith)
 one_place (k ∷ ls) zero zero d hp hq e = refl

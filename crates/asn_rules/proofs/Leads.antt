@@ -41,7 +41,7 @@ leads_map R f L us = record { done = λ b r h. map_spells h; stops = record { sh
 pub stops_first : {A B : Type 0} (R : Fielding) {L : A → List Chunk → Type 0} {M : A → B → List Chunk → Type 0} (us : List ℕ) → Follows L M → LeadsStops R L us (Then L M) us
 stops_first R us f = record { short = λ h. then_short_first f h; refused = λ n h. then_refused_first f h }
 
--- the second of two, behind a value of the first
+-- the second of two, after a value of the first
 pub leads_second : {A B : Type 0} {R : Fielding} {L : A → List Chunk → Type 0} {M : A → B → List Chunk → Type 0} {a : A} {us r : List ℕ} → FieldsPart R → Lawful L → Spells R L a us r
     → Leads R (M a) r (λ b. (a, b)) (Then L M) us
 leads_second p l h = record {

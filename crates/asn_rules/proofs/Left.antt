@@ -20,7 +20,7 @@ use Rattle.asn_rules.proofs.Spellings.{same_after}
 
 -- ---- numbers
 
--- the digits behind those that have come, by themselves or with them in front
+-- the digits after those read so far, by themselves or with them in front
 number_behind : (base k p r : ℕ) (S : ℕ → Type 0) (before : List ℕ) → AreDigits base before → weighted base before ≡ p → length before + r ≡ k → Same (NumberLeft base S p r) (Plain (λ n us. InDigits base k S n (before ++ us)))
 number_behind base k p r S before d w c = record { to = to; from = from }
   where
@@ -60,7 +60,7 @@ number_behind base k p r S before d w c = record { to = to; from = from }
 pub taking_left : {base k p r : ℕ} {S : ℕ → Type 0} {us rest : List ℕ} {R : Fielding} → FieldsPart R → (h : Taking base k S us rest p (suc r)) → Carries R (NumberLeft base S p (suc r)) (Plain (InDigits base k S)) h.before
 taking_left {base} {k} {p} {r} {S} ok h = carries_left (number_behind base k p (suc r) S h.before h.digits h.value h.count) (carries_plain h.before (taking_live ok h).none)
 
--- before any digit has come
+-- before any digit has been read
 pub number_starts : (base k : ℕ) (S : ℕ → Type 0) → Same (NumberLeft base S 0 k) (Plain (InDigits base k S))
 number_starts base k S = same_after (number_behind base k 0 k S [] tt refl (omega arith)) (record { to = λ n cs h. h; from = λ n cs h. h })
 

@@ -24,14 +24,14 @@ use Rattle.asn_rules.proofs.Octetwise.{next_octet, no_octet}
 use Rattle.asn_rules.proofs.Parts.{front_ones, refused_here}
 use Rattle.asn_rules.proofs.Spellings.{units_front, units_short}
 
--- some octets of a length have come, and it goes on
+-- some octets of a length have been read, and it goes on
 pub record InLength (low high : ℕ) (us : List ℕ) (now : BegunOctets) (rest : List ℕ) : Type 0 where
   pub at_octet : AtOctet rest
   pub come : packed us ≡ now.given ++ packed rest
   pub counts : now.counts ≡ (low, Some high) ∷ []
   pub goes : GoesOn (Spanned ((low, Some high) ∷ [])) now.given
 
--- behind an octet whole octets are left
+-- after an octet whole octets are left
 octet_less : (o : ℕ) (rest after : List ℕ) → AtOctet rest → rest ≡ bits 8 o ++ after → AtOctet after
 octet_less o rest after a e = omega (arith, a, ap length e, length-append (bits 8 o) after, length-digits 2 8 o)
 
@@ -50,7 +50,7 @@ module _ (low high : ℕ) (narrow : high < 2 ^ 32) where
   spelt_so : Same (OctetLength (Between low high)) (SpelledBy (Between low high) (λ n. ones (octet_length n)))
   spelt_so = length_spelled (Between low high) (λ n s. (let w = octet_count_below n 4 (omega arith) (omega (arith, s.1, narrow)) in omega (arith, w)))
 
-  -- the octets of a length, and others behind it
+  -- the octets of a length, and others after it
   length_done : (n : ℕ) (us rest : List ℕ) → Between low high n → us ≡ octet_length n ++ rest → Spells octet_fields (OctetLength (Between low high)) n us rest
   length_done n us rest s e =
       subst (λ (l : List ℕ). Spells octet_fields (OctetLength (Between low high)) n l rest) (sym e) (units_front octet_length octet_fields spelt_so n s rest)

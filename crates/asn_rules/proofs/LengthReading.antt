@@ -23,7 +23,7 @@ pub record InLength (old : BegunLengths) (us : List ℕ) (now : BegunLengths) (r
   pub blocks : now.blocks ≡ old.blocks
   pub opens : OpensLength (CountsLeft now.counts now.blocks) now.bits
 
--- no bit has come
+-- no bit has been read
 pub in_length_starts : (old : BegunLengths) (us : List ℕ) → old.bits ≡ [] → OpensLength (CountsLeft old.counts old.blocks) [] → InLength old us old us
 in_length_starts old us e o = record { split = ap (λ (b : List ℕ). b ++ us) (sym e); counts = refl; blocks = refl; opens = subst (λ (b : List ℕ). OpensLength (CountsLeft old.counts old.blocks) b) (sym e) o }
 
@@ -35,7 +35,7 @@ opens_start {S} e s = go (first_length s.count).bits refl
     go [] f = absurd (omega (arith, first_some s.count, ap length f))
     go (u ∷ t) f = record { count = s.count; member = s.member; next = u; more = t; split = f }
 
--- a bit after those that have come
+-- a bit after those read so far
 further : {old now : BegunLengths} {us rest after : List ℕ} {u : ℕ} → InLength old us now rest → rest ≡ u ∷ after → us ≡ (now.bits ++ u ∷ []) ++ after
 further {now = now} {after = after} {u = u} h e = h.split ∙ ap (λ r. now.bits ++ r) e ∙ sym (append_assoc now.bits (u ∷ []) after)
 
@@ -97,7 +97,7 @@ taken_done old new us rest n e t =
     let g : Goes old t.front (state.Number n) new = t.goes in
     subst (λ (l : List ℕ). NextLength old n l rest new) (sym t.split) (next_is old t.front rest n old new t.front refl refl (ap (λ (b : List ℕ). b ++ t.front) (sym e)) w g)
 
--- a fragment has come: how many items that is, and whether another fragment may follow
+-- a fragment has been read: how many items that is, and whether another fragment may follow
 pub fragment_left : {old new : BegunLengths} {us rest : List ℕ} {n : ℕ} (f : FragmentLength old n us rest new) → (16384 * new.blocks ≡ 16384 * old.blocks + n) × (is_closed new.blocks ≡ nat_lt f.blocks 4)
 fragment_left {old} {new} {us} {rest} {n} f =
     let e : new.blocks ≡ old.blocks + f.blocks = ap (λ l. l.blocks) f.goes in

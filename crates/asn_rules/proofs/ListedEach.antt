@@ -40,7 +40,7 @@ module _ (code : Shape → Datum → List Chunk) where
     pub bitmap : presence (demands fs) es ≡ bits
     pub chunks : cs ≡ each_of code fs es
 
-  -- a component that is spelt, and those behind it
+  -- a component that is spelt, and those after it
   spelt_first : (name : List ℕ) (demand : Demand) (t : Shape) (fs : Fields) (left_out : Option Datum) (bits all : List ℕ)
       → ((v : Datum) → IsOther left_out v → is_spelled demand (Some v) ≡ true)
       → ((v : Datum) (es : List (Option Datum)) → is_spelled demand (Some v) ≡ true → presence (demands fs) es ≡ bits → presence (demands (field name demand t fs)) (Some v ∷ es) ≡ all)

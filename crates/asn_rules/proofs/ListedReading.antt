@@ -23,7 +23,7 @@ nothing_read R a us = record { chunks = []; spelt = record { same = refl; empty 
 nothing_stops : {A B : Type 0} {R : Fielding} {a : A} {L : B → List Chunk → Type 0} (us : List ℕ) → LeadsStops R (Nothing a) us L us
 nothing_stops {R = R} {a = a} us = record { short = λ h. absurd (h.none a us (nothing_read R a us)); refused = λ n h. absurd (h.none a us (nothing_read R a us)) }
 
--- where nothing is spelt, nothing has come
+-- where nothing is spelt, nothing has been read
 nothing_spelt : {A : Type 0} {R : Fielding} {a b : A} {us r : List ℕ} → Spells R (Nothing a) b us r → (b ≡ a) × (us ≡ r)
 nothing_spelt {us = us} {r = r} h = let e : us ≡ r = rw h.spelt.empty at h.split in (h.spelt.same, e)
 
@@ -32,7 +32,7 @@ some_same : (v w : Datum) → Some v ≡ Some w → v ≡ w
 some_same v w e = cc
 
 module _ (code : Shape → Datum → List Chunk) (part : SpellingsPart code) (R : Fielding) (fields : FieldsPart R) where
-  -- what a component and those behind it are, told by the component's entry
+  -- what a component and those after it are, told by the component's entry
   pub record Steps (demand : Demand) (t : Shape) (present : Bool) (M L : List (Option Datum) → List Chunk → Type 0) : Type 0 where
     pub stops : (us : List ℕ) → LeadsStops R (Entry code demand t present) us L us
     pub done : (e : Option Datum) (us r : List ℕ) → Spells R (Entry code demand t present) e us r → Leads R M r (λ es. e ∷ es) L us

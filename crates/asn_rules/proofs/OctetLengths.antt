@@ -1,4 +1,4 @@
--- Lengths in octets (X.696, "length determinant") and octets behind them: laws, how they are spelt, and what
+-- Lengths in octets (X.696, "length determinant") and octets after them: laws, how they are spelt, and what
 -- readers of the parts say of the whole.
 use Rattle.std.proofs.Common.{◌≡◌, ℕ, ◌+◌, ◌-◌, ◌^◌, ◌<◌, ◌≤◌, ◌⊎◌, inl, inr, Bool, true, false, nat_lt, List, [], ◌∷◌, ◌++◌, map, length, refl, sym, ap, ◌∙◌, subst, arith}
 use Rattle.std.proofs.lemmas.Bool.{ltb-true, ltb-false, cases_lt}
@@ -47,7 +47,7 @@ octets_itself n = same_after (same_row octet_itself n) (same_after (row_spelled 
 
 -- ---- lengths
 
--- what stands behind the first octet, as it is spelt
+-- what follows the first octet, as it is spelt
 abbrev BehindFits : (ℕ → Type 0) → ℕ → ℕ → Type 0
 BehindFits S b n = ((b < 128) × (n ≡ b)) ⊎ ((128 ≤ b) × LongLength S (b - 128) n)
 
@@ -75,7 +75,7 @@ first_fits : (S : ℕ → Type 0) (b : ℕ) → FirstOctet S b → b < 256 ^ 1
 first_fits S b (inl h) = (let l = h.0 in omega arith)
 first_fits S b (inr h) = (let f = h.1.few in omega arith)
 
--- behind a small first octet nothing stands
+-- after a small first octet nothing stands
 small_behind : (b n : ℕ) → b < 128 → behind_code b n ≡ []
 small_behind b n h = go (nat_lt b 128) refl
   where
@@ -83,7 +83,7 @@ small_behind b n h = go (nat_lt b 128) refl
     go true e = rw (e, behind_code) refl
     go false e = absurd (let l = ltb-false b 128 e in omega arith)
 
--- behind a large one the octets of the length
+-- after a large one the octets of the length
 large_behind : (b n : ℕ) → 128 ≤ b → behind_code b n ≡ ones (octets (b - 128) n)
 large_behind b n h = go (nat_lt b 128) refl
   where
@@ -125,7 +125,7 @@ length_spelled S few = same_after (same_map (same_after (same_then (digits_spell
           ((128 + k, n), (inr (omega arith, record { few = subst (λ (i : ℕ). i < 128) e (few n s); number = n; length = h }), inr (omega arith, h)), refl)
     ]
 
--- behind each first octet something stands
+-- after each first octet something stands
 pub length_follows : (S : ℕ → Type 0) → Follows (Plain (InDigits 256 1 (FirstOctet S))) (BehindFirst S)
 length_follows S = record { follow = λ b cs h. some b h.spelt.member }
   where
@@ -143,7 +143,7 @@ one_first S a b n (inl p) (inr q) = absurd (let l = q.1.large in let w = p.0 in 
 one_first S a b n (inr p) (inl q) = absurd (let l = p.1.large in let w = q.0 in let e = q.1 in omega arith)
 one_first S a b n (inr p) (inr q) = (let c = p.1.count in let d = q.1.count in let l = p.0 in let m = q.0 in omega arith)
 
--- what stands behind the first octet is one or parts
+-- what follows the first octet is one or parts
 behind_lawful : (S : ℕ → Type 0) (b : ℕ) → Lawful (BehindFirst S b)
 behind_lawful S b = go (nat_lt b 128)
   where
@@ -162,9 +162,9 @@ length_lawful S = map_lawful_on once (then_lawful (set_lawful 256 1 (FirstOctet 
         let h : a.0 ≡ b.0 = one_first S a.0 b.0 b.1 (subst (λ (n : ℕ). BehindFits S a.0 n) e f) g in
         λ i. (h i, e i)
 
--- ---- octets behind their length
+-- ---- octets after their length
 
--- behind a length there are so many octets
+-- after a length there are this many octets
 pub octets_follow : (S : ℕ → Type 0) → Follows (OctetLength S) (λ n. Row OneOctet n)
 octets_follow S = record { follow = λ n cs h. row_inhabited one_octet_inhabited n }
 

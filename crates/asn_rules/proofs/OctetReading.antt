@@ -1,4 +1,4 @@
--- Octets in a row and behind their length, as they are read.
+-- Octets in a row and after their length, as they are read.
 use Rattle.std.proofs.Common.{◌≡◌, ◌≤◌, ◌<◌, ℕ, List, [], ◌++◌, length, length-append, refl, sym, ap, ◌∙◌, subst, arith}
 use Rattle.std.specs.List.{AllByRecursion}
 use Rattle.asn_bits.specs.Moves.{Taken}
@@ -35,7 +35,7 @@ row_taken n us vs os t =
 pub row_whole : (n : ℕ) (us vs os : List ℕ) → AtOctet us → Taken n us vs [] os → AtOctet vs
 row_whole n us vs os a t = omega (arith, a, ap length t.taken, length-append (unpacked t.octets) vs, length-unpacked t.octets)
 
--- ---- behind their length
+-- ---- after their length
 
 module _ (S : ℕ → Type 0) where
   whole : (us : List ℕ) → Leads octet_fields (Then (OctetLength S) (λ n. Row OneOctet n)) us octets_told (OctetsBehind S) us

@@ -22,7 +22,7 @@ use Rattle.asn_rules.proofs.OctetLengths.{one_octet_lawful, octets_itself}
 
 -- ---- octets as units
 
--- so many octets stand in front
+-- this many octets stand in front
 pub octets_front : (R : Fielding) (n : ℕ) (c r : List ℕ) → length c ≡ n → AllByRecursion (λ o. o < 256) c → Spells R (Row OneOctet n) c (c ++ r) r
 octets_front R n c r l p = units_front (λ c. c) R (octets_itself n) c (l, p) r
 
@@ -49,7 +49,7 @@ joined_bits (o ∷ c) = ap (λ (l : List Chunk). ones (bits 8 o) ++ l) (joined_b
 pub octets_unpacked : (n : ℕ) → Same (Row Octet n) (SpelledBy (λ c. (length c ≡ n) × AllByRecursion (λ o. o < 256) c) (λ c. ones (unpacked c)))
 octets_unpacked n = same_after (same_row octet_spelled n) (same_after (row_spelled n) (same_spelled (λ c h. h) (λ c h. h) (λ c h. joined_bits c)))
 
--- the bits of so many octets stand in front
+-- the bits of this many octets stand in front
 pub octet_bits_front : (R : Fielding) (n : ℕ) (c r : List ℕ) → length c ≡ n → AllByRecursion (λ o. o < 256) c → Spells R (Row Octet n) c (unpacked c ++ r) r
 octet_bits_front R n c r l p = units_front unpacked R (octets_unpacked n) c (l, p) r
 
@@ -83,7 +83,7 @@ zero_bits : (n : ℕ) → AreBits (replicate n 0)
 zero_bits zero = tt
 zero_bits (suc n) = (omega arith, zero_bits n)
 
--- there are too few bits for so many octets
+-- there are too few bits for this many octets
 pub octet_bits_few : {R : Fielding} → FieldsPart R → (n : ℕ) (us : List ℕ) → AreBits us → length us < 8 * n → Short R (Row Octet n) us
 octet_bits_few {R} ok n us p l = go (packs n whole bits_whole count)
   where

@@ -30,6 +30,6 @@ long_length n c h k =
 pub content : (os : List ℕ) → unpacked (spelled os) ≡ unpacked (octet_length (length os)) ++ unpacked os
 content os = unpacked-append (octet_length (length os)) os
 
--- the zeros behind n bits as a number
+-- the zeros after n bits as a number
 pub filling_bits : (n u : ℕ) → u ≡ unused_bits n → bits u 0 ≡ padding n
 filling_bits n u e = ap (λ (i : ℕ). bits i 0) e ∙ bits_zero (unused_bits n)

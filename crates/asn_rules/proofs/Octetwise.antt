@@ -140,7 +140,7 @@ pub no_octet : (us : List ℕ) → AtOctet us → length us < 8 → packed us �
 no_octet [] a h = refl
 no_octet (u ∷ us) a h = absurd (omega (arith, a, h))
 
--- so many octets, the next one and those behind it
+-- this many octets, the next one and those after it
 octet_at : (q : ℕ) (ps : List ℕ) → q < length ps → (before : List ℕ) × (o : ℕ) × (after : List ℕ) × (ps ≡ before ++ o ∷ after) × (length before ≡ q)
 octet_at q [] h = absurd (omega arith)
 octet_at zero (p ∷ ps) h = ([], p, ps, refl, refl)

@@ -26,7 +26,7 @@ one_place IsLive b k l p q = elim (cases_order k l) [
   | inr (inr before) ↦ absurd (q.1 (p.2 l before))
 ]
 
--- octets that are live are refused at no place
+-- octets that are live are refused at no position
 pub live_not_refused : (r : Ruling) (t : Shape) (s : List ℕ) (k : ℕ) → LiveOctets r t s → Place (Live r.fielding r.whole t) (r.units s) k → ⊥
 live_not_refused r t s k live place =
     place.1 (live_closed r.fielding r.whole t (take k (r.units s)) (drop k (r.units s)) (subst (Live r.fielding r.whole t) (sym (take-append-drop k (r.units s))) live))

@@ -20,7 +20,7 @@ module _ (r : Ruling) (rules : RulesTell r) (t : Shape) (good : InProfile t) whe
   pub holds_whole : (c : List ℕ) (v : Datum) → IsContent r.fielding open_field c → Whole r.fielding (Wholes r t) v (r.units c) → Holds r t v c
   holds_whole c v h w = record { octets = h.2; encoding = (content_is r rules t good c v h.1).1 w }
 
-  -- one that is read to the need of more, to a refusal, or to a value with units behind it, is none
+  -- one that is read to the need of more, to a refusal, or to a value with units after it, is none
   pub holds_no_less : (c : List ℕ) → IsContent r.fielding open_field c → Short r.fielding (Wholes r t) (r.units c) → (v : Datum) → Holds r t v c → ⊥
   holds_no_less c h s v w = no_content_short r rules t good c h.1 s v w.encoding
 
@@ -28,7 +28,7 @@ module _ (r : Ruling) (rules : RulesTell r) (t : Shape) (good : InProfile t) whe
   pub holds_none : (c : List ℕ) (left : ℕ) → IsContent r.fielding open_field c → Refused r.fielding (Wholes r t) (r.units c) left → (v : Datum) → Holds r t v c → ⊥
   holds_none c left h s v w = no_content_refused r rules t good c left h.1 s v w.encoding
 
-  -- by units behind it
+  -- by units after it
   pub holds_no_more : (c : List ℕ) (a : Datum) (u : ℕ) (rest : List ℕ) → IsContent r.fielding open_field c → Spells r.fielding (Wholes r t) a (r.units c) (u ∷ rest) → (v : Datum) → Holds r t v c → ⊥
   holds_no_more c a u rest h s v w = no_content_behind r rules t good c a (u ∷ rest) h.1 s (λ e. cc) v w.encoding
 

@@ -27,17 +27,17 @@ fixed_lawful zs = plain_lawful (fixed_code zs)
 pub fixed_inhabited : (zs : List ℕ) → Inhabited (Fixed zs)
 fixed_inhabited zs = plain_inhabited tt zs (record { same = refl })
 
--- where the reader of given units stands: some have come, and these are left
+-- where the reader of given units stands: some have been read, and these are left
 pub record Matching (zs us rest left : List ℕ) : Type 0 where
   pub come : List ℕ
   pub all : zs ≡ come ++ left
   pub split : us ≡ come ++ rest
 
--- no unit has come
+-- no unit has been read
 pub matching_starts : (zs us : List ℕ) → Matching zs us us zs
 matching_starts zs us = record { come = []; all = refl; split = refl }
 
--- the unit that is wanted has come
+-- the unit that is wanted has been read
 pub matching_more : {zs us rest left after more : List ℕ} {u : ℕ} → Matching zs us rest left → left ≡ u ∷ more → rest ≡ u ∷ after → Matching zs us after more
 matching_more {after = after} {more = more} {u = u} f l e = record {
   come = f.come ++ u ∷ [];
@@ -45,7 +45,7 @@ matching_more {after = after} {more = more} {u = u} f l e = record {
   split = f.split ∙ ap (λ (t : List ℕ). f.come ++ t) e ∙ sym (append_assoc f.come (u ∷ []) after);
 }
 
--- no unit is left: all have come
+-- no unit is left: all have been read
 pub matching_done : {zs us rest left : List ℕ} (R : Fielding) → Matching zs us rest left → left ≡ [] → Spells R (Fixed zs) tt us rest
 matching_done {zs} {us} {rest} {left} R f e =
     let c : f.come ≡ zs = sym (append-nil f.come) ∙ ap (λ (t : List ℕ). f.come ++ t) (sym e) ∙ sym f.all in
@@ -77,7 +77,7 @@ repeats_more z {left = suc n} f p e =
     let d : suc n - 1 ≡ n = omega arith in
     rw d (matching_more f refl e)
 
--- all have come
+-- all have been read
 pub repeats_done : (z : ℕ) {zs us rest : List ℕ} {left : ℕ} (R : Fielding) → Matching zs us rest (replicate left z) → left ≤ 0 → Spells R (Fixed zs) tt us rest
 repeats_done z {left = zero} R f p = matching_done R f refl
 repeats_done z {left = suc n} R f p = absurd (omega arith)
@@ -110,7 +110,7 @@ fills_lawful {A} {R} {fill} {L} law a = record {
 pub fills_follow : {A : Type 0} {R : Fielding} {fill : ℕ → List ℕ} {L : A → List Chunk → Type 0} → Follows L (Fills R fill L)
 fills_follow {A} {R} {fill} {L} = record { follow = λ a x h. (let i = fixed_inhabited (fill (length (flat R.spelled x))) in record { value = i.value; chunks = i.chunks; spelt = record { chunks = x; spelt = h; behind = i.spelt } }) }
 
--- which units fill it up, told by how many units stand before and behind the spelling
+-- which units fill it up, told by how many units stand before and after the spelling
 pub fills_same : {A : Type 0} {R : Fielding} {fill : ℕ → List ℕ} {L : A → List Chunk → Type 0} {a : A} {us r : List ℕ} → Lawful L → Spells R L a us r → Same (Fixed (fill (length us - length r))) (Fills R fill L a)
 fills_same {A} {R} {fill} {L} {a} {us} {r} law h = record {
   to = λ v cs z. record { chunks = h.chunks; spelt = h.spelt; behind = subst (λ (n : ℕ). Fixed (fill n) v cs) count z };
@@ -141,7 +141,7 @@ padded_short h = map_short (then_short_first fills_follow h)
 pub padded_refused : {A : Type 0} {R : Fielding} {fill : ℕ → List ℕ} {L : A → List Chunk → Type 0} {us : List ℕ} {n : ℕ} → Refused R L us n → Refused R (Padded R fill L) us n
 padded_refused h = map_refused (then_refused_first fills_follow h)
 
--- the spelling has come, and what fills it up
+-- the spelling has been read, and what fills it up
 pub padded_spells : {A : Type 0} {R : Fielding} {fill : ℕ → List ℕ} {L : A → List Chunk → Type 0} {a : A} {us r s : List ℕ} → Lawful L → Spells R L a us r → Spells R (Fixed (fill (length us - length r))) tt r s → Spells R (Padded R fill L) a us s
 padded_spells law h z = map_spells (then_spells h (same_spells (fills_same law h) z))
 

@@ -9,7 +9,7 @@ use Rattle.asn_rules.proofs.Chunks.{FieldsPart}
 module _ (R : Fielding)
     (code : (c d s t : List ℕ) → AllByRecursion (λ o. o < 256) c → AllByRecursion (λ o. o < 256) d → R.spelled c ++ s ≡ R.spelled d ++ t → c ≡ d)
     (some : (c : List ℕ) → R.spelled c ≢ []) where
-  -- the units of a field that was read in part are those behind what was read
+  -- the units of a field that was read in part are those after what was read
   behind : (k : Kind) (us c : List ℕ) → BeginsProperly us (field_units R.spelled k c) → field_units R.spelled k c ≡ us ++ field_units R.spelled (rest_of k us) c
   behind k us c b = b.2 ∙ ap (λ l. us ++ l) (sym (drop-append_seam us (b.0 ∷ b.1)) ∙ ap (drop (length us)) (sym b.2))
 

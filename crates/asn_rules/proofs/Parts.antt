@@ -25,7 +25,7 @@ short_within {R = R} {L = L} {us = us} ok law v x l f w = record {
     not_empty_after [] u us e = cc
     not_empty_after (x ∷ r) u us e = cc
 
--- A unit after which no spelling can follow, behind a beginning of one, is where the reader stops.
+-- A unit after which no spelling can follow, after a beginning of one, is where the reader stops.
 pub refused_here : {V : Type 0} {R : Fielding} {L : V → List Chunk → Type 0} → FieldsPart R → (before : List ℕ) (u : ℕ) (after : List ℕ) → Short R L before → (IsLive R L (before ++ u ∷ []) → ⊥) → Refused R L (before ++ u ∷ after) (length after)
 refused_here {V} {R} {L} ok before u after s dead = record {
   before = before;

@@ -1,4 +1,4 @@
--- The number of units behind a refused one tells its place; and in few units each field of a spelling is one
+-- The number of units after a refused one tells its position; and in few units each field of a spelling is one
 -- that may stand there.
 use Rattle.std.proofs.Common.{◌≡◌, ◌≤◌, ◌<◌, ◌+◌, ◌-◌, ◌*◌, ◌/◌, ◌⊎◌, inl, inr, ℕ, suc, List, [], ◌∷◌, ◌++◌, length, take, drop, length-append, sym, ◌∙◌, ap, subst, arith, append_assoc}
 use Rattle.std.proofs.lemmas.List.{append-nil, length-take-le, take-append-drop}
@@ -12,13 +12,13 @@ use Rattle.asn_rules.specs.Languages.{IsLive, Refused, AllContents}
 use Rattle.asn_rules.proofs.Lists.{Within, Beyond, cut, no_length}
 use Rattle.asn_rules.proofs.Then.{live_shorter}
 
--- ---- the place
+-- ---- the position
 
 -- what is live at a list is so at what begins it
 live_before : {V : Type 0} {R : Fielding} {L : V → List Chunk → Type 0} (b us t : List ℕ) → IsLive R L b → us ++ t ≡ b → IsLive R L us
 live_before {R = R} {L = L} b us t h e = live_shorter us t (subst (λ (l : List ℕ). IsLive R L l) (sym e) h)
 
--- a refusal with so many units behind it is at this place
+-- a refusal with this many units after it is at this position
 pub refused_place : {V : Type 0} {R : Fielding} {L : V → List Chunk → Type 0} {us : List ℕ} {left : ℕ} → Refused R L us left → Place (λ b. IsLive R L b) us (length us - left)
 refused_place {V} {R} {L} {us} {left} h = (
   omega arith,
@@ -47,7 +47,7 @@ refused_place {V} {R} {L} {us} {left} h = (
         let e : take j us ≡ h.before = b.front ∙ ap (λ (l : List ℕ). h.before ++ l) z ∙ append-nil h.before in
         subst (λ (l : List ℕ). IsLive R L l) (sym e) h.live
 
--- the same place by another account of what is live
+-- the same position by another account of what is live
 pub place_by : {A B : List ℕ → Type 0} {us : List ℕ} {k : ℕ} → ((b : List ℕ) → A b → B b) → ((b : List ℕ) → B b → A b) → Place (λ b. A b) us k → Place (λ b. B b) us k
 place_by {us = us} {k = k} to from p = (p.0, λ l. p.1 (from (take k us) l), λ j w. to (take j us) (p.2 j w))
 

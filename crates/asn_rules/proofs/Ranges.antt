@@ -44,7 +44,7 @@ range_many {S} o c p r w l s =
     let e : s.number ≡ o + (s.number - o) = omega arith in
     record { number = s.number - o; member = record { member = record { member = subst (λ (x : ℕ). S x) e s.member; largest = λ _. omega arith }; least = omega arith; below = omega arith }; least = omega arith; below = omega arith }
 
--- behind fewer than 4 blocks come no blocks
+-- after fewer than 4 blocks come no blocks
 pub closed_blocks : {S : ℕ → Type 0} {o p r : ℕ} → Meets (Blocks (At S o true)) p r → ⊥
 closed_blocks m =
     let b = m.member in
@@ -109,7 +109,7 @@ range_blocks {S} o p r w h s = go (max 1 (p * 2 ^ r)) (min 4 ((p + 1) * 2 ^ r - 
               below = omega arith;
             }
 
--- What is left behind blocks, in the same terms.
+-- What is left after blocks, in the same terms.
 pub left_at : {S : ℕ → Type 0} {o m n : ℕ} → Left (At S o false) m n → At S (o + 16384 * m) (nat_lt m 4) n
 left_at {S} {o} {m} {n} h =
     let e : o + (16384 * m + n) ≡ o + 16384 * m + n = omega arith in
@@ -129,7 +129,7 @@ at_left {S} {o} {m} {n} h =
     let e : o + 16384 * m + n ≡ o + (16384 * m + n) = omega arith in
     record { member = record { member = subst (λ (x : ℕ). S x) e h.member; largest = λ q. cc }; largest = λ q. h.largest (less m 4 q) }
 
--- no item has come
+-- no item has been read
 pub at_start : {S : ℕ → Type 0} {n : ℕ} → S n → At S 0 false n
 at_start {S} {n} h =
     let e : n ≡ 0 + n = omega arith in
@@ -153,11 +153,11 @@ blocks_to f m h = record { some = h.some; most = h.most; rest = h.rest; left = l
 set_to : {k : ℕ} {S T : ℕ → Type 0} → ((n : ℕ) → S n → T n) → (n : ℕ) (cs : List Chunk) → Plain (InSet k S) n cs → Plain (InSet k T) n cs
 set_to f n cs h = record { units = h.units; spelt = record { digits = h.spelt.digits; member = f n h.spelt.member }; same = h.same }
 
--- behind a bit
+-- after a bit
 branch_to : {A V : Type 0} {u : ℕ} {g : A → V} {L M : A → List Chunk → Type 0} → ((a : A) (cs : List Chunk) → L a cs → M a cs) → (v : V) (cs : List Chunk) → Branch u g L v cs → Branch u g M v cs
 branch_to f v cs h = record { value = h.value; rest = h.rest; spelt = f h.value h.rest h.spelt; seen = h.seen; same = h.same }
 
--- behind either bit
+-- after either bit
 fork_to : {A B : Type 0} {X Z : A → List Chunk → Type 0} {Y W : B → List Chunk → Type 0} → ((a : A) (cs : List Chunk) → X a cs → Z a cs) → ((b : B) (cs : List Chunk) → Y b cs → W b cs) → (v : A ⊎ B) (cs : List Chunk) → Fork X Y v cs → Fork Z W v cs
 fork_to f g v cs h = record { side = ⊎_elim (λ b. inl (branch_to f v cs b)) (λ b. inr (branch_to g v cs b)) h.side }
 
@@ -189,7 +189,7 @@ general_sets L {S} {T} f g = record {
   from = λ v cs h. record { lengths = h.lengths; spelt = within_to L h.lengths T S g v cs h.spelt };
 }
 
--- behind blocks, the general length of what is left
+-- after blocks, the general length of what is left
 pub general_left : {A : Type 0} (L : A → List Chunk → Type 0) (S : ℕ → Type 0) (o m : ℕ) → Same (General L (Left (At S o false) m)) (General L (At S (o + 16384 * m) (nat_lt m 4)))
 general_left L S o m = general_sets L (λ n h. left_at h) (λ n h. at_left h)
 

@@ -114,7 +114,7 @@ module _ (r : Ruling) (rules : RulesTell r) (t : Shape) (good : InProfile t) whe
   pub none_is : (s : List ℕ) → length s ≤ max_octets → NoSpelling r.fielding (Wholes r t) (r.units s) → NoFront r t s
   none_is s few none = λ v n w h. none v (r.units (drop n s)) (encoding_spells s v n few w h)
 
-  -- a spelling at the front of the units, with those of so many octets behind it, is an encoding
+  -- a spelling at the front of the units, with those of this many octets after it, is an encoding
   pub spells_encoding : (s : List ℕ) (v : Datum) (n : ℕ) (rest : List ℕ) → n ≤ length s → length rest ≡ length (r.units (drop n s)) → Spells r.fielding (Wholes r t) v (r.units s) rest → IsEncoding r t v (take n s)
   spells_encoding s v n rest w l h = (h.spelt.fits, fronts ∙ ap (flat r.fielding.spelled) h.spelt.same)
     where
@@ -127,7 +127,7 @@ module _ (r : Ruling) (rules : RulesTell r) (t : Shape) (good : InProfile t) whe
       fronts : r.units (take n s) ≡ flat r.fielding.spelled h.chunks
       fronts = same_fronts (r.units (take n s)) (flat r.fielding.spelled h.chunks) (r.units (drop n s)) rest (omega (arith, count, l)) split
 
-  -- octets are an encoding where their units are a spelling with nothing behind it
+  -- octets are an encoding where their units are a spelling with nothing after it
   pub content_is : (c : List ℕ) (v : Datum) → length c ≤ max_octets → IsEncoding r t v c ↔ Whole r.fielding (Wholes r t) v (r.units c)
   content_is c v few = (
     λ h.
@@ -144,7 +144,7 @@ module _ (r : Ruling) (rules : RulesTell r) (t : Shape) (good : InProfile t) whe
           let count : rules.weight * length (drop (length c) c) ≡ rules.weight * 0 = ap (λ (i : ℕ). rules.weight * i) none in
           no_length (r.units (drop (length c) c)) (omega (arith, rules.count (drop (length c) c), count))
 
-  -- so a content that is read to more, to a refusal, or to a value with units behind it, is no encoding
+  -- so a content that is read to more, to a refusal, or to a value with units after it, is no encoding
   pub no_content_short : (c : List ℕ) → length c ≤ max_octets → Short r.fielding (Wholes r t) (r.units c) → (a : Datum) → IsEncoding r t a c → ⊥
   no_content_short c few h a e = h.none a [] ((content_is c a few).0 e)
 
@@ -152,7 +152,7 @@ module _ (r : Ruling) (rules : RulesTell r) (t : Shape) (good : InProfile t) whe
   pub no_content_refused : (c : List ℕ) (left : ℕ) → length c ≤ max_octets → Refused r.fielding (Wholes r t) (r.units c) left → (a : Datum) → IsEncoding r t a c → ⊥
   no_content_refused c left few h a e = h.none a [] ((content_is c a few).0 e)
 
-  -- by units behind it
+  -- by units after it
   pub no_content_behind : (c : List ℕ) (v : Datum) (rest : List ℕ) → length c ≤ max_octets → Spells r.fielding (Wholes r t) v (r.units c) rest → rest ≢ [] → (a : Datum) → IsEncoding r t a c → ⊥
   no_content_behind c v rest few h full a e = full (one_front fields_tell wholes_lawful h ((content_is c a few).0 e)).1
 
@@ -162,7 +162,7 @@ module _ (r : Ruling) (rules : RulesTell r) (t : Shape) (good : InProfile t) whe
   pub answer_done : (s : List ℕ) (v : Datum) (n : ℕ) (rest : List ℕ) → n ≤ length s → length rest ≡ length (r.units (drop n s)) → Spells r.fielding (Wholes r t) v (r.units s) rest → Answer r t s (done v n)
   answer_done s v n rest w l h = (w, spells_encoding s v n rest w l h)
 
-  -- a refusal is at the place of the answer
+  -- a refusal is at the position of the answer
   pub answer_refused : (s : List ℕ) (left : ℕ) → length s ≤ max_octets → Refused r.fielding (Wholes r t) (r.units s) left → Answer r t s (refused (length (r.units s) - left))
   answer_refused s left few h = (none_is s few h.none, place_by (λ b. (live_is b).1) (λ b. (live_is b).0) (refused_place h))
 

@@ -24,7 +24,7 @@ pub row_inhabited : {A : Type 0} {L : A → List Chunk → Type 0} → Inhabited
 row_inhabited i zero = nothing_inhabited []
 row_inhabited i (suc n) = map_inhabited (then_inhabited i (record { follow = λ a x h. row_inhabited i n }))
 
--- behind a value there is a row
+-- after a value there is a row
 row_follows : {A : Type 0} {L : A → List Chunk → Type 0} → Inhabited L → (n : ℕ) → Follows L (λ _. Row L n)
 row_follows i n = record { follow = λ a x h. row_inhabited i n }
 
@@ -44,7 +44,7 @@ row_refused_first i n h = map_refused (then_refused_first (row_follows i n) h)
 pub row_one : {A : Type 0} {R : Fielding} {L : A → List Chunk → Type 0} {a : A} {us r : List ℕ} → Spells R L a us r → Spells R (Row L 1) (a ∷ []) us r
 row_one {R = R} {r = r} h = map_spells (then_spells h (nothing_spells R [] r))
 
--- Behind i values, the answers of the others.
+-- After i values, the answers of the others.
 pub row_spells : {A : Type 0} {R : Fielding} (L : A → List Chunk → Type 0) (i m k : ℕ) {vs ws : List A} {us r s : List ℕ} → i + m ≡ k → Spells R (Row L i) vs us r → Spells R (Row L m) ws r s → Spells R (Row L k) (vs ++ ws) us s
 row_spells {A} {R} L zero m k {vs} {ws} {us} {r} {s} e f g =
     let q : m ≡ k = omega arith in
@@ -56,7 +56,7 @@ row_spells {A} {R} L (suc i) m (suc k) {vs} {ws} {us} {r} {s} e f g =
     let b = then_splits p.1 in
     rw p.2 (map_spells (then_spells b.earlier (row_spells L i m k (omega arith) b.later g)))
 
--- behind i values the others want more
+-- after i values the others want more
 pub row_short : {A : Type 0} {R : Fielding} (L : A → List Chunk → Type 0) → FieldsPart R → Lawful L → (i m k : ℕ) {vs : List A} {us r : List ℕ} → i + m ≡ k → Spells R (Row L i) vs us r → Short R (Row L m) r → Short R (Row L k) us
 row_short {A} {R} L ok law zero m k {us = us} {r = r} e f g =
     let q : m ≡ k = omega arith in
@@ -66,7 +66,7 @@ row_short L ok law (suc i) m (suc k) e f g =
     let b = then_splits (map_source f).1 in
     map_short (then_short_second ok law b.earlier (row_short L ok law i m k (omega arith) b.later g))
 
--- behind i values the others are refused
+-- after i values the others are refused
 pub row_refused : {A : Type 0} {R : Fielding} (L : A → List Chunk → Type 0) → FieldsPart R → Lawful L → (i m k : ℕ) {vs : List A} {us r : List ℕ} {n : ℕ} → i + m ≡ k → Spells R (Row L i) vs us r → Refused R (Row L m) r n → Refused R (Row L k) us n
 row_refused {A} {R} L ok law zero m k {us = us} {r = r} {n = n} e f g =
     let q : m ≡ k = omega arith in

@@ -66,7 +66,7 @@ pub record Taking (base k : ℕ) (S : ℕ → Type 0) (us rest : List ℕ) (p r 
   pub count : length before + r ≡ k
   pub alive : MeetsIn base S p r
 
--- no digit has come
+-- no digit has been read
 pub taking_starts : {base k : ℕ} {S : ℕ → Type 0} (us : List ℕ) → MeetsIn base S 0 k → Taking base k S us us 0 k
 taking_starts us m = record { before = []; digits = tt; split = refl; value = refl; count = omega arith; alive = m }
 
@@ -94,7 +94,7 @@ pub record Begun (base k : ℕ) (S : ℕ → Type 0) (r : ℕ) (bs : List ℕ) :
   pub many : length more ≡ r
   pub spelt : InDigits base k S number (bs ++ more)
 
--- some number of the set goes on behind the digits that have come
+-- some number of the set goes on after the digits read so far
 pub begun : {base k p r : ℕ} {S : ℕ → Type 0} {us rest : List ℕ} → (h : Taking base k S us rest p r) → Begun base k S r h.before
 begun {base} {k} {p} {r} {S} h =
     let n = h.alive.number in

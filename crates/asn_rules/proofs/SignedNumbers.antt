@@ -302,7 +302,7 @@ module _ (s : OffsetSet) (c : ℕ) (some : 1 ≤ c) (few : c ≤ 8) (mid new : L
       (λ k. inr (omega (arith, k.0, eh, within), omega (arith, k.1, eh, less, within), subst (λ (x : ℕ). HasOffset s (n + 2 ^ 63 - 2 * x)) eh k.2))
       (q.there n a)
 
-  -- those that need so many octets
+  -- those that need this many octets
   pub are_signed : i ≡ least_magnitude_of c → AreSigned s c new
   are_signed e = record {
     there = λ n l. shifted_there n (subst (λ (x : ℕ). Sides s c some few x n) (sym e) (at_offset s c some few n l));

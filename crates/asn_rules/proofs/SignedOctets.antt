@@ -8,7 +8,7 @@ use Rattle.asn_rules.specs.declared.signed_reader.OffsetSet.{OffsetSet}
 use Rattle.asn_rules.specs.OctetReading.{CountedSignedIn, SignedOctetsIn}
 use Rattle.asn_rules.proofs.Octetwise.{InOctets, number_octets, then_octets, map_octets}
 
--- a count in an octet, and so many octets
+-- a count in an octet, and this many octets
 counted_in_octets : (T : ℕ → ℕ → Type 0) → InOctets (Counted 2 8 T) (Counted 256 1 T)
 counted_in_octets T = then_octets (number_octets 1 (SomeOf T)) behind
   where

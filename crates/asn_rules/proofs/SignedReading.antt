@@ -50,7 +50,7 @@ module _ (s : OffsetSet) (low : ℕ)
 pub some_number : (s : OffsetSet) (c : ℕ) (is : List (ℕ × ℕ)) → AreSigned s c is → SomeOf (LeastSigned (λ z. HasInteger s z)) c → Meets (λ n. Among is n) 0 (8 * c)
 some_number s c is are o = record { number = o.number; member = are.there o.number o.member; least = omega arith; below = omega (arith, o.fits, two_pow_octets c) }
 
--- a number in so many octets is read for its integer
+-- a number in this many octets is read for its integer
 pub standing_leads : (s : OffsetSet) (c : ℕ) (is : List (ℕ × ℕ)) → AreStanding s c is → (R : Fielding) (us : List ℕ) → Leads R (Plain (InDigits 2 (8 * c) (λ n. Among is n))) us (λ n. signed_number (c, n)) (SignedIn c s) us
 standing_leads s c is are R us = leads_on (leads_same R us (same_set 2 (8 * c) are.back are.there)) (leads_map R (λ n. signed_number (c, n)) (Plain (InDigits 2 (8 * c) (StandsFor s c))) us)
 

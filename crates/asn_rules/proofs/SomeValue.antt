@@ -104,7 +104,7 @@ entries_fit root more es gs l p q =
     (subst (λ n. FitsEach root (take n (es ++ gs)) × FitsMore more (drop n (es ++ gs))) l
     (subst (FitsEach root) (sym (take-append_seam es gs)) p, subst (FitsMore more) (sym (drop-append_seam es gs)) q))
 
--- an alternative stands in the first place of one or more
+-- an alternative is the first of one or more
 pub first_place : (n : ℕ) → nat_lt 0 (suc n) ≡ true
 first_place n = lt-ltb 0 (suc n) (omega arith)
 

@@ -181,7 +181,7 @@ fork_spelled {A} {B} {P} {Q} {f} {g} = record {
     back (inl a) cs p e = record { side = inl (record { value = a; rest = f a; spelt = record { fits = p; same = refl }; seen = refl; same = e }) }
     back (inr b) cs p e = record { side = inr (record { value = b; rest = g b; spelt = record { fits = p; same = refl }; seen = refl; same = e }) }
 
--- behind a bit
+-- after a bit
 pub same_fork : {A B : Type 0} {K L : A → List Chunk → Type 0} {M N : B → List Chunk → Type 0} → Same K L → Same M N → Same (Fork K M) (Fork L N)
 same_fork e f = record { to = λ v cs h. record { side = ⊎_elim (λ b. inl (record { value = b.value; rest = b.rest; spelt = e.to b.value b.rest b.spelt; seen = b.seen; same = b.same })) (λ b. inr (record { value = b.value; rest = b.rest; spelt = f.to b.value b.rest b.spelt; seen = b.seen; same = b.same })) h.side }; from = λ v cs h. record { side = ⊎_elim (λ b. inl (record { value = b.value; rest = b.rest; spelt = e.from b.value b.rest b.spelt; seen = b.seen; same = b.same })) (λ b. inr (record { value = b.value; rest = b.rest; spelt = f.from b.value b.rest b.spelt; seen = b.seen; same = b.same })) h.side } }
 

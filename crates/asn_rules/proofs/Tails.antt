@@ -33,7 +33,7 @@ front_passed R k c cs (u ∷ us) p = inr p
 tail_whole : (R : Fielding) (k : Kind) (us c : List ℕ) → IsContent R (rest_of k us) c → us ++ field_units R.spelled (rest_of k us) c ≡ field_units R.spelled k c
 tail_whole R k us c f = begun_whole us (field_units R.spelled k c) f.1
 
--- Behind units that are less than a field, its tail is left.
+-- After units that are less than a field, its tail is left.
 pub carries_sealed : {A : Type 0} {R : Fielding} {k : Kind} {D : A → List ℕ → Type 0} {us : List ℕ} → FieldsPart R → InField R k us → Carries R (Sealed (rest_of k us) D) (Sealed k D) us
 carries_sealed {A} {R} {k} {D} {us} ok free = record {
   reads = λ v s r h. reads v s r h;

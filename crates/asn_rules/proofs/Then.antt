@@ -55,7 +55,7 @@ pub record Both {A B : Type 0} (R : Fielding) (L : A → List Chunk → Type 0) 
   pub earlier : Spells R L v.0 us rest
   pub later : Spells R (M v.0) v.1 rest s
 
--- a front of both is a front of the first, and behind it one of the second
+-- a front of both is a front of the first, and after it one of the second
 pub then_splits : {A B : Type 0} {R : Fielding} {L : A → List Chunk → Type 0} {M : A → B → List Chunk → Type 0} {v : A × B} {us s : List ℕ} → Spells R (Then L M) v us s → Both R L M v us s
 then_splits {R = R} {s = s} h =
     let t = h.spelt in
@@ -66,11 +66,11 @@ then_splits {R = R} {s = s} h =
       later = record { chunks = t.second; spelt = t.follows; contents = contents-second R t.first t.second f; split = refl };
     }
 
--- behind what some value of the first spells, some value of the second is spelt
+-- after what some value of the first spells, some value of the second is spelt
 pub record Follows {A B : Type 0} (L : A → List Chunk → Type 0) (M : A → B → List Chunk → Type 0) : Type 0 where
   pub follow : (a : A) (x : List Chunk) → L a x → Inhabited (M a)
 
--- some value is spelt where some first value is, and behind each some second
+-- some value is spelt where some first value is, and after each some second
 pub then_inhabited : {A B : Type 0} {L : A → List Chunk → Type 0} {M : A → B → List Chunk → Type 0} → Inhabited L → Follows L M → Inhabited (Then L M)
 then_inhabited i f =
     let g = f.follow i.value i.chunks i.spelt in
@@ -82,7 +82,7 @@ then_live_first {R = R} {us = us} f h =
     let g = f.follow h.value h.chunks h.spelt in
     record { value = (h.value, g.value); chunks = h.chunks ++ g.chunks; spelt = record { first = h.chunks; second = g.chunks; spelt = h.spelt; follows = g.spelt; whole = refl }; front = front_longer R h.chunks g.chunks us h.front }
 
--- behind the first, what begins the second begins both
+-- after the first, what begins the second begins both
 pub then_live_second : {A B : Type 0} {R : Fielding} {L : A → List Chunk → Type 0} {M : A → B → List Chunk → Type 0} → FieldsPart R → (a : A) (x : List Chunk) (us : List ℕ) → L a x → AllContents R x → IsLive R (M a) us → IsLive R (Then L M) (flat R.spelled x ++ us)
 then_live_second ok a x us l f h =
     record { value = (a, h.value); chunks = x ++ h.chunks; spelt = record { first = x; second = h.chunks; spelt = l; follows = h.spelt; whole = refl }; front = front_behind ok x h.chunks us f h.front }
@@ -95,7 +95,7 @@ then_live_cases {A} {B} {R} {L} {M} {us} h = go (front_parts R h.spelt.first h.s
     go (inl q) = inl (record { value = h.value.0; chunks = h.spelt.first; spelt = h.spelt.spelt; front = q })
     go (inr q) = inr (h.value.0, q.rest, record { chunks = h.spelt.first; spelt = h.spelt.spelt; contents = q.contents; split = q.split }, record { value = h.value.1; chunks = h.spelt.second; spelt = h.spelt.follows; front = q.front })
 
--- nothing begins an encoding and goes on behind it
+-- nothing begins an encoding and goes on after it
 pub front_over : {R : Fielding} → FieldsPart R → (x : List Chunk) (us : List ℕ) → AllContents R x → us ≢ [] → IsFront R x (flat R.spelled x ++ us) → ⊥
 front_over ok [] [] f n h = n refl
 front_over ok [] (u ∷ us) f n h = h
@@ -106,7 +106,7 @@ front_over {R} ok (sealed k c ∷ x) us fine n h =
     (λ f. front_over ok x us fine.1 n (let e : f.0 ≡ flat R.spelled x ++ us = sym (append_cancel_left (field_units R.spelled k c) (flat R.spelled x ++ us) f.0 f.2) in rw e at f.3))
     (field_front R k c x (field_units R.spelled k c ++ (flat R.spelled x ++ us)) (not_empty (field_units R.spelled k c) (flat R.spelled x ++ us) (ok.some_units k c fine.0)) (rw e at h))
 
--- behind a spelling of the first, what does not begin the second does not begin both
+-- after a spelling of the first, what does not begin the second does not begin both
 pub then_dead_second : {A B : Type 0} {R : Fielding} {L : A → List Chunk → Type 0} {M : A → B → List Chunk → Type 0} → FieldsPart R → Lawful L → (a : A) (x : List Chunk) (us : List ℕ) → L a x → AllContents R x → us ≢ [] → (IsLive R (M a) us → ⊥) → IsLive R (Then L M) (flat R.spelled x ++ us) → ⊥
 then_dead_second {A} {B} {R} {L} {M} ok law a x us l fine full dead h = go (law.law h.value.0 a t.first x t.spelt l)
   where
@@ -130,7 +130,7 @@ then_dead_second {A} {B} {R} {L} {M} ok law a x us l fine full dead h = go (law.
 pub then_none_first : {A B : Type 0} {R : Fielding} {L : A → List Chunk → Type 0} {M : A → B → List Chunk → Type 0} {us : List ℕ} → NoSpelling R L us → NoSpelling R (Then L M) us
 then_none_first n = λ v r h. n v.0 (then_splits h).rest (then_splits h).earlier
 
--- behind a front of the first no front of the second, so none of both
+-- after a front of the first no front of the second, so none of both
 pub then_none_second : {A B : Type 0} {R : Fielding} {L : A → List Chunk → Type 0} {M : A → B → List Chunk → Type 0} {a : A} {us r : List ℕ} → FieldsPart R → Lawful L → Spells R L a us r → NoSpelling R (M a) r → NoSpelling R (Then L M) us
 then_none_second {A = A} {R = R} {M = M} {a = a} ok law f n = λ v s h.
     let b = then_splits h in
@@ -142,7 +142,7 @@ then_none_second {A = A} {R = R} {M = M} {a = a} ok law f n = λ v s h.
 pub then_short_first : {A B : Type 0} {R : Fielding} {L : A → List Chunk → Type 0} {M : A → B → List Chunk → Type 0} {us : List ℕ} → Follows L M → Short R L us → Short R (Then L M) us
 then_short_first f h = record { live = then_live_first f h.live; none = then_none_first h.none }
 
--- behind a front of the first the second wants more, and so do both
+-- after a front of the first the second wants more, and so do both
 pub then_short_second : {A B : Type 0} {R : Fielding} {L : A → List Chunk → Type 0} {M : A → B → List Chunk → Type 0} {a : A} {us r : List ℕ} → FieldsPart R → Lawful L → Spells R L a us r → Short R (M a) r → Short R (Then L M) us
 then_short_second {a = a} {us = us} {r = r} ok law f h = record { live = rw f.split (then_live_second ok a f.chunks r f.spelt f.contents h.live); none = then_none_second ok law f h.none }
 
@@ -164,7 +164,7 @@ then_refused_first {R = R} {L = L} {us = us} f h = record {
   none = then_none_first h.none;
 }
 
--- behind a front of the first the second is refused, and so are both, at the same unit
+-- after a front of the first the second is refused, and so are both, at the same unit
 pub then_refused_second : {A B : Type 0} {R : Fielding} {L : A → List Chunk → Type 0} {M : A → B → List Chunk → Type 0} {a : A} {us r : List ℕ} {n : ℕ} → FieldsPart R → Lawful L → Spells R L a us r → Refused R (M a) r n → Refused R (Then L M) us n
 then_refused_second {R = R} {L = L} {M = M} {a = a} {us = us} {r = r} ok law f h = record {
   before = flat R.spelled f.chunks ++ h.before;

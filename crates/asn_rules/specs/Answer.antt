@@ -28,7 +28,7 @@ max_octets = 268435455
 pub data Told : Type 0 where
   -- the value, and how many octets are its encoding
   done : Datum → ℕ → Told
-  -- the place, in units
+  -- the position, in units
   refused : ℕ → Told
   too_long : Told
   more : Told

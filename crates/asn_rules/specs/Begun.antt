@@ -1,4 +1,4 @@
--- What is left of a language behind plain units.
+-- What is left of a language after plain units.
 use Rattle.std.specs.Prelude.{◌≡◌, ℕ, List, ◌++◌}
 use Rattle.asn_rules.specs.Chunks.{Chunk, ones}
 

@@ -12,7 +12,7 @@ use Rattle.asn_rules.specs.declared.fault.DecodeFault.TheVariants as decode
 use Rattle.asn_rules.specs.Answer.{Ruling, IsEncoding, Answer, done, refused, too_long, more, max_octets}
 
 -- why the value v of the type t is not encoded: it is none of the type; it is one, and each encoding of it
--- is too long; it is one, and a growth was refused
+-- is too long; it is one, and an allocation failed
 abbrev pub NotEncoded : Ruling → EncodeFault → Shape → Datum → Type 0
 NotEncoded r encode.NotOfType t v = Fits t v → ⊥
 NotEncoded r encode.TooLong t v = Fits t v × ((o : List ℕ) → IsEncoding r t v o → max_octets < length o)
@@ -20,7 +20,7 @@ NotEncoded r encode.Memory t v = Fits t v
 
 -- What is told of the octets o, of which the first max_octets are read at most. A value: all of them are its
 -- encoding. Refused: at this unit, counted from 1, the first after which no encoding can follow. Truncated: an
--- encoding may still follow all of them, which are so many units. Rest: so many octets, and not all, are the
+-- encoding may still follow all of them, which are this many units. Rest: this many octets, and not all, are the
 -- encoding of some value. Too long: an encoding may still follow, but only one of more than max_octets. Of the
 -- memory nothing is told.
 abbrev pub Decoded : Ruling → Result Value DecodeFault → Shape → List ℕ → Type 0

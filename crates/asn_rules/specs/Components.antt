@@ -7,7 +7,7 @@ use Rattle.asn_values.specs.Shape.{Label, Demand, must, optional, default}
 pub use Rattle.asn_bits.specs.Sink.{bit_of}
 use Rattle.asn_rules.specs.Chunks.{Chunk}
 
--- the number of the item at a place
+-- the number of the item at an index
 abbrev pub number_at : List Label → ℕ → ℤ
 number_at [] p = pos 0
 number_at (l ∷ ls) zero = l.number

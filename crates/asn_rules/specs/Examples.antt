@@ -41,7 +41,8 @@ another_value_than_the_default_is : is_spelled (default (truth true)) (Some (tru
 another_value_than_the_default_is = refl
 
 -- id, ok DEFAULT TRUE, note OPTIONAL: no bit for id
-presence_of_two : presence (must ∷ default (truth true) ∷ optional ∷ []) (Some (number (pos 5)) ∷ Some (truth true) ∷ Some (octet_list []) ∷ []) ≡ 0 ∷ 1 ∷ []
+presence_of_two : presence (must ∷ default (truth true) ∷ optional ∷ [])
+    (Some (number (pos 5)) ∷ Some (truth true) ∷ Some (octet_list []) ∷ []) ≡ 0 ∷ 1 ∷ []
 presence_of_two = refl
 
 one_present_addition_is_enough : any_present (None ∷ Some (truth true) ∷ []) ≡ true
@@ -67,11 +68,13 @@ the_number_of_the_second_item = refl
 abbrev counted : List ℕ → List ℕ
 counted content = length content ∷ content
 
-units_of_a_sealed_field : flat counted (ones (7 ∷ 8 ∷ []) ++ sealed utf8_field (65 ∷ 66 ∷ []) ∷ one 9 ∷ []) ≡ 7 ∷ 8 ∷ 2 ∷ 65 ∷ 66 ∷ 9 ∷ []
+units_of_a_sealed_field : flat counted (ones (7 ∷ 8 ∷ []) ++ sealed utf8_field (65 ∷ 66 ∷ []) ∷ one 9 ∷ [])
+    ≡ 7 ∷ 8 ∷ 2 ∷ 65 ∷ 66 ∷ 9 ∷ []
 units_of_a_sealed_field = refl
 
 -- two units stand before the first field, and six before the second
 two_sealed_fields :
     fields counted (ones (7 ∷ 8 ∷ []) ++ sealed utf8_field (65 ∷ 66 ∷ []) ∷ one 9 ∷ sealed open_field [] ∷ [])
-    ≡ record { start = 2; end = 5; kind = utf8_field; content = 65 ∷ 66 ∷ [] } ∷ record { start = 6; end = 7; kind = open_field; content = [] } ∷ []
+    ≡ record { start = 2; end = 5; kind = utf8_field; content = 65 ∷ 66 ∷ [] }
+    ∷ record { start = 6; end = 7; kind = open_field; content = [] } ∷ []
 two_sealed_fields = refl

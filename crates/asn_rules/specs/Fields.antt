@@ -1,4 +1,4 @@
--- Octets as items of a list, in either unit, and octets behind their length in octets (X.696, "length
+-- Octets as items of a list, in either unit, and octets after their length in octets (X.696, "length
 -- determinant").
 use Rattle.std.specs.Prelude.{◌≡◌, ◌-◌, ◌<◌, ◌≤◌, ◌⊎◌, ◌++◌, ℕ, true, false, List, length, nat_lt}
 use Rattle.asn_bits.specs.Lengths.{octet_length}
@@ -18,25 +18,26 @@ OneOctet = Plain (InDigits 256 1 (λ n. n < 256))
 
 -- ---- lengths in octets
 
--- the lengths of the set that k octets behind the first one hold, and no fewer
+-- the lengths of the set that k octets after the first one hold, and no fewer
 pub record LongLength (S : ℕ → Type 0) (k n : ℕ) : Type 0 where
   pub member : S n
   pub large : 128 ≤ n
   pub count : octet_count n ≡ k
 
--- some length of the set has k octets behind the first one
+-- some length of the set has k octets after the first one
 pub record SomeLong (S : ℕ → Type 0) (k : ℕ) : Type 0 where
   pub few : k < 128
   pub number : ℕ
   pub length : LongLength S k number
 
--- the first octet of a length: the length, or 128 and the count of the octets behind it
+-- the first octet of a length: the length, or 128 and the count of the octets after it
 abbrev pub FirstOctet : (ℕ → Type 0) → ℕ → Type 0
 FirstOctet S b = ((b < 128) × S b) ⊎ ((128 ≤ b) × SomeLong S (b - 128))
 
--- what stands behind the first octet
+-- what follows the first octet
 abbrev pub BehindFirst : (ℕ → Type 0) → ℕ → ℕ → List Chunk → Type 0
-BehindFirst S b = elim (nat_lt b 128) [ true ↦ Nothing b | false ↦ Plain (InDigits 256 (b - 128) (LongLength S (b - 128))) ]
+BehindFirst S b =
+    elim (nat_lt b 128) [ true ↦ Nothing b | false ↦ Plain (InDigits 256 (b - 128) (LongLength S (b - 128))) ]
 
 abbrev pub length_told : ℕ × ℕ → ℕ
 length_told p = p.1
@@ -48,7 +49,7 @@ OctetLength S = Map length_told (Then (Plain (InDigits 256 1 (FirstOctet S))) (B
 abbrev pub octets_told : ℕ × List ℕ → List ℕ
 octets_told p = p.1
 
--- octets of a count of the set, behind it
+-- octets of a count of the set, after it
 abbrev pub OctetsBehind : (ℕ → Type 0) → List ℕ → List Chunk → Type 0
 OctetsBehind S = Map octets_told (Then (OctetLength S) (λ n. Row OneOctet n))
 

@@ -38,6 +38,6 @@ pub record AreOffsets (s : OffsetSet) (S : ℤ → Type 0) : Type 0 where
   pub there : (z : ℤ) → HasInteger s z → S z
   pub back : (z : ℤ) → S z → HasInteger s z
 
--- the offsets of the set are theirs
+-- the offsets of the set are those of these integers
 abbrev pub AreOffsetsBut : Option ℤ → Range → OffsetSet → Type 0
 AreOffsetsBut e b s = AreOffsets s (λ z. IsOneBut e b z)

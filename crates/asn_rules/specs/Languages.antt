@@ -20,7 +20,7 @@ pub record InField (R : Fielding) (k : Kind) (us : List ℕ) : Type 0 where
   pub more : List ℕ
   pub split : us ++ next ∷ more ≡ field_units R.spelled k content
 
--- a sealed field comes whole, and of the units behind it P holds
+-- a sealed field comes whole, and of the units after it P holds
 abbrev pub Passed : Fielding → Kind → List ℕ → List ℕ → (List ℕ → Type 0) → Type 0
 Passed R k c us P = (rest : List ℕ) × IsContent R k c × (us ≡ field_units R.spelled k c ++ rest) × P rest
 
@@ -60,7 +60,7 @@ pub record Short {V : Type 0} (R : Fielding) (L : V → List Chunk → Type 0) (
   pub live : IsLive R L us
   pub none : NoSpelling R L us
 
--- no front is a spelling, and the first unit after which none can follow has so many units behind it
+-- no front is a spelling, and the first unit after which none can follow has this many units after it
 pub record Refused {V : Type 0} (R : Fielding) (L : V → List Chunk → Type 0) (us : List ℕ) (left : ℕ) : Type 0 where
   pub before : List ℕ
   pub unit : ℕ
@@ -71,11 +71,11 @@ pub record Refused {V : Type 0} (R : Fielding) (L : V → List Chunk → Type 0)
   pub dead : IsLive R L (before ++ unit ∷ []) → ⊥
   pub none : NoSpelling R L us
 
--- the units are a spelling, with nothing behind it
+-- the units are a spelling, with nothing after it
 abbrev pub Whole : {V : Type 0} → Fielding → (V → List Chunk → Type 0) → V → List ℕ → Type 0
 Whole R L v us = Spells R L v us []
 
--- the first language is what is left of the second behind these units
+-- the first language is what is left of the second after these units
 pub record Carries {V : Type 0} (R : Fielding) (M L : V → List Chunk → Type 0) (us : List ℕ) : Type 0 where
   pub reads : (v : V) (s r : List ℕ) → Spells R M v s r → Spells R L v (us ++ s) r
   pub read : (v : V) (s r : List ℕ) → Spells R L v (us ++ s) r → Spells R M v s r
@@ -97,7 +97,8 @@ pub record Inhabited {V : Type 0} (L : V → List Chunk → Type 0) : Type 0 whe
 -- ---- languages from languages
 
 -- one after the other, where the first value may decide what follows
-pub record Then {A B : Type 0} (L : A → List Chunk → Type 0) (M : A → B → List Chunk → Type 0) (p : A × B) (cs : List Chunk) : Type 0 where
+pub record Then {A B : Type 0} (L : A → List Chunk → Type 0) (M : A → B → List Chunk → Type 0) (p : A × B)
+    (cs : List Chunk) : Type 0 where
   pub first : List Chunk
   pub second : List Chunk
   pub spelt : L p.0 first

@@ -24,16 +24,19 @@ EachHasAValue = (t : Shape) → InProfile t → (v : Datum) × Fits t v
 -- two spellings at the front of one list of units are one, of one value
 abbrev pub UnitsTellTheValue : (Shape → Datum → List ℕ) → Type 0
 UnitsTellTheValue units_of =
-    (t : Shape) (v w : Datum) (r s : List ℕ) → InProfile t → Fits t v → Fits t w → units_of t v ++ r ≡ units_of t w ++ s → (v ≡ w) × (r ≡ s)
+    (t : Shape) (v w : Datum) (r s : List ℕ) → InProfile t → Fits t v → Fits t w → units_of t v ++ r ≡ units_of t w ++ s
+    → (v ≡ w) × (r ≡ s)
 
 -- octets are the encoding of one value only
 abbrev pub OneValue : (Shape → Datum → List ℕ) → Type 0
-OneValue octets_of = (t : Shape) (v w : Datum) → InProfile t → Fits t v → Fits t w → octets_of t v ≡ octets_of t w → v ≡ w
+OneValue octets_of = (t : Shape) (v w : Datum) → InProfile t → Fits t v → Fits t w → octets_of t v ≡ octets_of t w
+    → v ≡ w
 
 -- no encoding begins another
 abbrev pub NoneBegins : (Shape → Datum → List ℕ) → Type 0
 NoneBegins octets_of =
-    (t : Shape) (v w : Datum) (rest : List ℕ) → InProfile t → Fits t v → Fits t w → octets_of t v ++ rest ≡ octets_of t w → (v ≡ w) × (rest ≡ [])
+    (t : Shape) (v w : Datum) (rest : List ℕ) → InProfile t → Fits t v → Fits t w
+    → octets_of t v ++ rest ≡ octets_of t w → (v ≡ w) × (rest ≡ [])
 
 -- ---- encoding rules
 
@@ -44,9 +47,11 @@ pub record RulesLaws (r : Ruling) : Type 0 where
   -- a value that fits has an encoding
   pub encoding : (t : Shape) (v : Datum) → InProfile t → Fits t v → (o : List ℕ) × AreOctets o × IsEncoding r t v o
   -- and no other
-  pub one_encoding : (t : Shape) (v : Datum) (o p : List ℕ) → InProfile t → AreOctets o → AreOctets p → IsEncoding r t v o → IsEncoding r t v p → o ≡ p
+  pub one_encoding : (t : Shape) (v : Datum) (o p : List ℕ) → InProfile t → AreOctets o → AreOctets p
+      → IsEncoding r t v o → IsEncoding r t v p → o ≡ p
   -- no encoding begins another
-  pub none_begins : (t : Shape) (v w : Datum) (o p : List ℕ) → InProfile t → AreOctets o → AreOctets p → IsEncoding r t v o → IsEncoding r t w p → Begins o p → o ≡ p
+  pub none_begins : (t : Shape) (v w : Datum) (o p : List ℕ) → InProfile t → AreOctets o → AreOctets p
+      → IsEncoding r t v o → IsEncoding r t w p → Begins o p → o ≡ p
 
 -- what these laws follow from, said of whole encodings in units
 pub record WholesTell (r : Ruling) : Type 0 where
@@ -54,7 +59,8 @@ pub record WholesTell (r : Ruling) : Type 0 where
   pub told : (t : Shape) (v w : Datum) (rest : List ℕ) → InProfile t → Fits t v → Fits t w
       → flat r.fielding.spelled (r.whole t v) ++ rest ≡ flat r.fielding.spelled (r.whole t w) → v ≡ w
   -- a whole encoding is the units of some octets
-  pub filled : (t : Shape) (v : Datum) → InProfile t → Fits t v → (o : List ℕ) × AreOctets o × (r.units o ≡ flat r.fielding.spelled (r.whole t v))
+  pub filled : (t : Shape) (v : Datum) → InProfile t → Fits t v
+      → (o : List ℕ) × AreOctets o × (r.units o ≡ flat r.fielding.spelled (r.whole t v))
   -- the units of octets are those of each octet, one after the other
   pub joined : (o p : List ℕ) → r.units (o ++ p) ≡ r.units o ++ r.units p
   -- and tell the octets
@@ -62,11 +68,13 @@ pub record WholesTell (r : Ruling) : Type 0 where
 
 -- the encoding of a value is that list of octets
 abbrev pub EncodesAs : Ruling → (Shape → Datum → List ℕ) → Type 0
-EncodesAs r octets_of = (t : Shape) (v : Datum) (o : List ℕ) → InProfile t → AreOctets o → IsEncoding r t v o ↔ (Fits t v × (o ≡ octets_of t v))
+EncodesAs r octets_of =
+    (t : Shape) (v : Datum) (o : List ℕ) → InProfile t → AreOctets o
+    → IsEncoding r t v o ↔ (Fits t v × (o ≡ octets_of t v))
 
 -- ---- live
 
--- what an encoding may follow, it may follow each beginning of
+-- if some encoding extends these units, one extends each prefix of them
 abbrev pub LiveIsClosed : Fielding → (Shape → Datum → List Chunk) → Type 0
 LiveIsClosed r whole = (t : Shape) (x y : List ℕ) → Live r whole t (x ++ y) → Live r whole t x
 
@@ -76,15 +84,19 @@ LiveByParts r whole = (t : Shape) → InProfile t → (b : List ℕ) → Live r 
 
 -- each beginning of an encoding, in units, is live
 abbrev pub BeginningsAreLive : Ruling → Type 0
-BeginningsAreLive r = (t : Shape) (v : Datum) (o x y : List ℕ) → InProfile t → length o ≤ max_octets → IsEncoding r t v o → r.units o ≡ x ++ y → Live r.fielding r.whole t x
+BeginningsAreLive r =
+    (t : Shape) (v : Datum) (o x y : List ℕ) → InProfile t → length o ≤ max_octets → IsEncoding r t v o
+    → r.units o ≡ x ++ y → Live r.fielding r.whole t x
 
 -- ---- answers
 
 -- to no beginning of an encoding, in octets, the answer is that it is refused
 abbrev pub BeginningsAreNotRefused : Ruling → Type 0
 BeginningsAreNotRefused r =
-    (t : Shape) (v : Datum) (s rest : List ℕ) (place : ℕ) → InProfile t → length (s ++ rest) ≤ max_octets → IsEncoding r t v (s ++ rest) → Answer r t s (refused place) → ⊥
+    (t : Shape) (v : Datum) (s rest : List ℕ) (place : ℕ) → InProfile t → length (s ++ rest) ≤ max_octets
+    → IsEncoding r t v (s ++ rest) → Answer r t s (refused place) → ⊥
 
 -- two answers to one list of octets are one
 abbrev pub OneAnswer : Ruling → Type 0
-OneAnswer r = (t : Shape) (s : List ℕ) (a b : Told) → InProfile t → AreOctets s → Answer r t s a → Answer r t s b → a ≡ b
+OneAnswer r = (t : Shape) (s : List ℕ) (a b : Told) → InProfile t → AreOctets s → Answer r t s a → Answer r t s b
+    → a ≡ b

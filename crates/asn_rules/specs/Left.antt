@@ -1,4 +1,4 @@
--- What is left of a number some of whose digits have come.
+-- What is left of a number some of whose digits have been read.
 use Rattle.std.specs.Prelude.{◌+◌, ◌*◌, ◌^◌, ℕ, List}
 use Rattle.asn_rules.specs.Chunks.{Chunk}
 use Rattle.asn_rules.specs.Languages.{Map, Plain}

@@ -17,8 +17,9 @@ IsOther (Some d) v = is_default d v ≡ false
 abbrev pub Spelt : (Shape → Datum → List Chunk) → Option Datum → Shape → Datum → List Chunk → Type 0
 Spelt code left_out t = SpelledBy (λ v. Fits t v × IsOther left_out v) (code t)
 
--- a component that is spelt, and those behind it
-abbrev pub Before : (Datum → List Chunk → Type 0) → (List (Option Datum) → List Chunk → Type 0) → List (Option Datum) → List Chunk → Type 0
+-- a component that is spelt, and those after it
+abbrev pub Before : (Datum → List Chunk → Type 0) → (List (Option Datum) → List Chunk → Type 0) → List (Option Datum)
+    → List Chunk → Type 0
 Before L M = Map prepended (Then (Map Some L) (λ _. M))
 
 -- the entries of the components under these presence bits: a component that must be there is spelt; one that

@@ -83,6 +83,6 @@ Live r whole t b = (v : Datum) × Fits t v × GoesOn r (whole t v) b
 abbrev pub LiveByChunks : Fielding → (Shape → Datum → List Chunk) → Shape → List ℕ → Type 0
 LiveByChunks r whole t b = (v : Datum) × Fits t v × Front r (whole t v) b
 
--- the place of a refusal, counted from 1: the first unit after which b is not live
+-- the position of a refusal, counted from 1: the first unit after which b is not live
 abbrev pub Place : (List ℕ → Type 0) → List ℕ → ℕ → Type 0
 Place IsLive b k = (k ≤ length b) × (IsLive (take k b) → ⊥) × ((j : ℕ) → j < k → IsLive (take j b))

@@ -54,4 +54,5 @@ least_of count = elim (nat_lt 1 count) [ true ↦ 256 ^ (count - 1) | false ↦ 
 -- excluded and is the only one with its count
 abbrev pub highest_count_of : ℕ → Option ℕ → ℕ
 highest_count_of high None = octet_count high
-highest_count_of high (Some x) = elim (x == high && high == least_of (octet_count high)) [ true ↦ octet_count high - 1 | false ↦ octet_count high ]
+highest_count_of high (Some x) =
+    elim (x == high && high == least_of (octet_count high)) [ true ↦ octet_count high - 1 | false ↦ octet_count high ]

@@ -60,20 +60,22 @@ CountedIn s = Map number_of (Counted 256 1 (Least (λ m. Admits s m)))
 
 -- a number up to a in k bits, a number from low on in n bits, and zeros that fill up the last octet
 abbrev pub FilledFields : ℕ → ℕ → ℕ → ℕ → ℕ × ℕ → List Chunk → Type 0
-FilledFields k a n low = SpelledBy (λ p. (p.0 ≤ a) × (low ≤ p.1) × (p.1 < 2 ^ n)) (λ p. ones (filled_bits (bits k p.0 ++ bits n p.1)))
+FilledFields k a n low =
+    SpelledBy (λ p. (p.0 ≤ a) × (low ≤ p.1) × (p.1 < 2 ^ n)) (λ p. ones (filled_bits (bits k p.0 ++ bits n p.1)))
 
 -- the numbers from low to high
 abbrev pub from_to : ℕ → ℕ → NumberSet
 from_to low high = record { low = low; high = high; excluded = None }
 
--- the numbers without the zeros behind them
+-- the numbers without the zeros after them
 abbrev pub numbers_told : ℕ × (ℕ × ℕ) → ℕ × ℕ
 numbers_told p = (p.0, p.1.0)
 
 -- the same in bits
 abbrev pub FilledBits : ℕ → ℕ → ℕ → ℕ → ℕ × ℕ → List Chunk → Type 0
 FilledBits k a n low =
-    Map numbers_told (Then (NumberIn k (from_to 0 a)) (λ _. Then (NumberIn n (from_to low (2 ^ n - 1))) (λ _. NumberIn ((8 - (k + n) % 8) % 8) (from_to 0 0))))
+    Map numbers_told (Then (NumberIn k (from_to 0 a))
+    (λ _. Then (NumberIn n (from_to low (2 ^ n - 1))) (λ _. NumberIn ((8 - (k + n) % 8) % 8) (from_to 0 0))))
 
 -- an integer of the set in the fewest octets of two's complement after their count ("encoding of integer types")
 abbrev pub CountedSignedIn : OffsetSet → ℤ → List Chunk → Type 0

@@ -16,7 +16,7 @@ use Rattle.asn_rules.specs.Languages.{Then, Map, Row, Plain}
 abbrev pub Character : Alphabet → ℕ → List Chunk → Type 0
 Character k = Plain (InDigits 256 1 (λ c. IsTrue (is_of_kind k c)))
 
--- so many octets in front are characters of the kind, and the next one, where there is one, is none
+-- this many octets in front are characters of the kind, and the next one, where there is one, is none
 pub record IsValidCount (k : Alphabet) (os : List ℕ) (n : ℕ) : Type 0 where
   pub within : n ≤ length os
   pub valid : AllByRecursion (λ c. IsTrue (is_of_kind k c)) (take n os)
@@ -59,4 +59,6 @@ last_told p = p.1.1
 
 -- bits of a count of the set: a length, the number of unused bits, and the bits
 abbrev pub VariableBits : (ℕ → Type 0) → List Bool → List Chunk → Type 0
-VariableBits S = Map last_told (Then (OctetLength (BitsLength S)) (λ l. Then (Plain (InDigits 256 1 (UnusedBits S l))) (λ u. PackedBits (8 * (l - 1) - u))))
+VariableBits S = Map last_told
+    (Then (OctetLength (BitsLength S))
+    (λ l. Then (Plain (InDigits 256 1 (UnusedBits S l))) (λ u. PackedBits (8 * (l - 1) - u))))

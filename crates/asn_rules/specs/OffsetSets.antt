@@ -21,7 +21,8 @@ HasInteger s z = (lowest_integer ≤ℤ z) × (z ≤ℤ highest_integer) × HasO
 -- the offsets begin with that of the lowest integer and end with that of the highest, or they lack one number at most
 -- and do one of these
 abbrev pub IsOpen : OffsetSet → Type 0
-IsOpen s = (s.end ≤ 2 ^ 64) × (((s.start ≡ 0) × (s.end ≡ 2 ^ 64)) ⊎ ((s.from ≤ s.below + 1) × ((s.start ≡ 0) ⊎ (s.end ≡ 2 ^ 64))))
+IsOpen s = (s.end ≤ 2 ^ 64)
+    × (((s.start ≡ 0) × (s.end ≡ 2 ^ 64)) ⊎ ((s.from ≤ s.below + 1) × ((s.start ≡ 0) ⊎ (s.end ≡ 2 ^ 64))))
 
 -- an integer of the set in the fewest octets of two's complement after their count (X.691, "unconstrained whole
 -- number")
@@ -55,7 +56,8 @@ IsRaised first end up n = (first + up ≤ n + 2 ^ 63) × (n + 2 ^ 63 < end + up)
 
 -- the old numbers, and the offsets from the first to before the end, each less that of 0 and raised by `up`
 pub record AreShifted (old new : List (ℕ × ℕ)) (s : OffsetSet) (first end up : ℕ) : Type 0 where
-  pub there : (n : ℕ) → Among new n → Among old n ⊎ ((first + up ≤ n + 2 ^ 63) × (n + 2 ^ 63 < end + up) × HasOffset s (n + 2 ^ 63 - up))
+  pub there : (n : ℕ) → Among new n
+      → Among old n ⊎ ((first + up ≤ n + 2 ^ 63) × (n + 2 ^ 63 < end + up) × HasOffset s (n + 2 ^ 63 - up))
   pub kept : (n : ℕ) → Among old n → Among new n
   pub added : (n : ℕ) → first + up ≤ n + 2 ^ 63 → n + 2 ^ 63 < end + up → HasOffset s (n + 2 ^ 63 - up) → Among new n
 

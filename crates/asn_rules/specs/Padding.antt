@@ -13,8 +13,9 @@ pub record AreUnits (zs : List ℕ) (v : ⊤) (us : List ℕ) : Type 0 where
 abbrev pub Fixed : List ℕ → ⊤ → List Chunk → Type 0
 Fixed zs = Plain (AreUnits zs)
 
--- what fills up a spelling of the value, of which fill says by its length which units stand behind it
-pub record Fills {A : Type 0} (R : Fielding) (fill : ℕ → List ℕ) (L : A → List Chunk → Type 0) (a : A) (v : ⊤) (cs : List Chunk) : Type 0 where
+-- what fills up a spelling of the value, which units `fill` gives for its length follow it
+pub record Fills {A : Type 0} (R : Fielding) (fill : ℕ → List ℕ) (L : A → List Chunk → Type 0) (a : A) (v : ⊤)
+    (cs : List Chunk) : Type 0 where
   pub chunks : List Chunk
   pub spelt : L a chunks
   pub behind : Fixed (fill (length (flat R.spelled chunks))) v cs

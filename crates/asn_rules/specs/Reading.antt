@@ -36,7 +36,7 @@ pub record Holds (r : Ruling) (t : Shape) (v : Datum) (c : List ℕ) : Type 0 wh
 
 -- rules whose whole encodings a reader can tell, unit by unit
 pub record RulesTell (r : Ruling) : Type 0 where
-  -- so many units are an octet, and those of octets are the units of each, one after the other
+  -- this many units are an octet, and those of octets are the units of each, one after the other
   pub weight : ℕ
   pub some : 1 ≤ weight
   pub count : (o : List ℕ) → length (r.units o) ≡ weight * length o
@@ -44,7 +44,8 @@ pub record RulesTell (r : Ruling) : Type 0 where
   -- a sealed field is at least as long as its content, is not empty, and begins no other
   pub long : (c : List ℕ) → weight * length c ≤ length (r.fielding.spelled c)
   pub units : (c : List ℕ) → 0 < length (r.fielding.spelled c)
-  pub tells : (c d s t : List ℕ) → AllByRecursion (λ o. o < 256) c → AllByRecursion (λ o. o < 256) d → r.fielding.spelled c ++ s ≡ r.fielding.spelled d ++ t → c ≡ d
+  pub tells : (c d s t : List ℕ) → AllByRecursion (λ o. o < 256) c → AllByRecursion (λ o. o < 256) d
+      → r.fielding.spelled c ++ s ≡ r.fielding.spelled d ++ t → c ≡ d
   -- a field of each kind may stand somewhere
   pub open_starts : Free r.fielding open_field []
   pub utf8_starts : Free r.fielding utf8_field []
@@ -57,17 +58,22 @@ pub record RulesTell (r : Ruling) : Type 0 where
 -- of one list of units there is one reading: a front that is the whole encoding of one value, or one refused
 -- unit, or neither
 pub record HasOneReading (r : Ruling) (t : Shape) (us : List ℕ) : Type 0 where
-  pub done : (v w : Datum) (x y : List ℕ) → Spells r.fielding (Wholes r t) v us x → Spells r.fielding (Wholes r t) w us y → (v ≡ w) × (x ≡ y)
+  pub done : (v w : Datum) (x y : List ℕ) → Spells r.fielding (Wholes r t) v us x
+      → Spells r.fielding (Wholes r t) w us y → (v ≡ w) × (x ≡ y)
   pub refused : (m n : ℕ) → Refused r.fielding (Wholes r t) us m → Refused r.fielding (Wholes r t) us n → m ≡ n
-  pub done_or_refused : (v : Datum) (x : List ℕ) (n : ℕ) → Spells r.fielding (Wholes r t) v us x → Refused r.fielding (Wholes r t) us n → ⊥
-  pub done_or_short : (v : Datum) (x : List ℕ) → Spells r.fielding (Wholes r t) v us x → Short r.fielding (Wholes r t) us → ⊥
+  pub done_or_refused : (v : Datum) (x : List ℕ) (n : ℕ) → Spells r.fielding (Wholes r t) v us x
+      → Refused r.fielding (Wholes r t) us n → ⊥
+  pub done_or_short : (v : Datum) (x : List ℕ) → Spells r.fielding (Wholes r t) v us x
+      → Short r.fielding (Wholes r t) us → ⊥
   pub refused_or_short : (n : ℕ) → Refused r.fielding (Wholes r t) us n → Short r.fielding (Wholes r t) us → ⊥
 
 -- the readings of the units of octets as answers to the octets
 pub record ReadingsAnswer (r : Ruling) (t : Shape) (s : List ℕ) : Type 0 where
-  -- the units behind the value's are those of the octets behind the first n
-  pub value : (v : Datum) (n : ℕ) (rest : List ℕ) → n ≤ length s → length rest ≡ length (r.units (drop n s)) → Spells r.fielding (Wholes r t) v (r.units s) rest → Answer r t s (done v n)
-  -- the place is told by how many units lie behind it
-  pub place : (left : ℕ) → length s ≤ max_octets → Refused r.fielding (Wholes r t) (r.units s) left → Answer r t s (refused (length (r.units s) - left))
+  -- the units after the value's are those of the octets after the first n
+  pub value : (v : Datum) (n : ℕ) (rest : List ℕ) → n ≤ length s → length rest ≡ length (r.units (drop n s))
+      → Spells r.fielding (Wholes r t) v (r.units s) rest → Answer r t s (done v n)
+  -- the position is told by the number of units after it
+  pub place : (left : ℕ) → length s ≤ max_octets → Refused r.fielding (Wholes r t) (r.units s) left
+      → Answer r t s (refused (length (r.units s) - left))
   pub wanting : length s < max_octets → Short r.fielding (Wholes r t) (r.units s) → Answer r t s more
   pub at_the_limit : length s ≡ max_octets → Short r.fielding (Wholes r t) (r.units s) → Answer r t s too_long

@@ -32,10 +32,12 @@ abbrev pub name_of_unit : Unit → List ℕ
 name_of_unit unit.Bit = codes "bit"
 name_of_unit unit.Octet = codes "octet"
 
--- the text of a fault, its places and lengths counted in this unit
+-- the text of a fault, its positions and lengths counted in this unit
 abbrev pub text_of_fault : Unit → DecodeFault → List ℕ
-text_of_fault u (decode.Refused at why) = codes "refused at " ++ (name_of_unit u ++ (codes " " ++ (decimal at ++ (codes ": " ++ word_of why))))
-text_of_fault u (decode.Truncated taken) = codes "cut short after " ++ (decimal taken ++ (codes " " ++ (name_of_unit u ++ codes "s")))
+text_of_fault u (decode.Refused at why) =
+    codes "refused at " ++ (name_of_unit u ++ (codes " " ++ (decimal at ++ (codes ": " ++ word_of why))))
+text_of_fault u (decode.Truncated taken) =
+    codes "cut short after " ++ (decimal taken ++ (codes " " ++ (name_of_unit u ++ codes "s")))
 text_of_fault u (decode.Rest used) = codes "octets left after " ++ decimal used
 text_of_fault u decode.TooLong = codes "too long"
 text_of_fault u decode.Memory = codes "memory"

@@ -33,9 +33,10 @@ all_so_far s piece = take max_octets (s ++ piece)
 -- ---- feed
 
 -- what is answered to the next piece: a value whose encoding ends after the first `used` octets of the piece, the
--- place of a refusal, or one of the other answers to all octets so far; of a want of memory nothing is told
+-- position of a refusal, or one of the other answers to all octets so far; of a want of memory nothing is told
 abbrev pub Fed : Ruling → Shape → Past → List ℕ → Result Step FeedFault → Type 0
-Fed r t (waiting s) piece (Ok (step.Done value used)) = Answer r t (all_so_far s piece) (done (datum_of value) (length s + used))
+Fed r t (waiting s) piece (Ok (step.Done value used)) =
+    Answer r t (all_so_far s piece) (done (datum_of value) (length s + used))
 Fed r t (waiting s) piece (Ok step.More) = Answer r t (all_so_far s piece) more
 Fed r t (waiting s) piece (Err (feed.Refused at why)) = Answer r t (all_so_far s piece) (refused at)
 Fed r t (waiting s) piece (Err feed.TooLong) = Answer r t (all_so_far s piece) too_long
@@ -56,9 +57,15 @@ past_after (stopped s fault) piece answer = stopped s fault
 past_after (over s) piece answer = over s
 
 -- a session of the type with this past answers so, and has the past after that answer then
-pub record FeedsTo {Q : Type 0} (r : Ruling) (took : Q → Shape → Past → Type 0) (old new : Q) (t : Shape) (past : Past) (piece : List ℕ) (answer : Result Step FeedFault) : Type 0 where
+pub record FeedsTo {Q : Type 0} (r : Ruling) (took : Q → Shape → Past → Type 0) (old new : Q) (t : Shape) (past : Past)
+    (piece : List ℕ) (answer : Result Step FeedFault) : Type 0 where
   pub answered : Fed r t past piece answer
   pub taken : took new t (past_after past piece answer)
+
+-- whatever the type and the past of a session, it answers the piece as `FeedsTo` says
+abbrev pub Feeds : {Q : Type 0} → Ruling → (Q → Shape → Past → Type 0) → Q → Q → List ℕ → Result Step FeedFault → Type 0
+Feeds r took old new piece answer =
+    (t : Shape) (past : Past) → took old t past → FeedsTo r took old new t past piece answer
 
 -- ---- finish
 
@@ -68,8 +75,9 @@ pub record LiveUnits (r : Ruling) (t : Shape) (us : List ℕ) (n : ℕ) : Type 0
   pub live : Live r.fielding r.whole t (take n us)
   pub last : n < length us → Live r.fielding r.whole t (take (n + 1) us) → ⊥
 
--- what is told at the end: the octets taken are a whole encoding; or they are none, and so many of their units came
--- while an encoding could still follow
+-- what is told at the end: the octets taken are a whole encoding; or they are none, and this many of their units were
+-- taken while an encoding could still follow
 abbrev pub Finished : Ruling → Shape → Past → Result (Unit {0}) Truncated → Type 0
 Finished r t past (Ok a) = (v : Datum) × IsEncoding r t v (octets_taken past)
-Finished r t past (Err cut) = ((v : Datum) → IsEncoding r t v (octets_taken past) → ⊥) × LiveUnits r t (r.units (octets_taken past)) cut.taken
+Finished r t past (Err cut) =
+    ((v : Datum) → IsEncoding r t v (octets_taken past) → ⊥) × LiveUnits r t (r.units (octets_taken past)) cut.taken

@@ -11,6 +11,6 @@ Tells R L us (stop.Refused left why) = Refused R L us left
 Tells R L us stop.Short = Short R L us
 Tells R L us stop.Memory = ⊤
 
--- a refusal is exact and tells the units behind it, Short is exact, and of the memory nothing is said
+-- a refusal is exact and tells the units after it, Short is exact, and of the memory nothing is said
 pub record Stops {V : Type 0} (R : Fielding) (L : V → List Chunk → Type 0) (us : List ℕ) (why : Stop) : Type 0 where
   pub told : Tells R L us why

@@ -15,7 +15,7 @@ pub struct Counted<T> {
 }
 
 impl<T> Counted<T> {
-    /// Around a reader or writer, with no faults yet.
+    /// Wraps a reader or writer, with no faults yet.
     pub fn new(inner: T) -> Counted<T>
         ensures inner { inner_of result ≡ inner }
         ensures faults { faults_of result ≡ 0 }
@@ -23,21 +23,21 @@ impl<T> Counted<T> {
         Counted { inner, faults: 0 }
     }
 
-    /// How many faults it answered.
+    /// The number of faults it answered.
     pub fn faults(&self) -> u64
         ensures { result ≡ faults_of self.now }
     {
         self.faults
     }
 
-    /// The reader or writer itself.
+    /// Unwraps the reader or writer.
     pub fn into_inner(self) -> T
         ensures { result ≡ inner_of self }
     {
         self.inner
     }
 
-    /// One more fault.
+    /// Counts one more fault.
     fn count(&mut self)
         ensures inner { inner_of self.new ≡ inner_of self.old }
         ensures faults { faults_of self.new ≡ count_after true (faults_of self.old) }
@@ -97,7 +97,7 @@ impl<W: Write> Write for Counted<W> {
         result
     }
 
-    /// Writes all of it, trying nothing again.
+    /// Writes all octets. A call that fails is not tried again.
     fn write_all(&mut self, buf: &[u8]) -> io::Result<()>
         ensures bytes { OnOk result (Appends (W.contents (inner_of self.old)) (W.contents (inner_of self.new))
             buf.now) }
@@ -118,7 +118,7 @@ impl<W: Write> Write for Counted<W> {
     }
 }
 
-/// What stands behind the first octets.
+/// The octets after the first `count`.
 fn after(bytes: &[u8], count: usize) -> &[u8]
     requires { count ≤ length bytes.now }
     ensures { result.now ≡ drop count bytes.now }

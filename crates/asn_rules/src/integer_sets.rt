@@ -1,5 +1,4 @@
-//! The integers of a range, but for one that may be left out: the DEFAULT of a component, which an encoder does not
-//! spell.
+//! The integers of a range without one that may be excluded: the DEFAULT of a component, which an encoder leaves out.
 ghost use Rattle.std.specs.Prelude.{◌≡◌, ◌≤ℤ◌, pos, Some, None, ◌⊎◌};
 ghost use Rattle.asn_values.specs.Fits.{lowest_integer, highest_integer};
 ghost use Rattle.asn_values.specs.Profile.{InProfile};
@@ -13,38 +12,38 @@ use crate::signed_reader::OffsetSet;
 use asn_bits::internal::offset_from;
 use asn_values::profile::{HIGHEST_INTEGER, LOWEST_INTEGER};
 
-/// The integers of the range, but for `except`, where the low bound is not negative.
-pub fn numbers_of(low: i128, high: Option<i128>, except: Option<i128>) -> NumberSet
+/// The integers of the range without `excluded`, where the low bound is not negative.
+pub fn numbers_of(low: i128, high: Option<i128>, excluded: Option<i128>) -> NumberSet
     requires of_profile { InProfile (integer (unmarked (Some low) high)) }
     requires from_zero { pos 0 ≤ℤ low }
-    requires within { IsWithin (unmarked (Some low) high) except }
-    ensures { AreNumbersBut except (unmarked (Some low) high) result }
+    requires within { IsWithin (unmarked (Some low) high) excluded }
+    ensures { AreNumbersBut excluded (unmarked (Some low) high) result }
 {
-    let excluded = match except {
-        Some(left_out) => Some(left_out as u64),
+    let left_out = match excluded {
+        Some(number) => Some(number as u64),
         None => None,
     };
     NumberSet {
         low: low as u64,
         high: high.unwrap_or(HIGHEST_INTEGER) as u64,
-        excluded,
+        excluded: left_out,
     }
 }
 
-/// The offsets of the integers of the range, but for `except`.
-pub fn offsets_of(low: Option<i128>, high: Option<i128>, except: Option<i128>) -> OffsetSet
+/// The offsets of the integers of the range without `excluded`.
+pub fn offsets_of(low: Option<i128>, high: Option<i128>, excluded: Option<i128>) -> OffsetSet
     requires of_profile { InProfile (integer (unmarked low high)) }
-    requires within { IsWithin (unmarked low high) except }
-    ensures same { AreOffsetsBut except (unmarked low high) result }
+    requires within { IsWithin (unmarked low high) excluded }
+    ensures same { AreOffsetsBut excluded (unmarked low high) result }
     ensures gap { (low ≡ None) ⊎ (high ≡ None) → IsOpen result }
 {
     let start = offset_of(low.unwrap_or(LOWEST_INTEGER));
     let end = offset_of(high.unwrap_or(HIGHEST_INTEGER)) + 1;
-    match except {
-        Some(left_out) => OffsetSet {
+    match excluded {
+        Some(number) => OffsetSet {
             start,
-            below: offset_of(left_out),
-            from: offset_of(left_out) + 1,
+            below: offset_of(number),
+            from: offset_of(number) + 1,
             end,
         },
         None => OffsetSet {
@@ -56,11 +55,11 @@ pub fn offsets_of(low: Option<i128>, high: Option<i128>, except: Option<i128>) -
     }
 }
 
-/// How far an integer lies above the lowest one.
-fn offset_of(whole: i128) -> u128
-    requires low { lowest_integer ≤ℤ whole }
-    requires high { whole ≤ℤ highest_integer }
-    ensures { result ≡ above lowest_integer whole }
+/// The offset of an integer from the lowest one.
+fn offset_of(number: i128) -> u128
+    requires low { lowest_integer ≤ℤ number }
+    requires high { number ≤ℤ highest_integer }
+    ensures { result ≡ above lowest_integer number }
 {
-    u128::from(offset_from(LOWEST_INTEGER, whole))
+    u128::from(offset_from(LOWEST_INTEGER, number))
 }

@@ -23,7 +23,7 @@ pub fn laws_from_units()
 {}
 
 /// Under rules that keep the laws the answers exclude one another: to the octets of which one is
-/// given no other is, nor the same with another value, count of octets or place.
+/// given no other is, nor the same with another value, count of octets or position.
 pub fn answers_exclude()
     ensures { (r : Ruling) → RulesLaws r → OneAnswer r }
 {}
@@ -49,10 +49,10 @@ pub fn are_octets(octets: &[u8])
 ///   no others. `only_memory`: an encoder that gives none for it had no memory.
 /// - `equal_exactly`: two values are equal exactly where their octets are.
 /// - `begins`: where octets follow an encoding, the decoder tells where it ends. `one_front`: where
-///   the decoder tells so, the octets in front are the encoding of a value, and no other front is
-///   an encoding.
-/// - `cut`: to each proper beginning of an encoding the decoder answers that it is cut short, and
-///   how many units it has.
+///   the decoder tells so, the first `used` octets are the encoding of a value, and no other prefix
+///   is an encoding.
+/// - `cut`: to each proper prefix of an encoding the decoder answers that it is cut short, and
+///   the number of units it has.
 /// - `one_answer`: two answers to the same octets, neither being `Memory`, say the same, but for the
 ///   reason of a refusal.
 pub fn codec_laws()

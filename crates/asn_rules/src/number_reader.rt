@@ -69,8 +69,8 @@ pub fn read_number(k: u32, set: NumberSet, why: Why, bits: &mut BitCursor<'_>) -
     }
 }
 
-/// Reads a number of the set in `k` bits, bit by bit. A function apart, so that the intervals of the set take no part of
-/// the frame of those that read numbers.
+/// Reads a number of the set in `k` bits, bit by bit. A function apart, so that the intervals of the set take no part
+/// of the frame of those that read numbers.
 #[cold]
 #[inline(never)]
 fn read_set_by_bits(k: u32, set: NumberSet, why: Why, bits: &mut BitCursor<'_>) -> Result<u64, Stop>

@@ -47,8 +47,8 @@ pub(crate) fn in_octets(stop: Stop) -> Stop
 /// Reads a number of the set in `k` octets: in one step if they are present and hold one.
 ///
 /// # Errors
-/// `Short` if the octets end before the number does. `Refused`, with the reason `why`, at the first octet after which no
-/// number of the set can follow.
+/// `Short` if the octets end before the number does. `Refused`, with the reason `why`, at the first octet after which
+/// no number of the set can follow.
 #[inline(always)]
 pub fn read_octets(k: u32, set: NumberSet, why: Why, units: &mut BitCursor<'_>) -> Result<u64, Stop>
     requires at_octet { AtOctet units.old }

@@ -99,8 +99,8 @@ pub fn read_packed(
 /// number of unused bits, and the bits.
 ///
 /// # Errors
-/// As `read_length` for the length and `read_packed` for the bits. `Refused`, with the reason `Padding`, at the number of
-/// unused bits where it leaves no such count.
+/// As `read_length` for the length and `read_packed` for the bits. `Refused`, with the reason `Padding`, at the
+/// number of unused bits where it leaves no such count.
 pub fn read_variable(
     alloc: Global,
     low: u64,

@@ -6,14 +6,14 @@ ghost use Rattle.asn_values.specs.Profile.{InProfile};
 ghost use Rattle.asn_rules.specs.Answer.{Ruling};
 ghost use Rattle.asn_rules.specs.Reading.{RulesTell, HasOneReading, ReadingsAnswer};
 
-/// Of one list of units there is one reading: one value whose whole encoding stands in front, or
-/// one refused unit, or the need of more.
+/// A list of units has one reading: one value whose whole encoding it begins with, or one refused unit, or the need
+/// of more units.
 pub fn one_reading()
     ensures { (r : Ruling) (t : Shape) (us : List ℕ) → RulesTell r → InProfile t → HasOneReading r t us }
 {}
 
-/// What a reader says of the units of octets is the answer to the octets: the value of the encoding in front, the
-/// refused unit, found from how many units follow it, or that more octets are wanted.
+/// What a reader says of the units of octets is the answer to the octets: the value whose encoding they begin with, the
+/// refused unit, found from the number of units after it, or that more octets are wanted.
 pub fn readings_answer()
     ensures { (r : Ruling) (t : Shape) (s : List ℕ) → RulesTell r → InProfile t → ReadingsAnswer r t s }
 {}

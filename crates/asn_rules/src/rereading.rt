@@ -9,7 +9,7 @@ ghost use Rattle.asn_values.specs.View.{shape_of};
 ghost use Rattle.asn_rules.specs.Answer.{Ruling, max_octets};
 ghost use Rattle.asn_rules.specs.Reading.{RulesTell};
 ghost use Rattle.asn_rules.specs.Rereading.{FedAtOnce, TellsIfNone, Keeps, MoreKeeps};
-ghost use Rattle.asn_rules.specs.Sessions.{Past, waiting, FeedsTo, Finished};
+ghost use Rattle.asn_rules.specs.Sessions.{Past, waiting, Feeds, Finished};
 
 use crate::limits::MAX_OCTETS;
 use crate::session::{FeedFault, OpenFault, Step, Truncated};
@@ -37,7 +37,7 @@ pub trait Reads {
     fn may_be_empty(alloc: Global, ty: &Checked) -> Result<bool, AllocError>
         ensures { IfOk result (TellsIfNone ruling (shape_of ty.now)) };
 
-    /// How many units so many octets are.
+    /// The number of units in `octets` octets.
     fn units_of(octets: usize) -> u64
         requires { octets ≤ max_octets }
         ensures { (o : List ℕ) → length o ≡ octets → length (ruling.units o) ≡ result };
@@ -47,14 +47,14 @@ pub trait Reads {
         ensures { RulesTell ruling };
 }
 
-/// How a session goes on.
+/// What a session answers next.
 #[derive(Clone, Copy, Debug)]
 enum State {
-    /// By all octets so far.
+    /// An answer to all octets so far.
     Waiting,
-    /// With this fault.
+    /// This fault, to every piece.
     Stopped(FeedFault),
-    /// With `Spent`.
+    /// `Spent`, to every piece.
     Over,
 }
 
@@ -100,8 +100,7 @@ pub fn open<R: Reads>(alloc: Global, ty: Checked) -> Result<Rereading, OpenFault
 /// As `Rules::feed`.
 #[inline(always)]
 pub fn feed<R: Reads>(session: &mut Rereading, piece: &[u8]) -> Result<Step, FeedFault>
-    ensures { (t : Shape) (past : Past) → Keeps R.ruling session.old t past
-        → FeedsTo R.ruling (Keeps R.ruling) session.old session.new t past piece.now result }
+    ensures { Feeds R.ruling (Keeps R.ruling) session.old session.new piece.now result }
 {
     match session.state {
         State::Waiting => {}
@@ -150,7 +149,10 @@ pub fn finish<R: Reads>(session: Rereading) -> Result<(), Truncated>
     end
 }
 
-/// What is answered to the octets kept with the piece after them, which are kept where more is wanted.
+/// Reads the octets kept, followed by the piece. Keeps the piece as well if the answer is `More`.
+///
+/// # Errors
+/// As `Reads::read`.
 fn read_on<R: Reads>(
     alloc: Global,
     ty: &Checked,
@@ -176,7 +178,7 @@ fn read_on<R: Reads>(
     R::read(alloc, ty, kept.as_slice())
 }
 
-/// Where an encoding could still follow so many octets, of which at most 268,435,455 are counted.
+/// The end of a session whose `octets` octets an encoding could still extend; at most 268,435,455 are counted.
 fn cut_after<R: Reads>(octets: usize) -> Truncated
     ensures { (o : List ℕ) → length o ≡ octets → octets ≤ max_octets → length (R.ruling.units o) ≡ result.taken }
 {
@@ -184,7 +186,7 @@ fn cut_after<R: Reads>(octets: usize) -> Truncated
     Truncated { taken }
 }
 
-/// How many octets are kept, and how the session stands; not its type.
+/// Shows the number of octets kept and the session's state, but not its type.
 impl fmt::Debug for Rereading {
     fn fmt<W: fmt::Write>(&self, f: &mut fmt::Formatter<W>) -> fmt::Result {
         f.debug_struct("Rereading")

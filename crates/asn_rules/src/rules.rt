@@ -6,7 +6,7 @@ ghost use Rattle.asn_rules.specs.Answer.{Ruling, IsEncoding, max_octets};
 ghost use Rattle.asn_rules.specs.Codec.{NotEncoded, Decoded};
 ghost use Rattle.asn_rules.specs.Laws.{RulesLaws};
 ghost use Rattle.asn_rules.specs.Reading.{RulesTell};
-ghost use Rattle.asn_rules.specs.Sessions.{Past, waiting, FeedsTo, Finished};
+ghost use Rattle.asn_rules.specs.Sessions.{Past, waiting, Feeds, Finished};
 
 use crate::fault::{DecodeFault, EncodeFault};
 use crate::session::{FeedFault, OpenFault, Step, Truncated};
@@ -52,18 +52,17 @@ pub trait Rules {
     ///
     /// # Errors
     /// `Refused` where no encoding begins so, with the first unit, counted from 1, after which none can follow;
-    /// `TooLong` where 268,435,455 octets came and only a longer encoding may begin so; `Memory` where an allocation
-    /// failed. A session that answered `Refused` or `TooLong` answers the same to every further piece, and one that
-    /// answered `Done` or `Memory` answers `Spent`.
+    /// `TooLong` where 268,435,455 octets were taken and only a longer encoding may begin so; `Memory` where an
+    /// allocation failed. A session that answered `Refused` or `TooLong` answers the same to every further piece, and
+    /// one that answered `Done` or `Memory` answers `Spent`.
     fn feed(session: &mut Self::Session, piece: &[u8]) -> Result<Step, FeedFault>
-        ensures { (t : Shape) (past : Past) → took session.old t past
-            → FeedsTo ruling took session.old session.new t past piece.now result };
+        ensures { Feeds ruling took session.old session.new piece.now result };
 
     /// Ends a session. Takes no memory.
     ///
     /// # Errors
-    /// `Truncated` where the octets taken are no whole encoding, with the number of units that came while an encoding
-    /// could still follow. After `Done` the octets taken are those of the value, after `Memory` those before the call
+    /// `Truncated` where the octets taken are no whole encoding, with the number of units taken while an encoding could
+    /// still follow. After `Done` the octets taken are those of the value, after `Memory` those before the call
     /// that failed.
     fn finish(session: Self::Session) -> Result<(), Truncated>
         ensures { (t : Shape) (past : Past) → took session t past → Finished ruling t past result };

@@ -48,7 +48,7 @@ pub enum FeedFault {
 #[derive(Clone, Copy, Debug, PartialEq, Eq, Error)]
 #[error("cut short after {taken} units")]
 pub struct Truncated {
-    /// How many units came while an encoding could still follow.
+    /// The number of units taken while an encoding could still follow.
     pub taken: u64,
 }
 

@@ -216,8 +216,8 @@ fn add_shifted(numbers: Intervals, set: OffsetSet, first: u128, end: u128, up: u
     ensures room { length result ≤ length numbers + 2 }
 {
     let end = end.min(set.end);
-    let front = add_interval(numbers, first.max(set.start), end.min(set.below), up);
-    add_interval(front, first.max(set.from), end, up)
+    let up_to = add_interval(numbers, first.max(set.start), end.min(set.below), up);
+    add_interval(up_to, first.max(set.from), end, up)
 }
 
 /// Adds the offsets in `first..end`, less that of 0 and raised by `up`.

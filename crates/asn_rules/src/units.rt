@@ -5,7 +5,7 @@ ghost use Rattle.asn_rules.specs.Reasons.{name_of_unit};
 use crate::fault::DecodeFault;
 use std::fmt;
 
-/// What the places and lengths of encodings are counted in: bits in PER, octets in OER.
+/// The unit in which positions in encodings and their lengths are counted: bits in PER, octets in OER.
 #[derive(Clone, Copy, Debug, PartialEq, Eq)]
 pub enum Unit {
     Bit,

@@ -1,4 +1,4 @@
--- The alternatives of a CHOICE: how many there are, the one at a place, and which values they have.
+-- The alternatives of a CHOICE: how many there are, the one at an index, and which values they have.
 use Rattle.std.proofs.Common.{◌≡◌, ◌↔◌, ◌<◌, ◌≤◌, ◌-◌, ℕ, zero, suc, Bool, IsTrue, true, false, List, [], ◌∷◌, map, length, get_or, Option, Vec, Global, nat_lt, refl, ap, ◌∙◌, rules, arith}
 use Rattle.std.specs.Global.{Box}
 use Rattle.std.proofs.lemmas.Bool.{le-ltb, lt-ltb}
@@ -27,13 +27,13 @@ shape_of_branch x = search (rules, the_lemmas)
 
 -- ---- the values
 
--- those of the alternative at a place
+-- those of the alternative at an index
 pub fits_at : (alts : List Alt) (i : ℕ) (x : Alt) (d : Datum) → i < length alts → x ≡ get_or alts i x → FitsAlternative (alternatives_of (map branch_of alts)) i d ↔ Fits (shape_of x.ty) d
 fits_at [] i x d h e = absurd (omega arith)
 fits_at (a ∷ alts) zero x d h e = rw (e, shape_of_branch a) (λ f. f, λ f. f)
 fits_at (a ∷ alts) (suc i) x d h e = fits_at alts i x d (omega arith) e
 
--- none behind the last
+-- none after the last
 pub fits_nowhere : (alts : List Alt) (i : ℕ) (d : Datum) → length alts ≤ i → FitsAlternative (alternatives_of (map branch_of alts)) i d → ⊥
 fits_nowhere [] i d h f = f
 fits_nowhere (a ∷ alts) zero d h f = omega arith

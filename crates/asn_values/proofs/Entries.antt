@@ -11,7 +11,7 @@ use Rattle.asn_values.specs.Fits.{Fits, FitsEach, FitsMore, FitsSequence}
 use Rattle.asn_values.specs.View.{Part, shape_of, datum_of, fields_of, part_of_field, more_fields_of}
 use Rattle.asn_values.proofs.Views.{component_list-components_of, sequence_of_fields, datum_of-Seq}
 
--- the root's part and nothing behind it is one entry for each component of the root
+-- the root's part and nothing after it is one entry for each component of the root
 pub each_of_closed : (fs : Fields) (es : List (Option Datum)) → FitsEach fs es ↔ (FitsEach fs (take (length (demands fs)) es) × FitsMore closed (drop (length (demands fs)) es))
 each_of_closed no_fields [] = (λ h. (tt, tt), λ h. tt)
 each_of_closed no_fields (e ∷ es) = (λ h. absurd h, λ h. absurd h.1)

@@ -32,7 +32,7 @@ faultless_sequence root more names here behind optional few added TooMany =
     rw (le-ltb most_components (length (demands root)) few) (le-ltb most_additions (length (demands (more_fields more))) added)
 faultless_sequence root more names here behind optional few added TooDeep = refl
 
--- it has more components than there may be, in front of the mark or behind it
+-- it has more components than there may be, in front of the mark or after it
 pub many_components : (root : Fields) (more : MoreFields) → (most_components < length (demands root)) ⊎ (most_additions < length (demands (more_fields more))) → too_many_here (sequence root more) ≡ true
 many_components root more (inl many) = rw (lt-ltb most_components (length (demands root)) many) refl
 many_components root more (inr many) = one (nat_lt most_components (length (demands root))) (lt-ltb most_additions (length (demands (more_fields more))) many)

@@ -10,11 +10,11 @@ use Rattle.asn_values.specs.Parts.{AreOfProfile, AreAllOfProfile}
 use Rattle.asn_values.proofs.Parts.{left_false, right_false}
 
 module _ (whole : Shape) (good : InProfile whole) where
-  -- it has at most so many types inside it
+  -- it has at most this many types inside it
   few : nodes whole ≤ most_nodes
   few = ltb-false most_nodes (nodes whole) (right_false (somewhere too_many_here whole) (nat_lt most_nodes (nodes whole)) (good TooMany))
 
-  -- and at most so many levels
+  -- and at most this many levels
   deep : depth whole ≤ most_levels
   deep = ltb-false most_levels (depth whole) (good TooDeep)
 

@@ -15,7 +15,7 @@ pub right_false : (a b : Bool) → (a || b) ≡ false → b ≡ false
 right_false false b h = h
 right_false true b h = absurd (cc)
 
--- ---- one component, and those behind it
+-- ---- one component, and those after it
 
 -- what holds of no node of a type, told by the test
 abbrev pub Nowhere : (Shape → Bool) → Shape → Type 0

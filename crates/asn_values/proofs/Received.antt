@@ -1,5 +1,5 @@
--- Values with unknown items and alternatives where they are asked for: one entry for each component, the alternative with
--- an index, the elements of a list; and that where they are not asked for, these are the values of the type.
+-- Values with unknown items and alternatives where they are asked for: one entry for each component, the alternative
+-- with an index, the elements of a list; and that where they are not asked for, these are the values of the type.
 use Rattle.std.proofs.Common.{◌≡◌, ◌≢◌, ◌↔◌, ◌∙◌, ◌<◌, ◌≤◌, ◌-◌, ℕ, zero, suc, min, sym, IsTrue, Bool, true, false, List, [], ◌∷◌, map, length, take, drop, get_or, nat_lt, Option, Some, None, option_map, MatchBool, Vec, Global, refl, ap, rules, arith}
 use Rattle.std.specs.Global.{Box}
 use Rattle.std.specs.List.{AllByRecursion}
@@ -21,7 +21,7 @@ use Rattle.asn_values.proofs.Entries.{length-demands}
 use Rattle.asn_values.proofs.Alternatives.{count-of, shape_of_branch, no_truth}
 
 module _ (u : Bool) where
-  -- the root's part and nothing behind it is one entry for each component of the root
+  -- the root's part and nothing after it is one entry for each component of the root
   pub each_of_closed : (fs : Fields) (es : List (Option Datum)) → FitsEachBy u fs es ↔ (FitsEachBy u fs (take (length (demands fs)) es) × FitsMoreBy u closed (drop (length (demands fs)) es))
   each_of_closed no_fields [] = (λ h. (tt, tt), λ h. tt)
   each_of_closed no_fields (e ∷ es) = (λ h. absurd h, λ h. absurd h.1)
@@ -59,7 +59,7 @@ module _ (u : Bool) where
   other_length fs vs h differ =
       differ (simp length-map at (each_length (map part_of_field fs) (map (option_map datum_of) vs) h))
 
-  -- ---- behind an extension mark
+  -- ---- after an extension mark
 
   -- as far as there are entries, the first are the root's and the others the additions'
   pub fits_split :
@@ -74,13 +74,13 @@ module _ (u : Bool) where
       drop-map (option_map datum_of) (length fs) vs ∙ ap (map (option_map datum_of)) (sym (drop_min (length fs) vs) ∙ ap (λ k. drop k vs) (sym en) ∙ sym et) in
       rw (count, front, back) both
 
-  -- those of the alternative at a place
+  -- those of the alternative at an index
   pub fits_at : (alts : List Alt) (i : ℕ) (x : Alt) (d : Datum) → i < length alts → x ≡ get_or alts i x → FitsAlternativeBy u (alternatives_of (map branch_of alts)) i d ↔ FitsBy u (shape_of x.ty) d
   fits_at [] i x d h e = absurd (omega arith)
   fits_at (a ∷ alts) zero x d h e = rw (e, shape_of_branch a) (λ f. f, λ f. f)
   fits_at (a ∷ alts) (suc i) x d h e = fits_at alts i x d (omega arith) e
 
-  -- none behind the last
+  -- none after the last
   pub fits_nowhere : (alts : List Alt) (i : ℕ) (d : Datum) → length alts ≤ i → FitsAlternativeBy u (alternatives_of (map branch_of alts)) i d → ⊥
   fits_nowhere [] i d h f = f
   fits_nowhere (a ∷ alts) zero d h f = omega arith

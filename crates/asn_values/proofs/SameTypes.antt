@@ -60,7 +60,7 @@ other_root x y v w m n ex ey fs gs ef eg b (there, back) failed = (
   λ e. back (ap (map part_of_field) ef ∙ (roots_of_same x y v w m n ex ey e ∙ sym (ap (map part_of_field) eg))),
 )
 
--- behind equal roots a test of the additions is one of the types
+-- after equal roots a test of the additions is one of the types
 pub by_additions :
     (x y : AsnType) (v w : Vec Field Global) (m n : Option (Vec Field Global)) → x ≡ Seq v m → y ≡ Seq w n →
     (fs gs : List Field) → fs ≡ v.items → gs ≡ w.items → map part_of_field fs ≡ map part_of_field gs →
@@ -128,7 +128,7 @@ other_choice x y v w m n ex ey fs gs ef eg b (there, back) failed = (
   λ e. back (ap (map branch_of) ef ∙ (roots_of_same_choice x y v w m n ex ey e ∙ sym (ap (map branch_of) eg))),
 )
 
--- behind equal roots a test of the additions is one of the types
+-- after equal roots a test of the additions is one of the types
 pub by_added_alternatives :
     (x y : AsnType) (v w : Vec Alt Global) (m n : Option (Vec Alt Global)) → x ≡ Choice v m → y ≡ Choice w n →
     (fs gs : List Alt) → fs ≡ v.items → gs ≡ w.items → map branch_of fs ≡ map branch_of gs →

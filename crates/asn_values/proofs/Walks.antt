@@ -38,7 +38,7 @@ fault_in_front f levels start a b (inl h) = inl (found_also (condition_of f) a.h
 fault_in_front f levels start a b (inr (inl (e, h))) = inr (inl (e, omega (arith, h)))
 fault_in_front f levels start a b (inr (inr (e, h))) = inr (inr (e, omega (arith, h)))
 
--- and so is one of the second, behind a first that is sound
+-- and so is one of the second, after a first that is sound
 pub fault_behind : (f : TypeFault) (levels start now : ℕ) (a b : Extent) → IsSoundWithin levels start now a → IsFaultWithin f levels now b → IsFaultWithin f levels start (beside a b)
 fault_behind f levels start now a b x (inl h) = inl (found_also (condition_of f) b.holds (beside a b).holds (λ c. behind (a.holds c) (b.holds c)) h)
 fault_behind f levels start now a b x (inr (inl (e, h))) = inr (inl (e, omega (arith, h, x.counted)))
@@ -67,7 +67,7 @@ goes_on levels start left now all t rest w s = record {
 pub none_sound : (levels start : ℕ) → IsSoundWithin levels start start (of_types [])
 none_sound levels start = record { counted = omega arith; shallow = omega arith; faultless = λ c. refl }
 
--- behind the last
+-- after the last
 pub ends : (levels start left : ℕ) (all : List Shape) → IsWalkedTo levels start left all [] → IsSoundWithin levels start left (of_types all)
 ends levels start left all w = w.sound left (none_sound levels left)
 

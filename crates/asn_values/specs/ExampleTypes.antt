@@ -143,7 +143,8 @@ twice_extended_type =
 
 -- SEQUENCE { a BOOLEAN, ..., n NULL OPTIONAL }
 abbrev pub null_addition_type : Shape
-null_addition_type = sequence (component (codes "a") boolean no_fields) (marked (optional_component (codes "n") null no_fields))
+null_addition_type = sequence (component (codes "a") boolean no_fields)
+    (marked (optional_component (codes "n") null no_fields))
 
 -- SEQUENCE { p BOOLEAN, ..., q INTEGER (0..255) OPTIONAL }
 abbrev pub inner_type : Shape
@@ -160,13 +161,15 @@ outer_type =
 -- CHOICE { x NULL, y BOOLEAN, z INTEGER (0..3), ..., w OCTET STRING }
 abbrev pub extended_choice : Shape
 extended_choice =
-    choice (one_of (codes "x") null (one_of (codes "y") boolean (one_of (codes "z") (integer (between (pos 0) (pos 3))) no_alternatives)))
+    choice (one_of (codes "x") null
+    (one_of (codes "y") boolean (one_of (codes "z") (integer (between (pos 0) (pos 3))) no_alternatives)))
     (marked_choice (one_of (codes "w") (octet_string any_size) no_alternatives))
 
 -- CHOICE { x NULL, y BOOLEAN, z INTEGER (0..3) }
 abbrev pub closed_choice_type : Shape
 closed_choice_type =
-    choice (one_of (codes "x") null (one_of (codes "y") boolean (one_of (codes "z") (integer (between (pos 0) (pos 3))) no_alternatives)))
+    choice (one_of (codes "x") null
+    (one_of (codes "y") boolean (one_of (codes "z") (integer (between (pos 0) (pos 3))) no_alternatives)))
     closed_choice
 
 -- ENUMERATED { red(0), green(5), blue(200), ..., grey(300) }
@@ -194,11 +197,13 @@ many_alternatives = choice (alternatives_of 100 boolean) (marked_choice (alterna
 abbrev pub default_type : Shape
 default_type =
     sequence (default_component (codes "n") (number (pos 2)) (integer (between (pos 0) (pos 3)))
-    (default_component (codes "e") (item 1) (enumerated (label (codes "a") (pos 0) ∷ label (codes "b") (pos 1) ∷ []) closed_labels) no_fields)) closed
+    (default_component (codes "e") (item 1)
+    (enumerated (label (codes "a") (pos 0) ∷ label (codes "b") (pos 1) ∷ []) closed_labels) no_fields)) closed
 
 -- SEQUENCE { n INTEGER DEFAULT -5 }
 abbrev pub negative_default_type : Shape
-negative_default_type = sequence (default_component (codes "n") (number (negsuc 4)) (integer any_number) no_fields) closed
+negative_default_type =
+    sequence (default_component (codes "n") (number (negsuc 4)) (integer any_number) no_fields) closed
 
 -- SEQUENCE { b BOOLEAN DEFAULT FALSE }
 abbrev pub false_default_type : Shape

@@ -122,9 +122,13 @@ abbrev mutual
   Fits (octet_string s) d = IsOctets (λ os. FitsLength s (length os) × AllByRecursion (λ o. o < 256) os) d
   Fits (restricted k s) d = IsText (λ cs. FitsLength s (length cs) × AllByRecursion (λ c. IsTrue (is_of_kind k c)) cs) d
   Fits utf8_string d = IsUnicode (λ os. (length os ≤ max_len) × IsUtf8 os) d
-  Fits (sequence root more) d = IsComponents (λ es. FitsEach root (take (length (demands root)) es) × FitsMore more (drop (length (demands root)) es)) d
+  Fits (sequence root more) d =
+      IsComponents (λ es. FitsEach root (take (length (demands root)) es)
+      × FitsMore more (drop (length (demands root)) es)) d
   Fits (sequence_of t s) d = IsElements (λ ds. FitsLength s (length ds) × AllByRecursion (λ e. Fits t e) ds) d
-  Fits (choice root more) d = IsAlternative (λ t e. MatchBool (nat_lt t (count root)) (FitsAlternative root t e) (FitsMoreAlternatives more (t - count root) e)) d
+  Fits (choice root more) d =
+      IsAlternative (λ t e. MatchBool (nat_lt t (count root)) (FitsAlternative root t e)
+      (FitsMoreAlternatives more (t - count root) e)) d
 
   -- one entry for each component
   pub FitsEach : Fields → List (Option Datum) → Type 0
@@ -138,7 +142,7 @@ abbrev mutual
   FitsMore closed (e ∷ es) = ⊥
   FitsMore (marked fs) es = FitsEach fs es
 
-  -- a value of the alternative at that place; the tags count the alternatives from 0, root first
+  -- a value of the alternative at that index; the tags count the alternatives from 0, root first
   pub FitsAlternative : Alternatives → ℕ → Datum → Type 0
   FitsAlternative no_alternatives t d = ⊥
   FitsAlternative (one_of name shape alts) zero d = Fits shape d
@@ -150,7 +154,9 @@ abbrev mutual
 
 -- the entries of a SEQUENCE; the tag and value of a CHOICE
 abbrev pub FitsSequence : Fields → MoreFields → List (Option Datum) → Type 0
-FitsSequence root more es = FitsEach root (take (length (demands root)) es) × FitsMore more (drop (length (demands root)) es)
+FitsSequence root more es =
+    FitsEach root (take (length (demands root)) es) × FitsMore more (drop (length (demands root)) es)
 
 abbrev pub FitsChoice : Alternatives → MoreAlternatives → ℕ → Datum → Type 0
-FitsChoice root more t e = MatchBool (nat_lt t (count root)) (FitsAlternative root t e) (FitsMoreAlternatives more (t - count root) e)
+FitsChoice root more t e =
+    MatchBool (nat_lt t (count root)) (FitsAlternative root t e) (FitsMoreAlternatives more (t - count root) e)

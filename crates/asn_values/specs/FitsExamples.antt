@@ -24,8 +24,8 @@ pub seven_fits : Fits (integer (between (pos 0) (pos 7))) (number (pos 7))
 seven_fits = (le_z_yes tt, le_z_yes tt, refl)
 
 -- INTEGER (0..7, ...)
-pub eight_fits_behind_a_mark : Fits (integer (between_or_more (pos 0) (pos 7))) (number (pos 8))
-eight_fits_behind_a_mark = (le_z_yes tt, le_z_yes tt, refl)
+pub eight_fits_after_a_marker : Fits (integer (between_or_more (pos 0) (pos 7))) (number (pos 8))
+eight_fits_after_a_marker = (le_z_yes tt, le_z_yes tt, refl)
 
 -- INTEGER (-5..MAX)
 pub the_greatest_integer_fits : Fits (integer (number_from (negsuc 4))) (number (pos 9223372036854775807))
@@ -40,8 +40,8 @@ pub three_bits_fit : Fits (bit_string (size_between 0 3)) (bit_list (bits_of "10
 three_bits_fit = (leb-true 3 max_len refl, refl)
 
 -- OCTET STRING (SIZE (2..3, ...))
-pub one_octet_fits_behind_a_mark : Fits (octet_string (size_between_or_more 2 3)) (octet_list (hex "AB"))
-one_octet_fits_behind_a_mark = ((leb-true 1 max_len refl, refl), (leb-true 172 256 refl, tt))
+pub one_octet_fits_after_a_marker : Fits (octet_string (size_between_or_more 2 3)) (octet_list (hex "AB"))
+one_octet_fits_after_a_marker = ((leb-true 1 max_len refl, refl), (leb-true 172 256 refl, tt))
 
 -- NumericString
 pub space_and_digit_fit : Fits (restricted numeric any_size) (characters (codes " 9"))
@@ -62,11 +62,14 @@ a_unicode_text_fits = (leb-true 2 max_len refl, (0xE9 ∷ [], (refl, refl)))
 pub two_components_fit : Fits note_type (entries (Some (number (pos 5)) ∷ Some (truth true) ∷ None ∷ []))
 two_components_fit = (((le_z_yes tt, le_z_yes tt, refl), (tt, (tt, tt))), tt)
 
-pub three_components_fit : Fits note_type (entries (Some (number (pos 5)) ∷ Some (truth true) ∷ Some (characters (codes "A")) ∷ []))
-three_components_fit = (((le_z_yes tt, le_z_yes tt, refl), (tt, (((leb-true 1 max_len refl, refl), (refl, tt)), tt))), tt)
+pub three_components_fit : Fits note_type
+    (entries (Some (number (pos 5)) ∷ Some (truth true) ∷ Some (characters (codes "A")) ∷ []))
+three_components_fit =
+    (((le_z_yes tt, le_z_yes tt, refl), (tt, (((leb-true 1 max_len refl, refl), (refl, tt)), tt))), tt)
 
 -- a TRUE, b 7, and c absent
-pub an_entry_for_each_addition_fits : Fits twice_extended_type (entries (Some (truth true) ∷ Some (number (pos 7)) ∷ None ∷ []))
+pub an_entry_for_each_addition_fits : Fits twice_extended_type
+    (entries (Some (truth true) ∷ Some (number (pos 7)) ∷ None ∷ []))
 an_entry_for_each_addition_fits = ((tt, tt), ((le_z_yes tt, le_z_yes tt, refl), (tt, tt)))
 
 -- SEQUENCE (SIZE (2..3)) OF BOOLEAN

@@ -11,11 +11,13 @@ first_label name (l ∷ ls) = cond (bytes_eq name l.name) (Some l) (first_label 
 
 abbrev pub first_field : List ℕ → Fields → Option Part
 first_field name no_fields = None
-first_field name (field n demand t fs) = cond (bytes_eq name n) (Some (record { name = n; demand = demand; shape = t })) (first_field name fs)
+first_field name (field n demand t fs) =
+    cond (bytes_eq name n) (Some (record { name = n; demand = demand; shape = t })) (first_field name fs)
 
 abbrev pub first_branch : List ℕ → Alternatives → Option Branch
 first_branch name no_alternatives = None
-first_branch name (one_of n t alts) = cond (bytes_eq name n) (Some (record { name = n; shape = t })) (first_branch name alts)
+first_branch name (one_of n t alts) =
+    cond (bytes_eq name n) (Some (record { name = n; shape = t })) (first_branch name alts)
 
 -- the first part of a list that passes the test
 abbrev pub first_where : {X : Type 0} → (X → Bool) → List X → Option X
@@ -26,6 +28,10 @@ first_where test (x ∷ xs) = cond (test x) (Some x) (first_where test xs)
 abbrev pub added : {X : Type 0} → Option (Vec X) → List X
 added None = []
 added (Some more) = more.items
+
+-- the first part that passes the test, of those before the extension marker and then of those after it
+abbrev pub first_part : {X : Type 0} → (X → Bool) → List X → Option (Vec X) → Option X
+first_part test root more = option_or (first_where test root) (first_where test (added more))
 
 -- the item of an ENUMERATED
 abbrev pub item_named : List ℕ → Shape → Option Label
@@ -39,5 +45,6 @@ component_named name _ = None
 
 -- the alternative of a CHOICE
 abbrev pub alternative_named : List ℕ → Shape → Option Branch
-alternative_named name (choice root more) = option_or (first_branch name root) (first_branch name (more_alternatives more))
+alternative_named name (choice root more) =
+    option_or (first_branch name root) (first_branch name (more_alternatives more))
 alternative_named name _ = None

@@ -89,7 +89,11 @@ levels_of_a_mark_without_additions : levels (sequence (component (codes "a") boo
 levels_of_a_mark_without_additions = refl
 
 -- a text in an addition of a CHOICE in an addition of a SEQUENCE
-levels_of_three_fields_inside_one_another : levels (sequence no_fields (marked (optional_component (codes "a") (choice (one_of (codes "b") null no_alternatives) (marked_choice (one_of (codes "c") (sequence_of utf8_string any_size) no_alternatives))) no_fields))) ≡ 4
+levels_of_three_fields_inside_one_another : levels
+    (sequence no_fields (marked
+    (optional_component (codes "a")
+    (choice (one_of (codes "b") null no_alternatives)
+    (marked_choice (one_of (codes "c") (sequence_of utf8_string any_size) no_alternatives))) no_fields))) ≡ 4
 levels_of_three_fields_inside_one_another = refl
 
 -- ---- cells of a value: its nodes, an absent component as one, and the items of strings
@@ -114,7 +118,8 @@ cells_of_a_unicode_text : cells (unicode (hex "C3 A9")) ≡ 3
 cells_of_a_unicode_text = refl
 
 -- the SEQUENCE, id, ok, and note with its character
-cells_of_a_sequence : cells (entries (Some (number (pos 5)) ∷ Some (truth true) ∷ Some (characters (codes "A")) ∷ [])) ≡ 5
+cells_of_a_sequence : cells (entries (Some (number (pos 5)) ∷ Some (truth true) ∷ Some (characters (codes "A")) ∷ []))
+    ≡ 5
 cells_of_a_sequence = refl
 
 cells_of_an_absent_component : cells (entries (Some (number (pos 5)) ∷ Some (truth true) ∷ None ∷ [])) ≡ 4

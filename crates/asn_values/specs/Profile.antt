@@ -121,7 +121,8 @@ duplicate_name (sequence root more) = bad_names (field_names root ++ field_names
 duplicate_name (choice root more) = bad_names (alternative_names root ++ alternative_names (more_alternatives more))
 duplicate_name _ = false
 
--- ---- BadEnumeration: a number twice or outside 32 signed bits, or additions that do not rise above all before them (X.680, enumerated types)
+-- ---- BadEnumeration: a number twice or outside 32 signed bits, or additions that do not rise above all before them
+-- (X.680, enumerated types)
 
 abbrev pub int_eq : ℤ → ℤ → Bool
 int_eq x y = int_le x y && int_le y x
@@ -136,7 +137,9 @@ is_rising (x ∷ xs) = list_all (int_lt x) xs && is_rising xs
 
 abbrev pub bad_numbers : List ℤ → List ℤ → Bool
 bad_numbers root more =
-    has_twice int_eq root || (list_any is_not_32_bits (root ++ more) || (not (is_rising more) || not (list_all (λ x. list_all (int_lt x) more) root)))
+    has_twice int_eq root
+    || (list_any is_not_32_bits (root ++ more)
+    || (not (is_rising more) || not (list_all (λ x. list_all (int_lt x) more) root)))
 
 abbrev pub bad_enumeration : Shape → Bool
 bad_enumeration (enumerated root more) = bad_numbers (map (λ l. l.number) root) (map (λ l. l.number) (more_labels more))
@@ -152,7 +155,8 @@ abbrev pub useless_mark : Shape → Bool
 useless_mark (integer b) = b.extensible && (at_least b.low lowest_integer && at_most b.high highest_integer)
 useless_mark t = is_every_length (size_of t)
 
--- ---- BadDefault: a DEFAULT on another type than BOOLEAN, ENUMERATED or INTEGER, on one with an extension mark or one value only, or no value of it
+-- ---- BadDefault: a DEFAULT on another type than BOOLEAN, ENUMERATED or INTEGER, on one with an extension mark or one
+-- value only, or no value of it
 
 -- the bounds of the numbers of a range, where one is missing the profile's
 abbrev pub lowest_of : Option ℤ → ℤ
@@ -166,7 +170,8 @@ highest_of (Some high) = high
 -- a BOOLEAN, ENUMERATED or INTEGER without a mark, of more than one value, and a value of it
 abbrev pub good_default : Shape → Datum → Bool
 good_default boolean (truth b) = true
-good_default (integer b) (number z) = not b.extensible && (in_range b z && (not (is_outside (Some z)) && int_lt (lowest_of b.low) (highest_of b.high)))
+good_default (integer b) (number z) =
+    not b.extensible && (in_range b z && (not (is_outside (Some z)) && int_lt (lowest_of b.low) (highest_of b.high)))
 good_default (enumerated root closed_labels) (item p) = nat_lt p (length root) && nat_lt 1 (length root)
 good_default _ _ = false
 
@@ -274,8 +279,10 @@ abbrev pub most_levels : ℕ
 most_levels = 32
 
 abbrev pub too_many_here : Shape → Bool
-too_many_here (enumerated root more) = nat_lt most_items (length root + length (more_labels more)) || nat_lt most_additions (length (more_labels more))
-too_many_here (sequence root more) = nat_lt most_components (length (demands root)) || nat_lt most_additions (length (demands (more_fields more)))
+too_many_here (enumerated root more) =
+    nat_lt most_items (length root + length (more_labels more)) || nat_lt most_additions (length (more_labels more))
+too_many_here (sequence root more) =
+    nat_lt most_components (length (demands root)) || nat_lt most_additions (length (demands (more_fields more)))
 too_many_here (choice root more) = nat_lt most_alternatives (count root + count (more_alternatives more))
 too_many_here _ = false
 
@@ -283,7 +290,8 @@ too_many_here _ = false
 
 -- what may be wrong with a type
 pub data Condition : Type 0 where
-  EmptyRange SizeTooLarge DuplicateName BadEnumeration UselessMark BadDefault ZeroWidthElement AdditionNotOptional TooMany TooDeep : Condition
+  EmptyRange SizeTooLarge DuplicateName BadEnumeration UselessMark : Condition
+  BadDefault ZeroWidthElement AdditionNotOptional TooMany TooDeep : Condition
 
 -- the condition holds somewhere in the type
 abbrev pub has : Condition → Shape → Bool

@@ -20,11 +20,13 @@ a_bound_past_the_integers_of_the_profile : has EmptyRange (integer (between (pos
 a_bound_past_the_integers_of_the_profile = refl
 
 -- INTEGER (-9223372036854775809..0)
-a_bound_below_the_integers_of_the_profile : has EmptyRange (integer (between (negsuc 9223372036854775808) (pos 0))) ≡ true
+a_bound_below_the_integers_of_the_profile : has EmptyRange (integer (between (negsuc 9223372036854775808) (pos 0)))
+    ≡ true
 a_bound_below_the_integers_of_the_profile = refl
 
 -- INTEGER (-9223372036854775808..9223372036854775807)
-all_integers_of_the_profile : has EmptyRange (integer (between (negsuc 9223372036854775807) (pos 9223372036854775807))) ≡ false
+all_integers_of_the_profile : has EmptyRange (integer (between (negsuc 9223372036854775807) (pos 9223372036854775807)))
+    ≡ false
 all_integers_of_the_profile = refl
 
 -- OCTET STRING (SIZE (3..2))
@@ -42,7 +44,8 @@ a_size_of_zero = refl
 an_enumeration_without_root : has EmptyRange (enumerated [] (marked_labels (label (codes "a") (pos 0) ∷ []))) ≡ true
 an_enumeration_without_root = refl
 
-a_choice_without_root : has EmptyRange (choice no_alternatives (marked_choice (one_of (codes "a") null no_alternatives))) ≡ true
+a_choice_without_root : has EmptyRange
+    (choice no_alternatives (marked_choice (one_of (codes "a") null no_alternatives))) ≡ true
 a_choice_without_root = refl
 
 a_sequence_without_components : has EmptyRange (sequence no_fields closed) ≡ false
@@ -52,7 +55,8 @@ a_sequence_without_components = refl
 an_empty_range_inside : has EmptyRange (sequence_of (integer (between (pos 7) (pos 0))) any_size) ≡ true
 an_empty_range_inside = refl
 
-an_empty_range_in_an_addition : has EmptyRange (sequence no_fields (marked (optional_component (codes "a") (integer (between (pos 7) (pos 0))) no_fields))) ≡ true
+an_empty_range_in_an_addition : has EmptyRange
+    (sequence no_fields (marked (optional_component (codes "a") (integer (between (pos 7) (pos 0))) no_fields))) ≡ true
 an_empty_range_in_an_addition = refl
 
 -- ---- SizeTooLarge
@@ -73,33 +77,41 @@ a_size_without_bounds : has SizeTooLarge (octet_string any_size) ≡ false
 a_size_without_bounds = refl
 
 -- SEQUENCE (SIZE (0..65536, ...)) OF BOOLEAN
-a_large_bound_behind_which_a_mark_stands : has SizeTooLarge (sequence_of boolean (size_between_or_more 0 65536)) ≡ true
-a_large_bound_behind_which_a_mark_stands = refl
+a_large_bound_before_an_extension_marker : has SizeTooLarge (sequence_of boolean (size_between_or_more 0 65536)) ≡ true
+a_large_bound_before_an_extension_marker = refl
 
 -- ---- DuplicateName
 
-two_components_of_one_name : has DuplicateName (sequence (component (codes "a") boolean (component (codes "a") null no_fields)) closed) ≡ true
+two_components_of_one_name : has DuplicateName
+    (sequence (component (codes "a") boolean (component (codes "a") null no_fields)) closed) ≡ true
 two_components_of_one_name = refl
 
-two_components_of_two_names : has DuplicateName (sequence (component (codes "a") boolean (component (codes "b") null no_fields)) closed) ≡ false
+two_components_of_two_names : has DuplicateName
+    (sequence (component (codes "a") boolean (component (codes "b") null no_fields)) closed) ≡ false
 two_components_of_two_names = refl
 
-one_name_at_two_levels : has DuplicateName (sequence (component (codes "a") (sequence (component (codes "a") boolean no_fields) closed) no_fields) closed) ≡ false
+one_name_at_two_levels : has DuplicateName
+    (sequence (component (codes "a") (sequence (component (codes "a") boolean no_fields) closed) no_fields) closed)
+    ≡ false
 one_name_at_two_levels = refl
 
-an_addition_of_a_name_in_the_root : has DuplicateName (sequence (component (codes "a") boolean no_fields) (marked (optional_component (codes "a") null no_fields))) ≡ true
+an_addition_of_a_name_in_the_root : has DuplicateName
+    (sequence (component (codes "a") boolean no_fields) (marked (optional_component (codes "a") null no_fields))) ≡ true
 an_addition_of_a_name_in_the_root = refl
 
-two_alternatives_of_one_name : has DuplicateName (choice (one_of (codes "a") null (one_of (codes "a") boolean no_alternatives)) closed_choice) ≡ true
+two_alternatives_of_one_name : has DuplicateName
+    (choice (one_of (codes "a") null (one_of (codes "a") boolean no_alternatives)) closed_choice) ≡ true
 two_alternatives_of_one_name = refl
 
-two_items_of_one_name : has DuplicateName (enumerated (label (codes "a") (pos 0) ∷ label (codes "a") (pos 1) ∷ []) closed_labels) ≡ true
+two_items_of_one_name : has DuplicateName
+    (enumerated (label (codes "a") (pos 0) ∷ label (codes "a") (pos 1) ∷ []) closed_labels) ≡ true
 two_items_of_one_name = refl
 
 a_name_with_a_capital_first : has DuplicateName (sequence (component (codes "A") boolean no_fields) closed) ≡ true
 a_name_with_a_capital_first = refl
 
-a_name_with_hyphens_and_digits : has DuplicateName (sequence (component (codes "a-1-B") boolean no_fields) closed) ≡ false
+a_name_with_hyphens_and_digits : has DuplicateName (sequence (component (codes "a-1-B") boolean no_fields) closed)
+    ≡ false
 a_name_with_hyphens_and_digits = refl
 
 a_hyphen_at_the_end : has DuplicateName (sequence (component (codes "a-") boolean no_fields) closed) ≡ true
@@ -116,11 +128,13 @@ no_name_at_all = refl
 numbers_in_any_order : has BadEnumeration unsorted_enumeration ≡ false
 numbers_in_any_order = refl
 
-a_number_twice : has BadEnumeration (enumerated (label (codes "a") (pos 1) ∷ label (codes "b") (pos 1) ∷ []) closed_labels) ≡ true
+a_number_twice : has BadEnumeration
+    (enumerated (label (codes "a") (pos 1) ∷ label (codes "b") (pos 1) ∷ []) closed_labels) ≡ true
 a_number_twice = refl
 
 -- 2^31 - 1
-the_greatest_number_of_an_item : has BadEnumeration (enumerated (label (codes "a") (pos 2147483647) ∷ []) closed_labels) ≡ false
+the_greatest_number_of_an_item : has BadEnumeration (enumerated (label (codes "a") (pos 2147483647) ∷ []) closed_labels)
+    ≡ false
 the_greatest_number_of_an_item = refl
 
 -- 2^31
@@ -128,37 +142,48 @@ a_number_past_32_bits : has BadEnumeration (enumerated (label (codes "a") (pos 2
 a_number_past_32_bits = refl
 
 -- -2^31
-the_least_number_of_an_item : has BadEnumeration (enumerated (label (codes "a") (negsuc 2147483647) ∷ []) closed_labels) ≡ false
+the_least_number_of_an_item : has BadEnumeration (enumerated (label (codes "a") (negsuc 2147483647) ∷ []) closed_labels)
+    ≡ false
 the_least_number_of_an_item = refl
 
 -- -2^31 - 1
-a_number_below_32_bits : has BadEnumeration (enumerated (label (codes "a") (negsuc 2147483648) ∷ []) closed_labels) ≡ true
+a_number_below_32_bits : has BadEnumeration (enumerated (label (codes "a") (negsuc 2147483648) ∷ []) closed_labels)
+    ≡ true
 a_number_below_32_bits = refl
 
-additions_that_rise : has BadEnumeration (enumerated (label (codes "a") (pos 5) ∷ []) (marked_labels (label (codes "b") (pos 6) ∷ label (codes "c") (pos 9) ∷ []))) ≡ false
+additions_that_rise : has BadEnumeration
+    (enumerated (label (codes "a") (pos 5) ∷ [])
+    (marked_labels (label (codes "b") (pos 6) ∷ label (codes "c") (pos 9) ∷ []))) ≡ false
 additions_that_rise = refl
 
-additions_that_fall : has BadEnumeration (enumerated (label (codes "a") (pos 5) ∷ []) (marked_labels (label (codes "b") (pos 9) ∷ label (codes "c") (pos 6) ∷ []))) ≡ true
+additions_that_fall : has BadEnumeration
+    (enumerated (label (codes "a") (pos 5) ∷ [])
+    (marked_labels (label (codes "b") (pos 9) ∷ label (codes "c") (pos 6) ∷ []))) ≡ true
 additions_that_fall = refl
 
-an_addition_below_the_root : has BadEnumeration (enumerated (label (codes "a") (pos 5) ∷ []) (marked_labels (label (codes "b") (pos 4) ∷ []))) ≡ true
+an_addition_below_the_root : has BadEnumeration
+    (enumerated (label (codes "a") (pos 5) ∷ []) (marked_labels (label (codes "b") (pos 4) ∷ []))) ≡ true
 an_addition_below_the_root = refl
 
-an_addition_that_repeats_the_root : has BadEnumeration (enumerated (label (codes "a") (pos 5) ∷ []) (marked_labels (label (codes "b") (pos 5) ∷ []))) ≡ true
+an_addition_that_repeats_the_root : has BadEnumeration
+    (enumerated (label (codes "a") (pos 5) ∷ []) (marked_labels (label (codes "b") (pos 5) ∷ []))) ≡ true
 an_addition_that_repeats_the_root = refl
 
 -- ---- UselessMark
 
 -- INTEGER (MIN..MAX, ...)
-a_mark_on_a_range_without_bounds : has UselessMark (integer (record { low = None; high = None; extensible = true })) ≡ true
+a_mark_on_a_range_without_bounds : has UselessMark (integer (record { low = None; high = None; extensible = true }))
+    ≡ true
 a_mark_on_a_range_without_bounds = refl
 
 -- INTEGER (-9223372036854775808..9223372036854775807, ...)
-a_mark_on_all_integers_of_the_profile : has UselessMark (integer (between_or_more (negsuc 9223372036854775807) (pos 9223372036854775807))) ≡ true
+a_mark_on_all_integers_of_the_profile : has UselessMark
+    (integer (between_or_more (negsuc 9223372036854775807) (pos 9223372036854775807))) ≡ true
 a_mark_on_all_integers_of_the_profile = refl
 
 -- INTEGER (-9223372036854775807..MAX, ...)
-a_mark_on_all_but_one_integer : has UselessMark (integer (record { low = Some (negsuc 9223372036854775806); high = None; extensible = true })) ≡ false
+a_mark_on_all_but_one_integer : has UselessMark
+    (integer (record { low = Some (negsuc 9223372036854775806); high = None; extensible = true })) ≡ false
 a_mark_on_all_but_one_integer = refl
 
 -- INTEGER
@@ -170,7 +195,8 @@ a_mark_on_all_lengths : has UselessMark (octet_string (record { low = 0; high = 
 a_mark_on_all_lengths = refl
 
 -- OCTET STRING (SIZE (1..MAX, ...))
-a_mark_on_all_but_one_length : has UselessMark (octet_string (record { low = 1; high = None; extensible = true })) ≡ false
+a_mark_on_all_but_one_length : has UselessMark (octet_string (record { low = 1; high = None; extensible = true }))
+    ≡ false
 a_mark_on_all_but_one_length = refl
 
 -- SEQUENCE { ... }
@@ -180,69 +206,100 @@ a_mark_on_a_sequence_is_of_use = refl
 -- ---- BadDefault
 
 -- BOOLEAN DEFAULT TRUE
-a_truth_value_as_default : has BadDefault (sequence (default_component (codes "a") (truth true) boolean no_fields) closed) ≡ false
+a_truth_value_as_default : has BadDefault
+    (sequence (default_component (codes "a") (truth true) boolean no_fields) closed) ≡ false
 a_truth_value_as_default = refl
 
 -- INTEGER (0..3) DEFAULT 2
-a_number_as_default : has BadDefault (sequence (default_component (codes "a") (number (pos 2)) (integer (between (pos 0) (pos 3))) no_fields) closed) ≡ false
+a_number_as_default : has BadDefault
+    (sequence (default_component (codes "a") (number (pos 2)) (integer (between (pos 0) (pos 3))) no_fields) closed)
+    ≡ false
 a_number_as_default = refl
 
 -- INTEGER (0..3) DEFAULT 4
-a_number_past_the_range_as_default : has BadDefault (sequence (default_component (codes "a") (number (pos 4)) (integer (between (pos 0) (pos 3))) no_fields) closed) ≡ true
+a_number_past_the_range_as_default : has BadDefault
+    (sequence (default_component (codes "a") (number (pos 4)) (integer (between (pos 0) (pos 3))) no_fields) closed)
+    ≡ true
 a_number_past_the_range_as_default = refl
 
 -- INTEGER DEFAULT 9223372036854775808
-a_number_past_the_profile_as_default : has BadDefault (sequence (default_component (codes "a") (number (pos 9223372036854775808)) (integer any_number) no_fields) closed) ≡ true
+a_number_past_the_profile_as_default : has BadDefault
+    (sequence (default_component (codes "a") (number (pos 9223372036854775808)) (integer any_number) no_fields) closed)
+    ≡ true
 a_number_past_the_profile_as_default = refl
 
 -- INTEGER (2) DEFAULT 2
-a_default_of_the_only_number : has BadDefault (sequence (default_component (codes "a") (number (pos 2)) (integer (between (pos 2) (pos 2))) no_fields) closed) ≡ true
+a_default_of_the_only_number : has BadDefault
+    (sequence (default_component (codes "a") (number (pos 2)) (integer (between (pos 2) (pos 2))) no_fields) closed)
+    ≡ true
 a_default_of_the_only_number = refl
 
 -- INTEGER (9223372036854775807..MAX) has one value in the profile
-a_default_of_the_last_number_of_the_profile : has BadDefault (sequence (default_component (codes "a") (number (pos 9223372036854775807)) (integer (number_from (pos 9223372036854775807))) no_fields) closed) ≡ true
+a_default_of_the_last_number_of_the_profile : has BadDefault
+    (sequence (default_component (codes "a") (number (pos 9223372036854775807))
+    (integer (number_from (pos 9223372036854775807))) no_fields) closed) ≡ true
 a_default_of_the_last_number_of_the_profile = refl
 
 -- INTEGER (MIN..-9223372036854775808) has one value in the profile
-a_default_of_the_first_number_of_the_profile : has BadDefault (sequence (default_component (codes "a") (number (negsuc 9223372036854775807)) (integer (number_to (negsuc 9223372036854775807))) no_fields) closed) ≡ true
+a_default_of_the_first_number_of_the_profile : has BadDefault
+    (sequence (default_component (codes "a") (number (negsuc 9223372036854775807))
+    (integer (number_to (negsuc 9223372036854775807))) no_fields) closed) ≡ true
 a_default_of_the_first_number_of_the_profile = refl
 
 -- INTEGER (9223372036854775806..MAX)
-a_default_of_the_last_two_numbers : has BadDefault (sequence (default_component (codes "a") (number (pos 9223372036854775807)) (integer (number_from (pos 9223372036854775806))) no_fields) closed) ≡ false
+a_default_of_the_last_two_numbers : has BadDefault
+    (sequence (default_component (codes "a") (number (pos 9223372036854775807))
+    (integer (number_from (pos 9223372036854775806))) no_fields) closed) ≡ false
 a_default_of_the_last_two_numbers = refl
 
 -- INTEGER DEFAULT 0
-a_default_without_bounds : has BadDefault (sequence (default_component (codes "a") (number (pos 0)) (integer any_number) no_fields) closed) ≡ false
+a_default_without_bounds : has BadDefault
+    (sequence (default_component (codes "a") (number (pos 0)) (integer any_number) no_fields) closed) ≡ false
 a_default_without_bounds = refl
 
 -- INTEGER (0..3, ...) DEFAULT 2
-a_default_of_a_marked_range : has BadDefault (sequence (default_component (codes "a") (number (pos 2)) (integer (between_or_more (pos 0) (pos 3))) no_fields) closed) ≡ true
+a_default_of_a_marked_range : has BadDefault
+    (sequence (default_component (codes "a") (number (pos 2))
+    (integer (between_or_more (pos 0) (pos 3))) no_fields) closed) ≡ true
 a_default_of_a_marked_range = refl
 
-an_item_as_default : has BadDefault (sequence (default_component (codes "a") (item 1) (enumerated (label (codes "a") (pos 0) ∷ label (codes "b") (pos 1) ∷ []) closed_labels) no_fields) closed) ≡ false
+an_item_as_default : has BadDefault
+    (sequence (default_component (codes "a") (item 1)
+    (enumerated (label (codes "a") (pos 0) ∷ label (codes "b") (pos 1) ∷ []) closed_labels) no_fields) closed) ≡ false
 an_item_as_default = refl
 
-an_item_that_is_not_there : has BadDefault (sequence (default_component (codes "a") (item 2) (enumerated (label (codes "a") (pos 0) ∷ label (codes "b") (pos 1) ∷ []) closed_labels) no_fields) closed) ≡ true
+an_item_that_is_not_there : has BadDefault
+    (sequence (default_component (codes "a") (item 2)
+    (enumerated (label (codes "a") (pos 0) ∷ label (codes "b") (pos 1) ∷ []) closed_labels) no_fields) closed) ≡ true
 an_item_that_is_not_there = refl
 
-a_default_of_the_only_item : has BadDefault (sequence (default_component (codes "a") (item 0) (enumerated (label (codes "a") (pos 0) ∷ []) closed_labels) no_fields) closed) ≡ true
+a_default_of_the_only_item : has BadDefault
+    (sequence (default_component (codes "a") (item 0)
+    (enumerated (label (codes "a") (pos 0) ∷ []) closed_labels) no_fields) closed) ≡ true
 a_default_of_the_only_item = refl
 
-a_default_of_a_marked_enumeration : has BadDefault (sequence (default_component (codes "a") (item 1) (enumerated (label (codes "a") (pos 0) ∷ label (codes "b") (pos 1) ∷ []) (marked_labels [])) no_fields) closed) ≡ true
+a_default_of_a_marked_enumeration : has BadDefault
+    (sequence (default_component (codes "a") (item 1)
+    (enumerated (label (codes "a") (pos 0) ∷ label (codes "b") (pos 1) ∷ []) (marked_labels [])) no_fields) closed)
+    ≡ true
 a_default_of_a_marked_enumeration = refl
 
 -- BOOLEAN DEFAULT 1
-a_default_of_another_kind : has BadDefault (sequence (default_component (codes "a") (number (pos 1)) boolean no_fields) closed) ≡ true
+a_default_of_another_kind : has BadDefault
+    (sequence (default_component (codes "a") (number (pos 1)) boolean no_fields) closed) ≡ true
 a_default_of_another_kind = refl
 
-a_default_of_a_string : has BadDefault (sequence (default_component (codes "a") (octet_list []) (octet_string any_size) no_fields) closed) ≡ true
+a_default_of_a_string : has BadDefault
+    (sequence (default_component (codes "a") (octet_list []) (octet_string any_size) no_fields) closed) ≡ true
 a_default_of_a_string = refl
 
 -- NULL has one value only
 a_default_of_null : has BadDefault (sequence (default_component (codes "a") nothing null no_fields) closed) ≡ true
 a_default_of_null = refl
 
-a_default_of_an_addition : has BadDefault (sequence no_fields (marked (default_component (codes "a") (number (pos 4)) (integer (between (pos 0) (pos 3))) no_fields))) ≡ true
+a_default_of_an_addition : has BadDefault
+    (sequence no_fields (marked
+    (default_component (codes "a") (number (pos 4)) (integer (between (pos 0) (pos 3))) no_fields))) ≡ true
 a_default_of_an_addition = refl
 
 -- ---- ZeroWidthElement
@@ -263,13 +320,16 @@ a_list_of_two_numbers : has ZeroWidthElement (sequence_of (integer (between (pos
 a_list_of_two_numbers = refl
 
 -- SEQUENCE OF INTEGER (5, ...): an extension bit is a bit
-a_list_of_one_number_and_a_mark : has ZeroWidthElement (sequence_of (integer (between_or_more (pos 5) (pos 5))) any_size) ≡ false
+a_list_of_one_number_and_a_mark : has ZeroWidthElement
+    (sequence_of (integer (between_or_more (pos 5) (pos 5))) any_size) ≡ false
 a_list_of_one_number_and_a_mark = refl
 
-a_list_of_one_item : has ZeroWidthElement (sequence_of (enumerated (label (codes "a") (pos 0) ∷ []) closed_labels) any_size) ≡ true
+a_list_of_one_item : has ZeroWidthElement
+    (sequence_of (enumerated (label (codes "a") (pos 0) ∷ []) closed_labels) any_size) ≡ true
 a_list_of_one_item = refl
 
-a_list_of_one_item_and_a_mark : has ZeroWidthElement (sequence_of (enumerated (label (codes "a") (pos 0) ∷ []) (marked_labels [])) any_size) ≡ false
+a_list_of_one_item_and_a_mark : has ZeroWidthElement
+    (sequence_of (enumerated (label (codes "a") (pos 0) ∷ []) (marked_labels [])) any_size) ≡ false
 a_list_of_one_item_and_a_mark = refl
 
 -- SEQUENCE OF OCTET STRING (SIZE (0))
@@ -288,11 +348,13 @@ a_list_of_empty_sequences : has ZeroWidthElement (sequence_of (sequence no_field
 a_list_of_empty_sequences = refl
 
 -- SEQUENCE OF SEQUENCE { n NULL }
-a_list_of_sequences_of_null : has ZeroWidthElement (sequence_of (sequence (component (codes "n") null no_fields) closed) any_size) ≡ true
+a_list_of_sequences_of_null : has ZeroWidthElement
+    (sequence_of (sequence (component (codes "n") null no_fields) closed) any_size) ≡ true
 a_list_of_sequences_of_null = refl
 
 -- SEQUENCE OF SEQUENCE { n NULL OPTIONAL }: a presence bit is a bit
-a_list_of_sequences_of_an_optional_null : has ZeroWidthElement (sequence_of (sequence (optional_component (codes "n") null no_fields) closed) any_size) ≡ false
+a_list_of_sequences_of_an_optional_null : has ZeroWidthElement
+    (sequence_of (sequence (optional_component (codes "n") null no_fields) closed) any_size) ≡ false
 a_list_of_sequences_of_an_optional_null = refl
 
 -- SEQUENCE OF SEQUENCE { ... }
@@ -300,15 +362,19 @@ a_list_of_marked_sequences : has ZeroWidthElement (sequence_of (sequence no_fiel
 a_list_of_marked_sequences = refl
 
 -- SEQUENCE OF CHOICE { n NULL }
-a_list_of_choices_of_null : has ZeroWidthElement (sequence_of (choice (one_of (codes "n") null no_alternatives) closed_choice) any_size) ≡ true
+a_list_of_choices_of_null : has ZeroWidthElement
+    (sequence_of (choice (one_of (codes "n") null no_alternatives) closed_choice) any_size) ≡ true
 a_list_of_choices_of_null = refl
 
 -- SEQUENCE OF CHOICE { n NULL, m NULL }: an index is a bit
-a_list_of_choices_of_two_nulls : has ZeroWidthElement (sequence_of (choice (one_of (codes "n") null (one_of (codes "m") null no_alternatives)) closed_choice) any_size) ≡ false
+a_list_of_choices_of_two_nulls : has ZeroWidthElement
+    (sequence_of (choice (one_of (codes "n") null (one_of (codes "m") null no_alternatives)) closed_choice) any_size)
+    ≡ false
 a_list_of_choices_of_two_nulls = refl
 
 -- SEQUENCE OF CHOICE { n NULL, ... }
-a_list_of_marked_choices_of_null : has ZeroWidthElement (sequence_of (choice (one_of (codes "n") null no_alternatives) (marked_choice no_alternatives)) any_size) ≡ false
+a_list_of_marked_choices_of_null : has ZeroWidthElement
+    (sequence_of (choice (one_of (codes "n") null no_alternatives) (marked_choice no_alternatives)) any_size) ≡ false
 a_list_of_marked_choices_of_null = refl
 
 -- SEQUENCE OF SEQUENCE (SIZE (0)) OF BOOLEAN
@@ -320,10 +386,12 @@ a_list_of_lists_of_no_elements = refl
 an_optional_addition : has AdditionNotOptional extended_type ≡ false
 an_optional_addition = refl
 
-an_addition_that_is_always_there : has AdditionNotOptional (sequence no_fields (marked (component (codes "a") boolean no_fields))) ≡ true
+an_addition_that_is_always_there : has AdditionNotOptional
+    (sequence no_fields (marked (component (codes "a") boolean no_fields))) ≡ true
 an_addition_that_is_always_there = refl
 
-an_addition_with_a_default : has AdditionNotOptional (sequence no_fields (marked (default_component (codes "a") (truth true) boolean no_fields))) ≡ true
+an_addition_with_a_default : has AdditionNotOptional
+    (sequence no_fields (marked (default_component (codes "a") (truth true) boolean no_fields))) ≡ true
 an_addition_with_a_default = refl
 
 an_addition_of_a_choice_needs_no_word : has AdditionNotOptional extended_choice ≡ false
@@ -387,5 +455,7 @@ a_type_doubled_thirteen_times = refl
 33_levels : has TooDeep (lists_around 32 boolean) ≡ true
 33_levels = refl
 
-33_levels_in_an_addition : has TooDeep (choice (one_of (codes "a") null no_alternatives) (marked_choice (one_of (codes "b") (lists_around 31 boolean) no_alternatives))) ≡ true
+33_levels_in_an_addition : has TooDeep
+    (choice (one_of (codes "a") null no_alternatives)
+    (marked_choice (one_of (codes "b") (lists_around 31 boolean) no_alternatives))) ≡ true
 33_levels_in_an_addition = refl

@@ -4,6 +4,7 @@ use Rattle.std.specs.Prelude.{◌≤◌, ◌<◌, ◌+◌, ◌-◌, ℕ, zero, s
 use Rattle.std.specs.List.{AllByRecursion}
 use Rattle.asn_values.specs.Datum.{Datum, item, unknown_item, alternative, unknown_alternative}
 use Rattle.asn_values.specs.Shape.{Shape, boolean, null, integer, enumerated, bit_string, octet_string, restricted, utf8_string, sequence, sequence_of, choice, MoreLabels, closed_labels, marked_labels, more_labels, Fields, no_fields, field, MoreFields, closed, marked, demands, count, Alternatives, no_alternatives, one_of, MoreAlternatives, closed_choice, marked_choice}
+use Rattle.asn_values.specs.View.{Part}
 use Rattle.asn_values.specs.Fits.{Fits, FitsLength, FitsDemand, IsComponents, IsElements}
 
 -- an item of the type, or, where that is allowed, one that the type has not
@@ -35,17 +36,20 @@ abbrev mutual
   FitsBy u boolean d = Fits boolean d
   FitsBy u null d = Fits null d
   FitsBy u (integer b) d = Fits (integer b) d
-  FitsBy u (enumerated root more) d = IsItemOr (UnknownItems u more) (λ p. p < length root + length (more_labels more)) d
+  FitsBy u (enumerated root more) d =
+      IsItemOr (UnknownItems u more) (λ p. p < length root + length (more_labels more)) d
   FitsBy u (bit_string s) d = Fits (bit_string s) d
   FitsBy u (octet_string s) d = Fits (octet_string s) d
   FitsBy u (restricted k s) d = Fits (restricted k s) d
   FitsBy u utf8_string d = Fits utf8_string d
   FitsBy u (sequence root more) d =
-      IsComponents (λ es. FitsEachBy u root (take (length (demands root)) es) × FitsMoreBy u more (drop (length (demands root)) es)) d
+      IsComponents (λ es. FitsEachBy u root (take (length (demands root)) es)
+      × FitsMoreBy u more (drop (length (demands root)) es)) d
   FitsBy u (sequence_of t s) d = IsElements (λ ds. FitsLength s (length ds) × AllByRecursion (λ e. FitsBy u t e) ds) d
   FitsBy u (choice root more) d =
       IsAlternativeOr (UnknownAlternatives u more) (λ t e.
-      MatchBool (nat_lt t (count root)) (FitsAlternativeBy u root t e) (FitsMoreAlternativesBy u more (t - count root) e)) d
+      MatchBool (nat_lt t (count root)) (FitsAlternativeBy u root t e)
+      (FitsMoreAlternativesBy u more (t - count root) e)) d
 
   -- one entry for each component
   pub FitsEachBy : Bool → Fields → List (Option Datum) → Type 0
@@ -73,9 +77,14 @@ abbrev mutual
 abbrev pub FitsReceived : Shape → Datum → Type 0
 FitsReceived t d = FitsBy true t d
 
+-- the entry of one component
+abbrev pub FitsComponent : Bool → Part → Option Datum → Type 0
+FitsComponent u part e = FitsDemand (λ d. FitsBy u part.shape d) part.demand e
+
 -- the entries of a SEQUENCE; the tag and value of a CHOICE
 abbrev pub SequenceBy : Bool → Fields → MoreFields → List (Option Datum) → Type 0
-SequenceBy u root more es = FitsEachBy u root (take (length (demands root)) es) × FitsMoreBy u more (drop (length (demands root)) es)
+SequenceBy u root more es =
+    FitsEachBy u root (take (length (demands root)) es) × FitsMoreBy u more (drop (length (demands root)) es)
 
 abbrev pub ChoiceBy : Bool → Alternatives → MoreAlternatives → ℕ → Datum → Type 0
 ChoiceBy u root more t e =

@@ -86,7 +86,8 @@ abbrev mutual
 -- ---- each test is true exactly where the two are equal
 
 -- a test that holds of equals, and of nothing else
-from : {X : Type 0} (eq : X → X → Bool) → ((x y : X) → eq x y ≡ true → x ≡ y) → ((x : X) → eq x x ≡ true) → (x y : X) → Decides (eq x y) (x ≡ y)
+from : {X : Type 0} (eq : X → X → Bool) → ((x y : X) → eq x y ≡ true → x ≡ y) → ((x : X) → eq x x ≡ true) → (x y : X)
+    → Decides (eq x y) (x ≡ y)
 from eq alike itself x y = (alike x y, λ e. subst (λ z. eq x z ≡ true) e (itself x))
 
 both : (a b : Bool) → a ≡ true → b ≡ true → (a && b) ≡ true
@@ -96,13 +97,17 @@ abbrev make_range : Option ℤ → Option ℤ → Bool → Range
 make_range x y z = record { low = x; high = y; extensible = z }
 
 range_from : (a b : Range) → a.low ≡ b.low → a.high ≡ b.high → a.extensible ≡ b.extensible → a ≡ b
-range_from a b h0 h1 h2 = ap (λ z. make_range z a.high a.extensible) h0 ∙ ap (λ z. make_range b.low z a.extensible) h1 ∙ ap (λ z. make_range b.low b.high z) h2
+range_from a b h0 h1 h2 =
+    ap (λ z. make_range z a.high a.extensible) h0 ∙ ap (λ z. make_range b.low z a.extensible) h1
+    ∙ ap (λ z. make_range b.low b.high z) h2
 
 abbrev make_size : ℕ → Option ℕ → Bool → SizeRange
 make_size x y z = record { low = x; high = y; extensible = z }
 
 size_from : (a b : SizeRange) → a.low ≡ b.low → a.high ≡ b.high → a.extensible ≡ b.extensible → a ≡ b
-size_from a b h0 h1 h2 = ap (λ z. make_size z a.high a.extensible) h0 ∙ ap (λ z. make_size b.low z a.extensible) h1 ∙ ap (λ z. make_size b.low b.high z) h2
+size_from a b h0 h1 h2 =
+    ap (λ z. make_size z a.high a.extensible) h0 ∙ ap (λ z. make_size b.low z a.extensible) h1
+    ∙ ap (λ z. make_size b.low b.high z) h2
 
 abbrev make_label : List ℕ → ℤ → Label
 make_label x y = record { name = x; number = y }
@@ -133,22 +138,26 @@ range_alike x y h =
     let low : x.low ≡ y.low = bound_alike x.low y.low (first_so (bound_eq x.low y.low) _ h) in
     let rest = second_so (bound_eq x.low y.low) _ h in
     let high : x.high ≡ y.high = bound_alike x.high y.high (first_so (bound_eq x.high y.high) _ rest) in
-    let mark : x.extensible ≡ y.extensible = (booleans_Decides x.extensible y.extensible).0 (second_so (bound_eq x.high y.high) _ rest) in
+    let mark : x.extensible ≡ y.extensible =
+    (booleans_Decides x.extensible y.extensible).0 (second_so (bound_eq x.high y.high) _ rest) in
     range_from x y low high mark
 
 range_itself : (x : Range) → range_eq x x ≡ true
-range_itself x = both _ _ (bound_itself x.low) (both _ _ (bound_itself x.high) ((booleans_Decides x.extensible x.extensible).1 refl))
+range_itself x = both _ _ (bound_itself x.low)
+    (both _ _ (bound_itself x.high) ((booleans_Decides x.extensible x.extensible).1 refl))
 
 size_alike : (x y : SizeRange) → size_eq x y ≡ true → x ≡ y
 size_alike x y h =
     let low : x.low ≡ y.low = (unsigned_Decides x.low y.low).0 (first_so (x.low == y.low) _ h) in
     let rest = second_so (x.low == y.low) _ h in
     let high : x.high ≡ y.high = most_alike x.high y.high (first_so (most_eq x.high y.high) _ rest) in
-    let mark : x.extensible ≡ y.extensible = (booleans_Decides x.extensible y.extensible).0 (second_so (most_eq x.high y.high) _ rest) in
+    let mark : x.extensible ≡ y.extensible =
+    (booleans_Decides x.extensible y.extensible).0 (second_so (most_eq x.high y.high) _ rest) in
     size_from x y low high mark
 
 size_itself : (x : SizeRange) → size_eq x x ≡ true
-size_itself x = both _ _ ((unsigned_Decides x.low x.low).1 refl) (both _ _ (most_itself x.high) ((booleans_Decides x.extensible x.extensible).1 refl))
+size_itself x = both _ _ ((unsigned_Decides x.low x.low).1 refl)
+    (both _ _ (most_itself x.high) ((booleans_Decides x.extensible x.extensible).1 refl))
 
 alphabet_alike : (x y : Alphabet) → alphabet_eq x y ≡ true → x ≡ y
 alphabet_alike ia5 ia5 h = refl
@@ -277,7 +286,8 @@ mutual
 
   fields_itself : (x : Fields) → fields_eq x x ≡ true
   fields_itself no_fields = refl
-  fields_itself (field n d t a) = both _ _ (octets_itself n) (both _ _ (demand_itself d) (both _ _ (shape_itself t) (fields_itself a)))
+  fields_itself (field n d t a) =
+      both _ _ (octets_itself n) (both _ _ (demand_itself d) (both _ _ (shape_itself t) (fields_itself a)))
 
   more_fields_itself : (x : MoreFields) → more_fields_eq x x ≡ true
   more_fields_itself closed = refl

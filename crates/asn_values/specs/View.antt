@@ -127,7 +127,8 @@ part_of_field = fold-Field Shape Branch Part shape_step branch_step field_step
 abbrev pub branch_of : Alt → Branch
 branch_of = fold-Alt Shape Branch Part shape_step branch_step field_step
 
--- components or extension additions, alternatives, items, and the entries of a SEQUENCE, as the program's lists have them
+-- components or extension additions, alternatives, items, and the entries of a SEQUENCE, as the program's lists have
+-- them
 abbrev pub fields_seen : List Field → Fields
 fields_seen fs = fields_of (map part_of_field fs)
 
@@ -159,12 +160,15 @@ types_of_fields fs = map (λ f. shape_of f.ty) fs
 abbrev pub types_of_alternatives : List Alt → List Shape
 types_of_alternatives alts = map (λ a. shape_of a.ty) alts
 
--- an ENUMERATED, a SEQUENCE and a CHOICE of these parts, as the program holds them
+-- an ENUMERATED, a SEQUENCE, a SEQUENCE OF and a CHOICE of these parts, as the program holds them
 abbrev pub enumerated_seen : List Item → Option (Vec Item) → Shape
 enumerated_seen root ext = enumerated (labels_seen root) (more_labels_of ext)
 
 abbrev pub sequence_seen : List Field → Option (Vec Field) → Shape
 sequence_seen root ext = sequence (fields_seen root) (more_fields_of ext)
+
+abbrev pub sequence_of_seen : AsnType → Size → Shape
+sequence_of_seen element size = sequence_of (shape_of element) (size_range_of size)
 
 abbrev pub choice_seen : List Alt → Option (Vec Alt) → Shape
 choice_seen root ext = choice (alternatives_seen root) (more_alternatives_of ext)

@@ -78,12 +78,14 @@ abbrev mutual
   no_bits_within levels (restricted k s) = is_zero_size s
   no_bits_within levels utf8_string = false
   no_bits_within levels (sequence root more) = no_field_bits_within levels root && no_more_bits more
-  no_bits_within levels (sequence_of t s) = is_zero_size s || (is_fixed_size s && (nat_lt 0 levels && no_bits_within (levels - 1) t))
+  no_bits_within levels (sequence_of t s) =
+      is_zero_size s || (is_fixed_size s && (nat_lt 0 levels && no_bits_within (levels - 1) t))
   no_bits_within levels (choice root more) = single_no_bits_within levels root && no_more_choice more
 
   pub no_field_bits_within : ℕ → Fields → Bool
   no_field_bits_within levels no_fields = true
-  no_field_bits_within levels (field name must t fs) = (nat_lt 0 levels && no_bits_within (levels - 1) t) && no_field_bits_within levels fs
+  no_field_bits_within levels (field name must t fs) =
+      (nat_lt 0 levels && no_bits_within (levels - 1) t) && no_field_bits_within levels fs
   no_field_bits_within levels (field name _ t fs) = false
 
   pub single_no_bits_within : ℕ → Alternatives → Bool
@@ -103,7 +105,12 @@ of_type t = record { count = nodes t; levels = depth t; holds = λ condition. so
 
 -- one beside the other
 abbrev pub beside : Extent → Extent → Extent
-beside a b = record { count = a.count + b.count; levels = max a.levels b.levels; holds = λ condition. a.holds condition || b.holds condition }
+beside a b = record {
+  count = a.count + b.count;
+  levels = max a.levels b.levels;
+  holds =
+      λ condition. a.holds condition || b.holds condition;
+}
 
 -- types beside one another
 abbrev pub of_types : List Shape → Extent
@@ -119,4 +126,5 @@ pub record IsSoundWithin (levels start left : ℕ) (e : Extent) : Type 0 where
 -- the fault's condition holds somewhere, or there are more nodes or levels than these
 abbrev pub IsFaultWithin : TypeFault → ℕ → ℕ → Extent → Type 0
 IsFaultWithin f levels start e =
-    IsFound (condition_of f) e.holds ⊎ (((f ≡ fault.TooMany) × (start < e.count)) ⊎ ((f ≡ fault.TooDeep) × (levels < e.levels)))
+    IsFound (condition_of f) e.holds
+    ⊎ (((f ≡ fault.TooMany) × (start < e.count)) ⊎ ((f ≡ fault.TooDeep) × (levels < e.levels)))

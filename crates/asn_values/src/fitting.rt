@@ -1,8 +1,8 @@
 //! Which values a type has.
 ghost use Rattle.std.specs.Prelude.{◌≡◌, ◌↔◌, IsTrue, map, option_map};
 ghost use Rattle.std.specs.List.{AllByRecursion};
-ghost use Rattle.asn_values.specs.Fits.{Fits, FitsDemand};
-ghost use Rattle.asn_values.specs.Received.{FitsReceived, FitsBy, FitsEachBy, FitsAlternativeBy};
+ghost use Rattle.asn_values.specs.Fits.{Fits};
+ghost use Rattle.asn_values.specs.Received.{FitsReceived, FitsBy, FitsComponent, FitsEachBy, FitsAlternativeBy};
 ghost use Rattle.asn_values.specs.View.{shape_of, datum_of, part_of_field, fields_seen, alternatives_seen, entries_seen};
 
 use crate::checked::Checked;
@@ -138,9 +138,7 @@ fn fields_have(fields: &[Field], entries: &[Option<Value>], unknown: bool) -> bo
 #[inline(always)]
 #[cycle(fits)]
 fn field_has(field: &Field, entry: &Option<Value>, unknown: bool) -> bool
-    ensures { IsTrue result
-        ↔ FitsDemand (λ d. FitsBy unknown (part_of_field field.now).shape d) (part_of_field field.now).demand
-        (option_map datum_of entry.now) }
+    ensures { IsTrue result ↔ FitsComponent unknown (part_of_field field.now) (option_map datum_of entry.now) }
 {
     match entry {
         Some(value) => type_has(&field.ty, value, unknown),

@@ -1,7 +1,6 @@
 //! Components, items and alternatives by their names.
 ghost use Rattle.std.specs.Prelude.{◌≡◌, option_map, bytes_eq};
-ghost use Rattle.std.specs.Option.{option_or};
-ghost use Rattle.asn_values.specs.LookUp.{first_where, added, item_named, component_named, alternative_named};
+ghost use Rattle.asn_values.specs.LookUp.{first_where, first_part, item_named, component_named, alternative_named};
 ghost use Rattle.asn_values.specs.View.{shape_of, label_of, part_of_field, branch_of};
 
 use crate::names::Named;
@@ -45,8 +44,7 @@ impl AsnType {
 /// The first of this name in the root, or else among the additions.
 fn first_of<'a, T: Named>(root: &'a [T], ext: &'a Option<Vec<T>>, name: &str) -> Option<&'a T>
     ensures { option_map (λ t. t.now) result
-        ≡ option_or (first_where (λ t. bytes_eq name.now (T.name_of t)) root.now)
-        (first_where (λ t. bytes_eq name.now (T.name_of t)) (added ext.now)) }
+        ≡ first_part (λ t. bytes_eq name.now (T.name_of t)) root.now ext.now }
 {
     match first_among(root, name) {
         Some(part) => Some(part),

@@ -27,8 +27,8 @@ pub enum Value {
     /// of a CHOICE: the tag of the alternative, counted from 0 as written, root then additions, and its
     /// value
     Choice(u32, Box<Value>),
-    /// fits no type: an item that the receiver's ENUMERATED has not, in PER by its index among the additions, from 0, and
-    /// in OER by its number
+    /// fits no type: an item that the receiver's ENUMERATED has not, in PER by its index among the additions, from 0,
+    /// and in OER by its number
     UnknownItem(i128),
     /// fits no type: an alternative that the receiver's CHOICE has not, by its tag, counted as in `Choice`
     UnknownAlternative(u32),

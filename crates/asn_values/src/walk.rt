@@ -1,9 +1,9 @@
 //! The walk that finds the first fault of a type, from the outside in and from left to right.
 ghost use Rattle.std.specs.Prelude.{◌+◌, ◌≤◌, IfOk, IfErr};
-ghost use Rattle.asn_values.specs.Shape.{integer, sequence_of};
+ghost use Rattle.asn_values.specs.Shape.{integer};
 ghost use Rattle.asn_values.specs.Measures.{depth};
 ghost use Rattle.asn_values.specs.Walk.{IsFaultless, HoldsHere, IsFaultlessSize, HoldsOfSize, IsSoundWithin, IsFaultWithin, of_type, of_types};
-ghost use Rattle.asn_values.specs.View.{shape_of, range_of, size_range_of, enumerated_seen, sequence_seen, choice_seen, types_of_fields, types_of_alternatives};
+ghost use Rattle.asn_values.specs.View.{shape_of, range_of, size_range_of, enumerated_seen, sequence_seen, sequence_of_seen, choice_seen, types_of_fields, types_of_alternatives};
 
 use crate::fault::TypeFault;
 use crate::profile::{MAX_ADDITIONS, MAX_ALTERNATIVES, MAX_COMPONENTS};
@@ -13,8 +13,9 @@ use crate::{additions, default_values, enumerations, names, ranges, sizes, zero_
 /// Checks the type and all types inside it. Fails past `levels` levels of nesting or a budget of `start` types;
 /// returns the budget left.
 ///
-/// Err: the first type that has a fault, a type before those inside it, and of its faults the one with the
-/// least number. A type below the last level is `TooDeep`, and it is not looked at.
+/// # Errors
+/// The fault of the first type that has one, a type before those inside it; of several faults of that type, the one
+/// with the least number. A type below the last level is `TooDeep`, and it is not looked at.
 #[cycle(walk)]
 pub(crate) fn check_type(ty: &AsnType, levels: u32, start: u32) -> Result<u32, TypeFault>
     ensures sound { IfOk result (λ left. IsSoundWithin levels start left (of_type (shape_of ty.now))) }
@@ -82,8 +83,11 @@ fn check_alternatives(alternatives: &[Alt], levels: u32, start: u32) -> Result<u
     Ok(left)
 }
 
-/// Checks the type itself. Err: its fault with the least number. At most `levels` levels of the types inside it are
-/// looked at: a fault may be missed where there are more.
+/// Checks the type itself. At most `levels` levels of the types inside it are looked at: a fault may be missed where
+/// there are more.
+///
+/// # Errors
+/// Its fault with the least number.
 pub(crate) fn check_node(ty: &AsnType, levels: u32) -> Result<(), TypeFault>
     ensures faultless { IfOk result (λ done. depth (shape_of ty.now) ≤ levels + 1 → IsFaultless (shape_of ty.now)) }
     ensures fault { IfErr result (λ f. HoldsHere f (shape_of ty.now)) }
@@ -99,7 +103,10 @@ pub(crate) fn check_node(ty: &AsnType, levels: u32) -> Result<(), TypeFault>
     }
 }
 
-/// Looks at an INTEGER with these bounds. Err: its fault with the least number.
+/// Checks an INTEGER with these bounds.
+///
+/// # Errors
+/// Its fault with the least number.
 fn check_bounds(bounds: &Bounds) -> Result<(), TypeFault>
     ensures faultless { IfOk result (λ done. IsFaultless (integer (range_of bounds.now))) }
     ensures fault { IfErr result (λ f. HoldsHere f (integer (range_of bounds.now))) }
@@ -113,7 +120,10 @@ fn check_bounds(bounds: &Bounds) -> Result<(), TypeFault>
     Ok(())
 }
 
-/// Checks an ENUMERATED of these items. Err: its fault with the least number.
+/// Checks an ENUMERATED of these items.
+///
+/// # Errors
+/// Its fault with the least number.
 fn check_items(root: &[Item], more: &Option<Vec<Item>>) -> Result<(), TypeFault>
     ensures faultless { IfOk result (λ done. IsFaultless (enumerated_seen root.now more.now)) }
     ensures fault { IfErr result (λ f. HoldsHere f (enumerated_seen root.now more.now)) }
@@ -133,7 +143,10 @@ fn check_items(root: &[Item], more: &Option<Vec<Item>>) -> Result<(), TypeFault>
     Ok(())
 }
 
-/// Checks the bounds of a length. Err: their fault with the least number.
+/// Checks the bounds of a length.
+///
+/// # Errors
+/// Their fault with the least number.
 fn check_size(size: &Size) -> Result<(), TypeFault>
     ensures faultless { IfOk result (λ done. IsFaultlessSize (size_range_of size.now)) }
     ensures fault { IfErr result (λ f. HoldsOfSize f (size_range_of size.now)) }
@@ -150,7 +163,10 @@ fn check_size(size: &Size) -> Result<(), TypeFault>
     Ok(())
 }
 
-/// Checks a SEQUENCE of these components, and nothing inside them. Err: its fault with the least number.
+/// Checks a SEQUENCE of these components, and nothing inside them.
+///
+/// # Errors
+/// Its fault with the least number.
 fn check_sequence(root: &[Field], ext: &Option<Vec<Field>>) -> Result<(), TypeFault>
     ensures faultless { IfOk result (λ done. IsFaultless (sequence_seen root.now ext.now)) }
     ensures fault { IfErr result (λ f. HoldsHere f (sequence_seen root.now ext.now)) }
@@ -171,13 +187,14 @@ fn check_sequence(root: &[Field], ext: &Option<Vec<Field>>) -> Result<(), TypeFa
     Ok(())
 }
 
-/// Checks a SEQUENCE OF, and of the element only whether it has bits, as far as `levels` levels tell. Err: its
-/// fault with the least number.
+/// Checks a SEQUENCE OF, and of the element only whether it has bits, as far as `levels` levels tell.
+///
+/// # Errors
+/// Its fault with the least number.
 fn check_list(element: &AsnType, size: &Size, levels: u32) -> Result<(), TypeFault>
     ensures faultless { IfOk result (λ done.
-        depth (shape_of element.now) ≤ levels
-        → IsFaultless (sequence_of (shape_of element.now) (size_range_of size.now))) }
-    ensures fault { IfErr result (λ f. HoldsHere f (sequence_of (shape_of element.now) (size_range_of size.now))) }
+        depth (shape_of element.now) ≤ levels → IsFaultless (sequence_of_seen element.now size.now)) }
+    ensures fault { IfErr result (λ f. HoldsHere f (sequence_of_seen element.now size.now)) }
 {
     check_size(size)?;
     if zero_bits::has_no_bits(element, levels) {
@@ -186,7 +203,10 @@ fn check_list(element: &AsnType, size: &Size, levels: u32) -> Result<(), TypeFau
     Ok(())
 }
 
-/// Checks a CHOICE of these alternatives, and nothing inside them. Err: its fault with the least number.
+/// Checks a CHOICE of these alternatives, and nothing inside them.
+///
+/// # Errors
+/// Its fault with the least number.
 fn check_choice(root: &[Alt], ext: &Option<Vec<Alt>>) -> Result<(), TypeFault>
     ensures faultless { IfOk result (λ done. IsFaultless (choice_seen root.now ext.now)) }
     ensures fault { IfErr result (λ f. HoldsHere f (choice_seen root.now ext.now)) }

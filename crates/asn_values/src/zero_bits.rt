@@ -6,8 +6,8 @@ ghost use Rattle.asn_values.specs.View.{shape_of, fields_seen, alternatives_seen
 use crate::types::{Alt, AsnType, Field, Need};
 use crate::{ranges, sizes};
 
-/// Whether no value of the type has a bit in PER, as with NULL and types with one value only. At most `levels` levels of
-/// the types inside it are looked at, and a type below them counts as one with bits.
+/// Whether no value of the type has a bit in PER, as with NULL and types with one value only. At most `levels` levels
+/// of the types inside it are looked at, and a type below them counts as one with bits.
 #[cycle(no_bits)]
 pub(crate) fn has_no_bits(ty: &AsnType, levels: u32) -> bool
     ensures { result ≡ no_bits_within levels (shape_of ty.now) }

@@ -1,4 +1,4 @@
--- The field of the first octets' number: nine of them where there are so many.
+-- The field of the first octets' number: nine of them where there are that many.
 use Rattle.std.proofs.Common.{◌≡◌, ◌<◌, ◌+◌, ◌-◌, ◌*◌, ◌/◌, ℕ, length, get_or, take, ap, sym, ◌∙◌, arith}
 use Rattle.std.proofs.lemmas.List.{length-take-le}
 use Rattle.asn_bits.specs.Numbers.{octets}

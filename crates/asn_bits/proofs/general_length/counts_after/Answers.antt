@@ -1,4 +1,4 @@
--- Each place has its range of counts.
+-- Each state has its range of counts.
 use Rattle.std.proofs.Common.{◌≡◌, ap, subst, ◌∙◌, arith}
 use Rattle.asn_bits.specs.LengthStates.{IsLengthState}
 use Rattle.asn_bits.specs.declared.general_length.LengthState.{LengthState}

@@ -1,4 +1,4 @@
--- The first bits of the number stand behind the last ones of what is above them.
+-- The first bits of the number follow the last ones of what is above them.
 use Rattle.std.proofs.Common.{arith, ◌∙◌}
 use Rattle.asn_bits.proofs.Packing.{above_last, middle_is}
 use Rattle.asn_bits.proofs.words.full_word.Goals as goal

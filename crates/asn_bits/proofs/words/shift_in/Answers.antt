@@ -1,4 +1,4 @@
--- The number takes the place that the shift left free.
+-- The number takes the bits that the shift left free.
 use Rattle.std.proofs.Common.{◌+◌, ◌-◌, ◌%◌, ◌^◌, bit_or, arith, ap, sym, ◌∙◌}
 use Rattle.std.proofs.lemmas.Nat.{or_shifted}
 use Rattle.asn_bits.proofs.Packing.{shifted_out}

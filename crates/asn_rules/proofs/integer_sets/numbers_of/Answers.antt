@@ -30,13 +30,13 @@ returns c =
     let same : c.unwrap_or.result ≡ highest_of c.args.high = c.unwrap_or.ensures ∙ high_is c.args.high in
     let low_same = magnitude_kept c.args.low c.requires.from_zero l.1 in
     let high_same = magnitude_kept (highest_of c.args.high) from h.1 in
-    let out : c.match-except.excluded ≡ magnitudes c.args.except = elim c.match-except.branch [
+    let out : c.match-excluded.left_out ≡ magnitudes c.args.excluded = elim c.match-excluded.branch [
       | in-Some w ↦
-          let d = w.in-Some.left_out in
+          let d = w.in-Some.number in
           let f : FitsNumber (unmarked (Some c.args.low) c.args.high) d = (rw w.in-Some.is at c.requires.within).0 in
           let d_from = within_from_zero c.args.low c.args.high c.requires.of_profile c.requires.from_zero d f in
-          w.excluded-is ∙ ap (λ (n : ℕ). Some n) (magnitude_kept d d_from f.1) ∙ sym (ap magnitudes w.in-Some.is)
-      | in-None w ↦ w.excluded-is ∙ sym (ap magnitudes w.in-None.is)
+          w.left_out-is ∙ ap (λ (n : ℕ). Some n) (magnitude_kept d d_from f.1) ∙ sym (ap magnitudes w.in-Some.is)
+      | in-None w ↦ w.left_out-is ∙ sym (ap magnitudes w.in-None.is)
     ] in
-    let w = numbers_are c.args.except c.args.low c.args.high c.requires.of_profile c.requires.from_zero c.requires.within in
+    let w = numbers_are c.args.excluded c.args.low c.args.high c.requires.of_profile c.requires.from_zero c.requires.within in
     rw (low_same, same, high_same, out) w

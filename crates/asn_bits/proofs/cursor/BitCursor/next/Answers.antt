@@ -1,4 +1,4 @@
--- The first octet's bit, and what stands behind it.
+-- The first octet's bit, and what follows it.
 use Rattle.std.proofs.Common.{◌≡◌, ◌∷◌, ◌+◌, drop, ap, sym, ◌∙◌}
 use Rattle.std.proofs.lemmas.Bool.{true≢false}
 use Rattle.asn_bits.specs.Numbers.{unpacked}

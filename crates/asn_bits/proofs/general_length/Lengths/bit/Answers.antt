@@ -11,7 +11,7 @@ use Rattle.asn_bits.specs.declared.general_length.LengthState.TheVariants.{Numbe
 use Rattle.asn_bits.proofs.GivenLengths.{dead_bit, live_bit, whole_dead, whole_stops, whole_more, part_first, behind_reading, behind_goes, whole_ends, part_open}
 use Rattle.asn_bits.proofs.general_length.Lengths.bit.Goals as goal
 
--- the place where the length is whole
+-- the state in which the length is whole
 abbrev here : (c : goal.After-next-1) → LengthState
 here c = Number c.in-Some-completed.form c.in-Some-completed.number 0
 

@@ -1,4 +1,4 @@
--- The interval stands behind those that count.
+-- The interval follows those that count.
 use Rattle.std.proofs.Common.{◌≡◌, ◌+◌, ◌<◌, ◌++◌, ◌∷◌, [], length, take, slice_set, ap, sym, subst, arith}
 use Rattle.std.proofs.lemmas.List.{length-take-le, take_more_set}
 use Rattle.asn_bits.specs.Sets.{AreOrdered}

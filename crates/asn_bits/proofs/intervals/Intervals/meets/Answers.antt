@@ -1,4 +1,4 @@
--- The ends without the bits behind are compared with the bits that have come.
+-- The ends without the bits after them are compared with the bits read so far.
 use Rattle.std.proofs.Common.{◌≡◌, ℕ, List, get_or, take, refl, sym, subst, arith}
 use Rattle.std.proofs.lemmas.Bool.{true≢false}
 use Rattle.asn_bits.specs.Sets.{Among, Meets}

@@ -1,4 +1,4 @@
--- In the word that waits, the new bits stand behind those that waited.
+-- In the word that waits, the new bits follow those that waited.
 use Rattle.std.proofs.Common.{◌≡◌, ◌++◌, arith, ap, ◌∙◌}
 use Rattle.asn_bits.specs.Numbers.{bits, unpacked}
 use Rattle.asn_bits.proofs.Packing.{waiting_view}

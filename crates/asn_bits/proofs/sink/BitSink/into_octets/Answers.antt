@@ -1,4 +1,4 @@
--- The octets that wait go behind the others, and then all are there.
+-- The octets that wait are appended to the others, and then all are there.
 use Rattle.std.proofs.Common.{◌≡◌, ◌++◌, ◌%◌, ◌<◌, ℕ, inl, inr, length, get_or, arith, ap, sym, ◌∙◌, rules}
 use Rattle.std.proofs.lemmas.Bool.{cases_lt}
 use Rattle.asn_bits.specs.Numbers.{bits, unpacked, packed}

@@ -108,6 +108,13 @@ middle_is h k n l fits less few =
     let parts : b + h * 2 ^ m ≡ h * 2 ^ m / 2 ^ 64 * 2 ^ 64 + (x + b) = omega (arith, div-add-mod' (h * 2 ^ m) (2 ^ 64)) in
     sym (ap (λ t. t % 2 ^ 64) (quotient ∙ parts) ∙ mod-mul-add (h * 2 ^ m / 2 ^ 64) (2 ^ 64) (x + b) small)
 
+-- a number of j bits with one of k bits after it has no more bits than both
+pub both_fit : (j m k n s : ℕ) → m < 2 ^ j → n < 2 ^ k → s ≡ m * 2 ^ k % 2 ^ 64 + n → s < 2 ^ (j + k)
+both_fit j m k n s h l e =
+    let sum : m * 2 ^ k + n < 2 ^ k * 2 ^ j = mul-add-lt m (2 ^ k) n (2 ^ j) h l in
+    let all : 2 ^ (j + k) ≡ 2 ^ k * 2 ^ j = ap (λ i. 2 ^ i) (omega arith) ∙ pow-add 2 k j in
+    omega (arith, sum, all, e)
+
 -- what a sink holds once n stands in k bits after the c bits that waited, and all of them wait
 pub waiting_view : (os : List ℕ) (c p k n j : ℕ) → n < 2 ^ k → c + k ≤ 64 → j ≡ p * 2 ^ k % 2 ^ 64 + n → unpacked os ++ bits (c + k) j ≡ (unpacked os ++ bits c p) ++ bits k n
 waiting_view os c p k n j h few e =

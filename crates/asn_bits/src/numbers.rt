@@ -47,11 +47,11 @@ pub fn signed_residue(z: i128, count: u32) -> u64
     ensures octets { signed_octets count z ≡ octets count result }
     ensures fits { result < 2 ^ (8 * count) }
 {
-    let below = u128::from(magnitude(z));
+    let below = magnitude(z);
     if z < 0 {
-        ((1u128 << (8 * count)) - 1 - below) as u64
+        (u64::MAX >> (64 - 8 * count)) - below
     } else {
-        below as u64
+        below
     }
 }
 

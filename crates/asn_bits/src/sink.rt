@@ -12,6 +12,13 @@ use std::alloc::{AllocError, Global};
 use std::fmt;
 use std::marker::Model;
 
+/// How many octets a sink has room for at first: a typical message between vehicles is then never moved.
+const SHORT: usize = 512;
+
+/// How many octets more there is room for where these do not suffice: strings of some thousand octets, one after the
+/// other, are then moved once at most.
+const LONG: usize = 32768;
+
 /// Bits that wait to become octets. Contracts see the list of the bits pushed, each 0 or 1.
 ///
 /// Whole octets stand in a vector, and the fewer than 64 bits after them in a word. While bits are pending, 8
@@ -121,7 +128,7 @@ impl BitSink {
         self.append(8 - count, 0)
     }
 
-    /// The octets that the bits fill. It allocates nothing.
+    /// The octets that the bits fill. It takes no memory, and gives back what a long message left over.
     pub fn into_octets(self) -> Vec<u8>
         requires { length self % 8 ≡ 0 }
         ensures unpacked { unpacked result.items ≡ self }
@@ -133,7 +140,7 @@ impl BitSink {
             count,
         } = self;
         push_low(&mut octets, count / 8, pending);
-        octets
+        without_spare(octets)
     }
 
     // adds n in k bits, in one step
@@ -185,13 +192,16 @@ impl BitSink {
         Ok(())
     }
 
-    // adds m in j bits, and then n in k bits
+    // adds m in j bits, and then n in k bits, in one step where a word holds both
     pub(crate) fn append_both(&mut self, j: u32, m: u64, k: u32, n: u64) -> Result<(), AllocError>
         requires few { (j ≤ 64) × (k ≤ 64) }
         requires fits { (m < 2 ^ j) × (n < 2 ^ k) }
         ensures ok { OnOk result (self.new ≡ (self.old ++ bits j m) ++ bits k n) }
         ensures err { OnErr result (self.new ≡ self.old) }
     {
+        if k < 64 && j + k <= 64 {
+            return self.append(j + k, shift_in(m, k, n));
+        }
         make_room(&mut self.octets, 24)?;
         let (count, pending) = put(&mut self.octets, self.count, self.pending, j, m);
         let (count, pending) = put(&mut self.octets, count, pending, k, n);
@@ -208,8 +218,8 @@ fn has_room(octets: &Vec<u8>) -> bool
     octets.capacity() - octets.len() >= 24
 }
 
-// makes room for `room` octets; where memory is needed, for 512 at least, so that a typical message never reallocates,
-// and for as many as there are, so that a long one is moved few times
+// makes room for `room` octets; where memory is needed, for as many as there are, so that a long message is moved few
+// times, and for `SHORT` at first, and then for `LONG`
 fn make_room(octets: &mut Vec<u8>, room: usize) -> Result<(), AllocError>
     ensures ok { OnOk result (vec_len octets.new + room ≤ vec_capacity octets.new) }
     ensures items { octets.new.items ≡ octets.old.items }
@@ -217,13 +227,30 @@ fn make_room(octets: &mut Vec<u8>, room: usize) -> Result<(), AllocError>
     ensures capacity { vec_capacity octets.old ≤ vec_capacity octets.new }
 {
     if octets.capacity() - octets.len() < room {
-        octets.reserve(room.max(octets.len()).max(512))?;
+        let least = if octets.is_empty() && room <= SHORT {
+            SHORT
+        } else {
+            LONG
+        };
+        octets.reserve(room.max(octets.len()).max(least))?;
     }
     Ok(())
 }
 
+// the same octets; memory that is spare is given back where it is more than theirs, and more than `SHORT`
+fn without_spare(mut octets: Vec<u8>) -> Vec<u8>
+    ensures { result.items ≡ octets.items }
+{
+    let spare = octets.capacity() - octets.len();
+    if spare > octets.len() && spare > SHORT {
+        octets.shrink_to_fit();
+    }
+    octets
+}
+
 // adds n in k bits after the octets and the low `count` bits of `pending`, a word of eight octets at once,
 // and gives how many bits then wait in what word
+#[inline(always)]
 pub(crate) fn put(octets: &mut Vec<u8>, count: u32, pending: u64, k: u32, n: u64) -> (u32, u64)
     requires waiting { count < 64 }
     requires few { k ≤ 64 }

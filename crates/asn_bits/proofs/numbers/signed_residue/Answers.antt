@@ -1,14 +1,26 @@
 -- Below 0, what is left of the numbers that the octets hold.
-use Rattle.std.proofs.Common.{◌≡◌, ◌*◌, ◌%◌, ◌^◌, ap, sym, ◌∙◌, arith}
-use Rattle.std.proofs.lemmas.Nat.{one_shl}
+use Rattle.std.proofs.Common.{◌≡◌, ◌≤◌, ◌<◌, ◌-◌, ◌*◌, ◌/◌, ◌^◌, ap, sym, ◌∙◌, arith}
 use Rattle.asn_bits.specs.Numbers.{octets, magnitude}
 use Rattle.asn_bits.proofs.Above.{kept}
-use Rattle.asn_bits.proofs.Octets.{residue_below}
+use Rattle.asn_bits.proofs.Octets.{half, residue_below}
+use Rattle.asn_bits.proofs.Reading.{word_mask}
 use Rattle.asn_bits.proofs.Splits.{two_pow_octets}
 use Rattle.asn_bits.proofs.numbers.signed_residue.Goals as goal
 
+pub overflow_sub-result-then-z-lt0 : goal.overflow_sub-result-then-z-lt0
+overflow_sub-result-then-z-lt0 c =
+    let k = c.args.count in
+    let is : c.magnitude-below.result ≡ magnitude c.args.z = rw (kept c.args.z c.requires.low c.requires.high) at c.magnitude-below.ensures.is in
+    omega (arith, is, c.requires.room, word_mask (8 * k) (omega arith), two_pow_octets k, half k c.requires.some)
+
+pub returns-then-z-lt0-clause-fits : goal.returns-then-z-lt0-clause-fits
+returns-then-z-lt0-clause-fits c =
+    let k = c.args.count in
+    omega (arith, word_mask (8 * k) (omega arith), two_pow_octets k, half k c.requires.some)
+
 pub returns-then-z-lt0-clause-octets : goal.returns-then-z-lt0-clause-octets
 returns-then-z-lt0-clause-octets c =
-    let is : c.magnitude.result ≡ magnitude c.args.z = rw (kept c.args.z c.requires.low c.requires.high) at c.magnitude.ensures.is in
-    let all : 1 * 2 ^ (8 * c.args.count) % 340282366920938463463374607431768211456 ≡ 256 ^ c.args.count = one_shl (8 * c.args.count) 128 (omega arith) ∙ sym (two_pow_octets c.args.count) in
-    residue_below c.args.count c.args.z (rw (kept c.args.z c.requires.low c.requires.high) at c.if-z-lt0.true) ∙ ap (octets c.args.count) (omega (arith, is, all, c.from-below.ensures))
+    let k = c.args.count in
+    let is : c.magnitude-below.result ≡ magnitude c.args.z = rw (kept c.args.z c.requires.low c.requires.high) at c.magnitude-below.ensures.is in
+    let mask : 18446744073709551615 / 2 ^ (64 - 8 * k) ≡ 256 ^ k - 1 = word_mask (8 * k) (omega arith) ∙ ap (λ t. t - 1) (sym (two_pow_octets k)) in
+    residue_below k c.args.z (rw (kept c.args.z c.requires.low c.requires.high) at c.if-z-lt0.true) ∙ ap (octets k) (omega (arith, is, mask))

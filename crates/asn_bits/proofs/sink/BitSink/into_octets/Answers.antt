@@ -19,7 +19,7 @@ returns-clause-unpacked c =
     let v : unpacked s.octets.items ++ bits s.count s.pending ≡ c.args.self = c.self.view_is in
     let r : length (unpacked s.octets.items ++ bits s.count s.pending) % 8 ≡ 0 = ap (λ t. length t % 8) v ∙ c.requires in
     let z = octets_wait s.octets.items s.count s.pending r in
-    waiting_out s.octets.items c.push_low.new.bytes.items s.count s.pending z c.push_low.ensures.items ∙ v
+    ap unpacked c.without_spare.ensures ∙ waiting_out s.octets.items c.push_low.new.bytes.items s.count s.pending z c.push_low.ensures.items ∙ v
 
 pub returns-clause-packed : goal.returns-clause-packed
 returns-clause-packed c =
@@ -29,4 +29,4 @@ returns-clause-packed c =
     let r : length (unpacked s.octets.items ++ bits s.count s.pending) % 8 ≡ 0 = ap (λ t. length t % 8) v ∙ c.requires in
     let z = octets_wait s.octets.items s.count s.pending r in
     let fits : (i d : ℕ) → i < length new → get_or new i d < 256 = search rules in
-    ap packed (sym (waiting_out s.octets.items new s.count s.pending z c.push_low.ensures.items ∙ v)) ∙ packed-unpacked new fits
+    ap packed (sym (waiting_out s.octets.items new s.count s.pending z c.push_low.ensures.items ∙ v)) ∙ packed-unpacked new fits ∙ sym c.without_spare.ensures

@@ -5,12 +5,12 @@ use Rattle.std.specs.List.{list_any}
 use Rattle.serde_json.specs.Data.{Data, Items, no_items, item, Members, no_members, member}
 use Rattle.serde_json.specs.Find.{as_array, as_object, get_member}
 use Rattle.asn_values.specs.Datum.{Datum}
-use Rattle.asn_values.specs.Shape.{Shape, boolean, null, integer, enumerated, bit_string, octet_string, restricted, utf8_string, sequence, sequence_of, choice, more_labels, Demand, must, optional, default, Fields, no_fields, field, MoreFields, closed, marked, Alternatives, no_alternatives, one_of, MoreAlternatives, closed_choice, marked_choice, count}
+use Rattle.asn_values.specs.Shape.{Shape, boolean, null, integer, enumerated, bit_string, octet_string, restricted, utf8_string, sequence, sequence_of, choice, Demand, must, optional, default, Fields, no_fields, field, MoreFields, closed, marked, Alternatives, no_alternatives, one_of, MoreAlternatives, closed_choice, marked_choice, count}
 use Rattle.asn_values.specs.Fits.{Fits}
 use Rattle.asn_json.specs.declared.fault.JsonFault.{JsonFault}
 use Rattle.asn_json.specs.declared.fault.JsonFault.TheVariants as fault
 use Rattle.asn_json.specs.Paths.{here, to_member, to_element, below}
-use Rattle.asn_json.specs.Written.{label_names}
+use Rattle.asn_json.specs.Written.{item_names}
 use Rattle.asn_json.specs.Shown.{only_member, truth_in, nothing_in, number_in, item_in, bits_in, octets_in, characters_in, unicode_in, index_of, choice_names, component_names, value_of}
 
 -- one, at the node itself, where no value is read
@@ -41,27 +41,36 @@ entry_errors name optional f None = []
 entry_errors name (default d) f None = []
 
 -- those of the one member of an object for a CHOICE: of the value, where the key is the name of an alternative
+abbrev pub errors_of_member : (ℕ → Data → List (List ℕ)) → List (List ℕ) → List ℕ × Data → List (List ℕ)
+errors_of_member f names m = errors_within (λ p. below (to_member m.0) (f p m.1)) (index_of m.0 names)
+
 abbrev pub member_errors : (ℕ → Data → List (List ℕ)) → List (List ℕ) → Option (List ℕ × Data) → List (List ℕ)
-member_errors f names found = errors_within (λ m. errors_within (λ p. below (to_member m.0) (f p m.1)) (index_of m.0 names)) found
+member_errors f names found = errors_within (λ m. errors_of_member f names m) found
 
 abbrev mutual
   pub errors : Shape → Data → List (List ℕ)
   errors boolean j = unless_read (truth_in j)
   errors null j = unless_read (nothing_in j)
   errors (integer b) j = unless_read (number_in j)
-  errors (enumerated root more) j = unless_read (item_in (label_names (root ++ more_labels more)) j)
+  errors (enumerated root more) j = unless_read (item_in (item_names root more) j)
   errors (bit_string s) j = unless_read (bits_in j)
   errors (octet_string s) j = unless_read (octets_in j)
   errors (restricted k s) j = unless_read (characters_in j)
   errors utf8_string j = unless_read (unicode_in j)
-  errors (sequence root more) j = errors_within (λ ms. field_errors root ms ++ (added_errors more ms ++ unknown_errors (component_names root more) ms)) (as_object j)
+  errors (sequence root more) j =
+      errors_within (λ ms.
+      field_errors root ms ++ (added_errors more ms ++ unknown_errors (component_names root more) ms)) (as_object j)
   errors (sequence_of t s) j = errors_within (λ ds. element_errors (λ e. errors t e) 0 ds) (as_array j)
-  errors (choice root more) j = member_errors (λ p e. if nat_lt p (count root) then errors_at root p e else added_errors_at more (p - count root) e) (choice_names root more) (only_member j)
+  errors (choice root more) j =
+      member_errors (λ p e.
+      if nat_lt p (count root) then errors_at root p e else added_errors_at more (p - count root) e)
+      (choice_names root more) (only_member j)
 
   -- those of the components, in their order
   pub field_errors : Fields → Members → List (List ℕ)
   field_errors no_fields ms = []
-  field_errors (field name demand t fs) ms = entry_errors name demand (λ j. errors t j) (get_member name ms) ++ field_errors fs ms
+  field_errors (field name demand t fs) ms =
+      entry_errors name demand (λ j. errors t j) (get_member name ms) ++ field_errors fs ms
 
   pub added_errors : MoreFields → Members → List (List ℕ)
   added_errors closed ms = []

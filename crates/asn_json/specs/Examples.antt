@@ -16,30 +16,38 @@ use Rattle.asn_json.specs.Written.{json_of}
 -- ---- SEQUENCE { id INTEGER (0..7), ok BOOLEAN DEFAULT TRUE, note IA5String (SIZE (0..3)) OPTIONAL }
 
 -- id 5, ok TRUE, note "A": {"id":5,"note":"A","ok":true}
-pub note_json : json_of note_type (entries (Some (datum.number (pos 5)) ∷ Some (truth true) ∷ Some (characters (codes "A")) ∷ []))
-    ≡ object (member (codes "id") (number (unsigned 5)) (member (codes "note") (string (codes "A")) (member (codes "ok") (boolean true) no_members)))
+pub note_json :
+    json_of note_type (entries (Some (datum.number (pos 5)) ∷ Some (truth true) ∷ Some (characters (codes "A")) ∷ []))
+    ≡ object (member (codes "id") (number (unsigned 5))
+    (member (codes "note") (string (codes "A")) (member (codes "ok") (boolean true) no_members)))
 unfolding encode
 note_json = refl
 
 -- id 5, ok TRUE: {"id":5,"ok":true}
-pub absent_note_json : json_of note_type (entries (Some (datum.number (pos 5)) ∷ Some (truth true) ∷ None ∷ []))
+pub absent_note_json :
+    json_of note_type (entries (Some (datum.number (pos 5)) ∷ Some (truth true) ∷ None ∷ []))
     ≡ object (member (codes "id") (number (unsigned 5)) (member (codes "ok") (boolean true) no_members))
 absent_note_json = refl
 
 -- {"id":5}: the DEFAULT, and no note
-pub default_value : value_of note_type (object (member (codes "id") (number (unsigned 5)) no_members)) ≡ entries (Some (datum.number (pos 5)) ∷ Some (truth true) ∷ None ∷ [])
+pub default_value :
+    value_of note_type (object (member (codes "id") (number (unsigned 5)) no_members))
+    ≡ entries (Some (datum.number (pos 5)) ∷ Some (truth true) ∷ None ∷ [])
 default_value = refl
 
 pub no_error : bad note_type (object (member (codes "id") (number (unsigned 5)) no_members)) ≡ []
 no_error = refl
 
 -- {"id":"x","no":1,"ok":0}: the two wrong components in the type's order, and then the unknown key at the object
-pub errors_in_order : bad note_type (object (member (codes "id") (string (codes "x")) (member (codes "no") (number (unsigned 1)) (member (codes "ok") (number (unsigned 0)) no_members))))
+pub errors_in_order :
+    bad note_type (object (member (codes "id") (string (codes "x"))
+    (member (codes "no") (number (unsigned 1)) (member (codes "ok") (number (unsigned 0)) no_members))))
     ≡ codes "$.id" ∷ codes "$.ok" ∷ codes "$" ∷ []
 errors_in_order = refl
 
 -- {"ok":0}: the missing key stands at its turn, before what is wrong after it
-pub missing_key : bad note_type (object (member (codes "ok") (number (unsigned 0)) no_members)) ≡ codes "$" ∷ codes "$.ok" ∷ []
+pub missing_key :
+    bad note_type (object (member (codes "ok") (number (unsigned 0)) no_members)) ≡ codes "$" ∷ codes "$.ok" ∷ []
 missing_key = refl
 
 -- ---- types without parts
@@ -70,28 +78,38 @@ negative_value = refl
 -- ---- lists and alternatives
 
 -- SEQUENCE OF BOOLEAN, [true,1]: the second element
-pub second_element : bad (sequence_of shape.boolean any_size) (array (item (boolean true) (item (number (unsigned 1)) no_items))) ≡ codes "$[1]" ∷ []
+pub second_element :
+    bad (sequence_of shape.boolean any_size) (array (item (boolean true) (item (number (unsigned 1)) no_items)))
+    ≡ codes "$[1]" ∷ []
 second_element =
     let one : decimal 1 ≡ 49 ∷ [] = decimal_digit 1 (omega arith) in
     rw one refl
 
 -- CHOICE { x NULL, ..., y BOOLEAN }
 abbrev choice_type : shape.Shape
-choice_type = choice (one_of (codes "x") shape.null no_alternatives) (marked_choice (one_of (codes "y") shape.boolean no_alternatives))
+choice_type =
+    choice (one_of (codes "x") shape.null no_alternatives)
+    (marked_choice (one_of (codes "y") shape.boolean no_alternatives))
 
-pub added_alternative_json : json_of choice_type (alternative 1 (truth true)) ≡ object (member (codes "y") (boolean true) no_members)
+pub added_alternative_json :
+    json_of choice_type (alternative 1 (truth true)) ≡ object (member (codes "y") (boolean true) no_members)
 added_alternative_json = refl
 
-pub added_alternative_value : value_of choice_type (object (member (codes "y") (boolean true) no_members)) ≡ alternative 1 (truth true)
+pub added_alternative_value :
+    value_of choice_type (object (member (codes "y") (boolean true) no_members)) ≡ alternative 1 (truth true)
 added_alternative_value = refl
 
 -- {"y":true,"z":1}: not one key
-pub two_keys : bad choice_type (object (member (codes "y") (boolean true) (member (codes "z") (number (unsigned 1)) no_members))) ≡ codes "$" ∷ []
+pub two_keys :
+    bad choice_type (object (member (codes "y") (boolean true) (member (codes "z") (number (unsigned 1)) no_members)))
+    ≡ codes "$" ∷ []
 two_keys = refl
 
 -- {"z":1}: no alternative has the name; {"y":1}: what is wrong stands below it
-pub unknown_alternative : bad choice_type (object (member (codes "z") (number (unsigned 1)) no_members)) ≡ codes "$" ∷ []
+pub unknown_alternative :
+    bad choice_type (object (member (codes "z") (number (unsigned 1)) no_members)) ≡ codes "$" ∷ []
 unknown_alternative = refl
 
-pub wrong_alternative : bad choice_type (object (member (codes "y") (number (unsigned 1)) no_members)) ≡ codes "$.y" ∷ []
+pub wrong_alternative :
+    bad choice_type (object (member (codes "y") (number (unsigned 1)) no_members)) ≡ codes "$.y" ∷ []
 wrong_alternative = refl

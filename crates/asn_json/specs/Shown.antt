@@ -7,9 +7,9 @@ use Rattle.serde_json.specs.Data.{Data, Items, no_items, item, Members, no_membe
 use Rattle.serde_json.specs.Find.{as_null, as_bool, as_number, as_integer, as_str, as_array, as_object, get_member}
 use Rattle.asn_values.specs.Datum.{Datum, truth, nothing, number, bit_list, octet_list, characters, unicode, components, components_of, elements, elements_of, alternative}
 use Rattle.asn_values.specs.Datum as datum
-use Rattle.asn_values.specs.Shape.{Shape, boolean, null, integer, enumerated, bit_string, octet_string, restricted, utf8_string, sequence, sequence_of, choice, more_labels, Demand, must, optional, default, Fields, no_fields, field, MoreFields, closed, marked, more_fields, field_names, Alternatives, no_alternatives, one_of, MoreAlternatives, closed_choice, marked_choice, more_alternatives, alternative_names, count}
+use Rattle.asn_values.specs.Shape.{Shape, boolean, null, integer, enumerated, bit_string, octet_string, restricted, utf8_string, sequence, sequence_of, choice, Demand, must, optional, default, Fields, no_fields, field, MoreFields, closed, marked, more_fields, field_names, Alternatives, no_alternatives, one_of, MoreAlternatives, closed_choice, marked_choice, more_alternatives, alternative_names, count}
 use Rattle.asn_values.specs.Fits.{in_range}
-use Rattle.asn_json.specs.Written.{integers, label_names}
+use Rattle.asn_json.specs.Written.{integers, item_names}
 
 -- ---- types without parts: the value, where the JSON is of the shape
 
@@ -88,6 +88,20 @@ abbrev pub chosen_value : (ℕ → Datum) → Option ℕ → Datum
 chosen_value f None = nothing
 chosen_value f (Some p) = alternative p (f p)
 
+-- the value with these entries, and that of the elements of an array
+abbrev pub of_entries : List (Option Datum) → Datum
+of_entries es = components (components_of es)
+
+abbrev pub of_elements : (Data → Datum) → Items → Datum
+of_elements f ds = elements (elements_of (map f (item_list ds)))
+
+-- the value of the one member of an object, for a CHOICE whose alternatives have these names
+abbrev pub value_of_member : (ℕ → Data → Datum) → List (List ℕ) → List ℕ × Data → Datum
+value_of_member f names m = chosen_value (λ p. f p m.1) (index_of m.0 names)
+
+abbrev pub member_value : (ℕ → Data → Datum) → List (List ℕ) → Option (List ℕ × Data) → Datum
+member_value f names found = or_nothing (option_map (λ m. value_of_member f names m) found)
+
 -- the names of the alternatives
 abbrev pub choice_names : Alternatives → MoreAlternatives → List (List ℕ)
 choice_names root more = alternative_names root ++ alternative_names (more_alternatives more)
@@ -102,14 +116,18 @@ abbrev mutual
   value_of boolean j = or_nothing (truth_in j)
   value_of null j = nothing
   value_of (integer b) j = or_nothing (number_in j)
-  value_of (enumerated root more) j = or_nothing (item_in (label_names (root ++ more_labels more)) j)
+  value_of (enumerated root more) j = or_nothing (item_in (item_names root more) j)
   value_of (bit_string s) j = or_nothing (bits_in j)
   value_of (octet_string s) j = or_nothing (octets_in j)
   value_of (restricted k s) j = or_nothing (characters_in j)
   value_of utf8_string j = or_nothing (unicode_in j)
-  value_of (sequence root more) j = or_nothing (option_map (λ ms. components (components_of (entries root ms ++ added_entries more ms))) (as_object j))
-  value_of (sequence_of t s) j = or_nothing (option_map (λ ds. elements (elements_of (map (λ e. value_of t e) (item_list ds)))) (as_array j))
-  value_of (choice root more) j = or_nothing (option_map (λ m. chosen_value (λ p. if nat_lt p (count root) then value_at root p m.1 else added_value_at more (p - count root) m.1) (index_of m.0 (choice_names root more))) (only_member j))
+  value_of (sequence root more) j =
+      or_nothing (option_map (λ ms. of_entries (entries root ms ++ added_entries more ms)) (as_object j))
+  value_of (sequence_of t s) j = or_nothing (option_map (λ ds. of_elements (λ e. value_of t e) ds) (as_array j))
+  value_of (choice root more) j =
+      member_value (λ p e.
+      if nat_lt p (count root) then value_at root p e else added_value_at more (p - count root) e)
+      (choice_names root more) (only_member j)
 
   -- the entries of a SEQUENCE, one for each component
   pub entries : Fields → Members → List (Option Datum)

@@ -9,7 +9,7 @@ use Rattle.serde_json.specs.Find.{of_integer}
 use Rattle.serde_json.specs.View.{items_of}
 use Rattle.asn_values.specs.Datum.{Datum, truth, item, bit_list, octet_list, characters, unicode, components, elements, alternative, unknown_item, unknown_alternative, component_list, element_list}
 use Rattle.asn_values.specs.Datum as datum
-use Rattle.asn_values.specs.Shape.{Range, Shape, integer, enumerated, bit_string, octet_string, restricted, utf8_string, sequence, sequence_of, choice, Label, more_labels, Fields, no_fields, field, MoreFields, closed, marked, demands, Alternatives, no_alternatives, one_of, MoreAlternatives, closed_choice, marked_choice, count}
+use Rattle.asn_values.specs.Shape.{Range, Shape, integer, enumerated, bit_string, octet_string, restricted, utf8_string, sequence, sequence_of, choice, Label, MoreLabels, more_labels, Fields, no_fields, field, MoreFields, closed, marked, demands, Alternatives, no_alternatives, one_of, MoreAlternatives, closed_choice, marked_choice, count}
 use Rattle.asn_values.specs.Shape as shape
 use Rattle.asn_values.specs.Fits.{lowest_integer, highest_integer, in_range}
 use Rattle.asn_values.specs.Received.{FitsReceived}
@@ -86,9 +86,17 @@ abbrev pub with_member : List ℕ → (Datum → Data) → Option Datum → Memb
 with_member name f None ms = ms
 with_member name f (Some d) ms = put name (f d) ms
 
--- the names of the items, and of the alternatives
+-- the names of items
 abbrev pub label_names : List Label → List (List ℕ)
 label_names ls = map (λ l. l.name) ls
+
+-- those of all items of an ENUMERATED, root and then additions
+abbrev pub item_names : List Label → MoreLabels → List (List ℕ)
+item_names root more = label_names (root ++ more_labels more)
+
+-- how many components there are
+abbrev pub field_count : Fields → ℕ
+field_count fs = length (demands fs)
 
 abbrev mutual
   -- the JSON of a value of the type
@@ -96,14 +104,18 @@ abbrev mutual
   json_of shape.boolean d = json_truth d
   json_of shape.null d = null
   json_of (integer b) d = json_number d
-  json_of (enumerated root more) d = json_item (label_names (root ++ more_labels more)) d
+  json_of (enumerated root more) d = json_item (item_names root more) d
   json_of (bit_string s) d = json_bits d
   json_of (octet_string s) d = json_octets d
   json_of (restricted k s) d = json_characters d
   json_of utf8_string d = json_unicode d
-  json_of (sequence root more) d = json_components (λ es. added_members more (drop (length (demands root)) es) (members root (take (length (demands root)) es) no_members)) d
+  json_of (sequence root more) d =
+      json_components (λ es.
+      added_members more (drop (field_count root) es) (members root (take (field_count root) es) no_members)) d
   json_of (sequence_of t s) d = json_elements (λ e. json_of t e) d
-  json_of (choice root more) d = json_chosen (λ tag e. if nat_lt tag (count root) then json_alternative root tag e else json_addition more (tag - count root) e) d
+  json_of (choice root more) d =
+      json_chosen (λ tag e.
+      if nat_lt tag (count root) then json_alternative root tag e else json_addition more (tag - count root) e) d
 
   -- the members given, and one for each entry that is there, by the name of its component
   pub members : Fields → List (Option Datum) → Members → Members

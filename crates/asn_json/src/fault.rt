@@ -17,7 +17,7 @@ pub enum JsonFault {
     /// that the type does not have.
     #[error("not of the type")]
     NotOfType,
-    /// 3: a growth was refused.
+    /// 3: an allocation failed.
     #[error("memory")]
     Memory,
 }

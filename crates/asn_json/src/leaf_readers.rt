@@ -1,10 +1,10 @@
 //! What JSON shows of types without parts.
-ghost use Rattle.std.specs.Prelude.{◌≡◌, ◌≤◌, ◌+◌, ◌++◌, ◌==◌, IfOk, map, option_map, length};
+ghost use Rattle.std.specs.Prelude.{◌≡◌, ◌≤◌, ◌+◌, ◌==◌, IfOk, map, option_map, length};
 ghost use Rattle.std.specs.List.{list_all};
 ghost use Rattle.serde_json.specs.View.{view};
 ghost use Rattle.asn_values.specs.Shape.{more_labels};
-ghost use Rattle.asn_values.specs.View.{datum_of, more_labels_of, labels_seen};
-ghost use Rattle.asn_json.specs.Written.{label_names};
+ghost use Rattle.asn_values.specs.View.{datum_of, more_labels_of};
+ghost use Rattle.asn_json.specs.Parts.{names_of_items};
 ghost use Rattle.asn_json.specs.Shown.{truth_in, nothing_in, number_in, item_in, is_bit_character, bits_in, octets_in, characters_in, unicode_in};
 
 use crate::leaves::INTEGERS;
@@ -50,8 +50,7 @@ pub(crate) fn number_shown(json: &Json) -> Option<Value>
 /// The value of an ENUMERATED: the item of this name.
 pub(crate) fn item_shown(root: &[Item], ext: &Option<Vec<Item>>, json: &Json) -> Option<Value>
     requires few { length root.now + length (more_labels (more_labels_of ext.now)) ≤ 256 }
-    ensures { option_map datum_of result
-        ≡ item_in (label_names (labels_seen root.now ++ more_labels (more_labels_of ext.now))) (view json.now) }
+    ensures { option_map datum_of result ≡ item_in (names_of_items root.now ext.now) (view json.now) }
 {
     let index = item_index(root, ext, json.as_str()?)?;
     Some(Value::Enum(index as u32))

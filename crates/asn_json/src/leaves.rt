@@ -1,11 +1,11 @@
 //! The JSON of values without parts.
-ghost use Rattle.std.specs.Prelude.{◌≡◌, ◌++◌, ◌∷◌, IfOk, map, slice_get};
+ghost use Rattle.std.specs.Prelude.{◌≡◌, ◌∷◌, IfOk, map, slice_get};
 ghost use Rattle.std.specs.Fmt.{signed_decimal};
 ghost use Rattle.serde_json.specs.Data.{null, string};
 ghost use Rattle.serde_json.specs.View.{view};
 ghost use Rattle.asn_values.specs.Datum.{number, item, bit_list, octet_list, characters};
-ghost use Rattle.asn_values.specs.Shape.{more_labels};
-ghost use Rattle.asn_values.specs.View.{more_labels_of, labels_seen};
+ghost use Rattle.asn_values.specs.View.{labels_seen};
+ghost use Rattle.asn_json.specs.Parts.{names_of_items};
 ghost use Rattle.asn_json.specs.Written.{integers, json_number, json_name, json_item, json_bits, json_octets, json_characters, label_names};
 
 use asn_values::internal::is_between;
@@ -39,8 +39,7 @@ pub(crate) fn item_json(
     ext: &Option<Vec<Item>>,
     index: u32,
 ) -> Result<Json, AllocError>
-    ensures { IfOk result (λ j. view j
-        ≡ json_item (label_names (labels_seen root.now ++ more_labels (more_labels_of ext.now))) (item index)) }
+    ensures { IfOk result (λ j. view j ≡ json_item (names_of_items root.now ext.now) (item index)) }
 {
     let index = index as usize;
     if index < root.len() {

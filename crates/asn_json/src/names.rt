@@ -1,10 +1,11 @@
 //! The indexes of names: of items, alternatives and components.
-ghost use Rattle.std.specs.Prelude.{◌≡◌, ◌↔◌, ◌≤◌, ◌<◌, ◌+◌, ◌++◌, ◌^◌, ◌||◌, IfSome, IsTrue, option_map, option_and_then, length, bytes_eq};
+ghost use Rattle.std.specs.Prelude.{◌≡◌, ◌↔◌, ◌≤◌, ◌<◌, ◌+◌, ◌^◌, ◌||◌, IfSome, IsTrue, option_map, option_and_then, length, bytes_eq};
 ghost use Rattle.std.specs.List.{list_any};
 ghost use Rattle.serde_json.specs.Find.{as_object, get_member};
 ghost use Rattle.serde_json.specs.View.{view, members_view};
 ghost use Rattle.asn_values.specs.Shape.{more_labels, more_alternatives, alternative_names, count, field_names};
 ghost use Rattle.asn_values.specs.View.{more_labels_of, more_fields_of, more_alternatives_of, fields_seen, alternatives_seen, labels_seen};
+ghost use Rattle.asn_json.specs.Parts.{names_of_items};
 ghost use Rattle.asn_json.specs.Written.{label_names};
 ghost use Rattle.asn_json.specs.Shown.{index_of, choice_names, component_names, single};
 
@@ -14,8 +15,7 @@ use serde_json::{Map, Value as Json};
 /// The index of the item of this name, root and then additions.
 pub(crate) fn item_index(root: &[Item], ext: &Option<Vec<Item>>, name: &str) -> Option<usize>
     requires few { length root.now + length (more_labels (more_labels_of ext.now)) ≤ 256 }
-    ensures index { result
-        ≡ index_of name.now (label_names (labels_seen root.now ++ more_labels (more_labels_of ext.now))) }
+    ensures index { result ≡ index_of name.now (names_of_items root.now ext.now) }
     ensures inside { IfSome result (λ p. p < 256) }
 {
     match index_of_item(root, name) {

@@ -1,16 +1,15 @@
 //! The values that JSON shows.
-ghost use Rattle.std.specs.Prelude.{◌≡◌, ◌<◌, ◌^◌, ℕ, List, [], IfOk, IfErr, OnOk, IsOkAnd, None, map, option_map};
-ghost use Rattle.serde_json.specs.Find.{get_member};
-ghost use Rattle.serde_json.specs.View.{view, items_view, members_view};
+ghost use Rattle.std.specs.Prelude.{◌≡◌, ◌<◌, ◌^◌, [], IfOk, IfErr, OnOk, IsOkAnd, None, option_map};
+ghost use Rattle.serde_json.specs.View.{view};
 ghost use Rattle.asn_values.specs.Datum.{alternative};
 ghost use Rattle.asn_values.specs.Fits.{Fits};
 ghost use Rattle.asn_values.specs.Parts.{AreOfProfile, AreAllOfProfile, IsGoodDemand};
 ghost use Rattle.asn_values.specs.Profile.{InProfile};
-ghost use Rattle.asn_values.specs.View.{shape_of, datum_of, part_of_field, more_fields_of, fields_seen, alternatives_seen, entries_seen};
-ghost use Rattle.asn_json.specs.Errors.{Shown, Refused, errors, field_errors, element_errors, errors_at, unknown_errors};
-ghost use Rattle.asn_json.specs.Paths.{below, to_member};
-ghost use Rattle.asn_json.specs.Shown.{component_names};
-ghost use Rattle.asn_json.specs.Readers.{TellsFirst, Shows, ShowsAfter, ShowsEntry, errors_of_entry, ShowsElements, ShowsAt};
+ghost use Rattle.asn_values.specs.View.{shape_of, datum_of, part_of_field, fields_seen, alternatives_seen};
+ghost use Rattle.asn_json.specs.Errors.{Shown, Refused, errors};
+ghost use Rattle.asn_json.specs.Parts.{ShowsComponents, component_errors, ShowsComponent, errors_of_component, key_errors, ShowsArray, array_errors, alternative_errors, TellsBelow};
+ghost use Rattle.asn_json.specs.Paths.{to_member};
+ghost use Rattle.asn_json.specs.Readers.{TellsFirst, Shows, ShowsEntry, errors_of_entry, ShowsAt};
 
 use crate::fault::JsonFault;
 use crate::leaf_readers::{
@@ -23,16 +22,16 @@ use asn_values::{Alt, AsnType, Checked, Field, Need, Value, fits};
 use serde_json::{Map, Value as Json};
 use std::alloc::Global;
 
-/// The value that the JSON shows, in the form that `to_json` writes. Hexadecimal digits may be capital
-/// letters too, and a component with a DEFAULT that is missing has that value.
+/// The value that the JSON shows, in the form that `to_json` writes. Hexadecimal digits may be capital letters too, and
+/// a component with a DEFAULT that is missing has that value.
 ///
-/// Err: `Shape` exactly where the JSON is not of the shape of the type, with the path of the first
-/// node where it is not: a node is looked at before its parts, each part whole before the next, in the
-/// order of components and elements, and the unknown keys of an object after its components. Of the shape
-/// are the kind of each node, whole numbers that are integers of the profile, the names of items, keys
-/// and alternatives, one key for a CHOICE, even counts of hexadecimal digits, and the characters 0 and 1
-/// of bits; a missing or unknown key is told at its object. `NotOfType` where the shape is right and the
-/// value is none of the type. `Memory` where a growth was refused.
+/// # Errors
+/// `Shape` where the JSON is not of the shape of the type, with the path of the first node where it is not: a node is
+/// looked at before its parts, each part whole before the next, in the order of components and elements, and the
+/// unknown keys of an object after its components. Of the shape are the kind of each node, whole numbers that are
+/// integers of the profile, the names of items, keys and alternatives, one key for a CHOICE, even counts of hexadecimal
+/// digits, and the characters 0 and 1 of bits; a missing or unknown key is told at its object. `NotOfType` where the
+/// shape is right and the value is none of the type. `Memory` where an allocation failed.
 pub fn from_json(alloc: Global, ty: &Checked, json: &Json) -> Result<Value, JsonFault>
     ensures shown { IfOk result (λ v. Shown (shape_of ty.now) (view json.now) (datum_of v)) }
     ensures fits { IfOk result (λ v. Fits (shape_of ty.now) (datum_of v)) }
@@ -113,11 +112,8 @@ fn read_entries(
     given: Vec<Option<Value>>,
 ) -> Result<Vec<Option<Value>>, JsonFault>
     requires of_profile { AreOfProfile (fields_seen fields.now) }
-    ensures shown { IfOk result (λ es. ShowsAfter (fields_seen fields.now)
-        (members_view object.now.entries)
-        (entries_seen given.items) (entries_seen es.items)) }
-    ensures refused { IfErr result (λ fault. TellsFirst
-        (field_errors (fields_seen fields.now) (members_view object.now.entries)) fault) }
+    ensures shown { IfOk result (λ es. ShowsComponents fields.now object.now.entries given.items es.items) }
+    ensures refused { IfErr result (λ fault. TellsFirst (component_errors fields.now object.now.entries) fault) }
 {
     let mut all = given;
     for field in fields {
@@ -136,10 +132,9 @@ fn read_entry(
 ) -> Result<Option<Value>, JsonFault>
     requires of_profile { InProfile (part_of_field field.now).shape }
     requires good { IsGoodDemand (part_of_field field.now).demand (part_of_field field.now).shape }
-    ensures shown { IfOk result (λ e. ShowsEntry (part_of_field field.now)
-        (get_member (part_of_field field.now).name (members_view object.now.entries)) (option_map datum_of e)) }
-    ensures refused { IfErr result (λ fault. TellsFirst (errors_of_entry (part_of_field field.now)
-        (get_member (part_of_field field.now).name (members_view object.now.entries))) fault) }
+    ensures shown { IfOk result (λ e. ShowsComponent (part_of_field field.now) object.now.entries e) }
+    ensures refused { IfErr result (λ fault.
+        TellsFirst (errors_of_component (part_of_field field.now) object.now.entries) fault) }
 {
     match member(object, field.name.as_str()) {
         Some(json) => match read(alloc, &field.ty, json) {
@@ -184,12 +179,8 @@ fn check_keys(
     ext: &Option<Vec<Field>>,
     object: &Map<String, Json>,
 ) -> Result<(), JsonFault>
-    ensures known { OnOk result (unknown_errors
-        (component_names (fields_seen root.now) (more_fields_of ext.now))
-        (members_view object.now.entries) ≡ []) }
-    ensures refused { IfErr result (λ fault. TellsFirst (unknown_errors
-        (component_names (fields_seen root.now) (more_fields_of ext.now))
-        (members_view object.now.entries)) fault) }
+    ensures known { OnOk result (key_errors root.now ext.now object.now.entries ≡ []) }
+    ensures refused { IfErr result (λ fault. TellsFirst (key_errors root.now ext.now object.now.entries) fault) }
 {
     for (key, _) in object.iter() {
         if !is_component(root, ext, key.as_str()) {
@@ -203,10 +194,8 @@ fn check_keys(
 #[cycle(reader)]
 fn read_elements(alloc: Global, element: &AsnType, items: &[Json]) -> Result<Vec<Value>, JsonFault>
     requires of_profile { InProfile (shape_of element.now) }
-    ensures shown { IfOk result (λ vs.
-        ShowsElements (shape_of element.now) (items_view items.now) (map datum_of vs.items)) }
-    ensures refused { IfErr result (λ fault. TellsFirst
-        (element_errors (λ e. errors (shape_of element.now) e) 0 (items_view items.now)) fault) }
+    ensures shown { IfOk result (λ vs. ShowsArray element.now items.now vs.items) }
+    ensures refused { IfErr result (λ fault. TellsFirst (array_errors element.now items.now) fault) }
 {
     let mut all = Vec::with_capacity(alloc, items.len())?;
     for (index, json) in items.iter().enumerate() {
@@ -227,8 +216,7 @@ fn choice_read(
 ) -> Result<Value, JsonFault>
     requires { index < 2 ^ 32 }
     ensures shown { IfOk result (λ v. IsOkAnd read (λ w. datum_of v ≡ alternative index (datum_of w))) }
-    ensures refused { IfErr result (λ fault. (paths : List (List ℕ)) → IfErr read (λ f. TellsFirst paths f)
-        → TellsFirst (below (to_member name.now) paths) fault) }
+    ensures refused { IfErr result (λ fault. TellsBelow (to_member name.now) read fault) }
 {
     match read {
         Ok(value) => Ok(Value::Choice(index as u32, Box::new(alloc, value)?)),
@@ -247,8 +235,8 @@ fn read_alternative(
     requires of_profile { AreAllOfProfile (alternatives_seen alternatives.now) }
     ensures shown { IfOk result (λ v.
         ShowsAt (alternatives_seen alternatives.now) index (view json.now) (datum_of v)) }
-    ensures refused { IfErr result (λ fault. TellsFirst
-        (errors_at (alternatives_seen alternatives.now) index (view json.now)) fault) }
+    ensures refused { IfErr result (λ fault.
+        TellsFirst (alternative_errors alternatives.now index json.now) fault) }
 {
     if index >= alternatives.len() {
         return Err(at_node(alloc));

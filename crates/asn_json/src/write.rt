@@ -1,9 +1,10 @@
 //! The JSON of values.
-ghost use Rattle.std.specs.Prelude.{◌≡◌, IfOk, IfErr, map, option_map, string_bytes};
+ghost use Rattle.std.specs.Prelude.{◌≡◌, IfOk, IfErr, map, string_bytes};
 ghost use Rattle.serde_json.specs.Data.{put};
 ghost use Rattle.serde_json.specs.View.{view, members_view};
-ghost use Rattle.asn_values.specs.View.{shape_of, datum_of, part_of_field, fields_seen, alternatives_seen, entries_seen};
-ghost use Rattle.asn_json.specs.Written.{Written, Unwritten, json_of, json_alternative, members, with_member};
+ghost use Rattle.asn_values.specs.View.{shape_of, datum_of, part_of_field, alternatives_seen};
+ghost use Rattle.asn_json.specs.Parts.{with_entries, with_entry};
+ghost use Rattle.asn_json.specs.Written.{Written, Unwritten, json_of, json_alternative};
 
 use crate::fault::JsonFault;
 use crate::leaves::{
@@ -24,7 +25,9 @@ use std::alloc::{AllocError, Global};
 /// its number in decimal, an alternative that it has not an object whose one member is `?` with the tag in decimal and
 /// `null`; `from_json` reads neither.
 ///
-/// Err: `NotOfType` exactly where the value is none of the type, nor one that a receiver gives of such a message; `Memory` where an allocation was refused.
+/// # Errors
+/// `NotOfType` exactly where the value is none of the type, nor one that a receiver gives of such a message; `Memory`
+/// where an allocation failed. Never `Shape`.
 pub fn to_json(alloc: Global, ty: &Checked, value: &Value) -> Result<Json, JsonFault>
     ensures written { IfOk result (λ j. Written (shape_of ty.now) (datum_of value.now) (view j)) }
     ensures refused { IfErr result (λ fault. Unwritten (shape_of ty.now) (datum_of value.now) fault) }
@@ -89,9 +92,7 @@ fn with_members(
     entries: &[Option<Value>],
     object: Map<String, Json>,
 ) -> Result<Map<String, Json>, AllocError>
-    ensures { IfOk result (λ m. members_view m.entries
-        ≡ members (fields_seen fields.now) (entries_seen entries.now)
-        (members_view object.entries)) }
+    ensures { IfOk result (λ m. members_view m.entries ≡ with_entries fields.now entries.now object.entries) }
 {
     let mut all = object;
     for (index, field) in fields.iter().enumerate() {
@@ -111,9 +112,8 @@ fn with_member(
     entry: &Option<Value>,
     object: Map<String, Json>,
 ) -> Result<Map<String, Json>, AllocError>
-    ensures { IfOk result (λ m. members_view m.entries
-        ≡ with_member (part_of_field field.now).name (λ d. json_of (part_of_field field.now).shape d)
-        (option_map datum_of entry.now) (members_view object.entries)) }
+    ensures { IfOk result (λ m.
+        members_view m.entries ≡ with_entry (part_of_field field.now) entry.now object.entries) }
 {
     match entry {
         None => Ok(object),
@@ -127,14 +127,14 @@ fn with_member(
 /// The object with this member.
 fn put_member(
     object: Map<String, Json>,
-    name: String,
+    key: String,
     json: Json,
 ) -> Result<Map<String, Json>, AllocError>
     ensures { IfOk result (λ m.
-        members_view m.entries ≡ put (string_bytes name) (view json) (members_view object.entries)) }
+        members_view m.entries ≡ put (string_bytes key) (view json) (members_view object.entries)) }
 {
     let mut all = object;
-    all.insert(name, json)?;
+    all.insert(key, json)?;
     Ok(all)
 }
 
@@ -161,16 +161,16 @@ fn alternative_json(
     alloc: Global,
     alternatives: &[Alt],
     index: usize,
-    chosen: &Value,
+    value: &Value,
 ) -> Result<Json, AllocError>
-    ensures { IfOk result (λ j. view j
-        ≡ json_alternative (alternatives_seen alternatives.now) index (datum_of chosen.now)) }
+    ensures { IfOk result (λ j.
+        view j ≡ json_alternative (alternatives_seen alternatives.now) index (datum_of value.now)) }
 {
     if index >= alternatives.len() {
         return Ok(Json::Null);
     }
     let alternative = &alternatives[index];
-    let json = json_of(alloc, &alternative.ty, chosen)?;
+    let json = json_of(alloc, &alternative.ty, value)?;
     let object = put_member(Map::new(alloc), alternative.name.clone()?, json)?;
     Ok(Json::from(object))
 }

@@ -11,14 +11,14 @@ use Rattle.asn_json.proofs.write.+json.Goals as goal
 pub alternative_json-returns-then-index-alternatives : goal.alternative_json-returns-then-index-alternatives
 alternative_json-returns-then-index-alternatives t c =
     let none : view Null ≡ null = search (rules, the_lemmas) in
-    none ∙ sym (alternative_past c.args.alternatives.now c.args.index (datum_of c.args.chosen.now) c.if-index-alternatives.true)
+    none ∙ sym (alternative_past c.args.alternatives.now c.args.index (datum_of c.args.value.now) c.if-index-alternatives.true)
 
 pub alternative_json-returns : goal.alternative_json-returns
 alternative_json-returns t c =
     let x = c.index-alternatives-index.result in
-    let written = alternative_here c.args.alternatives.now c.args.index x (datum_of c.args.chosen.now) c.if-index-alternatives.false c.index-alternatives-index.is in
+    let written = alternative_here c.args.alternatives.now c.args.index x (datum_of c.args.value.now) c.if-index-alternatives.false c.index-alternatives-index.is in
     let name : string_bytes c.in_ok-clone.field-0 ≡ string_bytes x.name = search rules in
-    let json : view c.in_ok-json.json ≡ json_of (shape_of x.ty) (datum_of c.args.chosen.now) = search rules in
+    let json : view c.in_ok-json.json ≡ json_of (shape_of x.ty) (datum_of c.args.value.now) = search rules in
     let empty : members_view c.new.result.entries ≡ no_members = ap members_view c.new.ensures.empty in
     c.from.ensures ∙ ap object c.in_ok-object.ensures ∙ rw (empty, name, json) (sym written)
 

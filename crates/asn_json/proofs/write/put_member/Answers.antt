@@ -4,4 +4,4 @@ use Rattle.serde_json.proofs.Views.{members_view-insert_entry}
 use Rattle.asn_json.proofs.write.put_member.Goals as goal
 
 pub returns : goal.returns
-returns c = ap members_view c.in_ok-insert.ensures.entries ∙ members_view-insert_entry c.args.object.entries c.args.name c.args.json
+returns c = ap members_view c.in_ok-insert.ensures.entries ∙ members_view-insert_entry c.args.object.entries c.args.key c.args.json

@@ -1,7 +1,9 @@
 #!/usr/bin/env bash
-# Measures the reading of modules, and prints a table: nanoseconds an octet, the least of some rounds.
+# Measures the reading of modules, and prints a table: nanoseconds an octet, the least of some rounds; or instructions an
+# octet, which other work on the machine does not change.
 #
 # usage: bash bench/modules.sh [ROUNDS]
+#        bash bench/modules.sh count      (it needs valgrind)
 #
 # The crates and the program of bench/reading are laid out in a room outside the repository, BENCH_MODULES (in TMPDIR
 # or /tmp, if not set), which is kept, so that a later run proves only what has changed. RT is the command rt, if it is
@@ -67,18 +69,37 @@ text() {
     }'
 }
 
+# all instructions of so many readings of a text
+instructions() {
+    valgrind --tool=callgrind --callgrind-out-file=/dev/null out/bench_reading "$1" <"$2" 2>&1 >/dev/null |
+        sed -n 's/.*Collected : //p'
+}
+
 # a row: what the text is, its kind and how many
 row() {
     text "$2" "$3" >"$room/$2.txt"
+    if [ "$rounds" = count ]; then
+        local none once
+        none=$(instructions 0 "$room/$2.txt")
+        once=$(instructions 1 "$room/$2.txt")
+        out/bench_reading 1 <"$room/$2.txt" | awk -v what="$1" -v count="$((once - none))" '
+            { octets = $2; $1 = ""; $2 = ""; answer = substr($0, 3) }
+            END { printf "| %s | %d | %s | %.1f | %.0f |\n", what, octets, answer, count / 1e6, count / octets }'
+        return
+    fi
     nice out/bench_reading "$rounds" <"$room/$2.txt" | awk -v what="$1" '
         NR == 1 || $1 < least { least = $1 }
         { octets = $2; $1 = ""; $2 = ""; answer = substr($0, 3) }
         END { printf "| %s | %d | %s | %.1f | %.1f |\n", what, octets, answer, least / 1e6, least / octets }'
 }
 
-echo "$(uname -sm), $(nproc) x $(sed -n 's/^model name[^:]*: //p' /proc/cpuinfo | head -n 1); load $(cut -d' ' -f1-3 /proc/loadavg); the least of $rounds rounds"
-echo
-echo "| text | octets | answer | ms | ns an octet |"
+if [ "$rounds" = count ]; then
+    echo "| text | octets | answer | instructions, millions | an octet |"
+else
+    echo "$(uname -sm), $(nproc) x $(sed -n 's/^model name[^:]*: //p' /proc/cpuinfo | head -n 1); load $(cut -d' ' -f1-3 /proc/loadavg); the least of $rounds rounds"
+    echo
+    echo "| text | octets | answer | ms | ns an octet |"
+fi
 echo "|---|---|---|---|---|"
 row "1,000 assignments" assignments 1000
 row "10,000 assignments" assignments 10000

@@ -101,6 +101,8 @@ told_of shape from_json
 told_of module read print run
 told_of 'wrong text' read explain
 told_of cycle read
+told_of 'empty range' read
+told_of 'deep type' read
 told_of PER convert
 told_of OER convert
 for order in show check encode convert newer; do told_of "$order" run; done

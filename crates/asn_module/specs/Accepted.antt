@@ -38,6 +38,10 @@ pub record Accepted (text : List ℕ) (m : ModuleTypes) : Type 0 where
   pub named : m.name ≡ tree.name
   pub typed : AreTypes tree.assignments tree.assignments m.types
 
+-- the text is a module of these names and types, where they are a module's
+abbrev pub IsReadAgain : List ℕ → ModuleTypes → Type 0
+IsReadAgain text m = (source : List ℕ) → Accepted source m → Accepted text m
+
 -- the type that a name has, where the module assigns it
 abbrev pub type_in : List Typed → List ℕ → Option Shape
 type_in [] name = None

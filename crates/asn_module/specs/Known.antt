@@ -1,20 +1,32 @@
 -- What the types that are built stand for, and what names stand for among them.
 use Rattle.std.specs.Prelude.{◌≡◌, ℕ, ⊤, Bool, true, false, List, [], ◌∷◌, get_or, set, suc, Option, Some, None, Result}
-use Rattle.std.specs.Prelude.{MatchResult, string_bytes, bytes_eq, if◌then◌else◌}
+use Rattle.std.specs.Prelude.{MatchOption, MatchResult, string_bytes, bytes_eq, if◌then◌else◌}
+use Rattle.std.specs.Global.{Vec}
 use Rattle.asn_values.specs.declared.types.AsnType.{AsnType}
-use Rattle.asn_values.specs.View.{shape_of}
+use Rattle.asn_values.specs.declared.types.Field.{Field}
+use Rattle.asn_values.specs.declared.types.Alt.{Alt}
+use Rattle.asn_values.specs.Shape.{Fields, Alternatives}
+use Rattle.asn_values.specs.View.{shape_of, fields_seen, alternatives_seen}
 use Rattle.asn_module.specs.declared.fault.Refusal.{Refusal}
 use Rattle.asn_module.specs.declared.fault.Refusal.TheVariants.{Memory}
 use Rattle.asn_module.specs.declared.known.Built.{Built}
 use Rattle.asn_module.specs.declared.known.Known.{Known}
 use Rattle.asn_module.specs.declared.known.Named.{Named}
 use Rattle.asn_values.specs.Profile.{InProfile}
-use Rattle.asn_notation.specs.Tree.{Tree, Assignment}
+use Rattle.asn_notation.specs.declared.notation.AssignmentNotation.{AssignmentNotation}
+use Rattle.asn_notation.specs.Tree.{Tree, Assignment, assignments_view}
 use Rattle.asn_module.specs.Meaning.{Meant, meant, stands_for}
-use Rattle.asn_module.specs.Accepted.{Typed}
+use Rattle.asn_module.specs.Accepted.{Typed, AreTypes}
 
 abbrev pub built_view : Built → Meant
 built_view b = record { shape = shape_of b.ty; constraint = b.constraint }
+
+-- the components and alternatives that are built
+abbrev pub built_fields : Vec Field → Fields
+built_fields v = fields_seen v.items
+
+abbrev pub built_alternatives : Vec Alt → Alternatives
+built_alternatives v = alternatives_seen v.items
 
 abbrev pub known_view : Known → Meant
 known_view k = record { shape = shape_of k.ty; constraint = k.constraint }
@@ -32,6 +44,10 @@ look (n ∷ ns) name = if bytes_eq (string_bytes n.name) name then known_if n.kn
 abbrev pub Gives : {A B : Type 0} → (A → B) → Result A Refusal → Option B → Type 0
 Gives f r expected = MatchResult r (λ a. expected ≡ Some (f a)) (λ e. (e ≡ Memory → ⊥) → expected ≡ None)
 
+-- the option is what is expected, seen through f
+abbrev pub SeenAs : {A B : Type 0} → (A → B) → Option A → Option B → Type 0
+SeenAs f o expected = MatchOption o (expected ≡ None) (λ a. expected ≡ Some (f a))
+
 -- this type with this constraint, and it is one of the profile
 abbrev pub IsKnownOf : AsnType → Option Bool → Known → Type 0
 IsKnownOf ty constraint k =
@@ -44,6 +60,10 @@ IsKnownAs look tree k = (meant look tree ≡ Some (known_view k)) × InProfile (
 -- no type of the profile is built of the tree from what the names stand for
 abbrev pub IsStuck : (List ℕ → Option Meant) → Tree → Type 0
 IsStuck look tree = (m : Meant) → meant look tree ≡ Some m → InProfile m.shape → ⊥
+
+-- what the tree stands for, where it is one of the profile; None where none of the profile is built of it
+abbrev pub IsKnownOrStuck : (List ℕ → Option Meant) → Tree → Option Known → Type 0
+IsKnownOrStuck look tree o = MatchOption o (IsStuck look tree) (λ k. IsKnownAs look tree k)
 
 -- what is built of a tree is what it stands for
 abbrev pub IsSound : List Assignment → Tree → Option Known → Type 0
@@ -67,6 +87,17 @@ abbrev pub AreDone : (List ℕ → Option Meant) → List Assignment → List Na
 AreDone look [] ns = ⊤
 AreDone look (a ∷ rest) [] = ⊥
 AreDone look (a ∷ rest) (n ∷ ns) = IsDone look a.tree n.known × AreDone look rest ns
+
+-- the same of the assignments as the program has them: what is built is right, and nothing more can be built
+abbrev pub AreAllSound : List AssignmentNotation → List Named → Type 0
+AreAllSound all ns = AreSound (assignments_view all) (assignments_view all) ns
+
+abbrev pub AreAllDone : List AssignmentNotation → List Named → Type 0
+AreAllDone all ns = AreDone (look ns) (assignments_view all) ns
+
+-- these are the types of all the assignments
+abbrev pub AreAllTypes : List AssignmentNotation → List Typed → Type 0
+AreAllTypes all ts = AreTypes (assignments_view all) (assignments_view all) ts
 
 -- how many are not built
 abbrev pub counted : Option Known → ℕ → ℕ

@@ -1,8 +1,9 @@
 -- Names and their indexes.
-use Rattle.std.specs.Prelude.{◌≡◌, ℕ, suc, List, [], ◌∷◌, map, Option, Some, None, string_bytes, bytes_eq}
-use Rattle.std.specs.Prelude.{if◌then◌else◌, String}
+use Rattle.std.specs.Prelude.{◌≡◌, ℕ, suc, true, false, List, [], ◌∷◌, map, Option, Some, None, MatchOption}
+use Rattle.std.specs.Prelude.{string_bytes, bytes_eq, if◌then◌else◌, String}
 use denote.Ref.{Bor}
 use Rattle.std.specs.HashMap.{HashMap, get_by, get_by_text}
+use Rattle.asn_values.specs.Profile.{has_twice}
 use Rattle.asn_notation.specs.Tree.{Assignment}
 use Rattle.asn_module.specs.declared.known.Named.{Named}
 
@@ -18,6 +19,10 @@ Finds index names = (q : List ℕ) → get_by (λ k. bytes_eq q k.now) index ≡
 -- the same of a map that has the names as texts of its own
 abbrev pub FindsText : {Y S : Type 0} → HashMap (String Y) ℕ S → List (List ℕ) → Type 0
 FindsText index names = (q : List ℕ) → get_by_text index q ≡ index_from 0 q names
+
+-- None exactly where one of the names stands twice
+abbrev pub IsNoneIfTwice : {A : Type 0} → List (List ℕ) → Option A → Type 0
+IsNoneIfTwice names o = MatchOption o (has_twice bytes_eq names ≡ true) (λ _. has_twice bytes_eq names ≡ false)
 
 abbrev pub names_in : List Named → List (List ℕ)
 names_in ns = map (λ n. string_bytes n.name) ns

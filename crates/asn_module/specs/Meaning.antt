@@ -87,6 +87,9 @@ abbrev pub enumerated_shape : Bool → List Item → Option (List Item) → Shap
 enumerated_shape numbered root more =
     s.enumerated (labels_from numbered 0 root) (more_labels_meant numbered (length root) more)
 
+abbrev pub enumerated_meant : List Item → Option (List Item) → Meant
+enumerated_meant root more = free (enumerated_shape (has_numbers root more) root more)
+
 -- ---- DEFAULT
 
 -- the first item with this name, its index counted from `index`; where there is none, no value of the type, and none
@@ -158,7 +161,7 @@ unfoldable mutual
   meant look t.null = Some (free s.null)
   meant look t.utf8 = Some (free s.utf8_string)
   meant look (t.integer r) = Some (integer_meant r)
-  meant look (t.enumerated root more) = Some (free (enumerated_shape (has_numbers root more) root more))
+  meant look (t.enumerated root more) = Some (enumerated_meant root more)
   meant look (t.text kind size) = Some (string_meant kind size)
   meant look (t.sequence root more) =
       fields_meant look root >>= (λ fs. more_meant look more >>= (λ ms. Some (free (s.sequence fs ms))))

@@ -1,6 +1,6 @@
 -- What the types of a module are printed as: a tree for each type, and a line for each name.
 use Rattle.std.specs.Prelude.{◌≡◌, ℕ, zero, suc, Bool, true, false, ◌||◌, List, [], ◌∷◌, ◌++◌, map, Option, Some, None}
-use Rattle.std.specs.Prelude.{is_some, nat_lt, if◌then◌else◌}
+use Rattle.std.specs.Prelude.{is_some, nat_lt, if◌then◌else◌, Result, OnOk, String, string_bytes}
 use Rattle.asn_values.specs.Datum as datum
 use Rattle.asn_values.specs.Datum.{Datum}
 use Rattle.asn_values.specs.Shape as s
@@ -154,6 +154,10 @@ after_spaces (x ∷ xs) = 32 ∷ (token_text x ++ after_spaces xs)
 -- the tokens were added to a text
 abbrev pub Adds : List Token → List ℕ → List ℕ → Type 0
 Adds ts old new = new ≡ old ++ after_spaces ts
+
+-- the same of a text of the program, unless memory ran out
+abbrev pub Writes : {T E Y : Type 0} → List Token → Result T E → String Y → String Y → Type 0
+Writes ts r old new = OnOk r (Adds ts (string_bytes old) (string_bytes new))
 
 -- a comma, where something stands before
 abbrev pub comma_if : Bool → List Token

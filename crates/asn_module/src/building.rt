@@ -1,11 +1,10 @@
 //! Types built from their notation, with what is built of the types that they refer to.
 
-ghost use Rattle.std.specs.Prelude.{◌≡◌, None, Some, map};
-ghost use Rattle.asn_values.specs.View.{shape_of, fields_of, part_of_field, alternatives_of, branch_of};
-ghost use Rattle.asn_notation.specs.Tree as tree;
-ghost use Rattle.asn_module.specs.Known.{built_view, look, Gives};
+ghost use Rattle.std.specs.Prelude.{◌≡◌, None, Some};
+ghost use Rattle.asn_notation.specs.Tree.{tree_view, components_view, alternatives_view};
+ghost use Rattle.asn_module.specs.Known.{built_view, built_fields, built_alternatives, look, Gives};
 ghost use Rattle.asn_module.specs.Lookup.{Finds, names_in};
-ghost use Rattle.asn_module.specs.Meaning as spec;
+ghost use Rattle.asn_module.specs.Meaning.{meant, fields_meant, alternatives_meant};
 
 use crate::copying::copy_type;
 use crate::fault::Refusal;
@@ -28,8 +27,7 @@ fn build_fields(
     components: &[ComponentNotation],
 ) -> Result<Vec<Field>, Refusal>
     requires { Finds indices.now (names_in names.now) }
-    ensures { Gives (λ v. fields_of (map part_of_field v.items)) result
-        (spec.fields_meant (look names.now) (tree.components_of (tree.parts_view components.now))) }
+    ensures { Gives built_fields result (fields_meant (look names.now) (components_view components.now)) }
 {
     let mut fields = Vec::new(alloc);
     for component in components {
@@ -55,8 +53,8 @@ fn build_alternatives(
     alternatives: &[AlternativeNotation],
 ) -> Result<Vec<Alt>, Refusal>
     requires { Finds indices.now (names_in names.now) }
-    ensures { Gives (λ v. alternatives_of (map branch_of v.items)) result
-        (spec.alternatives_meant (look names.now) (tree.alternatives_of (tree.branches_view alternatives.now))) }
+    ensures { Gives built_alternatives result
+        (alternatives_meant (look names.now) (alternatives_view alternatives.now)) }
 {
     let mut built = Vec::new(alloc);
     for alternative in alternatives {
@@ -69,8 +67,9 @@ fn build_alternatives(
 
 /// The type that a notation stands for, where `names` are the types that are built, and `indices` has their indexes.
 ///
-/// Err: `Missing` where it refers to a name that has no type there; `Constraint` where a constraint may not
-/// stand on the type that a name stands for; `Memory` where an allocation failed.
+/// # Errors
+/// `Missing` where it refers to a name that has no type there; `Constraint` where a constraint may not stand on the
+/// type that a name stands for; `Memory` where an allocation failed.
 #[cycle(building)]
 #[tactic(auto, unfolding(crate::specs::Meaning::meant))]
 pub(crate) fn build(
@@ -80,7 +79,7 @@ pub(crate) fn build(
     ty: &TypeNotation,
 ) -> Result<Built, Refusal>
     requires { Finds indices.now (names_in names.now) }
-    ensures { Gives built_view result (spec.meant (look names.now) (tree.tree_view ty.now)) }
+    ensures { Gives built_view result (meant (look names.now) (tree_view ty.now)) }
 {
     match ty {
         TypeNotation::Boolean => Ok(free(AsnType::Bool)),

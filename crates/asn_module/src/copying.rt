@@ -1,8 +1,7 @@
 //! Copies of types that are built already, for the references to them.
 
 ghost use Rattle.std.specs.Prelude.{◌≡◌, map, IfOk};
-ghost use Rattle.asn_values.specs.View.{datum_of, demand_of, shape_of, label_of};
-ghost use Rattle.asn_values.specs.View.{fields_of, part_of_field, alternatives_of, branch_of};
+ghost use Rattle.asn_values.specs.View.{datum_of, demand_of, shape_of, label_of, fields_seen, alternatives_seen};
 ghost use Rattle.asn_module.specs.Plain as spec;
 
 use asn_values::{Alt, AsnType, Field, Item, Need, Value};
@@ -55,8 +54,7 @@ fn copy_items(alloc: Global, items: &[Item]) -> Result<Vec<Item>, AllocError>
 
 #[cycle(copying)]
 fn copy_fields(alloc: Global, fields: &[Field]) -> Result<Vec<Field>, AllocError>
-    ensures { IfOk result (λ v. fields_of (map part_of_field v.items) ≡ spec.plain_fields (fields_of
-        (map part_of_field fields.now))) }
+    ensures { IfOk result (λ v. fields_seen v.items ≡ spec.plain_fields (fields_seen fields.now)) }
 {
     let mut copies = Vec::new(alloc);
     for field in fields {
@@ -73,8 +71,8 @@ fn copy_fields(alloc: Global, fields: &[Field]) -> Result<Vec<Field>, AllocError
 
 #[cycle(copying)]
 fn copy_alternatives(alloc: Global, alternatives: &[Alt]) -> Result<Vec<Alt>, AllocError>
-    ensures { IfOk result (λ v. alternatives_of (map branch_of v.items) ≡ spec.plain_alternatives
-        (alternatives_of (map branch_of alternatives.now))) }
+    ensures { IfOk result
+        (λ v. alternatives_seen v.items ≡ spec.plain_alternatives (alternatives_seen alternatives.now)) }
 {
     let mut copies = Vec::new(alloc);
     for alternative in alternatives {

@@ -1,9 +1,9 @@
 //! How many types a notation stands for, counted before they are built: of more than a type of the profile may have,
 //! none is built.
 
-ghost use Rattle.std.specs.Prelude.{◌≡◌, ◌+◌, ◌≤◌, map};
+ghost use Rattle.std.specs.Prelude.{◌≡◌, ◌+◌, ◌≤◌};
 ghost use Rattle.asn_values.specs.Measures.{nodes, fields_nodes, choice_nodes};
-ghost use Rattle.asn_values.specs.View.{shape_of, fields_of, part_of_field, alternatives_of, branch_of};
+ghost use Rattle.asn_values.specs.View.{shape_of, fields_seen, alternatives_seen};
 ghost use Rattle.asn_notation.specs.Tree as tree;
 ghost use Rattle.asn_module.specs.Known.{look};
 ghost use Rattle.asn_module.specs.Counting as spec;
@@ -33,7 +33,7 @@ fn together(first: u32, second: u32) -> u32
 /// The types of components.
 #[cycle(counting_types)]
 fn count_fields(fields: &[Field]) -> u32
-    ensures { result ≡ capped (fields_nodes (fields_of (map part_of_field fields.now))) }
+    ensures { result ≡ capped (fields_nodes (fields_seen fields.now)) }
 {
     let mut total = 0;
     for field in fields {
@@ -45,7 +45,7 @@ fn count_fields(fields: &[Field]) -> u32
 /// The types of alternatives.
 #[cycle(counting_types)]
 fn count_alternatives(alternatives: &[Alt]) -> u32
-    ensures { result ≡ capped (choice_nodes (alternatives_of (map branch_of alternatives.now))) }
+    ensures { result ≡ capped (choice_nodes (alternatives_seen alternatives.now)) }
 {
     let mut total = 0;
     for alternative in alternatives {
@@ -94,8 +94,7 @@ fn count_components(
     components: &[ComponentNotation],
 ) -> u32
     requires { Finds indices.now (names_in names.now) }
-    ensures { result ≡ capped (spec.components_weight (look names.now) (tree.components_of
-        (tree.parts_view components.now))) }
+    ensures { result ≡ capped (spec.components_weight (look names.now) (tree.components_view components.now)) }
 {
     let mut total = 0;
     for component in components {
@@ -115,8 +114,7 @@ fn count_branches(
     alternatives: &[AlternativeNotation],
 ) -> u32
     requires { Finds indices.now (names_in names.now) }
-    ensures { result ≡ capped (spec.alternatives_weight (look names.now) (tree.alternatives_of
-        (tree.branches_view alternatives.now))) }
+    ensures { result ≡ capped (spec.alternatives_weight (look names.now) (tree.alternatives_view alternatives.now)) }
 {
     let mut total = 0;
     for alternative in alternatives {

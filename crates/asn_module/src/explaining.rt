@@ -135,10 +135,11 @@ fn expected(alloc: Global, before: &str) -> Result<String, AllocError> {
 }
 
 /// What is wrong with a text that `read` refused with this fault, in words: the line and the column, the token
-/// that stands there, and what could stand in its place. Of another fault than one of a character or a token,
-/// what `Display` says of it.
+/// that stands there, and what could stand there instead. Of another fault than one of a character or a token, what
+/// `Display` says of it.
 ///
-/// Err: an allocation failed.
+/// # Errors
+/// `AllocError` where an allocation failed.
 pub fn explain(alloc: Global, text: &str, fault: &ModuleFault) -> Result<String, AllocError> {
     match fault {
         ModuleFault::Character { at } => {

@@ -15,8 +15,7 @@ pub(crate) fn find<'a>(
     name: &str,
 ) -> Option<&'a Known>
     requires { Finds indices.now (names_in names.now) }
-    ensures { MatchOption result (spec.look names.now name.now ≡ None) (λ k. spec.look names.now name.now ≡
-        Some (spec.known_view k.now)) }
+    ensures { spec.SeenAs (λ k. spec.known_view k.now) result (spec.look names.now name.now) }
 {
     match indices.get(name) {
         Some(index) => {

@@ -3,7 +3,7 @@
 ghost use Rattle.std.specs.Prelude.{◌≡◌, true, false, IfOk, IfSome, MatchOption, bytes_eq};
 ghost use Rattle.asn_values.specs.Profile.{has_twice};
 ghost use Rattle.asn_notation.specs.Tree.{assignments_view};
-ghost use Rattle.asn_module.specs.Lookup.{Finds, assigned_names};
+ghost use Rattle.asn_module.specs.Lookup.{Finds, IsNoneIfTwice, assigned_names};
 
 use asn_notation::AssignmentNotation;
 use std::alloc::{AllocError, Global};
@@ -14,11 +14,8 @@ pub(crate) fn indices_of<'t>(
     alloc: Global,
     assignments: &[AssignmentNotation<'t>],
 ) -> Result<Option<HashMap<&'t str, usize>>, AllocError>
-    ensures finds { IfOk result (λ o. IfSome o (λ m. Finds m (assigned_names
-        (assignments_view assignments.now)))) }
-    ensures twice { IfOk result (λ o. MatchOption o
-        (has_twice bytes_eq (assigned_names (assignments_view assignments.now)) ≡ true)
-        (λ _. has_twice bytes_eq (assigned_names (assignments_view assignments.now)) ≡ false)) }
+    ensures finds { IfOk result (λ o. IfSome o (λ m. Finds m (assigned_names (assignments_view assignments.now)))) }
+    ensures twice { IfOk result (λ o. IsNoneIfTwice (assigned_names (assignments_view assignments.now)) o) }
 {
     let mut indices = HashMap::new(alloc);
     let mut index = assignments.len();

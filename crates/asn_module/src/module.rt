@@ -4,7 +4,7 @@ ghost use Rattle.std.specs.Prelude.{◌≡◌, None, Some, ℕ, IfOk, MatchOptio
 ghost use Rattle.std.specs.HashMap.{get_by_text};
 ghost use Rattle.asn_values.specs.View.{shape_of};
 ghost use Rattle.asn_module.specs.Accepted.{type_in};
-ghost use Rattle.asn_module.specs.Known.{known_view, look, types_of, unbuilt};
+ghost use Rattle.asn_module.specs.Known.{known_view, look, types_of, unbuilt, SeenAs};
 ghost use Rattle.asn_module.specs.Lookup.{FindsText, names_in};
 
 use crate::known::{Known, Named};
@@ -48,8 +48,7 @@ fn find_named<'a>(
     name: &str,
 ) -> Option<&'a Known>
     requires { FindsText indices.now (names_in names.now) }
-    ensures { MatchOption result (look names.now name.now ≡ None) (λ k. look names.now name.now ≡
-        Some (known_view k.now)) }
+    ensures { SeenAs (λ k. known_view k.now) result (look names.now name.now) }
 {
     match indices.get(name) {
         Some(index) => {
@@ -71,8 +70,7 @@ pub(crate) fn find_type<'a>(
 ) -> Option<&'a Checked>
     requires built { unbuilt types.now ≡ 0 }
     requires finds { FindsText indices.now (names_in types.now) }
-    ensures { MatchOption result (type_in (types_of types.now) name.now ≡ None) (λ t. type_in
-        (types_of types.now) name.now ≡ Some (shape_of t.now)) }
+    ensures { SeenAs (λ t. shape_of t.now) result (type_in (types_of types.now) name.now) }
 {
     match find_named(types, indices, name) {
         Some(known) => Some(&known.ty),

@@ -4,7 +4,7 @@ ghost use Rattle.std.specs.Prelude.{◌≡◌, ◌∷◌, [], ◌++◌, List, �
 ghost use Rattle.asn_values.specs.View.{shape_of};
 ghost use Rattle.asn_notation.specs.Grammar as g;
 ghost use Rattle.asn_notation.specs.Printed.{line};
-ghost use Rattle.asn_module.specs.Accepted.{Accepted, Typed};
+ghost use Rattle.asn_module.specs.Accepted.{IsReadAgain, Typed};
 ghost use Rattle.asn_module.specs.Known.{types_of};
 ghost use Rattle.asn_module.specs.ModuleView.{types_view};
 ghost use Rattle.asn_module.specs.Printing as spec;
@@ -35,8 +35,8 @@ fn write_assignment(
     name: &str,
     ty: &AsnType,
 ) -> Result<(), AllocError>
-    ensures { OnOk result (string_bytes out.new ≡ string_bytes out.old ++ spec.line_printed name.now
-        (shape_of ty.now)) }
+    ensures { OnOk result
+        (string_bytes out.new ≡ string_bytes out.old ++ spec.line_printed name.now (shape_of ty.now)) }
 {
     out.push_str(name)?;
     write_token(out, "::=")?;
@@ -46,8 +46,8 @@ fn write_assignment(
 
 /// The line of a name, where it has a type.
 fn write_named(out: &mut String, alloc: Global, named: &Named) -> Result<(), AllocError>
-    ensures { OnOk result (string_bytes out.new ≡ string_bytes out.old ++
-        spec.lines_printed (types_of (named.now ∷ []))) }
+    ensures { OnOk result
+        (string_bytes out.new ≡ string_bytes out.old ++ spec.lines_printed (types_of (named.now ∷ []))) }
 {
     match &named.known {
         Some(known) => write_assignment(out, alloc, named.name.as_str(), known.ty.get()),
@@ -70,13 +70,13 @@ impl Module {
     /// `END`; tokens with one SPACE between them. References are followed and bounds are effective, each written
     /// with `..`; items have their numbers.
     ///
-    /// Err: an allocation failed.
+    /// # Errors
+    /// `AllocError` where an allocation failed.
     pub fn print(&self, alloc: Global) -> Result<String, AllocError>
         // The text is the printed form of the names and types.
         ensures printed { IfOk result (λ text. string_bytes text ≡ spec.printed (types_view self.now)) }
         // It is a module of the same names and types, where these are a module's.
-        ensures read_again { IfOk result (λ text. (source : List ℕ) → Accepted source (types_view self.now) →
-            Accepted (string_bytes text) (types_view self.now)) }
+        ensures read_again { IfOk result (λ text. IsReadAgain (string_bytes text) (types_view self.now)) }
     {
         let mut out = String::new(alloc);
         write_heading(&mut out, self.name.as_str())?;

@@ -1,12 +1,12 @@
 //! Types as text: each token after one SPACE.
 
-ghost use Rattle.std.specs.Prelude.{◌≡◌, ◌∷◌, ◌++◌, OnOk, map, string_bytes};
-ghost use Rattle.asn_values.specs.View as view;
-ghost use Rattle.asn_values.specs.Shape.{enumerated};
+ghost use Rattle.std.specs.Prelude.{◌≡◌, ◌∷◌, ◌++◌, OnOk, string_bytes};
+ghost use Rattle.asn_values.specs.View.{alphabet_of, datum_of, demand_of, label_of, range_of, shape_of, size_range_of};
+ghost use Rattle.asn_values.specs.View.{labels_seen, enumerated_seen, fields_seen, alternatives_seen};
 ghost use Rattle.asn_notation.specs.Grammar as g;
 ghost use Rattle.asn_notation.specs.Tree.{integer, text};
 ghost use Rattle.asn_module.specs.Printing as spec;
-ghost use Rattle.asn_module.specs.Printing.{Adds};
+ghost use Rattle.asn_module.specs.Printing.{Writes};
 
 use asn_notation::StringKind;
 use asn_values::{Alt, AsnType, Bounds, Field, Item, Need, Size, TextKind, Value};
@@ -21,14 +21,14 @@ pub(crate) fn write_token(out: &mut String, token: &str) -> Result<(), AllocErro
 }
 
 fn write_int(out: &mut String, alloc: Global, number: i128) -> Result<(), AllocError>
-    ensures { OnOk result (Adds (g.int number) (string_bytes out.old) (string_bytes out.new)) }
+    ensures { Writes (g.int number) result out.old out.new }
 {
     let digits = format!(in alloc; "{number}")?;
     write_token(out, digits.as_str())
 }
 
 fn write_low(out: &mut String, alloc: Global, low: Option<i128>) -> Result<(), AllocError>
-    ensures { OnOk result (Adds (g.low_end low) (string_bytes out.old) (string_bytes out.new)) }
+    ensures { Writes (g.low_end low) result out.old out.new }
 {
     match low {
         None => write_token(out, "MIN"),
@@ -37,7 +37,7 @@ fn write_low(out: &mut String, alloc: Global, low: Option<i128>) -> Result<(), A
 }
 
 fn write_high(out: &mut String, alloc: Global, high: Option<i128>) -> Result<(), AllocError>
-    ensures { OnOk result (Adds (g.high_end high) (string_bytes out.old) (string_bytes out.new)) }
+    ensures { Writes (g.high_end high) result out.old out.new }
 {
     match high {
         None => write_token(out, "MAX"),
@@ -47,7 +47,7 @@ fn write_high(out: &mut String, alloc: Global, high: Option<i128>) -> Result<(),
 
 /// A comma, where something stands before.
 fn write_comma(out: &mut String, comma: bool) -> Result<(), AllocError>
-    ensures { OnOk result (Adds (spec.comma_if comma) (string_bytes out.old) (string_bytes out.new)) }
+    ensures { Writes (spec.comma_if comma) result out.old out.new }
 {
     if comma {
         write_token(out, ",")?;
@@ -57,14 +57,14 @@ fn write_comma(out: &mut String, comma: bool) -> Result<(), AllocError>
 
 /// The extension mark, after a comma where something stands before it.
 fn write_dots(out: &mut String, comma: bool) -> Result<(), AllocError>
-    ensures { OnOk result (Adds (spec.dots_tokens comma) (string_bytes out.old) (string_bytes out.new)) }
+    ensures { Writes (spec.dots_tokens comma) result out.old out.new }
 {
     write_comma(out, comma)?;
     write_token(out, "...")
 }
 
 fn write_mark(out: &mut String, marked: bool) -> Result<(), AllocError>
-    ensures { OnOk result (Adds (g.mark marked) (string_bytes out.old) (string_bytes out.new)) }
+    ensures { Writes (g.mark marked) result out.old out.new }
 {
     if marked {
         write_dots(out, true)?;
@@ -74,8 +74,7 @@ fn write_mark(out: &mut String, marked: bool) -> Result<(), AllocError>
 
 /// The range of an INTEGER, where it has bounds.
 fn write_range(out: &mut String, alloc: Global, bounds: Bounds) -> Result<(), AllocError>
-    ensures { OnOk result (Adds (g.maybe g.range (spec.range_printed (view.range_of bounds)))
-        (string_bytes out.old) (string_bytes out.new)) }
+    ensures { Writes (g.maybe g.range (spec.range_printed (range_of bounds))) result out.old out.new }
 {
     if bounds.low.is_some() || bounds.high.is_some() || bounds.ext {
         write_token(out, "(")?;
@@ -90,8 +89,7 @@ fn write_range(out: &mut String, alloc: Global, bounds: Bounds) -> Result<(), Al
 
 /// The high bound of a size.
 fn write_size_end(out: &mut String, alloc: Global, high: Option<u32>) -> Result<(), AllocError>
-    ensures { OnOk result (Adds (g.size_end (spec.size_end_printed high)) (string_bytes out.old)
-        (string_bytes out.new)) }
+    ensures { Writes (g.size_end (spec.size_end_printed high)) result out.old out.new }
 {
     write_token(out, "..")?;
     match high {
@@ -102,8 +100,7 @@ fn write_size_end(out: &mut String, alloc: Global, high: Option<u32>) -> Result<
 
 /// The size of a string or list, where it allows not every length.
 fn write_size(out: &mut String, alloc: Global, size: Size) -> Result<(), AllocError>
-    ensures { OnOk result (Adds (g.maybe g.size_con (spec.size_printed (view.size_range_of size)))
-        (string_bytes out.old) (string_bytes out.new)) }
+    ensures { Writes (g.maybe g.size_con (spec.size_printed (size_range_of size))) result out.old out.new }
 {
     if size.low > 0 || size.high.is_some() || size.ext {
         write_token(out, "(")?;
@@ -120,8 +117,7 @@ fn write_size(out: &mut String, alloc: Global, size: Size) -> Result<(), AllocEr
 
 /// An item of an ENUMERATED with its number.
 fn write_item(out: &mut String, alloc: Global, item: &Item) -> Result<(), AllocError>
-    ensures { OnOk result (Adds (g.item (spec.item_printed (view.label_of item.now))) (string_bytes out.old)
-        (string_bytes out.new)) }
+    ensures { Writes (g.item (spec.item_printed (label_of item.now))) result out.old out.new }
 {
     write_token(out, item.name.as_str())?;
     write_token(out, "(")?;
@@ -137,8 +133,7 @@ fn write_items(
     items: &[Item],
     follow: bool,
 ) -> Result<(), AllocError>
-    ensures { OnOk result (Adds (spec.items_tokens follow (map view.label_of items.now)) (string_bytes out.old)
-        (string_bytes out.new)) }
+    ensures { Writes (spec.items_tokens follow (labels_seen items.now)) result out.old out.new }
 {
     let mut comma = follow;
     for item in items {
@@ -157,8 +152,7 @@ fn write_enumerated(
     root: &[Item],
     more: &Option<Vec<Item>>,
 ) -> Result<(), AllocError>
-    ensures { OnOk result (Adds (g.written (spec.type_printed (enumerated (map view.label_of root.now)
-        (view.more_labels_of more.now)))) (string_bytes out.old) (string_bytes out.new)) }
+    ensures { Writes (g.written (spec.type_printed (enumerated_seen root.now more.now))) result out.old out.new }
 {
     write_token(out, "ENUMERATED")?;
     write_token(out, "{")?;
@@ -175,7 +169,7 @@ fn write_enumerated(
 
 /// The kind of a string.
 fn string_kind(kind: TextKind) -> StringKind
-    ensures { result ≡ spec.kind_printed (view.alphabet_of kind) }
+    ensures { result ≡ spec.kind_printed (alphabet_of kind) }
 {
     match kind {
         TextKind::Ia5 => StringKind::Ia5,
@@ -186,7 +180,7 @@ fn string_kind(kind: TextKind) -> StringKind
 
 /// The words with which a string of this kind begins.
 fn write_kind(out: &mut String, kind: StringKind) -> Result<(), AllocError>
-    ensures { OnOk result (Adds (g.string_words kind) (string_bytes out.old) (string_bytes out.new)) }
+    ensures { Writes (g.string_words kind) result out.old out.new }
 {
     match kind {
         StringKind::Bits => {
@@ -211,8 +205,7 @@ fn write_string(
     kind: StringKind,
     size: Size,
 ) -> Result<(), AllocError>
-    ensures { OnOk result (Adds (g.written (text kind (spec.size_printed (view.size_range_of size))))
-        (string_bytes out.old) (string_bytes out.new)) }
+    ensures { Writes (g.written (text kind (spec.size_printed (size_range_of size)))) result out.old out.new }
 {
     write_kind(out, kind)?;
     write_size(out, alloc, size)
@@ -221,8 +214,7 @@ fn write_string(
 /// An INTEGER.
 #[tactic(auto, using(crate::proofs::Spaces::spaces_append), unfolding(asn_notation::specs::Grammar::written))]
 fn write_integer(out: &mut String, alloc: Global, bounds: Bounds) -> Result<(), AllocError>
-    ensures { OnOk result (Adds (g.written (integer (spec.range_printed (view.range_of bounds))))
-        (string_bytes out.old) (string_bytes out.new)) }
+    ensures { Writes (g.written (integer (spec.range_printed (range_of bounds)))) result out.old out.new }
 {
     write_token(out, "INTEGER")?;
     write_range(out, alloc, bounds)
@@ -230,7 +222,7 @@ fn write_integer(out: &mut String, alloc: Global, bounds: Bounds) -> Result<(), 
 
 /// The name of the item at an index; nothing where there is none.
 fn label_name<'a>(items: &'a [Item], index: usize) -> &'a str
-    ensures { result.now ≡ spec.label_name (map view.label_of items.now) index }
+    ensures { result.now ≡ spec.label_name (labels_seen items.now) index }
 {
     if index < items.len() {
         items[index].name.as_str()
@@ -241,7 +233,7 @@ fn label_name<'a>(items: &'a [Item], index: usize) -> &'a str
 
 /// The name of the item of a type at an index; nothing where there is none.
 fn item_name<'a>(ty: &'a AsnType, index: usize) -> &'a str
-    ensures { result.now ≡ spec.item_name (view.shape_of ty.now) index }
+    ensures { result.now ≡ spec.item_name (shape_of ty.now) index }
 {
     match ty {
         AsnType::Enum { root, .. } => label_name(root, index),
@@ -265,8 +257,7 @@ fn write_default(
     ty: &AsnType,
     value: &Value,
 ) -> Result<(), AllocError>
-    ensures { OnOk result (Adds (g.default (spec.default_printed (view.shape_of ty.now) (view.datum_of value.now)))
-        (string_bytes out.old) (string_bytes out.new)) }
+    ensures { Writes (g.default (spec.default_printed (shape_of ty.now) (datum_of value.now))) result out.old out.new }
 {
     match value {
         Value::Bool(true) => write_token(out, "TRUE"),
@@ -278,8 +269,7 @@ fn write_default(
 
 /// What follows the type of a component.
 fn write_need(out: &mut String, alloc: Global, ty: &AsnType, need: &Need) -> Result<(), AllocError>
-    ensures { OnOk result (Adds (g.need (spec.need_printed (view.shape_of ty.now) (view.demand_of need.now)))
-        (string_bytes out.old) (string_bytes out.new)) }
+    ensures { Writes (g.need (spec.need_printed (shape_of ty.now) (demand_of need.now))) result out.old out.new }
 {
     match need {
         Need::Must => Ok(()),
@@ -300,8 +290,7 @@ fn write_components(
     fields: &[Field],
     follow: bool,
 ) -> Result<(), AllocError>
-    ensures { OnOk result (Adds (spec.components_tokens follow (view.fields_of (map view.part_of_field fields.now)))
-        (string_bytes out.old) (string_bytes out.new)) }
+    ensures { Writes (spec.components_tokens follow (fields_seen fields.now)) result out.old out.new }
 {
     let mut comma = follow;
     for field in fields {
@@ -323,8 +312,7 @@ fn write_alternatives(
     alternatives: &[Alt],
     follow: bool,
 ) -> Result<(), AllocError>
-    ensures { OnOk result (Adds (spec.alternatives_tokens follow
-        (view.alternatives_of (map view.branch_of alternatives.now))) (string_bytes out.old) (string_bytes out.new)) }
+    ensures { Writes (spec.alternatives_tokens follow (alternatives_seen alternatives.now)) result out.old out.new }
 {
     let mut comma = follow;
     for alternative in alternatives {
@@ -340,8 +328,7 @@ fn write_alternatives(
 #[cycle(printing)]
 #[tactic(auto, unfolding(asn_notation::specs::Grammar::written))]
 pub(crate) fn write_type(out: &mut String, alloc: Global, ty: &AsnType) -> Result<(), AllocError>
-    ensures { OnOk result (Adds (g.written (spec.type_printed (view.shape_of ty.now))) (string_bytes out.old)
-        (string_bytes out.new)) }
+    ensures { Writes (g.written (spec.type_printed (shape_of ty.now))) result out.old out.new }
 {
     match ty {
         AsnType::Bool => write_token(out, "BOOLEAN"),

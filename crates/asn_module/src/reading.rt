@@ -3,6 +3,7 @@
 ghost use Rattle.std.specs.Prelude.{◌≡◌, None, Some, ℕ, List, IfOk, IfErr, IfSome, MatchOption, MatchResult};
 ghost use Rattle.asn_values.specs.View.{shape_of};
 ghost use Rattle.asn_module.specs.Accepted.{Accepted, ModuleTypes, type_in};
+ghost use Rattle.asn_module.specs.Known.{SeenAs};
 ghost use Rattle.asn_module.specs.ModuleView.{types_view};
 
 use crate::diagnosis::fault_of;
@@ -64,13 +65,13 @@ pub(crate) fn module_of(alloc: Global, text: &str) -> Result<Option<Module>, Ref
     }
 }
 
-/// The module that a text is (X.680, "module definition"), in the notation of the profile: references
-/// followed, and the bounds along the way met.
+/// The module that a text is (X.680, "module definition"), in the notation of the profile: references followed, and the
+/// bounds along the way met.
 ///
-/// Err: the text is no module of the profile. Of several faults the first is told in this order: a character
-/// that begins no token; a token with which no module goes on; a name assigned twice; a reference to no
-/// assignment; references that lead back; a constraint on a type that it may not stand on; a type that is
-/// none of the profile. `Memory` where an allocation failed.
+/// # Errors
+/// `Memory` where an allocation failed; else the text is no module of the profile, and of several faults the first is
+/// told in this order: `Character`, `Unexpected` or `OutOfProfile` (a token with which no module goes on), `Twice`,
+/// `Unknown`, `Cycle`, `OutOfProfile` (a constraint that may not stand on the type of its reference), `BadType`.
 pub fn read(alloc: Global, text: &str) -> Result<Module, ModuleFault>
     // What is read is the module that the text is.
     ensures accepted { IfOk result (λ m. Accepted text.now (types_view m)) }
@@ -88,8 +89,7 @@ pub fn read(alloc: Global, text: &str) -> Result<Module, ModuleFault>
 impl Module {
     /// The type that the module assigns to a name; None where it assigns none. Takes no memory.
     pub fn type_named(&self, name: &str) -> Option<&Checked>
-        ensures { MatchOption result (type_in (types_view self.now).types name.now ≡ None)
-            (λ t. type_in (types_view self.now).types name.now ≡ Some (shape_of t.now)) }
+        ensures { SeenAs (λ t. shape_of t.now) result (type_in (types_view self.now).types name.now) }
     {
         find_type(&self.types, &self.indices, name)
     }

@@ -2,7 +2,7 @@
 
 ghost use Rattle.std.specs.Prelude.{◌≡◌, None, Some, MatchOption};
 ghost use Rattle.asn_values.specs.View.{shape_of};
-ghost use Rattle.asn_module.specs.Known.{built_view, Gives};
+ghost use Rattle.asn_module.specs.Known.{built_view, Gives, SeenAs};
 ghost use Rattle.asn_module.specs.Meaning as spec;
 
 use crate::bounds::{both_bounds, both_sizes, bounds_of, size_of};
@@ -24,8 +24,7 @@ pub(crate) fn may_add(before: Option<bool>, marked: bool) -> bool
 
 /// An INTEGER with a range more; None for another type.
 fn ranged(ty: AsnType, range: RangeNotation) -> Option<AsnType>
-    ensures { MatchOption result (spec.ranged (shape_of ty) range ≡ None) (λ t. spec.ranged
-        (shape_of ty) range ≡ Some (shape_of t)) }
+    ensures { SeenAs shape_of result (spec.ranged (shape_of ty) range) }
 {
     match ty {
         AsnType::Int(bounds) => Some(AsnType::Int(both_bounds(bounds, bounds_of(range)))),
@@ -44,8 +43,7 @@ fn ranged(ty: AsnType, range: RangeNotation) -> Option<AsnType>
 
 /// A string or list with a size more; None for a type without size.
 fn sized(ty: AsnType, size: SizeNotation) -> Option<AsnType>
-    ensures { MatchOption result (spec.sized (shape_of ty) size ≡ None) (λ t. spec.sized (shape_of ty) size ≡
-        Some (shape_of t)) }
+    ensures { SeenAs shape_of result (spec.sized (shape_of ty) size) }
 {
     match ty {
         AsnType::Bits(before) => Some(AsnType::Bits(both_sizes(before, size_of(size)))),
@@ -67,8 +65,9 @@ fn sized(ty: AsnType, size: SizeNotation) -> Option<AsnType>
 
 /// The type that a reference to `built` with this constraint stands for.
 ///
-/// Err: `Constraint` where the constraint may not stand on the type; `left` is the number of octets of the
-/// text from the constraint on.
+/// # Errors
+/// `Constraint` where the constraint may not stand on the type; `left` is the number of octets of the text from the
+/// constraint on.
 pub(crate) fn constrained(
     built: Built,
     constraint: Constraint,

@@ -1,8 +1,8 @@
 //! Types that hold no others, built from their notation, and the DEFAULT of a component.
 
-ghost use Rattle.std.specs.Prelude.{◌≡◌, None, Some, map, length, option_map};
+ghost use Rattle.std.specs.Prelude.{◌≡◌, None, Some, map, length};
 ghost use Rattle.asn_values.specs.View.{datum_of, demand_of, shape_of, size_range_of};
-ghost use Rattle.asn_notation.specs.Tree.{items_view, default_view, need_view};
+ghost use Rattle.asn_notation.specs.Tree.{items_view, more_items, default_view, need_view};
 ghost use Rattle.asn_module.specs.Known.{built_view, Gives};
 ghost use Rattle.asn_module.specs.Meaning as spec;
 
@@ -84,9 +84,7 @@ pub(crate) fn enumerated(
     root: &[ItemNotation],
     more: &Option<Vec<ItemNotation>>,
 ) -> Result<Built, Refusal>
-    ensures { Gives built_view result (Some (spec.free (spec.enumerated_shape
-        (spec.has_numbers (items_view root.now) (option_map (λ v. items_view v.items) more.now))
-        (items_view root.now) (option_map (λ v. items_view v.items) more.now)))) }
+    ensures { Gives built_view result (Some (spec.enumerated_meant (items_view root.now) (more_items more.now))) }
 {
     match more {
         None => {

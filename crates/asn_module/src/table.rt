@@ -5,10 +5,11 @@ ghost use Rattle.std.specs.Prelude.{Some, length, vec_len, IfOk, IfErr, IfSome, 
 ghost use Rattle.asn_values.specs.View.{shape_of};
 ghost use Rattle.asn_values.specs.Profile.{InProfile};
 ghost use Rattle.asn_notation.specs.Tree.{tree_view, assignments_view};
-ghost use Rattle.asn_module.specs.Accepted.{AreTypes, Typed};
+ghost use Rattle.asn_module.specs.Accepted.{Typed};
 ghost use Rattle.asn_module.specs.Known as spec;
 ghost use Rattle.asn_module.specs.Lookup.{Finds, names_in, assigned_names};
-ghost use Rattle.asn_module.specs.Known.{look, IsKnownOf, IsKnownAs, IsStuck, AreSound, AreDone, Attempted, unbuilt};
+ghost use Rattle.asn_module.specs.Known.{look, IsKnownOf, IsKnownOrStuck, AreAllSound, AreAllDone, AreAllTypes};
+ghost use Rattle.asn_module.specs.Known.{Attempted, unbuilt};
 
 use crate::building::build;
 use crate::counting::count;
@@ -51,8 +52,7 @@ fn build_known(
     ty: &TypeNotation,
 ) -> Result<Option<Known>, Refusal>
     requires { Finds indices.now (names_in names.now) }
-    ensures known { IfOk result (λ o. MatchOption o (IsStuck (look names.now) (tree_view ty.now))
-        (λ k. IsKnownAs (look names.now) (tree_view ty.now) k)) }
+    ensures known { IfOk result (λ o. IsKnownOrStuck (look names.now) (tree_view ty.now) o) }
     ensures memory { IfErr result (λ e. e ≡ Refusal.Memory) }
 {
     if count(names, indices, ty) > MAX_TYPES {
@@ -99,9 +99,8 @@ fn build_at(
     index: usize,
 ) -> Result<(), Refusal>
     requires finds { Finds indices.now (assigned_names (assignments_view assignments.now)) }
-    requires sound { AreSound (assignments_view assignments.now) (assignments_view assignments.now) names.old.items }
-    ensures sound { OnOk result (AreSound (assignments_view assignments.now)
-        (assignments_view assignments.now) names.new.items) }
+    requires sound { AreAllSound assignments.now names.old.items }
+    ensures sound { OnOk result (AreAllSound assignments.now names.new.items) }
     ensures memory { IfErr result (λ e. e ≡ Refusal.Memory) }
 {
     if index >= assignments.len() {
@@ -121,9 +120,8 @@ fn build_in_order(
     order: &[usize],
 ) -> Result<(), Refusal>
     requires finds { Finds indices.now (assigned_names (assignments_view assignments.now)) }
-    requires sound { AreSound (assignments_view assignments.now) (assignments_view assignments.now) names.old.items }
-    ensures sound { OnOk result (AreSound (assignments_view assignments.now)
-        (assignments_view assignments.now) names.new.items) }
+    requires sound { AreAllSound assignments.now names.old.items }
+    ensures sound { OnOk result (AreAllSound assignments.now names.new.items) }
     ensures memory { IfErr result (λ e. e ≡ Refusal.Memory) }
 {
     for index in order {
@@ -140,12 +138,10 @@ fn build_next(
     assignments: &[AssignmentNotation],
 ) -> Result<bool, Refusal>
     requires finds { Finds indices.now (assigned_names (assignments_view assignments.now)) }
-    requires sound { AreSound (assignments_view assignments.now) (assignments_view assignments.now) names.old.items }
-    ensures sound { IfOk result (λ b. AreSound (assignments_view assignments.now)
-        (assignments_view assignments.now) names.new.items) }
+    requires sound { AreAllSound assignments.now names.old.items }
+    ensures sound { IfOk result (λ b. AreAllSound assignments.now names.new.items) }
     ensures fewer { IfOk result (λ b. b ≡ true → unbuilt names.new.items < unbuilt names.old.items) }
-    ensures done { IfOk result (λ b. b ≡ false → AreDone (look names.new.items)
-        (assignments_view assignments.now) names.new.items) }
+    ensures done { IfOk result (λ b. b ≡ false → AreAllDone assignments.now names.new.items) }
     ensures memory { IfErr result (λ e. e ≡ Refusal.Memory) }
 {
     for (index, assignment) in assignments.iter().enumerate() {
@@ -164,10 +160,9 @@ fn build_all(
     assignments: &[AssignmentNotation],
 ) -> Result<(), Refusal>
     requires finds { Finds indices.now (assigned_names (assignments_view assignments.now)) }
-    requires sound { AreSound (assignments_view assignments.now) (assignments_view assignments.now) names.old.items }
-    ensures sound { OnOk result (AreSound (assignments_view assignments.now)
-        (assignments_view assignments.now) names.new.items) }
-    ensures done { OnOk result (AreDone (look names.new.items) (assignments_view assignments.now) names.new.items) }
+    requires sound { AreAllSound assignments.now names.old.items }
+    ensures sound { OnOk result (AreAllSound assignments.now names.new.items) }
+    ensures done { OnOk result (AreAllDone assignments.now names.new.items) }
     ensures memory { IfErr result (λ e. e ≡ Refusal.Memory) }
 {
     'builds: loop {
@@ -192,8 +187,7 @@ fn are_built(names: &[Named]) -> bool
 
 /// The names of the assignments, without types.
 fn names_of(alloc: Global, assignments: &[AssignmentNotation]) -> Result<Vec<Named>, AllocError>
-    ensures { IfOk result (λ v. AreSound (assignments_view assignments.now)
-        (assignments_view assignments.now) v.items) }
+    ensures { IfOk result (λ v. AreAllSound assignments.now v.items) }
 {
     let mut names = Vec::new(alloc);
     for assignment in assignments {
@@ -212,11 +206,9 @@ pub(crate) fn types_of(
     order: &[usize],
 ) -> Result<Option<Vec<Named>>, Refusal>
     requires { Finds indices.now (assigned_names (assignments_view assignments.now)) }
-    ensures sound { IfOk result (λ o. IfSome o (λ v. AreTypes (assignments_view assignments.now)
-        (assignments_view assignments.now) (spec.types_of v.items))) }
+    ensures sound { IfOk result (λ o. IfSome o (λ v. AreAllTypes assignments.now (spec.types_of v.items))) }
     ensures built { IfOk result (λ o. IfSome o (λ v. unbuilt v.items ≡ 0)) }
-    ensures none { IfOk result (λ o. o ≡ None → (ts : List Typed) → AreTypes
-        (assignments_view assignments.now) (assignments_view assignments.now) ts → ⊥) }
+    ensures none { IfOk result (λ o. o ≡ None → (ts : List Typed) → AreAllTypes assignments.now ts → ⊥) }
     ensures memory { IfErr result (λ e. e ≡ Refusal.Memory) }
 {
     let mut names = names_of(alloc, assignments)?;

@@ -1,5 +1,6 @@
 -- Tokens as text, joined by white space.
 use Rattle.std.specs.Prelude.{◌≡◌, ◌≢◌, ℕ, ◌<◌, ◌^◌, ⊤, true, List, [], ◌∷◌, ◌++◌, length, codes, slice_index}
+use Rattle.std.specs.List.{AllByRecursion}
 use Rattle.std.specs.Fmt.{decimal}
 use Rattle.asn_notation.specs.declared.token.Word.{Word}
 use Rattle.asn_notation.specs.declared.token.Word.TheVariants as words
@@ -74,6 +75,10 @@ IsPrintable (negative n) = (0 < n) × (n < 2 ^ 64)
 IsPrintable too_large = ⊥
 IsPrintable (sign s) = ⊤
 IsPrintable illegal = ⊥
+
+-- tokens that each have a text of their own
+abbrev pub ArePrintable : List Token → Type 0
+ArePrintable ts = AllByRecursion IsPrintable ts
 
 -- an identifier or a name, as a text can have it, is a whole word, and can be printed
 abbrev pub IsRead : Token → Type 0

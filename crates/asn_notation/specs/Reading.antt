@@ -382,3 +382,22 @@ type_at (suc levels) (negative n ∷ ts) = None
 type_at (suc levels) (too_large ∷ ts) = None
 type_at (suc levels) (illegal ∷ ts) = None
 type_at (suc levels) (sign u ∷ ts) = None
+
+-- components and alternatives of at most this number of levels: more of them after those found, and as in Body and CHOICE
+abbrev pub other_components : ℕ → List Part → Read (List Part)
+other_components levels found ts = all_others (component_at (type_at levels)) found ts
+
+abbrev pub more_components : ℕ → Read (Option (List Part))
+more_components levels ts = addition_list (component_at (type_at levels)) ts
+
+abbrev pub component_list : ℕ → Read (List Part × Option (List Part))
+component_list levels ts = marked_list (component_at (type_at levels)) ts
+
+abbrev pub other_alternatives : ℕ → List Branch → Read (List Branch)
+other_alternatives levels found ts = all_others (alternative_at (type_at levels)) found ts
+
+abbrev pub more_alternatives : ℕ → Read (Option (List Branch))
+more_alternatives levels ts = addition_list (alternative_at (type_at levels)) ts
+
+abbrev pub alternative_list : ℕ → Read (List Branch × Option (List Branch))
+alternative_list levels ts = marked_list (alternative_at (type_at levels)) ts

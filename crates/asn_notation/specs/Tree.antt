@@ -1,5 +1,6 @@
 -- What a module's text says, as a tree: references are not followed.
 use Rattle.std.specs.Prelude.{ℕ, ℤ, Bool, List, [], ◌∷◌, Option, Some, None, map, option_map}
+use Rattle.std.specs.Global.{Vec}
 use Rattle.asn_notation.specs.declared.notation.RangeNotation.{RangeNotation}
 use Rattle.asn_notation.specs.declared.notation.SizeNotation.{SizeNotation}
 use Rattle.asn_notation.specs.declared.notation.ListSize.{ListSize}
@@ -156,6 +157,43 @@ branch_view = fold-AlternativeNotation Tree Branch Part type_step branch_step pa
 
 abbrev pub branches_view : List AlternativeNotation → List Branch
 branches_view bs = map branch_view bs
+
+-- the components of a SEQUENCE, and the alternatives of a CHOICE
+abbrev pub components_view : List ComponentNotation → Components
+components_view cs = components_of (parts_view cs)
+
+abbrev pub alternatives_view : List AlternativeNotation → Alternatives
+alternatives_view bs = alternatives_of (branches_view bs)
+
+-- items, components and alternatives, as a reader gives them
+abbrev pub read_items : Vec ItemNotation → List Item
+read_items v = items_view v.items
+
+abbrev pub read_parts : Vec ComponentNotation → List Part
+read_parts v = parts_view v.items
+
+abbrev pub read_branches : Vec AlternativeNotation → List Branch
+read_branches v = branches_view v.items
+
+-- those after "...", where it stands
+abbrev pub more_items : Option (Vec ItemNotation) → Option (List Item)
+more_items more = option_map (λ v. items_view v.items) more
+
+abbrev pub more_parts : Option (Vec ComponentNotation) → Option (List Part)
+more_parts more = option_map (λ v. parts_view v.items) more
+
+abbrev pub more_branches : Option (Vec AlternativeNotation) → Option (List Branch)
+more_branches more = option_map (λ v. branches_view v.items) more
+
+-- those before "..." and those after it
+abbrev pub marked_items : Vec ItemNotation × Option (Vec ItemNotation) → List Item × Option (List Item)
+marked_items l = (items_view l.0.items, more_items l.1)
+
+abbrev pub marked_parts : Vec ComponentNotation × Option (Vec ComponentNotation) → List Part × Option (List Part)
+marked_parts l = (parts_view l.0.items, more_parts l.1)
+
+abbrev pub marked_branches : Vec AlternativeNotation × Option (Vec AlternativeNotation) → List Branch × Option (List Branch)
+marked_branches l = (branches_view l.0.items, more_branches l.1)
 
 abbrev pub assignment_view : AssignmentNotation → Assignment
 assignment_view a = record { name = a.name.now; tree = tree_view a.ty }

@@ -272,9 +272,11 @@ pub(crate) fn list_size_at<'t>(text: &'t str) -> Result<(ListSize, &'t str), Syn
     }
 }
 
-/// The constraint of a reference, where a parenthesis comes next, and the text after it.
+/// The constraint of a reference (X.680, "constrained types"), where a parenthesis comes next, and the text after it;
+/// `Constraint::None` and the whole text where none does.
 ///
-/// Err: as `read_notation` tells of the first token with which no constraint goes on.
+/// # Errors
+/// `Unexpected` or `OutOfProfile` at the first token with which no constraint goes on.
 #[tactic(auto, unfolding(crate::specs::Reading::constraint_at))]
 pub fn constraint_at<'t>(text: &'t str) -> Result<(Constraint, &'t str), SyntaxFault>
     ensures value { Reads (λ c. c) result (spec.constraint_at (lexed text.now)) }

@@ -1,6 +1,6 @@
 //! The items of an ENUMERATED (X.680, "enumerated type").
 
-ghost use Rattle.std.specs.Prelude.{◌≡◌, ◌≤◌, ◌<◌, [], ◌∷◌, length, IfOk, option_map};
+ghost use Rattle.std.specs.Prelude.{◌≡◌, ◌≤◌, ◌<◌, [], ◌∷◌, length, IfOk};
 ghost use Rattle.asn_notation.specs.Lexing.{lexed};
 ghost use Rattle.asn_notation.specs.Tree as tree;
 ghost use Rattle.asn_notation.specs.Reading as spec;
@@ -19,8 +19,8 @@ fn other_items<'t>(
     found: Vec<ItemNotation<'t>>,
     text: &'t str,
 ) -> Result<(Vec<ItemNotation<'t>>, &'t str), SyntaxFault>
-    ensures value { Reads (λ v. tree.items_view v.items) result (spec.all_others spec.item_at
-        (tree.items_view found.entry.items) (lexed text.now)) }
+    ensures value { Reads tree.read_items result
+        (spec.all_others spec.item_at (tree.read_items found.entry) (lexed text.now)) }
     ensures within { IfOk result (λ p. length (lexed p.1.now) ≤ length (lexed text.now)) }
 {
     let mut all = found;
@@ -41,8 +41,7 @@ fn more_items<'t>(
     alloc: Global,
     text: &'t str,
 ) -> Result<(Option<Vec<ItemNotation<'t>>>, &'t str), SyntaxFault>
-    ensures value { Reads (λ o. option_map (λ v. tree.items_view v.items) o) result
-        (spec.addition_list spec.item_at (lexed text.now)) }
+    ensures value { Reads tree.more_items result (spec.addition_list spec.item_at (lexed text.now)) }
     ensures shorter { Shortens text.now result }
 {
     if begins_sign(Sign::Comma, text) {
@@ -68,8 +67,7 @@ fn item_list<'t>(
     ),
     SyntaxFault,
 >
-    ensures value { Reads (λ l. (tree.items_view l.0.items, option_map (λ v. tree.items_view v.items) l.1)) result
-        (spec.marked_list spec.item_at (lexed text.now)) }
+    ensures value { Reads tree.marked_items result (spec.marked_list spec.item_at (lexed text.now)) }
     ensures shorter { Shortens text.now result }
 {
     let (first, rest) = item_at(text)?;

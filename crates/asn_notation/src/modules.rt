@@ -115,12 +115,12 @@ fn module_or_fault<'t>(
     }
 }
 
-/// The module that a text is, as it is written there, with at most `levels` types inside one another in
-/// an assignment.
+/// The module that a text is (X.680, "module definition"), as it is written there: references are not followed. In an
+/// assignment at most `levels` types lie inside one another, the outermost one counted.
 ///
-/// Err: `Unexpected` and `OutOfProfile` at the first token with which no module goes on, however deep; where there
-/// is none, `TooDeep` at the first token that begins a type inside `levels` others; `Memory` where an allocation
-/// failed.
+/// # Errors
+/// `Unexpected` and `OutOfProfile` at the first token with which no module goes on, however deep; where there is none,
+/// `TooDeep` at the first token that begins a type inside `levels` others; `Memory` where an allocation failed.
 pub fn read_notation<'t>(
     alloc: Global,
     text: &'t str,

@@ -1,6 +1,6 @@
 //! Types (X.680, "definition of types and values").
 
-ghost use Rattle.std.specs.Prelude.{◌≡◌, ◌≤◌, ◌<◌, ◌-◌, true, [], ◌∷◌, length, drop, IfOk, option_map};
+ghost use Rattle.std.specs.Prelude.{◌≡◌, ◌≤◌, ◌<◌, ◌-◌, true, [], ◌∷◌, length, drop, IfOk};
 ghost use Rattle.asn_notation.specs.Lexing.{lexed};
 ghost use Rattle.asn_notation.specs.Tree as tree;
 ghost use Rattle.asn_notation.specs.Reading as spec;
@@ -53,9 +53,8 @@ fn other_components<'t>(
     text: &'t str,
     levels: u32,
 ) -> Result<(Vec<ComponentNotation<'t>>, &'t str), SyntaxFault>
-    ensures value { Reads (λ v. tree.parts_view v.items) result
-        (spec.all_others (spec.component_at (spec.type_at levels)) (tree.parts_view found.entry.items)
-        (lexed text.now)) }
+    ensures value { Reads tree.read_parts result
+        (spec.other_components levels (tree.read_parts found.entry) (lexed text.now)) }
     ensures within { IfOk result (λ p. length (lexed p.1.now) ≤ length (lexed text.now)) }
 {
     let mut all = found;
@@ -78,8 +77,7 @@ fn more_components<'t>(
     text: &'t str,
     levels: u32,
 ) -> Result<(Option<Vec<ComponentNotation<'t>>>, &'t str), SyntaxFault>
-    ensures value { Reads (λ o. option_map (λ v. tree.parts_view v.items) o) result
-        (spec.addition_list (spec.component_at (spec.type_at levels)) (lexed text.now)) }
+    ensures value { Reads tree.more_parts result (spec.more_components levels (lexed text.now)) }
     ensures shorter { Shortens text.now result }
 {
     if begins_sign(Sign::Comma, text) {
@@ -110,8 +108,7 @@ fn component_list<'t>(
     ),
     SyntaxFault,
 >
-    ensures value { Reads (λ l. (tree.parts_view l.0.items, option_map (λ v. tree.parts_view v.items) l.1)) result
-        (spec.marked_list (spec.component_at (spec.type_at levels)) (lexed text.now)) }
+    ensures value { Reads tree.marked_parts result (spec.component_list levels (lexed text.now)) }
     ensures shorter { Shortens text.now result }
 {
     let (first, rest) = component_at(alloc, text, levels)?;
@@ -203,9 +200,8 @@ fn other_alternatives<'t>(
     text: &'t str,
     levels: u32,
 ) -> Result<(Vec<AlternativeNotation<'t>>, &'t str), SyntaxFault>
-    ensures value { Reads (λ v. tree.branches_view v.items) result
-        (spec.all_others (spec.alternative_at (spec.type_at levels)) (tree.branches_view found.entry.items)
-        (lexed text.now)) }
+    ensures value { Reads tree.read_branches result
+        (spec.other_alternatives levels (tree.read_branches found.entry) (lexed text.now)) }
     ensures within { IfOk result (λ p. length (lexed p.1.now) ≤ length (lexed text.now)) }
 {
     let mut all = found;
@@ -228,8 +224,7 @@ fn more_alternatives<'t>(
     text: &'t str,
     levels: u32,
 ) -> Result<(Option<Vec<AlternativeNotation<'t>>>, &'t str), SyntaxFault>
-    ensures value { Reads (λ o. option_map (λ v. tree.branches_view v.items) o) result
-        (spec.addition_list (spec.alternative_at (spec.type_at levels)) (lexed text.now)) }
+    ensures value { Reads tree.more_branches result (spec.more_alternatives levels (lexed text.now)) }
     ensures shorter { Shortens text.now result }
 {
     if begins_sign(Sign::Comma, text) {
@@ -260,8 +255,7 @@ fn alternative_list<'t>(
     ),
     SyntaxFault,
 >
-    ensures value { Reads (λ l. (tree.branches_view l.0.items, option_map (λ v. tree.branches_view v.items) l.1))
-        result (spec.marked_list (spec.alternative_at (spec.type_at levels)) (lexed text.now)) }
+    ensures value { Reads tree.marked_branches result (spec.alternative_list levels (lexed text.now)) }
     ensures shorter { Shortens text.now result }
 {
     let (first, rest) = alternative_at(alloc, text, levels)?;

@@ -12,7 +12,8 @@ use asn_per::Per;
 use asn_refused::report;
 use json_calls::{read_json, read_wrong_json, write_json};
 use module_calls::{
-    explain_a_fault, print_a_module, read_a_cycle, read_a_module, read_a_wrong_text,
+    explain_a_fault, print_a_module, read_a_cycle, read_a_deep_type, read_a_module,
+    read_a_wrong_text, read_an_empty_range,
 };
 use run_calls::{answer_lines, convert_octets, print_by_a_job};
 use std::alloc::Global;
@@ -51,6 +52,8 @@ fn calls_on_modules(rt: &impl Print, alloc: Global) -> bool {
     let mut right = report(rt, "module", "read", Ok(read_a_module(alloc)));
     right &= report(rt, "wrong text", "read", Ok(read_a_wrong_text(alloc)));
     right &= report(rt, "cycle", "read", Ok(read_a_cycle(alloc)));
+    right &= report(rt, "empty range", "read", Ok(read_an_empty_range(alloc)));
+    right &= report(rt, "deep type", "read", Ok(read_a_deep_type(alloc)));
     right &= report(rt, "module", "print", print_a_module(alloc));
     right &= report(rt, "wrong text", "explain", Ok(explain_a_fault(alloc)));
     right

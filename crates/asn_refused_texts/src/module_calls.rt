@@ -1,6 +1,7 @@
 //! The calls on modules that allocate.
 use asn_module::{Module, ModuleFault, explain, read};
 use asn_refused::{Outcome, judge};
+use asn_values::TypeFault;
 use std::alloc::{AllocError, Global};
 
 /// A module with a type of each kind that is built of others, a reference and a constraint.
@@ -36,6 +37,18 @@ const WORDS: &str =
 const CYCLE: &str =
     "M DEFINITIONS AUTOMATIC TAGS ::= BEGIN T ::= SEQUENCE { u U } U ::= SEQUENCE OF T END";
 
+/// A type whose bounds, met with those of its reference, leave no number.
+const EMPTY: &str =
+    "M DEFINITIONS AUTOMATIC TAGS ::= BEGIN T ::= SEQUENCE { u U (0..7) } U ::= INTEGER (9..MAX) END";
+
+/// A type inside 36 others.
+const DEEP: &str = "M DEFINITIONS AUTOMATIC TAGS ::= BEGIN T ::= \
+SEQUENCE OF SEQUENCE OF SEQUENCE OF SEQUENCE OF SEQUENCE OF SEQUENCE OF SEQUENCE OF SEQUENCE OF SEQUENCE OF \
+SEQUENCE OF SEQUENCE OF SEQUENCE OF SEQUENCE OF SEQUENCE OF SEQUENCE OF SEQUENCE OF SEQUENCE OF SEQUENCE OF \
+SEQUENCE OF SEQUENCE OF SEQUENCE OF SEQUENCE OF SEQUENCE OF SEQUENCE OF SEQUENCE OF SEQUENCE OF SEQUENCE OF \
+SEQUENCE OF SEQUENCE OF SEQUENCE OF SEQUENCE OF SEQUENCE OF SEQUENCE OF SEQUENCE OF SEQUENCE OF SEQUENCE OF \
+NULL END";
+
 /// `read`, of `TEXT`.
 pub fn read_a_module(alloc: Global) -> Outcome {
     match read(alloc, TEXT) {
@@ -58,6 +71,28 @@ pub fn read_a_wrong_text(alloc: Global) -> Outcome {
 pub fn read_a_cycle(alloc: Global) -> Outcome {
     match read(alloc, CYCLE) {
         Err(ModuleFault::Cycle { name }) => judge(false, *name.as_str() == *"T"),
+        Err(ModuleFault::Memory) => Outcome::Memory,
+        _ => Outcome::Wrong,
+    }
+}
+
+/// `read`, of `EMPTY`.
+pub fn read_an_empty_range(alloc: Global) -> Outcome {
+    read_a_bad_type(alloc, EMPTY, TypeFault::EmptyRange)
+}
+
+/// `read`, of `DEEP`.
+pub fn read_a_deep_type(alloc: Global) -> Outcome {
+    read_a_bad_type(alloc, DEEP, TypeFault::TooDeep)
+}
+
+/// `read`, of a text in which T has this fault.
+fn read_a_bad_type(alloc: Global, text: &str, wanted: TypeFault) -> Outcome {
+    match read(alloc, text) {
+        Err(ModuleFault::BadType { name, fault }) => judge(
+            false,
+            *name.as_str() == *"T" && fault == wanted,
+        ),
         Err(ModuleFault::Memory) => Outcome::Memory,
         _ => Outcome::Wrong,
     }

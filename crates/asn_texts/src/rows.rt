@@ -9,7 +9,7 @@
 //! - `type | TYPE | TYPE`: so a type is printed.
 //! - `named | NAME | TEXT | ANSWER`: whether the text after the heading assigns the name, `yes` or `no`.
 //! - `explain | TEXT | WORDS`: so the fault of a whole text is explained.
-//! - `json | TYPE | JSON | ANSWER`: so `from_json` answers to the JSON: what `to_json` makes of the value, or the fault.
+//! - `json | TYPE | JSON | ANSWER`: so `from_json` answers to the JSON, what `to_json` makes of the value or the fault.
 use crate::cells::{HEADING, cut, printed, text_of};
 use anyhow::{Context, Result, bail, ensure};
 use asn_json::{JsonFault, from_json, to_json};

@@ -1,5 +1,5 @@
 -- Names and their indexes: one name more in front, and what stands at an index.
-use Rattle.std.proofs.Common.{◌≡◌, ◌+◌, ◌-◌, ◌<◌, ◌≤◌, ℕ, zero, suc, Bool, true, false, cond, ◌||◌, List, [], ◌∷◌, get_or, drop, length, map, Option, Some, None, refl, sym, ap, subst, ◌∙◌, arith}
+use Rattle.std.proofs.Common.{◌≡◌, ◌+◌, ◌-◌, ◌<◌, ◌≤◌, ℕ, zero, suc, Bool, true, false, cond, ◌||◌, List, [], ◌∷◌, get_or, drop, length, Option, Some, None, refl, sym, ap, ◌∙◌, arith}
 use denote.Ref.{Bor}
 use Rattle.std.specs.Prelude.{bytes_eq, string_bytes, is_some, MatchOption}
 use Rattle.std.specs.HashMap.{HashMap}
@@ -8,7 +8,7 @@ use Rattle.std.specs.List.{list_any}
 use Rattle.std.specs.Cmp.Lexicographic.{nat_list_eq_equiv}
 use Rattle.asn_values.specs.Profile.{has_twice}
 use Rattle.asn_notation.specs.declared.notation.AssignmentNotation.{AssignmentNotation}
-use Rattle.asn_notation.specs.Tree.{Assignment, assignment_view, assignments_view}
+use Rattle.asn_notation.specs.Tree.{Assignment, assignments_view}
 use Rattle.asn_module.specs.declared.known.Known.{Known}
 use Rattle.asn_module.specs.declared.known.Named.{Named}
 use Rattle.asn_module.specs.Meaning.{Meant}

@@ -1,4 +1,4 @@
-use Rattle.std.proofs.Common.{◌≡◌, ◌∙◌, ◌-◌, suc, sym, ap, get_or, arith, refl, bytes_eq}
+use Rattle.std.proofs.Common.{◌≡◌, ◌∙◌, ◌-◌, suc, sym, ap, get_or, arith, bytes_eq}
 use Rattle.std.specs.Prelude.{is_some}
 use Rattle.std.specs.HashMap as hash
 use Rattle.std.proofs.lemmas.Map.Text.{hash_map_updates_str}

@@ -1,5 +1,5 @@
-use Rattle.std.proofs.Common.{rules, ◌≡◌, ◌∙◌, ◌-◌, suc, get_or, ap, arith, sym}
-use Rattle.std.specs.Prelude.{string_bytes, bytes_eq}
+use Rattle.std.proofs.Common.{rules, ◌≡◌, ◌-◌, suc, get_or, ap, arith}
+use Rattle.std.specs.Prelude.{string_bytes}
 use Rattle.std.specs.HashMap as hash
 use Rattle.std.proofs.lemmas.Map.Text.{hash_map_updates_text}
 use Rattle.asn_module.specs.Lookup.{names_in}

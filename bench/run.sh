@@ -27,7 +27,7 @@ for from in "$top"/crates/*/; do
     if [ -d "${from}out" ] && [ ! -d "$to/out" ]; then cp -a "${from}out" "$to/out"; fi
 done
 cp "$top/HANDLES" "$room/"
-{ cat "$top/crates.txt"; echo "asn_bench: asn_values asn_rules asn_per asn_oer asn_module anyhow hex"; } >"$room/crates.txt"
+{ cat "$top/crates.txt"; echo "asn_bench: asn_values asn_rules asn_per asn_oer asn_newer asn_module anyhow hex"; } >"$room/crates.txt"
 cp "$here/codec/main.rt.in" "$room/crates/asn_bench/src/main.rt"
 
 # the messages: a module of all types, and the octets that the Rust program gives by hand

@@ -19,7 +19,7 @@ use Rattle.asn_rules.proofs.Headed.{plain_front}
 use Rattle.asn_rules.proofs.Parts.{contents-ones}
 use Rattle.asn_newer.specs.Skipped.{Skipped, Reading}
 use Rattle.asn_newer.specs.Loose.{LooseCoding, Complete, Known, Loose}
-use Rattle.asn_newer.specs.Halting.{Halts, halt_of}
+use Rattle.asn_newer.specs.Halting.{Halts, halt_of, halt_of_field}
 use Rattle.asn_newer.specs.Walking.{ReadingAfter, ReadsContent, HaltsContent}
 use Rattle.asn_newer.specs.declared.halt.Halt.{Halt}
 use Rattle.asn_newer.specs.declared.halt.Halt.TheVariants as halt
@@ -99,7 +99,7 @@ module _ (l : LooseCoding) (h : WayLaws l) (t : Shape) {os us r : List ℕ} (fra
   pub known_read : {before : List Skipped} {v : Datum} {after : List Skipped} → ReadsContent l t before v after os → Spells l.coding.ruling.fielding (ReadingAfter before (Known l.coding (Loose l t))) (v, after) us r
   known_read {before} {v} {after} k = taken (record { skipped = k.skipped; same = k.same; spelt = field_read {C = Complete l.coding (Loose l t)} {a = (v, k.skipped)} frame k.complete })
 
-  pub known_none : (why : Halt) → HaltsContent l t os why → Halts l.coding (Known l.coding (Loose l t)) us why
+  pub known_none : (why : Halt) → HaltsContent l t os why → Halts l.coding (Known l.coding (Loose l t)) us (halt_of_field why)
   known_none halt.Refused n = record { told = no_content (part l h) frame n.told }
   known_none halt.Short n = record { told = no_content (part l h) frame n.told }
   known_none halt.TooMany n = record { told = no_content (part l h) frame n.told }

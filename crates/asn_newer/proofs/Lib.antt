@@ -19,6 +19,8 @@ pub mod ElementsRead
 pub mod InTypes
 pub mod Sizes
 pub mod ChoicesAndSequences
+pub mod BoundedEntries
+pub mod PastProfile
 pub mod PerItems
 pub mod OerItems
 pub mod MessagesRead

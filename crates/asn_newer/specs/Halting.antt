@@ -20,8 +20,21 @@ pub record Halts {V : Type 0} (c : Coding) (L : V → List Chunk → Type 0) (us
 abbrev pub HaltsAt : {V : Type 0} → Coding → (V → List Chunk → Type 0) → List ℕ → Halt → Type 0
 HaltsAt c L old why = Halts c L (c.to_units old) why
 
+-- too many is told only where that is so, and a plain refusal only where it is not
+abbrev pub TellsPast : Type 0 → Halt → Type 0
+TellsPast P halt.TooMany = P
+TellsPast P halt.Refused = P → ⊥
+TellsPast P _ = ⊤
+
 -- as a reader of a part stops
 abbrev pub halt_of : Stop → Halt
 halt_of (stop.Refused left why) = halt.Refused
 halt_of stop.Short = halt.Short
 halt_of stop.Memory = halt.Memory
+
+-- an open type field whose content ends too early is refused: the field itself has come whole
+abbrev pub halt_of_field : Halt → Halt
+halt_of_field halt.Short = halt.Refused
+halt_of_field halt.Refused = halt.Refused
+halt_of_field halt.TooMany = halt.TooMany
+halt_of_field halt.Memory = halt.Memory

@@ -1,9 +1,10 @@
 -- What PER and OER say of items that a type has not.
-use Rattle.std.specs.Prelude.{◌-◌, ◌<◌, ◌≤◌, ℤ, pos, negsuc, List, ◌∷◌, ◌++◌, length, IsTrue, IsFalse}
+use Rattle.std.specs.Prelude.{◌≡◌, ◌≢◌, ◌-◌, ◌+◌, ◌^◌, ◌<◌, ◌≤◌, ℕ, ℤ, pos, negsuc, List, ◌∷◌, ◌++◌, length, IsTrue, IsFalse}
 use Rattle.std.specs.List.{AllByRecursion}
 use Rattle.std.specs.Int.RustNames.{int_lt}
 use Rattle.asn_values.specs.Shape.{Label}
-use Rattle.asn_values.specs.Profile.{most_additions, is_not_32_bits}
+use Rattle.asn_values.specs.Profile.{most_additions, most_alternatives, is_not_32_bits}
+use Rattle.asn_bits.specs.Numbers.{bits}
 use Rattle.asn_rules.specs.Components.{number_at}
 use Rattle.asn_rules.specs.IntegerSets.{magnitude_of}
 use Rattle.asn_oer.specs.Oer.{item_number}
@@ -27,6 +28,20 @@ per_loose = record {
   told_number = λ root additions p. pos (p - length root);
 }
 
+-- a count of additions past the profile begins so: its normally small length is above 64
+pub record IsCountPast (us : List ℕ) : Type 0 where
+  pub rest : List ℕ
+  pub split : us ≡ 1 ∷ rest
+
+-- an alternative past the profile: the extension bit, which is 1, and the bits of its index, as one number, from which
+-- the index follows by taking 128 away
+pub record IsIndexPast (root : ℕ) (us : List ℕ) : Type 0 where
+  pub number : ℕ
+  pub rest : List ℕ
+  pub fits : number < 2 ^ 8
+  pub past : 128 + most_alternatives ≤ root + number
+  pub split : us ≡ bits 8 number ++ rest
+
 -- ---- OER: the number ("encoding of enumerated types")
 
 -- above those of the type, and within the profile
@@ -41,3 +56,17 @@ oer_loose = record {
   unknown_units = item_number;
   told_number = λ root additions p. number_at (root ++ additions) p;
 }
+
+-- a count of additions past the profile begins so: its presence bits have more octets than those of 64 additions, in a
+-- length of one octet, or in one that says of how many it is
+pub record IsLengthPast (us : List ℕ) : Type 0 where
+  pub length : ℕ
+  pub rest : List ℕ
+  pub past : 9 < length
+  pub definite : length ≢ 128
+  pub split : us ≡ length ∷ rest
+
+-- a tag past the profile begins so: those up to 62 are one octet, and others have 191 in front
+pub record IsTagPast (root : ℕ) (us : List ℕ) : Type 0 where
+  pub rest : List ℕ
+  pub split : us ≡ 191 ∷ rest

@@ -1,11 +1,12 @@
 //! The presence bits of extension additions, of any count that the profile allows.
 ghost use Rattle.std.specs.Prelude.{◌≡◌, ◌≤◌, ◌<◌, IfOk, IfErr, IfSome, IsSome, IsNone, OnOk};
 ghost use Rattle.asn_walk.specs.Reading.{Reads};
-ghost use Rattle.asn_newer.specs.Halting.{HaltsAt};
+ghost use Rattle.asn_newer.specs.Halting.{HaltsAt, TellsPast};
 ghost use Rattle.asn_newer.specs.Loose.{AnyBitmap};
 ghost use Rattle.asn_newer.specs.Bitmaps.{bitmap_seen, NotOfCount};
 
 use crate::halt::Halt;
+use crate::leaves::ReadVersions;
 use asn_bits::BitCursor;
 use asn_rules::internal::Stop;
 use asn_walk::{PresenceBits, ReadLeaves};
@@ -15,36 +16,72 @@ use std::alloc::AllocError;
 const MOST_ADDITIONS: u32 = 64;
 
 /// Reads the presence bits of extension additions, of which one at least is present: as many as the sender's type has,
-/// from 1 to 64.
+/// from 1 to 64. `likely` is the count that is tried first, that of the receiver's type, and 0 where it has none.
 ///
 /// # Errors
-/// `Memory` where memory was wanting; else no such bits stand there, of any count. `TooMany` tells that no such count
-/// begins so, `Short` that the bits of one may still follow, `Refused` the rest: which of the three is not promised.
-pub fn read_any_bitmap<R: ReadLeaves>(units: &mut BitCursor<'_>) -> Result<PresenceBits, Halt>
+/// `Memory` where memory was wanting; else no such bits stand there, of any count. `TooMany` where a count past the
+/// profile begins there, and `Refused` only where none does; `Short` where the bits of a count may still follow.
+pub fn read_any_bitmap<R: ReadVersions>(
+    likely: u32,
+    units: &mut BitCursor<'_>,
+) -> Result<PresenceBits, Halt>
     requires at_unit { R.rules.at_unit units.old }
+    requires few { likely ≤ 64 }
     ensures at_unit { OnOk result (R.rules.at_unit units.new) }
     ensures few { IfOk result (λ p. p.left ≤ 64) }
     ensures done { IfOk result (λ p. Reads R.rules (AnyBitmap R.rules) (bitmap_seen p) units.old units.new) }
     ensures stop { IfErr result (λ why. HaltsAt R.rules (AnyBitmap R.rules) units.old why) }
+    ensures past { IfErr result (λ why. TellsPast (R.count_past (R.rules.to_units units.old)) why) }
 {
-    let all = R::units_left(units);
-    let mut why = Halt::TooMany;
+    if let Some(presence) = try_likely::<R>(likely, units) {
+        return Ok(presence);
+    }
+    let mut is_short = false;
     for count in 1..MOST_ADDITIONS + 1 {
-        match try_count::<R>(count, all, &mut why, units) {
+        match try_count::<R>(count, &mut is_short, units) {
             Ok(Some(presence)) => return Ok(presence),
             Ok(None) => {}
             Err(_) => return Err(Halt::Memory),
         }
     }
-    Err(why)
+    if R::is_count_past(units) {
+        return Err(Halt::TooMany);
+    }
+    if is_short {
+        return Err(Halt::Short);
+    }
+    Err(Halt::Refused)
+}
+
+/// Fast path: the presence bits of `count` extension additions, where they stand there; otherwise takes nothing.
+#[inline(always)]
+fn try_likely<R: ReadVersions>(count: u32, units: &mut BitCursor<'_>) -> Option<PresenceBits>
+    requires at_unit { R.rules.at_unit units.old }
+    requires few { count ≤ 64 }
+    ensures at_unit { R.rules.at_unit units.new }
+    ensures few { IfSome result (λ p. p.left ≤ 64) }
+    ensures done { IfSome result (λ p. Reads R.rules (AnyBitmap R.rules) (bitmap_seen p) units.old units.new) }
+    ensures none { IsNone result → units.new ≡ units.old }
+{
+    if count == 0 {
+        return None;
+    }
+    let mut ahead = units.copied();
+    let Ok(bitmap) = R::read_addition_bitmap(count, &mut ahead) else {
+        return None;
+    };
+    *units = ahead;
+    Some(PresenceBits {
+        bitmap,
+        left: count,
+    })
 }
 
 /// Reads the presence bits of `count` extension additions, of which one at least is present. None where they do not
-/// stand there: then nothing is taken, and `why` is what is told of the counts that were tried.
-fn try_count<R: ReadLeaves>(
+/// stand there: then nothing is taken, and `is_short` is set where they may still follow.
+fn try_count<R: ReadVersions>(
     count: u32,
-    all: u128,
-    why: &mut Halt,
+    is_short: &mut bool,
     units: &mut BitCursor<'_>,
 ) -> Result<Option<PresenceBits>, AllocError>
     requires at_unit { R.rules.at_unit units.old }
@@ -66,21 +103,11 @@ fn try_count<R: ReadLeaves>(
                 left: count,
             }))
         }
-        Err(Stop::Refused { left, .. }) => {
-            note_refusal(why, left, all);
-            Ok(None)
-        }
+        Err(Stop::Refused { .. }) => Ok(None),
         Err(Stop::Short) => {
-            *why = Halt::Short;
+            *is_short = true;
             Ok(None)
         }
         Err(Stop::Memory) => Err(AllocError),
-    }
-}
-
-/// Where a count was refused after its first unit, some count can begin so.
-fn note_refusal(why: &mut Halt, left: u128, all: u128) {
-    if matches!(why, Halt::TooMany) && left < all.saturating_sub(1) {
-        *why = Halt::Refused;
     }
 }

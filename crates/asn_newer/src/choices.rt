@@ -12,6 +12,7 @@ ghost use Rattle.asn_newer.specs.Reading.{skipped_seen};
 ghost use Rattle.asn_newer.specs.Walking.{loose_by, ReadingAfter, IsMarkedChoice};
 
 use crate::halt::Halt;
+use crate::indexes::read_any_index;
 use crate::leaves::ReadVersions;
 use crate::reader::{read, read_known};
 use crate::skipping::skip_field;
@@ -20,9 +21,6 @@ use asn_rules::Skipped;
 use asn_values::{Alt, AsnType, Value};
 use asn_walk::{Index, ReadLeaves};
 use std::alloc::{AllocError, Global};
-
-/// The most alternatives of a CHOICE.
-const MOST_ALTERNATIVES: usize = 63;
 
 /// Reads a CHOICE without an extension mark.
 #[cycle(newer)]
@@ -59,7 +57,8 @@ pub(crate) fn read_marked_choice<R: ReadVersions>(
     units: &mut BitCursor<'_>,
 ) -> Result<Value, Halt>
     requires at_unit { R.rules.at_unit units.old }
-    requires of_profile { InProfile (choice (alternatives_seen root.now) (marked_choice (alternatives_seen additions.now))) }
+    requires of_profile { InProfile
+        (choice (alternatives_seen root.now) (marked_choice (alternatives_seen additions.now))) }
     requires parts { IsMarkedChoice _ty.now root.now additions.now }
     ensures at_unit { OnOk result (R.rules.at_unit units.new) }
     ensures done { IfOk result (λ v. Reads R.rules (ReadingAfter (skipped_seen skipped.old.items)
@@ -72,7 +71,7 @@ pub(crate) fn read_marked_choice<R: ReadVersions>(
 {
     R::keep_walk_laws();
     let known = root.len();
-    match R::read_index(known, Some(MOST_ALTERNATIVES - known), units)? {
+    match read_any_index::<R>(known, units)? {
         Index::Root(index) => read_root_alternative::<R>(alloc, root, index, skipped, units),
         Index::Added(index) => {
             read_added_alternative::<R>(alloc, additions, known + index, index, skipped, units)
@@ -104,8 +103,8 @@ fn read_root_alternative<R: ReadVersions>(
     Ok(chosen(alloc, index, value)?)
 }
 
-/// Reads an open type field with the alternative that has this tag and this index among the additions: a value of it, or
-/// octets that are skipped where the type has it not.
+/// Reads an open type field with the alternative that has this tag and this index among the additions: a value of it,
+/// or octets that are skipped where the type has it not.
 #[cycle(newer)]
 fn read_added_alternative<R: ReadVersions>(
     alloc: Global,

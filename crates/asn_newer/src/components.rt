@@ -1,12 +1,15 @@
 //! The components of a SEQUENCE in messages of newer and older senders: those of the root, and the extension additions.
-ghost use Rattle.std.specs.Prelude.{◌≡◌, ◌≤◌, ◌<◌, ◌+◌, ◌++◌, IfOk, IfErr, OnOk, length, vec_len, vec_capacity};
+ghost use Rattle.std.specs.Prelude.{◌≡◌, ◌≤◌, ◌<◌, ◌+◌, ◌++◌, [], true, false, Some, IfOk, IfErr, IfSome, IsSome, IsNone, OnOk, length, vec_len, vec_capacity};
 ghost use Rattle.std.specs.Option.{option_map};
+ghost use Rattle.asn_values.specs.Datum.{number};
 ghost use Rattle.asn_values.specs.Profile.{InProfile};
 ghost use Rattle.asn_values.specs.Parts.{AreOfProfile, IsGoodDemand};
 ghost use Rattle.asn_values.specs.View.{datum_of, part_of_field, fields_seen, entries_seen};
 ghost use Rattle.asn_bits.specs.Numbers.{bits};
+ghost use Rattle.asn_rules.specs.Components.{has_presence_bit};
 ghost use Rattle.asn_rules.specs.Listed.{bitmap_length};
 ghost use Rattle.asn_walk.specs.Coding.{absent_entries};
+ghost use Rattle.asn_walk.specs.Integers.{IsOfProfile};
 ghost use Rattle.asn_walk.specs.Reading.{Reads};
 ghost use Rattle.asn_newer.specs.Bitmaps.{bits_left};
 ghost use Rattle.asn_newer.specs.Halting.{HaltsAt};
@@ -22,9 +25,9 @@ use crate::reader::{read, read_known};
 use crate::skipping::skip_fields;
 use asn_bits::BitCursor;
 use asn_rules::Skipped;
-use asn_values::{Field, Need, Value};
-use asn_walk::PresenceBits;
-use asn_walk_read::absent;
+use asn_values::{AsnType, Field, Need, Value};
+use asn_walk::{PresenceBits, has_presence_bit};
+use asn_walk_read::{absent, try_integer};
 use std::alloc::{AllocError, Global};
 
 /// Reads the components of a root that the presence bits tell, in order, and appends their entries.
@@ -53,11 +56,38 @@ pub(crate) fn read_components<R: ReadVersions>(
     R::keep_walk_laws();
     let mut presence = presence;
     for field in fields {
+        if let Some(number) = try_bounded::<R>(field, units) {
+            entries.push_reserved(Some(Value::Int(number)));
+            continue;
+        }
         let present = presence.next_of(field);
         let entry = read_entry::<R>(alloc, field, present, skipped, units)?;
         entries.push_reserved(entry);
     }
     Ok(())
+}
+
+/// Fast path: the INTEGER of a component that is always present and has two bounds and no extension mark, where its
+/// units are at hand and it lies between them; otherwise takes nothing.
+#[inline(always)]
+fn try_bounded<R: ReadVersions>(field: &Field, units: &mut BitCursor<'_>) -> Option<i128>
+    requires at_unit { R.rules.at_unit units.old }
+    requires of_profile { InProfile (part_of_field field.now).shape }
+    ensures at_unit { R.rules.at_unit units.new }
+    ensures must { IsSome result → has_presence_bit (part_of_field field.now).demand ≡ false }
+    ensures some { IfSome result (λ z. Reads R.rules
+        (LooseEntry (loose_by R.rules R.loose) (part_of_field field.now).demand (part_of_field field.now).shape true)
+        (Some (number z), []) units.old units.new) }
+    ensures of_integers { IfSome result IsOfProfile }
+    ensures none { IsNone result → units.new ≡ units.old }
+{
+    if has_presence_bit(field) {
+        return None;
+    }
+    match &field.ty {
+        AsnType::Int(_) => try_integer::<R>(&field.ty, units),
+        _ => None,
+    }
 }
 
 /// Reads the entry of a component, of which `present` says whether it is there.
@@ -75,7 +105,8 @@ fn read_entry<R: ReadVersions>(
     requires good { IsGoodDemand (part_of_field field.now).demand (part_of_field field.now).shape }
     ensures at_unit { OnOk result (R.rules.at_unit units.new) }
     ensures done { IfOk result (λ e. Reads R.rules (ReadingAfter (skipped_seen skipped.old.items)
-        (LooseEntry (loose_by R.rules R.loose) (part_of_field field.now).demand (part_of_field field.now).shape present))
+        (LooseEntry (loose_by R.rules R.loose)
+        (part_of_field field.now).demand (part_of_field field.now).shape present))
         (option_map datum_of e, skipped_seen skipped.new.items) units.old units.new) }
     ensures stop { IfErr result (λ why. HaltsAt R.rules
         (LooseEntry (loose_by R.rules R.loose) (part_of_field field.now).demand (part_of_field field.now).shape present)
@@ -112,7 +143,7 @@ pub(crate) fn read_additions<R: ReadVersions>(
         (LooseAdditions (loose_by R.rules R.loose) (fields_seen fields.now)) units.old why) }
 {
     R::keep_walk_laws();
-    let presence = read_any_bitmap::<R>(units)?;
+    let presence = read_any_bitmap::<R>(fields.len() as u32, units)?;
     read_open_fields::<R>(alloc, fields, presence, entries, skipped, units)
 }
 

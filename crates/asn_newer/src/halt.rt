@@ -1,6 +1,6 @@
 //! Why a reader of messages of newer and older senders gave no value.
 ghost use Rattle.std.specs.Prelude.{◌≡◌};
-ghost use Rattle.asn_newer.specs.Halting.{halt_of};
+ghost use Rattle.asn_newer.specs.Halting.{halt_of, halt_of_field};
 ghost use Rattle.asn_newer.specs.declared.halt.Halt.TheVariants.{Memory};
 
 use asn_rules::internal::Stop;
@@ -13,7 +13,7 @@ pub enum Halt {
     Refused,
     /// The units end before a message does.
     Short,
-    /// A count of extension additions past the profile.
+    /// A count of extension additions past the profile, or an index or a tag.
     TooMany,
     /// An allocation failed.
     Memory,
@@ -44,5 +44,16 @@ impl<T: Drop> From<AllocFailed<T>> for Halt {
 
     fn from(_: AllocFailed<T>) -> Halt {
         Halt::Memory
+    }
+}
+
+/// What is told of an open type field, where the reader of its content says this: the octets of the field have all
+/// come, so none of the message is wanting where they are too few for the content.
+pub(crate) fn halt_of_field(halt: Halt) -> Halt
+    ensures { result ≡ halt_of_field halt }
+{
+    match halt {
+        Halt::Short => Halt::Refused,
+        Halt::Refused | Halt::TooMany | Halt::Memory => halt,
     }
 }

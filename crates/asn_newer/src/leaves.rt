@@ -1,5 +1,5 @@
 //! What a set of encoding rules gives to the reader of messages of newer and older senders, beside its parts.
-ghost use Rattle.std.specs.Prelude.{◌≡◌, IfOk, IfErr, OnOk};
+ghost use Rattle.std.specs.Prelude.{◌≡◌, ◌≤◌, ◌↔◌, ℕ, List, IfOk, IfErr, IsTrue, OnOk};
 ghost use Rattle.asn_values.specs.Profile.{InProfile};
 ghost use Rattle.asn_values.specs.Shape.{enumerated, marked_labels};
 ghost use Rattle.asn_values.specs.View.{labels_seen};
@@ -16,6 +16,24 @@ use asn_walk::ReadLeaves;
 
 /// Encoding rules of which the parts and the unknown items can be read.
 pub trait ReadVersions: ReadLeaves + OtherVersions {
+    /// A count of extension additions past the profile begins these units.
+    ghost count_past: { List ℕ → Type 0 };
+
+    /// The index or the tag of an alternative past the profile begins these units, where the root has that many.
+    ghost index_past: { ℕ → List ℕ → Type 0 };
+
+    /// Whether a count of extension additions past the profile stands next.
+    fn is_count_past(units: &BitCursor<'_>) -> bool
+        requires at_unit { Self.rules.at_unit units.now }
+        ensures { IsTrue result ↔ Self.count_past (Self.rules.to_units units.now) };
+
+    /// Whether the index or the tag of an alternative past the profile stands next, in a CHOICE with `root`
+    /// alternatives in the root.
+    fn is_index_past(root: usize, units: &BitCursor<'_>) -> bool
+        requires at_unit { Self.rules.at_unit units.now }
+        requires few { root ≤ 63 }
+        ensures { IsTrue result ↔ Self.index_past root (Self.rules.to_units units.now) };
+
     /// Reads the number that tells an item that an ENUMERATED with an extension mark has not.
     fn read_unknown_item(
         root: &[Item],
@@ -23,7 +41,8 @@ pub trait ReadVersions: ReadLeaves + OtherVersions {
         units: &mut BitCursor<'_>,
     ) -> Result<i128, Halt>
         requires at_unit { Self.rules.at_unit units.old }
-        requires of_profile { InProfile (enumerated (labels_seen root.now) (marked_labels (labels_seen additions.now))) }
+        requires of_profile { InProfile
+            (enumerated (labels_seen root.now) (marked_labels (labels_seen additions.now))) }
         ensures at_unit { OnOk result (Self.rules.at_unit units.new) }
         ensures done { IfOk result (λ z.
             Reads Self.rules (UnknownItem Self.loose (labels_seen root.now) (labels_seen additions.now)) z

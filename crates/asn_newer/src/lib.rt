@@ -6,6 +6,7 @@ mod choices;
 mod components;
 mod fault;
 mod halt;
+mod indexes;
 mod items;
 pub mod laws;
 mod leaves;

@@ -7,6 +7,7 @@ ghost use Rattle.asn_bits.specs.Numbers.{magnitude, packed};
 ghost use Rattle.asn_rules.specs.Counted.{signed_number};
 ghost use Rattle.asn_rules.specs.OctetReading.{AtOctet};
 ghost use Rattle.asn_newer.specs.ItemNumbers.{IsItemNumber};
+ghost use Rattle.asn_newer.specs.Rules.{IsLengthPast, IsTagPast};
 
 use crate::halt::Halt;
 use crate::leaves::ReadVersions;
@@ -17,6 +18,26 @@ use asn_values::Item;
 
 #[tactic(auto, unfolding(crate::specs::Rules::oer_loose))]
 impl ReadVersions for Oer {
+    ghost count_past = { IsLengthPast };
+
+    ghost index_past = { IsTagPast };
+
+    /// The presence bits of 64 additions have a length of 9 octets.
+    fn is_count_past(units: &BitCursor<'_>) -> bool {
+        let Some(octet) = units.peek_number(8) else {
+            return false;
+        };
+        octet > 9 && octet != 128
+    }
+
+    /// A tag up to 62 is one octet, and the octet 191 begins those above.
+    fn is_index_past(_root: usize, units: &BitCursor<'_>) -> bool {
+        let Some(octet) = units.peek_number(8) else {
+            return false;
+        };
+        octet == 191
+    }
+
     /// A number above those of the type.
     fn read_unknown_item(
         root: &[Item],

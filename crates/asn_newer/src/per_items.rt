@@ -1,4 +1,6 @@
 //! The items that an ENUMERATED with an extension mark has not, as PER tells them.
+ghost use Rattle.asn_newer.specs.Rules.{IsCountPast, IsIndexPast};
+
 use crate::halt::Halt;
 use crate::leaves::ReadVersions;
 use asn_bits::BitCursor;
@@ -7,6 +9,26 @@ use asn_values::Item;
 
 #[tactic(auto, unfolding(crate::specs::Rules::per_loose))]
 impl ReadVersions for Per {
+    ghost count_past = { IsCountPast };
+
+    ghost index_past = { IsIndexPast };
+
+    /// A normally small length is 0 and 6 bits; a bit 1 is that of one above 64.
+    fn is_count_past(units: &BitCursor<'_>) -> bool {
+        let Some(bit) = units.peek_number(1) else {
+            return false;
+        };
+        bit == 1
+    }
+
+    /// A bit 1 and a normally small number: 0 and 6 bits, or a bit 1 where it is above 63.
+    fn is_index_past(root: usize, units: &BitCursor<'_>) -> bool {
+        let Some(number) = units.peek_number(8) else {
+            return false;
+        };
+        number + root as u64 >= 191
+    }
+
     /// A bit 1 and a normally small number, 0 and 6 bits: the index among the additions.
     fn read_unknown_item(
         _root: &[Item],

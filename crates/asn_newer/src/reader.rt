@@ -25,7 +25,7 @@ ghost use Rattle.asn_newer.specs.Walking.{
 
 use crate::choices::{read_closed_choice, read_marked_choice};
 use crate::components::{push_absent, read_additions, read_components};
-use crate::halt::Halt;
+use crate::halt::{Halt, halt_of_field};
 use crate::items::read_any_item;
 use crate::leaves::ReadVersions;
 use asn_bits::BitCursor;
@@ -178,7 +178,10 @@ pub(crate) fn read_known<R: ReadVersions>(
 {
     R::keep_walk_laws();
     let octets = R::read_open_octets(alloc, units)?;
-    read_content::<R>(alloc, ty, &octets, skipped)
+    match read_content::<R>(alloc, ty, &octets, skipped) {
+        Ok(value) => Ok(value),
+        Err(halt) => Err(halt_of_field(halt)),
+    }
 }
 
 /// Reads octets that are the complete encoding of a value of the type.

@@ -1,7 +1,8 @@
 //! What a decoder and a session answer, as text.
 use anyhow::Result;
 use asn_json::to_json;
-use asn_rules::{DecodeFault, FeedFault, Step, Truncated};
+use asn_newer::NewerFault;
+use asn_rules::{DecodeFault, FeedFault, Newer, Step, Truncated};
 use asn_values::{Checked, Value};
 use std::alloc::Global;
 
@@ -46,6 +47,26 @@ pub fn fed(
 pub fn finished(alloc: Global, answer: std::result::Result<(), Truncated>) -> Result<String> {
     match answer {
         Ok(()) => Ok(String::from_str(alloc, "whole")?),
+        Err(fault) => Ok(format!(in alloc; "{fault}")?),
+    }
+}
+
+/// The answer of `read_newer`: the value, and behind it each skipped field as ` +PLACE:OCTETS`.
+pub fn received(
+    alloc: Global,
+    ty: &Checked,
+    answer: &std::result::Result<Newer, NewerFault>,
+) -> Result<String> {
+    match answer {
+        Ok(newer) => {
+            let mut text = shown(alloc, ty, &newer.value)?;
+            for field in newer.skipped.as_slice() {
+                let place = field.place;
+                let octets = hex::encode(alloc, field.octets.as_slice())?;
+                text.push_str(&format!(in alloc; " +{place}:{octets}")?)?;
+            }
+            Ok(text)
+        }
         Err(fault) => Ok(format!(in alloc; "{fault}")?),
     }
 }

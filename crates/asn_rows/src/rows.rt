@@ -3,18 +3,21 @@
 //!
 //! - `value | TYPE | JSON | PER | OER`: these octets are the encoding of the value, and `-` stands where a rule is left
 //!   aside. They are decoded as the value, at once, in pieces of 1, 2, 3 and 5 octets, and into the value of the
-//!   row before; `overwritten.rt` has the values of its type.
+//!   row before; `overwritten.rt` has the values of its type. As a message of a newer or older sender they are read as
+//!   the value too, and nothing is skipped.
 //! - `same | TYPE | PER | OER`: these octets are the encodings of one value.
 //! - `none | TYPE | OTHER | JSON`: the value of the other type is none of the type.
 //! - `per | TYPE | OCTETS | ANSWER`, and `oer`: so `decode` answers to the octets, at once and in these pieces.
 //! - `per octet | TYPE | BITS | ANSWER`, and `oer octet`: so it answers to each octet of these bits, where `x` is either;
 //!   `value` is any value of which the octet is the encoding.
 //! - `per pieces | TYPE | PIECES | ANSWERS`, and `oer pieces`: so a session answers to the pieces, and so it ends.
-use crate::answers::decoded;
+//! - `per newer | TYPE | OCTETS | ANSWER`, and `oer newer`: so `read_newer` answers to the octets.
+use crate::answers::{decoded, received};
 use crate::cells::{cut, octets_of, repeated, type_of, value_of};
 use crate::pieces::{answers_to, decode_in_pieces};
 use anyhow::{Result, bail, ensure};
 use asn_module::Module;
+use asn_newer::ReadNewer;
 use asn_oer::Oer;
 use asn_per::Per;
 use asn_rules::{DecodeFault, EncodeFault, Rules, decode};
@@ -42,9 +45,11 @@ pub fn try_row(alloc: Global, module: &Module, row: &str, slot: &mut Value) -> R
         "per" => try_answer::<Per>(alloc, &ty, others),
         "per octet" => try_octets::<Per>(alloc, &ty, others),
         "per pieces" => try_pieces::<Per>(alloc, &ty, others),
+        "per newer" => try_newer::<Per>(alloc, &ty, others),
         "oer" => try_answer::<Oer>(alloc, &ty, others),
         "oer octet" => try_octets::<Oer>(alloc, &ty, others),
         "oer pieces" => try_pieces::<Oer>(alloc, &ty, others),
+        "oer newer" => try_newer::<Oer>(alloc, &ty, others),
         _ => bail!("a row of no kind"),
     }
 }
@@ -74,7 +79,7 @@ fn try_value(alloc: Global, ty: &Checked, row: &str, slot: &mut Value) -> Result
 }
 
 /// Fails where the octets, if the row has any, are not the encoding of the value.
-fn try_encoding<R: Rules + ReadLeaves>(
+fn try_encoding<R: Rules + ReadLeaves + ReadNewer>(
     alloc: Global,
     ty: &Checked,
     value: &Value,
@@ -89,6 +94,12 @@ fn try_encoding<R: Rules + ReadLeaves>(
     expect_value::<R>(alloc, ty, &octets, value)?;
     decode_into::<R>(alloc, ty, &octets, slot)?;
     ensure!(same(slot, value), "another value in the place of one");
+    let newer = R::read_newer(alloc, ty, &octets)?;
+    ensure!(
+        same(&newer.value, value),
+        "another value as of a newer sender"
+    );
+    ensure!(newer.skipped.is_empty(), "something is skipped");
     Ok(())
 }
 
@@ -153,6 +164,13 @@ fn try_pieces<R: Rules>(alloc: Global, ty: &Checked, row: &str) -> Result<()> {
         &answers_to::<R>(alloc, ty, &repeated(alloc, pieces)?)?,
         &repeated(alloc, answers)?,
     )
+}
+
+fn try_newer<R: ReadNewer>(alloc: Global, ty: &Checked, row: &str) -> Result<()> {
+    let (octets, answer) = cut(row);
+    let octets = octets_of(alloc, octets)?;
+    let newer = R::read_newer(alloc, ty, &octets);
+    expect(&received(alloc, ty, &newer)?, &repeated(alloc, answer)?)
 }
 
 /// Whether the octet has these bits.

@@ -1,11 +1,13 @@
 use Rattle.std.proofs.Common.{OnOk, IfErr, ◌≡◌, ◌<◌, ◌≤◌, not, ◌⊎◌, inl, inr, ◌∷◌, [], ◌++◌, ◌∙◌, true, false, map, Some, None, rules, sym, ap, ◌+◌, ◌-◌, ◌/◌, ◌%◌, ◌^◌, length, vec_len, vec_capacity, refl, arith, ℕ, Option}
 use Rattle.std.specs.Option.{option_map}
 use Rattle.std.proofs.Math.Numerals.{add-one}
+use Rattle.std.proofs.lemmas.Bool.{true≢false}
 use Rattle.std.proofs.lemmas.List.{map-append}
 use Rattle.std.proofs.lemmas.Result.{err_from_is_err_and, IfOk-weaker, IfErr-weaker}
 use Rattle.asn_values.specs.declared.types.AsnType.{the_lemmas}
 use Rattle.asn_values.specs.declared.types.AsnType as asn_type
-use Rattle.asn_values.specs.Datum.{alternative}
+use Rattle.asn_values.specs.Datum.{alternative, number}
+use Rattle.asn_values.specs.declared.value.Value.TheVariants as value
 use Rattle.asn_values.specs.Shape.{default, sequence, closed, marked, choice, closed_choice, marked_choice}
 use Rattle.asn_values.specs.View.{shape_of, datum_of, labels_seen, alternatives_seen, part_of_field, size_range_of, demand_of, fields_seen, entries_seen}
 use Rattle.asn_values.proofs.Components.{shape_of_part}
@@ -21,7 +23,10 @@ use Rattle.asn_walk.specs.Coding.{IsIndexWithin, IndexOf}
 use Rattle.asn_walk.specs.Reading.{Reads}
 use Rattle.asn_walk.specs.Views.{index_seen}
 use Rattle.asn_walk.proofs.Parts.{good_at, marked_type, root_good, added_good}
-use Rattle.asn_walk.proofs.Widths.{next_part, no_part, demand_of_part}
+use Rattle.asn_walk.proofs.Widths.{next_part, no_part, demand_of_part, datum_of-Int}
+use Rattle.asn_bits.proofs.Above.{kept}
+use mir.Val.{to_z, of_z}
+use mir.Syntax.{w128}
 use Rattle.asn_walk_read.proofs.Decoding.{units_fill}
 use Rattle.asn_walk_read.proofs.Listing.{list_size}
 use Rattle.asn_walk_read.proofs.OpenRead.{length_none}
@@ -46,6 +51,24 @@ pub components::read_components-loop-field-init : goal.components::read_componen
 components::read_components-loop-field-init g t c =
     (each_starts (loose_by g.R.ReadLeaves.rules g.R.OtherVersions.loose) (entries_seen c.args.entries.now.items) (skipped_seen c.args.skipped.now.items) (map part_of_field c.args.fields.now) c.args.presence.left c.args.presence.bitmap (g.R.ReadLeaves.rules.to_units c.args.units.now) c.requires.of_profile c.requires.width c.requires.few, refl, omega arith, c.requires.capacity, c.requires.at_unit)
 
+pub components::read_components-loop-field-preserved-in-Some : goal.components::read_components-loop-field-preserved-in-Some
+components::read_components-loop-field-preserved-in-Some g t c =
+    let l = loose_by g.R.ReadLeaves.rules g.R.OtherVersions.loose in
+    let ways = c.keep_walk_laws.ensures.ways in
+    let k = rw (next_part c.args.fields.now c.loop-field.field-index c.field-item.result c.loop-field-test.true c.field-item.is) at c.loop-field.invariant.0 in
+    let n = each_next l ways k true c.loop-field.presence.left (λ e. (refl, refl)) (λ e. absurd (true≢false (sym e ∙ c.in-Some.ensures.must refl))) in
+    let z = c.in-Some.number in
+    let inside = c.in-Some.ensures.of_integers in
+    let same : to_z w128 (of_z w128 z) ≡ z = kept z inside.0 inside.1 in
+    let items : entries_seen c.push_reserved.new.self.items ≡ entries_seen c.loop-field.entries.items ++ Some (number z) ∷ [] =
+    ap entries_seen (rw same at c.push_reserved.ensures.items) ∙ map-append (option_map datum_of) c.loop-field.entries.items (Some (value.Int z) ∷ []) ∙ ap (λ d. entries_seen c.loop-field.entries.items ++ Some d ∷ []) (datum_of-Int z) in (
+      rw items (n.more (Some (number z)) (skipped_seen c.loop-field.skipped.items) (g.R.ReadLeaves.rules.to_units c.try_bounded.new.units) (none_taken (skipped_seen c.loop-field.skipped.items) c.in-Some.ensures.some)),
+      c.loop-field.invariant.1,
+      omega (arith, c.push_reserved.ensures.len, c.loop-field.invariant.2),
+      rw c.push_reserved.ensures.capacity c.loop-field.invariant.3,
+      c.try_bounded.ensures.at_unit,
+    )
+
 pub components::read_components-returns-in_err-entry-clause-stop : goal.components::read_components-returns-in_err-entry-clause-stop
 components::read_components-returns-in_err-entry-clause-stop g t c =
     let l = loose_by g.R.ReadLeaves.rules g.R.OtherVersions.loose in
@@ -53,7 +76,8 @@ components::read_components-returns-in_err-entry-clause-stop g t c =
     let k = rw (next_part c.args.fields.now c.loop-field.field-index c.field-item.result c.loop-field-test.true c.field-item.is) at c.loop-field.invariant.0 in
     let n = each_next l ways k c.next_of-present.result c.next_of-present.new.self.left c.next_of-present.ensures.must (λ e. (let b = c.next_of-present.ensures.bit e in (b.0, b.1 ∙ ap (λ m. m / 2 ^ c.next_of-present.new.self.left % 2) c.loop-field.invariant.1))) in
     let p = err_from_is_err_and c.from_residual.result c.from_residual.ensures.1 in
-    rw (p.1, p.2) (halts_on _ (λ m. unmapped (n.none m)) c.in_err-entry.ensures.stop)
+    let still : c.try_bounded.new.units ≡ c.loop-field.units = c.in_default.ensures.none refl in
+    rw (p.1, p.2) (halts_on _ (λ m. unmapped (n.none m)) (rw still at c.in_err-entry.ensures.stop))
 
 pub components::read_components-loop-field-preserved : goal.components::read_components-loop-field-preserved
 components::read_components-loop-field-preserved g t c =
@@ -61,10 +85,11 @@ components::read_components-loop-field-preserved g t c =
     let ways = c.keep_walk_laws.ensures.ways in
     let k = rw (next_part c.args.fields.now c.loop-field.field-index c.field-item.result c.loop-field-test.true c.field-item.is) at c.loop-field.invariant.0 in
     let n = each_next l ways k c.next_of-present.result c.next_of-present.new.self.left c.next_of-present.ensures.must (λ e. (let b = c.next_of-present.ensures.bit e in (b.0, b.1 ∙ ap (λ m. m / 2 ^ c.next_of-present.new.self.left % 2) c.loop-field.invariant.1))) in
-    let pushed = c.push_reserved.ensures in
-    let items : entries_seen c.push_reserved.new.self.items ≡ entries_seen c.loop-field.entries.items ++ option_map datum_of c.in_ok-entry.entry ∷ [] =
+    let still : c.try_bounded.new.units ≡ c.loop-field.units = c.in_default.ensures.none refl in
+    let pushed = c.push_reserved-in-loop-field.ensures in
+    let items : entries_seen c.push_reserved-in-loop-field.new.self.items ≡ entries_seen c.loop-field.entries.items ++ option_map datum_of c.in_ok-entry.entry ∷ [] =
     ap entries_seen pushed.items ∙ map-append (option_map datum_of) c.loop-field.entries.items (c.in_ok-entry.entry ∷ []) in (
-      rw items (n.more (option_map datum_of c.in_ok-entry.entry) (skipped_seen c.read_entry.new.skipped.items) (g.R.ReadLeaves.rules.to_units c.read_entry.new.units) c.in_ok-entry.ensures.done),
+      rw items (n.more (option_map datum_of c.in_ok-entry.entry) (skipped_seen c.read_entry.new.skipped.items) (g.R.ReadLeaves.rules.to_units c.read_entry.new.units) (rw still at c.in_ok-entry.ensures.done)),
       c.next_of-present.ensures.bitmap ∙ c.loop-field.invariant.1,
       omega (arith, pushed.len, c.loop-field.invariant.2),
       rw pushed.capacity c.loop-field.invariant.3,
@@ -175,17 +200,17 @@ reader::read_known-returns-in_err-octets-clause-stop g t c =
     let p = err_from_is_err_and c.from_residual.result c.from_residual.ensures.1 in
     rw (p.1, p.2) (stops_on _ no_field c.in_err-octets.ensures.stop)
 
-pub reader::read_known-returns-clause-done : goal.reader::read_known-returns-clause-done
-reader::read_known-returns-clause-done g t c =
+pub reader::read_known-returns-in-Ok-clause-done : goal.reader::read_known-returns-in-Ok-clause-done
+reader::read_known-returns-in-Ok-clause-done g t c =
     let l = loose_by g.R.ReadLeaves.rules g.R.OtherVersions.loose in
     let ways = c.keep_walk_laws.ensures.ways in
-    IfOk-weaker c.read_content.result _ _ (λ v s. known_read l ways (shape_of c.args.ty.now) c.in_ok-octets.ensures.done (rw c.deref.ensures.value at s)) c.read_content.ensures.done
+    known_read l ways (shape_of c.args.ty.now) c.in_ok-octets.ensures.done (rw c.deref.ensures.value at c.in-Ok.ensures.done)
 
-pub reader::read_known-returns-clause-stop : goal.reader::read_known-returns-clause-stop
-reader::read_known-returns-clause-stop g t c =
+pub reader::read_known-returns-in-Err-clause-stop : goal.reader::read_known-returns-in-Err-clause-stop
+reader::read_known-returns-in-Err-clause-stop g t c =
     let l = loose_by g.R.ReadLeaves.rules g.R.OtherVersions.loose in
     let ways = c.keep_walk_laws.ensures.ways in
-    IfErr-weaker c.read_content.result _ _ (λ why s. known_none l ways (shape_of c.args.ty.now) c.in_ok-octets.ensures.done why (rw c.deref.ensures.value at s)) c.read_content.ensures.stop
+    rw c.halt_of_field.ensures (known_none l ways (shape_of c.args.ty.now) c.in_ok-octets.ensures.done c.in-Err.halt (rw c.deref.ensures.value at c.in-Err.ensures.stop))
 
 pub reader::read_list-returns-in_err-fragments-clause-stop : goal.reader::read_list-returns-in_err-fragments-clause-stop
 reader::read_list-returns-in_err-fragments-clause-stop g t c =
@@ -556,16 +581,12 @@ reader::read_marked-returns-clause-done g t c =
       | reader::read_marked-else-preamble+in_ok-push_absent w ↦ rw (w.entries-is, w.units-is, w.skipped-is, datum_of-Seq w.push_absent.new.entries) (sequence_done l ways (fields_seen c.args.root.now) (marked (fields_seen c.args.additions.now)) c.requires.of_profile (g.R.ReadLeaves.rules.to_units c.args.units.now) (rw (c.bitmap_width-width.ensures.count, w.if-preamble.false) at c.in_ok-preamble.ensures.done) (skipped_seen c.args.skipped.now.items) each (rw w.in_ok-push_absent.ensures (none_present l (fields_seen c.args.additions.now) (entries_seen c.read_components.new.entries.items) (skipped_seen c.read_components.new.skipped.items) (g.R.ReadLeaves.rules.to_units c.read_components.new.units))))
     ]
 
-pub choices::read_marked_choice-overflow_sub-known : goal.choices::read_marked_choice-overflow_sub-known
-choices::read_marked_choice-overflow_sub-known g t c =
-    omega (arith, few_marked c.args.root.now c.args.additions.now c.requires.of_profile)
-
-pub choices::read_marked_choice-read_index-requires-clause-some : goal.choices::read_marked_choice-read_index-requires-clause-some
-choices::read_marked_choice-read_index-requires-clause-some g t c =
+pub choices::read_marked_choice-read_any_index-requires-clause-some : goal.choices::read_marked_choice-read_any_index-requires-clause-some
+choices::read_marked_choice-read_any_index-requires-clause-some g t c =
     some_known c.args.root.now (marked_choice (alternatives_seen c.args.additions.now)) c.requires.of_profile
 
-pub choices::read_marked_choice-read_index-requires-clause-few : goal.choices::read_marked_choice-read_index-requires-clause-few
-choices::read_marked_choice-read_index-requires-clause-few g t c =
+pub choices::read_marked_choice-read_any_index-requires-clause-few : goal.choices::read_marked_choice-read_any_index-requires-clause-few
+choices::read_marked_choice-read_any_index-requires-clause-few g t c =
     omega (arith, few_marked c.args.root.now c.args.additions.now c.requires.of_profile)
 
 pub choices::read_marked_choice-returns-in_err-index-clause-stop : goal.choices::read_marked_choice-returns-in_err-index-clause-stop
@@ -573,7 +594,7 @@ choices::read_marked_choice-returns-in_err-index-clause-stop g t c =
     let l = loose_by g.R.ReadLeaves.rules g.R.OtherVersions.loose in
     let ways = c.keep_walk_laws.ensures.ways in
     let p = err_from_is_err_and c.from_residual.result c.from_residual.ensures.1 in
-    rw (p.1, p.2) (stops_on _ (marked_none l ways c.args.root.now c.args.additions.now c.requires.of_profile (g.R.ReadLeaves.rules.to_units c.args.units.now)) c.in_err-index.ensures.stop)
+    rw (p.1, p.2) (halts_on _ (marked_none l ways c.args.root.now c.args.additions.now c.requires.of_profile (g.R.ReadLeaves.rules.to_units c.args.units.now)) c.in_err-index.ensures.stop)
 
 pub choices::read_marked_choice-read_root_alternative-requires : goal.choices::read_marked_choice-read_root_alternative-requires
 choices::read_marked_choice-read_root_alternative-requires g t c κs within =
@@ -594,26 +615,26 @@ pub choices::read_marked_choice-returns-in-Root-clause-done : goal.choices::read
 choices::read_marked_choice-returns-in-Root-clause-done g t c =
     let l = loose_by g.R.ReadLeaves.rules g.R.OtherVersions.loose in
     let ways = c.keep_walk_laws.ensures.ways in
-    let k : Spells g.R.ReadLeaves.rules.ruling.fielding (IndexOf g.R.ReadLeaves.rules (length c.args.root.now) (Some (63 - length c.args.root.now))) (inl c.in-Root.index) (g.R.ReadLeaves.rules.to_units c.args.units.now) (g.R.ReadLeaves.rules.to_units c.read_index.new.units) = rw c.in-Root.is at c.in_ok-index.ensures.done in
+    let k : Spells g.R.ReadLeaves.rules.ruling.fielding (IndexOf g.R.ReadLeaves.rules (length c.args.root.now) (Some (63 - length c.args.root.now))) (inl c.in-Root.index) (g.R.ReadLeaves.rules.to_units c.args.units.now) (g.R.ReadLeaves.rules.to_units c.read_any_index.new.units) = rw c.in-Root.is at c.in_ok-index.ensures.done in
     IfOk-weaker c.read_root_alternative.result _ _ (λ v s. taken_on (λ d. d) (skipped_seen c.args.skipped.now.items) (datum_of v) (marked_root_on l ways c.args.root.now c.args.additions.now c.requires.of_profile (g.R.ReadLeaves.rules.to_units c.args.units.now) k) s) c.read_root_alternative.ensures.done
 
 pub choices::read_marked_choice-returns-in-Root-clause-stop : goal.choices::read_marked_choice-returns-in-Root-clause-stop
 choices::read_marked_choice-returns-in-Root-clause-stop g t c =
     let l = loose_by g.R.ReadLeaves.rules g.R.OtherVersions.loose in
     let ways = c.keep_walk_laws.ensures.ways in
-    let k : Spells g.R.ReadLeaves.rules.ruling.fielding (IndexOf g.R.ReadLeaves.rules (length c.args.root.now) (Some (63 - length c.args.root.now))) (inl c.in-Root.index) (g.R.ReadLeaves.rules.to_units c.args.units.now) (g.R.ReadLeaves.rules.to_units c.read_index.new.units) = rw c.in-Root.is at c.in_ok-index.ensures.done in
+    let k : Spells g.R.ReadLeaves.rules.ruling.fielding (IndexOf g.R.ReadLeaves.rules (length c.args.root.now) (Some (63 - length c.args.root.now))) (inl c.in-Root.index) (g.R.ReadLeaves.rules.to_units c.args.units.now) (g.R.ReadLeaves.rules.to_units c.read_any_index.new.units) = rw c.in-Root.is at c.in_ok-index.ensures.done in
     IfErr-weaker c.read_root_alternative.result _ _ (λ why s. halts_on why (marked_root_on l ways c.args.root.now c.args.additions.now c.requires.of_profile (g.R.ReadLeaves.rules.to_units c.args.units.now) k).none s) c.read_root_alternative.ensures.stop
 
 pub choices::read_marked_choice-returns-in-Added-clause-done : goal.choices::read_marked_choice-returns-in-Added-clause-done
 choices::read_marked_choice-returns-in-Added-clause-done g t c =
     let l = loose_by g.R.ReadLeaves.rules g.R.OtherVersions.loose in
     let ways = c.keep_walk_laws.ensures.ways in
-    let k : Spells g.R.ReadLeaves.rules.ruling.fielding (IndexOf g.R.ReadLeaves.rules (length c.args.root.now) (Some (63 - length c.args.root.now))) (inr c.in-Added.index) (g.R.ReadLeaves.rules.to_units c.args.units.now) (g.R.ReadLeaves.rules.to_units c.read_index.new.units) = rw c.in-Added.is at c.in_ok-index.ensures.done in
+    let k : Spells g.R.ReadLeaves.rules.ruling.fielding (IndexOf g.R.ReadLeaves.rules (length c.args.root.now) (Some (63 - length c.args.root.now))) (inr c.in-Added.index) (g.R.ReadLeaves.rules.to_units c.args.units.now) (g.R.ReadLeaves.rules.to_units c.read_any_index.new.units) = rw c.in-Added.is at c.in_ok-index.ensures.done in
     IfOk-weaker c.read_added_alternative.result _ _ (λ v s. taken_on (λ d. d) (skipped_seen c.args.skipped.now.items) (datum_of v) (marked_added_on l ways c.args.root.now c.args.additions.now c.requires.of_profile (g.R.ReadLeaves.rules.to_units c.args.units.now) k) s) c.read_added_alternative.ensures.done
 
 pub choices::read_marked_choice-returns-in-Added-clause-stop : goal.choices::read_marked_choice-returns-in-Added-clause-stop
 choices::read_marked_choice-returns-in-Added-clause-stop g t c =
     let l = loose_by g.R.ReadLeaves.rules g.R.OtherVersions.loose in
     let ways = c.keep_walk_laws.ensures.ways in
-    let k : Spells g.R.ReadLeaves.rules.ruling.fielding (IndexOf g.R.ReadLeaves.rules (length c.args.root.now) (Some (63 - length c.args.root.now))) (inr c.in-Added.index) (g.R.ReadLeaves.rules.to_units c.args.units.now) (g.R.ReadLeaves.rules.to_units c.read_index.new.units) = rw c.in-Added.is at c.in_ok-index.ensures.done in
+    let k : Spells g.R.ReadLeaves.rules.ruling.fielding (IndexOf g.R.ReadLeaves.rules (length c.args.root.now) (Some (63 - length c.args.root.now))) (inr c.in-Added.index) (g.R.ReadLeaves.rules.to_units c.args.units.now) (g.R.ReadLeaves.rules.to_units c.read_any_index.new.units) = rw c.in-Added.is at c.in_ok-index.ensures.done in
     IfErr-weaker c.read_added_alternative.result _ _ (λ why s. halts_on why (marked_added_on l ways c.args.root.now c.args.additions.now c.requires.of_profile (g.R.ReadLeaves.rules.to_units c.args.units.now) k).none s) c.read_added_alternative.ensures.stop

@@ -1,7 +1,7 @@
 -- What is read behind what was read before: fields that are skipped, entries of a SEQUENCE, elements of a list.
-use Rattle.std.proofs.Common.{◌≡◌, ◌≢◌, ◌≤◌, ◌<◌, ◌+◌, ◌/◌, ◌%◌, ◌^◌, ◌*◌, ◌⊎◌, inl, inr, ⊎_elim, ℕ, zero, suc, nat_lt, Bool, true, false, List, [], ◌∷◌, ◌++◌, length, map, Option, Some, None, refl, sym, ap, subst, ◌∙◌, append_assoc, arith}
+use Rattle.std.proofs.Common.{◌≡◌, ◌≤◌, ◌<◌, ◌+◌, ◌/◌, ◌%◌, ◌^◌, ◌⊎◌, inl, inr, ⊎_elim, ℕ, suc, Bool, true, false, List, [], ◌∷◌, ◌++◌, Option, Some, None, refl, sym, ap, subst, ◌∙◌, append_assoc, arith}
 use Rattle.std.proofs.lemmas.Bool.{true≢false}
-use Rattle.std.proofs.lemmas.List.{append-nil, map-append}
+use Rattle.std.proofs.lemmas.List.{append-nil}
 use Rattle.asn_values.specs.Datum.{Datum}
 use Rattle.asn_values.specs.Shape.{Shape, Demand, must, optional, default, Fields, no_fields, field}
 use Rattle.asn_values.specs.Parts.{AreOfProfile, IsGoodDemand}
@@ -15,23 +15,21 @@ use Rattle.asn_bits.specs.Sink.{bit_of}
 use Rattle.asn_rules.specs.Chunks.{Chunk, open_field, flat}
 use Rattle.asn_rules.specs.Components.{has_presence_bit}
 use Rattle.asn_rules.specs.Frames.{Frame}
-use Rattle.asn_rules.specs.Languages.{Spells, NoSpelling, Then, Map, Nothing, Row, prepended}
-use Rattle.asn_rules.specs.Listed.{Spelt, default_of, bitmap_length}
+use Rattle.asn_rules.specs.Languages.{Spells, NoSpelling, Then, Map, Nothing}
+use Rattle.asn_rules.specs.Listed.{Spelt, bitmap_length}
 use Rattle.asn_rules.specs.Live.{Fielding}
-use Rattle.asn_rules.specs.Stops.{Stops}
-use Rattle.asn_rules.specs.declared.stop.Stop.{Stop}
 use Rattle.asn_rules.proofs.Parts.{map_source, map_spells, nothing_spells}
 use Rattle.asn_rules.proofs.Then.{then_none_first}
 use Rattle.asn_walk.specs.Coding.{Coding, absent_entries}
 use Rattle.asn_walk.proofs.Widths.{width_more, width_same, demand_of_part}
 use Rattle.asn_walk.specs.declared.presence.PresenceBits.{PresenceBits}
 use Rattle.asn_newer.specs.Bitmaps.{NextBit, bits_left}
-use Rattle.asn_newer.specs.Skipped.{Skipped, Reading, Entries, nothing_skipped, entry_read, entry_left, all_skipped}
+use Rattle.asn_newer.specs.Skipped.{Skipped, Reading, Entries, nothing_skipped, entry_read, entry_left}
 use Rattle.asn_newer.specs.Loose.{LooseCoding, AnyOctets, Unknown, AllUnknown, Known, Loose, LooseEach, LooseOpen}
-use Rattle.asn_newer.specs.Walking.{LooseEntry, ReadingAfter, EntriesAfter, ItemsAfter, FieldsAfter, FieldAfter}
+use Rattle.asn_newer.specs.Walking.{LooseEntry, ReadingAfter, EntriesAfter, FieldsAfter, FieldAfter}
 use Rattle.asn_newer.specs.Ways.{OneWay, WayLaws}
-use Rattle.asn_newer.proofs.Halts.{Onward, here, on, mapped, second, none_mapped, field_read, no_field, held}
-use Rattle.asn_newer.proofs.OneWay.{map_way, spelt_way, nothing_way}
+use Rattle.asn_newer.proofs.Halts.{Onward, on, mapped, second, none_mapped, field_read, no_field, held}
+use Rattle.asn_newer.proofs.OneWay.{map_way, spelt_way}
 use Rattle.asn_newer.proofs.OneReading.{loose_way, known_way, unknown_way}
 
 -- ---- views

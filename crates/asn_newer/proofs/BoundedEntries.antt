@@ -1,5 +1,5 @@
 -- The fast path of a component that is an INTEGER with two bounds: its entry is read as the number alone is.
-use Rattle.std.proofs.Common.{◌≡◌, ◌⊎◌, inl, inr, ℕ, true, false, List, [], Some, None, IfSome, Option, refl, sym}
+use Rattle.std.proofs.Common.{◌≡◌, inl, inr, ℕ, true, false, List, [], Some, None, refl}
 use Rattle.std.proofs.lemmas.Bool.{true≢false}
 use Rattle.asn_values.specs.Datum.{Datum}
 use Rattle.asn_values.specs.View.{part_of_field, shape_of}

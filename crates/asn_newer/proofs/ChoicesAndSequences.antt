@@ -1,10 +1,9 @@
 -- From the answers for the parts of a SEQUENCE and of a CHOICE to those for the whole, in messages of newer and older
 -- senders.
-use Rattle.std.proofs.Common.{◌≡◌, ◌≤◌, ◌<◌, ◌+◌, ◌-◌, ◌⊎◌, inl, inr, ℕ, zero, suc, Bool, true, false, List, [], ◌∷◌, ◌++◌, length, map, get_or, Option, Some, None, is_some, refl, sym, ap, subst, ◌∙◌, append_assoc, arith}
+use Rattle.std.proofs.Common.{◌≡◌, ◌≤◌, ◌<◌, ◌+◌, ◌-◌, ◌⊎◌, inl, inr, ℕ, zero, suc, Bool, false, List, [], ◌∷◌, ◌++◌, length, map, get_or, Option, Some, None, is_some, refl, sym, ap, subst, ◌∙◌, append_assoc, arith}
 use Rattle.std.proofs.lemmas.List.{append-nil}
-use Rattle.asn_values.specs.Datum.{Datum, components, components_of, alternative, unknown_alternative}
-use Rattle.asn_values.specs.Shape.{Shape, boolean, null, integer, enumerated, bit_string, octet_string, restricted, utf8_string, Label, closed_labels, sequence, choice, Fields, no_fields, field, MoreFields, closed, marked, Alternatives, no_alternatives, one_of, MoreAlternatives, closed_choice, marked_choice, count}
-use Rattle.asn_values.specs.Parts.{AreOfProfile, AreAllOfProfile}
+use Rattle.asn_values.specs.Datum.{Datum, components, components_of, unknown_alternative}
+use Rattle.asn_values.specs.Shape.{Shape, boolean, null, integer, enumerated, bit_string, octet_string, restricted, utf8_string, Label, closed_labels, sequence, choice, Fields, MoreFields, closed, marked, Alternatives, MoreAlternatives, closed_choice, marked_choice, count}
 use Rattle.asn_values.specs.Profile.{InProfile}
 use Rattle.asn_values.specs.View.{branch_of, alternatives_of, shape_of, range_of, size_range_of, alphabet_of}
 use Rattle.asn_values.specs.declared.types.Alt.{Alt}
@@ -20,19 +19,18 @@ use Rattle.asn_bits.specs.Numbers.{bits}
 use Rattle.asn_rules.specs.Chunks.{Chunk}
 use Rattle.asn_rules.specs.Components.{extension_bit}
 use Rattle.asn_rules.specs.General.{behind_first}
-use Rattle.asn_rules.specs.Languages.{Spells, NoSpelling, Then, Map, Nothing}
+use Rattle.asn_rules.specs.Languages.{Spells, NoSpelling, Then, Map}
 use Rattle.asn_rules.specs.Listed.{Spelt, bitmap_length}
 use Rattle.asn_rules.specs.Live.{Fielding}
 use Rattle.asn_rules.proofs.Parts.{map_source, map_spells, nothing_spells}
 use Rattle.asn_rules.proofs.Then.{then_none_first}
 use Rattle.asn_walk.specs.Coding.{PreambleOf, IndexOf, absent_entries}
-use Rattle.asn_newer.specs.Bitmaps.{bits_left}
 use Rattle.asn_newer.specs.Skipped.{Skipped, Reading, Entries, nothing_skipped, sequence_read, alternative_read, alternative_skipped}
 use Rattle.asn_newer.specs.Loose.{LooseCoding, AnyBitmap, Known, Unknown, Loose, LooseEach, LooseMore, LooseOpen, LooseRoot, LooseOther, LooseAdded, additions_to_come, alternatives_to_come, by_index}
 use Rattle.asn_newer.specs.Walking.{LooseAdditions, ReadingAfter, EntriesAfter, FieldAfter}
-use Rattle.asn_newer.specs.Ways.{OneWay, WayLaws}
-use Rattle.asn_newer.proofs.Behind.{seen_as, took, taken, unmapped}
-use Rattle.asn_newer.proofs.Halts.{Onward, here, on, mapped, second, none_mapped}
+use Rattle.asn_newer.specs.Ways.{WayLaws}
+use Rattle.asn_newer.proofs.Behind.{taken}
+use Rattle.asn_newer.proofs.Halts.{Onward, on, mapped, second}
 use Rattle.asn_newer.proofs.OneReading.{part, each_way, index_way}
 use Rattle.asn_newer.proofs.OneWay.{plain_way}
 

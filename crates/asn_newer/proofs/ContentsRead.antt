@@ -1,13 +1,13 @@
 -- Octets that are read as a complete encoding: the value, what fills up its octets, and nothing behind it.
-use Rattle.std.proofs.Common.{◌≡◌, ◌≢◌, ◌-◌, ◌+◌, ◌≤◌, ◌<◌, ℕ, List, [], ◌∷◌, ◌++◌, length, length-append, refl, sym, ap, subst, ◌∙◌, arith}
+use Rattle.std.proofs.Common.{◌≡◌, ◌-◌, ◌≤◌, ◌<◌, ℕ, List, [], ◌++◌, length, length-append, refl, sym, ap, ◌∙◌, arith}
 use Rattle.std.proofs.lemmas.List.{append-nil}
 use Rattle.asn_values.specs.Datum.{Datum}
 use Rattle.asn_values.specs.Shape.{Shape}
 use Rattle.asn_values.specs.Profile.{InProfile}
 use Rattle.asn_rules.specs.Answer.{max_octets}
-use Rattle.asn_rules.specs.Chunks.{Chunk, open_field, ones, flat}
+use Rattle.asn_rules.specs.Chunks.{open_field, ones, flat}
 use Rattle.asn_rules.specs.Frames.{Frame}
-use Rattle.asn_rules.specs.Languages.{Spells, NoSpelling}
+use Rattle.asn_rules.specs.Languages.{Spells}
 use Rattle.asn_rules.specs.Laws.{AreOctets}
 use Rattle.asn_rules.specs.Live.{Fielding}
 use Rattle.asn_rules.specs.Padding.{Fixed}
@@ -25,7 +25,7 @@ use Rattle.asn_newer.specs.declared.halt.Halt.{Halt}
 use Rattle.asn_newer.specs.declared.halt.Halt.TheVariants as halt
 use Rattle.asn_newer.specs.Ways.{OneWay, WayLaws}
 use Rattle.asn_newer.proofs.Behind.{took, taken}
-use Rattle.asn_newer.proofs.Halts.{halts_on, stops_halt, field_read, no_content, held}
+use Rattle.asn_newer.proofs.Halts.{field_read, no_content}
 use Rattle.asn_newer.proofs.OneReading.{loose_way, complete_front, part}
 
 module _ (l : LooseCoding) (h : WayLaws l) (t : Shape) (good : InProfile t) (o : List ℕ) (few : length o ≤ max_octets) where

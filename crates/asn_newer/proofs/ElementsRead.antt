@@ -1,36 +1,34 @@
 -- Where the reader of a SEQUENCE OF stands in messages of newer and older senders.
-use Rattle.std.proofs.Common.{◌≡◌, ◌≤◌, ◌<◌, ◌+◌, ◌*◌, ◌⊎◌, inl, inr, ⊎_elim, ℕ, zero, suc, nat_lt, Bool, true, false, List, [], ◌∷◌, ◌++◌, length, map, Option, Some, None, refl, sym, ap, subst, ◌∙◌, append_assoc, arith}
+use Rattle.std.proofs.Common.{◌≡◌, ◌<◌, ◌+◌, ◌*◌, ⊎_elim, ℕ, suc, nat_lt, Bool, true, false, List, [], ◌∷◌, ◌++◌, length, map, Option, Some, None, refl, sym, ap, subst, ◌∙◌, append_assoc, arith}
 use Rattle.std.proofs.lemmas.List.{append-nil, map-append}
 use Rattle.asn_values.specs.Datum.{Datum, elements, elements_of}
 use Rattle.asn_values.specs.Shape.{Shape, SizeRange, sequence_of}
 use Rattle.asn_values.specs.Profile.{InProfile}
-use Rattle.asn_values.proofs.InnerTypes.{element_of_profile}
 use Rattle.asn_bits.specs.Ranges.{Spanned, At}
 use Rattle.asn_rules.specs.Chunks.{Chunk, flat}
 use Rattle.asn_rules.specs.Forks.{Same}
-use Rattle.asn_rules.specs.General.{last, fragment, behind_first, together, Left, Blocks, Header, Body, Once, General}
+use Rattle.asn_rules.specs.General.{fragment, behind_first, together, Left, Blocks, Header, Body, General}
 use Rattle.asn_rules.specs.Languages.{Spells, NoSpelling, Then, Map, Nothing, Row, prepended}
 use Rattle.asn_rules.specs.Live.{Fielding}
-use Rattle.asn_rules.specs.Stops.{Stops}
 use Rattle.asn_rules.specs.declared.stop.Stop.{Stop}
 use Rattle.asn_rules.proofs.Forks.{same_flip}
 use Rattle.asn_rules.proofs.General.{general_once}
 use Rattle.asn_rules.proofs.Headers.{header_tells}
-use Rattle.asn_rules.proofs.Parts.{map_source, map_spells, nothing_spells}
+use Rattle.asn_rules.proofs.Parts.{map_source, nothing_spells}
 use Rattle.asn_rules.proofs.Ranges.{general_left}
 use Rattle.asn_rules.proofs.Then.{then_none_first}
 use Rattle.asn_walk.specs.Ahead.{Ahead, items, lengths, end, Remaining, Advances, Next, StopsNext}
-use Rattle.asn_walk.specs.Coding.{Coding, ListingOf}
+use Rattle.asn_walk.specs.Coding.{ListingOf}
 use Rattle.asn_walk_read.proofs.Listing.{list_size, steps_left, going_nearer}
 use Rattle.asn_newer.specs.Skipped.{Skipped, Reading, all_skipped, list_read}
 use Rattle.asn_newer.specs.Loose.{LooseCoding, Loose}
 use Rattle.asn_newer.specs.Halting.{Halts, halt_of}
 use Rattle.asn_newer.specs.Walking.{ReadingAfter, ItemsAfter}
 use Rattle.asn_newer.specs.Ways.{OneWay, WayLaws}
-use Rattle.asn_newer.proofs.Behind.{seen_as, took, taken, unmapped}
-use Rattle.asn_newer.proofs.Halts.{Onward, here, on, mapped, second, alike, none_mapped, halts_on, stops_on}
-use Rattle.asn_newer.proofs.OneReading.{loose_way, part}
-use Rattle.asn_newer.proofs.OneWay.{lawful_way, header_way, row_way, remaining_way}
+use Rattle.asn_newer.proofs.Behind.{seen_as, took, taken}
+use Rattle.asn_newer.proofs.Halts.{Onward, on, mapped, second, alike, none_mapped, stops_on}
+use Rattle.asn_newer.proofs.OneReading.{part}
+use Rattle.asn_newer.proofs.OneWay.{lawful_way, header_way, row_way}
 
 -- the values and the skipped fields of readings, behind those before
 abbrev pub put_items : List Datum → List Skipped → List Reading → List Datum × List Skipped

@@ -1,5 +1,5 @@
 -- Presence bits as the reader of skipped fields counts them.
-use Rattle.std.proofs.Common.{◌≡◌, ◌<◌, ◌≤◌, ◌+◌, ℕ, Bool, false, List, [], ◌∷◌, length, ⊎_elim, sym, ap, ◌∙◌, arith}
+use Rattle.std.proofs.Common.{◌≡◌, ◌<◌, ◌≤◌, ◌+◌, ℕ, Bool, false, [], ◌∷◌, length, ⊎_elim, sym, ap, ◌∙◌, arith}
 use Rattle.asn_bits.specs.Numbers.{bits}
 use Rattle.asn_bits.proofs.Octets.{length-digits}
 use Rattle.asn_walk.specs.declared.presence.PresenceBits.{PresenceBits}

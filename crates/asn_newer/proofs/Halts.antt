@@ -1,11 +1,11 @@
 -- From the answer of a part to the answer of the whole, where parts are read in one way: what the readers of messages of
 -- newer and older senders cite at each exit.
-use Rattle.std.proofs.Common.{◌≡◌, ◌⊎◌, inl, inr, ℕ, zero, suc, Bool, true, false, List, [], ◌∷◌, ◌++◌, Option, Some, None, refl, sym, ap, subst, ◌∙◌, append_assoc}
+use Rattle.std.proofs.Common.{◌≡◌, ℕ, List, ◌++◌, refl, sym, ap, subst, ◌∙◌}
 use Rattle.std.proofs.lemmas.List.{append-nil}
 use Rattle.asn_rules.specs.Chunks.{Chunk, ones, open_field, flat}
 use Rattle.asn_rules.specs.Forks.{Same}
 use Rattle.asn_rules.specs.Frames.{Frame}
-use Rattle.asn_rules.specs.Languages.{AllContents, Spells, NoSpelling, Then, Map, Nothing, Row, Sealed}
+use Rattle.asn_rules.specs.Languages.{AllContents, Spells, NoSpelling, Then, Map, Sealed}
 use Rattle.asn_rules.specs.Live.{Fielding, IsContent}
 use Rattle.asn_rules.specs.Stops.{Stops}
 use Rattle.asn_rules.specs.declared.stop.Stop.{Stop}
@@ -15,8 +15,8 @@ use Rattle.asn_rules.proofs.Fields.{field_spells}
 use Rattle.asn_rules.proofs.Flat.{flat-ones}
 use Rattle.asn_rules.proofs.Forks.{same_flip, same_spells}
 use Rattle.asn_rules.proofs.Headed.{plain_front}
-use Rattle.asn_rules.proofs.Parts.{map_source, map_spells, nothing_spells, contents-ones}
-use Rattle.asn_rules.proofs.Then.{then_none_first, then_splits, then_spells}
+use Rattle.asn_rules.proofs.Parts.{map_source, map_spells, contents-ones}
+use Rattle.asn_rules.proofs.Then.{then_splits, then_spells}
 use Rattle.asn_walk.specs.Coding.{Coding}
 use Rattle.asn_newer.specs.Halting.{Halts, halt_of}
 use Rattle.asn_newer.specs.declared.halt.Halt.{Halt}

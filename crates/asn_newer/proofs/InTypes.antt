@@ -1,5 +1,5 @@
 -- Types of the profile, as the reader holds them: what they are seen as, and how many parts they have at the most.
-use Rattle.std.proofs.Common.{rules, ◌≡◌, ◌≢◌, ◌≤◌, ◌<◌, ◌+◌, ◌==◌, ℕ, zero, suc, false, true, List, length, map, Option, Some, None, Vec, Global, refl, sym, ap, subst, ◌∙◌, arith}
+use Rattle.std.proofs.Common.{rules, ◌≡◌, ◌≤◌, ◌<◌, ◌+◌, ◌==◌, ℕ, zero, suc, false, List, length, map, Option, Some, None, Vec, Global, refl, sym, ap, subst, ◌∙◌, arith}
 use Rattle.std.proofs.lemmas.Bool.{true≢false}
 use Rattle.asn_values.specs.declared.types.Alt.{Alt}
 use Rattle.asn_values.specs.declared.value.Value as values
@@ -9,9 +9,9 @@ use Rattle.asn_values.specs.declared.types.Field.{Field}
 use Rattle.asn_values.specs.declared.types.Item.{Item}
 use Rattle.asn_values.specs.declared.types.AsnType.{AsnType}
 use Rattle.asn_values.specs.declared.types.AsnType as asn_type
-use Rattle.asn_values.specs.Shape.{Shape, enumerated, closed_labels, marked_labels, Fields, MoreFields, sequence, marked, Alternatives, MoreAlternatives, closed_choice, marked_choice, choice, count, MoreLabels}
+use Rattle.asn_values.specs.Shape.{enumerated, closed_labels, marked_labels, Fields, MoreFields, sequence, marked, Alternatives, MoreAlternatives, closed_choice, marked_choice, choice, count}
 use Rattle.asn_values.specs.Profile.{InProfile, EmptyRange, empty_range}
-use Rattle.asn_values.specs.View.{datum_of, shape_of, fields_of, part_of_field, branch_of, alternatives_of, more_alternatives_of, label_of, labels_seen, more_labels_of}
+use Rattle.asn_values.specs.View.{datum_of, shape_of, fields_of, part_of_field, branch_of, alternatives_of, more_alternatives_of, labels_seen}
 use Rattle.asn_values.proofs.Alternatives.{count-of}
 use Rattle.asn_values.proofs.Parts.{left_false}
 use Rattle.asn_values.proofs.Views.{choice_of_alternatives, shape_of-Enum}

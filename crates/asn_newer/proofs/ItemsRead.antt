@@ -1,5 +1,5 @@
 -- Where the reader of an item that the type may not have stands.
-use Rattle.std.proofs.Common.{◌≡◌, ◌⊎◌, inl, inr, ⊎_elim, ℕ, ℤ, List, [], None, refl, sym, subst}
+use Rattle.std.proofs.Common.{◌≡◌, inl, inr, ⊎_elim, ℕ, ℤ, List, [], None, refl, sym, subst}
 use Rattle.asn_values.specs.Datum.{Datum, unknown_item}
 use Rattle.asn_values.specs.Shape.{Shape, Label, enumerated, marked_labels}
 use Rattle.asn_rules.specs.Chunks.{Chunk}
@@ -10,8 +10,6 @@ use Rattle.asn_rules.specs.declared.stop.Stop.TheVariants as stop
 use Rattle.asn_walk.specs.Coding.{Coding}
 use Rattle.asn_rules.specs.Languages.{Spells, NoSpelling}
 use Rattle.asn_rules.specs.Listed.{Spelt}
-use Rattle.asn_rules.proofs.Parts.{map_source, map_spells}
-use Rattle.asn_newer.specs.Skipped.{Reading, nothing_skipped, item_skipped}
 use Rattle.asn_newer.specs.Loose.{LooseCoding, AnyItem}
 use Rattle.asn_newer.specs.Walking.{UnknownItem}
 

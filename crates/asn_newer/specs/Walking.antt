@@ -6,14 +6,12 @@ use Rattle.asn_values.specs.declared.types.Alt.{Alt}
 use Rattle.asn_values.specs.declared.types.AsnType.{AsnType}
 use Rattle.asn_values.specs.declared.types.AsnType as asn_type
 use Rattle.asn_values.specs.declared.types.Field.{Field}
-use Rattle.asn_values.specs.Datum.{Datum, item}
+use Rattle.asn_values.specs.Datum.{Datum}
 use Rattle.asn_values.specs.Shape.{Shape, Label, Demand, must, optional, default, Fields, marked}
 use Rattle.asn_rules.specs.Chunks.{Chunk, ones}
 use Rattle.asn_rules.specs.Languages.{Map, Nothing}
 use Rattle.asn_rules.specs.Listed.{Spelt, default_of}
 use Rattle.asn_rules.specs.Spellings.{SpelledBy}
-use Rattle.asn_rules.specs.declared.stop.Stop.{Stop}
-use Rattle.asn_rules.specs.declared.stop.Stop.TheVariants as stop
 use Rattle.asn_walk.specs.Coding.{Coding}
 use Rattle.asn_newer.specs.Skipped.{Skipped, Reading, Entries, nothing_skipped, all_skipped}
 use Rattle.asn_newer.specs.Loose.{LooseCoding, Complete, Loose, LooseMore, IsLoose}

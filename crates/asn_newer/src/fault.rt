@@ -10,7 +10,7 @@ pub enum NewerFault {
     /// The octets end before a message does.
     #[error("cut short")]
     Truncated = 2,
-    /// More extension additions than the profile allows: a count of them, the index or the tag of an alternative, or the
+    /// More extension additions than the profile allows: a count of them, the index or tag of an alternative, or the
     /// index of an item.
     #[error("too many additions")]
     TooManyAdditions = 3,

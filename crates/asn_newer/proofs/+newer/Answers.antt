@@ -1,4 +1,4 @@
-use Rattle.std.proofs.Common.{OnOk, IfErr, ◌≡◌, ◌<◌, ◌≤◌, not, ◌⊎◌, inl, inr, ◌∷◌, [], ◌++◌, ◌∙◌, true, false, map, Some, None, rules, sym, ap, ◌+◌, ◌-◌, ◌/◌, ◌%◌, ◌^◌, length, vec_len, vec_capacity, refl, arith, ℕ, Option}
+use Rattle.std.proofs.Common.{OnOk, IfErr, ◌≡◌, ◌<◌, ◌≤◌, inl, inr, ◌∷◌, [], ◌++◌, ◌∙◌, true, false, map, Some, None, rules, sym, ap, ◌+◌, ◌-◌, ◌/◌, ◌%◌, ◌^◌, length, vec_len, vec_capacity, refl, arith}
 use Rattle.std.specs.Option.{option_map}
 use Rattle.std.proofs.Math.Numerals.{add-one}
 use Rattle.std.proofs.lemmas.Bool.{true≢false}
@@ -206,8 +206,8 @@ reader::read_known-returns-in-Ok-clause-done g t c =
     let ways = c.keep_walk_laws.ensures.ways in
     known_read l ways (shape_of c.args.ty.now) c.in_ok-octets.ensures.done (rw c.deref.ensures.value at c.in-Ok.ensures.done)
 
-pub reader::read_known-returns-in-Err-clause-stop : goal.reader::read_known-returns-in-Err-clause-stop
-reader::read_known-returns-in-Err-clause-stop g t c =
+pub reader::read_known-returns-clause-stop : goal.reader::read_known-returns-clause-stop
+reader::read_known-returns-clause-stop g t c =
     let l = loose_by g.R.ReadLeaves.rules g.R.OtherVersions.loose in
     let ways = c.keep_walk_laws.ensures.ways in
     rw c.halt_of_field.ensures (known_none l ways (shape_of c.args.ty.now) c.in_ok-octets.ensures.done c.in-Err.halt (rw c.deref.ensures.value at c.in-Err.ensures.stop))

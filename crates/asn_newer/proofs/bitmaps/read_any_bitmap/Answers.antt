@@ -1,4 +1,4 @@
-use Rattle.std.proofs.Common.{◌∙◌, Option, IsNone, List, ℕ, refl, sym, subst, arith}
+use Rattle.std.proofs.Common.{◌∙◌, Option, IsNone, refl, sym, subst, arith}
 use Rattle.std.proofs.lemmas.Bool.{true≢false}
 use Rattle.asn_walk.specs.declared.presence.PresenceBits.{PresenceBits}
 use Rattle.asn_newer.specs.declared.halt.Halt.TheVariants as halt

@@ -1,6 +1,6 @@
 use Rattle.std.proofs.Common.{ℤ, Option, Some, None, IfSome, sym, ◌∙◌}
 use Rattle.asn_values.specs.Datum.{number}
-use Rattle.asn_newer.specs.Walking.{loose_by, LooseEntry}
+use Rattle.asn_newer.specs.Walking.{loose_by}
 use Rattle.asn_newer.proofs.BoundedEntries.{bounded_entry}
 use Rattle.asn_newer.proofs.components.try_bounded.Goals as goal
 

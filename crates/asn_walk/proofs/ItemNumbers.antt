@@ -23,7 +23,8 @@ small_magnitude (pos n) h = let w = ltb-false 2147483647 n (or_parts (int_lt (po
 small_magnitude (negsuc n) h = let w = ltb-false 2147483647 n (or_parts (nat_lt 2147483647 n) _ h).0 in omega arith
 
 -- the numbers of items are numbers of 32 bits
-pub number_is_small : (ls : List Label) (p : ℕ) → list_any is_not_32_bits (numbers ls) ≡ false → magnitude (number_at ls p) < 2147483648
+pub number_is_small : (ls : List Label) (p : ℕ) → list_any is_not_32_bits (numbers ls) ≡ false
+    → magnitude (number_at ls p) < 2147483648
 number_is_small [] p h = omega arith
 number_is_small (l ∷ ls) zero h = small_magnitude l.number (or_parts (is_not_32_bits l.number) _ h).0
 number_is_small (l ∷ ls) (suc p) h = number_is_small ls p (or_parts (is_not_32_bits l.number) _ h).1
@@ -33,7 +34,8 @@ pub near : (z : ℤ) → magnitude z < 2147483648 → to_z w64 (of_z w64 z) ≡ 
 near (pos n) h = omega (arith, ints)
 near (negsuc n) h = omega (arith, ints)
 
-number_there : (is : List Item) (p : ℕ) (d : Item) → p < length is → number_at (map label_of is) p ≡ (get_or is p d).number
+number_there : (is : List Item) (p : ℕ) (d : Item) → p < length is
+    → number_at (map label_of is) p ≡ (get_or is p d).number
 number_there [] p d h = absurd (omega arith)
 number_there (i ∷ is) zero d h = refl
 number_there (i ∷ is) (suc p) d h = number_there is p d (omega arith)
@@ -49,7 +51,8 @@ behind_front (x ∷ xs) ys zero q e = absurd (omega (arith, e))
 behind_front (x ∷ xs) ys (suc p) q e = behind_front xs ys p q (omega (arith, e))
 
 -- of the root
-pub root_number : (root : List Item) (more : MoreLabels) (p : ℕ) (d : Item) → InProfile (enumerated (map label_of root) more) → p < length root
+pub root_number : (root : List Item) (more : MoreLabels) (p : ℕ) (d : Item)
+    → InProfile (enumerated (map label_of root) more) → p < length root
     → to_z w64 (of_z w64 (get_or root p d).number) ≡ number_at (map label_of root ++ more_labels more) p
 root_number root more p d good h =
     let ls = map label_of root in
@@ -59,8 +62,11 @@ root_number root more p d good h =
     near (get_or root p d).number (subst (λ (z : ℤ). magnitude z < 2147483648) there small) ∙ sym there
 
 -- of the additions
-pub added_number : (root items : List Item) (p : ℕ) (d : Item) → InProfile (enumerated (map label_of root) (marked_labels (map label_of items))) → length root ≤ p → p < length root + length items
-    → to_z w64 (of_z w64 (get_or items (p - length root) d).number) ≡ number_at (map label_of root ++ map label_of items) p
+pub added_number : (root items : List Item) (p : ℕ) (d : Item)
+    → InProfile (enumerated (map label_of root) (marked_labels (map label_of items))) → length root ≤ p
+    → p < length root + length items
+    → to_z w64 (of_z w64 (get_or items (p - length root) d).number)
+    ≡ number_at (map label_of root ++ map label_of items) p
 added_number root items p d good l h =
     let ls = map label_of root in
     let ms = map label_of items in
@@ -72,6 +78,7 @@ added_number root items p d good l h =
     near (get_or items (p - length root) d).number (subst (λ (z : ℤ). magnitude z < 2147483648) there small) ∙ sym there
 
 -- a type of the profile has few of them
-pub few_items : (root : List Label) (more : MoreLabels) → InProfile (enumerated root more) → length (root ++ more_labels more) ≤ 256
+pub few_items : (root : List Label) (more : MoreLabels) → InProfile (enumerated root more)
+    → length (root ++ more_labels more) ≤ 256
 few_items root more good =
     omega (arith, length-append root (more_labels more), ltb-false most_items (length root + length (more_labels more)) (left_false (nat_lt most_items (length root + length (more_labels more))) (nat_lt most_additions (length (more_labels more))) (left_false (too_many_here (enumerated root more)) (nat_lt most_nodes (nodes (enumerated root more))) (good TooMany))))

@@ -62,7 +62,8 @@ pub count_of_fields : (fs : List Field) → length (demands (fields_of (map part
 count_of_fields fs = length-demands (map part_of_field fs) ∙ length-map fs part_of_field
 
 -- there are no more than 64 components in the root
-pub few_components : {t : Shape} {more : MoreFields} (fs : List Field) → t ≡ sequence (fields_of (map part_of_field fs)) more → InProfile t → length fs ≤ 64
+pub few_components : {t : Shape} {more : MoreFields} (fs : List Field)
+    → t ≡ sequence (fields_of (map part_of_field fs)) more → InProfile t → length fs ≤ 64
 few_components {t} {more} fs e good =
     let inner : Fields = fields_of (map part_of_field fs) in
     let all : InProfile (sequence inner more) = subst InProfile e good in
@@ -79,16 +80,20 @@ few_additions root fs good =
     ltb-false most_additions (length (demands fs)) (right_false (nat_lt most_components (length (demands root))) (nat_lt most_additions (length (demands fs))) here)
 
 -- the additions, as the program has them
-pub marked_fields : (ext : Option (Vec Field Global)) (more : Vec Field Global) (fs : List Field) → ext ≡ Some more → fs ≡ more.items → more_fields_of ext ≡ marked (fields_of (map part_of_field fs))
+pub marked_fields : (ext : Option (Vec Field Global)) (more : Vec Field Global) (fs : List Field) → ext ≡ Some more
+    → fs ≡ more.items → more_fields_of ext ≡ marked (fields_of (map part_of_field fs))
 marked_fields ext more fs e f = ap more_fields_of e ∙ ap (λ (l : List Field). marked (fields_of (map part_of_field l))) (sym f)
 
 -- a type with an extension mark
-pub marked_type : (t : AsnType) (root : Vec Field Global) (ext : Option (Vec Field Global)) (more : Vec Field Global) (fs gs : List Field) → t ≡ asn_type.Seq root ext → ext ≡ Some more → fs ≡ root.items → gs ≡ more.items
+pub marked_type : (t : AsnType) (root : Vec Field Global) (ext : Option (Vec Field Global)) (more : Vec Field Global)
+    (fs gs : List Field) → t ≡ asn_type.Seq root ext → ext ≡ Some more → fs ≡ root.items → gs ≡ more.items
     → shape_of t ≡ sequence (fields_of (map part_of_field fs)) (marked (fields_of (map part_of_field gs)))
 marked_type t root ext more fs gs e f g h = sequence_of_fields t root ext fs e g ∙ ap (λ (m : MoreFields). sequence (fields_of (map part_of_field fs)) m) (marked_fields ext more gs f h)
 
 -- a type without one
-pub closed_type : (t : AsnType) (root : Vec Field Global) (ext : Option (Vec Field Global)) (fs : List Field) → t ≡ asn_type.Seq root ext → ext ≡ None → fs ≡ root.items → shape_of t ≡ sequence (fields_of (map part_of_field fs)) closed
+pub closed_type : (t : AsnType) (root : Vec Field Global) (ext : Option (Vec Field Global)) (fs : List Field)
+    → t ≡ asn_type.Seq root ext → ext ≡ None → fs ≡ root.items
+    → shape_of t ≡ sequence (fields_of (map part_of_field fs)) closed
 closed_type t root ext fs e f g = sequence_of_fields t root ext fs e g ∙ ap (λ (m : MoreFields). sequence (fields_of (map part_of_field fs)) m) (ap more_fields_of f)
 
 module _ {t : Shape} {root : Fields} (fs : List Field) (e : t ≡ sequence root (marked (fields_of (map part_of_field fs)))) (good : InProfile t) where
@@ -101,7 +106,8 @@ module _ {t : Shape} {root : Fields} (fs : List Field) (e : t ≡ sequence root 
 -- ---- the alternatives of a CHOICE
 
 -- few of them
-few_choices : (root : Alternatives) (more : MoreAlternatives) → InProfile (choice root more) → count root + count (more_alternatives more) ≤ 63
+few_choices : (root : Alternatives) (more : MoreAlternatives) → InProfile (choice root more)
+    → count root + count (more_alternatives more) ≤ 63
 few_choices root more good =
     let all : somewhere too_many_here (choice root more) ≡ false = left_false (somewhere too_many_here (choice root more)) (nat_lt most_nodes (nodes (choice root more))) (good TooMany) in
     let here : nat_lt most_alternatives (count root + count (more_alternatives more)) ≡ false = left_false (nat_lt most_alternatives (count root + count (more_alternatives more))) (some_alternative too_many_here root || some_more too_many_here more) all in
@@ -129,13 +135,15 @@ module _ (root : Alternatives) (more : MoreAlternatives) (good : InProfile (choi
       go (marked_choice alts) g = added_alternatives_of_profile root alts g
 
 -- they are few
-pub few_indexes : (root : Alternatives) (more : MoreAlternatives) → InProfile (choice root more) → AreFew (count root) (added_alternatives more)
+pub few_indexes : (root : Alternatives) (more : MoreAlternatives) → InProfile (choice root more)
+    → AreFew (count root) (added_alternatives more)
 few_indexes root closed_choice good = (let few = few_choices root closed_choice good in omega (arith, few))
 few_indexes root (marked_choice alts) good = few_choices root (marked_choice alts) good
 
 -- ---- the alternative at a place
 
-pub good_at : (alts : List Alt) (i : ℕ) (d : Alt) → AreAllOfProfile (alternatives_of (map branch_of alts)) → i < length alts → InProfile (shape_of (get_or alts i d).ty)
+pub good_at : (alts : List Alt) (i : ℕ) (d : Alt) → AreAllOfProfile (alternatives_of (map branch_of alts))
+    → i < length alts → InProfile (shape_of (get_or alts i d).ty)
 good_at [] i d good h = absurd (omega arith)
 good_at (a ∷ alts) zero d good h = rw (← shape_of_branch a) good.0
 good_at (a ∷ alts) (suc i) d good h = good_at alts i d good.1 (omega arith)
@@ -143,20 +151,26 @@ good_at (a ∷ alts) (suc i) d good h = good_at alts i d good.1 (omega arith)
 -- ---- as the program has them
 
 -- how many additions there are
-pub more_count : (ext : Option (Vec Alt Global)) → added_alternatives (more_alternatives_of ext) ≡ option_map vec_len ext
+pub more_count : (ext : Option (Vec Alt Global))
+    → added_alternatives (more_alternatives_of ext) ≡ option_map vec_len ext
 more_count None = refl
 more_count (Some more) = ap Some (count-of more.items ∙ sym more.ok.0)
 
 -- which they are
-pub additions_are : (ext : Option (Vec Alt Global)) (additions : Vec Alt Global) (more : List Alt) → ext ≡ Some additions → more ≡ additions.items → more_alternatives (more_alternatives_of ext) ≡ alternatives_of (map branch_of more)
+pub additions_are : (ext : Option (Vec Alt Global)) (additions : Vec Alt Global) (more : List Alt)
+    → ext ≡ Some additions → more ≡ additions.items
+    → more_alternatives (more_alternatives_of ext) ≡ alternatives_of (map branch_of more)
 additions_are ext additions more e em = ap (λ (x : Option (Vec Alt Global)). more_alternatives (more_alternatives_of x)) e ∙ ap (λ (l : List Alt). alternatives_of (map branch_of l)) (sym em)
 
 -- how many there are in the root
-pub known_count : (root : Vec Alt Global) (n : ℕ) → n ≡ vec_len root → count (alternatives_of (map branch_of root.items)) ≡ n
+pub known_count : (root : Vec Alt Global) (n : ℕ) → n ≡ vec_len root
+    → count (alternatives_of (map branch_of root.items)) ≡ n
 known_count root n e = count-of root.items ∙ sym root.ok.0 ∙ sym e
 
--- an index of an addition is one of so many
-pub added_inside : (n : ℕ) (m : Option ℕ) (ext : Option (Vec Alt Global)) (additions : Vec Alt Global) (i : Index) (p : ℕ) → m ≡ option_map vec_len ext → ext ≡ Some additions → i ≡ an_index.Added p → IsIndexWithin n m (index_seen i) → p < vec_len additions
+-- an index of an addition is one of this many
+pub added_inside : (n : ℕ) (m : Option ℕ) (ext : Option (Vec Alt Global)) (additions : Vec Alt Global) (i : Index)
+    (p : ℕ) → m ≡ option_map vec_len ext → ext ≡ Some additions → i ≡ an_index.Added p
+    → IsIndexWithin n m (index_seen i) → p < vec_len additions
 added_inside n m ext additions i p e f g h = rw (e, f, g) at h
 
 module _ (t : AsnType) (root : Vec Alt Global) (ext : Option (Vec Alt Global)) (is : t ≡ asn_type.Choice root ext) where
@@ -171,7 +185,8 @@ module _ (t : AsnType) (root : Vec Alt Global) (ext : Option (Vec Alt Global)) (
     pub roots_good : (alts : List Alt) → alts ≡ root.items → AreAllOfProfile (alternatives_of (map branch_of alts))
     roots_good alts e = rw e (root_good (alternatives_of (map branch_of root.items)) (more_alternatives_of ext) choice_good)
 
-    pub additions_good : (additions : Vec Alt Global) (more : List Alt) → ext ≡ Some additions → more ≡ additions.items → AreAllOfProfile (alternatives_of (map branch_of more))
+    pub additions_good : (additions : Vec Alt Global) (more : List Alt) → ext ≡ Some additions → more ≡ additions.items
+        → AreAllOfProfile (alternatives_of (map branch_of more))
     additions_good additions more e em = rw (← additions_are ext additions more e em) (added_good (alternatives_of (map branch_of root.items)) (more_alternatives_of ext) choice_good)
 
     -- there is an alternative, and they are few
@@ -181,7 +196,8 @@ module _ (t : AsnType) (root : Vec Alt Global) (ext : Option (Vec Alt Global)) (
     pub few_root : (n : ℕ) → n ≡ vec_len root → n ≤ 63
     few_root n e = let few = few_choices (alternatives_of (map branch_of root.items)) (more_alternatives_of ext) choice_good in omega (arith, few, known_count root n e)
 
-    pub few_all : (n : ℕ) → n ≡ vec_len root → (additions : Vec Alt Global) → ext ≡ Some additions → n + vec_len additions ≤ 63
+    pub few_all : (n : ℕ) → n ≡ vec_len root → (additions : Vec Alt Global) → ext ≡ Some additions
+        → n + vec_len additions ≤ 63
     few_all n e additions f =
         let few = few_choices (alternatives_of (map branch_of root.items)) (more_alternatives_of ext) choice_good in
         let more : count (more_alternatives (more_alternatives_of ext)) ≡ vec_len additions = ap count (additions_are ext additions additions.items f refl) ∙ count-of additions.items ∙ sym additions.ok.0 in

@@ -62,12 +62,13 @@ abbrev pub added : MoreFields → Option ℕ
 added closed = None
 added (marked fs) = Some (length (demands fs))
 
--- whether some addition is present, and a presence bitmap of so many bits
+-- whether some addition is present, and a presence bitmap of this many bits
 abbrev pub GoodPreamble : ℕ → Option ℕ → Bool × ℕ → Type 0
 GoodPreamble n more p = (p.1 < 2 ^ n) × (p.0 ≡ true → CanExtend more)
 
 abbrev pub PreambleOf : Coding → ℕ → Option ℕ → Bool × ℕ → List Chunk → Type 0
-PreambleOf c n more = SpelledBy (GoodPreamble n more) (λ p. ones (c.preamble (extension_bit (is_some more) p.0 ++ bits n p.1)))
+PreambleOf c n more =
+    SpelledBy (GoodPreamble n more) (λ p. ones (c.preamble (extension_bit (is_some more) p.0 ++ bits n p.1)))
 
 -- the presence bits of n additions, of which one is 1
 abbrev pub AdditionBitmapOf : Coding → ℕ → ℕ → List Chunk → Type 0
@@ -80,13 +81,15 @@ OpenOf c t = Sealed open_field (Holds c.ruling t)
 -- the additions that are present by these bits, each in an open field
 abbrev pub OpenListed : Coding → Fields → List ℕ → List (Option Datum) → List Chunk → Type 0
 OpenListed c no_fields bits = Nothing []
-OpenListed c (field name demand t fs) (suc b ∷ bits) = Map prepended (Then (Map Some (OpenOf c t)) (λ _. OpenListed c fs bits))
+OpenListed c (field name demand t fs) (suc b ∷ bits) =
+    Map prepended (Then (Map Some (OpenOf c t)) (λ _. OpenListed c fs bits))
 OpenListed c (field name demand t fs) (zero ∷ bits) = Map (λ es. None ∷ es) (OpenListed c fs bits)
 OpenListed c (field name demand t fs) [] = λ es cs. ⊥
 
 -- additions of which one is present: their presence bits, and the open fields of those that are
 abbrev pub AdditionsOf : Coding → Fields → List (Option Datum) → List Chunk → Type 0
-AdditionsOf c fs = Map behind_first (Then (AdditionBitmapOf c (length (demands fs))) (λ m. OpenListed c fs (bits (length (demands fs)) m)))
+AdditionsOf c fs = Map behind_first
+    (Then (AdditionBitmapOf c (length (demands fs))) (λ m. OpenListed c fs (bits (length (demands fs)) m)))
 
 -- the entries of additions that are all absent
 abbrev pub absent_entries : Fields → List (Option Datum)
@@ -105,7 +108,8 @@ sequence_told p = components (components_of (p.1.0 ++ p.1.1))
 -- the preamble, the components under its presence bits, and the additions under its extension bit
 abbrev pub SequencesOf : Coding → Fields → MoreFields → Datum → List Chunk → Type 0
 SequencesOf c root more =
-    Map sequence_told (Then (PreambleOf c (bitmap_length root) (added more)) (λ p. Then (Listed c.code root (bits (bitmap_length root) p.1)) (λ _. AddedOf c more p.0)))
+    Map sequence_told (Then (PreambleOf c (bitmap_length root) (added more))
+    (λ p. Then (Listed c.code root (bits (bitmap_length root) p.1)) (λ _. AddedOf c more p.0)))
 
 -- ---- SEQUENCE OF
 
@@ -122,7 +126,7 @@ abbrev pub added_alternatives : MoreAlternatives → Option ℕ
 added_alternatives closed_choice = None
 added_alternatives (marked_choice alts) = Some (count alts)
 
--- an index of so many of the root, or of so many additions where there is an extension mark
+-- an index of this many of the root, or of this many additions where there is an extension mark
 abbrev pub IsIndexWithin : ℕ → Option ℕ → ℕ ⊎ ℕ → Type 0
 IsIndexWithin root more (inl n) = n < root
 IsIndexWithin root None (inr n) = ⊥
@@ -151,4 +155,5 @@ chosen_value root (inl i, v) = alternative i v
 chosen_value root (inr k, v) = alternative (count root + k) v
 
 abbrev pub ChoicesOf : Coding → Alternatives → MoreAlternatives → Datum → List Chunk → Type 0
-ChoicesOf c root more = Map (chosen_value root) (Then (IndexOf c (count root) (added_alternatives more)) (ChosenBy c root more))
+ChoicesOf c root more =
+    Map (chosen_value root) (Then (IndexOf c (count root) (added_alternatives more)) (ChosenBy c root more))

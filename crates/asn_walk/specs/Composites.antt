@@ -23,27 +23,33 @@ each_code c (field name demand t fs) (e ∷ es) = if_spelled demand e (λ d. c.c
 abbrev pub open_code : Coding → Fields → List (Option Datum) → List Chunk
 open_code c no_fields es = []
 open_code c (field name demand t fs) [] = []
-open_code c (field name demand t fs) (e ∷ es) = if_spelled demand e (λ d. in_open_field c (c.code t d)) ++ open_code c fs es
+open_code c (field name demand t fs) (e ∷ es) =
+    if_spelled demand e (λ d. in_open_field c (c.code t d)) ++ open_code c fs es
 
 -- the extension additions: nothing where none is present, else their presence bits, and those that are present in
 -- open fields
 abbrev pub additions_code : Coding → Fields → List (Option Datum) → List Chunk
-additions_code c fs es = elim (any_present es) [ true ↦ ones (c.addition_bitmap (presence (demands fs) es)) ++ open_code c fs es | false ↦ [] ]
+additions_code c fs es =
+    elim (any_present es) [
+      | true ↦ ones (c.addition_bitmap (presence (demands fs) es)) ++ open_code c fs es
+      | false ↦ []
+    ]
 
 abbrev pub more_code : Coding → MoreFields → List (Option Datum) → List Chunk
 more_code c closed es = []
 more_code c (marked fs) es = additions_code c fs es
 
--- the components of the root, behind these bits and their presence bits
+-- the components of the root, after these bits and their presence bits
 abbrev pub root_code : Coding → List ℕ → Fields → List (Option Datum) → List Chunk
 root_code c mark fs es = ones (c.preamble (mark ++ presence (demands fs) es)) ++ each_code c fs es
 
--- the root behind the extension bit, and the additions
+-- the root after the extension bit, and the additions
 abbrev pub sequence_code : Coding → Fields → MoreFields → List (Option Datum) → List Chunk
 sequence_code c root more es =
-    let ours = take (length (demands root)) es in
-    let theirs = drop (length (demands root)) es in
-    root_code c (extension_bit (is_marked more) (any_present theirs)) root ours ++ more_code c more theirs
+    let root_entries = take (length (demands root)) es in
+    let addition_entries = drop (length (demands root)) es in
+    root_code c (extension_bit (is_marked more) (any_present addition_entries)) root root_entries
+    ++ more_code c more addition_entries
 
 -- ---- CHOICE
 
@@ -60,8 +66,10 @@ added_code c (marked_choice alts) i d = in_open_field c (alternative_code c alts
 
 -- the index, and the value: of an alternative of the root, or of an addition
 abbrev pub choice_parts : Coding → Alternatives → MoreAlternatives → Bool → ℕ → Datum → List Chunk
-choice_parts c root more true tag d = ones (c.index (count root) (is_marked_choice more) (inl tag)) ++ alternative_code c root tag d
-choice_parts c root more false tag d = ones (c.index (count root) true (inr (tag - count root))) ++ added_code c more (tag - count root) d
+choice_parts c root more true tag d =
+    ones (c.index (count root) (is_marked_choice more) (inl tag)) ++ alternative_code c root tag d
+choice_parts c root more false tag d =
+    ones (c.index (count root) true (inr (tag - count root))) ++ added_code c more (tag - count root) d
 
 -- tags count the alternatives from 0, root first
 abbrev pub choice_code : Coding → Alternatives → MoreAlternatives → ℕ → Datum → List Chunk

@@ -9,6 +9,6 @@ use Rattle.asn_values.specs.View.{label_of, more_labels_of}
 abbrev pub enumeration_of : List Item → Option (Vec Item) → Shape
 enumeration_of root additions = enumerated (map label_of root) (more_labels_of additions)
 
--- all items, those behind the mark too
+-- all items, those after the mark too
 abbrev pub items_of : List Item → Option (Vec Item) → List Label
 items_of root additions = map label_of root ++ more_labels (more_labels_of additions)

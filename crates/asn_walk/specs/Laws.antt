@@ -44,9 +44,14 @@ pub record Laws (c : Coding) : Type 0 where
   pub addition_bitmap : (n : ℕ) → Lawful (AdditionBitmapOf c n)
   pub index : (root : ℕ) (more : Option ℕ) → AreFew root more → Lawful (IndexOf c root more)
   pub list_start : (s : SizeRange) → IsSizeOfProfile s → Lawful (c.list_start s)
-  pub list_ahead : (s : SizeRange) → IsSizeOfProfile s → (a : Ahead) (cs : List Chunk) → c.list_start s a cs → SomeAhead a
+  pub list_ahead : (s : SizeRange) → IsSizeOfProfile s → (a : Ahead) (cs : List Chunk) → c.list_start s a cs
+      → SomeAhead a
   -- the kinds are put together from the parts
-  pub sequences : (root : Fields) (more : MoreFields) → InProfile (sequence root more) → Same (SequencesOf c root more) (Spelt c.code None (sequence root more))
-  pub lists : (t : Shape) (s : SizeRange) → InProfile (sequence_of t s) → Same (ListsOf c t s) (Spelt c.code None (sequence_of t s))
-  pub choices : (root : Alternatives) (more : MoreAlternatives) → InProfile (choice root more) → Same (ChoicesOf c root more) (Spelt c.code None (choice root more))
-  pub filled : (t : Shape) → InProfile t → Same (Padded c.ruling.fielding c.padding (Spelt c.code None t)) (Wholes c.ruling t)
+  pub sequences : (root : Fields) (more : MoreFields) → InProfile (sequence root more)
+      → Same (SequencesOf c root more) (Spelt c.code None (sequence root more))
+  pub lists : (t : Shape) (s : SizeRange) → InProfile (sequence_of t s)
+      → Same (ListsOf c t s) (Spelt c.code None (sequence_of t s))
+  pub choices : (root : Alternatives) (more : MoreAlternatives) → InProfile (choice root more)
+      → Same (ChoicesOf c root more) (Spelt c.code None (choice root more))
+  pub filled : (t : Shape) → InProfile t
+      → Same (Padded c.ruling.fielding c.padding (Spelt c.code None t)) (Wholes c.ruling t)

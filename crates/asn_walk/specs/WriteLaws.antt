@@ -13,11 +13,15 @@ pub record WriteLaws (c : Coding) : Type 0 where
   pub none : c.to_bits [] ≡ []
   pub joined : (us vs : List ℕ) → c.to_bits (us ++ vs) ≡ c.to_bits us ++ c.to_bits vs
   -- the kinds are put together from the parts
-  pub sequences : (root : Fields) (more : MoreFields) (es : Components) → InProfile (sequence root more) → Fits (sequence root more) (components es)
+  pub sequences : (root : Fields) (more : MoreFields) (es : Components) → InProfile (sequence root more)
+      → Fits (sequence root more) (components es)
       → c.code (sequence root more) (components es) ≡ sequence_code c root more (component_list es)
-  pub lists : (t : Shape) (s : SizeRange) (ds : Elements) → c.code (sequence_of t s) (elements ds) ≡ c.sized s (map (λ d. c.code t d) (element_list ds))
-  pub choices : (root : Alternatives) (more : MoreAlternatives) (tag : ℕ) (d : Datum) → c.code (choice root more) (alternative tag d) ≡ choice_code c root more tag d
+  pub lists : (t : Shape) (s : SizeRange) (ds : Elements)
+      → c.code (sequence_of t s) (elements ds) ≡ c.sized s (map (λ d. c.code t d) (element_list ds))
+  pub choices : (root : Alternatives) (more : MoreAlternatives) (tag : ℕ) (d : Datum)
+      → c.code (choice root more) (alternative tag d) ≡ choice_code c root more tag d
   -- the octets of a complete encoding are the encoding of the value
-  pub complete : (t : Shape) (d : Datum) → InProfile t → Fits t d → c.ruling.units (c.complete (c.code t d)) ≡ flat c.ruling.fielding.spelled (c.ruling.whole t d)
+  pub complete : (t : Shape) (d : Datum) → InProfile t → Fits t d
+      → c.ruling.units (c.complete (c.code t d)) ≡ flat c.ruling.fielding.spelled (c.ruling.whole t d)
   -- as many units are as many octets
   pub long : (o p : List ℕ) → c.ruling.units o ≡ c.ruling.units p → length o ≡ length p

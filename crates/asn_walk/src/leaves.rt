@@ -6,11 +6,11 @@ ghost use Rattle.asn_values.specs.View.{shape_of, datum_of, size_range_of};
 ghost use Rattle.asn_rules.specs.Chunks.{open_field};
 ghost use Rattle.asn_rules.specs.Frames.{Frame};
 ghost use Rattle.asn_rules.specs.Padding.{Fixed};
-ghost use Rattle.asn_walk.specs.Ahead.{Ahead, Next, StopsNext};
+ghost use Rattle.asn_walk.specs.Ahead.{Ahead, StopsNext};
 ghost use Rattle.asn_walk.specs.Coding.{Coding, PreambleOf, AdditionBitmapOf, AreFew, IndexOf};
 ghost use Rattle.asn_walk.specs.Integers.{between, IsOfProfile};
 ghost use Rattle.asn_walk.specs.Laws.{Laws, IsSimple, IsSizeOfProfile};
-ghost use Rattle.asn_walk.specs.Reading.{Reads, ReadsValue, StopsAt, ValuesOf, OthersOf};
+ghost use Rattle.asn_walk.specs.Reading.{Reads, ReadsValue, ReadsOther, ReadsNext, StopsAt, ValuesOf, OthersOf};
 ghost use Rattle.asn_walk.specs.Views.{preamble_seen, index_seen};
 
 use asn_bits::BitCursor;
@@ -67,8 +67,8 @@ pub trait ReadLeaves {
         ensures done { IfOk result (λ v. ReadsValue rules ty.now v units.old units.new) }
         ensures stop { IfErr result (λ why. StopsAt rules (ValuesOf rules (shape_of ty.now)) units.old why) };
 
-    /// Reads a value of a type that is neither SEQUENCE, SEQUENCE OF nor CHOICE into the one that is there, whose memory
-    /// it may keep. At `Err` some value is left there.
+    /// Reads a value of a type that is neither SEQUENCE, SEQUENCE OF nor CHOICE into the one that is there, whose
+    /// memory it may keep. At `Err` some value is left there.
     fn read_simple_into(
         alloc: Global,
         ty: &AsnType,
@@ -93,8 +93,7 @@ pub trait ReadLeaves {
         requires of_profile { InProfile (shape_of ty.now) }
         requires good { good_default (shape_of ty.now) (datum_of default.now) ≡ true }
         ensures at_unit { OnOk result (rules.at_unit units.new) }
-        ensures done { IfOk result (λ v.
-            Reads rules (OthersOf rules (datum_of default.now) (shape_of ty.now)) (datum_of v) units.old units.new) }
+        ensures done { IfOk result (λ v. ReadsOther rules ty.now default.now v units.old units.new) }
         ensures stop { IfErr result (λ why.
             StopsAt rules (OthersOf rules (datum_of default.now) (shape_of ty.now)) units.old why) };
 
@@ -185,8 +184,8 @@ pub trait ReadLeaves {
         requires between { is_between fragments.old }
         ensures at_unit { OnOk result (rules.at_unit units.new) }
         ensures between { OnOk result (is_between fragments.new) }
-        ensures done { IfOk result (λ count. Next rules.ruling.fielding (ahead fragments.old) count
-            (ahead fragments.new) (rules.to_units units.old) (rules.to_units units.new)) }
+        ensures done { IfOk result (λ count.
+            ReadsNext rules (ahead fragments.old) count (ahead fragments.new) units.old units.new) }
         ensures stop { IfErr result (λ why.
             StopsNext rules.ruling.fielding (ahead fragments.old) (rules.to_units units.old) why) };
 

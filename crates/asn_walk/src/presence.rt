@@ -1,9 +1,9 @@
 //! Presence bits of the components of a SEQUENCE, as a number.
-ghost use Rattle.std.specs.Prelude.{◌≡◌, ◌≤◌, ◌<◌, ◌+◌, ◌^◌, ◌/◌, ◌%◌, true, false, length};
+ghost use Rattle.std.specs.Prelude.{◌≡◌, ◌≤◌, ◌<◌, true, false, length};
 ghost use Rattle.asn_values.specs.View.{part_of_field, fields_seen};
-ghost use Rattle.asn_bits.specs.Sink.{bit_of};
 ghost use Rattle.asn_rules.specs.Components.{has_presence_bit};
 ghost use Rattle.asn_rules.specs.Listed.{bitmap_length};
+ghost use Rattle.asn_walk.specs.Views.{TakesBit};
 
 use asn_values::{Field, Need};
 
@@ -20,8 +20,7 @@ impl PresenceBits {
         requires some { 0 < self.old.left }
         requires few { self.old.left ≤ 64 }
         ensures bitmap { self.new.bitmap ≡ self.old.bitmap }
-        ensures left { self.new.left + 1 ≡ self.old.left }
-        ensures bit { bit_of result ≡ self.old.bitmap / 2 ^ self.new.left % 2 }
+        ensures bit { TakesBit self.old self.new result }
     {
         self.left -= 1;
         (self.bitmap >> self.left) & 1 == 1
@@ -34,8 +33,7 @@ impl PresenceBits {
         ensures bitmap { self.new.bitmap ≡ self.old.bitmap }
         ensures must { has_presence_bit (part_of_field field.now).demand ≡ false
             → (result ≡ true) × (self.new.left ≡ self.old.left) }
-        ensures bit { has_presence_bit (part_of_field field.now).demand ≡ true
-            → (self.new.left + 1 ≡ self.old.left) × (bit_of result ≡ self.old.bitmap / 2 ^ self.new.left % 2) }
+        ensures bit { has_presence_bit (part_of_field field.now).demand ≡ true → TakesBit self.old self.new result }
     {
         if has_presence_bit(field) {
             self.next()

@@ -1,5 +1,5 @@
 //! What a set of encoding rules gives to a writer: the parts of types and values that it spells by itself.
-ghost use Rattle.std.specs.Prelude.{◌≡◌, ◌≤◌, ◌<◌, ◌-◌, ◌^◌, ◌++◌, List, length, Some, IfOk, OnOk};
+ghost use Rattle.std.specs.Prelude.{◌≡◌, ◌≤◌, ◌<◌, ◌-◌, ◌^◌, ◌++◌, List, Some, IfOk, OnOk};
 ghost use Rattle.asn_values.specs.Datum.{Datum, number};
 ghost use Rattle.asn_values.specs.Fits.{FitsLength, FitsNumber};
 ghost use Rattle.asn_values.specs.Profile.{InProfile};
@@ -12,7 +12,7 @@ ghost use Rattle.asn_walk.specs.Laws.{IsSimple};
 ghost use Rattle.asn_walk.specs.Views.{index_seen};
 ghost use Rattle.asn_walk.specs.WriteLaws.{WriteLaws};
 ghost use Rattle.asn_walk.specs.Writing.{TellsWhether, FitsType, Writes, WritesUnits, WritesValue, mark_bits};
-ghost use Rattle.asn_walk.specs.Writing.{LeavesToWrite, Advances, IsSpelling};
+ghost use Rattle.asn_walk.specs.Writing.{StartsList, Advances, IsSpelling};
 
 use crate::leaves::Index;
 use asn_bits::BitSink;
@@ -39,11 +39,11 @@ pub trait WriteLeaves {
         ensures written { OnOk result (WritesValue rules sink.old sink.new ty.now value.now) };
 
     /// Writes a number, where it is one of the range.
-    fn write_number(bounds: &Bounds, whole: i128, sink: &mut BitSink) -> Result<(), EncodeFault>
+    fn write_number(bounds: &Bounds, value: i128, sink: &mut BitSink) -> Result<(), EncodeFault>
         requires of_profile { InProfile (integer (range_of bounds.now)) }
-        ensures of_type { TellsWhether result (FitsNumber (range_of bounds.now) whole) }
+        ensures of_type { TellsWhether result (FitsNumber (range_of bounds.now) value) }
         ensures written { OnOk result
-            (Writes rules sink.old sink.new (rules.code (integer (range_of bounds.now)) (number whole))) };
+            (Writes rules sink.old sink.new (rules.code (integer (range_of bounds.now)) (number value))) };
 
     /// Writes what stands before the components of a SEQUENCE: the extension bit `extended`, where there is an
     /// extension mark, and a presence bitmap of `count` bits.
@@ -89,8 +89,8 @@ pub trait WriteLeaves {
         sink: &mut BitSink,
     ) -> Result<Self::Fragments, AllocError>
         requires of_type { FitsLength (size_range_of size.now) count }
-        ensures { IfOk result (λ f. (items : List (List Chunk)) → length items ≡ count
-            → LeavesToWrite rules sink.old (rules.sized (size_range_of size.now) items) sink.new (rest f items)) };
+        ensures { IfOk result (λ f.
+            StartsList rules (size_range_of size.now) count sink.old (rest f) sink.new) };
 
     /// Writes what stands before the next items of a list, of which `left` are left, and gives how many these are:
     /// one at least, and none where no item is left.

@@ -4,10 +4,8 @@ ghost use Rattle.std.specs.Option.{option_map};
 ghost use Rattle.asn_values.specs.Profile.{InProfile};
 ghost use Rattle.asn_values.specs.Parts.{AreOfProfile, IsGoodDemand};
 ghost use Rattle.asn_values.specs.View.{datum_of, part_of_field, fields_seen, entries_seen};
-ghost use Rattle.asn_bits.specs.Numbers.{bits};
-ghost use Rattle.asn_rules.specs.Listed.{Listed, bitmap_length};
-ghost use Rattle.asn_walk.specs.Coding.{OpenListed, AdditionsOf};
-ghost use Rattle.asn_walk.specs.Reading.{Reads, StopsAt, EntryOf, ReadsRoot, StopsInRoot};
+ghost use Rattle.asn_rules.specs.Listed.{bitmap_length};
+ghost use Rattle.asn_walk.specs.Reading.{Reads, ReadsEntry, ReadsRootOf, StopsAt, StopsInRoot, EntryOf, ComponentsOf, OpenFieldsOf, ExtensionsOf};
 
 use crate::entries::{make_present, read_other_into, set_absent, set_integer};
 use crate::reader::{read_into, read_open_into};
@@ -18,7 +16,7 @@ use asn_walk::{PresenceBits, ReadLeaves, bitmap_width};
 use asn_walk_read::{try_bounded, try_integer};
 use std::alloc::Global;
 
-/// Reads the root of a SEQUENCE: what stands before its components, and these. Gives the extension bit.
+/// Reads the root of a SEQUENCE: its preamble and its components. Gives the extension bit.
 #[inline(always)]
 #[cycle(reader)]
 pub(crate) fn read_root_into<R: ReadLeaves>(
@@ -34,8 +32,8 @@ pub(crate) fn read_root_into<R: ReadLeaves>(
     requires few_additions { IfSome additions (λ n. n ≤ 64) }
     requires each { length entries.old ≡ length root.now }
     ensures at_unit { OnOk result (R.rules.at_unit units.new) }
-    ensures done { IfOk result (λ extended. ReadsRoot R.rules (fields_seen root.now) additions extended
-        (entries_seen entries.new) units.old units.new) }
+    ensures done { IfOk result (λ extended.
+        ReadsRootOf R.rules root.now additions extended entries.new units.old units.new) }
     ensures stop { IfErr result (λ why. StopsInRoot R.rules (fields_seen root.now) additions units.old why) }
 {
     R::keep_laws();
@@ -66,11 +64,9 @@ fn read_components_into<R: ReadLeaves>(
     requires few { presence.left ≤ 64 }
     requires each { length entries.old ≡ length fields.now }
     ensures at_unit { OnOk result (R.rules.at_unit units.new) }
-    ensures done { OnOk result (Reads R.rules
-        (Listed R.rules.code (fields_seen fields.now) (bits presence.left presence.bitmap))
-        (entries_seen entries.new) units.old units.new) }
-    ensures stop { IfErr result (λ why. StopsAt R.rules
-        (Listed R.rules.code (fields_seen fields.now) (bits presence.left presence.bitmap)) units.old why) }
+    ensures done { OnOk result
+        (Reads R.rules (ComponentsOf R.rules fields.now presence) (entries_seen entries.new) units.old units.new) }
+    ensures stop { IfErr result (λ why. StopsAt R.rules (ComponentsOf R.rules fields.now presence) units.old why) }
 {
     R::keep_laws();
     let mut presence = presence;
@@ -102,8 +98,8 @@ fn read_entry_into<R: ReadLeaves>(
     requires of_profile { InProfile (part_of_field field.now).shape }
     requires good { IsGoodDemand (part_of_field field.now).demand (part_of_field field.now).shape }
     ensures at_unit { OnOk result (R.rules.at_unit units.new) }
-    ensures done { OnOk result (Reads R.rules (EntryOf R.rules (part_of_field field.now) present)
-        (option_map datum_of entry.new) units.old units.new) }
+    ensures done { OnOk result
+        (ReadsEntry R.rules field.now present (option_map datum_of entry.new) units.old units.new) }
     ensures stop { IfErr result (λ why.
         StopsAt R.rules (EntryOf R.rules (part_of_field field.now) present) units.old why) }
 {
@@ -143,9 +139,9 @@ pub(crate) fn read_additions_into<R: ReadLeaves>(
     requires few { length fields.now ≤ 64 }
     requires each { length entries.old ≡ length fields.now }
     ensures at_unit { OnOk result (R.rules.at_unit units.new) }
-    ensures done { OnOk result (Reads R.rules (AdditionsOf R.rules (fields_seen fields.now))
-        (entries_seen entries.new) units.old units.new) }
-    ensures stop { IfErr result (λ why. StopsAt R.rules (AdditionsOf R.rules (fields_seen fields.now)) units.old why) }
+    ensures done { OnOk result
+        (Reads R.rules (ExtensionsOf R.rules fields.now) (entries_seen entries.new) units.old units.new) }
+    ensures stop { IfErr result (λ why. StopsAt R.rules (ExtensionsOf R.rules fields.now) units.old why) }
 {
     R::keep_laws();
     let count = fields.len() as u32;
@@ -172,11 +168,9 @@ fn read_open_fields_into<R: ReadLeaves>(
     requires few { presence.left ≤ 64 }
     requires each { length entries.old ≡ length fields.now }
     ensures at_unit { OnOk result (R.rules.at_unit units.new) }
-    ensures done { OnOk result (Reads R.rules
-        (OpenListed R.rules (fields_seen fields.now) (bits presence.left presence.bitmap))
-        (entries_seen entries.new) units.old units.new) }
-    ensures stop { IfErr result (λ why. StopsAt R.rules
-        (OpenListed R.rules (fields_seen fields.now) (bits presence.left presence.bitmap)) units.old why) }
+    ensures done { OnOk result
+        (Reads R.rules (OpenFieldsOf R.rules fields.now presence) (entries_seen entries.new) units.old units.new) }
+    ensures stop { IfErr result (λ why. StopsAt R.rules (OpenFieldsOf R.rules fields.now presence) units.old why) }
 {
     R::keep_laws();
     let mut presence = presence;

@@ -13,8 +13,8 @@ use asn_walk::ReadLeaves;
 use std::alloc::Global;
 
 /// Decodes the value of the type whose complete encoding the octets are into the one that is there, whose memory is
-/// used again as far as it serves. Any value may be given, at first `Value::Null`. Only the first 268,435,455 octets are
-/// read.
+/// used again as far as it serves. Any value may be given, at first `Value::Null`. Only the first 268,435,455 octets
+/// are read.
 ///
 /// # Errors
 /// `Refused` where no canonical encoding of a value of the type begins so: `at` is the first unit, counted from 1,

@@ -7,7 +7,7 @@ ghost use Rattle.asn_values.specs.Profile.{InProfile, good_default};
 ghost use Rattle.asn_values.specs.View.{shape_of, datum_of, part_of_field, fields_seen, entries_seen};
 ghost use Rattle.asn_rules.specs.Listed.{default_of};
 ghost use Rattle.asn_walk.specs.Coding.{absent_entries};
-ghost use Rattle.asn_walk.specs.Reading.{Reads, ReadsValue, StopsAt, ValuesOf, OthersOf};
+ghost use Rattle.asn_walk.specs.Reading.{ReadsValue, ReadsOther, StopsAt, ValuesOf, OthersOf};
 
 use asn_bits::BitCursor;
 use asn_rules::internal::Stop;
@@ -47,8 +47,7 @@ pub(crate) fn read_other_into<R: ReadLeaves>(
     requires of_profile { InProfile (shape_of ty.now) }
     requires good { good_default (shape_of ty.now) (datum_of default.now) ≡ true }
     ensures at_unit { OnOk result (R.rules.at_unit units.new) }
-    ensures done { OnOk result (Reads R.rules (OthersOf R.rules (datum_of default.now) (shape_of ty.now))
-        (datum_of slot.new) units.old units.new) }
+    ensures done { OnOk result (ReadsOther R.rules ty.now default.now slot.new units.old units.new) }
     ensures stop { IfErr result (λ why.
         StopsAt R.rules (OthersOf R.rules (datum_of default.now) (shape_of ty.now)) units.old why) }
 {
@@ -58,22 +57,22 @@ pub(crate) fn read_other_into<R: ReadLeaves>(
 
 /// The entry becomes an INTEGER.
 #[inline(always)]
-pub(crate) fn set_integer(entry: &mut Option<Value>, whole: i128)
-    ensures { option_map datum_of entry.new ≡ Some (number whole) }
+pub(crate) fn set_integer(entry: &mut Option<Value>, value: i128)
+    ensures { option_map datum_of entry.new ≡ Some (number value) }
 {
     if let Some(Value::Int(old)) = entry {
-        *old = whole;
+        *old = value;
     } else {
-        replace_by_integer(entry, whole);
+        replace_by_integer(entry, value);
     }
 }
 
 /// The entry becomes an INTEGER, where it was none.
 #[inline(never)]
-fn replace_by_integer(entry: &mut Option<Value>, whole: i128)
-    ensures { option_map datum_of entry.new ≡ Some (number whole) }
+fn replace_by_integer(entry: &mut Option<Value>, value: i128)
+    ensures { option_map datum_of entry.new ≡ Some (number value) }
 {
-    *entry = Some(Value::Int(whole));
+    *entry = Some(Value::Int(value));
 }
 
 /// The entry becomes that of a component that is absent: its DEFAULT, where it has one.
@@ -131,9 +130,9 @@ fn replace_by_null(entry: &mut Option<Value>)
     *entry = Some(Value::Null);
 }
 
-/// Where the list has no element at this index, which is at most its length, one is appended.
+/// Appends an element if the list has none at this index, which is at most its length.
 #[inline(always)]
-pub(crate) fn make_place(elements: &mut Vec<Value>, at: usize) -> Result<(), AllocError>
+pub(crate) fn make_element(elements: &mut Vec<Value>, at: usize) -> Result<(), AllocError>
     requires { at ≤ vec_len elements.old }
     ensures there { OnOk result (at < vec_len elements.new) }
     ensures kept { OnOk result (take at elements.new.items ≡ take at elements.old.items) }

@@ -6,13 +6,11 @@ ghost use Rattle.std.specs.Prelude.{◌≡◌, ◌≤◌, ◌<◌, ◌+◌, ◌%
 ghost use Rattle.asn_values.specs.Profile.{InProfile};
 ghost use Rattle.asn_values.specs.Parts.{AreAllOfProfile};
 ghost use Rattle.asn_values.specs.View.{shape_of, datum_of, alternatives_seen};
-ghost use Rattle.asn_rules.specs.Languages.{Row};
-ghost use Rattle.asn_walk.specs.Ahead.{Remaining};
-ghost use Rattle.asn_walk.specs.Coding.{OpenOf, ChosenOf};
-ghost use Rattle.asn_walk.specs.Reading.{Reads, ReadsValue, ReadsComplete, ReadsOpen, StopsAt, ValuesOf, CompleteOf, After};
+ghost use Rattle.asn_walk.specs.Coding.{OpenOf};
+ghost use Rattle.asn_walk.specs.Reading.{Reads, ReadsValue, ReadsComplete, ReadsOpen, StopsAt, ValuesOf, CompleteOf, AlternativeOf, OpenAlternativeOf, RowOf, RestOf, ReadsRest, OverwritesRow};
 
 use crate::components::{read_additions_into, read_root_into};
-use crate::entries::{clear_entries, make_place, read_anew, take_elements};
+use crate::entries::{clear_entries, make_element, read_anew, take_elements};
 use asn_bits::BitCursor;
 use asn_rules::Why;
 use asn_rules::internal::Stop;
@@ -128,8 +126,8 @@ fn read_marked_into<R: ReadLeaves>(
     Ok(())
 }
 
-/// Reads a complete encoding of a value of the type into the one that is there: the value, and what fills up its octets
-/// (X.691, "complete encoding").
+/// Reads a complete encoding of a value of the type into the one that is there: the value, and its padding (X.691,
+/// "complete encoding").
 #[cycle(reader)]
 pub fn read_complete_into<R: ReadLeaves>(
     alloc: Global,
@@ -150,8 +148,8 @@ pub fn read_complete_into<R: ReadLeaves>(
     R::read_padding(given, units)
 }
 
-/// Reads an open type field that holds a value of the type: its octets, and once they have all come, the complete
-/// encoding that they have to be (X.691, "open type fields"; X.696, "open type").
+/// Reads an open type field that holds a value of the type: first all its octets, and then the complete encoding that
+/// they have to be (X.691, "open type fields"; X.696, "open type").
 #[inline(never)]
 #[cycle(reader)]
 pub(crate) fn read_open_into<R: ReadLeaves>(
@@ -231,10 +229,9 @@ fn read_alternative_into<R: ReadLeaves>(
     requires of_profile { AreAllOfProfile (alternatives_seen root.now) }
     requires inside { index < length root.now }
     ensures at_unit { OnOk result (R.rules.at_unit units.new) }
-    ensures done { OnOk result (Reads R.rules
-        (ChosenOf (ValuesOf R.rules) (alternatives_seen root.now) index) (datum_of slot.new) units.old units.new) }
-    ensures stop { IfErr result (λ why.
-        StopsAt R.rules (ChosenOf (ValuesOf R.rules) (alternatives_seen root.now) index) units.old why) }
+    ensures done { OnOk result
+        (Reads R.rules (AlternativeOf R.rules root.now index) (datum_of slot.new) units.old units.new) }
+    ensures stop { IfErr result (λ why. StopsAt R.rules (AlternativeOf R.rules root.now index) units.old why) }
 {
     read_into::<R>(alloc, &root[index].ty, units, slot)
 }
@@ -252,10 +249,9 @@ fn read_added_alternative_into<R: ReadLeaves>(
     requires of_profile { AreAllOfProfile (alternatives_seen added.now) }
     requires inside { index < length added.now }
     ensures at_unit { OnOk result (R.rules.at_unit units.new) }
-    ensures done { OnOk result (Reads R.rules
-        (ChosenOf (OpenOf R.rules) (alternatives_seen added.now) index) (datum_of slot.new) units.old units.new) }
-    ensures stop { IfErr result (λ why.
-        StopsAt R.rules (ChosenOf (OpenOf R.rules) (alternatives_seen added.now) index) units.old why) }
+    ensures done { OnOk result
+        (Reads R.rules (OpenAlternativeOf R.rules added.now index) (datum_of slot.new) units.old units.new) }
+    ensures stop { IfErr result (λ why. StopsAt R.rules (OpenAlternativeOf R.rules added.now index) units.old why) }
 {
     read_open_into::<R>(alloc, &added[index].ty, units, slot)
 }
@@ -288,8 +284,7 @@ fn read_list_into<R: ReadLeaves>(
     Ok(())
 }
 
-/// Reads the fragments of a list that are still to come, from its first element on. Elements that were there and have
-/// no successor are cut off.
+/// Reads the fragments of a list, from its first element on. Elements beyond the new length are cut off.
 #[cycle(reader)]
 fn read_fragments_into<R: ReadLeaves>(
     alloc: Global,
@@ -302,52 +297,48 @@ fn read_fragments_into<R: ReadLeaves>(
     requires of_profile { InProfile (shape_of element.now) }
     requires between { R.is_between fragments }
     ensures at_unit { OnOk result (R.rules.at_unit units.new) }
-    ensures done { OnOk result (Reads R.rules
-        (Remaining (ValuesOf R.rules (shape_of element.now)) (R.ahead fragments))
-        (map datum_of elements.new.items) units.old units.new) }
-    ensures stop { IfErr result (λ why. StopsAt R.rules
-        (Remaining (ValuesOf R.rules (shape_of element.now)) (R.ahead fragments)) units.old why) }
+    ensures done { OnOk result (ReadsRest R.rules element.now (R.ahead fragments) elements.new units.old units.new) }
+    ensures stop { IfErr result (λ why.
+        StopsAt R.rules (RestOf R.rules element.now (R.ahead fragments)) units.old why) }
 {
     R::keep_laws();
     let mut fragments = fragments;
-    let mut come = 0;
+    let mut start = 0;
     while let Some(count) = R::next_fragment(&mut fragments, units)? {
-        let there = elements.len() - come;
+        let present = elements.len() - start;
         let wanted = count.min(units.octets_left()).min(RESERVED_AT_ONCE);
-        elements.reserve(wanted.saturating_sub(there))?;
-        read_elements_into::<R>(alloc, element, count, come, elements, units)?;
-        come += count;
+        elements.reserve(wanted.saturating_sub(present))?;
+        read_elements_into::<R>(alloc, element, count, start, elements, units)?;
+        start += count;
     }
-    elements.truncate(come);
+    elements.truncate(start);
     Ok(())
 }
 
-/// Reads `count` elements, one after the other, behind the first `come`: each into the element that is there, or else
+/// Reads `count` elements, one after the other, from index `start` on: each into the element that is there, or else
 /// into a new one.
 #[cycle(reader)]
 fn read_elements_into<R: ReadLeaves>(
     alloc: Global,
     element: &AsnType,
     count: usize,
-    come: usize,
+    start: usize,
     elements: &mut Vec<Value>,
     units: &mut BitCursor<'_>,
 ) -> Result<(), Stop>
     requires at_unit { R.rules.at_unit units.old }
     requires of_profile { InProfile (shape_of element.now) }
-    requires inside { come ≤ vec_len elements.old }
+    requires inside { start ≤ vec_len elements.old }
     ensures at_unit { OnOk result (R.rules.at_unit units.new) }
-    ensures inside { OnOk result (come + count ≤ vec_len elements.new) }
-    ensures done { OnOk result (Reads R.rules
-        (After (map datum_of (take come elements.old.items)) (Row (ValuesOf R.rules (shape_of element.now)) count))
-        (map datum_of (take (come + count) elements.new.items)) units.old units.new) }
-    ensures stop { IfErr result (λ why.
-        StopsAt R.rules (Row (ValuesOf R.rules (shape_of element.now)) count) units.old why) }
+    ensures inside { OnOk result (start + count ≤ vec_len elements.new) }
+    ensures done { OnOk result
+        (OverwritesRow R.rules element.now start count elements.old elements.new units.old units.new) }
+    ensures stop { IfErr result (λ why. StopsAt R.rules (RowOf R.rules element.now count) units.old why) }
 {
     R::keep_laws();
     for i in 0..count {
-        make_place(elements, come + i)?;
-        read_into::<R>(alloc, element, units, &mut elements[come + i])?;
+        make_element(elements, start + i)?;
+        read_into::<R>(alloc, element, units, &mut elements[start + i])?;
     }
     Ok(())
 }

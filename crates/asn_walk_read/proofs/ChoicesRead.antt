@@ -25,55 +25,70 @@ use Rattle.asn_walk.proofs.Parts.{fields_part_of, open_inhabited, few_indexes, r
 -- ---- the alternative at a place
 
 -- the reader of its values answers for the alternative
-pub leads_at_place : (c : Coding) (alts : List Alt) (i : ℕ) (d : Alt) (us : List ℕ) → i < length alts → Leads c.ruling.fielding (Spelt c.code None (shape_of (get_or alts i d).ty)) us (λ v. v) (ChosenOf (λ t. Spelt c.code None t) (alternatives_of (map branch_of alts)) i) us
+pub leads_at_place : (c : Coding) (alts : List Alt) (i : ℕ) (d : Alt) (us : List ℕ) → i < length alts
+    → Leads c.ruling.fielding (Spelt c.code None (shape_of (get_or alts i d).ty)) us (λ v. v)
+    (ChosenOf (λ t. Spelt c.code None t) (alternatives_of (map branch_of alts)) i) us
 leads_at_place c [] i d us h = absurd (omega arith)
 leads_at_place c (a ∷ alts) zero d us h = rw (shape_of_branch a) (leads_here c.ruling.fielding (Spelt c.code None (shape_of a.ty)) us)
 leads_at_place c (a ∷ alts) (suc i) d us h = leads_at_place c alts i d us (omega arith)
 
 -- and the reader of its open fields
-pub open_leads_at_place : (c : Coding) (alts : List Alt) (i : ℕ) (d : Alt) (us : List ℕ) → i < length alts → Leads c.ruling.fielding (OpenOf c (shape_of (get_or alts i d).ty)) us (λ v. v) (ChosenOf (λ t. OpenOf c t) (alternatives_of (map branch_of alts)) i) us
+pub open_leads_at_place : (c : Coding) (alts : List Alt) (i : ℕ) (d : Alt) (us : List ℕ) → i < length alts
+    → Leads c.ruling.fielding (OpenOf c (shape_of (get_or alts i d).ty)) us (λ v. v)
+    (ChosenOf (λ t. OpenOf c t) (alternatives_of (map branch_of alts)) i) us
 open_leads_at_place c [] i d us h = absurd (omega arith)
 open_leads_at_place c (a ∷ alts) zero d us h = rw (shape_of_branch a) (leads_here c.ruling.fielding (OpenOf c (shape_of a.ty)) us)
 open_leads_at_place c (a ∷ alts) (suc i) d us h = open_leads_at_place c alts i d us (omega arith)
 
 -- it has a value
-chosen_inhabited : (c : Coding) (laws : Laws c) (alts : Alternatives) (i : ℕ) → AreAllOfProfile alts → i < count alts → Inhabited (ChosenOf (λ t. Spelt c.code None t) alts i)
+chosen_inhabited : (c : Coding) (laws : Laws c) (alts : Alternatives) (i : ℕ) → AreAllOfProfile alts → i < count alts
+    → Inhabited (ChosenOf (λ t. Spelt c.code None t) alts i)
 chosen_inhabited c laws no_alternatives i good h = absurd (omega arith)
 chosen_inhabited c laws (one_of name t alts) zero good h = spelt_inhabited c.code t good.0
 chosen_inhabited c laws (one_of name t alts) (suc i) good h = chosen_inhabited c laws alts i good.1 (omega arith)
 
 -- and one in an open field
-open_chosen_inhabited : (c : Coding) (laws : Laws c) (alts : Alternatives) (i : ℕ) → AreAllOfProfile alts → i < count alts → Inhabited (ChosenOf (λ t. OpenOf c t) alts i)
+open_chosen_inhabited : (c : Coding) (laws : Laws c) (alts : Alternatives) (i : ℕ) → AreAllOfProfile alts
+    → i < count alts → Inhabited (ChosenOf (λ t. OpenOf c t) alts i)
 open_chosen_inhabited c laws no_alternatives i good h = absurd (omega arith)
 open_chosen_inhabited c laws (one_of name t alts) zero good h = open_inhabited c laws t good.0
 open_chosen_inhabited c laws (one_of name t alts) (suc i) good h = open_chosen_inhabited c laws alts i good.1 (omega arith)
 
 module _ (c : Coding) (laws : Laws c) (root : Alternatives) (more : MoreAlternatives) (good : InProfile (choice root more)) where
-  -- behind an index stands a value
+  -- after an index stands a value
   follows : Follows (IndexOf c (count root) (added_alternatives more)) (ChosenBy c root more)
   follows = record { follow = λ i cs h. go more i (added_good root more good) h.fits }
     where
-      go : (m : MoreAlternatives) (i : ℕ ⊎ ℕ) → AreAllOfProfile (more_alternatives m) → IsIndexWithin (count root) (added_alternatives m) i → Inhabited (ChosenBy c root m i)
+      go : (m : MoreAlternatives) (i : ℕ ⊎ ℕ) → AreAllOfProfile (more_alternatives m)
+          → IsIndexWithin (count root) (added_alternatives m) i → Inhabited (ChosenBy c root m i)
       go m (inl n) g h = chosen_inhabited c laws root n (root_good root more good) h
       go closed_choice (inr n) g h = absurd h
       go (marked_choice alts) (inr n) g h = open_chosen_inhabited c laws alts n g h
 
-  whole : (us : List ℕ) → Leads c.ruling.fielding (Then (IndexOf c (count root) (added_alternatives more)) (ChosenBy c root more)) us (chosen_value root) (Spelt c.code None (choice root more)) us
+  whole : (us : List ℕ)
+      → Leads c.ruling.fielding (Then (IndexOf c (count root) (added_alternatives more)) (ChosenBy c root more)) us
+      (chosen_value root) (Spelt c.code None (choice root more)) us
   whole us = leads_on (leads_map c.ruling.fielding (chosen_value root) (Then (IndexOf c (count root) (added_alternatives more)) (ChosenBy c root more)) us) (leads_same c.ruling.fielding us (laws.choices root more good))
 
   -- within the index
-  pub index_stops : (us : List ℕ) → LeadsStops c.ruling.fielding (IndexOf c (count root) (added_alternatives more)) us (Spelt c.code None (choice root more)) us
+  pub index_stops : (us : List ℕ)
+      → LeadsStops c.ruling.fielding (IndexOf c (count root) (added_alternatives more)) us
+      (Spelt c.code None (choice root more)) us
   index_stops us = stops_on (stops_first c.ruling.fielding us follows) (whole us).stops
 
-  -- behind it
-  pub value_leads : (i : ℕ ⊎ ℕ) (us r : List ℕ) → Spells c.ruling.fielding (IndexOf c (count root) (added_alternatives more)) i us r → Leads c.ruling.fielding (ChosenBy c root more i) r (λ v. chosen_value root (i, v)) (Spelt c.code None (choice root more)) us
+  -- after it
+  pub value_leads : (i : ℕ ⊎ ℕ) (us r : List ℕ)
+      → Spells c.ruling.fielding (IndexOf c (count root) (added_alternatives more)) i us r
+      → Leads c.ruling.fielding (ChosenBy c root more i) r (λ v. chosen_value root (i, v))
+      (Spelt c.code None (choice root more)) us
   value_leads i us r h = leads_on (leads_second (fields_part_of c laws) (laws.index (count root) (added_alternatives more) (few_indexes root more good)) h) (whole us)
 
 -- ---- as the program has it
 
 module _ (c : Coding) (laws : Laws c) (t : AsnType) (root : Vec Alt Global) (ext : Option (Vec Alt Global)) (is : t ≡ asn_type.Choice root ext) (good : InProfile (shape_of t)) (n : ℕ) (en : n ≡ vec_len root) where
   module _ (m : Option ℕ) (em : m ≡ option_map vec_len ext) (us : List ℕ) where
-    counts : IndexOf c (count (alternatives_of (map branch_of root.items))) (added_alternatives (more_alternatives_of ext)) ≡ IndexOf c n m
+    counts : IndexOf c (count (alternatives_of (map branch_of root.items)))
+        (added_alternatives (more_alternatives_of ext)) ≡ IndexOf c n m
     counts = ap (λ (k : ℕ). IndexOf c k (added_alternatives (more_alternatives_of ext))) (known_count root n en) ∙ ap (λ k. IndexOf c n k) (more_count ext ∙ sym em)
 
     pub choice_few : AreFew n m
@@ -87,16 +102,23 @@ module _ (c : Coding) (laws : Laws c) (t : AsnType) (root : Vec Alt Global) (ext
     choice_stops = rw (choice_shape t root ext is, ← counts) (index_stops c laws (alternatives_of (map branch_of root.items)) (more_alternatives_of ext) (choice_good t root ext is good) us)
 
     module _ (i : Index) (p : ℕ) (r : List ℕ) (told : Spells c.ruling.fielding (IndexOf c n m) (index_seen i) us r) where
-      behind : Leads c.ruling.fielding (ChosenBy c (alternatives_of (map branch_of root.items)) (more_alternatives_of ext) (index_seen i)) r (λ v. chosen_value (alternatives_of (map branch_of root.items)) (index_seen i, v)) (Spelt c.code None (shape_of t)) us
+      behind : Leads c.ruling.fielding
+          (ChosenBy c (alternatives_of (map branch_of root.items)) (more_alternatives_of ext) (index_seen i)) r
+          (λ v. chosen_value (alternatives_of (map branch_of root.items)) (index_seen i, v))
+          (Spelt c.code None (shape_of t)) us
       behind = rw (choice_shape t root ext is) (value_leads c laws (alternatives_of (map branch_of root.items)) (more_alternatives_of ext) (choice_good t root ext is good) (index_seen i) us r (rw counts told))
 
-      -- behind the index of an alternative of the root
-      pub root_value_leads : (alts : List Alt) → alts ≡ root.items → i ≡ an_index.Root p → Leads c.ruling.fielding (ChosenOf (λ t. Spelt c.code None t) (alternatives_of (map branch_of alts)) p) r (λ v. alternative p v) (Spelt c.code None (shape_of t)) us
+      -- after the index of an alternative of the root
+      pub root_value_leads : (alts : List Alt) → alts ≡ root.items → i ≡ an_index.Root p
+          → Leads c.ruling.fielding (ChosenOf (λ t. Spelt c.code None t) (alternatives_of (map branch_of alts)) p) r
+          (λ v. alternative p v) (Spelt c.code None (shape_of t)) us
       root_value_leads alts ea e = rw ea (rw e at behind)
 
-      -- behind that of an addition
-      pub added_value_leads : (additions : Vec Alt Global) (more : List Alt) → ext ≡ Some additions → more ≡ additions.items → i ≡ an_index.Added p
-          → Leads c.ruling.fielding (ChosenOf (λ t. OpenOf c t) (alternatives_of (map branch_of more)) p) r (λ v. alternative (n + p) v) (Spelt c.code None (shape_of t)) us
+      -- after that of an addition
+      pub added_value_leads : (additions : Vec Alt Global) (more : List Alt) → ext ≡ Some additions
+          → more ≡ additions.items → i ≡ an_index.Added p
+          → Leads c.ruling.fielding (ChosenOf (λ t. OpenOf c t) (alternatives_of (map branch_of more)) p) r
+          (λ v. alternative (n + p) v) (Spelt c.code None (shape_of t)) us
       added_value_leads additions more es ea e =
           let lead : Leads c.ruling.fielding (ChosenOf (λ t. OpenOf c t) (more_alternatives (more_alternatives_of ext)) p) r (λ v. alternative (count (alternatives_of (map branch_of root.items)) + p) v) (Spelt c.code None (shape_of t)) us = rw e at behind in
           let first = subst (λ (a : Alternatives). Leads c.ruling.fielding (ChosenOf (λ t. OpenOf c t) a p) r (λ v. alternative (count (alternatives_of (map branch_of root.items)) + p) v) (Spelt c.code None (shape_of t)) us) (additions_are ext additions more es ea) lead in

@@ -38,8 +38,9 @@ take_same (suc n) (x ∷ o) =
     let e : min (suc (length o)) (suc n) ≡ suc (min (length o) n) = omega arith in
     ap (λ (i : ℕ). take i (x ∷ o)) e ∙ ap (λ (l : List ℕ). x ∷ l) (take_same n o)
 
--- so many as are read are the first of them, up to the most
-pub front_is : (o : List ℕ) (given : ℕ) → given ≡ min (length o) max_octets → (take given o ≡ take max_octets o) × (length (take given o) ≡ given)
+-- this many as are read are the first of them, up to the most
+pub front_is : (o : List ℕ) (given : ℕ) → given ≡ min (length o) max_octets
+    → (take given o ≡ take max_octets o) × (length (take given o) ≡ given)
 front_is o given e = (
   ap (λ (i : ℕ). take i o) e ∙ take_same max_octets o,
   length-take-le given o (omega (arith, e)),
@@ -81,8 +82,10 @@ module _ (c : Coding) (laws : Laws c) where
     -- ---- a value
 
     -- after a complete encoding whole octets are left
-    octets_after : (s rest : List ℕ) (v : Datum) → Spells c.ruling.fielding (Wholes c.ruling t) v (c.ruling.units s) rest
-        → (m : ℕ) × (length rest ≡ c.octet_units * (length s - m)) × (length rest / c.octet_units ≡ length s - m) × (m ≤ length s)
+    octets_after : (s rest : List ℕ) (v : Datum)
+        → Spells c.ruling.fielding (Wholes c.ruling t) v (c.ruling.units s) rest
+        → (m : ℕ) × (length rest ≡ c.octet_units * (length s - m)) × (length rest / c.octet_units ≡ length s - m)
+        × (m ≤ length s)
     octets_after s rest v h =
         let w = laws.wholes.filled t v good h.spelt.fits in
         let units : length (flat c.ruling.fielding.spelled h.chunks) ≡ c.octet_units * length w.0 = ap (λ (cs : List Chunk). length (flat c.ruling.fielding.spelled cs)) h.spelt.same ∙ ap length (sym w.2) ∙ laws.count w.0 in
@@ -90,11 +93,15 @@ module _ (c : Coding) (laws : Laws c) where
         let k = left_whole c.octet_units (length s) (length w.0) (length rest) laws.some all in (length w.0, k.0, k.1, k.2)
 
     -- no more octets are left than were read
-    pub octets_left_fewer : (s rest : List ℕ) (v : Datum) → Spells c.ruling.fielding (Wholes c.ruling t) v (c.ruling.units s) rest → length rest / c.octet_units ≤ length s
+    pub octets_left_fewer : (s rest : List ℕ) (v : Datum)
+        → Spells c.ruling.fielding (Wholes c.ruling t) v (c.ruling.units s) rest
+        → length rest / c.octet_units ≤ length s
     octets_left_fewer s rest v h = let k = octets_after s rest v h in omega (arith, k.2)
 
     -- the octets before those that are left are its encoding
-    pub value_read : (s rest : List ℕ) (v : Datum) → Spells c.ruling.fielding (Wholes c.ruling t) v (c.ruling.units s) rest → Answer c.ruling t s (done v (length s - length rest / c.octet_units))
+    pub value_read : (s rest : List ℕ) (v : Datum)
+        → Spells c.ruling.fielding (Wholes c.ruling t) v (c.ruling.units s) rest
+        → Answer c.ruling t s (done v (length s - length rest / c.octet_units))
     value_read s rest v h =
         let n = length s - length rest / c.octet_units in
         let k = octets_after s rest v h in
@@ -106,18 +113,23 @@ module _ (c : Coding) (laws : Laws c) where
     -- ---- no value
 
     -- a refusal
-    pub refusal_left : (us : List ℕ) (left : ℕ) → Refused c.ruling.fielding (Wholes c.ruling t) us left → left ≤ length us
+    pub refusal_left : (us : List ℕ) (left : ℕ) → Refused c.ruling.fielding (Wholes c.ruling t) us left
+        → left ≤ length us
     refusal_left us left h = omega (arith, ap length h.split, h.left_is, length-append h.before (h.unit ∷ h.after))
 
-    pub refusal_read : (s : List ℕ) (left : ℕ) → length s ≤ max_octets → Refused c.ruling.fielding (Wholes c.ruling t) (c.ruling.units s) left → Answer c.ruling t s (refused (length (c.ruling.units s) - left))
+    pub refusal_read : (s : List ℕ) (left : ℕ) → length s ≤ max_octets
+        → Refused c.ruling.fielding (Wholes c.ruling t) (c.ruling.units s) left
+        → Answer c.ruling t s (refused (length (c.ruling.units s) - left))
     refusal_read s left few h = (answers s).place left few h
 
     -- too few octets
-    pub short_read : (s : List ℕ) → length s < max_octets → Short c.ruling.fielding (Wholes c.ruling t) (c.ruling.units s) → Answer c.ruling t s more
+    pub short_read : (s : List ℕ) → length s < max_octets
+        → Short c.ruling.fielding (Wholes c.ruling t) (c.ruling.units s) → Answer c.ruling t s more
     short_read s few h = (answers s).wanting few h
 
     -- or too many to come
-    pub long_read : (s : List ℕ) → length s ≡ max_octets → Short c.ruling.fielding (Wholes c.ruling t) (c.ruling.units s) → Answer c.ruling t s too_long
+    pub long_read : (s : List ℕ) → length s ≡ max_octets
+        → Short c.ruling.fielding (Wholes c.ruling t) (c.ruling.units s) → Answer c.ruling t s too_long
     long_read s e h = (answers s).at_the_limit e h
 
   -- units are counted in 64 bits

@@ -32,18 +32,20 @@ use Rattle.asn_walk.proofs.Parts.{fields_part_of}
 
 -- ---- items one after the other
 
--- n items are read from the units us, behind which rest stands, and put behind those of old
+-- n items are read from the units us, after which rest stands, and put after those of old
 pub record Appends {A : Type 0} (R : Fielding) (L : A → List Chunk → Type 0) (n : ℕ) (old new : List A) (us rest : List ℕ) : Type 0 where
   pub row : List A
   pub same : new ≡ old ++ row
   pub spelt : Spells R (Row L n) row us rest
 
 -- before any is read
-pub appends_none : {A : Type 0} (R : Fielding) (L : A → List Chunk → Type 0) (vs : List A) (us : List ℕ) → Appends R L 0 vs vs us us
+pub appends_none : {A : Type 0} (R : Fielding) (L : A → List Chunk → Type 0) (vs : List A) (us : List ℕ)
+    → Appends R L 0 vs vs us us
 appends_none R L vs us = record { row = []; same = sym (append-nil vs); spelt = row_starts R L us }
 
--- behind i items, m more
-pub appends_more : {A : Type 0} {R : Fielding} {L : A → List Chunk → Type 0} (i m k : ℕ) {old mid new : List A} {us r s : List ℕ} → i + m ≡ k → Appends R L i old mid us r → Appends R L m mid new r s → Appends R L k old new us s
+-- after i items, m more
+pub appends_more : {A : Type 0} {R : Fielding} {L : A → List Chunk → Type 0} (i m k : ℕ) {old mid new : List A}
+    {us r s : List ℕ} → i + m ≡ k → Appends R L i old mid us r → Appends R L m mid new r s → Appends R L k old new us s
 appends_more {L = L} i m k {old} e f g = record {
   row = f.row ++ g.row;
   same = g.same ∙ ap (λ l. l ++ g.row) f.same ∙ append_assoc old f.row g.row;
@@ -51,33 +53,41 @@ appends_more {L = L} i m k {old} e f g = record {
 }
 
 -- one item
-pub appends_one : {A : Type 0} {R : Fielding} {L : A → List Chunk → Type 0} {a : A} {old new : List A} {us r : List ℕ} → new ≡ old ++ a ∷ [] → Spells R L a us r → Appends R L 1 old new us r
+pub appends_one : {A : Type 0} {R : Fielding} {L : A → List Chunk → Type 0} {a : A} {old new : List A} {us r : List ℕ}
+    → new ≡ old ++ a ∷ [] → Spells R L a us r → Appends R L 1 old new us r
 appends_one {a = a} e h = record { row = a ∷ []; same = e; spelt = row_one h }
 
--- behind i items the next one stops
-pub appends_stops_next : {A : Type 0} {R : Fielding} {L : A → List Chunk → Type 0} (i m k : ℕ) {old mid : List A} {us r : List ℕ} → FieldsPart R → Lawful L → Inhabited L → i + (m + 1) ≡ k → Appends R L i old mid us r → LeadsStops R L r (Row L k) us
+-- after i items the next one stops
+pub appends_stops_next : {A : Type 0} {R : Fielding} {L : A → List Chunk → Type 0} (i m k : ℕ) {old mid : List A}
+    {us r : List ℕ} → FieldsPart R → Lawful L → Inhabited L → i + (m + 1) ≡ k → Appends R L i old mid us r
+    → LeadsStops R L r (Row L k) us
 appends_stops_next {L = L} i m k part law some e f = stops_next L i m k part law some (omega (arith, e)) f.spelt
 
 -- ---- what stands in front of the items
 
 -- some list is ahead
-ahead_inhabited : {A : Type 0} (L : A → List Chunk → Type 0) (a : Ahead) → Inhabited L → SomeAhead a → Inhabited (Remaining L a)
+ahead_inhabited : {A : Type 0} (L : A → List Chunk → Type 0) (a : Ahead) → Inhabited L → SomeAhead a
+    → Inhabited (Remaining L a)
 ahead_inhabited L (items n) i h = row_inhabited i n
-ahead_inhabited L (lengths is come closed) i h = general_inhabited i h.0 h.1
+ahead_inhabited L (lengths is so_far closed) i h = general_inhabited i h.0 h.1
 ahead_inhabited L end i h = nothing_inhabited []
 
--- behind what stands in front there is some list
-front_follows : {A : Type 0} (c : Coding) (laws : Laws c) (L : A → List Chunk → Type 0) (s : SizeRange) → IsSizeOfProfile s → Inhabited L → Follows (c.list_start s) (λ a. Remaining L a)
+-- after what stands in front there is some list
+front_follows : {A : Type 0} (c : Coding) (laws : Laws c) (L : A → List Chunk → Type 0) (s : SizeRange)
+    → IsSizeOfProfile s → Inhabited L → Follows (c.list_start s) (λ a. Remaining L a)
 front_follows c laws L s good i = record { follow = λ a x h. ahead_inhabited L a i (laws.list_ahead s good a x h) }
 
 -- ---- where a reader of a list stands
 
 -- within what stands before the items
-pub start_stops : {A : Type 0} (c : Coding) (laws : Laws c) (L : A → List Chunk → Type 0) (s : SizeRange) (us : List ℕ) → IsSizeOfProfile s → Inhabited L → LeadsStops c.ruling.fielding (c.list_start s) us (ListingOf c s L) us
+pub start_stops : {A : Type 0} (c : Coding) (laws : Laws c) (L : A → List Chunk → Type 0) (s : SizeRange) (us : List ℕ)
+    → IsSizeOfProfile s → Inhabited L → LeadsStops c.ruling.fielding (c.list_start s) us (ListingOf c s L) us
 start_stops c laws L s us good i = stops_on (stops_first c.ruling.fielding us (front_follows c laws L s good i)) (leads_map c.ruling.fielding behind_first (Then (c.list_start s) (λ a. Remaining L a)) us).stops
 
 -- after it
-pub start_leads : {A : Type 0} (c : Coding) (laws : Laws c) (L : A → List Chunk → Type 0) (s : SizeRange) {ahead : Ahead} {us rest : List ℕ} → IsSizeOfProfile s → Spells c.ruling.fielding (c.list_start s) ahead us rest → Leads c.ruling.fielding (Remaining L ahead) rest (λ ws. ws) (ListingOf c s L) us
+pub start_leads : {A : Type 0} (c : Coding) (laws : Laws c) (L : A → List Chunk → Type 0) (s : SizeRange)
+    {ahead : Ahead} {us rest : List ℕ} → IsSizeOfProfile s → Spells c.ruling.fielding (c.list_start s) ahead us rest
+    → Leads c.ruling.fielding (Remaining L ahead) rest (λ ws. ws) (ListingOf c s L) us
 start_leads {A} c laws L s {ahead} {us} good h =
     leads_on (leads_second {M = λ a. Remaining L a} (fields_part_of c laws) (laws.list_start s good) h) (leads_map c.ruling.fielding behind_first (Then (c.list_start s) (λ a. Remaining L a)) us)
 
@@ -92,71 +102,92 @@ pub record FragmentsUpTo {A : Type 0} (c : Coding) (L : A → List Chunk → Typ
   pub going : Going c L T us ahead read rest
 
 -- none was read
-pub fragments_start : {A : Type 0} (c : Coding) (L : A → List Chunk → Type 0) (us : List ℕ) (before : List A) (ahead : Ahead) → FragmentsUpTo c L (Remaining L ahead) us before ahead before us
+pub fragments_start : {A : Type 0} (c : Coding) (L : A → List Chunk → Type 0) (us : List ℕ) (before : List A)
+    (ahead : Ahead) → FragmentsUpTo c L (Remaining L ahead) us before ahead before us
 fragments_start c L us before ahead = record { read = []; after = sym (append-nil before); going = record { leads = leads_here c.ruling.fielding (Remaining L ahead) us } }
 
 -- the reader of a length stops
-pub going_stops : {A : Type 0} {c : Coding} {L : A → List Chunk → Type 0} {T : List A → List Chunk → Type 0} {us rest : List ℕ} {ahead : Ahead} {vs : List A} (why : Stop) → Inhabited L → StopsNext c.ruling.fielding ahead rest why → Going c L T us ahead vs rest → Stops c.ruling.fielding T us why
+pub going_stops : {A : Type 0} {c : Coding} {L : A → List Chunk → Type 0} {T : List A → List Chunk → Type 0}
+    {us rest : List ℕ} {ahead : Ahead} {vs : List A} (why : Stop) → Inhabited L
+    → StopsNext c.ruling.fielding ahead rest why → Going c L T us ahead vs rest → Stops c.ruling.fielding T us why
 going_stops {A} {c} {L} {T} {us} {rest} {ahead} {vs} why i h g =
     let l : Leads c.ruling.fielding (General L (At (Spanned h.counts) h.come h.closed)) rest (λ ws. vs ++ ws) T us = subst (λ a. Leads c.ruling.fielding (Remaining L a) rest (λ ws. vs ++ ws) T us) h.was g.leads in
     stops_by why (stops_on (stops_length rest i) l.stops) h.stops
 
 -- nothing is ahead
-pub going_ends : {A : Type 0} {c : Coding} {L : A → List Chunk → Type 0} {T : List A → List Chunk → Type 0} {us rest r : List ℕ} {ahead new : Ahead} {vs : List A} → Next c.ruling.fielding ahead None new rest r → Going c L T us ahead vs rest → Spells c.ruling.fielding T vs us r
+pub going_ends : {A : Type 0} {c : Coding} {L : A → List Chunk → Type 0} {T : List A → List Chunk → Type 0}
+    {us rest r : List ℕ} {ahead new : Ahead} {vs : List A} → Next c.ruling.fielding ahead None new rest r
+    → Going c L T us ahead vs rest → Spells c.ruling.fielding T vs us r
 going_ends {A} {c} {L} {T} {us} {rest} {r} {ahead} {new} {vs} h g = go ahead h.advances g.leads
   where
-    go : (a : Ahead) → Advances c.ruling.fielding a None new rest r → Leads c.ruling.fielding (Remaining L a) rest (λ ws. vs ++ ws) T us → Spells c.ruling.fielding T vs us r
+    go : (a : Ahead) → Advances c.ruling.fielding a None new rest r
+        → Leads c.ruling.fielding (Remaining L a) rest (λ ws. vs ++ ws) T us → Spells c.ruling.fielding T vs us r
     go end e l = rw e (subst (λ ws. Spells c.ruling.fielding T ws us rest) (append-nil vs) (l.done [] rest (nothing_spells c.ruling.fielding [] rest)))
     go (items n) e l = absurd e
-    go (lengths is come closed) e l = absurd e
+    go (lengths is so_far closed) e l = absurd e
 
 -- the items that follow stop
-pub going_row_stops : {A : Type 0} (c : Coding) (laws : Laws c) {L : A → List Chunk → Type 0} {T : List A → List Chunk → Type 0} {us rest r : List ℕ} {ahead new : Ahead} {vs : List A} {k : ℕ} → Inhabited L → Next c.ruling.fielding ahead (Some k) new rest r → Going c L T us ahead vs rest → LeadsStops c.ruling.fielding (Row L k) r T us
+pub going_row_stops : {A : Type 0} (c : Coding) (laws : Laws c) {L : A → List Chunk → Type 0}
+    {T : List A → List Chunk → Type 0} {us rest r : List ℕ} {ahead new : Ahead} {vs : List A} {k : ℕ} → Inhabited L
+    → Next c.ruling.fielding ahead (Some k) new rest r → Going c L T us ahead vs rest
+    → LeadsStops c.ruling.fielding (Row L k) r T us
 going_row_stops {A} c laws {L} {T} {us} {rest} {r} {ahead} {new} {vs} {k} i h g = go ahead h.advances g.leads
   where
-    go : (a : Ahead) → Advances c.ruling.fielding a (Some k) new rest r → Leads c.ruling.fielding (Remaining L a) rest (λ ws. vs ++ ws) T us → LeadsStops c.ruling.fielding (Row L k) r T us
+    go : (a : Ahead) → Advances c.ruling.fielding a (Some k) new rest r
+        → Leads c.ruling.fielding (Remaining L a) rest (λ ws. vs ++ ws) T us
+        → LeadsStops c.ruling.fielding (Row L k) r T us
     go end e l = absurd e
     go (items n) e l = rw (e.0, e.2) l.stops
-    go (lengths is come closed) e l = ⊎_elim
+    go (lengths is so_far closed) e l = ⊎_elim
         (λ x. stops_on (leads_last L (fields_part_of c laws) i x.0).stops l.stops)
-        (λ x. stops_on (subst (λ (n : ℕ). LeadsStops c.ruling.fielding (Row L n) r (General L (At (Spanned is) come closed)) rest) (sym x.2) (stops_fragment L (fields_part_of c laws) i x.1)) l.stops)
+        (λ x. stops_on (subst (λ (n : ℕ). LeadsStops c.ruling.fielding (Row L n) r (General L (At (Spanned is) so_far closed)) rest) (sym x.2) (stops_fragment L (fields_part_of c laws) i x.1)) l.stops)
         e.read
 
--- what is left behind a fragment
-left_ahead : {A : Type 0} (c : Coding) (L : A → List Chunk → Type 0) (is : List (ℕ × Option ℕ)) (come k m : ℕ) (closed : Bool) {us r : List ℕ} → Spells c.ruling.fielding (Header (At (Spanned is) come closed)) (fragment m) us r → k ≡ 16384 * m
-    → Same (General L (Left (At (Spanned is) come closed) m)) (Remaining L (lengths is (come + k) (nat_lt m 4)))
-left_ahead c L is come k m false h e = rw e (general_left L (Spanned is) come m)
-left_ahead c L is come k m true h e =
-    let b : Blocks (At (Spanned is) come true) m = header_tells h.spelt in
+-- what is left after a fragment
+left_ahead : {A : Type 0} (c : Coding) (L : A → List Chunk → Type 0) (is : List (ℕ × Option ℕ)) (so_far k m : ℕ)
+    (closed : Bool) {us r : List ℕ} → Spells c.ruling.fielding (Header (At (Spanned is) so_far closed)) (fragment m) us r
+    → k ≡ 16384 * m
+    → Same (General L (Left (At (Spanned is) so_far closed) m)) (Remaining L (lengths is (so_far + k) (nat_lt m 4)))
+left_ahead c L is so_far k m false h e = rw e (general_left L (Spanned is) so_far m)
+left_ahead c L is so_far k m true h e =
+    let b : Blocks (At (Spanned is) so_far true) m = header_tells h.spelt in
     let f : 16384 * m + b.rest < 16384 = b.left.member.largest refl in
     absurd (omega (arith, b.some))
 
--- they have come
-pub going_further : {A : Type 0} (c : Coding) (laws : Laws c) {L : A → List Chunk → Type 0} {T : List A → List Chunk → Type 0} {us rest r t : List ℕ} {ahead new : Ahead} {vs ws : List A} {k : ℕ} → Inhabited L → Lawful L → Next c.ruling.fielding ahead (Some k) new rest r → Appends c.ruling.fielding L k vs ws r t → Going c L T us ahead vs rest → Going c L T us new ws t
+-- they have been read
+pub going_further : {A : Type 0} (c : Coding) (laws : Laws c) {L : A → List Chunk → Type 0}
+    {T : List A → List Chunk → Type 0} {us rest r t : List ℕ} {ahead new : Ahead} {vs ws : List A} {k : ℕ} → Inhabited L
+    → Lawful L → Next c.ruling.fielding ahead (Some k) new rest r → Appends c.ruling.fielding L k vs ws r t
+    → Going c L T us ahead vs rest → Going c L T us new ws t
 going_further {A} c laws {L} {T} {us} {rest} {r} {t} {ahead} {new} {vs} {ws} {k} i law h f g = record { leads = go ahead h.advances g.leads }
   where
     behind : List A → List A
     behind xs = vs ++ (f.row ++ xs)
 
-    moved : (a : Ahead) → Leads c.ruling.fielding (Remaining L a) t (λ xs. vs ++ (f.row ++ xs)) T us → Leads c.ruling.fielding (Remaining L a) t (λ xs. ws ++ xs) T us
+    moved : (a : Ahead) → Leads c.ruling.fielding (Remaining L a) t (λ xs. vs ++ (f.row ++ xs)) T us
+        → Leads c.ruling.fielding (Remaining L a) t (λ xs. ws ++ xs) T us
     moved a l = record { done = λ b q x. rw (f.same, append_assoc vs f.row b) (l.done b q x); stops = l.stops }
 
-    ended : Leads c.ruling.fielding (Row L k) r (λ xs. vs ++ xs) T us → new ≡ end → Leads c.ruling.fielding (Remaining L new) t (λ xs. ws ++ xs) T us
+    ended : Leads c.ruling.fielding (Row L k) r (λ xs. vs ++ xs) T us → new ≡ end
+        → Leads c.ruling.fielding (Remaining L new) t (λ xs. ws ++ xs) T us
     ended l e = rw e (moved end (record { done = λ b q x. done b q x; stops = record { short = λ x. absurd (x.none [] t (nothing_spells c.ruling.fielding [] t)); refused = λ n x. absurd (x.none [] t (nothing_spells c.ruling.fielding [] t)) } }))
       where
-        done : (b : List A) (q : List ℕ) → Spells c.ruling.fielding (Nothing []) b t q → Spells c.ruling.fielding T (vs ++ (f.row ++ b)) us q
+        done : (b : List A) (q : List ℕ) → Spells c.ruling.fielding (Nothing []) b t q
+            → Spells c.ruling.fielding T (vs ++ (f.row ++ b)) us q
         done b q x =
             let same : t ≡ q = x.split ∙ ap (λ cs. flat c.ruling.fielding.spelled cs ++ q) x.spelt.empty in
             let none : f.row ++ b ≡ f.row = ap (λ cs. f.row ++ cs) x.spelt.same ∙ append-nil f.row in
             rw (← same, none) (l.done f.row t f.spelt)
 
-    go : (a : Ahead) → Advances c.ruling.fielding a (Some k) new rest r → Leads c.ruling.fielding (Remaining L a) rest (λ xs. vs ++ xs) T us → Leads c.ruling.fielding (Remaining L new) t (λ xs. ws ++ xs) T us
+    go : (a : Ahead) → Advances c.ruling.fielding a (Some k) new rest r
+        → Leads c.ruling.fielding (Remaining L a) rest (λ xs. vs ++ xs) T us
+        → Leads c.ruling.fielding (Remaining L new) t (λ xs. ws ++ xs) T us
     go end e l = absurd e
     go (items n) e l = ended (rw (e.0, e.2) l) e.1
-    go (lengths is come closed) e l = ⊎_elim
+    go (lengths is so_far closed) e l = ⊎_elim
         (λ x. ended (leads_on (leads_last L (fields_part_of c laws) i x.0) l) x.1)
         (λ x. (let b : Spells c.ruling.fielding (Row L (16384 * x.0)) f.row r t = subst (λ (n : ℕ). Spells c.ruling.fielding (Row L n) f.row r t) x.2 f.spelt in
-        rw x.3 (moved (lengths is (come + k) (nat_lt x.0 4)) (leads_on (leads_on (leads_same c.ruling.fielding t (same_flip (left_ahead c L is come k x.0 closed x.1 x.2))) (leads_rest L (fields_part_of c laws) i law x.1 b)) l))))
+        rw x.3 (moved (lengths is (so_far + k) (nat_lt x.0 4)) (leads_on (leads_on (leads_same c.ruling.fielding t (same_flip (left_ahead c L is so_far k x.0 closed x.1 x.2))) (leads_rest L (fields_part_of c laws) i law x.1 b)) l))))
         e.read
 
 -- ---- each step comes nearer to the end
@@ -166,45 +197,57 @@ abbrev pub steps_left : Ahead → ℕ
 steps_left end = 0
 steps_left _ = 1
 
--- what is left behind a spelling is not longer
-spells_shorter : {A : Type 0} {R : Fielding} {L : A → List Chunk → Type 0} {v : A} {us r : List ℕ} → Spells R L v us r → length r ≤ length us
+-- what is left after a spelling is not longer
+spells_shorter : {A : Type 0} {R : Fielding} {L : A → List Chunk → Type 0} {v : A} {us r : List ℕ} → Spells R L v us r
+    → length r ≤ length us
 spells_shorter {R = R} {r = r} h = omega (arith, ap length h.split ∙ length-append (flat R.spelled h.chunks) r)
 
--- and behind a length it is shorter
-header_shorter : {R : Fielding} {S : ℕ → Type 0} {l : Length} {us r : List ℕ} → Spells R (Header S) l us r → length r < length us
+-- and after a length it is shorter
+header_shorter : {R : Fielding} {S : ℕ → Type 0} {l : Length} {us r : List ℕ} → Spells R (Header S) l us r
+    → length r < length us
 header_shorter {R} {S} {l} {us} {r} h = go h.spelt.source h.spelt.spelt.side
   where
     behind : (u : ℕ) (rest : List Chunk) → h.chunks ≡ one u ∷ rest → length r < length us
     behind u rest e = (let d = ap length h.split ∙ ap (λ cs. length (flat R.spelled cs ++ r)) e ∙ length-append (flat R.spelled (one u ∷ rest)) r in omega (arith, d))
 
-    go : (w : ℕ ⊎ (ℕ ⊎ ℕ)) → Branch {A = ℕ} {V = ℕ ⊎ (ℕ ⊎ ℕ)} 0 inl (Plain (InSet 7 (Few S))) w h.chunks ⊎ Branch {A = ℕ ⊎ ℕ} {V = ℕ ⊎ (ℕ ⊎ ℕ)} 1 inr (Fork (Plain (InSet 14 (Many S))) (Plain (InSet 6 (Blocks S)))) w h.chunks → length r < length us
+    go : (w : ℕ ⊎ (ℕ ⊎ ℕ))
+        → Branch {A = ℕ} {V = ℕ ⊎ (ℕ ⊎ ℕ)} 0 inl (Plain (InSet 7 (Few S))) w h.chunks
+        ⊎ Branch {A = ℕ ⊎ ℕ} {V = ℕ ⊎ (ℕ ⊎ ℕ)} 1 inr
+        (Fork (Plain (InSet 14 (Many S))) (Plain (InSet 6 (Blocks S)))) w h.chunks → length r < length us
     go w (inl b) = behind 0 b.rest b.same
     go w (inr b) = behind 1 b.rest b.same
 
 -- one step
-pub going_nearer : {A : Type 0} {R : Fielding} {L : A → List Chunk → Type 0} {rest r t : List ℕ} {ahead new : Ahead} {vs ws : List A} {k : ℕ} → Next R ahead (Some k) new rest r → Appends R L k vs ws r t → steps_left new + length t < steps_left ahead + length rest
+pub going_nearer : {A : Type 0} {R : Fielding} {L : A → List Chunk → Type 0} {rest r t : List ℕ} {ahead new : Ahead}
+    {vs ws : List A} {k : ℕ} → Next R ahead (Some k) new rest r → Appends R L k vs ws r t
+    → steps_left new + length t < steps_left ahead + length rest
 going_nearer {R = R} {rest = rest} {r} {t} {ahead} {new} {k = k} h f = go ahead h.advances
   where
     at_most : (a : Ahead) → steps_left a ≤ 1
     at_most end = omega arith
     at_most (items n) = omega arith
-    at_most (lengths is come closed) = omega arith
+    at_most (lengths is so_far closed) = omega arith
 
     go : (a : Ahead) → Advances R a (Some k) new rest r → steps_left new + length t < steps_left a + length rest
     go end e = absurd e
     go (items n) e = (let none : steps_left new ≡ 0 = ap steps_left e.1 in let same : length r ≡ length rest = ap length e.2 in omega (arith, spells_shorter f.spelt))
-    go (lengths is come closed) e = ⊎_elim (λ x. omega (arith, at_most new, spells_shorter f.spelt, header_shorter x.0)) (λ x. omega (arith, at_most new, spells_shorter f.spelt, header_shorter x.1)) e.read
+    go (lengths is so_far closed) e = ⊎_elim (λ x. omega (arith, at_most new, spells_shorter f.spelt, header_shorter x.0)) (λ x. omega (arith, at_most new, spells_shorter f.spelt, header_shorter x.1)) e.read
 
 -- ---- the elements
 
--- behind i elements of a row the next one stops
-pub going_next_stops : {A : Type 0} (c : Coding) (laws : Laws c) {L : A → List Chunk → Type 0} {T : List A → List Chunk → Type 0} {ahead new : Ahead} {us rest r q : List ℕ} {vs ws : List A} (i count : ℕ) → Inhabited L → Lawful L → i + 1 ≤ count → Next c.ruling.fielding ahead (Some count) new rest r
+-- after i elements of a row the next one stops
+pub going_next_stops : {A : Type 0} (c : Coding) (laws : Laws c) {L : A → List Chunk → Type 0}
+    {T : List A → List Chunk → Type 0} {ahead new : Ahead} {us rest r q : List ℕ} {vs ws : List A} (i count : ℕ)
+    → Inhabited L → Lawful L → i + 1 ≤ count → Next c.ruling.fielding ahead (Some count) new rest r
     → Appends c.ruling.fielding L i vs ws r q → Going c L T us ahead vs rest → LeadsStops c.ruling.fielding L q T us
-going_next_stops c laws i count some law l next come going =
-    stops_on (appends_stops_next i (count - (i + 1)) count (fields_part_of c laws) law some (omega (arith, l)) come) (going_row_stops c laws some next going)
+going_next_stops c laws i count some law l next so_far going =
+    stops_on (appends_stops_next i (count - (i + 1)) count (fields_part_of c laws) law some (omega (arith, l)) so_far) (going_row_stops c laws some next going)
 
--- the elements of the fragment have come
-pub fragments_further : {A : Type 0} (c : Coding) (laws : Laws c) {L : A → List Chunk → Type 0} {T : List A → List Chunk → Type 0} {us rest r t : List ℕ} {before : List A} {ahead new : Ahead} {vs ws : List A} {k : ℕ} → Inhabited L → Lawful L → Next c.ruling.fielding ahead (Some k) new rest r → Spells c.ruling.fielding (After vs (Row L k)) ws r t
+-- the elements of the fragment have been read
+pub fragments_further : {A : Type 0} (c : Coding) (laws : Laws c) {L : A → List Chunk → Type 0}
+    {T : List A → List Chunk → Type 0} {us rest r t : List ℕ} {before : List A} {ahead new : Ahead} {vs ws : List A}
+    {k : ℕ} → Inhabited L → Lawful L → Next c.ruling.fielding ahead (Some k) new rest r
+    → Spells c.ruling.fielding (After vs (Row L k)) ws r t
     → FragmentsUpTo c L T us before ahead vs rest → FragmentsUpTo c L T us before new ws t
 fragments_further c laws {L} {before = before} {vs = vs} {ws} i law next h f =
     let w = map_source h in
@@ -215,15 +258,20 @@ fragments_further c laws {L} {before = before} {vs = vs} {ws} i law next h f =
     }
 
 -- nothing is ahead
-pub fragments_end : {A : Type 0} {c : Coding} {L : A → List Chunk → Type 0} {T : List A → List Chunk → Type 0} {us rest r : List ℕ} {before : List A} {ahead new : Ahead} {vs : List A} → Next c.ruling.fielding ahead None new rest r → FragmentsUpTo c L T us before ahead vs rest → Spells c.ruling.fielding (After before T) vs us r
+pub fragments_end : {A : Type 0} {c : Coding} {L : A → List Chunk → Type 0} {T : List A → List Chunk → Type 0}
+    {us rest r : List ℕ} {before : List A} {ahead new : Ahead} {vs : List A}
+    → Next c.ruling.fielding ahead None new rest r → FragmentsUpTo c L T us before ahead vs rest
+    → Spells c.ruling.fielding (After before T) vs us r
 fragments_end {before = before} next f = rw f.after (map_spells {f = λ es. before ++ es} (going_ends next f.going))
 
--- all elements have come
-pub appends_end : {A : Type 0} {R : Fielding} {L : A → List Chunk → Type 0} {n : ℕ} {old new : List A} {us r : List ℕ} → Appends R L n old new us r → Spells R (After old (Row L n)) new us r
+-- all elements have been read
+pub appends_end : {A : Type 0} {R : Fielding} {L : A → List Chunk → Type 0} {n : ℕ} {old new : List A} {us r : List ℕ}
+    → Appends R L n old new us r → Spells R (After old (Row L n)) new us r
 appends_end {old = old} h = rw h.same (map_spells {f = λ es. old ++ es} h.spelt)
 
--- they have come as a row after others
-pub row_appends : {A : Type 0} {R : Fielding} {L : A → List Chunk → Type 0} {n : ℕ} {old new : List A} {us r : List ℕ} → Spells R (After old (Row L n)) new us r → Appends R L n old new us r
+-- they have been read as a row after others
+pub row_appends : {A : Type 0} {R : Fielding} {L : A → List Chunk → Type 0} {n : ℕ} {old new : List A} {us r : List ℕ}
+    → Spells R (After old (Row L n)) new us r → Appends R L n old new us r
 row_appends h =
     let w = map_source h in
     record { row = w.0; same = w.2; spelt = w.1 }
@@ -239,6 +287,8 @@ list_size t s good = record {
 }
 
 -- SEQUENCE OF
-pub list_leads : (c : Coding) (laws : Laws c) (t : Shape) (s : SizeRange) (us : List ℕ) → InProfile (sequence_of t s) → Leads c.ruling.fielding (ListingOf c s (Spelt c.code None t)) us (λ vs. elements (elements_of vs)) (Spelt c.code None (sequence_of t s)) us
+pub list_leads : (c : Coding) (laws : Laws c) (t : Shape) (s : SizeRange) (us : List ℕ) → InProfile (sequence_of t s)
+    → Leads c.ruling.fielding (ListingOf c s (Spelt c.code None t)) us (λ vs. elements (elements_of vs))
+    (Spelt c.code None (sequence_of t s)) us
 list_leads c laws t s us good =
     leads_on (leads_map c.ruling.fielding (λ vs. elements (elements_of vs)) (ListingOf c s (Spelt c.code None t)) us) (leads_same c.ruling.fielding us (laws.lists t s good))

@@ -1,4 +1,4 @@
--- An open field is read as octets; when all have come, they are read as a whole encoding, and one that they are not is
+-- An open field is read as octets; when all have been read, they are read as a whole encoding, and one that they are not is
 -- refused at the last unit of the field. A whole encoding is a value and what fills it up.
 use Rattle.std.proofs.Common.{◌≡◌, ◌≢◌, ◌-◌, ◌≤◌, ℕ, List, [], ◌∷◌, length, length-append, refl, None, ap, arith}
 use Rattle.asn_values.specs.Datum.{Datum}
@@ -40,16 +40,25 @@ module _ (c : Coding) (laws : Laws c) (t : Shape) (good : InProfile t) where
   octets_stop us = stops_field us (fields_part_of c laws) (some_held c laws t good) (same_frame c.ruling.fielding)
 
   -- they hold the value
-  pub value_held : {v : Datum} {os us r rest : List ℕ} → Spells c.ruling.fielding (Frame c.ruling.fielding open_field) os us r → Spells c.ruling.fielding (Wholes c.ruling t) v (c.ruling.units os) rest → rest ≡ [] → Spells c.ruling.fielding (OpenOf c t) v us r
+  pub value_held : {v : Datum} {os us r rest : List ℕ}
+      → Spells c.ruling.fielding (Frame c.ruling.fielding open_field) os us r
+      → Spells c.ruling.fielding (Wholes c.ruling t) v (c.ruling.units os) rest → rest ≡ []
+      → Spells c.ruling.fielding (OpenOf c t) v us r
   value_held {v} {os} h w e = field_spells (same_frame c.ruling.fielding) h (holds_whole c.ruling laws.tells t good os v (content_of h) (rw e at w))
 
-  -- units stand behind the value
-  pub more_held : {v : Datum} {os us r rest : List ℕ} → Spells c.ruling.fielding (Frame c.ruling.fielding open_field) os us r → Spells c.ruling.fielding (Wholes c.ruling t) v (c.ruling.units os) rest → rest ≢ [] → Refused c.ruling.fielding (OpenOf c t) us (length r)
+  -- units follow the value
+  pub more_held : {v : Datum} {os us r rest : List ℕ}
+      → Spells c.ruling.fielding (Frame c.ruling.fielding open_field) os us r
+      → Spells c.ruling.fielding (Wholes c.ruling t) v (c.ruling.units os) rest → rest ≢ []
+      → Refused c.ruling.fielding (OpenOf c t) us (length r)
   more_held {v} {os} {rest = []} h w n = absurd (n refl)
   more_held {v} {os} {rest = u ∷ rest} h w n = field_refused_content (fields_part_of c laws) (some_held c laws t good) (same_frame c.ruling.fielding) h (holds_no_more c.ruling laws.tells t good os v u rest (content_of h) w)
 
   -- they hold none
-  pub none_held : {os us r : List ℕ} (why : Stop) → why ≢ stop.Memory → Spells c.ruling.fielding (Frame c.ruling.fielding open_field) os us r → Stops c.ruling.fielding (Wholes c.ruling t) (c.ruling.units os) why → Refused c.ruling.fielding (OpenOf c t) us (length r)
+  pub none_held : {os us r : List ℕ} (why : Stop) → why ≢ stop.Memory
+      → Spells c.ruling.fielding (Frame c.ruling.fielding open_field) os us r
+      → Stops c.ruling.fielding (Wholes c.ruling t) (c.ruling.units os) why
+      → Refused c.ruling.fielding (OpenOf c t) us (length r)
   none_held {os} (stop.Refused left w) n h s = field_refused_content (fields_part_of c laws) (some_held c laws t good) (same_frame c.ruling.fielding) h (holds_none c.ruling laws.tells t good os left (content_of h) s.told)
   none_held {os} stop.Short n h s = field_refused_content (fields_part_of c laws) (some_held c laws t good) (same_frame c.ruling.fielding) h (holds_no_less c.ruling laws.tells t good os (content_of h) s.told)
   none_held stop.Memory n h s = absurd (n refl)
@@ -61,11 +70,13 @@ module _ (c : Coding) (laws : Laws c) (t : Shape) (good : InProfile t) where
   value_stops us = stops_on (stops_padded c.ruling.fielding c.padding (Spelt c.code None t) us) (leads_same c.ruling.fielding us (laws.filled t good)).stops
 
   -- and the reader of what fills it up does
-  pub fill_leads : (v : Datum) (us r : List ℕ) → Spells c.ruling.fielding (Spelt c.code None t) v us r → Leads c.ruling.fielding (Fixed (c.padding (length us - length r))) r (λ u. v) (Wholes c.ruling t) us
+  pub fill_leads : (v : Datum) (us r : List ℕ) → Spells c.ruling.fielding (Spelt c.code None t) v us r
+      → Leads c.ruling.fielding (Fixed (c.padding (length us - length r))) r (λ u. v) (Wholes c.ruling t) us
   fill_leads v us r h = leads_on (leads_fill c.padding v (fields_part_of c laws) (spelt_lawful c.code laws.part None t good) h) (leads_same c.ruling.fielding us (laws.filled t good))
 
 -- no more units are left than there were
-pub left_fewer : {A : Type 0} {R : Fielding} {L : A → List Chunk → Type 0} {v : A} {us r : List ℕ} → Spells R L v us r → length r ≤ length us
+pub left_fewer : {A : Type 0} {R : Fielding} {L : A → List Chunk → Type 0} {v : A} {us r : List ℕ} → Spells R L v us r
+    → length r ≤ length us
 left_fewer {R = R} {r = r} h = omega (arith, ap length h.split, length-append (flat R.spelled h.chunks) r)
 
 -- a list of no length

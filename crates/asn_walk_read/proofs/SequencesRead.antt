@@ -36,7 +36,7 @@ module _ (c : Coding) (laws : Laws c) (root : Fields) (more : MoreFields) (good 
   abbrev n : ℕ
   n = bitmap_length root
 
-  -- what stands behind the preamble
+  -- what follows the preamble
   abbrev BehindPreamble : Bool × ℕ → List (Option Datum) × List (Option Datum) → List Chunk → Type 0
   BehindPreamble p = Then (Listed c.code root (bits n p.1)) (λ _. AddedOf c more p.0)
 
@@ -55,48 +55,65 @@ module _ (c : Coding) (laws : Laws c) (root : Fields) (more : MoreFields) (good 
   follows : Follows (PreambleOf c n (added more)) BehindPreamble
   follows = record { follow = λ p cs h. behind_inhabited p h.fits.1 }
 
-  whole : (us : List ℕ) → Leads c.ruling.fielding (Then (PreambleOf c n (added more)) BehindPreamble) us sequence_told (Spelt c.code None (sequence root more)) us
+  whole : (us : List ℕ)
+      → Leads c.ruling.fielding (Then (PreambleOf c n (added more)) BehindPreamble) us sequence_told
+      (Spelt c.code None (sequence root more)) us
   whole us = leads_on (leads_map c.ruling.fielding sequence_told (Then (PreambleOf c n (added more)) BehindPreamble) us) (leads_same c.ruling.fielding us (laws.sequences root more good))
 
   -- within the preamble
-  pub preamble_stops : (us : List ℕ) → LeadsStops c.ruling.fielding (PreambleOf c n (added more)) us (Spelt c.code None (sequence root more)) us
+  pub preamble_stops : (us : List ℕ)
+      → LeadsStops c.ruling.fielding (PreambleOf c n (added more)) us (Spelt c.code None (sequence root more)) us
   preamble_stops us = stops_on (stops_first c.ruling.fielding us follows) (whole us).stops
 
-  -- behind it
+  -- after it
   module _ (p : Bool × ℕ) (us r : List ℕ) (h : Spells c.ruling.fielding (PreambleOf c n (added more)) p us r) where
-    behind : Leads c.ruling.fielding (BehindPreamble p) r (λ q. sequence_told (p, q)) (Spelt c.code None (sequence root more)) us
+    behind : Leads c.ruling.fielding (BehindPreamble p) r (λ q. sequence_told (p, q))
+        (Spelt c.code None (sequence root more)) us
     behind = leads_on (leads_second {M = BehindPreamble} (fields_part_of c laws) (laws.preamble n (added more)) h) (whole us)
 
     -- within the components
-    pub components_stop : LeadsStops c.ruling.fielding (Listed c.code root (bits n p.1)) r (Spelt c.code None (sequence root more)) us
+    pub components_stop : LeadsStops c.ruling.fielding (Listed c.code root (bits n p.1)) r
+        (Spelt c.code None (sequence root more)) us
     components_stop = stops_on (stops_first c.ruling.fielding r (record { follow = λ es cs k. added_inhabited p.0 h.spelt.fits.1 })) behind.stops
 
-    -- behind them
+    -- after them
     module _ (es : List (Option Datum)) (s : List ℕ) (k : Spells c.ruling.fielding (Listed c.code root (bits n p.1)) es r s) where
-      pub added_leads : Leads c.ruling.fielding (AddedOf c more p.0) s (λ gs. components (components_of (es ++ gs))) (Spelt c.code None (sequence root more)) us
+      pub added_leads : Leads c.ruling.fielding (AddedOf c more p.0) s (λ gs. components (components_of (es ++ gs)))
+          (Spelt c.code None (sequence root more)) us
       added_leads = leads_on (leads_second {M = λ _. AddedOf c more p.0} (fields_part_of c laws) (listed_lawful c.code laws.part root (bits n p.1) (components_of_profile root more good)) k) behind
 
       -- no addition is present
-      pub none_added : p.0 ≡ false → Spells c.ruling.fielding (Spelt c.code None (sequence root more)) (components (components_of (es ++ absent_entries (more_fields more)))) us s
+      pub none_added : p.0 ≡ false
+          → Spells c.ruling.fielding (Spelt c.code None (sequence root more))
+          (components (components_of (es ++ absent_entries (more_fields more)))) us s
       none_added e =
           let l : Leads c.ruling.fielding (Nothing (absent_entries (more_fields more))) s (λ gs. components (components_of (es ++ gs))) (Spelt c.code None (sequence root more)) us = rw e at added_leads in
           l.done (absent_entries (more_fields more)) s (nothing_read c.ruling.fielding (absent_entries (more_fields more)) s)
 
       -- some addition is
-      some_added : p.0 ≡ true → Leads c.ruling.fielding (AdditionsOf c (more_fields more)) s (λ gs. components (components_of (es ++ gs))) (Spelt c.code None (sequence root more)) us
+      some_added : p.0 ≡ true
+          → Leads c.ruling.fielding (AdditionsOf c (more_fields more)) s (λ gs. components (components_of (es ++ gs)))
+          (Spelt c.code None (sequence root more)) us
       some_added e = rw e at added_leads
 
-      pub additions_stop : p.0 ≡ true → LeadsStops c.ruling.fielding (AdditionsOf c (more_fields more)) s (Spelt c.code None (sequence root more)) us
+      pub additions_stop : p.0 ≡ true
+          → LeadsStops c.ruling.fielding (AdditionsOf c (more_fields more)) s
+          (Spelt c.code None (sequence root more)) us
       additions_stop e = (some_added e).stops
 
-      pub additions_done : p.0 ≡ true → (new : List (Option Datum)) (t : List ℕ) → Spells c.ruling.fielding (After es (AdditionsOf c (more_fields more))) new s t → Spells c.ruling.fielding (Spelt c.code None (sequence root more)) (components (components_of new)) us t
+      pub additions_done : p.0 ≡ true → (new : List (Option Datum)) (t : List ℕ)
+          → Spells c.ruling.fielding (After es (AdditionsOf c (more_fields more))) new s t
+          → Spells c.ruling.fielding (Spelt c.code None (sequence root more)) (components (components_of new)) us t
       additions_done e new t g =
           let w = map_source g in
           rw w.2 ((some_added e).done w.0 t w.1)
 
 -- a SEQUENCE without a mark
-pub closed_done : (c : Coding) (laws : Laws c) (root : Fields) (good : InProfile (sequence root closed)) (p : Bool × ℕ) (us r : List ℕ) → Spells c.ruling.fielding (PreambleOf c (bitmap_length root) (added closed)) p us r
-    → (es : List (Option Datum)) (s : List ℕ) → Spells c.ruling.fielding (Listed c.code root (bits (bitmap_length root) p.1)) es r s → Spells c.ruling.fielding (Spelt c.code None (sequence root closed)) (components (components_of es)) us s
+pub closed_done : (c : Coding) (laws : Laws c) (root : Fields) (good : InProfile (sequence root closed)) (p : Bool × ℕ)
+    (us r : List ℕ) → Spells c.ruling.fielding (PreambleOf c (bitmap_length root) (added closed)) p us r
+    → (es : List (Option Datum)) (s : List ℕ)
+    → Spells c.ruling.fielding (Listed c.code root (bits (bitmap_length root) p.1)) es r s
+    → Spells c.ruling.fielding (Spelt c.code None (sequence root closed)) (components (components_of es)) us s
 closed_done c laws root good p us r h es s k =
     subst (λ (l : List (Option Datum)). Spells c.ruling.fielding (Spelt c.code None (sequence root closed)) (components (components_of l)) us s) (append-nil es)
     (none_added c laws root closed good p us r h es s k (closed_false p.0 h.spelt.fits.1))

@@ -1,18 +1,16 @@
 //! The reader of values of all types, over the parts that a set of encoding rules gives.
 //!
-//! Each loop is a function that begins in the middle: it takes what is still to be read, and appends to what was read
-//! before. Only the leaves answer that units are missing.
+//! Each loop is a function that can begin anywhere in a list: it is given what is still to be read, and appends to what
+//! was read before. Only the leaves answer that units are missing.
 ghost use Rattle.std.specs.Prelude.{◌≡◌, ◌<◌, ◌%◌, ◌^◌, IfOk, IfErr, OnOk, map, length, vec_len};
 ghost use Rattle.std.specs.Option.{option_map};
 ghost use Rattle.asn_values.specs.Datum.{alternative};
 ghost use Rattle.asn_values.specs.Profile.{InProfile};
 ghost use Rattle.asn_values.specs.Parts.{AreAllOfProfile};
 ghost use Rattle.asn_values.specs.View.{shape_of, datum_of, size_range_of, alternatives_seen};
-ghost use Rattle.asn_rules.specs.Languages.{Row};
-ghost use Rattle.asn_walk.specs.Ahead.{Remaining};
-ghost use Rattle.asn_walk.specs.Coding.{OpenOf, ChosenOf, ListingOf};
+ghost use Rattle.asn_walk.specs.Coding.{OpenOf};
 ghost use Rattle.asn_walk.specs.Laws.{IsSizeOfProfile};
-ghost use Rattle.asn_walk.specs.Reading.{Reads, ReadsValue, ReadsComplete, ReadsOpen, StopsAt, ValuesOf, CompleteOf, After};
+ghost use Rattle.asn_walk.specs.Reading.{Reads, ReadsValue, ReadsComplete, ReadsOpen, StopsAt, ValuesOf, CompleteOf, AlternativeOf, OpenAlternativeOf, ListOf, RowOf, RestOf, AppendsRow, AppendsRest};
 
 use crate::components::{push_absent, read_additions, read_root};
 use asn_bits::BitCursor;
@@ -90,8 +88,7 @@ pub fn read<R: ReadLeaves>(
     }
 }
 
-/// Reads a complete encoding of a value of the type: the value, and what fills up its octets (X.691, "complete
-/// encoding").
+/// Reads a complete encoding of a value of the type: the value, and its padding (X.691, "complete encoding").
 #[cycle(reader)]
 pub fn read_complete<R: ReadLeaves>(
     alloc: Global,
@@ -112,8 +109,8 @@ pub fn read_complete<R: ReadLeaves>(
     Ok(value)
 }
 
-/// Reads an open type field that holds a value of the type: its octets, and once they have all come, the complete
-/// encoding that they have to be (X.691, "open type fields"; X.696, "open type").
+/// Reads an open type field that holds a value of the type: first all its octets, and then the complete encoding that
+/// they have to be (X.691, "open type fields"; X.696, "open type").
 #[cycle(reader)]
 pub(crate) fn read_open_field<R: ReadLeaves>(
     alloc: Global,
@@ -155,10 +152,8 @@ fn read_alternative<R: ReadLeaves>(
     requires inside { index < length root.now }
     ensures at_unit { OnOk result (R.rules.at_unit units.new) }
     ensures done { IfOk result (λ v.
-        Reads R.rules (ChosenOf (ValuesOf R.rules) (alternatives_seen root.now) index) (datum_of v)
-        units.old units.new) }
-    ensures stop { IfErr result (λ why.
-        StopsAt R.rules (ChosenOf (ValuesOf R.rules) (alternatives_seen root.now) index) units.old why) }
+        Reads R.rules (AlternativeOf R.rules root.now index) (datum_of v) units.old units.new) }
+    ensures stop { IfErr result (λ why. StopsAt R.rules (AlternativeOf R.rules root.now index) units.old why) }
 {
     read::<R>(alloc, &root[index].ty, units)
 }
@@ -176,10 +171,8 @@ fn read_added_alternative<R: ReadLeaves>(
     requires inside { index < length added.now }
     ensures at_unit { OnOk result (R.rules.at_unit units.new) }
     ensures done { IfOk result (λ v.
-        Reads R.rules (ChosenOf (OpenOf R.rules) (alternatives_seen added.now) index) (datum_of v)
-        units.old units.new) }
-    ensures stop { IfErr result (λ why.
-        StopsAt R.rules (ChosenOf (OpenOf R.rules) (alternatives_seen added.now) index) units.old why) }
+        Reads R.rules (OpenAlternativeOf R.rules added.now index) (datum_of v) units.old units.new) }
+    ensures stop { IfErr result (λ why. StopsAt R.rules (OpenAlternativeOf R.rules added.now index) units.old why) }
 {
     read_open_field::<R>(alloc, &added[index].ty, units)
 }
@@ -197,11 +190,8 @@ fn read_list<R: ReadLeaves>(
     requires size { IsSizeOfProfile (size_range_of size.now) }
     ensures at_unit { OnOk result (R.rules.at_unit units.new) }
     ensures done { IfOk result (λ vs.
-        Reads R.rules (ListingOf R.rules (size_range_of size.now) (ValuesOf R.rules (shape_of element.now)))
-        (map datum_of vs.items) units.old units.new) }
-    ensures stop { IfErr result (λ why.
-        StopsAt R.rules (ListingOf R.rules (size_range_of size.now) (ValuesOf R.rules (shape_of element.now)))
-        units.old why) }
+        Reads R.rules (ListOf R.rules element.now size.now) (map datum_of vs.items) units.old units.new) }
+    ensures stop { IfErr result (λ why. StopsAt R.rules (ListOf R.rules element.now size.now) units.old why) }
 {
     R::keep_laws();
     let mut elements = Vec::new(alloc);
@@ -210,7 +200,7 @@ fn read_list<R: ReadLeaves>(
     Ok(elements)
 }
 
-/// Reads the fragments of a list that are still to come, and appends their elements.
+/// Reads the remaining fragments of a list, and appends their elements.
 #[inline(always)]
 #[cycle(reader)]
 fn read_fragments<R: ReadLeaves>(
@@ -224,11 +214,10 @@ fn read_fragments<R: ReadLeaves>(
     requires of_profile { InProfile (shape_of element.now) }
     requires between { R.is_between fragments }
     ensures at_unit { OnOk result (R.rules.at_unit units.new) }
-    ensures done { OnOk result (Reads R.rules (After (map datum_of elements.old.items)
-        (Remaining (ValuesOf R.rules (shape_of element.now)) (R.ahead fragments)))
-        (map datum_of elements.new.items) units.old units.new) }
-    ensures stop { IfErr result (λ why. StopsAt R.rules
-        (Remaining (ValuesOf R.rules (shape_of element.now)) (R.ahead fragments)) units.old why) }
+    ensures done { OnOk result
+        (AppendsRest R.rules element.now (R.ahead fragments) elements.old elements.new units.old units.new) }
+    ensures stop { IfErr result (λ why.
+        StopsAt R.rules (RestOf R.rules element.now (R.ahead fragments)) units.old why) }
 {
     R::keep_laws();
     let mut fragments = fragments;
@@ -252,11 +241,8 @@ fn read_elements<R: ReadLeaves>(
     requires at_unit { R.rules.at_unit units.old }
     requires of_profile { InProfile (shape_of element.now) }
     ensures at_unit { OnOk result (R.rules.at_unit units.new) }
-    ensures done { OnOk result (Reads R.rules
-        (After (map datum_of elements.old.items) (Row (ValuesOf R.rules (shape_of element.now)) count))
-        (map datum_of elements.new.items) units.old units.new) }
-    ensures stop { IfErr result (λ why.
-        StopsAt R.rules (Row (ValuesOf R.rules (shape_of element.now)) count) units.old why) }
+    ensures done { OnOk result (AppendsRow R.rules element.now count elements.old elements.new units.old units.new) }
+    ensures stop { IfErr result (λ why. StopsAt R.rules (RowOf R.rules element.now count) units.old why) }
 {
     R::keep_laws();
     for i in 0..count {
@@ -266,7 +252,7 @@ fn read_elements<R: ReadLeaves>(
     Ok(())
 }
 
-/// How many extension additions there are, where there is an extension mark.
+/// The number of extension additions; `None` where there is no extension marker.
 pub fn added_count(ext: &Option<Vec<Alt>>) -> Option<usize>
     ensures { result ≡ option_map vec_len ext.now }
 {
@@ -276,7 +262,7 @@ pub fn added_count(ext: &Option<Vec<Alt>>) -> Option<usize>
     }
 }
 
-/// The value of a CHOICE with this tag, of which `value` is the alternative's.
+/// A CHOICE with this tag, whose alternative has this value.
 fn chosen(alloc: Global, tag: usize, value: Value) -> Result<Value, AllocError>
     requires { tag < 2 ^ 32 }
     ensures { IfOk result (λ v. datum_of v ≡ alternative tag (datum_of value)) }

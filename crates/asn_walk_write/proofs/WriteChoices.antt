@@ -24,7 +24,8 @@ use Rattle.asn_walk_write.proofs.WriteComponents.{writes_units}
 -- ---- the alternative at a place
 
 -- how its values are spelt
-pub spelled_there : (c : Coding) (alts : List Alt) (i : ℕ) (d : Alt) (v : Datum) → i < length alts → alternative_code c (alternatives_of (map branch_of alts)) i v ≡ c.code (shape_of (get_or alts i d).ty) v
+pub spelled_there : (c : Coding) (alts : List Alt) (i : ℕ) (d : Alt) (v : Datum) → i < length alts
+    → alternative_code c (alternatives_of (map branch_of alts)) i v ≡ c.code (shape_of (get_or alts i d).ty) v
 spelled_there c [] i d v h = absurd (omega arith)
 spelled_there c (a ∷ alts) zero d v h = ap (λ (t : Shape). c.code t v) (shape_of_branch a)
 spelled_there c (a ∷ alts) (suc i) d v h = spelled_there c alts i d v (omega arith)
@@ -34,13 +35,16 @@ spelled_there c (a ∷ alts) (suc i) d v h = spelled_there c alts i d v (omega a
 module _ {c : Coding} (laws : WriteLaws c) where
   -- of an alternative of the root
   code_of_root : (root : Alternatives) (more : MoreAlternatives) (i : ℕ) (v : Datum) → i < count root
-      → c.code (choice root more) (alternative i v) ≡ ones (c.index (count root) (is_marked_choice more) (inl i)) ++ alternative_code c root i v
+      → c.code (choice root more) (alternative i v)
+      ≡ ones (c.index (count root) (is_marked_choice more) (inl i)) ++ alternative_code c root i v
   code_of_root root more i v h =
       laws.choices root more i v ∙ ap (λ (b : Bool). choice_parts c root more b i v) (lt-ltb i (count root) h)
 
   -- of an addition
   code_of_added : (root alts : Alternatives) (i : ℕ) (v : Datum) → count root ≤ i
-      → c.code (choice root (marked_choice alts)) (alternative i v) ≡ ones (c.index (count root) true (inr (i - count root))) ++ in_open_field c (alternative_code c alts (i - count root) v)
+      → c.code (choice root (marked_choice alts)) (alternative i v)
+      ≡ ones (c.index (count root) true (inr (i - count root)))
+      ++ in_open_field c (alternative_code c alts (i - count root) v)
   code_of_added root alts i v h =
       laws.choices root (marked_choice alts) i v ∙ ap (λ (b : Bool). choice_parts c root (marked_choice alts) b i v) (le-ltb i (count root) h)
 
@@ -67,17 +71,19 @@ module _ (t : AsnType) (v : Value) (root : Vec Alt Global) (ext : Option (Vec Al
     outside = rw (known_count root n en) (le-ltb tag n h)
 
     -- and so is one of the addition
-    pub added_fits : (additions : Vec Alt Global) (more : List Alt) (w : Value) → ext ≡ Some additions → more ≡ additions.items → w ≡ chosen.value
+    pub added_fits : (additions : Vec Alt Global) (more : List Alt) (w : Value) → ext ≡ Some additions
+        → more ≡ additions.items → w ≡ chosen.value
         → FitsAlternative (alternatives_of (map branch_of more)) (tag - n) (datum_of w) ↔ Fits (shape_of t) (datum_of v)
     added_fits additions more w e em ew =
         rw (choice_shape t root ext is, view, e, em, ew, outside, known_count root n en) (λ f. f, λ f. f)
 
-    -- there is no value behind the last one
-    pub past_additions : (additions : Vec Alt Global) → ext ≡ Some additions → vec_len additions ≤ tag - n → Fits (shape_of t) (datum_of v) → ⊥
+    -- there is no value after the last one
+    pub past_additions : (additions : Vec Alt Global) → ext ≡ Some additions → vec_len additions ≤ tag - n
+        → Fits (shape_of t) (datum_of v) → ⊥
     past_additions additions e far f =
         fits_nowhere additions.items (tag - n) (datum_of chosen.value) (omega (arith, far, additions.ok.0)) ((added_fits additions additions.items chosen.value e refl refl).1 f)
 
-    -- nor behind the root, where there is no mark
+    -- nor after the root, where there is no mark
     pub past_root : ext ≡ None → Fits (shape_of t) (datum_of v) → ⊥
     past_root e f =
         let g : FitsMoreAlternatives (more_alternatives_of ext) (tag - n) (datum_of chosen.value) = rw (choice_shape t root ext is, view, outside, known_count root n en) at f in
@@ -85,8 +91,11 @@ module _ (t : AsnType) (v : Value) (root : Vec Alt Global) (ext : Option (Vec Al
 
   module _ {c : Coding} (laws : WriteLaws c) where
     -- what is written of an alternative of the root is the value
-    pub root_written : tag < n → (alts : List Alt) (w : Value) (old mid new : List ℕ) (marked : Bool) → alts ≡ root.items → w ≡ chosen.value → marked ≡ is_some ext
-        → WritesUnits c old mid (c.index n marked (inl tag)) → Writes c mid new (alternative_code c (alternatives_of (map branch_of alts)) tag (datum_of w)) → Writes c old new (c.code (shape_of t) (datum_of v))
+    pub root_written : tag < n → (alts : List Alt) (w : Value) (old mid new : List ℕ) (marked : Bool)
+        → alts ≡ root.items → w ≡ chosen.value → marked ≡ is_some ext
+        → WritesUnits c old mid (c.index n marked (inl tag))
+        → Writes c mid new (alternative_code c (alternatives_of (map branch_of alts)) tag (datum_of w))
+        → Writes c old new (c.code (shape_of t) (datum_of v))
     root_written h alts w old mid new marked ea ew em e f =
         let all = alternatives_of (map branch_of root.items) in
         let more = more_alternatives_of ext in
@@ -101,8 +110,11 @@ module _ (t : AsnType) (v : Value) (root : Vec Alt Global) (ext : Option (Vec Al
         ∙ ap (λ (d : Datum). old ++ written c (c.code (shape_of t) d)) (sym view)
 
     -- and so it is of an addition
-    pub added_written : n ≤ tag → (additions : Vec Alt Global) (more : List Alt) (w : Value) (old mid new : List ℕ) → ext ≡ Some additions → more ≡ additions.items → w ≡ chosen.value
-        → WritesUnits c old mid (c.index n true (inr (tag - n))) → Writes c mid new (in_open_field c (alternative_code c (alternatives_of (map branch_of more)) (tag - n) (datum_of w)))
+    pub added_written : n ≤ tag → (additions : Vec Alt Global) (more : List Alt) (w : Value) (old mid new : List ℕ)
+        → ext ≡ Some additions → more ≡ additions.items → w ≡ chosen.value
+        → WritesUnits c old mid (c.index n true (inr (tag - n)))
+        → Writes c mid new (in_open_field c
+        (alternative_code c (alternatives_of (map branch_of more)) (tag - n) (datum_of w)))
         → Writes c old new (c.code (shape_of t) (datum_of v))
     added_written h additions more w old mid new e em ew f g =
         let all = alternatives_of (map branch_of root.items) in

@@ -26,13 +26,16 @@ mark_of_fields (Some more) = refl
 
 -- ---- a type and a value
 
--- the components of the root, what stands behind them, and the entries
+-- the components of the root, what follows them, and the entries
 pub record OfSequence (t : Shape) (d : Datum) (parts : List Part) (more : MoreFields) (entries : List (Option Datum)) : Type 0 where
   pub shape : t ≡ sequence (fields_of parts) more
   pub datum : d ≡ components (components_of entries)
 
-pub of_sequence : (t : AsnType) (v : Value) (root : Vec Field Global) (ext : Option (Vec Field Global)) (vs : Vec (Option Value) Global) (fs : List Field) (es : List (Option Value))
-    → t ≡ Seq root ext → v ≡ value.Seq vs → fs ≡ root.items → es ≡ vs.items → OfSequence (shape_of t) (datum_of v) (map part_of_field fs) (more_fields_of ext) (map (option_map datum_of) es)
+pub of_sequence : (t : AsnType) (v : Value) (root : Vec Field Global) (ext : Option (Vec Field Global))
+    (vs : Vec (Option Value) Global) (fs : List Field) (es : List (Option Value))
+    → t ≡ Seq root ext → v ≡ value.Seq vs → fs ≡ root.items → es ≡ vs.items
+    → OfSequence (shape_of t) (datum_of v) (map part_of_field fs) (more_fields_of ext)
+    (map (option_map datum_of) es)
 of_sequence t v root ext vs fs es p q f e = record {
   shape = sequence_of_fields t root ext fs p f;
   datum = ap datum_of q ∙ datum_of-Seq vs ∙ ap (λ (l : List (Option Value)). components (components_of (map (option_map datum_of) l))) (sym e);
@@ -42,7 +45,7 @@ module _ {t : Shape} {d : Datum} {parts : List Part} {more : MoreFields} {entrie
   pub parts_of_profile : InProfile t → AreOfProfile (fields_of parts)
   parts_of_profile good = components_of_profile (fields_of parts) more (subst InProfile s.shape good)
 
-  -- a value of the type is what fits its components and what stands behind them
+  -- a value of the type is what fits its components and what follows them
   pub entries_fit : FitsSequence (fields_of parts) more entries ↔ Fits t d
   entries_fit = rw (s.shape, s.datum, component_list-components_of entries) (λ h. h, λ h. h)
 
@@ -57,32 +60,44 @@ module _ {t : Shape} {d : Datum} {parts : List Part} {more : MoreFields} {entrie
 
 module _ (fs : List Field) (vs : List (Option Value)) where
   -- the first ones
-  pub ours_are : (ours : List (Option Value)) → ours ≡ take (length fs) vs → map (option_map datum_of) ours ≡ take (length (demands (fields_of (map part_of_field fs)))) (map (option_map datum_of) vs)
-  ours_are ours e = ap (map (option_map datum_of)) e ∙ sym (take-map (option_map datum_of) (length fs) vs) ∙ ap (λ k. take k (map (option_map datum_of) vs)) (sym (count_of_fields fs))
+  pub root_entries_are : (root_entries : List (Option Value)) → root_entries ≡ take (length fs) vs
+      → map (option_map datum_of) root_entries
+      ≡ take (length (demands (fields_of (map part_of_field fs)))) (map (option_map datum_of) vs)
+  root_entries_are root_entries e = ap (map (option_map datum_of)) e ∙ sym (take-map (option_map datum_of) (length fs) vs) ∙ ap (λ k. take k (map (option_map datum_of) vs)) (sym (count_of_fields fs))
 
   -- and the others
-  pub theirs_are : (theirs : List (Option Value)) → theirs ≡ drop (length fs) vs → map (option_map datum_of) theirs ≡ drop (length (demands (fields_of (map part_of_field fs)))) (map (option_map datum_of) vs)
-  theirs_are theirs e = ap (map (option_map datum_of)) e ∙ sym (drop-map (option_map datum_of) (length fs) vs) ∙ ap (λ k. drop k (map (option_map datum_of) vs)) (sym (count_of_fields fs))
+  pub addition_entries_are : (addition_entries : List (Option Value)) → addition_entries ≡ drop (length fs) vs
+      → map (option_map datum_of) addition_entries
+      ≡ drop (length (demands (fields_of (map part_of_field fs)))) (map (option_map datum_of) vs)
+  addition_entries_are addition_entries e = ap (map (option_map datum_of)) e ∙ sym (drop-map (option_map datum_of) (length fs) vs) ∙ ap (λ k. drop k (map (option_map datum_of) vs)) (sym (count_of_fields fs))
 
   -- as far as there are entries, the first are the root's
-  pub first_ones : (ours : List (Option Value)) (n : ℕ) → n ≡ min (length fs) (length vs) → ours ≡ take n vs → ours ≡ take (length fs) vs
-  first_ones ours n e o = o ∙ ap (λ k. take k vs) e ∙ take_min (length fs) vs
+  pub first_ones : (root_entries : List (Option Value)) (n : ℕ) → n ≡ min (length fs) (length vs)
+      → root_entries ≡ take n vs → root_entries ≡ take (length fs) vs
+  first_ones root_entries n e o = o ∙ ap (λ k. take k vs) e ∙ take_min (length fs) vs
 
-  pub other_ones : (theirs : List (Option Value)) (n : ℕ) → n ≡ min (length fs) (length vs) → theirs ≡ drop n vs → theirs ≡ drop (length fs) vs
-  other_ones theirs n e o = o ∙ ap (λ k. drop k vs) e ∙ drop_min (length fs) vs
+  pub other_ones : (addition_entries : List (Option Value)) (n : ℕ) → n ≡ min (length fs) (length vs)
+      → addition_entries ≡ drop n vs → addition_entries ≡ drop (length fs) vs
+  other_ones addition_entries n e o = o ∙ ap (λ k. drop k vs) e ∙ drop_min (length fs) vs
 
   -- a SEQUENCE with a mark has the values with one entry for each component and each addition
-  pub marked_fits : {t : Shape} {d : Datum} {more : MoreFields} (gs : List Field) → OfSequence t d (map part_of_field fs) more (map (option_map datum_of) vs) → more ≡ marked (fields_of (map part_of_field gs))
-      → (ours theirs : List (Option Value)) → ours ≡ take (length fs) vs → theirs ≡ drop (length fs) vs
-      → (FitsEach (fields_of (map part_of_field fs)) (map (option_map datum_of) ours) × FitsEach (fields_of (map part_of_field gs)) (map (option_map datum_of) theirs)) ↔ Fits t d
-  marked_fits {t} {d} gs s m ours theirs o h =
+  pub marked_fits : {t : Shape} {d : Datum} {more : MoreFields} (gs : List Field)
+      → OfSequence t d (map part_of_field fs) more (map (option_map datum_of) vs)
+      → more ≡ marked (fields_of (map part_of_field gs))
+      → (root_entries addition_entries : List (Option Value)) → root_entries ≡ take (length fs) vs
+      → addition_entries ≡ drop (length fs) vs
+      → (FitsEach (fields_of (map part_of_field fs)) (map (option_map datum_of) root_entries)
+      × FitsEach (fields_of (map part_of_field gs)) (map (option_map datum_of) addition_entries)) ↔ Fits t d
+  marked_fits {t} {d} gs s m root_entries addition_entries o h =
       let root = fields_of (map part_of_field fs) in
       let added = fields_of (map part_of_field gs) in
       let both : FitsSequence root (marked added) (map (option_map datum_of) vs) ↔ Fits t d = subst (λ x. FitsSequence root x (map (option_map datum_of) vs) ↔ Fits t d) m (entries_fit s) in
-      rw (ours_are ours o, theirs_are theirs h) both
+      rw (root_entries_are root_entries o, addition_entries_are addition_entries h) both
 
 -- ---- the additions
 
 -- they are OPTIONAL
-pub added_optional : {t : Shape} {root : Fields} (fs : List Field) → t ≡ sequence root (marked (fields_of (map part_of_field fs))) → InProfile t → AreOptional (fields_of (map part_of_field fs))
+pub added_optional : {t : Shape} {root : Fields} (fs : List Field)
+    → t ≡ sequence root (marked (fields_of (map part_of_field fs))) → InProfile t
+    → AreOptional (fields_of (map part_of_field fs))
 added_optional {root = root} fs e good = additions_optional root (fields_of (map part_of_field fs)) (subst InProfile e good)

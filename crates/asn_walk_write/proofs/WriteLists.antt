@@ -25,18 +25,21 @@ abbrev pub codes : Coding → Shape → List Datum → List (List Chunk)
 codes c t ds = map (λ d. c.code t d) ds
 
 -- as many as there are values
-pub codes_count : (c : Coding) (t : Shape) (values : List Value) → length (codes c t (map datum_of values)) ≡ length values
+pub codes_count : (c : Coding) (t : Shape) (values : List Value)
+    → length (codes c t (map datum_of values)) ≡ length values
 codes_count c t values = length-map (map datum_of values) (λ d. c.code t d) ∙ length-map values datum_of
 
 -- they are a value where their number fits and each of them
 pub list_fits : (t : Shape) (s : SizeRange) (values : List Value) → FitsLength s (length values)
-    → AllByRecursion (λ d. Fits t d) (map datum_of values) ↔ Fits (sequence_of t s) (elements (elements_of (map datum_of values)))
+    → AllByRecursion (λ d. Fits t d) (map datum_of values)
+    ↔ Fits (sequence_of t s) (elements (elements_of (map datum_of values)))
 list_fits t s values few =
     rw (list_again (map datum_of values))
     (λ h. (subst (FitsLength s) (sym (length-map values datum_of)) few, h), λ h. h.1)
 
 -- and else they are none
-pub other_count : (t : Shape) (s : SizeRange) (values : List Value) → (FitsLength s (length values) → ⊥) → Fits (sequence_of t s) (elements (elements_of (map datum_of values))) → ⊥
+pub other_count : (t : Shape) (s : SizeRange) (values : List Value) → (FitsLength s (length values) → ⊥)
+    → Fits (sequence_of t s) (elements (elements_of (map datum_of values))) → ⊥
 other_count t s values never h =
     let fit : FitsLength s (length (map datum_of values)) × AllByRecursion (λ d. Fits t d) (map datum_of values) =
     subst (λ (l : List Datum). FitsLength s (length l) × AllByRecursion (λ d. Fits t d) l) (list_again (map datum_of values)) h in
@@ -54,7 +57,9 @@ pub elements_start : (c : Coding) (t : Shape) (ds : List Datum) (before : List �
 elements_start c t ds before = record { fits = (λ h. h, λ h. h); known = refl }
 
 -- one more
-pub elements_next : {c : Coding} (laws : WriteLaws c) {t : Shape} {all left : List Datum} {before now new : List ℕ} {d : Datum} → ElementsUpTo c t all (d ∷ left) before now → Fits t d → Writes c now new (c.code t d) → ElementsUpTo c t all left before new
+pub elements_next : {c : Coding} (laws : WriteLaws c) {t : Shape} {all left : List Datum} {before now new : List ℕ}
+    {d : Datum} → ElementsUpTo c t all (d ∷ left) before now → Fits t d → Writes c now new (c.code t d)
+    → ElementsUpTo c t all left before new
 elements_next {c} laws {t} {left = left} {now = now} {d = d} h f e = record {
   fits = (λ g. h.fits.0 (f, g), λ a. (h.fits.1 a).1);
   known =
@@ -63,19 +68,23 @@ elements_next {c} laws {t} {left = left} {now = now} {d = d} h f e = record {
 }
 
 -- one that is none of the type
-pub elements_never : {c : Coding} {t : Shape} {all left : List Datum} {before now : List ℕ} {d : Datum} → ElementsUpTo c t all (d ∷ left) before now → (Fits t d → ⊥) → AllByRecursion (λ d. Fits t d) all → ⊥
+pub elements_never : {c : Coding} {t : Shape} {all left : List Datum} {before now : List ℕ} {d : Datum}
+    → ElementsUpTo c t all (d ∷ left) before now → (Fits t d → ⊥) → AllByRecursion (λ d. Fits t d) all → ⊥
 elements_never h never a = never (h.fits.1 a).0
 
 -- all of them
-pub elements_end : {c : Coding} (laws : WriteLaws c) {t : Shape} {all left : List Datum} {before now : List ℕ} → ElementsUpTo c t all left before now → left ≡ [] → Writes c before now (joined (codes c t all))
+pub elements_end : {c : Coding} (laws : WriteLaws c) {t : Shape} {all left : List Datum} {before now : List ℕ}
+    → ElementsUpTo c t all left before now → left ≡ [] → Writes c before now (joined (codes c t all))
 elements_end {c} laws {t} {now = now} h e =
     sym (append-nil now) ∙ ap (λ (l : List ℕ). now ++ l) (sym laws.none) ∙ ap (λ (l : List Datum). now ++ written c (joined (codes c t l))) (sym e) ∙ h.known
 
-pub elements_fit : {c : Coding} {t : Shape} {all left : List Datum} {before now : List ℕ} → ElementsUpTo c t all left before now → left ≡ [] → AllByRecursion (λ d. Fits t d) all
+pub elements_fit : {c : Coding} {t : Shape} {all left : List Datum} {before now : List ℕ}
+    → ElementsUpTo c t all left before now → left ≡ [] → AllByRecursion (λ d. Fits t d) all
 elements_fit h e = h.fits.0 (rw e tt)
 
--- the next value, and those behind it
-pub next_value : (values : List Value) (i : ℕ) (x : Value) → i < length values → x ≡ get_or values i x → map datum_of (drop i values) ≡ datum_of x ∷ map datum_of (drop (i + 1) values)
+-- the next value, and those after it
+pub next_value : (values : List Value) (i : ℕ) (x : Value) → i < length values → x ≡ get_or values i x
+    → map datum_of (drop i values) ≡ datum_of x ∷ map datum_of (drop (i + 1) values)
 next_value values i x h e =
     let split : drop i values ≡ x ∷ drop (i + 1) values = rw (add-one, drop-cons values i x h, ← e) refl in
     ap (map datum_of) split
@@ -86,15 +95,17 @@ no_value values i h = ap (map datum_of) (drop_all i values h)
 
 -- ---- elements in fragments
 
--- those of the first ones, and those behind them
-all_join : {A : Type 0} (P : A → Type 0) (n : ℕ) (xs : List A) → AllByRecursion P (take n xs) → AllByRecursion P (drop n xs) → AllByRecursion P xs
+-- those of the first ones, and those after them
+all_join : {A : Type 0} (P : A → Type 0) (n : ℕ) (xs : List A) → AllByRecursion P (take n xs)
+    → AllByRecursion P (drop n xs) → AllByRecursion P xs
 all_join P zero xs f g = g
 all_join P (suc n) [] f g = tt
 all_join P (suc n) (x ∷ xs) f g = (f.0, all_join P n xs f.1 g)
 
--- values fit where so many of them do, and the others
+-- values fit where this many of them do, and the others
 pub parts_fit : (t : Shape) (n : ℕ) (values next others : List Value) → next ≡ take n values → others ≡ drop n values
-    → (AllByRecursion (λ d. Fits t d) (map datum_of next) × AllByRecursion (λ d. Fits t d) (map datum_of others)) ↔ AllByRecursion (λ d. Fits t d) (map datum_of values)
+    → (AllByRecursion (λ d. Fits t d) (map datum_of next) × AllByRecursion (λ d. Fits t d) (map datum_of others))
+    ↔ AllByRecursion (λ d. Fits t d) (map datum_of values)
 parts_fit t n values next others p q =
     let P = λ (l : List Datum). AllByRecursion (λ d. Fits t d) l in
     let front : map datum_of next ≡ take n (map datum_of values) = ap (map datum_of) p ∙ sym (take-map datum_of n values) in
@@ -107,23 +118,30 @@ parts_fit t n values next others p q =
 -- values of the type where those that are left are
 pub record FragmentsUpTo (c : Coding) (t : Shape) (first rest : List (List Chunk) → List Chunk) (values left : List Value) (before now : List ℕ) : Type 0 where
   pub fits : AllByRecursion (λ d. Fits t d) (map datum_of left) ↔ AllByRecursion (λ d. Fits t d) (map datum_of values)
-  pub known : LeavesToWrite c before (first (codes c t (map datum_of values))) now (rest (codes c t (map datum_of left)))
+  pub known : LeavesToWrite c before (first (codes c t (map datum_of values))) now
+      (rest (codes c t (map datum_of left)))
 
-pub fragments_start : (c : Coding) (t : Shape) (first : List (List Chunk) → List Chunk) (values : List Value) (before : List ℕ) → FragmentsUpTo c t first first values values before before
+pub fragments_start : (c : Coding) (t : Shape) (first : List (List Chunk) → List Chunk) (values : List Value)
+    (before : List ℕ) → FragmentsUpTo c t first first values values before before
 fragments_start c t first values before = record { fits = (λ h. h, λ h. h); known = refl }
 
 -- the spellings of some of them
-some_codes : (c : Coding) (t : Shape) (n : ℕ) (values next : List Value) → next ≡ take n values → codes c t (map datum_of next) ≡ take n (codes c t (map datum_of values))
+some_codes : (c : Coding) (t : Shape) (n : ℕ) (values next : List Value) → next ≡ take n values
+    → codes c t (map datum_of next) ≡ take n (codes c t (map datum_of values))
 some_codes c t n values next e = ap (λ (l : List Value). codes c t (map datum_of l)) e ∙ ap (codes c t) (sym (take-map datum_of n values)) ∙ sym (take-map (λ d. c.code t d) n (map datum_of values))
 
-other_codes : (c : Coding) (t : Shape) (n : ℕ) (values others : List Value) → others ≡ drop n values → codes c t (map datum_of others) ≡ drop n (codes c t (map datum_of values))
+other_codes : (c : Coding) (t : Shape) (n : ℕ) (values others : List Value) → others ≡ drop n values
+    → codes c t (map datum_of others) ≡ drop n (codes c t (map datum_of values))
 other_codes c t n values others e = ap (λ (l : List Value). codes c t (map datum_of l)) e ∙ ap (codes c t) (sym (drop-map datum_of n values)) ∙ sym (drop-map (λ d. c.code t d) n (map datum_of values))
 
 -- a fragment more
-pub fragments_next : {c : Coding} (laws : WriteLaws c) {t : Shape} {first rest : List (List Chunk) → List Chunk} {values left : List Value} {before now : List ℕ}
-    (then : List (List Chunk) → List Chunk) (k n : ℕ) (mid new : List ℕ) (next others : List Value) → FragmentsUpTo c t first rest values left before now → n ≡ length left
+pub fragments_next : {c : Coding} (laws : WriteLaws c) {t : Shape} {first rest : List (List Chunk) → List Chunk}
+    {values left : List Value} {before now : List ℕ}
+    (then : List (List Chunk) → List Chunk) (k n : ℕ) (mid new : List ℕ) (next others : List Value)
+    → FragmentsUpTo c t first rest values left before now → n ≡ length left
     → Advances c rest n now then mid (Some k) → next ≡ take k left → others ≡ drop k left
-    → AllByRecursion (λ d. Fits t d) (map datum_of next) → Writes c mid new (joined (codes c t (map datum_of next))) → FragmentsUpTo c t first then values others before new
+    → AllByRecursion (λ d. Fits t d) (map datum_of next) → Writes c mid new (joined (codes c t (map datum_of next)))
+    → FragmentsUpTo c t first then values others before new
 fragments_next {c} laws {t} {rest = rest} {left = left} {now = now} then k n mid new next others h count a p q f e =
     let both = parts_fit t k left next others p q in
     let xs = codes c t (map datum_of left) in
@@ -145,20 +163,26 @@ left_none : (left : List Value) (n : ℕ) → n ≡ length left → n ≡ 0 → 
 left_none [] n count none = refl
 left_none (x ∷ left) n count none = absurd (omega (arith, count, none))
 
-pub fragments_end : {c : Coding} (laws : WriteLaws c) {t : Shape} {first rest : List (List Chunk) → List Chunk} {values left : List Value} {before now : List ℕ}
-    (then : List (List Chunk) → List Chunk) (n : ℕ) (new : List ℕ) → FragmentsUpTo c t first rest values left before now → n ≡ length left → Advances c rest n now then new None
+pub fragments_end : {c : Coding} (laws : WriteLaws c) {t : Shape} {first rest : List (List Chunk) → List Chunk}
+    {values left : List Value} {before now : List ℕ}
+    (then : List (List Chunk) → List Chunk) (n : ℕ) (new : List ℕ) → FragmentsUpTo c t first rest values left before now
+    → n ≡ length left → Advances c rest n now then new None
     → LeavesToWrite c before (first (codes c t (map datum_of values))) new []
 fragments_end {c} laws {t} {rest = rest} {left = left} {now = now} then n new h count a =
     ap (λ (l : List ℕ). new ++ l) laws.none ∙ append-nil new ∙ a.1 ∙ ap (λ (l : List Value). now ++ written c (rest (codes c t (map datum_of l)))) (sym (left_none left n count a.0)) ∙ h.known
 
-pub fragments_fit : {c : Coding} {t : Shape} {first rest : List (List Chunk) → List Chunk} {values left : List Value} {before now : List ℕ} (n : ℕ) → FragmentsUpTo c t first rest values left before now → n ≡ length left → n ≡ 0
+pub fragments_fit : {c : Coding} {t : Shape} {first rest : List (List Chunk) → List Chunk} {values left : List Value}
+    {before now : List ℕ} (n : ℕ) → FragmentsUpTo c t first rest values left before now → n ≡ length left → n ≡ 0
     → AllByRecursion (λ d. Fits t d) (map datum_of values)
 fragments_fit {left = left} n h count none = h.fits.0 (rw (left_none left n count none) tt)
 
--- behind what stands before the items, the list is written
-pub list_written : {c : Coding} (laws : WriteLaws c) (t : Shape) (s : SizeRange) (first : List (List Chunk) → List Chunk) (values : List Value) (old mid new : List ℕ) (n : ℕ)
-    → ((items : List (List Chunk)) → length items ≡ n → LeavesToWrite c old (c.sized s items) mid (first items)) → n ≡ length values
-    → LeavesToWrite c mid (first (codes c t (map datum_of values))) new [] → Writes c old new (c.code (sequence_of t s) (elements (elements_of (map datum_of values))))
+-- after what stands before the items, the list is written
+pub list_written : {c : Coding} (laws : WriteLaws c) (t : Shape) (s : SizeRange)
+    (first : List (List Chunk) → List Chunk) (values : List Value) (old mid new : List ℕ) (n : ℕ)
+    → ((items : List (List Chunk)) → length items ≡ n → LeavesToWrite c old (c.sized s items) mid (first items))
+    → n ≡ length values
+    → LeavesToWrite c mid (first (codes c t (map datum_of values))) new []
+    → Writes c old new (c.code (sequence_of t s) (elements (elements_of (map datum_of values))))
 list_written {c} laws t s first values old mid new n start count e =
     sym (append-nil new) ∙ ap (λ (l : List ℕ). new ++ l) (sym laws.none) ∙ e ∙ start (codes c t (map datum_of values)) (codes_count c t values ∙ sym count)
     ∙ ap (λ (ds : List Datum). old ++ written c (c.sized s (codes c t ds))) (sym (list_again (map datum_of values)))

@@ -15,8 +15,9 @@ use Rattle.asn_bits.proofs.Prefixes.{bit_below}
 use Rattle.asn_bits.proofs.Splits.{digits-join}
 use Rattle.asn_rules.specs.Components.{has_presence_bit, is_spelled, presence, any_present}
 
--- the next item of a list and those behind it, seen as something else
-pub next_seen : {A B : Type 0} (f : A → B) (xs : List A) (i : ℕ) (x : A) → i < length xs → x ≡ get_or xs i x → map f (drop i xs) ≡ f x ∷ map f (drop (i + 1) xs)
+-- the next item of a list and those after it, seen as something else
+pub next_seen : {A B : Type 0} (f : A → B) (xs : List A) (i : ℕ) (x : A) → i < length xs → x ≡ get_or xs i x
+    → map f (drop i xs) ≡ f x ∷ map f (drop (i + 1) xs)
 next_seen f xs i x h e = at_drop_more (map f) xs i x h ∙ ap (λ y. f y ∷ map f (drop (i + 1) xs)) (sym e)
 
 -- the components that are left, with their entries
@@ -24,14 +25,17 @@ pub record Left (parts : List Part) (entries : List (Option Datum)) : Type 0 whe
   pub of_profile : AreOfProfile (fields_of parts)
   pub each : length parts ≡ length entries
 
-pub left_good : {p : Part} {parts : List Part} {e : Option Datum} {entries : List (Option Datum)} → Left (p ∷ parts) (e ∷ entries) → IsGoodDemand p.demand p.shape
+pub left_good : {p : Part} {parts : List Part} {e : Option Datum} {entries : List (Option Datum)}
+    → Left (p ∷ parts) (e ∷ entries) → IsGoodDemand p.demand p.shape
 left_good h = h.of_profile.1
 
-pub left_more : {p : Part} {parts : List Part} {e : Option Datum} {entries : List (Option Datum)} → Left (p ∷ parts) (e ∷ entries) → Left parts entries
+pub left_more : {p : Part} {parts : List Part} {e : Option Datum} {entries : List (Option Datum)}
+    → Left (p ∷ parts) (e ∷ entries) → Left parts entries
 left_more h = record { of_profile = h.of_profile.2; each = omega (arith, h.each) }
 
 -- there are as many entries as components
-pub left_ends : (parts : List Part) (entries : List (Option Datum)) → Left parts entries → (parts ≡ []) ⊎ (entries ≡ []) → (parts ≡ []) × (entries ≡ [])
+pub left_ends : (parts : List Part) (entries : List (Option Datum)) → Left parts entries → (parts ≡ []) ⊎ (entries ≡ [])
+    → (parts ≡ []) × (entries ≡ [])
 left_ends [] [] h e = (refl, refl)
 left_ends [] (x ∷ entries) h e = absurd (omega (arith, h.each))
 left_ends (p ∷ parts) [] h e = absurd (omega (arith, h.each))
@@ -40,14 +44,15 @@ left_ends (p ∷ parts) (x ∷ entries) h (inr e) = absurd (cc)
 
 -- ---- the presence bitmap
 
--- so many bits of the bitmap are known, and those of the components that are left follow
+-- this many bits of the bitmap are known, and those of the components that are left follow
 pub record Bitmap (all left : List Part) (entries rest : List (Option Datum)) (count bitmap : ℕ) : Type 0 where
   pub components : Left left rest
   pub few : count + length left ≤ length all
   pub within : bitmap < 2 ^ count
   pub known : bits count bitmap ++ presence (demands (fields_of left)) rest ≡ presence (demands (fields_of all)) entries
 
-pub bitmap_starts : (all : List Part) (entries : List (Option Datum)) → Left all entries → Bitmap all all entries entries 0 0
+pub bitmap_starts : (all : List Part) (entries : List (Option Datum)) → Left all entries
+    → Bitmap all all entries entries 0 0
 bitmap_starts all entries h = record { components = h; few = omega arith; within = omega arith; known = refl }
 
 one_bit : (b : Bool) → bits 1 (bit_of b) ≡ bit_of b ∷ []
@@ -55,14 +60,17 @@ one_bit true = refl
 one_bit false = refl
 
 -- one bit more
-bits_more : (count bitmap : ℕ) (b : Bool) → bits (count + 1) (2 * bitmap + bit_of b) ≡ bits count bitmap ++ bit_of b ∷ []
+bits_more : (count bitmap : ℕ) (b : Bool)
+    → bits (count + 1) (2 * bitmap + bit_of b) ≡ bits count bitmap ++ bit_of b ∷ []
 bits_more count bitmap b =
     ap (λ (n : ℕ). bits (count + 1) n) (omega arith)
     ∙ sym (digits-join 2 (omega arith) count 1 bitmap (bit_of b) (omega (arith, bit_below b)))
     ∙ ap (λ l. bits count bitmap ++ l) (one_bit b)
 
-pub bitmap_passes : {all left : List Part} {p : Part} {entries rest : List (Option Datum)} {e : Option Datum} {count bitmap : ℕ}
-    → Bitmap all (p ∷ left) entries (e ∷ rest) count bitmap → has_presence_bit p.demand ≡ false → Bitmap all left entries rest count bitmap
+pub bitmap_passes : {all left : List Part} {p : Part} {entries rest : List (Option Datum)} {e : Option Datum}
+    {count bitmap : ℕ}
+    → Bitmap all (p ∷ left) entries (e ∷ rest) count bitmap → has_presence_bit p.demand ≡ false
+    → Bitmap all left entries rest count bitmap
 bitmap_passes {left = left} {p = p} {entries = entries} {rest = rest} {e = e} {count = count} {bitmap = bitmap} h n = record {
   components = left_more h.components;
   few = omega (arith, h.few);
@@ -70,13 +78,16 @@ bitmap_passes {left = left} {p = p} {entries = entries} {rest = rest} {e = e} {c
   known = ap (λ l. bits count bitmap ++ l) (sym (none p.demand n)) ∙ h.known;
 }
   where
-    none : (d : Demand) → has_presence_bit d ≡ false → presence (d ∷ demands (fields_of left)) (e ∷ rest) ≡ presence (demands (fields_of left)) rest
+    none : (d : Demand) → has_presence_bit d ≡ false
+        → presence (d ∷ demands (fields_of left)) (e ∷ rest) ≡ presence (demands (fields_of left)) rest
     none must k = refl
     none optional k = absurd (cc)
     none (default x) k = absurd (cc)
 
-pub bitmap_more : {all left : List Part} {p : Part} {entries rest : List (Option Datum)} {e : Option Datum} {count bitmap next : ℕ}
-    → Bitmap all (p ∷ left) entries (e ∷ rest) count bitmap → has_presence_bit p.demand ≡ true → next ≡ bit_of (is_spelled p.demand e)
+pub bitmap_more : {all left : List Part} {p : Part} {entries rest : List (Option Datum)} {e : Option Datum}
+    {count bitmap next : ℕ}
+    → Bitmap all (p ∷ left) entries (e ∷ rest) count bitmap → has_presence_bit p.demand ≡ true
+    → next ≡ bit_of (is_spelled p.demand e)
     → Bitmap all left entries rest (count + 1) (2 * bitmap + next)
 bitmap_more {left = left} {p = p} {entries = entries} {rest = rest} {e = e} {count = count} {bitmap = bitmap} {next = next} h n is = record {
   components = left_more h.components;
@@ -93,12 +104,15 @@ bitmap_more {left = left} {p = p} {entries = entries} {rest = rest} {e = e} {cou
     plus_one : (k : ℕ) → k + 1 ≡ suc k
     plus_one k = omega arith
 
-    some : (d : Demand) → has_presence_bit d ≡ true → presence (d ∷ demands (fields_of left)) (e ∷ rest) ≡ bit_of (is_spelled d e) ∷ presence (demands (fields_of left)) rest
+    some : (d : Demand) → has_presence_bit d ≡ true
+        → presence (d ∷ demands (fields_of left)) (e ∷ rest)
+        ≡ bit_of (is_spelled d e) ∷ presence (demands (fields_of left)) rest
     some must k = absurd (cc)
     some optional k = refl
     some (default x) k = refl
 
-pub bitmap_ends : {all left : List Part} {entries rest : List (Option Datum)} {count bitmap : ℕ} → Bitmap all left entries rest count bitmap
+pub bitmap_ends : {all left : List Part} {entries rest : List (Option Datum)} {count bitmap : ℕ}
+    → Bitmap all left entries rest count bitmap
     → (left ≡ []) ⊎ (rest ≡ []) → bits count bitmap ≡ presence (demands (fields_of all)) entries
 bitmap_ends {all} {left} {entries} {rest} {count} {bitmap} h e =
     let none = left_ends left rest h.components e in
@@ -109,12 +123,15 @@ bitmap_ends {all} {left} {entries} {rest} {count} {bitmap} h e =
 -- ---- whether one is present
 
 -- a value that is seen as another is there where that is
-present_map : {A B : Type 0} (f : A → B) (es : List (Option A)) → list_any is_some (map (option_map f) es) ≡ list_any is_some es
+present_map : {A B : Type 0} (f : A → B) (es : List (Option A))
+    → list_any is_some (map (option_map f) es) ≡ list_any is_some es
 present_map f [] = refl
 present_map f (None ∷ es) = present_map f es
 present_map f (Some x ∷ es) = refl
 
 -- a test whether some entry has a value
-pub present_test : {A : Type 0} (f : A → Datum) (es : List (Option A)) (b : Bool) → (b ≡ true → Any (λ e. is_some e ≡ true) es) → (b ≡ false → All (λ e. is_some e ≡ false) es) → b ≡ any_present (map (option_map f) es)
+pub present_test : {A : Type 0} (f : A → Datum) (es : List (Option A)) (b : Bool)
+    → (b ≡ true → Any (λ e. is_some e ≡ true) es) → (b ≡ false → All (λ e. is_some e ≡ false) es)
+    → b ≡ any_present (map (option_map f) es)
 present_test f es true some none = sym (present_map f es ∙ list_any-from_Any is_some es (some refl))
 present_test f es false some none = sym (present_map f es ∙ list_any_none is_some es (none refl))

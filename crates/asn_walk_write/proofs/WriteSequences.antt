@@ -21,7 +21,7 @@ use Rattle.asn_walk.specs.Composites.{in_open_field, each_code, open_code, addit
 use Rattle.asn_walk.specs.WriteLaws.{WriteLaws}
 use Rattle.asn_walk.specs.Writing.{AreOptional, written, Writes, WritesUnits, mark_bits}
 use Rattle.asn_walk_write.proofs.WriteComponents.{FitsHere, Written, absent_fits, written_starts, written_on, written_past, written-append, writes_both, writes_units, writes_nothing}
-use Rattle.asn_walk_write.proofs.WriteEntries.{OfSequence, ours_are, theirs_are}
+use Rattle.asn_walk_write.proofs.WriteEntries.{OfSequence, root_entries_are, addition_entries_are}
 use Rattle.asn_walk_write.proofs.WritePresence.{Left}
 
 -- ---- the open fields
@@ -35,21 +35,26 @@ pub record Opened (c : Coding) (all : List Part) (entries : List (Option Datum))
   pub written : Written (open_bits c) all entries before now left rest
   pub optional : AreOptional (fields_of left)
 
-pub opened_starts : (c : Coding) (before : List ℕ) (all : List Part) (entries : List (Option Datum)) → Left all entries → AreOptional (fields_of all) → Opened c all entries before before all entries
+pub opened_starts : (c : Coding) (before : List ℕ) (all : List Part) (entries : List (Option Datum)) → Left all entries
+    → AreOptional (fields_of all) → Opened c all entries before before all entries
 opened_starts c before all entries h o = record { written = written_starts (open_bits c) before all entries h; optional = o }
 
 -- the first of OPTIONAL components, and the others
-first_optional : (p : Part) (left : List Part) → AreOptional (fields_of (p ∷ left)) → (p.demand ≡ optional) × AreOptional (fields_of left)
+first_optional : (p : Part) (left : List Part) → AreOptional (fields_of (p ∷ left))
+    → (p.demand ≡ optional) × AreOptional (fields_of left)
 first_optional p left o = go p.demand o
   where
-    go : (d : Demand) → list_all is_optional (d ∷ demands (fields_of left)) ≡ true → (d ≡ optional) × AreOptional (fields_of left)
+    go : (d : Demand) → list_all is_optional (d ∷ demands (fields_of left)) ≡ true
+        → (d ≡ optional) × AreOptional (fields_of left)
     go optional h = (refl, h)
     go must h = absurd (cc)
     go (default e) h = absurd (cc)
 
 -- an addition that is present
-pub opened_more : {c : Coding} (laws : WriteLaws c) {all : List Part} {entries : List (Option Datum)} {before now new : List ℕ} {left : List Part} {p : Part} {rest : List (Option Datum)} {d : Datum}
-    → Opened c all entries before now (p ∷ left) (Some d ∷ rest) → Fits p.shape d → new ≡ now ++ written c (in_open_field c (c.code p.shape d)) → Opened c all entries before new left rest
+pub opened_more : {c : Coding} (laws : WriteLaws c) {all : List Part} {entries : List (Option Datum)}
+    {before now new : List ℕ} {left : List Part} {p : Part} {rest : List (Option Datum)} {d : Datum}
+    → Opened c all entries before now (p ∷ left) (Some d ∷ rest) → Fits p.shape d
+    → new ≡ now ++ written c (in_open_field c (c.code p.shape d)) → Opened c all entries before new left rest
 opened_more {c} laws {left = left} {p = p} {rest = rest} {d = d} h f e =
     let o = first_optional p left h.optional in
     let both : open_bits c (fields_of (p ∷ left)) (Some d ∷ rest) ≡ written c (in_open_field c (c.code p.shape d)) ++ open_bits c (fields_of left) rest =
@@ -57,7 +62,8 @@ opened_more {c} laws {left = left} {p = p} {rest = rest} {d = d} h f e =
     record { written = written_on (written c (in_open_field c (c.code p.shape d))) h.written f both e; optional = o.1 }
 
 -- one that is absent
-pub opened_passes : (c : Coding) {all : List Part} {entries : List (Option Datum)} {before now : List ℕ} {left : List Part} {p : Part} {rest : List (Option Datum)} {e : Option Datum}
+pub opened_passes : (c : Coding) {all : List Part} {entries : List (Option Datum)} {before now : List ℕ}
+    {left : List Part} {p : Part} {rest : List (Option Datum)} {e : Option Datum}
     → Opened c all entries before now (p ∷ left) (e ∷ rest) → e ≡ None → Opened c all entries before now left rest
 opened_passes c {left = left} {p = p} {rest = rest} {e = e} h n =
     let o = first_optional p left h.optional in
@@ -67,7 +73,8 @@ opened_passes c {left = left} {p = p} {rest = rest} {e = e} h n =
     }
 
 -- where none is present, each entry is one of its addition
-pub none_fit : (parts : List Part) (es : List (Option Datum)) → AreOptional (fields_of parts) → length parts ≡ length es → any_present es ≡ false → FitsEach (fields_of parts) es
+pub none_fit : (parts : List Part) (es : List (Option Datum)) → AreOptional (fields_of parts) → length parts ≡ length es
+    → any_present es ≡ false → FitsEach (fields_of parts) es
 none_fit [] [] o n e = tt
 none_fit [] (x ∷ es) o n e = absurd (omega (arith, n))
 none_fit (p ∷ parts) [] o n e = absurd (omega (arith, n))
@@ -77,7 +84,8 @@ none_fit (p ∷ parts) (None ∷ es) o n e =
     (absent_fits p.shape p.demand w.0, none_fit parts es w.1 (omega (arith, n)) e)
 
 -- where one is present, there is a presence bit
-pub some_bits_there : (parts : List Part) (es : List (Option Datum)) (count bitmap : ℕ) → AreOptional (fields_of parts) → length parts ≡ length es → any_present es ≡ true
+pub some_bits_there : (parts : List Part) (es : List (Option Datum)) (count bitmap : ℕ) → AreOptional (fields_of parts)
+    → length parts ≡ length es → any_present es ≡ true
     → bits count bitmap ≡ presence (demands (fields_of parts)) es → 0 < count
 some_bits_there parts [] count bitmap o n some e = absurd (cc)
 some_bits_there [] (x ∷ es) count bitmap o n some e = absurd (omega (arith, n))
@@ -91,14 +99,17 @@ module _ {c : Coding} (laws : WriteLaws c) where
   -- ---- the additions
 
   -- nothing is written where none is present
-  pub none_written : (old : List ℕ) (fs : Fields) (es : List (Option Datum)) → any_present es ≡ false → Writes c old old (additions_code c fs es)
+  pub none_written : (old : List ℕ) (fs : Fields) (es : List (Option Datum)) → any_present es ≡ false
+      → Writes c old old (additions_code c fs es)
   none_written old fs es none =
       let all = ones (c.addition_bitmap (presence (demands fs) es)) ++ open_code c fs es in
       writes_nothing laws old ∙ ap (λ (b : Bool). old ++ written c (elim b [ true ↦ all | false ↦ [] ])) (sym none)
 
   -- and else their presence bits and their open fields
-  pub additions_written : (old mid new bitmap : List ℕ) (fs : Fields) (es : List (Option Datum)) → any_present es ≡ true → bitmap ≡ presence (demands fs) es
-      → WritesUnits c old mid (c.addition_bitmap bitmap) → Writes c mid new (open_code c fs es) → Writes c old new (additions_code c fs es)
+  pub additions_written : (old mid new bitmap : List ℕ) (fs : Fields) (es : List (Option Datum)) → any_present es ≡ true
+      → bitmap ≡ presence (demands fs) es
+      → WritesUnits c old mid (c.addition_bitmap bitmap) → Writes c mid new (open_code c fs es)
+      → Writes c old new (additions_code c fs es)
   additions_written old mid new bitmap fs es some b e f =
       let all = ones (c.addition_bitmap (presence (demands fs) es)) ++ open_code c fs es in
       writes_units laws old mid new (c.addition_bitmap (presence (demands fs) es)) (open_code c fs es) (e ∙ ap (λ (l : List ℕ). old ++ c.to_bits (c.addition_bitmap l)) b) f ∙ ap (λ (b : Bool). old ++ written c (elim b [ true ↦ all | false ↦ [] ])) (sym some)
@@ -106,14 +117,17 @@ module _ {c : Coding} (laws : WriteLaws c) where
   -- ---- the root
 
   -- what stands before its components, and those
-  pub root_written : (old mid new mark bitmap : List ℕ) (fs : Fields) (es : List (Option Datum)) → bitmap ≡ presence (demands fs) es
-      → WritesUnits c old mid (c.preamble (mark ++ bitmap)) → Writes c mid new (each_code c fs es) → Writes c old new (root_code c mark fs es)
+  pub root_written : (old mid new mark bitmap : List ℕ) (fs : Fields) (es : List (Option Datum))
+      → bitmap ≡ presence (demands fs) es
+      → WritesUnits c old mid (c.preamble (mark ++ bitmap)) → Writes c mid new (each_code c fs es)
+      → Writes c old new (root_code c mark fs es)
   root_written old mid new mark bitmap fs es b e f = writes_units laws old mid new (c.preamble (mark ++ presence (demands fs) es)) (each_code c fs es) (e ∙ ap (λ (l : List ℕ). old ++ c.to_bits (c.preamble (mark ++ l))) b) f
 
   -- ---- the SEQUENCE
 
   -- its spelling, by entries
-  code_of_sequence : {t : Shape} {d : Datum} {parts : List Part} {more : MoreFields} {es : List (Option Datum)} → OfSequence t d parts more es → InProfile t → Fits t d → c.code t d ≡ sequence_code c (fields_of parts) more es
+  code_of_sequence : {t : Shape} {d : Datum} {parts : List Part} {more : MoreFields} {es : List (Option Datum)}
+      → OfSequence t d parts more es → InProfile t → Fits t d → c.code t d ≡ sequence_code c (fields_of parts) more es
   code_of_sequence {t} {d} {parts} {more} {es} s good fits =
       let root = fields_of parts in
       let fit : Fits (sequence root more) (components (components_of es)) = subst (Fits (sequence root more)) s.datum (subst (λ (x : Shape). Fits x d) s.shape fits) in
@@ -121,30 +135,38 @@ module _ {c : Coding} (laws : WriteLaws c) where
       ∙ laws.sequences root more (components_of es) (subst InProfile s.shape good) fit
       ∙ ap (λ (l : List (Option Datum)). sequence_code c root more l) (component_list-components_of es)
 
-  -- its root behind the extension bit, and its additions
-  pub sequence_written : {t : Shape} {d : Datum} (old mid new : List ℕ) (fs gs : List Field) (ext : Option (Vec Field Global)) (vs ours theirs : List (Option Value)) (b : Bool)
-      → OfSequence t d (map part_of_field fs) (more_fields_of ext) (map (option_map datum_of) vs) → InProfile t → Fits t d → more_fields_of ext ≡ marked (fields_of (map part_of_field gs))
-      → ours ≡ take (length fs) vs → theirs ≡ drop (length fs) vs → b ≡ any_present (map (option_map datum_of) theirs)
-      → Writes c old mid (root_code c (mark_bits (Some b)) (fields_of (map part_of_field fs)) (map (option_map datum_of) ours))
-      → Writes c mid new (additions_code c (fields_of (map part_of_field gs)) (map (option_map datum_of) theirs)) → Writes c old new (c.code t d)
-  sequence_written {t} {d} old mid new fs gs ext vs ours theirs b s good fits m o h p e f =
+  -- its root after the extension bit, and its additions
+  pub sequence_written : {t : Shape} {d : Datum} (old mid new : List ℕ) (fs gs : List Field)
+      (ext : Option (Vec Field Global)) (vs root_entries addition_entries : List (Option Value)) (b : Bool)
+      → OfSequence t d (map part_of_field fs) (more_fields_of ext) (map (option_map datum_of) vs) → InProfile t
+      → Fits t d → more_fields_of ext ≡ marked (fields_of (map part_of_field gs))
+      → root_entries ≡ take (length fs) vs → addition_entries ≡ drop (length fs) vs
+      → b ≡ any_present (map (option_map datum_of) addition_entries)
+      → Writes c old mid (root_code c (mark_bits (Some b)) (fields_of (map part_of_field fs))
+      (map (option_map datum_of) root_entries))
+      → Writes c mid new (additions_code c (fields_of (map part_of_field gs))
+      (map (option_map datum_of) addition_entries)) → Writes c old new (c.code t d)
+  sequence_written {t} {d} old mid new fs gs ext vs root_entries addition_entries b s good fits m o h p e f =
       let root = fields_of (map part_of_field fs) in
       let added = fields_of (map part_of_field gs) in
       let es = map (option_map datum_of) vs in
       let n = length (demands root) in
-      let us : List (Option Datum) = map (option_map datum_of) ours in
-      let hs : List (Option Datum) = map (option_map datum_of) theirs in
+      let us : List (Option Datum) = map (option_map datum_of) root_entries in
+      let hs : List (Option Datum) = map (option_map datum_of) addition_entries in
       writes_both laws old mid new (root_code c (mark_bits (Some b)) root us) (additions_code c added hs) e f
       ∙ ap (λ (i : Bool). old ++ written c (root_code c (mark_bits (Some i)) root us ++ additions_code c added hs)) p
-      ∙ ap (λ (l : List (Option Datum)). old ++ written c (root_code c (mark_bits (Some (any_present l))) root us ++ additions_code c added l)) (theirs_are fs vs theirs h)
-      ∙ ap (λ (l : List (Option Datum)). old ++ written c (root_code c (mark_bits (Some (any_present (drop n es)))) root l ++ additions_code c added (drop n es))) (ours_are fs vs ours o)
+      ∙ ap (λ (l : List (Option Datum)). old ++ written c (root_code c (mark_bits (Some (any_present l))) root us ++ additions_code c added l)) (addition_entries_are fs vs addition_entries h)
+      ∙ ap (λ (l : List (Option Datum)). old ++ written c (root_code c (mark_bits (Some (any_present (drop n es)))) root l ++ additions_code c added (drop n es))) (root_entries_are fs vs root_entries o)
       ∙ ap (λ (x : MoreFields). old ++ written c (sequence_code c root x es)) (sym m)
       ∙ ap (λ (cs : List Chunk). old ++ written c cs) (sym (code_of_sequence s good fits))
 
   -- its root alone, where there is no extension mark
-  pub unmarked_written : {t : Shape} {d : Datum} (old new : List ℕ) (fs : List Field) (more : MoreFields) (vs : List (Option Value))
-      → OfSequence t d (map part_of_field fs) more (map (option_map datum_of) vs) → InProfile t → Fits t d → more ≡ closed → FitsEach (fields_of (map part_of_field fs)) (map (option_map datum_of) vs)
-      → Writes c old new (root_code c (mark_bits None) (fields_of (map part_of_field fs)) (map (option_map datum_of) vs)) → Writes c old new (c.code t d)
+  pub unmarked_written : {t : Shape} {d : Datum} (old new : List ℕ) (fs : List Field) (more : MoreFields)
+      (vs : List (Option Value))
+      → OfSequence t d (map part_of_field fs) more (map (option_map datum_of) vs) → InProfile t → Fits t d
+      → more ≡ closed → FitsEach (fields_of (map part_of_field fs)) (map (option_map datum_of) vs)
+      → Writes c old new (root_code c (mark_bits None) (fields_of (map part_of_field fs))
+      (map (option_map datum_of) vs)) → Writes c old new (c.code t d)
   unmarked_written {t} {d} old new fs more vs s good fits none each e =
       let root = fields_of (map part_of_field fs) in
       let es = map (option_map datum_of) vs in

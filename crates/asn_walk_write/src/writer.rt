@@ -4,11 +4,9 @@ ghost use Rattle.std.specs.List.{AllByRecursion};
 ghost use Rattle.asn_values.specs.Fits.{Fits, FitsAlternative};
 ghost use Rattle.asn_values.specs.Parts.{AreOfProfile, AreAllOfProfile};
 ghost use Rattle.asn_values.specs.Profile.{InProfile};
-ghost use Rattle.asn_values.specs.Shape.{sequence_of};
-ghost use Rattle.asn_values.specs.View.{shape_of, datum_of, size_range_of, fields_seen, entries_seen, alternatives_seen};
-ghost use Rattle.asn_bits.specs.Lengths.{joined};
-ghost use Rattle.asn_walk.specs.Composites.{in_open_field, each_code, open_code, additions_code, root_code, alternative_code};
-ghost use Rattle.asn_walk.specs.Writing.{TellsWhether, Writes, WritesValue, FitsType, EntriesFit, AreOptional, mark_bits, list_seen};
+ghost use Rattle.asn_values.specs.View.{shape_of, datum_of, sequence_of_seen, fields_seen, entries_seen, alternatives_seen};
+ghost use Rattle.asn_walk.specs.Composites.{each_code, open_code};
+ghost use Rattle.asn_walk.specs.Writing.{TellsWhether, Writes, WritesValue, WritesOpen, WritesRoot, WritesAdditions, WritesAlternative, WritesOpenAlternative, WritesList, WritesRow, FitsType, EntriesFit, AreOptional, list_seen};
 
 use crate::encoded::{is_any_present, is_encoded, presence_bitmap};
 use asn_bits::BitSink;
@@ -48,8 +46,7 @@ fn write_open_field<R: WriteLeaves>(
 ) -> Result<(), EncodeFault>
     requires of_profile { InProfile (shape_of ty.now) }
     ensures of_type { TellsWhether result (FitsType ty.now value.now) }
-    ensures written { OnOk result (Writes R.rules sink.old sink.new
-        (in_open_field R.rules (R.rules.code (shape_of ty.now) (datum_of value.now)))) }
+    ensures written { OnOk result (WritesOpen R.rules sink.old sink.new ty.now value.now) }
 {
     let octets = write_complete::<R>(alloc, ty, value)?;
     R::write_open_octets(octets.as_slice(), sink)?;
@@ -78,10 +75,12 @@ fn write<R: WriteLeaves>(
             match ext {
                 None => write_root::<R>(alloc, None, root, entries, sink),
                 Some(additions) => {
-                    let (ours, theirs) = entries.split_at(root.len().min(entries.len()));
-                    let extended = is_any_present(theirs);
-                    write_root::<R>(alloc, Some(extended), root, ours, sink)?;
-                    write_additions::<R>(alloc, additions, theirs, sink)
+                    let (root_entries, addition_entries) = entries.split_at(
+                        root.len().min(entries.len()),
+                    );
+                    let extended = is_any_present(addition_entries);
+                    write_root::<R>(alloc, Some(extended), root, root_entries, sink)?;
+                    write_additions::<R>(alloc, additions, addition_entries, sink)
                 }
             }
         }
@@ -131,8 +130,7 @@ fn write_alternative<R: WriteLeaves>(
     requires inside { index < length alternatives.now }
     ensures of_type { TellsWhether result
         (FitsAlternative (alternatives_seen alternatives.now) index (datum_of value.now)) }
-    ensures written { OnOk result (Writes R.rules sink.old sink.new
-        (alternative_code R.rules (alternatives_seen alternatives.now) index (datum_of value.now))) }
+    ensures written { OnOk result (WritesAlternative R.rules sink.old sink.new alternatives.now index value.now) }
 {
     write::<R>(alloc, &alternatives[index].ty, value, sink)
 }
@@ -150,8 +148,7 @@ fn write_added_alternative<R: WriteLeaves>(
     requires inside { index < length alternatives.now }
     ensures of_type { TellsWhether result
         (FitsAlternative (alternatives_seen alternatives.now) index (datum_of value.now)) }
-    ensures written { OnOk result (Writes R.rules sink.old sink.new (in_open_field R.rules
-        (alternative_code R.rules (alternatives_seen alternatives.now) index (datum_of value.now)))) }
+    ensures written { OnOk result (WritesOpenAlternative R.rules sink.old sink.new alternatives.now index value.now) }
 {
     write_open_field::<R>(alloc, &alternatives[index].ty, value, sink)
 }
@@ -169,8 +166,7 @@ fn write_root<R: WriteLeaves>(
     requires of_profile { AreOfProfile (fields_seen fields.now) }
     requires few { length fields.now ≤ 64 }
     ensures of_type { TellsWhether result (EntriesFit fields.now entries.now) }
-    ensures written { OnOk result (Writes R.rules sink.old sink.new
-        (root_code R.rules (mark_bits extended) (fields_seen fields.now) (entries_seen entries.now))) }
+    ensures written { OnOk result (WritesRoot R.rules sink.old sink.new extended fields.now entries.now) }
 {
     R::keep_write_laws();
     if fields.len() != entries.len() {
@@ -206,10 +202,10 @@ fn write_components<R: WriteLeaves>(
         };
         // integers without a DEFAULT are most often met, so these are written before any other kind is
         // asked for
-        if let (AsnType::Int(bounds), Value::Int(whole)) = (&field.ty, value)
+        if let (AsnType::Int(bounds), Value::Int(number)) = (&field.ty, value)
             && !matches!(field.need, Need::Default(_))
         {
-            R::write_number(bounds, *whole, sink)?;
+            R::write_number(bounds, *number, sink)?;
         } else if is_encoded(field, entry) {
             write::<R>(alloc, &field.ty, value, sink)?;
         }
@@ -230,8 +226,7 @@ fn write_additions<R: WriteLeaves>(
     requires optional { AreOptional (fields_seen fields.now) }
     requires few { length fields.now ≤ 64 }
     ensures of_type { TellsWhether result (EntriesFit fields.now entries.now) }
-    ensures written { OnOk result (Writes R.rules sink.old sink.new
-        (additions_code R.rules (fields_seen fields.now) (entries_seen entries.now))) }
+    ensures written { OnOk result (WritesAdditions R.rules sink.old sink.new fields.now entries.now) }
 {
     R::keep_write_laws();
     if fields.len() != entries.len() {
@@ -280,11 +275,9 @@ fn write_list<R: WriteLeaves>(
     values: &[Value],
     sink: &mut BitSink,
 ) -> Result<(), EncodeFault>
-    requires of_profile { InProfile (sequence_of (shape_of element.now) (size_range_of size.now)) }
-    ensures of_type { TellsWhether result
-        (Fits (sequence_of (shape_of element.now) (size_range_of size.now)) (list_seen values.now)) }
-    ensures written { OnOk result (Writes R.rules sink.old sink.new
-        (R.rules.code (sequence_of (shape_of element.now) (size_range_of size.now)) (list_seen values.now))) }
+    requires of_profile { InProfile (sequence_of_seen element.now size.now) }
+    ensures of_type { TellsWhether result (Fits (sequence_of_seen element.now size.now) (list_seen values.now)) }
+    ensures written { OnOk result (WritesList R.rules sink.old sink.new element.now size.now values.now) }
 {
     R::keep_write_laws();
     if !length_fits(size, values.len()) {
@@ -311,8 +304,7 @@ fn write_elements<R: WriteLeaves>(
     requires of_profile { InProfile (shape_of element.now) }
     ensures of_type { TellsWhether result
         (AllByRecursion (λ d. Fits (shape_of element.now) d) (map datum_of values.now)) }
-    ensures written { OnOk result (Writes R.rules sink.old sink.new
-        (joined (map (λ d. R.rules.code (shape_of element.now) d) (map datum_of values.now)))) }
+    ensures written { OnOk result (WritesRow R.rules sink.old sink.new element.now values.now) }
 {
     R::keep_write_laws();
     for value in values {

@@ -265,17 +265,17 @@ components::read_open_fields_into-loop-field-init g t c =
 pub components::read_open_fields_into-returns-in_err-read_open_into-clause-stop : goal.components::read_open_fields_into-returns-in_err-read_open_into-clause-stop
 components::read_open_fields_into-returns-in_err-read_open_into-clause-stop g t c =
     let h = rw (next_part c.args.fields.now c.loop-field.field-index c.field-item.result c.loop-field-test.true c.field-item.is) at c.loop-field.invariant.0 in
-    let after : c.next.new.self.left + 1 ≡ c.loop-field.presence.left = c.next.ensures.left in
-    let bit : 1 ≡ c.args.presence.bitmap / 2 ^ c.next.new.self.left % 2 = ap bit_of (sym c.if-not-next.false) ∙ c.next.ensures.bit ∙ ap (λ m. m / 2 ^ c.next.new.self.left % 2) c.loop-field.invariant.1 in
+    let after : c.next.new.self.left + 1 ≡ c.loop-field.presence.left = c.next.ensures.bit.0 in
+    let bit : 1 ≡ c.args.presence.bitmap / 2 ^ c.next.new.self.left % 2 = ap bit_of (sym c.if-not-next.false) ∙ c.next.ensures.bit.1 ∙ ap (λ m. m / 2 ^ c.next.new.self.left % 2) c.loop-field.invariant.1 in
     let p = err_from_is_err_and c.from_residual.result c.from_residual.ensures.1 in
     rw (p.1, p.2) (stops_by _ (addition_stops g.R.ReadLeaves.rules c.keep_laws.ensures h c.next.new.self.left after bit) (rw (← shape_of_part c.field-item.result) at c.in_err-read_open_into.ensures.stop))
 
 pub components::read_open_fields_into-loop-field-preserved : goal.components::read_open_fields_into-loop-field-preserved
 components::read_open_fields_into-loop-field-preserved g t c =
     let h = rw (next_part c.args.fields.now c.loop-field.field-index c.field-item.result c.loop-field-test.true c.field-item.is) at c.loop-field.invariant.0 in
-    let after : c.next.new.self.left + 1 ≡ c.loop-field.presence.left = c.next.ensures.left in
+    let after : c.next.new.self.left + 1 ≡ c.loop-field.presence.left = c.next.ensures.bit.0 in
     let same : c.next.new.self.bitmap ≡ c.args.presence.bitmap = c.next.ensures.bitmap ∙ c.loop-field.invariant.1 in
-    let bit : 1 ≡ c.args.presence.bitmap / 2 ^ c.next.new.self.left % 2 = ap bit_of (sym c.if-not-next.false) ∙ c.next.ensures.bit ∙ ap (λ m. m / 2 ^ c.next.new.self.left % 2) c.loop-field.invariant.1 in
+    let bit : 1 ≡ c.args.presence.bitmap / 2 ^ c.next.new.self.left % 2 = ap bit_of (sym c.if-not-next.false) ∙ c.next.ensures.bit.1 ∙ ap (λ m. m / 2 ^ c.next.new.self.left % 2) c.loop-field.invariant.1 in
     let inside : c.loop-field.at < length c.loop-field.entries = omega (arith, c.loop-field-test.true, c.loop-field.invariant.2, c.loop-field.invariant.3) in
     let items = entry_written c.loop-field.entries c.loop-field.at (Some c.read_open_into.new.slot) inside in (
       rw items (addition_present g.R.ReadLeaves.rules c.keep_laws.ensures h c.next.new.self.left after bit (datum_of c.read_open_into.new.slot) (g.R.ReadLeaves.rules.to_units c.read_open_into.new.units) (rw (← shape_of_part c.field-item.result) at c.in_ok-read_open_into.ensures.done)),
@@ -288,9 +288,9 @@ components::read_open_fields_into-loop-field-preserved g t c =
 pub components::read_open_fields_into-loop-field-preserved-then-not-next : goal.components::read_open_fields_into-loop-field-preserved-then-not-next
 components::read_open_fields_into-loop-field-preserved-then-not-next g t c =
     let h = rw (next_part c.args.fields.now c.loop-field.field-index c.field-item.result c.loop-field-test.true c.field-item.is) at c.loop-field.invariant.0 in
-    let after : c.next.new.self.left + 1 ≡ c.loop-field.presence.left = c.next.ensures.left in
+    let after : c.next.new.self.left + 1 ≡ c.loop-field.presence.left = c.next.ensures.bit.0 in
     let same : c.next.new.self.bitmap ≡ c.args.presence.bitmap = c.next.ensures.bitmap ∙ c.loop-field.invariant.1 in
-    let bit : 0 ≡ c.args.presence.bitmap / 2 ^ c.next.new.self.left % 2 = ap bit_of (sym c.if-not-next.true) ∙ c.next.ensures.bit ∙ ap (λ m. m / 2 ^ c.next.new.self.left % 2) c.loop-field.invariant.1 in
+    let bit : 0 ≡ c.args.presence.bitmap / 2 ^ c.next.new.self.left % 2 = ap bit_of (sym c.if-not-next.true) ∙ c.next.ensures.bit.1 ∙ ap (λ m. m / 2 ^ c.next.new.self.left % 2) c.loop-field.invariant.1 in
     let inside : c.loop-field.at < length c.loop-field.entries = omega (arith, c.loop-field-test.true, c.loop-field.invariant.2, c.loop-field.invariant.3) in
     let items = entry_written c.loop-field.entries c.loop-field.at None inside in (
       rw items (addition_absent g.R.ReadLeaves.rules c.keep_laws.ensures h c.next.new.self.left after bit),
@@ -308,8 +308,8 @@ components::read_open_fields_into-returns-clause-done g t c =
 
 pub reader::read_elements_into-loop-i-init : goal.reader::read_elements_into-loop-i-init
 reader::read_elements_into-loop-i-init g t c =
-    let none : c.args.come + 0 ≡ c.args.come = omega arith in
-    (rw none (appends_none g.R.ReadLeaves.rules.ruling.fielding (Spelt g.R.ReadLeaves.rules.code None (shape_of c.args.element.now)) (map datum_of (take c.args.come c.args.elements.now.items)) (g.R.ReadLeaves.rules.to_units c.args.units.now)), omega (arith, c.requires.inside), c.requires.at_unit)
+    let none : c.args.start + 0 ≡ c.args.start = omega arith in
+    (rw none (appends_none g.R.ReadLeaves.rules.ruling.fielding (Spelt g.R.ReadLeaves.rules.code None (shape_of c.args.element.now)) (map datum_of (take c.args.start c.args.elements.now.items)) (g.R.ReadLeaves.rules.to_units c.args.units.now)), omega (arith, c.requires.inside), c.requires.at_unit)
 
 pub reader::read_elements_into-returns-in_err-read_into-clause-stop : goal.reader::read_elements_into-returns-in_err-read_into-clause-stop
 reader::read_elements_into-returns-in_err-read_into-clause-stop g t c =
@@ -318,9 +318,9 @@ reader::read_elements_into-returns-in_err-read_into-clause-stop g t c =
 
 pub reader::read_elements_into-loop-i-preserved : goal.reader::read_elements_into-loop-i-preserved
 reader::read_elements_into-loop-i-preserved g t c =
-    let there = c.in_ok-make_place.ensures.there in
-    let next : c.args.come + (c.loop-i.i + 1) ≡ c.args.come + c.loop-i.i + 1 = omega arith in
-    let items = element_written c.make_place.new.elements.items (c.args.come + c.loop-i.i) c.read_into.new.slot (omega (arith, there, c.make_place.new.elements.ok.0)) ∙ ap (λ vs. map datum_of vs ++ datum_of c.read_into.new.slot ∷ []) c.in_ok-make_place.ensures.kept in (
+    let there = c.in_ok-make_element.ensures.there in
+    let next : c.args.start + (c.loop-i.i + 1) ≡ c.args.start + c.loop-i.i + 1 = omega arith in
+    let items = element_written c.make_element.new.elements.items (c.args.start + c.loop-i.i) c.read_into.new.slot (omega (arith, there, c.make_element.new.elements.ok.0)) ∙ ap (λ vs. map datum_of vs ++ datum_of c.read_into.new.slot ∷ []) c.in_ok-make_element.ensures.kept in (
       rw next (appends_more c.loop-i.i 1 (c.loop-i.i + 1) refl c.loop-i.invariant.0 (appends_one items c.in_ok-read_into.ensures.done)),
       omega (arith, there),
       c.in_ok-read_into.ensures.at_unit,
@@ -343,14 +343,14 @@ reader::read_fragments_into-returns-in_err-count-clause-stop g t c =
 pub reader::read_fragments_into-loop-fragments-preserved : goal.reader::read_fragments_into-loop-fragments-preserved
 reader::read_fragments_into-loop-fragments-preserved g t c =
     let next : Next g.R.ReadLeaves.rules.ruling.fielding (g.R.ReadLeaves.ahead c.loop-fragments.fragments) (Some c.in-Some.count) (g.R.ReadLeaves.ahead c.next_fragment.new.fragments) (g.R.ReadLeaves.rules.to_units c.loop-fragments.units) (g.R.ReadLeaves.rules.to_units c.next_fragment.new.units) = rw c.in-Some.is at c.in_ok-count.ensures.done in
-    let come : Spells g.R.ReadLeaves.rules.ruling.fielding (After (map datum_of (take c.loop-fragments.come c.loop-fragments.elements.items)) (Row (Spelt g.R.ReadLeaves.rules.code None (shape_of c.args.element.now)) c.in-Some.count)) (map datum_of (take (c.loop-fragments.come + c.in-Some.count) c.read_elements_into.new.elements.items)) (g.R.ReadLeaves.rules.to_units c.next_fragment.new.units) (g.R.ReadLeaves.rules.to_units c.read_elements_into.new.units) = rw c.in_ok-reserve.ensures.items at c.in_ok-read_elements_into.ensures.done in
-    (fragments_further g.R.ReadLeaves.rules c.keep_laws.ensures (spelt_inhabited g.R.ReadLeaves.rules.code (shape_of c.args.element.now) c.requires.of_profile) (spelt_lawful g.R.ReadLeaves.rules.code c.keep_laws.ensures.part None (shape_of c.args.element.now) c.requires.of_profile) next come c.loop-fragments.invariant.0, c.in_ok-read_elements_into.ensures.inside, c.in_ok-count.ensures.between, c.in_ok-read_elements_into.ensures.at_unit)
+    let row : Spells g.R.ReadLeaves.rules.ruling.fielding (After (map datum_of (take c.loop-fragments.start c.loop-fragments.elements.items)) (Row (Spelt g.R.ReadLeaves.rules.code None (shape_of c.args.element.now)) c.in-Some.count)) (map datum_of (take (c.loop-fragments.start + c.in-Some.count) c.read_elements_into.new.elements.items)) (g.R.ReadLeaves.rules.to_units c.next_fragment.new.units) (g.R.ReadLeaves.rules.to_units c.read_elements_into.new.units) = rw c.in_ok-reserve.ensures.items at c.in_ok-read_elements_into.ensures.done in
+    (fragments_further g.R.ReadLeaves.rules c.keep_laws.ensures (spelt_inhabited g.R.ReadLeaves.rules.code (shape_of c.args.element.now) c.requires.of_profile) (spelt_lawful g.R.ReadLeaves.rules.code c.keep_laws.ensures.part None (shape_of c.args.element.now) c.requires.of_profile) next row c.loop-fragments.invariant.0, c.in_ok-read_elements_into.ensures.inside, c.in_ok-count.ensures.between, c.in_ok-read_elements_into.ensures.at_unit)
 
 pub reader::read_fragments_into-loop-fragments-smaller : goal.reader::read_fragments_into-loop-fragments-smaller
 reader::read_fragments_into-loop-fragments-smaller g t c =
     let next : Next g.R.ReadLeaves.rules.ruling.fielding (g.R.ReadLeaves.ahead c.loop-fragments.fragments) (Some c.in-Some.count) (g.R.ReadLeaves.ahead c.next_fragment.new.fragments) (g.R.ReadLeaves.rules.to_units c.loop-fragments.units) (g.R.ReadLeaves.rules.to_units c.next_fragment.new.units) = rw c.in-Some.is at c.in_ok-count.ensures.done in
-    let come : Spells g.R.ReadLeaves.rules.ruling.fielding (After (map datum_of (take c.loop-fragments.come c.loop-fragments.elements.items)) (Row (Spelt g.R.ReadLeaves.rules.code None (shape_of c.args.element.now)) c.in-Some.count)) (map datum_of (take (c.loop-fragments.come + c.in-Some.count) c.read_elements_into.new.elements.items)) (g.R.ReadLeaves.rules.to_units c.next_fragment.new.units) (g.R.ReadLeaves.rules.to_units c.read_elements_into.new.units) = rw c.in_ok-reserve.ensures.items at c.in_ok-read_elements_into.ensures.done in
-    going_nearer next (row_appends come)
+    let row : Spells g.R.ReadLeaves.rules.ruling.fielding (After (map datum_of (take c.loop-fragments.start c.loop-fragments.elements.items)) (Row (Spelt g.R.ReadLeaves.rules.code None (shape_of c.args.element.now)) c.in-Some.count)) (map datum_of (take (c.loop-fragments.start + c.in-Some.count) c.read_elements_into.new.elements.items)) (g.R.ReadLeaves.rules.to_units c.next_fragment.new.units) (g.R.ReadLeaves.rules.to_units c.read_elements_into.new.units) = rw c.in_ok-reserve.ensures.items at c.in_ok-read_elements_into.ensures.done in
+    going_nearer next (row_appends row)
 
 pub reader::read_fragments_into-returns-in_err-read_elements_into-clause-stop : goal.reader::read_fragments_into-returns-in_err-read_elements_into-clause-stop
 reader::read_fragments_into-returns-in_err-read_elements_into-clause-stop g t c =
@@ -527,8 +527,8 @@ reader::read_list_into-returns-clause-done g t c =
     let start = start_leads g.R.ReadLeaves.rules c.keep_laws.ensures (Spelt g.R.ReadLeaves.rules.code None element) s (list_size element s good) c.in_ok-fragments.ensures.done in
     let whole = list_leads g.R.ReadLeaves.rules c.keep_laws.ensures element s (g.R.ReadLeaves.rules.to_units c.args.units.now) good in
     let values = c.read_fragments_into.new.elements in
-    let come = rw c.deref.ensures at c.in_ok-read_fragments_into.ensures.done in
-    rw (is, datum_of-List values) (whole.done (map datum_of values.items) (g.R.ReadLeaves.rules.to_units c.read_fragments_into.new.units) (start.done (map datum_of values.items) (g.R.ReadLeaves.rules.to_units c.read_fragments_into.new.units) come))
+    let row = rw c.deref.ensures at c.in_ok-read_fragments_into.ensures.done in
+    rw (is, datum_of-List values) (whole.done (map datum_of values.items) (g.R.ReadLeaves.rules.to_units c.read_fragments_into.new.units) (start.done (map datum_of values.items) (g.R.ReadLeaves.rules.to_units c.read_fragments_into.new.units) row))
 
 pub reader::read_list_into-returns-in_err-read_fragments_into-clause-stop : goal.reader::read_list_into-returns-in_err-read_fragments_into-clause-stop
 reader::read_list_into-returns-in_err-read_fragments_into-clause-stop g t c =

@@ -19,13 +19,13 @@ invariant-components::read_open_fields_into-loop-field g l =
 
 abbrev pub invariant-reader::read_elements_into-loop-i : goal.invariant-reader::read_elements_into-loop-i
 invariant-reader::read_elements_into-loop-i g l =
-    Appends g.R.ReadLeaves.rules.ruling.fielding (ValuesOf g.R.ReadLeaves.rules (shape_of l.element)) l.i (map datum_of (take l.come l.fn.elements.items)) (map datum_of (take (l.come + l.i) l.elements.items)) (g.R.ReadLeaves.rules.to_units l.fn.units) (g.R.ReadLeaves.rules.to_units l.units)
-    × (l.come + l.i ≤ vec_len l.elements) × g.R.ReadLeaves.rules.at_unit l.units
+    Appends g.R.ReadLeaves.rules.ruling.fielding (ValuesOf g.R.ReadLeaves.rules (shape_of l.element)) l.i (map datum_of (take l.start l.fn.elements.items)) (map datum_of (take (l.start + l.i) l.elements.items)) (g.R.ReadLeaves.rules.to_units l.fn.units) (g.R.ReadLeaves.rules.to_units l.units)
+    × (l.start + l.i ≤ vec_len l.elements) × g.R.ReadLeaves.rules.at_unit l.units
 
 abbrev pub invariant-reader::read_fragments_into-loop-fragments : goal.invariant-reader::read_fragments_into-loop-fragments
 invariant-reader::read_fragments_into-loop-fragments g l =
-    FragmentsUpTo g.R.ReadLeaves.rules (ValuesOf g.R.ReadLeaves.rules (shape_of l.element)) (Remaining (ValuesOf g.R.ReadLeaves.rules (shape_of l.element)) (g.R.ReadLeaves.ahead l.fn.fragments)) (g.R.ReadLeaves.rules.to_units l.fn.units) [] (g.R.ReadLeaves.ahead l.fragments) (map datum_of (take l.come l.elements.items)) (g.R.ReadLeaves.rules.to_units l.units)
-    × (l.come ≤ vec_len l.elements) × g.R.ReadLeaves.is_between l.fragments × g.R.ReadLeaves.rules.at_unit l.units
+    FragmentsUpTo g.R.ReadLeaves.rules (ValuesOf g.R.ReadLeaves.rules (shape_of l.element)) (Remaining (ValuesOf g.R.ReadLeaves.rules (shape_of l.element)) (g.R.ReadLeaves.ahead l.fn.fragments)) (g.R.ReadLeaves.rules.to_units l.fn.units) [] (g.R.ReadLeaves.ahead l.fragments) (map datum_of (take l.start l.elements.items)) (g.R.ReadLeaves.rules.to_units l.units)
+    × (l.start ≤ vec_len l.elements) × g.R.ReadLeaves.is_between l.fragments × g.R.ReadLeaves.rules.at_unit l.units
 
 abbrev pub decreases-reader::read_fragments_into-loop-fragments : goal.decreases-reader::read_fragments_into-loop-fragments
 decreases-reader::read_fragments_into-loop-fragments g l = steps_left (g.R.ReadLeaves.ahead l.fragments) + length (g.R.ReadLeaves.rules.to_units l.units)

@@ -123,14 +123,14 @@ reader::read_fragments-returns-in_err-count-clause-stop g t c =
 pub reader::read_fragments-loop-fragments-preserved : goal.reader::read_fragments-loop-fragments-preserved
 reader::read_fragments-loop-fragments-preserved g t c =
     let next : Next g.R.ReadLeaves.rules.ruling.fielding (g.R.ReadLeaves.ahead c.loop-fragments.fragments) (Some c.in-Some.count) (g.R.ReadLeaves.ahead c.next_fragment.new.fragments) (g.R.ReadLeaves.rules.to_units c.loop-fragments.units) (g.R.ReadLeaves.rules.to_units c.next_fragment.new.units) = rw c.in-Some.is at c.in_ok-count.ensures.done in
-    let come : Spells g.R.ReadLeaves.rules.ruling.fielding (After (map datum_of c.loop-fragments.elements.items) (Row (Spelt g.R.ReadLeaves.rules.code None (shape_of c.args.element.now)) c.in-Some.count)) (map datum_of c.read_elements.new.elements.items) (g.R.ReadLeaves.rules.to_units c.next_fragment.new.units) (g.R.ReadLeaves.rules.to_units c.read_elements.new.units) = rw c.in_ok-reserve.ensures.items at c.in_ok-read_elements.ensures.done in
-    (fragments_further g.R.ReadLeaves.rules c.keep_laws.ensures (spelt_inhabited g.R.ReadLeaves.rules.code (shape_of c.args.element.now) c.requires.of_profile) (spelt_lawful g.R.ReadLeaves.rules.code c.keep_laws.ensures.part None (shape_of c.args.element.now) c.requires.of_profile) next come c.loop-fragments.invariant.0, c.in_ok-count.ensures.between, c.in_ok-read_elements.ensures.at_unit)
+    let row : Spells g.R.ReadLeaves.rules.ruling.fielding (After (map datum_of c.loop-fragments.elements.items) (Row (Spelt g.R.ReadLeaves.rules.code None (shape_of c.args.element.now)) c.in-Some.count)) (map datum_of c.read_elements.new.elements.items) (g.R.ReadLeaves.rules.to_units c.next_fragment.new.units) (g.R.ReadLeaves.rules.to_units c.read_elements.new.units) = rw c.in_ok-reserve.ensures.items at c.in_ok-read_elements.ensures.done in
+    (fragments_further g.R.ReadLeaves.rules c.keep_laws.ensures (spelt_inhabited g.R.ReadLeaves.rules.code (shape_of c.args.element.now) c.requires.of_profile) (spelt_lawful g.R.ReadLeaves.rules.code c.keep_laws.ensures.part None (shape_of c.args.element.now) c.requires.of_profile) next row c.loop-fragments.invariant.0, c.in_ok-count.ensures.between, c.in_ok-read_elements.ensures.at_unit)
 
 pub reader::read_fragments-loop-fragments-smaller : goal.reader::read_fragments-loop-fragments-smaller
 reader::read_fragments-loop-fragments-smaller g t c =
     let next : Next g.R.ReadLeaves.rules.ruling.fielding (g.R.ReadLeaves.ahead c.loop-fragments.fragments) (Some c.in-Some.count) (g.R.ReadLeaves.ahead c.next_fragment.new.fragments) (g.R.ReadLeaves.rules.to_units c.loop-fragments.units) (g.R.ReadLeaves.rules.to_units c.next_fragment.new.units) = rw c.in-Some.is at c.in_ok-count.ensures.done in
-    let come : Spells g.R.ReadLeaves.rules.ruling.fielding (After (map datum_of c.loop-fragments.elements.items) (Row (Spelt g.R.ReadLeaves.rules.code None (shape_of c.args.element.now)) c.in-Some.count)) (map datum_of c.read_elements.new.elements.items) (g.R.ReadLeaves.rules.to_units c.next_fragment.new.units) (g.R.ReadLeaves.rules.to_units c.read_elements.new.units) = rw c.in_ok-reserve.ensures.items at c.in_ok-read_elements.ensures.done in
-    going_nearer next (row_appends come)
+    let row : Spells g.R.ReadLeaves.rules.ruling.fielding (After (map datum_of c.loop-fragments.elements.items) (Row (Spelt g.R.ReadLeaves.rules.code None (shape_of c.args.element.now)) c.in-Some.count)) (map datum_of c.read_elements.new.elements.items) (g.R.ReadLeaves.rules.to_units c.next_fragment.new.units) (g.R.ReadLeaves.rules.to_units c.read_elements.new.units) = rw c.in_ok-reserve.ensures.items at c.in_ok-read_elements.ensures.done in
+    going_nearer next (row_appends row)
 
 pub reader::read_fragments-returns-in_err-read_elements-clause-stop : goal.reader::read_fragments-returns-in_err-read_elements-clause-stop
 reader::read_fragments-returns-in_err-read_elements-clause-stop g t c =
@@ -331,24 +331,24 @@ components::read_open_fields-loop-field-init g t c =
 pub components::read_open_fields-returns-in_err-read_open_field-clause-stop : goal.components::read_open_fields-returns-in_err-read_open_field-clause-stop
 components::read_open_fields-returns-in_err-read_open_field-clause-stop g t c =
     let h = rw (next_part c.args.fields.now c.loop-field.field-index c.field-item.result c.loop-field-test.true c.field-item.is) at c.loop-field.invariant.0 in
-    let after : c.next.new.self.left + 1 ≡ c.loop-field.presence.left = c.next.ensures.left in
-    let bit : 1 ≡ c.args.presence.bitmap / 2 ^ c.next.new.self.left % 2 = ap bit_of (sym c.if-next.true) ∙ c.next.ensures.bit ∙ ap (λ m. m / 2 ^ c.next.new.self.left % 2) c.loop-field.invariant.1 in
+    let after : c.next.new.self.left + 1 ≡ c.loop-field.presence.left = c.next.ensures.bit.0 in
+    let bit : 1 ≡ c.args.presence.bitmap / 2 ^ c.next.new.self.left % 2 = ap bit_of (sym c.if-next.true) ∙ c.next.ensures.bit.1 ∙ ap (λ m. m / 2 ^ c.next.new.self.left % 2) c.loop-field.invariant.1 in
     let p = err_from_is_err_and c.from_residual.result c.from_residual.ensures.1 in
     rw (p.1, p.2) (stops_by _ (addition_stops g.R.ReadLeaves.rules c.keep_laws.ensures h c.next.new.self.left after bit) (rw (← shape_of_part c.field-item.result) at c.in_err-read_open_field.ensures.stop))
 
 pub components::read_open_fields-loop-field-preserved : goal.components::read_open_fields-loop-field-preserved
 components::read_open_fields-loop-field-preserved g t c =
     let h = rw (next_part c.args.fields.now c.loop-field.field-index c.field-item.result c.loop-field-test.true c.field-item.is) at c.loop-field.invariant.0 in
-    let after : c.next.new.self.left + 1 ≡ c.loop-field.presence.left = c.next.ensures.left in
+    let after : c.next.new.self.left + 1 ≡ c.loop-field.presence.left = c.next.ensures.bit.0 in
     let same : c.next.new.self.bitmap ≡ c.args.presence.bitmap = c.next.ensures.bitmap ∙ c.loop-field.invariant.1 in
     let items : map (option_map datum_of) c.push.new.self.items ≡ map (option_map datum_of) c.loop-field.entries.items ++ option_map datum_of c.if-next.entry ∷ [] =
     ap (map (option_map datum_of)) c.in_ok-push.ensures.items ∙ map-append (option_map datum_of) c.loop-field.entries.items (c.if-next.entry ∷ []) in
     rw items (elim c.if-next.branch [
       | components::read_open_fields-then-next+in_ok-read_open_field w ↦
-          let bit : 1 ≡ c.args.presence.bitmap / 2 ^ c.next.new.self.left % 2 = ap bit_of (sym w.if-next.true) ∙ c.next.ensures.bit ∙ ap (λ m. m / 2 ^ c.next.new.self.left % 2) c.loop-field.invariant.1 in
+          let bit : 1 ≡ c.args.presence.bitmap / 2 ^ c.next.new.self.left % 2 = ap bit_of (sym w.if-next.true) ∙ c.next.ensures.bit.1 ∙ ap (λ m. m / 2 ^ c.next.new.self.left % 2) c.loop-field.invariant.1 in
           rw (w.entry-is, w.units-is) (addition_present g.R.ReadLeaves.rules c.keep_laws.ensures h c.next.new.self.left after bit _ (g.R.ReadLeaves.rules.to_units w.read_open_field.new.units) (rw (← shape_of_part c.field-item.result) at w.in_ok-read_open_field.ensures.done), same, w.in_ok-read_open_field.ensures.at_unit)
       | components::read_open_fields-else-next w ↦
-          let bit : 0 ≡ c.args.presence.bitmap / 2 ^ c.next.new.self.left % 2 = ap bit_of (sym w.if-next.false) ∙ c.next.ensures.bit ∙ ap (λ m. m / 2 ^ c.next.new.self.left % 2) c.loop-field.invariant.1 in
+          let bit : 0 ≡ c.args.presence.bitmap / 2 ^ c.next.new.self.left % 2 = ap bit_of (sym w.if-next.false) ∙ c.next.ensures.bit.1 ∙ ap (λ m. m / 2 ^ c.next.new.self.left % 2) c.loop-field.invariant.1 in
           rw (w.entry-is, w.units-is) (addition_absent g.R.ReadLeaves.rules c.keep_laws.ensures h c.next.new.self.left after bit, same, c.loop-field.invariant.2)
     ])
 

@@ -132,17 +132,17 @@ write_components-loop-field-preserved-in-loop-field g t c =
     let e : c.loop-field.field-iterator.a.rest.now ≡ c.in-Some.field.now ∷ c.next.new.self.a.rest.now = c.in-Some.ensures.steps.0 in
     let f : c.loop-field.field-iterator.b.rest.now ≡ c.in-Some.entry.now ∷ c.next.new.self.b.rest.now = c.in-Some.ensures.steps.1 in
     let i = c.in-Int-Int in
-    let some : option_map datum_of c.in-Some.entry.now ≡ Some (number i.whole) = ap (option_map datum_of) c.in-Some-entry.is ∙ ap Some (ap datum_of i.is-1 ∙ datum_of-Int i.whole) in
-    let spelt : is_spelled (part_of_field c.in-Some.field.now).demand (Some (number i.whole)) ≡ true = elim c.match-matches-2.branch [
+    let some : option_map datum_of c.in-Some.entry.now ≡ Some (number i.number) = ap (option_map datum_of) c.in-Some-entry.is ∙ ap Some (ap datum_of i.is-1 ∙ datum_of-Int i.number) in
+    let spelt : is_spelled (part_of_field c.in-Some.field.now).demand (Some (number i.number)) ≡ true = elim c.match-matches-2.branch [
       | write_components-in-Default w ↦ absurd (let m : c.match-matches-2.matches ≡ true = w.matches-is in cc)
-      | write_components-in_default-matches-2 w ↦ ap (λ d. is_spelled d (Some (number i.whole))) (demand_of_part c.in-Some.field.now) ∙ spelt_unless_default c.in-Some.field.now.need (number i.whole) w.in_default-matches-2.not-Default
+      | write_components-in_default-matches-2 w ↦ ap (λ d. is_spelled d (Some (number i.number))) (demand_of_part c.in-Some.field.now) ∙ spelt_unless_default c.in-Some.field.now.need (number i.number) w.in_default-matches-2.not-Default
     ] in
     let shape : (part_of_field c.in-Some.field.now).shape ≡ integer (range_of i.bounds) = shape_of_part c.in-Some.field.now ∙ ap shape_of i.is-0 ∙ shape_of-Int i.bounds in
-    let same : to_z w128 (of_z w128 i.whole) ≡ i.whole = search (rules, the_lemmas) in
-    let own : FitsNumber (range_of i.bounds) i.whole = rw same at c.in_ok-write_number.ensures.of_type in
-    let fits : Fits (part_of_field c.in-Some.field.now).shape (number i.whole) = rw shape own in
+    let same : to_z w128 (of_z w128 i.number) ≡ i.number = search (rules, the_lemmas) in
+    let own : FitsNumber (range_of i.bounds) i.number = rw same at c.in_ok-write_number.ensures.of_type in
+    let fits : Fits (part_of_field c.in-Some.field.now).shape (number i.number) = rw shape own in
     written_more c.keep_write_laws.ensures (rw (e, f, some) at c.loop-field.invariant) spelt fits
-    (rw same at c.in_ok-write_number.ensures.written ∙ ap (λ (x : Shape). c.loop-field.sink ++ written g.R.WriteLeaves.rules (g.R.WriteLeaves.rules.code x (number i.whole))) (sym shape))
+    (rw same at c.in_ok-write_number.ensures.written ∙ ap (λ (x : Shape). c.loop-field.sink ++ written g.R.WriteLeaves.rules (g.R.WriteLeaves.rules.code x (number i.number))) (sym shape))
 
 pub write_components-loop-field-preserved-in_ok-write : goal.write_components-loop-field-preserved-in_ok-write
 write_components-loop-field-preserved-in_ok-write g t c =

@@ -1,7 +1,7 @@
 -- Bits that fill octets, and those behind their length and the number of unused ones, as they are read.
 use Rattle.std.proofs.Common.{◌≡◌, ◌≤◌, ◌-◌, ℕ, Bool, true, false, Some, List, length, refl, subst, arith}
 use Rattle.asn_values.specs.Datum.{bit_list}
-use Rattle.asn_values.specs.Shape.{SizeRange}
+use Rattle.asn_values.specs.Shape.{SizeRange, bit_string}
 use Rattle.asn_values.specs.Fits.{FitsLength, max_len}
 use Rattle.asn_values.specs.Profile.{is_fixed_size, large_size}
 use Rattle.asn_bits.specs.Numbers.{bits}
@@ -16,7 +16,7 @@ use Rattle.asn_rules.proofs.Spellings.{same_after, same_spelled}
 use Rattle.asn_rules.specs.OctetStrings.{PackedBits, VariableBits}
 use Rattle.asn_walk.specs.Sizes.{AreCounts}
 use Rattle.asn_oer.specs.Oer.{oer_fields}
-use Rattle.asn_oer.specs.LeafReading.{BitStringsOf}
+use Rattle.asn_oer.specs.Reading.{ValuesOf}
 use Rattle.asn_oer.proofs.BitLanguages.{bit_strings, variable_language}
 use Rattle.asn_oer.proofs.SizeCounts.{counts_there, counts_back}
 
@@ -26,14 +26,14 @@ module _ (s : SizeRange) (small : large_size (Some s) ≡ false) where
   abbrev sized : Bool → List Bool → List Chunk → Type 0
   sized t = elim t [ true ↦ PackedBits s.low | false ↦ VariableBits (FitsLength s) ]
 
-  whole_string : Same (Map bit_list (sized (is_fixed_size s))) (BitStringsOf s)
+  whole_string : Same (Map bit_list (sized (is_fixed_size s))) (ValuesOf (bit_string s))
   whole_string = same_after (bit_strings s small) (same_spelled (λ v h. (h, tt)) (λ v h. h.0) (λ v h. refl))
 
-  string_leads : (t : Bool) → is_fixed_size s ≡ t → (us : List ℕ) → Leads oer_fields (sized t) us bit_list (BitStringsOf s) us
+  string_leads : (t : Bool) → is_fixed_size s ≡ t → (us : List ℕ) → Leads oer_fields (sized t) us bit_list (ValuesOf (bit_string s)) us
   string_leads t e us =
-      subst (λ (b : Bool). Leads oer_fields (sized b) us bit_list (BitStringsOf s) us) e (leads_on (leads_map oer_fields bit_list (sized (is_fixed_size s)) us) (leads_same oer_fields us whole_string))
+      subst (λ (b : Bool). Leads oer_fields (sized b) us bit_list (ValuesOf (bit_string s)) us) e (leads_on (leads_map oer_fields bit_list (sized (is_fixed_size s)) us) (leads_same oer_fields us whole_string))
 
-  pub fixed_leads : is_fixed_size s ≡ true → (us : List ℕ) → Leads oer_fields (PackedBits s.low) us bit_list (BitStringsOf s) us
+  pub fixed_leads : is_fixed_size s ≡ true → (us : List ℕ) → Leads oer_fields (PackedBits s.low) us bit_list (ValuesOf (bit_string s)) us
   fixed_leads e us = string_leads true e us
 
   module _ (t : NumberSet) (are : AreCounts s t) where
@@ -41,7 +41,7 @@ module _ (s : SizeRange) (small : large_size (Some s) ≡ false) where
     pub counts_few : (t.low ≤ t.high) × (t.high ≤ max_len)
     counts_few = (are.some.1, (counts_there s t are t.high (are.some.1, omega arith)).0)
 
-    pub variable_leads : is_fixed_size s ≡ false → (us : List ℕ) → Leads oer_fields (VariableBits (Between t.low t.high)) us bit_list (BitStringsOf s) us
+    pub variable_leads : is_fixed_size s ≡ false → (us : List ℕ) → Leads oer_fields (VariableBits (Between t.low t.high)) us bit_list (ValuesOf (bit_string s)) us
     variable_leads e us = leads_on (leads_same oer_fields us again) (string_leads false e us)
       where
         again : Same (VariableBits (Between t.low t.high)) (VariableBits (FitsLength s))

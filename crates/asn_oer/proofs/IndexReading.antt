@@ -1,5 +1,6 @@
 -- The tag of a CHOICE as the index that the walk asks for.
 use Rattle.std.proofs.Common.{◌≡◌, ◌≤◌, ◌<◌, ◌+◌, ◌-◌, ◌⊎◌, inl, inr, ℕ, Bool, true, false, nat_lt, List, [], ◌∷◌, Option, None, Some, refl, sym, ap, ◌∙◌, arith}
+use Rattle.std.specs.Option.{unwrap_or}
 use Rattle.std.proofs.lemmas.Bool.{ltb-true, ltb-false, lt-ltb, le-ltb}
 use Rattle.asn_bits.specs.Numbers.{digits}
 use Rattle.asn_rules.specs.Chunks.{ones}
@@ -31,6 +32,11 @@ tag_within root None (inl n) few h = (h, few)
 tag_within root None (inr n) few h = absurd h
 tag_within root (Some more) (inl n) few h = (omega (arith, h), few)
 tag_within root (Some more) (inr n) few h = (omega (arith, h), few)
+
+-- the alternatives of the root and the additions, as the program counts them
+pub alternatives_are : (root : ℕ) (more : Option ℕ) → AreFew root more → (root + unwrap_or more 0 ≡ alternatives_of root more) × (root + unwrap_or more 0 ≤ 63)
+alternatives_are root None few = (omega arith, omega (arith, few))
+alternatives_are root (Some k) few = (refl, few)
 
 module _ (root : ℕ) (more : Option ℕ) (few : AreFew root more) where
   all : ℕ

@@ -77,3 +77,21 @@ abbrev pub EnumeratedButOne : Type 0
 EnumeratedButOne =
     (root : List Label) (more : MoreLabels) (e : Option Datum) → InProfile (enumerated root more) →
     Same (Map (item_told (root ++ more_labels more)) (ItemNumbers (λ z. IsNumberOf (root ++ more_labels more) z × IsOther e (item_told (root ++ more_labels more) z)))) (Spelt oer e (enumerated root more))
+
+-- ---- all of them
+
+pub record KindsCompose : Type 0 where
+  pub boolean_kind : BooleansCompose
+  pub null_kind : NullsCompose
+  pub integer_kind : IntegersCompose
+  pub enumerated_kind : EnumeratedCompose
+  pub bit_string_kind : BitStringsCompose
+  pub octet_string_kind : OctetStringsCompose
+  pub character_string_kind : CharacterStringsCompose
+  pub utf8_string_kind : Utf8StringsCompose
+  pub sequence_of_kind : ListsCompose
+  pub sequence_kind : SequencesCompose
+  pub choice_kind : ChoicesCompose
+  pub open_field_kind : OpenFieldsCompose
+  pub boolean_but_one_kind : BooleansButOne
+  pub enumerated_but_one_kind : EnumeratedButOne

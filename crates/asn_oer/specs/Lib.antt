@@ -15,3 +15,4 @@ pub mod Walk
 pub mod BitsWritten
 pub mod ElementsAhead
 pub mod LeafReading
+pub mod Words

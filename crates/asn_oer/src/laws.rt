@@ -1,13 +1,5 @@
 //! The laws of Canonical OER (X.696), for every type of the profile.
-ghost use Rattle.asn_rules.specs.CodecLaws.{DecodesTheEncoded, EncodesTheDecoded, OnlyMemoryIsWanting, EqualExactly, TellsTheRest, RestFollowsOneFront, TellsTheCut, DecodersAgree};
-ghost use Rattle.asn_rules.specs.Laws.{BeginningsAreLive, BeginningsAreNotRefused, EncodesAs, UnitsTellTheValue, OneValue, NoneBegins, RulesLaws, LiveIsClosed, LiveByParts, OneAnswer};
-ghost use Rattle.asn_rules.specs.Parted.{SpellingsPart};
-ghost use Rattle.asn_rules.specs.Reading.{RulesTell};
-ghost use Rattle.asn_walk.specs.Laws.{Laws};
-ghost use Rattle.asn_oer.specs.Kinds.{BooleansCompose, NullsCompose, IntegersCompose, EnumeratedCompose, BitStringsCompose, OctetStringsCompose, CharacterStringsCompose, Utf8StringsCompose, ListsCompose, SequencesCompose, ChoicesCompose, OpenFieldsCompose, BooleansButOne, EnumeratedButOne};
-ghost use Rattle.asn_oer.specs.Oer.{oer, oer_fields, oer_octets};
-ghost use Rattle.asn_oer.specs.Rules.{oer_ruling};
-ghost use Rattle.asn_oer.specs.Walk.{oer_coding};
+ghost use Rattle.asn_oer.specs.Words.{DecodesTheEncoded, EncodesTheDecoded, OnlyMemoryIsWanting, EqualExactly, TellsTheRest, RestFollowsOneFront, TellsTheCut, DecodersAgree, BeginningsAreLive, BeginningsAreNotRefused, EncodesAs, UnitsTellTheValue, OneValue, NoneBegins, RulesLaws, LiveIsClosed, LiveByParts, OneAnswer, SpellingsPart, RulesTell, Laws, KindsCompose, oer, oer_fields, oer_octets, oer_ruling, oer_coding};
 
 /// The encodings of each kind of type of the profile are put together from those of its parts.
 ///
@@ -18,20 +10,7 @@ ghost use Rattle.asn_oer.specs.Walk.{oer_coding};
 /// readers of the kind. Of BOOLEAN and ENUMERATED the same is said of the values but for one, as a
 /// component with a DEFAULT is spelt.
 pub fn kinds_compose()
-    ensures boolean { BooleansCompose }
-    ensures null { NullsCompose }
-    ensures integer { IntegersCompose }
-    ensures enumerated { EnumeratedCompose }
-    ensures bit_string { BitStringsCompose }
-    ensures octet_string { OctetStringsCompose }
-    ensures character_string { CharacterStringsCompose }
-    ensures utf8_string { Utf8StringsCompose }
-    ensures sequence_of { ListsCompose }
-    ensures sequence { SequencesCompose }
-    ensures choice { ChoicesCompose }
-    ensures open_field { OpenFieldsCompose }
-    ensures boolean_but_one { BooleansButOne }
-    ensures enumerated_but_one { EnumeratedButOne }
+    ensures { KindsCompose }
 {}
 
 /// A spelling tells its value and where it ends, whatever follows it.

@@ -1,16 +1,6 @@
 //! What Canonical OER reads by itself: the simple types, and the parts of the composite ones.
-ghost use Rattle.std.specs.Prelude.{◌≡◌, ◌≤◌, ℕ, IfOk, IfErr, OnOk, ⊤};
-ghost use Rattle.std.specs.Option.{option_map};
-ghost use Rattle.asn_values.specs.Datum.{truth};
-ghost use Rattle.asn_values.specs.Shape.{boolean};
-ghost use Rattle.asn_bits.specs.Sets.{Among, Meets};
-ghost use Rattle.asn_rules.specs.Listed.{Spelt};
-ghost use Rattle.asn_rules.specs.OctetReading.{AtOctet, ReadsOctets, StopsAtOctets};
-ghost use Rattle.asn_walk.specs.Coding.{AreFew};
-ghost use Rattle.asn_oer.specs.ElementsAhead.{ahead_of};
-ghost use Rattle.asn_oer.specs.Oer.{oer};
-ghost use Rattle.asn_oer.specs.Reading.{TruthOctet};
-ghost use Rattle.asn_oer.specs.Walk.{oer_coding, mark_of, alternatives_of};
+ghost use Rattle.std.specs.Prelude.{◌≡◌, ℕ, OnOk, ⊤};
+ghost use Rattle.asn_oer.specs.Words.{truth, Among, Meets, AtOctet, BooleansBut, TruthOctet, Reads, StopsIn, ahead_of, oer_coding, mark_of};
 
 use crate::enumerated::read_item;
 use crate::integer::{read_integer, try_fixed};
@@ -27,18 +17,11 @@ use asn_walk::sizes::counts_of;
 use asn_walk::{Index, Preamble, ReadLeaves};
 use std::alloc::Global;
 
-/// What is still to be read of a list: a number of elements, or nothing.
-#[derive(Drop)]
-pub enum Elements {
-    Items(usize),
-    End,
-}
-
 #[tactic(auto, unfolding(crate::specs::Walk::oer_coding, crate::specs::Rules::oer_ruling))]
 impl ReadLeaves for Oer {
     ghost rules = { oer_coding };
 
-    type Fragments = Elements;
+    type Fragments = Option<usize>;
 
     ghost ahead = { ahead_of };
 
@@ -128,7 +111,7 @@ impl ReadLeaves for Oer {
         // the octet of a context-specific tag, which counts the alternatives from 0, root first
         let tags = NumberSet {
             low: 128,
-            high: 127 + alternatives(root, additions) as u64,
+            high: 127 + (root + additions.unwrap_or(0)) as u64,
             excluded: None,
         };
         let tag = (read_octets(1, tags, Why::Number, units)? - 128) as usize;
@@ -150,25 +133,18 @@ impl ReadLeaves for Oer {
     }
 
     #[inline(always)]
-    fn start_list(size: &Size, units: &mut BitCursor<'_>) -> Result<Elements, Stop> {
+    fn start_list(size: &Size, units: &mut BitCursor<'_>) -> Result<Option<usize>, Stop> {
         // the quantity, an INTEGER from 0 on
         let count = read_counted(counts_of(size), Why::Length, Why::Length, units)?;
-        Ok(Elements::Items(count as usize))
+        Ok(Some(count as usize))
     }
 
     #[inline(always)]
     fn next_fragment(
-        fragments: &mut Elements,
+        elements: &mut Option<usize>,
         _units: &mut BitCursor<'_>,
     ) -> Result<Option<usize>, Stop> {
-        match fragments {
-            Elements::End => Ok(None),
-            Elements::Items(count) => {
-                let count = *count;
-                *fragments = Elements::End;
-                Ok(Some(count))
-            }
-        }
+        Ok(elements.take())
     }
 
     #[inline(always)]
@@ -186,42 +162,25 @@ fn marks(additions: Option<usize>) -> (u32, u64)
     }
 }
 
-/// How many alternatives there are.
-fn alternatives(root: usize, additions: Option<usize>) -> usize
-    requires { AreFew root additions }
-    ensures count { result ≡ alternatives_of root additions }
-    ensures few { result ≤ 63 }
-{
-    match additions {
-        None => root,
-        Some(more) => root + more,
-    }
-}
-
-/// Reads a truth value, but for the one that is left out: FALSE is the octet 0 and TRUE the octet 255.
-pub(crate) fn read_boolean(except: Option<bool>, units: &mut BitCursor<'_>) -> Result<bool, Stop>
+/// Reads a truth value, but for the excluded one: FALSE is the octet 0 and TRUE the octet 255.
+pub(crate) fn read_boolean(excluded: Option<bool>, units: &mut BitCursor<'_>) -> Result<bool, Stop>
     requires at_octet { AtOctet units.old }
     ensures at_octet { OnOk result (AtOctet units.new) }
-    ensures done { IfOk result (λ b.
-        ReadsOctets (Spelt oer (option_map truth except) boolean) (truth b) units.old units.new) }
-    ensures stop { IfErr result (λ why. StopsAtOctets (Spelt oer (option_map truth except) boolean) units.old why) }
+    ensures done { Reads result (λ b. truth b) (BooleansBut excluded) units.old units.new }
+    ensures stop { StopsIn result (BooleansBut excluded) units.old }
 {
-    let octet = read_octets_among(
-        1,
-        truth_octets(except),
-        Why::in_number(except.is_some()),
-        units,
-    )?;
+    let why = Why::in_number(excluded.is_some());
+    let octet = read_octets_among(1, truth_octets(excluded), why, units)?;
     Ok(0 < octet)
 }
 
 /// The octets of the truth values.
-fn truth_octets(except: Option<bool>) -> Intervals
-    ensures there { (n : ℕ) → Among result n → TruthOctet except n }
-    ensures back { (n : ℕ) → TruthOctet except n → Among result n }
+fn truth_octets(excluded: Option<bool>) -> Intervals
+    ensures there { (n : ℕ) → Among result n → TruthOctet excluded n }
+    ensures back { (n : ℕ) → TruthOctet excluded n → Among result n }
     ensures some { Meets (λ n. Among result n) 0 8 }
 {
-    match except {
+    match excluded {
         None => Intervals::one(0, 0).and(255, 255),
         Some(false) => Intervals::one(255, 255),
         Some(true) => Intervals::one(0, 0),

@@ -1,9 +1,6 @@
 //! Canonical OER as encoding rules: the encoder, and sessions that keep all octets and read them again with each piece.
 ghost use Rattle.std.specs.Prelude.{[], Ok, Err, IfErr, OnOk};
-ghost use Rattle.asn_values.specs.View.{shape_of};
-ghost use Rattle.asn_rules.specs.Codec.{Decoded};
-ghost use Rattle.asn_rules.specs.Rereading.{Keeps};
-ghost use Rattle.asn_oer.specs.Rules.{oer_ruling};
+ghost use Rattle.asn_oer.specs.Words.{shape_of, Decoded, Keeps, oer_ruling};
 
 use asn_rules::internal::{self, Reads, Rereading, is_value_of_none};
 use asn_rules::{DecodeFault, EncodeFault, FeedFault, OpenFault, Rules, Step, Truncated};

@@ -1,18 +1,8 @@
 //! Readers of strings, and of octets after their length (X.696, "length determinant", "open type"). Each answers `Short`
 //! if the octets end before what it reads does, `Refused` as `read_length` for a length, and `Memory` if an allocation
 //! failed.
-ghost use Rattle.std.specs.Prelude.{IfOk, IfErr, OnOk, string_bytes, ◌<◌, ◌/◌, length};
-ghost use Rattle.asn_values.specs.Datum.{octet_list, characters, unicode, bit_list};
-ghost use Rattle.asn_values.specs.Profile.{InProfile};
-ghost use Rattle.asn_values.specs.Shape.{octet_string, restricted};
-ghost use Rattle.asn_values.specs.View.{size_range_of, alphabet_of};
-ghost use Rattle.asn_bits.specs.Numbers.{bits};
-ghost use Rattle.asn_rules.specs.OctetReading.{AtOctet, ReadsOctets, StopsAtOctets};
-ghost use Rattle.asn_rules.specs.OctetStrings.{Character};
-ghost use Rattle.asn_walk.specs.Laws.{IsSizeOfProfile};
-ghost use Rattle.asn_oer.specs.Reading.{ValuesOf};
-ghost use Rattle.asn_oer.specs.Strings.{Count, Utf8Strings};
-ghost use Rattle.asn_oer.specs.LeafReading.{BitStringsOf};
+ghost use Rattle.std.specs.Prelude.{OnOk, string_bytes};
+ghost use Rattle.asn_oer.specs.Words.{octet_list, characters, unicode, bit_list, InProfile, octet_string, restricted, size_range_of, alphabet_of, AtOctet, IsSizeOfProfile, BitStringsOf, OctetStringsOf, TextsOf, Reads, StopsIn, Count, Utf8Strings};
 
 use asn_bits::BitCursor;
 use asn_rules::internal::{
@@ -30,8 +20,8 @@ pub(crate) fn read_count(size: &Size, units: &mut BitCursor<'_>) -> Result<usize
     requires at_octet { AtOctet units.old }
     requires of_profile { IsSizeOfProfile (size_range_of size.now) }
     ensures at_octet { OnOk result (AtOctet units.new) }
-    ensures done { IfOk result (λ n. ReadsOctets (Count (size_range_of size.now)) n units.old units.new) }
-    ensures stop { IfErr result (λ why. StopsAtOctets (Count (size_range_of size.now)) units.old why) }
+    ensures done { Reads result (λ n. n) (Count (size_range_of size.now)) units.old units.new }
+    ensures stop { StopsIn result (Count (size_range_of size.now)) units.old }
 {
     if is_fixed(size) {
         return Ok(size.low as usize);
@@ -49,10 +39,8 @@ pub(crate) fn read_octet_string(
     requires at_octet { AtOctet units.old }
     requires of_profile { InProfile (octet_string (size_range_of size.now)) }
     ensures at_octet { OnOk result (AtOctet units.new) }
-    ensures done { IfOk result (λ os.
-        ReadsOctets (ValuesOf (octet_string (size_range_of size.now))) (octet_list os.items) units.old units.new) }
-    ensures stop { IfErr result (λ why.
-        StopsAtOctets (ValuesOf (octet_string (size_range_of size.now))) units.old why) }
+    ensures done { Reads result (λ os. octet_list os.items) (OctetStringsOf size.now) units.old units.new }
+    ensures stop { StopsIn result (OctetStringsOf size.now) units.old }
 {
     let count = read_count(size, units)?;
     read_row(alloc, count, units)
@@ -71,10 +59,8 @@ pub(crate) fn read_text(
     requires at_octet { AtOctet units.old }
     requires of_profile { InProfile (restricted (alphabet_of kind) (size_range_of size.now)) }
     ensures at_octet { OnOk result (AtOctet units.new) }
-    ensures done { IfOk result (λ cs. ReadsOctets (ValuesOf (restricted (alphabet_of kind) (size_range_of size.now)))
-        (characters cs.items) units.old units.new) }
-    ensures stop { IfErr result (λ why.
-        StopsAtOctets (ValuesOf (restricted (alphabet_of kind) (size_range_of size.now))) units.old why) }
+    ensures done { Reads result (λ cs. characters cs.items) (TextsOf kind size.now) units.old units.new }
+    ensures stop { StopsIn result (TextsOf kind size.now) units.old }
 {
     let count = read_count(size, units)?;
     read_characters(alloc, kind, count, units)
@@ -85,8 +71,8 @@ pub(crate) fn read_text(
 pub(crate) fn read_utf8_string(alloc: Global, units: &mut BitCursor<'_>) -> Result<String, Stop>
     requires at_octet { AtOctet units.old }
     ensures at_octet { OnOk result (AtOctet units.new) }
-    ensures done { IfOk result (λ text. ReadsOctets Utf8Strings (unicode (string_bytes text)) units.old units.new) }
-    ensures stop { IfErr result (λ why. StopsAtOctets Utf8Strings units.old why) }
+    ensures done { Reads result (λ text. unicode (string_bytes text)) Utf8Strings units.old units.new }
+    ensures stop { StopsIn result Utf8Strings units.old }
 {
     let octets = read_octets_with_length(alloc, 0, MAX_OCTETS as u64, units)?;
     match String::from_utf8(octets) {
@@ -108,9 +94,8 @@ pub(crate) fn read_bit_string(
     requires at_octet { AtOctet units.old }
     requires of_profile { IsSizeOfProfile (size_range_of size.now) }
     ensures at_octet { OnOk result (AtOctet units.new) }
-    ensures done { IfOk result (λ bs.
-        ReadsOctets (BitStringsOf (size_range_of size.now)) (bit_list bs.items) units.old units.new) }
-    ensures stop { IfErr result (λ why. StopsAtOctets (BitStringsOf (size_range_of size.now)) units.old why) }
+    ensures done { Reads result (λ bs. bit_list bs.items) (BitStringsOf size.now) units.old units.new }
+    ensures stop { StopsIn result (BitStringsOf size.now) units.old }
 {
     if is_fixed(size) {
         return read_packed(alloc, size.low as usize, units);

@@ -1,29 +1,26 @@
 //! What Canonical OER writes by itself: the simple types, and the parts of the composite ones.
-ghost use Rattle.asn_bits.specs.Lengths.{joined};
-ghost use Rattle.asn_oer.specs.Walk.{oer_coding};
+ghost use Rattle.std.specs.Prelude.{◌≤◌, length, map};
+ghost use Rattle.asn_oer.specs.Words.{joined, oer_coding, Adds, bit_octets, sized_octets, bits_header, bit_of, max_len, size_range_of};
 
 use crate::enumerated::write_item;
 use crate::integer::write_integer;
 use crate::rules::Oer;
-use crate::writer::{write_bits, write_header, write_sized};
 use asn_bits::BitSink;
 use asn_rules::EncodeFault;
-use asn_rules::internal::{write_content, write_filling};
+use asn_rules::internal::{unused_bits, write_content, write_filling, write_length};
 use asn_values::internal::{item_fits, length_fits, octets_fit, text_fits, unicode_fits};
 use asn_values::{AsnType, Bounds, Size, Value};
+use asn_walk::sizes::is_fixed;
 use asn_walk::{Index, WriteLeaves};
 use std::alloc::AllocError;
-
-/// What follows of a list after its quantity: the elements that are left, one after the other.
-#[derive(Drop)]
-pub struct Following;
 
 #[tactic(auto, unfolding(crate::specs::Walk::oer_coding, crate::specs::Rules::oer_ruling))]
 impl WriteLeaves for Oer {
     ghost rules = { oer_coding };
 
-    type Fragments = Following;
+    type Fragments = ();
 
+    // after the quantity the elements that are left, one after the other
     ghost rest = { λ f items. joined items };
 
     #[inline(always)]
@@ -105,14 +102,14 @@ impl WriteLeaves for Oer {
     }
 
     #[inline(always)]
-    fn start_list(size: &Size, count: usize, sink: &mut BitSink) -> Result<Following, AllocError> {
+    fn start_list(size: &Size, count: usize, sink: &mut BitSink) -> Result<(), AllocError> {
         sink.push_least_octets(count as u64)?;
-        Ok(Following)
+        Ok(())
     }
 
     #[inline(always)]
     fn next_fragment(
-        fragments: &mut Following,
+        fragments: &mut (),
         left: usize,
         sink: &mut BitSink,
     ) -> Result<Option<usize>, AllocError> {
@@ -129,4 +126,38 @@ impl WriteLeaves for Oer {
 
     #[inline(always)]
     fn keep_write_laws() {}
+}
+
+/// Writes octets, after their length unless the size is fixed.
+fn write_sized(size: &Size, octets: &[u8], sink: &mut BitSink) -> Result<(), AllocError>
+    ensures { Adds result sink.old sink.new (sized_octets (size_range_of size.now) octets.now) }
+{
+    if is_fixed(size) {
+        sink.push_octets(octets)
+    } else {
+        write_content(octets, sink)
+    }
+}
+
+/// Writes bits, filled up to octets, after their length and the number of unused bits unless the size is fixed (X.696,
+/// "encoding of bit string types").
+fn write_bits(size: &Size, truths: &[bool], sink: &mut BitSink) -> Result<(), AllocError>
+    requires { length truths.now ≤ max_len }
+    ensures { Adds result sink.old sink.new (bit_octets (size_range_of size.now) (map bit_of truths.now)) }
+{
+    if !is_fixed(size) {
+        write_header(truths.len(), sink)?;
+    }
+    sink.push_bits(truths)?;
+    write_filling(truths.len(), sink)
+}
+
+/// Writes what stands before the octets of `count` bits: the length of what follows, and how many bits of the last
+/// octet are unused.
+fn write_header(count: usize, sink: &mut BitSink) -> Result<(), AllocError>
+    requires { count ≤ max_len }
+    ensures { Adds result sink.old sink.new (bits_header count) }
+{
+    write_length(1 + (count + 7) / 8, sink)?;
+    sink.push_number(8, u64::from(unused_bits(count)))
 }

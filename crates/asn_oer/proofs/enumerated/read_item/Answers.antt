@@ -8,12 +8,12 @@ use Rattle.asn_oer.proofs.enumerated.read_item.Goals as goal
 
 pub loop-taken-init : goal.loop-taken-init
 loop-taken-init c =
-    (c.requires.at_octet, refl, omega arith, item_ahead (map label_of c.args.root.now) (more_labels_of c.args.more.now) c.args.except c.requires.of_profile c.requires.some)
+    (c.requires.at_octet, refl, omega arith, item_ahead (map label_of c.args.root.now) (more_labels_of c.args.more.now) c.args.excluded c.requires.of_profile c.requires.some)
 
 pub returns-in_default-clause-stop : goal.returns-in_default-clause-stop
 returns-in_default-clause-stop c =
     let inv = c.loop-taken.invariant in
-    record { told = no_octet_comes (map label_of c.args.root.now) (more_labels_of c.args.more.now) c.args.except c.requires.of_profile c.args.units.now c.loop-taken.taken c.loop-taken.begun c.loop-taken.units inv.1 inv.3 inv.0 (c.in_default.ensures.none.0 refl) }
+    record { told = no_octet_comes (map label_of c.args.root.now) (more_labels_of c.args.more.now) c.args.excluded c.requires.of_profile c.args.units.now c.loop-taken.taken c.loop-taken.begun c.loop-taken.units inv.1 inv.3 inv.0 (c.in_default.ensures.none.0 refl) }
 
 pub overflow_mul-begun : goal.overflow_mul-begun
 overflow_mul-begun c =
@@ -30,14 +30,14 @@ pub returns-in_default-find_item-clause-stop : goal.returns-in_default-find_item
 returns-in_default-find_item-clause-stop c =
     let inv = c.loop-taken.invariant in
     record {
-      told = rw c.octets_left.ensures.count (no_item_goes_on (map label_of c.args.root.now) (more_labels_of c.args.more.now) c.args.except c.requires.of_profile c.args.units.now c.loop-taken.taken c.loop-taken.begun c.loop-taken.units inv.1 c.in-Some.octet c.take_number.new.self c.in-Some.ensures.fits c.in-Some.ensures.some inv.3 (c.in_default-find_item.ensures.none refl));
+      told = rw c.octets_left.ensures.count (no_item_goes_on (map label_of c.args.root.now) (more_labels_of c.args.more.now) c.args.excluded c.requires.of_profile c.args.units.now c.loop-taken.taken c.loop-taken.begun c.loop-taken.units inv.1 c.in-Some.octet c.take_number.new.self c.in-Some.ensures.fits c.in-Some.ensures.some inv.3 (c.in_default-find_item.ensures.none refl));
     }
 
-pub returns-then-behind-eq0-clause-done : goal.returns-then-behind-eq0-clause-done
-returns-then-behind-eq0-clause-done c =
+pub returns-then-left-eq0-clause-done : goal.returns-then-left-eq0-clause-done
+returns-then-left-eq0-clause-done c =
     let inv = c.loop-taken.invariant in
     let w = c.in-Some-find_item.ensures.some in
-    item_ends (map label_of c.args.root.now) (more_labels_of c.args.more.now) c.args.except c.requires.of_profile c.args.units.now c.loop-taken.taken c.loop-taken.begun c.loop-taken.units inv.1 c.in-Some.octet c.take_number.new.self c.in-Some.ensures.fits c.in-Some.ensures.some c.in-Some-find_item.place w.0 w.1 (w.2 ∙ c.if-behind-eq0.true)
+    item_ends (map label_of c.args.root.now) (more_labels_of c.args.more.now) c.args.excluded c.requires.of_profile c.args.units.now c.loop-taken.taken c.loop-taken.begun c.loop-taken.units inv.1 c.in-Some.octet c.take_number.new.self c.in-Some.ensures.fits c.in-Some.ensures.some c.in-Some-find_item.position w.0 w.1 (w.2 ∙ c.if-left-eq0.true)
 
 pub loop-taken-preserved : goal.loop-taken-preserved
 loop-taken-preserved c =
@@ -48,9 +48,9 @@ loop-taken-preserved c =
     let o = c.in-Some.octet in
     let new = c.take_number.new.self in (
       omega (arith, inv.0, ap length c.in-Some.ensures.some, length-append (bits 8 o) new, length-digits 2 8 o),
-      comes root more c.args.except c.requires.of_profile c.args.units.now c.loop-taken.taken c.loop-taken.begun c.loop-taken.units inv.1 o new c.in-Some.ensures.fits c.in-Some.ensures.some,
+      comes root more c.args.excluded c.requires.of_profile c.args.units.now c.loop-taken.taken c.loop-taken.begun c.loop-taken.units inv.1 o new c.in-Some.ensures.fits c.in-Some.ensures.some,
       below_power c.loop-taken.taken c.loop-taken.begun o inv.2 c.in-Some.ensures.fits,
-      item_goes_on root more c.args.except c.requires.of_profile c.args.units.now c.loop-taken.taken c.loop-taken.begun c.loop-taken.units inv.1 o new c.in-Some.ensures.fits c.in-Some.ensures.some c.in-Some-find_item.place w.0 w.1 (omega (arith, w.2, c.if-behind-eq0.false)),
+      item_goes_on root more c.args.excluded c.requires.of_profile c.args.units.now c.loop-taken.taken c.loop-taken.begun c.loop-taken.units inv.1 o new c.in-Some.ensures.fits c.in-Some.ensures.some c.in-Some-find_item.position w.0 w.1 (omega (arith, w.2, c.if-left-eq0.false)),
     )
 
 pub unreachable-requires : goal.unreachable-requires
@@ -58,4 +58,4 @@ unreachable-requires c =
     let five : c.loop-taken.taken ≡ 5 = omega (arith, c.loop-taken-test.false, c.loop-taken.auto.taken-end) in
     let root = map label_of c.args.root.now in
     let more = more_labels_of c.args.more.now in
-    five_at_most root more c.args.except c.requires.of_profile c.loop-taken.begun (rw five at c.loop-taken.invariant.3)
+    five_at_most root more c.args.excluded c.requires.of_profile c.loop-taken.begun (rw five at c.loop-taken.invariant.3)

@@ -7,4 +7,4 @@ use Rattle.asn_oer.proofs.enumerated.read_item.Given as goal
 
 abbrev pub invariant-loop-taken : goal.invariant-loop-taken
 invariant-loop-taken l =
-    AtOctet l.units × (packed l.fn.units ≡ octets l.taken l.begun ++ packed l.units) × (l.begun < 256 ^ l.taken) × Begun (items_of l.root l.more) l.except (octets l.taken l.begun)
+    AtOctet l.units × (packed l.fn.units ≡ octets l.taken l.begun ++ packed l.units) × (l.begun < 256 ^ l.taken) × Begun (items_of l.root l.more) l.excluded (octets l.taken l.begun)

@@ -9,4 +9,4 @@ pub returns-then-bounds-clause-stop : goal.returns-then-bounds-clause-stop
 returns-then-bounds-clause-stop c =
     let b = range_of c.args.bounds.now in
     let lead = marked_leads b (packed c.args.units.now) c.if-bounds.true in
-    rw (none_out b c.args.except c.requires.within c.if-bounds.true) (IfErr-weaker c.read_signed.result _ _ (λ why s. stops_by why lead.stops s) c.read_signed.ensures.stop)
+    rw (none_out b c.args.excluded c.requires.within c.if-bounds.true) (IfErr-weaker c.read_signed.result _ _ (λ why s. stops_by why lead.stops s) c.read_signed.ensures.stop)

@@ -1,4 +1,5 @@
-use Rattle.std.proofs.Common.{rules, ◌≡◌, pos, ◌+ℤ◌, Some, None, true, false, to_z, of_z}
+use Rattle.std.proofs.Common.{rules, ◌≡◌, pos, ◌+ℤ◌, Some, None, true, false, to_z, of_z, arith}
+use Rattle.std.proofs.lemmas.Int.{ints}
 use mir.Syntax.{w128}
 use Rattle.std.specs.Int.RustNames.{int_le}
 use Rattle.asn_values.specs.Fits.{lowest_integer}
@@ -13,7 +14,7 @@ use Rattle.asn_oer.proofs.integer.try_fixed.Goals as goal
 pub unsigned_size-requires : goal.unsigned_size-requires
 unsigned_size-requires c =
     let h = high_inside (Some c.args.low) (Some c.args.high) c.requires.of_profile in
-    rw (kept c.args.high h.0 h.1) h.1
+    rw (kept c.args.high h.0 h.1) (omega (arith, ints, h.1))
 
 pub returns-then-low-ge0-clause-some : goal.returns-then-low-ge0-clause-some
 returns-then-low-ge0-clause-some c =

@@ -1,7 +1,7 @@
 use Rattle.std.proofs.Common.{◌+◌, ◌/◌, ◌∙◌, arith}
 use Rattle.std.proofs.lemmas.Result.{on_ok_weaker}
 use Rattle.asn_oer.proofs.WrittenOctets.{header_bits}
-use Rattle.asn_oer.proofs.writer.write_header.Goals as goal
+use Rattle.asn_oer.proofs.write_leaves.write_header.Goals as goal
 
 pub returns : goal.returns
 returns c =

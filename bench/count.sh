@@ -7,7 +7,8 @@
 # `into` decodes into the value of the message before; the forms in Rust have no such. `decode-turns` and
 # `into-turns` decode messages of changing shape in turn, of cam, bsm, aligned and list.
 #
-# BENCH_ROOM is that of run.sh. It needs valgrind.
+# BENCH_ROOM is that of run.sh, and PROGRAM the one that run.sh has built, if no other is given (of unproved.sh). It
+# needs valgrind.
 set -euo pipefail
 room=${BENCH_ROOM:-${TMPDIR:-/tmp}/asn-bench-$(id -u)}
 what=$1 name=$2
@@ -30,7 +31,7 @@ build) forms=(same hand tree) ;;
 esac
 for form in "${forms[@]}"; do
     program=(target/release/baseline "$form")
-    if [ "$form" = rattle ]; then program=(crates/asn_bench/out/asn_bench); fi
+    if [ "$form" = rattle ]; then program=("${PROGRAM:-crates/asn_bench/out/asn_bench}"); fi
     if ! "${program[@]}" 0 <messages | grep "^octets $name " >/dev/null; then continue; fi
     # what a round takes over none
     none=$(instructions "${program[@]}" 0 "$what" "$name")

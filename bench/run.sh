@@ -3,53 +3,12 @@
 #
 # usage: bash bench/run.sh [ROUNDS]
 #
-# The repository's crates and the program of bench/codec are laid out in a room outside the repository,
-# BENCH_ROOM (in TMPDIR or /tmp, if not set), which is kept, so that a later run proves only what has changed.
+# The room of room.sh is kept, so that a later run proves only what has changed.
 # RT is the command rt, if it is not found as that.
 set -euo pipefail
-here=$(cd "$(dirname "$0")" && pwd)
-top=$(dirname "$here")
-room=${BENCH_ROOM:-${TMPDIR:-/tmp}/asn-bench-$(id -u)}
 rounds=${1:-15}
 load=$(cut -d' ' -f1-3 /proc/loadavg)
-# what both compilers build for
-cpu=x86-64-v2
-
-# a workspace, with what earlier checks kept here or there
-mkdir -p "$room/crates/asn_bench/src"
-for from in "$top"/crates/*/; do
-    to=$room/crates/$(basename "$from")
-    mkdir -p "$to"
-    for part in src specs proofs; do
-        rm -rf "${to:?}/$part"
-        if [ -d "$from$part" ]; then cp -a "$from$part" "$to/$part"; fi
-    done
-    if [ -d "${from}out" ] && [ ! -d "$to/out" ]; then cp -a "${from}out" "$to/out"; fi
-done
-cp "$top/HANDLES" "$room/"
-{ cat "$top/crates.txt"; echo "asn_bench: asn_values asn_rules asn_per asn_oer asn_newer asn_module anyhow hex"; } >"$room/crates.txt"
-cp "$here/codec/main.rt.in" "$room/crates/asn_bench/src/main.rt"
-
-# the messages: a module of all types, and the octets that the Rust program gives by hand
-cd "$here/baseline"
-RUSTFLAGS="-C target-cpu=$cpu" nice cargo build --quiet --release --offline --locked --target-dir "$room/target"
-{
-    echo "Messages DEFINITIONS AUTOMATIC TAGS ::= BEGIN"
-    sed -e '/DEFINITIONS AUTOMATIC TAGS/d' -e '/^END$/d' "$here"/modules/*.asn
-    printf 'END\n====\n'
-    "$room/target/release/baseline" same 0 | awk '
-        BEGIN {
-            split("small wide shifted aligned cam bsm list", names)
-            split("Small Wide Shifted Aligned CAM BasicSafetyMessage Readings", types)
-            split("200000 20000 500 500 20000 20000 500", times)
-        }
-        $1 == "octets" || $1 == "octets-turns" {
-            hex = " "
-            for (at = 3; at <= NF; at++) { gsub(/[^0-9]/, "", $at); hex = hex sprintf("%02x", $at) }
-            if ($1 == "octets") first[$2] = hex; else turns[$2] = turns[$2] hex
-        }
-        END { for (at = 1; at <= 7; at++) print names[at], types[at], times[at] first[names[at]] turns[names[at]] }'
-} >"$room/messages"
+source "$(dirname "$0")/room.sh"
 
 # both programs; in no round nothing is measured
 cd "$room/crates/asn_bench"

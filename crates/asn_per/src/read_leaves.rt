@@ -146,10 +146,11 @@ impl ReadLeaves for Per {
     }
 
     fn read_padding(given: u128, units: &mut BitCursor<'_>) -> Result<(), Stop> {
-        let zeros = if bits_left(units) == given {
+        let rest = units.rest_of_octet();
+        let zeros = if rest == 0 && bits_left(units) == given {
             8
         } else {
-            units.rest_of_octet()
+            rest
         };
         read_padding(zeros, units)
     }

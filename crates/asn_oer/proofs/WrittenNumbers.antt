@@ -103,6 +103,7 @@ between_bounds b low high z good l h p q = (from, to, rw (l, h, test_of_le low z
   where
     least : lowest_integer ≤ℤ low
     least = (low_bound b low good l).0
+
     most : high ≤ℤ highest_integer
     most = (high_bound b high good h).1
 

@@ -64,6 +64,9 @@ impl WriteLeaves for Oer {
         sink: &mut BitSink,
     ) -> Result<(), AllocError> {
         let mark = usize::from(extended.is_some());
+        if mark + count as usize == 0 {
+            return Ok(());
+        }
         if let Some(bit) = extended {
             sink.push(bit)?;
         }

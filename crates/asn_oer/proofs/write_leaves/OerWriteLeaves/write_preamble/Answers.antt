@@ -1,11 +1,12 @@
-use Rattle.std.proofs.Common.{◌≡◌, ◌+◌, ◌++◌, List, ℕ, Bool, Option, Some, None, length, refl, sym, ◌∙◌, ap, append_assoc, arith, is_some, length-append}
+use Rattle.std.proofs.Common.{◌≡◌, ◌+◌, ◌++◌, List, [], ◌∷◌, ℕ, Bool, Option, Some, None, length, refl, sym, ◌∙◌, ap, append_assoc, arith, is_some, length-append}
 use Rattle.std.proofs.lemmas.List.{append-nil}
 use Rattle.std.proofs.lemmas.Result.{on_ok_weaker}
-use Rattle.asn_bits.specs.Numbers.{bits, padding}
+use Rattle.asn_bits.specs.Numbers.{bits, padding, unpacked}
 use Rattle.asn_bits.proofs.FilledBits.{AreBits, bits_append}
 use Rattle.asn_bits.proofs.Octets.{length-digits}
 use Rattle.asn_bits.proofs.Prefixes.{bool_byte-is, bit_below}
 use Rattle.asn_bits.specs.Sink.{bit_of}
+use Rattle.asn_rules.specs.Filled.{filled_bits}
 use Rattle.asn_walk.specs.Writing.{mark_bits}
 use Rattle.asn_oer.specs.Rules.{oer_ruling}
 use Rattle.asn_oer.specs.Walk.{oer_coding}
@@ -21,6 +22,20 @@ one_mark (Some b) = refl
 mark_is_bits : (e : Option Bool) → AreBits (mark_bits e)
 mark_is_bits None = tt
 mark_is_bits (Some b) = (bit_below b, tt)
+
+-- no bits need no octets
+no_bits : (old bs : List ℕ) → length bs ≡ 0 → old ≡ old ++ unpacked (filled_bits bs)
+no_bits old [] e = sym (append-nil old)
+no_bits old (b ∷ bs) e = absurd (omega (arith, e))
+
+pub returns-then-mark-count-eq0 : goal.returns-then-mark-count-eq0
+unfolding oer_coding oer_ruling
+returns-then-mark-count-eq0 c =
+    let e = c.args.extended in
+    let n = c.args.count in
+    let bitmap = bits n c.args.bitmap in
+    let mark : c.from-mark.result ≡ length (mark_bits e) = c.from-mark.ensures ∙ bool_byte-is _ ∙ ap bit_of c.is_some.ensures ∙ one_mark e in
+    no_bits c.args.sink.now (mark_bits e ++ bitmap) (omega (arith, mark, c.if-mark-count-eq0.true, length-append (mark_bits e) bitmap, length-digits 2 n c.args.bitmap))
 
 pub returns : goal.returns
 unfolding oer_coding oer_ruling

@@ -147,11 +147,8 @@ impl ReadLeaves for Per {
 
     fn read_padding(given: u128, units: &mut BitCursor<'_>) -> Result<(), Stop> {
         let rest = units.rest_of_octet();
-        let zeros = if rest == 0 && bits_left(units) == given {
-            8
-        } else {
-            rest
-        };
+        let is_empty = rest == 0 && bits_left(units) == given;
+        let zeros = if is_empty { 8 } else { rest };
         read_padding(zeros, units)
     }
 

@@ -18,7 +18,7 @@ pub last_line : (x : ℕ) (line : List ℕ) → ((k : ℕ) → k < length (x ∷
 last_line x [] h = let no : (x == 10) ≡ false = (let other : x ≢ 10 = h 0 (omega arith) in grind (arith, nat_tests)) in rw no refl
 last_line x (y ∷ ys) h = begins x (y ∷ ys) (y ∷ ys) [] (h 0 (omega arith)) (last_line y ys (λ k below. h (suc k) (omega arith)))
 
--- the octets up to an LF, and behind it
+-- the octets up to an LF, and after it
 pub cut_octets : (xs : List ℕ) (i : ℕ) → i < length xs → get_or xs i 0 ≡ 10 → xs ≡ (take i xs ++ 10 ∷ []) ++ drop 1 (drop i xs)
 cut_octets [] i below e = absurd (omega arith)
 cut_octets (x ∷ xs) zero below e = ap (λ y. y ∷ xs) e
@@ -43,21 +43,21 @@ cut_last (x ∷ xs) some none = record { lines = last_line x xs none; octets = i
 abbrev pub Cut : Type 0
 Cut = Option (List ℕ × List (List ℕ))
 
--- octets in front of what a mark cuts
-abbrev pub behind : List ℕ → Cut → Cut
-behind front o = option_map (λ c. (front ++ c.0, c.1)) o
+-- what a mark cuts, with octets in front
+abbrev pub with_front : List ℕ → Cut → Cut
+with_front front o = option_map (λ c. (front ++ c.0, c.1)) o
 
-behind_twice : (a b : List ℕ) (o : Cut) → behind a (behind b o) ≡ behind (a ++ b) o
-behind_twice a b None = refl
-behind_twice a b (Some c) = ap (λ xs. Some (xs, c.1)) (sym (append_assoc a b c.0))
+with_front_twice : (a b : List ℕ) (o : Cut) → with_front a (with_front b o) ≡ with_front (a ++ b) o
+with_front_twice a b None = refl
+with_front_twice a b (Some c) = ap (λ xs. Some (xs, c.1)) (sym (append_assoc a b c.0))
 
 -- one more line was passed
-pub line_passed : (input front rest line more : List ℕ) → input ≡ front ++ rest → cut_at_mark (lines_of input) ≡ behind front (cut_at_mark (lines_of rest)) → IsFirstLine rest line more → is_mark_line line ≡ false
-    → (x : List ℕ) × (input ≡ x ++ more) × (cut_at_mark (lines_of input) ≡ behind x (cut_at_mark (lines_of more)))
+pub line_passed : (input front rest line more : List ℕ) → input ≡ front ++ rest → cut_at_mark (lines_of input) ≡ with_front front (cut_at_mark (lines_of rest)) → IsFirstLine rest line more → is_mark_line line ≡ false
+    → (x : List ℕ) × (input ≡ x ++ more) × (cut_at_mark (lines_of input) ≡ with_front x (cut_at_mark (lines_of more)))
 line_passed input front rest line more is cut first other =
-    let here : cut_at_mark (lines_of rest) ≡ behind (line ++ 10 ∷ []) (cut_at_mark (lines_of more)) = rw (first.lines, other) refl in
+    let here : cut_at_mark (lines_of rest) ≡ with_front (line ++ 10 ∷ []) (cut_at_mark (lines_of more)) = rw (first.lines, other) refl in
     elim first.octets [
-      | inl e ↦ (front ++ (line ++ 10 ∷ []), is ∙ (ap (λ xs. front ++ xs) e ∙ sym (append_assoc front (line ++ 10 ∷ []) more)), cut ∙ (ap (behind front) here ∙ behind_twice front (line ++ 10 ∷ []) _))
+      | inl e ↦ (front ++ (line ++ 10 ∷ []), is ∙ (ap (λ xs. front ++ xs) e ∙ sym (append_assoc front (line ++ 10 ∷ []) more)), cut ∙ (ap (with_front front) here ∙ with_front_twice front (line ++ 10 ∷ []) _))
       | inr e ↦ (front ++ line, is ∙ rw (e.0, e.1) (search (rules, common_steps)), cut ∙ rw (here, e.1) refl)
     ]
 

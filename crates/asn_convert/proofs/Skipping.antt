@@ -12,7 +12,7 @@ one_field (y ∷ xs) zero x below e = append-nil (skipped_text (skipped_of y)) �
 one_field (y ∷ xs) (suc i) x below e =
     ap (λ t. skipped_text (skipped_of y) ++ t) (one_field xs i x (omega (arith, below)) e) ∙ sym (append_assoc (skipped_text (skipped_of y)) (skipped_texts (skipped_seen (take i xs))) (skipped_text (skipped_of x)))
 
--- the text so far, and one more field behind it
+-- the text so far, and one more field after it
 pub one_more_field : (xs : List Skipped) (i : ℕ) (x : Skipped) (old text more new : List ℕ) → i < length xs → x ≡ get_or xs i x → text ≡ old ++ skipped_texts (skipped_seen (take i xs))
     → more ≡ skipped_text (skipped_of x) → new ≡ text ++ more → new ≡ old ++ skipped_texts (skipped_seen (take (i + 1) xs))
 one_more_field xs i x old text more new below e before is written =

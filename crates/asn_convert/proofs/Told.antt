@@ -41,20 +41,20 @@ and_assoc true b c = refl
 and_assoc false b c = refl
 
 -- one more line was answered
-pub one_more : (o : Terms) (all : List (List ℕ)) (rest line behind : List ℕ) (so_far good : Bool) (old mid new : State) → IsFirstLine rest line behind → IsSoFar o all (lines_of rest) so_far old mid → Writes (λ out. IsAnswered o line out good) mid new
-    → IsSoFar o all (lines_of behind) (so_far && good) old new
-one_more o all rest line behind so_far good old mid new first before wrote =
+pub one_more : (o : Terms) (all : List (List ℕ)) (rest line after : List ℕ) (so_far good : Bool) (old mid new : State) → IsFirstLine rest line after → IsSoFar o all (lines_of rest) so_far old mid → Writes (λ out. IsAnswered o line out good) mid new
+    → IsSoFar o all (lines_of after) (so_far && good) old new
+one_more o all rest line after so_far good old mid new first before wrote =
     let text = wrote.1.0 in
     let here = before.1 in (
       before.0 ++ wrote.0,
       record {
         grown = appends_twice old.octets mid.octets new.octets before.0 wrote.0 here.grown wrote.2;
         told = λ out later h.
-            let next : Told o (line ∷ lines_of behind) (wrote.0 ++ out) (good && later) = (text, out, good, later, wrote.1.1, h, ap (λ xs. xs ++ out) wrote.1.2, refl) in
+            let next : Told o (line ∷ lines_of after) (wrote.0 ++ out) (good && later) = (text, out, good, later, wrote.1.1, h, ap (λ xs. xs ++ out) wrote.1.2, refl) in
             let all_told : Told o all (before.0 ++ (wrote.0 ++ out)) (so_far && (good && later)) = here.told (wrote.0 ++ out) (good && later) (subst (λ ls. Told o ls (wrote.0 ++ out) (good && later)) (sym first.lines) next) in
             subst (λ b. Told o all ((before.0 ++ wrote.0) ++ out) b) (sym (and_assoc so_far good later)) (subst (λ xs. Told o all xs (so_far && (good && later))) (sym (append_assoc before.0 wrote.0 out)) all_told);
         begun = λ out h.
-            let next : IsBegun o (line ∷ lines_of behind) (wrote.0 ++ out) = inr (text, out, good, wrote.1.1, h, ap (λ xs. xs ++ out) wrote.1.2) in
+            let next : IsBegun o (line ∷ lines_of after) (wrote.0 ++ out) = inr (text, out, good, wrote.1.1, h, ap (λ xs. xs ++ out) wrote.1.2) in
             subst (λ xs. IsBegun o all xs) (sym (append_assoc before.0 wrote.0 out)) (here.begun (wrote.0 ++ out) (subst (λ ls. IsBegun o ls (wrote.0 ++ out)) (sym first.lines) next));
         same = wrote.3 ∙ here.same;
       },
@@ -75,13 +75,13 @@ all_told o all rest good old new none before =
     (before.0, subst (λ b. Told o all before.0 b) (and_true good) (subst (λ xs. Told o all xs (good && true)) (append_none before.0) told), before.1.grown, before.1.same)
 
 -- the run stopped within a line
-pub stopped : (o : Terms) (all : List (List ℕ)) (rest line behind : List ℕ) (good : Bool) (old mid new : State) (why : RunFault) → IsFirstLine rest line behind → IsSoFar o all (lines_of rest) good old mid
+pub stopped : (o : Terms) (all : List (List ℕ)) (rest line after : List ℕ) (good : Bool) (old mid new : State) (why : RunFault) → IsFirstLine rest line after → IsSoFar o all (lines_of rest) good old mid
     → Stops why (λ out. IsAnswerBegun o line out) mid new → Stops why (λ out. IsBegun o all out) old new
-stopped o all rest line behind good old mid new fault.Read first before s = s
-stopped o all rest line behind good old mid new fault.Write first before s =
+stopped o all rest line after good old mid new fault.Read first before s = s
+stopped o all rest line after good old mid new fault.Write first before s =
     let here : IsBegun o (lines_of rest) s.0 = subst (λ ls. IsBegun o ls s.0) (sym first.lines) (inl s.1) in
     (before.0 ++ s.0, before.1.begun s.0 here, appends_twice old.octets mid.octets new.octets before.0 s.0 before.1.grown s.2, λ below. subst (λ n. n < new.faults) before.1.same (s.3 (subst (λ n. n < 2 ^ 64 - 1) (sym before.1.same) below)))
-stopped o all rest line behind good old mid new fault.Memory first before s =
+stopped o all rest line after good old mid new fault.Memory first before s =
     let here : IsBegun o (lines_of rest) s.0 = subst (λ ls. IsBegun o ls s.0) (sym first.lines) (inl s.1) in
     (before.0 ++ s.0, before.1.begun s.0 here, appends_twice old.octets mid.octets new.octets before.0 s.0 before.1.grown s.2)
 
@@ -131,10 +131,10 @@ keeps_same None = tt
 keeps_same (Some xs) = refl
 
 -- reading failed
-pub read_fails : (w : Rulings) (j : Job) (why : RunFault) (from behind old : State) → IsReadFault why from.faults behind.faults → Fails w j why from behind old old
-read_fails w j fault.Read from behind old h = (keeps_same old.octets, h)
-read_fails w j fault.Write from behind old h = absurd h
-read_fails w j fault.Memory from behind old h = let given = given_some from.octets in (given.0, given.1, ([], inl refl, appends_nothing old.octets))
+pub read_fails : (w : Rulings) (j : Job) (why : RunFault) (from after old : State) → IsReadFault why from.faults after.faults → Fails w j why from after old old
+read_fails w j fault.Read from after old h = (keeps_same old.octets, h)
+read_fails w j fault.Write from after old h = absurd h
+read_fails w j fault.Memory from after old h = let given = given_some from.octets in (given.0, given.1, ([], inl refl, appends_nothing old.octets))
 
 -- ---- parts of a run that stop
 

@@ -8,12 +8,14 @@ use Rattle.serde_json.specs.Written.{compact_text}
 use Rattle.asn_values.specs.Datum.{Datum}
 use Rattle.asn_values.specs.Shape.{Shape}
 use Rattle.asn_values.specs.Fits.{Fits}
-use Rattle.asn_rules.specs.Answer.{Ruling, IsEncoding, max_octets}
+use Rattle.asn_rules.specs.Answer.{Ruling, max_octets}
 use Rattle.asn_rules.specs.Codec.{Decoded}
 use Rattle.asn_rules.specs.CodecLaws.{Encoded}
-use Rattle.asn_rules.specs.Reasons.{word_of}
+use Rattle.asn_rules.specs.Reasons.{text_of_fault}
 use Rattle.asn_rules.specs.declared.fault.DecodeFault.{DecodeFault}
 use Rattle.asn_rules.specs.declared.fault.DecodeFault.TheVariants as decode
+use Rattle.asn_rules.specs.declared.units.Unit.{Unit}
+use Rattle.asn_rules.specs.declared.units.Unit.TheVariants as unit
 use Rattle.asn_newer.specs.declared.fault.NewerFault.{NewerFault}
 use Rattle.asn_newer.specs.declared.fault.NewerFault.TheVariants as newer
 use Rattle.asn_newer.specs.Reading.{NotNewer}
@@ -27,7 +29,7 @@ use Rattle.asn_convert.specs.declared.job.RuleName.{RuleName}
 use Rattle.asn_convert.specs.declared.job.RuleName.TheVariants as rule_name
 use Rattle.asn_convert.specs.declared.job.Order.{Order}
 use Rattle.asn_convert.specs.declared.job.Order.TheVariants as order
-use Rattle.asn_convert.specs.Converted.{Converts}
+use Rattle.asn_convert.specs.Converted.{Converts, IsTooLong}
 
 -- the rules of the octets, those that they are converted to, and what the former say of messages of other versions
 pub record Rulings : Type 1 where
@@ -48,17 +50,13 @@ pub record Terms : Type 1 where
 -- ---- faults in words
 
 -- the unit that a place is counted in
-abbrev pub unit_of : RuleName → List ℕ
-unit_of rule_name.Per = codes "bit"
-unit_of rule_name.Oer = codes "octet"
+abbrev pub unit_of : RuleName → Unit
+unit_of rule_name.Per = unit.Bit
+unit_of rule_name.Oer = unit.Octet
 
 -- the words of a fault of decoding; want of memory has none
 abbrev pub TellsDecodeFault : RuleName → DecodeFault → List ℕ → Type 0
-TellsDecodeFault name (decode.Refused at why) text = text ≡ codes "! refused at " ++ (unit_of name ++ (codes " " ++ (decimal at ++ (codes ": " ++ word_of why))))
-TellsDecodeFault name (decode.Truncated taken) text = text ≡ codes "! cut short after " ++ (decimal taken ++ (codes " " ++ (unit_of name ++ codes "s")))
-TellsDecodeFault name (decode.Rest used) text = text ≡ codes "! octets left after " ++ decimal used
-TellsDecodeFault name decode.TooLong text = text ≡ codes "! too long"
-TellsDecodeFault name decode.Memory text = ⊥
+TellsDecodeFault name why text = (why ≢ decode.Memory) × (text ≡ codes "! " ++ text_of_fault (unit_of name) why)
 
 -- the words of a fault of reading JSON
 abbrev pub TellsJsonFault : JsonFault → List ℕ → Type 0
@@ -92,15 +90,11 @@ IsNotDecoded r name t o text = (fault : DecodeFault) × Decoded r (Err fault) t 
 abbrev pub IsConverted : Ruling → Ruling → Shape → List ℕ → List ℕ → Type 0
 IsConverted a b t o text = (p : List ℕ) × Converts a b t o p × (text ≡ encode_lower p)
 
--- each encoding of the value has more octets than a message may have
-abbrev pub IsTooLong : Ruling → Shape → Datum → Type 0
-IsTooLong r t v = (p : List ℕ) → IsEncoding r t v p → max_octets < length p
-
 -- they encode a value that is too long by the other rules
 abbrev pub IsNotConverted : Ruling → Ruling → Shape → List ℕ → List ℕ → Type 0
 IsNotConverted a b t o text = (v : Datum) × Encoded a t v o × IsTooLong b t v × (text ≡ codes "! too long")
 
--- a field that was skipped: its place, and its octets in hexadecimal
+-- a field that was skipped: its index among the additions of its type, and its octets in hexadecimal
 abbrev pub skipped_text : Skipped → List ℕ
 skipped_text s = codes " +" ++ (decimal s.place ++ (codes ":" ++ encode_lower s.octets))
 
@@ -109,8 +103,12 @@ skipped_texts [] = []
 skipped_texts (s ∷ ss) = skipped_text s ++ skipped_texts ss
 
 -- the JSON of what is read of a message of a newer or older sender, and the fields that are skipped in it
+abbrev pub newer_text : Shape → Datum → List Skipped → List ℕ
+newer_text t v s = compact_text (json_of t v) ++ skipped_texts s
+
 abbrev pub ShowsNewer : LooseCoding → Shape → List ℕ → List ℕ → Type 0
-ShowsNewer l t o text = (v : Datum) × (s : List Skipped) × IsLoose l t v s o × (length o ≤ max_octets) × (text ≡ compact_text (json_of t v) ++ skipped_texts s)
+ShowsNewer l t o text =
+    (v : Datum) × (s : List Skipped) × IsLoose l t v s o × (length o ≤ max_octets) × (text ≡ newer_text t v s)
 
 -- why nothing is read of them
 abbrev pub IsNotRead : LooseCoding → Shape → List ℕ → List ℕ → Type 0
@@ -140,9 +138,14 @@ AnswersOctets w order.Convert o text good = AnswersConvert w.rulings.from w.ruli
 AnswersOctets w order.Newer o text good = AnswersNewer w.rulings.newer w.shape o text good
 AnswersOctets w order.Encode o text good = ⊥
 
+-- the line is no hexadecimal
+abbrev pub IsNoHex : List ℕ → Type 0
+IsNoHex line = (octets : List ℕ) → decode_of line ≡ Ok octets → ⊥
+
 -- what is answered to a line of hexadecimal
 abbrev pub AnswersHex : Terms → Order → List ℕ → List ℕ → Bool → Type 0
-AnswersHex w by line text good = (((octets : List ℕ) → decode_of line ≡ Ok octets → ⊥) × (text ≡ codes "! hex") × (good ≡ false))
+AnswersHex w by line text good =
+    (IsNoHex line × (text ≡ codes "! hex") × (good ≡ false))
     ⊎ ((octets : List ℕ) × (decode_of line ≡ Ok octets) × AnswersOctets w by octets text good)
 
 -- ---- JSON
@@ -151,15 +154,26 @@ AnswersHex w by line text good = (((octets : List ℕ) → decode_of line ≡ Ok
 abbrev pub IsJson : List ℕ → Data → Type 0
 IsJson line j = IsUtf8 line × (read line ≡ Some j)
 
+-- the line is no JSON
+abbrev pub IsNoJson : List ℕ → Type 0
+IsNoJson line = (j : Data) → IsJson line j → ⊥
+
+-- why it shows no value, and that the value that it shows is too long
+abbrev pub IsNotShown : Shape → Data → List ℕ → Type 0
+IsNotShown t j text = (fault : JsonFault) × Refused t j fault × TellsJsonFault fault text
+
+abbrev pub IsNotWritten : Ruling → Shape → Data → List ℕ → Type 0
+IsNotWritten r t j text = (v : Datum) × Shown t j v × Fits t v × IsTooLong r t v × (text ≡ codes "! too long")
+
 -- what is answered to the JSON of a value
 abbrev pub AnswersValue : Ruling → Shape → Data → List ℕ → Bool → Type 0
 AnswersValue r t j text true = (v : Datum) × (o : List ℕ) × Shown t j v × Encoded r t v o × (text ≡ encode_lower o)
-AnswersValue r t j text false = ((fault : JsonFault) × Refused t j fault × TellsJsonFault fault text)
-    ⊎ ((v : Datum) × Shown t j v × Fits t v × IsTooLong r t v × (text ≡ codes "! too long"))
+AnswersValue r t j text false = IsNotShown t j text ⊎ IsNotWritten r t j text
 
 -- what is answered to a line of JSON
 abbrev pub AnswersJson : Ruling → Shape → List ℕ → List ℕ → Bool → Type 0
-AnswersJson r t line text good = (((j : Data) → IsJson line j → ⊥) × (text ≡ codes "! json") × (good ≡ false))
+AnswersJson r t line text good =
+    (IsNoJson line × (text ≡ codes "! json") × (good ≡ false))
     ⊎ ((j : Data) × IsJson line j × AnswersValue r t j text good)
 
 -- ---- a line

@@ -17,12 +17,16 @@ use Rattle.asn_convert.specs.declared.conversion.ConvertFault.TheVariants as fau
 abbrev pub Converts : Ruling → Ruling → Shape → List ℕ → List ℕ → Type 0
 Converts a b t o p = (v : Datum) × Encoded a t v o × Encoded b t v p
 
+-- each encoding of the value has more octets than a message may have
+abbrev pub IsTooLong : Ruling → Shape → Datum → Type 0
+IsTooLong r t v = (p : List ℕ) → IsEncoding r t v p → max_octets < length p
+
 -- what is told of the octets o: those of the same value by the rules b; why a decoder of the rules a gives no value;
 -- that the encodings of the value by b are too long; of the memory, that o is an encoding
 abbrev pub Converted : Ruling → Ruling → Result (Vec ℕ Global) ConvertFault → Shape → List ℕ → Type 0
 Converted a b (Ok p) t o = Converts a b t o p.items
 Converted a b (Err (fault.Read why)) t o = Decoded a (Err why) t o
-Converted a b (Err fault.TooLong) t o = (v : Datum) × Encoded a t v o × ((p : List ℕ) → IsEncoding b t v p → max_octets < length p)
+Converted a b (Err fault.TooLong) t o = (v : Datum) × Encoded a t v o × IsTooLong b t v
 Converted a b (Err fault.Memory) t o = (v : Datum) × Encoded a t v o
 
 -- these octets, or want of memory

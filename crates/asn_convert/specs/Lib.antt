@@ -2,4 +2,5 @@ pub mod Answers
 pub mod Converted
 pub mod Lines
 pub mod Named
+pub mod Parts
 pub mod Text

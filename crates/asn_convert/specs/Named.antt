@@ -1,4 +1,6 @@
 -- The encoding rules that a name stands for.
+use Rattle.std.specs.Prelude.{Result}
+use Rattle.asn_rules.specs.declared.counting.Counted.{Counted}
 use Rattle.asn_per.specs.Rules.{per_ruling}
 use Rattle.asn_oer.specs.Rules.{oer_ruling}
 use Rattle.asn_newer.specs.Rules.{per_loose, oer_loose}
@@ -7,6 +9,9 @@ use Rattle.asn_convert.specs.declared.job.Job.{Job}
 use Rattle.asn_convert.specs.declared.job.Job.TheVariants as job
 use Rattle.asn_convert.specs.declared.job.RuleName.{RuleName}
 use Rattle.asn_convert.specs.declared.job.RuleName.TheVariants as rule_name
+use Rattle.asn_convert.specs.declared.job.RunFault.{RunFault}
+use Rattle.asn_convert.specs.declared.job.Status.{Status}
+use Rattle.asn_convert.specs.Parts.{Known, RanWith, FailedWith}
 
 -- what is converted, is converted to the other
 abbrev pub rulings_of : RuleName → Rulings
@@ -17,3 +22,15 @@ rulings_of rule_name.Oer = rulings oer_ruling per_ruling oer_loose
 abbrev pub rules_of : Job → RuleName
 rules_of job.Module = rule_name.Per
 rules_of (job.Lines by name rules) = rules
+
+-- what is told of a run: with Ok, all was read, and the text of the job for it was written
+abbrev pub Ran :
+    {R W : Type 0} → Job → Result Status RunFault → Known R → Counted R → Known W → Counted W → Counted W → Type 0
+Ran j r left reader contents old new = RanWith (rulings_of (rules_of j)) j r left reader contents old new
+
+-- with Err, nothing was written, or a beginning of a text of the job
+abbrev pub Failed :
+    {R W : Type 0} → Job → Result Status RunFault → Known R → Counted R → Counted R
+    → Known W → Counted W → Counted W → Type 0
+Failed j r left before after contents old new =
+    FailedWith (rulings_of (rules_of j)) j r left before after contents old new

@@ -32,18 +32,23 @@ IsAnswered w line out good = (text : List ℕ) × Answers w line text good × (o
 
 -- nothing, or a front of an answer
 abbrev pub IsAnswerBegun : Terms → List ℕ → List ℕ → Type 0
-IsAnswerBegun w line out = (out ≡ []) ⊎ ((text : List ℕ) × (good : Bool) × Answers w line text good × IsFront out (ended text))
+IsAnswerBegun w line out =
+    (out ≡ []) ⊎ ((text : List ℕ) × (good : Bool) × Answers w line text good × IsFront out (ended text))
 
 -- each line is answered, in order: the status is good where each answer is
 abbrev pub Told : Terms → List (List ℕ) → List ℕ → Bool → Type 0
 Told w [] out all_good = (out ≡ []) × (all_good ≡ true)
-Told w (line ∷ lines) out all_good = (text rest : List ℕ) × (good later : Bool) × Answers w line text good × Told w lines rest later × (out ≡ ended text ++ rest) × (all_good ≡ (good && later))
+Told w (line ∷ lines) out all_good =
+    (text rest : List ℕ) × (good later : Bool) × Answers w line text good × Told w lines rest later
+    × (out ≡ ended text ++ rest) × (all_good ≡ (good && later))
 
 -- a beginning of such answers: some whole ones, and then nothing or a front of one more
 abbrev pub IsBegun : Terms → List (List ℕ) → List ℕ → Type 0
 IsBegun w [] out = out ≡ []
-IsBegun w (line ∷ lines) out = IsAnswerBegun w line out
-    ⊎ ((text rest : List ℕ) × (good : Bool) × Answers w line text good × IsBegun w lines rest × (out ≡ ended text ++ rest))
+IsBegun w (line ∷ lines) out =
+    IsAnswerBegun w line out
+    ⊎ ((text rest : List ℕ) × (good : Bool) × Answers w line text good × IsBegun w lines rest
+    × (out ≡ ended text ++ rest))
 
 -- ---- the module
 
@@ -66,7 +71,8 @@ not_text = codes "! module not text"
 
 -- the line for a text that is no module
 abbrev pub RefusesModule : List ℕ → List ℕ → Type 0
-RefusesModule text words = IsNoModule text × (((IsUtf8 text → ⊥) × (words ≡ not_text)) ⊎ (IsUtf8 text × TellsNoModule words))
+RefusesModule text words =
+    IsNoModule text × (((IsUtf8 text → ⊥) × (words ≡ not_text)) ⊎ (IsUtf8 text × TellsNoModule words))
 
 -- such a line with its LF
 abbrev pub IsRefusal : List ℕ → List ℕ → Type 0
@@ -86,25 +92,42 @@ status_of false = status.Marked
 abbrev pub terms : Rulings → RuleName → Order → Shape → Terms
 terms w name by t = record { rulings = w; name = name; shape = t; order = by }
 
+-- the module has no type of the name, and that is told
+abbrev pub TellsNoType : List ℕ → ModuleTypes → List ℕ → Status → Type 0
+TellsNoType name m out s = (type_in m.types name ≡ None) × (out ≡ ended (no_type name)) × (s ≡ status.NoModule)
+
+-- it has one, and the lines are answered for it
+abbrev pub TellsLines : (Shape → Terms) → List ℕ → ModuleTypes → List (List ℕ) → List ℕ → Status → Type 0
+TellsLines terms_for name m lines out s =
+    (t : Shape) × (type_in m.types name ≡ Some t) × (good : Bool) × Told (terms_for t) lines out good
+    × (s ≡ status_of good)
+
 -- what a job makes of an accepted module and of the lines, octets being those of these rules
 abbrev pub Tells : Rulings → Job → ModuleTypes → List (List ℕ) → List ℕ → Status → Type 0
 Tells w job.Module m lines out s = (out ≡ printed m) × (s ≡ status.Good)
 Tells w (job.Lines by name rules) m lines out s =
-    ((type_in m.types (string_bytes name) ≡ None) × (out ≡ ended (no_type (string_bytes name))) × (s ≡ status.NoModule))
-    ⊎ ((t : Shape) × (type_in m.types (string_bytes name) ≡ Some t) × (good : Bool) × Told (terms w rules by t) lines out good × (s ≡ status_of good))
+    TellsNoType (string_bytes name) m out s ⊎ TellsLines (λ t. terms w rules by t) (string_bytes name) m lines out s
 
 abbrev pub Text : Rulings → Job → List ℕ → List ℕ → Status → Type 0
-Text w j input out s = (IsRefusal (module_text input) out × (s ≡ status.NoModule))
+Text w j input out s =
+    (IsRefusal (module_text input) out × (s ≡ status.NoModule))
     ⊎ ((m : ModuleTypes) × IsModule (module_text input) m × Tells w j m (job_lines input) out s)
 
--- a beginning of such a text
+-- a beginning of such texts
+abbrev pub BeginsNoType : List ℕ → ModuleTypes → List ℕ → Type 0
+BeginsNoType name m out = (type_in m.types name ≡ None) × IsFront out (ended (no_type name))
+
+abbrev pub BeginsLines : (Shape → Terms) → List ℕ → ModuleTypes → List (List ℕ) → List ℕ → Type 0
+BeginsLines terms_for name m lines out = (t : Shape) × (type_in m.types name ≡ Some t) × IsBegun (terms_for t) lines out
+
 abbrev pub TellsBegun : Rulings → Job → ModuleTypes → List (List ℕ) → List ℕ → Type 0
 TellsBegun w job.Module m lines out = IsFront out (printed m)
-TellsBegun w (job.Lines by name rules) m lines out = ((type_in m.types (string_bytes name) ≡ None) × IsFront out (ended (no_type (string_bytes name))))
-    ⊎ ((t : Shape) × (type_in m.types (string_bytes name) ≡ Some t) × IsBegun (terms w rules by t) lines out)
+TellsBegun w (job.Lines by name rules) m lines out =
+    BeginsNoType (string_bytes name) m out ⊎ BeginsLines (λ t. terms w rules by t) (string_bytes name) m lines out
 
 abbrev pub Begun : Rulings → Job → List ℕ → List ℕ → Type 0
-Begun w j input out = (out ≡ [])
+Begun w j input out =
+    (out ≡ [])
     ⊎ ((line : List ℕ) × IsRefusal (module_text input) line × IsFront out line)
     ⊎ ((m : ModuleTypes) × IsModule (module_text input) m × TellsBegun w j m (job_lines input) out)
 
@@ -127,7 +150,8 @@ Writes Kind old new = (out : List ℕ) × Kind out × Appends old.octets new.oct
 -- some octets of this kind were written before a fault of the writer, or of memory
 abbrev pub Stops : RunFault → (List ℕ → Type 0) → State → State → Type 0
 Stops fault.Read Kind old new = ⊥
-Stops fault.Write Kind old new = (out : List ℕ) × Kind out × Appends old.octets new.octets out × Rose old.faults new.faults
+Stops fault.Write Kind old new =
+    (out : List ℕ) × Kind out × Appends old.octets new.octets out × Rose old.faults new.faults
 Stops fault.Memory Kind old new = (out : List ℕ) × Kind out × Appends old.octets new.octets out
 
 -- a run to its end: what was written is a text of the job, for what the reader was to give
@@ -136,6 +160,6 @@ Runs w j s given old new = (input : List ℕ) × IsGiven given input × Writes (
 
 -- a run that failed: nothing was written where the reader failed, else a beginning of a text of the job
 abbrev pub Fails : Rulings → Job → RunFault → State → State → State → State → Type 0
-Fails w j fault.Read from behind old new = Keeps old.octets new.octets × Rose from.faults behind.faults
-Fails w j fault.Write from behind old new = (input : List ℕ) × IsGiven from.octets input × Stops fault.Write (λ out. Begun w j input out) old new
-Fails w j fault.Memory from behind old new = (input : List ℕ) × IsGiven from.octets input × Stops fault.Memory (λ out. Begun w j input out) old new
+Fails w j fault.Read from after old new = Keeps old.octets new.octets × Rose from.faults after.faults
+Fails w j why from after old new =
+    (input : List ℕ) × IsGiven from.octets input × Stops why (λ out. Begun w j input out) old new

@@ -7,8 +7,8 @@ ghost use Rattle.serde_json.specs.Written.{compact_text};
 ghost use Rattle.asn_values.specs.Received.{FitsReceived};
 ghost use Rattle.asn_values.specs.View.{shape_of, datum_of};
 ghost use Rattle.asn_json.specs.Written.{json_of};
-ghost use Rattle.asn_convert.specs.Answers.{rulings, Answers, AnswersShow, AnswersCheck, AnswersConvert, AnswersJson, AnswersValue, IsJson};
-ghost use Rattle.asn_convert.specs.Text.{terms};
+ghost use Rattle.asn_convert.specs.Answers.{AnswersShow, AnswersCheck, AnswersConvert, AnswersJson, AnswersValue, IsJson};
+ghost use Rattle.asn_convert.specs.Parts.{LineAnswer};
 
 use crate::conversion::{ConvertFault, convert};
 use crate::job::{Order, RuleName};
@@ -30,8 +30,8 @@ pub(crate) fn answer_to<A: ReadNewer, B: Rules>(
     rules: RuleName,
     line: &[u8],
 ) -> Result<Answer, AllocError>
-    ensures { IfOk result (λ a. Answers (terms (rulings A.ruling B.ruling A.loose) rules order (shape_of ty.now))
-        line.now (string_bytes a.text) a.is_good) }
+    ensures { IfOk result (λ a.
+        LineAnswer A.ruling B.ruling A.loose rules order ty.now line.now a.is_good (string_bytes a.text)) }
 {
     if let Order::Encode = order {
         return answer_json::<A>(alloc, ty, line);

@@ -1,8 +1,5 @@
 //! Jobs under the encoding rules that they name.
-ghost use Rattle.std.specs.Prelude.{IfOk, IfErr};
-ghost use Rattle.asn_rules.specs.Faults.{inner_of, state_of};
-ghost use Rattle.asn_convert.specs.Named.{rulings_of, rules_of};
-ghost use Rattle.asn_convert.specs.Text.{Runs, Fails};
+ghost use Rattle.asn_convert.specs.Named.{Ran, Failed};
 
 use crate::job::{Job, RuleName, RunFault, Status};
 use crate::running::run_with;
@@ -27,11 +24,8 @@ pub fn run<R: Read, W: Write>(
     output: &mut Counted<W>,
     job: &Job,
 ) -> Result<Status, RunFault>
-    ensures text { IfOk result (λ status. Runs (rulings_of (rules_of job.now)) job.now status
-        (R.remaining (inner_of input.old)) (state_of W.contents output.old) (state_of W.contents output.new)) }
-    ensures fault { IfErr result (λ fault. Fails (rulings_of (rules_of job.now)) job.now fault
-        (state_of R.remaining input.old) (state_of R.remaining input.new)
-        (state_of W.contents output.old) (state_of W.contents output.new)) }
+    ensures text { Ran job.now result R.remaining input.old W.contents output.old output.new }
+    ensures fault { Failed job.now result R.remaining input.old input.new W.contents output.old output.new }
 {
     let rules = match job {
         Job::Module => RuleName::Per,

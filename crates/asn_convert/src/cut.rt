@@ -10,9 +10,9 @@ pub(crate) fn next_line(rest: &[u8]) -> Option<(&[u8], &[u8])>
     if rest.is_empty() {
         return None;
     }
-    for (place, octet) in rest.iter().enumerate() {
+    for (index, octet) in rest.iter().enumerate() {
         if *octet == b'\n' {
-            let (line, ended) = rest.split_at(place);
+            let (line, ended) = rest.split_at(index);
             return Some((line, ended.split_at(1).1));
         }
     }
@@ -25,11 +25,11 @@ pub(crate) fn cut_input(input: &[u8]) -> (&[u8], &[u8])
     ensures lines { lines_of result.1.now ≡ job_lines input.now }
 {
     let mut rest = input;
-    while let Some((line, behind)) = next_line(rest) {
+    while let Some((line, later)) = next_line(rest) {
         if is_mark(line) {
-            return (input.split_at(input.len() - rest.len()).0, behind);
+            return (input.split_at(input.len() - rest.len()).0, later);
         }
-        rest = behind;
+        rest = later;
     }
     (input, rest)
 }

@@ -46,11 +46,11 @@ fn push_skipped(alloc: Global, text: &mut String, skipped: &[Skipped]) -> Result
     Ok(())
 }
 
-/// A skipped field: its place, and its octets in hexadecimal.
+/// A skipped field: its index among the additions of its type, and its octets in hexadecimal.
 fn field_text(alloc: Global, field: &Skipped) -> Result<String, AllocError>
     ensures { IfOk result (λ text. string_bytes text ≡ skipped_text (skipped_of field.now)) }
 {
-    let place = field.place;
+    let index = field.place;
     let octets = hex::encode(alloc, field.octets.as_slice())?;
-    format!(in alloc; " +{place}:{octets}")
+    format!(in alloc; " +{index}:{octets}")
 }

@@ -1,12 +1,9 @@
 //! A whole job: reads all, and writes the text of the job.
 ghost use Rattle.std.specs.Prelude.{◌≡◌, ◌≢◌, IfOk, IfErr, OnOk, string_bytes};
-ghost use Rattle.asn_values.specs.View.{shape_of};
-ghost use Rattle.asn_rules.specs.Faults.{inner_of, state_of};
 ghost use Rattle.asn_module.specs.ModuleView.{types_view};
 ghost use Rattle.asn_module.specs.declared.fault.ModuleFault.{ModuleFault};
-ghost use Rattle.asn_convert.specs.Answers.{rulings};
-ghost use Rattle.asn_convert.specs.Lines.{lines_of};
-ghost use Rattle.asn_convert.specs.Text.{Text, Begun, Tells, TellsBegun, Told, IsBegun, IsAnswered, IsAnswerBegun, IsFront, IsModule, IsRefusal, Writes, Stops, Runs, Fails, terms};
+ghost use Rattle.asn_convert.specs.Parts.{Wrote, Broke, JobTold, JobBegun, ModuleTold, ModuleBegun, LinesTold, LinesBegun, LineTold, LineBegun, RanBy, FailedBy};
+ghost use Rattle.asn_convert.specs.Text.{IsFront, IsModule, IsRefusal};
 
 use crate::answers::answer_to;
 use crate::cut::{cut_input, next_line};
@@ -27,11 +24,10 @@ pub(crate) fn run_with<A: ReadNewer, B: Rules, R: Read, W: Write>(
     output: &mut Counted<W>,
     job: &Job,
 ) -> Result<Status, RunFault>
-    ensures text { IfOk result (λ status. Runs (rulings A.ruling B.ruling A.loose) job.now status
-        (R.remaining (inner_of input.old)) (state_of W.contents output.old) (state_of W.contents output.new)) }
-    ensures fault { IfErr result (λ fault. Fails (rulings A.ruling B.ruling A.loose) job.now fault
-        (state_of R.remaining input.old) (state_of R.remaining input.new)
-        (state_of W.contents output.old) (state_of W.contents output.new)) }
+    ensures text { RanBy A.ruling B.ruling A.loose job.now result
+        R.remaining input.old W.contents output.old output.new }
+    ensures fault { FailedBy A.ruling B.ruling A.loose job.now result
+        R.remaining input.old input.new W.contents output.old output.new }
 {
     let octets = read_all(alloc, input)?;
     write_text::<A, B, W>(alloc, output, job, octets.as_slice())
@@ -44,10 +40,10 @@ fn write_text<A: ReadNewer, B: Rules, W: Write>(
     job: &Job,
     input: &[u8],
 ) -> Result<Status, RunFault>
-    ensures text { IfOk result (λ status. Writes (λ out. Text (rulings A.ruling B.ruling A.loose) job.now input.now
-        out status) (state_of W.contents output.old) (state_of W.contents output.new)) }
-    ensures fault { IfErr result (λ fault. Stops fault (λ out. Begun (rulings A.ruling B.ruling A.loose) job.now
-        input.now out) (state_of W.contents output.old) (state_of W.contents output.new)) }
+    ensures text { Wrote result W.contents output.old output.new
+        (JobTold A.ruling B.ruling A.loose job.now input.now) }
+    ensures fault { Broke result W.contents output.old output.new
+        (JobBegun A.ruling B.ruling A.loose job.now input.now) }
 {
     let status = answer_input::<A, B, W>(alloc, output, job, input)?;
     match output.flush() {
@@ -63,10 +59,10 @@ fn answer_input<A: ReadNewer, B: Rules, W: Write>(
     job: &Job,
     input: &[u8],
 ) -> Result<Status, RunFault>
-    ensures text { IfOk result (λ status. Writes (λ out. Text (rulings A.ruling B.ruling A.loose) job.now input.now
-        out status) (state_of W.contents output.old) (state_of W.contents output.new)) }
-    ensures fault { IfErr result (λ fault. Stops fault (λ out. Begun (rulings A.ruling B.ruling A.loose) job.now
-        input.now out) (state_of W.contents output.old) (state_of W.contents output.new)) }
+    ensures text { Wrote result W.contents output.old output.new
+        (JobTold A.ruling B.ruling A.loose job.now input.now) }
+    ensures fault { Broke result W.contents output.old output.new
+        (JobBegun A.ruling B.ruling A.loose job.now input.now) }
 {
     let (text, lines) = cut_input(input);
     match module_in(alloc, text)? {
@@ -99,7 +95,8 @@ fn module_in(alloc: Global, text: &[u8]) -> Result<Result<Module, String>, RunFa
 
 /// What a fault of a module says.
 ///
-/// Err: an allocation failed, here or while the module was read.
+/// # Errors
+/// `AllocError` where an allocation failed, here or while the module was read.
 fn words_of(alloc: Global, fault: ModuleFault) -> Result<String, AllocError>
     ensures { OnOk result (fault ≢ ModuleFault.Memory) }
 {
@@ -117,12 +114,10 @@ fn answer_module<A: ReadNewer, B: Rules, W: Write>(
     accepted: &Module,
     lines: &[u8],
 ) -> Result<Status, RunFault>
-    ensures text { IfOk result (λ status. Writes (λ out. Tells (rulings A.ruling B.ruling A.loose) job.now
-        (types_view accepted.now) (lines_of lines.now) out status) (state_of W.contents output.old)
-        (state_of W.contents output.new)) }
-    ensures fault { IfErr result (λ fault. Stops fault (λ out. TellsBegun (rulings A.ruling B.ruling A.loose) job.now
-        (types_view accepted.now) (lines_of lines.now) out) (state_of W.contents output.old)
-        (state_of W.contents output.new)) }
+    ensures text { Wrote result W.contents output.old output.new
+        (ModuleTold A.ruling B.ruling A.loose job.now accepted.now lines.now) }
+    ensures fault { Broke result W.contents output.old output.new
+        (ModuleBegun A.ruling B.ruling A.loose job.now accepted.now lines.now) }
 {
     match job {
         Job::Module => {
@@ -160,19 +155,17 @@ fn answer_lines<A: ReadNewer, B: Rules, W: Write>(
     rules: RuleName,
     lines: &[u8],
 ) -> Result<bool, RunFault>
-    ensures told { IfOk result (λ all_good. Writes (λ out. Told (terms (rulings A.ruling B.ruling A.loose) rules order
-        (shape_of ty.now)) (lines_of lines.now) out all_good) (state_of W.contents output.old)
-        (state_of W.contents output.new)) }
-    ensures begun { IfErr result (λ fault. Stops fault (λ out. IsBegun (terms (rulings A.ruling B.ruling A.loose) rules
-        order (shape_of ty.now)) (lines_of lines.now) out) (state_of W.contents output.old)
-        (state_of W.contents output.new)) }
+    ensures told { Wrote result W.contents output.old output.new
+        (LinesTold A.ruling B.ruling A.loose rules order ty.now lines.now) }
+    ensures begun { Broke result W.contents output.old output.new
+        (LinesBegun A.ruling B.ruling A.loose rules order ty.now lines.now) }
 {
     let mut rest = lines;
     let mut all_good = true;
-    while let Some((line, behind)) = next_line(rest) {
+    while let Some((line, later)) = next_line(rest) {
         let is_good = answer_line::<A, B, W>(alloc, output, ty, order, rules, line)?;
         all_good &= is_good;
-        rest = behind;
+        rest = later;
     }
     Ok(all_good)
 }
@@ -186,11 +179,10 @@ fn answer_line<A: ReadNewer, B: Rules, W: Write>(
     rules: RuleName,
     line: &[u8],
 ) -> Result<bool, RunFault>
-    ensures told { IfOk result (λ good. Writes (λ out. IsAnswered (terms (rulings A.ruling B.ruling A.loose) rules order
-        (shape_of ty.now)) line.now out good) (state_of W.contents output.old) (state_of W.contents output.new)) }
-    ensures begun { IfErr result (λ fault. Stops fault (λ out. IsAnswerBegun (terms (rulings A.ruling B.ruling A.loose)
-        rules order (shape_of ty.now)) line.now out) (state_of W.contents output.old)
-        (state_of W.contents output.new)) }
+    ensures told { Wrote result W.contents output.old output.new
+        (LineTold A.ruling B.ruling A.loose rules order ty.now line.now) }
+    ensures begun { Broke result W.contents output.old output.new
+        (LineBegun A.ruling B.ruling A.loose rules order ty.now line.now) }
 {
     let Answer {
         text: mut text,
@@ -203,10 +195,8 @@ fn answer_line<A: ReadNewer, B: Rules, W: Write>(
 
 /// Writes the text.
 fn put<W: Write>(output: &mut Counted<W>, text: &str) -> Result<(), RunFault>
-    ensures ok { OnOk result (Writes (λ out. out ≡ text.now) (state_of W.contents output.old)
-        (state_of W.contents output.new)) }
-    ensures err { IfErr result (λ fault. Stops fault (λ out. IsFront out text.now) (state_of W.contents output.old)
-        (state_of W.contents output.new)) }
+    ensures ok { Wrote result W.contents output.old output.new (λ _ out. out ≡ text.now) }
+    ensures err { Broke result W.contents output.old output.new (λ out. IsFront out text.now) }
 {
     match output.write_all(text.as_bytes()) {
         Ok(()) => Ok(()),

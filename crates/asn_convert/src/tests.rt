@@ -251,8 +251,9 @@ fn modules_that_are_refused_are_told(rt: HostRuntime) -> Result<(), Fail> {
 
 #[test]
 fn a_module_is_printed(rt: HostRuntime) -> Result<(), Fail> {
-    let want =
-        "M DEFINITIONS AUTOMATIC TAGS ::= BEGIN\nCol ::= ENUMERATED { red ( 0 ) , green ( 5 ) , blue ( 200 ) , ... , grey ( 300 ) }\nEND\n";
+    let want = "M DEFINITIONS AUTOMATIC TAGS ::= BEGIN\n\
+        Col ::= ENUMERATED { red ( 0 ) , green ( 5 ) , blue ( 200 ) , ... , grey ( 300 ) }\n\
+        END\n";
     let text =
         "M DEFINITIONS AUTOMATIC TAGS ::= BEGIN Col ::= ENUMERATED { red(0), green(5), blue(200), ..., grey(300) } END";
     expect(

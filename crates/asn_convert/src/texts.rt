@@ -5,7 +5,7 @@ ghost use Rattle.asn_convert.specs.Answers.{unit_of, TellsDecodeFault, TellsJson
 use crate::job::RuleName;
 use asn_json::JsonFault;
 use asn_newer::NewerFault;
-use asn_rules::DecodeFault;
+use asn_rules::{DecodeFault, Unit};
 use std::alloc::{AllocError, Global};
 
 /// What is written for a line, without its LF.
@@ -29,19 +29,20 @@ pub(crate) fn refusal(alloc: Global, words: &str) -> Result<Answer, AllocError>
     })
 }
 
-/// What a unit is called.
-fn unit(rules: RuleName) -> &'static str
-    ensures { result.now ≡ unit_of rules }
+/// What the places and lengths of the rules are counted in.
+fn unit_of(rules: RuleName) -> Unit
+    ensures { result ≡ unit_of rules }
 {
     match rules {
-        RuleName::Per => "bit",
-        RuleName::Oer => "octet",
+        RuleName::Per => Unit::Bit,
+        RuleName::Oer => Unit::Octet,
     }
 }
 
 /// The refusal of octets that are not decoded.
 ///
-/// Err: an allocation failed, here or while they were decoded.
+/// # Errors
+/// `AllocError` where an allocation failed, here or while they were decoded.
 pub(crate) fn decode_refusal(
     alloc: Global,
     rules: RuleName,
@@ -50,19 +51,11 @@ pub(crate) fn decode_refusal(
     ensures text { IfOk result (λ a. TellsDecodeFault rules fault (string_bytes a.text)) }
     ensures refused { IfOk result (λ a. a.is_good ≡ false) }
 {
-    let unit = unit(rules);
-    let text = match fault {
-        DecodeFault::Refused { at, why } => {
-            let why = why.word();
-            format!(in alloc; "! refused at {unit} {at}: {why}")?
-        }
-        DecodeFault::Truncated { taken } => {
-            format!(in alloc; "! cut short after {taken} {unit}s")?
-        }
-        DecodeFault::Rest { used } => format!(in alloc; "! octets left after {used}")?,
-        DecodeFault::TooLong => String::from_str(alloc, "! too long")?,
-        DecodeFault::Memory => return Err(AllocError),
-    };
+    if let DecodeFault::Memory = fault {
+        return Err(AllocError);
+    }
+    let told = fault.counted_in(unit_of(rules));
+    let text = format!(in alloc; "! {told}")?;
     Ok(Answer {
         text,
         is_good: false,
@@ -71,7 +64,8 @@ pub(crate) fn decode_refusal(
 
 /// The refusal of JSON that shows no value of the type.
 ///
-/// Err: an allocation failed, here or while it was read.
+/// # Errors
+/// `AllocError` where an allocation failed, here or while it was read.
 pub(crate) fn json_refusal(alloc: Global, fault: &JsonFault) -> Result<Answer, AllocError>
     ensures text { IfOk result (λ a. TellsJsonFault fault.now (string_bytes a.text)) }
     ensures refused { IfOk result (λ a. a.is_good ≡ false) }
@@ -91,7 +85,8 @@ pub(crate) fn json_refusal(alloc: Global, fault: &JsonFault) -> Result<Answer, A
 
 /// The refusal of octets of which nothing is read.
 ///
-/// Err: an allocation failed, here or while they were read.
+/// # Errors
+/// `AllocError` where an allocation failed, here or while they were read.
 pub(crate) fn newer_refusal(alloc: Global, fault: NewerFault) -> Result<Answer, AllocError>
     ensures text { IfOk result (λ a. TellsNewerFault fault (string_bytes a.text)) }
     ensures refused { IfOk result (λ a. a.is_good ≡ false) }

@@ -5,25 +5,26 @@ use anyhow::{Result, ensure};
 use asn_convert::{ConvertFault, convert};
 use asn_oer::Oer;
 use asn_per::Per;
-use asn_values::{AsnType, Bounds, Checked, Field, Size, TextKind, Value};
+use asn_rules::Unit;
+use asn_values::{Alt, AsnType, Bounds, Checked, Item};
 use std::alloc::Global;
 
-/// `SEQUENCE { id INTEGER (0..7), ok BOOLEAN DEFAULT TRUE, note IA5String (SIZE (0..3)) OPTIONAL }`
-fn message_type(alloc: Global) -> Result<Checked> {
-    let id = AsnType::Int(Bounds::between(0, 7));
-    let note = AsnType::Text(TextKind::Ia5, Size::between(0, 3));
-    let fields = vec![in alloc;
-        Field::new(alloc, "id", id)?,
-        Field::new(alloc, "ok", AsnType::Bool)?.default_to(Value::Bool(true)),
-        Field::new(alloc, "note", note)?.optional(),
+/// `CHOICE { stop NULL, speed INTEGER (0..100), lamp ENUMERATED { red, green } }`
+fn command_type(alloc: Global) -> Result<Checked> {
+    let speed = AsnType::Int(Bounds::between(0, 100));
+    let lamps = vec![in alloc; Item::new(alloc, "red", 0)?, Item::new(alloc, "green", 1)?]?;
+    let alternatives = vec![in alloc;
+        Alt::new(alloc, "stop", AsnType::Null)?,
+        Alt::new(alloc, "speed", speed)?,
+        Alt::new(alloc, "lamp", AsnType::enumerated(lamps))?,
     ]?;
-    Ok(Checked::new(alloc, AsnType::sequence(fields))?)
+    Ok(Checked::new(alloc, AsnType::choice(alternatives))?)
 }
 
 fn main(rt: HostRuntime) -> Result<()> {
     let alloc = rt.alloc();
-    let ty = message_type(alloc)?;
-    for line in ["6b04", "28", "ac"] {
+    let ty = command_type(alloc)?;
+    for line in ["00", "5900", "a0", "c0"] {
         let message = hex::decode(alloc, line)?;
         match convert::<Per, Oer>(alloc, &ty, &message) {
             Ok(other) => {
@@ -31,7 +32,9 @@ fn main(rt: HostRuntime) -> Result<()> {
                 ensure!(*back.as_slice() == *message.as_slice(), "another message");
                 println!(rt; "per {line} is oer {}", hex::encode(alloc, &other)?)?;
             }
-            Err(ConvertFault::Read(fault)) => println!(rt; "per {line} is no message: {fault}")?,
+            Err(ConvertFault::Read(fault)) => {
+                println!(rt; "per {line} is no message: {}", fault.counted_in(Unit::Bit))?
+            }
             Err(fault) => println!(rt; "per {line} has no oer: {fault}")?,
         }
     }

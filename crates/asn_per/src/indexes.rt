@@ -108,8 +108,9 @@ fn read_root_index(count: usize, bits: &mut BitCursor<'_>) -> Result<usize, Stop
     Ok(read_constrained(count as u64 - 1, None, bits)? as usize)
 }
 
-/// Reads a normally small number below `count`: 0, and the number in 6 bits.
-#[inline(always)]
+/// Reads a normally small number below `count`: 0, and the number in 6 bits. It is seldom asked for; inlined, it would
+/// make `read` of `asn_walk_read` too large to be inlined itself.
+#[inline(never)]
 fn read_small_number(count: usize, bits: &mut BitCursor<'_>) -> Result<usize, Stop>
     requires { 0 < count }
     ensures done { Reads result (λ n. n) (SmallBelow count) bits.old bits.new }

@@ -20,7 +20,7 @@ pub struct Counts {
 }
 
 /// The forms of a length determinant, told by its first bits.
-#[derive(Clone, Copy, PartialEq, Eq)]
+#[derive(Debug, Clone, Copy, PartialEq, Eq)]
 enum Form {
     /// 0, and a count in 7 bits
     Short,
@@ -31,7 +31,7 @@ enum Form {
 }
 
 /// How many bits of a length determinant were given, and what they say.
-#[derive(Clone, Copy)]
+#[derive(Debug, Clone, Copy)]
 enum LengthState {
     /// no bit
     Start,
@@ -44,7 +44,7 @@ enum LengthState {
 /// The lengths of a list whose count lies in a set, read bit by bit without the items between
 /// them. Contracts see the set, how many blocks of 16384 items the fragments so far have, and the
 /// bits given of the length begun.
-#[derive(Drop)]
+#[derive(Debug, Drop)]
 pub struct Lengths {
     first: Counts,
     second: Option<Counts>,

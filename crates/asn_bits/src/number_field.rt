@@ -23,7 +23,7 @@ pub enum FieldState {
 /// A number of a set of intervals in `k` bits, the highest first (X.691,
 /// "non-negative-binary-integer encoding"), which is given bit by bit. Contracts see the set, how
 /// many bits the number has, and the bits given.
-#[derive(Drop)]
+#[derive(Debug, Drop)]
 pub struct NumberField {
     numbers: Intervals,
     width: u32,

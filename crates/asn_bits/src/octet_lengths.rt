@@ -10,7 +10,7 @@ use crate::number_field::FieldState;
 use std::marker::Model;
 
 /// How many octets of a length were given, and what they say.
-#[derive(Clone, Copy)]
+#[derive(Debug, Clone, Copy)]
 enum OctetState {
     /// no octet
     Start,
@@ -21,7 +21,7 @@ enum OctetState {
 }
 
 /// A length that lies in a set, read octet by octet. Contracts see the set and the octets given.
-#[derive(Drop)]
+#[derive(Debug, Drop)]
 pub struct OctetLengths {
     first: Counts,
     second: Option<Counts>,

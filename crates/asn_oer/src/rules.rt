@@ -8,6 +8,7 @@ use asn_values::{Checked, Value};
 use std::alloc::{AllocError, Global};
 
 /// Canonical OER (X.696), as the walk over types and values asks for a set of encoding rules: its units are octets.
+#[derive(Debug)]
 pub struct Oer;
 
 impl Reads for Oer {

@@ -11,6 +11,7 @@ use asn_values::{Checked, Value};
 use std::alloc::{AllocError, Global};
 
 /// CANONICAL-PER UNALIGNED (X.691) as a set of encoding rules, whose units are bits.
+#[derive(Debug)]
 pub struct Per;
 
 impl Reads for Per {

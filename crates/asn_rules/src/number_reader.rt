@@ -13,7 +13,7 @@ use asn_bits::internal::take_of;
 use asn_bits::{BitCursor, FieldState, Intervals, NumberField};
 
 /// The numbers from `low` to `high`, but for `excluded`.
-#[derive(Clone, Copy)]
+#[derive(Debug, Clone, Copy)]
 pub struct NumberSet {
     pub low: u64,
     pub high: u64,

@@ -9,7 +9,7 @@ use std::fmt;
 ///
 /// Components, items and alternatives stand by their names; by their index, counted from 0 as written, root then
 /// additions, where the type has none there. A string stands in quotation marks, each of its own twice.
-#[derive(Clone, Copy, Drop)]
+#[derive(Debug, Clone, Copy, Drop)]
 pub struct Notation<'v, 't> {
     pub value: &'v Value,
     pub ty: &'t AsnType,

@@ -8,7 +8,7 @@ ghost use Rattle.asn_walk.specs.Views.{TakesBit};
 use asn_values::{Field, Need};
 
 /// Presence bits that are still to be looked at: the lowest `left` bits of a bitmap, the highest of them first.
-#[derive(Clone, Copy)]
+#[derive(Debug, Clone, Copy)]
 pub struct PresenceBits {
     pub bitmap: u64,
     pub left: u32,

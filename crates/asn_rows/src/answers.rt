@@ -51,7 +51,7 @@ pub fn finished(alloc: Global, answer: std::result::Result<(), Truncated>) -> Re
     }
 }
 
-/// The answer of `read_newer`: the value, and behind it each skipped field as ` +PLACE:OCTETS`.
+/// The answer of `read_newer`: the value, and after it each skipped field as ` +PLACE:OCTETS`.
 pub fn received(
     alloc: Global,
     ty: &Checked,

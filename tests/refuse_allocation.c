@@ -1,4 +1,4 @@
-// Preloaded into a program, refuses one allocation: that with the number in REFUSED_GROWTH, counted from the start of
+// Preloaded into a program, refuses one allocation: that with the number in REFUSED_ALLOCATION, counted from the start of
 // `main`, over malloc, calloc, realloc, aligned_alloc and posix_memalign. An octet is written to descriptor 3 then.
 //
 // The kit's clang brings no headers, so what is used of the C library is declared here.
@@ -51,7 +51,7 @@ static int counted(int count, char **words, char **environment) {
 
 int __libc_start_main(int (*entry)(int, char **, char **), int count, char **words, void (*init)(void),
                       void (*fini)(void), void (*loader_fini)(void), void *stack_end) {
-  const char *number = getenv("REFUSED_GROWTH");
+  const char *number = getenv("REFUSED_ALLOCATION");
   left = number ? strtoul(number, NULL, 10) : 0;
   program = entry;
   int (*real)(int (*)(int, char **, char **), int, char **, void (*)(void), void (*)(void), void (*)(void), void *) =

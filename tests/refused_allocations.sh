@@ -1,7 +1,7 @@
 #!/usr/bin/env bash
-# Refuses in turn each allocation of the programs that `rt ci` has built, by tests/refuse_growth.c.
+# Refuses in turn each allocation of the programs that `rt ci` has built, by tests/refuse_allocation.c.
 #
-# crates/asn_growths and crates/asn_refused_texts make the calls of the libraries: one call has to answer `Memory`, and
+# crates/asn_alloc_tests and crates/asn_refused_texts make the calls of the libraries: one call has to answer `Memory`, and
 # each other call, and that one when it is made again, what it answers with memory at hand. The runner asn_first and the
 # program asn_tool have to end with `memory` and status 3.
 # A program that is not there is proved and built first.
@@ -19,12 +19,12 @@ fail() {
 # ---- the library that refuses, by the kit's clang, which has no headers, or by another C compiler
 
 kit=$(dirname "$(rt doc)")/toolchain
-refuse=$work/refuse_growth.so
+refuse=$work/refuse_allocation.so
 if [ -x "$kit/bin/clang" ]; then
   "$kit/bin/clang" -O2 -Wall -shared -fPIC -nostdlib -B"$kit/lib" -fuse-ld="$kit/bin/ld.lld" -o "$refuse" \
-    tests/refuse_growth.c
+    tests/refuse_allocation.c
 else
-  "${CC:-cc}" -O2 -shared -fPIC -nostdlib -o "$refuse" tests/refuse_growth.c
+  "${CC:-cc}" -O2 -shared -fPIC -nostdlib -o "$refuse" tests/refuse_allocation.c
 fi
 
 # ---- one run after another, with the first allocation refused, then the second, until a run reaches no refusal
@@ -37,7 +37,7 @@ status=0
 run() { # the program; what it writes is in $work/out and $work/err, and `r` in $work/refused if it was refused memory
   number=$((number + 1))
   status=0
-  timeout 60 env REFUSED_GROWTH="$number" LD_PRELOAD="$refuse" "$@" \
+  timeout 60 env REFUSED_ALLOCATION="$number" LD_PRELOAD="$refuse" "$@" \
     <"$given" >"$work/out" 2>"$work/err" 3>"$work/refused" || status=$?
 }
 
@@ -84,7 +84,7 @@ told_of() { # what was called for, and the names of the calls of which each has 
 }
 
 : >"$work/told"
-refuse_each asn_growths one_call_tells
+refuse_each asn_alloc_tests one_call_tells
 for of in message simple composed; do
   told_of "$of" Checked::new
   told_of "$of in PER" encode decode decode_into feed

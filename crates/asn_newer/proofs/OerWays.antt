@@ -27,7 +27,7 @@ use Rattle.asn_oer.specs.Rules.{oer_ruling}
 use Rattle.asn_oer.specs.Walk.{oer_coding}
 use Rattle.asn_oer.proofs.Leaves.{item_code}
 use Rattle.asn_oer.proofs.WalkLaws.{oer_laws}
-use Rattle.asn_per.proofs.Enumerations.{lt_not_self}
+use Rattle.asn_per.proofs.Law.Enumerations.{lt_not_self}
 use Rattle.asn_newer.specs.Loose.{IsBitmap, AnyBitmap, AnyItem}
 use Rattle.asn_newer.specs.Rules.{oer_loose, IsUnknownNumber}
 use Rattle.asn_newer.specs.Ways.{OneWay, WayLaws}

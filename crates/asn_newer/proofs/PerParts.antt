@@ -10,16 +10,16 @@ use Rattle.asn_rules.specs.Chunks.{open_field, ones, flat}
 use Rattle.asn_rules.specs.Laws.{AreOctets}
 use Rattle.asn_walk.specs.Laws.{Laws}
 use Rattle.asn_walk.specs.WriteLaws.{WriteLaws}
-use Rattle.asn_per.proofs.WalkLaws.{per_laws}
+use Rattle.asn_per.proofs.Walk.WalkLaws.{per_laws}
 use Rattle.asn_per.specs.Per.{per, complete, constrained, rank, small, behind_mark}
 use Rattle.asn_per.specs.Rules.{per_ruling}
 use Rattle.asn_per.specs.Walk.{per_coding}
 use Rattle.asn_rules.specs.Components.{number_at}
-use Rattle.asn_per.proofs.Complete.{filled_is, complete_full, complete_octets}
-use Rattle.asn_per.proofs.EnumeratedLanguages.{few_additions}
-use Rattle.asn_per.proofs.SomeOctet.{not_empty}
-use Rattle.asn_per.proofs.Spelt.{per_spelt}
-use Rattle.asn_per.proofs.WalkWriting.{per_write_laws}
+use Rattle.asn_per.proofs.Encodings.Complete.{filled_is, complete_full, complete_octets}
+use Rattle.asn_per.proofs.Types.EnumeratedLanguages.{few_additions}
+use Rattle.asn_per.proofs.Encodings.SomeOctet.{not_empty}
+use Rattle.asn_per.proofs.Encodings.Spelt.{per_spelt}
+use Rattle.asn_per.proofs.Walk.WalkWriting.{per_write_laws}
 use Rattle.asn_newer.specs.Skipped.{Reading, nothing_skipped, item_skipped}
 use Rattle.asn_newer.specs.Loose.{AnyItem}
 use Rattle.asn_newer.specs.Versions.{LabelVersions, item_received}

@@ -23,8 +23,8 @@ use Rattle.asn_per.specs.Per.{per, small, small_length, constrained, rank, behin
 use Rattle.asn_per.specs.Rules.{per_ruling}
 use Rattle.asn_per.specs.Walk.{per_coding}
 use Rattle.asn_rules.specs.IntegerSets.{magnitude_of}
-use Rattle.asn_per.proofs.EnumeratedLanguages.{few_additions}
-use Rattle.asn_per.proofs.WalkLaws.{per_laws}
+use Rattle.asn_per.proofs.Types.EnumeratedLanguages.{few_additions}
+use Rattle.asn_per.proofs.Walk.WalkLaws.{per_laws}
 use Rattle.asn_newer.specs.Loose.{IsBitmap, AnyBitmap, AnyItem}
 use Rattle.asn_newer.specs.Rules.{per_loose, IsUnknownIndex}
 use Rattle.asn_newer.specs.Ways.{OneWay, WayLaws}

@@ -23,9 +23,9 @@ use Rattle.asn_rules.proofs.Entries.{presence_bits, default_is}
 use Rattle.asn_walk.specs.Ahead.{Ahead, items, lengths, end, Remaining}
 use Rattle.asn_walk.specs.Coding.{Coding, ListingOf, CanExtend, IsIndexWithin, absent_entries}
 use Rattle.asn_walk.specs.Composites.{in_open_field, each_code, open_code, more_code, alternative_code, added_code, choice_parts}
-use Rattle.asn_per.proofs.AdditionLanguages.{bits_of_some}
-use Rattle.asn_per.proofs.ChoiceLanguages.{few_choices}
-use Rattle.asn_per.proofs.SequenceLanguage.{presence_length}
+use Rattle.asn_per.proofs.Types.AdditionLanguages.{bits_of_some}
+use Rattle.asn_per.proofs.Types.ChoiceLanguages.{few_choices}
+use Rattle.asn_per.proofs.Types.SequenceLanguage.{presence_length}
 use Rattle.asn_newer.specs.Skipped.{Reading, Entries, nothing_skipped, entry_read, entry_left, list_read}
 use Rattle.asn_newer.specs.Loose.{LooseCoding, IsLoose, Complete, Unknown, additions_to_come, alternatives_to_come, Loose, LooseEach, LooseMore, LooseOpen, LooseRoot, LooseOther, LooseAdded}
 use Rattle.asn_newer.specs.Versions.{Versions, FieldVersions, MoreVersions, AddedVersions, AlternativeVersions, MoreChoiceVersions, AddedAlternatives, received, entries_received, more_received, added_received, root_received, other_received, addition_received, unknown}

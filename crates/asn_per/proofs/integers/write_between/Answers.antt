@@ -4,7 +4,7 @@ use Rattle.std.proofs.lemmas.Result.{on_ok_weaker}
 use Rattle.asn_values.specs.Fits.{lowest_integer, highest_integer}
 use Rattle.asn_bits.specs.Numbers.{above, width, bits}
 use Rattle.asn_rules.specs.Components.{extension_bit}
-use Rattle.asn_per.proofs.BetweenBounds.{low_within, high_within, number_within, low_stays, high_stays, number_stays, offset_fits, offset_fits_more, bits_between, bits_behind_mark}
+use Rattle.asn_per.proofs.Write.BetweenBounds.{low_within, high_within, number_within, low_stays, high_stays, number_stays, offset_fits, offset_fits_more, bits_between, bits_behind_mark}
 use Rattle.asn_per.proofs.integers.write_between.Goals as goal
 use Rattle.asn_per.proofs.integers.write_between.Goals.{then-ext+else-count-lt64+in_ok-push, else-ext}
 

@@ -1,8 +1,8 @@
 use Rattle.std.proofs.Common.{◌≡◌, ◌+◌, ◌-◌, ℕ, List, sym, subst, arith}
 use Rattle.asn_per.specs.Kinds.{Bit}
 use Rattle.asn_per.specs.Reading.{Appends}
-use Rattle.asn_per.proofs.Appending.{appends_none, appends_more}
-use Rattle.asn_per.proofs.StringRows.{bits_few, behind_word}
+use Rattle.asn_per.proofs.Read.Appending.{appends_none, appends_more}
+use Rattle.asn_per.proofs.Read.StringRows.{bits_few, behind_word}
 use Rattle.asn_per.proofs.string_items.append_bits.Goals as goal
 
 pub returns-then-bits_left-count-clause-stop : goal.returns-then-bits_left-count-clause-stop

@@ -129,19 +129,27 @@ fn agree(holds: bool, wanted: bool, name: &str) -> Result<()> {
 
 fn try_fitting(alloc: Global, ty: &str, value: &str) -> Result<()> {
     let ty = Checked::new(alloc, type_of(alloc, ty)?)?;
+    fits_alone(alloc, &ty, value)
+}
+
+fn fits_alone(alloc: Global, ty: &Checked, value: &str) -> Result<()> {
     for name in VALUES {
         let other = value_of(alloc, name)?;
-        agree(fits(&ty, &other), *name == *value, name)?;
+        agree(fits(ty, &other), *name == *value, name)?;
     }
     Ok(())
 }
 
 fn try_same(alloc: Global, value: &str) -> Result<()> {
     let left = value_of(alloc, value)?;
-    agree(is_copied(&left)?, true, "a copy")?;
+    is_same_alone(alloc, &left, value)
+}
+
+fn is_same_alone(alloc: Global, left: &Value, value: &str) -> Result<()> {
+    agree(is_copied(left)?, true, "a copy")?;
     for name in VALUES {
         let right = value_of(alloc, name)?;
-        agree(same(&left, &right), *name == *value, name)?;
+        agree(same(left, &right), *name == *value, name)?;
     }
     Ok(())
 }
@@ -155,6 +163,10 @@ fn text_of(alloc: Global, value: &Value) -> Result<String> {
     Ok(format!(in alloc; "{value}")?)
 }
 
+fn text_with_names(alloc: Global, value: &Value, ty: &AsnType) -> Result<String> {
+    Ok(format!(in alloc; "{}", value.notation(ty))?)
+}
+
 fn try_value(alloc: Global, value: &str, want: &str) -> Result<()> {
     let value = value_of(alloc, value)?;
     expect(&text_of(alloc, &value)?, want)
@@ -163,5 +175,5 @@ fn try_value(alloc: Global, value: &str, want: &str) -> Result<()> {
 fn try_names_shown(alloc: Global, want: &str) -> Result<()> {
     let ty = type_with_all(alloc)?;
     let value = value_with_all(alloc)?;
-    expect(&format!(in alloc; "{}", value.notation(&ty))?, want)
+    expect(&text_with_names(alloc, &value, &ty)?, want)
 }

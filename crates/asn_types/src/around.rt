@@ -1,5 +1,5 @@
 //! Types around a type. The steps stand in a cell with spaces between them, the innermost first: `.a` is a component
-//! after a BOOLEAN, `+a` an extension addition, `[]` an element, `:a` an alternative, and `;a` one behind the extension
+//! after a BOOLEAN, `+a` an extension addition, `[]` an element, `:a` an alternative, and `;a` one after the extension
 //! marker.
 use anyhow::{Result, bail};
 use asn_values::{Alt, AsnType, Field, Size};

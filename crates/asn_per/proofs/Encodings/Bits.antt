@@ -7,9 +7,9 @@ use Rattle.asn_bits.specs.Numbers.{bits, least, least_signed, above}
 use Rattle.asn_bits.specs.Lengths.{Length, last_length, lengths_within, lengths, joined, with_lengths}
 use Rattle.asn_bits.proofs.GeneralLengths.{all_take}
 use Rattle.asn_bits.proofs.FilledBits.{AreBits, bits_append}
-use Rattle.asn_per.specs.Per.{spelled, unconstrained, small, ranged, behind_mark, whole_number, character_bits, enumeration}
+use Rattle.asn_per.specs.Per.{spelled, unconstrained, small, ranged, after_mark, whole_number, character_bits, enumeration}
 
--- ---- numbers of so many bits
+-- ---- numbers in a given count of bits
 
 -- a number in k bits
 pub digits_bits : (k n : ℕ) → AreBits (bits k n)
@@ -74,8 +74,8 @@ spelled_bits os =
 
 -- ---- numbers, items and characters
 
--- two forms behind an extension mark
-mark_bits : (m i : Bool) (us ws : List ℕ) → AreBits us → AreBits ws → AreBits (behind_mark (λ u. u) m i us ws)
+-- two forms after an extension mark
+mark_bits : (m i : Bool) (us ws : List ℕ) → AreBits us → AreBits ws → AreBits (after_mark (λ u. u) m i us ws)
 mark_bits false i us ws p q = p
 mark_bits true true us ws p q = (omega arith, p)
 mark_bits true false us ws p q = (omega arith, q)

@@ -75,7 +75,7 @@ module _ (cs : List Chunk) (h : AreBits (flat spelled cs)) where
       go [] e = absurd (full_not_empty (flat spelled cs) (sym e))
       go (o ∷ os) e = omega arith
 
-  -- with more octets behind
+  -- with more octets after it
   complete_bits : (r : List ℕ) → unpacked (complete cs ++ r) ≡ flat spelled cs ++ (filling (length (flat spelled cs)) ++ unpacked r)
   complete_bits r =
       unpacked-append (complete cs) r

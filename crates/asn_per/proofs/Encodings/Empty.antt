@@ -11,7 +11,7 @@ use Rattle.asn_bits.specs.Numbers.{bits, above}
 use Rattle.asn_bits.specs.Lengths.{joined, general}
 use Rattle.asn_rules.specs.Chunks.{Chunk, one, ones}
 use Rattle.asn_rules.specs.Components.{bit_of, presence}
-use Rattle.asn_per.specs.Per.{behind_mark, unconstrained, within, sized, constrained, whole_number, ranged, character_bits, per, per_each}
+use Rattle.asn_per.specs.Per.{after_mark, unconstrained, within, sized, constrained, whole_number, ranged, character_bits, per, per_each}
 
 -- ---- numbers
 
@@ -35,7 +35,7 @@ ranged_empty None high false e z = absurd (true≢false (sym e))
 
 -- nor does one of such a range
 number_empty : (b : Range) → is_one_number b ≡ true → (z : ℤ) → whole_number b z ≡ []
-number_empty b e z = let w = ranged_empty b.low b.high b.extensible e z in subst (λ m. behind_mark (λ u. u) m (in_range b z) (ranged b.low b.high z) (unconstrained z) ≡ []) (sym w.0) w.1
+number_empty b e z = let w = ranged_empty b.low b.high b.extensible e z in subst (λ m. after_mark (λ u. u) m (in_range b z) (ranged b.low b.high z) (unconstrained z) ≡ []) (sym w.0) w.1
 
 -- ---- lists under a size
 
@@ -55,7 +55,7 @@ sized_fixed_empty : (z : SizeRange) (items : List (List Chunk)) → is_fixed_siz
 sized_fixed_empty z items e f = go z.extensible z.high e
   where
     go : (m : Bool) (high : Option ℕ) → is_fixed_size (record { low = z.low; high = high; extensible = m }) ≡ true
-        → behind_mark one m (in_size (record { low = z.low; high = high; extensible = m }) (length items)) (within z.low high items) (general one items) ≡ []
+        → after_mark one m (in_size (record { low = z.low; high = high; extensible = m }) (length items)) (within z.low high items) (general one items) ≡ []
     go true high e = absurd (true≢false (sym e))
     go false None e = absurd (true≢false (sym e))
     go false (Some h) e = within_empty z.low h items (omega (arith, eqb-true z.low h e)) f
@@ -66,7 +66,7 @@ sized_zero_empty {A} code z xs e fits = go z.extensible z.high e fits.1
   where
     go : (m : Bool) (high : Option ℕ) → is_zero_size (record { low = z.low; high = high; extensible = m }) ≡ true
         → (m || (nat_le z.low (length xs) && not_above high (length xs))) ≡ true
-        → behind_mark one m (in_size (record { low = z.low; high = high; extensible = m }) (length (map code xs))) (within z.low high (map code xs)) (general one (map code xs)) ≡ []
+        → after_mark one m (in_size (record { low = z.low; high = high; extensible = m }) (length (map code xs))) (within z.low high (map code xs)) (general one (map code xs)) ≡ []
     go true high e f = absurd (true≢false (sym e))
     go false None e f = absurd (true≢false (sym e))
     go false (Some h) e f =

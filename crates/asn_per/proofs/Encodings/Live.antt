@@ -30,7 +30,7 @@ some_units c = go (spelled c) (spelled_not_empty c)
 begins_field : BeginsProperly [] (spelled (0 ∷ []))
 begins_field = (0, 0 ∷ 0 ∷ 0 ∷ 0 ∷ 0 ∷ 0 ∷ 1 ∷ 0 ∷ 0 ∷ 0 ∷ 0 ∷ 0 ∷ 0 ∷ 0 ∷ 0 ∷ [], refl)
 
--- so an open field may begin behind no bits of it
+-- so an open field may begin after no bits of it
 pub open_starts : Free per_fields open_field []
 open_starts = (0 ∷ [], (omega arith, omega arith, (omega arith, tt)), begins_field)
 

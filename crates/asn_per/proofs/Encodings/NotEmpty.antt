@@ -10,7 +10,7 @@ use Rattle.asn_bits.specs.Lengths.{last_length, lengths_within, joined, with_len
 use Rattle.asn_bits.proofs.Octets.{length-digits}
 use Rattle.asn_bits.proofs.Widths.{width_fits}
 use Rattle.asn_rules.specs.Chunks.{Chunk, one, ones}
-use Rattle.asn_per.specs.Per.{spelled, behind_mark, within, sized, constrained}
+use Rattle.asn_per.specs.Per.{spelled, after_mark, within, sized, constrained}
 
 -- ---- lists that are not empty
 
@@ -106,7 +106,7 @@ sized_not_empty code a z h = go z.extensible (in_size z (length (map code (repli
     items = map code (replicate z.low a)
 
     go : (m i : Bool) → is_zero_size (record { low = z.low; high = z.high; extensible = m }) ≡ false
-        → (is_fixed_size (record { low = z.low; high = z.high; extensible = m }) ≡ false) ⊎ (code a ≢ []) → behind_mark one m i (within z.low z.high items) (general one items) ≢ []
+        → (is_fixed_size (record { low = z.low; high = z.high; extensible = m }) ≡ false) ⊎ (code a ≢ []) → after_mark one m i (within z.low z.high items) (general one items) ≢ []
     go false i g f = within_not_empty code a z.low z.high items refl h g f
     go true true g f = cons_not_empty (one 0) _
     go true false g f = cons_not_empty (one 1) _

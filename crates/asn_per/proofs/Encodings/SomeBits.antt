@@ -13,7 +13,7 @@ use Rattle.asn_bits.specs.Numbers.{bits, above, least, least_signed}
 use Rattle.asn_bits.specs.Lengths.{general_octets}
 use Rattle.asn_rules.specs.Chunks.{one, ones}
 use Rattle.asn_rules.specs.Components.{number_at, bit_of, presence, any_present, extension_bit}
-use Rattle.asn_per.specs.Per.{behind_mark, rank, unconstrained, sized, constrained, small, whole_number, ranged, enumeration, character_bits, per, per_each, per_additions, per_alternative, per_more}
+use Rattle.asn_per.specs.Per.{after_mark, rank, unconstrained, sized, constrained, small, whole_number, ranged, enumeration, character_bits, per, per_each, per_additions, per_alternative, per_more}
 use Rattle.asn_rules.proofs.SomeValue.{number_between, all_same, shortest_fits, entries_again, list_again, character_fits, some_length, entries_fit, first_place, some_value, some_entries}
 use Rattle.asn_per.proofs.Encodings.Empty.{spelt_by_nothing}
 use Rattle.asn_per.proofs.Encodings.NotEmpty.{cons_not_empty, left_not_empty, right_not_empty, ones_not_empty, constrained_not_empty, general_not_empty, sized_not_empty}
@@ -49,7 +49,7 @@ ranged_not_empty None high o e z = octets_not_empty (least_signed z)
 number_not_empty : (b : Range) → low_above_high b.low b.high ≡ false → is_one_number b ≡ false → (z : ℤ) → whole_number b z ≢ []
 number_not_empty b o e z = go b.extensible (in_range b z) e
   where
-    go : (m i : Bool) → is_one_number (record { low = b.low; high = b.high; extensible = m }) ≡ false → behind_mark (λ u. u) m i (ranged b.low b.high z) (unconstrained z) ≢ []
+    go : (m i : Bool) → is_one_number (record { low = b.low; high = b.high; extensible = m }) ≡ false → after_mark (λ u. u) m i (ranged b.low b.high z) (unconstrained z) ≢ []
     go false i e = ranged_not_empty b.low b.high o e z
     go true true e = cons_not_empty 0 _
     go true false e = cons_not_empty 1 _
@@ -87,7 +87,7 @@ enumeration_not_empty root closed_labels p l h =
     not_one false e = refl
 enumeration_not_empty root (marked_labels ls) p l h = go (nat_lt p (length root))
   where
-    go : (i : Bool) → behind_mark (λ u. u) true i (constrained (length root) (rank root (number_at root p))) (small (p - length root)) ≢ []
+    go : (i : Bool) → after_mark (λ u. u) true i (constrained (length root) (rank root (number_at root p))) (small (p - length root)) ≢ []
     go true = cons_not_empty 0 _
     go false = cons_not_empty 1 _
 

@@ -15,7 +15,7 @@ use Rattle.asn_rules.proofs.Entries.{bit_of_is, extension_bits, presence_bits, f
 use Rattle.asn_rules.proofs.Flat.{flat-append, flat-ones}
 use Rattle.asn_rules.specs.Reading.{AllSealed}
 use Rattle.asn_rules.proofs.Fronts.{sealed-ones, sealed-append}
-use Rattle.asn_per.specs.Per.{spelled, complete, an_open_field, constrained, small, small_length, behind_mark, within, sized, character_bits, additions, per, per_each, per_additions, per_open, per_alternative, per_more, per_fields}
+use Rattle.asn_per.specs.Per.{spelled, complete, an_open_field, constrained, small, small_length, after_mark, within, sized, character_bits, additions, per, per_each, per_additions, per_open, per_alternative, per_more, per_fields}
 use Rattle.asn_per.proofs.Encodings.Bits.{AllLengths, digits_bits, lengths_bits, spelled_bits, number_bits, small_bits, item_bits, character_bits_are}
 use Rattle.asn_per.proofs.Encodings.Complete.{complete_octets, complete_some}
 
@@ -83,7 +83,7 @@ spelt_within low (Some high) items h =
 spelt_sized : (z : SizeRange) (items : List (List Chunk)) → AllByRecursion Spelt items → Spelt (sized z items)
 spelt_sized z items h = go z.extensible (in_size z (length items))
   where
-    go : (m i : Bool) → Spelt (behind_mark one m i (within z.low z.high items) (general one items))
+    go : (m i : Bool) → Spelt (after_mark one m i (within z.low z.high items) (general one items))
     go false i = spelt_within z.low z.high items h
     go true true = spelt_append (ones (0 ∷ [])) (within z.low z.high items) (spelt_ones (0 ∷ []) (omega arith, tt)) (spelt_within z.low z.high items h)
     go true false = spelt_append (ones (1 ∷ [])) (general one items) (spelt_ones (1 ∷ []) (omega arith, tt)) (spelt_general items h)
@@ -111,7 +111,7 @@ spelt_additions ds es cs h = go (any_present es)
     go true = spelt_append (ones front) cs (spelt_ones front (bits_append (small_length (length ds)) (presence ds es) (omega arith, digits_bits 6 _) (presence_bits ds es))) h
     go false = spelt_none
 
--- an alternative behind its index
+-- an alternative after its index
 spelt_choice : (root : Alternatives) (more : MoreAlternatives) (i : ℕ) (d : Datum)
     → (FitsAlternative root i d → Spelt (per_alternative root i d)) → (FitsMoreAlternatives more (i - count root) d → Spelt (per_more more (i - count root) d))
     → FitsChoice root more i d → Spelt (per (choice root more) (alternative i d))

@@ -14,9 +14,9 @@ use Rattle.asn_bits.proofs.GeneralLengths.{last_code, last_not_fragment, lengths
 use Rattle.asn_bits.proofs.Widths.{width_fits}
 use Rattle.asn_rules.specs.Chunks.{Chunk, one, ones}
 use Rattle.asn_rules.proofs.Facing.{Facing, IsFacing, facing_at, facing_parts, plain_facing, joined_facing}
-use Rattle.asn_per.specs.Per.{spelled, constrained, within, sized, behind_mark}
+use Rattle.asn_per.specs.Per.{spelled, constrained, within, sized, after_mark}
 
--- ---- what stands behind a length
+-- ---- what stands after a length
 
 -- a last length, its items and what follows
 regroup_last : (b j k r : List Chunk) → j ≡ k → (b ++ (j ++ [])) ++ r ≡ b ++ (k ++ r)
@@ -29,7 +29,7 @@ regroup_fragment b j k v w r e f = rw (append_assoc b (j ++ v) r, append_assoc j
 -- ---- under the general length
 
 module _ {A : Type 0} (P : A → Type 0) (code : A → List Chunk) (h : IsFacing spelled P code) (E : Type 0) where
-  -- the items under their lengths, of which so many at most are fragments
+  -- the items under their lengths, of which at most f are fragments
   abbrev under : ℕ → List A → List Chunk
   under f xs = with_lengths one (lengths_within f (length xs)) (map code xs)
 
@@ -51,7 +51,7 @@ module _ {A : Type 0} (P : A → Type 0) (code : A → List Chunk) (h : IsFacing
       (ap joined (take-map code (16384 * m) xs))
       (cc (drop-map code (16384 * m) xs, length-drop (16384 * m) xs))
 
-  -- two lists of so many fragments face each other
+  -- two lists of at most f and g fragments face each other
   abbrev Face : ℕ → ℕ → Type 0
   Face f g = (xs ys : List A) (r s : List Chunk) → length xs < 16384 * suc f → length ys < 16384 * suc g → AllByRecursion P xs → AllByRecursion P ys
       → (xs ≡ ys → Facing spelled E r s) → Facing spelled E (under f xs ++ r) (under g ys ++ s)
@@ -141,12 +141,12 @@ module _ {A : Type 0} (P : A → Type 0) (code : A → List Chunk) (h : IsFacing
   -- lists of lengths that the size allows
   pub sized_facing : (z : SizeRange) → IsFacing spelled (λ xs. FitsLength z (length xs) × AllByRecursion P xs) (λ xs. sized z (map code xs))
   sized_facing z E xs ys r s p q next =
-      subst (λ n. Facing spelled E (behind_mark one z.extensible (in_size z n) (within z.low z.high (map code xs)) (general one (map code xs)) ++ r) (sized z (map code ys) ++ s)) (sym (length-map xs code))
-      (subst (λ n. Facing spelled E (behind_mark one z.extensible (in_size z (length xs)) (within z.low z.high (map code xs)) (general one (map code xs)) ++ r) (behind_mark one z.extensible (in_size z n) (within z.low z.high (map code ys)) (general one (map code ys)) ++ s)) (sym (length-map ys code))
+      subst (λ n. Facing spelled E (after_mark one z.extensible (in_size z n) (within z.low z.high (map code xs)) (general one (map code xs)) ++ r) (sized z (map code ys) ++ s)) (sym (length-map xs code))
+      (subst (λ n. Facing spelled E (after_mark one z.extensible (in_size z (length xs)) (within z.low z.high (map code xs)) (general one (map code xs)) ++ r) (after_mark one z.extensible (in_size z n) (within z.low z.high (map code ys)) (general one (map code ys)) ++ s)) (sym (length-map ys code))
       (go z.extensible (in_size z (length xs)) (in_size z (length ys)) refl refl refl p.0.1 q.0.1))
     where
       go : (m i j : Bool) → z.extensible ≡ m → in_size z (length xs) ≡ i → in_size z (length ys) ≡ j → IsTrue (m || i) → IsTrue (m || j)
-          → Facing spelled E (behind_mark one m i (within z.low z.high (map code xs)) (general one (map code xs)) ++ r) (behind_mark one m j (within z.low z.high (map code ys)) (general one (map code ys)) ++ s)
+          → Facing spelled E (after_mark one m i (within z.low z.high (map code xs)) (general one (map code xs)) ++ r) (after_mark one m j (within z.low z.high (map code ys)) (general one (map code ys)) ++ s)
       go false i j em ei ej hx hy = within_facing E z.low z.high xs ys r s (ei ∙ hx) (ej ∙ hy) p.1 q.1 next
       go true true true em ei ej hx hy = record { told = λ e. (within_facing E z.low z.high xs ys r s ei ej p.1 q.1 next).told }
       go true false false em ei ej hx hy = record { told = λ e. (general_faces P code h E xs ys r s p.1 q.1 next).told }

@@ -9,7 +9,7 @@ use Rattle.asn_bits.proofs.Codes.{IsCode}
 use Rattle.asn_bits.proofs.Digits.{digits_code}
 use Rattle.asn_bits.proofs.Octets.{least_code, least_signed_code}
 use Rattle.asn_bits.proofs.Widths.{width_fits}
-use Rattle.asn_per.specs.Per.{semi_constrained, unconstrained, small, ranged, behind_mark, whole_number}
+use Rattle.asn_per.specs.Per.{semi_constrained, unconstrained, small, ranged, after_mark, whole_number}
 
 -- 0 is not 1
 zero_one : ◌≡◌ {A = ℕ} 0 1 → ⊥
@@ -17,18 +17,18 @@ zero_one h = omega arith
 
 -- ---- marks
 
--- two forms behind a mark, each told by its bits
+-- two forms after a mark, each told by its bits
 pub marked_code : {A : Type 0} (In Out : A → Type 0) (root other : A → List ℕ) (inside : A → Bool) (m : Bool)
     → ((x y : A) (r s : List ℕ) → In x → In y → root x ++ r ≡ root y ++ s → (x ≡ y) × (r ≡ s))
     → ((x y : A) (r s : List ℕ) → Out x → Out y → other x ++ r ≡ other y ++ s → (x ≡ y) × (r ≡ s))
     → (x y : A) (r s : List ℕ)
     → ((m ≡ false) ⊎ (inside x ≡ true) → In x) → ((m ≡ false) ⊎ (inside y ≡ true) → In y)
     → ((m ≡ true) × (inside x ≡ false) → Out x) → ((m ≡ true) × (inside y ≡ false) → Out y)
-    → behind_mark (λ u. u) m (inside x) (root x) (other x) ++ r ≡ behind_mark (λ u. u) m (inside y) (root y) (other y) ++ s → (x ≡ y) × (r ≡ s)
+    → after_mark (λ u. u) m (inside x) (root x) (other x) ++ r ≡ after_mark (λ u. u) m (inside y) (root y) (other y) ++ s → (x ≡ y) × (r ≡ s)
 marked_code In Out root other inside m hr ho x y r s ix iy ox oy e = go m (inside x) (inside y) refl refl refl e
   where
     go : (n i j : Bool) → m ≡ n → inside x ≡ i → inside y ≡ j
-        → behind_mark (λ u. u) n i (root x) (other x) ++ r ≡ behind_mark (λ u. u) n j (root y) (other y) ++ s → (x ≡ y) × (r ≡ s)
+        → after_mark (λ u. u) n i (root x) (other x) ++ r ≡ after_mark (λ u. u) n j (root y) (other y) ++ s → (x ≡ y) × (r ≡ s)
     go false i j em ei ej e = hr x y r s (ix (inl em)) (iy (inl em)) e
     go true true true em ei ej e = hr x y r s (ix (inr ei)) (iy (inr ej)) (cc)
     go true false false em ei ej e = ho x y r s (ox (em, ei)) (oy (em, ej)) (cc)

@@ -1,4 +1,4 @@
--- Items in a row that are read a few at a time and put behind those of a list.
+-- Items in a row that are read a few at a time and put after those of a list.
 use Rattle.std.proofs.Common.{◌≡◌, ℕ, ◌+◌, List, [], ◌∷◌, ◌++◌, append-nil, append_assoc, sym, ap, ◌∙◌, arith}
 use Rattle.asn_bits.specs.Moves.{Taken}
 use Rattle.asn_rules.specs.Chunks.{Chunk}
@@ -16,7 +16,7 @@ use Rattle.asn_per.proofs.Encodings.PerFields.{per_fields_part}
 pub appends_none : {A : Type 0} (L : A → List Chunk → Type 0) (vs : List A) (us : List ℕ) → Appends L 0 vs vs us us
 appends_none L vs us = record { row = []; same = sym (append-nil vs); spelt = row_starts per_fields L us }
 
--- behind i items, m more
+-- after i items, m more
 pub appends_more : {A : Type 0} {L : A → List Chunk → Type 0} (i m k : ℕ) {old mid new : List A} {us r s : List ℕ} → i + m ≡ k → Appends L i old mid us r → Appends L m mid new r s → Appends L k old new us s
 appends_more {L = L} i m k {old} e f g = record {
   row = f.row ++ g.row;
@@ -28,11 +28,11 @@ appends_more {L = L} i m k {old} e f g = record {
 pub appends_one : {A : Type 0} {L : A → List Chunk → Type 0} {a : A} {old new : List A} {us r : List ℕ} → new ≡ old ++ a ∷ [] → Spells per_fields L a us r → Appends L 1 old new us r
 appends_one {a = a} e h = record { row = a ∷ []; same = e; spelt = row_one h }
 
--- behind i items the others stop
+-- after i items the others stop
 pub appends_stops : {A : Type 0} {L : A → List Chunk → Type 0} (i m k : ℕ) {old mid : List A} {us r : List ℕ} → Lawful L → i + m ≡ k → Appends L i old mid us r → LeadsStops per_fields (Row L m) r (Row L k) us
 appends_stops {L = L} i m k law e f = record { short = λ g. row_short L per_fields_part law i m k e f.spelt g; refused = λ n g. row_refused L per_fields_part law i m k e f.spelt g }
 
--- behind i items the next one stops
+-- after i items the next one stops
 pub appends_stops_next : {A : Type 0} {L : A → List Chunk → Type 0} (i m k : ℕ) {old mid : List A} {us r : List ℕ} → Lawful L → Inhabited L → i + (m + 1) ≡ k → Appends L i old mid us r → LeadsStops per_fields L r (Row L k) us
 appends_stops_next {L = L} i m k law some e f = stops_next L i m k per_fields_part law some (omega (arith, e)) f.spelt
 

@@ -45,7 +45,7 @@ module _ (root : Alternatives) (more : MoreAlternatives) (good : InProfile (choi
       go closed_choice g = tt
       go (marked_choice alts) g = added_alternatives_of_profile root alts g
 
--- ---- the alternative at a place
+-- ---- the alternative at an index
 
 pub good_at : (alts : List Alt) (i : ℕ) (d : Alt) → AreAllOfProfile (alternatives_of (map branch_of alts)) → i < length alts → InProfile (shape_of (get_or alts i d).ty)
 good_at [] i d good h = absurd (omega arith)
@@ -67,7 +67,7 @@ added_alternatives ext additions more e em = ap (λ (x : Option (Vec Alt Global)
 pub known_count : (root : Vec Alt Global) (n : ℕ) → n ≡ vec_len root → count (alternatives_of (map branch_of root.items)) ≡ n
 known_count root n e = count-of root.items ∙ sym root.ok.0 ∙ sym e
 
--- an index of an addition is one of so many
+-- an index of an addition is below the count of the additions
 pub added_inside : (n : ℕ) (m : Option ℕ) (ext : Option (Vec Alt Global)) (additions : Vec Alt Global) (i : Index) (p : ℕ) → m ≡ option_map vec_len ext → ext ≡ Some additions → i ≡ an_index.Added p → IsIndexWithin n m (index_seen i) → p < vec_len additions
 added_inside n m ext additions i p e f g h = rw (e, f, g) at h
 

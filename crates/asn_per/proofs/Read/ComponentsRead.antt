@@ -30,7 +30,7 @@ use Rattle.asn_per.proofs.Encodings.Whole.{per_parts}
 
 -- ---- the components that are left
 
--- the next one, and those behind it
+-- the next one, and those after it
 pub next_part : (fields : List Field) (i : ℕ) (x : Field) → i < length fields → x ≡ get_or fields i x → map part_of_field (drop i fields) ≡ part_of_field x ∷ map part_of_field (drop (i + 1) fields)
 next_part fields i x h e =
     let split : drop i fields ≡ x ∷ drop (i + 1) fields = rw (add-one, drop-cons fields i x h, ← e) refl in
@@ -53,7 +53,7 @@ width_same name must t fs h = refl
 width_same name optional t fs h = absurd (cc)
 width_same name (default d) t fs h = absurd (cc)
 
--- so many presence bits are counted, and the components that are left have the others
+-- that many presence bits are counted, and the components that are left have the others
 pub record WidthKnown (all left : List Part) (count : ℕ) : Type 0 where
   pub known : count + bitmap_length (fields_of left) ≡ bitmap_length (fields_of all)
   pub few : count + length left ≤ length all
@@ -72,7 +72,7 @@ width_ends {count = count} h e = let k = rw e at h.known in omega (arith, k)
 
 -- ---- the components
 
--- the entries of the components that have come, and what is read of those that are left
+-- the entries of the components that have been read, and what is read of those that are left
 pub record ReadUpTo (all : List Part) (count bitmap : ℕ) (us : List ℕ) (rest : List Part) (left : ℕ) (entries : List (Option Datum)) (vs : List ℕ) : Type 0 where
   pub of_profile : AreOfProfile (fields_of rest)
   pub width : left ≡ bitmap_length (fields_of rest)
@@ -155,7 +155,7 @@ module _ (fs : Fields) (good : AreOfProfile fs) (count high : ℕ) (is : count �
   pub bitmap_stops_at : (us : List ℕ) → LeadsStops per_fields (Plain (InSet count (λ n. Admits (up_to high None) n))) us (Spelt per None (sequence fs closed)) us
   bitmap_stops_at us = rw is (bitmap_stops fs high good (rw is at all) us)
 
-  -- behind it
+  -- after it
   pub components_at : (n : ℕ) (us r : List ℕ) → Spells per_fields (Plain (InSet count (λ m. Admits (up_to high None) m))) n us r
       → Leads per_fields (Listed per fs (bits count n)) r (λ es. components (components_of es)) (Spelt per None (sequence fs closed)) us
   components_at n us r h = rw is (components_leads fs high good (rw is at all) n us r (rw is at h))

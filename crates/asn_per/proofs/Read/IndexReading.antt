@@ -55,7 +55,7 @@ indexes_lawful root None = map_lawful_on (λ a b x y p q e. cc) (set_lawful 2 (w
 indexes_lawful root (Some more) = fork_lawful (set_lawful 2 (width root) (λ n. n < root)) (set_lawful 2 7 (λ n. n < more))
 
 module _ (root more : ℕ) (some : 0 < root) where
-  -- no bit comes
+  -- no bit is left
   mark_wanted : Short per_fields (IndexesOf root (Some more)) []
   mark_wanted = fork_short (fork_inhabited_zero (below_inhabited root some))
 

@@ -1,4 +1,4 @@
--- INTEGER in PER as its reader takes it: without a low bound, and behind an extension mark.
+-- INTEGER in PER as its reader takes it: without a low bound, and after an extension mark.
 use Rattle.std.proofs.Common.{◌≡◌, ℕ, ℤ, Bool, true, false, List, ◌∷◌, Option, Some, None, refl, sym, ◌∙◌}
 use Rattle.std.specs.Option.{option_map}
 use Rattle.std.proofs.lemmas.Bool.{true≢false}
@@ -42,7 +42,7 @@ module _ (high e : Option ℤ) (s : OffsetSet) (same : AreOffsetsBut e (unmarked
       go (number z) h = (let b = same.back z h in (above lowest_integer z, b.2))
       go _ h = absurd h.0
 
--- ---- behind an extension mark
+-- ---- after an extension mark
 
 -- nothing is left out there
 pub none_out : (b : Range) (e : Option ℤ) → IsWithin b e → b.extensible ≡ true → e ≡ None
@@ -60,16 +60,16 @@ module _ (b : Range) (good : InProfile (integer b)) (mark : b.extensible ≡ tru
       there low high true e g = integers_compose (record { low = low; high = high; extensible = true }) g
       there low high false e g = absurd (cc)
 
-  -- no bit comes
+  -- no bit is left
   pub mark_stops : (us : List ℕ) (why : Stop) → StopsAtMark true us why → Stops per_fields (Spelt per None (integer b)) us why
   mark_stops us why h =
       let forks = fork_stops {Y = Unconstrained (λ z. IsOutside b z)} (spelt_inhabited per (integer (unmarked b.low b.high)) (root_of_profile b good)) us why h in
       stops_by why (leads_on (leads_map per_fields of_either (Fork (Spelt per None (integer (unmarked b.low b.high))) (Unconstrained (λ z. IsOutside b z))) us) (leads_same per_fields us marked)).stops forks
 
-  -- behind a 0
+  -- after a 0
   pub root_leads : (us after : List ℕ) → us ≡ 0 ∷ after → Leads per_fields (Spelt per None (integer (unmarked b.low b.high))) after (λ v. v) (Spelt per None (integer b)) us
   root_leads us after e = leads_on (leads_zero per_fields e) (leads_on (leads_map per_fields of_either (Fork (Spelt per None (integer (unmarked b.low b.high))) (Unconstrained (λ z. IsOutside b z))) us) (leads_same per_fields us marked))
 
-  -- behind a 1
+  -- after a 1
   pub outside_leads : (us after : List ℕ) → us ≡ 1 ∷ after → Leads per_fields (Unconstrained (λ z. IsOutside b z)) after (λ v. v) (Spelt per None (integer b)) us
   outside_leads us after e = leads_on (leads_one per_fields e) (leads_on (leads_map per_fields of_either (Fork (Spelt per None (integer (unmarked b.low b.high))) (Unconstrained (λ z. IsOutside b z))) us) (leads_same per_fields us marked))

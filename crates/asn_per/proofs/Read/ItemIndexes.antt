@@ -68,7 +68,7 @@ number_there [] p d x h e = absurd (omega arith)
 number_there (i ∷ is) zero d x h e = ap (λ (y : Item). y.number) (sym e)
 number_there (i ∷ is) (suc p) d x h e = number_there is p d x (omega arith) e
 
--- it is the one at its place
+-- it is the one at its position
 pub item_kept : (is : List Item) (p : ℕ) (d x : Item) → AreRootItems (map label_of is) → p < length is → x ≡ get_or is p d → to_z w64 (of_z w64 x.number) ≡ number_at (map label_of is) p
 item_kept is p d x good h e =
     let there = number_there is p d x h e in
@@ -77,7 +77,7 @@ item_kept is p d x good h e =
 
 -- ---- the item of an index
 
--- of the items from a place on one has the index, and its number lies between these two
+-- of the items from a position on one has the index, and its number lies between these two
 pub record IsSought (ls : List Label) (index from : ℕ) (above below : ℤ) : Type 0 where
   pub ahead : from ≤ position_of ls index
   pub over : int_lt above (number_at ls (position_of ls index)) ≡ true

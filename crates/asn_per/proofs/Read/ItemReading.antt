@@ -71,7 +71,7 @@ pub closed_some : (root : List Label) (p : Option ℕ) → InProfile (enumerated
     → Inhabited (Spelt per (option_map item p) (enumerated root closed_labels)) → Inhabited (RootItemsBut root p)
 closed_some root p good within i = same_inhabited (same_flip (enumerated_but_one root p good (root_place root p within))) i
 
--- ---- behind a mark
+-- ---- after a mark
 
 module _ (root more : List Label) where
   -- no item may be left out
@@ -79,7 +79,7 @@ module _ (root more : List Label) where
   no_item_left_out None h = refl
   no_item_left_out (Some q) h = absurd h
 
-  -- the items behind the mark are the values
+  -- the items after the mark are the values
   pub marked_leads : InProfile (enumerated root (marked_labels more)) → (us : List ℕ)
       → Leads per_fields (Items root (marked_labels more)) us (λ v. v) (Spelt per None (enumerated root (marked_labels more))) us
   marked_leads good us = leads_same per_fields us (same_after (items_compose root (marked_labels more) good) (none_left_out (enumerated root (marked_labels more))))
@@ -89,7 +89,7 @@ module _ (root more : List Label) where
   item_at (inl n) = item (position_of root n)
   item_at (inr k) = item (length root + k)
 
-  -- an index behind the mark is that of an item
+  -- an index after the mark is that of an item
   item_there : (i : ℕ ⊎ ℕ) (cs : List Chunk) → Branch 0 inl (Below (width (length root)) (length root)) i cs ⊎ Branch 1 inr (SmallBelow (length more)) i cs → Items root (marked_labels more) (item_at i) cs
   item_there i cs (inl b) = record {
     source = inl (item (position_of root b.value));

@@ -13,7 +13,7 @@ use Rattle.asn_bits.proofs.Unions.{set_meets}
 use Rattle.asn_rules.specs.Chunks.{Chunk, one, flat}
 use Rattle.asn_rules.specs.Languages.{Spells, Short, Lawful, Inhabited, Then, Map, Nothing, Row, Plain}
 use Rattle.asn_rules.specs.Forks.{Branch, Fork, Same}
-use Rattle.asn_rules.specs.General.{Length, fragment, behind_first, Few, Many, Left, Blocks, Header, General}
+use Rattle.asn_rules.specs.General.{Length, fragment, after_first, Few, Many, Left, Blocks, Header, General}
 use Rattle.asn_rules.specs.Stops.{Stops}
 use Rattle.asn_rules.specs.declared.stop.Stop.{Stop}
 use Rattle.asn_rules.specs.declared.stop.Stop.TheVariants as stop
@@ -42,7 +42,7 @@ use Rattle.asn_per.proofs.Encodings.PerFields.{per_fields_part}
 -- ---- one after the other, under views
 
 -- the first of two under another view
-then_view : {A B C : Type 0} (f : A → B) (K : A → List Chunk → Type 0) (M : B → C → List Chunk → Type 0) → Same (Map behind_first (Then K (λ a. M (f a)))) (Map behind_first (Then (Map f K) M))
+then_view : {A B C : Type 0} (f : A → B) (K : A → List Chunk → Type 0) (M : B → C → List Chunk → Type 0) → Same (Map after_first (Then K (λ a. M (f a)))) (Map after_first (Then (Map f K) M))
 then_view f K M = record {
   to = λ v cs h. record {
     source = (f h.source.0, h.source.1);
@@ -56,8 +56,8 @@ then_view f K M = record {
   };
 }
 
--- behind nothing
-then_nothing : {B C : Type 0} (b : B) (M : B → C → List Chunk → Type 0) → Same (M b) (Map behind_first (Then (Nothing b) M))
+-- after nothing
+then_nothing : {B C : Type 0} (b : B) (M : B → C → List Chunk → Type 0) → Same (M b) (Map after_first (Then (Nothing b) M))
 then_nothing b M = record {
   to = λ v cs h. record { source = (b, v); spelt = record { first = []; second = cs; spelt = record { same = refl; empty = refl }; follows = h; whole = refl }; seen = refl };
   from = λ v cs h.
@@ -65,11 +65,11 @@ then_nothing b M = record {
       subst (λ (l : List Chunk). M b v l) (sym e) (subst (λ w. M b w h.spelt.second) (sym h.seen) (subst (λ a. M a h.source.1 h.spelt.second) h.spelt.spelt.same h.spelt.follows));
 }
 
--- behind one of two forms
-then_either : {B C : Type 0} (X Y : B → List Chunk → Type 0) (M : B → C → List Chunk → Type 0) → Same (Map of_either (Fork (Map behind_first (Then X M)) (Map behind_first (Then Y M)))) (Map behind_first (Then (Map of_either (Fork X Y)) M))
+-- after one of two forms
+then_either : {B C : Type 0} (X Y : B → List Chunk → Type 0) (M : B → C → List Chunk → Type 0) → Same (Map of_either (Fork (Map after_first (Then X M)) (Map after_first (Then Y M)))) (Map after_first (Then (Map of_either (Fork X Y)) M))
 then_either {B} {C} X Y M = record { to = λ v cs h. there v cs h.source h.seen h.spelt.side; from = λ v cs h. back v cs h }
   where
-    there : (v : C) (cs : List Chunk) (w : C ⊎ C) → v ≡ of_either w → Branch 0 inl (Map behind_first (Then X M)) w cs ⊎ Branch 1 inr (Map behind_first (Then Y M)) w cs → Map behind_first (Then (Map of_either (Fork X Y)) M) v cs
+    there : (v : C) (cs : List Chunk) (w : C ⊎ C) → v ≡ of_either w → Branch 0 inl (Map after_first (Then X M)) w cs ⊎ Branch 1 inr (Map after_first (Then Y M)) w cs → Map after_first (Then (Map of_either (Fork X Y)) M) v cs
     there v cs w e (inl b) = record {
       source = b.spelt.source;
       spelt = record {
@@ -93,10 +93,10 @@ then_either {B} {C} X Y M = record { to = λ v cs h. there v cs h.source h.seen 
       seen = e ∙ ap of_either b.seen ∙ b.spelt.seen;
     }
 
-    back : (v : C) (cs : List Chunk) → Map behind_first (Then (Map of_either (Fork X Y)) M) v cs → Map of_either (Fork (Map behind_first (Then X M)) (Map behind_first (Then Y M))) v cs
+    back : (v : C) (cs : List Chunk) → Map after_first (Then (Map of_either (Fork X Y)) M) v cs → Map of_either (Fork (Map after_first (Then X M)) (Map after_first (Then Y M))) v cs
     back v cs h = go h.spelt.spelt.source h.spelt.spelt.seen h.spelt.spelt.spelt.side
       where
-        go : (w : B ⊎ B) → h.source.0 ≡ of_either w → Branch 0 inl X w h.spelt.first ⊎ Branch 1 inr Y w h.spelt.first → Map of_either (Fork (Map behind_first (Then X M)) (Map behind_first (Then Y M))) v cs
+        go : (w : B ⊎ B) → h.source.0 ≡ of_either w → Branch 0 inl X w h.spelt.first ⊎ Branch 1 inr Y w h.spelt.first → Map of_either (Fork (Map after_first (Then X M)) (Map after_first (Then Y M))) v cs
         go w e (inl b) = record {
           source = inl h.source.1;
           spelt = record {
@@ -187,7 +187,7 @@ others_back (suc low) (Some high) good n (inr (inr h)) = absurd h
 -- ---- a list under a size
 
 -- a list in the root
-root_ahead : {A : Type 0} (L : A → List Chunk → Type 0) (low : ℕ) (high : Option ℕ) → Same (Map behind_first (Then (RootStart low high) (λ a. Remaining L a))) (RootSized low high L)
+root_ahead : {A : Type 0} (L : A → List Chunk → Type 0) (low : ℕ) (high : Option ℕ) → Same (Map after_first (Then (RootStart low high) (λ a. Remaining L a))) (RootSized low high L)
 root_ahead L low (Some high) = same_flip (then_view items (CountWithin low high) (λ a. Remaining L a))
 root_ahead L low None = same_after (same_flip (then_nothing (lengths ((low, Some max_len) ∷ []) 0 false) (λ a. Remaining L a)))
     (same_after (starts_spanned L ((low, Some max_len) ∷ [])) (general_sets L there (λ n h. inl h)))
@@ -198,16 +198,16 @@ root_ahead L low None = same_after (same_flip (then_nothing (lengths ((low, Some
 
 -- a list outside the root
 other_ahead : {A : Type 0} (L : A → List Chunk → Type 0) (low : ℕ) (high : Option ℕ) → IsSizeOfProfile (record { low = low; high = high; extensible = true })
-    → Same (Map behind_first (Then (Nothing (lengths (other_counts low high) 0 false)) (λ a. Remaining L a))) (General L (IsOtherCount (record { low = low; high = high; extensible = true })))
+    → Same (Map after_first (Then (Nothing (lengths (other_counts low high) 0 false)) (λ a. Remaining L a))) (General L (IsOtherCount (record { low = low; high = high; extensible = true })))
 other_ahead L low high good = same_after (same_flip (then_nothing (lengths (other_counts low high) 0 false) (λ a. Remaining L a)))
     (same_after (starts_spanned L (other_counts low high)) (general_sets L (others_back low high good) (others_there low high good)))
 
 -- what stands in front of the items, and what is ahead from there
-pub sized_ahead : {A : Type 0} (L : A → List Chunk → Type 0) (s : SizeRange) → IsSizeOfProfile s → Same (Map behind_first (Then (Start s) (λ a. Remaining L a))) (Sized s L)
+pub sized_ahead : {A : Type 0} (L : A → List Chunk → Type 0) (s : SizeRange) → IsSizeOfProfile s → Same (Map after_first (Then (Start s) (λ a. Remaining L a))) (Sized s L)
 sized_ahead {A} L s good = go s.low s.high s.extensible good
   where
     go : (low : ℕ) (high : Option ℕ) (m : Bool) → IsSizeOfProfile (record { low = low; high = high; extensible = m })
-        → Same (Map behind_first (Then (Start (record { low = low; high = high; extensible = m })) (λ a. Remaining L a))) (Sized (record { low = low; high = high; extensible = m }) L)
+        → Same (Map after_first (Then (Start (record { low = low; high = high; extensible = m })) (λ a. Remaining L a))) (Sized (record { low = low; high = high; extensible = m }) L)
     go low high false good = root_ahead L low high
     go low high true good = same_after (same_flip (then_either (RootStart low high) (Nothing (lengths (other_counts low high) 0 false)) (λ a. Remaining L a)))
         (same_map (same_fork (root_ahead L low high) (other_ahead L low high good)))
@@ -231,7 +231,7 @@ root_or_other low None good a x h e =
     absurd (omega (arith, low_useful low good))
   where
     first_low : Ahead → ℕ
-    first_low (lengths (i ∷ is) come closed) = i.0
+    first_low (lengths (i ∷ is) so_far closed) = i.0
     first_low _ = 0
 
 -- a value of the one form
@@ -258,7 +258,7 @@ start_lawful s good = go s.low s.high s.extensible good
         once (inl a) (inr b) x y p q e = absurd (let r = zero_side p.side in root_or_other low high good a r.0 r.1 (e ∙ one_side q.side))
         once (inr a) (inl b) x y p q e = absurd (let r = zero_side q.side in root_or_other low high good b r.0 r.1 (sym e ∙ one_side p.side))
 
--- behind it some list is ahead
+-- after it some list is ahead
 pub start_some : (s : SizeRange) → IsSizeOfProfile s → (a : Ahead) (x : List Chunk) → Start s a x → SomeAhead a
 start_some s good a x h = go s.low s.high s.extensible good a x h
   where
@@ -282,16 +282,16 @@ start_some s good a x h = go s.low s.high s.extensible good a x h
 -- some list of values is spelt there
 ahead_inhabited : {A : Type 0} (L : A → List Chunk → Type 0) (a : Ahead) → Inhabited L → SomeAhead a → Inhabited (Remaining L a)
 ahead_inhabited L (items n) i h = row_inhabited i n
-ahead_inhabited L (lengths is come closed) i h = general_inhabited i h.0 h.1
+ahead_inhabited L (lengths is so_far closed) i h = general_inhabited i h.0 h.1
 ahead_inhabited L end i h = nothing_inhabited []
 
--- behind what stands in front there is some list
+-- after what stands in front there is some list
 start_follows : {A : Type 0} (L : A → List Chunk → Type 0) (s : SizeRange) → IsSizeOfProfile s → Inhabited L → Follows (Start s) (λ a. Remaining L a)
 start_follows L s good i = record { follow = λ a x h. ahead_inhabited L a i (start_some s good a x h) }
 
 -- ---- what a reader of what stands in front cites
 
--- no extension bit comes
+-- no extension bit is left
 mark_waits : (low : ℕ) (high : Option ℕ) (m : Bool) (us : List ℕ) → m ≡ true → us ≡ [] → Short per_fields (Start (record { low = low; high = high; extensible = m })) us
 mark_waits low high false us t e = absurd (cc)
 mark_waits low high true us t e = rw e (map_short (fork_short (fork_inhabited_one (nothing_inhabited (lengths (other_counts low high) 0 false)))))
@@ -339,25 +339,25 @@ root_leads low high above values us e f =
 
 -- ---- where a reader of a list stands
 
--- behind the items vs: a list of what is ahead, put behind them, is the whole list
+-- after the items vs: a list of what is ahead, put after them, is the whole list
 pub record Going {A : Type 0} (L : A → List Chunk → Type 0) (s : SizeRange) (us : List ℕ) (ahead : Ahead) (vs : List A) (rest : List ℕ) : Type 0 where
   pub leads : Leads per_fields (Remaining L ahead) rest (λ ws. vs ++ ws) (Sized s L) us
 
 -- in front of the items
 pub start_stops : {A : Type 0} (L : A → List Chunk → Type 0) (s : SizeRange) (us : List ℕ) → IsSizeOfProfile s → Inhabited L → LeadsStops per_fields (Start s) us (Sized s L) us
-start_stops L s us good i = stops_on (stops_on (stops_first per_fields us (start_follows L s good i)) (leads_map per_fields behind_first (Then (Start s) (λ a. Remaining L a)) us).stops) (leads_same per_fields us (sized_ahead L s good)).stops
+start_stops L s us good i = stops_on (stops_on (stops_first per_fields us (start_follows L s good i)) (leads_map per_fields after_first (Then (Start s) (λ a. Remaining L a)) us).stops) (leads_same per_fields us (sized_ahead L s good)).stops
 
--- behind what stands there
+-- after what stands there
 pub going_starts : {A : Type 0} (L : A → List Chunk → Type 0) (s : SizeRange) {ahead : Ahead} {us rest : List ℕ} → IsSizeOfProfile s → Spells per_fields (Start s) ahead us rest → Going L s us ahead [] rest
 going_starts {A} L s {ahead} {us} good h = record {
   leads =
-      leads_on (leads_on (leads_second {M = λ a. Remaining L a} per_fields_part (start_lawful s good) h) (leads_map per_fields behind_first (Then (Start s) (λ a. Remaining L a)) us)) (leads_same per_fields us (sized_ahead L s good));
+      leads_on (leads_on (leads_second {M = λ a. Remaining L a} per_fields_part (start_lawful s good) h) (leads_map per_fields after_first (Then (Start s) (λ a. Remaining L a)) us)) (leads_same per_fields us (sized_ahead L s good));
 }
 
 -- the reader of a length stops
 pub going_stops : {A : Type 0} {L : A → List Chunk → Type 0} {s : SizeRange} {us rest : List ℕ} {ahead : Ahead} {vs : List A} (why : Stop) → Inhabited L → StopsNext per_fields ahead rest why → Going L s us ahead vs rest → Stops per_fields (Sized s L) us why
 going_stops {A} {L} {s} {us} {rest} {ahead} {vs} why i h g =
-    let l : Leads per_fields (General L (At (Spanned h.counts) h.come h.closed)) rest (λ ws. vs ++ ws) (Sized s L) us = subst (λ a. Leads per_fields (Remaining L a) rest (λ ws. vs ++ ws) (Sized s L) us) h.was g.leads in
+    let l : Leads per_fields (General L (At (Spanned h.counts) h.so_far h.closed)) rest (λ ws. vs ++ ws) (Sized s L) us = subst (λ a. Leads per_fields (Remaining L a) rest (λ ws. vs ++ ws) (Sized s L) us) h.was g.leads in
     stops_by why (stops_on (stops_length rest i) l.stops) h.stops
 
 -- nothing is ahead
@@ -367,7 +367,7 @@ going_ends {A} {L} {s} {us} {rest} {r} {ahead} {new} {vs} h g = go ahead h.advan
     go : (a : Ahead) → Advances per_fields a None new rest r → Leads per_fields (Remaining L a) rest (λ ws. vs ++ ws) (Sized s L) us → Spells per_fields (Sized s L) vs us r
     go end e l = rw e (subst (λ ws. Spells per_fields (Sized s L) ws us rest) (append-nil vs) (l.done [] rest (nothing_spells per_fields [] rest)))
     go (items n) e l = absurd e
-    go (lengths is come closed) e l = absurd e
+    go (lengths is so_far closed) e l = absurd e
 
 -- the items that follow stop
 pub going_row_stops : {A : Type 0} {L : A → List Chunk → Type 0} {s : SizeRange} {us rest r : List ℕ} {ahead new : Ahead} {vs : List A} {k : ℕ} → Inhabited L → Next per_fields ahead (Some k) new rest r → Going L s us ahead vs rest → LeadsStops per_fields (Row L k) r (Sized s L) us
@@ -376,26 +376,26 @@ going_row_stops {A} {L} {s} {us} {rest} {r} {ahead} {new} {vs} {k} i h g = go ah
     go : (a : Ahead) → Advances per_fields a (Some k) new rest r → Leads per_fields (Remaining L a) rest (λ ws. vs ++ ws) (Sized s L) us → LeadsStops per_fields (Row L k) r (Sized s L) us
     go end e l = absurd e
     go (items n) e l = rw (e.0, e.2) l.stops
-    go (lengths is come closed) e l = ⊎_elim
+    go (lengths is so_far closed) e l = ⊎_elim
         (λ x. stops_on (leads_last L per_fields_part i x.0).stops l.stops)
-        (λ x. stops_on (subst (λ (n : ℕ). LeadsStops per_fields (Row L n) r (General L (At (Spanned is) come closed)) rest) (sym x.2) (stops_fragment L per_fields_part i x.1)) l.stops)
+        (λ x. stops_on (subst (λ (n : ℕ). LeadsStops per_fields (Row L n) r (General L (At (Spanned is) so_far closed)) rest) (sym x.2) (stops_fragment L per_fields_part i x.1)) l.stops)
         e.read
 
--- what is left behind a fragment
-left_ahead : {A : Type 0} (L : A → List Chunk → Type 0) (is : List (ℕ × Option ℕ)) (come k m : ℕ) (closed : Bool) {us r : List ℕ} → Spells per_fields (Header (At (Spanned is) come closed)) (fragment m) us r → k ≡ 16384 * m
-    → Same (General L (Left (At (Spanned is) come closed) m)) (Remaining L (lengths is (come + k) (nat_lt m 4)))
-left_ahead L is come k m false h e = rw e (general_left L (Spanned is) come m)
-left_ahead L is come k m true h e =
-    let b : Blocks (At (Spanned is) come true) m = header_tells h.spelt in
+-- what is left after a fragment
+left_ahead : {A : Type 0} (L : A → List Chunk → Type 0) (is : List (ℕ × Option ℕ)) (so_far k m : ℕ) (closed : Bool) {us r : List ℕ} → Spells per_fields (Header (At (Spanned is) so_far closed)) (fragment m) us r → k ≡ 16384 * m
+    → Same (General L (Left (At (Spanned is) so_far closed) m)) (Remaining L (lengths is (so_far + k) (nat_lt m 4)))
+left_ahead L is so_far k m false h e = rw e (general_left L (Spanned is) so_far m)
+left_ahead L is so_far k m true h e =
+    let b : Blocks (At (Spanned is) so_far true) m = header_tells h.spelt in
     let f : 16384 * m + b.rest < 16384 = b.left.member.largest refl in
     absurd (omega (arith, b.some))
 
--- they have come
+-- they have been read
 pub going_further : {A : Type 0} {L : A → List Chunk → Type 0} {s : SizeRange} {us rest r t : List ℕ} {ahead new : Ahead} {vs ws : List A} {k : ℕ} → Inhabited L → Lawful L → Next per_fields ahead (Some k) new rest r → Appends L k vs ws r t → Going L s us ahead vs rest → Going L s us new ws t
 going_further {A} {L} {s} {us} {rest} {r} {t} {ahead} {new} {vs} {ws} {k} i law h f g = record { leads = go ahead h.advances g.leads }
   where
-    behind : List A → List A
-    behind xs = vs ++ (f.row ++ xs)
+    put_after : List A → List A
+    put_after xs = vs ++ (f.row ++ xs)
 
     moved : (a : Ahead) → Leads per_fields (Remaining L a) t (λ xs. vs ++ (f.row ++ xs)) (Sized s L) us → Leads per_fields (Remaining L a) t (λ xs. ws ++ xs) (Sized s L) us
     moved a l = record { done = λ b q x. rw (f.same, append_assoc vs f.row b) (l.done b q x); stops = l.stops }
@@ -412,13 +412,13 @@ going_further {A} {L} {s} {us} {rest} {r} {t} {ahead} {new} {vs} {ws} {k} i law 
     go : (a : Ahead) → Advances per_fields a (Some k) new rest r → Leads per_fields (Remaining L a) rest (λ xs. vs ++ xs) (Sized s L) us → Leads per_fields (Remaining L new) t (λ xs. ws ++ xs) (Sized s L) us
     go end e l = absurd e
     go (items n) e l = ended (rw (e.0, e.2) l) e.1
-    go (lengths is come closed) e l = ⊎_elim
+    go (lengths is so_far closed) e l = ⊎_elim
         (λ x. ended (leads_on (leads_last L per_fields_part i x.0) l) x.1)
         (λ x. (let b : Spells per_fields (Row L (16384 * x.0)) f.row r t = subst (λ (n : ℕ). Spells per_fields (Row L n) f.row r t) x.2 f.spelt in
-        rw x.3 (moved (lengths is (come + k) (nat_lt x.0 4)) (leads_on (leads_on (leads_same per_fields t (same_flip (left_ahead L is come k x.0 closed x.1 x.2))) (leads_rest L per_fields_part i law x.1 b)) l))))
+        rw x.3 (moved (lengths is (so_far + k) (nat_lt x.0 4)) (leads_on (leads_on (leads_same per_fields t (same_flip (left_ahead L is so_far k x.0 closed x.1 x.2))) (leads_rest L per_fields_part i law x.1 b)) l))))
         e.read
 
--- ---- a list that comes in one row: its count stands in front of it, and no length
+-- ---- a list that is one row: its count stands in front of it, and no length
 
 module _ {A : Type 0} {L : A → List Chunk → Type 0} {s : SizeRange} {us rest : List ℕ} {n : ℕ} (good : IsSizeOfProfile s) (i : Inhabited L) (h : Spells per_fields (Start s) (items n) us rest) where
   all_next : Next per_fields (items n) (Some n) end rest rest
@@ -439,20 +439,20 @@ abbrev pub steps_left : Ahead → ℕ
 steps_left end = 0
 steps_left _ = 1
 
--- what is left behind a spelling is not longer
+-- what is left after a spelling is not longer
 spells_shorter : {A : Type 0} {L : A → List Chunk → Type 0} {v : A} {us r : List ℕ} → Spells per_fields L v us r → length r ≤ length us
 spells_shorter {r = r} h = omega (arith, ap length h.split ∙ length-append (flat spelled h.chunks) r)
 
--- and behind a length it is shorter
+-- and after a length it is shorter
 header_shorter : {S : ℕ → Type 0} {l : Length} {us r : List ℕ} → Spells per_fields (Header S) l us r → length r < length us
 header_shorter {S} {l} {us} {r} h = go h.spelt.source h.spelt.spelt.side
   where
-    behind : (u : ℕ) (rest : List Chunk) → h.chunks ≡ one u ∷ rest → length r < length us
-    behind u rest e = (let d = ap length h.split ∙ ap (λ c. length (flat spelled c ++ r)) e ∙ length-append (flat spelled (one u ∷ rest)) r in omega (arith, d))
+    shorter : (u : ℕ) (rest : List Chunk) → h.chunks ≡ one u ∷ rest → length r < length us
+    shorter u rest e = (let d = ap length h.split ∙ ap (λ c. length (flat spelled c ++ r)) e ∙ length-append (flat spelled (one u ∷ rest)) r in omega (arith, d))
 
     go : (w : ℕ ⊎ (ℕ ⊎ ℕ)) → Branch {A = ℕ} {V = ℕ ⊎ (ℕ ⊎ ℕ)} 0 inl (Plain (InSet 7 (Few S))) w h.chunks ⊎ Branch {A = ℕ ⊎ ℕ} {V = ℕ ⊎ (ℕ ⊎ ℕ)} 1 inr (Fork (Plain (InSet 14 (Many S))) (Plain (InSet 6 (Blocks S)))) w h.chunks → length r < length us
-    go w (inl b) = behind 0 b.rest b.same
-    go w (inr b) = behind 1 b.rest b.same
+    go w (inl b) = shorter 0 b.rest b.same
+    go w (inr b) = shorter 1 b.rest b.same
 
 -- one step
 pub going_nearer : {A : Type 0} {L : A → List Chunk → Type 0} {rest r t : List ℕ} {ahead new : Ahead} {vs ws : List A} {k : ℕ} → Next per_fields ahead (Some k) new rest r → Appends L k vs ws r t → steps_left new + length t < steps_left ahead + length rest
@@ -461,9 +461,9 @@ going_nearer {rest = rest} {r} {t} {ahead} {new} {k = k} h f = go ahead h.advanc
     at_most : (a : Ahead) → steps_left a ≤ 1
     at_most end = omega arith
     at_most (items n) = omega arith
-    at_most (lengths is come closed) = omega arith
+    at_most (lengths is so_far closed) = omega arith
 
     go : (a : Ahead) → Advances per_fields a (Some k) new rest r → steps_left new + length t < steps_left a + length rest
     go end e = absurd e
     go (items n) e = (let none : steps_left new ≡ 0 = ap steps_left e.1 in let same : length r ≡ length rest = ap length e.2 in omega (arith, spells_shorter f.spelt))
-    go (lengths is come closed) e = ⊎_elim (λ x. omega (arith, at_most new, spells_shorter f.spelt, header_shorter x.0)) (λ x. omega (arith, at_most new, spells_shorter f.spelt, header_shorter x.1)) e.read
+    go (lengths is so_far closed) e = ⊎_elim (λ x. omega (arith, at_most new, spells_shorter f.spelt, header_shorter x.0)) (λ x. omega (arith, at_most new, spells_shorter f.spelt, header_shorter x.1)) e.read

@@ -1,4 +1,4 @@
--- An open field is read as octets under their general length, of which there is at least one; when all have come,
+-- An open field is read as octets under their general length, of which there is at least one; when all are read,
 -- they are read as a complete encoding, and one that they are not is refused at the last unit of the field.
 use Rattle.std.proofs.Common.{◌≡◌, ◌≢◌, ℕ, List, [], ◌∷◌, length, refl, None, false}
 use Rattle.asn_values.specs.Datum.{Datum}
@@ -58,7 +58,7 @@ module _ (t : Shape) (good : InProfile t) where
   unfolding per_ruling
   value_held {v} {os} h w e = field_spells some_octets h (holds_whole per_ruling per_tells t good os v (content_of h) (rw e at w))
 
-  -- units stand behind the value
+  -- units stand after the value
   pub more_held : {v : Datum} {os us r rest : List ℕ} → Spells per_fields SomeOctets os us r → Spells per_fields (Wholes per_ruling t) v (unpacked os) rest → rest ≢ [] → Refused per_fields (OpenValues t) us (length r)
   unfolding per_ruling
   more_held {v} {os} {rest = []} h w n = absurd (n refl)

@@ -12,7 +12,7 @@ use Rattle.asn_bits.proofs.Widths.{lt-two_pow}
 use Rattle.asn_rules.specs.Chunks.{Chunk, ones}
 use Rattle.asn_rules.specs.Components.{extension_bit}
 use Rattle.asn_rules.specs.Forks.{Fork, Same}
-use Rattle.asn_rules.specs.General.{behind_first}
+use Rattle.asn_rules.specs.General.{after_first}
 use Rattle.asn_rules.specs.Languages.{Spells, Refused, Inhabited, Then, Map, Plain}
 use Rattle.asn_rules.specs.Spellings.{SpelledBy, FitsEither, either_code}
 use Rattle.asn_rules.specs.Stops.{Stops}
@@ -54,7 +54,7 @@ module _ (n high : ℕ) (all : high + 1 ≡ 2 ^ n) where
   pub some_bitmap : Meets (λ m. Admits (up_to high None) m) 0 n
   some_bitmap = set_meets 2 n 0 (omega arith, omega arith, tt) (pow_pos n)
 
-  -- they are the numbers of so many bits
+  -- they are the numbers of that many bits
   abbrev Numbered : ℕ → List Chunk → Type 0
   Numbered = SpelledBy (λ m. m < 2 ^ n) (λ m. ones (bits n m))
 
@@ -74,7 +74,7 @@ module _ (n high : ℕ) (all : high + 1 ≡ 2 ^ n) where
   unmarked_leads us = leads_on (leads_same per_fields us bitmaps_spelled) (leads_on (leads_map per_fields (λ m. (false, m)) Numbered us) (leads_same per_fields us unmarked))
 
   module _ (k : ℕ) where
-    -- with one, behind a 1 only where there are additions
+    -- with one, after a 1 only where there are additions
     abbrev Extended : ℕ → List Chunk → Type 0
     Extended = SpelledBy (λ m. (m < 2 ^ n) × CanExtend (Some k)) (λ m. ones (bits n m))
 
@@ -115,13 +115,13 @@ module _ (n high : ℕ) (all : high + 1 ≡ 2 ^ n) where
     mark_stops us (stop.Refused left why) h = rw (h.3, h.2) (record { told = bit_refused (none_listed k h.0) h.1 })
     mark_stops us stop.Memory h = absurd h
 
-    -- behind it stand the presence bits
+    -- after it stand the presence bits
     pub marked_leads : (b : Bool) (us after : List ℕ) → us ≡ bit_of b ∷ after → (b ≡ true → CanExtend (Some k)) → Leads per_fields Bitmaps after (λ m. (b, m)) (PreambleOf per_coding n (Some k)) us
     marked_leads false us after e some = leads_on (leads_same per_fields after bitmaps_spelled) (leads_on (leads_zero per_fields e) (whole us))
     marked_leads true us after e some =
         leads_on (leads_same per_fields after (same_after bitmaps_spelled (same_spelled (λ m h. (h, some refl)) (λ m h. h.0) (λ m h. refl)))) (leads_on (leads_one per_fields e) (whole us))
 
--- ---- the presence bits of the additions, behind their count
+-- ---- the presence bits of the additions, after their count
 
 -- the bitmaps that are not all 0
 abbrev pub not_zero : ℕ → NumberSet
@@ -136,7 +136,7 @@ module _ (n last : ℕ) (some : 0 < n) (few : n ≤ 64) (is : last + 1 ≡ n) wh
   same_count = same_set 2 7 (λ k h. omega (arith, h.0, h.1, is)) (λ k h. (omega (arith, h, is), omega (arith, h, is), tt))
 
   -- it, and presence bits
-  additions_spelled : Same (Map behind_first (Then (AdditionCount n) (λ _. SomePresent n))) (AdditionBitmapOf per_coding n)
+  additions_spelled : Same (Map after_first (Then (AdditionCount n) (λ _. SomePresent n))) (AdditionBitmapOf per_coding n)
   unfolding per_coding
   additions_spelled =
       same_after (same_map (same_after (same_then (set_spelled 7 (λ k. k + 1 ≡ n) (λ k h. omega (arith, h, few))) (λ _. set_spelled n (λ m. (0 < m) × (m < 2 ^ n)) (λ m h. h.1))) then_spelled)) (map_spelled there back)
@@ -154,8 +154,8 @@ module _ (n last : ℕ) (some : 0 < n) (few : n ≤ 64) (is : last + 1 ≡ n) wh
   two : 1 < 2 ^ n
   two = omega (arith, some, lt-two_pow n)
 
-  whole_bitmap : (us : List ℕ) → Leads per_fields (Then (AdditionCount n) (λ _. SomePresent n)) us behind_first (AdditionBitmapOf per_coding n) us
-  whole_bitmap us = leads_on (leads_map per_fields behind_first (Then (AdditionCount n) (λ _. SomePresent n)) us) (leads_same per_fields us additions_spelled)
+  whole_bitmap : (us : List ℕ) → Leads per_fields (Then (AdditionCount n) (λ _. SomePresent n)) us after_first (AdditionBitmapOf per_coding n) us
+  whole_bitmap us = leads_on (leads_map per_fields after_first (Then (AdditionCount n) (λ _. SomePresent n)) us) (leads_same per_fields us additions_spelled)
 
   -- within the count
   pub count_stops : (us : List ℕ) → LeadsStops per_fields Counts us (AdditionBitmapOf per_coding n) us
@@ -174,7 +174,7 @@ module _ (n last : ℕ) (some : 0 < n) (few : n ≤ 64) (is : last + 1 ≡ n) wh
     pub some_present : Meets (λ m. Admits (not_zero high) m) 0 n
     some_present = set_meets 2 n 1 (omega arith, omega (arith, two, all), λ e. omega (arith, e)) two
 
-    -- behind the count
+    -- after the count
     pub bitmap_leads : (k : ℕ) (us r : List ℕ) → Spells per_fields Counts k us r → Leads per_fields Presences r (λ m. m) (AdditionBitmapOf per_coding n) us
     bitmap_leads k us r h =
         leads_on (leads_same per_fields r same_presences) (leads_on (leads_second {M = λ _. SomePresent n} per_fields_part (set_lawful 2 7 (λ k. k + 1 ≡ n)) (same_spells same_count h)) (whole_bitmap us))

@@ -90,9 +90,9 @@ next_bit i n word b {old} {mid} {new} l e s h r =
     subst (λ k. Appends Bit (i + 1) old new (bits n word ++ r) (bits k word ++ r)) (sym after)
     (appends_more i 1 (i + 1) refl (h r) (subst (λ us. Appends Bit 1 mid new us (bits j word ++ r)) (sym here) (appends_one s (bit_front b (bits j word ++ r)))))
 
--- how many bits stand behind a number
-pub behind_word : (k word : ℕ) (us r : List ℕ) → us ≡ bits k word ++ r → length us ≡ k + length r
-behind_word k word us r e = ap length e ∙ length-append (bits k word) r ∙ ap (λ (n : ℕ). n + length r) (length-digits 2 k word)
+-- how many bits stand after a number
+pub after_word : (k word : ℕ) (us r : List ℕ) → us ≡ bits k word ++ r → length us ≡ k + length r
+after_word k word us r e = ap length e ∙ length-append (bits k word) r ∙ ap (λ (n : ℕ). n + length r) (length-digits 2 k word)
 
 -- ---- characters
 
@@ -106,7 +106,7 @@ character_codes numeric = same_map (same_set 2 4 (λ c h. omega (arith, h.1)) (�
 pub character_leads : (k : Alphabet) (us : List ℕ) → Leads per_fields (Plain (InSet (code_width k) (λ m. Admits (codes_of k) m))) us (character_at k) (Character k) us
 character_leads k us = leads_on (leads_map per_fields (character_at k) (Plain (InSet (code_width k) (λ m. Admits (codes_of k) m))) us) (leads_same per_fields us (character_codes k))
 
--- a code has so many bits
+-- a code has that many bits
 code_fits : (k : Alphabet) (c : ℕ) → Admits (codes_of k) c → c < 2 ^ code_width k
 code_fits ia5 c h = omega (arith, h.1)
 code_fits visible c h = omega (arith, h.1)

@@ -1,4 +1,4 @@
--- A UTF8String is read as octets under their general length, which are judged when all have come.
+-- A UTF8String is read as octets under their general length, which are judged when all have been read.
 use Rattle.std.proofs.Common.{ℕ, List, [], length, IsUtf8, refl, None, false, subst, sym, arith}
 use Rattle.asn_rules.specs.Chunks.{Chunk, utf8_field}
 use Rattle.asn_rules.specs.Fields.{Octet}

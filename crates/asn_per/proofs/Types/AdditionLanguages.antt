@@ -14,7 +14,7 @@ use Rattle.asn_rules.specs.Chunks.{Chunk, ones}
 use Rattle.asn_rules.specs.Components.{presence, if_spelled, any_present}
 use Rattle.asn_rules.specs.Languages.{Then, Map}
 use Rattle.asn_bits.specs.Sets.{AreDigits, weighted}
-use Rattle.asn_rules.specs.General.{behind_first}
+use Rattle.asn_rules.specs.General.{after_first}
 use Rattle.asn_rules.specs.Forks.{Same}
 use Rattle.asn_rules.specs.Spellings.{SpelledBy}
 use Rattle.asn_rules.proofs.Chunks.{ones-append}
@@ -146,8 +146,8 @@ module _ (fs : Fields) (good : AreOfProfile fs) (o : AreOptional fs) where
       let w = bits_only n b (presence (demands fs) es) (record { digits = presence_bits (demands fs) es; count = presence_length fs es o h.0; sum = refl }) in
       (b, (some_above_zero fs es o h.0 h.1, w.0), (h.0, w.1))
 
-  -- presence bits, and the open fields behind them
-  bits_spelled : Same (Map behind_first (Then (SomePresent (length (demands fs))) (λ b. OpenListed fs (bits (length (demands fs)) b)))) (SpelledBy (FitSome fs) (λ es. ones (presence (demands fs) es) ++ per_open fs es))
+  -- presence bits, and the open fields after them
+  bits_spelled : Same (Map after_first (Then (SomePresent (length (demands fs))) (λ b. OpenListed fs (bits (length (demands fs)) b)))) (SpelledBy (FitSome fs) (λ es. ones (presence (demands fs) es) ++ per_open fs es))
   bits_spelled =
       same_after (same_map (same_after (same_then (set_spelled n (λ b. (0 < b) × (b < 2 ^ n)) (λ b h. h.1)) (λ b. open_listed_spelled fs (bits n b) good o (digits_bits n b) (length-digits 2 n b))) then_spelled)) (map_spelled there back)
     where

@@ -15,7 +15,7 @@ use Rattle.asn_per.specs.Kinds.{Values, Below, truth_of, Bit, Booleans, Nulls}
 
 -- ---- numbers below a count
 
--- in the fewest bits that tell so many apart
+-- in the fewest bits that tell that many values apart
 pub below_spelled : (values : ℕ) → Same (Below (width values) values) (SpelledBy (λ n. n < values) (λ n. ones (bits (width values) n)))
 below_spelled values = set_spelled (width values) (λ n. n < values) (λ n h. width_fits values n h)
 

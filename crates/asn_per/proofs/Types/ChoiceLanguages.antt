@@ -45,7 +45,7 @@ abbrev IsOfRoot : Alternatives → Datum → Type 0
 IsOfRoot root (alternative i v) = (i < count root) × FitsAlternative root i v
 IsOfRoot root _ = ⊥
 
--- their spelling behind the extension bit
+-- their spelling after the extension bit
 abbrev root_code : Alternatives → Datum → List Chunk
 root_code root (alternative i v) = ones (constrained (count root) i) ++ per_alternative root i v
 root_code root _ = []
@@ -60,12 +60,12 @@ root_spelled root = same_after (same_map (same_after (same_then (below_spelled (
 
 -- ---- the additions
 
--- the alternatives behind the mark
+-- the alternatives after the mark
 abbrev IsAdded : Alternatives → Alternatives → Datum → Type 0
 IsAdded root more (alternative i v) = (count root ≤ i) × (i - count root < count more) × FitsAlternative more (i - count root) v
 IsAdded root more _ = ⊥
 
--- their spelling behind the extension bit
+-- their spelling after the extension bit
 abbrev added_code : Alternatives → Alternatives → Datum → List Chunk
 added_code root more (alternative i v) = ones (small (i - count root)) ++ an_open_field (per_alternative more (i - count root) v)
 added_code root more _ = []
@@ -86,7 +86,7 @@ added_spelled root more few good = same_after (same_map (same_after (same_then (
 
 -- ---- both
 
--- an alternative has a place below their count
+-- an alternative has an index below their count
 place_inside : (alts : Alternatives) (i : ℕ) (v : Datum) → FitsAlternative alts i v → i < count alts
 place_inside no_alternatives i v h = absurd h
 place_inside (one_of name t alts) zero v h = omega arith

@@ -1,4 +1,4 @@
--- ENUMERATED in PER is put together from its parts: the indexes of the root, and those of the additions behind an
+-- ENUMERATED in PER is put together from its parts: the indexes of the root, and those of the additions after an
 -- extension mark.
 use Rattle.std.proofs.Common.{◌≡◌, ◌≤◌, ◌<◌, ◌+◌, ◌-◌, ◌⊎◌, inl, inr, ℕ, Bool, true, false, List, [], length, nat_lt, refl, sym, ap, arith}
 use Rattle.std.proofs.lemmas.Bool.{ltb-true, ltb-false, lt-ltb, le-ltb}
@@ -29,7 +29,7 @@ abbrev IsRootItem : List Label → Datum → Type 0
 IsRootItem root (item p) = p < length root
 IsRootItem root _ = ⊥
 
--- their spelling behind the extension bit
+-- their spelling after the extension bit
 abbrev root_code : List Label → Datum → List Chunk
 root_code root (item p) = ones (constrained (length root) (rank root (number_at root p)))
 root_code root _ = []
@@ -47,12 +47,12 @@ root_spelled root once = same_after (same_map (below_spelled (length root))) (ma
 
 -- ---- the additions
 
--- the items behind the mark
+-- the items after the mark
 abbrev IsAddedItem : List Label → List Label → Datum → Type 0
 IsAddedItem root more (item p) = (length root ≤ p) × (p < length root + length more)
 IsAddedItem root more _ = ⊥
 
--- their spelling behind the extension bit
+-- their spelling after the extension bit
 abbrev added_code : List Label → Datum → List Chunk
 added_code root (item p) = ones (small (p - length root))
 added_code root _ = []

@@ -56,7 +56,7 @@ number_below_high low high z f = le_of_test z high (and_right (int_le low z) _ f
     and_right true b e = e
     and_right false b e = absurd (cc)
 
--- how far it lies above the low bound has so many bits
+-- the offset from the low bound has that many bits
 pub above_fits : (low high z : ℤ) → FitsNumber (ranging low (Some high)) z → above low z < 2 ^ width (suc (above low high))
 above_fits low high z f =
     let within = above_within low high z (number_above_low low (Some high) z f) (number_below_high low high z f) in

@@ -68,7 +68,7 @@ module _ (root : List Label) (once : has_twice int_eq (numbers root) ≡ false) 
       (rank root (number_at root q), (rank_inside root q l, λ e. absurd (true≢false (sym (eq-eqb p q (sym (place_back root once p inside) ∙ ap (position_of root) (sym e) ∙ place_back root once q l)) ∙ h.1))), ap item (sym (place_back root once q l)))
   item_back p inside _ h = absurd h.0
 
-  -- an index has so many bits
+  -- an index has that many bits
   index_fits : (p : Option ℕ) (n : ℕ) → IndexesBut root p n → n < 2 ^ width (length root)
   index_fits None n h = width_fits (length root) n h
   index_fits (Some p) n h = width_fits (length root) n h.0

@@ -53,21 +53,21 @@ module _ (root fs : Fields) where
   marked_code es gs = (ones (bit_of (any_present gs) ∷ presence (demands root) es) ++ per_each root es) ++ additions (demands fs) gs (per_open fs gs)
 
   -- the entries of the root are the first ones
-  ours : (es gs : List (Option Datum)) → FitsEach root es → take (length (demands root)) (component_list (components_of (es ++ gs))) ≡ es
-  ours es gs h = ap (take (length (demands root))) (component_list-of (es ++ gs)) ∙ ap (λ (k : ℕ). take k (es ++ gs)) (sym (each_length root es h)) ∙ take-append_seam es gs
+  root_back : (es gs : List (Option Datum)) → FitsEach root es → take (length (demands root)) (component_list (components_of (es ++ gs))) ≡ es
+  root_back es gs h = ap (take (length (demands root))) (component_list-of (es ++ gs)) ∙ ap (λ (k : ℕ). take k (es ++ gs)) (sym (each_length root es h)) ∙ take-append_seam es gs
 
   -- and those of the additions the others
-  theirs : (es gs : List (Option Datum)) → FitsEach root es → drop (length (demands root)) (component_list (components_of (es ++ gs))) ≡ gs
-  theirs es gs h = ap (drop (length (demands root))) (component_list-of (es ++ gs)) ∙ ap (λ (k : ℕ). drop k (es ++ gs)) (sym (each_length root es h)) ∙ drop-append_seam es gs
+  added_back : (es gs : List (Option Datum)) → FitsEach root es → drop (length (demands root)) (component_list (components_of (es ++ gs))) ≡ gs
+  added_back es gs h = ap (drop (length (demands root))) (component_list-of (es ++ gs)) ∙ ap (λ (k : ℕ). drop k (es ++ gs)) (sym (each_length root es h)) ∙ drop-append_seam es gs
 
   -- entries of both are a value
   marked_fits : (es gs : List (Option Datum)) → FitsEach root es → FitsEach fs gs → Fits (sequence root (marked fs)) (components (components_of (es ++ gs)))
-  marked_fits es gs h g = (subst (FitsEach root) (sym (ours es gs h)) h, subst (FitsEach fs) (sym (theirs es gs h)) g)
+  marked_fits es gs h g = (subst (FitsEach root) (sym (root_back es gs h)) h, subst (FitsEach fs) (sym (added_back es gs h)) g)
 
   -- and its spelling is theirs
   marked_is : (es gs : List (Option Datum)) → FitsEach root es → per (sequence root (marked fs)) (components (components_of (es ++ gs))) ≡ marked_code es gs
   marked_is es gs h =
-      ap (λ (l : List (Option Datum)). marked_code l (drop (length (demands root)) (component_list (components_of (es ++ gs))))) (ours es gs h) ∙ ap (λ (l : List (Option Datum)). marked_code es l) (theirs es gs h)
+      ap (λ (l : List (Option Datum)). marked_code l (drop (length (demands root)) (component_list (components_of (es ++ gs))))) (root_back es gs h) ∙ ap (λ (l : List (Option Datum)). marked_code es l) (added_back es gs h)
 
   -- of the SEQUENCE of the root all entries are of the root
   closed_all : (es : List (Option Datum)) → FitsMore closed (drop (length (demands root)) es) → take (length (demands root)) es ≡ es
@@ -81,7 +81,7 @@ module _ (root fs : Fields) where
   closed_entries : (es : List (Option Datum)) → FitsEach root (take (length (demands root)) es) → FitsMore closed (drop (length (demands root)) es) → FitsEach root es
   closed_entries es h g = subst (FitsEach root) (closed_all es g) h
 
-  -- and are spelt one after the other behind their presence bits
+  -- and are spelt one after the other, following their presence bits
   closed_is : (cs : Components) → FitsMore closed (drop (length (demands root)) (component_list cs)) → per (sequence root closed) (components cs) ≡ front (component_list cs)
   closed_is cs h = ap closed_code (closed_all (component_list cs) h) ∙ append-nil (front (component_list cs))
 
@@ -89,28 +89,28 @@ module _ (root fs : Fields) where
   closed_fits : (es : List (Option Datum)) → FitsEach root es → Fits (sequence root closed) (components (components_of es))
   closed_fits es h =
       let all : es ++ [] ≡ es = append-nil es in (
-        subst (λ (l : List (Option Datum)). FitsEach root (take (length (demands root)) (component_list (components_of l)))) all (subst (FitsEach root) (sym (ours es [] h)) h),
-        subst (λ (l : List (Option Datum)). FitsMore closed (drop (length (demands root)) (component_list (components_of l)))) all (subst (FitsMore closed) (sym (theirs es [] h)) tt),
+        subst (λ (l : List (Option Datum)). FitsEach root (take (length (demands root)) (component_list (components_of l)))) all (subst (FitsEach root) (sym (root_back es [] h)) h),
+        subst (λ (l : List (Option Datum)). FitsMore closed (drop (length (demands root)) (component_list (components_of l)))) all (subst (FitsMore closed) (sym (added_back es [] h)) tt),
       )
 
-  -- ---- behind the extension bit
+  -- ---- after the extension bit
 
-  -- what stands behind the extension bit
-  abbrev behind : Datum → List Chunk
-  behind v = drop 1 (per (sequence root (marked fs)) v)
+  -- what stands after the extension bit
+  abbrev after : Datum → List Chunk
+  after v = drop 1 (per (sequence root (marked fs)) v)
 
   -- the values with the extension bit
   abbrev HasBit : ℕ → Datum → Type 0
-  HasBit b v = Fits (sequence root (marked fs)) v × (per (sequence root (marked fs)) v ≡ one b ∷ behind v)
+  HasBit b v = Fits (sequence root (marked fs)) v × (per (sequence root (marked fs)) v ≡ one b ∷ after v)
 
-  -- a spelling that begins with the bit goes on with what stands behind it
-  has_bit : (b : ℕ) (v : Datum) (rest : List Chunk) → Fits (sequence root (marked fs)) v → per (sequence root (marked fs)) v ≡ one b ∷ rest → HasBit b v × (rest ≡ behind v)
+  -- a spelling that begins with the bit goes on with what stands after it
+  has_bit : (b : ℕ) (v : Datum) (rest : List Chunk) → Fits (sequence root (marked fs)) v → per (sequence root (marked fs)) v ≡ one b ∷ rest → HasBit b v × (rest ≡ after v)
   has_bit b v rest f e =
-      let same : rest ≡ behind v = sym (ap (drop 1) e) in
+      let same : rest ≡ after v = sym (ap (drop 1) e) in
       ((f, e ∙ ap (λ (l : List Chunk). one b ∷ l) same), same)
 
   -- a value has the extension bit that its additions say
-  the_bit : (cs : Components) → per (sequence root (marked fs)) (components cs) ≡ one (bit_of (any_present (drop (length (demands root)) (component_list cs)))) ∷ behind (components cs)
+  the_bit : (cs : Components) → per (sequence root (marked fs)) (components cs) ≡ one (bit_of (any_present (drop (length (demands root)) (component_list cs)))) ∷ after (components cs)
   the_bit cs = refl
 
   -- a value of the marked SEQUENCE is one of the root with further entries
@@ -120,13 +120,13 @@ module _ (root fs : Fields) where
       let gs = drop (length (demands root)) (component_list cs) in
       ap components (sym (components_of-list cs) ∙ ap components_of (sym (take-append-drop (length (demands root)) (component_list cs)) ∙ ap (λ (l : List (Option Datum)). l ++ gs) (sym (component_list-of es))))
 
-  -- without an addition the bit is 0, and the root stands behind it
+  -- without an addition the bit is 0, and the root stands after it
   marked_none : (es gs : List (Option Datum)) → any_present gs ≡ false → marked_code es gs ≡ one 0 ∷ front es
   marked_none es gs e =
       ap (λ (b : Bool). (ones (bit_of b ∷ presence (demands root) es) ++ per_each root es) ++ elim b [ true ↦ ones (small_length (length (demands fs)) ++ presence (demands fs) gs) ++ per_open fs gs | false ↦ [] ]) e
       ∙ ap (λ (l : List Chunk). one 0 ∷ l) (append-nil (front es))
 
-  -- with one it is 1, and the root and the additions stand behind it
+  -- with one it is 1, and the root and the additions stand after it
   marked_some : (es gs : List (Option Datum)) → any_present gs ≡ true → marked_code es gs ≡ one 1 ∷ (front es ++ (ones (small_length (length (demands fs)) ++ presence (demands fs) gs) ++ per_open fs gs))
   marked_some es gs e =
       ap (λ (b : Bool). (ones (bit_of b ∷ presence (demands root) es) ++ per_each root es) ++ elim b [ true ↦ ones (small_length (length (demands fs)) ++ presence (demands fs) gs) ++ per_open fs gs | false ↦ [] ]) e
@@ -147,10 +147,10 @@ module _ (root fs : Fields) where
         ltb-false most_additions (length (demands fs)) (right_false (nat_lt most_components (length (demands root))) (nat_lt most_additions (length (demands fs))) here)
 
     -- no addition is present
-    absent_side : Same (Map (λ v. with_entries (v, absent_entries fs)) (Values (sequence root closed))) (SpelledBy (HasBit 0) behind)
+    absent_side : Same (Map (λ v. with_entries (v, absent_entries fs)) (Values (sequence root closed))) (SpelledBy (HasBit 0) after)
     absent_side = map_spelled there back
       where
-        there : (v : Datum) → Fits (sequence root closed) v → HasBit 0 (with_entries (v, absent_entries fs)) × (per (sequence root closed) v ≡ behind (with_entries (v, absent_entries fs)))
+        there : (v : Datum) → Fits (sequence root closed) v → HasBit 0 (with_entries (v, absent_entries fs)) × (per (sequence root closed) v ≡ after (with_entries (v, absent_entries fs)))
         there (components cs) h =
             let es = component_list cs in
             let fit = closed_entries es h.0 h.1 in
@@ -168,7 +168,7 @@ module _ (root fs : Fields) where
             gs = drop (length (demands root)) (component_list cs)
 
             go : (b : Bool) → any_present gs ≡ b → (d : Datum) × Fits (sequence root closed) d × (components cs ≡ with_entries (d, absent_entries fs))
-            go true e = absurd (zero_one (behind (components cs)) (behind (components cs)) (sym h.1 ∙ the_bit cs ∙ ap (λ (b : Bool). one (bit_of b) ∷ behind (components cs)) e))
+            go true e = absurd (zero_one (after (components cs)) (after (components cs)) (sym h.1 ∙ the_bit cs ∙ ap (λ (b : Bool). one (bit_of b) ∷ after (components cs)) e))
             go false e =
                 let fit = absent_fit fs each_optional in
                 let same : gs ≡ absent_entries fs = none_present gs (absent_entries fs) (each_length fs gs h.0.1 ∙ sym (each_length fs (absent_entries fs) fit)) e (none_of_absent fs) in
@@ -176,12 +176,12 @@ module _ (root fs : Fields) where
         back _ h = absurd h.0
 
     -- some addition is present
-    some_side : Same (Map with_entries (Then (Values (sequence root closed)) (λ v. Additions fs))) (SpelledBy (HasBit 1) behind)
+    some_side : Same (Map with_entries (Then (Values (sequence root closed)) (λ v. Additions fs))) (SpelledBy (HasBit 1) after)
     some_side =
         same_after (same_map (same_after (same_then {K = Values (sequence root closed)} (record { to = λ v cs h. h; from = λ v cs h. h }) (λ v. additions_spelled fs (additions_of_profile root fs good) each_optional few_additions)) then_spelled)) (map_spelled there back)
       where
         there : (p : Datum × List (Option Datum)) → Fits (sequence root closed) p.0 × (FitsEach fs p.1 × (any_present p.1 ≡ true))
-            → HasBit 1 (with_entries p) × (per (sequence root closed) p.0 ++ (ones (small_length (length (demands fs)) ++ presence (demands fs) p.1) ++ per_open fs p.1) ≡ behind (with_entries p))
+            → HasBit 1 (with_entries p) × (per (sequence root closed) p.0 ++ (ones (small_length (length (demands fs)) ++ presence (demands fs) p.1) ++ per_open fs p.1) ≡ after (with_entries p))
         there (components cs, gs) h =
             let es = component_list cs in
             let fit = closed_entries es h.0.0 h.0.1 in
@@ -199,7 +199,7 @@ module _ (root fs : Fields) where
             gs = drop (length (demands root)) (component_list cs)
 
             go : (b : Bool) → any_present gs ≡ b → (p : Datum × List (Option Datum)) × (Fits (sequence root closed) p.0 × (FitsEach fs p.1 × (any_present p.1 ≡ true))) × (components cs ≡ with_entries p)
-            go false e = absurd (zero_one (behind (components cs)) (behind (components cs)) (sym (ap (λ (b : Bool). one (bit_of b) ∷ behind (components cs)) e) ∙ sym (the_bit cs) ∙ h.1))
+            go false e = absurd (zero_one (after (components cs)) (after (components cs)) (sym (ap (λ (b : Bool). one (bit_of b) ∷ after (components cs)) e) ∙ sym (the_bit cs) ∙ h.1))
             go true e = ((components (components_of es), gs), (closed_fits es h.0.0, (h.0.1, e)), split cs)
         back _ h = absurd h.0
 
@@ -207,7 +207,7 @@ module _ (root fs : Fields) where
     pub marked_sequences_compose : Same (MarkedSequences root fs) (Values (sequence root (marked fs)))
     marked_sequences_compose = same_after (same_map (same_after (same_fork absent_side some_side) fork_spelled)) (map_spelled there back)
       where
-        there : (w : Datum ⊎ Datum) → FitsEither (HasBit 0) (HasBit 1) w → Fits (sequence root (marked fs)) (of_either w) × (either_code behind behind w ≡ per (sequence root (marked fs)) (of_either w))
+        there : (w : Datum ⊎ Datum) → FitsEither (HasBit 0) (HasBit 1) w → Fits (sequence root (marked fs)) (of_either w) × (either_code after after w ≡ per (sequence root (marked fs)) (of_either w))
         there (inl v) h = (h.0, sym h.1)
         there (inr v) h = (h.0, sym h.1)
 
@@ -215,6 +215,6 @@ module _ (root fs : Fields) where
         back (components cs) h = go (any_present (drop (length (demands root)) (component_list cs))) refl
           where
             go : (b : Bool) → any_present (drop (length (demands root)) (component_list cs)) ≡ b → (w : Datum ⊎ Datum) × FitsEither (HasBit 0) (HasBit 1) w × (components cs ≡ of_either w)
-            go true e = (inr (components cs), (h, the_bit cs ∙ ap (λ (b : Bool). one (bit_of b) ∷ behind (components cs)) e), refl)
-            go false e = (inl (components cs), (h, the_bit cs ∙ ap (λ (b : Bool). one (bit_of b) ∷ behind (components cs)) e), refl)
+            go true e = (inr (components cs), (h, the_bit cs ∙ ap (λ (b : Bool). one (bit_of b) ∷ after (components cs)) e), refl)
+            go false e = (inl (components cs), (h, the_bit cs ∙ ap (λ (b : Bool). one (bit_of b) ∷ after (components cs)) e), refl)
         back _ h = absurd h

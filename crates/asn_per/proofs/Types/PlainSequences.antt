@@ -22,7 +22,7 @@ module _ (fs : Fields) where
   highest_is : highest + 1 ≡ 2 ^ bitmap_length fs
   highest_is = one_more (2 ^ bitmap_length fs) (pow_pos (bitmap_length fs))
 
-  -- the bitmaps are the numbers of so many bits
+  -- the bitmaps are the numbers of that many bits
   same_bitmaps : Same (Below (bitmap_length fs) (2 ^ bitmap_length fs)) (Bitmaps fs highest)
   same_bitmaps = record {
     to = λ n cs h. record { units = h.units; spelt = record { digits = h.spelt.digits; member = (omega arith, omega (arith, h.spelt.member, highest_is), tt) }; same = h.same };

@@ -31,7 +31,7 @@ record HasIndex (ls : List Label) (n : ℕ) : Type 0 where
   inside : place < length ls
   index : rank ls (number_at ls place) ≡ n
 
--- an item behind the first is below it, or above it
+-- an item after the first is below it, or above it
 first_differs : (l : Label) (ls : List Label) (p : ℕ) → has_twice int_eq (numbers (l ∷ ls)) ≡ false → p < length ls → (int_lt l.number (number_at ls p) ≡ true) ⊎ (int_lt (number_at ls p) l.number ≡ true)
 first_differs l ls p d h = elim (compare l.number (number_at ls p)) [
   | inl a ↦ inl a

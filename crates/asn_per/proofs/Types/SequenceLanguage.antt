@@ -36,7 +36,7 @@ chunks_of_sequence : (fs : Fields) (es : List (Option Datum)) → FitsEach fs es
 chunks_of_sequence fs es h =
     let all : take (length (demands fs)) (component_list (components_of es)) ≡ es =
     ap (take (length (demands fs))) (component_list-of es) ∙ ap (λ n. take n es) (sym (entries_count fs es h)) ∙ take-length es in
-    ap (λ ours. (ones (presence (demands fs) ours) ++ per_each fs ours) ++ []) all
+    ap (λ root_entries. (ones (presence (demands fs) root_entries) ++ per_each fs root_entries) ++ []) all
     ∙ append-nil (ones (presence (demands fs) es) ++ per_each fs es)
     ∙ ap (λ (l : List Chunk). ones (presence (demands fs) es) ++ l) (per_each_is fs es)
 
@@ -109,7 +109,7 @@ module _ (fs : Fields) (high : ℕ) (good : AreOfProfile fs) (all : high + 1 ≡
   bitmap_stops us =
       stops_on (stops_first per_fields us (record { follow = λ n x h. (let are = bits_are (bitmap_length fs) n (bits_only (bitmap_length fs) n h.units h.spelt.digits).0 in listed_inhabited per fs (bits (bitmap_length fs) n) good are.count) })) (whole_leads us).stops
 
-  -- behind it
+  -- after it
   pub components_leads : (n : ℕ) (us r : List ℕ) → Spells per_fields (Bitmaps fs high) n us r → Leads per_fields (Listed per fs (bits (bitmap_length fs) n)) r (λ es. components (components_of es)) (Spelt per None (sequence fs closed)) us
   components_leads n us r h = leads_on (leads_second per_fields_part (set_lawful 2 (bitmap_length fs) (λ m. Admits (up_to high None) m)) h) (whole_leads us)
 

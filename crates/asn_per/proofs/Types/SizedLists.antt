@@ -69,7 +69,7 @@ count_spelled low high o = same_after (same_map (below_spelled (suc (high - low)
 no_count_bits : (n m : ℕ) → constrained (suc (n - n)) m ≡ []
 no_count_bits n m = let none : n - n ≡ 0 = omega arith in ap (λ (k : ℕ). bits (width (suc k)) m) none
 
--- so many items in a row, and no count
+-- that many items in a row, and no count
 pub fixed_sized : {A : Type 0} (L : A → List Chunk → Type 0) (n : ℕ) → Same (Row L n) (RootSized n (Some n) L)
 fixed_sized {A} L n = record {
   to = λ vs cs h. record {

@@ -1,4 +1,4 @@
--- CHOICE in PER is an index and a value behind it, as the walk over all types puts it together.
+-- CHOICE in PER is an index and a value after it, as the walk over all types puts it together.
 use Rattle.std.proofs.Common.{◌≡◌, ◌<◌, ◌+◌, ◌⊎◌, inl, inr, ℕ, zero, suc, true, List, ◌∷◌, ◌++◌, Option, Some, None, refl, sym, ap, ◌∙◌, subst, arith}
 use Rattle.asn_values.specs.Datum.{Datum, alternative}
 use Rattle.asn_values.specs.Shape.{Alternatives, no_alternatives, one_of, MoreAlternatives, closed_choice, marked_choice, more_alternatives, choice, count}
@@ -52,14 +52,14 @@ index_spelled root (Some more) few = same_after (same_after (same_fork (below_sp
 pub walk_index : (root : ℕ) (more : Option ℕ) → AreFew root more → Lawful (IndexOf per_coding root more)
 walk_index root more few = same_lawful (index_spelled root more few) (indexes_lawful root more)
 
--- ---- an index, and behind it the value
+-- ---- an index, and after it the value
 
 -- the values of the alternative that an index tells
 abbrev pub ChosenBy : Alternatives → MoreAlternatives → ℕ ⊎ ℕ → Datum → List Chunk → Type 0
 ChosenBy root more (inl i) = Chosen root i
 ChosenBy root more (inr k) = OpenChosen (more_alternatives more) k
 
--- an index and a value behind it
+-- an index and a value after it
 abbrev pub Told : Alternatives → MoreAlternatives → (ℕ ⊎ ℕ) × Datum → List Chunk → Type 0
 Told root more = Then (IndexesOf (count root) (added_count more)) (ChosenBy root more)
 
@@ -80,7 +80,7 @@ module _ (root : Alternatives) where
         seen = h.seen;
       }
 
-  -- behind a mark
+  -- after a mark
   marked_there : (more : Alternatives) (i : ℕ ⊎ ℕ) (v : Datum) (cs x y : List Chunk) → Branch 0 inl (Below (width (count root)) (count root)) i x ⊎ Branch 1 inr (SmallBelow (count more)) i x
       → ChosenBy root (marked_choice more) i v y → cs ≡ x ++ y → Choices root (marked_choice more) (chosen_value root (i, v)) cs
   marked_there more i v cs x y (inl b) c e = rw b.seen (record {

@@ -82,7 +82,7 @@ units_part (a ∷ x) (b ∷ y) e = ⊎_elim
     heads : {u v : ℕ} {us vs : List ℕ} → u ∷ us ≡ v ∷ vs → u ≡ v
     heads h = cc
 
--- some list is ahead behind what stands in front
+-- some list is ahead after what stands in front
 pub walk_list_ahead : (s : SizeRange) → IsSizeOfProfile s → (a : Ahead) (cs : List Chunk) → per_coding.list_start s a cs → SomeAhead a
 unfolding per_coding
 walk_list_ahead s good a cs h = start_some s good a cs h

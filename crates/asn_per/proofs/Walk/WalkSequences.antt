@@ -89,7 +89,7 @@ more_fits closed [] h = tt
 more_fits closed (g ∷ gs) h = absurd h
 more_fits (marked fs) gs h = h
 
--- what stands behind the components, where an addition is present and where none is
+-- what stands after the components, where an addition is present and where none is
 code_of_some : (more : MoreFields) (gs : List (Option Datum)) → FitsMore more gs → any_present gs ≡ true
     → ones (small_length (length (demands (more_fields more))) ++ presence (demands (more_fields more)) gs) ++ per_open (more_fields more) gs ≡ per_additions more gs
 code_of_some closed [] f e = absurd (true≢false (sym e))
@@ -143,12 +143,12 @@ module _ (root : Fields) (more : MoreFields) (good : InProfile (sequence root mo
   abbrev presences : ℕ
   presences = bitmap_length root
 
-  -- the components and additions behind a preamble
-  abbrev Behind : Bool × ℕ → List (Option Datum) × List (Option Datum) → Type 0
-  Behind p q = FitBits root (bits presences p.1) q.0 × AdditionsFit p.0 q.1
+  -- the components and additions after a preamble
+  abbrev After : Bool × ℕ → List (Option Datum) × List (Option Datum) → Type 0
+  After p q = FitBits root (bits presences p.1) q.0 × AdditionsFit p.0 q.1
 
-  behind_spelled : (p : Bool × ℕ) → Same (Then (Listed per root (bits presences p.1)) (λ _. AddedOf per_coding more p.0)) (SpelledBy (Behind p) (λ q. per_each root q.0 ++ per_additions more q.1))
-  behind_spelled p = same_after (same_then (listed_spelled root (bits presences p.1) (components_of_profile root more good) (digits_bits presences p.1) (length-digits 2 presences p.1)) (λ _. added_spelled p.0)) then_spelled
+  after_spelled : (p : Bool × ℕ) → Same (Then (Listed per root (bits presences p.1)) (λ _. AddedOf per_coding more p.0)) (SpelledBy (After p) (λ q. per_each root q.0 ++ per_additions more q.1))
+  after_spelled p = same_after (same_then (listed_spelled root (bits presences p.1) (components_of_profile root more good) (digits_bits presences p.1) (length-digits 2 presences p.1)) (λ _. added_spelled p.0)) then_spelled
 
   -- there is an extension bit where there is a mark
   mark_is : is_some (added more) ≡ is_marked more
@@ -174,12 +174,12 @@ module _ (root : Fields) (more : MoreFields) (good : InProfile (sequence root mo
   EntriesFit es = FitsEach root (take (length (demands root)) es) × FitsMore more (drop (length (demands root)) es)
 
   abbrev entries_code : List (Option Datum) → List (Option Datum) → List Chunk
-  entries_code ours theirs = ones (extension_bit (is_marked more) (any_present theirs) ++ presence (demands root) ours) ++ per_each root ours ++ per_additions more theirs
+  entries_code root_entries added_entries = ones (extension_bit (is_marked more) (any_present added_entries) ++ presence (demands root) root_entries) ++ per_each root root_entries ++ per_additions more added_entries
 
   abbrev whole_code : List (Option Datum) → List Chunk
   whole_code es = entries_code (take (length (demands root)) es) (drop (length (demands root)) es)
 
-  -- a preamble and what stands behind it are a value's
+  -- a preamble and what stands after it are a value's
   there : (p : Bool × ℕ) (es gs : List (Option Datum)) → FitBits root (bits presences p.1) es → AdditionsFit p.0 gs
       → EntriesFit (component_list (components_of (es ++ gs))) × (ones (extension_bit (is_some (added more)) p.0 ++ bits presences p.1) ++ (per_each root es ++ per_additions more gs) ≡ whole_code (component_list (components_of (es ++ gs))))
   there p es gs u a =
@@ -208,10 +208,10 @@ module _ (root : Fields) (more : MoreFields) (good : InProfile (sequence root mo
   pub walk_sequences : Same (SequencesOf per_coding root more) (Spelt per_coding.code None (sequence root more))
   unfolding per_coding
   walk_sequences =
-      same_after (same_map (same_after (same_then (record { to = λ v cs h. h; from = λ v cs h. h }) behind_spelled) then_spelled))
+      same_after (same_map (same_after (same_then (record { to = λ v cs h. h; from = λ v cs h. h }) after_spelled) then_spelled))
       (same_after (map_spelled (λ p f. there p.0 p.1.0 p.1.1 f.1.0 f.1.1) from) (none_left_out (sequence root more)))
     where
-      from : (v : Datum) → Fits (sequence root more) v → (p : (Bool × ℕ) × (List (Option Datum) × List (Option Datum))) × (GoodPreamble presences (added more) p.0 × Behind p.0 p.1) × (v ≡ sequence_told p)
+      from : (v : Datum) → Fits (sequence root more) v → (p : (Bool × ℕ) × (List (Option Datum) × List (Option Datum))) × (GoodPreamble presences (added more) p.0 × After p.0 p.1) × (v ≡ sequence_told p)
       from (components cs) f =
           let k = length (demands root) in
           let es = take k (component_list cs) in

@@ -49,22 +49,22 @@ more_is : (root : Fields) (more : MoreFields) (es : Components) → InProfile (s
 unfolding per_coding
 more_is root closed es good fits = refl
 more_is root (marked fs) es good fits =
-    let theirs = drop (length (demands root)) (component_list es) in
-    let bits = presence (demands fs) theirs in
-    let n : length (demands fs) ≡ length bits = sym (presence_length (demands fs) theirs (additions_optional root fs good) (entries_count fs theirs fits.1)) in
-    ap (λ (k : ℕ). elim (any_present theirs) [ true ↦ ones (small_length k ++ bits) ++ per_open fs theirs | false ↦ [] ]) n
-    ∙ ap (λ (cs : List Chunk). elim (any_present theirs) [ true ↦ ones (small_length (length bits) ++ bits) ++ cs | false ↦ [] ]) (open_is fs theirs)
+    let added_entries = drop (length (demands root)) (component_list es) in
+    let bits = presence (demands fs) added_entries in
+    let n : length (demands fs) ≡ length bits = sym (presence_length (demands fs) added_entries (additions_optional root fs good) (entries_count fs added_entries fits.1)) in
+    ap (λ (k : ℕ). elim (any_present added_entries) [ true ↦ ones (small_length k ++ bits) ++ per_open fs added_entries | false ↦ [] ]) n
+    ∙ ap (λ (cs : List Chunk). elim (any_present added_entries) [ true ↦ ones (small_length (length bits) ++ bits) ++ cs | false ↦ [] ]) (open_is fs added_entries)
 
 per_sequences : (root : Fields) (more : MoreFields) (es : Components) → InProfile (sequence root more) → Fits (sequence root more) (components es)
     → per_coding.code (sequence root more) (components es) ≡ sequence_code per_coding root more (component_list es)
 unfolding per_coding
 per_sequences root more es good fits =
     let n = length (demands root) in
-    let ours = take n (component_list es) in
-    let theirs = drop n (component_list es) in
-    let front = ones (extension_bit (is_marked more) (any_present theirs) ++ presence (demands root) ours) in
-    ap (λ (cs : List Chunk). (front ++ cs) ++ per_additions more theirs) (each_is root ours)
-    ∙ ap (λ (cs : List Chunk). (front ++ each_code per_coding root ours) ++ cs) (more_is root more es good fits)
+    let root_entries = take n (component_list es) in
+    let added_entries = drop n (component_list es) in
+    let front = ones (extension_bit (is_marked more) (any_present added_entries) ++ presence (demands root) root_entries) in
+    ap (λ (cs : List Chunk). (front ++ cs) ++ per_additions more added_entries) (each_is root root_entries)
+    ∙ ap (λ (cs : List Chunk). (front ++ each_code per_coding root root_entries) ++ cs) (more_is root more es good fits)
 
 -- ---- the alternatives of a CHOICE
 

@@ -55,7 +55,7 @@ module _ (low high z : ℤ) (m : Bool) (good : InProfile (integer (between low h
   below : above low z < suc (above low high)
   below = omega (arith, above_within low high z least most)
 
-  -- how far it lies above the low bound has so many bits, and one more behind a mark
+  -- how far it lies above the low bound has this many bits, and one more after an extension mark
   pub offset_fits : above low z < 2 ^ width (suc (above low high))
   offset_fits = width_fits (suc (above low high)) (above low z) below
 
@@ -70,8 +70,8 @@ module _ (low high z : ℤ) (m : Bool) (good : InProfile (integer (between low h
       go false e = sym (bits_of_unmarked (between low high m) z (sym e))
       go true e = sym (bits_of_inside (between low high m) z (sym e) inside)
 
-  pub bits_behind_mark : m ≡ true → bits (1 + width (suc (above low high))) (above low z) ≡ per_bits (integer (between low high m)) (number z)
-  bits_behind_mark e = sym (root_index_bits (suc (above low high)) (above low z) below true 1 refl) ∙ ap (λ (b : Bool). extension_bit b false ++ constrained (suc (above low high)) (above low z)) (sym e) ∙ bits_between
+  pub bits_after_mark : m ≡ true → bits (1 + width (suc (above low high))) (above low z) ≡ per_bits (integer (between low high m)) (number z)
+  bits_after_mark e = sym (root_index_bits (suc (above low high)) (above low z) below true 1 refl) ∙ ap (λ (b : Bool). extension_bit b false ++ constrained (suc (above low high)) (above low z)) (sym e) ∙ bits_between
 
   -- and it is a value
   pub between_fits : FitsNumber (between low high m) z

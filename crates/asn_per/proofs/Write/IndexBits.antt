@@ -26,7 +26,7 @@ same_index_bits {m} {n} {a} {b} {i} {j} e f g = ap (λ (k : ℕ). index_bits k a
 -- ---- an index of the root
 
 module _ (root index : ℕ) (inside : index < root) where
-  -- it has so many bits, and one more behind a mark
+  -- it has this many bits, and one more after an extension mark
   pub index_fits : (mark : ℕ) → index < 2 ^ (mark + width root)
   index_fits mark =
       let more : width root ≤ mark + width root = omega arith in

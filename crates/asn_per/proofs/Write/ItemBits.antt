@@ -13,7 +13,7 @@ use Rattle.asn_rules.specs.Chunks.{ones, flat}
 use Rattle.asn_rules.specs.Components.{number_at}
 use Rattle.asn_rules.proofs.Flat.{flat-ones}
 use Rattle.asn_per.specs.Indexes.{index_bits}
-use Rattle.asn_per.specs.Per.{spelled, constrained, small, rank, behind_mark}
+use Rattle.asn_per.specs.Per.{spelled, constrained, small, rank, after_mark}
 use Rattle.asn_per.specs.Laws.{per_bits}
 use Rattle.asn_per.proofs.Types.EnumeratedLanguages.{few_additions}
 
@@ -27,7 +27,7 @@ pub bits_of_root_item : (root : List Label) (more : MoreLabels) (p : ℕ) → p 
     → per_bits (enumerated root more) (item p) ≡ index_bits (length root) (has_more_labels more) (inl (rank root (number_at root p)))
 bits_of_root_item root closed_labels p h = flat-ones spelled (constrained (length root) (rank root (number_at root p)))
 bits_of_root_item root (marked_labels ls) p h =
-    ap (λ (b : Bool). flat spelled (ones (behind_mark (λ u. u) true b (constrained (length root) (rank root (number_at root p))) (small (p - length root))))) (lt-ltb p (length root) h)
+    ap (λ (b : Bool). flat spelled (ones (after_mark (λ u. u) true b (constrained (length root) (rank root (number_at root p))) (small (p - length root))))) (lt-ltb p (length root) h)
     ∙ flat-ones spelled (0 ∷ constrained (length root) (rank root (number_at root p)))
 
 -- and so has an addition
@@ -35,10 +35,10 @@ pub bits_of_addition : (root : List Label) (more : MoreLabels) (p : ℕ) → len
     → per_bits (enumerated root more) (item p) ≡ index_bits (length root) (has_more_labels more) (inr (p - length root))
 bits_of_addition root closed_labels p h e = absurd (cc)
 bits_of_addition root (marked_labels ls) p h e =
-    ap (λ (b : Bool). flat spelled (ones (behind_mark (λ u. u) true b (constrained (length root) (rank root (number_at root p))) (small (p - length root))))) (le-ltb p (length root) h)
+    ap (λ (b : Bool). flat spelled (ones (after_mark (λ u. u) true b (constrained (length root) (rank root (number_at root p))) (small (p - length root))))) (le-ltb p (length root) h)
     ∙ flat-ones spelled (1 ∷ small (p - length root))
 
--- a place behind the root is that of one of at most 64 additions, and there is a mark
+-- an index after the root is that of one of at most 64 additions, and there is a mark
 pub addition_there : (root : List Item) (more : Option (Vec Item)) (p : ℕ) → InProfile (enumerated (map label_of root) (more_labels_of more)) → Fits (enumerated (map label_of root) (more_labels_of more)) (item p) → length root ≤ p
     → (p - length root < 64) × (has_more_labels (more_labels_of more) ≡ true)
 addition_there root None p good fits h = let e : length (map label_of root) ≡ length root = simp length-map in absurd (omega (arith, e, fits))

@@ -1,4 +1,4 @@
--- What is still to be written of a list behind its count, or behind one of its lengths.
+-- What is still to be written of a list after its count, or after one of its lengths.
 use Rattle.std.proofs.Common.{⊎_elim, ◌≡◌, ◌≤◌, ◌<◌, ◌*◌, ℕ, zero, suc, Bool, true, false, nat_lt, List, [], ◌∷◌, ◌++◌, length, take, drop, Some, None, refl, sym, ap, ◌∙◌, append_assoc, arith}
 use Rattle.std.proofs.lemmas.Bool.{cases_lt, lt-ltb, le-ltb}
 use Rattle.std.proofs.lemmas.List.{append-nil, take_all}
@@ -11,7 +11,7 @@ use Rattle.asn_per.specs.Per.{spelled}
 use Rattle.asn_per.specs.StringItems.{row_bits, general_bits}
 use Rattle.asn_per.specs.Rules.{per_ruling}
 use Rattle.asn_per.specs.Walk.{per_coding}
-use Rattle.asn_per.proofs.Write.SizesWritten.{behind, general_first, last_items, fragment_items, first_items}
+use Rattle.asn_per.proofs.Write.SizesWritten.{after_items, general_first, last_items, fragment_items, first_items}
 
 -- the first items and the others are all
 joined_parts : (n : ℕ) (xs : List (List Chunk)) → joined (take n xs) ++ joined (drop n xs) ≡ joined xs
@@ -29,7 +29,7 @@ pub items_end : (sink : List ℕ) (left : ℕ) → left ≡ 0 → Advances per_c
 unfolding per_coding per_ruling
 items_end sink left none = (none, sym (append-nil sink))
 
--- ---- behind a length
+-- ---- after a length
 
 module _ (old mid : List ℕ) (left many : ℕ) (m : many ≡ (first_length left).items) (e : mid ≡ old ++ (first_length left).bits) where
   -- the last items
@@ -46,7 +46,7 @@ module _ (old mid : List ℕ) (left many : ℕ) (m : many ≡ (first_length left
       let ends : nat_lt (length items) 16384 ≡ true = lt-ltb (length items) 16384 (omega (arith, n, few h)) in
       let whole : general_bits items ≡ first.bits ++ row_bits items =
       general_first items
-      ∙ ap (λ (b : Bool). first.bits ++ (row_bits (take first.items items) ++ behind b (drop first.items items))) ends
+      ∙ ap (λ (b : Bool). first.bits ++ (row_bits (take first.items items) ++ after_items b (drop first.items items))) ends
       ∙ ap (λ (l : List ℕ). first.bits ++ l) (append-nil (row_bits (take first.items items)))
       ∙ ap (λ (k : ℕ). first.bits ++ row_bits (take k items)) count
       ∙ ap (λ (xs : List (List Chunk)). first.bits ++ row_bits xs) (take_all (length items) items (omega arith)) in
@@ -77,7 +77,7 @@ module _ (old mid : List ℕ) (left many : ℕ) (m : many ≡ (first_length left
             let count : many ≡ first.items = m ∙ ap (λ (k : ℕ). (first_length k).items) (sym n) in
             let whole : general_bits items ≡ first.bits ++ (row_bits (take many items) ++ general_bits (drop many items)) =
             general_first items
-            ∙ ap (λ (b : Bool). first.bits ++ (row_bits (take first.items items) ++ behind b (drop first.items items))) ends
+            ∙ ap (λ (b : Bool). first.bits ++ (row_bits (take first.items items) ++ after_items b (drop first.items items))) ends
             ∙ ap (λ (k : ℕ). first.bits ++ (row_bits (take k items) ++ general_bits (drop k items))) (sym count) in
             ap (λ (l : List ℕ). mid ++ l) (flat-append spelled (joined (take many items)) (general one (drop many items)))
             ∙ ap (λ (l : List ℕ). l ++ (row_bits (take many items) ++ general_bits (drop many items))) (e ∙ ap (λ (k : ℕ). old ++ (first_length k).bits) (sym n))

@@ -13,7 +13,7 @@ use Rattle.asn_bits.proofs.Widths.{width_fits}
 use Rattle.asn_rules.specs.Chunks.{Chunk, one, ones, flat}
 use Rattle.asn_rules.proofs.Flat.{flat-append, flat-ones}
 use Rattle.asn_rules.specs.Components.{extension_bit}
-use Rattle.asn_per.specs.Per.{spelled, sized, behind_mark, constrained, within}
+use Rattle.asn_per.specs.Per.{spelled, sized, after_mark, constrained, within}
 use Rattle.asn_per.specs.Rules.{per_ruling}
 use Rattle.asn_per.specs.StringItems.{row_bits, general_bits}
 use Rattle.asn_per.specs.Walk.{per_coding}
@@ -47,7 +47,7 @@ root_bits : (low high : ℕ) (m : Bool) (xs : List (List Chunk)) → in_size (si
     → flat spelled (sized (sizing low (Some high) m) xs) ≡ extension_bit m false ++ (bits (width (suc (high - low))) (length xs - low) ++ row_bits xs)
 root_bits low high false xs i = plain_bits low high xs
 root_bits low high true xs i =
-    ap (λ b. flat spelled (behind_mark one true b (within low (Some high) xs) (general one xs))) i
+    ap (λ b. flat spelled (after_mark one true b (within low (Some high) xs) (general one xs))) i
     ∙ ap (λ (t : List ℕ). 0 ∷ t) (plain_bits low high xs)
 
 -- in the root, with an upper bound: the count is written, and the items follow
@@ -64,7 +64,7 @@ root_written low high count w h m old mid new e i f a b xs l =
 
 -- ---- one length after the other
 
--- so many items follow the first length of n
+-- how many items follow the first length of n
 pub last_items : (n : ℕ) → n < 16384 → (first_length n).items ≡ n
 last_items n l = (let t : nat_lt n 16384 ≡ true = lt-ltb n 16384 l in rw (first_length, t) refl)
 
@@ -75,23 +75,23 @@ fragment_items n l = ap (λ (f : Length). f.items) (first_fragment n l)
 pub first_items : (n : ℕ) → (first_length n).items ≤ n
 first_items n = ⊎_elim (λ a. omega (arith, last_items n a)) (λ a. omega (arith, fragment_items n a)) (cases_lt n 16384)
 
--- the bits of a length, its items, and what stands behind them
+-- the bits of a length, its items, and what stands after them
 with_length : (l : Length) (ls : List Length) (xs : List (List Chunk)) → flat spelled (with_lengths one (l ∷ ls) xs) ≡ l.bits ++ (row_bits (take l.items xs) ++ flat spelled (with_lengths one ls (drop l.items xs)))
 with_length l ls xs =
     flat-append spelled (ones l.bits) (joined (take l.items xs) ++ with_lengths one ls (drop l.items xs))
     ∙ ap (λ (t : List ℕ). t ++ flat spelled (joined (take l.items xs) ++ with_lengths one ls (drop l.items xs))) (flat-ones spelled l.bits)
     ∙ ap (λ (t : List ℕ). l.bits ++ t) (flat-append spelled (joined (take l.items xs)) (with_lengths one ls (drop l.items xs)))
 
--- what is left behind the items of the first length: nothing behind the last items
-abbrev pub behind : Bool → List (List Chunk) → List ℕ
-behind true xs = []
-behind false xs = general_bits xs
+-- what is left after the items of the first length: nothing after the last items
+abbrev pub after_items : Bool → List (List Chunk) → List ℕ
+after_items true xs = []
+after_items false xs = general_bits xs
 
 -- items under their general length begin with the first one
-pub general_first : (xs : List (List Chunk)) → general_bits xs ≡ (first_length (length xs)).bits ++ (row_bits (take (first_length (length xs)).items xs) ++ behind (nat_lt (length xs) 16384) (drop (first_length (length xs)).items xs))
+pub general_first : (xs : List (List Chunk)) → general_bits xs ≡ (first_length (length xs)).bits ++ (row_bits (take (first_length (length xs)).items xs) ++ after_items (nat_lt (length xs) 16384) (drop (first_length (length xs)).items xs))
 general_first xs = go (nat_lt (length xs) 16384) refl
   where
-    go : (b : Bool) → nat_lt (length xs) 16384 ≡ b → general_bits xs ≡ (first_length (length xs)).bits ++ (row_bits (take (first_length (length xs)).items xs) ++ behind b (drop (first_length (length xs)).items xs))
+    go : (b : Bool) → nat_lt (length xs) 16384 ≡ b → general_bits xs ≡ (first_length (length xs)).bits ++ (row_bits (take (first_length (length xs)).items xs) ++ after_items b (drop (first_length (length xs)).items xs))
     go true e =
         let f : first_length (length xs) ≡ last_length (length xs) = rw (e, first_length) refl in
         ap (λ ls. flat spelled (with_lengths one ls xs)) (lengths_last (length xs) (ltb-true (length xs) 16384 e)) ∙ with_length (last_length (length xs)) [] xs

@@ -10,7 +10,7 @@ use Rattle.asn_rules.specs.Components.{bit_of, extension_bit, presence, is_spell
 use Rattle.asn_rules.proofs.Flat.{flat-append, flat-ones}
 use Rattle.asn_values.specs.Fits.{in_range, FitsNumber}
 use Rattle.asn_bits.specs.Numbers.{above}
-use Rattle.asn_per.specs.Per.{spelled, per, per_each, whole_number, behind_mark, ranged, semi_constrained, unconstrained}
+use Rattle.asn_per.specs.Per.{spelled, per, per_each, whole_number, after_mark, ranged, semi_constrained, unconstrained}
 use Rattle.asn_per.specs.Kinds.{IsNotBetween}
 use Rattle.asn_per.specs.Laws.{per_bits, component_bits}
 
@@ -25,20 +25,20 @@ bits_of_integer b z = flat-ones spelled (whole_number b z)
 
 -- without a mark
 pub bits_of_unmarked : (b : Range) (z : ℤ) → b.extensible ≡ false → per_bits (integer b) (number z) ≡ ranged b.low b.high z
-bits_of_unmarked b z e = bits_of_integer b z ∙ ap (λ (m : Bool). behind_mark (λ u. u) m (in_range b z) (ranged b.low b.high z) (unconstrained z)) e
+bits_of_unmarked b z e = bits_of_integer b z ∙ ap (λ (m : Bool). after_mark (λ u. u) m (in_range b z) (ranged b.low b.high z) (unconstrained z)) e
 
--- behind a mark, between the bounds
+-- after a mark, between the bounds
 pub bits_of_inside : (b : Range) (z : ℤ) → b.extensible ≡ true → in_range b z ≡ true → per_bits (integer b) (number z) ≡ 0 ∷ ranged b.low b.high z
 bits_of_inside b z e i =
-    bits_of_integer b z ∙ ap (λ (m : Bool). behind_mark (λ u. u) m (in_range b z) (ranged b.low b.high z) (unconstrained z)) e
-    ∙ ap (λ (m : Bool). behind_mark (λ u. u) true m (ranged b.low b.high z) (unconstrained z)) i
+    bits_of_integer b z ∙ ap (λ (m : Bool). after_mark (λ u. u) m (in_range b z) (ranged b.low b.high z) (unconstrained z)) e
+    ∙ ap (λ (m : Bool). after_mark (λ u. u) true m (ranged b.low b.high z) (unconstrained z)) i
 
 -- the extension bit where there is one, and the form of the root or the other
 abbrev form : Bool → List ℕ → List ℕ → List ℕ
 form true root other = root
 form false root other = other
 
-marked_form : (m i : Bool) (root other : List ℕ) → IsTrue (m || i) → behind_mark (λ u. u) m i root other ≡ extension_bit m (not i) ++ form i root other
+marked_form : (m i : Bool) (root other : List ℕ) → IsTrue (m || i) → after_mark (λ u. u) m i root other ≡ extension_bit m (not i) ++ form i root other
 marked_form false true root other h = refl
 marked_form false false root other h = absurd (cc)
 marked_form true true root other h = refl
@@ -94,12 +94,12 @@ pub bits_of_sequence : (fs : Fields) (es : List (Option Datum)) → FitsEach fs 
 bits_of_sequence fs es h =
     let all : take (length (demands fs)) (component_list (components_of es)) ≡ es =
     ap (take (length (demands fs))) (component_list-of es) ∙ ap (λ n. take n es) (sym (entries_count fs es h)) ∙ take-length es in
-    ap (λ ours. flat spelled ((ones (presence (demands fs) ours) ++ per_each fs ours) ++ [])) all
+    ap (λ root_entries. flat spelled ((ones (presence (demands fs) root_entries) ++ per_each fs root_entries) ++ [])) all
     ∙ ap (flat spelled) (append-nil (ones (presence (demands fs) es) ++ per_each fs es))
     ∙ flat-append spelled (ones (presence (demands fs) es)) (per_each fs es)
     ∙ ap (λ front. front ++ component_bits fs es) (flat-ones spelled (presence (demands fs) es))
 
--- ---- the first component, and those behind it
+-- ---- the first component, and those after it
 
 -- a component that is spelt
 pub component_bits-spelled : (name : List ℕ) (demand : Demand) (t : Shape) (fs : Fields) (d : Datum) (es : List (Option Datum)) → is_spelled demand (Some d) ≡ true

@@ -44,7 +44,7 @@ returns-in-None-clause-stop c =
     let lead = closed_leads ls c.args.excluded good within c.args.bits.now in
     rw c.in-None.is (IfErr-weaker c.read_of_root.result _ _ (λ why s. stops_by why lead.stops s) c.read_of_root.ensures.stop)
 
--- ---- behind a mark
+-- ---- after a mark
 
 pub returns-in-Some-clause-done : goal.returns-in-Some-clause-done
 returns-in-Some-clause-done c =

@@ -1,4 +1,4 @@
--- An open field is read as octets under their general length, of which there is at least one; when all are read,
+-- An open field is read as octets under their general length, of which there is at least one; when all are at hand,
 -- they are read as a complete encoding, and one that they are not is refused at the last unit of the field.
 use Rattle.std.proofs.Common.{◌≡◌, ◌≢◌, ℕ, List, [], ◌∷◌, length, refl, None, false}
 use Rattle.asn_values.specs.Datum.{Datum}

@@ -50,7 +50,12 @@ pub fn read_into<R: ReadLeaves>(
         | AsnType::Bits(_)
         | AsnType::Octets(_)
         | AsnType::Text(..)
-        | AsnType::Utf8 => R::read_simple_into(alloc, ty, units, slot),
+        | AsnType::Utf8 => {
+            if R::try_simple_into(ty, units, slot) {
+                return Ok(());
+            }
+            R::read_simple_into(alloc, ty, units, slot)
+        }
     }
 }
 
@@ -83,8 +88,10 @@ fn read_sequence_into<R: ReadLeaves>(
     if entries.len() != root.len() {
         return read_anew::<R>(alloc, ty, units, slot);
     }
-    read_root_into::<R>(alloc, root, None, entries.as_mut_slice(), units)?;
-    Ok(())
+    match read_root_into::<R>(alloc, root, None, entries.as_mut_slice(), units) {
+        Ok(_) => Ok(()),
+        Err(stop) => Err(stop),
+    }
 }
 
 /// Reads a SEQUENCE with an extension mark.

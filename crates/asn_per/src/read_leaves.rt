@@ -6,9 +6,7 @@ use crate::indexes::{self, read_extension_bit, read_small_length};
 use crate::integers::{read_boolean, read_integer, try_constrained};
 use crate::items::{read_item, try_item};
 use crate::rules::Per;
-use crate::simple_into::{
-    read_bit_string_into, read_integer_into, read_octet_string_into, read_text_into,
-};
+use crate::simple_into::{read_bit_string_into, read_octet_string_into, read_text_into};
 use crate::sizes::Fragments;
 use crate::string_reader::{read_bits, read_characters, read_octet_string, read_utf8};
 use asn_bits::BitCursor;
@@ -72,11 +70,14 @@ impl ReadLeaves for Per {
         slot: &mut Value,
     ) -> Result<(), Stop> {
         match ty {
-            AsnType::Int(bounds) => read_integer_into(bounds, slot, units),
             AsnType::Bits(size) => read_bit_string_into(alloc, size, slot, units),
             AsnType::Octets(size) => read_octet_string_into(alloc, size, slot, units),
             AsnType::Text(kind, size) => read_text_into(alloc, *kind, size, slot, units),
-            AsnType::Bool | AsnType::Null | AsnType::Enum { .. } | AsnType::Utf8 => {
+            AsnType::Bool
+            | AsnType::Null
+            | AsnType::Int(_)
+            | AsnType::Enum { .. }
+            | AsnType::Utf8 => {
                 *slot = Self::read_simple(alloc, ty, units)?;
                 Ok(())
             }

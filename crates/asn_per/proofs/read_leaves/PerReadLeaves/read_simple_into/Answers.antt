@@ -1,24 +1,9 @@
 use Rattle.std.proofs.lemmas.Result.{err_from_is_err_and}
 use Rattle.asn_values.specs.View.{shape_of}
-use Rattle.asn_values.proofs.Views.{shape_of-Int, shape_of-Bits, shape_of-Octets, shape_of-Text}
+use Rattle.asn_values.proofs.Views.{shape_of-Bits, shape_of-Octets, shape_of-Text}
 use Rattle.asn_per.specs.Rules.{per_ruling}
 use Rattle.asn_per.specs.Walk.{per_coding}
 use Rattle.asn_per.proofs.read_leaves.PerReadLeaves.read_simple_into.Goals as goal
-
-pub read_integer_into-requires : goal.read_integer_into-requires
-unfolding per_coding per_ruling
-read_integer_into-requires c =
-    record { of_profile = rw (c.in-Int.is, shape_of-Int) at c.requires.of_profile }
-
-pub returns-in-Int-clause-done : goal.returns-in-Int-clause-done
-unfolding per_coding per_ruling
-returns-in-Int-clause-done c =
-    rw (c.in-Int.is, shape_of-Int) c.read_integer_into.ensures.done
-
-pub returns-in-Int-clause-stop : goal.returns-in-Int-clause-stop
-unfolding per_coding per_ruling
-returns-in-Int-clause-stop c =
-    rw (c.in-Int.is, shape_of-Int) c.read_integer_into.ensures.stop
 
 pub read_bit_string_into-requires : goal.read_bit_string_into-requires
 unfolding per_coding per_ruling

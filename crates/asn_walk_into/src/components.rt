@@ -99,8 +99,8 @@ fn read_components_into<R: ReadLeaves>(
     Ok(())
 }
 
-/// Fast path: the entry of a component that is present and has no DEFAULT, of a type that is neither SEQUENCE,
-/// SEQUENCE OF nor CHOICE, where its units are at hand; otherwise takes nothing, and leaves some entry.
+/// Fast path: the INTEGER, BOOLEAN or ENUMERATED of a component that is present and has no DEFAULT, where its units
+/// are at hand; otherwise takes nothing, and leaves some entry.
 #[inline(always)]
 fn try_entry_into<R: ReadLeaves>(
     field: &Field,
@@ -126,19 +126,20 @@ fn try_entry_into<R: ReadLeaves>(
             set_integer(entry, number);
             true
         }
-        AsnType::Seq { .. } | AsnType::SeqOf(..) | AsnType::Choice { .. } => false,
-        AsnType::Bool
-        | AsnType::Null
-        | AsnType::Enum { .. }
-        | AsnType::Bits(_)
-        | AsnType::Octets(_)
-        | AsnType::Text(..)
-        | AsnType::Utf8 => {
+        AsnType::Bool | AsnType::Enum { .. } => {
             let Some(value) = entry else {
                 return false;
             };
             R::try_simple_into(&field.ty, units, value)
         }
+        AsnType::Null
+        | AsnType::Bits(_)
+        | AsnType::Octets(_)
+        | AsnType::Text(..)
+        | AsnType::Utf8
+        | AsnType::Seq { .. }
+        | AsnType::SeqOf(..)
+        | AsnType::Choice { .. } => false,
     }
 }
 

@@ -51,18 +51,14 @@ pub fn read_into<R: ReadLeaves>(
             }
             R::read_simple_into(alloc, ty, units, slot)
         }
-        AsnType::Bool
-        | AsnType::Null
-        | AsnType::Enum { .. }
-        | AsnType::Bits(_)
-        | AsnType::Octets(_)
-        | AsnType::Text(..)
-        | AsnType::Utf8 => {
+        AsnType::Bool | AsnType::Enum { .. } => {
             if R::try_simple_into(ty, units, slot) {
                 return Ok(());
             }
             R::read_simple_into(alloc, ty, units, slot)
         }
+        AsnType::Null | AsnType::Bits(_) | AsnType::Octets(_) | AsnType::Text(..) | AsnType::Utf8 =>
+            R::read_simple_into(alloc, ty, units, slot),
     }
 }
 

@@ -24,11 +24,11 @@ pub fn write_length(length: usize, sink: &mut BitSink) -> Result<(), AllocError>
 {
     let length = length as u64;
     if length < LONG {
-        return sink.push_number(8, length);
+        return sink.push_in_octets(1, length);
     }
     let count = octet_count(length);
-    sink.push_number(8, 128 + u64::from(count))?;
-    sink.push_number(8 * count, length)
+    sink.push_in_octets(1, 128 + u64::from(count))?;
+    sink.push_in_octets(count, length)
 }
 
 /// Writes octets after their length.

@@ -10,8 +10,9 @@ ghost use Rattle.asn_rules.specs.OffsetSets.{HasOffset, IsOpen, IsRaised, ReadsO
 ghost use Rattle.asn_rules.specs.PlainReading.{StopsPlain};
 
 use crate::fault::Why;
-use crate::number_reader::{NumberSet, read_number, read_number_among};
+use crate::number_reader::{NumberSet, peek_in_octets, read_number, read_number_among};
 use crate::stop::Stop;
+use crate::whole_number_reader::power_of_two;
 use asn_bits::{BitCursor, Intervals};
 use asn_values::profile::OFFSET_OF_ZERO;
 
@@ -105,10 +106,10 @@ pub(crate) fn try_signed(count: u32, set: OffsetSet, bits: &mut BitCursor<'_>) -
         Spells R (SignedIn count set) (lowest_integer +ℤ pos w) bits.old bits.new) }
     ensures unchanged { IsNone result → bits.new ≡ bits.old }
 {
-    let number = bits.peek_number(8 * count)?;
+    let number = peek_in_octets(count, bits)?;
     let offset = offset_of(count, number);
     if has_offset(set, u128::from(offset)) {
-        bits.pass(8 * count);
+        bits.pass_octets(count);
         return Some(offset);
     }
     None
@@ -271,11 +272,10 @@ fn offset_of(count: u32, number: u64) -> u64
     requires fits { number < 256 ^ count }
     ensures { lowest_integer +ℤ pos result ≡ signed_number (count, number) }
 {
-    let number = u128::from(number);
-    let weight = sign_weight(count);
+    let weight = power_of_two(8 * count - 1);
     if number < weight {
-        (OFFSET_OF_ZERO + number) as u64
+        (OFFSET_OF_ZERO + u128::from(number)) as u64
     } else {
-        (OFFSET_OF_ZERO + number - 2 * weight) as u64
+        number - weight + (power_of_two(63) - weight)
     }
 }

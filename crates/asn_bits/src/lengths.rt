@@ -32,7 +32,7 @@ impl BitSink {
         ensures err { OnErr result (self.new ≡ self.old) }
     {
         let count = octet_count(n);
-        self.append_counted(count, n)
+        self.append_both(8, count as u64, 8 * count, n)
     }
 
     /// Adds the fewest octets of two's complement of `z`, an integer of 64 signed bits, under their
@@ -46,7 +46,7 @@ impl BitSink {
     {
         let count = signed_octet_count(z);
         let residue = signed_residue(z, count);
-        self.append_counted(count, residue)
+        self.append_both(8, count as u64, 8 * count, residue)
     }
 }
 

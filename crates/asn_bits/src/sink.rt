@@ -6,7 +6,7 @@ ghost use Rattle.asn_bits.specs.Sink.{bit_of, IsPut};
 
 use crate::lengths::put_general_octets;
 use crate::shifts::push_shifted;
-use crate::words::{full_word, push_last, push_low, push_word, shift_in};
+use crate::words::{full_word, push_low, push_word, shift_in};
 use asn_values::profile::BLOCK;
 use std::alloc::{AllocError, Global};
 use std::fmt;
@@ -81,53 +81,6 @@ impl BitSink {
         ensures err { OnErr result (self.new ≡ self.old) }
     {
         self.append(k, n)
-    }
-
-    /// Adds the last `count` octets of `n`. An `Err` is out of memory, and then nothing has changed.
-    #[inline(never)]
-    pub fn push_in_octets(&mut self, count: u32, n: u64) -> Result<(), AllocError>
-        requires some { 0 < count }
-        requires few { count ≤ 8 }
-        ensures ok { OnOk result (self.new ≡ self.old ++ bits (8 * count) n) }
-        ensures err { OnErr result (self.new ≡ self.old) }
-    {
-        if self.count == 0 && has_room(&self.octets) {
-            push_last(&mut self.octets, count, n);
-            return Ok(());
-        }
-        self.push_in_octets_with_room(count, n)
-    }
-
-    // the same, where bits wait or memory is needed; where whole octets wait, none does after it
-    #[cold]
-    #[inline(never)]
-    fn push_in_octets_with_room(&mut self, count: u32, n: u64) -> Result<(), AllocError>
-        requires some { 0 < count }
-        requires few { count ≤ 8 }
-        ensures ok { OnOk result (self.new ≡ self.old ++ bits (8 * count) n) }
-        ensures err { OnErr result (self.new ≡ self.old) }
-    {
-        make_room(&mut self.octets, 24)?;
-        if self.count % 8 == 0 {
-            push_low(&mut self.octets, self.count / 8, self.pending);
-            push_last(&mut self.octets, count, n);
-            self.count = 0;
-            return Ok(());
-        }
-        self.append(8 * count, n & u64::MAX >> (64 - 8 * count))
-    }
-
-    // adds the number `count` in an octet, and then n in so many octets
-    pub(crate) fn append_counted(&mut self, count: u32, n: u64) -> Result<(), AllocError>
-        requires few { count ≤ 8 }
-        requires fits { n < 2 ^ (8 * count) }
-        ensures ok { OnOk result (self.new ≡ (self.old ++ bits 8 count) ++ bits (8 * count) n) }
-        ensures err { OnErr result (self.new ≡ self.old) }
-    {
-        if self.count == 0 && count < 8 {
-            return self.push_in_octets(1 + count, shift_in(u64::from(count), 8 * count, n));
-        }
-        self.append_both(8, u64::from(count), 8 * count, n)
     }
 
     /// Adds all bits of the octets, whole octets at once wherever the bits so far end. An `Err` is out of

@@ -14,21 +14,6 @@ pub(crate) fn push_word(bytes: &mut Vec<u8>, n: u64)
     }
 }
 
-// adds the last `count` octets of n by one word
-#[inline(always)]
-pub(crate) fn push_last(bytes: &mut Vec<u8>, count: u32, n: u64)
-    requires some { 0 < count }
-    requires few { count ≤ 8 }
-    requires room { vec_len bytes.old + 8 ≤ vec_capacity bytes.old }
-    ensures items { bytes.new.items ≡ bytes.old.items ++ octets count n }
-    ensures len { vec_len bytes.new ≡ vec_len bytes.old + count }
-    ensures capacity { vec_capacity bytes.old ≤ vec_capacity bytes.new }
-{
-    let len = bytes.len();
-    push_word(bytes, n << (64 - 8 * count));
-    bytes.truncate(len + count as usize);
-}
-
 // adds the last `count` octets of n
 pub(crate) fn push_low(bytes: &mut Vec<u8>, count: u32, n: u64)
     requires few { count ≤ 8 }

@@ -1,12 +1,11 @@
 -- Two numbers and the zeros after them in one octet.
 use Rattle.std.proofs.Common.{◌≡◌, ◌≤◌, ◌<◌, ◌+◌, ◌-◌, ◌*◌, ◌/◌, ◌%◌, ◌^◌, ℕ, List, [], ◌∷◌, ◌++◌, length, length-append, replicate, refl, sym, ap, ◌∙◌, append_assoc, subst, arith}
 use Rattle.std.proofs.lemmas.List.{append-nil}
-use Rattle.std.proofs.Math.Nat.{mod-lt, mul-le-mul_right, one-le-pow, pow-le-pow_right}
-use Rattle.std.proofs.lemmas.Nat.{mul-add-lt, pow-add}
+use Rattle.std.proofs.Math.Nat.{mod-lt, one-le-pow}
 use Rattle.asn_bits.specs.Numbers.{bits, packed, padding}
 use Rattle.asn_bits.proofs.Octets.{length-digits}
 use Rattle.asn_bits.proofs.Packing.{bits_zero}
-use Rattle.asn_bits.proofs.Splits.{digits-add, digits-join, digits-mod}
+use Rattle.asn_bits.proofs.Splits.{digits-add, digits-mod}
 use Rattle.asn_rules.specs.Fields.{octet_fields}
 use Rattle.asn_rules.specs.Filled.{filled_bits}
 use Rattle.asn_rules.specs.Forks.{Same}
@@ -54,41 +53,3 @@ none_filled k a n low us none some =
     let one : 2 ^ n ≡ 1 = ap (λ (i : ℕ). 2 ^ i) nor in
     let same : Same (FilledFields k a n low) (FilledFields k a n low) = record { to = λ q cs h. h; from = λ q cs h. h } in
     subst (λ (l : List ℕ). Spells octet_fields (FilledFields k a n low) (0, 0) (l ++ us) us) empty (units_front code octet_fields same (0, 0) (omega arith, omega (arith, some, one), omega (arith, one)) us)
-
--- ---- written
-
--- both numbers are one that their bits hold
-pub both_within : (j k m n : ℕ) → m < 2 ^ j → n < 2 ^ k → j + k ≤ 8 → m * 2 ^ k + n < 256
-both_within j k m n h l few =
-    let sum : m * 2 ^ k + n < 2 ^ k * 2 ^ j = mul-add-lt m (2 ^ k) n (2 ^ j) h l in
-    let all : 2 ^ (j + k) ≡ 2 ^ k * 2 ^ j = ap (λ (i : ℕ). 2 ^ i) (omega arith) ∙ pow-add 2 k j in
-    let most : 2 ^ (j + k) ≤ 2 ^ 8 = pow-le-pow_right (omega arith) few in
-    omega (arith, sum, all, most)
-
--- and so with the zeros
-pub filled_within : (j k m n : ℕ) → m < 2 ^ j → n < 2 ^ k → j + k ≤ 8 → (m * 2 ^ k + n) * 2 ^ (8 - (j + k)) < 18446744073709551616
-filled_within j k m n h l few =
-    let w = both_within j k m n h l few in
-    let fewer : 8 - (j + k) ≤ 8 = omega arith in
-    let z : 2 ^ (8 - (j + k)) ≤ 2 ^ 8 = pow-le-pow_right (omega arith) fewer in
-    let up : (m * 2 ^ k + n) * 2 ^ (8 - (j + k)) ≤ 256 * 2 ^ (8 - (j + k)) = mul-le-mul_right (2 ^ (8 - (j + k))) (omega (arith, w)) in
-    omega (arith, up, z)
-
--- both numbers and the zeros as one
-pub filled_octet : (j k m n : ℕ) → n < 2 ^ k → 0 < j + k → j + k ≤ 8 → bits 8 ((m * 2 ^ k + n) * 2 ^ (8 - (j + k))) ≡ (bits j m ++ bits k n) ++ padding (j + k)
-filled_octet j k m n l some few =
-    let z = 8 - (j + k) in
-    let both = m * 2 ^ k + n in
-    let none : 0 < 2 ^ z = one-le-pow z 2 (omega arith) in
-    let all : (j + k) + z ≡ 8 = omega arith in
-    let unused : (8 - (j + k) % 8) % 8 ≡ z = omega arith in
-    let zeros : bits z 0 ≡ padding (j + k) = bits_zero z ∙ ap (λ (i : ℕ). replicate i 0) (sym unused) in
-    ap (λ (i : ℕ). bits i (both * 2 ^ z)) (sym all) ∙ ap (bits ((j + k) + z)) (omega arith) ∙ sym (digits-join 2 (omega arith) (j + k) z both 0 none)
-    ∙ ap (λ (l : List ℕ). l ++ bits z 0) (sym (digits-join 2 (omega arith) j k m n l)) ∙ ap (λ (l : List ℕ). (bits j m ++ bits k n) ++ l) zeros
-
--- no bits
-pub no_filling : (old : List ℕ) (j k m n : ℕ) → j + k ≡ 0 → old ≡ old ++ ((bits j m ++ bits k n) ++ padding (j + k))
-no_filling old j k m n e =
-    let no : j ≡ 0 = omega arith in
-    let nor : k ≡ 0 = omega arith in
-    sym (append-nil old) ∙ ap (λ (l : List ℕ). old ++ l) (sym (ap (λ (i : ℕ). (bits i m ++ bits k n) ++ padding (i + k)) no ∙ ap (λ (i : ℕ). bits i n ++ padding (0 + i)) nor))

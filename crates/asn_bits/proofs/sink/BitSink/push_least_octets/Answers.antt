@@ -11,4 +11,4 @@ returns-clause-ok c =
     let old = c.args.self.now in
     let all : (old ++ bits 8 k) ++ bits (8 * k) c.args.n ≡ old ++ general_octets (λ u. u) (least c.args.n) =
     append_assoc old (bits 8 k) (bits (8 * k) c.args.n) ∙ ap (λ t. old ++ t) (sym (general_least c.args.n k (omega arith) c.octet_count-count.ensures.count)) in
-    subst (λ t. OnOk c.append_counted.result (c.append_counted.new.self ≡ t)) all c.append_counted.ensures.ok
+    subst (λ t. OnOk c.append_both.result (c.append_both.new.self ≡ t)) all c.append_both.ensures.ok

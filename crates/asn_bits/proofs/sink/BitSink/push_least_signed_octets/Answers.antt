@@ -22,4 +22,4 @@ returns-clause-ok c =
     let e : general_octets (λ u. u) (least_signed c.args.z) ≡ bits 8 k ++ bits (8 * k) n = general_signed c.args.z n k (rw z at h.octets) (omega arith) (rw z at c.signed_octet_count-count.ensures.count) in
     let all : (old ++ bits 8 k) ++ bits (8 * k) n ≡ old ++ general_octets (λ u. u) (least_signed c.args.z) =
     append_assoc old (bits 8 k) (bits (8 * k) n) ∙ ap (λ t. old ++ t) (sym e) in
-    subst (λ t. OnOk c.append_counted.result (c.append_counted.new.self ≡ t)) all c.append_counted.ensures.ok
+    subst (λ t. OnOk c.append_both.result (c.append_both.new.self ≡ t)) all c.append_both.ensures.ok

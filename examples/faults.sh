@@ -118,6 +118,43 @@ status=0
 [ "$status" = 3 ] || fail "write failed: status $status"
 [ "$(cat "$work/told")" = 'write failed' ] || fail "write failed: standard error: $(cat "$work/told")"
 
+# each read and each write in turn, by a library that is preloaded (tests/fail_call.c)
+kit=$(dirname "$(rt doc)")/toolchain
+fails=$work/fail_call.so
+if [ -x "$kit/bin/clang" ]; then
+  "$kit/bin/clang" -O2 -Wall -shared -fPIC -nostdlib -B"$kit/lib" -fuse-ld="$kit/bin/ld.lld" -o "$fails" \
+    ../tests/fail_call.c
+else
+  "${CC:-cc}" -O2 -shared -fPIC -nostdlib -o "$fails" ../tests/fail_call.c
+fi
+
+printf '%s\n' 'M DEFINITIONS AUTOMATIC TAGS ::= BEGIN N ::= NULL END' ==== 00 zz >"$work/input"
+printf '%s\n' 'ok 1' '! hex' >"$work/whole"
+tried=0
+each_fails() { # what is told, and the words of the environment but for the number, which follows them
+  local number=0 status
+  while :; do
+    number=$((number + 1))
+    status=0
+    timeout 60 env LD_PRELOAD="$fails" "${@:2}$number" "$program" check --type N --rules per \
+      <"$work/input" >"$work/out" 2>"$work/told" || status=$?
+    [ "$status" = 3 ] || break
+    tried=$((tried + 1))
+    [ "$(cat "$work/told")" = "$1" ] || fail "$* $number: standard error: $(cat "$work/told")"
+    if [ "$1" = 'read failed' ]; then
+      [ ! -s "$work/out" ] || fail "$* $number: standard output: $(cat "$work/out")"
+    else
+      cmp -s -n "$(stat -c %s "$work/out")" "$work/out" "$work/whole" || fail "$* $number: standard output"
+    fi
+  done
+  # with no call left to fail
+  [ "$status" = 1 ] && cmp -s "$work/out" "$work/whole" || fail "$* $number: status $status"
+}
+each_fails 'read failed' FAILED_READ=
+each_fails 'write failed' FAILED_WRITE=
+each_fails 'write failed' NO_OCTET=1 FAILED_WRITE=
+[ "$tried" -ge 20 ] || fail "only $tried calls failed"
+
 # 64 MiB of input, where the process may have 48 MiB
 head -c 67108864 /dev/zero >"$work/input"
 (
@@ -127,4 +164,4 @@ head -c 67108864 /dev/zero >"$work/input"
 ) || failed=1
 
 [ "$failed" = 0 ] || exit 1
-echo "faults: $count cases, and a read, a write and an allocation that fail"
+echo "faults: $count cases, $tried reads and writes that fail in turn, and an allocation that fails"

@@ -166,7 +166,7 @@ class Per:
         return ''.join(format(o, '08b') for o in data)
 
     def general(self, items):
-        """The items, each a text of bits, behind length determinants."""
+        """The items, each a text of bits, after length determinants."""
         out = ''
         while len(items) >= 16384:
             m = min(4, len(items) // 16384)

@@ -13,7 +13,7 @@ use Rattle.asn_bits.specs.declared.general_length.Form.TheVariants as form
 use Rattle.asn_bits.specs.declared.general_length.LengthState.{LengthState}
 use Rattle.asn_bits.specs.declared.general_length.LengthState.TheVariants as place
 use Rattle.asn_bits.proofs.FirstLengths.{Stands, stands_of, starts_of, first_some, number_left, whole_items}
-use Rattle.asn_bits.proofs.LengthBits.{lengths_first, length_bits-append, lengths_behind, behind_fragments, fragments_more, has_bits, same_place}
+use Rattle.asn_bits.proofs.LengthBits.{lengths_first, length_bits-append, lengths_after, after_fragments, fragments_more, has_bits, same_place}
 
 -- the bits of the lengths of n items are those of the first, and others
 bits_first : (n : ℕ) → (more : List ℕ) × (length_bits (lengths n) ≡ (first_length n).bits ++ more) × (n < 16384 → more ≡ [])
@@ -24,7 +24,7 @@ bits_first n =
 -- a count whose lengths begin with these bits leaves a count after the fragments so far, whose lengths begin so
 pub count_left : (is : List (ℕ × Option ℕ)) (j : ℕ) (bs : List ℕ) (b : BeginsLengths (Spanned is) (length_bits (fragments j) ++ bs)) → (n : ℕ) × CountsLeft is j n × (b.count ≡ 16384 * j + n) × (length_bits (lengths n) ≡ bs ++ b.more)
 count_left is j bs b =
-    let w = behind_fragments j b.count (bs ++ b.more) (b.split ∙ append_assoc (length_bits (fragments j)) bs b.more) in
+    let w = after_fragments j b.count (bs ++ b.more) (b.split ∙ append_assoc (length_bits (fragments j)) bs b.more) in
     (w.0, record { member = subst (λ (x : ℕ). Spanned is x) w.1 b.member; largest = w.2 }, w.1, w.3)
 
 -- and so does its first length
@@ -39,7 +39,7 @@ pub some_begins : (is : List (ℕ × Option ℕ)) (j : ℕ) (bs : List ℕ) → 
 some_begins is j bs s =
     let n = s.count in
     let f = bits_first n in
-    let all : length_bits (lengths (16384 * j + n)) ≡ length_bits (fragments j) ++ length_bits (lengths n) = ap length_bits (lengths_behind j n s.member.largest) ∙ length_bits-append (fragments j) (lengths n) in
+    let all : length_bits (lengths (16384 * j + n)) ≡ length_bits (fragments j) ++ length_bits (lengths n) = ap length_bits (lengths_after j n s.member.largest) ∙ length_bits-append (fragments j) (lengths n) in
     let tail : length_bits (lengths n) ≡ bs ++ (s.starts.more ++ f.0) = f.1 ∙ ap (λ x. x ++ f.0) s.starts.split ∙ append_assoc bs s.starts.more f.0 in
     record { count = 16384 * j + n; member = s.member.member; more = s.starts.more ++ f.0; split = all ∙ ap (λ x. length_bits (fragments j) ++ x) tail ∙ sym (append_assoc (length_bits (fragments j)) bs (s.starts.more ++ f.0)) }
 
@@ -47,7 +47,7 @@ some_begins is j bs s =
 given_more : (j : ℕ) (x bs y : List ℕ) → y ≡ x ++ bs → (length_bits (fragments j) ++ x) ++ bs ≡ length_bits (fragments j) ++ y
 given_more j x bs y e = append_assoc (length_bits (fragments j)) x bs ∙ ap (λ z. length_bits (fragments j) ++ z) (sym e)
 
--- ---- a bit that comes
+-- ---- a bit that is read
 
 -- no count of the set goes on so
 pub dead_bit : (is : List (ℕ × Option ℕ)) (j : ℕ) (x : List ℕ) (bs : List ℕ) (y : LengthState) → IsLengthState y → state_bits y ≡ x ++ bs → (StartsSome (CountsLeft is j) (state_bits y) → ⊥) → BeginsLengths (Spanned is) ((length_bits (fragments j) ++ x) ++ bs) → ⊥
@@ -90,7 +90,7 @@ ends_here is j p k h begun e =
     let s = stands_of n p (length_bits f.0) (length_bits e.after) h (sym (ap length_bits f.1) ∙ w.3) in
     let q = place_few n p h s begun in
     let list : fragments j ++ first_length n ∷ f.0 ≡ e.before ++ e.here ∷ e.after =
-    ap (λ ls. fragments j ++ ls) (sym f.1) ∙ sym (lengths_behind j n w.1.largest) ∙ ap lengths (sym w.2) ∙ e.split in
+    ap (λ ls. fragments j ++ ls) (sym f.1) ∙ sym (lengths_after j n w.1.largest) ∙ ap lengths (sym w.2) ∙ e.split in
     let r = same_place (fragments j) (first_length n) f.0 e.before e.here e.after (state_bits p) list e.given_is (has_bits e.count e.before e.here e.after e.split) q.0 q.1 in
     record { count = n; member = w.1; stands = s; bits_are = r.2; items_are = ap (λ l. l.items) (sym r.0) ∙ e.items_are; last = λ a. r.1 ∙ f.2 a }
 
@@ -143,7 +143,7 @@ ended is j bs k w =
       before = fragments j;
       here = first_length n;
       after = g.0;
-      split = lengths_behind j n w.member.largest ∙ ap (λ ls. fragments j ++ ls) g.1;
+      split = lengths_after j n w.member.largest ∙ ap (λ ls. fragments j ++ ls) g.1;
       given_is = ap (λ b. length_bits (fragments j) ++ b) (sym w.bits_are);
       items_are = w.items_are;
     }
@@ -165,10 +165,10 @@ closed_not j n h l = go (is_closed j) h
     go false g = refl
 
 -- where the reader stands then
-pub behind_reading : (is : List (ℕ × Option ℕ)) (j : ℕ) (f : Form) (p : ℕ) (x : ℕ × ℕ × LengthState) → IsLengthState (place.Number f p 0) → StartsSome (CountsLeft is j) (state_bits (place.Number f p 0)) → AfterLength j f p x → IsReading is x.1 x.2
-behind_reading is j form.Short p x h s b = rw (b.1, b.2) (record { fits = h; live = s; moved = λ n e. cc })
-behind_reading is j form.Long p x h s b = rw (b.1, b.2) (record { fits = h; live = s; moved = λ n e. cc })
-behind_reading is j form.Fragment p x h s b =
+pub after_reading : (is : List (ℕ × Option ℕ)) (j : ℕ) (f : Form) (p : ℕ) (x : ℕ × ℕ × LengthState) → IsLengthState (place.Number f p 0) → StartsSome (CountsLeft is j) (state_bits (place.Number f p 0)) → AfterLength j f p x → IsReading is x.1 x.2
+after_reading is j form.Short p x h s b = rw (b.1, b.2) (record { fits = h; live = s; moved = λ n e. cc })
+after_reading is j form.Long p x h s b = rw (b.1, b.2) (record { fits = h; live = s; moved = λ n e. cc })
+after_reading is j form.Fragment p x h s b =
     let t = fragment_stands is j p h s in
     let n = s.count in
     let c = closed_not j n s.member.largest t.0 in
@@ -195,15 +195,15 @@ begun_same : (is : List (ℕ × Option ℕ)) {j k : ℕ} (x : List ℕ) {y : Lis
 begun_same is {j} {k} x {y} e f = ap (λ i. begun is i x) e ∙ ap (λ z. begun is k z) f
 
 -- and how far the lengths are given
-pub behind_goes : (is : List (ℕ × Option ℕ)) (j : ℕ) (f : Form) (p : ℕ) (x : ℕ × ℕ × LengthState) (old bs : List ℕ) → IsLengthState (place.Number f p 0) → StartsSome (CountsLeft is j) (state_bits (place.Number f p 0)) → AfterLength j f p x → state_bits (place.Number f p 0) ≡ old ++ bs
+pub after_goes : (is : List (ℕ × Option ℕ)) (j : ℕ) (f : Form) (p : ℕ) (x : ℕ × ℕ × LengthState) (old bs : List ℕ) → IsLengthState (place.Number f p 0) → StartsSome (CountsLeft is j) (state_bits (place.Number f p 0)) → AfterLength j f p x → state_bits (place.Number f p 0) ≡ old ++ bs
     → Goes (record { counts = is; blocks = j; bits = old }) bs (state.Number x.0) (record { counts = is; blocks = x.1; bits = state_bits x.2 })
-behind_goes is j form.Short p x old bs h s b e =
+after_goes is j form.Short p x old bs h s b e =
     let q : begun is x.1 (state_bits x.2) ≡ begun is j (old ++ bs) = begun_same is (state_bits x.2) b.1 (ap state_bits b.2 ∙ e) in
     (ap given q ∙ sym (append_assoc (length_bits (fragments j)) old bs), inl (record { few = omega (arith, h.1, b.0); new_is = q }))
-behind_goes is j form.Long p x old bs h s b e =
+after_goes is j form.Long p x old bs h s b e =
     let q : begun is x.1 (state_bits x.2) ≡ begun is j (old ++ bs) = begun_same is (state_bits x.2) b.1 (ap state_bits b.2 ∙ e) in
     (ap given q ∙ sym (append_assoc (length_bits (fragments j)) old bs), inl (record { few = omega (arith, h.1, b.0); new_is = q }))
-behind_goes is j form.Fragment p x old bs h s b e =
+after_goes is j form.Fragment p x old bs h s b e =
     let t = fragment_stands is j p h s in
     let some : 1 ≤ p = omega (arith, t.0, t.1) in
     let most : p ≤ 4 = omega (arith, t.1) in
@@ -213,10 +213,10 @@ behind_goes is j form.Fragment p x old bs h s b e =
     (ap given q ∙ all, inr (record { blocks = p; some = some; items = b.0; new_is = q }))
 
 -- the items of the length that ended
-pub behind_items : (j : ℕ) (f : Form) (p : ℕ) (x : ℕ × ℕ × LengthState) → AfterLength j f p x → form_items f p ≡ x.0
-behind_items j form.Short p x b = sym b.0
-behind_items j form.Long p x b = sym b.0
-behind_items j form.Fragment p x b = sym b.0
+pub after_items : (j : ℕ) (f : Form) (p : ℕ) (x : ℕ × ℕ × LengthState) → AfterLength j f p x → form_items f p ≡ x.0
+after_items j form.Short p x b = sym b.0
+after_items j form.Long p x b = sym b.0
+after_items j form.Fragment p x b = sym b.0
 
 -- a whole length that is no fragment's is the last
 last_few : (f : Form) (p l n : ℕ) → l ≡ 0 → ((k : ℕ) → place.Number f p l ≡ place.Number form.Fragment k 0 → ⊥) → Stands n (place.Number f p l) → n < 16384
@@ -296,7 +296,7 @@ part_open is j x b y k h e part g = not_ended is j y k h (λ q. not_start x b (s
 -- a length that is whole after more bits
 pub whole_more : (S : ℕ → Type 0) (j : ℕ) (f : Form) (p : ℕ) (x : ℕ × ℕ × LengthState) (old bs : List ℕ) → IsLengthState (place.Number f p 0) → StartsSome S (state_bits (place.Number f p 0)) → AfterLength j f p x → state_bits (place.Number f p 0) ≡ old ++ bs → WholeLength S (old ++ bs) x.0
 whole_more S j f p x old bs h s b e =
-    subst (λ (g : List ℕ). WholeLength S g x.0) e (subst (λ (k : ℕ). WholeLength S (state_bits (place.Number f p 0)) k) (behind_items j f p x b) (whole_first S f p h s))
+    subst (λ (g : List ℕ). WholeLength S g x.0) e (subst (λ (k : ℕ). WholeLength S (state_bits (place.Number f p 0)) k) (after_items j f p x b) (whole_first S f p h s))
 
 -- it ends all bits given
 pub whole_ends : (is : List (ℕ × Option ℕ)) (j : ℕ) (old bs : List ℕ) (k : ℕ) → WholeLength (CountsLeft is j) (old ++ bs) k → EndsLength (Spanned is) ((length_bits (fragments j) ++ old) ++ bs) k

@@ -56,14 +56,14 @@ length_bits-append [] ys = refl
 length_bits-append (x ∷ xs) ys = ap (λ t. x.bits ++ t) (length_bits-append xs ys) ∙ sym (append_assoc x.bits (length_bits xs) (length_bits ys))
 
 -- this many fragments of 4 blocks
-behind_full : (q n : ℕ) → lengths (65536 * q + n) ≡ replicate q (fragment 4) ++ lengths n
-behind_full zero n = (let e : 65536 * 0 + n ≡ n = omega arith in ap (λ k. lengths k) e)
-behind_full (suc q) n =
+after_full : (q n : ℕ) → lengths (65536 * q + n) ≡ replicate q (fragment 4) ++ lengths n
+after_full zero n = (let e : 65536 * 0 + n ≡ n = omega arith in ap (λ k. lengths k) e)
+after_full (suc q) n =
     let m = 65536 * suc q + n in
     let four : blocks m ≡ 4 = omega arith in
     let left : m - 16384 * 4 ≡ 65536 * q + n = omega arith in
     let whole : lengths m ≡ fragment 4 ∷ lengths (m - 16384 * 4) = lengths_fragment m (omega arith) ∙ ap (λ b. fragment b ∷ lengths (m - 16384 * b)) four in
-    whole ∙ ap (λ k. fragment 4 ∷ lengths k) left ∙ ap (λ ls. fragment 4 ∷ ls) (behind_full q n)
+    whole ∙ ap (λ k. fragment 4 ∷ lengths k) left ∙ ap (λ ls. fragment 4 ∷ ls) (after_full q n)
 
 -- the last fragment, if it has fewer
 part : ℕ → List Length
@@ -84,8 +84,8 @@ fragments_are : (j : ℕ) → fragments j ≡ replicate (j / 4) (fragment 4) ++ 
 unfolding part
 fragments_are j = refl
 
-behind_part : (b n : ℕ) → b < 4 → (not (b == 0) ≡ true → n < 16384) → lengths (16384 * b + n) ≡ part b ++ lengths n
-behind_part b n h c =
+after_part : (b n : ℕ) → b < 4 → (not (b == 0) ≡ true → n < 16384) → lengths (16384 * b + n) ≡ part b ++ lengths n
+after_part b n h c =
     elim (eqb_tells b 0) [
       | inl e ↦ let z : 16384 * b + n ≡ n = omega (arith, e.1) in ap lengths z ∙ ap (λ t. t ++ lengths n) (sym (part_none b e.0))
       | inr e ↦
@@ -98,10 +98,10 @@ behind_part b n h c =
     ]
 
 -- the lengths of the items left follow the fragments
-pub lengths_behind : (j n : ℕ) → (is_closed j ≡ true → n < 16384) → lengths (16384 * j + n) ≡ fragments j ++ lengths n
-lengths_behind j n c =
+pub lengths_after : (j n : ℕ) → (is_closed j ≡ true → n < 16384) → lengths (16384 * j + n) ≡ fragments j ++ lengths n
+lengths_after j n c =
     let e : 16384 * j + n ≡ 65536 * (j / 4) + (16384 * (j % 4) + n) = omega arith in
-    ap lengths e ∙ behind_full (j / 4) (16384 * (j % 4) + n) ∙ ap (λ t. replicate (j / 4) (fragment 4) ++ t) (behind_part (j % 4) n (omega arith) c)
+    ap lengths e ∙ after_full (j / 4) (16384 * (j % 4) + n) ∙ ap (λ t. replicate (j / 4) (fragment 4) ++ t) (after_part (j % 4) n (omega arith) c)
     ∙ sym (append_assoc (replicate (j / 4) (fragment 4)) (part (j % 4)) (lengths n)) ∙ ap (λ t. t ++ lengths n) (sym (fragments_are j))
 
 -- a count whose lengths begin with that of a fragment
@@ -135,8 +135,8 @@ front_part b c t h e =
     ]
 
 -- a count whose lengths begin with the fragments so far: what follows them are the lengths of the items left
-pub behind_fragments : (j c : ℕ) (t : List ℕ) → length_bits (lengths c) ≡ length_bits (fragments j) ++ t → (n : ℕ) × (c ≡ 16384 * j + n) × (is_closed j ≡ true → n < 16384) × (length_bits (lengths n) ≡ t)
-behind_fragments j c t e =
+pub after_fragments : (j c : ℕ) (t : List ℕ) → length_bits (lengths c) ≡ length_bits (fragments j) ++ t → (n : ℕ) × (c ≡ 16384 * j + n) × (is_closed j ≡ true → n < 16384) × (length_bits (lengths n) ≡ t)
+after_fragments j c t e =
     let split : length_bits (fragments j) ≡ length_bits (replicate (j / 4) (fragment 4)) ++ length_bits (part (j % 4)) = ap length_bits (fragments_are j) ∙ length_bits-append (replicate (j / 4) (fragment 4)) (part (j % 4)) in
     let a = front_full (j / 4) c (length_bits (part (j % 4)) ++ t) (e ∙ ap (λ x. x ++ t) split ∙ append_assoc (length_bits (replicate (j / 4) (fragment 4))) (length_bits (part (j % 4))) t) in
     let b = front_part (j % 4) a.0 t (omega arith) a.2 in

@@ -264,19 +264,19 @@ no_first b n l c few s =
     ]
 
 -- nothing goes on after a whole length
-pub behind_short : (m o n : ℕ) → m < 128 → StartsOctets n ((m ∷ []) ++ o ∷ []) → ⊥
-behind_short m o n l s = (let w = short_split n m (o ∷ s.more) l s.split in absurd (omega (arith, ap length w.1)))
+pub after_short : (m o n : ℕ) → m < 128 → StartsOctets n ((m ∷ []) ++ o ∷ []) → ⊥
+after_short m o n l s = (let w = short_split n m (o ∷ s.more) l s.split in absurd (omega (arith, ap length w.1)))
 
-pub behind_long : (k p o n : ℕ) → StartsOctets n (((128 + k) ∷ octets (k - 0) p) ++ o ∷ []) → ⊥
-behind_long k p o n s =
+pub after_long : (k p o n : ℕ) → StartsOctets n (((128 + k) ∷ octets (k - 0) p) ++ o ∷ []) → ⊥
+after_long k p o n s =
     let w = long_split n k ((octets (k - 0) p ++ o ∷ []) ++ s.more) s.split in
     omega (arith, ap length w.2, length-digits 256 k n, length-digits 256 (k - 0) p, length-append (octets (k - 0) p ++ o ∷ []) s.more, length-append (octets (k - 0) p) (o ∷ []))
 
-pub behind_short_at : (x : OctetState) (m o n : ℕ) → x ≡ place.Short m → IsOctetState x → StartsOctets n (state_octets x ++ o ∷ []) → ⊥
-behind_short_at x m o n e is s = behind_short m o n (subst IsOctetState e is) (subst (λ (y : OctetState). StartsOctets n (state_octets y ++ o ∷ [])) e s)
+pub after_short_at : (x : OctetState) (m o n : ℕ) → x ≡ place.Short m → IsOctetState x → StartsOctets n (state_octets x ++ o ∷ []) → ⊥
+after_short_at x m o n e is s = after_short m o n (subst IsOctetState e is) (subst (λ (y : OctetState). StartsOctets n (state_octets y ++ o ∷ [])) e s)
 
-pub behind_long_at : (x : OctetState) (k p l o n : ℕ) → x ≡ place.Long k p l → l ≡ 0 → StartsOctets n (state_octets x ++ o ∷ []) → ⊥
-behind_long_at x k p l o n e z s = behind_long k p o n (subst (λ (y : OctetState). StartsOctets n (state_octets y ++ o ∷ [])) (e ∙ ap (λ (i : ℕ). place.Long k p i) z) s)
+pub after_long_at : (x : OctetState) (k p l o n : ℕ) → x ≡ place.Long k p l → l ≡ 0 → StartsOctets n (state_octets x ++ o ∷ []) → ⊥
+after_long_at x k p l o n e z s = after_long k p o n (subst (λ (y : OctetState). StartsOctets n (state_octets y ++ o ∷ [])) (e ∙ ap (λ (i : ℕ). place.Long k p i) z) s)
 
 -- ---- what is told of a state
 

@@ -32,9 +32,9 @@ longer_fragment f m again items is large w =
     let count : length (drop k items) ≡ length items - k = length-drop k items in
     let rest = with_lengths (λ u. u) (lengths_within f (length items - k)) (drop k items) in
     let back : length (joined (drop k items)) ≤ length (with_lengths (λ u. u) (lengths_within f (length (drop k items))) (drop k items)) = again (drop k items) (omega (arith, count)) in
-    let behind : length (joined (drop k items)) ≤ length rest = subst (λ i. length (joined (drop k items)) ≤ length (with_lengths (λ u. u) (lengths_within f i) (drop k items))) count back in
+    let after : length (joined (drop k items)) ≤ length rest = subst (λ i. length (joined (drop k items)) ≤ length (with_lengths (λ u. u) (lengths_within f i) (drop k items))) count back in
     let parts : joined (take k items) ++ joined (drop k items) ≡ joined items = sym (joined-append (take k items) (drop k items)) ∙ ap joined (take-append-drop k items) in
-    omega (arith, length-append front (joined (take k items) ++ rest), length-append (joined (take k items)) rest, length-append (joined (take k items)) (joined (drop k items)), ap length parts, behind)
+    omega (arith, length-append front (joined (take k items) ++ rest), length-append (joined (take k items)) rest, length-append (joined (take k items)) (joined (drop k items)), ap length parts, after)
 
 -- the one or the other
 longer_step : (f : ℕ) → (0 < f → IsLonger (pred f)) → IsLonger f

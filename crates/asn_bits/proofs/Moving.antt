@@ -19,9 +19,9 @@ each_octet [] h = tt
 each_octet (o ∷ os) h = (h 0, each_octet os (λ i. h (suc i)))
 
 -- and of its end
-pub range_behind : (xs os : List ℕ) → ((i : ℕ) → get_or (xs ++ os) i 0 < 256) → (i : ℕ) → get_or os i 0 < 256
-range_behind [] os h i = h i
-range_behind (x ∷ xs) os h i = range_behind xs os (λ j. h (suc j)) i
+pub range_after : (xs os : List ℕ) → ((i : ℕ) → get_or (xs ++ os) i 0 < 256) → (i : ℕ) → get_or os i 0 < 256
+range_after [] os h i = h i
+range_after (x ∷ xs) os h i = range_after xs os (λ j. h (suc j)) i
 
 -- nothing is added yet
 pub shifted_none : (old : List ℕ) (c p : ℕ) → Shifted old old [] c p p
@@ -66,9 +66,9 @@ pub begun_none : (old all : List ℕ) (c p : ℕ) → Begun old old all all c p 
 begun_none old all c p = record { from = []; shifted = shifted_none old c p; parts = refl }
 
 -- a word more
-pub begun_word : (old new next all rest eight behind : List ℕ) (c p w n b : ℕ) → Begun old new all rest c p w → c < 8 → rest ≡ eight ++ behind → octets 8 n ≡ eight → n < 2 ^ 64
-    → b ≡ (w * 2 ^ 64 + n) / 2 ^ c % 2 ^ 64 → next ≡ new ++ octets 8 b → Begun old next all behind c p n
-begun_word old new next all rest eight behind c p w n b h few e i less word g =
+pub begun_word : (old new next all rest eight after : List ℕ) (c p w n b : ℕ) → Begun old new all rest c p w → c < 8 → rest ≡ eight ++ after → octets 8 n ≡ eight → n < 2 ^ 64
+    → b ≡ (w * 2 ^ 64 + n) / 2 ^ c % 2 ^ 64 → next ≡ new ++ octets 8 b → Begun old next all after c p n
+begun_word old new next all rest eight after c p w n b h few e i less word g =
     let j = w * 2 ^ 64 + n in
     let last : bits c n ≡ bits c j = ap (bits c) (sym (mod-mul-add w (2 ^ 64) n less)) ∙ bits_low c 64 j (omega arith) in
     let out : octets 8 (j / 2 ^ c) ≡ octets 8 b = sym (ap (octets 8) word ∙ digits-mod 256 (omega arith) 8 (j / 2 ^ c)) in
@@ -78,7 +78,7 @@ begun_word old new next all rest eight behind c p w n b h few e i less word g =
       shifted =
           subst (λ t. Shifted old t (h.from ++ eight) c p n) (ap (λ t. new ++ t) out ∙ sym g)
           (subst (λ t. Shifted old (new ++ octets 8 (j / 2 ^ c)) (h.from ++ t) c p n) i more);
-      parts = h.parts ∙ ap (λ t. h.from ++ t) e ∙ sym (append_assoc h.from eight behind);
+      parts = h.parts ∙ ap (λ t. h.from ++ t) e ∙ sym (append_assoc h.from eight after);
     }
 
 -- the rest after what was shifted
@@ -103,8 +103,8 @@ begun_whole old new all [] c p w h z = subst (λ t. Shifted old new t c p w) (sy
 begun_whole old new all (x ∷ rest) c p w h z = absurd (omega arith)
 
 -- and all of it follows something
-pub shifted_behind : (front new from : List ℕ) (c p w : ℕ) → Shifted [] new from c p w → Shifted front (front ++ new) from c p w
-shifted_behind front new from c p w h =
+pub shifted_after : (front new from : List ℕ) (c p w : ℕ) → Shifted [] new from c p w → Shifted front (front ++ new) from c p w
+shifted_after front new from c p w h =
     record { octets = h.octets; added = ap (λ t. front ++ t) h.added; count = h.count; each = h.each; same = h.same }
 
 -- what a vector held stands in front once it is longer
@@ -115,8 +115,8 @@ resized_front true old pad held s n e l m =
 resized_front false old pad held s n e l m = ap (take s) e ∙ take_all s old (omega arith)
 
 -- and what follows is filled
-pub filled_behind : (old into held post tail : List ℕ) (s n : ℕ) → take s held ≡ old → n ≡ length old + length into → take n ((take s held ++ (into ++ post)) ++ tail) ≡ old ++ into
-filled_behind old into held post tail s n e l =
+pub filled_after : (old into held post tail : List ℕ) (s n : ℕ) → take s held ≡ old → n ≡ length old + length into → take n ((take s held ++ (into ++ post)) ++ tail) ≡ old ++ into
+filled_after old into held post tail s n e l =
     let parts : (take s held ++ (into ++ post)) ++ tail ≡ (old ++ into) ++ (post ++ tail) =
     ap (λ t. (t ++ (into ++ post)) ++ tail) e ∙ ap (λ t. t ++ tail) (sym (append_assoc old into post)) ∙ append_assoc (old ++ into) post tail in
     ap (take n) parts ∙ take_at (old ++ into) (post ++ tail) n (length-append old into ∙ sym l)

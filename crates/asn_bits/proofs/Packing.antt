@@ -145,8 +145,8 @@ octets_out os new c p e =
     ∙ ap (λ t. unpacked os ++ t) (ap (λ t. t ++ bits l p) (unpacked-octets (c / 8) (p / 2 ^ l)) ∙ sym (digits-add 2 (8 * (c / 8)) l p) ∙ ap (λ i. bits i p) all)
 
 -- after whole octets
-pub whole_behind : (os new from : List ℕ) (c p : ℕ) → c ≡ 0 → new ≡ os ++ from → unpacked new ++ bits c p ≡ (unpacked os ++ bits c p) ++ unpacked from
-whole_behind os new from c p z e =
+pub whole_after : (os new from : List ℕ) (c p : ℕ) → c ≡ 0 → new ≡ os ++ from → unpacked new ++ bits c p ≡ (unpacked os ++ bits c p) ++ unpacked from
+whole_after os new from c p z e =
     unpacked_whole new c p z ∙ ap unpacked e ∙ unpacked-append os from ∙ ap (λ t. t ++ unpacked from) (sym (unpacked_whole os c p z))
 
 -- where none waited, a word of new ones goes out

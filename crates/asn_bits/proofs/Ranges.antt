@@ -52,8 +52,8 @@ starts_reached is so_far low high end closed bs f g = (
 )
 
 -- an end, after those read so far
-pub end_behind : (so_far high n : ℕ) → AtMost n (Some high) ↔ AtMost (so_far + n) (Some (so_far + high))
-end_behind so_far high n = (λ a. omega (arith, a), λ a. omega (arith, a))
+pub end_after : (so_far high n : ℕ) → AtMost n (Some high) ↔ AtMost (so_far + n) (Some (so_far + high))
+end_after so_far high n = (λ a. omega (arith, a), λ a. omega (arith, a))
 
 -- a range whose end is known
 pub range_end : (low : ℕ) (high end : Option ℕ) (S : ℕ → Type 0) → high ≡ end → ((n : ℕ) → ((low ≤ n) × AtMost n high) ↔ S n) → (n : ℕ) → ((low ≤ n) × AtMost n end) ↔ S n

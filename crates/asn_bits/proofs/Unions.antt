@@ -73,11 +73,11 @@ touches_at base p r (i ∷ is) zero d h l m = inl (l, m)
 touches_at base p r (i ∷ is) (suc k) d h l m = inr (touches_at base p r is k d (omega arith) l m)
 
 -- the next interval does not begin so: then one after it does
-pub touches_behind : (base p r : ℕ) (is : List (ℕ × ℕ)) (k : ℕ) (d : ℕ × ℕ) → k < length is → Touches base (drop k is) p r → (p * base ^ r ≤ (get_or is k d).1 → (get_or is k d).0 < (p + 1) * base ^ r → ⊥) → Touches base (drop (k + 1) is) p r
-touches_behind base p r [] k d h t f = absurd (omega arith)
-touches_behind base p r (i ∷ is) zero d h (inl t) f = absurd (f t.0 t.1)
-touches_behind base p r (i ∷ is) zero d h (inr t) f = t
-touches_behind base p r (i ∷ is) (suc k) d h t f = next (touches_behind base p r is k d (omega arith) t f)
+pub touches_after : (base p r : ℕ) (is : List (ℕ × ℕ)) (k : ℕ) (d : ℕ × ℕ) → k < length is → Touches base (drop k is) p r → (p * base ^ r ≤ (get_or is k d).1 → (get_or is k d).0 < (p + 1) * base ^ r → ⊥) → Touches base (drop (k + 1) is) p r
+touches_after base p r [] k d h t f = absurd (omega arith)
+touches_after base p r (i ∷ is) zero d h (inl t) f = absurd (f t.0 t.1)
+touches_after base p r (i ∷ is) zero d h (inr t) f = t
+touches_after base p r (i ∷ is) (suc k) d h t f = next (touches_after base p r is k d (omega arith) t f)
   where
     next : Touches base (drop (k + 1) is) p r → Touches base (drop (suc k + 1) (i ∷ is)) p r
     next x =

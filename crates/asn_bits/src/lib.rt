@@ -21,6 +21,3 @@ pub use intervals::Intervals;
 pub use number_field::{FieldState, NumberField};
 pub use octet_lengths::OctetLengths;
 pub use sink::BitSink;
-
-#[cfg(test)]
-mod tests;

@@ -15,6 +15,3 @@ mod texts;
 pub use by_name::run;
 pub use conversion::{ConvertFault, convert};
 pub use job::{Job, Order, RuleName, RunFault, Status};
-
-#[cfg(test)]
-mod tests;

@@ -27,7 +27,7 @@ pub record IsMessage (line o : List ℕ) (v : Datum) : Type 0 where
 abbrev pub IsNoMessage : List ℕ → Type 0
 IsNoMessage line = (o : List ℕ) (v : Datum) → IsMessage line o v → ⊥
 
--- what is shown and the octets in hexadecimal, each with an LF behind it
+-- what is shown and the octets in hexadecimal, each followed by an LF
 abbrev pub IsTwoLines : List ℕ → List ℕ → List ℕ → Type 0
 IsTwoLines shown o text = text ≡ ((shown ++ 10 ∷ []) ++ encode_lower o) ++ 10 ∷ []
 
@@ -48,7 +48,8 @@ IsFirstLine given line = IfSome given (λ xs. line ≡ first_piece 10 xs)
 
 -- a line was answered
 abbrev pub Answered : Bool → Option (List ℕ) → Option (List ℕ) → Option (List ℕ) → Type 0
-Answered ok given before after = (line text : List ℕ) × IsFirstLine given line × IsAnswer ok line text × Appends before after text
+Answered ok given before after =
+    (line text : List ℕ) × IsFirstLine given line × IsAnswer ok line text × Appends before after text
 
 -- where reading or memory failed, nothing is written
 abbrev pub IsUnwritten : FirstFault → Option (List ℕ) → Option (List ℕ) → Type 0

@@ -98,7 +98,7 @@ fn a_failed_read_is_told(rt: HostRuntime) {
         assert_eq!(rt; answer, Err(FirstFault::Read), "at {cut}");
         assert!(rt; written.is_empty());
     }
-    // nothing is read behind the LF
+    // nothing is read after the LF
     let (answer, _) = answer_from(rt.alloc(), 3, io::ErrorKind::BrokenPipe);
     assert_eq!(rt; answer, Ok(true));
 }

@@ -42,9 +42,9 @@ module _ (t : AsnType) (root : Vec Field Global) (ext : Option (Vec Field Global
   unknown : List (List ℕ)
   unknown = unknown_errors (component_names (fields_of (map part_of_field fs)) (more_fields_of ext)) ms
 
-  pub sequence_shown : (v : Vec (Option Value) Global) (ours es : List (Option Datum)) → ShowsAfter (fields_of (map part_of_field fs)) ms [] ours → ShowsAdded (more_fields_of ext) ms ours es
+  pub sequence_shown : (v : Vec (Option Value) Global) (root_entries es : List (Option Datum)) → ShowsAfter (fields_of (map part_of_field fs)) ms [] root_entries → ShowsAdded (more_fields_of ext) ms root_entries es
       → unknown_errors (component_names (fields_of (map part_of_field fs)) (more_fields_of ext)) ms ≡ [] → es ≡ map (option_map datum_of) v.items → Shows (shape_of t) j (datum_of (value.Seq v))
-  sequence_shown v ours es first then known is = record {
+  sequence_shown v root_entries es first then known is = record {
     no_errors = rw (type, ej, first.no_errors, then.no_errors) known;
     is = rw (type, ej, datum_of-Seq, ← is, then.is, first.is) refl;
   }
@@ -52,8 +52,8 @@ module _ (t : AsnType) (root : Vec Field Global) (ext : Option (Vec Field Global
   pub root_refused : (f : JsonFault) → TellsFirst (field_errors (fields_of (map part_of_field fs)) ms) f → TellsFirst (errors (shape_of t) j) f
   root_refused f s = rw (type, ej) (tells_front f (field_errors (fields_of (map part_of_field fs)) ms) _ s)
 
-  pub added_refused : (f : JsonFault) (ours : List (Option Datum)) → ShowsAfter (fields_of (map part_of_field fs)) ms [] ours → TellsFirst (added_errors (more_fields_of ext) ms) f → TellsFirst (errors (shape_of t) j) f
-  added_refused f ours first s = rw (type, ej, first.no_errors) (tells_front f (added_errors (more_fields_of ext) ms) _ s)
+  pub added_refused : (f : JsonFault) (root_entries : List (Option Datum)) → ShowsAfter (fields_of (map part_of_field fs)) ms [] root_entries → TellsFirst (added_errors (more_fields_of ext) ms) f → TellsFirst (errors (shape_of t) j) f
+  added_refused f root_entries first s = rw (type, ej, first.no_errors) (tells_front f (added_errors (more_fields_of ext) ms) _ s)
 
 -- ---- a SEQUENCE OF
 

@@ -31,17 +31,17 @@ list_json t e b s x v vs js j et ee ex ev each whole =
 -- a SEQUENCE: the members of the root's components, and then those of the additions
 pub sequence_json :
     (t : AsnType) (x : Value) (root : Vec Field Global) (ext : Option (Vec Field Global)) (v : Vec (Option Value) Global) → t ≡ Seq root ext → x ≡ value.Seq v →
-    (fs : List Field) (vs ours theirs : List (Option Value)) → fs ≡ root.items → vs ≡ v.items → (n : ℕ) → n ≡ min (length fs) (length vs) → ours ≡ take n vs → theirs ≡ drop n vs →
-    (ms ns : Members) (j : Data) → ms ≡ members (fields_of (map part_of_field fs)) (map (option_map datum_of) ours) no_members →
-    ns ≡ added_members (more_fields_of ext) (map (option_map datum_of) theirs) ms → j ≡ object ns →
+    (fs : List Field) (vs root_entries added_entries : List (Option Value)) → fs ≡ root.items → vs ≡ v.items → (n : ℕ) → n ≡ min (length fs) (length vs) → root_entries ≡ take n vs → added_entries ≡ drop n vs →
+    (ms ns : Members) (j : Data) → ms ≡ members (fields_of (map part_of_field fs)) (map (option_map datum_of) root_entries) no_members →
+    ns ≡ added_members (more_fields_of ext) (map (option_map datum_of) added_entries) ms → j ≡ object ns →
     j ≡ json_of (shape_of t) (datum_of x)
-sequence_json t x root ext v et ex fs vs ours theirs ef ev n en eo eth ms ns j first then whole =
+sequence_json t x root ext v et ex fs vs root_entries added_entries ef ev n en eo eth ms ns j first then whole =
     let type : shape_of t ≡ sequence (fields_of (map part_of_field fs)) (more_fields_of ext) = sequence_of_fields t root ext fs et ef in
     let val : datum_of x ≡ components (components_of (map (option_map datum_of) vs)) = rw (ex, ev) (datum_of-Seq v) in
     let many : length (demands (fields_of (map part_of_field fs))) ≡ length fs = length-demands (map part_of_field fs) ∙ length-map fs part_of_field in
-    let front : take (length fs) (map (option_map datum_of) vs) ≡ map (option_map datum_of) ours =
+    let front : take (length fs) (map (option_map datum_of) vs) ≡ map (option_map datum_of) root_entries =
     take-map (option_map datum_of) (length fs) vs ∙ ap (map (option_map datum_of)) (sym (take_min (length fs) vs) ∙ ap (λ k. take k vs) (sym en) ∙ sym eo) in
-    let back : drop (length fs) (map (option_map datum_of) vs) ≡ map (option_map datum_of) theirs =
+    let back : drop (length fs) (map (option_map datum_of) vs) ≡ map (option_map datum_of) added_entries =
     drop-map (option_map datum_of) (length fs) vs ∙ ap (map (option_map datum_of)) (sym (drop_min (length fs) vs) ∙ ap (λ k. drop k vs) (sym en) ∙ sym eth) in
     rw (type, val, component_list-components_of, many, front, back, whole, then, first) refl
 

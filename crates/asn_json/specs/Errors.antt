@@ -1,5 +1,5 @@
--- Where JSON is not of the shape of a type: the paths of all errors, a node before its parts, and each part whole
--- before the next.
+-- Where JSON is not of the shape of a type: the paths of all errors, a node before its parts, and each part with all
+-- in it before the next.
 use Rattle.std.specs.Prelude.{◌≡◌, ◌-◌, ℕ, zero, suc, List, [], ◌++◌, Option, Some, None, nat_lt, if◌then◌else◌, bytes_eq, string_bytes, slice_get, codes, ⊤}
 use Rattle.std.specs.List.{list_any}
 use Rattle.serde_json.specs.Data.{Data, Items, no_items, item, Members, no_members, member}

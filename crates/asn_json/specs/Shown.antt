@@ -19,7 +19,7 @@ truth_in j = option_map truth (as_bool j)
 abbrev pub nothing_in : Data → Option Datum
 nothing_in j = option_map (λ _. nothing) (as_null j)
 
--- a whole number, as serde_json keeps them, that is an integer of the profile
+-- an integer, as serde_json keeps them, that is one of the profile
 abbrev pub if_integer : ℤ → Option Datum
 if_integer z = if in_range integers z then Some (number z) else None
 

@@ -27,7 +27,7 @@ json_truth _ = null
 abbrev pub integers : Range
 integers = record { low = Some lowest_integer; high = Some highest_integer; extensible = false }
 
--- a whole number
+-- an integer
 abbrev pub json_number : Datum → Data
 json_number (datum.number z) = if in_range integers z then number (of_integer z) else null
 json_number _ = null

@@ -35,13 +35,13 @@ pub(crate) fn null_shown(json: &Json) -> Option<Value>
     }
 }
 
-/// The value of an INTEGER: a whole number that is an integer of the profile.
+/// The value of an INTEGER: a number that is an integer of the profile.
 pub(crate) fn number_shown(json: &Json) -> Option<Value>
     ensures { option_map datum_of result ≡ number_in (view json.now) }
 {
-    let whole = json.as_number()?.as_i128()?;
-    if is_between(&INTEGERS, whole) {
-        Some(Value::Int(whole))
+    let integer = json.as_number()?.as_i128()?;
+    if is_between(&INTEGERS, integer) {
+        Some(Value::Int(integer))
     } else {
         None
     }

@@ -27,8 +27,8 @@ use std::alloc::Global;
 ///
 /// # Errors
 /// `Shape` where the JSON is not of the shape of the type, with the path of the first node where it is not: a node is
-/// looked at before its parts, each part whole before the next, in the order of components and elements, and the
-/// unknown keys of an object after its components. Of the shape are the kind of each node, whole numbers that are
+/// looked at before its parts, each part with all in it before the next, in the order of components and elements, and
+/// the unknown keys of an object after its components. Of the shape are the kind of each node, numbers that are
 /// integers of the profile, the names of items, keys and alternatives, one key for a CHOICE, even counts of hexadecimal
 /// digits, and the characters 0 and 1 of bits; a missing or unknown key is told at its object. `NotOfType` where the
 /// shape is right and the value is none of the type. `Memory` where an allocation failed.
@@ -69,10 +69,10 @@ fn read(alloc: Global, ty: &AsnType, json: &Json) -> Result<Value, JsonFault>
             let Some(object) = json.as_object() else {
                 return Err(at_node(alloc));
             };
-            let ours = read_entries(alloc, root, object, Vec::new(alloc))?;
+            let root_entries = read_entries(alloc, root, object, Vec::new(alloc))?;
             let entries = match ext {
-                Some(more) => read_entries(alloc, more, object, ours)?,
-                None => ours,
+                Some(more) => read_entries(alloc, more, object, root_entries)?,
+                None => root_entries,
             };
             check_keys(alloc, root, ext, object)?;
             Ok(Value::Seq(entries))
@@ -155,7 +155,7 @@ fn missing(alloc: Global, field: &Field) -> Result<Option<Value>, JsonFault>
         Need::Must => Err(at_node(alloc)),
         Need::Optional => Ok(None),
         Need::Default(Value::Bool(truth)) => Ok(Some(Value::Bool(*truth))),
-        Need::Default(Value::Int(whole)) => Ok(Some(Value::Int(*whole))),
+        Need::Default(Value::Int(integer)) => Ok(Some(Value::Int(*integer))),
         Need::Default(Value::Enum(index)) => Ok(Some(Value::Enum(*index))),
         Need::Default(
             Value::Null

@@ -17,7 +17,7 @@ use std::alloc::{AllocError, Global};
 
 /// The JSON of the value.
 ///
-/// BOOLEAN is `true` or `false`, NULL `null`, INTEGER a whole number, ENUMERATED the name of the item,
+/// BOOLEAN is `true` or `false`, NULL `null`, INTEGER an integer, ENUMERATED the name of the item,
 /// BIT STRING a string of the characters `0` and `1`, OCTET STRING a string of hexadecimal digits in
 /// small letters, a character string a string. SEQUENCE is an object, with no member for an absent
 /// component and one for each other, SEQUENCE OF an array, CHOICE an object with one member, the name of
@@ -48,7 +48,7 @@ fn json_of(alloc: Global, ty: &AsnType, value: &Value) -> Result<Json, AllocErro
 {
     match (ty, value) {
         (AsnType::Bool, Value::Bool(truth)) => Ok(Json::from(*truth)),
-        (AsnType::Int(_), Value::Int(whole)) => Ok(number_json(*whole)),
+        (AsnType::Int(_), Value::Int(integer)) => Ok(number_json(*integer)),
         (AsnType::Enum { root, ext }, Value::Enum(index)) => item_json(alloc, root, ext, *index),
         (AsnType::Enum { .. }, Value::UnknownItem(number)) => unknown_item_json(alloc, *number),
         (AsnType::Bits(_), Value::Bits(bits)) => bits_json(alloc, bits),
@@ -56,11 +56,11 @@ fn json_of(alloc: Global, ty: &AsnType, value: &Value) -> Result<Json, AllocErro
         (AsnType::Text(..), Value::Text(codes)) => characters_json(alloc, codes),
         (AsnType::Utf8, Value::Utf8(text)) => Json::try_from_str(alloc, text.as_str()),
         (AsnType::Seq { root, ext }, Value::Seq(entries)) => {
-            let (ours, theirs) = entries.split_at(root.len().min(entries.len()));
-            let object = with_members(alloc, root, ours, Map::new(alloc))?;
+            let (root_entries, added_entries) = entries.split_at(root.len().min(entries.len()));
+            let object = with_members(alloc, root, root_entries, Map::new(alloc))?;
             match ext {
                 None => Ok(Json::from(object)),
-                Some(more) => Ok(Json::from(with_members(alloc, more, theirs, object)?)),
+                Some(more) => Ok(Json::from(with_members(alloc, more, added_entries, object)?)),
             }
         }
         (AsnType::SeqOf(element, _), Value::List(values)) => {

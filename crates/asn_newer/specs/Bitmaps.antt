@@ -11,7 +11,7 @@ use Rattle.asn_newer.specs.Loose.{AnyBitmap}
 abbrev pub bitmap_seen : PresenceBits → ℕ × ℕ
 bitmap_seen p = (p.left, p.bitmap)
 
--- no presence bitmap of so many additions stands at the front
+-- no presence bitmap of n additions stands at the front
 abbrev pub NotOfCount : Coding → ℕ → List ℕ → Type 0
 NotOfCount c n us = (bitmap : ℕ) (rest : List ℕ) → Spells (fields_of_rules c) (AnyBitmap c) (n, bitmap) us rest → ⊥
 
@@ -21,5 +21,6 @@ bits_left p = bits p.left p.bitmap
 
 -- the next one is taken, or none is left
 pub record NextBit (old new : PresenceBits) (bit : Bool) : Type 0 where
-  pub next : ((bits_left old ≡ []) × (bits_left new ≡ []) × (bit ≡ false)) ⊎ (bits_left old ≡ bit_of bit ∷ bits_left new)
+  pub next :
+      ((bits_left old ≡ []) × (bits_left new ≡ []) × (bit ≡ false)) ⊎ (bits_left old ≡ bit_of bit ∷ bits_left new)
   pub count : (old.left ≡ 0) × (new.left ≡ 0) ⊎ (new.left + 1 ≡ old.left)

@@ -14,17 +14,23 @@ old_type = sequence (component (codes "a") boolean no_fields) (marked no_fields)
 
 -- SEQUENCE { a BOOLEAN, ..., b INTEGER (0..255) OPTIONAL }
 abbrev pub new_type : Shape
-new_type = sequence (component (codes "a") boolean no_fields) (marked (optional_component (codes "b") (integer (between (pos 0) (pos 255))) no_fields))
+new_type =
+    sequence (component (codes "a") boolean no_fields)
+    (marked (optional_component (codes "b") (integer (between (pos 0) (pos 255))) no_fields))
 
 new_is_newer : Newer old_type new_type
 new_is_newer = ((refl, refl, refl, tt), refl)
 
 -- the addition is skipped, octet for octet
-an_older_one_reads : received per_loose new_type old_type (entries (Some (truth true) ∷ Some (number (pos 7)) ∷ [])) ≡ (entries (Some (truth true) ∷ []), record { place = 0; octets = hex "07" } ∷ [])
+an_older_one_reads :
+    received per_loose new_type old_type (entries (Some (truth true) ∷ Some (number (pos 7)) ∷ []))
+    ≡ (entries (Some (truth true) ∷ []), record { place = 0; octets = hex "07" } ∷ [])
 unfolding per_loose per_coding
 an_older_one_reads = refl
 
 -- the addition is absent
-a_newer_one_reads : received oer_loose old_type new_type (entries (Some (truth true) ∷ [])) ≡ (entries (Some (truth true) ∷ None ∷ []), [])
+a_newer_one_reads :
+    received oer_loose old_type new_type (entries (Some (truth true) ∷ []))
+    ≡ (entries (Some (truth true) ∷ None ∷ []), [])
 unfolding oer_loose oer_coding
 a_newer_one_reads = refl

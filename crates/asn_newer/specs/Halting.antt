@@ -32,7 +32,7 @@ halt_of (stop.Refused left why) = halt.Refused
 halt_of stop.Short = halt.Short
 halt_of stop.Memory = halt.Memory
 
--- an open type field whose content ends too early is refused: the field itself has come whole
+-- an open type field whose content ends too early is refused: the field itself has been read to its end
 abbrev pub halt_of_field : Halt → Halt
 halt_of_field halt.Short = halt.Refused
 halt_of_field halt.Refused = halt.Refused

@@ -9,7 +9,7 @@ use Rattle.asn_values.specs.Shape.{Shape, boolean, null, integer, enumerated, bi
 use Rattle.asn_values.specs.Profile.{most_additions, most_alternatives}
 use Rattle.asn_bits.specs.Numbers.{bits}
 use Rattle.asn_rules.specs.Chunks.{Chunk, open_field, ones, flat}
-use Rattle.asn_rules.specs.General.{behind_first}
+use Rattle.asn_rules.specs.General.{after_first}
 use Rattle.asn_rules.specs.Languages.{Then, Map, Nothing, Sealed}
 use Rattle.asn_rules.specs.Listed.{Spelt, bitmap_length}
 use Rattle.asn_rules.specs.Spellings.{SpelledBy}
@@ -23,7 +23,7 @@ pub record LooseCoding : Type 1 where
   pub IsUnknown : List Label → List Label → ℤ → Type 0
   -- its units
   pub unknown_units : ℤ → List ℕ
-  -- what the number is of the item at a place of the sender's root and additions
+  -- what the number is of the item at a position of the sender's root and additions
   pub told_number : List Label → List Label → ℕ → ℤ
 
 abbrev pub field_spelling : Coding → List ℕ → List ℕ
@@ -52,11 +52,12 @@ pub record Complete {A : Type 0} (c : Coding) (L : A → List Chunk → Type 0) 
 abbrev pub Known : {A : Type 0} → Coding → (A → List Chunk → Type 0) → A → List Chunk → Type 0
 Known c L = Sealed open_field (Complete c L)
 
--- additions that the type has not, by their presence bits from a place on
+-- additions that the type has not, by their presence bits from an index on
 abbrev pub AllUnknown : Coding → ℕ → List ℕ → List Skipped → List Chunk → Type 0
 AllUnknown c place [] = Nothing []
 AllUnknown c place (zero ∷ present) = AllUnknown c (suc place) present
-AllUnknown c place (suc b ∷ present) = Map (λ p. p.0 ∷ p.1) (Then (Unknown c place) (λ _. AllUnknown c (suc place) present))
+AllUnknown c place (suc b ∷ present) =
+    Map (λ p. p.0 ∷ p.1) (Then (Unknown c place) (λ _. AllUnknown c (suc place) present))
 
 -- ---- counts, indexes and items that the type may not have
 
@@ -74,13 +75,14 @@ pub record IsBitmap (p : ℕ × ℕ) : Type 0 where
 abbrev pub AnyBitmap : Coding → ℕ × ℕ → List Chunk → Type 0
 AnyBitmap c = SpelledBy IsBitmap (λ p. ones (c.addition_bitmap (bits p.0 p.1)))
 
--- how many alternatives there may be behind the mark
+-- how many alternatives there may be after the mark
 abbrev pub alternatives_to_come : Alternatives → MoreAlternatives → Option ℕ
 alternatives_to_come root closed_choice = None
 alternatives_to_come root (marked_choice alts) = Some (most_alternatives - count root)
 
 -- by an index of the root or of the additions
-abbrev pub by_index : {A : Type 0} → (ℕ → A → List Chunk → Type 0) → (ℕ → A → List Chunk → Type 0) → ℕ ⊎ ℕ → A → List Chunk → Type 0
+abbrev pub by_index :
+    {A : Type 0} → (ℕ → A → List Chunk → Type 0) → (ℕ → A → List Chunk → Type 0) → ℕ ⊎ ℕ → A → List Chunk → Type 0
 by_index L M (inl i) = L i
 by_index L M (inr i) = M i
 
@@ -100,11 +102,14 @@ abbrev mutual
       Map (λ p. sequence_read p.1) (Then (PreambleOf l.coding (bitmap_length root) (additions_to_come more))
       (λ p. Then (LooseEach l root (bits (bitmap_length root) p.1)) (λ _. LooseMore l more p.0)))
   Loose l (sequence_of t s) = Map list_read (ListingOf l.coding s (Loose l t))
-  Loose l (choice root more) = Map behind_first (Then (IndexOf l.coding (count root) (alternatives_to_come root more)) (by_index (λ i. LooseRoot l i root i) (λ i. LooseOther l (count root) more i)))
+  Loose l (choice root more) =
+      Map after_first (Then (IndexOf l.coding (count root) (alternatives_to_come root more))
+      (by_index (λ i. LooseRoot l i root i) (λ i. LooseOther l (count root) more i)))
   Loose l boolean = Map nothing_skipped (Spelt l.coding.code None boolean)
   Loose l null = Map nothing_skipped (Spelt l.coding.code None null)
   Loose l (integer b) = Map nothing_skipped (Spelt l.coding.code None (integer b))
-  Loose l (enumerated root closed_labels) = Map nothing_skipped (Spelt l.coding.code None (enumerated root closed_labels))
+  Loose l (enumerated root closed_labels) =
+      Map nothing_skipped (Spelt l.coding.code None (enumerated root closed_labels))
   Loose l (bit_string s) = Map nothing_skipped (Spelt l.coding.code None (bit_string s))
   Loose l (octet_string s) = Map nothing_skipped (Spelt l.coding.code None (octet_string s))
   Loose l (restricted k s) = Map nothing_skipped (Spelt l.coding.code None (restricted k s))
@@ -114,9 +119,11 @@ abbrev mutual
   pub LooseEach : LooseCoding → Fields → List ℕ → Entries → List Chunk → Type 0
   LooseEach l no_fields present = Nothing ([], [])
   LooseEach l (field name must t fs) present = Map entry_read (Then (Loose l t) (λ _. LooseEach l fs present))
-  LooseEach l (field name optional t fs) (suc b ∷ present) = Map entry_read (Then (Loose l t) (λ _. LooseEach l fs present))
+  LooseEach l (field name optional t fs) (suc b ∷ present) =
+      Map entry_read (Then (Loose l t) (λ _. LooseEach l fs present))
   LooseEach l (field name optional t fs) (zero ∷ present) = Map (entry_left None) (LooseEach l fs present)
-  LooseEach l (field name (default d) t fs) (suc b ∷ present) = Map entry_read (Then (Map nothing_skipped (Spelt l.coding.code (Some d) t)) (λ _. LooseEach l fs present))
+  LooseEach l (field name (default d) t fs) (suc b ∷ present) =
+      Map entry_read (Then (Map nothing_skipped (Spelt l.coding.code (Some d) t)) (λ _. LooseEach l fs present))
   LooseEach l (field name (default d) t fs) (zero ∷ present) = Map (entry_left (Some d)) (LooseEach l fs present)
   LooseEach l (field name optional t fs) [] = λ es cs. ⊥
   LooseEach l (field name (default d) t fs) [] = λ es cs. ⊥
@@ -125,14 +132,17 @@ abbrev mutual
   pub LooseMore : LooseCoding → MoreFields → Bool → Entries → List Chunk → Type 0
   LooseMore l closed extended = Nothing ([], [])
   LooseMore l (marked fs) false = Nothing (absent_entries fs, [])
-  LooseMore l (marked fs) true = Map behind_first (Then (AnyBitmap l.coding) (λ p. LooseOpen l 0 fs (bits p.0 p.1)))
+  LooseMore l (marked fs) true = Map after_first (Then (AnyBitmap l.coding) (λ p. LooseOpen l 0 fs (bits p.0 p.1)))
 
-  -- and by their presence bits from a place on: those past the count are absent, those that the type has not are skipped
+  -- and by their presence bits from an index on: those past the count are absent, those that the type has not are
+  -- skipped
   pub LooseOpen : LooseCoding → ℕ → Fields → List ℕ → Entries → List Chunk → Type 0
   LooseOpen l place no_fields present = Map (λ s. ([], s)) (AllUnknown l.coding place present)
   LooseOpen l place (field name demand t fs) [] = Nothing (absent_entries (field name demand t fs), [])
-  LooseOpen l place (field name demand t fs) (zero ∷ present) = Map (entry_left None) (LooseOpen l (suc place) fs present)
-  LooseOpen l place (field name demand t fs) (suc b ∷ present) = Map entry_read (Then (Known l.coding (Loose l t)) (λ _. LooseOpen l (suc place) fs present))
+  LooseOpen l place (field name demand t fs) (zero ∷ present) =
+      Map (entry_left None) (LooseOpen l (suc place) fs present)
+  LooseOpen l place (field name demand t fs) (suc b ∷ present) =
+      Map entry_read (Then (Known l.coding (Loose l t)) (λ _. LooseOpen l (suc place) fs present))
 
   -- the alternative at an index of the root, with this tag
   pub LooseRoot : LooseCoding → ℕ → Alternatives → ℕ → Reading → List Chunk → Type 0
@@ -144,7 +154,7 @@ abbrev mutual
   LooseOther l roots closed_choice i = λ r cs. ⊥
   LooseOther l roots (marked_choice alts) i = LooseAdded l (roots + i) i alts i
 
-  -- the same of the additions, with this tag and place: one that the type has not is skipped
+  -- the same of the additions, with this tag and index: one that the type has not is skipped
   pub LooseAdded : LooseCoding → ℕ → ℕ → Alternatives → ℕ → Reading → List Chunk → Type 0
   LooseAdded l tag place no_alternatives i = Map (alternative_skipped tag) (Unknown l.coding place)
   LooseAdded l tag place (one_of name t alts) zero = Map (alternative_read tag) (Known l.coding (Loose l t))

@@ -42,7 +42,8 @@ NewerReads l =
 
 -- what is read is a value of the type, or one in which items and alternatives that the type has not stand as such
 abbrev pub ReadsFit : LooseCoding → Type 0
-ReadsFit l = (t : Shape) (v : Datum) (s : List Skipped) (o : List ℕ) → InProfile t → IsLoose l t v s o → FitsReceived t v
+ReadsFit l =
+    (t : Shape) (v : Datum) (s : List Skipped) (o : List ℕ) → InProfile t → IsLoose l t v s o → FitsReceived t v
 
 -- ---- what these laws follow from
 
@@ -53,10 +54,16 @@ pub record PartLaws (l : LooseCoding) : Type 0 where
   -- a whole encoding is the spelling, and what fills it up
   pub filled : (t : Shape) (v : Datum) → InProfile t → Fits t v
       → flat l.coding.ruling.fielding.spelled (l.coding.ruling.whole t v)
-      ≡ flat l.coding.ruling.fielding.spelled (l.coding.code t v) ++ l.coding.padding (length (flat l.coding.ruling.fielding.spelled (l.coding.code t v)))
+      ≡ flat l.coding.ruling.fielding.spelled (l.coding.code t v)
+      ++ l.coding.padding (length (flat l.coding.ruling.fielding.spelled (l.coding.code t v)))
   -- it is octets, as many as an open type field has at the least
   pub octets : (t : Shape) (v : Datum) → InProfile t → Fits t v → AreOctets (l.coding.complete (l.coding.code t v))
-  pub some : (t : Shape) (v : Datum) → InProfile t → Fits t v → l.coding.ruling.fielding.shortest open_field ≤ length (l.coding.complete (l.coding.code t v))
+  pub some :
+      (t : Shape) (v : Datum) → InProfile t → Fits t v
+      → l.coding.ruling.fielding.shortest open_field ≤ length (l.coding.complete (l.coding.code t v))
   -- an item is read as one that the receiver has, or as one that it has not
-  pub items : (a b : Bool) (root ls more : List Label) (p : ℕ) → InProfile (enumerated root (marked_labels ls)) → LabelVersions a b ls more → p < length root + length ls
-      → AnyItem l root more (item_received l root ls root more p) (l.coding.code (enumerated root (marked_labels ls)) (item p))
+  pub items :
+      (a b : Bool) (root ls more : List Label) (p : ℕ) → InProfile (enumerated root (marked_labels ls))
+      → LabelVersions a b ls more → p < length root + length ls
+      → AnyItem l root more (item_received l root ls root more p)
+      (l.coding.code (enumerated root (marked_labels ls)) (item p))

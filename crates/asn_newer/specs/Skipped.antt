@@ -2,28 +2,28 @@
 use Rattle.std.specs.Prelude.{ℕ, ℤ, List, [], ◌∷◌, ◌++◌, map, Option, Some}
 use Rattle.asn_values.specs.Datum.{Datum, components, components_of, elements, elements_of, alternative, unknown_item, unknown_alternative}
 
--- a field that was skipped: its place among the additions of its type, counted from 0, known ones counted, and the
+-- a field that was skipped: its index among the additions of its type, counted from 0, known ones counted, and the
 -- octets of its open field
 pub record Skipped : Type 0 where
   pub place : ℕ
   pub octets : List ℕ
 
--- a value, and the fields that were skipped in the order in which they came
+-- a value, and the fields that were skipped in the order in which they were read
 abbrev pub Reading : Type 0
 Reading = Datum × List Skipped
 
--- entries of a SEQUENCE, and the fields that were skipped in and behind them
+-- entries of a SEQUENCE, and the fields that were skipped in and after them
 abbrev pub Entries : Type 0
 Entries = List (Option Datum) × List Skipped
 
 abbrev pub nothing_skipped : Datum → Reading
 nothing_skipped d = (d, [])
 
--- an entry that came, before others
+-- an entry that was read, before others
 abbrev pub entry_read : Reading × Entries → Entries
 entry_read p = (Some p.0.0 ∷ p.1.0, p.0.1 ++ p.1.1)
 
--- an entry that did not come: absent, or its DEFAULT
+-- an entry that is not there: absent, or its DEFAULT
 abbrev pub entry_left : Option Datum → Entries → Entries
 entry_left e p = (e ∷ p.0, p.1)
 

@@ -30,13 +30,15 @@ abbrev mutual
   Versions a b (sequence root more) _ = ⊥
   Versions a b (sequence_of t s) (sequence_of u z) = Versions a b t u × (s ≡ z)
   Versions a b (sequence_of t s) _ = ⊥
-  Versions a b (choice root more) (choice roots mores) = AlternativeVersions a b root roots × MoreChoiceVersions a b more mores
+  Versions a b (choice root more) (choice roots mores) =
+      AlternativeVersions a b root roots × MoreChoiceVersions a b more mores
   Versions a b (choice root more) _ = ⊥
   Versions a b t u = t ≡ u
 
   pub FieldVersions : Bool → Bool → Fields → Fields → Type 0
   FieldVersions a b no_fields no_fields = ⊤
-  FieldVersions a b (field name demand t fs) (field other need u gs) = (name ≡ other) × (demand ≡ need) × Versions a b t u × FieldVersions a b fs gs
+  FieldVersions a b (field name demand t fs) (field other need u gs) =
+      (name ≡ other) × (demand ≡ need) × Versions a b t u × FieldVersions a b fs gs
   FieldVersions a b _ _ = ⊥
 
   pub MoreVersions : Bool → Bool → MoreFields → MoreFields → Type 0
@@ -48,11 +50,13 @@ abbrev mutual
   AddedVersions a b no_fields no_fields = ⊤
   AddedVersions a b (field name demand t fs) no_fields = IsTrue a
   AddedVersions a b no_fields (field name demand t fs) = IsTrue b
-  AddedVersions a b (field name demand t fs) (field other need u gs) = (name ≡ other) × (demand ≡ need) × Versions a b t u × AddedVersions a b fs gs
+  AddedVersions a b (field name demand t fs) (field other need u gs) =
+      (name ≡ other) × (demand ≡ need) × Versions a b t u × AddedVersions a b fs gs
 
   pub AlternativeVersions : Bool → Bool → Alternatives → Alternatives → Type 0
   AlternativeVersions a b no_alternatives no_alternatives = ⊤
-  AlternativeVersions a b (one_of name t alts) (one_of other u others) = (name ≡ other) × Versions a b t u × AlternativeVersions a b alts others
+  AlternativeVersions a b (one_of name t alts) (one_of other u others) =
+      (name ≡ other) × Versions a b t u × AlternativeVersions a b alts others
   AlternativeVersions a b _ _ = ⊥
 
   pub MoreChoiceVersions : Bool → Bool → MoreAlternatives → MoreAlternatives → Type 0
@@ -64,7 +68,8 @@ abbrev mutual
   AddedAlternatives a b no_alternatives no_alternatives = ⊤
   AddedAlternatives a b (one_of name t alts) no_alternatives = IsTrue a
   AddedAlternatives a b no_alternatives (one_of name t alts) = IsTrue b
-  AddedAlternatives a b (one_of name t alts) (one_of other u others) = (name ≡ other) × Versions a b t u × AddedAlternatives a b alts others
+  AddedAlternatives a b (one_of name t alts) (one_of other u others) =
+      (name ≡ other) × Versions a b t u × AddedAlternatives a b alts others
 
 -- the second type is the first with no, one or more additions at the end of marked lists, at any depth
 abbrev pub Newer : Shape → Shape → Type 0
@@ -84,7 +89,7 @@ item_received l root additions roots more p =
       | false ↦ item_skipped (l.told_number root additions p)
     ]
 
--- the addition at a place, which the receiver has not: the octets of its complete encoding
+-- the addition at an index, which the receiver has not: the octets of its complete encoding
 abbrev pub unknown : Coding → ℕ → Shape → Datum → Skipped
 unknown c place t d = record { place = place; octets = c.complete (c.code t d) }
 
@@ -92,10 +97,15 @@ abbrev mutual
   -- of a value of the sender's type, the first: the value with the entries of the receiver's type, the second, and the
   -- fields that it skips
   pub received : LooseCoding → Shape → Shape → Datum → Reading
-  received l (enumerated root (marked_labels ls)) (enumerated roots (marked_labels more)) (item p) = item_received l root ls roots more p
+  received l (enumerated root (marked_labels ls)) (enumerated roots (marked_labels more)) (item p) =
+      item_received l root ls roots more p
   received l (sequence root more) (sequence roots mores) (components cs) =
-      sequence_read (entries_received l root roots (take (length (demands root)) (component_list cs)), more_received l more mores (drop (length (demands root)) (component_list cs)))
-  received l (sequence_of t s) (sequence_of u z) (elements ds) = list_read (map (λ d. received l t u d) (element_list ds))
+      sequence_read (
+        entries_received l root roots (take (length (demands root)) (component_list cs)),
+        more_received l more mores (drop (length (demands root)) (component_list cs)),
+      )
+  received l (sequence_of t s) (sequence_of u z) (elements ds) =
+      list_read (map (λ d. received l t u d) (element_list ds))
   received l (choice root more) (choice roots mores) (alternative tag d) =
       elim (nat_lt tag (count root)) [
         | true ↦ root_received l tag root roots tag d
@@ -104,18 +114,23 @@ abbrev mutual
   received l t u d = nothing_skipped d
 
   pub entries_received : LooseCoding → Fields → Fields → List (Option Datum) → Entries
-  entries_received l (field name demand t fs) (field other need u gs) (Some d ∷ es) = entry_read (received l t u d, entries_received l fs gs es)
-  entries_received l (field name demand t fs) (field other need u gs) (None ∷ es) = entry_left None (entries_received l fs gs es)
+  entries_received l (field name demand t fs) (field other need u gs) (Some d ∷ es) =
+      entry_read (received l t u d, entries_received l fs gs es)
+  entries_received l (field name demand t fs) (field other need u gs) (None ∷ es) =
+      entry_left None (entries_received l fs gs es)
   entries_received l _ _ _ = ([], [])
 
   pub more_received : LooseCoding → MoreFields → MoreFields → List (Option Datum) → Entries
   more_received l (marked fs) (marked gs) es = added_received l 0 fs gs es
   more_received l _ _ es = ([], [])
 
-  -- the additions from a place on: those that the sender has not are absent, those that the receiver has not are skipped
+  -- the additions from an index on: those that the sender has not are absent, those that the receiver has not are
+  -- skipped
   pub added_received : LooseCoding → ℕ → Fields → Fields → List (Option Datum) → Entries
-  added_received l place (field name demand t fs) (field other need u gs) (Some d ∷ es) = entry_read (received l t u d, added_received l (suc place) fs gs es)
-  added_received l place (field name demand t fs) (field other need u gs) (None ∷ es) = entry_left None (added_received l (suc place) fs gs es)
+  added_received l place (field name demand t fs) (field other need u gs) (Some d ∷ es) =
+      entry_read (received l t u d, added_received l (suc place) fs gs es)
+  added_received l place (field name demand t fs) (field other need u gs) (None ∷ es) =
+      entry_left None (added_received l (suc place) fs gs es)
   added_received l place (field name demand t fs) no_fields (Some d ∷ es) =
       let rest = added_received l (suc place) fs no_fields es in
       (rest.0, unknown l.coding place t d ∷ rest.1)
@@ -131,12 +146,16 @@ abbrev mutual
   other_received l tag (marked_choice alts) (marked_choice others) i d = addition_received l tag i alts others i d
   other_received l tag _ _ i d = nothing_skipped d
 
-  -- the addition at an index, whose place is known
+  -- the addition i further on, whose index among the additions is known
   pub addition_received : LooseCoding → ℕ → ℕ → Alternatives → Alternatives → ℕ → Datum → Reading
-  addition_received l tag place (one_of name t alts) (one_of other u others) zero d = alternative_read tag (received l t u d)
-  addition_received l tag place (one_of name t alts) (one_of other u others) (suc i) d = addition_received l tag place alts others i d
-  addition_received l tag place (one_of name t alts) no_alternatives zero d = alternative_skipped tag (unknown l.coding place t d)
-  addition_received l tag place (one_of name t alts) no_alternatives (suc i) d = addition_received l tag place alts no_alternatives i d
+  addition_received l tag place (one_of name t alts) (one_of other u others) zero d =
+      alternative_read tag (received l t u d)
+  addition_received l tag place (one_of name t alts) (one_of other u others) (suc i) d =
+      addition_received l tag place alts others i d
+  addition_received l tag place (one_of name t alts) no_alternatives zero d =
+      alternative_skipped tag (unknown l.coding place t d)
+  addition_received l tag place (one_of name t alts) no_alternatives (suc i) d =
+      addition_received l tag place alts no_alternatives i d
   addition_received l tag place no_alternatives others i d = nothing_skipped d
 
 -- what an older receiver keeps of a value, and what it skips

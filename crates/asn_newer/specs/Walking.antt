@@ -1,5 +1,5 @@
 -- What the readers of the walk over types read: languages of values with the fields that were skipped in them, put
--- behind those that were skipped before.
+-- after those that were skipped before.
 use Rattle.std.specs.Prelude.{◌≡◌, ℕ, ℤ, Bool, true, false, List, [], ◌∷◌, ◌++◌, map, Option, Some, ⊤}
 use Rattle.std.specs.Global.{Vec}
 use Rattle.asn_values.specs.declared.types.Alt.{Alt}
@@ -20,7 +20,8 @@ use Rattle.asn_newer.specs.declared.halt.Halt.TheVariants as halt
 
 -- what the second says of unknown items, over the parts of the first
 abbrev pub loose_by : Coding → LooseCoding → LooseCoding
-loose_by c l = record { coding = c; IsUnknown = l.IsUnknown; unknown_units = l.unknown_units; told_number = l.told_number }
+loose_by c l =
+    record { coding = c; IsUnknown = l.IsUnknown; unknown_units = l.unknown_units; told_number = l.told_number }
 
 -- octets are read as the same values by both
 pub record SameReadings (l m : LooseCoding) : Type 0 where
@@ -42,15 +43,18 @@ LooseEntry l optional t true = Map (λ r. (Some r.0, r.1)) (Loose l t)
 abbrev pub LooseAdditions : LooseCoding → Fields → Entries → List Chunk → Type 0
 LooseAdditions l fs = LooseMore l (marked fs) true
 
--- ---- behind what was read before
+-- ---- after what was read before
 
-abbrev pub ReadingAfter : {A : Type 0} → List Skipped → (A × List Skipped → List Chunk → Type 0) → A × List Skipped → List Chunk → Type 0
+abbrev pub ReadingAfter :
+    {A : Type 0} → List Skipped → (A × List Skipped → List Chunk → Type 0) → A × List Skipped → List Chunk → Type 0
 ReadingAfter before = Map (λ r. (r.0, before ++ r.1))
 
-abbrev pub EntriesAfter : List (Option Datum) → List Skipped → (Entries → List Chunk → Type 0) → Entries → List Chunk → Type 0
+abbrev pub EntriesAfter :
+    List (Option Datum) → List Skipped → (Entries → List Chunk → Type 0) → Entries → List Chunk → Type 0
 EntriesAfter es before = Map (λ p. (es ++ p.0, before ++ p.1))
 
-abbrev pub ItemsAfter : List Datum → List Skipped → (List Reading → List Chunk → Type 0) → List Datum × List Skipped → List Chunk → Type 0
+abbrev pub ItemsAfter :
+    List Datum → List Skipped → (List Reading → List Chunk → Type 0) → List Datum × List Skipped → List Chunk → Type 0
 ItemsAfter ds before = Map (λ rs. (ds ++ map (λ r. r.0) rs, before ++ all_skipped rs))
 
 abbrev pub FieldsAfter : List Skipped → (List Skipped → List Chunk → Type 0) → List Skipped → List Chunk → Type 0
@@ -79,8 +83,9 @@ pub record IsMarkedChoice (t : AsnType) (root additions : List Alt) : Type 0 whe
 
 -- ---- octets
 
--- they are a complete encoding of the value, with these fields skipped behind those before
-pub record ReadsContent (l : LooseCoding) (t : Shape) (before : List Skipped) (v : Datum) (after : List Skipped) (o : List ℕ) : Type 0 where
+-- they are a complete encoding of the value, with these fields skipped after those before
+pub record ReadsContent (l : LooseCoding) (t : Shape) (before : List Skipped) (v : Datum) (after : List Skipped)
+    (o : List ℕ) : Type 0 where
   pub skipped : List Skipped
   pub same : after ≡ before ++ skipped
   pub complete : Complete l.coding (Loose l t) (v, skipped) o

@@ -16,7 +16,8 @@ use Rattle.asn_newer.specs.Loose.{LooseCoding, AnyBitmap, AnyItem, IsLoose}
 -- octets are read as one value, with one list of skipped fields, and none that are read begin others
 abbrev pub OneReading : LooseCoding → Type 0
 OneReading l =
-    (t : Shape) (v w : Datum) (s z : List Skipped) (o p : List ℕ) → InProfile t → length p ≤ max_octets → IsLoose l t v s o → IsLoose l t w z p → Begins o p
+    (t : Shape) (v w : Datum) (s z : List Skipped) (o p : List ℕ) → InProfile t → length p ≤ max_octets
+    → IsLoose l t v s o → IsLoose l t w z p → Begins o p
     → (v ≡ w) × (s ≡ z) × (o ≡ p)
 
 -- ---- what this follows from
@@ -30,8 +31,13 @@ pub record OneWay {V : Type 0} (R : Fielding) (L : V → List Chunk → Type 0) 
 pub record WayLaws (l : LooseCoding) : Type 0 where
   pub laws : Laws l.coding
   pub bitmap : OneWay l.coding.ruling.fielding (AnyBitmap l.coding)
-  pub items : (root additions : List Label) → InProfile (enumerated root (marked_labels additions)) → OneWay l.coding.ruling.fielding (AnyItem l root additions)
+  pub items :
+      (root additions : List Label) → InProfile (enumerated root (marked_labels additions))
+      → OneWay l.coding.ruling.fielding (AnyItem l root additions)
   -- what stands before the items of a list is plain units
-  pub start : (s : SizeRange) (a : Ahead) (cs : List Chunk) → l.coding.list_start s a cs → AllSealed l.coding.ruling.fielding cs
+  pub start :
+      (s : SizeRange) (a : Ahead) (cs : List Chunk) → l.coding.list_start s a cs → AllSealed l.coding.ruling.fielding cs
   -- a complete encoding has as many octets as an open type field has at the least
-  pub some : (us o : List ℕ) → l.coding.ruling.units o ≡ us ++ l.coding.padding (length us) → l.coding.ruling.fielding.shortest open_field ≤ length o
+  pub some :
+      (us o : List ℕ) → l.coding.ruling.units o ≡ us ++ l.coding.padding (length us)
+      → l.coding.ruling.fielding.shortest open_field ≤ length o

@@ -48,7 +48,7 @@ impl<T: Drop> From<AllocFailed<T>> for Halt {
 }
 
 /// What is told of an open type field, where the reader of its content says this: the octets of the field have all
-/// come, so none of the message is wanting where they are too few for the content.
+/// been read, so none of the message is wanting where they are too few for the content.
 pub(crate) fn halt_of_field(halt: Halt) -> Halt
     ensures { result ≡ halt_of_field halt }
 {

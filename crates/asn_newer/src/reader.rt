@@ -236,7 +236,7 @@ fn read_list<R: ReadVersions>(
     Ok(Value::List(elements))
 }
 
-/// Reads the fragments of a list that are still to come, and appends their elements.
+/// Reads the fragments of a list that are still to be read, and appends their elements.
 #[inline(always)]
 #[cycle(newer)]
 fn read_fragments<R: ReadVersions>(

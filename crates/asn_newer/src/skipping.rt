@@ -15,7 +15,7 @@ use asn_rules::Skipped;
 use asn_walk::{PresenceBits, ReadLeaves};
 use std::alloc::Global;
 
-/// Skips the open type field of the addition at this place.
+/// Skips the open type field of the addition at this index.
 pub(crate) fn skip_field<R: ReadLeaves>(
     alloc: Global,
     place: u32,
@@ -34,7 +34,7 @@ pub(crate) fn skip_field<R: ReadLeaves>(
     Ok(())
 }
 
-/// Skips the open type fields of the additions that the presence bits tell, the first of which has this place.
+/// Skips the open type fields of the additions that the presence bits tell, the first of which has this index.
 pub(crate) fn skip_fields<R: ReadVersions>(
     alloc: Global,
     place: u32,

@@ -149,7 +149,7 @@ lex_enough (suc m) (suc n) s a b =
     same_but_rest (length rest == 0) [] ((leading_token rest).0 ∷ lex m (drop (leading_token rest).1 rest)) ((leading_token rest).0 ∷ lex n (drop (leading_token rest).1 rest)) (λ e.
     let some : 0 < length rest = grind (arith, nat_tests) in
     let moves = leading_token_moves rest some in
-    let behind = length-drop (leading_token rest).1 rest in
+    let shorter = length-drop (leading_token rest).1 rest in
     let blanks = length-drop (blank_len s) s in
     ap (λ ts. (leading_token rest).0 ∷ ts) (lex_enough m n (drop (leading_token rest).1 rest) (omega arith) (omega arith)))
 
@@ -169,6 +169,6 @@ lexed_some s some =
     let rest : List ℕ = drop (blank_len s) s in
     let after : List ℕ = drop (leading_token rest).1 rest in
     let moves = leading_token_moves rest some in
-    let behind = length-drop (leading_token rest).1 rest in
+    let shorter = length-drop (leading_token rest).1 rest in
     let blanks = length-drop (blank_len s) s in
     lex_step (length s) s some ∙ ap (λ ts. (leading_token rest).0 ∷ ts) (lex_enough (length s) (suc (length after)) after (omega arith) (omega arith))

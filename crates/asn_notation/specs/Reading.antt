@@ -383,7 +383,8 @@ type_at (suc levels) (too_large ∷ ts) = None
 type_at (suc levels) (illegal ∷ ts) = None
 type_at (suc levels) (sign u ∷ ts) = None
 
--- components and alternatives of at most this number of levels: more of them after those found, and as in Body and CHOICE
+-- components and alternatives of at most this number of levels: more of them after those found, and as in Body and
+-- CHOICE
 abbrev pub other_components : ℕ → List Part → Read (List Part)
 other_components levels found ts = all_others (component_at (type_at levels)) found ts
 

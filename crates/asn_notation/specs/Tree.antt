@@ -192,7 +192,8 @@ marked_items l = (items_view l.0.items, more_items l.1)
 abbrev pub marked_parts : Vec ComponentNotation × Option (Vec ComponentNotation) → List Part × Option (List Part)
 marked_parts l = (parts_view l.0.items, more_parts l.1)
 
-abbrev pub marked_branches : Vec AlternativeNotation × Option (Vec AlternativeNotation) → List Branch × Option (List Branch)
+abbrev pub marked_branches :
+    Vec AlternativeNotation × Option (Vec AlternativeNotation) → List Branch × Option (List Branch)
 marked_branches l = (branches_view l.0.items, more_branches l.1)
 
 abbrev pub assignment_view : AssignmentNotation → Assignment

@@ -209,7 +209,8 @@ fn after_type<'t>(alloc: Global, text: &'t str) -> Result<&'t str, SyntaxFault>
 /// Whether a text is of the grammar, with types at any depth.
 ///
 /// # Errors
-/// `Unexpected` and `OutOfProfile` at the first token with which no module goes on; `Memory` where an allocation failed.
+/// `Unexpected` and `OutOfProfile` at the first token with which no module goes on; `Memory` where an allocation
+/// failed.
 pub(crate) fn check_grammar(alloc: Global, text: &str) -> Result<(), SyntaxFault> {
     let (_, heading) = heading_at(text)?;
     let mut rest = heading;

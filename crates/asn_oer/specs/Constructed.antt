@@ -30,26 +30,27 @@ Quantity S = Map number_of (Counted 256 1 (Least S))
 abbrev pub elements_told : ℕ × List Datum → Datum
 elements_told p = elements (elements_of p.1)
 
--- the quantity, and so many elements
+-- the quantity, and as many elements
 abbrev pub Lists : Shape → SizeRange → Datum → List Chunk → Type 0
 Lists t s = Map elements_told (Then (Quantity (FitsLength s)) (λ n. Row (Values t) n))
 
 -- ---- CHOICE ("encoding of choice types")
 
--- the values of the alternative at the place, each type having its language
+-- the values of the alternative at the index, each type having its language
 abbrev pub OneOf : (Shape → Datum → List Chunk → Type 0) → Alternatives → ℕ → Datum → List Chunk → Type 0
 OneOf L no_alternatives t = λ d cs. ⊥
 OneOf L (one_of name shape alts) zero = L shape
 OneOf L (one_of name shape alts) (suc t) = OneOf L alts t
 
--- of the alternatives behind the extension mark, in open fields
+-- of the alternatives after the extension mark, in open fields
 abbrev pub OneOfMore : MoreAlternatives → ℕ → Datum → List Chunk → Type 0
 OneOfMore closed_choice t = λ d cs. ⊥
 OneOfMore (marked_choice alts) t = OneOf InOpenField alts t
 
 -- the values of the alternative with the tag
 abbrev pub Alternative : Alternatives → MoreAlternatives → ℕ → Datum → List Chunk → Type 0
-Alternative root more t = elim (nat_lt t (count root)) [ true ↦ OneOf Values root t | false ↦ OneOfMore more (t - count root) ]
+Alternative root more t =
+    elim (nat_lt t (count root)) [ true ↦ OneOf Values root t | false ↦ OneOfMore more (t - count root) ]
 
 -- the octet of a context-specific tag: 128 and the tag ("encoding of tags"); a type of the profile has at most 63
 -- alternatives

@@ -28,39 +28,46 @@ NullsCompose = Same Nulls (Values null)
 abbrev pub IntegersCompose : Type 0
 IntegersCompose = (b : Range) → InProfile (integer b) → Same (Integers b) (Values (integer b))
 
--- "encoding of enumerated types": one octet, or 128 with a count and so many octets
+-- "encoding of enumerated types": one octet, or 128 with a count and as many octets
 abbrev pub EnumeratedCompose : Type 0
-EnumeratedCompose = (root : List Label) (more : MoreLabels) → InProfile (enumerated root more) → Same (Items (root ++ more_labels more)) (Values (enumerated root more))
+EnumeratedCompose =
+    (root : List Label) (more : MoreLabels) → InProfile (enumerated root more)
+    → Same (Items (root ++ more_labels more)) (Values (enumerated root more))
 
--- "encoding of bit string types": octets of which the last ends in zeros, behind a length and the number of unused bits
+-- "encoding of bit string types": octets of which the last ends in zeros, after a length and the number of unused bits
 -- where the size is not fixed
 abbrev pub BitStringsCompose : Type 0
 BitStringsCompose = (s : SizeRange) → InProfile (bit_string s) → Same (BitStrings s) (Values (bit_string s))
 
--- "encoding of octet string types": the octets, behind their length where the size is not fixed
+-- "encoding of octet string types": the octets, after their length where the size is not fixed
 abbrev pub OctetStringsCompose : Type 0
 OctetStringsCompose = (s : SizeRange) → InProfile (octet_string s) → Same (OctetStrings s) (Values (octet_string s))
 
 -- "encoding of restricted character string types": an octet a character, likewise
 abbrev pub CharacterStringsCompose : Type 0
-CharacterStringsCompose = (k : Alphabet) (s : SizeRange) → InProfile (restricted k s) → Same (CharacterStrings k s) (Values (restricted k s))
+CharacterStringsCompose =
+    (k : Alphabet) (s : SizeRange) → InProfile (restricted k s) → Same (CharacterStrings k s) (Values (restricted k s))
 
 -- the same for UTF8String: a length and octets that are UTF-8
 abbrev pub Utf8StringsCompose : Type 0
 Utf8StringsCompose = Same Utf8Strings (Values utf8_string)
 
--- "encoding of sequence-of types": a quantity, and so many elements
+-- "encoding of sequence-of types": a quantity, and as many elements
 abbrev pub ListsCompose : Type 0
 ListsCompose = (t : Shape) (s : SizeRange) → Same (Lists t s) (Values (sequence_of t s))
 
--- "encoding of sequence types": a preamble, the components under its presence bits, and behind the extension bit the
+-- "encoding of sequence types": a preamble, the components under its presence bits, and after the extension bit the
 -- additions, as a bitmap and open fields
 abbrev pub SequencesCompose : Type 0
-SequencesCompose = (root : Fields) (more : MoreFields) → InProfile (sequence root more) → Same (Sequences root more) (Values (sequence root more))
+SequencesCompose =
+    (root : Fields) (more : MoreFields) → InProfile (sequence root more)
+    → Same (Sequences root more) (Values (sequence root more))
 
 -- "encoding of choice types": a tag, and a value of its alternative, of an addition in an open field
 abbrev pub ChoicesCompose : Type 0
-ChoicesCompose = (root : Alternatives) (more : MoreAlternatives) → InProfile (choice root more) → Same (Choices root more) (Values (choice root more))
+ChoicesCompose =
+    (root : Alternatives) (more : MoreAlternatives) → InProfile (choice root more)
+    → Same (Choices root more) (Values (choice root more))
 
 -- "open type": a length and the octets of an encoding
 abbrev pub OpenFieldsCompose : Type 0
@@ -70,13 +77,19 @@ OpenFieldsCompose = (t : Shape) → InProfile t → Same (InOpenField t) (Spelle
 
 -- BOOLEAN but for one value
 abbrev pub BooleansButOne : Type 0
-BooleansButOne = (e : Option Datum) → Same (Map truth_told (Plain (InDigits 256 1 (λ n. Among ((0, 0) ∷ (255, 255) ∷ []) n × IsOther e (truth_told n))))) (Spelt oer e boolean)
+BooleansButOne =
+    (e : Option Datum)
+    → Same
+    (Map truth_told (Plain (InDigits 256 1 (λ n. Among ((0, 0) ∷ (255, 255) ∷ []) n × IsOther e (truth_told n)))))
+    (Spelt oer e boolean)
 
 -- ENUMERATED but for one item
 abbrev pub EnumeratedButOne : Type 0
 EnumeratedButOne =
     (root : List Label) (more : MoreLabels) (e : Option Datum) → InProfile (enumerated root more) →
-    Same (Map (item_told (root ++ more_labels more)) (ItemNumbers (λ z. IsNumberOf (root ++ more_labels more) z × IsOther e (item_told (root ++ more_labels more) z)))) (Spelt oer e (enumerated root more))
+    Same (Map (item_told (root ++ more_labels more)) (ItemNumbers
+    (λ z. IsNumberOf (root ++ more_labels more) z × IsOther e (item_told (root ++ more_labels more) z))))
+    (Spelt oer e (enumerated root more))
 
 -- ---- all of them
 

@@ -32,7 +32,8 @@ BeginsWith root additions excluded os position left =
 
 -- it does not begin so
 abbrev pub BeginsOtherwise : List Item → Option (Vec Item) → Option ℕ → List ℕ → ℕ → Type 0
-BeginsOtherwise root additions excluded os position = (rest : List ℕ) → ItemBegins (items_of root additions) excluded position os rest → ⊥
+BeginsOtherwise root additions excluded os position =
+    (rest : List ℕ) → ItemBegins (items_of root additions) excluded position os rest → ⊥
 
 -- the values of the type BIT STRING that has this size
 abbrev pub BitStringsOf : Size → Datum → List Chunk → Type 0

@@ -1,5 +1,5 @@
 -- Bits that are filled up to octets with zeros, as the preamble of a SEQUENCE and the bitmap of its additions in
--- Canonical OER (X.696): one number in so many octets.
+-- Canonical OER (X.696): one number in as many octets as they fill.
 use Rattle.std.specs.Prelude.{◌≡◌, ◌+◌, ◌-◌, ◌/◌, ◌%◌, ◌^◌, ◌≤◌, ◌<◌, ℕ, suc, List}
 use Rattle.asn_values.specs.Shape.{Fields, no_fields, field, MoreFields, closed, marked}
 use Rattle.asn_rules.specs.Chunks.{Chunk}
@@ -14,7 +14,7 @@ pub record BeforeZeros (u : ℕ) (S : ℕ → Type 0) (x : ℕ) : Type 0 where
   pub zeros : x % 2 ^ u ≡ 0
   pub member : S (x / 2 ^ u)
 
--- the number without the zeros behind it
+-- the number without the zeros after it
 abbrev pub without_zeros : ℕ → ℕ → ℕ
 without_zeros n x = x / 2 ^ unused_bits n
 
@@ -37,7 +37,8 @@ extending_count (marked (field name demand t fs)) = 1
 
 -- the preamble as a number: the extension bit, and the presence bits
 abbrev pub Preamble : Fields → MoreFields → ℕ → List Chunk → Type 0
-Preamble root more = FilledNumbers (extension_count more + bitmap_length root) (λ m. m < 2 ^ (extending_count more + bitmap_length root))
+Preamble root more =
+    FilledNumbers (extension_count more + bitmap_length root) (λ m. m < 2 ^ (extending_count more + bitmap_length root))
 
 -- ---- the bitmap of the additions ("encoding of sequence types", extension addition presence bitmap)
 
@@ -51,4 +52,6 @@ bitmap_told p = p.1.1
 
 -- a BIT STRING of n bits, of which some are 1: the length, the number of unused bits and the bits
 abbrev pub Bitmap : ℕ → ℕ → List Chunk → Type 0
-Bitmap n = Map bitmap_told (Then (OctetLength (λ l. l ≡ suc (filled_octets n))) (λ _. Then (Plain (InDigits 256 1 (λ u. u ≡ unused_bits n))) (λ _. FilledNumbers n (SomeBits n))))
+Bitmap n =
+    Map bitmap_told (Then (OctetLength (λ l. l ≡ suc (filled_octets n)))
+    (λ _. Then (Plain (InDigits 256 1 (λ u. u ≡ unused_bits n))) (λ _. FilledNumbers n (SomeBits n))))

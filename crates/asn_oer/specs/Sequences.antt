@@ -5,7 +5,7 @@ use Rattle.asn_values.specs.Shape.{Fields, no_fields, field, MoreFields, closed,
 use Rattle.asn_bits.specs.Numbers.{bits}
 use Rattle.asn_rules.specs.Chunks.{Chunk}
 use Rattle.asn_rules.specs.Languages.{Then, Map, Nothing}
-use Rattle.asn_rules.specs.General.{behind_first}
+use Rattle.asn_rules.specs.General.{after_first}
 use Rattle.asn_rules.specs.Listed.{Before, Listed, bitmap_length}
 use Rattle.asn_oer.specs.Oer.{oer}
 use Rattle.asn_oer.specs.Constructed.{InOpenField}
@@ -22,7 +22,8 @@ OpenListed (field name demand t fs) [] = λ es cs. ⊥
 abbrev pub Additions : MoreFields → ℕ → List (Option Datum) → List Chunk → Type 0
 Additions more zero = Nothing (replicate (length (demands (more_fields more))) None)
 Additions closed (suc e) = λ es cs. ⊥
-Additions (marked fs) (suc e) = Map behind_first (Then (Bitmap (length (demands fs))) (λ m. OpenListed fs (bits (length (demands fs)) m)))
+Additions (marked fs) (suc e) =
+    Map after_first (Then (Bitmap (length (demands fs))) (λ m. OpenListed fs (bits (length (demands fs)) m)))
 
 -- the components and additions, without the preamble
 abbrev pub sequence_told : ℕ × (List (Option Datum) × List (Option Datum)) → Datum
@@ -31,4 +32,5 @@ sequence_told p = components (components_of (p.1.0 ++ p.1.1))
 -- the preamble, the components under its presence bits, and the additions under its extension bit
 abbrev pub Sequences : Fields → MoreFields → Datum → List Chunk → Type 0
 Sequences root more =
-    Map sequence_told (Then (Preamble root more) (λ m. Then (Listed oer root (bits (bitmap_length root) m)) (λ _. Additions more (m / 2 ^ bitmap_length root))))
+    Map sequence_told (Then (Preamble root more)
+    (λ m. Then (Listed oer root (bits (bitmap_length root) m)) (λ _. Additions more (m / 2 ^ bitmap_length root))))

@@ -33,7 +33,7 @@ Nulls = Nothing nothing
 abbrev pub FixedUnsigned : ℕ → ℕ → ℕ → ℤ → List Chunk → Type 0
 FixedUnsigned k low high = Map (λ n. pos n) (Plain (InDigits 256 k (Between low high)))
 
--- the numbers from low to high behind the count of their octets, the fewest
+-- the numbers from low to high after the count of their octets, the fewest
 abbrev pub CountedUnsigned : ℕ → ℕ → ℤ → List Chunk → Type 0
 CountedUnsigned low high = Map (λ n. pos n) (Map number_of (Counted 256 1 (Least (Between low high))))
 
@@ -48,7 +48,7 @@ residues k (negsuc low) (negsuc high) = (256 ^ k - 1 - low, 256 ^ k - 1 - high) 
 abbrev pub FixedSigned : ℕ → ℤ → ℤ → ℤ → List Chunk → Type 0
 FixedSigned k low high = Map (λ n. signed_number (k, n)) (Plain (InDigits 256 k (Among (residues k low high))))
 
--- the integers of the set behind the count of their octets of two's complement, the fewest
+-- the integers of the set after the count of their octets of two's complement, the fewest
 abbrev pub CountedSigned : (ℤ → Type 0) → ℤ → List Chunk → Type 0
 CountedSigned S = Map signed_number (Counted 256 1 (LeastSigned S))
 
@@ -73,7 +73,8 @@ BoundedIntegers b None high = CountedSigned (FitsNumber b)
 
 -- the integers of the range; an extensible one counts as none
 abbrev pub Integers : Range → Datum → List Chunk → Type 0
-Integers b = Map number (elim b.extensible [ true ↦ CountedSigned (FitsNumber b) | false ↦ BoundedIntegers b b.low b.high ])
+Integers b =
+    Map number (elim b.extensible [ true ↦ CountedSigned (FitsNumber b) | false ↦ BoundedIntegers b b.low b.high ])
 
 -- ---- ENUMERATED ("encoding of enumerated types")
 
@@ -83,7 +84,7 @@ pub record IsNumberOf (labels : List Label) (z : ℤ) : Type 0 where
   pub here : place < length labels
   pub same : z ≡ number_at labels place
 
--- the place of the first item with the number
+-- the position of the first item with the number
 abbrev pub place_of : List Label → ℤ → ℕ
 place_of [] z = 0
 place_of (l ∷ labels) z = elim (int_eq z l.number) [ true ↦ 0 | false ↦ suc (place_of labels z) ]
@@ -100,9 +101,14 @@ LongOnes S z = S z × (is_short z ≡ false)
 abbrev pub ItemOctet : (ℤ → Type 0) → ℕ → Type 0
 ItemOctet S b = ((b < 128) × S (pos b)) ⊎ ((128 ≤ b) × SomeOf (LeastSigned (LongOnes S)) (b - 128))
 
--- behind it nothing, or those octets, in two's complement
-abbrev pub BehindItemOctet : (ℤ → Type 0) → ℕ → ℤ → List Chunk → Type 0
-BehindItemOctet S b = elim (nat_lt b 128) [ true ↦ Nothing (pos b) | false ↦ Map (λ n. signed_number (b - 128, n)) (Plain (InDigits 256 (b - 128) (LeastSigned (LongOnes S) (b - 128)))) ]
+-- after it nothing, or those octets, in two's complement
+abbrev pub AfterItemOctet : (ℤ → Type 0) → ℕ → ℤ → List Chunk → Type 0
+AfterItemOctet S b =
+    elim (nat_lt b 128) [
+      | true ↦ Nothing (pos b)
+      | false ↦ Map (λ n. signed_number (b - 128, n))
+          (Plain (InDigits 256 (b - 128) (LeastSigned (LongOnes S) (b - 128))))
+    ]
 
 -- the number without its first octet
 abbrev pub number_told : ℕ × ℤ → ℤ
@@ -110,7 +116,7 @@ number_told p = p.1
 
 -- the numbers of the set as those of items
 abbrev pub ItemNumbers : (ℤ → Type 0) → ℤ → List Chunk → Type 0
-ItemNumbers S = Map number_told (Then (Plain (InDigits 256 1 (ItemOctet S))) (BehindItemOctet S))
+ItemNumbers S = Map number_told (Then (Plain (InDigits 256 1 (ItemOctet S))) (AfterItemOctet S))
 
 -- the item with the number
 abbrev pub item_told : List Label → ℤ → Datum

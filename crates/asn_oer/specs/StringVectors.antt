@@ -44,14 +44,15 @@ bits_of_a_bounded_size : oer_octets (bit_string (size_between 0 3)) (bit_list (b
 bits_of_a_bounded_size = refl
 
 -- SIZE (3, ...): not fixed
-bits_of_a_marked_fixed_size : oer_octets (bit_string (size_between_or_more 3 3)) (bit_list (bits_of "101")) ≡ hex "02 05 A0"
+bits_of_a_marked_fixed_size :
+    oer_octets (bit_string (size_between_or_more 3 3)) (bit_list (bits_of "101")) ≡ hex "02 05 A0"
 bits_of_a_marked_fixed_size = refl
 
 -- 127 octets and one before them: 128, so the length has a second octet
 1016_bits : oer_octets (bit_string any_size) (bit_list (replicate 1016 true)) ≡ hex "81 80 00" ++ replicate 127 0xFF
 1016_bits = refl
 
--- ---- OCTET STRING: the octets, behind a length where the size is not fixed
+-- ---- OCTET STRING: the octets, after a length where the size is not fixed
 
 one_octet : oer_octets (octet_string any_size) (octet_list (hex "AB")) ≡ hex "01 AB"
 one_octet = refl
@@ -72,7 +73,8 @@ octets_of_a_bounded_size : oer_octets (octet_string (size_between 0 1)) (octet_l
 octets_of_a_bounded_size = refl
 
 -- SIZE (1, ...): not fixed
-octets_of_a_marked_fixed_size : oer_octets (octet_string (size_between_or_more 1 1)) (octet_list (hex "AB")) ≡ hex "01 AB"
+octets_of_a_marked_fixed_size :
+    oer_octets (octet_string (size_between_or_more 1 1)) (octet_list (hex "AB")) ≡ hex "01 AB"
 octets_of_a_marked_fixed_size = refl
 
 127_octets : oer_octets (octet_string any_size) (octet_list (replicate 127 0xAB)) ≡ hex "7F" ++ replicate 127 0xAB
@@ -88,16 +90,20 @@ octets_of_a_marked_fixed_size = refl
 256_octets = refl
 
 -- without fragments
-16384_octets : oer_octets (octet_string any_size) (octet_list (replicate 16384 0xAB)) ≡ hex "82 40 00" ++ replicate 16384 0xAB
+16384_octets :
+    oer_octets (octet_string any_size) (octet_list (replicate 16384 0xAB)) ≡ hex "82 40 00" ++ replicate 16384 0xAB
 16384_octets = refl
 
-65536_octets : oer_octets (octet_string any_size) (octet_list (replicate 65536 0xAB)) ≡ hex "83 01 00 00" ++ replicate 65536 0xAB
+65536_octets :
+    oer_octets (octet_string any_size) (octet_list (replicate 65536 0xAB)) ≡ hex "83 01 00 00" ++ replicate 65536 0xAB
 65536_octets = refl
 
-81920_octets : oer_octets (octet_string any_size) (octet_list (replicate 81920 0xAB)) ≡ hex "83 01 40 00" ++ replicate 81920 0xAB
+81920_octets :
+    oer_octets (octet_string any_size) (octet_list (replicate 81920 0xAB)) ≡ hex "83 01 40 00" ++ replicate 81920 0xAB
 81920_octets = refl
 
--- ---- IA5String, NumericString, VisibleString and UTF8String: an octet a code, behind a length where the size is not fixed
+-- ---- IA5String, NumericString, VisibleString and UTF8String: an octet a code, after a length where the size is not
+-- fixed
 
 ia5_characters : oer_octets (restricted ia5 any_size) (characters (codes "Hi")) ≡ hex "02 48 69"
 ia5_characters = refl
@@ -107,7 +113,8 @@ ia5_characters_of_a_fixed_size : oer_octets (restricted ia5 (exactly 2)) (charac
 ia5_characters_of_a_fixed_size = refl
 
 -- SIZE (0..3, ...)
-ia5_characters_of_a_marked_size : oer_octets (restricted ia5 (size_between_or_more 0 3)) (characters (codes "ABCD")) ≡ hex "04 41 42 43 44"
+ia5_characters_of_a_marked_size :
+    oer_octets (restricted ia5 (size_between_or_more 0 3)) (characters (codes "ABCD")) ≡ hex "04 41 42 43 44"
 ia5_characters_of_a_marked_size = refl
 
 -- SIZE (2)

@@ -11,17 +11,17 @@ use Rattle.asn_rules.specs.OctetStrings.{Character, PackedBits, VariableBits}
 
 -- ---- octets and characters
 
--- items of a count of the set, behind it
-abbrev pub ItemsBehind : (ℕ → Type 0) → (ℕ → List Chunk → Type 0) → List ℕ → List Chunk → Type 0
-ItemsBehind S L = Map octets_told (Then (OctetLength S) (λ n. Row L n))
+-- items of a count of the set, after it
+abbrev pub ItemsAfterLength : (ℕ → Type 0) → (ℕ → List Chunk → Type 0) → List ℕ → List Chunk → Type 0
+ItemsAfterLength S L = Map octets_told (Then (OctetLength S) (λ n. Row L n))
 
 -- how many items there are: as many as the size says, or, where it leaves more than one count, one that stands there
 abbrev pub Count : SizeRange → ℕ → List Chunk → Type 0
 Count s = elim (is_fixed_size s) [ true ↦ Nothing s.low | false ↦ OctetLength (FitsLength s) ]
 
--- as many items as the size says, or, where it leaves more than one count, items behind their count
+-- as many items as the size says, or, where it leaves more than one count, items after their count
 abbrev pub Sized : SizeRange → (ℕ → List Chunk → Type 0) → List ℕ → List Chunk → Type 0
-Sized s L = elim (is_fixed_size s) [ true ↦ Row L s.low | false ↦ ItemsBehind (FitsLength s) L ]
+Sized s L = elim (is_fixed_size s) [ true ↦ Row L s.low | false ↦ ItemsAfterLength (FitsLength s) L ]
 
 -- octets of a size ("encoding of octet string types")
 abbrev pub OctetStrings : SizeRange → Datum → List Chunk → Type 0

@@ -15,7 +15,7 @@ use Rattle.asn_oer.specs.Constructed.{Quantity}
 use Rattle.asn_oer.specs.Oer.{oer, variable_bits, tag}
 use Rattle.asn_oer.specs.Rules.{oer_ruling}
 
--- the tag of an alternative, by its index in a root of so many or among the additions ("encoding of tags")
+-- the tag of an alternative, by its index in a root of this many or among the additions ("encoding of tags")
 abbrev pub tag_of : ℕ → ℕ ⊎ ℕ → ℕ
 tag_of root (inl n) = n
 tag_of root (inr n) = root + n
@@ -24,7 +24,7 @@ tag_of root (inr n) = root + n
 abbrev pub ListStart : SizeRange → Ahead → List Chunk → Type 0
 ListStart s = Map items (Quantity (FitsLength s))
 
--- the elements behind their quantity ("encoding of sequence-of types")
+-- the elements after their quantity ("encoding of sequence-of types")
 abbrev pub counted_items : List (List Chunk) → List Chunk
 counted_items each = ones (spelled (least (length each))) ++ joined each
 

@@ -147,53 +147,53 @@ fn read_signed(
 #[inline(always)]
 pub(crate) fn write_integer(
     bounds: &Bounds,
-    whole: i128,
+    value: i128,
     sink: &mut BitSink,
 ) -> Result<(), EncodeFault>
     requires of_profile { InProfile (integer (range_of bounds.now)) }
-    ensures of_type { TellsWhether result (FitsNumber (range_of bounds.now) whole) }
-    ensures written { Adds result sink.old sink.new (oer_octets (integer (range_of bounds.now)) (number whole)) }
+    ensures of_type { TellsWhether result (FitsNumber (range_of bounds.now) value) }
+    ensures written { Adds result sink.old sink.new (oer_octets (integer (range_of bounds.now)) (number value)) }
 {
     match (bounds.low, bounds.high) {
         (Some(low), Some(high)) if !bounds.ext => {
-            if whole < low || high < whole {
+            if value < low || high < value {
                 return Err(EncodeFault::NotOfType);
             }
-            Ok(write_between(low, high, whole, sink)?)
+            Ok(write_between(low, high, value, sink)?)
         }
-        _ => write_counted(bounds, whole, sink),
+        _ => write_counted(bounds, value, sink),
     }
 }
 
 /// Writes a number between two bounds in a fixed number of octets: unsigned where the lower bound is not negative, and
 /// else in two's complement.
 #[inline(always)]
-fn write_between(low: i128, high: i128, whole: i128, sink: &mut BitSink) -> Result<(), AllocError>
+fn write_between(low: i128, high: i128, value: i128, sink: &mut BitSink) -> Result<(), AllocError>
     requires within { (lowest_integer ≤ℤ low) × (high ≤ℤ highest_integer) }
-    requires of_type { (low ≤ℤ whole) × (whole ≤ℤ high) }
-    ensures { Adds result sink.old sink.new (ranged (Some low) (Some high) whole) }
+    requires of_type { (low ≤ℤ value) × (value ≤ℤ high) }
+    ensures { Adds result sink.old sink.new (ranged (Some low) (Some high) value) }
 {
     if low >= 0 {
-        return sink.push_number(8 * unsigned_size(high), whole as u64);
+        return sink.push_number(8 * unsigned_size(high), value as u64);
     }
     let count = signed_size(low, high);
-    sink.push_number(8 * count, signed_residue(whole, count))
+    sink.push_number(8 * count, signed_residue(value, count))
 }
 
 /// Writes a number, where it is one of the range, after its length: unsigned from a bound on that is not negative, and
 /// else in two's complement.
 #[inline(never)]
-fn write_counted(bounds: &Bounds, whole: i128, sink: &mut BitSink) -> Result<(), EncodeFault>
+fn write_counted(bounds: &Bounds, value: i128, sink: &mut BitSink) -> Result<(), EncodeFault>
     requires of_profile { InProfile (integer (range_of bounds.now)) }
     requires counted { IsCounted (range_of bounds.now) }
-    ensures of_type { TellsWhether result (FitsNumber (range_of bounds.now) whole) }
-    ensures written { Adds result sink.old sink.new (oer_octets (integer (range_of bounds.now)) (number whole)) }
+    ensures of_type { TellsWhether result (FitsNumber (range_of bounds.now) value) }
+    ensures written { Adds result sink.old sink.new (oer_octets (integer (range_of bounds.now)) (number value)) }
 {
-    if !number_fits(bounds, whole) {
+    if !number_fits(bounds, value) {
         return Err(EncodeFault::NotOfType);
     }
     match bounds.low {
-        Some(low) if low >= 0 && !bounds.ext => Ok(sink.push_least_octets(whole as u64)?),
-        _ => Ok(sink.push_least_signed_octets(whole)?),
+        Some(low) if low >= 0 && !bounds.ext => Ok(sink.push_least_octets(value as u64)?),
+        _ => Ok(sink.push_least_signed_octets(value)?),
     }
 }

@@ -51,7 +51,7 @@ pub fn answers_exclude()
 {}
 
 /// Of an encoding of at most 2 ^ 28 - 1 octets each beginning is live, so the octets of an encoding
-/// are at no place refused, however many of them have come.
+/// are at no place refused, however many of them are given.
 pub fn prefixes_are_viable()
     ensures live { BeginningsAreLive oer_ruling }
     ensures not_refused { BeginningsAreNotRefused oer_ruling }

@@ -63,8 +63,8 @@ impl Rules for Oer {
 }
 
 /// Decodes the value of the type whose complete encoding the octets are into the one that is there, whose memory is
-/// used again as far as it serves: entries, elements, boxes and strings. Any value may be given, at first `Value::Null`.
-/// Only the first 268,435,455 octets are read.
+/// used again as far as it serves: entries, elements, boxes and strings. Any value may be given, at first
+/// `Value::Null`. Only the first 268,435,455 octets are read.
 ///
 /// # Errors
 /// As `asn_rules::decode`. What is left of the value then is some value.

@@ -1,6 +1,6 @@
-//! Readers of strings, and of octets after their length (X.696, "length determinant", "open type"). Each answers `Short`
-//! if the octets end before what it reads does, `Refused` as `read_length` for a length, and `Memory` if an allocation
-//! failed.
+//! Readers of strings, and of octets after their length (X.696, "length determinant", "open type"). Each answers
+//! `Short` if the octets end before what it reads does, `Refused` as `read_length` for a length, and `Memory` if an
+//! allocation failed.
 ghost use Rattle.std.specs.Prelude.{OnOk, string_bytes};
 ghost use Rattle.asn_oer.specs.Words.{octet_list, characters, unicode, bit_list, InProfile, octet_string, restricted, size_range_of, alphabet_of, AtOctet, IsSizeOfProfile, BitStringsOf, OctetStringsOf, TextsOf, Reads, StopsIn, Count, Utf8Strings};
 
@@ -66,7 +66,7 @@ pub(crate) fn read_text(
     read_characters(alloc, kind, count, units)
 }
 
-/// Reads a UTF8String: its octets after their length, and that they are UTF-8 is asked once they have all come.
+/// Reads a UTF8String: its octets after their length, and that they are UTF-8 is asked once they have all been read.
 /// Where they are not, the last octet is refused, with the reason `Sealed`.
 pub(crate) fn read_utf8_string(alloc: Global, units: &mut BitCursor<'_>) -> Result<String, Stop>
     requires at_octet { AtOctet units.old }

@@ -30,7 +30,7 @@ impl WriteLeaves for Oer {
                 Ok(sink.push_number(8, if *truth { 0xff } else { 0 })?)
             }
             (AsnType::Null, Value::Null) => Ok(()),
-            (AsnType::Int(bounds), Value::Int(whole)) => write_integer(bounds, *whole, sink),
+            (AsnType::Int(bounds), Value::Int(value)) => write_integer(bounds, *value, sink),
             (AsnType::Enum { root, ext }, Value::Enum(index)) if item_fits(root, ext, *index) => {
                 Ok(write_item(root, ext, *index, sink)?)
             }
@@ -52,8 +52,8 @@ impl WriteLeaves for Oer {
     }
 
     #[inline(always)]
-    fn write_number(bounds: &Bounds, whole: i128, sink: &mut BitSink) -> Result<(), EncodeFault> {
-        write_integer(bounds, whole, sink)
+    fn write_number(bounds: &Bounds, value: i128, sink: &mut BitSink) -> Result<(), EncodeFault> {
+        write_integer(bounds, value, sink)
     }
 
     #[inline(always)]

@@ -11,30 +11,41 @@ use Rattle.asn_per.specs.Rules.{per_ruling, IsPerEncoding}
 -- ---- sealed fields: how many bits stand before each and before what follows it
 
 -- one field, from the first bit to the last
-field_of_a_text : fields spelled (per_whole utf8_string (unicode (hex "C3 A9"))) ≡ record { start = 0; end = 24; kind = utf8_field; content = hex "C3 A9" } ∷ []
+field_of_a_text :
+    fields spelled (per_whole utf8_string (unicode (hex "C3 A9")))
+    ≡ record { start = 0; end = 24; kind = utf8_field; content = hex "C3 A9" } ∷ []
 field_of_a_text = refl
 
--- behind 1 1, 0 000000 and 1; two octets
-field_of_an_addition : fields spelled (per_whole extended_type (entries (Some (truth true) ∷ Some (number (pos 7)) ∷ []))) ≡ record { start = 10; end = 26; kind = open_field; content = hex "07" } ∷ []
+-- after 1 1, 0 000000 and 1; two octets
+field_of_an_addition :
+    fields spelled (per_whole extended_type (entries (Some (truth true) ∷ Some (number (pos 7)) ∷ [])))
+    ≡ record { start = 10; end = 26; kind = open_field; content = hex "07" } ∷ []
 field_of_an_addition = refl
 
 no_field_of_an_absent_addition : fields spelled (per_whole extended_type (entries (Some (truth true) ∷ None ∷ []))) ≡ []
 no_field_of_an_absent_addition = refl
 
--- behind 1 1, 0 000001 and 1 1: five octets and two; the field inside the first is not listed
+-- after 1 1, 0 000001 and 1 1: five octets and two; the field inside the first is not listed
 fields_of_two_additions :
-    fields spelled (per_whole outer_type (entries (Some (truth true) ∷ Some (components (components_of (Some (truth true) ∷ Some (number (pos 7)) ∷ []))) ∷ Some (truth true) ∷ [])))
-    ≡ record { start = 11; end = 51; kind = open_field; content = hex "C0 40 41 C0" } ∷ record { start = 51; end = 67; kind = open_field; content = hex "80" } ∷ []
+    fields spelled (per_whole outer_type (
+    entries (Some (truth true) ∷ Some (components (components_of (Some (truth true) ∷ Some (number (pos 7)) ∷ [])))
+    ∷ Some (truth true) ∷ [])))
+    ≡ record { start = 11; end = 51; kind = open_field; content = hex "C0 40 41 C0" }
+    ∷ record { start = 51; end = 67; kind = open_field; content = hex "80" } ∷ []
 fields_of_two_additions = refl
 
--- behind 1 and 0 000000
-field_of_an_alternative : fields spelled (per_whole extended_choice (alternative 3 (octet_list (hex "AB")))) ≡ record { start = 8; end = 32; kind = open_field; content = hex "01 AB" } ∷ []
+-- after 1 and 0 000000
+field_of_an_alternative :
+    fields spelled (per_whole extended_choice (alternative 3 (octet_list (hex "AB"))))
+    ≡ record { start = 8; end = 32; kind = open_field; content = hex "01 AB" } ∷ []
 field_of_an_alternative = refl
 
--- behind the length 00000010
+-- after the length 00000010
 fields_of_two_texts :
-    fields spelled (per_whole (sequence_of utf8_string any_size) (items (unicode (hex "C3 A9") ∷ unicode (hex "61") ∷ [])))
-    ≡ record { start = 8; end = 32; kind = utf8_field; content = hex "C3 A9" } ∷ record { start = 32; end = 48; kind = utf8_field; content = hex "61" } ∷ []
+    fields spelled
+    (per_whole (sequence_of utf8_string any_size) (items (unicode (hex "C3 A9") ∷ unicode (hex "61") ∷ [])))
+    ≡ record { start = 8; end = 32; kind = utf8_field; content = hex "C3 A9" }
+    ∷ record { start = 32; end = 48; kind = utf8_field; content = hex "61" } ∷ []
 fields_of_two_texts = refl
 
 -- ---- octets that are the encoding of a value that fits
@@ -59,24 +70,31 @@ encoding_of_a_text : IsPerEncoding utf8_string (unicode (hex "C3 A9")) (hex "02 
 unfolding per_ruling
 encoding_of_a_text = (a_unicode_text_fits, refl)
 
-encoding_with_a_default : IsPerEncoding note_type (entries (Some (number (pos 5)) ∷ Some (truth true) ∷ None ∷ [])) (hex "28")
+encoding_with_a_default :
+    IsPerEncoding note_type (entries (Some (number (pos 5)) ∷ Some (truth true) ∷ None ∷ [])) (hex "28")
 unfolding per_ruling
 encoding_with_a_default = (two_components_fit, refl)
 
-encoding_with_a_note : IsPerEncoding note_type (entries (Some (number (pos 5)) ∷ Some (truth true) ∷ Some (characters (codes "A")) ∷ [])) (hex "6B 04")
+encoding_with_a_note :
+    IsPerEncoding note_type (entries (Some (number (pos 5)) ∷ Some (truth true) ∷ Some (characters (codes "A")) ∷ []))
+    (hex "6B 04")
 unfolding per_ruling
 encoding_with_a_note = (three_components_fit, refl)
 
 -- 1 1, 0 000001, 1 0, 00000001, 00000111
-encoding_with_an_addition : IsPerEncoding twice_extended_type (entries (Some (truth true) ∷ Some (number (pos 7)) ∷ None ∷ [])) (hex "C0 C0 20 E0")
+encoding_with_an_addition :
+    IsPerEncoding twice_extended_type (entries (Some (truth true) ∷ Some (number (pos 7)) ∷ None ∷ []))
+    (hex "C0 C0 20 E0")
 unfolding per_ruling
 encoding_with_an_addition = (an_entry_for_each_addition_fits, refl)
 
 -- 0, then 1 0
-encoding_of_two_elements : IsPerEncoding (sequence_of boolean (size_between 2 3)) (items (truth true ∷ truth false ∷ [])) (hex "40")
+encoding_of_two_elements :
+    IsPerEncoding (sequence_of boolean (size_between 2 3)) (items (truth true ∷ truth false ∷ [])) (hex "40")
 unfolding per_ruling
 encoding_of_two_elements = (two_elements_fit, refl)
 
-encoding_of_an_added_alternative : IsPerEncoding extended_choice (alternative 3 (octet_list (hex "AB"))) (hex "80 02 01 AB")
+encoding_of_an_added_alternative :
+    IsPerEncoding extended_choice (alternative 3 (octet_list (hex "AB"))) (hex "80 02 01 AB")
 unfolding per_ruling
 encoding_of_an_added_alternative = (an_added_alternative_fits, refl)

@@ -14,4 +14,5 @@ following_chunks following.Length items = general one items
 
 -- the writer of a list goes on as far as the next items
 abbrev pub Proceeds : Following → ℕ → List ℕ → Following → List ℕ → Option ℕ → Type 0
-Proceeds old left before new after count = Advances per_coding (following_chunks old) left before (following_chunks new) after count
+Proceeds old left before new after count =
+    Advances per_coding (following_chunks old) left before (following_chunks new) after count

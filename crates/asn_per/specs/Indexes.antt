@@ -15,7 +15,7 @@ use Rattle.asn_per.specs.Per.{rank, constrained, small}
 
 -- ---- indexes of the root or of the additions
 
--- an index of the root in bits; behind an extension mark 0 and such an index, or 1 and that of an addition
+-- an index of the root in bits; after an extension mark 0 and such an index, or 1 and that of an addition
 abbrev pub IndexesOf : ℕ → Option ℕ → ℕ ⊎ ℕ → List Chunk → Type 0
 IndexesOf root None = Map inl (Below (width root) root)
 IndexesOf root (Some more) = Fork (Below (width root) root) (SmallBelow more)

@@ -13,7 +13,7 @@ use Rattle.asn_rules.specs.Components.{number_at}
 use Rattle.asn_rules.specs.Languages.{Then, Map, Nothing, Row, Plain, Sealed, prepended}
 use Rattle.asn_bits.specs.Sets.{InSet}
 use Rattle.asn_rules.specs.Forks.{Fork, Same}
-use Rattle.asn_rules.specs.General.{General, behind_first}
+use Rattle.asn_rules.specs.General.{General, after_first}
 use Rattle.asn_rules.specs.Counted.{Counted, number_of, Least, signed_number, LeastSigned}
 use Rattle.asn_rules.specs.Fields.{Octet}
 use Rattle.asn_rules.specs.Listed.{IsOther, Spelt, Listed, bitmap_length}
@@ -34,7 +34,7 @@ abbrev pub of_either : {A : Type 0} → A ⊎ A → A
 of_either (inl a) = a
 of_either (inr a) = a
 
--- the numbers below a count, in so many bits ("constrained whole number")
+-- the numbers below a count, in k bits ("constrained whole number")
 abbrev pub Below : ℕ → ℕ → ℕ → List Chunk → Type 0
 Below k values = Plain (InSet k (λ n. n < values))
 
@@ -67,7 +67,7 @@ Nulls = Nothing nothing
 abbrev pub root_of : Range → Range
 root_of b = record { low = b.low; high = b.high; extensible = false }
 
--- between two bounds, behind an extension mark or without
+-- between two bounds, after an extension mark or without
 abbrev pub between : ℤ → ℤ → Bool → Range
 between low high m = record { low = Some low; high = Some high; extensible = m }
 
@@ -88,11 +88,13 @@ Unconstrained S = Map number (Map signed_number (Counted 2 8 (LeastSigned S)))
 -- the integers between the bounds: how far each lies above the low bound, in bits where there is a high one and
 -- else under the length of its octets; without a low bound unconstrained
 abbrev pub Ranged : Option ℤ → Option ℤ → Datum → List Chunk → Type 0
-Ranged (Some low) (Some high) = Map (λ n. number (low +ℤ pos n)) (Below (width (suc (above low high))) (suc (above low high)))
-Ranged (Some low) None = Map (λ n. number (low +ℤ pos n)) (Map number_of (Counted 2 8 (Least (λ n. n ≤ above low highest_integer))))
+Ranged (Some low) (Some high) =
+    Map (λ n. number (low +ℤ pos n)) (Below (width (suc (above low high))) (suc (above low high)))
+Ranged (Some low) None =
+    Map (λ n. number (low +ℤ pos n)) (Map number_of (Counted 2 8 (Least (λ n. n ≤ above low highest_integer))))
 Ranged None high = Unconstrained (FitsNumber (record { low = None; high = high; extensible = false }))
 
--- behind an extension mark, 0 and the form of the root, or 1 and an unconstrained number
+-- after an extension mark, 0 and the form of the root, or 1 and an unconstrained number
 abbrev pub Integers : Range → Datum → List Chunk → Type 0
 Integers b = elim b.extensible [
   | false ↦ Ranged b.low b.high
@@ -101,7 +103,7 @@ Integers b = elim b.extensible [
 
 -- ---- ENUMERATED
 
--- the place of the item that has the index
+-- the position of the item that has the index
 abbrev pub position_of : List Label → ℕ → ℕ
 position_of root n = least_from (λ p. rank root (number_at root p) == n) (length root) 0
 
@@ -109,10 +111,11 @@ position_of root n = least_from (λ p. rank root (number_at root p) == n) (lengt
 abbrev pub RootItems : List Label → Datum → List Chunk → Type 0
 RootItems root = Map (λ n. item (position_of root n)) (Below (width (length root)) (length root))
 
--- behind an extension mark, 0 and an item of the root, or 1 and the index of an addition
+-- after an extension mark, 0 and an item of the root, or 1 and the index of an addition
 abbrev pub Items : List Label → MoreLabels → Datum → List Chunk → Type 0
 Items root closed_labels = RootItems root
-Items root (marked_labels more) = Map of_either (Fork (RootItems root) (Map (λ k. item (length root + k)) (SmallBelow (length more))))
+Items root (marked_labels more) =
+    Map of_either (Fork (RootItems root) (Map (λ k. item (length root + k)) (SmallBelow (length more))))
 
 -- ---- lists under a size
 
@@ -125,12 +128,12 @@ pub record IsOtherCount (s : SizeRange) (n : ℕ) : Type 0 where
 abbrev pub CountWithin : ℕ → ℕ → ℕ → List Chunk → Type 0
 CountWithin low high = Map (λ k. low + k) (Below (width (suc (high - low))) (suc (high - low)))
 
--- items of a count in the root: behind the count where there is an upper bound, else under their general length
+-- items of a count in the root: after the count where there is an upper bound, else under their general length
 abbrev pub RootSized : {A : Type 0} → ℕ → Option ℕ → (A → List Chunk → Type 0) → List A → List Chunk → Type 0
-RootSized low (Some high) L = Map behind_first (Then (CountWithin low high) (λ n. Row L n))
+RootSized low (Some high) L = Map after_first (Then (CountWithin low high) (λ n. Row L n))
 RootSized low None L = General L (λ n. (low ≤ n) × (n ≤ max_len))
 
--- behind an extension mark, 0 and the form of the root, or 1 and the items under their general length
+-- after an extension mark, 0 and the form of the root, or 1 and the items under their general length
 abbrev pub Sized : {A : Type 0} → SizeRange → (A → List Chunk → Type 0) → List A → List Chunk → Type 0
 Sized s L = elim s.extensible [
   | false ↦ RootSized s.low s.high L
@@ -182,7 +185,7 @@ Utf8Strings = Map unicode (Sealed utf8_field IsUtf8Content)
 abbrev pub OpenValues : Shape → Datum → List Chunk → Type 0
 OpenValues t = Sealed open_field (Holds per_ruling t)
 
--- the values of the alternative at a place
+-- the values of the alternative at an index
 abbrev pub Chosen : Alternatives → ℕ → Datum → List Chunk → Type 0
 Chosen no_alternatives i = λ v cs. ⊥
 Chosen (one_of name t alts) zero = Values t
@@ -198,11 +201,12 @@ OpenChosen (one_of name t alts) (suc i) = OpenChosen alts i
 abbrev pub RootChoices : Alternatives → Datum → List Chunk → Type 0
 RootChoices root = Map (λ p. alternative p.0 p.1) (Then (Below (width (count root)) (count root)) (λ i. Chosen root i))
 
--- an addition: its index among the additions, and its value in an open field; so many alternatives stand before them
+-- an addition after `before` alternatives: its index among the additions, and its value in an open field
 abbrev pub AddedChoices : ℕ → Alternatives → Datum → List Chunk → Type 0
-AddedChoices before more = Map (λ p. alternative (before + p.0) p.1) (Then (SmallBelow (count more)) (λ i. OpenChosen more i))
+AddedChoices before more =
+    Map (λ p. alternative (before + p.0) p.1) (Then (SmallBelow (count more)) (λ i. OpenChosen more i))
 
--- behind an extension mark, 0 and an alternative of the root, or 1 and an addition
+-- after an extension mark, 0 and an alternative of the root, or 1 and an addition
 abbrev pub Choices : Alternatives → MoreAlternatives → Datum → List Chunk → Type 0
 Choices root closed_choice = RootChoices root
 Choices root (marked_choice more) = Map of_either (Fork (RootChoices root) (AddedChoices (count root) more))
@@ -212,7 +216,8 @@ Choices root (marked_choice more) = Map of_either (Fork (RootChoices root) (Adde
 -- the additions that are present by these bits, each in an open field
 abbrev pub OpenListed : Fields → List ℕ → List (Option Datum) → List Chunk → Type 0
 OpenListed no_fields bits = Nothing []
-OpenListed (field name demand t fs) (suc b ∷ bits) = Map prepended (Then (Map Some (OpenValues t)) (λ _. OpenListed fs bits))
+OpenListed (field name demand t fs) (suc b ∷ bits) =
+    Map prepended (Then (Map Some (OpenValues t)) (λ _. OpenListed fs bits))
 OpenListed (field name demand t fs) (zero ∷ bits) = Map (λ es. None ∷ es) (OpenListed fs bits)
 OpenListed (field name demand t fs) [] = λ es cs. ⊥
 
@@ -228,27 +233,31 @@ SomePresent n = Plain (InSet n (λ b. (0 < b) × (b < 2 ^ n)))
 abbrev pub Additions : Fields → List (Option Datum) → List Chunk → Type 0
 Additions fs =
     let n = length (demands fs) in
-    Map behind_first (Then (AdditionCount n) (λ k. Map behind_first (Then (SomePresent n) (λ b. OpenListed fs (bits n b)))))
+    Map after_first
+    (Then (AdditionCount n) (λ k. Map after_first (Then (SomePresent n) (λ b. OpenListed fs (bits n b)))))
 
 -- a SEQUENCE with further entries
 abbrev pub with_entries : Datum × List (Option Datum) → Datum
 with_entries (components cs, es) = components (components_of (component_list cs ++ es))
 with_entries (v, es) = v
 
--- behind an extension mark, 0 and the SEQUENCE of the root, or 1, the SEQUENCE of the root and the additions
+-- after an extension mark, 0 and the SEQUENCE of the root, or 1, the SEQUENCE of the root and the additions
 abbrev pub MarkedSequences : Fields → Fields → Datum → List Chunk → Type 0
 MarkedSequences root fs =
-    Map of_either (Fork (Map (λ v. with_entries (v, absent_entries fs)) (Values (sequence root closed))) (Map with_entries (Then (Values (sequence root closed)) (λ v. Additions fs))))
+    Map of_either (Fork (Map (λ v. with_entries (v, absent_entries fs)) (Values (sequence root closed)))
+    (Map with_entries (Then (Values (sequence root closed)) (λ v. Additions fs))))
 
 -- ---- SEQUENCE without an extension mark
 
--- the entries behind a presence bitmap
-abbrev pub entries_behind : ℕ × List (Option Datum) → Datum
-entries_behind p = components (components_of p.1)
+-- the entries after a presence bitmap
+abbrev pub entries_after : ℕ × List (Option Datum) → Datum
+entries_after p = components (components_of p.1)
 
--- a presence bitmap, any number of so many bits, and the components under it
+-- a presence bitmap, which is any number of as many bits, and the components under it
 abbrev pub Sequences : Fields → Datum → List Chunk → Type 0
-Sequences fs = Map entries_behind (Then (Below (bitmap_length fs) (2 ^ bitmap_length fs)) (λ n. Listed per fs (bits (bitmap_length fs) n)))
+Sequences fs =
+    Map entries_after
+    (Then (Below (bitmap_length fs) (2 ^ bitmap_length fs)) (λ n. Listed per fs (bits (bitmap_length fs) n)))
 
 -- ---- what each kind of type is put together from
 
@@ -266,7 +275,9 @@ IntegersCompose = (b : Range) → InProfile (integer b) → Same (Integers b) (V
 
 -- "encoding the enumerated type"
 abbrev pub EnumeratedCompose : Type 0
-EnumeratedCompose = (root : List Label) (more : MoreLabels) → InProfile (enumerated root more) → Same (Items root more) (Values (enumerated root more))
+EnumeratedCompose =
+    (root : List Label) (more : MoreLabels) → InProfile (enumerated root more)
+    → Same (Items root more) (Values (enumerated root more))
 
 -- "encoding the bitstring type"
 abbrev pub BitStringsCompose : Type 0
@@ -298,15 +309,20 @@ FixedSizesCompose =
 
 -- "encoding the choice type"
 abbrev pub ChoicesCompose : Type 0
-ChoicesCompose = (root : Alternatives) (more : MoreAlternatives) → InProfile (choice root more) → Same (Choices root more) (Values (choice root more))
+ChoicesCompose =
+    (root : Alternatives) (more : MoreAlternatives) → InProfile (choice root more)
+    → Same (Choices root more) (Values (choice root more))
 
 -- "encoding the sequence type", without an extension mark
 abbrev pub SequencesCompose : Type 0
-SequencesCompose = (root : Fields) → InProfile (sequence root closed) → Same (Sequences root) (Values (sequence root closed))
+SequencesCompose =
+    (root : Fields) → InProfile (sequence root closed) → Same (Sequences root) (Values (sequence root closed))
 
 -- "encoding the sequence type", with an extension mark
 abbrev pub MarkedSequencesCompose : Type 0
-MarkedSequencesCompose = (root fs : Fields) → InProfile (sequence root (marked fs)) → Same (MarkedSequences root fs) (Values (sequence root (marked fs)))
+MarkedSequencesCompose =
+    (root fs : Fields) → InProfile (sequence root (marked fs))
+    → Same (MarkedSequences root fs) (Values (sequence root (marked fs)))
 
 -- ---- components with a DEFAULT, which is not spelt: the values but for one
 
@@ -334,5 +350,7 @@ EnumeratedButOne =
 abbrev pub UnboundedButOne : Type 0
 UnboundedButOne =
     (high e : Option ℤ) →
-    Same (Unconstrained (λ z. FitsNumber (record { low = None; high = high; extensible = false }) z × IsOther (option_map number e) (number z)))
+    Same (Unconstrained (λ z.
+    FitsNumber (record { low = None; high = high; extensible = false }) z
+    × IsOther (option_map number e) (number z)))
     (Spelt per (option_map number e) (integer (record { low = None; high = high; extensible = false })))

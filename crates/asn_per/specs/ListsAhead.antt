@@ -1,4 +1,5 @@
--- What stands before the items of a list under a size: the extension bit, the count, or nothing before the first length.
+-- What stands before the items of a list under a size: the extension bit, the count, or nothing before the first
+-- length.
 use Rattle.std.specs.Prelude.{◌+◌, ◌-◌, ℕ, zero, suc, true, false, List, [], ◌∷◌, Option, Some, None}
 use Rattle.asn_values.specs.Shape.{SizeRange}
 use Rattle.asn_values.specs.Fits.{max_len}
@@ -19,7 +20,7 @@ abbrev pub RootStart : ℕ → Option ℕ → Ahead → List Chunk → Type 0
 RootStart low (Some high) = Map items (CountWithin low high)
 RootStart low None = Nothing (lengths ((low, Some max_len) ∷ []) 0 false)
 
--- behind an extension mark, 0 and the form of the root, or 1 and a length is ahead
+-- after an extension mark, 0 and the form of the root, or 1 and a length is ahead
 abbrev pub Start : SizeRange → Ahead → List Chunk → Type 0
 Start s = elim s.extensible [
   | false ↦ RootStart s.low s.high

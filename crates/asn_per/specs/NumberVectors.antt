@@ -67,27 +67,43 @@ a_range_of_negative_numbers : per_octets (integer (between (negsuc 19) (negsuc 1
 a_range_of_negative_numbers = refl
 
 -- -1 lies 2^63 - 1 above -2^63: 0 and 63 bits of 1
-all_integers_of_64_bits_below_zero : per_octets (integer (between (negsuc 9223372036854775807) (pos 9223372036854775807))) (number (negsuc 0)) ≡ hex "7F FF FF FF FF FF FF FF"
+all_integers_of_64_bits_below_zero :
+    per_octets (integer (between (negsuc 9223372036854775807) (pos 9223372036854775807))) (number (negsuc 0))
+    ≡ hex "7F FF FF FF FF FF FF FF"
 all_integers_of_64_bits_below_zero = refl
 
 -- 64 bits of 0
-all_integers_of_64_bits_least : per_octets (integer (between (negsuc 9223372036854775807) (pos 9223372036854775807))) (number (negsuc 9223372036854775807)) ≡ hex "00 00 00 00 00 00 00 00"
+all_integers_of_64_bits_least :
+    per_octets (integer (between (negsuc 9223372036854775807) (pos 9223372036854775807)))
+    (number (negsuc 9223372036854775807))
+    ≡ hex "00 00 00 00 00 00 00 00"
 all_integers_of_64_bits_least = refl
 
 -- 64 bits of 1
-all_integers_of_64_bits_greatest : per_octets (integer (between (negsuc 9223372036854775807) (pos 9223372036854775807))) (number (pos 9223372036854775807)) ≡ hex "FF FF FF FF FF FF FF FF"
+all_integers_of_64_bits_greatest :
+    per_octets (integer (between (negsuc 9223372036854775807) (pos 9223372036854775807)))
+    (number (pos 9223372036854775807))
+    ≡ hex "FF FF FF FF FF FF FF FF"
 all_integers_of_64_bits_greatest = refl
 
 -- 64 bits of 1, past the integers of the profile
-all_unsigned_integers_of_64_bits_greatest : per_octets (integer (between (pos 0) (pos 18446744073709551615))) (number (pos 18446744073709551615)) ≡ hex "FF FF FF FF FF FF FF FF"
+all_unsigned_integers_of_64_bits_greatest :
+    per_octets (integer (between (pos 0) (pos 18446744073709551615))) (number (pos 18446744073709551615))
+    ≡ hex "FF FF FF FF FF FF FF FF"
 all_unsigned_integers_of_64_bits_greatest = refl
 
 -- INTEGER (-2^63..2^64-1), past the integers of the profile: 65 bits of 0
-a_range_of_65_bits_least : per_octets (integer (between (negsuc 9223372036854775807) (pos 18446744073709551615))) (number (negsuc 9223372036854775807)) ≡ hex "00 00 00 00 00 00 00 00 00"
+a_range_of_65_bits_least :
+    per_octets (integer (between (negsuc 9223372036854775807) (pos 18446744073709551615)))
+    (number (negsuc 9223372036854775807))
+    ≡ hex "00 00 00 00 00 00 00 00 00"
 a_range_of_65_bits_least = refl
 
 -- 2^64 + 2^63 - 1, as 1, 0 and 63 bits of 1
-a_range_of_65_bits_greatest : per_octets (integer (between (negsuc 9223372036854775807) (pos 18446744073709551615))) (number (pos 18446744073709551615)) ≡ hex "BF FF FF FF FF FF FF FF 80"
+a_range_of_65_bits_greatest :
+    per_octets (integer (between (negsuc 9223372036854775807) (pos 18446744073709551615)))
+    (number (pos 18446744073709551615))
+    ≡ hex "BF FF FF FF FF FF FF FF 80"
 a_range_of_65_bits_greatest = refl
 
 -- ---- INTEGER with a low bound only: a length, and how far the number lies above the bound, in the fewest octets
@@ -109,7 +125,8 @@ from_a_negative_bound : per_octets (integer (number_from (negsuc 4))) (number (n
 from_a_negative_bound = refl
 
 -- 250 lies 255 above -5
-from_a_negative_bound_to_the_end_of_an_octet : per_octets (integer (number_from (negsuc 4))) (number (pos 250)) ≡ hex "01 FF"
+from_a_negative_bound_to_the_end_of_an_octet :
+    per_octets (integer (number_from (negsuc 4))) (number (pos 250)) ≡ hex "01 FF"
 from_a_negative_bound_to_the_end_of_an_octet = refl
 
 -- 251 lies 256 above -5
@@ -125,19 +142,25 @@ from_zero_has_no_sign_bit : per_octets (integer (number_from (pos 0))) (number (
 from_zero_has_no_sign_bit = refl
 
 -- 2^63 - 1
-from_zero_greatest_of_the_profile : per_octets (integer (number_from (pos 0))) (number (pos 9223372036854775807)) ≡ hex "08 7F FF FF FF FF FF FF FF"
+from_zero_greatest_of_the_profile :
+    per_octets (integer (number_from (pos 0))) (number (pos 9223372036854775807)) ≡ hex "08 7F FF FF FF FF FF FF FF"
 from_zero_greatest_of_the_profile = refl
 
 -- 2^64 - 1, past the integers of the profile
-from_zero_greatest_of_64_bits : per_octets (integer (number_from (pos 0))) (number (pos 18446744073709551615)) ≡ hex "08 FF FF FF FF FF FF FF FF"
+from_zero_greatest_of_64_bits :
+    per_octets (integer (number_from (pos 0))) (number (pos 18446744073709551615)) ≡ hex "08 FF FF FF FF FF FF FF FF"
 from_zero_greatest_of_64_bits = refl
 
 -- INTEGER (-9223372036854775808..MAX): 2^63 - 1 lies 2^64 - 1 above
-from_the_least_integer : per_octets (integer (number_from (negsuc 9223372036854775807))) (number (pos 9223372036854775807)) ≡ hex "08 FF FF FF FF FF FF FF FF"
+from_the_least_integer :
+    per_octets (integer (number_from (negsuc 9223372036854775807))) (number (pos 9223372036854775807))
+    ≡ hex "08 FF FF FF FF FF FF FF FF"
 from_the_least_integer = refl
 
 -- 2^64 - 1, past the profile, lies 2^64 + 2^63 - 1 above
-from_the_least_integer_in_nine_octets : per_octets (integer (number_from (negsuc 9223372036854775807))) (number (pos 18446744073709551615)) ≡ hex "09 01 7F FF FF FF FF FF FF FF"
+from_the_least_integer_in_nine_octets :
+    per_octets (integer (number_from (negsuc 9223372036854775807))) (number (pos 18446744073709551615))
+    ≡ hex "09 01 7F FF FF FF FF FF FF FF"
 from_the_least_integer_in_nine_octets = refl
 
 -- ---- INTEGER without a low bound: a length, and two's complement in the fewest octets
@@ -179,19 +202,23 @@ minus_32769_has_three_octets : per_octets (integer any_number) (number (negsuc 3
 minus_32769_has_three_octets = refl
 
 -- -2^63
-the_least_integer : per_octets (integer any_number) (number (negsuc 9223372036854775807)) ≡ hex "08 80 00 00 00 00 00 00 00"
+the_least_integer :
+    per_octets (integer any_number) (number (negsuc 9223372036854775807)) ≡ hex "08 80 00 00 00 00 00 00 00"
 the_least_integer = refl
 
 -- 2^63 - 1
-the_greatest_integer : per_octets (integer any_number) (number (pos 9223372036854775807)) ≡ hex "08 7F FF FF FF FF FF FF FF"
+the_greatest_integer :
+    per_octets (integer any_number) (number (pos 9223372036854775807)) ≡ hex "08 7F FF FF FF FF FF FF FF"
 the_greatest_integer = refl
 
 -- past the integers of the profile
-2_to_the_63_has_nine_octets : per_octets (integer any_number) (number (pos 9223372036854775808)) ≡ hex "09 00 80 00 00 00 00 00 00 00"
+2_to_the_63_has_nine_octets :
+    per_octets (integer any_number) (number (pos 9223372036854775808)) ≡ hex "09 00 80 00 00 00 00 00 00 00"
 2_to_the_63_has_nine_octets = refl
 
 -- 2^64 - 1, past the integers of the profile
-the_greatest_of_64_bits_has_nine_octets : per_octets (integer any_number) (number (pos 18446744073709551615)) ≡ hex "09 00 FF FF FF FF FF FF FF FF"
+the_greatest_of_64_bits_has_nine_octets :
+    per_octets (integer any_number) (number (pos 18446744073709551615)) ≡ hex "09 00 FF FF FF FF FF FF FF FF"
 the_greatest_of_64_bits_has_nine_octets = refl
 
 -- INTEGER (MIN..5): as without bounds
@@ -199,21 +226,25 @@ a_high_bound_alone_does_not_count : per_octets (integer (number_to (pos 5))) (nu
 a_high_bound_alone_does_not_count = refl
 
 -- 2^16 - 200 = 65336
-a_high_bound_alone_does_not_count_below_zero : per_octets (integer (number_to (pos 5))) (number (negsuc 199)) ≡ hex "02 FF 38"
+a_high_bound_alone_does_not_count_below_zero :
+    per_octets (integer (number_to (pos 5))) (number (negsuc 199)) ≡ hex "02 FF 38"
 a_high_bound_alone_does_not_count_below_zero = refl
 
--- ---- INTEGER with an extension mark: a bit, then the form of the root, or outside it that of an INTEGER without bounds
+-- ---- INTEGER with an extension mark: a bit, then the form of the root, or outside it that of an INTEGER without
+-- bounds
 
 -- INTEGER (0..7, ...): 0, then 101
 in_the_root_of_a_marked_range : per_octets (integer (between_or_more (pos 0) (pos 7))) (number (pos 5)) ≡ hex "50"
 in_the_root_of_a_marked_range = refl
 
 -- 1, then 00000001 00001000
-above_the_root_of_a_marked_range : per_octets (integer (between_or_more (pos 0) (pos 7))) (number (pos 8)) ≡ hex "80 84 00"
+above_the_root_of_a_marked_range :
+    per_octets (integer (between_or_more (pos 0) (pos 7))) (number (pos 8)) ≡ hex "80 84 00"
 above_the_root_of_a_marked_range = refl
 
 -- 1, then 00000001 11111111
-below_the_root_of_a_marked_range : per_octets (integer (between_or_more (pos 0) (pos 7))) (number (negsuc 0)) ≡ hex "80 FF 80"
+below_the_root_of_a_marked_range :
+    per_octets (integer (between_or_more (pos 0) (pos 7))) (number (negsuc 0)) ≡ hex "80 FF 80"
 below_the_root_of_a_marked_range = refl
 
 -- INTEGER (5, ...): 0, then no bits
@@ -221,38 +252,48 @@ the_only_number_of_a_marked_root : per_octets (integer (between_or_more (pos 5) 
 the_only_number_of_a_marked_root = refl
 
 -- 1, then 00000001 00000110
-beside_the_only_number_of_a_marked_root : per_octets (integer (between_or_more (pos 5) (pos 5))) (number (pos 6)) ≡ hex "80 83 00"
+beside_the_only_number_of_a_marked_root :
+    per_octets (integer (between_or_more (pos 5) (pos 5))) (number (pos 6)) ≡ hex "80 83 00"
 beside_the_only_number_of_a_marked_root = refl
 
 -- INTEGER (10..MAX, ...): 0, then 00000001 00000000
-in_a_marked_half_open_range : per_octets (integer (record { low = Some (pos 10); high = None; extensible = true })) (number (pos 10)) ≡ hex "00 80 00"
+in_a_marked_half_open_range :
+    per_octets (integer (record { low = Some (pos 10); high = None; extensible = true })) (number (pos 10))
+    ≡ hex "00 80 00"
 in_a_marked_half_open_range = refl
 
 -- 1, then 00000001 00001001
-below_a_marked_half_open_range : per_octets (integer (record { low = Some (pos 10); high = None; extensible = true })) (number (pos 9)) ≡ hex "80 84 80"
+below_a_marked_half_open_range :
+    per_octets (integer (record { low = Some (pos 10); high = None; extensible = true })) (number (pos 9))
+    ≡ hex "80 84 80"
 below_a_marked_half_open_range = refl
 
 -- INTEGER (MIN..5, ...): 0, then 00000001 00000101
-in_a_marked_range_without_low_bound : per_octets (integer (record { low = None; high = Some (pos 5); extensible = true })) (number (pos 5)) ≡ hex "00 82 80"
+in_a_marked_range_without_low_bound :
+    per_octets (integer (record { low = None; high = Some (pos 5); extensible = true })) (number (pos 5))
+    ≡ hex "00 82 80"
 in_a_marked_range_without_low_bound = refl
 
 -- 1, then 00000001 00000110
-above_a_marked_range_without_low_bound : per_octets (integer (record { low = None; high = Some (pos 5); extensible = true })) (number (pos 6)) ≡ hex "80 83 00"
+above_a_marked_range_without_low_bound :
+    per_octets (integer (record { low = None; high = Some (pos 5); extensible = true })) (number (pos 6))
+    ≡ hex "80 83 00"
 above_a_marked_range_without_low_bound = refl
 
--- ---- ENUMERATED: the index among the root's items sorted by number; behind a mark a bit, and for an addition its index there
+-- ---- ENUMERATED: the index among the root's items sorted by number; after a mark a bit, and for an addition its index
+-- there
 
 -- colours red: 0, then 00
-first_of_three_behind_a_mark : per_octets colours (item 0) ≡ hex "00"
-first_of_three_behind_a_mark = refl
+first_of_three_after_a_mark : per_octets colours (item 0) ≡ hex "00"
+first_of_three_after_a_mark = refl
 
 -- colours green: 0, then 01
-second_of_three_behind_a_mark : per_octets colours (item 1) ≡ hex "20"
-second_of_three_behind_a_mark = refl
+second_of_three_after_a_mark : per_octets colours (item 1) ≡ hex "20"
+second_of_three_after_a_mark = refl
 
 -- colours blue: 0, then 10
-third_of_three_behind_a_mark : per_octets colours (item 2) ≡ hex "40"
-third_of_three_behind_a_mark = refl
+third_of_three_after_a_mark : per_octets colours (item 2) ≡ hex "40"
+third_of_three_after_a_mark = refl
 
 -- colours grey: 1, then 0 and 000000
 the_first_addition : per_octets colours (item 3) ≡ hex "80"
@@ -271,19 +312,21 @@ sorted_by_number_written_third : per_octets unsorted_enumeration (item 2) ≡ he
 sorted_by_number_written_third = refl
 
 -- the same items and a mark: 0, then 10
-sorted_by_number_behind_a_mark : per_octets (enumerated unsorted_items (marked_labels [])) (item 0) ≡ hex "40"
-sorted_by_number_behind_a_mark = refl
+sorted_by_number_after_a_mark : per_octets (enumerated unsorted_items (marked_labels [])) (item 0) ≡ hex "40"
+sorted_by_number_after_a_mark = refl
 
 one_item_has_no_bits : per_octets (enumerated (label (codes "a") (pos 0) ∷ []) closed_labels) (item 0) ≡ hex "00"
 one_item_has_no_bits = refl
 
 -- 0, then no bits
-one_item_behind_a_mark : per_octets (enumerated (label (codes "a") (pos 0) ∷ []) (marked_labels [])) (item 0) ≡ hex "00"
-one_item_behind_a_mark = refl
+one_item_after_a_mark : per_octets (enumerated (label (codes "a") (pos 0) ∷ []) (marked_labels [])) (item 0) ≡ hex "00"
+one_item_after_a_mark = refl
 
 -- 0, then 1
-two_items_behind_a_mark_without_additions : per_octets (enumerated (label (codes "a") (pos 0) ∷ label (codes "b") (pos 1) ∷ []) (marked_labels [])) (item 1) ≡ hex "40"
-two_items_behind_a_mark_without_additions = refl
+two_items_after_a_mark_without_additions :
+    per_octets (enumerated (label (codes "a") (pos 0) ∷ label (codes "b") (pos 1) ∷ []) (marked_labels [])) (item 1)
+    ≡ hex "40"
+two_items_after_a_mark_without_additions = refl
 
 -- 11111111
 256_items_have_eight_bits : per_octets (enumerated (labels_from 0 256) closed_labels) (item 255) ≡ hex "FF"

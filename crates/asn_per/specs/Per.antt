@@ -16,7 +16,7 @@ use Rattle.asn_rules.specs.Live.{Fielding}
 abbrev pub spelled : List ℕ → List ℕ
 spelled content = general_octets (λ u. u) content
 
--- the zeros behind so many bits: the fewest that fill octets, and eight where there is no bit
+-- the zeros after that many bits: the fewest that fill octets, and eight where there is no bit
 abbrev pub filling : ℕ → List ℕ
 filling zero = replicate 8 0
 filling (suc n) = padding (suc n)
@@ -35,7 +35,7 @@ an_open_field cs = sealed open_field (complete cs) ∷ []
 
 -- ---- numbers
 
--- a number of 0 to values - 1, in the fewest bits that tell so many apart ("constrained whole number")
+-- a number of 0 to values - 1, in the fewest bits that tell that many values apart ("constrained whole number")
 abbrev pub constrained : ℕ → ℕ → List ℕ
 constrained values n = bits (width values) n
 
@@ -64,14 +64,14 @@ ranged None high z = unconstrained z
 -- ---- marks
 
 -- without an extension mark the form of the root; with one, 0 and that form inside the root, else 1 and the other
-abbrev pub behind_mark : {A : Type 0} → (ℕ → A) → Bool → Bool → List A → List A → List A
-behind_mark bit false inside root other = root
-behind_mark bit true true root other = bit 0 ∷ root
-behind_mark bit true false root other = bit 1 ∷ other
+abbrev pub after_mark : {A : Type 0} → (ℕ → A) → Bool → Bool → List A → List A → List A
+after_mark bit false inside root other = root
+after_mark bit true true root other = bit 0 ∷ root
+after_mark bit true false root other = bit 1 ∷ other
 
 -- outside the root of an extensible range a number is unconstrained
 abbrev pub whole_number : Range → ℤ → List ℕ
-whole_number b z = behind_mark (λ u. u) b.extensible (in_range b z) (ranged b.low b.high z) (unconstrained z)
+whole_number b z = after_mark (λ u. u) b.extensible (in_range b z) (ranged b.low b.high z) (unconstrained z)
 
 -- ---- lists under a size
 
@@ -83,7 +83,7 @@ within low None items = general one items
 
 -- outside the root of an extensible size the items stand under their general length
 abbrev pub sized : SizeRange → List (List Chunk) → List Chunk
-sized s items = behind_mark one s.extensible (in_size s (length items)) (within s.low s.high items) (general one items)
+sized s items = after_mark one s.extensible (in_size s (length items)) (within s.low s.high items) (general one items)
 
 -- ---- the simple types
 
@@ -101,7 +101,8 @@ rank labels z = count_by (λ l. int_lt l.number z) labels
 -- the index in the root by number, or the index among the additions ("encoding the enumerated type")
 abbrev pub enumeration : List Label → MoreLabels → ℕ → List ℕ
 enumeration root more p =
-    behind_mark (λ u. u) (has_more_labels more) (nat_lt p (length root)) (constrained (length root) (rank root (number_at root p))) (small (p - length root))
+    after_mark (λ u. u) (has_more_labels more) (nat_lt p (length root))
+    (constrained (length root) (rank root (number_at root p))) (small (p - length root))
 
 abbrev pub boolean_code : Datum → List Chunk
 boolean_code (truth b) = one (bit_of b) ∷ []
@@ -136,7 +137,8 @@ utf8_code _ = []
 -- where an addition is present: the number of additions, a presence bit for each, and the open fields of
 -- those that are present ("encoding the sequence type")
 abbrev pub additions : List Demand → List (Option Datum) → List Chunk → List Chunk
-additions ds es open_fields = elim (any_present es) [ true ↦ ones (small_length (length ds) ++ presence ds es) ++ open_fields | false ↦ [] ]
+additions ds es open_fields =
+    elim (any_present es) [ true ↦ ones (small_length (length ds) ++ presence ds es) ++ open_fields | false ↦ [] ]
 
 -- ---- all types
 
@@ -153,14 +155,15 @@ abbrev mutual
   per utf8_string d = utf8_code d
   per (sequence root more) d =
       at_components (λ es.
-      let ours = take (length (demands root)) es in
-      let theirs = drop (length (demands root)) es in
-      ones (extension_bit (is_marked more) (any_present theirs) ++ presence (demands root) ours)
-      ++ per_each root ours ++ per_additions more theirs) d
+      let root_entries = take (length (demands root)) es in
+      let added_entries = drop (length (demands root)) es in
+      ones (extension_bit (is_marked more) (any_present added_entries) ++ presence (demands root) root_entries)
+      ++ per_each root root_entries ++ per_additions more added_entries) d
   per (sequence_of t s) d = at_elements (λ ds. sized s (map (λ e. per t e) ds)) d
   per (choice root more) d =
       at_alternative (λ t e. elim (nat_lt t (count root)) [
-        | true ↦ ones (extension_bit (is_marked_choice more) false ++ constrained (count root) t) ++ per_alternative root t e
+        | true ↦ ones (extension_bit (is_marked_choice more) false ++ constrained (count root) t)
+            ++ per_alternative root t e
         | false ↦ ones (1 ∷ small (t - count root)) ++ per_more more (t - count root) e
       ]) d
 

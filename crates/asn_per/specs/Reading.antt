@@ -33,7 +33,7 @@ Reads result view L old new = IfOk result (λ v. Spells per_fields L (view v) ol
 abbrev pub StopsIn : {V W : Type 0} → Result W Stop → (V → List Chunk → Type 0) → List ℕ → Type 0
 StopsIn result L old = IfErr result (λ why. Stops per_fields L old why)
 
--- what a reader put into a place is spelt at the front of the bits, and the others follow its spelling
+-- what a reader put into a variable is spelt at the front of the bits, and the others follow its spelling
 abbrev pub ReadsInto : {V W : Type 0} → Result W Stop → (V → List Chunk → Type 0) → V → List ℕ → List ℕ → Type 0
 ReadsInto result L v old new = OnOk result (Spells per_fields L v old new)
 
@@ -92,13 +92,14 @@ only n = record { low = n; high = n; excluded = None }
 
 -- ---- items one after the other
 
--- n items are read from the units us, behind which rest stands, and put behind those of old
-pub record Appends {A : Type 0} (L : A → List Chunk → Type 0) (n : ℕ) (old new : List A) (us rest : List ℕ) : Type 0 where
-  pub row : List A
-  pub same : new ≡ old ++ row
-  pub spelt : Spells per_fields (Row L n) row us rest
+-- n items are read from the units us, after which rest stands, and put after those of old
+pub record Appends {A : Type 0} (L : A → List Chunk → Type 0) (n : ℕ) (old new : List A) (us rest : List ℕ) : Type 0
+  where
+    pub row : List A
+    pub same : new ≡ old ++ row
+    pub spelt : Spells per_fields (Row L n) row us rest
 
--- whatever follows the units us: they are those of n items, which are put behind those of old
+-- whatever follows the units us: they are those of n items, which are put after those of old
 abbrev pub AppendsAll : {A : Type 0} → (A → List Chunk → Type 0) → ℕ → List A → List A → List ℕ → Type 0
 AppendsAll L n old new us = (rest : List ℕ) → Appends L n old new (us ++ rest) rest
 
@@ -108,10 +109,11 @@ AppendsAll L n old new us = (rest : List ℕ) → Appends L n old new (us ++ res
 abbrev pub ReadsMark : Bool → Bool → List ℕ → List ℕ → Type 0
 ReadsMark listed extended old new = (old ≡ bit_of extended ∷ new) × (extended ≡ true → listed ≡ true)
 
--- where a reader of an extension bit stops: no bit comes, or a 1 where nothing is listed behind it
+-- where a reader of an extension bit stops: no bit is left, or a 1 is read where nothing is listed after it
 abbrev pub StopsAtMark : Bool → List ℕ → Stop → Type 0
 StopsAtMark listed us stop.Short = us ≡ []
-StopsAtMark listed us (stop.Refused left why) = (listed ≡ false) × (after : List ℕ) × (us ≡ 1 ∷ after) × (left ≡ length after)
+StopsAtMark listed us (stop.Refused left why) =
+    (listed ≡ false) × (after : List ℕ) × (us ≡ 1 ∷ after) × (left ≡ length after)
 StopsAtMark listed us stop.Memory = ⊥
 
 -- ---- characters
@@ -138,7 +140,7 @@ character_at numeric n = numeric_at n
 abbrev pub CharacterOf : TextKind → ℕ → List Chunk → Type 0
 CharacterOf kind = Character (alphabet_of kind)
 
--- characters are read and put behind those of old
+-- characters are read and put after those of old
 abbrev pub AppendsText : TextKind → ℕ → List ℕ → List ℕ → List ℕ → List ℕ → Type 0
 AppendsText kind n old new us rest = Appends (CharacterOf kind) n old new us rest
 

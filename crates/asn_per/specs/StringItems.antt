@@ -40,15 +40,18 @@ general_bits xs = flat spelled (general one xs)
 abbrev pub sized_bits : SizeRange → List (List Chunk) → List ℕ
 sized_bits size xs = flat spelled (sized size xs)
 
--- what stands behind the count of items: the items at once, or under their general length
-abbrev pub behind_count : Bool → List (List Chunk) → List ℕ
-behind_count true xs = row_bits xs
-behind_count false xs = general_bits xs
+-- what stands after the count of items: the items at once, or under their general length
+abbrev pub after_count : Bool → List (List Chunk) → List ℕ
+after_count true xs = row_bits xs
+after_count false xs = general_bits xs
 
 -- a word holds the bits of the characters
 abbrev pub HoldsText : TextKind → ℕ → List ℕ → Type 0
-HoldsText kind word text = bits (code_width (alphabet_of kind) * length text) word ≡ joined (map (λ c. character_bits (alphabet_of kind) c) text)
+HoldsText kind word text =
+    bits (code_width (alphabet_of kind) * length text) word
+    ≡ joined (map (λ c. character_bits (alphabet_of kind) c) text)
 
 -- what stands in front of n items under a size is written, whatever they are, and they follow in this way
 abbrev pub FollowsSize : SizeRange → ℕ → List ℕ → List ℕ → Following → Type 0
-FollowsSize size n old new f = (xs : List (List Chunk)) → length xs ≡ n → new ++ flat spelled (following_chunks f xs) ≡ old ++ sized_bits size xs
+FollowsSize size n old new f =
+    (xs : List (List Chunk)) → length xs ≡ n → new ++ flat spelled (following_chunks f xs) ≡ old ++ sized_bits size xs

@@ -72,11 +72,13 @@ octets_of_a_bounded_size : per_octets (octet_string (size_between 0 1)) (octet_l
 octets_of_a_bounded_size = refl
 
 -- SIZE (2..3, ...): 0, the length 0, then 10101011 11001101
-octets_inside_a_marked_size : per_octets (octet_string (size_between_or_more 2 3)) (octet_list (hex "AB CD")) ≡ hex "2A F3 40"
+octets_inside_a_marked_size :
+    per_octets (octet_string (size_between_or_more 2 3)) (octet_list (hex "AB CD")) ≡ hex "2A F3 40"
 octets_inside_a_marked_size = refl
 
 -- 1, then 00000001 and 10101011
-octets_below_a_marked_size : per_octets (octet_string (size_between_or_more 2 3)) (octet_list (hex "AB")) ≡ hex "80 D5 80"
+octets_below_a_marked_size :
+    per_octets (octet_string (size_between_or_more 2 3)) (octet_list (hex "AB")) ≡ hex "80 D5 80"
 octets_below_a_marked_size = refl
 
 -- 1, then 00000000
@@ -84,7 +86,8 @@ no_octets_below_a_marked_size : per_octets (octet_string (size_between_or_more 2
 no_octets_below_a_marked_size = refl
 
 -- SIZE (0..65535): the length in 16 bits, then 10101011
-octets_of_the_largest_bounded_size : per_octets (octet_string (size_between 0 65535)) (octet_list (hex "AB")) ≡ hex "00 01 AB"
+octets_of_the_largest_bounded_size :
+    per_octets (octet_string (size_between 0 65535)) (octet_list (hex "AB")) ≡ hex "00 01 AB"
 octets_of_the_largest_bounded_size = refl
 
 -- ---- IA5String and VisibleString: seven bits a character
@@ -102,7 +105,8 @@ ia5_inside_a_marked_size : per_octets (restricted ia5 (size_between_or_more 0 3)
 ia5_inside_a_marked_size = refl
 
 -- 1, then 00000100 and 1000001 1000010 1000011 1000100
-ia5_outside_a_marked_size : per_octets (restricted ia5 (size_between_or_more 0 3)) (characters (codes "ABCD")) ≡ hex "82 41 85 0E 20"
+ia5_outside_a_marked_size :
+    per_octets (restricted ia5 (size_between_or_more 0 3)) (characters (codes "ABCD")) ≡ hex "82 41 85 0E 20"
 ia5_outside_a_marked_size = refl
 
 -- 0000000
@@ -144,7 +148,8 @@ digits_of_a_bounded_size : per_octets (restricted numeric (size_between 1 4)) (c
 digits_of_a_bounded_size = refl
 
 -- SIZE (2, ...): 0, then 0010 0011
-digits_of_a_marked_fixed_size : per_octets (restricted numeric (size_between_or_more 2 2)) (characters (codes "12")) ≡ hex "11 80"
+digits_of_a_marked_fixed_size :
+    per_octets (restricted numeric (size_between_or_more 2 2)) (characters (codes "12")) ≡ hex "11 80"
 digits_of_a_marked_fixed_size = refl
 
 -- ---- UTF8String: a length in octets, and the octets
@@ -171,39 +176,53 @@ a_text_of_128_octets = refl
 128_octets = refl
 
 -- 10 and 11111111111111
-16383_octets : per_octets (octet_string any_size) (octet_list (replicate 16383 0xAB)) ≡ hex "BF FF" ++ replicate 16383 0xAB
+16383_octets :
+    per_octets (octet_string any_size) (octet_list (replicate 16383 0xAB)) ≡ hex "BF FF" ++ replicate 16383 0xAB
 16383_octets = refl
 
 -- 11 and 000001, then the length of none
-16384_octets : per_octets (octet_string any_size) (octet_list (replicate 16384 0xAB)) ≡ hex "C1" ++ (replicate 16384 0xAB ++ hex "00")
+16384_octets :
+    per_octets (octet_string any_size) (octet_list (replicate 16384 0xAB))
+    ≡ hex "C1" ++ (replicate 16384 0xAB ++ hex "00")
 16384_octets = refl
 
 -- 2048 octets of bits
-16384_bits : per_octets (bit_string any_size) (bit_list (replicate 16384 true)) ≡ hex "C1" ++ (replicate 2048 0xFF ++ hex "00")
+16384_bits :
+    per_octets (bit_string any_size) (bit_list (replicate 16384 true)) ≡ hex "C1" ++ (replicate 2048 0xFF ++ hex "00")
 16384_bits = refl
 
 -- 11 and 000001; then 0 and 0000001, and the last bit
-16385_bits : per_octets (bit_string any_size) (bit_list (replicate 16385 true)) ≡ hex "C1" ++ (replicate 2048 0xFF ++ hex "01 80")
+16385_bits :
+    per_octets (bit_string any_size) (bit_list (replicate 16385 true))
+    ≡ hex "C1" ++ (replicate 2048 0xFF ++ hex "01 80")
 16385_bits = refl
 
 -- 11 and 000011 for 49152 bits; then 10 and 11111111111111 for 16383 bits
-65535_bits : per_octets (bit_string any_size) (bit_list (replicate 65535 true)) ≡ hex "C3" ++ (replicate 6144 0xFF ++ (hex "BF FF" ++ (replicate 2047 0xFF ++ hex "FE")))
+65535_bits :
+    per_octets (bit_string any_size) (bit_list (replicate 65535 true))
+    ≡ hex "C3" ++ (replicate 6144 0xFF ++ (hex "BF FF" ++ (replicate 2047 0xFF ++ hex "FE")))
 65535_bits = refl
 
 -- 11 and 000100, then the length of none
-65536_bits : per_octets (bit_string any_size) (bit_list (replicate 65536 true)) ≡ hex "C4" ++ (replicate 8192 0xFF ++ hex "00")
+65536_bits :
+    per_octets (bit_string any_size) (bit_list (replicate 65536 true)) ≡ hex "C4" ++ (replicate 8192 0xFF ++ hex "00")
 65536_bits = refl
 
 -- 11 and 000100 for 65536 bits; 11 and 000001 for 16384; then the length of none
-81920_bits : per_octets (bit_string any_size) (bit_list (replicate 81920 true)) ≡ hex "C4" ++ (replicate 8192 0xFF ++ (hex "C1" ++ (replicate 2048 0xFF ++ hex "00")))
+81920_bits :
+    per_octets (bit_string any_size) (bit_list (replicate 81920 true))
+    ≡ hex "C4" ++ (replicate 8192 0xFF ++ (hex "C1" ++ (replicate 2048 0xFF ++ hex "00")))
 81920_bits = refl
 
 -- SIZE (20000..MAX): 11 and 000001, then 10 and 00111000100000 for 3616 bits
-20000_bits_of_a_size_from_20000 : per_octets (bit_string (size_from 20000)) (bit_list (replicate 20000 true)) ≡ hex "C1" ++ (replicate 2048 0xFF ++ (hex "8E 20" ++ replicate 452 0xFF))
+20000_bits_of_a_size_from_20000 :
+    per_octets (bit_string (size_from 20000)) (bit_list (replicate 20000 true))
+    ≡ hex "C1" ++ (replicate 2048 0xFF ++ (hex "8E 20" ++ replicate 452 0xFF))
 20000_bits_of_a_size_from_20000 = refl
 
 -- SIZE (16384): the bits alone
-16384_bits_of_a_fixed_size_are_no_fragments : per_octets (bit_string (exactly 16384)) (bit_list (replicate 16384 true)) ≡ replicate 2048 0xFF
+16384_bits_of_a_fixed_size_are_no_fragments :
+    per_octets (bit_string (exactly 16384)) (bit_list (replicate 16384 true)) ≡ replicate 2048 0xFF
 16384_bits_of_a_fixed_size_are_no_fragments = refl
 
 -- ---- octets in two fragments, whatever the octets are: 65536 of them, 16384, and then the length of none

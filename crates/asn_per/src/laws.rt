@@ -65,8 +65,7 @@ pub fn readers_tell()
     ensures { RulesTell per_ruling }
 {}
 
-/// What follows for `encode` and `decode` from their contracts. `decode` may answer `Memory` to any
-/// octets.
+/// What follows for `encode` and `decode` from their contracts. `decode` may answer `Memory` to any octets.
 ///
 /// - `decodes`: to the octets that `encode` gave for a value `decode` answers that value.
 /// - `encodes_again`: a value that `decode` answered has the octets that it was given as its encoding, and no others.

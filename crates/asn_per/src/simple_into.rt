@@ -85,7 +85,8 @@ pub(crate) fn read_octet_string_into(
     cursor: &mut BitCursor<'_>,
 ) -> Result<(), Stop>
     requires of_profile { InProfile (octet_string (size_range_of size.now)) }
-    ensures done { ReadsInto result (OctetStringsOf (size_range_of size.now)) (datum_of slot.new) cursor.old cursor.new }
+    ensures done { ReadsInto result (OctetStringsOf (size_range_of size.now)) (datum_of slot.new) cursor.old
+        cursor.new }
     ensures stop { StopsIn result (OctetStringsOf (size_range_of size.now)) cursor.old }
 {
     let mut octets = take_octets(alloc, slot);

@@ -77,8 +77,7 @@ fn write_items(
     }
 }
 
-/// Appends characters, as many at a time as a word holds (X.691, "encoding the restricted character string
-/// types").
+/// Appends characters, as many at a time as a word holds (X.691, "encoding the restricted character string types").
 fn push_characters(kind: TextKind, text: &[u8], sink: &mut BitSink) -> Result<(), AllocError>
     requires { AllByRecursion (λ c. IsTrue (is_of_kind (alphabet_of kind) c)) text.now }
     ensures { OnOk result (sink.new ≡ sink.old ++ joined (map (λ c. character_bits (alphabet_of kind) c) text.now)) }

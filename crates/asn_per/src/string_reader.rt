@@ -78,7 +78,8 @@ pub(crate) fn read_characters(
     cursor: &mut BitCursor<'_>,
 ) -> Result<(), Stop>
     requires of_profile { IsSizeOfProfile (size_range_of size.now) }
-    ensures done { ReadsInto result (CharactersOf kind (size_range_of size.now)) characters.new.items cursor.old cursor.new }
+    ensures done { ReadsInto result (CharactersOf kind (size_range_of size.now)) characters.new.items cursor.old
+        cursor.new }
     ensures stop { StopsIn result (CharactersOf kind (size_range_of size.now)) cursor.old }
 {
     characters.clear();

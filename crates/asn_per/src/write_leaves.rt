@@ -50,8 +50,8 @@ impl WriteLeaves for Per {
     }
 
     #[inline(always)]
-    fn write_number(bounds: &Bounds, whole: i128, sink: &mut BitSink) -> Result<(), EncodeFault> {
-        write_integer(bounds, whole, sink)
+    fn write_number(bounds: &Bounds, value: i128, sink: &mut BitSink) -> Result<(), EncodeFault> {
+        write_integer(bounds, value, sink)
     }
 
     #[inline(always)]

@@ -21,8 +21,8 @@ const OER_LINES: &str = "a0050141020780078101020582012c\na\n";
 const JSON_LINES: &str = "{\"id\":5,\"note\":\"A\",\"pick\":{\"many\":[\"green\",\"grey\"]}}\n\
 {\"id\":5,\"pick\":{\"many\":[0]}}\n";
 
-/// A message in PER of a later version of the module, in which `Msg` has one addition more and `Colour` another item, and
-/// two octets of it.
+/// A message in PER of a later version of the module, in which `Msg` has one addition more and `Colour` another item,
+/// and two octets of it.
 const NEWER_LINES: &str = "b58207038130200109\nb582\n";
 
 const SHOWN: &str =

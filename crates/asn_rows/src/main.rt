@@ -1,6 +1,6 @@
 //! Tries rows of values and octets of both encoding rules. Standard input has a module (X.680), a line
-//! `====`, and then a row a line; what a row says stands in `rows.rt`. A row that does not hold is told by its line, and
-//! the last line written counts those that hold.
+//! `====`, and then a row a line; what a row says stands in `rows.rt`. A row that does not hold is told by its line,
+//! and the last line written counts those that hold.
 #![tactic(auto)]
 
 mod answers;

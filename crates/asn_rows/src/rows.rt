@@ -1,5 +1,5 @@
-//! A row: its kind, its type, and what holds of the type, with `|` between the cells. A type is a name of the module, or
-//! is written out. `<X*N>` is N times X, and in octets `(XxN)` too, where X may have the other form in it.
+//! A row: its kind, its type, and what holds of the type, with `|` between the cells. A type is a name of the module,
+//! or is written out. `<X*N>` is N times X, and in octets `(XxN)` too, where X may have the other form in it.
 //!
 //! - `value | TYPE | JSON | PER | OER`: these octets are the encoding of the value, and `-` stands where a rule is left
 //!   aside. They are decoded as the value, at once, in pieces of 1, 2, 3 and 5 octets, and into the value of the
@@ -8,8 +8,8 @@
 //! - `same | TYPE | PER | OER`: these octets are the encodings of one value.
 //! - `none | TYPE | OTHER | JSON`: the value of the other type is none of the type.
 //! - `per | TYPE | OCTETS | ANSWER`, and `oer`: so `decode` answers to the octets, at once and in these pieces.
-//! - `per octet | TYPE | BITS | ANSWER`, and `oer octet`: so it answers to each octet of these bits, where `x` is either;
-//!   `value` is any value of which the octet is the encoding.
+//! - `per octet | TYPE | BITS | ANSWER`, and `oer octet`: so it answers to each octet of these bits, where `x` is
+//!   either; `value` is any value of which the octet is the encoding.
 //! - `per pieces | TYPE | PIECES | ANSWERS`, and `oer pieces`: so a session answers to the pieces, and so it ends.
 //! - `per newer | TYPE | OCTETS | ANSWER`, and `oer newer`: so `read_newer` answers to the octets.
 use crate::answers::{decoded, received};

@@ -331,8 +331,8 @@ module _ (low high : ℕ) (ordered : low ≤ high) (few : high ≤ max_len) wher
   abbrev Bits : ℕ → ℕ → List Bool → List Chunk → Type 0
   Bits l u = PackedBits (8 * (l - 1) - u)
 
-  abbrev BehindLength : ℕ → ℕ × List Bool → List Chunk → Type 0
-  BehindLength l = Then (OctetsIn 1 (unused_in l)) (λ u. Bits l u)
+  abbrev UnusedAndBits : ℕ → ℕ × List Bool → List Chunk → Type 0
+  UnusedAndBits l = Then (OctetsIn 1 (unused_in l)) (λ u. Bits l u)
 
   length_short : (l : ℕ) → Between fewest most l → octet_count l < 128
   length_short l h =
@@ -374,7 +374,7 @@ module _ (low high : ℕ) (ordered : low ≤ high) (few : high ≤ max_len) wher
         ((omega (arith, d, g), omega (arith, c, f, g), tt), h.1.1),
       )
 
-  variable_read : Same (Map last_told (Then Lengths BehindLength)) (VariableBits (Between low high))
+  variable_read : Same (Map last_told (Then Lengths UnusedAndBits)) (VariableBits (Between low high))
   variable_read =
       same_map
       (same_after (three_parts (Between fewest most) (λ l u. Admits (unused_in l) u) length_short (λ l u h. omega (arith, h.1))) (same_after (same_spelled to_tells from_tells (λ p h. refl)) (same_flip (three_parts (BitsLength (Between low high)) (UnusedBits (Between low high)) (short (Between low high) (λ n h. omega (arith, h.1, few))) (λ l u h. omega (arith, h.few))))))
@@ -385,24 +385,24 @@ module _ (low high : ℕ) (ordered : low ≤ high) (few : high ≤ max_len) wher
   bits_follow : (l : ℕ) → Follows (OctetsIn 1 (unused_in l)) (λ u. Bits l u)
   bits_follow l = record { follow = λ u x h. some_bits (8 * (l - 1) - u) }
 
-  unused_follow : Follows Lengths BehindLength
+  unused_follow : Follows Lengths UnusedAndBits
   unused_follow = record {
     follow = λ l x h.
         let w = some_unused l (((length_spelled (Between fewest most) length_short).to l x h).fits) in
         then_inhabited (set_inhabited (set_meets 256 1 (8 * (l - 1) - high) w.0 (omega (arith, w.1)))) (bits_follow l);
   }
 
-  whole_variable : (us : List ℕ) → Leads octet_fields (Then Lengths BehindLength) us last_told (VariableBits (Between low high)) us
-  whole_variable us = leads_on (leads_map octet_fields last_told (Then Lengths BehindLength) us) (leads_same octet_fields us variable_read)
+  whole_variable : (us : List ℕ) → Leads octet_fields (Then Lengths UnusedAndBits) us last_told (VariableBits (Between low high)) us
+  whole_variable us = leads_on (leads_map octet_fields last_told (Then Lengths UnusedAndBits) us) (leads_same octet_fields us variable_read)
 
   pub stops_at_length : (us : List ℕ) → LeadsStops octet_fields Lengths us (VariableBits (Between low high)) us
   stops_at_length us = stops_on (stops_first octet_fields us unused_follow) (whole_variable us).stops
 
-  behind_length : (l : ℕ) (us r : List ℕ) → Spells octet_fields Lengths l us r → Leads octet_fields (BehindLength l) r (λ p. p.1) (VariableBits (Between low high)) us
-  behind_length l us r h = leads_on (leads_second {M = BehindLength} octet_fields_part (length_lawful (Between fewest most)) h) (whole_variable us)
+  after_length : (l : ℕ) (us r : List ℕ) → Spells octet_fields Lengths l us r → Leads octet_fields (UnusedAndBits l) r (λ p. p.1) (VariableBits (Between low high)) us
+  after_length l us r h = leads_on (leads_second {M = UnusedAndBits} octet_fields_part (length_lawful (Between fewest most)) h) (whole_variable us)
 
   pub stops_at_unused : (l : ℕ) (us r : List ℕ) → Spells octet_fields Lengths l us r → LeadsStops octet_fields (OctetsIn 1 (unused_in l)) r (VariableBits (Between low high)) us
-  stops_at_unused l us r h = stops_on (stops_first octet_fields r (bits_follow l)) (behind_length l us r h).stops
+  stops_at_unused l us r h = stops_on (stops_first octet_fields r (bits_follow l)) (after_length l us r h).stops
 
   pub bits_lead : (l u : ℕ) (us r s : List ℕ) → Spells octet_fields Lengths l us r → Spells octet_fields (OctetsIn 1 (unused_in l)) u r s → Leads octet_fields (Bits l u) s (λ bs. bs) (VariableBits (Between low high)) us
-  bits_lead l u us r s h g = leads_on (leads_second {M = λ v. Bits l v} octet_fields_part (set_lawful 256 1 (λ n. Admits (unused_in l) n)) g) (behind_length l us r h)
+  bits_lead l u us r s h g = leads_on (leads_second {M = λ v. Bits l v} octet_fields_part (set_lawful 256 1 (λ n. Admits (unused_in l) n)) g) (after_length l us r h)

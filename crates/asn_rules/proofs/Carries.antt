@@ -55,15 +55,15 @@ pub carries_first : {A B : Type 0} {R : Fielding} {N L : A → List Chunk → Ty
 carries_first {A} {B} {R} {N} {L} M {us} ok f g c = record {
   reads = λ v s r h. (let x = then_splits h in then_spells (c.reads v.0 s x.rest x.earlier) x.later);
   read = λ v s r h. (let x = then_splits h in then_spells (c.read v.0 s x.rest x.earlier) x.later);
-  lives = λ s h. ⊎_elim (λ x. then_live_first f (c.lives s x)) (λ x. behind s (c.reads x.0 s x.1 x.2) x.3) (then_live_cases h);
-  live = λ s h. ⊎_elim (λ x. then_live_first g (c.live s x)) (λ x. behind2 (c.read x.0 s x.1 x.2) x.3) (then_live_cases h);
+  lives = λ s h. ⊎_elim (λ x. then_live_first f (c.lives s x)) (λ x. second_live s (c.reads x.0 s x.1 x.2) x.3) (then_live_cases h);
+  live = λ s h. ⊎_elim (λ x. then_live_first g (c.live s x)) (λ x. after2 (c.read x.0 s x.1 x.2) x.3) (then_live_cases h);
 }
   where
-    behind : {a : A} (s : List ℕ) {r : List ℕ} → Spells R L a (us ++ s) r → IsLive R (M a) r → IsLive R (Then L M) (us ++ s)
-    behind {a} s {r} h l = rw h.split (then_live_second ok a h.chunks r h.spelt h.contents l)
+    second_live : {a : A} (s : List ℕ) {r : List ℕ} → Spells R L a (us ++ s) r → IsLive R (M a) r → IsLive R (Then L M) (us ++ s)
+    second_live {a} s {r} h l = rw h.split (then_live_second ok a h.chunks r h.spelt h.contents l)
 
-    behind2 : {a : A} {s r : List ℕ} → Spells R N a s r → IsLive R (M a) r → IsLive R (Then N M) s
-    behind2 {a} {s} {r} h l = rw h.split (then_live_second ok a h.chunks r h.spelt h.contents l)
+    after2 : {a : A} {s r : List ℕ} → Spells R N a s r → IsLive R (M a) r → IsLive R (Then N M) s
+    after2 {a} {s} {r} h l = rw h.split (then_live_second ok a h.chunks r h.spelt h.contents l)
 
 -- nothing begins a lawful language after one of its spellings
 pub live_over : {A : Type 0} {R : Fielding} {L : A → List Chunk → Type 0} → FieldsPart R → Lawful L → (a : A) (x : List Chunk) (u : ℕ) (us : List ℕ) → L a x → AllContents R x → IsLive R L (flat R.spelled x ++ u ∷ us) → ⊥
@@ -176,8 +176,8 @@ carries_between {R = R} {N = N} {L = L} {us = us} {ws = ws} c d = record {
 }
 
 -- The first of two has been read whole.
-pub carries_behind : {A B : Type 0} {R : Fielding} {L : A → List Chunk → Type 0} (M : A → B → List Chunk → Type 0) {a : A} {us : List ℕ} → FieldsPart R → Lawful L → Follows L M → Whole R L a us → Carries R (Map (λ (b : B). (a, b)) (M a)) (Then L M) us
-carries_behind {A} {B} {R} {L} M {a} {us} ok law f h =
+pub carries_after : {A B : Type 0} {R : Fielding} {L : A → List Chunk → Type 0} (M : A → B → List Chunk → Type 0) {a : A} {us : List ℕ} → FieldsPart R → Lawful L → Follows L M → Whole R L a us → Carries R (Map (λ (b : B). (a, b)) (M a)) (Then L M) us
+carries_after {A} {B} {R} {L} M {a} {us} ok law f h =
     let e : flat R.spelled h.chunks ≡ us = sym (append-nil (flat R.spelled h.chunks)) ∙ sym h.split in
     subst (λ (l : List ℕ). Carries R (Map (λ (b : B). (a, b)) (M a)) (Then L M) l) e (carries_second M a h.chunks ok law f h.spelt h.contents)
 

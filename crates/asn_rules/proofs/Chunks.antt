@@ -78,10 +78,10 @@ front_longer R (sealed k c ∷ x) y (u ∷ us) (inl h) = inl h
 front_longer R (sealed k c ∷ x) y (u ∷ us) (inr h) = inr (h.0, h.1, h.2, front_longer R x y h.0 h.3)
 
 -- after x, what begins y begins x ++ y
-pub front_behind : {R : Fielding} → FieldsPart R → (x y : List Chunk) (us : List ℕ) → AllContents R x → IsFront R y us → IsFront R (x ++ y) (flat R.spelled x ++ us)
-front_behind ok [] y us f h = h
-front_behind ok (one a ∷ x) y us f h = (refl, front_behind ok x y us f h)
-front_behind {R} ok (sealed k c ∷ x) y us f h = go (field_units R.spelled k c) refl (front_behind ok x y us f.1 h)
+pub front_after : {R : Fielding} → FieldsPart R → (x y : List Chunk) (us : List ℕ) → AllContents R x → IsFront R y us → IsFront R (x ++ y) (flat R.spelled x ++ us)
+front_after ok [] y us f h = h
+front_after ok (one a ∷ x) y us f h = (refl, front_after ok x y us f h)
+front_after {R} ok (sealed k c ∷ x) y us f h = go (field_units R.spelled k c) refl (front_after ok x y us f.1 h)
   where
     go : (g : List ℕ) → field_units R.spelled k c ≡ g → IsFront R (x ++ y) (flat R.spelled x ++ us) → IsFront R (sealed k c ∷ (x ++ y)) ((g ++ flat R.spelled x) ++ us)
     go [] e q = absurd (ok.some_units k c f.0 e)
@@ -113,7 +113,7 @@ front_parts R (sealed k c ∷ x) y (u ∷ us) (inr h) = go (front_parts R x y h.
 -- a spelling's own units, and each part of them, begin it
 pub front_whole : {R : Fielding} → FieldsPart R → (x : List Chunk) → AllContents R x → IsFront R x (flat R.spelled x)
 front_whole {R} ok x f =
-    let h : IsFront R (x ++ []) (flat R.spelled x ++ []) = front_behind ok x [] [] f tt in
+    let h : IsFront R (x ++ []) (flat R.spelled x ++ []) = front_after ok x [] [] f tt in
     rw (append-nil x, append-nil (flat R.spelled x)) at h
 
 -- units that are not empty and begin a sealed field are less than one, or pass it
@@ -166,10 +166,10 @@ parted_units {R} ok (sealed k c ∷ x) (sealed l d ∷ y) s t f g p e =
     ⊎_elim (λ q. q same) (λ q. parted_units ok x y s t f.1 g.1 q.1 rest) p.1
 
 -- where two encodings are one on the left, they part on the right
-pub parted_behind : (x y z : List Chunk) → Parted y z → Parted (x ++ y) (x ++ z)
-parted_behind [] y z p = p
-parted_behind (one a ∷ x) y z p = inr (refl, parted_behind x y z p)
-parted_behind (sealed k c ∷ x) y z p = (refl, inr (refl, parted_behind x y z p))
+pub parted_after : (x y z : List Chunk) → Parted y z → Parted (x ++ y) (x ++ z)
+parted_after [] y z p = p
+parted_after (one a ∷ x) y z p = inr (refl, parted_after x y z p)
+parted_after (sealed k c ∷ x) y z p = (refl, inr (refl, parted_after x y z p))
 
 -- where they part on the left, they part whatever follows
 pub parted_longer : (x y z w : List Chunk) → Parted x y → Parted (x ++ z) (y ++ w)

@@ -40,10 +40,10 @@ module _ (r : Fielding) where
   inside_or_before (sealed k c ∷ cs) start o x y (inl (l, e, free)) =
       elim (cases_lt (length x) start) [
         | inl before ↦ inr (begins_by_front start x y o (omega arith) e, ((λ a. absurd (omega arith)), none_before r cs (length x) (start + length (field_units r.spelled k c)) (omega arith)))
-        | inr behind ↦
+        | inr after ↦
             let content = free.0 in
-            let begun : BeginsProperly (drop start x ++ y) (field_units r.spelled k content) = subst (λ z. BeginsProperly z (field_units r.spelled k content)) (drop-append-le start x y behind) free.2 in
-            inl (inl (behind, sym (take-append-le start x y behind) ∙ e, (content, free.1, begins_earlier (drop start x) y (field_units r.spelled k content) begun)))
+            let begun : BeginsProperly (drop start x ++ y) (field_units r.spelled k content) = subst (λ z. BeginsProperly z (field_units r.spelled k content)) (drop-append-le start x y after) free.2 in
+            inl (inl (after, sym (take-append-le start x y after) ∙ e, (content, free.1, begins_earlier (drop start x) y (field_units r.spelled k content) begun)))
       ]
   inside_or_before (sealed k c ∷ cs) start o x y (inr (bounded, h)) =
       elim (inside_or_before cs (start + length (field_units r.spelled k c)) o x y h) [

@@ -24,8 +24,8 @@ use Rattle.asn_rules.proofs.Fields.{field_short, field_refused}
 use Rattle.asn_rules.proofs.CountedCodes.{AreAnOctet, counted_follows}
 
 -- the answers for what is left after units
-pub leads_behind : {A : Type 0} {R : Fielding} {M L : A → List Chunk → Type 0} (us s : List ℕ) → Carries R M L us → Leads R M s (λ a. a) L (us ++ s)
-leads_behind us s c = record { done = λ b r h. c.reads b s r h; stops = record { short = λ h. carries_short {s = s} c h; refused = λ n h. carries_refused {s = s} c h } }
+pub leads_after : {A : Type 0} {R : Fielding} {M L : A → List Chunk → Type 0} (us s : List ℕ) → Carries R M L us → Leads R M s (λ a. a) L (us ++ s)
+leads_after us s c = record { done = λ b r h. c.reads b s r h; stops = record { short = λ h. carries_short {s = s} c h; refused = λ n h. carries_refused {s = s} c h } }
 
 -- the same where the units are said to be those
 pub leads_at : {A B : Type 0} {R : Fielding} {M : B → List Chunk → Type 0} {vs : List ℕ} {f : B → A} {L : A → List Chunk → Type 0} {us ws : List ℕ} → us ≡ ws → Leads R M vs f L ws → Leads R M vs f L us
@@ -35,25 +35,25 @@ leads_at {R = R} {M} {vs} {f} {L} e l = subst (λ (u : List ℕ). Leads R M vs f
 
 -- after a 0
 pub leads_zero : {A B : Type 0} {X : A → List Chunk → Type 0} {Y : B → List Chunk → Type 0} {us after : List ℕ} (R : Fielding) → us ≡ 0 ∷ after → Leads R X after inl (Fork X Y) us
-leads_zero {X = X} {after = after} R e = leads_at e (leads_on (leads_map R inl X after) (leads_behind (0 ∷ []) after (fork_zero R)))
+leads_zero {X = X} {after = after} R e = leads_at e (leads_on (leads_map R inl X after) (leads_after (0 ∷ []) after (fork_zero R)))
 
 -- after a 1
 pub leads_one : {A B : Type 0} {X : A → List Chunk → Type 0} {Y : B → List Chunk → Type 0} {us after : List ℕ} (R : Fielding) → us ≡ 1 ∷ after → Leads R Y after inr (Fork X Y) us
-leads_one {Y = Y} {after = after} R e = leads_at e (leads_on (leads_map R inr Y after) (leads_behind (1 ∷ []) after (fork_one R)))
+leads_one {Y = Y} {after = after} R e = leads_at e (leads_on (leads_map R inr Y after) (leads_after (1 ∷ []) after (fork_one R)))
 
 -- ---- general lengths
 
 -- a count in 7 bits
 pub leads_few : {S : ℕ → Type 0} {us after : List ℕ} (R : Fielding) → us ≡ 0 ∷ after → Leads R (Plain (InSet 7 (Few S))) after last (Header S) us
-leads_few {S} {after = after} R e = leads_at e (leads_on (leads_map R last (Plain (InSet 7 (Few S))) after) (leads_behind (0 ∷ []) after (header_few R S)))
+leads_few {S} {after = after} R e = leads_at e (leads_on (leads_map R last (Plain (InSet 7 (Few S))) after) (leads_after (0 ∷ []) after (header_few R S)))
 
 -- a count in 14 bits
 pub leads_many : {S : ℕ → Type 0} {us after : List ℕ} (R : Fielding) → us ≡ 1 ∷ 0 ∷ after → Leads R (Plain (InSet 14 (Many S))) after last (Header S) us
-leads_many {S} {after = after} R e = leads_at e (leads_on (leads_map R last (Plain (InSet 14 (Many S))) after) (leads_behind (1 ∷ 0 ∷ []) after (header_many R S)))
+leads_many {S} {after = after} R e = leads_at e (leads_on (leads_map R last (Plain (InSet 14 (Many S))) after) (leads_after (1 ∷ 0 ∷ []) after (header_many R S)))
 
 -- blocks in 6 bits
 pub leads_fragment : {S : ℕ → Type 0} {us after : List ℕ} (R : Fielding) → us ≡ 1 ∷ 1 ∷ after → Leads R (Plain (InSet 6 (Blocks S))) after fragment (Header S) us
-leads_fragment {S} {after = after} R e = leads_at e (leads_on (leads_map R fragment (Plain (InSet 6 (Blocks S))) after) (leads_behind (1 ∷ 1 ∷ []) after (header_blocks R S)))
+leads_fragment {S} {after = after} R e = leads_at e (leads_on (leads_map R fragment (Plain (InSet 6 (Blocks S))) after) (leads_after (1 ∷ 1 ∷ []) after (header_blocks R S)))
 
 -- within a length
 pub stops_length : {A : Type 0} {R : Fielding} {L : A → List Chunk → Type 0} {S : ℕ → Type 0} (us : List ℕ) → Inhabited L → LeadsStops R (Header S) us (General L S) us

@@ -14,7 +14,7 @@ use Rattle.asn_bits.specs.Sets.{Between}
 use Rattle.asn_rules.specs.Forks.{Same}
 use Rattle.asn_rules.specs.General.{General}
 use Rattle.asn_rules.specs.Frames.{Frame}
-use Rattle.asn_rules.specs.Fields.{Octet, OctetsBehind}
+use Rattle.asn_rules.specs.Fields.{Octet, OctetsAfterLength}
 use Rattle.asn_rules.specs.Spellings.{SpelledBy}
 use Rattle.asn_rules.proofs.Chunks.{FieldsPart, ones-append}
 use Rattle.asn_rules.proofs.Forks.{same_flip, same_spells, same_short, same_refused, same_lawful}
@@ -22,7 +22,7 @@ use Rattle.asn_bits.proofs.Unions.{set_meets}
 use Rattle.asn_rules.proofs.Sets.{set_lawful, set_inhabited}
 use Rattle.asn_rules.proofs.Spellings.{same_after, same_spelled, set_spelled, plain_spelled}
 use Rattle.asn_rules.proofs.Fragments.{same_general, general_spelled}
-use Rattle.asn_rules.proofs.OctetLengths.{octets_behind}
+use Rattle.asn_rules.proofs.OctetLengths.{octets_after_length}
 use Rattle.asn_bits.proofs.Octets.{octet_count_below}
 use Rattle.asn_rules.proofs.Frames.{frame_short, frame_refused, frame_spells, frame_refused_content}
 
@@ -104,16 +104,16 @@ few_octets : (low n : ℕ) → Between low max_len n → octet_count n < 128
 few_octets low n h = (let l = octet_count_below n 4 (omega arith) (omega (arith, h.1)) in omega arith)
 
 -- in OER an open field is octets after their length
-pub open_octets : (R : Fielding) → ((c : List ℕ) → R.spelled c ≡ octet_length (length c) ++ c) → Same (OctetsBehind (Between (R.shortest open_field) max_len)) (Frame R open_field)
+pub open_octets : (R : Fielding) → ((c : List ℕ) → R.spelled c ≡ octet_length (length c) ++ c) → Same (OctetsAfterLength (Between (R.shortest open_field) max_len)) (Frame R open_field)
 open_octets R is =
     let S = Between (R.shortest open_field) max_len in
-    frame_by R open_field S (OctetsBehind S) (λ c. octet_length (length c) ++ c) (octets_behind S (few_octets (R.shortest open_field))) is (λ c h. (h.0.0, h.0.1, h.1)) (λ c h. ((h.0, h.1), h.2))
+    frame_by R open_field S (OctetsAfterLength S) (λ c. octet_length (length c) ++ c) (octets_after_length S (few_octets (R.shortest open_field))) is (λ c h. (h.0.0, h.0.1, h.1)) (λ c h. ((h.0, h.1), h.2))
 
 -- and so is a UTF8String
-pub utf8_octets : (R : Fielding) → ((c : List ℕ) → R.spelled c ≡ octet_length (length c) ++ c) → Same (OctetsBehind (Between (R.shortest utf8_field) max_len)) (Frame R utf8_field)
+pub utf8_octets : (R : Fielding) → ((c : List ℕ) → R.spelled c ≡ octet_length (length c) ++ c) → Same (OctetsAfterLength (Between (R.shortest utf8_field) max_len)) (Frame R utf8_field)
 utf8_octets R is =
     let S = Between (R.shortest utf8_field) max_len in
-    frame_by R utf8_field S (OctetsBehind S) (λ c. octet_length (length c) ++ c) (octets_behind S (few_octets (R.shortest utf8_field))) is (λ c h. (h.0.0, h.0.1, h.1)) (λ c h. ((h.0, h.1), h.2))
+    frame_by R utf8_field S (OctetsAfterLength S) (λ c. octet_length (length c) ++ c) (octets_after_length S (few_octets (R.shortest utf8_field))) is (λ c h. (h.0.0, h.0.1, h.1)) (λ c h. ((h.0, h.1), h.2))
 
 -- ---- the answers for what a field is spelt as, as those for the field
 

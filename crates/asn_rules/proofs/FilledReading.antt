@@ -58,14 +58,14 @@ module _ (k a n low : ℕ) (mark : a < 2 ^ k) (some : low < 2 ^ n) where
   pub stops_at_mark : (us : List ℕ) → LeadsStops octet_fields Marks us (FilledBits k a n low) us
   stops_at_mark us = stops_on (stops_first octet_fields us mark_follows) (whole us).stops
 
-  behind_mark : (e : ℕ) (us r : List ℕ) → Spells octet_fields Marks e us r → Leads octet_fields (Then Numbers (λ _. Zeros)) r (λ p. numbers_told (e, p)) (FilledBits k a n low) us
-  behind_mark e us r h = leads_on (leads_second {M = λ _. Then Numbers (λ _. Zeros)} octet_fields_part (set_lawful 2 k (λ m. Admits (from_to 0 a) m)) h) (whole us)
+  after_mark : (e : ℕ) (us r : List ℕ) → Spells octet_fields Marks e us r → Leads octet_fields (Then Numbers (λ _. Zeros)) r (λ p. numbers_told (e, p)) (FilledBits k a n low) us
+  after_mark e us r h = leads_on (leads_second {M = λ _. Then Numbers (λ _. Zeros)} octet_fields_part (set_lawful 2 k (λ m. Admits (from_to 0 a) m)) h) (whole us)
 
   pub stops_at_number : (e : ℕ) (us r : List ℕ) → Spells octet_fields Marks e us r → LeadsStops octet_fields Numbers r (FilledBits k a n low) us
-  stops_at_number e us r h = stops_on (stops_first octet_fields r number_follows) (behind_mark e us r h).stops
+  stops_at_number e us r h = stops_on (stops_first octet_fields r number_follows) (after_mark e us r h).stops
 
   pub zeros_lead : (e m : ℕ) (us r s : List ℕ) → Spells octet_fields Marks e us r → Spells octet_fields Numbers m r s → Leads octet_fields Zeros s (λ z. (e, m)) (FilledBits k a n low) us
-  zeros_lead e m us r s h g = leads_on (leads_second {M = λ _. Zeros} octet_fields_part (set_lawful 2 n (λ i. Admits (from_to low (2 ^ n - 1)) i)) g) (behind_mark e us r h)
+  zeros_lead e m us r s h g = leads_on (leads_second {M = λ _. Zeros} octet_fields_part (set_lawful 2 n (λ i. Admits (from_to low (2 ^ n - 1)) i)) g) (after_mark e us r h)
 
   -- ---- as octets
 

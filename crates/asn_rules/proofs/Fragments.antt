@@ -94,16 +94,16 @@ module _ {A : Type 0} (P : A → Type 0) (code : A → List Chunk) where
       let back : 16384 * m + length (drop k vs) ≡ length vs = omega (arith, count) in
       let left : Left S m (length (drop k vs)) = record { member = subst S (sym back) h; largest = λ l. omega (arith, count) } in
       let rest : General Item (Left S m) (drop k vs) (with_lengths one (lengths_within f (length (drop k vs))) (map code (drop k vs))) = again (Left S m) (drop k vs) q.1 (omega (arith, count)) left in
-      let behind = with_lengths one (lengths_within f (length vs - k)) (drop k (map code vs)) in
-      let same : behind ≡ with_lengths one (lengths_within f (length (drop k vs))) (map code (drop k vs)) = ap (λ (i : ℕ). with_lengths one (lengths_within f i) (drop k (map code vs))) (sym count) ∙ ap (λ l. with_lengths one (lengths_within f (length (drop k vs))) l) (drop-map code k vs) in
+      let after = with_lengths one (lengths_within f (length vs - k)) (drop k (map code vs)) in
+      let same : after ≡ with_lengths one (lengths_within f (length (drop k vs))) (map code (drop k vs)) = ap (λ (i : ℕ). with_lengths one (lengths_within f i) (drop k (map code vs))) (sym count) ∙ ap (λ l. with_lengths one (lengths_within f (length (drop k vs))) l) (drop-map code k vs) in
       let row : Row Item k (take k vs) (joined (take k (map code vs))) = subst (λ l. Row Item k (take k vs) (joined l)) (sym (take-map code k vs)) (row_is k (take k vs) (length-take-le k vs fits) q.0) in
       (general_once Item S).to vs (with_lengths one (fragment_length m ∷ lengths_within f (length vs - k)) (map code vs)) (record {
         source = (fragment m, vs);
         spelt = record {
           first = ones (fragment_length m).bits;
-          second = joined (take k (map code vs)) ++ behind;
+          second = joined (take k (map code vs)) ++ after;
           spelt = fragment_header S m (record { some = some; most = most; rest = length (drop k vs); left = left });
-          follows = record { source = (take k vs, drop k vs); spelt = record { first = joined (take k (map code vs)); second = behind; spelt = row; follows = subst (λ l. General Item (Left S m) (drop k vs) l) (sym same) rest; whole = refl }; seen = sym (take-append-drop k vs) };
+          follows = record { source = (take k vs, drop k vs); spelt = record { first = joined (take k (map code vs)); second = after; spelt = row; follows = subst (λ l. General Item (Left S m) (drop k vs) l) (sym same) rest; whole = refl }; seen = sym (take-append-drop k vs) };
           whole = refl;
         };
         seen = refl;

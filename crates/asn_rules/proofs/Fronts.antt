@@ -93,13 +93,13 @@ module _ (r : Fielding) where
       → (rest : List ℕ) × (us ≡ part ++ rest)
   front_is pre part us ys n h l e =
       let k = n - (length pre + length part) in
-      let behind = drop n (pre ++ us) in
+      let after = drop n (pre ++ us) in
       let is_n : n ≡ length (pre ++ part) + k = omega (arith, length-append pre part) in
       let front : take n (pre ++ (part ++ ys)) ≡ pre ++ (part ++ take k ys) =
       ap (take n) (sym (append_assoc pre part ys)) ∙ ap (λ i. take i ((pre ++ part) ++ ys)) is_n ∙ take-append-add (pre ++ part) ys k ∙ append_assoc pre part (take k ys) in (
-        take k ys ++ behind,
-        append_cancel_left pre _ _ (sym (take-append-drop n (pre ++ us)) ∙ ap (λ x. x ++ behind) (e ∙ front)
-            ∙ append_assoc pre (part ++ take k ys) behind ∙ ap (λ x. pre ++ x) (append_assoc part (take k ys) behind)),
+        take k ys ++ after,
+        append_cancel_left pre _ _ (sym (take-append-drop n (pre ++ us)) ∙ ap (λ x. x ++ after) (e ∙ front)
+            ∙ append_assoc pre (part ++ take k ys) after ∙ ap (λ x. pre ++ x) (append_assoc part (take k ys) after)),
       )
 
   -- a whole field has the units of its content with its length

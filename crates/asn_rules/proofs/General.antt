@@ -3,7 +3,7 @@ use Rattle.std.proofs.Common.{◌≡◌, ℕ, zero, suc, ◌+◌, ◌*◌, ◌<�
 use Rattle.std.proofs.lemmas.Bool.{cases_lt}
 use Rattle.asn_bits.specs.Numbers.{bits}
 use Rattle.asn_bits.proofs.Weights.{bits_are}
-use Rattle.asn_rules.proofs.Carries.{carries_both, carries_map, carries_short, carries_refused, carries_behind, taken}
+use Rattle.asn_rules.proofs.Carries.{carries_both, carries_map, carries_short, carries_refused, carries_after, taken}
 use Rattle.asn_rules.proofs.Chunks.{FieldsPart}
 use Rattle.asn_rules.proofs.Forks.{map_map, map_lawful_on, same_flip, same_short, same_refused, carries_left, carries_whole, same_inhabited}
 use Rattle.asn_rules.proofs.Parts.{map_inhabited, map_spells, map_short, map_refused}
@@ -11,7 +11,7 @@ use Rattle.asn_rules.proofs.Rows.{row_lawful, row_inhabited}
 use Rattle.asn_rules.proofs.Then.{Follows, then_lawful, then_spells, then_inhabited, then_short_first, then_short_second, then_refused_first, then_refused_second}
 use Rattle.asn_rules.specs.Chunks.{Chunk, ones}
 use Rattle.asn_rules.specs.Forks.{Same}
-use Rattle.asn_rules.specs.General.{Length, last, fragment, Left, Blocks, Header, together, behind_first, Body, Once, Within, General}
+use Rattle.asn_rules.specs.General.{Length, last, fragment, Left, Blocks, Header, together, after_first, Body, Once, Within, General}
 use Rattle.asn_rules.specs.Languages.{Spells, Short, Refused, Lawful, Inhabited, Then, Map, Row, Whole, Carries}
 use Rattle.asn_rules.specs.Live.{Fielding}
 use Rattle.asn_rules.proofs.Headers.{Tells, header_tells, header_lawful, block_cases, header_blocks_is, last_is}
@@ -87,7 +87,7 @@ within_lawful : {A : Type 0} {L : A → List Chunk → Type 0} → Lawful L → 
 within_lawful l zero S = record { law = λ v w x y p q. absurd p }
 within_lawful {A} {L} l (suc f) S = map_lawful_on once (then_lawful (header_lawful S) (body_lawful l f S (λ m. within_lawful l f (Left S m))))
   where
-    once : (a b : Length × List A) (x y : List Chunk) → Then (Header S) (Body L (Within L f) S) a x → Then (Header S) (Body L (Within L f) S) b y → behind_first a ≡ behind_first b → a ≡ b
+    once : (a b : Length × List A) (x y : List Chunk) → Then (Header S) (Body L (Within L f) S) a x → Then (Header S) (Body L (Within L f) S) b y → after_first a ≡ after_first b → a ≡ b
     once a b x y p q e =
         let c = body_counts L f S a.0 a.1 p.second (header_tells p.spelt) p.follows in
         let d = body_counts L f S b.0 b.1 q.second (header_tells q.spelt) q.follows in
@@ -195,26 +195,26 @@ pub general_refused : {A : Type 0} {R : Fielding} {L : A → List Chunk → Type
 general_refused {L = L} {S = S} i h = same_refused (general_once L S) (map_refused (then_refused_first (general_follows S i) h))
 
 -- After a length, what is left is what follows it.
-general_behind : {A : Type 0} {R : Fielding} (L : A → List Chunk → Type 0) (S : ℕ → Type 0) (l : Length) {us : List ℕ} → FieldsPart R → Inhabited L → Whole R (Header S) l us → Carries R (Body L (General L) S l) (General L S) us
-general_behind {A} {R} L S l {us} ok i h = carries_left same (carries_whole (general_once L S) (carries_map (carries_behind (Body L (General L) S) ok (header_lawful S) (general_follows S i) h)))
+general_after : {A : Type 0} {R : Fielding} (L : A → List Chunk → Type 0) (S : ℕ → Type 0) (l : Length) {us : List ℕ} → FieldsPart R → Inhabited L → Whole R (Header S) l us → Carries R (Body L (General L) S l) (General L S) us
+general_after {A} {R} L S l {us} ok i h = carries_left same (carries_whole (general_once L S) (carries_map (carries_after (Body L (General L) S) ok (header_lawful S) (general_follows S i) h)))
   where
-    same : Same (Body L (General L) S l) (Map behind_first (Map (λ (b : List A). (l, b)) (Body L (General L) S l)))
+    same : Same (Body L (General L) S l) (Map after_first (Map (λ (b : List A). (l, b)) (Body L (General L) S l)))
     same = record {
       to = λ v cs m. record { source = (l, v); spelt = record { source = v; spelt = m; seen = refl }; seen = refl };
-      from = λ v cs m. (let e : v ≡ m.spelt.source = m.seen ∙ ap behind_first m.spelt.seen in subst (λ (x : List A). Body L (General L) S l x cs) (sym e) m.spelt.spelt);
+      from = λ v cs m. (let e : v ≡ m.spelt.source = m.seen ∙ ap after_first m.spelt.seen in subst (λ (x : List A). Body L (General L) S l x cs) (sym e) m.spelt.spelt);
     }
 
 -- After the last length this many items are left.
 pub general_last : {A : Type 0} {R : Fielding} (L : A → List Chunk → Type 0) (S : ℕ → Type 0) (n : ℕ) {us : List ℕ} → FieldsPart R → Inhabited L → Whole R (Header S) (last n) us → Carries R (Row L n) (General L S) us
-general_last L S n ok i h = general_behind L S (last n) ok i h
+general_last L S n ok i h = general_after L S (last n) ok i h
 
 -- After the length of m blocks this many items are left, and then a general length.
 pub general_fragment : {A : Type 0} {R : Fielding} (L : A → List Chunk → Type 0) (S : ℕ → Type 0) (m : ℕ) {us : List ℕ} → FieldsPart R → Inhabited L → Whole R (Header S) (fragment m) us → Carries R (Map together (Then (Row L (16384 * m)) (λ _. General L (Left S m)))) (General L S) us
-general_fragment L S m ok i h = general_behind L S (fragment m) ok i h
+general_fragment L S m ok i h = general_after L S (fragment m) ok i h
 
 -- After m blocks of items a general length is left.
 pub general_blocks : {A : Type 0} {R : Fielding} (L : A → List Chunk → Type 0) (S : ℕ → Type 0) (m : ℕ) {vs : List A} {us ws : List ℕ} → FieldsPart R → Inhabited L → Lawful L → Whole R (Header S) (fragment m) us → Whole R (Row L (16384 * m)) vs ws → Carries R (Map (λ (rest : List A). vs ++ rest) (General L (Left S m))) (General L S) (us ++ ws)
-general_blocks {A} {R} L S m {vs} {us} {ws} ok i law h w = carries_both (general_fragment L S m ok i h) (carries_left (same_flip (map_map (λ rest. refl))) (carries_map (carries_behind (λ _. General L (Left S m)) ok (row_lawful law (16384 * m)) (rests (header_tells h.spelt)) w)))
+general_blocks {A} {R} L S m {vs} {us} {ws} ok i law h w = carries_both (general_fragment L S m ok i h) (carries_left (same_flip (map_map (λ rest. refl))) (carries_map (carries_after (λ _. General L (Left S m)) ok (row_lawful law (16384 * m)) (rests (header_tells h.spelt)) w)))
   where
     rests : Blocks S m → Follows (Row L (16384 * m)) (λ _. General L (Left S m))
     rests b = record { follow = λ a x g. general_inhabited i b.rest b.left }

@@ -169,12 +169,12 @@ abbrev pub hole : Option ℤ → Option ℤ → ℕ
 hole low None = above lowest_integer (lowest_of low)
 hole low (Some d) = above lowest_integer d
 
-abbrev pub behind_hole : Option ℤ → Option ℤ → ℕ
-behind_hole low None = above lowest_integer (lowest_of low)
-behind_hole low (Some d) = above lowest_integer d + 1
+abbrev pub after_hole : Option ℤ → Option ℤ → ℕ
+after_hole low None = above lowest_integer (lowest_of low)
+after_hole low (Some d) = above lowest_integer d + 1
 
 abbrev pub offset_set : Option ℤ → Option ℤ → Option ℤ → OffsetSet
-offset_set low high e = record { start = above lowest_integer (lowest_of low); below = hole low e; from = behind_hole low e; end = above lowest_integer (highest_of high) + 1 }
+offset_set low high e = record { start = above lowest_integer (lowest_of low); below = hole low e; from = after_hole low e; end = above lowest_integer (highest_of high) + 1 }
 
 le_above : (y z : ℤ) → lowest_integer ≤ℤ y → y ≤ℤ z → above lowest_integer y ≤ above lowest_integer z
 le_above y z p h = omega (arith, ints, h, pos-above lowest_integer y p, pos-above lowest_integer z (omega (arith, ints, p, h)))
@@ -250,6 +250,6 @@ module _ (low high : Option ℤ) (good : InProfile (integer (unmarked low high))
     inr (small e, ⊎_elim (λ n. inl (rw n refl)) (λ n. inr (rw n refl)) o),
   )
     where
-      small : (e : Option ℤ) → behind_hole low e ≤ hole low e + 1
+      small : (e : Option ℤ) → after_hole low e ≤ hole low e + 1
       small None = omega arith
       small (Some d) = omega arith

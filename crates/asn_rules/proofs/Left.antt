@@ -21,8 +21,8 @@ use Rattle.asn_rules.proofs.Spellings.{same_after}
 -- ---- numbers
 
 -- the digits after those read so far, by themselves or with them in front
-number_behind : (base k p r : ℕ) (S : ℕ → Type 0) (before : List ℕ) → AreDigits base before → weighted base before ≡ p → length before + r ≡ k → Same (NumberLeft base S p r) (Plain (λ n us. InDigits base k S n (before ++ us)))
-number_behind base k p r S before d w c = record { to = to; from = from }
+number_after : (base k p r : ℕ) (S : ℕ → Type 0) (before : List ℕ) → AreDigits base before → weighted base before ≡ p → length before + r ≡ k → Same (NumberLeft base S p r) (Plain (λ n us. InDigits base k S n (before ++ us)))
+number_after base k p r S before d w c = record { to = to; from = from }
   where
     sum : (us : List ℕ) → length us ≡ r → weighted base (before ++ us) ≡ p * base ^ r + weighted base us
     sum us l = weighted-append base before us ∙ ap (λ (i : ℕ). i * base ^ length us + weighted base us) w ∙ ap (λ (i : ℕ). p * base ^ i + weighted base us) l
@@ -58,11 +58,11 @@ number_behind base k p r S before d w c = record { to = to; from = from }
 
 -- where its reader waits, the last digits are left
 pub taking_left : {base k p r : ℕ} {S : ℕ → Type 0} {us rest : List ℕ} {R : Fielding} → FieldsPart R → (h : Taking base k S us rest p (suc r)) → Carries R (NumberLeft base S p (suc r)) (Plain (InDigits base k S)) h.before
-taking_left {base} {k} {p} {r} {S} ok h = carries_left (number_behind base k p (suc r) S h.before h.digits h.value h.count) (carries_plain h.before (taking_live ok h).none)
+taking_left {base} {k} {p} {r} {S} ok h = carries_left (number_after base k p (suc r) S h.before h.digits h.value h.count) (carries_plain h.before (taking_live ok h).none)
 
 -- before any digit has been read
 pub number_starts : (base k : ℕ) (S : ℕ → Type 0) → Same (NumberLeft base S 0 k) (Plain (InDigits base k S))
-number_starts base k S = same_after (number_behind base k 0 k S [] tt refl (omega arith)) (record { to = λ n cs h. h; from = λ n cs h. h })
+number_starts base k S = same_after (number_after base k 0 k S [] tt refl (omega arith)) (record { to = λ n cs h. h; from = λ n cs h. h })
 
 -- the last digits begun: fewer are left
 pub left_further : {base q r c : ℕ} (S : ℕ → Type 0) (p j : ℕ) {us rest : List ℕ} {R : Fielding} → FieldsPart R → j + suc r ≡ q → (h : Taking base q (λ m. S (ending base p q m)) us rest c (suc r)) → Carries R (NumberLeft base S (p * base ^ j + c) (suc r)) (NumberLeft base S p q) h.before
@@ -94,11 +94,11 @@ left_lawful base p r S = map_lawful (λ a b e. omega (arith, e)) (set_lawful bas
 -- ---- given units
 
 -- where their reader waits, the others are left
-pub matching_left : {zs us rest more : List ℕ} {z : ℕ} {R : Fielding} → FieldsPart R → (f : Matching zs us rest (z ∷ more)) → Carries R (Fixed (z ∷ more)) (Fixed zs) f.come
-matching_left {zs} {more = more} {z = z} {R = R} ok f = carries_left same (carries_plain f.come (plain_short ok (fixed_code zs) tt f.come z more (record { same = sym f.all })).none)
+pub matching_left : {zs us rest more : List ℕ} {z : ℕ} {R : Fielding} → FieldsPart R → (f : Matching zs us rest (z ∷ more)) → Carries R (Fixed (z ∷ more)) (Fixed zs) f.matched
+matching_left {zs} {more = more} {z = z} {R = R} ok f = carries_left same (carries_plain f.matched (plain_short ok (fixed_code zs) tt f.matched z more (record { same = sym f.all })).none)
   where
-    same : Same (Fixed (z ∷ more)) (Plain (λ v us. AreUnits zs v (f.come ++ us)))
+    same : Same (Fixed (z ∷ more)) (Plain (λ v us. AreUnits zs v (f.matched ++ us)))
     same = record {
-      to = λ v cs h. record { units = h.units; spelt = record { same = ap (λ (l : List ℕ). f.come ++ l) h.spelt.same ∙ sym f.all }; same = h.same };
-      from = λ v cs h. record { units = h.units; spelt = record { same = append_cancel_left f.come h.units (z ∷ more) (h.spelt.same ∙ f.all) }; same = h.same };
+      to = λ v cs h. record { units = h.units; spelt = record { same = ap (λ (l : List ℕ). f.matched ++ l) h.spelt.same ∙ sym f.all }; same = h.same };
+      from = λ v cs h. record { units = h.units; spelt = record { same = append_cancel_left f.matched h.units (z ∷ more) (h.spelt.same ∙ f.all) }; same = h.same };
     }

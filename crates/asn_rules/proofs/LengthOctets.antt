@@ -28,7 +28,7 @@ use Rattle.asn_rules.proofs.Spellings.{units_front, units_short}
 -- some octets of a length have been read, and it goes on
 pub record InLength (low high : ℕ) (us : List ℕ) (now : BegunOctets) (rest : List ℕ) : Type 0 where
   pub at_octet : AtOctet rest
-  pub come : packed us ≡ now.given ++ packed rest
+  pub so_far : packed us ≡ now.given ++ packed rest
   pub counts : now.counts ≡ (low, Some high) ∷ []
   pub goes : GoesOn (Spanned ((low, Some high) ∷ [])) now.given
 
@@ -38,7 +38,7 @@ octet_less o rest after a e = omega (arith, a, ap length e, length-append (bits 
 
 -- the next octet of what is left
 next_of : (o : ℕ) (rest after given us : List ℕ) → o < 256 → packed us ≡ given ++ packed rest → rest ≡ bits 8 o ++ after → packed us ≡ given ++ o ∷ packed after
-next_of o rest after given us h come e = come ∙ ap (λ (r : List ℕ). given ++ r) (ap packed e ∙ next_octet o after h)
+next_of o rest after given us h so_far e = so_far ∙ ap (λ (r : List ℕ). given ++ r) (ap packed e ∙ next_octet o after h)
 
 -- and after some octets
 pub long_whole : (k n : ℕ) (us rest : List ℕ) → AtOctet us → us ≡ bits (8 * k) n ++ rest → AtOctet rest
@@ -108,7 +108,7 @@ module _ (low high : ℕ) (narrow : high < 2 ^ 32) where
 
   pub in_length_starts : (us : List ℕ) (now : BegunOctets) → AtOctet us → low ≤ high → now ≡ record { counts = one_set; given = [] } → InLength low high us now us
   in_length_starts us now a h e =
-      subst (λ (b : BegunOctets). InLength low high us b us) (sym e) (record { at_octet = a; come = refl; counts = refl; goes = some (octet_length low) refl })
+      subst (λ (b : BegunOctets). InLength low high us b us) (sym e) (record { at_octet = a; so_far = refl; counts = refl; goes = some (octet_length low) refl })
     where
       some : (l : List ℕ) → octet_length low ≡ l → GoesOn (Spanned one_set) []
       some (o ∷ t) f = record { count = low; member = inl (omega arith, h); next = o; more = t; split = f }
@@ -117,7 +117,7 @@ module _ (low high : ℕ) (narrow : high < 2 ^ 32) where
   module _ {us rest : List ℕ} {now : BegunOctets} (h : InLength low high us now rest) where
     pub in_length_short : length rest < 8 → Short octet_fields (OctetLength (Between low high)) (packed us)
     in_length_short l =
-        let all : packed us ≡ now.given = h.come ∙ ap (λ (r : List ℕ). now.given ++ r) (no_octet rest h.at_octet l) ∙ append-nil now.given in
+        let all : packed us ≡ now.given = h.so_far ∙ ap (λ (r : List ℕ). now.given ++ r) (no_octet rest h.at_octet l) ∙ append-nil now.given in
         subst (λ (r : List ℕ). Short octet_fields (OctetLength (Between low high)) r) (sym all) (length_short now.given h.goes)
 
     module _ {o : ℕ} {after : List ℕ} (octet : o < 256) (split : rest ≡ bits 8 o ++ after) where
@@ -126,7 +126,7 @@ module _ (low high : ℕ) (narrow : high < 2 ^ 32) where
 
       pub in_length_refused : (BeginsLength (Spanned now.counts) (now.given ++ o ∷ []) → ⊥) → Refused octet_fields (OctetLength (Between low high)) (packed us) (length (packed after))
       in_length_refused none =
-          subst (λ (r : List ℕ). Refused octet_fields (OctetLength (Between low high)) r (length (packed after))) (sym (next_of o rest after now.given us octet h.come split))
+          subst (λ (r : List ℕ). Refused octet_fields (OctetLength (Between low high)) r (length (packed after))) (sym (next_of o rest after now.given us octet h.so_far split))
           (length_refused now.given o (packed after) h.goes (subst (λ (is : List (ℕ × Option ℕ)). BeginsLength (Spanned is) (now.given ++ o ∷ []) → ⊥) h.counts none))
 
       pub in_length_member : (n : ℕ) → Spanned now.counts n → Between low high n
@@ -134,13 +134,13 @@ module _ (low high : ℕ) (narrow : high < 2 ^ 32) where
 
       pub in_length_done : (n : ℕ) → Spanned now.counts n × (octet_length n ≡ now.given ++ o ∷ []) → Spells octet_fields (OctetLength (Between low high)) n (packed us) (packed after)
       in_length_done n w =
-          length_done n (packed us) (packed after) (in_length_member n w.0) (next_of o rest after now.given us octet h.come split ∙ sym (append_assoc now.given (o ∷ []) (packed after)) ∙ ap (λ (l : List ℕ). l ++ packed after) (sym w.1))
+          length_done n (packed us) (packed after) (in_length_member n w.0) (next_of o rest after now.given us octet h.so_far split ∙ sym (append_assoc now.given (o ∷ []) (packed after)) ∙ ap (λ (l : List ℕ). l ++ packed after) (sym w.1))
 
       pub in_length_more : (new : BegunOctets) → TakesOctet now o state.Alive new → GoesOn (Spanned now.counts) (now.given ++ o ∷ []) → InLength low high us new after
       in_length_more new t g =
           subst (λ (b : BegunOctets). InLength low high us b after) (sym t) (record {
             at_octet = in_length_whole;
-            come = next_of o rest after now.given us octet h.come split ∙ sym (append_assoc now.given (o ∷ []) (packed after));
+            so_far = next_of o rest after now.given us octet h.so_far split ∙ sym (append_assoc now.given (o ∷ []) (packed after));
             counts = h.counts;
             goes = subst (λ (is : List (ℕ × Option ℕ)). GoesOn (Spanned is) (now.given ++ o ∷ [])) h.counts g;
           })

@@ -44,7 +44,7 @@ pub in_length_more : {old now new : BegunLengths} {us rest after : List ℕ} {u 
 in_length_more {old} {now} {new} {us} {rest} {after} {u} h e o g =
     subst (λ (n : BegunLengths). InLength old us n after) (sym g) (record { split = further h e; counts = h.counts; blocks = h.blocks; opens = o })
 
--- no bit comes
+-- no bit is left
 pub in_length_short : (R : Fielding) {old now : BegunLengths} {us rest : List ℕ} → InLength old us now rest → rest ≡ [] → Short R (Header (CountsLeft old.counts old.blocks)) us
 in_length_short R {old} {now} {us} {rest} h e =
     let all : us ≡ now.bits = h.split ∙ ap (λ r. now.bits ++ r) e ∙ append-nil now.bits in
@@ -52,7 +52,7 @@ in_length_short R {old} {now} {us} {rest} h e =
     (subst (λ (j : ℕ). Short R (Header (CountsLeft now.counts j)) us) h.blocks
     (subst (λ (l : List ℕ). Short R (Header (CountsLeft now.counts now.blocks)) l) (sym all) (short_under (header_units (CountsLeft now.counts now.blocks)) (opens_short no_fields_part h.opens))))
 
--- a bit comes with which no length goes on
+-- a bit is read with which no length goes on
 pub in_length_refused : (R : Fielding) {old now : BegunLengths} {us rest after : List ℕ} {u : ℕ} → InLength old us now rest → rest ≡ u ∷ after → (StartsSome (CountsLeft now.counts now.blocks) (now.bits ++ u ∷ []) → ⊥) → Refused R (Header (CountsLeft old.counts old.blocks)) us (length after)
 in_length_refused R {old} {now} {us} {rest} {after} {u} h e dead =
     subst (λ (cs : List (ℕ × Option ℕ)). Refused R (Header (CountsLeft cs old.blocks)) us (length after)) h.counts

@@ -18,11 +18,11 @@ same_set b k there back = record {
   from = λ v cs h. record { units = h.units; spelt = record { digits = h.spelt.digits; member = back v h.spelt.member }; same = h.same };
 }
 
--- no unit comes
+-- no unit is left
 pub number_waits : {k : ℕ} {S : ℕ → Type 0} {us rest given : List ℕ} (R : Fielding) → Giving k S us rest given → rest ≡ [] → Short R (Plain (InDigits 2 k S)) us
 number_waits {k} {S} R h e = short_under (plain_units (InDigits 2 k S)) (giving_waits no_fields_part h e)
 
--- a unit comes with which no number begins
+-- a unit is read with which no number begins
 pub number_stops : {k u : ℕ} {S : ℕ → Type 0} {us rest after given : List ℕ} (R : Fielding) → Giving k S us rest given → rest ≡ u ∷ after → (Begins k S (given ++ u ∷ []) → ⊥) → Refused R (Plain (InDigits 2 k S)) us (length after)
 number_stops {k} {S = S} R h e dead = refused_under (plain_units (InDigits 2 k S)) (giving_stops no_fields_part h e dead)
 

@@ -7,13 +7,13 @@ use Rattle.asn_bits.specs.Sets.{AreBits, Between}
 use Rattle.asn_bits.proofs.Octets.{packed_octets, octet_count_below}
 use Rattle.asn_bits.proofs.Splits.{length-unpacked}
 use Rattle.asn_rules.specs.Chunks.{open_field}
-use Rattle.asn_rules.specs.Fields.{OneOctet, OctetLength, octets_told, OctetsBehind, spelled}
+use Rattle.asn_rules.specs.Fields.{OneOctet, OctetLength, octets_told, OctetsAfterLength, spelled}
 use Rattle.asn_rules.specs.Forks.{Same}
 use Rattle.asn_rules.specs.Frames.{IsField, Frame}
 use Rattle.asn_rules.specs.Languages.{Spells, Short, Then, Row}
 use Rattle.asn_rules.proofs.Forks.{same_flip}
 use Rattle.asn_rules.proofs.Leads.{LeadsStops, Leads, leads_on, leads_map, leads_same, leads_second, stops_first, stops_on}
-use Rattle.asn_rules.proofs.OctetLengths.{length_lawful, octets_follow, octets_behind}
+use Rattle.asn_rules.proofs.OctetLengths.{length_lawful, octets_follow, octets_after_length}
 use Rattle.asn_rules.proofs.OctetRows.{octets_front, octets_few}
 use Rattle.asn_rules.proofs.Spellings.{same_after, plain_spelled}
 use Rattle.asn_rules.specs.OctetReading.{AtOctet}
@@ -38,19 +38,19 @@ row_whole n us vs os a t = omega (arith, a, ap length t.taken, length-append (un
 -- ---- after their length
 
 module _ (S : ℕ → Type 0) where
-  whole : (us : List ℕ) → Leads octet_fields (Then (OctetLength S) (λ n. Row OneOctet n)) us octets_told (OctetsBehind S) us
+  whole : (us : List ℕ) → Leads octet_fields (Then (OctetLength S) (λ n. Row OneOctet n)) us octets_told (OctetsAfterLength S) us
   whole us = leads_map octet_fields octets_told (Then (OctetLength S) (λ n. Row OneOctet n)) us
 
-  pub stops_at_length : (us : List ℕ) → LeadsStops octet_fields (OctetLength S) us (OctetsBehind S) us
+  pub stops_at_length : (us : List ℕ) → LeadsStops octet_fields (OctetLength S) us (OctetsAfterLength S) us
   stops_at_length us = stops_on (stops_first octet_fields us (octets_follow S)) (whole us).stops
 
-  pub row_leads : (n : ℕ) (us r : List ℕ) → Spells octet_fields (OctetLength S) n us r → Leads octet_fields (Row OneOctet n) r (λ os. os) (OctetsBehind S) us
+  pub row_leads : (n : ℕ) (us r : List ℕ) → Spells octet_fields (OctetLength S) n us r → Leads octet_fields (Row OneOctet n) r (λ os. os) (OctetsAfterLength S) us
   row_leads n us r h = leads_on (leads_second {M = λ n. Row OneOctet n} octet_fields_part (length_lawful S) h) (whole us)
 
 -- ---- open fields
 
-open_spelled : Same (OctetsBehind (Between 0 268435455)) (Frame octet_fields open_field)
-open_spelled = same_after (octets_behind (Between 0 268435455) few) (same_flip (plain_spelled there back))
+open_spelled : Same (OctetsAfterLength (Between 0 268435455)) (Frame octet_fields open_field)
+open_spelled = same_after (octets_after_length (Between 0 268435455) few) (same_flip (plain_spelled there back))
   where
     few : (n : ℕ) → Between 0 268435455 n → octet_count n < 128
     few n h = (let l : octet_count n ≤ 4 = octet_count_below n 4 (omega arith) (omega (arith, h.1)) in omega (arith, l))
@@ -61,5 +61,5 @@ open_spelled = same_after (octets_behind (Between 0 268435455) few) (same_flip (
     back : (c : List ℕ) → Between 0 268435455 (length c) × AllByRecursion (λ o. o < 256) c → IsField octet_fields open_field c (spelled c)
     back c h = record { contents = (omega arith, h.0.1, h.1); same = refl }
 
-pub open_leads : (us : List ℕ) → Leads octet_fields (OctetsBehind (Between 0 268435455)) us (λ os. os) (Frame octet_fields open_field) us
+pub open_leads : (us : List ℕ) → Leads octet_fields (OctetsAfterLength (Between 0 268435455)) us (λ os. os) (Frame octet_fields open_field) us
 open_leads us = leads_same octet_fields us open_spelled

@@ -13,7 +13,7 @@ use Rattle.asn_rules.specs.Forks.{Same}
 use Rattle.asn_rules.specs.Spellings.{SpelledBy}
 use Rattle.asn_rules.specs.Reading.{Wholes, RulesTell, Holds}
 use Rattle.asn_rules.proofs.Spellings.{sealed_spelled}
-use Rattle.asn_rules.proofs.Reading.{content_is, no_content_short, no_content_refused, no_content_behind}
+use Rattle.asn_rules.proofs.Reading.{content_is, no_content_short, no_content_refused, no_content_after}
 
 module _ (r : Ruling) (rules : RulesTell r) (t : Shape) (good : InProfile t) where
   -- a content that is read whole is one
@@ -30,7 +30,7 @@ module _ (r : Ruling) (rules : RulesTell r) (t : Shape) (good : InProfile t) whe
 
   -- by units after it
   pub holds_no_more : (c : List ℕ) (a : Datum) (u : ℕ) (rest : List ℕ) → IsContent r.fielding open_field c → Spells r.fielding (Wholes r t) a (r.units c) (u ∷ rest) → (v : Datum) → Holds r t v c → ⊥
-  holds_no_more c a u rest h s v w = no_content_behind r rules t good c a (u ∷ rest) h.1 s (λ e. cc) v w.encoding
+  holds_no_more c a u rest h s v w = no_content_after r rules t good c a (u ∷ rest) h.1 s (λ e. cc) v w.encoding
 
   module _ (wholes : WholesTell r) (octets_of : Datum → List ℕ) (given : (v : Datum) → Fits t v → AreOctets (octets_of v) × (r.units (octets_of v) ≡ flat r.fielding.spelled (r.whole t v))) where
     one_content : (v : Datum) (c : List ℕ) → Holds r t v c → Fits t v × (c ≡ octets_of v)

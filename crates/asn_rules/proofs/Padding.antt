@@ -29,43 +29,43 @@ fixed_inhabited zs = plain_inhabited tt zs (record { same = refl })
 
 -- where the reader of given units stands: some have been read, and these are left
 pub record Matching (zs us rest left : List ℕ) : Type 0 where
-  pub come : List ℕ
-  pub all : zs ≡ come ++ left
-  pub split : us ≡ come ++ rest
+  pub matched : List ℕ
+  pub all : zs ≡ matched ++ left
+  pub split : us ≡ matched ++ rest
 
 -- no unit has been read
 pub matching_starts : (zs us : List ℕ) → Matching zs us us zs
-matching_starts zs us = record { come = []; all = refl; split = refl }
+matching_starts zs us = record { matched = []; all = refl; split = refl }
 
 -- the unit that is wanted has been read
 pub matching_more : {zs us rest left after more : List ℕ} {u : ℕ} → Matching zs us rest left → left ≡ u ∷ more → rest ≡ u ∷ after → Matching zs us after more
 matching_more {after = after} {more = more} {u = u} f l e = record {
-  come = f.come ++ u ∷ [];
-  all = f.all ∙ ap (λ (t : List ℕ). f.come ++ t) l ∙ sym (append_assoc f.come (u ∷ []) more);
-  split = f.split ∙ ap (λ (t : List ℕ). f.come ++ t) e ∙ sym (append_assoc f.come (u ∷ []) after);
+  matched = f.matched ++ u ∷ [];
+  all = f.all ∙ ap (λ (t : List ℕ). f.matched ++ t) l ∙ sym (append_assoc f.matched (u ∷ []) more);
+  split = f.split ∙ ap (λ (t : List ℕ). f.matched ++ t) e ∙ sym (append_assoc f.matched (u ∷ []) after);
 }
 
 -- no unit is left: all have been read
 pub matching_done : {zs us rest left : List ℕ} (R : Fielding) → Matching zs us rest left → left ≡ [] → Spells R (Fixed zs) tt us rest
 matching_done {zs} {us} {rest} {left} R f e =
-    let c : f.come ≡ zs = sym (append-nil f.come) ∙ ap (λ (t : List ℕ). f.come ++ t) (sym e) ∙ sym f.all in
-    subst (λ (l : List ℕ). Spells R (Fixed zs) tt l rest) (sym f.split) (plain_spells R tt f.come rest (record { same = c }))
+    let c : f.matched ≡ zs = sym (append-nil f.matched) ∙ ap (λ (t : List ℕ). f.matched ++ t) (sym e) ∙ sym f.all in
+    subst (λ (l : List ℕ). Spells R (Fixed zs) tt l rest) (sym f.split) (plain_spells R tt f.matched rest (record { same = c }))
 
 -- what begins the units and is not all wants more
-fixed_begun : {R : Fielding} → FieldsPart R → (zs come : List ℕ) (z : ℕ) (more : List ℕ) → zs ≡ come ++ z ∷ more → Short R (Fixed zs) come
-fixed_begun ok zs come z more e = plain_short ok (fixed_code zs) tt come z more (record { same = sym e })
+fixed_begun : {R : Fielding} → FieldsPart R → (zs matched : List ℕ) (z : ℕ) (more : List ℕ) → zs ≡ matched ++ z ∷ more → Short R (Fixed zs) matched
+fixed_begun ok zs matched z more e = plain_short ok (fixed_code zs) tt matched z more (record { same = sym e })
 
 -- no units are left, and some are wanted
 pub matching_waits : {zs us rest left more : List ℕ} {z : ℕ} {R : Fielding} → FieldsPart R → Matching zs us rest left → left ≡ z ∷ more → rest ≡ [] → Short R (Fixed zs) us
 matching_waits {zs} {us} {more = more} {z = z} {R = R} ok f l e =
-    subst (λ (t : List ℕ). Short R (Fixed zs) t) (sym (f.split ∙ ap (λ (t : List ℕ). f.come ++ t) e ∙ append-nil f.come)) (fixed_begun ok zs f.come z more (f.all ∙ ap (λ (t : List ℕ). f.come ++ t) l))
+    subst (λ (t : List ℕ). Short R (Fixed zs) t) (sym (f.split ∙ ap (λ (t : List ℕ). f.matched ++ t) e ∙ append-nil f.matched)) (fixed_begun ok zs f.matched z more (f.all ∙ ap (λ (t : List ℕ). f.matched ++ t) l))
 
 -- another unit than the one that is wanted
 pub matching_stops : {zs us rest left more after : List ℕ} {z u : ℕ} {R : Fielding} → FieldsPart R → Matching zs us rest left → left ≡ z ∷ more → rest ≡ u ∷ after → u ≢ z → Refused R (Fixed zs) us (length after)
 matching_stops {zs} {us} {more = more} {after = after} {z = z} {u = u} {R = R} ok f l e other =
-    let all : zs ≡ f.come ++ z ∷ more = f.all ∙ ap (λ (t : List ℕ). f.come ++ t) l in
-    subst (λ (t : List ℕ). Refused R (Fixed zs) t (length after)) (sym (f.split ∙ ap (λ (t : List ℕ). f.come ++ t) e))
-    (plain_refused ok f.come u after (fixed_begun ok zs f.come z more all) (λ a t c. other (head_is t (append_cancel_left f.come (u ∷ t) (z ∷ more) (c.same ∙ all)))))
+    let all : zs ≡ f.matched ++ z ∷ more = f.all ∙ ap (λ (t : List ℕ). f.matched ++ t) l in
+    subst (λ (t : List ℕ). Refused R (Fixed zs) t (length after)) (sym (f.split ∙ ap (λ (t : List ℕ). f.matched ++ t) e))
+    (plain_refused ok f.matched u after (fixed_begun ok zs f.matched z more all) (λ a t c. other (head_is t (append_cancel_left f.matched (u ∷ t) (z ∷ more) (c.same ∙ all)))))
   where
     head_is : (t : List ℕ) → u ∷ t ≡ z ∷ more → u ≡ z
     head_is t c = cc
@@ -82,12 +82,12 @@ pub repeats_done : (z : ℕ) {zs us rest : List ℕ} {left : ℕ} (R : Fielding)
 repeats_done z {left = zero} R f p = matching_done R f refl
 repeats_done z {left = suc n} R f p = absurd (omega arith)
 
--- none comes and some are left
+-- no unit is left and some of those given are
 pub repeats_waits : (z : ℕ) {zs us rest : List ℕ} {left : ℕ} {R : Fielding} → FieldsPart R → Matching zs us rest (replicate left z) → 0 < left → rest ≡ [] → Short R (Fixed zs) us
 repeats_waits z {left = zero} ok f p e = absurd (omega arith)
 repeats_waits z {left = suc n} ok f p e = matching_waits ok f refl e
 
--- another comes
+-- another unit is read
 pub repeats_stops : (z : ℕ) {zs us rest after : List ℕ} {u left : ℕ} {R : Fielding} → FieldsPart R → Matching zs us rest (replicate left z) → 0 < left → rest ≡ u ∷ after → u ≢ z → Refused R (Fixed zs) us (length after)
 repeats_stops z {left = zero} ok f p e other = absurd (omega arith)
 repeats_stops z {left = suc n} ok f p e other = matching_stops ok f refl e other
@@ -102,19 +102,19 @@ pub fills_lawful : {A : Type 0} {R : Fielding} {fill : ℕ → List ℕ} {L : A 
 fills_lawful {A} {R} {fill} {L} law a = record {
   law = λ v w x y p q.
       let e = one_spelling law a p.chunks q.chunks p.spelt q.spelt in
-      let z : Fixed (fill (length (flat R.spelled q.chunks))) v x = subst (λ (c : List Chunk). Fixed (fill (length (flat R.spelled c))) v x) e p.behind in
-      (fixed_lawful (fill (length (flat R.spelled q.chunks)))).law v w x y z q.behind;
+      let z : Fixed (fill (length (flat R.spelled q.chunks))) v x = subst (λ (c : List Chunk). Fixed (fill (length (flat R.spelled c))) v x) e p.filling in
+      (fixed_lawful (fill (length (flat R.spelled q.chunks)))).law v w x y z q.filling;
 }
 
 -- there is always what fills up
 pub fills_follow : {A : Type 0} {R : Fielding} {fill : ℕ → List ℕ} {L : A → List Chunk → Type 0} → Follows L (Fills R fill L)
-fills_follow {A} {R} {fill} {L} = record { follow = λ a x h. (let i = fixed_inhabited (fill (length (flat R.spelled x))) in record { value = i.value; chunks = i.chunks; spelt = record { chunks = x; spelt = h; behind = i.spelt } }) }
+fills_follow {A} {R} {fill} {L} = record { follow = λ a x h. (let i = fixed_inhabited (fill (length (flat R.spelled x))) in record { value = i.value; chunks = i.chunks; spelt = record { chunks = x; spelt = h; filling = i.spelt } }) }
 
 -- which units fill it up, told by how many units stand before and after the spelling
 pub fills_same : {A : Type 0} {R : Fielding} {fill : ℕ → List ℕ} {L : A → List Chunk → Type 0} {a : A} {us r : List ℕ} → Lawful L → Spells R L a us r → Same (Fixed (fill (length us - length r))) (Fills R fill L a)
 fills_same {A} {R} {fill} {L} {a} {us} {r} law h = record {
-  to = λ v cs z. record { chunks = h.chunks; spelt = h.spelt; behind = subst (λ (n : ℕ). Fixed (fill n) v cs) count z };
-  from = λ v cs f. (let e = one_spelling law a f.chunks h.chunks f.spelt h.spelt in subst (λ (n : ℕ). Fixed (fill n) v cs) (ap (λ (c : List Chunk). length (flat R.spelled c)) e ∙ sym count) f.behind);
+  to = λ v cs z. record { chunks = h.chunks; spelt = h.spelt; filling = subst (λ (n : ℕ). Fixed (fill n) v cs) count z };
+  from = λ v cs f. (let e = one_spelling law a f.chunks h.chunks f.spelt h.spelt in subst (λ (n : ℕ). Fixed (fill n) v cs) (ap (λ (c : List Chunk). length (flat R.spelled c)) e ∙ sym count) f.filling);
 }
   where
     count : length us - length r ≡ length (flat R.spelled h.chunks)

@@ -153,8 +153,8 @@ module _ (r : Ruling) (rules : RulesTell r) (t : Shape) (good : InProfile t) whe
   no_content_refused c left few h a e = h.none a [] ((content_is c a few).0 e)
 
   -- by units after it
-  pub no_content_behind : (c : List ℕ) (v : Datum) (rest : List ℕ) → length c ≤ max_octets → Spells r.fielding (Wholes r t) v (r.units c) rest → rest ≢ [] → (a : Datum) → IsEncoding r t a c → ⊥
-  no_content_behind c v rest few h full a e = full (one_front fields_tell wholes_lawful h ((content_is c a few).0 e)).1
+  pub no_content_after : (c : List ℕ) (v : Datum) (rest : List ℕ) → length c ≤ max_octets → Spells r.fielding (Wholes r t) v (r.units c) rest → rest ≢ [] → (a : Datum) → IsEncoding r t a c → ⊥
+  no_content_after c v rest few h full a e = full (one_front fields_tell wholes_lawful h ((content_is c a few).0 e)).1
 
   -- ---- answers
 

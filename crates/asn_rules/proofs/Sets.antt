@@ -70,7 +70,7 @@ pub record Taking (base k : ℕ) (S : ℕ → Type 0) (us rest : List ℕ) (p r 
 pub taking_starts : {base k : ℕ} {S : ℕ → Type 0} (us : List ℕ) → MeetsIn base S 0 k → Taking base k S us us 0 k
 taking_starts us m = record { before = []; digits = tt; split = refl; value = refl; count = omega arith; alive = m }
 
--- a digit comes, and some number still begins so
+-- a digit is read, and some number still begins so
 pub taking_steps : {base k u p r : ℕ} {S : ℕ → Type 0} {us rest : List ℕ} → Taking base k S us (u ∷ rest) p (suc r) → u < base → MeetsIn base S (base * p + u) r → Taking base k S us rest (base * p + u) r
 taking_steps {base = base} {u = u} {r = r} {rest = rest} h b m = record {
   before = h.before ++ u ∷ [];
@@ -146,14 +146,14 @@ taking_more {left = suc r} h z e b m =
     let d : suc r - 1 ≡ r = omega arith in
     rw d (taking_steps (rw e at h) b (rw d at m))
 
--- a unit comes with which no number begins, in a loop
+-- a unit is read with which no number begins, in a loop
 pub taking_stops : {base k u p left : ℕ} {S : ℕ → Type 0} {us rest after : List ℕ} {R : Fielding} → FieldsPart R → Taking base k S us rest p left → 0 < left → rest ≡ u ∷ after → (u < base → MeetsIn base S (base * p + u) (left - 1) → ⊥) → Refused R (Plain (InDigits base k S)) us (length after)
 taking_stops {left = zero} ok h z e dead = absurd (omega arith)
 taking_stops {left = suc r} ok h z e dead =
     let d : suc r - 1 ≡ r = omega arith in
     taking_refused ok (rw e at h) (rw d at dead)
 
--- no unit comes and digits are left, in a loop
+-- no unit is left and digits are wanted, in a loop
 pub taking_waits : {base k p left : ℕ} {S : ℕ → Type 0} {us rest : List ℕ} {R : Fielding} → FieldsPart R → Taking base k S us rest p left → 0 < left → rest ≡ [] → Short R (Plain (InDigits base k S)) us
 taking_waits {left = zero} ok h z e = absurd (omega arith)
 taking_waits {left = suc r} ok h z e = taking_short ok (rw e at h)
@@ -191,13 +191,13 @@ giving_live {k} {S} {given = given} {R} ok h = go h.begins.more h.begins.spelt
     go [] c = absurd (omega (arith, c.digits.count, length-append given [], h.some))
     go (u ∷ t) c = plain_short ok (set_code 2 k S) h.begins.number given u t c
 
--- no unit comes
+-- no unit is left
 pub giving_waits : {k : ℕ} {S : ℕ → Type 0} {us rest given : List ℕ} {R : Fielding} → FieldsPart R → Giving k S us rest given → rest ≡ [] → Short R (Plain (InDigits 2 k S)) us
 giving_waits {given = given} ok h e =
     let all = h.split ∙ ap (λ (t : List ℕ). given ++ t) e ∙ append-nil given in
     rw all (giving_live ok h)
 
--- a unit comes with which no number begins
+-- a unit is read with which no number begins
 pub giving_stops : {k u : ℕ} {S : ℕ → Type 0} {us rest after given : List ℕ} {R : Fielding} → FieldsPart R → Giving k S us rest given → rest ≡ u ∷ after → (Begins k S (given ++ u ∷ []) → ⊥) → Refused R (Plain (InDigits 2 k S)) us (length after)
 giving_stops {k} {u} {S} {after = after} {given} ok h e dead =
     let all = h.split ∙ ap (λ (t : List ℕ). given ++ t) e in
@@ -206,7 +206,7 @@ giving_stops {k} {u} {S} {after = after} {given} ok h e dead =
     none : (n : ℕ) (t : List ℕ) → InDigits 2 k S n (given ++ u ∷ t) → ⊥
     none n t c = dead (record { number = n; more = t; spelt = rw (append_assoc given (u ∷ []) t) c })
 
--- the last bit comes
+-- the last bit is read
 pub giving_done : {k u n : ℕ} {S : ℕ → Type 0} {us rest after given : List ℕ} (R : Fielding) → Giving k S us rest given → rest ≡ u ∷ after → InDigits 2 k S n (given ++ u ∷ []) → Spells R (Plain (InDigits 2 k S)) n us after
 giving_done {u = u} {n} {after = after} {given} R h e c =
     let all = h.split ∙ ap (λ (t : List ℕ). given ++ t) e ∙ sym (append_assoc given (u ∷ []) after) in

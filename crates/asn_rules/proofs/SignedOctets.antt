@@ -10,10 +10,10 @@ use Rattle.asn_rules.proofs.Octetwise.{InOctets, number_octets, then_octets, map
 
 -- a count in an octet, and this many octets
 counted_in_octets : (T : ℕ → ℕ → Type 0) → InOctets (Counted 2 8 T) (Counted 256 1 T)
-counted_in_octets T = then_octets (number_octets 1 (SomeOf T)) behind
+counted_in_octets T = then_octets (number_octets 1 (SomeOf T)) after
   where
-    behind : (k : ℕ) → InOctets (Plain (InDigits 2 (8 * k) (T k))) (Plain (InDigits 256 (1 * k) (T k)))
-    behind k = let e : k ≡ 1 * k = omega arith in subst (λ (i : ℕ). InOctets (Plain (InDigits 2 (8 * k) (T k))) (Plain (InDigits 256 i (T k)))) e (number_octets k (T k))
+    after : (k : ℕ) → InOctets (Plain (InDigits 2 (8 * k) (T k))) (Plain (InDigits 256 (1 * k) (T k)))
+    after k = let e : k ≡ 1 * k = omega arith in subst (λ (i : ℕ). InOctets (Plain (InDigits 2 (8 * k) (T k))) (Plain (InDigits 256 i (T k)))) e (number_octets k (T k))
 
 pub signed_in_octets : (s : OffsetSet) → InOctets (UnconstrainedIn s) (CountedSignedIn s)
 signed_in_octets s = map_octets signed_number (counted_in_octets (LeastSigned (λ z. HasInteger s z)))

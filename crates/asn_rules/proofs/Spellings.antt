@@ -144,7 +144,7 @@ padded_spelled {A} R fill {P} {f} = record {
   to = λ v cs h.
       let t = h.spelt in
       let b = t.follows in
-      let e : t.second ≡ ones (fill (length (flat R.spelled (f h.source.0)))) = b.behind.same ∙ ap ones b.behind.spelt.same ∙ ap (λ (c : List Chunk). ones (fill (length (flat R.spelled c)))) b.spelt.same in
+      let e : t.second ≡ ones (fill (length (flat R.spelled (f h.source.0)))) = b.filling.same ∙ ap ones b.filling.spelt.same ∙ ap (λ (c : List Chunk). ones (fill (length (flat R.spelled c)))) b.spelt.same in
       let whole : cs ≡ f h.source.0 ++ ones (fill (length (flat R.spelled (f h.source.0)))) = t.whole ∙ ap (λ (l : List Chunk). l ++ t.second) t.spelt.same ∙ ap (λ (l : List Chunk). f h.source.0 ++ l) e in
       record { fits = subst P (sym h.seen) t.spelt.fits; same = whole ∙ ap (λ (a : A). f a ++ ones (fill (length (flat R.spelled (f a))))) (sym h.seen) };
   from = λ v cs h. record {
@@ -153,7 +153,7 @@ padded_spelled {A} R fill {P} {f} = record {
       first = f v;
       second = ones (fill (length (flat R.spelled (f v))));
       spelt = record { fits = h.fits; same = refl };
-      follows = record { chunks = f v; spelt = record { fits = h.fits; same = refl }; behind = record { units = fill (length (flat R.spelled (f v))); spelt = record { same = refl }; same = refl } };
+      follows = record { chunks = f v; spelt = record { fits = h.fits; same = refl }; filling = record { units = fill (length (flat R.spelled (f v))); spelt = record { same = refl }; same = refl } };
       whole = h.same;
     };
     seen = refl;

@@ -1,7 +1,7 @@
 -- One language after the other: laws, and what readers of the parts say of the whole.
 use Rattle.std.proofs.Common.{◌≡◌, ◌≢◌, ℕ, ◌⊎◌, inl, inr, ⊎_elim, List, [], ◌∷◌, ◌++◌, refl, sym, ap, ◌∙◌, subst, append_assoc}
 use Rattle.std.proofs.lemmas.List.{append_cancel_left}
-use Rattle.asn_rules.proofs.Chunks.{FieldsPart, contents-append, contents-first, contents-second, whole_not_begun, front_shorter, front_longer, front_behind, front_parts, After, field_front, parted_front, parted_units, parted_behind, parted_longer}
+use Rattle.asn_rules.proofs.Chunks.{FieldsPart, contents-append, contents-first, contents-second, whole_not_begun, front_shorter, front_longer, front_after, front_parts, After, field_front, parted_front, parted_units, parted_after, parted_longer}
 use Rattle.asn_rules.proofs.Flat.{flat-append}
 use Rattle.asn_rules.proofs.Lists.{not_empty, not_last}
 use Rattle.asn_rules.specs.Chunks.{Chunk, one, sealed, flat, field_units}
@@ -34,7 +34,7 @@ then_lawful {A} {B} {L} {M} l m = record { law = λ v w x y a b. go v w x y a b 
   where
     go2 : (v w : A × B) (x y : List Chunk) (a : Then L M v x) (b : Then L M w y) → v.0 ≡ w.0 → a.first ≡ b.first → ((v.1 ≡ w.1) × (a.second ≡ b.second)) ⊎ ((v.1 ≢ w.1) × Parted a.second b.second) → ((v ≡ w) × (x ≡ y)) ⊎ ((v ≢ w) × Parted x y)
     go2 v w x y a b p q (inl r) = inl (λ i. (p i, r.0 i), let e = a.whole in let f = b.whole in let g = r.1 in cc)
-    go2 v w x y a b p q (inr r) = inr (λ e. r.0 (ap (λ (z : A × B). z.1) e), rw (a.whole, b.whole, q) (parted_behind b.first a.second b.second r.1))
+    go2 v w x y a b p q (inr r) = inr (λ e. r.0 (ap (λ (z : A × B). z.1) e), rw (a.whole, b.whole, q) (parted_after b.first a.second b.second r.1))
 
     go : (v w : A × B) (x y : List Chunk) (a : Then L M v x) (b : Then L M w y) → ((v.0 ≡ w.0) × (a.first ≡ b.first)) ⊎ ((v.0 ≢ w.0) × Parted a.first b.first) → ((v ≡ w) × (x ≡ y)) ⊎ ((v ≢ w) × Parted x y)
     go v w x y a b (inl p) = go2 v w x y a b p.0 p.1 (let g : M v.0 w.1 b.second = rw p.0 b.follows in (m v.0).law v.1 w.1 a.second b.second a.follows g)
@@ -85,7 +85,7 @@ then_live_first {R = R} {us = us} f h =
 -- after the first, what begins the second begins both
 pub then_live_second : {A B : Type 0} {R : Fielding} {L : A → List Chunk → Type 0} {M : A → B → List Chunk → Type 0} → FieldsPart R → (a : A) (x : List Chunk) (us : List ℕ) → L a x → AllContents R x → IsLive R (M a) us → IsLive R (Then L M) (flat R.spelled x ++ us)
 then_live_second ok a x us l f h =
-    record { value = (a, h.value); chunks = x ++ h.chunks; spelt = record { first = x; second = h.chunks; spelt = l; follows = h.spelt; whole = refl }; front = front_behind ok x h.chunks us f h.front }
+    record { value = (a, h.value); chunks = x ++ h.chunks; spelt = record { first = x; second = h.chunks; spelt = l; follows = h.spelt; whole = refl }; front = front_after ok x h.chunks us f h.front }
 
 -- what begins both begins the first, or has a front of it
 pub then_live_cases : {A B : Type 0} {R : Fielding} {L : A → List Chunk → Type 0} {M : A → B → List Chunk → Type 0} {us : List ℕ} → IsLive R (Then L M) us → IsLive R L us ⊎ ((a : A) × (r : List ℕ) × Spells R L a us r × IsLive R (M a) r)

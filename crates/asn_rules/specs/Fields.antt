@@ -35,8 +35,8 @@ abbrev pub FirstOctet : (ℕ → Type 0) → ℕ → Type 0
 FirstOctet S b = ((b < 128) × S b) ⊎ ((128 ≤ b) × SomeLong S (b - 128))
 
 -- what follows the first octet
-abbrev pub BehindFirst : (ℕ → Type 0) → ℕ → ℕ → List Chunk → Type 0
-BehindFirst S b =
+abbrev pub AfterFirst : (ℕ → Type 0) → ℕ → ℕ → List Chunk → Type 0
+AfterFirst S b =
     elim (nat_lt b 128) [ true ↦ Nothing b | false ↦ Plain (InDigits 256 (b - 128) (LongLength S (b - 128))) ]
 
 abbrev pub length_told : ℕ × ℕ → ℕ
@@ -44,14 +44,14 @@ length_told p = p.1
 
 -- a length of the set
 abbrev pub OctetLength : (ℕ → Type 0) → ℕ → List Chunk → Type 0
-OctetLength S = Map length_told (Then (Plain (InDigits 256 1 (FirstOctet S))) (BehindFirst S))
+OctetLength S = Map length_told (Then (Plain (InDigits 256 1 (FirstOctet S))) (AfterFirst S))
 
 abbrev pub octets_told : ℕ × List ℕ → List ℕ
 octets_told p = p.1
 
 -- octets of a count of the set, after it
-abbrev pub OctetsBehind : (ℕ → Type 0) → List ℕ → List Chunk → Type 0
-OctetsBehind S = Map octets_told (Then (OctetLength S) (λ n. Row OneOctet n))
+abbrev pub OctetsAfterLength : (ℕ → Type 0) → List ℕ → List Chunk → Type 0
+OctetsAfterLength S = Map octets_told (Then (OctetLength S) (λ n. Row OneOctet n))
 
 -- ---- sealed fields in octets
 

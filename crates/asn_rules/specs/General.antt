@@ -47,8 +47,8 @@ Header S = Map length_of
 abbrev pub together : {A : Type 0} → List A × List A → List A
 together p = p.0 ++ p.1
 
-abbrev pub behind_first : {A B : Type 0} → A × B → B
-behind_first p = p.1
+abbrev pub after_first : {A B : Type 0} → A × B → B
+after_first p = p.1
 
 -- what follows a length, where G is what follows a fragment
 abbrev pub Body : {A : Type 0} → (A → List Chunk → Type 0) → ((ℕ → Type 0) → List A → List Chunk → Type 0)
@@ -59,7 +59,7 @@ Body L G S (fragment m) = Map together (Then (Row L (16384 * m)) (λ _. G (Left 
 -- a length and what follows it
 abbrev pub Once : {A : Type 0} → (A → List Chunk → Type 0) → ((ℕ → Type 0) → List A → List Chunk → Type 0)
     → (ℕ → Type 0) → List A → List Chunk → Type 0
-Once L G S = Map behind_first (Then (Header S) (Body L G S))
+Once L G S = Map after_first (Then (Header S) (Body L G S))
 
 -- the same with fewer than this many lengths
 abbrev pub Within : {A : Type 0} → (A → List Chunk → Type 0) → ℕ → (ℕ → Type 0) → List A → List Chunk → Type 0

@@ -20,7 +20,7 @@ pub record InField (R : Fielding) (k : Kind) (us : List ℕ) : Type 0 where
   pub more : List ℕ
   pub split : us ++ next ∷ more ≡ field_units R.spelled k content
 
--- a sealed field comes whole, and of the units after it P holds
+-- a sealed field has all its units, and of the units after it P holds
 abbrev pub Passed : Fielding → Kind → List ℕ → List ℕ → (List ℕ → Type 0) → Type 0
 Passed R k c us P = (rest : List ℕ) × IsContent R k c × (us ≡ field_units R.spelled k c ++ rest) × P rest
 

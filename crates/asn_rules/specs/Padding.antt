@@ -18,7 +18,7 @@ pub record Fills {A : Type 0} (R : Fielding) (fill : ℕ → List ℕ) (L : A �
     (cs : List Chunk) : Type 0 where
   pub chunks : List Chunk
   pub spelt : L a chunks
-  pub behind : Fixed (fill (length (flat R.spelled chunks))) v cs
+  pub filling : Fixed (fill (length (flat R.spelled chunks))) v cs
 
 abbrev pub first_of : {A B : Type 0} → A × B → A
 first_of p = p.0

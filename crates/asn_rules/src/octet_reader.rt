@@ -7,7 +7,7 @@ ghost use Rattle.asn_bits.specs.Sets.{AreBits, Meets, Among, Between};
 ghost use Rattle.asn_rules.specs.NumberSets.{Admits, NumberIn};
 ghost use Rattle.asn_rules.specs.PlainReading.{ReadsPlain, StopsPlain};
 ghost use Rattle.asn_rules.specs.OffsetSets.{HasOffset, IsOpen, StandsFor};
-ghost use Rattle.asn_rules.specs.Fields.{OctetLength, OctetsBehind, OneOctet, octet_fields};
+ghost use Rattle.asn_rules.specs.Fields.{OctetLength, OctetsAfterLength, OneOctet, octet_fields};
 ghost use Rattle.asn_rules.specs.Languages.{Row, Spells};
 ghost use Rattle.asn_rules.specs.Stops.{Stops};
 ghost use Rattle.asn_rules.specs.OctetReading.{AtOctet, ReadsOctets, StopsAtOctets, counted_in_octets, OctetsIn, OctetsAmong, AreWithCount, AreTrimmed, CountedIn, CountedSignedIn, SignedOctetsIn, FilledFields, FilledBits, from_to};
@@ -500,8 +500,8 @@ pub fn read_octets_with_length(
     requires ordered { low ≤ high }
     requires narrow { high < 2 ^ 32 }
     ensures at_octet { OnOk result (AtOctet units.new) }
-    ensures done { IfOk result (λ os. ReadsOctets (OctetsBehind (Between low high)) os.items units.old units.new) }
-    ensures stop { IfErr result (λ why. StopsAtOctets (OctetsBehind (Between low high)) units.old why) }
+    ensures done { IfOk result (λ os. ReadsOctets (OctetsAfterLength (Between low high)) os.items units.old units.new) }
+    ensures stop { IfErr result (λ why. StopsAtOctets (OctetsAfterLength (Between low high)) units.old why) }
 {
     let count = read_length(low, high, units)?;
     read_row(alloc, count as usize, units)

@@ -5,8 +5,6 @@
 mod ending;
 mod help;
 mod job;
-#[cfg(test)]
-mod tests;
 mod words;
 
 use asn_convert::{Job, run};

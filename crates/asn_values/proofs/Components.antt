@@ -50,9 +50,9 @@ module _ {A : Type 0} (shape : A → Shape) (levels start left : ℕ) (parts : L
 -- ---- a type around those inside it
 
 -- the types after an extension mark, where there is one
-abbrev pub types_behind : {A : Type 0} → (A → Shape) → Option (Vec A Global) → List Shape
-types_behind shape None = []
-types_behind shape (Some more) = map shape more.items
+abbrev pub types_after : {A : Type 0} → (A → Shape) → Option (Vec A Global) → List Shape
+types_after shape None = []
+types_after shape (Some more) = map shape more.items
 
 -- components as a walk goes over them
 abbrev of_fields : Fields → Extent
@@ -65,7 +65,7 @@ types_of_fields (f ∷ fs) =
 
 -- a SEQUENCE is around the types of its components, those after its extension mark last
 pub sequence_around : (t : AsnType) (root : Vec Field Global) (ext : Option (Vec Field Global)) (fs : List Field) → t ≡ Seq root ext → fs ≡ root.items →
-    IsAround (shape_of t) (beside (of_types (map (λ f. shape_of f.ty) fs)) (of_types (types_behind (λ f. shape_of f.ty) ext)))
+    IsAround (shape_of t) (beside (of_types (map (λ f. shape_of f.ty) fs)) (of_types (types_after (λ f. shape_of f.ty) ext)))
 sequence_around t root None fs et ef = rw (sequence_of_fields t root None fs et ef) (record { same = rw (← types_of_fields fs) refl })
 sequence_around t root (Some more) fs et ef =
     rw (sequence_of_fields t root (Some more) fs et ef) (record { same = rw (← types_of_fields fs, ← types_of_fields more.items) refl })
@@ -85,7 +85,7 @@ types_of_alternatives (a ∷ alts) =
 
 -- a CHOICE is around the types of its alternatives, those after its extension mark last
 pub choice_around : (t : AsnType) (root : Vec Alt Global) (ext : Option (Vec Alt Global)) (alts : List Alt) → t ≡ Choice root ext → alts ≡ root.items →
-    IsAround (shape_of t) (beside (of_types (map (λ a. shape_of a.ty) alts)) (of_types (types_behind (λ a. shape_of a.ty) ext)))
+    IsAround (shape_of t) (beside (of_types (map (λ a. shape_of a.ty) alts)) (of_types (types_after (λ a. shape_of a.ty) ext)))
 choice_around t root None alts et ea = rw (choice_of_alternatives t root None alts et ea) (record { same = rw (← types_of_alternatives alts) refl })
 choice_around t root (Some more) alts et ea =
     rw (choice_of_alternatives t root (Some more) alts et ea) (record { same = rw (← types_of_alternatives alts, ← types_of_alternatives more.items) refl })

@@ -20,17 +20,17 @@ length-fields fs = simp (length-demands, length-map)
 pub faultless_sequence : (root : Fields) (more : MoreFields) → bad_names (field_names root ++ field_names (more_fields more)) ≡ false →
     bad_default_at root ≡ false → bad_default_at (more_fields more) ≡ false → list_all is_optional (demands (more_fields more)) ≡ true →
     length (demands root) ≤ most_components → length (demands (more_fields more)) ≤ most_additions → IsFaultless (sequence root more)
-faultless_sequence root more names here behind optional few added EmptyRange = refl
-faultless_sequence root more names here behind optional few added SizeTooLarge = refl
-faultless_sequence root more names here behind optional few added DuplicateName = names
-faultless_sequence root more names here behind optional few added BadEnumeration = refl
-faultless_sequence root more names here behind optional few added UselessMark = refl
-faultless_sequence root more names here behind optional few added BadDefault = rw here behind
-faultless_sequence root more names here behind optional few added ZeroWidthElement = refl
-faultless_sequence root more names here behind optional few added AdditionNotOptional = rw optional refl
-faultless_sequence root more names here behind optional few added TooMany =
+faultless_sequence root more names here after optional few added EmptyRange = refl
+faultless_sequence root more names here after optional few added SizeTooLarge = refl
+faultless_sequence root more names here after optional few added DuplicateName = names
+faultless_sequence root more names here after optional few added BadEnumeration = refl
+faultless_sequence root more names here after optional few added UselessMark = refl
+faultless_sequence root more names here after optional few added BadDefault = rw here after
+faultless_sequence root more names here after optional few added ZeroWidthElement = refl
+faultless_sequence root more names here after optional few added AdditionNotOptional = rw optional refl
+faultless_sequence root more names here after optional few added TooMany =
     rw (le-ltb most_components (length (demands root)) few) (le-ltb most_additions (length (demands (more_fields more))) added)
-faultless_sequence root more names here behind optional few added TooDeep = refl
+faultless_sequence root more names here after optional few added TooDeep = refl
 
 -- it has more components than there may be, in front of the mark or after it
 pub many_components : (root : Fields) (more : MoreFields) → (most_components < length (demands root)) ⊎ (most_additions < length (demands (more_fields more))) → too_many_here (sequence root more) ≡ true

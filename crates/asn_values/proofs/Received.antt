@@ -63,14 +63,14 @@ module _ (u : Bool) where
 
   -- as far as there are entries, the first are the root's and the others the additions'
   pub fits_split :
-      (fs more : List Field) (vs ours theirs : List (Option Value)) (n : ℕ) (b : Bool) → n ≡ min (length fs) (length vs) → ours ≡ take n vs → theirs ≡ drop n vs →
-      IsTrue b ↔ (FitsEachBy u (fields_of (map part_of_field fs)) (map (option_map datum_of) ours) × FitsEachBy u (fields_of (map part_of_field more)) (map (option_map datum_of) theirs)) →
+      (fs more : List Field) (vs root_entries added_entries : List (Option Value)) (n : ℕ) (b : Bool) → n ≡ min (length fs) (length vs) → root_entries ≡ take n vs → added_entries ≡ drop n vs →
+      IsTrue b ↔ (FitsEachBy u (fields_of (map part_of_field fs)) (map (option_map datum_of) root_entries) × FitsEachBy u (fields_of (map part_of_field more)) (map (option_map datum_of) added_entries)) →
       IsTrue b ↔ SequenceBy u (fields_of (map part_of_field fs)) (marked (fields_of (map part_of_field more))) (map (option_map datum_of) vs)
-  fits_split fs more vs ours theirs n b en eo et both =
+  fits_split fs more vs root_entries added_entries n b en eo et both =
       let count : length (demands (fields_of (map part_of_field fs))) ≡ length fs = length-demands (map part_of_field fs) ∙ length-map fs part_of_field in
-      let front : take (length fs) (map (option_map datum_of) vs) ≡ map (option_map datum_of) ours =
+      let front : take (length fs) (map (option_map datum_of) vs) ≡ map (option_map datum_of) root_entries =
       take-map (option_map datum_of) (length fs) vs ∙ ap (map (option_map datum_of)) (sym (take_min (length fs) vs) ∙ ap (λ k. take k vs) (sym en) ∙ sym eo) in
-      let back : drop (length fs) (map (option_map datum_of) vs) ≡ map (option_map datum_of) theirs =
+      let back : drop (length fs) (map (option_map datum_of) vs) ≡ map (option_map datum_of) added_entries =
       drop-map (option_map datum_of) (length fs) vs ∙ ap (map (option_map datum_of)) (sym (drop_min (length fs) vs) ∙ ap (λ k. drop k vs) (sym en) ∙ sym et) in
       rw (count, front, back) both
 

@@ -13,9 +13,9 @@ use Rattle.std.proofs.lemmas.Bool.{le-ltb, lt-ltb}
 in_front : (a b : Bool) → a ≡ true → (a || b) ≡ true
 in_front a b h = rw h refl
 
-behind : (a b : Bool) → b ≡ true → (a || b) ≡ true
-behind true b h = refl
-behind false b h = h
+second_holds : (a b : Bool) → b ≡ true → (a || b) ≡ true
+second_holds true b h = refl
+second_holds false b h = h
 
 -- a condition that is found is found by each that finds no less
 found_also : (c : Option (Shape → Bool)) (few more : (Shape → Bool) → Bool) → ((condition : Shape → Bool) → few condition ≡ true → more condition ≡ true) → IsFound c few → IsFound c more
@@ -39,10 +39,10 @@ fault_in_front f levels start a b (inr (inl (e, h))) = inr (inl (e, omega (arith
 fault_in_front f levels start a b (inr (inr (e, h))) = inr (inr (e, omega (arith, h)))
 
 -- and so is one of the second, after a first that is sound
-pub fault_behind : (f : TypeFault) (levels start now : ℕ) (a b : Extent) → IsSoundWithin levels start now a → IsFaultWithin f levels now b → IsFaultWithin f levels start (beside a b)
-fault_behind f levels start now a b x (inl h) = inl (found_also (condition_of f) b.holds (beside a b).holds (λ c. behind (a.holds c) (b.holds c)) h)
-fault_behind f levels start now a b x (inr (inl (e, h))) = inr (inl (e, omega (arith, h, x.counted)))
-fault_behind f levels start now a b x (inr (inr (e, h))) = inr (inr (e, omega (arith, h)))
+pub fault_after : (f : TypeFault) (levels start now : ℕ) (a b : Extent) → IsSoundWithin levels start now a → IsFaultWithin f levels now b → IsFaultWithin f levels start (beside a b)
+fault_after f levels start now a b x (inl h) = inl (found_also (condition_of f) b.holds (beside a b).holds (λ c. second_holds (a.holds c) (b.holds c)) h)
+fault_after f levels start now a b x (inr (inl (e, h))) = inr (inl (e, omega (arith, h, x.counted)))
+fault_after f levels start now a b x (inr (inr (e, h))) = inr (inr (e, omega (arith, h)))
 
 -- ---- types, from the left to the right
 
@@ -60,7 +60,7 @@ pub goes_on : (levels start left now : ℕ) (all : List Shape) (t : Shape) (rest
     IsWalkedTo levels start left all (t ∷ rest) → IsSoundWithin levels left now (of_type t) → IsWalkedTo levels start now all rest
 goes_on levels start left now all t rest w s = record {
   sound = λ last h. w.sound last (sound_beside levels left now last (of_type t) (of_types rest) s h);
-  fault = λ f h. w.fault f (fault_behind f levels left now (of_type t) (of_types rest) s h);
+  fault = λ f h. w.fault f (fault_after f levels left now (of_type t) (of_types rest) s h);
 }
 
 -- no types are sound and take no nodes
@@ -96,7 +96,7 @@ module _ (levels start : ℕ) (t : Shape) (inside : Extent) (is : IsAround t ins
   fault_around f h = subst (IsFaultWithin f levels start) (sym is.same) (one_further h)
     where
       one_further : IsFaultWithin f (levels - 1) (start - 1) inside → IsFaultWithin f levels start (around t inside)
-      one_further (inl h) = inl (found_also (condition_of f) inside.holds (around t inside).holds (λ c. behind (c t) (inside.holds c)) h)
+      one_further (inl h) = inl (found_also (condition_of f) inside.holds (around t inside).holds (λ c. second_holds (c t) (inside.holds c)) h)
       one_further (inr (inl (e, h))) = inr (inl (e, omega (arith, h)))
       one_further (inr (inr (e, h))) = inr (inr (e, omega (arith, h)))
 
@@ -144,5 +144,5 @@ fault_holds fault.AdditionNotOptional t (inl h) = h
 fault_holds fault.TooMany t (inl h) = in_front (somewhere too_many_here t) (nat_lt most_nodes (nodes t)) h
 fault_holds fault.TooDeep t (inl h) = absurd h
 fault_holds fault.Memory t h = tt
-fault_holds f t (inr (inl (e, h))) = subst (λ f. Holds f t) (sym e) (behind (somewhere too_many_here t) (nat_lt most_nodes (nodes t)) (lt-ltb most_nodes (nodes t) h))
+fault_holds f t (inr (inl (e, h))) = subst (λ f. Holds f t) (sym e) (second_holds (somewhere too_many_here t) (nat_lt most_nodes (nodes t)) (lt-ltb most_nodes (nodes t) h))
 fault_holds f t (inr (inr (e, h))) = subst (λ f. Holds f t) (sym e) (lt-ltb most_levels (depth t) h)

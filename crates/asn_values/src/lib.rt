@@ -34,16 +34,3 @@ pub use fitting::fits;
 pub use notation::Notation;
 pub use types::{Alt, AsnType, Bounds, Field, Item, Need, Size, TextKind};
 pub use value::Value;
-
-#[cfg(test)]
-mod builders;
-#[cfg(test)]
-mod fault_path_tests;
-#[cfg(test)]
-mod notation_tests;
-#[cfg(test)]
-mod profile_tests;
-#[cfg(test)]
-mod tests;
-#[cfg(test)]
-mod value_tests;

@@ -45,10 +45,10 @@ at_front [] ys p h = absurd (omega arith)
 at_front (x ∷ xs) ys zero h = refl
 at_front (x ∷ xs) ys (suc p) h = at_front xs ys p (omega arith)
 
-behind_front : (xs ys : List Label) (p q : ℕ) → p ≡ length xs + q → number_at (xs ++ ys) p ≡ number_at ys q
-behind_front [] ys p q e = ap (λ (n : ℕ). number_at ys n) (omega (arith, e))
-behind_front (x ∷ xs) ys zero q e = absurd (omega (arith, e))
-behind_front (x ∷ xs) ys (suc p) q e = behind_front xs ys p q (omega (arith, e))
+after_front : (xs ys : List Label) (p q : ℕ) → p ≡ length xs + q → number_at (xs ++ ys) p ≡ number_at ys q
+after_front [] ys p q e = ap (λ (n : ℕ). number_at ys n) (omega (arith, e))
+after_front (x ∷ xs) ys zero q e = absurd (omega (arith, e))
+after_front (x ∷ xs) ys (suc p) q e = after_front xs ys p q (omega (arith, e))
 
 -- of the root
 pub root_number : (root : List Item) (more : MoreLabels) (p : ℕ) (d : Item)
@@ -73,7 +73,7 @@ added_number root items p d good l h =
     let same : length ls ≡ length root = simp length-map in
     let place : p ≡ length ls + (p - length root) = omega (arith, same, l) in
     let there : number_at (ls ++ ms) p ≡ (get_or items (p - length root) d).number =
-    behind_front ls ms p (p - length root) place ∙ number_there items (p - length root) d (omega (arith, l, h)) in
+    after_front ls ms p (p - length root) place ∙ number_there items (p - length root) d (omega (arith, l, h)) in
     let small = number_is_small (ls ++ ms) p (good_items ls (marked_labels ms) (good BadEnumeration)).bits_32 in
     near (get_or items (p - length root) d).number (subst (λ (z : ℤ). magnitude z < 2147483648) there small) ∙ sym there
 

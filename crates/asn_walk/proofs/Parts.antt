@@ -140,7 +140,7 @@ pub few_indexes : (root : Alternatives) (more : MoreAlternatives) → InProfile 
 few_indexes root closed_choice good = (let few = few_choices root closed_choice good in omega (arith, few))
 few_indexes root (marked_choice alts) good = few_choices root (marked_choice alts) good
 
--- ---- the alternative at a place
+-- ---- the alternative at an index
 
 pub good_at : (alts : List Alt) (i : ℕ) (d : Alt) → AreAllOfProfile (alternatives_of (map branch_of alts))
     → i < length alts → InProfile (shape_of (get_or alts i d).ty)

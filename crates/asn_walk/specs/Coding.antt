@@ -9,7 +9,7 @@ use Rattle.asn_bits.specs.Numbers.{bits}
 use Rattle.asn_rules.specs.Answer.{Ruling}
 use Rattle.asn_rules.specs.Chunks.{Chunk, ones, open_field}
 use Rattle.asn_rules.specs.Components.{extension_bit}
-use Rattle.asn_rules.specs.General.{behind_first}
+use Rattle.asn_rules.specs.General.{after_first}
 use Rattle.asn_rules.specs.Languages.{Then, Map, Nothing, Sealed, prepended}
 use Rattle.asn_rules.specs.Listed.{Spelt, Listed, bitmap_length}
 use Rattle.asn_rules.specs.Live.{Fielding}
@@ -88,7 +88,7 @@ OpenListed c (field name demand t fs) [] = λ es cs. ⊥
 
 -- additions of which one is present: their presence bits, and the open fields of those that are
 abbrev pub AdditionsOf : Coding → Fields → List (Option Datum) → List Chunk → Type 0
-AdditionsOf c fs = Map behind_first
+AdditionsOf c fs = Map after_first
     (Then (AdditionBitmapOf c (length (demands fs))) (λ m. OpenListed c fs (bits (length (demands fs)) m)))
 
 -- the entries of additions that are all absent
@@ -115,7 +115,7 @@ SequencesOf c root more =
 
 -- items of the language under a size
 abbrev pub ListingOf : {A : Type 0} → Coding → SizeRange → (A → List Chunk → Type 0) → List A → List Chunk → Type 0
-ListingOf c s L = Map behind_first (Then (c.list_start s) (λ a. Remaining L a))
+ListingOf c s L = Map after_first (Then (c.list_start s) (λ a. Remaining L a))
 
 abbrev pub ListsOf : Coding → Shape → SizeRange → Datum → List Chunk → Type 0
 ListsOf c t s = Map (λ vs. elements (elements_of vs)) (ListingOf c s (Spelt c.code None t))
@@ -140,7 +140,7 @@ AreFew root (Some more) = root + more ≤ 63
 abbrev pub IndexOf : Coding → ℕ → Option ℕ → ℕ ⊎ ℕ → List Chunk → Type 0
 IndexOf c root more = SpelledBy (IsIndexWithin root more) (λ i. ones (c.index root (is_some more) i))
 
--- the values of the alternative at a place, each type having its language
+-- the values of the alternative at an index, each type having its language
 abbrev pub ChosenOf : (Shape → Datum → List Chunk → Type 0) → Alternatives → ℕ → Datum → List Chunk → Type 0
 ChosenOf L no_alternatives i = λ v cs. ⊥
 ChosenOf L (one_of name t alts) zero = L t

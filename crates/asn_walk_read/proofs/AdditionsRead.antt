@@ -12,7 +12,7 @@ use Rattle.asn_bits.specs.Numbers.{bits}
 use Rattle.asn_bits.proofs.Octets.{length-digits}
 use Rattle.asn_bits.proofs.Widths.{lt-two_pow}
 use Rattle.asn_rules.specs.Chunks.{Chunk}
-use Rattle.asn_rules.specs.General.{behind_first}
+use Rattle.asn_rules.specs.General.{after_first}
 use Rattle.asn_rules.specs.Live.{Fielding}
 use Rattle.asn_rules.specs.Languages.{Spells, Inhabited, Then, Map, prepended}
 use Rattle.asn_rules.proofs.Leads.{LeadsStops, Leads, leads_here, leads_on, leads_map, leads_second, stops_first, stops_on}
@@ -55,14 +55,14 @@ module _ (c : Coding) (laws : Laws c) (fs : Fields) (good : AreOfProfile fs) whe
   -- within the bitmap
   bitmap_stops : (us : List ℕ)
       → LeadsStops c.ruling.fielding (AdditionBitmapOf c (length (demands fs))) us (AdditionsOf c fs) us
-  bitmap_stops us = stops_on (stops_first c.ruling.fielding us bitmap_follows) (leads_map c.ruling.fielding behind_first (Then (AdditionBitmapOf c (length (demands fs))) (λ b. OpenListed c fs (bits (length (demands fs)) b))) us).stops
+  bitmap_stops us = stops_on (stops_first c.ruling.fielding us bitmap_follows) (leads_map c.ruling.fielding after_first (Then (AdditionBitmapOf c (length (demands fs))) (λ b. OpenListed c fs (bits (length (demands fs)) b))) us).stops
 
   -- after it
   bitmap_leads : (b : ℕ) (us r : List ℕ) → Spells c.ruling.fielding (AdditionBitmapOf c (length (demands fs))) b us r
       → Leads c.ruling.fielding (OpenListed c fs (bits (length (demands fs)) b)) r (λ es. es) (AdditionsOf c fs) us
   bitmap_leads b us r h =
       leads_on (leads_second {M = λ b. OpenListed c fs (bits (length (demands fs)) b)} (fields_part_of c laws) (laws.addition_bitmap (length (demands fs))) h)
-      (leads_map c.ruling.fielding behind_first (Then (AdditionBitmapOf c (length (demands fs))) (λ b. OpenListed c fs (bits (length (demands fs)) b))) us)
+      (leads_map c.ruling.fielding after_first (Then (AdditionBitmapOf c (length (demands fs))) (λ b. OpenListed c fs (bits (length (demands fs)) b))) us)
 
 -- ---- where the reader stands
 

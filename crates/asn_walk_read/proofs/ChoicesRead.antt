@@ -22,7 +22,7 @@ use Rattle.asn_walk.specs.declared.leaves.Index.{Index}
 use Rattle.asn_walk.specs.declared.leaves.Index.TheVariants as an_index
 use Rattle.asn_walk.proofs.Parts.{fields_part_of, open_inhabited, few_indexes, root_good, added_good, choice_shape, choice_good, known_count, more_count, additions_are}
 
--- ---- the alternative at a place
+-- ---- the alternative at an index
 
 -- the reader of its values answers for the alternative
 pub leads_at_place : (c : Coding) (alts : List Alt) (i : ℕ) (d : Alt) (us : List ℕ) → i < length alts
@@ -102,17 +102,17 @@ module _ (c : Coding) (laws : Laws c) (t : AsnType) (root : Vec Alt Global) (ext
     choice_stops = rw (choice_shape t root ext is, ← counts) (index_stops c laws (alternatives_of (map branch_of root.items)) (more_alternatives_of ext) (choice_good t root ext is good) us)
 
     module _ (i : Index) (p : ℕ) (r : List ℕ) (told : Spells c.ruling.fielding (IndexOf c n m) (index_seen i) us r) where
-      behind : Leads c.ruling.fielding
+      after : Leads c.ruling.fielding
           (ChosenBy c (alternatives_of (map branch_of root.items)) (more_alternatives_of ext) (index_seen i)) r
           (λ v. chosen_value (alternatives_of (map branch_of root.items)) (index_seen i, v))
           (Spelt c.code None (shape_of t)) us
-      behind = rw (choice_shape t root ext is) (value_leads c laws (alternatives_of (map branch_of root.items)) (more_alternatives_of ext) (choice_good t root ext is good) (index_seen i) us r (rw counts told))
+      after = rw (choice_shape t root ext is) (value_leads c laws (alternatives_of (map branch_of root.items)) (more_alternatives_of ext) (choice_good t root ext is good) (index_seen i) us r (rw counts told))
 
       -- after the index of an alternative of the root
       pub root_value_leads : (alts : List Alt) → alts ≡ root.items → i ≡ an_index.Root p
           → Leads c.ruling.fielding (ChosenOf (λ t. Spelt c.code None t) (alternatives_of (map branch_of alts)) p) r
           (λ v. alternative p v) (Spelt c.code None (shape_of t)) us
-      root_value_leads alts ea e = rw ea (rw e at behind)
+      root_value_leads alts ea e = rw ea (rw e at after)
 
       -- after that of an addition
       pub added_value_leads : (additions : Vec Alt Global) (more : List Alt) → ext ≡ Some additions
@@ -120,6 +120,6 @@ module _ (c : Coding) (laws : Laws c) (t : AsnType) (root : Vec Alt Global) (ext
           → Leads c.ruling.fielding (ChosenOf (λ t. OpenOf c t) (alternatives_of (map branch_of more)) p) r
           (λ v. alternative (n + p) v) (Spelt c.code None (shape_of t)) us
       added_value_leads additions more es ea e =
-          let lead : Leads c.ruling.fielding (ChosenOf (λ t. OpenOf c t) (more_alternatives (more_alternatives_of ext)) p) r (λ v. alternative (count (alternatives_of (map branch_of root.items)) + p) v) (Spelt c.code None (shape_of t)) us = rw e at behind in
+          let lead : Leads c.ruling.fielding (ChosenOf (λ t. OpenOf c t) (more_alternatives (more_alternatives_of ext)) p) r (λ v. alternative (count (alternatives_of (map branch_of root.items)) + p) v) (Spelt c.code None (shape_of t)) us = rw e at after in
           let first = subst (λ (a : Alternatives). Leads c.ruling.fielding (ChosenOf (λ t. OpenOf c t) a p) r (λ v. alternative (count (alternatives_of (map branch_of root.items)) + p) v) (Spelt c.code None (shape_of t)) us) (additions_are ext additions more es ea) lead in
           subst (λ (k : ℕ). Leads c.ruling.fielding (ChosenOf (λ t. OpenOf c t) (alternatives_of (map branch_of more)) p) r (λ v. alternative (k + p) v) (Spelt c.code None (shape_of t)) us) (known_count root n en) first

@@ -11,7 +11,7 @@ use Rattle.asn_rules.specs.Languages.{Spells, Lawful, Inhabited, Then, Map, Noth
 use Rattle.asn_rules.specs.Listed.{Spelt}
 use Rattle.asn_rules.specs.Live.{Fielding}
 use Rattle.asn_rules.specs.Forks.{Branch, Fork, Same}
-use Rattle.asn_rules.specs.General.{Length, fragment, behind_first, Few, Many, Left, Blocks, Header, General}
+use Rattle.asn_rules.specs.General.{Length, fragment, after_first, Few, Many, Left, Blocks, Header, General}
 use Rattle.asn_rules.specs.Stops.{Stops}
 use Rattle.asn_rules.specs.declared.stop.Stop.{Stop}
 use Rattle.asn_rules.proofs.Chunks.{FieldsPart}
@@ -82,14 +82,14 @@ front_follows c laws L s good i = record { follow = λ a x h. ahead_inhabited L 
 -- within what stands before the items
 pub start_stops : {A : Type 0} (c : Coding) (laws : Laws c) (L : A → List Chunk → Type 0) (s : SizeRange) (us : List ℕ)
     → IsSizeOfProfile s → Inhabited L → LeadsStops c.ruling.fielding (c.list_start s) us (ListingOf c s L) us
-start_stops c laws L s us good i = stops_on (stops_first c.ruling.fielding us (front_follows c laws L s good i)) (leads_map c.ruling.fielding behind_first (Then (c.list_start s) (λ a. Remaining L a)) us).stops
+start_stops c laws L s us good i = stops_on (stops_first c.ruling.fielding us (front_follows c laws L s good i)) (leads_map c.ruling.fielding after_first (Then (c.list_start s) (λ a. Remaining L a)) us).stops
 
 -- after it
 pub start_leads : {A : Type 0} (c : Coding) (laws : Laws c) (L : A → List Chunk → Type 0) (s : SizeRange)
     {ahead : Ahead} {us rest : List ℕ} → IsSizeOfProfile s → Spells c.ruling.fielding (c.list_start s) ahead us rest
     → Leads c.ruling.fielding (Remaining L ahead) rest (λ ws. ws) (ListingOf c s L) us
 start_leads {A} c laws L s {ahead} {us} good h =
-    leads_on (leads_second {M = λ a. Remaining L a} (fields_part_of c laws) (laws.list_start s good) h) (leads_map c.ruling.fielding behind_first (Then (c.list_start s) (λ a. Remaining L a)) us)
+    leads_on (leads_second {M = λ a. Remaining L a} (fields_part_of c laws) (laws.list_start s good) h) (leads_map c.ruling.fielding after_first (Then (c.list_start s) (λ a. Remaining L a)) us)
 
 -- after the items vs: a list of what is ahead, put after them, is the whole list
 pub record Going {A : Type 0} (c : Coding) (L : A → List Chunk → Type 0) (T : List A → List Chunk → Type 0) (us : List ℕ) (ahead : Ahead) (vs : List A) (rest : List ℕ) : Type 0 where
@@ -111,7 +111,7 @@ pub going_stops : {A : Type 0} {c : Coding} {L : A → List Chunk → Type 0} {T
     {us rest : List ℕ} {ahead : Ahead} {vs : List A} (why : Stop) → Inhabited L
     → StopsNext c.ruling.fielding ahead rest why → Going c L T us ahead vs rest → Stops c.ruling.fielding T us why
 going_stops {A} {c} {L} {T} {us} {rest} {ahead} {vs} why i h g =
-    let l : Leads c.ruling.fielding (General L (At (Spanned h.counts) h.come h.closed)) rest (λ ws. vs ++ ws) T us = subst (λ a. Leads c.ruling.fielding (Remaining L a) rest (λ ws. vs ++ ws) T us) h.was g.leads in
+    let l : Leads c.ruling.fielding (General L (At (Spanned h.counts) h.so_far h.closed)) rest (λ ws. vs ++ ws) T us = subst (λ a. Leads c.ruling.fielding (Remaining L a) rest (λ ws. vs ++ ws) T us) h.was g.leads in
     stops_by why (stops_on (stops_length rest i) l.stops) h.stops
 
 -- nothing is ahead
@@ -161,8 +161,8 @@ pub going_further : {A : Type 0} (c : Coding) (laws : Laws c) {L : A → List Ch
     → Going c L T us ahead vs rest → Going c L T us new ws t
 going_further {A} c laws {L} {T} {us} {rest} {r} {t} {ahead} {new} {vs} {ws} {k} i law h f g = record { leads = go ahead h.advances g.leads }
   where
-    behind : List A → List A
-    behind xs = vs ++ (f.row ++ xs)
+    put_after : List A → List A
+    put_after xs = vs ++ (f.row ++ xs)
 
     moved : (a : Ahead) → Leads c.ruling.fielding (Remaining L a) t (λ xs. vs ++ (f.row ++ xs)) T us
         → Leads c.ruling.fielding (Remaining L a) t (λ xs. ws ++ xs) T us
@@ -207,15 +207,15 @@ header_shorter : {R : Fielding} {S : ℕ → Type 0} {l : Length} {us r : List �
     → length r < length us
 header_shorter {R} {S} {l} {us} {r} h = go h.spelt.source h.spelt.spelt.side
   where
-    behind : (u : ℕ) (rest : List Chunk) → h.chunks ≡ one u ∷ rest → length r < length us
-    behind u rest e = (let d = ap length h.split ∙ ap (λ cs. length (flat R.spelled cs ++ r)) e ∙ length-append (flat R.spelled (one u ∷ rest)) r in omega (arith, d))
+    shorter : (u : ℕ) (rest : List Chunk) → h.chunks ≡ one u ∷ rest → length r < length us
+    shorter u rest e = (let d = ap length h.split ∙ ap (λ cs. length (flat R.spelled cs ++ r)) e ∙ length-append (flat R.spelled (one u ∷ rest)) r in omega (arith, d))
 
     go : (w : ℕ ⊎ (ℕ ⊎ ℕ))
         → Branch {A = ℕ} {V = ℕ ⊎ (ℕ ⊎ ℕ)} 0 inl (Plain (InSet 7 (Few S))) w h.chunks
         ⊎ Branch {A = ℕ ⊎ ℕ} {V = ℕ ⊎ (ℕ ⊎ ℕ)} 1 inr
         (Fork (Plain (InSet 14 (Many S))) (Plain (InSet 6 (Blocks S)))) w h.chunks → length r < length us
-    go w (inl b) = behind 0 b.rest b.same
-    go w (inr b) = behind 1 b.rest b.same
+    go w (inl b) = shorter 0 b.rest b.same
+    go w (inr b) = shorter 1 b.rest b.same
 
 -- one step
 pub going_nearer : {A : Type 0} {R : Fielding} {L : A → List Chunk → Type 0} {rest r t : List ℕ} {ahead new : Ahead}

@@ -37,8 +37,8 @@ module _ (c : Coding) (laws : Laws c) (root : Fields) (more : MoreFields) (good 
   n = bitmap_length root
 
   -- what follows the preamble
-  abbrev BehindPreamble : Bool × ℕ → List (Option Datum) × List (Option Datum) → List Chunk → Type 0
-  BehindPreamble p = Then (Listed c.code root (bits n p.1)) (λ _. AddedOf c more p.0)
+  abbrev AfterPreamble : Bool × ℕ → List (Option Datum) × List (Option Datum) → List Chunk → Type 0
+  AfterPreamble p = Then (Listed c.code root (bits n p.1)) (λ _. AddedOf c more p.0)
 
   -- the additions have entries
   added_inhabited : (b : Bool) → (b ≡ true → CanExtend (added more)) → Inhabited (AddedOf c more b)
@@ -49,16 +49,16 @@ module _ (c : Coding) (laws : Laws c) (root : Fields) (more : MoreFields) (good 
       go closed g e = absurd e
       go (marked fs) g e = some_additions c laws fs (additions_of_profile root fs g) (some_listed (length (demands fs)) e)
 
-  behind_inhabited : (p : Bool × ℕ) → (p.0 ≡ true → CanExtend (added more)) → Inhabited (BehindPreamble p)
-  behind_inhabited p h = then_inhabited (listed_inhabited c.code root (bits n p.1) (components_of_profile root more good) (length-digits 2 n p.1)) (record { follow = λ es cs k. added_inhabited p.0 h })
+  after_inhabited : (p : Bool × ℕ) → (p.0 ≡ true → CanExtend (added more)) → Inhabited (AfterPreamble p)
+  after_inhabited p h = then_inhabited (listed_inhabited c.code root (bits n p.1) (components_of_profile root more good) (length-digits 2 n p.1)) (record { follow = λ es cs k. added_inhabited p.0 h })
 
-  follows : Follows (PreambleOf c n (added more)) BehindPreamble
-  follows = record { follow = λ p cs h. behind_inhabited p h.fits.1 }
+  follows : Follows (PreambleOf c n (added more)) AfterPreamble
+  follows = record { follow = λ p cs h. after_inhabited p h.fits.1 }
 
   whole : (us : List ℕ)
-      → Leads c.ruling.fielding (Then (PreambleOf c n (added more)) BehindPreamble) us sequence_told
+      → Leads c.ruling.fielding (Then (PreambleOf c n (added more)) AfterPreamble) us sequence_told
       (Spelt c.code None (sequence root more)) us
-  whole us = leads_on (leads_map c.ruling.fielding sequence_told (Then (PreambleOf c n (added more)) BehindPreamble) us) (leads_same c.ruling.fielding us (laws.sequences root more good))
+  whole us = leads_on (leads_map c.ruling.fielding sequence_told (Then (PreambleOf c n (added more)) AfterPreamble) us) (leads_same c.ruling.fielding us (laws.sequences root more good))
 
   -- within the preamble
   pub preamble_stops : (us : List ℕ)
@@ -67,20 +67,20 @@ module _ (c : Coding) (laws : Laws c) (root : Fields) (more : MoreFields) (good 
 
   -- after it
   module _ (p : Bool × ℕ) (us r : List ℕ) (h : Spells c.ruling.fielding (PreambleOf c n (added more)) p us r) where
-    behind : Leads c.ruling.fielding (BehindPreamble p) r (λ q. sequence_told (p, q))
+    after : Leads c.ruling.fielding (AfterPreamble p) r (λ q. sequence_told (p, q))
         (Spelt c.code None (sequence root more)) us
-    behind = leads_on (leads_second {M = BehindPreamble} (fields_part_of c laws) (laws.preamble n (added more)) h) (whole us)
+    after = leads_on (leads_second {M = AfterPreamble} (fields_part_of c laws) (laws.preamble n (added more)) h) (whole us)
 
     -- within the components
     pub components_stop : LeadsStops c.ruling.fielding (Listed c.code root (bits n p.1)) r
         (Spelt c.code None (sequence root more)) us
-    components_stop = stops_on (stops_first c.ruling.fielding r (record { follow = λ es cs k. added_inhabited p.0 h.spelt.fits.1 })) behind.stops
+    components_stop = stops_on (stops_first c.ruling.fielding r (record { follow = λ es cs k. added_inhabited p.0 h.spelt.fits.1 })) after.stops
 
     -- after them
     module _ (es : List (Option Datum)) (s : List ℕ) (k : Spells c.ruling.fielding (Listed c.code root (bits n p.1)) es r s) where
       pub added_leads : Leads c.ruling.fielding (AddedOf c more p.0) s (λ gs. components (components_of (es ++ gs)))
           (Spelt c.code None (sequence root more)) us
-      added_leads = leads_on (leads_second {M = λ _. AddedOf c more p.0} (fields_part_of c laws) (listed_lawful c.code laws.part root (bits n p.1) (components_of_profile root more good)) k) behind
+      added_leads = leads_on (leads_second {M = λ _. AddedOf c more p.0} (fields_part_of c laws) (listed_lawful c.code laws.part root (bits n p.1) (components_of_profile root more good)) k) after
 
       -- no addition is present
       pub none_added : p.0 ≡ false

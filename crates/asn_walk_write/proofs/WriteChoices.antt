@@ -21,7 +21,7 @@ use Rattle.asn_walk.specs.Writing.{written, Writes, WritesUnits}
 use Rattle.asn_walk.proofs.Parts.{choice_shape, known_count}
 use Rattle.asn_walk_write.proofs.WriteComponents.{writes_units}
 
--- ---- the alternative at a place
+-- ---- the alternative at an index
 
 -- how its values are spelt
 pub spelled_there : (c : Coding) (alts : List Alt) (i : ℕ) (d : Alt) (v : Datum) → i < length alts

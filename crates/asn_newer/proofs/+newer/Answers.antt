@@ -36,14 +36,14 @@ use Rattle.asn_newer.specs.Halting.{HaltsAt}
 use Rattle.asn_newer.specs.Reading.{skipped_seen}
 use Rattle.asn_newer.specs.Skipped.{Reading, nothing_skipped}
 use Rattle.asn_newer.specs.Walking.{loose_by, ItemsAfter, FieldsAfter}
-use Rattle.asn_newer.proofs.Behind.{unmapped, none_taken, taken_on, each_starts, each_next, each_ends, open_starts, open_absent, open_present, open_none, open_ends, open_ends_none, bit_set, bit_unset, entry_on}
-use Rattle.asn_newer.proofs.ChoicesAndSequences.{preamble_none, root_none, more_none, sequence_done, no_more, none_present, bitmap_none, additions_done, open_on, root_at, closed_none, closed_on, marked_none, marked_root_on, marked_added_on, added_at, unknown_at, alternative_missed, closed_enum_on, plain_on}
-use Rattle.asn_newer.proofs.Sizes.{root_smaller, additions_smaller, alternatives_smaller, added_smaller}
-use Rattle.asn_newer.proofs.InTypes.{few_of_root, few_additions, some_known, few_closed, few_marked, closed_choice_type, marked_choice_type, closed_enum_type, marked_enum_type, datum_of-UnknownAlternative}
-use Rattle.asn_newer.proofs.ContentsRead.{no_value, no_filling, too_much, content_read, known_read, known_none}
-use Rattle.asn_newer.proofs.ElementsRead.{row_begins, row_none, row_next, row_ends, list_begins, no_length, list_ends, items_none, list_next, list_nearer, start_none, rest_none, rest_read}
-use Rattle.asn_newer.proofs.Halts.{halts_on, stops_on, none_mapped, no_field}
-use Rattle.asn_newer.proofs.OneReading.{loose_way}
+use Rattle.asn_newer.proofs.Walk.Following.{unmapped, none_taken, taken_on, each_starts, each_next, each_ends, open_starts, open_absent, open_present, open_none, open_ends, open_ends_none, bit_set, bit_unset, entry_on}
+use Rattle.asn_newer.proofs.Walk.ChoicesAndSequences.{preamble_none, root_none, more_none, sequence_done, no_more, none_present, bitmap_none, additions_done, open_on, root_at, closed_none, closed_on, marked_none, marked_root_on, marked_added_on, added_at, unknown_at, alternative_missed, closed_enum_on, plain_on}
+use Rattle.asn_newer.proofs.Walk.Sizes.{root_smaller, additions_smaller, alternatives_smaller, added_smaller}
+use Rattle.asn_newer.proofs.Walk.InTypes.{few_of_root, few_additions, some_known, few_closed, few_marked, closed_choice_type, marked_choice_type, closed_enum_type, marked_enum_type, datum_of-UnknownAlternative}
+use Rattle.asn_newer.proofs.Walk.ContentsRead.{no_value, no_filling, too_much, content_read, known_read, known_none}
+use Rattle.asn_newer.proofs.Walk.ElementsRead.{row_begins, row_none, row_next, row_ends, list_begins, no_length, list_ends, items_none, list_next, list_nearer, start_none, rest_none, rest_read}
+use Rattle.asn_newer.proofs.Walk.Halts.{halts_on, stops_on, none_mapped, no_field}
+use Rattle.asn_newer.proofs.Law.OneReading.{loose_way}
 use Rattle.asn_newer.proofs.+newer.Goals as goal
 use Rattle.asn_newer.proofs.+newer.Goals.{components::read_open_fields-then-next_present+in_ok-read_known, components::read_open_fields-else-next_present, reader::read_marked-then-preamble+in_ok-read_additions, reader::read_marked-else-preamble+in_ok-push_absent}
 
@@ -248,16 +248,16 @@ reader::read_fragments-loop-fragments-preserved g t c =
     let l = loose_by g.R.ReadLeaves.rules g.R.OtherVersions.loose in
     let ways = c.keep_walk_laws.ensures.ways in
     let next : Next g.R.ReadLeaves.rules.ruling.fielding (g.R.ReadLeaves.ahead c.loop-fragments.fragments) (Some c.in-Some.count) (g.R.ReadLeaves.ahead c.next_fragment.new.fragments) (g.R.ReadLeaves.rules.to_units c.loop-fragments.units) (g.R.ReadLeaves.rules.to_units c.next_fragment.new.units) = rw c.in-Some.is at c.in_ok-count.ensures.done in
-    let come : Spells g.R.ReadLeaves.rules.ruling.fielding (ItemsAfter (map datum_of c.loop-fragments.elements.items) (skipped_seen c.loop-fragments.skipped.items) (Row (Loose l (shape_of c.args.element.now)) c.in-Some.count)) (map datum_of c.read_elements.new.elements.items, skipped_seen c.read_elements.new.skipped.items) (g.R.ReadLeaves.rules.to_units c.next_fragment.new.units) (g.R.ReadLeaves.rules.to_units c.read_elements.new.units) = rw c.in_ok-reserve.ensures.items at c.in_ok-read_elements.ensures.done in
-    (list_next l ways (Loose l (shape_of c.args.element.now)) (loose_way l ways (shape_of c.args.element.now) c.requires.of_profile) c.loop-fragments.invariant.0 next come, c.in_ok-count.ensures.between, c.in_ok-read_elements.ensures.at_unit)
+    let rows_read : Spells g.R.ReadLeaves.rules.ruling.fielding (ItemsAfter (map datum_of c.loop-fragments.elements.items) (skipped_seen c.loop-fragments.skipped.items) (Row (Loose l (shape_of c.args.element.now)) c.in-Some.count)) (map datum_of c.read_elements.new.elements.items, skipped_seen c.read_elements.new.skipped.items) (g.R.ReadLeaves.rules.to_units c.next_fragment.new.units) (g.R.ReadLeaves.rules.to_units c.read_elements.new.units) = rw c.in_ok-reserve.ensures.items at c.in_ok-read_elements.ensures.done in
+    (list_next l ways (Loose l (shape_of c.args.element.now)) (loose_way l ways (shape_of c.args.element.now) c.requires.of_profile) c.loop-fragments.invariant.0 next rows_read, c.in_ok-count.ensures.between, c.in_ok-read_elements.ensures.at_unit)
 
 pub reader::read_fragments-loop-fragments-smaller : goal.reader::read_fragments-loop-fragments-smaller
 reader::read_fragments-loop-fragments-smaller g t c =
     let l = loose_by g.R.ReadLeaves.rules g.R.OtherVersions.loose in
     let ways = c.keep_walk_laws.ensures.ways in
     let next : Next g.R.ReadLeaves.rules.ruling.fielding (g.R.ReadLeaves.ahead c.loop-fragments.fragments) (Some c.in-Some.count) (g.R.ReadLeaves.ahead c.next_fragment.new.fragments) (g.R.ReadLeaves.rules.to_units c.loop-fragments.units) (g.R.ReadLeaves.rules.to_units c.next_fragment.new.units) = rw c.in-Some.is at c.in_ok-count.ensures.done in
-    let come : Spells g.R.ReadLeaves.rules.ruling.fielding (ItemsAfter (map datum_of c.loop-fragments.elements.items) (skipped_seen c.loop-fragments.skipped.items) (Row (Loose l (shape_of c.args.element.now)) c.in-Some.count)) (map datum_of c.read_elements.new.elements.items, skipped_seen c.read_elements.new.skipped.items) (g.R.ReadLeaves.rules.to_units c.next_fragment.new.units) (g.R.ReadLeaves.rules.to_units c.read_elements.new.units) = rw c.in_ok-reserve.ensures.items at c.in_ok-read_elements.ensures.done in
-    list_nearer l ways (Loose l (shape_of c.args.element.now)) (loose_way l ways (shape_of c.args.element.now) c.requires.of_profile) c.loop-fragments.invariant.0 next come
+    let rows_read : Spells g.R.ReadLeaves.rules.ruling.fielding (ItemsAfter (map datum_of c.loop-fragments.elements.items) (skipped_seen c.loop-fragments.skipped.items) (Row (Loose l (shape_of c.args.element.now)) c.in-Some.count)) (map datum_of c.read_elements.new.elements.items, skipped_seen c.read_elements.new.skipped.items) (g.R.ReadLeaves.rules.to_units c.next_fragment.new.units) (g.R.ReadLeaves.rules.to_units c.read_elements.new.units) = rw c.in_ok-reserve.ensures.items at c.in_ok-read_elements.ensures.done in
+    list_nearer l ways (Loose l (shape_of c.args.element.now)) (loose_way l ways (shape_of c.args.element.now) c.requires.of_profile) c.loop-fragments.invariant.0 next rows_read
 
 pub reader::read_fragments-returns-in_err-read_elements-clause-stop : goal.reader::read_fragments-returns-in_err-read_elements-clause-stop
 reader::read_fragments-returns-in_err-read_elements-clause-stop g t c =

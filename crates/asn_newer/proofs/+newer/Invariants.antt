@@ -7,8 +7,8 @@ use Rattle.asn_newer.specs.Bitmaps.{bits_left}
 use Rattle.asn_newer.specs.Loose.{Loose, LooseEach, LooseOpen}
 use Rattle.asn_newer.specs.Reading.{skipped_seen}
 use Rattle.asn_newer.specs.Walking.{loose_by, EntriesAfter, ItemsAfter}
-use Rattle.asn_newer.proofs.Behind.{EachUpTo, OpenUpTo}
-use Rattle.asn_newer.proofs.ElementsRead.{RowUpTo, ListUpTo}
+use Rattle.asn_newer.proofs.Walk.Following.{EachUpTo, OpenUpTo}
+use Rattle.asn_newer.proofs.Walk.ElementsRead.{RowUpTo, ListUpTo}
 use Rattle.asn_newer.proofs.+newer.Given as goal
 
 abbrev pub invariant-components::read_components-loop-field : goal.invariant-components::read_components-loop-field

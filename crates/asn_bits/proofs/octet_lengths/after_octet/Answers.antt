@@ -1,9 +1,9 @@
 use Rattle.std.proofs.Common.{arith}
-use Rattle.asn_bits.proofs.LengthsInOctets.{long_next_at, long_small, behind_long_at}
+use Rattle.asn_bits.proofs.LengthsInOctets.{long_next_at, long_small, after_long_at, after_short_at}
 use Rattle.asn_bits.proofs.octet_lengths.after_octet.Goals as goal
 
 pub returns-then-left-eq0-clause-none : goal.returns-then-left-eq0-clause-none
-returns-then-left-eq0-clause-none c e n few s = behind_long_at c.args.state c.in-Long.count c.in-Long.prefix c.in-Long.left c.args.octet n c.in-Long.is (omega arith) s
+returns-then-left-eq0-clause-none c e n few s = after_long_at c.args.state c.in-Long.count c.in-Long.prefix c.in-Long.left c.args.octet n c.in-Long.is (omega arith) s
 
 pub overflow_mul-result : goal.overflow_mul-result
 overflow_mul-result c = omega (arith, long_small c.args.state c.in-Long.count c.in-Long.prefix c.in-Long.left c.in-Long.is c.requires (omega arith))

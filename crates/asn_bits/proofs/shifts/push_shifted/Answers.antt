@@ -2,7 +2,7 @@
 use Rattle.std.proofs.Common.{rules, ◌≡◌, ◌+◌, ◌*◌, ◌/◌, ◌++◌, length, take, drop, sym, ◌∙◌, ap, subst, arith}
 use Rattle.std.proofs.lemmas.List.{take-append-drop}
 use Rattle.asn_bits.specs.Moves.{Shifted}
-use Rattle.asn_bits.proofs.Moving.{begun_all, begun_front, filled_behind, resized_front, shifted_behind}
+use Rattle.asn_bits.proofs.Moving.{begun_all, begun_front, filled_after, resized_front, shifted_after}
 use Rattle.asn_bits.proofs.shifts.push_shifted.Goals as goal
 
 pub returns-clause-shifted : goal.returns-clause-shifted
@@ -22,7 +22,7 @@ returns-clause-shifted c =
     let parts : a.octets.now ≡ words ++ rest =
     sym (take-append-drop (length a.octets.now / 8 * 8) a.octets.now) ∙ ap (λ t. t ++ drop (length a.octets.now / 8 * 8) a.octets.now) (sym c.split_at.ensures.front)
     ∙ ap (λ t. words ++ t) (sym c.split_at.ensures.back) in
-    let start = begun_front old (old ++ into) a.octets.now words rest a.count a.pending high (shifted_behind old into words a.count a.pending high filled) parts in
+    let start = begun_front old (old ++ into) a.octets.now words rest a.count a.pending high (shifted_after old into words a.count a.pending high filled) parts in
     begun_all old (old ++ into) c.push_single.new.bytes.items a.octets.now rest a.count a.pending high c.push_single.result start
     (subst (λ t. Shifted t c.push_single.new.bytes.items rest a.count high c.push_single.result)
-    (filled_behind old into c.deref_mut.result.now _ _ c.len-start.result c.resize.new.self.len front size) tail)
+    (filled_after old into c.deref_mut.result.now _ _ c.len-start.result c.resize.new.self.len front size) tail)

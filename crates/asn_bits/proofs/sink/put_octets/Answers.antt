@@ -2,7 +2,7 @@
 use Rattle.std.proofs.Common.{◌≡◌, ◌++◌, ◌%◌, ap, ◌∙◌, arith, rules}
 use Rattle.asn_bits.specs.Numbers.{unpacked}
 use Rattle.asn_bits.proofs.Moving.{pushed_shifted}
-use Rattle.asn_bits.proofs.Packing.{octets_out, whole_behind}
+use Rattle.asn_bits.proofs.Packing.{octets_out, whole_after}
 use Rattle.asn_bits.proofs.sink.put_octets.Goals as goal
 
 pub returns-then-left-ne0-clause-bits : goal.returns-then-left-ne0-clause-bits
@@ -18,5 +18,5 @@ returns-clause-bits c =
     let mid = c.push_low.new.bytes.items in
     let whole : a.count % 8 ≡ 0 = omega arith in
     let added : c.extend_from_slice.new.self.items ≡ mid ++ a.octets.now = search rules in
-    whole_behind mid c.extend_from_slice.new.self.items a.octets.now (a.count % 8) a.pending whole added
+    whole_after mid c.extend_from_slice.new.self.items a.octets.now (a.count % 8) a.pending whole added
     ∙ ap (λ t. t ++ unpacked a.octets.now) (octets_out a.into.now.items mid a.count a.pending c.push_low.ensures.items)

@@ -130,20 +130,20 @@ read-read_entries-requires-in-Some-ext t c =
     let added = added_components fs (more_fields_of c.in-Seq.ext) (rw type at c.requires.of_profile) in
     (search (rules, the_lemmas), rw (c.in-Some-ext.is, ← c.deref-in-Some-ext.ensures.value) at added)
 
-pub read-returns-in_err-ours-in-Seq-clause-refused : goal.read-returns-in_err-ours-in-Seq-clause-refused
-read-returns-in_err-ours-in-Seq-clause-refused t c =
+pub read-returns-in_err-root_entries-in-Seq-clause-refused : goal.read-returns-in_err-root_entries-in-Seq-clause-refused
+read-returns-in_err-root_entries-in-Seq-clause-refused t c =
     let object : as_object (view c.args.json.now) ≡ Some (members_view c.in-Some.object.now.entries) = sym c.in-Some.ensures in
-    let p = err_from_is_err_and c.from_residual-in_err-ours-in-Seq.result c.from_residual-in_err-ours-in-Seq.ensures.1 in
-    rw (p.1, p.2) (root_refused c.args.ty.now c.in-Seq.root c.in-Seq.ext c.deref-in-Seq.result.now (view c.args.json.now) (members_view c.in-Some.object.now.entries) c.in-Seq.is c.deref-in-Seq.ensures.value object _ c.in_err-ours-in-Seq.ensures.refused)
+    let p = err_from_is_err_and c.from_residual-in_err-root_entries-in-Seq.result c.from_residual-in_err-root_entries-in-Seq.ensures.1 in
+    rw (p.1, p.2) (root_refused c.args.ty.now c.in-Seq.root c.in-Seq.ext c.deref-in-Seq.result.now (view c.args.json.now) (members_view c.in-Some.object.now.entries) c.in-Seq.is c.deref-in-Seq.ensures.value object _ c.in_err-root_entries-in-Seq.ensures.refused)
 
 pub read-returns-in_err-entries-in-Some-ext-clause-refused : goal.read-returns-in_err-entries-in-Some-ext-clause-refused
 read-returns-in_err-entries-in-Some-ext-clause-refused t c =
     let ms = members_view c.in-Some.object.now.entries in
     let object : as_object (view c.args.json.now) ≡ Some ms = sym c.in-Some.ensures in
-    let first : ShowsAfter (fields_of (map part_of_field c.deref-in-Seq.result.now)) ms [] (map (option_map datum_of) c.in_ok-ours-in-Seq.ours.items) = rw c.new.ensures.items at c.in_ok-ours-in-Seq.ensures.shown in
+    let first : ShowsAfter (fields_of (map part_of_field c.deref-in-Seq.result.now)) ms [] (map (option_map datum_of) c.in_ok-root_entries-in-Seq.root_entries.items) = rw c.new.ensures.items at c.in_ok-root_entries-in-Seq.ensures.shown in
     let p = err_from_is_err_and c.from_residual-in_err-entries-in-Some-ext.result c.from_residual-in_err-entries-in-Some-ext.ensures.1 in
     rw (p.1, p.2)
-    (added_refused c.args.ty.now c.in-Seq.root c.in-Seq.ext c.deref-in-Seq.result.now (view c.args.json.now) ms c.in-Seq.is c.deref-in-Seq.ensures.value object _ (map (option_map datum_of) c.in_ok-ours-in-Seq.ours.items) first
+    (added_refused c.args.ty.now c.in-Seq.root c.in-Seq.ext c.deref-in-Seq.result.now (view c.args.json.now) ms c.in-Seq.is c.deref-in-Seq.ensures.value object _ (map (option_map datum_of) c.in_ok-root_entries-in-Seq.root_entries.items) first
     (rw (c.in-Some-ext.is, ← c.deref-in-Some-ext.ensures.value) c.in_err-entries-in-Some-ext.ensures.refused))
 
 pub read-returns-in_ok-check_keys-in-Seq-clause-shown : goal.read-returns-in_ok-check_keys-in-Seq-clause-shown
@@ -151,17 +151,17 @@ read-returns-in_ok-check_keys-in-Seq-clause-shown t c =
     let fs = c.deref-in-Seq.result.now in
     let ms = members_view c.in-Some.object.now.entries in
     let object : as_object (view c.args.json.now) ≡ Some ms = sym c.in-Some.ensures in
-    let ours = map (option_map datum_of) c.in_ok-ours-in-Seq.ours.items in
-    let first : ShowsAfter (fields_of (map part_of_field fs)) ms [] ours = rw c.new.ensures.items at c.in_ok-ours-in-Seq.ensures.shown in
-    let added : ShowsAdded (more_fields_of c.in-Seq.ext) ms ours (map (option_map datum_of) c.match-ext.entries.items) =
+    let root_entries = map (option_map datum_of) c.in_ok-root_entries-in-Seq.root_entries.items in
+    let first : ShowsAfter (fields_of (map part_of_field fs)) ms [] root_entries = rw c.new.ensures.items at c.in_ok-root_entries-in-Seq.ensures.shown in
+    let added : ShowsAdded (more_fields_of c.in-Seq.ext) ms root_entries (map (option_map datum_of) c.match-ext.entries.items) =
     elim c.match-ext.branch [
       | read-in-Some-ext+in_ok-entries-in-Some-ext w ↦
           let shown = w.in_ok-entries-in-Some-ext.ensures.shown in
           rw (w.in-Some-ext.is, ← w.deref-in-Some-ext.ensures.value, w.entries-is) (record { no_errors = shown.no_errors; is = shown.is })
-      | read-in-None w ↦ rw (w.in-None.is, w.entries-is) (record { no_errors = refl; is = sym (append-nil ours) })
+      | read-in-None w ↦ rw (w.in-None.is, w.entries-is) (record { no_errors = refl; is = sym (append-nil root_entries) })
     ] in
     let same : c.deref-in-Seq-2.result.now ≡ fs = c.deref-in-Seq-2.ensures.value ∙ sym c.deref-in-Seq.ensures.value in
-    sequence_shown c.args.ty.now c.in-Seq.root c.in-Seq.ext fs (view c.args.json.now) ms c.in-Seq.is c.deref-in-Seq.ensures.value object c.match-ext.entries ours (map (option_map datum_of) c.match-ext.entries.items) first added
+    sequence_shown c.args.ty.now c.in-Seq.root c.in-Seq.ext fs (view c.args.json.now) ms c.in-Seq.is c.deref-in-Seq.ensures.value object c.match-ext.entries root_entries (map (option_map datum_of) c.match-ext.entries.items) first added
     (rw same at c.in_ok-check_keys-in-Seq.ensures.known) refl
 
 pub read-alternative_index-requires : goal.read-alternative_index-requires

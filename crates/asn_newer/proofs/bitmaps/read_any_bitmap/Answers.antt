@@ -2,7 +2,7 @@ use Rattle.std.proofs.Common.{◌∙◌, Option, IsNone, refl, sym, subst, arith
 use Rattle.std.proofs.lemmas.Bool.{true≢false}
 use Rattle.asn_walk.specs.declared.presence.PresenceBits.{PresenceBits}
 use Rattle.asn_newer.specs.declared.halt.Halt.TheVariants as halt
-use Rattle.asn_newer.proofs.AnyBitmaps.{before_one, none_further, none_of_all, halts}
+use Rattle.asn_newer.proofs.Walk.AnyBitmaps.{before_one, none_further, none_of_all, halts}
 use Rattle.asn_newer.proofs.bitmaps.read_any_bitmap.Goals as goal
 
 pub loop-count-init : goal.loop-count-init

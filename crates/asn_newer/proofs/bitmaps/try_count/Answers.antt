@@ -1,4 +1,4 @@
-use Rattle.asn_newer.proofs.AnyBitmaps.{not_of_refused, not_of_short}
+use Rattle.asn_newer.proofs.Walk.AnyBitmaps.{not_of_refused, not_of_short}
 use Rattle.asn_newer.proofs.bitmaps.try_count.Goals as goal
 
 pub returns-in-Err-Refused-clause-none : goal.returns-in-Err-Refused-clause-none

@@ -1,7 +1,7 @@
 use Rattle.std.proofs.Common.{ℤ, Option, Some, None, IfSome, sym, ◌∙◌}
 use Rattle.asn_values.specs.Datum.{number}
 use Rattle.asn_newer.specs.Walking.{loose_by}
-use Rattle.asn_newer.proofs.BoundedEntries.{bounded_entry}
+use Rattle.asn_newer.proofs.Walk.BoundedEntries.{bounded_entry}
 use Rattle.asn_newer.proofs.components.try_bounded.Goals as goal
 
 within : {P Q : ℤ → Type 0} → ((z : ℤ) → P z → Q z) → (o : Option ℤ) → IfSome o P → IfSome o Q

@@ -3,8 +3,8 @@ use Rattle.std.proofs.lemmas.Result.{IfErr-weaker}
 use Rattle.asn_values.specs.View.{labels_seen, shape_of}
 use Rattle.asn_rules.specs.Listed.{Spelt}
 use Rattle.asn_newer.specs.Walking.{loose_by}
-use Rattle.asn_newer.proofs.Halts.{halts_on}
-use Rattle.asn_newer.proofs.ItemsRead.{no_item, none_of_short, none_of_refused}
+use Rattle.asn_newer.proofs.Walk.Halts.{halts_on}
+use Rattle.asn_newer.proofs.Walk.ItemsRead.{no_item, none_of_short, none_of_refused}
 use Rattle.asn_newer.proofs.items.read_any_item.Goals as goal
 
 pub returns-in-Err-Refused-clause-stop : goal.returns-in-Err-Refused-clause-stop

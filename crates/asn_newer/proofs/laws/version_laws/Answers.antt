@@ -2,11 +2,11 @@ use Rattle.std.proofs.Common.{true, false, List, subst}
 use Rattle.asn_newer.specs.Skipped.{Skipped, Reading}
 use Rattle.asn_newer.specs.Loose.{IsLoose, Complete, Loose}
 use Rattle.asn_newer.specs.Versions.{received}
-use Rattle.asn_newer.proofs.Flipped.{flipped, skips_nothing}
-use Rattle.asn_newer.proofs.Itself.{same_version, itself}
-use Rattle.asn_newer.proofs.OneReading.{one_reading}
-use Rattle.asn_newer.proofs.Read.{message_read}
-use Rattle.asn_newer.proofs.Received.{reads_fit}
+use Rattle.asn_newer.proofs.Law.Flipped.{flipped, skips_nothing}
+use Rattle.asn_newer.proofs.Law.Itself.{same_version, itself}
+use Rattle.asn_newer.proofs.Law.OneReading.{one_reading}
+use Rattle.asn_newer.proofs.Law.Read.{message_read}
+use Rattle.asn_newer.proofs.Law.Received.{reads_fit}
 use Rattle.asn_newer.proofs.laws.version_laws.Goals as goal
 
 pub returns-clause-reads_itself : goal.returns-clause-reads_itself

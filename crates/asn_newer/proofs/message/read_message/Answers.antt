@@ -4,7 +4,7 @@ use Rattle.asn_rules.specs.Answer.{max_octets}
 use Rattle.asn_newer.specs.Reading.{NotNewer, skipped_seen}
 use Rattle.asn_newer.specs.Walking.{loose_by}
 use Rattle.asn_newer.specs.declared.fault.NewerFault.{NewerFault}
-use Rattle.asn_newer.proofs.MessagesRead.{message_read, no_message}
+use Rattle.asn_newer.proofs.Walk.MessagesRead.{message_read, no_message}
 use Rattle.asn_newer.proofs.message.read_message.Goals as goal
 
 pub returns-in-Ok-clause-read : goal.returns-in-Ok-clause-read

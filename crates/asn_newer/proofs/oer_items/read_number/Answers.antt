@@ -2,7 +2,7 @@ use Rattle.std.proofs.Common.{◌≤◌, ◌-◌, ℤ, arith, sym, ap, subst, re
 use Rattle.std.proofs.lemmas.Bool.{true≢false}
 use Rattle.asn_bits.specs.Numbers.{packed, signed_octet_count}
 use Rattle.asn_newer.specs.ItemNumbers.{IsItemNumber}
-use Rattle.asn_newer.proofs.OerItems.{is_short as short, none_of_count, none_behind, none_else, long_read, octets_behind, kept_32}
+use Rattle.asn_newer.proofs.Walk.OerItems.{is_short as short, none_of_count, none_after, none_else, long_read, octets_after_length, kept_32}
 use Rattle.asn_newer.proofs.oer_items.read_number.Goals.{then-count-eq0-via-then-count-eq0, then-count-eq0-via-else-count-eq0+then-count-gt4, then-is_short-via-then-is_short, then-is_short-via-else-is_short+then-signed_octet_count-count}
 use Rattle.asn_newer.proofs.oer_items.read_number.Goals as goal
 
@@ -13,8 +13,8 @@ returns-then-count-eq0-clause-none c =
 
 pub returns-in_default-take_number-clause-none : goal.returns-in_default-take_number-clause-none
 returns-in_default-take_number-clause-none c =
-    let at = octets_behind 1 c.in-Some.first c.args.units.now c.take_number.new.self c.in-Some.ensures.some c.requires.at_octet in
-    λ _ z rest. none_behind c.args.units.now c.take_number.new.self c.in-Some.first c.in-Some.ensures.fits c.in-Some.ensures.some c.if-first-lt128.false at (c.in_default-take_number.ensures.none.0 refl) z rest
+    let at = octets_after_length 1 c.in-Some.first c.args.units.now c.take_number.new.self c.in-Some.ensures.some c.requires.at_octet in
+    λ _ z rest. none_after c.args.units.now c.take_number.new.self c.in-Some.first c.in-Some.ensures.fits c.in-Some.ensures.some c.if-first-lt128.false at (c.in_default-take_number.ensures.none.0 refl) z rest
 
 pub returns-then-is_short-clause-none : goal.returns-then-is_short-clause-none
 returns-then-is_short-clause-none c =
@@ -28,8 +28,8 @@ returns-then-is_short-clause-none c =
 
 pub returns-clause-at_octet : goal.returns-clause-at_octet
 returns-clause-at_octet c =
-    let at = octets_behind 1 c.in-Some.first c.args.units.now c.take_number.new.self c.in-Some.ensures.some c.requires.at_octet in
-    octets_behind (c.in-Some.first - 128) c.in-Some-take_number.residue c.take_number.new.self c.take_number-2.new.self c.in-Some-take_number.ensures.some at
+    let at = octets_after_length 1 c.in-Some.first c.args.units.now c.take_number.new.self c.in-Some.ensures.some c.requires.at_octet in
+    octets_after_length (c.in-Some.first - 128) c.in-Some-take_number.residue c.take_number.new.self c.take_number-2.new.self c.in-Some-take_number.ensures.some at
 
 pub returns-clause-done : goal.returns-clause-done
 returns-clause-done c =

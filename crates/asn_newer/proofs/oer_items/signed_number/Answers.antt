@@ -1,4 +1,4 @@
-use Rattle.asn_newer.proofs.OerItems.{below_zero}
+use Rattle.asn_newer.proofs.Walk.OerItems.{below_zero}
 use Rattle.asn_newer.proofs.oer_items.signed_number.Goals as goal
 
 pub returns-else-residue-count-clause-is : goal.returns-else-residue-count-clause-is

@@ -2,8 +2,8 @@ use Rattle.std.proofs.Common.{◌≡◌, [], ◌∷◌, ◌++◌, ap, ◌∙◌}
 use Rattle.std.proofs.lemmas.List.{map-append}
 use Rattle.std.proofs.lemmas.Result.{err_from_is_err_and}
 use Rattle.asn_newer.specs.Reading.{skipped_of, skipped_seen}
-use Rattle.asn_newer.proofs.Behind.{field_skipped, none_skipped}
-use Rattle.asn_newer.proofs.Halts.{stops_on}
+use Rattle.asn_newer.proofs.Walk.Following.{field_skipped, none_skipped}
+use Rattle.asn_newer.proofs.Walk.Halts.{stops_on}
 use Rattle.asn_newer.proofs.skipping.skip_field.Goals as goal
 
 pub returns-in_err-octets-clause-stop : goal.returns-in_err-octets-clause-stop

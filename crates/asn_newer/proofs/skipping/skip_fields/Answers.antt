@@ -3,9 +3,9 @@ use Rattle.std.proofs.lemmas.Result.{err_from_is_err_and}
 use Rattle.asn_newer.specs.Bitmaps.{bits_left}
 use Rattle.asn_newer.specs.Reading.{skipped_seen}
 use Rattle.asn_newer.specs.Walking.{loose_by}
-use Rattle.asn_newer.proofs.Behind.{skips_start, skips_absent, skips_present, skips_none, skips_end, bit_set, unmapped}
-use Rattle.asn_newer.proofs.FieldsSkipped.{one_on, bit_absent, none_is_left}
-use Rattle.asn_newer.proofs.Halts.{halts_on}
+use Rattle.asn_newer.proofs.Walk.Following.{skips_start, skips_absent, skips_present, skips_none, skips_end, bit_set, unmapped}
+use Rattle.asn_newer.proofs.Walk.FieldsSkipped.{one_on, bit_absent, none_is_left}
+use Rattle.asn_newer.proofs.Walk.Halts.{halts_on}
 use Rattle.asn_newer.proofs.skipping.skip_fields.Goals.{then-next_present+in_ok-skip_field, else-next_present}
 use Rattle.asn_newer.proofs.skipping.skip_fields.Goals as goal
 

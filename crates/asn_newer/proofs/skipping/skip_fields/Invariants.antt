@@ -3,7 +3,7 @@ use Rattle.asn_newer.specs.Bitmaps.{bits_left}
 use Rattle.asn_newer.specs.Loose.{AllUnknown}
 use Rattle.asn_newer.specs.Reading.{skipped_seen}
 use Rattle.asn_newer.specs.Walking.{FieldsAfter}
-use Rattle.asn_newer.proofs.Behind.{SkippedUpTo}
+use Rattle.asn_newer.proofs.Walk.Following.{SkippedUpTo}
 use Rattle.asn_newer.proofs.skipping.skip_fields.Given as goal
 
 abbrev pub invariant-loop-next : goal.invariant-loop-next

@@ -32,7 +32,7 @@ items-preserved c =
     let on : goes_on (lexed l.rest.now) ≡ true = grind (arith, common_steps) in
     let some : 0 < length (lexed l.rest.now) = grind (arith, common_steps) in
     let shorter = c.in_ok-item.ensures.shorter in
-    let behind = ap length c.after_first.ensures ∙ length-drop 1 (lexed l.rest.now) in
+    let dropped = ap length c.after_first.ensures ∙ length-drop 1 (lexed l.rest.now) in
     let before = l.invariant.1 in (
       search rules,
       omega arith,

@@ -23,14 +23,14 @@ number_lexeme-requires c =
 
 pub split-requires-then-second-gt48-2-clause-ascii : goal.split-requires-then-second-gt48-2-clause-ascii
 split-requires-then-second-gt48-2-clause-ascii c some less =
-    let behind = c.split-then-second-gt48.result.1.now in
-    let n : c.digits_len-then-second-gt48.result ≡ digits_len behind = grind (arith, common_steps) in
-    digits_ascii behind (c.digits_len-then-second-gt48.result - 1) (omega (arith, n))
+    let after = c.split-then-second-gt48.result.1.now in
+    let n : c.digits_len-then-second-gt48.result ≡ digits_len after = grind (arith, common_steps) in
+    digits_ascii after (c.digits_len-then-second-gt48.result - 1) (omega (arith, n))
 
 pub negative_lexeme-requires : goal.negative_lexeme-requires
 negative_lexeme-requires c =
-    let behind = c.split-then-second-gt48.result.1.now in
-    let n : c.digits_len-then-second-gt48.result ≡ digits_len behind = grind (arith, common_steps) in
+    let after = c.split-then-second-gt48.result.1.now in
+    let n : c.digits_len-then-second-gt48.result ≡ digits_len after = grind (arith, common_steps) in
     let second : is_digit (slice_index c.args.text.now 1) ≡ true = grind (arith, common_steps) in
-    let first : is_digit (slice_index behind 0) ≡ true = rw (c.split-then-second-gt48.ensures.rest, at_one) second in
-    rw (c.split-then-second-gt48-2.ensures.front, n) (is_numeral behind first)
+    let first : is_digit (slice_index after 0) ≡ true = rw (c.split-then-second-gt48.ensures.rest, at_one) second in
+    rw (c.split-then-second-gt48-2.ensures.front, n) (is_numeral after first)

@@ -34,7 +34,7 @@ other_components-components-preserved t c =
     let on : goes_on (lexed l.rest.now) ≡ true = grind (arith, common_steps) in
     let some : 0 < length (lexed l.rest.now) = grind (arith, common_steps) in
     let shorter = c.in_ok-component.ensures.shorter in
-    let behind = ap length c.after_first.ensures ∙ length-drop 1 (lexed l.rest.now) in
+    let dropped = ap length c.after_first.ensures ∙ length-drop 1 (lexed l.rest.now) in
     let before = l.invariant.1 in (
       search rules,
       omega arith,
@@ -66,7 +66,7 @@ other_alternatives-alternatives-preserved t c =
     let on : goes_on (lexed l.rest.now) ≡ true = grind (arith, common_steps) in
     let some : 0 < length (lexed l.rest.now) = grind (arith, common_steps) in
     let shorter = c.in_ok-alternative.ensures.shorter in
-    let behind = ap length c.after_first.ensures ∙ length-drop 1 (lexed l.rest.now) in
+    let dropped = ap length c.after_first.ensures ∙ length-drop 1 (lexed l.rest.now) in
     let before = l.invariant.1 in (
       search rules,
       omega arith,

@@ -1,6 +1,6 @@
 use Rattle.std.proofs.Common.{inl, inr, refl, arith}
 use Rattle.asn_oer.specs.LeafReading.{ItemBegins}
-use Rattle.asn_oer.proofs.ItemReading.{up_to}
+use Rattle.asn_oer.proofs.Read.ItemReading.{up_to}
 use Rattle.asn_oer.proofs.enumerated.find_item.Goals as goal
 
 pub loop-position-init : goal.loop-position-init

@@ -3,7 +3,7 @@ use Rattle.std.specs.Int.RustNames.{int_le, int_lt}
 use mir.Syntax.{w64, w128}
 use Rattle.asn_bits.specs.Numbers.{signed_octets, signed_octet_count}
 use Rattle.asn_bits.proofs.Octets.{signed_fits}
-use Rattle.asn_oer.proofs.ItemReading.{few_octets, in_front, long_number}
+use Rattle.asn_oer.proofs.Read.ItemReading.{few_octets, in_front, long_number}
 use Rattle.asn_oer.proofs.enumerated.octets_of.Goals as goal
 
 pub overflow_shl-first : goal.overflow_shl-first

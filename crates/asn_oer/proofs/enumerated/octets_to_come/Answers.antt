@@ -6,8 +6,8 @@ use Rattle.asn_bits.proofs.Octets.{length-digits}
 use Rattle.asn_rules.specs.Components.{number_at}
 use Rattle.asn_walk.specs.Items.{items_of}
 use Rattle.asn_oer.specs.Oer.{item_number}
-use Rattle.asn_oer.proofs.ItemReading.{left_out, another_item, first_octets, begins_so}
-use Rattle.asn_oer.proofs.WrittenItems.{item_kept, item_narrow}
+use Rattle.asn_oer.proofs.Read.ItemReading.{left_out, another_item, first_octets, begins_so}
+use Rattle.asn_oer.proofs.Write.WrittenItems.{item_kept, item_narrow}
 use Rattle.asn_oer.proofs.enumerated.octets_to_come.Goals as goal
 use Rattle.asn_oer.proofs.enumerated.octets_to_come.Goals.{else-count-all-via-then-count-all+else-octets-all, else-count-all-via-else-count-all}
 

@@ -3,7 +3,7 @@ use Rattle.asn_values.specs.View.{label_of, more_labels_of}
 use Rattle.asn_bits.specs.Numbers.{bits}
 use Rattle.asn_bits.proofs.Octets.{length-digits}
 use Rattle.asn_bits.proofs.LengthsInOctets.{below_power}
-use Rattle.asn_oer.proofs.ItemReading.{below_word, item_ahead, five_at_most, no_octet_comes, comes, no_item_goes_on, item_ends, item_goes_on}
+use Rattle.asn_oer.proofs.Read.ItemReading.{below_word, item_ahead, five_at_most, no_octet_left, comes, no_item_goes_on, item_ends, item_goes_on}
 use Rattle.asn_oer.proofs.enumerated.read_item.Goals as goal
 
 pub loop-taken-init : goal.loop-taken-init
@@ -13,7 +13,7 @@ loop-taken-init c =
 pub returns-in_default-clause-stop : goal.returns-in_default-clause-stop
 returns-in_default-clause-stop c =
     let inv = c.loop-taken.invariant in
-    record { told = no_octet_comes (map label_of c.args.root.now) (more_labels_of c.args.more.now) c.args.excluded c.requires.of_profile c.args.units.now c.loop-taken.taken c.loop-taken.begun c.loop-taken.units inv.1 inv.3 inv.0 (c.in_default.ensures.none.0 refl) }
+    record { told = no_octet_left (map label_of c.args.root.now) (more_labels_of c.args.more.now) c.args.excluded c.requires.of_profile c.args.units.now c.loop-taken.taken c.loop-taken.begun c.loop-taken.units inv.1 inv.3 inv.0 (c.in_default.ensures.none.0 refl) }
 
 pub overflow_mul-begun : goal.overflow_mul-begun
 overflow_mul-begun c =

@@ -1,6 +1,6 @@
 use Rattle.std.proofs.Common.{◌≡◌, ◌<◌, ◌^◌, ◌++◌}
 use Rattle.asn_bits.specs.Numbers.{octets, packed}
-use Rattle.asn_oer.proofs.ItemReading.{Begun}
+use Rattle.asn_oer.proofs.Read.ItemReading.{Begun}
 use Rattle.asn_rules.specs.OctetReading.{AtOctet}
 use Rattle.asn_walk.specs.Items.{items_of}
 use Rattle.asn_oer.proofs.enumerated.read_item.Given as goal

@@ -7,8 +7,8 @@ use Rattle.asn_bits.specs.Numbers.{octets, magnitude, unpacked}
 use Rattle.asn_bits.proofs.Splits.{two_pow_octets, unpacked-octets}
 use Rattle.asn_rules.specs.Components.{number_at}
 use Rattle.asn_oer.specs.Oer.{item_number}
-use Rattle.asn_oer.proofs.WrittenItems.{item_kept, item_narrow}
-use Rattle.asn_oer.proofs.WrittenOctets.{plain}
+use Rattle.asn_oer.proofs.Write.WrittenItems.{item_kept, item_narrow}
+use Rattle.asn_oer.proofs.Write.WrittenOctets.{plain}
 use Rattle.asn_oer.proofs.enumerated.write_item.Goals as goal
 
 pub octets_of-count-requires : goal.octets_of-count-requires

@@ -11,7 +11,7 @@ use Rattle.asn_rules.specs.IntegerSets.{unmarked, AreOffsetsBut}
 use Rattle.asn_rules.proofs.IntegerSets.{low_inside, high_inside}
 use Rattle.asn_oer.specs.Oer.{signed_size, oer_fields}
 use Rattle.asn_oer.specs.Reading.{IntegersBut}
-use Rattle.asn_oer.proofs.IntegerReading.{signed_leads, signed_some, counted_signed_leads, counted_where, negative, given}
+use Rattle.asn_oer.proofs.Read.IntegerReading.{signed_leads, signed_some, counted_signed_leads, counted_where, negative, given}
 use Rattle.asn_oer.proofs.integer.read_signed.Goals as goal
 use Rattle.asn_oer.proofs.integer.read_signed.Goals.{in-Some-Some+in_ok-offset-in-Some-Some, in_default+in_ok-offset-in_default, in_default-via-in-Some+in_default, in_default-via-in_default}
 

@@ -11,7 +11,7 @@ use Rattle.asn_rules.specs.IntegerSets.{unmarked, AreNumbersBut}
 use Rattle.asn_rules.proofs.IntegerSets.{high_inside}
 use Rattle.asn_oer.specs.Oer.{unsigned_octets, oer_fields}
 use Rattle.asn_oer.specs.Reading.{IntegersBut}
-use Rattle.asn_oer.proofs.IntegerReading.{unsigned_leads, unsigned_meets, counted_leads, given}
+use Rattle.asn_oer.proofs.Read.IntegerReading.{unsigned_leads, unsigned_meets, counted_leads, given}
 use Rattle.asn_oer.proofs.integer.read_unsigned.Goals as goal
 use Rattle.asn_oer.proofs.integer.read_unsigned.Goals.{in-Some+in_ok-n-in-Some, in-None+in_ok-n-in-None}
 

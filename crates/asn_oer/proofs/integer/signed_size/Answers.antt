@@ -4,7 +4,7 @@ use Rattle.std.proofs.lemmas.Int.{ints, clamps}
 use Rattle.std.specs.Int.{int_max}
 use mir.Syntax.{w128}
 use Rattle.asn_oer.specs.Oer.{unsigned_octets}
-use Rattle.asn_oer.proofs.Integers.{farthest_is, signed_is_twice, twice_kept}
+use Rattle.asn_oer.proofs.Law.Integers.{farthest_is, signed_is_twice, twice_kept}
 use Rattle.asn_oer.proofs.integer.signed_size.Goals as goal
 
 pub overflow_mul-farthest : goal.overflow_mul-farthest

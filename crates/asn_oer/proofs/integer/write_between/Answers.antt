@@ -6,14 +6,14 @@ use mir.Syntax.{w128}
 use Rattle.asn_bits.specs.Numbers.{bits, signed_octets, octets}
 use Rattle.asn_bits.proofs.Above.{test_of_le}
 use Rattle.asn_oer.specs.Oer.{unsigned_octets, signed_size}
-use Rattle.asn_oer.proofs.WrittenNumbers.{unsigned_bits, signed_bits, signed_room}
+use Rattle.asn_oer.proofs.Write.WrittenNumbers.{unsigned_bits, signed_bits, signed_room}
 use Rattle.asn_oer.proofs.integer.write_between.Goals as goal
 
 pub returns-then-low-ge0 : goal.returns-then-low-ge0
 returns-then-low-ge0 c =
     let low = c.args.low in
     let high = c.args.high in
-    let z = c.args.whole in
+    let z = c.args.value in
     let k = c.unsigned_size.result in
     let same_low : to_z w128 (of_z w128 low) ≡ low = search rules in
     let same_high : to_z w128 (of_z w128 high) ≡ high = search rules in
@@ -27,7 +27,7 @@ pub signed_residue-requires-clause-room : goal.signed_residue-requires-clause-ro
 signed_residue-requires-clause-room c =
     let low = c.args.low in
     let high = c.args.high in
-    let z = c.args.whole in
+    let z = c.args.value in
     let k = c.signed_size-count.result in
     let same_low : to_z w128 (of_z w128 low) ≡ low = search rules in
     let same_high : to_z w128 (of_z w128 high) ≡ high = search rules in
@@ -39,7 +39,7 @@ pub returns : goal.returns
 returns c =
     let low = c.args.low in
     let high = c.args.high in
-    let z = c.args.whole in
+    let z = c.args.value in
     let k = c.signed_size-count.result in
     let r = c.signed_residue.result in
     let same_low : to_z w128 (of_z w128 low) ≡ low = search rules in

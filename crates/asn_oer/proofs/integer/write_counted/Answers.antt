@@ -9,15 +9,15 @@ use Rattle.asn_bits.specs.Numbers.{least, least_signed}
 use Rattle.asn_bits.proofs.Above.{kept}
 use Rattle.asn_rules.proofs.IntegerSets.{low_bound}
 use Rattle.asn_oer.specs.Oer.{whole_number}
-use Rattle.asn_oer.proofs.WrittenNumbers.{counted_bits, counted_signed_bits, some_same_low}
-use Rattle.asn_oer.proofs.WrittenOctets.{plain}
+use Rattle.asn_oer.proofs.Write.WrittenNumbers.{counted_bits, counted_signed_bits, some_same_low}
+use Rattle.asn_oer.proofs.Write.WrittenOctets.{plain}
 use Rattle.asn_oer.proofs.integer.write_counted.Goals as goal
 use Rattle.asn_oer.proofs.integer.write_counted.Goals.{in_default-via-in-Some+then-low-ge0+else-not-bounds, in_default-via-in-Some+else-low-ge0, in_default-via-in_default}
 
 pub returns-in_ok-push_least_octets-in-Some-clause-written : goal.returns-in_ok-push_least_octets-in-Some-clause-written
 returns-in_ok-push_least_octets-in-Some-clause-written c =
     let b = range_of c.args.bounds.now in
-    let z = c.args.whole in
+    let z = c.args.value in
     let low = c.in-Some.low in
     let l = low_bound b low c.requires.of_profile c.in-Some.is in
     let same : to_z w128 (of_z w128 z) ≡ z = search rules in
@@ -31,7 +31,7 @@ returns-in_ok-push_least_octets-in-Some-clause-written c =
 pub returns-in_ok-push_least_signed_octets-in_default-clause-written : goal.returns-in_ok-push_least_signed_octets-in_default-clause-written
 returns-in_ok-push_least_signed_octets-in_default-clause-written c =
     let b = range_of c.args.bounds.now in
-    let z = c.args.whole in
+    let z = c.args.value in
     let same : to_z w128 (of_z w128 z) ≡ z = search rules in
     let fits : FitsNumber b z = search rules in
     let which : (b.extensible ≡ true) ⊎ ((low : ℤ) → b.low ≡ Some low → int_le (pos 0) low ≡ false) = elim c.in_default.branch [

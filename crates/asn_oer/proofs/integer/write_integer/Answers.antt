@@ -6,8 +6,8 @@ use Rattle.asn_bits.specs.Numbers.{unpacked}
 use Rattle.asn_bits.proofs.Above.{kept}
 use Rattle.asn_rules.proofs.IntegerSets.{low_bound, high_bound}
 use Rattle.asn_oer.specs.Oer.{counted_signed, ranged, whole_number}
-use Rattle.asn_oer.proofs.WrittenNumbers.{between_bounds}
-use Rattle.asn_oer.proofs.WrittenOctets.{plain}
+use Rattle.asn_oer.proofs.Write.WrittenNumbers.{between_bounds}
+use Rattle.asn_oer.proofs.Write.WrittenOctets.{plain}
 use Rattle.asn_oer.proofs.integer.write_integer.Goals as goal
 
 pub write_between-requires-clause-within : goal.write_between-requires-clause-within
@@ -23,14 +23,14 @@ pub returns-in_ok-write_between-in-Some-Some-clause-of_type : goal.returns-in_ok
 returns-in_ok-write_between-in-Some-Some-clause-of_type c =
     let low = c.in-Some-Some.low in
     let high = c.in-Some-Some.high in
-    let least : low ≤ℤ c.args.whole = search rules in
-    let most : c.args.whole ≤ℤ high = search rules in
-    between_bounds (range_of c.args.bounds.now) low high c.args.whole c.requires.of_profile c.in-Some-Some.is-0 c.in-Some-Some.is-1 least most
+    let least : low ≤ℤ c.args.value = search rules in
+    let most : c.args.value ≤ℤ high = search rules in
+    between_bounds (range_of c.args.bounds.now) low high c.args.value c.requires.of_profile c.in-Some-Some.is-0 c.in-Some-Some.is-1 least most
 
 pub returns-in_ok-write_between-in-Some-Some-clause-written : goal.returns-in_ok-write_between-in-Some-Some-clause-written
 returns-in_ok-write_between-in-Some-Some-clause-written c =
     let b = range_of c.args.bounds.now in
-    let z = c.args.whole in
+    let z = c.args.value in
     let low = c.in-Some-Some.low in
     let high = c.in-Some-Some.high in
     let l = low_bound b low c.requires.of_profile c.in-Some-Some.is-0 in

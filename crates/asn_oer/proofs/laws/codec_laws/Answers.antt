@@ -1,7 +1,7 @@
 use Rattle.asn_rules.proofs.CodecLaws.{decodes_encoded, encodes_decoded, only_memory, equal_exactly, tells_rest_of, one_front, tells_cut_of, decoders_agree}
 use Rattle.asn_oer.specs.Rules.{oer_ruling}
-use Rattle.asn_oer.proofs.Tells.{oer_tells}
-use Rattle.asn_oer.proofs.Whole.{oer_laws}
+use Rattle.asn_oer.proofs.Encodings.Tells.{oer_tells}
+use Rattle.asn_oer.proofs.Encodings.Whole.{oer_laws}
 use Rattle.asn_oer.proofs.laws.codec_laws.Goals as goal
 
 pub returns-clause-decodes : goal.returns-clause-decodes

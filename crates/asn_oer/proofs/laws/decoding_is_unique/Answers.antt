@@ -1,4 +1,4 @@
-use Rattle.asn_oer.proofs.Whole.{octets_tell, one_value_octets, none_begins_octets, oer_part}
+use Rattle.asn_oer.proofs.Encodings.Whole.{octets_tell, one_value_octets, none_begins_octets, oer_part}
 use Rattle.asn_oer.proofs.laws.decoding_is_unique.Goals as goal
 
 pub returns-clause-octets : goal.returns-clause-octets

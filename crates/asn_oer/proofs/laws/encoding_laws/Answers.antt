@@ -1,4 +1,4 @@
-use Rattle.asn_oer.proofs.Whole.{oer_laws, oer_encodes}
+use Rattle.asn_oer.proofs.Encodings.Whole.{oer_laws, oer_encodes}
 use Rattle.asn_oer.proofs.laws.encoding_laws.Goals as goal
 
 pub returns-clause-laws : goal.returns-clause-laws

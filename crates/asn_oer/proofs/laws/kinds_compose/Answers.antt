@@ -1,13 +1,13 @@
-use Rattle.asn_oer.proofs.SimpleLanguages.{boolean_language, null_language}
-use Rattle.asn_oer.proofs.IntegerLanguages.{integer_language}
-use Rattle.asn_oer.proofs.ItemLanguages.{enumerated_language}
-use Rattle.asn_oer.proofs.BitLanguages.{bit_string_language}
-use Rattle.asn_oer.proofs.StringLanguages.{octet_string_language, restricted_language, utf8_language}
-use Rattle.asn_oer.proofs.ListLanguages.{sequence_of_language}
-use Rattle.asn_oer.proofs.SequenceLanguages.{sequence_language}
-use Rattle.asn_oer.proofs.ChoiceLanguages.{choice_language}
-use Rattle.asn_oer.proofs.LeftOut.{boolean_but_one, enumerated_but_one}
-use Rattle.asn_oer.proofs.OpenTypes.{open_language}
+use Rattle.asn_oer.proofs.Types.SimpleLanguages.{boolean_language, null_language}
+use Rattle.asn_oer.proofs.Types.IntegerLanguages.{integer_language}
+use Rattle.asn_oer.proofs.Types.ItemLanguages.{enumerated_language}
+use Rattle.asn_oer.proofs.Types.BitLanguages.{bit_string_language}
+use Rattle.asn_oer.proofs.Types.StringLanguages.{octet_string_language, restricted_language, utf8_language}
+use Rattle.asn_oer.proofs.Types.ListLanguages.{sequence_of_language}
+use Rattle.asn_oer.proofs.Types.SequenceLanguages.{sequence_language}
+use Rattle.asn_oer.proofs.Types.ChoiceLanguages.{choice_language}
+use Rattle.asn_oer.proofs.Types.LeftOut.{boolean_but_one, enumerated_but_one}
+use Rattle.asn_oer.proofs.Types.OpenTypes.{open_language}
 use Rattle.asn_oer.proofs.laws.kinds_compose.Goals as goal
 
 pub returns : goal.returns

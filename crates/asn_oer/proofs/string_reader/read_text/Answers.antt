@@ -3,8 +3,8 @@ use Rattle.asn_values.specs.View.{alphabet_of, size_range_of}
 use Rattle.asn_bits.specs.Numbers.{packed}
 use Rattle.asn_rules.proofs.Leads.{leads_on, stops_by, stops_on}
 use Rattle.asn_rules.proofs.Characters.{character_inhabited}
-use Rattle.asn_oer.proofs.SizeCounts.{stops_at_count, items_lead}
-use Rattle.asn_oer.proofs.TextReading.{text_leads, text_size}
+use Rattle.asn_oer.proofs.Read.SizeCounts.{stops_at_count, items_lead}
+use Rattle.asn_oer.proofs.Read.TextReading.{text_leads, text_size}
 use Rattle.asn_oer.proofs.string_reader.read_text.Goals as goal
 
 pub read_count-requires-clause-of_profile : goal.read_count-requires-clause-of_profile

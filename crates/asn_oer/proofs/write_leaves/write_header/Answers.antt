@@ -1,6 +1,6 @@
 use Rattle.std.proofs.Common.{◌+◌, ◌/◌, ◌∙◌, arith}
 use Rattle.std.proofs.lemmas.Result.{on_ok_weaker}
-use Rattle.asn_oer.proofs.WrittenOctets.{header_bits}
+use Rattle.asn_oer.proofs.Write.WrittenOctets.{header_bits}
 use Rattle.asn_oer.proofs.write_leaves.write_header.Goals as goal
 
 pub returns : goal.returns

@@ -7,7 +7,7 @@ use Rattle.asn_rules.specs.Stops.{Stops}
 use Rattle.asn_rules.proofs.Leads.{stops_by}
 use Rattle.asn_per.specs.Per.{per_fields}
 use Rattle.asn_rules.specs.NumberSets.{Admits, up_to}
-use Rattle.asn_per.proofs.IndexReading.{below_leads}
+use Rattle.asn_per.proofs.Read.IndexReading.{below_leads}
 use Rattle.asn_per.proofs.indexes.read_root_index.Goals as goal
 
 pub returns-in_err-read_constrained-clause-stop : goal.returns-in_err-read_constrained-clause-stop

@@ -1,7 +1,7 @@
 use Rattle.std.proofs.lemmas.Result.{err_from_is_err_and}
 use Rattle.asn_rules.proofs.Leads.{stops_by}
 use Rattle.asn_per.specs.Per.{per_fields}
-use Rattle.asn_per.proofs.IndexReading.{below_leads}
+use Rattle.asn_per.proofs.Read.IndexReading.{below_leads}
 use Rattle.asn_per.proofs.indexes.read_small_number.Goals as goal
 
 pub returns-in_err-read_up_to-clause-stop : goal.returns-in_err-read_up_to-clause-stop

@@ -2,7 +2,7 @@ use Rattle.std.proofs.Common.{◌≡◌, ◌<◌, ◌∙◌, inl, ap, arith}
 use Rattle.asn_bits.proofs.Prefixes.{bool_byte-is}
 use Rattle.asn_rules.specs.Components.{bit_of}
 use Rattle.asn_walk.specs.Views.{index_seen}
-use Rattle.asn_per.proofs.IndexBits.{few_index_bits, one_mark_bit, index_fits, root_index_bits}
+use Rattle.asn_per.proofs.Write.IndexBits.{few_index_bits, one_mark_bit, index_fits, root_index_bits}
 use Rattle.asn_per.proofs.indexes.write_index.Goals as goal
 
 pub push_number-requires-clause-few : goal.push_number-requires-clause-few

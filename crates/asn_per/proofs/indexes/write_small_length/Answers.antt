@@ -1,7 +1,7 @@
 use Rattle.std.proofs.Common.{◌≡◌, ◌-◌, arith}
 use Rattle.asn_bits.specs.Numbers.{bits}
 use Rattle.asn_per.specs.Per.{small_length}
-use Rattle.asn_per.proofs.AdditionLanguages.{count_bits}
+use Rattle.asn_per.proofs.Types.AdditionLanguages.{count_bits}
 use Rattle.asn_per.proofs.indexes.write_small_length.Goals as goal
 
 pub returns : goal.returns

@@ -1,4 +1,4 @@
-use Rattle.asn_per.proofs.SmallNumbers.{small_is}
+use Rattle.asn_per.proofs.Types.SmallNumbers.{small_is}
 use Rattle.asn_per.proofs.indexes.write_small_number.Goals as goal
 
 pub returns : goal.returns

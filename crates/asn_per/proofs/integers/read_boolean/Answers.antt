@@ -5,7 +5,7 @@ use Rattle.asn_bits.specs.Sink.{bit_of}
 use Rattle.asn_bits.proofs.Prefixes.{bool_byte-is}
 use Rattle.asn_rules.proofs.Leads.{stops_by}
 use Rattle.asn_per.specs.Per.{per_fields}
-use Rattle.asn_per.proofs.BooleanLanguage.{boolean_leads, some_truth}
+use Rattle.asn_per.proofs.Types.BooleanLanguage.{boolean_leads, some_truth}
 use Rattle.asn_per.proofs.integers.read_boolean.Goals as goal
 use Rattle.asn_per.proofs.integers.read_boolean.Goals.{in-Some, in-None}
 

@@ -17,8 +17,8 @@ use Rattle.asn_rules.proofs.Leads.{stops_by}
 use Rattle.asn_per.specs.Per.{per, per_fields}
 use Rattle.asn_rules.specs.NumberSets.{Admits, up_to}
 use Rattle.asn_rules.specs.IntegerSets.{IsWithin}
-use Rattle.asn_per.proofs.IntegerLanguages.{offset_of, constrained_leads, constrained_some, counted_leads, counted_some}
-use Rattle.asn_per.proofs.IntegerRanges.{ranging, low_above_lowest, high_below_highest, low_kept, high_kept}
+use Rattle.asn_per.proofs.Types.IntegerLanguages.{offset_of, constrained_leads, constrained_some, counted_leads, counted_some}
+use Rattle.asn_per.proofs.Types.IntegerRanges.{ranging, low_above_lowest, high_below_highest, low_kept, high_kept}
 use Rattle.asn_bits.proofs.Above.{kept}
 use Rattle.asn_per.proofs.integers.read_from_low.Goals as goal
 

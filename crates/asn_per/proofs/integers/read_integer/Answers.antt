@@ -8,8 +8,8 @@ use Rattle.asn_rules.proofs.Leads.{stops_by}
 use Rattle.asn_rules.proofs.Listed.{spelt_inhabited}
 use Rattle.asn_rules.specs.IntegerSets.{unmarked}
 use Rattle.asn_per.specs.Per.{per}
-use Rattle.asn_per.proofs.IntegerForms.{none_out, mark_stops, root_leads, outside_leads}
-use Rattle.asn_per.proofs.MarkedIntegers.{root_of_profile}
+use Rattle.asn_per.proofs.Read.IntegerForms.{none_out, mark_stops, root_leads, outside_leads}
+use Rattle.asn_per.proofs.Types.MarkedIntegers.{root_of_profile}
 use Rattle.asn_per.proofs.integers.read_integer.Goals as goal
 
 pub read_ranged-requires-else-outside-clause-some : goal.read_ranged-requires-else-outside-clause-some

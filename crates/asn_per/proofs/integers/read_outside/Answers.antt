@@ -9,7 +9,7 @@ use Rattle.asn_rules.proofs.Leads.{stops_by}
 use Rattle.asn_per.specs.Kinds.{IsOutside}
 use Rattle.asn_rules.proofs.SignedReading.{signed_within}
 use Rattle.asn_per.specs.Per.{per_fields}
-use Rattle.asn_per.proofs.SignedReading.{signed_leads}
+use Rattle.asn_per.proofs.Read.SignedReading.{signed_leads}
 use Rattle.asn_per.proofs.integers.read_outside.Goals as goal
 
 pub returns-in_err-offset-clause-stop : goal.returns-in_err-offset-clause-stop

@@ -7,7 +7,7 @@ use Rattle.asn_bits.proofs.Above.{kept}
 use Rattle.asn_rules.proofs.Leads.{stops_by}
 use Rattle.asn_rules.proofs.SignedReading.{signed_within}
 use Rattle.asn_per.specs.Per.{per_fields}
-use Rattle.asn_per.proofs.IntegerForms.{up_to_leads, up_to_some}
+use Rattle.asn_per.proofs.Read.IntegerForms.{up_to_leads, up_to_some}
 use Rattle.asn_per.proofs.integers.read_up_to_high.Goals as goal
 
 pub read_unconstrained-requires-clause-gap : goal.read_unconstrained-requires-clause-gap

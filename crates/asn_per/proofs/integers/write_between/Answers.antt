@@ -4,7 +4,7 @@ use Rattle.std.proofs.lemmas.Result.{on_ok_weaker}
 use Rattle.asn_values.specs.Fits.{lowest_integer, highest_integer}
 use Rattle.asn_bits.specs.Numbers.{above, width, bits}
 use Rattle.asn_rules.specs.Components.{extension_bit}
-use Rattle.asn_per.proofs.BetweenBounds.{low_within, high_within, number_within, low_stays, high_stays, number_stays, offset_fits, offset_fits_more, bits_between, bits_behind_mark}
+use Rattle.asn_per.proofs.Write.BetweenBounds.{low_within, high_within, number_within, low_stays, high_stays, number_stays, offset_fits, offset_fits_more, bits_between, bits_after_mark}
 use Rattle.asn_per.proofs.integers.write_between.Goals as goal
 use Rattle.asn_per.proofs.integers.write_between.Goals.{then-ext+else-count-lt64+in_ok-push, else-ext}
 
@@ -52,7 +52,7 @@ returns-then-count-lt64 c =
     let top : c.offset_from.result ≡ above a.low a.high = rw (low, high_stays a.low a.high a.value a.ext r.of_profile r.of_type.0 r.of_type.1) at c.offset_from.ensures in
     let one_more : c.from.result + 1 ≡ suc (above a.low a.high) = omega (arith, c.from.ensures, top) in
     let w : c.width-count.result ≡ width (suc (above a.low a.high)) = c.width-count.ensures.width ∙ ap width one_more in
-    let all = bits_behind_mark a.low a.high a.value a.ext r.of_profile r.of_type.0 r.of_type.1 c.if-ext.true in
+    let all = bits_after_mark a.low a.high a.value a.ext r.of_profile r.of_type.0 r.of_type.1 c.if-ext.true in
     on_ok_weaker c.push_number.result
     (λ e. e ∙ ap (λ (k : ℕ). a.sink.now ++ bits (1 + k) c.offset_from-offset.result) w ∙ ap (λ (n : ℕ). a.sink.now ++ bits (1 + width (suc (above a.low a.high))) n) offset ∙ ap (λ (t : List ℕ). a.sink.now ++ t) all)
     c.push_number.ensures.ok

@@ -1,8 +1,8 @@
 use Rattle.std.proofs.Common.{map}
 use Rattle.asn_values.specs.View.{label_of}
-use Rattle.asn_per.proofs.ItemIndexes.{IsSought}
+use Rattle.asn_per.proofs.Read.ItemIndexes.{IsSought}
 use Rattle.asn_per.proofs.items.position_by_numbers.Given as goal
 
--- the item that is sought is not behind, and its number lies in the interval
+-- the item that is sought is not among those passed, and its number lies in the interval
 abbrev pub invariant-loop-position : goal.invariant-loop-position
 invariant-loop-position l = IsSought (map label_of l.root) l.index l.position l.above l.below

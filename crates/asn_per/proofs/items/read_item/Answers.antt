@@ -11,8 +11,8 @@ use Rattle.asn_rules.specs.Listed.{Spelt}
 use Rattle.asn_rules.proofs.Leads.{stops_by}
 use Rattle.asn_per.specs.Per.{per}
 use Rattle.asn_per.specs.Indexes.{IsItemWithin}
-use Rattle.asn_per.proofs.ItemIndexes.{root_items}
-use Rattle.asn_per.proofs.ItemReading.{closed_leads, closed_some, marked_leads, no_item_left_out}
+use Rattle.asn_per.proofs.Read.ItemIndexes.{root_items}
+use Rattle.asn_per.proofs.Read.ItemReading.{closed_leads, closed_some, marked_leads, no_item_left_out}
 use Rattle.asn_per.proofs.items.read_item.Goals as goal
 
 -- ---- without a mark
@@ -44,7 +44,7 @@ returns-in-None-clause-stop c =
     let lead = closed_leads ls c.args.excluded good within c.args.bits.now in
     rw c.in-None.is (IfErr-weaker c.read_of_root.result _ _ (λ why s. stops_by why lead.stops s) c.read_of_root.ensures.stop)
 
--- ---- behind a mark
+-- ---- after a mark
 
 pub returns-in-Some-clause-done : goal.returns-in-Some-clause-done
 returns-in-Some-clause-done c =

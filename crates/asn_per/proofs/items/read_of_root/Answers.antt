@@ -10,7 +10,7 @@ use Rattle.asn_rules.specs.Stops.{Stops}
 use Rattle.asn_per.specs.Per.{per_fields}
 use Rattle.asn_per.specs.Indexes.{index_of}
 use Rattle.asn_rules.specs.NumberSets.{Admits, up_to}
-use Rattle.asn_per.proofs.ItemReading.{root_leads, some_index}
+use Rattle.asn_per.proofs.Read.ItemReading.{root_leads, some_index}
 use Rattle.asn_per.proofs.items.read_of_root.Goals as goal
 
 pub read_constrained-requires : goal.read_constrained-requires

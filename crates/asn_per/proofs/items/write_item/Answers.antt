@@ -6,10 +6,10 @@ use Rattle.asn_values.specs.View.{label_of, more_labels_of}
 use Rattle.asn_rules.specs.Components.{number_at}
 use Rattle.asn_walk.specs.Views.{index_seen}
 use Rattle.asn_per.specs.Per.{rank}
-use Rattle.asn_per.proofs.Enumerations.{rank_inside}
-use Rattle.asn_per.proofs.IndexBits.{same_index_bits}
-use Rattle.asn_per.proofs.ItemIndexes.{item_kept, root_items}
-use Rattle.asn_per.proofs.ItemBits.{mark_there, bits_of_root_item, bits_of_addition, addition_there}
+use Rattle.asn_per.proofs.Law.Enumerations.{rank_inside}
+use Rattle.asn_per.proofs.Write.IndexBits.{same_index_bits}
+use Rattle.asn_per.proofs.Read.ItemIndexes.{item_kept, root_items}
+use Rattle.asn_per.proofs.Write.ItemBits.{mark_there, bits_of_root_item, bits_of_addition, addition_there}
 use Rattle.asn_per.proofs.items.write_item.Goals as goal
 use Rattle.asn_per.proofs.items.write_item.Goals.{then-position-root, else-position-root}
 

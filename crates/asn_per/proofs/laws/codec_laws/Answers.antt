@@ -1,7 +1,7 @@
 use Rattle.asn_rules.proofs.CodecLaws.{decodes_encoded, encodes_decoded, only_memory, equal_exactly, tells_rest_of, one_front, tells_cut_of, decoders_agree}
 use Rattle.asn_per.specs.Rules.{per_ruling}
-use Rattle.asn_per.proofs.Tells.{per_tells}
-use Rattle.asn_per.proofs.Whole.{per_laws}
+use Rattle.asn_per.proofs.Encodings.Tells.{per_tells}
+use Rattle.asn_per.proofs.Encodings.Whole.{per_laws}
 use Rattle.asn_per.proofs.laws.codec_laws.Goals as goal
 
 pub returns-clause-decodes : goal.returns-clause-decodes

@@ -1,4 +1,4 @@
-use Rattle.asn_per.proofs.Whole.{bits_tell, per_parts, one_value_octets, none_begins_octets}
+use Rattle.asn_per.proofs.Encodings.Whole.{bits_tell, per_parts, one_value_octets, none_begins_octets}
 use Rattle.asn_per.proofs.laws.decoding_is_unique.Goals as goal
 
 pub returns-clause-bits : goal.returns-clause-bits

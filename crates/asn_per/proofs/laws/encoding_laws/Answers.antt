@@ -1,4 +1,4 @@
-use Rattle.asn_per.proofs.Whole.{per_laws, per_encodes}
+use Rattle.asn_per.proofs.Encodings.Whole.{per_laws, per_encodes}
 use Rattle.asn_per.proofs.laws.encoding_laws.Goals as goal
 
 pub returns-clause-laws : goal.returns-clause-laws

@@ -1,15 +1,15 @@
 use Rattle.asn_rules.specs.Fields.{Octet}
 use Rattle.asn_per.specs.Kinds.{Values, Bit, Character}
-use Rattle.asn_per.proofs.BooleanAndNull.{booleans_compose, nulls_compose}
-use Rattle.asn_per.proofs.MarkedIntegers.{integers_compose}
-use Rattle.asn_per.proofs.EnumeratedLanguages.{items_compose}
-use Rattle.asn_per.proofs.StringLanguages.{bit_strings_compose, octet_strings_compose, texts_compose, utf8_strings_compose}
-use Rattle.asn_per.proofs.ListLanguages.{lists_compose}
-use Rattle.asn_per.proofs.ChoiceLanguages.{choices_compose}
-use Rattle.asn_per.proofs.MarkedSequences.{marked_sequences_compose}
-use Rattle.asn_per.proofs.PlainSequences.{sequences_compose}
-use Rattle.asn_per.proofs.SizedLists.{fixed_sized}
-use Rattle.asn_per.proofs.LeftOut.{enumerated_but_one, unbounded_but_one}
+use Rattle.asn_per.proofs.Types.BooleanAndNull.{booleans_compose, nulls_compose}
+use Rattle.asn_per.proofs.Types.MarkedIntegers.{integers_compose}
+use Rattle.asn_per.proofs.Types.EnumeratedLanguages.{items_compose}
+use Rattle.asn_per.proofs.Types.StringLanguages.{bit_strings_compose, octet_strings_compose, texts_compose, utf8_strings_compose}
+use Rattle.asn_per.proofs.Types.ListLanguages.{lists_compose}
+use Rattle.asn_per.proofs.Types.ChoiceLanguages.{choices_compose}
+use Rattle.asn_per.proofs.Types.MarkedSequences.{marked_sequences_compose}
+use Rattle.asn_per.proofs.Types.PlainSequences.{sequences_compose}
+use Rattle.asn_per.proofs.Types.SizedLists.{fixed_sized}
+use Rattle.asn_per.proofs.Types.LeftOut.{enumerated_but_one, unbounded_but_one}
 use Rattle.asn_per.proofs.laws.kinds_compose.Goals as goal
 
 pub returns-clause-booleans : goal.returns-clause-booleans

@@ -1,4 +1,4 @@
-use Rattle.asn_per.proofs.Live.{per_live}
+use Rattle.asn_per.proofs.Encodings.Live.{per_live}
 use Rattle.asn_per.proofs.laws.live_by_parts.Goals as goal
 
 pub returns : goal.returns

@@ -1,6 +1,6 @@
 use Rattle.asn_rules.proofs.Beginnings.{beginnings_live, beginnings_not_refused}
 use Rattle.asn_per.specs.Rules.{per_ruling}
-use Rattle.asn_per.proofs.Tells.{per_tells}
+use Rattle.asn_per.proofs.Encodings.Tells.{per_tells}
 use Rattle.asn_per.proofs.laws.prefixes_are_viable.Goals as goal
 
 pub returns-clause-live : goal.returns-clause-live

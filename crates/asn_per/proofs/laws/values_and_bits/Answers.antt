@@ -1,5 +1,5 @@
 use Rattle.asn_rules.proofs.SomeValue.{a_value}
-use Rattle.asn_per.proofs.Whole.{bits_exact}
+use Rattle.asn_per.proofs.Encodings.Whole.{bits_exact}
 use Rattle.asn_per.proofs.laws.values_and_bits.Goals as goal
 
 pub returns-clause-a_value : goal.returns-clause-a_value

@@ -2,7 +2,7 @@ use Rattle.std.proofs.lemmas.Result.{err_from_is_err_and}
 use Rattle.asn_values.specs.View.{size_range_of}
 use Rattle.asn_values.proofs.Views.{datum_of-Bits}
 use Rattle.asn_rules.proofs.Leads.{stops_by}
-use Rattle.asn_per.proofs.StringReading.{bits_size, bits_lead}
+use Rattle.asn_per.proofs.Read.StringReading.{bits_size, bits_lead}
 use Rattle.asn_per.proofs.simple_into.read_bit_string_into.Goals as goal
 
 pub read_bits-requires : goal.read_bits-requires

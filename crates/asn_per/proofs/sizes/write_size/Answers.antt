@@ -4,7 +4,7 @@ use Rattle.asn_values.specs.Fits.{in_size}
 use Rattle.asn_values.specs.View.{size_range_of}
 use Rattle.asn_bits.specs.Numbers.{bits, width}
 use Rattle.asn_rules.specs.Components.{extension_bit}
-use Rattle.asn_per.proofs.SizesWritten.{root_room, root_written}
+use Rattle.asn_per.proofs.Write.SizesWritten.{root_room, root_written}
 use Rattle.asn_per.proofs.sizes.write_size.Goals as goal
 
 pub push_number-requires-clause-fits : goal.push_number-requires-clause-fits

@@ -1,8 +1,8 @@
 use Rattle.std.proofs.Common.{◌≡◌, ◌+◌, ◌-◌, ℕ, List, sym, subst, arith}
 use Rattle.asn_per.specs.Kinds.{Bit}
 use Rattle.asn_per.specs.Reading.{Appends}
-use Rattle.asn_per.proofs.Appending.{appends_none, appends_more}
-use Rattle.asn_per.proofs.StringRows.{bits_few, behind_word}
+use Rattle.asn_per.proofs.Read.Appending.{appends_none, appends_more}
+use Rattle.asn_per.proofs.Read.StringRows.{bits_few, after_word}
 use Rattle.asn_per.proofs.string_items.append_bits.Goals as goal
 
 pub returns-then-bits_left-count-clause-stop : goal.returns-then-bits_left-count-clause-stop
@@ -25,11 +25,11 @@ loop-left-preserved c =
     let many = c.min-many.result in
     let rest = c.take_number.new.self in
     let sum : count - left + many ≡ count - (left - many) = omega (arith, inv.1) in
-    let behind = behind_word many c.in-Some.word c.loop-left.cursor rest c.in-Some.ensures.some in
+    let after = after_word many c.in-Some.word c.loop-left.cursor rest c.in-Some.ensures.some in
     let more : Appends Bit many c.loop-left.into.items c.append_low_bits.new.into.items c.loop-left.cursor rest =
     subst (λ (us : List ℕ). Appends Bit many c.loop-left.into.items c.append_low_bits.new.into.items us rest) (sym c.in-Some.ensures.some) (c.append_low_bits.ensures.items rest) in (
       appends_more (count - left) many (count - (left - many)) sum inv.0 more,
       omega (arith, inv.1),
-      omega (arith, inv.2, behind),
+      omega (arith, inv.2, after),
       omega (arith, inv.3, c.append_low_bits.ensures.len, c.append_low_bits.ensures.capacity),
     )

@@ -4,9 +4,9 @@ use Rattle.asn_values.specs.View.{alphabet_of}
 use Rattle.asn_rules.proofs.Leads.{stops_by}
 use Rattle.asn_per.specs.Kinds.{Character}
 use Rattle.asn_per.specs.Reading.{Appends}
-use Rattle.asn_per.proofs.Appending.{appends_none, appends_more, appends_one, appends_stops_next}
-use Rattle.asn_per.proofs.StringLanguages.{character_lawful}
-use Rattle.asn_per.proofs.StringRows.{character_inhabited}
+use Rattle.asn_per.proofs.Read.Appending.{appends_none, appends_more, appends_one, appends_stops_next}
+use Rattle.asn_per.proofs.Types.StringLanguages.{character_lawful}
+use Rattle.asn_per.proofs.Read.StringRows.{character_inhabited}
 use Rattle.asn_per.proofs.string_items.append_characters.Goals as goal
 
 pub loop-left-init : goal.loop-left-init

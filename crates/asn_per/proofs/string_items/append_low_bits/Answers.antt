@@ -1,5 +1,5 @@
 use Rattle.std.proofs.Common.{arith}
-use Rattle.asn_per.proofs.StringRows.{next_bit}
+use Rattle.asn_per.proofs.Read.StringRows.{next_bit}
 use Rattle.asn_per.proofs.string_items.append_low_bits.Goals as goal
 
 pub loop-i-preserved : goal.loop-i-preserved

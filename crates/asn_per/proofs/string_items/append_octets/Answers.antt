@@ -1,7 +1,7 @@
 use Rattle.std.proofs.Common.{arith}
 use Rattle.asn_rules.proofs.OctetRows.{octet_bits_few}
-use Rattle.asn_per.proofs.Appending.{appends_taken}
-use Rattle.asn_per.proofs.PerFields.{per_fields_part}
+use Rattle.asn_per.proofs.Read.Appending.{appends_taken}
+use Rattle.asn_per.proofs.Encodings.PerFields.{per_fields_part}
 use Rattle.asn_per.proofs.string_items.append_octets.Goals as goal
 
 pub returns-then-bits_left-count-clause-stop : goal.returns-then-bits_left-count-clause-stop

@@ -2,7 +2,7 @@ use Rattle.std.proofs.Common.{◌<◌, ◌-◌, ◌++◌, ◌∷◌, [], ap, ◌
 use Rattle.asn_values.specs.View.{alphabet_of}
 use Rattle.asn_rules.specs.NumberSets.{Admits}
 use Rattle.asn_per.specs.Reading.{codes_of}
-use Rattle.asn_per.proofs.StringRows.{next_character}
+use Rattle.asn_per.proofs.Read.StringRows.{next_character}
 use Rattle.asn_per.proofs.string_items.append_word.Goals as goal
 
 pub loop-i-preserved : goal.loop-i-preserved

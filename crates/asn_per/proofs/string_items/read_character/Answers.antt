@@ -2,7 +2,7 @@ use Rattle.std.proofs.lemmas.Result.{err_from_is_err_and}
 use Rattle.asn_values.specs.View.{alphabet_of}
 use Rattle.asn_rules.proofs.Leads.{stops_by}
 use Rattle.asn_per.specs.Per.{per_fields}
-use Rattle.asn_per.proofs.StringRows.{character_leads}
+use Rattle.asn_per.proofs.Read.StringRows.{character_leads}
 use Rattle.asn_per.proofs.string_items.read_character.Goals as goal
 
 pub returns-in_err-code-clause-stop : goal.returns-in_err-code-clause-stop

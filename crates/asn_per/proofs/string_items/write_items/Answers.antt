@@ -8,7 +8,7 @@ use Rattle.asn_bits.specs.Sink.{bit_of}
 use Rattle.asn_per.specs.Per.{character_bits}
 use Rattle.asn_per.specs.StringItems.{item_chunks, row_bits}
 use Rattle.asn_bits.proofs.ItemRows.{one_bit, bits_joined}
-use Rattle.asn_per.proofs.Words.{octets_joined, part_of}
+use Rattle.asn_per.proofs.Write.Words.{octets_joined, part_of}
 use Rattle.asn_per.proofs.string_items.write_items.Goals as goal
 
 pub returns-in-Bits : goal.returns-in-Bits

@@ -4,7 +4,7 @@ use Rattle.asn_walk.specs.Writing.{Advances}
 use Rattle.asn_per.specs.Following.{following_chunks}
 use Rattle.asn_per.specs.StringItems.{item_chunks, sized_bits}
 use Rattle.asn_per.specs.Walk.{per_coding}
-use Rattle.asn_per.proofs.SizesWritten.{written_next, written_end}
+use Rattle.asn_per.proofs.Write.SizesWritten.{written_next, written_end}
 use Rattle.asn_per.proofs.string_items.write_sized.Goals as goal
 
 pub loop-many-init : goal.loop-many-init

@@ -2,7 +2,7 @@ use Rattle.std.proofs.Common.{◌++◌, ◌-◌}
 use Rattle.asn_values.specs.View.{size_range_of}
 use Rattle.asn_per.specs.Following.{following_chunks}
 use Rattle.asn_per.specs.StringItems.{item_chunks, sized_bits}
-use Rattle.asn_per.proofs.SizesWritten.{Written}
+use Rattle.asn_per.proofs.Write.SizesWritten.{Written}
 use Rattle.asn_per.proofs.string_items.write_sized.Given as goal
 
 abbrev pub invariant-loop-many : goal.invariant-loop-many

@@ -3,12 +3,12 @@ use Rattle.std.proofs.lemmas.Result.{err_from_is_err_and}
 use Rattle.asn_values.specs.View.{size_range_of}
 use Rattle.asn_rules.proofs.Leads.{stops_by}
 use Rattle.asn_per.specs.Kinds.{Bit}
-use Rattle.asn_per.proofs.StringLanguages.{bit_lawful}
-use Rattle.asn_per.proofs.StringRows.{bit_inhabited}
+use Rattle.asn_per.proofs.Types.StringLanguages.{bit_lawful}
+use Rattle.asn_per.proofs.Read.StringRows.{bit_inhabited}
 use Rattle.asn_walk.specs.Ahead.{Next}
 use Rattle.asn_per.specs.Per.{per_fields}
 use Rattle.asn_per.specs.RowsAhead.{ahead_of}
-use Rattle.asn_per.proofs.ListsAhead.{start_stops, going_starts, going_stops, going_ends, going_row_stops, going_further}
+use Rattle.asn_per.proofs.Read.ListsAhead.{start_stops, going_starts, going_stops, going_ends, going_row_stops, going_further}
 use Rattle.asn_per.proofs.string_reader.read_bits.Goals as goal
 
 pub returns-in_err-fragments-clause-stop : goal.returns-in_err-fragments-clause-stop

@@ -3,12 +3,12 @@ use Rattle.std.proofs.lemmas.Result.{err_from_is_err_and}
 use Rattle.asn_values.specs.View.{size_range_of, alphabet_of}
 use Rattle.asn_rules.proofs.Leads.{stops_by}
 use Rattle.asn_per.specs.Kinds.{Character}
-use Rattle.asn_per.proofs.StringLanguages.{character_lawful}
-use Rattle.asn_per.proofs.StringRows.{character_inhabited}
+use Rattle.asn_per.proofs.Types.StringLanguages.{character_lawful}
+use Rattle.asn_per.proofs.Read.StringRows.{character_inhabited}
 use Rattle.asn_walk.specs.Ahead.{Next}
 use Rattle.asn_per.specs.Per.{per_fields}
 use Rattle.asn_per.specs.RowsAhead.{ahead_of}
-use Rattle.asn_per.proofs.ListsAhead.{start_stops, going_starts, going_stops, going_ends, going_row_stops, going_further}
+use Rattle.asn_per.proofs.Read.ListsAhead.{start_stops, going_starts, going_stops, going_ends, going_row_stops, going_further}
 use Rattle.asn_per.proofs.string_reader.read_characters.Goals as goal
 
 pub returns-in_err-fragments-clause-stop : goal.returns-in_err-fragments-clause-stop

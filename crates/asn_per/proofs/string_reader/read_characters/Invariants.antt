@@ -2,7 +2,7 @@ use Rattle.std.proofs.Common.{◌+◌, length}
 use Rattle.asn_values.specs.View.{size_range_of, alphabet_of}
 use Rattle.asn_per.specs.Kinds.{Character}
 use Rattle.asn_per.specs.RowsAhead.{ahead_of, IsBetween}
-use Rattle.asn_per.proofs.ListsAhead.{Going, steps_left}
+use Rattle.asn_per.proofs.Read.ListsAhead.{Going, steps_left}
 use Rattle.asn_per.proofs.string_reader.read_characters.Given as goal
 
 abbrev pub invariant-loop-count : goal.invariant-loop-count

@@ -7,7 +7,7 @@ use Rattle.asn_rules.proofs.Fields.{octet_lawful, octet_inhabited}
 use Rattle.asn_walk.specs.Ahead.{Next}
 use Rattle.asn_per.specs.Per.{per_fields}
 use Rattle.asn_per.specs.RowsAhead.{ahead_of}
-use Rattle.asn_per.proofs.ListsAhead.{start_stops, going_starts, going_stops, going_ends, going_row_stops, going_further}
+use Rattle.asn_per.proofs.Read.ListsAhead.{start_stops, going_starts, going_stops, going_ends, going_row_stops, going_further}
 use Rattle.asn_per.proofs.string_reader.read_octets.Goals as goal
 
 pub returns-in_err-fragments-clause-stop : goal.returns-in_err-fragments-clause-stop

@@ -8,7 +8,7 @@ use Rattle.asn_rules.specs.Stops.{Stops}
 use Rattle.asn_rules.proofs.Leads.{stops_by}
 use Rattle.asn_per.specs.Kinds.{Sized}
 use Rattle.asn_per.specs.Per.{per_fields}
-use Rattle.asn_per.proofs.Utf8Reading.{AnyOctets, octets_stop, text_spells, no_text}
+use Rattle.asn_per.proofs.Read.Utf8Reading.{AnyOctets, octets_stop, text_spells, no_text}
 use Rattle.asn_per.proofs.string_reader.read_utf8.Goals as goal
 
 pub returns-in_err-octets-clause-stop : goal.returns-in_err-octets-clause-stop

@@ -55,10 +55,10 @@ type_has-returns-then-fields_have t c =
     let items : more ≡ c.in-Some.additions.items = c.deref-then-fields_have.ensures.value in
     let n : c.min.result ≡ min (length fs) (length vs) = omega (arith, c.min.ensures, c.len-in-Some.ensures, c.len-in-Some-2.ensures, c.deref-in-Some.ensures.len, c.deref-in-Some-2.ensures.len) in
     let both = c.fields_have-then-fields_have.ensures in
-    let ours = c.if-fields_have.ensures.0 refl in
+    let root_fits = c.if-fields_have.ensures.0 refl in
     fits_sequences c.args.unknown c.args.ty.now c.args.value.now c.in-Seq.root c.in-Seq.ext c.in-Seq-value.entries c.in-Seq.is c.in-Seq-value.is
     fs vs c.deref-in-Some-2.ensures.value c.deref-in-Some.ensures.value c.fields_have-then-fields_have.result
-    (rw (c.in-Some.is, ← items) (fits_split c.args.unknown fs more vs c.split_at.result.0.now c.split_at.result.1.now c.min.result c.fields_have-then-fields_have.result n c.split_at.ensures.front c.split_at.ensures.back (λ h. (ours, both.0 h), λ p. both.1 p.1)))
+    (rw (c.in-Some.is, ← items) (fits_split c.args.unknown fs more vs c.split_at.result.0.now c.split_at.result.1.now c.min.result c.fields_have-then-fields_have.result n c.split_at.ensures.front c.split_at.ensures.back (λ h. (root_fits, both.0 h), λ p. both.1 p.1)))
 
 pub type_has-returns-else-fields_have : goal.type_has-returns-else-fields_have
 type_has-returns-else-fields_have t c =

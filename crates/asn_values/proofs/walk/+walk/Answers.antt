@@ -2,7 +2,7 @@ use Rattle.std.proofs.Common.{◌-◌, arith}
 use Rattle.std.proofs.lemmas.Result.{err_from_is_err_and, IfOk-weaker, IfErr-weaker}
 use Rattle.asn_values.specs.View.{shape_of}
 use Rattle.asn_values.proofs.Components.{next_is_sound, all_passed, sequence_around, list_around, choice_around, simple_is_sound}
-use Rattle.asn_values.proofs.Walks.{none_sound, sound_beside, fault_in_front, fault_behind, sound_around, fault_around}
+use Rattle.asn_values.proofs.Walks.{none_sound, sound_beside, fault_in_front, fault_after, sound_around, fault_around}
 use Rattle.asn_values.proofs.walk.+walk.Goals as goal
 
 pub check_type-returns-in-Bool-clause-sound : goal.check_type-returns-in-Bool-clause-sound
@@ -57,7 +57,7 @@ check_type-returns-in-Some-clause-fault t c =
     let marked = rw (c.in-Some.is, ← c.deref-in-Some.ensures.value) at around in
     IfErr-weaker c.check_fields-in-Some.result _ _
     (λ f h. fault_around c.args.levels c.args.start (shape_of c.args.ty.now) _ marked (omega arith) (omega arith) f
-    (fault_behind f (c.args.levels - 1) (c.args.start - 1) c.in_ok-left-in-Seq.left _ _ c.in_ok-left-in-Seq.ensures.sound h))
+    (fault_after f (c.args.levels - 1) (c.args.start - 1) c.in_ok-left-in-Seq.left _ _ c.in_ok-left-in-Seq.ensures.sound h))
     c.check_fields-in-Some.ensures.fault
 
 -- a SEQUENCE OF around its element
@@ -98,5 +98,5 @@ check_type-returns-in-Some-ext-clause-fault t c =
     let marked = rw (c.in-Some-ext.is, ← c.deref-in-Some-ext.ensures.value) at around in
     IfErr-weaker c.check_alternatives-in-Some-ext.result _ _
     (λ f h. fault_around c.args.levels c.args.start (shape_of c.args.ty.now) _ marked (omega arith) (omega arith) f
-    (fault_behind f (c.args.levels - 1) (c.args.start - 1) c.in_ok-left-in-Choice.left _ _ c.in_ok-left-in-Choice.ensures.sound h))
+    (fault_after f (c.args.levels - 1) (c.args.start - 1) c.in_ok-left-in-Choice.left _ _ c.in_ok-left-in-Choice.ensures.sound h))
     c.check_alternatives-in-Some-ext.ensures.fault

@@ -19,8 +19,8 @@ returns-clause-some c =
     let k = c.args.k in
     let n = c.number_at.result in
     let v : drop s.offset (unpacked s.octets.now) ≡ c.args.self.now = c.self.view_is in
-    let behind : drop (s.offset + k) (unpacked s.octets.now) ≡ drop k c.args.self.now = sym (drop-drop k s.offset (unpacked s.octets.now)) ∙ ap (drop k) v in
-    sym v ∙ c.number_at.ensures.here ∙ ap (λ t. bits k n ++ t) behind
+    let after : drop (s.offset + k) (unpacked s.octets.now) ≡ drop k c.args.self.now = sym (drop-drop k s.offset (unpacked s.octets.now)) ∙ ap (drop k) v in
+    sym v ∙ c.number_at.ensures.here ∙ ap (λ t. bits k n ++ t) after
 
 pub returns-clause-none : goal.returns-clause-none
 returns-clause-none c =

@@ -12,8 +12,8 @@ returns-in-Some-clause-some c =
     let k = c.args.k in
     let n = c.in-Some.n in
     let v : drop s.offset (unpacked s.octets.now) ≡ c.args.self.now = c.self.view_is in
-    let behind : drop (s.offset + k) (unpacked s.octets.now) ≡ drop k c.args.self.now = sym (drop-drop k s.offset (unpacked s.octets.now)) ∙ ap (drop k) v in
-    sym v ∙ c.in-Some.ensures.here ∙ ap (λ t. bits k n ++ t) behind
+    let after : drop (s.offset + k) (unpacked s.octets.now) ≡ drop k c.args.self.now = sym (drop-drop k s.offset (unpacked s.octets.now)) ∙ ap (drop k) v in
+    sym v ∙ c.in-Some.ensures.here ∙ ap (λ t. bits k n ++ t) after
 
 pub returns-in-Some-clause-none : goal.returns-in-Some-clause-none
 returns-in-Some-clause-none c =
@@ -29,8 +29,8 @@ returns-in-Some-number_in_octet-clause-some c =
     let k = c.args.k in
     let n = c.in-Some-number_in_octet.n in
     let v : drop s.offset (unpacked s.octets.now) ≡ c.args.self.now = c.self.view_is in
-    let behind : drop (s.offset + k) (unpacked s.octets.now) ≡ drop k c.args.self.now = sym (drop-drop k s.offset (unpacked s.octets.now)) ∙ ap (drop k) v in
-    sym v ∙ c.in-Some-number_in_octet.ensures.here ∙ ap (λ t. bits k n ++ t) behind
+    let after : drop (s.offset + k) (unpacked s.octets.now) ≡ drop k c.args.self.now = sym (drop-drop k s.offset (unpacked s.octets.now)) ∙ ap (drop k) v in
+    sym v ∙ c.in-Some-number_in_octet.ensures.here ∙ ap (λ t. bits k n ++ t) after
 
 pub returns-in-Some-number_in_octet-clause-none : goal.returns-in-Some-number_in_octet-clause-none
 returns-in-Some-number_in_octet-clause-none c =

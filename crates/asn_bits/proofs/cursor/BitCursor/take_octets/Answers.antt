@@ -1,4 +1,4 @@
--- So many octets are there, and the cursor passes them.
+-- That many octets are left, and the cursor passes them.
 use Rattle.std.proofs.Common.{rules, ◌≡◌, ◌+◌, ◌-◌, ◌*◌, ◌≤◌, length, take, drop, sym, ◌∙◌, subst, arith, length-drop}
 use Rattle.std.proofs.lemmas.List.{length-take-le}
 use Rattle.asn_bits.specs.Moves.{Taken}

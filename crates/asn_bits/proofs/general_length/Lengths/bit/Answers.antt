@@ -8,7 +8,7 @@ use Rattle.asn_bits.specs.LengthStates.{spans, state_bits, IsLengthState, IsWhol
 use Rattle.asn_bits.specs.declared.number_field.FieldState.TheVariants as state
 use Rattle.asn_bits.specs.declared.general_length.LengthState.{LengthState}
 use Rattle.asn_bits.specs.declared.general_length.LengthState.TheVariants.{Number}
-use Rattle.asn_bits.proofs.GivenLengths.{dead_bit, live_bit, whole_dead, whole_stops, whole_more, part_first, behind_reading, behind_goes, whole_ends, part_open}
+use Rattle.asn_bits.proofs.GivenLengths.{dead_bit, live_bit, whole_dead, whole_stops, whole_more, part_first, after_reading, after_goes, whole_ends, part_open}
 use Rattle.asn_bits.proofs.general_length.Lengths.bit.Goals as goal
 
 -- the state in which the length is whole
@@ -66,7 +66,7 @@ returns-then-not-is_viable-clause-state c =
 pub invariant_of-self : goal.invariant_of-self
 invariant_of-self c =
     let s = c.self.inside in
-    behind_reading (spans s.first s.second) s.blocks_read c.in-Some-completed.form c.in-Some-completed.number (c.after_length-items.result.0, c.after_length-items.result.1, c.after_length-items.result.2) (fits c) (starts c) c.after_length-items.ensures
+    after_reading (spans s.first s.second) s.blocks_read c.in-Some-completed.form c.in-Some-completed.number (c.after_length-items.result.0, c.after_length-items.result.1, c.after_length-items.result.2) (fits c) (starts c) c.after_length-items.ensures
 
 pub returns-in-Some-completed-clause-state : goal.returns-in-Some-completed-clause-state
 returns-in-Some-completed-clause-state c =
@@ -85,7 +85,7 @@ returns-in-Some-completed-clause-goes c =
     let b = bit_of c.args.bit in
     let new : BegunLengths = record { counts = spans s.first s.second; blocks = c.after_length-items.result.1; bits = state_bits c.after_length-items.result.2 } in
     subst (λ (v : BegunLengths). Goes v (b ∷ []) (state.Number c.after_length-items.result.0) new) c.self.view_is
-    (behind_goes (spans s.first s.second) s.blocks_read c.in-Some-completed.form c.in-Some-completed.number (c.after_length-items.result.0, c.after_length-items.result.1, c.after_length-items.result.2) (state_bits s.state) (b ∷ []) (fits c) (starts c) c.after_length-items.ensures (more c))
+    (after_goes (spans s.first s.second) s.blocks_read c.in-Some-completed.form c.in-Some-completed.number (c.after_length-items.result.0, c.after_length-items.result.1, c.after_length-items.result.2) (state_bits s.state) (b ∷ []) (fits c) (starts c) c.after_length-items.ensures (more c))
 
 pub returns-clause-state : goal.returns-clause-state
 returns-clause-state c =

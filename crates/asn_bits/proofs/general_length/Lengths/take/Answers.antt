@@ -6,7 +6,7 @@ use Rattle.asn_bits.specs.LengthStates.{spans, state_bits}
 use Rattle.asn_bits.specs.declared.general_length.LengthState.{LengthState}
 use Rattle.asn_bits.specs.declared.general_length.LengthState.TheVariants as place
 use Rattle.asn_bits.proofs.FirstLengths.{ahead_starts}
-use Rattle.asn_bits.proofs.GivenLengths.{behind_reading, behind_goes, whole_first, whole_more, whole_ends}
+use Rattle.asn_bits.proofs.GivenLengths.{after_reading, after_goes, whole_first, whole_more, whole_ends}
 use Rattle.asn_bits.proofs.general_length.Lengths.take.Goals as goal
 use Rattle.asn_bits.proofs.general_length.Lengths.take.Goals.{in-Start, in_default, in_default-via-in-None-1, in_default-via-in-Some+else-is_viable}
 
@@ -22,7 +22,7 @@ returns-then-not-matches-clause-live c =
 pub invariant_of-self : goal.invariant_of-self
 invariant_of-self c =
     let s = c.self.inside in
-    behind_reading (spans s.first s.second) s.blocks_read c.in-Some.form c.in-Some.number (c.after_length-items.result.0, c.after_length-items.result.1, c.after_length-items.result.2) c.in-Some.ensures.some.0 (c.is_viable.ensures.exact.0 c.if-is_viable.true) c.after_length-items.ensures
+    after_reading (spans s.first s.second) s.blocks_read c.in-Some.form c.in-Some.number (c.after_length-items.result.0, c.after_length-items.result.1, c.after_length-items.result.2) c.in-Some.ensures.some.0 (c.is_viable.ensures.exact.0 c.if-is_viable.true) c.after_length-items.ensures
 
 pub returns-clause-some : goal.returns-clause-some
 returns-clause-some c =
@@ -39,7 +39,7 @@ returns-clause-some c =
       split = c.in-Some.ensures.some.1;
       ends = whole_ends is s.blocks_read (state_bits s.state) front x.0 all;
       whole = all;
-      goes = behind_goes is s.blocks_read c.in-Some.form c.in-Some.number x (state_bits s.state) front c.in-Some.ensures.some.0 some c.after_length-items.ensures whole;
+      goes = after_goes is s.blocks_read c.in-Some.form c.in-Some.number x (state_bits s.state) front c.in-Some.ensures.some.0 some c.after_length-items.ensures whole;
     })
 
 pub returns-clause-whole : goal.returns-clause-whole

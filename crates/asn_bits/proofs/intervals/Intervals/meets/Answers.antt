@@ -2,7 +2,7 @@
 use Rattle.std.proofs.Common.{◌≡◌, ℕ, List, get_or, take, refl, sym, subst, arith}
 use Rattle.std.proofs.lemmas.Bool.{true≢false}
 use Rattle.asn_bits.specs.Sets.{Among, Meets}
-use Rattle.asn_bits.proofs.Unions.{low_shifted, high_shifted, touches_at, touches_behind, touches_none, touches_meets, meets_touches}
+use Rattle.asn_bits.proofs.Unions.{low_shifted, high_shifted, touches_at, touches_after, touches_none, touches_meets, meets_touches}
 use Rattle.asn_bits.proofs.intervals.Intervals.meets.Goals as goal
 use Rattle.asn_bits.proofs.intervals.Intervals.meets.Goals.{else-low-left-via-then-low-left+else-prefix-high, else-low-left-via-else-low-left}
 
@@ -20,7 +20,7 @@ loop-low-preserved c t =
     let is = take c.self.inside.count c.self.inside.ends in
     let i = c.loop-low.low-index in
     let e = get_or is i (0, 0) in
-    touches_behind 2 c.args.prefix c.args.left is i (0, 0) c.loop-low-test.true (c.loop-low.invariant t)
+    touches_after 2 c.args.prefix c.args.left is i (0, 0) c.loop-low-test.true (c.loop-low.invariant t)
     (λ high low. elim c.else-low-left.branch [
       | else-low-left-via-then-low-left+else-prefix-high w ↦ absurd (let h = (high_shifted e.1 c.args.prefix c.args.left).1 high in omega (arith, h, w.if-prefix-high.false))
       | else-low-left-via-else-low-left w ↦ absurd (let h = (low_shifted e.0 c.args.prefix c.args.left).1 low in omega (arith, h, w.if-low-left.false))

@@ -1,5 +1,5 @@
-use Rattle.asn_newer.proofs.OerParts.{oer_part_laws}
-use Rattle.asn_newer.proofs.OerWays.{oer_ways}
+use Rattle.asn_newer.proofs.Parts.OerParts.{oer_part_laws}
+use Rattle.asn_newer.proofs.Parts.OerWays.{oer_ways}
 use Rattle.asn_newer.proofs.laws.OerOtherVersions.keep_version_laws.Goals as goal
 
 pub returns-clause-parts : goal.returns-clause-parts

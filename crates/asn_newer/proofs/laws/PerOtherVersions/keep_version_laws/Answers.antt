@@ -1,5 +1,5 @@
-use Rattle.asn_newer.proofs.PerParts.{per_part_laws}
-use Rattle.asn_newer.proofs.PerWays.{per_ways}
+use Rattle.asn_newer.proofs.Parts.PerParts.{per_part_laws}
+use Rattle.asn_newer.proofs.Parts.PerWays.{per_ways}
 use Rattle.asn_newer.proofs.laws.PerOtherVersions.keep_version_laws.Goals as goal
 
 pub returns-clause-parts : goal.returns-clause-parts

@@ -1,5 +1,5 @@
 use Rattle.std.proofs.Common.{refl}
-use Rattle.asn_newer.proofs.PastProfile.{length_told, length_within, no_length}
+use Rattle.asn_newer.proofs.Walk.PastProfile.{length_told, length_within, no_length}
 use Rattle.asn_newer.proofs.oer_items.OerReadVersions.is_count_past.Goals as goal
 
 pub returns-in_default : goal.returns-in_default

@@ -1,5 +1,5 @@
 use Rattle.std.proofs.Common.{refl}
-use Rattle.asn_newer.proofs.PastProfile.{tag_told, no_tag}
+use Rattle.asn_newer.proofs.Walk.PastProfile.{tag_told, no_tag}
 use Rattle.asn_newer.proofs.oer_items.OerReadVersions.is_index_past.Goals as goal
 
 pub returns-in_default : goal.returns-in_default

@@ -6,8 +6,8 @@ use Rattle.asn_values.specs.View.{labels_seen}
 use Rattle.asn_newer.specs.Rules.{oer_loose}
 use Rattle.asn_newer.specs.Walking.{UnknownItem}
 use Rattle.asn_oer.specs.Walk.{oer_coding}
-use Rattle.asn_newer.proofs.Halts.{halts_none}
-use Rattle.asn_newer.proofs.OerItems.{number_read, no_number, not_above}
+use Rattle.asn_newer.proofs.Walk.Halts.{halts_none}
+use Rattle.asn_newer.proofs.Walk.OerItems.{number_read, no_number, not_above}
 use Rattle.asn_newer.proofs.oer_items.OerReadVersions.read_unknown_item.Goals.{else-is_above_each-via-then-is_above_each+else-is_above_each-2, else-is_above_each-via-else-is_above_each}
 use Rattle.asn_newer.proofs.oer_items.OerReadVersions.read_unknown_item.Goals as goal
 

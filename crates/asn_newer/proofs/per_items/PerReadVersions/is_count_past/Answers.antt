@@ -1,5 +1,5 @@
 use Rattle.std.proofs.Common.{refl}
-use Rattle.asn_newer.proofs.PastProfile.{count_told, no_count}
+use Rattle.asn_newer.proofs.Walk.PastProfile.{count_told, no_count}
 use Rattle.asn_newer.proofs.per_items.PerReadVersions.is_count_past.Goals as goal
 
 pub returns-in_default : goal.returns-in_default

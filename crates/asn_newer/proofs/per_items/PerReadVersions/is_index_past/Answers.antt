@@ -1,5 +1,5 @@
 use Rattle.std.proofs.Common.{refl}
-use Rattle.asn_newer.proofs.PastProfile.{index_told, no_index}
+use Rattle.asn_newer.proofs.Walk.PastProfile.{index_told, no_index}
 use Rattle.asn_newer.proofs.per_items.PerReadVersions.is_index_past.Goals as goal
 
 pub returns-in_default : goal.returns-in_default

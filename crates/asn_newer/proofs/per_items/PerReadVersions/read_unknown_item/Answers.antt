@@ -4,8 +4,8 @@ use Rattle.asn_values.specs.View.{labels_seen}
 use Rattle.asn_newer.specs.Rules.{per_loose}
 use Rattle.asn_newer.specs.Walking.{UnknownItem}
 use Rattle.asn_per.specs.Walk.{per_coding}
-use Rattle.asn_newer.proofs.Halts.{halts_none}
-use Rattle.asn_newer.proofs.PerItems.{index_read, no_index, none_empty, none_root, none_short, none_else, few_labels, index_told}
+use Rattle.asn_newer.proofs.Walk.Halts.{halts_none}
+use Rattle.asn_newer.proofs.Walk.PerItems.{index_read, no_index, none_empty, none_root, none_short, none_else, few_labels, index_told}
 use Rattle.asn_newer.proofs.per_items.PerReadVersions.read_unknown_item.Goals as goal
 
 pub returns-in_default-clause-stop : goal.returns-in_default-clause-stop

@@ -7,7 +7,7 @@ use Rattle.asn_rules.proofs.Leads.{stops_by}
 use Rattle.asn_rules.specs.Filled.{filled_octets, unused_bits}
 use Rattle.asn_rules.specs.OctetReading.{OctetsIn, from_to}
 use Rattle.asn_oer.specs.Oer.{oer_fields}
-use Rattle.asn_oer.proofs.PreambleReading.{two, stops_at_length, stops_at_unused, presences_lead}
+use Rattle.asn_oer.proofs.Read.PreambleReading.{two, stops_at_length, stops_at_unused, presences_lead}
 use Rattle.asn_oer.specs.Rules.{oer_ruling}
 use Rattle.asn_oer.specs.Walk.{oer_coding}
 use Rattle.asn_oer.proofs.read_leaves.OerReadLeaves.read_addition_bitmap.Goals as goal

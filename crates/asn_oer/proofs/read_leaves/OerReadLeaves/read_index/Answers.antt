@@ -6,7 +6,7 @@ use Rattle.asn_rules.specs.Stops.{Stops}
 use Rattle.asn_rules.proofs.Leads.{stops_by}
 use Rattle.asn_rules.specs.OctetReading.{OctetsIn, from_to}
 use Rattle.asn_oer.specs.Oer.{oer_fields}
-use Rattle.asn_oer.proofs.IndexReading.{told_root, told_added, tag_leads, alternatives_are}
+use Rattle.asn_oer.proofs.Read.IndexReading.{told_root, told_added, tag_leads, alternatives_are}
 use Rattle.asn_oer.specs.Rules.{oer_ruling}
 use Rattle.asn_oer.specs.Walk.{oer_coding, alternatives_of}
 use Rattle.asn_oer.proofs.read_leaves.OerReadLeaves.read_index.Goals as goal

@@ -5,7 +5,7 @@ use Rattle.asn_rules.specs.Stops.{Stops}
 use Rattle.asn_rules.proofs.Leads.{stops_by}
 use Rattle.asn_rules.specs.OctetReading.{FilledFields}
 use Rattle.asn_oer.specs.Oer.{oer_fields}
-use Rattle.asn_oer.proofs.PreambleReading.{mark_fits, preamble_leads}
+use Rattle.asn_oer.proofs.Read.PreambleReading.{mark_fits, preamble_leads}
 use Rattle.asn_oer.specs.Rules.{oer_ruling}
 use Rattle.asn_oer.specs.Walk.{oer_coding, mark_of}
 use Rattle.asn_oer.proofs.read_leaves.OerReadLeaves.read_preamble.Goals as goal

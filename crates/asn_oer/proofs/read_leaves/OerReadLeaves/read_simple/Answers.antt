@@ -9,8 +9,8 @@ use Rattle.asn_rules.proofs.Listed.{spelt_inhabited}
 use Rattle.asn_oer.specs.Oer.{oer}
 use Rattle.asn_oer.specs.Rules.{oer_ruling}
 use Rattle.asn_oer.specs.Walk.{oer_coding}
-use Rattle.asn_oer.proofs.Utf8Reading.{utf8_leads}
-use Rattle.asn_oer.proofs.SizeCounts.{bits_size}
+use Rattle.asn_oer.proofs.Read.Utf8Reading.{utf8_leads}
+use Rattle.asn_oer.proofs.Read.SizeCounts.{bits_size}
 use Rattle.asn_oer.proofs.read_leaves.OerReadLeaves.read_simple.Goals as goal
 
 pub read_integer-requires-clause-some : goal.read_integer-requires-clause-some

@@ -8,7 +8,7 @@ use Rattle.asn_oer.specs.Constructed.{Quantity}
 use Rattle.asn_oer.specs.Oer.{oer_fields}
 use Rattle.asn_oer.specs.Rules.{oer_ruling}
 use Rattle.asn_oer.specs.Walk.{oer_coding}
-use Rattle.asn_oer.proofs.SizeCounts.{quantity_leads}
+use Rattle.asn_oer.proofs.Read.SizeCounts.{quantity_leads}
 use Rattle.asn_oer.proofs.read_leaves.OerReadLeaves.start_list.Goals as goal
 
 pub returns-in_err-count-clause-stop : goal.returns-in_err-count-clause-stop

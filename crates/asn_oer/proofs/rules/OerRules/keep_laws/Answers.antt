@@ -1,5 +1,5 @@
-use Rattle.asn_oer.proofs.Tells.{oer_tells}
-use Rattle.asn_oer.proofs.Whole.{oer_laws}
+use Rattle.asn_oer.proofs.Encodings.Tells.{oer_tells}
+use Rattle.asn_oer.proofs.Encodings.Whole.{oer_laws}
 use Rattle.asn_oer.proofs.rules.OerRules.keep_laws.Goals as goal
 
 pub returns-clause-laws : goal.returns-clause-laws

@@ -4,8 +4,8 @@ use Rattle.asn_bits.proofs.Splits.{length-unpacked}
 use Rattle.asn_oer.specs.Oer.{oer_octets}
 use Rattle.asn_oer.specs.Rules.{oer_ruling}
 use Rattle.asn_oer.specs.Walk.{oer_coding}
-use Rattle.asn_oer.proofs.GoodTypes.{good}
-use Rattle.asn_oer.proofs.SpeltTypes.{oer_spelt, few_levels}
+use Rattle.asn_oer.proofs.Law.GoodTypes.{good}
+use Rattle.asn_oer.proofs.Encodings.SpeltTypes.{oer_spelt, few_levels}
 use Rattle.asn_rules.proofs.Octetwise.{packed_again}
 use Rattle.asn_oer.proofs.write_leaves.OerWriteLeaves.complete.Goals as goal
 

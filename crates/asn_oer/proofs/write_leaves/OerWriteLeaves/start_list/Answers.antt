@@ -1,7 +1,7 @@
 use Rattle.std.proofs.Common.{◌<◌, arith}
 use Rattle.asn_oer.specs.Rules.{oer_ruling}
 use Rattle.asn_oer.specs.Walk.{oer_coding}
-use Rattle.asn_oer.proofs.WrittenOctets.{list_written}
+use Rattle.asn_oer.proofs.Write.WrittenOctets.{list_written}
 use Rattle.asn_oer.proofs.write_leaves.OerWriteLeaves.start_list.Goals as goal
 
 pub returns : goal.returns

@@ -4,7 +4,7 @@ use Rattle.asn_bits.specs.Numbers.{bits, padding}
 use Rattle.asn_bits.proofs.Octets.{length-digits}
 use Rattle.asn_oer.specs.Rules.{oer_ruling}
 use Rattle.asn_oer.specs.Walk.{oer_coding}
-use Rattle.asn_oer.proofs.WrittenOctets.{digits_bits, filled_written, variable_written}
+use Rattle.asn_oer.proofs.Write.WrittenOctets.{digits_bits, filled_written, variable_written}
 use Rattle.asn_oer.proofs.write_leaves.OerWriteLeaves.write_addition_bitmap.Goals as goal
 
 pub returns : goal.returns

@@ -10,7 +10,7 @@ use Rattle.asn_rules.specs.Filled.{filled_bits}
 use Rattle.asn_walk.specs.Writing.{mark_bits}
 use Rattle.asn_oer.specs.Rules.{oer_ruling}
 use Rattle.asn_oer.specs.Walk.{oer_coding}
-use Rattle.asn_oer.proofs.WrittenOctets.{digits_bits, filled_written}
+use Rattle.asn_oer.proofs.Write.WrittenOctets.{digits_bits, filled_written}
 use Rattle.asn_oer.proofs.write_leaves.OerWriteLeaves.write_preamble.Goals.{in-Some+in_ok-push, in_default}
 use Rattle.asn_oer.proofs.write_leaves.OerWriteLeaves.write_preamble.Goals as goal
 

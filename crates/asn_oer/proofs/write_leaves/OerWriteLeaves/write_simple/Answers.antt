@@ -4,7 +4,7 @@ use Rattle.asn_values.specs.View.{datum_of}
 use Rattle.asn_values.proofs.Views.{shape_of-Bits, datum_of-Bits, shape_of-Octets, datum_of-Octets, shape_of-Text, datum_of-Text}
 use Rattle.asn_oer.specs.Rules.{oer_ruling}
 use Rattle.asn_oer.specs.Walk.{oer_coding}
-use Rattle.asn_oer.proofs.WrittenOctets.{plain}
+use Rattle.asn_oer.proofs.Write.WrittenOctets.{plain}
 use Rattle.asn_oer.proofs.write_leaves.OerWriteLeaves.write_simple.Goals as goal
 
 pub returns-in_ok-write_bits-in-Bits-Bits-clause-written : goal.returns-in_ok-write_bits-in-Bits-Bits-clause-written

@@ -4,7 +4,7 @@ use Rattle.asn_rules.proofs.Leads.{stops_by}
 use Rattle.asn_per.specs.Per.{per_fields}
 use Rattle.asn_per.specs.Rules.{per_ruling}
 use Rattle.asn_per.specs.Walk.{per_coding}
-use Rattle.asn_per.proofs.PreambleReading.{count_stops, some_present, bitmap_leads}
+use Rattle.asn_per.proofs.Read.PreambleReading.{count_stops, some_present, bitmap_leads}
 use Rattle.asn_per.proofs.read_leaves.PerReadLeaves.read_addition_bitmap.Goals as goal
 
 pub returns-in_err-read_small_length-clause-stop : goal.returns-in_err-read_small_length-clause-stop

@@ -4,7 +4,7 @@ use Rattle.asn_rules.proofs.Leads.{stops_by, leads_same}
 use Rattle.asn_per.specs.Per.{per_fields}
 use Rattle.asn_per.specs.Rules.{per_ruling}
 use Rattle.asn_per.specs.Walk.{per_coding}
-use Rattle.asn_per.proofs.WalkChoices.{index_spelled}
+use Rattle.asn_per.proofs.Walk.WalkChoices.{index_spelled}
 use Rattle.asn_per.proofs.read_leaves.PerReadLeaves.read_index.Goals as goal
 
 pub returns-clause-done : goal.returns-clause-done

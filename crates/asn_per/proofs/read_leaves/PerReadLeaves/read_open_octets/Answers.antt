@@ -6,7 +6,7 @@ use Rattle.asn_rules.proofs.Forks.{same_spells}
 use Rattle.asn_rules.proofs.Leads.{stops_by, leads_same}
 use Rattle.asn_per.specs.Kinds.{Sized}
 use Rattle.asn_per.specs.Reading.{Reads, StopsIn}
-use Rattle.asn_per.proofs.OpenFieldReading.{SomeOctets, some_octets}
+use Rattle.asn_per.proofs.Read.OpenFieldReading.{SomeOctets, some_octets}
 use Rattle.asn_per.specs.Per.{per_fields}
 use Rattle.asn_per.specs.Rules.{per_ruling}
 use Rattle.asn_per.specs.Walk.{per_coding}

@@ -8,8 +8,8 @@ use Rattle.asn_rules.proofs.Listed.{other_inhabited}
 use Rattle.asn_rules.proofs.ListedEach.{good_fits}
 use Rattle.asn_per.specs.Per.{per}
 use Rattle.asn_bits.proofs.Above.{kept}
-use Rattle.asn_per.proofs.ComponentsRead.{datum_of-Int}
-use Rattle.asn_per.proofs.EnumeratedTypes.{enumerated_of_items, datum_of-Enum}
+use Rattle.asn_per.proofs.Read.ComponentsRead.{datum_of-Int}
+use Rattle.asn_per.proofs.Read.EnumeratedTypes.{enumerated_of_items, datum_of-Enum}
 use Rattle.asn_per.proofs.read_leaves.PerReadLeaves.read_other.Goals as goal
 
 pub read_integer-requires-clause-some : goal.read_integer-requires-clause-some

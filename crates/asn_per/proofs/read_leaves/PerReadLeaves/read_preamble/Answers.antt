@@ -6,7 +6,7 @@ use Rattle.asn_walk.specs.Coding.{PreambleOf}
 use Rattle.asn_per.specs.Per.{per_fields}
 use Rattle.asn_per.specs.Rules.{per_ruling}
 use Rattle.asn_per.specs.Walk.{per_coding}
-use Rattle.asn_per.proofs.PreambleReading.{Bitmaps, some_listed, unmarked_leads, mark_stops, marked_leads}
+use Rattle.asn_per.proofs.Read.PreambleReading.{Bitmaps, some_listed, unmarked_leads, mark_stops, marked_leads}
 use Rattle.asn_per.proofs.read_leaves.PerReadLeaves.read_preamble.Goals as goal
 use Rattle.asn_per.proofs.read_leaves.PerReadLeaves.read_preamble.Goals.{in-None, in-Some+in_ok-extended-in-Some}
 

@@ -6,8 +6,8 @@ use Rattle.asn_values.proofs.Views.{shape_of-Int, shape_of-Bits, shape_of-Octets
 use Rattle.asn_rules.proofs.Leads.{stops_by}
 use Rattle.asn_rules.proofs.Listed.{spelt_inhabited}
 use Rattle.asn_per.specs.Per.{per}
-use Rattle.asn_per.proofs.EnumeratedTypes.{enumerated_of_items}
-use Rattle.asn_per.proofs.StringReading.{bits_size, octets_size, text_size, bits_lead, octets_lead, text_leads, utf8_leads}
+use Rattle.asn_per.proofs.Read.EnumeratedTypes.{enumerated_of_items}
+use Rattle.asn_per.proofs.Read.StringReading.{bits_size, octets_size, text_size, bits_lead, octets_lead, text_leads, utf8_leads}
 use Rattle.asn_per.proofs.read_leaves.PerReadLeaves.read_simple.Goals as goal
 use Rattle.asn_per.specs.Rules.{per_ruling}
 use Rattle.asn_per.specs.Walk.{per_coding}

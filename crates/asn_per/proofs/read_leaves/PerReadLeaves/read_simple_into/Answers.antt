@@ -3,7 +3,7 @@ use Rattle.std.proofs.lemmas.Result.{err_from_is_err_and}
 use Rattle.asn_values.specs.Shape.{enumerated}
 use Rattle.asn_values.specs.View.{shape_of, label_of, more_labels_of}
 use Rattle.asn_values.proofs.Views.{shape_of-Int, shape_of-Bits, shape_of-Octets, shape_of-Text}
-use Rattle.asn_per.proofs.EnumeratedTypes.{enumerated_of_items}
+use Rattle.asn_per.proofs.Read.EnumeratedTypes.{enumerated_of_items}
 use Rattle.asn_per.specs.Rules.{per_ruling}
 use Rattle.asn_per.specs.Walk.{per_coding}
 use Rattle.asn_per.proofs.read_leaves.PerReadLeaves.read_simple_into.Goals as goal

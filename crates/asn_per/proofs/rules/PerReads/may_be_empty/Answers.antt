@@ -1,5 +1,5 @@
 use Rattle.asn_values.specs.View.{shape_of}
-use Rattle.asn_per.proofs.SomeOctet.{not_empty}
+use Rattle.asn_per.proofs.Encodings.SomeOctet.{not_empty}
 use Rattle.asn_per.proofs.rules.PerReads.may_be_empty.Goals as goal
 
 pub returns : goal.returns

@@ -1,5 +1,5 @@
-use Rattle.asn_per.proofs.Tells.{per_tells}
-use Rattle.asn_per.proofs.Whole.{per_laws}
+use Rattle.asn_per.proofs.Encodings.Tells.{per_tells}
+use Rattle.asn_per.proofs.Encodings.Whole.{per_laws}
 use Rattle.asn_per.proofs.rules.PerRules.keep_laws.Goals as goal
 
 pub returns-clause-laws : goal.returns-clause-laws

@@ -1,4 +1,4 @@
-use Rattle.asn_per.proofs.ListFragments.{fragment_follows}
+use Rattle.asn_per.proofs.Write.ListFragments.{fragment_follows}
 use Rattle.asn_per.proofs.sizes.Following.next.Goals as goal
 
 pub returns-then-count-ge-BLOCK : goal.returns-then-count-ge-BLOCK

@@ -26,7 +26,7 @@ pub returns-in_err-count-in-Lengths-clause-stop : goal.returns-in_err-count-in-L
 returns-in_err-count-in-Lengths-clause-stop c =
     let l = c.in-Lengths.lengths in
     let p = err_from_is_err_and c.from_residual.result c.from_residual.ensures.1 in
-    rw (p.1, p.2) (record { counts = l.counts; come = 16384 * l.blocks; closed = is_closed l.blocks; was = ap ahead_of c.in-Lengths.is; stops = c.in_err-count-in-Lengths.ensures.stop per_fields })
+    rw (p.1, p.2) (record { counts = l.counts; so_far = 16384 * l.blocks; closed = is_closed l.blocks; was = ap ahead_of c.in-Lengths.is; stops = c.in_err-count-in-Lengths.ensures.stop per_fields })
 
 pub returns-else-not-more-clause-done : goal.returns-else-not-more-clause-done
 returns-else-not-more-clause-done c =

@@ -7,7 +7,7 @@ use Rattle.asn_rules.proofs.Leads.{stops_by}
 use Rattle.asn_per.specs.Per.{per_fields}
 use Rattle.asn_per.specs.ListsAhead.{RootStart}
 use Rattle.asn_per.specs.RowsAhead.{ahead_of}
-use Rattle.asn_per.proofs.ListsAhead.{mark_stops, mark_zero, mark_one}
+use Rattle.asn_per.proofs.Read.ListsAhead.{mark_stops, mark_zero, mark_one}
 use Rattle.asn_per.proofs.sizes.Fragments.start.Goals as goal
 
 pub returns-in_err-outside-clause-stop : goal.returns-in_err-outside-clause-stop

@@ -4,7 +4,7 @@ use Rattle.asn_rules.specs.Chunks.{flat}
 use Rattle.asn_per.specs.Per.{spelled, per}
 use Rattle.asn_per.specs.Rules.{per_ruling}
 use Rattle.asn_per.specs.Walk.{per_coding}
-use Rattle.asn_per.proofs.Completing.{Topped, completed}
+use Rattle.asn_per.proofs.Write.Completing.{Topped, completed}
 use Rattle.asn_per.proofs.write_leaves.PerWriteLeaves.complete.Goals as goal
 use Rattle.asn_per.proofs.write_leaves.PerWriteLeaves.complete.Goals.{then-is_empty+in_ok-push_number, else-is_empty}
 

@@ -12,7 +12,7 @@ invariant_of-result c =
 pub returns-clause-of_profile : goal.returns-clause-of_profile
 returns-clause-of_profile c = of_profile c.in_ok-check_type.field-0 (shape_of c.args.ty) c.in_ok-check_type.ensures.sound
 
--- where the growth is refused, the walk found no fault
+-- where the allocation is refused, the walk found no fault
 pub returns-in_err-tree-clause-memory : goal.returns-in_err-tree-clause-memory
 returns-in_err-tree-clause-memory c =
     let p = err_from_is_err_and c.from_residual-in_err-tree.result c.from_residual-in_err-tree.ensures.1 in

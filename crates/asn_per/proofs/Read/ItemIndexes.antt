@@ -1,0 +1,147 @@
+-- How the program finds the index of an item and the item of an index.
+use Rattle.std.proofs.Common.{◌≡◌, ◌≢◌, ◌≤◌, ◌<◌, ◌+◌, ◌++◌, ◌==◌, ◌⊎◌, inl, inr, ℕ, zero, suc, ℤ, pos, negsuc, true, false, List, [], ◌∷◌, map, length, get_or, refl, sym, ap, subst, ◌∙◌, nat_lt, arith}
+use Rattle.std.proofs.lemmas.Bool.{true≢false, ltb-false, lt-ltb, or_parts}
+use Rattle.std.proofs.lemmas.Int.{ints}
+use Rattle.std.proofs.lemmas.List.{length-map}
+use Rattle.std.specs.Int.RustNames.{int_lt}
+use Rattle.std.specs.List.{list_any}
+use mir.Syntax.{w64}
+use mir.Val.{to_z, of_z}
+use Rattle.asn_values.specs.declared.types.Item.{Item}
+use Rattle.asn_values.specs.Shape.{Label, MoreLabels, enumerated, more_labels}
+use Rattle.asn_values.specs.Profile.{InProfile, EmptyRange, BadEnumeration, TooMany, is_not_32_bits, too_many_here, most_items, most_additions, most_nodes}
+use Rattle.asn_values.specs.Measures.{nodes}
+use Rattle.asn_values.specs.View.{label_of}
+use Rattle.asn_values.proofs.Parts.{left_false}
+use Rattle.asn_rules.specs.Components.{number_at}
+use Rattle.asn_rules.proofs.Items.{numbers, good_items}
+use Rattle.asn_per.specs.Per.{rank}
+use Rattle.asn_per.specs.Kinds.{position_of}
+use Rattle.asn_per.specs.Indexes.{AreRootItems}
+use Rattle.asn_per.proofs.Law.Enumerations.{compare, rank_rises}
+use Rattle.asn_per.proofs.Types.Ranks.{place_there, place_back}
+
+-- ---- the root of a type of the profile
+
+-- the root of an ENUMERATED of the profile
+pub root_items : (root : List Label) (more : MoreLabels) → InProfile (enumerated root more) → AreRootItems root
+root_items root more good =
+    let w = good_items root more (good BadEnumeration) in
+    record {
+      some = some root (good EmptyRange);
+      few = omega (arith, ltb-false most_items (length root + length (more_labels more)) (left_false (nat_lt most_items (length root + length (more_labels more))) (nat_lt most_additions (length (more_labels more))) (left_false (too_many_here (enumerated root more)) (nat_lt most_nodes (nodes (enumerated root more))) (good TooMany))));
+      once = w.root_once;
+      narrow = first root w.bits_32;
+    }
+  where
+    some : (ls : List Label) → (length ls == 0) ≡ false → 0 < length ls
+    some [] e = absurd (true≢false e)
+    some (l ∷ ls) e = omega arith
+
+    first : (ls : List Label) → list_any is_not_32_bits (numbers (ls ++ more_labels more)) ≡ false → list_any is_not_32_bits (numbers ls) ≡ false
+    first [] e = refl
+    first (l ∷ ls) e =
+        let w = or_parts (is_not_32_bits l.number) _ e in
+        rw (w.0, first ls w.1) refl
+
+-- ---- the number of an item, as the program has it
+
+number_small : (ls : List Label) (p : ℕ) → list_any is_not_32_bits (numbers ls) ≡ false → p < length ls → is_not_32_bits (number_at ls p) ≡ false
+number_small [] p e h = absurd (omega arith)
+number_small (l ∷ ls) zero e h = (or_parts (is_not_32_bits l.number) _ e).0
+number_small (l ∷ ls) (suc p) e h = number_small ls p (or_parts (is_not_32_bits l.number) _ e).1 (omega arith)
+
+-- a number of 32 signed bits lies so near to 0
+near_above : (n : ℕ) → is_not_32_bits (pos n) ≡ false → n ≤ 2147483647
+near_above n e = ltb-false 2147483647 n (or_parts (int_lt (pos n) (negsuc 2147483647)) (int_lt (pos 2147483647) (pos n)) e).1
+
+near_below : (n : ℕ) → is_not_32_bits (negsuc n) ≡ false → n ≤ 2147483647
+near_below n e = ltb-false 2147483647 n (or_parts (int_lt (negsuc n) (negsuc 2147483647)) (int_lt (pos 2147483647) (negsuc n)) e).0
+
+-- and keeps its value in 64 bits
+kept : (z : ℤ) → is_not_32_bits z ≡ false → to_z w64 (of_z w64 z) ≡ z
+kept (pos n) e = let h = near_above n e in omega (arith, ints)
+kept (negsuc n) e = let h = near_below n e in omega (arith, ints)
+
+number_there : (is : List Item) (p : ℕ) (d x : Item) → p < length is → x ≡ get_or is p d → number_at (map label_of is) p ≡ x.number
+number_there [] p d x h e = absurd (omega arith)
+number_there (i ∷ is) zero d x h e = ap (λ (y : Item). y.number) (sym e)
+number_there (i ∷ is) (suc p) d x h e = number_there is p d x (omega arith) e
+
+-- it is the one at its position
+pub item_kept : (is : List Item) (p : ℕ) (d x : Item) → AreRootItems (map label_of is) → p < length is → x ≡ get_or is p d → to_z w64 (of_z w64 x.number) ≡ number_at (map label_of is) p
+item_kept is p d x good h e =
+    let there = number_there is p d x h e in
+    let inside : p < length (map label_of is) = simp length-map h in
+    kept x.number (subst (λ z. is_not_32_bits z ≡ false) there (number_small (map label_of is) p good.narrow inside)) ∙ sym there
+
+-- ---- the item of an index
+
+-- of the items from a position on one has the index, and its number lies between these two
+pub record IsSought (ls : List Label) (index from : ℕ) (above below : ℤ) : Type 0 where
+  pub ahead : from ≤ position_of ls index
+  pub over : int_lt above (number_at ls (position_of ls index)) ≡ true
+  pub under : int_lt (number_at ls (position_of ls index)) below ≡ true
+
+module _ (ls : List Label) (good : AreRootItems ls) (index : ℕ) (inside : index < length ls) where
+  there : (position_of ls index < length ls) × (rank ls (number_at ls (position_of ls index)) ≡ index)
+  there = place_there ls good.once index inside
+
+  -- before the first item
+  pub sought_starts : IsSought ls index 0 (negsuc 9223372036854775807) (pos 9223372036854775807)
+  sought_starts =
+      let small = number_small ls (position_of ls index) good.narrow there.0 in
+      record { ahead = omega arith; over = over (number_at ls (position_of ls index)) small; under = under (number_at ls (position_of ls index)) small }
+    where
+      over : (z : ℤ) → is_not_32_bits z ≡ false → int_lt (negsuc 9223372036854775807) z ≡ true
+      over (pos n) e = refl
+      over (negsuc n) e = lt-ltb n 9223372036854775807 (omega (arith, near_below n e))
+
+      under : (z : ℤ) → is_not_32_bits z ≡ false → int_lt z (pos 9223372036854775807) ≡ true
+      under (pos n) e = lt-ltb n 9223372036854775807 (omega (arith, near_above n e))
+      under (negsuc n) e = refl
+
+  -- an item that has the index is the one
+  pub sought_found : (p : ℕ) → p < length ls → rank ls (number_at ls p) ≡ index → p ≡ position_of ls index
+  sought_found p h e = sym (place_back ls good.once p h) ∙ ap (position_of ls) e
+
+  module _ (p : ℕ) (a b : ℤ) (s : IsSought ls index p a b) where
+    -- past an item that is not the one
+    past : p ≢ position_of ls index → p + 1 ≤ position_of ls index
+    past n = let k = s.ahead in omega (arith, n)
+
+    -- an item that lies not above the lower number
+    pub sought_not_above : int_lt a (number_at ls p) ≡ false → IsSought ls index (p + 1) a b
+    sought_not_above e = record { ahead = past (λ f. true≢false (sym s.over ∙ subst (λ (q : ℕ). int_lt a (number_at ls q) ≡ false) f e)); over = s.over; under = s.under }
+
+    -- nor one that lies not below the higher one
+    pub sought_not_below : int_lt (number_at ls p) b ≡ false → IsSought ls index (p + 1) a b
+    sought_not_below e = record { ahead = past (λ f. true≢false (sym s.under ∙ subst (λ (q : ℕ). int_lt (number_at ls q) b ≡ false) f e)); over = s.over; under = s.under }
+
+    -- an item with another index is not the one
+    other : rank ls (number_at ls p) ≢ index → p ≢ position_of ls index
+    other n e = n (ap (λ (q : ℕ). rank ls (number_at ls q)) e ∙ there.1)
+
+    -- one with a lower index has a lower number
+    pub sought_above : rank ls (number_at ls p) < index → IsSought ls index (p + 1) (number_at ls p) b
+    sought_above h = record { ahead = past (other (λ e. omega arith)); over = over (compare (number_at ls p) (number_at ls (position_of ls index))); under = s.under }
+      where
+        over : (int_lt (number_at ls p) (number_at ls (position_of ls index)) ≡ true) ⊎ (number_at ls p ≡ number_at ls (position_of ls index)) ⊎ (int_lt (number_at ls (position_of ls index)) (number_at ls p) ≡ true)
+            → int_lt (number_at ls p) (number_at ls (position_of ls index)) ≡ true
+        over (inl e) = e
+        over (inr (inl e)) = absurd (let f : rank ls (number_at ls p) ≡ index = ap (rank ls) e ∙ there.1 in omega arith)
+        over (inr (inr e)) = absurd (omega (arith, rank_rises ls (number_at ls (position_of ls index)) (number_at ls p) e, there.1))
+
+    -- one with a higher index has a higher number
+    pub sought_below : index < rank ls (number_at ls p) → IsSought ls index (p + 1) a (number_at ls p)
+    sought_below h = record { ahead = past (other (λ e. omega arith)); over = s.over; under = under (compare (number_at ls (position_of ls index)) (number_at ls p)) }
+      where
+        under : (int_lt (number_at ls (position_of ls index)) (number_at ls p) ≡ true) ⊎ (number_at ls (position_of ls index) ≡ number_at ls p) ⊎ (int_lt (number_at ls p) (number_at ls (position_of ls index)) ≡ true)
+            → int_lt (number_at ls (position_of ls index)) (number_at ls p) ≡ true
+        under (inl e) = e
+        under (inr (inl e)) = absurd (let f : rank ls (number_at ls p) ≡ index = ap (rank ls) (sym e) ∙ there.1 in omega arith)
+        under (inr (inr e)) = absurd (omega (arith, rank_rises ls (number_at ls p) (number_at ls (position_of ls index)) e, there.1))
+
+    -- it comes before the last
+    pub sought_ends : length ls ≤ p → ⊥
+    sought_ends h = omega (arith, s.ahead, there.0)

@@ -1,11 +1,11 @@
 //! The bits of octets that are left to read.
-ghost use Rattle.std.specs.Prelude.{◌≡◌, ℕ, ◌+◌, ◌-◌, ◌*◌, ◌%◌, ◌/◌, ◌^◌, ◌<◌, ◌≤◌, ◌↔◌, List, [], ◌∷◌, ◌++◌, length, drop, IsTrue, IsNone, IfSome, OnOk, OnErr};
+ghost use Rattle.std.specs.Prelude.{◌≡◌, ℕ, ◌+◌, ◌-◌, ◌*◌, ◌%◌, ◌/◌, ◌^◌, ◌<◌, ◌≤◌, ◌↔◌, List, [], ◌∷◌, ◌++◌, length, drop, IsTrue, IsNone, IfSome, IfOk, OnOk, OnErr};
 ghost use Rattle.asn_bits.specs.Moves.{Taken};
 ghost use Rattle.asn_bits.specs.Numbers.{bits, octets, unpacked};
 ghost use Rattle.asn_bits.specs.Sets.{AreBits};
 
-use crate::shifts::push_front;
-use std::alloc::AllocError;
+use crate::shifts::{front_row, push_front};
+use std::alloc::{AllocError, Global};
 use std::fmt;
 use std::marker::Model;
 
@@ -107,6 +107,45 @@ impl<'a> BitCursor<'a> {
         self.peek_across(k)
     }
 
+    /// The number in the next octet, which stays. `None` where none is left of which no bit is read; also where the
+    /// octet begun is read in part.
+    #[inline(always)]
+    pub fn peek_octet(&self) -> Option<u64>
+        ensures fits { IfSome result (λ n. n < 2 ^ 8) }
+        ensures some { IfSome result (λ n. self.now ≡ bits 8 n ++ drop 8 self.now) }
+    {
+        if self.offset == 0 {
+            number_in_octet(self.octets, 0, 8)
+        } else {
+            None
+        }
+    }
+
+    /// The number in the next `count` octets, which stay, where eight octets are left; `None` also where the octet
+    /// begun is read in part.
+    #[inline(always)]
+    pub fn peek_octets(&self, count: u32) -> Option<u64>
+        requires { count ≤ 8 }
+        ensures fits { IfSome result (λ n. n < 2 ^ (8 * count)) }
+        ensures some { IfSome result (λ n. self.now ≡ bits (8 * count) n ++ drop (8 * count) self.now) }
+    {
+        if self.offset == 0 {
+            number_in_word(self.octets, 0, 8 * count)
+        } else {
+            None
+        }
+    }
+
+    /// Passes the next `count` octets, at any bit of the octets below; they have to be left.
+    #[inline(always)]
+    pub fn pass_octets(&mut self, count: u32)
+        requires { 8 * count ≤ length self.old }
+        ensures { self.new ≡ drop (8 * count) self.old }
+    {
+        let octets = self.octets;
+        self.octets = &octets[count as usize..];
+    }
+
     /// As `peek_number`, and quicker where the bits stand in the next octet and fewer than eight octets are left, as
     /// those of a presence bitmap or a BOOLEAN often do.
     #[inline(always)]
@@ -182,6 +221,20 @@ impl<'a> BitCursor<'a> {
         push_front(into, octets, self.offset, count)?;
         self.octets = &octets[count..];
         Ok(())
+    }
+
+    /// Takes the next `count` octets, as `take_octets` does, as a vector that has no more capacity than they need. An
+    /// `Err` is out of memory, and then nothing has changed.
+    #[inline(always)]
+    pub fn take_row(&mut self, alloc: Global, count: usize) -> Result<Vec<u8>, AllocError>
+        requires { 8 * count ≤ length self.old }
+        ensures ok { IfOk result (λ os. Taken count self.old self.new [] os.items) }
+        ensures err { OnErr result (self.new ≡ self.old) }
+    {
+        let octets = self.octets;
+        let row = front_row(alloc, octets, self.offset, count)?;
+        self.octets = &octets[count..];
+        Ok(row)
     }
 }
 

@@ -1,10 +1,10 @@
 //! Whole octets, moved by fewer bits than an octet has.
-ghost use Rattle.std.specs.Prelude.{◌≡◌, ◌+◌, ◌*◌, ◌/◌, ◌%◌, ◌^◌, ◌<◌, ◌≤◌, length, drop, [], OnOk, OnErr, vec_len, vec_capacity};
+ghost use Rattle.std.specs.Prelude.{◌≡◌, ◌+◌, ◌*◌, ◌/◌, ◌%◌, ◌^◌, ◌<◌, ◌≤◌, length, drop, [], IfOk, OnOk, OnErr, vec_len, vec_capacity};
 ghost use Rattle.asn_bits.specs.Moves.{Shifted, TakenFrom};
 ghost use Rattle.asn_bits.specs.Numbers.{unpacked};
 
 use crate::words::{full_word, low_octet};
-use std::alloc::AllocError;
+use std::alloc::{AllocError, Global};
 
 // appends `count` octets, read from bit `offset` on; an `Err` is out of memory, and then nothing has changed
 pub(crate) fn push_front(
@@ -25,6 +25,26 @@ pub(crate) fn push_front(
         push_shifted(bytes, 8 - offset, octets[0] as u64, &octets[1..count + 1]);
     }
     Ok(())
+}
+
+// `count` octets, read from bit `offset` on, as a vector that has no more capacity than they need
+#[inline(always)]
+pub(crate) fn front_row(
+    alloc: Global,
+    octets: &[u8],
+    offset: u32,
+    count: usize,
+) -> Result<Vec<u8>, AllocError>
+    requires begun { offset < 8 }
+    requires there { 8 * count + offset ≤ 8 * length octets.now }
+    ensures { IfOk result (λ row. TakenFrom offset count octets.now [] row.items) }
+{
+    if offset == 0 {
+        return Vec::from_slice(alloc, &octets[..count]);
+    }
+    let mut row = Vec::with_capacity(alloc, count)?;
+    push_front(&mut row, octets, offset, count)?;
+    Ok(row)
 }
 
 // adds the octets of the low `count` bits of `pending`, followed by all of `octets`, eight at once, and gives what is

@@ -1,15 +1,16 @@
 -- Lengths between two bounds, octet by octet: where their reader stands, and what it cites at each exit.
-use Rattle.std.proofs.Common.{◌≡◌, ◌≤◌, ◌<◌, ◌^◌, ℕ, min, Option, Some, List, [], ◌∷◌, ◌++◌, length, length-append, append_assoc, inl, inr, refl, sym, ap, ◌∙◌, subst, arith}
+use Rattle.std.proofs.Common.{◌≡◌, ◌≤◌, ◌<◌, ◌+◌, ◌*◌, ◌/◌, ◌%◌, ◌^◌, ℕ, min, Option, Some, List, [], ◌∷◌, ◌++◌, length, length-append, append_assoc, inl, inr, refl, sym, ap, ◌∙◌, subst, arith}
 use Rattle.std.proofs.lemmas.List.{append-nil}
 use Rattle.asn_bits.specs.Begun.{StandsFirst}
 use Rattle.asn_bits.specs.Lengths.{octet_length}
-use Rattle.asn_bits.specs.Numbers.{bits, packed}
+use Rattle.asn_bits.specs.Numbers.{bits, octets, octet_count, packed, unpacked}
 use Rattle.asn_bits.specs.OctetLengths.{BegunOctets, BeginsLength, GoesOn, TakesOctet}
 use Rattle.asn_bits.specs.Ranges.{Spanned}
 use Rattle.asn_bits.specs.Sets.{Between}
 use Rattle.asn_bits.specs.declared.number_field.FieldState.TheVariants as state
-use Rattle.asn_bits.proofs.LengthsInOctets.{length_cases, small_is}
-use Rattle.asn_bits.proofs.Octets.{length-digits, octet_count_below}
+use Rattle.asn_bits.proofs.LengthsInOctets.{length_cases, large_is, small_is}
+use Rattle.asn_bits.proofs.Octets.{all_octets, length-digits, octet_count_below}
+use Rattle.asn_bits.proofs.Splits.{digits-add, digits-mod, unpacked-octets}
 use Rattle.asn_bits.proofs.Weights.{bits_only}
 use Rattle.asn_rules.specs.Chunks.{ones}
 use Rattle.asn_rules.specs.Fields.{OctetLength, octet_fields}
@@ -20,7 +21,7 @@ use Rattle.asn_rules.specs.OctetReading.{AtOctet, from_to}
 use Rattle.asn_rules.specs.Spellings.{SpelledBy}
 use Rattle.asn_rules.proofs.OctetFields.{octet_fields_part}
 use Rattle.asn_rules.proofs.OctetLengths.{length_lawful, length_spelled}
-use Rattle.asn_rules.proofs.Octetwise.{next_octet, no_octet}
+use Rattle.asn_rules.proofs.Octetwise.{next_octet, no_octet, packed_front}
 use Rattle.asn_rules.proofs.Parts.{front_ones, refused_here}
 use Rattle.asn_rules.proofs.Spellings.{units_front, units_short}
 
@@ -38,6 +39,10 @@ octet_less o rest after a e = omega (arith, a, ap length e, length-append (bits 
 -- the next octet of what is left
 next_of : (o : ℕ) (rest after given us : List ℕ) → o < 256 → packed us ≡ given ++ packed rest → rest ≡ bits 8 o ++ after → packed us ≡ given ++ o ∷ packed after
 next_of o rest after given us h so_far e = so_far ∙ ap (λ (r : List ℕ). given ++ r) (ap packed e ∙ next_octet o after h)
+
+-- and after some octets
+pub long_whole : (k n : ℕ) (us rest : List ℕ) → AtOctet us → us ≡ bits (8 * k) n ++ rest → AtOctet rest
+long_whole k n us rest a e = omega (arith, a, ap length e, length-append (bits (8 * k) n) rest, length-digits 2 (8 * k) n)
 
 module _ (low high : ℕ) (narrow : high < 2 ^ 32) where
   abbrev one_set : List (ℕ × Option ℕ)
@@ -82,6 +87,22 @@ module _ (low high : ℕ) (narrow : high < 2 ^ 32) where
   short_done n us rest s =
       let w = short_taken n us rest s in
       length_done n (packed us) (packed rest) w.2 (ap packed w.0 ∙ next_octet n rest (omega (arith, w.1)) ∙ ap (λ (l : List ℕ). l ++ packed rest) (sym (small_is n w.1)))
+
+  -- the first octet and the k octets after it, which hold n
+  pub long_done : (k n all : ℕ) (us rest : List ℕ) → k < 128 → all / 2 ^ (8 * k) ≡ 128 + k → n ≡ all % 2 ^ (8 * k) → 128 ≤ n → octet_count n ≡ k → Between low high n → us ≡ bits (8 * (1 + k)) all ++ rest
+      → Spells octet_fields (OctetLength (Between low high)) n (packed us) (packed rest)
+  long_done k n all us rest few first last large count member e =
+      let both : bits (8 * (1 + k)) all ≡ bits 8 (128 + k) ++ bits (8 * k) n =
+      ap (λ (i : ℕ). bits i all) (omega arith) ∙ digits-add 2 8 (8 * k) all
+      ∙ ap (λ (i : ℕ). bits 8 i ++ bits (8 * k) all) first ∙ ap (λ (l : List ℕ). bits 8 (128 + k) ++ l) (sym (digits-mod 2 (omega arith) (8 * k) all) ∙ ap (bits (8 * k)) (sym last)) in
+      let split : us ≡ bits 8 (128 + k) ++ (unpacked (octets k n) ++ rest) =
+      e ∙ ap (λ (l : List ℕ). l ++ rest) both ∙ append_assoc (bits 8 (128 + k)) (bits (8 * k) n) rest
+      ∙ ap (λ (l : List ℕ). bits 8 (128 + k) ++ (l ++ rest)) (sym (unpacked-octets k n)) in
+      length_done n (packed us) (packed rest) member (
+      ap packed split ∙ next_octet (128 + k) (unpacked (octets k n) ++ rest) (omega arith)
+      ∙ ap (λ (l : List ℕ). (128 + k) ∷ l) (packed_front (octets k n) rest (all_octets k n))
+      ∙ ap (λ (l : List ℕ). l ++ packed rest) (sym (large_is n k large count))
+      )
 
   -- ---- octet by octet
 

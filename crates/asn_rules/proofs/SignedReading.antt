@@ -1,12 +1,13 @@
 -- The language of integers in the fewest octets of two's complement, in the sets that their reader tests.
-use Rattle.std.proofs.Common.{◌≡◌, ◌<◌, ◌≤◌, ◌*◌, ◌^◌, ◌++◌, ◌+ℤ◌, ℕ, ℤ, pos, ◌≤ℤ◌, List, None, refl, sym, ap, ◌∙◌, subst, arith}
+use Rattle.std.proofs.Common.{◌≡◌, ◌<◌, ◌≤◌, ◌+◌, ◌*◌, ◌/◌, ◌%◌, ◌^◌, ◌++◌, append_assoc, ◌+ℤ◌, ℕ, ℤ, pos, ◌≤ℤ◌, List, None, refl, sym, ap, ◌∙◌, subst, arith}
 use Rattle.std.proofs.lemmas.Int.{ints}
+use Rattle.std.proofs.Math.Nat.{mod-lt, one-le-pow}
 use Rattle.asn_values.specs.Fits.{lowest_integer, highest_integer}
-use Rattle.asn_bits.specs.Numbers.{bits}
+use Rattle.asn_bits.specs.Numbers.{bits, signed_octet_count}
 use Rattle.asn_bits.specs.Sets.{InDigits, Among, Meets}
 use Rattle.asn_bits.proofs.Above.{above-add}
 use Rattle.asn_bits.proofs.Weights.{bits_are}
-use Rattle.asn_bits.proofs.Splits.{two_pow_octets}
+use Rattle.asn_bits.proofs.Splits.{digits-add, digits-mod, two_pow_octets}
 use Rattle.asn_rules.specs.Counted.{SomeOf, LeastSigned, Counted, signed_number}
 use Rattle.asn_rules.specs.Forks.{Same}
 use Rattle.asn_rules.specs.Languages.{Plain, Spells}
@@ -18,11 +19,12 @@ use Rattle.asn_rules.proofs.Parts.{contents-ones}
 use Rattle.asn_rules.specs.OffsetSets.{HasInteger, HasOffset, StandsFor, SignedIn, UnconstrainedIn, AreSigned, AreStanding}
 use Rattle.asn_rules.specs.declared.number_reader.NumberSet.{NumberSet}
 use Rattle.asn_rules.specs.declared.signed_reader.OffsetSet.{OffsetSet}
-use Rattle.asn_rules.proofs.CountedCodes.{eight_bits}
+use Rattle.asn_rules.proofs.CountedCodes.{counted_spells, eight_bits}
 use Rattle.asn_rules.proofs.Exits.{stops_count}
 use Rattle.asn_rules.proofs.Forks.{same_spells}
 use Rattle.asn_rules.proofs.Leads.{LeadsStops, Leads, stops_on, leads_on, leads_map, leads_same}
 use Rattle.asn_rules.proofs.NumberSets.{same_set, counted_leads}
+use Rattle.asn_rules.proofs.Sets.{set_spells}
 
 -- the counts that a reader admits
 abbrev pub signed_counts : ℕ → NumberSet
@@ -82,3 +84,26 @@ standing_spells R s c n w us rest few e has fits split = record {
   contents = contents-ones R (bits (8 * c) n);
   split = split ∙ ap (λ (l : List ℕ). l ++ rest) (sym (flat-ones R.spelled (bits (8 * c) n)));
 }
+
+-- so does a number in the fewest octets, after their count
+pub unconstrained_spells : (R : Fielding) (s : OffsetSet) (c n w all : ℕ) (us rest : List ℕ) → c < 128 → all / 2 ^ (8 * c) ≡ c → n ≡ all % 2 ^ (8 * c) → w < 2 ^ 64 → lowest_integer +ℤ pos w ≡ signed_number (c, n) → HasOffset s w
+    → signed_octet_count (lowest_integer +ℤ pos w) ≡ c → us ≡ bits (8 * (1 + c)) all ++ rest → Spells R (UnconstrainedIn s) (lowest_integer +ℤ pos w) us rest
+unconstrained_spells R s c n w all us rest few first last less e has fewest split =
+    let T = LeastSigned (λ z. HasInteger s z) in
+    let bound : n < 2 ^ (8 * c) = subst (λ (i : ℕ). i < 2 ^ (8 * c)) (sym last) (mod-lt all (one-le-pow (8 * c) 2 (omega arith))) in
+    let fits : n < 256 ^ c = omega (arith, bound, two_pow_octets c) in
+    let least : T c n = record { member = (stands_at s c n w less e has fits).member; count = ap signed_octet_count (sym e) ∙ fewest; fits = fits } in
+    let some : SomeOf T c = record { few = few; number = n; member = least; fits = fits } in
+    let both : bits (8 * (1 + c)) all ≡ bits 8 c ++ bits (8 * c) n =
+    ap (λ (i : ℕ). bits i all) (omega arith) ∙ digits-add 2 8 (8 * c) all
+    ∙ ap (λ (i : ℕ). bits 8 i ++ bits (8 * c) all) first ∙ ap (λ (l : List ℕ). bits 8 c ++ l) (sym (digits-mod 2 (omega arith) (8 * c) all) ∙ ap (bits (8 * c)) (sym last)) in
+    let front : us ≡ bits 8 c ++ (bits (8 * c) n ++ rest) = split ∙ ap (λ (l : List ℕ). l ++ rest) both ∙ append_assoc (bits 8 c) (bits (8 * c) n) rest in
+    let count : Spells R (Plain (InDigits 2 8 (SomeOf T))) c (bits 8 c ++ (bits (8 * c) n ++ rest)) (bits (8 * c) n ++ rest) = set_spells R c (bits 8 c) (bits (8 * c) n ++ rest) (bits_are 8 c (omega arith)) some in
+    let number : Spells R (Plain (InDigits 2 (8 * c) (T c))) n (bits (8 * c) n ++ rest) rest = set_spells R n (bits (8 * c) n) rest (bits_are (8 * c) n bound) least in
+    let counted : Spells R (Counted 2 8 T) (c, n) (bits 8 c ++ (bits (8 * c) n ++ rest)) rest = counted_spells count number in
+    subst (λ (l : List ℕ). Spells R (UnconstrainedIn s) (lowest_integer +ℤ pos w) l rest) (sym front) (record {
+      chunks = counted.chunks;
+      spelt = record { source = (c, n); spelt = counted.spelt; seen = e };
+      contents = counted.contents;
+      split = counted.split;
+    })

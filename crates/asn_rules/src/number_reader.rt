@@ -1,7 +1,8 @@
 //! Readers of numbers in a fixed count of bits, refused at the first bit after which no number of the set can follow.
 
-ghost use Rattle.std.specs.Prelude.{◌≡◌, ◌≤◌, ◌↔◌, ℕ, IfOk, IfSome, IsNone, IsTrue, None, length, replicate};
+ghost use Rattle.std.specs.Prelude.{◌≡◌, ◌≤◌, ◌<◌, ◌*◌, ◌^◌, ◌++◌, ◌↔◌, ℕ, drop, IfOk, IfSome, IsNone, IsTrue, None, length, replicate};
 ghost use Rattle.asn_bits.specs.Begun.{StandsFirst};
+ghost use Rattle.asn_bits.specs.Numbers.{bits};
 ghost use Rattle.asn_bits.specs.Sets.{AreBits, Meets, Among};
 ghost use Rattle.asn_rules.specs.NumberSets.{Admits, AreAmong, NoneStandsFirst, NumberIn, NumberAmong, up_to};
 ghost use Rattle.asn_rules.specs.Padding.{Fixed};
@@ -140,6 +141,36 @@ pub fn try_number(k: u32, set: NumberSet, bits: &mut BitCursor<'_>) -> Option<u6
         return Some(n);
     }
     None
+}
+
+/// Reads a number of the set in `k` octets, where the bits left begin with an octet and it is at hand: one octet, or of
+/// eight that are left. Otherwise, and where it is not of the set, consumes nothing.
+#[inline(always)]
+pub(crate) fn try_in_octets(k: u32, set: NumberSet, bits: &mut BitCursor<'_>) -> Option<u64>
+    requires { k ≤ 8 }
+    ensures some { IfSome result (λ n. StandsFirst (8 * k) (λ m. Admits set m) n bits.old bits.new) }
+    ensures unchanged { IsNone result → bits.new ≡ bits.old }
+{
+    let n = peek_in_octets(k, bits)?;
+    if admits(set, n) {
+        bits.pass_octets(k);
+        return Some(n);
+    }
+    None
+}
+
+/// The number in the next `k` octets, which stay, where they are at hand: one octet, or of eight that are left.
+#[inline(always)]
+pub(crate) fn peek_in_octets(k: u32, units: &BitCursor<'_>) -> Option<u64>
+    requires { k ≤ 8 }
+    ensures fits { IfSome result (λ n. n < 2 ^ (8 * k)) }
+    ensures some { IfSome result (λ n. units.now ≡ bits (8 * k) n ++ drop (8 * k) units.now) }
+{
+    if k == 1 {
+        units.peek_octet()
+    } else {
+        units.peek_octets(k)
+    }
 }
 
 /// As `try_number`, and quicker where the bits stand in the next octet and few octets are left.

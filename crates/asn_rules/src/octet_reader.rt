@@ -13,7 +13,7 @@ ghost use Rattle.asn_rules.specs.Stops.{Stops};
 ghost use Rattle.asn_rules.specs.OctetReading.{AtOctet, ReadsOctets, StopsAtOctets, counted_in_octets, OctetsIn, OctetsAmong, AreWithCount, AreTrimmed, CountedIn, CountedSignedIn, SignedOctetsIn, FilledFields, FilledBits, from_to};
 
 use crate::fault::Why;
-use crate::number_reader::{NumberSet, read_number, read_number_among, read_up_to, try_number};
+use crate::number_reader::{NumberSet, read_number, read_number_among, read_up_to, try_in_octets};
 use crate::signed_reader::{OffsetSet, read_signed, read_unconstrained, try_signed};
 use crate::stop::Stop;
 use crate::whole_number_reader::{greatest_of_width, greatest_with, least_with};
@@ -75,7 +75,7 @@ pub fn try_octets(k: u32, set: NumberSet, units: &mut BitCursor<'_>) -> Option<u
     ensures done { IfSome result (λ n. ReadsOctets (OctetsIn k set) n units.old units.new) }
     ensures unchanged { IsNone result → units.new ≡ units.old }
 {
-    let n = try_number(8 * k, set, units)?;
+    let n = try_in_octets(k, set, units)?;
     Some(n)
 }
 
@@ -248,10 +248,53 @@ pub fn read_length(low: u64, high: u64, units: &mut BitCursor<'_>) -> Result<u64
     ensures done { IfOk result (λ n. ReadsOctets (OctetLength (Between low high)) n units.old units.new) }
     ensures stop { IfErr result (λ why. StopsAtOctets (OctetLength (Between low high)) units.old why) }
 {
-    match try_number(8, numbers(low, high.min(127)), units) {
-        Some(n) => Ok(n),
-        None => read_length_by_octets(low, high, units),
+    if let Some(n) = try_length(low, high, units) {
+        return Ok(n);
     }
+    if let Some(n) = try_long_length(low, high, units) {
+        return Ok(n);
+    }
+    read_length_by_octets(low, high, units)
+}
+
+/// Fast path: a length from `low` to `high` that one octet tells, where it is at hand; otherwise takes nothing.
+#[inline(always)]
+fn try_length(low: u64, high: u64, units: &mut BitCursor<'_>) -> Option<u64>
+    requires at_octet { AtOctet units.old }
+    requires narrow { high < 2 ^ 32 }
+    ensures at_octet { AtOctet units.new }
+    ensures within { IfSome result (λ n. Between low high n) }
+    ensures done { IfSome result (λ n. ReadsOctets (OctetLength (Between low high)) n units.old units.new) }
+    ensures unchanged { IsNone result → units.new ≡ units.old }
+{
+    let n = try_in_octets(1, numbers(low, high.min(127)), units)?;
+    Some(n)
+}
+
+/// Fast path: a length from `low` to `high` in one to four octets after the first one, where eight octets are left;
+/// otherwise takes nothing.
+#[inline(always)]
+fn try_long_length(low: u64, high: u64, units: &mut BitCursor<'_>) -> Option<u64>
+    requires at_octet { AtOctet units.old }
+    requires narrow { high < 2 ^ 32 }
+    ensures at_octet { AtOctet units.new }
+    ensures within { IfSome result (λ n. Between low high n) }
+    ensures done { IfSome result (λ n. ReadsOctets (OctetLength (Between low high)) n units.old units.new) }
+    ensures unchanged { IsNone result → units.new ≡ units.old }
+{
+    let first = units.peek_octet()?;
+    if first <= 128 || 132 < first {
+        return None;
+    }
+    let count = first as u32 - 128;
+    let all = units.peek_octets(1 + count)?;
+    let n = all & greatest_of_width(8 * count);
+    let same = all >> (8 * count) == first;
+    if same && 128 <= n && octet_count(n) == count && low <= n && n <= high {
+        units.pass_octets(1 + count);
+        return Some(n);
+    }
+    None
 }
 
 /// Reads a length from `low` to `high`, octet by octet.
@@ -291,7 +334,33 @@ fn read_length_by_octets(low: u64, high: u64, units: &mut BitCursor<'_>) -> Resu
 /// # Errors
 /// `Short` if the octets end before the last one does. `Refused` at the first octet after which no such numbers can
 /// follow, with the reason `in_zeros` in the zeros, else `Extension`.
+#[inline(always)]
 pub fn read_filled(
+    marks: u32,
+    most: u64,
+    count: u32,
+    low: u64,
+    in_zeros: Why,
+    units: &mut BitCursor<'_>,
+) -> Result<(u64, u64), Stop>
+    requires at_octet { AtOctet units.old }
+    requires mark { marks ≤ 1 }
+    requires marks_hold { most < 2 ^ marks }
+    requires few { count ≤ 64 }
+    requires some { low < 2 ^ count }
+    ensures at_octet { OnOk result (AtOctet units.new) }
+    ensures done { IfOk result (λ p. ReadsOctets (FilledFields marks most count low) p units.old units.new) }
+    ensures stop { IfErr result (λ why. StopsAtOctets (FilledFields marks most count low) units.old why) }
+{
+    match try_filled(marks, most, count, low, units) {
+        Some(numbers) => Ok(numbers),
+        None => read_long_filled(marks, most, count, low, in_zeros, units),
+    }
+}
+
+/// The same, where the numbers are more than one octet holds, or are not such.
+#[inline(never)]
+fn read_long_filled(
     marks: u32,
     most: u64,
     count: u32,
@@ -313,6 +382,43 @@ pub fn read_filled(
         Ok(numbers) => Ok(numbers),
         Err(stop) => Err(in_octets(stop)),
     }
+}
+
+/// Fast path: the same, where one octet at hand has them all, or none does; otherwise takes nothing.
+#[inline(always)]
+fn try_filled(
+    marks: u32,
+    most: u64,
+    count: u32,
+    low: u64,
+    units: &mut BitCursor<'_>,
+) -> Option<(u64, u64)>
+    requires at_octet { AtOctet units.old }
+    requires mark { marks ≤ 1 }
+    requires marks_hold { most < 2 ^ marks }
+    requires few { count ≤ 64 }
+    requires some { low < 2 ^ count }
+    ensures at_octet { AtOctet units.new }
+    ensures done { IfSome result (λ p. ReadsOctets (FilledFields marks most count low) p units.old units.new) }
+    ensures unchanged { IsNone result → units.new ≡ units.old }
+{
+    let width = marks + count;
+    if width == 0 {
+        return Some((0, 0));
+    }
+    if 8 < width {
+        return None;
+    }
+    let octet = units.peek_octet()?;
+    let zeros = 8 - width;
+    let both = octet >> zeros;
+    let mark = both >> count;
+    let number = both & greatest_of_width(count);
+    if octet & greatest_of_width(zeros) == 0 && mark <= most && low <= number {
+        units.pass_octets(1);
+        return Some((mark, number));
+    }
+    None
 }
 
 /// The same, where bits are counted.
@@ -376,8 +482,7 @@ pub fn read_row(alloc: Global, count: usize, units: &mut BitCursor<'_>) -> Resul
     if octets_left(units) < count {
         return Err(Stop::Short);
     }
-    let mut octets = Vec::new(alloc);
-    units.take_octets(count, &mut octets)?;
+    let octets = units.take_row(alloc, count)?;
     Ok(octets)
 }
 

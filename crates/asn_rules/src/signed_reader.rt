@@ -10,10 +10,12 @@ ghost use Rattle.asn_rules.specs.OffsetSets.{HasOffset, IsOpen, IsRaised, ReadsO
 ghost use Rattle.asn_rules.specs.PlainReading.{StopsPlain};
 
 use crate::fault::Why;
-use crate::number_reader::{NumberSet, read_number, read_number_among};
+use crate::number_reader::{NumberSet, peek_in_octets, read_number, read_number_among};
 use crate::stop::Stop;
+use crate::whole_number_reader::{greatest_of_width, power_of_two};
+use asn_bits::internal::{at_offset, signed_octet_count};
 use asn_bits::{BitCursor, Intervals};
-use asn_values::profile::OFFSET_OF_ZERO;
+use asn_values::profile::{LOWEST_INTEGER, OFFSET_OF_ZERO};
 
 /// Integers by their offsets, how far they lie above the lowest one of the profile: the offsets from `start` to those
 /// below `below`, and those from `from` on, all below `end`.
@@ -31,7 +33,52 @@ pub struct OffsetSet {
 /// # Errors
 /// `Short` if the bits end before the integer does. `Refused` at the first bit after which no integer of the set
 /// can follow, with the reason `in_count` in the octet of the count and `in_number` after it.
+#[inline(always)]
 pub fn read_unconstrained(
+    set: OffsetSet,
+    in_count: Why,
+    in_number: Why,
+    bits: &mut BitCursor<'_>,
+) -> Result<u64, Stop>
+    requires gap { IsOpen set }
+    requires some { (w : ℕ) × HasOffset set w }
+    ensures done { ReadsOffset (UnconstrainedIn set) result bits.old bits.new }
+    ensures stop { StopsPlain (UnconstrainedIn set) result bits.old }
+{
+    match try_unconstrained(set, bits) {
+        Some(offset) => Ok(offset),
+        None => read_unconstrained_by_parts(set, in_count, in_number, bits),
+    }
+}
+
+/// Fast path: an integer of the set, in the fewest octets of two's complement after their count in an octet, where the
+/// bits left begin with an octet, eight octets are left, and it needs fewer than eight; otherwise takes nothing. Returns
+/// its offset.
+#[inline(always)]
+pub(crate) fn try_unconstrained(set: OffsetSet, bits: &mut BitCursor<'_>) -> Option<u64>
+    ensures done { (R : Fielding) → IfSome result (λ w.
+        Spells R (UnconstrainedIn set) (lowest_integer +ℤ pos w) bits.old bits.new) }
+    ensures unchanged { IsNone result → bits.new ≡ bits.old }
+{
+    let first = bits.peek_octet()?;
+    if first == 0 || 7 < first {
+        return None;
+    }
+    let count = first as u32;
+    let all = bits.peek_octets(1 + count)?;
+    let offset = offset_of(count, all & greatest_of_width(8 * count));
+    let fewest = signed_octet_count(at_offset(LOWEST_INTEGER, offset));
+    let same = all >> (8 * count) == first;
+    if same && fewest == count && has_offset(set, u128::from(offset)) {
+        bits.pass_octets(1 + count);
+        return Some(offset);
+    }
+    None
+}
+
+/// The same, its count first and then the number.
+#[inline(never)]
+fn read_unconstrained_by_parts(
     set: OffsetSet,
     in_count: Why,
     in_number: Why,
@@ -105,10 +152,10 @@ pub(crate) fn try_signed(count: u32, set: OffsetSet, bits: &mut BitCursor<'_>) -
         Spells R (SignedIn count set) (lowest_integer +ℤ pos w) bits.old bits.new) }
     ensures unchanged { IsNone result → bits.new ≡ bits.old }
 {
-    let number = bits.peek_number(8 * count)?;
+    let number = peek_in_octets(count, bits)?;
     let offset = offset_of(count, number);
     if has_offset(set, u128::from(offset)) {
-        bits.pass(8 * count);
+        bits.pass_octets(count);
         return Some(offset);
     }
     None
@@ -271,11 +318,10 @@ fn offset_of(count: u32, number: u64) -> u64
     requires fits { number < 256 ^ count }
     ensures { lowest_integer +ℤ pos result ≡ signed_number (count, number) }
 {
-    let number = u128::from(number);
-    let weight = sign_weight(count);
+    let weight = power_of_two(8 * count - 1);
     if number < weight {
-        (OFFSET_OF_ZERO + number) as u64
+        (OFFSET_OF_ZERO + u128::from(number)) as u64
     } else {
-        (OFFSET_OF_ZERO + number - 2 * weight) as u64
+        number - weight + (power_of_two(63) - weight)
     }
 }

@@ -1,5 +1,5 @@
 -- Below 0, what is left of the numbers that the octets hold.
-use Rattle.std.proofs.Common.{◌≡◌, ◌≤◌, ◌<◌, ◌-◌, ◌*◌, ◌/◌, ◌^◌, ap, sym, ◌∙◌, arith}
+use Rattle.std.proofs.Common.{◌≡◌, ◌-◌, ◌*◌, ◌/◌, ◌^◌, ap, sym, ◌∙◌, arith}
 use Rattle.asn_bits.specs.Numbers.{octets, magnitude}
 use Rattle.asn_bits.proofs.Above.{kept}
 use Rattle.asn_bits.proofs.Octets.{half, residue_below}

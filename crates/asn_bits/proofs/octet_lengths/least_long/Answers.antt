@@ -1,4 +1,4 @@
-use Rattle.std.proofs.Common.{sym, ◌∙◌, arith}
+use Rattle.std.proofs.Common.{◌∙◌, arith}
 use Rattle.asn_bits.proofs.LengthsInOctets.{least_more, least_room}
 use Rattle.asn_bits.proofs.octet_lengths.least_long.Goals as goal
 

@@ -8,15 +8,15 @@ pub returns-then-octets_left-count-clause-stop : goal.returns-then-octets_left-c
 returns-then-octets_left-count-clause-stop c =
     record { told = row_short c.args.count c.args.units.now c.octets_left.ensures.bits (omega (arith, c.octets_left.ensures.count, c.if-octets_left-count.true)) }
 
-pub take_octets-requires : goal.take_octets-requires
-take_octets-requires c = omega (arith, length-packed c.args.units.now c.requires.at_octet, c.octets_left.ensures.count, c.if-octets_left-count.false)
+pub take_row-requires : goal.take_row-requires
+take_row-requires c = omega (arith, length-packed c.args.units.now c.requires.at_octet, c.octets_left.ensures.count, c.if-octets_left-count.false)
 
 pub returns-clause-at_octet : goal.returns-clause-at_octet
 returns-clause-at_octet c =
-    let t : Taken c.args.count c.args.units.now c.take_octets.new.self [] c.take_octets.new.into.items = rw c.new-octets.ensures.items at c.in_ok-take_octets.ensures.ok in
-    row_whole c.args.count c.args.units.now c.take_octets.new.self c.take_octets.new.into.items c.requires.at_octet t
+    let t : Taken c.args.count c.args.units.now c.take_row.new.self [] c.in_ok-octets.octets.items = c.in_ok-octets.ensures.ok in
+    row_whole c.args.count c.args.units.now c.take_row.new.self c.in_ok-octets.octets.items c.requires.at_octet t
 
 pub returns-clause-done : goal.returns-clause-done
 returns-clause-done c =
-    let t : Taken c.args.count c.args.units.now c.take_octets.new.self [] c.take_octets.new.into.items = rw c.new-octets.ensures.items at c.in_ok-take_octets.ensures.ok in
-    row_taken c.args.count c.args.units.now c.take_octets.new.self c.take_octets.new.into.items t
+    let t : Taken c.args.count c.args.units.now c.take_row.new.self [] c.in_ok-octets.octets.items = c.in_ok-octets.ensures.ok in
+    row_taken c.args.count c.args.units.now c.take_row.new.self c.in_ok-octets.octets.items t

@@ -1,4 +1,4 @@
-use Rattle.std.proofs.Common.{◌≡◌, ◌++◌, ◌∷◌, [], List, ℕ, subst}
+use Rattle.std.proofs.Common.{◌≡◌, ◌++◌, ◌∷◌, [], ℕ, subst}
 use Rattle.asn_bits.specs.Lengths.{octet_length}
 use Rattle.asn_bits.specs.Ranges.{Spanned}
 use Rattle.asn_bits.specs.LengthStates.{spans}

@@ -7,7 +7,7 @@ use Rattle.asn_rules.proofs.Leads.{stops_by}
 use Rattle.asn_rules.specs.NumberSets.{Admits}
 use Rattle.asn_rules.specs.OffsetSets.{UnconstrainedIn}
 use Rattle.asn_rules.proofs.SignedReading.{signed_counts, stops_at_count, leads_to_number, some_number}
-use Rattle.asn_rules.proofs.signed_reader.read_unconstrained.Goals as goal
+use Rattle.asn_rules.proofs.signed_reader.read_unconstrained_by_parts.Goals as goal
 
 pub returns-in_err-count-clause-stop : goal.returns-in_err-count-clause-stop
 returns-in_err-count-clause-stop c R =

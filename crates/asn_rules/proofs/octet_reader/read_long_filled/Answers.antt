@@ -1,7 +1,7 @@
 use Rattle.asn_rules.specs.Fields.{octet_fields}
 use Rattle.asn_rules.proofs.FilledReading.{filled_in_octets}
 use Rattle.asn_rules.proofs.Octetwise.{spells_octets, spells_whole, stops_octets}
-use Rattle.asn_rules.proofs.octet_reader.read_filled.Goals as goal
+use Rattle.asn_rules.proofs.octet_reader.read_long_filled.Goals as goal
 
 pub returns-in-Ok-clause-at_octet : goal.returns-in-Ok-clause-at_octet
 returns-in-Ok-clause-at_octet c = spells_whole (filled_in_octets c.args.marks c.args.most c.args.count c.args.low c.requires.marks_hold c.requires.some) octet_fields c.in-Ok.ensures.done c.requires.at_octet

@@ -79,7 +79,7 @@ impl NumberField {
 
 /// The number in the next `k` bits, where it is one of the set. `None` exactly where fewer bits are
 /// left or their number is none of the set, and then all of them stay.
-pub fn take_of(numbers: &Intervals, k: u32, bits: &mut BitCursor<'_>) -> Option<u64>
+pub fn try_number_of(numbers: &Intervals, k: u32, bits: &mut BitCursor<'_>) -> Option<u64>
     requires { k ≤ 64 }
     ensures some { IfSome result (λ n. StandsFirst k (λ m. Among numbers.now m) n bits.old bits.new) }
     ensures none { IsNone result → (n : ℕ) (rest : List ℕ) →

@@ -14,7 +14,7 @@ use Rattle.asn_rules.specs.CodecLaws.{Encoded}
 use Rattle.asn_rules.specs.Laws.{AreOctets, RulesLaws}
 use Rattle.asn_rules.specs.declared.fault.DecodeFault.{DecodeFault}
 use Rattle.asn_rules.specs.declared.fault.DecodeFault.TheVariants as decode
-use Rattle.asn_rules.proofs.CodecLaws.{decodes_encoded}
+use Rattle.asn_rules.proofs.Answer.CodecLaws.{decodes_encoded}
 use Rattle.asn_convert.specs.declared.conversion.ConvertFault.{ConvertFault}
 use Rattle.asn_convert.specs.declared.conversion.ConvertFault.TheVariants as fault
 use Rattle.asn_convert.specs.Converted.{Converts, Converted, GivesUnlessMemory, TurnsBack}

@@ -12,7 +12,7 @@ use Rattle.asn_rules.specs.Codec.{Decoded}
 use Rattle.asn_rules.specs.Laws.{AreOctets}
 use Rattle.asn_rules.specs.declared.fault.DecodeFault.{DecodeFault}
 use Rattle.asn_rules.specs.declared.fault.DecodeFault.TheVariants as decode
-use Rattle.asn_rules.proofs.CodecLaws.{each_octet, decodes_encoded}
+use Rattle.asn_rules.proofs.Answer.CodecLaws.{each_octet, decodes_encoded}
 use Rattle.asn_per.specs.Rules.{per_ruling, IsPerEncoding}
 use Rattle.asn_walk_read.proofs.Decoding.{take_all}
 use Rattle.asn_per.proofs.Encodings.Whole.{per_laws}

@@ -12,6 +12,7 @@ mod limits;
 mod newer;
 mod no_octets;
 mod number_reader;
+mod octet_length_reader;
 mod octet_reader;
 mod octet_strings;
 mod octet_writer;

@@ -10,7 +10,7 @@ ghost use Rattle.asn_rules.specs.PlainReading.{ReadsPlain, StopsPlain};
 
 use crate::fault::Why;
 use crate::stop::Stop;
-use asn_bits::internal::take_of;
+use asn_bits::internal::try_number_of;
 use asn_bits::{BitCursor, FieldState, Intervals, NumberField};
 
 /// The numbers from `low` to `high`, but for `excluded`.
@@ -121,7 +121,7 @@ pub fn read_number_among(
     ensures member { IfOk result (λ n. Among numbers n) }
     ensures stop { StopsPlain (NumberAmong k numbers) result bits.old }
 {
-    match take_of(&numbers, k, bits) {
+    match try_number_of(&numbers, k, bits) {
         Some(n) => Ok(n),
         None => read_number_by_bits(k, numbers, why, bits),
     }

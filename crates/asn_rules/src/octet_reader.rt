@@ -1,13 +1,13 @@
 //! Readers of whole octets, each refused at the first octet after which nothing that it reads can follow: numbers in a
-//! fixed count of octets and after their count, lengths, bits that zeros fill up, and octets in a row.
+//! fixed count of octets and after their count, bits that zeros fill up, and octets in a row.
 ghost use Rattle.std.specs.Prelude.{◌≡◌, ◌≤◌, ◌*◌, IfOk, IfErr, OnOk, IfSome, IsNone, length, ℕ, pos, ◌+ℤ◌, ◌<◌, ◌+◌, ◌^◌, ◌%◌, ◌-◌};
 ghost use Rattle.asn_values.specs.Fits.{lowest_integer};
 ghost use Rattle.asn_bits.specs.Numbers.{packed};
-ghost use Rattle.asn_bits.specs.Sets.{AreBits, Meets, Among, Between};
+ghost use Rattle.asn_bits.specs.Sets.{AreBits, Meets, Among};
 ghost use Rattle.asn_rules.specs.NumberSets.{Admits, NumberIn};
 ghost use Rattle.asn_rules.specs.PlainReading.{ReadsPlain, StopsPlain};
 ghost use Rattle.asn_rules.specs.OffsetSets.{HasOffset, IsOpen, StandsFor};
-ghost use Rattle.asn_rules.specs.Fields.{OctetLength, OctetsAfterLength, OneOctet, octet_fields};
+ghost use Rattle.asn_rules.specs.Fields.{OneOctet, octet_fields};
 ghost use Rattle.asn_rules.specs.Languages.{Row, Spells};
 ghost use Rattle.asn_rules.specs.Stops.{Stops};
 ghost use Rattle.asn_rules.specs.OctetReading.{AtOctet, ReadsOctets, StopsAtOctets, counted_in_octets, OctetsIn, OctetsAmong, AreWithCount, AreTrimmed, CountedIn, CountedSignedIn, SignedOctetsIn, FilledFields, FilledBits, from_to};
@@ -18,7 +18,7 @@ use crate::signed_reader::{OffsetSet, read_signed, read_unconstrained, try_signe
 use crate::stop::Stop;
 use crate::whole_number_reader::{greatest_of_width, greatest_with, least_with};
 use asn_bits::internal::octet_count;
-use asn_bits::{BitCursor, Counts, FieldState, Intervals, OctetLengths};
+use asn_bits::{BitCursor, Intervals};
 use std::alloc::Global;
 
 /// How many octets are left.
@@ -233,101 +233,6 @@ pub fn try_signed_octets(count: u32, set: OffsetSet, units: &mut BitCursor<'_>) 
     Some(offset)
 }
 
-/// Reads a length from `low` to `high` (X.696, "length determinant"): in one step if one octet tells it.
-///
-/// # Errors
-/// `Short` if the octets end before the length does. `Refused`, with the reason `Length`, at the first octet after
-/// which no such length can follow.
-#[inline(always)]
-pub fn read_length(low: u64, high: u64, units: &mut BitCursor<'_>) -> Result<u64, Stop>
-    requires at_octet { AtOctet units.old }
-    requires ordered { low ≤ high }
-    requires narrow { high < 2 ^ 32 }
-    ensures at_octet { OnOk result (AtOctet units.new) }
-    ensures within { IfOk result (λ n. Between low high n) }
-    ensures done { IfOk result (λ n. ReadsOctets (OctetLength (Between low high)) n units.old units.new) }
-    ensures stop { IfErr result (λ why. StopsAtOctets (OctetLength (Between low high)) units.old why) }
-{
-    if let Some(n) = try_length(low, high, units) {
-        return Ok(n);
-    }
-    if let Some(n) = try_long_length(low, high, units) {
-        return Ok(n);
-    }
-    read_length_by_octets(low, high, units)
-}
-
-/// Fast path: a length from `low` to `high` that one octet tells, where it is at hand; otherwise takes nothing.
-#[inline(always)]
-fn try_length(low: u64, high: u64, units: &mut BitCursor<'_>) -> Option<u64>
-    requires at_octet { AtOctet units.old }
-    requires narrow { high < 2 ^ 32 }
-    ensures at_octet { AtOctet units.new }
-    ensures within { IfSome result (λ n. Between low high n) }
-    ensures done { IfSome result (λ n. ReadsOctets (OctetLength (Between low high)) n units.old units.new) }
-    ensures unchanged { IsNone result → units.new ≡ units.old }
-{
-    let n = try_in_octets(1, numbers(low, high.min(127)), units)?;
-    Some(n)
-}
-
-/// Fast path: a length from `low` to `high` in one to four octets after the first one, where eight octets are left;
-/// otherwise takes nothing.
-#[inline(always)]
-fn try_long_length(low: u64, high: u64, units: &mut BitCursor<'_>) -> Option<u64>
-    requires at_octet { AtOctet units.old }
-    requires narrow { high < 2 ^ 32 }
-    ensures at_octet { AtOctet units.new }
-    ensures within { IfSome result (λ n. Between low high n) }
-    ensures done { IfSome result (λ n. ReadsOctets (OctetLength (Between low high)) n units.old units.new) }
-    ensures unchanged { IsNone result → units.new ≡ units.old }
-{
-    let first = units.peek_octet()?;
-    if first <= 128 || 132 < first {
-        return None;
-    }
-    let count = first as u32 - 128;
-    let all = units.peek_octets(1 + count)?;
-    let n = all & greatest_of_width(8 * count);
-    let same = all >> (8 * count) == first;
-    if same && 128 <= n && octet_count(n) == count && low <= n && n <= high {
-        units.pass_octets(1 + count);
-        return Some(n);
-    }
-    None
-}
-
-/// Reads a length from `low` to `high`, octet by octet.
-#[inline(never)]
-fn read_length_by_octets(low: u64, high: u64, units: &mut BitCursor<'_>) -> Result<u64, Stop>
-    requires at_octet { AtOctet units.old }
-    requires ordered { low ≤ high }
-    requires narrow { high < 2 ^ 32 }
-    ensures at_octet { OnOk result (AtOctet units.new) }
-    ensures within { IfOk result (λ n. Between low high n) }
-    ensures done { IfOk result (λ n. ReadsOctets (OctetLength (Between low high)) n units.old units.new) }
-    ensures stop { IfErr result (λ why. StopsAtOctets (OctetLength (Between low high)) units.old why) }
-{
-    let counts = Counts {
-        low: low as u32,
-        high: high as u32,
-    };
-    let mut lengths = OctetLengths::new(counts, None);
-    while let Some(octet) = units.take_number(8) {
-        match lengths.octet(octet as u8) {
-            FieldState::Alive => {}
-            FieldState::Number(n) => return Ok(n),
-            FieldState::Dead => {
-                return Err(Stop::Refused {
-                    left: octets_left(units) as u128,
-                    why: Why::Length,
-                });
-            }
-        }
-    }
-    Err(Stop::Short)
-}
-
 /// Reads a number up to `most` in `marks` bits and one from `low` on in `count` bits, and the zeros that fill up the
 /// last octet.
 ///
@@ -459,7 +364,7 @@ fn read_from(k: u32, low: u64, units: &mut BitCursor<'_>) -> Result<u64, Stop>
 }
 
 /// The numbers from `low` to `high`.
-fn numbers(low: u64, high: u64) -> NumberSet
+pub(crate) fn numbers(low: u64, high: u64) -> NumberSet
     ensures { result ≡ from_to low high }
 {
     NumberSet {
@@ -484,25 +389,4 @@ pub fn read_row(alloc: Global, count: usize, units: &mut BitCursor<'_>) -> Resul
     }
     let octets = units.take_row(alloc, count)?;
     Ok(octets)
-}
-
-/// Reads octets after their length, which is from `low` to `high`.
-///
-/// # Errors
-/// As `read_length`, and `read_row` for the octets.
-pub fn read_octets_with_length(
-    alloc: Global,
-    low: u64,
-    high: u64,
-    units: &mut BitCursor<'_>,
-) -> Result<Vec<u8>, Stop>
-    requires at_octet { AtOctet units.old }
-    requires ordered { low ≤ high }
-    requires narrow { high < 2 ^ 32 }
-    ensures at_octet { OnOk result (AtOctet units.new) }
-    ensures done { IfOk result (λ os. ReadsOctets (OctetsAfterLength (Between low high)) os.items units.old units.new) }
-    ensures stop { IfErr result (λ why. StopsAtOctets (OctetsAfterLength (Between low high)) units.old why) }
-{
-    let count = read_length(low, high, units)?;
-    read_row(alloc, count as usize, units)
 }

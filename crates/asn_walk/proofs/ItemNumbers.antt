@@ -15,7 +15,7 @@ use Rattle.asn_values.specs.View.{label_of}
 use Rattle.asn_values.proofs.Parts.{left_false}
 use Rattle.asn_bits.specs.Numbers.{magnitude}
 use Rattle.asn_rules.specs.Components.{number_at}
-use Rattle.asn_rules.proofs.Items.{good_items, numbers}
+use Rattle.asn_rules.proofs.Law.Items.{good_items, numbers}
 
 -- a number of 32 bits
 small_magnitude : (z : ℤ) → is_not_32_bits z ≡ false → magnitude z < 2147483648

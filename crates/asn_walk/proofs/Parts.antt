@@ -21,10 +21,10 @@ use Rattle.asn_values.proofs.Views.{choice_of_alternatives, sequence_of_fields}
 use Rattle.asn_rules.specs.Chunks.{Chunk, flat}
 use Rattle.asn_rules.specs.Languages.{Lawful, Inhabited, SomeContent}
 use Rattle.asn_rules.specs.Reading.{Holds}
-use Rattle.asn_rules.proofs.Chunks.{FieldsPart}
-use Rattle.asn_rules.proofs.Parts.{sealed_lawful, sealed_inhabited}
-use Rattle.asn_rules.proofs.PartingFields.{fields_part}
-use Rattle.asn_rules.proofs.SomeValue.{a_value}
+use Rattle.asn_rules.proofs.Live.Chunks.{FieldsPart}
+use Rattle.asn_rules.proofs.Languages.Parts.{sealed_lawful, sealed_inhabited}
+use Rattle.asn_rules.proofs.Law.PartingFields.{fields_part}
+use Rattle.asn_rules.proofs.Law.SomeValue.{a_value}
 use Rattle.asn_walk.specs.Coding.{Coding, OpenOf, IsIndexWithin, AreFew, added_alternatives}
 use Rattle.asn_walk.specs.Laws.{Laws}
 use Rattle.asn_walk.specs.Views.{index_seen}

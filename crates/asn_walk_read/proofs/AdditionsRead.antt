@@ -15,10 +15,10 @@ use Rattle.asn_rules.specs.Chunks.{Chunk}
 use Rattle.asn_rules.specs.General.{after_first}
 use Rattle.asn_rules.specs.Live.{Fielding}
 use Rattle.asn_rules.specs.Languages.{Spells, Inhabited, Then, Map, prepended}
-use Rattle.asn_rules.proofs.Leads.{LeadsStops, Leads, leads_here, leads_on, leads_map, leads_second, stops_first, stops_on}
-use Rattle.asn_rules.proofs.ListedReading.{leads_entry, nothing_read}
-use Rattle.asn_rules.proofs.Parts.{map_inhabited, map_lawful, map_source, map_spells, nothing_inhabited}
-use Rattle.asn_rules.proofs.Then.{Follows, then_inhabited}
+use Rattle.asn_rules.proofs.Languages.Leads.{LeadsStops, Leads, leads_here, leads_on, leads_map, leads_second, stops_first, stops_on}
+use Rattle.asn_rules.proofs.Components.ListedReading.{leads_entry, nothing_read}
+use Rattle.asn_rules.proofs.Languages.Parts.{map_inhabited, map_lawful, map_source, map_spells, nothing_inhabited}
+use Rattle.asn_rules.proofs.Languages.Then.{Follows, then_inhabited}
 use Rattle.asn_walk.specs.Coding.{Coding, AdditionBitmapOf, OpenOf, OpenListed, AdditionsOf}
 use Rattle.asn_walk.specs.Laws.{Laws}
 use Rattle.asn_walk.specs.Reading.{After}

@@ -12,9 +12,9 @@ use Rattle.asn_values.proofs.Alternatives.{shape_of_branch}
 use Rattle.asn_values.specs.Parts.{AreAllOfProfile}
 use Rattle.asn_rules.specs.Languages.{Spells, Then, Inhabited}
 use Rattle.asn_rules.specs.Listed.{Spelt}
-use Rattle.asn_rules.proofs.Leads.{LeadsStops, Leads, leads_here, leads_on, leads_map, leads_same, leads_second, stops_first, stops_on}
-use Rattle.asn_rules.proofs.Listed.{spelt_inhabited}
-use Rattle.asn_rules.proofs.Then.{Follows}
+use Rattle.asn_rules.proofs.Languages.Leads.{LeadsStops, Leads, leads_here, leads_on, leads_map, leads_same, leads_second, stops_first, stops_on}
+use Rattle.asn_rules.proofs.Components.Listed.{spelt_inhabited}
+use Rattle.asn_rules.proofs.Languages.Then.{Follows}
 use Rattle.asn_walk.specs.Coding.{Coding, OpenOf, AreFew, IndexOf, IsIndexWithin, ChosenOf, ChosenBy, chosen_value, added_alternatives}
 use Rattle.asn_walk.specs.Laws.{Laws}
 use Rattle.asn_walk.specs.Views.{index_seen}

@@ -12,7 +12,7 @@ use Rattle.asn_rules.specs.Answer.{Answer, done, refused, too_long, more, max_oc
 use Rattle.asn_rules.specs.Chunks.{Chunk, flat}
 use Rattle.asn_rules.specs.Languages.{Spells, Short, Refused}
 use Rattle.asn_rules.specs.Reading.{Wholes, ReadingsAnswer}
-use Rattle.asn_rules.proofs.Reading.{readings_answer}
+use Rattle.asn_rules.proofs.Answer.Reading.{readings_answer}
 use Rattle.asn_walk.specs.Coding.{Coding}
 use Rattle.asn_walk.specs.Laws.{Laws}
 use Rattle.asn_walk_read.proofs.OpenRead.{left_fewer}

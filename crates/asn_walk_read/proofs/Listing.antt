@@ -14,16 +14,16 @@ use Rattle.asn_rules.specs.Forks.{Branch, Fork, Same}
 use Rattle.asn_rules.specs.General.{Length, fragment, after_first, Few, Many, Left, Blocks, Header, General}
 use Rattle.asn_rules.specs.Stops.{Stops}
 use Rattle.asn_rules.specs.declared.stop.Stop.{Stop}
-use Rattle.asn_rules.proofs.Chunks.{FieldsPart}
-use Rattle.asn_rules.proofs.Leads.{LeadsStops, Leads, leads_here, leads_on, leads_map, leads_second, leads_same, stops_on, stops_first, stops_by}
-use Rattle.asn_rules.proofs.Exits.{leads_last, leads_rest, stops_length, stops_fragment, stops_next}
-use Rattle.asn_rules.proofs.Forks.{same_flip}
-use Rattle.asn_rules.proofs.General.{general_inhabited}
-use Rattle.asn_rules.proofs.Headers.{header_tells}
-use Rattle.asn_rules.proofs.Parts.{map_source, map_spells, nothing_inhabited, nothing_spells}
-use Rattle.asn_rules.proofs.Ranges.{general_left}
-use Rattle.asn_rules.proofs.Rows.{row_inhabited, row_starts, row_spells, row_one}
-use Rattle.asn_rules.proofs.Then.{Follows}
+use Rattle.asn_rules.proofs.Live.Chunks.{FieldsPart}
+use Rattle.asn_rules.proofs.Languages.Leads.{LeadsStops, Leads, leads_here, leads_on, leads_map, leads_second, leads_same, stops_on, stops_first, stops_by}
+use Rattle.asn_rules.proofs.Languages.Exits.{leads_last, leads_rest, stops_length, stops_fragment, stops_next}
+use Rattle.asn_rules.proofs.Languages.Forks.{same_flip}
+use Rattle.asn_rules.proofs.Numbers.General.{general_inhabited}
+use Rattle.asn_rules.proofs.Numbers.Headers.{header_tells}
+use Rattle.asn_rules.proofs.Languages.Parts.{map_source, map_spells, nothing_inhabited, nothing_spells}
+use Rattle.asn_rules.proofs.Numbers.Ranges.{general_left}
+use Rattle.asn_rules.proofs.Languages.Rows.{row_inhabited, row_starts, row_spells, row_one}
+use Rattle.asn_rules.proofs.Languages.Then.{Follows}
 use Rattle.asn_walk.specs.Ahead.{Ahead, items, lengths, end, Remaining, SomeAhead, Advances, Next, StopsNext}
 use Rattle.asn_walk.specs.Coding.{Coding, ListingOf, ListsOf}
 use Rattle.asn_walk.specs.Laws.{Laws, IsSizeOfProfile}

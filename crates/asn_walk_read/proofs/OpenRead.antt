@@ -16,12 +16,12 @@ use Rattle.asn_rules.specs.Reading.{Wholes}
 use Rattle.asn_rules.specs.Stops.{Stops}
 use Rattle.asn_rules.specs.declared.stop.Stop.{Stop}
 use Rattle.asn_rules.specs.declared.stop.Stop.TheVariants as stop
-use Rattle.asn_rules.proofs.Exits.{stops_field, stops_padded, leads_fill}
-use Rattle.asn_rules.proofs.Fields.{field_spells, field_refused_content}
-use Rattle.asn_rules.proofs.Headed.{plain_front}
-use Rattle.asn_rules.proofs.Leads.{LeadsStops, Leads, leads_on, leads_same, stops_on}
-use Rattle.asn_rules.proofs.Listed.{spelt_lawful}
-use Rattle.asn_rules.proofs.OpenFields.{holds_whole, holds_no_less, holds_none, holds_no_more}
+use Rattle.asn_rules.proofs.Languages.Exits.{stops_field, stops_padded, leads_fill}
+use Rattle.asn_rules.proofs.Sealed.Fields.{field_spells, field_refused_content}
+use Rattle.asn_rules.proofs.Sealed.Headed.{plain_front}
+use Rattle.asn_rules.proofs.Languages.Leads.{LeadsStops, Leads, leads_on, leads_same, stops_on}
+use Rattle.asn_rules.proofs.Components.Listed.{spelt_lawful}
+use Rattle.asn_rules.proofs.Sealed.OpenFields.{holds_whole, holds_no_less, holds_none, holds_no_more}
 use Rattle.asn_walk.specs.Coding.{Coding, OpenOf}
 use Rattle.asn_walk.specs.Laws.{Laws}
 use Rattle.asn_walk.proofs.Parts.{fields_part_of, some_held}

@@ -11,11 +11,11 @@ use Rattle.asn_bits.proofs.Octets.{length-digits}
 use Rattle.asn_rules.specs.Chunks.{Chunk}
 use Rattle.asn_rules.specs.Languages.{Spells, Inhabited, Lawful, Then, Map, Nothing}
 use Rattle.asn_rules.specs.Listed.{Spelt, Listed, bitmap_length}
-use Rattle.asn_rules.proofs.Leads.{LeadsStops, Leads, leads_on, leads_map, leads_same, leads_second, stops_first, stops_on}
-use Rattle.asn_rules.proofs.Listed.{listed_inhabited, listed_lawful}
-use Rattle.asn_rules.proofs.ListedReading.{nothing_read}
-use Rattle.asn_rules.proofs.Parts.{map_source, nothing_inhabited}
-use Rattle.asn_rules.proofs.Then.{Follows, then_inhabited}
+use Rattle.asn_rules.proofs.Languages.Leads.{LeadsStops, Leads, leads_on, leads_map, leads_same, leads_second, stops_first, stops_on}
+use Rattle.asn_rules.proofs.Components.Listed.{listed_inhabited, listed_lawful}
+use Rattle.asn_rules.proofs.Components.ListedReading.{nothing_read}
+use Rattle.asn_rules.proofs.Languages.Parts.{map_source, nothing_inhabited}
+use Rattle.asn_rules.proofs.Languages.Then.{Follows, then_inhabited}
 use Rattle.asn_walk.specs.Coding.{Coding, CanExtend, added, PreambleOf, AdditionsOf, AddedOf, absent_entries, sequence_told, SequencesOf}
 use Rattle.asn_walk.specs.Laws.{Laws}
 use Rattle.asn_walk.specs.Reading.{After}

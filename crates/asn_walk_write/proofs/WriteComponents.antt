@@ -13,9 +13,9 @@ use Rattle.asn_values.specs.declared.types.Need.TheVariants as need
 use Rattle.asn_values.specs.declared.value.Value.{Value}
 use Rattle.asn_rules.specs.Chunks.{Chunk, ones, flat}
 use Rattle.asn_rules.specs.Components.{is_default, is_spelled}
-use Rattle.asn_rules.proofs.Entries.{default_is}
-use Rattle.asn_rules.proofs.Flat.{flat-append, flat-ones}
-use Rattle.asn_rules.proofs.ListedEach.{good_fits}
+use Rattle.asn_rules.proofs.Law.Entries.{default_is}
+use Rattle.asn_rules.proofs.Live.Flat.{flat-append, flat-ones}
+use Rattle.asn_rules.proofs.Components.ListedEach.{good_fits}
 use Rattle.asn_walk.specs.Coding.{Coding}
 use Rattle.asn_walk.specs.Composites.{each_code}
 use Rattle.asn_walk.specs.WriteLaws.{WriteLaws}

@@ -12,7 +12,7 @@ use Rattle.asn_values.specs.View.{datum_of}
 use Rattle.asn_bits.specs.Lengths.{joined}
 use Rattle.asn_bits.proofs.GeneralLengths.{all_take}
 use Rattle.asn_rules.specs.Chunks.{Chunk}
-use Rattle.asn_rules.proofs.SomeValue.{list_again}
+use Rattle.asn_rules.proofs.Law.SomeValue.{list_again}
 use Rattle.asn_walk.specs.Coding.{Coding}
 use Rattle.asn_walk.specs.WriteLaws.{WriteLaws}
 use Rattle.asn_walk.specs.Writing.{written, Writes, LeavesToWrite, Advances}

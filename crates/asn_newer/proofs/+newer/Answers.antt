@@ -17,7 +17,7 @@ use Rattle.asn_values.proofs.Parts.{components_of_profile}
 use Rattle.asn_values.proofs.Views.{datum_of-List, datum_of-Seq}
 use Rattle.asn_rules.specs.Languages.{Spells, Row}
 use Rattle.asn_rules.specs.Listed.{default_of}
-use Rattle.asn_rules.proofs.Parts.{map_spells, nothing_spells}
+use Rattle.asn_rules.proofs.Languages.Parts.{map_spells, nothing_spells}
 use Rattle.asn_walk.specs.Ahead.{Next}
 use Rattle.asn_walk.specs.Coding.{IsIndexWithin, IndexOf}
 use Rattle.asn_walk.specs.Reading.{Reads}

@@ -6,7 +6,7 @@ use Rattle.std.specs.List.{AllByRecursion}
 use Rattle.asn_values.specs.Datum.{Datum, item, Components, components, component_list, components_of, Elements, no_elements, element, elements, element_list, alternative}
 use Rattle.asn_values.specs.Shape.{Shape, boolean, null, integer, enumerated, bit_string, octet_string, restricted, utf8_string, sequence, sequence_of, choice, Label, MoreLabels, closed_labels, marked_labels, demands, Fields, no_fields, field, MoreFields, closed, marked, Alternatives, no_alternatives, one_of, MoreAlternatives, closed_choice, marked_choice, count}
 use Rattle.asn_values.specs.Fits.{Fits, FitsEach, FitsMore, FitsAlternative, FitsMoreAlternatives}
-use Rattle.asn_rules.proofs.Entries.{components_again}
+use Rattle.asn_rules.proofs.Law.Entries.{components_again}
 use Rattle.asn_newer.specs.Skipped.{Reading, Entries, nothing_skipped, item_skipped, entry_read, entry_left, sequence_read, list_read, alternative_read}
 use Rattle.asn_newer.specs.Loose.{LooseCoding}
 use Rattle.asn_newer.specs.Versions.{LabelVersions, MoreLabelVersions, Versions, FieldVersions, MoreVersions, AddedVersions, AlternativeVersions, MoreChoiceVersions, AddedAlternatives, received, entries_received, more_received, added_received, root_received, other_received, addition_received}

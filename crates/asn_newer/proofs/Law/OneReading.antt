@@ -16,8 +16,8 @@ use Rattle.asn_rules.specs.Chunks.{Chunk, open_field, flat}
 use Rattle.asn_rules.specs.Languages.{Spells, AllContents}
 use Rattle.asn_rules.specs.Listed.{bitmap_length}
 use Rattle.asn_rules.specs.Live.{Fielding}
-use Rattle.asn_rules.proofs.Chunks.{FieldsPart}
-use Rattle.asn_rules.proofs.Places.{contents_by_length}
+use Rattle.asn_rules.proofs.Live.Chunks.{FieldsPart}
+use Rattle.asn_rules.proofs.Live.Places.{contents_by_length}
 use Rattle.asn_walk.specs.Coding.{AreFew, IndexOf, absent_entries}
 use Rattle.asn_walk.proofs.Parts.{fields_part_of, few_indexes}
 use Rattle.asn_walk_read.proofs.Listing.{list_size}

@@ -10,8 +10,8 @@ use Rattle.asn_rules.specs.Live.{Fielding, IsContent}
 use Rattle.asn_rules.specs.Reading.{IsSealed, AllSealed}
 use Rattle.asn_rules.specs.Listed.{Spelt}
 use Rattle.asn_rules.specs.Spellings.{SpelledBy}
-use Rattle.asn_rules.proofs.Flat.{flat-ones}
-use Rattle.asn_rules.proofs.Listed.{spelt_lawful}
+use Rattle.asn_rules.proofs.Live.Flat.{flat-ones}
+use Rattle.asn_rules.proofs.Components.Listed.{spelt_lawful}
 use Rattle.asn_bits.proofs.Codes.{IsCode}
 use Rattle.asn_values.specs.Datum.{Datum}
 use Rattle.asn_values.specs.Fits.{Fits}
@@ -21,13 +21,13 @@ use Rattle.asn_walk.specs.Coding.{Coding}
 use Rattle.asn_walk.specs.Laws.{Laws}
 use Rattle.asn_walk.proofs.Parts.{fields_part_of}
 use Rattle.asn_bits.specs.Sets.{InSet}
-use Rattle.asn_rules.proofs.Chunks.{FieldsPart}
-use Rattle.asn_rules.proofs.Forks.{same_flip, same_spells}
-use Rattle.asn_rules.proofs.Fronts.{sealed-ones, sealed-append}
-use Rattle.asn_rules.proofs.General.{general_once}
-use Rattle.asn_rules.proofs.Headers.{header_lawful}
-use Rattle.asn_rules.proofs.Parts.{map_source, nothing_lawful}
-use Rattle.asn_rules.proofs.Then.{one_front, then_splits}
+use Rattle.asn_rules.proofs.Live.Chunks.{FieldsPart}
+use Rattle.asn_rules.proofs.Languages.Forks.{same_flip, same_spells}
+use Rattle.asn_rules.proofs.Live.Fronts.{sealed-ones, sealed-append}
+use Rattle.asn_rules.proofs.Numbers.General.{general_once}
+use Rattle.asn_rules.proofs.Numbers.Headers.{header_lawful}
+use Rattle.asn_rules.proofs.Languages.Parts.{map_source, nothing_lawful}
+use Rattle.asn_rules.proofs.Languages.Then.{one_front, then_splits}
 use Rattle.asn_walk.specs.Ahead.{Ahead, items, lengths, end, Remaining}
 use Rattle.asn_newer.specs.Ways.{OneWay}
 

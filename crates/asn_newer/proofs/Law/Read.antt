@@ -19,7 +19,7 @@ use Rattle.asn_bits.specs.Ranges.{Spanned, At}
 use Rattle.asn_rules.specs.General.{Length, last, fragment, Left, Body, Within}
 use Rattle.asn_rules.specs.Languages.{Row}
 use Rattle.asn_rules.specs.Listed.{Spelt, bitmap_length}
-use Rattle.asn_rules.proofs.Entries.{presence_bits, default_is}
+use Rattle.asn_rules.proofs.Law.Entries.{presence_bits, default_is}
 use Rattle.asn_walk.specs.Ahead.{Ahead, items, lengths, end, Remaining}
 use Rattle.asn_walk.specs.Coding.{Coding, ListingOf, CanExtend, IsIndexWithin, absent_entries}
 use Rattle.asn_walk.specs.Composites.{in_open_field, each_code, open_code, more_code, alternative_code, added_code, choice_parts}

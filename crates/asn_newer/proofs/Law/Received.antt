@@ -21,8 +21,8 @@ use Rattle.asn_rules.specs.Chunks.{Chunk}
 use Rattle.asn_rules.specs.General.{Length, last, fragment, Left, Body, Within}
 use Rattle.asn_rules.specs.Languages.{Map, Row}
 use Rattle.asn_rules.specs.Listed.{Spelt, bitmap_length}
-use Rattle.asn_rules.proofs.ListedEach.{good_fits}
-use Rattle.asn_rules.proofs.SomeValue.{a_value}
+use Rattle.asn_rules.proofs.Components.ListedEach.{good_fits}
+use Rattle.asn_rules.proofs.Law.SomeValue.{a_value}
 use Rattle.asn_walk.specs.Ahead.{Ahead, items, lengths, end, Remaining}
 use Rattle.asn_walk.specs.Coding.{Coding, ListingOf, IsIndexWithin, absent_entries}
 use Rattle.asn_walk.specs.Laws.{Laws}

@@ -10,8 +10,8 @@ use Rattle.asn_rules.specs.Languages.{Spells, Map}
 use Rattle.asn_rules.specs.Listed.{Spelt}
 use Rattle.asn_rules.specs.Live.{Fielding}
 use Rattle.asn_rules.specs.Spellings.{SpelledBy}
-use Rattle.asn_rules.proofs.Flat.{flat-ones}
-use Rattle.asn_rules.proofs.Parts.{map_source}
+use Rattle.asn_rules.proofs.Live.Flat.{flat-ones}
+use Rattle.asn_rules.proofs.Languages.Parts.{map_source}
 use Rattle.asn_walk.specs.Laws.{Laws}
 use Rattle.asn_newer.specs.Skipped.{Reading, nothing_skipped, item_skipped}
 use Rattle.asn_newer.specs.Loose.{LooseCoding, AnyItem}

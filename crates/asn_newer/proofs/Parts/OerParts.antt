@@ -11,7 +11,7 @@ use Rattle.asn_values.specs.Profile.{InProfile, BadEnumeration, is_rising, is_no
 use Rattle.asn_rules.specs.Chunks.{open_field, ones, flat}
 use Rattle.asn_rules.specs.Components.{number_at}
 use Rattle.asn_rules.specs.Laws.{AreOctets}
-use Rattle.asn_rules.proofs.Items.{numbers, good_items}
+use Rattle.asn_rules.proofs.Law.Items.{numbers, good_items}
 use Rattle.asn_rules.specs.Fields.{spelled}
 use Rattle.asn_walk.specs.Laws.{Laws}
 use Rattle.asn_walk.specs.WriteLaws.{WriteLaws}

@@ -16,12 +16,12 @@ use Rattle.asn_bits.proofs.Weights.{are_digits}
 use Rattle.asn_rules.specs.Chunks.{Chunk, open_field, flat}
 use Rattle.asn_rules.specs.Components.{number_at}
 use Rattle.asn_rules.specs.Reading.{AllSealed}
-use Rattle.asn_rules.proofs.Flat.{flat-ones}
-use Rattle.asn_rules.proofs.Fronts.{sealed-ones, sealed-append}
+use Rattle.asn_rules.proofs.Live.Flat.{flat-ones}
+use Rattle.asn_rules.proofs.Live.Fronts.{sealed-ones, sealed-append}
 use Rattle.asn_walk.specs.Ahead.{Ahead}
 use Rattle.asn_walk.specs.Laws.{Laws}
 use Rattle.asn_rules.specs.Filled.{filled_bits}
-use Rattle.asn_rules.proofs.OctetFields.{spelled_code}
+use Rattle.asn_rules.proofs.Octets.OctetFields.{spelled_code}
 use Rattle.asn_oer.specs.Oer.{oer, variable_bits, item_number, oer_fields}
 use Rattle.asn_oer.specs.Rules.{oer_ruling}
 use Rattle.asn_oer.specs.Walk.{oer_coding}

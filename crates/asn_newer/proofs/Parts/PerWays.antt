@@ -14,8 +14,8 @@ use Rattle.asn_rules.specs.Components.{number_at}
 use Rattle.asn_rules.specs.Forks.{Branch}
 use Rattle.asn_rules.specs.Languages.{Nothing}
 use Rattle.asn_rules.specs.Reading.{AllSealed}
-use Rattle.asn_rules.proofs.Flat.{flat-ones}
-use Rattle.asn_rules.proofs.Fronts.{sealed-ones}
+use Rattle.asn_rules.proofs.Live.Flat.{flat-ones}
+use Rattle.asn_rules.proofs.Live.Fronts.{sealed-ones}
 use Rattle.asn_walk.specs.Ahead.{Ahead, lengths}
 use Rattle.asn_walk.specs.Laws.{Laws}
 use Rattle.asn_per.specs.ListsAhead.{RootStart, Start, other_counts}

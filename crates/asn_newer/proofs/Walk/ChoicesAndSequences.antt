@@ -22,8 +22,8 @@ use Rattle.asn_rules.specs.General.{after_first}
 use Rattle.asn_rules.specs.Languages.{Spells, NoSpelling, Then, Map}
 use Rattle.asn_rules.specs.Listed.{Spelt, bitmap_length}
 use Rattle.asn_rules.specs.Live.{Fielding}
-use Rattle.asn_rules.proofs.Parts.{map_source, map_spells, nothing_spells}
-use Rattle.asn_rules.proofs.Then.{then_none_first}
+use Rattle.asn_rules.proofs.Languages.Parts.{map_source, map_spells, nothing_spells}
+use Rattle.asn_rules.proofs.Languages.Then.{then_none_first}
 use Rattle.asn_walk.specs.Coding.{PreambleOf, IndexOf, absent_entries}
 use Rattle.asn_newer.specs.Skipped.{Skipped, Reading, Entries, nothing_skipped, sequence_read, alternative_read, alternative_skipped}
 use Rattle.asn_newer.specs.Loose.{LooseCoding, AnyBitmap, Known, Unknown, Loose, LooseEach, LooseMore, LooseOpen, LooseRoot, LooseOther, LooseAdded, additions_to_come, alternatives_to_come, by_index}

@@ -14,9 +14,9 @@ use Rattle.asn_rules.specs.Padding.{Fixed}
 use Rattle.asn_rules.specs.Stops.{Stops}
 use Rattle.asn_rules.specs.declared.stop.Stop.{Stop}
 use Rattle.asn_rules.specs.declared.stop.Stop.TheVariants as stop
-use Rattle.asn_rules.proofs.Flat.{flat-ones}
-use Rattle.asn_rules.proofs.Headed.{plain_front}
-use Rattle.asn_rules.proofs.Parts.{contents-ones}
+use Rattle.asn_rules.proofs.Live.Flat.{flat-ones}
+use Rattle.asn_rules.proofs.Sealed.Headed.{plain_front}
+use Rattle.asn_rules.proofs.Languages.Parts.{contents-ones}
 use Rattle.asn_newer.specs.Skipped.{Skipped, Reading}
 use Rattle.asn_newer.specs.Loose.{LooseCoding, Complete, Known, Loose}
 use Rattle.asn_newer.specs.Halting.{Halts, halt_of, halt_of_field}

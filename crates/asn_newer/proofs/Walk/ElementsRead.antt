@@ -11,12 +11,12 @@ use Rattle.asn_rules.specs.General.{fragment, after_first, together, Left, Block
 use Rattle.asn_rules.specs.Languages.{Spells, NoSpelling, Then, Map, Nothing, Row, prepended}
 use Rattle.asn_rules.specs.Live.{Fielding}
 use Rattle.asn_rules.specs.declared.stop.Stop.{Stop}
-use Rattle.asn_rules.proofs.Forks.{same_flip}
-use Rattle.asn_rules.proofs.General.{general_once}
-use Rattle.asn_rules.proofs.Headers.{header_tells}
-use Rattle.asn_rules.proofs.Parts.{map_source, nothing_spells}
-use Rattle.asn_rules.proofs.Ranges.{general_left}
-use Rattle.asn_rules.proofs.Then.{then_none_first}
+use Rattle.asn_rules.proofs.Languages.Forks.{same_flip}
+use Rattle.asn_rules.proofs.Numbers.General.{general_once}
+use Rattle.asn_rules.proofs.Numbers.Headers.{header_tells}
+use Rattle.asn_rules.proofs.Languages.Parts.{map_source, nothing_spells}
+use Rattle.asn_rules.proofs.Numbers.Ranges.{general_left}
+use Rattle.asn_rules.proofs.Languages.Then.{then_none_first}
 use Rattle.asn_walk.specs.Ahead.{Ahead, items, lengths, end, Remaining, Advances, Next, StopsNext}
 use Rattle.asn_walk.specs.Coding.{ListingOf}
 use Rattle.asn_walk_read.proofs.Listing.{list_size, steps_left, going_nearer}

@@ -18,8 +18,8 @@ use Rattle.asn_rules.specs.Frames.{Frame}
 use Rattle.asn_rules.specs.Languages.{Spells, NoSpelling, Then, Map, Nothing}
 use Rattle.asn_rules.specs.Listed.{Spelt, bitmap_length}
 use Rattle.asn_rules.specs.Live.{Fielding}
-use Rattle.asn_rules.proofs.Parts.{map_source, map_spells, nothing_spells}
-use Rattle.asn_rules.proofs.Then.{then_none_first}
+use Rattle.asn_rules.proofs.Languages.Parts.{map_source, map_spells, nothing_spells}
+use Rattle.asn_rules.proofs.Languages.Then.{then_none_first}
 use Rattle.asn_walk.specs.Coding.{Coding, absent_entries}
 use Rattle.asn_walk.proofs.Widths.{width_more, width_same, demand_of_part}
 use Rattle.asn_walk.specs.declared.presence.PresenceBits.{PresenceBits}

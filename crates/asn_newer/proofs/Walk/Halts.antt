@@ -10,13 +10,13 @@ use Rattle.asn_rules.specs.Live.{Fielding, IsContent}
 use Rattle.asn_rules.specs.Stops.{Stops}
 use Rattle.asn_rules.specs.declared.stop.Stop.{Stop}
 use Rattle.asn_rules.specs.declared.stop.Stop.TheVariants as stop
-use Rattle.asn_rules.proofs.Chunks.{FieldsPart}
-use Rattle.asn_rules.proofs.Fields.{field_spells}
-use Rattle.asn_rules.proofs.Flat.{flat-ones}
-use Rattle.asn_rules.proofs.Forks.{same_flip, same_spells}
-use Rattle.asn_rules.proofs.Headed.{plain_front}
-use Rattle.asn_rules.proofs.Parts.{map_source, map_spells, contents-ones}
-use Rattle.asn_rules.proofs.Then.{then_splits, then_spells}
+use Rattle.asn_rules.proofs.Live.Chunks.{FieldsPart}
+use Rattle.asn_rules.proofs.Sealed.Fields.{field_spells}
+use Rattle.asn_rules.proofs.Live.Flat.{flat-ones}
+use Rattle.asn_rules.proofs.Languages.Forks.{same_flip, same_spells}
+use Rattle.asn_rules.proofs.Sealed.Headed.{plain_front}
+use Rattle.asn_rules.proofs.Languages.Parts.{map_source, map_spells, contents-ones}
+use Rattle.asn_rules.proofs.Languages.Then.{then_splits, then_spells}
 use Rattle.asn_walk.specs.Coding.{Coding}
 use Rattle.asn_newer.specs.Halting.{Halts, halt_of}
 use Rattle.asn_newer.specs.declared.halt.Halt.{Halt}

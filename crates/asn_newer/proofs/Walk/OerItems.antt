@@ -15,14 +15,14 @@ use Rattle.asn_bits.proofs.FilledBits.{length-packed}
 use Rattle.asn_bits.proofs.Splits.{unpacked-octets}
 use Rattle.asn_rules.specs.Counted.{signed_number}
 use Rattle.asn_rules.specs.OctetReading.{AtOctet}
-use Rattle.asn_rules.proofs.CountedCodes.{residue_of, number_again}
+use Rattle.asn_rules.proofs.Numbers.CountedCodes.{residue_of, number_again}
 use Rattle.asn_bits.proofs.LengthsInOctets.{one_is}
-use Rattle.asn_rules.proofs.SignedNumbers.{number_neg}
-use Rattle.asn_rules.proofs.Octetwise.{packed_front}
+use Rattle.asn_rules.proofs.Plain.SignedNumbers.{number_neg}
+use Rattle.asn_rules.proofs.Octets.Octetwise.{packed_front}
 use Rattle.asn_rules.specs.Chunks.{Chunk, ones, flat}
 use Rattle.asn_rules.specs.Languages.{Spells, NoSpelling}
-use Rattle.asn_rules.proofs.Flat.{flat-ones}
-use Rattle.asn_rules.proofs.Parts.{contents-ones}
+use Rattle.asn_rules.proofs.Live.Flat.{flat-ones}
+use Rattle.asn_rules.proofs.Languages.Parts.{contents-ones}
 use Rattle.asn_oer.specs.Oer.{item_number}
 use Rattle.asn_oer.specs.Walk.{oer_coding}
 use Rattle.asn_oer.proofs.Law.Leaves.{item_code}

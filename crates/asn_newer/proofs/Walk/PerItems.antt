@@ -11,8 +11,8 @@ use Rattle.asn_bits.proofs.Digits.{digits_code}
 use Rattle.asn_bits.proofs.Octets.{length-digits}
 use Rattle.asn_rules.specs.Chunks.{Chunk, ones, flat}
 use Rattle.asn_rules.specs.Languages.{Spells, NoSpelling}
-use Rattle.asn_rules.proofs.Flat.{flat-ones}
-use Rattle.asn_rules.proofs.Parts.{contents-ones}
+use Rattle.asn_rules.proofs.Live.Flat.{flat-ones}
+use Rattle.asn_rules.proofs.Languages.Parts.{contents-ones}
 use Rattle.asn_per.specs.Per.{small}
 use Rattle.asn_rules.specs.IntegerSets.{magnitude_of}
 use Rattle.asn_newer.specs.Rules.{per_loose, IsUnknownIndex}

@@ -3,8 +3,8 @@ use Rattle.std.proofs.Common.{[], ◌∷◌, refl, arith}
 use Rattle.asn_rules.specs.Chunks.{open_field, utf8_field}
 use Rattle.asn_rules.specs.Laws.{LiveByParts}
 use Rattle.asn_rules.specs.Live.{Free}
-use Rattle.asn_rules.proofs.Fronts.{live_iff}
-use Rattle.asn_rules.proofs.OctetFields.{some_octets}
+use Rattle.asn_rules.proofs.Live.Fronts.{live_iff}
+use Rattle.asn_rules.proofs.Octets.OctetFields.{some_octets}
 use Rattle.asn_oer.specs.Oer.{oer, oer_fields}
 use Rattle.asn_oer.proofs.Law.GoodTypes.{good}
 use Rattle.asn_oer.proofs.Encodings.SpeltTypes.{oer_spelt, few_levels}

@@ -8,7 +8,7 @@ use Rattle.asn_values.specs.Fits.{Fits, max_len}
 use Rattle.asn_values.specs.ExampleTypes.{hex}
 use Rattle.asn_rules.specs.Chunks.{utf8_field}
 use Rattle.asn_rules.specs.Live.{BeginsProperly, IsContent, GoesOn, Live, Place}
-use Rattle.asn_rules.proofs.LiveUpTo.{live_up_to}
+use Rattle.asn_rules.proofs.Live.LiveUpTo.{live_up_to}
 use Rattle.asn_rules.specs.Fields.{spelled}
 use Rattle.asn_oer.specs.Oer.{oer, oer_fields}
 

@@ -11,8 +11,8 @@ use Rattle.asn_bits.proofs.Utf8.{append_octets}
 use Rattle.asn_rules.specs.Chunks.{Chunk, ones, flat}
 use Rattle.asn_rules.specs.Laws.{AreOctets}
 use Rattle.asn_rules.specs.Reading.{AllSealed}
-use Rattle.asn_rules.proofs.Fronts.{sealed-ones, sealed-append}
-use Rattle.asn_rules.proofs.Flat.{flat-append, flat-ones}
+use Rattle.asn_rules.proofs.Live.Fronts.{sealed-ones, sealed-append}
+use Rattle.asn_rules.proofs.Live.Flat.{flat-append, flat-ones}
 use Rattle.asn_rules.specs.Fields.{spelled}
 use Rattle.asn_oer.specs.Oer.{an_open_field, oer_fields}
 

@@ -13,12 +13,12 @@ use Rattle.asn_bits.specs.Lengths.{joined}
 use Rattle.asn_bits.proofs.Utf8.{utf8_octets}
 use Rattle.asn_rules.specs.Chunks.{ones}
 use Rattle.asn_rules.specs.Components.{bit_of, number_at, presence, if_spelled, any_present, extension_bit}
-use Rattle.asn_rules.proofs.Entries.{front_bits, entry_has, presence_bits, few_presence, few_extension}
-use Rattle.asn_rules.proofs.Items.{good_items}
+use Rattle.asn_rules.proofs.Law.Entries.{front_bits, entry_has, presence_bits, few_presence, few_extension}
+use Rattle.asn_rules.proofs.Law.Items.{good_items}
 use Rattle.asn_rules.specs.Fields.{spelled}
 use Rattle.asn_rules.specs.Filled.{filled_bits}
-use Rattle.asn_rules.proofs.Characters.{characters_octets}
-use Rattle.asn_rules.proofs.BitStrings.{list_bits}
+use Rattle.asn_rules.proofs.Octets.Characters.{characters_octets}
+use Rattle.asn_rules.proofs.Octets.BitStrings.{list_bits}
 use Rattle.asn_walk.proofs.ItemNumbers.{number_is_small}
 use Rattle.asn_oer.specs.Oer.{whole_number, bit_octets, sized_octets, item_number, tag, variable_bits, an_open_field, oer, oer_each, oer_open, oer_additions, oer_alternative, oer_more}
 use Rattle.asn_oer.proofs.Law.GoodTypes.{Good, GoodFields, GoodAlternatives, first_good, rest_good, here_good, later_good, root_good, additions_good, choice_good, choice_additions_good, few_alternatives, tag_below}

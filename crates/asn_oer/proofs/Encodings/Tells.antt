@@ -3,7 +3,7 @@ use Rattle.std.proofs.Common.{◌*◌, ◌≤◌, ℕ, List, length, length-appe
 use Rattle.asn_bits.specs.Lengths.{octet_length}
 use Rattle.asn_rules.specs.Reading.{RulesTell}
 use Rattle.asn_rules.specs.Fields.{spelled}
-use Rattle.asn_rules.proofs.OctetFields.{spelled_code, some_octets}
+use Rattle.asn_rules.proofs.Octets.OctetFields.{spelled_code, some_octets}
 use Rattle.asn_oer.specs.Rules.{oer_ruling}
 use Rattle.asn_oer.proofs.Law.GoodTypes.{good}
 use Rattle.asn_oer.proofs.Encodings.LiveParts.{open_starts, utf8_starts}

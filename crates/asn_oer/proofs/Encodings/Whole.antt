@@ -3,8 +3,8 @@ use Rattle.std.proofs.Common.{[], ◌++◌, refl, sym, ◌∙◌, ap}
 use Rattle.std.proofs.lemmas.List.{append-nil}
 use Rattle.asn_rules.specs.Laws.{EncodesAs, UnitsTellTheValue, OneValue, NoneBegins, WholesTell, RulesLaws}
 use Rattle.asn_rules.specs.Parted.{SpellingsPart}
-use Rattle.asn_rules.proofs.FromFacing.{units_tell, spellings_part}
-use Rattle.asn_rules.proofs.FromUnits.{rules_laws}
+use Rattle.asn_rules.proofs.Law.FromFacing.{units_tell, spellings_part}
+use Rattle.asn_rules.proofs.Law.FromUnits.{rules_laws}
 use Rattle.asn_rules.specs.Fields.{spelled}
 use Rattle.asn_oer.specs.Oer.{oer, oer_octets}
 use Rattle.asn_oer.specs.Rules.{oer_ruling}

@@ -12,13 +12,13 @@ use Rattle.asn_bits.proofs.Octets.{least_once}
 use Rattle.asn_bits.proofs.FilledBits.{AreBits, filled_up_code}
 use Rattle.asn_rules.specs.Chunks.{open_field, Chunk, ones, flat}
 use Rattle.asn_rules.specs.Components.{bit_of, number_at, presence, if_spelled, any_present, extension_bit}
-use Rattle.asn_rules.proofs.Entries.{front_bits, presence_bits, length-extension_bit, same_elements, same_components, presence_first, length-presence, each_length, none_present, SameFront, front_code, entry_facing}
-use Rattle.asn_rules.proofs.Facing.{FieldsTell, Facing, IsFacing, facing_parts, plain_facing, code_facing, sealed_facing, joined_facing}
-use Rattle.asn_rules.proofs.FromFacing.{SpellingsFace, facing_code}
-use Rattle.asn_rules.proofs.Items.{good_items, item_once}
+use Rattle.asn_rules.proofs.Law.Entries.{front_bits, presence_bits, length-extension_bit, same_elements, same_components, presence_first, length-presence, each_length, none_present, SameFront, front_code, entry_facing}
+use Rattle.asn_rules.proofs.Law.Facing.{FieldsTell, Facing, IsFacing, facing_parts, plain_facing, code_facing, sealed_facing, joined_facing}
+use Rattle.asn_rules.proofs.Law.FromFacing.{SpellingsFace, facing_code}
+use Rattle.asn_rules.proofs.Law.Items.{good_items, item_once}
 use Rattle.asn_rules.specs.Fields.{spelled}
 use Rattle.asn_rules.specs.Filled.{filled_bits}
-use Rattle.asn_rules.proofs.OctetFields.{spelled_code}
+use Rattle.asn_rules.proofs.Octets.OctetFields.{spelled_code}
 use Rattle.asn_oer.specs.Oer.{whole_number, bit_octets, sized_octets, item_number, tag, variable_bits, truth_octet, an_open_field, oer, oer_each, oer_open, oer_additions, oer_alternative, oer_more}
 use Rattle.asn_oer.proofs.Law.GoodTypes.{Good, GoodFields, GoodAlternatives, good, first_good, rest_good, here_good, later_good, root_good, additions_good, choice_good, choice_additions_good, few_alternatives, tag_below}
 use Rattle.asn_oer.proofs.Law.Integers.{number_code}

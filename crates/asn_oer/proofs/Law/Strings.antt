@@ -9,11 +9,11 @@ use Rattle.asn_bits.specs.Numbers.{padding}
 use Rattle.asn_bits.proofs.Codes.{IsCode, equal_fronts}
 use Rattle.asn_bits.proofs.FilledBits.{AreBits, filled_up_code, filled_up_once}
 use Rattle.asn_rules.specs.Components.{bit_of}
-use Rattle.asn_rules.proofs.Entries.{bit_of_same}
+use Rattle.asn_rules.proofs.Law.Entries.{bit_of_same}
 use Rattle.asn_rules.specs.Fields.{spelled}
 use Rattle.asn_rules.specs.Filled.{filled_bits}
-use Rattle.asn_rules.proofs.OctetFields.{spelled_code}
-use Rattle.asn_rules.proofs.BitStrings.{list_bits}
+use Rattle.asn_rules.proofs.Octets.OctetFields.{spelled_code}
+use Rattle.asn_rules.proofs.Octets.BitStrings.{list_bits}
 use Rattle.asn_oer.specs.Oer.{variable_bits, bit_octets, sized_octets}
 
 -- ---- sizes

@@ -10,9 +10,9 @@ use Rattle.asn_rules.specs.Chunks.{Chunk, ones}
 use Rattle.asn_rules.specs.Forks.{Same}
 use Rattle.asn_rules.specs.Languages.{Map}
 use Rattle.asn_rules.specs.declared.number_reader.NumberSet.{NumberSet}
-use Rattle.asn_rules.proofs.Forks.{same_flip}
-use Rattle.asn_rules.proofs.Leads.{Leads, leads_on, leads_map, leads_same}
-use Rattle.asn_rules.proofs.Spellings.{same_after, same_spelled}
+use Rattle.asn_rules.proofs.Languages.Forks.{same_flip}
+use Rattle.asn_rules.proofs.Languages.Leads.{Leads, leads_on, leads_map, leads_same}
+use Rattle.asn_rules.proofs.Languages.Spellings.{same_after, same_spelled}
 use Rattle.asn_rules.specs.OctetStrings.{PackedBits, VariableBits}
 use Rattle.asn_walk.specs.Sizes.{AreCounts}
 use Rattle.asn_oer.specs.Oer.{oer_fields}

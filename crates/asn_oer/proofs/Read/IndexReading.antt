@@ -7,9 +7,9 @@ use Rattle.asn_rules.specs.Chunks.{ones}
 use Rattle.asn_rules.specs.Forks.{Same}
 use Rattle.asn_rules.specs.Languages.{Map}
 use Rattle.asn_rules.specs.NumberSets.{Admits}
-use Rattle.asn_rules.proofs.Leads.{Leads, leads_on, leads_map, leads_same}
+use Rattle.asn_rules.proofs.Languages.Leads.{Leads, leads_on, leads_map, leads_same}
 use Rattle.asn_bits.proofs.LengthsInOctets.{one_is}
-use Rattle.asn_rules.proofs.Spellings.{same_after, same_map, digits_spelled, map_spelled}
+use Rattle.asn_rules.proofs.Languages.Spellings.{same_after, same_map, digits_spelled, map_spelled}
 use Rattle.asn_rules.specs.OctetReading.{OctetsIn, from_to}
 use Rattle.asn_walk.specs.Coding.{IsIndexWithin, AreFew, IndexOf}
 use Rattle.asn_oer.specs.Oer.{oer_fields, tag}

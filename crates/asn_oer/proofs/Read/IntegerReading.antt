@@ -28,9 +28,9 @@ use Rattle.asn_rules.specs.OffsetSets.{HasOffset, HasInteger, StandsFor}
 use Rattle.asn_rules.specs.Spellings.{SpelledBy}
 use Rattle.asn_rules.specs.declared.number_reader.NumberSet.{NumberSet}
 use Rattle.asn_rules.specs.declared.signed_reader.OffsetSet.{OffsetSet}
-use Rattle.asn_rules.proofs.CountedCodes.{counted_octets, counted_signed_octets, residue_of, number_again}
-use Rattle.asn_rules.proofs.Leads.{Leads, leads_on, leads_map, leads_same}
-use Rattle.asn_rules.proofs.Spellings.{same_after, same_map, same_spelled, digits_spelled, map_spelled, spelled_inhabited}
+use Rattle.asn_rules.proofs.Numbers.CountedCodes.{counted_octets, counted_signed_octets, residue_of, number_again}
+use Rattle.asn_rules.proofs.Languages.Leads.{Leads, leads_on, leads_map, leads_same}
+use Rattle.asn_rules.proofs.Languages.Spellings.{same_after, same_map, same_spelled, digits_spelled, map_spelled, spelled_inhabited}
 use Rattle.asn_rules.specs.OctetReading.{OctetsIn, CountedIn, CountedSignedIn, SignedOctetsIn}
 use Rattle.asn_rules.specs.IntegerSets.{IsWithin, IsOneBut, unmarked, AreNumbersBut, AreOffsetsBut}
 use Rattle.asn_oer.specs.Oer.{counted_signed, unsigned_octets, signed_size, ranged, whole_number, oer, oer_fields}

@@ -20,13 +20,13 @@ use Rattle.asn_rules.specs.Forks.{Same}
 use Rattle.asn_rules.specs.Languages.{Inhabited, IsLive, Lawful, Refused, Short, Spells}
 use Rattle.asn_rules.specs.Listed.{IsOther, Spelt}
 use Rattle.asn_rules.specs.Spellings.{SpelledBy}
-use Rattle.asn_rules.proofs.Listed.{spelt_lawful}
+use Rattle.asn_rules.proofs.Components.Listed.{spelt_lawful}
 use Rattle.asn_bits.proofs.LengthsInOctets.{one_is, one_more}
-use Rattle.asn_rules.proofs.Parts.{front_ones, refused_here}
-use Rattle.asn_rules.proofs.Spellings.{same_spelled, units_front, units_short}
+use Rattle.asn_rules.proofs.Languages.Parts.{front_ones, refused_here}
+use Rattle.asn_rules.proofs.Languages.Spellings.{same_spelled, units_front, units_short}
 use Rattle.asn_rules.specs.OctetReading.{AtOctet}
-use Rattle.asn_rules.proofs.OctetFields.{octet_fields_part}
-use Rattle.asn_rules.proofs.Octetwise.{next_octet, no_octet}
+use Rattle.asn_rules.proofs.Octets.OctetFields.{octet_fields_part}
+use Rattle.asn_rules.proofs.Octets.Octetwise.{next_octet, no_octet}
 use Rattle.asn_rules.specs.IntegerSets.{magnitude_of}
 use Rattle.asn_oer.specs.LeafReading.{ItemBegins}
 use Rattle.asn_oer.specs.Oer.{oer, oer_fields, item_number}

@@ -14,16 +14,16 @@ use Rattle.asn_rules.specs.Fields.{OctetLength}
 use Rattle.asn_rules.specs.Forks.{Same}
 use Rattle.asn_rules.specs.Languages.{Spells, Then, Map}
 use Rattle.asn_rules.specs.NumberSets.{Admits}
-use Rattle.asn_rules.proofs.Chunks.{ones-append}
-use Rattle.asn_rules.proofs.Leads.{LeadsStops, Leads, leads_on, leads_map, leads_same, leads_second, stops_first, stops_on}
+use Rattle.asn_rules.proofs.Live.Chunks.{ones-append}
+use Rattle.asn_rules.proofs.Languages.Leads.{LeadsStops, Leads, leads_on, leads_map, leads_same, leads_second, stops_first, stops_on}
 use Rattle.asn_bits.proofs.LengthsInOctets.{one_is}
-use Rattle.asn_rules.proofs.OctetLengths.{length_spelled, length_lawful}
-use Rattle.asn_rules.proofs.Sets.{set_inhabited, set_lawful}
-use Rattle.asn_rules.proofs.Spellings.{same_after, same_map, same_then, digits_spelled, then_spelled, map_spelled, spelled_inhabited}
-use Rattle.asn_rules.proofs.Then.{Follows, then_inhabited}
+use Rattle.asn_rules.proofs.Numbers.OctetLengths.{length_spelled, length_lawful}
+use Rattle.asn_rules.proofs.Numbers.Sets.{set_inhabited, set_lawful}
+use Rattle.asn_rules.proofs.Languages.Spellings.{same_after, same_map, same_then, digits_spelled, then_spelled, map_spelled, spelled_inhabited}
+use Rattle.asn_rules.proofs.Languages.Then.{Follows, then_inhabited}
 use Rattle.asn_rules.specs.Filled.{filled_bits, filled_octets, unused_bits}
 use Rattle.asn_rules.specs.OctetReading.{OctetsIn, from_to, FilledFields}
-use Rattle.asn_rules.proofs.OctetFields.{octet_fields_part}
+use Rattle.asn_rules.proofs.Octets.OctetFields.{octet_fields_part}
 use Rattle.asn_walk.specs.Coding.{GoodPreamble, PreambleOf, AdditionBitmapOf}
 use Rattle.asn_oer.specs.Oer.{oer_fields, variable_bits}
 use Rattle.asn_oer.specs.Walk.{oer_coding, mark_of}

@@ -11,15 +11,15 @@ use Rattle.asn_rules.specs.Forks.{Same}
 use Rattle.asn_rules.specs.Languages.{Spells, Lawful, Inhabited, Then, Map, Nothing, Row, Plain}
 use Rattle.asn_rules.specs.NumberSets.{IsNot}
 use Rattle.asn_rules.specs.declared.number_reader.NumberSet.{NumberSet}
-use Rattle.asn_rules.proofs.Leads.{LeadsStops, Leads, leads_on, leads_map, leads_same, leads_second, stops_first, stops_on}
-use Rattle.asn_rules.proofs.NumberSets.{same_set}
-use Rattle.asn_rules.proofs.OctetLengths.{length_lawful}
-use Rattle.asn_rules.proofs.Parts.{nothing_lawful, nothing_spells}
-use Rattle.asn_rules.proofs.Rows.{row_inhabited}
-use Rattle.asn_rules.proofs.Spellings.{same_after, same_map, same_then}
+use Rattle.asn_rules.proofs.Languages.Leads.{LeadsStops, Leads, leads_on, leads_map, leads_same, leads_second, stops_first, stops_on}
+use Rattle.asn_rules.proofs.Plain.NumberSets.{same_set}
+use Rattle.asn_rules.proofs.Numbers.OctetLengths.{length_lawful}
+use Rattle.asn_rules.proofs.Languages.Parts.{nothing_lawful, nothing_spells}
+use Rattle.asn_rules.proofs.Languages.Rows.{row_inhabited}
+use Rattle.asn_rules.proofs.Languages.Spellings.{same_after, same_map, same_then}
 use Rattle.asn_rules.specs.OctetReading.{CountedIn}
-use Rattle.asn_rules.proofs.CountedOctets.{same_counted}
-use Rattle.asn_rules.proofs.OctetFields.{octet_fields_part}
+use Rattle.asn_rules.proofs.Octets.CountedOctets.{same_counted}
+use Rattle.asn_rules.proofs.Octets.OctetFields.{octet_fields_part}
 use Rattle.asn_walk.specs.Sizes.{AreCounts}
 use Rattle.asn_walk.specs.Laws.{IsSizeOfProfile}
 use Rattle.asn_oer.specs.Constructed.{Quantity}

@@ -5,8 +5,8 @@ use Rattle.asn_values.specs.Datum.{characters}
 use Rattle.asn_values.specs.Profile.{InProfile, EmptyRange, SizeTooLarge, UselessMark}
 use Rattle.asn_values.specs.Shape.{Alphabet, SizeRange, restricted}
 use Rattle.asn_rules.specs.declared.stop.Stop.TheVariants as stop
-use Rattle.asn_rules.proofs.Leads.{Leads, leads_on, leads_map, leads_same}
-use Rattle.asn_rules.proofs.Spellings.{same_after}
+use Rattle.asn_rules.proofs.Languages.Leads.{Leads, leads_on, leads_map, leads_same}
+use Rattle.asn_rules.proofs.Languages.Spellings.{same_after}
 use Rattle.asn_rules.specs.OctetStrings.{Character}
 use Rattle.asn_walk.specs.Laws.{IsSizeOfProfile}
 use Rattle.asn_oer.specs.Oer.{oer_fields}

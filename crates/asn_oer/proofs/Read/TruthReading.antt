@@ -7,8 +7,8 @@ use Rattle.asn_values.specs.Shape.{boolean}
 use Rattle.asn_bits.specs.Sets.{Among, InDigits}
 use Rattle.asn_rules.specs.Languages.{Plain}
 use Rattle.asn_rules.specs.Listed.{IsOther, Spelt}
-use Rattle.asn_rules.proofs.Leads.{Leads, leads_on, leads_map, leads_same}
-use Rattle.asn_rules.proofs.NumberSets.{same_set}
+use Rattle.asn_rules.proofs.Languages.Leads.{Leads, leads_on, leads_map, leads_same}
+use Rattle.asn_rules.proofs.Plain.NumberSets.{same_set}
 use Rattle.asn_rules.specs.OctetReading.{OctetsAmong}
 use Rattle.asn_oer.specs.Oer.{oer, oer_fields}
 use Rattle.asn_oer.specs.Reading.{TruthOctet}

@@ -11,13 +11,13 @@ use Rattle.asn_rules.specs.Fields.{OctetsAfterLength, spelled}
 use Rattle.asn_rules.specs.Forks.{Same}
 use Rattle.asn_rules.specs.Frames.{IsField, Frame}
 use Rattle.asn_rules.specs.Languages.{Spells, Refused, SomeContent}
-use Rattle.asn_rules.proofs.Exits.{stops_field}
-use Rattle.asn_rules.proofs.Fields.{field_spells, field_refused_content}
-use Rattle.asn_rules.proofs.Forks.{same_flip}
-use Rattle.asn_rules.proofs.Leads.{LeadsStops, Leads, leads_same}
-use Rattle.asn_rules.proofs.OctetLengths.{octets_after_length}
-use Rattle.asn_rules.proofs.Spellings.{same_after, plain_spelled}
-use Rattle.asn_rules.proofs.OctetFields.{octet_fields_part}
+use Rattle.asn_rules.proofs.Languages.Exits.{stops_field}
+use Rattle.asn_rules.proofs.Sealed.Fields.{field_spells, field_refused_content}
+use Rattle.asn_rules.proofs.Languages.Forks.{same_flip}
+use Rattle.asn_rules.proofs.Languages.Leads.{LeadsStops, Leads, leads_same}
+use Rattle.asn_rules.proofs.Numbers.OctetLengths.{octets_after_length}
+use Rattle.asn_rules.proofs.Languages.Spellings.{same_after, plain_spelled}
+use Rattle.asn_rules.proofs.Octets.OctetFields.{octet_fields_part}
 use Rattle.asn_oer.specs.Oer.{oer_fields}
 use Rattle.asn_oer.specs.Reading.{ValuesOf}
 use Rattle.asn_oer.specs.Strings.{IsUnicodeOf, Utf8Strings}

@@ -17,8 +17,8 @@ use Rattle.asn_bits.specs.Sets.{weighted, IsBits}
 use Rattle.asn_rules.specs.Forks.{Same}
 use Rattle.asn_rules.specs.Spellings.{SpelledBy}
 use Rattle.asn_bits.proofs.Weights.{bits_are, bits_only, are_digits}
-use Rattle.asn_rules.proofs.Entries.{each_length, none_present, presence_bits}
-use Rattle.asn_rules.proofs.Spellings.{same_after, same_then, same_map, same_spelled, map_spelled, nothing_spelled, then_spelled}
+use Rattle.asn_rules.proofs.Law.Entries.{each_length, none_present, presence_bits}
+use Rattle.asn_rules.proofs.Languages.Spellings.{same_after, same_then, same_map, same_spelled, map_spelled, nothing_spelled, then_spelled}
 use Rattle.asn_oer.specs.Oer.{variable_bits, oer_open, oer_additions}
 use Rattle.asn_oer.specs.Preambles.{SomeBits}
 use Rattle.asn_oer.specs.Sequences.{OpenListed, Additions}

@@ -14,14 +14,14 @@ use Rattle.asn_rules.specs.Components.{bit_of}
 use Rattle.asn_bits.specs.Sets.{AreBits, weighted, IsBits}
 use Rattle.asn_rules.specs.Forks.{Same}
 use Rattle.asn_rules.specs.Spellings.{SpelledBy}
-use Rattle.asn_rules.proofs.Chunks.{ones-append}
+use Rattle.asn_rules.proofs.Live.Chunks.{ones-append}
 use Rattle.asn_bits.proofs.Weights.{bits_only}
 use Rattle.asn_bits.proofs.LengthsInOctets.{one_is}
-use Rattle.asn_rules.proofs.Spellings.{same_after, same_map, same_spelled, map_spelled}
+use Rattle.asn_rules.proofs.Languages.Spellings.{same_after, same_map, same_spelled, map_spelled}
 use Rattle.asn_rules.specs.Filled.{filled_bits, filled_octets, unused_bits}
 use Rattle.asn_rules.specs.OctetStrings.{PackedBits, BitsLength, UnusedBits, last_told, VariableBits}
-use Rattle.asn_rules.proofs.BitStrings.{list_bits}
-use Rattle.asn_rules.proofs.BitStrings.{short, three_parts, packed_language}
+use Rattle.asn_rules.proofs.Octets.BitStrings.{list_bits}
+use Rattle.asn_rules.proofs.Octets.BitStrings.{short, three_parts, packed_language}
 use Rattle.asn_oer.specs.Oer.{variable_bits, oer}
 use Rattle.asn_oer.specs.Strings.{BitStrings}
 use Rattle.asn_oer.proofs.Types.FilledLanguages.{length-filled_bits}

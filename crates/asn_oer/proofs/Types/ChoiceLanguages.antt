@@ -12,7 +12,7 @@ use Rattle.asn_bits.specs.Sets.{Between}
 use Rattle.asn_rules.specs.Forks.{Same}
 use Rattle.asn_rules.specs.Spellings.{SpelledBy}
 use Rattle.asn_bits.proofs.LengthsInOctets.{one_is}
-use Rattle.asn_rules.proofs.Spellings.{same_after, same_then, same_map, digits_spelled, map_spelled, then_spelled}
+use Rattle.asn_rules.proofs.Languages.Spellings.{same_after, same_then, same_map, digits_spelled, map_spelled, then_spelled}
 use Rattle.asn_oer.specs.Oer.{tag, an_open_field, oer, oer_alternative, oer_more}
 use Rattle.asn_oer.specs.Constructed.{Values, InOpenField, OneOf, OneOfMore, Alternative, alternative_told, Choices}
 use Rattle.asn_oer.proofs.Law.GoodTypes.{good, few_alternatives, tag_below}

@@ -15,8 +15,8 @@ use Rattle.asn_bits.specs.Sets.{AreBits}
 use Rattle.asn_rules.specs.Forks.{Same}
 use Rattle.asn_rules.specs.Listed.{Before, Listed, each_of, bitmap_length}
 use Rattle.asn_rules.specs.Spellings.{SpelledBy}
-use Rattle.asn_rules.proofs.ListedEach.{listed_is, is_listed}
-use Rattle.asn_rules.proofs.Spellings.{same_after, same_then, same_map, same_spelled, map_spelled, nothing_spelled, then_spelled}
+use Rattle.asn_rules.proofs.Components.ListedEach.{listed_is, is_listed}
+use Rattle.asn_rules.proofs.Languages.Spellings.{same_after, same_then, same_map, same_spelled, map_spelled, nothing_spelled, then_spelled}
 use Rattle.asn_oer.specs.Oer.{oer, oer_each, oer_open, an_open_field}
 use Rattle.asn_oer.specs.Constructed.{InOpenField}
 use Rattle.asn_oer.specs.Sequences.{OpenListed}

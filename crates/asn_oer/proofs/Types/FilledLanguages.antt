@@ -11,12 +11,12 @@ use Rattle.asn_bits.proofs.FilledBits.{length-padding}
 use Rattle.asn_rules.specs.Chunks.{ones}
 use Rattle.asn_rules.specs.Forks.{Same}
 use Rattle.asn_rules.specs.Spellings.{SpelledBy}
-use Rattle.asn_rules.proofs.Chunks.{ones-append}
+use Rattle.asn_rules.proofs.Live.Chunks.{ones-append}
 use Rattle.asn_bits.proofs.LengthsInOctets.{one_is}
-use Rattle.asn_rules.proofs.OctetLengths.{length_spelled}
-use Rattle.asn_rules.proofs.Spellings.{same_after, same_then, same_map, digits_spelled, map_spelled, then_spelled}
+use Rattle.asn_rules.proofs.Numbers.OctetLengths.{length_spelled}
+use Rattle.asn_rules.proofs.Languages.Spellings.{same_after, same_then, same_map, digits_spelled, map_spelled, then_spelled}
 use Rattle.asn_rules.specs.Filled.{filled_bits, filled_octets, unused_bits}
-use Rattle.asn_rules.proofs.Octetwise.{packed_again}
+use Rattle.asn_rules.proofs.Octets.Octetwise.{packed_again}
 use Rattle.asn_oer.specs.Oer.{variable_bits}
 use Rattle.asn_oer.specs.Preambles.{BeforeZeros, without_zeros, FilledNumbers, SomeBits, bitmap_told, Bitmap}
 

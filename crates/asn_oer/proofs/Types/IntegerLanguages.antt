@@ -19,9 +19,9 @@ use Rattle.asn_bits.specs.Sets.{Between, Among}
 use Rattle.asn_rules.specs.Forks.{Same}
 use Rattle.asn_rules.specs.Counted.{signed_number}
 use Rattle.asn_rules.specs.Spellings.{SpelledBy}
-use Rattle.asn_rules.proofs.CountedCodes.{counted_octets, counted_signed_octets, residue_of, number_again}
-use Rattle.asn_rules.proofs.Spellings.{same_after, same_map, same_spelled, digits_spelled, map_spelled}
-use Rattle.asn_rules.proofs.IntegerSets.{AreNumbers, ordered, numbers_between, numbers_from}
+use Rattle.asn_rules.proofs.Numbers.CountedCodes.{counted_octets, counted_signed_octets, residue_of, number_again}
+use Rattle.asn_rules.proofs.Languages.Spellings.{same_after, same_map, same_spelled, digits_spelled, map_spelled}
+use Rattle.asn_rules.proofs.Plain.IntegerSets.{AreNumbers, ordered, numbers_between, numbers_from}
 use Rattle.asn_oer.specs.Oer.{counted, counted_signed, unsigned_octets, unsigned_in, both_in, signed_size, signed_in, whole_number, oer}
 use Rattle.asn_oer.specs.SimpleTypes.{FixedUnsigned, CountedUnsigned, residues, FixedSigned, CountedSigned, UnsignedIn, SignedIn, BoundedIntegers, Integers}
 use Rattle.asn_oer.proofs.Law.Integers.{unsigned_cases, signed_cases, in_bound}

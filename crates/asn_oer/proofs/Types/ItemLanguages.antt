@@ -15,11 +15,11 @@ use Rattle.asn_bits.specs.Sets.{InDigits}
 use Rattle.asn_rules.specs.Forks.{Same}
 use Rattle.asn_rules.specs.Counted.{SomeOf, signed_number, LeastSigned}
 use Rattle.asn_rules.specs.Spellings.{SpelledBy}
-use Rattle.asn_rules.proofs.CountedCodes.{residue_of, number_again}
-use Rattle.asn_rules.proofs.Entries.{le_z_antisymm}
-use Rattle.asn_rules.proofs.Items.{int_eq_refl, good_items, item_once}
+use Rattle.asn_rules.proofs.Numbers.CountedCodes.{residue_of, number_again}
+use Rattle.asn_rules.proofs.Law.Entries.{le_z_antisymm}
+use Rattle.asn_rules.proofs.Law.Items.{int_eq_refl, good_items, item_once}
 use Rattle.asn_bits.proofs.LengthsInOctets.{one_is}
-use Rattle.asn_rules.proofs.Spellings.{same_after, same_then, same_map, same_spelled, digits_spelled, map_spelled, nothing_spelled, then_spelled}
+use Rattle.asn_rules.proofs.Languages.Spellings.{same_after, same_then, same_map, same_spelled, digits_spelled, map_spelled, nothing_spelled, then_spelled}
 use Rattle.asn_walk.proofs.ItemNumbers.{number_is_small}
 use Rattle.asn_oer.specs.Oer.{item_number, oer}
 use Rattle.asn_oer.specs.SimpleTypes.{IsNumberOf, place_of, is_short, LongOnes, ItemOctet, AfterItemOctet, ItemNumbers, item_told, Items}

@@ -6,7 +6,7 @@ use Rattle.asn_rules.specs.Languages.{Map}
 use Rattle.asn_rules.specs.Forks.{Same}
 use Rattle.asn_rules.specs.Listed.{IsOther, Spelt}
 use Rattle.asn_rules.specs.Spellings.{SpelledBy}
-use Rattle.asn_rules.proofs.Spellings.{same_after, same_map, same_spelled, digits_spelled, map_spelled}
+use Rattle.asn_rules.proofs.Languages.Spellings.{same_after, same_map, same_spelled, digits_spelled, map_spelled}
 use Rattle.asn_oer.specs.Constructed.{Values}
 use Rattle.asn_oer.specs.Oer.{oer}
 use Rattle.asn_oer.specs.SimpleTypes.{truth_told, item_told, IsNumberOf}

@@ -10,8 +10,8 @@ use Rattle.asn_bits.proofs.Octets.{length-digits}
 use Rattle.asn_rules.specs.Chunks.{ones}
 use Rattle.asn_rules.specs.Forks.{Same}
 use Rattle.asn_rules.specs.Spellings.{SpelledBy}
-use Rattle.asn_rules.proofs.CountedCodes.{counted_octets}
-use Rattle.asn_rules.proofs.Spellings.{same_after, same_then, same_map, same_spelled, map_spelled, row_spelled, then_spelled}
+use Rattle.asn_rules.proofs.Numbers.CountedCodes.{counted_octets}
+use Rattle.asn_rules.proofs.Languages.Spellings.{same_after, same_then, same_map, same_spelled, map_spelled, row_spelled, then_spelled}
 use Rattle.asn_rules.specs.Fields.{spelled}
 use Rattle.asn_oer.specs.Oer.{oer}
 use Rattle.asn_oer.specs.Constructed.{Values, Quantity, elements_told, Lists}

@@ -8,7 +8,7 @@ use Rattle.asn_rules.specs.Chunks.{flat}
 use Rattle.asn_rules.specs.Laws.{AreOctets}
 use Rattle.asn_rules.specs.Forks.{Same}
 use Rattle.asn_rules.specs.Spellings.{SpelledBy}
-use Rattle.asn_rules.proofs.OpenFields.{open_spelled}
+use Rattle.asn_rules.proofs.Sealed.OpenFields.{open_spelled}
 use Rattle.asn_oer.specs.Oer.{oer, oer_octets, an_open_field}
 use Rattle.asn_oer.specs.Rules.{oer_ruling}
 use Rattle.asn_oer.specs.Constructed.{InOpenField}

@@ -20,8 +20,8 @@ use Rattle.asn_rules.specs.Forks.{Same}
 use Rattle.asn_rules.specs.Listed.{Listed, bitmap_length}
 use Rattle.asn_rules.specs.Spellings.{SpelledBy}
 use Rattle.asn_bits.proofs.Weights.{bits_only, are_digits}
-use Rattle.asn_rules.proofs.Entries.{each_length, presence_bits, same_components}
-use Rattle.asn_rules.proofs.Spellings.{same_after, same_then, same_map, map_spelled, then_spelled}
+use Rattle.asn_rules.proofs.Law.Entries.{each_length, presence_bits, same_components}
+use Rattle.asn_rules.proofs.Languages.Spellings.{same_after, same_then, same_map, map_spelled, then_spelled}
 use Rattle.asn_rules.specs.Filled.{filled_bits}
 use Rattle.asn_oer.specs.Oer.{oer, oer_each, oer_additions}
 use Rattle.asn_oer.specs.Constructed.{Values}

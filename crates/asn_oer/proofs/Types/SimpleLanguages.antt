@@ -8,7 +8,7 @@ use Rattle.asn_rules.specs.Chunks.{ones}
 use Rattle.asn_bits.specs.Sets.{Among}
 use Rattle.asn_rules.specs.Forks.{Same}
 use Rattle.asn_rules.specs.Spellings.{SpelledBy}
-use Rattle.asn_rules.proofs.Spellings.{same_after, same_map, same_spelled, digits_spelled, map_spelled, nothing_spelled}
+use Rattle.asn_rules.proofs.Languages.Spellings.{same_after, same_map, same_spelled, digits_spelled, map_spelled, nothing_spelled}
 use Rattle.asn_oer.specs.Oer.{oer}
 use Rattle.asn_oer.specs.SimpleTypes.{truth_told, Booleans, Nulls}
 

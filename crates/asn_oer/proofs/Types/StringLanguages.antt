@@ -13,11 +13,11 @@ use Rattle.asn_rules.specs.Chunks.{Chunk, one, ones, sealed, utf8_field}
 use Rattle.asn_rules.specs.Languages.{Row}
 use Rattle.asn_rules.specs.Forks.{Same}
 use Rattle.asn_rules.specs.Spellings.{SpelledBy}
-use Rattle.asn_rules.proofs.Chunks.{ones-append}
-use Rattle.asn_rules.proofs.OctetLengths.{octet_itself, length_spelled}
-use Rattle.asn_rules.proofs.Spellings.{same_after, same_then, same_map, same_spelled, map_spelled, then_spelled, sealed_spelled}
+use Rattle.asn_rules.proofs.Live.Chunks.{ones-append}
+use Rattle.asn_rules.proofs.Numbers.OctetLengths.{octet_itself, length_spelled}
+use Rattle.asn_rules.proofs.Languages.Spellings.{same_after, same_then, same_map, same_spelled, map_spelled, then_spelled, sealed_spelled}
 use Rattle.asn_rules.specs.Fields.{spelled}
-use Rattle.asn_rules.proofs.Characters.{items_themselves, character_itself}
+use Rattle.asn_rules.proofs.Octets.Characters.{items_themselves, character_itself}
 use Rattle.asn_oer.specs.Oer.{sized_octets, oer}
 use Rattle.asn_oer.specs.Strings.{ItemsAfterLength, Sized, OctetStrings, CharacterStrings, IsUnicodeOf, Utf8Strings}
 use Rattle.asn_oer.proofs.Law.Strings.{one_length}

@@ -11,7 +11,7 @@ use Rattle.asn_rules.specs.Chunks.{Chunk, ones}
 use Rattle.asn_rules.specs.Forks.{Same}
 use Rattle.asn_rules.specs.Listed.{Spelt}
 use Rattle.asn_rules.specs.Spellings.{SpelledBy}
-use Rattle.asn_rules.proofs.Spellings.{same_after, same_map, same_then, map_spelled, then_spelled}
+use Rattle.asn_rules.proofs.Languages.Spellings.{same_after, same_map, same_then, map_spelled, then_spelled}
 use Rattle.asn_walk.specs.Coding.{added_alternatives, IsIndexWithin, OpenOf, ChosenOf, ChosenBy, chosen_value, ChoicesOf}
 use Rattle.asn_oer.specs.Oer.{oer, tag, an_open_field, oer_alternative, oer_more}
 use Rattle.asn_oer.specs.Walk.{oer_coding, tag_of}

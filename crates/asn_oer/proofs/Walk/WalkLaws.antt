@@ -23,12 +23,12 @@ use Rattle.asn_rules.specs.Padding.{Padded}
 use Rattle.asn_rules.specs.Parted.{Parted, SpellingsPart}
 use Rattle.asn_rules.specs.Reading.{Wholes, RulesTell}
 use Rattle.asn_rules.specs.Spellings.{SpelledBy}
-use Rattle.asn_rules.proofs.CountedCodes.{counted_lawful}
-use Rattle.asn_rules.proofs.Forks.{map_lawful_on, map_map}
-use Rattle.asn_rules.proofs.Parts.{map_lawful}
-use Rattle.asn_rules.proofs.Spellings.{spelled_lawful, same_after, same_map, same_then, same_row, same_spelled, padded_spelled}
+use Rattle.asn_rules.proofs.Numbers.CountedCodes.{counted_lawful}
+use Rattle.asn_rules.proofs.Languages.Forks.{map_lawful_on, map_map}
+use Rattle.asn_rules.proofs.Languages.Parts.{map_lawful}
+use Rattle.asn_rules.proofs.Languages.Spellings.{spelled_lawful, same_after, same_map, same_then, same_row, same_spelled, padded_spelled}
 use Rattle.asn_rules.specs.Filled.{filled_bits}
-use Rattle.asn_rules.proofs.Octetwise.{packed_again}
+use Rattle.asn_rules.proofs.Octets.Octetwise.{packed_again}
 use Rattle.std.proofs.lemmas.List.{append-nil}
 use Rattle.asn_walk.specs.Ahead.{Ahead, items, SomeAhead, Remaining}
 use Rattle.asn_walk.specs.Coding.{ListsOf, GoodPreamble, PreambleOf, AdditionBitmapOf, IsIndexWithin, AreFew, IndexOf}

@@ -20,9 +20,9 @@ use Rattle.asn_rules.specs.Forks.{Same}
 use Rattle.asn_rules.specs.Languages.{Then, Nothing}
 use Rattle.asn_rules.specs.Listed.{Spelt, Listed, bitmap_length}
 use Rattle.asn_rules.specs.Spellings.{SpelledBy}
-use Rattle.asn_rules.proofs.Entries.{each_length, presence_bits, same_components}
-use Rattle.asn_rules.proofs.Forks.{same_flip}
-use Rattle.asn_rules.proofs.Spellings.{same_after, same_then, same_map, same_spelled, map_spelled, then_spelled}
+use Rattle.asn_rules.proofs.Law.Entries.{each_length, presence_bits, same_components}
+use Rattle.asn_rules.proofs.Languages.Forks.{same_flip}
+use Rattle.asn_rules.proofs.Languages.Spellings.{same_after, same_then, same_map, same_spelled, map_spelled, then_spelled}
 use Rattle.asn_rules.specs.Filled.{filled_bits}
 use Rattle.asn_walk.specs.Coding.{absent_entries, added, CanExtend, GoodPreamble, AdditionBitmapOf, AddedOf, sequence_told, SequencesOf}
 use Rattle.asn_walk.specs.Coding as walk

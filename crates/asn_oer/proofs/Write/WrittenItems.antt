@@ -8,7 +8,7 @@ use Rattle.asn_values.specs.Profile.{InProfile, BadEnumeration}
 use Rattle.asn_bits.specs.Numbers.{octets, signed_octets, signed_octet_count, least_signed, magnitude}
 use Rattle.asn_bits.proofs.Octets.{length-least_signed}
 use Rattle.asn_rules.specs.Components.{number_at}
-use Rattle.asn_rules.proofs.Items.{good_items}
+use Rattle.asn_rules.proofs.Law.Items.{good_items}
 use Rattle.asn_walk.proofs.ItemNumbers.{near}
 use Rattle.asn_walk.proofs.ItemNumbers.{number_is_small}
 use Rattle.asn_oer.specs.Oer.{item_number}

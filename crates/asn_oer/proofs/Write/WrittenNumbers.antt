@@ -18,7 +18,7 @@ use Rattle.asn_oer.proofs.Law.Integers.{signed_cases, from_zero, in_bound}
 use Rattle.asn_oer.proofs.Encodings.SpeltLeaves.{in_64_bits}
 use Rattle.asn_oer.proofs.Write.WrittenOctets.{least_counted, signed_counted}
 use Rattle.asn_rules.specs.IntegerSets.{magnitude_of}
-use Rattle.asn_rules.proofs.IntegerSets.{size_is, low_bound, high_bound}
+use Rattle.asn_rules.proofs.Plain.IntegerSets.{size_is, low_bound, high_bound}
 
 -- ---- which octets
 

@@ -7,10 +7,10 @@ use Rattle.asn_bits.proofs.LeastLengths.{general_short}
 use Rattle.asn_bits.proofs.Octets.{length-digits, octet_count_below, length-least_signed, signed_count_below}
 use Rattle.asn_bits.proofs.Splits.{unpacked-append}
 use Rattle.asn_rules.specs.Chunks.{Chunk, ones, flat}
-use Rattle.asn_rules.proofs.Flat.{flat-append, flat-ones}
+use Rattle.asn_rules.proofs.Live.Flat.{flat-append, flat-ones}
 use Rattle.asn_rules.specs.Fields.{spelled}
 use Rattle.asn_rules.specs.Filled.{filled_bits, filled_octets, unused_bits}
-use Rattle.asn_rules.proofs.OctetsWritten.{one_octet, short_length, content}
+use Rattle.asn_rules.proofs.Octets.OctetsWritten.{one_octet, short_length, content}
 use Rattle.asn_oer.specs.BitsWritten.{bits_header}
 use Rattle.asn_oer.specs.Oer.{counted_signed, variable_bits, tag}
 use Rattle.asn_oer.specs.Walk.{counted_items}

@@ -8,7 +8,7 @@ use Rattle.asn_bits.proofs.Octets.{packed_octets}
 use Rattle.asn_bits.proofs.FilledBits.{AreBits, bits_append, padding_bits, length-padding, unpacked-packed}
 use Rattle.asn_rules.specs.Chunks.{Chunk, ones, flat}
 use Rattle.asn_rules.specs.Laws.{AreOctets}
-use Rattle.asn_rules.proofs.Flat.{flat-append, flat-ones}
+use Rattle.asn_rules.proofs.Live.Flat.{flat-append, flat-ones}
 use Rattle.asn_per.specs.Per.{spelled, filling, filled, complete}
 use Rattle.asn_per.proofs.Encodings.Bits.{digits_bits}
 

@@ -7,7 +7,7 @@ use Rattle.asn_rules.specs.Chunks.{open_field, utf8_field, ones, flat}
 use Rattle.asn_rules.specs.Laws.{LiveByParts}
 use Rattle.asn_rules.specs.Live.{BeginsProperly, Free}
 use Rattle.asn_rules.specs.Reading.{AllSealed}
-use Rattle.asn_rules.proofs.Fronts.{live_iff, sealed-ones, sealed-append}
+use Rattle.asn_rules.proofs.Live.Fronts.{live_iff, sealed-ones, sealed-append}
 use Rattle.asn_per.specs.Per.{spelled, filling, per, per_fields, per_whole}
 use Rattle.asn_per.proofs.Encodings.NotEmpty.{spelled_not_empty}
 use Rattle.asn_per.proofs.Encodings.Spelt.{per_spelt}

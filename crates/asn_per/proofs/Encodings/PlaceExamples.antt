@@ -11,7 +11,7 @@ use Rattle.asn_values.specs.ExampleTypes.{hex, between}
 use Rattle.asn_bits.specs.Numbers.{unpacked}
 use Rattle.asn_rules.specs.Chunks.{utf8_field}
 use Rattle.asn_rules.specs.Live.{BeginsProperly, IsContent, GoesOn, Live, Place}
-use Rattle.asn_rules.proofs.LiveUpTo.{live_up_to}
+use Rattle.asn_rules.proofs.Live.LiveUpTo.{live_up_to}
 use Rattle.asn_per.specs.Per.{spelled, per_whole, per_fields}
 
 -- ---- NULL, 00000001: the eighth bit is no filling

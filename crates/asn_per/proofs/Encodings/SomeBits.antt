@@ -14,7 +14,7 @@ use Rattle.asn_bits.specs.Lengths.{general_octets}
 use Rattle.asn_rules.specs.Chunks.{one, ones}
 use Rattle.asn_rules.specs.Components.{number_at, bit_of, presence, any_present, extension_bit}
 use Rattle.asn_per.specs.Per.{after_mark, rank, unconstrained, sized, constrained, small, whole_number, ranged, enumeration, character_bits, per, per_each, per_additions, per_alternative, per_more}
-use Rattle.asn_rules.proofs.SomeValue.{number_between, all_same, shortest_fits, entries_again, list_again, character_fits, some_length, entries_fit, first_place, some_value, some_entries}
+use Rattle.asn_rules.proofs.Law.SomeValue.{number_between, all_same, shortest_fits, entries_again, list_again, character_fits, some_length, entries_fit, first_place, some_value, some_entries}
 use Rattle.asn_per.proofs.Encodings.Empty.{spelt_by_nothing}
 use Rattle.asn_per.proofs.Encodings.NotEmpty.{cons_not_empty, left_not_empty, right_not_empty, ones_not_empty, constrained_not_empty, general_not_empty, sized_not_empty}
 

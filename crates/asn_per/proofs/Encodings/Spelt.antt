@@ -11,10 +11,10 @@ use Rattle.asn_bits.proofs.FilledBits.{AreBits, bits_append}
 use Rattle.asn_bits.proofs.Utf8.{utf8_octets}
 use Rattle.asn_rules.specs.Chunks.{utf8_field, Chunk, one, sealed, ones, flat}
 use Rattle.asn_rules.specs.Components.{bit_of, presence, if_spelled, any_present, extension_bit}
-use Rattle.asn_rules.proofs.Entries.{bit_of_is, extension_bits, presence_bits, front_bits, entry_has}
-use Rattle.asn_rules.proofs.Flat.{flat-append, flat-ones}
+use Rattle.asn_rules.proofs.Law.Entries.{bit_of_is, extension_bits, presence_bits, front_bits, entry_has}
+use Rattle.asn_rules.proofs.Live.Flat.{flat-append, flat-ones}
 use Rattle.asn_rules.specs.Reading.{AllSealed}
-use Rattle.asn_rules.proofs.Fronts.{sealed-ones, sealed-append}
+use Rattle.asn_rules.proofs.Live.Fronts.{sealed-ones, sealed-append}
 use Rattle.asn_per.specs.Per.{spelled, complete, an_open_field, constrained, small, small_length, after_mark, within, sized, character_bits, additions, per, per_each, per_additions, per_open, per_alternative, per_more, per_fields}
 use Rattle.asn_per.proofs.Encodings.Bits.{AllLengths, digits_bits, lengths_bits, spelled_bits, number_bits, small_bits, item_bits, character_bits_are}
 use Rattle.asn_per.proofs.Encodings.Complete.{complete_octets, complete_some}

@@ -6,7 +6,7 @@ use Rattle.asn_bits.proofs.LongerLengths.{octets_longer}
 use Rattle.asn_rules.specs.Chunks.{ones, flat}
 use Rattle.asn_rules.specs.Parted.{Parted, SpellingsPart}
 use Rattle.asn_rules.specs.Reading.{RulesTell}
-use Rattle.asn_rules.proofs.Chunks.{parted_longer}
+use Rattle.asn_rules.proofs.Live.Chunks.{parted_longer}
 use Rattle.asn_per.specs.Per.{spelled, per, filling, filled, per_whole}
 use Rattle.asn_per.specs.Rules.{per_ruling}
 use Rattle.asn_per.proofs.Encodings.Complete.{unpacked-append}

@@ -10,8 +10,8 @@ use Rattle.asn_bits.proofs.Digits.{digits_code}
 use Rattle.asn_rules.specs.Chunks.{flat}
 use Rattle.asn_rules.specs.Laws.{AreOctets, EncodesAs, UnitsTellTheValue, OneValue, NoneBegins, RulesLaws, WholesTell}
 use Rattle.asn_rules.specs.Parted.{SpellingsPart}
-use Rattle.asn_rules.proofs.FromFacing.{units_tell, spellings_part}
-use Rattle.asn_rules.proofs.FromUnits.{rules_laws}
+use Rattle.asn_rules.proofs.Law.FromFacing.{units_tell, spellings_part}
+use Rattle.asn_rules.proofs.Law.FromUnits.{rules_laws}
 use Rattle.asn_per.specs.Per.{spelled, per, filling, complete, per_whole, per_octets}
 use Rattle.asn_per.specs.Rules.{per_ruling}
 use Rattle.asn_per.specs.Laws.{per_bits, NoBitsIsExact}

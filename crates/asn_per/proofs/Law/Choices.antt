@@ -10,7 +10,7 @@ use Rattle.asn_bits.proofs.Digits.{digits_code}
 use Rattle.asn_bits.proofs.Widths.{width_fits}
 use Rattle.asn_rules.specs.Chunks.{Chunk, ones}
 use Rattle.asn_rules.specs.Components.{extension_bit}
-use Rattle.asn_rules.proofs.Facing.{Facing, facing_parts, plain_facing}
+use Rattle.asn_rules.proofs.Law.Facing.{Facing, facing_parts, plain_facing}
 use Rattle.asn_per.specs.Per.{spelled, constrained, small, per_alternative, per_more}
 use Rattle.asn_per.proofs.Law.Numbers.{small_code}
 

@@ -10,7 +10,7 @@ use Rattle.asn_bits.proofs.Codes.{IsCode}
 use Rattle.asn_bits.proofs.Digits.{digits_code}
 use Rattle.asn_bits.proofs.Widths.{width_fits}
 use Rattle.asn_rules.specs.Components.{number_at}
-use Rattle.asn_rules.proofs.Items.{numbers, one_place}
+use Rattle.asn_rules.proofs.Law.Items.{numbers, one_place}
 use Rattle.asn_per.proofs.Law.Numbers.{marked_code, small_code}
 use Rattle.asn_per.specs.Per.{constrained, small, rank, enumeration}
 

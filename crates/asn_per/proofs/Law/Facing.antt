@@ -16,10 +16,10 @@ use Rattle.asn_bits.proofs.Octets.{octets_code}
 use Rattle.asn_bits.proofs.Utf8.{utf8_octets}
 use Rattle.asn_rules.specs.Chunks.{open_field, utf8_field, Chunk, one, sealed, ones, flat}
 use Rattle.asn_rules.specs.Components.{bit_of, presence, if_spelled, any_present, extension_bit}
-use Rattle.asn_rules.proofs.Entries.{same_elements, same_components, each_length, none_present, bit_of_same, presence_code, presence_first, SameFront, front_code, entry_facing}
-use Rattle.asn_rules.proofs.Facing.{Facing, IsFacing, facing_parts, plain_facing, code_facing, sealed_facing}
-use Rattle.asn_rules.proofs.FromFacing.{SpellingsFace, facing_code}
-use Rattle.asn_rules.proofs.Items.{good_items}
+use Rattle.asn_rules.proofs.Law.Entries.{same_elements, same_components, each_length, none_present, bit_of_same, presence_code, presence_first, SameFront, front_code, entry_facing}
+use Rattle.asn_rules.proofs.Law.Facing.{Facing, IsFacing, facing_parts, plain_facing, code_facing, sealed_facing}
+use Rattle.asn_rules.proofs.Law.FromFacing.{SpellingsFace, facing_code}
+use Rattle.asn_rules.proofs.Law.Items.{good_items}
 use Rattle.asn_per.specs.Per.{spelled, complete, whole_number, enumeration, character_bits, an_open_field, small_length, per, per_each, per_open, per_additions, per_alternative, per_more}
 use Rattle.asn_per.proofs.Law.Choices.{choice_facing}
 use Rattle.asn_per.proofs.Law.Characters.{character_code}

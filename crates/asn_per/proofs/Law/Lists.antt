@@ -13,7 +13,7 @@ use Rattle.asn_bits.proofs.Digits.{digits_code}
 use Rattle.asn_bits.proofs.GeneralLengths.{last_code, last_not_fragment, lengths_cases, blocks, all_take, take-map}
 use Rattle.asn_bits.proofs.Widths.{width_fits}
 use Rattle.asn_rules.specs.Chunks.{Chunk, one, ones}
-use Rattle.asn_rules.proofs.Facing.{Facing, IsFacing, facing_at, facing_parts, plain_facing, joined_facing}
+use Rattle.asn_rules.proofs.Law.Facing.{Facing, IsFacing, facing_at, facing_parts, plain_facing, joined_facing}
 use Rattle.asn_per.specs.Per.{spelled, constrained, within, sized, after_mark}
 
 -- ---- what stands after a length

@@ -3,11 +3,11 @@ use Rattle.std.proofs.Common.{◌≡◌, ℕ, ◌+◌, List, [], ◌∷◌, ◌+
 use Rattle.asn_bits.specs.Moves.{Taken}
 use Rattle.asn_rules.specs.Chunks.{Chunk}
 use Rattle.asn_rules.specs.Fields.{Octet}
-use Rattle.asn_rules.proofs.OctetRows.{octet_bits_front}
+use Rattle.asn_rules.proofs.Numbers.OctetRows.{octet_bits_front}
 use Rattle.asn_rules.specs.Languages.{Spells, Lawful, Inhabited, Row}
-use Rattle.asn_rules.proofs.Leads.{LeadsStops}
-use Rattle.asn_rules.proofs.Rows.{row_starts, row_spells, row_one, row_short, row_refused}
-use Rattle.asn_rules.proofs.Exits.{stops_next}
+use Rattle.asn_rules.proofs.Languages.Leads.{LeadsStops}
+use Rattle.asn_rules.proofs.Languages.Rows.{row_starts, row_spells, row_one, row_short, row_refused}
+use Rattle.asn_rules.proofs.Languages.Exits.{stops_next}
 use Rattle.asn_per.specs.Per.{per_fields}
 use Rattle.asn_per.specs.Reading.{Appends}
 use Rattle.asn_per.proofs.Encodings.PerFields.{per_fields_part}

@@ -20,8 +20,8 @@ use Rattle.asn_rules.specs.Components.{has_presence_bit}
 use Rattle.asn_rules.specs.Languages.{Spells, Plain}
 use Rattle.asn_bits.specs.Sets.{InSet}
 use Rattle.asn_rules.specs.Listed.{Spelt, Listed, Entry, default_of, bitmap_length}
-use Rattle.asn_rules.proofs.Leads.{LeadsStops, Leads, leads_here, leads_map, stops_on}
-use Rattle.asn_rules.proofs.ListedReading.{Steps, steps_must, steps_bit, leads_entry, nothing_read}
+use Rattle.asn_rules.proofs.Languages.Leads.{LeadsStops, Leads, leads_here, leads_map, stops_on}
+use Rattle.asn_rules.proofs.Components.ListedReading.{Steps, steps_must, steps_bit, leads_entry, nothing_read}
 use Rattle.asn_per.specs.Per.{per, per_fields}
 use Rattle.asn_rules.specs.NumberSets.{Admits, up_to}
 use Rattle.asn_per.proofs.Types.SequenceLanguage.{bitmap_stops, components_leads}

@@ -9,10 +9,10 @@ use Rattle.asn_bits.proofs.Widths.{width_fits}
 use Rattle.asn_rules.specs.Chunks.{Chunk}
 use Rattle.asn_rules.specs.Forks.{Fork}
 use Rattle.asn_rules.specs.Languages.{Inhabited, Lawful, Plain, Short, Refused}
-use Rattle.asn_rules.proofs.Exits.{leads_zero, leads_one}
-use Rattle.asn_rules.proofs.Forks.{map_lawful_on, fork_lawful, fork_short, fork_refused, fork_inhabited_zero}
-use Rattle.asn_rules.proofs.Leads.{Leads, leads_map, leads_same}
-use Rattle.asn_rules.proofs.Sets.{set_inhabited, set_lawful}
+use Rattle.asn_rules.proofs.Languages.Exits.{leads_zero, leads_one}
+use Rattle.asn_rules.proofs.Languages.Forks.{map_lawful_on, fork_lawful, fork_short, fork_refused, fork_inhabited_zero}
+use Rattle.asn_rules.proofs.Languages.Leads.{Leads, leads_map, leads_same}
+use Rattle.asn_rules.proofs.Numbers.Sets.{set_inhabited, set_lawful}
 use Rattle.asn_per.specs.Indexes.{IndexesOf}
 use Rattle.asn_per.specs.Kinds.{Below, SmallBelow}
 use Rattle.asn_per.specs.Per.{per_fields}
@@ -21,7 +21,7 @@ use Rattle.asn_rules.specs.Stops.{Stops}
 use Rattle.asn_rules.specs.declared.stop.Stop.{Stop}
 use Rattle.asn_rules.specs.declared.stop.Stop.TheVariants as stop
 use Rattle.asn_rules.specs.NumberSets.{Admits, up_to}
-use Rattle.asn_rules.proofs.NumberSets.{same_set}
+use Rattle.asn_rules.proofs.Plain.NumberSets.{same_set}
 use Rattle.asn_per.proofs.Encodings.PerFields.{per_fields_part}
 
 -- ---- numbers below a count

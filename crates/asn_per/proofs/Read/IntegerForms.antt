@@ -11,13 +11,13 @@ use Rattle.asn_rules.specs.Counted.{Counted, LeastSigned, signed_number}
 use Rattle.asn_rules.specs.Forks.{Fork, Same}
 use Rattle.asn_rules.specs.Languages.{Map, Inhabited}
 use Rattle.asn_rules.specs.Listed.{IsOther, Spelt}
-use Rattle.asn_rules.proofs.Forks.{same_flip}
-use Rattle.asn_rules.proofs.Exits.{leads_zero, leads_one}
+use Rattle.asn_rules.proofs.Languages.Forks.{same_flip}
+use Rattle.asn_rules.proofs.Languages.Exits.{leads_zero, leads_one}
 use Rattle.asn_rules.specs.Stops.{Stops}
 use Rattle.asn_rules.specs.declared.stop.Stop.{Stop}
-use Rattle.asn_rules.proofs.Leads.{Leads, leads_on, leads_map, leads_same, stops_by}
-use Rattle.asn_rules.proofs.Listed.{spelt_inhabited}
-use Rattle.asn_rules.proofs.Spellings.{same_after, same_map, same_fork}
+use Rattle.asn_rules.proofs.Languages.Leads.{Leads, leads_on, leads_map, leads_same, stops_by}
+use Rattle.asn_rules.proofs.Components.Listed.{spelt_inhabited}
+use Rattle.asn_rules.proofs.Languages.Spellings.{same_after, same_map, same_fork}
 use Rattle.asn_rules.specs.declared.signed_reader.OffsetSet.{OffsetSet}
 use Rattle.asn_per.specs.Kinds.{Values, Unconstrained, IsOutside, Ranged, of_either}
 use Rattle.asn_per.specs.Per.{per, per_fields}

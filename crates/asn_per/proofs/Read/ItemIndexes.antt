@@ -14,7 +14,7 @@ use Rattle.asn_values.specs.Measures.{nodes}
 use Rattle.asn_values.specs.View.{label_of}
 use Rattle.asn_values.proofs.Parts.{left_false}
 use Rattle.asn_rules.specs.Components.{number_at}
-use Rattle.asn_rules.proofs.Items.{numbers, good_items}
+use Rattle.asn_rules.proofs.Law.Items.{numbers, good_items}
 use Rattle.asn_per.specs.Per.{rank}
 use Rattle.asn_per.specs.Kinds.{position_of}
 use Rattle.asn_per.specs.Indexes.{AreRootItems}

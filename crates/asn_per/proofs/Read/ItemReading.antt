@@ -11,16 +11,16 @@ use Rattle.asn_rules.specs.Forks.{Branch}
 use Rattle.asn_rules.specs.Chunks.{Chunk}
 use Rattle.asn_rules.specs.Languages.{Inhabited, Plain, Map}
 use Rattle.asn_rules.specs.Listed.{Spelt}
-use Rattle.asn_rules.proofs.Forks.{same_flip, same_inhabited}
-use Rattle.asn_rules.proofs.Leads.{Leads, leads_on, leads_map, leads_same}
+use Rattle.asn_rules.proofs.Languages.Forks.{same_flip, same_inhabited}
+use Rattle.asn_rules.proofs.Languages.Leads.{Leads, leads_on, leads_map, leads_same}
 use Rattle.asn_bits.proofs.Unions.{set_meets}
-use Rattle.asn_rules.proofs.Spellings.{same_after}
+use Rattle.asn_rules.proofs.Languages.Spellings.{same_after}
 use Rattle.asn_per.specs.Kinds.{position_of, Below, SmallBelow, RootItems, Items, RootItemsBut, IndexesBut, IsRootPosition, of_either}
 use Rattle.asn_per.specs.Per.{per, per_fields}
 use Rattle.asn_per.specs.Indexes.{IsItemWithin, IndexesOf, index_of}
 use Rattle.asn_rules.specs.NumberSets.{Admits, up_to}
 use Rattle.asn_per.proofs.Types.EnumeratedLanguages.{items_compose}
-use Rattle.asn_rules.proofs.NumberSets.{same_set}
+use Rattle.asn_rules.proofs.Plain.NumberSets.{same_set}
 use Rattle.asn_per.proofs.Types.LeftOut.{enumerated_but_one, none_left_out}
 
 -- ---- sets of indexes

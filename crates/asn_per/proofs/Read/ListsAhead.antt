@@ -17,23 +17,23 @@ use Rattle.asn_rules.specs.General.{Length, fragment, after_first, Few, Many, Le
 use Rattle.asn_rules.specs.Stops.{Stops}
 use Rattle.asn_rules.specs.declared.stop.Stop.{Stop}
 use Rattle.asn_rules.specs.declared.stop.Stop.TheVariants as stop
-use Rattle.asn_rules.proofs.Leads.{LeadsStops, Leads, leads_here, leads_on, leads_map, leads_second, leads_same, stops_on, stops_first, stops_by}
-use Rattle.asn_rules.proofs.Exits.{leads_zero, leads_one, leads_last, leads_rest, stops_length, stops_fragment}
-use Rattle.asn_rules.proofs.Forks.{same_flip, map_lawful_on, fork_lawful, fork_short, fork_inhabited_one}
-use Rattle.asn_rules.proofs.General.{general_inhabited}
-use Rattle.asn_rules.proofs.Headers.{header_tells}
-use Rattle.asn_rules.proofs.Parts.{map_lawful, map_short, nothing_lawful, nothing_inhabited, nothing_spells}
-use Rattle.asn_rules.proofs.Sets.{set_lawful}
-use Rattle.asn_rules.proofs.Ranges.{general_left, general_sets, starts_spanned, at_start}
-use Rattle.asn_rules.proofs.Rows.{row_inhabited}
-use Rattle.asn_rules.proofs.Spellings.{same_after, same_map, same_fork}
-use Rattle.asn_rules.proofs.Then.{Follows}
+use Rattle.asn_rules.proofs.Languages.Leads.{LeadsStops, Leads, leads_here, leads_on, leads_map, leads_second, leads_same, stops_on, stops_first, stops_by}
+use Rattle.asn_rules.proofs.Languages.Exits.{leads_zero, leads_one, leads_last, leads_rest, stops_length, stops_fragment}
+use Rattle.asn_rules.proofs.Languages.Forks.{same_flip, map_lawful_on, fork_lawful, fork_short, fork_inhabited_one}
+use Rattle.asn_rules.proofs.Numbers.General.{general_inhabited}
+use Rattle.asn_rules.proofs.Numbers.Headers.{header_tells}
+use Rattle.asn_rules.proofs.Languages.Parts.{map_lawful, map_short, nothing_lawful, nothing_inhabited, nothing_spells}
+use Rattle.asn_rules.proofs.Numbers.Sets.{set_lawful}
+use Rattle.asn_rules.proofs.Numbers.Ranges.{general_left, general_sets, starts_spanned, at_start}
+use Rattle.asn_rules.proofs.Languages.Rows.{row_inhabited}
+use Rattle.asn_rules.proofs.Languages.Spellings.{same_after, same_map, same_fork}
+use Rattle.asn_rules.proofs.Languages.Then.{Follows}
 use Rattle.asn_per.specs.Per.{spelled, per_fields}
 use Rattle.asn_per.specs.Kinds.{Below, of_either, IsOtherCount, CountWithin, RootSized, Sized}
 use Rattle.asn_rules.specs.declared.number_reader.NumberSet.{NumberSet}
 use Rattle.asn_rules.specs.NumberSets.{Admits}
 use Rattle.asn_per.specs.Reading.{Appends, StopsAtMark}
-use Rattle.asn_rules.proofs.NumberSets.{same_set}
+use Rattle.asn_rules.proofs.Plain.NumberSets.{same_set}
 use Rattle.asn_walk.specs.Ahead.{Ahead, items, lengths, end, Remaining, SomeAhead, Advances, Next, StopsNext}
 use Rattle.asn_walk.specs.Laws.{IsSizeOfProfile}
 use Rattle.asn_per.specs.ListsAhead.{other_counts, RootStart, Start}

@@ -5,7 +5,7 @@ use Rattle.asn_rules.specs.Forks.{Same}
 use Rattle.asn_rules.specs.Listed.{Spelt}
 use Rattle.asn_rules.specs.Padding.{Padded}
 use Rattle.asn_rules.specs.Reading.{Wholes}
-use Rattle.asn_rules.proofs.Spellings.{same_after, same_spelled, padded_spelled}
+use Rattle.asn_rules.proofs.Languages.Spellings.{same_after, same_spelled, padded_spelled}
 use Rattle.asn_per.specs.Per.{per, per_fields, filling}
 use Rattle.asn_per.specs.Rules.{per_ruling}
 

@@ -15,13 +15,13 @@ use Rattle.asn_rules.specs.Reading.{Wholes, Holds}
 use Rattle.asn_rules.specs.Stops.{Stops}
 use Rattle.asn_rules.specs.declared.stop.Stop.{Stop}
 use Rattle.asn_rules.specs.declared.stop.Stop.TheVariants as stop
-use Rattle.asn_rules.proofs.Exits.{stops_field}
-use Rattle.asn_rules.proofs.Fields.{open_frame, field_spells, field_refused_content}
-use Rattle.asn_rules.proofs.Forks.{same_spells}
-use Rattle.asn_rules.proofs.Headed.{plain_front}
-use Rattle.asn_rules.proofs.Leads.{LeadsStops}
-use Rattle.asn_rules.proofs.OpenFields.{holds_whole, holds_no_less, holds_none, holds_no_more}
-use Rattle.asn_rules.proofs.SomeValue.{a_value}
+use Rattle.asn_rules.proofs.Languages.Exits.{stops_field}
+use Rattle.asn_rules.proofs.Sealed.Fields.{open_frame, field_spells, field_refused_content}
+use Rattle.asn_rules.proofs.Languages.Forks.{same_spells}
+use Rattle.asn_rules.proofs.Sealed.Headed.{plain_front}
+use Rattle.asn_rules.proofs.Languages.Leads.{LeadsStops}
+use Rattle.asn_rules.proofs.Sealed.OpenFields.{holds_whole, holds_no_less, holds_none, holds_no_more}
+use Rattle.asn_rules.proofs.Law.SomeValue.{a_value}
 use Rattle.asn_per.specs.Kinds.{Sized, OpenValues}
 use Rattle.asn_per.specs.Per.{per_fields}
 use Rattle.asn_per.specs.Rules.{per_ruling}

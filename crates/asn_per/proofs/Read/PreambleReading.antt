@@ -18,12 +18,12 @@ use Rattle.asn_rules.specs.Spellings.{SpelledBy, FitsEither, either_code}
 use Rattle.asn_rules.specs.Stops.{Stops}
 use Rattle.asn_rules.specs.declared.stop.Stop.{Stop}
 use Rattle.asn_rules.specs.declared.stop.Stop.TheVariants as stop
-use Rattle.asn_rules.proofs.Chunks.{ones-append}
-use Rattle.asn_rules.proofs.Exits.{leads_zero, leads_one}
-use Rattle.asn_rules.proofs.Forks.{same_spells, fork_short, fork_refused, fork_inhabited_zero}
-use Rattle.asn_rules.proofs.Leads.{LeadsStops, Leads, leads_on, leads_map, leads_same, leads_second, stops_first, stops_on}
-use Rattle.asn_rules.proofs.Sets.{set_inhabited, set_lawful}
-use Rattle.asn_rules.proofs.Spellings.{same_after, same_map, same_then, same_spelled, set_spelled, then_spelled, map_spelled, fork_spelled, spelled_inhabited}
+use Rattle.asn_rules.proofs.Live.Chunks.{ones-append}
+use Rattle.asn_rules.proofs.Languages.Exits.{leads_zero, leads_one}
+use Rattle.asn_rules.proofs.Languages.Forks.{same_spells, fork_short, fork_refused, fork_inhabited_zero}
+use Rattle.asn_rules.proofs.Languages.Leads.{LeadsStops, Leads, leads_on, leads_map, leads_same, leads_second, stops_first, stops_on}
+use Rattle.asn_rules.proofs.Numbers.Sets.{set_inhabited, set_lawful}
+use Rattle.asn_rules.proofs.Languages.Spellings.{same_after, same_map, same_then, same_spelled, set_spelled, then_spelled, map_spelled, fork_spelled, spelled_inhabited}
 use Rattle.asn_walk.specs.Coding.{CanExtend, GoodPreamble, PreambleOf, AdditionBitmapOf}
 use Rattle.asn_rules.specs.declared.number_reader.NumberSet.{NumberSet}
 use Rattle.asn_per.specs.Kinds.{AdditionCount, SomePresent}
@@ -32,7 +32,7 @@ use Rattle.asn_rules.specs.NumberSets.{Admits, up_to}
 use Rattle.asn_per.specs.Reading.{StopsAtMark, only}
 use Rattle.asn_per.specs.Walk.{per_coding}
 use Rattle.asn_per.proofs.Types.AdditionLanguages.{count_bits}
-use Rattle.asn_rules.proofs.NumberSets.{same_set}
+use Rattle.asn_rules.proofs.Plain.NumberSets.{same_set}
 use Rattle.asn_per.proofs.Encodings.PerFields.{per_fields_part}
 
 -- ---- the preamble: an extension bit and presence bits

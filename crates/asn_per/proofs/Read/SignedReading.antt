@@ -6,9 +6,9 @@ use Rattle.asn_rules.specs.Forks.{Same}
 use Rattle.asn_rules.specs.Languages.{Map}
 use Rattle.asn_rules.specs.OffsetSets.{HasInteger, UnconstrainedIn}
 use Rattle.asn_rules.specs.declared.signed_reader.OffsetSet.{OffsetSet}
-use Rattle.asn_rules.proofs.Leads.{Leads, leads_on, leads_map, leads_same}
-use Rattle.asn_rules.proofs.NumberSets.{same_set}
-use Rattle.asn_rules.proofs.Spellings.{same_then, same_map}
+use Rattle.asn_rules.proofs.Languages.Leads.{Leads, leads_on, leads_map, leads_same}
+use Rattle.asn_rules.proofs.Plain.NumberSets.{same_set}
+use Rattle.asn_rules.proofs.Languages.Spellings.{same_then, same_map}
 use Rattle.asn_rules.specs.IntegerSets.{AreOffsets}
 use Rattle.asn_per.specs.Per.{per_fields}
 use Rattle.asn_per.specs.Kinds.{Unconstrained}

@@ -7,8 +7,8 @@ use Rattle.asn_rules.specs.Chunks.{utf8_field}
 use Rattle.asn_rules.specs.Fields.{Octet}
 use Rattle.asn_rules.specs.Languages.{Sealed}
 use Rattle.asn_rules.specs.Listed.{Spelt}
-use Rattle.asn_rules.proofs.Leads.{Leads, leads_on, leads_map, leads_same}
-use Rattle.asn_rules.proofs.Spellings.{same_after}
+use Rattle.asn_rules.proofs.Languages.Leads.{Leads, leads_on, leads_map, leads_same}
+use Rattle.asn_rules.proofs.Languages.Spellings.{same_after}
 use Rattle.asn_per.specs.Per.{per, per_fields}
 use Rattle.asn_per.specs.Kinds.{Bit, Character, Sized, IsUtf8Content}
 use Rattle.asn_walk.specs.Laws.{IsSizeOfProfile}

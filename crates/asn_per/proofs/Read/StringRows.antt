@@ -16,13 +16,13 @@ use Rattle.asn_rules.specs.Languages.{Spells, Short, Inhabited, Row, Map, Plain}
 use Rattle.asn_rules.specs.Forks.{Same}
 use Rattle.asn_rules.specs.Spellings.{SpelledBy}
 use Rattle.asn_bits.proofs.Weights.{bits_are, digits-append}
-use Rattle.asn_rules.proofs.Rows.{row_lawful}
+use Rattle.asn_rules.proofs.Languages.Rows.{row_lawful}
 use Rattle.asn_bits.proofs.Unions.{set_meets}
-use Rattle.asn_rules.proofs.Sets.{set_spells, set_inhabited}
-use Rattle.asn_rules.proofs.Leads.{Leads, leads_on, leads_map, leads_same}
-use Rattle.asn_rules.proofs.Parts.{map_inhabited}
-use Rattle.asn_rules.proofs.Forks.{same_flip, same_inhabited, map_same}
-use Rattle.asn_rules.proofs.Spellings.{same_after, same_row, same_spelled, same_map, row_spelled, units_front, units_short}
+use Rattle.asn_rules.proofs.Numbers.Sets.{set_spells, set_inhabited}
+use Rattle.asn_rules.proofs.Languages.Leads.{Leads, leads_on, leads_map, leads_same}
+use Rattle.asn_rules.proofs.Languages.Parts.{map_inhabited}
+use Rattle.asn_rules.proofs.Languages.Forks.{same_flip, same_inhabited, map_same}
+use Rattle.asn_rules.proofs.Languages.Spellings.{same_after, same_row, same_spelled, same_map, row_spelled, units_front, units_short}
 use Rattle.asn_per.specs.Per.{per_fields}
 use Rattle.asn_per.specs.Kinds.{Bit, Character, truth_of}
 use Rattle.asn_rules.specs.NumberSets.{Admits}
@@ -30,7 +30,7 @@ use Rattle.asn_per.specs.Reading.{Appends, code_width, codes_of, character_at}
 use Rattle.asn_per.proofs.Encodings.PerFields.{per_fields_part}
 use Rattle.asn_per.proofs.Types.BooleanAndNull.{bit_spelled}
 use Rattle.asn_per.proofs.Types.StringLanguages.{bit_lawful}
-use Rattle.asn_rules.proofs.NumberSets.{same_set}
+use Rattle.asn_rules.proofs.Plain.NumberSets.{same_set}
 use Rattle.asn_per.proofs.Read.Appending.{appends_more, appends_one}
 
 -- ---- bits

@@ -5,10 +5,10 @@ use Rattle.asn_rules.specs.Fields.{Octet}
 use Rattle.asn_rules.specs.Forks.{Same}
 use Rattle.asn_rules.specs.Frames.{Frame}
 use Rattle.asn_rules.specs.Languages.{Spells, Refused, Sealed, SomeContent}
-use Rattle.asn_rules.proofs.Exits.{stops_field}
-use Rattle.asn_rules.proofs.Fields.{utf8_frame, field_spells, field_refused_content}
-use Rattle.asn_rules.proofs.General.{general_counted}
-use Rattle.asn_rules.proofs.Leads.{LeadsStops}
+use Rattle.asn_rules.proofs.Languages.Exits.{stops_field}
+use Rattle.asn_rules.proofs.Sealed.Fields.{utf8_frame, field_spells, field_refused_content}
+use Rattle.asn_rules.proofs.Numbers.General.{general_counted}
+use Rattle.asn_rules.proofs.Languages.Leads.{LeadsStops}
 use Rattle.asn_per.specs.Per.{per_fields}
 use Rattle.asn_per.specs.Kinds.{Sized, IsUtf8Content}
 use Rattle.asn_per.proofs.Encodings.PerFields.{per_fields_part}

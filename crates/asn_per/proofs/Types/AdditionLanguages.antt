@@ -17,10 +17,10 @@ use Rattle.asn_bits.specs.Sets.{AreDigits, weighted}
 use Rattle.asn_rules.specs.General.{after_first}
 use Rattle.asn_rules.specs.Forks.{Same}
 use Rattle.asn_rules.specs.Spellings.{SpelledBy}
-use Rattle.asn_rules.proofs.Chunks.{ones-append}
+use Rattle.asn_rules.proofs.Live.Chunks.{ones-append}
 use Rattle.asn_bits.proofs.Weights.{bits_are, bits_only}
-use Rattle.asn_rules.proofs.Entries.{each_length, presence_bits}
-use Rattle.asn_rules.proofs.Spellings.{same_after, same_then, same_map, set_spelled, then_spelled, map_spelled}
+use Rattle.asn_rules.proofs.Law.Entries.{each_length, presence_bits}
+use Rattle.asn_rules.proofs.Languages.Spellings.{same_after, same_then, same_map, set_spelled, then_spelled, map_spelled}
 use Rattle.asn_per.specs.Per.{per, per_open, an_open_field, small_length}
 pub use Rattle.asn_per.specs.Additions.{AreOptional}
 use Rattle.asn_per.specs.Kinds.{OpenValues, OpenListed, SomePresent, Additions}

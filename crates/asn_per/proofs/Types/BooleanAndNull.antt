@@ -9,7 +9,7 @@ use Rattle.asn_rules.specs.Chunks.{one, ones}
 use Rattle.asn_rules.specs.Components.{bit_of}
 use Rattle.asn_rules.specs.Forks.{Same}
 use Rattle.asn_rules.specs.Spellings.{SpelledBy}
-use Rattle.asn_rules.proofs.Spellings.{same_after, same_map, set_spelled, map_spelled}
+use Rattle.asn_rules.proofs.Languages.Spellings.{same_after, same_map, set_spelled, map_spelled}
 use Rattle.asn_per.specs.Per.{per}
 use Rattle.asn_per.specs.Kinds.{Values, Below, truth_of, Bit, Booleans, Nulls}
 

@@ -11,8 +11,8 @@ use Rattle.asn_rules.specs.Forks.{Same}
 use Rattle.asn_rules.specs.Languages.{Map, Plain}
 use Rattle.asn_bits.specs.Sets.{InSet, Meets}
 use Rattle.asn_rules.specs.Listed.{IsOther, Spelt}
-use Rattle.asn_rules.proofs.Leads.{Leads, leads_on, leads_map, leads_same}
-use Rattle.asn_rules.proofs.Spellings.{same_after, same_map, set_spelled, map_spelled}
+use Rattle.asn_rules.proofs.Languages.Leads.{Leads, leads_on, leads_map, leads_same}
+use Rattle.asn_rules.proofs.Languages.Spellings.{same_after, same_map, set_spelled, map_spelled}
 use Rattle.asn_per.specs.Per.{per, per_fields}
 use Rattle.asn_rules.specs.NumberSets.{Admits, up_to}
 

@@ -12,7 +12,7 @@ use Rattle.asn_values.proofs.Parts.{left_false}
 use Rattle.asn_rules.specs.Chunks.{Chunk, ones}
 use Rattle.asn_rules.specs.Forks.{Same}
 use Rattle.asn_rules.specs.Spellings.{SpelledBy, FitsEither, either_code}
-use Rattle.asn_rules.proofs.Spellings.{same_after, same_then, same_map, same_fork, same_spelled, then_spelled, map_spelled, fork_spelled}
+use Rattle.asn_rules.proofs.Languages.Spellings.{same_after, same_then, same_map, same_fork, same_spelled, then_spelled, map_spelled, fork_spelled}
 use Rattle.asn_per.specs.Per.{per, per_alternative, constrained, small, an_open_field}
 use Rattle.asn_per.specs.Kinds.{Values, of_either, Chosen, OpenChosen, RootChoices, AddedChoices, Choices}
 use Rattle.asn_per.proofs.Law.Choices.{choice_chunks}

@@ -13,8 +13,8 @@ use Rattle.asn_rules.specs.Components.{number_at}
 use Rattle.asn_rules.specs.Languages.{Map}
 use Rattle.asn_rules.specs.Forks.{Same}
 use Rattle.asn_rules.specs.Spellings.{SpelledBy, FitsEither, either_code}
-use Rattle.asn_rules.proofs.Items.{numbers}
-use Rattle.asn_rules.proofs.Spellings.{same_after, same_map, same_fork, same_spelled, map_spelled, fork_spelled}
+use Rattle.asn_rules.proofs.Law.Items.{numbers}
+use Rattle.asn_rules.proofs.Languages.Spellings.{same_after, same_map, same_fork, same_spelled, map_spelled, fork_spelled}
 use Rattle.asn_per.specs.Per.{per, constrained, small, rank}
 use Rattle.asn_per.specs.Kinds.{Values, SmallBelow, of_either, position_of, RootItems, Items}
 use Rattle.asn_per.proofs.Types.BooleanAndNull.{below_spelled}

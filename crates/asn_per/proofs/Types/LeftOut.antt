@@ -13,8 +13,8 @@ use Rattle.asn_rules.specs.Chunks.{ones}
 use Rattle.asn_rules.specs.Components.{is_default, number_at}
 use Rattle.asn_rules.specs.Forks.{Same}
 use Rattle.asn_rules.specs.Listed.{IsOther, Spelt}
-use Rattle.asn_rules.proofs.Items.{numbers}
-use Rattle.asn_rules.proofs.Spellings.{same_after, same_map, same_spelled, set_spelled, map_spelled}
+use Rattle.asn_rules.proofs.Law.Items.{numbers}
+use Rattle.asn_rules.proofs.Languages.Spellings.{same_after, same_map, same_spelled, set_spelled, map_spelled}
 use Rattle.asn_per.specs.Per.{per, rank}
 use Rattle.asn_per.specs.Kinds.{Values, position_of, IndexesBut, IsRootPosition, EnumeratedButOne, UnboundedButOne}
 use Rattle.asn_per.proofs.Law.Enumerations.{rank_inside}

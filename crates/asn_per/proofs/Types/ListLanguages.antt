@@ -8,7 +8,7 @@ use Rattle.asn_values.proofs.Parts.{left_false}
 use Rattle.asn_values.proofs.InnerTypes.{element_of_profile}
 use Rattle.asn_rules.specs.Languages.{Lawful}
 use Rattle.asn_rules.specs.Forks.{Same}
-use Rattle.asn_rules.proofs.Spellings.{same_after, same_map, map_spelled, spelled_lawful}
+use Rattle.asn_rules.proofs.Languages.Spellings.{same_after, same_map, map_spelled, spelled_lawful}
 use Rattle.asn_per.specs.Per.{per, sized}
 use Rattle.asn_per.specs.Kinds.{Values, ListsOf}
 use Rattle.asn_per.proofs.Types.SizedLists.{FitSize, sized_spelled}

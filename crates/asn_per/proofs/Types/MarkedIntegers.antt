@@ -12,8 +12,8 @@ use Rattle.asn_rules.specs.Languages.{Map}
 use Rattle.asn_rules.specs.Forks.{Fork, Same}
 use Rattle.asn_rules.specs.Counted.{Counted, signed_number, LeastSigned}
 use Rattle.asn_rules.specs.Spellings.{SpelledBy, FitsEither, either_code}
-use Rattle.asn_rules.proofs.CountedCodes.{counted_bits, counted_signed_bits}
-use Rattle.asn_rules.proofs.Spellings.{same_after, same_map, same_fork, map_spelled, fork_spelled}
+use Rattle.asn_rules.proofs.Numbers.CountedCodes.{counted_bits, counted_signed_bits}
+use Rattle.asn_rules.proofs.Languages.Spellings.{same_after, same_map, same_fork, map_spelled, fork_spelled}
 use Rattle.asn_per.specs.Per.{per, unconstrained}
 use Rattle.asn_per.specs.Kinds.{Values, of_either, root_of, IsOutside, Unconstrained, Ranged, Integers}
 use Rattle.asn_per.proofs.Types.BooleanAndNull.{below_spelled}

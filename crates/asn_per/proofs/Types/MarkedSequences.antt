@@ -15,8 +15,8 @@ use Rattle.asn_rules.specs.Components.{bit_of, presence, any_present}
 use Rattle.asn_rules.specs.Languages.{Then, Map}
 use Rattle.asn_rules.specs.Forks.{Same}
 use Rattle.asn_rules.specs.Spellings.{SpelledBy, FitsEither, either_code}
-use Rattle.asn_rules.proofs.Entries.{each_length, none_present}
-use Rattle.asn_rules.proofs.Spellings.{same_after, same_then, same_map, same_fork, then_spelled, map_spelled, fork_spelled}
+use Rattle.asn_rules.proofs.Law.Entries.{each_length, none_present}
+use Rattle.asn_rules.proofs.Languages.Spellings.{same_after, same_then, same_map, same_fork, then_spelled, map_spelled, fork_spelled}
 use Rattle.asn_per.specs.Per.{per, per_each, per_open, additions, small_length}
 use Rattle.asn_walk.specs.Coding.{absent_entries}
 use Rattle.asn_per.specs.Kinds.{Values, of_either, Additions, with_entries, MarkedSequences}

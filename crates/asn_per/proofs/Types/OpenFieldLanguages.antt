@@ -13,11 +13,11 @@ use Rattle.asn_rules.specs.Languages.{Lawful, Inhabited}
 use Rattle.asn_rules.specs.Laws.{AreOctets}
 use Rattle.asn_rules.specs.Reading.{Holds}
 use Rattle.asn_rules.specs.Spellings.{SpelledBy}
-use Rattle.asn_rules.proofs.Forks.{same_flip, same_inhabited}
-use Rattle.asn_rules.proofs.OpenFields.{open_spelled}
-use Rattle.asn_rules.proofs.Parts.{sealed_lawful}
-use Rattle.asn_rules.proofs.SomeValue.{a_value}
-use Rattle.asn_rules.proofs.Spellings.{spelled_inhabited}
+use Rattle.asn_rules.proofs.Languages.Forks.{same_flip, same_inhabited}
+use Rattle.asn_rules.proofs.Sealed.OpenFields.{open_spelled}
+use Rattle.asn_rules.proofs.Languages.Parts.{sealed_lawful}
+use Rattle.asn_rules.proofs.Law.SomeValue.{a_value}
+use Rattle.asn_rules.proofs.Languages.Spellings.{spelled_inhabited}
 use Rattle.asn_per.specs.Per.{spelled, per, per_whole, complete, an_open_field}
 use Rattle.asn_per.specs.Rules.{per_ruling}
 use Rattle.asn_per.specs.Kinds.{OpenValues}

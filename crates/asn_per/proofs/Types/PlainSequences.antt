@@ -6,7 +6,7 @@ use Rattle.asn_values.specs.Profile.{InProfile}
 use Rattle.asn_values.proofs.Parts.{components_of_profile}
 use Rattle.asn_rules.specs.Forks.{Same}
 use Rattle.asn_rules.specs.Listed.{bitmap_length}
-use Rattle.asn_rules.proofs.Spellings.{same_after, same_map, same_then, same_spelled}
+use Rattle.asn_rules.proofs.Languages.Spellings.{same_after, same_map, same_then, same_spelled}
 use Rattle.asn_per.specs.Kinds.{Values, Below, Sequences}
 use Rattle.asn_per.proofs.Types.SequenceLanguage.{Bitmaps, sequence_language}
 

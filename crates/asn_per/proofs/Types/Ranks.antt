@@ -7,7 +7,7 @@ use Rattle.asn_values.specs.Profile.{int_eq, has_twice}
 use Rattle.asn_bits.specs.Numbers.{least_from}
 use Rattle.asn_bits.proofs.Octets.{least_from_below}
 use Rattle.asn_rules.specs.Components.{number_at}
-use Rattle.asn_rules.proofs.Items.{numbers, one_place}
+use Rattle.asn_rules.proofs.Law.Items.{numbers, one_place}
 use Rattle.asn_per.specs.Per.{rank}
 use Rattle.asn_per.specs.Kinds.{position_of}
 use Rattle.asn_per.proofs.Law.Enumerations.{compare, rank_yes, rank_no, rank_rises, rank_below, rank_le, rank_inside, rank_once, lt_not_self, lt_also}

@@ -15,11 +15,11 @@ use Rattle.asn_rules.specs.Languages.{Spells, Then, Map, Plain}
 use Rattle.asn_bits.specs.Sets.{weighted, InSet, IsBits, Meets}
 use Rattle.asn_rules.specs.Listed.{Spelt, Listed, each_of, bitmap_length}
 use Rattle.asn_bits.proofs.Weights.{bits_are, bits_only}
-use Rattle.asn_rules.proofs.Entries.{components_again, presence_bits}
-use Rattle.asn_rules.proofs.Leads.{LeadsStops, Leads, leads_on, leads_map, leads_same, leads_second, stops_first, stops_on}
-use Rattle.asn_rules.proofs.Listed.{listed_inhabited}
-use Rattle.asn_rules.proofs.ListedEach.{listed_is, is_listed}
-use Rattle.asn_rules.proofs.Sets.{set_lawful}
+use Rattle.asn_rules.proofs.Law.Entries.{components_again, presence_bits}
+use Rattle.asn_rules.proofs.Languages.Leads.{LeadsStops, Leads, leads_on, leads_map, leads_same, leads_second, stops_first, stops_on}
+use Rattle.asn_rules.proofs.Components.Listed.{listed_inhabited}
+use Rattle.asn_rules.proofs.Components.ListedEach.{listed_is, is_listed}
+use Rattle.asn_rules.proofs.Numbers.Sets.{set_lawful}
 use Rattle.asn_per.specs.Per.{per, per_each, per_fields}
 use Rattle.asn_rules.specs.NumberSets.{Admits, up_to}
 use Rattle.asn_per.proofs.Encodings.PerFields.{per_fields_part}

@@ -13,8 +13,8 @@ use Rattle.asn_rules.specs.Chunks.{Chunk, one, ones}
 use Rattle.asn_rules.specs.Languages.{Lawful, Row}
 use Rattle.asn_rules.specs.Forks.{Same}
 use Rattle.asn_rules.specs.Spellings.{SpelledBy, FitsEither, either_code}
-use Rattle.asn_rules.proofs.Fragments.{same_general, general_spelled}
-use Rattle.asn_rules.proofs.Spellings.{same_after, same_then, same_map, same_row, same_fork, same_spelled, then_spelled, map_spelled, row_spelled, fork_spelled}
+use Rattle.asn_rules.proofs.Numbers.Fragments.{same_general, general_spelled}
+use Rattle.asn_rules.proofs.Languages.Spellings.{same_after, same_then, same_map, same_row, same_fork, same_spelled, then_spelled, map_spelled, row_spelled, fork_spelled}
 use Rattle.asn_per.specs.Per.{constrained, within, sized}
 use Rattle.asn_per.specs.Kinds.{of_either, IsOtherCount, CountWithin, RootSized, Sized}
 use Rattle.asn_per.proofs.Types.BooleanAndNull.{below_spelled}

@@ -5,7 +5,7 @@ use Rattle.asn_bits.specs.Numbers.{bits}
 use Rattle.asn_rules.specs.Chunks.{ones}
 use Rattle.asn_rules.specs.Forks.{Same}
 use Rattle.asn_rules.specs.Spellings.{SpelledBy}
-use Rattle.asn_rules.proofs.Spellings.{same_after, same_spelled, set_spelled}
+use Rattle.asn_rules.proofs.Languages.Spellings.{same_after, same_spelled, set_spelled}
 use Rattle.asn_per.specs.Per.{small}
 use Rattle.asn_per.specs.Kinds.{SmallBelow}
 

@@ -12,10 +12,10 @@ use Rattle.asn_rules.specs.Components.{bit_of}
 use Rattle.asn_rules.specs.Languages.{Lawful}
 use Rattle.asn_rules.specs.Forks.{Same}
 use Rattle.asn_rules.specs.Spellings.{SpelledBy}
-use Rattle.asn_rules.proofs.Fields.{octet_lawful, octet_spelled}
-use Rattle.asn_rules.proofs.Forks.{map_lawful_on, same_lawful}
-use Rattle.asn_rules.proofs.Sets.{set_lawful}
-use Rattle.asn_rules.proofs.Spellings.{same_after, same_map, same_spelled, set_spelled, map_spelled, sealed_spelled}
+use Rattle.asn_rules.proofs.Sealed.Fields.{octet_lawful, octet_spelled}
+use Rattle.asn_rules.proofs.Languages.Forks.{map_lawful_on, same_lawful}
+use Rattle.asn_rules.proofs.Numbers.Sets.{set_lawful}
+use Rattle.asn_rules.proofs.Languages.Spellings.{same_after, same_map, same_spelled, set_spelled, map_spelled, sealed_spelled}
 use Rattle.asn_per.specs.Per.{character_bits}
 use Rattle.asn_per.specs.Kinds.{Values, truth_of, Bit, BitStrings, OctetStrings, numeric_at, Character, Texts, Utf8Strings}
 use Rattle.asn_per.proofs.Types.BooleanAndNull.{bit_spelled}

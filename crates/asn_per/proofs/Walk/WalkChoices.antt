@@ -9,8 +9,8 @@ use Rattle.asn_rules.specs.Forks.{Branch, Same}
 use Rattle.asn_rules.specs.Languages.{Lawful, Then, Map}
 use Rattle.asn_rules.specs.Listed.{Spelt}
 use Rattle.asn_rules.specs.Spellings.{FitsEither, either_code}
-use Rattle.asn_rules.proofs.Forks.{same_flip, same_lawful}
-use Rattle.asn_rules.proofs.Spellings.{same_after, same_map, same_then, same_fork, same_spelled, map_spelled, fork_spelled}
+use Rattle.asn_rules.proofs.Languages.Forks.{same_flip, same_lawful}
+use Rattle.asn_rules.proofs.Languages.Spellings.{same_after, same_map, same_then, same_fork, same_spelled, map_spelled, fork_spelled}
 use Rattle.asn_walk.specs.Coding.{OpenOf, IsIndexWithin, AreFew, IndexOf, ChosenOf, ChoicesOf, chosen_value}
 use Rattle.asn_walk.specs.Coding as walk
 use Rattle.asn_per.specs.Indexes.{IndexesOf, index_bits}

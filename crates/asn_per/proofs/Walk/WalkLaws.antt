@@ -11,10 +11,10 @@ use Rattle.asn_rules.specs.Padding.{Padded}
 use Rattle.asn_rules.specs.Parted.{Parted, SpellingsPart}
 use Rattle.asn_rules.specs.Reading.{Wholes, RulesTell}
 use Rattle.asn_rules.specs.Laws.{AreOctets, WholesTell}
-use Rattle.asn_rules.proofs.Forks.{same_flip}
-use Rattle.asn_rules.proofs.Spellings.{same_after, same_map}
+use Rattle.asn_rules.proofs.Languages.Forks.{same_flip}
+use Rattle.asn_rules.proofs.Languages.Spellings.{same_after, same_map}
 use Rattle.asn_rules.specs.Chunks.{Chunk, ones}
-use Rattle.asn_rules.proofs.Spellings.{spelled_lawful}
+use Rattle.asn_rules.proofs.Languages.Spellings.{spelled_lawful}
 use Rattle.asn_walk.specs.Ahead.{Ahead, SomeAhead}
 use Rattle.asn_walk.specs.Coding.{ListsOf, GoodPreamble, PreambleOf, AdditionBitmapOf}
 use Rattle.asn_bits.specs.Numbers.{bits, unpacked}

@@ -21,9 +21,9 @@ use Rattle.asn_rules.specs.Forks.{Same}
 use Rattle.asn_rules.specs.Languages.{Then}
 use Rattle.asn_rules.specs.Listed.{Spelt, Listed, bitmap_length}
 use Rattle.asn_rules.specs.Spellings.{SpelledBy}
-use Rattle.asn_rules.proofs.Entries.{each_length, none_present, presence_bits, same_components}
-use Rattle.asn_rules.proofs.ListedEach.{listed_is, is_listed}
-use Rattle.asn_rules.proofs.Spellings.{same_after, same_then, same_map, same_spelled, map_spelled, nothing_spelled, then_spelled}
+use Rattle.asn_rules.proofs.Law.Entries.{each_length, none_present, presence_bits, same_components}
+use Rattle.asn_rules.proofs.Components.ListedEach.{listed_is, is_listed}
+use Rattle.asn_rules.proofs.Languages.Spellings.{same_after, same_then, same_map, same_spelled, map_spelled, nothing_spelled, then_spelled}
 use Rattle.asn_walk.specs.Coding.{absent_entries, added, CanExtend, GoodPreamble, AdditionsOf, AddedOf, sequence_told, SequencesOf}
 use Rattle.asn_walk.specs.Coding as walk
 use Rattle.asn_per.specs.Additions.{AreOptional}

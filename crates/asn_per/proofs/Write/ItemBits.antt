@@ -11,7 +11,7 @@ use Rattle.asn_values.specs.Profile.{InProfile}
 use Rattle.asn_values.specs.View.{label_of, more_labels_of}
 use Rattle.asn_rules.specs.Chunks.{ones, flat}
 use Rattle.asn_rules.specs.Components.{number_at}
-use Rattle.asn_rules.proofs.Flat.{flat-ones}
+use Rattle.asn_rules.proofs.Live.Flat.{flat-ones}
 use Rattle.asn_per.specs.Indexes.{index_bits}
 use Rattle.asn_per.specs.Per.{spelled, constrained, small, rank, after_mark}
 use Rattle.asn_per.specs.Laws.{per_bits}

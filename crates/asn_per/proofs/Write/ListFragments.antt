@@ -5,7 +5,7 @@ use Rattle.std.proofs.lemmas.List.{append-nil, take_all}
 use Rattle.asn_bits.specs.LengthBits.{first_length}
 use Rattle.asn_bits.specs.Lengths.{joined, general}
 use Rattle.asn_rules.specs.Chunks.{Chunk, one, flat}
-use Rattle.asn_rules.proofs.Flat.{flat-append}
+use Rattle.asn_rules.proofs.Live.Flat.{flat-append}
 use Rattle.asn_walk.specs.Writing.{Advances}
 use Rattle.asn_per.specs.Per.{spelled}
 use Rattle.asn_per.specs.StringItems.{row_bits, general_bits}

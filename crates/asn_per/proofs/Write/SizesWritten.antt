@@ -11,7 +11,7 @@ use Rattle.asn_bits.proofs.FirstLengths.{first_fragment}
 use Rattle.asn_bits.proofs.LengthBits.{lengths_last, lengths_fragment}
 use Rattle.asn_bits.proofs.Widths.{width_fits}
 use Rattle.asn_rules.specs.Chunks.{Chunk, one, ones, flat}
-use Rattle.asn_rules.proofs.Flat.{flat-append, flat-ones}
+use Rattle.asn_rules.proofs.Live.Flat.{flat-append, flat-ones}
 use Rattle.asn_rules.specs.Components.{extension_bit}
 use Rattle.asn_per.specs.Per.{spelled, sized, after_mark, constrained, within}
 use Rattle.asn_per.specs.Rules.{per_ruling}

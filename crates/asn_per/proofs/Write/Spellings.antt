@@ -7,7 +7,7 @@ use Rattle.asn_values.specs.Shape.{Range, Shape, boolean, integer, sequence, Dem
 use Rattle.asn_values.specs.Fits.{FitsEach}
 use Rattle.asn_rules.specs.Chunks.{ones, flat}
 use Rattle.asn_rules.specs.Components.{bit_of, extension_bit, presence, is_spelled}
-use Rattle.asn_rules.proofs.Flat.{flat-append, flat-ones}
+use Rattle.asn_rules.proofs.Live.Flat.{flat-append, flat-ones}
 use Rattle.asn_values.specs.Fits.{in_range, FitsNumber}
 use Rattle.asn_bits.specs.Numbers.{above}
 use Rattle.asn_per.specs.Per.{spelled, per, per_each, whole_number, after_mark, ranged, semi_constrained, unconstrained}

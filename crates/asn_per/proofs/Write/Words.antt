@@ -4,7 +4,7 @@ use Rattle.std.proofs.lemmas.List.{take-map, drop-map}
 use Rattle.asn_bits.specs.Numbers.{bits, unpacked}
 use Rattle.asn_bits.specs.Lengths.{joined}
 use Rattle.asn_rules.specs.Chunks.{ones}
-use Rattle.asn_rules.proofs.Flat.{flat-append, flat-ones}
+use Rattle.asn_rules.proofs.Live.Flat.{flat-append, flat-ones}
 use Rattle.asn_per.specs.Per.{spelled}
 use Rattle.asn_per.specs.StringItems.{row_bits}
 

@@ -23,14 +23,14 @@ use Rattle.asn_values.specs.Profile.{InProfile}
 use Rattle.asn_bits.specs.Sink.{bit_of}
 use Rattle.asn_rules.specs.Languages.{Spells, Row}
 use Rattle.asn_rules.specs.Listed.{default_of, Spelt}
-use Rattle.asn_rules.proofs.Leads.{stops_by, stops_on}
-use Rattle.asn_rules.proofs.Parts.{map_spells}
+use Rattle.asn_rules.proofs.Languages.Leads.{stops_by, stops_on}
+use Rattle.asn_rules.proofs.Languages.Parts.{map_spells}
 use Rattle.std.specs.Vec.{with_items}
 use Rattle.std.specs.Box.{with_value}
 use Rattle.asn_walk.specs.Ahead.{Remaining}
 use Rattle.asn_walk.specs.Coding.{OpenOf, ChosenOf}
-use Rattle.asn_rules.proofs.Listed.{spelt_inhabited, spelt_lawful}
-use Rattle.asn_rules.proofs.ListedReading.{nothing_read}
+use Rattle.asn_rules.proofs.Components.Listed.{spelt_inhabited, spelt_lawful}
+use Rattle.asn_rules.proofs.Components.ListedReading.{nothing_read}
 use Rattle.asn_bits.specs.Numbers.{unpacked}
 use Rattle.asn_rules.specs.Laws.{AreOctets}
 use Rattle.asn_rules.specs.Listed.{Listed, bitmap_length}

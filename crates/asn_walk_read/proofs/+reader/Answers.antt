@@ -20,9 +20,9 @@ use Rattle.asn_values.specs.Profile.{InProfile}
 use Rattle.asn_bits.specs.Sink.{bit_of}
 use Rattle.asn_rules.specs.Languages.{Spells, Row}
 use Rattle.asn_rules.specs.Listed.{default_of, Spelt}
-use Rattle.asn_rules.proofs.Leads.{stops_by}
-use Rattle.asn_rules.proofs.Listed.{spelt_inhabited, spelt_lawful}
-use Rattle.asn_rules.proofs.ListedReading.{nothing_read}
+use Rattle.asn_rules.proofs.Languages.Leads.{stops_by}
+use Rattle.asn_rules.proofs.Components.Listed.{spelt_inhabited, spelt_lawful}
+use Rattle.asn_rules.proofs.Components.ListedReading.{nothing_read}
 use Rattle.asn_bits.specs.Numbers.{unpacked}
 use Rattle.asn_rules.specs.Laws.{AreOctets}
 use Rattle.asn_rules.specs.Listed.{Listed, bitmap_length}

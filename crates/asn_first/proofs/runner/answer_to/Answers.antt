@@ -4,7 +4,7 @@ use Rattle.asn_values.specs.View.{datum_of}
 use Rattle.asn_rules.specs.Codec.{Decoded}
 use Rattle.asn_rules.specs.Laws.{AreOctets}
 use Rattle.asn_rules.specs.declared.fault.DecodeFault.TheVariants as decode
-use Rattle.asn_rules.proofs.CodecLaws.{each_octet}
+use Rattle.asn_rules.proofs.Answer.CodecLaws.{each_octet}
 use Rattle.asn_per.specs.Rules.{per_ruling, IsPerEncoding}
 use Rattle.asn_first.specs.Lines.{sample_shape, IsTwoLines}
 use Rattle.asn_first.proofs.Messages.{no_message, message, same_again}

@@ -6,9 +6,9 @@ use Rattle.asn_values.specs.Fits.{lowest_integer}
 use Rattle.asn_bits.specs.Numbers.{packed}
 use Rattle.asn_bits.proofs.Above.{kept}
 use Rattle.asn_rules.specs.Languages.{Spells}
-use Rattle.asn_rules.proofs.Leads.{stops_by}
+use Rattle.asn_rules.proofs.Languages.Leads.{stops_by}
 use Rattle.asn_rules.specs.IntegerSets.{unmarked, AreOffsetsBut}
-use Rattle.asn_rules.proofs.IntegerSets.{low_inside, high_inside}
+use Rattle.asn_rules.proofs.Plain.IntegerSets.{low_inside, high_inside}
 use Rattle.asn_oer.specs.Oer.{signed_size, oer_fields}
 use Rattle.asn_oer.specs.Reading.{IntegersBut}
 use Rattle.asn_oer.proofs.Read.IntegerReading.{signed_leads, signed_some, counted_signed_leads, counted_where, negative, given}

@@ -6,9 +6,9 @@ use Rattle.asn_values.specs.Datum.{number}
 use Rattle.asn_bits.specs.Numbers.{packed}
 use Rattle.asn_bits.proofs.Above.{kept, test_of_le}
 use Rattle.asn_rules.specs.Languages.{Spells}
-use Rattle.asn_rules.proofs.Leads.{stops_by}
+use Rattle.asn_rules.proofs.Languages.Leads.{stops_by}
 use Rattle.asn_rules.specs.IntegerSets.{unmarked, AreNumbersBut}
-use Rattle.asn_rules.proofs.IntegerSets.{high_inside}
+use Rattle.asn_rules.proofs.Plain.IntegerSets.{high_inside}
 use Rattle.asn_oer.specs.Oer.{unsigned_octets, oer_fields}
 use Rattle.asn_oer.specs.Reading.{IntegersBut}
 use Rattle.asn_oer.proofs.Read.IntegerReading.{unsigned_leads, unsigned_meets, counted_leads, given}

@@ -6,7 +6,7 @@ use Rattle.asn_values.specs.Fits.{lowest_integer}
 use Rattle.asn_bits.specs.Numbers.{packed}
 use Rattle.asn_bits.proofs.Above.{kept}
 use Rattle.asn_rules.specs.IntegerSets.{unmarked, AreNumbersBut, AreOffsetsBut}
-use Rattle.asn_rules.proofs.IntegerSets.{low_inside, high_inside}
+use Rattle.asn_rules.proofs.Plain.IntegerSets.{low_inside, high_inside}
 use Rattle.asn_oer.specs.Oer.{unsigned_octets, signed_size}
 use Rattle.asn_oer.proofs.Read.IntegerReading.{unsigned_leads, signed_leads, given}
 use Rattle.asn_oer.proofs.integer.try_fixed.Goals as goal

@@ -7,7 +7,7 @@ use Rattle.asn_values.specs.View.{range_of}
 use Rattle.asn_bits.specs.Lengths.{general_octets}
 use Rattle.asn_bits.specs.Numbers.{least, least_signed}
 use Rattle.asn_bits.proofs.Above.{kept}
-use Rattle.asn_rules.proofs.IntegerSets.{low_bound}
+use Rattle.asn_rules.proofs.Plain.IntegerSets.{low_bound}
 use Rattle.asn_oer.specs.Oer.{whole_number}
 use Rattle.asn_oer.proofs.Write.WrittenNumbers.{counted_bits, counted_signed_bits, some_same_low}
 use Rattle.asn_oer.proofs.Write.WrittenOctets.{plain}

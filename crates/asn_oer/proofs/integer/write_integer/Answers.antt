@@ -4,7 +4,7 @@ use Rattle.asn_values.specs.Fits.{lowest_integer, highest_integer, FitsNumber}
 use Rattle.asn_values.specs.View.{range_of}
 use Rattle.asn_bits.specs.Numbers.{unpacked}
 use Rattle.asn_bits.proofs.Above.{kept}
-use Rattle.asn_rules.proofs.IntegerSets.{low_bound, high_bound}
+use Rattle.asn_rules.proofs.Plain.IntegerSets.{low_bound, high_bound}
 use Rattle.asn_oer.specs.Oer.{counted_signed, ranged, whole_number}
 use Rattle.asn_oer.proofs.Write.WrittenNumbers.{between_bounds}
 use Rattle.asn_oer.proofs.Write.WrittenOctets.{plain}

@@ -1,4 +1,4 @@
-use Rattle.asn_rules.proofs.OneAnswer.{one_answer}
+use Rattle.asn_rules.proofs.Answer.OneAnswer.{one_answer}
 use Rattle.asn_oer.specs.Rules.{oer_ruling}
 use Rattle.asn_oer.proofs.Encodings.Whole.{oer_laws}
 use Rattle.asn_oer.proofs.laws.answers_exclude.Goals as goal

@@ -1,4 +1,4 @@
-use Rattle.asn_rules.proofs.Beginnings.{beginnings_live, beginnings_not_refused}
+use Rattle.asn_rules.proofs.Live.Beginnings.{beginnings_live, beginnings_not_refused}
 use Rattle.asn_oer.specs.Rules.{oer_ruling}
 use Rattle.asn_oer.proofs.Encodings.Tells.{oer_tells}
 use Rattle.asn_oer.proofs.laws.prefixes_are_viable.Goals as goal

@@ -2,7 +2,7 @@ use Rattle.std.proofs.Common.{sym, ◌∙◌}
 use Rattle.std.proofs.lemmas.Result.{IfOk-weaker, IfErr-weaker}
 use Rattle.asn_values.specs.View.{size_range_of}
 use Rattle.asn_bits.specs.Numbers.{packed}
-use Rattle.asn_rules.proofs.Leads.{stops_by}
+use Rattle.asn_rules.proofs.Languages.Leads.{stops_by}
 use Rattle.asn_oer.proofs.Read.BitReading.{counts_few, fixed_leads, variable_leads}
 use Rattle.asn_oer.proofs.string_reader.read_bit_string.Goals as goal
 

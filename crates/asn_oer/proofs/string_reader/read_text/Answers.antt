@@ -1,8 +1,8 @@
 use Rattle.std.proofs.lemmas.Result.{err_from_is_err_and, IfOk-weaker, IfErr-weaker}
 use Rattle.asn_values.specs.View.{alphabet_of, size_range_of}
 use Rattle.asn_bits.specs.Numbers.{packed}
-use Rattle.asn_rules.proofs.Leads.{leads_on, stops_by, stops_on}
-use Rattle.asn_rules.proofs.Characters.{character_inhabited}
+use Rattle.asn_rules.proofs.Languages.Leads.{leads_on, stops_by, stops_on}
+use Rattle.asn_rules.proofs.Octets.Characters.{character_inhabited}
 use Rattle.asn_oer.proofs.Read.SizeCounts.{stops_at_count, items_lead}
 use Rattle.asn_oer.proofs.Read.TextReading.{text_leads, text_size}
 use Rattle.asn_oer.proofs.string_reader.read_text.Goals as goal

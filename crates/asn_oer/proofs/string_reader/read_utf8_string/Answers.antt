@@ -2,7 +2,7 @@ use Rattle.std.proofs.Common.{◌≡◌, IsUtf8, ap}
 use Rattle.std.proofs.lemmas.Result.{err_from_is_err_and}
 use Rattle.std.proofs.lemmas.Str.{IsUtf8-had}
 use Rattle.asn_bits.specs.Numbers.{packed}
-use Rattle.asn_rules.proofs.Leads.{stops_by}
+use Rattle.asn_rules.proofs.Languages.Leads.{stops_by}
 use Rattle.asn_oer.proofs.Read.Utf8Reading.{octets_stop, text_spells, no_text}
 use Rattle.asn_oer.proofs.string_reader.read_utf8_string.Goals as goal
 

@@ -9,7 +9,7 @@ use Rattle.asn_oer.specs.Oer.{bit_octets, variable_bits}
 use Rattle.asn_oer.proofs.Write.WrittenOctets.{filled_written, variable_written}
 use Rattle.asn_oer.proofs.write_leaves.write_bits.Goals.{then-not-is_fixed+in_ok-write_header, else-not-is_fixed}
 use Rattle.asn_rules.specs.Filled.{filled_bits}
-use Rattle.asn_rules.proofs.BitStrings.{list_bits}
+use Rattle.asn_rules.proofs.Octets.BitStrings.{list_bits}
 use Rattle.asn_oer.proofs.write_leaves.write_bits.Goals as goal
 
 pub returns : goal.returns

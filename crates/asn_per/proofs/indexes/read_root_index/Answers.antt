@@ -4,7 +4,7 @@ use Rattle.asn_bits.specs.Numbers.{width}
 use Rattle.asn_bits.specs.Sets.{InSet}
 use Rattle.asn_rules.specs.Languages.{Plain, Spells}
 use Rattle.asn_rules.specs.Stops.{Stops}
-use Rattle.asn_rules.proofs.Leads.{stops_by}
+use Rattle.asn_rules.proofs.Languages.Leads.{stops_by}
 use Rattle.asn_per.specs.Per.{per_fields}
 use Rattle.asn_rules.specs.NumberSets.{Admits, up_to}
 use Rattle.asn_per.proofs.Read.IndexReading.{below_leads}

@@ -1,5 +1,5 @@
 use Rattle.std.proofs.lemmas.Result.{err_from_is_err_and}
-use Rattle.asn_rules.proofs.Leads.{stops_by}
+use Rattle.asn_rules.proofs.Languages.Leads.{stops_by}
 use Rattle.asn_per.specs.Per.{per_fields}
 use Rattle.asn_per.proofs.Read.IndexReading.{below_leads}
 use Rattle.asn_per.proofs.indexes.read_small_number.Goals as goal

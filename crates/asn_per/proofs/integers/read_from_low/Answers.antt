@@ -13,7 +13,7 @@ use Rattle.asn_rules.specs.Languages.{Spells, Plain, Map, Inhabited}
 use Rattle.asn_rules.specs.Listed.{Spelt}
 use Rattle.asn_bits.specs.Sets.{InSet}
 use Rattle.asn_rules.specs.Stops.{Stops}
-use Rattle.asn_rules.proofs.Leads.{stops_by}
+use Rattle.asn_rules.proofs.Languages.Leads.{stops_by}
 use Rattle.asn_per.specs.Per.{per, per_fields}
 use Rattle.asn_rules.specs.NumberSets.{Admits, up_to}
 use Rattle.asn_rules.specs.IntegerSets.{IsWithin}

@@ -4,8 +4,8 @@ use Rattle.asn_values.specs.Datum.{number}
 use Rattle.asn_values.specs.Shape.{integer}
 use Rattle.asn_values.specs.View.{range_of}
 use Rattle.asn_bits.specs.Sink.{bit_of}
-use Rattle.asn_rules.proofs.Leads.{stops_by}
-use Rattle.asn_rules.proofs.Listed.{spelt_inhabited}
+use Rattle.asn_rules.proofs.Languages.Leads.{stops_by}
+use Rattle.asn_rules.proofs.Components.Listed.{spelt_inhabited}
 use Rattle.asn_rules.specs.IntegerSets.{unmarked}
 use Rattle.asn_per.specs.Per.{per}
 use Rattle.asn_per.proofs.Read.IntegerForms.{none_out, mark_stops, root_leads, outside_leads}

@@ -4,8 +4,8 @@ use mir.Syntax.{w128}
 use mir.Val.{to_z, of_z}
 use Rattle.asn_values.specs.Fits.{lowest_integer}
 use Rattle.asn_bits.proofs.Above.{kept}
-use Rattle.asn_rules.proofs.Leads.{stops_by}
-use Rattle.asn_rules.proofs.SignedReading.{signed_within}
+use Rattle.asn_rules.proofs.Languages.Leads.{stops_by}
+use Rattle.asn_rules.proofs.Plain.SignedReading.{signed_within}
 use Rattle.asn_per.specs.Per.{per_fields}
 use Rattle.asn_per.proofs.Read.IntegerForms.{up_to_leads, up_to_some}
 use Rattle.asn_per.proofs.integers.read_up_to_high.Goals as goal

@@ -5,7 +5,7 @@ use Rattle.asn_bits.specs.Numbers.{above, width}
 use Rattle.asn_bits.specs.Sets.{InSet}
 use Rattle.asn_bits.proofs.Above.{kept}
 use Rattle.asn_rules.specs.Languages.{Spells, Plain}
-use Rattle.asn_rules.proofs.Sets.{first_spells}
+use Rattle.asn_rules.proofs.Numbers.Sets.{first_spells}
 use Rattle.asn_per.specs.Per.{per_fields}
 use Rattle.asn_rules.specs.NumberSets.{Admits, up_to}
 use Rattle.asn_per.proofs.Types.IntegerLanguages.{constrained_leads}

@@ -8,7 +8,7 @@ use Rattle.asn_values.specs.Profile.{InProfile}
 use Rattle.asn_values.specs.View.{label_of, more_labels_of}
 use Rattle.asn_rules.specs.Languages.{Inhabited}
 use Rattle.asn_rules.specs.Listed.{Spelt}
-use Rattle.asn_rules.proofs.Leads.{stops_by}
+use Rattle.asn_rules.proofs.Languages.Leads.{stops_by}
 use Rattle.asn_per.specs.Per.{per}
 use Rattle.asn_per.specs.Indexes.{IsItemWithin}
 use Rattle.asn_per.proofs.Read.ItemIndexes.{root_items}

@@ -8,7 +8,7 @@ use Rattle.asn_values.specs.Profile.{InProfile}
 use Rattle.asn_values.specs.View.{label_of}
 use Rattle.asn_rules.specs.Languages.{Spells}
 use Rattle.asn_rules.specs.Stops.{Stops}
-use Rattle.asn_rules.proofs.Leads.{stops_by}
+use Rattle.asn_rules.proofs.Languages.Leads.{stops_by}
 use Rattle.asn_per.specs.Indexes.{IndexesOf}
 use Rattle.asn_walk.specs.Views.{index_seen}
 use Rattle.asn_per.specs.Kinds.{Items}

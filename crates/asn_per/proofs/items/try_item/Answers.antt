@@ -8,7 +8,7 @@ use Rattle.asn_bits.specs.Numbers.{width}
 use Rattle.asn_bits.specs.Sets.{InSet}
 use Rattle.asn_rules.specs.Languages.{Spells, Plain}
 use Rattle.asn_rules.specs.NumberSets.{Admits, up_to}
-use Rattle.asn_rules.proofs.Sets.{first_spells}
+use Rattle.asn_rules.proofs.Numbers.Sets.{first_spells}
 use Rattle.asn_per.specs.Indexes.{AreRootItems}
 use Rattle.asn_per.specs.Kinds.{position_of, RootItemsBut}
 use Rattle.asn_per.specs.Per.{per_fields}

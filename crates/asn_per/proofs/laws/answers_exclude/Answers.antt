@@ -1,4 +1,4 @@
-use Rattle.asn_rules.proofs.OneAnswer.{one_answer}
+use Rattle.asn_rules.proofs.Answer.OneAnswer.{one_answer}
 use Rattle.asn_per.specs.Rules.{per_ruling}
 use Rattle.asn_per.proofs.Encodings.Whole.{per_laws}
 use Rattle.asn_per.proofs.laws.answers_exclude.Goals as goal

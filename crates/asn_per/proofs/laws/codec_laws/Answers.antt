@@ -1,4 +1,4 @@
-use Rattle.asn_rules.proofs.CodecLaws.{decodes_encoded, encodes_decoded, only_memory, equal_exactly, tells_rest_of, one_front, tells_cut_of, decoders_agree}
+use Rattle.asn_rules.proofs.Answer.CodecLaws.{decodes_encoded, encodes_decoded, only_memory, equal_exactly, tells_rest_of, one_front, tells_cut_of, decoders_agree}
 use Rattle.asn_per.specs.Rules.{per_ruling}
 use Rattle.asn_per.proofs.Encodings.Tells.{per_tells}
 use Rattle.asn_per.proofs.Encodings.Whole.{per_laws}

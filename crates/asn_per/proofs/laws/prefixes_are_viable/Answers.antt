@@ -1,4 +1,4 @@
-use Rattle.asn_rules.proofs.Beginnings.{beginnings_live, beginnings_not_refused}
+use Rattle.asn_rules.proofs.Live.Beginnings.{beginnings_live, beginnings_not_refused}
 use Rattle.asn_per.specs.Rules.{per_ruling}
 use Rattle.asn_per.proofs.Encodings.Tells.{per_tells}
 use Rattle.asn_per.proofs.laws.prefixes_are_viable.Goals as goal

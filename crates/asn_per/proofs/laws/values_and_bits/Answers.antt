@@ -1,4 +1,4 @@
-use Rattle.asn_rules.proofs.SomeValue.{a_value}
+use Rattle.asn_rules.proofs.Law.SomeValue.{a_value}
 use Rattle.asn_per.proofs.Encodings.Whole.{bits_exact}
 use Rattle.asn_per.proofs.laws.values_and_bits.Goals as goal
 

@@ -1,4 +1,4 @@
-use Rattle.asn_rules.proofs.Closed.{live_closed}
+use Rattle.asn_rules.proofs.Live.Closed.{live_closed}
 use Rattle.asn_per.specs.Per.{per_fields, per_whole}
 use Rattle.asn_per.proofs.laws.viability_is_prefix_closed.Goals as goal
 

@@ -1,7 +1,7 @@
 use Rattle.std.proofs.lemmas.Result.{err_from_is_err_and}
 use Rattle.asn_values.specs.View.{size_range_of}
 use Rattle.asn_values.proofs.Views.{datum_of-Octets}
-use Rattle.asn_rules.proofs.Leads.{stops_by}
+use Rattle.asn_rules.proofs.Languages.Leads.{stops_by}
 use Rattle.asn_per.proofs.Read.StringReading.{octets_size, octets_lead}
 use Rattle.asn_per.proofs.simple_into.read_octet_string_into.Goals as goal
 

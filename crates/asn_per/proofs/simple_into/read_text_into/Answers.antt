@@ -1,7 +1,7 @@
 use Rattle.std.proofs.lemmas.Result.{err_from_is_err_and}
 use Rattle.asn_values.specs.View.{size_range_of, alphabet_of}
 use Rattle.asn_values.proofs.Views.{datum_of-Text}
-use Rattle.asn_rules.proofs.Leads.{stops_by}
+use Rattle.asn_rules.proofs.Languages.Leads.{stops_by}
 use Rattle.asn_per.proofs.Read.StringReading.{text_size, text_leads}
 use Rattle.asn_per.proofs.simple_into.read_text_into.Goals as goal
 

@@ -1,7 +1,7 @@
 use Rattle.std.proofs.Common.{◌≡◌, ◌+◌, ◌-◌, arith}
 use Rattle.std.proofs.lemmas.Result.{err_from_is_err_and}
-use Rattle.asn_rules.proofs.Leads.{stops_by}
-use Rattle.asn_rules.proofs.Parts.{nothing_spells}
+use Rattle.asn_rules.proofs.Languages.Leads.{stops_by}
+use Rattle.asn_rules.proofs.Languages.Parts.{nothing_spells}
 use Rattle.asn_per.specs.Per.{per_fields}
 use Rattle.asn_per.proofs.Read.ListsAhead.{root_leads}
 use Rattle.asn_per.proofs.sizes.read_root_start.Goals as goal

@@ -1,5 +1,5 @@
 use Rattle.std.proofs.Common.{arith}
-use Rattle.asn_rules.proofs.OctetRows.{octet_bits_few}
+use Rattle.asn_rules.proofs.Numbers.OctetRows.{octet_bits_few}
 use Rattle.asn_per.proofs.Read.Appending.{appends_taken}
 use Rattle.asn_per.proofs.Encodings.PerFields.{per_fields_part}
 use Rattle.asn_per.proofs.string_items.append_octets.Goals as goal

@@ -1,7 +1,7 @@
 use Rattle.std.proofs.Common.{Some, None}
 use Rattle.std.proofs.lemmas.Result.{err_from_is_err_and}
 use Rattle.asn_values.specs.View.{size_range_of, alphabet_of}
-use Rattle.asn_rules.proofs.Leads.{stops_by}
+use Rattle.asn_rules.proofs.Languages.Leads.{stops_by}
 use Rattle.asn_per.specs.Kinds.{Character}
 use Rattle.asn_per.proofs.Types.StringLanguages.{character_lawful}
 use Rattle.asn_per.proofs.Read.StringRows.{character_inhabited}

@@ -1,9 +1,9 @@
 use Rattle.std.proofs.Common.{Some, None}
 use Rattle.std.proofs.lemmas.Result.{err_from_is_err_and}
 use Rattle.asn_values.specs.View.{size_range_of}
-use Rattle.asn_rules.proofs.Leads.{stops_by}
+use Rattle.asn_rules.proofs.Languages.Leads.{stops_by}
 use Rattle.asn_rules.specs.Fields.{Octet}
-use Rattle.asn_rules.proofs.Fields.{octet_lawful, octet_inhabited}
+use Rattle.asn_rules.proofs.Sealed.Fields.{octet_lawful, octet_inhabited}
 use Rattle.asn_walk.specs.Ahead.{Next}
 use Rattle.asn_per.specs.Per.{per_fields}
 use Rattle.asn_per.specs.RowsAhead.{ahead_of}

@@ -5,7 +5,7 @@ use Rattle.asn_values.specs.Shape.{SizeRange}
 use Rattle.asn_rules.specs.Fields.{Octet}
 use Rattle.asn_rules.specs.Languages.{Spells}
 use Rattle.asn_rules.specs.Stops.{Stops}
-use Rattle.asn_rules.proofs.Leads.{stops_by}
+use Rattle.asn_rules.proofs.Languages.Leads.{stops_by}
 use Rattle.asn_per.specs.Kinds.{Sized}
 use Rattle.asn_per.specs.Per.{per_fields}
 use Rattle.asn_per.proofs.Read.Utf8Reading.{AnyOctets, octets_stop, text_spells, no_text}

@@ -1,4 +1,4 @@
-use Rattle.asn_rules.proofs.BitVectors.{next_bit}
+use Rattle.asn_rules.proofs.Plain.BitVectors.{next_bit}
 use Rattle.asn_rules.proofs.bit_vectors.push_bits.Goals as goal
 
 pub loop-i-preserved : goal.loop-i-preserved

@@ -1,7 +1,7 @@
 use Rattle.std.proofs.Common.{◌++◌, ℕ, map, ap, ◌∙◌}
 use Rattle.asn_bits.specs.Numbers.{bits}
 use Rattle.asn_bits.specs.Sink.{bit_of}
-use Rattle.asn_rules.proofs.BitVectors.{next_octet_bits}
+use Rattle.asn_rules.proofs.Plain.BitVectors.{next_octet_bits}
 use Rattle.asn_rules.proofs.bit_vectors.push_octets.Goals as goal
 
 pub loop-octet-preserved : goal.loop-octet-preserved

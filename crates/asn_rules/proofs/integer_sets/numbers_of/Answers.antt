@@ -5,7 +5,7 @@ use Rattle.asn_bits.proofs.Above.{kept}
 use Rattle.asn_rules.proofs.integer_sets.numbers_of.Goals as goal
 use Rattle.asn_rules.proofs.integer_sets.numbers_of.Goals.{in-Some, in-None}
 use Rattle.asn_rules.specs.IntegerSets.{unmarked}
-use Rattle.asn_rules.proofs.IntegerSets.{numbers_are, magnitudes, low_inside, high_is, high_inside, high_from_zero, within_from_zero, magnitude_kept}
+use Rattle.asn_rules.proofs.Plain.IntegerSets.{numbers_are, magnitudes, low_inside, high_is, high_inside, high_from_zero, within_from_zero, magnitude_kept}
 
 pub overflow_cast-result : goal.overflow_cast-result
 overflow_cast-result c =

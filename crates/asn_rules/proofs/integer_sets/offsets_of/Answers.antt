@@ -4,7 +4,7 @@ use Rattle.asn_values.specs.Profile.{lowest_of, highest_of}
 use Rattle.asn_bits.specs.Numbers.{above}
 use Rattle.asn_bits.proofs.Above.{kept}
 use Rattle.asn_rules.specs.IntegerSets.{IsWithin, unmarked}
-use Rattle.asn_rules.proofs.IntegerSets.{offsets_are, offsets_open, low_inside, low_is, high_is, high_inside}
+use Rattle.asn_rules.proofs.Plain.IntegerSets.{offsets_are, offsets_open, low_inside, low_is, high_is, high_inside}
 use Rattle.asn_rules.proofs.integer_sets.offsets_of.Goals as goal
 
 pub offset_of-start-requires-clause-low : goal.offset_of-start-requires-clause-low

@@ -1,4 +1,4 @@
-use Rattle.asn_rules.proofs.OneAnswer.{one_answer}
+use Rattle.asn_rules.proofs.Answer.OneAnswer.{one_answer}
 use Rattle.asn_rules.proofs.laws.answers_exclude.Goals as goal
 
 pub returns : goal.returns

@@ -1,5 +1,5 @@
 use Rattle.std.proofs.Common.{arith}
-use Rattle.asn_rules.proofs.CodecLaws.{each_octet}
+use Rattle.asn_rules.proofs.Answer.CodecLaws.{each_octet}
 use Rattle.asn_rules.proofs.laws.are_octets.Goals as goal
 
 pub returns : goal.returns

@@ -1,4 +1,4 @@
-use Rattle.asn_rules.proofs.CodecLaws.{decodes_encoded, encodes_decoded, only_memory, equal_exactly, tells_rest_of, one_front, tells_cut_of, decoders_agree}
+use Rattle.asn_rules.proofs.Answer.CodecLaws.{decodes_encoded, encodes_decoded, only_memory, equal_exactly, tells_rest_of, one_front, tells_cut_of, decoders_agree}
 use Rattle.asn_rules.proofs.laws.codec_laws.Goals as goal
 
 pub returns-clause-decodes : goal.returns-clause-decodes

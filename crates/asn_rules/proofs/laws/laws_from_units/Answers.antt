@@ -1,4 +1,4 @@
-use Rattle.asn_rules.proofs.FromUnits.{rules_laws}
+use Rattle.asn_rules.proofs.Law.FromUnits.{rules_laws}
 use Rattle.asn_rules.proofs.laws.laws_from_units.Goals as goal
 
 pub returns : goal.returns

@@ -1,4 +1,4 @@
-use Rattle.asn_rules.proofs.Beginnings.{beginnings_live, beginnings_not_refused}
+use Rattle.asn_rules.proofs.Live.Beginnings.{beginnings_live, beginnings_not_refused}
 use Rattle.asn_rules.proofs.laws.prefixes_are_viable.Goals as goal
 
 pub returns-clause-live : goal.returns-clause-live

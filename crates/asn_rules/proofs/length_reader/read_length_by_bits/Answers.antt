@@ -2,7 +2,7 @@
 use Rattle.std.proofs.Common.{◌++◌, ◌∷◌, [], ℕ, refl, subst}
 use Rattle.asn_bits.specs.LengthBits.{CountsLeft, StartsSome, WholeLength, Goes}
 use Rattle.asn_bits.specs.declared.number_field.FieldState.TheVariants as state
-use Rattle.asn_rules.proofs.LengthReading.{bit_is, in_length_done, in_length_refused, in_length_short}
+use Rattle.asn_rules.proofs.Plain.LengthReading.{bit_is, in_length_done, in_length_refused, in_length_short}
 use Rattle.asn_rules.proofs.length_reader.read_length_by_bits.Goals as goal
 
 pub returns-in-Number-clause-done : goal.returns-in-Number-clause-done

@@ -1,5 +1,5 @@
 use Rattle.std.proofs.Common.{length}
-use Rattle.asn_rules.proofs.LengthReading.{InLength}
+use Rattle.asn_rules.proofs.Plain.LengthReading.{InLength}
 use Rattle.asn_rules.proofs.length_reader.read_length_by_bits.Given as goal
 
 abbrev pub invariant-loop-bit : goal.invariant-loop-bit

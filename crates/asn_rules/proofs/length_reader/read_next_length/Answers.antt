@@ -1,5 +1,5 @@
 -- A whole length is taken as it stands.
-use Rattle.asn_rules.proofs.LengthReading.{taken_done}
+use Rattle.asn_rules.proofs.Plain.LengthReading.{taken_done}
 use Rattle.asn_rules.proofs.length_reader.read_next_length.Goals as goal
 
 pub returns-in-Some-clause-done : goal.returns-in-Some-clause-done

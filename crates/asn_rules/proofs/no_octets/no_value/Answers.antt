@@ -1,4 +1,4 @@
-use Rattle.asn_rules.proofs.NoOctets.{refused_told}
+use Rattle.asn_rules.proofs.Answer.NoOctets.{refused_told}
 use Rattle.asn_rules.proofs.no_octets.no_value.Goals as goal
 
 pub returns-in-Refused : goal.returns-in-Refused

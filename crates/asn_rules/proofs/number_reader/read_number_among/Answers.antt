@@ -1,6 +1,6 @@
 use Rattle.std.proofs.Common.{refl}
 use Rattle.asn_bits.proofs.Prefixes.{first_bits}
-use Rattle.asn_rules.proofs.Sets.{first_spells}
+use Rattle.asn_rules.proofs.Numbers.Sets.{first_spells}
 use Rattle.asn_rules.proofs.number_reader.read_number_among.Goals as goal
 
 pub read_number_by_bits-requires-clause-many : goal.read_number_by_bits-requires-clause-many

@@ -1,7 +1,7 @@
 use Rattle.std.proofs.Common.{refl}
 use Rattle.asn_bits.proofs.Prefixes.{bit_again}
-use Rattle.asn_rules.proofs.NumberSets.{number_waits, number_stops}
-use Rattle.asn_rules.proofs.Sets.{giving_starts, giving_done}
+use Rattle.asn_rules.proofs.Plain.NumberSets.{number_waits, number_stops}
+use Rattle.asn_rules.proofs.Numbers.Sets.{giving_starts, giving_done}
 use Rattle.asn_rules.proofs.number_reader.read_number_by_bits.Goals as goal
 
 pub loop-bit-init : goal.loop-bit-init

@@ -1,6 +1,6 @@
 use Rattle.std.proofs.Common.{◌≡◌, ◌-◌, length}
 use Rattle.asn_bits.specs.Sets.{Among}
-use Rattle.asn_rules.proofs.Sets.{Giving}
+use Rattle.asn_rules.proofs.Numbers.Sets.{Giving}
 use Rattle.asn_rules.proofs.number_reader.read_number_by_bits.Given as goal
 
 abbrev pub invariant-loop-bit : goal.invariant-loop-bit

@@ -1,6 +1,6 @@
 use Rattle.std.proofs.lemmas.Result.{err_from_is_err_and}
-use Rattle.asn_rules.proofs.Leads.{stops_by}
-use Rattle.asn_rules.proofs.Zeros.{zeros_lead}
+use Rattle.asn_rules.proofs.Languages.Leads.{stops_by}
+use Rattle.asn_rules.proofs.Plain.Zeros.{zeros_lead}
 use Rattle.asn_rules.proofs.number_reader.read_padding.Goals as goal
 
 pub returns-in_err-read_up_to-clause-stop : goal.returns-in_err-read_up_to-clause-stop

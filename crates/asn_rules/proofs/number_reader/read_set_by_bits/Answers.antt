@@ -1,8 +1,8 @@
 -- The numbers of the set are those of its intervals.
 use Rattle.std.proofs.lemmas.Result.{IfOk-weaker, IfErr-weaker}
-use Rattle.asn_rules.proofs.Forks.{same_spells}
-use Rattle.asn_rules.proofs.Leads.{leads_same, stops_by}
-use Rattle.asn_rules.proofs.NumberSets.{same_set}
+use Rattle.asn_rules.proofs.Languages.Forks.{same_spells}
+use Rattle.asn_rules.proofs.Languages.Leads.{leads_same, stops_by}
+use Rattle.asn_rules.proofs.Plain.NumberSets.{same_set}
 use Rattle.asn_rules.proofs.number_reader.read_set_by_bits.Goals as goal
 
 pub returns-clause-stop : goal.returns-clause-stop

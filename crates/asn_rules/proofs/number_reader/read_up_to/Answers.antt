@@ -3,7 +3,7 @@ use Rattle.std.proofs.Common.{◌<◌, ◌^◌, ◌++◌, ap, sym, arith}
 use Rattle.std.proofs.Math.Nat.{one-le-pow}
 use Rattle.asn_bits.specs.Numbers.{bits}
 use Rattle.asn_bits.proofs.Weights.{bits_are}
-use Rattle.asn_rules.proofs.Sets.{first_spells}
+use Rattle.asn_rules.proofs.Numbers.Sets.{first_spells}
 use Rattle.asn_rules.proofs.number_reader.read_up_to.Goals as goal
 
 pub returns-then-k-eq0-clause-done : goal.returns-then-k-eq0-clause-done

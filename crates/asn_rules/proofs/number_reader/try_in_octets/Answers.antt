@@ -1,7 +1,7 @@
 use Rattle.std.proofs.Common.{◌*◌}
 use Rattle.asn_bits.specs.Numbers.{bits}
 use Rattle.asn_bits.proofs.Weights.{bits_are}
-use Rattle.asn_rules.proofs.FirstOctets.{octets_there}
+use Rattle.asn_rules.proofs.Octets.FirstOctets.{octets_there}
 use Rattle.asn_rules.proofs.number_reader.try_in_octets.Goals as goal
 
 pub pass_octets-requires : goal.pass_octets-requires

@@ -3,9 +3,9 @@ use Rattle.std.proofs.lemmas.Result.{err_from_is_err_and}
 use Rattle.asn_rules.specs.Languages.{Spells}
 use Rattle.asn_rules.specs.NumberSets.{NumberIn}
 use Rattle.asn_rules.specs.Stops.{Stops}
-use Rattle.asn_rules.proofs.Leads.{stops_by}
+use Rattle.asn_rules.proofs.Languages.Leads.{stops_by}
 use Rattle.asn_rules.specs.OctetReading.{from_to}
-use Rattle.asn_rules.proofs.FilledReading.{stops_at_mark, stops_at_number, zeros_lead}
+use Rattle.asn_rules.proofs.Plain.FilledReading.{stops_at_mark, stops_at_number, zeros_lead}
 use Rattle.asn_rules.specs.Fields.{octet_fields}
 use Rattle.asn_rules.proofs.octet_reader.read_bits.Goals as goal
 

@@ -4,9 +4,9 @@ use Rattle.asn_bits.specs.Numbers.{octet_count, packed}
 use Rattle.asn_rules.specs.Languages.{Spells}
 use Rattle.asn_rules.specs.NumberSets.{Admits}
 use Rattle.asn_rules.specs.Stops.{Stops}
-use Rattle.asn_rules.proofs.Leads.{stops_by, stops_on, leads_on}
+use Rattle.asn_rules.proofs.Languages.Leads.{stops_by, stops_on, leads_on}
 use Rattle.asn_rules.specs.OctetReading.{OctetsIn}
-use Rattle.asn_rules.proofs.CountedOctets.{counts, some_counts, stops_at_count, some_with_count, leads_to_number, trimmed_leads}
+use Rattle.asn_rules.proofs.Octets.CountedOctets.{counts, some_counts, stops_at_count, some_with_count, leads_to_number, trimmed_leads}
 use Rattle.asn_rules.specs.Fields.{octet_fields}
 use Rattle.asn_rules.proofs.octet_reader.read_counted.Goals as goal
 

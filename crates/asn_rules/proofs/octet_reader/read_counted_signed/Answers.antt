@@ -1,6 +1,6 @@
 use Rattle.asn_rules.specs.Fields.{octet_fields}
-use Rattle.asn_rules.proofs.Octetwise.{spells_octets, spells_whole, stops_octets}
-use Rattle.asn_rules.proofs.SignedOctets.{signed_in_octets}
+use Rattle.asn_rules.proofs.Octets.Octetwise.{spells_octets, spells_whole, stops_octets}
+use Rattle.asn_rules.proofs.Octets.SignedOctets.{signed_in_octets}
 use Rattle.asn_rules.proofs.octet_reader.read_counted_signed.Goals as goal
 
 pub returns-in-Ok-clause-at_octet : goal.returns-in-Ok-clause-at_octet

@@ -2,7 +2,7 @@ use Rattle.std.proofs.Common.{◌≡◌, ◌-◌, ◌<◌, ◌^◌, ◌++◌, ap
 use Rattle.std.proofs.Math.Nat.{one-le-pow}
 use Rattle.asn_bits.specs.Numbers.{bits}
 use Rattle.asn_bits.proofs.Weights.{bits_are}
-use Rattle.asn_rules.proofs.Sets.{first_spells}
+use Rattle.asn_rules.proofs.Numbers.Sets.{first_spells}
 use Rattle.asn_rules.proofs.octet_reader.read_from.Goals as goal
 
 pub returns-then-k-eq0-clause-done : goal.returns-then-k-eq0-clause-done

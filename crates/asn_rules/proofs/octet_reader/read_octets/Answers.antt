@@ -1,5 +1,5 @@
 use Rattle.asn_rules.specs.NumberSets.{Admits}
-use Rattle.asn_rules.proofs.Octetwise.{number_octets, spells_octets, spells_whole, stops_octets}
+use Rattle.asn_rules.proofs.Octets.Octetwise.{number_octets, spells_octets, spells_whole, stops_octets}
 use Rattle.asn_rules.specs.Fields.{octet_fields}
 use Rattle.asn_rules.proofs.octet_reader.read_octets.Goals as goal
 

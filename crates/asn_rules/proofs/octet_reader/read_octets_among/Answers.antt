@@ -1,6 +1,6 @@
 use Rattle.asn_bits.specs.Sets.{Among}
 use Rattle.asn_rules.specs.Fields.{octet_fields}
-use Rattle.asn_rules.proofs.Octetwise.{number_octets, spells_octets, spells_whole, stops_octets}
+use Rattle.asn_rules.proofs.Octets.Octetwise.{number_octets, spells_octets, spells_whole, stops_octets}
 use Rattle.asn_rules.proofs.octet_reader.read_octets_among.Goals as goal
 
 pub returns-in-Ok-clause-at_octet : goal.returns-in-Ok-clause-at_octet

@@ -1,6 +1,6 @@
 use Rattle.asn_rules.specs.Fields.{octet_fields}
-use Rattle.asn_rules.proofs.Octetwise.{spells_octets, spells_whole, stops_octets}
-use Rattle.asn_rules.proofs.SignedOctets.{fixed_in_octets}
+use Rattle.asn_rules.proofs.Octets.Octetwise.{spells_octets, spells_whole, stops_octets}
+use Rattle.asn_rules.proofs.Octets.SignedOctets.{fixed_in_octets}
 use Rattle.asn_rules.proofs.octet_reader.read_signed_octets.Goals as goal
 
 pub returns-in-Ok-clause-at_octet : goal.returns-in-Ok-clause-at_octet

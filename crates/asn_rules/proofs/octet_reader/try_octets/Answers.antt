@@ -1,7 +1,7 @@
 use Rattle.asn_rules.specs.Fields.{octet_fields}
 use Rattle.asn_rules.specs.NumberSets.{Admits}
-use Rattle.asn_rules.proofs.Octetwise.{number_octets, spells_octets, spells_whole}
-use Rattle.asn_rules.proofs.Sets.{first_spells}
+use Rattle.asn_rules.proofs.Octets.Octetwise.{number_octets, spells_octets, spells_whole}
+use Rattle.asn_rules.proofs.Numbers.Sets.{first_spells}
 use Rattle.asn_rules.proofs.octet_reader.try_octets.Goals as goal
 
 pub returns-clause-at_octet : goal.returns-clause-at_octet

@@ -1,6 +1,6 @@
 use Rattle.asn_rules.specs.Fields.{octet_fields}
-use Rattle.asn_rules.proofs.Octetwise.{spells_octets, spells_whole}
-use Rattle.asn_rules.proofs.SignedOctets.{fixed_in_octets}
+use Rattle.asn_rules.proofs.Octets.Octetwise.{spells_octets, spells_whole}
+use Rattle.asn_rules.proofs.Octets.SignedOctets.{fixed_in_octets}
 use Rattle.asn_rules.proofs.octet_reader.try_signed_octets.Goals as goal
 
 pub returns-clause-at_octet : goal.returns-clause-at_octet

@@ -1,5 +1,5 @@
 use Rattle.asn_rules.proofs.octet_reader.with_count.Goals as goal
-use Rattle.asn_rules.proofs.CountedOctets.{low_end, are_with_count}
+use Rattle.asn_rules.proofs.Octets.CountedOctets.{low_end, are_with_count}
 
 pub returns : goal.returns
 returns c =

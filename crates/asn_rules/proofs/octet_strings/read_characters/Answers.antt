@@ -4,9 +4,9 @@ use Rattle.asn_values.specs.View.{alphabet_of}
 use Rattle.asn_bits.specs.Numbers.{packed}
 use Rattle.asn_bits.proofs.Octets.{packed_octets}
 use Rattle.asn_rules.specs.Languages.{Row, Refused}
-use Rattle.asn_rules.proofs.Lists.{no_length}
+use Rattle.asn_rules.proofs.Live.Lists.{no_length}
 use Rattle.asn_rules.specs.OctetStrings.{Character, IsValidCount}
-use Rattle.asn_rules.proofs.Characters.{row_front, memory_alone, text_spells, text_short, text_refused, all_valid, some_other}
+use Rattle.asn_rules.proofs.Octets.Characters.{row_front, memory_alone, text_spells, text_short, text_refused, all_valid, some_other}
 use Rattle.asn_rules.specs.Fields.{octet_fields}
 use Rattle.asn_rules.proofs.octet_strings.read_characters.Goals as goal
 

@@ -4,8 +4,8 @@ use Rattle.asn_bits.specs.Numbers.{bits, packed, unpacked}
 use Rattle.asn_bits.specs.Sink.{bit_of}
 use Rattle.asn_rules.specs.Fields.{OneOctet}
 use Rattle.asn_rules.specs.Languages.{Row, Spells}
-use Rattle.asn_rules.proofs.Leads.{stops_by}
-use Rattle.asn_rules.proofs.BitStrings.{stops_at_octets, rest_leads, bits_done}
+use Rattle.asn_rules.proofs.Languages.Leads.{stops_by}
+use Rattle.asn_rules.proofs.Octets.BitStrings.{stops_at_octets, rest_leads, bits_done}
 use Rattle.asn_rules.specs.Fields.{octet_fields}
 use Rattle.asn_rules.proofs.octet_strings.read_packed.Goals as goal
 

@@ -2,9 +2,9 @@ use Rattle.std.proofs.lemmas.Result.{err_from_is_err_and, IfOk-weaker, IfErr-wea
 use Rattle.asn_bits.specs.Numbers.{packed}
 use Rattle.asn_rules.specs.Languages.{Spells}
 use Rattle.asn_rules.specs.Stops.{Stops}
-use Rattle.asn_rules.proofs.Leads.{stops_by}
+use Rattle.asn_rules.proofs.Languages.Leads.{stops_by}
 use Rattle.asn_rules.specs.OctetReading.{OctetsIn}
-use Rattle.asn_rules.proofs.BitStrings.{unused_in, stops_at_length, stops_at_unused, bits_lead}
+use Rattle.asn_rules.proofs.Octets.BitStrings.{unused_in, stops_at_length, stops_at_unused, bits_lead}
 use Rattle.asn_rules.specs.Fields.{octet_fields}
 use Rattle.asn_rules.proofs.octet_strings.read_variable.Goals as goal
 

@@ -2,7 +2,7 @@ use Rattle.std.proofs.Common.{◌++◌, List, ℕ, length, sym, ◌∙◌, ap, a
 use Rattle.std.proofs.lemmas.Result.{on_ok_weaker}
 use Rattle.asn_bits.specs.Lengths.{octet_length}
 use Rattle.asn_bits.specs.Numbers.{unpacked}
-use Rattle.asn_rules.proofs.OctetsWritten.{content}
+use Rattle.asn_rules.proofs.Octets.OctetsWritten.{content}
 use Rattle.asn_rules.proofs.octet_writer.write_content.Goals as goal
 
 pub returns : goal.returns

@@ -1,6 +1,6 @@
 use Rattle.std.proofs.Common.{◌++◌, List, ℕ, ◌∙◌, ap}
 use Rattle.std.proofs.lemmas.Result.{on_ok_weaker}
-use Rattle.asn_rules.proofs.OctetsWritten.{filling_bits}
+use Rattle.asn_rules.proofs.Octets.OctetsWritten.{filling_bits}
 use Rattle.asn_rules.proofs.octet_writer.write_filling.Goals as goal
 
 pub returns : goal.returns

@@ -1,7 +1,7 @@
 use Rattle.std.proofs.Common.{◌≡◌, ◌+◌, ◌*◌, ◌++◌, ℕ, List, sym, ◌∙◌, ap, append_assoc}
 use Rattle.std.proofs.lemmas.Result.{on_ok_weaker}
 use Rattle.asn_bits.specs.Numbers.{bits}
-use Rattle.asn_rules.proofs.OctetsWritten.{short_length, long_length}
+use Rattle.asn_rules.proofs.Octets.OctetsWritten.{short_length, long_length}
 use Rattle.asn_rules.proofs.octet_writer.write_length.Goals as goal
 
 pub returns-then-length-lt-LONG : goal.returns-then-length-lt-LONG

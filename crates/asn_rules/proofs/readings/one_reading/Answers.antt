@@ -1,4 +1,4 @@
-use Rattle.asn_rules.proofs.Reading.{one_reading}
+use Rattle.asn_rules.proofs.Answer.Reading.{one_reading}
 use Rattle.asn_rules.proofs.readings.one_reading.Goals as goal
 
 pub returns : goal.returns

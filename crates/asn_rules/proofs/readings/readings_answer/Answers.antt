@@ -1,4 +1,4 @@
-use Rattle.asn_rules.proofs.Reading.{readings_answer}
+use Rattle.asn_rules.proofs.Answer.Reading.{readings_answer}
 use Rattle.asn_rules.proofs.readings.readings_answer.Goals as goal
 
 pub returns : goal.returns

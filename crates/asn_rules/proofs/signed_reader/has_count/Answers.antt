@@ -1,5 +1,5 @@
 use Rattle.std.proofs.Common.{◌≡◌, true, ⊎_elim, arith}
-use Rattle.asn_rules.proofs.SignedNumbers.{some_above, some_below, some_offset}
+use Rattle.asn_rules.proofs.Plain.SignedNumbers.{some_above, some_below, some_offset}
 use Rattle.asn_rules.proofs.signed_reader.has_count.Goals as goal
 
 pub returns-then-has_between-clause-there : goal.returns-then-has_between-clause-there

@@ -1,5 +1,5 @@
 use Rattle.std.proofs.Common.{arith}
-use Rattle.asn_rules.proofs.SignedNumbers.{least_within, least_more}
+use Rattle.asn_rules.proofs.Plain.SignedNumbers.{least_within, least_more}
 use Rattle.asn_rules.proofs.signed_reader.least_magnitude.Goals as goal
 
 pub returns-else-count-le1-clause-within : goal.returns-else-count-le1-clause-within

@@ -2,7 +2,7 @@ use Rattle.std.proofs.Common.{◌≡◌, ◌<◌, ℕ, true, ⊎_elim, subst, ar
 use Rattle.std.proofs.lemmas.Bool.{cases_lt}
 use Rattle.asn_rules.specs.Counted.{SomeOf, LeastSigned}
 use Rattle.asn_rules.specs.OffsetSets.{HasInteger}
-use Rattle.asn_rules.proofs.SignedNumbers.{counts_there, counts_back, count_eight}
+use Rattle.asn_rules.proofs.Plain.SignedNumbers.{counts_there, counts_back, count_eight}
 use Rattle.asn_rules.proofs.signed_reader.lowest_count.Goals as goal
 
 pub returns-then-has_count-clause-there : goal.returns-then-has_count-clause-there

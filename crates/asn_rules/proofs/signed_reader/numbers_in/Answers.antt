@@ -1,6 +1,6 @@
 use Rattle.std.proofs.Common.{◌-◌, ◌*◌, refl}
 use Rattle.std.proofs.lemmas.Nat.{pow_pos}
-use Rattle.asn_rules.proofs.SignedNumbers.{are_standing}
+use Rattle.asn_rules.proofs.Plain.SignedNumbers.{are_standing}
 use Rattle.asn_rules.proofs.signed_reader.numbers_in.Goals as goal
 
 pub returns : goal.returns

@@ -1,4 +1,4 @@
-use Rattle.asn_rules.proofs.SignedNumbers.{are_signed}
+use Rattle.asn_rules.proofs.Plain.SignedNumbers.{are_signed}
 use Rattle.asn_rules.proofs.signed_reader.numbers_of_count.Goals as goal
 
 pub returns : goal.returns

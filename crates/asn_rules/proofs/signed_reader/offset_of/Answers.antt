@@ -1,7 +1,7 @@
 use Rattle.std.proofs.Common.{◌≡◌, ◌+◌, ◌-◌, ◌*◌, ◌^◌, ℕ, pos, ◌+ℤ◌, ap, ◌∙◌, arith}
 use Rattle.asn_values.specs.Fits.{lowest_integer}
 use Rattle.asn_bits.proofs.Octets.{half}
-use Rattle.asn_rules.proofs.SignedNumbers.{offset_neg, weight_within}
+use Rattle.asn_rules.proofs.Plain.SignedNumbers.{offset_neg, weight_within}
 use Rattle.asn_rules.proofs.signed_reader.offset_of.Goals as goal
 
 pub overflow_add-result-else-number-weight : goal.overflow_add-result-else-number-weight

@@ -4,8 +4,8 @@ use Rattle.asn_bits.proofs.Splits.{two_pow_octets}
 use Rattle.asn_bits.proofs.Unions.{set_meets}
 use Rattle.asn_rules.specs.Languages.{Spells}
 use Rattle.asn_rules.specs.OffsetSets.{SignedIn}
-use Rattle.asn_rules.proofs.Leads.{stops_by}
-use Rattle.asn_rules.proofs.SignedReading.{standing_leads}
+use Rattle.asn_rules.proofs.Languages.Leads.{stops_by}
+use Rattle.asn_rules.proofs.Plain.SignedReading.{standing_leads}
 use Rattle.asn_rules.proofs.signed_reader.read_signed_by_bits.Goals as goal
 
 pub read_number_among-requires-clause-some : goal.read_number_among-requires-clause-some

@@ -3,10 +3,10 @@ use Rattle.std.proofs.lemmas.Result.{err_from_is_err_and}
 use Rattle.asn_bits.specs.Sets.{InSet}
 use Rattle.asn_rules.specs.Languages.{Plain, Spells}
 use Rattle.asn_rules.specs.Stops.{Stops}
-use Rattle.asn_rules.proofs.Leads.{stops_by}
+use Rattle.asn_rules.proofs.Languages.Leads.{stops_by}
 use Rattle.asn_rules.specs.NumberSets.{Admits}
 use Rattle.asn_rules.specs.OffsetSets.{UnconstrainedIn}
-use Rattle.asn_rules.proofs.SignedReading.{signed_counts, stops_at_count, leads_to_number, some_number}
+use Rattle.asn_rules.proofs.Plain.SignedReading.{signed_counts, stops_at_count, leads_to_number, some_number}
 use Rattle.asn_rules.proofs.signed_reader.read_unconstrained_by_parts.Goals as goal
 
 pub returns-in_err-count-clause-stop : goal.returns-in_err-count-clause-stop

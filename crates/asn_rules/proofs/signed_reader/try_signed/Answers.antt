@@ -1,8 +1,8 @@
 use Rattle.std.proofs.Common.{ℕ, subst, arith}
 use Rattle.asn_bits.proofs.Splits.{two_pow_octets}
 use Rattle.asn_rules.specs.OffsetSets.{HasOffset}
-use Rattle.asn_rules.proofs.FirstOctets.{octets_there}
-use Rattle.asn_rules.proofs.SignedReading.{standing_spells}
+use Rattle.asn_rules.proofs.Octets.FirstOctets.{octets_there}
+use Rattle.asn_rules.proofs.Plain.SignedReading.{standing_spells}
 use Rattle.asn_rules.proofs.signed_reader.try_signed.Goals as goal
 
 pub offset_of-offset-requires-clause-fits : goal.offset_of-offset-requires-clause-fits

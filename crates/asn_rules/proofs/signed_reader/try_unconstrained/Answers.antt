@@ -8,8 +8,8 @@ use Rattle.asn_bits.specs.Numbers.{signed_octet_count}
 use Rattle.asn_bits.proofs.Above.{kept}
 use Rattle.asn_bits.proofs.Splits.{two_pow_octets}
 use Rattle.asn_rules.specs.OffsetSets.{HasOffset}
-use Rattle.asn_rules.proofs.FirstOctets.{octets_there}
-use Rattle.asn_rules.proofs.SignedReading.{unconstrained_spells}
+use Rattle.asn_rules.proofs.Octets.FirstOctets.{octets_there}
+use Rattle.asn_rules.proofs.Plain.SignedReading.{unconstrained_spells}
 use Rattle.asn_rules.proofs.signed_reader.try_unconstrained.Goals as goal
 
 pub offset_of-offset-requires-clause-fits : goal.offset_of-offset-requires-clause-fits

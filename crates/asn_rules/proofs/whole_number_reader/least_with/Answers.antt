@@ -1,6 +1,6 @@
 use Rattle.std.proofs.Common.{◌-◌, sym, ◌∙◌, arith}
 use Rattle.asn_bits.proofs.Splits.{two_pow_octets}
-use Rattle.asn_rules.proofs.CountedNumbers.{least_more}
+use Rattle.asn_rules.proofs.Plain.CountedNumbers.{least_more}
 use Rattle.asn_rules.proofs.whole_number_reader.least_with.Goals as goal
 
 pub returns-else-count-le1 : goal.returns-else-count-le1

@@ -3,9 +3,9 @@ use Rattle.std.proofs.lemmas.Result.{err_from_is_err_and, IfOk-weaker, IfErr-wea
 use Rattle.asn_rules.specs.Languages.{Plain, Spells}
 use Rattle.asn_bits.specs.Sets.{InSet, Meets}
 use Rattle.asn_rules.specs.Stops.{Stops}
-use Rattle.asn_rules.proofs.Leads.{stops_by}
+use Rattle.asn_rules.proofs.Languages.Leads.{stops_by}
 use Rattle.asn_rules.specs.NumberSets.{Admits}
-use Rattle.asn_rules.proofs.CountedReading.{counts_of, count_there, some_count, some_number, at_most_eight, stops_at_count, leads_to_number}
+use Rattle.asn_rules.proofs.Plain.CountedReading.{counts_of, count_there, some_count, some_number, at_most_eight, stops_at_count, leads_to_number}
 use Rattle.asn_rules.proofs.whole_number_reader.read_semi_constrained.Goals as goal
 
 pub read_number-requires-clause-some : goal.read_number-requires-clause-some

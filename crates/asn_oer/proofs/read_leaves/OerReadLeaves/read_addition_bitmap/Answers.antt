@@ -3,7 +3,7 @@ use Rattle.std.proofs.lemmas.Result.{err_from_is_err_and}
 use Rattle.asn_bits.specs.Numbers.{packed}
 use Rattle.asn_rules.specs.Languages.{Spells}
 use Rattle.asn_rules.specs.Stops.{Stops}
-use Rattle.asn_rules.proofs.Leads.{stops_by}
+use Rattle.asn_rules.proofs.Languages.Leads.{stops_by}
 use Rattle.asn_rules.specs.Filled.{filled_octets, unused_bits}
 use Rattle.asn_rules.specs.OctetReading.{OctetsIn, from_to}
 use Rattle.asn_oer.specs.Oer.{oer_fields}

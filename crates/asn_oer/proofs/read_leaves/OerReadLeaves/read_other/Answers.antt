@@ -7,8 +7,8 @@ use Rattle.asn_values.specs.Profile.{InProfile, good_default}
 use Rattle.asn_values.specs.View.{shape_of, datum_of, range_of, label_of, more_labels_of}
 use Rattle.asn_values.proofs.Views.{shape_of-Int, shape_of-Enum}
 use Rattle.asn_bits.proofs.Above.{kept}
-use Rattle.asn_rules.proofs.Listed.{other_inhabited}
-use Rattle.asn_rules.proofs.ListedEach.{good_fits}
+use Rattle.asn_rules.proofs.Components.Listed.{other_inhabited}
+use Rattle.asn_rules.proofs.Components.ListedEach.{good_fits}
 use Rattle.asn_oer.specs.Oer.{oer}
 use Rattle.asn_oer.proofs.read_leaves.OerReadLeaves.read_other.Goals as goal
 

@@ -4,8 +4,8 @@ use Rattle.asn_values.specs.Shape.{integer, enumerated}
 use Rattle.asn_values.specs.View.{shape_of, range_of, size_range_of, label_of, more_labels_of}
 use Rattle.asn_values.proofs.Views.{shape_of-Int, shape_of-Enum, shape_of-Bits, shape_of-Utf8}
 use Rattle.asn_bits.specs.Numbers.{packed}
-use Rattle.asn_rules.proofs.Leads.{stops_by}
-use Rattle.asn_rules.proofs.Listed.{spelt_inhabited}
+use Rattle.asn_rules.proofs.Languages.Leads.{stops_by}
+use Rattle.asn_rules.proofs.Components.Listed.{spelt_inhabited}
 use Rattle.asn_oer.specs.Oer.{oer}
 use Rattle.asn_oer.specs.Rules.{oer_ruling}
 use Rattle.asn_oer.specs.Walk.{oer_coding}

@@ -2,7 +2,7 @@ use Rattle.std.proofs.lemmas.Result.{err_from_is_err_and}
 use Rattle.asn_values.specs.Fits.{FitsLength}
 use Rattle.asn_values.specs.View.{size_range_of}
 use Rattle.asn_bits.specs.Numbers.{packed}
-use Rattle.asn_rules.proofs.Leads.{leads_map, leads_on, stops_by}
+use Rattle.asn_rules.proofs.Languages.Leads.{leads_map, leads_on, stops_by}
 use Rattle.asn_walk.specs.Ahead.{items}
 use Rattle.asn_oer.specs.Constructed.{Quantity}
 use Rattle.asn_oer.specs.Oer.{oer_fields}

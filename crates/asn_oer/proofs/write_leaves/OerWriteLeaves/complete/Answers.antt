@@ -6,7 +6,7 @@ use Rattle.asn_oer.specs.Rules.{oer_ruling}
 use Rattle.asn_oer.specs.Walk.{oer_coding}
 use Rattle.asn_oer.proofs.Law.GoodTypes.{good}
 use Rattle.asn_oer.proofs.Encodings.SpeltTypes.{oer_spelt, few_levels}
-use Rattle.asn_rules.proofs.Octetwise.{packed_again}
+use Rattle.asn_rules.proofs.Octets.Octetwise.{packed_again}
 use Rattle.asn_oer.proofs.write_leaves.OerWriteLeaves.complete.Goals as goal
 
 pub into_octets-requires : goal.into_octets-requires

@@ -1,6 +1,6 @@
 use Rattle.std.proofs.lemmas.Result.{IfOk-weaker, IfErr-weaker}
-use Rattle.asn_rules.proofs.Forks.{same_spells}
-use Rattle.asn_rules.proofs.Leads.{stops_by, leads_same}
+use Rattle.asn_rules.proofs.Languages.Forks.{same_spells}
+use Rattle.asn_rules.proofs.Languages.Leads.{stops_by, leads_same}
 use Rattle.asn_per.specs.Per.{per_fields}
 use Rattle.asn_per.specs.Rules.{per_ruling}
 use Rattle.asn_per.specs.Walk.{per_coding}

@@ -2,8 +2,8 @@ use Rattle.std.proofs.Common.{subst}
 use Rattle.std.proofs.lemmas.Result.{IfOk-weaker, IfErr-weaker}
 use Rattle.asn_values.specs.Shape.{SizeRange}
 use Rattle.asn_rules.specs.Fields.{Octet}
-use Rattle.asn_rules.proofs.Forks.{same_spells}
-use Rattle.asn_rules.proofs.Leads.{stops_by, leads_same}
+use Rattle.asn_rules.proofs.Languages.Forks.{same_spells}
+use Rattle.asn_rules.proofs.Languages.Leads.{stops_by, leads_same}
 use Rattle.asn_per.specs.Kinds.{Sized}
 use Rattle.asn_per.specs.Reading.{Reads, StopsIn}
 use Rattle.asn_per.proofs.Read.OpenFieldReading.{SomeOctets, some_octets}

@@ -4,8 +4,8 @@ use Rattle.asn_values.specs.Shape.{integer, enumerated}
 use Rattle.asn_values.specs.Profile.{InProfile, good_default}
 use Rattle.asn_values.specs.View.{shape_of, datum_of, range_of, label_of, more_labels_of}
 use Rattle.asn_values.proofs.Views.{shape_of-Int}
-use Rattle.asn_rules.proofs.Listed.{other_inhabited}
-use Rattle.asn_rules.proofs.ListedEach.{good_fits}
+use Rattle.asn_rules.proofs.Components.Listed.{other_inhabited}
+use Rattle.asn_rules.proofs.Components.ListedEach.{good_fits}
 use Rattle.asn_per.specs.Per.{per}
 use Rattle.asn_bits.proofs.Above.{kept}
 use Rattle.asn_per.proofs.Read.ComponentsRead.{datum_of-Int}

@@ -1,7 +1,7 @@
 use Rattle.std.proofs.Common.{◌≡◌, ◌+◌, ◌-◌, ◌^◌, arith}
 use Rattle.std.proofs.lemmas.Nat.{pow_pos}
 use Rattle.std.proofs.lemmas.Result.{err_from_is_err_and}
-use Rattle.asn_rules.proofs.Leads.{Leads, stops_by}
+use Rattle.asn_rules.proofs.Languages.Leads.{Leads, stops_by}
 use Rattle.asn_walk.specs.Coding.{PreambleOf}
 use Rattle.asn_per.specs.Per.{per_fields}
 use Rattle.asn_per.specs.Rules.{per_ruling}

@@ -3,8 +3,8 @@ use Rattle.std.proofs.lemmas.Result.{err_from_is_err_and}
 use Rattle.asn_values.specs.Shape.{integer, enumerated}
 use Rattle.asn_values.specs.View.{shape_of, range_of, size_range_of, alphabet_of, label_of, more_labels_of}
 use Rattle.asn_values.proofs.Views.{shape_of-Int, shape_of-Bits, shape_of-Octets, shape_of-Text, shape_of-Utf8, datum_of-Bits, datum_of-Octets, datum_of-Text}
-use Rattle.asn_rules.proofs.Leads.{stops_by}
-use Rattle.asn_rules.proofs.Listed.{spelt_inhabited}
+use Rattle.asn_rules.proofs.Languages.Leads.{stops_by}
+use Rattle.asn_rules.proofs.Components.Listed.{spelt_inhabited}
 use Rattle.asn_per.specs.Per.{per}
 use Rattle.asn_per.proofs.Read.EnumeratedTypes.{enumerated_of_items}
 use Rattle.asn_per.proofs.Read.StringReading.{bits_size, octets_size, text_size, bits_lead, octets_lead, text_leads, utf8_leads}

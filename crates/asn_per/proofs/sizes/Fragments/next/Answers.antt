@@ -2,7 +2,7 @@ use Rattle.std.proofs.Common.{◌≡◌, ◌+◌, ◌*◌, ◌⊎◌, inl, inr, 
 use Rattle.std.proofs.lemmas.Result.{err_from_is_err_and}
 use Rattle.asn_bits.specs.LengthBits.{BegunLengths, is_closed}
 use Rattle.asn_rules.specs.NextLengths.{LastLength, FragmentLength, NextLength}
-use Rattle.asn_rules.proofs.LengthReading.{fragment_left}
+use Rattle.asn_rules.proofs.Plain.LengthReading.{fragment_left}
 use Rattle.asn_walk.specs.Ahead.{lengths, ReadsLength}
 use Rattle.asn_per.specs.Per.{per_fields}
 use Rattle.asn_per.specs.RowsAhead.{ahead_of, lengths_of}

@@ -1,0 +1,3 @@
+-- The session that keeps all octets.
+pub mod ReadAgain
+pub mod Sessions

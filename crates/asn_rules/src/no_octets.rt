@@ -11,7 +11,7 @@ use std::alloc::AllocError;
 ///
 /// # Errors
 /// `AllocError` where an allocation failed.
-#[tactic(auto, using(crate::proofs::NoOctets::more_told))]
+#[tactic(auto, using(crate::proofs::Answer::NoOctets::more_told))]
 pub fn is_value_of_none(answer: &Result<Step, FeedFault>) -> Result<bool, AllocError>
     ensures { (r : Ruling) (t : Shape) → FedAtOnce r t [] answer.now → IfOk result (TellsIfNone r t) }
 {

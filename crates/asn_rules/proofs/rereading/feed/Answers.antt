@@ -5,7 +5,7 @@ use Rattle.asn_rules.specs.Rereading.{FedAtOnce}
 use Rattle.asn_rules.specs.Sessions.{all_so_far}
 use Rattle.asn_rules.specs.declared.session.Step.TheVariants as step
 use Rattle.asn_rules.specs.declared.session.FeedFault.TheVariants as feed
-use Rattle.asn_rules.proofs.Session.ReadAgain.{feeds, done_feeds, more_feeds, refused_feeds, too_long_feeds}
+use Rattle.asn_rules.proofs.Feeding.ReadAgain.{feeds, done_feeds, more_feeds, refused_feeds, too_long_feeds}
 use Rattle.asn_rules.proofs.rereading.feed.Goals as goal
 
 pub returns-in-Ok-Done : goal.returns-in-Ok-Done

@@ -1,7 +1,7 @@
 use Rattle.std.proofs.Common.{Bool, true, false, [], subst, refl, arith}
 use Rattle.asn_values.specs.View.{shape_of}
 use Rattle.asn_rules.specs.Rereading.{TellsIfNone}
-use Rattle.asn_rules.proofs.Session.ReadAgain.{opened_whole, opened_empty}
+use Rattle.asn_rules.proofs.Feeding.ReadAgain.{opened_whole, opened_empty}
 use Rattle.asn_rules.proofs.rereading.open.Goals as goal
 use Rattle.asn_rules.proofs.rereading.open.Goals.{then-branch, else-branch}
 

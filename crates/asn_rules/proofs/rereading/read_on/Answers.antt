@@ -4,7 +4,7 @@ use Rattle.asn_rules.specs.Answer.{max_octets}
 use Rattle.asn_rules.specs.Rereading.{FedAtOnce}
 use Rattle.asn_rules.specs.Sessions.{all_so_far}
 use Rattle.asn_rules.specs.declared.session.Step.TheVariants as step
-use Rattle.asn_rules.proofs.Session.ReadAgain.{nothing_in, kept_so_far, more_kept, piece_kept, fed_kept}
+use Rattle.asn_rules.proofs.Feeding.ReadAgain.{nothing_in, kept_so_far, more_kept, piece_kept, fed_kept}
 use Rattle.asn_rules.proofs.rereading.read_on.Goals as goal
 
 pub returns-in_ok-extend_from_slice-in-More-clause-answered : goal.returns-in_ok-extend_from_slice-in-More-clause-answered

@@ -4,7 +4,7 @@ use Rattle.asn_rules.specs.Answer.{Answer, more, max_octets}
 use Rattle.asn_rules.specs.Sessions.{waiting, FeedsTo, Finished}
 use Rattle.asn_rules.specs.declared.session.Step.TheVariants as step
 use Rattle.asn_rules.specs.declared.session.FeedFault.TheVariants as feed
-use Rattle.asn_rules.proofs.Session.Sessions.{decoded_all, all_read, not_whole, all_told}
+use Rattle.asn_rules.proofs.Feeding.Sessions.{decoded_all, all_read, not_whole, all_told}
 use Rattle.asn_rules.proofs.rules.decode.Goals as goal
 
 pub returns-else-used-octets : goal.returns-else-used-octets

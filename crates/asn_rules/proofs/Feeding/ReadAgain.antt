@@ -24,7 +24,7 @@ use Rattle.asn_rules.specs.declared.session.Step.TheVariants as step
 use Rattle.asn_rules.specs.declared.session.Truncated.{Truncated}
 use Rattle.asn_rules.proofs.Live.Fronts.{none_before}
 use Rattle.asn_rules.proofs.Live.Lists.{no_length}
-use Rattle.asn_rules.proofs.Session.Sessions.{take_few, take_fewer, not_whole}
+use Rattle.asn_rules.proofs.Feeding.Sessions.{take_few, take_fewer, not_whole}
 use Rattle.asn_rules.proofs.Law.SomeValue.{a_value}
 
 -- ---- how many units are live

@@ -1,22 +1,23 @@
 //! ENUMERATED (X.691, "encoding the enumerated type"): writing an item and reading one.
-ghost use Rattle.std.specs.Prelude.{◌≡◌, ◌<◌, ◌++◌, OnOk, map, length, None};
+ghost use Rattle.std.specs.Prelude.{◌≡◌, ◌<◌, ◌++◌, OnOk, IfSome, IsNone, map, length, None};
 ghost use Rattle.asn_values.specs.Datum.{item};
 ghost use Rattle.asn_values.specs.Shape.{enumerated, marked_labels};
 ghost use Rattle.asn_values.specs.Fits.{Fits};
 ghost use Rattle.asn_values.specs.Profile.{InProfile};
 ghost use Rattle.asn_values.specs.View.{label_of, more_labels_of};
-ghost use Rattle.asn_rules.specs.Languages.{Inhabited};
+ghost use Rattle.asn_rules.specs.Languages.{Inhabited, Spells};
 ghost use Rattle.asn_walk.specs.Items.{enumeration_of};
 ghost use Rattle.asn_per.specs.Kinds.{position_of, RootItemsBut, IsRootPosition};
 ghost use Rattle.asn_per.specs.Laws.{per_bits};
-ghost use Rattle.asn_per.specs.Per.{rank};
+ghost use Rattle.asn_per.specs.Per.{rank, per_fields};
 ghost use Rattle.asn_per.specs.Indexes.{AreRootItems, IsItemWithin, index_of};
 ghost use Rattle.asn_per.specs.Reading.{Reads, StopsIn, ItemsBut, MarkedItems};
 
 use crate::indexes::{read_index, write_index};
+use asn_bits::internal::width;
 use asn_bits::{BitCursor, BitSink};
 use asn_rules::EncodeFault;
-use asn_rules::internal::{Stop, read_constrained};
+use asn_rules::internal::{NumberSet, Stop, read_constrained, try_number};
 use asn_values::internal::item_fits;
 use asn_values::{Item, Value};
 use asn_walk::Index;
@@ -87,6 +88,30 @@ fn read_of_root(root: &[Item], excluded: Option<u32>, bits: &mut BitCursor<'_>) 
     let left_out = excluded_index(root, excluded);
     let index = read_constrained(root.len() as u64 - 1, left_out, bits)?;
     Ok(position_of_index(root, index as usize))
+}
+
+/// Fast path: an item without an extension mark, if its index is present; otherwise takes nothing. Returns its position.
+#[inline(always)]
+pub(crate) fn try_item(
+    root: &[Item],
+    more: &Option<Vec<Item>>,
+    bits: &mut BitCursor<'_>,
+) -> Option<u32>
+    requires of_profile { InProfile (enumeration_of root.now more.now) }
+    ensures some { IfSome result (λ p. Spells per_fields (ItemsBut None root.now more.now) (item p) bits.old bits.new) }
+    ensures none { IsNone result → bits.new ≡ bits.old }
+{
+    let None = more else {
+        return None;
+    };
+    let highest = root.len() as u64 - 1;
+    let set = NumberSet {
+        low: 0,
+        high: highest,
+        excluded: None,
+    };
+    let index = try_number(width(u128::from(highest) + 1), set, bits)?;
+    Some(position_of_index(root, index as usize))
 }
 
 /// The index of the excluded item.

@@ -4,12 +4,9 @@ ghost use Rattle.asn_per.specs.Walk.{per_coding};
 
 use crate::indexes::{self, read_extension_bit, read_small_length};
 use crate::integers::{read_boolean, read_integer, try_constrained};
-use crate::items::read_item;
+use crate::items::{read_item, try_item};
 use crate::rules::Per;
-use crate::simple_into::{
-    read_bit_string_into, read_boolean_into, read_integer_into, read_item_into,
-    read_octet_string_into, read_text_into,
-};
+use crate::simple_into::{read_bit_string_into, read_octet_string_into, read_text_into};
 use crate::sizes::Fragments;
 use crate::string_reader::{read_bits, read_characters, read_octet_string, read_utf8};
 use asn_bits::BitCursor;
@@ -18,6 +15,7 @@ use asn_rules::internal::{
     NumberSet, Stop, bits_left, greatest_of_width, read_number, read_padding, read_up_to,
 };
 use asn_values::{AsnType, Size, Value};
+use asn_walk::slots::{set_boolean, set_item};
 use asn_walk::{Index, Preamble, ReadLeaves};
 use std::alloc::Global;
 
@@ -72,18 +70,35 @@ impl ReadLeaves for Per {
         slot: &mut Value,
     ) -> Result<(), Stop> {
         match ty {
-            AsnType::Bool => read_boolean_into(slot, units),
-            AsnType::Int(bounds) => read_integer_into(bounds, slot, units),
-            AsnType::Enum { root, ext } => read_item_into(root, ext, slot, units),
             AsnType::Bits(size) => read_bit_string_into(alloc, size, slot, units),
             AsnType::Octets(size) => read_octet_string_into(alloc, size, slot, units),
             AsnType::Text(kind, size) => read_text_into(alloc, *kind, size, slot, units),
-            AsnType::Null | AsnType::Utf8 => {
+            AsnType::Bool
+            | AsnType::Null
+            | AsnType::Int(_)
+            | AsnType::Enum { .. }
+            | AsnType::Utf8 => {
                 *slot = Self::read_simple(alloc, ty, units)?;
                 Ok(())
             }
             AsnType::Seq { .. } | AsnType::SeqOf(..) | AsnType::Choice { .. } => unreachable!(),
         }
+    }
+
+    #[inline(never)]
+    fn try_simple_into(ty: &AsnType, units: &mut BitCursor<'_>, slot: &mut Value) -> bool {
+        match ty {
+            AsnType::Bool => match units.next() {
+                Some(bit) => set_boolean(bit == 1, slot),
+                None => return false,
+            },
+            AsnType::Enum { root, ext } => match try_item(root, ext, units) {
+                Some(position) => set_item(position, slot),
+                None => return false,
+            },
+            _ => return false,
+        }
+        true
     }
 
     fn read_other(ty: &AsnType, default: &Value, units: &mut BitCursor<'_>) -> Result<Value, Stop> {

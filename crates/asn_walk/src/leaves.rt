@@ -1,5 +1,5 @@
 //! What a set of encoding rules gives to a reader: the parts of types and values that it spells by itself.
-ghost use Rattle.std.specs.Prelude.{◌≡◌, ◌≤◌, ◌<◌, ◌-◌, ◌/◌, ◌%◌, true, IfOk, IfErr, OnOk, IfSome, IsNone, length};
+ghost use Rattle.std.specs.Prelude.{◌≡◌, ◌≤◌, ◌<◌, ◌-◌, ◌/◌, ◌%◌, true, false, IfOk, IfErr, OnOk, IfSome, IsNone, length};
 ghost use Rattle.asn_values.specs.Datum.{number};
 ghost use Rattle.asn_values.specs.Profile.{InProfile, good_default};
 ghost use Rattle.asn_values.specs.View.{shape_of, datum_of, size_range_of};
@@ -107,6 +107,19 @@ pub trait ReadLeaves {
             Reads rules (ValuesOf rules (between low high)) (number z) units.old units.new) }
         ensures of_integers { IfSome result IsOfProfile }
         ensures none { IsNone result → units.new ≡ units.old };
+
+    /// Fast path: a value of a type that is neither SEQUENCE, SEQUENCE OF nor CHOICE into the one that is there, where
+    /// its units are at hand; otherwise takes nothing, and leaves some value.
+    #[inline(always)]
+    fn try_simple_into(_ty: &AsnType, _units: &mut BitCursor<'_>, _slot: &mut Value) -> bool
+        requires at_unit { rules.at_unit _units.old }
+        requires of_profile { InProfile (shape_of _ty.now) }
+        ensures at_unit { rules.at_unit _units.new }
+        ensures done { result ≡ true → ReadsValue rules _ty.now _slot.new _units.old _units.new }
+        ensures none { result ≡ false → _units.new ≡ _units.old }
+    {
+        false
+    }
 
     /// Reads the extension bit, where there is an extension mark with this many additions, and a presence bitmap of
     /// `count` bits.

@@ -1,5 +1,5 @@
 //! The components of a SEQUENCE, each read into its entry: those of the root and the extension additions.
-ghost use Rattle.std.specs.Prelude.{◌≡◌, ◌≤◌, ◌<◌, IfOk, IfErr, IfSome, OnOk, length};
+ghost use Rattle.std.specs.Prelude.{◌≡◌, ◌≤◌, ◌<◌, true, false, IfOk, IfErr, IfSome, OnOk, length};
 ghost use Rattle.std.specs.Option.{option_map};
 ghost use Rattle.asn_values.specs.Profile.{InProfile};
 ghost use Rattle.asn_values.specs.Parts.{AreOfProfile, IsGoodDemand};
@@ -11,9 +11,9 @@ use crate::entries::{make_present, read_other_into, set_absent, set_integer};
 use crate::reader::{read_into, read_open_into};
 use asn_bits::BitCursor;
 use asn_rules::internal::Stop;
-use asn_values::{Field, Need, Value};
+use asn_values::{AsnType, Field, Need, Value};
 use asn_walk::{PresenceBits, ReadLeaves, bitmap_width};
-use asn_walk_read::{try_bounded, try_integer};
+use asn_walk_read::try_integer;
 use std::alloc::Global;
 
 /// Reads the root of a SEQUENCE: its preamble and its components. Gives the extension bit.
@@ -72,56 +72,74 @@ fn read_components_into<R: ReadLeaves>(
     let mut presence = presence;
     let mut at = 0;
     for field in fields {
-        if let Some(number) = try_bounded::<R>(field, units) {
-            set_integer(&mut entries[at], number);
-            at += 1;
+        let entry = &mut entries[at];
+        at += 1;
+        if !presence.next_of(field) {
+            set_absent(field, entry);
             continue;
         }
-        let present = presence.next_of(field);
-        read_entry_into::<R>(alloc, field, present, &mut entries[at], units)?;
-        at += 1;
+        if try_entry_into::<R>(field, entry, units) {
+            continue;
+        }
+        make_present(entry);
+        let Some(value) = entry else { unreachable!() };
+        match &field.need {
+            Need::Default(default) => {
+                match read_other_into::<R>(&field.ty, default, units, value) {
+                    Ok(()) => continue,
+                    Err(stop) => return Err(stop),
+                }
+            }
+            Need::Must | Need::Optional => match read_into::<R>(alloc, &field.ty, units, value) {
+                Ok(()) => continue,
+                Err(stop) => return Err(stop),
+            },
+        }
     }
     Ok(())
 }
 
-/// Reads the entry of a component, of which `present` says whether it is there.
+/// Fast path: the INTEGER, BOOLEAN or ENUMERATED of a component that is present and has no DEFAULT, where its units
+/// are at hand; otherwise takes nothing, and leaves some entry.
 #[inline(always)]
-#[cycle(reader)]
-fn read_entry_into<R: ReadLeaves>(
-    alloc: Global,
+fn try_entry_into<R: ReadLeaves>(
     field: &Field,
-    present: bool,
     entry: &mut Option<Value>,
     units: &mut BitCursor<'_>,
-) -> Result<(), Stop>
+) -> bool
     requires at_unit { R.rules.at_unit units.old }
     requires of_profile { InProfile (part_of_field field.now).shape }
-    requires good { IsGoodDemand (part_of_field field.now).demand (part_of_field field.now).shape }
-    ensures at_unit { OnOk result (R.rules.at_unit units.new) }
-    ensures done { OnOk result
-        (ReadsEntry R.rules field.now present (option_map datum_of entry.new) units.old units.new) }
-    ensures stop { IfErr result (λ why.
-        StopsAt R.rules (EntryOf R.rules (part_of_field field.now) present) units.old why) }
+    ensures at_unit { R.rules.at_unit units.new }
+    ensures done { result ≡ true
+        → ReadsEntry R.rules field.now true (option_map datum_of entry.new) units.old units.new }
+    ensures none { result ≡ false → units.new ≡ units.old }
 {
-    if !present {
-        set_absent(field, entry);
-        return Ok(());
-    }
     match &field.need {
-        Need::Default(default) => {
-            make_present(entry);
-            let Some(value) = entry else { unreachable!() };
-            read_other_into::<R>(&field.ty, default, units, value)
+        Need::Default(_) => return false,
+        Need::Must | Need::Optional => {}
+    }
+    match &field.ty {
+        AsnType::Int(_) => {
+            let Some(number) = try_integer::<R>(&field.ty, units) else {
+                return false;
+            };
+            set_integer(entry, number);
+            true
         }
-        Need::Must | Need::Optional => {
-            if let Some(number) = try_integer::<R>(&field.ty, units) {
-                set_integer(entry, number);
-                return Ok(());
-            }
-            make_present(entry);
-            let Some(value) = entry else { unreachable!() };
-            read_into::<R>(alloc, &field.ty, units, value)
+        AsnType::Bool | AsnType::Enum { .. } => {
+            let Some(value) = entry else {
+                return false;
+            };
+            R::try_simple_into(&field.ty, units, value)
         }
+        AsnType::Null
+        | AsnType::Bits(_)
+        | AsnType::Octets(_)
+        | AsnType::Text(..)
+        | AsnType::Utf8
+        | AsnType::Seq { .. }
+        | AsnType::SeqOf(..)
+        | AsnType::Choice { .. } => false,
     }
 }
 

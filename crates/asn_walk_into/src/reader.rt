@@ -15,8 +15,9 @@ use asn_bits::BitCursor;
 use asn_rules::Why;
 use asn_rules::internal::Stop;
 use asn_values::{Alt, AsnType, Value};
+use asn_walk::slots::set_integer;
 use asn_walk::{Index, ReadLeaves};
-use asn_walk_read::added_count;
+use asn_walk_read::{added_count, try_integer};
 use std::alloc::Global;
 
 /// The most elements of a SEQUENCE OF for which capacity is reserved at once: an announced count alone must not
@@ -43,14 +44,21 @@ pub fn read_into<R: ReadLeaves>(
         AsnType::Seq { ext: Some(_), .. } => read_marked_into::<R>(alloc, ty, units, slot),
         AsnType::SeqOf(..) => read_list_into::<R>(alloc, ty, units, slot),
         AsnType::Choice { .. } => read_choice_into::<R>(alloc, ty, units, slot),
-        AsnType::Bool
-        | AsnType::Null
-        | AsnType::Int(_)
-        | AsnType::Enum { .. }
-        | AsnType::Bits(_)
-        | AsnType::Octets(_)
-        | AsnType::Text(..)
-        | AsnType::Utf8 => R::read_simple_into(alloc, ty, units, slot),
+        AsnType::Int(_) => {
+            if let Some(number) = try_integer::<R>(ty, units) {
+                set_integer(number, slot);
+                return Ok(());
+            }
+            R::read_simple_into(alloc, ty, units, slot)
+        }
+        AsnType::Bool | AsnType::Enum { .. } => {
+            if R::try_simple_into(ty, units, slot) {
+                return Ok(());
+            }
+            R::read_simple_into(alloc, ty, units, slot)
+        }
+        AsnType::Null | AsnType::Bits(_) | AsnType::Octets(_) | AsnType::Text(..) | AsnType::Utf8 =>
+            R::read_simple_into(alloc, ty, units, slot),
     }
 }
 
@@ -83,8 +91,10 @@ fn read_sequence_into<R: ReadLeaves>(
     if entries.len() != root.len() {
         return read_anew::<R>(alloc, ty, units, slot);
     }
-    read_root_into::<R>(alloc, root, None, entries.as_mut_slice(), units)?;
-    Ok(())
+    match read_root_into::<R>(alloc, root, None, entries.as_mut_slice(), units) {
+        Ok(_) => Ok(()),
+        Err(stop) => Err(stop),
+    }
 }
 
 /// Reads a SEQUENCE with an extension mark.

@@ -18,6 +18,7 @@ use Rattle.asn_values.proofs.Components.{shape_of_part}
 use Rattle.asn_values.proofs.Parts.{components_of_profile}
 use Rattle.asn_values.proofs.InnerTypes.{element_of_profile}
 use Rattle.asn_values.proofs.Views.{datum_of-Seq, sequence_of_fields, list_of_elements, datum_of-List, datum_of-Choice}
+use Rattle.asn_values.specs.Parts.{IsGoodDemand}
 use Rattle.asn_values.specs.Profile.{InProfile}
 use Rattle.asn_bits.specs.Sink.{bit_of}
 use Rattle.asn_rules.specs.Languages.{Spells, Row}
@@ -81,101 +82,113 @@ pub components::read_components_into-loop-field-init : goal.components::read_com
 components::read_components_into-loop-field-init g t c =
     (read_starts g.R.ReadLeaves.rules [] (map part_of_field c.args.fields.now) c.args.presence.left c.args.presence.bitmap (g.R.ReadLeaves.rules.to_units c.args.units.now) c.requires.of_profile c.requires.width c.requires.few, refl, refl, c.requires.each, c.requires.at_unit)
 
-pub components::read_components_into-loop-field-preserved-in-Some : goal.components::read_components_into-loop-field-preserved-in-Some
-components::read_components_into-loop-field-preserved-in-Some g t c =
+-- a component without a DEFAULT
+no_default : (need : Need) → (need ≡ needs.Must) ⊎ (need ≡ needs.Optional) → default_of (demand_of need) ≡ None
+no_default need (inl e) = ap (λ n. default_of (demand_of n)) e
+no_default need (inr e) = ap (λ n. default_of (demand_of n)) e
+
+pub components::read_components_into-loop-field-preserved-then-not-next_of : goal.components::read_components_into-loop-field-preserved-then-not-next_of
+components::read_components_into-loop-field-preserved-then-not-next_of g t c =
     let h = rw (next_part c.args.fields.now c.loop-field.field-index c.field-item.result c.loop-field-test.true c.field-item.is) at c.loop-field.invariant.0 in
-    let n = next_must g.R.ReadLeaves.rules c.keep_laws.ensures h (c.in-Some.ensures.must refl) in
+    let n = next_either g.R.ReadLeaves.rules c.keep_laws.ensures h c.next_of.result c.next_of.new.self.left c.next_of.ensures.must (λ e. (let b = c.next_of.ensures.bit e in (b.0, b.1 ∙ ap (λ m. m / 2 ^ c.next_of.new.self.left % 2) c.loop-field.invariant.1))) in
     let inside : c.loop-field.at < length c.loop-field.entries = omega (arith, c.loop-field-test.true, c.loop-field.invariant.2, c.loop-field.invariant.3) in
-    let z = c.in-Some.number in
-    let whole = c.in-Some.ensures.of_integers in
-    let same : to_z w128 (of_z w128 z) ≡ z = kept z whole.0 whole.1 in
-    let set : option_map datum_of c.set_integer.new.entry ≡ Some (number z) = rw same at c.set_integer.ensures in
-    let items = entry_written c.loop-field.entries c.loop-field.at c.set_integer.new.entry inside ∙ ap (λ e. entries_seen (take c.loop-field.at c.loop-field.entries) ++ e ∷ []) set in (
-      rw items (n.more (Some (number c.in-Some.number)) (g.R.ReadLeaves.rules.to_units c.try_bounded.new.units) c.in-Some.ensures.some),
-      c.loop-field.invariant.1,
+    let e : c.next_of.result ≡ false = c.if-not-next_of.true in
+    let spell = nothing_read g.R.ReadLeaves.rules.ruling.fielding (default_of (part_of_field c.field-item.result).demand) (g.R.ReadLeaves.rules.to_units c.loop-field.units) in
+    let items = entry_written c.loop-field.entries c.loop-field.at c.set_absent.new.entry inside in (
+      rw items (n.more (option_map datum_of c.set_absent.new.entry) (g.R.ReadLeaves.rules.to_units c.loop-field.units) (rw (e, c.set_absent.ensures) spell)),
+      c.next_of.ensures.bitmap ∙ c.loop-field.invariant.1,
       omega (arith, c.loop-field.invariant.2),
       length-set c.loop-field.entries c.loop-field.at _ ∙ c.loop-field.invariant.3,
-      c.try_bounded.ensures.at_unit,
+      c.loop-field.invariant.4,
     )
 
-pub components::read_components_into-returns-in_err-read_entry_into-clause-stop : goal.components::read_components_into-returns-in_err-read_entry_into-clause-stop
-components::read_components_into-returns-in_err-read_entry_into-clause-stop g t c =
+pub components::read_components_into-loop-field-preserved-then-try_entry_into : goal.components::read_components_into-loop-field-preserved-then-try_entry_into
+components::read_components_into-loop-field-preserved-then-try_entry_into g t c =
     let h = rw (next_part c.args.fields.now c.loop-field.field-index c.field-item.result c.loop-field-test.true c.field-item.is) at c.loop-field.invariant.0 in
-    let n = next_either g.R.ReadLeaves.rules c.keep_laws.ensures h c.next_of-present.result c.next_of-present.new.self.left c.next_of-present.ensures.must (λ e. (let b = c.next_of-present.ensures.bit e in (b.0, b.1 ∙ ap (λ m. m / 2 ^ c.next_of-present.new.self.left % 2) c.loop-field.invariant.1))) in
-    let p = err_from_is_err_and c.from_residual.result c.from_residual.ensures.1 in
-    let still : c.try_bounded.new.units ≡ c.loop-field.units = c.in_default.ensures.none refl in
-    rw (p.1, p.2) (stops_by _ n.stops (rw still at c.in_err-read_entry_into.ensures.stop))
+    let n = next_either g.R.ReadLeaves.rules c.keep_laws.ensures h c.next_of.result c.next_of.new.self.left c.next_of.ensures.must (λ e. (let b = c.next_of.ensures.bit e in (b.0, b.1 ∙ ap (λ m. m / 2 ^ c.next_of.new.self.left % 2) c.loop-field.invariant.1))) in
+    let inside : c.loop-field.at < length c.loop-field.entries = omega (arith, c.loop-field-test.true, c.loop-field.invariant.2, c.loop-field.invariant.3) in
+    let e : c.next_of.result ≡ true = c.if-not-next_of.false in
+    let items = entry_written c.loop-field.entries c.loop-field.at c.try_entry_into.new.entry inside in (
+      rw items (n.more (option_map datum_of c.try_entry_into.new.entry) (g.R.ReadLeaves.rules.to_units c.try_entry_into.new.units) (rw e (c.try_entry_into.ensures.done c.if-try_entry_into.true))),
+      c.next_of.ensures.bitmap ∙ c.loop-field.invariant.1,
+      omega (arith, c.loop-field.invariant.2),
+      length-set c.loop-field.entries c.loop-field.at _ ∙ c.loop-field.invariant.3,
+      c.try_entry_into.ensures.at_unit,
+    )
+
+pub components::read_components_into-read_other_into-requires-clause-of_profile : goal.components::read_components_into-read_other_into-requires-clause-of_profile
+components::read_components_into-read_other_into-requires-clause-of_profile g t c =
+    let h = rw (next_part c.args.fields.now c.loop-field.field-index c.field-item.result c.loop-field-test.true c.field-item.is) at c.loop-field.invariant.0 in
+    rw (← shape_of_part c.field-item.result) h.of_profile.0
+
+pub components::read_components_into-read_other_into-requires-clause-good : goal.components::read_components_into-read_other_into-requires-clause-good
+components::read_components_into-read_other_into-requires-clause-good g t c =
+    let h = rw (next_part c.args.fields.now c.loop-field.field-index c.field-item.result c.loop-field-test.true c.field-item.is) at c.loop-field.invariant.0 in
+    let d : (part_of_field c.field-item.result).demand ≡ demand_of (needs.Default c.in-Default.default) = demand_of_part c.field-item.result ∙ ap demand_of c.in-Default.is in
+    let good : IsGoodDemand (demand_of (needs.Default c.in-Default.default)) (part_of_field c.field-item.result).shape = rw d at h.of_profile.1 in
+    rw (← shape_of_part c.field-item.result) good
+
+pub components::read_components_into-loop-field-preserved-in-Ok : goal.components::read_components_into-loop-field-preserved-in-Ok
+components::read_components_into-loop-field-preserved-in-Ok g t c =
+    let h = rw (next_part c.args.fields.now c.loop-field.field-index c.field-item.result c.loop-field-test.true c.field-item.is) at c.loop-field.invariant.0 in
+    let n = next_either g.R.ReadLeaves.rules c.keep_laws.ensures h c.next_of.result c.next_of.new.self.left c.next_of.ensures.must (λ e. (let b = c.next_of.ensures.bit e in (b.0, b.1 ∙ ap (λ m. m / 2 ^ c.next_of.new.self.left % 2) c.loop-field.invariant.1))) in
+    let inside : c.loop-field.at < length c.loop-field.entries = omega (arith, c.loop-field-test.true, c.loop-field.invariant.2, c.loop-field.invariant.3) in
+    let e : c.next_of.result ≡ true = c.if-not-next_of.false in
+    let still : c.try_entry_into.new.units ≡ c.loop-field.units = c.try_entry_into.ensures.none c.if-try_entry_into.false in
+    let d : default_of (part_of_field c.field-item.result).demand ≡ Some (datum_of c.in-Default.default) = ap default_of (demand_of_part c.field-item.result ∙ ap demand_of c.in-Default.is) in
+    let lead = entry_leads g.R.ReadLeaves.rules c.field-item.result c.next_of.result _ (g.R.ReadLeaves.rules.to_units c.loop-field.units) e d in
+    let spell = lead.done (datum_of c.read_other_into.new.slot) (g.R.ReadLeaves.rules.to_units c.read_other_into.new.units) (rw still at c.in-Ok.ensures.done) in
+    let items = entry_written c.loop-field.entries c.loop-field.at (Some c.read_other_into.new.slot) inside in (
+      rw items (n.more (Some (datum_of c.read_other_into.new.slot)) (g.R.ReadLeaves.rules.to_units c.read_other_into.new.units) spell),
+      c.next_of.ensures.bitmap ∙ c.loop-field.invariant.1,
+      omega (arith, c.loop-field.invariant.2),
+      length-set c.loop-field.entries c.loop-field.at _ ∙ c.loop-field.invariant.3,
+      c.in-Ok.ensures.at_unit,
+    )
+
+pub components::read_components_into-returns-in-Err-clause-stop : goal.components::read_components_into-returns-in-Err-clause-stop
+components::read_components_into-returns-in-Err-clause-stop g t c =
+    let h = rw (next_part c.args.fields.now c.loop-field.field-index c.field-item.result c.loop-field-test.true c.field-item.is) at c.loop-field.invariant.0 in
+    let n = next_either g.R.ReadLeaves.rules c.keep_laws.ensures h c.next_of.result c.next_of.new.self.left c.next_of.ensures.must (λ e. (let b = c.next_of.ensures.bit e in (b.0, b.1 ∙ ap (λ m. m / 2 ^ c.next_of.new.self.left % 2) c.loop-field.invariant.1))) in
+    let e : c.next_of.result ≡ true = c.if-not-next_of.false in
+    let still : c.try_entry_into.new.units ≡ c.loop-field.units = c.try_entry_into.ensures.none c.if-try_entry_into.false in
+    let d : default_of (part_of_field c.field-item.result).demand ≡ Some (datum_of c.in-Default.default) = ap default_of (demand_of_part c.field-item.result ∙ ap demand_of c.in-Default.is) in
+    let lead = entry_leads g.R.ReadLeaves.rules c.field-item.result c.next_of.result _ (g.R.ReadLeaves.rules.to_units c.loop-field.units) e d in
+    stops_by _ n.stops (stops_by _ lead.stops (rw still at c.in-Err.ensures.stop))
 
 pub components::read_components_into-loop-field-preserved : goal.components::read_components_into-loop-field-preserved
 components::read_components_into-loop-field-preserved g t c =
     let h = rw (next_part c.args.fields.now c.loop-field.field-index c.field-item.result c.loop-field-test.true c.field-item.is) at c.loop-field.invariant.0 in
-    let n = next_either g.R.ReadLeaves.rules c.keep_laws.ensures h c.next_of-present.result c.next_of-present.new.self.left c.next_of-present.ensures.must (λ e. (let b = c.next_of-present.ensures.bit e in (b.0, b.1 ∙ ap (λ m. m / 2 ^ c.next_of-present.new.self.left % 2) c.loop-field.invariant.1))) in
-    let still : c.try_bounded.new.units ≡ c.loop-field.units = c.in_default.ensures.none refl in
+    let n = next_either g.R.ReadLeaves.rules c.keep_laws.ensures h c.next_of.result c.next_of.new.self.left c.next_of.ensures.must (λ e. (let b = c.next_of.ensures.bit e in (b.0, b.1 ∙ ap (λ m. m / 2 ^ c.next_of.new.self.left % 2) c.loop-field.invariant.1))) in
     let inside : c.loop-field.at < length c.loop-field.entries = omega (arith, c.loop-field-test.true, c.loop-field.invariant.2, c.loop-field.invariant.3) in
-    let items = entry_written c.loop-field.entries c.loop-field.at c.read_entry_into.new.entry inside in (
-      rw items (n.more (option_map datum_of c.read_entry_into.new.entry) (g.R.ReadLeaves.rules.to_units c.read_entry_into.new.units) (rw still at c.in_ok-read_entry_into.ensures.done)),
-      c.next_of-present.ensures.bitmap ∙ c.loop-field.invariant.1,
+    let e : c.next_of.result ≡ true = c.if-not-next_of.false in
+    let still : c.try_entry_into.new.units ≡ c.loop-field.units = c.try_entry_into.ensures.none c.if-try_entry_into.false in
+    let d : default_of (part_of_field c.field-item.result).demand ≡ None = ap default_of (demand_of_part c.field-item.result) ∙ no_default c.field-item.result.need c.in-Must.is in
+    let lead = entry_leads g.R.ReadLeaves.rules c.field-item.result c.next_of.result None (g.R.ReadLeaves.rules.to_units c.loop-field.units) e d in
+    let spell = lead.done (datum_of c.read_into.new.slot) (g.R.ReadLeaves.rules.to_units c.read_into.new.units) (rw still at c.in-Ok-read_into.ensures.done) in
+    let items = entry_written c.loop-field.entries c.loop-field.at (Some c.read_into.new.slot) inside in (
+      rw items (n.more (Some (datum_of c.read_into.new.slot)) (g.R.ReadLeaves.rules.to_units c.read_into.new.units) spell),
+      c.next_of.ensures.bitmap ∙ c.loop-field.invariant.1,
       omega (arith, c.loop-field.invariant.2),
       length-set c.loop-field.entries c.loop-field.at _ ∙ c.loop-field.invariant.3,
-      c.in_ok-read_entry_into.ensures.at_unit,
+      c.in-Ok-read_into.ensures.at_unit,
     )
+
+pub components::read_components_into-returns-in-Err-read_into-clause-stop : goal.components::read_components_into-returns-in-Err-read_into-clause-stop
+components::read_components_into-returns-in-Err-read_into-clause-stop g t c =
+    let h = rw (next_part c.args.fields.now c.loop-field.field-index c.field-item.result c.loop-field-test.true c.field-item.is) at c.loop-field.invariant.0 in
+    let n = next_either g.R.ReadLeaves.rules c.keep_laws.ensures h c.next_of.result c.next_of.new.self.left c.next_of.ensures.must (λ e. (let b = c.next_of.ensures.bit e in (b.0, b.1 ∙ ap (λ m. m / 2 ^ c.next_of.new.self.left % 2) c.loop-field.invariant.1))) in
+    let e : c.next_of.result ≡ true = c.if-not-next_of.false in
+    let still : c.try_entry_into.new.units ≡ c.loop-field.units = c.try_entry_into.ensures.none c.if-try_entry_into.false in
+    let d : default_of (part_of_field c.field-item.result).demand ≡ None = ap default_of (demand_of_part c.field-item.result) ∙ no_default c.field-item.result.need c.in-Must.is in
+    let lead = entry_leads g.R.ReadLeaves.rules c.field-item.result c.next_of.result None (g.R.ReadLeaves.rules.to_units c.loop-field.units) e d in
+    stops_by _ n.stops (stops_by _ lead.stops (rw still at c.in-Err-read_into.ensures.stop))
 
 pub components::read_components_into-returns-clause-done : goal.components::read_components_into-returns-clause-done
 components::read_components_into-returns-clause-done g t c =
     let all : take c.loop-field.at c.loop-field.entries ≡ c.loop-field.entries = take_all c.loop-field.at c.loop-field.entries (omega (arith, c.loop-field-test.false, c.loop-field.invariant.2, c.loop-field.invariant.3)) in
     let read = read_ends c.loop-field.invariant.0 (no_part c.args.fields.now c.loop-field.field-index c.loop-field-test.false) in
     after_nothing (rw all at read)
-
-pub components::read_entry_into-returns-then-not-present-clause-done : goal.components::read_entry_into-returns-then-not-present-clause-done
-components::read_entry_into-returns-then-not-present-clause-done g t c =
-    let e : c.args.present ≡ false = c.if-not-present.true in
-    rw (e, c.set_absent.ensures) (nothing_read g.R.ReadLeaves.rules.ruling.fielding (default_of (part_of_field c.args.field.now).demand) (g.R.ReadLeaves.rules.to_units c.args.units.now))
-
-pub components::read_entry_into-returns-in-Some-clause-done : goal.components::read_entry_into-returns-in-Some-clause-done
-components::read_entry_into-returns-in-Some-clause-done g t c =
-    let e : c.args.present ≡ true = c.if-not-present.false in
-    let d : default_of (part_of_field c.args.field.now).demand ≡ Some (datum_of c.in-Default.default) = ap default_of (demand_of_part c.args.field.now ∙ ap demand_of c.in-Default.is) in
-    let lead = entry_leads g.R.ReadLeaves.rules c.args.field.now c.args.present _ (g.R.ReadLeaves.rules.to_units c.args.units.now) e d in
-    IfOk-weaker c.read_other_into.result _ _ (λ _ s. lead.done (datum_of c.read_other_into.new.slot) (g.R.ReadLeaves.rules.to_units c.read_other_into.new.units) s) c.read_other_into.ensures.done
-
-pub components::read_entry_into-returns-in-Some-clause-stop : goal.components::read_entry_into-returns-in-Some-clause-stop
-components::read_entry_into-returns-in-Some-clause-stop g t c =
-    let e : c.args.present ≡ true = c.if-not-present.false in
-    let d : default_of (part_of_field c.args.field.now).demand ≡ Some (datum_of c.in-Default.default) = ap default_of (demand_of_part c.args.field.now ∙ ap demand_of c.in-Default.is) in
-    let lead = entry_leads g.R.ReadLeaves.rules c.args.field.now c.args.present _ (g.R.ReadLeaves.rules.to_units c.args.units.now) e d in
-    IfErr-weaker c.read_other_into.result _ _ (λ why s. stops_by why lead.stops s) c.read_other_into.ensures.stop
-
--- a component without a DEFAULT
-no_default : (need : Need) → (need ≡ needs.Must) ⊎ (need ≡ needs.Optional) → default_of (demand_of need) ≡ None
-no_default need (inl e) = ap (λ n. default_of (demand_of n)) e
-no_default need (inr e) = ap (λ n. default_of (demand_of n)) e
-
-pub components::read_entry_into-returns-in-Some-try_integer-clause-done : goal.components::read_entry_into-returns-in-Some-try_integer-clause-done
-components::read_entry_into-returns-in-Some-try_integer-clause-done g t c =
-    let e : c.args.present ≡ true = c.if-not-present.false in
-    let d : default_of (part_of_field c.args.field.now).demand ≡ None = ap default_of (demand_of_part c.args.field.now) ∙ no_default c.args.field.now.need c.in-Must.is in
-    let lead = entry_leads g.R.ReadLeaves.rules c.args.field.now c.args.present None (g.R.ReadLeaves.rules.to_units c.args.units.now) e d in
-    let z = c.in-Some-try_integer.number in
-    let whole = c.in-Some-try_integer.ensures.of_integers in
-    let same : to_z w128 (of_z w128 z) ≡ z = kept z whole.0 whole.1 in
-    let set : option_map datum_of c.set_integer.new.entry ≡ Some (number z) = rw same at c.set_integer.ensures in
-    rw set (lead.done (number z) (g.R.ReadLeaves.rules.to_units c.try_integer.new.units) c.in-Some-try_integer.ensures.some)
-
-pub components::read_entry_into-returns-in-Some-entry-clause-done : goal.components::read_entry_into-returns-in-Some-entry-clause-done
-components::read_entry_into-returns-in-Some-entry-clause-done g t c =
-    let e : c.args.present ≡ true = c.if-not-present.false in
-    let d : default_of (part_of_field c.args.field.now).demand ≡ None = ap default_of (demand_of_part c.args.field.now) ∙ no_default c.args.field.now.need c.in-Must.is in
-    let lead = entry_leads g.R.ReadLeaves.rules c.args.field.now c.args.present None (g.R.ReadLeaves.rules.to_units c.args.units.now) e d in
-    let still : c.try_integer.new.units ≡ c.args.units.now = c.in_default-try_integer.ensures.none refl in
-    IfOk-weaker c.read_into.result _ _ (λ _ s. lead.done (datum_of c.read_into.new.slot) (g.R.ReadLeaves.rules.to_units c.read_into.new.units) s) (rw still at c.read_into.ensures.done)
-
-pub components::read_entry_into-returns-in-Some-entry-clause-stop : goal.components::read_entry_into-returns-in-Some-entry-clause-stop
-components::read_entry_into-returns-in-Some-entry-clause-stop g t c =
-    let e : c.args.present ≡ true = c.if-not-present.false in
-    let d : default_of (part_of_field c.args.field.now).demand ≡ None = ap default_of (demand_of_part c.args.field.now) ∙ no_default c.args.field.now.need c.in-Must.is in
-    let lead = entry_leads g.R.ReadLeaves.rules c.args.field.now c.args.present None (g.R.ReadLeaves.rules.to_units c.args.units.now) e d in
-    let still : c.try_integer.new.units ≡ c.args.units.now = c.in_default-try_integer.ensures.none refl in
-    IfErr-weaker c.read_into.result _ _ (λ why s. stops_by why lead.stops s) (rw still at c.read_into.ensures.stop)
 
 pub reader::read_complete_into-returns-in_err-read_into-clause-stop : goal.reader::read_complete_into-returns-in_err-read_into-clause-stop
 reader::read_complete_into-returns-in_err-read_into-clause-stop g t c =
@@ -396,19 +409,18 @@ reader::read_sequence_into-read_root_into-requires g t c κs lives =
     let each : length c.as_mut_slice.result.now ≡ length c.as_slice-root.result.now = omega (arith, c.as_mut_slice.ensures.len, c.len.ensures, c.if-len-root.false) in
     (search (rules, the_lemmas), (lives.0, (lives.1, (c.requires.at_unit, (components_of_profile (fields_seen c.as_slice-root.result.now) closed good, (few_components c.as_slice-root.result.now is c.requires.of_profile, (tt, each)))))))
 
-pub reader::read_sequence_into-returns-in_err-read_root_into-clause-stop : goal.reader::read_sequence_into-returns-in_err-read_root_into-clause-stop
-reader::read_sequence_into-returns-in_err-read_root_into-clause-stop g t c =
+pub reader::read_sequence_into-returns-in-Err-clause-stop : goal.reader::read_sequence_into-returns-in-Err-clause-stop
+reader::read_sequence_into-returns-in-Err-clause-stop g t c =
     let is = closed_type c.args.ty.now c.in-Seq.root c.in-Seq.ext c.as_slice-root.result.now c.in-Seq.is c.in-None.is c.as_slice-root.ensures.value in
     let good : InProfile (sequence (fields_seen c.as_slice-root.result.now) closed) = rw is at c.requires.of_profile in
-    let p = err_from_is_err_and c.from_residual.result c.from_residual.ensures.1 in
-    rw (p.1, p.2, is) (c.in_err-read_root_into.ensures.stop.stops closed good refl)
+    rw is (c.in-Err.ensures.stop.stops closed good refl)
 
-pub reader::read_sequence_into-returns-clause-done : goal.reader::read_sequence_into-returns-clause-done
+pub reader::read_sequence_into-returns-in-Ok-clause-done : goal.reader::read_sequence_into-returns-in-Ok-clause-done
 unfolding views.out-Value denote.Hole.Carrier.out
-reader::read_sequence_into-returns-clause-done g t c =
+reader::read_sequence_into-returns-in-Ok-clause-done g t c =
     let is = closed_type c.args.ty.now c.in-Seq.root c.in-Seq.ext c.as_slice-root.result.now c.in-Seq.is c.in-None.is c.as_slice-root.ensures.value in
     let good : InProfile (sequence (fields_seen c.as_slice-root.result.now) closed) = rw is at c.requires.of_profile in
-    let h = c.in_ok-read_root_into.ensures.done in
+    let h = c.in-Ok.ensures.done in
     let es = with_items c.in-Seq-slot.entries c.read_root_into.new.entries in
     let many : length c.read_root_into.new.entries ≡ c.in-Seq-slot.entries.len = omega (arith, c.read_root_into.auto.entries, rw c.in-Seq-slot.entries-is at c.as_mut_slice.ensures.len) in
     let items : es.items ≡ c.read_root_into.new.entries = with_items_is c.in-Seq-slot.entries c.read_root_into.new.entries many in

@@ -1,0 +1,21 @@
+use Rattle.std.proofs.Common.{◌≡◌, map}
+use Rattle.asn_values.specs.Shape.{enumerated}
+use Rattle.asn_values.specs.View.{shape_of, label_of, more_labels_of}
+use Rattle.asn_per.specs.Rules.{per_ruling}
+use Rattle.asn_per.specs.Walk.{per_coding}
+use Rattle.asn_per.proofs.Read.EnumeratedTypes.{enumerated_of_items}
+use Rattle.asn_per.proofs.read_leaves.PerReadLeaves.try_simple_into.Goals as goal
+
+pub try_item-requires : goal.try_item-requires
+unfolding per_coding per_ruling
+try_item-requires c =
+    let type = enumerated (map label_of c.deref.result.now) (more_labels_of c.in-Enum.ext) in
+    let is : shape_of c.args.ty.now ≡ type = enumerated_of_items c.args.ty.now c.in-Enum.root c.in-Enum.ext c.deref.result.now c.in-Enum.is c.deref.ensures.value in
+    record { of_profile = rw is at c.requires.of_profile }
+
+pub returns-in-Some-try_item-clause-done : goal.returns-in-Some-try_item-clause-done
+unfolding per_coding per_ruling
+returns-in-Some-try_item-clause-done c _ =
+    let type = enumerated (map label_of c.deref.result.now) (more_labels_of c.in-Enum.ext) in
+    let is : shape_of c.args.ty.now ≡ type = enumerated_of_items c.args.ty.now c.in-Enum.root c.in-Enum.ext c.deref.result.now c.in-Enum.is c.deref.ensures.value in
+    rw (is, c.set_item.ensures) c.in-Some-try_item.ensures.some

@@ -90,7 +90,8 @@ fn read_of_root(root: &[Item], excluded: Option<u32>, bits: &mut BitCursor<'_>) 
     Ok(position_of_index(root, index as usize))
 }
 
-/// Fast path: an item without an extension mark, if its index is present; otherwise takes nothing. Returns its position.
+/// Fast path: an item of a type without an extension mark, if its index is present; otherwise takes nothing. Returns
+/// its position.
 #[inline(always)]
 pub(crate) fn try_item(
     root: &[Item],

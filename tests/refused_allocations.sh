@@ -93,7 +93,7 @@ done
 told_of 'empty in OER' open
 told_of BitSink push push_number push_octets push_length push_general_octets push_least_octets \
   push_least_signed_octets pad
-told_of BitCursor take_octets
+told_of BitCursor take_octets take_row
 
 refuse_each asn_refused_texts one_call_tells
 told_of value to_json from_json

@@ -17,6 +17,9 @@ const GIVEN: &[u8] = b"\x98\x12\x34\x56\x78\x9a\xbc\xde\xf0\x12\x34\x56\x78\x9a\
 /// An octet, and then those 15.
 const TAKEN: &[u8] = b"\x03\x81\x23\x45\x67\x89\xab\xcd\xef\x01\x23\x45\x67\x89\xab\xcd";
 
+/// The three octets after the first four bits of `GIVEN`.
+const ROW: &[u8] = b"\x81\x23\x45";
+
 /// `push`, a whole octet at a time.
 pub fn single_bits(alloc: Global) -> Result<Outcome, AllocError> {
     let mut sink = BitSink::new(alloc);
@@ -145,6 +148,25 @@ pub fn octets_taken(alloc: Global) -> Result<Outcome, AllocError> {
         }
     }
     let is_right = start == Some(9) && given.take_number(4) == Some(5) && taken.as_slice() == TAKEN;
+    Ok(judge(refused, is_right))
+}
+
+/// `take_row`, three octets from the middle of an octet on.
+pub fn row_taken(alloc: Global) -> Result<Outcome, AllocError> {
+    let mut given = BitCursor::over(GIVEN);
+    let mut refused = false;
+    let start = given.take_number(4);
+    if given.octets_left() < 3 {
+        return Ok(Outcome::Wrong);
+    }
+    let row = match given.take_row(alloc, 3) {
+        Ok(row) => row,
+        Err(_) => {
+            refused = true;
+            given.take_row(alloc, 3)?
+        }
+    };
+    let is_right = start == Some(9) && given.take_number(4) == Some(6) && row.as_slice() == ROW;
     Ok(judge(refused, is_right))
 }
 

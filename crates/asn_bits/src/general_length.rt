@@ -111,7 +111,7 @@ impl Lengths {
 
     /// The items that follow the length in the next bits. `Some` iff no bit of a length was given, a
     /// complete length determinant follows and the size allows it; else nothing has changed.
-    pub fn take(&mut self, bits: &mut BitCursor<'_>) -> Option<u64>
+    pub fn try_length(&mut self, bits: &mut BitCursor<'_>) -> Option<u64>
         ensures some { IfSome result (λ n. Takes self.old bits.old bits.new n self.new) }
         ensures whole { IsSome result
             ↔ ((self.old.bits ≡ []) × LengthAhead (CountsLeft self.old.counts self.old.blocks) bits.old) }

@@ -22,7 +22,7 @@ pub fn read_next_length(lengths: &mut Lengths, bits: &mut BitCursor<'_>) -> Resu
     ensures done { IfOk result (λ n. NextLength lengths.old n bits.old bits.new lengths.new) }
     ensures stop { StopsPlain (LengthsLeft lengths.old) result bits.old }
 {
-    if let Some(items) = lengths.take(bits) {
+    if let Some(items) = lengths.try_length(bits) {
         return Ok(items);
     }
     read_length_by_bits(lengths, bits)

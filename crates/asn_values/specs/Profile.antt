@@ -184,7 +184,7 @@ abbrev pub bad_default : Shape → Bool
 bad_default (sequence root more) = bad_default_at root || bad_default_at (more_fields more)
 bad_default _ = false
 
--- ---- ZeroWidthElement: a SEQUENCE OF whose element is encoded in PER by no bits
+-- ---- ZeroWidthElement: a SEQUENCE OF whose element has an empty encoding in PER
 
 abbrev pub is_zero_size : SizeRange → Bool
 is_zero_size s = not s.extensible && at_zero s.high

@@ -30,7 +30,7 @@ pub enum TypeFault {
     /// marker or one value only, or one that is no value of its type.
     #[error("bad default")]
     BadDefault = 6,
-    /// A SEQUENCE OF whose element is encoded in PER by no bits, whatever its value.
+    /// A SEQUENCE OF whose element has an empty encoding in PER, whatever its value.
     #[error("zero width element")]
     ZeroWidthElement = 7,
     /// An extension addition of a SEQUENCE that is not OPTIONAL.

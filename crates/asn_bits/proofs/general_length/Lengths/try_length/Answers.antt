@@ -7,8 +7,8 @@ use Rattle.asn_bits.specs.declared.general_length.LengthState.{LengthState}
 use Rattle.asn_bits.specs.declared.general_length.LengthState.TheVariants as place
 use Rattle.asn_bits.proofs.FirstLengths.{ahead_starts}
 use Rattle.asn_bits.proofs.GivenLengths.{after_reading, after_goes, whole_first, whole_more, whole_ends}
-use Rattle.asn_bits.proofs.general_length.Lengths.take.Goals as goal
-use Rattle.asn_bits.proofs.general_length.Lengths.take.Goals.{in-Start, in_default, in_default-via-in-None-1, in_default-via-in-Some+else-is_viable}
+use Rattle.asn_bits.proofs.general_length.Lengths.try_length.Goals as goal
+use Rattle.asn_bits.proofs.general_length.Lengths.try_length.Goals.{in-Start, in_default, in_default-via-in-None-1, in_default-via-in-Some+else-is_viable}
 
 -- no bit of the length is given
 at_start : (c : goal.After-self-2-1) → c.self.inside.state ≡ place.Start

@@ -13,7 +13,7 @@ set -euo pipefail
 room=${BENCH_ROOM:-${TMPDIR:-/tmp}/asn-bench-$(id -u)}
 what=$1 name=$2
 cd "$room"
-# all instructions of so many rounds
+# all instructions of that many rounds
 instructions() {
     valgrind --tool=callgrind --callgrind-out-file=/dev/null "$@" 2>&1 >/dev/null <messages | sed -n 's/.*Collected : //p'
 }

@@ -69,7 +69,7 @@ text() {
     }'
 }
 
-# all instructions of so many readings of a text
+# all instructions of that many readings of a text
 instructions() {
     valgrind --tool=callgrind --callgrind-out-file=/dev/null out/bench_reading "$1" <"$2" 2>&1 >/dev/null |
         sed -n 's/.*Collected : //p'

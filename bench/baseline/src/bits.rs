@@ -37,7 +37,7 @@ impl BitWriter {
         let start = self.octets.len();
         self.octets.resize(start + octets.len(), 0);
         let high = self.pending as u64;
-        let low = move_behind(high, self.count, octets, &mut self.octets[start..]);
+        let low = move_after(high, self.count, octets, &mut self.octets[start..]);
         self.pending = u128::from(low);
     }
 
@@ -81,7 +81,7 @@ impl BitWriter {
         Some(())
     }
 
-    /// Writes so many single bits.
+    /// Writes that many single bits.
     pub fn put_bits(&mut self, bits: &[bool]) {
         for part in bits.chunks(32) {
             let number = part.iter().fold(0, |number, bit| number << 1 | u64::from(*bit));
@@ -122,9 +122,9 @@ impl BitWriter {
     }
 }
 
-/// Fills `into` with the low `left` bits of `high`, 1 to 7, and `octets` behind them, a word at once. What
+/// Fills `into` with the low `left` bits of `high`, 1 to 7, and `octets` after them, a word at once. What
 /// is left over stands in the low `left` bits of the result.
-fn move_behind(mut high: u64, left: u32, octets: &[u8], into: &mut [u8]) -> u64 {
+fn move_after(mut high: u64, left: u32, octets: &[u8], into: &mut [u8]) -> u64 {
     let (eights, rest) = octets.as_chunks::<8>();
     let (words, singles) = into.as_chunks_mut::<8>();
     for (eight, word) in eights.iter().zip(words) {
@@ -302,7 +302,7 @@ impl<'a> BitReader<'a> {
         }
         let mut taken = vec![0; count];
         let high = u64::from(front[0]);
-        move_behind(high, 8 - shift as u32, &front[1..=count], &mut taken);
+        move_after(high, 8 - shift as u32, &front[1..=count], &mut taken);
         Some(taken)
     }
 

@@ -178,7 +178,7 @@ fn run_turns<T>(plan: &Plan, name: &str, turns: &[Vec<u8>], decode: impl Fn(&[u8
     }
 }
 
-/// Does it so many times, where it is asked for, and prints the nanoseconds of one.
+/// Does it that many times, where it is asked for, and prints the nanoseconds of one.
 fn measure<T>(plan: &Plan, what: &str, name: &str, times: u32, step: impl Fn() -> T) {
     let all = plan.what.is_empty() && plan.name.is_empty();
     if !all && (plan.what != what || plan.name != name) {

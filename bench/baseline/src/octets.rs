@@ -40,7 +40,7 @@ impl OctetWriter {
         Some(())
     }
 
-    /// Writes a number in the fewest octets of two's complement, behind how many.
+    /// Writes a number in the fewest octets of two's complement, after their count.
     pub fn put_signed(&mut self, number: i64) {
         let count = signed_octets(number);
         self.put(1, count as u64);
@@ -111,7 +111,7 @@ impl<'a> OctetReader<'a> {
         }
     }
 
-    /// A number in the fewest octets of two's complement, behind how many.
+    /// A number in the fewest octets of two's complement, after their count.
     pub fn take_signed(&mut self) -> Option<i64> {
         let count = self.take::<1>()? as usize;
         if !(1..=8).contains(&count) {

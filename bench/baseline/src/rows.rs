@@ -44,7 +44,7 @@ pub const ROWS: [(i64, i64, i64); 40] = [
     (-8589934592, 8589934591, 2958016058),
 ];
 
-/// The path of the vehicle behind `cam`: each point beside the one before it in latitude, longitude and height,
+/// The path of the vehicle of `cam`: each point beside the one before it in latitude, longitude and height,
 /// and the time from there, 0 for none.
 pub const PATH: [(i32, i32, i16, i64); 23] = [
     (-1506, -707, -10, 1393),
@@ -72,7 +72,7 @@ pub const PATH: [(i32, i32, i16, i64); 23] = [
     (-2018, -1269, 17, 209),
 ];
 
-/// The path of the vehicle behind `bsm`: where each point lies from it in latitude, longitude and height, how long
+/// The path of the vehicle of `bsm`: where each point lies from it in latitude, longitude and height, how long
 /// ago it was there, and its speed, 0 for none.
 pub const CRUMBS: [(i32, i32, i16, u16, u16); 8] = [
     (-2152, 3746, 31, 289, 759),
@@ -94,7 +94,7 @@ pub const LENGTH: usize = 1000;
 /// How many octets the longest string has that is decoded in turn.
 pub const MOST: usize = 1255;
 
-/// The octets that the strings are cut from: the string behind `place` others begins at `place`.
+/// The octets that the strings are cut from: the string after `count` others begins at `count`.
 pub fn source() -> Vec<u8> {
     let mut octet = 0u8;
     let mut next = || {
@@ -105,7 +105,7 @@ pub fn source() -> Vec<u8> {
     (0..MOST + STRINGS).map(|_| next()).collect()
 }
 
-/// A number for each of so many readings of `list`, from whose bits the reading is made.
+/// A number for each of that many readings of `list`, from whose bits the reading is made.
 pub fn states(count: usize, seed: u32) -> impl Iterator<Item = u32> {
     let next = |state: &u32| Some(state.wrapping_mul(1664525).wrapping_add(1013904223));
     std::iter::successors(Some(seed), next).skip(1).take(count)

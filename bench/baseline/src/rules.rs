@@ -19,10 +19,10 @@ pub trait Writer: Sized {
     /// INTEGER (LOW..HIGH, ...)
     fn put_marked_int<const LOW: i64, const HIGH: i64>(&mut self, value: &Value) -> Option<()>;
 
-    /// ENUMERATED of so many items, numbered from FIRST on.
+    /// ENUMERATED of that many items, numbered from FIRST on.
     fn put_enum_from<const FIRST: i64, const ITEMS: i64>(&mut self, value: &Value) -> Option<()>;
 
-    /// The same with an extension mark, behind ROOT of ALL items.
+    /// The same with an extension mark, after ROOT of ALL items.
     fn put_marked_enum<const FIRST: i64, const ROOT: i64, const ALL: i64>(
         &mut self,
         value: &Value,
@@ -52,13 +52,13 @@ pub trait Writer: Sized {
     /// Which of ALL alternatives a CHOICE has.
     fn put_alternative<const ALL: u32>(&mut self, place: u32);
 
-    /// The same with an extension mark, behind ROOT of them.
+    /// The same with an extension mark, after ROOT of them.
     fn put_marked_alternative<const ROOT: u32>(&mut self, place: u32);
 
     /// Which extension additions are there, at least one.
     fn put_additions<const N: usize>(&mut self, flags: [bool; N]);
 
-    /// An open field of fewer than 128 octets, and room for so many.
+    /// An open field of fewer than 128 octets, and room for that many.
     fn put_open(&mut self, octets: usize, put: impl FnOnce(&mut Self) -> Option<()>) -> Option<()>;
 
     /// BOOLEAN
@@ -71,7 +71,7 @@ pub trait Writer: Sized {
         Some(())
     }
 
-    /// ENUMERATED of so many items, numbered from 0 on.
+    /// ENUMERATED of that many items, numbered from 0 on.
     #[inline(always)]
     fn put_enum<const ITEMS: i64>(&mut self, value: &Value) -> Option<()> {
         self.put_enum_from::<0, ITEMS>(value)
@@ -91,10 +91,10 @@ pub trait Reader: Sized {
     /// INTEGER (LOW..HIGH, ...)
     fn take_marked_int<const LOW: i64, const HIGH: i64>(&mut self) -> Option<Value>;
 
-    /// ENUMERATED of so many items, numbered from FIRST on.
+    /// ENUMERATED of that many items, numbered from FIRST on.
     fn take_enum_from<const FIRST: i64, const ITEMS: i64>(&mut self) -> Option<Value>;
 
-    /// The same with an extension mark, behind ROOT of ALL items.
+    /// The same with an extension mark, after ROOT of ALL items.
     fn take_marked_enum<const FIRST: i64, const ROOT: i64, const ALL: i64>(&mut self) -> Option<Value>;
 
     /// BIT STRING (SIZE (LENGTH)) of at most 32 bits
@@ -121,7 +121,7 @@ pub trait Reader: Sized {
     /// Which of ALL alternatives a CHOICE has.
     fn take_alternative<const ALL: u32>(&mut self) -> Option<u32>;
 
-    /// The same with an extension mark, behind ROOT of ALL.
+    /// The same with an extension mark, after ROOT of ALL.
     fn take_marked_alternative<const ROOT: u32, const ALL: u32>(&mut self) -> Option<u32>;
 
     /// Which extension additions are there, at least one.
@@ -136,7 +136,7 @@ pub trait Reader: Sized {
         Some(Value::Bool(self.take_truth()?))
     }
 
-    /// ENUMERATED of so many items, numbered from 0 on.
+    /// ENUMERATED of that many items, numbered from 0 on.
     #[inline(always)]
     fn take_enum<const ITEMS: i64>(&mut self) -> Option<Value> {
         self.take_enum_from::<0, ITEMS>()

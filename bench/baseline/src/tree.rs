@@ -161,7 +161,7 @@ impl BitSink {
     }
 }
 
-/// Adds octets behind the low `left` bits of `high`, and gives those that are left over.
+/// Adds octets after the low `left` bits of `high`, and gives those that are left over.
 fn push_shifted(into: &mut Vec<u8>, left: u32, mut high: u64, octets: &[u8]) -> u64 {
     let eights = octets.chunks_exact(8);
     let rest = eights.remainder();
@@ -258,8 +258,8 @@ impl BitCursor<'_> {
         if self.offset == 0 {
             taken.extend_from_slice(self.octets.get(..count)?);
         } else {
-            let behind = self.octets.get(1..count + 1)?;
-            push_shifted(&mut taken, 8 - self.offset, u64::from(self.octets[0]), behind);
+            let following = self.octets.get(1..count + 1)?;
+            push_shifted(&mut taken, 8 - self.offset, u64::from(self.octets[0]), following);
         }
         self.octets = &self.octets[count..];
         Some(taken)

@@ -479,7 +479,7 @@ enumerated! {
 }
 enumerated! { Multi { Unavailable, SingleVehicle, MultiVehicle, Reserved } }
 enumerated! {
-    /// Has an extension mark, and no items behind it.
+    /// Has an extension mark, and no items after it.
     Response { NotInUse, Emergency, NonEmergency, Pursuit, Stationary, SlowMoving, StopAndGo }
 }
 
@@ -652,7 +652,7 @@ pub struct Weather {
 
 enumerated! { Rain { Precip, NoPrecip, Error } }
 enumerated! {
-    /// Has an extension mark, and no items behind it.
+    /// Has an extension mark, and no items after it.
     Situation {
         Other, Unknown, NoPrecipitation, UnidentifiedSlight, UnidentifiedModerate, UnidentifiedHeavy,
         SnowSlight, SnowModerate, SnowHeavy, RainSlight, RainModerate, RainHeavy,

@@ -225,7 +225,7 @@ enumerated! {
     CurvatureConfidence { M00002, M0001, M0005, M002, M01, M1, OutOfRange, Unavailable }
 }
 enumerated! {
-    /// Has an extension mark, and no items behind it.
+    /// Has an extension mark, and no items after it.
     CurvatureMode { YawRateUsed, YawRateNotUsed, Unavailable }
 }
 enumerated! {
@@ -348,7 +348,7 @@ impl TollingZone {
 
 /// ProtectedZone
 pub struct ProtectedZone {
-    /// the item behind the extension mark
+    /// the item after the extension mark
     pub is_temporary: bool,
     pub expiry_time: Option<u64>,
     pub latitude: i32,

@@ -1,7 +1,7 @@
 use crate::bits::{width, BitReader, BitWriter};
 use crate::rows::{LENGTH, STRINGS};
 
-/// A SEQUENCE of 18 OCTET STRING (SIZE (LOW..HIGH)), behind a BOOLEAN where it is `FLAGGED`.
+/// A SEQUENCE of 18 OCTET STRING (SIZE (LOW..HIGH)), after a BOOLEAN where it is `FLAGGED`.
 pub struct Strings<const FLAGGED: bool, const LOW: usize, const HIGH: usize> {
     pub flag: bool,
     pub strings: [Vec<u8>; STRINGS],

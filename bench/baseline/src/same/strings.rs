@@ -1,4 +1,4 @@
-//! 18 OCTET STRING (SIZE (LOW..HIGH)), behind a BOOLEAN where the message is flagged.
+//! 18 OCTET STRING (SIZE (LOW..HIGH)), after a BOOLEAN where the message is flagged.
 use crate::rows::{LENGTH, MOST, STRINGS};
 use crate::rules::{Reader, Writer};
 use crate::value::Value;

@@ -99,7 +99,8 @@ pub(crate) fn try_item(
     bits: &mut BitCursor<'_>,
 ) -> Option<u32>
     requires of_profile { InProfile (enumeration_of root.now more.now) }
-    ensures some { IfSome result (λ p. Spells per_fields (ItemsBut None root.now more.now) (item p) bits.old bits.new) }
+    ensures some { IfSome result (λ i.
+        Spells per_fields (ItemsBut None root.now more.now) (item i) bits.old bits.new) }
     ensures none { IsNone result → bits.new ≡ bits.old }
 {
     let None = more else {

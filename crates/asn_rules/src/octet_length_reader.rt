@@ -123,7 +123,7 @@ pub fn read_octets_with_length(
     requires ordered { low ≤ high }
     requires narrow { high < 2 ^ 32 }
     ensures at_octet { OnOk result (AtOctet units.new) }
-    ensures done { IfOk result (λ os. ReadsOctets (OctetsAfterLength (Between low high)) os.items units.old units.new) }
+    ensures done { IfOk result (λ o. ReadsOctets (OctetsAfterLength (Between low high)) o.items units.old units.new) }
     ensures stop { IfErr result (λ why. StopsAtOctets (OctetsAfterLength (Between low high)) units.old why) }
 {
     let count = read_length(low, high, units)?;

@@ -1,12 +1,12 @@
 -- Lengths of OER octet by octet: which counts have a length that begins with given octets.
-use Rattle.std.proofs.Common.{◌≡◌, ◌≢◌, ◌↔◌, ◌+◌, ◌-◌, ◌*◌, ◌/◌, ◌^◌, ◌<◌, ◌≤◌, ◌⊎◌, inl, inr, ℕ, Bool, true, false, nat_lt, max, Option, Some, List, [], ◌∷◌, ◌++◌, length, length-append, refl, sym, ap, ◌∙◌, subst, append_assoc, arith}
+use Rattle.std.proofs.Common.{◌≡◌, ◌↔◌, ◌+◌, ◌-◌, ◌*◌, ◌/◌, ◌^◌, ◌<◌, ◌≤◌, ◌⊎◌, inl, inr, ℕ, Bool, true, false, nat_lt, max, Option, Some, List, [], ◌∷◌, ◌++◌, length, length-append, refl, sym, ap, ◌∙◌, subst, arith}
 use Rattle.std.proofs.lemmas.Bool.{ltb-true, ltb-false, cases_lt}
 use Rattle.std.proofs.lemmas.List.{append-nil}
 use Rattle.std.proofs.lemmas.Nat.{pow-add, pow_pos}
-use Rattle.std.proofs.Math.Nat.{div-lt_iff_lt-mul, pow-le-pow_right, one-le-pow, pow-succ'}
+use Rattle.std.proofs.Math.Nat.{div-lt_iff_lt-mul, pow-le-pow_right}
 use Rattle.asn_bits.specs.Numbers.{octets, octet_count, digits}
 use Rattle.asn_bits.specs.Lengths.{octet_length}
-use Rattle.asn_bits.specs.Ranges.{SomeIn, Spanned, Reaches}
+use Rattle.asn_bits.specs.Ranges.{Spanned, Reaches}
 use Rattle.asn_bits.specs.OctetLengths.{StartsOctets, BeginsLength, GoesOn, state_octets, IsOctetState, IsWholeLength, least_long}
 use Rattle.asn_bits.specs.declared.octet_lengths.OctetState.{OctetState}
 use Rattle.asn_bits.specs.declared.octet_lengths.OctetState.TheVariants as place

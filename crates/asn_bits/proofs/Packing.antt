@@ -1,8 +1,8 @@
 -- Octets and the fewer than 64 bits after them, as a sink holds them.
 use Rattle.std.proofs.Common.{◌≡◌, ◌<◌, ◌≤◌, ◌+◌, ◌*◌, ◌-◌, ◌/◌, ◌%◌, ◌^◌, ℕ, zero, suc, List, [], ◌∷◌, ◌++◌, length, get_or, replicate, refl, sym, ◌∙◌, ap, arith, append_assoc, mul_assoc, mul_comm, length-append}
 use Rattle.std.proofs.lemmas.List.{append-nil}
-use Rattle.std.proofs.lemmas.Nat.{shr-shr, shr_below, pow-add, mul-add-lt, mod-mul-add, div-add-mod'}
-use Rattle.std.proofs.Math.Nat.{zero-div, one-le-pow, mod-lt, mul-lt-mul_of_pos_right, add-mul, add-mul-div_left}
+use Rattle.std.proofs.lemmas.Nat.{shr-shr, shr_below, pow-add, pow_pos, mul-add-lt, mod-mul-add, mod-pow-add, div-mul-add, div-add-mod'}
+use Rattle.std.proofs.Math.Nat.{zero-div, one-le-pow, mod-lt, mul-lt-mul_of_pos_right, mul-div_cancel, add-mul, add-mul-div_left}
 use Rattle.std.proofs.Math.Pow.{mod-mod-pow}
 use Rattle.asn_bits.specs.Numbers.{bits, octets, unpacked, packed, padding}
 use Rattle.asn_bits.proofs.Octets.{length-digits}
@@ -83,6 +83,18 @@ shifted_out p k w h =
     let parts : p * 2 ^ k ≡ q * (2 ^ m * 2 ^ k) + r * 2 ^ k =
     ap (λ t. t * 2 ^ k) (sym (div-add-mod' p (2 ^ m))) ∙ add-mul (q * 2 ^ m) r (2 ^ k) ∙ ap (λ t. t + r * 2 ^ k) (mul_assoc q (2 ^ m) (2 ^ k)) in
     ap (λ t. p * 2 ^ k % t) e ∙ ap (λ t. t % (2 ^ m * 2 ^ k)) parts ∙ mod-mul-add q (2 ^ m * 2 ^ k) (r * 2 ^ k) less
+
+-- the k bits after the first f of 64, by two shifts
+pub field_shifted : (n f k : ℕ) → f + k < 64 → n * 2 ^ f % 2 ^ 64 / 2 / 2 ^ (63 - k) ≡ n / 2 ^ (64 - (f + k)) % 2 ^ k
+field_shifted n f k h =
+    let e = 64 - (f + k) in
+    let y = n * 2 ^ f % 2 ^ 64 in
+    let x = n % 2 ^ (64 - f) in
+    let down : y / 2 / 2 ^ (63 - k) ≡ y / 2 ^ f / 2 ^ e =
+    shr-shr y 1 (63 - k) ∙ ap (λ i. y / 2 ^ i) (omega arith) ∙ sym (shr-shr y f e) in
+    let up : y / 2 ^ f ≡ x = ap (λ t. t / 2 ^ f) (shifted_out n f 64 (omega arith)) ∙ mul-div_cancel x (pow_pos f) in
+    let parts : x ≡ n / 2 ^ e % 2 ^ k * 2 ^ e + n % 2 ^ e = ap (λ i. n % 2 ^ i) (omega arith) ∙ mod-pow-add n k e in
+    down ∙ ap (λ t. t / 2 ^ e) (up ∙ parts) ∙ div-mul-add (n / 2 ^ e % 2 ^ k) (2 ^ e) (n % 2 ^ e) (mod-lt n (pow_pos e))
 
 -- the bits above the last l of two numbers one after the other
 pub above_last : (k n l : ℕ) → n < 2 ^ k → l ≤ k → n / 2 ^ l < 2 ^ (k - l)

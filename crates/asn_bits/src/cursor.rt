@@ -4,7 +4,7 @@ ghost use Rattle.asn_bits.specs.Moves.{Taken};
 ghost use Rattle.asn_bits.specs.Numbers.{bits, octets, unpacked};
 ghost use Rattle.asn_bits.specs.Sets.{AreBits};
 
-use crate::shifts::{front_row, push_front};
+use crate::shifts::{copy_front, front_row, push_front};
 use std::alloc::{AllocError, Global};
 use std::fmt;
 use std::marker::Model;
@@ -130,7 +130,7 @@ impl<'a> BitCursor<'a> {
         ensures some { IfSome result (λ n. self.now ≡ bits (8 * count) n ++ drop (8 * count) self.now) }
     {
         if self.offset == 0 {
-            number_in_word(self.octets, 0, 8 * count)
+            number_in_octets(self.octets, count)
         } else {
             None
         }
@@ -223,6 +223,19 @@ impl<'a> BitCursor<'a> {
         Ok(())
     }
 
+    /// Takes as many octets as `into` has, at any bit of the octets below, in place of its own. They have to be left.
+    #[inline(always)]
+    pub fn copy_octets(&mut self, into: &mut [u8])
+        requires { 8 * length into.old ≤ length self.old }
+        ensures len { length into.new ≡ length into.old }
+        ensures taken { Taken (length into.old) self.old self.new [] into.new }
+    {
+        let octets = self.octets;
+        let count = into.len();
+        copy_front(into, octets, self.offset);
+        self.octets = &octets[count..];
+    }
+
     /// Takes the next `count` octets, as `take_octets` does, as a vector that has no more capacity than they need. An
     /// `Err` is out of memory, and then nothing has changed.
     #[inline(always)]
@@ -246,7 +259,7 @@ fn bit_at(octet: u8, offset: u32) -> u8
     octet >> (7 - offset) & 1
 }
 
-// the number in the k bits after the first `offset`, where a bit is asked for and all stand in eight octets
+// the number in the k bits after the first `offset`, where these end within eight octets
 #[inline(always)]
 fn number_in_word(octets: &[u8], offset: u32, k: u32) -> Option<u64>
     requires begun { offset < 8 }
@@ -257,11 +270,27 @@ fn number_in_word(octets: &[u8], offset: u32, k: u32) -> Option<u64>
         drop offset (unpacked octets.now) ≡ bits k n ++ drop (offset + k) (unpacked octets.now)) }
 {
     let end = offset + k;
-    if k > 0
-        && end <= 64
+    if end < 64
         && let Some((eight, _)) = octets.split_first_chunk::<8>()
     {
-        return Some(field(u64::from_be_bytes(*eight), 64 - end, k));
+        return Some(field_after(u64::from_be_bytes(*eight), offset, k));
+    }
+    None
+}
+
+// the number in the first `count` octets, where there is one and eight are left
+#[inline(always)]
+fn number_in_octets(octets: &[u8], count: u32) -> Option<u64>
+    requires few { count ≤ 8 }
+    ensures fits { IfSome result (λ n. n < 2 ^ (8 * count)) }
+    ensures there { IfSome result (λ n. 8 * count ≤ 8 * length octets.now) }
+    ensures here { IfSome result (λ n.
+        unpacked octets.now ≡ bits (8 * count) n ++ drop (8 * count) (unpacked octets.now)) }
+{
+    if count > 0
+        && let Some((eight, _)) = octets.split_first_chunk::<8>()
+    {
+        return Some(field(u64::from_be_bytes(*eight), 64 - 8 * count, 8 * count));
     }
     None
 }
@@ -310,6 +339,15 @@ fn number_in_octet(octets: &[u8], offset: u32, k: u32) -> Option<u64>
         return Some(field(u64::from(*first), 8 - end, k));
     }
     None
+}
+
+// the k bits of n after the first `offset`
+#[inline(always)]
+fn field_after(n: u64, offset: u32, k: u32) -> u64
+    requires within { offset + k < 64 }
+    ensures { result ≡ n / 2 ^ (64 - (offset + k)) % 2 ^ k }
+{
+    n << offset >> 1 >> (63 - k)
 }
 
 // the k bits of n above the last `below`

@@ -47,8 +47,23 @@ pub(crate) fn front_row(
     Ok(row)
 }
 
-// adds the octets of the low `count` bits of `pending`, followed by all of `octets`, eight at once, and gives what is
-// left over in its low `count` bits
+// the octets read from bit `offset` on, in place of those of `into`, as many
+pub(crate) fn copy_front(into: &mut [u8], octets: &[u8], offset: u32)
+    requires begun { offset < 8 }
+    requires there { 8 * length into.old + offset ≤ 8 * length octets.now }
+    ensures len { length into.new ≡ length into.old }
+    ensures taken { TakenFrom offset (length into.old) octets.now [] into.new }
+{
+    let count = into.len();
+    if offset == 0 {
+        into.copy_from_slice(&octets[..count]);
+    } else {
+        fill_shifted(into, 8 - offset, octets[0] as u64, &octets[1..count + 1]);
+    }
+}
+
+// adds the octets of the low `count` bits of `pending`, followed by all of `octets`, and gives what is left over in its
+// low `count` bits
 pub(crate) fn push_shifted(bytes: &mut Vec<u8>, count: u32, pending: u64, octets: &[u8]) -> u64
     requires few { (0 < count) × (count < 8) }
     requires room { vec_len bytes.old + length octets.now ≤ vec_capacity bytes.old }
@@ -56,17 +71,28 @@ pub(crate) fn push_shifted(bytes: &mut Vec<u8>, count: u32, pending: u64, octets
     ensures len { vec_len bytes.new ≡ vec_len bytes.old + length octets.now }
     ensures capacity { vec_capacity bytes.old ≤ vec_capacity bytes.new }
 {
-    let (front, rest) = octets.split_at(octets.len() / 8 * 8);
     let start = bytes.len();
-    if bytes.resize(start + front.len(), 0).is_err() {
+    if bytes.resize(start + octets.len(), 0).is_err() {
         unreachable!()
     }
-    let high = fill_shifted(&mut bytes[start..], count, pending, front);
-    push_single(bytes, count, high, rest)
+    fill_shifted(&mut bytes[start..], count, pending, octets)
 }
 
-// fills a slice in the same way, whole words
+// fills a slice in the same way, eight octets at once
 fn fill_shifted(into: &mut [u8], count: u32, pending: u64, octets: &[u8]) -> u64
+    requires few { (0 < count) × (count < 8) }
+    requires room { length into.old ≡ length octets.now }
+    ensures { Shifted [] into.new octets.now count pending result }
+{
+    let whole = octets.len() / 8 * 8;
+    let (front, rest) = octets.split_at(whole);
+    let (words, singles) = into.split_at_mut(whole);
+    let high = fill_words(words, count, pending, front);
+    fill_singles(singles, count, high, rest)
+}
+
+// fills a slice of whole words
+fn fill_words(into: &mut [u8], count: u32, pending: u64, octets: &[u8]) -> u64
     requires few { (0 < count) × (count < 8) }
     requires whole { length octets.now % 8 ≡ 0 }
     requires room { length into.old ≡ length octets.now }
@@ -86,18 +112,16 @@ fn fill_shifted(into: &mut [u8], count: u32, pending: u64, octets: &[u8]) -> u64
     high
 }
 
-// the same, one octet after the other
-fn push_single(bytes: &mut Vec<u8>, count: u32, pending: u64, octets: &[u8]) -> u64
+// fills a slice one octet after the other
+fn fill_singles(into: &mut [u8], count: u32, pending: u64, octets: &[u8]) -> u64
     requires few { (0 < count) × (count < 8) }
-    requires room { vec_len bytes.old + length octets.now ≤ vec_capacity bytes.old }
-    ensures shifted { Shifted bytes.old.items bytes.new.items octets.now count pending result }
-    ensures len { vec_len bytes.new ≡ vec_len bytes.old + length octets.now }
-    ensures capacity { vec_capacity bytes.old ≤ vec_capacity bytes.new }
+    requires room { length into.old ≡ length octets.now }
+    ensures { Shifted [] into.new octets.now count pending result }
 {
     let mut high = pending;
-    for octet in octets {
-        let n = *octet as u64;
-        bytes.push_reserved(low_octet(full_word(high, 8, n, count)));
+    for i in 0..octets.len() {
+        let n = octets[i] as u64;
+        into[i] = low_octet(full_word(high, 8, n, count));
         high = n;
     }
     high

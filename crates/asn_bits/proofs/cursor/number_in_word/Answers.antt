@@ -10,4 +10,4 @@ returns-clause-here c =
     let front = c.in-Some.ensures.cases in
     let range : (i : ℕ) → get_or os i 0 < 256 = λ i. omega (arith, c.type_inv.octets i) in
     let eight = octets_eight os c.in-Some.eight.now a front.0 (omega (arith, front.2)) range c.from_be_bytes.ensures in
-    field_read os c.args.offset c.args.k (64 - (c.args.offset + c.args.k)) 8 a c.field.result eight (omega arith) c.field.ensures
+    field_read os c.args.offset c.args.k (64 - (c.args.offset + c.args.k)) 8 a c.field_after.result eight (omega arith) c.field_after.ensures

@@ -1,5 +1,5 @@
 use Rattle.std.proofs.Common.{arith}
-use Rattle.asn_bits.proofs.LengthsInOctets.{long_next_at, long_small, after_long_at, after_short_at}
+use Rattle.asn_bits.proofs.LengthsInOctets.{long_next_at, long_small, after_long_at}
 use Rattle.asn_bits.proofs.octet_lengths.after_octet.Goals as goal
 
 pub returns-then-left-eq0-clause-none : goal.returns-then-left-eq0-clause-none

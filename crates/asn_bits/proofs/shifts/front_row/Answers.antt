@@ -1,5 +1,5 @@
 -- At an octet the octets are those below.
-use Rattle.std.proofs.Common.{◌≡◌, ◌<◌, ℕ, [], take, get_or, sym, subst, arith}
+use Rattle.std.proofs.Common.{◌<◌, ℕ, [], get_or, arith}
 use Rattle.std.proofs.lemmas.Result.{IfOk-weaker}
 use Rattle.asn_bits.proofs.Moving.{taken_whole}
 use Rattle.asn_bits.proofs.shifts.front_row.Goals as goal

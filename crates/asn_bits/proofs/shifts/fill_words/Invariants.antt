@@ -1,6 +1,6 @@
 use Rattle.std.proofs.Common.{◌≡◌, ◌+◌, ◌%◌, [], length, take}
 use Rattle.asn_bits.proofs.Moving.{Begun}
-use Rattle.asn_bits.proofs.shifts.fill_shifted.Given as goal
+use Rattle.asn_bits.proofs.shifts.fill_words.Given as goal
 
 abbrev pub invariant-loop-eight : goal.invariant-loop-eight
 invariant-loop-eight l =

@@ -1,5 +1,5 @@
-//! Bits of octets and of numbers, added to a vector of truth values.
-ghost use Rattle.std.specs.Prelude.{◌≡◌, ◌≤◌, ◌<◌, ◌/◌, ◌%◌, ◌^◌, ◌++◌, map, OnOk};
+//! Bits of octets and of numbers, added to a vector of truth values or written over others.
+ghost use Rattle.std.specs.Prelude.{◌≡◌, ◌≤◌, ◌<◌, ◌/◌, ◌%◌, ◌^◌, ◌++◌, length, map, OnOk};
 ghost use Rattle.asn_bits.specs.Numbers.{bits, unpacked};
 ghost use Rattle.asn_bits.specs.Sink.{bit_of};
 
@@ -30,6 +30,17 @@ pub fn push_bits(count: u32, number: u64, into: &mut Vec<bool>) -> Result<(), Al
         into.push(bit_at(number, count - 1 - i))?;
     }
     Ok(())
+}
+
+/// The truth values become the low bits of the number, as many as there are, the highest first.
+pub fn overwrite_bits(number: u64, truths: &mut [bool])
+    requires { length truths.old ≤ 64 }
+    ensures { map bit_of truths.new ≡ bits (length truths.old) number }
+{
+    let count = truths.len();
+    for i in 0..count {
+        truths[i] = bit_at(number, (count - 1 - i) as u32);
+    }
 }
 
 /// The bit of the number above `below` lower ones.

@@ -1,6 +1,6 @@
 //! What the crates of this repository need of this one, and its users do not: the readers and writers of fields that
 //! PER and OER share, and the session that both have.
-pub use crate::bit_vectors::{bit_at, push_bits, push_octets};
+pub use crate::bit_vectors::{bit_at, overwrite_bits, push_bits, push_octets};
 pub use crate::integer_sets::{numbers_of, offsets_of};
 pub use crate::length_reader::read_next_length;
 pub use crate::no_octets::is_value_of_none;

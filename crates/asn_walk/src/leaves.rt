@@ -1,5 +1,5 @@
 //! What a set of encoding rules gives to a reader: the parts of types and values that it spells by itself.
-ghost use Rattle.std.specs.Prelude.{◌≡◌, ◌≤◌, ◌<◌, ◌-◌, ◌/◌, ◌%◌, true, false, IfOk, IfErr, OnOk, IfSome, IsNone, length};
+ghost use Rattle.std.specs.Prelude.{◌≡◌, ◌≤◌, ◌<◌, ◌-◌, ◌/◌, ◌%◌, true, false, IfOk, IfErr, OnOk, IfSome, IsNone, length, take};
 ghost use Rattle.asn_values.specs.Datum.{number};
 ghost use Rattle.asn_values.specs.Profile.{InProfile, good_default};
 ghost use Rattle.asn_values.specs.View.{shape_of, datum_of, size_range_of};
@@ -166,6 +166,20 @@ pub trait ReadLeaves {
         ensures done { IfOk result (λ os.
             Reads rules (Frame rules.ruling.fielding open_field) os.items units.old units.new) }
         ensures stop { IfErr result (λ why. StopsAt rules (Frame rules.ruling.fielding open_field) units.old why) };
+
+    /// Fast path: the octets of an open type field, without its length, where they are at hand and `into` has room for
+    /// them: its first octets become these. Gives how many there are. Otherwise takes nothing.
+    #[inline(always)]
+    fn try_open_octets(_units: &mut BitCursor<'_>, _into: &mut [u8]) -> Option<usize>
+        requires at_unit { rules.at_unit _units.old }
+        ensures at_unit { rules.at_unit _units.new }
+        ensures within { IfSome result (λ n. n ≤ length _into.new) }
+        ensures some { IfSome result (λ n.
+            Reads rules (Frame rules.ruling.fielding open_field) (take n _into.new) _units.old _units.new) }
+        ensures none { IsNone result → _units.new ≡ _units.old }
+    {
+        None
+    }
 
     /// Reads what fills up a complete encoding, at whose start `given` units were left.
     fn read_padding(given: u128, units: &mut BitCursor<'_>) -> Result<(), Stop>

@@ -168,3 +168,8 @@ word_alone os new c p k n l z all few e =
     let word : 8 * 8 ≡ k = omega arith in
     unpacked_whole new l n none ∙ ap unpacked e ∙ unpacked-append os (octets 8 n) ∙ ap (λ t. unpacked os ++ t) (unpacked-octets 8 n ∙ ap (λ i. bits i n) word)
     ∙ ap (λ t. t ++ bits k n) (sym (unpacked_whole os c p z))
+
+-- octets of a number after whole octets
+pub octets_after : (os new : List ℕ) (c p k n : ℕ) → c ≡ 0 → new ≡ os ++ octets k n → unpacked new ++ bits c p ≡ (unpacked os ++ bits c p) ++ bits (8 * k) n
+octets_after os new c p k n z e =
+    whole_after os new (octets k n) c p z e ∙ ap (λ t. (unpacked os ++ bits c p) ++ t) (unpacked-octets k n)

@@ -6,7 +6,7 @@ ghost use Rattle.asn_bits.specs.Sink.{bit_of, IsPut};
 
 use crate::lengths::put_general_octets;
 use crate::shifts::push_shifted;
-use crate::words::{full_word, push_low, push_word, shift_in};
+use crate::words::{full_word, last_octets, push_half, push_low, push_word, shift_in};
 use asn_values::profile::BLOCK;
 use std::alloc::{AllocError, Global};
 use std::fmt;
@@ -29,6 +29,8 @@ pub struct BitSink {
     // the low `count` bits of it are pending; the higher bits are garbage
     pending: u64,
     count: u32,
+    // where there are fewer octets than this, no bits wait and there is room for three words more
+    limit: usize,
 }
 
 impl Model for BitSink {
@@ -36,7 +38,8 @@ impl Model for BitSink {
 
     ghost view = { λ s. unpacked s.octets.items ++ bits s.count s.pending };
 
-    ghost invariant = { λ s. (s.count < 64) × (0 < s.count → vec_len s.octets + 8 ≤ vec_capacity s.octets) };
+    ghost invariant = { λ s. (s.count < 64) × ((0 < s.count → vec_len s.octets + 8 ≤ vec_capacity s.octets)
+        × (0 < s.limit → (s.count ≡ 0) × (s.limit + 23 ≤ vec_capacity s.octets))) };
 }
 
 impl BitSink {
@@ -48,6 +51,7 @@ impl BitSink {
             octets: Vec::new(alloc),
             pending: 0,
             count: 0,
+            limit: 0,
         }
     }
 
@@ -83,6 +87,71 @@ impl BitSink {
         self.append(k, n)
     }
 
+    /// Adds the last `count` octets of `n`, whatever stands before them. An `Err` is out of memory, and then nothing
+    /// has changed.
+    #[inline(always)]
+    pub fn push_low_octets(&mut self, count: u32, n: u64) -> Result<(), AllocError>
+        requires few { count ≤ 8 }
+        ensures ok { OnOk result (self.new ≡ self.old ++ bits (8 * count) n) }
+        ensures err { OnErr result (self.new ≡ self.old) }
+    {
+        if count == 4 {
+            return self.append_four(n);
+        }
+        if count == 8 {
+            return self.append_eight(n);
+        }
+        if self.octets.len() >= self.limit {
+            return self.append_after_bits(count, n);
+        }
+        push_low(&mut self.octets, count, n);
+        Ok(())
+    }
+
+    // adds the last four octets of n
+    #[inline(never)]
+    fn append_four(&mut self, n: u64) -> Result<(), AllocError>
+        ensures ok { OnOk result (self.new ≡ self.old ++ bits 32 n) }
+        ensures err { OnErr result (self.new ≡ self.old) }
+    {
+        if self.octets.len() >= self.limit {
+            return self.append_after_bits(4, n);
+        }
+        push_half(&mut self.octets, n);
+        Ok(())
+    }
+
+    // adds all eight octets of n
+    #[inline(never)]
+    fn append_eight(&mut self, n: u64) -> Result<(), AllocError>
+        ensures ok { OnOk result (self.new ≡ self.old ++ bits 64 n) }
+        ensures err { OnErr result (self.new ≡ self.old) }
+    {
+        if self.octets.len() >= self.limit {
+            return self.append_after_bits(8, n);
+        }
+        push_word(&mut self.octets, n);
+        Ok(())
+    }
+
+    // adds the last `count` octets of n, where bits may wait or memory be needed; bits that fill octets then wait no more
+    #[inline(never)]
+    fn append_after_bits(&mut self, count: u32, n: u64) -> Result<(), AllocError>
+        requires few { count ≤ 8 }
+        ensures ok { OnOk result (self.new ≡ self.old ++ bits (8 * count) n) }
+        ensures err { OnErr result (self.new ≡ self.old) }
+    {
+        if self.count % 8 != 0 {
+            return self.append(8 * count, last_octets(count, n));
+        }
+        make_room(&mut self.octets, 24)?;
+        push_low(&mut self.octets, self.count / 8, self.pending);
+        push_low(&mut self.octets, count, n);
+        self.count = 0;
+        self.limit = self.octets.capacity() - 23;
+        Ok(())
+    }
+
     /// Adds all bits of the octets, whole octets at once wherever the bits so far end. An `Err` is out of
     /// memory, and then nothing has changed.
     pub fn push_octets(&mut self, octets: &[u8]) -> Result<(), AllocError>
@@ -93,6 +162,9 @@ impl BitSink {
         let (count, pending) = put_octets(&mut self.octets, self.count, self.pending, octets);
         self.count = count;
         self.pending = pending;
+        if count > 0 {
+            self.limit = 0;
+        }
         Ok(())
     }
 
@@ -112,6 +184,7 @@ impl BitSink {
         );
         self.count = count;
         self.pending = pending;
+        self.limit = 0;
         Ok(())
     }
 
@@ -138,6 +211,7 @@ impl BitSink {
             mut octets,
             pending,
             count,
+            ..
         } = self;
         push_low(&mut octets, count / 8, pending);
         without_spare(octets)
@@ -174,6 +248,7 @@ impl BitSink {
         let (count, pending) = put(&mut self.octets, self.count, self.pending, k, n);
         self.count = count;
         self.pending = pending;
+        self.limit = 0;
         Ok(())
     }
 
@@ -189,6 +264,7 @@ impl BitSink {
         let (count, pending) = put(&mut self.octets, self.count, self.pending, k, n);
         self.count = count;
         self.pending = pending;
+        self.limit = 0;
         Ok(())
     }
 
@@ -207,6 +283,7 @@ impl BitSink {
         let (count, pending) = put(&mut self.octets, count, pending, k, n);
         self.count = count;
         self.pending = pending;
+        self.limit = 0;
         Ok(())
     }
 }

@@ -1,6 +1,6 @@
 //! Words of 64 bits: put together from parts, and added as octets to a vector that has room for them.
 ghost use Rattle.std.specs.Prelude.{◌≡◌, ◌+◌, ◌*◌, ◌/◌, ◌%◌, ◌^◌, ◌<◌, ◌≤◌, ◌++◌, vec_len, vec_capacity};
-ghost use Rattle.asn_bits.specs.Numbers.{octets};
+ghost use Rattle.asn_bits.specs.Numbers.{bits, octets};
 
 // adds the eight octets of n
 pub(crate) fn push_word(bytes: &mut Vec<u8>, n: u64)
@@ -14,7 +14,33 @@ pub(crate) fn push_word(bytes: &mut Vec<u8>, n: u64)
     }
 }
 
+// adds the last four octets of n
+pub(crate) fn push_half(bytes: &mut Vec<u8>, n: u64)
+    requires { vec_len bytes.old + 4 ≤ vec_capacity bytes.old }
+    ensures items { bytes.new.items ≡ bytes.old.items ++ octets 4 n }
+    ensures len { vec_len bytes.new ≡ vec_len bytes.old + 4 }
+    ensures capacity { vec_capacity bytes.old ≤ vec_capacity bytes.new }
+{
+    let half = (n % (1 << 32)) as u32;
+    if bytes.extend_from_slice(&half.to_be_bytes()).is_err() {
+        unreachable!()
+    }
+}
+
+// the number that the last `count` octets of n are
+pub(crate) fn last_octets(count: u32, n: u64) -> u64
+    requires few { count ≤ 8 }
+    ensures fits { result < 2 ^ (8 * count) }
+    ensures same { bits (8 * count) result ≡ bits (8 * count) n }
+{
+    if count == 8 {
+        return n;
+    }
+    n % (1 << (8 * count))
+}
+
 // adds the last `count` octets of n
+#[inline(always)]
 pub(crate) fn push_low(bytes: &mut Vec<u8>, count: u32, n: u64)
     requires few { count ≤ 8 }
     requires room { vec_len bytes.old + count ≤ vec_capacity bytes.old }

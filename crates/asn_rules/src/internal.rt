@@ -14,7 +14,10 @@ pub use crate::octet_reader::{
     read_row, read_signed_octets, try_octets, try_signed_octets,
 };
 pub use crate::octet_strings::{read_characters, read_packed, read_variable};
-pub use crate::octet_writer::{unused_bits, write_content, write_filling, write_length};
+pub use crate::octet_writer::{
+    unused_bits, write_content, write_filling, write_fixed, write_flags, write_least,
+    write_least_signed, write_length,
+};
 pub use crate::readings::{one_reading, readings_answer};
 pub use crate::rereading::{Reads, Rereading, feed, finish, open};
 pub use crate::signed_reader::{OffsetSet, read_signed, read_unconstrained};

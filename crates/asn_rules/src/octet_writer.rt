@@ -1,13 +1,14 @@
 //! Writers of lengths and octets (X.696, "length determinant"), and of the zeros that fill up octets.
-ghost use Rattle.std.specs.Prelude.{◌≡◌};
-ghost use Rattle.asn_bits.specs.Lengths.{octet_length};
-ghost use Rattle.asn_bits.specs.Numbers.{padding};
+ghost use Rattle.std.specs.Prelude.{◌≡◌, ◌*◌, ◌^◌, ◌<◌, ◌≤◌, ◌≤ℤ◌, ◌++◌, length};
+ghost use Rattle.asn_values.specs.Fits.{lowest_integer, highest_integer};
+ghost use Rattle.asn_bits.specs.Lengths.{general_octets, octet_length};
+ghost use Rattle.asn_bits.specs.Numbers.{bits, least, least_signed, padding};
 ghost use Rattle.asn_rules.specs.Fields.{spelled};
 ghost use Rattle.asn_rules.specs.Filled.{unused_bits};
-ghost use Rattle.asn_rules.specs.OctetsWritten.{Adds, AddsBits};
+ghost use Rattle.asn_rules.specs.OctetsWritten.{Adds, AddsBits, fixed_octets, flagged};
 
 use asn_bits::BitSink;
-use asn_bits::internal::octet_count;
+use asn_bits::internal::{octet_count, signed_octet_count, signed_residue};
 use std::alloc::AllocError;
 
 /// The first length that one octet does not tell.
@@ -24,11 +25,20 @@ pub fn write_length(length: usize, sink: &mut BitSink) -> Result<(), AllocError>
 {
     let length = length as u64;
     if length < LONG {
-        return sink.push_number(8, length);
+        return sink.push_low_octets(1, length);
     }
+    write_long_length(length, sink)
+}
+
+/// Writes a length that one octet does not tell.
+#[inline(never)]
+fn write_long_length(length: u64, sink: &mut BitSink) -> Result<(), AllocError>
+    requires { 128 ≤ length }
+    ensures { Adds result sink.old sink.new (octet_length length) }
+{
     let count = octet_count(length);
-    sink.push_number(8, 128 + u64::from(count))?;
-    sink.push_number(8 * count, length)
+    sink.push_low_octets(1, 128 + u64::from(count))?;
+    sink.push_low_octets(count, length)
 }
 
 /// Writes octets after their length.
@@ -57,4 +67,110 @@ pub fn unused_bits(count: usize) -> u32
     ensures { result ≡ unused_bits count }
 {
     (8 - (count % 8) as u32) % 8
+}
+
+/// Writes the fewest octets of a number after their count.
+///
+/// # Errors
+/// `AllocError` if an allocation failed.
+pub fn write_least(n: u64, sink: &mut BitSink) -> Result<(), AllocError>
+    ensures { AddsBits result sink.old sink.new (general_octets (λ u. u) (least n)) }
+{
+    let count = octet_count(n);
+    sink.push_low_octets(1, u64::from(count))?;
+    sink.push_low_octets(count, n)
+}
+
+/// Writes the fewest octets of two's complement of an integer of 64 signed bits after their count.
+///
+/// # Errors
+/// `AllocError` if an allocation failed.
+pub fn write_least_signed(z: i128, sink: &mut BitSink) -> Result<(), AllocError>
+    requires low { lowest_integer ≤ℤ z }
+    requires high { z ≤ℤ highest_integer }
+    ensures { AddsBits result sink.old sink.new (general_octets (λ u. u) (least_signed z)) }
+{
+    let count = signed_octet_count(z);
+    let residue = signed_residue(z, count);
+    sink.push_low_octets(1, u64::from(count))?;
+    sink.push_low_octets(count, residue)
+}
+
+/// Writes the last octets of `n`, as many of 1, 2, 4 and 8 as hold the numbers up to `greatest`.
+///
+/// # Errors
+/// `AllocError` if an allocation failed.
+#[inline(always)]
+pub fn write_fixed(greatest: u64, n: u64, sink: &mut BitSink) -> Result<(), AllocError>
+    ensures { AddsBits result sink.old sink.new (bits (8 * fixed_octets greatest) n) }
+{
+    if greatest < 1 << 8 {
+        sink.push_low_octets(1, n)
+    } else if greatest < 1 << 16 {
+        sink.push_low_octets(2, n)
+    } else if greatest < 1 << 32 {
+        sink.push_low_octets(4, n)
+    } else {
+        sink.push_low_octets(8, n)
+    }
+}
+
+/// Writes a number in `count` bits, and the zeros that fill up its octet.
+#[inline(always)]
+fn write_in_octet(count: u32, n: u64, sink: &mut BitSink) -> Result<(), AllocError>
+    requires few { count ≤ 8 }
+    requires some { 1 ≤ count }
+    requires fits { n < 2 ^ count }
+    ensures { AddsBits result sink.old sink.new (bits count n ++ padding count) }
+{
+    sink.push_low_octets(1, n << (8 - count))
+}
+
+/// Writes a bit, where there is one, and `count` bits after it, and the zeros that fill up their octets.
+///
+/// # Errors
+/// `AllocError` if an allocation failed.
+#[inline(always)]
+pub fn write_flags(
+    first: Option<bool>,
+    count: u32,
+    flags: u64,
+    sink: &mut BitSink,
+) -> Result<(), AllocError>
+    requires few { count ≤ 64 }
+    requires within { flags < 2 ^ count }
+    ensures { AddsBits result sink.old sink.new
+        (flagged first (bits count flags) ++ padding (length (flagged first (bits count flags)))) }
+{
+    match first {
+        None if count == 0 => Ok(()),
+        None if count <= 8 => write_in_octet(count, flags, sink),
+        Some(bit) if count < 8 => write_in_octet(
+            1 + count,
+            (u64::from(bit) << count) + flags,
+            sink,
+        ),
+        _ => write_long_flags(first, count, flags, sink),
+    }
+}
+
+/// Writes the same, where there may be more bits than an octet has.
+#[inline(never)]
+fn write_long_flags(
+    first: Option<bool>,
+    count: u32,
+    flags: u64,
+    sink: &mut BitSink,
+) -> Result<(), AllocError>
+    requires few { count ≤ 64 }
+    requires within { flags < 2 ^ count }
+    ensures { AddsBits result sink.old sink.new
+        (flagged first (bits count flags) ++ padding (length (flagged first (bits count flags)))) }
+{
+    let front = u32::from(first.is_some());
+    if let Some(bit) = first {
+        sink.push(bit)?;
+    }
+    sink.push_number(count, flags)?;
+    write_filling((front + count) as usize, sink)
 }

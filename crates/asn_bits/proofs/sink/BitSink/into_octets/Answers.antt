@@ -9,7 +9,7 @@ pub push_low-requires-clause-room : goal.push_low-requires-clause-room
 push_low-requires-clause-room c =
     let s = c.self.inside in
     elim (cases_lt 0 s.count) [
-      | inl b ↦ omega (arith, c.self.invariant.1 b)
+      | inl b ↦ omega (arith, c.self.invariant.1.0 b)
       | inr b ↦ omega (arith, s.octets.ok)
     ]
 

@@ -1,11 +1,10 @@
 -- Lists that are overwritten, one item after the other.
-use Rattle.std.proofs.Common.{◌≡◌, ◌≤◌, ◌<◌, ◌+◌, ◌∙◌, ◌∷◌, [], ◌++◌, ℕ, List, Option, Some, None, map, take, drop, get_or, slice_set, length, append_assoc, sym, ap}
+use Rattle.std.proofs.Common.{◌≡◌, ◌≤◌, ◌<◌, ◌+◌, ◌∙◌, ◌∷◌, [], ◌++◌, ℕ, List, Option, None, map, take, drop, get_or, slice_set, length, append_assoc, sym, ap}
 use Rattle.std.specs.Option.{option_map}
 use Rattle.std.proofs.lemmas.List.{map-append, take_more_set, take_all, append-nil}
 use Rattle.asn_values.specs.declared.types.Field.{Field}
 use Rattle.asn_values.specs.declared.value.Value.{Value}
-use Rattle.asn_values.specs.Datum.{Datum}
-use Rattle.asn_values.specs.View.{datum_of, fields_of, part_of_field, fields_seen, entries_seen}
+use Rattle.asn_values.specs.View.{datum_of, fields_of, fields_seen, entries_seen}
 use Rattle.asn_walk.specs.Coding.{absent_entries}
 use Rattle.asn_walk.proofs.Widths.{next_part, no_part}
 

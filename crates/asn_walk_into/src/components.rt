@@ -99,8 +99,8 @@ fn read_components_into<R: ReadLeaves>(
     Ok(())
 }
 
-/// Fast path: the INTEGER, BOOLEAN or ENUMERATED of a component that is present and has no DEFAULT, where its units
-/// are at hand; otherwise takes nothing, and leaves some entry.
+/// Fast path: the INTEGER, BOOLEAN, ENUMERATED, BIT STRING or OCTET STRING of a component that is present and has no
+/// DEFAULT, where its units are at hand; otherwise takes nothing, and leaves some entry.
 #[inline(always)]
 fn try_entry_into<R: ReadLeaves>(
     field: &Field,
@@ -118,23 +118,22 @@ fn try_entry_into<R: ReadLeaves>(
         Need::Default(_) => return false,
         Need::Must | Need::Optional => {}
     }
+    if let AsnType::Int(_) = &field.ty {
+        let Some(number) = try_integer::<R>(&field.ty, units) else {
+            return false;
+        };
+        set_integer(entry, number);
+        return true;
+    }
     match &field.ty {
-        AsnType::Int(_) => {
-            let Some(number) = try_integer::<R>(&field.ty, units) else {
-                return false;
-            };
-            set_integer(entry, number);
-            true
-        }
-        AsnType::Bool | AsnType::Enum { .. } => {
+        AsnType::Bool | AsnType::Enum { .. } | AsnType::Bits(_) | AsnType::Octets(_) => {
             let Some(value) = entry else {
                 return false;
             };
             R::try_simple_into(&field.ty, units, value)
         }
-        AsnType::Null
-        | AsnType::Bits(_)
-        | AsnType::Octets(_)
+        AsnType::Int(_)
+        | AsnType::Null
         | AsnType::Text(..)
         | AsnType::Utf8
         | AsnType::Seq { .. }

@@ -1,4 +1,4 @@
-use Rattle.std.proofs.Common.{◌≡◌, ◌<◌, ◌≤◌, ◌∙◌, None, length, refl, sym, arith}
+use Rattle.std.proofs.Common.{◌≡◌, ◌∙◌, None, sym, arith}
 use Rattle.std.proofs.lemmas.List.{length-set}
 use Rattle.asn_walk_into.proofs.Overwritten.{cleared_more, cleared_all}
 use Rattle.asn_walk_into.proofs.entries.clear_entries.Goals as goal

@@ -8,7 +8,7 @@ pub use crate::number_reader::{
     NumberSet, admits, bits_left, read_number, read_number_among, read_padding, read_up_to,
     try_number,
 };
-pub use crate::octet_length_reader::{read_length, read_octets_with_length};
+pub use crate::octet_length_reader::{read_length, read_octets_with_length, try_length, try_row};
 pub use crate::octet_reader::{
     octets_left, read_counted, read_counted_signed, read_filled, read_octets, read_octets_among,
     read_row, read_signed_octets, try_octets, try_signed_octets,

@@ -2,7 +2,8 @@
 //! first octet after which nothing that it reads can follow.
 ghost use Rattle.std.specs.Prelude.{◌≡◌, ◌≤◌, ◌<◌, ◌^◌, IfOk, IfErr, OnOk, IfSome, IsNone};
 ghost use Rattle.asn_bits.specs.Sets.{Between};
-ghost use Rattle.asn_rules.specs.Fields.{OctetLength, OctetsAfterLength};
+ghost use Rattle.asn_rules.specs.Fields.{OctetLength, OctetsAfterLength, OneOctet};
+ghost use Rattle.asn_rules.specs.Languages.{Row};
 ghost use Rattle.asn_rules.specs.OctetReading.{AtOctet, ReadsOctets, StopsAtOctets};
 
 use crate::fault::Why;
@@ -32,15 +33,29 @@ pub fn read_length(low: u64, high: u64, units: &mut BitCursor<'_>) -> Result<u64
     if let Some(n) = try_length(low, high, units) {
         return Ok(n);
     }
-    if let Some(n) = try_long_length(low, high, units) {
-        return Ok(n);
-    }
     read_length_by_octets(low, high, units)
+}
+
+/// Fast path: a length from `low` to `high` that one octet tells, or one to four octets after the first one where eight
+/// octets are left; otherwise takes nothing.
+#[inline(always)]
+pub fn try_length(low: u64, high: u64, units: &mut BitCursor<'_>) -> Option<u64>
+    requires at_octet { AtOctet units.old }
+    requires narrow { high < 2 ^ 32 }
+    ensures at_octet { AtOctet units.new }
+    ensures within { IfSome result (λ n. Between low high n) }
+    ensures done { IfSome result (λ n. ReadsOctets (OctetLength (Between low high)) n units.old units.new) }
+    ensures unchanged { IsNone result → units.new ≡ units.old }
+{
+    if let Some(n) = try_short_length(low, high, units) {
+        return Some(n);
+    }
+    try_long_length(low, high, units)
 }
 
 /// Fast path: a length from `low` to `high` that one octet tells, where it is at hand; otherwise takes nothing.
 #[inline(always)]
-fn try_length(low: u64, high: u64, units: &mut BitCursor<'_>) -> Option<u64>
+fn try_short_length(low: u64, high: u64, units: &mut BitCursor<'_>) -> Option<u64>
     requires at_octet { AtOctet units.old }
     requires narrow { high < 2 ^ 32 }
     ensures at_octet { AtOctet units.new }
@@ -128,4 +143,21 @@ pub fn read_octets_with_length(
 {
     let count = read_length(low, high, units)?;
     read_row(alloc, count as usize, units)
+}
+
+/// Fast path: `count` octets, where they are left and there is memory for them; otherwise takes nothing.
+#[inline(always)]
+pub fn try_row(alloc: Global, count: usize, units: &mut BitCursor<'_>) -> Option<Vec<u8>>
+    requires at_octet { AtOctet units.old }
+    ensures at_octet { AtOctet units.new }
+    ensures done { IfSome result (λ os. ReadsOctets (Row OneOctet count) os.items units.old units.new) }
+    ensures unchanged { IsNone result → units.new ≡ units.old }
+{
+    if octets_left(units) < count {
+        return None;
+    }
+    match units.take_row(alloc, count) {
+        Ok(octets) => Some(octets),
+        Err(_) => None,
+    }
 }

@@ -108,6 +108,19 @@ pub trait ReadLeaves {
         ensures of_integers { IfSome result IsOfProfile }
         ensures none { IsNone result → units.new ≡ units.old };
 
+    /// Fast path: a value of a type that is neither SEQUENCE, SEQUENCE OF nor CHOICE, where its units are at hand;
+    /// otherwise takes nothing.
+    #[inline(always)]
+    fn try_simple(_alloc: Global, _ty: &AsnType, _units: &mut BitCursor<'_>) -> Option<Value>
+        requires at_unit { rules.at_unit _units.old }
+        requires of_profile { InProfile (shape_of _ty.now) }
+        ensures at_unit { rules.at_unit _units.new }
+        ensures some { IfSome result (λ v. ReadsValue rules _ty.now v _units.old _units.new) }
+        ensures none { IsNone result → _units.new ≡ _units.old }
+    {
+        None
+    }
+
     /// Fast path: a value of a type that is neither SEQUENCE, SEQUENCE OF nor CHOICE into the one that is there, where
     /// its units are at hand; otherwise takes nothing, and leaves some value.
     #[inline(always)]

@@ -296,18 +296,26 @@ no_default : (need : Need) → (need ≡ needs.Must) ⊎ (need ≡ needs.Optiona
 no_default need (inl e) = ap (λ n. default_of (demand_of n)) e
 no_default need (inr e) = ap (λ n. default_of (demand_of n)) e
 
+pub components::read_entry-returns-in-Some-clause-done : goal.components::read_entry-returns-in-Some-clause-done
+components::read_entry-returns-in-Some-clause-done g t c =
+    let e : c.args.present ≡ true = c.if-not-present.false in
+    let d : default_of (part_of_field c.args.field.now).demand ≡ None = ap default_of (demand_of_part c.args.field.now) ∙ no_default c.args.field.now.need c.in-Must.is in
+    (entry_leads g.R.ReadLeaves.rules c.args.field.now c.args.present None (g.R.ReadLeaves.rules.to_units c.args.units.now) e d).done (datum_of c.in-Some.value) (g.R.ReadLeaves.rules.to_units c.try_simple.new._units) c.in-Some.ensures.some
+
 pub components::read_entry-returns-in_err-read-in-Must-clause-stop : goal.components::read_entry-returns-in_err-read-in-Must-clause-stop
 components::read_entry-returns-in_err-read-in-Must-clause-stop g t c =
     let e : c.args.present ≡ true = c.if-not-present.false in
     let d : default_of (part_of_field c.args.field.now).demand ≡ None = ap default_of (demand_of_part c.args.field.now) ∙ no_default c.args.field.now.need c.in-Must.is in
     let p = err_from_is_err_and c.from_residual-in_err-read-in-Must.result c.from_residual-in_err-read-in-Must.ensures.1 in
-    rw (p.1, p.2) (stops_by _ (entry_leads g.R.ReadLeaves.rules c.args.field.now c.args.present None (g.R.ReadLeaves.rules.to_units c.args.units.now) e d).stops c.in_err-read-in-Must.ensures.stop)
+    let still : c.try_simple.new._units ≡ c.args.units.now = c.in_default.ensures.none refl in
+    rw (p.1, p.2) (stops_by _ (entry_leads g.R.ReadLeaves.rules c.args.field.now c.args.present None (g.R.ReadLeaves.rules.to_units c.args.units.now) e d).stops (rw still at c.in_err-read-in-Must.ensures.stop))
 
 pub components::read_entry-returns-in_ok-read-in-Must-clause-done : goal.components::read_entry-returns-in_ok-read-in-Must-clause-done
 components::read_entry-returns-in_ok-read-in-Must-clause-done g t c =
     let e : c.args.present ≡ true = c.if-not-present.false in
     let d : default_of (part_of_field c.args.field.now).demand ≡ None = ap default_of (demand_of_part c.args.field.now) ∙ no_default c.args.field.now.need c.in-Must.is in
-    (entry_leads g.R.ReadLeaves.rules c.args.field.now c.args.present None (g.R.ReadLeaves.rules.to_units c.args.units.now) e d).done (datum_of c.in_ok-read-in-Must.field-0) (g.R.ReadLeaves.rules.to_units c.read.new.units) c.in_ok-read-in-Must.ensures.done
+    let still : c.try_simple.new._units ≡ c.args.units.now = c.in_default.ensures.none refl in
+    (entry_leads g.R.ReadLeaves.rules c.args.field.now c.args.present None (g.R.ReadLeaves.rules.to_units c.args.units.now) e d).done (datum_of c.in_ok-read-in-Must.field-0) (g.R.ReadLeaves.rules.to_units c.read.new.units) (rw still at c.in_ok-read-in-Must.ensures.done)
 
 pub components::read_additions-returns-in_err-bitmap-clause-stop : goal.components::read_additions-returns-in_err-bitmap-clause-stop
 components::read_additions-returns-in_err-bitmap-clause-stop g t c =

@@ -3,7 +3,7 @@ use Rattle.asn_bits.specs.Begun.{StandsFirst}
 use Rattle.asn_rules.specs.NumberSets.{Admits}
 use Rattle.asn_rules.specs.OctetReading.{from_to}
 use Rattle.asn_rules.proofs.Octets.LengthOctets.{short_taken, short_whole, short_done}
-use Rattle.asn_rules.proofs.octet_length_reader.try_length.Goals as goal
+use Rattle.asn_rules.proofs.octet_length_reader.try_short_length.Goals as goal
 
 pub returns-clause-at_octet : goal.returns-clause-at_octet
 returns-clause-at_octet c =

@@ -20,6 +20,7 @@ pub use crate::octet_writer::{
 };
 pub use crate::readings::{one_reading, readings_answer};
 pub use crate::rereading::{Reads, Rereading, feed, finish, open};
+pub use crate::short_octets::try_short_octets;
 pub use crate::signed_reader::{OffsetSet, read_signed, read_unconstrained};
 pub use crate::stop::Stop;
 pub use crate::whole_number_reader::{

@@ -20,6 +20,7 @@ mod readings;
 mod rereading;
 mod rules;
 mod session;
+mod short_octets;
 mod signed_reader;
 mod stop;
 mod units;

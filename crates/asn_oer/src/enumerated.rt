@@ -46,8 +46,21 @@ pub(crate) fn write_item(
     requires of_type { Fits (enumeration_of root.now more.now) (item position) }
     ensures { Adds result sink.old sink.new (oer_octets (enumeration_of root.now more.now) (item position)) }
 {
-    let (count, octets) = octets_of(number_at(root, more, position as usize));
-    sink.push_number(8 * count, octets)
+    let number = number_at(root, more, position as usize);
+    if is_small(number) {
+        return sink.push_low_octets(1, number as u64);
+    }
+    write_long(number, sink)
+}
+
+/// Writes the number of an item by the octets that it has.
+#[inline(never)]
+fn write_long(number: i64, sink: &mut BitSink) -> Result<(), AllocError>
+    requires { magnitude number < 2147483648 }
+    ensures { Adds result sink.old sink.new (item_number number) }
+{
+    let (count, octets) = octets_of(number);
+    sink.push_low_octets(count, octets)
 }
 
 /// Reads an item, but for the excluded one. Returns its position.

@@ -3,11 +3,12 @@
 ghost use Rattle.std.specs.Prelude.{◌≡◌, ◌≤ℤ◌, ◌<ℤ◌, ◌^◌, pos, Some, None, OnOk, IfSome, IsNone};
 ghost use Rattle.asn_oer.specs.Words.{lowest_integer, highest_integer, FitsNumber, number, integer, InProfile, range_of, Inhabited, AtOctet, Adds, IsWithin, unmarked, between, IsOfProfile, TellsWhether, unsigned_octets, signed_size, oer_octets, ranged, IntegersBut, IsBelowZero, IsCounted, ValuesOf, Reads, ReadsSome, StopsIn};
 
-use asn_bits::internal::{at_offset, signed_residue};
+use asn_bits::internal::at_offset;
 use asn_bits::{BitCursor, BitSink};
 use asn_rules::internal::{
     Stop, numbers_of, offsets_of, read_counted, read_counted_signed, read_octets,
-    read_signed_octets, try_octets, try_signed_octets,
+    read_signed_octets, try_octets, try_signed_octets, write_fixed, write_least,
+    write_least_signed,
 };
 use asn_rules::{EncodeFault, Why};
 use asn_values::Bounds;
@@ -159,25 +160,24 @@ pub(crate) fn write_integer(
             if value < low || high < value {
                 return Err(EncodeFault::NotOfType);
             }
-            Ok(write_between(low, high, value, sink)?)
+            let greatest = greatest(low as i64, high as i64);
+            Ok(write_fixed(greatest, (value as i64).cast_unsigned(), sink)?)
         }
         _ => write_counted(bounds, value, sink),
     }
 }
 
-/// Writes a number between two bounds in a fixed number of octets: unsigned where the lower bound is not negative, and
-/// else in two's complement.
+/// The number up to which the numbers from 0 on have as many octets as those from `low` to `high`.
 #[inline(always)]
-fn write_between(low: i128, high: i128, value: i128, sink: &mut BitSink) -> Result<(), AllocError>
-    requires within { (lowest_integer ≤ℤ low) × (high ≤ℤ highest_integer) }
-    requires of_type { (low ≤ℤ value) × (value ≤ℤ high) }
-    ensures { Adds result sink.old sink.new (ranged (Some low) (Some high) value) }
+fn greatest(low: i64, high: i64) -> u64
+    requires { low ≤ℤ high }
+    ensures from_zero { pos 0 ≤ℤ low → pos result ≡ high }
+    ensures below_zero { low <ℤ pos 0 → signed_size low high ≡ unsigned_octets (pos result) }
 {
     if low >= 0 {
-        return sink.push_number(8 * unsigned_size(high), value as u64);
+        return high as u64;
     }
-    let count = signed_size(low, high);
-    sink.push_number(8 * count, signed_residue(value, count))
+    2 * (high.max(-1 - low) as u64)
 }
 
 /// Writes a number, where it is one of the range, after its length: unsigned from a bound on that is not negative, and
@@ -193,7 +193,7 @@ fn write_counted(bounds: &Bounds, value: i128, sink: &mut BitSink) -> Result<(),
         return Err(EncodeFault::NotOfType);
     }
     match bounds.low {
-        Some(low) if low >= 0 && !bounds.ext => Ok(sink.push_least_octets(value as u64)?),
-        _ => Ok(sink.push_least_signed_octets(value)?),
+        Some(low) if low >= 0 && !bounds.ext => Ok(write_least(value as u64, sink)?),
+        _ => Ok(write_least_signed(value, sink)?),
     }
 }

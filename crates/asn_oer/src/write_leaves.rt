@@ -7,7 +7,9 @@ use crate::integer::write_integer;
 use crate::rules::Oer;
 use asn_bits::BitSink;
 use asn_rules::EncodeFault;
-use asn_rules::internal::{unused_bits, write_content, write_filling, write_length};
+use asn_rules::internal::{
+    unused_bits, write_content, write_filling, write_flags, write_least, write_length,
+};
 use asn_values::internal::{item_fits, length_fits, octets_fit, text_fits, unicode_fits};
 use asn_values::{AsnType, Bounds, Size, Value};
 use asn_walk::sizes::is_fixed;
@@ -27,7 +29,7 @@ impl WriteLeaves for Oer {
     fn write_simple(ty: &AsnType, value: &Value, sink: &mut BitSink) -> Result<(), EncodeFault> {
         match (ty, value) {
             (AsnType::Bool, Value::Bool(truth)) => {
-                Ok(sink.push_number(8, if *truth { 0xff } else { 0 })?)
+                Ok(sink.push_low_octets(1, if *truth { 0xff } else { 0 })?)
             }
             (AsnType::Null, Value::Null) => Ok(()),
             (AsnType::Int(bounds), Value::Int(value)) => write_integer(bounds, *value, sink),
@@ -63,15 +65,7 @@ impl WriteLeaves for Oer {
         bitmap: u64,
         sink: &mut BitSink,
     ) -> Result<(), AllocError> {
-        let mark = usize::from(extended.is_some());
-        if mark + count as usize == 0 {
-            return Ok(());
-        }
-        if let Some(bit) = extended {
-            sink.push(bit)?;
-        }
-        sink.push_number(count, bitmap)?;
-        write_filling(mark + count as usize, sink)
+        write_flags(extended, count, bitmap, sink)
     }
 
     fn write_addition_bitmap(
@@ -96,7 +90,7 @@ impl WriteLeaves for Oer {
             Index::Added(index) => root + index,
         };
         // a type of the profile has tags up to 62, which one octet tells
-        sink.push_number(8, 128 + tag as u64)
+        sink.push_low_octets(1, 128 + tag as u64)
     }
 
     #[inline(always)]
@@ -106,8 +100,7 @@ impl WriteLeaves for Oer {
 
     #[inline(always)]
     fn start_list(size: &Size, count: usize, sink: &mut BitSink) -> Result<(), AllocError> {
-        sink.push_least_octets(count as u64)?;
-        Ok(())
+        write_least(count as u64, sink)
     }
 
     #[inline(always)]
@@ -162,5 +155,5 @@ fn write_header(count: usize, sink: &mut BitSink) -> Result<(), AllocError>
     ensures { Adds result sink.old sink.new (bits_header count) }
 {
     write_length(1 + (count + 7) / 8, sink)?;
-    sink.push_number(8, u64::from(unused_bits(count)))
+    sink.push_low_octets(1, u64::from(unused_bits(count)))
 }

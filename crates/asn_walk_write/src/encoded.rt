@@ -1,5 +1,5 @@
 //! Which components of a SEQUENCE are encoded.
-ghost use Rattle.std.specs.Prelude.{◌≡◌, ◌≤◌, ◌<◌, ◌^◌, length};
+ghost use Rattle.std.specs.Prelude.{◌≡◌, ◌↔◌, ◌≤◌, ◌<◌, ◌^◌, IsTrue, length};
 ghost use Rattle.std.specs.Option.{option_map};
 ghost use Rattle.asn_values.specs.Parts.{AreOfProfile, IsGoodDemand};
 ghost use Rattle.asn_values.specs.Shape.{demands};
@@ -42,8 +42,19 @@ pub(crate) fn is_encoded(field: &Field, entry: &Option<Value>) -> bool
         Need::Optional => entry.is_some(),
         Need::Default(default) => match entry {
             None => false,
-            Some(value) => !same(default, value),
+            Some(value) => !are_same(default, value),
         },
+    }
+}
+
+/// Whether both are the same value: of BOOLEANs, which most components with a DEFAULT are, it is asked at once.
+#[inline(always)]
+fn are_same(left: &Value, right: &Value) -> bool
+    ensures { IsTrue result ↔ (datum_of left.now ≡ datum_of right.now) }
+{
+    match (left, right) {
+        (Value::Bool(truth), Value::Bool(other)) => *truth == *other,
+        _ => same(left, right),
     }
 }
 

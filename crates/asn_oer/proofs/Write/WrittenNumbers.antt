@@ -1,23 +1,28 @@
 -- The octets that the writers of INTEGER and ENUMERATED write in OER.
-use Rattle.std.proofs.Common.{◌≡◌, ◌≤◌, ◌<◌, ◌-◌, ◌*◌, ◌^◌, ℕ, ℤ, pos, negsuc, ◌≤ℤ◌, ◌⊎◌, Bool, true, false, ◌||◌, List, Option, Some, None, inl, inr, refl, sym, ◌∙◌, ap, subst, arith}
-use Rattle.std.proofs.lemmas.Bool.{true≢false, le-leb, and_parts}
-use Rattle.std.proofs.lemmas.Nat.{pow_pos}
-use Rattle.std.specs.Int.RustNames.{int_le, int_lt}
+use Rattle.std.proofs.Common.{◌≡◌, ◌≤◌, ◌<◌, ◌+◌, ◌-◌, ◌*◌, ◌^◌, ℕ, suc, ℤ, pos, negsuc, ◌≤ℤ◌, ◌<ℤ◌, ◌⊎◌, Bool, true, false, nat_lt, ◌||◌, List, Option, Some, None, inl, inr, refl, sym, ◌∙◌, ap, subst, arith}
+use Rattle.std.proofs.lemmas.Bool.{true≢false, le-leb, lt-ltb, and_parts}
+use Rattle.std.proofs.lemmas.Nat.{pow_pos, pow-add}
+use Rattle.std.proofs.Math.Nat.{one-le-pow, add-mul}
+use Rattle.std.specs.Int.RustNames.{int_le, int_lt, FitsSigned}
 use Rattle.std.proofs.lemmas.Int.{ints}
 use Rattle.asn_values.specs.Fits.{lowest_integer, highest_integer, FitsNumber, at_most}
 use Rattle.asn_values.specs.Profile.{InProfile}
 use Rattle.asn_values.specs.Shape.{Range, integer}
 use lib.IntN.{nat_abs}
+use mir.Syntax.{w64}
+use mir.Val.{of_z, to_z}
 use Rattle.asn_bits.specs.Lengths.{general_octets}
 use Rattle.asn_bits.specs.Numbers.{bits, octets, least, least_signed, signed_octets, magnitude, unpacked}
 use Rattle.asn_bits.proofs.Above.{test_of_le}
-use Rattle.asn_bits.proofs.Splits.{unpacked-octets}
+use Rattle.asn_bits.proofs.Octets.{half}
+use Rattle.asn_bits.proofs.Splits.{digits_above, unpacked-octets}
 use Rattle.asn_oer.specs.Oer.{counted, counted_signed, unsigned_octets, unsigned_in, signed_size, signed_in, ranged, whole_number}
 use Rattle.asn_oer.specs.Reading.{IsCounted}
 use Rattle.asn_oer.proofs.Law.Integers.{signed_cases, from_zero, in_bound}
 use Rattle.asn_oer.proofs.Encodings.SpeltLeaves.{in_64_bits}
 use Rattle.asn_oer.proofs.Write.WrittenOctets.{least_counted, signed_counted}
 use Rattle.asn_rules.specs.IntegerSets.{magnitude_of}
+use Rattle.asn_rules.specs.OctetsWritten.{fixed_octets}
 use Rattle.asn_rules.proofs.Plain.IntegerSets.{size_is, low_bound, high_bound}
 
 -- ---- which octets
@@ -27,6 +32,19 @@ some_same e = cc
 
 pub some_same_low : {y z : ℤ} → Some y ≡ Some z → y ≡ z
 some_same_low e = cc
+
+-- of 1, 2, 4 and 8 octets those that hold the numbers up to g
+fixed_is : (g : ℕ) → g < 18446744073709551616 → unsigned_octets (pos g) ≡ Some (fixed_octets g)
+fixed_is g h = go (nat_lt g 256) (nat_lt g 65536) (nat_lt g 4294967296) refl refl refl
+  where
+    last : nat_lt g 18446744073709551616 ≡ true
+    last = lt-ltb g 18446744073709551616 h
+
+    go : (a b c : Bool) → nat_lt g 256 ≡ a → nat_lt g 65536 ≡ b → nat_lt g 4294967296 ≡ c → unsigned_octets (pos g) ≡ Some (fixed_octets g)
+    go true b c ea eb ec = rw (ea, unsigned_octets, fixed_octets) refl
+    go false true c ea eb ec = rw (ea, eb, unsigned_octets, fixed_octets) refl
+    go false false true ea eb ec = rw (ea, eb, ec, unsigned_octets, fixed_octets) refl
+    go false false false ea eb ec = rw (ea, eb, ec, last, unsigned_octets, fixed_octets) refl
 
 -- from zero on
 pub unsigned_form : (low high z : ℤ) (k : ℕ) → int_le (pos 0) low ≡ true → unsigned_octets high ≡ Some k → ranged (Some low) (Some high) z ≡ octets k (magnitude_of z)
@@ -64,6 +82,64 @@ unsigned_bits low high z k p e a =
 
 pub signed_bits : (low high z : ℤ) (k r : ℕ) → int_le (pos 0) low ≡ false → signed_size low high ≡ Some k → signed_octets k z ≡ octets k r → bits (8 * k) r ≡ unpacked (ranged (Some low) (Some high) z)
 signed_bits low high z k r p e o = sym (ap unpacked (signed_form low high z k p e ∙ o) ∙ unpacked-octets k r)
+
+-- ---- that the number has room in them
+
+-- a number between two bounds
+pub record SignedRoom (k : ℕ) (z : ℤ) : Type 0 where
+  pub some : 1 ≤ k
+  pub few : k ≤ 8
+  pub room : magnitude z < 2 ^ (8 * k - 1)
+
+pub signed_room : (low high z : ℤ) (k : ℕ) → signed_size low high ≡ Some k → int_le low z ≡ true → int_le z high ≡ true → SignedRoom k z
+signed_room low high z k e a b =
+    elim (signed_cases low high) [
+      | inl w ↦
+          let n = 2 ^ (8 * w.0 - 1) in
+          let v = and_parts (int_le (negsuc (n - 1)) low) (int_lt high (pos n)) w.3 in
+          let same : w.0 ≡ k = some_same (sym w.2 ∙ e) in
+          subst (λ (i : ℕ). SignedRoom i z) same (record { some = w.1; few = w.4; room = in_bound low high z n (pow_pos (8 * w.0 - 1)) v.0 v.1 a b })
+      | inr w ↦ absurd (cc (w, e))
+    ]
+
+-- ---- of a number between bounds
+
+-- which keeps its value in 64 bits
+pub narrow : (z : ℤ) → lowest_integer ≤ℤ z → z ≤ℤ highest_integer → to_z w64 (of_z w64 z) ≡ z
+narrow z a b = omega (arith, ints, a, b)
+
+pub fits_64 : (z : ℤ) → lowest_integer ≤ℤ z → z ≤ℤ highest_integer → FitsSigned w64 z
+fits_64 (pos n) a b = omega (arith, ints, b)
+fits_64 (negsuc n) a b = omega (arith, ints, a)
+
+-- the octets of a number of 64 signed bits are the last ones of its bits
+residue_octets : (k : ℕ) (z : ℤ) → k ≤ 8 → magnitude z < 256 ^ k → magnitude z < 9223372036854775808 → signed_octets k z ≡ octets k (of_z w64 z)
+residue_octets k (pos n) few room h = refl
+residue_octets k (negsuc n) few room h =
+    let p = 256 ^ k in
+    let q = 256 ^ (8 - k) in
+    let some : 1 ≤ q = one-le-pow (8 - k) 256 (omega arith) in
+    let whole : 8 - k + k ≡ 8 = omega arith in
+    let all : q * p ≡ 18446744073709551616 = sym (pow-add 256 (8 - k) k) ∙ ap (λ (i : ℕ). 256 ^ i) whole in
+    let less : (q - 1) * p + 1 * p ≡ q * p = sym (add-mul (q - 1) 1 p) ∙ ap (λ (t : ℕ). t * p) (omega (arith, some)) in
+    let same : (q - 1) * p + (p - 1 - n) ≡ 18446744073709551616 - suc n = omega (arith, less, all, room) in
+    sym (digits_above 256 (omega arith) k (q - 1) (p - 1 - n)) ∙ ap (octets k) same
+
+-- a number between bounds, of which as many octets are written as the numbers up to g have
+pub fixed_bits : (low high z : ℤ) (g : ℕ) → low ≤ℤ z → z ≤ℤ high → lowest_integer ≤ℤ low → high ≤ℤ highest_integer → (pos 0 ≤ℤ low → pos g ≡ high)
+    → (low <ℤ pos 0 → signed_size low high ≡ unsigned_octets (pos g)) → g < 18446744073709551616
+    → bits (8 * fixed_octets g) (of_z w64 z) ≡ unpacked (ranged (Some low) (Some high) z)
+fixed_bits (pos l) high (negsuc z) g p q a b from below small = absurd (omega (arith, ints, p))
+fixed_bits (pos l) high (pos z) g p q a b from below small =
+    let size : unsigned_octets high ≡ Some (fixed_octets g) = ap unsigned_octets (sym (from (omega (arith, ints)))) ∙ fixed_is g small in
+    unsigned_bits (pos l) high (pos z) (fixed_octets g) (test_of_le (pos 0) (pos l) (omega (arith, ints))) size (test_of_le (pos l) (pos z) p)
+fixed_bits (negsuc l) high z g p q a b from below small =
+    let k = fixed_octets g in
+    let size : signed_size (negsuc l) high ≡ Some k = below (omega (arith, ints)) ∙ fixed_is g small in
+    let room = signed_room (negsuc l) high z k size (test_of_le (negsuc l) z p) (test_of_le z high q) in
+    let held : magnitude z < 256 ^ k = omega (arith, room.room, half k room.some) in
+    let narrow : magnitude z < 9223372036854775808 = in_64_bits z (omega (arith, ints, p, a)) (omega (arith, ints, q, b)) in
+    signed_bits (negsuc l) high z k (of_z w64 z) refl size (residue_octets k z room.few held narrow)
 
 -- a number of the range that is written after its length, from a bound on that is not negative
 pub counted_bits : (b : Range) (low z : ℤ) → IsCounted b → FitsNumber b z → b.low ≡ Some low → b.extensible ≡ false → int_le (pos 0) low ≡ true
@@ -116,24 +192,5 @@ between_bounds b low high z good l h p q = (from, to, rw (l, h, test_of_le low z
     either : (x : Bool) → (x || true) ≡ true
     either true = refl
     either false = refl
-
--- ---- that the number has room in them
-
--- a number between two bounds
-pub record SignedRoom (k : ℕ) (z : ℤ) : Type 0 where
-  pub some : 1 ≤ k
-  pub few : k ≤ 8
-  pub room : magnitude z < 2 ^ (8 * k - 1)
-
-pub signed_room : (low high z : ℤ) (k : ℕ) → signed_size low high ≡ Some k → int_le low z ≡ true → int_le z high ≡ true → SignedRoom k z
-signed_room low high z k e a b =
-    elim (signed_cases low high) [
-      | inl w ↦
-          let n = 2 ^ (8 * w.0 - 1) in
-          let v = and_parts (int_le (negsuc (n - 1)) low) (int_lt high (pos n)) w.3 in
-          let same : w.0 ≡ k = some_same (sym w.2 ∙ e) in
-          subst (λ (i : ℕ). SignedRoom i z) same (record { some = w.1; few = w.4; room = in_bound low high z n (pow_pos (8 * w.0 - 1)) v.0 v.1 a b })
-      | inr w ↦ absurd (cc (w, e))
-    ]
 
 -- ---- the bounds of a range of the profile

@@ -1,34 +1,44 @@
-use Rattle.std.proofs.Common.{◌≡◌, ◌<◌, ◌++◌, List, ℕ, ℤ, map, sym, ◌∙◌, ap, subst, arith, to_z, of_z}
+use Rattle.std.proofs.Common.{◌≡◌, ◌<◌, ◌&&◌, ◌++◌, pos, true, List, ℕ, ℤ, map, sym, ◌∙◌, ap, subst, to_z, of_z}
 use Rattle.std.proofs.lemmas.Result.{on_ok_weaker}
+use Rattle.std.specs.Int.RustNames.{int_le, int_lt}
+use lib.IntN.{nat_abs}
 use mir.Syntax.{w64}
 use Rattle.asn_values.specs.Shape.{more_labels}
 use Rattle.asn_values.specs.View.{label_of, more_labels_of}
-use Rattle.asn_bits.specs.Numbers.{octets, magnitude, unpacked}
-use Rattle.asn_bits.proofs.Splits.{two_pow_octets, unpacked-octets}
+use Rattle.asn_bits.specs.Numbers.{bits, magnitude, unpacked}
 use Rattle.asn_rules.specs.Components.{number_at}
 use Rattle.asn_oer.specs.Oer.{item_number}
-use Rattle.asn_oer.proofs.Write.WrittenItems.{item_kept, item_narrow}
+use Rattle.asn_oer.proofs.Write.WrittenItems.{item_kept, item_narrow, short_form}
 use Rattle.asn_oer.proofs.Write.WrittenOctets.{plain}
 use Rattle.asn_oer.proofs.enumerated.write_item.Goals as goal
 
-pub octets_of-count-requires : goal.octets_of-count-requires
-octets_of-count-requires c =
+pub write_long-requires : goal.write_long-requires
+write_long-requires c =
     let root = map label_of c.args.root.now in
     let more = more_labels_of c.args.more.now in
     let z = number_at (root ++ more_labels more) c.args.position in
-    let same : to_z w64 (of_z w64 c.number_at.result) ≡ z = ap (λ (x : ℤ). to_z w64 (of_z w64 x)) c.number_at.ensures ∙ item_kept root more c.args.position c.requires.of_profile in
-    record { narrow = subst (λ (x : ℤ). magnitude x < 2147483648) (sym same) (item_narrow root more c.args.position c.requires.of_profile) }
+    let same : to_z w64 (of_z w64 c.number_at-number.result) ≡ z = ap (λ (x : ℤ). to_z w64 (of_z w64 x)) c.number_at-number.ensures ∙ item_kept root more c.args.position c.requires.of_profile in
+    subst (λ (x : ℤ). magnitude x < 2147483648) (sym same) (item_narrow root more c.args.position c.requires.of_profile)
 
-pub push_number-requires-clause-fits : goal.push_number-requires-clause-fits
-push_number-requires-clause-fits c = omega (arith, c.octets_of-count.ensures.fits, two_pow_octets c.octets_of-count.result.0)
+pub returns-then-is_small : goal.returns-then-is_small
+returns-then-is_small c =
+    let old = c.args.sink.now in
+    let root = map label_of c.args.root.now in
+    let more = more_labels_of c.args.more.now in
+    let z = number_at (root ++ more_labels more) c.args.position in
+    let same : to_z w64 (of_z w64 c.number_at-number.result) ≡ z = ap (λ (x : ℤ). to_z w64 (of_z w64 x)) c.number_at-number.ensures ∙ item_kept root more c.args.position c.requires.of_profile in
+    let small : (int_le (pos 0) z && int_lt z (pos 128)) ≡ true = ap (λ (x : ℤ). int_le (pos 0) x && int_lt x (pos 128)) (sym same) ∙ sym c.is_small.ensures ∙ c.if-is_small.true in
+    on_ok_weaker c.push_low_octets.result
+    (λ e. e ∙ ap (λ (x : ℤ). old ++ bits 8 (nat_abs x)) same ∙ ap (λ (t : List ℕ). old ++ t) (short_form z small ∙ sym (plain (item_number z))))
+    c.push_low_octets.ensures.ok
 
 pub returns : goal.returns
 returns c =
+    let old = c.args.sink.now in
     let root = map label_of c.args.root.now in
     let more = more_labels_of c.args.more.now in
     let z = number_at (root ++ more_labels more) c.args.position in
-    let k = c.octets_of-count.result.0 in
-    let n = c.octets_of-count.result.1 in
-    let same : to_z w64 (of_z w64 c.number_at.result) ≡ z = ap (λ (x : ℤ). to_z w64 (of_z w64 x)) c.number_at.ensures ∙ item_kept root more c.args.position c.requires.of_profile in
-    let is : item_number z ≡ octets k n = ap (λ (x : ℤ). item_number x) (sym same) ∙ c.octets_of-count.ensures.same in
-    on_ok_weaker c.push_number.result (λ e. e ∙ ap (λ (t : List ℕ). c.args.sink.now ++ t) (sym (unpacked-octets k n) ∙ ap unpacked (sym is) ∙ sym (plain (item_number z)))) c.push_number.ensures.ok
+    let same : to_z w64 (of_z w64 c.number_at-number.result) ≡ z = ap (λ (x : ℤ). to_z w64 (of_z w64 x)) c.number_at-number.ensures ∙ item_kept root more c.args.position c.requires.of_profile in
+    on_ok_weaker c.write_long.result
+    (λ e. e ∙ ap (λ (x : ℤ). old ++ unpacked (item_number x)) same ∙ ap (λ (t : List ℕ). old ++ t) (sym (plain (item_number z))))
+    c.write_long.ensures

@@ -14,8 +14,8 @@ use Rattle.asn_oer.proofs.Write.WrittenOctets.{plain}
 use Rattle.asn_oer.proofs.integer.write_counted.Goals as goal
 use Rattle.asn_oer.proofs.integer.write_counted.Goals.{in_default-via-in-Some+then-low-ge0+else-not-bounds, in_default-via-in-Some+else-low-ge0, in_default-via-in_default}
 
-pub returns-in_ok-push_least_octets-in-Some-clause-written : goal.returns-in_ok-push_least_octets-in-Some-clause-written
-returns-in_ok-push_least_octets-in-Some-clause-written c =
+pub returns-in_ok-write_least-in-Some-clause-written : goal.returns-in_ok-write_least-in-Some-clause-written
+returns-in_ok-write_least-in-Some-clause-written c =
     let b = range_of c.args.bounds.now in
     let z = c.args.value in
     let low = c.in-Some.low in
@@ -25,11 +25,11 @@ returns-in_ok-push_least_octets-in-Some-clause-written c =
     let closed : b.extensible ≡ false = search rules in
     let from : int_le (pos 0) low ≡ true = rw (kept low l.0 l.1) at c.if-low-ge0.true in
     let all = counted_bits b low z c.requires.counted fits c.in-Some.is closed from in
-    c.in_ok-push_least_octets-in-Some.ensures.ok ∙ ap (λ (x : ℤ). c.args.sink.now ++ general_octets (λ u. u) (least (nat_abs x))) same
+    c.in_ok-write_least-in-Some.ensures ∙ ap (λ (x : ℤ). c.args.sink.now ++ general_octets (λ u. u) (least (nat_abs x))) same
     ∙ ap (λ (t : List ℕ). c.args.sink.now ++ t) (all ∙ sym (plain (whole_number b z)))
 
-pub returns-in_ok-push_least_signed_octets-in_default-clause-written : goal.returns-in_ok-push_least_signed_octets-in_default-clause-written
-returns-in_ok-push_least_signed_octets-in_default-clause-written c =
+pub returns-in_ok-write_least_signed-in_default-clause-written : goal.returns-in_ok-write_least_signed-in_default-clause-written
+returns-in_ok-write_least_signed-in_default-clause-written c =
     let b = range_of c.args.bounds.now in
     let z = c.args.value in
     let same : to_z w128 (of_z w128 z) ≡ z = search rules in
@@ -43,5 +43,5 @@ returns-in_ok-push_least_signed_octets-in_default-clause-written c =
       | in_default-via-in_default w ↦ inr (λ low e. absurd (cc (e, w.in_default.is)))
     ] in
     let all = counted_signed_bits b z c.requires.counted fits which in
-    c.in_ok-push_least_signed_octets-in_default.ensures.ok ∙ ap (λ (x : ℤ). c.args.sink.now ++ general_octets (λ u. u) (least_signed x)) same
+    c.in_ok-write_least_signed-in_default.ensures ∙ ap (λ (x : ℤ). c.args.sink.now ++ general_octets (λ u. u) (least_signed x)) same
     ∙ ap (λ (t : List ℕ). c.args.sink.now ++ t) (all ∙ sym (plain (whole_number b z)))

@@ -5,7 +5,7 @@ use Rattle.asn_values.specs.Shape.{SizeRange, Alphabet}
 use Rattle.asn_values.specs.Fits.{FitsLength, max_len}
 use Rattle.asn_values.specs.Profile.{is_fixed_size}
 use Rattle.asn_rules.specs.Chunks.{Chunk, utf8_field}
-use Rattle.asn_rules.specs.Languages.{Then, Map, Nothing, Row, Sealed}
+use Rattle.asn_rules.specs.Languages.{Then, Map, Row, Sealed}
 use Rattle.asn_rules.specs.Fields.{OneOctet, OctetLength, octets_told}
 use Rattle.asn_rules.specs.OctetStrings.{Character, PackedBits, VariableBits}
 
@@ -14,10 +14,6 @@ use Rattle.asn_rules.specs.OctetStrings.{Character, PackedBits, VariableBits}
 -- items of a count of the set, after it
 abbrev pub ItemsAfterLength : (ℕ → Type 0) → (ℕ → List Chunk → Type 0) → List ℕ → List Chunk → Type 0
 ItemsAfterLength S L = Map octets_told (Then (OctetLength S) (λ n. Row L n))
-
--- how many items there are: as many as the size says, or, where it leaves more than one count, one that stands there
-abbrev pub Count : SizeRange → ℕ → List Chunk → Type 0
-Count s = elim (is_fixed_size s) [ true ↦ Nothing s.low | false ↦ OctetLength (FitsLength s) ]
 
 -- as many items as the size says, or, where it leaves more than one count, items after their count
 abbrev pub Sized : SizeRange → (ℕ → List Chunk → Type 0) → List ℕ → List Chunk → Type 0

@@ -29,5 +29,5 @@ pub use Rattle.asn_oer.specs.LeafReading.{ItemsBut, BeginsWith, BeginsOtherwise,
 pub use Rattle.asn_oer.specs.Oer.{oer_octets, item_number, unsigned_octets, signed_size, ranged, bit_octets, sized_octets, oer, oer_fields}
 pub use Rattle.asn_oer.specs.Reading.{IntegersBut, IsBelowZero, IsCounted, ValuesOf, BooleansBut, TruthOctet, Reads, ReadsSome, StopsIn}
 pub use Rattle.asn_oer.specs.Rules.{oer_ruling}
-pub use Rattle.asn_oer.specs.Strings.{Count, Utf8Strings}
+pub use Rattle.asn_oer.specs.Strings.{Utf8Strings}
 pub use Rattle.asn_oer.specs.Walk.{oer_coding, mark_of}

@@ -13,7 +13,8 @@ use asn_rules::internal::{
 };
 use asn_rules::{MAX_OCTETS, Why};
 use asn_values::{AsnType, Size, Value};
-use asn_walk::sizes::counts_of;
+use asn_walk::octets::{try_item, try_truth};
+use asn_walk::sizes::{counts_of, try_sized_octets};
 use asn_walk::{Index, Preamble, ReadLeaves};
 use std::alloc::Global;
 
@@ -70,6 +71,22 @@ impl ReadLeaves for Oer {
     #[inline(always)]
     fn try_between(low: i128, high: i128, units: &mut BitCursor<'_>) -> Option<i128> {
         try_fixed(low, high, units)
+    }
+
+    #[inline(always)]
+    fn try_simple(alloc: Global, ty: &AsnType, units: &mut BitCursor<'_>) -> Option<Value> {
+        match ty {
+            AsnType::Bool => Some(Value::Bool(try_truth(units)?)),
+            AsnType::Int(bounds) => match (bounds.low, bounds.high) {
+                (Some(low), Some(high)) if !bounds.ext => {
+                    Some(Value::Int(try_fixed(low, high, units)?))
+                }
+                _ => None,
+            },
+            AsnType::Enum { root, ext } => Some(Value::Enum(try_item(root, ext, units)?)),
+            AsnType::Octets(size) => Some(Value::Octets(try_sized_octets(alloc, size, units)?)),
+            _ => None,
+        }
     }
 
     #[inline(always)]

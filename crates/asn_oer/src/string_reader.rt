@@ -2,33 +2,17 @@
 //! `Short` if the octets end before what it reads does, `Refused` as `read_length` for a length, and `Memory` if an
 //! allocation failed.
 ghost use Rattle.std.specs.Prelude.{OnOk, string_bytes};
-ghost use Rattle.asn_oer.specs.Words.{octet_list, characters, unicode, bit_list, InProfile, octet_string, restricted, size_range_of, alphabet_of, AtOctet, IsSizeOfProfile, BitStringsOf, OctetStringsOf, TextsOf, Reads, StopsIn, Count, Utf8Strings};
+ghost use Rattle.asn_oer.specs.Words.{octet_list, characters, unicode, bit_list, InProfile, octet_string, restricted, size_range_of, alphabet_of, AtOctet, IsSizeOfProfile, BitStringsOf, OctetStringsOf, TextsOf, Reads, StopsIn, Utf8Strings};
 
 use asn_bits::BitCursor;
 use asn_rules::internal::{
-    Stop, octets_left, read_characters, read_length, read_octets_with_length, read_packed,
-    read_row, read_variable,
+    Stop, octets_left, read_characters, read_octets_with_length, read_packed, read_row,
+    read_variable,
 };
 use asn_rules::{MAX_OCTETS, Why};
 use asn_values::{Size, TextKind};
-use asn_walk::sizes::{counts_of, is_fixed};
+use asn_walk::sizes::{counts_of, is_fixed, read_count};
 use std::alloc::Global;
-
-/// Reads how many octets a string of this size has: as many as the size says, or, where it leaves more than one count,
-/// the length that stands before them.
-pub(crate) fn read_count(size: &Size, units: &mut BitCursor<'_>) -> Result<usize, Stop>
-    requires at_octet { AtOctet units.old }
-    requires of_profile { IsSizeOfProfile (size_range_of size.now) }
-    ensures at_octet { OnOk result (AtOctet units.new) }
-    ensures done { Reads result (λ n. n) (Count (size_range_of size.now)) units.old units.new }
-    ensures stop { StopsIn result (Count (size_range_of size.now)) units.old }
-{
-    if is_fixed(size) {
-        return Ok(size.low as usize);
-    }
-    let counts = counts_of(size);
-    Ok(read_length(counts.low, counts.high, units)? as usize)
-}
 
 /// Reads the octets of an OCTET STRING (X.696, "encoding of octet string types").
 pub(crate) fn read_octet_string(
@@ -47,9 +31,8 @@ pub(crate) fn read_octet_string(
 }
 
 /// Reads the characters of a string, an octet each: as many as the size says, or, where it leaves more than one count,
-/// after their length.
-/// The first octet that is no character of the kind is refused, with the reason `Character`, also where octets are
-/// missing after it.
+/// after their length. The first octet that is no character of the kind is refused, with the reason `Character`, also
+/// where octets are missing after it.
 pub(crate) fn read_text(
     alloc: Global,
     kind: TextKind,

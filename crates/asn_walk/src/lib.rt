@@ -7,6 +7,7 @@
 
 pub mod items;
 mod leaves;
+pub mod octets;
 mod presence;
 pub mod sizes;
 pub mod slots;

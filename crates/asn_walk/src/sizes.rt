@@ -1,13 +1,16 @@
-//! Sizes of strings and lists.
-ghost use Rattle.std.specs.Prelude.{◌≡◌, ◌<◌, ◌^◌};
+//! Sizes of strings and lists, and counts in octets.
+ghost use Rattle.std.specs.Prelude.{◌≡◌, ◌<◌, ◌^◌, IfOk, IfErr, OnOk, IfSome, IsNone};
 ghost use Rattle.asn_values.specs.Profile.{is_fixed_size};
 ghost use Rattle.asn_values.specs.View.{size_range_of};
+ghost use Rattle.asn_rules.specs.OctetReading.{AtOctet, ReadsOctets, StopsAtOctets};
 ghost use Rattle.asn_walk.specs.Laws.{IsSizeOfProfile};
-ghost use Rattle.asn_walk.specs.Sizes.{AreCounts};
+ghost use Rattle.asn_walk.specs.Sizes.{AreCounts, Count, ReadsSized};
 
+use asn_bits::BitCursor;
 use asn_rules::MAX_OCTETS;
-use asn_rules::internal::NumberSet;
+use asn_rules::internal::{NumberSet, Stop, read_length, try_length, try_row};
 use asn_values::Size;
+use std::alloc::Global;
 
 /// Whether there is one length only. A size with an extension mark has more.
 pub fn is_fixed(size: &Size) -> bool
@@ -35,4 +38,57 @@ pub fn counts_of(size: &Size) -> NumberSet
         high,
         excluded: None,
     }
+}
+
+/// Reads how many octets a string of this size has: as many as the size says, or, where it leaves more than one count,
+/// the length that stands before them (X.696, "length determinant").
+///
+/// # Errors
+/// As `read_length`.
+pub fn read_count(size: &Size, units: &mut BitCursor<'_>) -> Result<usize, Stop>
+    requires at_octet { AtOctet units.old }
+    requires of_profile { IsSizeOfProfile (size_range_of size.now) }
+    ensures at_octet { OnOk result (AtOctet units.new) }
+    ensures done { IfOk result (λ n. ReadsOctets (Count (size_range_of size.now)) n units.old units.new) }
+    ensures stop { IfErr result (λ why. StopsAtOctets (Count (size_range_of size.now)) units.old why) }
+{
+    if is_fixed(size) {
+        return Ok(size.low as usize);
+    }
+    let counts = counts_of(size);
+    Ok(read_length(counts.low, counts.high, units)? as usize)
+}
+
+/// Fast path: how many octets a string of this size has, where its length is at hand; otherwise takes nothing.
+#[inline(always)]
+pub fn try_count(size: &Size, units: &mut BitCursor<'_>) -> Option<usize>
+    requires at_octet { AtOctet units.old }
+    requires of_profile { IsSizeOfProfile (size_range_of size.now) }
+    ensures at_octet { AtOctet units.new }
+    ensures done { IfSome result (λ n. ReadsOctets (Count (size_range_of size.now)) n units.old units.new) }
+    ensures unchanged { IsNone result → units.new ≡ units.old }
+{
+    if is_fixed(size) {
+        return Some(size.low as usize);
+    }
+    let counts = counts_of(size);
+    let n = try_length(counts.low, counts.high, units)?;
+    Some(n as usize)
+}
+
+/// Fast path: the octets of a string of this size, where they are at hand and there is memory for them; otherwise takes
+/// nothing.
+#[inline(always)]
+pub fn try_sized_octets(alloc: Global, size: &Size, units: &mut BitCursor<'_>) -> Option<Vec<u8>>
+    requires at_octet { AtOctet units.old }
+    requires of_profile { IsSizeOfProfile (size_range_of size.now) }
+    ensures at_octet { AtOctet units.new }
+    ensures done { IfSome result (λ os. ReadsSized (size_range_of size.now) os.items units.old units.new) }
+    ensures unchanged { IsNone result → units.new ≡ units.old }
+{
+    let mut ahead = units.copied();
+    let count = try_count(size, &mut ahead)?;
+    let octets = try_row(alloc, count, &mut ahead)?;
+    *units = ahead;
+    Some(octets)
 }

@@ -18,7 +18,7 @@ use Rattle.asn_walk.specs.Sizes.{AreCounts}
 use Rattle.asn_oer.specs.Oer.{oer_fields}
 use Rattle.asn_oer.specs.Reading.{ValuesOf}
 use Rattle.asn_oer.proofs.Types.BitLanguages.{bit_strings, variable_language}
-use Rattle.asn_oer.proofs.Read.SizeCounts.{counts_there, counts_back}
+use Rattle.asn_walk.proofs.Counts.{counts_there, counts_back}
 
 -- ---- bits of a size
 

@@ -1,6 +1,6 @@
 -- The number of an item of an ENUMERATED as octets: where the reader of an item stands, and what it cites at each exit.
 use Rattle.std.proofs.Common.{◌==◌, ◌⊎◌, inl, inr, ◌≡◌, ◌≤◌, ◌<◌, ◌+◌, ◌-◌, ◌*◌, ◌/◌, ◌%◌, ◌^◌, ◌&&◌, ℕ, zero, suc, ℤ, pos, Bool, true, false, Option, Some, None, List, [], ◌∷◌, ◌++◌, length, refl, sym, ap, ◌∙◌, subst, arith, append_assoc, length-append, nat_lt}
-use Rattle.std.proofs.lemmas.Bool.{ltb-false, ltb-true, true≢false}
+use Rattle.std.proofs.lemmas.Bool.{ltb-false, ltb-true, le-leb, lt-ltb, and_from, true≢false}
 use Rattle.std.proofs.lemmas.List.{append-nil}
 use Rattle.std.proofs.lemmas.Nat.{pow_pos, pow-add}
 use Rattle.std.proofs.Math.Nat.{div-lt_iff_lt-mul}
@@ -223,3 +223,24 @@ below_word (suc (suc zero)) b h l = omega (arith, l)
 below_word (suc (suc (suc zero))) b h l = omega (arith, l)
 below_word (suc (suc (suc (suc zero)))) b h l = omega (arith, l)
 below_word (suc (suc (suc (suc (suc t))))) b h l = absurd (omega (arith, h))
+
+-- an item whose number is its position is told by one octet
+pub item_at_once : (root : List Label) (more : MoreLabels) → InProfile (enumerated root more) → (us after : List ℕ) (p : ℕ)
+    → p < length (root ++ more_labels more) → p < 128 → number_at (root ++ more_labels more) p ≡ pos p → us ≡ bits 8 p ++ after
+    → Spells oer_fields (Spelt oer None (enumerated root more)) (item p) (packed us) (packed after)
+item_at_once root more good us after p there small number split =
+    item_ends root more None good us 0 0 us refl p after (omega (arith, small)) split p [] (record { there = there; other = tt; whole = whole }) refl
+  where
+    flag : (int_le (pos 0) (pos p) && int_lt (pos p) (pos 128)) ≡ true
+    flag = and_from (int_le (pos 0) (pos p)) (int_lt (pos p) (pos 128)) (le-leb 0 p (omega arith)) (lt-ltb p 128 small)
+
+    short : item_number (pos p) ≡ p ∷ []
+    short = ap (λ (b : Bool). elim b [ true ↦ p ∷ [] | false ↦ (128 + length (least_signed (pos p))) ∷ least_signed (pos p) ]) flag
+
+    same : p ≡ 256 * 0 + p
+    same = omega arith
+
+    whole : item_number (number_at (root ++ more_labels more) p) ≡ octets (0 + 1) (256 * 0 + p) ++ []
+    whole =
+        ap (λ (z : ℤ). item_number z) number ∙ short ∙ sym (one_is p (omega (arith, small))) ∙ ap (λ (n : ℕ). octets 1 n) same
+        ∙ sym (append-nil (octets 1 (256 * 0 + p)))

@@ -20,55 +20,21 @@ use Rattle.asn_rules.proofs.Languages.Spellings.{same_after, same_map, same_then
 use Rattle.asn_rules.specs.OctetReading.{CountedIn}
 use Rattle.asn_rules.proofs.Octets.CountedOctets.{same_counted}
 use Rattle.asn_rules.proofs.Octets.OctetFields.{octet_fields_part}
-use Rattle.asn_walk.specs.Sizes.{AreCounts}
+use Rattle.asn_walk.specs.Sizes.{AreCounts, Count, ReadsSized}
+use Rattle.asn_bits.specs.Numbers.{packed}
+use Rattle.asn_rules.proofs.Numbers.OctetLengths.{one_octet_inhabited}
 use Rattle.asn_walk.specs.Laws.{IsSizeOfProfile}
 use Rattle.asn_oer.specs.Constructed.{Quantity}
 use Rattle.asn_oer.specs.Oer.{oer_fields}
 use Rattle.asn_oer.specs.Reading.{ValuesOf}
-use Rattle.asn_oer.specs.Strings.{Count, ItemsAfterLength, Sized}
+use Rattle.asn_oer.specs.Strings.{ItemsAfterLength, Sized}
 use Rattle.asn_oer.proofs.Types.LeftOut.{none_left_out}
 use Rattle.asn_oer.proofs.Types.StringLanguages.{octet_string_language}
 
 pub quantity_leads : (s : SizeRange) (t : NumberSet) (us : List ℕ) → AreCounts s t → Leads oer_fields (CountedIn t) us (λ n. n) (Quantity (FitsLength s)) us
 quantity_leads s t us are = leads_same oer_fields us (same_map (same_counted are.there are.back))
 
--- a set of lengths of the same numbers
-first_again : {S T : ℕ → Type 0} → ((n : ℕ) → S n → T n) → (b : ℕ) → FirstOctet S b → FirstOctet T b
-first_again f b (inl h) = inl (h.0, f b h.1)
-first_again f b (inr h) = inr (h.0, record { few = h.1.few; number = h.1.number; length = long_again f (b - 128) h.1.number h.1.length })
-  where
-    long_again : {S T : ℕ → Type 0} → ((n : ℕ) → S n → T n) → (k n : ℕ) → LongLength S k n → LongLength T k n
-    long_again f k n h = record { member = f n h.member; large = h.large; count = h.count }
-
-same_length : {S T : ℕ → Type 0} → ((n : ℕ) → S n → T n) → ((n : ℕ) → T n → S n) → Same (OctetLength S) (OctetLength T)
-same_length {S} {T} f g = same_map (same_then (same_set 256 1 (first_again f) (first_again g)) (λ b. after b (nat_lt b 128)))
-  where
-    after : (b : ℕ) (t : Bool) → Same {V = ℕ} (elim t [ true ↦ Nothing b | false ↦ Plain (InDigits 256 (b - 128) (LongLength S (b - 128))) ]) (elim t [ true ↦ Nothing b | false ↦ Plain (InDigits 256 (b - 128) (LongLength T (b - 128))) ])
-    after b true = record { to = λ v cs h. h; from = λ v cs h. h }
-    after b false = same_set 256 (b - 128) (λ n h. record { member = f n h.member; large = h.large; count = h.count }) (λ n h. record { member = g n h.member; large = h.large; count = h.count })
-
--- the counts of a size are those between the ends
-pub counts_there : (s : SizeRange) (t : NumberSet) → AreCounts s t → (n : ℕ) → Between t.low t.high n → FitsLength s n
-counts_there s t are n h = are.there n (h.0, h.1, any t.excluded n are.none_excluded)
-  where
-    any : (e : Option ℕ) (n : ℕ) → e ≡ None → IsNot e n
-    any None n e = tt
-    any (Some x) n e = absurd (let h = e in cc)
-
-pub counts_back : (s : SizeRange) (t : NumberSet) → AreCounts s t → (n : ℕ) → FitsLength s n → Between t.low t.high n
-counts_back s t are n h = (let w = are.back n h in (w.0, w.1))
-
 -- ---- how many items there are
-
--- as many as the size says
-pub fixed_count : (s : SizeRange) (us : List ℕ) → is_fixed_size s ≡ true → Spells oer_fields (Count s) s.low us us
-fixed_count s us e = subst (λ (t : Bool). Spells oer_fields (elim t [ true ↦ Nothing s.low | false ↦ OctetLength (FitsLength s) ]) s.low us us) (sym e) (nothing_spells oer_fields s.low us)
-
--- one that stands there
-pub count_leads : (s : SizeRange) (t : NumberSet) (us : List ℕ) → is_fixed_size s ≡ false → AreCounts s t → Leads oer_fields (OctetLength (Between t.low t.high)) us (λ n. n) (Count s) us
-count_leads s t us e are =
-    subst (λ (b : Bool). Leads oer_fields (OctetLength (Between t.low t.high)) us (λ n. n) (elim b [ true ↦ Nothing s.low | false ↦ OctetLength (FitsLength s) ]) us) (sym e)
-    (leads_same oer_fields us (same_length (counts_there s t are) (counts_back s t are)))
 
 -- it tells where it ends
 count_lawful : (s : SizeRange) → Lawful (Count s)
@@ -120,3 +86,8 @@ octets_size s good = record { ordered = good EmptyRange; small = good SizeTooLar
 
 pub bits_size : (s : SizeRange) → InProfile (bit_string s) → IsSizeOfProfile s
 bits_size s good = record { ordered = good EmptyRange; small = good SizeTooLarge; useful = good UselessMark }
+
+-- an OCTET STRING that is read at once
+pub octets_at_once : (s : SizeRange) (os us vs : List ℕ) → InProfile (octet_string s) → ReadsSized s os us vs → Spells oer_fields (ValuesOf (octet_string s)) (octet_list os) (packed us) (packed vs)
+octets_at_once s os us vs good h =
+    (octets_lead s (packed us) good).done os (packed vs) ((items_lead one_octet_inhabited s h.count (packed us) h.between h.told).done os (packed vs) h.octets)

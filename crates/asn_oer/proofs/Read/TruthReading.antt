@@ -1,11 +1,11 @@
 -- The octets of truth values, but for one that is left out, as a reader of BOOLEAN admits them.
-use Rattle.std.proofs.Common.{◌≡◌, ℕ, Bool, true, false, List, [], ◌∷◌, Option, Some, inl, inr, refl, subst, arith}
+use Rattle.std.proofs.Common.{◌≡◌, ℕ, Bool, true, false, List, [], ◌∷◌, Option, Some, None, inl, inr, refl, subst, arith}
 use Rattle.std.proofs.lemmas.Bool.{true≢false}
 use Rattle.std.specs.Option.{option_map}
 use Rattle.asn_values.specs.Datum.{truth}
 use Rattle.asn_values.specs.Shape.{boolean}
 use Rattle.asn_bits.specs.Sets.{Among, InDigits}
-use Rattle.asn_rules.specs.Languages.{Plain}
+use Rattle.asn_rules.specs.Languages.{Plain, Spells}
 use Rattle.asn_rules.specs.Listed.{IsOther, Spelt}
 use Rattle.asn_rules.proofs.Languages.Leads.{Leads, leads_on, leads_map, leads_same}
 use Rattle.asn_rules.proofs.Plain.NumberSets.{same_set}
@@ -40,3 +40,7 @@ pub truth_leads : (e : Option Bool) (is : List (ℕ × ℕ)) → ((n : ℕ) → 
 truth_leads e is there back us =
     leads_on (leads_same oer_fields us (same_set 256 1 there back))
     (leads_on (leads_map oer_fields truth_told (Plain (InDigits 256 1 (TruthOctet e))) us) (leads_same oer_fields us (boolean_but_one (option_map truth e))))
+
+-- the octet of a truth value, of which none is left out
+pub truth_at_once : (us vs : List ℕ) (n : ℕ) → Spells oer_fields (OctetsAmong 1 ((0, 0) ∷ (255, 255) ∷ [])) n us vs → Spells oer_fields (Spelt oer None boolean) (truth_told n) us vs
+truth_at_once us vs n h = (truth_leads None ((0, 0) ∷ (255, 255) ∷ []) (λ n a. (a, tt)) (λ n a. a.0) us).done n vs h

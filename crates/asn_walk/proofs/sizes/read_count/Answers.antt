@@ -3,8 +3,8 @@ use Rattle.std.proofs.lemmas.Result.{err_from_is_err_and}
 use Rattle.asn_values.specs.View.{size_range_of}
 use Rattle.asn_bits.specs.Numbers.{packed}
 use Rattle.asn_rules.proofs.Languages.Leads.{stops_by}
-use Rattle.asn_oer.proofs.Read.SizeCounts.{fixed_count, count_leads}
-use Rattle.asn_oer.proofs.string_reader.read_count.Goals as goal
+use Rattle.asn_walk.proofs.Counts.{fixed_count, count_leads}
+use Rattle.asn_walk.proofs.sizes.read_count.Goals as goal
 
 pub returns-then-is_fixed-clause-done : goal.returns-then-is_fixed-clause-done
 returns-then-is_fixed-clause-done c = fixed_count (size_range_of c.args.size.now) (packed c.args.units.now) (sym c.is_fixed.ensures ∙ c.if-is_fixed.true)

@@ -9,3 +9,4 @@ pub mod Writing
 pub mod WriteLaws
 pub mod Items
 pub mod Sizes
+pub mod AtOnce

@@ -5,6 +5,7 @@
 //! encodings together from these parts, each once for all rules.
 #![tactic(auto)]
 
+pub mod at_once;
 pub mod items;
 mod leaves;
 pub mod octets;

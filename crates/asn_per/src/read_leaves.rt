@@ -12,7 +12,7 @@ use crate::string_reader::{read_bits, read_characters, read_octet_string, read_u
 use asn_bits::BitCursor;
 use asn_rules::Why;
 use asn_rules::internal::{
-    NumberSet, Stop, bits_left, greatest_of_width, read_number, read_padding, read_up_to,
+    self, NumberSet, Stop, bits_left, greatest_of_width, read_number, read_padding, read_up_to,
 };
 use asn_values::{AsnType, Size, Value};
 use asn_walk::slots::{set_boolean, set_item};
@@ -158,6 +158,11 @@ impl ReadLeaves for Per {
     #[inline(always)]
     fn read_open_octets(alloc: Global, units: &mut BitCursor<'_>) -> Result<Vec<u8>, Stop> {
         read_octet_string(alloc, &Size::at_least(1), units)
+    }
+
+    #[inline(always)]
+    fn try_open_octets(units: &mut BitCursor<'_>, into: &mut [u8]) -> Option<usize> {
+        internal::try_short_octets(units, into)
     }
 
     fn read_padding(given: u128, units: &mut BitCursor<'_>) -> Result<(), Stop> {

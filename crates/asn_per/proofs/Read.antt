@@ -16,3 +16,4 @@ pub mod OpenFieldReading
 pub mod PreambleReading
 pub mod ComponentsRead
 pub mod Messages
+pub mod AtOnce

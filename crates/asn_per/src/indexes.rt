@@ -119,8 +119,7 @@ fn read_small_number(count: usize, bits: &mut BitCursor<'_>) -> Result<usize, St
     Ok(read_up_to(7, count as u64 - 1, Why::Number, bits)? as usize)
 }
 
-/// Reads an extension bit: `listed` says whether the type lists extension additions; if it does not, a set bit is
-/// refused.
+/// Reads an extension bit: a set one is refused unless the type lists extension additions, as `listed` says.
 #[inline(always)]
 pub(crate) fn read_extension_bit(listed: bool, bits: &mut BitCursor<'_>) -> Result<bool, Stop>
     ensures done { IfOk result (λ extended. ReadsMark listed extended bits.old bits.new) }

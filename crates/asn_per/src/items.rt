@@ -23,8 +23,7 @@ use asn_values::{Item, Value};
 use asn_walk::Index;
 use std::alloc::AllocError;
 
-/// Writes the item at this position: one of the root by its index in the order of the numbers, an addition by its
-/// index among the additions.
+/// Writes the item: of the root by its index in the order of the numbers, an addition by that among the additions.
 #[inline(always)]
 pub(crate) fn write_item(
     root: &[Item],
@@ -90,8 +89,7 @@ fn read_of_root(root: &[Item], excluded: Option<u32>, bits: &mut BitCursor<'_>) 
     Ok(position_of_index(root, index as usize))
 }
 
-/// Fast path: an item of a type without an extension mark, if its index is present; otherwise takes nothing. Returns
-/// its position.
+/// Fast path: an item of the root, if its index is present; otherwise takes nothing. Returns its position.
 #[inline(always)]
 pub(crate) fn try_item(
     root: &[Item],
@@ -103,16 +101,14 @@ pub(crate) fn try_item(
         Spells per_fields (ItemsBut None root.now more.now) (item i) bits.old bits.new) }
     ensures none { IsNone result → bits.new ≡ bits.old }
 {
-    let None = more else {
-        return None;
-    };
+    let mark_bits = u32::from(more.is_some());
     let highest = root.len() as u64 - 1;
     let set = NumberSet {
         low: 0,
         high: highest,
         excluded: None,
     };
-    let index = try_number(width(u128::from(highest) + 1), set, bits)?;
+    let index = try_number(mark_bits + width(u128::from(highest) + 1), set, bits)?;
     Some(position_of_index(root, index as usize))
 }
 

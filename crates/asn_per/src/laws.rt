@@ -27,15 +27,13 @@ pub fn encoding_laws()
     ensures octets { EncodesAs per_ruling per_octets }
 {}
 
-/// Each type of the profile has a value, and `no_bits` says exactly which types have only values that are spelt by no
-/// bit.
+/// Each type of the profile has a value, and `no_bits` says exactly of which types all values are spelt by no bit.
 pub fn values_and_bits()
     ensures a_value { EachHasAValue }
     ensures no_bits { NoBitsIsExact }
 {}
 
-/// Whether an encoding may follow some bits, said of all its bits and sealed fields at once, is the same said chunk by
-/// chunk.
+/// Whether an encoding may follow some bits, said of all bits and sealed fields at once, is the same said by chunks.
 pub fn live_by_parts()
     ensures { LiveByParts per_fields per_whole }
 {}

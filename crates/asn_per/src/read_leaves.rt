@@ -15,6 +15,7 @@ use asn_rules::internal::{
     self, NumberSet, Stop, bits_left, greatest_of_width, read_number, read_padding, read_up_to,
 };
 use asn_values::{AsnType, Size, Value};
+use asn_walk::at_once::{try_bits, try_marked_preamble, try_octets};
 use asn_walk::slots::{set_boolean, set_item};
 use asn_walk::{Index, Preamble, ReadLeaves};
 use std::alloc::Global;
@@ -96,6 +97,8 @@ impl ReadLeaves for Per {
                 Some(position) => set_item(position, slot),
                 None => return false,
             },
+            AsnType::Bits(size) => return try_bits(size, slot, units),
+            AsnType::Octets(size) => return try_octets(size, slot, units),
             _ => return false,
         }
         true
@@ -127,6 +130,9 @@ impl ReadLeaves for Per {
         additions: Option<usize>,
         units: &mut BitCursor<'_>,
     ) -> Result<Preamble, Stop> {
+        if let Some(preamble) = try_marked_preamble(count, additions, units) {
+            return Ok(preamble);
+        }
         let extended = match additions {
             None => false,
             Some(listed) => read_extension_bit(listed > 0, units)?,

@@ -1,6 +1,6 @@
 -- Where the readers of the preamble of a SEQUENCE and of the presence bits of its additions stand, and what they cite
 -- at each exit.
-use Rattle.std.proofs.Common.{◌≡◌, ◌≤◌, ◌<◌, ◌+◌, ◌^◌, ◌⊎◌, inl, inr, ℕ, zero, suc, Bool, true, false, nat_lt, List, [], ◌∷◌, ◌++◌, length, Some, None, refl, sym, ap, ◌∙◌, arith}
+use Rattle.std.proofs.Common.{◌≡◌, ◌≤◌, ◌<◌, ◌+◌, ◌-◌, ◌^◌, ◌⊎◌, inl, inr, ℕ, zero, suc, Bool, true, false, nat_lt, List, [], ◌∷◌, ◌++◌, length, Option, Some, None, refl, sym, ap, ◌∙◌, arith}
 use Rattle.std.proofs.lemmas.Bool.{true≢false, ltb-false}
 use Rattle.std.proofs.lemmas.Nat.{pow_pos}
 use Rattle.asn_bits.specs.Numbers.{bits}
@@ -18,16 +18,19 @@ use Rattle.asn_rules.specs.Spellings.{SpelledBy, FitsEither, either_code}
 use Rattle.asn_rules.specs.Stops.{Stops}
 use Rattle.asn_rules.specs.declared.stop.Stop.{Stop}
 use Rattle.asn_rules.specs.declared.stop.Stop.TheVariants as stop
+use Rattle.asn_rules.proofs.Languages.Parts.{contents-ones}
 use Rattle.asn_rules.proofs.Live.Chunks.{ones-append}
+use Rattle.asn_rules.proofs.Live.Flat.{flat-ones}
+use Rattle.asn_walk.specs.AtOnce.{MarkedFirst}
 use Rattle.asn_rules.proofs.Languages.Exits.{leads_zero, leads_one}
-use Rattle.asn_rules.proofs.Languages.Forks.{same_spells, fork_short, fork_refused, fork_inhabited_zero}
+use Rattle.asn_rules.proofs.Languages.Forks.{same_flip, same_spells, fork_short, fork_refused, fork_inhabited_zero}
 use Rattle.asn_rules.proofs.Languages.Leads.{LeadsStops, Leads, leads_on, leads_map, leads_same, leads_second, stops_first, stops_on}
 use Rattle.asn_rules.proofs.Numbers.Sets.{set_inhabited, set_lawful}
 use Rattle.asn_rules.proofs.Languages.Spellings.{same_after, same_map, same_then, same_spelled, set_spelled, then_spelled, map_spelled, fork_spelled, spelled_inhabited}
 use Rattle.asn_walk.specs.Coding.{CanExtend, GoodPreamble, PreambleOf, AdditionBitmapOf}
 use Rattle.asn_rules.specs.declared.number_reader.NumberSet.{NumberSet}
 use Rattle.asn_per.specs.Kinds.{AdditionCount, SomePresent}
-use Rattle.asn_per.specs.Per.{per_fields, small_length}
+use Rattle.asn_per.specs.Per.{per_fields, small_length, spelled}
 use Rattle.asn_rules.specs.NumberSets.{Admits, up_to}
 use Rattle.asn_per.specs.Reading.{StopsAtMark, only}
 use Rattle.asn_per.specs.Walk.{per_coding}
@@ -120,6 +123,22 @@ module _ (n high : ℕ) (all : high + 1 ≡ 2 ^ n) where
     marked_leads false us after e some = leads_on (leads_same per_fields after bitmaps_spelled) (leads_on (leads_zero per_fields e) (whole us))
     marked_leads true us after e some =
         leads_on (leads_same per_fields after (same_after bitmaps_spelled (same_spelled (λ m h. (h, some refl)) (λ m h. h.0) (λ m h. refl)))) (leads_on (leads_one per_fields e) (whole us))
+
+-- both, where they stand at the front
+can_extend : (k : ℕ) → 0 < k → CanExtend (Some k)
+can_extend zero h = absurd (omega arith)
+can_extend (suc k) h = tt
+
+pub marked_preamble : (n : ℕ) (a : Option ℕ) (p : Bool × ℕ) (us r : List ℕ) → MarkedFirst n a p us r → Spells per_fields (PreambleOf per_coding n a) p us r
+marked_preamble n a p us r h =
+    let all : 2 ^ n - 1 + 1 ≡ 2 ^ n = omega (arith, pow_pos n) in
+    let number : Spells per_fields (Numbered n (2 ^ n - 1) all) p.1 (bits n p.1 ++ r) r = record {
+      chunks = ones (bits n p.1);
+      spelt = record { fits = h.fits; same = refl };
+      contents = contents-ones per_fields (bits n p.1);
+      split = ap (λ t. t ++ r) (sym (flat-ones spelled (bits n p.1)));
+    } in
+    rw h.mark ((marked_leads n (2 ^ n - 1) all h.listed p.0 us (bits n p.1 ++ r) h.split (λ e. can_extend h.listed (h.some e))).done p.1 r (same_spells (same_flip (bitmaps_spelled n (2 ^ n - 1) all)) number))
 
 -- ---- the presence bits of the additions, after their count
 

@@ -43,7 +43,7 @@ plain_bits low high xs =
     let front = constrained (suc (high - low)) (length xs - low) in
     flat-append spelled (ones front) (joined xs) ∙ ap (λ (t : List ℕ). t ++ row_bits xs) (flat-ones spelled front)
 
-root_bits : (low high : ℕ) (m : Bool) (xs : List (List Chunk)) → in_size (sizing low (Some high) m) (length xs) ≡ true
+pub root_bits : (low high : ℕ) (m : Bool) (xs : List (List Chunk)) → in_size (sizing low (Some high) m) (length xs) ≡ true
     → flat spelled (sized (sizing low (Some high) m) xs) ≡ extension_bit m false ++ (bits (width (suc (high - low))) (length xs - low) ++ row_bits xs)
 root_bits low high false xs i = plain_bits low high xs
 root_bits low high true xs i =

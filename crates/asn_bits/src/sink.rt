@@ -1,12 +1,12 @@
 //! The bits that an encoder has made so far, packed into octets as they come.
-ghost use Rattle.std.specs.Prelude.{◌≡◌, ℕ, ◌+◌, ◌*◌, ◌/◌, ◌%◌, ◌^◌, ◌<◌, ◌≤◌, ◌↔◌, List, [], ◌∷◌, ◌++◌, length, OnOk, OnErr, IsTrue, vec_len, vec_capacity};
+ghost use Rattle.std.specs.Prelude.{◌≡◌, ℕ, ◌+◌, ◌*◌, ◌/◌, ◌%◌, ◌^◌, ◌<◌, ◌≤◌, ◌↔◌, List, [], ◌∷◌, ◌++◌, length, IfOk, OnOk, OnErr, IsTrue, vec_len, vec_capacity};
 ghost use Rattle.asn_bits.specs.Numbers.{bits, packed, padding, unpacked};
 ghost use Rattle.asn_bits.specs.Lengths.{general_octets};
 ghost use Rattle.asn_bits.specs.Sink.{bit_of, IsPut};
 
 use crate::lengths::put_general_octets;
 use crate::shifts::push_shifted;
-use crate::words::{full_word, last_octets, push_half, push_low, push_word, shift_in};
+use crate::words::{full_word, last_octets, push_low, push_word, shift_in};
 use asn_values::profile::BLOCK;
 use std::alloc::{AllocError, Global};
 use std::fmt;
@@ -55,6 +55,23 @@ impl BitSink {
         }
     }
 
+    /// No bits, with room for a short message.
+    ///
+    /// # Errors
+    /// `AllocError` if the allocation failed.
+    pub fn with_room(alloc: Global) -> Result<BitSink, AllocError>
+        ensures { IfOk result (λ s. s ≡ []) }
+    {
+        let octets = Vec::with_capacity(alloc, SHORT)?;
+        let limit = octets.capacity() - 23;
+        Ok(BitSink {
+            octets,
+            pending: 0,
+            count: 0,
+            limit,
+        })
+    }
+
     /// Whether no bit was pushed.
     pub fn is_empty(&self) -> bool
         ensures { IsTrue result ↔ (self.now ≡ []) }
@@ -95,9 +112,6 @@ impl BitSink {
         ensures ok { OnOk result (self.new ≡ self.old ++ bits (8 * count) n) }
         ensures err { OnErr result (self.new ≡ self.old) }
     {
-        if count == 4 {
-            return self.append_four(n);
-        }
         if count == 8 {
             return self.append_eight(n);
         }
@@ -105,19 +119,6 @@ impl BitSink {
             return self.append_after_bits(count, n);
         }
         push_low(&mut self.octets, count, n);
-        Ok(())
-    }
-
-    // adds the last four octets of n
-    #[inline(never)]
-    fn append_four(&mut self, n: u64) -> Result<(), AllocError>
-        ensures ok { OnOk result (self.new ≡ self.old ++ bits 32 n) }
-        ensures err { OnErr result (self.new ≡ self.old) }
-    {
-        if self.octets.len() >= self.limit {
-            return self.append_after_bits(4, n);
-        }
-        push_half(&mut self.octets, n);
         Ok(())
     }
 
@@ -166,6 +167,19 @@ impl BitSink {
             self.limit = 0;
         }
         Ok(())
+    }
+
+    /// As `push_octets`, and quicker where no bits wait to fill an octet and there is room.
+    #[inline(always)]
+    pub fn push_row(&mut self, octets: &[u8]) -> Result<(), AllocError>
+        ensures ok { OnOk result (self.new ≡ self.old ++ unpacked octets.now) }
+        ensures err { OnErr result (self.new ≡ self.old) }
+    {
+        if self.count == 0 && self.octets.capacity() - self.octets.len() >= octets.len() {
+            push_all(&mut self.octets, octets);
+            return Ok(());
+        }
+        self.push_octets(octets)
     }
 
     /// Adds octets under their general length, fragments and all (X.691, "general length determinant"). An `Err`
@@ -365,10 +379,21 @@ pub(crate) fn put_octets(into: &mut Vec<u8>, count: u32, pending: u64, octets: &
     if left != 0 {
         return (left, push_shifted(into, left, pending, octets));
     }
+    push_all(into, octets);
+    (left, pending)
+}
+
+// adds the octets, for which there is room
+#[inline(always)]
+fn push_all(into: &mut Vec<u8>, octets: &[u8])
+    requires { vec_len into.old + length octets.now ≤ vec_capacity into.old }
+    ensures items { into.new.items ≡ into.old.items ++ octets.now }
+    ensures len { vec_len into.new ≡ vec_len into.old + length octets.now }
+    ensures capacity { vec_capacity into.old ≤ vec_capacity into.new }
+{
     if into.extend_from_slice(octets).is_err() {
         unreachable!()
     }
-    (left, pending)
 }
 
 /// How many whole octets there are, and how many bits after them.

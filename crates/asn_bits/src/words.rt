@@ -14,19 +14,6 @@ pub(crate) fn push_word(bytes: &mut Vec<u8>, n: u64)
     }
 }
 
-// adds the last four octets of n
-pub(crate) fn push_half(bytes: &mut Vec<u8>, n: u64)
-    requires { vec_len bytes.old + 4 ≤ vec_capacity bytes.old }
-    ensures items { bytes.new.items ≡ bytes.old.items ++ octets 4 n }
-    ensures len { vec_len bytes.new ≡ vec_len bytes.old + 4 }
-    ensures capacity { vec_capacity bytes.old ≤ vec_capacity bytes.new }
-{
-    let half = (n % (1 << 32)) as u32;
-    if bytes.extend_from_slice(&half.to_be_bytes()).is_err() {
-        unreachable!()
-    }
-}
-
 // the number that the last `count` octets of n are
 pub(crate) fn last_octets(count: u32, n: u64) -> u64
     requires few { count ≤ 8 }

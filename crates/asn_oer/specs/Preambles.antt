@@ -1,6 +1,6 @@
 -- Bits that are filled up to octets with zeros, as the preamble of a SEQUENCE and the bitmap of its additions in
 -- Canonical OER (X.696): one number in as many octets as they fill.
-use Rattle.std.specs.Prelude.{◌≡◌, ◌+◌, ◌-◌, ◌/◌, ◌%◌, ◌^◌, ◌≤◌, ◌<◌, ℕ, suc, List}
+use Rattle.std.specs.Prelude.{◌≡◌, ◌+◌, ◌/◌, ◌%◌, ◌^◌, ◌≤◌, ◌<◌, ℕ, suc, List}
 use Rattle.asn_values.specs.Shape.{Fields, no_fields, field, MoreFields, closed, marked}
 use Rattle.asn_rules.specs.Chunks.{Chunk}
 use Rattle.asn_rules.specs.Languages.{Then, Map, Plain}

@@ -1,5 +1,5 @@
 -- What encodings of strings consist of in Canonical OER (X.696).
-use Rattle.std.specs.Prelude.{◌≡◌, ◌-◌, ◌≤◌, ℕ, true, false, List, length, IsUtf8}
+use Rattle.std.specs.Prelude.{◌≡◌, ◌≤◌, ℕ, true, false, List, length, IsUtf8}
 use Rattle.asn_values.specs.Datum.{Datum, bit_list, octet_list, characters, unicode}
 use Rattle.asn_values.specs.Shape.{SizeRange, Alphabet}
 use Rattle.asn_values.specs.Fits.{FitsLength, max_len}

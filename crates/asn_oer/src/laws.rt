@@ -3,12 +3,11 @@ ghost use Rattle.asn_oer.specs.Words.{DecodesTheEncoded, EncodesTheDecoded, Only
 
 /// The encodings of each kind of type of the profile are put together from those of its parts.
 ///
-/// An octet of a set, a number in a fixed count of octets or after their count, octets after a length, a
-/// field that is judged at its end: each kind of type is some of these, one after the other, of
-/// which the earlier may decide what follows, seen as a value of the type. The parts spell each
-/// value as its encoding does, and nothing else, so what holds of readers of the parts holds of
-/// readers of the kind. Of BOOLEAN and ENUMERATED the same is said of the values but for one, as a
-/// component with a DEFAULT is spelt.
+/// An octet of a set, a number in a fixed count of octets or after their count, octets after a length, a field that is
+/// judged at its end: each kind of type is some of these, one after the other, of which the earlier may decide what
+/// follows, seen as a value of the type. The parts spell each value as its encoding does, and nothing else, so what
+/// holds of readers of the parts holds of readers of the kind. Of BOOLEAN and ENUMERATED the same is said of the values
+/// but for one, as a component with a DEFAULT is spelt.
 pub fn kinds_compose()
     ensures { KindsCompose }
 {}
@@ -25,9 +24,8 @@ pub fn decoding_is_unique()
     ensures part { SpellingsPart oer }
 {}
 
-/// OER keeps the laws of encoding rules: an encoding has one value, a value that fits has one
-/// encoding, which consists of octets, and no encoding begins another. The encoding of a value is
-/// `oer_octets` of it.
+/// OER keeps the laws of encoding rules: an encoding has one value, a value that fits has one encoding, which consists
+/// of octets, and no encoding begins another. The encoding of a value is `oer_octets` of it.
 pub fn encoding_laws()
     ensures laws { RulesLaws oer_ruling }
     ensures octets { EncodesAs oer_ruling oer_octets }

@@ -6,12 +6,14 @@ use crate::enumerated::read_item;
 use crate::integer::{read_integer, try_fixed};
 use crate::rules::Oer;
 use crate::string_reader::{read_bit_string, read_octet_string, read_text, read_utf8_string};
+use asn_bits::internal::at_offset;
 use asn_bits::{BitCursor, Intervals};
 use asn_rules::internal::{
-    self, NumberSet, Stop, read_counted, read_filled, read_length, read_octets, read_octets_among,
-    read_octets_with_length,
+    self, Stop, numbers, offsets_of, read_counted, read_filled, read_length, read_octets,
+    read_octets_among, read_octets_with_length, try_counted_signed,
 };
 use asn_rules::{MAX_OCTETS, Why};
+use asn_values::profile::LOWEST_INTEGER;
 use asn_values::{AsnType, Size, Value};
 use asn_walk::octets::{try_item, try_truth};
 use asn_walk::sizes::{counts_of, try_sized_octets};
@@ -28,12 +30,10 @@ impl ReadLeaves for Oer {
 
     ghost is_between = { λ e. ⊤ };
 
-    #[inline(always)]
     fn units_left(units: &BitCursor<'_>) -> u128 {
         internal::octets_left(units) as u128
     }
 
-    #[inline(always)]
     fn octets_left(units: &BitCursor<'_>) -> usize {
         internal::octets_left(units)
     }
@@ -81,6 +81,10 @@ impl ReadLeaves for Oer {
                 (Some(low), Some(high)) if !bounds.ext => {
                     Some(Value::Int(try_fixed(low, high, units)?))
                 }
+                _ if bounds.ext => {
+                    let offset = try_counted_signed(offsets_of(None, None, None), units)?;
+                    Some(Value::Int(at_offset(LOWEST_INTEGER, offset)))
+                }
                 _ => None,
             },
             AsnType::Enum { root, ext } => Some(Value::Enum(try_item(root, ext, units)?)),
@@ -109,12 +113,7 @@ impl ReadLeaves for Oer {
         let length = u64::from((count + 7) / 8 + 1);
         let unused = u64::from((8 - count % 8) % 8);
         read_length(length, length, units)?;
-        let only = NumberSet {
-            low: unused,
-            high: unused,
-            excluded: None,
-        };
-        read_octets(1, only, Why::Extension, units)?;
+        read_octets(1, numbers(unused, unused), Why::Extension, units)?;
         let (_, bitmap) = read_filled(0, 0, count, 1, Why::Extension, units)?;
         Ok(bitmap)
     }
@@ -126,11 +125,7 @@ impl ReadLeaves for Oer {
         units: &mut BitCursor<'_>,
     ) -> Result<Index, Stop> {
         // the octet of a context-specific tag, which counts the alternatives from 0, root first
-        let tags = NumberSet {
-            low: 128,
-            high: 127 + (root + additions.unwrap_or(0)) as u64,
-            excluded: None,
-        };
+        let tags = numbers(128, 127 + (root + additions.unwrap_or(0)) as u64);
         let tag = (read_octets(1, tags, Why::Number, units)? - 128) as usize;
         if tag < root {
             Ok(Index::Root(tag))
@@ -142,6 +137,11 @@ impl ReadLeaves for Oer {
     #[inline(always)]
     fn read_open_octets(alloc: Global, units: &mut BitCursor<'_>) -> Result<Vec<u8>, Stop> {
         read_octets_with_length(alloc, 0, MAX_OCTETS as u64, units)
+    }
+
+    #[inline(always)]
+    fn try_open_octets(units: &mut BitCursor<'_>, into: &mut [u8]) -> Option<usize> {
+        internal::try_short_octets(units, into)
     }
 
     #[inline(always)]
@@ -164,7 +164,6 @@ impl ReadLeaves for Oer {
         Ok(elements.take())
     }
 
-    #[inline(always)]
     fn keep_laws() {}
 }
 

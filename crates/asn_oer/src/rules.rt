@@ -31,7 +31,6 @@ impl Reads for Oer {
         octets as u64
     }
 
-    #[inline(always)]
     fn keep_reading_laws() {}
 }
 
@@ -45,6 +44,11 @@ impl Rules for Oer {
     #[tactic(auto, unfolding(crate::specs::Walk::oer_coding))]
     fn encode(alloc: Global, ty: &Checked, value: &Value) -> Result<Vec<u8>, EncodeFault> {
         asn_walk_write::encode::<Oer>(alloc, ty, value)
+    }
+
+    #[inline(always)]
+    fn decode(alloc: Global, ty: &Checked, octets: &[u8]) -> Result<Value, DecodeFault> {
+        internal::decode_at_once::<Oer>(alloc, ty, octets)
     }
 
     fn open(alloc: Global, ty: Checked) -> Result<Rereading, OpenFault> {

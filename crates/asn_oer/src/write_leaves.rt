@@ -29,7 +29,7 @@ impl WriteLeaves for Oer {
     fn write_simple(ty: &AsnType, value: &Value, sink: &mut BitSink) -> Result<(), EncodeFault> {
         match (ty, value) {
             (AsnType::Bool, Value::Bool(truth)) => {
-                Ok(sink.push_low_octets(1, if *truth { 0xff } else { 0 })?)
+                Ok(sink.push_low_octets(1, 255 * u64::from(*truth))?)
             }
             (AsnType::Null, Value::Null) => Ok(()),
             (AsnType::Int(bounds), Value::Int(value)) => write_integer(bounds, *value, sink),
@@ -120,7 +120,6 @@ impl WriteLeaves for Oer {
         Ok(sink.into_octets())
     }
 
-    #[inline(always)]
     fn keep_write_laws() {}
 }
 

@@ -30,12 +30,10 @@ impl ReadLeaves for Per {
 
     ghost is_between = { IsBetween };
 
-    #[inline(always)]
     fn units_left(units: &BitCursor<'_>) -> u128 {
         bits_left(units)
     }
 
-    #[inline(always)]
     fn octets_left(units: &BitCursor<'_>) -> usize {
         units.octets_left()
     }
@@ -191,6 +189,5 @@ impl ReadLeaves for Per {
         fragments.next(units)
     }
 
-    #[inline(always)]
     fn keep_laws() {}
 }

@@ -34,7 +34,6 @@ impl Reads for Per {
         8 * octets as u64
     }
 
-    #[inline(always)]
     fn keep_reading_laws() {}
 }
 
@@ -48,6 +47,11 @@ impl Rules for Per {
     #[tactic(auto, unfolding(crate::specs::Walk::per_coding))]
     fn encode(alloc: Global, ty: &Checked, value: &Value) -> Result<Vec<u8>, EncodeFault> {
         asn_walk_write::encode::<Per>(alloc, ty, value)
+    }
+
+    #[inline(always)]
+    fn decode(alloc: Global, ty: &Checked, octets: &[u8]) -> Result<Value, DecodeFault> {
+        internal::decode_at_once::<Per>(alloc, ty, octets)
     }
 
     fn open(alloc: Global, ty: Checked) -> Result<Rereading, OpenFault> {

@@ -118,6 +118,5 @@ impl WriteLeaves for Per {
         Ok(sink.into_octets())
     }
 
-    #[inline(always)]
     fn keep_write_laws() {}
 }

@@ -8,10 +8,12 @@ pub use crate::number_reader::{
     NumberSet, admits, bits_left, read_number, read_number_among, read_padding, read_up_to,
     try_number,
 };
-pub use crate::octet_length_reader::{read_length, read_octets_with_length, try_length, try_row};
+pub use crate::octet_length_reader::{
+    read_length, read_octets_with_length, read_row, try_length, try_row,
+};
 pub use crate::octet_reader::{
-    octets_left, read_counted, read_counted_signed, read_filled, read_octets, read_octets_among,
-    read_row, read_signed_octets, try_octets, try_signed_octets,
+    numbers, octets_left, read_counted, read_counted_signed, read_filled, read_octets,
+    read_octets_among, read_signed_octets, try_counted_signed, try_octets, try_signed_octets,
 };
 pub use crate::octet_strings::{read_characters, read_packed, read_variable};
 pub use crate::octet_writer::{
@@ -19,7 +21,7 @@ pub use crate::octet_writer::{
     write_least_signed, write_length,
 };
 pub use crate::readings::{one_reading, readings_answer};
-pub use crate::rereading::{Reads, Rereading, feed, finish, open};
+pub use crate::rereading::{Reads, Rereading, decode_at_once, feed, finish, open};
 pub use crate::short_octets::try_short_octets;
 pub use crate::signed_reader::{OffsetSet, read_signed, read_unconstrained};
 pub use crate::stop::Stop;

@@ -1,5 +1,5 @@
-//! Readers of length determinants in octets (X.696, "length determinant"), and of octets after one, each refused at the
-//! first octet after which nothing that it reads can follow.
+//! Readers of length determinants in octets (X.696, "length determinant"), and of octets in a row, after one or
+//! not, each refused at the first octet after which nothing that it reads can follow.
 ghost use Rattle.std.specs.Prelude.{◌≡◌, ◌≤◌, ◌<◌, ◌^◌, IfOk, IfErr, OnOk, IfSome, IsNone};
 ghost use Rattle.asn_bits.specs.Sets.{Between};
 ghost use Rattle.asn_rules.specs.Fields.{OctetLength, OctetsAfterLength, OneOctet};
@@ -8,7 +8,7 @@ ghost use Rattle.asn_rules.specs.OctetReading.{AtOctet, ReadsOctets, StopsAtOcte
 
 use crate::fault::Why;
 use crate::number_reader::try_in_octets;
-use crate::octet_reader::{numbers, octets_left, read_row};
+use crate::octet_reader::{numbers, octets_left};
 use crate::stop::Stop;
 use crate::whole_number_reader::greatest_of_width;
 use asn_bits::internal::octet_count;
@@ -160,4 +160,21 @@ pub fn try_row(alloc: Global, count: usize, units: &mut BitCursor<'_>) -> Option
         Ok(octets) => Some(octets),
         Err(_) => None,
     }
+}
+
+/// Reads `count` octets, all at once.
+///
+/// # Errors
+/// `Short` if fewer octets are left. `Memory` if an allocation failed.
+pub fn read_row(alloc: Global, count: usize, units: &mut BitCursor<'_>) -> Result<Vec<u8>, Stop>
+    requires at_octet { AtOctet units.old }
+    ensures at_octet { OnOk result (AtOctet units.new) }
+    ensures done { IfOk result (λ os. ReadsOctets (Row OneOctet count) os.items units.old units.new) }
+    ensures stop { IfErr result (λ why. StopsAtOctets (Row OneOctet count) units.old why) }
+{
+    if octets_left(units) < count {
+        return Err(Stop::Short);
+    }
+    let octets = units.take_row(alloc, count)?;
+    Ok(octets)
 }

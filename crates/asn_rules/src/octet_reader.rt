@@ -1,5 +1,5 @@
 //! Readers of whole octets, each refused at the first octet after which nothing that it reads can follow: numbers in a
-//! fixed count of octets and after their count, bits that zeros fill up, and octets in a row.
+//! fixed count of octets and after their count, and bits that zeros fill up.
 ghost use Rattle.std.specs.Prelude.{◌≡◌, ◌≤◌, ◌*◌, IfOk, IfErr, OnOk, IfSome, IsNone, length, ℕ, pos, ◌+ℤ◌, ◌<◌, ◌+◌, ◌^◌, ◌%◌, ◌-◌};
 ghost use Rattle.asn_values.specs.Fits.{lowest_integer};
 ghost use Rattle.asn_bits.specs.Numbers.{packed};
@@ -7,19 +7,20 @@ ghost use Rattle.asn_bits.specs.Sets.{AreBits, Meets, Among};
 ghost use Rattle.asn_rules.specs.NumberSets.{Admits, NumberIn};
 ghost use Rattle.asn_rules.specs.PlainReading.{ReadsPlain, StopsPlain};
 ghost use Rattle.asn_rules.specs.OffsetSets.{HasOffset, IsOpen, StandsFor};
-ghost use Rattle.asn_rules.specs.Fields.{OneOctet, octet_fields};
-ghost use Rattle.asn_rules.specs.Languages.{Row, Spells};
+ghost use Rattle.asn_rules.specs.Fields.{octet_fields};
+ghost use Rattle.asn_rules.specs.Languages.{Spells};
 ghost use Rattle.asn_rules.specs.Stops.{Stops};
 ghost use Rattle.asn_rules.specs.OctetReading.{AtOctet, ReadsOctets, StopsAtOctets, counted_in_octets, OctetsIn, OctetsAmong, AreWithCount, AreTrimmed, CountedIn, CountedSignedIn, SignedOctetsIn, FilledFields, FilledBits, from_to};
 
 use crate::fault::Why;
 use crate::number_reader::{NumberSet, read_number, read_number_among, read_up_to, try_in_octets};
-use crate::signed_reader::{OffsetSet, read_signed, read_unconstrained, try_signed};
+use crate::signed_reader::{
+    OffsetSet, read_signed, read_unconstrained, try_signed, try_unconstrained,
+};
 use crate::stop::Stop;
 use crate::whole_number_reader::{greatest_of_width, greatest_with, least_with};
 use asn_bits::internal::octet_count;
 use asn_bits::{BitCursor, Intervals};
-use std::alloc::Global;
 
 /// How many octets are left.
 pub fn octets_left(units: &BitCursor<'_>) -> usize
@@ -189,6 +190,19 @@ pub fn read_counted_signed(
         Ok(offset) => Ok(offset),
         Err(stop) => Err(in_octets(stop)),
     }
+}
+
+/// Fast path: the same, where eight octets are left and it needs fewer; otherwise takes nothing.
+#[inline(always)]
+pub fn try_counted_signed(set: OffsetSet, units: &mut BitCursor<'_>) -> Option<u64>
+    requires at_octet { AtOctet units.old }
+    ensures at_octet { AtOctet units.new }
+    ensures done { IfSome result (λ w.
+        ReadsOctets (CountedSignedIn set) (lowest_integer +ℤ pos w) units.old units.new) }
+    ensures unchanged { IsNone result → units.new ≡ units.old }
+{
+    let offset = try_unconstrained(set, units)?;
+    Some(offset)
 }
 
 /// Reads an integer of the set in `count` octets of two's complement. Returns its offset.
@@ -364,7 +378,7 @@ fn read_from(k: u32, low: u64, units: &mut BitCursor<'_>) -> Result<u64, Stop>
 }
 
 /// The numbers from `low` to `high`.
-pub(crate) fn numbers(low: u64, high: u64) -> NumberSet
+pub fn numbers(low: u64, high: u64) -> NumberSet
     ensures { result ≡ from_to low high }
 {
     NumberSet {
@@ -372,21 +386,4 @@ pub(crate) fn numbers(low: u64, high: u64) -> NumberSet
         high,
         excluded: None,
     }
-}
-
-/// Reads `count` octets, all at once.
-///
-/// # Errors
-/// `Short` if fewer octets are left. `Memory` if an allocation failed.
-pub fn read_row(alloc: Global, count: usize, units: &mut BitCursor<'_>) -> Result<Vec<u8>, Stop>
-    requires at_octet { AtOctet units.old }
-    ensures at_octet { OnOk result (AtOctet units.new) }
-    ensures done { IfOk result (λ os. ReadsOctets (Row OneOctet count) os.items units.old units.new) }
-    ensures stop { IfErr result (λ why. StopsAtOctets (Row OneOctet count) units.old why) }
-{
-    if octets_left(units) < count {
-        return Err(Stop::Short);
-    }
-    let octets = units.take_row(alloc, count)?;
-    Ok(octets)
 }

@@ -10,8 +10,8 @@ ghost use Rattle.asn_rules.specs.OctetStrings.{Character, IsValidCount, PackedBi
 use crate::bit_vectors::{push_bits, push_octets};
 use crate::fault::Why;
 use crate::number_reader::NumberSet;
-use crate::octet_length_reader::read_length;
-use crate::octet_reader::{octets_left, read_filled, read_octets, read_row};
+use crate::octet_length_reader::{read_length, read_row};
+use crate::octet_reader::{octets_left, read_filled, read_octets};
 use crate::stop::Stop;
 use asn_bits::BitCursor;
 use asn_values::TextKind;

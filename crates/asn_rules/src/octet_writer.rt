@@ -25,9 +25,14 @@ pub fn write_length(length: usize, sink: &mut BitSink) -> Result<(), AllocError>
 {
     let length = length as u64;
     if length < LONG {
-        return sink.push_low_octets(1, length);
+        sink.push_low_octets(1, length)
+    } else if length < 1 << 8 {
+        sink.push_low_octets(2, 0x8100 + length)
+    } else if length < 1 << 16 {
+        sink.push_low_octets(3, 0x82_0000 + length)
+    } else {
+        write_long_length(length, sink)
     }
-    write_long_length(length, sink)
 }
 
 /// Writes a length that one octet does not tell.
@@ -49,7 +54,7 @@ pub fn write_content(octets: &[u8], sink: &mut BitSink) -> Result<(), AllocError
     ensures { Adds result sink.old sink.new (spelled octets.now) }
 {
     write_length(octets.len(), sink)?;
-    sink.push_octets(octets)
+    sink.push_row(octets)
 }
 
 /// Writes the zeros that fill up the last octet of `count` bits.
@@ -92,8 +97,14 @@ pub fn write_least_signed(z: i128, sink: &mut BitSink) -> Result<(), AllocError>
 {
     let count = signed_octet_count(z);
     let residue = signed_residue(z, count);
-    sink.push_low_octets(1, u64::from(count))?;
-    sink.push_low_octets(count, residue)
+    match count {
+        1 => sink.push_low_octets(2, (1 << 8) + residue),
+        2 => sink.push_low_octets(3, (2 << 16) + residue),
+        _ => {
+            sink.push_low_octets(1, u64::from(count))?;
+            sink.push_low_octets(count, residue)
+        }
+    }
 }
 
 /// Writes the last octets of `n`, as many of 1, 2, 4 and 8 as hold the numbers up to `greatest`.

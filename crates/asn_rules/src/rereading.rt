@@ -7,13 +7,15 @@ ghost use Rattle.std.specs.Prelude.{◌≡◌, ◌≤◌, ◌<◌, ◌++◌, ℕ
 ghost use Rattle.asn_values.specs.Shape.{Shape};
 ghost use Rattle.asn_values.specs.View.{shape_of};
 ghost use Rattle.asn_rules.specs.Answer.{Ruling, max_octets};
+ghost use Rattle.asn_rules.specs.Codec.{Decoded};
 ghost use Rattle.asn_rules.specs.Reading.{RulesTell};
 ghost use Rattle.asn_rules.specs.Rereading.{FedAtOnce, TellsIfNone, Keeps, MoreKeeps};
 ghost use Rattle.asn_rules.specs.Sessions.{Past, waiting, Feeds, Finished};
 
+use crate::fault::DecodeFault;
 use crate::limits::MAX_OCTETS;
 use crate::session::{FeedFault, OpenFault, Step, Truncated};
-use asn_values::Checked;
+use asn_values::{Checked, Value};
 use bytes::BytesMut;
 use std::alloc::{AllocError, Global};
 use std::fmt;
@@ -68,6 +70,36 @@ pub struct Rereading {
     state: State,
     // what `finish` answers
     end: Result<(), Truncated>,
+}
+
+/// The value of the type whose complete encoding the octets are, read where they lie: see `asn_rules::decode`.
+///
+/// # Errors
+/// As `asn_rules::decode`.
+#[inline(always)]
+pub fn decode_at_once<R: Reads>(
+    alloc: Global,
+    ty: &Checked,
+    octets: &[u8],
+) -> Result<Value, DecodeFault>
+    ensures { Decoded R.ruling result (shape_of ty.now) octets.now }
+{
+    match R::read(alloc, ty, octets) {
+        Ok(Step::Done { value, used }) => {
+            if used < octets.len() {
+                return Err(DecodeFault::Rest { used });
+            }
+            Ok(value)
+        }
+        Ok(Step::More) => {
+            let taken = cut_after::<R>(octets.len()).taken;
+            Err(DecodeFault::Truncated { taken })
+        }
+        Err(FeedFault::Refused { at, why }) => Err(DecodeFault::Refused { at, why }),
+        Err(FeedFault::TooLong) => Err(DecodeFault::TooLong),
+        Err(FeedFault::Memory) => Err(DecodeFault::Memory),
+        Err(FeedFault::Spent) => unreachable!(),
+    }
 }
 
 /// A session for a value of the type, which has taken no octet.

@@ -38,6 +38,13 @@ pub trait Rules {
         ensures within { IfOk result (λ o. vec_len o ≤ max_octets) }
         ensures fault { IfErr result (λ why. NotEncoded ruling why (shape_of ty.now) (datum_of value.now)) };
 
+    /// The value of the type whose complete encoding the octets are: what `asn_rules::decode` answers.
+    ///
+    /// # Errors
+    /// As `asn_rules::decode`.
+    fn decode(alloc: Global, ty: &Checked, octets: &[u8]) -> Result<Value, DecodeFault>
+        ensures { Decoded ruling result (shape_of ty.now) octets.now };
+
     /// A session for a value of the type, which has taken no octet.
     ///
     /// # Errors
@@ -82,28 +89,9 @@ pub trait Rules {
 /// the number of units of all the octets. `Rest` where the first `used` octets are an encoding, and more follow it.
 /// `TooLong` where the octets that are read are 268,435,455 and only a longer encoding may begin so. `Memory` where an
 /// allocation failed.
+#[inline(always)]
 pub fn decode<R: Rules>(alloc: Global, ty: &Checked, octets: &[u8]) -> Result<Value, DecodeFault>
     ensures { Decoded R.ruling result (shape_of ty.now) octets.now }
 {
-    let Ok(mut session) = R::open(alloc, ty.copy()?) else {
-        return Err(DecodeFault::Memory);
-    };
-    let answer = R::feed(&mut session, octets);
-    let end = R::finish(session);
-    match answer {
-        Ok(Step::Done { value, used }) => {
-            if used < octets.len() {
-                return Err(DecodeFault::Rest { used });
-            }
-            Ok(value)
-        }
-        Ok(Step::More) => match end {
-            Err(Truncated { taken }) => Err(DecodeFault::Truncated { taken }),
-            Ok(()) => unreachable!(),
-        },
-        Err(FeedFault::Refused { at, why }) => Err(DecodeFault::Refused { at, why }),
-        Err(FeedFault::TooLong) => Err(DecodeFault::TooLong),
-        Err(FeedFault::Memory) => Err(DecodeFault::Memory),
-        Err(FeedFault::Spent) => unreachable!(),
-    }
+    R::decode(alloc, ty, octets)
 }

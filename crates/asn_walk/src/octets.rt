@@ -4,7 +4,7 @@ ghost use Rattle.asn_values.specs.Profile.{InProfile};
 ghost use Rattle.asn_bits.specs.Numbers.{bits};
 ghost use Rattle.asn_rules.specs.Components.{number_at};
 ghost use Rattle.asn_rules.specs.OctetReading.{AtOctet, ReadsOctets, OctetsAmong, from_to};
-ghost use Rattle.asn_walk.specs.Items.{enumeration_of, items_of};
+ghost use Rattle.asn_walk.specs.Items.{enumeration_of, items_of, IsNumberOctet};
 
 use crate::items::{item_count, number_at};
 use asn_bits::BitCursor;
@@ -38,26 +38,26 @@ fn only(n: u64) -> NumberSet
     }
 }
 
-/// Fast path: the position of an item whose number is its position, where an octet of this number below 128 is at
-/// hand; otherwise takes nothing.
+/// Fast path: the position of the item whose number is the next octet, where the numbers before it run on from the first
+/// item's without a gap, and the octet is at hand and below 128; otherwise takes nothing.
 #[inline(always)]
 pub fn try_item(root: &[Item], more: &Option<Vec<Item>>, units: &mut BitCursor<'_>) -> Option<u32>
     requires at_octet { AtOctet units.old }
     requires of_profile { InProfile (enumeration_of root.now more.now) }
     ensures at_octet { AtOctet units.new }
     ensures there { IfSome result (λ p. p < length (items_of root.now more.now)) }
-    ensures small { IfSome result (λ p. p < 128) }
-    ensures number { IfSome result (λ p. number_at (items_of root.now more.now) p ≡ pos p) }
-    ensures octet { IfSome result (λ p. units.old ≡ bits 8 p ++ units.new) }
+    ensures number { IfSome result (λ p. IsNumberOctet (items_of root.now more.now) p units.old units.new) }
     ensures unchanged { IsNone result → units.new ≡ units.old }
 {
     let octet = units.peek_octet()?;
-    if 128 <= octet || u64::from(item_count(root, more)) <= octet {
+    let first = root.first()?.number;
+    let position = octet.wrapping_sub(first.cast_unsigned());
+    if 128 <= octet || u64::from(item_count(root, more)) <= position {
         return None;
     }
-    if number_at(root, more, octet as usize) != octet as i64 {
+    if number_at(root, more, position as usize) != octet as i64 {
         return None;
     }
     units.pass_octets(1);
-    Some(octet as u32)
+    Some(position as u32)
 }

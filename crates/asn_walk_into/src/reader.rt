@@ -6,8 +6,6 @@ ghost use Rattle.std.specs.Prelude.{◌≡◌, ◌≤◌, ◌<◌, ◌+◌, ◌%
 ghost use Rattle.asn_values.specs.Profile.{InProfile};
 ghost use Rattle.asn_values.specs.Parts.{AreAllOfProfile};
 ghost use Rattle.asn_values.specs.View.{shape_of, datum_of, alternatives_seen};
-ghost use Rattle.asn_rules.specs.Chunks.{open_field};
-ghost use Rattle.asn_rules.specs.Frames.{Frame};
 ghost use Rattle.asn_walk.specs.Coding.{OpenOf};
 ghost use Rattle.asn_walk.specs.Reading.{Reads, ReadsValue, ReadsComplete, ReadsOpen, StopsAt, ValuesOf, CompleteOf, AlternativeOf, OpenAlternativeOf, RowOf, RestOf, ReadsRest, OverwritesRow};
 
@@ -19,15 +17,12 @@ use asn_rules::internal::Stop;
 use asn_values::{Alt, AsnType, Value};
 use asn_walk::slots::set_integer;
 use asn_walk::{Index, ReadLeaves};
-use asn_walk_read::{added_count, try_integer};
+use asn_walk_read::{SHORT_OPEN_FIELD, added_count, read_open_octets, try_integer};
 use std::alloc::Global;
 
 /// The most elements of a SEQUENCE OF for which capacity is reserved at once: an announced count alone must not
 /// allocate more.
 const RESERVED_AT_ONCE: usize = 1024;
-
-/// The most octets of an open type field that are read without an allocation.
-const SHORT_OPEN_FIELD: usize = 128;
 
 /// Reads a value of the type into the one that is there, which may be any value.
 #[inline(always)]
@@ -195,29 +190,6 @@ pub(crate) fn read_open_into<R: ReadLeaves>(
         Err(Stop::Refused { .. }) => Err(no_value),
         Err(Stop::Memory) => Err(Stop::Memory),
     }
-}
-
-/// Reads the octets of an open type field, without its length: into `short`, where they are at hand and fit, and else
-/// into `long`.
-#[inline(always)]
-fn read_open_octets<'a, R: ReadLeaves>(
-    alloc: Global,
-    units: &mut BitCursor<'_>,
-    short: &'a mut [u8],
-    long: &'a mut Vec<u8>,
-) -> Result<&'a [u8], Stop>
-    requires at_unit { R.rules.at_unit units.old }
-    ensures at_unit { OnOk result (R.rules.at_unit units.new) }
-    ensures done { IfOk result (λ os.
-        Reads R.rules (Frame R.rules.ruling.fielding open_field) os.now units.old units.new) }
-    ensures stop { IfErr result (λ why.
-        StopsAt R.rules (Frame R.rules.ruling.fielding open_field) units.old why) }
-{
-    if let Some(count) = R::try_open_octets(units, short) {
-        return Ok(&short[..count]);
-    }
-    *long = R::read_open_octets(alloc, units)?;
-    Ok(long.as_slice())
 }
 
 /// Reads a CHOICE, whose box is kept.

@@ -4,7 +4,7 @@ use Rattle.std.specs.Option.{option_map}
 use Rattle.asn_values.specs.declared.types.Alt.{Alt}
 use Rattle.asn_values.specs.declared.types.AsnType.{AsnType}
 use Rattle.asn_values.specs.declared.types.AsnType as asn_type
-use Rattle.asn_values.specs.Datum.{Datum, alternative}
+use Rattle.asn_values.specs.Datum.{alternative}
 use Rattle.asn_values.specs.Shape.{Alternatives, no_alternatives, one_of, MoreAlternatives, closed_choice, marked_choice, more_alternatives, choice, count}
 use Rattle.asn_values.specs.Profile.{InProfile}
 use Rattle.asn_values.specs.View.{shape_of, branch_of, alternatives_of, more_alternatives_of}

@@ -1,6 +1,6 @@
 -- What the reader of a message says of the units of the octets that are read is what the decoder answers to all
 -- octets.
-use Rattle.std.proofs.Common.{◌≡◌, ◌≤◌, ◌<◌, ◌+◌, ⊎_elim, ◌-◌, ◌*◌, ◌%◌, ◌/◌, ℕ, List, [], ◌∷◌, ◌++◌, length, take, drop, min, zero, suc, length-append, length-drop, refl, sym, ap, ◌∙◌, subst, arith}
+use Rattle.std.proofs.Common.{◌≡◌, ◌≤◌, ◌<◌, ◌+◌, ⊎_elim, ◌-◌, ◌*◌, ◌%◌, ◌/◌, ℕ, List, [], ◌∷◌, length, take, drop, min, zero, suc, length-append, length-drop, refl, sym, ap, ◌∙◌, arith}
 use Rattle.std.proofs.lemmas.Bool.{cases_lt}
 use Rattle.std.proofs.lemmas.List.{length-take-le}
 use Rattle.std.proofs.lemmas.Nat.{div-mul-add, mod-mul-add, mul-le}
@@ -15,7 +15,6 @@ use Rattle.asn_rules.specs.Reading.{Wholes, ReadingsAnswer}
 use Rattle.asn_rules.proofs.Answer.Reading.{readings_answer}
 use Rattle.asn_walk.specs.Coding.{Coding}
 use Rattle.asn_walk.specs.Laws.{Laws}
-use Rattle.asn_walk_read.proofs.OpenRead.{left_fewer}
 
 -- ---- the octets that are read
 

@@ -1,5 +1,5 @@
 -- Where the reader of a list stands, in any rules.
-use Rattle.std.proofs.Common.{◌≡◌, ◌≤◌, ◌<◌, ◌+◌, ◌-◌, ◌*◌, ◌⊎◌, inl, inr, ⊎_elim, ℕ, zero, suc, nat_lt, Bool, true, false, List, [], ◌∷◌, ◌++◌, length, length-append, append-nil, append_assoc, Option, Some, None, refl, sym, ap, subst, ◌∙◌, arith}
+use Rattle.std.proofs.Common.{◌≡◌, ◌≤◌, ◌<◌, ◌+◌, ◌-◌, ◌*◌, ◌⊎◌, inl, inr, ⊎_elim, ℕ, nat_lt, Bool, true, false, List, [], ◌∷◌, ◌++◌, length, length-append, append-nil, append_assoc, Option, Some, None, refl, sym, ap, subst, ◌∙◌, arith}
 use Rattle.asn_values.specs.Shape.{Shape, SizeRange, sequence_of}
 use Rattle.asn_values.specs.Datum.{elements, elements_of}
 use Rattle.asn_values.specs.Profile.{InProfile, EmptyRange, SizeTooLarge, UselessMark, size_above, large_size, is_every_length, somewhere, empty_range, size_too_large, useless_mark}
@@ -7,7 +7,7 @@ use Rattle.asn_values.proofs.Parts.{left_false}
 use Rattle.asn_bits.specs.Ranges.{Spanned, At}
 use Rattle.asn_bits.specs.Sets.{InSet}
 use Rattle.asn_rules.specs.Chunks.{Chunk, one, flat}
-use Rattle.asn_rules.specs.Languages.{Spells, Lawful, Inhabited, Then, Map, Nothing, Row, Plain}
+use Rattle.asn_rules.specs.Languages.{Spells, Lawful, Inhabited, Then, Nothing, Row, Plain}
 use Rattle.asn_rules.specs.Listed.{Spelt}
 use Rattle.asn_rules.specs.Live.{Fielding}
 use Rattle.asn_rules.specs.Forks.{Branch, Fork, Same}
@@ -25,7 +25,7 @@ use Rattle.asn_rules.proofs.Numbers.Ranges.{general_left}
 use Rattle.asn_rules.proofs.Languages.Rows.{row_inhabited, row_starts, row_spells, row_one}
 use Rattle.asn_rules.proofs.Languages.Then.{Follows}
 use Rattle.asn_walk.specs.Ahead.{Ahead, items, lengths, end, Remaining, SomeAhead, Advances, Next, StopsNext}
-use Rattle.asn_walk.specs.Coding.{Coding, ListingOf, ListsOf}
+use Rattle.asn_walk.specs.Coding.{Coding, ListingOf}
 use Rattle.asn_walk.specs.Laws.{Laws, IsSizeOfProfile}
 use Rattle.asn_walk.specs.Reading.{After}
 use Rattle.asn_walk.proofs.Parts.{fields_part_of}

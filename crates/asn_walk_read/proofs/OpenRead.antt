@@ -4,14 +4,13 @@ use Rattle.std.proofs.Common.{◌≡◌, ◌≢◌, ◌-◌, ◌≤◌, ℕ, Lis
 use Rattle.asn_values.specs.Datum.{Datum}
 use Rattle.asn_values.specs.Shape.{Shape}
 use Rattle.asn_values.specs.Profile.{InProfile}
-use Rattle.asn_bits.specs.Numbers.{unpacked}
 use Rattle.asn_rules.specs.Chunks.{Chunk, open_field, flat}
 use Rattle.asn_rules.specs.Forks.{Same}
 use Rattle.asn_rules.specs.Frames.{Frame}
 use Rattle.asn_rules.specs.Languages.{Spells, Refused}
 use Rattle.asn_rules.specs.Listed.{Spelt}
 use Rattle.asn_rules.specs.Live.{Fielding, IsContent}
-use Rattle.asn_rules.specs.Padding.{Fixed, Padded}
+use Rattle.asn_rules.specs.Padding.{Fixed}
 use Rattle.asn_rules.specs.Reading.{Wholes}
 use Rattle.asn_rules.specs.Stops.{Stops}
 use Rattle.asn_rules.specs.declared.stop.Stop.{Stop}

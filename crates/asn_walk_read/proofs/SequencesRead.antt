@@ -1,22 +1,21 @@
 -- From the answers for the preamble, the components and the additions to those for a SEQUENCE, in any rules.
-use Rattle.std.proofs.Common.{◌≡◌, ◌<◌, ◌≤◌, ◌+◌, ◌^◌, ℕ, zero, suc, Bool, true, false, List, ◌++◌, length, map, Option, Some, None, refl, ap, subst, append-nil, arith}
+use Rattle.std.proofs.Common.{◌≡◌, ◌<◌, ℕ, zero, suc, Bool, true, false, List, ◌++◌, length, Option, Some, None, refl, subst, append-nil, arith}
 use Rattle.asn_values.specs.Datum.{Datum, components, components_of}
 use Rattle.asn_values.specs.Shape.{Fields, MoreFields, sequence, closed, marked, more_fields, demands}
-use Rattle.asn_values.specs.Parts.{AreOfProfile}
 use Rattle.asn_values.specs.Profile.{InProfile}
 use Rattle.asn_values.proofs.InnerTypes.{additions_of_profile}
 use Rattle.asn_values.proofs.Parts.{components_of_profile}
 use Rattle.asn_bits.specs.Numbers.{bits}
 use Rattle.asn_bits.proofs.Octets.{length-digits}
 use Rattle.asn_rules.specs.Chunks.{Chunk}
-use Rattle.asn_rules.specs.Languages.{Spells, Inhabited, Lawful, Then, Map, Nothing}
+use Rattle.asn_rules.specs.Languages.{Spells, Inhabited, Then, Nothing}
 use Rattle.asn_rules.specs.Listed.{Spelt, Listed, bitmap_length}
 use Rattle.asn_rules.proofs.Languages.Leads.{LeadsStops, Leads, leads_on, leads_map, leads_same, leads_second, stops_first, stops_on}
 use Rattle.asn_rules.proofs.Components.Listed.{listed_inhabited, listed_lawful}
 use Rattle.asn_rules.proofs.Components.ListedReading.{nothing_read}
 use Rattle.asn_rules.proofs.Languages.Parts.{map_source, nothing_inhabited}
 use Rattle.asn_rules.proofs.Languages.Then.{Follows, then_inhabited}
-use Rattle.asn_walk.specs.Coding.{Coding, CanExtend, added, PreambleOf, AdditionsOf, AddedOf, absent_entries, sequence_told, SequencesOf}
+use Rattle.asn_walk.specs.Coding.{Coding, CanExtend, added, PreambleOf, AdditionsOf, AddedOf, absent_entries, sequence_told}
 use Rattle.asn_walk.specs.Laws.{Laws}
 use Rattle.asn_walk.specs.Reading.{After}
 use Rattle.asn_walk_read.proofs.AdditionsRead.{some_additions}

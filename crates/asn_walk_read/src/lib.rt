@@ -10,4 +10,4 @@ mod reader;
 
 pub use components::{absent, try_bounded, try_integer};
 pub use message_reader::read_message;
-pub use reader::{added_count, read, read_complete};
+pub use reader::{SHORT_OPEN_FIELD, added_count, read, read_complete, read_open_octets};

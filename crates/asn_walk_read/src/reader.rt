@@ -8,6 +8,8 @@ ghost use Rattle.asn_values.specs.Datum.{alternative};
 ghost use Rattle.asn_values.specs.Profile.{InProfile};
 ghost use Rattle.asn_values.specs.Parts.{AreAllOfProfile};
 ghost use Rattle.asn_values.specs.View.{shape_of, datum_of, size_range_of, alternatives_seen};
+ghost use Rattle.asn_rules.specs.Chunks.{open_field};
+ghost use Rattle.asn_rules.specs.Frames.{Frame};
 ghost use Rattle.asn_walk.specs.Coding.{OpenOf};
 ghost use Rattle.asn_walk.specs.Laws.{IsSizeOfProfile};
 ghost use Rattle.asn_walk.specs.Reading.{Reads, ReadsValue, ReadsComplete, ReadsOpen, StopsAt, ValuesOf, CompleteOf, AlternativeOf, OpenAlternativeOf, ListOf, RowOf, RestOf, AppendsRow, AppendsRest};
@@ -23,6 +25,9 @@ use std::alloc::{AllocError, Global};
 /// The most elements of a SEQUENCE OF for which capacity is reserved at once: an announced count alone must not
 /// allocate more.
 const RESERVED_AT_ONCE: usize = 1024;
+
+/// The most octets of an open type field that are read without an allocation.
+pub const SHORT_OPEN_FIELD: usize = 128;
 
 /// Reads a value of the type.
 #[inline(always)]
@@ -124,8 +129,10 @@ pub(crate) fn read_open_field<R: ReadLeaves>(
     ensures stop { IfErr result (λ why. StopsAt R.rules (OpenOf R.rules (shape_of ty.now)) units.old why) }
 {
     R::keep_laws();
-    let octets = R::read_open_octets(alloc, units)?;
-    let mut content = BitCursor::over(&octets);
+    let mut short = [0; SHORT_OPEN_FIELD];
+    let mut long = Vec::new(alloc);
+    let octets = read_open_octets::<R>(alloc, units, &mut short, &mut long)?;
+    let mut content = BitCursor::over(octets);
     let no_value = Stop::Refused {
         left: R::units_left(units),
         why: Why::Sealed,
@@ -137,6 +144,29 @@ pub(crate) fn read_open_field<R: ReadLeaves>(
         Err(Stop::Refused { .. }) => Err(no_value),
         Err(Stop::Memory) => Err(Stop::Memory),
     }
+}
+
+/// Reads the octets of an open type field, without its length: into `short`, where they are at hand and fit, and else
+/// into `long`.
+#[inline(always)]
+pub fn read_open_octets<'a, R: ReadLeaves>(
+    alloc: Global,
+    units: &mut BitCursor<'_>,
+    short: &'a mut [u8],
+    long: &'a mut Vec<u8>,
+) -> Result<&'a [u8], Stop>
+    requires at_unit { R.rules.at_unit units.old }
+    ensures at_unit { OnOk result (R.rules.at_unit units.new) }
+    ensures done { IfOk result (λ os.
+        Reads R.rules (Frame R.rules.ruling.fielding open_field) os.now units.old units.new) }
+    ensures stop { IfErr result (λ why.
+        StopsAt R.rules (Frame R.rules.ruling.fielding open_field) units.old why) }
+{
+    if let Some(count) = R::try_open_octets(units, short) {
+        return Ok(&short[..count]);
+    }
+    *long = R::read_open_octets(alloc, units)?;
+    Ok(long.as_slice())
 }
 
 /// Reads a value of the alternative with this index in the root.

@@ -48,7 +48,7 @@ pub(crate) fn is_encoded(field: &Field, entry: &Option<Value>) -> bool
 }
 
 /// Whether both are the same value: of BOOLEANs, which most components with a DEFAULT are, it is asked at once.
-#[inline(never)]
+#[inline(always)]
 fn are_same(left: &Value, right: &Value) -> bool
     ensures { IsTrue result ↔ (datum_of left.now ≡ datum_of right.now) }
 {

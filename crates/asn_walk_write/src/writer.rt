@@ -31,7 +31,7 @@ pub fn write_complete<R: WriteLeaves>(
     ensures written { IfOk result (λ o.
         o.items ≡ R.rules.complete (R.rules.code (shape_of ty.now) (datum_of value.now))) }
 {
-    let mut sink = BitSink::new(alloc);
+    let mut sink = BitSink::with_room(alloc)?;
     write::<R>(alloc, ty, value, &mut sink)?;
     Ok(R::complete(sink)?)
 }

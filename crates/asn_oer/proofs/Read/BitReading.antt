@@ -1,12 +1,11 @@
 -- Bits that fill octets, and those after their length and the number of unused ones, as they are read.
-use Rattle.std.proofs.Common.{◌≡◌, ◌≤◌, ◌-◌, ℕ, Bool, true, false, Some, List, length, refl, subst, arith}
+use Rattle.std.proofs.Common.{◌≡◌, ◌≤◌, ℕ, Bool, true, false, Some, List, length, refl, subst, arith}
 use Rattle.asn_values.specs.Datum.{bit_list}
 use Rattle.asn_values.specs.Shape.{SizeRange, bit_string}
 use Rattle.asn_values.specs.Fits.{FitsLength, max_len}
 use Rattle.asn_values.specs.Profile.{is_fixed_size, large_size}
-use Rattle.asn_bits.specs.Numbers.{bits}
 use Rattle.asn_bits.specs.Sets.{Between}
-use Rattle.asn_rules.specs.Chunks.{Chunk, ones}
+use Rattle.asn_rules.specs.Chunks.{Chunk}
 use Rattle.asn_rules.specs.Forks.{Same}
 use Rattle.asn_rules.specs.Languages.{Map}
 use Rattle.asn_rules.specs.declared.number_reader.NumberSet.{NumberSet}

@@ -224,23 +224,23 @@ below_word (suc (suc (suc zero))) b h l = omega (arith, l)
 below_word (suc (suc (suc (suc zero)))) b h l = omega (arith, l)
 below_word (suc (suc (suc (suc (suc t))))) b h l = absurd (omega (arith, h))
 
--- an item whose number is its position is told by one octet
-pub item_at_once : (root : List Label) (more : MoreLabels) → InProfile (enumerated root more) → (us after : List ℕ) (p : ℕ)
-    → p < length (root ++ more_labels more) → p < 128 → number_at (root ++ more_labels more) p ≡ pos p → us ≡ bits 8 p ++ after
+-- an item of a small number is told by one octet
+pub item_at_once : (root : List Label) (more : MoreLabels) → InProfile (enumerated root more) → (us after : List ℕ) (p n : ℕ)
+    → p < length (root ++ more_labels more) → n < 128 → number_at (root ++ more_labels more) p ≡ pos n → us ≡ bits 8 n ++ after
     → Spells oer_fields (Spelt oer None (enumerated root more)) (item p) (packed us) (packed after)
-item_at_once root more good us after p there small number split =
-    item_ends root more None good us 0 0 us refl p after (omega (arith, small)) split p [] (record { there = there; other = tt; whole = whole }) refl
+item_at_once root more good us after p n there small number split =
+    item_ends root more None good us 0 0 us refl n after (omega (arith, small)) split p [] (record { there = there; other = tt; whole = whole }) refl
   where
-    flag : (int_le (pos 0) (pos p) && int_lt (pos p) (pos 128)) ≡ true
-    flag = and_from (int_le (pos 0) (pos p)) (int_lt (pos p) (pos 128)) (le-leb 0 p (omega arith)) (lt-ltb p 128 small)
+    flag : (int_le (pos 0) (pos n) && int_lt (pos n) (pos 128)) ≡ true
+    flag = and_from (int_le (pos 0) (pos n)) (int_lt (pos n) (pos 128)) (le-leb 0 n (omega arith)) (lt-ltb n 128 small)
 
-    short : item_number (pos p) ≡ p ∷ []
-    short = ap (λ (b : Bool). elim b [ true ↦ p ∷ [] | false ↦ (128 + length (least_signed (pos p))) ∷ least_signed (pos p) ]) flag
+    short : item_number (pos n) ≡ n ∷ []
+    short = ap (λ (b : Bool). elim b [ true ↦ n ∷ [] | false ↦ (128 + length (least_signed (pos n))) ∷ least_signed (pos n) ]) flag
 
-    same : p ≡ 256 * 0 + p
+    same : n ≡ 256 * 0 + n
     same = omega arith
 
-    whole : item_number (number_at (root ++ more_labels more) p) ≡ octets (0 + 1) (256 * 0 + p) ++ []
+    whole : item_number (number_at (root ++ more_labels more) p) ≡ octets (0 + 1) (256 * 0 + n) ++ []
     whole =
-        ap (λ (z : ℤ). item_number z) number ∙ short ∙ sym (one_is p (omega (arith, small))) ∙ ap (λ (n : ℕ). octets 1 n) same
-        ∙ sym (append-nil (octets 1 (256 * 0 + p)))
+        ap (λ (z : ℤ). item_number z) number ∙ short ∙ sym (one_is n (omega (arith, small))) ∙ ap (λ (m : ℕ). octets 1 m) same
+        ∙ sym (append-nil (octets 1 (256 * 0 + n)))

@@ -1,22 +1,19 @@
 -- The counts that a size leaves, as a set of numbers, and items of such a count.
-use Rattle.std.proofs.Common.{◌≡◌, ◌-◌, ℕ, Bool, true, false, nat_lt, List, [], ◌++◌, Option, None, Some, inl, inr, refl, sym, ap, ◌∙◌, subst}
+use Rattle.std.proofs.Common.{◌≡◌, ℕ, Bool, true, false, List, [], ◌++◌, refl, sym, ap, ◌∙◌, subst}
 use Rattle.asn_values.specs.Datum.{octet_list}
 use Rattle.asn_values.specs.Fits.{FitsLength}
 use Rattle.asn_values.specs.Profile.{InProfile, EmptyRange, SizeTooLarge, UselessMark, is_fixed_size}
 use Rattle.asn_values.specs.Shape.{SizeRange, bit_string, octet_string}
-use Rattle.asn_bits.specs.Sets.{Between, InDigits}
 use Rattle.asn_rules.specs.Chunks.{Chunk}
-use Rattle.asn_rules.specs.Fields.{OneOctet, LongLength, FirstOctet, OctetLength, octets_told}
+use Rattle.asn_rules.specs.Fields.{OneOctet, OctetLength, octets_told}
 use Rattle.asn_rules.specs.Forks.{Same}
-use Rattle.asn_rules.specs.Languages.{Spells, Lawful, Inhabited, Then, Map, Nothing, Row, Plain}
-use Rattle.asn_rules.specs.NumberSets.{IsNot}
+use Rattle.asn_rules.specs.Languages.{Spells, Lawful, Inhabited, Then, Map, Nothing, Row}
 use Rattle.asn_rules.specs.declared.number_reader.NumberSet.{NumberSet}
 use Rattle.asn_rules.proofs.Languages.Leads.{LeadsStops, Leads, leads_on, leads_map, leads_same, leads_second, stops_first, stops_on}
-use Rattle.asn_rules.proofs.Plain.NumberSets.{same_set}
 use Rattle.asn_rules.proofs.Numbers.OctetLengths.{length_lawful}
-use Rattle.asn_rules.proofs.Languages.Parts.{nothing_lawful, nothing_spells}
+use Rattle.asn_rules.proofs.Languages.Parts.{nothing_lawful}
 use Rattle.asn_rules.proofs.Languages.Rows.{row_inhabited}
-use Rattle.asn_rules.proofs.Languages.Spellings.{same_after, same_map, same_then}
+use Rattle.asn_rules.proofs.Languages.Spellings.{same_after, same_map}
 use Rattle.asn_rules.specs.OctetReading.{CountedIn}
 use Rattle.asn_rules.proofs.Octets.CountedOctets.{same_counted}
 use Rattle.asn_rules.proofs.Octets.OctetFields.{octet_fields_part}

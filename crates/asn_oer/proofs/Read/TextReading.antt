@@ -1,10 +1,9 @@
 -- The characters of a string, an octet each: where octets that were taken are characters of the kind, where they are too
 -- few, and the first that is none.
-use Rattle.std.proofs.Common.{◌-◌, ℕ, List}
+use Rattle.std.proofs.Common.{ℕ, List}
 use Rattle.asn_values.specs.Datum.{characters}
 use Rattle.asn_values.specs.Profile.{InProfile, EmptyRange, SizeTooLarge, UselessMark}
 use Rattle.asn_values.specs.Shape.{Alphabet, SizeRange, restricted}
-use Rattle.asn_rules.specs.declared.stop.Stop.TheVariants as stop
 use Rattle.asn_rules.proofs.Languages.Leads.{Leads, leads_on, leads_map, leads_same}
 use Rattle.asn_rules.proofs.Languages.Spellings.{same_after}
 use Rattle.asn_rules.specs.OctetStrings.{Character}

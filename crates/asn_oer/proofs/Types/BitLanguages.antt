@@ -1,12 +1,12 @@
 -- BIT STRING in OER: bits as octets of which the last ends in zeros, after a length and the number of unused bits where
 -- the size is not fixed.
-use Rattle.std.proofs.Common.{◌≡◌, ◌≤◌, ◌+◌, ◌-◌, ◌*◌, ℕ, suc, Bool, true, false, List, [], ◌∷◌, ◌++◌, map, Some, length, refl, sym, ap, ◌∙◌, subst, arith}
+use Rattle.std.proofs.Common.{◌≡◌, ◌≤◌, ◌-◌, ◌*◌, ℕ, suc, Bool, true, false, List, [], ◌∷◌, ◌++◌, map, Some, length, refl, sym, ap, ◌∙◌, subst, arith}
 use Rattle.std.proofs.lemmas.List.{length-map}
 use Rattle.asn_values.specs.Datum.{Datum, bit_list}
 use Rattle.asn_values.specs.Shape.{SizeRange, bit_string}
 use Rattle.asn_values.specs.Fits.{Fits, FitsLength}
 use Rattle.asn_values.specs.Profile.{InProfile, SizeTooLarge, large_size, is_fixed_size}
-use Rattle.asn_bits.specs.Numbers.{digits, bits, padding}
+use Rattle.asn_bits.specs.Numbers.{digits, padding}
 use Rattle.asn_bits.specs.Lengths.{octet_length}
 use Rattle.asn_bits.proofs.FilledBits.{length-padding}
 use Rattle.asn_rules.specs.Chunks.{ones}

@@ -1,7 +1,7 @@
 -- The bits of the octets that the writers of OER write.
 use Rattle.std.proofs.Common.{◌≡◌, ◌<◌, ◌+◌, ℕ, zero, suc, ℤ, List, [], ◌∷◌, ◌++◌, length, sym, ◌∙◌, ap, arith, append_assoc, length-append}
 use Rattle.asn_bits.specs.Lengths.{octet_length, general_octets, joined}
-use Rattle.asn_bits.specs.Numbers.{bits, octets, octet_count, least, least_signed, magnitude, padding, unpacked}
+use Rattle.asn_bits.specs.Numbers.{bits, octet_count, least, least_signed, magnitude, padding, unpacked}
 use Rattle.asn_bits.proofs.FilledBits.{AreBits, length-padding, filled_up, filled_up_bits, filled_up_fills, unpacked-packed, length-packed}
 use Rattle.asn_bits.proofs.LeastLengths.{general_short}
 use Rattle.asn_bits.proofs.Octets.{length-digits, octet_count_below, length-least_signed, signed_count_below}

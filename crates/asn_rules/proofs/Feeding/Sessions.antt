@@ -1,13 +1,10 @@
 -- What follows from a session's answers for octets that come in one piece.
-use Rattle.std.proofs.Common.{◌≡◌, ◌≤◌, ◌<◌, ◌+◌, ⊎_elim, ℕ, List, length, take, drop, sym, subst, arith}
+use Rattle.std.proofs.Common.{◌≡◌, ◌≤◌, ◌<◌, ◌+◌, ⊎_elim, ℕ, List, length, take, sym, subst, arith}
 use Rattle.std.proofs.lemmas.Bool.{cases_lt}
-use Rattle.std.proofs.lemmas.List.{take_all, length-take, take-append-drop}
+use Rattle.std.proofs.lemmas.List.{take_all, length-take}
 use Rattle.asn_values.specs.Datum.{Datum}
 use Rattle.asn_values.specs.Shape.{Shape}
 use Rattle.asn_rules.specs.Answer.{Ruling, IsEncoding, NoFront, Answer, done, more, max_octets}
-use Rattle.asn_rules.specs.Live.{Live}
-use Rattle.asn_rules.specs.Sessions.{LiveUnits}
-use Rattle.asn_rules.proofs.Live.Closed.{live_closed}
 
 -- the first n of a list are at most n, and at most all
 pub take_few : (n : ℕ) (o : List ℕ) → (length (take n o) ≤ n) × (length (take n o) ≤ length o)
@@ -36,13 +33,3 @@ module _ (r : Ruling) (t : Shape) where
   -- octets of which no front is an encoding are none
   pub not_whole : (s : List ℕ) → NoFront r t s → (v : Datum) → IsEncoding r t v s → ⊥
   not_whole s none v e = none v (length s) (omega arith) (subst (λ (l : List ℕ). IsEncoding r t v l) (sym (take_all (length s) s (omega arith))) e)
-
-  -- of units that are live all are told
-  pub all_told : (us : List ℕ) (n : ℕ) → Live r.fielding r.whole t us → LiveUnits r t us n → n ≡ length us
-  all_told us n live h =
-      let not_fewer : length us ≤ n =
-      ⊎_elim
-      (λ (l : n < length us). absurd (h.last l (live_closed r.fielding r.whole t (take (n + 1) us) (drop (n + 1) us) (subst (λ (w : List ℕ). Live r.fielding r.whole t w) (sym (take-append-drop (n + 1) us)) live))))
-      (λ (l : length us ≤ n). l)
-      (cases_lt n (length us)) in
-      omega (arith, not_fewer, h.some)

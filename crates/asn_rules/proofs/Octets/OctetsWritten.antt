@@ -12,6 +12,8 @@ use Rattle.asn_bits.proofs.Packing.{bits_zero}
 use Rattle.asn_bits.proofs.Splits.{digits-join, unpacked-append, unpacked-octets}
 use Rattle.asn_rules.specs.Fields.{spelled}
 use Rattle.asn_rules.specs.Filled.{unused_bits}
+use Rattle.asn_rules.specs.NumberSets.{least_of}
+use Rattle.asn_rules.proofs.Plain.CountedNumbers.{count_is}
 
 -- one octet
 pub one_octet : (n : ℕ) → unpacked (n ∷ []) ≡ bits 8 n
@@ -29,6 +31,18 @@ long_length n c h k =
     let e : nat_lt n 128 ≡ false = le-ltb n 128 h in
     let all : unpacked (octet_length n) ≡ bits 8 (128 + octet_count n) ++ bits (8 * octet_count n) n = rw (e, octet_length) (first_octet (128 + octet_count n) (octet_count n) n) in
     all ∙ ap (λ (i : ℕ). bits 8 (128 + i) ++ bits (8 * i) n) (sym k)
+
+-- an octet and others, as one number
+pub after_octet : (a k n m : ℕ) → n < 2 ^ (8 * k) → m ≡ a * 2 ^ (8 * k) + n → bits (8 * (1 + k)) m ≡ bits 8 a ++ bits (8 * k) n
+after_octet a k n m h e =
+    let all : 8 + 8 * k ≡ 8 * (1 + k) = omega arith in
+    ap (bits (8 * (1 + k))) e ∙ ap (λ (i : ℕ). bits i (a * 2 ^ (8 * k) + n)) (sym all)
+    ∙ sym (digits-join 2 (omega arith) 8 (8 * k) a n h)
+
+-- a length with the octet before it, as one number
+pub joined_length : (n k m : ℕ) → 128 ≤ n → 1 ≤ k → least_of k ≤ n → n < 256 ^ k → n < 2 ^ (8 * k) → m ≡ (128 + k) * 2 ^ (8 * k) + n → bits (8 * (1 + k)) m ≡ unpacked (octet_length n)
+joined_length n k m long some least few fits e =
+    after_octet (128 + k) k n m fits e ∙ sym (long_length n k long (sym (count_is n k some least few)))
 
 -- octets and their length
 pub content : (os : List ℕ) → unpacked (spelled os) ≡ unpacked (octet_length (length os)) ++ unpacked os

@@ -1,4 +1,4 @@
-use Rattle.std.proofs.Common.{◌≡◌, ◌<◌, ◌≤◌, not, ◌⊎◌, inl, inr, ◌∷◌, [], ◌++◌, ◌∙◌, true, false, map, Some, None, rules, sym, ap, ◌+◌, ◌-◌, ◌/◌, ◌%◌, ◌^◌, length, vec_len, vec_capacity, refl, arith, ℕ, Option}
+use Rattle.std.proofs.Common.{◌≡◌, ◌<◌, ◌≤◌, ◌⊎◌, inl, inr, ◌∷◌, [], ◌++◌, ◌∙◌, true, false, map, Some, None, rules, sym, ap, ◌+◌, ◌-◌, ◌/◌, ◌%◌, ◌^◌, length, vec_len, vec_capacity, refl, arith}
 use Rattle.std.specs.Option.{option_map}
 use Rattle.std.proofs.lemmas.List.{map-append}
 use Rattle.std.proofs.lemmas.Result.{err_from_is_err_and, IfOk-weaker, IfErr-weaker}
@@ -10,12 +10,12 @@ use Rattle.asn_values.specs.declared.value.Value.TheVariants as value
 use Rattle.asn_values.specs.Datum.{number}
 use Rattle.asn_values.specs.declared.types.Need.{Need}
 use Rattle.asn_values.specs.declared.types.Need.TheVariants as needs
-use Rattle.asn_values.specs.Shape.{MoreFields, sequence, closed, marked, sequence_of}
-use Rattle.asn_values.specs.View.{shape_of, datum_of, fields_of, part_of_field, size_range_of, demand_of, fields_seen, entries_seen}
+use Rattle.asn_values.specs.Shape.{sequence, closed, marked, sequence_of}
+use Rattle.asn_values.specs.View.{shape_of, datum_of, part_of_field, size_range_of, demand_of, fields_seen, entries_seen}
 use Rattle.asn_values.proofs.Components.{shape_of_part}
 use Rattle.asn_values.proofs.Parts.{components_of_profile}
 use Rattle.asn_values.proofs.InnerTypes.{element_of_profile}
-use Rattle.asn_values.proofs.Views.{datum_of-Seq, sequence_of_fields, list_of_elements, datum_of-List}
+use Rattle.asn_values.proofs.Views.{datum_of-Seq, list_of_elements, datum_of-List}
 use Rattle.asn_values.specs.Profile.{InProfile}
 use Rattle.asn_bits.specs.Sink.{bit_of}
 use Rattle.asn_rules.specs.Languages.{Spells, Row}
@@ -23,19 +23,17 @@ use Rattle.asn_rules.specs.Listed.{default_of, Spelt}
 use Rattle.asn_rules.proofs.Languages.Leads.{stops_by}
 use Rattle.asn_rules.proofs.Components.Listed.{spelt_inhabited, spelt_lawful}
 use Rattle.asn_rules.proofs.Components.ListedReading.{nothing_read}
-use Rattle.asn_bits.specs.Numbers.{unpacked}
 use Rattle.asn_rules.specs.Laws.{AreOctets}
-use Rattle.asn_rules.specs.Listed.{Listed, bitmap_length}
-use Rattle.asn_bits.specs.Numbers.{bits}
+use Rattle.asn_rules.specs.Listed.{bitmap_length}
 use Rattle.asn_walk.specs.Ahead.{Next}
 use Rattle.asn_walk.specs.Coding.{IsIndexWithin, PreambleOf, added}
 use Rattle.asn_walk.specs.Reading.{After, ReadsRoot}
 use Rattle.asn_walk.specs.Views.{index_seen, preamble_seen}
 use Rattle.asn_walk_read.proofs.AdditionsRead.{presence_stops_at, open_fields_lead, added_starts, addition_stops, addition_present, addition_absent, added_ends, after_leads, after_nothing}
 use Rattle.asn_walk_read.proofs.ChoicesRead.{choice_few, leads_at_place, open_leads_at_place, choice_stops, root_value_leads, added_value_leads}
-use Rattle.asn_walk_read.proofs.ComponentsRead.{read_starts, next_must, next_either, bit_there, read_ends, entry_leads}
+use Rattle.asn_walk_read.proofs.ComponentsRead.{read_starts, next_must, next_either, read_ends, entry_leads}
 use Rattle.asn_walk_read.proofs.Decoding.{units_fill}
-use Rattle.asn_walk_read.proofs.Listing.{Appends, appends_more, appends_one, appends_end, appends_stops_next, row_appends, start_stops, start_leads, fragments_start, fragments_further, fragments_end, going_stops, going_row_stops, going_nearer, list_size, list_leads}
+use Rattle.asn_walk_read.proofs.Listing.{appends_more, appends_one, appends_end, appends_stops_next, row_appends, start_stops, start_leads, fragments_start, fragments_further, fragments_end, going_stops, going_row_stops, going_nearer, list_size, list_leads}
 use Rattle.asn_walk_read.proofs.OpenRead.{content_of, length_none, octets_stop, value_held, more_held, none_held, value_stops, fill_leads}
 use Rattle.asn_walk.proofs.Parts.{fields_part_of, count_of_fields, few_components, marked_type, closed_type, added_of_profile, few_added, good_at, some_root, few_root, few_all, roots_good, additions_good, added_inside}
 use Rattle.asn_walk_read.proofs.SequencesRead.{preamble_stops, some_listed, closed_done, components_stop, none_added, additions_stop, additions_done}
@@ -185,43 +183,43 @@ reader::read_open_field-returns-in_err-octets-clause-stop g t c =
 
 pub reader::read_open_field-read_complete-requires : goal.reader::read_open_field-read_complete-requires
 reader::read_open_field-read_complete-requires g t c κs within =
-    let os = c.in_ok-octets.octets.items in
+    let os = c.in_ok-octets.octets.now in
     let held : AreOctets os = (content_of c.in_ok-octets.ensures.done).2 in
-    let over : g.R.ReadLeaves.rules.to_units c.over-content.result ≡ g.R.ReadLeaves.rules.ruling.units os = ap g.R.ReadLeaves.rules.to_units (c.over-content.ensures ∙ ap unpacked c.deref.ensures.value) ∙ c.keep_laws.ensures.over os held in
-    (search (rules, the_lemmas), (within.0, (within.1, (rw (c.over-content.ensures, c.deref.ensures.value) (c.keep_laws.ensures.begin os held), (c.requires.of_profile, rw over (units_fill g.R.ReadLeaves.rules c.keep_laws.ensures os))))))
+    let over : g.R.ReadLeaves.rules.to_units c.over-content.result ≡ g.R.ReadLeaves.rules.ruling.units os = ap g.R.ReadLeaves.rules.to_units c.over-content.ensures ∙ c.keep_laws.ensures.over os held in
+    (search (rules, the_lemmas), (within.0, (within.1, (rw c.over-content.ensures (c.keep_laws.ensures.begin os held), (c.requires.of_profile, rw over (units_fill g.R.ReadLeaves.rules c.keep_laws.ensures os))))))
 
 pub reader::read_open_field-returns-in-Ok-clause-done : goal.reader::read_open_field-returns-in-Ok-clause-done
 reader::read_open_field-returns-in-Ok-clause-done g t c =
-    let os = c.in_ok-octets.octets.items in
+    let os = c.in_ok-octets.octets.now in
     let held : AreOctets os = (content_of c.in_ok-octets.ensures.done).2 in
-    let over : g.R.ReadLeaves.rules.to_units c.over-content.result ≡ g.R.ReadLeaves.rules.ruling.units os = ap g.R.ReadLeaves.rules.to_units (c.over-content.ensures ∙ ap unpacked c.deref.ensures.value) ∙ c.keep_laws.ensures.over os held in
+    let over : g.R.ReadLeaves.rules.to_units c.over-content.result ≡ g.R.ReadLeaves.rules.ruling.units os = ap g.R.ReadLeaves.rules.to_units c.over-content.ensures ∙ c.keep_laws.ensures.over os held in
     let read = rw over at c.in-Ok.ensures.done in
     let none : (g.R.ReadLeaves.rules.to_units c.read_complete.new.units) ≡ [] = length_none _ (sym c.units_left-in-Ok-1.ensures ∙ c.if-units_left-eq0.true) in
     value_held g.R.ReadLeaves.rules c.keep_laws.ensures (shape_of c.args.ty.now) c.requires.of_profile c.in_ok-octets.ensures.done read none
 
 pub reader::read_open_field-returns-in-Ok-2-clause-stop : goal.reader::read_open_field-returns-in-Ok-2-clause-stop
 reader::read_open_field-returns-in-Ok-2-clause-stop g t c =
-    let os = c.in_ok-octets.octets.items in
+    let os = c.in_ok-octets.octets.now in
     let held : AreOctets os = (content_of c.in_ok-octets.ensures.done).2 in
-    let over : g.R.ReadLeaves.rules.to_units c.over-content.result ≡ g.R.ReadLeaves.rules.ruling.units os = ap g.R.ReadLeaves.rules.to_units (c.over-content.ensures ∙ ap unpacked c.deref.ensures.value) ∙ c.keep_laws.ensures.over os held in
+    let over : g.R.ReadLeaves.rules.to_units c.over-content.result ≡ g.R.ReadLeaves.rules.ruling.units os = ap g.R.ReadLeaves.rules.to_units c.over-content.ensures ∙ c.keep_laws.ensures.over os held in
     let read = rw over at c.in-Ok-2.ensures.done in
     let more : (g.R.ReadLeaves.rules.to_units c.read_complete.new.units) ≡ [] → ⊥ = λ e. c.if-units_left-eq0.false (c.units_left-in-Ok-1.ensures ∙ ap length e) in
     rw c.units_left.ensures (record { told = more_held g.R.ReadLeaves.rules c.keep_laws.ensures (shape_of c.args.ty.now) c.requires.of_profile c.in_ok-octets.ensures.done read more })
 
 pub reader::read_open_field-returns-in-Err-Short-clause-stop : goal.reader::read_open_field-returns-in-Err-Short-clause-stop
 reader::read_open_field-returns-in-Err-Short-clause-stop g t c =
-    let os = c.in_ok-octets.octets.items in
+    let os = c.in_ok-octets.octets.now in
     let held : AreOctets os = (content_of c.in_ok-octets.ensures.done).2 in
-    let over : g.R.ReadLeaves.rules.to_units c.over-content.result ≡ g.R.ReadLeaves.rules.ruling.units os = ap g.R.ReadLeaves.rules.to_units (c.over-content.ensures ∙ ap unpacked c.deref.ensures.value) ∙ c.keep_laws.ensures.over os held in
+    let over : g.R.ReadLeaves.rules.to_units c.over-content.result ≡ g.R.ReadLeaves.rules.ruling.units os = ap g.R.ReadLeaves.rules.to_units c.over-content.ensures ∙ c.keep_laws.ensures.over os held in
     let stopped = rw over at c.in-Err-Short.ensures.stop in
     let told = none_held g.R.ReadLeaves.rules c.keep_laws.ensures (shape_of c.args.ty.now) c.requires.of_profile c.in-Err-Short.field-0 (λ e. cc) c.in_ok-octets.ensures.done stopped in
     rw c.units_left.ensures (record { told = told })
 
 pub reader::read_open_field-returns-in-Err-Refused-clause-stop : goal.reader::read_open_field-returns-in-Err-Refused-clause-stop
 reader::read_open_field-returns-in-Err-Refused-clause-stop g t c =
-    let os = c.in_ok-octets.octets.items in
+    let os = c.in_ok-octets.octets.now in
     let held : AreOctets os = (content_of c.in_ok-octets.ensures.done).2 in
-    let over : g.R.ReadLeaves.rules.to_units c.over-content.result ≡ g.R.ReadLeaves.rules.ruling.units os = ap g.R.ReadLeaves.rules.to_units (c.over-content.ensures ∙ ap unpacked c.deref.ensures.value) ∙ c.keep_laws.ensures.over os held in
+    let over : g.R.ReadLeaves.rules.to_units c.over-content.result ≡ g.R.ReadLeaves.rules.ruling.units os = ap g.R.ReadLeaves.rules.to_units c.over-content.ensures ∙ c.keep_laws.ensures.over os held in
     let stopped = rw over at c.in-Err-Refused.ensures.stop in
     let told = none_held g.R.ReadLeaves.rules c.keep_laws.ensures (shape_of c.args.ty.now) c.requires.of_profile c.in-Err-Refused.field-0 (λ e. cc) c.in_ok-octets.ensures.done stopped in
     rw c.units_left.ensures (record { told = told })

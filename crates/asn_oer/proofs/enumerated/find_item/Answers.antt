@@ -1,5 +1,4 @@
 use Rattle.std.proofs.Common.{inl, inr, refl, arith}
-use Rattle.asn_oer.specs.LeafReading.{ItemBegins}
 use Rattle.asn_oer.proofs.Read.ItemReading.{up_to}
 use Rattle.asn_oer.proofs.enumerated.find_item.Goals as goal
 

@@ -1,5 +1,5 @@
 -- The size is told by the number that is farthest from zero.
-use Rattle.std.proofs.Common.{rules, ◌≡◌, ◌≤ℤ◌, ◌-ℤ◌, ◌*ℤ◌, refl, ℤ, pos, negsuc, Some, ◌∙◌, arith, to_z, of_z}
+use Rattle.std.proofs.Common.{rules, ◌≡◌, ◌-ℤ◌, ◌*ℤ◌, refl, pos, negsuc, Some, ◌∙◌, arith, to_z, of_z}
 use Rattle.std.proofs.lemmas.Int.{ints, clamps}
 use Rattle.std.specs.Int.{int_max}
 use mir.Syntax.{w128}

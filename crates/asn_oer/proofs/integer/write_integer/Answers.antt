@@ -1,7 +1,7 @@
-use Rattle.std.proofs.Common.{rules, ◌≡◌, ◌≤ℤ◌, ◌<ℤ◌, ◌*◌, ◌++◌, List, ℕ, ℤ, pos, Bool, Option, Some, true, false, ◌∙◌, ap, sym, arith, to_z, of_z}
+use Rattle.std.proofs.Common.{rules, ◌≡◌, ◌≤ℤ◌, ◌<ℤ◌, ◌*◌, ◌++◌, List, ℕ, ℤ, pos, Bool, Option, Some, true, false, ◌∙◌, ap, sym, arith, of_z}
 use Rattle.std.proofs.lemmas.Int.{ints}
 use mir.Syntax.{w64}
-use Rattle.asn_values.specs.Fits.{lowest_integer, highest_integer, FitsNumber}
+use Rattle.asn_values.specs.Fits.{lowest_integer, highest_integer}
 use Rattle.asn_values.specs.View.{range_of}
 use Rattle.asn_bits.specs.Numbers.{bits, unpacked}
 use Rattle.asn_bits.proofs.Above.{kept}

@@ -1,8 +1,7 @@
 -- The first octet tells the count of those after it, which hold the length, and fewer do not.
-use Rattle.std.proofs.Common.{◌≡◌, ◌≤◌, ◌+◌, ◌-◌, ◌*◌, ◌/◌, ◌%◌, ◌^◌, ℕ, bit_and, length, length-append, drop, ap, sym, ◌∙◌, arith}
+use Rattle.std.proofs.Common.{◌≡◌, ◌+◌, ◌-◌, ◌*◌, ◌/◌, ◌%◌, ◌^◌, bit_and, ap, sym, ◌∙◌, arith}
 use Rattle.std.proofs.lemmas.Nat.{and_mask}
-use Rattle.asn_bits.specs.Numbers.{bits, octet_count}
-use Rattle.asn_bits.proofs.Octets.{length-digits}
+use Rattle.asn_bits.specs.Numbers.{octet_count}
 use Rattle.asn_rules.proofs.Octets.LengthOctets.{long_done, long_whole}
 use Rattle.asn_rules.proofs.Octets.FirstOctets.{octets_there}
 use Rattle.asn_rules.proofs.octet_length_reader.try_long_length.Goals as goal

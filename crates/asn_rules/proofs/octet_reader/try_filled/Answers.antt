@@ -1,7 +1,7 @@
 -- The bits of the octet are those of both numbers, and zeros.
-use Rattle.std.proofs.Common.{◌≡◌, ◌≤◌, ◌<◌, ◌+◌, ◌-◌, ◌*◌, ◌/◌, ◌%◌, ◌^◌, ℕ, bit_and, ap, sym, ◌∙◌, arith}
+use Rattle.std.proofs.Common.{◌≡◌, ◌≤◌, ◌+◌, ◌-◌, ◌/◌, ◌%◌, ◌^◌, bit_and, ap, sym, ◌∙◌, arith}
 use Rattle.std.proofs.lemmas.Nat.{and_mask}
-use Rattle.asn_rules.proofs.Octets.FilledOctet.{none_filled, octet_filled}
+use Rattle.asn_rules.proofs.Octets.FilledOctet.{octet_filled}
 use Rattle.asn_rules.proofs.octet_reader.try_filled.Goals as goal
 
 pub returns-then-low-number-clause-done : goal.returns-then-low-number-clause-done

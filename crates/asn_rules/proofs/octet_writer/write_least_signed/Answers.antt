@@ -1,10 +1,11 @@
-use Rattle.std.proofs.Common.{◌≡◌, ◌*◌, ◌++◌, List, ℕ, sym, ◌∙◌, ap, arith, append_assoc}
+use Rattle.std.proofs.Common.{◌≡◌, ◌≤◌, ◌<◌, ◌+◌, ◌*◌, ◌^◌, ◌++◌, List, ℕ, ℤ, sym, ◌∙◌, ap, arith, append_assoc}
 use Rattle.std.proofs.lemmas.Result.{on_ok_weaker}
 use Rattle.asn_bits.specs.Lengths.{general_octets}
-use Rattle.asn_bits.specs.Numbers.{bits, least_signed}
+use Rattle.asn_bits.specs.Numbers.{bits, octets, least_signed, signed_octets, signed_octet_count}
 use Rattle.asn_bits.proofs.Above.{kept}
 use Rattle.asn_bits.proofs.LeastLengths.{general_signed}
 use Rattle.asn_bits.proofs.Octets.{signed_fits}
+use Rattle.asn_rules.proofs.Octets.OctetsWritten.{after_octet}
 use Rattle.asn_rules.proofs.octet_writer.write_least_signed.Goals as goal
 
 pub signed_residue-residue-requires-clause-room : goal.signed_residue-residue-requires-clause-room
@@ -12,16 +13,49 @@ signed_residue-residue-requires-clause-room c =
     let z = kept c.args.z c.requires.low c.requires.high in
     rw (c.signed_octet_count-count.ensures.count, z) (signed_fits c.args.z)
 
-pub returns : goal.returns
-returns c =
+-- the octets of z, of which there are k, after their count
+all_octets : (z : ℤ) (k n : ℕ) → signed_octets k z ≡ octets k n → k ≤ 8 → k ≡ signed_octet_count z → general_octets (λ u. u) (least_signed z) ≡ bits 8 k ++ bits (8 * k) n
+all_octets z k n h few e = general_signed z n k h (omega (arith, few)) e
+
+pub returns-in-1 : goal.returns-in-1
+returns-in-1 c =
     let k = c.signed_octet_count-count.result in
     let n = c.signed_residue-residue.result in
     let h = c.signed_residue-residue.ensures in
+    let e = c.signed_octet_count-count.ensures in
+    let z = kept c.args.z c.requires.low c.requires.high in
+    let all = all_octets c.args.z k n (rw z at h.octets) e.few (rw z at e.count) in
+    let fits : n < 2 ^ (8 * 1) = rw c.in-1.is at h.fits in
+    let joined : bits (8 * 2) (256 + n) ≡ bits 8 1 ++ bits (8 * 1) n = after_octet 1 1 n (256 + n) fits (omega arith) in
+    on_ok_weaker c.push_low_octets.result
+    (λ e. e ∙ ap (λ (t : List ℕ). c.args.sink.now ++ t) (joined ∙ sym (rw c.in-1.is at all)))
+    c.push_low_octets.ensures.ok
+
+pub returns-in-2 : goal.returns-in-2
+returns-in-2 c =
+    let k = c.signed_octet_count-count.result in
+    let n = c.signed_residue-residue.result in
+    let h = c.signed_residue-residue.ensures in
+    let e = c.signed_octet_count-count.ensures in
+    let z = kept c.args.z c.requires.low c.requires.high in
+    let all = all_octets c.args.z k n (rw z at h.octets) e.few (rw z at e.count) in
+    let fits : n < 2 ^ (8 * 2) = rw c.in-2.is at h.fits in
+    let joined : bits (8 * 3) (131072 + n) ≡ bits 8 2 ++ bits (8 * 2) n = after_octet 2 2 n (131072 + n) fits (omega arith) in
+    on_ok_weaker c.push_low_octets-in-2.result
+    (λ e. e ∙ ap (λ (t : List ℕ). c.args.sink.now ++ t) (joined ∙ sym (rw c.in-2.is at all)))
+    c.push_low_octets-in-2.ensures.ok
+
+pub returns-in_ok-push_low_octets-in_default : goal.returns-in_ok-push_low_octets-in_default
+returns-in_ok-push_low_octets-in_default c =
+    let k = c.signed_octet_count-count.result in
+    let n = c.signed_residue-residue.result in
+    let h = c.signed_residue-residue.ensures in
+    let e = c.signed_octet_count-count.ensures in
     let z = kept c.args.z c.requires.low c.requires.high in
     let old = c.args.sink.now in
-    let all : general_octets (λ u. u) (least_signed c.args.z) ≡ bits 8 k ++ bits (8 * k) n = general_signed c.args.z n k (rw z at h.octets) (omega arith) (rw z at c.signed_octet_count-count.ensures.count) in
-    let first : c.push_low_octets.new.self ≡ old ++ bits 8 k = rw (← c.from.ensures) c.in_ok-push_low_octets.ensures.ok in
-    on_ok_weaker c.push_low_octets-2.result
+    let all = all_octets c.args.z k n (rw z at h.octets) e.few (rw z at e.count) in
+    let first : c.push_low_octets-in_default.new.self ≡ old ++ bits 8 k = rw (← c.from.ensures) c.in_ok-push_low_octets-in_default.ensures.ok in
+    on_ok_weaker c.push_low_octets-in_default-2.result
     (λ e. e ∙ ap (λ (t : List ℕ). t ++ bits (8 * k) n) first ∙ append_assoc old (bits 8 k) (bits (8 * k) n)
     ∙ ap (λ (t : List ℕ). old ++ t) (sym all))
-    c.push_low_octets-2.ensures.ok
+    c.push_low_octets-in_default-2.ensures.ok

@@ -1,4 +1,4 @@
-use Rattle.std.proofs.Common.{◌≡◌, ◌+◌, ◌++◌, List, [], ℕ, Bool, Option, Some, None, ◌∷◌, length, refl, sym, ◌∙◌, ap, append_assoc, arith, is_some}
+use Rattle.std.proofs.Common.{◌≡◌, ◌+◌, ◌++◌, List, [], ℕ, Bool, Option, Some, None, ◌∷◌, length, sym, ◌∙◌, ap, append_assoc, arith, is_some}
 use Rattle.std.proofs.lemmas.Result.{on_ok_weaker}
 use Rattle.asn_bits.specs.Numbers.{bits, padding}
 use Rattle.asn_bits.specs.Sink.{bit_of}

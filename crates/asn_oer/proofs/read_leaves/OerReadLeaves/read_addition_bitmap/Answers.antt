@@ -29,7 +29,7 @@ returns-in_err-read_octets-clause-stop c =
     let l = c.from-length.result in
     let is : l ≡ suc (filled_octets n) = omega (arith, c.from-length.ensures) in
     let vs = packed c.read_length.new.units in
-    let stop : Stops oer_fields (OctetsIn 1 (from_to (unused_bits n) (unused_bits n))) vs c.in_err-read_octets.field-0.0 = rw c.from-unused.ensures at c.in_err-read_octets.ensures.stop in
+    let stop : Stops oer_fields (OctetsIn 1 (from_to (unused_bits n) (unused_bits n))) vs c.in_err-read_octets.field-0.0 = rw (c.numbers.ensures, c.from-unused.ensures) at c.in_err-read_octets.ensures.stop in
     rw (p.1, p.2) (stops_by _ (stops_at_unused n l c.requires.some c.requires.few is c.in_ok-read_length.field-0 (packed c.args.units.now) vs c.in_ok-read_length.ensures.done) stop)
 
 pub read_filled-requires-clause-some : goal.read_filled-requires-clause-some
@@ -47,7 +47,7 @@ returns-in_err-bitmap-clause-stop c =
     let is : l ≡ suc (filled_octets n) = omega (arith, c.from-length.ensures) in
     let vs = packed c.read_length.new.units in
     let ws = packed c.read_octets.new.units in
-    let unused : Spells oer_fields (OctetsIn 1 (from_to (unused_bits n) (unused_bits n))) c.in_ok-read_octets.field-0 vs ws = rw c.from-unused.ensures at c.in_ok-read_octets.ensures.done in
+    let unused : Spells oer_fields (OctetsIn 1 (from_to (unused_bits n) (unused_bits n))) c.in_ok-read_octets.field-0 vs ws = rw (c.numbers.ensures, c.from-unused.ensures) at c.in_ok-read_octets.ensures.done in
     rw (p.1, p.2) (stops_by _ (presences_lead n l c.requires.some c.requires.few is c.in_ok-read_length.field-0 c.in_ok-read_octets.field-0 (packed c.args.units.now) vs ws c.in_ok-read_length.ensures.done unused).stops c.in_err-bitmap.ensures.stop)
 
 pub returns-clause-done : goal.returns-clause-done
@@ -58,5 +58,5 @@ returns-clause-done c =
     let is : l ≡ suc (filled_octets n) = omega (arith, c.from-length.ensures) in
     let vs = packed c.read_length.new.units in
     let ws = packed c.read_octets.new.units in
-    let unused : Spells oer_fields (OctetsIn 1 (from_to (unused_bits n) (unused_bits n))) c.in_ok-read_octets.field-0 vs ws = rw c.from-unused.ensures at c.in_ok-read_octets.ensures.done in
+    let unused : Spells oer_fields (OctetsIn 1 (from_to (unused_bits n) (unused_bits n))) c.in_ok-read_octets.field-0 vs ws = rw (c.numbers.ensures, c.from-unused.ensures) at c.in_ok-read_octets.ensures.done in
     (presences_lead n l c.requires.some c.requires.few is c.in_ok-read_length.field-0 c.in_ok-read_octets.field-0 (packed c.args.units.now) vs ws c.in_ok-read_length.ensures.done unused).done (c.in_ok-bitmap.field-0-0, c.in_ok-bitmap.bitmap) (packed c.read_filled.new.units) c.in_ok-bitmap.ensures.done

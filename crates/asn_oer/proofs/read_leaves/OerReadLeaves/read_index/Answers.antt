@@ -16,7 +16,7 @@ unfolding oer_coding oer_ruling
 returns-in_err-tag-clause-stop c =
     let p = err_from_is_err_and c.from_residual.result c.from_residual.ensures.1 in
     let us = packed c.args.units.now in
-    let stop : Stops oer_fields (OctetsIn 1 (from_to 128 (127 + alternatives_of c.args.root c.args.additions))) us c.in_err-tag.field-0.0 = rw (c.unwrap_or.ensures, (alternatives_are c.args.root c.args.additions c.requires.few).0) at c.in_err-tag.ensures.stop in
+    let stop : Stops oer_fields (OctetsIn 1 (from_to 128 (127 + alternatives_of c.args.root c.args.additions))) us c.in_err-tag.field-0.0 = rw (c.numbers-tags.ensures, c.unwrap_or.ensures, (alternatives_are c.args.root c.args.additions c.requires.few).0) at c.in_err-tag.ensures.stop in
     rw (p.1, p.2) (stops_by _ (tag_leads c.args.root c.args.additions c.requires.few us).stops stop)
 
 pub returns-then-tag-root-clause-done : goal.returns-then-tag-root-clause-done
@@ -25,7 +25,7 @@ returns-then-tag-root-clause-done c =
     let us = packed c.args.units.now in
     let vs = packed c.read_octets.new.units in
     let b = c.in_ok-tag.field-0 in
-    let read : Spells oer_fields (OctetsIn 1 (from_to 128 (127 + alternatives_of c.args.root c.args.additions))) b us vs = rw (c.unwrap_or.ensures, (alternatives_are c.args.root c.args.additions c.requires.few).0) at c.in_ok-tag.ensures.done in
+    let read : Spells oer_fields (OctetsIn 1 (from_to 128 (127 + alternatives_of c.args.root c.args.additions))) b us vs = rw (c.numbers-tags.ensures, c.unwrap_or.ensures, (alternatives_are c.args.root c.args.additions c.requires.few).0) at c.in_ok-tag.ensures.done in
     rw (← told_root c.args.root b c.if-tag-root.true) ((tag_leads c.args.root c.args.additions c.requires.few us).done b vs read)
 
 pub returns-else-tag-root-clause-done : goal.returns-else-tag-root-clause-done
@@ -34,5 +34,5 @@ returns-else-tag-root-clause-done c =
     let us = packed c.args.units.now in
     let vs = packed c.read_octets.new.units in
     let b = c.in_ok-tag.field-0 in
-    let read : Spells oer_fields (OctetsIn 1 (from_to 128 (127 + alternatives_of c.args.root c.args.additions))) b us vs = rw (c.unwrap_or.ensures, (alternatives_are c.args.root c.args.additions c.requires.few).0) at c.in_ok-tag.ensures.done in
+    let read : Spells oer_fields (OctetsIn 1 (from_to 128 (127 + alternatives_of c.args.root c.args.additions))) b us vs = rw (c.numbers-tags.ensures, c.unwrap_or.ensures, (alternatives_are c.args.root c.args.additions c.requires.few).0) at c.in_ok-tag.ensures.done in
     rw (← told_added c.args.root b (omega (arith, c.if-tag-root.false))) ((tag_leads c.args.root c.args.additions c.requires.few us).done b vs read)

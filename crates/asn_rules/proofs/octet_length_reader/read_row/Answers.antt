@@ -2,7 +2,7 @@ use Rattle.std.proofs.Common.{[], arith}
 use Rattle.asn_bits.specs.Moves.{Taken}
 use Rattle.asn_bits.proofs.FilledBits.{length-packed}
 use Rattle.asn_rules.proofs.Octets.OctetReading.{row_short, row_taken, row_whole}
-use Rattle.asn_rules.proofs.octet_reader.read_row.Goals as goal
+use Rattle.asn_rules.proofs.octet_length_reader.read_row.Goals as goal
 
 pub returns-then-octets_left-count-clause-stop : goal.returns-then-octets_left-count-clause-stop
 returns-then-octets_left-count-clause-stop c =

@@ -26,7 +26,7 @@ use std::alloc::{AllocError, Global};
 /// allocate more.
 const RESERVED_AT_ONCE: usize = 1024;
 
-/// The most octets of an open type field that are read without an allocation.
+/// How many octets a place on the stack has for those of a short open type field.
 pub const SHORT_OPEN_FIELD: usize = 128;
 
 /// Reads a value of the type.
@@ -148,6 +148,9 @@ pub(crate) fn read_open_field<R: ReadLeaves>(
 
 /// Reads the octets of an open type field, without its length: into `short`, where they are at hand and fit, and else
 /// into `long`.
+///
+/// # Errors
+/// As `ReadLeaves::read_open_octets`.
 #[inline(always)]
 pub fn read_open_octets<'a, R: ReadLeaves>(
     alloc: Global,

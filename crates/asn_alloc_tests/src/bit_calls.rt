@@ -132,6 +132,25 @@ pub fn octets(alloc: Global) -> Result<Outcome, AllocError> {
     Ok(judge(refused, holds(sink, 4 * TIMES, b"\x98\x12\x34\x56\x7a")))
 }
 
+/// `with_room`, and `push_row` of whole octets after whole octets.
+pub fn rows(alloc: Global) -> Result<Outcome, AllocError> {
+    let mut refused = false;
+    let mut sink = match BitSink::with_room(alloc) {
+        Ok(sink) => sink,
+        Err(_) => {
+            refused = true;
+            BitSink::with_room(alloc)?
+        }
+    };
+    for _ in 0..4 * TIMES {
+        if sink.push_row(b"\x81\x23\x45\x67").is_err() {
+            refused = true;
+            sink.push_row(b"\x81\x23\x45\x67")?;
+        }
+    }
+    Ok(judge(refused, holds(sink, 4 * TIMES, b"\x81\x23\x45\x67")))
+}
+
 /// `take_octets`, three at a time from the middle of an octet on, after others.
 pub fn octets_taken(alloc: Global) -> Result<Outcome, AllocError> {
     let mut given = BitCursor::over(GIVEN);

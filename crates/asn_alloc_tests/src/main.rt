@@ -12,7 +12,7 @@ mod simple;
 use asn_refused::report;
 use bit_calls::{
     fragments, lengths, numbers, octets, octets_of_numbers, octets_of_signed_numbers, octets_taken,
-    paddings, row_taken, single_bits,
+    paddings, row_taken, rows, single_bits,
 };
 use composed::composed;
 use message::{empty, message};
@@ -63,6 +63,7 @@ fn calls_on_sinks(rt: &impl Print, alloc: Global) -> bool {
 /// Whether each call on octets does.
 fn calls_on_octets(rt: &impl Print, alloc: Global) -> bool {
     let mut right = report(rt, "BitSink", "push_octets", octets(alloc));
+    right &= report(rt, "BitSink", "push_row", rows(alloc));
     right &= report(rt, "BitCursor", "take_octets", octets_taken(alloc));
     right &= report(rt, "BitCursor", "take_row", row_taken(alloc));
     right &= report(rt, "BitSink", "push_general_octets", fragments(alloc));

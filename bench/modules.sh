@@ -14,27 +14,13 @@ top=$(dirname "$here")
 room=${BENCH_MODULES:-${TMPDIR:-/tmp}/asn-bench-modules-$(id -u)}
 rounds=${1:-5}
 
-mkdir -p "$room/crates/bench_reading/src"
-for crate in asn_values asn_notation asn_module; do
-    from=$top/crates/$crate/
-    to=$room/crates/$crate
-    mkdir -p "$to"
-    for part in src specs proofs; do
-        rm -rf "${to:?}/$part"
-        if [ -d "$from$part" ]; then cp -a "$from$part" "$to/$part"; fi
-    done
-    if [ -d "${from}out" ] && [ ! -d "$to/out" ]; then cp -a "${from}out" "$to/out"; fi
-done
-cp "$top/HANDLES" "$room/"
-{ grep -E '^(asn_values|asn_notation|asn_module):' "$top/crates.txt"; echo "bench_reading: asn_module anyhow"; } >"$room/crates.txt"
-cp "$here/reading/main.rt.in" "$room/crates/bench_reading/src/main.rt"
-
-cd "$room/crates/bench_reading"
-if ! nice "${RT:-rt}" run --jobs 1 -- 0 </dev/null >"$room/build.log" 2>&1; then
+mkdir -p "$room"
+if ! nice "$top/tests/room.py" prove "$room" "$here/reading" -- 0 </dev/null >"$room/build.log" 2>&1; then
     grep -E 'error|no proof|not proved|logic=' "$room/build.log" || tail -n 20 "$room/build.log"
     echo "bench: the program was not built; $room/build.log says more" >&2
     exit 1
 fi
+cd "$room/crates/bench_reading"
 
 # a text of this kind, with n assignments, types or lines
 text() {

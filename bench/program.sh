@@ -35,22 +35,8 @@ input "$lines" cam.values >"$work/json"
 # ---- the program that does one part
 
 build() {
-  local uses from to part
-  mkdir -p "$room/crates/bench_parts/src"
-  for from in "$top"/crates/*/; do
-    to=$room/crates/$(basename "$from")
-    mkdir -p "$to"
-    for part in src specs proofs; do
-      rm -rf "${to:?}/$part"
-      if [ -d "$from$part" ]; then cp -a "$from$part" "$to/$part"; fi
-    done
-    if [ -d "${from}out" ] && [ ! -d "$to/out" ]; then cp -a "${from}out" "$to/out"; fi
-  done
-  cp "$top/HANDLES" "$room/"
-  uses='asn_values asn_bits asn_rules asn_walk asn_walk_read asn_walk_write asn_walk_into asn_per asn_oer asn_notation'
-  { cat "$top/crates.txt"; echo "bench_parts: $uses asn_module asn_json anyhow hex serde_json"; } >"$room/crates.txt"
-  cp "$here/parts/main.rt.in" "$room/crates/bench_parts/src/main.rt"
-  (cd "$room/crates/bench_parts" && ${RT:-rt} run -- none 0 <"$work/one") >"$room/parts.log" 2>&1
+  mkdir -p "$room"
+  "$top/tests/room.py" prove "$room" "$here/parts" -- none 0 <"$work/one" >"$room/parts.log" 2>&1
 }
 
 parts=${PARTS:-$room/crates/bench_parts/out/bench_parts}

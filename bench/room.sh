@@ -7,20 +7,7 @@ room=${BENCH_ROOM:-${TMPDIR:-/tmp}/asn-bench-$(id -u)}
 # what both compilers build for
 cpu=x86-64-v2
 
-# a workspace, with what earlier checks kept here or there
-mkdir -p "$room/crates/asn_bench/src"
-for from in "$top"/crates/*/; do
-    to=$room/crates/$(basename "$from")
-    mkdir -p "$to"
-    for part in src specs proofs; do
-        rm -rf "${to:?}/$part"
-        if [ -d "$from$part" ]; then cp -a "$from$part" "$to/$part"; fi
-    done
-    if [ -d "${from}out" ] && [ ! -d "$to/out" ]; then cp -a "${from}out" "$to/out"; fi
-done
-cp "$top/HANDLES" "$room/"
-{ cat "$top/crates.txt"; echo "asn_bench: asn_values asn_rules asn_per asn_oer asn_newer asn_module anyhow hex"; } >"$room/crates.txt"
-cp "$here/codec/main.rt.in" "$room/crates/asn_bench/src/main.rt"
+"$top/tests/room.py" lay "$room" "$here/codec"
 
 # the messages: a module of all types, and the octets that the Rust program gives by hand
 cd "$here/baseline"

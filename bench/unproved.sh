@@ -8,4 +8,5 @@
 set -euo pipefail
 program=$1
 source "$(dirname "$0")/room.sh"
-python3 "$here/unproved.py" "$room/crates/asn_bench" "$top" "$program" <"$room/messages"
+"$top/tests/room.py" build "$room" "$here/codec"
+cp "$room/asn_bench" "$program"

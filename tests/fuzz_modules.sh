@@ -13,27 +13,13 @@ room=${FUZZ_MODULES:-${TMPDIR:-/tmp}/asn-fuzz-modules-$(id -u)}
 runs=${1:-20}
 seed=${2:-1}
 
-mkdir -p "$room/crates/fuzz_modules/src"
-for crate in asn_values asn_notation asn_module; do
-    from=$top/crates/$crate/
-    to=$room/crates/$crate
-    mkdir -p "$to"
-    for part in src specs proofs; do
-        rm -rf "${to:?}/$part"
-        if [ -d "$from$part" ]; then cp -a "$from$part" "$to/$part"; fi
-    done
-    if [ -d "${from}out" ] && [ ! -d "$to/out" ]; then cp -a "${from}out" "$to/out"; fi
-done
-cp "$top/HANDLES" "$room/"
-{ grep -E '^(asn_values|asn_notation|asn_module):' "$top/crates.txt"; echo "fuzz_modules: asn_notation asn_module anyhow"; } >"$room/crates.txt"
-cp "$top/tests/fuzz/main.rt.in" "$room/crates/fuzz_modules/src/main.rt"
-
-cd "$room/crates/fuzz_modules"
-if ! nice "${RT:-rt}" run --jobs 1 -- 1 1 </dev/null >"$room/build.log" 2>&1; then
+mkdir -p "$room"
+if ! nice "$top/tests/room.py" prove "$room" "$top/tests/fuzz" -- 1 1 </dev/null >"$room/build.log" 2>&1; then
     grep -E 'error|no proof|not proved|logic=' "$room/build.log" || tail -n 20 "$room/build.log"
     echo "fuzz: the program was not built; $room/build.log says more" >&2
     exit 1
 fi
+cd "$room/crates/fuzz_modules"
 for run in $(seq 1 "$runs"); do
     nice out/fuzz_modules $((seed + run * 7919)) 50000
 done

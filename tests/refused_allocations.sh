@@ -1,11 +1,14 @@
 #!/usr/bin/env bash
-# Refuses in turn each allocation of the programs that `rt ci` has built, by tests/refuse_allocation.c.
+# Refuses in turn each allocation of programs, by tests/refuse_allocation.c.
 #
-# crates/asn_alloc_tests and crates/asn_refused_texts make the calls of the libraries: one call has to answer `Memory`, and
-# each other call, and that one when it is made again, what it answers with memory at hand. The runner asn_first and the
-# program asn_tool have to end with `memory` and status 3.
-# A program that is not there is proved and built first.
+# usage: tests/refused_allocations.sh ROOM
+#
+# The programs `memory` and `memory_texts` of tests/programs, which tests/room.py has built in ROOM, make the calls of the
+# libraries: one call has to answer `Memory`, and each other call, and that one when it is made again, what it answers
+# where no allocation is refused. The runner asn_first and the program asn_tool, as `rt ci` has built them, have to end
+# with `memory` and status 3.
 set -euo pipefail
+room=$(realpath "${1:?usage: tests/refused_allocations.sh ROOM}")
 cd "$(dirname "$0")/.."
 
 work=$(mktemp -d)
@@ -41,22 +44,23 @@ run() { # the program; what it writes is in $work/out and $work/err, and `r` in 
     <"$given" >"$work/out" 2>"$work/err" 3>"$work/refused" || status=$?
 }
 
-refuse_each() { # the crate, and the function that looks at a run in which an allocation was refused
-  local crate=$1 look=$2 program=crates/$1/out/$1 words=()
-  [ -x "$program" ] || (cd "crates/$crate" && rt run)
-  given=crates/$crate/stdin
+refuse_each() { # the program, the folder of what it reads and writes, and the function that looks at a run with a refusal
+  local program=$1 crate look=$3 words=()
+  folder=$2
+  crate=$(basename "$1")
+  given=$folder/stdin
   [ -f "$given" ] || given=/dev/null
-  if [ -f "crates/$crate/args" ]; then mapfile -t words <"crates/$crate/args"; fi
+  if [ -f "$folder/args" ]; then mapfile -t words <"$folder/args"; fi
   number=0
   begun=0
   while run "$program" "${words[@]}" && [ -s "$work/refused" ]; do
     [ "$(<"$work/refused")" = r ] || fail "$crate: more than one allocation was refused in run $number"
     if [ -s "$work/out" ]; then begun=$((begun + 1)); fi
-    "$look" "$crate" || fail "$crate, allocation $number refused: status $status; $(cat "$work/out" "$work/err")"
+    "$look" || fail "$crate, allocation $number refused: status $status; $(cat "$work/out" "$work/err")"
   done
   runs=$((number - 1))
   [ "$runs" -gt 0 ] || fail "$crate: no allocation was refused"
-  [ "$status" = 0 ] && cmp "$work/out" "crates/$crate/stdout" ||
+  [ "$status" = 0 ] && cmp "$work/out" "$folder/stdout" ||
     fail "$crate does not write its answer where no allocation is refused"
 }
 
@@ -66,11 +70,11 @@ call='(memory|arguments): [A-Za-z ]+: [A-Za-z_:]+'
 line=$'\n'
 calls=0 # runs in which a call was refused memory
 
-one_call_tells() { # the crate
+one_call_tells() {
   local said
   said=$(<"$work/out")
   # some calls make allocations that they can do without: nothing is told then, and each answer is right
-  if [ "$status" = 0 ] && cmp -s "$work/out" "crates/$1/stdout"; then return; fi
+  if [ "$status" = 0 ] && cmp -s "$work/out" "$folder/stdout"; then return; fi
   [ "$status" = 0 ] && [[ $said =~ ^${call}${line}again${line}done$ || $said =~ ^again${line}${call}${line}done$ ]] &&
     grep -E "^$call$" "$work/out" >>"$work/told"
 }
@@ -84,7 +88,7 @@ told_of() { # what was called for, and the names of the calls of which each has 
 }
 
 : >"$work/told"
-refuse_each asn_alloc_tests one_call_tells
+refuse_each "$room/test_memory" tests/programs/memory one_call_tells
 for of in message simple composed; do
   told_of "$of" Checked::new
   told_of "$of in PER" encode decode decode_into feed
@@ -95,7 +99,7 @@ told_of BitSink push push_number push_octets push_length push_general_octets pus
   push_least_signed_octets pad
 told_of BitCursor take_octets take_row
 
-refuse_each asn_refused_texts one_call_tells
+refuse_each "$room/test_memory_texts" tests/programs/memory_texts one_call_tells
 told_of value to_json from_json
 told_of shape from_json
 told_of module read print run
@@ -112,15 +116,15 @@ calls=$(grep -c '^memory' "$work/told")
 
 # ---- the runner and the program: the line `memory` and status 3, and of the output a beginning
 
-ends_with_memory() { # the crate
+ends_with_memory() {
   [ "$status" = 3 ] && [ "$(<"$work/err")" = memory ] &&
-    cmp -s -n "$(stat -c %s "$work/out")" "$work/out" "crates/$1/stdout"
+    cmp -s -n "$(stat -c %s "$work/out")" "$work/out" "$folder/stdout"
 }
 
-refuse_each asn_first ends_with_memory
+refuse_each crates/asn_first/out/asn_first crates/asn_first ends_with_memory
 [ "$begun" = 0 ] || fail "asn_first writes before it ends with memory"
 runner=$runs
-refuse_each asn_tool ends_with_memory
+refuse_each crates/asn_tool/out/asn_tool crates/asn_tool ends_with_memory
 
 echo "refused allocations: $calls of the calls of the libraries, $runner of the runner and $runs of the program, each" \
   "answered by memory"

@@ -1,0 +1,574 @@
+#!/usr/bin/env python3
+"""Tries the wrong bodies of tests/edits, many in one check, and wants each refused by a goal of its own function.
+
+usage: tests/edits.py [CRATE..]      at the top of the repository: tries all edits of these crates, or of all
+       tests/edits.py --due          as the gate does: those of the crates that changed, and of a quarter of the others
+       tests/edits.py --list         says which edits there are, and what each changes; tries none
+       tests/edits.py --self-test    tries wrong edits of a tiny crate with right ones among them, which have to be told
+
+An edit is a file tests/edits/CRATE/NAME.edit: a line 'file: src/FILE.rt', and then pairs of lines 'old: TEXT' and
+'new: TEXT', one line each; the old text stands once in the file. Edits of different functions go into one copy of the
+crate, and one check of these functions alone (`--only`) judges them all. An edit is refused where the check names a
+goal of the edited function itself that is not proved, or finds an error in the proof of that function. It is no refusal
+that the function calls one that is not proved, or that its proof names something that is not there any more. What is
+not refused so is tried once more in a smaller group, and then alone. An edit that changes no single function's body
+is tried alone, and the whole crate is checked.
+
+tests/edits/tried has for each crate a sum of what its edits were tried over: the crate, its edits, the contracts and
+definitions below it, and the logic of the kit. A run over a crate notes it there where every edit was refused, and
+tests/edits/alone.txt says which edits had to be tried alone, and why. --due tries the crates whose sum is not noted, and
+of the others those whose turn it is by the number of commits, so that each is tried again within four merges.
+"""
+import hashlib
+import importlib.machinery
+import importlib.util
+import os
+import re
+import shutil
+import subprocess
+import sys
+import tempfile
+import threading
+import time
+from concurrent.futures import ThreadPoolExecutor
+
+sys.dont_write_bytecode = True
+EDITS, TRIED, ALONE = "tests/edits", "tests/edits/tried", "tests/edits/alone.txt"
+TURNS = 4
+
+
+def kit_command():
+    """The kit's own command as a module: its copying of crates, its checks and its single edits are used here."""
+    loader = importlib.machinery.SourceFileLoader("rt_of_kit", os.path.realpath(shutil.which("rt")))
+    module = importlib.util.module_from_spec(importlib.util.spec_from_loader("rt_of_kit", loader))
+    loader.exec_module(module)
+    return module
+
+
+rt = kit_command()
+rtlib = rt.rtlib
+
+
+# ---- the functions of a file, as the checker names them
+
+
+def blanked(text):
+    """The text with blanks for comments, strings and characters."""
+
+    def hide(token):
+        starts = token[0][:1] in "/\"'" or token[0][:2] in ('b"', 'r"', "r#", 'c"')
+        return re.sub(r"[^\n]", " ", token[0]) if starts and len(token[0]) > 1 else token[0]
+
+    return rtlib.RUST_TOKEN.sub(hide, text)
+
+
+def closing(code, at):
+    """The place after the brace that closes the one at `at`."""
+    depth = 0
+    for place in range(at, len(code)):
+        depth += {"{": 1, "}": -1}.get(code[place], 0)
+        if not depth:
+            return place + 1
+    return len(code)
+
+
+def without_angles(text):
+    while re.search(r"<[^<>]*>", text):
+        text = re.sub(r"<[^<>]*>", " ", text)
+    return text
+
+
+def owners_of(code):
+    """(start, end, name) of each impl block and trait: `Type`, `TypeTrait` for a trait's impl, `Trait`."""
+    found = []
+    for match in re.finditer(r"\b(impl|trait)\b([^;{]*)\{", code):
+        head = re.sub(r"\bwhere\b.*", "", re.sub(r"'\w+", "", without_angles(match[2])), flags=re.S)
+        words = re.findall(r"\w+", head.partition(":")[0] if match[1] == "trait" else head)
+        if words:
+            name = words[-1] + words[words.index("for") - 1] if "for" in words else words[-1] if match[1] == "impl" else words[0]
+            found.append((match.start(), closing(code, match.end() - 1), name))
+    return found
+
+
+def body_of(code, at):
+    """The place of the brace that opens the body of a function whose name ends at `at`, or None where it has none."""
+    start = at
+    while True:
+        brace = re.compile(r"[{;]").search(code, at)
+        if not brace:
+            return None
+        before = code[start : brace.start()]
+        if brace[0] == ";":
+            if before.count("[") == before.count("]"):
+                return None
+            at = brace.end()
+        elif re.search(r"(requires|ensures)(\s*\*)?(\s+\w+)?\s*$|ghost(\s+\w+)?\s*[:=]?\s*$", before):
+            # a clause
+            at = closing(code, brace.start())
+        else:
+            return brace.start()
+
+
+def functions(path, text):
+    """(name, cycle, place of the body, its end) of each function of a source file that has a body. The name is that below
+    the crate, and for a method, which the checker names by the module of its type, the type and the method."""
+    code, found = blanked(text), []
+    module = path[len("src/") : -len(".rt")].replace("/", "::")
+    module = "" if module in ("lib", "main") else module
+    owners = owners_of(code)
+    for match in re.finditer(r"\bfn\s+(\w+)", code):
+        body = body_of(code, match.end())
+        if body is None:
+            continue
+        owner = [name for start, end, name in owners if start < match.start() < end]
+        name = "::".join(it for it in (owner[-1] if owner else module, match[1]) if it)
+        cycle = re.search(r"#\[cycle\((\w+)\)\][^{};]*$", code[: match.start()])
+        found.append((name, cycle and cycle[1], body, closing(code, body)))
+    return found
+
+
+# ---- edits
+
+
+class Edit:
+    """An edit of a crate, and the one function whose body it changes, if there is one."""
+
+    def __init__(self, crate, file):
+        self.crate, self.file = crate, file
+        self.label = f"{crate.name}/{os.path.basename(file)}"
+        self.pairs, path, old = [], "", None
+        with open(file, encoding="utf-8") as it:
+            for line in it.read().split("\n"):
+                if line.startswith("file: "):
+                    path = line[len("file: ") :].strip()
+                elif line.startswith("old: "):
+                    old = line[len("old: ") :]
+                elif line.startswith("new:") and old is not None:
+                    self.pairs.append((path, old, line[len("new:") :].removeprefix(" ")))
+                    old = None
+        self.fault = rt.read_edit(file, crate.folder)[1]
+        self.function, self.cycle = (None, None) if self.fault else self.one_function()
+
+    def one_function(self):
+        found = set()
+        for path, old, _ in self.pairs:
+            if not path.startswith("src/"):
+                return None, None
+            if old.startswith("use "):
+                continue
+            with open(f"{self.crate.folder}/{path}", encoding="utf-8") as it:
+                text = it.read()
+            at = text.find(old)
+            inside = [it for it in functions(path, text) if it[2] <= at < it[3]]
+            found.add((path, *inside[-1][:2]) if inside else None)
+        if len(found) != 1 or None in found:
+            return None, None
+        path, name, cycle = found.pop()
+        return name, cycle and f"{path}: {cycle}"
+
+
+def applied(edits):
+    """The texts of the files that these edits change together, or None where they do not go together."""
+    texts = {}
+    for edit in edits:
+        for path, old, new in edit.pairs:
+            if path not in texts:
+                with open(f"{edit.crate.folder}/{path}", encoding="utf-8") as it:
+                    texts[path] = it.read()
+            if texts[path].count(old) != 1:
+                return None
+            texts[path] = texts[path].replace(old, new)
+    return texts
+
+
+def groups_of(edits, one_a_cycle):
+    """The edits in groups, no two of one function (or of one cycle) in a group."""
+    groups, left = [], edits
+    while left:
+        group, used = [], set()
+        for edit in left:
+            what = edit.cycle if one_a_cycle and edit.cycle else edit.function
+            if what not in used and applied([*group, edit]) is not None:
+                group.append(edit)
+                used.add(what)
+        groups.append(group)
+        left = [it for it in left if it not in group]
+    return groups
+
+
+# ---- what a check says of a function
+
+LINE = re.compile(r"fn (\S+): (proved|not proved|no proof)(.*)")
+NOTE = re.compile(r"note: src/\S+: (?:it is not proved|.* is not proved|.*not proved that).*\(`([^`]*)`\)")
+ERROR = re.compile(r"(?:\./)?(proofs/\S+?):\d+:\d+: error: (?:`([^`]*)`: )?(.*)")
+GONE = re.compile(r"has no field|is not in scope|has no `|not admitted|no name|nearest: ")
+
+
+class Report:
+    """The lines of a check, by the function that they stand before."""
+
+    def __init__(self, said):
+        self.lines, self.before, self.errors, above = {}, {}, [], []
+        for line in said.split("\n"):
+            match = LINE.match(line)
+            if match:
+                self.lines[match[1]] = match[2], match[3]
+                self.before[match[1]] = above
+                above = []
+            else:
+                above.append(line)
+                error = ERROR.match(line)
+                if error:
+                    self.errors.append((os.path.dirname(error[1]), error[2] or "", error[3]))
+
+    def goal(self, crate, edit):
+        """A goal of the edit's function that is not proved, or None and why none is told."""
+        paths = [it for it in self.lines if f"::{it}".endswith(f"::{edit.function}")]
+        if len(paths) != 1:
+            return None, "the check says nothing of its function" if not paths else f"the check knows it as {' and '.join(paths)}"
+        path = paths[0]
+        verdict, more = self.lines[path]
+        if verdict == "proved":
+            return None, "its function is proved"
+        last, in_cycle = edit.function.split("::")[-1], re.search(r"in \./proofs/\S*\+|of this cycle", more) or edit.cycle
+        own = lambda goal: goal.startswith(f"{last}-") if in_cycle else bool(goal)
+        folder = "proofs/" + path.partition("::")[2].replace("::", "/")
+        home = lambda it: it == folder or os.path.basename(it).startswith("+") and os.path.dirname(it) == os.path.dirname(folder)
+        errors = [(goal, text) for it, goal, text in self.errors if home(it) and (own(goal) or not goal and it == folder)]
+        told = [goal or text[:60] for goal, text in errors if not GONE.search(text)]
+        if told:
+            return told[0], None
+        names_gone = any(GONE.search(text) for _, text in errors)
+        found = [match[1] for match in map(NOTE.match, self.before[path]) if match]
+        searched = re.search(r"`search` did not prove ((?:`[^`]*`(?:, )?)+)", more)
+        found += re.findall(r"`([^`]*)`", searched[1]) if searched else []
+        found = [goal for goal in found if own(goal)]
+        if found and not names_gone:
+            return found[0], None
+        if names_gone:
+            return None, "its proof names what the edit took away"
+        return None, "no goal of its own function is told: " + (more.strip(" :;")[:100] or "its cycle has others that are")
+
+
+def check(crate, edits, flags, seed):
+    """What a check of the crate with these edits says, over a copy of what the seed holds."""
+    with tempfile.TemporaryDirectory(prefix=f"rt-edits-{os.getpid()}-") as room:
+        rt.linked(seed, f"{room}/kept")
+        with LANES:
+            return rt.checked(crate, applied(edits), ["--jobs", "1", *flags], f"{room}/kept").stdout
+
+
+# ---- the edits of a crate
+
+LANES = threading.Semaphore(1)
+PRINTING = threading.Lock()
+
+
+def say(text):
+    with PRINTING:
+        print(text, flush=True)
+
+
+class Tries:
+    """The tries of a crate's edits: what was refused by which goal, what was tried alone and why, and what was not refused."""
+
+    def __init__(self, crate, edits):
+        self.crate, self.edits = crate, edits
+        self.refused, self.alone, self.bad, self.checks = {}, {}, {}, 0
+
+    def run(self, pool):
+        seed = self.seed()
+        if not seed:
+            self.bad = {it.label: "the crate itself is not proved" for it in self.edits}
+            return say(f"{self.crate.name}: NOT TRIED: the crate itself is not proved")
+        for edit in self.edits:
+            if edit.fault:
+                self.bad[edit.label] = edit.fault
+        single = [it for it in self.edits if not it.fault and not it.function]
+        left = [it for it in self.edits if it.function]
+        reasons = {}
+        for one_a_cycle in (False, True):
+            groups = [it for it in groups_of(left, one_a_cycle) if len(it) > 1 or not one_a_cycle]
+            for found in [*pool.map(lambda group: self.together(group, seed), groups)]:
+                reasons.update(found)
+            left = [it for it in left if it.label not in self.refused]
+        tasks = [(it, reasons.get(it.label, "no other edit goes with it")) for it in left]
+        [*pool.map(lambda task: self.by_itself(*task, seed), tasks)]
+        [*pool.map(lambda edit: self.whole(edit, seed), single)]
+        shutil.rmtree(os.path.dirname(seed), ignore_errors=True)
+
+    def seed(self):
+        """A folder with what a check of the crate as it stands proved, begun with what earlier checks kept here."""
+        rt.adopt(self.crate, is_alone=False)
+        kept = f"{self.crate.folder}/out/incremental"
+        with LANES:
+            room = rt.seeded(self.crate, ["--jobs", "1"], kept if os.path.isdir(kept) else None)
+        return room and f"{room}/seed"
+
+    def together(self, group, seed):
+        """Tries a group in one check, and returns why what was not refused was not."""
+        start = time.time()
+        only = [word for edit in group for word in ("--only", edit.function)]
+        report = Report(check(self.crate, group, only, seed))
+        self.checks += 1
+        reasons = {}
+        for edit in group:
+            goal, why = report.goal(self.crate, edit)
+            if goal:
+                self.refused[edit.label] = goal
+            else:
+                reasons[edit.label] = why
+        say(f"{self.crate.name}: {len(group) - len(reasons)} of {len(group)} edits refused in one check of {time.time() - start:.0f} s")
+        return reasons
+
+    def by_itself(self, edit, reason, seed):
+        """Tries an edit of a function alone, by the same rule."""
+        report = Report(check(self.crate, [edit], ["--only", edit.function], seed))
+        self.checks += 1
+        goal, why = report.goal(self.crate, edit)
+        if goal:
+            self.refused[edit.label] = goal
+            self.alone[edit.label] = reason
+            return say(f"{edit.label}: refused alone: {goal} (in a group: {reason})")
+        self.bad[edit.label] = why
+        say(f"{edit.label}: NOT REFUSED by a goal of {edit.function}: {why}")
+
+    def whole(self, edit, seed):
+        """Tries an edit that changes more than one function's body, with a check of the whole crate."""
+        with tempfile.TemporaryDirectory(prefix=f"rt-edits-{os.getpid()}-") as room:
+            rt.linked(seed, f"{room}/kept")
+            with LANES:
+                kind, text = rt.must_fail(self.crate, edit.file, ["--jobs", "1"], f"{room}/kept")
+        self.checks += 1
+        text = text.split(": ", 1)[-1]
+        if kind == rt.REFUSED and "(only because" not in text:
+            self.refused[edit.label] = text
+            self.alone[edit.label] = "it changes more than the body of one function"
+            return say(f"{edit.label}: refused alone: {text}")
+        self.bad[edit.label] = text
+        say(f"{edit.label}: NOT REFUSED: {text}")
+
+
+# ---- which crates, and what is noted of them
+
+
+def text_of(file):
+    with open(file, "rb") as it:
+        return it.read().decode(errors="replace")
+
+
+def contracts_of(path, text):
+    """The text of a source file without the bodies of its functions."""
+    kept, at = [], 0
+    for _, _, body, end in sorted(functions(path, text), key=lambda it: it[2]):
+        if body >= at:
+            kept += [text[at:body], "{}"]
+            at = end
+    return "".join(kept) + text[at:]
+
+
+def sum_of(crate, edits):
+    """A sum of what the crate's edits are tried over."""
+    total = hashlib.sha256(text_of(f"{rt.KIT}/KIT-ID").partition("logic")[2].encode())
+    for file in rtlib.files_of(crate.folder):
+        total.update(repr((os.path.relpath(file, crate.folder), text_of(file))).encode())
+    for edit in edits:
+        total.update(repr((edit.label, text_of(edit.file))).encode())
+    for below in crate.below():
+        for file in rtlib.files_of(below.folder):
+            path = os.path.relpath(file, below.folder)
+            if path.startswith("src/"):
+                total.update(repr((below.name, path, contracts_of(path, text_of(file)))).encode())
+            elif path.startswith("specs/"):
+                total.update(repr((below.name, path, text_of(file))).encode())
+    return total.hexdigest()[:24]
+
+
+def noted():
+    if not os.path.isfile(TRIED):
+        return {}
+    return dict(line.split() for line in text_of(TRIED).splitlines() if line and not line.startswith("#"))
+
+
+def note(results, sums):
+    """Writes which crates were tried as they stand, and which edits were tried alone."""
+    done = {it.crate.name: sums[it.crate.name] for it in results if not it.bad}
+    known = {**noted(), **done}
+    for it in results:
+        if it.bad:
+            known.pop(it.crate.name, None)
+    with open(TRIED, "w", encoding="utf-8") as it:
+        it.write("# A crate, and a sum of what its edits were tried over and refused; written by tests/edits.py.\n")
+        it.writelines(f"{name} {known[name]}\n" for name in sorted(known) if os.path.isdir(f"{EDITS}/{name}"))
+    new = [it.crate.name for it in results]
+    kept = [line for line in text_of(ALONE).splitlines() if line and line.split("/")[0] not in new and line[0] != "#"] if os.path.isfile(ALONE) else []
+    kept += [f"{label}: {why}" for it in results for label, why in it.alone.items()]
+    with open(ALONE, "w", encoding="utf-8") as it:
+        it.write("# The edits that were tried alone, and why: in a group no goal of their own was told. Written by tests/edits.py.\n")
+        it.writelines(f"{line}\n" for line in sorted(kept))
+
+
+def edits_of(crate):
+    folder = f"{os.getcwd()}/{EDITS}/{crate.name}"
+    names = sorted(os.listdir(folder)) if os.path.isdir(folder) else []
+    return [Edit(crate, f"{folder}/{name}") for name in names if name.endswith(".edit")]
+
+
+def number_of_commits():
+    ran = subprocess.run(["git", "rev-list", "--count", "HEAD"], capture_output=True, text=True)
+    return int(ran.stdout) if ran.returncode == 0 and ran.stdout.strip().isdigit() else 0
+
+
+def has_turn(name, number):
+    return int(hashlib.sha256(name.encode()).hexdigest(), 16) % TURNS == number % TURNS
+
+
+def lanes():
+    """How many checks go side by side: one a processor, and no more than memory holds."""
+    return max(1, min(rt.processors(), int(rt.free() // 4_500_000_000)))
+
+
+def try_all(chosen, edits):
+    """Tries the edits of these crates, and returns what became of them."""
+    global LANES
+    LANES = threading.Semaphore(lanes())
+    rtlib.guarded()
+    # the libraries below, where they are not built yet
+    for crate in chosen:
+        crate.out = open(os.devnull, "w")
+        for below in crate.below():
+            if not os.path.isdir(below.rlib) and below.build_rlib(["--jobs", "1"], anew=False):
+                rtlib.stop(f"{below.name}, which {crate.name} stands on, is not proved")
+    results = [Tries(it, edits[it.name]) for it in chosen]
+    with ThreadPoolExecutor(max(len(results), 1)) as crates, ThreadPoolExecutor(64) as pool:
+        [*crates.map(lambda it: it.run(pool), results)]
+    return results
+
+
+def summary(results, edits, left):
+    tried = sum(len(it.edits) for it in results)
+    bad = {label: why for it in results for label, why in it.bad.items()}
+    alone = sum(len(it.alone) for it in results)
+    checks = sum(it.checks for it in results)
+    for label, why in sorted(bad.items()):
+        say(f"{label}: NOT REFUSED: {why}")
+    total = sum(len(it) for it in edits.values())
+    say(f"edits: {total} of {len(edits)} crates; tried in this run: {tried}, in {checks} checks, {alone} of them alone; refused: {tried - len(bad)}")
+    if left:
+        say(f"tried before as they stand, and left to their turn: {' '.join(left)}")
+    say(f"{tried - len(bad)} passed, {len(bad)} failed")
+    return 1 if bad else 0
+
+
+# ---- the test of this script
+
+TINY = """//! Numbers, for the test of tests/edits.py.
+#![tactic(auto)]
+ghost use Rattle.std.specs.Prelude.{◌≡◌, ◌+◌, ◌≤◌, ◌<◌};
+
+/// The greater of two numbers.
+pub fn greater(a: u32, b: u32) -> u32
+    ensures first { a ≤ result }
+    ensures second { b ≤ result }
+{
+    if a < b { b } else { a }
+}
+
+/// The number above.
+pub fn above(a: u32) -> u32
+    requires { a < 1000 }
+    ensures { result ≡ a + 1 }
+{
+    a + 1
+}
+
+/// The number two above.
+pub fn two_above(a: u32) -> u32
+    requires { a < 900 }
+    ensures { result ≡ a + 2 }
+{
+    above(above(a))
+}
+
+/// The number three above.
+pub fn three_above(a: u32) -> u32
+    requires { a < 800 }
+    ensures { result ≡ a + 3 }
+{
+    above(two_above(a))
+}
+"""
+WRONG = {
+    "greater_is_the_lesser": ("if a < b { b } else { a }", "if a < b { a } else { b }"),
+    "above_is_two_above": ("    a + 1\n".strip("\n"), "    a + 2"),
+}
+RIGHT = {
+    "greater_by_another_test": ("if a < b { b } else { a }", "if b <= a { a } else { b }"),
+    "two_above_calls_nothing": ("    above(above(a))", "    a + 2"),
+    "three_above_the_other_way": ("    above(two_above(a))", "    two_above(above(a))"),
+}
+
+
+def self_test():
+    """Wrong and right edits of a tiny crate: exactly the right ones have to be told as not refused."""
+    with tempfile.TemporaryDirectory(prefix=f"rt-edits-{os.getpid()}-") as room:
+        os.makedirs(f"{room}/crates/tiny/src")
+        os.makedirs(f"{room}/{EDITS}/tiny")
+        files = {"crates.txt": "tiny:\n", "HANDLES": "Handles allowed: none.\n", "crates/tiny/src/lib.rt": TINY}
+        for name, (old, new) in {**WRONG, **RIGHT}.items():
+            files[f"{EDITS}/tiny/{name}.edit"] = f"file: src/lib.rt\nold: {old}\nnew: {new}\n"
+        for name, text in files.items():
+            with open(f"{room}/{name}", "w", encoding="utf-8") as it:
+                it.write(text)
+        here = os.getcwd()
+        os.chdir(room)
+        try:
+            crates = rtlib.crates_below(room)
+            edits = {it.name: edits_of(it) for it in crates}
+            told = {it for tries in try_all(crates, edits) for it in tries.bad}
+        finally:
+            os.chdir(here)
+    wanted = {f"tiny/{name}.edit" for name in RIGHT}
+    well = told == wanted
+    say(f"the test of tests/edits.py: {'the right edits among the wrong ones were told' if well else f'FAILED: told as not refused {sorted(told)}, and not {sorted(wanted)}'}")
+    say("1 passed, 0 failed" if well else "0 passed, 1 failed")
+    return 0 if well else 1
+
+
+def main(words):
+    if words == ["--self-test"]:
+        return self_test()
+    if any(it.startswith("-") and it not in ("--due", "--list") for it in words):
+        print(__doc__, file=sys.stderr)
+        return 2
+    os.chdir(os.path.join(os.path.dirname(os.path.abspath(__file__)), ".."))
+    crates = rtlib.crates_below(os.getcwd())
+    edits = {it.name: edits_of(it) for it in crates}
+    edits = {name: found for name, found in edits.items() if found}
+    strange = [it for it in os.listdir(EDITS) if os.path.isdir(f"{EDITS}/{it}") and it not in edits]
+    names = [it for it in words if not it.startswith("-")]
+    strange += [it for it in names if it not in edits]
+    if strange:
+        say(f"no crate with edits: {' '.join(strange)}")
+        return 2
+    chosen = [it for it in crates if it.name in (names or edits)]
+    if "--list" in words:
+        for crate in chosen:
+            for edit in edits[crate.name]:
+                say(f"{edit.label}: {edit.fault or edit.function or 'no single function'}")
+        return 0
+    sums = {it.name: sum_of(it, edits[it.name]) for it in crates if it.name in edits}
+    left = []
+    if "--due" in words:
+        known, number = noted(), number_of_commits()
+        due = [it for it in chosen if known.get(it.name) != sums[it.name] or has_turn(it.name, number)]
+        left, chosen = [it.name for it in chosen if it not in due], due
+    results = try_all(chosen, edits)
+    if "--due" not in words:
+        note(results, sums)
+    return summary(results, edits, left)
+
+
+if __name__ == "__main__":
+    with rt.ending():
+        sys.exit(main(sys.argv[1:]))

@@ -1,0 +1,99 @@
+#!/usr/bin/env python3
+"""Proves the crates of crates.txt while one writes, each after those that it uses, and skips what is proved already.
+
+usage: tests/prove.py [CRATE..]      at the top of the repository; with names these crates and those below them
+
+As many are checked side by side as there are processors and memory. What a check proves is kept in crates/NAME/out, as
+`rt check` keeps it, so that a later check of the crate begins with it, also in other copies of the repository on this
+machine. A line is printed for each crate as it ends; what its check said stands in crates/NAME/out/prove.log. This is not
+the gate: `.ci/run` proves all from nothing.
+"""
+import importlib.machinery
+import importlib.util
+import os
+import shutil
+import sys
+import threading
+import time
+
+sys.dont_write_bytecode = True
+
+
+def kit_command():
+    """The kit's own command as a module: its crates, its checks and its order of them are used here."""
+    loader = importlib.machinery.SourceFileLoader("rt_of_kit", os.path.realpath(shutil.which("rt")))
+    module = importlib.util.module_from_spec(importlib.util.spec_from_loader("rt_of_kit", loader))
+    loader.exec_module(module)
+    return module
+
+
+rt = kit_command()
+rtlib = rt.rtlib
+PRINTING = threading.Lock()
+
+
+def say(text):
+    with PRINTING:
+        print(text, flush=True)
+
+
+def proved(crate):
+    """The file that says at which text a program was proved: a library's own folder says it."""
+    return f"{crate.folder}/out/proved"
+
+
+def is_proved(crate):
+    return crate.is_built() if crate.makes_rlib() else rtlib.text_of(proved(crate)) == crate.stamp()
+
+
+def prove(crate, given, jobs):
+    """Proves a crate whose libraries are proved, and returns whether it is."""
+    if not all(given[it.name, "proof"] for it in crate.below()):
+        say(f"{crate.name}: a library below is not proved")
+        return False
+    if is_proved(crate):
+        say(f"{crate.name}: proved before")
+        return True
+    start, log = time.time(), f"{crate.folder}/out/prove.log"
+    os.makedirs(f"{crate.folder}/out", exist_ok=True)
+    with open(log, "w", encoding="utf-8") as crate.out:
+        stamp, flags = crate.stamp(), ["--jobs", str(jobs)]
+        status = crate.build_rlib(flags, anew=False) if crate.makes_rlib() else crate.check(flags)
+    if not status and not crate.makes_rlib():
+        with open(proved(crate), "w", encoding="utf-8") as it:
+            it.write(stamp)
+    say(f"{crate.name}: {'proved' if not status else f'NOT PROVED ({log})'} in {time.time() - start:.0f} s")
+    return not status
+
+
+def main(names):
+    os.chdir(os.path.join(os.path.dirname(os.path.abspath(__file__)), ".."))
+    if any(it.startswith("-") for it in names):
+        print(__doc__, file=sys.stderr)
+        return 2
+    # the stamps of crates are read by several threads
+    rtlib.guarded()
+    rt.share_work(True)
+    crates = sorted(rtlib.crates_below(os.getcwd()), key=lambda it: len(it.below()))
+    lacking = [it for it in names if it not in [crate.name for crate in crates]]
+    if lacking:
+        say(f"crates.txt names no {lacking[0]}")
+        return 2
+    wanted = {below.name for it in crates if it.name in names for below in [it, *it.below()]}
+    crates = [it for it in crates if not names or it.name in wanted]
+    held = rtlib.lock(crates)
+    tasks = {}
+    for crate in crates:
+        waits = [(it.name, "proof") for it in crate.below()]
+        call = lambda given, jobs, crate=crate: prove(crate, given, jobs)
+        tasks[crate.name, "proof"] = (waits, crate.count(rb"\n"), rt.need(crate), call)
+    given = rt.in_lanes(tasks)
+    failed = [crate.name for crate in crates if not given[crate.name, "proof"]]
+    say(f"{len(crates) - len(failed)} passed, {len(failed)} failed")
+    for it in held:
+        os.close(it)
+    return 1 if failed else 0
+
+
+if __name__ == "__main__":
+    sys.exit(main(sys.argv[1:]))

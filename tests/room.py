@@ -1,0 +1,108 @@
+#!/usr/bin/env python3
+"""Lays out a room outside the repository with its crates and programs that are none of them, and builds these.
+
+usage: tests/room.py lay ROOM PROGRAM..                lays out the room
+       tests/room.py build ROOM PROGRAM..              builds each program without a proof of its own: ROOM/NAME
+       tests/room.py prove ROOM PROGRAM [-- WORD..]    proves, builds and runs one program: ROOM/crates/NAME/out/NAME
+
+A program is a folder with source files NAME.rt.in and a file `uses`, which is its line for crates.txt: its name, and the
+libraries that it uses. A library of the kind, which programs share, stands before them. A room is kept, so that a later
+call does anew only what has changed. What is built without a proof is compiled from the sources of the crates, with the
+options of a build that is proved (unproved.py); the toolchain links a program with proved libraries only where the
+program itself is proved.
+"""
+import os
+import shutil
+import subprocess
+import sys
+from concurrent.futures import ThreadPoolExecutor
+
+TOP = os.path.dirname(os.path.dirname(os.path.abspath(__file__)))
+
+
+def text_of(file):
+    with open(file, encoding="utf-8") as it:
+        return it.read()
+
+
+def synced(source, target):
+    """Copies a folder, and writes only what differs, so that what was built of it stays fresh."""
+    os.makedirs(target, exist_ok=True)
+    names = set(os.listdir(source))
+    for name in set(os.listdir(target)) - names:
+        path = f"{target}/{name}"
+        shutil.rmtree(path) if os.path.isdir(path) else os.remove(path)
+    for name in names:
+        one, other = f"{source}/{name}", f"{target}/{name}"
+        if os.path.isdir(one):
+            synced(one, other)
+        elif not os.path.isfile(other) or text_of(one) != text_of(other):
+            shutil.copy2(one, other)
+
+
+def crate_name(program):
+    return text_of(f"{program}/uses").partition(":")[0].strip()
+
+
+def lay(room, programs):
+    """Lays out the crates of the repository, with what checks kept of them, and the programs beside them."""
+    for name in os.listdir(f"{TOP}/crates"):
+        source, target = f"{TOP}/crates/{name}", f"{room}/crates/{name}"
+        for part in ("src", "specs", "proofs"):
+            if os.path.isdir(f"{source}/{part}"):
+                synced(f"{source}/{part}", f"{target}/{part}")
+    lines = [text_of(f"{TOP}/crates.txt")]
+    for program in programs:
+        source = f"{room}/crates/{crate_name(program)}/src"
+        shutil.rmtree(source, ignore_errors=True)
+        os.makedirs(source)
+        for name in sorted(os.listdir(program)):
+            if name.endswith(".rt.in"):
+                shutil.copy2(f"{program}/{name}", f"{source}/{name.removesuffix('.in')}")
+        lines.append(text_of(f"{program}/uses"))
+    with open(f"{room}/crates.txt", "w", encoding="utf-8") as it:
+        it.writelines(lines)
+    shutil.copy2(f"{TOP}/HANDLES", f"{room}/HANDLES")
+
+
+def build(room, program):
+    """Builds a program without a proof, and returns whether it was built."""
+    name = crate_name(program)
+    words = [sys.executable, f"{TOP}/tests/unproved.py", f"{room}/crates/{name}", TOP, f"{room}/{name}"]
+    ran = subprocess.run(words, stdin=subprocess.DEVNULL, stdout=subprocess.PIPE, stderr=subprocess.STDOUT, text=True)
+    if ran.returncode:
+        print(f"{name} was not built:\n{ran.stdout}", file=sys.stderr, flush=True)
+    return ran.returncode == 0
+
+
+def build_all(room, programs):
+    """Builds the programs side by side; a library among them is built with those that use it."""
+    made = [it for it in programs if os.path.isfile(f"{it}/main.rt.in")]
+    with ThreadPoolExecutor(max(1, len(os.sched_getaffinity(0)))) as pool:
+        return all([*pool.map(lambda it: build(room, it), made)])
+
+
+def prove(room, program, words):
+    """Proves and runs a program, begun with what checks of the repository kept, and returns its status."""
+    folder = f"{room}/crates/{crate_name(program)}"
+    rt = os.environ.get("RT", "rt")
+    return subprocess.run([rt, "run", "--", *words], cwd=folder).returncode
+
+
+def main(words):
+    if len(words) < 3 or words[0] not in ("lay", "build", "prove"):
+        print(__doc__, file=sys.stderr)
+        return 2
+    at = words.index("--") if "--" in words else len(words)
+    room, programs = os.path.abspath(words[1]), [os.path.abspath(it) for it in words[2:at]]
+    os.makedirs(room, exist_ok=True)
+    lay(room, programs)
+    if words[0] == "build":
+        return 0 if build_all(room, programs) else 1
+    if words[0] == "prove":
+        return prove(room, programs[-1], words[at + 1 :])
+    return 0
+
+
+if __name__ == "__main__":
+    sys.exit(main(sys.argv[1:]))

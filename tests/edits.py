@@ -2,6 +2,7 @@
 """Tries the wrong bodies of tests/edits, many in one check, and wants each refused by a goal of its own function.
 
 usage: tests/edits.py [CRATE..]      at the top of the repository: tries all edits of these crates, or of all
+       tests/edits.py CRATE/NAME..   tries these edits alone (NAME without its ending), and notes nothing
        tests/edits.py --due          as the gate does: those of the crates that changed, and of a quarter of the others
        tests/edits.py --list         says which edits there are, and what each changes; tries none
        tests/edits.py --self-test    tries wrong edits of a tiny crate with right ones among them, which have to be told
@@ -19,6 +20,7 @@ definitions below it, and the logic of the kit. A run over a crate notes it ther
 tests/edits/alone.txt says which edits had to be tried alone, and why. --due tries the crates whose sum is not noted, and
 of the others those whose turn it is by the number of commits, so that each is tried again within four merges.
 """
+import functools
 import hashlib
 import importlib.machinery
 import importlib.util
@@ -109,6 +111,7 @@ def body_of(code, at):
             return brace.start()
 
 
+@functools.lru_cache(maxsize=None)
 def functions(path, text):
     """(name, cycle, place of the body, its end) of each function of a source file that has a body. The name is that below
     the crate, and for a method, which the checker names by the module of its type, the type and the method."""
@@ -251,11 +254,12 @@ class Report:
 
 
 def check(crate, edits, flags, seed):
-    """What a check of the crate with these edits says, over a copy of what the seed holds."""
-    with tempfile.TemporaryDirectory(prefix=f"rt-edits-{os.getpid()}-") as room:
+    """What a check of the crate with these edits says, over a copy of what the seed holds, and how many seconds it took."""
+    with tempfile.TemporaryDirectory(prefix=f"rt-edits-{os.getpid()}-") as room, LANES:
         rt.linked(seed, f"{room}/kept")
-        with LANES:
-            return rt.checked(crate, applied(edits), ["--jobs", "1", *flags], f"{room}/kept").stdout
+        start = time.time()
+        said = rt.checked(crate, applied(edits), ["--jobs", "1", *flags], f"{room}/kept").stdout
+        return Report(said), time.time() - start
 
 
 # ---- the edits of a crate
@@ -307,9 +311,8 @@ class Tries:
 
     def together(self, group, seed):
         """Tries a group in one check, and returns why what was not refused was not."""
-        start = time.time()
         only = [word for edit in group for word in ("--only", edit.function)]
-        report = Report(check(self.crate, group, only, seed))
+        report, seconds = check(self.crate, group, only, seed)
         self.checks += 1
         reasons = {}
         for edit in group:
@@ -318,12 +321,12 @@ class Tries:
                 self.refused[edit.label] = goal
             else:
                 reasons[edit.label] = why
-        say(f"{self.crate.name}: {len(group) - len(reasons)} of {len(group)} edits refused in one check of {time.time() - start:.0f} s")
+        say(f"{self.crate.name}: {len(group) - len(reasons)} of {len(group)} edits refused in one check of {seconds:.0f} s")
         return reasons
 
     def by_itself(self, edit, reason, seed):
         """Tries an edit of a function alone, by the same rule."""
-        report = Report(check(self.crate, [edit], ["--only", edit.function], seed))
+        report, _ = check(self.crate, [edit], ["--only", edit.function], seed)
         self.checks += 1
         goal, why = report.goal(self.crate, edit)
         if goal:
@@ -335,10 +338,9 @@ class Tries:
 
     def whole(self, edit, seed):
         """Tries an edit that changes more than one function's body, with a check of the whole crate."""
-        with tempfile.TemporaryDirectory(prefix=f"rt-edits-{os.getpid()}-") as room:
+        with tempfile.TemporaryDirectory(prefix=f"rt-edits-{os.getpid()}-") as room, LANES:
             rt.linked(seed, f"{room}/kept")
-            with LANES:
-                kind, text = rt.must_fail(self.crate, edit.file, ["--jobs", "1"], f"{room}/kept")
+            kind, text = rt.must_fail(self.crate, edit.file, ["--jobs", "1"], f"{room}/kept")
         self.checks += 1
         text = text.split(": ", 1)[-1]
         if kind == rt.REFUSED and "(only because" not in text:
@@ -357,7 +359,8 @@ def text_of(file):
         return it.read().decode(errors="replace")
 
 
-def contracts_of(path, text):
+@functools.lru_cache(maxsize=None)
+def without_bodies(path, text):
     """The text of a source file without the bodies of its functions."""
     kept, at = [], 0
     for _, _, body, end in sorted(functions(path, text), key=lambda it: it[2]):
@@ -367,20 +370,30 @@ def contracts_of(path, text):
     return "".join(kept) + text[at:]
 
 
+@functools.lru_cache(maxsize=None)
+def words_of(path, text):
+    """The words of a file without its comments, and without derives, on which no proof of an edit rests."""
+    if path.endswith(".rt"):
+        text = rtlib.RUST_TOKEN.sub(lambda it: "" if it[0].startswith("//") else it[0], text)
+        text = re.sub(r"#\[derive\([^)]*\)\]", "", text)
+    else:
+        text = "\n".join(line for line in text.split("\n") if not line.lstrip().startswith("--"))
+    return text.split()
+
+
 def sum_of(crate, edits):
     """A sum of what the crate's edits are tried over."""
     total = hashlib.sha256(text_of(f"{rt.KIT}/KIT-ID").partition("logic")[2].encode())
-    for file in rtlib.files_of(crate.folder):
-        total.update(repr((os.path.relpath(file, crate.folder), text_of(file))).encode())
+    add = lambda *what: total.update(repr(what).encode())
     for edit in edits:
-        total.update(repr((edit.label, text_of(edit.file))).encode())
-    for below in crate.below():
-        for file in rtlib.files_of(below.folder):
-            path = os.path.relpath(file, below.folder)
-            if path.startswith("src/"):
-                total.update(repr((below.name, path, contracts_of(path, text_of(file)))).encode())
-            elif path.startswith("specs/"):
-                total.update(repr((below.name, path, text_of(file))).encode())
+        add(edit.label, text_of(edit.file))
+    for it in [crate, *crate.below()]:
+        for file in rtlib.files_of(it.folder):
+            path, text = os.path.relpath(file, it.folder), text_of(file)
+            if it is crate or path.startswith("specs/"):
+                add(it.name, path, words_of(path, text))
+            elif path.startswith("src/"):
+                add(it.name, path, words_of(path, without_bodies(path, text)))
     return total.hexdigest()[:24]
 
 
@@ -546,8 +559,12 @@ def main(words):
     edits = {it.name: edits_of(it) for it in crates}
     edits = {name: found for name, found in edits.items() if found}
     strange = [it for it in os.listdir(EDITS) if os.path.isdir(f"{EDITS}/{it}") and it not in edits]
-    names = [it for it in words if not it.startswith("-")]
-    strange += [it for it in names if it not in edits]
+    single = [it for it in words if "/" in it]
+    names = [it for it in words if not it.startswith("-") and it not in single]
+    for name in {it.partition("/")[0] for it in single} & {*edits}:
+        edits[name] = [it for it in edits[name] if it.label.removesuffix(".edit") in single]
+        names.append(name)
+    strange += [it for it in [*names, *single] if it not in edits and it not in [e.label.removesuffix(".edit") for found in edits.values() for e in found]]
     if strange:
         say(f"no crate with edits: {' '.join(strange)}")
         return 2
@@ -564,7 +581,7 @@ def main(words):
         due = [it for it in chosen if known.get(it.name) != sums[it.name] or has_turn(it.name, number)]
         left, chosen = [it.name for it in chosen if it not in due], due
     results = try_all(chosen, edits)
-    if "--due" not in words:
+    if "--due" not in words and not single:
         note(results, sums)
     return summary(results, edits, left)
 

@@ -5,9 +5,6 @@ ghost use Rattle.asn_bits.specs.Numbers.{bits, unpacked};
 use asn_bits::BitCursor;
 use std::marker::Model;
 
-/// The most bits that a part in a message may have and still be wanting more.
-pub const MOST_BEGUN: u32 = 120;
-
 /// How many bits there is room for.
 const ROOM: u32 = 128;
 

@@ -13,8 +13,8 @@ mod parts;
 mod units;
 mod values;
 
-pub use begun::{Begun, MOST_BEGUN};
+pub use begun::Begun;
 pub use frame::{Elements, Frame, Frames};
-pub use leaf::{FeedLeaves, Leaf};
+pub use leaf::FeedLeaves;
 pub use units::{Ticks, Units};
 pub use values::feed;

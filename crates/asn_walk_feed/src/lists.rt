@@ -135,17 +135,17 @@ fn feed_list<R: FeedLeaves>(
     requires at_unit { R.rules.at_unit units.old }
     requires of_profile { InProfile (sequence_of (shape_of element.now) (size_range_of size.now)) }
     requires covered { IsCovered (shape_of element.now) }
-    requires reached { (all : List ℕ) × ListGoesOn R.rules R.ahead R.is_between (shape_of element.now) (size_range_of size.now)
-        list (nodes frames.old) all (R.rules.to_units units.old) }
+    requires reached { (all : List ℕ) × ListGoesOn R.rules R.ahead R.is_between (shape_of element.now)
+        (size_range_of size.now) list (nodes frames.old) all (R.rules.to_units units.old) }
     requires few { ticks.old + length (R.rules.to_units units.old) < 2 ^ 64 }
     ensures at_unit { R.rules.at_unit units.new }
-    ensures done { IfOk result (λ v. ReadsListOn R.rules R.ahead R.is_between (shape_of element.now) (size_range_of size.now)
-        list (nodes frames.old) (datum_of v) units.old units.new) }
+    ensures done { IfOk result (λ v. ReadsListOn R.rules R.ahead R.is_between (shape_of element.now)
+        (size_range_of size.now) list (nodes frames.old) (datum_of v) units.old units.new) }
     ensures emptied { OnOk result (nodes frames.new ≡ []) }
-    ensures stop { IfErr result (λ why. StopsListOn R.rules R.ahead R.is_between (shape_of element.now) (size_range_of size.now)
-        list (nodes frames.old) units.old why) }
-    ensures kept { IfErr result (λ why. KeepsListOn R.rules R.ahead R.is_between (shape_of element.now) (size_range_of size.now)
-        list (nodes frames.old) (nodes frames.new) units.old why) }
+    ensures stop { IfErr result (λ why. StopsListOn R.rules R.ahead R.is_between (shape_of element.now)
+        (size_range_of size.now) list (nodes frames.old) units.old why) }
+    ensures kept { IfErr result (λ why. KeepsListOn R.rules R.ahead R.is_between (shape_of element.now)
+        (size_range_of size.now) list (nodes frames.old) (nodes frames.new) units.old why) }
     ensures behind { IfErr result (λ why. StandsBehind R.rules units.new why) }
     ensures ticked { Ticked R.rules units.old ticks.old units.new ticks.new }
     ensures rising { ticks.old ≤ ticks.new }
@@ -178,17 +178,17 @@ fn feed_elements<R: FeedLeaves>(
     requires at_unit { R.rules.at_unit units.old }
     requires of_profile { InProfile (sequence_of (shape_of element.now) (size_range_of size.now)) }
     requires covered { IsCovered (shape_of element.now) }
-    requires reached { (all : List ℕ) × ListGoesOn R.rules R.ahead R.is_between (shape_of element.now) (size_range_of size.now)
-        list.old (nodes frames.old) all (R.rules.to_units units.old) }
+    requires reached { (all : List ℕ) × ListGoesOn R.rules R.ahead R.is_between (shape_of element.now)
+        (size_range_of size.now) list.old (nodes frames.old) all (R.rules.to_units units.old) }
     requires few { ticks.old + length (R.rules.to_units units.old) < 2 ^ 64 }
     ensures at_unit { R.rules.at_unit units.new }
-    ensures done { OnOk result (ReadsElementsOn R.rules R.ahead R.is_between (shape_of element.now) (size_range_of size.now)
-        list.old (nodes frames.old) list.new units.old units.new) }
+    ensures done { OnOk result (ReadsElementsOn R.rules R.ahead R.is_between (shape_of element.now)
+        (size_range_of size.now) list.old (nodes frames.old) list.new units.old units.new) }
     ensures emptied { OnOk result (nodes frames.new ≡ []) }
-    ensures stop { IfErr result (λ why. StopsElementsOn R.rules R.ahead R.is_between (shape_of element.now) (size_range_of size.now)
-        list.old (nodes frames.old) units.old why) }
-    ensures kept { result ≡ Err Short → GoesOnTo R.rules R.ahead R.is_between (shape_of element.now) (size_range_of size.now)
-        list.old (nodes frames.old) units.old list.new (nodes frames.new) units.new }
+    ensures stop { IfErr result (λ why. StopsElementsOn R.rules R.ahead R.is_between (shape_of element.now)
+        (size_range_of size.now) list.old (nodes frames.old) units.old why) }
+    ensures kept { result ≡ Err Short → GoesOnTo R.rules R.ahead R.is_between (shape_of element.now)
+        (size_range_of size.now) list.old (nodes frames.old) units.old list.new (nodes frames.new) units.new }
     ensures behind { IfErr result (λ why. StandsBehind R.rules units.new why) }
     ensures ticked { Ticked R.rules units.old ticks.old units.new ticks.new }
     ensures rising { ticks.old ≤ ticks.new }
@@ -217,20 +217,20 @@ fn feed_fragment<R: FeedLeaves>(
     requires at_unit { R.rules.at_unit units.old }
     requires of_profile { InProfile (sequence_of (shape_of element.now) (size_range_of size.now)) }
     requires covered { IsCovered (shape_of element.now) }
-    requires reached { (all : List ℕ) × ListGoesOn R.rules R.ahead R.is_between (shape_of element.now) (size_range_of size.now)
-        list.old (nodes frames.old) all (R.rules.to_units units.old) }
+    requires reached { (all : List ℕ) × ListGoesOn R.rules R.ahead R.is_between (shape_of element.now)
+        (size_range_of size.now) list.old (nodes frames.old) all (R.rules.to_units units.old) }
     requires few { ticks.old + length (R.rules.to_units units.old) < 2 ^ 64 }
     ensures at_unit { R.rules.at_unit units.new }
-    ensures done { OnOk result (GoesOnTo R.rules R.ahead R.is_between (shape_of element.now) (size_range_of size.now)
-        list.old (nodes frames.old) units.old list.new (nodes frames.new) units.new) }
+    ensures done { OnOk result (GoesOnTo R.rules R.ahead R.is_between (shape_of element.now)
+        (size_range_of size.now) list.old (nodes frames.old) units.old list.new (nodes frames.new) units.new) }
     ensures over { OnOk result (list.new.left ≡ 0) }
     ensures fragments { OnOk result (list.new.fragments ≡ list.old.fragments) }
     ensures shorter { OnOk result
         (length (R.rules.to_units units.new) ≤ length (R.rules.to_units units.old)) }
-    ensures stop { IfErr result (λ why. StopsElementsOn R.rules R.ahead R.is_between (shape_of element.now) (size_range_of size.now)
-        list.old (nodes frames.old) units.old why) }
-    ensures kept { result ≡ Err Short → GoesOnTo R.rules R.ahead R.is_between (shape_of element.now) (size_range_of size.now)
-        list.old (nodes frames.old) units.old list.new (nodes frames.new) units.new }
+    ensures stop { IfErr result (λ why. StopsElementsOn R.rules R.ahead R.is_between (shape_of element.now)
+        (size_range_of size.now) list.old (nodes frames.old) units.old why) }
+    ensures kept { result ≡ Err Short → GoesOnTo R.rules R.ahead R.is_between (shape_of element.now)
+        (size_range_of size.now) list.old (nodes frames.old) units.old list.new (nodes frames.new) units.new }
     ensures behind { IfErr result (λ why. StandsBehind R.rules units.new why) }
     ensures ticked { Ticked R.rules units.old ticks.old units.new ticks.new }
     ensures rising { ticks.old ≤ ticks.new }

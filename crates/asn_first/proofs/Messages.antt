@@ -14,7 +14,7 @@ use Rattle.asn_rules.specs.declared.fault.DecodeFault.{DecodeFault}
 use Rattle.asn_rules.specs.declared.fault.DecodeFault.TheVariants as decode
 use Rattle.asn_rules.proofs.Answer.CodecLaws.{each_octet, decodes_encoded}
 use Rattle.asn_per.specs.Rules.{per_ruling, IsPerEncoding}
-use Rattle.asn_walk_read.proofs.Decoding.{take_all}
+use Rattle.asn_walk.proofs.Decoding.{take_all}
 use Rattle.asn_per.proofs.Encodings.Whole.{per_laws}
 use Rattle.asn_first.specs.Lines.{sample_shape, IsMessage, IsNoMessage}
 

@@ -26,8 +26,8 @@ use crate::skipping::skip_fields;
 use asn_bits::BitCursor;
 use asn_rules::Skipped;
 use asn_values::{AsnType, Field, Need, Value};
-use asn_walk::{PresenceBits, has_presence_bit};
-use asn_walk_read::{absent, try_integer};
+use asn_walk::{PresenceBits, absent, has_presence_bit};
+use asn_walk_read::try_integer;
 use std::alloc::{AllocError, Global};
 
 /// Reads the components of a root that the presence bits tell, in order, and appends their entries.

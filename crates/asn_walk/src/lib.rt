@@ -15,5 +15,5 @@ pub mod slots;
 mod write_leaves;
 
 pub use leaves::{Index, Preamble, ReadLeaves};
-pub use presence::{PresenceBits, bitmap_width, has_presence_bit};
+pub use presence::{PresenceBits, absent, bitmap_width, has_presence_bit};
 pub use write_leaves::WriteLeaves;

@@ -1,11 +1,13 @@
-//! Presence bits of the components of a SEQUENCE, as a number.
+//! Presence bits of the components of a SEQUENCE, as a number, and the entry of one that is absent.
 ghost use Rattle.std.specs.Prelude.{◌≡◌, ◌≤◌, ◌<◌, true, false, length};
-ghost use Rattle.asn_values.specs.View.{part_of_field, fields_seen};
+ghost use Rattle.std.specs.Option.{option_map};
+ghost use Rattle.asn_values.specs.Parts.{IsGoodDemand};
+ghost use Rattle.asn_values.specs.View.{datum_of, part_of_field, fields_seen};
 ghost use Rattle.asn_rules.specs.Components.{has_presence_bit};
-ghost use Rattle.asn_rules.specs.Listed.{bitmap_length};
+ghost use Rattle.asn_rules.specs.Listed.{bitmap_length, default_of};
 ghost use Rattle.asn_walk.specs.Views.{TakesBit};
 
-use asn_values::{Field, Need};
+use asn_values::{Field, Need, Value};
 
 /// Presence bits that are still to be looked at: the lowest `left` bits of a bitmap, the highest of them first.
 #[derive(Debug, Clone, Copy)]
@@ -63,4 +65,29 @@ pub fn bitmap_width(fields: &[Field]) -> u32
         }
     }
     count
+}
+
+/// The entry of a component that is absent: its DEFAULT, where it has one.
+pub fn absent(field: &Field) -> Option<Value>
+    requires { IsGoodDemand (part_of_field field.now).demand (part_of_field field.now).shape }
+    ensures { option_map datum_of result ≡ default_of (part_of_field field.now).demand }
+{
+    match &field.need {
+        Need::Must | Need::Optional => None,
+        Need::Default(Value::Bool(truth)) => Some(Value::Bool(*truth)),
+        Need::Default(Value::Int(number)) => Some(Value::Int(*number)),
+        Need::Default(Value::Enum(index)) => Some(Value::Enum(*index)),
+        Need::Default(
+            Value::Null
+            | Value::Bits(_)
+            | Value::Octets(_)
+            | Value::Text(_)
+            | Value::Utf8(_)
+            | Value::Seq(_)
+            | Value::List(_)
+            | Value::Choice(..)
+            | Value::UnknownItem(_)
+            | Value::UnknownAlternative(_),
+        ) => unreachable!(),
+    }
 }

@@ -12,8 +12,8 @@ ghost use Rattle.asn_walk.specs.Reading.{ReadsValue, ReadsOther, StopsAt, Values
 use asn_bits::BitCursor;
 use asn_rules::internal::Stop;
 use asn_values::{AsnType, Field, Need, Value};
-use asn_walk::ReadLeaves;
-use asn_walk_read::{absent, read};
+use asn_walk::{ReadLeaves, absent};
+use asn_walk_read::read;
 use std::alloc::{AllocError, Global};
 use std::mem;
 

@@ -8,6 +8,6 @@ mod components;
 mod message_reader;
 mod reader;
 
-pub use components::{absent, try_bounded, try_integer};
+pub use components::{try_bounded, try_integer};
 pub use message_reader::read_message;
 pub use reader::{SHORT_OPEN_FIELD, added_count, read, read_complete, read_open_octets};

@@ -27,9 +27,9 @@ use Rattle.asn_walk.proofs.Widths.{next_part, no_part, demand_of_part, datum_of-
 use Rattle.asn_bits.proofs.Above.{kept}
 use mir.Val.{to_z, of_z}
 use mir.Syntax.{w128}
-use Rattle.asn_walk_read.proofs.Decoding.{units_fill}
-use Rattle.asn_walk_read.proofs.Listing.{list_size}
-use Rattle.asn_walk_read.proofs.OpenRead.{length_none}
+use Rattle.asn_walk.proofs.Decoding.{units_fill}
+use Rattle.asn_walk.proofs.Listing.{list_size}
+use Rattle.asn_walk.proofs.OpenRead.{length_none}
 use Rattle.asn_newer.specs.Bitmaps.{bits_left}
 use Rattle.asn_newer.specs.Loose.{AllUnknown, Loose}
 use Rattle.asn_newer.specs.Halting.{HaltsAt}

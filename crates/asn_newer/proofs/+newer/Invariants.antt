@@ -2,7 +2,7 @@ use Rattle.std.proofs.Common.{◌≡◌, ◌≤◌, ◌+◌, ◌-◌, length, ma
 use Rattle.asn_values.specs.View.{datum_of, part_of_field, shape_of, fields_seen, entries_seen}
 use Rattle.asn_rules.specs.Languages.{Row}
 use Rattle.asn_walk.specs.Ahead.{Remaining}
-use Rattle.asn_walk_read.proofs.Listing.{steps_left}
+use Rattle.asn_walk.proofs.Listing.{steps_left}
 use Rattle.asn_newer.specs.Bitmaps.{bits_left}
 use Rattle.asn_newer.specs.Loose.{Loose, LooseEach, LooseOpen}
 use Rattle.asn_newer.specs.Reading.{skipped_seen}

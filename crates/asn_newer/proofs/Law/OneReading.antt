@@ -20,7 +20,7 @@ use Rattle.asn_rules.proofs.Live.Chunks.{FieldsPart}
 use Rattle.asn_rules.proofs.Live.Places.{contents_by_length}
 use Rattle.asn_walk.specs.Coding.{AreFew, IndexOf, absent_entries}
 use Rattle.asn_walk.proofs.Parts.{fields_part_of, few_indexes}
-use Rattle.asn_walk_read.proofs.Listing.{list_size}
+use Rattle.asn_walk.proofs.Listing.{list_size}
 use Rattle.asn_newer.specs.Skipped.{Reading}
 use Rattle.asn_newer.specs.Loose.{LooseCoding, Complete, Unknown, Known, AllUnknown, additions_to_come, alternatives_to_come, by_index, Loose, LooseEach, LooseMore, LooseOpen, LooseRoot, LooseOther, LooseAdded}
 use Rattle.asn_newer.specs.Ways.{OneWay, OneReading, WayLaws}

@@ -19,7 +19,7 @@ use Rattle.asn_rules.proofs.Numbers.Ranges.{general_left}
 use Rattle.asn_rules.proofs.Languages.Then.{then_none_first}
 use Rattle.asn_walk.specs.Ahead.{Ahead, items, lengths, end, Remaining, Advances, Next, StopsNext}
 use Rattle.asn_walk.specs.Coding.{ListingOf}
-use Rattle.asn_walk_read.proofs.Listing.{list_size, steps_left, going_nearer}
+use Rattle.asn_walk.proofs.Listing.{list_size, steps_left, going_nearer}
 use Rattle.asn_newer.specs.Skipped.{Skipped, Reading, all_skipped, list_read}
 use Rattle.asn_newer.specs.Loose.{LooseCoding, Loose}
 use Rattle.asn_newer.specs.Halting.{Halts, halt_of}

@@ -29,7 +29,7 @@ use Rattle.asn_per.specs.Walk.{per_coding}
 use Rattle.asn_per.specs.Per.{per, small_length}
 use Rattle.asn_per.proofs.Types.LeftOut.{none_left_out}
 use Rattle.asn_per.proofs.Types.ListLanguages.{lists_compose}
-use Rattle.asn_walk_read.proofs.Listing.{list_size}
+use Rattle.asn_walk.proofs.Listing.{list_size}
 use Rattle.asn_per.proofs.Read.ListsAhead.{start_lawful, start_some, sized_ahead}
 use Rattle.asn_per.proofs.Read.Messages.{message_language}
 use Rattle.asn_per.proofs.Types.SizedLists.{same_sized}

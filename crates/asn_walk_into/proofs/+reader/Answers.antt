@@ -32,14 +32,14 @@ use Rattle.asn_walk.specs.Ahead.{Next}
 use Rattle.asn_walk.specs.Coding.{IsIndexWithin, PreambleOf, added}
 use Rattle.asn_walk.specs.Reading.{After, ReadsRoot}
 use Rattle.asn_walk.specs.Views.{index_seen, preamble_seen}
-use Rattle.asn_walk_read.proofs.AdditionsRead.{presence_stops_at, open_fields_lead, added_starts, addition_stops, addition_present, addition_absent, added_ends, after_nothing}
-use Rattle.asn_walk_read.proofs.ChoicesRead.{choice_few, leads_at_place, open_leads_at_place, choice_stops, root_value_leads, added_value_leads}
-use Rattle.asn_walk_read.proofs.ComponentsRead.{read_starts, next_either, read_ends, entry_leads}
-use Rattle.asn_walk_read.proofs.Decoding.{units_fill}
-use Rattle.asn_walk_read.proofs.Listing.{appends_none, appends_more, appends_one, appends_end, appends_stops_next, row_appends, start_stops, start_leads, fragments_start, fragments_further, fragments_end, going_stops, going_row_stops, going_nearer, list_size, list_leads}
-use Rattle.asn_walk_read.proofs.OpenRead.{content_of, length_none, octets_stop, value_held, more_held, none_held, value_stops, fill_leads}
+use Rattle.asn_walk.proofs.AdditionsRead.{presence_stops_at, open_fields_lead, added_starts, addition_stops, addition_present, addition_absent, added_ends, after_nothing}
+use Rattle.asn_walk.proofs.ChoicesRead.{choice_few, leads_at_place, open_leads_at_place, choice_stops, root_value_leads, added_value_leads}
+use Rattle.asn_walk.proofs.ComponentsRead.{read_starts, next_either, read_ends, entry_leads}
+use Rattle.asn_walk.proofs.Decoding.{units_fill}
+use Rattle.asn_walk.proofs.Listing.{appends_none, appends_more, appends_one, appends_end, appends_stops_next, row_appends, start_stops, start_leads, fragments_start, fragments_further, fragments_end, going_stops, going_row_stops, going_nearer, list_size, list_leads}
+use Rattle.asn_walk.proofs.OpenRead.{content_of, length_none, octets_stop, value_held, more_held, none_held, value_stops, fill_leads}
 use Rattle.asn_walk.proofs.Parts.{fields_part_of, count_of_fields, few_components, marked_type, closed_type, added_of_profile, few_added, good_at, some_root, few_root, few_all, roots_good, additions_good, added_inside}
-use Rattle.asn_walk_read.proofs.SequencesRead.{preamble_stops, some_listed, closed_done, components_stop, none_added, additions_stop, additions_done}
+use Rattle.asn_walk.proofs.SequencesRead.{preamble_stops, some_listed, closed_done, components_stop, none_added, additions_stop, additions_done}
 use Rattle.asn_walk.proofs.Widths.{next_part, no_part, demand_of_part}
 use Rattle.asn_walk_into.proofs.+reader.Goals as goal
 

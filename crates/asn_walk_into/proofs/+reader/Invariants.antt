@@ -2,9 +2,9 @@ use Rattle.std.proofs.Common.{◌≡◌, ◌≤◌, length, map, drop, take, vec
 use Rattle.asn_values.specs.View.{datum_of, part_of_field, shape_of, fields_seen, entries_seen}
 use Rattle.asn_walk.specs.Ahead.{Remaining}
 use Rattle.asn_walk.specs.Reading.{ValuesOf}
-use Rattle.asn_walk_read.proofs.AdditionsRead.{AddedUpTo}
-use Rattle.asn_walk_read.proofs.ComponentsRead.{ReadUpTo}
-use Rattle.asn_walk_read.proofs.Listing.{Appends, FragmentsUpTo, steps_left}
+use Rattle.asn_walk.proofs.AdditionsRead.{AddedUpTo}
+use Rattle.asn_walk.proofs.ComponentsRead.{ReadUpTo}
+use Rattle.asn_walk.proofs.Listing.{Appends, FragmentsUpTo, steps_left}
 use Rattle.asn_walk_into.proofs.+reader.Given as goal
 
 abbrev pub invariant-components::read_components_into-loop-field : goal.invariant-components::read_components_into-loop-field

@@ -5,7 +5,7 @@ use Rattle.asn_rules.specs.Languages.{Spells}
 use Rattle.asn_rules.specs.Reading.{Wholes}
 use Rattle.asn_rules.specs.Stops.{Stops}
 use Rattle.asn_rules.specs.declared.stop.Stop.TheVariants as stop
-use Rattle.asn_walk_read.proofs.Decoding.{front_is, units_fill, octets_left_fewer, value_read, refusal_left, refusal_read, short_read, long_read, few_units}
+use Rattle.asn_walk.proofs.Decoding.{front_is, units_fill, octets_left_fewer, value_read, refusal_left, refusal_read, short_read, long_read, few_units}
 use Rattle.asn_rules.proofs.Feeding.Sessions.{decoded_all, all_read}
 use Rattle.asn_walk_into.proofs.decoder.decode_into.Goals as goal
 

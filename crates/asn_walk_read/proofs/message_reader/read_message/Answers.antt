@@ -5,7 +5,7 @@ use Rattle.asn_rules.specs.Languages.{Spells}
 use Rattle.asn_rules.specs.Reading.{Wholes}
 use Rattle.asn_rules.specs.Stops.{Stops}
 use Rattle.asn_rules.specs.declared.stop.Stop.TheVariants as stop
-use Rattle.asn_walk_read.proofs.Decoding.{front_is, units_fill, octets_left_fewer, value_read, refusal_left, refusal_read, short_read, long_read, few_units}
+use Rattle.asn_walk.proofs.Decoding.{front_is, units_fill, octets_left_fewer, value_read, refusal_left, refusal_read, short_read, long_read, few_units}
 use Rattle.asn_walk_read.proofs.message_reader.read_message.Goals as goal
 
 pub units_left-all-requires : goal.units_left-all-requires

@@ -18,7 +18,7 @@ use Rattle.asn_rules.proofs.Languages.Then.{Follows, then_inhabited}
 use Rattle.asn_walk.specs.Coding.{Coding, CanExtend, added, PreambleOf, AdditionsOf, AddedOf, absent_entries, sequence_told}
 use Rattle.asn_walk.specs.Laws.{Laws}
 use Rattle.asn_walk.specs.Reading.{After}
-use Rattle.asn_walk_read.proofs.AdditionsRead.{some_additions}
+use Rattle.asn_walk.proofs.AdditionsRead.{some_additions}
 use Rattle.asn_walk.proofs.Parts.{fields_part_of}
 
 -- where additions can be present some are listed

@@ -1,0 +1,250 @@
+use Rattle.std.proofs.Common.{inl, None, ◌≡◌, ◌<◌, ◌≤◌, ◌+◌, ◌^◌, ◌++◌, ◌∷◌, [], ℕ, List, length, map, rules, refl, sym, ap, ◌∙◌, subst, arith}
+use Rattle.std.specs.Prelude.{is_some}
+use Rattle.std.proofs.lemmas.Result.{err_from_is_err_and, IfOk-weaker, IfErr-weaker}
+use Rattle.asn_values.specs.declared.types.AsnType.{the_lemmas}
+use Rattle.asn_values.specs.View.{shape_of, datum_of, size_range_of}
+use Rattle.asn_values.proofs.InnerTypes.{element_of_profile}
+use Rattle.asn_values.proofs.Views.{datum_of-List, list_of_elements}
+use Rattle.asn_values.specs.Shape.{sequence_of}
+use Rattle.asn_rules.specs.Stops.{Stops}
+use Rattle.asn_rules.specs.declared.stop.Stop.TheVariants as stop
+use Rattle.asn_rules.proofs.Languages.Leads.{stops_by, stops_on}
+use Rattle.asn_rules.proofs.Components.Listed.{spelt_inhabited}
+use Rattle.asn_rules.specs.Listed.{Spelt}
+use Rattle.asn_rules.specs.Languages.{Spells}
+use Rattle.asn_walk.specs.Reading.{ListOf, ValuesOf}
+use Rattle.asn_walk.proofs.Listing.{steps_left, list_leads, list_size, start_stops}
+use Rattle.asn_walk_feed.specs.Nodes.{nodes}
+use Rattle.asn_walk_feed.specs.Taken.{ListGoesOn, KeepsFrames, Took}
+use Rattle.asn_walk_feed.specs.Feeding.{IsScalar}
+use Rattle.asn_walk_feed.specs.declared.frame.Frame.{Frame}
+use Rattle.asn_walk_feed.proofs.Scalars.{scalar_node}
+use Rattle.asn_walk_feed.proofs.Goings.{length_ahead, length_begun, length_stops, length_ends, length_kept, length_more, length_nearer, ElementAhead, element_ahead, list_goes_on, took_elements, took_none, took_start, list_starts, taken_is}
+use Rattle.asn_walk_feed.proofs.+feeder.Goals as goal
+
+-- ---- the elements of a list
+
+pub lists::feed_elements-feed_fragment-requires : goal.lists::feed_elements-feed_fragment-requires
+lists::feed_elements-feed_fragment-requires g t c κs within =
+    let inv = c.loop-alloc.invariant in
+    (search (rules, the_lemmas), (within.0, (within.1, (inv.2, (c.requires.of_profile, (c.requires.covered, ((c.requires.reached.0, inv.0 c.requires.reached.0 c.requires.reached.1), omega (arith, inv.1, c.requires.few))))))))
+
+pub lists::feed_elements-returns-in_err-feed_fragment-clause-stop : goal.lists::feed_elements-returns-in_err-feed_fragment-clause-stop
+lists::feed_elements-returns-in_err-feed_fragment-clause-stop g t c =
+    let p = err_from_is_err_and c.from_residual.result c.from_residual.ensures.1 in
+    rw (p.1, p.2) (λ all h. c.in_err-feed_fragment.ensures.stop all (c.loop-alloc.invariant.0 all h))
+
+pub lists::feed_elements-returns-in_err-feed_fragment-clause-kept : goal.lists::feed_elements-returns-in_err-feed_fragment-clause-kept
+lists::feed_elements-returns-in_err-feed_fragment-clause-kept g t c = λ e all h.
+    let p = err_from_is_err_and c.from_residual.result c.from_residual.ensures.1 in
+    c.in_err-feed_fragment.ensures.kept (cc (p.1, p.2, e)) all (c.loop-alloc.invariant.0 all h)
+
+pub lists::feed_elements-next_fragment-requires : goal.lists::feed_elements-next_fragment-requires
+lists::feed_elements-next_fragment-requires g t c =
+    let k = c.in_ok-feed_fragment.ensures.done c.requires.reached.0 (c.loop-alloc.invariant.0 c.requires.reached.0 c.requires.reached.1) in
+    let b = length_begun g.R.ReadLeaves.rules c.keep_laws.ensures c.keep_feed_laws.ensures g.R.ReadLeaves.ahead g.R.ReadLeaves.is_between (shape_of c.args.element.now) (size_range_of c.args.size.now) c.requires.of_profile c.feed_fragment.new.list (nodes c.feed_fragment.new.frames) c.requires.reached.0 (g.R.ReadLeaves.rules.to_units c.feed_fragment.new.units) c.in_ok-feed_fragment.ensures.over k in
+    record { at_unit = c.in_ok-feed_fragment.ensures.at_unit; between = k.between_is; begun = b.1; begins = b.0; few = omega (arith, c.loop-alloc.invariant.1, c.in_ok-feed_fragment.ensures.ticked, c.requires.few) }
+
+pub lists::feed_elements-returns-in_err-next_fragment-clause-stop : goal.lists::feed_elements-returns-in_err-next_fragment-clause-stop
+lists::feed_elements-returns-in_err-next_fragment-clause-stop g t c =
+    let p = err_from_is_err_and c.from_residual-in_err-next_fragment.result c.from_residual-in_err-next_fragment.ensures.1 in
+    rw (p.1, p.2) (λ all h. length_stops g.R.ReadLeaves.rules c.keep_laws.ensures c.keep_feed_laws.ensures g.R.ReadLeaves.ahead g.R.ReadLeaves.is_between (shape_of c.args.element.now) (size_range_of c.args.size.now) c.requires.of_profile c.feed_fragment.new.list (nodes c.feed_fragment.new.frames) all (g.R.ReadLeaves.rules.to_units c.feed_fragment.new.units) _ c.in_ok-feed_fragment.ensures.over (c.in_ok-feed_fragment.ensures.done all (c.loop-alloc.invariant.0 all h)) c.in_err-next_fragment.ensures.stop)
+
+pub lists::feed_elements-returns-in_err-next_fragment-clause-kept : goal.lists::feed_elements-returns-in_err-next_fragment-clause-kept
+lists::feed_elements-returns-in_err-next_fragment-clause-kept g t c = λ e all h.
+    let p = err_from_is_err_and c.from_residual-in_err-next_fragment.result c.from_residual-in_err-next_fragment.ensures.1 in
+    let U = g.R.ReadLeaves.rules.to_units in
+    let w : c.in_err-next_fragment.field-0.0 ≡ stop.Short = cc (p.1, p.2, e) in
+    length_kept g.R.ReadLeaves.rules c.keep_laws.ensures c.keep_feed_laws.ensures g.R.ReadLeaves.ahead g.R.ReadLeaves.is_between (shape_of c.args.element.now) (size_range_of c.args.size.now) c.requires.of_profile c.feed_fragment.new.list c.next_fragment.new.list (nodes c.feed_fragment.new.frames) all (U c.feed_fragment.new.units) (U c.next_fragment.new.units) c.in_ok-feed_fragment.ensures.over (c.in_ok-feed_fragment.ensures.done all (c.loop-alloc.invariant.0 all h)) c.in_err-next_fragment.ensures.same.1 c.in_err-next_fragment.ensures.same.0 c.next_fragment.ensures.elements c.in_err-next_fragment.ensures.begun (rw w at c.in_err-next_fragment.ensures.kept) (rw w at c.in_err-next_fragment.ensures.behind) (rw w at c.in_err-next_fragment.ensures.stop)
+
+pub lists::feed_elements-returns-then-not-branch-clause-done : goal.lists::feed_elements-returns-then-not-branch-clause-done
+lists::feed_elements-returns-then-not-branch-clause-done g t c = λ all h.
+    let U = g.R.ReadLeaves.rules.to_units in
+    let k = length_ends g.R.ReadLeaves.rules c.keep_laws.ensures c.keep_feed_laws.ensures g.R.ReadLeaves.ahead g.R.ReadLeaves.is_between (shape_of c.args.element.now) (size_range_of c.args.size.now) c.requires.of_profile c.feed_fragment.new.list (nodes c.feed_fragment.new.frames) all (U c.feed_fragment.new.units) (U c.next_fragment.new.units) (g.R.ReadLeaves.ahead c.next_fragment.new.list.fragments) c.in_ok-feed_fragment.ensures.over (c.in_ok-feed_fragment.ensures.done all (c.loop-alloc.invariant.0 all h)) (c.next_fragment.ensures.none (cc (c.in_ok-next_fragment.was, c.if-not-branch.true))) in
+    rw c.next_fragment.ensures.elements k
+
+pub lists::feed_elements-returns-then-not-branch-clause-emptied : goal.lists::feed_elements-returns-then-not-branch-clause-emptied
+lists::feed_elements-returns-then-not-branch-clause-emptied g t c =
+    (length_ahead g.R.ReadLeaves.rules c.keep_laws.ensures c.keep_feed_laws.ensures g.R.ReadLeaves.ahead g.R.ReadLeaves.is_between (shape_of c.args.element.now) (size_range_of c.args.size.now) c.requires.of_profile c.feed_fragment.new.list (nodes c.feed_fragment.new.frames) c.requires.reached.0 (g.R.ReadLeaves.rules.to_units c.feed_fragment.new.units) c.in_ok-feed_fragment.ensures.over (c.in_ok-feed_fragment.ensures.done c.requires.reached.0 (c.loop-alloc.invariant.0 c.requires.reached.0 c.requires.reached.1))).none
+
+pub lists::feed_elements-loop-alloc-preserved : goal.lists::feed_elements-loop-alloc-preserved
+lists::feed_elements-loop-alloc-preserved g t c =
+    let inv = c.loop-alloc.invariant in
+    let U = g.R.ReadLeaves.rules.to_units in (
+      λ all h. length_more g.R.ReadLeaves.rules c.keep_laws.ensures c.keep_feed_laws.ensures g.R.ReadLeaves.ahead g.R.ReadLeaves.is_between (shape_of c.args.element.now) (size_range_of c.args.size.now) c.requires.of_profile c.feed_fragment.new.list c.next_fragment.new.list (nodes c.feed_fragment.new.frames) all (U c.feed_fragment.new.units) (U c.next_fragment.new.units) c.next_fragment.new.list.left c.in_ok-feed_fragment.ensures.over (c.in_ok-feed_fragment.ensures.done all (inv.0 all h)) refl c.next_fragment.ensures.elements c.in_ok-next_fragment.ensures.fresh c.next_fragment.ensures.between (c.next_fragment.ensures.more (cc (c.in_ok-next_fragment.was, c.if-not-branch.false))),
+      omega (arith, inv.1, c.in_ok-feed_fragment.ensures.ticked, c.in_ok-next_fragment.ensures.ticked),
+      c.in_ok-next_fragment.ensures.at_unit,
+      omega (arith, inv.3, c.in_ok-feed_fragment.ensures.rising, c.in_ok-next_fragment.ensures.rising),
+    )
+
+pub lists::feed_elements-loop-alloc-smaller : goal.lists::feed_elements-loop-alloc-smaller
+lists::feed_elements-loop-alloc-smaller g t c =
+    let U = g.R.ReadLeaves.rules.to_units in
+    let k = length_nearer g.R.ReadLeaves.rules c.keep_laws.ensures c.keep_feed_laws.ensures g.R.ReadLeaves.ahead g.R.ReadLeaves.is_between (shape_of c.args.element.now) (size_range_of c.args.size.now) c.requires.of_profile c.feed_fragment.new.list (nodes c.feed_fragment.new.frames) c.requires.reached.0 (U c.feed_fragment.new.units) (U c.next_fragment.new.units) c.next_fragment.new.list.left (g.R.ReadLeaves.ahead c.next_fragment.new.list.fragments) c.in_ok-feed_fragment.ensures.over (c.in_ok-feed_fragment.ensures.done c.requires.reached.0 (c.loop-alloc.invariant.0 c.requires.reached.0 c.requires.reached.1)) (c.next_fragment.ensures.more (cc (c.in_ok-next_fragment.was, c.if-not-branch.false))) in
+    let n : steps_left (g.R.ReadLeaves.ahead c.next_fragment.new.list.fragments) + length (U c.next_fragment.new.units) < steps_left (g.R.ReadLeaves.ahead c.loop-alloc.list.fragments) + length (U c.feed_fragment.new.units) = rw c.in_ok-feed_fragment.ensures.fragments at k in
+    omega (arith, n, c.in_ok-feed_fragment.ensures.shorter)
+
+-- ---- the elements of a fragment
+
+pub lists::feed_fragment-feed-requires : goal.lists::feed_fragment-feed-requires
+lists::feed_fragment-feed-requires g t c κs within =
+    let inv = c.loop-list.invariant in
+    let all = c.requires.reached.0 in
+    let x = element_ahead g.R.ReadLeaves.rules c.keep_laws.ensures c.keep_feed_laws.ensures g.R.ReadLeaves.ahead g.R.ReadLeaves.is_between (shape_of c.args.element.now) (size_range_of c.args.size.now) c.requires.of_profile c.loop-list.list (nodes c.loop-list.frames) all (g.R.ReadLeaves.rules.to_units c.loop-list.units) c.loop-list-test.true (inv.0 all c.requires.reached.1) in
+    (search (rules, the_lemmas), (within.0, (within.1, (inv.2, (element_of_profile (shape_of c.args.element.now) (size_range_of c.args.size.now) c.requires.of_profile, (c.requires.covered, ((x.come, x.took), omega (arith, inv.1, c.requires.few))))))))
+
+pub lists::feed_fragment-returns-in_err-value-clause-stop : goal.lists::feed_fragment-returns-in_err-value-clause-stop
+lists::feed_fragment-returns-in_err-value-clause-stop g t c =
+    let inv = c.loop-list.invariant in
+    let p = err_from_is_err_and c.from_residual.result c.from_residual.ensures.1 in
+    rw (p.1, p.2) (λ all h.
+    (let x = element_ahead g.R.ReadLeaves.rules c.keep_laws.ensures c.keep_feed_laws.ensures g.R.ReadLeaves.ahead g.R.ReadLeaves.is_between (shape_of c.args.element.now) (size_range_of c.args.size.now) c.requires.of_profile c.loop-list.list (nodes c.loop-list.frames) all (g.R.ReadLeaves.rules.to_units c.loop-list.units) c.loop-list-test.true (inv.0 all h) in
+    x.stops _ (c.in_err-value.ensures.stop x.come x.took)))
+
+pub lists::feed_fragment-returns-in_err-value-clause-kept : goal.lists::feed_fragment-returns-in_err-value-clause-kept
+lists::feed_fragment-returns-in_err-value-clause-kept g t c = λ e all h.
+    let inv = c.loop-list.invariant in
+    let p = err_from_is_err_and c.from_residual.result c.from_residual.ensures.1 in
+    let w : c.in_err-value.field-0.0 ≡ stop.Short = cc (p.1, p.2, e) in
+    let x = element_ahead g.R.ReadLeaves.rules c.keep_laws.ensures c.keep_feed_laws.ensures g.R.ReadLeaves.ahead g.R.ReadLeaves.is_between (shape_of c.args.element.now) (size_range_of c.args.size.now) c.requires.of_profile c.loop-list.list (nodes c.loop-list.frames) all (g.R.ReadLeaves.rules.to_units c.loop-list.units) c.loop-list-test.true (inv.0 all h) in
+    x.kept (nodes c.feed.new.frames) (g.R.ReadLeaves.rules.to_units c.feed.new.units) (rw w at c.in_err-value.ensures.behind) (rw w at (c.in_err-value.ensures.kept x.come x.took))
+
+pub lists::feed_fragment-loop-list-preserved : goal.lists::feed_fragment-loop-list-preserved
+lists::feed_fragment-loop-list-preserved g t c =
+    let inv = c.loop-list.invariant in (
+      λ all h.
+          (let x = element_ahead g.R.ReadLeaves.rules c.keep_laws.ensures c.keep_feed_laws.ensures g.R.ReadLeaves.ahead g.R.ReadLeaves.is_between (shape_of c.args.element.now) (size_range_of c.args.size.now) c.requires.of_profile c.loop-list.list (nodes c.loop-list.frames) all (g.R.ReadLeaves.rules.to_units c.loop-list.units) c.loop-list-test.true (inv.0 all h) in
+          x.more _ _ c.in_ok-value.value _ (omega (arith, c.loop-list-test.true)) refl refl c.in_ok-push.ensures.items c.in_ok-value.ensures.emptied (c.in_ok-value.ensures.done x.come x.took)),
+      omega (arith, inv.1, c.in_ok-value.ensures.ticked),
+      c.in_ok-value.ensures.at_unit,
+      inv.3,
+      omega (arith, inv.4, c.in_ok-value.ensures.ticked, c.in_ok-value.ensures.rising),
+      omega (arith, inv.5, c.in_ok-value.ensures.rising),
+    )
+
+pub values::feed-feed_scalar-requires-clause-start : goal.values::feed-feed_scalar-requires-clause-start
+values::feed-feed_scalar-requires-clause-start g t c =
+    let sc : IsScalar (shape_of c.args.ty.now) = search (rules, the_lemmas) in
+    let us = c.requires.reached.0 in
+    let k = c.requires.reached.1 in
+    let x = scalar_node g.R.ReadLeaves.rules c.keep_feed_laws.ensures g.R.ReadLeaves.ahead g.R.ReadLeaves.is_between (shape_of c.args.ty.now) sc c.take-node-in-Bool.result (nodes c.take-node-in-Bool.new.self) us c.take-node-in-Bool.ensures.empty (subst (λ (xs : List (Frame g.row.R-Fragments.Denot)). Took g.R.ReadLeaves.rules g.R.ReadLeaves.ahead g.R.ReadLeaves.is_between xs (shape_of c.args.ty.now) us) (taken_is c.take-node-in-Bool.result (nodes c.args.frames.now) (nodes c.take-node-in-Bool.new.self) c.take-node-in-Bool.ensures.some c.take-node-in-Bool.ensures.none c.take-node-in-Bool.ensures.empty) k) in
+    x.start
+
+pub values::feed-feed_scalar-requires-clause-waits : goal.values::feed-feed_scalar-requires-clause-waits
+values::feed-feed_scalar-requires-clause-waits g t c =
+    let sc : IsScalar (shape_of c.args.ty.now) = search (rules, the_lemmas) in
+    let us = c.requires.reached.0 in
+    let k = c.requires.reached.1 in
+    let x = scalar_node g.R.ReadLeaves.rules c.keep_feed_laws.ensures g.R.ReadLeaves.ahead g.R.ReadLeaves.is_between (shape_of c.args.ty.now) sc c.take-node-in-Bool.result (nodes c.take-node-in-Bool.new.self) us c.take-node-in-Bool.ensures.empty (subst (λ (xs : List (Frame g.row.R-Fragments.Denot)). Took g.R.ReadLeaves.rules g.R.ReadLeaves.ahead g.R.ReadLeaves.is_between xs (shape_of c.args.ty.now) us) (taken_is c.take-node-in-Bool.result (nodes c.args.frames.now) (nodes c.take-node-in-Bool.new.self) c.take-node-in-Bool.ensures.some c.take-node-in-Bool.ensures.none c.take-node-in-Bool.ensures.empty) k) in
+    x.waits
+
+pub values::feed-returns-in-SeqOf-clause-done : goal.values::feed-returns-in-SeqOf-clause-done
+values::feed-returns-in-SeqOf-clause-done g t c =
+    let is = list_of_elements c.args.ty.now c.deref.result.now c.in-SeqOf.element c.in-SeqOf.size c.in-SeqOf.is c.deref.ensures in
+    let tk = taken_is c.take-node.result (nodes c.args.frames.now) (nodes c.take-node.new.self) c.take-node.ensures.some c.take-node.ensures.none c.take-node.ensures.empty in
+    IfOk-weaker c.resume_list.result _ _ (λ v s us k. rw is (s us (rw (is, tk) at k))) c.resume_list.ensures.done
+
+pub values::feed-returns-in-Bool-clause-done : goal.values::feed-returns-in-Bool-clause-done
+values::feed-returns-in-Bool-clause-done g t c =
+    let sc : IsScalar (shape_of c.args.ty.now) = search (rules, the_lemmas) in
+    IfOk-weaker c.feed_scalar.result _ _ (λ v s us k. (let x = scalar_node g.R.ReadLeaves.rules c.keep_feed_laws.ensures g.R.ReadLeaves.ahead g.R.ReadLeaves.is_between (shape_of c.args.ty.now) sc c.take-node-in-Bool.result (nodes c.take-node-in-Bool.new.self) us c.take-node-in-Bool.ensures.empty (subst (λ (xs : List (Frame g.row.R-Fragments.Denot)). Took g.R.ReadLeaves.rules g.R.ReadLeaves.ahead g.R.ReadLeaves.is_between xs (shape_of c.args.ty.now) us) (taken_is c.take-node-in-Bool.result (nodes c.args.frames.now) (nodes c.take-node-in-Bool.new.self) c.take-node-in-Bool.ensures.some c.take-node-in-Bool.ensures.none c.take-node-in-Bool.ensures.empty) k) in rw x.come at s)) c.feed_scalar.ensures.done
+
+pub values::feed-returns-in-Bool-clause-stop : goal.values::feed-returns-in-Bool-clause-stop
+values::feed-returns-in-Bool-clause-stop g t c =
+    let sc : IsScalar (shape_of c.args.ty.now) = search (rules, the_lemmas) in
+    IfErr-weaker c.feed_scalar.result _ _ (λ why s us k. (let x = scalar_node g.R.ReadLeaves.rules c.keep_feed_laws.ensures g.R.ReadLeaves.ahead g.R.ReadLeaves.is_between (shape_of c.args.ty.now) sc c.take-node-in-Bool.result (nodes c.take-node-in-Bool.new.self) us c.take-node-in-Bool.ensures.empty (subst (λ (xs : List (Frame g.row.R-Fragments.Denot)). Took g.R.ReadLeaves.rules g.R.ReadLeaves.ahead g.R.ReadLeaves.is_between xs (shape_of c.args.ty.now) us) (taken_is c.take-node-in-Bool.result (nodes c.args.frames.now) (nodes c.take-node-in-Bool.new.self) c.take-node-in-Bool.ensures.some c.take-node-in-Bool.ensures.none c.take-node-in-Bool.ensures.empty) k) in rw x.come at s)) c.feed_scalar.ensures.stop
+
+pub values::feed-returns-in-Bool-clause-kept : goal.values::feed-returns-in-Bool-clause-kept
+values::feed-returns-in-Bool-clause-kept g t c =
+    let sc : IsScalar (shape_of c.args.ty.now) = search (rules, the_lemmas) in
+    IfErr-weaker c.feed_scalar.result _ _ (λ why s us k. (let x = scalar_node g.R.ReadLeaves.rules c.keep_feed_laws.ensures g.R.ReadLeaves.ahead g.R.ReadLeaves.is_between (shape_of c.args.ty.now) sc c.take-node-in-Bool.result (nodes c.take-node-in-Bool.new.self) us c.take-node-in-Bool.ensures.empty (subst (λ (xs : List (Frame g.row.R-Fragments.Denot)). Took g.R.ReadLeaves.rules g.R.ReadLeaves.ahead g.R.ReadLeaves.is_between xs (shape_of c.args.ty.now) us) (taken_is c.take-node-in-Bool.result (nodes c.args.frames.now) (nodes c.take-node-in-Bool.new.self) c.take-node-in-Bool.ensures.some c.take-node-in-Bool.ensures.none c.take-node-in-Bool.ensures.empty) k) in rw x.come at s)) c.feed_scalar.ensures.kept
+
+pub lists::feed_list-returns-in-Ok-clause-done : goal.lists::feed_list-returns-in-Ok-clause-done
+lists::feed_list-returns-in-Ok-clause-done g t c = λ all h.
+    let values = c.feed_elements.new.list.elements in
+    rw (datum_of-List values) ((list_leads g.R.ReadLeaves.rules c.keep_laws.ensures (shape_of c.args.element.now) (size_range_of c.args.size.now) all c.requires.of_profile).done (map datum_of values.items) (g.R.ReadLeaves.rules.to_units c.feed_elements.new.units) (c.in-Ok.ensures.done all h))
+
+pub lists::feed_list-returns-in-Ok-put-clause-stop : goal.lists::feed_list-returns-in-Ok-put-clause-stop
+lists::feed_list-returns-in-Ok-put-clause-stop g t c = λ all h.
+    let a : Stops g.R.ReadLeaves.rules.ruling.fielding (ListOf g.R.ReadLeaves.rules c.args.element.now c.args.size.now) all stop.Short = rw c.in-Err-Short.field-0-is at (c.in-Err-Short.ensures.stop all h) in
+    stops_by stop.Short (list_leads g.R.ReadLeaves.rules c.keep_laws.ensures (shape_of c.args.element.now) (size_range_of c.args.size.now) all c.requires.of_profile).stops a
+
+pub lists::feed_list-returns-in-Ok-put-clause-kept : goal.lists::feed_list-returns-in-Ok-put-clause-kept
+lists::feed_list-returns-in-Ok-put-clause-kept g t c = λ all h.
+    let none : g.R.ReadLeaves.rules.to_units c.feed_elements.new.units ≡ [] = rw c.in-Err-Short.field-0-is at c.in-Err-Short.ensures.behind in
+    let kept : ListGoesOn g.R.ReadLeaves.rules g.R.ReadLeaves.ahead g.R.ReadLeaves.is_between (shape_of c.args.element.now) (size_range_of c.args.size.now) c.feed_elements.new.list (nodes c.feed_elements.new.frames) all (g.R.ReadLeaves.rules.to_units c.feed_elements.new.units) = c.feed_elements.ensures.kept (cc (c.in-Err-Short.is, c.in-Err-Short.field-0-is)) all h in
+    rw c.in-Ok-put.ensures (subst (λ (xs : List ℕ). ListGoesOn g.R.ReadLeaves.rules g.R.ReadLeaves.ahead g.R.ReadLeaves.is_between (shape_of c.args.element.now) (size_range_of c.args.size.now) c.feed_elements.new.list (nodes c.feed_elements.new.frames) all xs) none kept)
+
+pub lists::resume_list-start_list-requires-in-None : goal.lists::resume_list-start_list-requires-in-None
+lists::resume_list-start_list-requires-in-None g t c κs within =
+    (search (rules, the_lemmas), (within.0, (within.1, (c.requires.at_unit, (c.requires.of_profile, (c.requires.covered, (c.requires.last (ap is_some c.in-None.is), (record { come = refl; at_unit = rw c.none.ensures c.keep_feed_laws.ensures.begin; begins = inl c.none.ensures }, c.requires.few))))))))
+
+pub lists::resume_list-feed_list-requires : goal.lists::resume_list-feed_list-requires
+lists::resume_list-feed_list-requires g t c κs within =
+    let us = c.requires.reached.0 in
+    let k = c.requires.reached.1 in
+    (search (rules, the_lemmas), (within.0, (within.1, (c.requires.at_unit, (c.requires.of_profile, (c.requires.covered, ((us ++ g.R.ReadLeaves.rules.to_units c.args.units.now, (list_goes_on g.R.ReadLeaves.rules c.keep_laws.ensures c.keep_feed_laws.ensures g.R.ReadLeaves.ahead g.R.ReadLeaves.is_between (shape_of c.args.element.now) (size_range_of c.args.size.now) c.requires.of_profile c.in-Some-Elements.list (nodes c.args.frames.now) us (g.R.ReadLeaves.rules.to_units c.args.units.now) (took_elements g.R.ReadLeaves.rules c.keep_laws.ensures c.keep_feed_laws.ensures g.R.ReadLeaves.ahead g.R.ReadLeaves.is_between (shape_of c.args.element.now) (size_range_of c.args.size.now) c.requires.of_profile c.args.node c.in-Some-Elements.field-0 c.in-Some-Elements.list (nodes c.args.frames.now) us c.in-Some-Elements.is c.in-Some-Elements.field-0-is k))), c.requires.few)))))))
+
+pub lists::resume_list-returns-in-Some-Elements-clause-done : goal.lists::resume_list-returns-in-Some-Elements-clause-done
+lists::resume_list-returns-in-Some-Elements-clause-done g t c =
+    IfOk-weaker c.feed_list.result _ _ (λ v s us k. s (us ++ g.R.ReadLeaves.rules.to_units c.args.units.now) (list_goes_on g.R.ReadLeaves.rules c.keep_laws.ensures c.keep_feed_laws.ensures g.R.ReadLeaves.ahead g.R.ReadLeaves.is_between (shape_of c.args.element.now) (size_range_of c.args.size.now) c.requires.of_profile c.in-Some-Elements.list (nodes c.args.frames.now) us (g.R.ReadLeaves.rules.to_units c.args.units.now) (took_elements g.R.ReadLeaves.rules c.keep_laws.ensures c.keep_feed_laws.ensures g.R.ReadLeaves.ahead g.R.ReadLeaves.is_between (shape_of c.args.element.now) (size_range_of c.args.size.now) c.requires.of_profile c.args.node c.in-Some-Elements.field-0 c.in-Some-Elements.list (nodes c.args.frames.now) us c.in-Some-Elements.is c.in-Some-Elements.field-0-is k))) c.feed_list.ensures.done
+
+pub lists::resume_list-returns-in-Some-Elements-clause-stop : goal.lists::resume_list-returns-in-Some-Elements-clause-stop
+lists::resume_list-returns-in-Some-Elements-clause-stop g t c =
+    IfErr-weaker c.feed_list.result _ _ (λ why s us k. s (us ++ g.R.ReadLeaves.rules.to_units c.args.units.now) (list_goes_on g.R.ReadLeaves.rules c.keep_laws.ensures c.keep_feed_laws.ensures g.R.ReadLeaves.ahead g.R.ReadLeaves.is_between (shape_of c.args.element.now) (size_range_of c.args.size.now) c.requires.of_profile c.in-Some-Elements.list (nodes c.args.frames.now) us (g.R.ReadLeaves.rules.to_units c.args.units.now) (took_elements g.R.ReadLeaves.rules c.keep_laws.ensures c.keep_feed_laws.ensures g.R.ReadLeaves.ahead g.R.ReadLeaves.is_between (shape_of c.args.element.now) (size_range_of c.args.size.now) c.requires.of_profile c.args.node c.in-Some-Elements.field-0 c.in-Some-Elements.list (nodes c.args.frames.now) us c.in-Some-Elements.is c.in-Some-Elements.field-0-is k))) c.feed_list.ensures.stop
+
+pub lists::resume_list-returns-in-Some-Elements-clause-kept : goal.lists::resume_list-returns-in-Some-Elements-clause-kept
+lists::resume_list-returns-in-Some-Elements-clause-kept g t c =
+    IfErr-weaker c.feed_list.result _ _ (λ why s us k. s (us ++ g.R.ReadLeaves.rules.to_units c.args.units.now) (list_goes_on g.R.ReadLeaves.rules c.keep_laws.ensures c.keep_feed_laws.ensures g.R.ReadLeaves.ahead g.R.ReadLeaves.is_between (shape_of c.args.element.now) (size_range_of c.args.size.now) c.requires.of_profile c.in-Some-Elements.list (nodes c.args.frames.now) us (g.R.ReadLeaves.rules.to_units c.args.units.now) (took_elements g.R.ReadLeaves.rules c.keep_laws.ensures c.keep_feed_laws.ensures g.R.ReadLeaves.ahead g.R.ReadLeaves.is_between (shape_of c.args.element.now) (size_range_of c.args.size.now) c.requires.of_profile c.args.node c.in-Some-Elements.field-0 c.in-Some-Elements.list (nodes c.args.frames.now) us c.in-Some-Elements.is c.in-Some-Elements.field-0-is k))) c.feed_list.ensures.kept
+
+pub lists::resume_list-returns-in-None-clause-done : goal.lists::resume_list-returns-in-None-clause-done
+lists::resume_list-returns-in-None-clause-done g t c =
+    IfOk-weaker c.start_list-in-None.result _ _ (λ v s us k. subst (λ (xs : List ℕ). Spells g.R.ReadLeaves.rules.ruling.fielding (ValuesOf g.R.ReadLeaves.rules (sequence_of (shape_of c.args.element.now) (size_range_of c.args.size.now))) (datum_of v) xs (g.R.ReadLeaves.rules.to_units c.start_list-in-None.new.units)) (ap (λ (xs : List ℕ). xs ++ g.R.ReadLeaves.rules.to_units c.args.units.now) (ap g.R.ReadLeaves.rules.to_units c.none.ensures ∙ c.keep_feed_laws.ensures.none ∙ sym (took_none g.R.ReadLeaves.rules c.keep_laws.ensures c.keep_feed_laws.ensures g.R.ReadLeaves.ahead g.R.ReadLeaves.is_between (shape_of c.args.element.now) (size_range_of c.args.size.now) c.requires.of_profile c.args.node (nodes c.args.frames.now) us c.in-None.is (c.requires.last (ap is_some c.in-None.is)) k))) s) c.start_list-in-None.ensures.done
+
+pub lists::resume_list-returns-in-None-clause-stop : goal.lists::resume_list-returns-in-None-clause-stop
+lists::resume_list-returns-in-None-clause-stop g t c =
+    IfErr-weaker c.start_list-in-None.result _ _ (λ why s us k. subst (λ (xs : List ℕ). Stops g.R.ReadLeaves.rules.ruling.fielding (ValuesOf g.R.ReadLeaves.rules (sequence_of (shape_of c.args.element.now) (size_range_of c.args.size.now))) xs why) (ap (λ (xs : List ℕ). xs ++ g.R.ReadLeaves.rules.to_units c.args.units.now) (ap g.R.ReadLeaves.rules.to_units c.none.ensures ∙ c.keep_feed_laws.ensures.none ∙ sym (took_none g.R.ReadLeaves.rules c.keep_laws.ensures c.keep_feed_laws.ensures g.R.ReadLeaves.ahead g.R.ReadLeaves.is_between (shape_of c.args.element.now) (size_range_of c.args.size.now) c.requires.of_profile c.args.node (nodes c.args.frames.now) us c.in-None.is (c.requires.last (ap is_some c.in-None.is)) k))) s) c.start_list-in-None.ensures.stop
+
+pub lists::resume_list-returns-in-None-clause-kept : goal.lists::resume_list-returns-in-None-clause-kept
+lists::resume_list-returns-in-None-clause-kept g t c =
+    IfErr-weaker c.start_list-in-None.result _ _ (λ why s us k. subst (λ (xs : List ℕ). KeepsFrames g.R.ReadLeaves.rules g.R.ReadLeaves.ahead g.R.ReadLeaves.is_between (nodes c.start_list-in-None.new.frames) (sequence_of (shape_of c.args.element.now) (size_range_of c.args.size.now)) xs why) (ap (λ (xs : List ℕ). xs ++ g.R.ReadLeaves.rules.to_units c.args.units.now) (ap g.R.ReadLeaves.rules.to_units c.none.ensures ∙ c.keep_feed_laws.ensures.none ∙ sym (took_none g.R.ReadLeaves.rules c.keep_laws.ensures c.keep_feed_laws.ensures g.R.ReadLeaves.ahead g.R.ReadLeaves.is_between (shape_of c.args.element.now) (size_range_of c.args.size.now) c.requires.of_profile c.args.node (nodes c.args.frames.now) us c.in-None.is (c.requires.last (ap is_some c.in-None.is)) k))) s) c.start_list-in-None.ensures.kept
+
+pub lists::start_list-feed_leaf-requires-clause-good : goal.lists::start_list-feed_leaf-requires-clause-good
+lists::start_list-feed_leaf-requires-clause-good g t c = list_size (shape_of c.args.element.now) (size_range_of c.args.size.now) c.requires.of_profile
+
+pub lists::start_list-feed_list-requires : goal.lists::start_list-feed_list-requires
+lists::start_list-feed_list-requires g t c κs within =
+    (search (rules, the_lemmas), (within.0, (within.1, (c.in-Ok.ensures.at_unit, (c.requires.of_profile, (c.requires.covered, (((g.R.ReadLeaves.rules.to_units c.args.begun ++ g.R.ReadLeaves.rules.to_units c.args.units.now), (list_starts g.R.ReadLeaves.rules c.keep_laws.ensures c.keep_feed_laws.ensures g.R.ReadLeaves.ahead g.R.ReadLeaves.is_between (shape_of c.args.element.now) (size_range_of c.args.size.now) c.requires.of_profile _ (nodes c.args.frames.now) (g.R.ReadLeaves.rules.to_units c.args.begun ++ g.R.ReadLeaves.rules.to_units c.args.units.now) (g.R.ReadLeaves.rules.to_units c.feed_leaf.new.units) c.in-Ok.ensures.done refl c.new.ensures.items c.none.ensures c.in-Ok.ensures.sound c.requires.empty)), omega (arith, c.in-Ok.ensures.ticked, c.requires.few))))))))
+
+pub lists::start_list-returns-in-Ok-clause-done : goal.lists::start_list-returns-in-Ok-clause-done
+lists::start_list-returns-in-Ok-clause-done g t c =
+    IfOk-weaker c.feed_list.result _ _ (λ v s. s (g.R.ReadLeaves.rules.to_units c.args.begun ++ g.R.ReadLeaves.rules.to_units c.args.units.now) (list_starts g.R.ReadLeaves.rules c.keep_laws.ensures c.keep_feed_laws.ensures g.R.ReadLeaves.ahead g.R.ReadLeaves.is_between (shape_of c.args.element.now) (size_range_of c.args.size.now) c.requires.of_profile _ (nodes c.args.frames.now) (g.R.ReadLeaves.rules.to_units c.args.begun ++ g.R.ReadLeaves.rules.to_units c.args.units.now) (g.R.ReadLeaves.rules.to_units c.feed_leaf.new.units) c.in-Ok.ensures.done refl c.new.ensures.items c.none.ensures c.in-Ok.ensures.sound c.requires.empty)) c.feed_list.ensures.done
+
+pub lists::start_list-returns-in-Ok-clause-stop : goal.lists::start_list-returns-in-Ok-clause-stop
+lists::start_list-returns-in-Ok-clause-stop g t c =
+    IfErr-weaker c.feed_list.result _ _ (λ why s. s (g.R.ReadLeaves.rules.to_units c.args.begun ++ g.R.ReadLeaves.rules.to_units c.args.units.now) (list_starts g.R.ReadLeaves.rules c.keep_laws.ensures c.keep_feed_laws.ensures g.R.ReadLeaves.ahead g.R.ReadLeaves.is_between (shape_of c.args.element.now) (size_range_of c.args.size.now) c.requires.of_profile _ (nodes c.args.frames.now) (g.R.ReadLeaves.rules.to_units c.args.begun ++ g.R.ReadLeaves.rules.to_units c.args.units.now) (g.R.ReadLeaves.rules.to_units c.feed_leaf.new.units) c.in-Ok.ensures.done refl c.new.ensures.items c.none.ensures c.in-Ok.ensures.sound c.requires.empty)) c.feed_list.ensures.stop
+
+pub lists::start_list-returns-in-Ok-clause-kept : goal.lists::start_list-returns-in-Ok-clause-kept
+lists::start_list-returns-in-Ok-clause-kept g t c =
+    IfErr-weaker c.feed_list.result _ _ (λ why s. s (g.R.ReadLeaves.rules.to_units c.args.begun ++ g.R.ReadLeaves.rules.to_units c.args.units.now) (list_starts g.R.ReadLeaves.rules c.keep_laws.ensures c.keep_feed_laws.ensures g.R.ReadLeaves.ahead g.R.ReadLeaves.is_between (shape_of c.args.element.now) (size_range_of c.args.size.now) c.requires.of_profile _ (nodes c.args.frames.now) (g.R.ReadLeaves.rules.to_units c.args.begun ++ g.R.ReadLeaves.rules.to_units c.args.units.now) (g.R.ReadLeaves.rules.to_units c.feed_leaf.new.units) c.in-Ok.ensures.done refl c.new.ensures.items c.none.ensures c.in-Ok.ensures.sound c.requires.empty)) c.feed_list.ensures.kept
+
+pub lists::start_list-returns-in-Ok-put-clause-stop : goal.lists::start_list-returns-in-Ok-put-clause-stop
+lists::start_list-returns-in-Ok-put-clause-stop g t c =
+    let a : Stops g.R.ReadLeaves.rules.ruling.fielding (g.R.ReadLeaves.rules.list_start (size_range_of c.args.size.now)) (g.R.ReadLeaves.rules.to_units c.args.begun ++ g.R.ReadLeaves.rules.to_units c.args.units.now) stop.Short = rw c.in-Err-Short.field-0-is at c.in-Err-Short.ensures.stop in
+    stops_by stop.Short (stops_on (start_stops g.R.ReadLeaves.rules c.keep_laws.ensures (Spelt g.R.ReadLeaves.rules.code None (shape_of c.args.element.now)) (size_range_of c.args.size.now) (g.R.ReadLeaves.rules.to_units c.args.begun ++ g.R.ReadLeaves.rules.to_units c.args.units.now) (list_size (shape_of c.args.element.now) (size_range_of c.args.size.now) c.requires.of_profile) (spelt_inhabited g.R.ReadLeaves.rules.code (shape_of c.args.element.now) (element_of_profile (shape_of c.args.element.now) (size_range_of c.args.size.now) c.requires.of_profile))) (list_leads g.R.ReadLeaves.rules c.keep_laws.ensures (shape_of c.args.element.now) (size_range_of c.args.size.now) (g.R.ReadLeaves.rules.to_units c.args.begun ++ g.R.ReadLeaves.rules.to_units c.args.units.now) c.requires.of_profile).stops) a
+
+pub lists::feed_list-returns-in-Err-Refused-clause-stop : goal.lists::feed_list-returns-in-Err-Refused-clause-stop
+lists::feed_list-returns-in-Err-Refused-clause-stop g t c = λ all h.
+    let w = stop.Refused c.in-Err-Refused.left c.in-Err-Refused.why in
+    let a : Stops g.R.ReadLeaves.rules.ruling.fielding (ListOf g.R.ReadLeaves.rules c.args.element.now c.args.size.now) all w = rw c.in-Err-Refused.field-0-is at (c.in-Err-Refused.ensures.stop all h) in
+    stops_by w (list_leads g.R.ReadLeaves.rules c.keep_laws.ensures (shape_of c.args.element.now) (size_range_of c.args.size.now) all c.requires.of_profile).stops a
+
+pub lists::start_list-returns-in-Err-Refused-clause-stop : goal.lists::start_list-returns-in-Err-Refused-clause-stop
+lists::start_list-returns-in-Err-Refused-clause-stop g t c =
+    let w = stop.Refused c.in-Err-Refused.left c.in-Err-Refused.why in
+    let a : Stops g.R.ReadLeaves.rules.ruling.fielding (g.R.ReadLeaves.rules.list_start (size_range_of c.args.size.now)) (g.R.ReadLeaves.rules.to_units c.args.begun ++ g.R.ReadLeaves.rules.to_units c.args.units.now) w = rw c.in-Err-Refused.field-0-is at c.in-Err-Refused.ensures.stop in
+    rw (c.in-Err-Refused.left-is, c.in-Err-Refused.why-is) (stops_by w (stops_on (start_stops g.R.ReadLeaves.rules c.keep_laws.ensures (Spelt g.R.ReadLeaves.rules.code None (shape_of c.args.element.now)) (size_range_of c.args.size.now) (g.R.ReadLeaves.rules.to_units c.args.begun ++ g.R.ReadLeaves.rules.to_units c.args.units.now) (list_size (shape_of c.args.element.now) (size_range_of c.args.size.now) c.requires.of_profile) (spelt_inhabited g.R.ReadLeaves.rules.code (shape_of c.args.element.now) (element_of_profile (shape_of c.args.element.now) (size_range_of c.args.size.now) c.requires.of_profile))) (list_leads g.R.ReadLeaves.rules c.keep_laws.ensures (shape_of c.args.element.now) (size_range_of c.args.size.now) (g.R.ReadLeaves.rules.to_units c.args.begun ++ g.R.ReadLeaves.rules.to_units c.args.units.now) c.requires.of_profile).stops) a)
+
+pub lists::resume_list-returns-in-Some-Start-clause-stop : goal.lists::resume_list-returns-in-Some-Start-clause-stop
+lists::resume_list-returns-in-Some-Start-clause-stop g t c =
+    IfErr-weaker c.start_list.result _ _ (λ why s us k. subst (λ (xs : List ℕ). Stops g.R.ReadLeaves.rules.ruling.fielding (ValuesOf g.R.ReadLeaves.rules (sequence_of (shape_of c.args.element.now) (size_range_of c.args.size.now))) (xs ++ g.R.ReadLeaves.rules.to_units c.args.units.now) why) (took_start g.R.ReadLeaves.rules c.keep_laws.ensures c.keep_feed_laws.ensures g.R.ReadLeaves.ahead g.R.ReadLeaves.is_between (shape_of c.args.element.now) (size_range_of c.args.size.now) c.requires.of_profile c.args.node c.in-Some-Start.field-0 c.in-Some-Start.begun (nodes c.args.frames.now) us c.in-Some-Start.is c.in-Some-Start.field-0-is k).1 s) c.start_list.ensures.stop

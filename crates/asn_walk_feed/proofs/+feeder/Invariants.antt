@@ -1,0 +1,26 @@
+use Rattle.std.proofs.Common.{◌≡◌, ◌≤◌, ◌+◌, ℕ, List, length}
+use Rattle.asn_values.specs.View.{shape_of, size_range_of}
+use Rattle.asn_walk.proofs.Listing.{steps_left}
+use Rattle.asn_walk_feed.specs.Feeding.{Ticked}
+use Rattle.asn_walk_feed.specs.Nodes.{nodes}
+use Rattle.asn_walk_feed.specs.Taken.{ListGoesOn}
+use Rattle.asn_walk_feed.proofs.+feeder.Given as goal
+
+abbrev pub invariant-lists::feed_elements-loop-alloc : goal.invariant-lists::feed_elements-loop-alloc
+invariant-lists::feed_elements-loop-alloc g l =
+    ((all : List ℕ) → ListGoesOn g.R.ReadLeaves.rules g.R.ReadLeaves.ahead g.R.ReadLeaves.is_between (shape_of l.element) (size_range_of l.size) l.fn.list (nodes l.fn.frames) all (g.R.ReadLeaves.rules.to_units l.fn.units)
+    → ListGoesOn g.R.ReadLeaves.rules g.R.ReadLeaves.ahead g.R.ReadLeaves.is_between (shape_of l.element) (size_range_of l.size) l.list (nodes l.frames) all (g.R.ReadLeaves.rules.to_units l.units))
+    × Ticked g.R.ReadLeaves.rules l.fn.units l.fn.ticks l.units l.ticks × g.R.ReadLeaves.rules.at_unit l.units × (l.fn.ticks ≤ l.ticks)
+
+abbrev pub decreases-lists::feed_elements-loop-alloc : goal.decreases-lists::feed_elements-loop-alloc
+decreases-lists::feed_elements-loop-alloc g l = steps_left (g.R.ReadLeaves.ahead l.list.fragments) + length (g.R.ReadLeaves.rules.to_units l.units)
+
+abbrev pub invariant-lists::feed_fragment-loop-list : goal.invariant-lists::feed_fragment-loop-list
+invariant-lists::feed_fragment-loop-list g l =
+    ((all : List ℕ) → ListGoesOn g.R.ReadLeaves.rules g.R.ReadLeaves.ahead g.R.ReadLeaves.is_between (shape_of l.element) (size_range_of l.size) l.fn.list (nodes l.fn.frames) all (g.R.ReadLeaves.rules.to_units l.fn.units)
+    → ListGoesOn g.R.ReadLeaves.rules g.R.ReadLeaves.ahead g.R.ReadLeaves.is_between (shape_of l.element) (size_range_of l.size) l.list (nodes l.frames) all (g.R.ReadLeaves.rules.to_units l.units))
+    × Ticked g.R.ReadLeaves.rules l.fn.units l.fn.ticks l.units l.ticks × g.R.ReadLeaves.rules.at_unit l.units
+    × (l.list.fragments ≡ l.fn.list.fragments) × (length (g.R.ReadLeaves.rules.to_units l.units) ≤ length (g.R.ReadLeaves.rules.to_units l.fn.units)) × (l.fn.ticks ≤ l.ticks)
+
+abbrev pub decreases-lists::feed_fragment-loop-list : goal.decreases-lists::feed_fragment-loop-list
+decreases-lists::feed_fragment-loop-list g l = l.list.left

@@ -1,0 +1,5 @@
+pub mod Bits
+pub mod Goings
+pub mod Leaves
+pub mod ListsRead
+pub mod Scalars

@@ -1,0 +1,63 @@
+//! How far a message is read where its pieces end: a stack of the nodes of its value that have begun.
+ghost use Rattle.std.specs.Prelude.{◌≡◌, ◌∷◌, List, [], OnOk, IfSome, IsNone};
+ghost use Rattle.asn_walk_feed.specs.Nodes.{nodes};
+
+use crate::begun::Begun;
+use asn_values::Value;
+use std::alloc::{AllocError, Global};
+
+/// A node of a value that has begun: the value itself, or a part of it.
+#[derive(Drop)]
+pub enum Frame<F> {
+    /// Its first part has begun: of a SEQUENCE OF what stands before its elements, of a simple type the value.
+    Start(Begun),
+    /// A SEQUENCE OF of which what stands before its elements is read.
+    Elements(Elements<F>),
+}
+
+/// The elements of a SEQUENCE OF that are read, and how it goes on.
+#[derive(Drop)]
+pub struct Elements<F> {
+    pub elements: Vec<Value>,
+    /// How many elements of the fragment are still to be read.
+    pub left: usize,
+    /// What stands after the fragment.
+    pub fragments: F,
+    /// What has come of the length that stands next, where no element of the fragment is left.
+    pub next_length: Begun,
+}
+
+/// The nodes that have begun, one inside the other.
+#[derive(Drop)]
+pub struct Frames<F> {
+    // the outermost last
+    stack: Vec<Frame<F>>,
+}
+
+impl<F: Drop> Frames<F> {
+    /// No node has begun.
+    pub fn none(alloc: Global) -> Frames<F>
+        ensures { nodes result ≡ [] }
+    {
+        Frames {
+            stack: Vec::new(alloc),
+        }
+    }
+
+    /// Takes the outermost node.
+    pub fn take(&mut self) -> Option<Frame<F>>
+        ensures some { IfSome result (λ node. nodes self.old ≡ node ∷ nodes self.new) }
+        ensures none { IsNone result → nodes self.old ≡ [] }
+        ensures empty { IsNone result → nodes self.new ≡ [] }
+    {
+        self.stack.pop()
+    }
+
+    /// Puts a node around those that have begun. An `Err` is out of memory.
+    pub fn put(&mut self, node: Frame<F>) -> Result<(), AllocError>
+        ensures { OnOk result (nodes self.new ≡ node ∷ nodes self.old) }
+    {
+        self.stack.push(node)?;
+        Ok(())
+    }
+}

@@ -1,0 +1,225 @@
+//! Parts of few units that a piece may cut: read at once where all their units are at hand, else once a piece of
+//! those that have come.
+ghost use Rattle.std.specs.Prelude.{◌≡◌, ◌≤◌, ◌<◌, ◌+◌, ◌^◌, ◌++◌, ℕ, List, length, [], IfOk, IfErr, OnOk};
+ghost use Rattle.asn_rules.specs.Chunks.{Chunk};
+ghost use Rattle.asn_rules.specs.Languages.{Spells, Short};
+ghost use Rattle.asn_rules.specs.Stops.{Stops};
+ghost use Rattle.asn_walk.specs.Reading.{Reads, StopsAt};
+ghost use Rattle.asn_walk_feed.specs.Feeding.{FeedLaws, IsBrief, HasBegun, ExtendsBy, Passes, Ticked, StandsBehind, KeepsUnits};
+
+use crate::begun::Begun;
+use crate::units::{Ticks, Units};
+use asn_bits::BitCursor;
+use asn_rules::internal::Stop;
+use asn_walk::ReadLeaves;
+use std::alloc::Global;
+
+/// What a set of encoding rules gives to a reader of messages in pieces, beside its parts.
+pub trait FeedLeaves: ReadLeaves {
+    /// Puts the next units behind those of a part that has begun, as many as are left and have room; they stay. Gives
+    /// how many they are.
+    fn extend(begun: &mut Begun, units: &BitCursor<'_>) -> u32
+        requires begun { Self.rules.at_unit begun.old }
+        requires at_unit { Self.rules.at_unit units.now }
+        ensures at_unit { Self.rules.at_unit begun.new }
+        ensures few { result ≤ 128 }
+        ensures extended { ExtendsBy Self.rules begun.old begun.new units.now result };
+
+    /// Passes the next `count` units, which have to be left.
+    fn pass_units(units: &mut BitCursor<'_>, count: u32)
+        requires at_unit { Self.rules.at_unit units.old }
+        requires few { count ≤ 128 }
+        requires there { count ≤ length (Self.rules.to_units units.old) }
+        ensures at_unit { Self.rules.at_unit units.new }
+        ensures passed { Passes Self.rules units.old units.new count };
+
+    /// The same place between the fragments of a list.
+    fn copied(fragments: &Self::Fragments) -> Self::Fragments
+        ensures { result ≡ fragments.now };
+
+    /// The parts of few units are brief. The call does nothing: its clause is what proofs cite.
+    fn keep_feed_laws()
+        ensures { FeedLaws Self.rules };
+}
+
+/// A part of few units.
+pub trait Leaf<R: ReadLeaves> {
+    /// What is read.
+    type Out: Drop;
+
+    ghost meant: { Type 0 };
+
+    ghost seen: { Self.Out → meant };
+
+    /// Which values have which spellings.
+    ghost language: { Self → meant → List Chunk → Type 0 };
+
+    ghost good: { Self → Type 0 };
+
+    /// What else holds of what is read.
+    ghost sound: { Self.Out → Type 0 };
+
+    fn read(&self, alloc: Global, units: &mut BitCursor<'_>) -> Result<Self::Out, Stop>
+        requires good { good self.now }
+        requires at_unit { R.rules.at_unit units.old }
+        ensures at_unit { OnOk result (R.rules.at_unit units.new) }
+        ensures done { IfOk result (λ v. Reads R.rules (language self.now) (seen v) units.old units.new) }
+        ensures sound { IfOk result (λ v. sound v) }
+        ensures stop { IfErr result (λ why. StopsAt R.rules (language self.now) units.old why) };
+
+    /// The part is brief. The call does nothing: its clause is what proofs cite.
+    fn be_brief(&self)
+        requires good { good self.now }
+        ensures { IsBrief R.rules (language self.now) };
+}
+
+/// Reads a part of which these units have come. Where more are wanted, those of the piece are put behind them.
+pub fn feed_leaf<R: FeedLeaves, L: Leaf<R>>(
+    alloc: Global,
+    leaf: &L,
+    begun: &mut Begun,
+    units: &mut Units<'_>,
+    ticks: &mut Ticks,
+) -> Result<L::Out, Stop>
+    requires good { L.good leaf.now }
+    requires begun { R.rules.at_unit begun.old }
+    requires at_unit { R.rules.at_unit units.old }
+    requires begins { HasBegun R.rules (L.language leaf.now) begun.old }
+    requires few { ticks.old + length (R.rules.to_units units.old) < 2 ^ 64 }
+    ensures begun { R.rules.at_unit begun.new }
+    ensures at_unit { R.rules.at_unit units.new }
+    ensures done { IfOk result (λ v. Spells R.rules.ruling.fielding (L.language leaf.now) (L.seen v)
+        (R.rules.to_units begun.old ++ R.rules.to_units units.old) (R.rules.to_units units.new)) }
+    ensures sound { IfOk result (λ v. L.sound v) }
+    ensures stop { IfErr result (λ why. Stops R.rules.ruling.fielding (L.language leaf.now)
+        (R.rules.to_units begun.old ++ R.rules.to_units units.old) why) }
+    ensures behind { IfErr result (λ why. StandsBehind R.rules units.new why) }
+    ensures kept { IfErr result (λ why. KeepsUnits R.rules begun.old units.old begun.new why) }
+    ensures ticked { Ticked R.rules units.old ticks.old units.new ticks.new }
+    ensures rising { ticks.old ≤ ticks.new }
+{
+    if begun.is_none() {
+        start_leaf::<R, L>(alloc, leaf, begun, units, ticks)
+    } else {
+        resume_leaf::<R, L>(alloc, leaf, begun, units, ticks)
+    }
+}
+
+/// Reads a part of which no unit has come: of the piece itself, where all its units are there.
+fn start_leaf<R: FeedLeaves, L: Leaf<R>>(
+    alloc: Global,
+    leaf: &L,
+    begun: &mut Begun,
+    units: &mut Units<'_>,
+    ticks: &mut Ticks,
+) -> Result<L::Out, Stop>
+    requires good { L.good leaf.now }
+    requires begun { R.rules.at_unit begun.old }
+    requires at_unit { R.rules.at_unit units.old }
+    requires begins { begun.old ≡ [] }
+    requires few { ticks.old + length (R.rules.to_units units.old) < 2 ^ 64 }
+    ensures begun { R.rules.at_unit begun.new }
+    ensures at_unit { R.rules.at_unit units.new }
+    ensures done { IfOk result (λ v. Spells R.rules.ruling.fielding (L.language leaf.now) (L.seen v)
+        (R.rules.to_units begun.old ++ R.rules.to_units units.old) (R.rules.to_units units.new)) }
+    ensures sound { IfOk result (λ v. L.sound v) }
+    ensures stop { IfErr result (λ why. Stops R.rules.ruling.fielding (L.language leaf.now)
+        (R.rules.to_units begun.old ++ R.rules.to_units units.old) why) }
+    ensures behind { IfErr result (λ why. StandsBehind R.rules units.new why) }
+    ensures kept { IfErr result (λ why. KeepsUnits R.rules begun.old units.old begun.new why) }
+    ensures ticked { Ticked R.rules units.old ticks.old units.new ticks.new }
+    ensures rising { ticks.old ≤ ticks.new }
+{
+    R::keep_feed_laws();
+    let mut ahead = units.ahead();
+    match leaf.read(alloc, &mut ahead) {
+        Ok(value) => {
+            take_to::<R>(units, ahead, ticks);
+            Ok(value)
+        }
+        Err(Stop::Memory) => Err(Stop::Memory),
+        Err(Stop::Short) => resume_leaf::<R, L>(alloc, leaf, begun, units, ticks),
+        Err(Stop::Refused { .. }) => resume_leaf::<R, L>(alloc, leaf, begun, units, ticks),
+    }
+}
+
+/// Reads a part of which more units are wanted: of those that have come with those of the piece behind them, up to as
+/// many as such a part can have.
+fn resume_leaf<R: FeedLeaves, L: Leaf<R>>(
+    alloc: Global,
+    leaf: &L,
+    begun: &mut Begun,
+    units: &mut Units<'_>,
+    ticks: &mut Ticks,
+) -> Result<L::Out, Stop>
+    requires good { L.good leaf.now }
+    requires begun { R.rules.at_unit begun.old }
+    requires at_unit { R.rules.at_unit units.old }
+    requires begins { Short R.rules.ruling.fielding (L.language leaf.now) (R.rules.to_units begun.old) }
+    requires few { ticks.old + length (R.rules.to_units units.old) < 2 ^ 64 }
+    ensures begun { R.rules.at_unit begun.new }
+    ensures at_unit { R.rules.at_unit units.new }
+    ensures done { IfOk result (λ v. Spells R.rules.ruling.fielding (L.language leaf.now) (L.seen v)
+        (R.rules.to_units begun.old ++ R.rules.to_units units.old) (R.rules.to_units units.new)) }
+    ensures sound { IfOk result (λ v. L.sound v) }
+    ensures stop { IfErr result (λ why. Stops R.rules.ruling.fielding (L.language leaf.now)
+        (R.rules.to_units begun.old ++ R.rules.to_units units.old) why) }
+    ensures behind { IfErr result (λ why. StandsBehind R.rules units.new why) }
+    ensures kept { IfErr result (λ why. KeepsUnits R.rules begun.old units.old begun.new why) }
+    ensures ticked { Ticked R.rules units.old ticks.old units.new ticks.new }
+    ensures rising { ticks.old ≤ ticks.new }
+{
+    R::keep_laws();
+    leaf.be_brief();
+    let mut joined = begun.copied();
+    let further = R::extend(&mut joined, &units.ahead());
+    let octets = joined.octets();
+    let mut cursor = joined.over(&octets);
+    match leaf.read(alloc, &mut cursor) {
+        Ok(value) => {
+            let left = R::units_left(&cursor);
+            take_units::<R>(units, further - left as u32, ticks);
+            Ok(value)
+        }
+        Err(Stop::Refused { left, why }) => {
+            take_units::<R>(units, further - left as u32, ticks);
+            let left = R::units_left(&units.ahead());
+            Err(Stop::Refused { left, why })
+        }
+        Err(Stop::Short) => {
+            take_units::<R>(units, further, ticks);
+            *begun = joined;
+            Err(Stop::Short)
+        }
+        Err(Stop::Memory) => Err(Stop::Memory),
+    }
+}
+
+/// Takes the units up to where the cursor stands, a tick each.
+fn take_to<'a, R: ReadLeaves>(units: &mut Units<'a>, ahead: BitCursor<'a>, ticks: &mut Ticks)
+    requires at_unit { R.rules.at_unit units.old }
+    requires ahead { R.rules.at_unit ahead }
+    requires behind { length (R.rules.to_units ahead) ≤ length (R.rules.to_units units.old) }
+    requires few { ticks.old + length (R.rules.to_units units.old) < 2 ^ 64 }
+    ensures left { units.new ≡ ahead.entry }
+    ensures ticked { Ticked R.rules units.old ticks.old ahead.entry ticks.new }
+    ensures rising { ticks.old ≤ ticks.new }
+{
+    let count = R::units_left(&units.ahead()) - R::units_left(&ahead);
+    units.take_to(ahead, count as u64, ticks);
+}
+
+/// Takes the next `count` units, which have to be left, a tick each.
+fn take_units<R: FeedLeaves>(units: &mut Units<'_>, count: u32, ticks: &mut Ticks)
+    requires at_unit { R.rules.at_unit units.old }
+    requires few { count ≤ 128 }
+    requires there { count ≤ length (R.rules.to_units units.old) }
+    requires room { ticks.old + length (R.rules.to_units units.old) < 2 ^ 64 }
+    ensures at_unit { R.rules.at_unit units.new }
+    ensures passed { Passes R.rules units.old units.new count }
+    ensures ticked { ticks.new ≡ ticks.old + count }
+{
+    let mut ahead = units.ahead();
+    R::pass_units(&mut ahead, count);
+    units.take_to(ahead, u64::from(count), ticks);
+}

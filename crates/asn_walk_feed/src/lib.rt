@@ -1,0 +1,20 @@
+//! The walk over types and values that reads a message in pieces, once for all encoding rules.
+//!
+//! A reader goes on where the last piece ended: `Frames` has the nodes of the value that have begun, and each unit is
+//! taken once. Values are read here by the parts that a set of rules gives as impls of `asn_walk::ReadLeaves` and of
+//! `FeedLeaves`.
+#![tactic(auto)]
+
+mod begun;
+mod frame;
+mod leaf;
+mod lists;
+mod parts;
+mod units;
+mod values;
+
+pub use begun::Begun;
+pub use frame::{Elements, Frame, Frames};
+pub use leaf::FeedLeaves;
+pub use units::{Ticks, Units};
+pub use values::feed;

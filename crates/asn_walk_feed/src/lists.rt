@@ -1,0 +1,299 @@
+//! The reader of SEQUENCE OF that goes on where it stopped.
+//!
+//! What stands before the elements is a part of its own, and so is each length between fragments; `Elements` says where
+//! a list stands between two of these parts.
+ghost use Rattle.std.specs.Prelude.{◌≡◌, ◌≤◌, ◌<◌, ◌+◌, ◌^◌, ◌++◌, ℕ, List, [], length, zero, IfOk, IfErr, OnOk, OnErr, IsNone, Ok, Err, Some, None, true, false};
+ghost use Rattle.asn_values.specs.Profile.{InProfile};
+ghost use Rattle.asn_values.specs.Shape.{sequence_of};
+ghost use Rattle.asn_values.specs.View.{shape_of, datum_of, size_range_of};
+ghost use Rattle.asn_rules.specs.Languages.{Spells};
+ghost use Rattle.asn_rules.specs.Stops.{Stops};
+ghost use Rattle.asn_rules.specs.declared.stop.Stop.TheVariants.{Short};
+ghost use Rattle.asn_walk.specs.Reading.{ValuesOf};
+ghost use Rattle.asn_walk_feed.specs.Feeding.{Waits, NextOf, HasBegun, Ticked, StandsBehind, KeepsUnits};
+ghost use Rattle.asn_walk_feed.specs.Nodes.{nodes};
+ghost use Rattle.asn_walk_feed.specs.Taken.{with_node, IsCovered, Took, ListGoesOn, KeepsFrames, ReadsOn, StopsOn, KeepsOn, ReadsListOn, StopsListOn, KeepsListOn, ReadsElementsOn, StopsElementsOn, GoesOnTo};
+
+use crate::begun::Begun;
+use crate::frame::{Elements, Frame, Frames};
+use crate::leaf::{FeedLeaves, feed_leaf};
+use crate::parts::{ListStart, NextLength};
+use crate::units::{Ticks, Units};
+use crate::values::feed;
+use asn_rules::internal::Stop;
+use asn_values::{AsnType, Size, Value};
+use std::alloc::Global;
+
+/// Reads what is left of a list, of which this node has begun and in it the others.
+#[cycle(feeder)]
+pub(crate) fn resume_list<R: FeedLeaves>(
+    alloc: Global,
+    element: &AsnType,
+    size: &Size,
+    node: Option<Frame<R::Fragments>>,
+    frames: &mut Frames<R::Fragments>,
+    units: &mut Units<'_>,
+    ticks: &mut Ticks,
+) -> Result<Value, Stop>
+    requires at_unit { R.rules.at_unit units.old }
+    requires of_profile { InProfile (sequence_of (shape_of element.now) (size_range_of size.now)) }
+    requires covered { IsCovered (shape_of element.now) }
+    requires reached { (us : List ℕ) × Took R.rules R.ahead R.is_between (with_node node (nodes frames.old))
+        (sequence_of (shape_of element.now) (size_range_of size.now)) us }
+    requires last { IsNone node → nodes frames.old ≡ [] }
+    requires few { ticks.old + length (R.rules.to_units units.old) < 2 ^ 64 }
+    ensures at_unit { R.rules.at_unit units.new }
+    ensures done { IfOk result (λ v. ReadsOn R.rules R.ahead R.is_between (with_node node (nodes frames.old))
+        (sequence_of (shape_of element.now) (size_range_of size.now)) (datum_of v) units.old units.new) }
+    ensures emptied { OnOk result (nodes frames.new ≡ []) }
+    ensures stop { IfErr result (λ why. StopsOn R.rules R.ahead R.is_between (with_node node (nodes frames.old))
+        (sequence_of (shape_of element.now) (size_range_of size.now)) units.old why) }
+    ensures kept { IfErr result (λ why. KeepsOn R.rules R.ahead R.is_between (with_node node (nodes frames.old))
+        (nodes frames.new) (sequence_of (shape_of element.now) (size_range_of size.now)) units.old why) }
+    ensures behind { IfErr result (λ why. StandsBehind R.rules units.new why) }
+    ensures ticked { Ticked R.rules units.old ticks.old units.new ticks.new }
+    ensures rising { ticks.old ≤ ticks.new }
+{
+    R::keep_laws();
+    R::keep_feed_laws();
+    match node {
+        Some(Frame::Elements(list)) => {
+            feed_list::<R>(alloc, element, size, list, frames, units, ticks)
+        }
+        Some(Frame::Start(begun)) => {
+            start_list::<R>(alloc, element, size, begun, frames, units, ticks)
+        }
+        None => start_list::<R>(alloc, element, size, Begun::none(), frames, units, ticks),
+    }
+}
+
+/// Reads what is left of what stands before the elements of a list, and then these.
+#[cycle(feeder)]
+fn start_list<R: FeedLeaves>(
+    alloc: Global,
+    element: &AsnType,
+    size: &Size,
+    begun: Begun,
+    frames: &mut Frames<R::Fragments>,
+    units: &mut Units<'_>,
+    ticks: &mut Ticks,
+) -> Result<Value, Stop>
+    requires at_unit { R.rules.at_unit units.old }
+    requires of_profile { InProfile (sequence_of (shape_of element.now) (size_range_of size.now)) }
+    requires covered { IsCovered (shape_of element.now) }
+    requires empty { nodes frames.old ≡ [] }
+    requires waits { Waits R.rules (R.rules.list_start (size_range_of size.now)) begun (R.rules.to_units begun) }
+    requires few { ticks.old + length (R.rules.to_units units.old) < 2 ^ 64 }
+    ensures at_unit { R.rules.at_unit units.new }
+    ensures done { IfOk result (λ v. Spells R.rules.ruling.fielding
+        (ValuesOf R.rules (sequence_of (shape_of element.now) (size_range_of size.now))) (datum_of v)
+        (R.rules.to_units begun ++ R.rules.to_units units.old) (R.rules.to_units units.new)) }
+    ensures emptied { OnOk result (nodes frames.new ≡ []) }
+    ensures stop { IfErr result (λ why. Stops R.rules.ruling.fielding
+        (ValuesOf R.rules (sequence_of (shape_of element.now) (size_range_of size.now)))
+        (R.rules.to_units begun ++ R.rules.to_units units.old) why) }
+    ensures kept { IfErr result (λ why. KeepsFrames R.rules R.ahead R.is_between (nodes frames.new)
+        (sequence_of (shape_of element.now) (size_range_of size.now))
+        (R.rules.to_units begun ++ R.rules.to_units units.old) why) }
+    ensures behind { IfErr result (λ why. StandsBehind R.rules units.new why) }
+    ensures ticked { Ticked R.rules units.old ticks.old units.new ticks.new }
+    ensures rising { ticks.old ≤ ticks.new }
+{
+    R::keep_laws();
+    R::keep_feed_laws();
+    let mut begun = begun;
+    match feed_leaf::<R, ListStart<'_>>(alloc, &ListStart { size }, &mut begun, units, ticks) {
+        Ok(fragments) => {
+            let list = Elements {
+                elements: Vec::new(alloc),
+                left: 0,
+                fragments,
+                next_length: Begun::none(),
+            };
+            feed_list::<R>(alloc, element, size, list, frames, units, ticks)
+        }
+        Err(Stop::Short) => match frames.put(Frame::Start(begun)) {
+            Ok(()) => Err(Stop::Short),
+            Err(_) => Err(Stop::Memory),
+        },
+        Err(Stop::Refused { left, why }) => Err(Stop::Refused { left, why }),
+        Err(Stop::Memory) => Err(Stop::Memory),
+    }
+}
+
+/// Reads what is left of the elements of a list.
+#[cycle(feeder)]
+fn feed_list<R: FeedLeaves>(
+    alloc: Global,
+    element: &AsnType,
+    size: &Size,
+    list: Elements<R::Fragments>,
+    frames: &mut Frames<R::Fragments>,
+    units: &mut Units<'_>,
+    ticks: &mut Ticks,
+) -> Result<Value, Stop>
+    requires at_unit { R.rules.at_unit units.old }
+    requires of_profile { InProfile (sequence_of (shape_of element.now) (size_range_of size.now)) }
+    requires covered { IsCovered (shape_of element.now) }
+    requires reached { (all : List ℕ) × ListGoesOn R.rules R.ahead R.is_between (shape_of element.now)
+        (size_range_of size.now) list (nodes frames.old) all (R.rules.to_units units.old) }
+    requires few { ticks.old + length (R.rules.to_units units.old) < 2 ^ 64 }
+    ensures at_unit { R.rules.at_unit units.new }
+    ensures done { IfOk result (λ v. ReadsListOn R.rules R.ahead R.is_between (shape_of element.now)
+        (size_range_of size.now) list (nodes frames.old) (datum_of v) units.old units.new) }
+    ensures emptied { OnOk result (nodes frames.new ≡ []) }
+    ensures stop { IfErr result (λ why. StopsListOn R.rules R.ahead R.is_between (shape_of element.now)
+        (size_range_of size.now) list (nodes frames.old) units.old why) }
+    ensures kept { IfErr result (λ why. KeepsListOn R.rules R.ahead R.is_between (shape_of element.now)
+        (size_range_of size.now) list (nodes frames.old) (nodes frames.new) units.old why) }
+    ensures behind { IfErr result (λ why. StandsBehind R.rules units.new why) }
+    ensures ticked { Ticked R.rules units.old ticks.old units.new ticks.new }
+    ensures rising { ticks.old ≤ ticks.new }
+{
+    R::keep_laws();
+    R::keep_feed_laws();
+    let mut list = list;
+    match feed_elements::<R>(alloc, element, size, &mut list, frames, units, ticks) {
+        Ok(()) => Ok(Value::List(list.elements)),
+        Err(Stop::Short) => match frames.put(Frame::Elements(list)) {
+            Ok(()) => Err(Stop::Short),
+            Err(_) => Err(Stop::Memory),
+        },
+        Err(Stop::Refused { left, why }) => Err(Stop::Refused { left, why }),
+        Err(Stop::Memory) => Err(Stop::Memory),
+    }
+}
+
+/// Reads what is left of the elements of a list, and puts them after those that it has.
+#[cycle(feeder)]
+fn feed_elements<R: FeedLeaves>(
+    alloc: Global,
+    element: &AsnType,
+    size: &Size,
+    list: &mut Elements<R::Fragments>,
+    frames: &mut Frames<R::Fragments>,
+    units: &mut Units<'_>,
+    ticks: &mut Ticks,
+) -> Result<(), Stop>
+    requires at_unit { R.rules.at_unit units.old }
+    requires of_profile { InProfile (sequence_of (shape_of element.now) (size_range_of size.now)) }
+    requires covered { IsCovered (shape_of element.now) }
+    requires reached { (all : List ℕ) × ListGoesOn R.rules R.ahead R.is_between (shape_of element.now)
+        (size_range_of size.now) list.old (nodes frames.old) all (R.rules.to_units units.old) }
+    requires few { ticks.old + length (R.rules.to_units units.old) < 2 ^ 64 }
+    ensures at_unit { R.rules.at_unit units.new }
+    ensures done { OnOk result (ReadsElementsOn R.rules R.ahead R.is_between (shape_of element.now)
+        (size_range_of size.now) list.old (nodes frames.old) list.new units.old units.new) }
+    ensures emptied { OnOk result (nodes frames.new ≡ []) }
+    ensures stop { IfErr result (λ why. StopsElementsOn R.rules R.ahead R.is_between (shape_of element.now)
+        (size_range_of size.now) list.old (nodes frames.old) units.old why) }
+    ensures kept { result ≡ Err Short → GoesOnTo R.rules R.ahead R.is_between (shape_of element.now)
+        (size_range_of size.now) list.old (nodes frames.old) units.old list.new (nodes frames.new) units.new }
+    ensures behind { IfErr result (λ why. StandsBehind R.rules units.new why) }
+    ensures ticked { Ticked R.rules units.old ticks.old units.new ticks.new }
+    ensures rising { ticks.old ≤ ticks.new }
+{
+    R::keep_laws();
+    R::keep_feed_laws();
+    loop {
+        feed_fragment::<R>(alloc, element, size, list, frames, units, ticks)?;
+        if !next_fragment::<R>(alloc, list, units, ticks)? {
+            return Ok(());
+        }
+    }
+}
+
+/// Reads what is left of the elements of a fragment, and puts them after those that the list has.
+#[cycle(feeder)]
+fn feed_fragment<R: FeedLeaves>(
+    alloc: Global,
+    element: &AsnType,
+    size: &Size,
+    list: &mut Elements<R::Fragments>,
+    frames: &mut Frames<R::Fragments>,
+    units: &mut Units<'_>,
+    ticks: &mut Ticks,
+) -> Result<(), Stop>
+    requires at_unit { R.rules.at_unit units.old }
+    requires of_profile { InProfile (sequence_of (shape_of element.now) (size_range_of size.now)) }
+    requires covered { IsCovered (shape_of element.now) }
+    requires reached { (all : List ℕ) × ListGoesOn R.rules R.ahead R.is_between (shape_of element.now)
+        (size_range_of size.now) list.old (nodes frames.old) all (R.rules.to_units units.old) }
+    requires few { ticks.old + length (R.rules.to_units units.old) < 2 ^ 64 }
+    ensures at_unit { R.rules.at_unit units.new }
+    ensures done { OnOk result (GoesOnTo R.rules R.ahead R.is_between (shape_of element.now)
+        (size_range_of size.now) list.old (nodes frames.old) units.old list.new (nodes frames.new) units.new) }
+    ensures over { OnOk result (list.new.left ≡ 0) }
+    ensures fragments { OnOk result (list.new.fragments ≡ list.old.fragments) }
+    ensures shorter { OnOk result
+        (length (R.rules.to_units units.new) ≤ length (R.rules.to_units units.old)) }
+    ensures stop { IfErr result (λ why. StopsElementsOn R.rules R.ahead R.is_between (shape_of element.now)
+        (size_range_of size.now) list.old (nodes frames.old) units.old why) }
+    ensures kept { result ≡ Err Short → GoesOnTo R.rules R.ahead R.is_between (shape_of element.now)
+        (size_range_of size.now) list.old (nodes frames.old) units.old list.new (nodes frames.new) units.new }
+    ensures behind { IfErr result (λ why. StandsBehind R.rules units.new why) }
+    ensures ticked { Ticked R.rules units.old ticks.old units.new ticks.new }
+    ensures rising { ticks.old ≤ ticks.new }
+{
+    R::keep_laws();
+    R::keep_feed_laws();
+    while list.left > 0 {
+        let value = feed::<R>(alloc, element, frames, units, ticks)?;
+        list.elements.push(value)?;
+        list.left -= 1;
+    }
+    Ok(())
+}
+
+/// Reads what is left of the next length of a list, where one stands there. Whether a fragment follows it.
+fn next_fragment<R: FeedLeaves>(
+    alloc: Global,
+    list: &mut Elements<R::Fragments>,
+    units: &mut Units<'_>,
+    ticks: &mut Ticks,
+) -> Result<bool, Stop>
+    requires at_unit { R.rules.at_unit units.old }
+    requires between { R.is_between list.old.fragments }
+    requires begun { R.rules.at_unit list.old.next_length }
+    requires begins { HasBegun R.rules (NextOf (R.ahead list.old.fragments)) list.old.next_length }
+    requires few { ticks.old + length (R.rules.to_units units.old) < 2 ^ 64 }
+    ensures at_unit { R.rules.at_unit units.new }
+    ensures begun { OnErr result (R.rules.at_unit list.new.next_length) }
+    ensures between { R.is_between list.new.fragments }
+    ensures elements { list.new.elements ≡ list.old.elements }
+    ensures more { result ≡ Ok true → Spells R.rules.ruling.fielding (NextOf (R.ahead list.old.fragments))
+        (Some list.new.left, R.ahead list.new.fragments)
+        (R.rules.to_units list.old.next_length ++ R.rules.to_units units.old) (R.rules.to_units units.new) }
+    ensures none { result ≡ Ok false → Spells R.rules.ruling.fielding (NextOf (R.ahead list.old.fragments))
+        (None, R.ahead list.new.fragments)
+        (R.rules.to_units list.old.next_length ++ R.rules.to_units units.old) (R.rules.to_units units.new) }
+    ensures fresh { OnOk result (list.new.next_length ≡ []) }
+    ensures stop { IfErr result (λ why. Stops R.rules.ruling.fielding (NextOf (R.ahead list.old.fragments))
+        (R.rules.to_units list.old.next_length ++ R.rules.to_units units.old) why) }
+    ensures same { IfErr result (λ why.
+        (list.new.fragments ≡ list.old.fragments) × (list.new.left ≡ list.old.left)) }
+    ensures kept { IfErr result (λ why.
+        KeepsUnits R.rules list.old.next_length units.old list.new.next_length why) }
+    ensures behind { IfErr result (λ why. StandsBehind R.rules units.new why) }
+    ensures ticked { Ticked R.rules units.old ticks.old units.new ticks.new }
+    ensures rising { ticks.old ≤ ticks.new }
+{
+    let (count, fragments) = feed_leaf::<R, NextLength<'_, R::Fragments>>(
+        alloc,
+        &NextLength {
+            fragments: &list.fragments,
+        },
+        &mut list.next_length,
+        units,
+        ticks,
+    )?;
+    list.next_length = Begun::none();
+    list.fragments = fragments;
+    match count {
+        Some(count) => {
+            list.left = count;
+            Ok(true)
+        }
+        None => Ok(false),
+    }
+}

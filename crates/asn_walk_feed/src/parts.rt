@@ -1,0 +1,106 @@
+//! The parts of few units that stand in values of all types.
+ghost use Rattle.std.specs.Prelude.{◌≡◌, ◌≤◌, ℕ, Option, ⊤};
+ghost use Rattle.asn_values.specs.Datum.{Datum};
+ghost use Rattle.asn_values.specs.Profile.{InProfile};
+ghost use Rattle.asn_values.specs.View.{shape_of, datum_of, size_range_of};
+ghost use Rattle.asn_walk.specs.Ahead.{Ahead};
+ghost use Rattle.asn_walk.specs.Laws.{IsSizeOfProfile};
+ghost use Rattle.asn_walk.specs.Reading.{ValuesOf};
+ghost use Rattle.asn_walk_feed.specs.Feeding.{IsScalar, NextOf};
+
+use crate::leaf::{FeedLeaves, Leaf};
+use asn_bits::BitCursor;
+use asn_rules::internal::Stop;
+use asn_values::{AsnType, Size, Value};
+use asn_walk::ReadLeaves;
+use std::alloc::Global;
+
+/// A BOOLEAN, a NULL, an INTEGER or an ENUMERATED.
+#[derive(Drop)]
+pub struct Scalar<'a> {
+    pub ty: &'a AsnType,
+}
+
+impl<'a, R: FeedLeaves> Leaf<R> for Scalar<'a> {
+    type Out = Value;
+
+    ghost meant = { Datum };
+
+    ghost seen = { datum_of };
+
+    ghost language = { λ s. ValuesOf R.rules (shape_of s.ty.now) };
+
+    ghost good = { λ s. InProfile (shape_of s.ty.now) × IsScalar (shape_of s.ty.now) };
+
+    ghost sound = { λ v. ⊤ };
+
+    fn read(&self, alloc: Global, units: &mut BitCursor<'_>) -> Result<Value, Stop> {
+        R::read_simple(alloc, self.ty, units)
+    }
+
+    fn be_brief(&self) {
+        R::keep_feed_laws();
+    }
+}
+
+/// What stands before the elements of a SEQUENCE OF, up to the first length.
+#[derive(Drop)]
+pub struct ListStart<'a> {
+    pub size: &'a Size,
+}
+
+impl<'a, R: FeedLeaves> Leaf<R> for ListStart<'a> {
+    type Out = R::Fragments;
+
+    ghost meant = { Ahead };
+
+    ghost seen = { R.ahead };
+
+    ghost language = { λ s. R.rules.list_start (size_range_of s.size.now) };
+
+    ghost good = { λ s. IsSizeOfProfile (size_range_of s.size.now) };
+
+    ghost sound = { R.is_between };
+
+    fn read(&self, _alloc: Global, units: &mut BitCursor<'_>) -> Result<R::Fragments, Stop> {
+        R::start_list(self.size, units)
+    }
+
+    fn be_brief(&self) {
+        R::keep_feed_laws();
+    }
+}
+
+/// The length of the next fragment of a SEQUENCE OF, where one stands there.
+#[derive(Drop)]
+pub struct NextLength<'a, F> {
+    pub fragments: &'a F,
+}
+
+impl<'a, R: FeedLeaves> Leaf<R> for NextLength<'a, R::Fragments> {
+    type Out = (Option<usize>, R::Fragments);
+
+    ghost meant = { Option ℕ × Ahead };
+
+    ghost seen = { λ o. (o.0, R.ahead o.1) };
+
+    ghost language = { λ s. NextOf (R.ahead s.fragments.now) };
+
+    ghost good = { λ s. R.is_between s.fragments.now };
+
+    ghost sound = { λ o. R.is_between o.1 };
+
+    fn read(
+        &self,
+        _alloc: Global,
+        units: &mut BitCursor<'_>,
+    ) -> Result<(Option<usize>, R::Fragments), Stop> {
+        let mut fragments = R::copied(self.fragments);
+        let count = R::next_fragment(&mut fragments, units)?;
+        Ok((count, fragments))
+    }
+
+    fn be_brief(&self) {
+        R::keep_feed_laws();
+    }
+}

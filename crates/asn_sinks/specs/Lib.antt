@@ -1,0 +1,3 @@
+pub mod Sink
+pub mod LengthCounts
+pub mod Measures

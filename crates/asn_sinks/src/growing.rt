@@ -23,6 +23,8 @@ fn push_single_length(count: u64, sink: &mut BitSink) -> Result<(), AllocError>
 
 /// It keeps all bits. An open type field is written into a sink of its own, and copied when it is ended.
 impl Sink for BitSink {
+    ghost use Rattle.asn_sinks.specs.SinkLaws.{none_added, added_twice, added_stands};
+
     type Fault = AllocError;
 
     type Outer = BitSink;
@@ -30,6 +32,8 @@ impl Sink for BitSink {
     ghost Origin = { ⊤ };
 
     ghost stands = { λ sink c taken coming. sink ≡ taken };
+
+    ghost pushes = { λ old new xs. new ≡ old ++ xs };
 
     ghost keeps = { λ outer taken. outer ≡ taken };
 
@@ -114,4 +118,10 @@ impl Sink for BitSink {
     fn push_least_signed_octets(&mut self, z: i128) -> Result<(), AllocError> {
         BitSink::push_least_signed_octets(self, z)
     }
+
+    ghost pushes_none = { λ a. none_added a };
+
+    ghost pushes_joined = { λ a b c xs ys p q. added_twice a b c xs ys p q };
+
+    ghost pushes_stand = { λ a b xs p. added_stands a b xs p };
 }

@@ -51,8 +51,10 @@ impl Measure {
     }
 }
 
+/// No call of it fails.
 impl Sink for Measure {
-    ghost use Rattle.asn_sinks.specs.Measures.{Measures};
+    ghost use Rattle.asn_sinks.specs.Measures.{Measures, Counts};
+    ghost use Rattle.asn_sinks.specs.SinkLaws.{none_counted, counted_twice, counted_stands};
 
     type Fault = Infallible;
 
@@ -61,6 +63,8 @@ impl Sink for Measure {
     ghost Origin = { ⊤ };
 
     ghost stands = { λ measure c taken coming. Measures measure taken };
+
+    ghost pushes = { λ old new xs. Counts old new xs };
 
     ghost keeps = { λ outer taken. Measures outer taken };
 
@@ -113,4 +117,10 @@ impl Sink for Measure {
             }
         }
     }
+
+    ghost pushes_none = { λ a. none_counted a };
+
+    ghost pushes_joined = { λ a b c xs ys p q. counted_twice a b c xs ys p q };
+
+    ghost pushes_stand = { λ a b xs p. counted_stands a b xs p };
 }

@@ -1,5 +1,5 @@
 //! The trait of what encoders write into.
-ghost use Rattle.std.specs.Prelude.{◌≡◌, ◌<◌, ◌≤◌, ◌≤ℤ◌, ◌^◌, ◌*◌, ◌∷◌, ℕ, Bool, List, [], length, map, IfOk, OnOk};
+ghost use Rattle.std.specs.Prelude.{◌≡◌, ◌<◌, ◌≤◌, ◌≤ℤ◌, ◌^◌, ◌*◌, ◌∷◌, ◌++◌, ℕ, Bool, List, [], length, map, IfOk, OnOk};
 ghost use Rattle.asn_values.specs.Fits.{lowest_integer, highest_integer};
 ghost use Rattle.asn_bits.specs.LengthBits.{first_length};
 ghost use Rattle.asn_bits.specs.Lengths.{general_octets};
@@ -22,9 +22,9 @@ pub enum Framing {
 
 /// What an encoder writes into: a vector that grows, a count, or a few octets before a writer.
 ///
-/// Open type fields may stand inside one another. `stands` says which bits were taken so far of the innermost one (or
-/// of the encoding, outside of them all), and which are still to come of it. So a contract speaks of no bit that stands
-/// elsewhere, and a sink before a writer, which lets go of what it has written, can keep it.
+/// `pushes` says that bits were taken. Open type fields may stand inside one another: `stands` says which bits were taken
+/// so far of the innermost one (or of the encoding, outside of them all), and which are still to come of it. So a contract
+/// speaks of no bit that stands elsewhere, and a sink before a writer, which lets go of what it has written, can keep it.
 pub trait Sink {
     ghost use Rattle.asn_sinks.specs.Sink.{Standing, Pushes, Fills, Begins, Ends};
 
@@ -40,6 +40,9 @@ pub trait Sink {
     /// Which bits were taken, and which are to come.
     ghost stands: { Standing Self Origin };
 
+    /// These bits were taken.
+    ghost pushes: { Self → Self → List ℕ → Type 0 };
+
     /// The bits that were taken of what is around an open type field.
     ghost keeps: { Self.Outer → List ℕ → Type 0 };
 
@@ -54,11 +57,11 @@ pub trait Sink {
     fn push_number(&mut self, k: u32, n: u64) -> Result<(), Self::Fault>
         requires few { k ≤ 64 }
         requires fits { n < 2 ^ k }
-        ensures { OnOk result (Pushes stands self.old self.new (bits k n)) };
+        ensures { OnOk result (pushes self.old self.new (bits k n)) };
 
     /// Adds all bits of the octets.
     fn push_octets(&mut self, octets: &[u8]) -> Result<(), Self::Fault>
-        ensures { OnOk result (Pushes stands self.old self.new (unpacked octets.now)) };
+        ensures { OnOk result (pushes self.old self.new (unpacked octets.now)) };
 
     /// Adds the fewest 0 bits that fill octets, and eight where there is no bit and `some` octet is wanted.
     fn fill(&mut self, some: bool) -> Result<(), Self::Fault>
@@ -83,7 +86,7 @@ pub trait Sink {
     /// Adds one bit.
     #[inline(always)]
     fn push(&mut self, bit: bool) -> Result<(), Self::Fault>
-        ensures { OnOk result (Pushes stands self.old self.new (bit_of bit ∷ [])) }
+        ensures { OnOk result (pushes self.old self.new (bit_of bit ∷ [])) }
     {
         self.push_number(1, bit as u64)
     }
@@ -92,7 +95,7 @@ pub trait Sink {
     #[inline(always)]
     fn push_low_octets(&mut self, count: u32, n: u64) -> Result<(), Self::Fault>
         requires few { count ≤ 8 }
-        ensures { OnOk result (Pushes stands self.old self.new (bits (8 * count) n)) }
+        ensures { OnOk result (pushes self.old self.new (bits (8 * count) n)) }
     {
         self.push_number(8 * count, last_octets(count, n))
     }
@@ -100,14 +103,14 @@ pub trait Sink {
     /// As `push_octets`, for what is mostly few octets.
     #[inline(always)]
     fn push_row(&mut self, octets: &[u8]) -> Result<(), Self::Fault>
-        ensures { OnOk result (Pushes stands self.old self.new (unpacked octets.now)) }
+        ensures { OnOk result (pushes self.old self.new (unpacked octets.now)) }
     {
         self.push_octets(octets)
     }
 
     /// Adds a bit for each truth value, 1 for `true`.
     fn push_bits(&mut self, truths: &[bool]) -> Result<(), Self::Fault>
-        ensures { OnOk result (Pushes stands self.old self.new (map bit_of truths.now)) }
+        ensures { OnOk result (pushes self.old self.new (map bit_of truths.now)) }
     {
         let mut rest = truths;
         while rest.len() > 64 {
@@ -122,7 +125,7 @@ pub trait Sink {
     /// once: all, or a fragment, after which another length determinant comes (X.691, "general length determinant").
     #[inline(always)]
     fn push_length(&mut self, n: u64) -> Result<u64, Self::Fault>
-        ensures bits { OnOk result (Pushes stands self.old self.new (first_length n).bits) }
+        ensures bits { OnOk result (pushes self.old self.new (first_length n).bits) }
         ensures items { IfOk result (λ items. items ≡ (first_length n).items) }
     {
         let (k, code, items) = next_length(n);
@@ -132,7 +135,7 @@ pub trait Sink {
 
     /// Adds octets under their general length, fragments and all (X.691, "general length determinant").
     fn push_general_octets(&mut self, octets: &[u8]) -> Result<(), Self::Fault>
-        ensures { OnOk result (Pushes stands self.old self.new (general_octets (λ u. u) octets.now)) }
+        ensures { OnOk result (pushes self.old self.new (general_octets (λ u. u) octets.now)) }
     {
         let mut rest = octets;
         while rest.len() >= BLOCK as usize {
@@ -149,7 +152,7 @@ pub trait Sink {
 
     /// Adds the fewest octets of `n` under their general length, as X.691 encodes a semi-constrained whole number.
     fn push_least_octets(&mut self, n: u64) -> Result<(), Self::Fault>
-        ensures { OnOk result (Pushes stands self.old self.new (general_octets (λ u. u) (least n))) }
+        ensures { OnOk result (pushes self.old self.new (general_octets (λ u. u) (least n))) }
     {
         let count = octet_count(n);
         self.push_number(8, count as u64)?;
@@ -161,11 +164,20 @@ pub trait Sink {
     fn push_least_signed_octets(&mut self, z: i128) -> Result<(), Self::Fault>
         requires low { lowest_integer ≤ℤ z }
         requires high { z ≤ℤ highest_integer }
-        ensures { OnOk result (Pushes stands self.old self.new (general_octets (λ u. u) (least_signed z))) }
+        ensures { OnOk result (pushes self.old self.new (general_octets (λ u. u) (least_signed z))) }
     {
         let count = signed_octet_count(z);
         let residue = signed_residue(z, count);
         self.push_number(8, count as u64)?;
         self.push_number(8 * count, residue)
     }
+
+    /// No bits are taken where the sink stays as it is.
+    ghost pushes_none: { (a : Self) → pushes a a [] };
+
+    /// Bits are taken one after the other.
+    ghost pushes_joined: { (a b c : Self) (xs ys : List ℕ) → pushes a b xs → pushes b c ys → pushes a c (xs ++ ys) };
+
+    /// Bits are taken from those to come.
+    ghost pushes_stand: { (a b : Self) (xs : List ℕ) → pushes a b xs → Pushes stands a b xs };
 }

@@ -74,8 +74,8 @@ impl BitWriter {
             → BitsStand start (state_of W.contents output.old) self.old [] all
             → Broke start (state_of W.contents output.new) sent all) }
     {
-        let left = self.count % 8;
-        self.octets.put_low(self.count / 8, self.pending >> left, output);
+        let begun = self.count % 8;
+        self.octets.put_low(self.count / 8, self.pending >> begun, output);
         self.octets.send(output);
         if self.octets.failed {
             return Err(self.octets.sent);

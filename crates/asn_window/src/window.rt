@@ -174,6 +174,8 @@ impl<'a, W: Write> Window<'a, W> {
 }
 
 impl<'a, W: Write> Sink for Window<'a, W> {
+    ghost use Rattle.asn_sinks.specs.Sink.{Pushes};
+    ghost use Rattle.asn_sinks.specs.SinkLaws.{pushed_none, pushed_joined};
     ghost use Rattle.asn_window.specs.Windows.{WindowStands};
 
     type Fault = Infallible;
@@ -183,6 +185,8 @@ impl<'a, W: Write> Sink for Window<'a, W> {
     ghost Origin = { Start };
 
     ghost stands = { λ w c taken coming. WindowStands W.contents w c taken coming };
+
+    ghost pushes = { λ old new xs. Pushes (λ w c taken coming. WindowStands W.contents w c taken coming) old new xs };
 
     ghost keeps = { λ outer taken. outer.phase ≡ length taken % 8 };
 
@@ -248,4 +252,11 @@ impl<'a, W: Write> Sink for Window<'a, W> {
         self.is_empty = false;
         Ok(())
     }
+
+    ghost pushes_none = { λ a. pushed_none (λ w c taken coming. WindowStands W.contents w c taken coming) a };
+
+    ghost pushes_joined = { λ a b c xs ys p q.
+        pushed_joined (λ w c taken coming. WindowStands W.contents w c taken coming) a b c xs ys p q };
+
+    ghost pushes_stand = { λ a b xs p. p };
 }

@@ -4,5 +4,5 @@ use Rattle.asn_bits.proofs.Octets.{length-digits}
 use Rattle.asn_sinks.proofs.measure.MeasureSink.push_number.Goals as goal
 
 pub returns : goal.returns
-returns c at sofar r told =
-    omega (arith, told, c.saturating_add-self.ensures, length-append sofar (bits c.args.k c.args.n), length-digits 2 c.args.k c.args.n)
+returns c taken told =
+    omega (arith, told, c.saturating_add-self.ensures, length-append taken (bits c.args.k c.args.n), length-digits 2 c.args.k c.args.n)

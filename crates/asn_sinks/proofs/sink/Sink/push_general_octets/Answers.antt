@@ -3,13 +3,12 @@ use Rattle.std.proofs.Common.{◌≡◌, ◌++◌, ℕ, List, sym, ap, ◌∙◌
 use Rattle.asn_bits.specs.Lengths.{general_octets}
 use Rattle.asn_bits.specs.Numbers.{bits, unpacked}
 use Rattle.asn_bits.proofs.FragmentedOctets.{octets_last, octets_fragment}
-use Rattle.asn_sinks.specs.Sink.{Pushes}
-use Rattle.asn_sinks.proofs.Pushing.{pushes_joined, pushes_same, on_ok}
+use Rattle.asn_sinks.proofs.Pushing.{pushed_same, on_ok}
 use Rattle.asn_sinks.proofs.sink.Sink.push_general_octets.Goals as goal
 
 pub loop-rest-preserved : goal.loop-rest-preserved
 loop-rest-preserved g c =
-    let stands = g.Self.Sink.stands in
+    let push = g.Self.Sink.pushes in
     let inv = c.loop-rest.invariant in
     let rest = c.loop-rest.rest.now in
     let k = c.next_length-k.result.2 in
@@ -21,9 +20,9 @@ loop-rest-preserved g c =
     ∙ ap (λ h. (h ++ unpacked (take k rest)) ++ general_octets (λ u. u) (drop k rest)) (sym c.next_length-k.ensures.bits)
     ∙ ap (λ (t : List ℕ). (code ++ unpacked t) ++ general_octets (λ u. u) (drop k rest)) (sym c.split_at.ensures.front)
     ∙ ap (λ (t : List ℕ). (code ++ front) ++ general_octets (λ u. u) t) (sym c.split_at.ensures.back) in
-    let more : Pushes stands c.args.self.now c.push_octets.new.self ((inv.0 ++ code) ++ front) =
-    pushes_joined stands c.args.self.now c.push_number.new.self c.push_octets.new.self (inv.0 ++ code) front
-    (pushes_joined stands c.args.self.now c.loop-rest.self c.push_number.new.self inv.0 code inv.2 c.in_ok-push_number.ensures) c.in_ok-push_octets.ensures in (
+    let more : push c.args.self.now c.push_octets.new.self ((inv.0 ++ code) ++ front) =
+    g.met.Self.Sink.pushes_joined c.args.self.now c.push_number.new.self c.push_octets.new.self (inv.0 ++ code) front
+    (g.met.Self.Sink.pushes_joined c.args.self.now c.loop-rest.self c.push_number.new.self inv.0 code inv.2 c.in_ok-push_number.ensures) c.in_ok-push_octets.ensures in (
       (inv.0 ++ code) ++ front,
       ap (λ t. t ++ back) (append_assoc inv.0 code front) ∙ append_assoc inv.0 (code ++ front) back ∙ ap (λ t. inv.0 ++ t) (sym cut) ∙ inv.1,
       more,
@@ -31,7 +30,7 @@ loop-rest-preserved g c =
 
 pub returns : goal.returns
 returns g c =
-    let stands = g.Self.Sink.stands in
+    let push = g.Self.Sink.pushes in
     let inv = c.loop-rest.invariant in
     let rest = c.loop-rest.rest.now in
     let code = bits c.next_length-k-2.result.0 c.next_length-k-2.result.1 in
@@ -40,6 +39,6 @@ returns g c =
     let all : (inv.0 ++ code) ++ unpacked rest ≡ general_octets (λ u. u) c.args.octets.now =
     append_assoc inv.0 code (unpacked rest) ∙ ap (λ t. inv.0 ++ t) (sym last) ∙ inv.1 in
     on_ok c.push_octets-2.result (λ p.
-    pushes_same stands c.args.self.now c.push_octets-2.new.self all
-    (pushes_joined stands c.args.self.now c.push_number-2.new.self c.push_octets-2.new.self (inv.0 ++ code) (unpacked rest)
-    (pushes_joined stands c.args.self.now c.loop-rest.self c.push_number-2.new.self inv.0 code inv.2 c.in_ok-push_number-2.ensures) p)) c.push_octets-2.ensures
+    pushed_same push c.args.self.now c.push_octets-2.new.self all
+    (g.met.Self.Sink.pushes_joined c.args.self.now c.push_number-2.new.self c.push_octets-2.new.self (inv.0 ++ code) (unpacked rest)
+    (g.met.Self.Sink.pushes_joined c.args.self.now c.loop-rest.self c.push_number-2.new.self inv.0 code inv.2 c.in_ok-push_number-2.ensures) p)) c.push_octets-2.ensures

@@ -2,8 +2,8 @@
 use Rattle.std.proofs.Common.{◌≡◌, ◌<◌, ℕ, List, [], ◌∷◌, length, take, get_or, sym, arith}
 use Rattle.std.proofs.lemmas.List.{append-nil}
 use Rattle.asn_bits.specs.Numbers.{bits, unpacked}
-use Rattle.asn_sinks.specs.Sink.{Standing}
-use Rattle.asn_sinks.proofs.Pushing.{pushes_same}
+use Rattle.asn_sinks.specs.Sink.{Standing, Pushes}
+use Rattle.asn_sinks.proofs.Pushing.{pushed_same}
 use Rattle.asn_window.specs.declared.window.Window.{Window}
 use Rattle.asn_window.specs.Windows.{WindowStands}
 use Rattle.asn_window.specs.WindowStart.{Start}
@@ -16,7 +16,7 @@ first_of (o ∷ os) h = sym (append-nil (bits 8 o))
 pub returns-then-count-eq0-clause-pushed : goal.returns-then-count-eq0-clause-pushed
 returns-then-count-eq0-clause-pushed g c =
     let stands : Standing (Window g.row.W.Denot) Start = λ w c taken coming. WindowStands g.W.Write.contents w c taken coming in
-    pushes_same stands c.args.self.now c.put.new.self (first_of c.args.octets.now c.requires) c.put.ensures
+    pushed_same (λ a b xs. Pushes stands a b xs) c.args.self.now c.put.new.self (first_of c.args.octets.now c.requires) c.put.ensures
 
 pub returns-clause-pushed : goal.returns-clause-pushed
 returns-clause-pushed g c = c.put_block.ensures

@@ -1,13 +1,13 @@
 -- What is delivered, from one step to the next.
 use Rattle.std.proofs.Common.{◌≡◌, zero, suc, ◌+◌, ◌^◌, ◌-◌, ◌<◌, ◌≤◌, ◌++◌, ℕ, min, Bool, true, false, List, [], ◌∷◌, length, take, drop, sym, refl, ap, subst, ◌∙◌, append_assoc, length-append, arith, take-append-drop}
-use Rattle.std.proofs.lemmas.List.{append-nil, length-take-le}
+use Rattle.std.proofs.lemmas.List.{length-take-le}
 use Rattle.std.proofs.lemmas.Bool.{true≢false}
 use Rattle.std.specs.Io.KnownBytes.{Appends}
 use Rattle.asn_window.specs.Delivery.{Delivers}
 use Rattle.asn_window.specs.OctetWriters.{OctetsStand}
 use Rattle.asn_window.specs.declared.octet_writer.OctetWriter.{OctetWriter}
 use Rattle.asn_rules.specs.Faults.{State, Rose}
-use Rattle.asn_bits.specs.Numbers.{bits, unpacked}
+use Rattle.asn_bits.specs.Numbers.{unpacked}
 use Rattle.asn_bits.proofs.Splits.{unpacked-append}
 use Rattle.asn_rules.proofs.Known.{appends_twice}
 

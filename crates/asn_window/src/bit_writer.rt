@@ -42,7 +42,8 @@ impl BitWriter {
             return;
         }
         let left = count + k - 64;
-        self.octets.put_word(full_word(self.pending, k, n, left), output);
+        self.octets
+            .put_word(full_word(self.pending, k, n, left), output);
         self.pending = n;
         self.count = left;
     }
@@ -53,7 +54,8 @@ impl BitWriter {
             (unpacked octets.now) }
     {
         let left = self.count % 8;
-        self.octets.put_low(self.count / 8, self.pending >> left, output);
+        self.octets
+            .put_low(self.count / 8, self.pending >> left, output);
         self.count = left;
         if left == 0 {
             self.octets.put_octets(octets, output);
@@ -75,7 +77,8 @@ impl BitWriter {
             → Broke start (state_of W.contents output.new) sent all) }
     {
         let begun = self.count % 8;
-        self.octets.put_low(self.count / 8, self.pending >> begun, output);
+        self.octets
+            .put_low(self.count / 8, self.pending >> begun, output);
         self.octets.send(output);
         if self.octets.failed {
             return Err(self.octets.sent);

@@ -1,5 +1,5 @@
 -- Each turn writes the word above the last bits of eight octets more.
-use Rattle.std.proofs.Common.{rules, ◌≡◌, ◌<◌, ◌++◌, ℕ, List, length, drop, get_or, refl, sym, ap, subst, ◌∙◌, append_assoc, take-append-drop, arith}
+use Rattle.std.proofs.Common.{◌≡◌, ◌<◌, ◌++◌, ℕ, drop, get_or, sym, ap, subst, ◌∙◌, append_assoc, take-append-drop, arith}
 use Rattle.asn_bits.specs.Numbers.{bits, octets, unpacked}
 use Rattle.asn_bits.proofs.Moving.{range_after}
 use Rattle.asn_bits.proofs.Reading.{octets_eight}

@@ -1,5 +1,5 @@
 -- Each turn writes the octet above the last bits of one more.
-use Rattle.std.proofs.Common.{rules, ◌≡◌, ◌<◌, ◌++◌, ℕ, List, [], ◌∷◌, length, get_or, refl, sym, ap, subst, ◌∙◌, append_assoc, arith}
+use Rattle.std.proofs.Common.{rules, ◌≡◌, ◌<◌, ◌++◌, ℕ, List, [], ◌∷◌, length, get_or, refl, ap, subst, ◌∙◌, append_assoc, arith}
 use Rattle.asn_bits.specs.Numbers.{bits, unpacked}
 use Rattle.asn_bits.proofs.Moving.{range_after}
 use Rattle.asn_rules.specs.Faults.{state_of}

@@ -1,5 +1,5 @@
 -- What was written is all, where no write failed.
-use Rattle.std.proofs.Common.{◌≡◌, ◌*◌, ◌/◌, ◌%◌, ◌+◌, ◌++◌, ℕ, List, [], sym, ap, ◌∙◌, length, length-append, arith}
+use Rattle.std.proofs.Common.{◌≡◌, ◌*◌, ◌%◌, ◌+◌, ◌++◌, ℕ, List, [], sym, ap, ◌∙◌, length, length-append, arith}
 use Rattle.std.proofs.lemmas.List.{append-nil}
 use Rattle.asn_bits.specs.Numbers.{bits, unpacked}
 use Rattle.asn_bits.proofs.Octets.{length-digits}

@@ -1,5 +1,5 @@
 -- The length is told, and then comes the content.
-use Rattle.std.proofs.Common.{◌≡◌, ◌++◌, ◌∷◌, ℕ, suc, List, map, true, length, sym, ap, refl, subst, ◌∙◌, add-one}
+use Rattle.std.proofs.Common.{◌≡◌, ◌++◌, ◌∷◌, ℕ, suc, List, length, sym, ap, refl, subst, ◌∙◌, add-one}
 use Rattle.asn_bits.specs.Numbers.{unpacked}
 use Rattle.asn_sinks.specs.declared.sink.Framing.TheVariants.{General, Single}
 use Rattle.asn_rules.specs.Faults.{state_of}

@@ -1,5 +1,5 @@
 -- The content has come, and then comes what follows the field.
-use Rattle.std.proofs.Common.{◌≡◌, ℕ, List, map, true, length, length-append, sym, arith}
+use Rattle.std.proofs.Common.{◌≡◌, ℕ, List, length, length-append, sym, arith}
 use Rattle.asn_rules.specs.Faults.{state_of}
 use Rattle.asn_sinks.specs.Sink.{framed}
 use Rattle.asn_window.specs.BitWriters.{BitsStand}

@@ -23,8 +23,8 @@ impl BitSink {
     }
 }
 
-/// The number that the bits are.
-fn word_of_bits(truths: &[bool]) -> u64
+/// The number that the bits are, 1 for `true`.
+pub fn word_of_bits(truths: &[bool]) -> u64
     requires few { length truths.now ≤ 64 }
     ensures within { result < 2 ^ length truths.now }
     ensures bits { bits (length truths.now) result ≡ map bit_of truths.now }

@@ -79,12 +79,15 @@ pub(crate) fn put_general_octets(
     put_octets(into, count, pending, rest)
 }
 
-// the next length of n items in k bits, as a number, and how many items follow it at once
-fn next_length(n: u64) -> (u32, u64, u64)
+/// The next length determinant of a list of which `n` items are left: how many bits it has, the number that they are,
+/// and how many items follow it at once, all or a fragment.
+pub fn next_length(n: u64) -> (u32, u64, u64)
     ensures few { result.0 ≤ 64 }
     ensures fits { result.1 < 2 ^ result.0 }
     ensures bits { bits result.0 result.1 ≡ (first_length n).bits }
     ensures items { result.2 ≡ (first_length n).items }
+    ensures within { result.2 ≤ n }
+    ensures most { result.2 ≤ 65536 }
 {
     if n < 128 {
         (8, n, n)

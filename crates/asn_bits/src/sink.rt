@@ -72,6 +72,13 @@ impl BitSink {
         })
     }
 
+    /// No bits, and later pushes take their memory from where this sink takes its own. It allocates nothing.
+    pub fn another(&self) -> BitSink
+        ensures { result ≡ [] }
+    {
+        BitSink::new(*self.octets.allocator())
+    }
+
     /// Whether no bit was pushed.
     pub fn is_empty(&self) -> bool
         ensures { IsTrue result ↔ (self.now ≡ []) }

@@ -14,8 +14,8 @@ pub(crate) fn push_word(bytes: &mut Vec<u8>, n: u64)
     }
 }
 
-// the number that the last `count` octets of n are
-pub(crate) fn last_octets(count: u32, n: u64) -> u64
+/// The number that the last `count` octets of `n` are.
+pub fn last_octets(count: u32, n: u64) -> u64
     requires few { count ≤ 8 }
     ensures fits { result < 2 ^ (8 * count) }
     ensures same { bits (8 * count) result ≡ bits (8 * count) n }
@@ -40,15 +40,15 @@ pub(crate) fn push_low(bytes: &mut Vec<u8>, count: u32, n: u64)
     }
 }
 
-// the last octet of n
-pub(crate) fn low_octet(n: u64) -> u8
+/// The last octet of `n`.
+pub fn low_octet(n: u64) -> u8
     ensures { result ≡ n % 256 }
 {
     (n & 0xff) as u8
 }
 
-// high with n in k bits after it, truncated to 64 bits
-pub(crate) fn shift_in(high: u64, k: u32, n: u64) -> u64
+/// `high` with `n` in `k` bits after it, truncated to 64 bits.
+pub fn shift_in(high: u64, k: u32, n: u64) -> u64
     requires few { k < 64 }
     requires fits { n < 2 ^ k }
     ensures { result ≡ high * 2 ^ k % 2 ^ 64 + n }
@@ -56,8 +56,8 @@ pub(crate) fn shift_in(high: u64, k: u32, n: u64) -> u64
     high << k | n
 }
 
-// the 64 bits of `high ++ n`, n in k bits, above its lowest `left` bits
-pub(crate) fn full_word(high: u64, k: u32, n: u64, left: u32) -> u64
+/// Of `high` with `n` in `k` bits after it, the 64 bits above the lowest `left` ones.
+pub fn full_word(high: u64, k: u32, n: u64, left: u32) -> u64
     requires fits { n < 2 ^ k }
     requires within { left ≤ k }
     requires few { (k < 64 + left) × (left < 64) }

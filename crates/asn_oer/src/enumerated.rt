@@ -1,15 +1,16 @@
 //! ENUMERATED (X.696, "encoding of enumerated types").
 ghost use Rattle.std.specs.Prelude.{◌≡◌, ◌≤◌, ◌<◌, ◌^◌, ◌&&◌, length, pos, ℕ, OnOk, IfSome, IsNone};
 ghost use Rattle.std.specs.Int.RustNames.{int_le, int_lt};
-ghost use Rattle.asn_oer.specs.Words.{item, Fits, InProfile, octets, magnitude, Inhabited, Adds, AtOctet, enumeration_of, items_of, ItemsBut, BeginsWith, BeginsOtherwise, oer_octets, item_number, Reads, StopsIn};
+ghost use Rattle.asn_bits.specs.Numbers.{unpacked};
+ghost use Rattle.asn_oer.specs.Words.{item, Fits, InProfile, octets, magnitude, Inhabited, AtOctet, enumeration_of, items_of, ItemsBut, BeginsWith, BeginsOtherwise, oer_octets, item_number, Reads, StopsIn};
 
+use asn_bits::BitCursor;
 use asn_bits::internal::{signed_octet_count, signed_residue};
-use asn_bits::{BitCursor, BitSink};
 use asn_rules::Why;
 use asn_rules::internal::{Stop, octets_left};
+use asn_sinks::Sink;
 use asn_values::Item;
 use asn_walk::items::{item_count, number_at};
-use std::alloc::AllocError;
 
 /// The octets of the number of an item, how many and the number that they are: one octet from 0 to 127, and else 128
 /// and a count of octets, and the number in the fewest octets of two's complement.
@@ -36,15 +37,16 @@ fn is_small(number: i64) -> bool
 }
 
 /// Writes the item at this position, by its number.
-pub(crate) fn write_item(
+pub(crate) fn write_item<S: Sink>(
     root: &[Item],
     more: &Option<Vec<Item>>,
     position: u32,
-    sink: &mut BitSink,
-) -> Result<(), AllocError>
+    sink: &mut S,
+) -> Result<(), S::Fault>
     requires of_profile { InProfile (enumeration_of root.now more.now) }
     requires of_type { Fits (enumeration_of root.now more.now) (item position) }
-    ensures { Adds result sink.old sink.new (oer_octets (enumeration_of root.now more.now) (item position)) }
+    ensures { OnOk result (S.pushes sink.old sink.new
+        (unpacked (oer_octets (enumeration_of root.now more.now) (item position)))) }
 {
     let number = number_at(root, more, position as usize);
     if is_small(number) {
@@ -55,9 +57,9 @@ pub(crate) fn write_item(
 
 /// Writes the number of an item by the octets that it has.
 #[inline(never)]
-fn write_long(number: i64, sink: &mut BitSink) -> Result<(), AllocError>
+fn write_long<S: Sink>(number: i64, sink: &mut S) -> Result<(), S::Fault>
     requires { magnitude number < 2147483648 }
-    ensures { Adds result sink.old sink.new (item_number number) }
+    ensures { OnOk result (S.pushes sink.old sink.new (unpacked (item_number number))) }
 {
     let (count, octets) = octets_of(number);
     sink.push_low_octets(count, octets)

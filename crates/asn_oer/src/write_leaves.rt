@@ -1,6 +1,7 @@
 //! What Canonical OER writes by itself: the simple types, and the parts of the composite ones.
-ghost use Rattle.std.specs.Prelude.{◌≤◌, length, map};
-ghost use Rattle.asn_oer.specs.Words.{joined, oer_coding, Adds, bit_octets, sized_octets, bits_header, bit_of, max_len, size_range_of};
+ghost use Rattle.std.specs.Prelude.{◌≤◌, length, map, OnOk};
+ghost use Rattle.asn_bits.specs.Numbers.{unpacked};
+ghost use Rattle.asn_oer.specs.Words.{joined, oer_coding, bit_octets, sized_octets, bits_header, bit_of, max_len, size_range_of};
 
 use crate::enumerated::write_item;
 use crate::integer::write_integer;
@@ -10,6 +11,7 @@ use asn_rules::EncodeFault;
 use asn_rules::internal::{
     unused_bits, write_content, write_filling, write_flags, write_least, write_length,
 };
+use asn_sinks::Sink;
 use asn_values::internal::{item_fits, length_fits, octets_fit, text_fits, unicode_fits};
 use asn_values::{AsnType, Bounds, Size, Value};
 use asn_walk::sizes::is_fixed;
@@ -124,8 +126,8 @@ impl WriteLeaves for Oer {
 }
 
 /// Writes octets, after their length unless the size is fixed.
-fn write_sized(size: &Size, octets: &[u8], sink: &mut BitSink) -> Result<(), AllocError>
-    ensures { Adds result sink.old sink.new (sized_octets (size_range_of size.now) octets.now) }
+fn write_sized<S: Sink>(size: &Size, octets: &[u8], sink: &mut S) -> Result<(), S::Fault>
+    ensures { OnOk result (S.pushes sink.old sink.new (unpacked (sized_octets (size_range_of size.now) octets.now))) }
 {
     if is_fixed(size) {
         sink.push_octets(octets)
@@ -136,9 +138,10 @@ fn write_sized(size: &Size, octets: &[u8], sink: &mut BitSink) -> Result<(), All
 
 /// Writes bits, filled up to octets, after their length and the number of unused bits unless the size is fixed (X.696,
 /// "encoding of bit string types").
-fn write_bits(size: &Size, truths: &[bool], sink: &mut BitSink) -> Result<(), AllocError>
+fn write_bits<S: Sink>(size: &Size, truths: &[bool], sink: &mut S) -> Result<(), S::Fault>
     requires { length truths.now ≤ max_len }
-    ensures { Adds result sink.old sink.new (bit_octets (size_range_of size.now) (map bit_of truths.now)) }
+    ensures { OnOk result (S.pushes sink.old sink.new
+        (unpacked (bit_octets (size_range_of size.now) (map bit_of truths.now)))) }
 {
     if !is_fixed(size) {
         write_header(truths.len(), sink)?;
@@ -149,9 +152,9 @@ fn write_bits(size: &Size, truths: &[bool], sink: &mut BitSink) -> Result<(), Al
 
 /// Writes what stands before the octets of `count` bits: the length of what follows, and how many bits of the last
 /// octet are unused.
-fn write_header(count: usize, sink: &mut BitSink) -> Result<(), AllocError>
+fn write_header<S: Sink>(count: usize, sink: &mut S) -> Result<(), S::Fault>
     requires { count ≤ max_len }
-    ensures { Adds result sink.old sink.new (bits_header count) }
+    ensures { OnOk result (S.pushes sink.old sink.new (unpacked (bits_header count))) }
 {
     write_length(1 + (count + 7) / 8, sink)?;
     sink.push_low_octets(1, u64::from(unused_bits(count)))

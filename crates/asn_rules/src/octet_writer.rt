@@ -1,15 +1,14 @@
 //! Writers of lengths and octets (X.696, "length determinant"), and of the zeros that fill up octets.
-ghost use Rattle.std.specs.Prelude.{◌≡◌, ◌*◌, ◌^◌, ◌<◌, ◌≤◌, ◌≤ℤ◌, ◌++◌, length};
+ghost use Rattle.std.specs.Prelude.{◌≡◌, ◌*◌, ◌^◌, ◌<◌, ◌≤◌, ◌≤ℤ◌, ◌++◌, OnOk};
 ghost use Rattle.asn_values.specs.Fits.{lowest_integer, highest_integer};
 ghost use Rattle.asn_bits.specs.Lengths.{general_octets, octet_length};
-ghost use Rattle.asn_bits.specs.Numbers.{bits, least, least_signed, padding};
+ghost use Rattle.asn_bits.specs.Numbers.{bits, least, least_signed, padding, unpacked};
 ghost use Rattle.asn_rules.specs.Fields.{spelled};
 ghost use Rattle.asn_rules.specs.Filled.{unused_bits};
-ghost use Rattle.asn_rules.specs.OctetsWritten.{Adds, AddsBits, fixed_octets, flagged};
+ghost use Rattle.asn_rules.specs.OctetsWritten.{fixed_octets, filled, flagged};
 
-use asn_bits::BitSink;
 use asn_bits::internal::{octet_count, signed_octet_count, signed_residue};
-use std::alloc::AllocError;
+use asn_sinks::Sink;
 
 /// The first length that one octet does not tell.
 const LONG: u64 = 128;
@@ -18,10 +17,10 @@ const LONG: u64 = 128;
 /// in the fewest octets.
 ///
 /// # Errors
-/// `AllocError` if an allocation failed.
+/// That of the sink.
 #[inline(always)]
-pub fn write_length(length: usize, sink: &mut BitSink) -> Result<(), AllocError>
-    ensures { Adds result sink.old sink.new (octet_length length) }
+pub fn write_length<S: Sink>(length: usize, sink: &mut S) -> Result<(), S::Fault>
+    ensures { OnOk result (S.pushes sink.old sink.new (unpacked (octet_length length))) }
 {
     let length = length as u64;
     if length < LONG {
@@ -37,9 +36,9 @@ pub fn write_length(length: usize, sink: &mut BitSink) -> Result<(), AllocError>
 
 /// Writes a length that one octet does not tell.
 #[inline(never)]
-fn write_long_length(length: u64, sink: &mut BitSink) -> Result<(), AllocError>
+fn write_long_length<S: Sink>(length: u64, sink: &mut S) -> Result<(), S::Fault>
     requires { 128 ≤ length }
-    ensures { Adds result sink.old sink.new (octet_length length) }
+    ensures { OnOk result (S.pushes sink.old sink.new (unpacked (octet_length length))) }
 {
     let count = octet_count(length);
     sink.push_low_octets(1, 128 + u64::from(count))?;
@@ -49,9 +48,9 @@ fn write_long_length(length: u64, sink: &mut BitSink) -> Result<(), AllocError>
 /// Writes octets after their length.
 ///
 /// # Errors
-/// `AllocError` if an allocation failed.
-pub fn write_content(octets: &[u8], sink: &mut BitSink) -> Result<(), AllocError>
-    ensures { Adds result sink.old sink.new (spelled octets.now) }
+/// That of the sink.
+pub fn write_content<S: Sink>(octets: &[u8], sink: &mut S) -> Result<(), S::Fault>
+    ensures { OnOk result (S.pushes sink.old sink.new (unpacked (spelled octets.now))) }
 {
     write_length(octets.len(), sink)?;
     sink.push_row(octets)
@@ -60,9 +59,9 @@ pub fn write_content(octets: &[u8], sink: &mut BitSink) -> Result<(), AllocError
 /// Writes the zeros that fill up the last octet of `count` bits.
 ///
 /// # Errors
-/// `AllocError` if an allocation failed.
-pub fn write_filling(count: usize, sink: &mut BitSink) -> Result<(), AllocError>
-    ensures { AddsBits result sink.old sink.new (padding count) }
+/// That of the sink.
+pub fn write_filling<S: Sink>(count: usize, sink: &mut S) -> Result<(), S::Fault>
+    ensures { OnOk result (S.pushes sink.old sink.new (padding count)) }
 {
     sink.push_number(unused_bits(count), 0)
 }
@@ -77,9 +76,9 @@ pub fn unused_bits(count: usize) -> u32
 /// Writes the fewest octets of a number after their count.
 ///
 /// # Errors
-/// `AllocError` if an allocation failed.
-pub fn write_least(n: u64, sink: &mut BitSink) -> Result<(), AllocError>
-    ensures { AddsBits result sink.old sink.new (general_octets (λ u. u) (least n)) }
+/// That of the sink.
+pub fn write_least<S: Sink>(n: u64, sink: &mut S) -> Result<(), S::Fault>
+    ensures { OnOk result (S.pushes sink.old sink.new (general_octets (λ u. u) (least n))) }
 {
     let count = octet_count(n);
     sink.push_low_octets(1, u64::from(count))?;
@@ -89,11 +88,11 @@ pub fn write_least(n: u64, sink: &mut BitSink) -> Result<(), AllocError>
 /// Writes the fewest octets of two's complement of an integer of 64 signed bits after their count.
 ///
 /// # Errors
-/// `AllocError` if an allocation failed.
-pub fn write_least_signed(z: i128, sink: &mut BitSink) -> Result<(), AllocError>
+/// That of the sink.
+pub fn write_least_signed<S: Sink>(z: i128, sink: &mut S) -> Result<(), S::Fault>
     requires low { lowest_integer ≤ℤ z }
     requires high { z ≤ℤ highest_integer }
-    ensures { AddsBits result sink.old sink.new (general_octets (λ u. u) (least_signed z)) }
+    ensures { OnOk result (S.pushes sink.old sink.new (general_octets (λ u. u) (least_signed z))) }
 {
     let count = signed_octet_count(z);
     let residue = signed_residue(z, count);
@@ -110,10 +109,10 @@ pub fn write_least_signed(z: i128, sink: &mut BitSink) -> Result<(), AllocError>
 /// Writes the last octets of `n`, as many of 1, 2, 4 and 8 as hold the numbers up to `greatest`.
 ///
 /// # Errors
-/// `AllocError` if an allocation failed.
+/// That of the sink.
 #[inline(always)]
-pub fn write_fixed(greatest: u64, n: u64, sink: &mut BitSink) -> Result<(), AllocError>
-    ensures { AddsBits result sink.old sink.new (bits (8 * fixed_octets greatest) n) }
+pub fn write_fixed<S: Sink>(greatest: u64, n: u64, sink: &mut S) -> Result<(), S::Fault>
+    ensures { OnOk result (S.pushes sink.old sink.new (bits (8 * fixed_octets greatest) n)) }
 {
     if greatest < 1 << 8 {
         sink.push_low_octets(1, n)
@@ -128,11 +127,11 @@ pub fn write_fixed(greatest: u64, n: u64, sink: &mut BitSink) -> Result<(), Allo
 
 /// Writes a number in `count` bits, and the zeros that fill up its octet.
 #[inline(always)]
-fn write_in_octet(count: u32, n: u64, sink: &mut BitSink) -> Result<(), AllocError>
+fn write_in_octet<S: Sink>(count: u32, n: u64, sink: &mut S) -> Result<(), S::Fault>
     requires few { count ≤ 8 }
     requires some { 1 ≤ count }
     requires fits { n < 2 ^ count }
-    ensures { AddsBits result sink.old sink.new (bits count n ++ padding count) }
+    ensures { OnOk result (S.pushes sink.old sink.new (bits count n ++ padding count)) }
 {
     sink.push_low_octets(1, n << (8 - count))
 }
@@ -140,18 +139,17 @@ fn write_in_octet(count: u32, n: u64, sink: &mut BitSink) -> Result<(), AllocErr
 /// Writes a bit, where there is one, and `count` bits after it, and the zeros that fill up their octets.
 ///
 /// # Errors
-/// `AllocError` if an allocation failed.
+/// That of the sink.
 #[inline(always)]
-pub fn write_flags(
+pub fn write_flags<S: Sink>(
     first: Option<bool>,
     count: u32,
     flags: u64,
-    sink: &mut BitSink,
-) -> Result<(), AllocError>
+    sink: &mut S,
+) -> Result<(), S::Fault>
     requires few { count ≤ 64 }
     requires within { flags < 2 ^ count }
-    ensures { AddsBits result sink.old sink.new
-        (flagged first (bits count flags) ++ padding (length (flagged first (bits count flags)))) }
+    ensures { OnOk result (S.pushes sink.old sink.new (filled (flagged first (bits count flags)))) }
 {
     match first {
         None if count == 0 => Ok(()),
@@ -167,16 +165,15 @@ pub fn write_flags(
 
 /// Writes the same, where there may be more bits than an octet has.
 #[inline(never)]
-fn write_long_flags(
+fn write_long_flags<S: Sink>(
     first: Option<bool>,
     count: u32,
     flags: u64,
-    sink: &mut BitSink,
-) -> Result<(), AllocError>
+    sink: &mut S,
+) -> Result<(), S::Fault>
     requires few { count ≤ 64 }
     requires within { flags < 2 ^ count }
-    ensures { AddsBits result sink.old sink.new
-        (flagged first (bits count flags) ++ padding (length (flagged first (bits count flags)))) }
+    ensures { OnOk result (S.pushes sink.old sink.new (filled (flagged first (bits count flags)))) }
 {
     let front = u32::from(first.is_some());
     if let Some(bit) = first {

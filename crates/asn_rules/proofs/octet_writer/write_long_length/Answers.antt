@@ -1,15 +1,19 @@
-use Rattle.std.proofs.Common.{◌≡◌, ◌+◌, ◌*◌, ◌++◌, ℕ, List, sym, ◌∙◌, ap, append_assoc}
+use Rattle.std.proofs.Common.{◌+◌, ◌*◌, sym}
 use Rattle.std.proofs.lemmas.Result.{on_ok_weaker}
 use Rattle.asn_bits.specs.Numbers.{bits}
+use Rattle.asn_sinks.proofs.Pushing.{pushed_same}
 use Rattle.asn_rules.proofs.Octets.OctetsWritten.{long_length}
 use Rattle.asn_rules.proofs.octet_writer.write_long_length.Goals as goal
 
 pub returns : goal.returns
-returns c =
+returns g c =
     let n = c.args.length in
     let k = c.octet_count-count.result in
-    let first : c.push_low_octets.new.self ≡ c.args.sink.now ++ bits 8 (128 + k) = rw (← c.from.ensures) c.in_ok-push_low_octets.ensures.ok in
+    let old = c.args.sink.now in
+    let mid = c.push_low_octets.new.self in
+    let new = c.push_low_octets-2.new.self in
+    let first : g.S.Sink.pushes old mid (bits 8 (128 + k)) = rw (← c.from.ensures) c.in_ok-push_low_octets.ensures in
     on_ok_weaker c.push_low_octets-2.result
-    (λ e. e ∙ ap (λ (t : List ℕ). t ++ bits (8 * k) n) first ∙ append_assoc c.args.sink.now (bits 8 (128 + k)) (bits (8 * k) n)
-    ∙ ap (λ (t : List ℕ). c.args.sink.now ++ t) (sym (long_length n k c.requires c.octet_count-count.ensures.count)))
-    c.push_low_octets-2.ensures.ok
+    (λ e. pushed_same g.S.Sink.pushes old new (sym (long_length n k c.requires c.octet_count-count.ensures.count))
+    (g.met.S.Sink.pushes_joined old mid new (bits 8 (128 + k)) (bits (8 * k) n) first e))
+    c.push_low_octets-2.ensures

@@ -1,0 +1,4 @@
+pub mod Sink
+pub mod LengthCounts
+pub mod Measures
+pub mod SinkLaws

@@ -1,0 +1,67 @@
+-- What is delivered, from one step to the next.
+use Rattle.std.proofs.Common.{◌≡◌, zero, suc, ◌+◌, ◌^◌, ◌-◌, ◌<◌, ◌≤◌, ◌++◌, ℕ, min, Bool, true, false, List, [], ◌∷◌, length, take, drop, sym, refl, ap, subst, ◌∙◌, append_assoc, length-append, arith, take-append-drop}
+use Rattle.std.proofs.lemmas.List.{length-take-le}
+use Rattle.std.proofs.lemmas.Bool.{true≢false}
+use Rattle.std.specs.Io.KnownBytes.{Appends}
+use Rattle.asn_window.specs.Delivery.{Delivers}
+use Rattle.asn_window.specs.OctetWriters.{OctetsStand}
+use Rattle.asn_window.specs.declared.octet_writer.OctetWriter.{OctetWriter}
+use Rattle.asn_rules.specs.Faults.{State, Rose}
+use Rattle.asn_bits.specs.Numbers.{unpacked}
+use Rattle.asn_bits.proofs.Splits.{unpacked-append}
+use Rattle.asn_rules.proofs.Known.{appends_twice}
+
+-- after a fault it does not matter what comes
+pub after_fault : {start now : State} {sent : ℕ} {failed : Bool} {coming other all : List ℕ} → failed ≡ true
+    → Delivers start now sent failed coming all → Delivers start now sent failed other all
+after_fault f d = record { octets = d.octets; rest = d.rest; appended = d.appended; many = d.many; whole = d.whole; goes_on = λ e. absurd (true≢false (sym f ∙ e)); same = d.same; fault = d.fault }
+
+-- what comes, told otherwise
+pub retold : {start now : State} {sent : ℕ} {failed : Bool} {coming other all : List ℕ} → coming ≡ other
+    → Delivers start now sent failed coming all → Delivers start now sent failed other all
+retold e d = record { octets = d.octets; rest = d.rest; appended = d.appended; many = d.many; whole = d.whole; goes_on = λ f. d.goes_on f ∙ e; same = d.same; fault = d.fault }
+
+-- a count that stops at its end, and a number more
+pub stops_at_end : (sent m n : ℕ) → sent ≡ min m (2 ^ 64 - 1) → min (sent + n) (2 ^ 64 - 1) ≡ min (m + n) (2 ^ 64 - 1)
+stops_at_end sent m n e = omega arith
+
+-- the octets that wait were written, or the first of them and then a write failed
+pub written_on : {start now next : State} {sent more : ℕ} {was failed : Bool} {coming all : List ℕ} (buffer : List ℕ) (many : ℕ) → was ≡ false
+    → Delivers start now sent was (unpacked buffer ++ coming) all
+    → many ≤ length buffer
+    → Appends now.octets next.octets (take many buffer)
+    → more ≡ min (sent + many) (2 ^ 64 - 1)
+    → (failed ≡ true → many < length buffer) → (failed ≡ false → length buffer ≤ many)
+    → (many < length buffer → Rose now.faults next.faults) → (many ≡ length buffer → next.faults ≡ now.faults)
+    → Delivers start next more failed coming all
+written_on {start} {now} {next} {sent} {more} {was} {failed} {coming} {all} buffer many good d few a e broke whole rose same =
+    let front = take many buffer in
+    let back = drop many buffer in
+    let long : length front ≡ many = length-take-le many buffer few in
+    let cut : unpacked buffer ≡ unpacked front ++ unpacked back = ap unpacked (sym (take-append-drop many buffer)) ∙ unpacked-append front back in
+    let rest_is : d.rest ≡ unpacked front ++ (unpacked back ++ coming) =
+    d.goes_on good ∙ ap (λ t. t ++ coming) cut ∙ append_assoc (unpacked front) (unpacked back) coming in
+    let count : length (d.octets ++ front) ≡ length d.octets + many = length-append d.octets front ∙ ap (λ t. length d.octets + t) long in
+    let none : length buffer ≤ many → unpacked back ≡ [] = λ h. ap unpacked (drop_all many buffer h) in
+    record {
+      octets = d.octets ++ front;
+      rest = unpacked back ++ coming;
+      appended = appends_twice start.octets now.octets next.octets d.octets front d.appended a;
+      many = e ∙ stops_at_end sent (length d.octets) many d.many ∙ ap (λ t. min t (2 ^ 64 - 1)) (sym count);
+      whole = ap (λ t. t ++ (unpacked back ++ coming)) (unpacked-append d.octets front)
+          ∙ append_assoc (unpacked d.octets) (unpacked front) (unpacked back ++ coming)
+          ∙ ap (λ t. unpacked d.octets ++ t) (sym rest_is) ∙ d.whole;
+      goes_on = λ f. ap (λ t. t ++ coming) (none (whole f));
+      same = λ f. same (omega (arith, few, whole f)) ∙ d.same good;
+      fault = λ f. subst (λ n. Rose n next.faults) (d.same good) (rose (broke f));
+    }
+  where
+    drop_all : (n : ℕ) (xs : List ℕ) → length xs ≤ n → drop n xs ≡ []
+    drop_all zero [] h = refl
+    drop_all zero (x ∷ xs) h = absurd (omega arith)
+    drop_all (suc n) [] h = refl
+    drop_all (suc n) (x ∷ xs) h = drop_all n xs (omega (arith, h))
+
+-- the same of octets before a writer
+pub stands_same : {start now : State} (w : OctetWriter) {xs ys all : List ℕ} → xs ≡ ys → OctetsStand start now w xs all → OctetsStand start now w ys all
+stands_same w e d = retold (ap (λ t. unpacked w.buffer ++ t) e) d

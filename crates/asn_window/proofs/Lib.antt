@@ -1,0 +1,4 @@
+pub mod Delivered
+pub mod Shifting
+pub mod FieldSteps
+pub mod WindowSteps

@@ -1,0 +1,58 @@
+-- Bits that wait, and those that come behind them: which go out as whole octets, and which wait then.
+use Rattle.std.proofs.Common.{◌≡◌, ◌<◌, ◌≤◌, ◌+◌, ◌*◌, ◌/◌, ◌%◌, ◌^◌, ◌-◌, ℕ, List, [], ◌++◌, length, take, drop, sym, ap, ◌∙◌, append_assoc, arith}
+use Rattle.std.proofs.lemmas.List.{take_all}
+use Rattle.std.proofs.lemmas.Nat.{mod-mul-add}
+use Rattle.asn_bits.specs.Numbers.{bits, octets, unpacked}
+use Rattle.asn_bits.proofs.Octets.{length-digits}
+use Rattle.asn_bits.proofs.Packing.{bits_low, waiting_view}
+use Rattle.asn_bits.proofs.Splits.{digits-add, digits-join, digits-mod, drop-digits, unpacked-append, unpacked-octets}
+
+-- of the c bits of p and the k bits of n behind them, the first m are a word, and the last l are those of n
+pub shifted_out : (c p k n m l w : ℕ) → n < 2 ^ k → m + l ≡ c + k → l ≤ k → m ≤ 64 → w ≡ (p * 2 ^ k + n) / 2 ^ l % 2 ^ 64
+    → bits c p ++ bits k n ≡ bits m w ++ bits l n
+shifted_out c p k n m l w h all less few e =
+    let j = p * 2 ^ k + n in
+    let together : bits c p ++ bits k n ≡ bits (m + l) j = digits-join 2 (omega arith) c k p n h ∙ ap (λ i. bits i j) (sym all) in
+    let word : bits m w ≡ bits m (j / 2 ^ l) = ap (bits m) e ∙ bits_low m 64 (j / 2 ^ l) few in
+    let low : bits l n ≡ bits l j = ap (bits l) (sym (mod-mul-add p (2 ^ k) n h)) ∙ bits_low l k j less in
+    together ∙ digits-add 2 m l j ∙ ap (λ t. t ++ bits l j) (sym word) ∙ ap (λ t. bits m w ++ t) (sym low)
+
+-- with others behind them
+pub shifted_on : (c p k n m l w : ℕ) (front coming : List ℕ) → n < 2 ^ k → m + l ≡ c + k → l ≤ k → m ≤ 64 → w ≡ (p * 2 ^ k + n) / 2 ^ l % 2 ^ 64
+    → front ≡ bits k n → bits c p ++ (front ++ coming) ≡ bits m w ++ (bits l n ++ coming)
+shifted_on c p k n m l w front coming h all less few e f =
+    ap (λ t. bits c p ++ (t ++ coming)) f ∙ sym (append_assoc (bits c p) (bits k n) coming)
+    ∙ ap (λ t. t ++ coming) (shifted_out c p k n m l w h all less few e) ∙ append_assoc (bits m w) (bits l n) coming
+
+-- together they are fewer than a word has
+pub waits : (c p k n j : ℕ) (coming : List ℕ) → n < 2 ^ k → c + k ≤ 64 → j ≡ p * 2 ^ k % 2 ^ 64 + n
+    → bits c p ++ (bits k n ++ coming) ≡ bits (c + k) j ++ coming
+waits c p k n j coming h few e =
+    sym (append_assoc (bits c p) (bits k n) coming) ∙ ap (λ t. t ++ coming) (sym (waiting_view [] c p k n j h few e))
+
+-- the whole octets of bits that wait, and the others
+pub whole_out : (c p : ℕ) (coming : List ℕ) → bits c p ++ coming ≡ bits (8 * (c / 8)) (p / 2 ^ (c % 8)) ++ (bits (c % 8) p ++ coming)
+whole_out c p coming =
+    let all : c ≡ 8 * (c / 8) + c % 8 = omega arith in
+    ap (λ t. t ++ coming) (ap (λ i. bits i p) all ∙ digits-add 2 (8 * (c / 8)) (c % 8) p)
+    ∙ append_assoc (bits (8 * (c / 8)) (p / 2 ^ (c % 8))) (bits (c % 8) p) coming
+
+-- the last octets of eight
+pub last_of_eight : (count n : ℕ) (bytes : List ℕ) → count ≤ 8 → bytes ≡ octets 8 n
+    → unpacked (take (8 - (8 - count)) (drop (8 - count) bytes)) ≡ bits (8 * count) n
+last_of_eight count n bytes few e =
+    let all : 8 ≡ (8 - count) + count = omega arith in
+    let last : drop (8 - count) bytes ≡ octets count n =
+    ap (drop (8 - count)) e ∙ ap (λ i. drop (8 - count) (octets i n)) all ∙ drop-digits 256 (8 - count) count n in
+    let none : length (octets count n) ≤ 8 - (8 - count) = omega (arith, length-digits 256 count n) in
+    ap (λ t. unpacked (take (8 - (8 - count)) t)) last ∙ ap unpacked (take_all (8 - (8 - count)) (octets count n) none) ∙ unpacked-octets count n
+
+-- bits cut anywhere
+pub bits-cut : (j k n : ℕ) → bits (j + k) n ≡ bits j (n / 2 ^ k) ++ bits k (n % 2 ^ k)
+bits-cut j k n = digits-add 2 j k n ∙ ap (λ t. bits j (n / 2 ^ k) ++ t) (sym (digits-mod 2 (omega arith) k n))
+
+-- octets come behind those that wait
+pub behind : (buffer more front coming next : List ℕ) → next ≡ buffer ++ more → unpacked more ≡ front → unpacked buffer ++ (front ++ coming) ≡ unpacked next ++ coming
+behind buffer more front coming next e f =
+    ap (λ t. unpacked buffer ++ (t ++ coming)) (sym f) ∙ sym (append_assoc (unpacked buffer) (unpacked more) coming)
+    ∙ ap (λ t. t ++ coming) (sym (unpacked-append buffer more) ∙ ap unpacked (sym e))

@@ -1,0 +1,20 @@
+-- Either all bits wait, or a word of them goes out.
+use Rattle.std.proofs.Common.{◌++◌, ◌+◌, ◌-◌, refl, arith}
+use Rattle.asn_bits.specs.Numbers.{bits}
+use Rattle.asn_window.proofs.Delivered.{stands_same}
+use Rattle.asn_window.proofs.Shifting.{shifted_on, waits}
+use Rattle.asn_window.proofs.bit_writer.BitWriter.put.Goals as goal
+
+pub returns-then-count-k-lt64 : goal.returns-then-count-k-lt64
+returns-then-count-k-lt64 g c start coming all told =
+    let a = c.args in
+    let w = a.self.now in
+    stands_same w.octets (waits w.count w.pending a.k a.n c.shift_in-self.result coming c.requires.fits (omega arith) c.shift_in-self.ensures) told
+
+pub returns : goal.returns
+returns g c start coming all told =
+    let a = c.args in
+    let w = a.self.now in
+    let left = w.count + a.k - 64 in
+    c.put_word-2.ensures start (bits left a.n ++ coming) all
+    (stands_same w.octets (shifted_on w.count w.pending a.k a.n 64 left c.full_word.result (bits a.k a.n) coming c.requires.fits (omega arith) (omega arith) (omega arith) c.full_word.ensures refl) told)

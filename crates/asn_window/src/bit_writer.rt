@@ -1,0 +1,88 @@
+//! Bits before a writer.
+ghost use Rattle.std.specs.Prelude.{◌≡◌, ◌<◌, ◌≤◌, ◌^◌, ◌++◌, ◌%◌, ℕ, List, [], length, OnOk, IfErr};
+ghost use Rattle.asn_bits.specs.Numbers.{bits, unpacked};
+ghost use Rattle.asn_rules.specs.Faults.{State, state_of};
+
+use crate::octet_writer::OctetWriter;
+use crate::shifted::put_shifted;
+use asn_bits::internal::{full_word, shift_in};
+use asn_rules::Counted;
+use std::io::Write;
+
+/// Octets that wait before a writer, and behind them fewer than 64 bits.
+#[derive(Drop)]
+pub struct BitWriter {
+    pub octets: OctetWriter,
+    /// how many bits wait behind the octets
+    pub count: u32,
+    /// in its low `count` bits those that wait; the higher bits are garbage
+    pub pending: u64,
+    ghost few: { count < 64 },
+}
+
+impl BitWriter {
+    ghost use Rattle.asn_window.specs.BitWriters.{BitsStand, TakesBits};
+    ghost use Rattle.asn_rules.specs.Written.{Wrote, Broke};
+
+    /// Adds `n` in `k` bits.
+    pub fn put<W: Write>(&mut self, k: u32, n: u64, output: &mut Counted<W>)
+        requires few { k ≤ 64 }
+        requires fits { n < 2 ^ k }
+        ensures { TakesBits (state_of W.contents output.old) self.old (state_of W.contents output.new) self.new
+            (bits k n) }
+    {
+        let count = self.count;
+        if count + k < 64 {
+            self.pending = shift_in(self.pending, k, n);
+            self.count = count + k;
+            return;
+        }
+        if count == 0 {
+            self.octets.put_word(n, output);
+            return;
+        }
+        let left = count + k - 64;
+        self.octets
+            .put_word(full_word(self.pending, k, n, left), output);
+        self.pending = n;
+        self.count = left;
+    }
+
+    /// Adds octets: copied where the bits so far fill octets, and shifted otherwise.
+    pub fn put_octets<W: Write>(&mut self, octets: &[u8], output: &mut Counted<W>)
+        ensures { TakesBits (state_of W.contents output.old) self.old (state_of W.contents output.new) self.new
+            (unpacked octets.now) }
+    {
+        let left = self.count % 8;
+        self.octets
+            .put_low(self.count / 8, self.pending >> left, output);
+        self.count = left;
+        if left == 0 {
+            self.octets.put_octets(octets, output);
+            return;
+        }
+        self.pending = put_shifted(&mut self.octets, left, self.pending, octets, output);
+    }
+
+    /// Writes all octets that wait.
+    ///
+    /// # Errors
+    /// How many octets were written in all, where a write failed.
+    pub fn finish<W: Write>(&mut self, output: &mut Counted<W>) -> Result<(), u64>
+        ensures ok { OnOk result ((start : State) (all : List ℕ) → length all % 8 ≡ 0
+            → BitsStand start (state_of W.contents output.old) self.old [] all
+            → Wrote start (state_of W.contents output.new) all) }
+        ensures err { IfErr result (λ sent. (start : State) (all : List ℕ)
+            → BitsStand start (state_of W.contents output.old) self.old [] all
+            → Broke start (state_of W.contents output.new) sent all) }
+    {
+        let begun = self.count % 8;
+        self.octets
+            .put_low(self.count / 8, self.pending >> begun, output);
+        self.octets.send(output);
+        if self.octets.failed {
+            return Err(self.octets.sent);
+        }
+        Ok(())
+    }
+}

@@ -1,0 +1,59 @@
+//! Octets before a writer, moved by fewer bits than an octet has.
+ghost use Rattle.std.specs.Prelude.{◌<◌};
+ghost use Rattle.asn_bits.specs.Numbers.{unpacked};
+ghost use Rattle.asn_rules.specs.Faults.{state_of};
+ghost use Rattle.asn_window.specs.OctetWriters.{TakesAfter};
+
+use crate::octet_writer::OctetWriter;
+use asn_bits::internal::full_word;
+use asn_rules::Counted;
+use std::io::Write;
+
+/// Adds octets behind the low `count` bits of `pending`, a word of eight at once, and gives in whose low `count` bits
+/// what is left over stands.
+pub(crate) fn put_shifted<W: Write>(
+    writer: &mut OctetWriter,
+    count: u32,
+    pending: u64,
+    octets: &[u8],
+    output: &mut Counted<W>,
+) -> u64
+    requires some { 0 < count }
+    requires few { count < 8 }
+    ensures { TakesAfter (state_of W.contents output.old) writer.old count pending (unpacked octets.now)
+        (state_of W.contents output.new) writer.new count result }
+{
+    let mut high = pending;
+    let mut rest = octets;
+    while let Some((eight, others)) = rest.split_first_chunk::<8>() {
+        let n = u64::from_be_bytes(*eight);
+        writer.put_word(full_word(high, 64, n, count), output);
+        high = n;
+        rest = others;
+    }
+    put_shifted_singly(writer, count, high, rest, output)
+}
+
+/// Does the same one octet after the other.
+fn put_shifted_singly<W: Write>(
+    writer: &mut OctetWriter,
+    count: u32,
+    pending: u64,
+    octets: &[u8],
+    output: &mut Counted<W>,
+) -> u64
+    requires some { 0 < count }
+    requires few { count < 8 }
+    ensures { TakesAfter (state_of W.contents output.old) writer.old count pending (unpacked octets.now)
+        (state_of W.contents output.new) writer.new count result }
+{
+    let mut high = pending;
+    let mut rest = octets;
+    while let Some((octet, others)) = rest.split_first() {
+        let n = *octet as u64;
+        writer.put_low(1, full_word(high, 8, n, count), output);
+        high = n;
+        rest = others;
+    }
+    high
+}

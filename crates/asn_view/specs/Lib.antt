@@ -1,0 +1,4 @@
+pub mod Typed
+pub mod Seen
+pub mod Kinds
+pub mod Paths

@@ -40,6 +40,23 @@ labels-more : (ext : Option (Vec Item Global)) → more_labels (more_labels_of e
 labels-more None = refl
 labels-more (Some more) = refl
 
+-- all components of a SEQUENCE
+pub all_parts : (root : Vec Field Global) (ext : Option (Vec Field Global)) →
+    parts (fields_of (map part_of_field root.items)) ++ parts (more_fields (more_fields_of ext)) ≡ map part_of_field (root.items ++ added ext)
+all_parts root ext =
+    ap₂ (λ a b. a ++ b) (parts-fields_of (map part_of_field root.items)) (parts-more ext) ∙ sym (map-append part_of_field root.items (added ext))
+
+-- all alternatives of a CHOICE
+pub all_branches : (root : Vec Alt Global) (ext : Option (Vec Alt Global)) →
+    branches (alternatives_of (map branch_of root.items)) ++ branches (more_alternatives (more_alternatives_of ext)) ≡ map branch_of (root.items ++ added ext)
+all_branches root ext =
+    ap₂ (λ x y. x ++ y) (branches-alternatives_of (map branch_of root.items)) (branches-more ext) ∙ sym (map-append branch_of root.items (added ext))
+
+-- all items of an ENUMERATED
+pub all_labels : (root : Vec Item Global) (ext : Option (Vec Item Global)) →
+    map label_of root.items ++ more_labels (more_labels_of ext) ≡ map label_of (root.items ++ added ext)
+all_labels root ext = ap (λ y. map label_of root.items ++ y) (labels-more ext) ∙ sym (map-append label_of root.items (added ext))
+
 -- the components of a SEQUENCE
 pub components_of_sequence : (t : AsnType) (v : Value) (root : Vec Field Global) (ext : Option (Vec Field Global)) (es : Vec (Option Value) Global) →
     t ≡ Seq root ext → v ≡ value.Seq es →
@@ -64,7 +81,7 @@ chosen_of_choice t v root ext tag b et ev =
     mapped f g None = refl
     mapped f g (Some a) = refl
 
-maps : {A B C : Type 0} (f : A → B) (g : B → C) (xs : List A) → map g (map f xs) ≡ map (λ x. g (f x)) xs
+pub maps : {A B C : Type 0} (f : A → B) (g : B → C) (xs : List A) → map g (map f xs) ≡ map (λ x. g (f x)) xs
 maps f g [] = refl
 maps f g (x ∷ xs) = ap (λ ys. g (f x) ∷ ys) (maps f g xs)
 
@@ -74,7 +91,7 @@ pub elements_of_list : (t e : AsnType) (v : Value) (b : Box AsnType) (s : Size) 
 elements_of_list t e v b s es et ee ev =
     rw (et, ee, ev, shape_of-SeqOf b s, datum_of-List es, element_list-elements_of) (maps datum_of (typed (shape_of b.value)) es.items)
 
-datum_of-Enum : (p : ℕ) → datum_of (value.Enum p) ≡ item p
+pub datum_of-Enum : (p : ℕ) → datum_of (value.Enum p) ≡ item p
 datum_of-Enum p = search (rules, values.the_lemmas)
 
 -- the name of an item

@@ -3,7 +3,7 @@ ghost use Rattle.std.specs.Prelude.{◌≡◌};
 ghost use Rattle.asn_values.specs.View.{shape_of};
 ghost use Rattle.asn_view.specs.Kinds.{kind_of};
 
-use asn_values::AsnType;
+use asn_values::{AsnType, TextKind};
 
 /// A kind of type (X.680), as a view tells it.
 #[derive(Clone, Copy, Debug, PartialEq, Eq)]
@@ -47,5 +47,24 @@ impl Kind {
             AsnType::SeqOf(..) => Kind::SequenceOf,
             AsnType::Choice { .. } => Kind::Choice,
         }
+    }
+}
+
+/// What X.680 calls the type.
+pub(crate) fn type_name(ty: &AsnType) -> &'static str {
+    match ty {
+        AsnType::Bool => "BOOLEAN",
+        AsnType::Null => "NULL",
+        AsnType::Int(_) => "INTEGER",
+        AsnType::Enum { .. } => "ENUMERATED",
+        AsnType::Bits(_) => "BIT STRING",
+        AsnType::Octets(_) => "OCTET STRING",
+        AsnType::Text(TextKind::Ia5, _) => "IA5String",
+        AsnType::Text(TextKind::Numeric, _) => "NumericString",
+        AsnType::Text(TextKind::Visible, _) => "VisibleString",
+        AsnType::Utf8 => "UTF8String",
+        AsnType::Seq { .. } => "SEQUENCE",
+        AsnType::SeqOf(..) => "SEQUENCE OF",
+        AsnType::Choice { .. } => "CHOICE",
     }
 }

@@ -2,6 +2,7 @@
 ghost use Rattle.std.specs.Prelude.{◌≡◌, ◌↔◌, ℕ, List, IsTrue, IfSome, IfNone, IsUtf8, Some, option_map, slice_get};
 ghost use Rattle.asn_values.specs.Datum.{nothing};
 ghost use Rattle.asn_values.specs.View.{shape_of, datum_of};
+ghost use Rattle.asn_view.specs.Kinds.{kind_of};
 ghost use Rattle.asn_view.specs.Seen.{seen, seen_component, seen_chosen, left_components, left_elements};
 ghost use Rattle.asn_view.specs.Typed.{typed, truth_of, integer_of, octets_of, bits_of, text_of, length_of, item_name_in, chosen_in, value_named, components_in, elements_in};
 
@@ -37,7 +38,9 @@ impl Viewed for Checked {
 /// None of these calls allocates. Each answers None, or what is said, where the value is of another kind.
 impl<'a> View<'a> {
     /// The kind of the type.
-    pub fn kind(&self) -> Kind {
+    pub fn kind(&self) -> Kind
+        ensures { result ≡ kind_of (seen self.now).shape }
+    {
         Kind::of(self.ty)
     }
 

@@ -1,0 +1,4 @@
+pub mod PartLists
+pub mod Pieces
+pub mod NameIndexes
+pub mod Builds

@@ -1,0 +1,68 @@
+//! Paths to the parts of a value.
+ghost use Rattle.std.specs.Prelude.{◌≡◌, ◌∷◌, ◌+◌, ◌^◌, ◌<◌, ◌≤◌, [], option_map, length};
+ghost use Rattle.asn_view.specs.Paths.{value_at_step, value_at_path, index_in, is_separator};
+ghost use Rattle.asn_view.specs.Seen.{seen};
+
+use crate::view::View;
+
+/// The most digits of an index in a path. A list of the profile has at most 268,435,455 elements.
+const MAX_DIGITS: usize = 9;
+
+impl<'a> View<'a> {
+    /// The part at a path, as `coreData.speed` or `path[3].x`. The path is cut at each `.`, `[` and `]`; an empty piece
+    /// is passed over, one of digits is the index of an element, counted from 0, and any other the name of a component or
+    /// of the chosen alternative, as `get` takes it. None where a step has none. Allocates nothing.
+    pub fn at(&self, path: &str) -> Option<View<'a>>
+        ensures { option_map seen result ≡ value_at_path path.now (seen self.now) }
+    {
+        let octets = path.as_bytes();
+        let mut here = *self;
+        let mut start = 0;
+        for (index, octet) in octets.iter().enumerate() {
+            if !is_separator(*octet) {
+                continue;
+            }
+            here = here.step(&octets[start..index])?;
+            start = index + 1;
+        }
+        here.step(&octets[start..])
+    }
+
+    /// The part that a piece of a path leads to.
+    fn step(&self, piece: &[u8]) -> Option<View<'a>>
+        ensures { option_map seen result ≡ value_at_step piece.now (seen self.now) }
+    {
+        if piece.is_empty() {
+            return Some(*self);
+        }
+        match index_in(piece) {
+            Some(index) => self.index(index),
+            None => self.get_octets(piece),
+        }
+    }
+}
+
+/// Whether a path is cut there.
+fn is_separator(octet: u8) -> bool
+    ensures { result ≡ is_separator octet }
+{
+    octet == b'.' || octet == b'[' || octet == b']'
+}
+
+/// The number that the digits are, of which there is at least one; None where other characters are among them, or they
+/// are too many.
+fn index_in(piece: &[u8]) -> Option<usize>
+    ensures { result ≡ index_in piece.now }
+{
+    if piece.len() > MAX_DIGITS {
+        return None;
+    }
+    let mut number = 0;
+    for octet in piece {
+        if !octet.is_ascii_digit() {
+            return None;
+        }
+        number = 10 * number + (octet - b'0') as usize;
+    }
+    Some(number)
+}

@@ -13,14 +13,14 @@ use asn_values::profile::{BLOCK, MAX_BLOCKS};
 use std::marker::Model;
 
 /// Counts from `low` to `high`.
-#[derive(Clone, Copy, PartialEq, Eq, Debug)]
+#[derive(Clone, Copy, PartialEq, Eq)]
 pub struct Counts {
     pub low: u32,
     pub high: u32,
 }
 
 /// The forms of a length determinant, told by its first bits.
-#[derive(Debug, Clone, Copy, PartialEq, Eq)]
+#[derive(Clone, Copy, PartialEq, Eq)]
 enum Form {
     /// 0, and a count in 7 bits
     Short,
@@ -31,7 +31,7 @@ enum Form {
 }
 
 /// How many bits of a length determinant were given, and what they say.
-#[derive(Debug, Clone, Copy)]
+#[derive(Clone, Copy)]
 enum LengthState {
     /// no bit
     Start,
@@ -44,7 +44,7 @@ enum LengthState {
 /// The lengths of a list whose count lies in a set, read bit by bit without the items between
 /// them. Contracts see the set, how many blocks of 16384 items the fragments so far have, and the
 /// bits given of the length begun.
-#[derive(Debug, Drop)]
+#[derive(Drop)]
 pub struct Lengths {
     first: Counts,
     second: Option<Counts>,

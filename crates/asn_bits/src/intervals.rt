@@ -9,7 +9,7 @@ const MAX_INTERVALS: usize = 4;
 
 /// A union of up to four intervals of numbers, without memory of its own. Contracts see the list of
 /// their ends, the low end of an interval before its high one.
-#[derive(Debug, Drop)]
+#[derive(Drop)]
 pub struct Intervals {
     ends: [(u64, u64); MAX_INTERVALS],
     // how many of them are the set's; the others are garbage

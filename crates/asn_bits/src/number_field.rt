@@ -10,7 +10,7 @@ use crate::intervals::Intervals;
 use std::marker::Model;
 
 /// What the bits say that a [`NumberField`] or [`Lengths`](crate::Lengths) was given.
-#[derive(Clone, Copy, PartialEq, Eq, Debug)]
+#[derive(Clone, Copy, PartialEq, Eq)]
 pub enum FieldState {
     /// A number of the set begins with these bits, and bits of it are left.
     Alive,
@@ -23,7 +23,7 @@ pub enum FieldState {
 /// A number of a set of intervals in `k` bits, the highest first (X.691,
 /// "non-negative-binary-integer encoding"), which is given bit by bit. Contracts see the set, how
 /// many bits the number has, and the bits given.
-#[derive(Debug, Drop)]
+#[derive(Drop)]
 pub struct NumberField {
     numbers: Intervals,
     width: u32,

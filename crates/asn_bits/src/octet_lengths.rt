@@ -10,7 +10,7 @@ use crate::number_field::FieldState;
 use std::marker::Model;
 
 /// How many octets of a length were given, and what they say.
-#[derive(Debug, Clone, Copy)]
+#[derive(Clone, Copy)]
 enum OctetState {
     /// no octet
     Start,
@@ -21,7 +21,7 @@ enum OctetState {
 }
 
 /// A length that lies in a set, read octet by octet. Contracts see the set and the octets given.
-#[derive(Debug, Drop)]
+#[derive(Drop)]
 pub struct OctetLengths {
     first: Counts,
     second: Option<Counts>,

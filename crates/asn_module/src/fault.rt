@@ -56,7 +56,7 @@ impl From<Refusal> for ModuleFault {
 }
 
 /// Why a type was not built.
-#[derive(Debug, Drop)]
+#[derive(Drop)]
 pub(crate) enum Refusal {
     /// An allocation failed.
     Memory,

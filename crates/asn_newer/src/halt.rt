@@ -7,7 +7,7 @@ use asn_rules::internal::Stop;
 use std::alloc::{AllocError, AllocFailed};
 
 /// Why a reader gave no value.
-#[derive(Clone, Copy, Debug, PartialEq, Eq)]
+#[derive(Clone, Copy, PartialEq, Eq)]
 pub enum Halt {
     /// No message of any version begins so.
     Refused,

@@ -1,21 +1,21 @@
 //! What a module's text says, as it is written: references are not followed.
 
 /// The values between the parentheses of a range: one, or from one to another, None for MIN or MAX.
-#[derive(Debug, Clone, Copy)]
+#[derive(Clone, Copy)]
 pub enum Limits {
     One(i128),
     Between(Option<i128>, Option<i128>),
 }
 
 /// A range, and whether `...` stands in it.
-#[derive(Debug, Clone, Copy)]
+#[derive(Clone, Copy)]
 pub struct RangeNotation {
     pub limits: Limits,
     pub marked: bool,
 }
 
 /// A size, and whether `...` stands in it.
-#[derive(Debug, Clone, Copy)]
+#[derive(Clone, Copy)]
 pub struct SizeNotation {
     pub low: u64,
     pub high: SizeEnd,
@@ -23,7 +23,7 @@ pub struct SizeNotation {
 }
 
 /// What follows the low bound of a size.
-#[derive(Debug, Clone, Copy)]
+#[derive(Clone, Copy)]
 pub enum SizeEnd {
     /// Nothing: the low bound is the high one.
     Same,
@@ -32,7 +32,7 @@ pub enum SizeEnd {
 }
 
 /// The size of a SEQUENCE OF, which may stand without the outer parentheses.
-#[derive(Debug, Clone, Copy)]
+#[derive(Clone, Copy)]
 pub enum ListSize {
     Any,
     Bare(SizeNotation),
@@ -40,7 +40,7 @@ pub enum ListSize {
 }
 
 /// What follows a reference.
-#[derive(Debug, Clone, Copy)]
+#[derive(Clone, Copy)]
 pub enum Constraint {
     None,
     Range(RangeNotation),
@@ -48,7 +48,7 @@ pub enum Constraint {
 }
 
 /// The strings that have a size.
-#[derive(Debug, Clone, Copy)]
+#[derive(Clone, Copy)]
 pub enum StringKind {
     Bits,
     Octets,
@@ -58,21 +58,21 @@ pub enum StringKind {
 }
 
 /// An item of an ENUMERATED, and its number where one is written.
-#[derive(Debug, Clone, Copy)]
+#[derive(Clone, Copy)]
 pub struct ItemNotation<'t> {
     pub name: &'t str,
     pub number: Option<i128>,
 }
 
 /// What follows DEFAULT.
-#[derive(Debug, Clone, Copy)]
+#[derive(Clone, Copy)]
 pub enum DefaultNotation<'t> {
     Boolean(bool),
     Number(i128),
     Item(&'t str),
 }
 
-#[derive(Debug, Clone, Copy)]
+#[derive(Clone, Copy)]
 pub enum NeedNotation<'t> {
     Must,
     Optional,
@@ -81,7 +81,7 @@ pub enum NeedNotation<'t> {
 
 /// A component of a SEQUENCE.
 #[cycle(notation)]
-#[derive(Debug, Drop)]
+#[derive(Drop)]
 pub struct ComponentNotation<'t> {
     pub name: &'t str,
     pub ty: TypeNotation<'t>,
@@ -90,7 +90,7 @@ pub struct ComponentNotation<'t> {
 
 /// An alternative of a CHOICE.
 #[cycle(notation)]
-#[derive(Debug, Drop)]
+#[derive(Drop)]
 pub struct AlternativeNotation<'t> {
     pub name: &'t str,
     pub ty: TypeNotation<'t>,
@@ -98,7 +98,7 @@ pub struct AlternativeNotation<'t> {
 
 /// A type as it is written. The lists after a `...` are None where there is no `...`.
 #[cycle(notation)]
-#[derive(Debug, Drop)]
+#[derive(Drop)]
 pub enum TypeNotation<'t> {
     Boolean,
     Null,
@@ -127,14 +127,14 @@ pub enum TypeNotation<'t> {
 }
 
 /// An assignment of a type to a name.
-#[derive(Debug, Drop)]
+#[derive(Drop)]
 pub struct AssignmentNotation<'t> {
     pub name: &'t str,
     pub ty: TypeNotation<'t>,
 }
 
 /// A module, its assignments in the order of the text.
-#[derive(Debug, Drop)]
+#[derive(Drop)]
 pub struct ModuleNotation<'t> {
     pub name: &'t str,
     pub assignments: Vec<AssignmentNotation<'t>>,

@@ -1,7 +1,7 @@
 //! Tokens of the notation (X.680, "lexical items").
 
 /// A reserved word that the profile uses.
-#[derive(Debug, Clone, Copy, PartialEq, Eq)]
+#[derive(Clone, Copy, PartialEq, Eq)]
 pub enum Word {
     Automatic,
     Begin,
@@ -32,7 +32,7 @@ pub enum Word {
 }
 
 /// A sign, or several that are one token.
-#[derive(Debug, Clone, Copy, PartialEq, Eq)]
+#[derive(Clone, Copy, PartialEq, Eq)]
 pub enum Sign {
     /// `::=`
     Becomes,
@@ -48,7 +48,7 @@ pub enum Sign {
 }
 
 /// A token of a text (X.680, "lexical items").
-#[derive(Debug, Clone, Copy)]
+#[derive(Clone, Copy)]
 pub enum Lexeme<'t> {
     /// A word that begins with a small letter.
     Identifier(&'t str),
@@ -70,7 +70,7 @@ pub enum Lexeme<'t> {
 }
 
 /// Whether the profile uses a reserved word, and as which.
-#[derive(Debug, Clone, Copy)]
+#[derive(Clone, Copy)]
 pub enum Reserved {
     InProfile(Word),
     OutOfProfile,

@@ -23,7 +23,7 @@ use asn_values::profile::{BLOCK, MAX_LEN};
 use std::alloc::AllocError;
 
 /// What follows of a list.
-#[derive(Debug, Drop)]
+#[derive(Drop)]
 pub enum Following {
     /// The items that are left, or nothing.
     Items,
@@ -98,7 +98,7 @@ pub(crate) fn write_extension_bit(
 }
 
 /// What follows of a list that is read.
-#[derive(Debug, Drop)]
+#[derive(Drop)]
 pub enum Fragments {
     /// This count of items, and then nothing.
     Items(usize),

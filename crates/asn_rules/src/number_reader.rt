@@ -14,7 +14,7 @@ use asn_bits::internal::try_number_of;
 use asn_bits::{BitCursor, FieldState, Intervals, NumberField};
 
 /// The numbers from `low` to `high`, but for `excluded`.
-#[derive(Debug, Clone, Copy)]
+#[derive(Clone, Copy)]
 pub struct NumberSet {
     pub low: u64,
     pub high: u64,

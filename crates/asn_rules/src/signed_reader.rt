@@ -19,7 +19,7 @@ use asn_values::profile::{LOWEST_INTEGER, OFFSET_OF_ZERO};
 
 /// Integers by their offsets, how far they lie above the lowest one of the profile: the offsets from `start` to those
 /// below `below`, and those from `from` on, all below `end`.
-#[derive(Debug, Clone, Copy)]
+#[derive(Clone, Copy)]
 pub struct OffsetSet {
     pub start: u128,
     pub below: u128,

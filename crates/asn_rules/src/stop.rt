@@ -7,7 +7,7 @@ use crate::fault::Why;
 use std::alloc::{AllocError, AllocFailed};
 
 /// Why a reader of units gave no value.
-#[derive(Clone, Copy, Debug, PartialEq, Eq)]
+#[derive(Clone, Copy, PartialEq, Eq)]
 pub enum Stop {
     /// No encoding starts so; `left` units follow the first offending one.
     Refused { left: u128, why: Why },

@@ -19,7 +19,7 @@ use asn_values::{AsnType, Size, Value};
 use std::alloc::Global;
 
 /// What stands before the components of a SEQUENCE (X.691, "encoding the sequence type"; X.696, "preamble").
-#[derive(Debug, Clone, Copy)]
+#[derive(Clone, Copy)]
 pub struct Preamble {
     /// The extension bit: whether some extension addition is present.
     pub extended: bool,
@@ -28,7 +28,7 @@ pub struct Preamble {
 }
 
 /// The index of an alternative, counted from 0: among those of the root, or among the extension additions.
-#[derive(Debug, Clone, Copy)]
+#[derive(Clone, Copy)]
 pub enum Index {
     Root(usize),
     Added(usize),

@@ -10,7 +10,7 @@ ghost use Rattle.asn_walk.specs.Views.{TakesBit};
 use asn_values::{Field, Need, Value};
 
 /// Presence bits that are still to be looked at: the lowest `left` bits of a bitmap, the highest of them first.
-#[derive(Debug, Clone, Copy)]
+#[derive(Clone, Copy)]
 pub struct PresenceBits {
     pub bitmap: u64,
     pub left: u32,

@@ -1,5 +1,5 @@
 //! The index of an item of an ENUMERATED or an alternative of a CHOICE: of the root, or of the extension additions.
-ghost use Rattle.std.specs.Prelude.{◌≡◌, ◌≤◌, ◌<◌, ◌-◌, ◌++◌, IfOk, IfErr, OnOk, Some};
+ghost use Rattle.std.specs.Prelude.{◌≡◌, ◌≤◌, ◌<◌, ◌-◌, IfOk, IfErr, OnOk, Some};
 ghost use Rattle.asn_bits.specs.Numbers.{width};
 ghost use Rattle.asn_rules.specs.NumberSets.{NumberIn};
 ghost use Rattle.asn_rules.specs.PlainReading.{ReadsPlain, StopsPlain};
@@ -10,25 +10,25 @@ ghost use Rattle.asn_walk.specs.Coding.{IsIndexWithin};
 ghost use Rattle.asn_walk.specs.Views.{index_seen};
 ghost use Rattle.asn_per.specs.Reading.{Reads, ReadsMark, StopsAtMark, StopsIn, only};
 
+use asn_bits::BitCursor;
 use asn_bits::internal::width;
-use asn_bits::{BitCursor, BitSink};
 use asn_rules::Why;
 use asn_rules::internal::{NumberSet, Stop, bits_left, read_constrained, read_number, read_up_to};
+use asn_sinks::Sink;
 use asn_walk::Index;
-use std::alloc::AllocError;
 
 /// Writes an index. One of the root is a constrained whole number, after an extension bit 0 where there is an
 /// extension mark; one of an addition is a bit 1 and a normally small number.
 #[inline(always)]
-pub(crate) fn write_index(
+pub(crate) fn write_index<S: Sink>(
     root: usize,
     marked: bool,
     index: Index,
-    sink: &mut BitSink,
-) -> Result<(), AllocError>
+    sink: &mut S,
+) -> Result<(), S::Fault>
     requires few { root ≤ 256 }
     requires within { IsIndexWithin root (Some 64) (index_seen index) }
-    ensures { OnOk result (sink.new ≡ sink.old ++ index_bits root marked (index_seen index)) }
+    ensures { OnOk result (S.pushes sink.old sink.new (index_bits root marked (index_seen index))) }
 {
     match index {
         Index::Root(index) => {
@@ -43,18 +43,18 @@ pub(crate) fn write_index(
 }
 
 /// Writes a normally small number up to 63: 0, and the number in 6 bits.
-fn write_small_number(number: usize, sink: &mut BitSink) -> Result<(), AllocError>
+fn write_small_number<S: Sink>(number: usize, sink: &mut S) -> Result<(), S::Fault>
     requires { number < 64 }
-    ensures { OnOk result (sink.new ≡ sink.old ++ small number) }
+    ensures { OnOk result (S.pushes sink.old sink.new (small number)) }
 {
     sink.push_number(7, number as u64)
 }
 
 /// Writes a normally small length, 1 to 64: 0, and one less in 6 bits.
-pub(crate) fn write_small_length(length: u32, sink: &mut BitSink) -> Result<(), AllocError>
+pub(crate) fn write_small_length<S: Sink>(length: u32, sink: &mut S) -> Result<(), S::Fault>
     requires some { 1 ≤ length }
     requires few { length ≤ 64 }
-    ensures { OnOk result (sink.new ≡ sink.old ++ small_length length) }
+    ensures { OnOk result (S.pushes sink.old sink.new (small_length length)) }
 {
     sink.push_number(7, u64::from(length) - 1)
 }

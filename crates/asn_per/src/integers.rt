@@ -27,10 +27,10 @@ use asn_rules::internal::{
     read_unconstrained, try_number,
 };
 use asn_rules::{EncodeFault, Why};
+use asn_sinks::Sink;
 use asn_values::Bounds;
 use asn_values::internal::{is_between, number_fits};
 use asn_values::profile::{HIGHEST_INTEGER, INTEGER_COUNT, LOWEST_INTEGER};
-use std::alloc::AllocError;
 
 /// Writes a number, where it is one of the range (X.691, "encoding the integer type").
 #[inline(always)]
@@ -55,16 +55,17 @@ pub(crate) fn write_integer(
 
 /// Writes a number between two bounds as a constrained whole number, after an extension bit 0 where there is one.
 #[inline(always)]
-fn write_between(
+fn write_between<S: Sink>(
     low: i128,
     high: i128,
     ext: bool,
     value: i128,
-    sink: &mut BitSink,
-) -> Result<(), AllocError>
+    sink: &mut S,
+) -> Result<(), S::Fault>
     requires of_profile { InProfile (integer (between low high ext)) }
     requires of_type { (low ≤ℤ value) × (value ≤ℤ high) }
-    ensures { OnOk result (sink.new ≡ sink.old ++ per_bits (integer (between low high ext)) (number value)) }
+    ensures { OnOk result (S.pushes sink.old sink.new
+        (per_bits (integer (between low high ext)) (number value))) }
 {
     let count = width(u128::from(offset_from(low, high)) + 1);
     let offset = offset_from(low, value);

@@ -1,5 +1,5 @@
 //! ENUMERATED (X.691, "encoding the enumerated type"): writing an item and reading one.
-ghost use Rattle.std.specs.Prelude.{◌≡◌, ◌<◌, ◌++◌, OnOk, IfSome, IsNone, map, length, None};
+ghost use Rattle.std.specs.Prelude.{◌≡◌, ◌<◌, OnOk, IfSome, IsNone, map, length, None};
 ghost use Rattle.asn_values.specs.Datum.{item};
 ghost use Rattle.asn_values.specs.Shape.{enumerated, marked_labels};
 ghost use Rattle.asn_values.specs.Fits.{Fits};
@@ -14,26 +14,27 @@ ghost use Rattle.asn_per.specs.Indexes.{AreRootItems, IsItemWithin, index_of};
 ghost use Rattle.asn_per.specs.Reading.{Reads, StopsIn, ItemsBut, MarkedItems};
 
 use crate::indexes::{read_index, write_index};
+use asn_bits::BitCursor;
 use asn_bits::internal::width;
-use asn_bits::{BitCursor, BitSink};
 use asn_rules::EncodeFault;
 use asn_rules::internal::{NumberSet, Stop, read_constrained, try_number};
+use asn_sinks::Sink;
 use asn_values::internal::item_fits;
 use asn_values::{Item, Value};
 use asn_walk::Index;
-use std::alloc::AllocError;
 
 /// Writes the item: of the root by its index in the order of the numbers, an addition by that among the additions.
 #[inline(always)]
-pub(crate) fn write_item(
+pub(crate) fn write_item<S: Sink>(
     root: &[Item],
     more: &Option<Vec<Item>>,
     position: u32,
-    sink: &mut BitSink,
-) -> Result<(), AllocError>
+    sink: &mut S,
+) -> Result<(), S::Fault>
     requires of_profile { InProfile (enumeration_of root.now more.now) }
     requires of_type { Fits (enumeration_of root.now more.now) (item position) }
-    ensures { OnOk result (sink.new ≡ sink.old ++ per_bits (enumeration_of root.now more.now) (item position)) }
+    ensures { OnOk result (S.pushes sink.old sink.new
+        (per_bits (enumeration_of root.now more.now) (item position))) }
 {
     let position = position as usize;
     let index = if position < root.len() {

@@ -17,6 +17,7 @@ use asn_bits::internal::width;
 use asn_bits::{BitCursor, BitSink, Counts, Lengths};
 use asn_rules::Why;
 use asn_rules::internal::{Stop, read_next_length, read_up_to};
+use asn_sinks::Sink;
 use asn_values::Size;
 use asn_values::internal::is_in_size;
 use asn_values::profile::{BLOCK, MAX_LEN};
@@ -87,12 +88,12 @@ pub(crate) fn write_size(
 }
 
 /// Writes the extension bit of a type that has an extension mark: 1 where the value lies outside the root.
-pub(crate) fn write_extension_bit(
+pub(crate) fn write_extension_bit<S: Sink>(
     marked: bool,
     outside: bool,
-    sink: &mut BitSink,
-) -> Result<(), AllocError>
-    ensures { OnOk result (sink.new ≡ sink.old ++ extension_bit marked outside) }
+    sink: &mut S,
+) -> Result<(), S::Fault>
+    ensures { OnOk result (S.pushes sink.old sink.new (extension_bit marked outside)) }
 {
     if marked { sink.push(outside) } else { Ok(()) }
 }

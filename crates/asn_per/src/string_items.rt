@@ -17,6 +17,7 @@ use crate::sizes::write_size;
 use asn_bits::{BitCursor, BitSink};
 use asn_rules::Why;
 use asn_rules::internal::{NumberSet, Stop, admits, bit_at, bits_left, power_of_two, read_number};
+use asn_sinks::Sink;
 use asn_values::{Size, TextKind};
 use std::alloc::AllocError;
 
@@ -60,15 +61,15 @@ fn count_of(items: Items<'_>) -> usize
 }
 
 /// Writes `count` items, from the one at index `from` on.
-fn write_items(
+fn write_items<S: Sink>(
     items: Items<'_>,
     from: usize,
     count: usize,
-    sink: &mut BitSink,
-) -> Result<(), AllocError>
+    sink: &mut S,
+) -> Result<(), S::Fault>
     requires there { from + count ≤ length (item_chunks items) }
     requires of_kind { AreOfKind items }
-    ensures { OnOk result (sink.new ≡ sink.old ++ row_bits (take count (drop from (item_chunks items.entry)))) }
+    ensures { OnOk result (S.pushes sink.old sink.new (row_bits (take count (drop from (item_chunks items.entry))))) }
 {
     match items {
         Items::Bits(bits) => sink.push_bits(&bits[from..from + count]),
@@ -78,9 +79,10 @@ fn write_items(
 }
 
 /// Appends characters, as many at a time as a word holds (X.691, "encoding the restricted character string types").
-fn push_characters(kind: TextKind, text: &[u8], sink: &mut BitSink) -> Result<(), AllocError>
+fn push_characters<S: Sink>(kind: TextKind, text: &[u8], sink: &mut S) -> Result<(), S::Fault>
     requires { AllByRecursion (λ c. IsTrue (is_of_kind (alphabet_of kind) c)) text.now }
-    ensures { OnOk result (sink.new ≡ sink.old ++ joined (map (λ c. character_bits (alphabet_of kind) c) text.now)) }
+    ensures { OnOk result (S.pushes sink.old sink.new
+        (joined (map (λ c. character_bits (alphabet_of kind) c) text.now))) }
 {
     let width = width_of(kind);
     let at_once = (64 / width) as usize;

@@ -1,5 +1,5 @@
 -- Values whose bits are taken at once: those bits are the ones that a writer puts.
-use Rattle.std.proofs.Common.{◌≡◌, ◌<◌, ◌+◌, ◌-◌, inl, ℕ, suc, Bool, true, false, List, [], ◌∷◌, ◌++◌, length, map, Option, Some, None, nat_le, refl, sym, ◌∙◌, ap, subst, arith, append_assoc}
+use Rattle.std.proofs.Common.{◌≡◌, ◌<◌, ◌+◌, ◌-◌, inl, ℕ, suc, Bool, true, false, List, [], ◌∷◌, ◌++◌, length, map, Option, Some, None, refl, sym, ◌∙◌, ap, subst, arith, append_assoc}
 use Rattle.std.proofs.lemmas.Bool.{le-leb}
 use Rattle.std.proofs.lemmas.List.{length-map, length-replicate}
 use Rattle.asn_values.specs.Datum.{Datum, bit_list, octet_list, item}
@@ -7,21 +7,21 @@ use Rattle.asn_values.specs.Fits.{Fits, FitsLength, in_size}
 use Rattle.asn_values.specs.Profile.{InProfile}
 use Rattle.asn_values.specs.Shape.{SizeRange, Shape, bit_string, octet_string, enumerated, Label, MoreLabels, has_more_labels}
 use Rattle.asn_bits.specs.Lengths.{joined, general}
-use Rattle.asn_bits.specs.Numbers.{bits, width, unpacked}
+use Rattle.asn_bits.specs.Numbers.{bits, width}
 use Rattle.asn_bits.specs.Sink.{bit_of}
 use Rattle.asn_bits.proofs.ItemRows.{one_bit, bits_joined}
 use Rattle.asn_rules.specs.Chunks.{Chunk, one, ones, flat}
-use Rattle.asn_rules.specs.Components.{extension_bit, number_at}
+use Rattle.asn_rules.specs.Components.{extension_bit}
 use Rattle.asn_rules.specs.Languages.{AllContents, Spells}
 use Rattle.asn_rules.specs.Listed.{Spelt}
 use Rattle.asn_rules.proofs.Languages.Parts.{contents-ones}
 use Rattle.asn_rules.proofs.Law.SomeValue.{shortest_fits}
 use Rattle.asn_rules.proofs.Live.Chunks.{contents-append}
-use Rattle.asn_walk.specs.AtOnce.{IsOnlyLength, BitsFirst, OctetsFirst}
-use Rattle.asn_per.specs.Indexes.{AreRootItems, index_bits}
+use Rattle.asn_walk.specs.AtOnce.{BitsFirst, OctetsFirst}
+use Rattle.asn_per.specs.Indexes.{index_bits}
 use Rattle.asn_per.specs.Kinds.{position_of}
 use Rattle.asn_per.specs.Laws.{per_bits}
-use Rattle.asn_per.specs.Per.{per, per_fields, enumeration, spelled, constrained, sized, within, after_mark, rank}
+use Rattle.asn_per.specs.Per.{per, per_fields, enumeration, spelled, constrained, sized, within, after_mark}
 use Rattle.asn_per.specs.StringItems.{row_bits}
 use Rattle.asn_per.proofs.Read.ItemIndexes.{root_items}
 use Rattle.asn_per.proofs.Read.StringReading.{bits_size, octets_size}

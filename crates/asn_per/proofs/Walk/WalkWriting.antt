@@ -1,19 +1,18 @@
 -- The spellings of PER keep the laws of the walk's writers.
-use Rattle.std.proofs.Common.{◌≡◌, ◌*◌, ◌-◌, ℕ, zero, suc, Bool, true, false, nat_lt, inl, inr, List, [], ◌∷◌, ◌++◌, length, map, take, drop, Option, None, Some, refl, sym, ap, subst, ◌∙◌, arith}
+use Rattle.std.proofs.Common.{◌≡◌, ◌*◌, ◌-◌, ℕ, zero, suc, Bool, true, false, nat_lt, inl, inr, List, [], ◌∷◌, ◌++◌, length, map, take, drop, Option, refl, sym, ap, ◌∙◌, arith}
 use Rattle.std.specs.List.{list_all}
 use Rattle.asn_values.specs.Datum.{Datum, Components, components, component_list, Elements, elements, element_list, alternative}
-use Rattle.asn_values.specs.Fits.{Fits, FitsEach}
+use Rattle.asn_values.specs.Fits.{Fits}
 use Rattle.asn_values.specs.Profile.{InProfile, is_optional}
 use Rattle.asn_values.specs.Shape.{Shape, SizeRange, Demand, must, optional, default, Fields, no_fields, field, MoreFields, closed, marked, is_marked, demands, sequence, sequence_of, Alternatives, no_alternatives, one_of, MoreAlternatives, closed_choice, marked_choice, is_marked_choice, choice, count}
 use Rattle.asn_values.proofs.InnerTypes.{additions_optional}
-use Rattle.asn_bits.specs.Numbers.{unpacked}
 use Rattle.asn_bits.proofs.Splits.{length-unpacked}
 use Rattle.asn_rules.specs.Chunks.{Chunk, ones, flat}
 use Rattle.asn_rules.specs.Components.{presence, if_spelled, any_present, extension_bit}
 use Rattle.asn_walk.specs.Composites.{each_code, open_code, alternative_code, added_code, more_code, sequence_code, choice_code, choice_parts}
 use Rattle.asn_walk.specs.WriteLaws.{WriteLaws}
 use Rattle.asn_per.specs.Indexes.{index_bits}
-use Rattle.asn_per.specs.Per.{spelled, per, per_each, per_open, per_additions, per_alternative, per_more, an_open_field, small_length, complete, sized}
+use Rattle.asn_per.specs.Per.{per, per_each, per_open, per_additions, per_alternative, per_more, an_open_field, small_length}
 use Rattle.asn_per.specs.Rules.{per_ruling}
 use Rattle.asn_per.specs.Walk.{per_coding}
 use Rattle.asn_per.proofs.Law.Choices.{choice_chunks}

@@ -1,4 +1,4 @@
-use Rattle.std.proofs.Common.{◌≡◌, ◌∷◌, ℕ, Bool, ap, ◌∙◌}
+use Rattle.std.proofs.Common.{◌∷◌, Bool, ap, ◌∙◌}
 use Rattle.std.proofs.lemmas.Result.{IfOk-weaker, IfErr-weaker, err_from_is_err_and}
 use Rattle.asn_values.specs.Datum.{number}
 use Rattle.asn_values.specs.Shape.{integer}

@@ -1,11 +1,10 @@
-use Rattle.std.proofs.Common.{rules, to_z, of_z, ◌≡◌, ◌++◌, ◌≤ℤ◌, ◌⊎◌, inl, inr, ℕ, ℤ, Bool, List, true, false, not, None, append_assoc, subst, sym, ap, ◌∙◌}
+use Rattle.std.proofs.Common.{rules, to_z, of_z, ◌≡◌, ◌++◌, ◌≤ℤ◌, ◌⊎◌, inl, inr, ℕ, ℤ, Bool, List, false, not, None, append_assoc, subst, sym, ap, ◌∙◌}
 use mir.Syntax.{w128}
 use Rattle.asn_values.specs.Fits.{in_range, lowest_integer, FitsNumber}
 use Rattle.asn_values.specs.Profile.{InProfile}
 use Rattle.asn_values.specs.Shape.{integer}
 use Rattle.asn_values.specs.View.{range_of}
 use Rattle.asn_bits.specs.Numbers.{above}
-use Rattle.asn_bits.proofs.Above.{kept}
 use Rattle.asn_rules.specs.Components.{extension_bit}
 use Rattle.asn_per.specs.Per.{semi_constrained, unconstrained}
 use Rattle.asn_per.proofs.Types.IntegerRanges.{ranging, low_above_lowest, low_kept}

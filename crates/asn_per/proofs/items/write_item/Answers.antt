@@ -14,10 +14,10 @@ use Rattle.asn_per.proofs.items.write_item.Goals as goal
 use Rattle.asn_per.proofs.items.write_item.Goals.{then-position-root, else-position-root}
 
 pub write_index-requires-clause-few : goal.write_index-requires-clause-few
-write_index-requires-clause-few c = simp length-map at (root_items (map label_of c.args.root.now) (more_labels_of c.args.more.now) c.requires.of_profile).few
+write_index-requires-clause-few g c = simp length-map at (root_items (map label_of c.args.root.now) (more_labels_of c.args.more.now) c.requires.of_profile).few
 
 pub write_index-requires-clause-within : goal.write_index-requires-clause-within
-write_index-requires-clause-within c =
+write_index-requires-clause-within g c =
     let ls = map label_of c.args.root.now in
     let same : length ls ≡ length c.args.root.now = simp length-map in
     elim c.if-position-root.branch [
@@ -33,7 +33,7 @@ write_index-requires-clause-within c =
     ]
 
 pub returns : goal.returns
-returns c =
+returns g c =
     let ls = map label_of c.args.root.now in
     let more = more_labels_of c.args.more.now in
     let same : length c.args.root.now ≡ length ls = simp length-map in

@@ -1,5 +1,3 @@
-use Rattle.std.proofs.lemmas.Result.{err_from_is_err_and}
-use Rattle.asn_values.specs.View.{shape_of}
 use Rattle.asn_values.proofs.Views.{shape_of-Bits, shape_of-Octets, shape_of-Text}
 use Rattle.asn_per.specs.Rules.{per_ruling}
 use Rattle.asn_per.specs.Walk.{per_coding}

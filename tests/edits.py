@@ -233,10 +233,10 @@ class Report:
         verdict, more = self.lines[path]
         if verdict == "proved":
             return None, "its function is proved"
-        last, in_cycle = edit.function.split("::")[-1], re.search(r"in \./proofs/\S*\+|of this cycle", more) or edit.cycle
-        own = lambda goal: goal.startswith(f"{last}-") if in_cycle else bool(goal)
+        # (in a cycle a goal begins with its function, and with the module where the cycle is of several)
+        own = lambda goal: f"::{edit.function}".endswith(f"::{goal.partition('-')[0]}") if edit.cycle else bool(goal)
         folder = "proofs/" + path.partition("::")[2].replace("::", "/")
-        home = lambda it: it == folder or os.path.basename(it).startswith("+") and os.path.dirname(it) == os.path.dirname(folder)
+        home = lambda it: it == folder or edit.cycle and os.path.basename(it).startswith("+")
         errors = [(goal, text) for it, goal, text in self.errors if home(it) and (own(goal) or not goal and it == folder)]
         told = [goal or text[:60] for goal, text in errors if not GONE.search(text)]
         if told:

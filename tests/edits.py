@@ -446,7 +446,8 @@ def try_all(chosen, edits):
     global LANES
     LANES = threading.Semaphore(lanes())
     rtlib.guarded()
-    # the libraries below, where they are not built yet
+    # the libraries below, where they are not built yet, begun with what checks in other copies on this machine kept
+    rt.share_work(False)
     for crate in chosen:
         crate.out = open(os.devnull, "w")
         for below in crate.below():

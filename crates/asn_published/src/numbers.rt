@@ -1,0 +1,239 @@
+//! The numbers that values stand for.
+use crate::modules::{What, World};
+use crate::refusal::{Refusal, Why, refused};
+use crate::token::{Kind, Sign};
+use crate::tokens::{Tokens, next};
+use std::alloc::Global;
+
+/// The number that digits write, up to 30 of them.
+fn number_of(digits: &str) -> Option<i128> {
+    if digits.len() > 30 {
+        return None;
+    }
+    match digits.parse::<i128>() {
+        Ok(number) => Some(number),
+        Err(_) => None,
+    }
+}
+
+/// The number that is written at `at`, with or without a minus, and the index after it.
+pub(crate) fn written_number(tokens: &Tokens<'_>, at: usize) -> Option<(i128, usize)> {
+    if tokens.is(at, Sign::Minus) && tokens.is_kind(next(at), Kind::Number) {
+        let number = number_of(tokens.text(next(at)))?;
+        return Some((number.checked_neg()?, next(next(at))));
+    }
+    if tokens.is_kind(at, Kind::Number) {
+        let number = number_of(tokens.text(at))?;
+        return Some((number, next(at)));
+    }
+    None
+}
+
+/// What is known of the number of a value assignment.
+#[derive(Clone, Copy)]
+enum Known {
+    NotYet,
+    /// Being followed: met again, it leads to itself.
+    Followed,
+    Number(i128),
+    None,
+}
+
+/// Where a value leads.
+enum Lead {
+    Number(i128),
+    To(usize),
+    None,
+}
+
+/// Where the value of an assignment leads: to a number, or to another value.
+fn lead_of(world: &World<'_>, index: usize) -> Lead {
+    let Some(assignment) = world.assignment(index) else {
+        return Lead::None;
+    };
+    if assignment.what != What::Value || assignment.has_parameters {
+        return Lead::None;
+    }
+    let Some(tokens) = world.tokens_of(assignment.module) else {
+        return Lead::None;
+    };
+    if let Some((number, end)) = written_number(tokens, assignment.start) {
+        if end == assignment.end {
+            return Lead::Number(number);
+        }
+        return Lead::None;
+    }
+    match world.reference_at(assignment.module, assignment.start) {
+        Ok((to, end)) if end == assignment.end => Lead::To(to),
+        _ => Lead::None,
+    }
+}
+
+/// Gives all of these the same.
+fn settle(known: &mut Vec<Known>, followed: &[usize], as_known: Known) {
+    for index in followed {
+        if let Some(place) = known.get_mut(*index) {
+            *place = as_known;
+        }
+    }
+}
+
+/// Follows the value of an assignment to its number, and settles all that it leads to on the way.
+fn follow(
+    alloc: Global,
+    world: &World<'_>,
+    known: &mut Vec<Known>,
+    start: usize,
+) -> Result<(), Refusal> {
+    let mut followed = Vec::new(alloc);
+    let mut at = start;
+    for _ in 0..u64::MAX {
+        match known.get(at) {
+            Some(Known::NotYet) => {}
+            Some(Known::Number(number)) => {
+                let found = Known::Number(*number);
+                settle(known, followed.as_slice(), found);
+                return Ok(());
+            }
+            _ => break,
+        }
+        if let Some(place) = known.get_mut(at) {
+            *place = Known::Followed;
+        }
+        followed.push(at)?;
+        match lead_of(world, at) {
+            Lead::Number(number) => {
+                settle(known, followed.as_slice(), Known::Number(number));
+                return Ok(());
+            }
+            Lead::To(to) => at = to,
+            Lead::None => break,
+        }
+    }
+    settle(known, followed.as_slice(), Known::None);
+    Ok(())
+}
+
+/// Of each assignment the number that it assigns.
+pub(crate) fn numbers_of(alloc: Global, world: &World<'_>) -> Result<Vec<Option<i128>>, Refusal> {
+    let mut known = vec![in alloc; Known::NotYet; world.assignments.len()]?;
+    for index in 0..world.assignments.len() {
+        follow(alloc, world, &mut known, index)?;
+    }
+    let mut numbers = Vec::new(alloc);
+    for one in &known {
+        numbers.push(match one {
+            Known::Number(number) => Some(*number),
+            _ => None,
+        })?;
+    }
+    Ok(numbers)
+}
+
+/// Where a value stands: the module, and the names that count there before all others.
+#[derive(Clone, Copy)]
+pub(crate) struct Scope {
+    pub module: usize,
+    /// The module and the `{` of named numbers.
+    pub named: Option<(usize, usize)>,
+    /// The `{` of the parameters of the assignment.
+    pub parameters: Option<usize>,
+}
+
+/// How many lexical items of parameters are looked at for a name, and how many named numbers.
+const MOST_NAMES: u32 = 1000;
+
+/// Whether the name is one of the parameters whose `{` is at `braces`. Of too many parameters any name is taken for
+/// one, so that the type is refused.
+pub(crate) fn is_parameter(tokens: &Tokens<'_>, braces: usize, name: &str) -> bool {
+    let end = tokens.other(braces);
+    let mut at = next(braces);
+    for _ in 0..MOST_NAMES {
+        if at >= end {
+            break;
+        }
+        let is_last = tokens.is(next(at), Sign::Comma) || next(at) == end;
+        if is_last && *tokens.text(at).as_bytes() == *name.as_bytes() {
+            return true;
+        }
+        at = tokens.after(at);
+    }
+    at < end
+}
+
+/// The values of all assignments that are numbers, and the modules that they stand in.
+#[derive(Clone, Copy)]
+pub(crate) struct Values<'a, 't> {
+    pub world: &'a World<'t>,
+    pub numbers: &'a [Option<i128>],
+}
+
+impl<'a, 't> Values<'a, 't> {
+    /// The number of a named one, where `{` of the named ones is at `braces` of the module; `None` where none has
+    /// the name. A fault where there are too many of them.
+    fn named(&self, module: usize, braces: usize, name: &str) -> Result<Option<i128>, Why> {
+        let Some(tokens) = self.world.tokens_of(module) else {
+            return Err(Why::Value);
+        };
+        let end = tokens.other(braces);
+        let mut at = next(braces);
+        for _ in 0..MOST_NAMES {
+            if at >= end {
+                return Ok(None);
+            }
+            if *tokens.text(at).as_bytes() == *name.as_bytes() {
+                return match self.plain_number(module, next(next(at))) {
+                    Some(number) => Ok(Some(number)),
+                    None => Err(Why::Value),
+                };
+            }
+            at = next(tokens.after(next(at)));
+        }
+        Err(Why::Value)
+    }
+
+    /// The number written or referred to at `at`, where no names count before all others.
+    fn plain_number(&self, module: usize, at: usize) -> Option<i128> {
+        let tokens = self.world.tokens_of(module)?;
+        if let Some((number, _)) = written_number(tokens, at) {
+            return Some(number);
+        }
+        match self.world.reference_at(module, at) {
+            Ok((index, _)) => match self.numbers.get(index) {
+                Some(number) => *number,
+                None => None,
+            },
+            Err(_) => None,
+        }
+    }
+
+    /// The number at `at`, and the index after it.
+    pub fn number_at(&self, scope: Scope, at: usize) -> Result<(i128, usize), Refusal> {
+        let Some(tokens) = self.world.tokens_of(scope.module) else {
+            return Err(refused(0, Why::Value));
+        };
+        if let Some(found) = written_number(tokens, at) {
+            return Ok(found);
+        }
+        let line = tokens.line(at);
+        if let Some(braces) = scope.parameters {
+            if is_parameter(tokens, braces, tokens.text(at)) {
+                return Err(refused(line, Why::Parameter));
+            }
+        }
+        if let Some((module, braces)) = scope.named {
+            match self.named(module, braces, tokens.text(at)) {
+                Ok(Some(number)) => return Ok((number, next(at))),
+                Ok(None) => {}
+                Err(why) => return Err(refused(line, why)),
+            }
+        }
+        match self.world.reference_at(scope.module, at) {
+            Ok((index, end)) => match self.numbers.get(index) {
+                Some(Some(number)) => Ok((*number, end)),
+                _ => Err(refused(line, Why::Value)),
+            },
+            Err(why) => Err(refused(line, why)),
+        }
+    }
+}

@@ -2,4 +2,5 @@ pub mod Bits
 pub mod Goings
 pub mod Leaves
 pub mod ListsRead
+pub mod RootsRead
 pub mod Scalars

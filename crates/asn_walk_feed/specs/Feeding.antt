@@ -1,7 +1,7 @@
 -- What a reader of messages in pieces says, and what a set of encoding rules says of the parts that a piece may cut.
-use Rattle.std.specs.Prelude.{◌≡◌, ◌≤◌, ◌<◌, ◌+◌, ◌*◌, ◌⊎◌, ℕ, List, [], ◌∷◌, ◌++◌, length, ⊤, nat_lt, Option, Some, None}
+use Rattle.std.specs.Prelude.{◌≡◌, ◌≤◌, ◌<◌, ◌+◌, ◌*◌, ◌⊎◌, ℕ, List, [], ◌∷◌, ◌++◌, length, ⊤, nat_lt, Option, Some, None, true}
 use Rattle.asn_values.specs.Datum.{Datum}
-use Rattle.asn_values.specs.Profile.{InProfile}
+use Rattle.asn_values.specs.Profile.{InProfile, good_default}
 use Rattle.asn_values.specs.Shape.{SizeRange, Shape, boolean, null, integer, enumerated}
 use Rattle.asn_bits.specs.Ranges.{Spanned, At}
 use Rattle.asn_rules.specs.Chunks.{Chunk}
@@ -44,7 +44,7 @@ pub record FeedLaws (c : Coding) : Type 0 where
   pub none : c.to_units [] ≡ []
   pub begin : c.at_unit []
   pub scalar : (t : Shape) → InProfile t → IsScalar t → IsBrief c (Spelt c.code None t)
-  pub other : (d : Datum) (t : Shape) → InProfile t → IsScalar t → IsBrief c (Spelt c.code (Some d) t)
+  pub other : (d : Datum) (t : Shape) → InProfile t → good_default t d ≡ true → IsBrief c (Spelt c.code (Some d) t)
   pub preamble : (n : ℕ) (more : Option ℕ) → n ≤ 64 → IsBrief c (PreambleOf c n more)
   pub next : (a : Ahead) → IsBrief c (NextOf a)
   pub list_start : (s : SizeRange) → IsSizeOfProfile s → IsBrief c (c.list_start s)

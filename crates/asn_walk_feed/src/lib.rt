@@ -10,11 +10,12 @@ mod frame;
 mod leaf;
 mod lists;
 mod parts;
+mod sequences;
 mod units;
 mod values;
 
 pub use begun::Begun;
-pub use frame::{Elements, Frame, Frames};
+pub use frame::{Components, Elements, Frame, Frames};
 pub use leaf::FeedLeaves;
 pub use units::{Ticks, Units};
 pub use values::feed;

@@ -64,6 +64,7 @@ pub(crate) fn resume_list<R: FeedLeaves>(
             start_list::<R>(alloc, element, size, begun, frames, units, ticks)
         }
         None => start_list::<R>(alloc, element, size, Begun::none(), frames, units, ticks),
+        Some(Frame::Components(_read)) => unreachable!(),
     }
 }
 

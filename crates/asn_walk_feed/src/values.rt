@@ -14,6 +14,7 @@ use crate::frame::{Frame, Frames};
 use crate::leaf::{FeedLeaves, feed_leaf};
 use crate::lists::resume_list;
 use crate::parts::Scalar;
+use crate::sequences::resume_sequence;
 use crate::units::{Ticks, Units};
 use asn_rules::internal::Stop;
 use asn_values::{AsnType, Value};
@@ -57,6 +58,16 @@ pub fn feed<R: FeedLeaves>(
             let node = frames.take();
             resume_list::<R>(alloc, element, size, node, frames, units, ticks)
         }
+        AsnType::Seq { root, ext } => {
+            let root = root.as_slice();
+            match ext {
+                None => {
+                    let node = frames.take();
+                    resume_sequence::<R>(alloc, root, node, frames, units, ticks)
+                }
+                Some(_) => unreachable!(),
+            }
+        }
         AsnType::Bool | AsnType::Null | AsnType::Int(_) | AsnType::Enum { .. } => {
             let node = frames.take();
             feed_scalar::<R>(alloc, ty, node, frames, units, ticks)
@@ -65,19 +76,19 @@ pub fn feed<R: FeedLeaves>(
         | AsnType::Octets(_)
         | AsnType::Text(..)
         | AsnType::Utf8
-        | AsnType::Seq { .. }
         | AsnType::Choice { .. } => unreachable!(),
     }
 }
 
 /// The units of the first part of a node that have come.
-fn begun_of<F: Drop>(node: Option<Frame<F>>) -> Begun
+pub(crate) fn begun_of<F: Drop>(node: Option<Frame<F>>) -> Begun
     requires { IsStart node }
     ensures { result ≡ begun_of node }
 {
     match node {
         Some(Frame::Start(begun)) => begun,
         Some(Frame::Elements(_list)) => unreachable!(),
+        Some(Frame::Components(_read)) => unreachable!(),
         None => Begun::none(),
     }
 }

@@ -1,11 +1,11 @@
-use Rattle.std.proofs.Common.{inl, None, ◌≡◌, ◌<◌, ◌≤◌, ◌+◌, ◌^◌, ◌++◌, ◌∷◌, [], ℕ, List, length, map, rules, refl, sym, ap, ◌∙◌, subst, arith}
+use Rattle.std.proofs.Common.{inl, None, Some, ◌⊎◌, true, false, drop, ◌≡◌, ◌<◌, ◌≤◌, ◌+◌, ◌^◌, ◌++◌, ◌∷◌, [], ℕ, List, length, map, rules, refl, sym, ap, ◌∙◌, subst, arith}
 use Rattle.std.specs.Prelude.{is_some}
 use Rattle.std.proofs.lemmas.Result.{err_from_is_err_and, IfOk-weaker, IfErr-weaker}
 use Rattle.asn_values.specs.declared.types.AsnType.{the_lemmas}
-use Rattle.asn_values.specs.View.{shape_of, datum_of, size_range_of}
+use Rattle.asn_values.specs.View.{shape_of, datum_of, part_of_field, fields_seen, entries_seen, size_range_of}
 use Rattle.asn_values.proofs.InnerTypes.{element_of_profile}
 use Rattle.asn_values.proofs.Views.{datum_of-List, list_of_elements}
-use Rattle.asn_values.specs.Shape.{sequence_of}
+use Rattle.asn_values.specs.Shape.{sequence, sequence_of, closed}
 use Rattle.asn_rules.specs.Stops.{Stops}
 use Rattle.asn_rules.specs.declared.stop.Stop.TheVariants as stop
 use Rattle.asn_rules.proofs.Languages.Leads.{stops_by, stops_on}
@@ -20,6 +20,23 @@ use Rattle.asn_walk_feed.specs.Feeding.{IsScalar}
 use Rattle.asn_walk_feed.specs.declared.frame.Frame.{Frame}
 use Rattle.asn_walk_feed.proofs.Scalars.{scalar_node}
 use Rattle.asn_walk_feed.proofs.Goings.{length_ahead, length_begun, length_stops, length_ends, length_kept, length_more, length_nearer, ElementAhead, element_ahead, list_goes_on, took_elements, took_none, took_start, list_starts, taken_is}
+use Rattle.asn_values.specs.declared.types.Need.TheVariants as needs
+use Rattle.asn_values.proofs.Views.{datum_of-Seq}
+use Rattle.asn_walk.specs.Coding.{PreambleOf}
+use Rattle.asn_rules.specs.Listed.{bitmap_length}
+use Rattle.asn_walk.proofs.SequencesRead.{preamble_stops}
+use Rattle.asn_walk_feed.specs.Roots.{parts_in}
+use Rattle.asn_walk_feed.specs.Taken.{RootReached}
+use Rattle.asn_walk_feed.proofs.RootsRead.{component_ahead, presence_left, root_starts, root_goes_on, root_ends, root_emptied, took_components, sequence_none, sequence_start, next_in, none_left, covered_at, plain_demand, no_default, other_kept, value_kept, absent_took, took_other, other_took, took_value, value_took}
+use Rattle.asn_values.specs.Parts.{IsGoodDemand}
+use Rattle.asn_values.specs.Shape.{Demand, must, optional, default}
+use Rattle.asn_values.specs.View.{demand_of}
+use Rattle.asn_values.proofs.Components.{shape_of_part}
+use Rattle.asn_rules.specs.Listed.{default_of}
+use Rattle.asn_rules.proofs.Components.ListedReading.{nothing_read}
+use Rattle.asn_walk.proofs.ComponentsRead.{entry_leads}
+use Rattle.asn_walk.proofs.Widths.{demand_of_part}
+use Rattle.asn_walk.proofs.Parts.{few_components, closed_type}
 use Rattle.asn_walk_feed.proofs.+feeder.Goals as goal
 
 -- ---- the elements of a list
@@ -248,3 +265,236 @@ lists::start_list-returns-in-Err-Refused-clause-stop g t c =
 pub lists::resume_list-returns-in-Some-Start-clause-stop : goal.lists::resume_list-returns-in-Some-Start-clause-stop
 lists::resume_list-returns-in-Some-Start-clause-stop g t c =
     IfErr-weaker c.start_list.result _ _ (λ why s us k. subst (λ (xs : List ℕ). Stops g.R.ReadLeaves.rules.ruling.fielding (ValuesOf g.R.ReadLeaves.rules (sequence_of (shape_of c.args.element.now) (size_range_of c.args.size.now))) (xs ++ g.R.ReadLeaves.rules.to_units c.args.units.now) why) (took_start g.R.ReadLeaves.rules c.keep_laws.ensures c.keep_feed_laws.ensures g.R.ReadLeaves.ahead g.R.ReadLeaves.is_between (shape_of c.args.element.now) (size_range_of c.args.size.now) c.requires.of_profile c.args.node c.in-Some-Start.field-0 c.in-Some-Start.begun (nodes c.args.frames.now) us c.in-Some-Start.is c.in-Some-Start.field-0-is k).1 s) c.start_list.ensures.stop
+
+-- ---- the root of a SEQUENCE
+
+pub sequences::resume_sequence-start_sequence-requires-in-None : goal.sequences::resume_sequence-start_sequence-requires-in-None
+sequences::resume_sequence-start_sequence-requires-in-None g t c κs within =
+    (search (rules, the_lemmas), (within.0, (within.1, (c.requires.at_unit, (c.requires.of_profile, (c.requires.covered, (c.requires.short, (c.requires.last (ap is_some c.in-None.is), (record { come = refl; at_unit = rw c.none.ensures c.keep_feed_laws.ensures.begin; begins = inl c.none.ensures }, c.requires.few)))))))))
+
+pub sequences::resume_sequence-feed_sequence-requires : goal.sequences::resume_sequence-feed_sequence-requires
+sequences::resume_sequence-feed_sequence-requires g t c κs within =
+    let us = c.requires.reached.0 in
+    let k = took_components g.R.ReadLeaves.rules c.keep_laws.ensures g.R.ReadLeaves.ahead g.R.ReadLeaves.is_between (fields_seen c.args.root.now) closed c.requires.of_profile c.args.node c.in-Some-Components.field-0 c.in-Some-Components.read (nodes c.args.frames.now) us c.in-Some-Components.is c.in-Some-Components.field-0-is c.requires.reached.1 in
+    (search (rules, the_lemmas), (within.0, (within.1, (c.requires.at_unit, (c.requires.of_profile, (c.requires.covered, ((us ++ g.R.ReadLeaves.rules.to_units c.args.units.now, root_goes_on g.R.ReadLeaves.rules c.keep_laws.ensures g.R.ReadLeaves.ahead g.R.ReadLeaves.is_between (fields_seen c.args.root.now) closed c.requires.of_profile c.in-Some-Components.read (nodes c.args.frames.now) us (g.R.ReadLeaves.rules.to_units c.args.units.now) k), c.requires.few)))))))
+
+pub sequences::resume_sequence-returns-in-Some-Components-clause-done : goal.sequences::resume_sequence-returns-in-Some-Components-clause-done
+sequences::resume_sequence-returns-in-Some-Components-clause-done g t c =
+    IfOk-weaker c.feed_sequence.result _ _ (λ v s us k. s (us ++ g.R.ReadLeaves.rules.to_units c.args.units.now) (root_goes_on g.R.ReadLeaves.rules c.keep_laws.ensures g.R.ReadLeaves.ahead g.R.ReadLeaves.is_between (fields_seen c.args.root.now) closed c.requires.of_profile c.in-Some-Components.read (nodes c.args.frames.now) us (g.R.ReadLeaves.rules.to_units c.args.units.now) (took_components g.R.ReadLeaves.rules c.keep_laws.ensures g.R.ReadLeaves.ahead g.R.ReadLeaves.is_between (fields_seen c.args.root.now) closed c.requires.of_profile c.args.node c.in-Some-Components.field-0 c.in-Some-Components.read (nodes c.args.frames.now) us c.in-Some-Components.is c.in-Some-Components.field-0-is k))) c.feed_sequence.ensures.done
+
+pub sequences::resume_sequence-returns-in-Some-Components-clause-stop : goal.sequences::resume_sequence-returns-in-Some-Components-clause-stop
+sequences::resume_sequence-returns-in-Some-Components-clause-stop g t c =
+    IfErr-weaker c.feed_sequence.result _ _ (λ why s us k. s (us ++ g.R.ReadLeaves.rules.to_units c.args.units.now) (root_goes_on g.R.ReadLeaves.rules c.keep_laws.ensures g.R.ReadLeaves.ahead g.R.ReadLeaves.is_between (fields_seen c.args.root.now) closed c.requires.of_profile c.in-Some-Components.read (nodes c.args.frames.now) us (g.R.ReadLeaves.rules.to_units c.args.units.now) (took_components g.R.ReadLeaves.rules c.keep_laws.ensures g.R.ReadLeaves.ahead g.R.ReadLeaves.is_between (fields_seen c.args.root.now) closed c.requires.of_profile c.args.node c.in-Some-Components.field-0 c.in-Some-Components.read (nodes c.args.frames.now) us c.in-Some-Components.is c.in-Some-Components.field-0-is k))) c.feed_sequence.ensures.stop
+
+pub sequences::resume_sequence-returns-in-Some-Components-clause-kept : goal.sequences::resume_sequence-returns-in-Some-Components-clause-kept
+sequences::resume_sequence-returns-in-Some-Components-clause-kept g t c =
+    IfErr-weaker c.feed_sequence.result _ _ (λ why s us k. s (us ++ g.R.ReadLeaves.rules.to_units c.args.units.now) (root_goes_on g.R.ReadLeaves.rules c.keep_laws.ensures g.R.ReadLeaves.ahead g.R.ReadLeaves.is_between (fields_seen c.args.root.now) closed c.requires.of_profile c.in-Some-Components.read (nodes c.args.frames.now) us (g.R.ReadLeaves.rules.to_units c.args.units.now) (took_components g.R.ReadLeaves.rules c.keep_laws.ensures g.R.ReadLeaves.ahead g.R.ReadLeaves.is_between (fields_seen c.args.root.now) closed c.requires.of_profile c.args.node c.in-Some-Components.field-0 c.in-Some-Components.read (nodes c.args.frames.now) us c.in-Some-Components.is c.in-Some-Components.field-0-is k))) c.feed_sequence.ensures.kept
+
+pub sequences::resume_sequence-returns-in-None-clause-done : goal.sequences::resume_sequence-returns-in-None-clause-done
+sequences::resume_sequence-returns-in-None-clause-done g t c =
+    IfOk-weaker c.start_sequence-in-None.result _ _ (λ v s us k. subst (λ (xs : List ℕ). Spells g.R.ReadLeaves.rules.ruling.fielding (ValuesOf g.R.ReadLeaves.rules (sequence (fields_seen c.args.root.now) closed)) (datum_of v) xs (g.R.ReadLeaves.rules.to_units c.start_sequence-in-None.new.units)) (ap (λ (xs : List ℕ). xs ++ g.R.ReadLeaves.rules.to_units c.args.units.now) (ap g.R.ReadLeaves.rules.to_units c.none.ensures ∙ c.keep_feed_laws.ensures.none ∙ sym (sequence_none g.R.ReadLeaves.rules c.keep_laws.ensures g.R.ReadLeaves.ahead g.R.ReadLeaves.is_between (fields_seen c.args.root.now) closed c.requires.of_profile c.args.node (nodes c.args.frames.now) us c.in-None.is (c.requires.last (ap is_some c.in-None.is)) k))) s) c.start_sequence-in-None.ensures.done
+
+pub sequences::resume_sequence-returns-in-None-clause-stop : goal.sequences::resume_sequence-returns-in-None-clause-stop
+sequences::resume_sequence-returns-in-None-clause-stop g t c =
+    IfErr-weaker c.start_sequence-in-None.result _ _ (λ why s us k. subst (λ (xs : List ℕ). Stops g.R.ReadLeaves.rules.ruling.fielding (ValuesOf g.R.ReadLeaves.rules (sequence (fields_seen c.args.root.now) closed)) xs why) (ap (λ (xs : List ℕ). xs ++ g.R.ReadLeaves.rules.to_units c.args.units.now) (ap g.R.ReadLeaves.rules.to_units c.none.ensures ∙ c.keep_feed_laws.ensures.none ∙ sym (sequence_none g.R.ReadLeaves.rules c.keep_laws.ensures g.R.ReadLeaves.ahead g.R.ReadLeaves.is_between (fields_seen c.args.root.now) closed c.requires.of_profile c.args.node (nodes c.args.frames.now) us c.in-None.is (c.requires.last (ap is_some c.in-None.is)) k))) s) c.start_sequence-in-None.ensures.stop
+
+pub sequences::resume_sequence-returns-in-None-clause-kept : goal.sequences::resume_sequence-returns-in-None-clause-kept
+sequences::resume_sequence-returns-in-None-clause-kept g t c =
+    IfErr-weaker c.start_sequence-in-None.result _ _ (λ why s us k. subst (λ (xs : List ℕ). KeepsFrames g.R.ReadLeaves.rules g.R.ReadLeaves.ahead g.R.ReadLeaves.is_between (nodes c.start_sequence-in-None.new.frames) (sequence (fields_seen c.args.root.now) closed) xs why) (ap (λ (xs : List ℕ). xs ++ g.R.ReadLeaves.rules.to_units c.args.units.now) (ap g.R.ReadLeaves.rules.to_units c.none.ensures ∙ c.keep_feed_laws.ensures.none ∙ sym (sequence_none g.R.ReadLeaves.rules c.keep_laws.ensures g.R.ReadLeaves.ahead g.R.ReadLeaves.is_between (fields_seen c.args.root.now) closed c.requires.of_profile c.args.node (nodes c.args.frames.now) us c.in-None.is (c.requires.last (ap is_some c.in-None.is)) k))) s) c.start_sequence-in-None.ensures.kept
+
+pub sequences::resume_sequence-returns-in-Some-Start-clause-done : goal.sequences::resume_sequence-returns-in-Some-Start-clause-done
+sequences::resume_sequence-returns-in-Some-Start-clause-done g t c =
+    IfOk-weaker c.start_sequence.result _ _ (λ v s us k. subst (λ (xs : List ℕ). Spells g.R.ReadLeaves.rules.ruling.fielding (ValuesOf g.R.ReadLeaves.rules (sequence (fields_seen c.args.root.now) closed)) (datum_of v) (xs ++ g.R.ReadLeaves.rules.to_units c.args.units.now) (g.R.ReadLeaves.rules.to_units c.start_sequence.new.units)) (sequence_start g.R.ReadLeaves.rules c.keep_laws.ensures g.R.ReadLeaves.ahead g.R.ReadLeaves.is_between (fields_seen c.args.root.now) closed c.requires.of_profile c.args.node c.in-Some-Start.field-0 c.in-Some-Start.begun (nodes c.args.frames.now) us c.in-Some-Start.is c.in-Some-Start.field-0-is k).1.come s) c.start_sequence.ensures.done
+
+pub sequences::resume_sequence-returns-in-Some-Start-clause-stop : goal.sequences::resume_sequence-returns-in-Some-Start-clause-stop
+sequences::resume_sequence-returns-in-Some-Start-clause-stop g t c =
+    IfErr-weaker c.start_sequence.result _ _ (λ why s us k. subst (λ (xs : List ℕ). Stops g.R.ReadLeaves.rules.ruling.fielding (ValuesOf g.R.ReadLeaves.rules (sequence (fields_seen c.args.root.now) closed)) (xs ++ g.R.ReadLeaves.rules.to_units c.args.units.now) why) (sequence_start g.R.ReadLeaves.rules c.keep_laws.ensures g.R.ReadLeaves.ahead g.R.ReadLeaves.is_between (fields_seen c.args.root.now) closed c.requires.of_profile c.args.node c.in-Some-Start.field-0 c.in-Some-Start.begun (nodes c.args.frames.now) us c.in-Some-Start.is c.in-Some-Start.field-0-is k).1.come s) c.start_sequence.ensures.stop
+
+pub sequences::resume_sequence-returns-in-Some-Start-clause-kept : goal.sequences::resume_sequence-returns-in-Some-Start-clause-kept
+sequences::resume_sequence-returns-in-Some-Start-clause-kept g t c =
+    IfErr-weaker c.start_sequence.result _ _ (λ why s us k. subst (λ (xs : List ℕ). KeepsFrames g.R.ReadLeaves.rules g.R.ReadLeaves.ahead g.R.ReadLeaves.is_between (nodes c.start_sequence.new.frames) (sequence (fields_seen c.args.root.now) closed) (xs ++ g.R.ReadLeaves.rules.to_units c.args.units.now) why) (sequence_start g.R.ReadLeaves.rules c.keep_laws.ensures g.R.ReadLeaves.ahead g.R.ReadLeaves.is_between (fields_seen c.args.root.now) closed c.requires.of_profile c.args.node c.in-Some-Start.field-0 c.in-Some-Start.begun (nodes c.args.frames.now) us c.in-Some-Start.is c.in-Some-Start.field-0-is k).1.come s) c.start_sequence.ensures.kept
+
+pub sequences::resume_sequence-start_sequence-requires : goal.sequences::resume_sequence-start_sequence-requires
+sequences::resume_sequence-start_sequence-requires g t c κs within =
+    let us = c.requires.reached.0 in
+    let w = sequence_start g.R.ReadLeaves.rules c.keep_laws.ensures g.R.ReadLeaves.ahead g.R.ReadLeaves.is_between (fields_seen c.args.root.now) closed c.requires.of_profile c.args.node c.in-Some-Start.field-0 c.in-Some-Start.begun (nodes c.args.frames.now) us c.in-Some-Start.is c.in-Some-Start.field-0-is c.requires.reached.1 in
+    (search (rules, the_lemmas), (within.0, (within.1, (c.requires.at_unit, (c.requires.of_profile, (c.requires.covered, (c.requires.short, (w.0, (record { come = refl; at_unit = w.1.at_unit; begins = w.1.begins }, c.requires.few)))))))))
+
+pub sequences::start_sequence-feed_sequence-requires : goal.sequences::start_sequence-feed_sequence-requires
+sequences::start_sequence-feed_sequence-requires g t c κs within =
+    (search (rules, the_lemmas), (within.0, (within.1, (c.in-Ok.ensures.at_unit, (c.requires.of_profile, (c.requires.covered, (((g.R.ReadLeaves.rules.to_units c.args.begun ++ g.R.ReadLeaves.rules.to_units c.args.units.now), root_starts g.R.ReadLeaves.rules c.keep_laws.ensures g.R.ReadLeaves.ahead g.R.ReadLeaves.is_between (fields_seen c.args.root.now) closed c.requires.of_profile _ (nodes c.args.frames.now) (g.R.ReadLeaves.rules.to_units c.args.begun ++ g.R.ReadLeaves.rules.to_units c.args.units.now) (g.R.ReadLeaves.rules.to_units c.feed_leaf.new.units) (rw c.bitmap_width-width.ensures.count at c.in-Ok.ensures.done) c.bitmap_width-width.ensures.count (rw c.bitmap_width-width.ensures.count at c.bitmap_width-width.ensures.few) c.new.ensures.items c.requires.empty), omega (arith, c.in-Ok.ensures.ticked, c.requires.few))))))))
+
+pub sequences::start_sequence-returns-in-Ok-clause-done : goal.sequences::start_sequence-returns-in-Ok-clause-done
+sequences::start_sequence-returns-in-Ok-clause-done g t c =
+    IfOk-weaker c.feed_sequence.result _ _ (λ v s. s (g.R.ReadLeaves.rules.to_units c.args.begun ++ g.R.ReadLeaves.rules.to_units c.args.units.now) (root_starts g.R.ReadLeaves.rules c.keep_laws.ensures g.R.ReadLeaves.ahead g.R.ReadLeaves.is_between (fields_seen c.args.root.now) closed c.requires.of_profile _ (nodes c.args.frames.now) (g.R.ReadLeaves.rules.to_units c.args.begun ++ g.R.ReadLeaves.rules.to_units c.args.units.now) (g.R.ReadLeaves.rules.to_units c.feed_leaf.new.units) (rw c.bitmap_width-width.ensures.count at c.in-Ok.ensures.done) c.bitmap_width-width.ensures.count (rw c.bitmap_width-width.ensures.count at c.bitmap_width-width.ensures.few) c.new.ensures.items c.requires.empty)) c.feed_sequence.ensures.done
+
+pub sequences::start_sequence-returns-in-Ok-clause-stop : goal.sequences::start_sequence-returns-in-Ok-clause-stop
+sequences::start_sequence-returns-in-Ok-clause-stop g t c =
+    IfErr-weaker c.feed_sequence.result _ _ (λ why s. s (g.R.ReadLeaves.rules.to_units c.args.begun ++ g.R.ReadLeaves.rules.to_units c.args.units.now) (root_starts g.R.ReadLeaves.rules c.keep_laws.ensures g.R.ReadLeaves.ahead g.R.ReadLeaves.is_between (fields_seen c.args.root.now) closed c.requires.of_profile _ (nodes c.args.frames.now) (g.R.ReadLeaves.rules.to_units c.args.begun ++ g.R.ReadLeaves.rules.to_units c.args.units.now) (g.R.ReadLeaves.rules.to_units c.feed_leaf.new.units) (rw c.bitmap_width-width.ensures.count at c.in-Ok.ensures.done) c.bitmap_width-width.ensures.count (rw c.bitmap_width-width.ensures.count at c.bitmap_width-width.ensures.few) c.new.ensures.items c.requires.empty)) c.feed_sequence.ensures.stop
+
+pub sequences::start_sequence-returns-in-Ok-clause-kept : goal.sequences::start_sequence-returns-in-Ok-clause-kept
+sequences::start_sequence-returns-in-Ok-clause-kept g t c =
+    IfErr-weaker c.feed_sequence.result _ _ (λ why s. s (g.R.ReadLeaves.rules.to_units c.args.begun ++ g.R.ReadLeaves.rules.to_units c.args.units.now) (root_starts g.R.ReadLeaves.rules c.keep_laws.ensures g.R.ReadLeaves.ahead g.R.ReadLeaves.is_between (fields_seen c.args.root.now) closed c.requires.of_profile _ (nodes c.args.frames.now) (g.R.ReadLeaves.rules.to_units c.args.begun ++ g.R.ReadLeaves.rules.to_units c.args.units.now) (g.R.ReadLeaves.rules.to_units c.feed_leaf.new.units) (rw c.bitmap_width-width.ensures.count at c.in-Ok.ensures.done) c.bitmap_width-width.ensures.count (rw c.bitmap_width-width.ensures.count at c.bitmap_width-width.ensures.few) c.new.ensures.items c.requires.empty)) c.feed_sequence.ensures.kept
+
+pub sequences::start_sequence-returns-in-Ok-put-clause-stop : goal.sequences::start_sequence-returns-in-Ok-put-clause-stop
+sequences::start_sequence-returns-in-Ok-put-clause-stop g t c =
+    let a : Stops g.R.ReadLeaves.rules.ruling.fielding (PreambleOf g.R.ReadLeaves.rules (bitmap_length (fields_seen c.args.root.now)) None) (g.R.ReadLeaves.rules.to_units c.args.begun ++ g.R.ReadLeaves.rules.to_units c.args.units.now) stop.Short = rw (c.bitmap_width-width.ensures.count, c.in-Err-Short.field-0-is) at c.in-Err-Short.ensures.stop in
+    stops_by stop.Short (preamble_stops g.R.ReadLeaves.rules c.keep_laws.ensures (fields_seen c.args.root.now) closed c.requires.of_profile (g.R.ReadLeaves.rules.to_units c.args.begun ++ g.R.ReadLeaves.rules.to_units c.args.units.now)) a
+
+pub sequences::start_sequence-returns-in-Err-Refused-clause-stop : goal.sequences::start_sequence-returns-in-Err-Refused-clause-stop
+sequences::start_sequence-returns-in-Err-Refused-clause-stop g t c =
+    let w = stop.Refused c.in-Err-Refused.left c.in-Err-Refused.why in
+    let a : Stops g.R.ReadLeaves.rules.ruling.fielding (PreambleOf g.R.ReadLeaves.rules (bitmap_length (fields_seen c.args.root.now)) None) (g.R.ReadLeaves.rules.to_units c.args.begun ++ g.R.ReadLeaves.rules.to_units c.args.units.now) w = rw (c.bitmap_width-width.ensures.count, c.in-Err-Refused.field-0-is) at c.in-Err-Refused.ensures.stop in
+    rw (c.in-Err-Refused.left-is, c.in-Err-Refused.why-is) (stops_by w (preamble_stops g.R.ReadLeaves.rules c.keep_laws.ensures (fields_seen c.args.root.now) closed c.requires.of_profile (g.R.ReadLeaves.rules.to_units c.args.begun ++ g.R.ReadLeaves.rules.to_units c.args.units.now)) a)
+
+pub sequences::feed_sequence-returns-in-Ok-clause-done : goal.sequences::feed_sequence-returns-in-Ok-clause-done
+sequences::feed_sequence-returns-in-Ok-clause-done g t c =
+    λ all h.
+    let es = c.feed_components.new.read.entries in
+    let over = none_left c.args.root.now (length es.items) c.in-Ok.ensures.over in
+    rw (datum_of-Seq es) (root_ends g.R.ReadLeaves.rules c.keep_laws.ensures g.R.ReadLeaves.ahead g.R.ReadLeaves.is_between (fields_seen c.args.root.now) c.requires.of_profile c.feed_components.new.read (nodes c.feed_components.new.frames) all (g.R.ReadLeaves.rules.to_units c.feed_components.new.units) over (c.in-Ok.ensures.done all h))
+
+pub sequences::feed_sequence-returns-in-Ok-clause-emptied : goal.sequences::feed_sequence-returns-in-Ok-clause-emptied
+sequences::feed_sequence-returns-in-Ok-clause-emptied g t c =
+    let es = c.feed_components.new.read.entries in
+    let over = none_left c.args.root.now (length es.items) c.in-Ok.ensures.over in
+    root_emptied g.R.ReadLeaves.rules c.keep_laws.ensures g.R.ReadLeaves.ahead g.R.ReadLeaves.is_between (fields_seen c.args.root.now) c.requires.of_profile c.feed_components.new.read (nodes c.feed_components.new.frames) c.requires.reached.0 (g.R.ReadLeaves.rules.to_units c.feed_components.new.units) over (c.in-Ok.ensures.done c.requires.reached.0 c.requires.reached.1)
+
+pub sequences::feed_sequence-returns-in-Ok-put-clause-kept : goal.sequences::feed_sequence-returns-in-Ok-put-clause-kept
+sequences::feed_sequence-returns-in-Ok-put-clause-kept g t c =
+    λ all h.
+    let none : g.R.ReadLeaves.rules.to_units c.feed_components.new.units ≡ [] = rw c.in-Err-Short.field-0-is at c.in-Err-Short.ensures.behind in
+    let kept : RootReached g.R.ReadLeaves.rules g.R.ReadLeaves.ahead g.R.ReadLeaves.is_between (fields_seen c.args.root.now) closed c.feed_components.new.read (nodes c.feed_components.new.frames) all (g.R.ReadLeaves.rules.to_units c.feed_components.new.units) = c.feed_components.ensures.kept (cc (c.in-Err-Short.is, c.in-Err-Short.field-0-is)) all h in
+    rw c.in-Ok-put.ensures (subst (λ (xs : List ℕ). RootReached g.R.ReadLeaves.rules g.R.ReadLeaves.ahead g.R.ReadLeaves.is_between (fields_seen c.args.root.now) closed c.feed_components.new.read (nodes c.feed_components.new.frames) all xs) none kept)
+
+-- ---- its components
+
+pub sequences::feed_components-feed_component-requires : goal.sequences::feed_components-feed_component-requires
+sequences::feed_components-feed_component-requires g t c κs within =
+    let inv = c.loop-alloc.invariant in
+    let lt : (length c.loop-alloc.read.entries.items) < length c.args.root.now = omega (arith, c.loop-alloc-test.true, c.len.ensures, c.len-2.ensures) in
+    let all = c.requires.reached.0 in
+    let x = component_ahead g.R.ReadLeaves.rules c.keep_laws.ensures g.R.ReadLeaves.ahead g.R.ReadLeaves.is_between (fields_seen c.args.root.now) closed c.requires.of_profile c.loop-alloc.read (nodes c.loop-alloc.frames) (part_of_field c.index-root-field.result) (map part_of_field (drop ((length c.loop-alloc.read.entries.items) + 1) c.args.root.now)) c.next_of-present.result c.next_of-present.new.self.left all (g.R.ReadLeaves.rules.to_units c.loop-alloc.units) (next_in c.args.root.now (length c.loop-alloc.read.entries.items) c.index-root-field.result lt c.index-root-field.is) c.next_of-present.ensures.must c.next_of-present.ensures.bit (inv.0 all c.requires.reached.1) in
+    (search (rules, the_lemmas), (within.0, (within.1, (inv.2, (x.of_profile, (x.good_demand, (covered_at c.args.root.now (length c.loop-alloc.read.entries.items) c.index-root-field.result lt c.index-root-field.is c.requires.covered, ((x.come, x.took), omega (arith, inv.1, c.requires.few)))))))))
+
+pub sequences::feed_components-next_of-requires : goal.sequences::feed_components-next_of-requires
+sequences::feed_components-next_of-requires g t c =
+    let inv = c.loop-alloc.invariant in
+    let lt : (length c.loop-alloc.read.entries.items) < length c.args.root.now = omega (arith, c.loop-alloc-test.true, c.len.ensures, c.len-2.ensures) in
+    let x = presence_left g.R.ReadLeaves.rules c.keep_laws.ensures g.R.ReadLeaves.ahead g.R.ReadLeaves.is_between (fields_seen c.args.root.now) closed c.requires.of_profile c.loop-alloc.read (nodes c.loop-alloc.frames) (part_of_field c.index-root-field.result) (map part_of_field (drop ((length c.loop-alloc.read.entries.items) + 1) c.args.root.now)) c.requires.reached.0 (g.R.ReadLeaves.rules.to_units c.loop-alloc.units) (next_in c.args.root.now (length c.loop-alloc.read.entries.items) c.index-root-field.result lt c.index-root-field.is) (inv.0 c.requires.reached.0 c.requires.reached.1) in
+    record { few = x.1; some = x.0 }
+
+pub sequences::feed_components-returns-in_err-entry-clause-stop : goal.sequences::feed_components-returns-in_err-entry-clause-stop
+sequences::feed_components-returns-in_err-entry-clause-stop g t c =
+    let inv = c.loop-alloc.invariant in
+    let lt : (length c.loop-alloc.read.entries.items) < length c.args.root.now = omega (arith, c.loop-alloc-test.true, c.len.ensures, c.len-2.ensures) in
+    let p = err_from_is_err_and c.from_residual.result c.from_residual.ensures.1 in
+    rw (p.1, p.2) (λ all h. (let x = component_ahead g.R.ReadLeaves.rules c.keep_laws.ensures g.R.ReadLeaves.ahead g.R.ReadLeaves.is_between (fields_seen c.args.root.now) closed c.requires.of_profile c.loop-alloc.read (nodes c.loop-alloc.frames) (part_of_field c.index-root-field.result) (map part_of_field (drop ((length c.loop-alloc.read.entries.items) + 1) c.args.root.now)) c.next_of-present.result c.next_of-present.new.self.left all (g.R.ReadLeaves.rules.to_units c.loop-alloc.units) (next_in c.args.root.now (length c.loop-alloc.read.entries.items) c.index-root-field.result lt c.index-root-field.is) c.next_of-present.ensures.must c.next_of-present.ensures.bit (inv.0 all h) in x.stops _ (c.in_err-entry.ensures.stop x.come x.took)))
+
+pub sequences::feed_components-returns-in_err-entry-clause-kept : goal.sequences::feed_components-returns-in_err-entry-clause-kept
+sequences::feed_components-returns-in_err-entry-clause-kept g t c =
+    λ e all h.
+    let inv = c.loop-alloc.invariant in
+    let lt : (length c.loop-alloc.read.entries.items) < length c.args.root.now = omega (arith, c.loop-alloc-test.true, c.len.ensures, c.len-2.ensures) in
+    let p = err_from_is_err_and c.from_residual.result c.from_residual.ensures.1 in
+    let w : c.in_err-entry.field-0.0 ≡ stop.Short = cc (p.1, p.2, e) in
+    let x = component_ahead g.R.ReadLeaves.rules c.keep_laws.ensures g.R.ReadLeaves.ahead g.R.ReadLeaves.is_between (fields_seen c.args.root.now) closed c.requires.of_profile c.loop-alloc.read (nodes c.loop-alloc.frames) (part_of_field c.index-root-field.result) (map part_of_field (drop ((length c.loop-alloc.read.entries.items) + 1) c.args.root.now)) c.next_of-present.result c.next_of-present.new.self.left all (g.R.ReadLeaves.rules.to_units c.loop-alloc.units) (next_in c.args.root.now (length c.loop-alloc.read.entries.items) c.index-root-field.result lt c.index-root-field.is) c.next_of-present.ensures.must c.next_of-present.ensures.bit (inv.0 all h) in
+    x.kept (nodes c.feed_component.new.frames) (g.R.ReadLeaves.rules.to_units c.feed_component.new.units) (rw w at c.in_err-entry.ensures.behind) (rw w at (c.in_err-entry.ensures.kept x.come x.took))
+
+pub sequences::feed_components-loop-alloc-preserved : goal.sequences::feed_components-loop-alloc-preserved
+sequences::feed_components-loop-alloc-preserved g t c =
+    let inv = c.loop-alloc.invariant in
+    let lt : (length c.loop-alloc.read.entries.items) < length c.args.root.now = omega (arith, c.loop-alloc-test.true, c.len.ensures, c.len-2.ensures) in
+    (
+      λ all h. (let x = component_ahead g.R.ReadLeaves.rules c.keep_laws.ensures g.R.ReadLeaves.ahead g.R.ReadLeaves.is_between (fields_seen c.args.root.now) closed c.requires.of_profile c.loop-alloc.read (nodes c.loop-alloc.frames) (part_of_field c.index-root-field.result) (map part_of_field (drop ((length c.loop-alloc.read.entries.items) + 1) c.args.root.now)) c.next_of-present.result c.next_of-present.new.self.left all (g.R.ReadLeaves.rules.to_units c.loop-alloc.units) (next_in c.args.root.now (length c.loop-alloc.read.entries.items) c.index-root-field.result lt c.index-root-field.is) c.next_of-present.ensures.must c.next_of-present.ensures.bit (inv.0 all h) in x.further _ (nodes c.feed_component.new.frames) c.in_ok-entry.entry (g.R.ReadLeaves.rules.to_units c.feed_component.new.units) refl c.next_of-present.ensures.bitmap refl c.in_ok-push.ensures.items c.in_ok-entry.ensures.emptied (c.in_ok-entry.ensures.done x.come x.took)),
+      omega (arith, inv.1, c.in_ok-entry.ensures.ticked),
+      c.in_ok-entry.ensures.at_unit,
+      omega (arith, inv.3, c.in_ok-entry.ensures.rising),
+    )
+
+pub sequences::feed_component-returns-then-not-present-clause-done : goal.sequences::feed_component-returns-then-not-present-clause-done
+sequences::feed_component-returns-then-not-present-clause-done g t c =
+    λ us k.
+    let e : c.args.present ≡ false = c.if-not-present.true in
+    let none = absent_took g.R.ReadLeaves.rules g.R.ReadLeaves.ahead g.R.ReadLeaves.is_between c.args.field.now c.args.present (nodes c.args.frames.now) us e k in
+    rw (none.1, e, c.absent.ensures) (nothing_read g.R.ReadLeaves.rules.ruling.fielding (default_of (part_of_field c.args.field.now).demand) (g.R.ReadLeaves.rules.to_units c.args.units.now))
+
+pub sequences::feed_component-returns-then-not-present-clause-emptied : goal.sequences::feed_component-returns-then-not-present-clause-emptied
+sequences::feed_component-returns-then-not-present-clause-emptied g t c =
+    (absent_took g.R.ReadLeaves.rules g.R.ReadLeaves.ahead g.R.ReadLeaves.is_between c.args.field.now c.args.present (nodes c.args.frames.now) c.requires.reached.0 c.if-not-present.true c.requires.reached.1).0
+
+pub sequences::feed_component-feed_other-requires : goal.sequences::feed_component-feed_other-requires
+sequences::feed_component-feed_other-requires g t c =
+    let there : c.args.present ≡ true = c.if-not-present.false in
+    let e : (part_of_field c.args.field.now).demand ≡ default (datum_of c.in-Default.default) = demand_of_part c.args.field.now ∙ ap demand_of c.in-Default.is in
+    let good : IsGoodDemand (default (datum_of c.in-Default.default)) (shape_of c.args.field.now.ty) = rw (e, shape_of_part c.args.field.now) at c.requires.good in
+    record { at_unit = c.requires.at_unit; of_profile = rw shape_of_part at c.requires.of_profile; good = good; reached = (c.requires.reached.0, took_other g.R.ReadLeaves.rules g.R.ReadLeaves.ahead g.R.ReadLeaves.is_between c.args.field.now c.args.present (nodes c.args.frames.now) c.requires.reached.0 there c.in-Default.default c.in-Default.is c.requires.reached.1); few = c.requires.few }
+
+pub sequences::feed_component-returns-in_err-feed_other-in-Default-clause-stop : goal.sequences::feed_component-returns-in_err-feed_other-in-Default-clause-stop
+sequences::feed_component-returns-in_err-feed_other-in-Default-clause-stop g t c =
+    let there : c.args.present ≡ true = c.if-not-present.false in
+    let d : default_of (part_of_field c.args.field.now).demand ≡ Some (datum_of c.in-Default.default) = ap default_of (demand_of_part c.args.field.now ∙ ap demand_of c.in-Default.is) in
+    let p = err_from_is_err_and c.from_residual.result c.from_residual.ensures.1 in
+    rw (p.1, p.2) (λ us k. stops_by _ (entry_leads g.R.ReadLeaves.rules c.args.field.now c.args.present _ (us ++ g.R.ReadLeaves.rules.to_units c.args.units.now) there d).stops (c.in_err-feed_other-in-Default.ensures.stop us (took_other g.R.ReadLeaves.rules g.R.ReadLeaves.ahead g.R.ReadLeaves.is_between c.args.field.now c.args.present (nodes c.args.frames.now) us there c.in-Default.default c.in-Default.is k)))
+
+pub sequences::feed_component-returns-in_err-feed_other-in-Default-clause-kept : goal.sequences::feed_component-returns-in_err-feed_other-in-Default-clause-kept
+sequences::feed_component-returns-in_err-feed_other-in-Default-clause-kept g t c =
+    let there : c.args.present ≡ true = c.if-not-present.false in
+    let p = err_from_is_err_and c.from_residual.result c.from_residual.ensures.1 in
+    rw (p.1, p.2) (λ us k. other_kept g.R.ReadLeaves.rules g.R.ReadLeaves.ahead g.R.ReadLeaves.is_between c.args.field.now c.args.present (nodes c.feed_other.new.frames) (us ++ g.R.ReadLeaves.rules.to_units c.args.units.now) _ there c.in-Default.default c.in-Default.is (c.in_err-feed_other-in-Default.ensures.kept us (took_other g.R.ReadLeaves.rules g.R.ReadLeaves.ahead g.R.ReadLeaves.is_between c.args.field.now c.args.present (nodes c.args.frames.now) us there c.in-Default.default c.in-Default.is k)))
+
+pub sequences::feed_component-returns-in_ok-feed_other-in-Default-clause-done : goal.sequences::feed_component-returns-in_ok-feed_other-in-Default-clause-done
+sequences::feed_component-returns-in_ok-feed_other-in-Default-clause-done g t c =
+    let there : c.args.present ≡ true = c.if-not-present.false in
+    let d : default_of (part_of_field c.args.field.now).demand ≡ Some (datum_of c.in-Default.default) = ap default_of (demand_of_part c.args.field.now ∙ ap demand_of c.in-Default.is) in
+    λ us k. (entry_leads g.R.ReadLeaves.rules c.args.field.now c.args.present _ (us ++ g.R.ReadLeaves.rules.to_units c.args.units.now) there d).done (datum_of c.in_ok-feed_other-in-Default.field-0) (g.R.ReadLeaves.rules.to_units c.feed_other.new.units) (c.in_ok-feed_other-in-Default.ensures.done us (took_other g.R.ReadLeaves.rules g.R.ReadLeaves.ahead g.R.ReadLeaves.is_between c.args.field.now c.args.present (nodes c.args.frames.now) us there c.in-Default.default c.in-Default.is k))
+
+pub sequences::feed_component-feed-requires : goal.sequences::feed_component-feed-requires
+sequences::feed_component-feed-requires g t c κs within =
+    let there : c.args.present ≡ true = c.if-not-present.false in
+    (search (rules, the_lemmas), (within.0, (within.1, (c.requires.at_unit, (rw shape_of_part at c.requires.of_profile, (rw shape_of_part at c.requires.covered, ((c.requires.reached.0, took_value g.R.ReadLeaves.rules g.R.ReadLeaves.ahead g.R.ReadLeaves.is_between c.args.field.now c.args.present (nodes c.args.frames.now) c.requires.reached.0 there (plain_demand c.args.field.now.need c.in-Must.is) c.requires.reached.1), c.requires.few)))))))
+
+pub sequences::feed_component-returns-in_err-feed-in-Must-clause-stop : goal.sequences::feed_component-returns-in_err-feed-in-Must-clause-stop
+sequences::feed_component-returns-in_err-feed-in-Must-clause-stop g t c =
+    let there : c.args.present ≡ true = c.if-not-present.false in
+    let d : default_of (part_of_field c.args.field.now).demand ≡ None = no_default (part_of_field c.args.field.now).demand (subst (λ (z : Demand). (z ≡ must) ⊎ (z ≡ optional)) (sym (demand_of_part c.args.field.now)) (plain_demand c.args.field.now.need c.in-Must.is)) in
+    let p = err_from_is_err_and c.from_residual-in_err-feed-in-Must.result c.from_residual-in_err-feed-in-Must.ensures.1 in
+    rw (p.1, p.2) (λ us k. stops_by _ (entry_leads g.R.ReadLeaves.rules c.args.field.now c.args.present None (us ++ g.R.ReadLeaves.rules.to_units c.args.units.now) there d).stops (c.in_err-feed-in-Must.ensures.stop us (took_value g.R.ReadLeaves.rules g.R.ReadLeaves.ahead g.R.ReadLeaves.is_between c.args.field.now c.args.present (nodes c.args.frames.now) us there (plain_demand c.args.field.now.need c.in-Must.is) k)))
+
+pub sequences::feed_component-returns-in_err-feed-in-Must-clause-kept : goal.sequences::feed_component-returns-in_err-feed-in-Must-clause-kept
+sequences::feed_component-returns-in_err-feed-in-Must-clause-kept g t c =
+    let there : c.args.present ≡ true = c.if-not-present.false in
+    let p = err_from_is_err_and c.from_residual-in_err-feed-in-Must.result c.from_residual-in_err-feed-in-Must.ensures.1 in
+    rw (p.1, p.2) (λ us k. value_kept g.R.ReadLeaves.rules g.R.ReadLeaves.ahead g.R.ReadLeaves.is_between c.args.field.now c.args.present (nodes c.feed.new.frames) (us ++ g.R.ReadLeaves.rules.to_units c.args.units.now) _ there (plain_demand c.args.field.now.need c.in-Must.is) (c.in_err-feed-in-Must.ensures.kept us (took_value g.R.ReadLeaves.rules g.R.ReadLeaves.ahead g.R.ReadLeaves.is_between c.args.field.now c.args.present (nodes c.args.frames.now) us there (plain_demand c.args.field.now.need c.in-Must.is) k)))
+
+pub sequences::feed_component-returns-in_ok-feed-in-Must-clause-done : goal.sequences::feed_component-returns-in_ok-feed-in-Must-clause-done
+sequences::feed_component-returns-in_ok-feed-in-Must-clause-done g t c =
+    let there : c.args.present ≡ true = c.if-not-present.false in
+    let d : default_of (part_of_field c.args.field.now).demand ≡ None = no_default (part_of_field c.args.field.now).demand (subst (λ (z : Demand). (z ≡ must) ⊎ (z ≡ optional)) (sym (demand_of_part c.args.field.now)) (plain_demand c.args.field.now.need c.in-Must.is)) in
+    λ us k. (entry_leads g.R.ReadLeaves.rules c.args.field.now c.args.present None (us ++ g.R.ReadLeaves.rules.to_units c.args.units.now) there d).done (datum_of c.in_ok-feed-in-Must.field-0) (g.R.ReadLeaves.rules.to_units c.feed.new.units) (c.in_ok-feed-in-Must.ensures.done us (took_value g.R.ReadLeaves.rules g.R.ReadLeaves.ahead g.R.ReadLeaves.is_between c.args.field.now c.args.present (nodes c.args.frames.now) us there (plain_demand c.args.field.now.need c.in-Must.is) k))
+
+-- ---- a SEQUENCE of the program
+
+pub values::feed-resume_sequence-requires : goal.values::feed-resume_sequence-requires
+values::feed-resume_sequence-requires g t c κs within =
+    let is = closed_type c.args.ty.now c.in-Seq.root c.in-Seq.ext c.as_slice-root.result.now c.in-Seq.is c.in-None.is c.as_slice-root.ensures.value in
+    let tk = taken_is c.take-node-in-None.result (nodes c.args.frames.now) (nodes c.take-node-in-None.new.self) c.take-node-in-None.ensures.some c.take-node-in-None.ensures.none c.take-node-in-None.ensures.empty in
+    (search (rules, the_lemmas), (within.0, (within.1, (c.requires.at_unit, (rw is at c.requires.of_profile, (rw is at c.requires.covered, (few_components c.as_slice-root.result.now is c.requires.of_profile, ((c.requires.reached.0, rw (is, tk) at c.requires.reached.1), (c.take-node-in-None.ensures.empty, c.requires.few)))))))))
+
+pub values::feed-returns-in-None-clause-done : goal.values::feed-returns-in-None-clause-done
+values::feed-returns-in-None-clause-done g t c =
+    let is = closed_type c.args.ty.now c.in-Seq.root c.in-Seq.ext c.as_slice-root.result.now c.in-Seq.is c.in-None.is c.as_slice-root.ensures.value in
+    let tk = taken_is c.take-node-in-None.result (nodes c.args.frames.now) (nodes c.take-node-in-None.new.self) c.take-node-in-None.ensures.some c.take-node-in-None.ensures.none c.take-node-in-None.ensures.empty in
+    IfOk-weaker c.resume_sequence.result _ _ (λ v s us k. rw is (s us (rw (is, tk) at k))) c.resume_sequence.ensures.done
+
+pub values::feed-returns-in-None-clause-stop : goal.values::feed-returns-in-None-clause-stop
+values::feed-returns-in-None-clause-stop g t c =
+    let is = closed_type c.args.ty.now c.in-Seq.root c.in-Seq.ext c.as_slice-root.result.now c.in-Seq.is c.in-None.is c.as_slice-root.ensures.value in
+    let tk = taken_is c.take-node-in-None.result (nodes c.args.frames.now) (nodes c.take-node-in-None.new.self) c.take-node-in-None.ensures.some c.take-node-in-None.ensures.none c.take-node-in-None.ensures.empty in
+    IfErr-weaker c.resume_sequence.result _ _ (λ why s us k. rw is (s us (rw (is, tk) at k))) c.resume_sequence.ensures.stop
+
+pub values::feed-returns-in-None-clause-kept : goal.values::feed-returns-in-None-clause-kept
+values::feed-returns-in-None-clause-kept g t c =
+    let is = closed_type c.args.ty.now c.in-Seq.root c.in-Seq.ext c.as_slice-root.result.now c.in-Seq.is c.in-None.is c.as_slice-root.ensures.value in
+    let tk = taken_is c.take-node-in-None.result (nodes c.args.frames.now) (nodes c.take-node-in-None.new.self) c.take-node-in-None.ensures.some c.take-node-in-None.ensures.none c.take-node-in-None.ensures.empty in
+    IfErr-weaker c.resume_sequence.result _ _ (λ why s us k. rw is (s us (rw (is, tk) at k))) c.resume_sequence.ensures.kept

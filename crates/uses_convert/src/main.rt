@@ -2,11 +2,9 @@
 #![tactic(auto)]
 
 use anyhow::{Result, ensure};
-use asn_convert::{ConvertFault, convert};
-use asn_oer::Oer;
-use asn_per::Per;
-use asn_rules::Unit;
-use asn_values::{Alt, AsnType, Bounds, Checked, Item};
+use tulvorn::{
+    Alt, AsnType, Bounds, Checked, ConvertFault, Item, Oer, Per, Unit, convert,
+};
 use std::alloc::Global;
 
 /// `CHOICE { stop NULL, speed INTEGER (0..100), lamp ENUMERATED { red, green } }`

@@ -1,10 +1,10 @@
 //! Decodes messages by CANONICAL-PER UNALIGNED, and handles each answer that octets from a stranger may get.
 #![tactic(auto)]
 
-use anyhow::{Result, bail};
-use asn_per::Per;
-use asn_rules::{DecodeFault, decode};
-use asn_values::{AsnType, Bounds, Checked, Field, Size, TextKind, Value};
+use anyhow::{Context, Result, bail};
+use tulvorn::{
+    AsnType, Bounds, Checked, DecodeFault, Field, Per, Size, TextKind, Value, View, Viewed, decode,
+};
 use std::alloc::Global;
 
 /// `SEQUENCE { id INTEGER (0..7), ok BOOLEAN DEFAULT TRUE, note IA5String (SIZE (0..3)) OPTIONAL }`
@@ -19,24 +19,13 @@ fn message_type(alloc: Global) -> Result<Checked> {
     Ok(Checked::new(alloc, AsnType::sequence(fields))?)
 }
 
-/// What a message says, from its components in the order of the type.
-fn told(alloc: Global, message: &Value) -> Result<String> {
-    let Value::Seq(components) = message else {
-        bail!("no sequence");
-    };
-    match components.as_slice() {
-        [Some(Value::Int(id)), Some(Value::Bool(ok)), None] => {
-            Ok(format!(in alloc; "id {id}, ok {ok}, no note")?)
-        }
-        [
-            Some(Value::Int(id)),
-            Some(Value::Bool(ok)),
-            Some(Value::Text(note)),
-        ] => {
-            let note = str::from_utf8(note)?;
-            Ok(format!(in alloc; "id {id}, ok {ok}, note {note}")?)
-        }
-        _ => bail!("other components"),
+/// What a message says.
+fn told(alloc: Global, message: &View<'_>) -> Result<String> {
+    let id = message.get("id").and_then(|v| v.as_int()).context("no id")?;
+    let ok = message.get("ok").and_then(|v| v.as_bool()).context("no ok")?;
+    match message.get("note").and_then(|v| v.as_str()) {
+        Some(note) => Ok(format!(in alloc; "id {id}, ok {ok}, note {note}")?),
+        None => Ok(format!(in alloc; "id {id}, ok {ok}, no note")?),
     }
 }
 
@@ -45,7 +34,7 @@ fn main(rt: HostRuntime) -> Result<()> {
     for line in ["6b04", "28", "ac", "6b", "2800"] {
         let octets = hex::decode(rt.alloc(), line)?;
         match decode::<Per>(rt.alloc(), &ty, &octets) {
-            Ok(message) => println!(rt; "{line}: {}", told(rt.alloc(), &message)?)?,
+            Ok(message) => println!(rt; "{line}: {}", told(rt.alloc(), &ty.view(&message))?)?,
             Err(DecodeFault::Refused { at, why }) => {
                 println!(rt; "{line}: no message begins so, from bit {at} on: {why}")?
             }

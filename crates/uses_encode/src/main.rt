@@ -1,11 +1,10 @@
 //! Builds a type and a value of it, and encodes the value by CANONICAL-PER UNALIGNED and by Canonical OER.
 #![tactic(auto)]
 
-use anyhow::Result;
-use asn_oer::Oer;
-use asn_per::Per;
-use asn_rules::Rules;
-use asn_values::{AsnType, Bounds, Checked, Field, Item, Size, Value};
+use anyhow::{Context, Result};
+use tulvorn::{
+    AsnType, Bounds, ByName, Checked, Field, Item, Oer, Per, Rules, Size, Value, misfit,
+};
 use std::alloc::Global;
 
 /// `ENUMERATED { car(0), bus(1), ..., tram(2) }`
@@ -31,22 +30,23 @@ fn report_type(alloc: Global) -> Result<Checked> {
     Ok(Checked::new(alloc, AsnType::sequence(fields))?)
 }
 
-/// `{ station 4660, kind bus, speed 50, lanes { 1, 5 } }`: an entry for each component, in the order of the type.
-fn report(alloc: Global) -> Result<Value> {
-    let lanes = vec![in alloc; Value::Int(1), Value::Int(5)]?;
-    let entries = vec![in alloc;
-        Some(Value::Int(4_660)),
-        Some(Value::Enum(1)),
-        Some(Value::Int(50)),
-        Some(Value::List(lanes)),
-    ]?;
-    Ok(Value::Seq(entries))
+/// `{ station 4660, kind bus, speed 50, lanes { 1, 5 } }`, in any order.
+fn report(alloc: Global, ty: &Checked) -> Result<Value> {
+    let list = ty.get().component("lanes").context("no lanes")?;
+    let lanes = Value::list(alloc, &list.ty, &[1.into(), 5.into()])?;
+    let parts = [
+        ("kind", "bus".into()),
+        ("lanes", (&lanes).into()),
+        ("speed", 50.into()),
+        ("station", 4_660.into()),
+    ];
+    Ok(Value::sequence(alloc, ty.get(), &parts)?)
 }
 
 fn main(rt: HostRuntime) -> Result<()> {
     let alloc = rt.alloc();
     let ty = report_type(alloc)?;
-    let value = report(alloc)?;
+    let value = report(alloc, &ty)?;
     let per = Per::encode(alloc, &ty, &value)?;
     println!(rt; "per {}", hex::encode(alloc, &per)?)?;
     let oer = Oer::encode(alloc, &ty, &value)?;
@@ -54,6 +54,9 @@ fn main(rt: HostRuntime) -> Result<()> {
     // a value that is none of the type is refused, and never cut to fit
     if let Err(fault) = Per::encode(alloc, &ty, &Value::Null) {
         println!(rt; "NULL {fault}")?;
+    }
+    if let Some(wrong) = misfit(alloc, &ty, &Value::Null)? {
+        println!(rt; "{wrong}")?;
     }
     Ok(())
 }

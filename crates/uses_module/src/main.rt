@@ -2,10 +2,7 @@
 #![tactic(auto)]
 
 use anyhow::{Context, Result};
-use asn_json::to_json;
-use asn_module::read;
-use asn_per::Per;
-use asn_rules::decode;
+use tulvorn::{Per, Viewed, decode, read, to_json};
 
 /// What a module's file has.
 const TEXT: &str = "Example DEFINITIONS AUTOMATIC TAGS ::= BEGIN
@@ -22,6 +19,8 @@ fn main(rt: HostRuntime) -> Result<()> {
         let value = decode::<Per>(alloc, ty, &octets)?;
         let json = to_json(alloc, ty, &value)?;
         println!(rt; "{line} {json}")?;
+        let id = ty.view(&value).get("id").and_then(|v| v.as_int());
+        println!(rt; "{line} id {}", id.context("no id")?)?;
     }
     Ok(())
 }

@@ -2,9 +2,7 @@
 #![tactic(auto)]
 
 use anyhow::Result;
-use asn_per::Per;
-use asn_rules::{FeedFault, Rules, Step};
-use asn_values::{AsnType, Bounds, Checked, Field, Size};
+use tulvorn::{AsnType, Bounds, Checked, FeedFault, Field, Per, Rules, Size, Step, Viewed};
 use std::alloc::Global;
 
 /// `SEQUENCE { station INTEGER (0..65535), speeds SEQUENCE (SIZE (0..15)) OF INTEGER (0..100) }`
@@ -26,7 +24,8 @@ fn follow(rt: &impl Print, alloc: Global, ty: &Checked, stream: &[u8]) -> Result
         match Per::feed(&mut session, &[*octet]) {
             Ok(Step::More) => println!(rt; "{octet:02x} more")?,
             Ok(Step::Done { value, .. }) => {
-                println!(rt; "{octet:02x} ends the message {value:?}")?;
+                let station = ty.view(&value).get("station").and_then(|v| v.as_int());
+                println!(rt; "{octet:02x} ends the message of {station:?}")?;
                 return Ok(());
             }
             Err(FeedFault::Refused { at, why }) => {

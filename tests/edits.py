@@ -37,6 +37,8 @@ from concurrent.futures import ThreadPoolExecutor
 sys.dont_write_bytecode = True
 EDITS, TRIED, ALONE = "tests/edits", "tests/edits/tried", "tests/edits/alone.txt"
 TURNS = 4
+# the seconds that a check of edits may take
+LIMIT = 1200
 
 
 def kit_command():
@@ -254,11 +256,23 @@ class Report:
 
 
 def check(crate, edits, flags, seed):
-    """What a check of the crate with these edits says, over a copy of what the seed holds, and how many seconds it took."""
+    """What a check of the crate with these edits says, over a copy of what the seed holds, and how many seconds it took.
+    A check that does not end within the limit says nothing."""
     with tempfile.TemporaryDirectory(prefix=f"rt-edits-{os.getpid()}-") as room, LANES:
         rt.linked(seed, f"{room}/kept")
+        for part in rtlib.PARTS:
+            if os.path.isdir(f"{crate.folder}/{part}"):
+                shutil.copytree(f"{crate.folder}/{part}", f"{room}/crate/{part}")
+        for path, text in applied(edits).items():
+            with open(f"{room}/crate/{path}", "w", encoding="utf-8") as it:
+                it.write(text)
+        words = [*rtlib.guarded(), rtlib.RATTLE, "check", *crate.words(["--jobs", "1", *flags], keeps=False), "--incremental", f"{room}/kept"]
+        how = {"cwd": f"{room}/crate", "stdin": subprocess.DEVNULL, "stdout": subprocess.PIPE, "stderr": subprocess.STDOUT, "errors": "replace"}
         start = time.time()
-        said = rt.checked(crate, applied(edits), ["--jobs", "1", *flags], f"{room}/kept").stdout
+        try:
+            said = subprocess.run(words, timeout=LIMIT, **how).stdout
+        except subprocess.TimeoutExpired:
+            said = ""
         return Report(said), time.time() - start
 
 
@@ -321,7 +335,7 @@ class Tries:
                 self.refused[edit.label] = goal
             else:
                 reasons[edit.label] = why
-        say(f"{self.crate.name}: {len(group) - len(reasons)} of {len(group)} edits refused in one check of {seconds:.0f} s")
+        say(f"{self.crate.name}: {len(group) - len(reasons)} of {len(group)} edits refused in one check of {seconds:.0f} s" + "".join(f"\n  {it}: not in this group: {why}" for it, why in reasons.items()))
         return reasons
 
     def by_itself(self, edit, reason, seed):

@@ -252,7 +252,9 @@ class Report:
             return found[0], None
         if names_gone:
             return None, "its proof names what the edit took away"
-        return None, "no goal of its own function is told: " + (more.strip(" :;")[:100] or "its cycle has others that are")
+        if "it calls" in more:
+            return None, "no goal of its own is told, since its goals wait for a function that it calls, which another edit of the group changes"
+        return None, "no goal of its own is told, beside others of its cycle"
 
 
 def check(crate, edits, flags, seed):

@@ -238,7 +238,9 @@ class Report:
         # (in a cycle a goal begins with its function, and with the module where the cycle is of several)
         own = lambda goal: f"::{edit.function}".endswith(f"::{goal.partition('-')[0]}") if edit.cycle else bool(goal)
         folder = "proofs/" + path.partition("::")[2].replace("::", "/")
-        home = lambda it: it == folder or edit.cycle and os.path.basename(it).startswith("+")
+        # (a function that calls itself has its proof in +NAME)
+        recursive = f"{os.path.dirname(folder)}/+{os.path.basename(folder)}"
+        home = lambda it: it in (folder, recursive) or edit.cycle and os.path.basename(it).startswith("+")
         errors = [(goal, text) for it, goal, text in self.errors if home(it) and (own(goal) or not goal and it == folder)]
         told = [goal or text[:60] for goal, text in errors if not GONE.search(text)]
         if told:

@@ -12,8 +12,9 @@ An edit is a file tests/edits/CRATE/NAME.edit: a line 'file: src/FILE.rt', and t
 crate, and one check of these functions alone (`--only`) judges them all. An edit is refused where the check names a
 goal of the edited function itself that is not proved, or finds an error in the proof of that function. It is no refusal
 that the function calls one that is not proved, or that its proof names something that is not there any more. What is
-not refused so is tried once more in a smaller group, and then alone. An edit that changes no single function's body
-is tried alone, and the whole crate is checked.
+not refused so is tried once more in a smaller group, and then alone, in the end as the kit tries it: with a check of the
+whole crate, which has to refuse it for something else than a name that is gone. An edit that changes no single function's
+body is tried so at once.
 
 tests/edits/tried has for each crate a sum of what its edits were tried over: the crate, its edits, the contracts and
 definitions below it, and the logic of the kit. A run over a crate notes it there where every edit was refused, and
@@ -351,11 +352,12 @@ class Tries:
             self.refused[edit.label] = goal
             self.alone[edit.label] = reason
             return say(f"{edit.label}: refused alone: {goal} (in a group: {reason})")
-        self.bad[edit.label] = why
-        say(f"{edit.label}: NOT REFUSED by a goal of {edit.function}: {why}")
+        say(f"{edit.label}: alone no goal of {edit.function} is told: {why}")
+        self.whole(edit, seed, f"{why}; the check of the whole crate refuses it, and not for a name alone")
 
-    def whole(self, edit, seed):
-        """Tries an edit that changes more than one function's body, with a check of the whole crate."""
+    def whole(self, edit, seed, reason="it changes more than the body of one function"):
+        """Tries an edit as the kit does, with a check of the whole crate: one that changes more than one function's body, or
+        of which no goal of its own is told. That a proof names something that is gone is no refusal."""
         with tempfile.TemporaryDirectory(prefix=f"rt-edits-{os.getpid()}-") as room, LANES:
             rt.linked(seed, f"{room}/kept")
             kind, text = rt.must_fail(self.crate, edit.file, ["--jobs", "1"], f"{room}/kept")
@@ -363,7 +365,7 @@ class Tries:
         text = text.split(": ", 1)[-1]
         if kind == rt.REFUSED and "(only because" not in text:
             self.refused[edit.label] = text
-            self.alone[edit.label] = "it changes more than the body of one function"
+            self.alone[edit.label] = reason
             return say(f"{edit.label}: refused alone: {text}")
         self.bad[edit.label] = text
         say(f"{edit.label}: NOT REFUSED: {text}")

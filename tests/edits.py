@@ -333,6 +333,11 @@ class Tries:
         only = [word for edit in group for word in ("--only", edit.function)]
         report, seconds = check(self.crate, group, only, seed)
         self.checks += 1
+        if not report.lines and len(group) > 1:
+            # one of them is not read, or does not end
+            say(f"{self.crate.name}: the check of {len(group)} edits says nothing, so that halves of them are tried")
+            half = len(group) // 2
+            return {**self.together(group[:half], seed), **self.together(group[half:], seed)}
         reasons = {}
         for edit in group:
             goal, why = report.goal(self.crate, edit)

@@ -13,8 +13,8 @@ crate, and one check of these functions alone (`--only`) judges them all. An edi
 goal of the edited function itself that is not proved, or finds an error in the proof of that function. It is no refusal
 that the function calls one that is not proved, or that its proof names something that is not there any more. What is
 not refused so is tried once more in a smaller group, and then alone, in the end as the kit tries it: with a check of the
-whole crate, which has to refuse it for something else than a name that is gone. An edit that changes no single function's
-body is tried so at once.
+whole crate. One that is refused there for a name that is gone, or by a limit of the prover, is told as weak: another is
+wanted in its place. An edit that changes no single function's body is tried so at once.
 
 tests/edits/tried has for each crate a sum of what its edits were tried over: the crate, its edits, the contracts and
 definitions below it, and the logic of the kit. A run over a crate notes it there where every edit was refused, and
@@ -297,7 +297,7 @@ class Tries:
 
     def __init__(self, crate, edits):
         self.crate, self.edits = crate, edits
-        self.refused, self.alone, self.bad, self.checks = {}, {}, {}, 0
+        self.refused, self.alone, self.weak, self.bad, self.checks = {}, {}, {}, {}, 0
 
     def run(self, pool):
         seed = self.seed()
@@ -368,7 +368,11 @@ class Tries:
             kind, text = rt.must_fail(self.crate, edit.file, ["--jobs", "1"], f"{room}/kept")
         self.checks += 1
         text = text.split(": ", 1)[-1]
-        if kind == rt.REFUSED and "(only because" not in text:
+        if kind in (rt.REFUSED, rt.AT_LIMIT) and "(only b" in text:
+            self.refused[edit.label] = self.weak[edit.label] = text
+            self.alone[edit.label] = "refused by a name that is gone, or by a limit of the prover: to be replaced by one that is refused by value"
+            return say(f"{edit.label}: WEAK: {text}")
+        if kind == rt.REFUSED:
             self.refused[edit.label] = text
             self.alone[edit.label] = reason
             return say(f"{edit.label}: refused alone: {text}")
@@ -430,10 +434,10 @@ def noted():
 
 def note(results, sums):
     """Writes which crates were tried as they stand, and which edits were tried alone."""
-    done = {it.crate.name: sums[it.crate.name] for it in results if not it.bad}
+    done = {it.crate.name: sums[it.crate.name] for it in results if not it.bad and not it.weak}
     known = {**noted(), **done}
     for it in results:
-        if it.bad:
+        if it.bad or it.weak:
             known.pop(it.crate.name, None)
     with open(TRIED, "w", encoding="utf-8") as it:
         it.write("# A crate, and a sum of what its edits were tried over and refused; written by tests/edits.py.\n")
@@ -493,6 +497,9 @@ def summary(results, edits, left):
         say(f"{label}: NOT REFUSED: {why}")
     total = sum(len(it) for it in edits.values())
     say(f"edits: {total} of {len(edits)} crates; tried in this run: {tried}, in {checks} checks, {alone} of them alone; refused: {tried - len(bad)}")
+    weak = sorted(label for it in results for label in it.weak)
+    if weak:
+        say(f"refused by a name or a limit alone, which says little of a contract, so that others are wanted in their place: {' '.join(weak)}")
     if left:
         say(f"tried before as they stand, and left to their turn: {' '.join(left)}")
     say(f"{tried - len(bad)} passed, {len(bad)} failed")

@@ -22,8 +22,12 @@ import sys
 import tempfile
 import time
 
+sys.dont_write_bytecode = True
 TOP = os.path.dirname(os.path.dirname(os.path.abspath(__file__)))
-PROGRAMS = ("rows", "texts", "types", "memory", "memory_texts")
+sys.path.insert(0, f"{TOP}/tests")
+from room import files_of
+
+PROGRAMS = ("rows", "hostile", "texts", "types", "names", "published", "memory", "memory_texts")
 TOOL = "crates/asn_tool/out/asn_tool"
 
 
@@ -74,30 +78,36 @@ def edits(count, room):
 
 def stored(name):
     """What a test program reads, and what it has to write."""
-    given = f"tests/programs/{name}/stdin"
+    given = files_of(f"tests/programs/{name}").get("stdin", os.devnull)
     with open(f"tests/programs/{name}/stdout", "rb") as it:
-        return given if os.path.isfile(given) else os.devnull, it.read()
+        return given, it.read()
 
 
 def compare(count, room, name):
-    """Runs a test program, and compares what it writes with what is stored. It writes how many rows hold, or that each call does."""
+    """Runs a test program, and compares what it writes with what is stored. It writes how many rows hold, or that each call does.
+    Lines that begin with `counted: ` are shown and not compared."""
     given, wanted = stored(name)
     with open(given, "rb") as it:
         ran = subprocess.run([f"{room}/test_{name}"], stdin=it, stdout=subprocess.PIPE, stderr=subprocess.STDOUT)
     rows = re.match(rb"(\d+) rows", wanted)
-    well = ran.returncode == 0 and ran.stdout == wanted
+    counts = re.findall(rb"^counted: (.*)$", ran.stdout, re.M)
+    written = re.sub(rb"^counted: .*\n", b"", ran.stdout, flags=re.M)
+    well = ran.returncode == 0 and written == wanted
     if not well:
         say(ran.stdout.decode(errors="replace"))
+    for line in counts:
+        say(f"test_{name}: {line.decode()}")
     say(f"test_{name}: {'wrote what is stored' if well else f'DID NOT WRITE what is stored, with status {ran.returncode}'}: {wanted.split(chr(10).encode())[0].decode()}")
     count.add(f"test_{name}", int(rows[1]) if rows and well else int(well), int(not well))
 
 
 def tests(count, room):
-    words = [f"tests/programs/{it}" for it in ("outcomes", *PROGRAMS)]
+    words = [f"tests/programs/{it}" for it in ("outcomes", *PROGRAMS, "refused")]
     step(count, ["tests/room.py", "build", room, *words])
     for name in PROGRAMS:
         if os.path.isfile(f"{room}/test_{name}"):
             compare(count, room, name)
+    step(count, ["tests/octet_counts.py"])
     step(count, ["tests/refused_allocations.sh", room])
     step(count, ["examples/run.sh", TOOL])
     step(count, ["tests/versions.py", TOOL])

@@ -3,10 +3,11 @@
 #
 # usage: tests/refused_allocations.sh ROOM
 #
-# The programs `memory` and `memory_texts` of tests/programs, which tests/room.py has built in ROOM, make the calls of the
-# libraries: one call has to answer `Memory`, and each other call, and that one when it is made again, what it answers
-# where no allocation is refused. The runner asn_first and the program asn_tool, as `rt ci` has built them, have to end
-# with `memory` and status 3.
+# The programs `memory`, `memory_texts` and `refused` of tests/programs, which tests/room.py has built in ROOM, make the
+# calls of the libraries. Of the first two one call has to answer `Memory`, and each other call, and that one when it is
+# made again, what it answers where no allocation is refused. `refused` makes the calls on the rows of
+# tests/programs/rows again and again, and says itself which allocation is refused. The runner asn_first and the program
+# asn_tool, as `rt ci` has built them, have to end with `memory` and status 3.
 set -euo pipefail
 room=$(realpath "${1:?usage: tests/refused_allocations.sh ROOM}")
 cd "$(dirname "$0")/.."
@@ -60,7 +61,7 @@ refuse_each() { # the program, the folder of what it reads and writes, and the f
   done
   runs=$((number - 1))
   [ "$runs" -gt 0 ] || fail "$crate: no allocation was refused"
-  [ "$status" = 0 ] && cmp "$work/out" "$folder/stdout" ||
+  [ "$status" = "$(cat "$folder/status" 2>/dev/null || echo 0)" ] && cmp "$work/out" "$folder/stdout" ||
     fail "$crate does not write its answer where no allocation is refused"
 }
 
@@ -98,12 +99,15 @@ told_of 'empty in OER' open
 told_of BitSink push push_number push_octets push_length push_general_octets push_least_octets \
   push_least_signed_octets pad
 told_of BitCursor take_octets take_row
+told_of names sequence choice list of text misfit
+told_of 'missing name' sequence
+told_of 'unknown name' sequence item
 
 refuse_each "$room/test_memory_texts" tests/programs/memory_texts one_call_tells
 told_of value to_json from_json
 told_of shape from_json
-told_of module read print run
-told_of 'wrong text' read explain
+told_of module read print print_type run
+told_of 'wrong text' read read_explained explain
 told_of cycle read
 told_of 'empty range' read
 told_of 'deep type' read
@@ -113,6 +117,20 @@ for order in show check encode convert newer; do told_of "$order" run; done
 calls=$(grep -c '^memory' "$work/told")
 
 # Checked::copy and PER's open allocate nothing: no run tells that they were refused
+
+# ---- the calls of the libraries on rows, by a program that says itself which allocation is refused
+
+LD_PRELOAD="$refuse" timeout 300 "$room/test_refused" <tests/programs/rows/stdin >"$work/out" 2>"$work/err" ||
+  fail "rows: $(cat "$work/out" "$work/err")"
+[ ! -s "$work/err" ] || fail "rows: standard error: $(head -c 200 "$work/err")"
+for name in Checked::new encode decode decode_into 'open and feed' read_newer convert to_json from_json \
+  'from_json, of another shape' read 'read, of a text that is refused' print explain \
+  run,\ {show,check,encode,convert,newer,module}; do
+  grep -qE "^$name: [0-9]+ times; [1-9][0-9]* allocations refused and told" "$work/out" ||
+    fail "rows: no allocation of $name was refused"
+done
+grep -qE '^without memory: [1-9][0-9]* calls' "$work/out" || fail "rows: no call without memory"
+sed 's/^/rows: /' "$work/out"
 
 # ---- the runner and the program: the line `memory` and status 3, and of the output a beginning
 
@@ -126,5 +144,35 @@ refuse_each crates/asn_first/out/asn_first crates/asn_first ends_with_memory
 runner=$runs
 refuse_each crates/asn_tool/out/asn_tool crates/asn_tool ends_with_memory
 
-echo "refused allocations: $calls of the calls of the libraries, $runner of the runner and $runs of the program, each" \
-  "answered by memory"
+# other words of a command line, some of which ask for no job; examples/faults.sh judges what is answered to them. A few
+# allocations can be done without
+ends_or_answers() {
+  ends_with_memory || {
+    [ "$status" = "$(<"$folder/status")" ] && cmp -s "$work/out" "$folder/stdout" && cmp -s "$work/err" "$folder/stderr"
+  }
+}
+tool=$runs
+answered_to() { # what is read, and the words
+  local given=$work/words status=0
+  mkdir -p "$given"
+  printf '%b' "$1" >"$given/stdin"
+  shift
+  printf '%s\n' "$@" >"$given/args"
+  crates/asn_tool/out/asn_tool "$@" <"$given/stdin" >"$given/stdout" 2>"$given/stderr" || status=$?
+  echo "$status" >"$given/status"
+  refuse_each crates/asn_tool/out/asn_tool "$given" ends_or_answers
+  tool=$((tool + runs))
+}
+module='M DEFINITIONS AUTOMATIC TAGS ::= BEGIN N ::= NULL END\n'
+answered_to "$module" module
+answered_to "$module====\n00\nzz\n" check --type N --rules per
+answered_to "$module====\nnull\n" encode --rules=oer --type=N
+answered_to "$module====\n00\n" convert --type N --rules per
+answered_to "$module====\n00\n" newer --type X --rules per
+answered_to '' newest
+answered_to '' check --type N
+answered_to '' convert --type N --rules der
+answered_to '' --help
+
+echo "refused allocations: $calls of the calls of the libraries, beside those of the rows, $runner of the runner and" \
+  "$tool of the program, each answered by memory, or by the answer where the call can do without"

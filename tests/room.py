@@ -6,7 +6,8 @@ usage: tests/room.py lay ROOM PROGRAM..                lays out the room
        tests/room.py prove ROOM PROGRAM [-- WORD..]    proves, builds and runs one program: ROOM/crates/NAME/out/NAME
 
 A program is a folder with source files NAME.rt.in and a file `uses`, which is its line for crates.txt: its name, and the
-libraries that it uses. A library of the kind, which programs share, stands before them. A room is kept, so that a later
+libraries that it uses. A file `shared` names the files of other programs that are its own too, one a line, as they are
+found from its folder. A library of the kind, which programs share, stands before them. A room is kept, so that a later
 call does anew only what has changed. What is built without a proof is compiled from the sources of the crates, with the
 options of a build that is proved (unproved.py); the toolchain links a program with proved libraries only where the
 program itself is proved.
@@ -44,6 +45,13 @@ def crate_name(program):
     return text_of(f"{program}/uses").partition(":")[0].strip()
 
 
+def files_of(program):
+    """The paths of a program's files by their names: those of its folder, and those that `shared` names."""
+    found = {name: f"{program}/{name}" for name in os.listdir(program)}
+    shared = text_of(found["shared"]).split() if "shared" in found else []
+    return found | {os.path.basename(it): os.path.normpath(f"{program}/{it}") for it in shared}
+
+
 def lay(room, programs):
     """Lays out the crates of the repository, with what checks kept of them, and the programs beside them."""
     for name in os.listdir(f"{TOP}/crates"):
@@ -56,9 +64,9 @@ def lay(room, programs):
         source = f"{room}/crates/{crate_name(program)}/src"
         shutil.rmtree(source, ignore_errors=True)
         os.makedirs(source)
-        for name in sorted(os.listdir(program)):
+        for name, path in sorted(files_of(program).items()):
             if name.endswith(".rt.in"):
-                shutil.copy2(f"{program}/{name}", f"{source}/{name.removesuffix('.in')}")
+                shutil.copy2(path, f"{source}/{name.removesuffix('.in')}")
         lines.append(text_of(f"{program}/uses"))
     with open(f"{room}/crates.txt", "w", encoding="utf-8") as it:
         it.writelines(lines)

@@ -4,7 +4,7 @@ use Rattle.std.specs.List.{list_any}
 use Rattle.std.proofs.lemmas.Slice.Eq.{bytes_eq-Decides}
 use Rattle.asn_values.specs.Profile.{has_twice}
 use Rattle.asn_values.proofs.Parts.{left_false, right_false}
-use Rattle.asn_json.specs.Shown.{index_of}
+use Rattle.asn_view.specs.Names.{index_of}
 
 pub same_name : (xs : List ℕ) → bytes_eq xs xs ≡ true
 same_name xs = (bytes_eq-Decides xs xs).1 refl

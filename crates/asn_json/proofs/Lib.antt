@@ -2,7 +2,7 @@ pub mod Distinct
 pub mod Firsts
 pub mod LeavesBack
 pub mod MembersBack
-pub mod ItemNames
+pub mod TwoLists
 pub mod OneMember
 pub mod ReadBack
 pub mod ReadKinds

@@ -25,7 +25,7 @@ use Rattle.asn_json.specs.Written.{json_of, json_alternative, json_addition, mem
 use Rattle.asn_json.proofs.Distinct.{index_of_name, name_at, all_among}
 use Rattle.asn_json.proofs.LeavesBack.{integer_back, bits_back, octets_are_bytes, characters_back}
 use Rattle.asn_json.proofs.MembersBack.{names_append, errors_append, entries_append, members_append, fits_append, fits_more, members_more, errors_more, entries_more, all_written, all_known, AreBack, back_append, each_back}
-use Rattle.asn_json.proofs.ItemNames.{first_part, second_part}
+use Rattle.asn_json.proofs.TwoLists.{first_part, second_part}
 use Rattle.asn_json.proofs.NameIndexes.{many_names}
 use Rattle.asn_json.proofs.ReadKinds.{added_components, added_alternatives}
 

@@ -23,9 +23,10 @@ use Rattle.asn_values.proofs.Parts.{left_false}
 use Rattle.asn_values.proofs.Views.{sequence_of_fields, list_of_elements, choice_of_alternatives, datum_of-Seq, datum_of-List}
 use Rattle.asn_json.specs.declared.fault.JsonFault.{JsonFault}
 use Rattle.asn_json.specs.Errors.{errors, errors_at, added_errors_at, field_errors, added_errors, unknown_errors}
+use Rattle.asn_view.specs.Names.{index_of}
 use Rattle.asn_json.specs.Paths.{here, below, to_member}
 use Rattle.asn_json.specs.Readers.{TellsFirst, Shows, ShowsAfter, ShowsElements, ShowsAt}
-use Rattle.asn_json.specs.Shown.{value_of, value_at, added_value_at, added_entries, single, index_of, choice_names, component_names}
+use Rattle.asn_json.specs.Shown.{value_of, value_at, added_value_at, added_entries, single, choice_names, component_names}
 use Rattle.asn_json.proofs.Firsts.{tells_front}
 
 -- ---- a SEQUENCE

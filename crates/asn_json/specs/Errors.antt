@@ -9,9 +9,10 @@ use Rattle.asn_values.specs.Shape.{Shape, boolean, null, integer, enumerated, bi
 use Rattle.asn_values.specs.Fits.{Fits}
 use Rattle.asn_json.specs.declared.fault.JsonFault.{JsonFault}
 use Rattle.asn_json.specs.declared.fault.JsonFault.TheVariants as fault
+use Rattle.asn_view.specs.Names.{index_of}
 use Rattle.asn_json.specs.Paths.{here, to_member, to_element, below}
 use Rattle.asn_json.specs.Written.{item_names}
-use Rattle.asn_json.specs.Shown.{only_member, truth_in, nothing_in, number_in, item_in, bits_in, octets_in, characters_in, unicode_in, index_of, choice_names, component_names, value_of}
+use Rattle.asn_json.specs.Shown.{only_member, truth_in, nothing_in, number_in, item_in, bits_in, octets_in, characters_in, unicode_in, choice_names, component_names, value_of}
 
 -- one, at the node itself, where no value is read
 abbrev pub unless_read : Option Datum → List (List ℕ)

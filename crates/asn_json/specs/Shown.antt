@@ -1,5 +1,5 @@
 -- The value that JSON shows of a type, and where it is not of the type's shape.
-use Rattle.std.specs.Prelude.{◌-◌, ◌==◌, ◌||◌, ℕ, zero, suc, ℤ, Bool, List, [], ◌∷◌, ◌++◌, map, Option, Some, None, option_map, option_and_then, unwrap_or, nat_lt, if◌then◌else◌, bytes_eq}
+use Rattle.std.specs.Prelude.{◌-◌, ◌==◌, ◌||◌, ℕ, zero, suc, ℤ, Bool, List, [], ◌∷◌, ◌++◌, map, Option, Some, None, option_map, option_and_then, unwrap_or, nat_lt, if◌then◌else◌}
 use Rattle.std.specs.List.{list_all}
 use Rattle.std.specs.Result.{result_ok}
 use Rattle.hex.specs.Hex.{decode_of}
@@ -9,6 +9,7 @@ use Rattle.asn_values.specs.Datum.{Datum, truth, nothing, number, bit_list, octe
 use Rattle.asn_values.specs.Datum as datum
 use Rattle.asn_values.specs.Shape.{Shape, boolean, null, integer, enumerated, bit_string, octet_string, restricted, utf8_string, sequence, sequence_of, choice, Demand, must, optional, default, Fields, no_fields, field, MoreFields, closed, marked, more_fields, field_names, Alternatives, no_alternatives, one_of, MoreAlternatives, closed_choice, marked_choice, more_alternatives, alternative_names, count}
 use Rattle.asn_values.specs.Fits.{in_range}
+use Rattle.asn_view.specs.Names.{index_of}
 use Rattle.asn_json.specs.Written.{integers, item_names}
 
 -- ---- types without parts: the value, where the JSON is of the shape
@@ -25,11 +26,6 @@ if_integer z = if in_range integers z then Some (number z) else None
 
 abbrev pub number_in : Data → Option Datum
 number_in j = option_and_then if_integer (option_and_then as_integer (as_number j))
-
--- the index of the first of the names that is this one
-abbrev pub index_of : List ℕ → List (List ℕ) → Option ℕ
-index_of name [] = None
-index_of name (n ∷ names) = if bytes_eq n name then Some 0 else option_map suc (index_of name names)
 
 -- the name of an item
 abbrev pub item_in : List (List ℕ) → Data → Option Datum

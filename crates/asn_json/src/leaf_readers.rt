@@ -8,9 +8,9 @@ ghost use Rattle.asn_json.specs.Parts.{names_of_items};
 ghost use Rattle.asn_json.specs.Shown.{truth_in, nothing_in, number_in, item_in, is_bit_character, bits_in, octets_in, characters_in, unicode_in};
 
 use crate::leaves::INTEGERS;
-use crate::names::item_index;
 use asn_values::internal::is_between;
 use asn_values::{Item, Value};
+use asn_view::item_index;
 use hex::FromHexError;
 use serde_json::Value as Json;
 use std::alloc::{AllocError, Global};

@@ -1,14 +1,13 @@
 //! The JSON of values without parts.
-ghost use Rattle.std.specs.Prelude.{◌≡◌, ◌∷◌, IfOk, map, slice_get};
+ghost use Rattle.std.specs.Prelude.{◌≡◌, ◌∷◌, IfOk};
 ghost use Rattle.std.specs.Fmt.{signed_decimal};
 ghost use Rattle.serde_json.specs.Data.{null, string};
 ghost use Rattle.serde_json.specs.View.{view};
 ghost use Rattle.asn_values.specs.Datum.{number, item, bit_list, octet_list, characters};
-ghost use Rattle.asn_values.specs.View.{labels_seen};
 ghost use Rattle.asn_json.specs.Parts.{names_of_items};
-ghost use Rattle.asn_json.specs.Written.{integers, json_number, json_name, json_item, json_bits, json_octets, json_characters, label_names};
+ghost use Rattle.asn_json.specs.Written.{json_number, json_item, json_bits, json_octets, json_characters};
 
-use asn_values::internal::is_between;
+use asn_values::internal::{is_between, part_at};
 use asn_values::profile::{HIGHEST_INTEGER, LOWEST_INTEGER};
 use asn_values::{Bounds, Item};
 use serde_json::Value as Json;
@@ -41,13 +40,9 @@ pub(crate) fn item_json(
 ) -> Result<Json, AllocError>
     ensures { IfOk result (λ j. view j ≡ json_item (names_of_items root.now ext.now) (item index)) }
 {
-    let index = index as usize;
-    if index < root.len() {
-        return name_json(alloc, root, index);
-    }
-    match ext {
+    match part_at(root, ext, index as usize) {
+        Some(item) => Json::try_from_str(alloc, item.name.as_str()),
         None => Ok(Json::Null),
-        Some(more) => name_json(alloc, more, index - root.len()),
     }
 }
 
@@ -56,16 +51,6 @@ pub(crate) fn unknown_item_json(alloc: Global, number: i128) -> Result<Json, All
     ensures { IfOk result (λ j. view j ≡ string (63 ∷ signed_decimal number)) }
 {
     Ok(Json::from(format!(in alloc; "?{number}")?))
-}
-
-/// The name of the item at an index, or null where there is none.
-fn name_json(alloc: Global, items: &[Item], index: usize) -> Result<Json, AllocError>
-    ensures { IfOk result (λ j. view j ≡ json_name (slice_get (label_names (labels_seen items.now)) index)) }
-{
-    if index >= items.len() {
-        return Ok(Json::Null);
-    }
-    Json::try_from_str(alloc, items[index].name.as_str())
 }
 
 /// The JSON of bits: a character 0 or 1 for each.

@@ -1,47 +1,16 @@
-//! The indexes of names: of items, alternatives and components.
-ghost use Rattle.std.specs.Prelude.{◌≡◌, ◌↔◌, ◌≤◌, ◌<◌, ◌+◌, ◌^◌, ◌||◌, IfSome, IsTrue, option_map, option_and_then, length, bytes_eq};
+//! Alternatives and components by their names, and the members of objects.
+ghost use Rattle.std.specs.Prelude.{◌≡◌, ◌↔◌, ◌≤◌, ◌<◌, ◌+◌, IfSome, IsTrue, option_map, option_and_then, length, bytes_eq};
 ghost use Rattle.std.specs.List.{list_any};
 ghost use Rattle.serde_json.specs.Find.{as_object, get_member};
 ghost use Rattle.serde_json.specs.View.{view, members_view};
-ghost use Rattle.asn_values.specs.Shape.{more_labels, more_alternatives, alternative_names, count, field_names};
-ghost use Rattle.asn_values.specs.View.{more_labels_of, more_fields_of, more_alternatives_of, fields_seen, alternatives_seen, labels_seen};
-ghost use Rattle.asn_json.specs.Parts.{names_of_items};
-ghost use Rattle.asn_json.specs.Written.{label_names};
-ghost use Rattle.asn_json.specs.Shown.{index_of, choice_names, component_names, single};
+ghost use Rattle.asn_values.specs.Shape.{more_alternatives, count};
+ghost use Rattle.asn_values.specs.View.{more_fields_of, more_alternatives_of, fields_seen, alternatives_seen};
+ghost use Rattle.asn_view.specs.Names.{index_of};
+ghost use Rattle.asn_json.specs.Shown.{choice_names, component_names, single};
 
-use asn_values::{Alt, Field, Item};
+use asn_values::{Alt, Field};
+use asn_view::component_index;
 use serde_json::{Map, Value as Json};
-
-/// The index of the item of this name, root and then additions.
-pub(crate) fn item_index(root: &[Item], ext: &Option<Vec<Item>>, name: &str) -> Option<usize>
-    requires few { length root.now + length (more_labels (more_labels_of ext.now)) ≤ 256 }
-    ensures index { result ≡ index_of name.now (names_of_items root.now ext.now) }
-    ensures inside { IfSome result (λ p. p < 256) }
-{
-    match index_of_item(root, name) {
-        Some(index) => Some(index),
-        None => match ext {
-            None => None,
-            Some(more) => match index_of_item(more, name) {
-                None => None,
-                Some(index) => Some(root.len() + index),
-            },
-        },
-    }
-}
-
-/// The index of the first item of this name.
-fn index_of_item(items: &[Item], name: &str) -> Option<usize>
-    ensures index { result ≡ index_of name.now (label_names (labels_seen items.now)) }
-    ensures inside { IfSome result (λ p. p < length items.now) }
-{
-    for (index, item) in items.iter().enumerate() {
-        if *item.name.as_str() == *name {
-            return Some(index);
-        }
-    }
-    None
-}
 
 /// The index of the alternative of this name, root and then additions.
 pub(crate) fn alternative_index(root: &[Alt], ext: &Option<Vec<Alt>>, name: &str) -> Option<usize>
@@ -50,30 +19,7 @@ pub(crate) fn alternative_index(root: &[Alt], ext: &Option<Vec<Alt>>, name: &str
         ≡ index_of name.now (choice_names (alternatives_seen root.now) (more_alternatives_of ext.now)) }
     ensures inside { IfSome result (λ p. p < 63) }
 {
-    match index_of_alternative(root, name) {
-        Some(index) => Some(index),
-        None => match ext {
-            None => None,
-            Some(more) => match index_of_alternative(more, name) {
-                None => None,
-                Some(index) => Some(root.len() + index),
-            },
-        },
-    }
-}
-
-/// The index of the first alternative of this name.
-fn index_of_alternative(alternatives: &[Alt], name: &str) -> Option<usize>
-    ensures index { result
-        ≡ index_of name.now (alternative_names (alternatives_seen alternatives.now)) }
-    ensures inside { IfSome result (λ p. p < length alternatives.now) }
-{
-    for (index, alternative) in alternatives.iter().enumerate() {
-        if *alternative.name.as_str() == *name {
-            return Some(index);
-        }
-    }
-    None
+    asn_view::alternative_index(root, ext, name)
 }
 
 /// Whether a component has this name.
@@ -81,25 +27,7 @@ pub(crate) fn is_component(root: &[Field], ext: &Option<Vec<Field>>, name: &str)
     ensures { result ≡ list_any (bytes_eq name.now)
         (component_names (fields_seen root.now) (more_fields_of ext.now)) }
 {
-    if has_name(root, name) {
-        return true;
-    }
-    match ext {
-        None => false,
-        Some(more) => has_name(more, name),
-    }
-}
-
-/// Whether one of the components has this name.
-fn has_name(fields: &[Field], name: &str) -> bool
-    ensures { result ≡ list_any (bytes_eq name.now) (field_names (fields_seen fields.now)) }
-{
-    for field in fields {
-        if *name == *field.name.as_str() {
-            return true;
-        }
-    }
-    false
+    component_index(root, ext, name).is_some()
 }
 
 /// The value at this key of an object.

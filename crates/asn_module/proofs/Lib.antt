@@ -12,3 +12,5 @@ pub mod PrintedTypes
 pub mod PrintedModules
 pub mod Counts
 pub mod Lookups
+pub mod ItemIndexes
+pub mod UsedNames

@@ -1,5 +1,5 @@
 -- Names and their indexes: one name more in front, and what stands at an index.
-use Rattle.std.proofs.Common.{◌≡◌, ◌+◌, ◌-◌, ◌<◌, ◌≤◌, ℕ, zero, suc, Bool, true, false, cond, ◌||◌, List, [], ◌∷◌, get_or, drop, length, Option, Some, None, refl, sym, ap, ◌∙◌, arith}
+use Rattle.std.proofs.Common.{◌≡◌, ◌+◌, ◌-◌, ◌<◌, ◌≤◌, ℕ, zero, suc, Bool, true, false, cond, ◌||◌, List, [], ◌∷◌, map, get_or, drop, length, Option, Some, None, refl, sym, ap, ◌∙◌, arith}
 use denote.Ref.{Bor}
 use Rattle.std.specs.Prelude.{bytes_eq, string_bytes, is_some, MatchOption}
 use Rattle.std.specs.HashMap.{HashMap}
@@ -153,3 +153,14 @@ type_looked (n ∷ ns) q e = by_known n.known e (type_looked ns q)
             → cond b (Some (shape_of k.ty)) (type_in (types_of ns) q) ≡ shape_if (cond b (Some (known_view k)) (look ns q))
         by_test true h = refl
         by_test false h = h
+
+-- ---- the names of all types, where all are built
+
+pub names_typed : (ns : List Named) → unbuilt ns ≡ 0 → map (λ t. t.name) (types_of ns) ≡ names_in ns
+names_typed [] e = refl
+names_typed (n ∷ ns) e = by_known n.known e (names_typed ns)
+  where
+    by_known : (o : Option Known) → counted o (unbuilt ns) ≡ 0 → (unbuilt ns ≡ 0 → map (λ t. t.name) (types_of ns) ≡ names_in ns)
+        → map (λ t. t.name) (typed_if (string_bytes n.name) o (types_of ns)) ≡ string_bytes n.name ∷ names_in ns
+    by_known None e others = absurd (omega (arith, e))
+    by_known (Some k) e others = ap (λ names. string_bytes n.name ∷ names) (others e)

@@ -7,3 +7,5 @@ pub mod ModuleView
 pub mod Printing
 pub mod Counting
 pub mod Lookup
+pub mod TypeNames
+pub mod Uses

@@ -1,6 +1,7 @@
 //! What is wrong with a refused text, in words. No contract rests on what is answered here.
 
 use crate::fault::ModuleFault;
+use crate::places::{Place, marked, name_at, place_at};
 use asn_notation::{Lexeme, SyntaxFault, first_token, read_notation, skip_blank};
 use std::alloc::{AllocError, Global};
 
@@ -34,37 +35,6 @@ const TOKENS: [(&str, &str); 24] = [
     (")", "\")\""),
     (",", "\",\""),
 ];
-
-/// A place in a text, counted from 1 in lines and in the characters of a line, and the text before it.
-#[derive(Drop)]
-struct Place {
-    line: usize,
-    column: usize,
-    before: String,
-}
-
-fn place_at(alloc: Global, text: &str, at: usize) -> Result<Place, AllocError> {
-    let mut line: usize = 1;
-    let mut column: usize = 1;
-    let mut before = String::new(alloc);
-    for character in text.chars() {
-        if before.len() >= at {
-            break;
-        }
-        before.push(character)?;
-        if character == '\n' {
-            line = line.saturating_add(1);
-            column = 1;
-        } else {
-            column = column.saturating_add(1);
-        }
-    }
-    Ok(Place {
-        line,
-        column,
-        before,
-    })
-}
 
 /// The first octets of a text, up to the end of a character, in quotes.
 fn quoted(alloc: Global, text: &str, length: usize) -> Result<String, AllocError> {
@@ -134,42 +104,66 @@ fn expected(alloc: Global, before: &str) -> Result<String, AllocError> {
     Ok(all)
 }
 
-/// What is wrong with a text that `read` refused with this fault, in words: the line and the column, the token
-/// that stands there, and what could stand there instead. Of another fault than one of a character or a token, what
-/// `Display` says of it.
+/// What is wrong with a text that `read` refused with this fault, in words: the line and the column, what stands there,
+/// and what could stand there instead; then the line itself, and under it a mark at the column. A name that is assigned
+/// twice is shown at its second assignment, an unknown one where it is first referred to, and the name of a cycle or of
+/// a type that is none of the profile where it is assigned. Of a fault without a place, what `Display` says of it.
 ///
 /// # Errors
 /// `AllocError` where an allocation failed.
 pub fn explain(alloc: Global, text: &str, fault: &ModuleFault) -> Result<String, AllocError> {
     match fault {
         ModuleFault::Character { at } => {
-            let Place { line, column, .. } = place_at(alloc, text, *at)?;
             let token = token_at(alloc, text, *at)?;
-            format!(in alloc; "line {line}, column {column}: no token begins with {token}")
+            let words = format!(in alloc; "no token begins with {token}")?;
+            marked(alloc, text, &place_at(alloc, text, *at)?, &words)
         }
         ModuleFault::Unexpected { at } => {
-            let Place {
-                line,
-                column,
-                before,
-            } = place_at(alloc, text, *at)?;
-            let token = token_at(alloc, text, *at)?;
-            let wanted = expected(alloc, &before)?;
-            if wanted.is_empty() {
-                return format!(in alloc; "line {line}, column {column}: {token} is unexpected");
-            }
-            format!(in alloc; "line {line}, column {column}: {token} where {wanted} was expected")
+            let place = place_at(alloc, text, *at)?;
+            let words = unexpected(alloc, text, *at, &place)?;
+            marked(alloc, text, &place, &words)
         }
         ModuleFault::OutOfProfile { at } => {
-            let Place { line, column, .. } = place_at(alloc, text, *at)?;
-            let token = token_at(alloc, text, *at)?;
-            if *token.as_str() == *"\"(\"" {
-                return format!(in alloc;
-                    "line {line}, column {column}: a constraint that may not stand on this type"
-                );
-            }
-            format!(in alloc; "line {line}, column {column}: {token} is outside the profile")
+            let words = out_of_profile(alloc, &token_at(alloc, text, *at)?)?;
+            marked(alloc, text, &place_at(alloc, text, *at)?, &words)
         }
-        other => format!(in alloc; "{other}"),
+        ModuleFault::Unknown { name } => named(alloc, text, fault, name_at(text, name, false, 0)),
+        ModuleFault::Twice { name } => named(alloc, text, fault, name_at(text, name, true, 1)),
+        ModuleFault::Cycle { name } | ModuleFault::BadType { name, .. } => {
+            named(alloc, text, fault, name_at(text, name, true, 0))
+        }
+        ModuleFault::Memory => format!(in alloc; "{fault}"),
+    }
+}
+
+/// What is said of a token with which no module can go on.
+fn unexpected(alloc: Global, text: &str, at: usize, place: &Place) -> Result<String, AllocError> {
+    let token = token_at(alloc, text, at)?;
+    let wanted = expected(alloc, &place.before)?;
+    if wanted.is_empty() {
+        return format!(in alloc; "{token} is unexpected");
+    }
+    format!(in alloc; "{token} where {wanted} was expected")
+}
+
+/// What is said of a token that is outside the profile.
+fn out_of_profile(alloc: Global, token: &str) -> Result<String, AllocError> {
+    if *token == *"\"(\"" {
+        return String::from_str(alloc, "a constraint that may not stand on this type");
+    }
+    format!(in alloc; "{token} is outside the profile")
+}
+
+/// What `Display` says of a fault, at the octet where the name stands that it tells.
+fn named(
+    alloc: Global,
+    text: &str,
+    fault: &ModuleFault,
+    at: Option<usize>,
+) -> Result<String, AllocError> {
+    let words = format!(in alloc; "{fault}")?;
+    match at {
+        Some(at) => marked(alloc, text, &place_at(alloc, text, at)?, &words),
+        None => Ok(words),
     }
 }

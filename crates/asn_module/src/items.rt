@@ -7,7 +7,9 @@ ghost use Rattle.asn_notation.specs.Tree.{item_view, items_view};
 ghost use Rattle.asn_module.specs.Meaning as spec;
 
 use asn_notation::ItemNotation;
+use asn_values::profile::MAX_ITEMS;
 use asn_values::{AsnType, Item, Value};
+use asn_view::item_index;
 use std::alloc::{AllocError, Global};
 
 /// Whether one of the items carries a number.
@@ -68,16 +70,16 @@ pub(crate) fn items_from(
 fn item_named(items: &[Item], name: &str) -> Value
     ensures { datum_of result ≡ spec.item_named name.now 0 (map label_of items.now) }
 {
-    for (index, item) in items.iter().enumerate() {
-        if *item.name.as_str() == *name {
-            return if index < 256 {
+    match item_index(items, &None, name) {
+        Some(index) => {
+            if index < MAX_ITEMS {
                 Value::Enum(index as u32)
             } else {
                 Value::Null
-            };
+            }
         }
+        None => Value::Null,
     }
-    Value::Null
 }
 
 /// The value that an identifier names in a type; NULL, a value of no ENUMERATED, where it names none.

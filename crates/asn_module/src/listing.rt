@@ -23,7 +23,7 @@ pub(crate) struct Listed<'t> {
 }
 
 /// The text after BEGIN.
-fn after_begin<'t>(text: &'t str) -> &'t str {
+pub(crate) fn after_begin<'t>(text: &'t str) -> &'t str {
     let mut rest = text;
     'tokens: loop {
         match first_token(rest) {
@@ -35,7 +35,7 @@ fn after_begin<'t>(text: &'t str) -> &'t str {
 }
 
 /// Whether `::=` comes next.
-fn is_assignment(text: &str) -> bool {
+pub(crate) fn is_assignment(text: &str) -> bool {
     match first_token(text) {
         Some((Lexeme::Sign(sign), _)) => sign == Sign::Becomes,
         _ => false,

@@ -19,6 +19,8 @@ pub struct Module {
     pub(crate) types: Vec<Named>,
     /// The index of each name among the types.
     pub(crate) indices: HashMap<String, usize>,
+    /// The names to which types refer.
+    pub(crate) used: HashMap<String, ()>,
     ghost built: { unbuilt types.items ≡ 0 },
     ghost finds: { FindsText indices (names_in types.items) },
 }

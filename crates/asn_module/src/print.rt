@@ -1,10 +1,10 @@
 //! Prints a module.
 
-ghost use Rattle.std.specs.Prelude.{◌≡◌, ◌∷◌, [], ◌++◌, List, ℕ, IfOk, OnOk, string_bytes};
+ghost use Rattle.std.specs.Prelude.{◌≡◌, ◌∷◌, [], ◌++◌, List, ℕ, IfOk, OnOk, option_map, string_bytes};
 ghost use Rattle.asn_values.specs.View.{shape_of};
 ghost use Rattle.asn_notation.specs.Grammar as g;
 ghost use Rattle.asn_notation.specs.Printed.{line};
-ghost use Rattle.asn_module.specs.Accepted.{IsReadAgain, Typed};
+ghost use Rattle.asn_module.specs.Accepted.{IsReadAgain, Typed, type_in};
 ghost use Rattle.asn_module.specs.Known.{types_of};
 ghost use Rattle.asn_module.specs.ModuleView.{types_view};
 ghost use Rattle.asn_module.specs.Printing as spec;
@@ -83,5 +83,21 @@ impl Module {
         write_assignments(&mut out, alloc, &self.types)?;
         out.push_str("END\n")?;
         Ok(out)
+    }
+
+    /// The type of a name alone: its line, as `print` writes it. None where the module assigns no such name.
+    ///
+    /// # Errors
+    /// `AllocError` where an allocation failed.
+    pub fn print_type(&self, alloc: Global, name: &str) -> Result<Option<String>, AllocError>
+        ensures { IfOk result (λ text. option_map string_bytes text
+            ≡ option_map (spec.line_printed name.now) (type_in (types_view self.now).types name.now)) }
+    {
+        let Some(ty) = self.type_named(name) else {
+            return Ok(None);
+        };
+        let mut out = String::new(alloc);
+        write_assignment(&mut out, alloc, name, ty.get())?;
+        Ok(Some(out))
     }
 }

@@ -1,23 +1,27 @@
 //! Reads a module.
 
-ghost use Rattle.std.specs.Prelude.{◌≡◌, None, Some, ℕ, List, IfOk, IfErr, IfSome, MatchOption, MatchResult};
+ghost use Rattle.std.specs.Prelude.{◌≡◌, ◌⊎◌, None, Some, ℕ, List, IfOk, IfErr, IfSome, MatchOption, MatchResult};
 ghost use Rattle.asn_values.specs.View.{shape_of};
 ghost use Rattle.asn_module.specs.Accepted.{Accepted, ModuleTypes, type_in};
 ghost use Rattle.asn_module.specs.Known.{SeenAs};
 ghost use Rattle.asn_module.specs.ModuleView.{types_view};
+ghost use Rattle.asn_module.specs.Uses.{TellsUses, says_used};
 
 use crate::diagnosis::fault_of;
+use crate::explaining::explain;
 use crate::fault::{ModuleFault, Refusal};
 use crate::graph::{order_of, references_of};
 use crate::indexing::indices_of;
 use crate::listing::assignments_listed;
 use crate::module::{Module, find_type, index_names};
 use crate::table::types_of;
+use crate::uses::names_used;
 use asn_notation::{SyntaxFault, read_notation};
 use asn_values::Checked;
 use asn_values::profile::MAX_LEVELS;
 use std::alloc::Global;
 use std::collections::HashMap;
+use thiserror::Error;
 
 /// An order to build the types of a text of the grammar in. `indices` has the index of each name that is assigned.
 fn building_order<'t>(
@@ -40,6 +44,7 @@ fn building_order<'t>(
 pub(crate) fn module_of(alloc: Global, text: &str) -> Result<Option<Module>, Refusal>
     ensures accepted { IfOk result (λ o. IfSome o (λ m. Accepted text.now (types_view m))) }
     ensures refused { IfOk result (λ o. o ≡ None → (m : ModuleTypes) → Accepted text.now m → ⊥) }
+    ensures uses { IfOk result (λ o. IfSome o (λ m. TellsUses text.now m)) }
     ensures memory { IfErr result (λ e. e ≡ Refusal.Memory) }
 {
     let notation = match read_notation(alloc, text, MAX_LEVELS) {
@@ -55,10 +60,12 @@ pub(crate) fn module_of(alloc: Global, text: &str) -> Result<Option<Module>, Ref
         Some(types) => {
             let name = String::from_str(alloc, notation.name)?;
             let indices = index_names(alloc, &types)?;
+            let used = names_used(alloc, &notation.assignments)?;
             Ok(Some(Module {
                 name,
                 types,
                 indices,
+                used,
             }))
         }
         None => Ok(None),
@@ -75,6 +82,8 @@ pub(crate) fn module_of(alloc: Global, text: &str) -> Result<Option<Module>, Ref
 pub fn read(alloc: Global, text: &str) -> Result<Module, ModuleFault>
     // What is read is the module that the text is.
     ensures accepted { IfOk result (λ m. Accepted text.now (types_view m)) }
+    // It tells of each name whether a type of the text refers to it.
+    ensures uses { IfOk result (λ m. TellsUses text.now m) }
     // A text that is a module is read, unless an allocation failed.
     ensures refused { IfErr result (λ e. (e ≡ ModuleFault.Memory → ⊥) → (m : ModuleTypes) →
         Accepted text.now m → ⊥) }
@@ -86,11 +95,56 @@ pub fn read(alloc: Global, text: &str) -> Result<Module, ModuleFault>
     }
 }
 
+/// A text that is no module: the fault, and what `explain` says of it.
+#[derive(Debug, Drop, Error)]
+#[error("{words}")]
+pub struct RefusedText {
+    pub fault: ModuleFault,
+    pub words: String,
+}
+
+/// What `read` answers, and beside a fault what `explain` says of it: line, column, the line itself with a mark.
+///
+/// # Errors
+/// With the fault that `read` tells; with `Memory` and no words where an allocation failed, of `explain` too.
+pub fn read_explained(alloc: Global, text: &str) -> Result<Module, RefusedText>
+    ensures accepted { IfOk result (λ m. Accepted text.now (types_view m)) }
+    ensures uses { IfOk result (λ m. TellsUses text.now m) }
+    ensures refused { IfErr result (λ e. (e.fault ≡ ModuleFault.Memory → ⊥) → (m : ModuleTypes) →
+        Accepted text.now m → ⊥) }
+{
+    match read(alloc, text) {
+        Ok(module) => Ok(module),
+        Err(fault) => Err(explained(alloc, text, fault)),
+    }
+}
+
+/// The fault with its words.
+fn explained(alloc: Global, text: &str, fault: ModuleFault) -> RefusedText
+    ensures { (result.fault ≡ fault) ⊎ (result.fault ≡ ModuleFault.Memory) }
+{
+    match explain(alloc, text, &fault) {
+        Ok(words) => RefusedText { fault, words },
+        Err(_) => RefusedText {
+            fault: ModuleFault::Memory,
+            words: String::new(alloc),
+        },
+    }
+}
+
 impl Module {
     /// The type that the module assigns to a name; None where it assigns none. Takes no memory.
     pub fn type_named(&self, name: &str) -> Option<&Checked>
         ensures { SeenAs (λ t. shape_of t.now) result (type_in (types_view self.now).types name.now) }
     {
         find_type(&self.types, &self.indices, name)
+    }
+
+    /// Whether a type of the module refers to this name. None refers to itself, so it is another's. False of a name
+    /// that the module does not assign. Takes no memory.
+    pub fn is_used(&self, name: &str) -> bool
+        ensures { result ≡ says_used self.now name.now }
+    {
+        self.used.contains_key(name)
     }
 }

@@ -14,7 +14,7 @@ pub use Rattle.asn_rules.specs.IntegerSets.{IsWithin, unmarked}
 pub use Rattle.asn_rules.specs.Languages.{Inhabited}
 pub use Rattle.asn_rules.specs.Laws.{BeginningsAreLive, BeginningsAreNotRefused, EncodesAs, UnitsTellTheValue, OneValue, NoneBegins, RulesLaws, LiveIsClosed, LiveByParts, OneAnswer}
 pub use Rattle.asn_rules.specs.OctetReading.{AtOctet}
-pub use Rattle.asn_rules.specs.OctetsWritten.{Adds}
+pub use Rattle.asn_bits.specs.Numbers.{unpacked}
 pub use Rattle.asn_rules.specs.Parted.{SpellingsPart}
 pub use Rattle.asn_rules.specs.Reading.{RulesTell}
 pub use Rattle.asn_rules.specs.Rereading.{Keeps}

@@ -1,20 +1,20 @@
 //! INTEGER (X.696, "encoding of integer types"). A reader may leave one integer out, the excluded one: the DEFAULT of a
 //! component, which an encoder does not spell.
 ghost use Rattle.std.specs.Prelude.{◌≡◌, ◌≤ℤ◌, ◌<ℤ◌, ◌^◌, pos, Some, None, OnOk, IfSome, IsNone};
-ghost use Rattle.asn_oer.specs.Words.{lowest_integer, highest_integer, FitsNumber, number, integer, InProfile, range_of, Inhabited, AtOctet, Adds, IsWithin, unmarked, between, IsOfProfile, TellsWhether, unsigned_octets, signed_size, oer_octets, ranged, IntegersBut, IsBelowZero, IsCounted, ValuesOf, Reads, ReadsSome, StopsIn};
+ghost use Rattle.asn_oer.specs.Words.{lowest_integer, highest_integer, FitsNumber, number, integer, InProfile, range_of, Inhabited, AtOctet, IsWithin, unmarked, between, IsOfProfile, TellsWhether, unsigned_octets, signed_size, oer_octets, ranged, unpacked, IntegersBut, IsBelowZero, IsCounted, ValuesOf, Reads, ReadsSome, StopsIn};
 
+use asn_bits::BitCursor;
 use asn_bits::internal::at_offset;
-use asn_bits::{BitCursor, BitSink};
 use asn_rules::internal::{
     Stop, numbers_of, offsets_of, read_counted, read_counted_signed, read_octets,
     read_signed_octets, try_octets, try_signed_octets, write_fixed, write_least,
     write_least_signed,
 };
-use asn_rules::{EncodeFault, Why};
+use asn_rules::{Unwritten, Why};
+use asn_sinks::Sink;
 use asn_values::Bounds;
 use asn_values::internal::number_fits;
 use asn_values::profile::LOWEST_INTEGER;
-use std::alloc::AllocError;
 
 /// How many octets hold the numbers from 0 to `high` (X.696, "encoding of integer types").
 pub(crate) fn unsigned_size(high: i128) -> u32
@@ -146,19 +146,20 @@ fn read_signed(
 /// Writes a number, where it is one of the range (X.696, "encoding of integer types"). A range with an extension mark
 /// counts as none.
 #[inline(always)]
-pub(crate) fn write_integer(
+pub(crate) fn write_integer<S: Sink>(
     bounds: &Bounds,
     value: i128,
-    sink: &mut BitSink,
-) -> Result<(), EncodeFault>
+    sink: &mut S,
+) -> Result<(), Unwritten<S::Fault>>
     requires of_profile { InProfile (integer (range_of bounds.now)) }
     ensures of_type { TellsWhether result (FitsNumber (range_of bounds.now) value) }
-    ensures written { Adds result sink.old sink.new (oer_octets (integer (range_of bounds.now)) (number value)) }
+    ensures written { OnOk result (S.pushes sink.old sink.new
+        (unpacked (oer_octets (integer (range_of bounds.now)) (number value)))) }
 {
     match (bounds.low, bounds.high) {
         (Some(low), Some(high)) if !bounds.ext => {
             if value < low || high < value {
-                return Err(EncodeFault::NotOfType);
+                return Err(Unwritten::NotOfType);
             }
             let greatest = greatest(low as i64, high as i64);
             Ok(write_fixed(greatest, (value as i64).cast_unsigned(), sink)?)
@@ -183,14 +184,19 @@ fn greatest(low: i64, high: i64) -> u64
 /// Writes a number, where it is one of the range, after its length: unsigned from a bound on that is not negative, and
 /// else in two's complement.
 #[inline(never)]
-fn write_counted(bounds: &Bounds, value: i128, sink: &mut BitSink) -> Result<(), EncodeFault>
+fn write_counted<S: Sink>(
+    bounds: &Bounds,
+    value: i128,
+    sink: &mut S,
+) -> Result<(), Unwritten<S::Fault>>
     requires of_profile { InProfile (integer (range_of bounds.now)) }
     requires counted { IsCounted (range_of bounds.now) }
     ensures of_type { TellsWhether result (FitsNumber (range_of bounds.now) value) }
-    ensures written { Adds result sink.old sink.new (oer_octets (integer (range_of bounds.now)) (number value)) }
+    ensures written { OnOk result (S.pushes sink.old sink.new
+        (unpacked (oer_octets (integer (range_of bounds.now)) (number value)))) }
 {
     if !number_fits(bounds, value) {
-        return Err(EncodeFault::NotOfType);
+        return Err(Unwritten::NotOfType);
     }
     match bounds.low {
         Some(low) if low >= 0 && !bounds.ext => Ok(write_least(value as u64, sink)?),

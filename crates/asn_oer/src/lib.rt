@@ -9,4 +9,4 @@ mod rules;
 mod string_reader;
 mod write_leaves;
 
-pub use rules::{Oer, decode_into};
+pub use rules::Oer;

@@ -1,11 +1,14 @@
 //! Canonical OER as encoding rules: the encoder, and sessions that keep all octets and read them again with each piece.
-ghost use Rattle.std.specs.Prelude.{[], Ok, Err, IfErr, OnOk};
-ghost use Rattle.asn_oer.specs.Words.{shape_of, Decoded, Keeps, oer_ruling};
+ghost use Rattle.std.specs.Prelude.{[]};
+ghost use Rattle.asn_oer.specs.Words.{Keeps, oer_ruling};
 
 use asn_rules::internal::{self, Reads, Rereading, is_value_of_none};
-use asn_rules::{DecodeFault, EncodeFault, FeedFault, OpenFault, Rules, Step, Truncated};
+use asn_rules::{
+    Counted, DecodeFault, EncodeFault, EncodeToFault, FeedFault, OpenFault, Rules, Step, Truncated,
+};
 use asn_values::{Checked, Value};
 use std::alloc::{AllocError, Global};
+use std::io::Write;
 
 /// Canonical OER (X.696), as the walk over types and values asks for a set of encoding rules: its units are octets.
 #[derive(Debug)]
@@ -46,9 +49,38 @@ impl Rules for Oer {
         asn_walk_write::encode::<Oer>(alloc, ty, value)
     }
 
+    #[tactic(auto, unfolding(crate::specs::Walk::oer_coding))]
+    fn encode_to<W: Write>(
+        ty: &Checked,
+        value: &Value,
+        output: &mut Counted<W>,
+    ) -> Result<(), EncodeToFault> {
+        asn_walk_write::encode_to::<Oer, W>(ty, value, output)
+    }
+
     #[inline(always)]
     fn decode(alloc: Global, ty: &Checked, octets: &[u8]) -> Result<Value, DecodeFault> {
         internal::decode_at_once::<Oer>(alloc, ty, octets)
+    }
+
+    #[tactic(auto, unfolding(crate::specs::Walk::oer_coding))]
+    fn decode_into(
+        alloc: Global,
+        ty: &Checked,
+        octets: &[u8],
+        value: &mut Value,
+    ) -> Result<(), DecodeFault> {
+        asn_walk_into::decode_into::<Oer>(alloc, ty, octets, value)
+    }
+
+    #[tactic(auto, unfolding(crate::specs::Walk::oer_coding))]
+    fn decode_front_into(
+        alloc: Global,
+        ty: &Checked,
+        octets: &[u8],
+        value: &mut Value,
+    ) -> Result<usize, DecodeFault> {
+        asn_walk_into::decode_front_into::<Oer>(alloc, ty, octets, value)
     }
 
     fn open(alloc: Global, ty: Checked) -> Result<Rereading, OpenFault> {
@@ -64,23 +96,4 @@ impl Rules for Oer {
     }
 
     fn keep_laws() {}
-}
-
-/// Decodes the value of the type whose complete encoding the octets are into the one that is there, whose memory is
-/// used again as far as it serves: entries, elements, boxes and strings. Any value may be given, at first
-/// `Value::Null`. Only the first 268,435,455 octets are read.
-///
-/// # Errors
-/// As `asn_rules::decode`. What is left of the value then is some value.
-#[tactic(auto, unfolding(crate::specs::Walk::oer_coding))]
-pub fn decode_into(
-    alloc: Global,
-    ty: &Checked,
-    octets: &[u8],
-    value: &mut Value,
-) -> Result<(), DecodeFault>
-    ensures done { OnOk result (Decoded oer_ruling (Ok value.new) (shape_of ty.now) octets.now) }
-    ensures fault { IfErr result (λ why. Decoded oer_ruling (Err why) (shape_of ty.now) octets.now) }
-{
-    asn_walk_into::decode_into::<Oer>(alloc, ty, octets, value)
 }

@@ -2,25 +2,26 @@
 ghost use Rattle.std.specs.Prelude.{◌≤◌, length, map, OnOk};
 ghost use Rattle.asn_bits.specs.Numbers.{unpacked};
 ghost use Rattle.asn_oer.specs.Words.{joined, oer_coding, bit_octets, sized_octets, bits_header, bit_of, max_len, size_range_of};
+ghost use Rattle.asn_sinks.specs.declared.sink.Framing.TheVariants as framing;
 
 use crate::enumerated::write_item;
 use crate::integer::write_integer;
 use crate::rules::Oer;
-use asn_bits::BitSink;
-use asn_rules::EncodeFault;
+use asn_rules::Unwritten;
 use asn_rules::internal::{
     unused_bits, write_content, write_filling, write_flags, write_least, write_length,
 };
-use asn_sinks::Sink;
+use asn_sinks::{Framing, Sink};
 use asn_values::internal::{item_fits, length_fits, octets_fit, text_fits, unicode_fits};
 use asn_values::{AsnType, Bounds, Size, Value};
 use asn_walk::sizes::is_fixed;
 use asn_walk::{Index, WriteLeaves};
-use std::alloc::AllocError;
 
 #[tactic(auto, unfolding(crate::specs::Walk::oer_coding, crate::specs::Rules::oer_ruling))]
 impl WriteLeaves for Oer {
     ghost rules = { oer_coding };
+
+    ghost framed_by = { framing.Single };
 
     type Fragments = ();
 
@@ -28,7 +29,16 @@ impl WriteLeaves for Oer {
     ghost rest = { λ f items. joined items };
 
     #[inline(always)]
-    fn write_simple(ty: &AsnType, value: &Value, sink: &mut BitSink) -> Result<(), EncodeFault> {
+    fn framing() -> Framing {
+        Framing::Single
+    }
+
+    #[inline(always)]
+    fn write_simple<S: Sink>(
+        ty: &AsnType,
+        value: &Value,
+        sink: &mut S,
+    ) -> Result<(), Unwritten<S::Fault>> {
         match (ty, value) {
             (AsnType::Bool, Value::Bool(truth)) => {
                 Ok(sink.push_low_octets(1, 255 * u64::from(*truth))?)
@@ -51,42 +61,46 @@ impl WriteLeaves for Oer {
             (AsnType::Utf8, Value::Utf8(text)) if unicode_fits(text) => {
                 Ok(write_content(text.as_bytes(), sink)?)
             }
-            _ => Err(EncodeFault::NotOfType),
+            _ => Err(Unwritten::NotOfType),
         }
     }
 
     #[inline(always)]
-    fn write_number(bounds: &Bounds, value: i128, sink: &mut BitSink) -> Result<(), EncodeFault> {
+    fn write_number<S: Sink>(
+        bounds: &Bounds,
+        value: i128,
+        sink: &mut S,
+    ) -> Result<(), Unwritten<S::Fault>> {
         write_integer(bounds, value, sink)
     }
 
     #[inline(always)]
-    fn write_preamble(
+    fn write_preamble<S: Sink>(
         extended: Option<bool>,
         count: u32,
         bitmap: u64,
-        sink: &mut BitSink,
-    ) -> Result<(), AllocError> {
+        sink: &mut S,
+    ) -> Result<(), S::Fault> {
         write_flags(extended, count, bitmap, sink)
     }
 
-    fn write_addition_bitmap(
+    fn write_addition_bitmap<S: Sink>(
         count: u32,
         bitmap: u64,
-        sink: &mut BitSink,
-    ) -> Result<(), AllocError> {
+        sink: &mut S,
+    ) -> Result<(), S::Fault> {
         write_header(count as usize, sink)?;
         sink.push_number(count, bitmap)?;
         write_filling(count as usize, sink)
     }
 
     #[inline(always)]
-    fn write_index(
+    fn write_index<S: Sink>(
         root: usize,
         marked: bool,
         index: Index,
-        sink: &mut BitSink,
-    ) -> Result<(), AllocError> {
+        sink: &mut S,
+    ) -> Result<(), S::Fault> {
         let tag = match index {
             Index::Root(index) => index,
             Index::Added(index) => root + index,
@@ -96,21 +110,16 @@ impl WriteLeaves for Oer {
     }
 
     #[inline(always)]
-    fn write_open_octets(octets: &[u8], sink: &mut BitSink) -> Result<(), AllocError> {
-        write_content(octets, sink)
-    }
-
-    #[inline(always)]
-    fn start_list(size: &Size, count: usize, sink: &mut BitSink) -> Result<(), AllocError> {
+    fn start_list<S: Sink>(size: &Size, count: usize, sink: &mut S) -> Result<(), S::Fault> {
         write_least(count as u64, sink)
     }
 
     #[inline(always)]
-    fn next_fragment(
+    fn next_fragment<S: Sink>(
         fragments: &mut (),
         left: usize,
-        sink: &mut BitSink,
-    ) -> Result<Option<usize>, AllocError> {
+        sink: &mut S,
+    ) -> Result<Option<usize>, S::Fault> {
         if left == 0 {
             return Ok(None);
         }
@@ -118,11 +127,13 @@ impl WriteLeaves for Oer {
     }
 
     #[inline(always)]
-    fn complete(sink: BitSink) -> Result<Vec<u8>, AllocError> {
-        Ok(sink.into_octets())
+    fn complete<S: Sink>(sink: &mut S) -> Result<(), S::Fault> {
+        Ok(())
     }
 
     fn keep_write_laws() {}
+
+    fn keep_open_laws() {}
 }
 
 /// Writes octets, after their length unless the size is fixed.

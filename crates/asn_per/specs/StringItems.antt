@@ -10,7 +10,9 @@ use Rattle.asn_bits.specs.Lengths.{joined, general}
 use Rattle.asn_rules.specs.Chunks.{Chunk, one, ones, flat}
 use Rattle.asn_rules.specs.Components.{bit_of}
 use Rattle.asn_per.specs.Per.{spelled, sized, character_bits}
+use Rattle.asn_walk.specs.Writing.{Pushing, LeavesToWrite}
 use Rattle.asn_per.specs.Following.{following_chunks}
+use Rattle.asn_per.specs.Walk.{per_coding}
 use Rattle.asn_per.specs.Reading.{code_width}
 use Rattle.asn_per.specs.declared.sizes.Following.{Following}
 use Rattle.asn_per.specs.declared.string_items.Items.{Items}
@@ -52,6 +54,7 @@ HoldsText kind word text =
     ≡ joined (map (λ c. character_bits (alphabet_of kind) c) text)
 
 -- what stands in front of n items under a size is written, whatever they are, and they follow in this way
-abbrev pub FollowsSize : SizeRange → ℕ → List ℕ → List ℕ → Following → Type 0
-FollowsSize size n old new f =
-    (xs : List (List Chunk)) → length xs ≡ n → new ++ flat spelled (following_chunks f xs) ≡ old ++ sized_bits size xs
+abbrev pub FollowsSize : {Sink : Type 0} → Pushing Sink → SizeRange → ℕ → Sink → Sink → Following → Type 0
+FollowsSize push size n old new f =
+    (xs : List (List Chunk)) → length xs ≡ n
+    → LeavesToWrite push per_coding old (sized size xs) new (following_chunks f xs)

@@ -20,13 +20,13 @@ ghost use Rattle.asn_per.specs.Reading.{Reads, StopsIn, IntegersBut, IntegersBet
 
 use crate::indexes::read_extension_bit;
 use crate::sizes::write_extension_bit;
+use asn_bits::BitCursor;
 use asn_bits::internal::{at_offset, offset_from, width};
-use asn_bits::{BitCursor, BitSink};
 use asn_rules::internal::{
     NumberSet, OffsetSet, Stop, offsets_of, read_constrained, read_semi_constrained,
     read_unconstrained, try_number,
 };
-use asn_rules::{EncodeFault, Why};
+use asn_rules::{Unwritten, Why};
 use asn_sinks::Sink;
 use asn_values::Bounds;
 use asn_values::internal::{is_between, number_fits};
@@ -34,14 +34,15 @@ use asn_values::profile::{HIGHEST_INTEGER, INTEGER_COUNT, LOWEST_INTEGER};
 
 /// Writes a number, where it is one of the range (X.691, "encoding the integer type").
 #[inline(always)]
-pub(crate) fn write_integer(
+pub(crate) fn write_integer<S: Sink>(
     bounds: &Bounds,
     value: i128,
-    sink: &mut BitSink,
-) -> Result<(), EncodeFault>
+    sink: &mut S,
+) -> Result<(), Unwritten<S::Fault>>
     requires of_profile { InProfile (integer (range_of bounds.now)) }
     ensures of_type { TellsWhether result (FitsNumber (range_of bounds.now) value) }
-    ensures written { OnOk result (sink.new ≡ sink.old ++ per_bits (integer (range_of bounds.now)) (number value)) }
+    ensures written { OnOk result (S.pushes sink.old sink.new
+        (per_bits (integer (range_of bounds.now)) (number value))) }
 {
     if let (Some(low), Some(high)) = (bounds.low, bounds.high)
         && low <= value
@@ -81,14 +82,19 @@ fn write_between<S: Sink>(
 /// Writes a number that does not lie between two bounds, where it is one of the range: after the extension bit, from
 /// a low bound on as a semi-constrained whole number, and else as an unconstrained one.
 #[inline(never)]
-fn write_unbounded(bounds: &Bounds, value: i128, sink: &mut BitSink) -> Result<(), EncodeFault>
+fn write_unbounded<S: Sink>(
+    bounds: &Bounds,
+    value: i128,
+    sink: &mut S,
+) -> Result<(), Unwritten<S::Fault>>
     requires of_profile { InProfile (integer (range_of bounds.now)) }
     requires open { IsNotBetween (range_of bounds.now) value }
     ensures of_type { TellsWhether result (FitsNumber (range_of bounds.now) value) }
-    ensures written { OnOk result (sink.new ≡ sink.old ++ per_bits (integer (range_of bounds.now)) (number value)) }
+    ensures written { OnOk result (S.pushes sink.old sink.new
+        (per_bits (integer (range_of bounds.now)) (number value))) }
 {
     if !number_fits(bounds, value) {
-        return Err(EncodeFault::NotOfType);
+        return Err(Unwritten::NotOfType);
     }
     let inside = is_between(bounds, value);
     write_extension_bit(bounds.ext, !inside, sink)?;

@@ -13,4 +13,4 @@ mod string_items;
 mod string_reader;
 mod write_leaves;
 
-pub use rules::{Per, decode_into};
+pub use rules::Per;

@@ -1,14 +1,14 @@
 //! PER as encoding rules: the encoder, and sessions that keep all octets and read them again with each piece.
-ghost use Rattle.std.specs.Prelude.{IfErr, OnOk, Ok, Err};
-ghost use Rattle.asn_values.specs.View.{shape_of};
-ghost use Rattle.asn_rules.specs.Codec.{Decoded};
 ghost use Rattle.asn_rules.specs.Rereading.{Keeps};
 ghost use Rattle.asn_per.specs.Rules.{per_ruling};
 
 use asn_rules::internal::{self, Reads, Rereading};
-use asn_rules::{DecodeFault, EncodeFault, FeedFault, OpenFault, Rules, Step, Truncated};
+use asn_rules::{
+    Counted, DecodeFault, EncodeFault, EncodeToFault, FeedFault, OpenFault, Rules, Step, Truncated,
+};
 use asn_values::{Checked, Value};
 use std::alloc::{AllocError, Global};
+use std::io::Write;
 
 /// CANONICAL-PER UNALIGNED (X.691) as a set of encoding rules, whose units are bits.
 #[derive(Debug)]
@@ -49,9 +49,38 @@ impl Rules for Per {
         asn_walk_write::encode::<Per>(alloc, ty, value)
     }
 
+    #[tactic(auto, unfolding(crate::specs::Walk::per_coding))]
+    fn encode_to<W: Write>(
+        ty: &Checked,
+        value: &Value,
+        output: &mut Counted<W>,
+    ) -> Result<(), EncodeToFault> {
+        asn_walk_write::encode_to::<Per, W>(ty, value, output)
+    }
+
     #[inline(always)]
     fn decode(alloc: Global, ty: &Checked, octets: &[u8]) -> Result<Value, DecodeFault> {
         internal::decode_at_once::<Per>(alloc, ty, octets)
+    }
+
+    #[tactic(auto, unfolding(crate::specs::Walk::per_coding))]
+    fn decode_into(
+        alloc: Global,
+        ty: &Checked,
+        octets: &[u8],
+        value: &mut Value,
+    ) -> Result<(), DecodeFault> {
+        asn_walk_into::decode_into::<Per>(alloc, ty, octets, value)
+    }
+
+    #[tactic(auto, unfolding(crate::specs::Walk::per_coding))]
+    fn decode_front_into(
+        alloc: Global,
+        ty: &Checked,
+        octets: &[u8],
+        value: &mut Value,
+    ) -> Result<usize, DecodeFault> {
+        asn_walk_into::decode_front_into::<Per>(alloc, ty, octets, value)
     }
 
     fn open(alloc: Global, ty: Checked) -> Result<Rereading, OpenFault> {
@@ -67,23 +96,4 @@ impl Rules for Per {
     }
 
     fn keep_laws() {}
-}
-
-/// Decodes the value of the type whose complete encoding the octets are into the one that is there, whose memory is
-/// used again as far as it serves: entries, elements, boxes and strings. Any value may be given, at first
-/// `Value::Null`. Only the first 268,435,455 octets are read.
-///
-/// # Errors
-/// As `asn_rules::decode`. What is left of the value then is some value.
-#[tactic(auto, unfolding(crate::specs::Walk::per_coding))]
-pub fn decode_into(
-    alloc: Global,
-    ty: &Checked,
-    octets: &[u8],
-    value: &mut Value,
-) -> Result<(), DecodeFault>
-    ensures done { OnOk result (Decoded per_ruling (Ok value.new) (shape_of ty.now) octets.now) }
-    ensures fault { IfErr result (λ why. Decoded per_ruling (Err why) (shape_of ty.now) octets.now) }
-{
-    asn_walk_into::decode_into::<Per>(alloc, ty, octets, value)
 }

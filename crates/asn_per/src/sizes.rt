@@ -14,14 +14,13 @@ ghost use Rattle.asn_per.specs.StringItems.{FollowsSize};
 
 use crate::indexes::read_extension_bit;
 use asn_bits::internal::width;
-use asn_bits::{BitCursor, BitSink, Counts, Lengths};
+use asn_bits::{BitCursor, Counts, Lengths};
 use asn_rules::Why;
 use asn_rules::internal::{Stop, read_next_length, read_up_to};
 use asn_sinks::Sink;
 use asn_values::Size;
 use asn_values::internal::is_in_size;
 use asn_values::profile::{BLOCK, MAX_LEN};
-use std::alloc::AllocError;
 
 /// What follows of a list.
 #[derive(Drop)]
@@ -36,12 +35,12 @@ impl Following {
     /// Writes as far as the next items, of which `left` are left. Returns their count: `None` if no item is left.
     #[inline(always)]
     #[tactic(auto, unfolding(crate::specs::Walk::per_coding, crate::specs::Rules::per_ruling))]
-    pub(crate) fn next(
+    pub(crate) fn next<S: Sink>(
         &mut self,
         left: usize,
-        sink: &mut BitSink,
-    ) -> Result<Option<usize>, AllocError>
-        ensures { IfOk result (λ count. Proceeds self.old left sink.old self.new sink.new count) }
+        sink: &mut S,
+    ) -> Result<Option<usize>, S::Fault>
+        ensures { IfOk result (λ count. Proceeds S.pushes self.old left sink.old self.new sink.new count) }
     {
         match self {
             Following::Items => {
@@ -67,13 +66,13 @@ impl Following {
 
 /// Writes what stands before `count` items under a size: the extension bit where there is an extension mark, and in
 /// the root the count where there is an upper bound (X.691, "constrained whole number"). Returns what follows.
-pub(crate) fn write_size(
+pub(crate) fn write_size<S: Sink>(
     size: &Size,
     count: usize,
-    sink: &mut BitSink,
-) -> Result<Following, AllocError>
+    sink: &mut S,
+) -> Result<Following, S::Fault>
     requires { FitsLength (size_range_of size.now) count }
-    ensures { IfOk result (λ f. FollowsSize (size_range_of size.now) count sink.old sink.new f) }
+    ensures { IfOk result (λ f. FollowsSize S.pushes (size_range_of size.now) count sink.old sink.new f) }
 {
     let inside = is_in_size(size, count);
     write_extension_bit(size.ext, !inside, sink)?;

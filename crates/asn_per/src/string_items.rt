@@ -14,7 +14,7 @@ ghost use Rattle.asn_per.specs.StringItems.{item_chunks, AreOfKind, row_bits, si
 ghost use Rattle.asn_per.specs.Kinds.{Bit};
 
 use crate::sizes::write_size;
-use asn_bits::{BitCursor, BitSink};
+use asn_bits::BitCursor;
 use asn_rules::Why;
 use asn_rules::internal::{NumberSet, Stop, admits, bit_at, bits_left, power_of_two, read_number};
 use asn_sinks::Sink;
@@ -30,14 +30,15 @@ pub(crate) enum Items<'a> {
 }
 
 /// Writes items under a size (X.691, "encoding the bitstring type" and those of the other strings).
-pub(crate) fn write_sized(
+pub(crate) fn write_sized<S: Sink>(
     size: &Size,
     items: Items<'_>,
-    sink: &mut BitSink,
-) -> Result<(), AllocError>
+    sink: &mut S,
+) -> Result<(), S::Fault>
     requires of_type { FitsLength (size_range_of size.now) (length (item_chunks items)) }
     requires of_kind { AreOfKind items }
-    ensures { OnOk result (sink.new ≡ sink.old ++ sized_bits (size_range_of size.now) (item_chunks items.entry)) }
+    ensures { OnOk result (S.pushes sink.old sink.new
+        (sized_bits (size_range_of size.now) (item_chunks items.entry))) }
 {
     let count = count_of(items);
     let mut following = write_size(size, count, sink)?;

@@ -1,6 +1,9 @@
 //! What PER writes by itself: the simple types, and the parts of the composite ones.
+ghost use Rattle.std.specs.Prelude.{◌≤◌, ◌<◌, ◌^◌, OnOk};
+ghost use Rattle.asn_bits.specs.Numbers.{bits};
 ghost use Rattle.asn_per.specs.Following.{following_chunks};
 ghost use Rattle.asn_per.specs.Walk.{per_coding};
+ghost use Rattle.asn_sinks.specs.declared.sink.Framing.TheVariants as framing;
 
 use crate::indexes::{self, write_small_length};
 use crate::integers::write_integer;
@@ -8,23 +11,33 @@ use crate::items::write_item;
 use crate::rules::Per;
 use crate::sizes::{Following, write_size};
 use crate::string_items::{Items, write_sized};
-use asn_bits::BitSink;
-use asn_rules::EncodeFault;
+use asn_rules::Unwritten;
+use asn_sinks::{Framing, Sink};
 use asn_values::internal::{item_fits, length_fits, octets_fit, text_fits, unicode_fits};
 use asn_values::{AsnType, Bounds, Size, Value};
 use asn_walk::{Index, WriteLeaves};
-use std::alloc::AllocError;
 
 #[tactic(auto, unfolding(crate::specs::Walk::per_coding, crate::specs::Rules::per_ruling))]
 impl WriteLeaves for Per {
     ghost rules = { per_coding };
+
+    ghost framed_by = { framing.General };
 
     type Fragments = Following;
 
     ghost rest = { following_chunks };
 
     #[inline(always)]
-    fn write_simple(ty: &AsnType, value: &Value, sink: &mut BitSink) -> Result<(), EncodeFault> {
+    fn framing() -> Framing {
+        Framing::General
+    }
+
+    #[inline(always)]
+    fn write_simple<S: Sink>(
+        ty: &AsnType,
+        value: &Value,
+        sink: &mut S,
+    ) -> Result<(), Unwritten<S::Fault>> {
         match (ty, value) {
             (AsnType::Bool, Value::Bool(truth)) => Ok(sink.push(*truth)?),
             (AsnType::Null, Value::Null) => Ok(()),
@@ -45,78 +58,85 @@ impl WriteLeaves for Per {
             (AsnType::Utf8, Value::Utf8(text)) if unicode_fits(text) => {
                 Ok(sink.push_general_octets(text.as_bytes())?)
             }
-            _ => Err(EncodeFault::NotOfType),
+            _ => Err(Unwritten::NotOfType),
         }
     }
 
     #[inline(always)]
-    fn write_number(bounds: &Bounds, value: i128, sink: &mut BitSink) -> Result<(), EncodeFault> {
+    fn write_number<S: Sink>(
+        bounds: &Bounds,
+        value: i128,
+        sink: &mut S,
+    ) -> Result<(), Unwritten<S::Fault>> {
         write_integer(bounds, value, sink)
     }
 
     #[inline(always)]
-    fn write_preamble(
+    fn write_preamble<S: Sink>(
         extended: Option<bool>,
         count: u32,
         bitmap: u64,
-        sink: &mut BitSink,
-    ) -> Result<(), AllocError> {
-        if let Some(extended) = extended {
-            sink.push(extended)?;
-        }
-        if count > 0 {
-            sink.push_number(count, bitmap)?;
-        }
-        Ok(())
+        sink: &mut S,
+    ) -> Result<(), S::Fault> {
+        let Some(extended) = extended else {
+            return write_bitmap(count, bitmap, sink);
+        };
+        sink.push(extended)?;
+        write_bitmap(count, bitmap, sink)
     }
 
-    fn write_addition_bitmap(
+    fn write_addition_bitmap<S: Sink>(
         count: u32,
         bitmap: u64,
-        sink: &mut BitSink,
-    ) -> Result<(), AllocError> {
+        sink: &mut S,
+    ) -> Result<(), S::Fault> {
         write_small_length(count, sink)?;
         sink.push_number(count, bitmap)
     }
 
     #[inline(always)]
-    fn write_index(
+    fn write_index<S: Sink>(
         root: usize,
         marked: bool,
         index: Index,
-        sink: &mut BitSink,
-    ) -> Result<(), AllocError> {
+        sink: &mut S,
+    ) -> Result<(), S::Fault> {
         indexes::write_index(root, marked, index, sink)
     }
 
     #[inline(always)]
-    fn write_open_octets(octets: &[u8], sink: &mut BitSink) -> Result<(), AllocError> {
-        sink.push_general_octets(octets)
-    }
-
-    #[inline(always)]
-    fn start_list(size: &Size, count: usize, sink: &mut BitSink) -> Result<Following, AllocError> {
+    fn start_list<S: Sink>(size: &Size, count: usize, sink: &mut S) -> Result<Following, S::Fault> {
         write_size(size, count, sink)
     }
 
     #[inline(always)]
-    fn next_fragment(
+    fn next_fragment<S: Sink>(
         fragments: &mut Following,
         left: usize,
-        sink: &mut BitSink,
-    ) -> Result<Option<usize>, AllocError> {
+        sink: &mut S,
+    ) -> Result<Option<usize>, S::Fault> {
         fragments.next(left, sink)
     }
 
     #[inline(always)]
-    fn complete(sink: BitSink) -> Result<Vec<u8>, AllocError> {
-        let mut sink = sink;
-        if sink.is_empty() {
-            sink.push_number(8, 0)?;
-        }
-        sink.pad()?;
-        Ok(sink.into_octets())
+    fn complete<S: Sink>(sink: &mut S) -> Result<(), S::Fault> {
+        sink.fill(true)
     }
 
     fn keep_write_laws() {}
+
+    fn keep_open_laws() {}
+}
+
+/// Writes a presence bitmap of `count` bits.
+#[inline(always)]
+fn write_bitmap<S: Sink>(count: u32, bitmap: u64, sink: &mut S) -> Result<(), S::Fault>
+    requires few { count ≤ 64 }
+    requires within { bitmap < 2 ^ count }
+    ensures { OnOk result (S.pushes sink.old sink.new (bits count bitmap)) }
+{
+    if count == 0 {
+        return Ok(());
+    }
+    sink.push_number(count, bitmap)
 }

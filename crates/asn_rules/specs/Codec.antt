@@ -30,3 +30,14 @@ Decoded r (Err (decode.Truncated taken)) t o = (taken ≡ length (r.units o)) ×
 Decoded r (Err (decode.Rest used)) t o = (used < length o) × (d : Datum) × Answer r t (take max_octets o) (done d used)
 Decoded r (Err decode.TooLong) t o = Answer r t (take max_octets o) too_long
 Decoded r (Err decode.Memory) t o = ⊤
+
+-- What is told of the encoding that the octets o begin with, of which the first max_octets are read at most: how many
+-- octets it has, and its value, which is v then; or why none is found, as above. What follows it is not looked at, so
+-- no rest is told.
+abbrev pub DecodedFront : Ruling → Result ℕ DecodeFault → Value → Shape → List ℕ → Type 0
+DecodedFront r (Ok used) v t o = Answer r t (take max_octets o) (done (datum_of v) used)
+DecodedFront r (Err (decode.Refused at why)) v t o = Answer r t (take max_octets o) (refused at)
+DecodedFront r (Err (decode.Truncated taken)) v t o = (taken ≡ length (r.units o)) × Answer r t o more
+DecodedFront r (Err (decode.Rest used)) v t o = ⊥
+DecodedFront r (Err decode.TooLong) v t o = Answer r t (take max_octets o) too_long
+DecodedFront r (Err decode.Memory) v t o = ⊤

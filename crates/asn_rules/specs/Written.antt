@@ -1,5 +1,6 @@
 -- What was written to a writer.
-use Rattle.std.specs.Prelude.{◌≡◌, ◌-◌, ◌^◌, ◌++◌, ℕ, min, List, length}
+use Rattle.std.specs.Prelude.{◌≡◌, ◌<◌, ◌-◌, ◌^◌, ◌++◌, ℕ, min, List, length}
+use Rattle.std.specs.List.{AllByRecursion}
 use Rattle.std.specs.Io.KnownBytes.{Appends}
 use Rattle.asn_bits.specs.Numbers.{unpacked}
 use Rattle.asn_rules.specs.Faults.{State, Rose}
@@ -7,6 +8,7 @@ use Rattle.asn_rules.specs.Faults.{State, Rose}
 -- octets whose bits are these were written, and there was no fault
 pub record Wrote (old new : State) (bits : List ℕ) : Type 0 where
   pub octets : List ℕ
+  pub are_octets : AllByRecursion (λ o. o < 256) octets
   pub appended : Appends old.octets new.octets octets
   pub whole : unpacked octets ≡ bits
   pub faults : new.faults ≡ old.faults
@@ -14,6 +16,7 @@ pub record Wrote (old new : State) (bits : List ℕ) : Type 0 where
 -- the first octets of them were written, and then there was a fault
 pub record Broke (old new : State) (sent : ℕ) (bits : List ℕ) : Type 0 where
   pub octets : List ℕ
+  pub are_octets : AllByRecursion (λ o. o < 256) octets
   pub rest : List ℕ
   pub appended : Appends old.octets new.octets octets
   pub begins : unpacked octets ++ rest ≡ bits

@@ -3,6 +3,7 @@
 ghost use Rattle.std.specs.Prelude.{◌≡◌};
 ghost use Rattle.asn_rules.specs.declared.fault.EncodeFault.TheVariants as encode;
 ghost use Rattle.asn_rules.specs.declared.fault.DecodeFault.TheVariants as decode;
+ghost use Rattle.asn_rules.specs.declared.fault.Unwritten.TheVariants as unwritten;
 ghost use Rattle.asn_rules.specs.Reasons.{word_of, reason_in_number, reason_in_count};
 
 use std::alloc::{AllocError, AllocFailed};
@@ -73,7 +74,7 @@ impl fmt::Display for Why {
 /// Why a value is not encoded.
 #[derive(Clone, Copy, Debug, PartialEq, Eq, Error)]
 pub enum EncodeFault {
-    /// The value is none of the type.
+    /// The value does not fit the type.
     #[error("not of type")]
     NotOfType = 1,
     /// The encoding would have more than 268,435,455 octets.
@@ -82,6 +83,29 @@ pub enum EncodeFault {
     /// An allocation failed.
     #[error("memory")]
     Memory = 3,
+}
+
+/// Why a value is not written to a writer.
+#[derive(Clone, Copy, Debug, PartialEq, Eq, Error)]
+pub enum EncodeToFault {
+    /// The value does not fit the type. Nothing was written.
+    #[error("not of type")]
+    NotOfType,
+    /// The encoding would have more than 268,435,455 octets. Nothing was written.
+    #[error("too long")]
+    TooLong,
+    /// A write failed, after the first `sent` octets of the encoding.
+    #[error("write failed after {sent} octets")]
+    Write { sent: u64 },
+}
+
+/// Why a value is not written into a sink.
+#[derive(Clone, Copy, Debug, Drop)]
+pub enum Unwritten<F> {
+    /// The value does not fit the type.
+    NotOfType,
+    /// The sink does not take its bits.
+    Full(F),
 }
 
 /// Why octets are not decoded.
@@ -109,6 +133,14 @@ impl From<AllocError> for EncodeFault {
 
     fn from(_: AllocError) -> EncodeFault {
         EncodeFault::Memory
+    }
+}
+
+impl<F> From<F> for Unwritten<F> {
+    ghost from_gives = { λ fault e. e ≡ unwritten.Full fault };
+
+    fn from(fault: F) -> Unwritten<F> {
+        Unwritten::Full(fault)
     }
 }
 

@@ -1,17 +1,21 @@
 //! Encoding rules as a trait, and what is built on any of them.
-ghost use Rattle.std.specs.Prelude.{◌≤◌, IfOk, IfErr, [], vec_len};
+ghost use Rattle.std.specs.Prelude.{◌≡◌, ◌≤◌, IfOk, IfErr, OnOk, Ok, Err, [], vec_len};
 ghost use Rattle.asn_values.specs.Shape.{Shape};
 ghost use Rattle.asn_values.specs.View.{shape_of, datum_of};
 ghost use Rattle.asn_rules.specs.Answer.{Ruling, IsEncoding, max_octets};
-ghost use Rattle.asn_rules.specs.Codec.{NotEncoded, Decoded};
+ghost use Rattle.asn_rules.specs.Codec.{NotEncoded, Decoded, DecodedFront};
+ghost use Rattle.asn_rules.specs.Delivered.{Encoded, NotDelivered};
+ghost use Rattle.asn_rules.specs.Faults.{state_of};
 ghost use Rattle.asn_rules.specs.Laws.{RulesLaws};
 ghost use Rattle.asn_rules.specs.Reading.{RulesTell};
 ghost use Rattle.asn_rules.specs.Sessions.{Past, waiting, Feeds, Finished};
 
-use crate::fault::{DecodeFault, EncodeFault};
+use crate::counting::Counted;
+use crate::fault::{DecodeFault, EncodeFault, EncodeToFault};
 use crate::session::{FeedFault, OpenFault, Step, Truncated};
 use asn_values::{Checked, Value};
 use std::alloc::Global;
+use std::io::Write;
 
 /// Encoding rules: an encoder, sessions that take an encoding in pieces, and the laws that both keep.
 ///
@@ -31,12 +35,29 @@ pub trait Rules {
     /// The encoding of a value of the type.
     ///
     /// # Errors
-    /// `NotOfType` where the value is none of the type, `TooLong` where it is and its encoding has more than
+    /// `NotOfType` where the value does not fit the type, `TooLong` where it fits and its encoding has more than
     /// 268,435,455 octets, `Memory` where it is and an allocation failed.
     fn encode(alloc: Global, ty: &Checked, value: &Value) -> Result<Vec<u8>, EncodeFault>
         ensures encoding { IfOk result (λ o. IsEncoding ruling (shape_of ty.now) (datum_of value.now) o.items) }
         ensures within { IfOk result (λ o. vec_len o ≤ max_octets) }
         ensures fault { IfErr result (λ why. NotEncoded ruling why (shape_of ty.now) (datum_of value.now)) };
+
+    /// Writes the encoding of a value of the type to a writer, piece by piece. It takes no memory, and does not flush the
+    /// writer.
+    ///
+    /// # Errors
+    /// `NotOfType` where the value does not fit the type, `TooLong` where it fits and its encoding has more than
+    /// 268,435,455 octets; both before the first write. `Write` where a write failed: the first `sent` octets of the
+    /// encoding were written. Nothing is tried again.
+    fn encode_to<W: Write>(
+        ty: &Checked,
+        value: &Value,
+        output: &mut Counted<W>,
+    ) -> Result<(), EncodeToFault>
+        ensures written { OnOk result (Encoded ruling (shape_of ty.now) (datum_of value.now)
+            (state_of W.contents output.old) (state_of W.contents output.new)) }
+        ensures fault { IfErr result (λ why. NotDelivered ruling why (shape_of ty.now) (datum_of value.now)
+            (output.new ≡ output.old) (state_of W.contents output.old) (state_of W.contents output.new)) };
 
     /// The value of the type whose complete encoding the octets are: what `asn_rules::decode` answers.
     ///
@@ -44,6 +65,34 @@ pub trait Rules {
     /// As `asn_rules::decode`.
     fn decode(alloc: Global, ty: &Checked, octets: &[u8]) -> Result<Value, DecodeFault>
         ensures { Decoded ruling result (shape_of ty.now) octets.now };
+
+    /// Decodes the value of the type whose complete encoding the octets are into the one that is there, whose memory is
+    /// used again as far as it serves: entries, elements, boxes and strings. Any value may be given, at first
+    /// `Value::Null`. Only the first 268,435,455 octets are read.
+    ///
+    /// # Errors
+    /// As `asn_rules::decode`. What is left of the value then is some value.
+    fn decode_into(
+        alloc: Global,
+        ty: &Checked,
+        octets: &[u8],
+        value: &mut Value,
+    ) -> Result<(), DecodeFault>
+        ensures done { OnOk result (Decoded ruling (Ok value.new) (shape_of ty.now) octets.now) }
+        ensures fault { IfErr result (λ why. Decoded ruling (Err why) (shape_of ty.now) octets.now) };
+
+    /// Decodes the value of the type whose encoding the octets begin with, as `decode_into`, and gives how many octets
+    /// the encoding has. Those that follow it are not looked at.
+    ///
+    /// # Errors
+    /// As `asn_rules::decode`, but for `Rest`. What is left of the value then is some value.
+    fn decode_front_into(
+        alloc: Global,
+        ty: &Checked,
+        octets: &[u8],
+        value: &mut Value,
+    ) -> Result<usize, DecodeFault>
+        ensures { DecodedFront ruling result value.new (shape_of ty.now) octets.now };
 
     /// A session for a value of the type, which has taken no octet.
     ///
@@ -94,4 +143,35 @@ pub fn decode<R: Rules>(alloc: Global, ty: &Checked, octets: &[u8]) -> Result<Va
     ensures { Decoded R.ruling result (shape_of ty.now) octets.now }
 {
     R::decode(alloc, ty, octets)
+}
+
+/// Decodes the value of the type whose complete encoding the octets are into the one that is there: see
+/// `Rules::decode_into`.
+///
+/// # Errors
+/// As `decode`. What is left of the value then is some value.
+#[inline(always)]
+pub fn decode_into<R: Rules>(
+    alloc: Global,
+    ty: &Checked,
+    octets: &[u8],
+    value: &mut Value,
+) -> Result<(), DecodeFault>
+    ensures done { OnOk result (Decoded R.ruling (Ok value.new) (shape_of ty.now) octets.now) }
+    ensures fault { IfErr result (λ why. Decoded R.ruling (Err why) (shape_of ty.now) octets.now) }
+{
+    R::decode_into(alloc, ty, octets, value)
+}
+
+/// The encoding of a value of the type: see `Rules::encode`.
+///
+/// # Errors
+/// As `Rules::encode`.
+#[inline(always)]
+pub fn encode<R: Rules>(alloc: Global, ty: &Checked, value: &Value) -> Result<Vec<u8>, EncodeFault>
+    ensures encoding { IfOk result (λ o. IsEncoding R.ruling (shape_of ty.now) (datum_of value.now) o.items) }
+    ensures within { IfOk result (λ o. vec_len o ≤ max_octets) }
+    ensures fault { IfErr result (λ why. NotEncoded R.ruling why (shape_of ty.now) (datum_of value.now)) }
+{
+    R::encode(alloc, ty, value)
 }

@@ -1,17 +1,12 @@
 -- The alternatives of a CHOICE: how many there are, the one at an index, and which values they have.
-use Rattle.std.proofs.Common.{◌≡◌, ◌↔◌, ◌<◌, ◌≤◌, ◌-◌, ℕ, zero, suc, Bool, IsTrue, true, false, List, [], ◌∷◌, map, length, get_or, Option, Vec, Global, nat_lt, refl, ap, ◌∙◌, rules, arith}
-use Rattle.std.specs.Global.{Box}
-use Rattle.std.proofs.lemmas.Bool.{le-ltb, lt-ltb}
+use Rattle.std.proofs.Common.{◌≡◌, ◌↔◌, ◌<◌, ◌≤◌, ℕ, zero, suc, IsTrue, false, List, [], ◌∷◌, map, length, get_or, refl, ap, ◌∙◌, rules, arith}
 use Rattle.std.proofs.lemmas.List.{length-map}
 use Rattle.asn_values.specs.declared.types.Alt.{Alt}
-use Rattle.asn_values.specs.declared.types.AsnType.{AsnType, Choice, the_lemmas}
-use Rattle.asn_values.specs.declared.value.Value.{Value}
-use Rattle.asn_values.specs.declared.value.Value.TheVariants as value
-use Rattle.asn_values.specs.Datum.{Datum, alternative}
-use Rattle.asn_values.specs.Shape.{MoreAlternatives, closed_choice, marked_choice, choice, count}
-use Rattle.asn_values.specs.Fits.{Fits, FitsAlternative, FitsChoice}
-use Rattle.asn_values.specs.View.{Branch, shape_of, datum_of, branch_of, alternatives_of, more_alternatives_of}
-use Rattle.asn_values.proofs.Views.{choice_of_alternatives, datum_of-Choice}
+use Rattle.asn_values.specs.declared.types.AsnType.{the_lemmas}
+use Rattle.asn_values.specs.Datum.{Datum}
+use Rattle.asn_values.specs.Shape.{count}
+use Rattle.asn_values.specs.Fits.{Fits, FitsAlternative}
+use Rattle.asn_values.specs.View.{Branch, shape_of, branch_of, alternatives_of}
 
 -- how many there are
 pub count-alternatives : (bs : List Branch) → count (alternatives_of bs) ≡ length bs

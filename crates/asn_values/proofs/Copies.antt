@@ -1,5 +1,5 @@
 -- A value that is made of the same parts is the same value.
-use Rattle.std.proofs.Common.{◌≡◌, ℕ, Bool, List, map, option_map, Option, Vec, Global, ap, ◌∙◌, sym}
+use Rattle.std.proofs.Common.{◌≡◌, ℕ, Bool, map, option_map, Option, Vec, Global, ap, ◌∙◌, sym}
 use Rattle.asn_values.specs.declared.value.Value.{Value}
 use Rattle.asn_values.specs.declared.value.Value.TheVariants as value
 use Rattle.asn_values.specs.Datum.{components, components_of, bit_list, octet_list, characters}

@@ -1,17 +1,10 @@
 -- The elements of a SEQUENCE OF, in a type's values and in two values that are compared.
-use Rattle.std.proofs.Common.{◌≡◌, ◌↔◌, Bool, IsTrue, List, map, length, Vec, Global, ap, ◌∙◌, sym}
-use Rattle.std.specs.Global.{Box}
-use Rattle.std.specs.List.{AllByRecursion}
-use Rattle.std.proofs.lemmas.List.{length-map}
-use Rattle.asn_values.specs.declared.types.AsnType.{AsnType, SeqOf}
-use Rattle.asn_values.specs.declared.types.Size.{Size}
+use Rattle.std.proofs.Common.{◌≡◌, ◌↔◌, Bool, IsTrue, List, map, Vec, Global, ap, ◌∙◌, sym}
 use Rattle.asn_values.specs.declared.value.Value.{Value}
 use Rattle.asn_values.specs.declared.value.Value.TheVariants as value
 use Rattle.asn_values.specs.Datum.{Datum, elements, elements_of, element_list}
-use Rattle.asn_values.specs.Shape.{SizeRange, Shape, sequence_of}
-use Rattle.asn_values.specs.Fits.{Fits, FitsLength}
-use Rattle.asn_values.specs.View.{shape_of, datum_of, size_range_of}
-use Rattle.asn_values.proofs.Views.{list_of_elements, datum_of-List, element_list-elements_of}
+use Rattle.asn_values.specs.View.{datum_of}
+use Rattle.asn_values.proofs.Views.{datum_of-List, element_list-elements_of}
 
 -- ---- two lists
 

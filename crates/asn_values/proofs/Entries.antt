@@ -1,15 +1,13 @@
 -- The entries of a SEQUENCE, one for each component.
-use Rattle.std.proofs.Common.{◌≡◌, ◌≢◌, ◌↔◌, ◌∙◌, ℕ, suc, min, sym, IsTrue, Bool, List, [], ◌∷◌, map, length, take, drop, Option, option_map, Vec, Global, refl, ap}
-use Rattle.std.proofs.lemmas.List.{length-map, take_min, drop_min, take-map, drop-map}
+use Rattle.std.proofs.Common.{◌≡◌, ◌≢◌, ◌↔◌, suc, List, [], ◌∷◌, map, length, take, drop, Option, option_map, refl, ap}
+use Rattle.std.proofs.lemmas.List.{length-map}
 use Rattle.asn_values.specs.declared.types.Field.{Field}
-use Rattle.asn_values.specs.declared.types.AsnType.{AsnType, Seq}
 use Rattle.asn_values.specs.declared.value.Value.{Value}
-use Rattle.asn_values.specs.declared.value.Value.TheVariants as value
 use Rattle.asn_values.specs.Datum.{Datum, components, components_of}
-use Rattle.asn_values.specs.Shape.{Fields, no_fields, field, sequence, closed, marked, demands}
-use Rattle.asn_values.specs.Fits.{Fits, FitsEach, FitsMore, FitsSequence}
-use Rattle.asn_values.specs.View.{Part, shape_of, datum_of, fields_of, part_of_field, more_fields_of}
-use Rattle.asn_values.proofs.Views.{component_list-components_of, sequence_of_fields, datum_of-Seq}
+use Rattle.asn_values.specs.Shape.{Fields, no_fields, field, sequence, closed, demands}
+use Rattle.asn_values.specs.Fits.{Fits, FitsEach, FitsMore}
+use Rattle.asn_values.specs.View.{Part, datum_of, fields_of, part_of_field}
+use Rattle.asn_values.proofs.Views.{component_list-components_of}
 
 -- the root's part and nothing after it is one entry for each component of the root
 pub each_of_closed : (fs : Fields) (es : List (Option Datum)) → FitsEach fs es ↔ (FitsEach fs (take (length (demands fs)) es) × FitsMore closed (drop (length (demands fs)) es))

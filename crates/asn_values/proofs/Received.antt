@@ -1,6 +1,6 @@
 -- Values with unknown items and alternatives where they are asked for: one entry for each component, the alternative
 -- with an index, the elements of a list; and that where they are not asked for, these are the values of the type.
-use Rattle.std.proofs.Common.{◌≡◌, ◌≢◌, ◌↔◌, ◌∙◌, ◌<◌, ◌≤◌, ◌-◌, ℕ, zero, suc, min, sym, IsTrue, Bool, true, false, List, [], ◌∷◌, map, length, take, drop, get_or, nat_lt, Option, Some, None, option_map, MatchBool, Vec, Global, refl, ap, rules, arith}
+use Rattle.std.proofs.Common.{◌≡◌, ◌≢◌, ◌↔◌, ◌∙◌, ◌<◌, ◌≤◌, ◌-◌, ℕ, zero, suc, min, sym, IsTrue, Bool, true, false, List, [], ◌∷◌, map, length, take, drop, get_or, nat_lt, Option, Some, None, option_map, MatchBool, Vec, Global, refl, ap, arith}
 use Rattle.std.specs.Global.{Box}
 use Rattle.std.specs.List.{AllByRecursion}
 use Rattle.std.proofs.lemmas.Bool.{le-ltb, lt-ltb}
@@ -11,9 +11,9 @@ use Rattle.asn_values.specs.declared.types.Size.{Size}
 use Rattle.asn_values.specs.declared.types.AsnType.{AsnType, Seq, SeqOf, Choice}
 use Rattle.asn_values.specs.declared.value.Value.{Value}
 use Rattle.asn_values.specs.declared.value.Value.TheVariants as value
-use Rattle.asn_values.specs.Datum.{Datum, truth, nothing, number, item, bit_list, octet_list, characters, unicode, components, components_of, component_list, elements, elements_of, element_list, alternative, unknown_item, unknown_alternative}
+use Rattle.asn_values.specs.Datum.{Datum, item, components, components_of, component_list, elements, elements_of, element_list, alternative}
 use Rattle.asn_values.specs.Shape.{SizeRange, Shape, boolean, null, integer, enumerated, bit_string, octet_string, restricted, utf8_string, sequence, sequence_of, choice, Fields, no_fields, field, must, optional, default, MoreFields, closed, marked, demands, count, Alternatives, no_alternatives, one_of, MoreAlternatives, closed_choice, marked_choice}
-use Rattle.asn_values.specs.Fits.{Fits, FitsLength, FitsEach, FitsMore, FitsAlternative, FitsMoreAlternatives, FitsSequence, FitsChoice}
+use Rattle.asn_values.specs.Fits.{Fits, FitsLength, FitsEach, FitsMore, FitsAlternative, FitsMoreAlternatives}
 use Rattle.asn_values.specs.Received.{FitsBy, FitsEachBy, FitsMoreBy, FitsAlternativeBy, FitsMoreAlternativesBy, SequenceBy, ChoiceBy}
 use Rattle.asn_values.specs.View.{Part, shape_of, datum_of, size_range_of, fields_of, part_of_field, more_fields_of, branch_of, alternatives_of, more_alternatives_of}
 use Rattle.asn_values.proofs.Views.{component_list-components_of, sequence_of_fields, datum_of-Seq, choice_of_alternatives, datum_of-Choice, list_of_elements, datum_of-List, element_list-elements_of}

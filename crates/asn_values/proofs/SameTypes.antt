@@ -1,5 +1,5 @@
 -- Two types are the same where their parts are.
-use Rattle.std.proofs.Common.{◌≡◌, ◌↔◌, Bool, false, IsTrue, List, [], ◌∷◌, map, Option, Some, None, Vec, Global, refl, ap, ap₂, sym, ◌∙◌}
+use Rattle.std.proofs.Common.{◌≡◌, ◌↔◌, Bool, false, IsTrue, List, [], ◌∷◌, map, Option, Some, Vec, Global, refl, ap, ap₂, sym, ◌∙◌}
 use mathlib.Core.Bool.{true≢false}
 use Rattle.asn_values.specs.declared.types.Alt.{Alt}
 use Rattle.asn_values.specs.declared.types.Field.{Field}

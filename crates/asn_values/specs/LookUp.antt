@@ -1,8 +1,8 @@
 -- The first component, item or alternative of a name in a type, root before additions.
-use Rattle.std.specs.Prelude.{ℕ, Bool, List, [], ◌∷◌, ◌++◌, Option, Some, None, cond, bytes_eq}
+use Rattle.std.specs.Prelude.{ℕ, Bool, List, [], ◌∷◌, Option, Some, None, cond, bytes_eq}
 use Rattle.std.specs.Option.{option_or}
 use Rattle.std.specs.Global.{Vec}
-use Rattle.asn_values.specs.Shape.{Label, more_labels, Shape, enumerated, sequence, choice, Fields, no_fields, field, append_fields, more_fields, Alternatives, no_alternatives, one_of, more_alternatives}
+use Rattle.asn_values.specs.Shape.{Label, more_labels, Shape, enumerated, sequence, choice, Fields, no_fields, field, more_fields, Alternatives, no_alternatives, one_of, more_alternatives}
 use Rattle.asn_values.specs.View.{Part, Branch}
 
 abbrev pub first_label : List ℕ → List Label → Option Label

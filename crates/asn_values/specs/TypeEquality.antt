@@ -1,5 +1,5 @@
 -- When two types are equal, as a test.
-use Rattle.std.specs.Prelude.{◌≡◌, ◌==◌, ◌&&◌, ℕ, ℤ, Bool, true, false, List, [], ◌∷◌, Option, Some, None, Decides, bytes_eq}
+use Rattle.std.specs.Prelude.{◌≡◌, ◌==◌, ◌&&◌, ℕ, ℤ, Bool, true, false, List, Option, Some, None, Decides, bytes_eq}
 use Rattle.std.proofs.Common.{refl, ap, sym, ◌∙◌, subst}
 use mathlib.Core.Bool.{true≢false, beq}
 use Rattle.std.specs.Cmp.{booleans_Decides, unsigned_Decides, signed_Decides, first_so, second_so, decided, partial_equiv_from_equiv, IsPartialEquivalence}

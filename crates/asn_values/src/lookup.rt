@@ -1,6 +1,6 @@
-//! Components, items and alternatives by their names.
-ghost use Rattle.std.specs.Prelude.{◌≡◌, option_map, bytes_eq};
-ghost use Rattle.asn_values.specs.LookUp.{first_where, first_part, item_named, component_named, alternative_named};
+//! Components, items and alternatives by their names and indexes.
+ghost use Rattle.std.specs.Prelude.{◌≡◌, ◌++◌, option_map, bytes_eq, slice_get};
+ghost use Rattle.asn_values.specs.LookUp.{added, first_where, first_part, item_named, component_named, alternative_named};
 ghost use Rattle.asn_values.specs.View.{shape_of, label_of, part_of_field, branch_of};
 
 use crate::names::Named;
@@ -39,6 +39,26 @@ impl AsnType {
             _ => None,
         }
     }
+}
+
+/// The parts after an extension marker, if there is one.
+pub fn additions<T>(ext: &Option<Vec<T>>) -> &[T]
+    ensures { result.now ≡ added ext.now }
+{
+    match ext {
+        Some(more) => more.as_slice(),
+        None => &[],
+    }
+}
+
+/// What stands at an index, root before additions.
+pub fn part_at<'a, T>(root: &'a [T], ext: &'a Option<Vec<T>>, index: usize) -> Option<&'a T>
+    ensures { option_map (λ t. t.now) result ≡ slice_get (root.now ++ added ext.now) index }
+{
+    if index < root.len() {
+        return root.get(index);
+    }
+    additions(ext).get(index - root.len())
 }
 
 /// The first of this name in the root, or else among the additions.

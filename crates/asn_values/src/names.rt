@@ -6,7 +6,7 @@ ghost use Rattle.asn_values.specs.Profile as profile;
 use crate::types::{Alt, Field, Item};
 
 /// What has a name in a type.
-pub(crate) trait Named {
+pub trait Named {
     ghost name_of: { Self → List ℕ };
 
     /// Its name.

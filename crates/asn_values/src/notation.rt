@@ -1,6 +1,7 @@
 //! Values as text, in X.680's value notation.
 ghost use Rattle.std.specs.Prelude.{◌≡◌};
 
+use crate::lookup::part_at;
 use crate::types::{Alt, AsnType, Field, Item};
 use crate::value::Value;
 use std::fmt;
@@ -193,16 +194,5 @@ fn element_of<'a>(ty: Option<&'a AsnType>) -> Option<&'a AsnType> {
     match ty {
         Some(AsnType::SeqOf(element, _)) => Some(element),
         _ => None,
-    }
-}
-
-/// What stands at an index, root before additions.
-fn part_at<'a, T>(root: &'a [T], ext: &'a Option<Vec<T>>, index: usize) -> Option<&'a T> {
-    if index < root.len() {
-        return Some(&root[index]);
-    }
-    match ext {
-        Some(more) => more.get(index - root.len()),
-        None => None,
     }
 }

@@ -10,22 +10,29 @@ use Rattle.asn_values.specs.declared.types.AsnType.{AsnType, Seq, Choice, the_le
 use Rattle.asn_values.specs.declared.types.AsnType.TheVariants as asn_type
 use Rattle.asn_values.specs.Datum.{Datum, item, alternative}
 use Rattle.asn_values.specs.LookUp.{added}
-use Rattle.asn_values.specs.View.{Part, Branch, shape_of, label_of, part_of_field, branch_of}
+use Rattle.asn_values.specs.View.{Part, shape_of, label_of, part_of_field, branch_of}
 use Rattle.asn_values.proofs.Views.{shape_of-Enum, shape_of-Seq, shape_of-Choice}
 use Rattle.asn_view.specs.declared.given.Given.{Given}
 use Rattle.asn_view.specs.Names.{index_of, item_names, alternative_names}
 use Rattle.asn_view.specs.Seen.{parts_seen}
-use Rattle.asn_view.specs.Built.{NamedPart, text_given, item_of, datum_given, entry_given, given_for, entries_given, after, are_names_of, entries_of_type, of_entries, sequence_given, branch_given, among_branches, choice_given}
+use Rattle.asn_view.specs.Built.{NamedPart, text_given, item_given, item_of, datum_given, entry_given, given_for, entries_given, after, are_names_of, entries_of_type, of_entries, sequence_given, branch_given, among_branches, choice_given}
 use Rattle.asn_view.proofs.PartLists.{maps, all_parts, all_branches, all_labels}
 
 -- ---- an item
 
-pub text_of_items : (t : AsnType) (s : List ℕ) (root : Vec Item Global) (ext : Option (Vec Item Global)) → t ≡ asn_type.Enum root ext →
-    text_given (shape_of t) s ≡ option_map item (index_of s (item_names (root.items ++ added ext)))
-text_of_items t s root ext et =
-    ap (λ u. text_given u s) (ap shape_of et ∙ shape_of-Enum root ext)
-    ∙ ap (item_of s) (all_labels root ext)
-    ∙ ap (λ names. option_map item (index_of s names)) (maps label_of (λ l. l.name) (root.items ++ added ext))
+-- the item of that name, in the type and as the program's lists have it
+pub item_of_type : (t : AsnType) (s : List ℕ) (root : Vec Item Global) (ext : Option (Vec Item Global)) → t ≡ asn_type.Enum root ext →
+    item_given (shape_of t) s ≡ item_of s (map label_of (root.items ++ added ext))
+item_of_type t s root ext et = ap (λ u. item_given u s) (ap shape_of et ∙ shape_of-Enum root ext) ∙ ap (item_of s) (all_labels root ext)
+
+pub text_of_item : (t : AsnType) (s : List ℕ) (root : Vec Item Global) (ext : Option (Vec Item Global)) → t ≡ asn_type.Enum root ext →
+    text_given (shape_of t) s ≡ item_given (shape_of t) s
+text_of_item t s root ext et =
+    let shape = ap shape_of et ∙ shape_of-Enum root ext in
+    ap (λ u. text_given u s) shape ∙ sym (ap (λ u. item_given u s) shape)
+
+pub item_by_index : (s : List ℕ) (items : List Item) → item_of s (map label_of items) ≡ option_map item (index_of s (item_names items))
+item_by_index s items = ap (λ names. option_map item (index_of s names)) (maps label_of (λ l. l.name) items)
 
 -- ---- entries
 

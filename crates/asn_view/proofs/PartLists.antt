@@ -1,5 +1,5 @@
 -- The parts of a value, as the program holds them and as the type has them.
-use Rattle.std.proofs.Common.{◌≡◌, ◌+◌, ℕ, List, [], ◌∷◌, ◌++◌, map, drop, slice_get, length, Option, Some, None, Bor, Vec, Global, refl, ap, ap₂, sym, ◌∙◌, rules}
+use Rattle.std.proofs.Common.{◌≡◌, ℕ, List, [], ◌∷◌, ◌++◌, map, slice_get, length, Option, Some, None, Vec, Global, refl, ap, ap₂, sym, ◌∙◌, rules}
 use Rattle.std.specs.Option.{option_map}
 use Rattle.std.proofs.lemmas.List.{map-append, length-map}
 use Rattle.std.proofs.lemmas.Option.{slice_get-map}
@@ -13,8 +13,8 @@ use Rattle.asn_values.specs.declared.types.AsnType.TheVariants as asn_type
 use Rattle.asn_values.specs.declared.value.Value.{Value}
 use Rattle.asn_values.specs.declared.value.Value as values
 use Rattle.asn_values.specs.declared.value.Value.TheVariants as value
-use Rattle.asn_values.specs.Datum.{Datum, item, component_list, element_list}
-use Rattle.asn_values.specs.Shape.{Shape, boolean, null, integer, enumerated, bit_string, octet_string, restricted, utf8_string, sequence, sequence_of, choice, Fields, more_labels, more_fields, more_alternatives}
+use Rattle.asn_values.specs.Datum.{Datum, item}
+use Rattle.asn_values.specs.Shape.{Shape, boolean, null, integer, enumerated, bit_string, octet_string, restricted, utf8_string, sequence, sequence_of, choice, more_labels, more_fields, more_alternatives}
 use Rattle.asn_values.specs.LookUp.{added}
 use Rattle.asn_values.specs.View.{Part, Branch, fields_of, alternatives_of, shape_of, datum_of, label_of, part_of_field, branch_of, entries_seen, more_labels_of, more_fields_of, more_alternatives_of}
 use Rattle.asn_values.proofs.Views.{shape_of-Enum, shape_of-Seq, shape_of-SeqOf, shape_of-Choice, datum_of-Seq, datum_of-List, datum_of-Choice, component_list-components_of, element_list-elements_of}

@@ -30,7 +30,8 @@ value_at_step (c ∷ cs) v = value_at_index (c ∷ cs) v (index_in (c ∷ cs))
 abbrev pub value_after : List ℕ → List ℕ → Option Typed → Option Typed
 value_after piece [] v = option_and_then (value_at_step piece) v
 value_after piece (c ∷ cs) v =
-    cond (is_separator c) (value_after [] cs (option_and_then (value_at_step piece) v)) (value_after (piece ++ c ∷ []) cs v)
+    cond (is_separator c)
+    (value_after [] cs (option_and_then (value_at_step piece) v)) (value_after (piece ++ c ∷ []) cs v)
 
 abbrev pub value_at_path : List ℕ → Typed → Option Typed
 value_at_path path v = value_after [] path (Some v)

@@ -1,8 +1,8 @@
 -- A value beside its type, and its parts by their names and indexes (X.680).
-use Rattle.std.specs.Prelude.{◌+◌, ◌-◌, ◌*◌, ◌&&◌, ◌==◌, ℕ, ℤ, Bool, List, [], ◌∷◌, ◌++◌, length, map, drop, slice_get, Option, Some, None, option_map, option_and_then, nat_le, nat_lt, cond, bytes_eq}
+use Rattle.std.specs.Prelude.{ℕ, ℤ, Bool, List, [], ◌∷◌, ◌++◌, length, map, drop, slice_get, Option, Some, None, option_map, cond, bytes_eq}
 use Rattle.std.specs.Option.{option_or}
-use Rattle.asn_values.specs.Datum.{Datum, truth, nothing, number, item, bit_list, octet_list, characters, unicode, components, component_list, elements, element_list, alternative, unknown_item, unknown_alternative}
-use Rattle.asn_values.specs.Shape.{Shape, boolean, null, integer, enumerated, bit_string, octet_string, restricted, utf8_string, sequence, sequence_of, choice, Label, MoreLabels, more_labels, Demand, must, optional, default, Fields, no_fields, field, more_fields, append_fields, Alternatives, no_alternatives, one_of, more_alternatives}
+use Rattle.asn_values.specs.Datum.{Datum, truth, number, item, bit_list, octet_list, characters, unicode, components, component_list, elements, element_list, alternative}
+use Rattle.asn_values.specs.Shape.{Shape, enumerated, sequence, sequence_of, choice, Label, more_labels, Demand, must, optional, default, Fields, no_fields, field, more_fields, Alternatives, no_alternatives, one_of, more_alternatives}
 use Rattle.asn_values.specs.View.{Part, Branch}
 
 -- a value beside its type

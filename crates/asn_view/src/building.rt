@@ -1,27 +1,41 @@
 //! Values built by the names of their type.
 ghost use Rattle.std.specs.Prelude.{◌≡◌, ◌≢◌, ◌++◌, Some, None, IfOk, IfErr, OnOk, true, false, map, option_map, bytes_eq};
 ghost use Rattle.std.specs.List.{list_any};
-ghost use Rattle.asn_values.specs.View.{shape_of, datum_of, branch_of, part_of_field, entries_seen};
+ghost use Rattle.asn_values.specs.View.{shape_of, datum_of, label_of, branch_of, part_of_field, entries_seen};
 ghost use Rattle.asn_values.specs.LookUp.{added};
-ghost use Rattle.asn_view.specs.Built.{text_given, datum_given, given_for, entry_given, entries_given, after, are_names_of, sequence_given, among_branches, choice_given, elements_given, list_given};
+ghost use Rattle.asn_view.specs.Built.{item_of, item_given, string_given, text_given, datum_given, given_for, entry_given, entries_given, after, are_names_of};
+ghost use Rattle.asn_view.specs.Built.{sequence_given, among_branches, choice_given, elements_given, list_given, Builds, BuildsEntries, FailsRightly};
 ghost use Rattle.asn_view.specs.Seen.{parts_seen};
 
 use crate::fault::BuildFault;
 use crate::given::Given;
 use crate::names::{alternative_index, item_index};
-use crate::parts::part_at;
-use asn_values::{Alt, AsnType, Field, Need, Value};
+use asn_values::internal::part_at;
+use asn_values::{Alt, AsnType, Field, Item, Need, Value};
 use std::alloc::Global;
 
-/// Values built by the names of a type. The bounds of numbers, lengths and characters are not looked at: `misfit` tells of
-/// them, and an encoder refuses what does not fit.
+/// Values built by the names of a type. The bounds of numbers, lengths and characters are not looked at: `misfit` tells
+/// where one is passed, and an encoder refuses what does not fit.
 pub trait ByName: Sized {
     /// The value of the type that is given: an item of an ENUMERATED is given by its name, a string by its text.
     ///
     /// # Errors
-    /// `NoSuch` where an ENUMERATED has no item of this name, `OtherKind` where a text is given for a type that has none,
-    /// `Memory` where an allocation failed.
+    /// `NoSuch` where an ENUMERATED has no item of this name, `OtherKind` where a text is given for a type that has
+    /// none, `Memory` where an allocation failed.
     fn of(alloc: Global, ty: &AsnType, given: Given<'_>) -> Result<Self, BuildFault>;
+
+    /// The value of an ENUMERATED: its item of this name.
+    ///
+    /// # Errors
+    /// `NoSuch` with the name where no item has it, `OtherKind` where the type is no ENUMERATED, `Memory` where an
+    /// allocation failed.
+    fn item(alloc: Global, ty: &AsnType, name: &str) -> Result<Self, BuildFault>;
+
+    /// The value of a character string with this text.
+    ///
+    /// # Errors
+    /// `OtherKind` where the type is no character string, `Memory` where an allocation failed.
+    fn text(alloc: Global, ty: &AsnType, text: &str) -> Result<Self, BuildFault>;
 
     /// The value of a SEQUENCE whose components have what is given at their names. A component for which nothing is
     /// given is its DEFAULT, or absent where it is OPTIONAL.
@@ -55,15 +69,37 @@ pub trait ByName: Sized {
 
 impl ByName for Value {
     fn of(alloc: Global, ty: &AsnType, given: Given<'_>) -> Result<Value, BuildFault>
-        ensures value { IfOk result (λ v. datum_given (shape_of ty.now) given.entry ≡ Some (datum_of v)) }
-        ensures none { IfErr result (λ why. why ≢ BuildFault.Memory → datum_given (shape_of ty.now) given.entry ≡ None) }
+        ensures value { Builds result (datum_given (shape_of ty.now) given.entry) }
+        ensures none { FailsRightly result (datum_given (shape_of ty.now) given.entry) }
     {
         match given {
             Given::Bool(truth) => Ok(Value::Bool(truth)),
             Given::Number(number) => Ok(Value::Int(number)),
             Given::Text(text) => value_of_text(alloc, ty, text),
+            Given::Bits(bits) => Ok(Value::Bits(bits.to_vec(alloc)?)),
             Given::Octets(octets) => Ok(Value::Octets(octets.to_vec(alloc)?)),
             Given::Value(value) => Ok(value.clone()?),
+        }
+    }
+
+    fn item(alloc: Global, ty: &AsnType, name: &str) -> Result<Value, BuildFault>
+        ensures value { Builds result (item_given (shape_of ty.now) name.now) }
+        ensures none { FailsRightly result (item_given (shape_of ty.now) name.now) }
+    {
+        match ty {
+            AsnType::Enum { root, ext } => item_of(alloc, root, ext, name),
+            _ => Err(BuildFault::OtherKind),
+        }
+    }
+
+    fn text(alloc: Global, ty: &AsnType, text: &str) -> Result<Value, BuildFault>
+        ensures value { Builds result (string_given (shape_of ty.now) text.now) }
+        ensures none { FailsRightly result (string_given (shape_of ty.now) text.now) }
+    {
+        match ty {
+            AsnType::Text(..) => Ok(Value::Text(text.as_bytes().to_vec(alloc)?)),
+            AsnType::Utf8 => Ok(Value::Utf8(String::from_str(alloc, text)?)),
+            _ => Err(BuildFault::OtherKind),
         }
     }
 
@@ -72,8 +108,8 @@ impl ByName for Value {
         ty: &AsnType,
         parts: &[(&str, Given<'_>)],
     ) -> Result<Value, BuildFault>
-        ensures value { IfOk result (λ v. sequence_given (shape_of ty.now) parts.now ≡ Some (datum_of v)) }
-        ensures none { IfErr result (λ why. why ≢ BuildFault.Memory → sequence_given (shape_of ty.now) parts.now ≡ None) }
+        ensures value { Builds result (sequence_given (shape_of ty.now) parts.now) }
+        ensures none { FailsRightly result (sequence_given (shape_of ty.now) parts.now) }
     {
         check_names(alloc, ty, parts)?;
         match ty {
@@ -88,9 +124,8 @@ impl ByName for Value {
         name: &str,
         given: Given<'_>,
     ) -> Result<Value, BuildFault>
-        ensures value { IfOk result (λ v. choice_given (shape_of ty.now) name.now given.entry ≡ Some (datum_of v)) }
-        ensures none { IfErr result (λ why.
-            why ≢ BuildFault.Memory → choice_given (shape_of ty.now) name.now given.entry ≡ None) }
+        ensures value { Builds result (choice_given (shape_of ty.now) name.now given.entry) }
+        ensures none { FailsRightly result (choice_given (shape_of ty.now) name.now given.entry) }
     {
         match ty {
             AsnType::Choice { root, ext } => choice_of(alloc, root, ext, name, given),
@@ -99,9 +134,8 @@ impl ByName for Value {
     }
 
     fn list(alloc: Global, ty: &AsnType, elements: &[Given<'_>]) -> Result<Value, BuildFault>
-        ensures value { IfOk result (λ v. list_given (shape_of ty.now) elements.now ≡ Some (datum_of v)) }
-        ensures none { IfErr result (λ why.
-            why ≢ BuildFault.Memory → list_given (shape_of ty.now) elements.now ≡ None) }
+        ensures value { Builds result (list_given (shape_of ty.now) elements.now) }
+        ensures none { FailsRightly result (list_given (shape_of ty.now) elements.now) }
     {
         match ty {
             AsnType::SeqOf(element, _) => Ok(Value::List(elements_of(alloc, element, elements)?)),
@@ -112,17 +146,28 @@ impl ByName for Value {
 
 /// The item of this name, or the characters of a string.
 fn value_of_text(alloc: Global, ty: &AsnType, text: &str) -> Result<Value, BuildFault>
-    ensures value { IfOk result (λ v. text_given (shape_of ty.now) text.now ≡ Some (datum_of v)) }
-    ensures none { IfErr result (λ why. why ≢ BuildFault.Memory → text_given (shape_of ty.now) text.now ≡ None) }
+    ensures value { Builds result (text_given (shape_of ty.now) text.now) }
+    ensures none { FailsRightly result (text_given (shape_of ty.now) text.now) }
 {
     match ty {
-        AsnType::Enum { root, ext } => match item_index(root, ext, text) {
-            Some(index) => Ok(Value::Enum(index_in_32_bits(index)?)),
-            None => Err(no_such(alloc, text)),
-        },
-        AsnType::Text(..) => Ok(Value::Text(text.as_bytes().to_vec(alloc)?)),
-        AsnType::Utf8 => Ok(Value::Utf8(String::from_str(alloc, text)?)),
-        _ => Err(BuildFault::OtherKind),
+        AsnType::Enum { .. } => Value::item(alloc, ty, text),
+        _ => Value::text(alloc, ty, text),
+    }
+}
+
+/// The item of this name.
+fn item_of(
+    alloc: Global,
+    root: &[Item],
+    ext: &Option<Vec<Item>>,
+    name: &str,
+) -> Result<Value, BuildFault>
+    ensures value { Builds result (item_of name.now (map label_of (root.now ++ added ext.now))) }
+    ensures none { FailsRightly result (item_of name.now (map label_of (root.now ++ added ext.now))) }
+{
+    match item_index(root, ext, name) {
+        Some(index) => Ok(Value::Enum(index_in_32_bits(index)?)),
+        None => Err(no_such(alloc, name)),
     }
 }
 
@@ -189,10 +234,8 @@ fn entries_of(
     ext: &Option<Vec<Field>>,
     parts: &[(&str, Given<'_>)],
 ) -> Result<Vec<Option<Value>>, BuildFault>
-    ensures entries { IfOk result (λ es.
-        entries_given (parts_seen (root.now ++ added ext.now)) parts.now ≡ Some (entries_seen es.items)) }
-    ensures none { IfErr result (λ why. why ≢ BuildFault.Memory
-        → entries_given (parts_seen (root.now ++ added ext.now)) parts.now ≡ None) }
+    ensures entries { BuildsEntries result (entries_given (parts_seen (root.now ++ added ext.now)) parts.now) }
+    ensures none { FailsRightly result (entries_given (parts_seen (root.now ++ added ext.now)) parts.now) }
 {
     let first = push_entries(alloc, root, parts, Vec::new(alloc))?;
     match ext {
@@ -208,10 +251,9 @@ fn push_entries(
     parts: &[(&str, Given<'_>)],
     first: Vec<Option<Value>>,
 ) -> Result<Vec<Option<Value>>, BuildFault>
-    ensures entries { IfOk result (λ es.
-        after (entries_seen first.items) (entries_given (parts_seen fields.now) parts.now) ≡ Some (entries_seen es.items)) }
-    ensures none { IfErr result (λ why.
-        why ≢ BuildFault.Memory → entries_given (parts_seen fields.now) parts.now ≡ None) }
+    ensures entries { BuildsEntries result
+        (after (entries_seen first.items) (entries_given (parts_seen fields.now) parts.now)) }
+    ensures none { FailsRightly result (entries_given (parts_seen fields.now) parts.now) }
 {
     let mut entries = first;
     for field in fields {
@@ -229,8 +271,7 @@ fn entry_of(
 ) -> Result<Option<Value>, BuildFault>
     ensures entry { IfOk result (λ e.
         entry_given (part_of_field field.now) given.entry ≡ Some (option_map datum_of e)) }
-    ensures none { IfErr result (λ why.
-        why ≢ BuildFault.Memory → entry_given (part_of_field field.now) given.entry ≡ None) }
+    ensures none { FailsRightly result (entry_given (part_of_field field.now) given.entry) }
 {
     match given {
         Some(given) => Ok(Some(Value::of(alloc, &field.ty, given)?)),
@@ -258,10 +299,10 @@ fn choice_of(
     name: &str,
     given: Given<'_>,
 ) -> Result<Value, BuildFault>
-    ensures value { IfOk result (λ v.
-        among_branches name.now given.entry (map branch_of (root.now ++ added ext.now)) ≡ Some (datum_of v)) }
-    ensures none { IfErr result (λ why. why ≢ BuildFault.Memory
-        → among_branches name.now given.entry (map branch_of (root.now ++ added ext.now)) ≡ None) }
+    ensures value { Builds result
+        (among_branches name.now given.entry (map branch_of (root.now ++ added ext.now))) }
+    ensures none { FailsRightly result
+        (among_branches name.now given.entry (map branch_of (root.now ++ added ext.now))) }
 {
     let Some(index) = alternative_index(root, ext, name) else {
         return Err(no_such(alloc, name));
@@ -282,8 +323,7 @@ fn elements_of(
 ) -> Result<Vec<Value>, BuildFault>
     ensures elements { IfOk result (λ vs.
         elements_given (shape_of element.now) given.now ≡ Some (map datum_of vs.items)) }
-    ensures none { IfErr result (λ why.
-        why ≢ BuildFault.Memory → elements_given (shape_of element.now) given.now ≡ None) }
+    ensures none { FailsRightly result (elements_given (shape_of element.now) given.now) }
 {
     let mut all = Vec::with_capacity(alloc, given.len())?;
     for part in given {

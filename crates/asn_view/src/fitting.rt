@@ -42,7 +42,7 @@ pub fn misfit(alloc: Global, ty: &Checked, value: &Value) -> Result<Option<Wrong
     Ok(Some(WrongPart { path, reason }))
 }
 
-/// What is found of a part: its first part that does not fit, with the path from there on.
+/// What is found in a part: its first part that does not fit, with the path from there on.
 type Found = Result<Option<WrongPart>, AllocError>;
 
 /// The first part that does not fit, with the path from this value on.
@@ -159,14 +159,14 @@ fn here(alloc: Global, reason: String) -> Found {
     Ok(Some(WrongPart { path, reason }))
 }
 
-/// What was found of a component or an alternative, as told of the value around it.
+/// What was found in a component or an alternative, with the path from the value around it.
 fn below_name(alloc: Global, name: &str, found: WrongPart) -> Found {
     let WrongPart { path, reason } = found;
     let path = format!(in alloc; ".{name}{path}")?;
     Ok(Some(WrongPart { path, reason }))
 }
 
-/// What was found of an element, as told of the list around it.
+/// What was found in an element, with the path from the list around it.
 fn below_index(alloc: Global, index: usize, found: WrongPart) -> Found {
     let WrongPart { path, reason } = found;
     let path = format!(in alloc; "[{index}]{path}")?;

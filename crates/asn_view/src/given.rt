@@ -1,10 +1,11 @@
 //! What a caller gives for a part of a value.
-ghost use Rattle.std.specs.Prelude.{◌≡◌};
+ghost use Rattle.std.specs.Prelude.{◌≡◌, pos};
 ghost use Rattle.asn_view.specs.declared.given.Given.{Given};
 
 use asn_values::Value;
 
-/// What is given for a part of a value: by `into` of a `bool`, an integer, a text, octets, or a value that is there.
+/// What is given for a part of a value: by `into` of a `bool`, an integer, a text, bits, octets, or a value that is
+/// there.
 #[derive(Clone, Copy, Debug)]
 pub enum Given<'a> {
     /// for a BOOLEAN
@@ -13,6 +14,8 @@ pub enum Given<'a> {
     Number(i128),
     /// for a character string, or for an ENUMERATED the name of the item
     Text(&'a str),
+    /// for a BIT STRING
+    Bits(&'a [bool]),
     /// for an OCTET STRING
     Octets(&'a [u8]),
     /// for any type: the value is copied
@@ -43,6 +46,38 @@ impl From<i64> for Given<'_> {
     }
 }
 
+impl From<u8> for Given<'_> {
+    ghost from_gives = { λ x given. given ≡ Given.Number (pos x) };
+
+    fn from(x: u8) -> Self {
+        Given::Number(x as i128)
+    }
+}
+
+impl From<u16> for Given<'_> {
+    ghost from_gives = { λ x given. given ≡ Given.Number (pos x) };
+
+    fn from(x: u16) -> Self {
+        Given::Number(x as i128)
+    }
+}
+
+impl From<u32> for Given<'_> {
+    ghost from_gives = { λ x given. given ≡ Given.Number (pos x) };
+
+    fn from(x: u32) -> Self {
+        Given::Number(x as i128)
+    }
+}
+
+impl From<u64> for Given<'_> {
+    ghost from_gives = { λ x given. given ≡ Given.Number (pos x) };
+
+    fn from(x: u64) -> Self {
+        Given::Number(x as i128)
+    }
+}
+
 impl From<i128> for Given<'_> {
     ghost from_gives = { λ x given. given ≡ Given.Number x };
 
@@ -56,6 +91,14 @@ impl<'a> From<&'a str> for Given<'a> {
 
     fn from(x: &'a str) -> Self {
         Given::Text(x)
+    }
+}
+
+impl<'a> From<&'a [bool]> for Given<'a> {
+    ghost from_gives = { λ x given. given ≡ Given.Bits x };
+
+    fn from(x: &'a [bool]) -> Self {
+        Given::Bits(x)
     }
 }
 

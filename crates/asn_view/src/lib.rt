@@ -16,6 +16,6 @@ pub use fault::BuildFault;
 pub use fitting::{WrongPart, misfit};
 pub use given::Given;
 pub use kind::Kind;
-pub use names::{alternative_index, item_index};
+pub use names::{alternative_index, component_index, item_index};
 pub use parts::{Components, Elements};
 pub use view::{View, Viewed};

@@ -3,10 +3,11 @@ ghost use Rattle.std.specs.Prelude.{◌≡◌, ◌++◌, ◌∷◌, [], IfSome, 
 ghost use Rattle.std.specs.Iterator.{YieldsFirstBy, item_count};
 ghost use Rattle.asn_values.specs.LookUp.{added};
 ghost use Rattle.asn_values.specs.View.{datum_of, part_of_field, branch_of, entries_seen};
-ghost use Rattle.asn_view.specs.Seen.{seen, seen_component, seen_chosen, left_components, left_elements, parts_seen};
+ghost use Rattle.asn_view.specs.Seen.{seen, seen_component, seen_chosen, entry_seen, left_fields, left_components, left_elements, parts_seen};
 ghost use Rattle.asn_view.specs.Typed.{values_of_parts, component_value, first_entry, branch_value, value_at_name};
 
 use crate::view::View;
+use asn_values::internal::additions;
 use asn_values::{Alt, AsnType, Field, Need, Value};
 
 /// The components of a SEQUENCE that are left, each with its name and its value.
@@ -27,23 +28,18 @@ impl<'a> Components<'a> {
         ensures { left_components result
             ≡ values_of_parts (parts_seen (root.now ++ added ext.now)) (entries_seen entries.now) }
     {
-        let additions = match ext {
-            Some(more) => more.as_slice(),
-            None => &[],
-        };
         Components {
             root,
-            additions,
+            additions: additions(ext),
             entries,
         }
     }
 
     /// Takes the next component, root before additions.
     fn take_field(&mut self) -> Option<&'a Field>
-        ensures first { IfSome result (λ f.
-            self.old.root.now ++ self.old.additions.now ≡ f.now ∷ (self.new.root.now ++ self.new.additions.now)) }
-        ensures none { IfNone result (self.old.root.now ++ self.old.additions.now ≡ []) }
-        ensures end { IfNone result (self.new.root.now ++ self.new.additions.now ≡ []) }
+        ensures first { IfSome result (λ f. left_fields self.old ≡ f.now ∷ left_fields self.new) }
+        ensures none { IfNone result (left_fields self.old ≡ []) }
+        ensures end { IfNone result (left_fields self.new ≡ []) }
         ensures entries { self.new.entries.now ≡ self.old.entries.now }
     {
         if let Some((field, others)) = self.root.split_first() {
@@ -57,7 +53,7 @@ impl<'a> Components<'a> {
 
     /// Takes the next entry: the value of a component, if it is there.
     fn take_entry(&mut self) -> Option<&'a Value>
-        ensures first { option_map (λ v. datum_of v.now) result ≡ first_entry (entries_seen self.old.entries.now) }
+        ensures first { entry_seen result ≡ first_entry (entries_seen self.old.entries.now) }
         ensures others { entries_seen self.new.entries.now ≡ drop 1 (entries_seen self.old.entries.now) }
         ensures root { self.new.root.now ≡ self.old.root.now }
         ensures additions { self.new.additions.now ≡ self.old.additions.now }
@@ -95,8 +91,7 @@ impl<'a> Iterator for Components<'a> {
 
 /// The value of a component with this entry: where it is absent, its DEFAULT.
 fn component_value<'a>(field: &'a Field, entry: Option<&'a Value>) -> Option<View<'a>>
-    ensures { option_map seen result
-        ≡ component_value (part_of_field field.now) (option_map (λ v. datum_of v.now) entry.entry) }
+    ensures { option_map seen result ≡ component_value (part_of_field field.now) (entry_seen entry.entry) }
 {
     match (entry, &field.need) {
         (Some(value), _) | (None, Need::Default(value)) => Some(View {
@@ -146,19 +141,6 @@ pub(crate) fn of_alternative<'a>(alternative: &'a Alt, value: &'a Value) -> (&'a
 {
     let ty = &alternative.ty;
     (alternative.name.as_str(), View { ty, value })
-}
-
-/// What stands at an index, root before additions.
-pub(crate) fn part_at<'a, T>(root: &'a [T], ext: &'a Option<Vec<T>>, index: usize) -> Option<&'a T>
-    ensures { option_map (λ t. t.now) result ≡ slice_get (root.now ++ added ext.now) index }
-{
-    if index < root.len() {
-        return item_at(root, index);
-    }
-    match ext {
-        Some(more) => item_at(more, index - root.len()),
-        None => None,
-    }
 }
 
 /// The item at an index.

@@ -7,7 +7,8 @@ ghost use Rattle.asn_view.specs.Seen.{seen, seen_component, seen_chosen, left_co
 ghost use Rattle.asn_view.specs.Typed.{typed, truth_of, integer_of, octets_of, bits_of, text_of, length_of, item_name_in, chosen_in, value_named, components_in, elements_in};
 
 use crate::kind::Kind;
-use crate::parts::{Components, Elements, item_at, of_alternative, part_at, value_at_name};
+use crate::parts::{Components, Elements, item_at, of_alternative, value_at_name};
+use asn_values::internal::part_at;
 use asn_values::{AsnType, Checked, Value};
 
 /// A value beside its type, whose parts are reached by their names. It is two references, and is copied.
@@ -44,8 +45,8 @@ impl<'a> View<'a> {
         Kind::of(self.ty)
     }
 
-    /// The component of a SEQUENCE with this name, root before additions, or the chosen alternative of a CHOICE where it
-    /// has this name. A component that is absent is its DEFAULT; None where it has none, or there is no such name.
+    /// The component of a SEQUENCE with this name, root before additions, or the chosen alternative of a CHOICE where
+    /// it has this name. A component that is absent is its DEFAULT; None where it has none, or there is no such name.
     pub fn get(&self, name: &str) -> Option<View<'a>>
         ensures { option_map seen result ≡ value_named name.now (seen self.now) }
     {
@@ -81,8 +82,8 @@ impl<'a> View<'a> {
         }
     }
 
-    /// The components of a SEQUENCE in their order, root before additions, each with its name and its value: the DEFAULT
-    /// of one that is absent, and None where it has none. Nothing where the value is no SEQUENCE.
+    /// The components of a SEQUENCE in their order, root before additions, each with its name and its value: the
+    /// DEFAULT of one that is absent, and None where it has none. Nothing where the value is no SEQUENCE.
     pub fn components(&self) -> Components<'a>
         ensures { left_components result ≡ components_in (seen self.now) }
     {

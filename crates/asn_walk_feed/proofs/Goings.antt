@@ -1,7 +1,7 @@
 -- How a list that may be cut goes on, as the program holds it.
-use Rattle.std.proofs.Common.{◌≡◌, ◌≤◌, ◌<◌, ◌+◌, ◌⊎◌, inl, inr, ⊎_elim, ℕ, zero, suc, List, [], ◌∷◌, ◌++◌, length, map, append-nil, append_assoc, Option, Some, None, refl, sym, ap, subst, ◌∙◌, arith}
+use Rattle.std.proofs.Common.{◌≡◌, ◌<◌, ◌+◌, inl, inr, ℕ, zero, suc, List, [], ◌∷◌, ◌++◌, length, map, append-nil, append_assoc, Option, Some, None, refl, sym, ap, subst, ◌∙◌, arith}
 use Rattle.std.specs.Prelude.{IfSome, IsNone}
-use Rattle.std.proofs.lemmas.List.{map-append, map_push}
+use Rattle.std.proofs.lemmas.List.{map_push}
 use Rattle.asn_values.specs.Datum.{Datum}
 use Rattle.asn_values.specs.Shape.{Shape, SizeRange, sequence_of}
 use Rattle.asn_values.specs.Profile.{InProfile}
@@ -14,14 +14,14 @@ use Rattle.asn_rules.specs.Listed.{Spelt}
 use Rattle.asn_rules.specs.Stops.{Stops}
 use Rattle.asn_rules.specs.declared.stop.Stop.{Stop}
 use Rattle.asn_rules.specs.declared.stop.Stop.TheVariants as stop
-use Rattle.asn_rules.proofs.Answer.Answers.{done_stays, done_later}
+use Rattle.asn_rules.proofs.Answer.Answers.{done_stays}
 use Rattle.asn_rules.proofs.Components.Listed.{spelt_inhabited, spelt_lawful}
-use Rattle.asn_walk.specs.Ahead.{Ahead, Next}
+use Rattle.asn_walk.specs.Ahead.{Ahead}
 use Rattle.asn_walk.specs.Coding.{Coding, ListingOf}
 use Rattle.asn_walk.specs.Laws.{Laws}
 use Rattle.asn_walk.proofs.Listing.{Going, going_ends, steps_left, list_size}
 use Rattle.asn_walk_feed.specs.Feeding.{Waits, FeedLaws, NextOf, HasBegun}
-use Rattle.asn_walk_feed.specs.Taken.{InFragment, Stands, NextPart, GoesOn, Took, ListGoesOn, with_node}
+use Rattle.asn_walk_feed.specs.Taken.{InFragment, Stands, NextPart, Took, ListGoesOn, with_node}
 use Rattle.asn_walk_feed.specs.declared.frame.Frame.TheVariants as frame
 use Rattle.asn_walk_feed.specs.declared.frame.Frame.{Frame}
 use Rattle.asn_walk_feed.specs.declared.frame.Elements.{Elements}
@@ -56,7 +56,7 @@ module _ {F : Type 0} (c : Coding) (laws : Laws c) (feeds : FeedLaws c) (ahead :
             subst (λ (xs : List ℕ). Going c L T (all ++ more) (ahead q.fragments) (map datum_of q.elements.items) ((xs ++ units) ++ more)) (sym i.1.come) g);
       }
 
-  -- with nothing behind
+  -- with nothing after it
   here : (q : Elements F) (fs : List (Frame F)) (all units : List ℕ) → LengthAhead q fs all units → Going c L T all (ahead q.fragments) (map datum_of q.elements.items) (c.to_units q.next_length ++ units)
   here q fs all units h =
       let us = c.to_units q.next_length ++ units in

@@ -1,11 +1,11 @@
 -- Where a reader of a list that may be cut stands, in any rules.
-use Rattle.std.proofs.Common.{◌≡◌, ◌≤◌, ◌<◌, ◌+◌, ◌*◌, ◌⊎◌, inl, inr, ℕ, zero, suc, nat_lt, List, [], ◌∷◌, ◌++◌, length, append-nil, append_assoc, Option, Some, None, refl, sym, ap, subst, ◌∙◌, arith}
+use Rattle.std.proofs.Common.{◌≡◌, ◌≤◌, ◌<◌, ◌+◌, ◌*◌, ◌⊎◌, inl, inr, ℕ, zero, suc, nat_lt, List, [], ◌∷◌, ◌++◌, length, Option, Some, None, refl, sym, ap, subst, ◌∙◌, arith}
 use Rattle.std.specs.Bool.{⊤}
-use Rattle.asn_values.specs.Shape.{Shape, SizeRange}
+use Rattle.asn_values.specs.Shape.{SizeRange}
 use Rattle.asn_bits.specs.Ranges.{Spanned, At}
 use Rattle.asn_rules.specs.Chunks.{Chunk, flat}
 use Rattle.asn_rules.specs.General.{Length, last, fragment, Header}
-use Rattle.asn_rules.specs.Languages.{Spells, Short, Refused, Lawful, Inhabited, Map, Nothing, Row}
+use Rattle.asn_rules.specs.Languages.{Spells, Lawful, Inhabited, Map, Nothing, Row}
 use Rattle.asn_rules.specs.Live.{Fielding}
 use Rattle.asn_rules.specs.Stops.{Stops}
 use Rattle.asn_rules.specs.declared.stop.Stop.{Stop}
@@ -14,10 +14,10 @@ use Rattle.asn_rules.proofs.Answer.Answers.{done_stays, done_later}
 use Rattle.asn_rules.proofs.Languages.Rows.{row_starts, row_spells, row_one}
 use Rattle.asn_rules.proofs.Languages.Leads.{stops_by, leads_map}
 use Rattle.asn_rules.proofs.Languages.Parts.{map_source, map_spells, map_live, map_dead, nothing_spells}
-use Rattle.asn_walk.specs.Ahead.{Ahead, items, lengths, end, Remaining, Next, StopsNext, Advances}
+use Rattle.asn_walk.specs.Ahead.{Ahead, items, lengths, end, Next, StopsNext, Advances}
 use Rattle.asn_walk.specs.Coding.{Coding, ListingOf}
 use Rattle.asn_walk.specs.Laws.{Laws, IsSizeOfProfile}
-use Rattle.asn_walk.proofs.Listing.{Appends, Going, appends_none, appends_one, appends_more, start_leads, going_stops, going_ends, going_further, going_next_stops, going_nearer, steps_left}
+use Rattle.asn_walk.proofs.Listing.{Appends, Going, appends_none, appends_one, appends_more, start_leads, going_stops, going_further, going_next_stops, going_nearer, steps_left}
 use Rattle.asn_walk_feed.specs.Feeding.{FeedLaws, HasBegun, NextOf, next_of}
 use Rattle.asn_walk_feed.specs.Taken.{InFragment, Stands}
 
@@ -130,7 +130,7 @@ module _ {A : Type 0} (c : Coding) (laws : Laws c) (L : A → List Chunk → Typ
   element_stops n ahead es us come why s h =
       stops_by why (going_next_stops c laws s.done s.count some law (omega (arith, s.sum)) s.next s.so_far s.going) h
 
-  -- so many elements stand in front of what is ahead
+  -- this many elements stand in front of what is ahead
   stands_at : (n : ℕ) (ahead : Ahead) (es : List A) (us come : List ℕ) → InFragment c L T n ahead es us come → Stands c L T n ahead es us come
   stands_at zero ahead es us come s =
       let e : s.done ≡ s.count = omega (arith, s.sum) in

@@ -1,7 +1,7 @@
 -- What a reader of messages in pieces says, and what a set of encoding rules says of the parts that a piece may cut.
-use Rattle.std.specs.Prelude.{◌≡◌, ◌≤◌, ◌<◌, ◌+◌, ◌*◌, ◌⊎◌, ℕ, List, [], ◌∷◌, ◌++◌, length, ⊤, nat_lt, Option, Some, None}
+use Rattle.std.specs.Prelude.{◌≡◌, ◌≤◌, ◌<◌, ◌+◌, ◌*◌, ◌⊎◌, ℕ, List, [], ◌++◌, length, ⊤, nat_lt, Option, Some, None, true}
 use Rattle.asn_values.specs.Datum.{Datum}
-use Rattle.asn_values.specs.Profile.{InProfile}
+use Rattle.asn_values.specs.Profile.{InProfile, good_default}
 use Rattle.asn_values.specs.Shape.{SizeRange, Shape, boolean, null, integer, enumerated}
 use Rattle.asn_bits.specs.Ranges.{Spanned, At}
 use Rattle.asn_rules.specs.Chunks.{Chunk}
@@ -11,7 +11,7 @@ use Rattle.asn_rules.specs.Listed.{Spelt}
 use Rattle.asn_rules.specs.declared.stop.Stop.{Stop}
 use Rattle.asn_rules.specs.declared.stop.Stop.TheVariants as stop
 use Rattle.asn_walk.specs.Ahead.{Ahead, items, lengths, end}
-use Rattle.asn_walk.specs.Coding.{Coding, PreambleOf}
+use Rattle.asn_walk.specs.Coding.{Coding, PreambleOf, AreFew, IndexOf}
 use Rattle.asn_walk.specs.Laws.{IsSizeOfProfile}
 
 -- ---- parts of few bits
@@ -44,8 +44,9 @@ pub record FeedLaws (c : Coding) : Type 0 where
   pub none : c.to_units [] ≡ []
   pub begin : c.at_unit []
   pub scalar : (t : Shape) → InProfile t → IsScalar t → IsBrief c (Spelt c.code None t)
-  pub other : (d : Datum) (t : Shape) → InProfile t → IsScalar t → IsBrief c (Spelt c.code (Some d) t)
+  pub other : (d : Datum) (t : Shape) → InProfile t → good_default t d ≡ true → IsBrief c (Spelt c.code (Some d) t)
   pub preamble : (n : ℕ) (more : Option ℕ) → n ≤ 64 → IsBrief c (PreambleOf c n more)
+  pub index : (root : ℕ) (more : Option ℕ) → AreFew root more → IsBrief c (IndexOf c root more)
   pub next : (a : Ahead) → IsBrief c (NextOf a)
   pub list_start : (s : SizeRange) → IsSizeOfProfile s → IsBrief c (c.list_start s)
 
@@ -61,11 +62,11 @@ pub record Waits {V : Type 0} (c : Coding) (L : V → List Chunk → Type 0) (be
 
 -- ---- units and ticks
 
--- the next units, which are this many, are put behind those of a part: all that are left, or as many as have room
+-- the next units, which are this many, are added to those of a part: all that are left, or as many as have room
 pub record ExtendsBy (c : Coding) (begun begun' units : List ℕ) (count : ℕ) : Type 0 where
   pub front : List ℕ
   pub rest : List ℕ
-  pub behind : c.to_units begun' ≡ c.to_units begun ++ front
+  pub joined : c.to_units begun' ≡ c.to_units begun ++ front
   pub from : c.to_units units ≡ front ++ rest
   pub many : length front ≡ count
   pub full : (rest ≡ []) ⊎ (120 < length begun')
@@ -83,12 +84,12 @@ Ticked c units ticks units' ticks' = ticks' + length (c.to_units units') ≡ tic
 -- ---- why a reader stops
 
 -- the units that are left are those after the refused one, or none
-abbrev pub StandsBehind : Coding → List ℕ → Stop → Type 0
-StandsBehind c units (stop.Refused left why) = length (c.to_units units) ≡ left
-StandsBehind c units stop.Short = c.to_units units ≡ []
-StandsBehind c units stop.Memory = ⊤
+abbrev pub StandsAfter : Coding → List ℕ → Stop → Type 0
+StandsAfter c units (stop.Refused left why) = length (c.to_units units) ≡ left
+StandsAfter c units stop.Short = c.to_units units ≡ []
+StandsAfter c units stop.Memory = ⊤
 
--- where more are wanted, all units of the piece are put behind those of the part
+-- where more are wanted, all units of the piece are added to those of the part
 abbrev pub KeepsUnits : Coding → List ℕ → List ℕ → List ℕ → Stop → Type 0
 KeepsUnits c begun units begun' (stop.Refused left why) = ⊤
 KeepsUnits c begun units begun' stop.Short = c.to_units begun' ≡ c.to_units begun ++ c.to_units units

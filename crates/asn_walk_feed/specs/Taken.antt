@@ -1,30 +1,49 @@
 -- Where a reader of messages in pieces was cut: which units brought it there.
-use Rattle.std.specs.Prelude.{◌≡◌, ◌≤◌, ◌+◌, ◌⊎◌, ℕ, zero, suc, List, [], ◌∷◌, ◌++◌, length, map, Option, Some, None, ⊤}
+use Rattle.std.specs.Prelude.{◌≡◌, ◌+◌, ℕ, zero, suc, Bool, true, false, List, [], ◌∷◌, ◌++◌, map, Option, Some, None, ⊤}
 use Rattle.asn_values.specs.Datum.{Datum}
-use Rattle.asn_values.specs.Shape.{SizeRange, Shape, sequence_of}
-use Rattle.asn_values.specs.View.{datum_of}
+use Rattle.asn_values.specs.Profile.{InProfile, somewhere}
+use Rattle.asn_values.specs.Shape.{SizeRange, Shape, boolean, null, integer, enumerated, sequence, sequence_of, choice, Fields, no_fields, MoreFields, closed, marked, Alternatives, no_alternatives, MoreAlternatives, closed_choice, marked_choice, count}
+use Rattle.asn_values.specs.View.{Part, datum_of}
 use Rattle.asn_rules.specs.Chunks.{Chunk}
 use Rattle.asn_rules.specs.Languages.{Spells}
-use Rattle.asn_rules.specs.Listed.{Spelt}
+use Rattle.asn_rules.specs.Listed.{Spelt, Entry, bitmap_length}
 use Rattle.asn_rules.specs.Stops.{Stops}
 use Rattle.asn_rules.specs.declared.stop.Stop.{Stop}
 use Rattle.asn_rules.specs.declared.stop.Stop.TheVariants as stop
 use Rattle.asn_walk.specs.Ahead.{Ahead, Next}
-use Rattle.asn_walk.specs.Coding.{Coding, ListingOf}
+use Rattle.asn_walk.specs.Coding.{Coding, ListingOf, PreambleOf, added, IndexOf, added_alternatives}
 use Rattle.asn_walk.proofs.Listing.{Appends, Going}
-use Rattle.asn_walk_feed.specs.Feeding.{IsScalar, NextOf, Waits}
+use Rattle.asn_walk_feed.specs.Chosen.{AlternativeTook, ChoiceGoesOn}
+use Rattle.asn_walk_feed.specs.Feeding.{NextOf, Waits}
+use Rattle.asn_walk_feed.specs.Roots.{OtherTook, EntryTook, NextTook, RootGoesOn}
+use Rattle.asn_walk_feed.specs.declared.frame.Components.{Components}
 use Rattle.asn_walk_feed.specs.declared.frame.Elements.{Elements}
 use Rattle.asn_walk_feed.specs.declared.frame.Frame.{Frame}
 use Rattle.asn_walk_feed.specs.declared.frame.Frame.TheVariants as frame
 
--- the kinds of type that are read in pieces
+-- ---- the kinds of type that are read in pieces
+
+-- a node of the type is of another kind
+abbrev pub is_uncovered : Shape → Bool
+is_uncovered boolean = false
+is_uncovered null = false
+is_uncovered (integer r) = false
+is_uncovered (enumerated root more) = false
+is_uncovered (sequence root closed) = false
+is_uncovered (sequence root (marked no_fields)) = false
+is_uncovered (sequence_of t s) = false
+is_uncovered (choice root closed_choice) = false
+is_uncovered (choice root (marked_choice no_alternatives)) = false
+is_uncovered _ = true
+
+-- none is
 abbrev pub IsCovered : Shape → Type 0
-IsCovered (sequence_of t s) = IsCovered t
-IsCovered t = IsScalar t
+IsCovered t = somewhere is_uncovered t ≡ false
 
 -- ---- lists
 
--- within a fragment of a list: these elements have been read, then come so many of the fragment, and then what is ahead
+-- within a fragment of a list: these elements have been read, then come this many of the fragment, and then what is
+-- ahead
 pub record InFragment {A : Type 0} (c : Coding) (L : A → List Chunk → Type 0) (T : List A → List Chunk → Type 0)
     (left : ℕ) (ahead : Ahead) (elements : List A) (us come : List ℕ) : Type 0 where
   pub before : List A
@@ -65,6 +84,10 @@ NextPart (suc n) fs Length Element come = Element come
 abbrev pub Took : {F : Type 0} → Coding → (F → Ahead) → (F → Type 0) → List (Frame F) → Shape → List ℕ → Type 0
 Took c ahead between [] t us = us ≡ []
 Took c ahead between (frame.Start b ∷ []) (sequence_of t s) us = Waits c (c.list_start s) b us
+Took c ahead between (frame.Start b ∷ []) (sequence root more) us =
+    Waits c (PreambleOf c (bitmap_length root) (added more)) b us
+Took c ahead between (frame.Start b ∷ []) (choice root more) us =
+    Waits c (IndexOf c (count root) (added_alternatives more)) b us
 Took c ahead between (frame.Start b ∷ []) t us = Waits c (Spelt c.code None t) b us
 Took c ahead between (frame.Start b ∷ f ∷ fs) t us = ⊥
 Took c ahead between (frame.Elements q ∷ fs) (sequence_of t s) us =
@@ -72,6 +95,14 @@ Took c ahead between (frame.Elements q ∷ fs) (sequence_of t s) us =
     (λ come. Waits c (NextOf (ahead q.fragments)) q.next_length come)
     (λ come. (q.next_length ≡ []) × Took c ahead between fs t come)) us []
 Took c ahead between (frame.Elements q ∷ fs) t us = ⊥
+Took c ahead between (frame.Components q ∷ fs) (sequence root more) us =
+    RootGoesOn c root more q
+    (λ rest come. NextTook c fs (λ t vs. Took c ahead between fs t vs) rest q.presence.left q.presence.bitmap come)
+    us []
+Took c ahead between (frame.Components q ∷ fs) t us = ⊥
+Took c ahead between (frame.Chosen i ∷ fs) (choice root more) us =
+    ChoiceGoesOn c root more i (λ come. AlternativeTook (λ t vs. Took c ahead between fs t vs) root i come) us []
+Took c ahead between (frame.Chosen i ∷ fs) t us = ⊥
 
 -- a list of elements of the type, read so far, of whose next part these nodes have begun
 abbrev pub ListGoesOn : {F : Type 0} → Coding → (F → Ahead) → (F → Type 0) → Shape → SizeRange → Elements F
@@ -80,6 +111,25 @@ ListGoesOn c ahead between t s q fs all units =
     GoesOn c ahead between t s q (NextPart q.left fs
     (λ come. Waits c (NextOf (ahead q.fragments)) q.next_length come)
     (λ come. (q.next_length ≡ []) × Took c ahead between fs t come)) all units
+
+-- the root of a SEQUENCE, read so far, of whose next component these nodes have begun
+abbrev pub RootReached : {F : Type 0} → Coding → (F → Ahead) → (F → Type 0) → Fields → MoreFields → Components
+    → List (Frame F) → List ℕ → List ℕ → Type 0
+RootReached c ahead between root more q fs all units =
+    RootGoesOn c root more q
+    (λ rest come. NextTook c fs (λ t vs. Took c ahead between fs t vs) rest q.presence.left q.presence.bitmap come)
+    all units
+
+-- the units that have come of a component, of which these nodes have begun
+abbrev pub ComponentTook : {F : Type 0} → Coding → (F → Ahead) → (F → Type 0) → List (Frame F) → Part → Bool
+    → List ℕ → Type 0
+ComponentTook c ahead between fs p present us = EntryTook c fs (λ t vs. Took c ahead between fs t vs) p present us
+
+-- a CHOICE of which the index is read, of the value of whose alternative these nodes have begun
+abbrev pub ChoiceReached : {F : Type 0} → Coding → (F → Ahead) → (F → Type 0) → Alternatives → MoreAlternatives → ℕ
+    → List (Frame F) → List ℕ → List ℕ → Type 0
+ChoiceReached c ahead between root more i fs all units =
+    ChoiceGoesOn c root more i (λ come. AlternativeTook (λ t vs. Took c ahead between fs t vs) root i come) all units
 
 -- where more units are wanted, the nodes tell which have come
 abbrev pub KeepsFrames : {F : Type 0} → Coding → (F → Ahead) → (F → Type 0) → List (Frame F) → Shape → List ℕ → Stop
@@ -148,18 +198,124 @@ GoesOnTo c ahead between t s q fs old p gs new =
     (all : List ℕ) → ListGoesOn c ahead between t s q fs all (c.to_units old)
     → ListGoesOn c ahead between t s p gs all (c.to_units new)
 
+-- it holds under every size that a list of such elements has in the profile
+abbrev pub UnderEachSize : Shape → (SizeRange → Type 0) → Type 0
+UnderEachSize t P = (s : SizeRange) → InProfile (sequence_of t s) → P s
+
+-- it holds for a SEQUENCE of this root that is covered, with an extension mark or without one
+abbrev pub UnderEachMark : Fields → (MoreFields → Type 0) → Type 0
+UnderEachMark root P = (more : MoreFields) → InProfile (sequence root more) → IsCovered (sequence root more) → P more
+
+-- the same of the root of a SEQUENCE, read so far: a value of it
+abbrev pub ReadsRootOn : {F : Type 0} → Coding → (F → Ahead) → (F → Type 0) → Fields → MoreFields → Components
+    → List (Frame F) → Datum → List ℕ → List ℕ → Type 0
+ReadsRootOn c ahead between root more q fs v old new =
+    (all : List ℕ) → RootReached c ahead between root more q fs all (c.to_units old)
+    → Spells c.ruling.fielding (Spelt c.code None (sequence root more)) v all (c.to_units new)
+
+abbrev pub StopsRootOn : {F : Type 0} → Coding → (F → Ahead) → (F → Type 0) → Fields → MoreFields → Components
+    → List (Frame F) → List ℕ → Stop → Type 0
+StopsRootOn c ahead between root more q fs old why =
+    (all : List ℕ) → RootReached c ahead between root more q fs all (c.to_units old)
+    → Stops c.ruling.fielding (Spelt c.code None (sequence root more)) all why
+
+abbrev pub KeepsRootOn : {F : Type 0} → Coding → (F → Ahead) → (F → Type 0) → Fields → MoreFields → Components
+    → List (Frame F) → List (Frame F) → List ℕ → Stop → Type 0
+KeepsRootOn c ahead between root more q fs gs old why =
+    (all : List ℕ) → RootReached c ahead between root more q fs all (c.to_units old)
+    → KeepsFrames c ahead between gs (sequence root more) all why
+
+-- it is read so far then
+abbrev pub RootGoesOnTo : {F : Type 0} → Coding → (F → Ahead) → (F → Type 0) → Fields → MoreFields → Components
+    → List (Frame F) → List ℕ → Components → List (Frame F) → List ℕ → Type 0
+RootGoesOnTo c ahead between root more q fs old p gs new =
+    (all : List ℕ) → RootReached c ahead between root more q fs all (c.to_units old)
+    → RootReached c ahead between root more p gs all (c.to_units new)
+
+-- it holds for a CHOICE of this root that is covered, with an extension mark or without one
+abbrev pub UnderEachChoice : Alternatives → (MoreAlternatives → Type 0) → Type 0
+UnderEachChoice root P = (more : MoreAlternatives) → InProfile (choice root more) → IsCovered (choice root more)
+    → P more
+
+-- the same of a CHOICE of which the index is read
+abbrev pub ReadsChoiceOn : {F : Type 0} → Coding → (F → Ahead) → (F → Type 0) → Alternatives → MoreAlternatives → ℕ
+    → List (Frame F) → Datum → List ℕ → List ℕ → Type 0
+ReadsChoiceOn c ahead between root more i fs v old new =
+    (all : List ℕ) → ChoiceReached c ahead between root more i fs all (c.to_units old)
+    → Spells c.ruling.fielding (Spelt c.code None (choice root more)) v all (c.to_units new)
+
+abbrev pub StopsChoiceOn : {F : Type 0} → Coding → (F → Ahead) → (F → Type 0) → Alternatives → MoreAlternatives → ℕ
+    → List (Frame F) → List ℕ → Stop → Type 0
+StopsChoiceOn c ahead between root more i fs old why =
+    (all : List ℕ) → ChoiceReached c ahead between root more i fs all (c.to_units old)
+    → Stops c.ruling.fielding (Spelt c.code None (choice root more)) all why
+
+abbrev pub KeepsChoiceOn : {F : Type 0} → Coding → (F → Ahead) → (F → Type 0) → Alternatives → MoreAlternatives → ℕ
+    → List (Frame F) → List (Frame F) → List ℕ → Stop → Type 0
+KeepsChoiceOn c ahead between root more i fs gs old why =
+    (all : List ℕ) → ChoiceReached c ahead between root more i fs all (c.to_units old)
+    → KeepsFrames c ahead between gs (choice root more) all why
+
+-- the same of a component
+abbrev pub ReadsComponentOn : {F : Type 0} → Coding → (F → Ahead) → (F → Type 0) → List (Frame F) → Part → Bool
+    → Option Datum → List ℕ → List ℕ → Type 0
+ReadsComponentOn c ahead between fs p present e old new =
+    (us : List ℕ) → ComponentTook c ahead between fs p present us
+    → Spells c.ruling.fielding (Entry c.code p.demand p.shape present) e (us ++ c.to_units old) (c.to_units new)
+
+abbrev pub StopsComponentOn : {F : Type 0} → Coding → (F → Ahead) → (F → Type 0) → List (Frame F) → Part → Bool
+    → List ℕ → Stop → Type 0
+StopsComponentOn c ahead between fs p present old why =
+    (us : List ℕ) → ComponentTook c ahead between fs p present us
+    → Stops c.ruling.fielding (Entry c.code p.demand p.shape present) (us ++ c.to_units old) why
+
+abbrev pub KeepsComponent : {F : Type 0} → Coding → (F → Ahead) → (F → Type 0) → List (Frame F) → Part → Bool
+    → List ℕ → Stop → Type 0
+KeepsComponent c ahead between fs p present us (stop.Refused left why) = ⊤
+KeepsComponent c ahead between fs p present us stop.Short = ComponentTook c ahead between fs p present us
+KeepsComponent c ahead between fs p present us stop.Memory = ⊤
+
+abbrev pub KeepsComponentOn : {F : Type 0} → Coding → (F → Ahead) → (F → Type 0) → List (Frame F) → List (Frame F)
+    → Part → Bool → List ℕ → Stop → Type 0
+KeepsComponentOn c ahead between fs gs p present old why =
+    (us : List ℕ) → ComponentTook c ahead between fs p present us
+    → KeepsComponent c ahead between gs p present (us ++ c.to_units old) why
+
+-- the same of a value that is not this DEFAULT
+abbrev pub ReadsOtherOn : {F : Type 0} → Coding → List (Frame F) → Datum → Shape → Datum → List ℕ → List ℕ → Type 0
+ReadsOtherOn c fs d t v old new = (us : List ℕ) → OtherTook c fs d t us
+    → Spells c.ruling.fielding (Spelt c.code (Some d) t) v (us ++ c.to_units old) (c.to_units new)
+
+abbrev pub StopsOtherOn : {F : Type 0} → Coding → List (Frame F) → Datum → Shape → List ℕ → Stop → Type 0
+StopsOtherOn c fs d t old why = (us : List ℕ) → OtherTook c fs d t us
+    → Stops c.ruling.fielding (Spelt c.code (Some d) t) (us ++ c.to_units old) why
+
+abbrev pub KeepsOther : {F : Type 0} → Coding → List (Frame F) → Datum → Shape → List ℕ → Stop → Type 0
+KeepsOther c fs d t us (stop.Refused left why) = ⊤
+KeepsOther c fs d t us stop.Short = OtherTook c fs d t us
+KeepsOther c fs d t us stop.Memory = ⊤
+
+abbrev pub KeepsOtherOn : {F : Type 0} → Coding → List (Frame F) → List (Frame F) → Datum → Shape → List ℕ → Stop
+    → Type 0
+KeepsOtherOn c fs gs d t old why = (us : List ℕ) → OtherTook c fs d t us
+    → KeepsOther c gs d t (us ++ c.to_units old) why
+
 -- ---- the outermost node
 
 abbrev pub IsStart : {F : Type 0} → Option (Frame F) → Type 0
 IsStart None = ⊤
 IsStart (Some (frame.Start b)) = ⊤
 IsStart (Some (frame.Elements q)) = ⊥
+IsStart (Some (frame.Components q)) = ⊥
+IsStart (Some (frame.Chosen i)) = ⊥
 
 -- the units of its first part that have come
 abbrev pub begun_of : {F : Type 0} → Option (Frame F) → List ℕ
 begun_of None = []
 begun_of (Some (frame.Start b)) = b
 begun_of (Some (frame.Elements q)) = []
+begun_of (Some (frame.Components q)) = []
+begun_of (Some (frame.Chosen i)) = []
 
 -- it is put before the others
 abbrev pub with_node : {F : Type 0} → Option (Frame F) → List (Frame F) → List (Frame F)

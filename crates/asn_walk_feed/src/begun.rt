@@ -53,8 +53,8 @@ impl Begun {
         }
     }
 
-    /// Puts the bits that the cursor has left behind these, as many as there are and have room; the cursor's stay.
-    /// Gives how many they are.
+    /// Adds the bits that the cursor has left to these, as many as there are and have room; the cursor's stay. Gives
+    /// how many they are.
     pub fn extend(&mut self, units: &BitCursor<'_>) -> u32
         ensures count { result ≡ min (length units.now) (ROOM - length self.old) }
         ensures bits { self.new ≡ self.old ++ take result units.now }
@@ -68,7 +68,7 @@ impl Begun {
         count
     }
 
-    /// Takes the next `count` bits and puts them behind these.
+    /// Takes the next `count` bits and adds them to these.
     fn push_next(&mut self, units: &mut BitCursor<'_>, count: u32)
         requires few { count ≤ 64 }
         requires there { count ≤ length units.old }

@@ -4,15 +4,21 @@ ghost use Rattle.asn_walk_feed.specs.Nodes.{nodes};
 
 use crate::begun::Begun;
 use asn_values::Value;
+use asn_walk::PresenceBits;
 use std::alloc::{AllocError, Global};
 
 /// A node of a value that has begun: the value itself, or a part of it.
 #[derive(Drop)]
 pub enum Frame<F> {
-    /// Its first part has begun: of a SEQUENCE OF what stands before its elements, of a simple type the value.
+    /// Its first part has begun: of a SEQUENCE the preamble, of a SEQUENCE OF what stands before its elements, of a
+    /// CHOICE the index, of a simple type the value.
     Start(Begun),
     /// A SEQUENCE OF of which what stands before its elements is read.
     Elements(Elements<F>),
+    /// A SEQUENCE of which the preamble is read.
+    Components(Components),
+    /// A CHOICE of which the index is read: the alternative of the root with this index, counted from 0.
+    Chosen(usize),
 }
 
 /// The elements of a SEQUENCE OF that are read, and how it goes on.
@@ -25,6 +31,17 @@ pub struct Elements<F> {
     pub fragments: F,
     /// What has come of the length that stands next, where no element of the fragment is left.
     pub next_length: Begun,
+}
+
+/// The components of a SEQUENCE that are read, and how it goes on.
+#[derive(Drop)]
+pub struct Components {
+    /// The extension bit.
+    pub extended: bool,
+    /// The entries of the components that are read.
+    pub entries: Vec<Option<Value>>,
+    /// The presence bits from that of the next component on.
+    pub presence: PresenceBits,
 }
 
 /// The nodes that have begun, one inside the other.

@@ -1,11 +1,12 @@
-//! Parts of few units that a piece may cut: read at once where all their units are at hand, else once a piece of
+//! Parts of few units that a piece may cut: read at once where all their units have come, else once a piece of
 //! those that have come.
-ghost use Rattle.std.specs.Prelude.{◌≡◌, ◌≤◌, ◌<◌, ◌+◌, ◌^◌, ◌++◌, ℕ, List, length, [], IfOk, IfErr, OnOk};
+ghost use Rattle.std.specs.Prelude.{◌≡◌, ◌≤◌, ◌<◌, ◌+◌, ◌^◌, ◌++◌, ℕ, List, length, [], IfOk, IfErr, OnOk, IfSome, IsNone};
 ghost use Rattle.asn_rules.specs.Chunks.{Chunk};
 ghost use Rattle.asn_rules.specs.Languages.{Spells, Short};
 ghost use Rattle.asn_rules.specs.Stops.{Stops};
+ghost use Rattle.asn_rules.specs.declared.stop.Stop.TheVariants.{Memory};
 ghost use Rattle.asn_walk.specs.Reading.{Reads, StopsAt};
-ghost use Rattle.asn_walk_feed.specs.Feeding.{FeedLaws, IsBrief, HasBegun, ExtendsBy, Passes, Ticked, StandsBehind, KeepsUnits};
+ghost use Rattle.asn_walk_feed.specs.Feeding.{FeedLaws, IsBrief, HasBegun, ExtendsBy, Passes, Ticked, StandsAfter, KeepsUnits};
 
 use crate::begun::Begun;
 use crate::units::{Ticks, Units};
@@ -16,8 +17,8 @@ use std::alloc::Global;
 
 /// What a set of encoding rules gives to a reader of messages in pieces, beside its parts.
 pub trait FeedLeaves: ReadLeaves {
-    /// Puts the next units behind those of a part that has begun, as many as are left and have room; they stay. Gives
-    /// how many they are.
+    /// Adds the next units to those of a part that has begun, as many as are left and have room; the cursor's stay.
+    /// Gives how many they are.
     fn extend(begun: &mut Begun, units: &BitCursor<'_>) -> u32
         requires begun { Self.rules.at_unit begun.old }
         requires at_unit { Self.rules.at_unit units.now }
@@ -73,7 +74,7 @@ pub trait Leaf<R: ReadLeaves> {
         ensures { IsBrief R.rules (language self.now) };
 }
 
-/// Reads a part of which these units have come. Where more are wanted, those of the piece are put behind them.
+/// Reads a part of which these units have come. Where more are wanted, those of the piece follow them in `begun`.
 pub fn feed_leaf<R: FeedLeaves, L: Leaf<R>>(
     alloc: Global,
     leaf: &L,
@@ -93,84 +94,16 @@ pub fn feed_leaf<R: FeedLeaves, L: Leaf<R>>(
     ensures sound { IfOk result (λ v. L.sound v) }
     ensures stop { IfErr result (λ why. Stops R.rules.ruling.fielding (L.language leaf.now)
         (R.rules.to_units begun.old ++ R.rules.to_units units.old) why) }
-    ensures behind { IfErr result (λ why. StandsBehind R.rules units.new why) }
-    ensures kept { IfErr result (λ why. KeepsUnits R.rules begun.old units.old begun.new why) }
-    ensures ticked { Ticked R.rules units.old ticks.old units.new ticks.new }
-    ensures rising { ticks.old ≤ ticks.new }
-{
-    if begun.is_none() {
-        start_leaf::<R, L>(alloc, leaf, begun, units, ticks)
-    } else {
-        resume_leaf::<R, L>(alloc, leaf, begun, units, ticks)
-    }
-}
-
-/// Reads a part of which no unit has come: of the piece itself, where all its units are there.
-fn start_leaf<R: FeedLeaves, L: Leaf<R>>(
-    alloc: Global,
-    leaf: &L,
-    begun: &mut Begun,
-    units: &mut Units<'_>,
-    ticks: &mut Ticks,
-) -> Result<L::Out, Stop>
-    requires good { L.good leaf.now }
-    requires begun { R.rules.at_unit begun.old }
-    requires at_unit { R.rules.at_unit units.old }
-    requires begins { begun.old ≡ [] }
-    requires few { ticks.old + length (R.rules.to_units units.old) < 2 ^ 64 }
-    ensures begun { R.rules.at_unit begun.new }
-    ensures at_unit { R.rules.at_unit units.new }
-    ensures done { IfOk result (λ v. Spells R.rules.ruling.fielding (L.language leaf.now) (L.seen v)
-        (R.rules.to_units begun.old ++ R.rules.to_units units.old) (R.rules.to_units units.new)) }
-    ensures sound { IfOk result (λ v. L.sound v) }
-    ensures stop { IfErr result (λ why. Stops R.rules.ruling.fielding (L.language leaf.now)
-        (R.rules.to_units begun.old ++ R.rules.to_units units.old) why) }
-    ensures behind { IfErr result (λ why. StandsBehind R.rules units.new why) }
-    ensures kept { IfErr result (λ why. KeepsUnits R.rules begun.old units.old begun.new why) }
-    ensures ticked { Ticked R.rules units.old ticks.old units.new ticks.new }
-    ensures rising { ticks.old ≤ ticks.new }
-{
-    R::keep_feed_laws();
-    let mut ahead = units.ahead();
-    match leaf.read(alloc, &mut ahead) {
-        Ok(value) => {
-            take_to::<R>(units, ahead, ticks);
-            Ok(value)
-        }
-        Err(Stop::Memory) => Err(Stop::Memory),
-        Err(Stop::Short) => resume_leaf::<R, L>(alloc, leaf, begun, units, ticks),
-        Err(Stop::Refused { .. }) => resume_leaf::<R, L>(alloc, leaf, begun, units, ticks),
-    }
-}
-
-/// Reads a part of which more units are wanted: of those that have come with those of the piece behind them, up to as
-/// many as such a part can have.
-fn resume_leaf<R: FeedLeaves, L: Leaf<R>>(
-    alloc: Global,
-    leaf: &L,
-    begun: &mut Begun,
-    units: &mut Units<'_>,
-    ticks: &mut Ticks,
-) -> Result<L::Out, Stop>
-    requires good { L.good leaf.now }
-    requires begun { R.rules.at_unit begun.old }
-    requires at_unit { R.rules.at_unit units.old }
-    requires begins { Short R.rules.ruling.fielding (L.language leaf.now) (R.rules.to_units begun.old) }
-    requires few { ticks.old + length (R.rules.to_units units.old) < 2 ^ 64 }
-    ensures begun { R.rules.at_unit begun.new }
-    ensures at_unit { R.rules.at_unit units.new }
-    ensures done { IfOk result (λ v. Spells R.rules.ruling.fielding (L.language leaf.now) (L.seen v)
-        (R.rules.to_units begun.old ++ R.rules.to_units units.old) (R.rules.to_units units.new)) }
-    ensures sound { IfOk result (λ v. L.sound v) }
-    ensures stop { IfErr result (λ why. Stops R.rules.ruling.fielding (L.language leaf.now)
-        (R.rules.to_units begun.old ++ R.rules.to_units units.old) why) }
-    ensures behind { IfErr result (λ why. StandsBehind R.rules units.new why) }
+    ensures after { IfErr result (λ why. StandsAfter R.rules units.new why) }
     ensures kept { IfErr result (λ why. KeepsUnits R.rules begun.old units.old begun.new why) }
     ensures ticked { Ticked R.rules units.old ticks.old units.new ticks.new }
     ensures rising { ticks.old ≤ ticks.new }
 {
     R::keep_laws();
     leaf.be_brief();
+    if let Some(value) = read_at_once::<R, L>(alloc, leaf, begun, units, ticks)? {
+        return Ok(value);
+    }
     let mut joined = begun.copied();
     let further = R::extend(&mut joined, &units.ahead());
     let octets = joined.octets();
@@ -195,11 +128,51 @@ fn resume_leaf<R: FeedLeaves, L: Leaf<R>>(
     }
 }
 
+/// Reads a part of which no unit has come of the piece itself, where all its units are there; otherwise takes nothing.
+/// An `Err` is `Memory`.
+fn read_at_once<R: FeedLeaves, L: Leaf<R>>(
+    alloc: Global,
+    leaf: &L,
+    begun: &Begun,
+    units: &mut Units<'_>,
+    ticks: &mut Ticks,
+) -> Result<Option<L::Out>, Stop>
+    requires good { L.good leaf.now }
+    requires at_unit { R.rules.at_unit units.old }
+    requires begins { HasBegun R.rules (L.language leaf.now) begun.now }
+    requires few { ticks.old + length (R.rules.to_units units.old) < 2 ^ 64 }
+    ensures at_unit { R.rules.at_unit units.new }
+    ensures done { IfOk result (λ o. IfSome o (λ v. Spells R.rules.ruling.fielding (L.language leaf.now) (L.seen v)
+        (R.rules.to_units begun.now ++ R.rules.to_units units.old) (R.rules.to_units units.new))) }
+    ensures sound { IfOk result (λ o. IfSome o (λ v. L.sound v)) }
+    ensures still { IfOk result (λ o. IsNone o → (units.new ≡ units.old) × (ticks.new ≡ ticks.old)) }
+    ensures short { IfOk result (λ o. IsNone o →
+        Short R.rules.ruling.fielding (L.language leaf.now) (R.rules.to_units begun.now)) }
+    ensures memory { IfErr result (λ why. why ≡ Memory) }
+    ensures ticked { Ticked R.rules units.old ticks.old units.new ticks.new }
+    ensures rising { ticks.old ≤ ticks.new }
+{
+    R::keep_feed_laws();
+    if !begun.is_none() {
+        return Ok(None);
+    }
+    let mut ahead = units.ahead();
+    match leaf.read(alloc, &mut ahead) {
+        Ok(value) => {
+            take_to::<R>(units, ahead, ticks);
+            Ok(Some(value))
+        }
+        Err(Stop::Memory) => Err(Stop::Memory),
+        Err(Stop::Short) => Ok(None),
+        Err(Stop::Refused { .. }) => Ok(None),
+    }
+}
+
 /// Takes the units up to where the cursor stands, a tick each.
 fn take_to<'a, R: ReadLeaves>(units: &mut Units<'a>, ahead: BitCursor<'a>, ticks: &mut Ticks)
     requires at_unit { R.rules.at_unit units.old }
     requires ahead { R.rules.at_unit ahead }
-    requires behind { length (R.rules.to_units ahead) ≤ length (R.rules.to_units units.old) }
+    requires after { length (R.rules.to_units ahead) ≤ length (R.rules.to_units units.old) }
     requires few { ticks.old + length (R.rules.to_units units.old) < 2 ^ 64 }
     ensures left { units.new ≡ ahead.entry }
     ensures ticked { Ticked R.rules units.old ticks.old ahead.entry ticks.new }

@@ -6,15 +6,17 @@
 #![tactic(auto)]
 
 mod begun;
+mod choices;
 mod frame;
 mod leaf;
 mod lists;
 mod parts;
+mod sequences;
 mod units;
 mod values;
 
 pub use begun::Begun;
-pub use frame::{Elements, Frame, Frames};
+pub use frame::{Components, Elements, Frame, Frames};
 pub use leaf::FeedLeaves;
 pub use units::{Ticks, Units};
 pub use values::feed;

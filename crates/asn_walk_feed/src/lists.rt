@@ -4,15 +4,15 @@
 //! a list stands between two of these parts.
 ghost use Rattle.std.specs.Prelude.{◌≡◌, ◌≤◌, ◌<◌, ◌+◌, ◌^◌, ◌++◌, ℕ, List, [], length, zero, IfOk, IfErr, OnOk, OnErr, IsNone, Ok, Err, Some, None, true, false};
 ghost use Rattle.asn_values.specs.Profile.{InProfile};
-ghost use Rattle.asn_values.specs.Shape.{sequence_of};
+ghost use Rattle.asn_values.specs.Shape.{SizeRange, sequence_of};
 ghost use Rattle.asn_values.specs.View.{shape_of, datum_of, size_range_of};
 ghost use Rattle.asn_rules.specs.Languages.{Spells};
 ghost use Rattle.asn_rules.specs.Stops.{Stops};
 ghost use Rattle.asn_rules.specs.declared.stop.Stop.TheVariants.{Short};
 ghost use Rattle.asn_walk.specs.Reading.{ValuesOf};
-ghost use Rattle.asn_walk_feed.specs.Feeding.{Waits, NextOf, HasBegun, Ticked, StandsBehind, KeepsUnits};
+ghost use Rattle.asn_walk_feed.specs.Feeding.{Waits, NextOf, HasBegun, Ticked, StandsAfter, KeepsUnits};
 ghost use Rattle.asn_walk_feed.specs.Nodes.{nodes};
-ghost use Rattle.asn_walk_feed.specs.Taken.{with_node, IsCovered, Took, ListGoesOn, KeepsFrames, ReadsOn, StopsOn, KeepsOn, ReadsListOn, StopsListOn, KeepsListOn, ReadsElementsOn, StopsElementsOn, GoesOnTo};
+ghost use Rattle.asn_walk_feed.specs.Taken.{with_node, IsCovered, Took, ListGoesOn, KeepsFrames, ReadsOn, StopsOn, KeepsOn, ReadsListOn, StopsListOn, KeepsListOn, ReadsElementsOn, StopsElementsOn, UnderEachSize, GoesOnTo};
 
 use crate::begun::Begun;
 use crate::frame::{Elements, Frame, Frames};
@@ -50,7 +50,7 @@ pub(crate) fn resume_list<R: FeedLeaves>(
         (sequence_of (shape_of element.now) (size_range_of size.now)) units.old why) }
     ensures kept { IfErr result (λ why. KeepsOn R.rules R.ahead R.is_between (with_node node (nodes frames.old))
         (nodes frames.new) (sequence_of (shape_of element.now) (size_range_of size.now)) units.old why) }
-    ensures behind { IfErr result (λ why. StandsBehind R.rules units.new why) }
+    ensures after { IfErr result (λ why. StandsAfter R.rules units.new why) }
     ensures ticked { Ticked R.rules units.old ticks.old units.new ticks.new }
     ensures rising { ticks.old ≤ ticks.new }
 {
@@ -64,6 +64,8 @@ pub(crate) fn resume_list<R: FeedLeaves>(
             start_list::<R>(alloc, element, size, begun, frames, units, ticks)
         }
         None => start_list::<R>(alloc, element, size, Begun::none(), frames, units, ticks),
+        Some(Frame::Components(_read)) => unreachable!(),
+        Some(Frame::Chosen(_)) => unreachable!(),
     }
 }
 
@@ -95,7 +97,7 @@ fn start_list<R: FeedLeaves>(
     ensures kept { IfErr result (λ why. KeepsFrames R.rules R.ahead R.is_between (nodes frames.new)
         (sequence_of (shape_of element.now) (size_range_of size.now))
         (R.rules.to_units begun ++ R.rules.to_units units.old) why) }
-    ensures behind { IfErr result (λ why. StandsBehind R.rules units.new why) }
+    ensures after { IfErr result (λ why. StandsAfter R.rules units.new why) }
     ensures ticked { Ticked R.rules units.old ticks.old units.new ticks.new }
     ensures rising { ticks.old ≤ ticks.new }
 {
@@ -146,7 +148,7 @@ fn feed_list<R: FeedLeaves>(
         (size_range_of size.now) list (nodes frames.old) units.old why) }
     ensures kept { IfErr result (λ why. KeepsListOn R.rules R.ahead R.is_between (shape_of element.now)
         (size_range_of size.now) list (nodes frames.old) (nodes frames.new) units.old why) }
-    ensures behind { IfErr result (λ why. StandsBehind R.rules units.new why) }
+    ensures after { IfErr result (λ why. StandsAfter R.rules units.new why) }
     ensures ticked { Ticked R.rules units.old ticks.old units.new ticks.new }
     ensures rising { ticks.old ≤ ticks.new }
 {
@@ -189,49 +191,52 @@ fn feed_elements<R: FeedLeaves>(
         (size_range_of size.now) list.old (nodes frames.old) units.old why) }
     ensures kept { result ≡ Err Short → GoesOnTo R.rules R.ahead R.is_between (shape_of element.now)
         (size_range_of size.now) list.old (nodes frames.old) units.old list.new (nodes frames.new) units.new }
-    ensures behind { IfErr result (λ why. StandsBehind R.rules units.new why) }
+    ensures after { IfErr result (λ why. StandsAfter R.rules units.new why) }
     ensures ticked { Ticked R.rules units.old ticks.old units.new ticks.new }
     ensures rising { ticks.old ≤ ticks.new }
 {
     R::keep_laws();
     R::keep_feed_laws();
     loop {
-        feed_fragment::<R>(alloc, element, size, list, frames, units, ticks)?;
+        feed_fragment::<R>(alloc, element, list, frames, units, ticks)?;
         if !next_fragment::<R>(alloc, list, units, ticks)? {
             return Ok(());
         }
     }
 }
 
-/// Reads what is left of the elements of a fragment, and puts them after those that the list has.
+/// Reads what is left of the elements of a fragment, and puts them after those that the list has. The size of the list
+/// does not matter for it.
 #[cycle(feeder)]
 fn feed_fragment<R: FeedLeaves>(
     alloc: Global,
     element: &AsnType,
-    size: &Size,
     list: &mut Elements<R::Fragments>,
     frames: &mut Frames<R::Fragments>,
     units: &mut Units<'_>,
     ticks: &mut Ticks,
 ) -> Result<(), Stop>
     requires at_unit { R.rules.at_unit units.old }
-    requires of_profile { InProfile (sequence_of (shape_of element.now) (size_range_of size.now)) }
     requires covered { IsCovered (shape_of element.now) }
-    requires reached { (all : List ℕ) × ListGoesOn R.rules R.ahead R.is_between (shape_of element.now)
-        (size_range_of size.now) list.old (nodes frames.old) all (R.rules.to_units units.old) }
+    requires reached { (s : SizeRange) × InProfile (sequence_of (shape_of element.now) s) × (all : List ℕ) ×
+        ListGoesOn R.rules R.ahead R.is_between (shape_of element.now) s list.old (nodes frames.old) all
+        (R.rules.to_units units.old) }
     requires few { ticks.old + length (R.rules.to_units units.old) < 2 ^ 64 }
     ensures at_unit { R.rules.at_unit units.new }
-    ensures done { OnOk result (GoesOnTo R.rules R.ahead R.is_between (shape_of element.now)
-        (size_range_of size.now) list.old (nodes frames.old) units.old list.new (nodes frames.new) units.new) }
+    ensures done { OnOk result (UnderEachSize (shape_of element.now) (λ s.
+        GoesOnTo R.rules R.ahead R.is_between (shape_of element.now) s
+        list.old (nodes frames.old) units.old list.new (nodes frames.new) units.new)) }
     ensures over { OnOk result (list.new.left ≡ 0) }
     ensures fragments { OnOk result (list.new.fragments ≡ list.old.fragments) }
     ensures shorter { OnOk result
         (length (R.rules.to_units units.new) ≤ length (R.rules.to_units units.old)) }
-    ensures stop { IfErr result (λ why. StopsElementsOn R.rules R.ahead R.is_between (shape_of element.now)
-        (size_range_of size.now) list.old (nodes frames.old) units.old why) }
-    ensures kept { result ≡ Err Short → GoesOnTo R.rules R.ahead R.is_between (shape_of element.now)
-        (size_range_of size.now) list.old (nodes frames.old) units.old list.new (nodes frames.new) units.new }
-    ensures behind { IfErr result (λ why. StandsBehind R.rules units.new why) }
+    ensures stop { IfErr result (λ why. UnderEachSize (shape_of element.now) (λ s.
+        StopsElementsOn R.rules R.ahead R.is_between (shape_of element.now) s
+        list.old (nodes frames.old) units.old why)) }
+    ensures kept { result ≡ Err Short → UnderEachSize (shape_of element.now) (λ s.
+        GoesOnTo R.rules R.ahead R.is_between (shape_of element.now) s
+        list.old (nodes frames.old) units.old list.new (nodes frames.new) units.new) }
+    ensures after { IfErr result (λ why. StandsAfter R.rules units.new why) }
     ensures ticked { Ticked R.rules units.old ticks.old units.new ticks.new }
     ensures rising { ticks.old ≤ ticks.new }
 {
@@ -274,7 +279,7 @@ fn next_fragment<R: FeedLeaves>(
         (list.new.fragments ≡ list.old.fragments) × (list.new.left ≡ list.old.left)) }
     ensures kept { IfErr result (λ why.
         KeepsUnits R.rules list.old.next_length units.old list.new.next_length why) }
-    ensures behind { IfErr result (λ why. StandsBehind R.rules units.new why) }
+    ensures after { IfErr result (λ why. StandsAfter R.rules units.new why) }
     ensures ticked { Ticked R.rules units.old ticks.old units.new ticks.new }
     ensures rising { ticks.old ≤ ticks.new }
 {

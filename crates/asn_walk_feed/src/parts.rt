@@ -1,18 +1,21 @@
 //! The parts of few units that stand in values of all types.
-ghost use Rattle.std.specs.Prelude.{◌≡◌, ◌≤◌, ℕ, Option, ⊤};
+ghost use Rattle.std.specs.Prelude.{◌≡◌, ◌≤◌, ◌<◌, ◌⊎◌, ℕ, Bool, true, Option, vec_len, ⊤};
+ghost use Rattle.std.specs.Option.{option_map};
 ghost use Rattle.asn_values.specs.Datum.{Datum};
-ghost use Rattle.asn_values.specs.Profile.{InProfile};
+ghost use Rattle.asn_values.specs.Profile.{InProfile, good_default};
 ghost use Rattle.asn_values.specs.View.{shape_of, datum_of, size_range_of};
 ghost use Rattle.asn_walk.specs.Ahead.{Ahead};
+ghost use Rattle.asn_walk.specs.Coding.{PreambleOf, AreFew, IndexOf};
 ghost use Rattle.asn_walk.specs.Laws.{IsSizeOfProfile};
-ghost use Rattle.asn_walk.specs.Reading.{ValuesOf};
+ghost use Rattle.asn_walk.specs.Reading.{ValuesOf, OthersOf};
+ghost use Rattle.asn_walk.specs.Views.{preamble_seen, index_seen};
 ghost use Rattle.asn_walk_feed.specs.Feeding.{IsScalar, NextOf};
 
 use crate::leaf::{FeedLeaves, Leaf};
 use asn_bits::BitCursor;
 use asn_rules::internal::Stop;
 use asn_values::{AsnType, Size, Value};
-use asn_walk::ReadLeaves;
+use asn_walk::{Index, Preamble, ReadLeaves};
 use std::alloc::Global;
 
 /// A BOOLEAN, a NULL, an INTEGER or an ENUMERATED.
@@ -102,5 +105,105 @@ impl<'a, R: FeedLeaves> Leaf<R> for NextLength<'a, R::Fragments> {
 
     fn be_brief(&self) {
         R::keep_feed_laws();
+    }
+}
+
+/// A value of the type of a component with this DEFAULT, other than that.
+#[derive(Drop)]
+pub struct Other<'a> {
+    pub ty: &'a AsnType,
+    pub default: &'a Value,
+}
+
+impl<'a, R: FeedLeaves> Leaf<R> for Other<'a> {
+    type Out = Value;
+
+    ghost meant = { Datum };
+
+    ghost seen = { datum_of };
+
+    ghost language = { λ s. OthersOf R.rules (datum_of s.default.now) (shape_of s.ty.now) };
+
+    ghost good = { λ s.
+        InProfile (shape_of s.ty.now) × (good_default (shape_of s.ty.now) (datum_of s.default.now) ≡ true) };
+
+    ghost sound = { λ v. ⊤ };
+
+    fn read(&self, _alloc: Global, units: &mut BitCursor<'_>) -> Result<Value, Stop> {
+        R::read_other(self.ty, self.default, units)
+    }
+
+    fn be_brief(&self) {
+        R::keep_feed_laws();
+    }
+}
+
+/// The preamble of a SEQUENCE: of this many presence bits, and of the extension bit where there is an extension mark
+/// with this many additions.
+#[derive(Drop)]
+pub struct Preambled {
+    pub count: u32,
+    pub additions: Option<usize>,
+}
+
+impl<R: FeedLeaves> Leaf<R> for Preambled {
+    type Out = Preamble;
+
+    ghost meant = { Bool × ℕ };
+
+    ghost seen = { preamble_seen };
+
+    ghost language = { λ s. PreambleOf R.rules s.count s.additions };
+
+    ghost good = { λ s. s.count ≤ 64 };
+
+    ghost sound = { λ p. ⊤ };
+
+    fn read(&self, _alloc: Global, units: &mut BitCursor<'_>) -> Result<Preamble, Stop> {
+        R::read_preamble(self.count, self.additions, units)
+    }
+
+    fn be_brief(&self) {
+        R::keep_feed_laws();
+    }
+}
+
+/// What tells the alternative of a CHOICE: of this many in the root, and of this many extension additions where there
+/// is an extension mark.
+#[derive(Drop)]
+pub struct Indexed {
+    pub root: usize,
+    pub additions: Option<usize>,
+}
+
+impl<R: FeedLeaves> Leaf<R> for Indexed {
+    type Out = Index;
+
+    ghost meant = { ℕ ⊎ ℕ };
+
+    ghost seen = { index_seen };
+
+    ghost language = { λ s. IndexOf R.rules s.root s.additions };
+
+    ghost good = { λ s. (0 < s.root) × AreFew s.root s.additions };
+
+    ghost sound = { λ i. ⊤ };
+
+    fn read(&self, _alloc: Global, units: &mut BitCursor<'_>) -> Result<Index, Stop> {
+        R::read_index(self.root, self.additions, units)
+    }
+
+    fn be_brief(&self) {
+        R::keep_feed_laws();
+    }
+}
+
+/// The number of extension additions; `None` where there is no extension mark.
+pub(crate) fn addition_count<T>(ext: &Option<Vec<T>>) -> Option<usize>
+    ensures { result ≡ option_map vec_len ext.now }
+{
+    match ext {
+        None => None,
+        Some(additions) => Some(additions.len()),
     }
 }

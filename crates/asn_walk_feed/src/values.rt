@@ -5,15 +5,17 @@ ghost use Rattle.asn_values.specs.View.{shape_of, datum_of};
 ghost use Rattle.asn_rules.specs.Languages.{Spells};
 ghost use Rattle.asn_rules.specs.Stops.{Stops};
 ghost use Rattle.asn_walk.specs.Reading.{ValuesOf};
-ghost use Rattle.asn_walk_feed.specs.Feeding.{Waits, IsScalar, Ticked, StandsBehind};
+ghost use Rattle.asn_walk_feed.specs.Feeding.{Waits, IsScalar, Ticked, StandsAfter};
 ghost use Rattle.asn_walk_feed.specs.Nodes.{nodes};
 ghost use Rattle.asn_walk_feed.specs.Taken.{IsStart, begun_of, IsCovered, Took, KeepsFrames, ReadsOn, StopsOn, KeepsOn};
 
 use crate::begun::Begun;
+use crate::choices::resume_choice;
 use crate::frame::{Frame, Frames};
 use crate::leaf::{FeedLeaves, feed_leaf};
 use crate::lists::resume_list;
 use crate::parts::Scalar;
+use crate::sequences::resume_sequence;
 use crate::units::{Ticks, Units};
 use asn_rules::internal::Stop;
 use asn_values::{AsnType, Value};
@@ -47,7 +49,7 @@ pub fn feed<R: FeedLeaves>(
         StopsOn R.rules R.ahead R.is_between (nodes frames.old) (shape_of ty.now) units.old why) }
     ensures kept { IfErr result (λ why. KeepsOn R.rules R.ahead R.is_between (nodes frames.old) (nodes frames.new)
         (shape_of ty.now) units.old why) }
-    ensures behind { IfErr result (λ why. StandsBehind R.rules units.new why) }
+    ensures after { IfErr result (λ why. StandsAfter R.rules units.new why) }
     ensures ticked { Ticked R.rules units.old ticks.old units.new ticks.new }
     ensures rising { ticks.old ≤ ticks.new }
 {
@@ -57,27 +59,36 @@ pub fn feed<R: FeedLeaves>(
             let node = frames.take();
             resume_list::<R>(alloc, element, size, node, frames, units, ticks)
         }
+        AsnType::Seq { root, ext } => {
+            let root = root.as_slice();
+            let node = frames.take();
+            resume_sequence::<R>(alloc, root, ext, node, frames, units, ticks)
+        }
+        AsnType::Choice { root, ext } => {
+            let root = root.as_slice();
+            let node = frames.take();
+            resume_choice::<R>(alloc, root, ext, node, frames, units, ticks)
+        }
         AsnType::Bool | AsnType::Null | AsnType::Int(_) | AsnType::Enum { .. } => {
             let node = frames.take();
             feed_scalar::<R>(alloc, ty, node, frames, units, ticks)
         }
-        AsnType::Bits(_)
-        | AsnType::Octets(_)
-        | AsnType::Text(..)
-        | AsnType::Utf8
-        | AsnType::Seq { .. }
-        | AsnType::Choice { .. } => unreachable!(),
+        AsnType::Bits(_) | AsnType::Octets(_) | AsnType::Text(..) | AsnType::Utf8 => {
+            unreachable!()
+        }
     }
 }
 
 /// The units of the first part of a node that have come.
-fn begun_of<F: Drop>(node: Option<Frame<F>>) -> Begun
+pub(crate) fn begun_of<F: Drop>(node: Option<Frame<F>>) -> Begun
     requires { IsStart node }
     ensures { result ≡ begun_of node }
 {
     match node {
         Some(Frame::Start(begun)) => begun,
         Some(Frame::Elements(_list)) => unreachable!(),
+        Some(Frame::Components(_read)) => unreachable!(),
+        Some(Frame::Chosen(_)) => unreachable!(),
         None => Begun::none(),
     }
 }
@@ -108,7 +119,7 @@ fn feed_scalar<R: FeedLeaves>(
     ensures kept { IfErr result (λ why.
         KeepsFrames R.rules R.ahead R.is_between (nodes frames.new) (shape_of ty.now)
         (R.rules.to_units (begun_of node) ++ R.rules.to_units units.old) why) }
-    ensures behind { IfErr result (λ why. StandsBehind R.rules units.new why) }
+    ensures after { IfErr result (λ why. StandsAfter R.rules units.new why) }
     ensures ticked { Ticked R.rules units.old ticks.old units.new ticks.new }
     ensures rising { ticks.old ≤ ticks.new }
 {

@@ -1,7 +1,7 @@
 //! The decoder of whole messages into a value that is there.
 ghost use Rattle.std.specs.Prelude.{OnOk, IfErr, Ok, Err};
 ghost use Rattle.asn_values.specs.View.{shape_of};
-ghost use Rattle.asn_rules.specs.Codec.{Decoded};
+ghost use Rattle.asn_rules.specs.Codec.{Decoded, DecodedFront};
 
 use crate::reader::read_complete_into;
 use asn_bits::BitCursor;
@@ -31,6 +31,31 @@ pub fn decode_into<R: ReadLeaves>(
     ensures done { OnOk result (Decoded R.rules.ruling (Ok value.new) (shape_of ty.now) octets.now) }
     ensures fault { IfErr result (λ why. Decoded R.rules.ruling (Err why) (shape_of ty.now) octets.now) }
 {
+    match decode_front_into::<R>(alloc, ty, octets, value) {
+        Ok(used) => {
+            if used < octets.len() {
+                return Err(DecodeFault::Rest { used });
+            }
+            Ok(())
+        }
+        Err(fault) => Err(fault),
+    }
+}
+
+/// Decodes the value of the type whose encoding the octets begin with, as `decode_into`, and gives how many octets the
+/// encoding has. Those that follow it are not looked at.
+///
+/// # Errors
+/// As `decode_into`, but for `Rest`.
+#[inline(always)]
+pub fn decode_front_into<R: ReadLeaves>(
+    alloc: Global,
+    ty: &Checked,
+    octets: &[u8],
+    value: &mut Value,
+) -> Result<usize, DecodeFault>
+    ensures { DecodedFront R.rules.ruling result value.new (shape_of ty.now) octets.now }
+{
     R::keep_laws();
     let given = octets.len().min(MAX_OCTETS);
     let message = &octets[..given];
@@ -40,10 +65,7 @@ pub fn decode_into<R: ReadLeaves>(
     match read_complete_into::<R>(alloc, ty.get(), &mut units, value) {
         Ok(()) => {
             let used = given - R::octets_left(&units);
-            if used < octets.len() {
-                return Err(DecodeFault::Rest { used });
-            }
-            Ok(())
+            Ok(used)
         }
         Err(Stop::Refused { left, why }) => {
             let at = (all - left) as u64;

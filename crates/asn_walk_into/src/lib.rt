@@ -10,5 +10,5 @@ mod decoder;
 mod entries;
 mod reader;
 
-pub use decoder::decode_into;
+pub use decoder::{decode_front_into, decode_into};
 pub use reader::{read_complete_into, read_into};

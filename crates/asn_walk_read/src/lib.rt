@@ -10,4 +10,6 @@ mod reader;
 
 pub use components::{try_bounded, try_integer};
 pub use message_reader::read_message;
-pub use reader::{SHORT_OPEN_FIELD, added_count, read, read_complete, read_open_octets};
+pub use reader::{
+    SHORT_OPEN_FIELD, added_count, read, read_complete, read_open_field, read_open_octets,
+};

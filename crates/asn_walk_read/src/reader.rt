@@ -117,7 +117,7 @@ pub fn read_complete<R: ReadLeaves>(
 /// Reads an open type field that holds a value of the type: first all its octets, and then the complete encoding that
 /// they have to be (X.691, "open type fields"; X.696, "open type").
 #[cycle(reader)]
-pub(crate) fn read_open_field<R: ReadLeaves>(
+pub fn read_open_field<R: ReadLeaves>(
     alloc: Global,
     ty: &AsnType,
     units: &mut BitCursor<'_>,

@@ -1,3 +1,4 @@
+pub mod Taking
 pub mod WriteChoices
 pub mod WriteComplete
 pub mod WriteComponents
@@ -6,3 +7,5 @@ pub mod WriteLists
 pub mod WritePresence
 pub mod WriteSequences
 pub mod WriteTells
+pub mod Levels
+pub mod Deliveries

@@ -13,12 +13,14 @@ use Rattle.asn_values.specs.Fits.{Fits, FitsAlternative, FitsMoreAlternatives}
 use Rattle.asn_values.specs.View.{shape_of, datum_of, branch_of, alternatives_of, more_alternatives_of}
 use Rattle.asn_values.proofs.Alternatives.{shape_of_branch, fits_nowhere}
 use Rattle.asn_values.proofs.Views.{datum_of-Choice}
+use Rattle.asn_sinks.proofs.Pushing.{pushed_same}
 use Rattle.asn_rules.specs.Chunks.{Chunk, ones}
 use Rattle.asn_walk.specs.Coding.{Coding}
 use Rattle.asn_walk.specs.Composites.{in_open_field, alternative_code, choice_parts}
 use Rattle.asn_walk.specs.WriteLaws.{WriteLaws}
-use Rattle.asn_walk.specs.Writing.{written, Writes, WritesUnits}
+use Rattle.asn_walk.specs.Writing.{Pushing, written, Writes, WritesUnits}
 use Rattle.asn_walk.proofs.Parts.{choice_shape, known_count}
+use Rattle.asn_walk_write.proofs.Taking.{PushLaws}
 use Rattle.asn_walk_write.proofs.WriteComponents.{writes_units}
 
 -- ---- the alternative at an index
@@ -89,42 +91,44 @@ module _ (t : AsnType) (v : Value) (root : Vec Alt Global) (ext : Option (Vec Al
         let g : FitsMoreAlternatives (more_alternatives_of ext) (tag - n) (datum_of chosen.value) = rw (choice_shape t root ext is, view, outside, known_count root n en) at f in
         rw e at g
 
-  module _ {c : Coding} (laws : WriteLaws c) where
+  module _ {Sink : Type 0} {push : Pushing Sink} (pushing : PushLaws push) {c : Coding} (laws : WriteLaws c) where
     -- what is written of an alternative of the root is the value
-    pub root_written : tag < n → (alts : List Alt) (w : Value) (old mid new : List ℕ) (marked : Bool)
+    pub root_written : tag < n → (alts : List Alt) (w : Value) (old mid new : Sink) (marked : Bool)
         → alts ≡ root.items → w ≡ chosen.value → marked ≡ is_some ext
-        → WritesUnits c old mid (c.index n marked (inl tag))
-        → Writes c mid new (alternative_code c (alternatives_of (map branch_of alts)) tag (datum_of w))
-        → Writes c old new (c.code (shape_of t) (datum_of v))
+        → WritesUnits push c old mid (c.index n marked (inl tag))
+        → Writes push c mid new (alternative_code c (alternatives_of (map branch_of alts)) tag (datum_of w))
+        → Writes push c old new (c.code (shape_of t) (datum_of v))
     root_written h alts w old mid new marked ea ew em e f =
         let all = alternatives_of (map branch_of root.items) in
         let more = more_alternatives_of ext in
         let inside : tag < count all = rw (known_count root n en) h in
-        writes_units laws old mid new (c.index n marked (inl tag)) (alternative_code c (alternatives_of (map branch_of alts)) tag (datum_of w)) e f
-        ∙ ap (λ (l : List Alt). old ++ written c (ones (c.index n marked (inl tag)) ++ alternative_code c (alternatives_of (map branch_of l)) tag (datum_of w))) ea
-        ∙ ap (λ (x : Value). old ++ written c (ones (c.index n marked (inl tag)) ++ alternative_code c all tag (datum_of x))) ew
-        ∙ ap (λ (m : Bool). old ++ written c (ones (c.index n m (inl tag)) ++ alternative_code c all tag (datum_of chosen.value))) (em ∙ sym (mark_there ext))
-        ∙ ap (λ (k : ℕ). old ++ written c (ones (c.index k (is_marked_choice more) (inl tag)) ++ alternative_code c all tag (datum_of chosen.value))) (sym (known_count root n en))
-        ∙ ap (λ (cs : List Chunk). old ++ written c cs) (sym (code_of_root laws all more tag (datum_of chosen.value) inside))
-        ∙ ap (λ (x : Shape). old ++ written c (c.code x (alternative tag (datum_of chosen.value)))) (sym (choice_shape t root ext is))
-        ∙ ap (λ (d : Datum). old ++ written c (c.code (shape_of t) d)) (sym view)
+        pushed_same push old new
+        (ap (λ (l : List Alt). written c (ones (c.index n marked (inl tag)) ++ alternative_code c (alternatives_of (map branch_of l)) tag (datum_of w))) ea
+        ∙ ap (λ (x : Value). written c (ones (c.index n marked (inl tag)) ++ alternative_code c all tag (datum_of x))) ew
+        ∙ ap (λ (m : Bool). written c (ones (c.index n m (inl tag)) ++ alternative_code c all tag (datum_of chosen.value))) (em ∙ sym (mark_there ext))
+        ∙ ap (λ (k : ℕ). written c (ones (c.index k (is_marked_choice more) (inl tag)) ++ alternative_code c all tag (datum_of chosen.value))) (sym (known_count root n en))
+        ∙ ap (λ (cs : List Chunk). written c cs) (sym (code_of_root laws all more tag (datum_of chosen.value) inside))
+        ∙ ap (λ (x : Shape). written c (c.code x (alternative tag (datum_of chosen.value)))) (sym (choice_shape t root ext is))
+        ∙ ap (λ (d : Datum). written c (c.code (shape_of t) d)) (sym view))
+        (writes_units pushing laws old mid new (c.index n marked (inl tag)) (alternative_code c (alternatives_of (map branch_of alts)) tag (datum_of w)) e f)
 
     -- and so it is of an addition
-    pub added_written : n ≤ tag → (additions : Vec Alt Global) (more : List Alt) (w : Value) (old mid new : List ℕ)
+    pub added_written : n ≤ tag → (additions : Vec Alt Global) (more : List Alt) (w : Value) (old mid new : Sink)
         → ext ≡ Some additions → more ≡ additions.items → w ≡ chosen.value
-        → WritesUnits c old mid (c.index n true (inr (tag - n)))
-        → Writes c mid new (in_open_field c
+        → WritesUnits push c old mid (c.index n true (inr (tag - n)))
+        → Writes push c mid new (in_open_field c
         (alternative_code c (alternatives_of (map branch_of more)) (tag - n) (datum_of w)))
-        → Writes c old new (c.code (shape_of t) (datum_of v))
+        → Writes push c old new (c.code (shape_of t) (datum_of v))
     added_written h additions more w old mid new e em ew f g =
         let all = alternatives_of (map branch_of root.items) in
         let alts = alternatives_of (map branch_of additions.items) in
         let past : count all ≤ tag = rw (known_count root n en) h in
-        writes_units laws old mid new (c.index n true (inr (tag - n))) (in_open_field c (alternative_code c (alternatives_of (map branch_of more)) (tag - n) (datum_of w))) f g
-        ∙ ap (λ (l : List Alt). old ++ written c (ones (c.index n true (inr (tag - n))) ++ in_open_field c (alternative_code c (alternatives_of (map branch_of l)) (tag - n) (datum_of w)))) em
-        ∙ ap (λ (x : Value). old ++ written c (ones (c.index n true (inr (tag - n))) ++ in_open_field c (alternative_code c alts (tag - n) (datum_of x)))) ew
-        ∙ ap (λ (k : ℕ). old ++ written c (ones (c.index k true (inr (tag - k))) ++ in_open_field c (alternative_code c alts (tag - k) (datum_of chosen.value)))) (sym (known_count root n en))
-        ∙ ap (λ (cs : List Chunk). old ++ written c cs) (sym (code_of_added laws all alts tag (datum_of chosen.value) past))
-        ∙ ap (λ (x : Option (Vec Alt Global)). old ++ written c (c.code (choice all (more_alternatives_of x)) (alternative tag (datum_of chosen.value)))) (sym e)
-        ∙ ap (λ (x : Shape). old ++ written c (c.code x (alternative tag (datum_of chosen.value)))) (sym (choice_shape t root ext is))
-        ∙ ap (λ (d : Datum). old ++ written c (c.code (shape_of t) d)) (sym view)
+        pushed_same push old new
+        (ap (λ (l : List Alt). written c (ones (c.index n true (inr (tag - n))) ++ in_open_field c (alternative_code c (alternatives_of (map branch_of l)) (tag - n) (datum_of w)))) em
+        ∙ ap (λ (x : Value). written c (ones (c.index n true (inr (tag - n))) ++ in_open_field c (alternative_code c alts (tag - n) (datum_of x)))) ew
+        ∙ ap (λ (k : ℕ). written c (ones (c.index k true (inr (tag - k))) ++ in_open_field c (alternative_code c alts (tag - k) (datum_of chosen.value)))) (sym (known_count root n en))
+        ∙ ap (λ (cs : List Chunk). written c cs) (sym (code_of_added laws all alts tag (datum_of chosen.value) past))
+        ∙ ap (λ (x : Option (Vec Alt Global)). written c (c.code (choice all (more_alternatives_of x)) (alternative tag (datum_of chosen.value)))) (sym e)
+        ∙ ap (λ (x : Shape). written c (c.code x (alternative tag (datum_of chosen.value)))) (sym (choice_shape t root ext is))
+        ∙ ap (λ (d : Datum). written c (c.code (shape_of t) d)) (sym view))
+        (writes_units pushing laws old mid new (c.index n true (inr (tag - n))) (in_open_field c (alternative_code c (alternatives_of (map branch_of more)) (tag - n) (datum_of w))) f g)

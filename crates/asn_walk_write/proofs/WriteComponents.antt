@@ -1,16 +1,18 @@
 -- Where the loops of a writer over the components of a SEQUENCE stand, in any rules.
-use Rattle.std.proofs.Common.{◌≡◌, ◌↔◌, ◌⊎◌, ℕ, true, false, List, [], ◌∷◌, ◌++◌, map, Option, Some, None, inl, inr, refl, sym, ◌∙◌, ap, subst, append_assoc}
+use Rattle.std.proofs.Common.{◌≡◌, ◌↔◌, ◌⊎◌, ◌≤◌, ℕ, true, false, List, [], ◌∷◌, ◌++◌, map, Option, Some, None, inl, inr, refl, sym, ◌∙◌, ap, subst, append_assoc, arith}
 use Rattle.std.proofs.lemmas.Bool.{not-false}
 use Rattle.std.proofs.lemmas.List.{append-nil}
 use Rattle.asn_values.specs.Datum.{Datum}
 use Rattle.asn_values.specs.Shape.{Shape, Demand, must, optional, default, Fields, no_fields, field}
 use Rattle.asn_values.specs.Fits.{Fits, FitsDemand, FitsEach}
+use Rattle.asn_values.specs.Measures.{depth, fields_depth}
 use Rattle.asn_values.specs.Profile.{InProfile}
 use Rattle.asn_values.specs.Parts.{IsGoodDemand}
 use Rattle.asn_values.specs.View.{Part, fields_of, demand_of}
 use Rattle.asn_values.specs.declared.types.Need.{Need}
 use Rattle.asn_values.specs.declared.types.Need.TheVariants as need
 use Rattle.asn_values.specs.declared.value.Value.{Value}
+use Rattle.asn_sinks.proofs.Pushing.{pushed_same}
 use Rattle.asn_rules.specs.Chunks.{Chunk, ones, flat}
 use Rattle.asn_rules.specs.Components.{is_default, is_spelled}
 use Rattle.asn_rules.proofs.Law.Entries.{default_is}
@@ -19,7 +21,8 @@ use Rattle.asn_rules.proofs.Components.ListedEach.{good_fits}
 use Rattle.asn_walk.specs.Coding.{Coding}
 use Rattle.asn_walk.specs.Composites.{each_code}
 use Rattle.asn_walk.specs.WriteLaws.{WriteLaws}
-use Rattle.asn_walk.specs.Writing.{written, Writes, WritesUnits}
+use Rattle.asn_walk.specs.Writing.{Pushing, written, Writes, WritesUnits}
+use Rattle.asn_walk_write.proofs.Taking.{PushLaws}
 use Rattle.asn_walk_write.proofs.WritePresence.{Left, left_more, left_ends}
 
 -- ---- the components
@@ -28,59 +31,83 @@ use Rattle.asn_walk_write.proofs.WritePresence.{Left, left_more, left_ends}
 abbrev pub FitsHere : Part → Option Datum → Type 0
 FitsHere p e = FitsDemand (λ d. Fits p.shape d) p.demand e
 
--- what a sink has, with the bits of the components that are left, which code gives, is what it had with those of all;
--- and all entries are those of their components where those that are left are
-pub record Written (code : Fields → List (Option Datum) → List ℕ) (all : List Part) (entries : List (Option Datum)) (before now : List ℕ) (left : List Part) (rest : List (Option Datum)) : Type 0 where
+-- a sink has taken the bits of the components before those that are left, where code gives the bits; and all entries are
+-- those of their components where those that are left are
+pub record Written {Sink : Type 0} (push : Pushing Sink) (code : Fields → List (Option Datum) → List ℕ) (all : List Part) (entries : List (Option Datum)) (before now : Sink) (left : List Part) (rest : List (Option Datum)) : Type 0 where
+  pub pushing : PushLaws push
   pub components : Left left rest
   pub fits : FitsEach (fields_of left) rest ↔ FitsEach (fields_of all) entries
-  pub known : now ++ code (fields_of left) rest ≡ before ++ code (fields_of all) entries
+  pub deep : fields_depth (fields_of left) ≤ fields_depth (fields_of all)
+  pub done : List ℕ
+  pub pushed : push before now done
+  pub known : done ++ code (fields_of left) rest ≡ code (fields_of all) entries
 
-pub written_starts : (code : Fields → List (Option Datum) → List ℕ) (before : List ℕ) (all : List Part)
+pub written_starts : {Sink : Type 0} {push : Pushing Sink} (pushing : PushLaws push) (code : Fields → List (Option Datum) → List ℕ) (before : Sink) (all : List Part)
     (entries : List (Option Datum)) → Left all entries
-    → Written code all entries before before all entries
-written_starts code before all entries h = record { components = h; fits = (λ f. f, λ f. f); known = refl }
+    → Written push code all entries before before all entries
+written_starts pushing code before all entries h = record {
+  pushing = pushing;
+  components = h;
+  fits = (λ f. f, λ f. f);
+  deep = omega arith;
+  done = [];
+  pushed = pushing.none before;
+  known = refl;
+}
 
-module _ {code : Fields → List (Option Datum) → List ℕ} {all : List Part} {entries : List (Option Datum)} {before now : List ℕ} {left : List Part} {p : Part} {rest : List (Option Datum)} {e : Option Datum} where
+module _ {Sink : Type 0} {push : Pushing Sink} {code : Fields → List (Option Datum) → List ℕ} {all : List Part} {entries : List (Option Datum)} {before now : Sink} {left : List Part} {p : Part} {rest : List (Option Datum)} {e : Option Datum} where
   -- a component whose bits are us
-  pub written_on : {new : List ℕ} (us : List ℕ) → Written code all entries before now (p ∷ left) (e ∷ rest)
+  pub written_on : {new : Sink} (us : List ℕ) → Written push code all entries before now (p ∷ left) (e ∷ rest)
       → FitsHere p e
-      → code (fields_of (p ∷ left)) (e ∷ rest) ≡ us ++ code (fields_of left) rest → new ≡ now ++ us
-      → Written code all entries before new left rest
-  written_on us h f s e = record {
+      → code (fields_of (p ∷ left)) (e ∷ rest) ≡ us ++ code (fields_of left) rest → push now new us
+      → Written push code all entries before new left rest
+  written_on {new} us h f s e = record {
+    pushing = h.pushing;
     components = left_more h.components;
     fits = (λ g. h.fits.0 (f, g), λ a. (h.fits.1 a).1);
-    known =
-        ap (λ l. l ++ code (fields_of left) rest) e
-        ∙ append_assoc now us (code (fields_of left) rest)
-        ∙ ap (λ l. now ++ l) (sym s)
-        ∙ h.known;
+    deep = omega (arith, h.deep);
+    done = h.done ++ us;
+    pushed = h.pushing.joined before now new h.done us h.pushed e;
+    known = append_assoc h.done us (code (fields_of left) rest) ∙ ap (λ l. h.done ++ l) (sym s) ∙ h.known;
   }
 
   -- one that has no bits
-  pub written_past : Written code all entries before now (p ∷ left) (e ∷ rest) → FitsHere p e
+  pub written_past : Written push code all entries before now (p ∷ left) (e ∷ rest) → FitsHere p e
       → code (fields_of (p ∷ left)) (e ∷ rest) ≡ code (fields_of left) rest
-      → Written code all entries before now left rest
+      → Written push code all entries before now left rest
   written_past h f s = record {
+    pushing = h.pushing;
     components = left_more h.components;
     fits = (λ g. h.fits.0 (f, g), λ a. (h.fits.1 a).1);
-    known = ap (λ l. now ++ l) (sym s) ∙ h.known;
+    deep = omega (arith, h.deep);
+    done = h.done;
+    pushed = h.pushed;
+    known = ap (λ l. h.done ++ l) (sym s) ∙ h.known;
   }
 
   -- one whose entry is none of it
-  pub written_never : Written code all entries before now (p ∷ left) (e ∷ rest) → (FitsHere p e → ⊥)
+  pub written_never : Written push code all entries before now (p ∷ left) (e ∷ rest) → (FitsHere p e → ⊥)
       → FitsEach (fields_of all) entries → ⊥
   written_never h never a = never (h.fits.1 a).0
 
-module _ {code : Fields → List (Option Datum) → List ℕ} {all : List Part} {entries : List (Option Datum)} {before now : List ℕ} {left : List Part} {rest : List (Option Datum)} (h : Written code all entries before now left rest) (e : (left ≡ []) ⊎ (rest ≡ [])) where
+module _ {Sink : Type 0} {push : Pushing Sink} {code : Fields → List (Option Datum) → List ℕ} {all : List Part} {entries : List (Option Datum)} {before now : Sink} {left : List Part} {rest : List (Option Datum)} (h : Written push code all entries before now left rest) (e : (left ≡ []) ⊎ (rest ≡ [])) where
   none : (left ≡ []) × (rest ≡ [])
   none = left_ends left rest h.components e
 
   pub written_ends : ((es : List (Option Datum)) → code no_fields es ≡ [])
-      → now ≡ before ++ code (fields_of all) entries
-  written_ends n = sym (append-nil now) ∙ ap (λ l. now ++ l) (sym (n rest)) ∙ ap (λ l. now ++ code (fields_of l) rest) (sym none.0) ∙ h.known
+      → push before now (code (fields_of all) entries)
+  written_ends n =
+      pushed_same push before now
+      (sym (append-nil h.done) ∙ ap (λ l. h.done ++ l) (sym (n rest)) ∙ ap (λ l. h.done ++ code (fields_of l) rest) (sym none.0) ∙ h.known)
+      h.pushed
 
   pub all_written : FitsEach (fields_of all) entries
   all_written = h.fits.0 (rw (none.0, none.1) tt)
+
+-- the levels of the next component
+pub first_deep : {Sink : Type 0} {push : Pushing Sink} {code : Fields → List (Option Datum) → List ℕ} {all : List Part} {entries : List (Option Datum)} {before now : Sink} {left : List Part} {p : Part} {rest : List (Option Datum)}
+    → Written push code all entries before now (p ∷ left) rest → depth p.shape ≤ fields_depth (fields_of all)
+first_deep h = omega (arith, h.deep)
 
 -- ---- what is written of components
 
@@ -98,20 +125,20 @@ written-append {c} laws xs ys =
 pub written-ones : (c : Coding) (us : List ℕ) → written c (ones us) ≡ c.to_bits us
 written-ones c us = ap (λ (vs : List ℕ). c.to_bits vs) (flat-ones c.ruling.fielding.spelled us)
 
--- one part after the other
-pub writes_both : {c : Coding} → WriteLaws c → (old mid new : List ℕ) (xs ys : List Chunk) → Writes c old mid xs
-    → Writes c mid new ys → Writes c old new (xs ++ ys)
-writes_both {c} laws old mid new xs ys e f =
-    f ∙ ap (λ (l : List ℕ). l ++ written c ys) e ∙ append_assoc old (written c xs) (written c ys) ∙ ap (λ (l : List ℕ). old ++ l) (sym (written-append laws xs ys))
+module _ {Sink : Type 0} {push : Pushing Sink} (pushing : PushLaws push) {c : Coding} (laws : WriteLaws c) where
+  -- one part after the other
+  pub writes_both : (old mid new : Sink) (xs ys : List Chunk) → Writes push c old mid xs
+      → Writes push c mid new ys → Writes push c old new (xs ++ ys)
+  writes_both old mid new xs ys e f = pushed_same push old new (sym (written-append laws xs ys)) (pushing.joined old mid new (written c xs) (written c ys) e f)
 
--- plain units, and a part after them
-pub writes_units : {c : Coding} → WriteLaws c → (old mid new us : List ℕ) (ys : List Chunk) → WritesUnits c old mid us
-    → Writes c mid new ys → Writes c old new (ones us ++ ys)
-writes_units {c} laws old mid new us ys e f = writes_both laws old mid new (ones us) ys (e ∙ ap (λ (l : List ℕ). old ++ l) (sym (written-ones c us))) f
+  -- plain units, and a part after them
+  pub writes_units : (old mid new : Sink) (us : List ℕ) (ys : List Chunk) → WritesUnits push c old mid us
+      → Writes push c mid new ys → Writes push c old new (ones us ++ ys)
+  writes_units old mid new us ys e f = writes_both old mid new (ones us) ys (pushed_same push old mid (sym (written-ones c us)) e) f
 
--- nothing
-pub writes_nothing : {c : Coding} → WriteLaws c → (old : List ℕ) → Writes c old old []
-writes_nothing {c} laws old = sym (append-nil old) ∙ ap (λ (l : List ℕ). old ++ l) (sym laws.none)
+  -- nothing
+  pub writes_nothing : (old : Sink) → Writes push c old old []
+  writes_nothing old = pushed_same push old old (sym laws.none) (pushing.none old)
 
 -- a component that is spelt, and those after it
 each_bits-spelled : {c : Coding} → WriteLaws c
@@ -135,18 +162,18 @@ spelt_unless_default need.Optional d h = refl
 spelt_unless_default (need.Default x) d h = absurd (h x refl)
 
 -- one that is spelt
-pub written_more : {c : Coding} (laws : WriteLaws c) {all : List Part} {entries : List (Option Datum)}
-    {before now new : List ℕ} {left : List Part} {p : Part} {rest : List (Option Datum)} {d : Datum}
-    → Written (each_bits c) all entries before now (p ∷ left) (Some d ∷ rest) → is_spelled p.demand (Some d) ≡ true
-    → Fits p.shape d → new ≡ now ++ written c (c.code p.shape d)
-    → Written (each_bits c) all entries before new left rest
+pub written_more : {Sink : Type 0} {push : Pushing Sink} {c : Coding} (laws : WriteLaws c) {all : List Part} {entries : List (Option Datum)}
+    {before now new : Sink} {left : List Part} {p : Part} {rest : List (Option Datum)} {d : Datum}
+    → Written push (each_bits c) all entries before now (p ∷ left) (Some d ∷ rest) → is_spelled p.demand (Some d) ≡ true
+    → Fits p.shape d → Writes push c now new (c.code p.shape d)
+    → Written push (each_bits c) all entries before new left rest
 written_more {c} laws {left = left} {p = p} {rest = rest} {d = d} h s f e = written_on (written c (c.code p.shape d)) h f (each_bits-spelled laws p.name p.demand p.shape (fields_of left) d rest s) e
 
 -- one that is equal to its DEFAULT, and so a value of its type
-pub written_passes : (c : Coding) {all : List Part} {entries : List (Option Datum)} {before now : List ℕ}
+pub written_passes : {Sink : Type 0} {push : Pushing Sink} (c : Coding) {all : List Part} {entries : List (Option Datum)} {before now : Sink}
     {left : List Part} {p : Part} {rest : List (Option Datum)} {d : Datum}
-    → Written (each_bits c) all entries before now (p ∷ left) (Some d ∷ rest) → is_spelled p.demand (Some d) ≡ false
-    → Written (each_bits c) all entries before now left rest
+    → Written push (each_bits c) all entries before now (p ∷ left) (Some d ∷ rest) → is_spelled p.demand (Some d) ≡ false
+    → Written push (each_bits c) all entries before now left rest
 written_passes c {left = left} {p = p} {rest = rest} {d = d} h s =
     written_past h (default_fits p.demand p.shape d h.components.of_profile.0 h.components.of_profile.1 s) (each_bits-default c p.name p.demand p.shape (fields_of left) d rest s)
   where
@@ -163,16 +190,16 @@ absent_fits t optional k = tt
 absent_fits t (default x) k = absurd (cc)
 
 -- one that is absent, where it may be
-pub written_absent : (c : Coding) {all : List Part} {entries : List (Option Datum)} {before now : List ℕ}
+pub written_absent : {Sink : Type 0} {push : Pushing Sink} (c : Coding) {all : List Part} {entries : List (Option Datum)} {before now : Sink}
     {left : List Part} {p : Part} {rest : List (Option Datum)}
-    → Written (each_bits c) all entries before now (p ∷ left) (None ∷ rest) → p.demand ≡ optional
-    → Written (each_bits c) all entries before now left rest
+    → Written push (each_bits c) all entries before now (p ∷ left) (None ∷ rest) → p.demand ≡ optional
+    → Written push (each_bits c) all entries before now left rest
 written_absent c {p = p} h o = written_past h (absent_fits p.shape p.demand o) refl
 
 -- and where it may not
-pub absent_never : (c : Coding) {all : List Part} {entries : List (Option Datum)} {before now : List ℕ}
+pub absent_never : {Sink : Type 0} {push : Pushing Sink} (c : Coding) {all : List Part} {entries : List (Option Datum)} {before now : Sink}
     {left : List Part} {p : Part} {rest : List (Option Datum)}
-    → Written (each_bits c) all entries before now (p ∷ left) (None ∷ rest) → (p.demand ≡ optional → ⊥)
+    → Written push (each_bits c) all entries before now (p ∷ left) (None ∷ rest) → (p.demand ≡ optional → ⊥)
     → FitsEach (fields_of all) entries → ⊥
 absent_never c {p = p} h o = written_never h (never p.demand o)
   where
@@ -180,6 +207,13 @@ absent_never c {p = p} h o = written_never h (never p.demand o)
     never must k f = f
     never optional k f = k refl
     never (default x) k f = f
+
+-- all of them
+pub each_ends : {Sink : Type 0} {push : Pushing Sink} {c : Coding} → WriteLaws c → {all : List Part} {entries : List (Option Datum)}
+    {before now : Sink} {left : List Part} {rest : List (Option Datum)}
+    → Written push (each_bits c) all entries before now left rest → (left ≡ []) ⊎ (rest ≡ [])
+    → Writes push c before now (each_code c (fields_of all) entries)
+each_ends laws h e = written_ends h e (λ es. laws.none)
 
 -- ---- where a zip of the components and the entries ends
 

@@ -1,5 +1,5 @@
 -- Where a writer of the elements of a SEQUENCE OF stands, in any rules.
-use Rattle.std.proofs.Common.{◌≡◌, ◌↔◌, ◌<◌, ◌≤◌, ◌+◌, ℕ, zero, suc, List, [], ◌∷◌, ◌++◌, length, map, take, drop, get_or, Some, None, refl, sym, ap, subst, ◌∙◌, append_assoc, arith}
+use Rattle.std.proofs.Common.{◌≡◌, ◌↔◌, ◌<◌, ◌≤◌, ◌+◌, ℕ, zero, suc, List, [], ◌∷◌, ◌++◌, length, map, take, drop, get_or, Option, Some, None, refl, sym, ap, subst, ◌∙◌, append_assoc, arith}
 use Rattle.std.specs.List.{AllByRecursion}
 use Rattle.std.proofs.lemmas.List.{append-nil, drop_all, drop-map, take-map, length-map}
 use Rattle.std.proofs.Math.Numerals.{add-one}
@@ -11,11 +11,13 @@ use Rattle.asn_values.specs.Fits.{Fits, FitsLength}
 use Rattle.asn_values.specs.View.{datum_of}
 use Rattle.asn_bits.specs.Lengths.{joined}
 use Rattle.asn_bits.proofs.GeneralLengths.{all_take}
+use Rattle.asn_sinks.proofs.Pushing.{pushed_same}
 use Rattle.asn_rules.specs.Chunks.{Chunk}
 use Rattle.asn_rules.proofs.Law.SomeValue.{list_again}
 use Rattle.asn_walk.specs.Coding.{Coding}
 use Rattle.asn_walk.specs.WriteLaws.{WriteLaws}
-use Rattle.asn_walk.specs.Writing.{written, Writes, LeavesToWrite, Advances}
+use Rattle.asn_walk.specs.Writing.{Pushing, written, Writes, LeavesToWrite, Advances}
+use Rattle.asn_walk_write.proofs.Taking.{PushLaws}
 use Rattle.asn_walk_write.proofs.WriteComponents.{written-append}
 
 -- ---- a list of elements
@@ -47,39 +49,56 @@ other_count t s values never h =
 
 -- ---- elements one after the other
 
--- what a sink has, with the bits of the elements that are left, is what it had with those of all; and all are
--- values of the type where those that are left are
-pub record ElementsUpTo (c : Coding) (t : Shape) (all left : List Datum) (before now : List ℕ) : Type 0 where
+-- a sink has taken the elements before those that are left; and all are values of the type where those that are left are
+pub record ElementsUpTo {Sink : Type 0} (push : Pushing Sink) (c : Coding) (t : Shape) (all left : List Datum) (before now : Sink) : Type 0 where
+  pub pushing : PushLaws push
   pub fits : AllByRecursion (λ d. Fits t d) left ↔ AllByRecursion (λ d. Fits t d) all
-  pub known : LeavesToWrite c before (joined (codes c t all)) now (joined (codes c t left))
+  pub known : LeavesToWrite push c before (joined (codes c t all)) now (joined (codes c t left))
 
-pub elements_start : (c : Coding) (t : Shape) (ds : List Datum) (before : List ℕ) → ElementsUpTo c t ds ds before before
-elements_start c t ds before = record { fits = (λ h. h, λ h. h); known = refl }
-
--- one more
-pub elements_next : {c : Coding} (laws : WriteLaws c) {t : Shape} {all left : List Datum} {before now new : List ℕ}
-    {d : Datum} → ElementsUpTo c t all (d ∷ left) before now → Fits t d → Writes c now new (c.code t d)
-    → ElementsUpTo c t all left before new
-elements_next {c} laws {t} {left = left} {now = now} {d = d} h f e = record {
-  fits = (λ g. h.fits.0 (f, g), λ a. (h.fits.1 a).1);
-  known =
-      ap (λ (l : List ℕ). l ++ written c (joined (codes c t left))) e ∙ append_assoc now (written c (c.code t d)) (written c (joined (codes c t left)))
-      ∙ ap (λ (l : List ℕ). now ++ l) (sym (written-append laws (c.code t d) (joined (codes c t left)))) ∙ h.known;
+pub elements_start : {Sink : Type 0} {push : Pushing Sink} (pushing : PushLaws push) (c : Coding) (t : Shape) (ds : List Datum) (before : Sink)
+    → ElementsUpTo push c t ds ds before before
+elements_start pushing c t ds before = record {
+  pushing = pushing;
+  fits = (λ h. h, λ h. h);
+  known = record { done = []; pushed = pushing.none before; rest = refl };
 }
 
+-- one more
+pub elements_next : {Sink : Type 0} {push : Pushing Sink} {c : Coding} (laws : WriteLaws c) {t : Shape} {all left : List Datum} {before now new : Sink}
+    {d : Datum} → ElementsUpTo push c t all (d ∷ left) before now → Fits t d → Writes push c now new (c.code t d)
+    → ElementsUpTo push c t all left before new
+elements_next {c = c} laws {t} {left = left} {before = before} {now = now} {new = new} {d = d} h f e =
+    let k = h.known in
+    let one = written c (c.code t d) in
+    let more = joined (codes c t left) in
+    record {
+      pushing = h.pushing;
+      fits = (λ g. h.fits.0 (f, g), λ a. (h.fits.1 a).1);
+      known = record {
+        done = k.done ++ one;
+        pushed = h.pushing.joined before now new k.done one k.pushed e;
+        rest =
+            append_assoc k.done one (written c more)
+            ∙ ap (λ (l : List ℕ). k.done ++ l) (sym (written-append laws (c.code t d) more)) ∙ k.rest;
+      };
+    }
+
 -- one that is none of the type
-pub elements_never : {c : Coding} {t : Shape} {all left : List Datum} {before now : List ℕ} {d : Datum}
-    → ElementsUpTo c t all (d ∷ left) before now → (Fits t d → ⊥) → AllByRecursion (λ d. Fits t d) all → ⊥
+pub elements_never : {Sink : Type 0} {push : Pushing Sink} {c : Coding} {t : Shape} {all left : List Datum} {before now : Sink} {d : Datum}
+    → ElementsUpTo push c t all (d ∷ left) before now → (Fits t d → ⊥) → AllByRecursion (λ d. Fits t d) all → ⊥
 elements_never h never a = never (h.fits.1 a).0
 
 -- all of them
-pub elements_end : {c : Coding} (laws : WriteLaws c) {t : Shape} {all left : List Datum} {before now : List ℕ}
-    → ElementsUpTo c t all left before now → left ≡ [] → Writes c before now (joined (codes c t all))
-elements_end {c} laws {t} {now = now} h e =
-    sym (append-nil now) ∙ ap (λ (l : List ℕ). now ++ l) (sym laws.none) ∙ ap (λ (l : List Datum). now ++ written c (joined (codes c t l))) (sym e) ∙ h.known
+pub elements_end : {Sink : Type 0} {push : Pushing Sink} {c : Coding} (laws : WriteLaws c) {t : Shape} {all left : List Datum} {before now : Sink}
+    → ElementsUpTo push c t all left before now → left ≡ [] → Writes push c before now (joined (codes c t all))
+elements_end {push = push} {c = c} laws {t} {before = before} {now = now} h e =
+    let k = h.known in
+    pushed_same push before now
+    (sym (append-nil k.done) ∙ ap (λ (l : List ℕ). k.done ++ l) (sym laws.none) ∙ ap (λ (l : List Datum). k.done ++ written c (joined (codes c t l))) (sym e) ∙ k.rest)
+    k.pushed
 
-pub elements_fit : {c : Coding} {t : Shape} {all left : List Datum} {before now : List ℕ}
-    → ElementsUpTo c t all left before now → left ≡ [] → AllByRecursion (λ d. Fits t d) all
+pub elements_fit : {Sink : Type 0} {push : Pushing Sink} {c : Coding} {t : Shape} {all left : List Datum} {before now : Sink}
+    → ElementsUpTo push c t all left before now → left ≡ [] → AllByRecursion (λ d. Fits t d) all
 elements_fit h e = h.fits.0 (rw e tt)
 
 -- the next value, and those after it
@@ -114,16 +133,20 @@ parts_fit t n values next others p q =
       λ h. (let both = all_take (λ d. Fits t d) n (map datum_of values) h in (subst P (sym front) both.0, subst P (sym back) both.1)),
     )
 
--- with what is left to write of the elements that are left, the sink is what it was with that of all; and all are
--- values of the type where those that are left are
-pub record FragmentsUpTo (c : Coding) (t : Shape) (first rest : List (List Chunk) → List Chunk) (values left : List Value) (before now : List ℕ) : Type 0 where
+-- the elements that are left are still to be written; and all are values of the type where those that are left are
+pub record FragmentsUpTo {Sink : Type 0} (push : Pushing Sink) (c : Coding) (t : Shape) (first rest : List (List Chunk) → List Chunk) (values left : List Value) (before now : Sink) : Type 0 where
+  pub pushing : PushLaws push
   pub fits : AllByRecursion (λ d. Fits t d) (map datum_of left) ↔ AllByRecursion (λ d. Fits t d) (map datum_of values)
-  pub known : LeavesToWrite c before (first (codes c t (map datum_of values))) now
+  pub known : LeavesToWrite push c before (first (codes c t (map datum_of values))) now
       (rest (codes c t (map datum_of left)))
 
-pub fragments_start : (c : Coding) (t : Shape) (first : List (List Chunk) → List Chunk) (values : List Value)
-    (before : List ℕ) → FragmentsUpTo c t first first values values before before
-fragments_start c t first values before = record { fits = (λ h. h, λ h. h); known = refl }
+pub fragments_start : {Sink : Type 0} {push : Pushing Sink} (pushing : PushLaws push) (c : Coding) (t : Shape) (first : List (List Chunk) → List Chunk) (values : List Value)
+    (before : Sink) → FragmentsUpTo push c t first first values values before before
+fragments_start pushing c t first values before = record {
+  pushing = pushing;
+  fits = (λ h. h, λ h. h);
+  known = record { done = []; pushed = pushing.none before; rest = refl };
+}
 
 -- the spellings of some of them
 some_codes : (c : Coding) (t : Shape) (n : ℕ) (values next : List Value) → next ≡ take n values
@@ -135,27 +158,36 @@ other_codes : (c : Coding) (t : Shape) (n : ℕ) (values others : List Value) �
 other_codes c t n values others e = ap (λ (l : List Value). codes c t (map datum_of l)) e ∙ ap (codes c t) (sym (drop-map datum_of n values)) ∙ sym (drop-map (λ d. c.code t d) n (map datum_of values))
 
 -- a fragment more
-pub fragments_next : {c : Coding} (laws : WriteLaws c) {t : Shape} {first rest : List (List Chunk) → List Chunk}
-    {values left : List Value} {before now : List ℕ}
-    (then : List (List Chunk) → List Chunk) (k n : ℕ) (mid new : List ℕ) (next others : List Value)
-    → FragmentsUpTo c t first rest values left before now → n ≡ length left
-    → Advances c rest n now then mid (Some k) → next ≡ take k left → others ≡ drop k left
-    → AllByRecursion (λ d. Fits t d) (map datum_of next) → Writes c mid new (joined (codes c t (map datum_of next)))
-    → FragmentsUpTo c t first then values others before new
-fragments_next {c} laws {t} {rest = rest} {left = left} {now = now} then k n mid new next others h count a p q f e =
+pub fragments_next : {Sink : Type 0} {push : Pushing Sink} {c : Coding} (laws : WriteLaws c) {t : Shape} {first rest : List (List Chunk) → List Chunk}
+    {values left : List Value} {before now : Sink}
+    (then : List (List Chunk) → List Chunk) (k n : ℕ) (mid new : Sink) (next others : List Value)
+    → FragmentsUpTo push c t first rest values left before now → n ≡ length left
+    → Advances push c rest n now then mid (Some k) → next ≡ take k left → others ≡ drop k left
+    → AllByRecursion (λ d. Fits t d) (map datum_of next) → Writes push c mid new (joined (codes c t (map datum_of next)))
+    → FragmentsUpTo push c t first then values others before new
+fragments_next {push = push} {c = c} laws {t} {rest = rest} {left = left} {before = before} {now = now} then k n mid new next others h count a p q f e =
     let both = parts_fit t k left next others p q in
     let xs = codes c t (map datum_of left) in
-    let step : LeavesToWrite c now (rest xs) mid (joined (take k xs) ++ then (drop k xs)) = a.2 xs (codes_count c t left ∙ sym count) in
+    let step : LeavesToWrite push c now (rest xs) mid (joined (take k xs) ++ then (drop k xs)) = a.2 xs (codes_count c t left ∙ sym count) in
+    let known = h.known in
     let put = joined (codes c t (map datum_of next)) in
     let more = then (codes c t (map datum_of others)) in
+    let last : step.done ++ (written c put ++ written c more) ≡ written c (rest xs) =
+    ap (λ (l : List ℕ). step.done ++ l) (sym (written-append laws put more))
+    ∙ ap (λ (ys : List (List Chunk)). step.done ++ written c (joined ys ++ more)) (some_codes c t k left next p)
+    ∙ ap (λ (ys : List (List Chunk)). step.done ++ written c (joined (take k xs) ++ then ys)) (other_codes c t k left others q)
+    ∙ step.rest in
     record {
+      pushing = h.pushing;
       fits = (λ g. h.fits.0 (both.0 (f, g)), λ g. (both.1 (h.fits.1 g)).1);
-      known =
-          ap (λ (l : List ℕ). l ++ written c more) e ∙ append_assoc mid (written c put) (written c more)
-          ∙ ap (λ (l : List ℕ). mid ++ l) (sym (written-append laws put more))
-          ∙ ap (λ (ys : List (List Chunk)). mid ++ written c (joined ys ++ more)) (some_codes c t k left next p)
-          ∙ ap (λ (ys : List (List Chunk)). mid ++ written c (joined (take k xs) ++ then ys)) (other_codes c t k left others q)
-          ∙ step ∙ h.known;
+      known = record {
+        done = known.done ++ (step.done ++ written c put);
+        pushed = h.pushing.joined before now new known.done (step.done ++ written c put) known.pushed
+            (h.pushing.joined now mid new step.done (written c put) step.pushed e);
+        rest =
+            append_assoc known.done (step.done ++ written c put) (written c more)
+            ∙ ap (λ (l : List ℕ). known.done ++ l) (append_assoc step.done (written c put) (written c more) ∙ last) ∙ known.rest;
+      };
     }
 
 -- none is left
@@ -163,27 +195,47 @@ left_none : (left : List Value) (n : ℕ) → n ≡ length left → n ≡ 0 → 
 left_none [] n count none = refl
 left_none (x ∷ left) n count none = absurd (omega (arith, count, none))
 
-pub fragments_end : {c : Coding} (laws : WriteLaws c) {t : Shape} {first rest : List (List Chunk) → List Chunk}
-    {values left : List Value} {before now : List ℕ}
-    (then : List (List Chunk) → List Chunk) (n : ℕ) (new : List ℕ) → FragmentsUpTo c t first rest values left before now
-    → n ≡ length left → Advances c rest n now then new None
-    → LeavesToWrite c before (first (codes c t (map datum_of values))) new []
-fragments_end {c} laws {t} {rest = rest} {left = left} {now = now} then n new h count a =
-    ap (λ (l : List ℕ). new ++ l) laws.none ∙ append-nil new ∙ a.1 ∙ ap (λ (l : List Value). now ++ written c (rest (codes c t (map datum_of l)))) (sym (left_none left n count a.0)) ∙ h.known
+pub fragments_end : {Sink : Type 0} {push : Pushing Sink} {c : Coding} {t : Shape} {first rest : List (List Chunk) → List Chunk}
+    {values left : List Value} {before now : Sink}
+    (then : List (List Chunk) → List Chunk) (n : ℕ) (new : Sink) → FragmentsUpTo push c t first rest values left before now
+    → n ≡ length left → Advances push c rest n now then new None
+    → Writes push c before new (first (codes c t (map datum_of values)))
+fragments_end {push = push} {c = c} {t} {rest = rest} {left = left} {before = before} {now = now} then n new h count a =
+    let known = h.known in
+    let last = written c (rest []) in
+    pushed_same push before new
+    (ap (λ (l : List Value). known.done ++ written c (rest (codes c t (map datum_of l)))) (sym (left_none left n count a.0)) ∙ known.rest)
+    (h.pushing.joined before now new known.done last known.pushed a.1)
 
-pub fragments_fit : {c : Coding} {t : Shape} {first rest : List (List Chunk) → List Chunk} {values left : List Value}
-    {before now : List ℕ} (n : ℕ) → FragmentsUpTo c t first rest values left before now → n ≡ length left → n ≡ 0
+pub fragments_fit : {Sink : Type 0} {push : Pushing Sink} {c : Coding} {t : Shape} {first rest : List (List Chunk) → List Chunk} {values left : List Value}
+    {before now : Sink} (n : ℕ) → FragmentsUpTo push c t first rest values left before now → n ≡ length left → n ≡ 0
     → AllByRecursion (λ d. Fits t d) (map datum_of values)
 fragments_fit {left = left} n h count none = h.fits.0 (rw (left_none left n count none) tt)
 
 -- after what stands before the items, the list is written
-pub list_written : {c : Coding} (laws : WriteLaws c) (t : Shape) (s : SizeRange)
-    (first : List (List Chunk) → List Chunk) (values : List Value) (old mid new : List ℕ) (n : ℕ)
-    → ((items : List (List Chunk)) → length items ≡ n → LeavesToWrite c old (c.sized s items) mid (first items))
+pub list_written : {Sink : Type 0} {push : Pushing Sink} (pushing : PushLaws push) {c : Coding} (laws : WriteLaws c) (t : Shape) (s : SizeRange)
+    (first : List (List Chunk) → List Chunk) (values : List Value) (old mid new : Sink) (n : ℕ)
+    → ((items : List (List Chunk)) → length items ≡ n → LeavesToWrite push c old (c.sized s items) mid (first items))
     → n ≡ length values
-    → LeavesToWrite c mid (first (codes c t (map datum_of values))) new []
-    → Writes c old new (c.code (sequence_of t s) (elements (elements_of (map datum_of values))))
-list_written {c} laws t s first values old mid new n start count e =
-    sym (append-nil new) ∙ ap (λ (l : List ℕ). new ++ l) (sym laws.none) ∙ e ∙ start (codes c t (map datum_of values)) (codes_count c t values ∙ sym count)
-    ∙ ap (λ (ds : List Datum). old ++ written c (c.sized s (codes c t ds))) (sym (list_again (map datum_of values)))
-    ∙ ap (λ (cs : List Chunk). old ++ written c cs) (sym (laws.lists t s (elements_of (map datum_of values))))
+    → Writes push c mid new (first (codes c t (map datum_of values)))
+    → Writes push c old new (c.code (sequence_of t s) (elements (elements_of (map datum_of values))))
+list_written {push = push} pushing {c = c} laws t s first values old mid new n start count e =
+    let begun = start (codes c t (map datum_of values)) (codes_count c t values ∙ sym count) in
+    pushed_same push old new
+    (begun.rest
+    ∙ ap (λ (ds : List Datum). written c (c.sized s (codes c t ds))) (sym (list_again (map datum_of values)))
+    ∙ ap (λ (cs : List Chunk). written c cs) (sym (laws.lists t s (elements_of (map datum_of values)))))
+    (pushing.joined old mid new begun.done (written c (first (codes c t (map datum_of values)))) begun.pushed e)
+
+-- ---- the parts that a set of rules writes, inside open type fields
+
+-- what is still to be written
+pub leaves_at : {Sink : Type 0} {push other : Pushing Sink} → ((a b : Sink) (xs : List ℕ) → push a b xs → other a b xs)
+    → {c : Coding} {old new : Sink} {all others : List Chunk} → LeavesToWrite push c old all new others → LeavesToWrite other c old all new others
+leaves_at f {old = old} {new = new} l = record { done = l.done; pushed = f old new l.done l.pushed; rest = l.rest }
+
+pub advances_at : {Sink : Type 0} {push other : Pushing Sink} → ((a b : Sink) (xs : List ℕ) → push a b xs → other a b xs)
+    → (c : Coding) (before rest : List (List Chunk) → List Chunk) (left : ℕ) (old new : Sink) (count : Option ℕ)
+    → Advances push c before left old rest new count → Advances other c before left old rest new count
+advances_at f c before rest left old new None a = (a.0, f old new (written c (before [])) a.1)
+advances_at f c before rest left old new (Some k) a = (a.0, a.1, λ items n. leaves_at f (a.2 items n))

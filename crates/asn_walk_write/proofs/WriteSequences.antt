@@ -1,5 +1,5 @@
 -- The bits of a SEQUENCE as its writer puts them, in any rules: the root, and the extension additions.
-use Rattle.std.proofs.Common.{◌≡◌, ◌<◌, ◌+◌, ℕ, Bool, true, false, List, [], ◌∷◌, ◌++◌, length, map, take, drop, Option, Some, None, Vec, Global, refl, sym, ◌∙◌, ap, subst, arith}
+use Rattle.std.proofs.Common.{◌≡◌, ◌⊎◌, ◌<◌, ◌+◌, ℕ, Bool, true, false, List, [], ◌∷◌, ◌++◌, length, map, take, drop, Option, Some, None, Vec, Global, refl, sym, ◌∙◌, ap, subst, arith}
 use Rattle.std.specs.List.{list_all}
 use Rattle.std.specs.Option.{option_map}
 use Rattle.std.proofs.lemmas.List.{append-nil, take_all}
@@ -14,13 +14,15 @@ use Rattle.asn_values.proofs.Entries.{each_length, length-demands}
 use Rattle.asn_values.proofs.Views.{component_list-components_of}
 use Rattle.asn_bits.specs.Numbers.{bits}
 use Rattle.asn_bits.proofs.Octets.{length-digits}
+use Rattle.asn_sinks.proofs.Pushing.{pushed_same}
 use Rattle.asn_rules.specs.Chunks.{Chunk, ones}
 use Rattle.asn_rules.specs.Components.{presence, any_present}
 use Rattle.asn_walk.specs.Coding.{Coding}
 use Rattle.asn_walk.specs.Composites.{in_open_field, each_code, open_code, additions_code, root_code, sequence_code}
 use Rattle.asn_walk.specs.WriteLaws.{WriteLaws}
-use Rattle.asn_walk.specs.Writing.{AreOptional, written, Writes, WritesUnits, mark_bits}
-use Rattle.asn_walk_write.proofs.WriteComponents.{FitsHere, Written, absent_fits, written_starts, written_on, written_past, written-append, writes_both, writes_units, writes_nothing}
+use Rattle.asn_walk.specs.Writing.{Pushing, AreOptional, written, Writes, WritesUnits, mark_bits}
+use Rattle.asn_walk_write.proofs.Taking.{PushLaws}
+use Rattle.asn_walk_write.proofs.WriteComponents.{FitsHere, Written, absent_fits, written_starts, written_on, written_past, written_ends, written-append, writes_both, writes_units, writes_nothing}
 use Rattle.asn_walk_write.proofs.WriteEntries.{OfSequence, root_entries_are, addition_entries_are}
 use Rattle.asn_walk_write.proofs.WritePresence.{Left}
 
@@ -31,13 +33,13 @@ abbrev pub open_bits : Coding → Fields → List (Option Datum) → List ℕ
 open_bits c fs es = written c (open_code c fs es)
 
 -- those written, and those left, which are OPTIONAL
-pub record Opened (c : Coding) (all : List Part) (entries : List (Option Datum)) (before now : List ℕ) (left : List Part) (rest : List (Option Datum)) : Type 0 where
-  pub written : Written (open_bits c) all entries before now left rest
+pub record Opened {Sink : Type 0} (push : Pushing Sink) (c : Coding) (all : List Part) (entries : List (Option Datum)) (before now : Sink) (left : List Part) (rest : List (Option Datum)) : Type 0 where
+  pub written : Written push (open_bits c) all entries before now left rest
   pub optional : AreOptional (fields_of left)
 
-pub opened_starts : (c : Coding) (before : List ℕ) (all : List Part) (entries : List (Option Datum)) → Left all entries
-    → AreOptional (fields_of all) → Opened c all entries before before all entries
-opened_starts c before all entries h o = record { written = written_starts (open_bits c) before all entries h; optional = o }
+pub opened_starts : {Sink : Type 0} {push : Pushing Sink} (pushing : PushLaws push) (c : Coding) (before : Sink) (all : List Part) (entries : List (Option Datum)) → Left all entries
+    → AreOptional (fields_of all) → Opened push c all entries before before all entries
+opened_starts pushing c before all entries h o = record { written = written_starts pushing (open_bits c) before all entries h; optional = o }
 
 -- the first of OPTIONAL components, and the others
 first_optional : (p : Part) (left : List Part) → AreOptional (fields_of (p ∷ left))
@@ -51,20 +53,27 @@ first_optional p left o = go p.demand o
     go (default e) h = absurd (cc)
 
 -- an addition that is present
-pub opened_more : {c : Coding} (laws : WriteLaws c) {all : List Part} {entries : List (Option Datum)}
-    {before now new : List ℕ} {left : List Part} {p : Part} {rest : List (Option Datum)} {d : Datum}
-    → Opened c all entries before now (p ∷ left) (Some d ∷ rest) → Fits p.shape d
-    → new ≡ now ++ written c (in_open_field c (c.code p.shape d)) → Opened c all entries before new left rest
-opened_more {c} laws {left = left} {p = p} {rest = rest} {d = d} h f e =
+pub opened_more : {Sink : Type 0} {push : Pushing Sink} {c : Coding} (laws : WriteLaws c) {all : List Part} {entries : List (Option Datum)}
+    {before now new : Sink} {left : List Part} {p : Part} {rest : List (Option Datum)} {d : Datum}
+    → Opened push c all entries before now (p ∷ left) (Some d ∷ rest) → Fits p.shape d
+    → Writes push c now new (in_open_field c (c.code p.shape d)) → Opened push c all entries before new left rest
+opened_more {c = c} laws {left = left} {p = p} {rest = rest} {d = d} h f e =
     let o = first_optional p left h.optional in
     let both : open_bits c (fields_of (p ∷ left)) (Some d ∷ rest) ≡ written c (in_open_field c (c.code p.shape d)) ++ open_bits c (fields_of left) rest =
     ap (λ (x : Demand). open_bits c (field p.name x p.shape (fields_of left)) (Some d ∷ rest)) o.0 ∙ written-append laws (in_open_field c (c.code p.shape d)) (open_code c (fields_of left) rest) in
     record { written = written_on (written c (in_open_field c (c.code p.shape d))) h.written f both e; optional = o.1 }
 
+-- all of them
+pub open_ends : {Sink : Type 0} {push : Pushing Sink} {c : Coding} → WriteLaws c → {all : List Part} {entries : List (Option Datum)}
+    {before now : Sink} {left : List Part} {rest : List (Option Datum)}
+    → Opened push c all entries before now left rest → (left ≡ []) ⊎ (rest ≡ [])
+    → Writes push c before now (open_code c (fields_of all) entries)
+open_ends laws h e = written_ends h.written e (λ es. laws.none)
+
 -- one that is absent
-pub opened_passes : (c : Coding) {all : List Part} {entries : List (Option Datum)} {before now : List ℕ}
+pub opened_passes : {Sink : Type 0} {push : Pushing Sink} (c : Coding) {all : List Part} {entries : List (Option Datum)} {before now : Sink}
     {left : List Part} {p : Part} {rest : List (Option Datum)} {e : Option Datum}
-    → Opened c all entries before now (p ∷ left) (e ∷ rest) → e ≡ None → Opened c all entries before now left rest
+    → Opened push c all entries before now (p ∷ left) (e ∷ rest) → e ≡ None → Opened push c all entries before now left rest
 opened_passes c {left = left} {p = p} {rest = rest} {e = e} h n =
     let o = first_optional p left h.optional in
     record {
@@ -95,33 +104,37 @@ some_bits_there (p ∷ parts) (x ∷ es) count bitmap o n some e =
     let all : count ≡ length (presence (p.demand ∷ demands (fields_of parts)) (x ∷ es)) = sym (length-digits 2 count bitmap) ∙ ap length e in
     omega (arith, one, all, ap (λ (d : Demand). length (presence (d ∷ demands (fields_of parts)) (x ∷ es))) w.0)
 
-module _ {c : Coding} (laws : WriteLaws c) where
+module _ {Sink : Type 0} {push : Pushing Sink} (pushing : PushLaws push) {c : Coding} (laws : WriteLaws c) where
   -- ---- the additions
 
   -- nothing is written where none is present
-  pub none_written : (old : List ℕ) (fs : Fields) (es : List (Option Datum)) → any_present es ≡ false
-      → Writes c old old (additions_code c fs es)
+  pub none_written : (old : Sink) (fs : Fields) (es : List (Option Datum)) → any_present es ≡ false
+      → Writes push c old old (additions_code c fs es)
   none_written old fs es none =
       let all = ones (c.addition_bitmap (presence (demands fs) es)) ++ open_code c fs es in
-      writes_nothing laws old ∙ ap (λ (b : Bool). old ++ written c (elim b [ true ↦ all | false ↦ [] ])) (sym none)
+      pushed_same push old old (ap (λ (b : Bool). written c (elim b [ true ↦ all | false ↦ [] ])) (sym none)) (writes_nothing pushing laws old)
 
   -- and else their presence bits and their open fields
-  pub additions_written : (old mid new bitmap : List ℕ) (fs : Fields) (es : List (Option Datum)) → any_present es ≡ true
+  pub additions_written : (old mid new : Sink) (bitmap : List ℕ) (fs : Fields) (es : List (Option Datum)) → any_present es ≡ true
       → bitmap ≡ presence (demands fs) es
-      → WritesUnits c old mid (c.addition_bitmap bitmap) → Writes c mid new (open_code c fs es)
-      → Writes c old new (additions_code c fs es)
+      → WritesUnits push c old mid (c.addition_bitmap bitmap) → Writes push c mid new (open_code c fs es)
+      → Writes push c old new (additions_code c fs es)
   additions_written old mid new bitmap fs es some b e f =
       let all = ones (c.addition_bitmap (presence (demands fs) es)) ++ open_code c fs es in
-      writes_units laws old mid new (c.addition_bitmap (presence (demands fs) es)) (open_code c fs es) (e ∙ ap (λ (l : List ℕ). old ++ c.to_bits (c.addition_bitmap l)) b) f ∙ ap (λ (b : Bool). old ++ written c (elim b [ true ↦ all | false ↦ [] ])) (sym some)
+      pushed_same push old new (ap (λ (b : Bool). written c (elim b [ true ↦ all | false ↦ [] ])) (sym some))
+      (writes_units pushing laws old mid new (c.addition_bitmap (presence (demands fs) es)) (open_code c fs es)
+      (pushed_same push old mid (ap (λ (l : List ℕ). c.to_bits (c.addition_bitmap l)) b) e) f)
 
   -- ---- the root
 
   -- what stands before its components, and those
-  pub root_written : (old mid new mark bitmap : List ℕ) (fs : Fields) (es : List (Option Datum))
+  pub root_written : (old mid new : Sink) (mark bitmap : List ℕ) (fs : Fields) (es : List (Option Datum))
       → bitmap ≡ presence (demands fs) es
-      → WritesUnits c old mid (c.preamble (mark ++ bitmap)) → Writes c mid new (each_code c fs es)
-      → Writes c old new (root_code c mark fs es)
-  root_written old mid new mark bitmap fs es b e f = writes_units laws old mid new (c.preamble (mark ++ presence (demands fs) es)) (each_code c fs es) (e ∙ ap (λ (l : List ℕ). old ++ c.to_bits (c.preamble (mark ++ l))) b) f
+      → WritesUnits push c old mid (c.preamble (mark ++ bitmap)) → Writes push c mid new (each_code c fs es)
+      → Writes push c old new (root_code c mark fs es)
+  root_written old mid new mark bitmap fs es b e f =
+      writes_units pushing laws old mid new (c.preamble (mark ++ presence (demands fs) es)) (each_code c fs es)
+      (pushed_same push old mid (ap (λ (l : List ℕ). c.to_bits (c.preamble (mark ++ l))) b) e) f
 
   -- ---- the SEQUENCE
 
@@ -136,16 +149,16 @@ module _ {c : Coding} (laws : WriteLaws c) where
       ∙ ap (λ (l : List (Option Datum)). sequence_code c root more l) (component_list-components_of es)
 
   -- its root after the extension bit, and its additions
-  pub sequence_written : {t : Shape} {d : Datum} (old mid new : List ℕ) (fs gs : List Field)
+  pub sequence_written : {t : Shape} {d : Datum} (old mid new : Sink) (fs gs : List Field)
       (ext : Option (Vec Field Global)) (vs root_entries addition_entries : List (Option Value)) (b : Bool)
       → OfSequence t d (map part_of_field fs) (more_fields_of ext) (map (option_map datum_of) vs) → InProfile t
       → Fits t d → more_fields_of ext ≡ marked (fields_of (map part_of_field gs))
       → root_entries ≡ take (length fs) vs → addition_entries ≡ drop (length fs) vs
       → b ≡ any_present (map (option_map datum_of) addition_entries)
-      → Writes c old mid (root_code c (mark_bits (Some b)) (fields_of (map part_of_field fs))
+      → Writes push c old mid (root_code c (mark_bits (Some b)) (fields_of (map part_of_field fs))
       (map (option_map datum_of) root_entries))
-      → Writes c mid new (additions_code c (fields_of (map part_of_field gs))
-      (map (option_map datum_of) addition_entries)) → Writes c old new (c.code t d)
+      → Writes push c mid new (additions_code c (fields_of (map part_of_field gs))
+      (map (option_map datum_of) addition_entries)) → Writes push c old new (c.code t d)
   sequence_written {t} {d} old mid new fs gs ext vs root_entries addition_entries b s good fits m o h p e f =
       let root = fields_of (map part_of_field fs) in
       let added = fields_of (map part_of_field gs) in
@@ -153,27 +166,28 @@ module _ {c : Coding} (laws : WriteLaws c) where
       let n = length (demands root) in
       let us : List (Option Datum) = map (option_map datum_of) root_entries in
       let hs : List (Option Datum) = map (option_map datum_of) addition_entries in
-      writes_both laws old mid new (root_code c (mark_bits (Some b)) root us) (additions_code c added hs) e f
-      ∙ ap (λ (i : Bool). old ++ written c (root_code c (mark_bits (Some i)) root us ++ additions_code c added hs)) p
-      ∙ ap (λ (l : List (Option Datum)). old ++ written c (root_code c (mark_bits (Some (any_present l))) root us ++ additions_code c added l)) (addition_entries_are fs vs addition_entries h)
-      ∙ ap (λ (l : List (Option Datum)). old ++ written c (root_code c (mark_bits (Some (any_present (drop n es)))) root l ++ additions_code c added (drop n es))) (root_entries_are fs vs root_entries o)
-      ∙ ap (λ (x : MoreFields). old ++ written c (sequence_code c root x es)) (sym m)
-      ∙ ap (λ (cs : List Chunk). old ++ written c cs) (sym (code_of_sequence s good fits))
+      pushed_same push old new
+      (ap (λ (i : Bool). written c (root_code c (mark_bits (Some i)) root us ++ additions_code c added hs)) p
+      ∙ ap (λ (l : List (Option Datum)). written c (root_code c (mark_bits (Some (any_present l))) root us ++ additions_code c added l)) (addition_entries_are fs vs addition_entries h)
+      ∙ ap (λ (l : List (Option Datum)). written c (root_code c (mark_bits (Some (any_present (drop n es)))) root l ++ additions_code c added (drop n es))) (root_entries_are fs vs root_entries o)
+      ∙ ap (λ (x : MoreFields). written c (sequence_code c root x es)) (sym m)
+      ∙ ap (λ (cs : List Chunk). written c cs) (sym (code_of_sequence s good fits)))
+      (writes_both pushing laws old mid new (root_code c (mark_bits (Some b)) root us) (additions_code c added hs) e f)
 
   -- its root alone, where there is no extension mark
-  pub unmarked_written : {t : Shape} {d : Datum} (old new : List ℕ) (fs : List Field) (more : MoreFields)
+  pub unmarked_written : {t : Shape} {d : Datum} (old new : Sink) (fs : List Field) (more : MoreFields)
       (vs : List (Option Value))
       → OfSequence t d (map part_of_field fs) more (map (option_map datum_of) vs) → InProfile t → Fits t d
       → more ≡ closed → FitsEach (fields_of (map part_of_field fs)) (map (option_map datum_of) vs)
-      → Writes c old new (root_code c (mark_bits None) (fields_of (map part_of_field fs))
-      (map (option_map datum_of) vs)) → Writes c old new (c.code t d)
+      → Writes push c old new (root_code c (mark_bits None) (fields_of (map part_of_field fs))
+      (map (option_map datum_of) vs)) → Writes push c old new (c.code t d)
   unmarked_written {t} {d} old new fs more vs s good fits none each e =
       let root = fields_of (map part_of_field fs) in
       let es = map (option_map datum_of) vs in
       let n = length (demands root) in
       let all : take n es ≡ es = take_all n es (omega (arith, each_length (map part_of_field fs) es each, length-demands (map part_of_field fs))) in
-      e
-      ∙ ap (λ (l : List (Option Datum)). old ++ written c (root_code c [] root l)) (sym all)
-      ∙ ap (λ (cs : List Chunk). old ++ written c cs) (sym (append-nil (root_code c [] root (take n es))))
-      ∙ ap (λ (x : MoreFields). old ++ written c (sequence_code c root x es)) (sym none)
-      ∙ ap (λ (cs : List Chunk). old ++ written c cs) (sym (code_of_sequence s good fits))
+      pushed_same push old new
+      (ap (λ (l : List (Option Datum)). written c (root_code c [] root l)) (sym all)
+      ∙ ap (λ (cs : List Chunk). written c cs) (sym (append-nil (root_code c [] root (take n es))))
+      ∙ ap (λ (x : MoreFields). written c (sequence_code c root x es)) (sym none)
+      ∙ ap (λ (cs : List Chunk). written c cs) (sym (code_of_sequence s good fits))) e

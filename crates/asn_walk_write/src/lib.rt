@@ -6,7 +6,7 @@
 
 mod encoded;
 mod encoder;
+mod lengths;
 mod writer;
 
-pub use encoder::encode;
-pub use writer::write_complete;
+pub use encoder::{encode, encode_to};

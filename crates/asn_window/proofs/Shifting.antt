@@ -1,4 +1,4 @@
--- Bits that wait, and those that come behind them: which go out as whole octets, and which wait then.
+-- Bits that wait, and those that come after them: which go out as whole octets, and which wait then.
 use Rattle.std.proofs.Common.{◌≡◌, ◌<◌, ◌≤◌, ◌+◌, ◌*◌, ◌/◌, ◌%◌, ◌^◌, ◌-◌, ℕ, List, [], ◌++◌, length, take, drop, sym, ap, ◌∙◌, append_assoc, arith}
 use Rattle.std.proofs.lemmas.List.{take_all}
 use Rattle.std.proofs.lemmas.Nat.{mod-mul-add}
@@ -7,7 +7,7 @@ use Rattle.asn_bits.proofs.Octets.{length-digits}
 use Rattle.asn_bits.proofs.Packing.{bits_low, waiting_view}
 use Rattle.asn_bits.proofs.Splits.{digits-add, digits-join, digits-mod, drop-digits, unpacked-append, unpacked-octets}
 
--- of the c bits of p and the k bits of n behind them, the first m are a word, and the last l are those of n
+-- of the c bits of p and the k bits of n after them, the first m are a word, and the last l are those of n
 pub shifted_out : (c p k n m l w : ℕ) → n < 2 ^ k → m + l ≡ c + k → l ≤ k → m ≤ 64 → w ≡ (p * 2 ^ k + n) / 2 ^ l % 2 ^ 64
     → bits c p ++ bits k n ≡ bits m w ++ bits l n
 shifted_out c p k n m l w h all less few e =
@@ -17,7 +17,7 @@ shifted_out c p k n m l w h all less few e =
     let low : bits l n ≡ bits l j = ap (bits l) (sym (mod-mul-add p (2 ^ k) n h)) ∙ bits_low l k j less in
     together ∙ digits-add 2 m l j ∙ ap (λ t. t ++ bits l j) (sym word) ∙ ap (λ t. bits m w ++ t) (sym low)
 
--- with others behind them
+-- with others after them
 pub shifted_on : (c p k n m l w : ℕ) (front coming : List ℕ) → n < 2 ^ k → m + l ≡ c + k → l ≤ k → m ≤ 64 → w ≡ (p * 2 ^ k + n) / 2 ^ l % 2 ^ 64
     → front ≡ bits k n → bits c p ++ (front ++ coming) ≡ bits m w ++ (bits l n ++ coming)
 shifted_on c p k n m l w front coming h all less few e f =
@@ -51,8 +51,8 @@ last_of_eight count n bytes few e =
 pub bits-cut : (j k n : ℕ) → bits (j + k) n ≡ bits j (n / 2 ^ k) ++ bits k (n % 2 ^ k)
 bits-cut j k n = digits-add 2 j k n ∙ ap (λ t. bits j (n / 2 ^ k) ++ t) (sym (digits-mod 2 (omega arith) k n))
 
--- octets come behind those that wait
-pub behind : (buffer more front coming next : List ℕ) → next ≡ buffer ++ more → unpacked more ≡ front → unpacked buffer ++ (front ++ coming) ≡ unpacked next ++ coming
-behind buffer more front coming next e f =
+-- octets come after those that wait
+pub after_waiting : (buffer more front coming next : List ℕ) → next ≡ buffer ++ more → unpacked more ≡ front → unpacked buffer ++ (front ++ coming) ≡ unpacked next ++ coming
+after_waiting buffer more front coming next e f =
     ap (λ t. unpacked buffer ++ (t ++ coming)) (sym f) ∙ sym (append_assoc (unpacked buffer) (unpacked more) coming)
     ∙ ap (λ t. t ++ coming) (sym (unpacked-append buffer more) ∙ ap unpacked (sym e))

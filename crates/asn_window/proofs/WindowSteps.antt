@@ -120,7 +120,7 @@ popped base f (suc i) n around next e (out, flows, c) =
     nothing (inl (z, h)) = h
     nothing (inr p) = absurd (omega (arith, ap length p.split ∙ length-append p.front (unpacked p.octets), p.long, p.some))
 
--- told of the same
+-- of the same
 pub moved : (start : State) (around : List (List ℕ)) (r all : List ℕ) {state next : State} {s t : BitWriter} {f g : Fragments} {level other : ℕ}
     → next ≡ state → t ≡ s → g ≡ f → other ≡ level
     → Comes (λ b. BitsStand start state s b all) f level around r → Comes (λ b. BitsStand start next t b all) g other around r

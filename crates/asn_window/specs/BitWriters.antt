@@ -5,7 +5,7 @@ use Rattle.asn_rules.specs.Faults.{State}
 use Rattle.asn_window.specs.declared.bit_writer.BitWriter.{BitWriter}
 use Rattle.asn_window.specs.OctetWriters.{OctetsStand}
 
--- with these bits to come behind those that wait, all bits are `all`
+-- with these bits to come after those that wait, all bits are `all`
 abbrev pub BitsStand : State → State → BitWriter → List ℕ → List ℕ → Type 0
 BitsStand start now w coming all = OctetsStand start now w.octets (bits w.count w.pending ++ coming) all
 

@@ -1,5 +1,6 @@
 -- What a writer has taken, and what waits before it.
-use Rattle.std.specs.Prelude.{◌≡◌, ◌-◌, ◌^◌, ◌++◌, ℕ, min, Bool, true, false, List, length}
+use Rattle.std.specs.Prelude.{◌≡◌, ◌<◌, ◌-◌, ◌^◌, ◌++◌, ℕ, min, Bool, true, false, List, length}
+use Rattle.std.specs.List.{AllByRecursion}
 use Rattle.std.specs.Io.KnownBytes.{Appends}
 use Rattle.asn_rules.specs.Faults.{State, Rose}
 use Rattle.asn_bits.specs.Numbers.{unpacked}
@@ -9,6 +10,7 @@ use Rattle.asn_bits.specs.Numbers.{unpacked}
 pub record Delivers (start now : State) (sent : ℕ) (failed : Bool) (coming all : List ℕ) : Type 0 where
   -- what was written since the start, and what is not written of all
   pub octets : List ℕ
+  pub are_octets : AllByRecursion (λ o. o < 256) octets
   pub rest : List ℕ
   pub appended : Appends start.octets now.octets octets
   pub many : sent ≡ min (length octets) (2 ^ 64 - 1)

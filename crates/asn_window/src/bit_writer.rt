@@ -9,11 +9,11 @@ use asn_bits::internal::{full_word, shift_in};
 use asn_rules::Counted;
 use std::io::Write;
 
-/// Octets that wait before a writer, and behind them fewer than 64 bits.
+/// Octets that wait before a writer, and after them fewer than 64 bits.
 #[derive(Drop)]
 pub struct BitWriter {
     pub octets: OctetWriter,
-    /// how many bits wait behind the octets
+    /// how many bits wait after the octets
     pub count: u32,
     /// in its low `count` bits those that wait; the higher bits are garbage
     pub pending: u64,

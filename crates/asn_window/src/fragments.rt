@@ -23,7 +23,7 @@ pub struct Fragments {
     pub after: [u64; 32],
 }
 
-/// How many bits come before the next length determinant, where `others` of the bits behind the one of `items` octets
+/// How many bits come before the next length determinant, where `others` of the bits after the one of `items` octets
 /// are taken at once.
 fn left_after(items: u64, others: u32) -> u64
     requires most { items ≤ 65536 }

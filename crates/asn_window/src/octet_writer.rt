@@ -1,5 +1,6 @@
 //! Octets before a writer.
 ghost use Rattle.std.specs.Prelude.{◌≡◌, ◌+◌, ◌*◌, ◌<◌, ◌≤◌, [], length, take, drop};
+ghost use Rattle.std.specs.List.{AllByRecursion};
 ghost use Rattle.std.specs.Io.KnownBytes.{Appends};
 ghost use Rattle.asn_bits.specs.Numbers.{bits, octets, unpacked};
 ghost use Rattle.asn_rules.specs.Faults.{inner_of, faults_of, state_of, Rose};
@@ -9,8 +10,8 @@ use crate::buffer::Buffer;
 use asn_rules::Counted;
 use std::io::Write;
 
-/// Octets that wait before a writer, and how many it has taken. After a fault of the writer nothing is written any more,
-/// and what comes is let go.
+/// Octets that wait before a writer, and how many it has taken. After a fault of the writer nothing is written any
+/// more, and what comes is let go.
 #[derive(Drop)]
 pub struct OctetWriter {
     pub buffer: Buffer,
@@ -39,6 +40,7 @@ fn write_some<W: Write>(octets: &[u8], output: &mut Counted<W>) -> usize
 /// again.
 fn write_many<W: Write>(octets: &[u8], output: &mut Counted<W>) -> usize
     ensures few { result ≤ length octets.now }
+    ensures octets { AllByRecursion (λ o. o < 256) octets.now }
     ensures written { Appends (W.contents (inner_of output.old)) (W.contents (inner_of output.new))
         (take result octets.now) }
     ensures fault { result < length octets.now → Rose (faults_of output.old) (faults_of output.new) }
@@ -66,7 +68,8 @@ fn after(octets: &[u8], count: usize) -> &[u8]
 impl OctetWriter {
     /// Writes the octets that wait.
     pub fn send<W: Write>(&mut self, output: &mut Counted<W>)
-        ensures told { TakesWhole (state_of W.contents output.old) self.old (state_of W.contents output.new) self.new [] }
+        ensures told { TakesWhole (state_of W.contents output.old) self.old
+            (state_of W.contents output.new) self.new [] }
         ensures empty { self.new.buffer ≡ [] }
     {
         if self.failed {
@@ -83,7 +86,8 @@ impl OctetWriter {
     #[inline(always)]
     pub fn make_room<W: Write>(&mut self, count: usize, output: &mut Counted<W>)
         requires { count ≤ 4096 }
-        ensures told { TakesWhole (state_of W.contents output.old) self.old (state_of W.contents output.new) self.new [] }
+        ensures told { TakesWhole (state_of W.contents output.old) self.old
+            (state_of W.contents output.new) self.new [] }
         ensures room { length self.new.buffer + count ≤ 4096 }
     {
         if self.buffer.room() < count {

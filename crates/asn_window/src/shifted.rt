@@ -9,7 +9,7 @@ use asn_bits::internal::full_word;
 use asn_rules::Counted;
 use std::io::Write;
 
-/// Adds octets behind the low `count` bits of `pending`, a word of eight at once, and gives in whose low `count` bits
+/// Adds octets after the low `count` bits of `pending`, a word of eight at once, and gives in whose low `count` bits
 /// what is left over stands.
 pub(crate) fn put_shifted<W: Write>(
     writer: &mut OctetWriter,

@@ -19,7 +19,7 @@ pub struct Phase {
     ghost small: { phase < 8 },
 }
 
-/// What an encoder has made and a writer has not yet taken: 4096 octets at most, and fewer than 64 bits behind them.
+/// What an encoder has made and a writer has not yet taken: 4096 octets at most, and fewer than 64 bits after them.
 ///
 /// No call of it fails. After a fault of the writer nothing is written any more, and what comes is let go; `finish` then
 /// tells how many octets were written. It takes no memory.

@@ -1,21 +1,28 @@
 -- The spellings of OER keep the laws of the walk's writers.
-use Rattle.std.proofs.Common.{◌≡◌, ◌+◌, ◌-◌, ℕ, zero, suc, Bool, true, false, nat_lt, List, [], ◌∷◌, ◌++◌, length, map, take, drop, Option, refl, sym, ap, ◌∙◌, arith}
+use Rattle.std.proofs.Common.{◌≡◌, ◌<◌, ◌+◌, ◌-◌, ℕ, zero, suc, Bool, true, false, nat_lt, List, [], ◌∷◌, ◌++◌, length, map, take, drop, Option, refl, sym, ap, ◌∙◌, arith}
 use Rattle.std.proofs.lemmas.Bool.{ltb-false}
-use Rattle.std.proofs.lemmas.List.{length-map}
+use Rattle.std.specs.List.{AllByRecursion}
+use Rattle.std.proofs.lemmas.List.{length-map, append-nil}
 use Rattle.asn_values.specs.Datum.{Datum, Components, components, component_list, Elements, elements, element_list, alternative}
 use Rattle.asn_values.specs.Fits.{Fits}
 use Rattle.asn_values.specs.Profile.{InProfile}
 use Rattle.asn_values.specs.Shape.{Shape, SizeRange, Fields, no_fields, field, MoreFields, closed, marked, is_marked, demands, sequence, sequence_of, Alternatives, no_alternatives, one_of, MoreAlternatives, closed_choice, marked_choice, choice, count}
 use Rattle.asn_bits.specs.Lengths.{joined}
-use Rattle.asn_bits.specs.Numbers.{least}
+use Rattle.asn_bits.specs.Numbers.{least, unpacked}
 use Rattle.asn_bits.proofs.Splits.{unpacked-append}
+use Rattle.asn_sinks.specs.Sink.{framed}
+use Rattle.asn_sinks.specs.declared.sink.Framing.TheVariants.{Single}
 use Rattle.asn_rules.specs.Chunks.{Chunk, ones, flat}
 use Rattle.asn_rules.specs.Components.{presence, if_spelled, any_present, extension_bit}
 use Rattle.asn_rules.specs.Fields.{spelled}
 use Rattle.asn_rules.specs.Filled.{filled_bits}
 use Rattle.asn_walk.specs.Composites.{each_code, open_code, alternative_code, added_code, more_code, sequence_code, choice_code, choice_parts}
-use Rattle.asn_walk.specs.WriteLaws.{WriteLaws}
-use Rattle.asn_oer.specs.Oer.{variable_bits, tag, oer, oer_each, oer_open, oer_additions, oer_alternative, oer_more, an_open_field}
+use Rattle.asn_walk.specs.WriteLaws.{WriteLaws, OpenLaws}
+use Rattle.asn_walk.specs.Writing.{written, filling_bits}
+use Rattle.asn_rules.proofs.Octets.OctetsWritten.{content}
+use Rattle.asn_oer.proofs.Law.GoodTypes.{good as good_type}
+use Rattle.asn_oer.proofs.Encodings.SpeltTypes.{oer_spelt, few_levels}
+use Rattle.asn_oer.specs.Oer.{oer_octets, variable_bits, tag, oer, oer_each, oer_open, oer_additions, oer_alternative, oer_more, an_open_field}
 use Rattle.asn_oer.specs.Rules.{oer_ruling}
 use Rattle.asn_oer.specs.Walk.{oer_coding}
 
@@ -114,3 +121,19 @@ oer_write_laws = record {
   complete = oer_complete;
   long = oer_long;
 }
+
+-- open type fields hold complete encodings, whose octets are those of the spelling
+oer_filled : (t : Shape) (d : Datum) → InProfile t → Fits t d → written oer_coding (oer_coding.code t d) ++ filling_bits oer_coding (oer_coding.code t d) ≡ unpacked (oer_coding.complete (oer_coding.code t d))
+unfolding oer_coding oer_ruling
+oer_filled t d good fits = append-nil (unpacked (oer_octets t d))
+
+oer_octets_are : (t : Shape) (d : Datum) → InProfile t → Fits t d → AllByRecursion (λ o. o < 256) (oer_coding.complete (oer_coding.code t d))
+unfolding oer_coding oer_ruling
+oer_octets_are t d good fits = (oer_spelt t (good_type t good) (few_levels t good) d fits).units.octets
+
+oer_framed : (os : List ℕ) → oer_coding.to_bits (oer_coding.ruling.fielding.spelled os) ≡ framed Single os
+unfolding oer_coding oer_ruling
+oer_framed os = content os
+
+pub oer_open_laws : OpenLaws Single oer_coding
+oer_open_laws = record { filled = oer_filled; octets = oer_octets_are; spelt = oer_framed }

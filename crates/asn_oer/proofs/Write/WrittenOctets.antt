@@ -90,13 +90,12 @@ plain os = ap unpacked (flat-ones spelled os)
 
 -- ---- SEQUENCE OF
 
--- a quantity in a sink, and the elements after it
-pub list_written : (old new : List ℕ) (n : ℕ) (items : List (List Chunk)) → length items ≡ n → n < 18446744073709551616 → new ≡ old ++ general_octets (λ u. u) (least n)
-    → new ++ unpacked (flat spelled (joined items)) ≡ old ++ unpacked (flat spelled (counted_items items))
-list_written old new n items l h e =
+-- a quantity, and the elements after it
+pub list_written : (n : ℕ) (items : List (List Chunk)) → length items ≡ n → n < 18446744073709551616
+    → general_octets (λ u. u) (least n) ++ unpacked (flat spelled (joined items)) ≡ unpacked (flat spelled (counted_items items))
+list_written n items l h =
     let front = spelled (least (length items)) in
     let rest = flat spelled (joined items) in
     let all : unpacked (flat spelled (counted_items items)) ≡ unpacked front ++ unpacked rest =
     ap unpacked (flat-append spelled (ones front) (joined items) ∙ ap (λ (t : List ℕ). t ++ rest) (flat-ones spelled front)) ∙ unpacked-append front rest in
-    ap (λ (t : List ℕ). t ++ unpacked rest) (e ∙ ap (λ (t : List ℕ). old ++ t) (least_counted n h) ∙ ap (λ (i : ℕ). old ++ unpacked (spelled (least i))) (sym l))
-    ∙ append_assoc old (unpacked front) (unpacked rest) ∙ ap (λ (t : List ℕ). old ++ t) (sym all)
+    ap (λ (t : List ℕ). t ++ unpacked rest) (least_counted n h ∙ ap (λ (i : ℕ). unpacked (spelled (least i))) (sym l)) ∙ sym all

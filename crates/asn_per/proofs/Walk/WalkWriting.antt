@@ -1,22 +1,26 @@
 -- The spellings of PER keep the laws of the walk's writers.
-use Rattle.std.proofs.Common.{◌≡◌, ◌*◌, ◌-◌, ℕ, zero, suc, Bool, true, false, nat_lt, inl, inr, List, [], ◌∷◌, ◌++◌, length, map, take, drop, Option, refl, sym, ap, ◌∙◌, arith}
-use Rattle.std.specs.List.{list_all}
+use Rattle.std.proofs.Common.{◌≡◌, ◌<◌, ◌*◌, ◌-◌, ℕ, zero, suc, Bool, true, false, nat_lt, inl, inr, List, [], ◌∷◌, ◌++◌, length, map, take, drop, Option, refl, sym, ap, ◌∙◌, arith}
+use Rattle.std.specs.List.{list_all, AllByRecursion}
 use Rattle.asn_values.specs.Datum.{Datum, Components, components, component_list, Elements, elements, element_list, alternative}
 use Rattle.asn_values.specs.Fits.{Fits}
 use Rattle.asn_values.specs.Profile.{InProfile, is_optional}
 use Rattle.asn_values.specs.Shape.{Shape, SizeRange, Demand, must, optional, default, Fields, no_fields, field, MoreFields, closed, marked, is_marked, demands, sequence, sequence_of, Alternatives, no_alternatives, one_of, MoreAlternatives, closed_choice, marked_choice, is_marked_choice, choice, count}
 use Rattle.asn_values.proofs.InnerTypes.{additions_optional}
 use Rattle.asn_bits.proofs.Splits.{length-unpacked}
+use Rattle.asn_bits.specs.Numbers.{unpacked}
+use Rattle.asn_sinks.specs.Sink.{framed}
+use Rattle.asn_sinks.specs.declared.sink.Framing.TheVariants.{General}
 use Rattle.asn_rules.specs.Chunks.{Chunk, ones, flat}
 use Rattle.asn_rules.specs.Components.{presence, if_spelled, any_present, extension_bit}
 use Rattle.asn_walk.specs.Composites.{each_code, open_code, alternative_code, added_code, more_code, sequence_code, choice_code, choice_parts}
-use Rattle.asn_walk.specs.WriteLaws.{WriteLaws}
+use Rattle.asn_walk.specs.WriteLaws.{WriteLaws, OpenLaws}
+use Rattle.asn_walk.specs.Writing.{written, filling_bits}
 use Rattle.asn_per.specs.Indexes.{index_bits}
 use Rattle.asn_per.specs.Per.{per, per_each, per_open, per_additions, per_alternative, per_more, an_open_field, small_length}
 use Rattle.asn_per.specs.Rules.{per_ruling}
 use Rattle.asn_per.specs.Walk.{per_coding}
 use Rattle.asn_per.proofs.Law.Choices.{choice_chunks}
-use Rattle.asn_per.proofs.Encodings.Complete.{filled_is, complete_full}
+use Rattle.asn_per.proofs.Encodings.Complete.{filled_is, complete_full, complete_octets}
 use Rattle.asn_per.proofs.Write.Spellings.{entries_count}
 use Rattle.asn_per.proofs.Encodings.Spelt.{per_spelt}
 
@@ -121,3 +125,19 @@ per_write_laws = record {
   complete = per_complete;
   long = per_long;
 }
+
+-- open type fields hold complete encodings, whose octets are those of the bits of the spelling and of what fills them up
+per_filled : (t : Shape) (d : Datum) → InProfile t → Fits t d → written per_coding (per_coding.code t d) ++ filling_bits per_coding (per_coding.code t d) ≡ unpacked (per_coding.complete (per_coding.code t d))
+unfolding per_coding per_ruling
+per_filled t d good fits = sym (complete_full (per t d) (per_spelt t d fits).bits)
+
+per_octets_are : (t : Shape) (d : Datum) → InProfile t → Fits t d → AllByRecursion (λ o. o < 256) (per_coding.complete (per_coding.code t d))
+unfolding per_coding per_ruling
+per_octets_are t d good fits = complete_octets (per t d) (per_spelt t d fits).bits
+
+per_framed : (os : List ℕ) → per_coding.to_bits (per_coding.ruling.fielding.spelled os) ≡ framed General os
+unfolding per_coding per_ruling
+per_framed os = refl
+
+pub per_open_laws : OpenLaws General per_coding
+per_open_laws = record { filled = per_filled; octets = per_octets_are; spelt = per_framed }

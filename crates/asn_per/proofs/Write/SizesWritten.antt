@@ -1,5 +1,5 @@
 -- Where a writer of items under a size stands: what is in front of them, and one length after the other.
-use Rattle.std.proofs.Common.{⊎_elim, ◌≡◌, ◌≤◌, ◌<◌, ◌+◌, ◌-◌, ◌*◌, ◌^◌, ℕ, suc, Bool, true, false, ◌&&◌, nat_lt, nat_le, Option, Some, None, List, [], ◌∷◌, ◌++◌, length, take, drop, refl, sym, ◌∙◌, ap, subst, arith, append_assoc}
+use Rattle.std.proofs.Common.{⊎_elim, ◌⊎◌, inl, inr, IsTrue, not, ◌||◌, ◌≡◌, ◌≤◌, ◌<◌, ◌+◌, ◌-◌, ◌*◌, ◌^◌, ℕ, suc, Bool, true, false, ◌&&◌, nat_lt, nat_le, Option, Some, None, List, [], ◌∷◌, ◌++◌, length, take, drop, refl, sym, ◌∙◌, ap, subst, arith, append_assoc}
 use Rattle.std.proofs.lemmas.Bool.{cases_lt, and_parts, leb-true, lt-ltb, ltb-true, ltb-false}
 use Rattle.std.proofs.lemmas.List.{length-drop, drop-drop, drop_all}
 use Rattle.asn_values.specs.Shape.{SizeRange}
@@ -10,6 +10,7 @@ use Rattle.asn_bits.specs.Lengths.{Length, last_length, fragment, blocks, length
 use Rattle.asn_bits.proofs.FirstLengths.{first_fragment}
 use Rattle.asn_bits.proofs.LengthBits.{lengths_last, lengths_fragment}
 use Rattle.asn_bits.proofs.Widths.{width_fits}
+use Rattle.asn_sinks.proofs.Pushing.{pushed_same}
 use Rattle.asn_rules.specs.Chunks.{Chunk, one, ones, flat}
 use Rattle.asn_rules.proofs.Live.Flat.{flat-append, flat-ones}
 use Rattle.asn_rules.specs.Components.{extension_bit}
@@ -17,7 +18,7 @@ use Rattle.asn_per.specs.Per.{spelled, sized, after_mark, constrained, within}
 use Rattle.asn_per.specs.Rules.{per_ruling}
 use Rattle.asn_per.specs.StringItems.{row_bits, general_bits}
 use Rattle.asn_per.specs.Walk.{per_coding}
-use Rattle.asn_walk.specs.Writing.{Advances}
+use Rattle.asn_walk.specs.Writing.{Pushing, Advances}
 
 -- ---- in front of the items
 
@@ -51,16 +52,30 @@ root_bits low high true xs i =
     ∙ ap (λ (t : List ℕ). 0 ∷ t) (plain_bits low high xs)
 
 -- in the root, with an upper bound: the count is written, and the items follow
-pub root_written : (low high count w : ℕ) (h : Option ℕ) (m : Bool) (old mid new : List ℕ) → h ≡ Some high → in_size (sizing low h m) count ≡ true → w ≡ width (suc (high - low))
-    → mid ≡ old ++ extension_bit m false → new ≡ mid ++ bits w (count - low)
-    → (xs : List (List Chunk)) → length xs ≡ count → new ++ row_bits xs ≡ old ++ flat spelled (sized (sizing low h m) xs)
-root_written low high count w h m old mid new e i f a b xs l =
+pub root_written : (low high count w : ℕ) (h : Option ℕ) (m : Bool) → h ≡ Some high → in_size (sizing low h m) count ≡ true → w ≡ width (suc (high - low))
+    → (xs : List (List Chunk)) → length xs ≡ count → (extension_bit m false ++ bits w (count - low)) ++ row_bits xs ≡ flat spelled (sized (sizing low h m) xs)
+root_written low high count w h m e i f xs l =
     let known : in_size (sizing low (Some high) m) (length xs) ≡ true = ap (λ k. in_size (sizing low k m) (length xs)) (sym e) ∙ ap (λ n. in_size (sizing low h m) n) l ∙ i in
     let front = bits (width (suc (high - low))) (length xs - low) in
     let counted : bits w (count - low) ≡ front = rw (f, l) refl in
-    ap (λ (t : List ℕ). t ++ row_bits xs) (b ∙ ap (λ (t : List ℕ). t ++ bits w (count - low)) a ∙ ap (λ (t : List ℕ). (old ++ extension_bit m false) ++ t) counted)
-    ∙ append_assoc (old ++ extension_bit m false) front (row_bits xs) ∙ append_assoc old (extension_bit m false) (front ++ row_bits xs)
-    ∙ ap (λ (t : List ℕ). old ++ t) (sym (root_bits low high m xs known)) ∙ ap (λ k. old ++ flat spelled (sized (sizing low k m) xs)) (sym e)
+    append_assoc (extension_bit m false) (bits w (count - low)) (row_bits xs) ∙ ap (λ (t : List ℕ). extension_bit m false ++ (t ++ row_bits xs)) counted
+    ∙ sym (root_bits low high m xs known) ∙ ap (λ k. flat spelled (sized (sizing low k m) xs)) (sym e)
+
+-- and else the items follow under their general length
+pub other_written : (low count : ℕ) (h : Option ℕ) (m i : Bool) → i ≡ in_size (sizing low h m) count → IsTrue (m || i) → (h ≡ None) ⊎ (i ≡ false)
+    → (xs : List (List Chunk)) → length xs ≡ count → extension_bit m (not i) ++ general_bits xs ≡ flat spelled (sized (sizing low h m) xs)
+other_written low count h m i e fits which xs l =
+    let inside : in_size (sizing low h m) (length xs) ≡ i = ap (λ n. in_size (sizing low h m) n) l ∙ sym e in
+    marked m i fits which ∙ ap (λ b. flat spelled (after_mark one m b (within low h xs) (general one xs))) (sym inside)
+  where
+    marked : (m i : Bool) → IsTrue (m || i) → (h ≡ None) ⊎ (i ≡ false)
+        → extension_bit m (not i) ++ general_bits xs ≡ flat spelled (after_mark one m i (within low h xs) (general one xs))
+    marked false true f (inl n) = ap (λ k. flat spelled (within low k xs)) (sym n)
+    marked false true f (inr n) = absurd (cc)
+    marked false false f w = absurd (cc)
+    marked true true f (inl n) = ap (λ k. 0 ∷ flat spelled (within low k xs)) (sym n)
+    marked true true f (inr n) = absurd (cc)
+    marked true false f w = refl
 
 -- ---- one length after the other
 
@@ -105,32 +120,42 @@ general_first xs = go (nat_lt (length xs) 16384) refl
 
 -- ---- items in fragments
 
--- what a sink has, with what is still to be written of the items that are left, is the whole
-pub record Written (xs : List (List Chunk)) (whole : List ℕ) (rest : List (List Chunk) → List Chunk) (now : List ℕ) (done : ℕ) : Type 0 where
+-- a sink has taken bits, which are the whole with what is still to be written of the items that are left
+pub record Written {Sink : Type 0} (push : Pushing Sink) (xs : List (List Chunk)) (whole : List ℕ) (rest : List (List Chunk) → List Chunk) (before now : Sink) (done : ℕ) : Type 0 where
   pub few : done ≤ length xs
-  pub known : now ++ flat spelled (rest (drop done xs)) ≡ whole
+  pub front : List ℕ
+  pub pushed : push before now front
+  pub known : front ++ flat spelled (rest (drop done xs)) ≡ whole
 
--- the items of a fragment more
-pub written_next : (xs : List (List Chunk)) (whole : List ℕ) (rest then : List (List Chunk) → List Chunk) (now mid new : List ℕ) (done many : ℕ)
-    → Written xs whole rest now done → Advances per_coding rest (length xs - done) now then mid (Some many) → new ≡ mid ++ row_bits (take many (drop done xs)) → Written xs whole then new (done + many)
-unfolding per_coding per_ruling
-written_next xs whole rest then now mid new done many h a e =
-    let ys = drop done xs in
-    let left : length ys ≡ length xs - done = length-drop done xs in
-    let after = then (drop (done + many) xs) in
-    record {
-      few = omega (arith, a.1, h.few);
-      known =
-          ap (λ (l : List ℕ). l ++ flat spelled after) e ∙ append_assoc mid (row_bits (take many ys)) (flat spelled after)
-          ∙ ap (λ (l : List ℕ). mid ++ l) (sym (flat-append spelled (joined (take many ys)) after))
-          ∙ ap (λ (zs : List (List Chunk)). mid ++ flat spelled (joined (take many ys) ++ then zs)) (sym (drop-drop many done xs))
-          ∙ a.2 ys left ∙ h.known;
-    }
+module _ {Sink : Type 0} {push : Pushing Sink} (joined_law : (a b d : Sink) (us vs : List ℕ) → push a b us → push b d vs → push a d (us ++ vs)) where
+  -- the items of a fragment more
+  pub written_next : (xs : List (List Chunk)) (whole : List ℕ) (rest then : List (List Chunk) → List Chunk) (before now mid new : Sink) (done many : ℕ)
+      → Written push xs whole rest before now done → Advances push per_coding rest (length xs - done) now then mid (Some many) → push mid new (row_bits (take many (drop done xs)))
+      → Written push xs whole then before new (done + many)
+  unfolding per_coding per_ruling
+  written_next xs whole rest then before now mid new done many h a e =
+      let ys = drop done xs in
+      let left : length ys ≡ length xs - done = length-drop done xs in
+      let after = then (drop (done + many) xs) in
+      let step = a.2 ys left in
+      let row = row_bits (take many ys) in
+      let last : step.done ++ (row ++ flat spelled after) ≡ flat spelled (rest ys) =
+      ap (λ (l : List ℕ). step.done ++ l) (sym (flat-append spelled (joined (take many ys)) after))
+      ∙ ap (λ (zs : List (List Chunk)). step.done ++ flat spelled (joined (take many ys) ++ then zs)) (sym (drop-drop many done xs)) ∙ step.rest in
+      record {
+        few = omega (arith, a.1, h.few);
+        front = h.front ++ (step.done ++ row);
+        pushed = joined_law before now new h.front (step.done ++ row) h.pushed (joined_law now mid new step.done row step.pushed e);
+        known =
+            append_assoc h.front (step.done ++ row) (flat spelled after)
+            ∙ ap (λ (l : List ℕ). h.front ++ l) (append_assoc step.done row (flat spelled after) ∙ last) ∙ h.known;
+      }
 
--- no item is left
-pub written_end : (xs : List (List Chunk)) (whole : List ℕ) (rest then : List (List Chunk) → List Chunk) (now new : List ℕ) (done : ℕ)
-    → Written xs whole rest now done → Advances per_coding rest (length xs - done) now then new None → new ≡ whole
-unfolding per_coding per_ruling
-written_end xs whole rest then now new done h a =
-    let none : drop done xs ≡ [] = drop_all done xs (omega (arith, a.0, h.few)) in
-    a.1 ∙ ap (λ (ys : List (List Chunk)). now ++ flat spelled (rest ys)) (sym none) ∙ h.known
+  -- no item is left
+  pub written_end : (xs : List (List Chunk)) (whole : List ℕ) (rest then : List (List Chunk) → List Chunk) (before now new : Sink) (done : ℕ)
+      → Written push xs whole rest before now done → Advances push per_coding rest (length xs - done) now then new None → push before new whole
+  unfolding per_coding per_ruling
+  written_end xs whole rest then before now new done h a =
+      let none : drop done xs ≡ [] = drop_all done xs (omega (arith, a.0, h.few)) in
+      pushed_same push before new (ap (λ (ys : List (List Chunk)). h.front ++ flat spelled (rest ys)) (sym none) ∙ h.known)
+      (joined_law before now new h.front (flat spelled (rest [])) h.pushed a.1)

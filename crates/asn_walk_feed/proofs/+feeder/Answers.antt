@@ -1,11 +1,11 @@
-use Rattle.std.proofs.Common.{inl, None, ◌≡◌, ◌<◌, ◌≤◌, ◌+◌, ◌^◌, ◌++◌, ◌∷◌, [], ℕ, List, length, map, rules, refl, sym, ap, ◌∙◌, subst, arith}
+use Rattle.std.proofs.Common.{inl, None, Some, ◌⊎◌, true, false, drop, ◌≡◌, ◌<◌, ◌≤◌, ◌+◌, ◌++◌, ◌∷◌, [], ℕ, List, length, map, rules, refl, sym, ap, ◌∙◌, subst, arith}
 use Rattle.std.specs.Prelude.{is_some}
 use Rattle.std.proofs.lemmas.Result.{err_from_is_err_and, IfOk-weaker, IfErr-weaker}
 use Rattle.asn_values.specs.declared.types.AsnType.{the_lemmas}
-use Rattle.asn_values.specs.View.{shape_of, datum_of, size_range_of}
+use Rattle.asn_values.specs.View.{shape_of, datum_of, part_of_field, fields_seen, size_range_of}
 use Rattle.asn_values.proofs.InnerTypes.{element_of_profile}
 use Rattle.asn_values.proofs.Views.{datum_of-List, list_of_elements}
-use Rattle.asn_values.specs.Shape.{sequence_of}
+use Rattle.asn_values.specs.Shape.{sequence, sequence_of}
 use Rattle.asn_rules.specs.Stops.{Stops}
 use Rattle.asn_rules.specs.declared.stop.Stop.TheVariants as stop
 use Rattle.asn_rules.proofs.Languages.Leads.{stops_by, stops_on}
@@ -19,7 +19,30 @@ use Rattle.asn_walk_feed.specs.Taken.{ListGoesOn, KeepsFrames, Took}
 use Rattle.asn_walk_feed.specs.Feeding.{IsScalar}
 use Rattle.asn_walk_feed.specs.declared.frame.Frame.{Frame}
 use Rattle.asn_walk_feed.proofs.Scalars.{scalar_node}
-use Rattle.asn_walk_feed.proofs.Goings.{length_ahead, length_begun, length_stops, length_ends, length_kept, length_more, length_nearer, ElementAhead, element_ahead, list_goes_on, took_elements, took_none, took_start, list_starts, taken_is}
+use Rattle.asn_walk_feed.proofs.Goings.{length_ahead, length_begun, length_stops, length_ends, length_kept, length_more, length_nearer, element_ahead, list_goes_on, took_elements, took_none, took_start, list_starts, taken_is}
+use Rattle.asn_values.proofs.Views.{datum_of-Seq, datum_of-Choice, sequence_of_fields, choice_of_alternatives}
+use Rattle.asn_walk.specs.Coding.{PreambleOf, added}
+use Rattle.asn_rules.specs.Listed.{bitmap_length}
+use Rattle.asn_walk.proofs.SequencesRead.{preamble_stops}
+use Rattle.asn_walk_feed.specs.Roots.{parts_in}
+use Rattle.asn_walk_feed.specs.Taken.{RootReached}
+use Rattle.asn_walk_feed.proofs.RootsRead.{added_count, sequence_took, component_ahead, presence_left, root_starts, root_goes_on, root_ends, root_emptied, took_components, sequence_none, sequence_start, next_in, none_left, covered_at, plain_demand, no_default, other_kept, value_kept, absent_took, took_other, took_value}
+use Rattle.asn_values.specs.Parts.{IsGoodDemand}
+use Rattle.asn_values.specs.Shape.{Demand, must, optional, default}
+use Rattle.asn_values.specs.View.{demand_of}
+use Rattle.asn_values.proofs.Components.{shape_of_part}
+use Rattle.asn_rules.specs.Listed.{default_of}
+use Rattle.asn_rules.proofs.Components.ListedReading.{nothing_read}
+use Rattle.asn_walk.proofs.ComponentsRead.{entry_leads}
+use Rattle.asn_walk.proofs.Widths.{demand_of_part}
+use Rattle.asn_walk.proofs.Parts.{few_components}
+use Rattle.asn_values.specs.View.{more_fields_of, sequence_seen, more_alternatives_of, choice_seen}
+use Rattle.std.proofs.Common.{vec_len, inr}
+use Rattle.asn_rules.specs.Languages.{Short}
+use Rattle.asn_walk.specs.Coding.{IndexOf, added_alternatives}
+use Rattle.asn_walk.proofs.Parts.{some_root, more_count}
+use Rattle.asn_walk_feed.specs.declared.frame.Frame.TheVariants as frame
+use Rattle.asn_walk_feed.proofs.ChosenRead.{few_seen, few_of_root, choice_starts, choice_stops, none_added, index_inside, alternative_ahead, choice_goes_on, took_chosen, choice_none, choice_start, choice_took}
 use Rattle.asn_walk_feed.proofs.+feeder.Goals as goal
 
 -- ---- the elements of a list
@@ -27,51 +50,51 @@ use Rattle.asn_walk_feed.proofs.+feeder.Goals as goal
 pub lists::feed_elements-feed_fragment-requires : goal.lists::feed_elements-feed_fragment-requires
 lists::feed_elements-feed_fragment-requires g t c κs within =
     let inv = c.loop-alloc.invariant in
-    (search (rules, the_lemmas), (within.0, (within.1, (inv.2, (c.requires.of_profile, (c.requires.covered, ((c.requires.reached.0, inv.0 c.requires.reached.0 c.requires.reached.1), omega (arith, inv.1, c.requires.few))))))))
+    (search (rules, the_lemmas), (within.0, (within.1, (inv.2, (c.requires.covered, (((size_range_of c.args.size.now), c.requires.of_profile, c.requires.reached.0, inv.0 c.requires.reached.0 c.requires.reached.1), omega (arith, inv.1, c.requires.few)))))))
 
 pub lists::feed_elements-returns-in_err-feed_fragment-clause-stop : goal.lists::feed_elements-returns-in_err-feed_fragment-clause-stop
 lists::feed_elements-returns-in_err-feed_fragment-clause-stop g t c =
     let p = err_from_is_err_and c.from_residual.result c.from_residual.ensures.1 in
-    rw (p.1, p.2) (λ all h. c.in_err-feed_fragment.ensures.stop all (c.loop-alloc.invariant.0 all h))
+    rw (p.1, p.2) (λ all h. c.in_err-feed_fragment.ensures.stop (size_range_of c.args.size.now) c.requires.of_profile all (c.loop-alloc.invariant.0 all h))
 
 pub lists::feed_elements-returns-in_err-feed_fragment-clause-kept : goal.lists::feed_elements-returns-in_err-feed_fragment-clause-kept
 lists::feed_elements-returns-in_err-feed_fragment-clause-kept g t c = λ e all h.
     let p = err_from_is_err_and c.from_residual.result c.from_residual.ensures.1 in
-    c.in_err-feed_fragment.ensures.kept (cc (p.1, p.2, e)) all (c.loop-alloc.invariant.0 all h)
+    c.in_err-feed_fragment.ensures.kept (cc (p.1, p.2, e)) (size_range_of c.args.size.now) c.requires.of_profile all (c.loop-alloc.invariant.0 all h)
 
 pub lists::feed_elements-next_fragment-requires : goal.lists::feed_elements-next_fragment-requires
 lists::feed_elements-next_fragment-requires g t c =
-    let k = c.in_ok-feed_fragment.ensures.done c.requires.reached.0 (c.loop-alloc.invariant.0 c.requires.reached.0 c.requires.reached.1) in
+    let k = c.in_ok-feed_fragment.ensures.done (size_range_of c.args.size.now) c.requires.of_profile c.requires.reached.0 (c.loop-alloc.invariant.0 c.requires.reached.0 c.requires.reached.1) in
     let b = length_begun g.R.ReadLeaves.rules c.keep_laws.ensures c.keep_feed_laws.ensures g.R.ReadLeaves.ahead g.R.ReadLeaves.is_between (shape_of c.args.element.now) (size_range_of c.args.size.now) c.requires.of_profile c.feed_fragment.new.list (nodes c.feed_fragment.new.frames) c.requires.reached.0 (g.R.ReadLeaves.rules.to_units c.feed_fragment.new.units) c.in_ok-feed_fragment.ensures.over k in
     record { at_unit = c.in_ok-feed_fragment.ensures.at_unit; between = k.between_is; begun = b.1; begins = b.0; few = omega (arith, c.loop-alloc.invariant.1, c.in_ok-feed_fragment.ensures.ticked, c.requires.few) }
 
 pub lists::feed_elements-returns-in_err-next_fragment-clause-stop : goal.lists::feed_elements-returns-in_err-next_fragment-clause-stop
 lists::feed_elements-returns-in_err-next_fragment-clause-stop g t c =
     let p = err_from_is_err_and c.from_residual-in_err-next_fragment.result c.from_residual-in_err-next_fragment.ensures.1 in
-    rw (p.1, p.2) (λ all h. length_stops g.R.ReadLeaves.rules c.keep_laws.ensures c.keep_feed_laws.ensures g.R.ReadLeaves.ahead g.R.ReadLeaves.is_between (shape_of c.args.element.now) (size_range_of c.args.size.now) c.requires.of_profile c.feed_fragment.new.list (nodes c.feed_fragment.new.frames) all (g.R.ReadLeaves.rules.to_units c.feed_fragment.new.units) _ c.in_ok-feed_fragment.ensures.over (c.in_ok-feed_fragment.ensures.done all (c.loop-alloc.invariant.0 all h)) c.in_err-next_fragment.ensures.stop)
+    rw (p.1, p.2) (λ all h. length_stops g.R.ReadLeaves.rules c.keep_laws.ensures c.keep_feed_laws.ensures g.R.ReadLeaves.ahead g.R.ReadLeaves.is_between (shape_of c.args.element.now) (size_range_of c.args.size.now) c.requires.of_profile c.feed_fragment.new.list (nodes c.feed_fragment.new.frames) all (g.R.ReadLeaves.rules.to_units c.feed_fragment.new.units) _ c.in_ok-feed_fragment.ensures.over (c.in_ok-feed_fragment.ensures.done (size_range_of c.args.size.now) c.requires.of_profile all (c.loop-alloc.invariant.0 all h)) c.in_err-next_fragment.ensures.stop)
 
 pub lists::feed_elements-returns-in_err-next_fragment-clause-kept : goal.lists::feed_elements-returns-in_err-next_fragment-clause-kept
 lists::feed_elements-returns-in_err-next_fragment-clause-kept g t c = λ e all h.
     let p = err_from_is_err_and c.from_residual-in_err-next_fragment.result c.from_residual-in_err-next_fragment.ensures.1 in
     let U = g.R.ReadLeaves.rules.to_units in
     let w : c.in_err-next_fragment.field-0.0 ≡ stop.Short = cc (p.1, p.2, e) in
-    length_kept g.R.ReadLeaves.rules c.keep_laws.ensures c.keep_feed_laws.ensures g.R.ReadLeaves.ahead g.R.ReadLeaves.is_between (shape_of c.args.element.now) (size_range_of c.args.size.now) c.requires.of_profile c.feed_fragment.new.list c.next_fragment.new.list (nodes c.feed_fragment.new.frames) all (U c.feed_fragment.new.units) (U c.next_fragment.new.units) c.in_ok-feed_fragment.ensures.over (c.in_ok-feed_fragment.ensures.done all (c.loop-alloc.invariant.0 all h)) c.in_err-next_fragment.ensures.same.1 c.in_err-next_fragment.ensures.same.0 c.next_fragment.ensures.elements c.in_err-next_fragment.ensures.begun (rw w at c.in_err-next_fragment.ensures.kept) (rw w at c.in_err-next_fragment.ensures.behind) (rw w at c.in_err-next_fragment.ensures.stop)
+    length_kept g.R.ReadLeaves.rules c.keep_laws.ensures c.keep_feed_laws.ensures g.R.ReadLeaves.ahead g.R.ReadLeaves.is_between (shape_of c.args.element.now) (size_range_of c.args.size.now) c.requires.of_profile c.feed_fragment.new.list c.next_fragment.new.list (nodes c.feed_fragment.new.frames) all (U c.feed_fragment.new.units) (U c.next_fragment.new.units) c.in_ok-feed_fragment.ensures.over (c.in_ok-feed_fragment.ensures.done (size_range_of c.args.size.now) c.requires.of_profile all (c.loop-alloc.invariant.0 all h)) c.in_err-next_fragment.ensures.same.1 c.in_err-next_fragment.ensures.same.0 c.next_fragment.ensures.elements c.in_err-next_fragment.ensures.begun (rw w at c.in_err-next_fragment.ensures.kept) (rw w at c.in_err-next_fragment.ensures.after) (rw w at c.in_err-next_fragment.ensures.stop)
 
 pub lists::feed_elements-returns-then-not-branch-clause-done : goal.lists::feed_elements-returns-then-not-branch-clause-done
 lists::feed_elements-returns-then-not-branch-clause-done g t c = λ all h.
     let U = g.R.ReadLeaves.rules.to_units in
-    let k = length_ends g.R.ReadLeaves.rules c.keep_laws.ensures c.keep_feed_laws.ensures g.R.ReadLeaves.ahead g.R.ReadLeaves.is_between (shape_of c.args.element.now) (size_range_of c.args.size.now) c.requires.of_profile c.feed_fragment.new.list (nodes c.feed_fragment.new.frames) all (U c.feed_fragment.new.units) (U c.next_fragment.new.units) (g.R.ReadLeaves.ahead c.next_fragment.new.list.fragments) c.in_ok-feed_fragment.ensures.over (c.in_ok-feed_fragment.ensures.done all (c.loop-alloc.invariant.0 all h)) (c.next_fragment.ensures.none (cc (c.in_ok-next_fragment.was, c.if-not-branch.true))) in
+    let k = length_ends g.R.ReadLeaves.rules c.keep_laws.ensures c.keep_feed_laws.ensures g.R.ReadLeaves.ahead g.R.ReadLeaves.is_between (shape_of c.args.element.now) (size_range_of c.args.size.now) c.requires.of_profile c.feed_fragment.new.list (nodes c.feed_fragment.new.frames) all (U c.feed_fragment.new.units) (U c.next_fragment.new.units) (g.R.ReadLeaves.ahead c.next_fragment.new.list.fragments) c.in_ok-feed_fragment.ensures.over (c.in_ok-feed_fragment.ensures.done (size_range_of c.args.size.now) c.requires.of_profile all (c.loop-alloc.invariant.0 all h)) (c.next_fragment.ensures.none (cc (c.in_ok-next_fragment.was, c.if-not-branch.true))) in
     rw c.next_fragment.ensures.elements k
 
 pub lists::feed_elements-returns-then-not-branch-clause-emptied : goal.lists::feed_elements-returns-then-not-branch-clause-emptied
 lists::feed_elements-returns-then-not-branch-clause-emptied g t c =
-    (length_ahead g.R.ReadLeaves.rules c.keep_laws.ensures c.keep_feed_laws.ensures g.R.ReadLeaves.ahead g.R.ReadLeaves.is_between (shape_of c.args.element.now) (size_range_of c.args.size.now) c.requires.of_profile c.feed_fragment.new.list (nodes c.feed_fragment.new.frames) c.requires.reached.0 (g.R.ReadLeaves.rules.to_units c.feed_fragment.new.units) c.in_ok-feed_fragment.ensures.over (c.in_ok-feed_fragment.ensures.done c.requires.reached.0 (c.loop-alloc.invariant.0 c.requires.reached.0 c.requires.reached.1))).none
+    (length_ahead g.R.ReadLeaves.rules c.keep_laws.ensures c.keep_feed_laws.ensures g.R.ReadLeaves.ahead g.R.ReadLeaves.is_between (shape_of c.args.element.now) (size_range_of c.args.size.now) c.requires.of_profile c.feed_fragment.new.list (nodes c.feed_fragment.new.frames) c.requires.reached.0 (g.R.ReadLeaves.rules.to_units c.feed_fragment.new.units) c.in_ok-feed_fragment.ensures.over (c.in_ok-feed_fragment.ensures.done (size_range_of c.args.size.now) c.requires.of_profile c.requires.reached.0 (c.loop-alloc.invariant.0 c.requires.reached.0 c.requires.reached.1))).none
 
 pub lists::feed_elements-loop-alloc-preserved : goal.lists::feed_elements-loop-alloc-preserved
 lists::feed_elements-loop-alloc-preserved g t c =
     let inv = c.loop-alloc.invariant in
     let U = g.R.ReadLeaves.rules.to_units in (
-      λ all h. length_more g.R.ReadLeaves.rules c.keep_laws.ensures c.keep_feed_laws.ensures g.R.ReadLeaves.ahead g.R.ReadLeaves.is_between (shape_of c.args.element.now) (size_range_of c.args.size.now) c.requires.of_profile c.feed_fragment.new.list c.next_fragment.new.list (nodes c.feed_fragment.new.frames) all (U c.feed_fragment.new.units) (U c.next_fragment.new.units) c.next_fragment.new.list.left c.in_ok-feed_fragment.ensures.over (c.in_ok-feed_fragment.ensures.done all (inv.0 all h)) refl c.next_fragment.ensures.elements c.in_ok-next_fragment.ensures.fresh c.next_fragment.ensures.between (c.next_fragment.ensures.more (cc (c.in_ok-next_fragment.was, c.if-not-branch.false))),
+      λ all h. length_more g.R.ReadLeaves.rules c.keep_laws.ensures c.keep_feed_laws.ensures g.R.ReadLeaves.ahead g.R.ReadLeaves.is_between (shape_of c.args.element.now) (size_range_of c.args.size.now) c.requires.of_profile c.feed_fragment.new.list c.next_fragment.new.list (nodes c.feed_fragment.new.frames) all (U c.feed_fragment.new.units) (U c.next_fragment.new.units) c.next_fragment.new.list.left c.in_ok-feed_fragment.ensures.over (c.in_ok-feed_fragment.ensures.done (size_range_of c.args.size.now) c.requires.of_profile all (inv.0 all h)) refl c.next_fragment.ensures.elements c.in_ok-next_fragment.ensures.fresh c.next_fragment.ensures.between (c.next_fragment.ensures.more (cc (c.in_ok-next_fragment.was, c.if-not-branch.false))),
       omega (arith, inv.1, c.in_ok-feed_fragment.ensures.ticked, c.in_ok-next_fragment.ensures.ticked),
       c.in_ok-next_fragment.ensures.at_unit,
       omega (arith, inv.3, c.in_ok-feed_fragment.ensures.rising, c.in_ok-next_fragment.ensures.rising),
@@ -80,7 +103,7 @@ lists::feed_elements-loop-alloc-preserved g t c =
 pub lists::feed_elements-loop-alloc-smaller : goal.lists::feed_elements-loop-alloc-smaller
 lists::feed_elements-loop-alloc-smaller g t c =
     let U = g.R.ReadLeaves.rules.to_units in
-    let k = length_nearer g.R.ReadLeaves.rules c.keep_laws.ensures c.keep_feed_laws.ensures g.R.ReadLeaves.ahead g.R.ReadLeaves.is_between (shape_of c.args.element.now) (size_range_of c.args.size.now) c.requires.of_profile c.feed_fragment.new.list (nodes c.feed_fragment.new.frames) c.requires.reached.0 (U c.feed_fragment.new.units) (U c.next_fragment.new.units) c.next_fragment.new.list.left (g.R.ReadLeaves.ahead c.next_fragment.new.list.fragments) c.in_ok-feed_fragment.ensures.over (c.in_ok-feed_fragment.ensures.done c.requires.reached.0 (c.loop-alloc.invariant.0 c.requires.reached.0 c.requires.reached.1)) (c.next_fragment.ensures.more (cc (c.in_ok-next_fragment.was, c.if-not-branch.false))) in
+    let k = length_nearer g.R.ReadLeaves.rules c.keep_laws.ensures c.keep_feed_laws.ensures g.R.ReadLeaves.ahead g.R.ReadLeaves.is_between (shape_of c.args.element.now) (size_range_of c.args.size.now) c.requires.of_profile c.feed_fragment.new.list (nodes c.feed_fragment.new.frames) c.requires.reached.0 (U c.feed_fragment.new.units) (U c.next_fragment.new.units) c.next_fragment.new.list.left (g.R.ReadLeaves.ahead c.next_fragment.new.list.fragments) c.in_ok-feed_fragment.ensures.over (c.in_ok-feed_fragment.ensures.done (size_range_of c.args.size.now) c.requires.of_profile c.requires.reached.0 (c.loop-alloc.invariant.0 c.requires.reached.0 c.requires.reached.1)) (c.next_fragment.ensures.more (cc (c.in_ok-next_fragment.was, c.if-not-branch.false))) in
     let n : steps_left (g.R.ReadLeaves.ahead c.next_fragment.new.list.fragments) + length (U c.next_fragment.new.units) < steps_left (g.R.ReadLeaves.ahead c.loop-alloc.list.fragments) + length (U c.feed_fragment.new.units) = rw c.in_ok-feed_fragment.ensures.fragments at k in
     omega (arith, n, c.in_ok-feed_fragment.ensures.shorter)
 
@@ -89,31 +112,33 @@ lists::feed_elements-loop-alloc-smaller g t c =
 pub lists::feed_fragment-feed-requires : goal.lists::feed_fragment-feed-requires
 lists::feed_fragment-feed-requires g t c κs within =
     let inv = c.loop-list.invariant in
-    let all = c.requires.reached.0 in
-    let x = element_ahead g.R.ReadLeaves.rules c.keep_laws.ensures c.keep_feed_laws.ensures g.R.ReadLeaves.ahead g.R.ReadLeaves.is_between (shape_of c.args.element.now) (size_range_of c.args.size.now) c.requires.of_profile c.loop-list.list (nodes c.loop-list.frames) all (g.R.ReadLeaves.rules.to_units c.loop-list.units) c.loop-list-test.true (inv.0 all c.requires.reached.1) in
-    (search (rules, the_lemmas), (within.0, (within.1, (inv.2, (element_of_profile (shape_of c.args.element.now) (size_range_of c.args.size.now) c.requires.of_profile, (c.requires.covered, ((x.come, x.took), omega (arith, inv.1, c.requires.few))))))))
+    let s = c.requires.reached.0 in
+    let good = c.requires.reached.1 in
+    let all = c.requires.reached.2 in
+    let x = element_ahead g.R.ReadLeaves.rules c.keep_laws.ensures c.keep_feed_laws.ensures g.R.ReadLeaves.ahead g.R.ReadLeaves.is_between (shape_of c.args.element.now) s good c.loop-list.list (nodes c.loop-list.frames) all (g.R.ReadLeaves.rules.to_units c.loop-list.units) c.loop-list-test.true (inv.0 s good all c.requires.reached.3) in
+    (search (rules, the_lemmas), (within.0, (within.1, (inv.2, (element_of_profile (shape_of c.args.element.now) s good, (c.requires.covered, ((x.come, x.took), omega (arith, inv.1, c.requires.few))))))))
 
 pub lists::feed_fragment-returns-in_err-value-clause-stop : goal.lists::feed_fragment-returns-in_err-value-clause-stop
 lists::feed_fragment-returns-in_err-value-clause-stop g t c =
     let inv = c.loop-list.invariant in
     let p = err_from_is_err_and c.from_residual.result c.from_residual.ensures.1 in
-    rw (p.1, p.2) (λ all h.
-    (let x = element_ahead g.R.ReadLeaves.rules c.keep_laws.ensures c.keep_feed_laws.ensures g.R.ReadLeaves.ahead g.R.ReadLeaves.is_between (shape_of c.args.element.now) (size_range_of c.args.size.now) c.requires.of_profile c.loop-list.list (nodes c.loop-list.frames) all (g.R.ReadLeaves.rules.to_units c.loop-list.units) c.loop-list-test.true (inv.0 all h) in
+    rw (p.1, p.2) (λ s good all h.
+    (let x = element_ahead g.R.ReadLeaves.rules c.keep_laws.ensures c.keep_feed_laws.ensures g.R.ReadLeaves.ahead g.R.ReadLeaves.is_between (shape_of c.args.element.now) s good c.loop-list.list (nodes c.loop-list.frames) all (g.R.ReadLeaves.rules.to_units c.loop-list.units) c.loop-list-test.true (inv.0 s good all h) in
     x.stops _ (c.in_err-value.ensures.stop x.come x.took)))
 
 pub lists::feed_fragment-returns-in_err-value-clause-kept : goal.lists::feed_fragment-returns-in_err-value-clause-kept
-lists::feed_fragment-returns-in_err-value-clause-kept g t c = λ e all h.
+lists::feed_fragment-returns-in_err-value-clause-kept g t c = λ e s good all h.
     let inv = c.loop-list.invariant in
     let p = err_from_is_err_and c.from_residual.result c.from_residual.ensures.1 in
     let w : c.in_err-value.field-0.0 ≡ stop.Short = cc (p.1, p.2, e) in
-    let x = element_ahead g.R.ReadLeaves.rules c.keep_laws.ensures c.keep_feed_laws.ensures g.R.ReadLeaves.ahead g.R.ReadLeaves.is_between (shape_of c.args.element.now) (size_range_of c.args.size.now) c.requires.of_profile c.loop-list.list (nodes c.loop-list.frames) all (g.R.ReadLeaves.rules.to_units c.loop-list.units) c.loop-list-test.true (inv.0 all h) in
-    x.kept (nodes c.feed.new.frames) (g.R.ReadLeaves.rules.to_units c.feed.new.units) (rw w at c.in_err-value.ensures.behind) (rw w at (c.in_err-value.ensures.kept x.come x.took))
+    let x = element_ahead g.R.ReadLeaves.rules c.keep_laws.ensures c.keep_feed_laws.ensures g.R.ReadLeaves.ahead g.R.ReadLeaves.is_between (shape_of c.args.element.now) s good c.loop-list.list (nodes c.loop-list.frames) all (g.R.ReadLeaves.rules.to_units c.loop-list.units) c.loop-list-test.true (inv.0 s good all h) in
+    x.kept (nodes c.feed.new.frames) (g.R.ReadLeaves.rules.to_units c.feed.new.units) (rw w at c.in_err-value.ensures.after) (rw w at (c.in_err-value.ensures.kept x.come x.took))
 
 pub lists::feed_fragment-loop-list-preserved : goal.lists::feed_fragment-loop-list-preserved
 lists::feed_fragment-loop-list-preserved g t c =
     let inv = c.loop-list.invariant in (
-      λ all h.
-          (let x = element_ahead g.R.ReadLeaves.rules c.keep_laws.ensures c.keep_feed_laws.ensures g.R.ReadLeaves.ahead g.R.ReadLeaves.is_between (shape_of c.args.element.now) (size_range_of c.args.size.now) c.requires.of_profile c.loop-list.list (nodes c.loop-list.frames) all (g.R.ReadLeaves.rules.to_units c.loop-list.units) c.loop-list-test.true (inv.0 all h) in
+      λ s good all h.
+          (let x = element_ahead g.R.ReadLeaves.rules c.keep_laws.ensures c.keep_feed_laws.ensures g.R.ReadLeaves.ahead g.R.ReadLeaves.is_between (shape_of c.args.element.now) s good c.loop-list.list (nodes c.loop-list.frames) all (g.R.ReadLeaves.rules.to_units c.loop-list.units) c.loop-list-test.true (inv.0 s good all h) in
           x.more _ _ c.in_ok-value.value _ (omega (arith, c.loop-list-test.true)) refl refl c.in_ok-push.ensures.items c.in_ok-value.ensures.emptied (c.in_ok-value.ensures.done x.come x.took)),
       omega (arith, inv.1, c.in_ok-value.ensures.ticked),
       c.in_ok-value.ensures.at_unit,
@@ -171,7 +196,7 @@ lists::feed_list-returns-in-Ok-put-clause-stop g t c = λ all h.
 
 pub lists::feed_list-returns-in-Ok-put-clause-kept : goal.lists::feed_list-returns-in-Ok-put-clause-kept
 lists::feed_list-returns-in-Ok-put-clause-kept g t c = λ all h.
-    let none : g.R.ReadLeaves.rules.to_units c.feed_elements.new.units ≡ [] = rw c.in-Err-Short.field-0-is at c.in-Err-Short.ensures.behind in
+    let none : g.R.ReadLeaves.rules.to_units c.feed_elements.new.units ≡ [] = rw c.in-Err-Short.field-0-is at c.in-Err-Short.ensures.after in
     let kept : ListGoesOn g.R.ReadLeaves.rules g.R.ReadLeaves.ahead g.R.ReadLeaves.is_between (shape_of c.args.element.now) (size_range_of c.args.size.now) c.feed_elements.new.list (nodes c.feed_elements.new.frames) all (g.R.ReadLeaves.rules.to_units c.feed_elements.new.units) = c.feed_elements.ensures.kept (cc (c.in-Err-Short.is, c.in-Err-Short.field-0-is)) all h in
     rw c.in-Ok-put.ensures (subst (λ (xs : List ℕ). ListGoesOn g.R.ReadLeaves.rules g.R.ReadLeaves.ahead g.R.ReadLeaves.is_between (shape_of c.args.element.now) (size_range_of c.args.size.now) c.feed_elements.new.list (nodes c.feed_elements.new.frames) all xs) none kept)
 
@@ -248,3 +273,455 @@ lists::start_list-returns-in-Err-Refused-clause-stop g t c =
 pub lists::resume_list-returns-in-Some-Start-clause-stop : goal.lists::resume_list-returns-in-Some-Start-clause-stop
 lists::resume_list-returns-in-Some-Start-clause-stop g t c =
     IfErr-weaker c.start_list.result _ _ (λ why s us k. subst (λ (xs : List ℕ). Stops g.R.ReadLeaves.rules.ruling.fielding (ValuesOf g.R.ReadLeaves.rules (sequence_of (shape_of c.args.element.now) (size_range_of c.args.size.now))) (xs ++ g.R.ReadLeaves.rules.to_units c.args.units.now) why) (took_start g.R.ReadLeaves.rules c.keep_laws.ensures c.keep_feed_laws.ensures g.R.ReadLeaves.ahead g.R.ReadLeaves.is_between (shape_of c.args.element.now) (size_range_of c.args.size.now) c.requires.of_profile c.args.node c.in-Some-Start.field-0 c.in-Some-Start.begun (nodes c.args.frames.now) us c.in-Some-Start.is c.in-Some-Start.field-0-is k).1 s) c.start_list.ensures.stop
+
+-- ---- the root of a SEQUENCE
+
+pub sequences::resume_sequence-start_sequence-requires-in-None : goal.sequences::resume_sequence-start_sequence-requires-in-None
+sequences::resume_sequence-start_sequence-requires-in-None g t c κs within =
+    (search (rules, the_lemmas), (within.0, (within.1, (c.requires.at_unit, (c.requires.of_profile, (c.requires.covered, (c.requires.short, (c.requires.last (ap is_some c.in-None.is), (record { come = refl; at_unit = rw c.none.ensures c.keep_feed_laws.ensures.begin; begins = inl c.none.ensures }, c.requires.few)))))))))
+
+pub sequences::resume_sequence-feed_sequence-requires : goal.sequences::resume_sequence-feed_sequence-requires
+sequences::resume_sequence-feed_sequence-requires g t c κs within =
+    let us = c.requires.reached.0 in
+    let k = took_components g.R.ReadLeaves.rules c.keep_laws.ensures g.R.ReadLeaves.ahead g.R.ReadLeaves.is_between (fields_seen c.args.root.now) (more_fields_of c.args.ext.now) c.requires.of_profile c.args.node c.in-Some-Components.field-0 c.in-Some-Components.read (nodes c.args.frames.now) us c.in-Some-Components.is c.in-Some-Components.field-0-is c.requires.reached.1 in
+    (search (rules, the_lemmas), (within.0, (within.1, (c.requires.at_unit, (((more_fields_of c.args.ext.now), c.requires.of_profile, c.requires.covered, us ++ g.R.ReadLeaves.rules.to_units c.args.units.now, (root_goes_on g.R.ReadLeaves.rules c.keep_laws.ensures g.R.ReadLeaves.ahead g.R.ReadLeaves.is_between (fields_seen c.args.root.now) (more_fields_of c.args.ext.now) c.requires.of_profile c.in-Some-Components.read (nodes c.args.frames.now) us (g.R.ReadLeaves.rules.to_units c.args.units.now) k)), c.requires.few)))))
+
+pub sequences::resume_sequence-returns-in-Some-Components-clause-done : goal.sequences::resume_sequence-returns-in-Some-Components-clause-done
+sequences::resume_sequence-returns-in-Some-Components-clause-done g t c =
+    IfOk-weaker c.feed_sequence.result _ _ (λ v s us k. s (more_fields_of c.args.ext.now) c.requires.of_profile c.requires.covered (us ++ g.R.ReadLeaves.rules.to_units c.args.units.now) (root_goes_on g.R.ReadLeaves.rules c.keep_laws.ensures g.R.ReadLeaves.ahead g.R.ReadLeaves.is_between (fields_seen c.args.root.now) (more_fields_of c.args.ext.now) c.requires.of_profile c.in-Some-Components.read (nodes c.args.frames.now) us (g.R.ReadLeaves.rules.to_units c.args.units.now) (took_components g.R.ReadLeaves.rules c.keep_laws.ensures g.R.ReadLeaves.ahead g.R.ReadLeaves.is_between (fields_seen c.args.root.now) (more_fields_of c.args.ext.now) c.requires.of_profile c.args.node c.in-Some-Components.field-0 c.in-Some-Components.read (nodes c.args.frames.now) us c.in-Some-Components.is c.in-Some-Components.field-0-is k))) c.feed_sequence.ensures.done
+
+pub sequences::resume_sequence-returns-in-Some-Components-clause-stop : goal.sequences::resume_sequence-returns-in-Some-Components-clause-stop
+sequences::resume_sequence-returns-in-Some-Components-clause-stop g t c =
+    IfErr-weaker c.feed_sequence.result _ _ (λ why s us k. s (more_fields_of c.args.ext.now) c.requires.of_profile c.requires.covered (us ++ g.R.ReadLeaves.rules.to_units c.args.units.now) (root_goes_on g.R.ReadLeaves.rules c.keep_laws.ensures g.R.ReadLeaves.ahead g.R.ReadLeaves.is_between (fields_seen c.args.root.now) (more_fields_of c.args.ext.now) c.requires.of_profile c.in-Some-Components.read (nodes c.args.frames.now) us (g.R.ReadLeaves.rules.to_units c.args.units.now) (took_components g.R.ReadLeaves.rules c.keep_laws.ensures g.R.ReadLeaves.ahead g.R.ReadLeaves.is_between (fields_seen c.args.root.now) (more_fields_of c.args.ext.now) c.requires.of_profile c.args.node c.in-Some-Components.field-0 c.in-Some-Components.read (nodes c.args.frames.now) us c.in-Some-Components.is c.in-Some-Components.field-0-is k))) c.feed_sequence.ensures.stop
+
+pub sequences::resume_sequence-returns-in-Some-Components-clause-kept : goal.sequences::resume_sequence-returns-in-Some-Components-clause-kept
+sequences::resume_sequence-returns-in-Some-Components-clause-kept g t c =
+    IfErr-weaker c.feed_sequence.result _ _ (λ why s us k. s (more_fields_of c.args.ext.now) c.requires.of_profile c.requires.covered (us ++ g.R.ReadLeaves.rules.to_units c.args.units.now) (root_goes_on g.R.ReadLeaves.rules c.keep_laws.ensures g.R.ReadLeaves.ahead g.R.ReadLeaves.is_between (fields_seen c.args.root.now) (more_fields_of c.args.ext.now) c.requires.of_profile c.in-Some-Components.read (nodes c.args.frames.now) us (g.R.ReadLeaves.rules.to_units c.args.units.now) (took_components g.R.ReadLeaves.rules c.keep_laws.ensures g.R.ReadLeaves.ahead g.R.ReadLeaves.is_between (fields_seen c.args.root.now) (more_fields_of c.args.ext.now) c.requires.of_profile c.args.node c.in-Some-Components.field-0 c.in-Some-Components.read (nodes c.args.frames.now) us c.in-Some-Components.is c.in-Some-Components.field-0-is k))) c.feed_sequence.ensures.kept
+
+pub sequences::resume_sequence-returns-in-None-clause-done : goal.sequences::resume_sequence-returns-in-None-clause-done
+sequences::resume_sequence-returns-in-None-clause-done g t c =
+    IfOk-weaker c.start_sequence-in-None.result _ _ (λ v s us k. subst (λ (xs : List ℕ). Spells g.R.ReadLeaves.rules.ruling.fielding (ValuesOf g.R.ReadLeaves.rules (sequence_seen c.args.root.now c.args.ext.now)) (datum_of v) xs (g.R.ReadLeaves.rules.to_units c.start_sequence-in-None.new.units)) (ap (λ (xs : List ℕ). xs ++ g.R.ReadLeaves.rules.to_units c.args.units.now) (ap g.R.ReadLeaves.rules.to_units c.none.ensures ∙ c.keep_feed_laws.ensures.none ∙ sym (sequence_none g.R.ReadLeaves.rules c.keep_laws.ensures g.R.ReadLeaves.ahead g.R.ReadLeaves.is_between (fields_seen c.args.root.now) (more_fields_of c.args.ext.now) c.requires.of_profile c.args.node (nodes c.args.frames.now) us c.in-None.is (c.requires.last (ap is_some c.in-None.is)) k))) s) c.start_sequence-in-None.ensures.done
+
+pub sequences::resume_sequence-returns-in-None-clause-stop : goal.sequences::resume_sequence-returns-in-None-clause-stop
+sequences::resume_sequence-returns-in-None-clause-stop g t c =
+    IfErr-weaker c.start_sequence-in-None.result _ _ (λ why s us k. subst (λ (xs : List ℕ). Stops g.R.ReadLeaves.rules.ruling.fielding (ValuesOf g.R.ReadLeaves.rules (sequence_seen c.args.root.now c.args.ext.now)) xs why) (ap (λ (xs : List ℕ). xs ++ g.R.ReadLeaves.rules.to_units c.args.units.now) (ap g.R.ReadLeaves.rules.to_units c.none.ensures ∙ c.keep_feed_laws.ensures.none ∙ sym (sequence_none g.R.ReadLeaves.rules c.keep_laws.ensures g.R.ReadLeaves.ahead g.R.ReadLeaves.is_between (fields_seen c.args.root.now) (more_fields_of c.args.ext.now) c.requires.of_profile c.args.node (nodes c.args.frames.now) us c.in-None.is (c.requires.last (ap is_some c.in-None.is)) k))) s) c.start_sequence-in-None.ensures.stop
+
+pub sequences::resume_sequence-returns-in-None-clause-kept : goal.sequences::resume_sequence-returns-in-None-clause-kept
+sequences::resume_sequence-returns-in-None-clause-kept g t c =
+    IfErr-weaker c.start_sequence-in-None.result _ _ (λ why s us k. subst (λ (xs : List ℕ). KeepsFrames g.R.ReadLeaves.rules g.R.ReadLeaves.ahead g.R.ReadLeaves.is_between (nodes c.start_sequence-in-None.new.frames) (sequence_seen c.args.root.now c.args.ext.now) xs why) (ap (λ (xs : List ℕ). xs ++ g.R.ReadLeaves.rules.to_units c.args.units.now) (ap g.R.ReadLeaves.rules.to_units c.none.ensures ∙ c.keep_feed_laws.ensures.none ∙ sym (sequence_none g.R.ReadLeaves.rules c.keep_laws.ensures g.R.ReadLeaves.ahead g.R.ReadLeaves.is_between (fields_seen c.args.root.now) (more_fields_of c.args.ext.now) c.requires.of_profile c.args.node (nodes c.args.frames.now) us c.in-None.is (c.requires.last (ap is_some c.in-None.is)) k))) s) c.start_sequence-in-None.ensures.kept
+
+pub sequences::resume_sequence-returns-in-Some-Start-clause-done : goal.sequences::resume_sequence-returns-in-Some-Start-clause-done
+sequences::resume_sequence-returns-in-Some-Start-clause-done g t c =
+    IfOk-weaker c.start_sequence.result _ _ (λ v s us k. subst (λ (xs : List ℕ). Spells g.R.ReadLeaves.rules.ruling.fielding (ValuesOf g.R.ReadLeaves.rules (sequence_seen c.args.root.now c.args.ext.now)) (datum_of v) (xs ++ g.R.ReadLeaves.rules.to_units c.args.units.now) (g.R.ReadLeaves.rules.to_units c.start_sequence.new.units)) (sequence_start g.R.ReadLeaves.rules c.keep_laws.ensures g.R.ReadLeaves.ahead g.R.ReadLeaves.is_between (fields_seen c.args.root.now) (more_fields_of c.args.ext.now) c.requires.of_profile c.args.node c.in-Some-Start.field-0 c.in-Some-Start.begun (nodes c.args.frames.now) us c.in-Some-Start.is c.in-Some-Start.field-0-is k).1.come s) c.start_sequence.ensures.done
+
+pub sequences::resume_sequence-returns-in-Some-Start-clause-stop : goal.sequences::resume_sequence-returns-in-Some-Start-clause-stop
+sequences::resume_sequence-returns-in-Some-Start-clause-stop g t c =
+    IfErr-weaker c.start_sequence.result _ _ (λ why s us k. subst (λ (xs : List ℕ). Stops g.R.ReadLeaves.rules.ruling.fielding (ValuesOf g.R.ReadLeaves.rules (sequence_seen c.args.root.now c.args.ext.now)) (xs ++ g.R.ReadLeaves.rules.to_units c.args.units.now) why) (sequence_start g.R.ReadLeaves.rules c.keep_laws.ensures g.R.ReadLeaves.ahead g.R.ReadLeaves.is_between (fields_seen c.args.root.now) (more_fields_of c.args.ext.now) c.requires.of_profile c.args.node c.in-Some-Start.field-0 c.in-Some-Start.begun (nodes c.args.frames.now) us c.in-Some-Start.is c.in-Some-Start.field-0-is k).1.come s) c.start_sequence.ensures.stop
+
+pub sequences::resume_sequence-returns-in-Some-Start-clause-kept : goal.sequences::resume_sequence-returns-in-Some-Start-clause-kept
+sequences::resume_sequence-returns-in-Some-Start-clause-kept g t c =
+    IfErr-weaker c.start_sequence.result _ _ (λ why s us k. subst (λ (xs : List ℕ). KeepsFrames g.R.ReadLeaves.rules g.R.ReadLeaves.ahead g.R.ReadLeaves.is_between (nodes c.start_sequence.new.frames) (sequence_seen c.args.root.now c.args.ext.now) (xs ++ g.R.ReadLeaves.rules.to_units c.args.units.now) why) (sequence_start g.R.ReadLeaves.rules c.keep_laws.ensures g.R.ReadLeaves.ahead g.R.ReadLeaves.is_between (fields_seen c.args.root.now) (more_fields_of c.args.ext.now) c.requires.of_profile c.args.node c.in-Some-Start.field-0 c.in-Some-Start.begun (nodes c.args.frames.now) us c.in-Some-Start.is c.in-Some-Start.field-0-is k).1.come s) c.start_sequence.ensures.kept
+
+pub sequences::resume_sequence-start_sequence-requires : goal.sequences::resume_sequence-start_sequence-requires
+sequences::resume_sequence-start_sequence-requires g t c κs within =
+    let us = c.requires.reached.0 in
+    let w = sequence_start g.R.ReadLeaves.rules c.keep_laws.ensures g.R.ReadLeaves.ahead g.R.ReadLeaves.is_between (fields_seen c.args.root.now) (more_fields_of c.args.ext.now) c.requires.of_profile c.args.node c.in-Some-Start.field-0 c.in-Some-Start.begun (nodes c.args.frames.now) us c.in-Some-Start.is c.in-Some-Start.field-0-is c.requires.reached.1 in
+    (search (rules, the_lemmas), (within.0, (within.1, (c.requires.at_unit, (c.requires.of_profile, (c.requires.covered, (c.requires.short, (w.0, (record { come = refl; at_unit = w.1.at_unit; begins = w.1.begins }, c.requires.few)))))))))
+
+pub sequences::start_sequence-feed_sequence-requires : goal.sequences::start_sequence-feed_sequence-requires
+sequences::start_sequence-feed_sequence-requires g t c κs within =
+    (search (rules, the_lemmas), (within.0, (within.1, (c.in-Ok.ensures.at_unit, (((more_fields_of c.args.ext.now), c.requires.of_profile, c.requires.covered, (g.R.ReadLeaves.rules.to_units c.args.begun ++ g.R.ReadLeaves.rules.to_units c.args.units.now), (root_starts g.R.ReadLeaves.rules c.keep_laws.ensures g.R.ReadLeaves.ahead g.R.ReadLeaves.is_between (fields_seen c.args.root.now) (more_fields_of c.args.ext.now) c.requires.of_profile _ (nodes c.args.frames.now) (g.R.ReadLeaves.rules.to_units c.args.begun ++ g.R.ReadLeaves.rules.to_units c.args.units.now) (g.R.ReadLeaves.rules.to_units c.feed_leaf.new.units) (rw (c.bitmap_width-width.ensures.count, c.addition_count.ensures, ← added_count c.args.ext.now) at c.in-Ok.ensures.done) c.bitmap_width-width.ensures.count (rw c.bitmap_width-width.ensures.count at c.bitmap_width-width.ensures.few) c.new.ensures.items c.requires.empty)), omega (arith, c.in-Ok.ensures.ticked, c.requires.few))))))
+
+pub sequences::start_sequence-returns-in-Ok-clause-done : goal.sequences::start_sequence-returns-in-Ok-clause-done
+sequences::start_sequence-returns-in-Ok-clause-done g t c =
+    IfOk-weaker c.feed_sequence.result _ _ (λ v s. s (more_fields_of c.args.ext.now) c.requires.of_profile c.requires.covered (g.R.ReadLeaves.rules.to_units c.args.begun ++ g.R.ReadLeaves.rules.to_units c.args.units.now) (root_starts g.R.ReadLeaves.rules c.keep_laws.ensures g.R.ReadLeaves.ahead g.R.ReadLeaves.is_between (fields_seen c.args.root.now) (more_fields_of c.args.ext.now) c.requires.of_profile _ (nodes c.args.frames.now) (g.R.ReadLeaves.rules.to_units c.args.begun ++ g.R.ReadLeaves.rules.to_units c.args.units.now) (g.R.ReadLeaves.rules.to_units c.feed_leaf.new.units) (rw (c.bitmap_width-width.ensures.count, c.addition_count.ensures, ← added_count c.args.ext.now) at c.in-Ok.ensures.done) c.bitmap_width-width.ensures.count (rw c.bitmap_width-width.ensures.count at c.bitmap_width-width.ensures.few) c.new.ensures.items c.requires.empty)) c.feed_sequence.ensures.done
+
+pub sequences::start_sequence-returns-in-Ok-clause-stop : goal.sequences::start_sequence-returns-in-Ok-clause-stop
+sequences::start_sequence-returns-in-Ok-clause-stop g t c =
+    IfErr-weaker c.feed_sequence.result _ _ (λ why s. s (more_fields_of c.args.ext.now) c.requires.of_profile c.requires.covered (g.R.ReadLeaves.rules.to_units c.args.begun ++ g.R.ReadLeaves.rules.to_units c.args.units.now) (root_starts g.R.ReadLeaves.rules c.keep_laws.ensures g.R.ReadLeaves.ahead g.R.ReadLeaves.is_between (fields_seen c.args.root.now) (more_fields_of c.args.ext.now) c.requires.of_profile _ (nodes c.args.frames.now) (g.R.ReadLeaves.rules.to_units c.args.begun ++ g.R.ReadLeaves.rules.to_units c.args.units.now) (g.R.ReadLeaves.rules.to_units c.feed_leaf.new.units) (rw (c.bitmap_width-width.ensures.count, c.addition_count.ensures, ← added_count c.args.ext.now) at c.in-Ok.ensures.done) c.bitmap_width-width.ensures.count (rw c.bitmap_width-width.ensures.count at c.bitmap_width-width.ensures.few) c.new.ensures.items c.requires.empty)) c.feed_sequence.ensures.stop
+
+pub sequences::start_sequence-returns-in-Ok-clause-kept : goal.sequences::start_sequence-returns-in-Ok-clause-kept
+sequences::start_sequence-returns-in-Ok-clause-kept g t c =
+    IfErr-weaker c.feed_sequence.result _ _ (λ why s. s (more_fields_of c.args.ext.now) c.requires.of_profile c.requires.covered (g.R.ReadLeaves.rules.to_units c.args.begun ++ g.R.ReadLeaves.rules.to_units c.args.units.now) (root_starts g.R.ReadLeaves.rules c.keep_laws.ensures g.R.ReadLeaves.ahead g.R.ReadLeaves.is_between (fields_seen c.args.root.now) (more_fields_of c.args.ext.now) c.requires.of_profile _ (nodes c.args.frames.now) (g.R.ReadLeaves.rules.to_units c.args.begun ++ g.R.ReadLeaves.rules.to_units c.args.units.now) (g.R.ReadLeaves.rules.to_units c.feed_leaf.new.units) (rw (c.bitmap_width-width.ensures.count, c.addition_count.ensures, ← added_count c.args.ext.now) at c.in-Ok.ensures.done) c.bitmap_width-width.ensures.count (rw c.bitmap_width-width.ensures.count at c.bitmap_width-width.ensures.few) c.new.ensures.items c.requires.empty)) c.feed_sequence.ensures.kept
+
+pub sequences::start_sequence-feed_leaf-requires-clause-begins : goal.sequences::start_sequence-feed_leaf-requires-clause-begins
+sequences::start_sequence-feed_leaf-requires-clause-begins g t c =
+    rw (c.bitmap_width-width.ensures.count, c.addition_count.ensures, ← added_count c.args.ext.now) c.requires.waits.begins
+
+pub sequences::start_sequence-returns-in-Ok-put-clause-kept : goal.sequences::start_sequence-returns-in-Ok-put-clause-kept
+sequences::start_sequence-returns-in-Ok-put-clause-kept g t c =
+    let b = c.feed_leaf.new.begun in
+    let a : Stops g.R.ReadLeaves.rules.ruling.fielding (PreambleOf g.R.ReadLeaves.rules (bitmap_length (fields_seen c.args.root.now)) (added (more_fields_of c.args.ext.now))) (g.R.ReadLeaves.rules.to_units c.args.begun ++ g.R.ReadLeaves.rules.to_units c.args.units.now) stop.Short = rw (c.bitmap_width-width.ensures.count, c.addition_count.ensures, ← added_count c.args.ext.now, c.in-Err-Short.field-0-is) at c.in-Err-Short.ensures.stop in
+    let e : g.R.ReadLeaves.rules.to_units b ≡ (g.R.ReadLeaves.rules.to_units c.args.begun ++ g.R.ReadLeaves.rules.to_units c.args.units.now) = rw c.in-Err-Short.field-0-is at c.in-Err-Short.ensures.kept in
+    let s : Short g.R.ReadLeaves.rules.ruling.fielding (PreambleOf g.R.ReadLeaves.rules (bitmap_length (fields_seen c.args.root.now)) (added (more_fields_of c.args.ext.now))) (g.R.ReadLeaves.rules.to_units b) = subst (λ (xs : List ℕ). Short g.R.ReadLeaves.rules.ruling.fielding (PreambleOf g.R.ReadLeaves.rules (bitmap_length (fields_seen c.args.root.now)) (added (more_fields_of c.args.ext.now))) xs) (sym e) a.told in
+    let fs : nodes c.put.new.self ≡ frame.Start b ∷ [] = c.in-Ok-put.ensures ∙ ap (λ (gs : List (Frame g.row.R-Fragments.Denot)). frame.Start b ∷ gs) c.requires.empty in
+    sequence_took g.R.ReadLeaves.rules c.keep_laws.ensures g.R.ReadLeaves.ahead g.R.ReadLeaves.is_between (fields_seen c.args.root.now) (more_fields_of c.args.ext.now) c.requires.of_profile (nodes c.put.new.self) b (g.R.ReadLeaves.rules.to_units c.args.begun ++ g.R.ReadLeaves.rules.to_units c.args.units.now) fs (record { come = e; at_unit = c.in-Err-Short.ensures.begun; begins = inr s })
+
+pub sequences::start_sequence-returns-in-Ok-put-clause-stop : goal.sequences::start_sequence-returns-in-Ok-put-clause-stop
+sequences::start_sequence-returns-in-Ok-put-clause-stop g t c =
+    let a : Stops g.R.ReadLeaves.rules.ruling.fielding (PreambleOf g.R.ReadLeaves.rules (bitmap_length (fields_seen c.args.root.now)) (added (more_fields_of c.args.ext.now))) (g.R.ReadLeaves.rules.to_units c.args.begun ++ g.R.ReadLeaves.rules.to_units c.args.units.now) stop.Short = rw (c.bitmap_width-width.ensures.count, c.addition_count.ensures, ← added_count c.args.ext.now, c.in-Err-Short.field-0-is) at c.in-Err-Short.ensures.stop in
+    stops_by stop.Short (preamble_stops g.R.ReadLeaves.rules c.keep_laws.ensures (fields_seen c.args.root.now) (more_fields_of c.args.ext.now) c.requires.of_profile (g.R.ReadLeaves.rules.to_units c.args.begun ++ g.R.ReadLeaves.rules.to_units c.args.units.now)) a
+
+pub sequences::start_sequence-returns-in-Err-Refused-clause-stop : goal.sequences::start_sequence-returns-in-Err-Refused-clause-stop
+sequences::start_sequence-returns-in-Err-Refused-clause-stop g t c =
+    let w = stop.Refused c.in-Err-Refused.left c.in-Err-Refused.why in
+    let a : Stops g.R.ReadLeaves.rules.ruling.fielding (PreambleOf g.R.ReadLeaves.rules (bitmap_length (fields_seen c.args.root.now)) (added (more_fields_of c.args.ext.now))) (g.R.ReadLeaves.rules.to_units c.args.begun ++ g.R.ReadLeaves.rules.to_units c.args.units.now) w = rw (c.bitmap_width-width.ensures.count, c.addition_count.ensures, ← added_count c.args.ext.now, c.in-Err-Refused.field-0-is) at c.in-Err-Refused.ensures.stop in
+    rw (c.in-Err-Refused.left-is, c.in-Err-Refused.why-is) (stops_by w (preamble_stops g.R.ReadLeaves.rules c.keep_laws.ensures (fields_seen c.args.root.now) (more_fields_of c.args.ext.now) c.requires.of_profile (g.R.ReadLeaves.rules.to_units c.args.begun ++ g.R.ReadLeaves.rules.to_units c.args.units.now)) a)
+
+pub sequences::feed_sequence-returns-in-Ok-clause-done : goal.sequences::feed_sequence-returns-in-Ok-clause-done
+sequences::feed_sequence-returns-in-Ok-clause-done g t c =
+    λ more good cov all h.
+    let es = c.feed_components.new.read.entries in
+    let over = none_left c.args.root.now (length es.items) c.in-Ok.ensures.over in
+    rw (datum_of-Seq es) (root_ends g.R.ReadLeaves.rules c.keep_laws.ensures g.R.ReadLeaves.ahead g.R.ReadLeaves.is_between (fields_seen c.args.root.now) more good cov c.feed_components.new.read (nodes c.feed_components.new.frames) all (g.R.ReadLeaves.rules.to_units c.feed_components.new.units) over (c.in-Ok.ensures.done more good cov all h))
+
+pub sequences::feed_sequence-returns-in-Ok-clause-emptied : goal.sequences::feed_sequence-returns-in-Ok-clause-emptied
+sequences::feed_sequence-returns-in-Ok-clause-emptied g t c =
+    let more = c.requires.reached.0 in
+    let good = c.requires.reached.1 in
+    let cov = c.requires.reached.2 in
+    let es = c.feed_components.new.read.entries in
+    let over = none_left c.args.root.now (length es.items) c.in-Ok.ensures.over in
+    root_emptied g.R.ReadLeaves.rules c.keep_laws.ensures g.R.ReadLeaves.ahead g.R.ReadLeaves.is_between (fields_seen c.args.root.now) more good cov c.feed_components.new.read (nodes c.feed_components.new.frames) c.requires.reached.3 (g.R.ReadLeaves.rules.to_units c.feed_components.new.units) over (c.in-Ok.ensures.done more good cov c.requires.reached.3 c.requires.reached.4)
+
+pub sequences::feed_sequence-returns-in-Ok-put-clause-stop : goal.sequences::feed_sequence-returns-in-Ok-put-clause-stop
+sequences::feed_sequence-returns-in-Ok-put-clause-stop g t c =
+    λ more good cov all h.
+    let a : Stops g.R.ReadLeaves.rules.ruling.fielding (ValuesOf g.R.ReadLeaves.rules (sequence (fields_seen c.args.root.now) more)) all stop.Short = rw c.in-Err-Short.field-0-is at (c.in-Err-Short.ensures.stop more good cov all h) in
+    a
+
+pub sequences::feed_sequence-returns-in-Err-Refused-clause-stop : goal.sequences::feed_sequence-returns-in-Err-Refused-clause-stop
+sequences::feed_sequence-returns-in-Err-Refused-clause-stop g t c =
+    λ more good cov all h.
+    let a : Stops g.R.ReadLeaves.rules.ruling.fielding (ValuesOf g.R.ReadLeaves.rules (sequence (fields_seen c.args.root.now) more)) all (stop.Refused c.in-Err-Refused.left c.in-Err-Refused.why) = rw c.in-Err-Refused.field-0-is at (c.in-Err-Refused.ensures.stop more good cov all h) in
+    rw (c.in-Err-Refused.left-is, c.in-Err-Refused.why-is) a
+
+pub sequences::feed_sequence-returns-in-Ok-put-clause-kept : goal.sequences::feed_sequence-returns-in-Ok-put-clause-kept
+sequences::feed_sequence-returns-in-Ok-put-clause-kept g t c =
+    λ more good cov all h.
+    let none : g.R.ReadLeaves.rules.to_units c.feed_components.new.units ≡ [] = rw c.in-Err-Short.field-0-is at c.in-Err-Short.ensures.after in
+    let kept : RootReached g.R.ReadLeaves.rules g.R.ReadLeaves.ahead g.R.ReadLeaves.is_between (fields_seen c.args.root.now) more c.feed_components.new.read (nodes c.feed_components.new.frames) all (g.R.ReadLeaves.rules.to_units c.feed_components.new.units) = c.feed_components.ensures.kept (cc (c.in-Err-Short.is, c.in-Err-Short.field-0-is)) more good cov all h in
+    rw c.in-Ok-put.ensures (subst (λ (xs : List ℕ). RootReached g.R.ReadLeaves.rules g.R.ReadLeaves.ahead g.R.ReadLeaves.is_between (fields_seen c.args.root.now) more c.feed_components.new.read (nodes c.feed_components.new.frames) all xs) none kept)
+
+-- ---- its components
+
+pub sequences::feed_components-feed_component-requires : goal.sequences::feed_components-feed_component-requires
+sequences::feed_components-feed_component-requires g t c κs within =
+    let inv = c.loop-alloc.invariant in
+    let i = c.len-in-loop-alloc.result in
+    let lt : i < length c.args.root.now = omega (arith, c.loop-alloc-test.true, c.len.ensures, c.len-in-loop-alloc.ensures) in
+    let at : i ≡ length c.loop-alloc.read.entries.items = omega (arith, c.len-in-loop-alloc.ensures, c.loop-alloc.read.entries.ok.0) in
+    let next = subst (λ (k : ℕ). drop k (parts_in (fields_seen c.args.root.now)) ≡ part_of_field c.index-root-len.result ∷ map part_of_field (drop (i + 1) c.args.root.now)) at (next_in c.args.root.now i c.index-root-len.result lt c.index-root-len.is) in
+    let more = c.requires.reached.0 in
+    let good = c.requires.reached.1 in
+    let cov = c.requires.reached.2 in
+    let all = c.requires.reached.3 in
+    let x = component_ahead g.R.ReadLeaves.rules c.keep_laws.ensures g.R.ReadLeaves.ahead g.R.ReadLeaves.is_between (fields_seen c.args.root.now) more good c.loop-alloc.read (nodes c.loop-alloc.frames) (part_of_field c.index-root-len.result) (map part_of_field (drop (i + 1) c.args.root.now)) c.next_of-present.result c.next_of-present.new.self.left all (g.R.ReadLeaves.rules.to_units c.loop-alloc.units) next c.next_of-present.ensures.must c.next_of-present.ensures.bit (inv.0 more good cov all c.requires.reached.4) in
+    (search (rules, the_lemmas), (within.0, (within.1, (inv.2, (x.of_profile, (x.good_demand, (covered_at c.args.root.now more i c.index-root-len.result lt c.index-root-len.is cov, ((x.come, x.took), omega (arith, inv.1, c.requires.few)))))))))
+
+pub sequences::feed_components-next_of-present-requires : goal.sequences::feed_components-next_of-present-requires
+sequences::feed_components-next_of-present-requires g t c =
+    let inv = c.loop-alloc.invariant in
+    let more = c.requires.reached.0 in
+    let good = c.requires.reached.1 in
+    let cov = c.requires.reached.2 in
+    let i = c.len-in-loop-alloc.result in
+    let lt : i < length c.args.root.now = omega (arith, c.loop-alloc-test.true, c.len.ensures, c.len-in-loop-alloc.ensures) in
+    let at : i ≡ length c.loop-alloc.read.entries.items = omega (arith, c.len-in-loop-alloc.ensures, c.loop-alloc.read.entries.ok.0) in
+    let next = subst (λ (k : ℕ). drop k (parts_in (fields_seen c.args.root.now)) ≡ part_of_field c.index-root-len.result ∷ map part_of_field (drop (i + 1) c.args.root.now)) at (next_in c.args.root.now i c.index-root-len.result lt c.index-root-len.is) in
+    let x = presence_left g.R.ReadLeaves.rules c.keep_laws.ensures g.R.ReadLeaves.ahead g.R.ReadLeaves.is_between (fields_seen c.args.root.now) more good c.loop-alloc.read (nodes c.loop-alloc.frames) (part_of_field c.index-root-len.result) (map part_of_field (drop (i + 1) c.args.root.now)) c.requires.reached.3 (g.R.ReadLeaves.rules.to_units c.loop-alloc.units) next (inv.0 more good cov c.requires.reached.3 c.requires.reached.4) in
+    record { few = x.1; some = x.0 }
+
+pub sequences::feed_components-returns-in_err-entry-clause-stop : goal.sequences::feed_components-returns-in_err-entry-clause-stop
+sequences::feed_components-returns-in_err-entry-clause-stop g t c =
+    let inv = c.loop-alloc.invariant in
+    let i = c.len-in-loop-alloc.result in
+    let lt : i < length c.args.root.now = omega (arith, c.loop-alloc-test.true, c.len.ensures, c.len-in-loop-alloc.ensures) in
+    let at : i ≡ length c.loop-alloc.read.entries.items = omega (arith, c.len-in-loop-alloc.ensures, c.loop-alloc.read.entries.ok.0) in
+    let next = subst (λ (k : ℕ). drop k (parts_in (fields_seen c.args.root.now)) ≡ part_of_field c.index-root-len.result ∷ map part_of_field (drop (i + 1) c.args.root.now)) at (next_in c.args.root.now i c.index-root-len.result lt c.index-root-len.is) in
+    let p = err_from_is_err_and c.from_residual.result c.from_residual.ensures.1 in
+    rw (p.1, p.2) (λ more good cov all h. (let x = component_ahead g.R.ReadLeaves.rules c.keep_laws.ensures g.R.ReadLeaves.ahead g.R.ReadLeaves.is_between (fields_seen c.args.root.now) more good c.loop-alloc.read (nodes c.loop-alloc.frames) (part_of_field c.index-root-len.result) (map part_of_field (drop (i + 1) c.args.root.now)) c.next_of-present.result c.next_of-present.new.self.left all (g.R.ReadLeaves.rules.to_units c.loop-alloc.units) next c.next_of-present.ensures.must c.next_of-present.ensures.bit (inv.0 more good cov all h) in x.stops _ (c.in_err-entry.ensures.stop x.come x.took)))
+
+pub sequences::feed_components-returns-in_err-entry-clause-kept : goal.sequences::feed_components-returns-in_err-entry-clause-kept
+sequences::feed_components-returns-in_err-entry-clause-kept g t c =
+    λ e more good cov all h.
+    let inv = c.loop-alloc.invariant in
+    let i = c.len-in-loop-alloc.result in
+    let lt : i < length c.args.root.now = omega (arith, c.loop-alloc-test.true, c.len.ensures, c.len-in-loop-alloc.ensures) in
+    let at : i ≡ length c.loop-alloc.read.entries.items = omega (arith, c.len-in-loop-alloc.ensures, c.loop-alloc.read.entries.ok.0) in
+    let next = subst (λ (k : ℕ). drop k (parts_in (fields_seen c.args.root.now)) ≡ part_of_field c.index-root-len.result ∷ map part_of_field (drop (i + 1) c.args.root.now)) at (next_in c.args.root.now i c.index-root-len.result lt c.index-root-len.is) in
+    let p = err_from_is_err_and c.from_residual.result c.from_residual.ensures.1 in
+    let w : c.in_err-entry.field-0.0 ≡ stop.Short = cc (p.1, p.2, e) in
+    let x = component_ahead g.R.ReadLeaves.rules c.keep_laws.ensures g.R.ReadLeaves.ahead g.R.ReadLeaves.is_between (fields_seen c.args.root.now) more good c.loop-alloc.read (nodes c.loop-alloc.frames) (part_of_field c.index-root-len.result) (map part_of_field (drop (i + 1) c.args.root.now)) c.next_of-present.result c.next_of-present.new.self.left all (g.R.ReadLeaves.rules.to_units c.loop-alloc.units) next c.next_of-present.ensures.must c.next_of-present.ensures.bit (inv.0 more good cov all h) in
+    x.kept (nodes c.feed_component.new.frames) (g.R.ReadLeaves.rules.to_units c.feed_component.new.units) (rw w at c.in_err-entry.ensures.after) (rw w at (c.in_err-entry.ensures.kept x.come x.took))
+
+pub sequences::feed_components-loop-alloc-preserved : goal.sequences::feed_components-loop-alloc-preserved
+sequences::feed_components-loop-alloc-preserved g t c =
+    let inv = c.loop-alloc.invariant in
+    let i = c.len-in-loop-alloc.result in
+    let lt : i < length c.args.root.now = omega (arith, c.loop-alloc-test.true, c.len.ensures, c.len-in-loop-alloc.ensures) in
+    let at : i ≡ length c.loop-alloc.read.entries.items = omega (arith, c.len-in-loop-alloc.ensures, c.loop-alloc.read.entries.ok.0) in
+    let next = subst (λ (k : ℕ). drop k (parts_in (fields_seen c.args.root.now)) ≡ part_of_field c.index-root-len.result ∷ map part_of_field (drop (i + 1) c.args.root.now)) at (next_in c.args.root.now i c.index-root-len.result lt c.index-root-len.is) in (
+      λ more good cov all h. (let x = component_ahead g.R.ReadLeaves.rules c.keep_laws.ensures g.R.ReadLeaves.ahead g.R.ReadLeaves.is_between (fields_seen c.args.root.now) more good c.loop-alloc.read (nodes c.loop-alloc.frames) (part_of_field c.index-root-len.result) (map part_of_field (drop (i + 1) c.args.root.now)) c.next_of-present.result c.next_of-present.new.self.left all (g.R.ReadLeaves.rules.to_units c.loop-alloc.units) next c.next_of-present.ensures.must c.next_of-present.ensures.bit (inv.0 more good cov all h) in x.further _ (nodes c.feed_component.new.frames) c.in_ok-entry.entry (g.R.ReadLeaves.rules.to_units c.feed_component.new.units) refl c.next_of-present.ensures.bitmap refl c.in_ok-push.ensures.items c.in_ok-entry.ensures.emptied (c.in_ok-entry.ensures.done x.come x.took)),
+      omega (arith, inv.1, c.in_ok-entry.ensures.ticked),
+      c.in_ok-entry.ensures.at_unit,
+      omega (arith, inv.3, c.in_ok-entry.ensures.rising),
+    )
+
+pub sequences::feed_component-returns-then-not-present-clause-done : goal.sequences::feed_component-returns-then-not-present-clause-done
+sequences::feed_component-returns-then-not-present-clause-done g t c =
+    λ us k.
+    let e : c.args.present ≡ false = c.if-not-present.true in
+    let none = absent_took g.R.ReadLeaves.rules g.R.ReadLeaves.ahead g.R.ReadLeaves.is_between c.args.field.now c.args.present (nodes c.args.frames.now) us e k in
+    rw (none.1, e, c.absent.ensures) (nothing_read g.R.ReadLeaves.rules.ruling.fielding (default_of (part_of_field c.args.field.now).demand) (g.R.ReadLeaves.rules.to_units c.args.units.now))
+
+pub sequences::feed_component-returns-then-not-present-clause-emptied : goal.sequences::feed_component-returns-then-not-present-clause-emptied
+sequences::feed_component-returns-then-not-present-clause-emptied g t c =
+    (absent_took g.R.ReadLeaves.rules g.R.ReadLeaves.ahead g.R.ReadLeaves.is_between c.args.field.now c.args.present (nodes c.args.frames.now) c.requires.reached.0 c.if-not-present.true c.requires.reached.1).0
+
+pub sequences::feed_component-feed_other-requires : goal.sequences::feed_component-feed_other-requires
+sequences::feed_component-feed_other-requires g t c =
+    let there : c.args.present ≡ true = c.if-not-present.false in
+    let e : (part_of_field c.args.field.now).demand ≡ default (datum_of c.in-Default.default) = demand_of_part c.args.field.now ∙ ap demand_of c.in-Default.is in
+    let good : IsGoodDemand (default (datum_of c.in-Default.default)) (shape_of c.args.field.now.ty) = rw (e, shape_of_part c.args.field.now) at c.requires.good in
+    record { at_unit = c.requires.at_unit; of_profile = rw shape_of_part at c.requires.of_profile; good = good; reached = (c.requires.reached.0, took_other g.R.ReadLeaves.rules g.R.ReadLeaves.ahead g.R.ReadLeaves.is_between c.args.field.now c.args.present (nodes c.args.frames.now) c.requires.reached.0 there c.in-Default.default c.in-Default.is c.requires.reached.1); few = c.requires.few }
+
+pub sequences::feed_component-returns-in_err-feed_other-in-Default-clause-stop : goal.sequences::feed_component-returns-in_err-feed_other-in-Default-clause-stop
+sequences::feed_component-returns-in_err-feed_other-in-Default-clause-stop g t c =
+    let there : c.args.present ≡ true = c.if-not-present.false in
+    let d : default_of (part_of_field c.args.field.now).demand ≡ Some (datum_of c.in-Default.default) = ap default_of (demand_of_part c.args.field.now ∙ ap demand_of c.in-Default.is) in
+    let p = err_from_is_err_and c.from_residual.result c.from_residual.ensures.1 in
+    rw (p.1, p.2) (λ us k. stops_by _ (entry_leads g.R.ReadLeaves.rules c.args.field.now c.args.present _ (us ++ g.R.ReadLeaves.rules.to_units c.args.units.now) there d).stops (c.in_err-feed_other-in-Default.ensures.stop us (took_other g.R.ReadLeaves.rules g.R.ReadLeaves.ahead g.R.ReadLeaves.is_between c.args.field.now c.args.present (nodes c.args.frames.now) us there c.in-Default.default c.in-Default.is k)))
+
+pub sequences::feed_component-returns-in_err-feed_other-in-Default-clause-kept : goal.sequences::feed_component-returns-in_err-feed_other-in-Default-clause-kept
+sequences::feed_component-returns-in_err-feed_other-in-Default-clause-kept g t c =
+    let there : c.args.present ≡ true = c.if-not-present.false in
+    let p = err_from_is_err_and c.from_residual.result c.from_residual.ensures.1 in
+    rw (p.1, p.2) (λ us k. other_kept g.R.ReadLeaves.rules g.R.ReadLeaves.ahead g.R.ReadLeaves.is_between c.args.field.now c.args.present (nodes c.feed_other.new.frames) (us ++ g.R.ReadLeaves.rules.to_units c.args.units.now) _ there c.in-Default.default c.in-Default.is (c.in_err-feed_other-in-Default.ensures.kept us (took_other g.R.ReadLeaves.rules g.R.ReadLeaves.ahead g.R.ReadLeaves.is_between c.args.field.now c.args.present (nodes c.args.frames.now) us there c.in-Default.default c.in-Default.is k)))
+
+pub sequences::feed_component-returns-in_ok-feed_other-in-Default-clause-done : goal.sequences::feed_component-returns-in_ok-feed_other-in-Default-clause-done
+sequences::feed_component-returns-in_ok-feed_other-in-Default-clause-done g t c =
+    let there : c.args.present ≡ true = c.if-not-present.false in
+    let d : default_of (part_of_field c.args.field.now).demand ≡ Some (datum_of c.in-Default.default) = ap default_of (demand_of_part c.args.field.now ∙ ap demand_of c.in-Default.is) in
+    λ us k. (entry_leads g.R.ReadLeaves.rules c.args.field.now c.args.present _ (us ++ g.R.ReadLeaves.rules.to_units c.args.units.now) there d).done (datum_of c.in_ok-feed_other-in-Default.field-0) (g.R.ReadLeaves.rules.to_units c.feed_other.new.units) (c.in_ok-feed_other-in-Default.ensures.done us (took_other g.R.ReadLeaves.rules g.R.ReadLeaves.ahead g.R.ReadLeaves.is_between c.args.field.now c.args.present (nodes c.args.frames.now) us there c.in-Default.default c.in-Default.is k))
+
+pub sequences::feed_component-feed-requires : goal.sequences::feed_component-feed-requires
+sequences::feed_component-feed-requires g t c κs within =
+    let there : c.args.present ≡ true = c.if-not-present.false in
+    (search (rules, the_lemmas), (within.0, (within.1, (c.requires.at_unit, (rw shape_of_part at c.requires.of_profile, (rw shape_of_part at c.requires.covered, ((c.requires.reached.0, took_value g.R.ReadLeaves.rules g.R.ReadLeaves.ahead g.R.ReadLeaves.is_between c.args.field.now c.args.present (nodes c.args.frames.now) c.requires.reached.0 there (plain_demand c.args.field.now.need c.in-Must.is) c.requires.reached.1), c.requires.few)))))))
+
+pub sequences::feed_component-returns-in_err-feed-in-Must-clause-stop : goal.sequences::feed_component-returns-in_err-feed-in-Must-clause-stop
+sequences::feed_component-returns-in_err-feed-in-Must-clause-stop g t c =
+    let there : c.args.present ≡ true = c.if-not-present.false in
+    let d : default_of (part_of_field c.args.field.now).demand ≡ None = no_default (part_of_field c.args.field.now).demand (subst (λ (z : Demand). (z ≡ must) ⊎ (z ≡ optional)) (sym (demand_of_part c.args.field.now)) (plain_demand c.args.field.now.need c.in-Must.is)) in
+    let p = err_from_is_err_and c.from_residual-in_err-feed-in-Must.result c.from_residual-in_err-feed-in-Must.ensures.1 in
+    rw (p.1, p.2) (λ us k. stops_by _ (entry_leads g.R.ReadLeaves.rules c.args.field.now c.args.present None (us ++ g.R.ReadLeaves.rules.to_units c.args.units.now) there d).stops (c.in_err-feed-in-Must.ensures.stop us (took_value g.R.ReadLeaves.rules g.R.ReadLeaves.ahead g.R.ReadLeaves.is_between c.args.field.now c.args.present (nodes c.args.frames.now) us there (plain_demand c.args.field.now.need c.in-Must.is) k)))
+
+pub sequences::feed_component-returns-in_err-feed-in-Must-clause-kept : goal.sequences::feed_component-returns-in_err-feed-in-Must-clause-kept
+sequences::feed_component-returns-in_err-feed-in-Must-clause-kept g t c =
+    let there : c.args.present ≡ true = c.if-not-present.false in
+    let p = err_from_is_err_and c.from_residual-in_err-feed-in-Must.result c.from_residual-in_err-feed-in-Must.ensures.1 in
+    rw (p.1, p.2) (λ us k. value_kept g.R.ReadLeaves.rules g.R.ReadLeaves.ahead g.R.ReadLeaves.is_between c.args.field.now c.args.present (nodes c.feed.new.frames) (us ++ g.R.ReadLeaves.rules.to_units c.args.units.now) _ there (plain_demand c.args.field.now.need c.in-Must.is) (c.in_err-feed-in-Must.ensures.kept us (took_value g.R.ReadLeaves.rules g.R.ReadLeaves.ahead g.R.ReadLeaves.is_between c.args.field.now c.args.present (nodes c.args.frames.now) us there (plain_demand c.args.field.now.need c.in-Must.is) k)))
+
+pub sequences::feed_component-returns-in_ok-feed-in-Must-clause-done : goal.sequences::feed_component-returns-in_ok-feed-in-Must-clause-done
+sequences::feed_component-returns-in_ok-feed-in-Must-clause-done g t c =
+    let there : c.args.present ≡ true = c.if-not-present.false in
+    let d : default_of (part_of_field c.args.field.now).demand ≡ None = no_default (part_of_field c.args.field.now).demand (subst (λ (z : Demand). (z ≡ must) ⊎ (z ≡ optional)) (sym (demand_of_part c.args.field.now)) (plain_demand c.args.field.now.need c.in-Must.is)) in
+    λ us k. (entry_leads g.R.ReadLeaves.rules c.args.field.now c.args.present None (us ++ g.R.ReadLeaves.rules.to_units c.args.units.now) there d).done (datum_of c.in_ok-feed-in-Must.field-0) (g.R.ReadLeaves.rules.to_units c.feed.new.units) (c.in_ok-feed-in-Must.ensures.done us (took_value g.R.ReadLeaves.rules g.R.ReadLeaves.ahead g.R.ReadLeaves.is_between c.args.field.now c.args.present (nodes c.args.frames.now) us there (plain_demand c.args.field.now.need c.in-Must.is) k))
+
+-- ---- a SEQUENCE of the program
+
+pub values::feed-resume_sequence-requires : goal.values::feed-resume_sequence-requires
+values::feed-resume_sequence-requires g t c κs within =
+    let is = sequence_of_fields c.args.ty.now c.in-Seq.root c.in-Seq.ext c.as_slice-root.result.now c.in-Seq.is c.as_slice-root.ensures.value in
+    let tk = taken_is c.take-node-in-Seq.result (nodes c.args.frames.now) (nodes c.take-node-in-Seq.new.self) c.take-node-in-Seq.ensures.some c.take-node-in-Seq.ensures.none c.take-node-in-Seq.ensures.empty in
+    (search (rules, the_lemmas), (within.0, (within.1, (c.requires.at_unit, (rw is at c.requires.of_profile, (rw is at c.requires.covered, (few_components c.as_slice-root.result.now is c.requires.of_profile, ((c.requires.reached.0, rw (is, tk) at c.requires.reached.1), (c.take-node-in-Seq.ensures.empty, c.requires.few)))))))))
+
+pub values::feed-returns-in-Seq-clause-done : goal.values::feed-returns-in-Seq-clause-done
+values::feed-returns-in-Seq-clause-done g t c =
+    let is = sequence_of_fields c.args.ty.now c.in-Seq.root c.in-Seq.ext c.as_slice-root.result.now c.in-Seq.is c.as_slice-root.ensures.value in
+    let tk = taken_is c.take-node-in-Seq.result (nodes c.args.frames.now) (nodes c.take-node-in-Seq.new.self) c.take-node-in-Seq.ensures.some c.take-node-in-Seq.ensures.none c.take-node-in-Seq.ensures.empty in
+    IfOk-weaker c.resume_sequence.result _ _ (λ v s us k. rw is (s us (rw (is, tk) at k))) c.resume_sequence.ensures.done
+
+pub values::feed-returns-in-Seq-clause-stop : goal.values::feed-returns-in-Seq-clause-stop
+values::feed-returns-in-Seq-clause-stop g t c =
+    let is = sequence_of_fields c.args.ty.now c.in-Seq.root c.in-Seq.ext c.as_slice-root.result.now c.in-Seq.is c.as_slice-root.ensures.value in
+    let tk = taken_is c.take-node-in-Seq.result (nodes c.args.frames.now) (nodes c.take-node-in-Seq.new.self) c.take-node-in-Seq.ensures.some c.take-node-in-Seq.ensures.none c.take-node-in-Seq.ensures.empty in
+    IfErr-weaker c.resume_sequence.result _ _ (λ why s us k. rw is (s us (rw (is, tk) at k))) c.resume_sequence.ensures.stop
+
+pub values::feed-returns-in-Seq-clause-kept : goal.values::feed-returns-in-Seq-clause-kept
+values::feed-returns-in-Seq-clause-kept g t c =
+    let is = sequence_of_fields c.args.ty.now c.in-Seq.root c.in-Seq.ext c.as_slice-root.result.now c.in-Seq.is c.as_slice-root.ensures.value in
+    let tk = taken_is c.take-node-in-Seq.result (nodes c.args.frames.now) (nodes c.take-node-in-Seq.new.self) c.take-node-in-Seq.ensures.some c.take-node-in-Seq.ensures.none c.take-node-in-Seq.ensures.empty in
+    IfErr-weaker c.resume_sequence.result _ _ (λ why s us k. rw is (s us (rw (is, tk) at k))) c.resume_sequence.ensures.kept
+
+-- ---- the alternatives of a CHOICE
+
+pub choices::resume_choice-start_choice-requires-in-None : goal.choices::resume_choice-start_choice-requires-in-None
+choices::resume_choice-start_choice-requires-in-None g t c κs within =
+    (search (rules, the_lemmas), (within.0, (within.1, (c.requires.at_unit, (c.requires.of_profile, (c.requires.covered, (c.requires.some, (c.requires.last (ap is_some c.in-None.is), (record { come = refl; at_unit = rw c.none.ensures c.keep_feed_laws.ensures.begin; begins = inl c.none.ensures }, c.requires.few)))))))))
+
+pub choices::resume_choice-feed_choice-requires : goal.choices::resume_choice-feed_choice-requires
+choices::resume_choice-feed_choice-requires g t c κs within =
+    let us = c.requires.reached.0 in
+    let k = took_chosen g.R.ReadLeaves.rules c.keep_laws.ensures g.R.ReadLeaves.ahead g.R.ReadLeaves.is_between c.args.root.now (more_alternatives_of c.args.ext.now) c.requires.of_profile c.args.node c.in-Some-Chosen.field-0 c.in-Some-Chosen.index (nodes c.args.frames.now) us c.in-Some-Chosen.is c.in-Some-Chosen.field-0-is c.requires.reached.1 in
+    (search (rules, the_lemmas), (within.0, (within.1, (c.requires.at_unit, (rw c.in-Some-Chosen.index-is (index_inside g.R.ReadLeaves.rules c.keep_laws.ensures g.R.ReadLeaves.ahead g.R.ReadLeaves.is_between c.args.root.now (more_alternatives_of c.args.ext.now) c.requires.of_profile c.in-Some-Chosen.index (nodes c.args.frames.now) us [] k), (((more_alternatives_of c.args.ext.now), c.requires.of_profile, c.requires.covered, us ++ g.R.ReadLeaves.rules.to_units c.args.units.now, rw c.in-Some-Chosen.index-is (choice_goes_on g.R.ReadLeaves.rules c.keep_laws.ensures g.R.ReadLeaves.ahead g.R.ReadLeaves.is_between c.args.root.now (more_alternatives_of c.args.ext.now) c.requires.of_profile c.in-Some-Chosen.index (nodes c.args.frames.now) us (g.R.ReadLeaves.rules.to_units c.args.units.now) k)), c.requires.few))))))
+
+pub choices::resume_choice-returns-in-Some-Chosen-clause-done : goal.choices::resume_choice-returns-in-Some-Chosen-clause-done
+choices::resume_choice-returns-in-Some-Chosen-clause-done g t c =
+    IfOk-weaker c.feed_choice.result _ _ (λ v s us k. s (more_alternatives_of c.args.ext.now) c.requires.of_profile c.requires.covered (us ++ g.R.ReadLeaves.rules.to_units c.args.units.now) (rw c.in-Some-Chosen.index-is (choice_goes_on g.R.ReadLeaves.rules c.keep_laws.ensures g.R.ReadLeaves.ahead g.R.ReadLeaves.is_between c.args.root.now (more_alternatives_of c.args.ext.now) c.requires.of_profile c.in-Some-Chosen.index (nodes c.args.frames.now) us (g.R.ReadLeaves.rules.to_units c.args.units.now) (took_chosen g.R.ReadLeaves.rules c.keep_laws.ensures g.R.ReadLeaves.ahead g.R.ReadLeaves.is_between c.args.root.now (more_alternatives_of c.args.ext.now) c.requires.of_profile c.args.node c.in-Some-Chosen.field-0 c.in-Some-Chosen.index (nodes c.args.frames.now) us c.in-Some-Chosen.is c.in-Some-Chosen.field-0-is k)))) c.feed_choice.ensures.done
+
+pub choices::resume_choice-returns-in-Some-Chosen-clause-stop : goal.choices::resume_choice-returns-in-Some-Chosen-clause-stop
+choices::resume_choice-returns-in-Some-Chosen-clause-stop g t c =
+    IfErr-weaker c.feed_choice.result _ _ (λ why s us k. s (more_alternatives_of c.args.ext.now) c.requires.of_profile c.requires.covered (us ++ g.R.ReadLeaves.rules.to_units c.args.units.now) (rw c.in-Some-Chosen.index-is (choice_goes_on g.R.ReadLeaves.rules c.keep_laws.ensures g.R.ReadLeaves.ahead g.R.ReadLeaves.is_between c.args.root.now (more_alternatives_of c.args.ext.now) c.requires.of_profile c.in-Some-Chosen.index (nodes c.args.frames.now) us (g.R.ReadLeaves.rules.to_units c.args.units.now) (took_chosen g.R.ReadLeaves.rules c.keep_laws.ensures g.R.ReadLeaves.ahead g.R.ReadLeaves.is_between c.args.root.now (more_alternatives_of c.args.ext.now) c.requires.of_profile c.args.node c.in-Some-Chosen.field-0 c.in-Some-Chosen.index (nodes c.args.frames.now) us c.in-Some-Chosen.is c.in-Some-Chosen.field-0-is k)))) c.feed_choice.ensures.stop
+
+pub choices::resume_choice-returns-in-Some-Chosen-clause-kept : goal.choices::resume_choice-returns-in-Some-Chosen-clause-kept
+choices::resume_choice-returns-in-Some-Chosen-clause-kept g t c =
+    IfErr-weaker c.feed_choice.result _ _ (λ why s us k. s (more_alternatives_of c.args.ext.now) c.requires.of_profile c.requires.covered (us ++ g.R.ReadLeaves.rules.to_units c.args.units.now) (rw c.in-Some-Chosen.index-is (choice_goes_on g.R.ReadLeaves.rules c.keep_laws.ensures g.R.ReadLeaves.ahead g.R.ReadLeaves.is_between c.args.root.now (more_alternatives_of c.args.ext.now) c.requires.of_profile c.in-Some-Chosen.index (nodes c.args.frames.now) us (g.R.ReadLeaves.rules.to_units c.args.units.now) (took_chosen g.R.ReadLeaves.rules c.keep_laws.ensures g.R.ReadLeaves.ahead g.R.ReadLeaves.is_between c.args.root.now (more_alternatives_of c.args.ext.now) c.requires.of_profile c.args.node c.in-Some-Chosen.field-0 c.in-Some-Chosen.index (nodes c.args.frames.now) us c.in-Some-Chosen.is c.in-Some-Chosen.field-0-is k)))) c.feed_choice.ensures.kept
+
+pub choices::resume_choice-returns-in-None-clause-done : goal.choices::resume_choice-returns-in-None-clause-done
+choices::resume_choice-returns-in-None-clause-done g t c =
+    IfOk-weaker c.start_choice-in-None.result _ _ (λ v s us k. subst (λ (xs : List ℕ). Spells g.R.ReadLeaves.rules.ruling.fielding (ValuesOf g.R.ReadLeaves.rules (choice_seen c.args.root.now c.args.ext.now)) (datum_of v) xs (g.R.ReadLeaves.rules.to_units c.start_choice-in-None.new.units)) (ap (λ (xs : List ℕ). xs ++ g.R.ReadLeaves.rules.to_units c.args.units.now) (ap g.R.ReadLeaves.rules.to_units c.none.ensures ∙ c.keep_feed_laws.ensures.none ∙ sym (choice_none g.R.ReadLeaves.rules c.keep_laws.ensures g.R.ReadLeaves.ahead g.R.ReadLeaves.is_between c.args.root.now (more_alternatives_of c.args.ext.now) c.requires.of_profile c.args.node (nodes c.args.frames.now) us c.in-None.is (c.requires.last (ap is_some c.in-None.is)) k))) s) c.start_choice-in-None.ensures.done
+
+pub choices::resume_choice-returns-in-None-clause-stop : goal.choices::resume_choice-returns-in-None-clause-stop
+choices::resume_choice-returns-in-None-clause-stop g t c =
+    IfErr-weaker c.start_choice-in-None.result _ _ (λ why s us k. subst (λ (xs : List ℕ). Stops g.R.ReadLeaves.rules.ruling.fielding (ValuesOf g.R.ReadLeaves.rules (choice_seen c.args.root.now c.args.ext.now)) xs why) (ap (λ (xs : List ℕ). xs ++ g.R.ReadLeaves.rules.to_units c.args.units.now) (ap g.R.ReadLeaves.rules.to_units c.none.ensures ∙ c.keep_feed_laws.ensures.none ∙ sym (choice_none g.R.ReadLeaves.rules c.keep_laws.ensures g.R.ReadLeaves.ahead g.R.ReadLeaves.is_between c.args.root.now (more_alternatives_of c.args.ext.now) c.requires.of_profile c.args.node (nodes c.args.frames.now) us c.in-None.is (c.requires.last (ap is_some c.in-None.is)) k))) s) c.start_choice-in-None.ensures.stop
+
+pub choices::resume_choice-returns-in-None-clause-kept : goal.choices::resume_choice-returns-in-None-clause-kept
+choices::resume_choice-returns-in-None-clause-kept g t c =
+    IfErr-weaker c.start_choice-in-None.result _ _ (λ why s us k. subst (λ (xs : List ℕ). KeepsFrames g.R.ReadLeaves.rules g.R.ReadLeaves.ahead g.R.ReadLeaves.is_between (nodes c.start_choice-in-None.new.frames) (choice_seen c.args.root.now c.args.ext.now) xs why) (ap (λ (xs : List ℕ). xs ++ g.R.ReadLeaves.rules.to_units c.args.units.now) (ap g.R.ReadLeaves.rules.to_units c.none.ensures ∙ c.keep_feed_laws.ensures.none ∙ sym (choice_none g.R.ReadLeaves.rules c.keep_laws.ensures g.R.ReadLeaves.ahead g.R.ReadLeaves.is_between c.args.root.now (more_alternatives_of c.args.ext.now) c.requires.of_profile c.args.node (nodes c.args.frames.now) us c.in-None.is (c.requires.last (ap is_some c.in-None.is)) k))) s) c.start_choice-in-None.ensures.kept
+
+pub choices::resume_choice-returns-in-Some-Start-clause-done : goal.choices::resume_choice-returns-in-Some-Start-clause-done
+choices::resume_choice-returns-in-Some-Start-clause-done g t c =
+    IfOk-weaker c.start_choice.result _ _ (λ v s us k. subst (λ (xs : List ℕ). Spells g.R.ReadLeaves.rules.ruling.fielding (ValuesOf g.R.ReadLeaves.rules (choice_seen c.args.root.now c.args.ext.now)) (datum_of v) (xs ++ g.R.ReadLeaves.rules.to_units c.args.units.now) (g.R.ReadLeaves.rules.to_units c.start_choice.new.units)) (choice_start g.R.ReadLeaves.rules c.keep_laws.ensures g.R.ReadLeaves.ahead g.R.ReadLeaves.is_between c.args.root.now (more_alternatives_of c.args.ext.now) c.requires.of_profile c.args.node c.in-Some-Start.field-0 c.in-Some-Start.begun (nodes c.args.frames.now) us c.in-Some-Start.is c.in-Some-Start.field-0-is k).1.come s) c.start_choice.ensures.done
+
+pub choices::resume_choice-returns-in-Some-Start-clause-stop : goal.choices::resume_choice-returns-in-Some-Start-clause-stop
+choices::resume_choice-returns-in-Some-Start-clause-stop g t c =
+    IfErr-weaker c.start_choice.result _ _ (λ why s us k. subst (λ (xs : List ℕ). Stops g.R.ReadLeaves.rules.ruling.fielding (ValuesOf g.R.ReadLeaves.rules (choice_seen c.args.root.now c.args.ext.now)) (xs ++ g.R.ReadLeaves.rules.to_units c.args.units.now) why) (choice_start g.R.ReadLeaves.rules c.keep_laws.ensures g.R.ReadLeaves.ahead g.R.ReadLeaves.is_between c.args.root.now (more_alternatives_of c.args.ext.now) c.requires.of_profile c.args.node c.in-Some-Start.field-0 c.in-Some-Start.begun (nodes c.args.frames.now) us c.in-Some-Start.is c.in-Some-Start.field-0-is k).1.come s) c.start_choice.ensures.stop
+
+pub choices::resume_choice-returns-in-Some-Start-clause-kept : goal.choices::resume_choice-returns-in-Some-Start-clause-kept
+choices::resume_choice-returns-in-Some-Start-clause-kept g t c =
+    IfErr-weaker c.start_choice.result _ _ (λ why s us k. subst (λ (xs : List ℕ). KeepsFrames g.R.ReadLeaves.rules g.R.ReadLeaves.ahead g.R.ReadLeaves.is_between (nodes c.start_choice.new.frames) (choice_seen c.args.root.now c.args.ext.now) (xs ++ g.R.ReadLeaves.rules.to_units c.args.units.now) why) (choice_start g.R.ReadLeaves.rules c.keep_laws.ensures g.R.ReadLeaves.ahead g.R.ReadLeaves.is_between c.args.root.now (more_alternatives_of c.args.ext.now) c.requires.of_profile c.args.node c.in-Some-Start.field-0 c.in-Some-Start.begun (nodes c.args.frames.now) us c.in-Some-Start.is c.in-Some-Start.field-0-is k).1.come s) c.start_choice.ensures.kept
+
+pub choices::resume_choice-start_choice-requires : goal.choices::resume_choice-start_choice-requires
+choices::resume_choice-start_choice-requires g t c κs within =
+    let us = c.requires.reached.0 in
+    let w = choice_start g.R.ReadLeaves.rules c.keep_laws.ensures g.R.ReadLeaves.ahead g.R.ReadLeaves.is_between c.args.root.now (more_alternatives_of c.args.ext.now) c.requires.of_profile c.args.node c.in-Some-Start.field-0 c.in-Some-Start.begun (nodes c.args.frames.now) us c.in-Some-Start.is c.in-Some-Start.field-0-is c.requires.reached.1 in
+    (search (rules, the_lemmas), (within.0, (within.1, (c.requires.at_unit, (c.requires.of_profile, (c.requires.covered, (c.requires.some, (w.0, (record { come = refl; at_unit = w.1.at_unit; begins = w.1.begins }, c.requires.few)))))))))
+
+pub choices::start_choice-feed_leaf-requires-clause-good : goal.choices::start_choice-feed_leaf-requires-clause-good
+choices::start_choice-feed_leaf-requires-clause-good g t c = (c.requires.some, rw (c.addition_count.ensures, ← more_count c.args.ext.now) (few_seen c.args.root.now (more_alternatives_of c.args.ext.now) c.requires.of_profile))
+
+pub choices::start_choice-feed_leaf-requires-clause-begins : goal.choices::start_choice-feed_leaf-requires-clause-begins
+choices::start_choice-feed_leaf-requires-clause-begins g t c = rw (c.addition_count.ensures, ← more_count c.args.ext.now) c.requires.waits.begins
+
+pub choices::start_choice-feed_choice-requires : goal.choices::start_choice-feed_choice-requires
+choices::start_choice-feed_choice-requires g t c κs within =
+    let told : Spells g.R.ReadLeaves.rules.ruling.fielding (IndexOf g.R.ReadLeaves.rules (length c.args.root.now) (added_alternatives (more_alternatives_of c.args.ext.now))) (inl c.in-Ok-Root.index) (g.R.ReadLeaves.rules.to_units c.args.begun ++ g.R.ReadLeaves.rules.to_units c.args.units.now) (g.R.ReadLeaves.rules.to_units c.feed_leaf.new.units) = rw (c.addition_count.ensures, ← more_count c.args.ext.now, c.in-Ok-Root.field-0-is) at c.in-Ok-Root.ensures.done in
+    (search (rules, the_lemmas), (within.0, (within.1, (c.in-Ok-Root.ensures.at_unit, (rw c.in-Ok-Root.index-is told.spelt.fits, (((more_alternatives_of c.args.ext.now), c.requires.of_profile, c.requires.covered, (g.R.ReadLeaves.rules.to_units c.args.begun ++ g.R.ReadLeaves.rules.to_units c.args.units.now), rw c.in-Ok-Root.index-is (choice_starts g.R.ReadLeaves.rules c.keep_laws.ensures g.R.ReadLeaves.ahead g.R.ReadLeaves.is_between c.args.root.now (more_alternatives_of c.args.ext.now) c.requires.of_profile c.in-Ok-Root.index (nodes c.args.frames.now) (g.R.ReadLeaves.rules.to_units c.args.begun ++ g.R.ReadLeaves.rules.to_units c.args.units.now) (g.R.ReadLeaves.rules.to_units c.feed_leaf.new.units) told c.requires.empty)), omega (arith, c.in-Ok-Root.ensures.ticked, c.requires.few)))))))
+
+pub choices::start_choice-unreachable-requires : goal.choices::start_choice-unreachable-requires
+choices::start_choice-unreachable-requires g t c =
+    let told : Spells g.R.ReadLeaves.rules.ruling.fielding (IndexOf g.R.ReadLeaves.rules (length c.args.root.now) (added_alternatives (more_alternatives_of c.args.ext.now))) (inr c.in-Ok-Added.field-0-0) (g.R.ReadLeaves.rules.to_units c.args.begun ++ g.R.ReadLeaves.rules.to_units c.args.units.now) (g.R.ReadLeaves.rules.to_units c.feed_leaf.new.units) = rw (c.addition_count.ensures, ← more_count c.args.ext.now, c.in-Ok-Added.field-0-is) at c.in-Ok-Added.ensures.done in
+    none_added g.R.ReadLeaves.rules c.keep_laws.ensures g.R.ReadLeaves.ahead g.R.ReadLeaves.is_between c.args.root.now (more_alternatives_of c.args.ext.now) c.requires.of_profile c.requires.covered c.in-Ok-Added.field-0-0 (g.R.ReadLeaves.rules.to_units c.args.begun ++ g.R.ReadLeaves.rules.to_units c.args.units.now) (g.R.ReadLeaves.rules.to_units c.feed_leaf.new.units) told
+
+pub choices::start_choice-returns-in-Ok-Root-clause-done : goal.choices::start_choice-returns-in-Ok-Root-clause-done
+choices::start_choice-returns-in-Ok-Root-clause-done g t c =
+    let told : Spells g.R.ReadLeaves.rules.ruling.fielding (IndexOf g.R.ReadLeaves.rules (length c.args.root.now) (added_alternatives (more_alternatives_of c.args.ext.now))) (inl c.in-Ok-Root.index) (g.R.ReadLeaves.rules.to_units c.args.begun ++ g.R.ReadLeaves.rules.to_units c.args.units.now) (g.R.ReadLeaves.rules.to_units c.feed_leaf.new.units) = rw (c.addition_count.ensures, ← more_count c.args.ext.now, c.in-Ok-Root.field-0-is) at c.in-Ok-Root.ensures.done in
+    IfOk-weaker c.feed_choice.result _ _ (λ v s. s (more_alternatives_of c.args.ext.now) c.requires.of_profile c.requires.covered (g.R.ReadLeaves.rules.to_units c.args.begun ++ g.R.ReadLeaves.rules.to_units c.args.units.now) (rw c.in-Ok-Root.index-is (choice_starts g.R.ReadLeaves.rules c.keep_laws.ensures g.R.ReadLeaves.ahead g.R.ReadLeaves.is_between c.args.root.now (more_alternatives_of c.args.ext.now) c.requires.of_profile c.in-Ok-Root.index (nodes c.args.frames.now) (g.R.ReadLeaves.rules.to_units c.args.begun ++ g.R.ReadLeaves.rules.to_units c.args.units.now) (g.R.ReadLeaves.rules.to_units c.feed_leaf.new.units) told c.requires.empty))) c.feed_choice.ensures.done
+
+pub choices::start_choice-returns-in-Ok-Root-clause-stop : goal.choices::start_choice-returns-in-Ok-Root-clause-stop
+choices::start_choice-returns-in-Ok-Root-clause-stop g t c =
+    let told : Spells g.R.ReadLeaves.rules.ruling.fielding (IndexOf g.R.ReadLeaves.rules (length c.args.root.now) (added_alternatives (more_alternatives_of c.args.ext.now))) (inl c.in-Ok-Root.index) (g.R.ReadLeaves.rules.to_units c.args.begun ++ g.R.ReadLeaves.rules.to_units c.args.units.now) (g.R.ReadLeaves.rules.to_units c.feed_leaf.new.units) = rw (c.addition_count.ensures, ← more_count c.args.ext.now, c.in-Ok-Root.field-0-is) at c.in-Ok-Root.ensures.done in
+    IfErr-weaker c.feed_choice.result _ _ (λ why s. s (more_alternatives_of c.args.ext.now) c.requires.of_profile c.requires.covered (g.R.ReadLeaves.rules.to_units c.args.begun ++ g.R.ReadLeaves.rules.to_units c.args.units.now) (rw c.in-Ok-Root.index-is (choice_starts g.R.ReadLeaves.rules c.keep_laws.ensures g.R.ReadLeaves.ahead g.R.ReadLeaves.is_between c.args.root.now (more_alternatives_of c.args.ext.now) c.requires.of_profile c.in-Ok-Root.index (nodes c.args.frames.now) (g.R.ReadLeaves.rules.to_units c.args.begun ++ g.R.ReadLeaves.rules.to_units c.args.units.now) (g.R.ReadLeaves.rules.to_units c.feed_leaf.new.units) told c.requires.empty))) c.feed_choice.ensures.stop
+
+pub choices::start_choice-returns-in-Ok-Root-clause-kept : goal.choices::start_choice-returns-in-Ok-Root-clause-kept
+choices::start_choice-returns-in-Ok-Root-clause-kept g t c =
+    let told : Spells g.R.ReadLeaves.rules.ruling.fielding (IndexOf g.R.ReadLeaves.rules (length c.args.root.now) (added_alternatives (more_alternatives_of c.args.ext.now))) (inl c.in-Ok-Root.index) (g.R.ReadLeaves.rules.to_units c.args.begun ++ g.R.ReadLeaves.rules.to_units c.args.units.now) (g.R.ReadLeaves.rules.to_units c.feed_leaf.new.units) = rw (c.addition_count.ensures, ← more_count c.args.ext.now, c.in-Ok-Root.field-0-is) at c.in-Ok-Root.ensures.done in
+    IfErr-weaker c.feed_choice.result _ _ (λ why s. s (more_alternatives_of c.args.ext.now) c.requires.of_profile c.requires.covered (g.R.ReadLeaves.rules.to_units c.args.begun ++ g.R.ReadLeaves.rules.to_units c.args.units.now) (rw c.in-Ok-Root.index-is (choice_starts g.R.ReadLeaves.rules c.keep_laws.ensures g.R.ReadLeaves.ahead g.R.ReadLeaves.is_between c.args.root.now (more_alternatives_of c.args.ext.now) c.requires.of_profile c.in-Ok-Root.index (nodes c.args.frames.now) (g.R.ReadLeaves.rules.to_units c.args.begun ++ g.R.ReadLeaves.rules.to_units c.args.units.now) (g.R.ReadLeaves.rules.to_units c.feed_leaf.new.units) told c.requires.empty))) c.feed_choice.ensures.kept
+
+pub choices::start_choice-returns-in-Ok-clause-stop : goal.choices::start_choice-returns-in-Ok-clause-stop
+choices::start_choice-returns-in-Ok-clause-stop g t c =
+    let a : Stops g.R.ReadLeaves.rules.ruling.fielding (IndexOf g.R.ReadLeaves.rules (length c.args.root.now) (added_alternatives (more_alternatives_of c.args.ext.now))) (g.R.ReadLeaves.rules.to_units c.args.begun ++ g.R.ReadLeaves.rules.to_units c.args.units.now) stop.Short = rw (c.addition_count.ensures, ← more_count c.args.ext.now, c.in-Err-Short.field-0-is) at c.in-Err-Short.ensures.stop in
+    stops_by stop.Short (choice_stops g.R.ReadLeaves.rules c.keep_laws.ensures g.R.ReadLeaves.ahead g.R.ReadLeaves.is_between c.args.root.now (more_alternatives_of c.args.ext.now) c.requires.of_profile (g.R.ReadLeaves.rules.to_units c.args.begun ++ g.R.ReadLeaves.rules.to_units c.args.units.now)) a
+
+pub choices::start_choice-returns-in-Ok-clause-kept : goal.choices::start_choice-returns-in-Ok-clause-kept
+choices::start_choice-returns-in-Ok-clause-kept g t c =
+    let b = c.feed_leaf.new.begun in
+    let a : Stops g.R.ReadLeaves.rules.ruling.fielding (IndexOf g.R.ReadLeaves.rules (length c.args.root.now) (added_alternatives (more_alternatives_of c.args.ext.now))) (g.R.ReadLeaves.rules.to_units c.args.begun ++ g.R.ReadLeaves.rules.to_units c.args.units.now) stop.Short = rw (c.addition_count.ensures, ← more_count c.args.ext.now, c.in-Err-Short.field-0-is) at c.in-Err-Short.ensures.stop in
+    let e : g.R.ReadLeaves.rules.to_units b ≡ (g.R.ReadLeaves.rules.to_units c.args.begun ++ g.R.ReadLeaves.rules.to_units c.args.units.now) = rw c.in-Err-Short.field-0-is at c.in-Err-Short.ensures.kept in
+    let s : Short g.R.ReadLeaves.rules.ruling.fielding (IndexOf g.R.ReadLeaves.rules (length c.args.root.now) (added_alternatives (more_alternatives_of c.args.ext.now))) (g.R.ReadLeaves.rules.to_units b) = subst (λ (xs : List ℕ). Short g.R.ReadLeaves.rules.ruling.fielding (IndexOf g.R.ReadLeaves.rules (length c.args.root.now) (added_alternatives (more_alternatives_of c.args.ext.now))) xs) (sym e) a.told in
+    let fs : nodes c.put.new.self ≡ frame.Start b ∷ [] = c.in-Ok.ensures ∙ ap (λ (gs : List (Frame g.row.R-Fragments.Denot)). frame.Start b ∷ gs) c.requires.empty in
+    choice_took g.R.ReadLeaves.rules c.keep_laws.ensures g.R.ReadLeaves.ahead g.R.ReadLeaves.is_between c.args.root.now (more_alternatives_of c.args.ext.now) c.requires.of_profile (nodes c.put.new.self) b (g.R.ReadLeaves.rules.to_units c.args.begun ++ g.R.ReadLeaves.rules.to_units c.args.units.now) fs (record { come = e; at_unit = c.in-Err-Short.ensures.begun; begins = inr s })
+
+pub choices::start_choice-returns-in-Err-Refused-clause-stop : goal.choices::start_choice-returns-in-Err-Refused-clause-stop
+choices::start_choice-returns-in-Err-Refused-clause-stop g t c =
+    let w = stop.Refused c.in-Err-Refused.left c.in-Err-Refused.why in
+    let a : Stops g.R.ReadLeaves.rules.ruling.fielding (IndexOf g.R.ReadLeaves.rules (length c.args.root.now) (added_alternatives (more_alternatives_of c.args.ext.now))) (g.R.ReadLeaves.rules.to_units c.args.begun ++ g.R.ReadLeaves.rules.to_units c.args.units.now) w = rw (c.addition_count.ensures, ← more_count c.args.ext.now, c.in-Err-Refused.field-0-is) at c.in-Err-Refused.ensures.stop in
+    rw (c.in-Err-Refused.left-is, c.in-Err-Refused.why-is) (stops_by w (choice_stops g.R.ReadLeaves.rules c.keep_laws.ensures g.R.ReadLeaves.ahead g.R.ReadLeaves.is_between c.args.root.now (more_alternatives_of c.args.ext.now) c.requires.of_profile (g.R.ReadLeaves.rules.to_units c.args.begun ++ g.R.ReadLeaves.rules.to_units c.args.units.now)) a)
+
+-- ---- the value of its alternative
+
+pub choices::feed_choice-overflow_cast-result : goal.choices::feed_choice-overflow_cast-result
+choices::feed_choice-overflow_cast-result g t c =
+    let few : length c.args.root.now ≤ 63 = few_of_root (length c.args.root.now) (added_alternatives c.requires.reached.0) (few_seen c.args.root.now c.requires.reached.0 c.requires.reached.1) in
+    omega (arith, c.requires.inside, few)
+
+pub choices::feed_choice-feed-requires : goal.choices::feed_choice-feed-requires
+choices::feed_choice-feed-requires g t c κs within =
+    let more = c.requires.reached.0 in
+    let good = c.requires.reached.1 in
+    let cov = c.requires.reached.2 in
+    let x = alternative_ahead g.R.ReadLeaves.rules c.keep_laws.ensures g.R.ReadLeaves.ahead g.R.ReadLeaves.is_between c.args.root.now more good c.args.index (nodes c.args.frames.now) c.index-root-index.result c.requires.reached.3 (g.R.ReadLeaves.rules.to_units c.args.units.now) c.index-root-index.is cov c.requires.reached.4 in
+    (search (rules, the_lemmas), (within.0, (within.1, (c.requires.at_unit, (x.of_profile, (x.covered, ((x.come, x.took), c.requires.few)))))))
+
+pub choices::feed_choice-returns-in-Ok-new-clause-done : goal.choices::feed_choice-returns-in-Ok-new-clause-done
+choices::feed_choice-returns-in-Ok-new-clause-done g t c = λ more good cov all h.
+    let x = alternative_ahead g.R.ReadLeaves.rules c.keep_laws.ensures g.R.ReadLeaves.ahead g.R.ReadLeaves.is_between c.args.root.now more good c.args.index (nodes c.args.frames.now) c.index-root-index.result all (g.R.ReadLeaves.rules.to_units c.args.units.now) c.index-root-index.is cov h in
+    rw (datum_of-Choice c.args.index c.in-Ok-new.value, c.in-Ok-new.ensures.ok) (x.leads.done (datum_of c.in-Ok.value) (g.R.ReadLeaves.rules.to_units c.feed.new.units) (c.in-Ok.ensures.done x.come x.took))
+
+pub choices::feed_choice-returns-in-Ok-put-clause-stop : goal.choices::feed_choice-returns-in-Ok-put-clause-stop
+choices::feed_choice-returns-in-Ok-put-clause-stop g t c = λ more good cov all h.
+    let x = alternative_ahead g.R.ReadLeaves.rules c.keep_laws.ensures g.R.ReadLeaves.ahead g.R.ReadLeaves.is_between c.args.root.now more good c.args.index (nodes c.args.frames.now) c.index-root-index.result all (g.R.ReadLeaves.rules.to_units c.args.units.now) c.index-root-index.is cov h in
+    let a : Stops g.R.ReadLeaves.rules.ruling.fielding (ValuesOf g.R.ReadLeaves.rules (shape_of c.index-root-index.result.ty)) (x.come ++ g.R.ReadLeaves.rules.to_units c.args.units.now) stop.Short = rw c.in-Err-Short.field-0-is at (c.in-Err-Short.ensures.stop x.come x.took) in
+    stops_by stop.Short x.leads.stops a
+
+pub choices::feed_choice-returns-in-Err-Refused-clause-stop : goal.choices::feed_choice-returns-in-Err-Refused-clause-stop
+choices::feed_choice-returns-in-Err-Refused-clause-stop g t c = λ more good cov all h.
+    let x = alternative_ahead g.R.ReadLeaves.rules c.keep_laws.ensures g.R.ReadLeaves.ahead g.R.ReadLeaves.is_between c.args.root.now more good c.args.index (nodes c.args.frames.now) c.index-root-index.result all (g.R.ReadLeaves.rules.to_units c.args.units.now) c.index-root-index.is cov h in
+    let w = stop.Refused c.in-Err-Refused.left c.in-Err-Refused.why in
+    let a : Stops g.R.ReadLeaves.rules.ruling.fielding (ValuesOf g.R.ReadLeaves.rules (shape_of c.index-root-index.result.ty)) (x.come ++ g.R.ReadLeaves.rules.to_units c.args.units.now) w = rw c.in-Err-Refused.field-0-is at (c.in-Err-Refused.ensures.stop x.come x.took) in
+    rw (c.in-Err-Refused.left-is, c.in-Err-Refused.why-is) (stops_by w x.leads.stops a)
+
+pub choices::feed_choice-returns-in-Ok-put-clause-kept : goal.choices::feed_choice-returns-in-Ok-put-clause-kept
+choices::feed_choice-returns-in-Ok-put-clause-kept g t c = λ more good cov all h.
+    let x = alternative_ahead g.R.ReadLeaves.rules c.keep_laws.ensures g.R.ReadLeaves.ahead g.R.ReadLeaves.is_between c.args.root.now more good c.args.index (nodes c.args.frames.now) c.index-root-index.result all (g.R.ReadLeaves.rules.to_units c.args.units.now) c.index-root-index.is cov h in
+    let none : g.R.ReadLeaves.rules.to_units c.feed.new.units ≡ [] = rw c.in-Err-Short.field-0-is at c.in-Err-Short.ensures.after in
+    let took : Took g.R.ReadLeaves.rules g.R.ReadLeaves.ahead g.R.ReadLeaves.is_between (nodes c.feed.new.frames) (shape_of c.index-root-index.result.ty) (x.come ++ g.R.ReadLeaves.rules.to_units c.args.units.now) = rw c.in-Err-Short.field-0-is at (c.in-Err-Short.ensures.kept x.come x.took) in
+    rw c.in-Ok-put.ensures (x.kept (nodes c.feed.new.frames) [] refl took)
+
+-- ---- a CHOICE of the program
+
+pub values::feed-resume_choice-requires : goal.values::feed-resume_choice-requires
+values::feed-resume_choice-requires g t c κs within =
+    let is = choice_of_alternatives c.args.ty.now c.in-Choice.root c.in-Choice.ext c.as_slice-root-in-Choice.result.now c.in-Choice.is c.as_slice-root-in-Choice.ensures.value in
+    let tk = taken_is c.take-node-in-Choice.result (nodes c.args.frames.now) (nodes c.take-node-in-Choice.new.self) c.take-node-in-Choice.ensures.some c.take-node-in-Choice.ensures.none c.take-node-in-Choice.ensures.empty in
+    (search (rules, the_lemmas), (within.0, (within.1, (c.requires.at_unit, (rw is at c.requires.of_profile, (rw is at c.requires.covered, (rw c.as_slice-root-in-Choice.ensures.len (some_root c.args.ty.now c.in-Choice.root c.in-Choice.ext c.in-Choice.is c.requires.of_profile (vec_len c.in-Choice.root) refl), ((c.requires.reached.0, rw (is, tk) at c.requires.reached.1), (c.take-node-in-Choice.ensures.empty, c.requires.few)))))))))
+
+pub values::feed-returns-in-Choice-clause-done : goal.values::feed-returns-in-Choice-clause-done
+values::feed-returns-in-Choice-clause-done g t c =
+    let is = choice_of_alternatives c.args.ty.now c.in-Choice.root c.in-Choice.ext c.as_slice-root-in-Choice.result.now c.in-Choice.is c.as_slice-root-in-Choice.ensures.value in
+    let tk = taken_is c.take-node-in-Choice.result (nodes c.args.frames.now) (nodes c.take-node-in-Choice.new.self) c.take-node-in-Choice.ensures.some c.take-node-in-Choice.ensures.none c.take-node-in-Choice.ensures.empty in
+    IfOk-weaker c.resume_choice.result _ _ (λ v s us k. rw is (s us (rw (is, tk) at k))) c.resume_choice.ensures.done
+
+pub values::feed-returns-in-Choice-clause-stop : goal.values::feed-returns-in-Choice-clause-stop
+values::feed-returns-in-Choice-clause-stop g t c =
+    let is = choice_of_alternatives c.args.ty.now c.in-Choice.root c.in-Choice.ext c.as_slice-root-in-Choice.result.now c.in-Choice.is c.as_slice-root-in-Choice.ensures.value in
+    let tk = taken_is c.take-node-in-Choice.result (nodes c.args.frames.now) (nodes c.take-node-in-Choice.new.self) c.take-node-in-Choice.ensures.some c.take-node-in-Choice.ensures.none c.take-node-in-Choice.ensures.empty in
+    IfErr-weaker c.resume_choice.result _ _ (λ why s us k. rw is (s us (rw (is, tk) at k))) c.resume_choice.ensures.stop
+
+pub values::feed-returns-in-Choice-clause-kept : goal.values::feed-returns-in-Choice-clause-kept
+values::feed-returns-in-Choice-clause-kept g t c =
+    let is = choice_of_alternatives c.args.ty.now c.in-Choice.root c.in-Choice.ext c.as_slice-root-in-Choice.result.now c.in-Choice.is c.as_slice-root-in-Choice.ensures.value in
+    let tk = taken_is c.take-node-in-Choice.result (nodes c.args.frames.now) (nodes c.take-node-in-Choice.new.self) c.take-node-in-Choice.ensures.some c.take-node-in-Choice.ensures.none c.take-node-in-Choice.ensures.empty in
+    IfErr-weaker c.resume_choice.result _ _ (λ why s us k. rw is (s us (rw (is, tk) at k))) c.resume_choice.ensures.kept

@@ -15,9 +15,10 @@ use Rattle.asn_values.proofs.InnerTypes.{element_of_profile, root_alternatives_o
 use Rattle.asn_values.proofs.Parts.{components_of_profile}
 use Rattle.asn_values.proofs.Views.{shape_of-Enum, sequence_of_fields, list_of_elements, choice_of_alternatives}
 use Rattle.asn_json.specs.Errors.{errors, errors_at}
+use Rattle.asn_view.specs.Names.{index_of}
 use Rattle.asn_json.specs.Paths.{here, below, to_member}
 use Rattle.asn_json.specs.Readers.{TellsFirst, Shows, ShowsAfter, ShowsAt}
-use Rattle.asn_json.specs.Shown.{index_of, choice_names, single}
+use Rattle.asn_json.specs.Shown.{choice_names, single}
 use Rattle.asn_json.proofs.ReadKinds.{ShowsAdded, sequence_shown, root_refused, added_refused, list_shown, errors_here, value_here, errors_past, good_here, added_components, added_alternatives, few_items, few_alternatives, root_shown, added_shown, alternative_refused, addition_refused, alternative_read}
 use Rattle.asn_json.proofs.ReadParts.{next_component, component_read, component_stops, next_element, element_stops}
 use Rattle.asn_json.proofs.read.+reader.Goals as goal

@@ -1,10 +1,11 @@
-use Rattle.std.proofs.Common.{rules, ◌≡◌, ◌≤ℤ◌, ◌<ℤ◌, ◌*◌, ◌++◌, List, ℕ, ℤ, pos, Bool, Option, Some, true, false, ◌∙◌, ap, sym, arith, of_z}
+use Rattle.std.proofs.Common.{rules, ◌≡◌, ◌≤ℤ◌, ◌<ℤ◌, ◌*◌, ◌++◌, List, ℕ, ℤ, pos, Bool, Option, Some, true, false, ◌∙◌, ap, sym, subst, arith, of_z}
 use Rattle.std.proofs.lemmas.Int.{ints}
 use mir.Syntax.{w64}
 use Rattle.asn_values.specs.Fits.{lowest_integer, highest_integer}
 use Rattle.asn_values.specs.View.{range_of}
 use Rattle.asn_bits.specs.Numbers.{bits, unpacked}
 use Rattle.asn_bits.proofs.Above.{kept}
+use Rattle.asn_sinks.proofs.Pushing.{pushed_same}
 use Rattle.asn_rules.proofs.Plain.IntegerSets.{low_bound, high_bound}
 use Rattle.asn_rules.specs.OctetsWritten.{fixed_octets}
 use Rattle.asn_oer.specs.Oer.{counted_signed, ranged, signed_size, unsigned_octets, whole_number}
@@ -13,17 +14,17 @@ use Rattle.asn_oer.proofs.Write.WrittenOctets.{plain}
 use Rattle.asn_oer.proofs.integer.write_integer.Goals as goal
 
 pub overflow_cast-low : goal.overflow_cast-low
-overflow_cast-low c =
+overflow_cast-low g c =
     let l = low_bound (range_of c.args.bounds.now) c.in-Some-Some.low c.requires.of_profile c.in-Some-Some.is-0 in
     rw (kept c.in-Some-Some.low l.0 l.1) (fits_64 c.in-Some-Some.low l.0 l.1)
 
 pub overflow_cast-high : goal.overflow_cast-high
-overflow_cast-high c =
+overflow_cast-high g c =
     let h = high_bound (range_of c.args.bounds.now) c.in-Some-Some.high c.requires.of_profile c.in-Some-Some.is-1 in
     rw (kept c.in-Some-Some.high h.0 h.1) (fits_64 c.in-Some-Some.high h.0 h.1)
 
 pub greatest-greatest-requires : goal.greatest-greatest-requires
-greatest-greatest-requires c =
+greatest-greatest-requires g c =
     let b = range_of c.args.bounds.now in
     let low = c.in-Some-Some.low in
     let high = c.in-Some-Some.high in
@@ -34,7 +35,7 @@ greatest-greatest-requires c =
     rw (kept low l.0 l.1, kept high h.0 h.1, narrow low l.0 l.1, narrow high h.0 h.1) (omega (arith, ints, least, most))
 
 pub overflow_cast-value : goal.overflow_cast-value
-overflow_cast-value c =
+overflow_cast-value g c =
     let b = range_of c.args.bounds.now in
     let low = c.in-Some-Some.low in
     let high = c.in-Some-Some.high in
@@ -48,7 +49,7 @@ overflow_cast-value c =
     rw (kept z from to) (fits_64 z from to)
 
 pub returns-in_ok-write_fixed-in-Some-Some-clause-of_type : goal.returns-in_ok-write_fixed-in-Some-Some-clause-of_type
-returns-in_ok-write_fixed-in-Some-Some-clause-of_type c =
+returns-in_ok-write_fixed-in-Some-Some-clause-of_type g c =
     let low = c.in-Some-Some.low in
     let high = c.in-Some-Some.high in
     let least : low ≤ℤ c.args.value = search rules in
@@ -56,7 +57,7 @@ returns-in_ok-write_fixed-in-Some-Some-clause-of_type c =
     between_bounds (range_of c.args.bounds.now) low high c.args.value c.requires.of_profile c.in-Some-Some.is-0 c.in-Some-Some.is-1 least most
 
 pub returns-in_ok-write_fixed-in-Some-Some-clause-written : goal.returns-in_ok-write_fixed-in-Some-Some-clause-written
-returns-in_ok-write_fixed-in-Some-Some-clause-written c =
+returns-in_ok-write_fixed-in-Some-Some-clause-written g c =
     let b = range_of c.args.bounds.now in
     let z = c.args.value in
     let low = c.in-Some-Some.low in
@@ -71,10 +72,13 @@ returns-in_ok-write_fixed-in-Some-Some-clause-written c =
     let form : whole_number b z ≡ ranged (Some low) (Some high) z =
     ap (λ (m : Bool). elim m [ true ↦ counted_signed z | false ↦ ranged b.low b.high z ]) closed
     ∙ ap (λ (o : Option ℤ). ranged o b.high z) c.in-Some-Some.is-0 ∙ ap (λ (o : Option ℤ). ranged (Some low) o z) c.in-Some-Some.is-1 in
-    let g = c.greatest-greatest.result in
-    let zero : pos 0 ≤ℤ low → pos g ≡ high = rw (kept low l.0 l.1, kept high h.0 h.1, narrow low l.0 l.1, narrow high h.0 h.1) at c.greatest-greatest.ensures.from_zero in
-    let below : low <ℤ pos 0 → signed_size low high ≡ unsigned_octets (pos g) = rw (kept low l.0 l.1, kept high h.0 h.1, narrow low l.0 l.1, narrow high h.0 h.1) at c.greatest-greatest.ensures.below_zero in
+    let most_is = c.greatest-greatest.result in
+    let zero : pos 0 ≤ℤ low → pos most_is ≡ high = rw (kept low l.0 l.1, kept high h.0 h.1, narrow low l.0 l.1, narrow high h.0 h.1) at c.greatest-greatest.ensures.from_zero in
+    let below : low <ℤ pos 0 → signed_size low high ≡ unsigned_octets (pos most_is) = rw (kept low l.0 l.1, kept high h.0 h.1, narrow low l.0 l.1, narrow high h.0 h.1) at c.greatest-greatest.ensures.below_zero in
     let residue : c.cast_unsigned.result ≡ of_z w64 z = rw (kept z from to, narrow z from to) at c.cast_unsigned.ensures in
-    let all = fixed_bits low high z g least most l.0 h.1 zero below c.greatest-greatest.type_inv in
-    c.in_ok-write_fixed-in-Some-Some.ensures ∙ ap (λ (n : ℕ). c.args.sink.now ++ bits (8 * fixed_octets g) n) residue
-    ∙ ap (λ (t : List ℕ). c.args.sink.now ++ t) (all ∙ ap unpacked (sym form) ∙ sym (plain (whole_number b z)))
+    let all = fixed_bits low high z most_is least most l.0 h.1 zero below c.greatest-greatest.type_inv in
+    let push = g.S.Sink.pushes in
+    let old = c.args.sink.now in
+    let new = c.write_fixed.new.sink in
+    pushed_same push old new (all ∙ ap unpacked (sym form) ∙ sym (plain (whole_number b z)))
+    (subst (λ (n : ℕ). push old new (bits (8 * fixed_octets c.greatest-greatest.result) n)) residue c.in_ok-write_fixed-in-Some-Some.ensures)

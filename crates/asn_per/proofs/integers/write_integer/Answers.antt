@@ -7,7 +7,7 @@ use Rattle.asn_per.proofs.Write.BetweenBounds.{between_fits}
 use Rattle.asn_per.proofs.integers.write_integer.Goals as goal
 
 pub returns-clause-of_type : goal.returns-clause-of_type
-returns-clause-of_type c =
+returns-clause-of_type g c =
     let low = c.in-Some-Some.low in
     let high = c.in-Some-Some.high in
     let ext = c.args.bounds.now.ext in

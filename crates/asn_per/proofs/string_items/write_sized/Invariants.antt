@@ -6,8 +6,8 @@ use Rattle.asn_per.proofs.Write.SizesWritten.{Written}
 use Rattle.asn_per.proofs.string_items.write_sized.Given as goal
 
 abbrev pub invariant-loop-many : goal.invariant-loop-many
-invariant-loop-many l =
-    Written (item_chunks l.items) (l.fn.sink ++ sized_bits (size_range_of l.size) (item_chunks l.items)) (following_chunks l.following) l.sink l.done
+invariant-loop-many g l =
+    Written g.S.Sink.pushes (item_chunks l.items) (sized_bits (size_range_of l.size) (item_chunks l.items)) (following_chunks l.following) l.fn.sink l.sink l.done
 
 abbrev pub decreases-loop-many : goal.decreases-loop-many
-decreases-loop-many l = l.count - l.done
+decreases-loop-many g l = l.count - l.done

@@ -1,4 +1,4 @@
-use Rattle.std.proofs.Common.{rules, subst, take, drop, true, ◌≡◌, ◌∷◌, ◌++◌, map, min, Some, None, refl, sym, ap, ◌∙◌, arith, ◌<◌, length, ◌-◌}
+use Rattle.std.proofs.Common.{rules, false, ◌^◌, ◌+◌, suc, subst, take, drop, true, ◌≡◌, ◌∷◌, ◌++◌, map, min, Some, None, refl, sym, ap, ◌∙◌, arith, ◌<◌, length, ◌-◌}
 use mir.Syntax.{w128}
 use mir.Val.{to_z, of_z}
 use Rattle.std.specs.Option.{option_map}
@@ -15,19 +15,54 @@ use Rattle.asn_values.proofs.Components.{shape_of_part}
 use Rattle.asn_values.proofs.Entries.{other_length}
 use Rattle.asn_values.proofs.InnerTypes.{element_of_profile}
 use Rattle.asn_bits.specs.Numbers.{bits}
+use Rattle.asn_sinks.specs.Sink.{Begins, Ends}
+use Rattle.asn_sinks.specs.declared.sink.Framing.{Framing}
+use Rattle.asn_sinks.proofs.Pushing.{pushed_same}
 use Rattle.asn_rules.specs.Components.{is_spelled}
 use Rattle.asn_walk.specs.Composites.{in_open_field}
-use Rattle.asn_walk.specs.Writing.{written, mark_bits, Advances}
+use Rattle.asn_walk.specs.Writing.{written, Writes, TakesAt, mark_bits, Advances}
 use Rattle.asn_walk.proofs.Parts.{few_components, marked_fields, added_of_profile, few_added, good_at, few_root, few_all, roots_good, additions_good}
 use Rattle.asn_walk.proofs.Widths.{demand_of_part, datum_of-Int}
 use Rattle.asn_walk_write.proofs.WriteChoices.{root_fits, added_fits, past_root, past_additions, spelled_there, root_written as choice_root_written, added_written as choice_added_written}
-use Rattle.asn_walk_write.proofs.WriteComponents.{spelt_unless_default, written_more}
+use Rattle.asn_walk_write.proofs.WriteComponents.{each_bits, each_ends, either_map, written_starts, written_passes, spelt_unless_default, written_more}
 use Rattle.asn_walk_write.proofs.WriteEntries.{of_sequence, parts_of_profile, unmarked_fits, marked_fits as fits_marked, first_ones, other_ones, added_optional}
-use Rattle.asn_walk_write.proofs.WriteLists.{list_fits, other_count, list_written, elements_next, next_value, parts_fit, fragments_next, fragments_end, fragments_fit}
-use Rattle.asn_walk_write.proofs.WriteSequences.{none_fit, some_bits_there, opened_more, root_written, additions_written, sequence_written, unmarked_written}
+use Rattle.asn_walk_write.proofs.Levels.{root_deep, additions_deep, roots_deep, added_deep, deep_at}
+use Rattle.asn_walk_write.proofs.Taking.{takes_laws, takes_pushed, pushed_at, field_taken, open_bits_are, complete_taken}
+use Rattle.asn_walk_write.proofs.WriteLists.{leaves_at, advances_at, fragments_start, elements_start, list_fits, other_count, list_written, elements_next, next_value, parts_fit, fragments_next, fragments_end, fragments_fit}
+use Rattle.asn_walk_write.proofs.WriteSequences.{none_fit, some_bits_there, opened_starts, open_ends, opened_more, root_written, additions_written, sequence_written, unmarked_written}
 use Rattle.asn_walk_write.proofs.WriteTells.{tells_by, tells_err, written_by}
 use Rattle.asn_walk_write.proofs.writer.+writer.Goals as goal
-use Rattle.asn_walk_write.proofs.writer.+writer.Goals.{write_components-in-Default, write_components-in_default-matches-2}
+use Rattle.asn_walk_write.proofs.writer.+writer.Goals.{write_components-in-Default, write_components-in_default-matches-2, write-in_default-ext-via-in-Some-ext+else-index-known-2, write-in_default-ext-via-in_default-ext}
+
+-- ---- complete encodings and open type fields
+
+pub write_complete-returns-clause-written : goal.write_complete-returns-clause-written
+write_complete-returns-clause-written g t c =
+    complete_taken g.S.Sink.stands g.S.Sink.wants_lengths c.args.level c.keep_open_laws.ensures c.args.sink.now c.write.new.sink c.complete.new.sink
+    (shape_of c.args.ty.now) (datum_of c.args.value.now) c.requires.of_profile c.in_ok-write.ensures.of_type c.in_ok-write.ensures.written c.in_ok-complete.ensures
+
+pub write_open_field-returns-clause-written : goal.write_open_field-returns-clause-written
+write_open_field-returns-clause-written g t c =
+    let r = g.R.WriteLeaves.rules in
+    let ty = shape_of c.args.ty.now in
+    let v = datum_of c.args.value.now in
+    let cs = r.code ty v in
+    let n = c.in-Some.length in
+    let old = c.args.sink.now in
+    let mid = c.begin_field.new.self in
+    let then = c.write_complete.new.sink in
+    let new = c.end_field.new.self in
+    let outer = c.in_ok-outer.outer in
+    let stands = g.S.Sink.stands in
+    let keeps = g.S.Sink.keeps in
+    let wants = g.S.Sink.wants_lengths in
+    let octets = c.keep_open_laws.ensures.octets ty v c.requires.of_profile c.in_ok-write_complete.ensures.of_type in
+    let long : (wants ≡ true → n ≡ min (length (r.complete cs)) (2 ^ 61 - 1)) = rw c.in-Some.is at c.field_length.ensures.some in
+    let begun = subst (λ (f : Framing). Begins stands keeps wants c.args.level f n old mid outer) c.framing.ensures c.in_ok-outer.ensures in
+    let ends = subst (λ (f : Framing). Ends stands keeps f then outer new) c.framing-2.ensures c.in_ok-end_field.ensures in
+    pushed_same (TakesAt g.S.Sink.stands g.S.Sink.wants_lengths c.args.level) old new (open_bits_are c.keep_open_laws.ensures cs)
+    (field_taken stands keeps wants c.args.level g.R.WriteLeaves.framed_by n old mid then new outer (r.complete cs) octets long begun
+    (λ k coming at short s. c.in_ok-write_complete.ensures.written k coming (omega (arith, at)) short s) ends)
 
 -- ---- SEQUENCE
 
@@ -36,14 +71,14 @@ write-write_root-requires g t c κs within =
     let fs = c.deref.result.now in
     let vs = c.deref-in-None.result.now in
     let s = of_sequence c.args.ty.now c.args.value.now c.in-Seq.root c.in-Seq.ext c.in-Seq-value.entries fs vs c.in-Seq.is c.in-Seq-value.is c.deref.ensures.value c.deref-in-None.ensures.value in
-    (search (rules, the_lemmas), (within.0, (within.1, (parts_of_profile s c.requires.of_profile, few_components fs s.shape c.requires.of_profile))))
+    (search (rules, the_lemmas), (within.0, (within.1.0, (within.1.1.0, (within.1.1.1.0, (within.1.1.1.1, (parts_of_profile s c.requires.of_profile, (few_components fs s.shape c.requires.of_profile, root_deep c.args.level s.shape c.requires.deep))))))))
 
 pub write-write_root-requires-in-Some : goal.write-write_root-requires-in-Some
 write-write_root-requires-in-Some g t c κs within =
     let fs = c.deref-in-Some-2.result.now in
     let vs = c.deref-in-Some.result.now in
     let s = of_sequence c.args.ty.now c.args.value.now c.in-Seq.root c.in-Seq.ext c.in-Seq-value.entries fs vs c.in-Seq.is c.in-Seq-value.is c.deref-in-Some-2.ensures.value c.deref-in-Some.ensures.value in
-    (search (rules, the_lemmas), (within.0, (within.1, (parts_of_profile s c.requires.of_profile, few_components fs s.shape c.requires.of_profile))))
+    (search (rules, the_lemmas), (within.0, (within.1.0, (within.1.1.0, (within.1.1.1.0, (within.1.1.1.1, (parts_of_profile s c.requires.of_profile, (few_components fs s.shape c.requires.of_profile, root_deep c.args.level s.shape c.requires.deep))))))))
 
 pub write-write_additions-requires : goal.write-write_additions-requires
 write-write_additions-requires g t c κs within =
@@ -53,7 +88,7 @@ write-write_additions-requires g t c κs within =
     let gs = c.deref-in-Some-3.result.now in
     let more : more_fields_of c.in-Seq.ext ≡ marked (fields_of (map part_of_field gs)) = marked_fields c.in-Seq.ext c.in-Some.additions gs c.in-Some.is c.deref-in-Some-3.ensures.value in
     let type : shape_of c.args.ty.now ≡ sequence (fields_of (map part_of_field fs)) (marked (fields_of (map part_of_field gs))) = s.shape ∙ ap (λ (m : MoreFields). sequence (fields_of (map part_of_field fs)) m) more in
-    (search (rules, the_lemmas), (within.0, (within.1, (added_of_profile gs type c.requires.of_profile, (added_optional gs type c.requires.of_profile, few_added gs type c.requires.of_profile)))))
+    (search (rules, the_lemmas), (within.0, (within.1.0, (within.1.1.0, (within.1.1.1.0, (within.1.1.1.1, (added_of_profile gs type c.requires.of_profile, (added_optional gs type c.requires.of_profile, (few_added gs type c.requires.of_profile, additions_deep c.args.level type c.requires.deep)))))))))
 
 pub write-returns-in-None-clause-of_type : goal.write-returns-in-None-clause-of_type
 write-returns-in-None-clause-of_type g t c =
@@ -69,7 +104,7 @@ write-returns-in-None-clause-written g t c =
     let s = of_sequence c.args.ty.now c.args.value.now c.in-Seq.root c.in-Seq.ext c.in-Seq-value.entries fs vs c.in-Seq.is c.in-Seq-value.is c.deref.ensures.value c.deref-in-None.ensures.value in
     let none = ap more_fields_of c.in-None.is in
     written_by c.write_root.result c.write_root.ensures.of_type
-    (λ each e. unmarked_written c.keep_write_laws.ensures c.args.sink.now c.write_root.new.sink fs (more_fields_of c.in-Seq.ext) vs s c.requires.of_profile ((unmarked_fits s none).0 each) none each e)
+    (λ each e. unmarked_written (takes_laws g.S.Sink.stands g.S.Sink.wants_lengths c.args.level) c.keep_write_laws.ensures c.args.sink.now c.write_root.new.sink fs (more_fields_of c.in-Seq.ext) vs s c.requires.of_profile ((unmarked_fits s none).0 each) none each e)
     c.write_root.ensures.written
 
 pub write-returns-in_err-write_root-in-Some-clause-of_type : goal.write-returns-in_err-write_root-in-Some-clause-of_type
@@ -109,7 +144,7 @@ write-returns-in_ok-write_root-in-Some-clause-written g t c =
     let more : more_fields_of c.in-Seq.ext ≡ marked (fields_of (map part_of_field gs)) = marked_fields c.in-Seq.ext c.in-Some.additions gs c.in-Some.is c.deref-in-Some-3.ensures.value in
     let both = fits_marked fs vs gs s more c.split_at.result.0.now c.split_at.result.1.now front back in
     written_by c.write_additions.result c.write_additions.ensures.of_type
-    (λ each e. sequence_written c.keep_write_laws.ensures c.args.sink.now c.write_root-in-Some.new.sink c.write_additions.new.sink fs gs c.in-Seq.ext vs c.split_at.result.0.now c.split_at.result.1.now
+    (λ each e. sequence_written (takes_laws g.S.Sink.stands g.S.Sink.wants_lengths c.args.level) c.keep_write_laws.ensures c.args.sink.now c.write_root-in-Some.new.sink c.write_additions.new.sink fs gs c.in-Seq.ext vs c.split_at.result.0.now c.split_at.result.1.now
     c.is_any_present-extended.result s c.requires.of_profile (both.0 (c.in_ok-write_root-in-Some.ensures.of_type, each)) more front back c.is_any_present-extended.ensures c.in_ok-write_root-in-Some.ensures.written e)
     c.write_additions.ensures.written
 
@@ -121,11 +156,28 @@ write_root-returns-then-fields-entries-clause-of_type g t c = λ h. other_length
 pub write_root-returns-clause-written : goal.write_root-returns-clause-written
 write_root-returns-clause-written g t c =
     on_ok_weaker c.write_components.result
-    (λ e. root_written c.keep_write_laws.ensures c.args.sink.now c.write_preamble.new.sink c.write_components.new.sink (mark_bits c.args.extended) (bits c.presence_bitmap-count.result.0 c.presence_bitmap-count.result.1)
-    (fields_of (map part_of_field c.args.fields.now)) (map (option_map datum_of) c.args.entries.now) c.presence_bitmap-count.ensures.bitmap c.in_ok-write_preamble.ensures e)
+    (λ e. root_written (takes_laws g.S.Sink.stands g.S.Sink.wants_lengths c.args.level) c.keep_write_laws.ensures c.args.sink.now c.write_preamble.new.sink c.write_components.new.sink (mark_bits c.args.extended) (bits c.presence_bitmap-count.result.0 c.presence_bitmap-count.result.1)
+    (fields_of (map part_of_field c.args.fields.now)) (map (option_map datum_of) c.args.entries.now) c.presence_bitmap-count.ensures.bitmap (pushed_at g.S.Sink.stands g.S.Sink.wants_lengths c.args.level g.met.S.Sink.pushes_stand c.in_ok-write_preamble.ensures) e)
     c.write_components.ensures.written
 
 -- ---- its components
+
+pub write_components-loop-field-init : goal.write_components-loop-field-init
+write_components-loop-field-init g t c =
+    let e : c.into_iter-field-iterator.result.a.rest.now ≡ c.args.fields.now = search (rules, the_lemmas) in
+    let f : c.into_iter-field-iterator.result.b.rest.now ≡ c.args.entries.now = search (rules, the_lemmas) in
+    rw (e, f)
+    (written_starts (takes_laws g.S.Sink.stands g.S.Sink.wants_lengths c.args.level) (each_bits g.R.WriteLeaves.rules) c.args.sink.now (map part_of_field c.args.fields.now) (map (option_map datum_of) c.args.entries.now) (record { of_profile = c.requires.of_profile; each = simp length-map c.requires.each }))
+
+pub write_components-loop-field-preserved : goal.write_components-loop-field-preserved
+write_components-loop-field-preserved g t c =
+    let e : c.loop-field.field-iterator.a.rest.now ≡ c.in-Some.field.now ∷ c.next.new.self.a.rest.now = c.in-Some.ensures.steps.0 in
+    let f : c.loop-field.field-iterator.b.rest.now ≡ c.in-Some.entry.now ∷ c.next.new.self.b.rest.now = c.in-Some.ensures.steps.1 in
+    let d = datum_of c.in-Some-entry.value in
+    let some : option_map datum_of c.in-Some.entry.now ≡ Some d = ap (option_map datum_of) c.in-Some-entry.is in
+    let passed : is_spelled (part_of_field c.in-Some.field.now).demand (Some d) ≡ false =
+    ap (is_spelled (part_of_field c.in-Some.field.now).demand) (sym some) ∙ sym c.is_encoded.ensures ∙ c.if-is_encoded.false in
+    written_passes g.R.WriteLeaves.rules (rw (e, f, some) at c.loop-field.invariant) passed
 
 pub write_components-loop-field-preserved-in-loop-field : goal.write_components-loop-field-preserved-in-loop-field
 write_components-loop-field-preserved-in-loop-field g t c =
@@ -142,7 +194,8 @@ write_components-loop-field-preserved-in-loop-field g t c =
     let own : FitsNumber (range_of i.bounds) i.number = rw same at c.in_ok-write_number.ensures.of_type in
     let fits : Fits (part_of_field c.in-Some.field.now).shape (number i.number) = rw shape own in
     written_more c.keep_write_laws.ensures (rw (e, f, some) at c.loop-field.invariant) spelt fits
-    (rw same at c.in_ok-write_number.ensures.written ∙ ap (λ (x : Shape). c.loop-field.sink ++ written g.R.WriteLeaves.rules (g.R.WriteLeaves.rules.code x (number i.number))) (sym shape))
+    (pushed_at g.S.Sink.stands g.S.Sink.wants_lengths c.args.level g.met.S.Sink.pushes_stand
+    (subst (λ (x : Shape). g.S.Sink.pushes c.loop-field.sink c.write_number.new.sink (written g.R.WriteLeaves.rules (g.R.WriteLeaves.rules.code x (number i.number)))) (sym shape) (rw same at c.in_ok-write_number.ensures.written)))
 
 pub write_components-loop-field-preserved-in_ok-write : goal.write_components-loop-field-preserved-in_ok-write
 write_components-loop-field-preserved-in_ok-write g t c =
@@ -154,7 +207,7 @@ write_components-loop-field-preserved-in_ok-write g t c =
     let spelt : is_spelled (part_of_field c.in-Some.field.now).demand (Some d) ≡ true =
     ap (is_spelled (part_of_field c.in-Some.field.now).demand) (sym some) ∙ sym c.is_encoded.ensures ∙ c.if-is_encoded.true in
     written_more c.keep_write_laws.ensures (rw (e, f, some) at c.loop-field.invariant) spelt (subst (λ (x : Shape). Fits x d) (sym shape) c.in_ok-write.ensures.of_type)
-    (c.in_ok-write.ensures.written ∙ ap (λ (x : Shape). c.loop-field.sink ++ written g.R.WriteLeaves.rules (g.R.WriteLeaves.rules.code x d)) (sym shape))
+    (subst (λ (x : Shape). Writes (TakesAt g.S.Sink.stands g.S.Sink.wants_lengths c.args.level) g.R.WriteLeaves.rules c.loop-field.sink c.write.new.sink (g.R.WriteLeaves.rules.code x d)) (sym shape) c.in_ok-write.ensures.written)
 
 -- ---- its additions
 
@@ -173,9 +226,16 @@ write_additions-write_addition_bitmap-requires-clause-some g t c =
 pub write_additions-returns-clause-written : goal.write_additions-returns-clause-written
 write_additions-returns-clause-written g t c =
     on_ok_weaker c.write_open_components.result
-    (λ e. additions_written c.keep_write_laws.ensures c.args.sink.now c.write_addition_bitmap.new.sink c.write_open_components.new.sink (bits c.presence_bitmap-count.result.0 c.presence_bitmap-count.result.1)
-    (fields_of (map part_of_field c.args.fields.now)) (map (option_map datum_of) c.args.entries.now) (sym c.is_any_present.ensures ∙ c.if-not-is_any_present.false) c.presence_bitmap-count.ensures.bitmap c.in_ok-write_addition_bitmap.ensures e)
+    (λ e. additions_written (takes_laws g.S.Sink.stands g.S.Sink.wants_lengths c.args.level) c.keep_write_laws.ensures c.args.sink.now c.write_addition_bitmap.new.sink c.write_open_components.new.sink (bits c.presence_bitmap-count.result.0 c.presence_bitmap-count.result.1)
+    (fields_of (map part_of_field c.args.fields.now)) (map (option_map datum_of) c.args.entries.now) (sym c.is_any_present.ensures ∙ c.if-not-is_any_present.false) c.presence_bitmap-count.ensures.bitmap (pushed_at g.S.Sink.stands g.S.Sink.wants_lengths c.args.level g.met.S.Sink.pushes_stand c.in_ok-write_addition_bitmap.ensures) e)
     c.write_open_components.ensures.written
+
+pub write_open_components-loop-field-init : goal.write_open_components-loop-field-init
+write_open_components-loop-field-init g t c =
+    let e : c.into_iter-field-iterator.result.a.rest.now ≡ c.args.fields.now = search (rules, the_lemmas) in
+    let f : c.into_iter-field-iterator.result.b.rest.now ≡ c.args.entries.now = search (rules, the_lemmas) in
+    rw (e, f)
+    (opened_starts (takes_laws g.S.Sink.stands g.S.Sink.wants_lengths c.args.level) g.R.WriteLeaves.rules c.args.sink.now (map part_of_field c.args.fields.now) (map (option_map datum_of) c.args.entries.now) (record { of_profile = c.requires.of_profile; each = simp length-map c.requires.each }) c.requires.optional)
 
 pub write_open_components-loop-field-preserved : goal.write_open_components-loop-field-preserved
 write_open_components-loop-field-preserved g t c =
@@ -186,7 +246,7 @@ write_open_components-loop-field-preserved g t c =
     let shape = shape_of_part c.in-Some.field.now in
     let r = g.R.WriteLeaves.rules in
     opened_more c.keep_write_laws.ensures (rw (e, f, some) at c.loop-field.invariant) (subst (λ (x : Shape). Fits x d) (sym shape) c.in_ok-write_open_field.ensures.of_type)
-    (c.in_ok-write_open_field.ensures.written ∙ ap (λ (x : Shape). c.loop-field.sink ++ written r (in_open_field r (r.code x d))) (sym shape))
+    (subst (λ (x : Shape). Writes (TakesAt g.S.Sink.stands g.S.Sink.wants_lengths c.args.level) r c.loop-field.sink c.write_open_field.new.sink (in_open_field r (r.code x d))) (sym shape) c.in_ok-write_open_field.ensures.written)
 
 -- ---- SEQUENCE OF
 
@@ -198,7 +258,7 @@ write_list-returns-then-not-length_fits-clause-of_type g t c =
     other_count element s vs (λ few. no_truth (rw c.if-not-length_fits.true at (c.length_fits.ensures.1 few)))
 
 pub write_list-write_elements-requires : goal.write_list-write_elements-requires
-write_list-write_elements-requires g t c κs within = (search (rules, the_lemmas), (within.0, (within.1, element_of_profile (shape_of c.args.element.now) (size_range_of c.args.size.now) c.requires.of_profile)))
+write_list-write_elements-requires g t c κs within = (search (rules, the_lemmas), (within.0, (within.1.0, (within.1.1.0, (within.1.1.1.0, (within.1.1.1.1, (element_of_profile (shape_of c.args.element.now) (size_range_of c.args.size.now) c.requires.of_profile, omega (arith, c.requires.deep))))))))
 
 pub write_list-returns-in_err-write_elements-clause-of_type : goal.write_list-returns-in_err-write_elements-clause-of_type
 write_list-returns-in_err-write_elements-clause-of_type g t c =
@@ -211,11 +271,15 @@ write_list-returns-in_err-write_elements-clause-of_type g t c =
     (λ f. (both.1 (c.loop-fragments.invariant.fits.1 ((list_fits element s vs few).1 f))).0)
     c.in_err-write_elements.ensures.of_type
 
+pub write_list-loop-fragments-init : goal.write_list-loop-fragments-init
+write_list-loop-fragments-init g t c =
+    fragments_start (takes_laws g.S.Sink.stands g.S.Sink.wants_lengths c.args.level) g.R.WriteLeaves.rules (shape_of c.args.element.now) (g.R.WriteLeaves.rest c.in_ok-fragments.fragments) c.args.values.now c.start_list.new.sink
+
 pub write_list-loop-fragments-preserved : goal.write_list-loop-fragments-preserved
 write_list-loop-fragments-preserved g t c =
     let left = c.loop-fragments.left.now in
-    let next : Advances g.R.WriteLeaves.rules (g.R.WriteLeaves.rest c.loop-fragments.fragments) (length left) c.loop-fragments.sink (g.R.WriteLeaves.rest c.next_fragment.new.fragments) c.next_fragment.new.sink (Some c.in-Some.count) =
-    rw c.in-Some.is at c.in_ok-count.ensures in
+    let next : Advances (TakesAt g.S.Sink.stands g.S.Sink.wants_lengths c.args.level) g.R.WriteLeaves.rules (g.R.WriteLeaves.rest c.loop-fragments.fragments) (length left) c.loop-fragments.sink (g.R.WriteLeaves.rest c.next_fragment.new.fragments) c.next_fragment.new.sink (Some c.in-Some.count) =
+    advances_at (λ a b xs p. takes_pushed g.S.Sink.stands g.S.Sink.wants_lengths c.args.level a b xs (g.met.S.Sink.pushes_stand a b xs p)) g.R.WriteLeaves.rules (g.R.WriteLeaves.rest c.loop-fragments.fragments) (g.R.WriteLeaves.rest c.next_fragment.new.fragments) (length left) c.loop-fragments.sink c.next_fragment.new.sink (Some c.in-Some.count) (rw c.in-Some.is at c.in_ok-count.ensures) in
     fragments_next c.keep_write_laws.ensures (g.R.WriteLeaves.rest c.next_fragment.new.fragments) c.in-Some.count (length left) c.next_fragment.new.sink c.write_elements.new.sink c.split_at.result.0.now c.split_at.result.1.now
     c.loop-fragments.invariant refl next c.split_at.ensures.front c.split_at.ensures.back c.in_ok-write_elements.ensures.of_type c.in_ok-write_elements.ensures.written
 
@@ -226,8 +290,8 @@ write_list-returns-clause-of_type g t c =
     let vs = c.args.values.now in
     let few : FitsLength s (length vs) = c.length_fits.ensures.0 (rw c.if-not-length_fits.false refl) in
     let left = c.loop-fragments.left.now in
-    let end : Advances g.R.WriteLeaves.rules (g.R.WriteLeaves.rest c.loop-fragments.fragments) (length left) c.loop-fragments.sink (g.R.WriteLeaves.rest c.next_fragment.new.fragments) c.next_fragment.new.sink None =
-    rw c.in_default.is at c.in_ok-count.ensures in
+    let end : Advances (TakesAt g.S.Sink.stands g.S.Sink.wants_lengths c.args.level) g.R.WriteLeaves.rules (g.R.WriteLeaves.rest c.loop-fragments.fragments) (length left) c.loop-fragments.sink (g.R.WriteLeaves.rest c.next_fragment.new.fragments) c.next_fragment.new.sink None =
+    advances_at (λ a b xs p. takes_pushed g.S.Sink.stands g.S.Sink.wants_lengths c.args.level a b xs (g.met.S.Sink.pushes_stand a b xs p)) g.R.WriteLeaves.rules (g.R.WriteLeaves.rest c.loop-fragments.fragments) (g.R.WriteLeaves.rest c.next_fragment.new.fragments) (length left) c.loop-fragments.sink c.next_fragment.new.sink None (rw c.in_default.is at c.in_ok-count.ensures) in
     (list_fits element s vs few).0 (fragments_fit (length left) c.loop-fragments.invariant refl end.0)
 
 pub write_list-returns-clause-written : goal.write_list-returns-clause-written
@@ -236,10 +300,15 @@ write_list-returns-clause-written g t c =
     let s = size_range_of c.args.size.now in
     let vs = c.args.values.now in
     let left = c.loop-fragments.left.now in
-    let end : Advances g.R.WriteLeaves.rules (g.R.WriteLeaves.rest c.loop-fragments.fragments) (length left) c.loop-fragments.sink (g.R.WriteLeaves.rest c.next_fragment.new.fragments) c.next_fragment.new.sink None =
-    rw c.in_default.is at c.in_ok-count.ensures in
-    list_written c.keep_write_laws.ensures element s (g.R.WriteLeaves.rest c.in_ok-fragments.fragments) vs c.args.sink.now c.start_list.new.sink c.next_fragment.new.sink (length vs) c.in_ok-fragments.ensures refl
-    (fragments_end c.keep_write_laws.ensures (g.R.WriteLeaves.rest c.next_fragment.new.fragments) (length left) c.next_fragment.new.sink c.loop-fragments.invariant refl end)
+    let end : Advances (TakesAt g.S.Sink.stands g.S.Sink.wants_lengths c.args.level) g.R.WriteLeaves.rules (g.R.WriteLeaves.rest c.loop-fragments.fragments) (length left) c.loop-fragments.sink (g.R.WriteLeaves.rest c.next_fragment.new.fragments) c.next_fragment.new.sink None =
+    advances_at (λ a b xs p. takes_pushed g.S.Sink.stands g.S.Sink.wants_lengths c.args.level a b xs (g.met.S.Sink.pushes_stand a b xs p)) g.R.WriteLeaves.rules (g.R.WriteLeaves.rest c.loop-fragments.fragments) (g.R.WriteLeaves.rest c.next_fragment.new.fragments) (length left) c.loop-fragments.sink c.next_fragment.new.sink None (rw c.in_default.is at c.in_ok-count.ensures) in
+    list_written (takes_laws g.S.Sink.stands g.S.Sink.wants_lengths c.args.level) c.keep_write_laws.ensures element s (g.R.WriteLeaves.rest c.in_ok-fragments.fragments) vs c.args.sink.now c.start_list.new.sink c.next_fragment.new.sink (length vs)
+    (λ items n. leaves_at (λ a b xs p. takes_pushed g.S.Sink.stands g.S.Sink.wants_lengths c.args.level a b xs (g.met.S.Sink.pushes_stand a b xs p)) (c.in_ok-fragments.ensures items n)) refl
+    (fragments_end (g.R.WriteLeaves.rest c.next_fragment.new.fragments) (length left) c.next_fragment.new.sink c.loop-fragments.invariant refl end)
+
+pub write_elements-loop-value-init : goal.write_elements-loop-value-init
+write_elements-loop-value-init g t c =
+    elements_start (takes_laws g.S.Sink.stands g.S.Sink.wants_lengths c.args.level) g.R.WriteLeaves.rules (shape_of c.args.element.now) (map datum_of c.args.values.now) c.args.sink.now
 
 pub write_elements-loop-value-preserved : goal.write_elements-loop-value-preserved
 write_elements-loop-value-preserved g t c =
@@ -255,7 +324,7 @@ pub write-write_alternative-requires : goal.write-write_alternative-requires
 write-write_alternative-requires g t c κs within =
     let alts = c.deref-then-index-known.result.now in
     let inside : c.in-Choice-value.tag < length alts = omega (arith, c.if-index-known.true, c.len-known.ensures, c.deref-then-index-known.ensures.len) in
-    (search (rules, the_lemmas), (within.0, (within.1, (roots_good c.args.ty.now c.in-Choice.root c.in-Choice.ext c.in-Choice.is c.requires.of_profile alts c.deref-then-index-known.ensures.value, inside))))
+    (search (rules, the_lemmas), (within.0, (within.1.0, (within.1.1.0, (within.1.1.1.0, (within.1.1.1.1, (roots_good c.args.ty.now c.in-Choice.root c.in-Choice.ext c.in-Choice.is c.requires.of_profile alts c.deref-then-index-known.ensures.value, (inside, roots_deep c.args.level c.args.ty.now c.in-Choice.root c.in-Choice.ext c.in-Choice.is c.requires.deep alts c.deref-then-index-known.ensures.value))))))))
 
 pub write-returns-then-index-known-clause-of_type : goal.write-returns-then-index-known-clause-of_type
 write-returns-then-index-known-clause-of_type g t c =
@@ -267,8 +336,8 @@ write-returns-then-index-known-clause-of_type g t c =
 pub write-returns-then-index-known-clause-written : goal.write-returns-then-index-known-clause-written
 write-returns-then-index-known-clause-written g t c =
     on_ok_weaker c.write_alternative.result
-    (λ e. choice_root_written c.args.ty.now c.args.value.now c.in-Choice.root c.in-Choice.ext c.in-Choice-value.tag c.in-Choice-value.chosen c.in-Choice.is c.in-Choice-value.is c.len-known.result c.len-known.ensures c.keep_write_laws.ensures
-    c.if-index-known.true c.deref-then-index-known.result.now c.deref-then-index-known-2.result.now c.args.sink.now c.write_index.new.sink c.write_alternative.new.sink c.is_some.result c.deref-then-index-known.ensures.value c.deref-then-index-known-2.ensures c.is_some.ensures c.in_ok-write_index-in-Choice.ensures e)
+    (λ e. choice_root_written c.args.ty.now c.args.value.now c.in-Choice.root c.in-Choice.ext c.in-Choice-value.tag c.in-Choice-value.chosen c.in-Choice.is c.in-Choice-value.is c.len-known.result c.len-known.ensures (takes_laws g.S.Sink.stands g.S.Sink.wants_lengths c.args.level) c.keep_write_laws.ensures
+    c.if-index-known.true c.deref-then-index-known.result.now c.deref-then-index-known-2.result.now c.args.sink.now c.write_index.new.sink c.write_alternative.new.sink c.is_some.result c.deref-then-index-known.ensures.value c.deref-then-index-known-2.ensures c.is_some.ensures (pushed_at g.S.Sink.stands g.S.Sink.wants_lengths c.args.level g.met.S.Sink.pushes_stand c.in_ok-write_index-in-Choice.ensures) e)
     c.write_alternative.ensures.written
 
 pub write-write_index-requires-in-Some-ext-clause-few : goal.write-write_index-requires-in-Some-ext-clause-few
@@ -284,7 +353,7 @@ pub write-write_added_alternative-requires : goal.write-write_added_alternative-
 write-write_added_alternative-requires g t c κs within =
     let more = c.deref-in-Some-ext.result.now in
     let inside : c.in-Choice-value.tag - c.len-known.result < length more = omega (arith, c.if-index-known-2.true, c.deref-in-Some-ext.ensures.len) in
-    (search (rules, the_lemmas), (within.0, (within.1, (additions_good c.args.ty.now c.in-Choice.root c.in-Choice.ext c.in-Choice.is c.requires.of_profile c.in-Some-ext.additions more c.in-Some-ext.is c.deref-in-Some-ext.ensures.value, inside))))
+    (search (rules, the_lemmas), (within.0, (within.1.0, (within.1.1.0, (within.1.1.1.0, (within.1.1.1.1, (additions_good c.args.ty.now c.in-Choice.root c.in-Choice.ext c.in-Choice.is c.requires.of_profile c.in-Some-ext.additions more c.in-Some-ext.is c.deref-in-Some-ext.ensures.value, (inside, added_deep c.args.level c.args.ty.now c.in-Choice.root c.in-Choice.ext c.in-Choice.is c.requires.deep c.in-Some-ext.additions more c.in-Some-ext.is c.deref-in-Some-ext.ensures.value))))))))
 
 pub write-returns-in_ok-write_index-in-Some-ext-clause-of_type : goal.write-returns-in_ok-write_index-in-Some-ext-clause-of_type
 write-returns-in_ok-write_index-in-Some-ext-clause-of_type g t c =
@@ -296,23 +365,23 @@ write-returns-in_ok-write_index-in-Some-ext-clause-of_type g t c =
 pub write-returns-in_ok-write_index-in-Some-ext-clause-written : goal.write-returns-in_ok-write_index-in-Some-ext-clause-written
 write-returns-in_ok-write_index-in-Some-ext-clause-written g t c =
     on_ok_weaker c.write_added_alternative.result
-    (λ e. choice_added_written c.args.ty.now c.args.value.now c.in-Choice.root c.in-Choice.ext c.in-Choice-value.tag c.in-Choice-value.chosen c.in-Choice.is c.in-Choice-value.is c.len-known.result c.len-known.ensures c.keep_write_laws.ensures
-    c.if-index-known.false c.in-Some-ext.additions c.deref-in-Some-ext.result.now c.deref-in-Some-ext-2.result.now c.args.sink.now c.write_index-in-Some-ext.new.sink c.write_added_alternative.new.sink c.in-Some-ext.is c.deref-in-Some-ext.ensures.value c.deref-in-Some-ext-2.ensures c.in_ok-write_index-in-Some-ext.ensures e)
+    (λ e. choice_added_written c.args.ty.now c.args.value.now c.in-Choice.root c.in-Choice.ext c.in-Choice-value.tag c.in-Choice-value.chosen c.in-Choice.is c.in-Choice-value.is c.len-known.result c.len-known.ensures (takes_laws g.S.Sink.stands g.S.Sink.wants_lengths c.args.level) c.keep_write_laws.ensures
+    c.if-index-known.false c.in-Some-ext.additions c.deref-in-Some-ext.result.now c.deref-in-Some-ext-2.result.now c.args.sink.now c.write_index-in-Some-ext.new.sink c.write_added_alternative.new.sink c.in-Some-ext.is c.deref-in-Some-ext.ensures.value c.deref-in-Some-ext-2.ensures (pushed_at g.S.Sink.stands g.S.Sink.wants_lengths c.args.level g.met.S.Sink.pushes_stand c.in_ok-write_index-in-Some-ext.ensures) e)
     c.write_added_alternative.ensures.written
 
 pub write-returns-in_default-ext-clause-of_type : goal.write-returns-in_default-ext-clause-of_type
-write-returns-in_default-ext-clause-of_type g t c =
-    past_additions c.args.ty.now c.args.value.now c.in-Choice.root c.in-Choice.ext c.in-Choice-value.tag c.in-Choice-value.chosen c.in-Choice.is c.in-Choice-value.is c.len-known.result c.len-known.ensures
-    c.if-index-known.false c.in-Some-ext.additions c.in-Some-ext.is (omega (arith, c.if-index-known-2.false))
-
-pub write-returns-in_default-ext-2-clause-of_type : goal.write-returns-in_default-ext-2-clause-of_type
-write-returns-in_default-ext-2-clause-of_type g t c =
-    past_root c.args.ty.now c.args.value.now c.in-Choice.root c.in-Choice.ext c.in-Choice-value.tag c.in-Choice-value.chosen c.in-Choice.is c.in-Choice-value.is c.len-known.result c.len-known.ensures
-    c.if-index-known.false c.in_default-ext.is
+write-returns-in_default-ext-clause-of_type g t c = elim c.in_default-ext.branch [
+  | write-in_default-ext-via-in-Some-ext+else-index-known-2 w ↦
+      past_additions c.args.ty.now c.args.value.now c.in-Choice.root c.in-Choice.ext c.in-Choice-value.tag c.in-Choice-value.chosen c.in-Choice.is c.in-Choice-value.is c.len-known.result c.len-known.ensures
+      c.if-index-known.false w.in-Some-ext.additions w.in-Some-ext.is (omega (arith, w.if-index-known-2.false))
+  | write-in_default-ext-via-in_default-ext w ↦
+      past_root c.args.ty.now c.args.value.now c.in-Choice.root c.in-Choice.ext c.in-Choice-value.tag c.in-Choice-value.chosen c.in-Choice.is c.in-Choice-value.is c.len-known.result c.len-known.ensures
+      c.if-index-known.false w.in_default-ext.is
+]
 
 pub write_alternative-write-requires : goal.write_alternative-write-requires
 write_alternative-write-requires g t c κs within =
-    (search (rules, the_lemmas), (within.0, (within.1, good_at c.args.alternatives.now c.args.index c.index-alternatives-index.result c.requires.of_profile c.requires.inside)))
+    (search (rules, the_lemmas), (within.0, (within.1.0, (within.1.1.0, (within.1.1.1.0, (within.1.1.1.1, (good_at c.args.alternatives.now c.args.index c.index-alternatives-index.result c.requires.of_profile c.requires.inside, (let d = deep_at c.args.alternatives.now c.args.index c.index-alternatives-index.result c.requires.inside in omega (arith, d, c.requires.deep)))))))))
 
 pub write_alternative-returns-clause-of_type : goal.write_alternative-returns-clause-of_type
 write_alternative-returns-clause-of_type g t c =
@@ -325,7 +394,7 @@ write_alternative-returns-clause-written g t c =
 
 pub write_added_alternative-write_open_field-requires : goal.write_added_alternative-write_open_field-requires
 write_added_alternative-write_open_field-requires g t c κs within =
-    (search (rules, the_lemmas), (within.0, (within.1, good_at c.args.alternatives.now c.args.index c.index-alternatives-index.result c.requires.of_profile c.requires.inside)))
+    (search (rules, the_lemmas), (within.0, (within.1.0, (within.1.1.0, (within.1.1.1.0, (within.1.1.1.1, (good_at c.args.alternatives.now c.args.index c.index-alternatives-index.result c.requires.of_profile c.requires.inside, (let d = deep_at c.args.alternatives.now c.args.index c.index-alternatives-index.result c.requires.inside in omega (arith, d, c.requires.deep)))))))))
 
 pub write_added_alternative-returns-clause-of_type : goal.write_added_alternative-returns-clause-of_type
 write_added_alternative-returns-clause-of_type g t c =

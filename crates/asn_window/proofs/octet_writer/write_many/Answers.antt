@@ -4,6 +4,7 @@ use Rattle.std.proofs.Math.Seq.{take-add}
 use Rattle.std.specs.Io.KnownBytes.{Appends}
 use Rattle.asn_rules.specs.Faults.{inner_of}
 use Rattle.asn_rules.proofs.Known.{appends_twice}
+use Rattle.asn_window.proofs.Delivered.{all_octets}
 use Rattle.asn_window.proofs.octet_writer.write_many.Goals as goal
 
 pub loop-done-preserved : goal.loop-done-preserved
@@ -22,3 +23,9 @@ loop-done-preserved g c =
       subst (λ t. Appends (g.W.Write.contents (inner_of c.args.output.now)) (g.W.Write.contents (inner_of c.write_some-count.new.output)) t) (sym (take-add done count xs)) both,
       c.write_some-count.ensures.same some ∙ first.2,
     )
+
+pub returns-clause-octets : goal.returns-clause-octets
+returns-clause-octets g c = all_octets c.args.octets.now (λ i. omega (arith, c.type_inv.octets i))
+
+pub returns-then-count-eq0-clause-octets : goal.returns-then-count-eq0-clause-octets
+returns-then-count-eq0-clause-octets g c = all_octets c.args.octets.now (λ i. omega (arith, c.type_inv.octets i))

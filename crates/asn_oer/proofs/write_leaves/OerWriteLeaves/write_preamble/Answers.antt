@@ -3,6 +3,7 @@ use Rattle.std.proofs.lemmas.Result.{on_ok_weaker}
 use Rattle.asn_bits.specs.Numbers.{bits, padding}
 use Rattle.asn_bits.proofs.FilledBits.{AreBits, bits_append}
 use Rattle.asn_bits.proofs.Prefixes.{bit_below}
+use Rattle.asn_sinks.proofs.Pushing.{pushed_same}
 use Rattle.asn_rules.specs.OctetsWritten.{flagged}
 use Rattle.asn_walk.specs.Writing.{mark_bits}
 use Rattle.asn_oer.specs.Rules.{oer_ruling}
@@ -22,11 +23,12 @@ flagged_is (Some b) bs = refl
 
 pub returns : goal.returns
 unfolding oer_coding oer_ruling
-returns c =
+returns g c =
     let old = c.args.sink.now in
     let e = c.args.extended in
     let bitmap = bits c.args.count c.args.bitmap in
     on_ok_weaker c.write_flags.result
-    (λ w. w ∙ ap (λ (t : List ℕ). old ++ (t ++ padding (length t))) (flagged_is e bitmap)
-    ∙ ap (λ (t : List ℕ). old ++ t) (sym (filled_is (mark_bits e ++ bitmap) (bits_append (mark_bits e) bitmap (mark_is_bits e) (digits_bits c.args.count c.args.bitmap)))))
+    (pushed_same g.S.Sink.pushes old c.write_flags.new.sink
+    (ap (λ (t : List ℕ). t ++ padding (length t)) (flagged_is e bitmap)
+    ∙ sym (filled_is (mark_bits e ++ bitmap) (bits_append (mark_bits e) bitmap (mark_is_bits e) (digits_bits c.args.count c.args.bitmap)))))
     c.write_flags.ensures

@@ -1,20 +1,20 @@
-use Rattle.std.proofs.Common.{◌≡◌, ℕ, List, ◌++◌, OnOk, Result, Ok, Err, sym, ap, ◌∙◌, append_assoc}
+use Rattle.std.proofs.Common.{◌≡◌, ℕ, List, ◌++◌, sym, ap}
+use Rattle.std.proofs.lemmas.Result.{on_ok_weaker}
 use Rattle.asn_bits.specs.Numbers.{bits}
 use Rattle.asn_bits.proofs.Octets.{length-digits}
+use Rattle.asn_sinks.proofs.Pushing.{pushed_same}
 use Rattle.asn_per.specs.Per.{small_length}
 use Rattle.asn_per.specs.Walk.{per_coding}
 use Rattle.asn_per.proofs.write_leaves.PerWriteLeaves.write_addition_bitmap.Goals as goal
 
-on_ok_weaker : {X Y : Type 0} (r : Result X Y) (P Q : Type 0) → (P → Q) → OnOk r P → OnOk r Q
-on_ok_weaker (Ok x) P Q f h = f h
-on_ok_weaker (Err y) P Q f h = tt
-
 pub returns : goal.returns
 unfolding per_coding
-returns c =
+returns g c =
     let old = c.args.sink.now in
+    let mid = c.write_small_length.new.sink in
+    let new = c.push_number.new.self in
     let bitmap = bits c.args.count c.args.bitmap in
-    let first : c.write_small_length.new.sink ≡ old ++ small_length c.args.count = c.in_ok-write_small_length.ensures in
-    on_ok_weaker c.push_number.result _ _
-    (λ e. e ∙ ap (λ (l : List ℕ). l ++ bitmap) first ∙ append_assoc old (small_length c.args.count) bitmap ∙ ap (λ (k : ℕ). old ++ (small_length k ++ bitmap)) (sym (length-digits 2 c.args.count c.args.bitmap)))
-    c.push_number.ensures.ok
+    on_ok_weaker c.push_number.result
+    (λ e. pushed_same g.S.Sink.pushes old new (ap (λ (k : ℕ). small_length k ++ bitmap) (sym (length-digits 2 c.args.count c.args.bitmap)))
+    (g.met.S.Sink.pushes_joined old mid new (small_length c.args.count) bitmap c.in_ok-write_small_length.ensures e))
+    c.push_number.ensures

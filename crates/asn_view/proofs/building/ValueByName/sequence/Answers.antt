@@ -1,4 +1,4 @@
-use Rattle.std.proofs.Common.{◌≡◌, ◌∙◌, ◌++◌, Some, option_map, sym, ap}
+use Rattle.std.proofs.Common.{◌∙◌, ◌++◌, Some, option_map, sym, ap}
 use Rattle.std.proofs.lemmas.Result.{err_from_is_err_and}
 use Rattle.asn_values.specs.LookUp.{added}
 use Rattle.asn_values.proofs.Views.{datum_of-Seq}

@@ -1,6 +1,4 @@
 use Rattle.std.proofs.Common.{◌≡◌, ◌∙◌, ◌<◌, ◌+◌, false, true, [], length, drop, get_or, Some, None, sym, ap, arith}
-use Rattle.std.specs.Option.{option_and_then}
-use Rattle.asn_view.specs.Typed.{Typed}
 use Rattle.asn_view.specs.Paths.{is_separator, value_after, value_at_step}
 use Rattle.asn_view.specs.Seen.{seen}
 use Rattle.asn_view.proofs.Pieces.{piece_of, piece_goes_on, piece_ends, nothing_after}

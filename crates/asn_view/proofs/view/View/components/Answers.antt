@@ -1,4 +1,4 @@
-use Rattle.std.proofs.Common.{◌≡◌, ◌∙◌, ◌++◌, ap₂, sym, map}
+use Rattle.std.proofs.Common.{◌∙◌, ◌++◌, ap₂, sym, map}
 use Rattle.asn_values.specs.LookUp.{added}
 use Rattle.asn_values.specs.View.{part_of_field, entries_seen}
 use Rattle.asn_view.specs.Typed.{values_of_parts}

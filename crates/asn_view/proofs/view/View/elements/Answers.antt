@@ -1,4 +1,4 @@
-use Rattle.std.proofs.Common.{◌≡◌, ◌∙◌, ap, sym, map}
+use Rattle.std.proofs.Common.{◌∙◌, ap, sym, map}
 use Rattle.asn_values.specs.View.{shape_of, datum_of}
 use Rattle.asn_view.specs.Typed.{typed}
 use Rattle.asn_view.proofs.PartLists.{elements_of_list}

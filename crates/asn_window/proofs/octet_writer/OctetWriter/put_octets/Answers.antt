@@ -6,7 +6,7 @@ use Rattle.asn_bits.proofs.Splits.{unpacked-append}
 use Rattle.asn_rules.specs.Faults.{state_of}
 use Rattle.asn_window.specs.OctetWriters.{OctetsStand}
 use Rattle.asn_window.proofs.Delivered.{retold}
-use Rattle.asn_window.proofs.Shifting.{behind}
+use Rattle.asn_window.proofs.Shifting.{after_waiting}
 use Rattle.asn_window.proofs.octet_writer.OctetWriter.put_octets.Goals as goal
 
 pub loop-rest-preserved : goal.loop-rest-preserved
@@ -21,7 +21,7 @@ loop-rest-preserved g c start coming all told =
     ap (λ t. t ++ coming) (ap unpacked parts ∙ unpacked-append front others) ∙ append_assoc (unpacked front) (unpacked others) coming in
     let now = c.make_room.ensures.told start (unpacked rest ++ coming) all (c.loop-rest.invariant start coming all told) in
     retold (ap (λ t. unpacked c.make_room.new.self.buffer ++ t) cut
-    ∙ behind c.make_room.new.self.buffer front (unpacked front) (unpacked others ++ coming) c.extend.new.self c.extend.ensures refl) now
+    ∙ after_waiting c.make_room.new.self.buffer front (unpacked front) (unpacked others ++ coming) c.extend.new.self c.extend.ensures refl) now
 
 pub returns : goal.returns
 returns g c start coming all told =

@@ -1,6 +1,7 @@
 -- What waited was written, as far as could be.
-use Rattle.std.proofs.Common.{arith, ◌≡◌, ◌++◌, length, take, List, ℕ, subst, nat_lt, sym, ap, ◌∙◌}
+use Rattle.std.proofs.Common.{arith, ◌<◌, ◌≡◌, ◌++◌, length, take, List, ℕ, subst, nat_lt, sym, ap, ◌∙◌}
 use Rattle.std.proofs.lemmas.Bool.{ltb-true, ltb-false}
+use Rattle.std.specs.List.{AllByRecursion}
 use Rattle.std.specs.Io.KnownBytes.{Appends}
 use Rattle.asn_bits.specs.Numbers.{unpacked}
 use Rattle.asn_rules.specs.Faults.{state_of, inner_of}
@@ -15,7 +16,7 @@ returns-clause-told g c start coming all told =
     let long : length c.as_slice.result.now ≡ length w = ap length octets in
     let count : c.len.result ≡ length w = c.len.ensures in
     let wrote = c.write_many-many.ensures in
-    let done = written_on {next = state_of g.W.Write.contents c.write_many-many.new.output} {more = c.saturating_add-self.result} {failed = nat_lt many c.len.result} w many c.if-self.false told
+    let done = written_on {next = state_of g.W.Write.contents c.write_many-many.new.output} {more = c.saturating_add-self.result} {failed = nat_lt many c.len.result} w many c.if-self.false (subst (λ (xs : List ℕ). AllByRecursion (λ o. o < 256) xs) octets wrote.octets) told
     (omega (arith, wrote.few, long))
     (subst (λ (xs : List ℕ). Appends (g.W.Write.contents (inner_of c.args.output.now)) (g.W.Write.contents (inner_of c.write_many-many.new.output)) (take many xs)) octets wrote.written)
     c.saturating_add-self.ensures

@@ -1,0 +1,11 @@
+use Rattle.std.proofs.Common.{length}
+use denote.Text.{Utf8}
+use denote.Shadow.{shadow}
+use Rattle.asn_notation.specs.Lexing.{lexed}
+use Rattle.asn_module.proofs.places.name_at.Given as goal
+
+abbrev pub invariant-tokens : goal.invariant-tokens
+invariant-tokens l = shadow (Utf8 l.rest)
+
+abbrev pub decreases-tokens : goal.decreases-tokens
+decreases-tokens l = length (lexed l.rest)

@@ -1,0 +1,17 @@
+-- Which numbers are left, where sets of them may be all.
+use Rattle.std.specs.Prelude.{ℤ, pos, Option, Some, None, ⊤, ◌≤ℤ◌}
+use Rattle.asn_published.specs.declared.ranges.Ranges.{Ranges}
+use Rattle.asn_published.specs.declared.bounds.Numbers.{Numbers}
+use Rattle.asn_published.specs.declared.bounds.Numbers.TheVariants as numbers
+use Rattle.asn_published.specs.Numbers.{InSet, IsAbove, IsBelow}
+
+-- the number is one of the set; where there is no set, each is
+abbrev pub IsLeft : Option Ranges → ℤ → Type 0
+IsLeft None z = ⊤
+IsLeft (Some s) z = InSet s.ranges.items z
+
+-- the number is one of those that the profile's type has
+abbrev pub IsBetween : Numbers → ℤ → Type 0
+IsBetween numbers.All z = ⊤
+IsBetween numbers.Unsigned z = (pos 0 ≤ℤ z) × (z ≤ℤ pos 18446744073709551615)
+IsBetween (numbers.Between low high) z = IsAbove low z × IsBelow high z

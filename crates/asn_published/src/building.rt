@@ -1,0 +1,213 @@
+//! Builds the nodes of a type: one after the other from a stack, however deep they are nested.
+use crate::extents::{Rest, after_constraints, after_tags, rest_of};
+use crate::instances::Instances;
+use crate::modules::World;
+use crate::nodes::{Holder, Member, Node, Shape};
+use crate::refusal::Why;
+use crate::tokens::{Tokens, next};
+use crate::wrong::TextFault;
+use std::alloc::Global;
+
+/// How many nodes may be built, beyond which no instance is.
+const MOST_NODES: usize = 2000000;
+
+/// The nodes of all types, their members, and the instances of parameterized assignments.
+#[derive(Drop)]
+pub(crate) struct Forest<'t> {
+    pub nodes: Vec<Node<'t>>,
+    pub members: Vec<Member<'t>>,
+    pub instances: Instances,
+}
+
+/// A node that is to be built.
+#[derive(Clone, Copy)]
+pub(crate) struct Task {
+    pub node: usize,
+    /// The node is an addition group, from `at` to before `end`.
+    pub is_group: bool,
+}
+
+impl<'t> Forest<'t> {
+    /// No node.
+    pub fn new(alloc: Global) -> Self {
+        Forest {
+            nodes: Vec::new(alloc),
+            members: Vec::new(alloc),
+            instances: Instances::new(alloc),
+        }
+    }
+
+    /// The node at an index.
+    pub fn node(&self, index: usize) -> Option<Node<'t>> {
+        match self.nodes.get(index) {
+            Some(node) => Some(*node),
+            None => None,
+        }
+    }
+
+    /// The member at an index.
+    pub fn member(&self, index: usize) -> Option<Member<'t>> {
+        match self.members.get(index) {
+            Some(member) => Some(*member),
+            None => None,
+        }
+    }
+
+    /// Builds the nodes of the type of an assignment, inside an instance where it has parameters, and gives the index
+    /// of the first.
+    pub fn add(
+        &mut self,
+        alloc: Global,
+        world: &World<'t>,
+        assignment: usize,
+        instance: Option<usize>,
+    ) -> Result<usize, TextFault> {
+        let first = self.nodes.len();
+        let Some(it) = world.assignment(assignment) else {
+            return Ok(first);
+        };
+        let is_endless = instance.is_some() && first > MOST_NODES;
+        self.nodes.push(Node {
+            shape: Shape::Refused(if is_endless {
+                Why::Endless
+            } else {
+                Why::NoType
+            }),
+            module: it.module,
+            at: it.start,
+            constraints: it.end,
+            end: it.end,
+            parent: first,
+            name: "",
+            instance,
+            is_field: false,
+        })?;
+        if is_endless {
+            return Ok(first);
+        }
+        let mut todo = Vec::new(alloc);
+        todo.push(Task {
+            node: first,
+            is_group: false,
+        })?;
+        for _ in 0..u64::MAX {
+            let Some(task) = todo.pop() else {
+                break;
+            };
+            self.build(alloc, world, &mut todo, task)?;
+        }
+        Ok(first)
+    }
+
+    /// Builds one node, and asks for those that it holds.
+    fn build(
+        &mut self,
+        alloc: Global,
+        world: &World<'t>,
+        todo: &mut Vec<Task>,
+        task: Task,
+    ) -> Result<(), TextFault> {
+        let Some(node) = self.node(task.node) else {
+            return Ok(());
+        };
+        let Some(tokens) = world.tokens_of(node.module) else {
+            return Ok(());
+        };
+        if task.is_group {
+            let holder = Holder::Sequence;
+            let shape = self.members_of(tokens, todo, task.node, holder, node.at, node.end)?;
+            self.settle(task.node, shape, node.end);
+            return Ok(());
+        }
+        let at = after_tags(tokens, node.at);
+        match rest_of(tokens, at)? {
+            Rest::Type(inner) if tokens.is_capital(at) => {
+                let shape = self.list_of(tokens, todo, task.node, at, inner)?;
+                self.settle(task.node, shape, node.end);
+            }
+            Rest::Type(inner) => {
+                let of = self.child(todo, task.node, "", inner, node.end, false)?;
+                self.settle(task.node, Shape::Selection { of, at }, node.end);
+            }
+            Rest::Constraints(constraints) => {
+                self.settle(task.node, Shape::Refused(Why::NoType), constraints);
+                let shape = self.shape_at(alloc, world, tokens, todo, task.node, at)?;
+                if let Some(shape) = shape {
+                    self.settle(task.node, shape, constraints);
+                    self.contained_types(world, tokens, task.node)?;
+                }
+            }
+        }
+        Ok(())
+    }
+
+    /// Gives a node its shape, and the index of its constraints.
+    fn settle(&mut self, index: usize, shape: Shape, constraints: usize) {
+        if let Some(node) = self.nodes.get_mut(index) {
+            node.shape = shape;
+            node.constraints = constraints;
+        }
+    }
+
+    /// A node that is to be built, from `at` to before `end`.
+    pub fn child(
+        &mut self,
+        todo: &mut Vec<Task>,
+        parent: usize,
+        name: &'t str,
+        at: usize,
+        end: usize,
+        is_group: bool,
+    ) -> Result<usize, TextFault> {
+        let index = self.nodes.len();
+        let Some(above) = self.node(parent) else {
+            return Ok(index);
+        };
+        self.nodes.push(Node {
+            shape: Shape::Refused(Why::NoType),
+            module: above.module,
+            at,
+            constraints: end,
+            end,
+            parent,
+            name,
+            instance: above.instance,
+            is_field: false,
+        })?;
+        todo.push(Task {
+            node: index,
+            is_group,
+        })?;
+        Ok(index)
+    }
+
+    /// SEQUENCE OF or SET OF at `at`, with its element at `inner`.
+    fn list_of(
+        &mut self,
+        tokens: &Tokens<'t>,
+        todo: &mut Vec<Task>,
+        node: usize,
+        at: usize,
+        inner: usize,
+    ) -> Result<Shape, TextFault> {
+        let Some(list) = self.node(node) else {
+            return Ok(Shape::Refused(Why::NoType));
+        };
+        // the constraints after the element are its own
+        let element = self.child(todo, node, "", inner, list.end, false)?;
+        if tokens.is_word(at, "SET") {
+            return Ok(Shape::Refused(Why::SetOf));
+        }
+        let size = next(at);
+        let size_end = if tokens.is_word(size, "SIZE") {
+            tokens.after(next(size))
+        } else {
+            after_constraints(tokens, size)
+        };
+        Ok(Shape::List {
+            element,
+            size,
+            size_end,
+        })
+    }
+}

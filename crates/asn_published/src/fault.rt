@@ -1,0 +1,52 @@
+//! Why published texts become no module of the profile.
+use crate::refusal::Refusal;
+use crate::wrong::{TextFault, Wrong};
+use asn_module::ModuleFault;
+use std::alloc::{AllocError, AllocFailed};
+use thiserror::Error;
+
+/// Why published texts become no module of the profile.
+#[derive(Debug, Drop, Error)]
+pub enum PublishedFault {
+    /// A text is none of the notation; which one, from 0, and the line, from 1.
+    #[error("line {line}: {wrong}")]
+    Text {
+        text: usize,
+        line: u32,
+        wrong: Wrong,
+    },
+    /// The profile does not take what was written.
+    #[error("not read: {0}")]
+    Unread(ModuleFault),
+    /// An allocation failed.
+    #[error("memory")]
+    Memory,
+}
+
+impl PublishedFault {
+    /// The fault of a text.
+    pub(crate) fn of(text: usize, fault: TextFault) -> PublishedFault {
+        match fault {
+            TextFault::At { line, wrong } => PublishedFault::Text { text, line, wrong },
+            TextFault::Memory => PublishedFault::Memory,
+        }
+    }
+}
+
+impl From<AllocError> for PublishedFault {
+    fn from(_e: AllocError) -> PublishedFault {
+        PublishedFault::Memory
+    }
+}
+
+impl<T: Drop> From<AllocFailed<T>> for PublishedFault {
+    fn from(_e: AllocFailed<T>) -> PublishedFault {
+        PublishedFault::Memory
+    }
+}
+
+impl From<Refusal> for PublishedFault {
+    fn from(_e: Refusal) -> PublishedFault {
+        PublishedFault::Memory
+    }
+}

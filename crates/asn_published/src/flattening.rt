@@ -1,0 +1,239 @@
+//! From published texts to one module of the profile.
+ghost use Rattle.std.specs.Prelude.{IfOk, string_bytes};
+ghost use Rattle.asn_module.specs.Accepted.{Accepted};
+ghost use Rattle.asn_module.specs.ModuleView.{types_view};
+
+use crate::building::Forest;
+use crate::fault::PublishedFault;
+use crate::modules::{What, World};
+use crate::naming::names_of;
+use crate::numbers::numbers_of;
+use crate::options::Options;
+use crate::order::{Order, order_of};
+use crate::report::TypeReport;
+use crate::reports::reports_of;
+use crate::written::{Written, put, write_all};
+use asn_module::{Module, ModuleFault, read};
+use std::alloc::{AllocError, Global};
+
+/// How often types are written again without one that the profile does not take.
+const MOST_TRIES: u32 = 64;
+
+/// A module of the profile, its text as it is printed, and what became of each type of the published ones, in their
+/// order.
+#[derive(Debug, Drop)]
+pub struct Flattened {
+    pub text: String,
+    pub module: Module,
+    pub report: Vec<TypeReport>,
+}
+
+/// What is read of the texts. Types are counted from the assignments on, and after them the instances.
+#[derive(Drop)]
+pub(crate) struct Sources<'t> {
+    pub world: World<'t>,
+    pub forest: Forest<'t>,
+    pub numbers: Vec<Option<i128>>,
+    pub names: Vec<String>,
+    /// Of each type the first node.
+    pub firsts: Vec<Option<usize>>,
+    pub order: Order,
+}
+
+/// Reads the modules of all texts.
+fn world_of<'t>(alloc: Global, texts: &[&'t str]) -> Result<World<'t>, PublishedFault> {
+    let mut world = World::new(alloc);
+    for (index, text) in texts.iter().enumerate() {
+        match world.add(alloc, *text) {
+            Ok(()) => {}
+            Err(fault) => return Err(PublishedFault::of(index, fault)),
+        }
+    }
+    Ok(world)
+}
+
+/// Where the nodes of each type stand.
+#[derive(Drop)]
+struct Places {
+    firsts: Vec<Option<usize>>,
+    spans: Vec<Option<(usize, usize)>>,
+}
+
+impl Places {
+    /// Takes the place of a type from its first node to before `end`, or that there is no type.
+    fn push(&mut self, first: Option<usize>, end: usize) -> Result<(), AllocError> {
+        self.firsts.push(first)?;
+        self.spans.push(match first {
+            Some(first) => Some((first, end)),
+            None => None,
+        })?;
+        Ok(())
+    }
+}
+
+/// Builds the nodes of a type.
+fn add_type<'t>(
+    alloc: Global,
+    world: &World<'t>,
+    forest: &mut Forest<'t>,
+    places: &mut Places,
+    assignment: usize,
+    instance: Option<usize>,
+) -> Result<(), PublishedFault> {
+    match forest.add(alloc, world, assignment, instance) {
+        Ok(first) => Ok(places.push(Some(first), forest.nodes.len())?),
+        Err(fault) => Err(PublishedFault::of(text_of(world, assignment), fault)),
+    }
+}
+
+/// Builds the nodes of all types: of the assignments without parameters, and then of each instance that is met.
+fn places_of<'t>(
+    alloc: Global,
+    world: &World<'t>,
+    forest: &mut Forest<'t>,
+) -> Result<Places, PublishedFault> {
+    let mut places = Places {
+        firsts: Vec::new(alloc),
+        spans: Vec::new(alloc),
+    };
+    for (index, assignment) in world.assignments.iter().enumerate() {
+        if assignment.what == What::Type && assignment.parameters.is_none() {
+            add_type(alloc, world, forest, &mut places, index, None)?;
+        } else {
+            places.push(None, 0)?;
+        }
+    }
+    for index in 0..usize::MAX {
+        let Some(instance) = forest.instances.instance(index) else {
+            break;
+        };
+        add_type(
+            alloc,
+            world,
+            forest,
+            &mut places,
+            instance.assignment,
+            Some(index),
+        )?;
+    }
+    Ok(places)
+}
+
+/// Reads the texts, and builds the nodes of all types.
+fn sources_of<'t>(alloc: Global, texts: &[&'t str]) -> Result<Sources<'t>, PublishedFault> {
+    let world = world_of(alloc, texts)?;
+    let mut forest = Forest::new(alloc);
+    let places = places_of(alloc, &world, &mut forest)?;
+    let numbers = numbers_of(alloc, &world)?;
+    let names = names_of(alloc, &world, &forest.instances)?;
+    let order = order_of(alloc, &forest, places.spans.as_slice())?;
+    let Places { firsts, spans: _ } = places;
+    Ok(Sources {
+        world,
+        forest,
+        numbers,
+        names,
+        firsts,
+        order,
+    })
+}
+
+/// Which of the texts has an assignment, from 0.
+pub(crate) fn text_of(world: &World<'_>, assignment: usize) -> usize {
+    match world.assignment(assignment) {
+        Some(it) => match world.modules.get(it.module) {
+            Some(module) => module.file,
+            None => 0,
+        },
+        None => 0,
+    }
+}
+
+/// The text of the module of the types that are written.
+fn text_written(
+    alloc: Global,
+    sources: &Sources<'_>,
+    written: &Written,
+) -> Result<String, AllocError> {
+    let mut text = String::new(alloc);
+    match sources.world.modules.first() {
+        Some(module) => text.push_str(module.name)?,
+        None => text.push_str("Empty")?,
+    }
+    text.push_str(" DEFINITIONS AUTOMATIC TAGS ::= BEGIN\n")?;
+    for line in &written.levels {
+        text.push_str(line.as_str())?;
+    }
+    for (index, line) in written.lines.iter().enumerate() {
+        if let Some(line) = line {
+            if let Some(name) = sources.names.get(index) {
+                text.push_str(name.as_str())?;
+                text.push_str(" ::=")?;
+                text.push_str(line.as_str())?;
+                text.push_str("\n")?;
+            }
+        }
+    }
+    text.push_str("END\n")?;
+    Ok(text)
+}
+
+/// The module that a text is, and its text as it is printed.
+fn read_back(alloc: Global, text: &str) -> Result<(String, Module), ModuleFault>
+    ensures { IfOk result (λ r. Accepted (string_bytes r.0) (types_view r.1)) }
+{
+    let module = read(alloc, text)?;
+    let printed = module.print(alloc)?;
+    Ok((printed, module))
+}
+
+/// The index of the assignment that has a name in the profile.
+fn index_named(names: &[String], name: &str) -> Option<usize> {
+    names
+        .iter()
+        .position(|other| *other.as_str().as_bytes() == *name.as_bytes())
+}
+
+/// One module of the profile from the texts of published ones (X.680 to X.683), and what became of each type.
+///
+/// The module has the name of the first one, and a type for each type assignment that is not refused. It is read by
+/// `asn_module::read`.
+///
+/// # Errors
+/// `Text` where a text is none of the notation, with the text's index from 0 and the line from 1; `Unread` where the
+/// profile does not take what was written, with the fault that `asn_module` tells; `Memory` where an allocation failed.
+pub fn flatten(alloc: Global, texts: &[&str], options: Options) -> Result<Flattened, PublishedFault>
+    // The text is one that `asn_module` accepts, as the module that is beside it.
+    ensures { IfOk result (λ f. Accepted (string_bytes f.text) (types_view f.module)) }
+{
+    let sources = sources_of(alloc, texts)?;
+    let mut refused = vec![in alloc; false; sources.names.len()]?;
+    let mut last = ModuleFault::Memory;
+    for _ in 0..MOST_TRIES {
+        let written = write_all(alloc, &sources, options, refused.as_slice())?;
+        let text = text_written(alloc, &sources, &written)?;
+        match read_back(alloc, text.as_str()) {
+            Ok((text, module)) => {
+                let report = reports_of(alloc, written)?;
+                return Ok(Flattened {
+                    text,
+                    module,
+                    report,
+                });
+            }
+            Err(ModuleFault::BadType { name, fault }) => {
+                match index_named(sources.names.as_slice(), name.as_str()) {
+                    Some(index) => put(&mut refused, index, true),
+                    None => return Err(PublishedFault::Unread(ModuleFault::BadType {
+                        name,
+                        fault,
+                    })),
+                }
+                last = ModuleFault::BadType { name, fault };
+            }
+            Err(ModuleFault::Memory) => return Err(PublishedFault::Memory),
+            Err(fault) => return Err(PublishedFault::Unread(fault)),
+        }
+    }
+    Err(PublishedFault::Unread(last))
+}

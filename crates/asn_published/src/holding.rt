@@ -1,0 +1,174 @@
+//! Writes SEQUENCE, SET and CHOICE: their members in the order that the profile has.
+use crate::extents::after_tags;
+use crate::info::Base;
+use crate::layout::{
+    Layout, TagOrder, Tagging, is_too_large, layout_of, may_be_empty, sort_by_tags,
+};
+use crate::nodes::{Holder, MemberKind, Need, Node, Shape};
+use crate::refusal::{Refusal, Why, refused};
+use crate::report::Remark;
+use crate::tags::is_automatic;
+use crate::writer::{Known, Task, Writer};
+use crate::writing::is_extensible;
+use std::alloc::Global;
+
+impl<'t> Writer<'t> {
+    /// Writes the beginning of SEQUENCE or CHOICE, and asks for its members.
+    pub fn write_members(
+        &mut self,
+        alloc: Global,
+        known: Known<'_, 't>,
+        index: usize,
+        node: &Node<'t>,
+        depth: u32,
+    ) -> Result<(), Refusal> {
+        let Shape::Members {
+            holder,
+            from,
+            to,
+            marked,
+        } = node.shape
+        else {
+            return Ok(());
+        };
+        let line = known.line_of(node);
+        if node.constraints < node.end {
+            self.remark(alloc, known, index, Remark::Dropped)?;
+        }
+        let written = (from, to);
+        let mut layout = layout_of(alloc, known.forest, known.firsts, written, line)?;
+        if is_too_large(&layout, holder) {
+            return Err(refused(line, Why::TooMany));
+        }
+        if holder != Holder::Sequence {
+            self.put_in_order(alloc, known, index, node, (holder, from, to), &mut layout)?;
+        }
+        let is_marked = marked || (is_extensible(known, node) && !is_group(known, node));
+        let tasks = self.member_tasks(alloc, known, holder, &layout, is_marked, depth)?;
+        for task in tasks.iter().rev() {
+            self.stack.push(*task)?;
+        }
+        Ok(())
+    }
+
+    /// Puts the members of SET or CHOICE into the order of their tags: a refusal where they are not known, and a remark
+    /// where OER tells alternatives apart by other tags.
+    fn put_in_order(
+        &mut self,
+        alloc: Global,
+        known: Known<'_, 't>,
+        index: usize,
+        node: &Node<'t>,
+        written: (Holder, usize, usize),
+        layout: &mut Layout,
+    ) -> Result<(), Refusal> {
+        let (holder, from, to) = written;
+        let world = known.values.world;
+        if is_automatic(world, known.forest, node.module, from, to) {
+            return Ok(());
+        }
+        let sources = Tagging {
+            world,
+            forest: known.forest,
+            firsts: known.firsts,
+        };
+        match sort_by_tags(alloc, sources, layout)? {
+            TagOrder::Automatic => Ok(()),
+            TagOrder::Others if holder == Holder::Set => Ok(()),
+            TagOrder::Others => self.remark(alloc, known, index, Remark::OerTags),
+            TagOrder::Unknown => Err(refused(known.line_of(node), Why::Tags)),
+        }
+    }
+
+    /// What is to be written of members, in order.
+    fn member_tasks(
+        &mut self,
+        alloc: Global,
+        known: Known<'_, 't>,
+        holder: Holder,
+        layout: &Layout,
+        marked: bool,
+        depth: u32,
+    ) -> Result<Vec<Task<'t>>, Refusal> {
+        let mut tasks = Vec::new(alloc);
+        tasks.push(Task::Text(if holder == Holder::Choice {
+            " CHOICE {"
+        } else {
+            " SEQUENCE {"
+        }))?;
+        let below = depth.saturating_add(1);
+        let mut comma = false;
+        for member in &layout.root {
+            self.push_member(alloc, known, &mut tasks, *member, comma, below)?;
+            comma = true;
+        }
+        if marked {
+            tasks.push(Task::Text(if comma { ", ..." } else { " ..." }))?;
+            for member in &layout.additions {
+                self.push_member(alloc, known, &mut tasks, *member, true, below)?;
+                if holder != Holder::Choice {
+                    tasks.push(Task::Text(" OPTIONAL"))?;
+                }
+            }
+        }
+        tasks.push(Task::Text(" }"))?;
+        tasks.push(Task::Holder(Base::Other, false))?;
+        Ok(tasks)
+    }
+
+    /// What is to be written of one member.
+    fn push_member(
+        &mut self,
+        alloc: Global,
+        known: Known<'_, 't>,
+        tasks: &mut Vec<Task<'t>>,
+        index: usize,
+        comma: bool,
+        depth: u32,
+    ) -> Result<(), Refusal> {
+        let Some(member) = known.forest.member(index) else {
+            return Ok(());
+        };
+        if comma {
+            tasks.push(Task::Text(","))?;
+        }
+        match member.kind {
+            MemberKind::Group(number) => {
+                tasks.push(Task::Group(number))?;
+                if let Some(
+                    Node {
+                        shape: Shape::Members { from, to, .. },
+                        ..
+                    },
+                ) = known.forest.node(member.node)
+                {
+                    if may_be_empty(known.forest, from, to) {
+                        self.remark(alloc, known, member.node, Remark::EmptyGroup)?;
+                    }
+                }
+            }
+            _ => {
+                tasks.push(Task::Text(" "))?;
+                tasks.push(Task::Text(member.name))?;
+            }
+        }
+        tasks.push(Task::Node(member.node, depth))?;
+        if !member.is_addition {
+            tasks.push(Task::Need(member.node, member.need))?;
+        } else if let Need::Default { .. } = member.need {
+            self.remark(alloc, known, member.node, Remark::Default)?;
+        }
+        Ok(())
+    }
+}
+
+/// Whether the members of a node are an addition group.
+fn is_group(known: Known<'_, '_>, node: &Node<'_>) -> bool {
+    match known.values.world.tokens_of(node.module) {
+        Some(tokens) => {
+            let at = after_tags(tokens, node.at);
+            !matches!(tokens.text(at), "SEQUENCE" | "SET" | "CHOICE")
+        }
+        None => false,
+    }
+}

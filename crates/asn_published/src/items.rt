@@ -1,0 +1,175 @@
+//! Items of ENUMERATED, each with its number (X.680, "enumerated type").
+use crate::numbers::{Scope, Values};
+use crate::refusal::{Refusal, Why, refused};
+use crate::token::Sign;
+use crate::tokens::{Tokens, next};
+use std::alloc::Global;
+use std::collections::HashMap;
+
+/// How many items an ENUMERATED may have.
+const MOST_ITEMS: usize = 256;
+
+/// An item, and its number where it is given.
+#[derive(Clone, Copy)]
+pub(crate) struct Item<'t> {
+    pub name: &'t str,
+    pub number: i128,
+    has_number: bool,
+    is_addition: bool,
+}
+
+/// The items of an ENUMERATED.
+#[derive(Drop)]
+pub(crate) struct Items<'t> {
+    pub root: Vec<Item<'t>>,
+    pub additions: Vec<Item<'t>>,
+    pub marked: bool,
+    /// Additional items have other numbers than the published ones.
+    pub renumbered: bool,
+}
+
+/// The item at `at`, and the index after it.
+fn item_at<'t>(
+    values: Values<'_, 't>,
+    tokens: &Tokens<'t>,
+    scope: Scope,
+    at: usize,
+    is_addition: bool,
+) -> Result<(Item<'t>, usize), Refusal> {
+    if !tokens.is_identifier(at) {
+        return Err(refused(tokens.line(at), Why::Items));
+    }
+    let mut item = Item {
+        name: tokens.text(at),
+        number: 0,
+        has_number: false,
+        is_addition,
+    };
+    let mut behind = next(at);
+    if tokens.is(behind, Sign::LeftParen) {
+        let end = tokens.other(behind);
+        let (number, after) = values.number_at(scope, next(behind))?;
+        if after != end {
+            return Err(refused(tokens.line(at), Why::Items));
+        }
+        item.number = number;
+        item.has_number = true;
+        behind = next(end);
+    }
+    Ok((item, behind))
+}
+
+/// The items in the braces at `braces`, as they are written, and whether a mark is.
+fn written_items<'t>(
+    alloc: Global,
+    values: Values<'_, 't>,
+    tokens: &Tokens<'t>,
+    scope: Scope,
+    braces: usize,
+) -> Result<(Vec<Item<'t>>, bool), Refusal> {
+    let end = tokens.other(braces);
+    let mut items = Vec::new(alloc);
+    let mut marked = false;
+    let mut at = next(braces);
+    for _ in 0..tokens.len() {
+        if at >= end {
+            break;
+        }
+        let line = tokens.line(at);
+        if tokens.is(at, Sign::Dots) && !marked {
+            marked = true;
+            at = next(at);
+            if tokens.is(at, Sign::Bang) {
+                return Err(refused(line, Why::Items));
+            }
+        } else {
+            let (item, behind) = item_at(values, tokens, scope, at, marked)?;
+            items.push(item)?;
+            at = behind;
+        }
+        if items.len() > MOST_ITEMS {
+            return Err(refused(line, Why::TooMany));
+        }
+        if at < end {
+            if !tokens.is(at, Sign::Comma) {
+                return Err(refused(line, Why::Items));
+            }
+            at = next(at);
+        }
+    }
+    Ok((items, marked))
+}
+
+/// Numbers the items that have none: those of the root with the least numbers that no item of the root has, one
+/// after the other; each additional one with the least number above all before it that no item has.
+fn give_numbers(alloc: Global, items: &mut Vec<Item<'_>>) -> Result<(), Refusal> {
+    let mut taken = HashMap::new(alloc);
+    for item in items.iter() {
+        if item.has_number {
+            taken.insert(item.number, ())?;
+        }
+    }
+    let mut free = 0i128;
+    let mut last: Option<i128> = None;
+    for item in items.iter_mut() {
+        if item.is_addition {
+            if let Some(number) = last {
+                free = number.saturating_add(1).max(free);
+            }
+        }
+        if !item.has_number {
+            for _ in 0..MOST_ITEMS {
+                if !taken.contains_key(&free) {
+                    break;
+                }
+                free = free.saturating_add(1);
+            }
+            item.number = free;
+            free = free.saturating_add(1);
+        }
+        if item.is_addition {
+            last = Some(item.number);
+        }
+    }
+    Ok(())
+}
+
+/// The items in the braces at `braces`, with numbers. Additional items whose numbers do not rise above those of the
+/// root get others.
+pub(crate) fn items_of<'t>(
+    alloc: Global,
+    values: Values<'_, 't>,
+    scope: Scope,
+    braces: usize,
+) -> Result<Items<'t>, Refusal> {
+    let Some(tokens) = values.world.tokens_of(scope.module) else {
+        return Err(refused(0, Why::Items));
+    };
+    let (mut all, marked) = written_items(alloc, values, tokens, scope, braces)?;
+    give_numbers(alloc, &mut all)?;
+    let mut items = Items {
+        root: Vec::new(alloc),
+        additions: Vec::new(alloc),
+        marked,
+        renumbered: false,
+    };
+    let mut highest = -1i128;
+    for item in &all {
+        if !item.is_addition {
+            highest = highest.max(item.number);
+            items.root.push(*item)?;
+        }
+    }
+    for item in &all {
+        if item.is_addition {
+            let mut addition = *item;
+            if addition.number <= highest {
+                addition.number = highest.saturating_add(1);
+                items.renumbered = true;
+            }
+            highest = addition.number;
+            items.additions.push(addition)?;
+        }
+    }
+    Ok(items)
+}

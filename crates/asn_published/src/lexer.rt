@@ -1,0 +1,302 @@
+//! Cuts a text into its lexical items (X.680, "ASN.1 lexical items"), with both kinds of comment.
+use crate::token::{Kind, Sign, Token};
+use crate::wrong::{TextFault, Wrong};
+use std::alloc::Global;
+
+/// A place in a text: an octet, from 0, and its line, from 1.
+#[derive(Clone, Copy)]
+struct Place {
+    at: usize,
+    line: u32,
+}
+
+/// The octet at an index, or 0 past the end.
+fn octet_at(octets: &[u8], index: usize) -> u8 {
+    match octets.get(index) {
+        Some(octet) => *octet,
+        None => 0,
+    }
+}
+
+/// The index `by` octets on.
+fn on(at: usize, by: usize) -> usize {
+    at.saturating_add(by)
+}
+
+/// Whether the octet ends a line: LF, or CR without an LF after it, or VT or FF.
+fn ends_line(octets: &[u8], at: usize) -> bool {
+    match octet_at(octets, at) {
+        b'\n' | 11 | 12 => true,
+        b'\r' => octet_at(octets, on(at, 1)) != b'\n',
+        _ => false,
+    }
+}
+
+/// The place after one octet.
+fn step(octets: &[u8], place: Place) -> Place {
+    let line = if ends_line(octets, place.at) {
+        place.line.saturating_add(1)
+    } else {
+        place.line
+    };
+    Place {
+        at: on(place.at, 1),
+        line,
+    }
+}
+
+/// The place after a comment that began with two hyphens, from its third octet on.
+fn after_line_comment(octets: &[u8], from: Place) -> Place {
+    let mut place = from;
+    for _ in 0..octets.len() {
+        match octet_at(octets, place.at) {
+            10..=13 => return place,
+            b'-' if octet_at(octets, on(place.at, 1)) == b'-' => {
+                return Place {
+                    at: on(place.at, 2),
+                    line: place.line,
+                };
+            }
+            _ => {}
+        }
+        if place.at >= octets.len() {
+            return place;
+        }
+        place = step(octets, place);
+    }
+    place
+}
+
+/// The place after a comment that began with `/*`, from its third octet on. Such comments nest.
+fn after_block_comment(octets: &[u8], from: Place) -> Result<Place, TextFault> {
+    let mut place = from;
+    let mut open = 1usize;
+    for _ in 0..octets.len() {
+        let next = octet_at(octets, on(place.at, 1));
+        match octet_at(octets, place.at) {
+            b'*' if next == b'/' => {
+                open = open.saturating_sub(1);
+                place.at = on(place.at, 2);
+                if open == 0 {
+                    return Ok(place);
+                }
+            }
+            b'/' if next == b'*' => {
+                open = open.saturating_add(1);
+                place.at = on(place.at, 2);
+            }
+            _ => place = step(octets, place),
+        }
+        if place.at >= octets.len() {
+            break;
+        }
+    }
+    Err(TextFault::At {
+        line: from.line,
+        wrong: Wrong::Unended,
+    })
+}
+
+/// The place of the next lexical item, or the end.
+fn skip_blank(octets: &[u8], from: Place) -> Result<Place, TextFault> {
+    let mut place = from;
+    for _ in 0..u64::MAX {
+        let next = octet_at(octets, on(place.at, 1));
+        match octet_at(octets, place.at) {
+            9..=13 | b' ' => place = step(octets, place),
+            b'-' if next == b'-' => {
+                let inside = Place {
+                    at: on(place.at, 2),
+                    line: place.line,
+                };
+                place = after_line_comment(octets, inside);
+            }
+            b'/' if next == b'*' => {
+                let inside = Place {
+                    at: on(place.at, 2),
+                    line: place.line,
+                };
+                place = after_block_comment(octets, inside)?;
+            }
+            // NO-BREAK SPACE
+            0xc2 if next == 0xa0 => place.at = on(place.at, 2),
+            _ => break,
+        }
+    }
+    Ok(place)
+}
+
+/// The index after a word that begins at `from`: a hyphen belongs to it only before a letter or digit.
+fn after_word(octets: &[u8], from: usize) -> usize {
+    let mut at = from;
+    for _ in 0..octets.len() {
+        let octet = octet_at(octets, at);
+        let goes_on = octet.is_ascii_alphanumeric()
+            || (octet == b'-' && octet_at(octets, on(at, 1)).is_ascii_alphanumeric());
+        if !goes_on {
+            break;
+        }
+        at = on(at, 1);
+    }
+    at
+}
+
+/// The index after the digits that begin at `from`.
+fn after_digits(octets: &[u8], from: usize) -> usize {
+    let mut at = from;
+    for _ in 0..octets.len() {
+        if !octet_at(octets, at).is_ascii_digit() {
+            break;
+        }
+        at = on(at, 1);
+    }
+    at
+}
+
+/// The kind of the number that begins at `from`, and the index after it.
+fn after_number(octets: &[u8], from: usize) -> (Kind, usize) {
+    let mut at = after_digits(octets, from);
+    let mut kind = Kind::Number;
+    if octet_at(octets, at) == b'.' && octet_at(octets, on(at, 1)).is_ascii_digit() {
+        at = after_digits(octets, on(at, 1));
+        kind = Kind::Real;
+    }
+    if matches!(octet_at(octets, at), b'e' | b'E') {
+        let signed = octet_at(octets, on(at, 1)) == b'-';
+        let digits = on(at, if signed { 2 } else { 1 });
+        if octet_at(octets, digits).is_ascii_digit() {
+            at = after_digits(octets, digits);
+            kind = Kind::Real;
+        }
+    }
+    (kind, at)
+}
+
+/// The place after the string whose first quote is at `from`. A quote inside is written twice.
+fn after_quoted(octets: &[u8], from: Place) -> Result<Place, TextFault> {
+    let quote = octet_at(octets, from.at);
+    let mut place = step(octets, from);
+    for _ in 0..octets.len() {
+        if place.at >= octets.len() {
+            break;
+        }
+        let octet = octet_at(octets, place.at);
+        place = step(octets, place);
+        if octet == quote {
+            if quote == b'"' && octet_at(octets, place.at) == quote {
+                place = step(octets, place);
+            } else {
+                return Ok(place);
+            }
+        }
+    }
+    Err(TextFault::At {
+        line: from.line,
+        wrong: Wrong::Unended,
+    })
+}
+
+/// The sign at `at`, and how many octets it has.
+fn sign_at(octets: &[u8], at: usize) -> Option<(Sign, usize)> {
+    let next = octet_at(octets, on(at, 1));
+    let third = octet_at(octets, on(at, 2));
+    let one = match octet_at(octets, at) {
+        b'.' if next == b'.' && third == b'.' => return Some((Sign::Dots, 3)),
+        b'.' if next == b'.' => return Some((Sign::UpTo, 2)),
+        b':' if next == b':' && third == b'=' => return Some((Sign::Becomes, 3)),
+        b'.' => Sign::Dot,
+        b':' => Sign::Colon,
+        b'{' => Sign::LeftBrace,
+        b'}' => Sign::RightBrace,
+        b'(' => Sign::LeftParen,
+        b')' => Sign::RightParen,
+        b'[' => Sign::LeftBracket,
+        b']' => Sign::RightBracket,
+        b',' => Sign::Comma,
+        b';' => Sign::Semicolon,
+        b'|' => Sign::Bar,
+        b'^' => Sign::Caret,
+        b'!' => Sign::Bang,
+        b'<' => Sign::Less,
+        b'>' => Sign::Greater,
+        b'@' => Sign::At,
+        b'&' => Sign::Ampersand,
+        b'-' => Sign::Minus,
+        b'*' => Sign::Star,
+        b'/' => Sign::Slash,
+        b'=' => Sign::Equals,
+        _ => return None,
+    };
+    Some((one, 1))
+}
+
+/// A character that begins no lexical item.
+fn no_item(line: u32) -> TextFault {
+    TextFault::At {
+        line,
+        wrong: Wrong::Character,
+    }
+}
+
+/// The bits or octets whose first quote is at a place, and the place after the B or H after them.
+fn after_digits_quoted(octets: &[u8], from: Place) -> Result<Place, TextFault> {
+    let mut after = after_quoted(octets, from)?;
+    match octet_at(octets, after.at) {
+        b'B' | b'H' => {
+            after.at = on(after.at, 1);
+            Ok(after)
+        }
+        _ => Err(no_item(from.line)),
+    }
+}
+
+/// The kind of the lexical item that begins at a place, and the place after it.
+fn item_at(octets: &[u8], from: Place) -> Result<(Kind, Place), TextFault> {
+    let line = from.line;
+    let first = octet_at(octets, from.at);
+    if first.is_ascii_alphabetic() {
+        let at = after_word(octets, from.at);
+        return Ok((Kind::Word, Place { at, line }));
+    }
+    if first.is_ascii_digit() {
+        let (kind, at) = after_number(octets, from.at);
+        return Ok((kind, Place { at, line }));
+    }
+    if first == b'"' {
+        return Ok((Kind::Text, after_quoted(octets, from)?));
+    }
+    if first == b'\'' {
+        return Ok((Kind::Quoted, after_digits_quoted(octets, from)?));
+    }
+    match sign_at(octets, from.at) {
+        Some((sign, length)) => {
+            let at = on(from.at, length);
+            Ok((Kind::Sign(sign), Place { at, line }))
+        }
+        None => Err(no_item(line)),
+    }
+}
+
+/// The lexical items of a text, in order.
+pub(crate) fn tokens_of<'t>(alloc: Global, text: &'t str) -> Result<Vec<Token<'t>>, TextFault> {
+    let octets = text.as_bytes();
+    let mut tokens = Vec::new(alloc);
+    let mut place = Place { at: 0, line: 1 };
+    for _ in 0..u64::MAX {
+        place = skip_blank(octets, place)?;
+        if place.at >= octets.len() {
+            break;
+        }
+        let (kind, after) = item_at(octets, place)?;
+        let Some(item) = text.get(place.at..after.at) else {
+            return Err(no_item(place.line));
+        };
+        tokens.push(Token {
+            kind,
+            text: item,
+            line: place.line,
+        })?;
+        place = after;
+    }
+    Ok(tokens)
+}

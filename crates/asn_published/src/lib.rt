@@ -1,0 +1,55 @@
+//! Published modules of ASN.1 (X.680 to X.683) as one module of the profile, with a report of each type.
+#![tactic(auto)]
+
+mod bounding;
+mod bounds;
+mod building;
+mod classes;
+mod constraints;
+mod defaults;
+mod extents;
+mod fault;
+mod finding;
+mod flattening;
+mod holding;
+mod info;
+mod instances;
+mod items;
+mod layout;
+mod letters;
+mod lexer;
+mod membering;
+mod modules;
+mod naming;
+mod nodes;
+mod numbers;
+mod options;
+mod order;
+mod places;
+mod ranges;
+mod references;
+mod refusal;
+mod report;
+mod reports;
+mod seen;
+mod shapes;
+mod strings;
+mod tags;
+mod telling;
+mod token;
+mod tokens;
+mod way;
+mod words;
+mod writer;
+mod writing;
+mod written;
+mod wrong;
+
+pub use fault::PublishedFault;
+pub use flattening::{Flattened, flatten};
+pub use options::Options;
+pub use refusal::Why;
+pub use report::{Note, Remark, Status, TypeReport};
+pub use telling::{report_json, report_text, summary_of};
+pub use way::{refused_text, way_text};
+pub use wrong::Wrong;

@@ -1,0 +1,366 @@
+//! Reads the modules of a text (X.680, "module definition"): headers, exports, imports, and where each assignment
+//! begins and ends.
+use crate::extents::{type_end, value_end};
+use crate::token::{Kind, Sign};
+use crate::tokens::{Tokens, next};
+use crate::wrong::{TextFault, Wrong};
+use std::alloc::Global;
+use std::collections::HashMap;
+
+/// What an assignment assigns.
+#[derive(Clone, Copy, PartialEq, Eq)]
+pub(crate) enum What {
+    Type,
+    /// A value or an object.
+    Value,
+    /// A set of values or of objects.
+    Set,
+    Class,
+}
+
+/// An assignment: `governor` is the index of the type or class before `::=`, where there is one; what is assigned are
+/// the lexical items from `start` to before `end`.
+#[derive(Clone, Copy)]
+pub(crate) struct Assignment<'t> {
+    pub module: usize,
+    pub name: &'t str,
+    pub line: u32,
+    pub what: What,
+    pub governor: usize,
+    pub start: usize,
+    pub end: usize,
+    /// The `{` of the parameters, where there are any.
+    pub parameters: Option<usize>,
+}
+
+/// A module, without its assignments.
+#[derive(Drop)]
+pub(crate) struct ModuleText<'t> {
+    pub file: usize,
+    pub name: &'t str,
+    /// Tags are automatic.
+    pub automatic: bool,
+    /// Types without an extension mark have one at their end.
+    pub extensible: bool,
+    /// The module that each imported name comes from.
+    pub imports: HashMap<&'t str, &'t str>,
+    /// The index of each assignment.
+    pub names: HashMap<&'t str, usize>,
+}
+
+/// The modules of all texts.
+#[derive(Drop)]
+pub(crate) struct World<'t> {
+    pub files: Vec<Tokens<'t>>,
+    pub modules: Vec<ModuleText<'t>>,
+    pub module_names: HashMap<&'t str, usize>,
+    pub assignments: Vec<Assignment<'t>>,
+}
+
+/// The index after the identifier of a module, after its name: object identifier, and resource identifier.
+fn after_identifier(tokens: &Tokens<'_>, from: usize) -> usize {
+    let mut at = from;
+    if tokens.is(at, Sign::LeftBrace) {
+        at = tokens.after(at);
+    }
+    if tokens.is_kind(at, Kind::Text) {
+        at = next(at);
+    }
+    at
+}
+
+/// The head of a module up to BEGIN: an empty module, and the index after BEGIN.
+fn head_of<'t>(
+    alloc: Global,
+    tokens: &Tokens<'t>,
+    file: usize,
+    from: usize,
+) -> Result<(ModuleText<'t>, usize), TextFault> {
+    if !tokens.is_capital(from) {
+        return Err(tokens.expected(from, "the name of a module"));
+    }
+    let mut at = after_identifier(tokens, next(from));
+    if !tokens.is_word(at, "DEFINITIONS") {
+        return Err(tokens.expected(at, "DEFINITIONS"));
+    }
+    at = next(at);
+    // an encoding reference, as `XER INSTRUCTIONS`
+    if tokens.is_word(next(at), "INSTRUCTIONS") {
+        at = next(next(at));
+    }
+    let mut automatic = false;
+    if tokens.is_word(next(at), "TAGS") {
+        automatic = tokens.is_word(at, "AUTOMATIC");
+        if !automatic && !tokens.is_word(at, "EXPLICIT") && !tokens.is_word(at, "IMPLICIT") {
+            return Err(tokens.expected(at, "AUTOMATIC, EXPLICIT or IMPLICIT"));
+        }
+        at = next(next(at));
+    }
+    let extensible = tokens.is_word(at, "EXTENSIBILITY") && tokens.is_word(next(at), "IMPLIED");
+    if extensible {
+        at = next(next(at));
+    }
+    at = tokens.past(at, Sign::Becomes, "::=")?;
+    if !tokens.is_word(at, "BEGIN") {
+        return Err(tokens.expected(at, "BEGIN"));
+    }
+    let module = ModuleText {
+        file,
+        name: tokens.text(from),
+        automatic,
+        extensible,
+        imports: HashMap::new(alloc),
+        names: HashMap::new(alloc),
+    };
+    Ok((module, next(at)))
+}
+
+/// The index after a symbol of EXPORTS or IMPORTS, as `Name` or `Name {}`.
+fn after_symbol(tokens: &Tokens<'_>, from: usize) -> Result<usize, TextFault> {
+    if !tokens.is_kind(from, Kind::Word) {
+        return Err(tokens.expected(from, "a name"));
+    }
+    let at = next(from);
+    if tokens.is(at, Sign::LeftBrace) {
+        Ok(tokens.after(at))
+    } else {
+        Ok(at)
+    }
+}
+
+/// The index after EXPORTS and its `;`, where it stands at `from`.
+fn after_exports(tokens: &Tokens<'_>, from: usize) -> Result<usize, TextFault> {
+    if !tokens.is_word(from, "EXPORTS") {
+        return Ok(from);
+    }
+    let mut at = next(from);
+    for _ in 0..tokens.len() {
+        if tokens.is(at, Sign::Semicolon) {
+            break;
+        }
+        at = after_symbol(tokens, at)?;
+        if tokens.is(at, Sign::Comma) {
+            at = next(at);
+        }
+    }
+    tokens.past(at, Sign::Semicolon, ";")
+}
+
+/// The index after the module that symbols come from, from the index after FROM and its name.
+fn after_source(tokens: &Tokens<'_>, from: usize) -> usize {
+    let mut at = from;
+    if tokens.is(at, Sign::LeftBrace) {
+        at = tokens.after(at);
+    } else if tokens.is_identifier(at)
+        && !tokens.is(next(at), Sign::Comma)
+        && !tokens.is_word(next(at), "FROM")
+    {
+        // a value that is an object identifier
+        at = next(at);
+    }
+    if tokens.is_word(at, "WITH") {
+        at = next(next(at));
+    }
+    at
+}
+
+/// Takes IMPORTS and its `;`, where it stands at `from`, and gives the index after it.
+fn after_imports<'t>(
+    alloc: Global,
+    tokens: &Tokens<'t>,
+    module: &mut ModuleText<'t>,
+    from: usize,
+) -> Result<usize, TextFault> {
+    if !tokens.is_word(from, "IMPORTS") {
+        return Ok(from);
+    }
+    let mut at = next(from);
+    let mut symbols: Vec<&'t str> = Vec::new(alloc);
+    for _ in 0..tokens.len() {
+        if tokens.is(at, Sign::Semicolon) {
+            break;
+        }
+        if tokens.is_word(at, "FROM") {
+            at = next(at);
+            let source = tokens.text(at);
+            if !tokens.is_capital(at) {
+                return Err(tokens.expected(at, "the name of a module"));
+            }
+            for symbol in symbols.iter() {
+                module.imports.insert(*symbol, source)?;
+            }
+            symbols.clear();
+            at = after_source(tokens, next(at));
+            continue;
+        }
+        let symbol = tokens.text(at);
+        at = after_symbol(tokens, at)?;
+        symbols.push(symbol)?;
+        if tokens.is(at, Sign::Comma) {
+            at = next(at);
+        } else if !tokens.is_word(at, "FROM") {
+            return Err(tokens.expected(at, ", or FROM"));
+        }
+    }
+    if !symbols.is_empty() {
+        return Err(tokens.expected(at, "FROM"));
+    }
+    tokens.past(at, Sign::Semicolon, ";")
+}
+
+/// The index after a class that is defined, after the word CLASS.
+fn class_end(tokens: &Tokens<'_>, from: usize) -> Result<usize, TextFault> {
+    if !tokens.is(from, Sign::LeftBrace) {
+        return Err(tokens.expected(from, "{"));
+    }
+    let mut at = tokens.after(from);
+    if tokens.is_word(at, "WITH") && tokens.is_word(next(at), "SYNTAX") {
+        at = next(next(at));
+        if !tokens.is(at, Sign::LeftBrace) {
+            return Err(tokens.expected(at, "{"));
+        }
+        at = tokens.after(at);
+    }
+    Ok(at)
+}
+
+/// What is assigned to a name from `start` on, and the index after it.
+fn assigned(
+    tokens: &Tokens<'_>,
+    is_capital: bool,
+    has_governor: bool,
+    start: usize,
+) -> Result<(What, usize), TextFault> {
+    if !is_capital {
+        return Ok((What::Value, value_end(tokens, start)?));
+    }
+    if has_governor {
+        if !tokens.is(start, Sign::LeftBrace) {
+            return Err(tokens.expected(start, "{"));
+        }
+        return Ok((What::Set, tokens.after(start)));
+    }
+    if tokens.is_word(start, "CLASS") {
+        return Ok((What::Class, class_end(tokens, next(start))?));
+    }
+    Ok((What::Type, type_end(tokens, start)?))
+}
+
+/// The assignment at `from`.
+fn assignment_at<'t>(
+    tokens: &Tokens<'t>,
+    module: usize,
+    from: usize,
+) -> Result<Assignment<'t>, TextFault> {
+    if !tokens.is_kind(from, Kind::Word) {
+        return Err(tokens.expected(from, "an assignment or END"));
+    }
+    let is_capital = tokens.is_capital(from);
+    let parameters = if tokens.is(next(from), Sign::LeftBrace) {
+        Some(next(from))
+    } else {
+        None
+    };
+    let governor = tokens.after(parameters.unwrap_or(from));
+    let has_governor = !tokens.is(governor, Sign::Becomes);
+    let becomes = if has_governor {
+        type_end(tokens, governor)?
+    } else {
+        governor
+    };
+    let start = tokens.past(becomes, Sign::Becomes, "::=")?;
+    if !is_capital && !has_governor {
+        return Err(tokens.expected(governor, "a type"));
+    }
+    let (what, end) = assigned(tokens, is_capital, has_governor, start)?;
+    Ok(Assignment {
+        module,
+        name: tokens.text(from),
+        line: tokens.line(from),
+        what,
+        governor,
+        start,
+        end,
+        parameters,
+    })
+}
+
+/// Takes the assignments of a module from `from` on, and gives the index after END.
+fn after_assignments<'t>(
+    tokens: &Tokens<'t>,
+    module: &mut ModuleText<'t>,
+    index: usize,
+    assignments: &mut Vec<Assignment<'t>>,
+    from: usize,
+) -> Result<usize, TextFault> {
+    let mut at = from;
+    for _ in 0..tokens.len() {
+        if tokens.is_word(at, "END") {
+            return Ok(next(at));
+        }
+        let assignment = assignment_at(tokens, index, at)?;
+        let place = assignments.len();
+        assignments.push(assignment)?;
+        if module.names.insert(assignment.name, place)?.is_some() {
+            return Err(TextFault::At {
+                line: assignment.line,
+                wrong: Wrong::Twice,
+            });
+        }
+        at = assignment.end;
+    }
+    Err(tokens.expected(at, "END"))
+}
+
+impl<'t> World<'t> {
+    /// No module.
+    pub fn new(alloc: Global) -> Self {
+        World {
+            files: Vec::new(alloc),
+            modules: Vec::new(alloc),
+            module_names: HashMap::new(alloc),
+            assignments: Vec::new(alloc),
+        }
+    }
+
+    /// Takes the modules of a text.
+    pub fn add(&mut self, alloc: Global, text: &'t str) -> Result<(), TextFault> {
+        let tokens = Tokens::new(alloc, text)?;
+        let file = self.files.len();
+        if tokens.len() == 0 {
+            return Err(tokens.expected(0, "the name of a module"));
+        }
+        let mut at = 0;
+        for _ in 0..tokens.len() {
+            if at >= tokens.len() {
+                break;
+            }
+            at = self.add_module(alloc, &tokens, file, at)?;
+        }
+        self.files.push(tokens)?;
+        Ok(())
+    }
+
+    /// Takes the module at `from`, and gives the index after it.
+    fn add_module(
+        &mut self,
+        alloc: Global,
+        tokens: &Tokens<'t>,
+        file: usize,
+        from: usize,
+    ) -> Result<usize, TextFault> {
+        let (mut module, begin) = head_of(alloc, tokens, file, from)?;
+        let index = self.modules.len();
+        if self.module_names.insert(module.name, index)?.is_some() {
+            return Err(TextFault::At {
+                line: tokens.line(from),
+                wrong: Wrong::ModuleTwice,
+            });
+        }
+        let mut at = after_exports(tokens, begin)?;
+        at = after_imports(alloc, tokens, &mut module, at)?;
+        at = after_assignments(tokens, &mut module, index, &mut self.assignments, at)?;
+        self.modules.push(module)?;
+        Ok(at)
+    }
+}

@@ -1,0 +1,113 @@
+//! The names of the types in the profile: a name of two modules gets its module's name in front, and an instance of a
+//! parameterized assignment a number after.
+use crate::instances::Instances;
+use crate::modules::{What, World};
+use std::alloc::{AllocError, Global};
+use std::collections::HashMap;
+
+/// How many names are tried.
+const MOST_TRIES: u32 = 30000;
+
+/// How often each name is assigned a type.
+fn counts_of<'t>(alloc: Global, world: &World<'t>) -> Result<HashMap<&'t str, u32>, AllocError> {
+    let mut counts: HashMap<&'t str, u32> = HashMap::new(alloc);
+    for assignment in &world.assignments {
+        if assignment.what == What::Type {
+            let before = match counts.get(assignment.name) {
+                Some(count) => *count,
+                None => 0,
+            };
+            counts.insert(assignment.name, before.saturating_add(1))?;
+        }
+    }
+    Ok(counts)
+}
+
+/// The name of an assignment of a module, with the module's name in front where the name is shared.
+fn own_name(
+    alloc: Global,
+    module: &str,
+    name: &str,
+    is_shared: bool,
+) -> Result<String, AllocError> {
+    if is_shared {
+        format!(in alloc; "{module}-{name}")
+    } else {
+        String::from_str(alloc, name)
+    }
+}
+
+/// The name with the first number after it, from `first` on, that makes it one which is not taken.
+fn numbered(
+    alloc: Global,
+    taken: &HashMap<String, ()>,
+    name: &str,
+    first: u32,
+) -> Result<(String, u32), AllocError> {
+    let mut number = first;
+    let mut text = format!(in alloc; "{name}-{number}")?;
+    for _ in 0..MOST_TRIES {
+        if !taken.contains_key(text.as_str()) {
+            break;
+        }
+        number = number.saturating_add(1);
+        text = format!(in alloc; "{name}-{number}")?;
+    }
+    Ok((text, number))
+}
+
+/// Adds a name, which is taken from now on.
+fn add(
+    names: &mut Vec<String>,
+    taken: &mut HashMap<String, ()>,
+    name: String,
+) -> Result<(), AllocError> {
+    taken.insert(name.clone()?, ())?;
+    names.push(name)?;
+    Ok(())
+}
+
+/// Of each assignment and then of each instance the name in the profile.
+pub(crate) fn names_of(
+    alloc: Global,
+    world: &World<'_>,
+    instances: &Instances,
+) -> Result<Vec<String>, AllocError> {
+    let counts = counts_of(alloc, world)?;
+    let mut names = Vec::new(alloc);
+    let mut taken = HashMap::new(alloc);
+    for assignment in &world.assignments {
+        let is_shared = match counts.get(assignment.name) {
+            Some(count) => *count > 1,
+            None => false,
+        };
+        let module = match world.modules.get(assignment.module) {
+            Some(module) => module.name,
+            None => "",
+        };
+        let mut name = own_name(alloc, module, assignment.name, is_shared)?;
+        if is_shared && taken.contains_key(name.as_str()) {
+            (name, _) = numbered(alloc, &taken, name.as_str(), 2)?;
+        }
+        if assignment.what == What::Type {
+            add(&mut names, &mut taken, name)?;
+        } else {
+            names.push(name)?;
+        }
+    }
+    let mut last: HashMap<usize, u32> = HashMap::new(alloc);
+    for instance in &instances.all {
+        let before = match last.get(&instance.assignment) {
+            Some(number) => *number,
+            None => 0,
+        };
+        let base = match names.get(instance.assignment) {
+            Some(name) => name.as_str(),
+            None => "",
+        };
+        let (name, number) = numbered(alloc, &taken, base, before.saturating_add(1))?;
+        last.insert(instance.assignment, number)?;
+        add(&mut names, &mut taken, name)?;
+    }
+    Ok(names)
+}

@@ -1,0 +1,128 @@
+//! Where the parts of constraints begin and end.
+use crate::extents::{type_end, value_end};
+use crate::refusal::{Refusal, Why, refused};
+use crate::token::Sign;
+use crate::tokens::{Tokens, next};
+
+/// The index of what ends the first constraint of a group, or `end`: a comma or `!` outside brackets.
+pub(crate) fn root_end(tokens: &Tokens<'_>, start: usize, end: usize) -> usize {
+    let mut at = start;
+    for _ in 0..tokens.len() {
+        if at >= end || tokens.is(at, Sign::Comma) || tokens.is(at, Sign::Bang) {
+            return at;
+        }
+        at = tokens.after(at);
+    }
+    end
+}
+
+/// Whether an extension mark stands after the root that ends at `at`; a fault where something else does.
+pub(crate) fn mark_at(tokens: &Tokens<'_>, at: usize, end: usize) -> Result<bool, Refusal> {
+    if at >= end || tokens.is(at, Sign::Bang) {
+        return Ok(false);
+    }
+    if tokens.is(next(at), Sign::Dots) {
+        let behind = next(next(at));
+        let goes_on = tokens.is(behind, Sign::Comma) || tokens.is(behind, Sign::Bang);
+        if behind >= end || goes_on {
+            return Ok(true);
+        }
+    }
+    Err(refused(tokens.line(at), Why::Constraint))
+}
+
+/// Whether `|` or UNION stands at `at`.
+pub(crate) fn is_or(tokens: &Tokens<'_>, at: usize) -> bool {
+    tokens.is(at, Sign::Bar) || tokens.is_word(at, "UNION")
+}
+
+/// Whether `^` or INTERSECTION stands at `at`.
+pub(crate) fn is_and(tokens: &Tokens<'_>, at: usize) -> bool {
+    tokens.is(at, Sign::Caret) || tokens.is_word(at, "INTERSECTION")
+}
+
+/// The index after a constraint that no encoding rule sees, which begins with a word at `at`; `None` where it is
+/// not understood.
+pub(crate) fn after_unseen(tokens: &Tokens<'_>, at: usize) -> Option<usize> {
+    let second = next(at);
+    match tokens.text(at) {
+        "WITH" if tokens.is_word(second, "COMPONENT") => {
+            group_end(tokens, next(second), Sign::LeftParen)
+        }
+        "WITH" if tokens.is_word(second, "COMPONENTS") => {
+            group_end(tokens, next(second), Sign::LeftBrace)
+        }
+        "CONSTRAINED" if tokens.is_word(second, "BY") => {
+            group_end(tokens, next(second), Sign::LeftBrace)
+        }
+        "PATTERN" | "SETTINGS" => value_end(tokens, second).ok(),
+        "ENCODED" if tokens.is_word(second, "BY") => value_end(tokens, next(second)).ok(),
+        "CONTAINING" => {
+            let behind = type_end(tokens, second).ok()?;
+            if tokens.is_word(behind, "ENCODED") && tokens.is_word(next(behind), "BY") {
+                value_end(tokens, next(next(behind))).ok()
+            } else {
+                Some(behind)
+            }
+        }
+        _ => None,
+    }
+}
+
+/// The index after a group that this bracket opens.
+fn group_end(tokens: &Tokens<'_>, at: usize, sign: Sign) -> Option<usize> {
+    if tokens.is(at, sign) {
+        Some(tokens.after(at))
+    } else {
+        None
+    }
+}
+
+/// The index after a table constraint or a value in braces.
+pub(crate) fn after_table(tokens: &Tokens<'_>, at: usize) -> usize {
+    let behind = tokens.after(at);
+    if tokens.is(behind, Sign::LeftBrace) {
+        tokens.after(behind)
+    } else {
+        behind
+    }
+}
+
+/// The code of the only character of a text in quotes.
+pub(crate) fn only_letter(text: &str) -> Option<i128> {
+    let mut letters = text.chars().skip(1);
+    let letter = letters.next()?;
+    match letters.next() {
+        Some('"') => Some(i128::from(u32::from(letter))),
+        _ => None,
+    }
+}
+
+/// The index after a value.
+pub(crate) fn after_value(tokens: &Tokens<'_>, at: usize) -> Result<usize, Refusal> {
+    match value_end(tokens, at) {
+        Ok(behind) => Ok(behind),
+        Err(_) => Err(refused(tokens.line(at), Why::Constraint)),
+    }
+}
+
+/// Whether a type stands at `at`, and no value.
+pub(crate) fn is_contained(tokens: &Tokens<'_>, at: usize) -> bool {
+    if !tokens.is_capital(at) || tokens.is(next(at), Sign::Colon) {
+        return false;
+    }
+    if tokens.is(next(at), Sign::Dot) {
+        return tokens.is_capital(next(next(at)));
+    }
+    !matches!(
+        tokens.text(at),
+        "TRUE"
+            | "FALSE"
+            | "NULL"
+            | "MIN"
+            | "MAX"
+            | "PLUS-INFINITY"
+            | "MINUS-INFINITY"
+            | "NOT-A-NUMBER"
+    )
+}

@@ -1,0 +1,218 @@
+//! Writes lists, and names of types with further constraints.
+use crate::bounds::{lengths_between, write_size};
+use crate::info::{Base, Info, State};
+use crate::layout::members_behind;
+use crate::nodes::{Node, Shape};
+use crate::refusal::{Refusal, Why, refused};
+use crate::report::{Remark, Status};
+use crate::seen::{Mode, Seen, intersection};
+use crate::writer::{Known, Task, Writer};
+use std::alloc::Global;
+
+/// How many selections of an alternative a type may have.
+const MOST_SELECTIONS: u32 = 1000;
+
+impl<'t> Writer<'t> {
+    /// Writes SEQUENCE OF, and asks for its element.
+    pub fn write_list(
+        &mut self,
+        alloc: Global,
+        known: Known<'_, 't>,
+        index: usize,
+        node: &Node<'t>,
+        depth: u32,
+    ) -> Result<(), Refusal> {
+        let Shape::List {
+            element,
+            size,
+            size_end,
+        } = node.shape
+        else {
+            return Ok(());
+        };
+        let line = known.line_of(node);
+        let scope = known.scope_of(node, None);
+        let seen = known.values.sizes_seen(alloc, scope, size, size_end)?;
+        self.remark_dropped(alloc, known, index, &seen)?;
+        self.out.push_str(" SEQUENCE")?;
+        if let Some(lengths) = lengths_between(&seen.sizes, seen.marked, line)? {
+            if lengths.cut {
+                self.remark(alloc, known, index, Remark::SizeToMax)?;
+            }
+            write_size(alloc, &mut self.out, lengths, seen.marked)?;
+        }
+        self.remark_gap(alloc, known, index, &seen)?;
+        self.out.push_str(" OF")?;
+        self.stack.push(Task::Holder(Base::List, seen.marked))?;
+        self.stack
+            .push(Task::Node(element, depth.saturating_add(1)))?;
+        Ok(())
+    }
+
+    /// Writes a name of the profile, with its own type's constraints where it has any. Where recursion ends, it is NULL.
+    pub fn write_reference(
+        &mut self,
+        alloc: Global,
+        known: Known<'_, 't>,
+        index: usize,
+        node: &Node<'t>,
+        to: usize,
+        depth: u32,
+    ) -> Result<(), Refusal> {
+        let line = known.line_of(node);
+        self.uses.push(to)?;
+        if known.is_below(to) {
+            if known.options.levels == 0 {
+                return Err(refused(line, Why::Recursive));
+            }
+            if known.level <= 1 {
+                self.remark(alloc, known, index, Remark::Level)?;
+                self.out.push_str(" NULL")?;
+                self.last = Info::of(Base::Other);
+                return Ok(());
+            }
+        }
+        let info = info_of(alloc, known, to, line)?;
+        let levels = depth.saturating_add(info.depth).saturating_sub(1);
+        self.count(info.nodes.saturating_sub(1), levels, line)?;
+        if info.status != Status::Same {
+            self.remark(alloc, known, index, Remark::Holds(info.status))?;
+        }
+        if node.constraints < node.end && info.base != Base::Other {
+            return self.write_constrained(alloc, known, index, node, info, to);
+        }
+        if node.constraints < node.end {
+            self.remark(alloc, known, index, Remark::Dropped)?;
+        }
+        self.put_name(alloc, known, to)?;
+        self.last = info;
+        Ok(())
+    }
+
+    /// Asks for the alternative of a CHOICE (X.680, "selection type").
+    pub fn write_selection(
+        &mut self,
+        known: Known<'_, 't>,
+        node: &Node<'t>,
+        of: usize,
+        at: usize,
+        depth: u32,
+    ) -> Result<(), Refusal> {
+        let line = known.line_of(node);
+        let Some(tokens) = known.values.world.tokens_of(node.module) else {
+            return Err(refused(line, Why::NoType));
+        };
+        let Some((from, to)) = members_behind(known.forest, known.firsts, of) else {
+            return Err(refused(line, Why::NoType));
+        };
+        for index in from..to {
+            if let Some(member) = known.forest.member(index) {
+                if *member.name.as_bytes() == *tokens.text(at).as_bytes() {
+                    self.nodes = self.nodes.saturating_sub(1);
+                    self.selections = self.selections.saturating_add(1);
+                    if self.selections > MOST_SELECTIONS {
+                        return Err(refused(line, Why::Recursive));
+                    }
+                    return Ok(self.stack.push(Task::Node(member.node, depth))?);
+                }
+            }
+        }
+        Err(refused(line, Why::Unknown))
+    }
+
+    /// Writes the name of a type, of one of its cycle with a level less.
+    fn put_name(&mut self, alloc: Global, known: Known<'_, 't>, to: usize) -> Result<(), Refusal> {
+        self.out.push_str(" ")?;
+        if let Some(name) = known.names.get(to) {
+            self.out.push_str(name.as_str())?;
+        }
+        if known.is_below(to) {
+            let level = known.level.saturating_sub(1);
+            let text = format!(in alloc; "-level-{level}")?;
+            self.out.push_str(text.as_str())?;
+        }
+        Ok(())
+    }
+
+    /// Writes the type of an assignment with further constraints.
+    fn write_constrained(
+        &mut self,
+        alloc: Global,
+        known: Known<'_, 't>,
+        index: usize,
+        node: &Node<'t>,
+        info: Info,
+        to: usize,
+    ) -> Result<(), Refusal> {
+        let line = known.line_of(node);
+        let mode = if info.base == Base::Integer {
+            Mode::Numbers
+        } else {
+            Mode::Others
+        };
+        if info.base == Base::Boolean || info.base == Base::Enumerated {
+            self.remark(alloc, known, index, Remark::Dropped)?;
+            self.put_name(alloc, known, to)?;
+            self.last = info;
+            return Ok(());
+        }
+        let own = self.seen_of(alloc, known, index, node, mode, info.named)?;
+        if info.base == Base::List {
+            return self.put_list_name(alloc, known, index, info, own, to, line);
+        }
+        let seen = intersection(alloc, info.seen(alloc)?, own, line)?;
+        if info.base == Base::Integer {
+            self.put_integer(alloc, known, index, seen, info.named, line)
+        } else {
+            self.put_string(alloc, known, index, info.base, seen, line)
+        }
+    }
+
+    /// Writes the name of a list with a further size.
+    fn put_list_name(
+        &mut self,
+        alloc: Global,
+        known: Known<'_, 't>,
+        index: usize,
+        info: Info,
+        own: Seen,
+        to: usize,
+        line: u32,
+    ) -> Result<(), Refusal> {
+        self.put_name(alloc, known, to)?;
+        if own.sizes.is_none() {
+            self.last = info;
+            return Ok(());
+        }
+        if info.marked {
+            return Err(refused(line, Why::Size));
+        }
+        if let Some(lengths) = lengths_between(&own.sizes, own.marked, line)? {
+            if lengths.cut {
+                self.remark(alloc, known, index, Remark::SizeToMax)?;
+            }
+            write_size(alloc, &mut self.out, lengths, own.marked)?;
+        }
+        self.remark_gap(alloc, known, index, &own)?;
+        self.last = Info {
+            left: own.sizes,
+            marked: own.marked,
+            ..info
+        };
+        Ok(())
+    }
+}
+
+/// What is known of a type that is referred to.
+fn info_of(alloc: Global, known: Known<'_, '_>, to: usize, line: u32) -> Result<Info, Refusal> {
+    let states = if known.is_below(to) {
+        known.below
+    } else {
+        known.values.states
+    };
+    match states.get(to) {
+        Some(State::Ready(info)) => Ok(info.copy(alloc)?),
+        Some(State::Refused) => Err(refused(line, Why::Holds)),
+        _ => Err(refused(line, Why::Parameter)),
+    }
+}

@@ -1,0 +1,54 @@
+//! The reports of all types, each with those that it refers to.
+use crate::report::TypeReport;
+use crate::written::Written;
+use std::alloc::{AllocError, Global};
+
+/// Of each type its index in the report, where it has one.
+fn places_in_report(
+    alloc: Global,
+    reports: &[Option<TypeReport>],
+) -> Result<Vec<Option<usize>>, AllocError> {
+    let mut places = Vec::new(alloc);
+    let mut count = 0usize;
+    for report in reports {
+        if report.is_some() {
+            places.push(Some(count))?;
+            count = count.saturating_add(1);
+        } else {
+            places.push(None)?;
+        }
+    }
+    Ok(places)
+}
+
+/// The indices in the report of the types that a type refers to, each once.
+fn used(alloc: Global, places: &[Option<usize>], uses: &[usize]) -> Result<Vec<usize>, AllocError> {
+    let mut found = Vec::new(alloc);
+    for entry in uses {
+        if let Some(Some(place)) = places.get(*entry) {
+            found.push(*place)?;
+        }
+    }
+    found.sort()?;
+    found.dedup();
+    Ok(found)
+}
+
+/// The reports of all types, in their order.
+pub(crate) fn reports_of(alloc: Global, written: Written) -> Result<Vec<TypeReport>, AllocError> {
+    let Written {
+        states: _,
+        lines: _,
+        levels: _,
+        reports,
+    } = written;
+    let places = places_in_report(alloc, reports.as_slice())?;
+    let mut all = Vec::new(alloc);
+    for report in reports {
+        if let Some(mut report) = report {
+            report.uses = used(alloc, places.as_slice(), report.uses.as_slice())?;
+            all.push(report)?;
+        }
+    }
+    Ok(all)
+}

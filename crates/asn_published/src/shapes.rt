@@ -1,0 +1,232 @@
+//! What a type is that begins with a word: a reserved one, a reference, a parameter, or the field of a class.
+use crate::building::{Forest, Task};
+use crate::classes::{Field, field_at, is_class_field};
+use crate::instances::{Actual, Instance};
+use crate::modules::{What, World};
+use crate::nodes::{Holder, Node, Shape};
+use crate::refusal::Why;
+use crate::token::Sign;
+use crate::tokens::{Tokens, next};
+use crate::words::{barred, bits_at, letters_named, second_word};
+use crate::wrong::TextFault;
+use std::alloc::Global;
+
+impl<'t> Forest<'t> {
+    /// The type at `at`, which is no list; `None` where the node is to be built again, of other lexical items.
+    pub fn shape_at(
+        &mut self,
+        alloc: Global,
+        world: &World<'t>,
+        tokens: &Tokens<'t>,
+        todo: &mut Vec<Task>,
+        node: usize,
+        at: usize,
+    ) -> Result<Option<Shape>, TextFault> {
+        let second = next(at);
+        let word = tokens.text(at);
+        if let Some(letters) = letters_named(word) {
+            return Ok(Some(Shape::Text(letters)));
+        }
+        if let Some((wanted, shape)) = second_word(word) {
+            if !tokens.is_word(second, wanted) {
+                return Err(tokens.expected(second, wanted));
+            }
+            return Ok(Some(shape));
+        }
+        if let Some(shape) = barred(word) {
+            return Ok(Some(shape));
+        }
+        let shape = match word {
+            "BOOLEAN" => Shape::Boolean,
+            "NULL" => Shape::Null,
+            "UTF8String" => Shape::Utf8,
+            "UTCTime" | "GeneralizedTime" => Shape::Time,
+            "INTEGER" if tokens.is(second, Sign::LeftBrace) => Shape::Integer {
+                named: Some(second),
+            },
+            "INTEGER" => Shape::Integer { named: None },
+            "BIT" => bits_at(tokens, second)?,
+            "ENUMERATED" => Shape::Enumerated { braces: second },
+            "SEQUENCE" => self.braced(tokens, todo, node, Holder::Sequence, second)?,
+            "SET" => self.braced(tokens, todo, node, Holder::Set, second)?,
+            "CHOICE" => self.braced(tokens, todo, node, Holder::Choice, second)?,
+            _ if is_class_field(tokens, at) => {
+                return self.field_shape(world, tokens, todo, node, at);
+            }
+            _ => return self.named_shape(alloc, world, tokens, todo, node, at),
+        };
+        Ok(Some(shape))
+    }
+
+    /// What the field of a class at `at` is: an open type, or the type of its values, of which the node is built next.
+    fn field_shape(
+        &mut self,
+        world: &World<'t>,
+        tokens: &Tokens<'t>,
+        todo: &mut Vec<Task>,
+        index: usize,
+        at: usize,
+    ) -> Result<Option<Shape>, TextFault> {
+        let Some(it) = self.node(index) else {
+            return Ok(Some(Shape::Refused(Why::ClassField)));
+        };
+        if it.is_field {
+            return Ok(Some(Shape::Refused(Why::ClassField)));
+        }
+        match field_at(world, tokens, it.module, at) {
+            Ok(Field::Open) => Ok(Some(Shape::Open)),
+            Ok(Field::Type { module, start, end }) => {
+                let type_of_values = Actual {
+                    module,
+                    start,
+                    end,
+                    outer: None,
+                };
+                self.build_as(todo, index, type_of_values, true)?;
+                Ok(None)
+            }
+            Err(why) => Ok(Some(Shape::Refused(why))),
+        }
+    }
+
+    /// Lets a node be built of other lexical items.
+    fn build_as(
+        &mut self,
+        todo: &mut Vec<Task>,
+        index: usize,
+        items: Actual,
+        is_field: bool,
+    ) -> Result<(), TextFault> {
+        if let Some(node) = self.nodes.get_mut(index) {
+            node.is_field = node.is_field || is_field;
+            node.module = items.module;
+            node.at = items.start;
+            node.end = items.end;
+            node.constraints = items.end;
+            node.instance = items.outer;
+        }
+        Ok(todo.push(Task {
+            node: index,
+            is_group: false,
+        })?)
+    }
+
+    /// What a name at `at` stands for.
+    fn named_shape(
+        &mut self,
+        alloc: Global,
+        world: &World<'t>,
+        tokens: &Tokens<'t>,
+        todo: &mut Vec<Task>,
+        node: usize,
+        at: usize,
+    ) -> Result<Option<Shape>, TextFault> {
+        let Some(it) = self.node(node) else {
+            return Ok(Some(Shape::Refused(Why::Unknown)));
+        };
+        if let Some(instance) = it.instance {
+            match self.instances.actual(world, instance, tokens.text(at)) {
+                Ok(None) => {}
+                Ok(Some(actual)) if it.constraints == it.end => {
+                    self.build_as(todo, node, actual, false)?;
+                    return Ok(None);
+                }
+                _ => return Ok(Some(Shape::Refused(Why::Parameter))),
+            }
+        }
+        match world.reference_at(it.module, at) {
+            Ok((to, end)) => Ok(Some(self.reference_to(alloc, world, tokens, it, to, end)?)),
+            Err(why) => Ok(Some(Shape::Refused(why))),
+        }
+    }
+
+    /// A reference of a node to an assignment, after whose name an item at `end` stands.
+    fn reference_to(
+        &mut self,
+        alloc: Global,
+        world: &World<'t>,
+        tokens: &Tokens<'t>,
+        node: Node<'t>,
+        to: usize,
+        end: usize,
+    ) -> Result<Shape, TextFault> {
+        if !world.assigns(to, What::Type) {
+            return Ok(Shape::Refused(Why::NoType));
+        }
+        let Some(assignment) = world.assignment(to) else {
+            return Ok(Shape::Refused(Why::Unknown));
+        };
+        let has_actual = tokens.is(end, Sign::LeftBrace);
+        if assignment.parameters.is_none() {
+            return Ok(if has_actual {
+                Shape::Refused(Why::Parameter)
+            } else {
+                Shape::Reference { to }
+            });
+        }
+        if !has_actual {
+            return Ok(Shape::Refused(Why::Parameter));
+        }
+        let asked = Instance {
+            assignment: to,
+            module: node.module,
+            braces: end,
+            outer: node.instance,
+            level: 0,
+        };
+        match self.instances.index_for(alloc, world, asked)? {
+            Ok(index) => Ok(Shape::Reference {
+                to: world.assignments.len().saturating_add(index),
+            }),
+            Err(why) => Ok(Shape::Refused(why)),
+        }
+    }
+
+    /// Adds a node for each type whose values the constraints of a node allow (X.680, "contained subtype"), so that
+    /// these types are written before the node.
+    pub fn contained_types(
+        &mut self,
+        world: &World<'t>,
+        tokens: &Tokens<'t>,
+        index: usize,
+    ) -> Result<(), TextFault> {
+        let Some(node) = self.node(index) else {
+            return Ok(());
+        };
+        let mut at = node.constraints;
+        let mut may_begin = false;
+        for _ in 0..tokens.len() {
+            if at >= node.end {
+                break;
+            }
+            if may_begin && tokens.is_capital(at) {
+                if let Ok((to, _)) = world.reference_at(node.module, at) {
+                    if world.assigns(to, What::Type) {
+                        self.nodes.push(Node {
+                            shape: Shape::Reference { to },
+                            parent: index,
+                            ..node
+                        })?;
+                    }
+                }
+            }
+            may_begin = begins_element(tokens, at);
+            at = if tokens.is(at, Sign::LeftBrace) {
+                tokens.after(at)
+            } else {
+                next(at)
+            };
+        }
+        Ok(())
+    }
+}
+
+/// Whether an element of a constraint may begin after the item at `at`.
+fn begins_element(tokens: &Tokens<'_>, at: usize) -> bool {
+    tokens.is(at, Sign::LeftParen)
+        || tokens.is(at, Sign::Bar)
+        || tokens.is(at, Sign::Caret)
+        || tokens.is_word(at, "INCLUDES")
+        || tokens.is_word(at, "UNION")
+        || tokens.is_word(at, "INTERSECTION")
+}

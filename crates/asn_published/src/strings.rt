@@ -1,0 +1,196 @@
+//! Writes INTEGER and strings, with what their constraints leave.
+use crate::bounds::{Numbers, lengths_between, numbers_between, write_range, write_size};
+use crate::info::{Base, Info};
+use crate::letters::{keeps_codes, name_of};
+use crate::nodes::{Letters, Node, Shape};
+use crate::refusal::{Refusal, Why, refused};
+use crate::report::Remark;
+use crate::seen::{Mode, Seen};
+use crate::writer::{Known, Writer};
+use std::alloc::Global;
+
+impl<'t> Writer<'t> {
+    /// What the constraints of a node leave.
+    pub fn seen_of(
+        &mut self,
+        alloc: Global,
+        known: Known<'_, 't>,
+        index: usize,
+        node: &Node<'t>,
+        mode: Mode,
+        named: Option<(usize, usize)>,
+    ) -> Result<Seen, Refusal> {
+        let scope = known.scope_of(node, named);
+        let seen = known
+            .values
+            .constraints_seen(alloc, scope, mode, node.constraints, node.end)?;
+        self.remark_dropped(alloc, known, index, &seen)?;
+        Ok(seen)
+    }
+
+    /// Writes INTEGER.
+    pub fn write_integer(
+        &mut self,
+        alloc: Global,
+        known: Known<'_, 't>,
+        index: usize,
+        node: &Node<'t>,
+        braces: Option<usize>,
+    ) -> Result<(), Refusal> {
+        let named = match braces {
+            Some(braces) => Some((node.module, braces)),
+            None => None,
+        };
+        let seen = self.seen_of(alloc, known, index, node, Mode::Numbers, named)?;
+        self.put_integer(alloc, known, index, seen, named, known.line_of(node))
+    }
+
+    /// Writes INTEGER with what is left of its numbers.
+    pub fn put_integer(
+        &mut self,
+        alloc: Global,
+        known: Known<'_, 't>,
+        index: usize,
+        seen: Seen,
+        named: Option<(usize, usize)>,
+        line: u32,
+    ) -> Result<(), Refusal> {
+        let mut info = Info::of(Base::Integer);
+        match numbers_between(&seen.numbers, seen.marked, line)? {
+            Numbers::All => self.out.push_str(" INTEGER")?,
+            Numbers::Unsigned => self.out.push_str(" OCTET STRING (SIZE (8))")?,
+            Numbers::Between(low, high) => {
+                self.out.push_str(" INTEGER")?;
+                write_range(alloc, &mut self.out, low, high, seen.marked)?;
+            }
+        }
+        if let Some(ranges) = &seen.numbers {
+            if ranges.len() > 1 {
+                self.remark(alloc, known, index, Remark::Gap)?;
+            }
+        }
+        info.left = seen.numbers;
+        info.marked = seen.marked;
+        info.named = named;
+        self.last = info;
+        Ok(())
+    }
+
+    /// Writes a string with a size.
+    pub fn write_string(
+        &mut self,
+        alloc: Global,
+        known: Known<'_, 't>,
+        index: usize,
+        node: &Node<'t>,
+    ) -> Result<(), Refusal> {
+        let seen = self.seen_of(alloc, known, index, node, Mode::Others, None)?;
+        let base = match node.shape {
+            Shape::Bits { named } => Base::Bits { named },
+            Shape::Text(letters) => Base::Text(letters),
+            _ => Base::Octets,
+        };
+        self.put_string(alloc, known, index, base, seen, known.line_of(node))
+    }
+
+    /// Writes a string of a kind with what is left of its lengths.
+    pub fn put_string(
+        &mut self,
+        alloc: Global,
+        known: Known<'_, 't>,
+        index: usize,
+        base: Base,
+        seen: Seen,
+        line: u32,
+    ) -> Result<(), Refusal> {
+        let lengths = lengths_between(&seen.sizes, seen.marked, line)?;
+        let is_fixed = match lengths {
+            Some(lengths) => lengths.high == Some(lengths.low) && !seen.marked,
+            None => false,
+        };
+        self.put_kind(alloc, known, index, base, &seen, is_fixed, line)?;
+        if let Some(lengths) = lengths {
+            if lengths.cut {
+                self.remark(alloc, known, index, Remark::SizeToMax)?;
+            }
+            write_size(alloc, &mut self.out, lengths, seen.marked)?;
+        }
+        self.remark_gap(alloc, known, index, &seen)?;
+        let mut info = Info::of(base);
+        info.left = seen.sizes;
+        info.letters = seen.letters;
+        info.marked = seen.marked;
+        self.last = info;
+        Ok(())
+    }
+
+    /// Writes the kind of a string: named bits have a fixed size, or are asked for as they are.
+    fn put_kind(
+        &mut self,
+        alloc: Global,
+        known: Known<'_, 't>,
+        index: usize,
+        base: Base,
+        seen: &Seen,
+        is_fixed: bool,
+        line: u32,
+    ) -> Result<(), Refusal> {
+        match base {
+            Base::Bits { named } => {
+                if named && !is_fixed {
+                    if !known.options.plain_bits {
+                        return Err(refused(line, Why::NamedBits));
+                    }
+                    self.remark(alloc, known, index, Remark::TrimmedBits)?;
+                }
+                self.out.push_str(" BIT STRING")?;
+            }
+            Base::Text(kind) => {
+                self.remark_letters(alloc, known, index, kind, seen, line)?;
+                self.out.push_str(" ")?;
+                self.out.push_str(name_of(kind))?;
+            }
+            _ => self.out.push_str(" OCTET STRING")?,
+        }
+        Ok(())
+    }
+
+    /// A remark where sizes have gaps.
+    pub fn remark_gap(
+        &mut self,
+        alloc: Global,
+        known: Known<'_, 't>,
+        index: usize,
+        seen: &Seen,
+    ) -> Result<(), Refusal> {
+        if let Some(ranges) = &seen.sizes {
+            if ranges.len() > 1 {
+                self.remark(alloc, known, index, Remark::Gap)?;
+            }
+        }
+        Ok(())
+    }
+
+    /// A refusal where the characters that are left have codes of their own, and a remark where they are not all.
+    fn remark_letters(
+        &mut self,
+        alloc: Global,
+        known: Known<'_, 't>,
+        index: usize,
+        kind: Letters,
+        seen: &Seen,
+        line: u32,
+    ) -> Result<(), Refusal> {
+        let mut are_all = kind != Letters::Printable;
+        if let Some(letters) = &seen.letters {
+            if seen.marked || !keeps_codes(kind, letters) {
+                return Err(refused(line, Why::Alphabet));
+            }
+            are_all = kind == Letters::Numeric;
+        }
+        if !are_all {
+            self.remark(alloc, known, index, Remark::Characters)?;
+        }
+        Ok(())
+    }
+}

@@ -1,0 +1,57 @@
+//! The lexical items of a published text (X.680, "ASN.1 lexical items").
+
+/// A sign of the notation.
+#[derive(Clone, Copy, PartialEq, Eq)]
+pub(crate) enum Sign {
+    LeftBrace,
+    RightBrace,
+    LeftParen,
+    RightParen,
+    LeftBracket,
+    RightBracket,
+    Comma,
+    Semicolon,
+    Colon,
+    Dot,
+    /// `..`
+    UpTo,
+    /// `...`
+    Dots,
+    /// `::=`
+    Becomes,
+    Bar,
+    Caret,
+    Bang,
+    Less,
+    Greater,
+    At,
+    Ampersand,
+    Minus,
+    Star,
+    Slash,
+    Equals,
+}
+
+/// What kind of lexical item a token is.
+#[derive(Clone, Copy, PartialEq, Eq)]
+pub(crate) enum Kind {
+    /// A reference, an identifier or a reserved word.
+    Word,
+    /// Digits.
+    Number,
+    /// Digits with a fraction or an exponent.
+    Real,
+    /// `'..'B` or `'..'H`.
+    Quoted,
+    /// `".."`.
+    Text,
+    Sign(Sign),
+}
+
+/// A lexical item, its text and its line, from 1.
+#[derive(Clone, Copy)]
+pub(crate) struct Token<'t> {
+    pub kind: Kind,
+    pub text: &'t str,
+    pub line: u32,
+}

@@ -54,7 +54,11 @@ pub struct MessageStream<'a, R: Rules, S> {
 
 /// The messages of the type that a reader has, encoded by the rules R, one after the other. Nothing is read yet, and
 /// nothing allocated.
-pub fn messages<R: Rules, S: Read>(alloc: Global, reader: S, ty: &Checked) -> MessageStream<'_, R, S>
+pub fn messages<R: Rules, S: Read>(
+    alloc: Global,
+    reader: S,
+    ty: &Checked,
+) -> MessageStream<'_, R, S>
     ensures of_type { shape_of result.ty.now ≡ shape_of ty.now }
     ensures held { result.held.items ≡ [] }
     ensures given { S.remaining result.reader ≡ S.remaining reader }

@@ -4,6 +4,8 @@
 usage: tests/edits.py [CRATE..]      at the top of the repository: tries all edits of these crates, or of all
        tests/edits.py CRATE/NAME..   tries these edits alone (NAME without its ending), and notes nothing
        tests/edits.py --due          as the gate does: those of the crates that changed, and of a quarter of the others
+       tests/edits.py --due --beside the same beside `rt ci`: reads from its input the name of each crate as it is proved,
+                                     and tries the crate's edits then; half of the processors are left to the proofs
        tests/edits.py --list         says which edits there are, and what each changes; tries none
        tests/edits.py --self-test    tries wrong edits of a tiny crate with right ones among them, which have to be told
 
@@ -303,8 +305,7 @@ class Tries:
     def run(self, pool):
         seed = self.seed()
         if not seed:
-            self.bad = {it.label: "the crate itself is not proved" for it in self.edits}
-            return say(f"{self.crate.name}: NOT TRIED: the crate itself is not proved")
+            return self.leave("the crate itself is not proved")
         for edit in self.edits:
             if edit.fault:
                 self.bad[edit.label] = edit.fault
@@ -320,6 +321,10 @@ class Tries:
         [*pool.map(lambda task: self.by_itself(*task, seed), tasks)]
         [*pool.map(lambda edit: self.whole(edit, seed), single)]
         shutil.rmtree(os.path.dirname(seed), ignore_errors=True)
+
+    def leave(self, why):
+        self.bad = {it.label: why for it in self.edits}
+        say(f"{self.crate.name}: NOT TRIED: {why}")
 
     def seed(self):
         """A folder with what a check of the crate as it stands proved, begun with what earlier checks kept here."""
@@ -471,21 +476,61 @@ def lanes():
     return max(1, min(rt.processors(), int(rt.free() // 4_500_000_000)))
 
 
-def try_all(chosen, edits):
+class Beside:
+    """The crates that `rt ci` has proved, as the input names them, and the processors that its proofs take until it ends."""
+
+    def __init__(self, chosen):
+        self.told = {it.name: threading.Event() for it in chosen}
+        self.well, self.kept = set(), lanes() - lanes() // 2
+        for _ in range(self.kept):
+            LANES.acquire()
+        threading.Thread(target=self.read, daemon=True).start()
+
+    def read(self):
+        for line in sys.stdin:
+            name = line.strip()
+            self.well.add(name)
+            if name in self.told:
+                self.told[name].set()
+        for _ in range(self.kept):
+            LANES.release()
+        for it in self.told.values():
+            it.set()
+
+    def is_proved(self, name):
+        self.told[name].wait()
+        return name in self.well
+
+
+def lacks(crate):
+    """The library below the crate that is not built and cannot be, if there is one."""
+    return next((it.name for it in crate.below() if not os.path.isdir(it.rlib) and it.build_rlib(["--jobs", "1"], anew=False)), None)
+
+
+def try_all(chosen, edits, is_beside=False):
     """Tries the edits of these crates, and returns what became of them."""
     global LANES
     LANES = threading.Semaphore(lanes())
     rtlib.guarded()
-    # the libraries below, where they are not built yet, begun with what checks in other copies on this machine kept
-    rt.share_work(False)
+    results = [Tries(it, edits[it.name]) for it in chosen]
     for crate in chosen:
         crate.out = open(os.devnull, "w")
-        for below in crate.below():
-            if not os.path.isdir(below.rlib) and below.build_rlib(["--jobs", "1"], anew=False):
-                rtlib.stop(f"{below.name}, which {crate.name} stands on, is not proved")
-    results = [Tries(it, edits[it.name]) for it in chosen]
+    beside = Beside(chosen) if is_beside else None
+    if not beside:
+        # the libraries below, where they are not built yet, begun with what checks in other copies on this machine kept
+        rt.share_work(False)
+        for crate in chosen:
+            lacking = lacks(crate)
+            if lacking:
+                rtlib.stop(f"{lacking}, which {crate.name} stands on, is not proved")
+
+    def run(tries, pool):
+        if beside and not beside.is_proved(tries.crate.name):
+            return tries.leave("`rt ci` did not prove the crate")
+        tries.run(pool)
+
     with ThreadPoolExecutor(max(len(results), 1)) as crates, ThreadPoolExecutor(64) as pool:
-        [*crates.map(lambda it: it.run(pool), results)]
+        [*crates.map(lambda it: run(it, pool), results)]
     return results
 
 
@@ -585,7 +630,7 @@ def self_test():
 def main(words):
     if words == ["--self-test"]:
         return self_test()
-    if any(it.startswith("-") and it not in ("--due", "--list") for it in words):
+    if any(it.startswith("-") and it not in ("--due", "--beside", "--list") for it in words):
         print(__doc__, file=sys.stderr)
         return 2
     os.chdir(os.path.join(os.path.dirname(os.path.abspath(__file__)), ".."))
@@ -614,7 +659,7 @@ def main(words):
         known, number = noted(), number_of_commits()
         due = [it for it in chosen if known.get(it.name) != sums[it.name] or has_turn(it.name, number)]
         left, chosen = [it.name for it in chosen if it not in due], due
-    results = try_all(chosen, edits)
+    results = try_all(chosen, edits, "--beside" in words)
     if "--due" not in words and not single:
         note(results, sums)
     return summary(results, edits, left)

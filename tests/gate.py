@@ -3,23 +3,27 @@
 
 usage: tests/gate.py [PART..]      the parts are proofs, edits and tests; all three, if none is named
 
+0. form, in seconds: `tests/prove.py --form` looks at what `rt ci` refuses before it proves a crate; where it is wrong the
+   gate ends, since what follows would be for nothing.
 1. proofs: `rt ci` proves every crate from nothing, and runs the programs as two compilers build them.
 2. edits: tests/edits.py tries itself on a tiny crate, and then the wrong bodies of the crates that changed since they
-   were tried, and of a quarter of the others.
+   were tried, and of a quarter of the others. In a clone with no out/ it goes beside the proofs: a crate's edits begin
+   when the crate is proved, on processors that no proof takes.
 3. tests: the programs of tests/programs are built without a proof of their own (tests/room.py), and what they write is
    compared; tests/refused_allocations.sh refuses in turn each allocation of programs; examples/run.sh and
    tests/versions.py run the program `asn_tool` as the gate has built it.
 
 What a step writes is shown as it comes: a line for each crate that is proved, and for each group of edits that is tried.
-The end says how many minutes of a processor each part took, and how many by the clock. The last line is 'N passed, M
-failed': crates, edits, rows of the test programs, and scripts.
+The end says how many minutes of a processor each part took, and how many by the clock from its first line to its last.
+The last line is 'N passed, M failed': crates, edits, rows of the test programs, and scripts.
 """
+import glob
 import os
 import re
-import resource
 import subprocess
 import sys
 import tempfile
+import threading
 import time
 
 sys.dont_write_bytecode = True
@@ -31,49 +35,98 @@ PROGRAMS = ("rows", "hostile", "texts", "types", "names", "published", "memory",
 TOOL = "crates/asn_tool/out/asn_tool"
 
 
-class Count:
-    """What passed and what failed, and how long the parts took."""
+SHOWING = threading.Lock()
+
+
+class Part:
+    """A part of the gate: what passed and what failed, which of its steps failed, and how long it took."""
 
     def __init__(self):
-        self.passed, self.failed, self.minutes, self.lost = 0, 0, {}, []
+        self.passed, self.failed, self.lost, self.seconds, self.begun, self.ended = 0, 0, [], 0, time.time(), None
 
     def add(self, name, passed, failed):
         self.passed, self.failed = self.passed + passed, self.failed + failed
         self.lost += [name] * (failed > 0)
+        self.ended = time.time()
 
 
 def say(text):
-    print(text, flush=True)
+    with SHOWING:
+        print(text, flush=True)
 
 
-def processor_seconds():
-    used = resource.getrusage(resource.RUSAGE_CHILDREN)
+def begin(words, given=subprocess.DEVNULL):
+    say(f"== {' '.join(words)}")
+    return subprocess.Popen(words, stdin=given, stdout=subprocess.PIPE, stderr=subprocess.STDOUT, text=True, errors="replace")
+
+
+def ended(ran):
+    """Waits for the end of a command, and returns the seconds of a processor that it took, with all that it began and waited for."""
+    _, status, used = os.wait4(ran.pid, 0)
+    ran.returncode = os.waitstatus_to_exitcode(status)
     return used.ru_utime + used.ru_stime
 
 
-def step(count, words):
-    """Runs a command and shows what it writes. Its line 'N passed, M failed' counts, or else its status does."""
-    say(f"== {' '.join(words)}")
+def follow(part, ran, hear=None):
+    """Shows what a command writes until it ends. Its line 'N passed, M failed' counts, or else its status does."""
     last = None
-    with subprocess.Popen(words, stdin=subprocess.DEVNULL, stdout=subprocess.PIPE, stderr=subprocess.STDOUT, text=True, errors="replace") as ran:
-        for line in ran.stdout:
-            found = re.match(r"(\d+) passed, (\d+) failed", line)
-            last = found or last
-            if not found:
-                print(line, end="", flush=True)
+    for line in ran.stdout:
+        found = re.match(r"(\d+) passed, (\d+) failed", line)
+        last = found or last
+        if not found:
+            say(line.rstrip("\n"))
+        if hear:
+            hear(line)
+    part.seconds += ended(ran)
     passed, failed = (int(last[1]), int(last[2])) if last else (int(ran.returncode == 0), 0)
     failed = max(failed, int(ran.returncode != 0))
-    say(f"{' '.join(words)}: {passed} passed, {failed} failed{f'; it ended with status {ran.returncode}' if ran.returncode else ''}")
-    count.add(words[0], passed, failed)
+    say(f"{' '.join(ran.args)}: {passed} passed, {failed} failed{f'; it ended with status {ran.returncode}' if ran.returncode else ''}")
+    part.add(" ".join(ran.args[3:] if ran.args[0] == "nice" else ran.args), passed, failed)
 
 
-def proofs(count, room):
-    step(count, ["rt", "ci"])
+def step(part, words):
+    follow(part, begin(words))
 
 
-def edits(count, room):
-    step(count, ["tests/edits.py", "--self-test"])
-    step(count, ["tests/edits.py", "--due"])
+PROVED = re.compile(r"rt: (\w+) (?:proved$|is kept: )")
+
+
+def proofs_and_edits(parts):
+    """The proofs, and the edits beside them: each crate that is proved is named to tests/edits.py."""
+    tried = begin(["nice", "-n", "10", "tests/edits.py", "--due", "--beside"], subprocess.PIPE)
+
+    def follow_edits():
+        step(parts["edits"], ["nice", "-n", "10", "tests/edits.py", "--self-test"])
+        follow(parts["edits"], tried)
+
+    follows = threading.Thread(target=follow_edits)
+    follows.start()
+
+    def name_to_edits(line):
+        found = PROVED.match(line)
+        if found:
+            try:
+                tried.stdin.write(f"{found[1]}\n")
+                tried.stdin.flush()
+            except BrokenPipeError:
+                # (it has ended, and its status counts)
+                pass
+
+    follow(parts["proofs"], begin(["rt", "ci"]), name_to_edits)
+    try:
+        tried.stdin.close()
+    except BrokenPipeError:
+        pass
+    follows.join()
+
+
+def proofs(part):
+    step(part, ["rt", "ci"])
+
+
+def edits(part):
+    step(part, ["tests/edits.py", "--self-test"])
+    step(part, ["tests/edits.py", "--due"])
 
 
 def stored(name):
@@ -83,37 +136,54 @@ def stored(name):
         return given, it.read()
 
 
-def compare(count, room, name):
+def compare(part, room, name):
     """Runs a test program, and compares what it writes with what is stored. It writes how many rows hold, or that each call does.
     Lines that begin with `counted: ` are shown and not compared."""
     given, wanted = stored(name)
     with open(given, "rb") as it:
-        ran = subprocess.run([f"{room}/test_{name}"], stdin=it, stdout=subprocess.PIPE, stderr=subprocess.STDOUT)
+        ran = subprocess.Popen([f"{room}/test_{name}"], stdin=it, stdout=subprocess.PIPE, stderr=subprocess.STDOUT)
+    said = ran.stdout.read()
+    part.seconds += ended(ran)
     rows = re.match(rb"(\d+) rows", wanted)
-    counts = re.findall(rb"^counted: (.*)$", ran.stdout, re.M)
-    written = re.sub(rb"^counted: .*\n", b"", ran.stdout, flags=re.M)
+    counts = re.findall(rb"^counted: (.*)$", said, re.M)
+    written = re.sub(rb"^counted: .*\n", b"", said, flags=re.M)
     well = ran.returncode == 0 and written == wanted
     if not well:
-        say(ran.stdout.decode(errors="replace"))
+        say(said.decode(errors="replace"))
     for line in counts:
         say(f"test_{name}: {line.decode()}")
     say(f"test_{name}: {'wrote what is stored' if well else f'DID NOT WRITE what is stored, with status {ran.returncode}'}: {wanted.split(chr(10).encode())[0].decode()}")
-    count.add(f"test_{name}", int(rows[1]) if rows and well else int(well), int(not well))
+    part.add(f"test_{name}", int(rows[1]) if rows and well else int(well), int(not well))
 
 
-def tests(count, room):
+def tests(part):
     words = [f"tests/programs/{it}" for it in ("outcomes", *PROGRAMS, "refused")]
-    step(count, ["tests/room.py", "build", room, *words])
-    for name in PROGRAMS:
-        if os.path.isfile(f"{room}/test_{name}"):
-            compare(count, room, name)
-    step(count, ["tests/octet_counts.py"])
-    step(count, ["tests/refused_allocations.sh", room])
-    step(count, ["examples/run.sh", TOOL])
-    step(count, ["tests/versions.py", TOOL])
+    with tempfile.TemporaryDirectory(prefix="tulvorn-gate-") as room:
+        step(part, ["tests/room.py", "build", room, *words])
+        for name in PROGRAMS:
+            if os.path.isfile(f"{room}/test_{name}"):
+                compare(part, room, name)
+        step(part, ["tests/octet_counts.py"])
+        step(part, ["tests/refused_allocations.sh", room])
+    step(part, ["examples/run.sh", TOOL])
+    step(part, ["tests/versions.py", TOOL])
 
 
 PARTS = {"proofs": proofs, "edits": edits, "tests": tests}
+
+
+def run(names):
+    """Runs the parts of these names, and returns them."""
+    parts = {}
+    # (`rt ci` puts back what stood in out/ when it ends, which may not change below the edits)
+    if {"proofs", "edits"} <= {*names} and not glob.glob("crates/*/out"):
+        parts = {"proofs": Part(), "edits": Part()}
+        proofs_and_edits(parts)
+    for name, call in PARTS.items():
+        if name in names and name not in parts:
+            parts[name] = Part()
+            call(parts[name])
+    return parts
 
 
 def main(names):
@@ -121,22 +191,19 @@ def main(names):
         print(__doc__, file=sys.stderr)
         return 2
     os.chdir(TOP)
-    count, start = Count(), time.time()
-    with tempfile.TemporaryDirectory(prefix="tulvorn-gate-") as room:
-        for name, part in PARTS.items():
-            if names and name not in names:
-                continue
-            used, begun = processor_seconds(), time.time()
-            part(count, room)
-            count.minutes[name] = (processor_seconds() - used) / 60, (time.time() - begun) / 60
-    for name, (used, clock) in count.minutes.items():
-        say(f"{name}: {used:.1f} minutes of a processor, {clock:.1f} by the clock")
-    used = sum(it for it, _ in count.minutes.values())
+    start, form = time.time(), Part()
+    step(form, ["tests/prove.py", "--form"])
+    parts = {"form": form, **(run(names or [*PARTS]) if not form.failed else {})}
+    for name, it in parts.items():
+        say(f"{name}: {it.seconds / 60:.1f} minutes of a processor, {(it.ended - it.begun) / 60:.1f} by the clock")
+    used = sum(it.seconds for it in parts.values()) / 60
     say(f"in all: {used:.1f} minutes of a processor, {(time.time() - start) / 60:.1f} by the clock on {len(os.sched_getaffinity(0))} processors")
-    if count.lost:
-        say(f"FAILED: {' '.join(count.lost)}")
-    say(f"{count.passed} passed, {count.failed} failed")
-    return 1 if count.failed else 0
+    lost = [name for it in parts.values() for name in it.lost]
+    if lost:
+        say(f"FAILED: {' '.join(lost)}")
+    passed, failed = sum(it.passed for it in parts.values()), sum(it.failed for it in parts.values())
+    say(f"{passed} passed, {failed} failed")
+    return 1 if failed else 0
 
 
 if __name__ == "__main__":

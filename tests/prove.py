@@ -2,6 +2,10 @@
 """Proves the crates of crates.txt while one writes, each after those that it uses, and skips what is proved already.
 
 usage: tests/prove.py [CRATE..]      at the top of the repository; with names these crates and those below them
+       tests/prove.py --form         proves nothing: looks only at what `rt ci` refuses before it proves a crate
+
+The form comes first, in seconds: files that no check reads, links, words that may not stand in a contract, and the format
+of `rt fmt`; where it is wrong nothing is proved.
 
 As many are checked side by side as there are processors and memory. What a check proves is kept in crates/NAME/out, as
 `rt check` keeps it, so that a later check of the crate begins with it, also in other copies of the repository on this
@@ -37,6 +41,40 @@ def say(text):
         print(text, flush=True)
 
 
+def is_in_form(crate, every):
+    """Whether `rt ci` would begin to prove the crate; what it would refuse is told."""
+    try:
+        rtlib.stop_on_links(crate.folder)
+        rtlib.stop_on_unread(crate.folder, every)
+        rtlib.stop_on_text(crate, "verdict")
+        rt.stop_on_words(crate)
+    except SystemExit:
+        say(f"{crate.name}: not in form, as told above")
+        return False
+    if rtlib.fmt(crate.folder, "--check", sys.stdout):
+        say(f"{crate.name}: run rt fmt in {crate.folder}")
+        return False
+    return True
+
+
+def are_in_form(crates, every):
+    # (each is looked at, so that all that is wrong is told)
+    return all([is_in_form(it, every) for it in crates])
+
+
+def look_at_form():
+    """Looks at the form of every crate and of the files beside them, as `rt ci` does, and proves nothing."""
+    try:
+        rt.Crate.allowed = rt.handles_of(os.getcwd())
+        crates = rt.crates_of(os.getcwd())
+    except SystemExit:
+        say("0 passed, 1 failed")
+        return 1
+    well = are_in_form(crates, crates)
+    say(f"the form of {len(crates)} crates: {'well' if well else 'WRONG, as told above'}")
+    return 0 if well else 1
+
+
 def proved(crate):
     """The file that says at which text a program was proved: a library's own folder says it."""
     return f"{crate.folder}/out/proved"
@@ -68,19 +106,23 @@ def prove(crate, given, jobs):
 
 def main(names):
     os.chdir(os.path.join(os.path.dirname(os.path.abspath(__file__)), ".."))
+    if names == ["--form"]:
+        return look_at_form()
     if any(it.startswith("-") for it in names):
         print(__doc__, file=sys.stderr)
         return 2
     # the stamps of crates are read by several threads
     rtlib.guarded()
     rt.share_work(True)
-    crates = sorted(rtlib.crates_below(os.getcwd()), key=lambda it: len(it.below()))
+    every = crates = sorted(rtlib.crates_below(os.getcwd()), key=lambda it: len(it.below()))
     lacking = [it for it in names if it not in [crate.name for crate in crates]]
     if lacking:
         say(f"crates.txt names no {lacking[0]}")
         return 2
     wanted = {below.name for it in crates if it.name in names for below in [it, *it.below()]}
     crates = [it for it in crates if not names or it.name in wanted]
+    if not are_in_form(crates, every):
+        return 1
     held = rtlib.lock(crates)
     tasks = {}
     for crate in crates:

@@ -41,7 +41,7 @@ from concurrent.futures import ThreadPoolExecutor
 sys.dont_write_bytecode = True
 EDITS, TRIED, ALONE = "tests/edits", "tests/edits/tried", "tests/edits/alone.txt"
 TURNS = 4
-# the seconds that a check of edits may take
+# the seconds that a check of edits may take, and three times as many beside proofs, which come first
 LIMIT = 1200
 
 
@@ -481,6 +481,8 @@ class Beside:
 
     def __init__(self, chosen):
         self.told = {it.name: threading.Event() for it in chosen}
+        global LIMIT
+        LIMIT *= 3
         self.well, self.kept = set(), lanes() - lanes() // 2
         for _ in range(self.kept):
             LANES.acquire()

@@ -93,10 +93,10 @@ PROVED = re.compile(r"rt: (\w+) (?:proved$|is kept: )")
 
 def proofs_and_edits(parts):
     """The proofs, and the edits beside them: each crate that is proved is named to tests/edits.py."""
-    tried = begin(["nice", "-n", "10", "tests/edits.py", "--due", "--beside"], subprocess.PIPE)
+    tried = begin(["nice", "-n", "5", "tests/edits.py", "--due", "--beside"], subprocess.PIPE)
 
     def follow_edits():
-        step(parts["edits"], ["nice", "-n", "10", "tests/edits.py", "--self-test"])
+        step(parts["edits"], ["nice", "-n", "5", "tests/edits.py", "--self-test"])
         follow(parts["edits"], tried)
 
     follows = threading.Thread(target=follow_edits)

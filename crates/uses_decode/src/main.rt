@@ -1,63 +1,69 @@
-//! Decodes messages by CANONICAL-PER UNALIGNED, and handles each answer that octets from a stranger may get.
+//! Tells the speed that messages in CANONICAL-PER UNALIGNED have, and handles each answer that octets from a stranger
+//! may get.
 #![tactic(auto)]
 
-use anyhow::{Result, bail};
-use asn_per::Per;
-use asn_rules::{DecodeFault, decode};
-use asn_values::{AsnType, Bounds, Checked, Field, Size, TextKind, Value};
-use std::alloc::Global;
+ghost use Rattle.std.specs.Prelude.{◌≡◌, IfOk};
+ghost use Rattle.tulvorn.specs.Datum.{Datum};
+ghost use Rattle.tulvorn.specs.PerRules.{IsPerEncoding};
+ghost use Rattle.tulvorn.specs.Seen.{seen};
+ghost use Rattle.tulvorn.specs.Typed.{typed};
+ghost use Rattle.tulvorn.specs.View.{shape_of};
+ghost use Rattle.uses_decode.specs.Speed.{speed_in};
 
-/// `SEQUENCE { id INTEGER (0..7), ok BOOLEAN DEFAULT TRUE, note IA5String (SIZE (0..3)) OPTIONAL }`
-fn message_type(alloc: Global) -> Result<Checked> {
-    let id = AsnType::Int(Bounds::between(0, 7));
-    let note = AsnType::Text(TextKind::Ia5, Size::between(0, 3));
-    let fields = vec![in alloc;
-        Field::new(alloc, "id", id)?,
-        Field::new(alloc, "ok", AsnType::Bool)?.default_to(Value::Bool(true)),
-        Field::new(alloc, "note", note)?.optional(),
-    ]?;
-    Ok(Checked::new(alloc, AsnType::sequence(fields))?)
+use anyhow::{Context, Result, bail};
+use std::alloc::Global;
+use tulvorn::{
+    Checked, DecodeFault, Per, Unit, View, Viewed, decode, explain_fault, read_explained,
+};
+
+/// What a module's file has.
+const TEXT: &str = "Safety DEFINITIONS AUTOMATIC TAGS ::= BEGIN
+Message ::= SEQUENCE { id INTEGER (0..7), core Core, note IA5String (SIZE (0..3)) OPTIONAL }
+Core ::= SEQUENCE { speed INTEGER (0..8191), ok BOOLEAN DEFAULT TRUE }
+END";
+
+/// The speed in a message, if its type has one there.
+fn speed_of(message: &View<'_>) -> Option<i128>
+    ensures { result ≡ speed_in (seen message.now) }
+{
+    message.at("core.speed")?.as_int()
 }
 
-/// What a message says, from its components in the order of the type.
-fn told(alloc: Global, message: &Value) -> Result<String> {
-    let Value::Seq(components) = message else {
-        bail!("no sequence");
-    };
-    match components.as_slice() {
-        [Some(Value::Int(id)), Some(Value::Bool(ok)), None] => {
-            Ok(format!(in alloc; "id {id}, ok {ok}, no note")?)
+/// The speed of the message that the octets are.
+fn speed_told(alloc: Global, ty: &Checked, octets: &[u8]) -> Result<Option<i128>, DecodeFault>
+    ensures { IfOk result (λ speed. (d : Datum) × IsPerEncoding (shape_of ty.now) d octets.now
+        × (speed ≡ speed_in (typed (shape_of ty.now) d))) }
+{
+    let message = decode::<Per>(alloc, ty, octets)?;
+    Ok(speed_of(&ty.view(&message)))
+}
+
+/// What is told of octets.
+fn told(alloc: Global, ty: &Checked, octets: &[u8]) -> Result<String> {
+    match speed_told(alloc, ty, octets) {
+        Ok(Some(speed)) => Ok(format!(in alloc; "speed {speed}")?),
+        Ok(None) => bail!("the type has no speed"),
+        Err(DecodeFault::Truncated { taken }) => {
+            Ok(format!(in alloc; "{taken} bits, and more are wanted")?)
         }
-        [
-            Some(Value::Int(id)),
-            Some(Value::Bool(ok)),
-            Some(Value::Text(note)),
-        ] => {
-            let note = str::from_utf8(note)?;
-            Ok(format!(in alloc; "id {id}, ok {ok}, note {note}")?)
+        Err(DecodeFault::Rest { used }) => {
+            Ok(format!(in alloc; "a message of {used} octets, and others after it")?)
         }
-        _ => bail!("other components"),
+        Err(DecodeFault::Memory) => bail!("no memory"),
+        Err(fault) => {
+            let why = explain_fault::<Per>(alloc, ty, octets, fault)?;
+            Ok(format!(in alloc; "{}", why.counted_in(Unit::Bit))?)
+        }
     }
 }
 
 fn main(rt: HostRuntime) -> Result<()> {
-    let ty = message_type(rt.alloc())?;
-    for line in ["6b04", "28", "ac", "6b", "2800"] {
-        let octets = hex::decode(rt.alloc(), line)?;
-        match decode::<Per>(rt.alloc(), &ty, &octets) {
-            Ok(message) => println!(rt; "{line}: {}", told(rt.alloc(), &message)?)?,
-            Err(DecodeFault::Refused { at, why }) => {
-                println!(rt; "{line}: no message begins so, from bit {at} on: {why}")?
-            }
-            Err(DecodeFault::Truncated { taken }) => {
-                println!(rt; "{line}: {taken} bits, and more are wanted")?
-            }
-            Err(DecodeFault::Rest { used }) => {
-                println!(rt; "{line}: a message of {used} octets, and others after it")?
-            }
-            Err(DecodeFault::TooLong) => println!(rt; "{line}: too long")?,
-            Err(DecodeFault::Memory) => bail!("no memory"),
-        }
+    let alloc = rt.alloc();
+    let module = read_explained(alloc, TEXT)?;
+    let ty = module.type_named("Message").context("no type Message")?;
+    for line in ["d0b4d820", "50b4c0", "58b4e0", "50b4", "50b4c000"] {
+        let octets = hex::decode(alloc, line)?;
+        println!(rt; "{line}: {}", told(alloc, ty, &octets)?)?;
     }
     Ok(())
 }

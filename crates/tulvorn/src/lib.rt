@@ -1,0 +1,25 @@
+//! All that a program needs to read, write, check and convert values of ASN.1 types, under one name.
+#![tactic(auto)]
+
+mod calls;
+
+pub use asn_convert::{ConvertFault, convert};
+pub use asn_explain::{Explanation, explain, explain_fault};
+pub use asn_json::{JsonFault, from_json, to_json};
+pub use asn_module::{Module, ModuleFault, RefusedText, TypeNames, read, read_explained};
+pub use asn_newer::{NewerFault, ReadNewer};
+pub use asn_oer::Oer;
+pub use asn_per::Per;
+pub use asn_rules::{
+    Counted, CountedFault, DecodeFault, EncodeFault, EncodeToFault, FeedFault, MAX_OCTETS,
+    MessageStream, Newer, OpenFault, Rules, Session, Skipped, Step, StreamFault, Truncated, Unit,
+    Unwritten, Why, decode, decode_into, encode, messages, open,
+};
+pub use asn_values::{
+    Alt, AsnType, Bounds, Checked, Field, FoundFault, Item, Need, Notation, Size, TextKind,
+    TypeFault, Value, fits, same,
+};
+pub use asn_view::{
+    BuildFault, ByName, Components, Elements, Given, Kind, View, Viewed, WrongPart, misfit,
+};
+pub use calls::{check, encode_to, read_newer};

@@ -128,8 +128,8 @@ pub fn feed_leaf<R: FeedLeaves, L: Leaf<R>>(
     }
 }
 
-/// Reads a part of which no unit has come of the piece itself, where all its units are there; otherwise takes nothing.
-/// An `Err` is `Memory`.
+/// Reads a part of the piece itself, where no unit of it has come before and the piece has all of them; otherwise answers
+/// `None` and takes no unit. An `Err` is `Memory`.
 fn read_at_once<R: FeedLeaves, L: Leaf<R>>(
     alloc: Global,
     leaf: &L,

@@ -58,9 +58,11 @@ module _ {F : Type 0} (c : Coding) (laws : Laws c) (feeds : FeedLaws c) (f : Fie
 
   -- it has been read
   begins : (a : Ahead) (us r : List ℕ) → Spells c.ruling.fielding f.start a us r → (more : List ℕ) → Going c f.octet Field (us ++ more) a [] (r ++ more)
-  begins a us r h more = record { leads =
-      leads_on (leads_on (leads_second {M = λ b. Remaining f.octet b} (fields_part_of c laws) fields.start (done_stays more h)) (leads_map c.ruling.fielding after_first (Then f.start (λ b. Remaining f.octet b)) (us ++ more)))
-      (leads_same c.ruling.fielding (us ++ more) fields.fields) }
+  begins a us r h more = record {
+    leads =
+        leads_on (leads_on (leads_second {M = λ b. Remaining f.octet b} (fields_part_of c laws) fields.start (done_stays more h)) (leads_map c.ruling.fielding after_first (Then f.start (λ b. Remaining f.octet b)) (us ++ more)))
+        (leads_same c.ruling.fielding (us ++ more) fields.fields);
+  }
 
   pub octets_start : (q : Elements F ℕ) (us r : List ℕ) → Spells c.ruling.fielding f.start (ahead q.fragments) us r
       → q.left ≡ 0 → q.elements.items ≡ [] → q.next_part ≡ [] → between q.fragments → R q us r

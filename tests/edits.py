@@ -15,9 +15,9 @@ crate, and one check of these functions alone (`--only`) judges them all. An edi
 goal of the edited function itself that is not proved, or finds an error in the proof of that function. It is no refusal
 that the function calls one that is not proved, or that its proof names something that is not there any more. What is
 not refused so is tried once more in a smaller group, and then alone, in the end as the kit tries it: with a check of the
-whole crate. One that is refused there only for a name that is gone, or by a limit of the prover, is told as weak and its
-crate is not noted as tried: another is wanted in its place. An edit that changes no single function's body is tried so at
-once.
+whole crate. An edit may change several functions, two sides of a rule, say: a goal of one of them has to be refused. One that is refused there only for a name that is gone, or by a limit of the prover, is told as weak and its
+crate is not noted as tried: another is wanted in its place. An edit that changes more than bodies of functions is tried
+so at once.
 
 tests/edits/tried has for each crate a sum of what its edits were tried over: the crate, its edits, the contracts and
 definitions below it, and the logic of the kit. A run over a crate notes it there where every edit was refused, and
@@ -140,7 +140,7 @@ def functions(path, text):
 
 
 class Edit:
-    """An edit of a crate, and the one function whose body it changes, if there is one."""
+    """An edit of a crate, and the functions whose bodies are all that it changes, if that is so."""
 
     def __init__(self, crate, file):
         self.crate, self.file = crate, file
@@ -156,24 +156,27 @@ class Edit:
                     self.pairs.append((path, old, line[len("new:") :].removeprefix(" ")))
                     old = None
         self.fault = rt.read_edit(file, crate.folder)[1]
-        self.function, self.cycle = (None, None) if self.fault else self.one_function()
+        self.functions = [] if self.fault else self.changed_functions()
+        self.only = [word for name, _ in self.functions for word in ("--only", name)]
 
-    def one_function(self):
+    def changed_functions(self):
+        """The functions whose bodies are all that the edit changes, each with its cycle, or none where it changes more."""
         found = set()
-        for path, old, _ in self.pairs:
+        for path, old, new in self.pairs:
             if not path.startswith("src/"):
-                return None, None
+                return []
             if old.startswith("use "):
                 continue
             with open(f"{self.crate.folder}/{path}", encoding="utf-8") as it:
                 text = it.read()
-            at = text.find(old)
+            # (what stands before the change may be the line of the function's name)
+            at = text.find(old) + len(os.path.commonprefix([old, new]))
             inside = [it for it in functions(path, text) if it[2] <= at < it[3]]
-            found.add((path, *inside[-1][:2]) if inside else None)
-        if len(found) != 1 or None in found:
-            return None, None
-        path, name, cycle = found.pop()
-        return name, cycle and f"{path}: {cycle}"
+            if not inside:
+                return []
+            name, cycle = inside[-1][:2]
+            found.add((name, cycle and f"{path}: {cycle}"))
+        return sorted(found, key=str)
 
 
 def applied(edits):
@@ -196,10 +199,10 @@ def groups_of(edits, one_a_cycle):
     while left:
         group, used = [], set()
         for edit in left:
-            what = edit.cycle if one_a_cycle and edit.cycle else edit.function
-            if what not in used and applied([*group, edit]) is not None:
+            what = {cycle if one_a_cycle and cycle else name for name, cycle in edit.functions}
+            if not what & used and applied([*group, edit]) is not None:
                 group.append(edit)
-                used.add(what)
+                used |= what
         groups.append(group)
         left = [it for it in left if it not in group]
     return groups
@@ -230,9 +233,14 @@ class Report:
                 if error:
                     self.errors.append((os.path.dirname(error[1]), error[2] or "", error[3]))
 
-    def goal(self, crate, edit):
-        """A goal of the edit's function that is not proved, or None and why none is told."""
-        paths = [it for it in self.lines if f"::{it}".endswith(f"::{edit.function}")]
+    def goal(self, edit):
+        """A goal of a function of the edit that is not proved, or None and why none is told."""
+        goals = [self.goal_of(*it) for it in edit.functions]
+        return next((it for it in goals if it[0]), goals[0])
+
+    def goal_of(self, function, in_cycle):
+        """A goal of the function that is not proved, or None and why none is told."""
+        paths = [it for it in self.lines if f"::{it}".endswith(f"::{function}")]
         if len(paths) != 1:
             return None, "the check says nothing of its function" if not paths else f"the check knows it as {' and '.join(paths)}"
         path = paths[0]
@@ -240,11 +248,11 @@ class Report:
         if verdict == "proved":
             return None, "its function is proved"
         # (in a cycle a goal begins with its function, and with the module where the cycle is of several)
-        own = lambda goal: f"::{edit.function}".endswith(f"::{goal.partition('-')[0]}") if edit.cycle else bool(goal)
+        own = lambda goal: f"::{function}".endswith(f"::{goal.partition('-')[0]}") if in_cycle else bool(goal)
         folder = "proofs/" + path.partition("::")[2].replace("::", "/")
         # (a function that calls itself has its proof in +NAME)
         recursive = f"{os.path.dirname(folder)}/+{os.path.basename(folder)}"
-        home = lambda it: it in (folder, recursive) or edit.cycle and os.path.basename(it).startswith("+")
+        home = lambda it: it in (folder, recursive) or in_cycle and os.path.basename(it).startswith("+")
         errors = [(goal, text) for it, goal, text in self.errors if home(it) and (own(goal) or not goal and it == folder)]
         told = [goal or text[:60] for goal, text in errors if not GONE.search(text)]
         if told:
@@ -263,6 +271,13 @@ class Report:
         return None, "no goal of its own is told, beside others of its cycle"
 
 
+def checked(crate, folder, flags, kept):
+    """Runs a check of the crate as it stands in the folder, over what is kept, within the limit of time."""
+    words = [*rtlib.guarded(), rtlib.RATTLE, "check", *crate.words(["--jobs", "1", *flags], keeps=False), "--incremental", kept]
+    how = {"cwd": folder, "stdin": subprocess.DEVNULL, "stdout": subprocess.PIPE, "stderr": subprocess.STDOUT, "errors": "replace"}
+    return subprocess.run(words, timeout=LIMIT, **how)
+
+
 def check(crate, edits, flags, seed):
     """What a check of the crate with these edits says, over a copy of what the seed holds, and how many seconds it took.
     A check that does not end within the limit says nothing."""
@@ -274,11 +289,9 @@ def check(crate, edits, flags, seed):
         for path, text in applied(edits).items():
             with open(f"{room}/crate/{path}", "w", encoding="utf-8") as it:
                 it.write(text)
-        words = [*rtlib.guarded(), rtlib.RATTLE, "check", *crate.words(["--jobs", "1", *flags], keeps=False), "--incremental", f"{room}/kept"]
-        how = {"cwd": f"{room}/crate", "stdin": subprocess.DEVNULL, "stdout": subprocess.PIPE, "stderr": subprocess.STDOUT, "errors": "replace"}
         start = time.time()
         try:
-            said = subprocess.run(words, timeout=LIMIT, **how).stdout
+            said = checked(crate, f"{room}/crate", flags, f"{room}/kept").stdout
         except subprocess.TimeoutExpired:
             said = ""
         return Report(said), time.time() - start
@@ -309,8 +322,8 @@ class Tries:
         for edit in self.edits:
             if edit.fault:
                 self.bad[edit.label] = edit.fault
-        single = [it for it in self.edits if not it.fault and not it.function]
-        left = [it for it in self.edits if it.function]
+        single = [it for it in self.edits if not it.fault and not it.functions]
+        left = [it for it in self.edits if it.functions]
         reasons = {}
         for one_a_cycle in (False, True):
             groups = [it for it in groups_of(left, one_a_cycle) if len(it) > 1 or not one_a_cycle]
@@ -327,17 +340,31 @@ class Tries:
         say(f"{self.crate.name}: NOT TRIED: {why}")
 
     def seed(self):
-        """A folder with what a check of the crate as it stands proved, begun with what earlier checks kept here."""
+        """A folder with what a check of the crate as it stands proved, begun with what earlier checks kept here. Where none
+        did, only the functions that edits change are proved, with all that their proofs cite, if each edit changes such."""
         rt.adopt(self.crate, is_alone=False)
         kept = f"{self.crate.folder}/out/incremental"
+        if not os.path.isdir(kept) and all(it.functions or it.fault for it in self.edits):
+            return self.seed_of_functions()
         with LANES:
             room = rt.seeded(self.crate, ["--jobs", "1"], kept if os.path.isdir(kept) else None)
         return room and f"{room}/seed"
 
+    def seed_of_functions(self):
+        room = tempfile.mkdtemp(prefix=f"rt-edits-{os.getpid()}-")
+        rt.SEEDS.append(room)
+        os.mkdir(f"{room}/seed")
+        only = dict.fromkeys(name for it in self.edits for name, _ in it.functions)
+        try:
+            with LANES:
+                ran = checked(self.crate, self.crate.folder, [word for name in only for word in ("--only", name)], f"{room}/seed")
+        except subprocess.TimeoutExpired:
+            return None
+        return f"{room}/seed" if ran.returncode == 0 else None
+
     def together(self, group, seed):
         """Tries a group in one check, and returns why what was not refused was not."""
-        only = [word for edit in group for word in ("--only", edit.function)]
-        report, seconds = check(self.crate, group, only, seed)
+        report, seconds = check(self.crate, group, [word for edit in group for word in edit.only], seed)
         self.checks += 1
         if not report.lines and len(group) > 1:
             # one of them is not read, or does not end
@@ -346,7 +373,7 @@ class Tries:
             return {**self.together(group[:half], seed), **self.together(group[half:], seed)}
         reasons = {}
         for edit in group:
-            goal, why = report.goal(self.crate, edit)
+            goal, why = report.goal(edit)
             if goal:
                 self.refused[edit.label] = goal
             else:
@@ -356,18 +383,18 @@ class Tries:
 
     def by_itself(self, edit, reason, seed):
         """Tries an edit of a function alone, by the same rule."""
-        report, _ = check(self.crate, [edit], ["--only", edit.function], seed)
+        report, _ = check(self.crate, [edit], edit.only, seed)
         self.checks += 1
-        goal, why = report.goal(self.crate, edit)
+        goal, why = report.goal(edit)
         if goal:
             self.refused[edit.label] = goal
             self.alone[edit.label] = reason
             return say(f"{edit.label}: refused alone: {goal} (in a group: {reason})")
-        say(f"{edit.label}: alone no goal of {edit.function} is told: {why}")
+        say(f"{edit.label}: alone no goal of {' or '.join(name for name, _ in edit.functions)} is told: {why}")
         self.whole(edit, seed, f"{why}; the check of the whole crate refuses it, and not for a name alone")
 
-    def whole(self, edit, seed, reason="it changes more than the body of one function"):
-        """Tries an edit as the kit does, with a check of the whole crate: one that changes more than one function's body, or
+    def whole(self, edit, seed, reason="it changes more than bodies of functions"):
+        """Tries an edit as the kit does, with a check of the whole crate: one that changes more than bodies of functions, or
         of which no goal of its own is told. That a proof names something that is gone is no refusal."""
         with tempfile.TemporaryDirectory(prefix=f"rt-edits-{os.getpid()}-") as room, LANES:
             rt.linked(seed, f"{room}/kept")
@@ -479,11 +506,11 @@ def lanes():
 class Beside:
     """The crates that `rt ci` has proved, as the input names them, and the processors that its proofs take until it ends."""
 
-    def __init__(self, chosen):
-        self.told = {it.name: threading.Event() for it in chosen}
+    def __init__(self, chosen, number):
         global LIMIT
         LIMIT *= 3
-        self.well, self.kept = set(), lanes() - lanes() // 2
+        self.told = {it.name: threading.Event() for it in chosen}
+        self.well, self.kept = set(), number - number // 2
         for _ in range(self.kept):
             LANES.acquire()
         threading.Thread(target=self.read, daemon=True).start()
@@ -512,12 +539,13 @@ def lacks(crate):
 def try_all(chosen, edits, is_beside=False):
     """Tries the edits of these crates, and returns what became of them."""
     global LANES
-    LANES = threading.Semaphore(lanes())
+    number = lanes()
+    LANES = threading.Semaphore(number)
     rtlib.guarded()
     results = [Tries(it, edits[it.name]) for it in chosen]
     for crate in chosen:
         crate.out = open(os.devnull, "w")
-    beside = Beside(chosen) if is_beside else None
+    beside = Beside(chosen, number) if is_beside else None
     if not beside:
         # the libraries below, where they are not built yet, begun with what checks in other copies on this machine kept
         rt.share_work(False)
@@ -653,7 +681,7 @@ def main(words):
     if "--list" in words:
         for crate in chosen:
             for edit in edits[crate.name]:
-                say(f"{edit.label}: {edit.fault or edit.function or 'no single function'}")
+                say(f"{edit.label}: {edit.fault or ', '.join(name for name, _ in edit.functions) or 'more than bodies of functions'}")
         return 0
     sums = {it.name: sum_of(it, edits[it.name]) for it in crates if it.name in edits}
     left = []

@@ -38,7 +38,7 @@ fn speed_told(alloc: Global, ty: &Checked, octets: &[u8]) -> Result<Option<i128>
     Ok(speed_of(&ty.view(&message)))
 }
 
-/// What is told of octets.
+/// The line that is printed for octets.
 fn told(alloc: Global, ty: &Checked, octets: &[u8]) -> Result<String> {
     match speed_told(alloc, ty, octets) {
         Ok(Some(speed)) => Ok(format!(in alloc; "speed {speed}")?),

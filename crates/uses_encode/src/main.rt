@@ -8,7 +8,7 @@ ghost use Rattle.tulvorn.specs.Built.{sequence_given};
 ghost use Rattle.tulvorn.specs.Datum.{Datum};
 ghost use Rattle.tulvorn.specs.View.{shape_of};
 
-use anyhow::{Context, Result};
+use anyhow::Result;
 use std::alloc::Global;
 use tulvorn::{
     AsnType, Bounds, ByName, Checked, Field, Given, Item, Oer, Per, Rules, Size, Value, encode,
@@ -53,6 +53,50 @@ fn encoding_of<R: Rules>(
     Ok(encode::<R>(alloc, ty, &report)?)
 }
 
+/// Shows the octets, in both rules, of the SEQUENCE that has what is given at each name.
+fn show_octets(
+    rt: &impl Print,
+    alloc: Global,
+    ty: &Checked,
+    parts: &[(&str, Given<'_>)],
+) -> Result<()> {
+    let per = encoding_of::<Per>(alloc, ty, parts)?;
+    println!(rt; "per {}", hex::encode(alloc, &per)?)?;
+    let oer = encoding_of::<Oer>(alloc, ty, parts)?;
+    println!(rt; "oer {}", hex::encode(alloc, &oer)?)?;
+    Ok(())
+}
+
+/// Tells why no value is built of what is given.
+fn show_fault(
+    rt: &impl Print,
+    alloc: Global,
+    ty: &Checked,
+    parts: &[(&str, Given<'_>)],
+) -> Result<()> {
+    if let Err(fault) = Value::sequence(alloc, ty.get(), parts) {
+        println!(rt; "{fault}")?;
+    }
+    Ok(())
+}
+
+/// Tells where the value that is built does not fit, and that it is refused: it is never cut to fit.
+fn show_misfit(
+    rt: &impl Print,
+    alloc: Global,
+    ty: &Checked,
+    parts: &[(&str, Given<'_>)],
+) -> Result<()> {
+    let report = Value::sequence(alloc, ty.get(), parts)?;
+    if let Some(wrong) = misfit(alloc, ty, &report)? {
+        println!(rt; "{wrong}")?;
+    }
+    if let Err(fault) = encode::<Per>(alloc, ty, &report) {
+        println!(rt; "{fault}")?;
+    }
+    Ok(())
+}
+
 fn main(rt: HostRuntime) -> Result<()> {
     let alloc = rt.alloc();
     let ty = report_type(alloc)?;
@@ -63,28 +107,10 @@ fn main(rt: HostRuntime) -> Result<()> {
         ("speed", 50.into()),
         ("lanes", (&lanes).into()),
     ];
-    println!(rt;
-        "per {}",
-        hex::encode(alloc, &encoding_of::<Per>(alloc, &ty, &parts)?)?
-    )?;
-    println!(rt;
-        "oer {}",
-        hex::encode(alloc, &encoding_of::<Oer>(alloc, &ty, &parts)?)?
-    )?;
+    show_octets(&rt, alloc, &ty, &parts)?;
     // a name that the type has not, and a component that is missing, are told when a value is built
-    if let Err(fault) = Value::sequence(alloc, ty.get(), &[("spede", 50.into())]) {
-        println!(rt; "{fault}")?;
-    }
-    if let Err(fault) = Value::sequence(alloc, ty.get(), &[("station", 4_660.into())]) {
-        println!(rt; "{fault}")?;
-    }
-    // a value that is none of the type is refused, and never cut to fit
+    show_fault(&rt, alloc, &ty, &[("spede", 50.into())])?;
+    show_fault(&rt, alloc, &ty, &[("station", 4_660.into())])?;
     let fast = [parts[0], parts[1], ("speed", 200.into()), parts[3]];
-    let report = Value::sequence(alloc, ty.get(), &fast)?;
-    let wrong = misfit(alloc, &ty, &report)?.context("it fits")?;
-    println!(rt; "{wrong}")?;
-    if let Err(fault) = encode::<Per>(alloc, &ty, &report) {
-        println!(rt; "{fault}")?;
-    }
-    Ok(())
+    show_misfit(&rt, alloc, &ty, &fast)
 }

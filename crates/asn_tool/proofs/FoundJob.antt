@@ -41,9 +41,9 @@ other_name name text differs self is = true≢false (self ∙ (ap (λ n. bytes_e
 
 -- a subcommand other than `flatten` and `module` has its options
 pub options : (found : Text × List Row) → IsTaken (Some found) → (found.0 ≢ codes "flatten") → (found.0 ≢ codes "module") → HasOptions found
-options found (inl named) flat module = absurd (flat named)
-options found (inr (inl named)) flat module = absurd (module named)
-options found (inr (inr has)) flat module = has
+options found (inl named) flat other = absurd (flat named)
+options found (inr (inl named)) flat other = absurd (other named)
+options found (inr (inr has)) flat other = has
 
 -- each name of an order is found
 pub order_known : (name : Text) → IsOneOf name order_names → ((o : Order) → order_name o ≢ name) → ⊥

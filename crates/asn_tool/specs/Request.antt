@@ -1,6 +1,8 @@
 -- What words ask for, as clap states what it finds in them.
-use Rattle.std.specs.Prelude.{◌≡◌, ◌≢◌, ◌<◌, ◌^◌, ℕ, Bool, true, false, List, [], codes, map, Option, Some, None, unwrap_or, string_bytes, ⊤}
+use Rattle.std.specs.Prelude.{◌≡◌, ◌≢◌, ◌<◌, ◌^◌, ℕ, Bool, true, false, List, [], codes, map, Option, Some, None, unwrap_or, if◌then◌else◌, string_bytes, ⊤}
 use Rattle.std.specs.Borrow.{Bor}
+use Rattle.std.specs.Option.{option_map_or}
+use Rattle.std.specs.Str.{bytes_eq}
 use Rattle.std.specs.Str.Parse.{IsNumeral, digits_value, without_leading_plus}
 use Rattle.clap.specs.Words.{Row, Text, all_of, first_of, one_of, subcommand_of, kind_of, fault_of, IsAmong}
 use Rattle.clap.specs.declared.error.Error.{Error}
@@ -73,24 +75,20 @@ abbrev pub AreOptions : List Row → Options → Type 0
 AreOptions rows o = IsFlag (codes "plain-bits") rows o.plain_bits × IsFlag (codes "octets") rows o.octets
     × AreLevels rows o.levels × IsFlag (codes "strict") rows o.strict
 
--- how it is told what became of the types
-abbrev pub form_name : Form → Text
-form_name form.Summary = codes "summary"
-form_name form.Text = codes "text"
-form_name form.Json = codes "json"
+-- the form of a name, and the one that is given: a summary where another is named, or none
+abbrev pub form_of : Text → Form
+form_of name = if bytes_eq name (codes "text") then form.Text
+    else (if bytes_eq name (codes "json") then form.Json else form.Summary)
 
--- the form is the one that is named, and the summary where another is or none
-abbrev pub IsForm : List Row → Form → Type 0
-IsForm rows f = (first_of (codes "report") rows ≡ Some (codes "text") → f ≡ form.Text)
-    × (first_of (codes "report") rows ≡ Some (codes "json") → f ≡ form.Json)
-    × ((first_of (codes "report") rows ≢ Some (codes "text")) → (first_of (codes "report") rows ≢ Some (codes "json")) → f ≡ form.Summary)
+abbrev pub form_in : List Row → Form
+form_in rows = option_map_or form_of (first_of (codes "report") rows) form.Summary
 
 -- ---- the request
 
 -- what a subcommand asks for, by its name, and the values of its arguments
 abbrev pub IsRequestOf : Text × List Row → Request → Type 0
 IsRequestOf found (request.Flatten files options f) = (found.0 ≡ codes "flatten")
-    × (texts_of files.items ≡ files_of (codes "file") found.1) × AreOptions found.1 options × IsForm found.1 f
+    × (texts_of files.items ≡ files_of (codes "file") found.1) × AreOptions found.1 options × (f ≡ form_in found.1)
 IsRequestOf found (request.Run j files options) = IsJobOf found j
     × (texts_of files.items ≡ files_of (codes "module") found.1) × AreOptions found.1 options
 

@@ -5,7 +5,7 @@ ghost use Rattle.asn_convert.specs.declared.job.Order.{Order};
 ghost use Rattle.asn_convert.specs.declared.job.RuleName.{RuleName};
 ghost use Rattle.asn_tool.specs.declared.request.LineFault.{LineFault};
 ghost use Rattle.asn_tool.specs.Command.{HasOptions, IsTaken};
-ghost use Rattle.asn_tool.specs.Request.{Asks, AreOptions, HasRequest, IsForm, IsJobOf, IsRequestOf, Told, fault_by, files_of, order_name, rule_name, texts_of};
+ghost use Rattle.asn_tool.specs.Request.{Asks, AreOptions, HasRequest, IsJobOf, IsRequestOf, Told, fault_by, files_of, form_in, form_of, order_name, rule_name, texts_of};
 
 use crate::words::command;
 use asn_convert::{Job, Order, RuleName};
@@ -105,11 +105,7 @@ fn flatten_in<'a>(alloc: Global, options: &ArgMatches<'a>) -> Result<Request<'a>
 }
 
 /// The job is done, by these options of the subcommand.
-fn run_in<'a>(
-    alloc: Global,
-    options: &ArgMatches<'a>,
-    job: Job,
-) -> Result<Request<'a>, AllocError>
+fn run_in<'a>(alloc: Global, options: &ArgMatches<'a>, job: Job) -> Result<Request<'a>, AllocError>
     ensures { IfOk result (λ asked. (name : Text) → IsJobOf (name, rows_of (found_of options.now)) job
         → IsRequestOf (name, rows_of (found_of options.now)) asked) }
 {
@@ -154,10 +150,13 @@ fn files_in<'a>(
     ensures { IfOk result (λ files. texts_of files.items ≡ files_of id.now (rows_of (found_of options.now))) }
 {
     let mut files = Vec::new(alloc);
-    if let Some(given) = options.get_raw(id) {
-        files.extend_from_slice(given)?;
+    match options.get_raw(id) {
+        Some(given) => {
+            files.extend_from_slice(given)?;
+            Ok(files)
+        }
+        None => Ok(files),
     }
-    Ok(files)
 }
 
 /// What becomes of types that the profile does not have as they are. A subcommand without `--strict` is not strict.
@@ -174,11 +173,21 @@ fn options_in(options: &ArgMatches<'_>) -> Options
 
 /// How it is told what became of the types: a summary where it is not said.
 fn form_in(options: &ArgMatches<'_>) -> Form
-    ensures { IsForm (rows_of (found_of options.now)) result }
+    ensures { result ≡ form_in (rows_of (found_of options.now)) }
 {
     match options.get_str("report") {
-        Some("text") => Form::Text,
-        Some("json") => Form::Json,
+        Some(name) => form_named(name),
+        None => Form::Summary,
+    }
+}
+
+/// The form of this name.
+fn form_named(name: &str) -> Form
+    ensures { result ≡ form_of name.now }
+{
+    match name {
+        "text" => Form::Text,
+        "json" => Form::Json,
         _ => Form::Summary,
     }
 }

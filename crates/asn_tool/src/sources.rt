@@ -1,16 +1,15 @@
 //! Which text is read as the module of a job.
-ghost use Rattle.std.specs.Prelude.{◌≡◌, ◌∷◌, ◌++◌, [], None, IfOk, IfSome, IsSomeAnd, IsUtf8, MatchOption, string_bytes};
+ghost use Rattle.std.specs.Prelude.{◌≡◌, ◌≢◌, ◌∷◌, ◌++◌, [], None, false, IfOk, IfSome, IsSomeAnd, IsUtf8, MatchOption, OnOk, string_bytes};
 ghost use Rattle.asn_module.specs.ModuleView.{types_view};
 ghost use Rattle.asn_module.specs.Accepted.{Accepted};
+ghost use Rattle.asn_module.specs.declared.fault.ModuleFault.{ModuleFault};
 ghost use Rattle.asn_convert.specs.Lines.{job_lines, lines_of, module_text};
 ghost use Rattle.asn_tool.specs.Request.{texts_of};
 ghost use Rattle.asn_tool.specs.Sources.{IsInput, IsInputOf, IsOwn, IsOwnInput, mark};
 
 use asn_convert::{Job, cut_input};
 use asn_module::{Module, ModuleFault};
-use asn_published::{
-    Options, PublishedFault, Status, TypeReport, flatten, report_text, way_text,
-};
+use asn_published::{Options, PublishedFault, Status, TypeReport, flatten, report_text, way_text};
 use std::alloc::{AllocError, Global};
 
 /// What stands for the name of a file where a text is that of standard input.
@@ -44,9 +43,22 @@ pub fn instead_of(
     let Ok(text) = std::str::from_utf8(text) else {
         return same(alloc);
     };
-    if own_of(alloc, text)?.is_some() {
+    if is_own(alloc, text)? {
         return same(alloc);
     }
+    published(alloc, text, rest, options, job)
+}
+
+/// What the text before the line ==== becomes as published modules, where that serves the job, and what is told of it.
+fn published(
+    alloc: Global,
+    text: &str,
+    rest: &[u8],
+    options: Options,
+    job: &Job,
+) -> Result<Instead, AllocError>
+    ensures { IfOk result (λ i. IfSome i.octets (λ o. IsInput rest.now o.items)) }
+{
     match flatten(alloc, &[text], options) {
         Ok(flattened) => {
             let report = flattened.report.as_slice();
@@ -78,15 +90,37 @@ fn same(alloc: Global) -> Result<Instead, AllocError>
     })
 }
 
+/// Whether the text is a module of the profile.
+fn is_own(alloc: Global, text: &str) -> Result<bool, AllocError>
+    ensures { IfOk result (λ is. is ≡ false → IsOwn text.now → ⊥) }
+{
+    match own_of(alloc, text)? {
+        Some(_) => Ok(true),
+        None => Ok(false),
+    }
+}
+
 /// The module of the profile that the text is, if it is one.
 fn own_of(alloc: Global, text: &str) -> Result<Option<Module>, AllocError>
     ensures { IfOk result (λ m. MatchOption m (IsOwn text.now → ⊥) (λ m. Accepted text.now (types_view m))) }
 {
     match asn_module::read(alloc, text) {
         Ok(module) => Ok(Some(module)),
-        Err(ModuleFault::Memory) => Err(AllocError),
-        Err(_) => Ok(None),
+        Err(fault) => {
+            unless_memory(&fault)?;
+            Ok(None)
+        }
     }
+}
+
+/// Nothing, where a fault is another than want of memory.
+fn unless_memory(fault: &ModuleFault) -> Result<(), AllocError>
+    ensures { OnOk result (fault.now ≢ ModuleFault.Memory) }
+{
+    if let ModuleFault::Memory = fault {
+        return Err(AllocError);
+    }
+    Ok(())
 }
 
 /// The line that tells why the text of standard input is no module.

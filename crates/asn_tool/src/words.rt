@@ -152,7 +152,9 @@ fn with_leave<'a>(alloc: Global, command: Command<'a>) -> Result<Command<'a>, Al
         .value_name("N")
         .action(ArgAction::Set)
         .value_parser(value_parser!(u32))
-        .help("How many levels of a recursive type there are, below which is NULL [default: 0, which refuses it]");
+        .help(
+            "How many levels of a recursive type there are, below which is NULL [default: 0, which refuses it]",
+        );
     command.arg(plain_bits)?.arg(octets)?.arg(levels)
 }
 

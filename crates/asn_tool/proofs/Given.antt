@@ -19,7 +19,7 @@ no_files id rows e = ap (λ o. unwrap_or o []) e
 
 pub flag : (f : Found) (id : Text) (b : Bool) → (one_text f id ≡ None → b ≡ false) → (one_text f id ≡ Some (codes "true") → b ≡ true)
     → (one_text f id ≡ Some (codes "false") → b ≡ false) → IsFlag id (rows_of f) b
-flag f id b none yes no = (λ e. yes (one_text-rows f id ∙ e), λ e. no (one_text-rows f id ∙ e), λ e. none (one_text-rows f id ∙ e))
+flag f id b none yes no = ((λ e. yes (one_text-rows f id ∙ e)), (λ e. no (one_text-rows f id ∙ e)), (λ e. none (one_text-rows f id ∙ e)))
 
 number : {E : Type 0} (gives : List ℕ → Result ℕ E → Type 0) → ((bs : List ℕ) (r : Result ℕ E) → gives bs r → ParsesUnsigned 32 10 bs r)
     → (t : Text) (read : Option ℕ) → ReadsOne gives t read → Reads t read
@@ -29,7 +29,7 @@ number gives parses t None g = parses t (Err g.0) g.1
 pub levels : {E : Type 0} (gives : List ℕ → Result ℕ E → Type 0) → ((bs : List ℕ) (r : Result ℕ E) → gives bs r → ParsesUnsigned 32 10 bs r)
     → (f : Found) (read : Option ℕ) → (one_text f (codes "levels") ≡ None → read ≡ None)
     → ((t : Text) → one_text f (codes "levels") ≡ Some t → ReadsOne gives t read) → AreLevels (rows_of f) (unwrap_or read 0)
-levels gives parses f read none some = (read, refl, λ e. none (one_text-rows f (codes "levels") ∙ e), λ t e. number gives parses t read (some t (one_text-rows f (codes "levels") ∙ e)))
+levels gives parses f read none some = (read, refl, (λ e. none (one_text-rows f (codes "levels") ∙ e)), λ t e. number gives parses t read (some t (one_text-rows f (codes "levels") ∙ e)))
 
 pub some_form : (rows : List Row) (name : Text) (f : Form) → Some name ≡ first_of (codes "report") rows → f ≡ form_of name → f ≡ form_in rows
 some_form rows name f e is = is ∙ ap (λ o. option_map_or form_of o form.Summary) e

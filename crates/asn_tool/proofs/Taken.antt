@@ -74,23 +74,23 @@ first id = slice_index_or id 0 0
 
 -- a row of another option has what is said of these two
 other : (names : Bor (List (Bor (List ℕ)))) (r : Row) → (first r.id ≡ 116 → ⊥) → (first r.id ≡ 114 → ⊥) → HasValue names r
-other names r no_type no_rules = (λ e. absurd (no_type (ap first e)), λ e. absurd (no_rules (ap first e)))
+other names r no_type no_rules = ((λ e. absurd (no_type (ap first e))), (λ e. absurd (no_rules (ap first e))))
 
 letters : (x : ℕ) → x < 114 → ((x ≡ 116 → ⊥) × (x ≡ 114 → ⊥))
-letters x below = (λ e. absurd (omega arith), λ e. absurd (omega arith))
+letters x below = ((λ e. absurd (omega arith)), (λ e. absurd (omega arith)))
 
 leaf_options : (names : Bor (List (Bor (List ℕ)))) → Each (IsOption (HasValue names)) (leaf_rules names)
 leaf_options names = (
-  inr (inl (refl, refl, λ how v vs ok. (λ e. (v, refl), λ e. let bad : ◌≡◌ {A = ℕ} 116 114 = ap first e in absurd (omega arith)))),
+  inr (inl (refl, refl, λ how v vs ok. ((λ e. (v, refl)), (λ e. let bad : ◌≡◌ {A = ℕ} 116 114 = ap first e in absurd (omega arith))))),
   (
-    inr (inl (refl, refl, λ how v vs ok. (λ e. let bad : ◌≡◌ {A = ℕ} 114 116 = ap first e in absurd (omega arith), λ e. (v, refl, ok)))),
+    inr (inl (refl, refl, λ how v vs ok. ((λ e. let bad : ◌≡◌ {A = ℕ} 114 116 = ap first e in absurd (omega arith)), (λ e. (v, refl, ok))))),
     (
-      inr (inr (inl refl, λ how values. other names _ (letters 109 (omega arith)).0 (letters 109 (omega arith)).1)),
+      inr (inr (inl refl, (λ how values. other names _ (letters 109 (omega arith)).0 (letters 109 (omega arith)).1))),
       (
-        inr (inr (inr refl, λ how values. other names _ (letters 112 (omega arith)).0 (letters 112 (omega arith)).1)),
+        inr (inr (inr refl, (λ how values. other names _ (letters 112 (omega arith)).0 (letters 112 (omega arith)).1))),
         (
-          inr (inr (inr refl, λ how values. other names _ (letters 111 (omega arith)).0 (letters 111 (omega arith)).1)),
-          (inr (inr (inl refl, λ how values. other names _ (letters 108 (omega arith)).0 (letters 108 (omega arith)).1)), (inl refl, tt)),
+          inr (inr (inr refl, (λ how values. other names _ (letters 111 (omega arith)).0 (letters 111 (omega arith)).1))),
+          (inr (inr (inl refl, (λ how values. other names _ (letters 108 (omega arith)).0 (letters 108 (omega arith)).1))), (inl refl, tt)),
         ),
       ),
     ),

@@ -22,11 +22,12 @@ pub fn ending(answer: &Result<Status, RunFault>) -> (u8, &'static str)
     }
 }
 
-/// The exit status, and the line for standard error, where nothing is done: the words are refused, which standard error
-/// tells, or help or the version is asked for, which standard output tells. `is_written` says whether that was written.
+/// The exit status, and the line for standard error, where nothing is done: the words are refused, which standard
+/// error tells, or help or the version is asked for, which standard output tells. `is_written` says whether that was
+/// written.
 ///
-/// 2 where the words are refused, whether or not that could be told; 0 after help or the version, and 3 where these could
-/// not be written.
+/// 2 where the words are refused, whether or not that could be told; 0 after help or the version, and 3 where these
+/// could not be written.
 pub fn refusal_ending(is_refused: bool, is_written: bool) -> (u8, &'static str)
     ensures status { result.0 ≡ (refusal_end_of is_refused is_written).0 }
     ensures line { result.1.now ≡ (refusal_end_of is_refused is_written).1 }

@@ -9,7 +9,9 @@ ghost use Rattle.asn_tool.specs.Sources.{IsInput, IsInputOf, IsOwn, IsOwnInput, 
 
 use asn_convert::{Job, cut_input};
 use asn_module::{Module, ModuleFault};
-use asn_published::{Options, PublishedFault, Status, TypeReport, flatten, report_text, way_text};
+use asn_published::{
+    Flattened, Options, PublishedFault, Status, TypeReport, flatten, report_text, way_text,
+};
 use std::alloc::{AllocError, Global};
 
 /// What stands for the name of a file where a text is that of standard input.
@@ -23,9 +25,9 @@ pub struct Instead {
 }
 
 /// What a job is run on where standard input gave these octets: the same where the text before the line ==== is a
-/// module of the profile. Else that text is read as published modules, and where they become a module that has what the
-/// job needs, it is a text of that module, the line ====, and what follows it; where they do not, it is the same again,
-/// which `run` refuses.
+/// module of the profile. Else that text is read as published modules, and it is a text of the module that they become,
+/// the line ====, and what follows it; where they become none, or the module is to be printed and a type is refused, it
+/// is the same again, which `run` refuses.
 pub fn instead_of(
     alloc: Global,
     octets: &[u8],
@@ -49,7 +51,7 @@ pub fn instead_of(
     published(alloc, text, rest, options, job)
 }
 
-/// What the text before the line ==== becomes as published modules, where that serves the job, and what is told of it.
+/// What the text before the line ==== becomes as published modules, and what is told of it.
 fn published(
     alloc: Global,
     text: &str,
@@ -60,19 +62,7 @@ fn published(
     ensures { IfOk result (λ i. IfSome i.octets (λ o. IsInput rest.now o.items)) }
 {
     match flatten(alloc, &[text], options) {
-        Ok(flattened) => {
-            let report = flattened.report.as_slice();
-            let remarks = remarks(alloc, &[STDIN], report, job)?;
-            if serves(report, job) {
-                let octets = Some(input_of(alloc, flattened.text.as_str(), rest)?);
-                Ok(Instead { octets, remarks })
-            } else {
-                Ok(Instead {
-                    octets: None,
-                    remarks,
-                })
-            }
-        }
+        Ok(flattened) => flattened_input(alloc, &[STDIN], &flattened, rest, job),
         Err(fault) => Ok(Instead {
             octets: None,
             remarks: fault_line(alloc, &fault)?,
@@ -162,9 +152,24 @@ pub fn input_with(
         }
     }
     let flattened = flatten(alloc, texts, options)?;
+    Ok(flattened_input(alloc, files, &flattened, rest, job)?)
+}
+
+/// What a job is run on for what published modules became, and what is told of it, `files` being the names of the files
+/// of the texts. There is nothing where the module is to be printed, and a type is refused.
+fn flattened_input(
+    alloc: Global,
+    files: &[&str],
+    flattened: &Flattened,
+    rest: &[u8],
+    job: &Job,
+) -> Result<Instead, AllocError>
+    requires { Accepted (string_bytes flattened.now.text) (types_view flattened.now.module) }
+    ensures { IfOk result (λ i. IfSome i.octets (λ o. IsInput rest.now o.items)) }
+{
     let report = flattened.report.as_slice();
     let remarks = remarks(alloc, files, report, job)?;
-    if *job == Job::Module && !serves(report, job) {
+    if *job == Job::Module && !is_whole(report) {
         return Ok(Instead {
             octets: None,
             remarks,
@@ -177,7 +182,8 @@ pub fn input_with(
 /// What a job is run on for a module of the profile.
 fn own_input(alloc: Global, module: &Module, rest: &[u8]) -> Result<Instead, AllocError>
     ensures { IfOk result (λ i. (source : _) → Accepted source (types_view module.now)
-        → IsSomeAnd i.octets (λ o. IsInputOf (types_view module.now) rest.now o.items) × (string_bytes i.remarks ≡ [])) }
+        → IsSomeAnd i.octets (λ o. IsInputOf (types_view module.now) rest.now o.items)
+        × (string_bytes i.remarks ≡ [])) }
 {
     let text = module.print(alloc)?;
     let octets = Some(input_of(alloc, text.as_str(), rest)?);
@@ -187,16 +193,9 @@ fn own_input(alloc: Global, module: &Module, rest: &[u8]) -> Result<Instead, All
     })
 }
 
-/// Whether the job has what it needs of the types: none is refused where they are printed, and there is one of the name
-/// where lines are answered.
-fn serves(report: &[TypeReport], job: &Job) -> bool {
-    match job {
-        Job::Module => report.iter().all(|one| one.status != Status::Refused),
-        Job::Lines { type_name, .. } => report.iter().any(|one| {
-            one.status != Status::Refused
-                && *one.name.as_str().as_bytes() == *type_name.as_str().as_bytes()
-        }),
-    }
+/// Whether no type is refused.
+fn is_whole(report: &[TypeReport]) -> bool {
+    report.iter().all(|one| one.status != Status::Refused)
 }
 
 /// A line for each remark on the types that the job needs, `files` being the names of the files of the texts.

@@ -19,7 +19,7 @@ no_files id rows e = ap (λ o. unwrap_or o []) e
 
 pub flag : (f : Found) (id : Text) (b : Bool) → (one_text f id ≡ None → b ≡ false) → (one_text f id ≡ Some (codes "true") → b ≡ true)
     → (one_text f id ≡ Some (codes "false") → b ≡ false) → IsFlag id (rows_of f) b
-flag f id b none yes no = ((λ e. yes (one_text-rows f id ∙ e)), (λ e. no (one_text-rows f id ∙ e)), (λ e. none (one_text-rows f id ∙ e)))
+flag f id b none is_true is_false = ((λ e. is_true (one_text-rows f id ∙ e)), (λ e. is_false (one_text-rows f id ∙ e)), (λ e. none (one_text-rows f id ∙ e)))
 
 number : {E : Type 0} (gives : List ℕ → Result ℕ E → Type 0) → ((bs : List ℕ) (r : Result ℕ E) → gives bs r → ParsesUnsigned 32 10 bs r)
     → (t : Text) (read : Option ℕ) → ReadsOne gives t read → Reads t read

@@ -271,7 +271,7 @@ module _ (Q : Row → Type 0) where
               (each_push Q rows _ all (q (reading_by a) (v ∷ vs)))
 
           absent : IsDefaulted Q a → has_row a.id rows ≡ false → Each Q (default_rows a.id (reading_by a) a.defaults rows)
-          absent (inl no) none = subst (λ d. Each Q (default_rows a.id (reading_by a) d rows)) (sym no) all
+          absent (inl nothing) none = subst (λ d. Each Q (default_rows a.id (reading_by a) d rows)) (sym nothing) all
           absent (inr q) none = given a.defaults q none
 
           go : (b : Bool) → has_row a.id rows ≡ b → Each Q (cond b rows (default_rows a.id (reading_by a) a.defaults rows))

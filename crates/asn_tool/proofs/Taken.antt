@@ -1,5 +1,5 @@
 -- What clap takes as words of the command: the subcommand `flatten` or `module`, or an order with its two options.
-use Rattle.std.proofs.Common.{◌≡◌, ◌∙◌, ◌⊎◌, ◌∷◌, ◌++◌, ◌||◌, ap, sym, subst, refl, arith, inl, inr, true, false, not, true≢false, Bool, cond, codes, map, List, [], Option, Some, None, ℕ}
+use Rattle.std.proofs.Common.{◌≡◌, ◌<◌, ◌∙◌, ◌⊎◌, ◌∷◌, ◌++◌, ◌||◌, ap, sym, subst, refl, arith, inl, inr, true, false, not, true≢false, Bool, cond, codes, map, List, [], Option, Some, None, ℕ}
 use Rattle.std.specs.Prelude.{find, slice_get, slice_index_or, option_and_then, option_map}
 use Rattle.std.specs.Borrow.{Bor}
 use Rattle.std.specs.List.{list_all, list_any}

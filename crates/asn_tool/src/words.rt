@@ -2,7 +2,7 @@
 ghost use Rattle.std.specs.Prelude.{◌≡◌, IfOk, false};
 ghost use Rattle.clap.specs.Words.{app_of, rule_of, shape_of};
 ghost use Rattle.clap.specs.declared.builder.Command.TheViews.{out-Command};
-ghost use Rattle.asn_tool.specs.Command.{IsFlatten, IsOrder, IsTool, flag_rule, module_rule, module_shape, with_leave};
+ghost use Rattle.asn_tool.specs.Command.{IsFlatten, IsOrder, IsTool, TakesNames, file_rule, flag_rule, module_rule, module_shape, report_names, report_rule, rule_names, rules_rule, type_rule, with_leave};
 
 use crate::help;
 use clap::{Arg, ArgAction, Command, value_parser};
@@ -48,18 +48,6 @@ fn flatten<'a>(alloc: Global) -> Result<Command<'a>, AllocError>
     ensures shape { IfOk result (λ c. IsFlatten (shape_of c)) }
     ensures local { IfOk result (λ c. (out-Command c).has_globals ≡ false) }
 {
-    let files = Arg::new(alloc, "file")
-        .value_name("FILE")
-        .required(true)
-        .num_args(1..)
-        .action(ArgAction::Append)
-        .help("The texts of the modules");
-    let report = Arg::new(alloc, "report")
-        .long("report")
-        .value_name("FORM")
-        .action(ArgAction::Set)
-        .value_parser(REPORTS.as_slice())
-        .help("What standard error tells of the types [default: summary]");
     let strict = flag(
         alloc,
         "strict",
@@ -68,10 +56,36 @@ fn flatten<'a>(alloc: Global) -> Result<Command<'a>, AllocError>
     let command = Command::new(alloc, "flatten")
         .about("Writes published modules as one module of the profile")
         .after_help(help::FLATTEN)
-        .arg(files)?
-        .arg(report)?
+        .arg(file_argument(alloc))?
+        .arg(report_option(alloc))?
         .arg(strict)?;
     with_leave(alloc, command)
+}
+
+/// The files of the published modules.
+fn file_argument<'a>(alloc: Global) -> Arg<'a>
+    ensures rule { rule_of result ≡ file_rule }
+    ensures local { result.global ≡ false }
+{
+    Arg::new(alloc, "file")
+        .value_name("FILE")
+        .required(true)
+        .num_args(1..)
+        .action(ArgAction::Append)
+        .help("The texts of the modules")
+}
+
+/// The option for the form of the report.
+fn report_option<'a>(alloc: Global) -> Arg<'a>
+    ensures rule { (p : _) × TakesNames report_names p × (rule_of result ≡ report_rule p) }
+    ensures local { result.global ≡ false }
+{
+    Arg::new(alloc, "report")
+        .long("report")
+        .value_name("FORM")
+        .action(ArgAction::Set)
+        .value_parser(REPORTS.as_slice())
+        .help("What standard error tells of the types [default: summary]")
 }
 
 /// The subcommand of the module.
@@ -96,26 +110,40 @@ fn order<'a>(
     ensures shape { IfOk result (λ c. IsOrder name.entry.now (shape_of c)) }
     ensures local { IfOk result (λ c. (out-Command c).has_globals ≡ false) }
 {
-    let type_name = Arg::new(alloc, "type")
+    let command = Command::new(alloc, name)
+        .about(about)
+        .after_help(help)
+        .arg(type_option(alloc))?
+        .arg(rules_option(alloc))?
+        .arg(files_option(alloc))?;
+    with_leave(alloc, command)
+}
+
+/// The option for the name of the type.
+fn type_option<'a>(alloc: Global) -> Arg<'a>
+    ensures rule { rule_of result ≡ type_rule }
+    ensures local { result.global ≡ false }
+{
+    Arg::new(alloc, "type")
         .long("type")
         .value_name("NAME")
         .required(true)
         .action(ArgAction::Set)
-        .help("The type, by its name in the module");
-    let rules = Arg::new(alloc, "rules")
+        .help("The type, by its name in the module")
+}
+
+/// The option for the encoding rules.
+fn rules_option<'a>(alloc: Global) -> Arg<'a>
+    ensures rule { (p : _) × TakesNames rule_names p × (rule_of result ≡ rules_rule p) }
+    ensures local { result.global ≡ false }
+{
+    Arg::new(alloc, "rules")
         .long("rules")
         .value_name("RULES")
         .required(true)
         .action(ArgAction::Set)
         .value_parser(RULES.as_slice())
-        .help("The encoding rules of the octets that are read, or that `encode` writes");
-    let command = Command::new(alloc, name)
-        .about(about)
-        .after_help(help)
-        .arg(type_name)?
-        .arg(rules)?
-        .arg(files_option(alloc))?;
-    with_leave(alloc, command)
+        .help("The encoding rules of the octets that are read, or that `encode` writes")
 }
 
 /// The option for the files of the module.

@@ -4,8 +4,8 @@ use Rattle.clap.specs.Words.{found_of, rows_of}
 use Rattle.asn_tool.proofs.FoundJob.{known_rules, order_known, rules_known, value_known}
 use Rattle.asn_tool.proofs.request.lines_in.Goals as goal
 
-pub unreachable-requires-in_default-order_named : goal.unreachable-requires-in_default-order_named
-unreachable-requires-in_default-order_named c = order_known c.args.name.now c.requires.0 c.in_default-order_named.ensures
+pub unreachable-requires : goal.unreachable-requires
+unreachable-requires c = order_known c.args.name.now c.requires.0 c.in_default.ensures
 
 pub unreachable-requires-in_default-get_str : goal.unreachable-requires-in_default-get_str
 unreachable-requires-in_default-get_str c =
@@ -22,7 +22,7 @@ unreachable-requires-in_default-rules_named c =
 
 pub returns : goal.returns
 returns c = (
-  sym c.in-Some-order_named.ensures,
+  sym c.in-Some.ensures,
   sym (ap Some c.in_ok-type_name.ensures.ok ∙ (c.in-Some-get_str.ensures ∙ first_value-rows (found_of c.args.options.now) (codes "type"))),
   sym (ap Some c.in-Some-rules_named.ensures ∙ (c.in-Some-get_str-2.ensures ∙ first_value-rows (found_of c.args.options.now) (codes "rules"))),
 )

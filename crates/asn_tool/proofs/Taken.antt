@@ -16,7 +16,7 @@ use Rattle.clap.specs.declared.builder.value_parser.ValueParser.TheVariants.{Nam
 use Rattle.clap.specs.declared.error.kind.ErrorKind.TheVariants as kind
 use Rattle.clap.proofs.WalkLemmas.{list_any-map}
 use Rattle.asn_tool.specs.Command.{AreOrders, HasOptions, IsOneOf, IsTaken, IsTool, TakesNames, flatten_app, module_shape, order_names, order_shape, rule_names, tool}
-use Rattle.asn_tool.proofs.SetOptions.{Each, IsDefaulted, IsOption, check_passes, found, given_row, level_good, no_kind, none_first, none_next}
+use Rattle.asn_tool.proofs.SetOptions.{Each, IsDefaulted, IsOption, check_passes, default_row, found, given_row, level_good, no_kind, none_first, none_next, set_row}
 use Rattle.asn_tool.proofs.NotHelp.{StopsElsewhere, walk_stops}
 
 -- what a subcommand takes from the command above it, once that is built
@@ -85,12 +85,12 @@ leaf_options names = (
   (
     inr (inl (refl, refl, λ how v vs ok. ((λ e. let bad : ◌≡◌ {A = ℕ} 114 116 = ap first e in absurd (omega arith)), (λ e. (v, refl, ok))))),
     (
-      inr (inr (inl refl, (λ how values. other names _ (letters 109 (omega arith)).0 (letters 109 (omega arith)).1))),
+      inr (inr (inl refl, (λ how values. other names (set_row (codes "module") how values) (letters 109 (omega arith)).0 (letters 109 (omega arith)).1))),
       (
-        inr (inr (inr refl, (λ how values. other names _ (letters 112 (omega arith)).0 (letters 112 (omega arith)).1))),
+        inr (inr (inr refl, (λ how values. other names (set_row (codes "plain-bits") how values) (letters 112 (omega arith)).0 (letters 112 (omega arith)).1))),
         (
-          inr (inr (inr refl, (λ how values. other names _ (letters 111 (omega arith)).0 (letters 111 (omega arith)).1))),
-          (inr (inr (inl refl, (λ how values. other names _ (letters 108 (omega arith)).0 (letters 108 (omega arith)).1))), (inl refl, tt)),
+          inr (inr (inr refl, (λ how values. other names (set_row (codes "octets") how values) (letters 111 (omega arith)).0 (letters 111 (omega arith)).1))),
+          (inr (inr (inl refl, (λ how values. other names (set_row (codes "levels") how values) (letters 108 (omega arith)).0 (letters 108 (omega arith)).1))), (inl refl, tt)),
         ),
       ),
     ),
@@ -105,9 +105,9 @@ leaf_defaults names = (
     (
       inl refl,
       (
-        inr (λ how values. other names _ (letters 112 (omega arith)).0 (letters 112 (omega arith)).1),
+        inr (λ how values. other names (default_row (codes "plain-bits") how values) (letters 112 (omega arith)).0 (letters 112 (omega arith)).1),
         (
-          inr (λ how values. other names _ (letters 111 (omega arith)).0 (letters 111 (omega arith)).1),
+          inr (λ how values. other names (default_row (codes "octets") how values) (letters 111 (omega arith)).0 (letters 111 (omega arith)).1),
           (inl refl, (inl refl, tt)),
         ),
       ),

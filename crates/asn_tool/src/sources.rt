@@ -146,11 +146,34 @@ pub fn input_with(
     ensures own { IfOk result (λ i. (text : _) → texts_of texts.now ≡ text ∷ [] → IsOwn text
         → IsSomeAnd i.octets (λ o. IsOwnInput text rest.now o.items) × (string_bytes i.remarks ≡ [])) }
 {
-    if let [text] = texts {
-        if let Some(module) = own_of(alloc, *text)? {
-            return Ok(own_input(alloc, &module, rest)?);
-        }
+    match own_among(alloc, texts)? {
+        Some(module) => Ok(own_input(alloc, &module, rest)?),
+        None => published_input(alloc, files, texts, rest, options, job),
     }
+}
+
+/// The module of the profile that is the only text, if it is one.
+fn own_among(alloc: Global, texts: &[&str]) -> Result<Option<Module>, AllocError>
+    ensures { IfOk result (λ m. MatchOption m ((text : _) → texts_of texts.now ≡ text ∷ [] → IsOwn text → ⊥)
+        (λ m. (text : _) × (texts_of texts.now ≡ text ∷ []) × Accepted text (types_view m))) }
+{
+    match texts {
+        [text] => own_of(alloc, *text),
+        _ => Ok(None),
+    }
+}
+
+/// What a job is run on for these texts of published modules, and what is told of it.
+fn published_input(
+    alloc: Global,
+    files: &[&str],
+    texts: &[&str],
+    rest: &[u8],
+    options: Options,
+    job: &Job,
+) -> Result<Instead, PublishedFault>
+    ensures { IfOk result (λ i. IfSome i.octets (λ o. IsInput rest.now o.items)) }
+{
     let flattened = flatten(alloc, texts, options)?;
     Ok(flattened_input(alloc, files, &flattened, rest, job)?)
 }
@@ -180,12 +203,12 @@ fn flattened_input(
 }
 
 /// What a job is run on for a module of the profile.
-fn own_input(alloc: Global, module: &Module, rest: &[u8]) -> Result<Instead, AllocError>
-    ensures { IfOk result (λ i. (source : _) → Accepted source (types_view module.now)
-        → IsSomeAnd i.octets (λ o. IsInputOf (types_view module.now) rest.now o.items)
+fn own_input(alloc: Global, own: &Module, rest: &[u8]) -> Result<Instead, AllocError>
+    ensures { IfOk result (λ i. (source : _) → Accepted source (types_view own.now)
+        → IsSomeAnd i.octets (λ o. IsInputOf (types_view own.now) rest.now o.items)
         × (string_bytes i.remarks ≡ [])) }
 {
-    let text = module.print(alloc)?;
+    let text = own.print(alloc)?;
     let octets = Some(input_of(alloc, text.as_str(), rest)?);
     Ok(Instead {
         octets,
@@ -212,11 +235,11 @@ fn remarks(
 }
 
 /// The input of a job: the text of the module, the line ====, and the octets after it.
-fn input_of(alloc: Global, module: &str, rest: &[u8]) -> Result<Vec<u8>, AllocError>
-    ensures { IfOk result (λ o. o.items ≡ module.now ++ mark ++ rest.now) }
+fn input_of(alloc: Global, text: &str, rest: &[u8]) -> Result<Vec<u8>, AllocError>
+    ensures { IfOk result (λ o. o.items ≡ text.now ++ mark ++ rest.now) }
 {
     let mut octets = Vec::new(alloc);
-    octets.extend_from_slice(module.as_bytes())?;
+    octets.extend_from_slice(text.as_bytes())?;
     octets.extend_from_slice(b"====\n".as_slice())?;
     octets.extend_from_slice(rest)?;
     Ok(octets)

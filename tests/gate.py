@@ -7,8 +7,8 @@ usage: tests/gate.py [PART..]      the parts are proofs, edits and tests; all th
 2. edits: tests/edits.py tries itself on a tiny crate, and then the wrong bodies of the crates that changed since they
    were tried, and of a quarter of the others.
 3. tests: the programs of tests/programs are built without a proof of their own (tests/room.py), and what they write is
-   compared; tests/refused_allocations.sh refuses in turn each allocation of programs; examples/run.sh and
-   tests/versions.py run the program `asn_tool` as the gate has built it.
+   compared; tests/refused_allocations.sh refuses in turn each allocation of programs; examples/run.sh,
+   tests/long_lists.py and tests/versions.py run the program `asn_tool` as the gate has built it.
 
 What a step writes is shown as it comes: a line for each crate that is proved, and for each group of edits that is tried.
 The end says how many minutes of a processor each part took, and how many by the clock. The last line is 'N passed, M
@@ -110,6 +110,7 @@ def tests(count, room):
     step(count, ["tests/octet_counts.py"])
     step(count, ["tests/refused_allocations.sh", room])
     step(count, ["examples/run.sh", TOOL])
+    step(count, ["tests/long_lists.py", TOOL])
     step(count, ["tests/versions.py", TOOL])
 
 

@@ -2,9 +2,12 @@
 
 use crate::fault::Refusal;
 use crate::heads::{Head, head_of, with_bounds};
+use crate::short_lists::{choice_of, sequence_of};
 use crate::simple::{enumerated, integer, list, need, string};
-use asn_notation::{AlternativeNotation, AssignmentNotation, ComponentNotation, TypeNotation};
-use asn_values::{Alt, AsnType, Field};
+use asn_notation::{
+    AlternativeNotation, AssignmentNotation, ComponentNotation, NeedNotation, TypeNotation,
+};
+use asn_values::{Alt, AsnType, Field, Need, Value};
 use std::alloc::Global;
 use std::collections::HashMap;
 
@@ -27,11 +30,24 @@ fn expand_fields<'m, 't, 'n>(
     let mut fields = Vec::new(module.alloc);
     for component in components {
         let name = String::from_str(module.alloc, component.name)?;
+        if *nodes == 0 && matches!(component.need, NeedNotation::Default(_)) {
+            fields.push(left_out(name))?;
+            continue;
+        }
         let ty = expand(module, &component.ty, levels, nodes)?;
         let need = need(&ty, &component.need);
         fields.push(Field { name, ty, need })?;
     }
     Ok(fields)
+}
+
+/// What stands for a component with a DEFAULT past the types that are built: whether the DEFAULT may be is not known.
+fn left_out(name: String) -> Field {
+    Field {
+        name,
+        ty: AsnType::Bool,
+        need: Need::Default(Value::Bool(true)),
+    }
 }
 
 #[cycle(expanding)]
@@ -72,7 +88,7 @@ fn expand_here<'m, 't, 'n>(
                 None => None,
                 Some(more) => Some(expand_fields(module, more, levels, nodes)?),
             };
-            Ok(AsnType::Seq { root, ext })
+            Ok(sequence_of(alloc, root, ext)?)
         }
         TypeNotation::SequenceOf(size, element) => {
             let element = expand(module, element, levels, nodes)?;
@@ -84,14 +100,14 @@ fn expand_here<'m, 't, 'n>(
                 None => None,
                 Some(more) => Some(expand_alternatives(module, more, levels, nodes)?),
             };
-            Ok(AsnType::Choice { root, ext })
+            Ok(choice_of(alloc, root, ext)?)
         }
         TypeNotation::Reference { .. } => Err(Refusal::Missing),
     }
 }
 
 /// A type with all references followed. What lies below `levels` levels, or past `nodes` types, is left out: a NULL
-/// stands for it.
+/// stands for it, or where it has a DEFAULT a BOOLEAN with one. Lists of too many components or alternatives are made short.
 #[cycle(expanding)]
 pub(crate) fn expand<'m, 't, 'n>(
     module: Assignments<'m, 't, 'n>,

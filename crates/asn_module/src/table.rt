@@ -8,20 +8,23 @@ ghost use Rattle.asn_notation.specs.Tree.{tree_view, assignments_view};
 ghost use Rattle.asn_module.specs.Accepted.{Typed};
 ghost use Rattle.asn_module.specs.Known as spec;
 ghost use Rattle.asn_module.specs.Lookup.{Finds, names_in, assigned_names};
-ghost use Rattle.asn_module.specs.Known.{look, IsKnownOf, IsKnownOrStuck, AreAllSound, AreAllDone, AreAllTypes};
-ghost use Rattle.asn_module.specs.Known.{Attempted, unbuilt};
+ghost use Rattle.asn_module.specs.Known.{look, IsKnownOf, IsKnownAs, IsKnownOrStuck, AreAllSound, AreAllDone};
+ghost use Rattle.asn_module.specs.Known.{AreAllTypes, Attempted, unbuilt};
 
 use crate::building::build;
 use crate::counting::count;
 use crate::fault::Refusal;
+use crate::finding::find;
 use crate::known::{Known, Named};
-use asn_notation::{AssignmentNotation, TypeNotation};
+use crate::part_counts::has_too_many_parts;
+use asn_notation::{AssignmentNotation, Constraint, TypeNotation};
 use asn_values::profile::MAX_TYPES;
 use asn_values::{AsnType, Checked, TypeFault};
 use std::alloc::{AllocError, Global};
 use std::collections::HashMap;
 
-/// A type with its constraint, where it is one of the profile.
+/// A type with its constraint, where it is one of the profile. Its parts are counted first: `Checked::new` compares
+/// each name of a list with each other before it looks at their number.
 fn of_profile(
     alloc: Global,
     ty: AsnType,
@@ -31,6 +34,9 @@ fn of_profile(
         (λ k. IsKnownOf ty constraint k)) }
     ensures memory { IfErr result (λ e. e ≡ Refusal.Memory) }
 {
+    if has_too_many_parts(&ty) {
+        return Ok(None);
+    }
     match Checked::new(alloc, ty) {
         Ok(ty) => Ok(Some(Known { ty, constraint })),
         Err(fault) => {
@@ -40,6 +46,35 @@ fn of_profile(
                 Ok(None)
             }
         }
+    }
+}
+
+/// The type of a reference without a constraint, where the name's type is built: both names share it.
+fn shared(
+    names: &[Named],
+    indices: &HashMap<&str, usize>,
+    ty: &TypeNotation,
+) -> Result<Option<Known>, Refusal>
+    requires { Finds indices.now (names_in names.now) }
+    ensures known { IfOk result (λ o. IfSome o (λ k. IsKnownAs (look names.now) (tree_view ty.now) k)) }
+    ensures memory { IfErr result (λ e. e ≡ Refusal.Memory) }
+{
+    match ty {
+        TypeNotation::Reference {
+            name,
+            constraint: Constraint::None,
+            ..
+        } => match find(names, indices, *name) {
+            Some(known) => {
+                let ty = known.ty.copy()?;
+                Ok(Some(Known {
+                    ty,
+                    constraint: known.constraint,
+                }))
+            }
+            None => Ok(None),
+        },
+        _ => Ok(None),
     }
 }
 
@@ -55,6 +90,9 @@ fn build_known(
     ensures known { IfOk result (λ o. IsKnownOrStuck (look names.now) (tree_view ty.now) o) }
     ensures memory { IfErr result (λ e. e ≡ Refusal.Memory) }
 {
+    if let Some(known) = shared(names, indices, ty)? {
+        return Ok(Some(known));
+    }
     if count(names, indices, ty) > MAX_TYPES {
         return Ok(None);
     }

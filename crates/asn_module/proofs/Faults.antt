@@ -5,7 +5,8 @@ use Rattle.asn_values.specs.declared.fault.TypeFault.{TypeFault}
 use Rattle.asn_values.specs.declared.fault.TypeFault.TheVariants as fault
 use Rattle.asn_values.specs.Shape.{Shape}
 use Rattle.asn_values.specs.View.{Holds, shape_of}
-use Rattle.asn_values.specs.Profile.{InProfile, EmptyRange, SizeTooLarge, DuplicateName, BadEnumeration, UselessMark, BadDefault, ZeroWidthElement, AdditionNotOptional, TooMany, TooDeep}
+use Rattle.asn_values.specs.Profile.{InProfile, EmptyRange, SizeTooLarge, DuplicateName, BadEnumeration, UselessMark, BadDefault, ZeroWidthElement, AdditionNotOptional, TooMany, TooDeep, somewhere, too_many_here}
+use Rattle.asn_values.proofs.Parts.{left_false}
 use Rattle.asn_notation.specs.Tree.{Tree}
 use Rattle.asn_module.specs.declared.fault.Refusal.{Refusal}
 use Rattle.asn_module.specs.declared.known.Built.{Built}
@@ -29,6 +30,10 @@ faulty fault.AdditionNotOptional t h other p = both_ways _ h (p AdditionNotOptio
 faulty fault.TooMany t h other p = both_ways _ h (p TooMany)
 faulty fault.TooDeep t h other p = both_ways _ h (p TooDeep)
 faulty fault.Memory t h other p = other refl
+
+-- one with too many parts somewhere is none of the profile
+pub crowded : (t : Shape) → true ≡ somewhere too_many_here t → InProfile t → ⊥
+crowded t h p = both_ways (somewhere too_many_here t) (sym h) (left_false (somewhere too_many_here t) _ (p TooMany))
 
 -- a type that was built, and found to be of the profile or not
 pub known_as : (look : List ℕ → Option Meant) (tree : Tree) (b : Built) (r : Result (Option Known) Refusal) → meant look tree ≡ Some (built_view b)

@@ -11,6 +11,7 @@ pub mod PrintedNames
 pub mod PrintedTypes
 pub mod PrintedModules
 pub mod Counts
+pub mod PartCounts
 pub mod Lookups
 pub mod ItemIndexes
 pub mod UsedNames

@@ -1,12 +1,11 @@
 //! Which fault a refused text is told to have. No contract rests on what is answered here.
 
-use crate::expanding::{Assignments, expand};
+use crate::expanding::{Assignments, Room, expand};
 use crate::fault::ModuleFault;
 use crate::graph::{first_on_cycle, indices_of, order_of, references_of};
 use crate::heads::{Head, heads_of, may_stand};
 use crate::listing::{Listed, assignments_listed, first_twice, first_unknown};
 use crate::shallow::without_deep_types;
-use crate::short_lists::shorten_items;
 use asn_notation::{Lexeme, ModuleNotation, SyntaxFault, first_token, read_notation, skip_blank};
 use asn_values::profile::{MAX_LEVELS, MAX_TYPES};
 use asn_values::{Checked, TypeFault};
@@ -57,7 +56,7 @@ pub(crate) fn fault_of(alloc: Global, text: &str) -> ModuleFault {
         return ModuleFault::Character { at };
     }
     let found = match read_notation(alloc, text, READ_LEVELS) {
-        Ok(notation) => fault_of_names(alloc, text, notation),
+        Ok(notation) => fault_of_names(alloc, text, &notation),
         Err(SyntaxFault::TooDeep { .. }) => fault_of_deep(alloc, text),
         Err(fault) => match fault_of_syntax(text, fault) {
             Some(fault) => Ok(fault),
@@ -74,7 +73,7 @@ pub(crate) fn fault_of(alloc: Global, text: &str) -> ModuleFault {
 fn fault_of_deep(alloc: Global, text: &str) -> Result<ModuleFault, ModuleFault> {
     let shallow = without_deep_types(alloc, text, LEVELS)?;
     match read_notation(alloc, &shallow, READ_LEVELS) {
-        Ok(notation) => fault_of_names(alloc, text, notation),
+        Ok(notation) => fault_of_names(alloc, text, &notation),
         Err(_) => Err(ModuleFault::Memory),
     }
 }
@@ -133,8 +132,11 @@ fn first_bad_type<'m, 't, 'n>(
 ) -> Result<Option<ModuleFault>, ModuleFault> {
     let alloc = module.alloc;
     for assignment in module.all {
-        let mut nodes = NODES;
-        let ty = expand(module, &assignment.ty, LEVELS, &mut nodes)?;
+        let mut room = Room {
+            nodes: NODES,
+            has_long_list: false,
+        };
+        let ty = expand(module, &assignment.ty, LEVELS, &mut room)?;
         match Checked::new(alloc, ty) {
             Ok(_) => {}
             Err(TypeFault::Memory) => return Err(ModuleFault::Memory),
@@ -151,10 +153,8 @@ fn first_bad_type<'m, 't, 'n>(
 fn fault_of_names<'t, 'n>(
     alloc: Global,
     text: &'t str,
-    notation: ModuleNotation<'n>,
+    notation: &ModuleNotation<'n>,
 ) -> Result<ModuleFault, ModuleFault> {
-    let mut assignments = notation.assignments;
-    shorten_items(alloc, &mut assignments)?;
     let listed = assignments_listed(alloc, text)?;
     let indices = indices_of(alloc, &listed)?;
     let references = references_of(alloc, &listed, &indices)?;
@@ -162,7 +162,7 @@ fn fault_of_names<'t, 'n>(
         return Ok(fault);
     }
     let order = order_of(alloc, &references)?;
-    let heads = heads_of(alloc, &assignments, &indices, &order)?;
+    let heads = heads_of(alloc, &notation.assignments, &indices, &order)?;
     if let Some(left) = first_misplaced(&listed, &indices, &heads) {
         return Ok(ModuleFault::OutOfProfile {
             at: text.len().saturating_sub(left),
@@ -170,7 +170,7 @@ fn fault_of_names<'t, 'n>(
     }
     let module = Assignments {
         alloc,
-        all: assignments.as_slice(),
+        all: notation.assignments.as_slice(),
         indices: &indices,
         heads: heads.as_slice(),
     };

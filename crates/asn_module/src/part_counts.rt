@@ -2,10 +2,11 @@
 //! with another.
 
 ghost use Rattle.std.specs.Prelude.{◌≡◌};
-ghost use Rattle.asn_values.specs.Profile.{somewhere, some_field, some_addition, some_alternative, some_more, too_many_here};
+ghost use Rattle.asn_values.specs.Profile.{somewhere, some_field, some_alternative, too_many_here};
 ghost use Rattle.asn_values.specs.View.{shape_of, enumerated_seen, sequence_seen, choice_seen};
-ghost use Rattle.asn_values.specs.View.{fields_seen, alternatives_seen, more_fields_of, more_alternatives_of};
+ghost use Rattle.asn_values.specs.View.{fields_seen, alternatives_seen};
 
+use asn_values::internal::additions;
 use asn_values::profile::{MAX_ADDITIONS, MAX_ALTERNATIVES, MAX_COMPONENTS, MAX_ITEMS};
 use asn_values::{Alt, AsnType, Field, Item};
 
@@ -13,32 +14,22 @@ use asn_values::{Alt, AsnType, Field, Item};
 pub(crate) fn are_many_items(root: &[Item], ext: &Option<Vec<Item>>) -> bool
     ensures { result ≡ too_many_here (enumerated_seen root.now ext.now) }
 {
-    match ext {
-        None => MAX_ITEMS < root.len(),
-        Some(more) => MAX_ADDITIONS < more.len() || MAX_ITEMS - more.len() < root.len(),
-    }
+    let added = additions(ext).len();
+    MAX_ITEMS < root.len() + added || MAX_ADDITIONS < added
 }
 
 /// Whether a SEQUENCE has more components than the profile allows, before the extension marker or after it.
 pub(crate) fn are_many_components(root: &[Field], ext: &Option<Vec<Field>>) -> bool
     ensures { result ≡ too_many_here (sequence_seen root.now ext.now) }
 {
-    match ext {
-        None => MAX_COMPONENTS < root.len(),
-        Some(more) => MAX_COMPONENTS < root.len() || MAX_ADDITIONS < more.len(),
-    }
+    MAX_COMPONENTS < root.len() || MAX_ADDITIONS < additions(ext).len()
 }
 
 /// Whether a CHOICE has more alternatives than the profile allows.
 pub(crate) fn are_many_alternatives(root: &[Alt], ext: &Option<Vec<Alt>>) -> bool
     ensures { result ≡ too_many_here (choice_seen root.now ext.now) }
 {
-    match ext {
-        None => MAX_ALTERNATIVES < root.len(),
-        Some(more) => {
-            MAX_ALTERNATIVES < root.len() || MAX_ALTERNATIVES - root.len() < more.len()
-        }
-    }
+    MAX_ALTERNATIVES < root.len() + additions(ext).len()
 }
 
 /// Whether the type of one of the components has too many parts.
@@ -54,17 +45,6 @@ fn some_component(fields: &[Field]) -> bool
     false
 }
 
-/// The same of the components after an extension marker, where there is one.
-#[cycle(part_counts)]
-fn some_added_component(ext: &Option<Vec<Field>>) -> bool
-    ensures { result ≡ some_addition too_many_here (more_fields_of ext.now) }
-{
-    match ext {
-        None => false,
-        Some(more) => some_component(more),
-    }
-}
-
 /// Whether the type of one of the alternatives has too many parts.
 #[cycle(part_counts)]
 fn some_choice(alternatives: &[Alt]) -> bool
@@ -76,17 +56,6 @@ fn some_choice(alternatives: &[Alt]) -> bool
         }
     }
     false
-}
-
-/// The same of the alternatives after an extension marker, where there is one.
-#[cycle(part_counts)]
-fn some_added_choice(ext: &Option<Vec<Alt>>) -> bool
-    ensures { result ≡ some_more too_many_here (more_alternatives_of ext.now) }
-{
-    match ext {
-        None => false,
-        Some(more) => some_choice(more),
-    }
 }
 
 /// Whether a type, or one inside it, has more items, components, alternatives or additions than the profile allows.
@@ -105,10 +74,22 @@ pub(crate) fn has_too_many_parts(ty: &AsnType) -> bool
         AsnType::Enum { root, ext } => are_many_items(root, ext),
         AsnType::SeqOf(element, _) => has_too_many_parts(element),
         AsnType::Seq { root, ext } => {
-            are_many_components(root, ext) || some_component(root) || some_added_component(ext)
+            if are_many_components(root, ext) || some_component(root) {
+                return true;
+            }
+            match ext {
+                None => false,
+                Some(more) => some_component(more),
+            }
         }
         AsnType::Choice { root, ext } => {
-            are_many_alternatives(root, ext) || some_choice(root) || some_added_choice(ext)
+            if are_many_alternatives(root, ext) || some_choice(root) {
+                return true;
+            }
+            match ext {
+                None => false,
+                Some(more) => some_choice(more),
+            }
         }
     }
 }

@@ -1,92 +1,56 @@
 //! Lists of more parts than the profile allows, made short for the search for the first fault: `Checked::new` compares
 //! each name with each other. What is left has the same first fault, and what types around it ask of it is the same.
 
-use crate::items::has_number;
+use crate::items::{has_number, items_from};
 use crate::part_counts::{are_many_alternatives, are_many_components};
-use asn_notation::{AssignmentNotation, ItemNotation, TypeNotation};
+use asn_notation::ItemNotation;
 use asn_values::internal::{Named, additions, is_between};
 use asn_values::profile::{
     HIGHEST_INTEGER, LOWEST_INTEGER, MAX_ADDITIONS, MAX_COMPONENTS, MAX_ITEMS,
 };
-use asn_values::{Alt, AsnType, Bounds, Field, Need, Size, TypeFault, Value};
+use asn_values::{Alt, AsnType, Bounds, Field, Item, Need, Size, TypeFault, Value};
 use std::alloc::{AllocError, Global};
 use std::collections::HashMap;
 
-/// Makes the long lists of items in the types of the assignments short.
-pub(crate) fn shorten_items(
-    alloc: Global,
-    assignments: &mut Vec<AssignmentNotation>,
-) -> Result<(), AllocError> {
-    for assignment in assignments.iter_mut() {
-        shorten_type(alloc, &mut assignment.ty)?;
-    }
-    Ok(())
-}
+/// A number that no item of the profile has.
+const NO_NUMBER: i64 = 2_147_483_648;
 
-#[cycle(shortening)]
-fn shorten_type(alloc: Global, ty: &mut TypeNotation) -> Result<(), AllocError> {
-    match ty {
-        TypeNotation::Enumerated { root, more } => shorten_enumerated(alloc, root, more),
-        TypeNotation::SequenceOf(_, element) => shorten_type(alloc, element),
-        TypeNotation::Sequence { root, more } => {
-            for component in root.iter_mut() {
-                shorten_type(alloc, &mut component.ty)?;
-            }
-            if let Some(more) = more {
-                for component in more.iter_mut() {
-                    shorten_type(alloc, &mut component.ty)?;
-                }
-            }
-            Ok(())
-        }
-        TypeNotation::Choice { root, more } => {
-            for alternative in root.iter_mut() {
-                shorten_type(alloc, &mut alternative.ty)?;
-            }
-            if let Some(more) = more {
-                for alternative in more.iter_mut() {
-                    shorten_type(alloc, &mut alternative.ty)?;
-                }
-            }
-            Ok(())
-        }
-        TypeNotation::Boolean
-        | TypeNotation::Null
-        | TypeNotation::Utf8
-        | TypeNotation::Integer(_)
-        | TypeNotation::Text(..)
-        | TypeNotation::Reference { .. } => Ok(()),
-    }
-}
-
-/// Leaves one item more than the profile allows, and one addition more, where there are so many, and with them a name
-/// twice, or else a number that is none, where the whole list has one. The first 256 items are those that a DEFAULT
-/// may name.
-fn shorten_enumerated<'t>(
+/// An ENUMERATED of these items. Where they are too many, one of the first 257 and the first 65 additions: a DEFAULT may
+/// name one of the first 256. With them stands a name twice, or else a number that is none, where the whole list has
+/// one and `is_first` says that no fault was found before.
+pub(crate) fn enumerated_of(
     alloc: Global,
-    root: &mut Vec<ItemNotation<'t>>,
-    more: &mut Option<Vec<ItemNotation<'t>>>,
-) -> Result<(), AllocError> {
+    root: &[ItemNotation],
+    more: &Option<Vec<ItemNotation>>,
+    is_first: bool,
+) -> Result<AsnType, AllocError> {
     let added = additions(more);
-    if added.len() <= MAX_ADDITIONS && root.len() <= MAX_ITEMS - added.len() {
-        return Ok(());
+    let has_twice = is_first && is_item_twice(alloc, root, added)?;
+    let has_bad_number = is_first && !has_twice && has_bad_number(alloc, root, added)?;
+    let first = &root[..root.len().min(MAX_ITEMS + 1)];
+    let first_added = &added[..added.len().min(MAX_ADDITIONS + 1)];
+    let numbered = has_number(first) || has_number(first_added);
+    let mut items = items_from(alloc, numbered, 0, first)?;
+    if has_twice && !items.is_empty() {
+        let name = items[0].name.clone()?;
+        items.push(Item { name, number: 0 })?;
     }
-    let has_twice = is_item_twice(alloc, root, added)?;
-    let has_bad_number = !has_twice && has_bad_number(alloc, root, added)?;
-    root.truncate(MAX_ITEMS + 1);
-    if let Some(more) = more {
-        more.truncate(MAX_ADDITIONS + 1);
-    }
-    if has_twice && !root.is_empty() {
-        let first = root[0];
-        root.push(first)?;
-    }
-    if let Some(last) = root.last_mut() {
+    if let Some(last) = items.last_mut() {
         if has_bad_number {
-            last.number = Some(HIGHEST_INTEGER);
+            last.number = NO_NUMBER;
         }
     }
-    Ok(())
+    let ext = match more {
+        None => None,
+        Some(_) => Some(items_from(alloc, numbered, first.len(), first_added)?),
+    };
+    Ok(AsnType::Enum { root: items, ext })
+}
+
+/// Whether an ENUMERATED has more items than the profile allows.
+pub(crate) fn are_many(root: &[ItemNotation], more: &Option<Vec<ItemNotation>>) -> bool {
+    let added = additions(more);
+    MAX_ADDITIONS < added.len() || MAX_ITEMS - added.len() < root.len()
 }
 
 fn is_item_twice(

@@ -66,6 +66,8 @@ fn shared(
             ..
         } => match find(names, indices, *name) {
             Some(known) => {
+                // of the profile, as all that is built
+                let _ = known.ty.get();
                 let ty = known.ty.copy()?;
                 Ok(Some(Known {
                     ty,

@@ -62,19 +62,22 @@ fn shared(
     match ty {
         TypeNotation::Reference {
             name,
-            constraint: Constraint::None,
+            constraint,
             ..
-        } => match find(names, indices, *name) {
-            Some(known) => {
-                // of the profile, as all that is built
-                let _ = known.ty.get();
-                let ty = known.ty.copy()?;
-                Ok(Some(Known {
-                    ty,
-                    constraint: known.constraint,
-                }))
-            }
-            None => Ok(None),
+        } => match constraint {
+            Constraint::None => match find(names, indices, *name) {
+                Some(known) => {
+                    // of the profile, as all that is built
+                    let _ = known.ty.get();
+                    let ty = known.ty.copy()?;
+                    Ok(Some(Known {
+                        ty,
+                        constraint: known.constraint,
+                    }))
+                }
+                None => Ok(None),
+            },
+            _ => Ok(None),
         },
         _ => Ok(None),
     }

@@ -86,14 +86,29 @@ def without_angles(text):
     return text
 
 
+def arguments_of(head):
+    """The types that an impl gives its trait, as the checker spells them: `RefStr` of `From<&str> for Type`."""
+    front, depth = head.partition(" for ")[0].rstrip(), 0
+    if not front.endswith(">"):
+        return ""
+    for at in range(len(front) - 1, -1, -1):
+        depth += {">": 1, "<": -1}.get(front[at], 0)
+        if not depth:
+            break
+    words = re.findall(r"[&\[]|\w+", re.sub(r"'\w+", "", without_angles(front[at + 1 : -1])))
+    return "".join({"&": "Ref", "[": "Slice"}.get(it) or it[0].upper() + it[1:] for it in words)
+
+
 def owners_of(code):
-    """(start, end, name) of each impl block and trait: `Type`, `TypeTrait` for a trait's impl, `Trait`."""
+    """(start, end, name) of each impl block and trait: `Type`, `TypeTrait` for a trait's impl, with the types that it is
+    given, as `TypeFromRefStr`, and `Trait`."""
     found = []
     for match in re.finditer(r"\b(impl|trait)\b([^;{]*)\{", code):
         head = re.sub(r"\bwhere\b.*", "", re.sub(r"'\w+", "", without_angles(match[2])), flags=re.S)
         words = re.findall(r"\w+", head.partition(":")[0] if match[1] == "trait" else head)
         if words:
             name = words[-1] + words[words.index("for") - 1] if "for" in words else words[-1] if match[1] == "impl" else words[0]
+            name += arguments_of(match[2]) if match[1] == "impl" and "for" in words else ""
             found.append((match.start(), closing(code, match.end() - 1), name))
     return found
 

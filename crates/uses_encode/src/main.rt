@@ -1,12 +1,19 @@
-//! Builds a type and a value of it, and encodes the value by CANONICAL-PER UNALIGNED and by Canonical OER.
+//! Builds a type, and a value of it by the names of its components, and encodes the value by CANONICAL-PER UNALIGNED and
+//! by Canonical OER.
 #![tactic(auto)]
 
-use anyhow::Result;
-use asn_oer::Oer;
-use asn_per::Per;
-use asn_rules::Rules;
-use asn_values::{AsnType, Bounds, Checked, Field, Item, Size, Value};
+ghost use Rattle.std.specs.Prelude.{◌≡◌, IfOk, Some};
+ghost use Rattle.tulvorn.specs.Answer.{IsEncoding};
+ghost use Rattle.tulvorn.specs.Built.{sequence_given};
+ghost use Rattle.tulvorn.specs.Datum.{Datum};
+ghost use Rattle.tulvorn.specs.View.{shape_of};
+
+use anyhow::{Context, Result};
 use std::alloc::Global;
+use tulvorn::{
+    AsnType, Bounds, ByName, Checked, Field, Given, Item, Oer, Per, Rules, Size, Value, encode,
+    misfit,
+};
 
 /// `ENUMERATED { car(0), bus(1), ..., tram(2) }`
 fn kind_type(alloc: Global) -> Result<AsnType> {
@@ -15,45 +22,69 @@ fn kind_type(alloc: Global) -> Result<AsnType> {
     Ok(AsnType::extensible_enumerated(root, additions))
 }
 
+/// `SEQUENCE (SIZE (0..3)) OF INTEGER (0..7)`
+fn lanes_type(alloc: Global) -> Result<AsnType> {
+    let lane = AsnType::Int(Bounds::between(0, 7));
+    Ok(AsnType::sequence_of(alloc, lane, Size::between(0, 3))?)
+}
+
 /// `SEQUENCE { station INTEGER (0..65535), kind ENUMERATED { car, bus, ..., tram }, speed INTEGER (0..163) OPTIONAL,
 /// lanes SEQUENCE (SIZE (0..3)) OF INTEGER (0..7) }`
 fn report_type(alloc: Global) -> Result<Checked> {
-    let station = AsnType::Int(Bounds::between(0, 65_535));
-    let speed = AsnType::Int(Bounds::between(0, 163));
-    let lane = AsnType::Int(Bounds::between(0, 7));
-    let lanes = AsnType::sequence_of(alloc, lane, Size::between(0, 3))?;
     let fields = vec![in alloc;
-        Field::new(alloc, "station", station)?,
+        Field::new(alloc, "station", AsnType::Int(Bounds::between(0, 65_535)))?,
         Field::new(alloc, "kind", kind_type(alloc)?)?,
-        Field::new(alloc, "speed", speed)?.optional(),
-        Field::new(alloc, "lanes", lanes)?,
+        Field::new(alloc, "speed", AsnType::Int(Bounds::between(0, 163)))?.optional(),
+        Field::new(alloc, "lanes", lanes_type(alloc)?)?,
     ]?;
     Ok(Checked::new(alloc, AsnType::sequence(fields))?)
 }
 
-/// `{ station 4660, kind bus, speed 50, lanes { 1, 5 } }`: an entry for each component, in the order of the type.
-fn report(alloc: Global) -> Result<Value> {
-    let lanes = vec![in alloc; Value::Int(1), Value::Int(5)]?;
-    let entries = vec![in alloc;
-        Some(Value::Int(4_660)),
-        Some(Value::Enum(1)),
-        Some(Value::Int(50)),
-        Some(Value::List(lanes)),
-    ]?;
-    Ok(Value::Seq(entries))
+/// The octets of the SEQUENCE that has what is given at each name.
+fn encoding_of<R: Rules>(
+    alloc: Global,
+    ty: &Checked,
+    parts: &[(&str, Given<'_>)],
+) -> Result<Vec<u8>>
+    ensures { IfOk result (λ o. (d : Datum) × (sequence_given (shape_of ty.now) parts.now ≡ Some d)
+        × IsEncoding R.ruling (shape_of ty.now) d o.items) }
+{
+    let report = Value::sequence(alloc, ty.get(), parts)?;
+    Ok(encode::<R>(alloc, ty, &report)?)
 }
 
 fn main(rt: HostRuntime) -> Result<()> {
     let alloc = rt.alloc();
     let ty = report_type(alloc)?;
-    let value = report(alloc)?;
-    let per = Per::encode(alloc, &ty, &value)?;
-    println!(rt; "per {}", hex::encode(alloc, &per)?)?;
-    let oer = Oer::encode(alloc, &ty, &value)?;
-    println!(rt; "oer {}", hex::encode(alloc, &oer)?)?;
+    let lanes = Value::list(alloc, &lanes_type(alloc)?, &[1.into(), 5.into()])?;
+    let parts = [
+        ("kind", "bus".into()),
+        ("station", 4_660.into()),
+        ("speed", 50.into()),
+        ("lanes", (&lanes).into()),
+    ];
+    println!(rt;
+        "per {}",
+        hex::encode(alloc, &encoding_of::<Per>(alloc, &ty, &parts)?)?
+    )?;
+    println!(rt;
+        "oer {}",
+        hex::encode(alloc, &encoding_of::<Oer>(alloc, &ty, &parts)?)?
+    )?;
+    // a name that the type has not, and a component that is missing, are told when a value is built
+    if let Err(fault) = Value::sequence(alloc, ty.get(), &[("spede", 50.into())]) {
+        println!(rt; "{fault}")?;
+    }
+    if let Err(fault) = Value::sequence(alloc, ty.get(), &[("station", 4_660.into())]) {
+        println!(rt; "{fault}")?;
+    }
     // a value that is none of the type is refused, and never cut to fit
-    if let Err(fault) = Per::encode(alloc, &ty, &Value::Null) {
-        println!(rt; "NULL {fault}")?;
+    let fast = [parts[0], parts[1], ("speed", 200.into()), parts[3]];
+    let report = Value::sequence(alloc, ty.get(), &fast)?;
+    let wrong = misfit(alloc, &ty, &report)?.context("it fits")?;
+    println!(rt; "{wrong}")?;
+    if let Err(fault) = encode::<Per>(alloc, &ty, &report) {
+        println!(rt; "{fault}")?;
     }
     Ok(())
 }

@@ -1,11 +1,14 @@
-//! Reads the text of a module, takes a type of it by name, decodes a message, and shows its value as JSON.
+//! Reads the text of a module, tells its types, takes one of them by name, decodes messages, and shows their values as
+//! JSON and by name.
 #![tactic(auto)]
 
+ghost use Rattle.std.specs.Prelude.{◌≡◌};
+ghost use Rattle.tulvorn.specs.Seen.{seen};
+ghost use Rattle.uses_module.specs.Id.{id_in};
+
 use anyhow::{Context, Result};
-use asn_json::to_json;
-use asn_module::read;
-use asn_per::Per;
-use asn_rules::decode;
+use std::alloc::Global;
+use tulvorn::{Module, Per, View, Viewed, decode, read_explained, to_json};
 
 /// What a module's file has.
 const TEXT: &str = "Example DEFINITIONS AUTOMATIC TAGS ::= BEGIN
@@ -13,15 +16,43 @@ Note ::= IA5String (SIZE (0..3))
 Msg ::= SEQUENCE { id INTEGER (0..7), ok BOOLEAN DEFAULT TRUE, note Note OPTIONAL }
 END";
 
+/// A text with a fault.
+const OTHER: &str = "Example DEFINITIONS AUTOMATIC TAGS ::= BEGIN
+Msg ::= SEQUENCE { id INTEGER (0..7), note Note OPTIONAL }
+END";
+
+/// The number at the name `id`.
+fn id_of(message: &View<'_>) -> Option<i128>
+    ensures { result ≡ id_in (seen message.now) }
+{
+    message.get("id")?.as_int()
+}
+
+/// Tells the types of the module that no other refers to, each as a module prints it.
+fn show_types(rt: &impl Print, alloc: Global, module: &Module) -> Result<()> {
+    for name in module.type_names() {
+        if !module.is_used(name) {
+            let line = module.print_type(alloc, name)?.context("no such type")?;
+            print!(rt; "{line}")?;
+        }
+    }
+    Ok(())
+}
+
 fn main(rt: HostRuntime) -> Result<()> {
     let alloc = rt.alloc();
-    let module = read(alloc, TEXT)?;
+    let module = read_explained(alloc, TEXT)?;
+    show_types(&rt, alloc, &module)?;
     let ty = module.type_named("Msg").context("no type Msg")?;
     for line in ["6b04", "28"] {
         let octets = hex::decode(alloc, line)?;
         let value = decode::<Per>(alloc, ty, &octets)?;
-        let json = to_json(alloc, ty, &value)?;
-        println!(rt; "{line} {json}")?;
+        let id = id_of(&ty.view(&value)).context("no id")?;
+        println!(rt; "{line} {}, id {id}", to_json(alloc, ty, &value)?)?;
+    }
+    // a text that is no module is told with its line and a mark
+    if let Err(refused) = read_explained(alloc, OTHER) {
+        println!(rt; "{refused}")?;
     }
     Ok(())
 }

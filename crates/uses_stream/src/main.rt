@@ -1,11 +1,18 @@
-//! Reads messages whose octets come one by one, and stops at the first bit after which no message can follow.
+//! Reads messages one after the other from a reader, and one whose octets come one by one, up to the first bit after
+//! which no message can follow.
 #![tactic(auto)]
 
-use anyhow::Result;
-use asn_per::Per;
-use asn_rules::{FeedFault, Rules, Step};
-use asn_values::{AsnType, Bounds, Checked, Field, Size};
+ghost use Rattle.std.specs.Prelude.{◌≡◌};
+ghost use Rattle.tulvorn.specs.Seen.{seen};
+ghost use Rattle.uses_stream.specs.Station.{station_in};
+
+use anyhow::{Context, Result};
 use std::alloc::Global;
+use std::io::Read;
+use tulvorn::{
+    AsnType, Bounds, Checked, FeedFault, Field, Per, Size, Step, StreamFault, Unit, Value, View,
+    Viewed, messages, open,
+};
 
 /// `SEQUENCE { station INTEGER (0..65535), speeds SEQUENCE (SIZE (0..15)) OF INTEGER (0..100) }`
 fn track_type(alloc: Global) -> Result<Checked> {
@@ -19,14 +26,53 @@ fn track_type(alloc: Global) -> Result<Checked> {
     Ok(Checked::new(alloc, AsnType::sequence(fields))?)
 }
 
-/// Takes the octets of a stream one by one, and tells what each settles: no octet after that is taken.
-fn follow(rt: &impl Print, alloc: Global, ty: &Checked, stream: &[u8]) -> Result<()> {
-    let mut session = Per::open(alloc, ty.copy()?)?;
-    for octet in stream {
-        match Per::feed(&mut session, &[*octet]) {
+/// The number at the name `station`.
+fn station_of(track: &View<'_>) -> Option<i128>
+    ensures { result ≡ station_in (seen track.now) }
+{
+    track.get("station")?.as_int()
+}
+
+/// The station and the speeds of a track.
+fn told(alloc: Global, track: &View<'_>) -> Result<String> {
+    let station = station_of(track).context("no station")?;
+    let mut text = format!(in alloc; "station {station}, speeds")?;
+    for element in track.get("speeds").context("no speeds")?.elements() {
+        let speed = element.as_int().context("no number")?;
+        text.push_str(&format!(in alloc; " {speed}")?)?;
+    }
+    Ok(text)
+}
+
+/// Tells the messages of a reader, and why there is no further one.
+fn follow<S: Read + Drop>(rt: &impl Print, alloc: Global, ty: &Checked, reader: S) -> Result<()> {
+    let mut stream = messages::<Per, S>(alloc, reader, ty);
+    let mut track = Value::Null;
+    for _ in 0..u64::MAX {
+        match stream.next_into(&mut track) {
+            Ok(true) => println!(rt; "{}", told(alloc, &ty.view(&track))?)?,
+            Ok(false) => {
+                println!(rt; "the end")?;
+                return Ok(());
+            }
+            Err(StreamFault::Message(fault)) => {
+                println!(rt; "{}", fault.counted_in(Unit::Bit))?;
+                return Ok(());
+            }
+            Err(fault) => return Err(fault.into()),
+        }
+    }
+    Ok(())
+}
+
+/// Takes the octets of a message one by one, and tells what each settles: no octet after that is taken.
+fn watch(rt: &impl Print, alloc: Global, ty: &Checked, octets: &[u8]) -> Result<()> {
+    let mut session = open::<Per>(alloc, ty.copy()?)?;
+    for octet in octets {
+        match session.feed(&[*octet]) {
             Ok(Step::More) => println!(rt; "{octet:02x} more")?,
             Ok(Step::Done { value, .. }) => {
-                println!(rt; "{octet:02x} ends the message {value:?}")?;
+                println!(rt; "{octet:02x} ends it: {}", told(alloc, &ty.view(&value))?)?;
                 return Ok(());
             }
             Err(FeedFault::Refused { at, why }) => {
@@ -36,17 +82,26 @@ fn follow(rt: &impl Print, alloc: Global, ty: &Checked, stream: &[u8]) -> Result
             Err(fault) => return Err(fault.into()),
         }
     }
-    match Per::finish(session) {
+    match session.finish() {
         Ok(()) => Ok(()),
-        Err(cut) => Ok(println!(rt; "the stream ended: {cut}")?),
+        Err(cut) => Ok(println!(rt; "the octets ended: {cut}")?),
     }
 }
 
 fn main(rt: HostRuntime) -> Result<()> {
-    let ty = track_type(rt.alloc())?;
+    let alloc = rt.alloc();
+    let ty = track_type(alloc)?;
+    for line in [
+        "1234203900000700",
+        "12342039001234",
+        "1234203900ffff30393f80",
+    ] {
+        let octets = hex::decode(alloc, line)?;
+        follow(&rt, alloc, &ty, octets.as_slice())?;
+    }
     for line in ["1234203900", "1234", "123430393f80"] {
-        let stream = hex::decode(rt.alloc(), line)?;
-        follow(&rt, rt.alloc(), &ty, &stream)?;
+        let octets = hex::decode(alloc, line)?;
+        watch(&rt, alloc, &ty, &octets)?;
     }
     Ok(())
 }

@@ -46,7 +46,7 @@ fn follow<R: ReadLeaves>(
     alloc: Global,
     ty: &AsnType,
     octets: &[u8],
-    levels: usize,
+    levels: u32,
     path: &mut String,
 ) -> Result<(), AllocError>
     requires of_profile { InProfile (shape_of ty.now) }

@@ -1,6 +1,8 @@
 pub mod Bits
 pub mod ChosenRead
+pub mod FieldsRead
 pub mod Goings
+pub mod ItemsRead
 pub mod Leaves
 pub mod ListsRead
 pub mod RootsRead

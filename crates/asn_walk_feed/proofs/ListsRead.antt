@@ -19,7 +19,7 @@ use Rattle.asn_walk.specs.Coding.{Coding, ListingOf}
 use Rattle.asn_walk.specs.Laws.{Laws, IsSizeOfProfile}
 use Rattle.asn_walk.proofs.Listing.{Appends, Going, appends_none, appends_one, appends_more, start_leads, going_stops, going_further, going_next_stops, going_nearer, steps_left}
 use Rattle.asn_walk_feed.specs.Feeding.{FeedLaws, HasBegun, NextOf, next_of}
-use Rattle.asn_walk_feed.specs.Taken.{InFragment, Stands}
+use Rattle.asn_walk_feed.specs.Items.{InFragment, Stands}
 
 -- ---- the length between fragments
 

@@ -38,12 +38,16 @@ module _ {F : Type 0} (c : Coding) (feeds : FeedLaws c) (ahead : F → Ahead) (b
   scalar_node (enumerated root more) sc (Some (frame.Elements q)) new us e h = absurd h
   scalar_node boolean sc (Some (frame.Components q)) new us e h = absurd h
   scalar_node boolean sc (Some (frame.Chosen i)) new us e h = absurd h
+  scalar_node boolean sc (Some (frame.Octets q)) new us e h = absurd h
   scalar_node null sc (Some (frame.Components q)) new us e h = absurd h
   scalar_node null sc (Some (frame.Chosen i)) new us e h = absurd h
+  scalar_node null sc (Some (frame.Octets q)) new us e h = absurd h
   scalar_node (integer r) sc (Some (frame.Components q)) new us e h = absurd h
   scalar_node (integer r) sc (Some (frame.Chosen i)) new us e h = absurd h
+  scalar_node (integer r) sc (Some (frame.Octets q)) new us e h = absurd h
   scalar_node (enumerated root more) sc (Some (frame.Components q)) new us e h = absurd h
   scalar_node (enumerated root more) sc (Some (frame.Chosen i)) new us e h = absurd h
+  scalar_node (enumerated root more) sc (Some (frame.Octets q)) new us e h = absurd h
   scalar_node _ sc _ new us e h = absurd sc
 
 -- ---- a value of the type of a component with a DEFAULT
@@ -65,3 +69,4 @@ other_node c feeds d t (Some (frame.Start b)) (f ∷ fs) us e h = absurd h
 other_node c feeds d t (Some (frame.Elements q)) new us e h = absurd h
 other_node c feeds d t (Some (frame.Components q)) new us e h = absurd h
 other_node c feeds d t (Some (frame.Chosen i)) new us e h = absurd h
+other_node c feeds d t (Some (frame.Octets q)) new us e h = absurd h

@@ -2,6 +2,7 @@
 use Rattle.std.specs.Prelude.{◌≡◌, ◌+◌, ℕ, zero, suc, Bool, true, false, List, [], ◌∷◌, ◌++◌, map, Option, Some, None, ⊤}
 use Rattle.asn_values.specs.Datum.{Datum}
 use Rattle.asn_values.specs.Profile.{InProfile, somewhere}
+use Rattle.asn_values.specs.declared.value.Value.{Value}
 use Rattle.asn_values.specs.Shape.{SizeRange, Shape, boolean, null, integer, enumerated, sequence, sequence_of, choice, Fields, no_fields, MoreFields, closed, marked, Alternatives, no_alternatives, MoreAlternatives, closed_choice, marked_choice, count}
 use Rattle.asn_values.specs.View.{Part, datum_of}
 use Rattle.asn_rules.specs.Chunks.{Chunk}
@@ -10,11 +11,11 @@ use Rattle.asn_rules.specs.Listed.{Spelt, Entry, bitmap_length}
 use Rattle.asn_rules.specs.Stops.{Stops}
 use Rattle.asn_rules.specs.declared.stop.Stop.{Stop}
 use Rattle.asn_rules.specs.declared.stop.Stop.TheVariants as stop
-use Rattle.asn_walk.specs.Ahead.{Ahead, Next}
+use Rattle.asn_walk.specs.Ahead.{Ahead}
 use Rattle.asn_walk.specs.Coding.{Coding, ListingOf, PreambleOf, added, IndexOf, added_alternatives}
-use Rattle.asn_walk.proofs.Listing.{Appends, Going}
 use Rattle.asn_walk_feed.specs.Chosen.{AlternativeTook, ChoiceGoesOn}
 use Rattle.asn_walk_feed.specs.Feeding.{NextOf, Waits}
+use Rattle.asn_walk_feed.specs.Items.{GoesOn, NextPart}
 use Rattle.asn_walk_feed.specs.Roots.{OtherTook, EntryTook, NextTook, RootGoesOn}
 use Rattle.asn_walk_feed.specs.declared.frame.Components.{Components}
 use Rattle.asn_walk_feed.specs.declared.frame.Elements.{Elements}
@@ -40,44 +41,6 @@ is_uncovered _ = true
 abbrev pub IsCovered : Shape → Type 0
 IsCovered t = somewhere is_uncovered t ≡ false
 
--- ---- lists
-
--- within a fragment of a list: these elements have been read, then come this many of the fragment, and then what is
--- ahead
-pub record InFragment {A : Type 0} (c : Coding) (L : A → List Chunk → Type 0) (T : List A → List Chunk → Type 0)
-    (left : ℕ) (ahead : Ahead) (elements : List A) (us come : List ℕ) : Type 0 where
-  pub before : List A
-  pub was : Ahead
-  pub done : ℕ
-  pub count : ℕ
-  pub rest : List ℕ
-  pub first : List ℕ
-  pub sum : done + left ≡ count
-  pub next : Next c.ruling.fielding was (Some count) ahead rest first
-  pub so_far : Appends c.ruling.fielding L done before elements first come
-  pub going : Going c L T us was before rest
-
--- the same, also between fragments
-abbrev pub Stands : {A : Type 0} → Coding → (A → List Chunk → Type 0) → (List A → List Chunk → Type 0) → ℕ → Ahead
-    → List A → List ℕ → List ℕ → Type 0
-Stands c L T zero ahead elements us come = Going c L T us ahead elements come
-Stands c L T (suc n) ahead elements us come = InFragment c L T (suc n) ahead elements us come
-
--- the list goes on: whatever units follow, its elements stand, of all units, in front of those of the part that has
--- begun and of the units that are left; and P holds of those of the part
-pub record GoesOn {F : Type 0} (c : Coding) (ahead : F → Ahead) (between : F → Type 0) (t : Shape) (s : SizeRange)
-    (q : Elements F) (P : List ℕ → Type 0) (all units : List ℕ) : Type 0 where
-  pub come : List ℕ
-  pub between_is : between q.fragments
-  pub stands : (more : List ℕ) → Stands c (Spelt c.code None t) (ListingOf c s (Spelt c.code None t)) q.left
-      (ahead q.fragments) (map datum_of q.elements.items) (all ++ more) ((come ++ units) ++ more)
-  pub inner : P come
-
--- the part of a list that has begun: between fragments the next length, within one the next element
-abbrev pub NextPart : {F : Type 0} → ℕ → List (Frame F) → (List ℕ → Type 0) → (List ℕ → Type 0) → List ℕ → Type 0
-NextPart zero fs Length Element come = (fs ≡ []) × Length come
-NextPart (suc n) fs Length Element come = Element come
-
 -- ---- a value
 
 -- the units us are those that have come of a value of the type, of which these nodes have begun
@@ -91,9 +54,9 @@ Took c ahead between (frame.Start b ∷ []) (choice root more) us =
 Took c ahead between (frame.Start b ∷ []) t us = Waits c (Spelt c.code None t) b us
 Took c ahead between (frame.Start b ∷ f ∷ fs) t us = ⊥
 Took c ahead between (frame.Elements q ∷ fs) (sequence_of t s) us =
-    GoesOn c ahead between t s q (NextPart q.left fs
-    (λ come. Waits c (NextOf (ahead q.fragments)) q.next_length come)
-    (λ come. (q.next_length ≡ []) × Took c ahead between fs t come)) us []
+    GoesOn c ahead between (Spelt c.code None t) (ListingOf c s (Spelt c.code None t)) datum_of q (NextPart q.left fs
+    (λ come. Waits c (NextOf (ahead q.fragments)) q.next_part come)
+    (λ come. (q.next_part ≡ []) × Took c ahead between fs t come)) us []
 Took c ahead between (frame.Elements q ∷ fs) t us = ⊥
 Took c ahead between (frame.Components q ∷ fs) (sequence root more) us =
     RootGoesOn c root more q
@@ -103,14 +66,15 @@ Took c ahead between (frame.Components q ∷ fs) t us = ⊥
 Took c ahead between (frame.Chosen i ∷ fs) (choice root more) us =
     ChoiceGoesOn c root more i (λ come. AlternativeTook (λ t vs. Took c ahead between fs t vs) root i come) us []
 Took c ahead between (frame.Chosen i ∷ fs) t us = ⊥
+Took c ahead between (frame.Octets q ∷ fs) t us = ⊥
 
 -- a list of elements of the type, read so far, of whose next part these nodes have begun
-abbrev pub ListGoesOn : {F : Type 0} → Coding → (F → Ahead) → (F → Type 0) → Shape → SizeRange → Elements F
+abbrev pub ListGoesOn : {F : Type 0} → Coding → (F → Ahead) → (F → Type 0) → Shape → SizeRange → Elements F Value
     → List (Frame F) → List ℕ → List ℕ → Type 0
 ListGoesOn c ahead between t s q fs all units =
-    GoesOn c ahead between t s q (NextPart q.left fs
-    (λ come. Waits c (NextOf (ahead q.fragments)) q.next_length come)
-    (λ come. (q.next_length ≡ []) × Took c ahead between fs t come)) all units
+    GoesOn c ahead between (Spelt c.code None t) (ListingOf c s (Spelt c.code None t)) datum_of q (NextPart q.left fs
+    (λ come. Waits c (NextOf (ahead q.fragments)) q.next_part come)
+    (λ come. (q.next_part ≡ []) × Took c ahead between fs t come)) all units
 
 -- the root of a SEQUENCE, read so far, of whose next component these nodes have begun
 abbrev pub RootReached : {F : Type 0} → Coding → (F → Ahead) → (F → Type 0) → Fields → MoreFields → Components
@@ -159,41 +123,41 @@ KeepsOn c ahead between fs gs t old why = (us : List ℕ) → Took c ahead betwe
     → KeepsFrames c ahead between gs t (us ++ c.to_units old) why
 
 -- the same of a list of elements of the type t, read so far: a value of it
-abbrev pub ReadsListOn : {F : Type 0} → Coding → (F → Ahead) → (F → Type 0) → Shape → SizeRange → Elements F
+abbrev pub ReadsListOn : {F : Type 0} → Coding → (F → Ahead) → (F → Type 0) → Shape → SizeRange → Elements F Value
     → List (Frame F) → Datum → List ℕ → List ℕ → Type 0
 ReadsListOn c ahead between t s q fs v old new =
     (all : List ℕ) → ListGoesOn c ahead between t s q fs all (c.to_units old)
     → Spells c.ruling.fielding (Spelt c.code None (sequence_of t s)) v all (c.to_units new)
 
-abbrev pub StopsListOn : {F : Type 0} → Coding → (F → Ahead) → (F → Type 0) → Shape → SizeRange → Elements F
+abbrev pub StopsListOn : {F : Type 0} → Coding → (F → Ahead) → (F → Type 0) → Shape → SizeRange → Elements F Value
     → List (Frame F) → List ℕ → Stop → Type 0
 StopsListOn c ahead between t s q fs old why =
     (all : List ℕ) → ListGoesOn c ahead between t s q fs all (c.to_units old)
     → Stops c.ruling.fielding (Spelt c.code None (sequence_of t s)) all why
 
-abbrev pub KeepsListOn : {F : Type 0} → Coding → (F → Ahead) → (F → Type 0) → Shape → SizeRange → Elements F
+abbrev pub KeepsListOn : {F : Type 0} → Coding → (F → Ahead) → (F → Type 0) → Shape → SizeRange → Elements F Value
     → List (Frame F) → List (Frame F) → List ℕ → Stop → Type 0
 KeepsListOn c ahead between t s q fs gs old why =
     (all : List ℕ) → ListGoesOn c ahead between t s q fs all (c.to_units old)
     → KeepsFrames c ahead between gs (sequence_of t s) all why
 
 -- its elements
-abbrev pub ReadsElementsOn : {F : Type 0} → Coding → (F → Ahead) → (F → Type 0) → Shape → SizeRange → Elements F
-    → List (Frame F) → Elements F → List ℕ → List ℕ → Type 0
+abbrev pub ReadsElementsOn : {F : Type 0} → Coding → (F → Ahead) → (F → Type 0) → Shape → SizeRange → Elements F Value
+    → List (Frame F) → Elements F Value → List ℕ → List ℕ → Type 0
 ReadsElementsOn c ahead between t s q fs p old new =
     (all : List ℕ) → ListGoesOn c ahead between t s q fs all (c.to_units old)
     → Spells c.ruling.fielding (ListingOf c s (Spelt c.code None t)) (map datum_of p.elements.items) all
     (c.to_units new)
 
-abbrev pub StopsElementsOn : {F : Type 0} → Coding → (F → Ahead) → (F → Type 0) → Shape → SizeRange → Elements F
+abbrev pub StopsElementsOn : {F : Type 0} → Coding → (F → Ahead) → (F → Type 0) → Shape → SizeRange → Elements F Value
     → List (Frame F) → List ℕ → Stop → Type 0
 StopsElementsOn c ahead between t s q fs old why =
     (all : List ℕ) → ListGoesOn c ahead between t s q fs all (c.to_units old)
     → Stops c.ruling.fielding (ListingOf c s (Spelt c.code None t)) all why
 
 -- it is read so far then
-abbrev pub GoesOnTo : {F : Type 0} → Coding → (F → Ahead) → (F → Type 0) → Shape → SizeRange → Elements F
-    → List (Frame F) → List ℕ → Elements F → List (Frame F) → List ℕ → Type 0
+abbrev pub GoesOnTo : {F : Type 0} → Coding → (F → Ahead) → (F → Type 0) → Shape → SizeRange → Elements F Value
+    → List (Frame F) → List ℕ → Elements F Value → List (Frame F) → List ℕ → Type 0
 GoesOnTo c ahead between t s q fs old p gs new =
     (all : List ℕ) → ListGoesOn c ahead between t s q fs all (c.to_units old)
     → ListGoesOn c ahead between t s p gs all (c.to_units new)
@@ -308,6 +272,7 @@ IsStart (Some (frame.Start b)) = ⊤
 IsStart (Some (frame.Elements q)) = ⊥
 IsStart (Some (frame.Components q)) = ⊥
 IsStart (Some (frame.Chosen i)) = ⊥
+IsStart (Some (frame.Octets q)) = ⊥
 
 -- the units of its first part that have come
 abbrev pub begun_of : {F : Type 0} → Option (Frame F) → List ℕ
@@ -316,6 +281,7 @@ begun_of (Some (frame.Start b)) = b
 begun_of (Some (frame.Elements q)) = []
 begun_of (Some (frame.Components q)) = []
 begun_of (Some (frame.Chosen i)) = []
+begun_of (Some (frame.Octets q)) = []
 
 -- it is put before the others
 abbrev pub with_node : {F : Type 0} → Option (Frame F) → List (Frame F) → List (Frame F)

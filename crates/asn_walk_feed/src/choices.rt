@@ -66,6 +66,7 @@ pub(crate) fn resume_choice<R: FeedLeaves>(
         None => start_choice::<R>(alloc, root, ext, Begun::none(), frames, units, ticks),
         Some(Frame::Elements(_list)) => unreachable!(),
         Some(Frame::Components(_read)) => unreachable!(),
+        Some(Frame::Octets(_octets)) => unreachable!(),
     }
 }
 

@@ -11,26 +11,28 @@ use std::alloc::{AllocError, Global};
 #[derive(Drop)]
 pub enum Frame<F> {
     /// Its first part has begun: of a SEQUENCE the preamble, of a SEQUENCE OF what stands before its elements, of a
-    /// CHOICE the index, of a simple type the value.
+    /// CHOICE the index, of a simple type the value, of an open type field what stands before its octets.
     Start(Begun),
     /// A SEQUENCE OF of which what stands before its elements is read.
-    Elements(Elements<F>),
+    Elements(Elements<F, Value>),
     /// A SEQUENCE of which the preamble is read.
     Components(Components),
     /// A CHOICE of which the index is read: the alternative of the root with this index, counted from 0.
     Chosen(usize),
+    /// An open type field of which what stands before its octets is read.
+    Octets(Elements<F, u8>),
 }
 
-/// The elements of a SEQUENCE OF that are read, and how it goes on.
+/// The elements of a SEQUENCE OF that are read, or the octets of an open type field, and how it goes on.
 #[derive(Drop)]
-pub struct Elements<F> {
-    pub elements: Vec<Value>,
+pub struct Elements<F, T> {
+    pub elements: Vec<T>,
     /// How many elements of the fragment are still to be read.
     pub left: usize,
     /// What stands after the fragment.
     pub fragments: F,
-    /// What has come of the length that stands next, where no element of the fragment is left.
-    pub next_length: Begun,
+    /// What has come of the length that stands next, where no element of the fragment is left; and of the next octet.
+    pub next_part: Begun,
 }
 
 /// The components of a SEQUENCE that are read, and how it goes on.

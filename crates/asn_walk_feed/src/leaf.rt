@@ -6,6 +6,7 @@ ghost use Rattle.asn_rules.specs.Languages.{Spells, Short};
 ghost use Rattle.asn_rules.specs.Stops.{Stops};
 ghost use Rattle.asn_rules.specs.declared.stop.Stop.TheVariants.{Memory};
 ghost use Rattle.asn_walk.specs.Reading.{Reads, StopsAt};
+ghost use Rattle.asn_walk_feed.specs.OpenFields.{FieldCoding, FieldLaws};
 ghost use Rattle.asn_walk_feed.specs.Feeding.{FeedLaws, IsBrief, HasBegun, ExtendsBy, Passes, Ticked, StandsAfter, KeepsUnits};
 
 use crate::begun::Begun;
@@ -17,6 +18,8 @@ use std::alloc::Global;
 
 /// What a set of encoding rules gives to a reader of messages in pieces, beside its parts.
 pub trait FeedLeaves: ReadLeaves {
+    ghost fields: { FieldCoding };
+
     /// Adds the next units to those of a part that has begun, as many as are left and have room; the cursor's stay.
     /// Gives how many they are.
     fn extend(begun: &mut Begun, units: &BitCursor<'_>) -> u32
@@ -38,9 +41,29 @@ pub trait FeedLeaves: ReadLeaves {
     fn copied(fragments: &Self::Fragments) -> Self::Fragments
         ensures { result ≡ fragments.now };
 
+    /// Reads what stands before the octets of an open type field, up to the first length.
+    fn start_octets(units: &mut BitCursor<'_>) -> Result<Self::Fragments, Stop>
+        requires at_unit { Self.rules.at_unit units.old }
+        ensures at_unit { OnOk result (Self.rules.at_unit units.new) }
+        ensures between { IfOk result Self.is_between }
+        ensures done { IfOk result (λ f. Reads Self.rules fields.start (Self.ahead f) units.old units.new) }
+        ensures stop { IfErr result (λ why. StopsAt Self.rules fields.start units.old why) };
+
+    /// Reads an octet of an open type field.
+    fn read_octet(units: &mut BitCursor<'_>) -> Result<u8, Stop>
+        requires at_unit { Self.rules.at_unit units.old }
+        ensures at_unit { OnOk result (Self.rules.at_unit units.new) }
+        ensures done { IfOk result (λ o. Reads Self.rules fields.octet o units.old units.new) }
+        ensures stop { IfErr result (λ why. StopsAt Self.rules fields.octet units.old why) };
+
     /// The parts of few units are brief. The call does nothing: its clause is what proofs cite.
     fn keep_feed_laws()
         ensures { FeedLaws Self.rules };
+
+    /// Open type fields are octets under what stands before them. The call does nothing: its clause is what proofs
+    /// cite.
+    fn keep_field_laws()
+        ensures { FieldLaws Self.rules fields };
 }
 
 /// A part of few units.
@@ -128,8 +151,8 @@ pub fn feed_leaf<R: FeedLeaves, L: Leaf<R>>(
     }
 }
 
-/// Reads a part of which no unit has come of the piece itself, where all its units are there; otherwise takes nothing.
-/// An `Err` is `Memory`.
+/// Reads a part of which no unit has come of the piece itself, where all its units are there; otherwise takes no
+/// unit. An `Err` is `Memory`.
 fn read_at_once<R: FeedLeaves, L: Leaf<R>>(
     alloc: Global,
     leaf: &L,

@@ -10,6 +10,7 @@ mod choices;
 mod frame;
 mod leaf;
 mod lists;
+mod open_fields;
 mod parts;
 mod sequences;
 mod units;

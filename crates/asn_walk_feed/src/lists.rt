@@ -66,6 +66,7 @@ pub(crate) fn resume_list<R: FeedLeaves>(
         None => start_list::<R>(alloc, element, size, Begun::none(), frames, units, ticks),
         Some(Frame::Components(_read)) => unreachable!(),
         Some(Frame::Chosen(_)) => unreachable!(),
+        Some(Frame::Octets(_octets)) => unreachable!(),
     }
 }
 
@@ -110,7 +111,7 @@ fn start_list<R: FeedLeaves>(
                 elements: Vec::new(alloc),
                 left: 0,
                 fragments,
-                next_length: Begun::none(),
+                next_part: Begun::none(),
             };
             feed_list::<R>(alloc, element, size, list, frames, units, ticks)
         }
@@ -129,7 +130,7 @@ fn feed_list<R: FeedLeaves>(
     alloc: Global,
     element: &AsnType,
     size: &Size,
-    list: Elements<R::Fragments>,
+    list: Elements<R::Fragments, Value>,
     frames: &mut Frames<R::Fragments>,
     units: &mut Units<'_>,
     ticks: &mut Ticks,
@@ -172,7 +173,7 @@ fn feed_elements<R: FeedLeaves>(
     alloc: Global,
     element: &AsnType,
     size: &Size,
-    list: &mut Elements<R::Fragments>,
+    list: &mut Elements<R::Fragments, Value>,
     frames: &mut Frames<R::Fragments>,
     units: &mut Units<'_>,
     ticks: &mut Ticks,
@@ -199,7 +200,7 @@ fn feed_elements<R: FeedLeaves>(
     R::keep_feed_laws();
     loop {
         feed_fragment::<R>(alloc, element, list, frames, units, ticks)?;
-        if !next_fragment::<R>(alloc, list, units, ticks)? {
+        if !next_fragment::<R, Value>(alloc, list, units, ticks)? {
             return Ok(());
         }
     }
@@ -211,7 +212,7 @@ fn feed_elements<R: FeedLeaves>(
 fn feed_fragment<R: FeedLeaves>(
     alloc: Global,
     element: &AsnType,
-    list: &mut Elements<R::Fragments>,
+    list: &mut Elements<R::Fragments, Value>,
     frames: &mut Frames<R::Fragments>,
     units: &mut Units<'_>,
     ticks: &mut Ticks,
@@ -251,34 +252,34 @@ fn feed_fragment<R: FeedLeaves>(
 }
 
 /// Reads what is left of the next length of a list, where one stands there. Whether a fragment follows it.
-fn next_fragment<R: FeedLeaves>(
+pub(crate) fn next_fragment<R: FeedLeaves, T: Drop>(
     alloc: Global,
-    list: &mut Elements<R::Fragments>,
+    list: &mut Elements<R::Fragments, T>,
     units: &mut Units<'_>,
     ticks: &mut Ticks,
 ) -> Result<bool, Stop>
     requires at_unit { R.rules.at_unit units.old }
     requires between { R.is_between list.old.fragments }
-    requires begun { R.rules.at_unit list.old.next_length }
-    requires begins { HasBegun R.rules (NextOf (R.ahead list.old.fragments)) list.old.next_length }
+    requires begun { R.rules.at_unit list.old.next_part }
+    requires begins { HasBegun R.rules (NextOf (R.ahead list.old.fragments)) list.old.next_part }
     requires few { ticks.old + length (R.rules.to_units units.old) < 2 ^ 64 }
     ensures at_unit { R.rules.at_unit units.new }
-    ensures begun { OnErr result (R.rules.at_unit list.new.next_length) }
+    ensures begun { OnErr result (R.rules.at_unit list.new.next_part) }
     ensures between { R.is_between list.new.fragments }
     ensures elements { list.new.elements ≡ list.old.elements }
     ensures more { result ≡ Ok true → Spells R.rules.ruling.fielding (NextOf (R.ahead list.old.fragments))
         (Some list.new.left, R.ahead list.new.fragments)
-        (R.rules.to_units list.old.next_length ++ R.rules.to_units units.old) (R.rules.to_units units.new) }
+        (R.rules.to_units list.old.next_part ++ R.rules.to_units units.old) (R.rules.to_units units.new) }
     ensures none { result ≡ Ok false → Spells R.rules.ruling.fielding (NextOf (R.ahead list.old.fragments))
         (None, R.ahead list.new.fragments)
-        (R.rules.to_units list.old.next_length ++ R.rules.to_units units.old) (R.rules.to_units units.new) }
-    ensures fresh { OnOk result (list.new.next_length ≡ []) }
+        (R.rules.to_units list.old.next_part ++ R.rules.to_units units.old) (R.rules.to_units units.new) }
+    ensures fresh { OnOk result (list.new.next_part ≡ []) }
     ensures stop { IfErr result (λ why. Stops R.rules.ruling.fielding (NextOf (R.ahead list.old.fragments))
-        (R.rules.to_units list.old.next_length ++ R.rules.to_units units.old) why) }
+        (R.rules.to_units list.old.next_part ++ R.rules.to_units units.old) why) }
     ensures same { IfErr result (λ why.
         (list.new.fragments ≡ list.old.fragments) × (list.new.left ≡ list.old.left)) }
     ensures kept { IfErr result (λ why.
-        KeepsUnits R.rules list.old.next_length units.old list.new.next_length why) }
+        KeepsUnits R.rules list.old.next_part units.old list.new.next_part why) }
     ensures after { IfErr result (λ why. StandsAfter R.rules units.new why) }
     ensures ticked { Ticked R.rules units.old ticks.old units.new ticks.new }
     ensures rising { ticks.old ≤ ticks.new }
@@ -288,11 +289,11 @@ fn next_fragment<R: FeedLeaves>(
         &NextLength {
             fragments: &list.fragments,
         },
-        &mut list.next_length,
+        &mut list.next_part,
         units,
         ticks,
     )?;
-    list.next_length = Begun::none();
+    list.next_part = Begun::none();
     list.fragments = fragments;
     match count {
         Some(count) => {

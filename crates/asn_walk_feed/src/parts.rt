@@ -198,6 +198,58 @@ impl<R: FeedLeaves> Leaf<R> for Indexed {
     }
 }
 
+/// What stands before the octets of an open type field, up to the first length.
+#[derive(Drop)]
+pub struct OctetsStart {}
+
+impl<R: FeedLeaves> Leaf<R> for OctetsStart {
+    type Out = R::Fragments;
+
+    ghost meant = { Ahead };
+
+    ghost seen = { R.ahead };
+
+    ghost language = { λ s. R.fields.start };
+
+    ghost good = { λ s. ⊤ };
+
+    ghost sound = { R.is_between };
+
+    fn read(&self, _alloc: Global, units: &mut BitCursor<'_>) -> Result<R::Fragments, Stop> {
+        R::start_octets(units)
+    }
+
+    fn be_brief(&self) {
+        R::keep_field_laws();
+    }
+}
+
+/// An octet of an open type field.
+#[derive(Drop)]
+pub struct Octet {}
+
+impl<R: FeedLeaves> Leaf<R> for Octet {
+    type Out = u8;
+
+    ghost meant = { ℕ };
+
+    ghost seen = { λ o. o };
+
+    ghost language = { λ s. R.fields.octet };
+
+    ghost good = { λ s. ⊤ };
+
+    ghost sound = { λ o. ⊤ };
+
+    fn read(&self, _alloc: Global, units: &mut BitCursor<'_>) -> Result<u8, Stop> {
+        R::read_octet(units)
+    }
+
+    fn be_brief(&self) {
+        R::keep_field_laws();
+    }
+}
+
 /// The number of extension additions; `None` where there is no extension mark.
 pub(crate) fn addition_count<T>(ext: &Option<Vec<T>>) -> Option<usize>
     ensures { result ≡ option_map vec_len ext.now }

@@ -74,6 +74,7 @@ pub(crate) fn resume_sequence<R: FeedLeaves>(
         None => start_sequence::<R>(alloc, root, ext, Begun::none(), frames, units, ticks),
         Some(Frame::Elements(_list)) => unreachable!(),
         Some(Frame::Chosen(_)) => unreachable!(),
+        Some(Frame::Octets(_octets)) => unreachable!(),
     }
 }
 

@@ -89,6 +89,7 @@ pub(crate) fn begun_of<F: Drop>(node: Option<Frame<F>>) -> Begun
         Some(Frame::Elements(_list)) => unreachable!(),
         Some(Frame::Components(_read)) => unreachable!(),
         Some(Frame::Chosen(_)) => unreachable!(),
+        Some(Frame::Octets(_octets)) => unreachable!(),
         None => Begun::none(),
     }
 }

@@ -1,0 +1,30 @@
+use Rattle.std.proofs.Common.{◌≡◌, ◌<◌, ◌≤◌, ◌+◌, ◌++◌, ◌∷◌, [], ℕ, List, length, None, Some, true, false, inl, inr, refl, sym, ap, ◌∙◌, subst, arith}
+use Rattle.std.specs.Prelude.{is_some}
+use Rattle.std.proofs.lemmas.Result.{err_from_is_err_and, IfOk-weaker, IfErr-weaker}
+use Rattle.asn_rules.specs.Chunks.{open_field}
+use Rattle.asn_rules.specs.Frames.{Frame as FieldOf}
+use Rattle.asn_rules.specs.Languages.{Spells, Short}
+use Rattle.asn_rules.specs.Stops.{Stops}
+use Rattle.asn_rules.specs.declared.stop.Stop.TheVariants as stop
+use Rattle.asn_walk_feed.specs.Nodes.{nodes}
+use Rattle.asn_walk_feed.specs.OpenFields.{OctetsGoOn, FieldTook, KeepsField}
+use Rattle.asn_walk_feed.specs.declared.frame.Frame.{Frame}
+use Rattle.asn_walk_feed.specs.declared.frame.Frame.TheVariants as frame
+use Rattle.asn_walk_feed.proofs.Goings.{taken_is}
+use Rattle.asn_walk_feed.proofs.open_fields.feed_octets.Goals as goal
+
+pub resume_octets-requires : goal.resume_octets-requires
+resume_octets-requires g c =
+    record { at_unit = c.requires.at_unit; reached = (c.requires.reached.0, rw (taken_is c.take-node.result (nodes c.args.frames.now) (nodes c.take-node.new.self) c.take-node.ensures.some c.take-node.ensures.none c.take-node.ensures.empty) at c.requires.reached.1); last = c.take-node.ensures.empty; few = c.requires.few }
+
+pub returns-clause-done : goal.returns-clause-done
+returns-clause-done g c =
+    IfOk-weaker c.resume_octets.result _ _ (λ os s us k. s us (rw (taken_is c.take-node.result (nodes c.args.frames.now) (nodes c.take-node.new.self) c.take-node.ensures.some c.take-node.ensures.none c.take-node.ensures.empty) at k)) c.resume_octets.ensures.done
+
+pub returns-clause-stop : goal.returns-clause-stop
+returns-clause-stop g c =
+    IfErr-weaker c.resume_octets.result _ _ (λ why s us k. s us (rw (taken_is c.take-node.result (nodes c.args.frames.now) (nodes c.take-node.new.self) c.take-node.ensures.some c.take-node.ensures.none c.take-node.ensures.empty) at k)) c.resume_octets.ensures.stop
+
+pub returns-clause-kept : goal.returns-clause-kept
+returns-clause-kept g c =
+    IfErr-weaker c.resume_octets.result _ _ (λ why s us k. s us (rw (taken_is c.take-node.result (nodes c.args.frames.now) (nodes c.take-node.new.self) c.take-node.ensures.some c.take-node.ensures.none c.take-node.ensures.empty) at k)) c.resume_octets.ensures.kept

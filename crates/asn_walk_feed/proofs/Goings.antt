@@ -43,13 +43,13 @@ module _ {F : Type 0} (c : Coding) (laws : Laws c) (feeds : FeedLaws c) (ahead :
   abbrev E : List ℕ → List (Frame F) → List ℕ → Type 0
   E b fs come = (b ≡ []) × Took c ahead between fs t come
 
-  none_took : (b : List ℕ) → b ≡ [] → E b [] []
+  pub none_took : (b : List ℕ) → b ≡ [] → E b [] []
   none_took b e = (e, refl)
 
-  some : Inhabited L
+  pub some : Inhabited L
   some = spelt_inhabited c.code t (element_of_profile t s good)
 
-  law : Lawful L
+  pub law : Lawful L
   law = spelt_lawful c.code laws.part None t (element_of_profile t s good)
 
   -- ---- the next length

@@ -156,7 +156,9 @@ fn end_octets<R: FeedLeaves>(
     ensures ticked { Ticked R.rules units.old ticks.old units.new ticks.new }
     ensures rising { ticks.old ≤ ticks.new }
 {
+    R::keep_laws();
     R::keep_feed_laws();
+    R::keep_field_laws();
     let mut octets = octets;
     match feed_fragments::<R>(alloc, &mut octets, units, ticks) {
         Ok(()) => Ok(octets.elements),

@@ -5,7 +5,7 @@ use Rattle.asn_walk_feed.proofs.open_fields.feed_fragment.Given as goal
 
 abbrev pub invariant-loop-octets : goal.invariant-loop-octets
 invariant-loop-octets g l =
-    ((all : List ℕ) → OctetsGoOn g.R.ReadLeaves.rules g.R.fields g.R.ReadLeaves.ahead g.R.ReadLeaves.is_between l.fn.octets all (g.R.ReadLeaves.rules.to_units l.fn.units) → OctetsGoOn g.R.ReadLeaves.rules g.R.fields g.R.ReadLeaves.ahead g.R.ReadLeaves.is_between l.octets all (g.R.ReadLeaves.rules.to_units l.units))
+    ((all : List ℕ) → OctetsGoOn g.R.ReadLeaves.rules g.R.FeedLeaves.fields g.R.ReadLeaves.ahead g.R.ReadLeaves.is_between l.fn.octets all (g.R.ReadLeaves.rules.to_units l.fn.units) → OctetsGoOn g.R.ReadLeaves.rules g.R.FeedLeaves.fields g.R.ReadLeaves.ahead g.R.ReadLeaves.is_between l.octets all (g.R.ReadLeaves.rules.to_units l.units))
     × Ticked g.R.ReadLeaves.rules l.fn.units l.fn.ticks l.units l.ticks × g.R.ReadLeaves.rules.at_unit l.units × (l.octets.fragments ≡ l.fn.octets.fragments)
     × (length (g.R.ReadLeaves.rules.to_units l.units) ≤ length (g.R.ReadLeaves.rules.to_units l.fn.units)) × (l.fn.ticks ≤ l.ticks)
 

@@ -33,31 +33,31 @@ returns-in_err-feed_fragment-clause-kept g c =
 pub next_fragment-requires : goal.next_fragment-requires
 next_fragment-requires g c =
     let k = (c.in_ok-feed_fragment.ensures.done c.requires.reached.0 (c.loop-alloc.invariant.0 c.requires.reached.0 c.requires.reached.1)) in
-    let b = length_begun g.R.ReadLeaves.rules c.keep_laws.ensures c.keep_feed_laws.ensures g.R.fields c.keep_field_laws.ensures g.R.ReadLeaves.ahead g.R.ReadLeaves.is_between c.feed_fragment.new.octets c.requires.reached.0 (g.R.ReadLeaves.rules.to_units c.feed_fragment.new.units) c.in_ok-feed_fragment.ensures.over k in
+    let b = length_begun g.R.ReadLeaves.rules c.keep_laws.ensures c.keep_feed_laws.ensures g.R.FeedLeaves.fields c.keep_field_laws.ensures g.R.ReadLeaves.ahead g.R.ReadLeaves.is_between c.feed_fragment.new.octets c.requires.reached.0 (g.R.ReadLeaves.rules.to_units c.feed_fragment.new.units) c.in_ok-feed_fragment.ensures.over k in
     record { at_unit = c.feed_fragment.ensures.at_unit; between = k.between_is; begun = b.1; begins = b.0; few = omega (arith, c.loop-alloc.invariant.1, c.feed_fragment.ensures.ticked, c.requires.few) }
 
 pub returns-in_err-next_fragment-clause-stop : goal.returns-in_err-next_fragment-clause-stop
 returns-in_err-next_fragment-clause-stop g c =
     let p = err_from_is_err_and c.from_residual-in_err-next_fragment.result c.from_residual-in_err-next_fragment.ensures.1 in
-    rw (p.1, p.2) (λ all h. length_stops g.R.ReadLeaves.rules c.keep_laws.ensures c.keep_feed_laws.ensures g.R.fields c.keep_field_laws.ensures g.R.ReadLeaves.ahead g.R.ReadLeaves.is_between c.feed_fragment.new.octets all (g.R.ReadLeaves.rules.to_units c.feed_fragment.new.units) _ c.in_ok-feed_fragment.ensures.over (c.in_ok-feed_fragment.ensures.done all (c.loop-alloc.invariant.0 all h)) c.in_err-next_fragment.ensures.stop)
+    rw (p.1, p.2) (λ all h. length_stops g.R.ReadLeaves.rules c.keep_laws.ensures c.keep_feed_laws.ensures g.R.FeedLeaves.fields c.keep_field_laws.ensures g.R.ReadLeaves.ahead g.R.ReadLeaves.is_between c.feed_fragment.new.octets all (g.R.ReadLeaves.rules.to_units c.feed_fragment.new.units) _ c.in_ok-feed_fragment.ensures.over (c.in_ok-feed_fragment.ensures.done all (c.loop-alloc.invariant.0 all h)) c.in_err-next_fragment.ensures.stop)
 
 pub returns-in_err-next_fragment-clause-kept : goal.returns-in_err-next_fragment-clause-kept
 returns-in_err-next_fragment-clause-kept g c =
     λ e all h.
     let p = err_from_is_err_and c.from_residual-in_err-next_fragment.result c.from_residual-in_err-next_fragment.ensures.1 in
     let w : c.in_err-next_fragment.field-0.0 ≡ stop.Short = cc (p.1, p.2, e) in
-    length_kept g.R.ReadLeaves.rules c.keep_laws.ensures c.keep_feed_laws.ensures g.R.fields c.keep_field_laws.ensures g.R.ReadLeaves.ahead g.R.ReadLeaves.is_between c.feed_fragment.new.octets c.next_fragment.new.list all (g.R.ReadLeaves.rules.to_units c.feed_fragment.new.units) (g.R.ReadLeaves.rules.to_units c.next_fragment.new.units) c.in_ok-feed_fragment.ensures.over (c.in_ok-feed_fragment.ensures.done all (c.loop-alloc.invariant.0 all h)) c.in_err-next_fragment.ensures.same.1 c.in_err-next_fragment.ensures.same.0 c.next_fragment.ensures.elements c.in_err-next_fragment.ensures.begun (rw w at c.in_err-next_fragment.ensures.kept) (rw w at c.in_err-next_fragment.ensures.after) (rw w at c.in_err-next_fragment.ensures.stop)
+    length_kept g.R.ReadLeaves.rules c.keep_laws.ensures c.keep_feed_laws.ensures g.R.FeedLeaves.fields c.keep_field_laws.ensures g.R.ReadLeaves.ahead g.R.ReadLeaves.is_between c.feed_fragment.new.octets c.next_fragment.new.list all (g.R.ReadLeaves.rules.to_units c.feed_fragment.new.units) (g.R.ReadLeaves.rules.to_units c.next_fragment.new.units) c.in_ok-feed_fragment.ensures.over (c.in_ok-feed_fragment.ensures.done all (c.loop-alloc.invariant.0 all h)) c.in_err-next_fragment.ensures.same.1 c.in_err-next_fragment.ensures.same.0 c.next_fragment.ensures.elements c.in_err-next_fragment.ensures.begun (rw w at c.in_err-next_fragment.ensures.kept) (rw w at c.in_err-next_fragment.ensures.after) (rw w at c.in_err-next_fragment.ensures.stop)
 
 pub returns-then-not-branch-clause-done : goal.returns-then-not-branch-clause-done
 returns-then-not-branch-clause-done g c =
     λ all h.
-    let k = length_ends g.R.ReadLeaves.rules c.keep_laws.ensures c.keep_feed_laws.ensures g.R.fields c.keep_field_laws.ensures g.R.ReadLeaves.ahead g.R.ReadLeaves.is_between c.feed_fragment.new.octets all (g.R.ReadLeaves.rules.to_units c.feed_fragment.new.units) (g.R.ReadLeaves.rules.to_units c.next_fragment.new.units) (g.R.ReadLeaves.ahead c.next_fragment.new.list.fragments) c.in_ok-feed_fragment.ensures.over (c.in_ok-feed_fragment.ensures.done all (c.loop-alloc.invariant.0 all h)) (c.next_fragment.ensures.none (cc (c.in_ok-next_fragment.was, c.if-not-branch.true))) in
+    let k = length_ends g.R.ReadLeaves.rules c.keep_laws.ensures c.keep_feed_laws.ensures g.R.FeedLeaves.fields c.keep_field_laws.ensures g.R.ReadLeaves.ahead g.R.ReadLeaves.is_between c.feed_fragment.new.octets all (g.R.ReadLeaves.rules.to_units c.feed_fragment.new.units) (g.R.ReadLeaves.rules.to_units c.next_fragment.new.units) (g.R.ReadLeaves.ahead c.next_fragment.new.list.fragments) c.in_ok-feed_fragment.ensures.over (c.in_ok-feed_fragment.ensures.done all (c.loop-alloc.invariant.0 all h)) (c.next_fragment.ensures.none (cc (c.in_ok-next_fragment.was, c.if-not-branch.true))) in
     rw c.next_fragment.ensures.elements k
 
 pub loop-alloc-preserved : goal.loop-alloc-preserved
 loop-alloc-preserved g c =
     let inv = c.loop-alloc.invariant in (
-      λ all h. length_more g.R.ReadLeaves.rules c.keep_laws.ensures c.keep_feed_laws.ensures g.R.fields c.keep_field_laws.ensures g.R.ReadLeaves.ahead g.R.ReadLeaves.is_between c.feed_fragment.new.octets c.next_fragment.new.list all (g.R.ReadLeaves.rules.to_units c.feed_fragment.new.units) (g.R.ReadLeaves.rules.to_units c.next_fragment.new.units) c.next_fragment.new.list.left c.in_ok-feed_fragment.ensures.over (c.in_ok-feed_fragment.ensures.done all (c.loop-alloc.invariant.0 all h)) refl c.next_fragment.ensures.elements c.in_ok-next_fragment.ensures.fresh c.next_fragment.ensures.between (c.next_fragment.ensures.more (cc (c.in_ok-next_fragment.was, c.if-not-branch.false))),
+      λ all h. length_more g.R.ReadLeaves.rules c.keep_laws.ensures c.keep_feed_laws.ensures g.R.FeedLeaves.fields c.keep_field_laws.ensures g.R.ReadLeaves.ahead g.R.ReadLeaves.is_between c.feed_fragment.new.octets c.next_fragment.new.list all (g.R.ReadLeaves.rules.to_units c.feed_fragment.new.units) (g.R.ReadLeaves.rules.to_units c.next_fragment.new.units) c.next_fragment.new.list.left c.in_ok-feed_fragment.ensures.over (c.in_ok-feed_fragment.ensures.done all (c.loop-alloc.invariant.0 all h)) refl c.next_fragment.ensures.elements c.in_ok-next_fragment.ensures.fresh c.next_fragment.ensures.between (c.next_fragment.ensures.more (cc (c.in_ok-next_fragment.was, c.if-not-branch.false))),
       omega (arith, inv.1, c.feed_fragment.ensures.ticked, c.next_fragment.ensures.ticked),
       c.next_fragment.ensures.at_unit,
       omega (arith, inv.3, c.feed_fragment.ensures.rising, c.next_fragment.ensures.rising),
@@ -65,6 +65,6 @@ loop-alloc-preserved g c =
 
 pub loop-alloc-smaller : goal.loop-alloc-smaller
 loop-alloc-smaller g c =
-    let k = length_nearer g.R.ReadLeaves.rules c.keep_laws.ensures c.keep_feed_laws.ensures g.R.fields c.keep_field_laws.ensures g.R.ReadLeaves.ahead g.R.ReadLeaves.is_between c.feed_fragment.new.octets c.requires.reached.0 (g.R.ReadLeaves.rules.to_units c.feed_fragment.new.units) (g.R.ReadLeaves.rules.to_units c.next_fragment.new.units) c.next_fragment.new.list.left (g.R.ReadLeaves.ahead c.next_fragment.new.list.fragments) c.in_ok-feed_fragment.ensures.over (c.in_ok-feed_fragment.ensures.done c.requires.reached.0 (c.loop-alloc.invariant.0 c.requires.reached.0 c.requires.reached.1)) (c.next_fragment.ensures.more (cc (c.in_ok-next_fragment.was, c.if-not-branch.false))) in
+    let k = length_nearer g.R.ReadLeaves.rules c.keep_laws.ensures c.keep_feed_laws.ensures g.R.FeedLeaves.fields c.keep_field_laws.ensures g.R.ReadLeaves.ahead g.R.ReadLeaves.is_between c.feed_fragment.new.octets c.requires.reached.0 (g.R.ReadLeaves.rules.to_units c.feed_fragment.new.units) (g.R.ReadLeaves.rules.to_units c.next_fragment.new.units) c.next_fragment.new.list.left (g.R.ReadLeaves.ahead c.next_fragment.new.list.fragments) c.in_ok-feed_fragment.ensures.over (c.in_ok-feed_fragment.ensures.done c.requires.reached.0 (c.loop-alloc.invariant.0 c.requires.reached.0 c.requires.reached.1)) (c.next_fragment.ensures.more (cc (c.in_ok-next_fragment.was, c.if-not-branch.false))) in
     let n : steps_left (g.R.ReadLeaves.ahead c.next_fragment.new.list.fragments) + length (g.R.ReadLeaves.rules.to_units c.next_fragment.new.units) < steps_left (g.R.ReadLeaves.ahead c.loop-alloc.octets.fragments) + length (g.R.ReadLeaves.rules.to_units c.feed_fragment.new.units) = rw c.in_ok-feed_fragment.ensures.fragments at k in
     omega (arith, n, c.in_ok-feed_fragment.ensures.shorter)

@@ -6,7 +6,7 @@ use Rattle.asn_walk_feed.proofs.open_fields.feed_fragments.Given as goal
 
 abbrev pub invariant-loop-alloc : goal.invariant-loop-alloc
 invariant-loop-alloc g l =
-    ((all : List ℕ) → OctetsGoOn g.R.ReadLeaves.rules g.R.fields g.R.ReadLeaves.ahead g.R.ReadLeaves.is_between l.fn.octets all (g.R.ReadLeaves.rules.to_units l.fn.units) → OctetsGoOn g.R.ReadLeaves.rules g.R.fields g.R.ReadLeaves.ahead g.R.ReadLeaves.is_between l.octets all (g.R.ReadLeaves.rules.to_units l.units))
+    ((all : List ℕ) → OctetsGoOn g.R.ReadLeaves.rules g.R.FeedLeaves.fields g.R.ReadLeaves.ahead g.R.ReadLeaves.is_between l.fn.octets all (g.R.ReadLeaves.rules.to_units l.fn.units) → OctetsGoOn g.R.ReadLeaves.rules g.R.FeedLeaves.fields g.R.ReadLeaves.ahead g.R.ReadLeaves.is_between l.octets all (g.R.ReadLeaves.rules.to_units l.units))
     × Ticked g.R.ReadLeaves.rules l.fn.units l.fn.ticks l.units l.ticks × g.R.ReadLeaves.rules.at_unit l.units × (l.fn.ticks ≤ l.ticks)
 
 abbrev pub decreases-loop-alloc : goal.decreases-loop-alloc

@@ -16,37 +16,37 @@ use Rattle.asn_walk_feed.proofs.open_fields.resume_octets.Goals as goal
 pub end_octets-requires : goal.end_octets-requires
 end_octets-requires g c =
     let us = c.requires.reached.0 in
-    record { at_unit = c.requires.at_unit; empty = (field_octets g.R.ReadLeaves.rules c.keep_laws.ensures c.keep_feed_laws.ensures g.R.fields c.keep_field_laws.ensures g.R.ReadLeaves.ahead g.R.ReadLeaves.is_between c.args.node c.in-Some-Octets.field-0 c.in-Some-Octets.octets (nodes c.args.frames.now) us c.in-Some-Octets.is c.in-Some-Octets.field-0-is c.requires.reached.1).0; reached = (us ++ g.R.ReadLeaves.rules.to_units c.args.units.now, (octets_go_on g.R.ReadLeaves.rules c.keep_laws.ensures c.keep_feed_laws.ensures g.R.fields c.keep_field_laws.ensures g.R.ReadLeaves.ahead g.R.ReadLeaves.is_between c.in-Some-Octets.octets us (g.R.ReadLeaves.rules.to_units c.args.units.now) (field_octets g.R.ReadLeaves.rules c.keep_laws.ensures c.keep_feed_laws.ensures g.R.fields c.keep_field_laws.ensures g.R.ReadLeaves.ahead g.R.ReadLeaves.is_between c.args.node c.in-Some-Octets.field-0 c.in-Some-Octets.octets (nodes c.args.frames.now) us c.in-Some-Octets.is c.in-Some-Octets.field-0-is c.requires.reached.1).1)); few = c.requires.few }
+    record { at_unit = c.requires.at_unit; empty = (field_octets g.R.ReadLeaves.rules c.keep_laws.ensures c.keep_feed_laws.ensures g.R.FeedLeaves.fields c.keep_field_laws.ensures g.R.ReadLeaves.ahead g.R.ReadLeaves.is_between c.args.node c.in-Some-Octets.field-0 c.in-Some-Octets.octets (nodes c.args.frames.now) us c.in-Some-Octets.is c.in-Some-Octets.field-0-is c.requires.reached.1).0; reached = (us ++ g.R.ReadLeaves.rules.to_units c.args.units.now, (octets_go_on g.R.ReadLeaves.rules c.keep_laws.ensures c.keep_feed_laws.ensures g.R.FeedLeaves.fields c.keep_field_laws.ensures g.R.ReadLeaves.ahead g.R.ReadLeaves.is_between c.in-Some-Octets.octets us (g.R.ReadLeaves.rules.to_units c.args.units.now) (field_octets g.R.ReadLeaves.rules c.keep_laws.ensures c.keep_feed_laws.ensures g.R.FeedLeaves.fields c.keep_field_laws.ensures g.R.ReadLeaves.ahead g.R.ReadLeaves.is_between c.args.node c.in-Some-Octets.field-0 c.in-Some-Octets.octets (nodes c.args.frames.now) us c.in-Some-Octets.is c.in-Some-Octets.field-0-is c.requires.reached.1).1)); few = c.requires.few }
 
 pub returns-in-Some-Octets-clause-done : goal.returns-in-Some-Octets-clause-done
 returns-in-Some-Octets-clause-done g c =
-    IfOk-weaker c.end_octets.result _ _ (λ os s us k. s (us ++ g.R.ReadLeaves.rules.to_units c.args.units.now) (octets_go_on g.R.ReadLeaves.rules c.keep_laws.ensures c.keep_feed_laws.ensures g.R.fields c.keep_field_laws.ensures g.R.ReadLeaves.ahead g.R.ReadLeaves.is_between c.in-Some-Octets.octets us (g.R.ReadLeaves.rules.to_units c.args.units.now) (field_octets g.R.ReadLeaves.rules c.keep_laws.ensures c.keep_feed_laws.ensures g.R.fields c.keep_field_laws.ensures g.R.ReadLeaves.ahead g.R.ReadLeaves.is_between c.args.node c.in-Some-Octets.field-0 c.in-Some-Octets.octets (nodes c.args.frames.now) us c.in-Some-Octets.is c.in-Some-Octets.field-0-is k).1)) c.end_octets.ensures.done
+    IfOk-weaker c.end_octets.result _ _ (λ os s us k. s (us ++ g.R.ReadLeaves.rules.to_units c.args.units.now) (octets_go_on g.R.ReadLeaves.rules c.keep_laws.ensures c.keep_feed_laws.ensures g.R.FeedLeaves.fields c.keep_field_laws.ensures g.R.ReadLeaves.ahead g.R.ReadLeaves.is_between c.in-Some-Octets.octets us (g.R.ReadLeaves.rules.to_units c.args.units.now) (field_octets g.R.ReadLeaves.rules c.keep_laws.ensures c.keep_feed_laws.ensures g.R.FeedLeaves.fields c.keep_field_laws.ensures g.R.ReadLeaves.ahead g.R.ReadLeaves.is_between c.args.node c.in-Some-Octets.field-0 c.in-Some-Octets.octets (nodes c.args.frames.now) us c.in-Some-Octets.is c.in-Some-Octets.field-0-is k).1)) c.end_octets.ensures.done
 
 pub returns-in-Some-Octets-clause-stop : goal.returns-in-Some-Octets-clause-stop
 returns-in-Some-Octets-clause-stop g c =
-    IfErr-weaker c.end_octets.result _ _ (λ why s us k. s (us ++ g.R.ReadLeaves.rules.to_units c.args.units.now) (octets_go_on g.R.ReadLeaves.rules c.keep_laws.ensures c.keep_feed_laws.ensures g.R.fields c.keep_field_laws.ensures g.R.ReadLeaves.ahead g.R.ReadLeaves.is_between c.in-Some-Octets.octets us (g.R.ReadLeaves.rules.to_units c.args.units.now) (field_octets g.R.ReadLeaves.rules c.keep_laws.ensures c.keep_feed_laws.ensures g.R.fields c.keep_field_laws.ensures g.R.ReadLeaves.ahead g.R.ReadLeaves.is_between c.args.node c.in-Some-Octets.field-0 c.in-Some-Octets.octets (nodes c.args.frames.now) us c.in-Some-Octets.is c.in-Some-Octets.field-0-is k).1)) c.end_octets.ensures.stop
+    IfErr-weaker c.end_octets.result _ _ (λ why s us k. s (us ++ g.R.ReadLeaves.rules.to_units c.args.units.now) (octets_go_on g.R.ReadLeaves.rules c.keep_laws.ensures c.keep_feed_laws.ensures g.R.FeedLeaves.fields c.keep_field_laws.ensures g.R.ReadLeaves.ahead g.R.ReadLeaves.is_between c.in-Some-Octets.octets us (g.R.ReadLeaves.rules.to_units c.args.units.now) (field_octets g.R.ReadLeaves.rules c.keep_laws.ensures c.keep_feed_laws.ensures g.R.FeedLeaves.fields c.keep_field_laws.ensures g.R.ReadLeaves.ahead g.R.ReadLeaves.is_between c.args.node c.in-Some-Octets.field-0 c.in-Some-Octets.octets (nodes c.args.frames.now) us c.in-Some-Octets.is c.in-Some-Octets.field-0-is k).1)) c.end_octets.ensures.stop
 
 pub returns-in-Some-Octets-clause-kept : goal.returns-in-Some-Octets-clause-kept
 returns-in-Some-Octets-clause-kept g c =
-    IfErr-weaker c.end_octets.result _ _ (λ why s us k. s (us ++ g.R.ReadLeaves.rules.to_units c.args.units.now) (octets_go_on g.R.ReadLeaves.rules c.keep_laws.ensures c.keep_feed_laws.ensures g.R.fields c.keep_field_laws.ensures g.R.ReadLeaves.ahead g.R.ReadLeaves.is_between c.in-Some-Octets.octets us (g.R.ReadLeaves.rules.to_units c.args.units.now) (field_octets g.R.ReadLeaves.rules c.keep_laws.ensures c.keep_feed_laws.ensures g.R.fields c.keep_field_laws.ensures g.R.ReadLeaves.ahead g.R.ReadLeaves.is_between c.args.node c.in-Some-Octets.field-0 c.in-Some-Octets.octets (nodes c.args.frames.now) us c.in-Some-Octets.is c.in-Some-Octets.field-0-is k).1)) c.end_octets.ensures.kept
+    IfErr-weaker c.end_octets.result _ _ (λ why s us k. s (us ++ g.R.ReadLeaves.rules.to_units c.args.units.now) (octets_go_on g.R.ReadLeaves.rules c.keep_laws.ensures c.keep_feed_laws.ensures g.R.FeedLeaves.fields c.keep_field_laws.ensures g.R.ReadLeaves.ahead g.R.ReadLeaves.is_between c.in-Some-Octets.octets us (g.R.ReadLeaves.rules.to_units c.args.units.now) (field_octets g.R.ReadLeaves.rules c.keep_laws.ensures c.keep_feed_laws.ensures g.R.FeedLeaves.fields c.keep_field_laws.ensures g.R.ReadLeaves.ahead g.R.ReadLeaves.is_between c.args.node c.in-Some-Octets.field-0 c.in-Some-Octets.octets (nodes c.args.frames.now) us c.in-Some-Octets.is c.in-Some-Octets.field-0-is k).1)) c.end_octets.ensures.kept
 
 pub start_octets-requires : goal.start_octets-requires
 start_octets-requires g c =
     let us = c.requires.reached.0 in
-    let w = (field_start g.R.ReadLeaves.rules c.keep_laws.ensures c.keep_feed_laws.ensures g.R.fields c.keep_field_laws.ensures g.R.ReadLeaves.ahead g.R.ReadLeaves.is_between c.args.node c.in-Some-Start.field-0 c.in-Some-Start.begun (nodes c.args.frames.now) us c.in-Some-Start.is c.in-Some-Start.field-0-is c.requires.reached.1) in
+    let w = (field_start g.R.ReadLeaves.rules c.keep_laws.ensures c.keep_feed_laws.ensures g.R.FeedLeaves.fields c.keep_field_laws.ensures g.R.ReadLeaves.ahead g.R.ReadLeaves.is_between c.args.node c.in-Some-Start.field-0 c.in-Some-Start.begun (nodes c.args.frames.now) us c.in-Some-Start.is c.in-Some-Start.field-0-is c.requires.reached.1) in
     record { at_unit = c.requires.at_unit; empty = w.0; waits = record { come = refl; at_unit = w.1.at_unit; begins = w.1.begins }; few = c.requires.few }
 
 pub returns-in-Some-Start-clause-done : goal.returns-in-Some-Start-clause-done
 returns-in-Some-Start-clause-done g c =
-    IfOk-weaker c.start_octets.result _ _ (λ os s us k. subst (λ (xs : List ℕ). Spells g.R.ReadLeaves.rules.ruling.fielding (FieldOf g.R.ReadLeaves.rules.ruling.fielding open_field) os.items (xs ++ g.R.ReadLeaves.rules.to_units c.args.units.now) (g.R.ReadLeaves.rules.to_units c.start_octets.new.units)) (field_start g.R.ReadLeaves.rules c.keep_laws.ensures c.keep_feed_laws.ensures g.R.fields c.keep_field_laws.ensures g.R.ReadLeaves.ahead g.R.ReadLeaves.is_between c.args.node c.in-Some-Start.field-0 c.in-Some-Start.begun (nodes c.args.frames.now) us c.in-Some-Start.is c.in-Some-Start.field-0-is k).1.come s) c.start_octets.ensures.done
+    IfOk-weaker c.start_octets.result _ _ (λ os s us k. subst (λ (xs : List ℕ). Spells g.R.ReadLeaves.rules.ruling.fielding (FieldOf g.R.ReadLeaves.rules.ruling.fielding open_field) os.items (xs ++ g.R.ReadLeaves.rules.to_units c.args.units.now) (g.R.ReadLeaves.rules.to_units c.start_octets.new.units)) (field_start g.R.ReadLeaves.rules c.keep_laws.ensures c.keep_feed_laws.ensures g.R.FeedLeaves.fields c.keep_field_laws.ensures g.R.ReadLeaves.ahead g.R.ReadLeaves.is_between c.args.node c.in-Some-Start.field-0 c.in-Some-Start.begun (nodes c.args.frames.now) us c.in-Some-Start.is c.in-Some-Start.field-0-is k).1.come s) c.start_octets.ensures.done
 
 pub returns-in-Some-Start-clause-stop : goal.returns-in-Some-Start-clause-stop
 returns-in-Some-Start-clause-stop g c =
-    IfErr-weaker c.start_octets.result _ _ (λ why s us k. subst (λ (xs : List ℕ). Stops g.R.ReadLeaves.rules.ruling.fielding (FieldOf g.R.ReadLeaves.rules.ruling.fielding open_field) (xs ++ g.R.ReadLeaves.rules.to_units c.args.units.now) why) (field_start g.R.ReadLeaves.rules c.keep_laws.ensures c.keep_feed_laws.ensures g.R.fields c.keep_field_laws.ensures g.R.ReadLeaves.ahead g.R.ReadLeaves.is_between c.args.node c.in-Some-Start.field-0 c.in-Some-Start.begun (nodes c.args.frames.now) us c.in-Some-Start.is c.in-Some-Start.field-0-is k).1.come s) c.start_octets.ensures.stop
+    IfErr-weaker c.start_octets.result _ _ (λ why s us k. subst (λ (xs : List ℕ). Stops g.R.ReadLeaves.rules.ruling.fielding (FieldOf g.R.ReadLeaves.rules.ruling.fielding open_field) (xs ++ g.R.ReadLeaves.rules.to_units c.args.units.now) why) (field_start g.R.ReadLeaves.rules c.keep_laws.ensures c.keep_feed_laws.ensures g.R.FeedLeaves.fields c.keep_field_laws.ensures g.R.ReadLeaves.ahead g.R.ReadLeaves.is_between c.args.node c.in-Some-Start.field-0 c.in-Some-Start.begun (nodes c.args.frames.now) us c.in-Some-Start.is c.in-Some-Start.field-0-is k).1.come s) c.start_octets.ensures.stop
 
 pub returns-in-Some-Start-clause-kept : goal.returns-in-Some-Start-clause-kept
 returns-in-Some-Start-clause-kept g c =
-    IfErr-weaker c.start_octets.result _ _ (λ why s us k. subst (λ (xs : List ℕ). KeepsField g.R.ReadLeaves.rules g.R.fields g.R.ReadLeaves.ahead g.R.ReadLeaves.is_between (nodes c.start_octets.new.frames) (xs ++ g.R.ReadLeaves.rules.to_units c.args.units.now) why) (field_start g.R.ReadLeaves.rules c.keep_laws.ensures c.keep_feed_laws.ensures g.R.fields c.keep_field_laws.ensures g.R.ReadLeaves.ahead g.R.ReadLeaves.is_between c.args.node c.in-Some-Start.field-0 c.in-Some-Start.begun (nodes c.args.frames.now) us c.in-Some-Start.is c.in-Some-Start.field-0-is k).1.come s) c.start_octets.ensures.kept
+    IfErr-weaker c.start_octets.result _ _ (λ why s us k. subst (λ (xs : List ℕ). KeepsField g.R.ReadLeaves.rules g.R.FeedLeaves.fields g.R.ReadLeaves.ahead g.R.ReadLeaves.is_between (nodes c.start_octets.new.frames) (xs ++ g.R.ReadLeaves.rules.to_units c.args.units.now) why) (field_start g.R.ReadLeaves.rules c.keep_laws.ensures c.keep_feed_laws.ensures g.R.FeedLeaves.fields c.keep_field_laws.ensures g.R.ReadLeaves.ahead g.R.ReadLeaves.is_between c.args.node c.in-Some-Start.field-0 c.in-Some-Start.begun (nodes c.args.frames.now) us c.in-Some-Start.is c.in-Some-Start.field-0-is k).1.come s) c.start_octets.ensures.kept
 
 pub start_octets-requires-in-None : goal.start_octets-requires-in-None
 start_octets-requires-in-None g c =
@@ -54,12 +54,12 @@ start_octets-requires-in-None g c =
 
 pub returns-in-None-clause-done : goal.returns-in-None-clause-done
 returns-in-None-clause-done g c =
-    IfOk-weaker c.start_octets-in-None.result _ _ (λ os s us k. subst (λ (xs : List ℕ). Spells g.R.ReadLeaves.rules.ruling.fielding (FieldOf g.R.ReadLeaves.rules.ruling.fielding open_field) os.items xs (g.R.ReadLeaves.rules.to_units c.start_octets-in-None.new.units)) (ap (λ (xs : List ℕ). xs ++ g.R.ReadLeaves.rules.to_units c.args.units.now) (ap g.R.ReadLeaves.rules.to_units c.none.ensures ∙ c.keep_feed_laws.ensures.none ∙ sym (field_none g.R.ReadLeaves.rules c.keep_laws.ensures c.keep_feed_laws.ensures g.R.fields c.keep_field_laws.ensures g.R.ReadLeaves.ahead g.R.ReadLeaves.is_between c.args.node (nodes c.args.frames.now) us c.in-None.is (c.requires.last (ap is_some c.in-None.is)) k))) s) c.start_octets-in-None.ensures.done
+    IfOk-weaker c.start_octets-in-None.result _ _ (λ os s us k. subst (λ (xs : List ℕ). Spells g.R.ReadLeaves.rules.ruling.fielding (FieldOf g.R.ReadLeaves.rules.ruling.fielding open_field) os.items xs (g.R.ReadLeaves.rules.to_units c.start_octets-in-None.new.units)) (ap (λ (xs : List ℕ). xs ++ g.R.ReadLeaves.rules.to_units c.args.units.now) (ap g.R.ReadLeaves.rules.to_units c.none.ensures ∙ c.keep_feed_laws.ensures.none ∙ sym (field_none g.R.ReadLeaves.rules c.keep_laws.ensures c.keep_feed_laws.ensures g.R.FeedLeaves.fields c.keep_field_laws.ensures g.R.ReadLeaves.ahead g.R.ReadLeaves.is_between c.args.node (nodes c.args.frames.now) us c.in-None.is (c.requires.last (ap is_some c.in-None.is)) k))) s) c.start_octets-in-None.ensures.done
 
 pub returns-in-None-clause-stop : goal.returns-in-None-clause-stop
 returns-in-None-clause-stop g c =
-    IfErr-weaker c.start_octets-in-None.result _ _ (λ why s us k. subst (λ (xs : List ℕ). Stops g.R.ReadLeaves.rules.ruling.fielding (FieldOf g.R.ReadLeaves.rules.ruling.fielding open_field) xs why) (ap (λ (xs : List ℕ). xs ++ g.R.ReadLeaves.rules.to_units c.args.units.now) (ap g.R.ReadLeaves.rules.to_units c.none.ensures ∙ c.keep_feed_laws.ensures.none ∙ sym (field_none g.R.ReadLeaves.rules c.keep_laws.ensures c.keep_feed_laws.ensures g.R.fields c.keep_field_laws.ensures g.R.ReadLeaves.ahead g.R.ReadLeaves.is_between c.args.node (nodes c.args.frames.now) us c.in-None.is (c.requires.last (ap is_some c.in-None.is)) k))) s) c.start_octets-in-None.ensures.stop
+    IfErr-weaker c.start_octets-in-None.result _ _ (λ why s us k. subst (λ (xs : List ℕ). Stops g.R.ReadLeaves.rules.ruling.fielding (FieldOf g.R.ReadLeaves.rules.ruling.fielding open_field) xs why) (ap (λ (xs : List ℕ). xs ++ g.R.ReadLeaves.rules.to_units c.args.units.now) (ap g.R.ReadLeaves.rules.to_units c.none.ensures ∙ c.keep_feed_laws.ensures.none ∙ sym (field_none g.R.ReadLeaves.rules c.keep_laws.ensures c.keep_feed_laws.ensures g.R.FeedLeaves.fields c.keep_field_laws.ensures g.R.ReadLeaves.ahead g.R.ReadLeaves.is_between c.args.node (nodes c.args.frames.now) us c.in-None.is (c.requires.last (ap is_some c.in-None.is)) k))) s) c.start_octets-in-None.ensures.stop
 
 pub returns-in-None-clause-kept : goal.returns-in-None-clause-kept
 returns-in-None-clause-kept g c =
-    IfErr-weaker c.start_octets-in-None.result _ _ (λ why s us k. subst (λ (xs : List ℕ). KeepsField g.R.ReadLeaves.rules g.R.fields g.R.ReadLeaves.ahead g.R.ReadLeaves.is_between (nodes c.start_octets-in-None.new.frames) xs why) (ap (λ (xs : List ℕ). xs ++ g.R.ReadLeaves.rules.to_units c.args.units.now) (ap g.R.ReadLeaves.rules.to_units c.none.ensures ∙ c.keep_feed_laws.ensures.none ∙ sym (field_none g.R.ReadLeaves.rules c.keep_laws.ensures c.keep_feed_laws.ensures g.R.fields c.keep_field_laws.ensures g.R.ReadLeaves.ahead g.R.ReadLeaves.is_between c.args.node (nodes c.args.frames.now) us c.in-None.is (c.requires.last (ap is_some c.in-None.is)) k))) s) c.start_octets-in-None.ensures.kept
+    IfErr-weaker c.start_octets-in-None.result _ _ (λ why s us k. subst (λ (xs : List ℕ). KeepsField g.R.ReadLeaves.rules g.R.FeedLeaves.fields g.R.ReadLeaves.ahead g.R.ReadLeaves.is_between (nodes c.start_octets-in-None.new.frames) xs why) (ap (λ (xs : List ℕ). xs ++ g.R.ReadLeaves.rules.to_units c.args.units.now) (ap g.R.ReadLeaves.rules.to_units c.none.ensures ∙ c.keep_feed_laws.ensures.none ∙ sym (field_none g.R.ReadLeaves.rules c.keep_laws.ensures c.keep_feed_laws.ensures g.R.FeedLeaves.fields c.keep_field_laws.ensures g.R.ReadLeaves.ahead g.R.ReadLeaves.is_between c.args.node (nodes c.args.frames.now) us c.in-None.is (c.requires.last (ap is_some c.in-None.is)) k))) s) c.start_octets-in-None.ensures.kept

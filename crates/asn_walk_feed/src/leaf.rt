@@ -192,7 +192,7 @@ fn read_at_once<R: FeedLeaves, L: Leaf<R>>(
 }
 
 /// Takes the units up to where the cursor stands, a tick each.
-fn take_to<'a, R: ReadLeaves>(units: &mut Units<'a>, ahead: BitCursor<'a>, ticks: &mut Ticks)
+pub(crate) fn take_to<'a, R: ReadLeaves>(units: &mut Units<'a>, ahead: BitCursor<'a>, ticks: &mut Ticks)
     requires at_unit { R.rules.at_unit units.old }
     requires ahead { R.rules.at_unit ahead }
     requires after { length (R.rules.to_units ahead) ≤ length (R.rules.to_units units.old) }

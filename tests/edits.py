@@ -15,8 +15,9 @@ crate, and one check of these functions alone (`--only`) judges them all. An edi
 goal of the edited function itself that is not proved, or finds an error in the proof of that function. It is no refusal
 that the function calls one that is not proved, or that its proof names something that is not there any more. What is
 not refused so is tried once more in a smaller group, and then alone, in the end as the kit tries it: with a check of the
-whole crate. An edit may change several functions, two sides of a rule, say: a goal of one of them has to be refused. One that is refused there only for a name that is gone, or by a limit of the prover, is told as weak and its
-crate is not noted as tried: another is wanted in its place. An edit that changes more than bodies of functions is tried
+whole crate. One that is refused there only for a name that is gone, or by a limit of the prover, is told as weak and its
+crate is not noted as tried: another is wanted in its place. An edit may change several functions, two sides of a rule,
+say: a goal of one of them has to be refused. An edit that changes more than bodies of functions is tried
 so at once.
 
 tests/edits/tried has for each crate a sum of what its edits were tried over: the crate, its edits, the contracts and

@@ -4,7 +4,8 @@ ghost use Rattle.asn_per.specs.Rules.{per_ruling};
 
 use asn_rules::internal::{self, Reads, Rereading};
 use asn_rules::{
-    Counted, DecodeFault, EncodeFault, EncodeToFault, FeedFault, OpenFault, Rules, Step, Truncated,
+    Counted, DecodeFault, EncodeFault, EncodeIntoFault, EncodeToFault, FeedFault, LengthFault,
+    OpenFault, Rules, Step, Truncated,
 };
 use asn_values::{Checked, Value};
 use std::alloc::{AllocError, Global};
@@ -56,6 +57,20 @@ impl Rules for Per {
         output: &mut Counted<W>,
     ) -> Result<(), EncodeToFault> {
         asn_walk_write::encode_to::<Per, W>(ty, value, output)
+    }
+
+    #[tactic(auto, unfolding(crate::specs::Walk::per_coding))]
+    fn encoded_len(ty: &Checked, value: &Value) -> Result<usize, LengthFault> {
+        asn_walk_write::encoded_len::<Per>(ty, value)
+    }
+
+    #[tactic(auto, unfolding(crate::specs::Walk::per_coding))]
+    fn encode_into(
+        ty: &Checked,
+        value: &Value,
+        octets: &mut [u8],
+    ) -> Result<usize, EncodeIntoFault> {
+        asn_walk_write::encode_into::<Per>(ty, value, octets)
     }
 
     #[inline(always)]

@@ -4,6 +4,7 @@ ghost use Rattle.std.specs.Prelude.{◌≡◌};
 ghost use Rattle.asn_rules.specs.declared.fault.EncodeFault.TheVariants as encode;
 ghost use Rattle.asn_rules.specs.declared.fault.DecodeFault.TheVariants as decode;
 ghost use Rattle.asn_rules.specs.declared.fault.Unwritten.TheVariants as unwritten;
+ghost use Rattle.asn_rules.specs.LengthFaults.{length_fault_into, length_fault_to};
 ghost use Rattle.asn_rules.specs.Reasons.{word_of, reason_in_number, reason_in_count};
 
 use std::alloc::{AllocError, AllocFailed};
@@ -85,6 +86,31 @@ pub enum EncodeFault {
     Memory = 3,
 }
 
+/// Why a value has no encoding whose octets could be counted.
+#[derive(Clone, Copy, Debug, PartialEq, Eq, Error)]
+pub enum LengthFault {
+    /// The value does not fit the type.
+    #[error("not of type")]
+    NotOfType,
+    /// The encoding would have more than 268,435,455 octets.
+    #[error("too long")]
+    TooLong,
+}
+
+/// Why a value is not encoded into octets that are there. They are as they were.
+#[derive(Clone, Copy, Debug, PartialEq, Eq, Error)]
+pub enum EncodeIntoFault {
+    /// The value does not fit the type.
+    #[error("not of type")]
+    NotOfType,
+    /// The encoding would have more than 268,435,455 octets.
+    #[error("too long")]
+    TooLong,
+    /// The octets are fewer than the `wanted` ones of the encoding.
+    #[error("{wanted} octets wanted")]
+    Short { wanted: usize },
+}
+
 /// Why a value is not written to a writer.
 #[derive(Clone, Copy, Debug, PartialEq, Eq, Error)]
 pub enum EncodeToFault {
@@ -133,6 +159,28 @@ impl From<AllocError> for EncodeFault {
 
     fn from(_: AllocError) -> EncodeFault {
         EncodeFault::Memory
+    }
+}
+
+impl From<LengthFault> for EncodeIntoFault {
+    ghost from_gives = { λ why e. e ≡ length_fault_into why };
+
+    fn from(why: LengthFault) -> EncodeIntoFault {
+        match why {
+            LengthFault::NotOfType => EncodeIntoFault::NotOfType,
+            LengthFault::TooLong => EncodeIntoFault::TooLong,
+        }
+    }
+}
+
+impl From<LengthFault> for EncodeToFault {
+    ghost from_gives = { λ why e. e ≡ length_fault_to why };
+
+    fn from(why: LengthFault) -> EncodeToFault {
+        match why {
+            LengthFault::NotOfType => EncodeToFault::NotOfType,
+            LengthFault::TooLong => EncodeToFault::TooLong,
+        }
     }
 }
 

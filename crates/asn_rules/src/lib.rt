@@ -29,11 +29,13 @@ mod units;
 mod whole_number_reader;
 
 pub use counting::Counted;
-pub use fault::{DecodeFault, EncodeFault, EncodeToFault, Unwritten, Why};
+pub use fault::{
+    DecodeFault, EncodeFault, EncodeIntoFault, EncodeToFault, LengthFault, Unwritten, Why,
+};
 pub use limits::MAX_OCTETS;
 pub use newer::{Newer, Skipped};
 pub use open_session::{Session, open};
-pub use rules::{Rules, decode, decode_into, encode};
+pub use rules::{Rules, decode, decode_into, encode, encode_into, encoded_len};
 pub use session::{FeedFault, OpenFault, Step, Truncated};
 pub use streams::{MessageStream, StreamFault, messages};
 pub use units::{CountedFault, Unit};

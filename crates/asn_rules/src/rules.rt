@@ -7,11 +7,12 @@ ghost use Rattle.asn_rules.specs.Codec.{NotEncoded, Decoded, DecodedFront};
 ghost use Rattle.asn_rules.specs.Delivered.{Encoded, NotDelivered};
 ghost use Rattle.asn_rules.specs.Faults.{state_of};
 ghost use Rattle.asn_rules.specs.Laws.{RulesLaws};
+ghost use Rattle.asn_rules.specs.Measured.{IsLength, NotMeasured, Placed, NotPlaced};
 ghost use Rattle.asn_rules.specs.Reading.{RulesTell};
 ghost use Rattle.asn_rules.specs.Sessions.{Past, waiting, Feeds, Finished};
 
 use crate::counting::Counted;
-use crate::fault::{DecodeFault, EncodeFault, EncodeToFault};
+use crate::fault::{DecodeFault, EncodeFault, EncodeIntoFault, EncodeToFault, LengthFault};
 use crate::session::{FeedFault, OpenFault, Step, Truncated};
 use asn_values::{Checked, Value};
 use std::alloc::Global;
@@ -58,6 +59,29 @@ pub trait Rules {
             (state_of W.contents output.old) (state_of W.contents output.new)) }
         ensures fault { IfErr result (λ why. NotDelivered ruling why (shape_of ty.now) (datum_of value.now)
             (output.new ≡ output.old) (state_of W.contents output.old) (state_of W.contents output.new)) };
+
+    /// How many octets the encoding of a value of the type has: as many as `encode` gives. It takes no memory: the value is
+    /// walked once, and nothing is written.
+    ///
+    /// # Errors
+    /// `NotOfType` where the value does not fit the type, `TooLong` where it fits and its encoding has more than
+    /// 268,435,455 octets.
+    fn encoded_len(ty: &Checked, value: &Value) -> Result<usize, LengthFault>
+        ensures length { IfOk result (λ n. IsLength ruling (shape_of ty.now) (datum_of value.now) n) }
+        ensures fault { IfErr result (λ why. NotMeasured ruling why (shape_of ty.now) (datum_of value.now)) };
+
+    /// Puts the encoding of a value of the type into the first of these octets, and gives how many it has; the others
+    /// stay as they were. It takes no memory.
+    ///
+    /// # Errors
+    /// `NotOfType` where the value does not fit the type, `TooLong` where it fits and its encoding has more than
+    /// 268,435,455 octets, `Short` where it has more octets than there are: `wanted` is how many. The octets are as
+    /// they were then.
+    fn encode_into(ty: &Checked, value: &Value, octets: &mut [u8]) -> Result<usize, EncodeIntoFault>
+        ensures encoding { IfOk result (λ n. Placed ruling (shape_of ty.now) (datum_of value.now) n
+            octets.old octets.new) }
+        ensures fault { IfErr result (λ why. NotPlaced ruling why (shape_of ty.now) (datum_of value.now)
+            octets.old octets.new) };
 
     /// The value of the type whose complete encoding the octets are: what `asn_rules::decode` answers.
     ///
@@ -174,4 +198,34 @@ pub fn encode<R: Rules>(alloc: Global, ty: &Checked, value: &Value) -> Result<Ve
     ensures fault { IfErr result (λ why. NotEncoded R.ruling why (shape_of ty.now) (datum_of value.now)) }
 {
     R::encode(alloc, ty, value)
+}
+
+/// How many octets the encoding of a value of the type has: see `Rules::encoded_len`.
+///
+/// # Errors
+/// As `Rules::encoded_len`.
+#[inline(always)]
+pub fn encoded_len<R: Rules>(ty: &Checked, value: &Value) -> Result<usize, LengthFault>
+    ensures length { IfOk result (λ n. IsLength R.ruling (shape_of ty.now) (datum_of value.now) n) }
+    ensures fault { IfErr result (λ why. NotMeasured R.ruling why (shape_of ty.now) (datum_of value.now)) }
+{
+    R::encoded_len(ty, value)
+}
+
+/// Puts the encoding of a value of the type into the first of these octets: see `Rules::encode_into`.
+///
+/// # Errors
+/// As `Rules::encode_into`.
+#[inline(always)]
+pub fn encode_into<R: Rules>(
+    ty: &Checked,
+    value: &Value,
+    octets: &mut [u8],
+) -> Result<usize, EncodeIntoFault>
+    ensures encoding { IfOk result (λ n. Placed R.ruling (shape_of ty.now) (datum_of value.now) n
+        octets.old octets.new) }
+    ensures fault { IfErr result (λ why. NotPlaced R.ruling why (shape_of ty.now) (datum_of value.now)
+        octets.old octets.new) }
+{
+    R::encode_into(ty, value, octets)
 }

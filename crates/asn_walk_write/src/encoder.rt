@@ -1,20 +1,27 @@
 //! The encoders of messages.
-ghost use Rattle.std.specs.Prelude.{◌≡◌, ◌≤◌, IfOk, IfErr, OnOk, vec_len};
+ghost use Rattle.std.specs.Prelude.{◌≡◌, ◌≤◌, IfOk, IfErr, OnOk, length, vec_len};
 ghost use Rattle.asn_values.specs.Fits.{Fits};
+ghost use Rattle.asn_values.specs.Profile.{InProfile};
 ghost use Rattle.asn_values.specs.View.{shape_of, datum_of};
+ghost use Rattle.asn_bits.specs.Numbers.{unpacked};
 ghost use Rattle.asn_rules.specs.Answer.{IsEncoding, max_octets};
 ghost use Rattle.asn_rules.specs.Codec.{NotEncoded};
 ghost use Rattle.asn_rules.specs.Delivered.{Encoded, NotDelivered};
 ghost use Rattle.asn_rules.specs.Faults.{state_of};
+ghost use Rattle.asn_rules.specs.Measured.{IsLength, NotMeasured, Placed, NotPlaced};
 ghost use Rattle.asn_walk.specs.Writing.{TellsWhether};
+ghost use Rattle.asn_walk_write.specs.Octets.{IsEncodable, octets_of};
+ghost use Rattle.asn_window.specs.Written.{Wrote, Broke};
 
 use crate::lengths::measure;
 use crate::writer::write_complete;
 use asn_bits::BitSink;
-use asn_rules::{Counted, EncodeFault, EncodeToFault, MAX_OCTETS, Unwritten};
-use asn_values::{Checked, Value, fits};
+use asn_rules::{
+    Counted, EncodeFault, EncodeIntoFault, EncodeToFault, LengthFault, MAX_OCTETS, Unwritten,
+};
+use asn_values::{AsnType, Checked, Value, fits};
 use asn_walk::WriteLeaves;
-use asn_window::Window;
+use asn_window::{Filling, Output, Window};
 use std::alloc::{AllocError, Global};
 use std::io::Write;
 
@@ -64,6 +71,20 @@ fn write_octets<R: WriteLeaves>(
     Ok(sink.into_octets())
 }
 
+/// How many octets the complete encoding of a value of the type has. It takes no memory, and walks the value once.
+///
+/// # Errors
+/// `NotOfType` if the value does not fit the type, `TooLong` if it fits and its encoding has more than 268,435,455
+/// octets.
+pub fn encoded_len<R: WriteLeaves>(ty: &Checked, value: &Value) -> Result<usize, LengthFault>
+    ensures length { IfOk result (λ n. IsLength R.rules.ruling (shape_of ty.now) (datum_of value.now) n) }
+    ensures fault { IfErr result (λ why. NotMeasured R.rules.ruling why (shape_of ty.now) (datum_of value.now)) }
+{
+    R::keep_write_laws();
+    R::keep_open_laws();
+    length_of::<R>(ty.get(), value)
+}
+
 /// Writes the complete encoding of a value of the type to a writer, piece by piece. It takes no memory, and does not
 /// flush the writer. The value is walked to find its length, and once more to write it; what is inside n open type
 /// fields is walked n times more, for their lengths.
@@ -85,19 +106,92 @@ pub fn encode_to<R: WriteLeaves, W: Write>(
     R::keep_write_laws();
     R::keep_open_laws();
     let inner = ty.get();
-    let Some(length) = measure::<R>(inner, value) else {
-        return Err(EncodeToFault::NotOfType);
+    length_of::<R>(inner, value)?;
+    match deliver::<R, Counted<W>>(inner, value, output) {
+        Ok(()) => Ok(()),
+        Err(sent) => Err(EncodeToFault::Write { sent }),
+    }
+}
+
+/// Puts the complete encoding of a value of the type into the first of these octets, and gives how many it has; the
+/// others stay as they were. It takes no memory, and walks the value as often as `encode_to`.
+///
+/// # Errors
+/// `NotOfType` if the value does not fit the type, `TooLong` if it fits and its encoding has more than 268,435,455
+/// octets, `Short` if it has more octets than there are: `wanted` is how many. The octets are as they were then.
+pub fn encode_into<R: WriteLeaves>(
+    ty: &Checked,
+    value: &Value,
+    octets: &mut [u8],
+) -> Result<usize, EncodeIntoFault>
+    ensures encoding { IfOk result (λ n. Placed R.rules.ruling (shape_of ty.now) (datum_of value.now) n
+        octets.old octets.new) }
+    ensures fault { IfErr result (λ why. NotPlaced R.rules.ruling why (shape_of ty.now) (datum_of value.now)
+        octets.old octets.new) }
+{
+    R::keep_write_laws();
+    R::keep_open_laws();
+    let inner = ty.get();
+    let length = length_of::<R>(inner, value)?;
+    if octets.len() < length {
+        return Err(EncodeIntoFault::Short { wanted: length });
+    }
+    fill::<R>(inner, value, &mut octets[..length]);
+    Ok(length)
+}
+
+/// How many octets the complete encoding of a value of the type has, where it is not too long.
+fn length_of<R: WriteLeaves>(ty: &AsnType, value: &Value) -> Result<usize, LengthFault>
+    requires of_profile { InProfile (shape_of ty.now) }
+    ensures encodable { OnOk result (IsEncodable R.rules ty.now value.now) }
+    ensures length { IfOk result (λ n. n ≡ length (octets_of R.rules ty.now value.now)) }
+    ensures fault { IfErr result (λ why. NotMeasured R.rules.ruling why (shape_of ty.now) (datum_of value.now)) }
+{
+    R::keep_write_laws();
+    let Some(length) = measure::<R>(ty, value) else {
+        return Err(LengthFault::NotOfType);
     };
     if length > MAX_OCTETS as u64 {
-        return Err(EncodeToFault::TooLong);
+        return Err(LengthFault::TooLong);
     }
+    Ok(length as usize)
+}
+
+/// Puts the complete encoding of a value into octets, of which there are as many as it has.
+fn fill<R: WriteLeaves>(ty: &AsnType, value: &Value, octets: &mut [u8])
+    requires encodable { IsEncodable R.rules ty.now value.now }
+    requires many { length octets.old ≡ length (octets_of R.rules ty.now value.now) }
+    ensures { octets.new ≡ octets_of R.rules ty.now value.now }
+{
+    R::keep_open_laws();
+    let mut filling = Filling {
+        octets,
+        count: 0,
+        faults: 0,
+    };
+    // a slice answers a fault only where it is full, and then all octets are there
+    let _ = deliver::<R, Filling<'_>>(ty, value, &mut filling);
+}
+
+/// Writes the complete encoding of a value, which is not too long.
+///
+/// # Errors
+/// How many octets were written, where a write failed.
+fn deliver<R: WriteLeaves, O: Output>(
+    ty: &AsnType,
+    value: &Value,
+    output: &mut O,
+) -> Result<(), u64>
+    requires { IsEncodable R.rules ty.now value.now }
+    ensures ok { OnOk result (Wrote (O.held output.old) (O.held output.new)
+        (unpacked (octets_of R.rules ty.now value.now))) }
+    ensures err { IfErr result (λ sent. Broke (O.held output.old) (O.held output.new) sent
+        (unpacked (octets_of R.rules ty.now value.now))) }
+{
     let mut window = Window::over(output);
-    match write_complete::<R, Window<'_, W>>(inner, value, 0, &mut window) {
-        Ok(()) => match window.finish() {
-            Ok(()) => Ok(()),
-            Err(sent) => Err(EncodeToFault::Write { sent }),
-        },
-        Err(Unwritten::NotOfType) => Err(EncodeToFault::NotOfType),
+    match write_complete::<R, Window<'_, O>>(ty, value, 0, &mut window) {
+        Ok(()) => window.finish(),
+        Err(Unwritten::NotOfType) => unreachable!(),
         Err(Unwritten::Full(never)) => match never {},
     }
 }

@@ -10,8 +10,7 @@ use asn_rules::Unwritten;
 use asn_sinks::{Measure, Sink};
 use asn_values::{AsnType, Value};
 use asn_walk::WriteLeaves;
-use asn_window::Window;
-use std::io::Write;
+use asn_window::{Output, Window};
 
 /// A sink, and how the length of an open type field in it is known before its content is written.
 pub trait FieldLengths: Sink {
@@ -41,7 +40,7 @@ impl FieldLengths for Measure {
 }
 
 /// Each open type field is measured before it is written.
-impl<'a, W: Write> FieldLengths for Window<'a, W> {
+impl<'a, O: Output> FieldLengths for Window<'a, O> {
     fn field_length<R: WriteLeaves>(ty: &AsnType, value: &Value) -> Option<u64> {
         measure::<R>(ty, value)
     }

@@ -7,21 +7,22 @@ use Rattle.std.specs.Io.KnownBytes.{Appends}
 use Rattle.asn_window.specs.Delivery.{Delivers}
 use Rattle.asn_window.specs.OctetWriters.{OctetsStand}
 use Rattle.asn_window.specs.declared.octet_writer.OctetWriter.{OctetWriter}
-use Rattle.asn_rules.specs.Faults.{State, Rose}
+use Rattle.asn_rules.specs.Faults.{Rose}
+use Rattle.asn_window.specs.Held.{Held}
 use Rattle.asn_bits.specs.Numbers.{unpacked}
 use Rattle.asn_bits.proofs.GeneralLengths.{all_take}
 use Rattle.asn_bits.proofs.Splits.{unpacked-append}
 use Rattle.asn_rules.proofs.Known.{appends_twice}
 
 -- after a fault it does not matter what comes
-pub after_fault : {start now : State} {sent : ℕ} {failed : Bool} {coming other all : List ℕ} → failed ≡ true
+pub after_fault : {start now : Held} {sent : ℕ} {failed : Bool} {coming other all : List ℕ} → failed ≡ true
     → Delivers start now sent failed coming all → Delivers start now sent failed other all
-after_fault f d = record { octets = d.octets; are_octets = d.are_octets; rest = d.rest; appended = d.appended; many = d.many; whole = d.whole; goes_on = λ e. absurd (true≢false (sym f ∙ e)); same = d.same; fault = d.fault }
+after_fault f d = record { octets = d.octets; are_octets = d.are_octets; rest = d.rest; appended = d.appended; many = d.many; whole = d.whole; goes_on = λ e. absurd (true≢false (sym f ∙ e)); same = d.same; fault = d.fault; slice = d.slice }
 
 -- what comes, told otherwise
-pub retold : {start now : State} {sent : ℕ} {failed : Bool} {coming other all : List ℕ} → coming ≡ other
+pub retold : {start now : Held} {sent : ℕ} {failed : Bool} {coming other all : List ℕ} → coming ≡ other
     → Delivers start now sent failed coming all → Delivers start now sent failed other all
-retold e d = record { octets = d.octets; are_octets = d.are_octets; rest = d.rest; appended = d.appended; many = d.many; whole = d.whole; goes_on = λ f. d.goes_on f ∙ e; same = d.same; fault = d.fault }
+retold e d = record { octets = d.octets; are_octets = d.are_octets; rest = d.rest; appended = d.appended; many = d.many; whole = d.whole; goes_on = λ f. d.goes_on f ∙ e; same = d.same; fault = d.fault; slice = d.slice }
 
 -- a count that stops at its end, and a number more
 pub stops_at_end : (sent m n : ℕ) → sent ≡ min m (2 ^ 64 - 1) → min (sent + n) (2 ^ 64 - 1) ≡ min (m + n) (2 ^ 64 - 1)
@@ -37,7 +38,7 @@ all_joined [] ys p q = q
 all_joined (x ∷ xs) ys p q = (p.0, all_joined xs ys p.1 q)
 
 -- the octets that wait were written, or the first of them and then a write failed
-pub written_on : {start now next : State} {sent more : ℕ} {was failed : Bool} {coming all : List ℕ} (buffer : List ℕ) (many : ℕ) → was ≡ false
+pub written_on : {start now next : Held} {sent more : ℕ} {was failed : Bool} {coming all : List ℕ} (buffer : List ℕ) (many : ℕ) → was ≡ false
     → AllByRecursion (λ o. o < 256) buffer
     → Delivers start now sent was (unpacked buffer ++ coming) all
     → many ≤ length buffer
@@ -45,8 +46,9 @@ pub written_on : {start now next : State} {sent more : ℕ} {was failed : Bool} 
     → more ≡ min (sent + many) (2 ^ 64 - 1)
     → (failed ≡ true → many < length buffer) → (failed ≡ false → length buffer ≤ many)
     → (many < length buffer → Rose now.faults next.faults) → (many ≡ length buffer → next.faults ≡ now.faults)
+    → next.slice ≡ now.slice
     → Delivers start next more failed coming all
-written_on {start} {now} {next} {sent} {more} {was} {failed} {coming} {all} buffer many good small d few a e broke whole rose same =
+written_on {start} {now} {next} {sent} {more} {was} {failed} {coming} {all} buffer many good small d few a e broke whole rose same slice =
     let front = take many buffer in
     let back = drop many buffer in
     let long : length front ≡ many = length-take-le many buffer few in
@@ -67,6 +69,7 @@ written_on {start} {now} {next} {sent} {more} {was} {failed} {coming} {all} buff
       goes_on = λ f. ap (λ t. t ++ coming) (none (whole f));
       same = λ f. same (omega (arith, few, whole f)) ∙ d.same good;
       fault = λ f. subst (λ n. Rose n next.faults) (d.same good) (rose (broke f));
+      slice = slice ∙ d.slice;
     }
   where
     drop_all : (n : ℕ) (xs : List ℕ) → length xs ≤ n → drop n xs ≡ []
@@ -76,5 +79,5 @@ written_on {start} {now} {next} {sent} {more} {was} {failed} {coming} {all} buff
     drop_all (suc n) (x ∷ xs) h = drop_all n xs (omega (arith, h))
 
 -- the same of octets before a writer
-pub stands_same : {start now : State} (w : OctetWriter) {xs ys all : List ℕ} → xs ≡ ys → OctetsStand start now w xs all → OctetsStand start now w ys all
+pub stands_same : {start now : Held} (w : OctetWriter) {xs ys all : List ℕ} → xs ≡ ys → OctetsStand start now w xs all → OctetsStand start now w ys all
 stands_same w e d = retold (ap (λ t. unpacked w.buffer ++ t) e) d

@@ -6,7 +6,7 @@ use Rattle.asn_bits.proofs.LengthsInOctets.{small_is, large_is}
 use Rattle.asn_bits.proofs.Packing.{bits_zero}
 use Rattle.asn_window.specs.declared.fragments.Fragments.{Fragments}
 use Rattle.asn_window.specs.declared.bit_writer.BitWriter.{BitWriter}
-use Rattle.asn_rules.specs.Faults.{State}
+use Rattle.asn_window.specs.Held.{Held}
 use Rattle.asn_window.specs.Fragmented.{Flows, Comes}
 use Rattle.asn_window.specs.BitWriters.{BitsStand}
 use Rattle.asn_bits.specs.Lengths.{general_octets, octet_length}
@@ -121,7 +121,7 @@ popped base f (suc i) n around next e (out, flows, c) =
     nothing (inr p) = absurd (omega (arith, ap length p.split ∙ length-append p.front (unpacked p.octets), p.long, p.some))
 
 -- of the same
-pub moved : (start : State) (around : List (List ℕ)) (r all : List ℕ) {state next : State} {s t : BitWriter} {f g : Fragments} {level other : ℕ}
+pub moved : (start : Held) (around : List (List ℕ)) (r all : List ℕ) {state next : Held} {s t : BitWriter} {f g : Fragments} {level other : ℕ}
     → next ≡ state → t ≡ s → g ≡ f → other ≡ level
     → Comes (λ b. BitsStand start state s b all) f level around r → Comes (λ b. BitsStand start next t b all) g other around r
 moved start around r all {state} {next} {s} {t} {f} {g} {level} {other} a b c d come =

@@ -2,7 +2,7 @@
 use Rattle.std.specs.Prelude.{◌≡◌, ◌⊎◌, ◌<◌, ◌≤◌, ◌++◌, ◌-◌, ◌*◌, ℕ, zero, suc, true, false, List, [], ◌∷◌, length, nat_lt, slice_index}
 use Rattle.asn_bits.specs.Lengths.{general_octets}
 use Rattle.asn_bits.specs.Numbers.{unpacked}
-use Rattle.asn_rules.specs.Faults.{State}
+use Rattle.asn_window.specs.Held.{Held}
 use Rattle.asn_window.specs.declared.bit_writer.BitWriter.{BitWriter}
 use Rattle.asn_window.specs.declared.fragments.Fragments.{Fragments}
 use Rattle.asn_window.specs.BitWriters.{BitsStand}
@@ -39,9 +39,9 @@ Comes base f (suc i) (next ∷ around) coming =
     (out : List ℕ) × Flows (slice_index f.left i) (slice_index f.after i) coming out × Comes base f i around (out ++ next)
 
 -- the bits `new` were taken at a level, where they were the first of those to come
-abbrev pub TakesAt : State → Fragments → BitWriter → ℕ → List ℕ → State → Fragments → BitWriter → Type 0
+abbrev pub TakesAt : Held → Fragments → BitWriter → ℕ → List ℕ → Held → Fragments → BitWriter → Type 0
 TakesAt old_state old_fragments old level new new_state fragments writer =
-    (start : State) (around : List (List ℕ)) (coming all : List ℕ)
+    (start : Held) (around : List (List ℕ)) (coming all : List ℕ)
     → Comes (λ b. BitsStand start old_state old b all) old_fragments level around (new ++ coming)
     → Comes (λ b. BitsStand start new_state writer b all) fragments level around coming
 

@@ -1,4 +1,6 @@
+pub mod Held
 pub mod Delivery
+pub mod Written
 pub mod OctetWriters
 pub mod BitWriters
 pub mod Fragmented

@@ -1,13 +1,12 @@
 //! Bits before a writer.
 ghost use Rattle.std.specs.Prelude.{◌≡◌, ◌<◌, ◌≤◌, ◌^◌, ◌++◌, ◌%◌, ℕ, List, [], length, OnOk, IfErr};
 ghost use Rattle.asn_bits.specs.Numbers.{bits, unpacked};
-ghost use Rattle.asn_rules.specs.Faults.{State, state_of};
+ghost use Rattle.asn_window.specs.Held.{Held};
 
 use crate::octet_writer::OctetWriter;
+use crate::output::Output;
 use crate::shifted::put_shifted;
 use asn_bits::internal::{full_word, shift_in};
-use asn_rules::Counted;
-use std::io::Write;
 
 /// Octets that wait before a writer, and after them fewer than 64 bits.
 #[derive(Drop)]
@@ -22,13 +21,13 @@ pub struct BitWriter {
 
 impl BitWriter {
     ghost use Rattle.asn_window.specs.BitWriters.{BitsStand, TakesBits};
-    ghost use Rattle.asn_rules.specs.Written.{Wrote, Broke};
+    ghost use Rattle.asn_window.specs.Written.{Wrote, Broke};
 
     /// Adds `n` in `k` bits.
-    pub fn put<W: Write>(&mut self, k: u32, n: u64, output: &mut Counted<W>)
+    pub fn put<O: Output>(&mut self, k: u32, n: u64, output: &mut O)
         requires few { k ≤ 64 }
         requires fits { n < 2 ^ k }
-        ensures { TakesBits (state_of W.contents output.old) self.old (state_of W.contents output.new) self.new
+        ensures { TakesBits (O.held output.old) self.old (O.held output.new) self.new
             (bits k n) }
     {
         let count = self.count;
@@ -49,8 +48,8 @@ impl BitWriter {
     }
 
     /// Adds octets: copied where the bits so far fill octets, and shifted otherwise.
-    pub fn put_octets<W: Write>(&mut self, octets: &[u8], output: &mut Counted<W>)
-        ensures { TakesBits (state_of W.contents output.old) self.old (state_of W.contents output.new) self.new
+    pub fn put_octets<O: Output>(&mut self, octets: &[u8], output: &mut O)
+        ensures { TakesBits (O.held output.old) self.old (O.held output.new) self.new
             (unpacked octets.now) }
     {
         let left = self.count % 8;
@@ -68,13 +67,13 @@ impl BitWriter {
     ///
     /// # Errors
     /// How many octets were written in all, where a write failed.
-    pub fn finish<W: Write>(&mut self, output: &mut Counted<W>) -> Result<(), u64>
-        ensures ok { OnOk result ((start : State) (all : List ℕ) → length all % 8 ≡ 0
-            → BitsStand start (state_of W.contents output.old) self.old [] all
-            → Wrote start (state_of W.contents output.new) all) }
-        ensures err { IfErr result (λ sent. (start : State) (all : List ℕ)
-            → BitsStand start (state_of W.contents output.old) self.old [] all
-            → Broke start (state_of W.contents output.new) sent all) }
+    pub fn finish<O: Output>(&mut self, output: &mut O) -> Result<(), u64>
+        ensures ok { OnOk result ((start : Held) (all : List ℕ) → length all % 8 ≡ 0
+            → BitsStand start (O.held output.old) self.old [] all
+            → Wrote start (O.held output.new) all) }
+        ensures err { IfErr result (λ sent. (start : Held) (all : List ℕ)
+            → BitsStand start (O.held output.old) self.old [] all
+            → Broke start (O.held output.new) sent all) }
     {
         let begun = self.count % 8;
         self.octets

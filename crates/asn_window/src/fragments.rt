@@ -2,16 +2,14 @@
 ghost use Rattle.std.specs.Prelude.{◌≡◌, ◌<◌, ◌≤◌, ◌^◌, ◌*◌, ◌%◌, ◌-◌, ◌+◌, ◌++◌, ℕ, List, length};
 ghost use Rattle.asn_bits.specs.Lengths.{octet_length};
 ghost use Rattle.asn_bits.specs.Numbers.{bits, unpacked};
-ghost use Rattle.asn_rules.specs.Faults.{state_of};
 ghost use Rattle.asn_sinks.specs.declared.sink.Framing.TheVariants.{General, Single};
 ghost use Rattle.asn_window.specs.BeginsAt.{BeginsAt};
 ghost use Rattle.asn_window.specs.Fragmented.{TakesAt, IsSameFrom, IsPassed, HasRoom, next_left};
 
 use crate::bit_writer::BitWriter;
+use crate::output::Output;
 use asn_bits::internal::{next_length, octet_count};
-use asn_rules::Counted;
 use asn_values::profile::BLOCK;
-use std::io::Write;
 
 /// Where the open type fields around stand in their fragments, the outermost first. An open type field begins anywhere
 /// in an octet of the one around it, so these are counts of bits.
@@ -47,20 +45,20 @@ fn low_bits(k: u32, n: u64) -> u64
 
 /// Adds `n` in `k` bits to the content of the field at this level, and before each of its fragments the length
 /// determinant. Level 0 is the encoding itself.
-pub(crate) fn put_at<W: Write>(
+pub(crate) fn put_at<O: Output>(
     fragments: &mut Fragments,
     level: usize,
     writer: &mut BitWriter,
     k: u32,
     n: u64,
-    output: &mut Counted<W>,
+    output: &mut O,
 )
     requires few { k ≤ 64 }
     requires fits { n < 2 ^ k }
     requires inside { level ≤ length fragments.old.left }
     requires long { length fragments.old.after ≡ length fragments.old.left }
-    ensures told { TakesAt (state_of W.contents output.old) fragments.old writer.old level (bits k n)
-        (state_of W.contents output.new) fragments.new writer.new }
+    ensures told { TakesAt (O.held output.old) fragments.old writer.old level (bits k n)
+        (O.held output.new) fragments.new writer.new }
     ensures same { IsSameFrom level fragments.old fragments.new }
 {
     if level == 0 {
@@ -123,18 +121,18 @@ fn pass(fragments: &mut Fragments, level: usize, count: u64)
 }
 
 /// Adds octets, for which there is room, to the content of the field at this level.
-pub(crate) fn put_octets_at<W: Write>(
+pub(crate) fn put_octets_at<O: Output>(
     fragments: &mut Fragments,
     level: usize,
     writer: &mut BitWriter,
     octets: &[u8],
-    output: &mut Counted<W>,
+    output: &mut O,
 )
     requires inside { level ≤ length fragments.old.left }
     requires few { 8 * length octets.now < 2 ^ 64 }
     requires room { HasRoom fragments.old level (length octets.now) }
-    ensures told { TakesAt (state_of W.contents output.old) fragments.old writer.old level (unpacked octets.now)
-        (state_of W.contents output.new) fragments.new writer.new }
+    ensures told { TakesAt (O.held output.old) fragments.old writer.old level (unpacked octets.now)
+        (O.held output.new) fragments.new writer.new }
     ensures long_left { length fragments.new.left ≡ length fragments.old.left }
     ensures long_after { length fragments.new.after ≡ length fragments.old.after }
 {
@@ -143,17 +141,17 @@ pub(crate) fn put_octets_at<W: Write>(
 }
 
 /// Begins a field at this level whose length is told by general length determinants: writes the first of them.
-pub(crate) fn begin_general<W: Write>(
+pub(crate) fn begin_general<O: Output>(
     fragments: &mut Fragments,
     level: usize,
     writer: &mut BitWriter,
     many: u64,
-    output: &mut Counted<W>,
+    output: &mut O,
 )
     requires inside { level < length fragments.old.left }
     requires long { length fragments.old.after ≡ length fragments.old.left }
-    ensures told { BeginsAt (state_of W.contents output.old) fragments.old writer.old level General many
-        (state_of W.contents output.new) fragments.new writer.new }
+    ensures told { BeginsAt (O.held output.old) fragments.old writer.old level General many
+        (O.held output.new) fragments.new writer.new }
     ensures long_left { length fragments.new.left ≡ length fragments.old.left }
     ensures long_after { length fragments.new.after ≡ length fragments.old.after }
 {
@@ -164,17 +162,17 @@ pub(crate) fn begin_general<W: Write>(
 }
 
 /// Begins a field at this level whose length is told by one length determinant.
-pub(crate) fn begin_single<W: Write>(
+pub(crate) fn begin_single<O: Output>(
     fragments: &mut Fragments,
     level: usize,
     writer: &mut BitWriter,
     many: u64,
-    output: &mut Counted<W>,
+    output: &mut O,
 )
     requires inside { level < length fragments.old.left }
     requires long { length fragments.old.after ≡ length fragments.old.left }
-    ensures told { BeginsAt (state_of W.contents output.old) fragments.old writer.old level Single many
-        (state_of W.contents output.new) fragments.new writer.new }
+    ensures told { BeginsAt (O.held output.old) fragments.old writer.old level Single many
+        (O.held output.new) fragments.new writer.new }
     ensures long_left { length fragments.new.left ≡ length fragments.old.left }
     ensures long_after { length fragments.new.after ≡ length fragments.old.after }
 {
@@ -183,17 +181,17 @@ pub(crate) fn begin_single<W: Write>(
 }
 
 /// Writes one length determinant.
-fn put_single_length<W: Write>(
+fn put_single_length<O: Output>(
     fragments: &mut Fragments,
     level: usize,
     writer: &mut BitWriter,
     many: u64,
-    output: &mut Counted<W>,
+    output: &mut O,
 )
     requires inside { level ≤ length fragments.old.left }
     requires long { length fragments.old.after ≡ length fragments.old.left }
-    ensures told { TakesAt (state_of W.contents output.old) fragments.old writer.old level
-        (unpacked (octet_length many)) (state_of W.contents output.new) fragments.new writer.new }
+    ensures told { TakesAt (O.held output.old) fragments.old writer.old level
+        (unpacked (octet_length many)) (O.held output.new) fragments.new writer.new }
     ensures same { IsSameFrom level fragments.old fragments.new }
 {
     if many < 128 {

@@ -5,7 +5,9 @@ mod bit_writer;
 mod buffer;
 mod fragments;
 mod octet_writer;
+mod output;
 mod shifted;
 mod window;
 
+pub use output::{Filling, Output};
 pub use window::{Phase, Window};

@@ -3,12 +3,11 @@ ghost use Rattle.std.specs.Prelude.{◌≡◌, ◌+◌, ◌*◌, ◌<◌, ◌≤
 ghost use Rattle.std.specs.List.{AllByRecursion};
 ghost use Rattle.std.specs.Io.KnownBytes.{Appends};
 ghost use Rattle.asn_bits.specs.Numbers.{bits, octets, unpacked};
-ghost use Rattle.asn_rules.specs.Faults.{inner_of, faults_of, state_of, Rose};
+ghost use Rattle.asn_rules.specs.Faults.{Rose};
 ghost use Rattle.asn_window.specs.OctetWriters.{TakesWhole};
 
 use crate::buffer::Buffer;
-use asn_rules::Counted;
-use std::io::Write;
+use crate::output::Output;
 
 /// Octets that wait before a writer, and how many it has taken. After a fault of the writer nothing is written any
 /// more, and what comes is let go.
@@ -21,34 +20,20 @@ pub struct OctetWriter {
     pub failed: bool,
 }
 
-/// Writes some of the octets, and gives how many: none after a fault.
-fn write_some<W: Write>(octets: &[u8], output: &mut Counted<W>) -> usize
-    requires some { 0 < length octets.now }
-    ensures few { result ≤ length octets.now }
-    ensures written { Appends (W.contents (inner_of output.old)) (W.contents (inner_of output.new))
-        (take result octets.now) }
-    ensures fault { result ≡ 0 → Rose (faults_of output.old) (faults_of output.new) }
-    ensures same { 0 < result → faults_of output.new ≡ faults_of output.old }
-{
-    match output.write(octets) {
-        Ok(count) => count,
-        Err(_) => 0,
-    }
-}
-
 /// Writes the octets, and gives how many were written: fewer after a fault alone. A write that failed is not tried
 /// again.
-fn write_many<W: Write>(octets: &[u8], output: &mut Counted<W>) -> usize
+fn write_many<O: Output>(octets: &[u8], output: &mut O) -> usize
     ensures few { result ≤ length octets.now }
     ensures octets { AllByRecursion (λ o. o < 256) octets.now }
-    ensures written { Appends (W.contents (inner_of output.old)) (W.contents (inner_of output.new))
+    ensures written { Appends (O.held output.old).octets (O.held output.new).octets
         (take result octets.now) }
-    ensures fault { result < length octets.now → Rose (faults_of output.old) (faults_of output.new) }
-    ensures same { result ≡ length octets.now → faults_of output.new ≡ faults_of output.old }
+    ensures fault { result < length octets.now → Rose (O.held output.old).faults (O.held output.new).faults }
+    ensures same { result ≡ length octets.now → (O.held output.new).faults ≡ (O.held output.old).faults }
+    ensures slice { (O.held output.new).slice ≡ (O.held output.old).slice }
 {
     let mut done = 0;
     while done < octets.len() {
-        let count = write_some(after(octets, done), output);
+        let count = output.take_some(after(octets, done));
         if count == 0 {
             return done;
         }
@@ -67,9 +52,9 @@ fn after(octets: &[u8], count: usize) -> &[u8]
 
 impl OctetWriter {
     /// Writes the octets that wait.
-    pub fn send<W: Write>(&mut self, output: &mut Counted<W>)
-        ensures told { TakesWhole (state_of W.contents output.old) self.old
-            (state_of W.contents output.new) self.new [] }
+    pub fn send<O: Output>(&mut self, output: &mut O)
+        ensures told { TakesWhole (O.held output.old) self.old
+            (O.held output.new) self.new [] }
         ensures empty { self.new.buffer ≡ [] }
     {
         if self.failed {
@@ -84,10 +69,10 @@ impl OctetWriter {
 
     /// Makes room for `count` octets.
     #[inline(always)]
-    pub fn make_room<W: Write>(&mut self, count: usize, output: &mut Counted<W>)
+    pub fn make_room<O: Output>(&mut self, count: usize, output: &mut O)
         requires { count ≤ 4096 }
-        ensures told { TakesWhole (state_of W.contents output.old) self.old
-            (state_of W.contents output.new) self.new [] }
+        ensures told { TakesWhole (O.held output.old) self.old
+            (O.held output.new) self.new [] }
         ensures room { length self.new.buffer + count ≤ 4096 }
     {
         if self.buffer.room() < count {
@@ -97,8 +82,8 @@ impl OctetWriter {
 
     /// Adds the eight octets of `n`.
     #[inline(always)]
-    pub fn put_word<W: Write>(&mut self, n: u64, output: &mut Counted<W>)
-        ensures { TakesWhole (state_of W.contents output.old) self.old (state_of W.contents output.new) self.new
+    pub fn put_word<O: Output>(&mut self, n: u64, output: &mut O)
+        ensures { TakesWhole (O.held output.old) self.old (O.held output.new) self.new
             (bits 64 n) }
     {
         self.make_room(8, output);
@@ -106,9 +91,9 @@ impl OctetWriter {
     }
 
     /// Adds the last `count` octets of `n`.
-    pub fn put_low<W: Write>(&mut self, count: u32, n: u64, output: &mut Counted<W>)
+    pub fn put_low<O: Output>(&mut self, count: u32, n: u64, output: &mut O)
         requires { count ≤ 8 }
-        ensures { TakesWhole (state_of W.contents output.old) self.old (state_of W.contents output.new) self.new
+        ensures { TakesWhole (O.held output.old) self.old (O.held output.new) self.new
             (bits (8 * count) n) }
     {
         self.make_room(8, output);
@@ -117,8 +102,8 @@ impl OctetWriter {
     }
 
     /// Adds octets, as many at once as there is room for.
-    pub fn put_octets<W: Write>(&mut self, octets: &[u8], output: &mut Counted<W>)
-        ensures { TakesWhole (state_of W.contents output.old) self.old (state_of W.contents output.new) self.new
+    pub fn put_octets<O: Output>(&mut self, octets: &[u8], output: &mut O)
+        ensures { TakesWhole (O.held output.old) self.old (O.held output.new) self.new
             (unpacked octets.now) }
     {
         let mut rest = octets;

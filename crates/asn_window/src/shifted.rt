@@ -1,27 +1,25 @@
 //! Octets before a writer, moved by fewer bits than an octet has.
 ghost use Rattle.std.specs.Prelude.{◌<◌};
 ghost use Rattle.asn_bits.specs.Numbers.{unpacked};
-ghost use Rattle.asn_rules.specs.Faults.{state_of};
 ghost use Rattle.asn_window.specs.OctetWriters.{TakesAfter};
 
 use crate::octet_writer::OctetWriter;
+use crate::output::Output;
 use asn_bits::internal::full_word;
-use asn_rules::Counted;
-use std::io::Write;
 
 /// Adds octets after the low `count` bits of `pending`, a word of eight at once, and gives in whose low `count` bits
 /// what is left over stands.
-pub(crate) fn put_shifted<W: Write>(
+pub(crate) fn put_shifted<O: Output>(
     writer: &mut OctetWriter,
     count: u32,
     pending: u64,
     octets: &[u8],
-    output: &mut Counted<W>,
+    output: &mut O,
 ) -> u64
     requires some { 0 < count }
     requires few { count < 8 }
-    ensures { TakesAfter (state_of W.contents output.old) writer.old count pending (unpacked octets.now)
-        (state_of W.contents output.new) writer.new count result }
+    ensures { TakesAfter (O.held output.old) writer.old count pending (unpacked octets.now)
+        (O.held output.new) writer.new count result }
 {
     let mut high = pending;
     let mut rest = octets;
@@ -35,17 +33,17 @@ pub(crate) fn put_shifted<W: Write>(
 }
 
 /// Does the same one octet after the other.
-fn put_shifted_singly<W: Write>(
+fn put_shifted_singly<O: Output>(
     writer: &mut OctetWriter,
     count: u32,
     pending: u64,
     octets: &[u8],
-    output: &mut Counted<W>,
+    output: &mut O,
 ) -> u64
     requires some { 0 < count }
     requires few { count < 8 }
-    ensures { TakesAfter (state_of W.contents output.old) writer.old count pending (unpacked octets.now)
-        (state_of W.contents output.new) writer.new count result }
+    ensures { TakesAfter (O.held output.old) writer.old count pending (unpacked octets.now)
+        (O.held output.new) writer.new count result }
 {
     let mut high = pending;
     let mut rest = octets;

@@ -7,10 +7,9 @@ use crate::bit_writer::BitWriter;
 use crate::buffer::Buffer;
 use crate::fragments::{Fragments, begin_general, begin_single, put_at, put_octets_at, room_at};
 use crate::octet_writer::OctetWriter;
-use asn_rules::Counted;
+use crate::output::Output;
 use asn_sinks::{Framing, Sink};
 use std::convert::Infallible;
-use std::io::Write;
 
 /// How many bits of the last octet around an open type field there are.
 #[derive(Clone, Copy, Debug, Drop)]
@@ -24,8 +23,8 @@ pub struct Phase {
 /// No call of it fails. After a fault of the writer nothing is written any more, and what comes is let go; `finish` then
 /// tells how many octets were written. It takes no memory.
 #[derive(Drop)]
-pub struct Window<'a, W> {
-    pub output: &'a mut Counted<W>,
+pub struct Window<'a, O> {
+    pub output: &'a mut O,
     pub writer: BitWriter,
     pub fragments: Fragments,
     /// how many open type fields there are around
@@ -45,18 +44,17 @@ fn is_still_empty(is_empty: bool, k: u32) -> bool
     is_empty && k == 0
 }
 
-impl<'a, W: Write> Window<'a, W> {
-    ghost use Rattle.asn_rules.specs.Faults.{state_of};
+impl<'a, O: Output> Window<'a, O> {
     ghost use Rattle.asn_sinks.specs.Sink.{Pushes};
     ghost use Rattle.asn_window.specs.Windows.{WindowStands};
     ghost use Rattle.asn_window.specs.Fragmented.{HasRoom};
     ghost use Rattle.asn_window.specs.WindowEnds.{start_of, Finishes, Fails};
 
     /// No bits before the writer.
-    pub fn over(output: &'a mut Counted<W>) -> Window<'a, W>
+    pub fn over(output: &'a mut O) -> Window<'a, O>
         ensures name { result.output.ghost_name ≡ output.entry.ghost_name }
-        ensures told { (all : List ℕ) → WindowStands W.contents result
-            (start_of result.output.ghost_name (state_of W.contents output.old) all) [] all }
+        ensures told { (all : List ℕ) → WindowStands O.held result
+            (start_of result.output.ghost_name (O.held output.old) all) [] all }
     {
         Window {
             output,
@@ -85,8 +83,8 @@ impl<'a, W: Write> Window<'a, W> {
     /// How many octets were written in all, where a write failed.
     pub fn finish(&mut self) -> Result<(), u64>
         ensures name { self.new.output.ghost_name ≡ self.old.output.ghost_name }
-        ensures ok { OnOk result (Finishes W.contents self.old self.new) }
-        ensures err { IfErr result (λ sent. Fails W.contents self.old self.new sent) }
+        ensures ok { OnOk result (Finishes O.held self.old self.new) }
+        ensures err { IfErr result (λ sent. Fails O.held self.old self.new sent) }
     {
         self.writer.finish(self.output)
     }
@@ -114,7 +112,7 @@ impl<'a, W: Write> Window<'a, W> {
     fn put(&mut self, k: u32, n: u64)
         requires few { k ≤ 64 }
         requires fits { n < 2 ^ k }
-        ensures { Pushes (λ w c taken coming. WindowStands W.contents w c taken coming) self.old self.new (bits k n) }
+        ensures { Pushes (λ w c taken coming. WindowStands O.held w c taken coming) self.old self.new (bits k n) }
     {
         put_at(
             &mut self.fragments,
@@ -141,7 +139,7 @@ impl<'a, W: Write> Window<'a, W> {
         requires some { 0 < length octets.now }
         requires few { 8 * length octets.now < 2 ^ 64 }
         requires room { HasRoom self.old.fragments self.old.depth (length octets.now) }
-        ensures { Pushes (λ w c taken coming. WindowStands W.contents w c taken coming) self.old self.new
+        ensures { Pushes (λ w c taken coming. WindowStands O.held w c taken coming) self.old self.new
             (unpacked octets.now) }
     {
         put_octets_at(
@@ -160,7 +158,7 @@ impl<'a, W: Write> Window<'a, W> {
         requires { 0 < length octets.now }
         ensures some { 0 < result }
         ensures few { result ≤ length octets.now }
-        ensures pushed { Pushes (λ w c taken coming. WindowStands W.contents w c taken coming) self.old self.new
+        ensures pushed { Pushes (λ w c taken coming. WindowStands O.held w c taken coming) self.old self.new
             (unpacked (take result octets.now)) }
     {
         let count = self.room().min(octets.len());
@@ -173,7 +171,7 @@ impl<'a, W: Write> Window<'a, W> {
     }
 }
 
-impl<'a, W: Write> Sink for Window<'a, W> {
+impl<'a, O: Output> Sink for Window<'a, O> {
     ghost use Rattle.asn_sinks.specs.Sink.{Pushes};
     ghost use Rattle.asn_sinks.specs.SinkLaws.{pushed_none, pushed_joined};
     ghost use Rattle.asn_window.specs.Windows.{WindowStands};
@@ -184,9 +182,9 @@ impl<'a, W: Write> Sink for Window<'a, W> {
 
     ghost Origin = { Start };
 
-    ghost stands = { λ w c taken coming. WindowStands W.contents w c taken coming };
+    ghost stands = { λ w c taken coming. WindowStands O.held w c taken coming };
 
-    ghost pushes = { λ old new xs. Pushes (λ w c taken coming. WindowStands W.contents w c taken coming) old new xs };
+    ghost pushes = { λ old new xs. Pushes (λ w c taken coming. WindowStands O.held w c taken coming) old new xs };
 
     ghost keeps = { λ outer taken. outer.phase ≡ length taken % 8 };
 
@@ -253,10 +251,10 @@ impl<'a, W: Write> Sink for Window<'a, W> {
         Ok(())
     }
 
-    ghost pushes_none = { λ a. pushed_none (λ w c taken coming. WindowStands W.contents w c taken coming) a };
+    ghost pushes_none = { λ a. pushed_none (λ w c taken coming. WindowStands O.held w c taken coming) a };
 
     ghost pushes_joined = { λ a b c xs ys p q.
-        pushed_joined (λ w c taken coming. WindowStands W.contents w c taken coming) a b c xs ys p q };
+        pushed_joined (λ w c taken coming. WindowStands O.held w c taken coming) a b c xs ys p q };
 
     ghost pushes_stand = { λ a b xs p. p };
 }

@@ -6,7 +6,6 @@ use Rattle.std.proofs.lemmas.Nat.{shr_below}
 use Rattle.asn_bits.specs.LengthBits.{first_length}
 use Rattle.asn_bits.specs.Numbers.{bits}
 use Rattle.asn_bits.proofs.Octets.{length-digits}
-use Rattle.asn_rules.specs.Faults.{state_of}
 use Rattle.asn_window.specs.declared.fragments.Fragments.{Fragments}
 use Rattle.asn_window.specs.Fragmented.{next_left}
 use Rattle.asn_window.specs.Fragmented.{Comes}
@@ -18,8 +17,8 @@ use Rattle.asn_window.proofs.fragments.+put_at.Goals as goal
 pub returns-then-level-eq0-clause-told : goal.returns-then-level-eq0-clause-told
 returns-then-level-eq0-clause-told g t c start around r all come =
     let f = c.args.fragments.now in
-    let was : List ℕ → Type 0 = λ b. BitsStand start (state_of g.W.Write.contents c.args.output.now) c.args.writer.now b all in
-    let now : List ℕ → Type 0 = λ b. BitsStand start (state_of g.W.Write.contents c.put.new.output) c.put.new.self b all in
+    let was : List ℕ → Type 0 = λ b. BitsStand start (g.O.Output.held c.args.output.now) c.args.writer.now b all in
+    let now : List ℕ → Type 0 = λ b. BitsStand start (g.O.Output.held c.put.new.output) c.put.new.self b all in
     subst (λ l. Comes now f l around r) (sym c.if-level-eq0.true)
     (base_step was now f f (bits c.args.k c.args.n) (λ b h. c.put.ensures start b all h) around r
     (subst (λ l. Comes was f l around (bits c.args.k c.args.n ++ r)) c.if-level-eq0.true come))
@@ -30,8 +29,8 @@ returns-then-left-eq0-clause-told g t c start around r all come =
     let at = c.args.level - 1 in
     let up : c.args.level ≡ suc at = omega (arith, c.if-level-eq0.false) in
     let same = c.put_at.ensures.same in
-    let was : List ℕ → Type 0 = λ b. BitsStand start (state_of g.W.Write.contents c.args.output.now) c.args.writer.now b all in
-    let now : List ℕ → Type 0 = λ b. BitsStand start (state_of g.W.Write.contents c.put_at.new.output) c.put_at.new.writer b all in
+    let was : List ℕ → Type 0 = λ b. BitsStand start (g.O.Output.held c.args.output.now) c.args.writer.now b all in
+    let now : List ℕ → Type 0 = λ b. BitsStand start (g.O.Output.held c.put_at.new.output) c.put_at.new.writer b all in
     subst (λ l. Comes now c.put_at.new.fragments l around r) (sym up)
     (pass_step was now f c.put_at.new.fragments at (bits c.args.k c.args.n) c.if-left-eq0.true (same.left at (omega arith)) (same.after at (omega arith))
     (λ others rest. c.put_at.ensures.told start others rest all) around r
@@ -47,8 +46,8 @@ returns-then-k-left-clause-told g t c start around r all come =
     let same = c.put_at-then-k-left.ensures.same in
     let mid : Fragments = record f { left = set f.left at (left - k) } in
     let long : length (bits k c.args.n) ≡ k = length-digits 2 k c.args.n in
-    let was : List ℕ → Type 0 = λ b. BitsStand start (state_of g.W.Write.contents c.args.output.now) c.args.writer.now b all in
-    let now : List ℕ → Type 0 = λ b. BitsStand start (state_of g.W.Write.contents c.put_at-then-k-left.new.output) c.put_at-then-k-left.new.writer b all in
+    let was : List ℕ → Type 0 = λ b. BitsStand start (g.O.Output.held c.args.output.now) c.args.writer.now b all in
+    let now : List ℕ → Type 0 = λ b. BitsStand start (g.O.Output.held c.put_at-then-k-left.new.output) c.put_at-then-k-left.new.writer b all in
     let below : IsSameBelow at f mid = record { left = λ j h. get_or-set_other f.left at j (left - k) 0 (λ e. absurd (omega (arith, h, e))); after = λ j h. refl } in
     let here : slice_index c.put_at-then-k-left.new.fragments.left at ≡ left - length (bits k c.args.n) =
     same.left at (omega arith) ∙ get_or-set_same f.left at (left - k) 0 (omega (arith, c.requires.inside, c.if-level-eq0.false)) ∙ ap (λ i. left - i) (sym long) in
@@ -89,10 +88,10 @@ returns-clause-told g t c start around r all come =
     let cut : bits k n ≡ front ++ back = ap (λ i. bits i n) whole ∙ bits-cut left others n ∙ ap (λ m. front ++ bits others m) (sym c.low_bits.ensures.same) in
     let some : 0 < left = omega (arith, c.if-left-eq0.false) in
     let few : length back < 64 = omega (arith, length-digits 2 others c.low_bits.result, some, c.requires.few) in
-    let b0 : List ℕ → Type 0 = λ b. BitsStand start (state_of g.W.Write.contents c.args.output.now) c.args.writer.now b all in
-    let b1 : List ℕ → Type 0 = λ b. BitsStand start (state_of g.W.Write.contents c.put_at-2.new.output) c.put_at-2.new.writer b all in
-    let b2 : List ℕ → Type 0 = λ b. BitsStand start (state_of g.W.Write.contents c.put_at-3.new.output) c.put_at-3.new.writer b all in
-    let b3 : List ℕ → Type 0 = λ b. BitsStand start (state_of g.W.Write.contents c.put_at-4.new.output) c.put_at-4.new.writer b all in
+    let b0 : List ℕ → Type 0 = λ b. BitsStand start (g.O.Output.held c.args.output.now) c.args.writer.now b all in
+    let b1 : List ℕ → Type 0 = λ b. BitsStand start (g.O.Output.held c.put_at-2.new.output) c.put_at-2.new.writer b all in
+    let b2 : List ℕ → Type 0 = λ b. BitsStand start (g.O.Output.held c.put_at-3.new.output) c.put_at-3.new.writer b all in
+    let b3 : List ℕ → Type 0 = λ b. BitsStand start (g.O.Output.held c.put_at-4.new.output) c.put_at-4.new.writer b all in
     let one = c.put_at-2.ensures.same in
     let two = c.put_at-3.ensures.same in
     let inside : at < length f2.left = omega (arith, c.requires.inside, c.if-level-eq0.false, two.long_left, one.long_left) in

@@ -6,7 +6,6 @@ use Rattle.asn_bits.specs.Lengths.{general_octets}
 use Rattle.asn_bits.specs.LengthBits.{first_length}
 use Rattle.asn_bits.specs.Numbers.{bits, unpacked}
 use Rattle.asn_window.specs.declared.fragments.Fragments.{Fragments}
-use Rattle.asn_rules.specs.Faults.{state_of}
 use Rattle.asn_window.specs.Fragmented.{Comes, Flows}
 use Rattle.asn_window.specs.Fragmented.{next_left}
 use Rattle.asn_window.specs.BitWriters.{BitsStand}
@@ -19,8 +18,8 @@ returns-clause-told g c start around os next all long come =
     let n = c.args.many in
     let f1 = c.put_at.new.fragments in
     let items = c.next_length-k.result.2 in
-    let was : List ℕ → Type 0 = λ b. BitsStand start (state_of g.W.Write.contents c.args.output.now) c.args.writer.now b all in
-    let now : List ℕ → Type 0 = λ b. BitsStand start (state_of g.W.Write.contents c.put_at.new.output) c.put_at.new.writer b all in
+    let was : List ℕ → Type 0 = λ b. BitsStand start (g.O.Output.held c.args.output.now) c.args.writer.now b all in
+    let now : List ℕ → Type 0 = λ b. BitsStand start (g.O.Output.held c.put_at.new.output) c.put_at.new.writer b all in
     let code = bits c.next_length-k.result.0 c.next_length-k.result.1 in
     let then = length_next n os long in
     let whole : general_octets (λ u. u) os ≡ code ++ then.0 = then.1 ∙ ap (λ h. h ++ then.0) (sym c.next_length-k.ensures.bits) in

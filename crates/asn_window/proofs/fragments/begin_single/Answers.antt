@@ -4,7 +4,6 @@ use Rattle.std.proofs.lemmas.List.{get_or-set_same, get_or-set_other}
 use Rattle.asn_bits.specs.Lengths.{octet_length}
 use Rattle.asn_bits.specs.Numbers.{unpacked}
 use Rattle.asn_window.specs.declared.fragments.Fragments.{Fragments}
-use Rattle.asn_rules.specs.Faults.{state_of}
 use Rattle.asn_window.specs.Fragmented.{Comes}
 use Rattle.asn_window.specs.BitWriters.{BitsStand}
 use Rattle.asn_window.proofs.FieldSteps.{IsSameBelow, comes_same}
@@ -14,8 +13,8 @@ pub returns-clause-told : goal.returns-clause-told
 returns-clause-told g c start around os next all long come =
     let level = c.args.level in
     let f1 = c.put_single_length.new.fragments in
-    let was : List ℕ → Type 0 = λ b. BitsStand start (state_of g.W.Write.contents c.args.output.now) c.args.writer.now b all in
-    let now : List ℕ → Type 0 = λ b. BitsStand start (state_of g.W.Write.contents c.put_single_length.new.output) c.put_single_length.new.writer b all in
+    let was : List ℕ → Type 0 = λ b. BitsStand start (g.O.Output.held c.args.output.now) c.args.writer.now b all in
+    let now : List ℕ → Type 0 = λ b. BitsStand start (g.O.Output.held c.put_single_length.new.output) c.put_single_length.new.writer b all in
     let same = c.put_single_length.ensures.same in
     let cut : (unpacked (octet_length (length os)) ++ unpacked os) ++ next ≡ unpacked (octet_length c.args.many) ++ (unpacked os ++ next) =
     append_assoc (unpacked (octet_length (length os))) (unpacked os) next ∙ ap (λ n. unpacked (octet_length n) ++ (unpacked os ++ next)) long in

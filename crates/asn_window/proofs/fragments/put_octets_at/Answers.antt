@@ -3,7 +3,6 @@ use Rattle.std.proofs.Common.{ℕ, List, ap, arith}
 use Rattle.std.specs.Prelude.{slice_index}
 use Rattle.asn_bits.specs.Numbers.{unpacked}
 use Rattle.asn_bits.proofs.Splits.{length-unpacked}
-use Rattle.asn_rules.specs.Faults.{state_of}
 use Rattle.asn_window.specs.BitWriters.{BitsStand}
 use Rattle.asn_window.proofs.FieldSteps.{block_step}
 use Rattle.asn_window.proofs.fragments.put_octets_at.Goals as goal
@@ -13,8 +12,8 @@ returns-clause-told g c start around coming all come =
     let f = c.args.fragments.now in
     let new = c.pass.new.fragments in
     let os = unpacked c.args.octets.now in
-    let was : List ℕ → Type 0 = λ b. BitsStand start (state_of g.W.Write.contents c.args.output.now) c.args.writer.now b all in
-    let now : List ℕ → Type 0 = λ b. BitsStand start (state_of g.W.Write.contents c.put_octets.new.output) c.put_octets.new.self b all in
+    let was : List ℕ → Type 0 = λ b. BitsStand start (g.O.Output.held c.args.output.now) c.args.writer.now b all in
+    let now : List ℕ → Type 0 = λ b. BitsStand start (g.O.Output.held c.put_octets.new.output) c.put_octets.new.self b all in
     let long = length-unpacked c.args.octets.now in
     block_step was now f new c.args.level os
     (λ j h some. omega (arith, long, c.requires.room j h some))

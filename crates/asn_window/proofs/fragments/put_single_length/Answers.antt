@@ -4,7 +4,6 @@ use Rattle.asn_bits.specs.Lengths.{octet_length}
 use Rattle.asn_bits.specs.Numbers.{bits, unpacked}
 use Rattle.asn_bits.proofs.LengthsInOctets.{large_is}
 use Rattle.asn_bits.proofs.Splits.{unpacked-octets}
-use Rattle.asn_rules.specs.Faults.{state_of}
 use Rattle.asn_window.specs.Fragmented.{Comes}
 use Rattle.asn_window.specs.BitWriters.{BitsStand}
 use Rattle.asn_window.proofs.fragments.put_single_length.Goals as goal
@@ -13,7 +12,7 @@ pub returns-clause-told : goal.returns-clause-told
 returns-clause-told g c start around r all come =
     let n = c.args.many in
     let k = c.octet_count-count.result in
-    let was : List ℕ → Type 0 = λ b. BitsStand start (state_of g.W.Write.contents c.args.output.now) c.args.writer.now b all in
+    let was : List ℕ → Type 0 = λ b. BitsStand start (g.O.Output.held c.args.output.now) c.args.writer.now b all in
     let e : unpacked (octet_length n) ≡ bits 8 (128 + k) ++ bits (8 * k) n =
     ap unpacked (large_is n k (omega (arith, c.if-many-lt128.false)) (sym c.octet_count-count.ensures.count)) ∙ ap (λ t. bits 8 (128 + k) ++ t) (unpacked-octets k n) in
     let cut : unpacked (octet_length n) ++ r ≡ bits 8 (128 + k) ++ (bits (8 * k) n ++ r) =

@@ -1,6 +1,6 @@
 use Rattle.std.proofs.Common.{◌<◌, ◌++◌, ℕ, List, length, get_or}
 use Rattle.asn_bits.specs.Numbers.{bits, unpacked}
-use Rattle.asn_rules.specs.Faults.{State, state_of}
+use Rattle.asn_window.specs.Held.{Held}
 use Rattle.asn_window.specs.OctetWriters.{OctetsStand}
 use Rattle.asn_window.proofs.shifted.put_shifted.Given as goal
 
@@ -8,9 +8,9 @@ use Rattle.asn_window.proofs.shifted.put_shifted.Given as goal
 abbrev pub invariant-loop-eight : goal.invariant-loop-eight
 invariant-loop-eight g l = record {
   range : (i : ℕ) → get_or l.rest i 0 < 256;
-  stands : (start : State) (coming all : List ℕ)
-      → OctetsStand start (state_of g.W.Write.contents l.initial.output) l.initial.writer (bits l.count l.pending ++ (unpacked l.octets ++ coming)) all
-      → OctetsStand start (state_of g.W.Write.contents l.output) l.writer (bits l.count l.high ++ (unpacked l.rest ++ coming)) all;
+  stands : (start : Held) (coming all : List ℕ)
+      → OctetsStand start (g.O.Output.held l.initial.output) l.initial.writer (bits l.count l.pending ++ (unpacked l.octets ++ coming)) all
+      → OctetsStand start (g.O.Output.held l.output) l.writer (bits l.count l.high ++ (unpacked l.rest ++ coming)) all;
 }
 
 abbrev pub decreases-loop-eight : goal.decreases-loop-eight

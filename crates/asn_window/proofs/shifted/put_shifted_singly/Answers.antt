@@ -2,7 +2,6 @@
 use Rattle.std.proofs.Common.{rules, ◌≡◌, ◌<◌, ◌++◌, ℕ, List, [], ◌∷◌, length, get_or, refl, ap, subst, ◌∙◌, append_assoc, arith}
 use Rattle.asn_bits.specs.Numbers.{bits, unpacked}
 use Rattle.asn_bits.proofs.Moving.{range_after}
-use Rattle.asn_rules.specs.Faults.{state_of}
 use Rattle.asn_window.specs.OctetWriters.{OctetsStand}
 use Rattle.asn_window.proofs.Delivered.{stands_same}
 use Rattle.asn_window.proofs.Shifting.{shifted_on}
@@ -35,7 +34,7 @@ loop-octet-preserved g c =
 pub returns : goal.returns
 returns g c start coming all told =
     let none : c.loop-octet.rest.now ≡ [] = nothing c.loop-octet.rest.now c.in_default.ensures.cases in
-    subst (λ (xs : List ℕ). OctetsStand start (state_of g.W.Write.contents c.loop-octet.output) c.loop-octet.writer (bits c.args.count c.loop-octet.high ++ (unpacked xs ++ coming)) all) none
+    subst (λ (xs : List ℕ). OctetsStand start (g.O.Output.held c.loop-octet.output) c.loop-octet.writer (bits c.args.count c.loop-octet.high ++ (unpacked xs ++ coming)) all) none
     (c.loop-octet.invariant.stands start coming all told)
   where
     nothing : (xs : List ℕ) → length xs ≡ 0 → xs ≡ []

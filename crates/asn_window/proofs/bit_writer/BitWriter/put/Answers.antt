@@ -1,5 +1,5 @@
 -- Either all bits wait, or a word of them goes out.
-use Rattle.std.proofs.Common.{◌++◌, ◌+◌, ◌-◌, refl, arith}
+use Rattle.std.proofs.Common.{◌≡◌, ◌++◌, ◌+◌, ◌-◌, refl, sym, ap, ◌∙◌, arith}
 use Rattle.asn_bits.specs.Numbers.{bits}
 use Rattle.asn_window.proofs.Delivered.{stands_same}
 use Rattle.asn_window.proofs.Shifting.{shifted_on, waits}
@@ -10,6 +10,16 @@ returns-then-count-k-lt64 g c start coming all told =
     let a = c.args in
     let w = a.self.now in
     stands_same w.octets (waits w.count w.pending a.k a.n c.shift_in-self.result coming c.requires.fits (omega arith) c.shift_in-self.ensures) told
+
+pub returns-then-count-eq0 : goal.returns-then-count-eq0
+returns-then-count-eq0 g c start coming all told =
+    let a = c.args in
+    let w = a.self.now in
+    let none : w.count ≡ 0 = omega arith in
+    let whole : a.k ≡ 64 = omega (arith, none) in
+    stands_same c.put_word.new.self (ap (λ i. bits i w.pending ++ coming) (sym none))
+    (c.put_word.ensures start coming all
+    (stands_same w.octets (ap (λ i. bits i w.pending ++ (bits a.k a.n ++ coming)) none ∙ ap (λ i. bits i a.n ++ coming) whole) told))
 
 pub returns : goal.returns
 returns g c start coming all told =

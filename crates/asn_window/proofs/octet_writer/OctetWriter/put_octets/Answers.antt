@@ -3,7 +3,6 @@ use Rattle.std.proofs.Common.{◌≡◌, ◌++◌, ℕ, List, [], ◌∷◌, len
 use Rattle.std.proofs.lemmas.Bool.Decides.{nat_tests}
 use Rattle.asn_bits.specs.Numbers.{unpacked}
 use Rattle.asn_bits.proofs.Splits.{unpacked-append}
-use Rattle.asn_rules.specs.Faults.{state_of}
 use Rattle.asn_window.specs.OctetWriters.{OctetsStand}
 use Rattle.asn_window.proofs.Delivered.{retold}
 use Rattle.asn_window.proofs.Shifting.{after_waiting}
@@ -26,7 +25,7 @@ loop-rest-preserved g c start coming all told =
 pub returns : goal.returns
 returns g c start coming all told =
     let none : c.loop-rest.rest.now ≡ [] = nothing c.loop-rest.rest.now (grind (arith, nat_tests)) in
-    subst (λ (xs : List ℕ). OctetsStand start (state_of g.W.Write.contents c.loop-rest.output) c.loop-rest.self (unpacked xs ++ coming) all) none
+    subst (λ (xs : List ℕ). OctetsStand start (g.O.Output.held c.loop-rest.output) c.loop-rest.self (unpacked xs ++ coming) all) none
     (c.loop-rest.invariant start coming all told)
   where
     nothing : (xs : List ℕ) → length xs ≡ 0 → xs ≡ []

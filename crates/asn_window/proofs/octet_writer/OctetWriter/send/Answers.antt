@@ -4,7 +4,6 @@ use Rattle.std.proofs.lemmas.Bool.{ltb-true, ltb-false}
 use Rattle.std.specs.List.{AllByRecursion}
 use Rattle.std.specs.Io.KnownBytes.{Appends}
 use Rattle.asn_bits.specs.Numbers.{unpacked}
-use Rattle.asn_rules.specs.Faults.{state_of, inner_of}
 use Rattle.asn_window.proofs.Delivered.{written_on, retold}
 use Rattle.asn_window.proofs.octet_writer.OctetWriter.send.Goals as goal
 
@@ -16,12 +15,13 @@ returns-clause-told g c start coming all told =
     let long : length c.as_slice.result.now ≡ length w = ap length octets in
     let count : c.len.result ≡ length w = c.len.ensures in
     let wrote = c.write_many-many.ensures in
-    let done = written_on {next = state_of g.W.Write.contents c.write_many-many.new.output} {more = c.saturating_add-self.result} {failed = nat_lt many c.len.result} w many c.if-self.false (subst (λ (xs : List ℕ). AllByRecursion (λ o. o < 256) xs) octets wrote.octets) told
+    let done = written_on {next = g.O.Output.held c.write_many-many.new.output} {more = c.saturating_add-self.result} {failed = nat_lt many c.len.result} w many c.if-self.false (subst (λ (xs : List ℕ). AllByRecursion (λ o. o < 256) xs) octets wrote.octets) told
     (omega (arith, wrote.few, long))
-    (subst (λ (xs : List ℕ). Appends (g.W.Write.contents (inner_of c.args.output.now)) (g.W.Write.contents (inner_of c.write_many-many.new.output)) (take many xs)) octets wrote.written)
+    (subst (λ (xs : List ℕ). Appends ((g.O.Output.held c.args.output.now).octets) ((g.O.Output.held c.write_many-many.new.output).octets) (take many xs)) octets wrote.written)
     c.saturating_add-self.ensures
     (λ e. omega (arith, ltb-true many c.len.result e, count))
     (λ e. omega (arith, ltb-false many c.len.result e, count))
     (λ l. wrote.fault (omega (arith, l, long)))
-    (λ e. wrote.same (e ∙ sym long)) in
+    (λ e. wrote.same (e ∙ sym long))
+    wrote.slice in
     retold (sym (ap (λ (xs : List ℕ). unpacked xs ++ coming) c.clear-2.ensures)) done

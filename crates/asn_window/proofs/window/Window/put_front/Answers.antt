@@ -15,7 +15,7 @@ first_of (o ∷ os) h = sym (append-nil (bits 8 o))
 
 pub returns-then-count-eq0-clause-pushed : goal.returns-then-count-eq0-clause-pushed
 returns-then-count-eq0-clause-pushed g c =
-    let stands : Standing (Window g.row.W.Denot) Start = λ w c taken coming. WindowStands g.W.Write.contents w c taken coming in
+    let stands : Standing (Window g.row.O.Denot) Start = λ w c taken coming. WindowStands g.O.Output.held w c taken coming in
     pushed_same (λ a b xs. Pushes stands a b xs) c.args.self.now c.put.new.self (first_of c.args.octets.now c.requires) c.put.ensures
 
 pub returns-clause-pushed : goal.returns-clause-pushed

@@ -1,6 +1,5 @@
 -- The content has come, and then comes what follows the field.
 use Rattle.std.proofs.Common.{◌≡◌, ℕ, List, length, length-append, sym, arith}
-use Rattle.asn_rules.specs.Faults.{state_of}
 use Rattle.asn_sinks.specs.Sink.{framed}
 use Rattle.asn_window.specs.BitWriters.{BitsStand}
 use Rattle.asn_window.proofs.WindowSteps.{popped, whole_field, some_field, some-append}
@@ -11,7 +10,7 @@ returns g c at sofar os next octets phase told =
     let w = c.args.self.now in
     let field = framed c.args.framing os in
     let depth : c.saturating_sub-self.result ≡ length at.around = omega (arith, c.saturating_sub-self.ensures, told.level) in
-    let base : List ℕ → Type 0 = λ b. BitsStand at.origin.state (state_of g.W.Write.contents w.output.now) w.writer b at.origin.all in
+    let base : List ℕ → Type 0 = λ b. BitsStand at.origin.state (g.O.Output.held w.output.now) w.writer b at.origin.all in
     record {
       name = told.name;
       come = popped base w.fragments w.depth c.saturating_sub-self.result at.around next (omega (arith, depth, told.level)) told.come;

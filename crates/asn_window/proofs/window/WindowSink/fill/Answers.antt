@@ -12,8 +12,8 @@ pub returns-then-self : goal.returns-then-self
 returns-then-self g c at taken coming told =
     let some = c.args.some in
     let e : filling some taken ≡ bits 8 0 = filled_none some taken c.if-some.true (sym told.empty ∙ c.if-self.true) in
-    subst (λ (xs : List ℕ). WindowStands g.W.Write.contents c.put.new.self at (taken ++ xs) coming) (sym e)
-    (c.put.ensures at taken coming (subst (λ (xs : List ℕ). WindowStands g.W.Write.contents c.args.self.now at taken (xs ++ coming)) e told))
+    subst (λ (xs : List ℕ). WindowStands g.O.Output.held c.put.new.self at (taken ++ xs) coming) (sym e)
+    (c.put.ensures at taken coming (subst (λ (xs : List ℕ). WindowStands g.O.Output.held c.args.self.now at taken (xs ++ coming)) e told))
 
 pub returns : goal.returns
 returns g c at taken coming told =
@@ -24,5 +24,5 @@ returns g c at taken coming told =
       | else-some-via-else-some w ↦ true≢false (sym s ∙ w.if-some.false)
     ] in
     let e : filling some taken ≡ bits ((8 - phase) % 8) 0 = filled_some some taken other ∙ sym (zeros_pad phase taken told.phase) in
-    subst (λ (xs : List ℕ). WindowStands g.W.Write.contents c.put-2.new.self at (taken ++ xs) coming) (sym e)
-    (c.put-2.ensures at taken coming (subst (λ (xs : List ℕ). WindowStands g.W.Write.contents c.args.self.now at taken (xs ++ coming)) e told))
+    subst (λ (xs : List ℕ). WindowStands g.O.Output.held c.put-2.new.self at (taken ++ xs) coming) (sym e)
+    (c.put-2.ensures at taken coming (subst (λ (xs : List ℕ). WindowStands g.O.Output.held c.args.self.now at taken (xs ++ coming)) e told))

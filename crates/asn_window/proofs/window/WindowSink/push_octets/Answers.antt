@@ -13,12 +13,12 @@ use Rattle.asn_window.proofs.window.WindowSink.push_octets.Goals as goal
 
 pub loop-rest-init : goal.loop-rest-init
 loop-rest-init g c =
-    let stands : Standing (Window g.row.W.Denot) Start = λ w c taken coming. WindowStands g.W.Write.contents w c taken coming in
+    let stands : Standing (Window g.row.O.Denot) Start = λ w c taken coming. WindowStands g.O.Output.held w c taken coming in
     ([], refl, pushed_none stands c.args.self.now)
 
 pub loop-rest-preserved : goal.loop-rest-preserved
 loop-rest-preserved g c =
-    let stands : Standing (Window g.row.W.Denot) Start = λ w c taken coming. WindowStands g.W.Write.contents w c taken coming in
+    let stands : Standing (Window g.row.O.Denot) Start = λ w c taken coming. WindowStands g.O.Output.held w c taken coming in
     let done = c.loop-rest.invariant.0 in
     let rest = c.loop-rest.rest.now in
     let count = c.put_front-count.result in
@@ -34,7 +34,7 @@ loop-rest-preserved g c =
 
 pub returns : goal.returns
 returns g c =
-    let stands : Standing (Window g.row.W.Denot) Start = λ w c taken coming. WindowStands g.W.Write.contents w c taken coming in
+    let stands : Standing (Window g.row.O.Denot) Start = λ w c taken coming. WindowStands g.O.Output.held w c taken coming in
     let done = c.loop-rest.invariant.0 in
     let none : c.loop-rest.rest.now ≡ [] = nothing c.loop-rest.rest.now (grind (arith, nat_tests)) in
     let all : unpacked done ≡ unpacked c.args.octets.now = ap unpacked (sym (c.loop-rest.invariant.1 ∙ ap (λ t. done ++ t) none ∙ append-nil done)) in

@@ -8,7 +8,7 @@ use Rattle.asn_window.proofs.window.WindowSink.push_octets.Given as goal
 abbrev pub invariant-loop-rest : goal.invariant-loop-rest
 invariant-loop-rest g l =
     (done : List ℕ) × (l.octets ≡ done ++ l.rest)
-    × Pushes (λ w c taken coming. WindowStands g.W.Write.contents w c taken coming) l.initial.self l.self (unpacked done)
+    × Pushes (λ w c taken coming. WindowStands g.O.Output.held w c taken coming) l.initial.self l.self (unpacked done)
 
 abbrev pub decreases-loop-rest : goal.decreases-loop-rest
 decreases-loop-rest g l = length l.rest

@@ -33,5 +33,14 @@ value_after piece (c ∷ cs) v =
     cond (is_separator c)
     (value_after [] cs (option_and_then (value_at_step piece) v)) (value_after (piece ++ c ∷ []) cs v)
 
+abbrev pub value_along : List ℕ → Typed → Option Typed
+value_along path v = value_after [] path (Some v)
+
+-- the path without a `$` in front
+abbrev pub from_root : List ℕ → List ℕ
+from_root [] = []
+from_root (c ∷ cs) = cond (c == 36) cs (c ∷ cs)
+
+-- what a path leads to that may begin with a `$`
 abbrev pub value_at_path : List ℕ → Typed → Option Typed
-value_at_path path v = value_after [] path (Some v)
+value_at_path path v = value_along (from_root path) v

@@ -1,6 +1,6 @@
 //! Paths to the parts of a value.
 ghost use Rattle.std.specs.Prelude.{◌≡◌, ◌∷◌, ◌+◌, ◌^◌, ◌<◌, ◌≤◌, [], option_map, length};
-ghost use Rattle.asn_view.specs.Paths.{value_at_step, value_at_path, index_in, is_separator};
+ghost use Rattle.asn_view.specs.Paths.{value_at_step, value_along, value_at_path, from_root, index_in, is_separator};
 ghost use Rattle.asn_view.specs.Seen.{seen};
 
 use crate::view::View;
@@ -11,21 +11,28 @@ const MAX_DIGITS: usize = 9;
 impl<'a> View<'a> {
     /// The part at a path, as `coreData.speed` or `path[3].x`. The path is cut at each `.`, `[` and `]`; an empty piece
     /// is passed over, one of digits is the index of an element, counted from 0, and any other the name of a component
-    /// or of the chosen alternative, as `get` takes it. None where a step has none. Allocates nothing.
+    /// or of the chosen alternative, as `get` takes it. A `$` in front is passed over, so a path may be one that
+    /// `misfit` or `explain` tells. None where a step has none. Allocates nothing.
     pub fn at(&self, path: &str) -> Option<View<'a>>
         ensures { option_map seen result ≡ value_at_path path.now (seen self.now) }
     {
-        let octets = path.as_bytes();
+        self.along(from_root(path.as_bytes()))
+    }
+
+    /// The same of a path without a `$` in front.
+    fn along(&self, path: &[u8]) -> Option<View<'a>>
+        ensures { option_map seen result ≡ value_along path.now (seen self.now) }
+    {
         let mut here = *self;
         let mut start = 0;
-        for (index, octet) in octets.iter().enumerate() {
+        for (index, octet) in path.iter().enumerate() {
             if !is_separator(*octet) {
                 continue;
             }
-            here = here.step(&octets[start..index])?;
+            here = here.step(&path[start..index])?;
             start = index + 1;
         }
-        here.step(&octets[start..])
+        here.step(&path[start..])
     }
 
     /// The part that a piece of a path leads to.
@@ -39,6 +46,16 @@ impl<'a> View<'a> {
             Some(index) => self.index(index),
             None => self.get_octets(piece),
         }
+    }
+}
+
+/// The path without a `$` in front.
+fn from_root(path: &[u8]) -> &[u8]
+    ensures { result.now ≡ from_root path.now }
+{
+    match path {
+        [b'$', others @ ..] => others,
+        _ => path,
     }
 }
 

@@ -5,7 +5,7 @@ ghost use Rattle.asn_values.specs.View.{fields_seen};
 ghost use Rattle.asn_rules.specs.Listed.{bitmap_length};
 ghost use Rattle.asn_explain.specs.Places.{IsGood, Stands};
 
-use crate::parts::{Place, here, push_name, stops_in_component, stops_in_open_field};
+use crate::parts::{Place, here, in_open_field, push_name, stops_in_component};
 use asn_bits::BitCursor;
 use asn_values::Field;
 use asn_walk::{PresenceBits, ReadLeaves, bitmap_width};
@@ -49,6 +49,7 @@ pub(crate) fn in_sequence<'t, R: ReadLeaves>(
         },
         Place::Here => Ok(Place::Here),
         Place::Part(ty) => Ok(Place::Part(ty)),
+        Place::Sealed(ty, octets) => Ok(Place::Sealed(ty, octets)),
     }
 }
 
@@ -101,9 +102,14 @@ fn in_additions<'t, R: ReadLeaves>(
         left: count,
     };
     for field in fields {
-        if presence.next() && stops_in_open_field::<R>(alloc, &field.ty, units)? {
-            push_name(path, field.name.as_str())?;
-            return Ok(Place::Here);
+        if !presence.next() {
+            continue;
+        }
+        match in_open_field::<R>(alloc, &field.ty, field.name.as_str(), units, path)? {
+            Place::After => {}
+            Place::Here => return Ok(Place::Here),
+            Place::Part(ty) => return Ok(Place::Part(ty)),
+            Place::Sealed(ty, octets) => return Ok(Place::Sealed(ty, octets)),
         }
     }
     Ok(Place::After)

@@ -16,7 +16,7 @@ pub struct Explanation {
     /// What `decode` answers.
     pub fault: DecodeFault,
     /// `$`, and then `.name` for each component or alternative and `[i]`, counted from 0, for each element on the way to
-    /// the part in which the refused unit lies, or the first that is missing. An extension addition is not looked into.
+    /// the part in which the refused unit lies, or the first that is missing.
     pub path: String,
 }
 

@@ -12,7 +12,7 @@ ghost use Rattle.asn_walk.specs.Laws.{IsSizeOfProfile};
 ghost use Rattle.asn_explain.specs.Places.{IsGood, Stands};
 
 use crate::components::in_sequence;
-use crate::parts::{Place, here, push_name, stops_in, stops_in_open_field};
+use crate::parts::{Place, here, in_open_field, push_name, stops_in};
 use asn_bits::BitCursor;
 use asn_rules::MAX_OCTETS;
 use asn_rules::laws::are_octets;
@@ -31,20 +31,40 @@ pub(crate) fn path_to_stop<R: ReadLeaves>(
     ty: &Checked,
     octets: &[u8],
 ) -> Result<String, AllocError> {
-    R::keep_laws();
     let given = octets.len().min(MAX_OCTETS);
-    let message = &octets[..given];
-    are_octets(message);
-    let mut units = BitCursor::over(message);
     let mut path = String::from_str(alloc, "$")?;
-    let mut here = ty.get();
-    for _ in 0..MAX_LEVELS {
-        match place_in::<R>(alloc, here, &mut units, &mut path)? {
+    follow::<R>(alloc, ty.get(), &octets[..given], MAX_LEVELS, &mut path)?;
+    Ok(path)
+}
+
+/// Adds the steps to the part of a value of the type in which the reading of the octets stops, as many as `levels` at
+/// most. In an open type field they go on in its octets.
+///
+/// # Errors
+/// `AllocError` where an allocation failed.
+fn follow<R: ReadLeaves>(
+    alloc: Global,
+    ty: &AsnType,
+    octets: &[u8],
+    levels: u32,
+    path: &mut String,
+) -> Result<(), AllocError>
+    requires of_profile { InProfile (shape_of ty.now) }
+{
+    R::keep_laws();
+    are_octets(octets);
+    let mut units = BitCursor::over(octets);
+    let mut here = ty;
+    for level in 0..levels {
+        match place_in::<R>(alloc, here, &mut units, path)? {
             Place::Part(part) => here = part,
+            Place::Sealed(part, content) => {
+                return follow::<R>(alloc, part, &content, levels - level - 1, path);
+            }
             Place::Here | Place::After => break,
         }
     }
-    Ok(path)
+    Ok(())
 }
 
 /// Where the reading of a value of the type stops, with the step to that part added to the path.
@@ -129,11 +149,13 @@ fn in_added_alternative<'t, R: ReadLeaves>(
     ensures at_unit { IfOk result (Stands (R.rules.at_unit units.new)) }
 {
     let alternative = &added[index];
-    if stops_in_open_field::<R>(alloc, &alternative.ty, units)? {
-        push_name(path, alternative.name.as_str())?;
-        return Ok(Place::Here);
-    }
-    Ok(Place::After)
+    in_open_field::<R>(
+        alloc,
+        &alternative.ty,
+        alternative.name.as_str(),
+        units,
+        path,
+    )
 }
 
 /// The same of the elements of a SEQUENCE OF.

@@ -1,8 +1,9 @@
 //! Single parts of a value: whether their reading stops.
-ghost use Rattle.std.specs.Prelude.{◌≡◌, false, IfOk, OnOk};
+ghost use Rattle.std.specs.Prelude.{◌≡◌, IfOk, OnOk};
 ghost use Rattle.asn_values.specs.Profile.{InProfile};
 ghost use Rattle.asn_values.specs.Parts.{IsGoodDemand};
 ghost use Rattle.asn_values.specs.View.{shape_of, part_of_field};
+ghost use Rattle.asn_explain.specs.Places.{IsGood, Stands};
 
 use asn_bits::BitCursor;
 use asn_rules::internal::Stop;
@@ -15,6 +16,8 @@ use std::alloc::{AllocError, Global};
 pub(crate) enum Place<'t> {
     /// In a part of it, which has this type: the units stand in front of the part.
     Part(&'t AsnType),
+    /// In an open type field: its octets, which are no complete encoding of a value of this type.
+    Sealed(&'t AsnType, Vec<u8>),
     /// In what the path leads to, and in no part of it that is looked into.
     Here,
     /// Not in the value: the units stand after it.
@@ -86,23 +89,50 @@ pub(crate) fn stops_in_component<R: ReadLeaves>(
     }
 }
 
-/// Reads an open type field that holds a value of the type, and tells whether that stops.
+/// Where the reading of an open type field stops that holds a value of the type, with the step to that component or
+/// alternative added to the path.
 ///
 /// # Errors
 /// As `stops_in`.
-pub(crate) fn stops_in_open_field<R: ReadLeaves>(
+pub(crate) fn in_open_field<'t, R: ReadLeaves>(
     alloc: Global,
-    ty: &AsnType,
+    ty: &'t AsnType,
+    name: &str,
     units: &mut BitCursor<'_>,
-) -> Result<bool, AllocError>
+    path: &mut String,
+) -> Result<Place<'t>, AllocError>
     requires at_unit { R.rules.at_unit units.old }
     requires of_profile { InProfile (shape_of ty.now) }
-    ensures { IfOk result (λ stops. stops ≡ false → R.rules.at_unit units.new) }
+    ensures good { IfOk result IsGood }
+    ensures at_unit { IfOk result (Stands (R.rules.at_unit units.new)) }
 {
+    let start = units.copied();
     match read_open_field::<R>(alloc, ty, units) {
-        Ok(_) => Ok(false),
+        Ok(_) => Ok(Place::After),
         Err(Stop::Memory) => Err(AllocError),
-        Err(Stop::Short | Stop::Refused { .. }) => Ok(true),
+        Err(Stop::Short | Stop::Refused { .. }) => {
+            *units = start;
+            push_name(path, name)?;
+            content_of::<R>(alloc, ty, units)
+        }
+    }
+}
+
+/// The content of an open type field that holds no value of the type, where its octets are there.
+fn content_of<'t, R: ReadLeaves>(
+    alloc: Global,
+    ty: &'t AsnType,
+    units: &mut BitCursor<'_>,
+) -> Result<Place<'t>, AllocError>
+    requires at_unit { R.rules.at_unit units.old }
+    requires of_profile { InProfile (shape_of ty.now) }
+    ensures good { IfOk result IsGood }
+    ensures at_unit { IfOk result (Stands (R.rules.at_unit units.new)) }
+{
+    match R::read_open_octets(alloc, units) {
+        Ok(octets) => Ok(Place::Sealed(ty, octets)),
+        Err(Stop::Memory) => Err(AllocError),
+        Err(Stop::Short | Stop::Refused { .. }) => Ok(Place::Here),
     }
 }
 

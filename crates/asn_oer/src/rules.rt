@@ -4,12 +4,11 @@ ghost use Rattle.asn_oer.specs.Words.{Keeps, oer_ruling};
 
 use asn_rules::internal::{self, Reads, Rereading, is_value_of_none};
 use asn_rules::{
-    Counted, DecodeFault, EncodeFault, EncodeIntoFault, EncodeToFault, FeedFault, LengthFault,
-    OpenFault, Rules, Step, Truncated,
+    DecodeFault, EncodeFault, EncodeIntoFault, EncodeToFault, FeedFault, LengthFault, OpenFault,
+    Output, Rules, Step, Truncated,
 };
 use asn_values::{Checked, Value};
 use std::alloc::{AllocError, Global};
-use std::io::Write;
 
 /// Canonical OER (X.696), as the walk over types and values asks for a set of encoding rules: its units are octets.
 #[derive(Debug)]
@@ -51,12 +50,12 @@ impl Rules for Oer {
     }
 
     #[tactic(auto, unfolding(crate::specs::Walk::oer_coding))]
-    fn encode_to<W: Write>(
+    fn encode_to<O: Output>(
         ty: &Checked,
         value: &Value,
-        output: &mut Counted<W>,
+        output: &mut O,
     ) -> Result<(), EncodeToFault> {
-        asn_walk_write::encode_to::<Oer, W>(ty, value, output)
+        asn_walk_write::encode_to::<Oer, O>(ty, value, output)
     }
 
     #[tactic(auto, unfolding(crate::specs::Walk::oer_coding))]

@@ -4,12 +4,11 @@ ghost use Rattle.asn_per.specs.Rules.{per_ruling};
 
 use asn_rules::internal::{self, Reads, Rereading};
 use asn_rules::{
-    Counted, DecodeFault, EncodeFault, EncodeIntoFault, EncodeToFault, FeedFault, LengthFault,
-    OpenFault, Rules, Step, Truncated,
+    DecodeFault, EncodeFault, EncodeIntoFault, EncodeToFault, FeedFault, LengthFault, OpenFault,
+    Output, Rules, Step, Truncated,
 };
 use asn_values::{Checked, Value};
 use std::alloc::{AllocError, Global};
-use std::io::Write;
 
 /// CANONICAL-PER UNALIGNED (X.691) as a set of encoding rules, whose units are bits.
 #[derive(Debug)]
@@ -51,12 +50,12 @@ impl Rules for Per {
     }
 
     #[tactic(auto, unfolding(crate::specs::Walk::per_coding))]
-    fn encode_to<W: Write>(
+    fn encode_to<O: Output>(
         ty: &Checked,
         value: &Value,
-        output: &mut Counted<W>,
+        output: &mut O,
     ) -> Result<(), EncodeToFault> {
-        asn_walk_write::encode_to::<Per, W>(ty, value, output)
+        asn_walk_write::encode_to::<Per, O>(ty, value, output)
     }
 
     #[tactic(auto, unfolding(crate::specs::Walk::per_coding))]

@@ -119,7 +119,7 @@ impl<W: Write> Write for Counted<W> {
 }
 
 /// The octets after the first `count`.
-fn after(bytes: &[u8], count: usize) -> &[u8]
+pub(crate) fn after(bytes: &[u8], count: usize) -> &[u8]
     requires { count ≤ length bytes.now }
     ensures { result.now ≡ drop count bytes.now }
 {

@@ -17,6 +17,7 @@ mod octet_reader;
 mod octet_strings;
 mod octet_writer;
 mod open_session;
+mod output;
 mod readings;
 mod rereading;
 mod rules;
@@ -35,6 +36,7 @@ pub use fault::{
 pub use limits::MAX_OCTETS;
 pub use newer::{Newer, Skipped};
 pub use open_session::{Session, open};
+pub use output::Output;
 pub use rules::{Rules, decode, decode_into, encode, encode_into, encoded_len};
 pub use session::{FeedFault, OpenFault, Step, Truncated};
 pub use streams::{MessageStream, StreamFault, messages};

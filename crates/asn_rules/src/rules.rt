@@ -5,18 +5,17 @@ ghost use Rattle.asn_values.specs.View.{shape_of, datum_of};
 ghost use Rattle.asn_rules.specs.Answer.{Ruling, IsEncoding, max_octets};
 ghost use Rattle.asn_rules.specs.Codec.{NotEncoded, Decoded, DecodedFront};
 ghost use Rattle.asn_rules.specs.Delivered.{Encoded, NotDelivered};
-ghost use Rattle.asn_rules.specs.Faults.{state_of};
+ghost use Rattle.asn_rules.specs.Held.{state_held};
 ghost use Rattle.asn_rules.specs.Laws.{RulesLaws};
 ghost use Rattle.asn_rules.specs.Measured.{IsLength, NotMeasured, Placed, NotPlaced};
 ghost use Rattle.asn_rules.specs.Reading.{RulesTell};
 ghost use Rattle.asn_rules.specs.Sessions.{Past, waiting, Feeds, Finished};
 
-use crate::counting::Counted;
 use crate::fault::{DecodeFault, EncodeFault, EncodeIntoFault, EncodeToFault, LengthFault};
+use crate::output::Output;
 use crate::session::{FeedFault, OpenFault, Step, Truncated};
 use asn_values::{Checked, Value};
 use std::alloc::Global;
-use std::io::Write;
 
 /// Encoding rules: an encoder, sessions that take an encoding in pieces, and the laws that both keep.
 ///
@@ -43,22 +42,23 @@ pub trait Rules {
         ensures within { IfOk result (λ o. vec_len o ≤ max_octets) }
         ensures fault { IfErr result (λ why. NotEncoded ruling why (shape_of ty.now) (datum_of value.now)) };
 
-    /// Writes the encoding of a value of the type to a writer, piece by piece. It takes no memory, and does not flush the
-    /// writer.
+    /// Gives the encoding of a value of the type to an output, as a `Counted` writer, piece by piece. It takes no memory,
+    /// and does not flush the writer.
     ///
     /// # Errors
     /// `NotOfType` where the value does not fit the type, `TooLong` where it fits and its encoding has more than
-    /// 268,435,455 octets; both before the first write. `Write` where a write failed: the first `sent` octets of the
-    /// encoding were written. Nothing is tried again.
-    fn encode_to<W: Write>(
+    /// 268,435,455 octets; both before the output was given an octet. `Write` where a write failed: the first `sent`
+    /// octets of the encoding were taken. Nothing is tried again.
+    fn encode_to<O: Output>(
         ty: &Checked,
         value: &Value,
-        output: &mut Counted<W>,
+        output: &mut O,
     ) -> Result<(), EncodeToFault>
         ensures written { OnOk result (Encoded ruling (shape_of ty.now) (datum_of value.now)
-            (state_of W.contents output.old) (state_of W.contents output.new)) }
+            (state_held (O.held output.old)) (state_held (O.held output.new))) }
         ensures fault { IfErr result (λ why. NotDelivered ruling why (shape_of ty.now) (datum_of value.now)
-            (output.new ≡ output.old) (state_of W.contents output.old) (state_of W.contents output.new)) };
+            (output.new ≡ output.old) (state_held (O.held output.old)) (state_held (O.held output.new))) }
+        ensures through { (O.held output.new).through ≡ (O.held output.old).through };
 
     /// How many octets the encoding of a value of the type has: as many as `encode` gives. It takes no memory: the value is
     /// walked once, and nothing is written.

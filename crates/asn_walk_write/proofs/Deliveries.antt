@@ -18,7 +18,7 @@ use Rattle.asn_rules.specs.Answer.{max_octets}
 use Rattle.asn_rules.specs.Delivered.{Encoded, Interrupted}
 use Rattle.asn_rules.specs.Measured.{IsLength, Placed}
 use Rattle.asn_sinks.specs.declared.sink.Framing.{Framing}
-use Rattle.asn_window.specs.Held.{Held, held_in, state_held}
+use Rattle.asn_rules.specs.Held.{Held, held_in, state_held}
 use Rattle.asn_window.specs.Written.{Wrote, Broke}
 use Rattle.asn_rules.proofs.Octets.Octetwise.{packed_again}
 use Rattle.asn_window.proofs.FieldSteps.{front_begins}
@@ -156,5 +156,5 @@ slice_or name (Some other) = other
 pub same_slice : {U : Type 0} (r : Result U ℕ) (name last : GName) (before after bits : List ℕ) (count faults : ℕ)
     → OnOk r (Wrote (held_in name before 0 0) (held_in last after count faults) bits)
     → IfErr r (λ sent. Broke (held_in name before 0 0) (held_in last after count faults) sent bits) → last ≡ name
-same_slice (Ok x) name last before after bits count faults wrote broke = ap (slice_or name) wrote.slice
-same_slice (Err sent) name last before after bits count faults wrote broke = ap (slice_or name) broke.slice
+same_slice (Ok x) name last before after bits count faults wrote broke = ap (slice_or name) wrote.through
+same_slice (Err sent) name last before after bits count faults wrote broke = ap (slice_or name) broke.through

@@ -7,7 +7,7 @@ ghost use Rattle.asn_bits.specs.Numbers.{unpacked};
 ghost use Rattle.asn_rules.specs.Answer.{IsEncoding, max_octets};
 ghost use Rattle.asn_rules.specs.Codec.{NotEncoded};
 ghost use Rattle.asn_rules.specs.Delivered.{Encoded, NotDelivered};
-ghost use Rattle.asn_rules.specs.Faults.{state_of};
+ghost use Rattle.asn_rules.specs.Held.{state_held};
 ghost use Rattle.asn_rules.specs.Measured.{IsLength, NotMeasured, Placed, NotPlaced};
 ghost use Rattle.asn_walk.specs.Writing.{TellsWhether};
 ghost use Rattle.asn_walk_write.specs.Octets.{IsEncodable, octets_of};
@@ -17,13 +17,12 @@ use crate::lengths::measure;
 use crate::writer::write_complete;
 use asn_bits::BitSink;
 use asn_rules::{
-    Counted, EncodeFault, EncodeIntoFault, EncodeToFault, LengthFault, MAX_OCTETS, Unwritten,
+    EncodeFault, EncodeIntoFault, EncodeToFault, LengthFault, MAX_OCTETS, Output, Unwritten,
 };
 use asn_values::{AsnType, Checked, Value, fits};
 use asn_walk::WriteLeaves;
-use asn_window::{Filling, Output, Window};
+use asn_window::{Filling, Window};
 use std::alloc::{AllocError, Global};
-use std::io::Write;
 
 /// The complete encoding of a value of the type.
 ///
@@ -85,29 +84,30 @@ pub fn encoded_len<R: WriteLeaves>(ty: &Checked, value: &Value) -> Result<usize,
     length_of::<R>(ty.get(), value)
 }
 
-/// Writes the complete encoding of a value of the type to a writer, piece by piece. It takes no memory, and does not
-/// flush the writer. The value is walked to find its length, and once more to write it; what is inside n open type
+/// Gives the complete encoding of a value of the type to an output, piece by piece. It takes no memory, and does not
+/// flush a writer. The value is walked to find its length, and once more to write it; what is inside n open type
 /// fields is walked n times more, for their lengths.
 ///
 /// # Errors
 /// `NotOfType` if the value does not fit the type, `TooLong` if it fits and its encoding has more than 268,435,455
-/// octets; both before the first write. `Write` if a write failed: `sent` octets were written, the first ones of
-/// the encoding. Nothing is tried again.
-pub fn encode_to<R: WriteLeaves, W: Write>(
+/// octets; both before the output is given an octet. `Write` if a write failed: `sent` octets were taken, the first
+/// ones of the encoding. Nothing is tried again.
+pub fn encode_to<R: WriteLeaves, O: Output>(
     ty: &Checked,
     value: &Value,
-    output: &mut Counted<W>,
+    output: &mut O,
 ) -> Result<(), EncodeToFault>
     ensures written { OnOk result (Encoded R.rules.ruling (shape_of ty.now) (datum_of value.now)
-        (state_of W.contents output.old) (state_of W.contents output.new)) }
+        (state_held (O.held output.old)) (state_held (O.held output.new))) }
     ensures fault { IfErr result (λ why. NotDelivered R.rules.ruling why (shape_of ty.now) (datum_of value.now)
-        (output.new ≡ output.old) (state_of W.contents output.old) (state_of W.contents output.new)) }
+        (output.new ≡ output.old) (state_held (O.held output.old)) (state_held (O.held output.new))) }
+    ensures through { (O.held output.new).through ≡ (O.held output.old).through }
 {
     R::keep_write_laws();
     R::keep_open_laws();
     let inner = ty.get();
     length_of::<R>(inner, value)?;
-    match deliver::<R, Counted<W>>(inner, value, output) {
+    match deliver::<R, O>(inner, value, output) {
         Ok(()) => Ok(()),
         Err(sent) => Err(EncodeToFault::Write { sent }),
     }

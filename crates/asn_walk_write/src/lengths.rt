@@ -6,11 +6,11 @@ ghost use Rattle.asn_walk.specs.Writing.{FitsType};
 
 use crate::writer::write_complete;
 use asn_bits::BitSink;
-use asn_rules::Unwritten;
+use asn_rules::{Output, Unwritten};
 use asn_sinks::{Measure, Sink};
 use asn_values::{AsnType, Value};
 use asn_walk::WriteLeaves;
-use asn_window::{Output, Window};
+use asn_window::Window;
 
 /// A sink, and how the length of an open type field in it is known before its content is written.
 pub trait FieldLengths: Sink {

@@ -8,7 +8,7 @@ use Rattle.asn_window.specs.Delivery.{Delivers}
 use Rattle.asn_window.specs.OctetWriters.{OctetsStand}
 use Rattle.asn_window.specs.declared.octet_writer.OctetWriter.{OctetWriter}
 use Rattle.asn_rules.specs.Faults.{Rose}
-use Rattle.asn_window.specs.Held.{Held}
+use Rattle.asn_rules.specs.Held.{Held}
 use Rattle.asn_bits.specs.Numbers.{unpacked}
 use Rattle.asn_bits.proofs.GeneralLengths.{all_take}
 use Rattle.asn_bits.proofs.Splits.{unpacked-append}
@@ -17,12 +17,12 @@ use Rattle.asn_rules.proofs.Known.{appends_twice}
 -- after a fault it does not matter what comes
 pub after_fault : {start now : Held} {sent : ℕ} {failed : Bool} {coming other all : List ℕ} → failed ≡ true
     → Delivers start now sent failed coming all → Delivers start now sent failed other all
-after_fault f d = record { octets = d.octets; are_octets = d.are_octets; rest = d.rest; appended = d.appended; many = d.many; whole = d.whole; goes_on = λ e. absurd (true≢false (sym f ∙ e)); same = d.same; fault = d.fault; slice = d.slice }
+after_fault f d = record { octets = d.octets; are_octets = d.are_octets; rest = d.rest; appended = d.appended; many = d.many; whole = d.whole; goes_on = λ e. absurd (true≢false (sym f ∙ e)); same = d.same; fault = d.fault; through = d.through }
 
 -- what comes, told otherwise
 pub retold : {start now : Held} {sent : ℕ} {failed : Bool} {coming other all : List ℕ} → coming ≡ other
     → Delivers start now sent failed coming all → Delivers start now sent failed other all
-retold e d = record { octets = d.octets; are_octets = d.are_octets; rest = d.rest; appended = d.appended; many = d.many; whole = d.whole; goes_on = λ f. d.goes_on f ∙ e; same = d.same; fault = d.fault; slice = d.slice }
+retold e d = record { octets = d.octets; are_octets = d.are_octets; rest = d.rest; appended = d.appended; many = d.many; whole = d.whole; goes_on = λ f. d.goes_on f ∙ e; same = d.same; fault = d.fault; through = d.through }
 
 -- a count that stops at its end, and a number more
 pub stops_at_end : (sent m n : ℕ) → sent ≡ min m (2 ^ 64 - 1) → min (sent + n) (2 ^ 64 - 1) ≡ min (m + n) (2 ^ 64 - 1)
@@ -46,7 +46,7 @@ pub written_on : {start now next : Held} {sent more : ℕ} {was failed : Bool} {
     → more ≡ min (sent + many) (2 ^ 64 - 1)
     → (failed ≡ true → many < length buffer) → (failed ≡ false → length buffer ≤ many)
     → (many < length buffer → Rose now.faults next.faults) → (many ≡ length buffer → next.faults ≡ now.faults)
-    → next.slice ≡ now.slice
+    → next.through ≡ now.through
     → Delivers start next more failed coming all
 written_on {start} {now} {next} {sent} {more} {was} {failed} {coming} {all} buffer many good small d few a e broke whole rose same slice =
     let front = take many buffer in
@@ -69,7 +69,7 @@ written_on {start} {now} {next} {sent} {more} {was} {failed} {coming} {all} buff
       goes_on = λ f. ap (λ t. t ++ coming) (none (whole f));
       same = λ f. same (omega (arith, few, whole f)) ∙ d.same good;
       fault = λ f. subst (λ n. Rose n next.faults) (d.same good) (rose (broke f));
-      slice = slice ∙ d.slice;
+      through = slice ∙ d.through;
     }
   where
     drop_all : (n : ℕ) (xs : List ℕ) → length xs ≤ n → drop n xs ≡ []

@@ -6,7 +6,7 @@ use Rattle.asn_bits.proofs.LengthsInOctets.{small_is, large_is}
 use Rattle.asn_bits.proofs.Packing.{bits_zero}
 use Rattle.asn_window.specs.declared.fragments.Fragments.{Fragments}
 use Rattle.asn_window.specs.declared.bit_writer.BitWriter.{BitWriter}
-use Rattle.asn_window.specs.Held.{Held}
+use Rattle.asn_rules.specs.Held.{Held}
 use Rattle.asn_window.specs.Fragmented.{Flows, Comes}
 use Rattle.asn_window.specs.BitWriters.{BitsStand}
 use Rattle.asn_bits.specs.Lengths.{general_octets, octet_length}

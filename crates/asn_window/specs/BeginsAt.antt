@@ -4,7 +4,7 @@ use Rattle.asn_bits.specs.Numbers.{unpacked}
 use Rattle.asn_window.specs.declared.fragments.Fragments.{Fragments}
 use Rattle.asn_sinks.specs.declared.sink.Framing.{Framing}
 use Rattle.asn_window.specs.declared.bit_writer.BitWriter.{BitWriter}
-use Rattle.asn_window.specs.Held.{Held}
+use Rattle.asn_rules.specs.Held.{Held}
 use Rattle.asn_window.specs.Fragmented.{Comes}
 use Rattle.asn_sinks.specs.Sink.{framed}
 use Rattle.asn_window.specs.BitWriters.{BitsStand}

@@ -1,7 +1,7 @@
 -- What bits before a writer still have to write.
 use Rattle.std.specs.Prelude.{◌++◌, ℕ, List}
 use Rattle.asn_bits.specs.Numbers.{bits}
-use Rattle.asn_window.specs.Held.{Held}
+use Rattle.asn_rules.specs.Held.{Held}
 use Rattle.asn_window.specs.declared.bit_writer.BitWriter.{BitWriter}
 use Rattle.asn_window.specs.OctetWriters.{OctetsStand}
 

@@ -3,7 +3,7 @@ use Rattle.std.specs.Prelude.{◌≡◌, ◌<◌, ◌-◌, ◌^◌, ◌++◌, �
 use Rattle.std.specs.List.{AllByRecursion}
 use Rattle.std.specs.Io.KnownBytes.{Appends}
 use Rattle.asn_rules.specs.Faults.{Rose}
-use Rattle.asn_window.specs.Held.{Held}
+use Rattle.asn_rules.specs.Held.{Held}
 use Rattle.asn_bits.specs.Numbers.{unpacked}
 
 -- The bits `coming` are still to be written, and with what was written since the start they are `all`. After a fault
@@ -19,4 +19,4 @@ pub record Delivers (start now : Held) (sent : ℕ) (failed : Bool) (coming all 
   pub goes_on : failed ≡ false → rest ≡ coming
   pub same : failed ≡ false → now.faults ≡ start.faults
   pub fault : failed ≡ true → Rose start.faults now.faults
-  pub slice : now.slice ≡ start.slice
+  pub through : now.through ≡ start.through

@@ -2,7 +2,7 @@
 use Rattle.std.specs.Prelude.{◌≡◌, ◌⊎◌, ◌<◌, ◌≤◌, ◌++◌, ◌-◌, ◌*◌, ℕ, zero, suc, true, false, List, [], ◌∷◌, length, nat_lt, slice_index}
 use Rattle.asn_bits.specs.Lengths.{general_octets}
 use Rattle.asn_bits.specs.Numbers.{unpacked}
-use Rattle.asn_window.specs.Held.{Held}
+use Rattle.asn_rules.specs.Held.{Held}
 use Rattle.asn_window.specs.declared.bit_writer.BitWriter.{BitWriter}
 use Rattle.asn_window.specs.declared.fragments.Fragments.{Fragments}
 use Rattle.asn_window.specs.BitWriters.{BitsStand}

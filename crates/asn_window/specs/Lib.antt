@@ -1,4 +1,3 @@
-pub mod Held
 pub mod Delivery
 pub mod Written
 pub mod OctetWriters

@@ -1,7 +1,7 @@
 -- What octets before a writer, and the bits after them, still have to write.
 use Rattle.std.specs.Prelude.{◌++◌, ℕ, List}
 use Rattle.asn_bits.specs.Numbers.{bits, unpacked}
-use Rattle.asn_window.specs.Held.{Held}
+use Rattle.asn_rules.specs.Held.{Held}
 use Rattle.asn_window.specs.declared.octet_writer.OctetWriter.{OctetWriter}
 use Rattle.asn_window.specs.Delivery.{Delivers}
 

@@ -2,7 +2,7 @@
 use Rattle.std.specs.Prelude.{◌≡◌, ◌%◌, ℕ, List, [], length}
 use Rattle.std.specs.Borrow.{GName}
 use Rattle.asn_window.specs.declared.window.Window.{Window}
-use Rattle.asn_window.specs.Held.{Held}
+use Rattle.asn_rules.specs.Held.{Held}
 use Rattle.asn_sinks.specs.Sink.{Context}
 use Rattle.asn_window.specs.WindowStart.{Start}
 use Rattle.asn_window.specs.Windows.{WindowStands}

@@ -4,7 +4,7 @@ use Rattle.asn_sinks.specs.Sink.{Context}
 use Rattle.asn_window.specs.declared.window.Window.{Window}
 use Rattle.asn_window.specs.BitWriters.{BitsStand}
 use Rattle.asn_window.specs.Fragmented.{Comes}
-use Rattle.asn_window.specs.Held.{Held}
+use Rattle.asn_rules.specs.Held.{Held}
 use Rattle.asn_window.specs.WindowStart.{Start}
 
 -- there are no bits

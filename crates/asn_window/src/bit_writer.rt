@@ -1,12 +1,12 @@
 //! Bits before a writer.
 ghost use Rattle.std.specs.Prelude.{◌≡◌, ◌<◌, ◌≤◌, ◌^◌, ◌++◌, ◌%◌, ℕ, List, [], length, OnOk, IfErr};
 ghost use Rattle.asn_bits.specs.Numbers.{bits, unpacked};
-ghost use Rattle.asn_window.specs.Held.{Held};
+ghost use Rattle.asn_rules.specs.Held.{Held};
 
 use crate::octet_writer::OctetWriter;
-use crate::output::Output;
 use crate::shifted::put_shifted;
 use asn_bits::internal::{full_word, shift_in};
+use asn_rules::Output;
 
 /// Octets that wait before a writer, and after them fewer than 64 bits.
 #[derive(Drop)]

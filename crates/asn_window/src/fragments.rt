@@ -7,8 +7,8 @@ ghost use Rattle.asn_window.specs.BeginsAt.{BeginsAt};
 ghost use Rattle.asn_window.specs.Fragmented.{TakesAt, IsSameFrom, IsPassed, HasRoom, next_left};
 
 use crate::bit_writer::BitWriter;
-use crate::output::Output;
 use asn_bits::internal::{next_length, octet_count};
+use asn_rules::Output;
 use asn_values::profile::BLOCK;
 
 /// Where the open type fields around stand in their fragments, the outermost first. An open type field begins anywhere

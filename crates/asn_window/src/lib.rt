@@ -3,11 +3,11 @@
 
 mod bit_writer;
 mod buffer;
+mod filling;
 mod fragments;
 mod octet_writer;
-mod output;
 mod shifted;
 mod window;
 
-pub use output::{Filling, Output};
+pub use filling::Filling;
 pub use window::{Phase, Window};

@@ -1,13 +1,11 @@
 //! Octets before a writer.
-ghost use Rattle.std.specs.Prelude.{◌≡◌, ◌+◌, ◌*◌, ◌<◌, ◌≤◌, [], length, take, drop};
-ghost use Rattle.std.specs.List.{AllByRecursion};
-ghost use Rattle.std.specs.Io.KnownBytes.{Appends};
-ghost use Rattle.asn_bits.specs.Numbers.{bits, octets, unpacked};
-ghost use Rattle.asn_rules.specs.Faults.{Rose};
+ghost use Rattle.std.specs.Prelude.{◌≡◌, ◌+◌, ◌*◌, ◌≤◌, [], length};
+ghost use Rattle.asn_bits.specs.Numbers.{bits, unpacked};
 ghost use Rattle.asn_window.specs.OctetWriters.{TakesWhole};
 
 use crate::buffer::Buffer;
-use crate::output::Output;
+use asn_rules::Output;
+use asn_rules::laws::are_octets;
 
 /// Octets that wait before a writer, and how many it has taken. After a fault of the writer nothing is written any
 /// more, and what comes is let go.
@@ -18,36 +16,6 @@ pub struct OctetWriter {
     pub sent: u64,
     /// whether a write failed
     pub failed: bool,
-}
-
-/// Writes the octets, and gives how many were written: fewer after a fault alone. A write that failed is not tried
-/// again.
-fn write_many<O: Output>(octets: &[u8], output: &mut O) -> usize
-    ensures few { result ≤ length octets.now }
-    ensures octets { AllByRecursion (λ o. o < 256) octets.now }
-    ensures written { Appends (O.held output.old).octets (O.held output.new).octets
-        (take result octets.now) }
-    ensures fault { result < length octets.now → Rose (O.held output.old).faults (O.held output.new).faults }
-    ensures same { result ≡ length octets.now → (O.held output.new).faults ≡ (O.held output.old).faults }
-    ensures slice { (O.held output.new).slice ≡ (O.held output.old).slice }
-{
-    let mut done = 0;
-    while done < octets.len() {
-        let count = output.take_some(after(octets, done));
-        if count == 0 {
-            return done;
-        }
-        done += count;
-    }
-    done
-}
-
-/// The octets after the first `count`.
-fn after(octets: &[u8], count: usize) -> &[u8]
-    requires { count ≤ length octets.now }
-    ensures { result.now ≡ drop count octets.now }
-{
-    &octets[count..]
 }
 
 impl OctetWriter {
@@ -61,7 +29,8 @@ impl OctetWriter {
             self.buffer.clear();
             return;
         }
-        let many = write_many(self.buffer.as_slice(), output);
+        are_octets(self.buffer.as_slice());
+        let many = output.append(self.buffer.as_slice());
         self.sent = self.sent.saturating_add(many as u64);
         self.failed = many < self.buffer.len();
         self.buffer.clear();

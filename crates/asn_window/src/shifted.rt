@@ -4,8 +4,8 @@ ghost use Rattle.asn_bits.specs.Numbers.{unpacked};
 ghost use Rattle.asn_window.specs.OctetWriters.{TakesAfter};
 
 use crate::octet_writer::OctetWriter;
-use crate::output::Output;
 use asn_bits::internal::full_word;
+use asn_rules::Output;
 
 /// Adds octets after the low `count` bits of `pending`, a word of eight at once, and gives in whose low `count` bits
 /// what is left over stands.

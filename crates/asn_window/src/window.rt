@@ -7,7 +7,7 @@ use crate::bit_writer::BitWriter;
 use crate::buffer::Buffer;
 use crate::fragments::{Fragments, begin_general, begin_single, put_at, put_octets_at, room_at};
 use crate::octet_writer::OctetWriter;
-use crate::output::Output;
+use asn_rules::Output;
 use asn_sinks::{Framing, Sink};
 use std::convert::Infallible;
 

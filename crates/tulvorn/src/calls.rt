@@ -43,7 +43,7 @@ pub fn encode_to<R: Rules, W: Write>(
     ensures fault { IfErr result (λ why. NotDelivered R.ruling why (shape_of ty.now) (datum_of value.now)
         (output.new ≡ output.old) (state_of W.contents output.old) (state_of W.contents output.new)) }
 {
-    R::encode_to(ty, value, output)
+    R::encode_to::<Counted<W>>(ty, value, output)
 }
 
 /// Reads the octets as a message of some version of the type: see `ReadNewer::read_newer`.

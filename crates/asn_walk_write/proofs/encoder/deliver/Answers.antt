@@ -5,7 +5,7 @@ use Rattle.asn_values.specs.View.{shape_of, datum_of}
 use Rattle.asn_bits.specs.Numbers.{unpacked}
 use Rattle.asn_bits.proofs.Splits.{length-unpacked}
 use Rattle.asn_rules.specs.Answer.{max_octets}
-use Rattle.asn_window.specs.Held.{Held}
+use Rattle.asn_rules.specs.Held.{Held}
 use Rattle.asn_window.specs.Written.{Wrote, Broke}
 use Rattle.asn_window.specs.WindowEnds.{start_of}
 use Rattle.asn_window.specs.Windows.{WindowStands}

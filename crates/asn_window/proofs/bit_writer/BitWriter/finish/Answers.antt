@@ -13,7 +13,7 @@ returns-then-self-clause-err g c start all told =
     let s = c.args.self.now in
     let left = bits (s.count % 8) s.pending in
     let d = c.send.ensures.told start (left ++ []) all (c.put_low.ensures start (left ++ []) all (stands_same s.octets (whole_out s.count s.pending []) told)) in
-    record { octets = d.octets; are_octets = d.are_octets; rest = d.rest; appended = d.appended; begins = d.whole; many = d.many; fault = d.fault c.if-self.true; slice = d.slice }
+    record { octets = d.octets; are_octets = d.are_octets; rest = d.rest; appended = d.appended; begins = d.whole; many = d.many; fault = d.fault c.if-self.true; through = d.through }
 
 pub returns-clause-ok : goal.returns-clause-ok
 returns-clause-ok g c start all whole told =
@@ -35,5 +35,5 @@ returns-clause-ok g c start all whole told =
       appended = d.appended;
       whole = sym (append-nil (unpacked d.octets)) ∙ ap (λ t. unpacked d.octets ++ t) (sym nothing) ∙ d.whole;
       faults = d.same good;
-      slice = d.slice;
+      through = d.through;
     }

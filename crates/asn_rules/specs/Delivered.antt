@@ -8,10 +8,12 @@ use Rattle.asn_rules.specs.declared.fault.EncodeToFault.{EncodeToFault}
 use Rattle.asn_rules.specs.declared.fault.EncodeToFault.TheVariants as encode
 use Rattle.asn_rules.specs.Answer.{Ruling, IsEncoding, max_octets}
 use Rattle.asn_rules.specs.Faults.{State, Rose}
+use Rattle.asn_rules.specs.Laws.{AreOctets}
 
 -- the encoding of the value v of the type t was written, and there was no fault
 pub record Encoded (r : Ruling) (t : Shape) (v : Datum) (old new : State) : Type 0 where
   pub octets : List ℕ
+  pub are_octets : AreOctets octets
   pub encoding : IsEncoding r t v octets
   pub within : length octets ≤ max_octets
   pub appended : Appends old.octets new.octets octets
@@ -21,6 +23,7 @@ pub record Encoded (r : Ruling) (t : Shape) (v : Datum) (old new : State) : Type
 pub record Interrupted (r : Ruling) (t : Shape) (v : Datum) (sent : ℕ) (old new : State) : Type 0 where
   pub octets : List ℕ
   pub rest : List ℕ
+  pub are_octets : AreOctets (octets ++ rest)
   pub encoding : IsEncoding r t v (octets ++ rest)
   pub within : length (octets ++ rest) ≤ max_octets
   pub appended : Appends old.octets new.octets octets

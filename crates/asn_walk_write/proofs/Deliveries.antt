@@ -55,6 +55,7 @@ module _ {c : Coding} (laws : WriteLaws c) (t : Shape) (v : Datum) (good : InPro
       let same : w.octets ≡ c.complete (c.code t v) = sym (packed_again w.octets w.are_octets) ∙ ap packed w.whole ∙ packed_again (c.complete (c.code t v)) octets in
       record {
         octets = w.octets;
+        are_octets = w.are_octets;
         encoding = is_encoding laws t v w.octets good fits same;
         within = subst (λ (l : List ℕ). length l ≤ max_octets) (sym same) few;
         appended = w.appended;
@@ -69,6 +70,7 @@ module _ {c : Coding} (laws : WriteLaws c) (t : Shape) (v : Datum) (good : InPro
       record {
         octets = w.octets;
         rest = more.0;
+        are_octets = subst (λ (l : List ℕ). AllByRecursion (λ o. o < 256) l) more.1 octets;
         encoding = is_encoding laws t v (w.octets ++ more.0) good fits (sym more.1);
         within = subst (λ (l : List ℕ). length l ≤ max_octets) more.1 few;
         appended = w.appended;

@@ -29,8 +29,9 @@ impl OctetWriter {
             self.buffer.clear();
             return;
         }
-        are_octets(self.buffer.as_slice());
-        let many = output.append(self.buffer.as_slice());
+        let waiting = self.buffer.as_slice();
+        are_octets(waiting);
+        let many = output.append(waiting);
         self.sent = self.sent.saturating_add(many as u64);
         self.failed = many < self.buffer.len();
         self.buffer.clear();

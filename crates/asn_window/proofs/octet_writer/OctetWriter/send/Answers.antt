@@ -11,13 +11,13 @@ pub returns-clause-told : goal.returns-clause-told
 returns-clause-told g c start coming all told =
     let w = c.args.self.now.buffer in
     let many = c.append-many.result in
-    let octets : c.as_slice.result.now ≡ w = c.as_slice.ensures in
-    let long : length c.as_slice.result.now ≡ length w = ap length octets in
+    let octets : c.as_slice-waiting.result.now ≡ w = c.as_slice-waiting.ensures in
+    let long : length c.as_slice-waiting.result.now ≡ length w = ap length octets in
     let count : c.len.result ≡ length w = c.len.ensures in
     let wrote = c.append-many.ensures in
-    let done = written_on {next = g.O.Output.held c.append-many.new.output} {more = c.saturating_add-self.result} {failed = nat_lt many c.len.result} w many c.if-self.false (subst (λ (xs : List ℕ). AllByRecursion (λ o. o < 256) xs) octets c.are_octets.ensures) told
+    let done = written_on {next = g.O.Output.held c.append-many.new.self} {more = c.saturating_add-self.result} {failed = nat_lt many c.len.result} w many c.if-self.false (subst (λ (xs : List ℕ). AllByRecursion (λ o. o < 256) xs) octets c.are_octets.ensures) told
     (omega (arith, wrote.few, long))
-    (subst (λ (xs : List ℕ). Appends ((g.O.Output.held c.args.output.now).octets) ((g.O.Output.held c.append-many.new.output).octets) (take many xs)) octets wrote.written)
+    (subst (λ (xs : List ℕ). Appends ((g.O.Output.held c.args.output.now).octets) ((g.O.Output.held c.append-many.new.self).octets) (take many xs)) octets wrote.written)
     c.saturating_add-self.ensures
     (λ e. omega (arith, ltb-true many c.len.result e, count))
     (λ e. omega (arith, ltb-false many c.len.result e, count))

@@ -1,6 +1,9 @@
 pub mod Converting
+pub mod HexDigits
 pub mod Lines
 pub mod Modules
 pub mod PlainJson
+pub mod Putting
+pub mod Replying
 pub mod Skipping
 pub mod Told

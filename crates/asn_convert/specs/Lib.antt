@@ -1,6 +1,9 @@
 pub mod Answers
 pub mod Converted
+pub mod HexHeld
 pub mod Lines
 pub mod Named
 pub mod Parts
+pub mod Put
+pub mod Replies
 pub mod Text

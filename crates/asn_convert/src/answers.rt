@@ -7,44 +7,43 @@ ghost use Rattle.serde_json.specs.Written.{compact_text};
 ghost use Rattle.asn_values.specs.Received.{FitsReceived};
 ghost use Rattle.asn_values.specs.View.{shape_of, datum_of};
 ghost use Rattle.asn_json.specs.Written.{json_of};
-ghost use Rattle.asn_convert.specs.Answers.{AnswersShow, AnswersCheck, AnswersConvert, AnswersJson, AnswersValue, IsJson};
-ghost use Rattle.asn_convert.specs.Parts.{LineAnswer};
+ghost use Rattle.asn_convert.specs.Answers.{AnswersShow, AnswersCheck, IsJson};
+ghost use Rattle.asn_convert.specs.Replies.{LineReply, RepliesConvert, RepliesJson, RepliesValue};
 
-use crate::conversion::{ConvertFault, convert};
 use crate::job::{Order, RuleName};
 use crate::newer::newer_octets;
-use crate::texts::{Answer, decode_refusal, json_refusal, refusal};
+use crate::texts::{Answer, Reply, decode_refusal, json_refusal, refusal};
 use asn_json::{from_json, to_json};
 use asn_newer::ReadNewer;
 use asn_rules::laws::are_octets;
-use asn_rules::{EncodeFault, Rules, decode};
+use asn_rules::{Rules, decode};
 use asn_values::{Checked, Value};
 use serde_json::Value as Json;
 use std::alloc::{AllocError, Global};
 
-/// The answer to one line.
+/// What is answered to one line.
 pub(crate) fn answer_to<A: ReadNewer, B: Rules>(
     alloc: Global,
     ty: &Checked,
     order: Order,
     rules: RuleName,
     line: &[u8],
-) -> Result<Answer, AllocError>
-    ensures { IfOk result (λ a.
-        LineAnswer A.ruling B.ruling A.loose rules order ty.now line.now a.is_good (string_bytes a.text)) }
+) -> Result<Reply, AllocError>
+    ensures { IfOk result (LineReply A.ruling B.ruling A.loose rules order ty.now line.now) }
 {
     if let Order::Encode = order {
-        return answer_json::<A>(alloc, ty, line);
+        return answer_json(alloc, ty, line);
     }
     let octets = match octets_in(alloc, line)? {
         Some(octets) => octets,
-        None => return refusal(alloc, "! hex"),
+        None => return Ok(Reply::Text(refusal(alloc, "! hex")?)),
     };
+    let octets = octets.as_slice();
     match order {
-        Order::Show => show_octets::<A>(alloc, ty, rules, octets.as_slice()),
-        Order::Check => check_octets::<A>(alloc, ty, rules, octets.as_slice()),
-        Order::Convert => convert_octets::<A, B>(alloc, ty, rules, octets.as_slice()),
-        Order::Newer => newer_octets::<A>(alloc, ty, octets.as_slice()),
+        Order::Show => Ok(Reply::Text(show_octets::<A>(alloc, ty, rules, octets)?)),
+        Order::Check => Ok(Reply::Text(check_octets::<A>(alloc, ty, rules, octets)?)),
+        Order::Convert => convert_octets::<A>(alloc, ty, rules, octets),
+        Order::Newer => Ok(Reply::Text(newer_octets::<A>(alloc, ty, octets)?)),
         Order::Encode => unreachable!(),
     }
 }
@@ -120,37 +119,29 @@ fn check_octets<A: Rules>(
     }
 }
 
-/// The octets of the same value by the other rules.
-fn convert_octets<A: Rules, B: Rules>(
+/// The value that the octets encode, whose octets by the other rules are the answer.
+fn convert_octets<A: Rules>(
     alloc: Global,
     ty: &Checked,
     rules: RuleName,
     octets: &[u8],
-) -> Result<Answer, AllocError>
-    ensures { IfOk result (λ a. AnswersConvert A.ruling B.ruling rules (shape_of ty.now) octets.now
-        (string_bytes a.text) a.is_good) }
+) -> Result<Reply, AllocError>
+    ensures { IfOk result (RepliesConvert A.ruling rules (shape_of ty.now) octets.now) }
 {
-    match convert::<A, B>(alloc, ty, octets) {
-        Ok(other) => {
-            let text = hex::encode(alloc, other.as_slice())?;
-            Ok(Answer {
-                text,
-                is_good: true,
-            })
-        }
-        Err(ConvertFault::Read(fault)) => decode_refusal(alloc, rules, fault),
-        Err(ConvertFault::TooLong) => refusal(alloc, "! too long"),
-        Err(ConvertFault::Memory) => Err(AllocError),
+    are_octets(octets);
+    match decode::<A>(alloc, ty, octets) {
+        Ok(value) => Ok(Reply::Converted(value)),
+        Err(fault) => Ok(Reply::Text(decode_refusal(alloc, rules, fault)?)),
     }
 }
 
-/// The octets of the value that a line of JSON shows.
-fn answer_json<A: Rules>(alloc: Global, ty: &Checked, line: &[u8]) -> Result<Answer, AllocError>
-    ensures { IfOk result (λ a. AnswersJson A.ruling (shape_of ty.now) line.now (string_bytes a.text) a.is_good) }
+/// The value that a line of JSON shows, whose octets are the answer.
+fn answer_json(alloc: Global, ty: &Checked, line: &[u8]) -> Result<Reply, AllocError>
+    ensures { IfOk result (RepliesJson (shape_of ty.now) line.now) }
 {
     match json_in(alloc, line)? {
-        Some(json) => encode_json::<A>(alloc, ty, &json),
-        None => refusal(alloc, "! json"),
+        Some(json) => encode_json(alloc, ty, &json),
+        None => Ok(Reply::Text(refusal(alloc, "! json")?)),
     }
 }
 
@@ -170,26 +161,12 @@ fn json_in(alloc: Global, line: &[u8]) -> Result<Option<Json>, AllocError>
     }
 }
 
-/// The octets of the value that JSON shows.
-fn encode_json<A: Rules>(alloc: Global, ty: &Checked, json: &Json) -> Result<Answer, AllocError>
-    ensures { IfOk result (λ a. AnswersValue A.ruling (shape_of ty.now) (view json.now)
-        (string_bytes a.text) a.is_good) }
+/// The value that JSON shows.
+fn encode_json(alloc: Global, ty: &Checked, json: &Json) -> Result<Reply, AllocError>
+    ensures { IfOk result (RepliesValue (shape_of ty.now) (view json.now)) }
 {
-    let value = match from_json(alloc, ty, json) {
-        Ok(value) => value,
-        Err(fault) => return json_refusal(alloc, &fault),
-    };
-    match A::encode(alloc, ty, &value) {
-        Ok(octets) => {
-            are_octets(octets.as_slice());
-            let text = hex::encode(alloc, octets.as_slice())?;
-            Ok(Answer {
-                text,
-                is_good: true,
-            })
-        }
-        Err(EncodeFault::TooLong) => refusal(alloc, "! too long"),
-        Err(EncodeFault::Memory) => Err(AllocError),
-        Err(EncodeFault::NotOfType) => unreachable!(),
+    match from_json(alloc, ty, json) {
+        Ok(value) => Ok(Reply::Encoded(value)),
+        Err(fault) => Ok(Reply::Text(json_refusal(alloc, &fault)?)),
     }
 }

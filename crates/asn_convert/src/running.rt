@@ -3,13 +3,14 @@ ghost use Rattle.std.specs.Prelude.{◌≡◌, ◌≢◌, IfOk, IfErr, OnOk, str
 ghost use Rattle.asn_module.specs.ModuleView.{types_view};
 ghost use Rattle.asn_module.specs.declared.fault.ModuleFault.{ModuleFault};
 ghost use Rattle.asn_convert.specs.Parts.{Wrote, Broke, JobTold, JobBegun, ModuleTold, ModuleBegun, LinesTold, LinesBegun, LineTold, LineBegun, RanBy, FailedBy};
-ghost use Rattle.asn_convert.specs.Text.{IsFront, IsModule, IsRefusal};
+ghost use Rattle.asn_convert.specs.Text.{IsModule, IsRefusal};
 
 use crate::answers::answer_to;
 use crate::cut::{cut_input, next_line};
 use crate::job::{Job, Order, RuleName, RunFault, Status};
+use crate::put::{put, put_answer, put_octets};
 use crate::reading::read_all;
-use crate::texts::Answer;
+use crate::texts::Reply;
 use asn_module::{Module, ModuleFault, read};
 use asn_newer::ReadNewer;
 use asn_rules::{Counted, Rules};
@@ -170,7 +171,7 @@ fn answer_lines<A: ReadNewer, B: Rules, W: Write>(
     Ok(all_good)
 }
 
-/// Answers one line, and tells whether the answer is no refusal. The answer is let go at the end.
+/// Answers one line, and tells whether the answer is no refusal. What is answered is let go at the end.
 fn answer_line<A: ReadNewer, B: Rules, W: Write>(
     alloc: Global,
     output: &mut Counted<W>,
@@ -184,22 +185,9 @@ fn answer_line<A: ReadNewer, B: Rules, W: Write>(
     ensures begun { Broke result W.contents output.old output.new
         (LineBegun A.ruling B.ruling A.loose rules order ty.now line.now) }
 {
-    let Answer {
-        text: mut text,
-        is_good,
-    } = answer_to::<A, B>(alloc, ty, order, rules, line)?;
-    text.push_str("\n")?;
-    put(output, text.as_str())?;
-    Ok(is_good)
-}
-
-/// Writes the text.
-fn put<W: Write>(output: &mut Counted<W>, text: &str) -> Result<(), RunFault>
-    ensures ok { Wrote result W.contents output.old output.new (λ _ out. out ≡ text.now) }
-    ensures err { Broke result W.contents output.old output.new (λ out. IsFront out text.now) }
-{
-    match output.write_all(text.as_bytes()) {
-        Ok(()) => Ok(()),
-        Err(_) => Err(RunFault::Write),
+    match answer_to::<A, B>(alloc, ty, order, rules, line)? {
+        Reply::Text(answer) => put_answer(output, answer),
+        Reply::Encoded(value) => put_octets::<A, W>(output, ty, &value),
+        Reply::Converted(value) => put_octets::<B, W>(output, ty, &value),
     }
 }

@@ -6,6 +6,7 @@ use crate::job::RuleName;
 use asn_json::JsonFault;
 use asn_newer::NewerFault;
 use asn_rules::{DecodeFault, Unit};
+use asn_values::Value;
 use std::alloc::{AllocError, Global};
 
 /// What is written for a line, without its LF.
@@ -15,6 +16,17 @@ pub(crate) struct Answer {
     pub text: String,
     /// Whether it is no refusal.
     pub is_good: bool,
+}
+
+/// What is answered to a line.
+#[derive(Drop)]
+pub(crate) enum Reply {
+    /// This text.
+    Text(Answer),
+    /// The octets of this value in hexadecimal, by the rules of the octets of the job.
+    Encoded(Value),
+    /// The octets of this value in hexadecimal, by the rules that the job converts to.
+    Converted(Value),
 }
 
 /// A refusal in these words.

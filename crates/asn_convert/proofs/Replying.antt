@@ -1,0 +1,37 @@
+-- What is answered to a line, from what is answered to its octets or its JSON.
+use Rattle.std.proofs.Common.{◌≡◌, ℕ, Bool, true, false, List, refl, sym, subst, inl, inr, Ok}
+use Rattle.std.specs.Prelude.{string_bytes}
+use Rattle.hex.specs.Hex.{decode_of}
+use Rattle.asn_values.specs.View.{shape_of, datum_of}
+use Rattle.asn_values.specs.declared.types.AsnType.{AsnType}
+use Rattle.asn_rules.specs.Answer.{Ruling}
+use Rattle.asn_newer.specs.Loose.{LooseCoding}
+use Rattle.asn_convert.specs.Parts.{LineAnswer}
+use Rattle.asn_convert.specs.Replies.{LineReply, RepliesConvert, RepliesJson}
+use Rattle.asn_convert.specs.declared.job.Order.TheVariants as order
+use Rattle.asn_convert.specs.declared.job.RuleName.{RuleName}
+use Rattle.asn_convert.specs.declared.texts.Reply.{Reply}
+use Rattle.asn_convert.specs.declared.texts.Reply.TheVariants as reply
+
+module _ (a b : Ruling) (l : LooseCoding) (name : RuleName) (t : AsnType) (line : List ℕ) where
+  pub convert_reply : (octets : List ℕ) (r : Reply) → decode_of line ≡ Ok octets → RepliesConvert a name (shape_of t) octets r → LineReply a b l name order.Convert t line r
+  convert_reply octets (reply.Text answer) is p =
+      subst (λ good. LineAnswer a b l name order.Convert t line good (string_bytes answer.text)) (sym p.1) (inr (octets, is, inl p.0))
+  convert_reply octets (reply.Encoded v) is p = absurd p
+  convert_reply octets (reply.Converted v) is p = record {
+    fits = p.encoding.0;
+    octets = λ o e. inr (octets, is, (o, (datum_of v, p, e), refl));
+    too_long = λ h. inr (octets, is, inr (datum_of v, p, h, refl));
+  }
+
+  pub json_reply : (r : Reply) → RepliesJson (shape_of t) line r → LineReply a b l name order.Encode t line r
+  json_reply (reply.Text answer) (inl none, bad) =
+      subst (λ good. LineAnswer a b l name order.Encode t line good (string_bytes answer.text)) (sym bad) (inl (none.0, none.1, refl))
+  json_reply (reply.Text answer) (inr (j, is, not_shown), bad) =
+      subst (λ good. LineAnswer a b l name order.Encode t line good (string_bytes answer.text)) (sym bad) (inr (j, is, inl not_shown))
+  json_reply (reply.Encoded v) (j, is, shown, fits) = record {
+    fits = fits;
+    octets = λ o e. inr (j, is, (datum_of v, o, shown, e, refl));
+    too_long = λ h. inr (j, is, inr (datum_of v, shown, fits, h, refl));
+  }
+  json_reply (reply.Converted v) p = absurd p

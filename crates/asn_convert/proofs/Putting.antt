@@ -1,6 +1,6 @@
 -- What is written of an answer, put together.
-use Rattle.std.proofs.Common.{◌≡◌, ◌<◌, ◌++◌, ◌^◌, ◌-◌, ◌==◌, ◌&&◌, ℕ, zero, suc, Bool, true, false, List, [], ◌∷◌, refl, sym, ap, ◌∙◌, subst, append_assoc, append-nil, arith, Option, None}
-use Rattle.std.specs.Prelude.{codes}
+use Rattle.std.proofs.Common.{◌≡◌, ◌<◌, ◌++◌, ◌^◌, ◌-◌, ◌==◌, ◌&&◌, ℕ, zero, suc, Bool, true, false, List, [], ◌∷◌, refl, sym, ap, ◌∙◌, subst, append_assoc, append-nil, arith, Option, None, Some, true≢false}
+use Rattle.std.specs.Prelude.{codes, is_some, not}
 use Rattle.std.specs.List.{AllByRecursion}
 use Rattle.std.specs.Borrow.{GName}
 use Rattle.std.specs.Io.KnownBytes.{Appends}
@@ -10,13 +10,15 @@ use Rattle.asn_values.specs.Shape.{Shape}
 use Rattle.asn_rules.specs.Answer.{Ruling}
 use Rattle.asn_rules.specs.Faults.{State, Rose, inner_of, faults_of, state_of}
 use Rattle.asn_rules.specs.Held.{state_held}
-use Rattle.asn_rules.specs.Delivered.{Interrupted}
+use Rattle.asn_rules.specs.Delivered.{Interrupted, NotDelivered}
 use Rattle.asn_rules.specs.Delivered as delivered
 use Rattle.asn_rules.specs.CodecLaws.{Encoded}
 use Rattle.asn_rules.specs.declared.counting.Counted.{Counted}
 use Rattle.asn_rules.proofs.Known.{appends_twice}
 use Rattle.asn_convert.specs.HexHeld.{held_as_digits}
-use Rattle.asn_convert.specs.Put.{Digits, DigitsTold, DigitsBegun, OctetsTold, OctetsBegun, IsWriteFault}
+use Rattle.asn_rules.specs.declared.fault.EncodeToFault.{EncodeToFault}
+use Rattle.asn_rules.specs.declared.fault.EncodeToFault.TheVariants as encode
+use Rattle.asn_convert.specs.Put.{Digits, NoDigits, DigitsTold, DigitsBegun, OctetsTold, OctetsBegun, IsWriteFault}
 use Rattle.asn_convert.specs.Text.{Writes, Stops, IsFront, ended}
 use Rattle.asn_convert.specs.declared.job.RunFault.{RunFault}
 use Rattle.asn_convert.specs.declared.job.RunFault.TheVariants as fault
@@ -63,6 +65,25 @@ module _ {W : Type 0} (contents : W → Option (List ℕ)) (r : Ruling) (t : Sha
           whole = sym (append_assoc a.0 a.1 (encode_lower e.rest)) ∙ ap (λ xs. xs ++ encode_lower e.rest) a.3 ∙ sym (encode_append e.octets e.rest);
         },
       )
+
+  pub not_given : (why : EncodeToFault) (untouched same : Type 0)
+      → NotDelivered r why t v untouched (state_held (held_as_digits contents first old 0 None 0)) (state_held (held_as_digits contents last new count half faults))
+      → (untouched → same) → NoDigits r t v why same (state_of contents old) (state_of contents new)
+  not_given encode.NotOfType untouched same d keeps = d.0
+  not_given encode.TooLong untouched same d keeps = (d.1, keeps d.2)
+  not_given (encode.Write sent) untouched same d keeps = given_in_part sent d
+
+pub no_half : (half : Option ℕ) (is_none : Bool) → is_some half ≡ not is_none → is_none ≡ true → half ≡ None
+no_half None is_none test e = refl
+no_half (Some o) is_none test e = absurd (true≢false (test ∙ ap not e))
+
+-- it is the writer that was given
+abbrev name_or : GName → Option GName → GName
+name_or name None = name
+name_or name (Some other) = other
+
+pub same_name : (a b : GName) → Some a ≡ Some b → a ≡ b
+same_name a b e = ap (name_or a) e
 
 -- ---- digits alone
 

@@ -116,6 +116,8 @@ fn give_digits<R: Rules, W: Write>(
         (state_of W.contents output.old) (state_of W.contents output.new) }
 {
     let mut digits = HexWriter::over(output);
-    R::encode_to(ty, value, &mut digits)?;
-    Ok(digits.half.is_none())
+    match R::encode_to(ty, value, &mut digits) {
+        Ok(()) => Ok(digits.half.is_none()),
+        Err(why) => Err(why),
+    }
 }

@@ -72,11 +72,16 @@ impl BitSink {
         })
     }
 
-    /// No bits, and later pushes take their memory from where this sink takes its own. It allocates nothing.
+    /// No bits, with room for a short message, which the first push asks for again where this allocation failed. Memory
+    /// comes from where this sink takes its own.
     pub fn another(&self) -> BitSink
         ensures { result ≡ [] }
     {
-        BitSink::new(*self.octets.allocator())
+        let alloc = *self.octets.allocator();
+        match BitSink::with_room(alloc) {
+            Ok(sink) => sink,
+            Err(_) => BitSink::new(alloc),
+        }
     }
 
     /// Whether no bit was pushed.

@@ -14,7 +14,7 @@ fn push_single_length(count: u64, sink: &mut BitSink) -> Result<(), AllocError>
     ensures { OnOk result (sink.new ≡ sink.old ++ unpacked (octet_length count)) }
 {
     if count < 128 {
-        return sink.push_number(8, count);
+        return sink.push_low_octets(1, count);
     }
     let octets = octet_count(count);
     sink.push_number(8, 128 + octets as u64)?;
@@ -56,6 +56,7 @@ impl Sink for BitSink {
         self.pad()
     }
 
+    #[inline(always)]
     fn begin_field(
         &mut self,
         framing: Framing,
@@ -66,6 +67,7 @@ impl Sink for BitSink {
         Ok(mem::replace(self, content))
     }
 
+    #[inline(always)]
     fn end_field(&mut self, outer: BitSink, framing: Framing) -> Result<(), AllocError> {
         let mut content = mem::replace(self, outer);
         content.pad()?;
@@ -74,7 +76,7 @@ impl Sink for BitSink {
             Framing::General => BitSink::push_general_octets(self, octets.as_slice()),
             Framing::Single => {
                 push_single_length(octets.len() as u64, self)?;
-                BitSink::push_octets(self, octets.as_slice())
+                BitSink::push_row(self, octets.as_slice())
             }
         }
     }

@@ -14,5 +14,5 @@ returns c =
     let old = c.args.sink.now in
     let e : unpacked (octet_length n) ≡ bits 8 (128 + k) ++ bits (8 * k) n =
     ap unpacked (large_is n k (omega (arith, c.if-count-lt128.false)) (sym c.octet_count-octets.ensures.count)) ∙ ap (λ t. bits 8 (128 + k) ++ t) (unpacked-octets k n) in
-    on_ok c.push_number-3.result (λ pushed.
-    pushed ∙ ap (λ t. t ++ bits (8 * k) n) c.in_ok-push_number.ensures.ok ∙ append_assoc old (bits 8 (128 + k)) (bits (8 * k) n) ∙ ap (λ t. old ++ t) (sym e)) c.push_number-3.ensures.ok
+    on_ok c.push_number-2.result (λ pushed.
+    pushed ∙ ap (λ t. t ++ bits (8 * k) n) c.in_ok-push_number.ensures.ok ∙ append_assoc old (bits 8 (128 + k)) (bits (8 * k) n) ∙ ap (λ t. old ++ t) (sym e)) c.push_number-2.ensures.ok

@@ -37,7 +37,7 @@ returns-in-General c = on_ok c.push_general_octets.result (λ pushed at sofar os
     pushed ∙ ap (λ (xs : List ℕ). c.replace-content.new.dest ++ general_octets (λ u. u) xs) slice ∙ ap (λ t. t ++ general_octets (λ u. u) os) outer ∙ ap (λ t. sofar ++ t) (sym framing)) c.push_general_octets.ensures.ok
 
 pub returns : goal.returns
-returns c = on_ok c.push_octets.result (λ pushed at sofar os next octets kept told.
+returns c = on_ok c.push_row.result (λ pushed at sofar os next octets kept told.
     let dest = c.replace-content.new.dest in
     let content : c.replace-content.result ≡ unpacked os = c.replace-content.ensures.value ∙ told in
     let outer : dest ≡ sofar = c.replace-content.ensures.after ∙ kept in
@@ -50,4 +50,4 @@ returns c = on_ok c.push_octets.result (λ pushed at sofar os next octets kept t
     let framing = subst (λ f. framed f os ≡ unpacked (octet_length (length os)) ++ unpacked os) (sym c.in-Single.is) refl in
     pushed ∙ ap (λ (xs : List ℕ). c.push_single_length.new.sink ++ unpacked xs) slice ∙ ap (λ t. t ++ unpacked os) told_length
     ∙ append_assoc dest (unpacked (octet_length (length os))) (unpacked os) ∙ ap (λ (t : List ℕ). t ++ (unpacked (octet_length (length os)) ++ unpacked os)) outer
-    ∙ ap (λ t. sofar ++ t) (sym framing)) c.push_octets.ensures.ok
+    ∙ ap (λ t. sofar ++ t) (sym framing)) c.push_row.ensures.ok

@@ -16,6 +16,7 @@ pub use Rattle.asn_rules.specs.Codec
 pub use Rattle.asn_rules.specs.Laws
 pub use Rattle.asn_rules.specs.CodecLaws
 pub use Rattle.asn_rules.specs.Delivered
+pub use Rattle.asn_rules.specs.Measured
 pub use Rattle.asn_rules.specs.Faults
 pub use Rattle.asn_rules.specs.Sessions
 pub use Rattle.asn_rules.specs.Streams

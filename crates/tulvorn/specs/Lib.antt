@@ -25,6 +25,7 @@ pub use Rattle.asn_per.specs.Rules as PerRules
 pub use Rattle.asn_oer.specs.Rules as OerRules
 -- where octets are no message, other versions, conversion
 pub use Rattle.asn_explain.specs.Explains
+pub use Rattle.asn_explain.specs.Texts
 pub use Rattle.asn_newer.specs.Loose
 pub use Rattle.asn_newer.specs.Reading as NewerReading
 pub use Rattle.asn_convert.specs.Converted

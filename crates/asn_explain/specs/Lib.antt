@@ -1,2 +1,3 @@
 pub mod Explains
 pub mod Places
+pub mod Texts

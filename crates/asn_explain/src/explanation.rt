@@ -1,7 +1,9 @@
 //! A fault of a message beside the component in which it lies.
-ghost use Rattle.std.specs.Prelude.{◌≡◌, IfOk};
+ghost use Rattle.std.specs.Prelude.{◌≡◌, IfOk, string_bytes};
+ghost use Rattle.std.specs.Fmt.{WritesOnOk};
 ghost use Rattle.asn_values.specs.View.{shape_of};
 ghost use Rattle.asn_explain.specs.Explains.{Explains};
+ghost use Rattle.asn_explain.specs.Texts.{text_in};
 
 use crate::finding::path_to_stop;
 use asn_rules::{DecodeFault, Rules, Unit, decode};
@@ -76,12 +78,22 @@ impl Explanation {
 }
 
 impl fmt::Display for Counted<'_> {
+    ghost use Rattle.std.specs.Prelude.{Some};
+    ghost use Rattle.asn_rules.specs.Reasons.{name_of_unit};
+
+    ghost output = { λ told. Some (text_in (name_of_unit told.unit)
+        (string_bytes told.explanation.now.path) told.explanation.now.fault) };
+
     fn fmt<W: fmt::Write>(&self, f: &mut fmt::Formatter<W>) -> fmt::Result {
         write_told(f, self.explanation, self.unit.name())
     }
 }
 
 impl fmt::Display for Explanation {
+    ghost use Rattle.std.specs.Prelude.{Some, codes};
+
+    ghost output = { λ told. Some (text_in (codes "unit") (string_bytes told.path) told.fault) };
+
     fn fmt<W: fmt::Write>(&self, f: &mut fmt::Formatter<W>) -> fmt::Result {
         write_told(f, self, "unit")
     }
@@ -92,11 +104,15 @@ fn write_told<W: fmt::Write>(
     f: &mut fmt::Formatter<W>,
     told: &Explanation,
     unit: &str,
-) -> fmt::Result {
+) -> fmt::Result
+    ensures { WritesOnOk W.write_str_gives f.old result
+        (text_in unit.now (string_bytes told.now.path) told.now.fault) f.new }
+{
     let path = told.path.as_str();
     match told.fault {
         DecodeFault::Refused { at, why } => {
-            write!(f, "refused at {unit} {at} in {path}: {}", why.word())
+            let word = why.word();
+            write!(f, "refused at {unit} {at} in {path}: {word}")
         }
         DecodeFault::Truncated { taken } => {
             write!(f, "cut short after {taken} {unit}s in {path}")

@@ -16,6 +16,7 @@ pub use Rattle.asn_rules.specs.Codec
 pub use Rattle.asn_rules.specs.Laws
 pub use Rattle.asn_rules.specs.CodecLaws
 pub use Rattle.asn_rules.specs.Delivered
+pub use Rattle.asn_rules.specs.Measured
 pub use Rattle.asn_rules.specs.Faults
 pub use Rattle.asn_rules.specs.Sessions
 pub use Rattle.asn_rules.specs.Streams
@@ -24,6 +25,7 @@ pub use Rattle.asn_per.specs.Rules as PerRules
 pub use Rattle.asn_oer.specs.Rules as OerRules
 -- where octets are no message, other versions, conversion
 pub use Rattle.asn_explain.specs.Explains
+pub use Rattle.asn_explain.specs.Texts
 pub use Rattle.asn_newer.specs.Loose
 pub use Rattle.asn_newer.specs.Reading as NewerReading
 pub use Rattle.asn_convert.specs.Converted

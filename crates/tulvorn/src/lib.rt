@@ -11,9 +11,10 @@ pub use asn_newer::{NewerFault, ReadNewer};
 pub use asn_oer::Oer;
 pub use asn_per::Per;
 pub use asn_rules::{
-    Counted, CountedFault, DecodeFault, EncodeFault, EncodeToFault, FeedFault, MAX_OCTETS,
-    MessageStream, Newer, OpenFault, Rules, Session, Skipped, Step, StreamFault, Truncated, Unit,
-    Unwritten, Why, decode, decode_into, encode, messages, open,
+    Counted, CountedFault, DecodeFault, EncodeFault, EncodeIntoFault, EncodeToFault, FeedFault,
+    LengthFault, MAX_OCTETS, MessageStream, Newer, OpenFault, Rules, Session, Skipped, Step,
+    StreamFault, Truncated, Unit, Unwritten, Why, decode, decode_into, encode, encode_into,
+    encoded_len, messages, open,
 };
 pub use asn_values::{
     Alt, AsnType, Bounds, Checked, Field, FoundFault, Item, Need, Notation, Size, TextKind,

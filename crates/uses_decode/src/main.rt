@@ -2,9 +2,10 @@
 //! may get.
 #![tactic(auto)]
 
-ghost use Rattle.std.specs.Prelude.{◌≡◌, IfOk};
+ghost use Rattle.std.specs.Prelude.{◌≡◌, IfOk, IfErr, Err};
+ghost use Rattle.tulvorn.specs.Codec.{Decoded};
 ghost use Rattle.tulvorn.specs.Datum.{Datum};
-ghost use Rattle.tulvorn.specs.PerRules.{IsPerEncoding};
+ghost use Rattle.tulvorn.specs.PerRules.{IsPerEncoding, per_ruling};
 ghost use Rattle.tulvorn.specs.Seen.{seen};
 ghost use Rattle.tulvorn.specs.Typed.{typed};
 ghost use Rattle.tulvorn.specs.View.{shape_of};
@@ -31,8 +32,9 @@ fn speed_of(message: &View<'_>) -> Option<i128>
 
 /// The speed of the message that the octets are.
 fn speed_told(alloc: Global, ty: &Checked, octets: &[u8]) -> Result<Option<i128>, DecodeFault>
-    ensures { IfOk result (λ speed. (d : Datum) × IsPerEncoding (shape_of ty.now) d octets.now
+    ensures speed { IfOk result (λ speed. (d : Datum) × IsPerEncoding (shape_of ty.now) d octets.now
         × (speed ≡ speed_in (typed (shape_of ty.now) d))) }
+    ensures fault { IfErr result (λ why. Decoded per_ruling (Err why) (shape_of ty.now) octets.now) }
 {
     let message = decode::<Per>(alloc, ty, octets)?;
     Ok(speed_of(&ty.view(&message)))

@@ -111,6 +111,11 @@ fn main(rt: HostRuntime) -> Result<()> {
     // a name that the type has not, and a component that is missing, are told when a value is built
     show_fault(&rt, alloc, &ty, &[("spede", 50.into())])?;
     show_fault(&rt, alloc, &ty, &[("station", 4_660.into())])?;
-    let fast = [parts[0], parts[1], ("speed", 200.into()), parts[3]];
+    let fast = [
+        ("kind", "bus".into()),
+        ("station", 4_660.into()),
+        ("speed", 200.into()),
+        ("lanes", (&lanes).into()),
+    ];
     show_misfit(&rt, alloc, &ty, &fast)
 }

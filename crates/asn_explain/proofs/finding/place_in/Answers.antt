@@ -1,4 +1,3 @@
-use Rattle.std.proofs.Common.{◌≡◌}
 use Rattle.asn_values.specs.Profile.{InProfile}
 use Rattle.asn_values.specs.Shape.{sequence, closed, marked, sequence_of}
 use Rattle.asn_values.specs.View.{shape_of, size_range_of, fields_seen}

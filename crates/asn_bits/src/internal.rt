@@ -4,4 +4,5 @@ pub use crate::lengths::next_length;
 pub use crate::number_field::try_number_of;
 pub use crate::numbers::{octet_count, signed_octet_count, signed_residue, width};
 pub use crate::offsets::{at_offset, offset_from};
+pub use crate::shifts::fill_shifted;
 pub use crate::words::{full_word, last_octets, low_octet, shift_in};

@@ -78,8 +78,9 @@ pub(crate) fn push_shifted(bytes: &mut Vec<u8>, count: u32, pending: u64, octets
     fill_shifted(&mut bytes[start..], count, pending, octets)
 }
 
-// fills a slice in the same way, eight octets at once
-fn fill_shifted(into: &mut [u8], count: u32, pending: u64, octets: &[u8]) -> u64
+/// Fills a slice with as many octets as are given: those of the low `count` bits of `pending` and of all of `octets` after
+/// them, eight at once. Gives what is left over in its low `count` bits.
+pub fn fill_shifted(into: &mut [u8], count: u32, pending: u64, octets: &[u8]) -> u64
     requires few { (0 < count) × (count < 8) }
     requires room { length into.old ≡ length octets.now }
     ensures { Shifted [] into.new octets.now count pending result }

@@ -1,6 +1,8 @@
 //! Octets in a fixed array.
-ghost use Rattle.std.specs.Prelude.{◌≡◌, ◌+◌, ◌≤◌, ℕ, List, [], ◌++◌, length, take};
+ghost use Rattle.std.specs.Prelude.{◌≡◌, ◌+◌, ◌<◌, ◌≤◌, ℕ, List, [], ◌++◌, length, take};
+ghost use Rattle.asn_bits.specs.Moves.{Shifted};
 
+use asn_bits::internal::fill_shifted;
 use std::marker::Model;
 
 /// How many octets wait to be written at most.
@@ -62,6 +64,21 @@ impl Buffer {
         let end = self.count + octets.len();
         self.octets[self.count..end].copy_from_slice(octets);
         self.count = end;
+    }
+
+    /// Adds octets, for which there is room, after the low `count` bits of `pending`, and gives in whose low `count` bits
+    /// what is left over stands.
+    #[inline(always)]
+    pub fn extend_shifted(&mut self, count: u32, pending: u64, octets: &[u8]) -> u64
+        requires some { 0 < count }
+        requires few { count < 8 }
+        requires room { length self.old + length octets.now ≤ 4096 }
+        ensures { Shifted self.old self.new octets.now count pending result }
+    {
+        let end = self.count + octets.len();
+        let left = fill_shifted(&mut self.octets[self.count..end], count, pending, octets);
+        self.count = end;
+        left
     }
 
     /// Lets all octets go.

@@ -1,39 +1,41 @@
--- Each turn writes the word above the last bits of eight octets more.
-use Rattle.std.proofs.Common.{◌≡◌, ◌<◌, ◌++◌, ℕ, drop, get_or, sym, ap, subst, ◌∙◌, append_assoc, take-append-drop, arith}
-use Rattle.asn_bits.specs.Numbers.{bits, octets, unpacked}
-use Rattle.asn_bits.proofs.Moving.{range_after}
-use Rattle.asn_bits.proofs.Reading.{octets_eight}
-use Rattle.asn_bits.proofs.Splits.{unpacked-append, unpacked-octets}
-use Rattle.asn_window.proofs.Delivered.{stands_same}
-use Rattle.asn_window.proofs.Shifting.{shifted_on}
+-- As many octets more as there is room for, after the bits that wait.
+use Rattle.std.proofs.Common.{◌≡◌, ◌++◌, ℕ, List, [], ◌∷◌, length, drop, refl, sym, ap, subst, ◌∙◌, append_assoc, take-append-drop, arith}
+use Rattle.std.proofs.lemmas.Bool.Decides.{nat_tests}
+use Rattle.asn_bits.specs.Numbers.{bits, unpacked}
+use Rattle.asn_bits.proofs.Splits.{unpacked-append}
+use Rattle.asn_window.specs.OctetWriters.{OctetsStand}
+use Rattle.asn_window.proofs.Delivered.{retold}
+use Rattle.asn_window.proofs.Shifting.{after_waiting}
 use Rattle.asn_window.proofs.shifted.put_shifted.Goals as goal
 
-pub loop-eight-init : goal.loop-eight-init
-loop-eight-init g c = record { range = λ i. omega (arith, c.type_inv.octets i); stands = λ start coming all told. told }
-
-pub loop-eight-preserved : goal.loop-eight-preserved
-loop-eight-preserved g c =
-    let l = c.loop-eight in
-    let rest = l.rest.now in
-    let eight = c.in-Some.eight.now in
-    let others = c.in-Some.others.now in
-    let n = c.from_be_bytes-n.result in
-    let word = c.full_word.result in
+pub loop-rest-preserved : goal.loop-rest-preserved
+loop-rest-preserved g c start coming all told =
     let k = c.args.count in
-    let front = c.in-Some.ensures.cases in
-    let number : octets 8 n ≡ eight = octets_eight rest eight n front.0 (omega (arith, front.2)) l.invariant.range c.from_be_bytes-n.ensures ∙ sym front.0 in
-    let parts : rest ≡ eight ++ others = sym (take-append-drop 8 rest) ∙ ap (λ t. t ++ drop 8 rest) (sym front.0) ∙ ap (λ t. eight ++ t) (sym front.1) in
-    let same : unpacked eight ≡ bits 64 n = ap unpacked (sym number) ∙ unpacked-octets 8 n in
-    record {
-      range = range_after eight others (subst (λ t. (i : ℕ) → get_or t i 0 < 256) parts l.invariant.range);
-      stands = λ start coming all told.
-          let cut : bits k l.high ++ (unpacked rest ++ coming) ≡ bits 64 word ++ (bits k n ++ (unpacked others ++ coming)) =
-          ap (λ t. bits k l.high ++ (t ++ coming)) (ap unpacked parts ∙ unpacked-append eight others)
-          ∙ ap (λ t. bits k l.high ++ t) (append_assoc (unpacked eight) (unpacked others) coming)
-          ∙ shifted_on k l.high 64 n 64 k word (unpacked eight) (unpacked others ++ coming) (omega arith) (omega arith) (omega arith) (omega arith) c.full_word.ensures same in
-          c.put_word.ensures start (bits k n ++ (unpacked others ++ coming)) all (stands_same l.writer cut (l.invariant.stands start coming all told));
-    }
+    let high = c.loop-rest.high in
+    let rest = c.loop-rest.rest.now in
+    let front = c.split_at.result.0.now in
+    let others = c.split_at.result.1.now in
+    let room = c.min-room.result in
+    let s = c.extend_shifted-high.ensures in
+    let left = c.extend_shifted-high.result in
+    let parts : rest ≡ front ++ others =
+    sym (take-append-drop room rest) ∙ ap (λ t. t ++ drop room rest) (sym c.split_at.ensures.front) ∙ ap (λ t. front ++ t) (sym c.split_at.ensures.back) in
+    let cut : bits k high ++ (unpacked rest ++ coming) ≡ unpacked s.octets ++ (bits k left ++ (unpacked others ++ coming)) =
+    ap (λ t. bits k high ++ (t ++ coming)) (ap unpacked parts ∙ unpacked-append front others)
+    ∙ ap (λ t. bits k high ++ t) (append_assoc (unpacked front) (unpacked others) coming)
+    ∙ sym (append_assoc (bits k high) (unpacked front) (unpacked others ++ coming))
+    ∙ ap (λ t. t ++ (unpacked others ++ coming)) (sym s.same)
+    ∙ append_assoc (unpacked s.octets) (bits k left) (unpacked others ++ coming) in
+    let now = c.make_room.ensures.told start (bits k high ++ (unpacked rest ++ coming)) all (c.loop-rest.invariant start coming all told) in
+    retold (ap (λ t. unpacked c.make_room.new.self.buffer ++ t) cut
+    ∙ after_waiting c.make_room.new.self.buffer s.octets (unpacked s.octets) (bits k left ++ (unpacked others ++ coming)) c.extend_shifted-high.new.self s.added refl) now
 
 pub returns : goal.returns
 returns g c start coming all told =
-    c.put_shifted_singly.ensures start coming all (c.loop-eight.invariant.stands start coming all told)
+    let none : c.loop-rest.rest.now ≡ [] = nothing c.loop-rest.rest.now (grind (arith, nat_tests)) in
+    subst (λ (xs : List ℕ). OctetsStand start (g.O.Output.held c.loop-rest.output) c.loop-rest.writer (bits c.args.count c.loop-rest.high ++ (unpacked xs ++ coming)) all) none
+    (c.loop-rest.invariant start coming all told)
+  where
+    nothing : (xs : List ℕ) → length xs ≡ 0 → xs ≡ []
+    nothing [] e = refl
+    nothing (x ∷ xs) e = absurd (omega (arith, e))

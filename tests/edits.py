@@ -6,6 +6,7 @@ usage: tests/edits.py [CRATE..]      at the top of the repository: tries all edi
        tests/edits.py --due          as the gate does: those of the crates that changed, and of a quarter of the others
        tests/edits.py --due --beside the same beside `rt ci`: reads from its input the name of each crate as it is proved,
                                      and tries the crate's edits then; half of the processors are left to the proofs
+       tests/edits.py --anew CRATE.. tries those of these crates as in a clone where nothing is kept, and notes nothing
        tests/edits.py --list         says which edits there are, and what each changes; tries none
        tests/edits.py --self-test    tries wrong edits of a tiny crate with right ones among them, which have to be told
 
@@ -17,13 +18,20 @@ that the function calls one that is not proved, or that its proof names somethin
 not refused so is tried once more in a smaller group, and then alone, in the end as the kit tries it: with a check of the
 whole crate. One that is refused there only for a name that is gone, or by a limit of the prover, is told as weak and its
 crate is not noted as tried: another is wanted in its place. An edit may change several functions, two sides of a rule,
-say: a goal of one of them has to be refused. An edit that changes more than bodies of functions is tried
-so at once.
+say: a goal of one of them has to be refused. An edit that changes more than bodies of functions is tried so at once; or,
+where it has a line 'by: FUNCTION', alone, and a goal of that function has to be refused.
+
+Where earlier checks kept what they proved of the crate, the checks begin with that. In a clone where nothing is kept, as
+in the gate, which has proved the crate by `rt ci`, no function is proved once more for the edits: each function that a
+group does not change has a hole for its proof and no body to look at, and the check goes past holes (`--allow-holes`),
+which takes the function at its contract. Only cycles of functions with an edited member are first proved as they stand,
+since a cycle has one proof. Whether the crate itself is proved is then for `rt ci` to say.
 
 tests/edits/tried has for each crate a sum of what its edits were tried over: the crate, its edits, the contracts and
 definitions below it, and the logic of the kit. A run over a crate notes it there where every edit was refused, and
 tests/edits/alone.txt says which edits had to be tried alone, and why. --due tries the crates whose sum is not noted, and
-of the others those whose turn it is by the number of commits, so that each is tried again within four merges.
+of the others those whose turn it is by the number of commits, so that each is tried again within four merges. The turns
+take about as long as one another, by estimate (`TURNS`).
 """
 import functools
 import hashlib
@@ -41,9 +49,17 @@ from concurrent.futures import ThreadPoolExecutor
 
 sys.dont_write_bytecode = True
 EDITS, TRIED, ALONE = "tests/edits", "tests/edits/tried", "tests/edits/alone.txt"
-TURNS = 4
+# the crates whose edits are tried in the same run, in parts that by estimate take about as long; the others are the last part
+TURNS = (
+    "asn_walk_write asn_values asn_convert".split(),
+    "asn_oer asn_rules asn_newer asn_walk".split(),
+    "asn_walk_read asn_per asn_walk_feed asn_window".split(),
+)
 # the seconds that a check of edits may take, and three times as many beside proofs, which come first
 LIMIT = 1200
+# whether nothing that earlier checks kept is taken
+ANEW = False
+MORE = "it changes more than bodies of functions"
 
 
 def kit_command():
@@ -56,6 +72,11 @@ def kit_command():
 
 rt = kit_command()
 rtlib = rt.rtlib
+
+
+def text_of(file):
+    with open(file, "rb") as it:
+        return it.read().decode(errors="replace")
 
 
 # ---- the functions of a file, as the checker names them
@@ -135,13 +156,17 @@ def body_of(code, at):
             return brace.start()
 
 
+def module_of(path):
+    module = path[len("src/") : -len(".rt")].replace("/", "::")
+    return "" if module in ("lib", "main") else module
+
+
 @functools.lru_cache(maxsize=None)
 def functions(path, text):
     """(name, cycle, place of the body, its end) of each function of a source file that has a body. The name is that below
     the crate, and for a method, which the checker names by the module of its type, the type and the method."""
     code, found = blanked(text), []
-    module = path[len("src/") : -len(".rt")].replace("/", "::")
-    module = "" if module in ("lib", "main") else module
+    module = module_of(path)
     owners = owners_of(code)
     for match in re.finditer(r"\bfn\s+(\w+)", code):
         body = body_of(code, match.end())
@@ -163,19 +188,29 @@ class Edit:
     def __init__(self, crate, file):
         self.crate, self.file = crate, file
         self.label = f"{crate.name}/{os.path.basename(file)}"
-        self.pairs, path, old = [], "", None
+        self.pairs, self.by, path, old = [], None, "", None
         with open(file, encoding="utf-8") as it:
             for line in it.read().split("\n"):
                 if line.startswith("file: "):
                     path = line[len("file: ") :].strip()
+                elif line.startswith("by: "):
+                    self.by = line[len("by: ") :].strip()
                 elif line.startswith("old: "):
                     old = line[len("old: ") :]
                 elif line.startswith("new:") and old is not None:
                     self.pairs.append((path, old, line[len("new:") :].removeprefix(" ")))
                     old = None
         self.fault = rt.read_edit(file, crate.folder)[1]
-        self.functions = [] if self.fault else self.changed_functions()
+        self.functions = [] if self.fault else self.named_function() if self.by else self.changed_functions()
         self.only = [word for name, _ in self.functions for word in ("--only", name)]
+
+    def named_function(self):
+        """The function that the edit names, of a file that it changes."""
+        names = {}
+        for path in dict.fromkeys(it[0] for it in self.pairs):
+            names.update({name: cycle and f"{path}: {cycle}" for name, cycle, _, _ in functions(path, text_of(f"{self.crate.folder}/{path}"))})
+        self.fault = None if self.by in names else f"no file that it changes has a function {self.by}"
+        return [(self.by, names[self.by])] if self.by in names else []
 
     def changed_functions(self):
         """The functions whose bodies are all that the edit changes, each with its cycle, or none where it changes more."""
@@ -195,6 +230,13 @@ class Edit:
             name, cycle = inside[-1][:2]
             found.add((name, cycle and f"{path}: {cycle}"))
         return sorted(found, key=str)
+
+
+class Cited:
+    """No edit: functions that are not taken at their contracts."""
+
+    def __init__(self, functions):
+        self.functions, self.pairs = functions, []
 
 
 def applied(edits):
@@ -226,9 +268,75 @@ def groups_of(edits, one_a_cycle):
     return groups
 
 
+# ---- functions that are taken at their contracts
+
+
+@functools.lru_cache(maxsize=None)
+def modules_of_types(folder):
+    """The module of each struct, enum and trait of a crate, as a path below the crate."""
+    found = {}
+    for file in rtlib.files_of(folder):
+        path = os.path.relpath(file, folder)
+        if path.startswith("src/") and path.endswith(".rt"):
+            module = module_of(path)
+            found.update({name: module for name in re.findall(r"\b(?:struct|enum|trait)\s+(\w+)", blanked(text_of(file)))})
+    return found
+
+
+def home_of(name, module, types):
+    """The folder below proofs/ of a function that is in no cycle. The methods of a type are in the type's module, and those of
+    a trait's impl where the impl stands."""
+    owner, _, last = name.rpartition("::")
+    inside = [module] if owner in ("", module) else [types.get(owner, module), owner]
+    return "/".join(it.replace("::", "/") for it in [*inside, last] if it)
+
+
+HOLE = """use Rattle.{crate}.proofs.{path}.Statement.{{statement}}
+
+pub {name}_spec : {{M : Type 1}} → statement M
+{name}_spec = ?
+"""
+
+
+def put_hole(crate, folder, home):
+    """Puts a hole in the place of a function's proof."""
+    at = f"{folder}/proofs/{home}"
+    os.makedirs(at, exist_ok=True)
+    for name in ("Invariants.antt", "Answers.antt"):
+        if os.path.isfile(f"{at}/{name}"):
+            os.remove(f"{at}/{name}")
+    with open(f"{at}/Proof.antt", "w", encoding="utf-8") as it:
+        it.write(HOLE.format(crate=crate.name, path=home.replace("/", "."), name=os.path.basename(home)))
+
+
+def take_others_at_contracts(crate, folder, edits):
+    """In a copy of the crate with these edits, gives each function that they do not change a hole for its proof and a body
+    of which nothing is left to check, so that its contract alone is read. A cycle with an edited member stays as it is."""
+    own = {name for it in edits for name, _ in it.functions}
+    cycles = {cycle.rpartition(" ")[2] for it in edits for _, cycle in it.functions if cycle}
+    types = modules_of_types(crate.folder)
+    for file in [it for it in rtlib.files_of(folder) if it.endswith(".rt")]:
+        path, text = os.path.relpath(file, folder), text_of(file)
+        kept, at = [], 0
+        for name, cycle, body, end in sorted(functions(path, text), key=lambda it: it[2]):
+            is_const = text[: text.rfind(f"fn {name.rpartition('::')[2]}", 0, body)].endswith("const ")
+            if body < at or name in own or cycle in cycles or is_const:
+                continue
+            kept += [text[at:body], "{ unreachable!() }"]
+            at = end
+            put_hole(crate, folder, home_of(name, module_of(path), types))
+        text = re.sub(r"#\[cycle\((\w+)\)\]", lambda it: it[0] if it[1] in cycles else "", "".join(kept) + text[at:])
+        with open(file, "w", encoding="utf-8") as it:
+            it.write(text)
+    for at, names, _ in os.walk(f"{folder}/proofs"):
+        for name in [it for it in names if it[0] == "+" and it[1:] not in cycles | {it.rpartition("::")[2] for it in own}]:
+            shutil.rmtree(f"{at}/{name}")
+            names.remove(name)
+
+
 # ---- what a check says of a function
 
-LINE = re.compile(r"fn (\S+): (proved|not proved|no proof)(.*)")
+LINE = re.compile(r"fn (\S+): (proved|no holes|depends on a hole|not proved|no proof)(.*)")
 NOTE = re.compile(r"note: src/\S+: (?:it is not proved|.* is not proved|.*not proved that).*\(`([^`]*)`\)")
 ERROR = re.compile(r"(?:\./)?(proofs/\S+?):\d+:\d+: error: (?:`([^`]*)`: )?(.*)")
 GONE = re.compile(r"has no field|is not in scope|has no `|not admitted|no name|nearest: ")
@@ -263,7 +371,7 @@ class Report:
             return None, "the check says nothing of its function" if not paths else f"the check knows it as {' and '.join(paths)}"
         path = paths[0]
         verdict, more = self.lines[path]
-        if verdict == "proved":
+        if verdict in ("proved", "no holes", "depends on a hole"):
             return None, "its function is proved"
         # (in a cycle a goal begins with its function, and with the module where the cycle is of several)
         own = lambda goal: f"::{function}".endswith(f"::{goal.partition('-')[0]}") if in_cycle else bool(goal)
@@ -296,9 +404,10 @@ def checked(crate, folder, flags, kept):
     return subprocess.run(words, timeout=LIMIT, **how)
 
 
-def check(crate, edits, flags, seed):
+def check(crate, edits, flags, seed, at_contracts, grows=False):
     """What a check of the crate with these edits says, over a copy of what the seed holds, and how many seconds it took.
-    A check that does not end within the limit says nothing."""
+    A check that does not end within the limit says nothing. Where no function of the crate was proved for it, each other
+    function is taken at its contract. A seed that grows has what this check proved from then on."""
     with tempfile.TemporaryDirectory(prefix=f"rt-edits-{os.getpid()}-") as room, LANES:
         rt.linked(seed, f"{room}/kept")
         for part in rtlib.PARTS:
@@ -307,11 +416,17 @@ def check(crate, edits, flags, seed):
         for path, text in applied(edits).items():
             with open(f"{room}/crate/{path}", "w", encoding="utf-8") as it:
                 it.write(text)
+        if at_contracts:
+            take_others_at_contracts(crate, f"{room}/crate", edits)
+            flags = [*flags, "--allow-holes"]
         start = time.time()
         try:
             said = checked(crate, f"{room}/crate", flags, f"{room}/kept").stdout
         except subprocess.TimeoutExpired:
             said = ""
+        if grows:
+            shutil.rmtree(seed)
+            os.rename(f"{room}/kept", seed)
         return Report(said), time.time() - start
 
 
@@ -332,63 +447,81 @@ class Tries:
     def __init__(self, crate, edits):
         self.crate, self.edits = crate, edits
         self.refused, self.alone, self.weak, self.bad, self.checks = {}, {}, {}, {}, 0
+        self.seed, self.at_contracts, self.whole_seed, self.proving = None, False, None, threading.Lock()
 
     def run(self, pool):
-        seed = self.seed()
-        if not seed:
+        self.seed, self.at_contracts = self.first_seed()
+        if not self.seed:
             return self.leave("the crate itself is not proved")
         for edit in self.edits:
             if edit.fault:
                 self.bad[edit.label] = edit.fault
         single = [it for it in self.edits if not it.fault and not it.functions]
-        left = [it for it in self.edits if it.functions]
-        reasons = {}
+        left = [it for it in self.edits if it.functions and not it.by]
+        reasons = {it.label: MORE for it in self.edits if it.by}
+        if self.at_contracts:
+            self.prove_cycles([it for it in self.edits if it.functions])
         for one_a_cycle in (False, True):
             groups = [it for it in groups_of(left, one_a_cycle) if len(it) > 1 or not one_a_cycle]
-            for found in [*pool.map(lambda group: self.together(group, seed), groups)]:
+            if self.at_contracts and not one_a_cycle and groups:
+                # the lemmas that it proves serve the others
+                reasons.update(self.together(groups.pop(0), grows=True))
+            for found in [*pool.map(self.together, groups)]:
                 reasons.update(found)
             left = [it for it in left if it.label not in self.refused]
-        tasks = [(it, reasons.get(it.label, "no other edit goes with it")) for it in left]
-        [*pool.map(lambda task: self.by_itself(*task, seed), tasks)]
-        [*pool.map(lambda edit: self.whole(edit, seed), single)]
-        shutil.rmtree(os.path.dirname(seed), ignore_errors=True)
+        tasks = [(it, reasons.get(it.label, "no other edit goes with it")) for it in [*left, *[it for it in self.edits if it.by]]]
+        [*pool.map(lambda task: self.by_itself(*task), tasks)]
+        [*pool.map(self.whole, single)]
+        for seed in {self.seed, self.whole_seed} - {None}:
+            shutil.rmtree(os.path.dirname(seed), ignore_errors=True)
 
     def leave(self, why):
         self.bad = {it.label: why for it in self.edits}
         say(f"{self.crate.name}: NOT TRIED: {why}")
 
-    def seed(self):
-        """A folder with what a check of the crate as it stands proved, begun with what earlier checks kept here. Where none
-        did, only the functions that edits change are proved, with all that their proofs cite, if each edit changes such."""
-        rt.adopt(self.crate, is_alone=False)
+    def first_seed(self):
+        """A folder with what a check of the crate as it stands proved, begun with what earlier checks kept here; or one with
+        nothing where none did, and that functions are taken at their contracts then."""
         kept = f"{self.crate.folder}/out/incremental"
-        if not os.path.isdir(kept) and all(it.functions or it.fault for it in self.edits):
-            return self.seed_of_functions()
+        if not ANEW:
+            rt.adopt(self.crate, is_alone=False)
+        if ANEW or not os.path.isdir(kept):
+            room = tempfile.mkdtemp(prefix=f"rt-edits-{os.getpid()}-")
+            rt.SEEDS.append(room)
+            os.mkdir(f"{room}/seed")
+            return f"{room}/seed", True
         with LANES:
-            room = rt.seeded(self.crate, ["--jobs", "1"], kept if os.path.isdir(kept) else None)
-        return room and f"{room}/seed"
+            room = rt.seeded(self.crate, ["--jobs", "1"], kept)
+        self.whole_seed = room and f"{room}/seed"
+        return self.whole_seed, False
 
-    def seed_of_functions(self):
-        room = tempfile.mkdtemp(prefix=f"rt-edits-{os.getpid()}-")
-        rt.SEEDS.append(room)
-        os.mkdir(f"{room}/seed")
-        only = dict.fromkeys(name for it in self.edits for name, _ in it.functions)
-        try:
-            with LANES:
-                ran = checked(self.crate, self.crate.folder, [word for name in only for word in ("--only", name)], f"{room}/seed")
-        except subprocess.TimeoutExpired:
-            return None
-        return f"{room}/seed" if ran.returncode == 0 else None
+    def prove_cycles(self, edits):
+        """Has the seed hold the proofs of the cycles of functions, as they stand, of which edits change members."""
+        members = {cycle: (name, cycle) for it in edits for name, cycle in it.functions if cycle}
+        if members:
+            only = [word for name, _ in members.values() for word in ("--only", name)]
+            report, seconds = check(self.crate, [Cited([*members.values()])], only, self.seed, True, grows=True)
+            self.checks += 1
+            say(f"{self.crate.name}: the cycles of functions that edits change, checked as they stand in {seconds:.0f} s")
 
-    def together(self, group, seed):
+    def proved_whole(self):
+        """A folder with what a check of the whole crate as it stands proved."""
+        with self.proving:
+            if not self.whole_seed:
+                with LANES:
+                    room = rt.seeded(self.crate, ["--jobs", "1"])
+                self.whole_seed = room and f"{room}/seed"
+        return self.whole_seed
+
+    def together(self, group, grows=False):
         """Tries a group in one check, and returns why what was not refused was not."""
-        report, seconds = check(self.crate, group, [word for edit in group for word in edit.only], seed)
+        report, seconds = check(self.crate, group, [word for edit in group for word in edit.only], self.seed, self.at_contracts, grows)
         self.checks += 1
         if not report.lines and len(group) > 1:
             # one of them is not read, or does not end
             say(f"{self.crate.name}: the check of {len(group)} edits says nothing, so that halves of them are tried")
             half = len(group) // 2
-            return {**self.together(group[:half], seed), **self.together(group[half:], seed)}
+            return {**self.together(group[:half]), **self.together(group[half:])}
         reasons = {}
         for edit in group:
             goal, why = report.goal(edit)
@@ -399,9 +532,9 @@ class Tries:
         say(f"{self.crate.name}: {len(group) - len(reasons)} of {len(group)} edits refused in one check of {seconds:.0f} s" + "".join(f"\n  {it}: not in this group: {why}" for it, why in reasons.items()))
         return reasons
 
-    def by_itself(self, edit, reason, seed):
+    def by_itself(self, edit, reason):
         """Tries an edit of a function alone, by the same rule."""
-        report, _ = check(self.crate, [edit], edit.only, seed)
+        report, _ = check(self.crate, [edit], edit.only, self.seed, self.at_contracts)
         self.checks += 1
         goal, why = report.goal(edit)
         if goal:
@@ -409,11 +542,15 @@ class Tries:
             self.alone[edit.label] = reason
             return say(f"{edit.label}: refused alone: {goal} (in a group: {reason})")
         say(f"{edit.label}: alone no goal of {' or '.join(name for name, _ in edit.functions)} is told: {why}")
-        self.whole(edit, seed, f"{why}; the check of the whole crate refuses it, and not for a name alone")
+        self.whole(edit, f"{why}; the check of the whole crate refuses it, and not for a name alone")
 
-    def whole(self, edit, seed, reason="it changes more than bodies of functions"):
+    def whole(self, edit, reason=MORE):
         """Tries an edit as the kit does, with a check of the whole crate: one that changes more than bodies of functions, or
         of which no goal of its own is told. That a proof names something that is gone is no refusal."""
+        seed = self.proved_whole()
+        if not seed:
+            self.bad[edit.label] = "the crate itself is not proved"
+            return say(f"{edit.label}: NOT TRIED: the crate itself is not proved")
         with tempfile.TemporaryDirectory(prefix=f"rt-edits-{os.getpid()}-") as room, LANES:
             rt.linked(seed, f"{room}/kept")
             kind, text = rt.must_fail(self.crate, edit.file, ["--jobs", "1"], f"{room}/kept")
@@ -432,11 +569,6 @@ class Tries:
 
 
 # ---- which crates, and what is noted of them
-
-
-def text_of(file):
-    with open(file, "rb") as it:
-        return it.read().decode(errors="replace")
 
 
 @functools.lru_cache(maxsize=None)
@@ -513,7 +645,8 @@ def number_of_commits():
 
 
 def has_turn(name, number):
-    return int(hashlib.sha256(name.encode()).hexdigest(), 16) % TURNS == number % TURNS
+    turn = next((at for at, names in enumerate(TURNS) if name in names), len(TURNS))
+    return turn == number % (len(TURNS) + 1)
 
 
 def lanes():
@@ -678,9 +811,11 @@ def self_test():
 def main(words):
     if words == ["--self-test"]:
         return self_test()
-    if any(it.startswith("-") and it not in ("--due", "--beside", "--list") for it in words):
+    if any(it.startswith("-") and it not in ("--due", "--beside", "--list", "--anew") for it in words):
         print(__doc__, file=sys.stderr)
         return 2
+    global ANEW
+    ANEW = "--anew" in words
     os.chdir(os.path.join(os.path.dirname(os.path.abspath(__file__)), ".."))
     crates = rtlib.crates_below(os.getcwd())
     edits = {it.name: edits_of(it) for it in crates}
@@ -708,7 +843,7 @@ def main(words):
         due = [it for it in chosen if known.get(it.name) != sums[it.name] or has_turn(it.name, number)]
         left, chosen = [it.name for it in chosen if it not in due], due
     results = try_all(chosen, edits, "--beside" in words)
-    if "--due" not in words and not single:
+    if "--due" not in words and not single and not ANEW:
         note(results, sums)
     return summary(results, edits, left)
 

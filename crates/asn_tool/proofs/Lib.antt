@@ -1,5 +1,8 @@
+pub mod Exactly
 pub mod FoundJob
+pub mod Given
 pub mod NotHelp
 pub mod Refusals
 pub mod SetOptions
+pub mod Sourced
 pub mod Taken

@@ -112,6 +112,11 @@ stops() { # what is wanted on standard error; the rest of the command line is th
 
 stops 'read failed' module </proc/self
 
+# words that are refused keep their status where that cannot be told
+status=0
+"$program" show 2>/dev/full || status=$?
+[ "$status" = 2 ] || fail "words that are refused: status $status"
+
 cat rows.asn >"$work/input"
 status=0
 "$program" module <"$work/input" >/dev/full 2>"$work/told" || status=$?

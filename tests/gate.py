@@ -10,8 +10,8 @@ usage: tests/gate.py [PART..]      the parts are proofs, edits and tests; all th
    were tried, and of a quarter of the others. In a clone with no out/ it goes beside the proofs: a crate's edits begin
    when the crate is proved, on processors that no proof takes.
 3. tests: the programs of tests/programs are built without a proof of their own (tests/room.py), and what they write is
-   compared; tests/refused_allocations.sh refuses in turn each allocation of programs; examples/run.sh and
-   tests/versions.py run the program `asn_tool` as the gate has built it.
+   compared; tests/refused_allocations.sh refuses in turn each allocation of programs; examples/run.sh,
+   tests/versions.py and tests/published.py run the program `asn_tool` as the gate has built it.
 
 What a step writes is shown as it comes: a line for each crate that is proved, and for each group of edits that is tried.
 The end says how many minutes of a processor each part took, and how many by the clock from its first line to its last.
@@ -167,6 +167,7 @@ def tests(part):
         step(part, ["tests/refused_allocations.sh", room])
     step(part, ["examples/run.sh", TOOL])
     step(part, ["tests/versions.py", TOOL])
+    step(part, ["tests/published.py", TOOL])
 
 
 PARTS = {"proofs": proofs, "edits": edits, "tests": tests}

@@ -144,10 +144,11 @@ refuse_each crates/asn_first/out/asn_first crates/asn_first ends_with_memory
 runner=$runs
 refuse_each crates/asn_tool/out/asn_tool crates/asn_tool ends_with_memory
 
-# other words of a command line, some of which ask for no job; examples/faults.sh judges what is answered to them. A few
-# allocations can be done without
+# other words of a command line, some of which ask for no job; examples/faults.sh and tests/published.py judge what is
+# answered to them. A few allocations can be done without. What is told of published types stands before `memory`
 ends_or_answers() {
-  ends_with_memory || {
+  { [ "$(tail -n 1 "$work/err")" = memory ] && head -n -1 "$work/err" | cmp -s -n "$(head -n -1 "$work/err" | wc -c)" - "$folder/stderr" &&
+    [ "$status" = 3 ] && cmp -s -n "$(stat -c %s "$work/out")" "$work/out" "$folder/stdout"; } || {
     [ "$status" = "$(<"$folder/status")" ] && cmp -s "$work/out" "$folder/stdout" && cmp -s "$work/err" "$folder/stderr"
   }
 }
@@ -169,6 +170,14 @@ answered_to "$module====\n00\nzz\n" check --type N --rules per
 answered_to "$module====\nnull\n" encode --rules=oer --type=N
 answered_to "$module====\n00\n" convert --type N --rules per
 answered_to "$module====\n00\n" newer --type X --rules per
+published='M DEFINITIONS AUTOMATIC TAGS ::= BEGIN n INTEGER ::= 7 T ::= SEQUENCE { a INTEGER (0..n), t UTCTime } END\n'
+answered_to "$published====\n00\n" show --type T --rules per
+answered_to 'M DEFINITIONS ::= BEGIN T ::= { END\n' module
+example=$PWD/examples/published
+answered_to '' flatten --report json --plain-bits "$example/report.asn" "$example/common.asn"
+answered_to "$(cat examples/published/report.per)\n" show --type Report --rules per --module "$example/report.asn" "$example/common.asn"
+answered_to '' module --module "$example/flattened.asn"
+answered_to '' flatten "$example/report.asn" "$example/report.asn"
 answered_to '' newest
 answered_to '' check --type N
 answered_to '' convert --type N --rules der

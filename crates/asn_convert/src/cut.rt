@@ -20,7 +20,7 @@ pub(crate) fn next_line(rest: &[u8]) -> Option<(&[u8], &[u8])>
 }
 
 /// The module text, and what follows the mark.
-pub(crate) fn cut_input(input: &[u8]) -> (&[u8], &[u8])
+pub fn cut_input(input: &[u8]) -> (&[u8], &[u8])
     ensures text { result.0.now ≡ module_text input.now }
     ensures lines { lines_of result.1.now ≡ job_lines input.now }
 {

@@ -16,4 +16,6 @@ mod texts;
 
 pub use by_name::run;
 pub use conversion::{ConvertFault, convert};
+pub use cut::cut_input;
 pub use job::{Job, Order, RuleName, RunFault, Status};
+pub use reading::read_all;

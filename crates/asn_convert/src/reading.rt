@@ -15,7 +15,7 @@ const PIECE: usize = 8192;
 ///
 /// # Errors
 /// `Read` only where the reader answered a fault, `Memory` where an allocation failed.
-pub(crate) fn read_all<R: Read>(alloc: Global, input: &mut Counted<R>) -> Result<Vec<u8>, RunFault>
+pub fn read_all<R: Read>(alloc: Global, input: &mut Counted<R>) -> Result<Vec<u8>, RunFault>
     ensures given { IfOk result (λ octets. IsGiven (R.remaining (inner_of input.old)) octets.items) }
     ensures fault { IfErr result (λ fault. IsReadFault fault (faults_of input.old) (faults_of input.new)) }
 {

@@ -1,4 +1,4 @@
--- The job of the subcommand that clap met, by its name and the values of its options.
+-- What the subcommand that clap met asks for, by its name and the values of its options.
 use Rattle.std.proofs.Common.{◌≡◌, ◌≢◌, ◌∙◌, ◌⊎◌, ap, ap₂, sym, subst, refl, inl, inr, true, true≢false, codes, string_bytes, Option, Some, None, List, option_map}
 use Rattle.std.specs.Option.{is_some, unwrap_or}
 use Rattle.std.specs.Prelude.{Box, false}
@@ -9,13 +9,12 @@ use Rattle.clap.specs.Simple.{subcommand_rows}
 use Rattle.clap.specs.declared.parser.matches.ArgMatches.{ArgMatches}
 use Rattle.clap.specs.declared.parser.matches.ArgMatches.TheViews.{out-ArgMatches, out-SubCommand}
 use Rattle.clap.specs.declared.parser.matches.SubCommand.{SubCommand}
-use Rattle.asn_convert.specs.declared.job.Job.TheVariants as job
 use Rattle.asn_convert.specs.declared.job.Order.{Order}
 use Rattle.asn_convert.specs.declared.job.Order.TheVariants as order
 use Rattle.asn_convert.specs.declared.job.RuleName.{RuleName}
 use Rattle.asn_convert.specs.declared.job.RuleName.TheVariants as rules
 use Rattle.asn_tool.specs.Command.{HasOptions, IsOneOf, IsTaken, order_names, rule_names}
-use Rattle.asn_tool.specs.Tool.{HasJob, order_name, rule_name}
+use Rattle.asn_tool.specs.Request.{HasRequest, IsJobOf, IsRequestOf, order_name, rule_name}
 
 some≢none : {X : Type 0} (x : X) → Some x ≡ None → ⊥
 some≢none x e = true≢false (ap (λ o. is_some o) e)
@@ -40,19 +39,11 @@ met m name rows n r = go (subcommand_rows_of m) (n ∙ names (out-ArgMatches m).
 pub other_name : (name text : Text) → false ≡ bytes_eq name text → true ≡ bytes_eq text text → name ≢ text
 other_name name text differs self is = true≢false (self ∙ (ap (λ n. bytes_eq n text) (sym is) ∙ sym differs))
 
-module _ (m : ArgMatches) (found : Text × List Row) (is : subcommand_rows_of m ≡ Some found) where
-  -- a subcommand other than `module` has its options
-  pub options : IsTaken (subcommand_rows_of m) → (found.0 ≢ codes "module") → HasOptions found
-  options taken other = go (subst IsTaken is taken)
-    where
-      go : (found.0 ≡ codes "module") ⊎ HasOptions found → HasOptions found
-      go (inl named) = absurd (other named)
-      go (inr has) = has
-
-  -- the job of an order
-  pub job_of_lines : (o : Order) (t : _) (r : RuleName) → order_name o ≡ found.0 → Some (string_bytes t) ≡ first_of (codes "type") found.1 → Some (rule_name r) ≡ first_of (codes "rules") found.1
-      → HasJob (subcommand_rows_of m) (job.Lines o t r)
-  job_of_lines o t r named type rules = subst (λ x. HasJob x (job.Lines o t r)) (sym is) (sym named, sym type, sym rules)
+-- a subcommand other than `flatten` and `module` has its options
+pub options : (found : Text × List Row) → IsTaken (Some found) → (found.0 ≢ codes "flatten") → (found.0 ≢ codes "module") → HasOptions found
+options found (inl named) flat other = absurd (flat named)
+options found (inr (inl named)) flat other = absurd (other named)
+options found (inr (inr has)) flat other = has
 
 -- each name of an order is found
 pub order_known : (name : Text) → IsOneOf name order_names → ((o : Order) → order_name o ≢ name) → ⊥

@@ -1,4 +1,6 @@
+pub mod Exactly
 pub mod FoundJob
+pub mod Given
 pub mod NotHelp
 pub mod Refusals
 pub mod SetOptions

@@ -1,14 +1,14 @@
--- What job_of cites at its exits: which faults clap's errors are, and what clap finds where it tells none.
+-- What request_of cites at its exits: which faults clap's errors are, and what clap finds where it tells none.
 use Rattle.std.proofs.Common.{◌≡◌, ◌≢◌, ◌⊎◌, ◌∙◌, ap, sym, subst, refl, inl, inr, true, false, true≢false, Bool, List, []}
 use Rattle.clap.specs.Words.{App, Text, HasMatchesOf, HasKind, fault_of, kind_of, subcommand_of, subcommand_rows_of}
 use Rattle.clap.specs.declared.error.Error.{Error}
 use Rattle.clap.specs.declared.error.ErrorKind.{ErrorKind}
 use Rattle.clap.specs.declared.error.ErrorKind.TheVariants as kind
 use Rattle.clap.specs.declared.parser.matches.ArgMatches.{ArgMatches}
-use Rattle.asn_convert.specs.declared.job.Job.{Job}
-use Rattle.asn_tool.specs.declared.job.LineFault.TheVariants as line
+use Rattle.asn_tool.specs.declared.request.LineFault.TheVariants as line
+use Rattle.asn_tool.specs.declared.request.Request.{Request}
 use Rattle.asn_tool.specs.Command.{IsTaken, IsTool}
-use Rattle.asn_tool.specs.Tool.{HasJob, Told, fault_by, of_kind}
+use Rattle.asn_tool.specs.Request.{HasRequest, Told, fault_by, of_kind}
 use Rattle.asn_tool.proofs.Taken.{taken, tool_simple}
 
 abbrev is_memory : ErrorKind → Bool
@@ -54,5 +54,5 @@ told_by words e a t h = told_kind words e a (kind_of e) refl t h (memory_or (kin
 pub found_taken : (words : List Text) (a : App) (m : ArgMatches) → IsTool a → HasMatchesOf a words m → fault_of a words ≡ [] → IsTaken (subcommand_rows_of m)
 found_taken words a m t h none = subst IsTaken (sym (h (tool_simple a t)).1) (taken a words t none)
 
-pub found_job : (words : List Text) (a : App) (m : ArgMatches) (j : Job) → IsTool a → HasMatchesOf a words m → HasJob (subcommand_rows_of m) j → HasJob (subcommand_of a words) j
-found_job words a m j t h has = subst (λ o. HasJob o j) (h (tool_simple a t)).1 has
+pub found_request : (words : List Text) (a : App) (m : ArgMatches) (r : Request) → IsTool a → HasMatchesOf a words m → HasRequest (subcommand_rows_of m) r → HasRequest (subcommand_of a words) r
+found_request words a m r t h has = subst (λ o. HasRequest o r) (h (tool_simple a t)).1 has

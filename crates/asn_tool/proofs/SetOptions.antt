@@ -11,11 +11,11 @@ use Rattle.clap.specs.Simple.{Shape}
 use Rattle.clap.specs.Walk.{Held, Names, Outcome, Row, Rule, Step, Text, Waiting, Walk, action_of, after_flag, after_step, arg_by_id, arg_by_index, arg_by_long, arg_by_short, at_row, attached_value, bundle_met, bundle_step, default_rows, done, flag_met, has_row, idle, long_met, long_or_other, more_values, next, nothing_held, option, option_met, plain, plain_word, positional, reacted, reading_by, refused, rows_after, settled, settled_rows, short_met, short_or_plain, subcommand, subcommand_met, subcommand_or_other, takes_values, to_positional, trailing, used, used_as, used_by_id, value, values_or_missing, waits, walk, walk_from, walked, walked_from, with_default, with_values, without, word_met, option_word}
 use Rattle.clap.specs.Lexer.{long_of, short_of}
 use Rattle.clap.specs.Faults.{action_fault, bundle_step_fault, check_fault, defaults_fault, flag_word_fault, flags_fault, level_fault, long_fault, option_fault, other_fault, react_fault, set_fault, settle_fault, short_fault, step_fault, turn_fault, use_fault, walk_fault, word_fault}
-use Rattle.clap.specs.declared.builder.action.ArgAction.TheVariants.{Set, Help}
+use Rattle.clap.specs.declared.builder.action.ArgAction.TheVariants.{Set, SetTrue, Help}
 use Rattle.clap.specs.declared.builder.range.ValueRange.{ValueRange}
 use Rattle.clap.specs.declared.builder.value_parser.Reading.{Reading}
 use Rattle.clap.specs.declared.error.kind.ErrorKind.TheVariants as kind
-use Rattle.clap.specs.declared.parser.matches.ValueSource.TheVariants.{CommandLine}
+use Rattle.clap.specs.declared.parser.matches.ValueSource.TheVariants.{CommandLine, DefaultValue}
 
 -- ---- lists of kinds
 
@@ -82,8 +82,20 @@ abbrev pub IsSet : (Row → Type 0) → Rule → Type 0
 IsSet Q a = (action_of a ≡ Set) × (a.range ≡ Some one_value)
     × ((how : Reading) (v : Text) (vs : List Text) → value_kinds a.ignore_case (parser_of_value a.parser) v ≡ [] → Q (set_row a.id how (v ∷ vs)))
 
+-- the option is set, with one value, more or none, and each row of it has the property
+abbrev pub IsOther : (Row → Type 0) → Rule → Type 0
+IsOther Q a = ((action_of a ≡ Set) ⊎ (action_of a ≡ SetTrue)) × ((how : Reading) (values : List Text) → Q (set_row a.id how values))
+
 abbrev pub IsOption : (Row → Type 0) → Rule → Type 0
-IsOption Q a = (action_of a ≡ Help) ⊎ IsSet Q a
+IsOption Q a = (action_of a ≡ Help) ⊎ (IsSet Q a ⊎ IsOther Q a)
+
+-- the row of an option that was not used
+abbrev pub default_row : Text → Reading → List Text → Row
+default_row id how values = record { id = id; values = values; count = None; source = Some DefaultValue; reading = how }
+
+-- there is no such row, or it has the property
+abbrev pub IsDefaulted : (Row → Type 0) → Rule → Type 0
+IsDefaulted Q a = (a.defaults ≡ []) ⊎ ((how : Reading) (values : List Text) → Q (default_row a.id how values))
 
 module _ (Q : Row → Type 0) where
   set_good : (a : Rule) (values : List Text) (rows : List Row) → IsSet Q a → range_kinds 1 1 (length values) ≡ []
@@ -97,7 +109,20 @@ module _ (Q : Row → Type 0) where
   use_good : (a : Rule) (values : List Text) (rows : List Row) → IsOption Q a → use_fault false a values rows ≡ [] → Each Q rows → Each Q (used a values rows)
   use_good a values rows (inl help) e all =
       subst (λ x. Each Q (used_as x a.id (reading_by a) (values_or_missing a values) rows)) (sym help) all
-  use_good a values rows (inr set) e all =
+  use_good a values rows (inr (inr other)) e all = go other.0 (none_next _ _ e)
+    where
+      set : set_fault false a (values_or_missing a values) rows ≡ []
+          → Each Q (with_values a.id (reading_by a) CommandLine (values_or_missing a values) (without a.id rows))
+      set e = subst (Each Q) (sym (set_rows a.id (reading_by a) (values_or_missing a values) rows (no_repeat (has_row a.id rows) (none_first _ _ e))))
+          (each_push Q rows _ all (other.1 (reading_by a) (values_or_missing a values)))
+
+      go : (action_of a ≡ Set) ⊎ (action_of a ≡ SetTrue) → action_fault (action_of a) false a (values_or_missing a values) rows ≡ []
+          → Each Q (used_as (action_of a) a.id (reading_by a) (values_or_missing a values) rows)
+      go (inl is) e = subst (λ x. Each Q (used_as x a.id (reading_by a) (values_or_missing a values) rows)) (sym is)
+          (set (subst (λ x. action_fault x false a (values_or_missing a values) rows ≡ []) is e))
+      go (inr is) e = subst (λ x. Each Q (used_as x a.id (reading_by a) (values_or_missing a values) rows)) (sym is)
+          (set (subst (λ x. action_fault x false a (values_or_missing a values) rows ≡ []) is e))
+  use_good a values rows (inr (inl set)) e all =
       let ranged : range_kinds 1 1 (length values) ≡ [] =
       subst (λ r. range_kinds (unwrap_or_range r).start_inclusive (unwrap_or_range r).end_inclusive (length values) ≡ []) set.1 (none_first _ _ e) in
       let passed : set_fault false a (values_or_missing a values) rows ≡ [] =
@@ -236,24 +261,37 @@ module _ (Q : Row → Type 0) where
           walk_good (walked c names w word) rest (subst (λ r. walk_fault s names (walked r names w word) rest ≡ []) own (none_next _ _ e))
           (turn_good w word (none_first _ _ e) all)
 
-      no_default : (xs : List Rule) (rows : List Row) → Each (λ a. a.defaults ≡ []) xs → fold with_default rows xs ≡ rows
-      no_default [] rows none = refl
-      no_default (a ∷ xs) rows none = ap (λ r. fold with_default r xs) (here (has_row a.id rows)) ∙ no_default xs rows none.1
+      default_good : (a : Rule) (rows : List Row) → IsDefaulted Q a → Each Q rows → Each Q (with_default rows a)
+      default_good a rows is all = go (has_row a.id rows) refl
         where
-          here : (b : Bool) → cond b rows (default_rows a.id (reading_by a) a.defaults rows) ≡ rows
-          here true = refl
-          here false = ap (λ d. default_rows a.id (reading_by a) d rows) none.0
+          given : (d : List Text) → ((how : Reading) (values : List Text) → Q (default_row a.id how values)) → has_row a.id rows ≡ false
+              → Each Q (default_rows a.id (reading_by a) d rows)
+          given [] q none = all
+          given (v ∷ vs) q none = subst (Each Q) (sym (at_none a.id (more_values DefaultValue (v ∷ vs)) (default_row a.id (reading_by a) (v ∷ vs) ∷ []) rows none))
+              (each_push Q rows _ all (q (reading_by a) (v ∷ vs)))
+
+          absent : IsDefaulted Q a → has_row a.id rows ≡ false → Each Q (default_rows a.id (reading_by a) a.defaults rows)
+          absent (inl nothing) none = subst (λ d. Each Q (default_rows a.id (reading_by a) d rows)) (sym nothing) all
+          absent (inr q) none = given a.defaults q none
+
+          go : (b : Bool) → has_row a.id rows ≡ b → Each Q (cond b rows (default_rows a.id (reading_by a) a.defaults rows))
+          go true e = all
+          go false e = absent is e
+
+      defaults_good : (xs : List Rule) (rows : List Row) → Each (IsDefaulted Q) xs → Each Q rows → Each Q (fold with_default rows xs)
+      defaults_good [] rows are all = all
+      defaults_good (a ∷ xs) rows are all = defaults_good xs (with_default rows a) are.1 (default_good a rows are.0 all)
 
       -- the rows of a level whose steps all pass
-      pub level_good : (words : List Text) (has : Bool) (below : Kinds) → Each (λ a. a.defaults ≡ []) c → level_fault s names nothing_held words has below ≡ []
+      pub level_good : (words : List Text) (has : Bool) (below : Kinds) → Each (IsDefaulted Q) c → level_fault s names nothing_held words has below ≡ []
           → Each Q (rows_after c names words)
-      level_good words has below none e =
+      level_good words has below are e =
           let end = (walk c names nothing_held words).held in
           let later : or_else (settle_fault s.rules s.args_override_self (walk s.rules names nothing_held words).held) _ ≡ [] = none_next below _ (none_next _ _ e) in
           let settles : settle_fault c false end ≡ [] = subst (λ b. settle_fault c b end ≡ []) once
           (subst (λ r. settle_fault r s.args_override_self (walk r names nothing_held words).held ≡ []) own (none_first _ _ later)) in
           let walks = walk_good (walk_from nothing_held) words (none_first _ _ e) tt in
-          subst (Each Q) (sym (no_default c (settled c end).rows none)) (settle_good end settles walks)
+          defaults_good c (settled c end).rows are (settle_good end settles walks)
 
 -- the row of what is given
 pub given_row : (Q : Row → Type 0) (id : Text) (rows : List Row) → Each Q rows → is_given id rows ≡ true

@@ -1,5 +1,5 @@
--- What clap takes as words of the command: the subcommand `module`, or an order with its two options.
-use Rattle.std.proofs.Common.{◌≡◌, ◌∙◌, ◌⊎◌, ◌∷◌, ◌++◌, ◌||◌, ap, sym, subst, refl, arith, inl, inr, true, false, not, true≢false, Bool, cond, codes, map, List, [], Option, Some, None, ℕ}
+-- What clap takes as words of the command: the subcommand `flatten` or `module`, or an order with its two options.
+use Rattle.std.proofs.Common.{◌≡◌, ◌<◌, ◌∙◌, ◌⊎◌, ◌∷◌, ◌++◌, ◌||◌, ap, sym, subst, refl, arith, inl, inr, true, false, not, true≢false, Bool, cond, codes, map, List, [], Option, Some, None, ℕ}
 use Rattle.std.specs.Prelude.{find, slice_get, slice_index_or, option_and_then, option_map}
 use Rattle.std.specs.Borrow.{Bor}
 use Rattle.std.specs.List.{list_all, list_any}
@@ -15,13 +15,13 @@ use Rattle.clap.specs.declared.builder.value_parser.ValueParser.{ValueParser}
 use Rattle.clap.specs.declared.builder.value_parser.ValueParser.TheVariants.{Names}
 use Rattle.clap.specs.declared.error.kind.ErrorKind.TheVariants as kind
 use Rattle.clap.proofs.WalkLemmas.{list_any-map}
-use Rattle.asn_tool.specs.Command.{AreOrders, HasOptions, IsOneOf, IsRules, IsTaken, IsTool, order_names, order_shape, rule_names, tool}
-use Rattle.asn_tool.proofs.SetOptions.{Each, IsOption, check_passes, found, given_row, level_good, no_kind, none_first, none_next}
+use Rattle.asn_tool.specs.Command.{AreOrders, HasOptions, IsOneOf, IsTaken, IsTool, TakesNames, flatten_app, module_shape, order_names, order_shape, rule_names, tool}
+use Rattle.asn_tool.proofs.SetOptions.{Each, IsDefaulted, IsOption, check_passes, default_row, found, given_row, level_good, no_kind, none_first, none_next, set_row}
 use Rattle.asn_tool.proofs.NotHelp.{StopsElsewhere, walk_stops}
 
 -- what a subcommand takes from the command above it, once that is built
 abbrev above : Shape
-above = record (tool []).top { is_built = true }
+above = record (tool None []).top { is_built = true }
 
 abbrev built_order : Text → Option ValueParser → Shape
 built_order name p = built_leaf (inherited above (order_shape name p))
@@ -49,31 +49,70 @@ each_given (name ∷ names) (s ∷ shapes) are =
     rw here (each_given names shapes are.1)
 
 pub tool_simple : (a : App) → IsTool a → is_simple a ≡ true
-tool_simple a t = subst (λ x. is_simple x ≡ true) (sym t.2)
-    (rw (each_given order_names t.0 t.1, each_leaf is_ready_leaf refl (λ name p. refl) order_names t.0 t.1) refl)
+tool_simple a t = subst (λ x. is_simple x ≡ true) (sym t.4)
+    (rw (each_given order_names t.1 t.3, each_leaf is_ready_leaf refl (λ name p. refl) order_names t.1 t.3) refl)
 
 pub tool_free : (a : App) → IsTool a → is_simple_and_free a ≡ true
 tool_free a t =
-    let free : is_free_app (built a) ≡ true = subst (λ x. is_free_app (built x) ≡ true) (sym t.2)
-    (rw (each_leaf has_free_rules refl (λ name p. refl) order_names t.0 t.1) refl) in
+    let free : is_free_app (built a) ≡ true = subst (λ x. is_free_app (built x) ≡ true) (sym t.4)
+    (rw (each_leaf has_free_rules refl (λ name p. refl) order_names t.1 t.3) refl) in
     rw (tool_simple a t, free) refl
 
 -- ---- the options of an order
 
--- a value of an option, which is a name of encoding rules where it is of that option
+-- a value of the option `type`, and of the option `rules` one that is a name of encoding rules
 abbrev HasValue : Bor (List (Bor (List ℕ))) → Row → Type 0
-HasValue names r = (t : Text) × (slice_get r.values 0 ≡ Some t) × (r.id ≡ codes "rules" → value_kinds false (Names names) t ≡ [])
+HasValue names r = (r.id ≡ codes "type" → ((t : Text) × (slice_get r.values 0 ≡ Some t)))
+    × (r.id ≡ codes "rules" → ((t : Text) × (slice_get r.values 0 ≡ Some t) × (value_kinds false (Names names) t ≡ [])))
 
 abbrev leaf_rules : Bor (List (Bor (List ℕ))) → List Rule
 leaf_rules names = (built_order (codes "show") (Some (Names names))).rules
 
-other_option : (t : Text) → codes "type" ≡ codes "rules" → ⊥
-other_option t e = let bad : ◌≡◌ {A = ℕ} 116 114 = ap (λ l. slice_index_or l 0 0) e in absurd (omega arith)
+-- the first letter of an id
+abbrev first : Text → ℕ
+first id = slice_index_or id 0 0
+
+-- a row of another option has what is said of these two
+other : (names : Bor (List (Bor (List ℕ)))) (r : Row) → (first r.id ≡ 116 → ⊥) → (first r.id ≡ 114 → ⊥) → HasValue names r
+other names r no_type no_rules = ((λ e. absurd (no_type (ap first e))), (λ e. absurd (no_rules (ap first e))))
+
+letters : (x : ℕ) → x < 114 → ((x ≡ 116 → ⊥) × (x ≡ 114 → ⊥))
+letters x below = ((λ e. absurd (omega arith)), (λ e. absurd (omega arith)))
 
 leaf_options : (names : Bor (List (Bor (List ℕ)))) → Each (IsOption (HasValue names)) (leaf_rules names)
 leaf_options names = (
-  inr (refl, refl, λ how v vs ok. (v, refl, λ e. absurd (other_option v e))),
-  (inr (refl, refl, λ how v vs ok. (v, refl, λ e. ok)), (inl refl, tt)),
+  inr (inl (refl, refl, λ how v vs ok. ((λ e. (v, refl)), (λ e. let bad : ◌≡◌ {A = ℕ} 116 114 = ap first e in absurd (omega arith))))),
+  (
+    inr (inl (refl, refl, λ how v vs ok. ((λ e. let bad : ◌≡◌ {A = ℕ} 114 116 = ap first e in absurd (omega arith)), (λ e. (v, refl, ok))))),
+    (
+      inr (inr (inl refl, (λ how values. other names (set_row (codes "module") how values) (letters 109 (omega arith)).0 (letters 109 (omega arith)).1))),
+      (
+        inr (inr (inr refl, (λ how values. other names (set_row (codes "plain-bits") how values) (letters 112 (omega arith)).0 (letters 112 (omega arith)).1))),
+        (
+          inr (inr (inr refl, (λ how values. other names (set_row (codes "octets") how values) (letters 111 (omega arith)).0 (letters 111 (omega arith)).1))),
+          (inr (inr (inl refl, (λ how values. other names (set_row (codes "levels") how values) (letters 108 (omega arith)).0 (letters 108 (omega arith)).1))), (inl refl, tt)),
+        ),
+      ),
+    ),
+  ),
+)
+
+leaf_defaults : (names : Bor (List (Bor (List ℕ)))) → Each (IsDefaulted (HasValue names)) (leaf_rules names)
+leaf_defaults names = (
+  inl refl,
+  (
+    inl refl,
+    (
+      inl refl,
+      (
+        inr (λ how values. other names (default_row (codes "plain-bits") how values) (letters 112 (omega arith)).0 (letters 112 (omega arith)).1),
+        (
+          inr (λ how values. other names (default_row (codes "octets") how values) (letters 111 (omega arith)).0 (letters 111 (omega arith)).1),
+          (inl refl, (inl refl, tt)),
+        ),
+      ),
+    ),
+  ),
 )
 
 both_given : (b c : Bool) → (not b || (not c || false)) ≡ false → (b ≡ true) × (c ≡ true)
@@ -109,37 +148,39 @@ module _ (names : Bor (List (Bor (List ℕ)))) (are : map (λ name. name.now) na
       let s = built_order name (Some (Names names)) in
       let rows = rows_after s.rules [] words in
       let all : Each (HasValue names) rows =
-      level_good (HasValue names) (leaf_rules names) (leaf_options names) s [] refl refl (λ i. refl) words false [] (refl, (refl, (refl, tt))) e in
+      level_good (HasValue names) (leaf_rules names) (leaf_options names) s [] refl refl (λ i. refl) words false [] (leaf_defaults names) e in
       let given = both_given (is_given (codes "type") rows) (is_given (codes "rules") rows) (last_kind _ (check_passes s [] words false [] e)) in
       let type = given_row (HasValue names) (codes "type") rows all given.0 in
-      let rules = given_row (HasValue names) (codes "rules") rows all given.1 in (
+      let rules = given_row (HasValue names) (codes "rules") rows all given.1 in
+      let type_value = type.2.0 ((bytes_eq-Decides type.0.id (codes "type")).0 type.3) in
+      let rules_value = rules.2.1 ((bytes_eq-Decides rules.0.id (codes "rules")).0 rules.3) in (
         named,
-        (type.2.0, ap (option_and_then (λ r. slice_get r.values 0)) type.1 ∙ type.2.1),
+        (type_value.0, ap (option_and_then (λ r. slice_get r.values 0)) type.1 ∙ type_value.1),
         (
-          rules.2.0,
-          ap (option_and_then (λ r. slice_get r.values 0)) rules.1 ∙ rules.2.1,
-          is_rules names rules.2.0 are (rules.2.2 ((bytes_eq-Decides rules.0.id (codes "rules")).0 rules.3)),
+          rules_value.0,
+          ap (option_and_then (λ r. slice_get r.values 0)) rules.1 ∙ rules_value.1,
+          is_rules names rules_value.0 are rules_value.2,
         ),
       )
 
 -- ---- the subcommands
 
 abbrev IsBuilt : Shape → Type 0
-IsBuilt s = (s.name ≡ codes "module") ⊎ ((label_of s ≡ (codes "help", []))
-    ⊎ ((name : Text) × IsOneOf name order_names × ((p : Option ValueParser) × IsRules p × (s ≡ built_order name p))))
+IsBuilt s = (s.name ≡ codes "flatten") ⊎ ((s.name ≡ codes "module") ⊎ ((label_of s ≡ (codes "help", []))
+    ⊎ ((name : Text) × IsOneOf name order_names × ((p : Option ValueParser) × TakesNames rule_names p × (s ≡ built_order name p)))))
 
 each_sub : (names : List Text) (shapes : List Shape) → ((name : Text) → IsOneOf name names → IsOneOf name order_names) → AreOrders names shapes → Each IsBuilt (built_subs shapes)
-each_sub [] [] known are = (inr (inl refl), tt)
+each_sub [] [] known are = (inr (inr (inl refl)), tt)
 each_sub [] (s ∷ shapes) known are = absurd are
 each_sub (name ∷ names) [] known are = absurd are
 each_sub (name ∷ names) (s ∷ shapes) known are = (
-  inr (inr (name, known name (inl refl), (are.0.0, are.0.1, ap (λ x. built_leaf (inherited above x)) are.0.2))),
+  inr (inr (inr (name, known name (inl refl), (are.0.0, are.0.1, ap (λ x. built_leaf (inherited above x)) are.0.2)))),
   each_sub names shapes (λ n i. known n (inr i)) are.1,
 )
 
-module _ (shapes : List Shape) (are : AreOrders order_names shapes) (words : List Text) (e : fault_of (tool shapes) words ≡ []) where
+module _ (report : Option ValueParser) (shapes : List Shape) (are : AreOrders order_names shapes) (words : List Text) (e : fault_of (tool report shapes) words ≡ []) where
   abbrev whole : App
-  whole = built (tool shapes)
+  whole = built (tool report shapes)
 
   stops : StopsElsewhere (walk whole.top.rules (names_of whole) nothing_held words).stopped
   stops = walk_stops whole.top (names_of whole) refl (walk_from nothing_held) words (none_first _ _ e) tt
@@ -150,7 +191,8 @@ module _ (shapes : List Shape) (are : AreOrders order_names shapes) (words : Lis
   taken_sub : (s : Shape) (p : Text × List Text) → (StopsElsewhere (Some p)) → IsBuilt s → answers_to p.0 (label_of s) ≡ true → level_fault s [] nothing_held p.1 false [] ≡ []
       → IsTaken (Some (rows_at s p.1))
   taken_sub s p elsewhere (inl named) answers passed = inl named
-  taken_sub s p elsewhere (inr (inl help)) answers passed = absurd (true≢false (sym same ∙ elsewhere))
+  taken_sub s p elsewhere (inr (inl named)) answers passed = inr (inl named)
+  taken_sub s p elsewhere (inr (inr (inl help))) answers passed = absurd (true≢false (sym same ∙ elsewhere))
     where
       or_nothing : (b : Bool) → (b || false) ≡ true → b ≡ true
       or_nothing true e = refl
@@ -159,13 +201,13 @@ module _ (shapes : List Shape) (are : AreOrders order_names shapes) (words : Lis
       same : bytes_eq p.0 (codes "help") ≡ true
       same = let is : codes "help" ≡ p.0 = (bytes_eq-Decides (codes "help") p.0).0 (or_nothing _ (subst (λ l. answers_to p.0 l ≡ true) help answers)) in
           subst (λ t. bytes_eq t (codes "help") ≡ true) is refl
-  taken_sub s p elsewhere (inr (inr order)) answers passed =
+  taken_sub s p elsewhere (inr (inr (inr order))) answers passed =
       let names = order.2.1.0 in
       let is : s ≡ built_order order.0 (Some (Names names)) = order.2.2 ∙ ap (built_order order.0) order.2.1.1 in
-      inr (subst (λ x. HasOptions (rows_at x p.1)) (sym is)
-      (has_options names order.2.1.2 order.0 order.1 p.1 (subst (λ x. level_fault x [] nothing_held p.1 false [] ≡ []) is passed)))
+      inr (inr (subst (λ x. HasOptions (rows_at x p.1)) (sym is)
+      (has_options names order.2.1.2 order.0 order.1 p.1 (subst (λ x. level_fault x [] nothing_held p.1 false [] ≡ []) is passed))))
 
-  taken_tool : IsTaken (subcommand_of (tool shapes) words)
+  taken_tool : IsTaken (subcommand_of (tool report shapes) words)
   taken_tool = go (walk whole.top.rules (names_of whole) nothing_held words).stopped stops e
     where
       met : (p : Text × List Text) → StopsElsewhere (Some p) → (o : Option Shape) → find (λ s. answers_to p.0 (label_of s)) whole.subs ≡ o
@@ -174,7 +216,7 @@ module _ (shapes : List Shape) (are : AreOrders order_names shapes) (words : Lis
           → IsTaken (option_map (λ s. rows_at s p.1) o)
       met p elsewhere None is e = absurd (no_subcommand (check_passes whole.top (names_of whole) words false [] e))
       met p elsewhere (Some s) is e =
-          let got = found IsBuilt (λ s. answers_to p.0 (label_of s)) whole.subs s (inl refl, each_sub order_names shapes (λ n i. i) are) is in
+          let got = found IsBuilt (λ s. answers_to p.0 (label_of s)) whole.subs s (inl refl, (inr (inl refl), each_sub order_names shapes (λ n i. i) are)) is in
           taken_sub s p elsewhere got.0 got.1 (none_first _ _ (none_next _ _ e))
 
       go : (stop : Option (Text × List Text)) → StopsElsewhere stop
@@ -185,4 +227,4 @@ module _ (shapes : List Shape) (are : AreOrders order_names shapes) (words : Lis
 
 -- words of which clap tells no fault are a subcommand with its options
 pub taken : (a : App) (words : List Text) → IsTool a → fault_of a words ≡ [] → IsTaken (subcommand_of a words)
-taken a words t e = subst (λ x. IsTaken (subcommand_of x words)) (sym t.2) (taken_tool t.0 t.1 words (subst (λ x. fault_of x words ≡ []) t.2 e))
+taken a words t e = subst (λ x. IsTaken (subcommand_of x words)) (sym t.4) (taken_tool t.0 t.1 t.3 words (subst (λ x. fault_of x words ≡ []) t.4 e))

@@ -1,10 +1,12 @@
 -- The command of the program, as clap's own words state it, and what it takes.
-use Rattle.std.specs.Prelude.{◌≡◌, ◌⊎◌, ℕ, true, false, List, [], ◌∷◌, codes, map, Option, Some, None, ⊤}
+use Rattle.std.specs.Prelude.{◌≡◌, ◌⊎◌, ℕ, pos, true, false, List, [], ◌∷◌, ◌++◌, codes, map, Option, Some, None, ⊤}
 use Rattle.std.specs.Borrow.{Bor}
+use Rattle.clap.specs.Lexer.{usize_max}
 use Rattle.clap.specs.Words.{App, Shape, Rule, Row, Text, new_app, new_rule, with_rule, first_of}
 use Rattle.clap.specs.declared.builder.ValueParser.{ValueParser}
-use Rattle.clap.specs.declared.builder.ValueParser.TheVariants.{Names}
-use Rattle.clap.specs.declared.builder.ArgAction.TheVariants.{Set}
+use Rattle.clap.specs.declared.builder.ValueParser.TheVariants.{Names, Signed}
+use Rattle.clap.specs.declared.builder.ValueRange.{ValueRange}
+use Rattle.clap.specs.declared.builder.ArgAction.TheVariants.{Append, Set, SetTrue}
 
 -- the names of the subcommands that have a type and encoding rules
 abbrev pub order_names : List Text
@@ -13,27 +15,77 @@ order_names = codes "show" ∷ codes "check" ∷ codes "encode" ∷ codes "conve
 abbrev pub rule_names : List Text
 rule_names = codes "per" ∷ codes "oer" ∷ []
 
--- an option that has to be given, with one value
+abbrev pub report_names : List Text
+report_names = codes "summary" ∷ codes "text" ∷ codes "json" ∷ []
+
+-- the parser takes these names
+abbrev pub TakesNames : List Text → Option ValueParser → Type 0
+TakesNames words p = (names : Bor (List (Bor (List ℕ)))) × (p ≡ Some (Names names))
+    × (map (λ name. name.now) names.now ≡ words)
+
+-- one value and more
+abbrev pub some_values : ValueRange
+some_values = record { start_inclusive = 1; end_inclusive = usize_max }
+
+-- an option with one value
 abbrev pub option_rule : Text → Rule
-option_rule name = record (new_rule name) { long = Some name; required = true; action = Some Set; value_names = 1 }
+option_rule name = record (new_rule name) { long = Some name; action = Some Set; value_names = 1 }
+
+-- one that has to be given
+abbrev pub needed_rule : Text → Rule
+needed_rule name = record (option_rule name) { required = true }
+
+-- an option without a value
+abbrev pub flag_rule : Text → Rule
+flag_rule name = record (new_rule name) { long = Some name; action = Some SetTrue }
 
 abbrev pub type_rule : Rule
-type_rule = option_rule (codes "type")
+type_rule = needed_rule (codes "type")
 
 abbrev pub rules_rule : Option ValueParser → Rule
-rules_rule p = record (option_rule (codes "rules")) { parser = p }
+rules_rule p = record (needed_rule (codes "rules")) { parser = p }
 
--- the parser takes the names of the encoding rules
-abbrev pub IsRules : Option ValueParser → Type 0
-IsRules p = (names : Bor (List (Bor (List ℕ)))) × (p ≡ Some (Names names))
-    × (map (λ name. name.now) names.now ≡ rule_names)
+-- the files of the module
+abbrev pub module_rule : Rule
+module_rule = record (option_rule (codes "module")) { range = Some some_values }
+
+-- the files of the published modules
+abbrev pub file_rule : Rule
+file_rule = record (new_rule (codes "file")) {
+  required = true;
+  action = Some Append;
+  range = Some some_values;
+  value_names = 1;
+}
+
+abbrev pub report_rule : Option ValueParser → Rule
+report_rule p = record (option_rule (codes "report")) { parser = p }
+
+abbrev pub levels_rule : Rule
+levels_rule = record (option_rule (codes "levels")) { parser = Some (Signed (pos 0) (pos 4294967295)) }
+
+-- the options for what the profile does not have as it is published
+abbrev pub with_leave : App → App
+with_leave a = with_rule (with_rule (with_rule a (flag_rule (codes "plain-bits"))) (flag_rule (codes "octets"))) levels_rule
+
+-- the subcommand that flattens published modules
+abbrev pub flatten_app : Option ValueParser → App
+flatten_app p = with_leave (with_rule (with_rule (with_rule (new_app (codes "flatten")) file_rule) (report_rule p))
+    (flag_rule (codes "strict")))
+
+abbrev pub IsFlatten : Shape → Type 0
+IsFlatten s = (p : Option ValueParser) × TakesNames report_names p × (s ≡ (flatten_app p).top)
+
+-- the subcommand of the module
+abbrev pub module_shape : Shape
+module_shape = (with_leave (with_rule (new_app (codes "module")) module_rule)).top
 
 -- the subcommand of an order, with its two options
 abbrev pub order_shape : Text → Option ValueParser → Shape
-order_shape name p = (with_rule (with_rule (new_app name) type_rule) (rules_rule p)).top
+order_shape name p = (with_leave (with_rule (with_rule (with_rule (new_app name) type_rule) (rules_rule p)) module_rule)).top
 
 abbrev pub IsOrder : Text → Shape → Type 0
-IsOrder name s = (p : Option ValueParser) × IsRules p × (s ≡ order_shape name p)
+IsOrder name s = (p : Option ValueParser) × TakesNames rule_names p × (s ≡ order_shape name p)
 
 abbrev pub AreOrders : List Text → List Shape → Type 0
 AreOrders [] [] = ⊤
@@ -41,21 +93,22 @@ AreOrders (name ∷ names) (s ∷ shapes) = IsOrder name s × AreOrders names sh
 AreOrders [] (s ∷ shapes) = ⊥
 AreOrders (name ∷ names) [] = ⊥
 
--- the command, with these subcommands beside `module`
-abbrev pub tool : List Shape → App
-tool shapes = record {
+-- the command, with its subcommands
+abbrev pub tool : Option ValueParser → List Shape → App
+tool report shapes = record {
   top = record (new_app (codes "asn_tool")).top {
     has_version = true;
     no_binary_name = true;
     subcommand_required = true;
     is_leaf = false;
   };
-  subs = (new_app (codes "module")).top ∷ shapes;
+  subs = (flatten_app report).top ∷ module_shape ∷ shapes;
 }
 
 -- the command is that of the program
 abbrev pub IsTool : App → Type 0
-IsTool a = (shapes : List Shape) × AreOrders order_names shapes × (a ≡ tool shapes)
+IsTool a = (report : Option ValueParser) × (shapes : List Shape) × TakesNames report_names report × AreOrders order_names shapes
+    × (a ≡ tool report shapes)
 
 -- ---- what it takes
 
@@ -71,4 +124,4 @@ HasOptions found = IsOneOf found.0 order_names × ((t : Text) × (first_of (code
 -- the subcommand, with its options, is one of the command's
 abbrev pub IsTaken : Option (Text × List Row) → Type 0
 IsTaken None = ⊥
-IsTaken (Some found) = (found.0 ≡ codes "module") ⊎ HasOptions found
+IsTaken (Some found) = (found.0 ≡ codes "flatten") ⊎ ((found.0 ≡ codes "module") ⊎ HasOptions found)

@@ -1,6 +1,6 @@
 //! How the program ends.
 ghost use Rattle.std.specs.Prelude.{◌≡◌};
-ghost use Rattle.asn_tool.specs.Tool.{end_of};
+ghost use Rattle.asn_tool.specs.Ending.{end_of, refusal_end_of};
 
 use asn_convert::{RunFault, Status};
 
@@ -19,5 +19,22 @@ pub fn ending(answer: &Result<Status, RunFault>) -> (u8, &'static str)
         Err(RunFault::Read) => (3, "read failed"),
         Err(RunFault::Write) => (3, "write failed"),
         Err(RunFault::Memory) => (3, "memory"),
+    }
+}
+
+/// The exit status, and the line for standard error, where nothing is done: the words are refused, which standard
+/// error tells, or help or the version is asked for, which standard output tells. `is_written` says whether that was
+/// written.
+///
+/// 2 where the words are refused, whether or not that could be told; 0 after help or the version, and 3 where these
+/// could not be written.
+pub fn refusal_ending(is_refused: bool, is_written: bool) -> (u8, &'static str)
+    ensures status { result.0 ≡ (refusal_end_of is_refused is_written).0 }
+    ensures line { result.1.now ≡ (refusal_end_of is_refused is_written).1 }
+{
+    match (is_refused, is_written) {
+        (true, _) => (2, ""),
+        (false, true) => (0, ""),
+        (false, false) => (3, "write failed"),
     }
 }

@@ -3,19 +3,41 @@
 /// Of the program.
 pub static PROGRAM: &str = "\
 In: on standard input the text of a module; for all but `module` then a line that is ====, and a line for each message.
-Out: on standard output a line for each message, which begins with ! where it is refused.
+With --module the texts of the module are those of files, and standard input has the messages alone. The text may be one
+of the profile, or a module as a standards body publishes it, of which `flatten --help` tells.
+Out: on standard output a line for each message, which begins with ! where it is refused. On standard error what is not
+the same of the published types that --type leads to, with file and line.
 
-Exit status: 0 if all went well; 1 if at least one message was refused; 2 if the words were not understood, the module
-was refused or it has no type of the name; 3 if reading, writing or memory failed, with a line on standard error.
+Exit status: 0 if all went well; 1 if at least one message or type was refused; 2 if the words were not understood, the
+module was refused or it has no type of the name; 3 if reading, writing or memory failed, with a line on standard error.
 
 Example:
   printf '%s\\n' 'M DEFINITIONS AUTOMATIC TAGS ::= BEGIN' 'T ::= INTEGER (0..7)' END ==== a0 |
     asn_tool show --type T --rules per
 writes 5.";
 
+/// Of `flatten`.
+pub static FLATTEN: &str = "\
+In: the texts of modules as they are published: with IMPORTS, object identifiers, values, named numbers and bits, groups
+in [[ ]], contents, classes and parameters.
+Out: on standard output the one module of the profile that they become. On standard error what became of the types: how
+many are the same, wider, owed, per only and refused; with --report text a line for each remark, as FILE:LINE: TYPE:
+STATUS: REMARK; with --report json a line of JSON for each type.
+
+Exit status: 0; 1 if at least one type was refused; 2 if a text is none of the notation, which standard error tells with
+file and line; 3 if reading, writing or memory failed.
+
+Example:
+  echo 'M DEFINITIONS AUTOMATIC TAGS ::= BEGIN n INTEGER ::= 7 T ::= INTEGER (0..n) END' >m.asn
+  asn_tool flatten m.asn
+writes
+  M DEFINITIONS AUTOMATIC TAGS ::= BEGIN
+  T ::= INTEGER (0..7)
+  END";
+
 /// Of `module`.
 pub static MODULE: &str = "\
-In: the text of a module. Lines after one that is ==== are ignored.
+In: the text of a module. Lines after one that is ==== are ignored. With --module nothing is read of standard input.
 Out: the module, a line for each assignment, in order, each reference followed and each bound effective.
 
 Exit status: 0; 2 if the module was refused, which the only line of output tells; 3 if reading, writing or memory

@@ -1,22 +1,29 @@
-//! Reads an ASN.1 module and lines from standard input, and prints the module, or shows, checks, encodes or converts
-//! the message of each line.
+//! Reads ASN.1 modules and lines, and prints or flattens the modules, or shows, checks, encodes or converts the message
+//! of each line.
 #![tactic(auto)]
 
 mod ending;
+mod flattening;
 mod help;
-mod job;
+mod request;
+mod running;
+mod sources;
+mod stop;
+mod texts;
 mod words;
 
-use asn_convert::{Job, run};
-use asn_rules::Counted;
-use ending::ending;
-use job::{LineFault, job_of};
+use ending::refusal_ending;
+use flattening::flatten_files;
+use request::{LineFault, Request, request_of};
+use running::run_job;
+use std::env;
 use std::io::ErrorKind;
 use std::process::ExitCode;
-use std::{env, io};
+use stop::Stop;
 
-/// Does the job that the words after the program's name ask for, on standard input and output. The exit status is that
-/// of `ending`; 0 after help or the version, 2 where the words ask for no job, and 3 where there is no memory for them.
+/// Does what the words after the program's name ask for. The exit status is 0 where all is well, after help and the
+/// version too; 1 where a line or a type is refused; 2 where the words, a text or the module is; and 3 where reading,
+/// writing or memory failed.
 fn main(rt: HostRuntime) -> ExitCode {
     let given = match env::args(&rt) {
         Ok(given) => given,
@@ -35,28 +42,45 @@ fn main(rt: HostRuntime) -> ExitCode {
             return told(&rt, 3, "memory");
         }
     }
-    match job_of(rt.alloc(), texts.as_slice()) {
-        Ok(job) => end_of(&rt, &job),
+    match request_of(rt.alloc(), texts.as_slice()) {
+        Ok(request) => match do_request(&rt, &request) {
+            Ok(status) => ExitCode::from(status),
+            Err(stop) => stop_told(&rt, &stop),
+        },
         Err(fault) => fault_told(&rt, &fault),
     }
 }
 
-/// The exit status of the job, which is done on standard input and output.
-fn end_of(rt: &HostRuntime, job: &Job) -> ExitCode {
-    let mut input = Counted::new(rt.reader());
-    let mut output = Counted::new(io::writer(rt));
-    let (status, line) = ending(&run(rt.alloc(), &mut input, &mut output, job));
-    told(rt, status, line)
+/// Does what is asked for, and gives the exit status.
+fn do_request<'a>(rt: &HostRuntime, request: &Request<'a>) -> Result<u8, Stop<'a>> {
+    match request {
+        Request::Flatten {
+            files,
+            options,
+            form,
+        } => flatten_files(rt, files.as_slice(), *options, *form),
+        Request::Run {
+            job,
+            files,
+            options,
+        } => run_job(rt, job, files.as_slice(), *options),
+    }
 }
 
-/// The exit status where there is no job. Help and the version go to standard output, the rest to standard error.
+/// The exit status where the program stops before its work is done, after the line on standard error.
+fn stop_told(rt: &HostRuntime, stop: &Stop<'_>) -> ExitCode {
+    let _ = eprintln!(rt; "{stop}");
+    ExitCode::from(stop.status())
+}
+
+/// The exit status where there is no request. Help and the version go to standard output, the rest to standard error.
 fn fault_told(rt: &HostRuntime, fault: &LineFault) -> ExitCode {
     match fault {
-        LineFault::Line(error) => match error.print(rt) {
-            Ok(()) if error.use_stderr() => ExitCode::from(2),
-            Ok(()) => ExitCode::from(0),
-            Err(_) => told(rt, 3, "write failed"),
-        },
+        LineFault::Line(error) => {
+            let is_written = error.print(rt).is_ok();
+            let (status, line) = refusal_ending(error.use_stderr(), is_written);
+            told(rt, status, line)
+        }
         LineFault::Memory => told(rt, 3, "memory"),
     }
 }

@@ -2,32 +2,33 @@ use Rattle.std.proofs.Common.{ap, ap₂, codes, true, false, ◌≡◌, ◌∙�
 use Rattle.std.proofs.lemmas.Result.{IfOk-weaker}
 use Rattle.clap.specs.Simple.{app_of_fields, on_top}
 use Rattle.clap.specs.Words.{App, app_of, shape_of, new_app, with_subcommand}
-use Rattle.clap.specs.declared.builder.Command.TheViews.{out-Command}
 use Rattle.asn_tool.proofs.words.command.Goals as goal
 
 pub returns : goal.returns
 returns c =
-    let version_is : app_of c.version.result ≡ on_top (λ s. record s { has_version = true }) (new_app (codes "asn_tool")) = ap app_of_fields c.version.ensures ∙ ap (on_top (λ s. record s { has_version = true })) c.new-2.ensures.app in
-    let help_is : app_of c.after_help.result ≡ app_of c.version.result = ap app_of_fields c.after_help.ensures ∙ ap app_of_fields c.about-2.ensures in
+    let version_is : app_of c.version.result ≡ on_top (λ s. record s { has_version = true }) (new_app (codes "asn_tool")) = ap app_of_fields c.version.ensures ∙ ap (on_top (λ s. record s { has_version = true })) c.new.ensures.app in
+    let help_is : app_of c.after_help.result ≡ app_of c.version.result = ap app_of_fields c.after_help.ensures ∙ ap app_of_fields c.about.ensures in
     let bare_is : app_of c.no_binary_name.result ≡ on_top (λ s. record s { no_binary_name = true }) (app_of c.after_help.result) = ap app_of_fields c.no_binary_name.ensures in
     let top_is : app_of c.subcommand_required.result ≡ on_top (λ s. record s { subcommand_required = true }) (app_of c.no_binary_name.result) = ap app_of_fields c.subcommand_required.ensures in
     let all_is = top_is ∙ ap (on_top (λ s. record s { subcommand_required = true })) (bare_is ∙ ap (on_top (λ s. record s { no_binary_name = true })) (help_is ∙ version_is)) in
-    let module_is : shape_of c.after_help-module.result ≡ (new_app (codes "module")).top = ap (λ (a : App). a.top) (ap app_of_fields c.after_help-module.ensures ∙ (ap app_of_fields c.about.ensures ∙ c.new.ensures.app)) in
-    let module_local : (out-Command c.after_help-module.result).has_globals ≡ false = ap (λ f. f.has_globals) c.after_help-module.ensures ∙ (ap (λ f. f.has_globals) c.about.ensures ∙ c.new.ensures.local) in
-    let one = c.in_ok-subcommand.ensures.shape module_local ∙ ap₂ with_subcommand all_is module_is in
+    let flat = c.in_ok-flatten.ensures.shape in
     let show = c.in_ok-order.ensures.shape in
     let check = c.in_ok-order-2.ensures.shape in
     let encode = c.in_ok-order-3.ensures.shape in
     let convert = c.in_ok-order-4.ensures.shape in
     let newer = c.in_ok-order-5.ensures.shape in
-    let two = c.in_ok-subcommand-2.ensures.shape c.in_ok-order.ensures.local ∙ ap (λ b. with_subcommand b (shape_of c.in_ok-order.field-0)) one in
-    let three = c.in_ok-subcommand-3.ensures.shape c.in_ok-order-2.ensures.local ∙ ap (λ b. with_subcommand b (shape_of c.in_ok-order-2.field-0)) two in
-    let four = c.in_ok-subcommand-4.ensures.shape c.in_ok-order-3.ensures.local ∙ ap (λ b. with_subcommand b (shape_of c.in_ok-order-3.field-0)) three in
-    let five = c.in_ok-subcommand-5.ensures.shape c.in_ok-order-4.ensures.local ∙ ap (λ b. with_subcommand b (shape_of c.in_ok-order-4.field-0)) four in
-    IfOk-weaker c.subcommand-6.result _ _
+    let one = c.in_ok-subcommand.ensures.shape c.in_ok-flatten.ensures.local ∙ ap₂ with_subcommand all_is flat.2 in
+    let two = c.in_ok-subcommand-2.ensures.shape c.in_ok-module.ensures.local ∙ ap₂ with_subcommand one c.in_ok-module.ensures.shape in
+    let three = c.in_ok-subcommand-3.ensures.shape c.in_ok-order.ensures.local ∙ ap (λ b. with_subcommand b (shape_of c.in_ok-order.field-0)) two in
+    let four = c.in_ok-subcommand-4.ensures.shape c.in_ok-order-2.ensures.local ∙ ap (λ b. with_subcommand b (shape_of c.in_ok-order-2.field-0)) three in
+    let five = c.in_ok-subcommand-5.ensures.shape c.in_ok-order-3.ensures.local ∙ ap (λ b. with_subcommand b (shape_of c.in_ok-order-3.field-0)) four in
+    let six = c.in_ok-subcommand-6.ensures.shape c.in_ok-order-4.ensures.local ∙ ap (λ b. with_subcommand b (shape_of c.in_ok-order-4.field-0)) five in
+    IfOk-weaker c.subcommand-7.result _ _
     (λ d h. (
+      flat.0,
       shape_of c.in_ok-order.field-0 ∷ shape_of c.in_ok-order-2.field-0 ∷ shape_of c.in_ok-order-3.field-0 ∷ shape_of c.in_ok-order-4.field-0 ∷ shape_of c.in_ok-order-5.field-0 ∷ [],
+      flat.1,
       (show, (check, (encode, (convert, (newer, tt))))),
-      h.shape c.in_ok-order-5.ensures.local ∙ ap (λ b. with_subcommand b (shape_of c.in_ok-order-5.field-0)) five,
+      h.shape c.in_ok-order-5.ensures.local ∙ ap (λ b. with_subcommand b (shape_of c.in_ok-order-5.field-0)) six,
     ))
-    c.subcommand-6.ensures
+    c.subcommand-7.ensures

@@ -1,11 +1,10 @@
 use Rattle.std.proofs.Common.{map}
 use Rattle.std.proofs.lemmas.Result.{err_from_is_err_and}
 use Rattle.clap.specs.Words.{app_of}
-use Rattle.asn_tool.proofs.Refusals.{found_job, found_taken, told_by}
+use Rattle.asn_tool.proofs.Refusals.{found_request, found_taken, told_by}
 use Rattle.asn_tool.proofs.Taken.{tool_free}
-use Rattle.asn_tool.proofs.job.job_of.Goals as goal
+use Rattle.asn_tool.proofs.request.request_of.Goals as goal
 
--- src/job.rt:40:19
 pub returns-in_err-matches-clause-fault : goal.returns-in_err-matches-clause-fault
 returns-in_err-matches-clause-fault c =
     let a = app_of c.in_ok-command.command in
@@ -13,19 +12,17 @@ returns-in_err-matches-clause-fault c =
     let p = err_from_is_err_and c.from_residual-in_err-matches.result c.from_residual-in_err-matches.ensures.1 in
     rw (p.1, p.2) (told_by (map (λ w. w.now) c.args.words.now) _ a c.in_ok-command.ensures h)
 
--- src/job.rt:41:8
-pub job_in-requires : goal.job_in-requires
-job_in-requires c =
+pub request_in-requires : goal.request_in-requires
+request_in-requires c =
     let a = app_of c.in_ok-command.command in
     found_taken (map (λ w. w.now) c.args.words.now) a c.in_ok-matches.matches c.in_ok-command.ensures c.in_ok-matches.ensures.matches
     (c.in_ok-matches.ensures.kinds (tool_free a c.in_ok-command.ensures))
 
--- src/job.rt:35:1
-pub returns-clause-job : goal.returns-clause-job
-returns-clause-job c =
+pub returns-clause-request : goal.returns-clause-request
+returns-clause-request c =
     let a = app_of c.in_ok-command.command in (
       a,
       c.in_ok-command.ensures,
       c.in_ok-matches.ensures.kinds (tool_free a c.in_ok-command.ensures),
-      found_job (map (λ w. w.now) c.args.words.now) a c.in_ok-matches.matches c.in_ok-job_in.field-0 c.in_ok-command.ensures c.in_ok-matches.ensures.matches c.in_ok-job_in.ensures,
+      found_request (map (λ w. w.now) c.args.words.now) a c.in_ok-matches.matches c.in_ok-request_in.field-0 c.in_ok-command.ensures c.in_ok-matches.ensures.matches c.in_ok-request_in.ensures,
     )

@@ -1,0 +1,117 @@
+-- What words ask for, as clap states what it finds in them.
+use Rattle.std.specs.Prelude.{◌≡◌, ◌≢◌, ◌<◌, ◌^◌, ℕ, Bool, true, false, List, [], codes, map, Option, Some, None, unwrap_or, if◌then◌else◌, string_bytes, ⊤}
+use Rattle.std.specs.Borrow.{Bor}
+use Rattle.std.specs.Option.{option_map_or}
+use Rattle.std.specs.Str.{bytes_eq}
+use Rattle.std.specs.Str.Parse.{IsNumeral, digits_value, without_leading_plus}
+use Rattle.clap.specs.Words.{Row, Text, all_of, first_of, one_of, subcommand_of, kind_of, fault_of, IsAmong}
+use Rattle.clap.specs.declared.error.Error.{Error}
+use Rattle.clap.specs.declared.error.ErrorKind.{ErrorKind}
+use Rattle.clap.specs.declared.error.ErrorKind.TheVariants as kind
+use Rattle.asn_convert.specs.declared.job.Job.{Job}
+use Rattle.asn_convert.specs.declared.job.Job.TheVariants as job
+use Rattle.asn_convert.specs.declared.job.Order.{Order}
+use Rattle.asn_convert.specs.declared.job.Order.TheVariants as order
+use Rattle.asn_convert.specs.declared.job.RuleName.{RuleName}
+use Rattle.asn_convert.specs.declared.job.RuleName.TheVariants as rules
+use Rattle.asn_published.specs.declared.options.Options.{Options}
+use Rattle.asn_tool.specs.declared.request.Form.{Form}
+use Rattle.asn_tool.specs.declared.request.Form.TheVariants as form
+use Rattle.asn_tool.specs.declared.request.LineFault.{LineFault}
+use Rattle.asn_tool.specs.declared.request.LineFault.TheVariants as line
+use Rattle.asn_tool.specs.declared.request.Request.{Request}
+use Rattle.asn_tool.specs.declared.request.Request.TheVariants as request
+use Rattle.asn_tool.specs.Command.{IsTool}
+
+-- ---- the job
+
+abbrev pub order_name : Order → Text
+order_name order.Show = codes "show"
+order_name order.Check = codes "check"
+order_name order.Encode = codes "encode"
+order_name order.Convert = codes "convert"
+order_name order.Newer = codes "newer"
+
+abbrev pub rule_name : RuleName → Text
+rule_name rules.Per = codes "per"
+rule_name rules.Oer = codes "oer"
+
+-- the job of a subcommand, by its name, and of the values of its options
+abbrev pub IsJobOf : Text × List Row → Job → Type 0
+IsJobOf found job.Module = found.0 ≡ codes "module"
+IsJobOf found (job.Lines o type_name r) = (found.0 ≡ order_name o)
+    × (first_of (codes "type") found.1 ≡ Some (string_bytes type_name))
+    × (first_of (codes "rules") found.1 ≡ Some (rule_name r))
+
+-- ---- files and options
+
+abbrev pub texts_of : List (Bor Text) → List Text
+texts_of = map (λ t. t.now)
+
+-- the values of an argument, none where it was not used
+abbrev pub files_of : Text → List Row → List Text
+files_of id rows = unwrap_or (all_of id rows) []
+
+-- whether a flag was given: what clap reads of it is `true` then, and else `false` or nothing
+abbrev pub IsFlag : Text → List Row → Bool → Type 0
+IsFlag id rows given = (one_of id rows ≡ Some (codes "true") → given ≡ true)
+    × (one_of id rows ≡ Some (codes "false") → given ≡ false) × (one_of id rows ≡ None → given ≡ false)
+
+-- the text is a decimal number of 32 bits
+abbrev pub IsNumber : Text → Type 0
+IsNumber t = IsNumeral 10 (without_leading_plus t) × (digits_value 10 (without_leading_plus t) < 2 ^ 32)
+
+-- the number that a text is, if it is one
+abbrev pub Reads : Text → Option ℕ → Type 0
+Reads t (Some n) = IsNumber t × (n ≡ digits_value 10 (without_leading_plus t))
+Reads t None = IsNumber t → ⊥
+
+-- the number that is given as the levels, 0 where there is none
+abbrev pub AreLevels : List Row → ℕ → Type 0
+AreLevels rows n = (read : Option ℕ) × (n ≡ unwrap_or read 0) × (one_of (codes "levels") rows ≡ None → read ≡ None)
+    × ((t : Text) → one_of (codes "levels") rows ≡ Some t → Reads t read)
+
+abbrev pub AreOptions : List Row → Options → Type 0
+AreOptions rows o = IsFlag (codes "plain-bits") rows o.plain_bits × IsFlag (codes "octets") rows o.octets
+    × AreLevels rows o.levels × IsFlag (codes "strict") rows o.strict
+
+-- the form of a name, and the one that is given: a summary where another is named, or none
+abbrev pub form_of : Text → Form
+form_of name = if bytes_eq name (codes "text") then form.Text
+    else (if bytes_eq name (codes "json") then form.Json else form.Summary)
+
+abbrev pub form_in : List Row → Form
+form_in rows = option_map_or form_of (first_of (codes "report") rows) form.Summary
+
+-- ---- the request
+
+-- what a subcommand asks for, by its name, and the values of its arguments
+abbrev pub IsRequestOf : Text × List Row → Request → Type 0
+IsRequestOf found (request.Flatten files options f) = (found.0 ≡ codes "flatten")
+    × (texts_of files.items ≡ files_of (codes "file") found.1) × AreOptions found.1 options × (f ≡ form_in found.1)
+IsRequestOf found (request.Run j files options) = IsJobOf found j
+    × (texts_of files.items ≡ files_of (codes "module") found.1) × AreOptions found.1 options
+
+abbrev pub HasRequest : Option (Text × List Row) → Request → Type 0
+HasRequest None r = ⊥
+HasRequest (Some found) r = IsRequestOf found r
+
+-- clap tells no fault of the words, and what is asked for is that of the subcommand that it finds
+abbrev pub Asks : List Text → Request → Type 0
+Asks words r = (a : _) × IsTool a × (fault_of a words ≡ []) × HasRequest (subcommand_of a words) r
+
+-- clap refuses the words by this error, or answers them with help or the version
+abbrev pub IsRefused : List Text → Error → Type 0
+IsRefused words e = (kind_of e ≢ kind.OutOfMemory) × ((a : _) × IsTool a × IsAmong (kind_of e) (fault_of a words))
+
+abbrev pub Told : List Text → LineFault → Type 0
+Told words (line.Line e) = IsRefused words e
+Told words line.Memory = ⊤
+
+abbrev pub of_kind : ErrorKind → Error → LineFault
+of_kind kind.OutOfMemory e = line.Memory
+of_kind _ e = line.Line e
+
+-- the fault of an error of clap
+abbrev pub fault_by : Error → LineFault
+fault_by e = of_kind (kind_of e) e

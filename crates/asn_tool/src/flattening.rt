@@ -1,0 +1,55 @@
+//! Published modules as one module of the profile.
+use crate::request::Form;
+use crate::stop::Stop;
+use crate::texts::{texts_of, views_of};
+use asn_published::{Options, Status, TypeReport, flatten, report_json, report_text, summary_of};
+use std::alloc::{AllocError, Global};
+
+/// Writes the module that the published modules of these files become to standard output, and what became of each type
+/// to standard error. The exit status is 0, or 1 where a type is refused.
+pub fn flatten_files<'a>(
+    rt: &HostRuntime,
+    files: &[&'a str],
+    options: Options,
+    form: Form,
+) -> Result<u8, Stop<'a>> {
+    let texts = texts_of(rt, files)?;
+    let views = views_of(rt, texts.as_slice())?;
+    let flattened = match flatten(rt.alloc(), views.as_slice(), options) {
+        Ok(flattened) => flattened,
+        Err(fault) => return Err(Stop::of(files, fault)),
+    };
+    let report = flattened.report.as_slice();
+    let told = report_in(rt.alloc(), files, report, form)?;
+    match rt.print(flattened.text.as_str()) {
+        Ok(()) => {}
+        Err(_) => return Err(Stop::Write),
+    }
+    match rt.eprint(told.as_str()) {
+        Ok(()) => Ok(flatten_ending(report)),
+        Err(_) => Err(Stop::Write),
+    }
+}
+
+/// What became of the types, in this form.
+fn report_in(
+    alloc: Global,
+    files: &[&str],
+    report: &[TypeReport],
+    form: Form,
+) -> Result<String, AllocError> {
+    match form {
+        Form::Summary => summary_of(alloc, report),
+        Form::Text => report_text(alloc, files, report),
+        Form::Json => report_json(alloc, files, report),
+    }
+}
+
+/// The exit status: 1 where a type is refused.
+fn flatten_ending(report: &[TypeReport]) -> u8 {
+    if report.iter().any(|one| one.status == Status::Refused) {
+        1
+    } else {
+        0
+    }
+}

@@ -1,0 +1,246 @@
+//! Which text is read as the module of a job.
+ghost use Rattle.std.specs.Prelude.{◌≡◌, ◌≢◌, ◌∷◌, ◌++◌, [], None, false, IfOk, IfSome, IsSomeAnd, IsUtf8, MatchOption, OnOk, string_bytes};
+ghost use Rattle.asn_module.specs.ModuleView.{types_view};
+ghost use Rattle.asn_module.specs.Accepted.{Accepted};
+ghost use Rattle.asn_module.specs.declared.fault.ModuleFault.{ModuleFault};
+ghost use Rattle.asn_convert.specs.Lines.{job_lines, lines_of, module_text};
+ghost use Rattle.asn_tool.specs.Request.{texts_of};
+ghost use Rattle.asn_tool.specs.Sources.{IsInput, IsInputOf, IsOwn, IsOwnInput, mark};
+
+use asn_convert::{Job, cut_input};
+use asn_module::{Module, ModuleFault};
+use asn_published::{
+    Flattened, Options, PublishedFault, Status, TypeReport, flatten, report_text, way_text,
+};
+use std::alloc::{AllocError, Global};
+
+/// What stands for the name of a file where a text is that of standard input.
+const STDIN: &str = "<stdin>";
+
+/// What a job is run on in the place of what was given, if anything, and what is told of its types.
+#[derive(Debug, Drop)]
+pub struct Instead {
+    pub octets: Option<Vec<u8>>,
+    pub remarks: String,
+}
+
+/// What a job is run on where standard input gave these octets: the same where the text before the line ==== is a
+/// module of the profile. Else that text is read as published modules, and it is a text of the module that they become,
+/// the line ====, and what follows it; where they become none, or the module is to be printed and a type is refused, it
+/// is the same again, which `run` refuses.
+pub fn instead_of(
+    alloc: Global,
+    octets: &[u8],
+    options: Options,
+    job: &Job,
+) -> Result<Instead, AllocError>
+    // A module of the profile is read as it is, and nothing is told.
+    ensures own { IfOk result (λ i. IsUtf8 (module_text octets.now) → IsOwn (module_text octets.now)
+        → (i.octets ≡ None) × (string_bytes i.remarks ≡ [])) }
+    // What stands in its place is a module, and the same lines.
+    ensures instead { IfOk result (λ i. IfSome i.octets (λ o. (rest : _)
+        × (lines_of rest ≡ job_lines octets.now) × IsInput rest o.items)) }
+{
+    let (text, rest) = cut_input(octets);
+    let Ok(text) = std::str::from_utf8(text) else {
+        return same(alloc);
+    };
+    if is_own(alloc, text)? {
+        return same(alloc);
+    }
+    published(alloc, text, rest, options, job)
+}
+
+/// What the text before the line ==== becomes as published modules, and what is told of it.
+fn published(
+    alloc: Global,
+    text: &str,
+    rest: &[u8],
+    options: Options,
+    job: &Job,
+) -> Result<Instead, AllocError>
+    ensures { IfOk result (λ i. IfSome i.octets (λ o. IsInput rest.now o.items)) }
+{
+    match flatten(alloc, &[text], options) {
+        Ok(flattened) => flattened_input(alloc, &[STDIN], &flattened, rest, job),
+        Err(fault) => Ok(Instead {
+            octets: None,
+            remarks: fault_line(alloc, &fault)?,
+        }),
+    }
+}
+
+/// Nothing stands in the place of what was given, and nothing is told.
+fn same(alloc: Global) -> Result<Instead, AllocError>
+    ensures { IfOk result (λ i. (i.octets ≡ None) × (string_bytes i.remarks ≡ [])) }
+{
+    Ok(Instead {
+        octets: None,
+        remarks: String::new(alloc),
+    })
+}
+
+/// Whether the text is a module of the profile.
+fn is_own(alloc: Global, text: &str) -> Result<bool, AllocError>
+    ensures { IfOk result (λ is. is ≡ false → IsOwn text.now → ⊥) }
+{
+    match own_of(alloc, text)? {
+        Some(_) => Ok(true),
+        None => Ok(false),
+    }
+}
+
+/// The module of the profile that the text is, if it is one.
+fn own_of(alloc: Global, text: &str) -> Result<Option<Module>, AllocError>
+    ensures { IfOk result (λ m. MatchOption m (IsOwn text.now → ⊥) (λ m. Accepted text.now (types_view m))) }
+{
+    match asn_module::read(alloc, text) {
+        Ok(module) => Ok(Some(module)),
+        Err(fault) => {
+            unless_memory(&fault)?;
+            Ok(None)
+        }
+    }
+}
+
+/// Nothing, where a fault is another than want of memory.
+fn unless_memory(fault: &ModuleFault) -> Result<(), AllocError>
+    ensures { OnOk result (fault.now ≢ ModuleFault.Memory) }
+{
+    if let ModuleFault::Memory = fault {
+        return Err(AllocError);
+    }
+    Ok(())
+}
+
+/// The line that tells why the text of standard input is no module.
+///
+/// # Errors
+/// `AllocError` where an allocation failed, here or before.
+fn fault_line(alloc: Global, fault: &PublishedFault) -> Result<String, AllocError> {
+    match fault {
+        PublishedFault::Text { line, wrong, .. } => {
+            format!(in alloc; "{STDIN}:{line}: {wrong}\n")
+        }
+        PublishedFault::Unread(fault) => format!(in alloc; "not read: {fault}\n"),
+        PublishedFault::Memory => Err(AllocError),
+    }
+}
+
+/// What a job is run on where the texts of its module are those of files: a text of the module, the line ====, and the
+/// octets of standard input. The module is the one text, where that is a module of the profile, and else the one that
+/// the texts become as published modules. There is nothing where the job is to print the module, and a type is refused.
+///
+/// # Errors
+/// Those of `flatten`.
+pub fn input_with(
+    alloc: Global,
+    files: &[&str],
+    texts: &[&str],
+    rest: &[u8],
+    options: Options,
+    job: &Job,
+) -> Result<Instead, PublishedFault>
+    ensures input { IfOk result (λ i. IfSome i.octets (λ o. IsInput rest.now o.items)) }
+    // A module of the profile is read as it is, and nothing is told.
+    ensures own { IfOk result (λ i. (text : _) → texts_of texts.now ≡ text ∷ [] → IsOwn text
+        → IsSomeAnd i.octets (λ o. IsOwnInput text rest.now o.items) × (string_bytes i.remarks ≡ [])) }
+{
+    match own_among(alloc, texts)? {
+        Some(module) => Ok(own_input(alloc, &module, rest)?),
+        None => published_input(alloc, files, texts, rest, options, job),
+    }
+}
+
+/// The module of the profile that is the only text, if it is one.
+fn own_among(alloc: Global, texts: &[&str]) -> Result<Option<Module>, AllocError>
+    ensures { IfOk result (λ m. MatchOption m ((text : _) → texts_of texts.now ≡ text ∷ [] → IsOwn text → ⊥)
+        (λ m. (text : _) × (texts_of texts.now ≡ text ∷ []) × Accepted text (types_view m))) }
+{
+    match texts {
+        [text] => own_of(alloc, *text),
+        _ => Ok(None),
+    }
+}
+
+/// What a job is run on for these texts of published modules, and what is told of it.
+fn published_input(
+    alloc: Global,
+    files: &[&str],
+    texts: &[&str],
+    rest: &[u8],
+    options: Options,
+    job: &Job,
+) -> Result<Instead, PublishedFault>
+    ensures { IfOk result (λ i. IfSome i.octets (λ o. IsInput rest.now o.items)) }
+{
+    let flattened = flatten(alloc, texts, options)?;
+    Ok(flattened_input(alloc, files, &flattened, rest, job)?)
+}
+
+/// What a job is run on for what published modules became, and what is told of it, `files` being the names of the files
+/// of the texts. There is nothing where the module is to be printed, and a type is refused.
+fn flattened_input(
+    alloc: Global,
+    files: &[&str],
+    flattened: &Flattened,
+    rest: &[u8],
+    job: &Job,
+) -> Result<Instead, AllocError>
+    requires { Accepted (string_bytes flattened.now.text) (types_view flattened.now.module) }
+    ensures { IfOk result (λ i. IfSome i.octets (λ o. IsInput rest.now o.items)) }
+{
+    let report = flattened.report.as_slice();
+    let remarks = remarks(alloc, files, report, job)?;
+    if *job == Job::Module && !is_whole(report) {
+        return Ok(Instead {
+            octets: None,
+            remarks,
+        });
+    }
+    let octets = Some(input_of(alloc, flattened.text.as_str(), rest)?);
+    Ok(Instead { octets, remarks })
+}
+
+/// What a job is run on for a module of the profile.
+fn own_input(alloc: Global, own: &Module, rest: &[u8]) -> Result<Instead, AllocError>
+    ensures { IfOk result (λ i. (source : _) → Accepted source (types_view own.now)
+        → IsSomeAnd i.octets (λ o. IsInputOf (types_view own.now) rest.now o.items)
+        × (string_bytes i.remarks ≡ [])) }
+{
+    let text = own.print(alloc)?;
+    let octets = Some(input_of(alloc, text.as_str(), rest)?);
+    Ok(Instead {
+        octets,
+        remarks: String::new(alloc),
+    })
+}
+
+/// Whether no type is refused.
+fn is_whole(report: &[TypeReport]) -> bool {
+    report.iter().all(|one| one.status != Status::Refused)
+}
+
+/// A line for each remark on the types that the job needs, `files` being the names of the files of the texts.
+fn remarks(
+    alloc: Global,
+    files: &[&str],
+    report: &[TypeReport],
+    job: &Job,
+) -> Result<String, AllocError> {
+    match job {
+        Job::Module => report_text(alloc, files, report),
+        Job::Lines { type_name, .. } => way_text(alloc, files, report, type_name.as_str()),
+    }
+}
+
+/// The input of a job: the text of the module, the line ====, and the octets after it.
+fn input_of(alloc: Global, text: &str, rest: &[u8]) -> Result<Vec<u8>, AllocError>
+    ensures { IfOk result (λ o. o.items ≡ text.now ++ mark ++ rest.now) }
+{
+    let mut octets = Vec::new(alloc);
+    octets.extend_from_slice(text.as_bytes())?;
+    octets.extend_from_slice(b"====\n".as_slice())?;
+    octets.extend_from_slice(rest)?;
+    Ok(octets)
+}

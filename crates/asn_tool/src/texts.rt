@@ -1,0 +1,34 @@
+//! The texts of files.
+use crate::stop::Stop;
+use std::fs;
+use std::io::ErrorKind;
+
+/// The text of a file.
+fn text_of<'a>(rt: &HostRuntime, file: &'a str) -> Result<String, Stop<'a>> {
+    match fs::read(rt, file) {
+        Ok(octets) => match String::from_utf8(octets) {
+            Ok(text) => Ok(text),
+            Err(_) => Err(Stop::NotText(file)),
+        },
+        Err(fault) if fault.kind() == ErrorKind::OutOfMemory => Err(Stop::Memory),
+        Err(_) => Err(Stop::Unread(file)),
+    }
+}
+
+/// The texts of files, in their order.
+pub fn texts_of<'a>(rt: &HostRuntime, files: &[&'a str]) -> Result<Vec<String>, Stop<'a>> {
+    let mut texts = Vec::new(rt.alloc());
+    for file in files {
+        texts.push(text_of(rt, file)?)?;
+    }
+    Ok(texts)
+}
+
+/// The texts as they are borrowed.
+pub fn views_of<'t>(rt: &HostRuntime, texts: &'t [String]) -> Result<Vec<&'t str>, Stop<'static>> {
+    let mut views = Vec::new(rt.alloc());
+    for text in texts {
+        views.push(text.as_str())?;
+    }
+    Ok(views)
+}

@@ -1,0 +1,196 @@
+#!/usr/bin/env python3
+"""Runs the program on published modules: those of examples/published, and hostile texts.
+
+usage: tests/published.py PROGRAM
+
+What `flatten` writes and tells of the examples is compared with what is stored there, and so is what the orders answer
+with these modules as files, and on standard input. A hostile text has to be refused with a line, or answered, in a time
+that grows with its length: twice the text may take three and a half times as long, by the clock of the processor. How
+long the largest of each kind took, and the most memory that it had, is printed. The last line is 'N passed, M failed'.
+"""
+import os
+import subprocess
+import sys
+import tempfile
+import time
+
+TOP = os.path.dirname(os.path.dirname(os.path.abspath(__file__)))
+EXAMPLES = f"{TOP}/examples/published"
+FILES = ["report.asn", "common.asn"]
+HEAD = "M DEFINITIONS AUTOMATIC TAGS ::= BEGIN\n"
+# twice the text may take so many times as long, and so many seconds more
+TIMES, SECONDS = 3.5, 0.3
+
+
+class Count:
+    passed = failed = 0
+
+    def add(self, well, what):
+        self.passed, self.failed = self.passed + well, self.failed + (not well)
+        if not well:
+            print(f"FAILED: {what}", flush=True)
+
+
+def run(program, words, given=b"", whole=True):
+    """The exit status, what was written and told, or the ends of that, the seconds of a processor and the MB of memory."""
+    with tempfile.TemporaryFile() as it, tempfile.TemporaryFile() as out, tempfile.TemporaryFile() as told:
+        it.write(given)
+        it.seek(0)
+        ran = subprocess.Popen([program, *words], stdin=it, stdout=out, stderr=told)
+        _, status, used = os.wait4(ran.pid, 0)
+        ran.returncode = os.waitstatus_to_exitcode(status)
+        out.seek(0 if whole else max(0, os.fstat(out.fileno()).st_size - 80))
+        told.seek(0)
+        return ran.returncode, out.read(), told.read(-1 if whole else 500), used.ru_utime + used.ru_stime, used.ru_maxrss / 1024
+
+
+def stored(name):
+    with open(name, "rb") as it:
+        return it.read()
+
+
+def examples(count, program):
+    """What stands in examples/published."""
+    flat, way = stored("flattened.asn"), stored("way.txt")
+    for words, told in (([], "summary.txt"), (["--report", "summary"], "summary.txt"), (["--report", "text"], "report.txt"), (["--report", "json"], "report.jsonl")):
+        ran = run(program, ["flatten", *words, *FILES])
+        count.add(ran[:3] == (1, flat, stored(told)), f"flatten {words}: {ran[:3]}")
+    ran = run(program, ["flatten", "--plain-bits", *FILES])
+    count.add(ran[0] == 0 and b"\nFaults ::= BIT STRING\n" in ran[1] and b"owed: 1\n" in ran[2], f"flatten --plain-bits: {ran[:3]}")
+    ran = run(program, ["flatten", "--strict", *FILES])
+    count.add(ran[0] == 1 and b"\nReport" not in ran[1] and b"\nLights" in ran[1] and b"refused: 4\n" in ran[2], f"flatten --strict: {ran[:3]}")
+    # what was flattened is a module of the profile, and stays what it is
+    count.add(run(program, ["module"], flat)[:3] == (0, flat, b""), "module of flattened.asn")
+    count.add(run(program, ["flatten", "flattened.asn"])[:2] == (0, flat), "flatten flattened.asn")
+    count.add(run(program, ["module", "--module", "flattened.asn"])[:3] == (0, flat, b""), "module --module flattened.asn")
+    # a type is refused, so the module is not printed
+    ran = run(program, ["module", "--module", *FILES])
+    count.add(ran[:3] == (2, b"", stored("report.txt")), f"module --module: {ran[:3]}")
+    ran = run(program, ["module", "--plain-bits", "--module", *FILES])
+    count.add(ran[:2] == (0, run(program, ["flatten", "--plain-bits", *FILES])[1]), f"module --plain-bits --module: {ran[:3]}")
+    texts = b"".join(map(stored, FILES)) + b"====\n"
+    for rules, other in (("per", "oer"), ("oer", "per")):
+        octets = stored(f"report.{rules}")
+        checked = b"".join(b"ok %d\n" % (len(it) // 2) for it in octets.split())
+        for order, lines, wanted in (
+            ("encode", stored("report.values"), octets),
+            ("show", octets, stored("report.json")),
+            ("check", octets, checked),
+            ("convert", octets, stored(f"report.{other}")),
+            ("newer", octets, stored("report.json")),
+        ):
+            words = [order, "--type", "Report", "--rules", rules]
+            ran = run(program, [*words, "--module", *FILES], lines)
+            count.add(ran[:3] == (0, wanted, way), f"{order} {rules} --module: {ran[:3]}")
+            ran = run(program, words, texts + lines)
+            told = b"".join(b"<stdin>" + it[it.index(b":"):] + b"\n" for it in way.splitlines())
+            count.add(ran[:3] == (0, wanted, told), f"{order} {rules}: {ran[:3]}")
+    # what is refused is told with file and line
+    for words, given, wanted in (
+        (["show", "--type", "Faults", "--rules", "per", "--module", *FILES], b"00\n", (2, b"! no type Faults\n", b"common.asn:21: Faults: refused: named bits without a fixed size: PER trims zeros\n")),
+        (["show", "--type", "Report", "--rules", "per", "--module", "report.asn"], b"00\n", (2, b"! no type Report\n", b"report.asn:16: Report.station: refused: a name of a module that is not given\n")),
+        (["flatten", "report.asn", "report.asn"], b"", (2, b"", b"report.asn:2: a module that is given twice\n")),
+        (["flatten", "common.asn", "none.asn"], b"", (3, b"", b"none.asn: read failed\n")),
+        (["module", "--module", "none.asn"], b"", (3, b"", b"none.asn: read failed\n")),
+        (["flatten", "report.values"], b"", (2, b"", b"report.values:1: the name of a module expected\n")),
+    ):
+        ran = run(program, words, given)
+        count.add(ran[:3] == wanted, f"{words}: {ran[:3]}")
+
+
+def ring(n):
+    """Modules each of which imports T from the next, and the last from the first."""
+    return [f"M{i} DEFINITIONS AUTOMATIC TAGS ::= BEGIN IMPORTS T FROM M{(i + 1) % n}; U ::= T END\n" for i in range(n)]
+
+
+def large(n):
+    """Some n types, each with a component of the one before, values, groups and named numbers, in seven lines a type."""
+    said = [HEAD, "top INTEGER ::= 255\nT0 ::= INTEGER { none(0), all(255) } (0..top)\n"]
+    for i in range(1, n):
+        said.append(
+            f"T{i} ::= SEQUENCE {{ -- the type {i}\n  number INTEGER {{ none(0), most({i}) }} (0..{i}),\n  kind ENUMERATED {{ one, two, ... }},\n"
+            f"  before T{i - 1 if i % 8 else 0} OPTIONAL,\n  ...,\n  [[ a BOOLEAN, b OCTET STRING (CONTAINING T0) OPTIONAL ]]\n}}\n"
+        )
+    return ["".join([*said, "END\n"])]
+
+
+HOSTILE = {
+    "imports in a ring": (300, ring),
+    "an import through a chain": (2000, lambda n: ["".join(f"M{i} DEFINITIONS AUTOMATIC TAGS ::= BEGIN IMPORTS T FROM M{i + 1}; END\n" for i in range(n)) + f"M{n} DEFINITIONS AUTOMATIC TAGS ::= BEGIN T ::= NULL END\n"]),
+    "values in a ring": (100000, lambda n: [HEAD + "".join(f"v{i} INTEGER ::= v{(i + 1) % n}\n" for i in range(n)) + "T ::= INTEGER (0..v0)\nEND\n"]),
+    "values in a chain": (100000, lambda n: [HEAD + "".join(f"v{i} INTEGER ::= v{i + 1}\n" for i in range(n)) + f"v{n} INTEGER ::= 7 T ::= INTEGER (0..v0)\nEND\n"]),
+    "types in a ring": (100000, lambda n: [HEAD + "".join(f"T{i} ::= T{(i + 1) % n}\n" for i in range(n)) + "END\n"]),
+    "types in a chain": (100000, lambda n: [HEAD + "".join(f"T{i} ::= T{i + 1}\n" for i in range(n)) + f"T{n} ::= NULL END\n"]),
+    "braces one in the other": (100000, lambda n: [HEAD + "T ::= " + "SEQUENCE { a " * n + "NULL" + " }" * n + "\nEND\n"]),
+    "braces of values": (100000, lambda n: [HEAD + "v T ::= " + "{" * n + "}" * n + "\nEND\n"]),
+    "braces that are not closed": (100000, lambda n: [HEAD + "T ::= " + "SEQUENCE { a " * n + "\nEND\n"]),
+    "parentheses of constraints": (100000, lambda n: [HEAD + "T ::= INTEGER " + "(" * n + "1" + ")" * n + "\nEND\n"]),
+    "comments one in the other": (100000, lambda n: [HEAD + "/*" * n + "*/" * n + " T ::= NULL\nEND\n"]),
+    "SEQUENCE OF one in the other": (100000, lambda n: [HEAD + "T ::= " + "SEQUENCE OF " * n + "NULL\nEND\n"]),
+    "parameters without end": (1000, lambda n: [HEAD + "".join(f"P{i} {{ X }} ::= SEQUENCE {{ a P{i} {{ SEQUENCE OF X }} OPTIONAL }} T{i} ::= P{i} {{ NULL }}\n" for i in range(n)) + "END\n"]),
+    "parameters that double": (30, lambda n: [HEAD + "P0 { X } ::= SEQUENCE { a X, b X }\n" + "".join(f"P{i} {{ X }} ::= SEQUENCE {{ a P{i - 1} {{ X }}, b P{i - 1} {{ SEQUENCE OF X }} }}\n" for i in range(1, n)) + f"T ::= P{n - 1} {{ NULL }}\nEND\n"]),
+    "assignments": (500000, lambda n: [HEAD + "".join(f"T{i} ::= NULL\n" for i in range(n)) + "END\n"]),
+    "assignments of values": (500000, lambda n: [HEAD + "".join(f"v{i} INTEGER ::= {i}\n" for i in range(n)) + "END\n"]),
+    "components": (100000, lambda n: [HEAD + "T ::= SEQUENCE { " + ", ".join(f"a{i} NULL" for i in range(n)) + " }\nEND\n"]),
+    "unions": (100000, lambda n: [HEAD + "T ::= INTEGER (" + " | ".join(f"{2 * i}" for i in range(n)) + ")\nEND\n"]),
+    "digits": (1000000, lambda n: [HEAD + f"T ::= INTEGER (0..{'9' * n})\nEND\n"]),
+    "a name": (1000000, lambda n: [HEAD + f"T{'x' * n} ::= NULL\nEND\n"]),
+    "types of a module": (2800, large),
+}
+
+
+def written(room, texts, size):
+    """The files of the texts of this size. A process of its own makes them, so that this one stays small: what a program
+    had of memory is not less than what the process had that started it."""
+    made = os.fork()
+    if made == 0:
+        for index, text in enumerate(texts(size)):
+            with open(f"{room}/{index}.asn", "w") as it:
+                it.write(text)
+        os._exit(0)
+    os.waitpid(made, 0)
+    return [f"{room}/{index}.asn" for index in range(len(os.listdir(room)))]
+
+
+def told_well(ran):
+    """It ended by itself: with a module, or a line that has a file and a line."""
+    status, out, told = ran[:3]
+    line = told.split(b"\n")[0]
+    return status in (0, 1) and out.endswith(b"END\n") or status == 2 and not out and b".asn:" in line or status == 2 and line.startswith(b"not read: ")
+
+
+def hostile(count, program):
+    for name, (most, texts) in HOSTILE.items():
+        took = []
+        for size in (most, 2 * most):
+            with tempfile.TemporaryDirectory(prefix="tulvorn-published-") as room:
+                words = ["flatten", "--report", "text", *written(room, texts, size)]
+                ran = min((run(program, words, whole=False) for _ in range(2)), key=lambda it: it[3])
+            took.append(ran)
+            count.add(told_well(ran), f"{name}, {size}: status {ran[0]}, {ran[1]}, {ran[2][:200]}")
+            if name == "types of a module" and size == most:
+                count.add(ran[3] <= 2 and ran[4] <= 200, f"{size} types: {ran[3]:.2f} s, {ran[4]:.0f} MB")
+        one, two = took
+        told = two[2].split(b"\n")[0].decode(errors="replace").replace(room + "/", "")
+        for it, ran in ((most, one), (2 * most, two)):
+            print(f"{name}, {it}: {ran[3]:.2f} s, {ran[4]:.0f} MB", flush=True)
+        print(f"    status {two[0]} {told if len(told) < 110 else told[:70] + ' .. ' + told[-40:]}", flush=True)
+        count.add(two[3] <= TIMES * one[3] + SECONDS, f"{name}: {one[3]:.2f} s, and twice as much {two[3]:.2f} s")
+
+
+def main(words):
+    if len(words) != 1:
+        print(__doc__, file=sys.stderr)
+        return 2
+    program = os.path.abspath(words[0])
+    count, start = Count(), time.time()
+    os.chdir(EXAMPLES)
+    examples(count, program)
+    hostile(count, program)
+    print(f"published modules: {time.time() - start:.0f} s by the clock")
+    print(f"{count.passed} passed, {count.failed} failed")
+    return 1 if count.failed else 0
+
+
+if __name__ == "__main__":
+    sys.exit(main(sys.argv[1:]))

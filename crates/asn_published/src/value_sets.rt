@@ -30,9 +30,13 @@ impl<'t> World<'t> {
         let Some(tokens) = self.tokens_of(module) else {
             return false;
         };
-        match rest_of(tokens, after_tags(tokens, governor)) {
-            Ok(Rest::Constraints(_)) => self.leads_to_type(module, governor),
-            Ok(Rest::Type(_)) | Err(_) => false,
+        let rest = match rest_of(tokens, after_tags(tokens, governor)) {
+            Ok(rest) => rest,
+            Err(_fault) => return false,
+        };
+        match rest {
+            Rest::Constraints(_behind) => self.leads_to_type(module, governor),
+            Rest::Type(_inner) => false,
         }
     }
 

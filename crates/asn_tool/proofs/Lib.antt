@@ -4,5 +4,4 @@ pub mod Given
 pub mod NotHelp
 pub mod Refusals
 pub mod SetOptions
-pub mod Sourced
 pub mod Taken

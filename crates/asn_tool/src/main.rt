@@ -45,10 +45,7 @@ fn main(rt: HostRuntime) -> ExitCode {
     match request_of(rt.alloc(), texts.as_slice()) {
         Ok(request) => match do_request(&rt, &request) {
             Ok(status) => ExitCode::from(status),
-            Err(stop) => {
-                let _ = eprintln!(rt; "{stop}");
-                ExitCode::from(stop.status())
-            }
+            Err(stop) => stop_told(&rt, &stop),
         },
         Err(fault) => fault_told(&rt, &fault),
     }
@@ -68,6 +65,12 @@ fn do_request<'a>(rt: &HostRuntime, request: &Request<'a>) -> Result<u8, Stop<'a
             options,
         } => run_job(rt, job, files.as_slice(), *options),
     }
+}
+
+/// The exit status where the program stops before its work is done, after the line on standard error.
+fn stop_told(rt: &HostRuntime, stop: &Stop<'_>) -> ExitCode {
+    let _ = eprintln!(rt; "{stop}");
+    ExitCode::from(stop.status())
 }
 
 /// The exit status where there is no request. Help and the version go to standard output, the rest to standard error.

@@ -106,7 +106,8 @@ fn digits_of<'r>(octets: &[u8], room: &'r mut [u8]) -> &'r [u8]
     }
 }
 
-/// The octet of which the first digit alone is among so many of the digits.
+/// The octet whose first digit is the last one written, where that many digits of the octets were written; `None` where
+/// these are the digits of whole octets.
 fn half_of(octets: &[u8], digits: usize) -> Option<u8>
     requires few { digits ≤ 2 * length octets.now }
     ensures { result ≡ half_of digits octets.now }

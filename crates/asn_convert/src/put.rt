@@ -88,8 +88,9 @@ fn put_digits<R: Rules, W: Write>(
     }
 }
 
-/// Why octets were not all written: the writer answered a fault since it had answered so many. Else there were more than
-/// can be counted, which no encoding has.
+/// The fault of a run in which not all octets were written, `before` being how many faults the writer had answered at
+/// first: `Write` where it has answered another one, else `Memory`, for more octets than 64 bits count, which no encoding
+/// has.
 fn fault_since<W>(before: u64, output: &Counted<W>) -> RunFault
     ensures { IsWriteFault result before (faults_of output.now) }
 {

@@ -17,17 +17,17 @@ use std::alloc::{AllocError, Global};
 /// What stands for the name of a file where a text is that of standard input.
 const STDIN: &str = "<stdin>";
 
-/// What a job is run on in the place of what was given, if anything, and what is told of its types.
+/// The octets that a job reads in the place of standard input, if any, and the lines that tell what became of its types.
 #[derive(Debug, Drop)]
 pub struct Instead {
     pub octets: Option<Vec<u8>>,
     pub remarks: String,
 }
 
-/// What a job is run on where standard input gave these octets: the same where the text before the line ==== is a
-/// module of the profile. Else that text is read as published modules, and it is a text of the module that they become,
-/// the line ====, and what follows it; where they become none, or the module is to be printed and a type is refused, it
-/// is the same again, which `run` refuses.
+/// The input of a job whose standard input is these octets. Where the text before the line ==== is a module of the
+/// profile, nothing stands in its place. Else that text is read as published modules: the input is the text of the module
+/// that they become, the line ====, and what follows it. Where they become none, or the module is to be printed and a
+/// type is refused, nothing stands in its place either, and `run` refuses the text.
 pub fn instead_of(
     alloc: Global,
     octets: &[u8],
@@ -51,7 +51,7 @@ pub fn instead_of(
     published(alloc, text, rest, options, job)
 }
 
-/// What the text before the line ==== becomes as published modules, and what is told of it.
+/// The input of a job for the text before the line ====, read as published modules, and the remarks on its types.
 fn published(
     alloc: Global,
     text: &str,
@@ -127,9 +127,9 @@ fn fault_line(alloc: Global, fault: &PublishedFault) -> Result<String, AllocErro
     }
 }
 
-/// What a job is run on where the texts of its module are those of files: a text of the module, the line ====, and the
-/// octets of standard input. The module is the one text, where that is a module of the profile, and else the one that
-/// the texts become as published modules. There is nothing where the job is to print the module, and a type is refused.
+/// The input of a job whose module stands in files: the text of the module, the line ====, and the octets of standard
+/// input. The module is the one text, where that is a module of the profile, and else what the texts become as published
+/// modules. There is no input where the job is to print the module, and a type is refused.
 ///
 /// # Errors
 /// Those of `flatten`.
@@ -154,7 +154,8 @@ pub fn input_with(
 
 /// The module of the profile that is the only text, if it is one.
 fn own_among(alloc: Global, texts: &[&str]) -> Result<Option<Module>, AllocError>
-    ensures { IfOk result (λ m. MatchOption m ((text : _) → texts_of texts.now ≡ text ∷ [] → IsOwn text → ⊥)
+    ensures { IfOk result (λ m. MatchOption m
+        ((text : _) → texts_of texts.now ≡ text ∷ [] → IsOwn text → ⊥)
         (λ m. (text : _) × (texts_of texts.now ≡ text ∷ []) × Accepted text (types_view m))) }
 {
     match texts {
@@ -163,7 +164,7 @@ fn own_among(alloc: Global, texts: &[&str]) -> Result<Option<Module>, AllocError
     }
 }
 
-/// What a job is run on for these texts of published modules, and what is told of it.
+/// The input of a job for these texts of published modules, and the remarks on its types.
 fn published_input(
     alloc: Global,
     files: &[&str],
@@ -178,8 +179,8 @@ fn published_input(
     Ok(flattened_input(alloc, files, &flattened, rest, job)?)
 }
 
-/// What a job is run on for what published modules became, and what is told of it, `files` being the names of the files
-/// of the texts. There is nothing where the module is to be printed, and a type is refused.
+/// The input of a job for published modules that were flattened, and the remarks on its types; `files` are the names of
+/// the files of the texts. There is no input where the module is to be printed, and a type is refused.
 fn flattened_input(
     alloc: Global,
     files: &[&str],
@@ -202,7 +203,7 @@ fn flattened_input(
     Ok(Instead { octets, remarks })
 }
 
-/// What a job is run on for a module of the profile.
+/// The input of a job for a module of the profile.
 fn own_input(alloc: Global, own: &Module, rest: &[u8]) -> Result<Instead, AllocError>
     ensures { IfOk result (λ i. (source : _) → Accepted source (types_view own.now)
         → IsSomeAnd i.octets (λ o. IsInputOf (types_view own.now) rest.now o.items)

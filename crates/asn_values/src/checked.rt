@@ -10,12 +10,12 @@ use crate::walk;
 use std::alloc::{AllocError, Global};
 use std::fmt;
 use std::marker::Model;
-use std::rc::Rc;
+use std::sync::Arc;
 
-/// A type of the profile: its tree, shared by all copies.
+/// A type of the profile: its tree, shared by all copies, also between threads.
 #[derive(Drop)]
 pub struct Checked {
-    tree: Rc<AsnType>,
+    tree: Arc<AsnType>,
 }
 
 impl Model for Checked {
@@ -53,7 +53,7 @@ impl Checked {
         ensures memory { IfErr result (λ f. f ≡ TypeFault.Memory → InProfile (shape_of ty)) }
     {
         walk::check_type(&ty, MAX_LEVELS, MAX_TYPES)?;
-        let tree = Rc::new(alloc, ty).map_err(|_| TypeFault::Memory)?;
+        let tree = Arc::new(alloc, ty).map_err(|_| TypeFault::Memory)?;
         Ok(Checked { tree })
     }
 

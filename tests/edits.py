@@ -582,6 +582,19 @@ def without_bodies(path, text):
     return "".join(kept) + text[at:]
 
 
+def shown_above(path, text):
+    """The text of a source file as the crates above see it: without the bodies of its functions, the fields that a type
+    with a model keeps to itself, and the imports that nothing else uses."""
+    text = without_bodies(path, text)
+    for name in re.findall(r"^impl(?:<[^>]*>)? Model for (\w+)", text, re.M):
+        text = re.sub(rf"struct {name}\b[^{{;]*\{{.*?^\}}",
+                      lambda it: re.sub(r"^    \w+: [^{}]*,\n", "", it[0], flags=re.M), text, flags=re.M | re.S)
+    imports = re.compile(r"^use ([\w:]+::)?(\w+|\{[^{}]*\});\n", re.M)
+    rest = set(re.findall(r"\w+", imports.sub("", text)))
+    names = lambda it: sorted(rest.intersection(re.findall(r"\w+", it[2])))
+    return imports.sub(lambda it: f"{it[1]}{names(it)}\n" if names(it) else "", text)
+
+
 @functools.lru_cache(maxsize=None)
 def words_of(path, text):
     """The words of a file without its comments, and without derives, on which no proof of an edit rests."""
@@ -605,7 +618,7 @@ def sum_of(crate, edits):
             if it is crate or path.startswith("specs/"):
                 add(it.name, path, words_of(path, text))
             elif path.startswith("src/"):
-                add(it.name, path, words_of(path, without_bodies(path, text)))
+                add(it.name, path, words_of(path, shown_above(path, text)))
     return total.hexdigest()[:24]
 
 

@@ -131,6 +131,7 @@ impl<'a, O: Output> Window<'a, O> {
     }
 
     /// Adds octets outside of all open type fields.
+    #[inline(always)]
     fn put_outside(&mut self, octets: &[u8])
         requires { self.old.depth ≡ 0 }
         ensures { Pushes (λ w c taken coming. WindowStands O.held w c taken coming) self.old self.new
@@ -229,6 +230,7 @@ impl<'a, O: Output> Sink for Window<'a, O> {
         Ok(())
     }
 
+    #[inline(always)]
     fn push_octets(&mut self, octets: &[u8]) -> Result<(), Infallible> {
         if self.depth == 0 {
             self.put_outside(octets);

@@ -1,10 +1,10 @@
 -- Where the reader of the index of an unknown item in PER stands.
-use Rattle.std.proofs.Common.{◌≡◌, ◌<◌, ◌≤◌, ◌^◌, ℕ, ℤ, pos, negsuc, List, [], ◌∷◌, ◌++◌, length, length-append, refl, sym, ap, subst, ◌∙◌, arith, append_assoc, map, to_z, of_z}
+use Rattle.std.proofs.Common.{◌≡◌, ◌<◌, ◌^◌, ℕ, ℤ, pos, negsuc, List, [], ◌∷◌, ◌++◌, length, length-append, refl, sym, ap, subst, ◌∙◌, arith, append_assoc, to_z, of_z}
 use Rattle.std.proofs.lemmas.Int.{ints}
 use mir.Syntax.{w128}
 use Rattle.std.proofs.lemmas.List.{length-map}
 use Rattle.asn_values.specs.Shape.{Label}
-use Rattle.asn_values.specs.View.{label_of, labels_seen}
+use Rattle.asn_values.specs.View.{labels_seen}
 use Rattle.asn_values.specs.declared.types.Item.{Item}
 use Rattle.asn_bits.specs.Numbers.{bits}
 use Rattle.asn_bits.proofs.Digits.{digits_code}
@@ -14,8 +14,7 @@ use Rattle.asn_rules.specs.Languages.{Spells, NoSpelling}
 use Rattle.asn_rules.proofs.Live.Flat.{flat-ones}
 use Rattle.asn_rules.proofs.Languages.Parts.{contents-ones}
 use Rattle.asn_per.specs.Per.{small}
-use Rattle.asn_rules.specs.IntegerSets.{magnitude_of}
-use Rattle.asn_newer.specs.Rules.{per_loose, IsUnknownIndex, IsIndexToCome}
+use Rattle.asn_newer.specs.Rules.{per_loose, IsIndexToCome}
 use Rattle.asn_newer.specs.Walking.{UnknownItem}
 use Rattle.asn_newer.proofs.Parts.PerWays.{small_is}
 
@@ -53,8 +52,8 @@ no_index root additions us n z r h = n (index_at root additions z us r h)
 pub none_empty : (root additions : List Label) (us : List ℕ) → us ≡ [] → IndexAt root additions us → ⊥
 none_empty root additions us e h = absurd (let f = sym e ∙ h.split in cc)
 
-pub none_root : (root additions : List Label) (us mid : List ℕ) (bit : ℕ) → bit ≡ 0 → us ≡ bit ∷ mid → IndexAt root additions us → ⊥
-none_root root additions us mid bit z e h = absurd (omega (arith, heads (sym e ∙ h.split), z))
+pub none_root : (root additions : List Label) (us mid : List ℕ) (bit : ℕ) → bit ≡ 0 → us ≡ bit ∷ mid → (after : List ℕ) → IndexAt root additions (us ++ after) → ⊥
+none_root root additions us mid bit z e after h = absurd (omega (arith, heads (sym (ap (λ (l : List ℕ). l ++ after) e) ∙ h.split), z))
   where
     heads : {u v : ℕ} {us vs : List ℕ} → u ∷ us ≡ v ∷ vs → u ≡ v
     heads k = cc
@@ -67,11 +66,11 @@ none_short root additions us mid bit e few h =
     let f : mid ≡ bits 7 h.index ++ h.rest = tails (sym e ∙ h.split) in
     omega (arith, few, ap length f ∙ length-append (bits 7 h.index) h.rest, length-digits 2 7 h.index)
 
-pub none_else : (root additions : List Label) (us mid r : List ℕ) (bit n : ℕ) → us ≡ bit ∷ mid → mid ≡ bits 7 n ++ r → n < 2 ^ 7 → (IsIndexToCome root additions n → ⊥) → IndexAt root additions us → ⊥
-none_else root additions us mid r bit n e f fits never h =
-    let g : bits 7 n ++ r ≡ bits 7 h.index ++ h.rest = sym f ∙ tails (sym e ∙ h.split) in
+pub none_else : (root additions : List Label) (us mid r : List ℕ) (bit n : ℕ) → us ≡ bit ∷ mid → mid ≡ bits 7 n ++ r → n < 2 ^ 7 → (IsIndexToCome root additions n → ⊥) → (after : List ℕ) → IndexAt root additions (us ++ after) → ⊥
+none_else root additions us mid r bit n e f fits never after h =
+    let g : bits 7 n ++ (r ++ after) ≡ bits 7 h.index ++ h.rest = sym (ap (λ (l : List ℕ). l ++ after) f ∙ append_assoc (bits 7 n) r after) ∙ tails (sym (ap (λ (l : List ℕ). l ++ after) e) ∙ h.split) in
     let high = h.to_come.few in
-    let d = digits_code 2 (omega arith) 7 n h.index r h.rest fits (omega (arith, high)) g in
+    let d = digits_code 2 (omega arith) 7 n h.index (r ++ after) h.rest fits (omega (arith, high)) g in
     never (subst (λ (k : ℕ). IsIndexToCome root additions k) (sym d.0) h.to_come)
 
 -- a label for each item

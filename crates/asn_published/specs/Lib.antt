@@ -1,3 +1,4 @@
 pub mod Numbers
 pub mod Left
 pub mod Statuses
+pub mod Telling

@@ -49,6 +49,7 @@ fn world_of<'t>(alloc: Global, texts: &[&'t str]) -> Result<World<'t>, Published
             Err(fault) => return Err(PublishedFault::of(index, fault)),
         }
     }
+    world.take_value_sets();
     Ok(world)
 }
 

@@ -38,6 +38,7 @@ mod tags;
 mod telling;
 mod token;
 mod tokens;
+mod value_sets;
 mod way;
 mod words;
 mod writer;

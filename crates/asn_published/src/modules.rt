@@ -10,10 +10,11 @@ use std::collections::HashMap;
 /// What an assignment assigns.
 #[derive(Clone, Copy, PartialEq, Eq)]
 pub(crate) enum What {
+    /// A type, or a set of values, which is one.
     Type,
     /// A value or an object.
     Value,
-    /// A set of values or of objects.
+    /// A set of objects; of values too, before it is known what governs it.
     Set,
     Class,
 }

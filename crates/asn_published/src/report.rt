@@ -22,6 +22,11 @@ pub enum Status {
 }
 
 impl fmt::Display for Status {
+    ghost use Rattle.std.specs.Prelude.{Some};
+    ghost use Rattle.asn_published.specs.Statuses.{word_of};
+
+    ghost output = { λ status. Some (word_of status) };
+
     fn fmt<W: fmt::Write>(&self, f: &mut fmt::Formatter<W>) -> fmt::Result {
         f.write_str(match self {
             Status::Same => "same",
@@ -95,7 +100,7 @@ impl Remark {
 
 impl Status {
     /// How far it is from the same.
-    fn rank(self) -> u8
+    pub(crate) fn rank(self) -> u8
         ensures { result ≡ distance self }
     {
         match self {

@@ -199,6 +199,12 @@ impl<'t> Forest<'t> {
             if at >= node.end {
                 break;
             }
+            if tokens.is(at, Sign::Becomes) {
+                // a value set, in braces
+                at = next(next(at));
+                may_begin = true;
+                continue;
+            }
             if may_begin && tokens.is_capital(at) {
                 if let Ok((to, _)) = world.reference_at(node.module, at) {
                     if world.assigns(to, What::Type) {

@@ -40,6 +40,28 @@ pub(crate) fn barred(word: &str) -> Option<Shape> {
     Some(shape)
 }
 
+/// Whether a reserved word begins a type.
+pub(crate) fn is_type_word(word: &str) -> bool {
+    let is_of_profile = matches!(
+        word,
+        "BOOLEAN"
+            | "NULL"
+            | "UTF8String"
+            | "UTCTime"
+            | "GeneralizedTime"
+            | "INTEGER"
+            | "BIT"
+            | "ENUMERATED"
+            | "SEQUENCE"
+            | "SET"
+            | "CHOICE"
+    );
+    is_of_profile
+        || letters_named(word).is_some()
+        || second_word(word).is_some()
+        || barred(word).is_some()
+}
+
 /// A type of two words: the second, and what the type is.
 pub(crate) fn second_word(word: &str) -> Option<(&'static str, Shape)> {
     match word {

@@ -1,12 +1,16 @@
 -- What the texts of a report say.
-use Rattle.std.specs.Prelude.{◌≡◌, ◌==◌, ◌++◌, ℕ, List, [], ◌∷◌, codes, count_by, get_or, map, string_bytes}
+use Rattle.std.specs.Prelude.{◌≡◌, ◌==◌, ◌++◌, ◌/◌, ◌%◌, ℕ, Bool, true, false, List, [], ◌∷◌, codes, chars, count_by, encode_utf8, flat_map, get_or, if◌then◌else◌, map, nat_lt, string_bytes}
 use Rattle.std.specs.Borrow.{Bor}
+use Rattle.std.specs.Char.{digit_char}
 use Rattle.std.specs.Fmt.{decimal}
 use Rattle.asn_published.specs.declared.report.Note.{Note}
+use Rattle.asn_published.specs.declared.report.Remark.{Remark}
+use Rattle.asn_published.specs.declared.report.Remark.TheVariants as remark
 use Rattle.asn_published.specs.declared.report.Status.{Status}
 use Rattle.asn_published.specs.declared.report.Status.TheVariants as status
 use Rattle.asn_published.specs.declared.report.TypeReport.{TypeReport}
 use Rattle.asn_published.specs.Statuses.{distance, status_of, word_of}
+use Rattle.asn_published.specs.Words.{words_of}
 
 -- the line `STATUS: COUNT`
 abbrev pub summary_line : List TypeReport → Status → List ℕ
@@ -22,29 +26,75 @@ summary types = summary_line types status.Same ++ (summary_line types status.Wid
 abbrev pub file_named : List (Bor (List ℕ)) → ℕ → List ℕ
 file_named files text = get_or (map (λ f. f.now) files) text []
 
--- a component behind its type's name
-abbrev pub with_component : List ℕ → List ℕ
-with_component [] = []
-with_component (x ∷ xs) = codes "." ++ (x ∷ xs)
+-- what stands between a type's name and a component
+abbrev pub dot_before : List ℕ → List ℕ
+dot_before [] = []
+dot_before (x ∷ xs) = codes "."
 
--- `FILE:LINE: NAME.COMPONENT: STATUS: `
-abbrev pub line_head : List ℕ → ℕ → List ℕ → List ℕ → Status → List ℕ
-line_head file line name component s = file ++ (codes ":" ++ (decimal line ++ (codes ": " ++ (name
-    ++ (with_component component ++ (codes ": " ++ (word_of s ++ codes ": ")))))))
+-- the line `FILE:LINE: NAME.COMPONENT: STATUS: REMARK`
+abbrev pub note_line : List ℕ → TypeReport → Note → List ℕ
+note_line file one note = file ++ (codes ":" ++ (decimal note.line ++ (codes ": " ++ (string_bytes one.name
+    ++ (dot_before (string_bytes note.component) ++ (string_bytes note.component ++ (codes ": "
+    ++ (word_of (status_of note.remark) ++ (codes ": " ++ (words_of note.remark ++ codes "\n"))))))))))
 
--- the line of a note: its head, and what is to be said
-abbrev pub IsNoteLine : List ℕ → TypeReport → Note → List ℕ → Type 0
-IsNoteLine file one note text = (said : List ℕ) × (text ≡ line_head file note.line (string_bytes one.name)
-    (string_bytes note.component) (status_of note.remark) ++ (said ++ codes "\n"))
+-- the lines of the notes of a type
+abbrev pub type_lines : List (Bor (List ℕ)) → TypeReport → List ℕ
+type_lines files one = flat_map (note_line (file_named files one.text) one) one.notes.items
 
--- the lines of notes, one after the other
-abbrev pub AreNoteLines : List ℕ → TypeReport → List Note → List ℕ → Type 0
-AreNoteLines file one [] lines = lines ≡ []
-AreNoteLines file one (n ∷ ns) lines = (line : List ℕ) × (rest : List ℕ) × IsNoteLine file one n line
-    × AreNoteLines file one ns rest × (lines ≡ line ++ rest)
+-- the lines of the notes of all types
+abbrev pub report_lines : List (Bor (List ℕ)) → List TypeReport → List ℕ
+report_lines files types = flat_map (type_lines files) types
 
--- the lines of the notes of each type
-abbrev pub AreTypeLines : List (Bor (List ℕ)) → List TypeReport → List ℕ → Type 0
-AreTypeLines files [] lines = lines ≡ []
-AreTypeLines files (t ∷ ts) lines = (own : List ℕ) × (rest : List ℕ)
-    × AreNoteLines (file_named files t.text) t t.notes.items own × AreTypeLines files ts rest × (lines ≡ own ++ rest)
+-- the remark says why a type is refused
+abbrev pub is_refusal : Remark → Bool
+is_refusal (remark.Refused why) = true
+is_refusal _ = false
+
+-- the line of a note that says so; no other has one
+abbrev pub refusal_line : List ℕ → TypeReport → Note → List ℕ
+refusal_line file one note = if is_refusal note.remark then note_line file one note else []
+
+abbrev pub refused_lines_of : List (Bor (List ℕ)) → TypeReport → List ℕ
+refused_lines_of files one = flat_map (refusal_line (file_named files one.text) one) one.notes.items
+
+-- the lines that say why types are refused
+abbrev pub refused_lines : List (Bor (List ℕ)) → List TypeReport → List ℕ
+refused_lines files types = flat_map (refused_lines_of files) types
+
+-- what stands in a string of JSON for a character
+abbrev pub escaped : ℕ → List ℕ
+escaped c = if c == 34 then codes "\\\"" else (if c == 92 then codes "\\\\" else (if nat_lt c 32
+    then codes "\\u00" ++ (digit_char (c / 16) ∷ digit_char (c % 16) ∷ []) else encode_utf8 c))
+
+-- a text as a string of JSON
+abbrev pub quoted : List ℕ → List ℕ
+quoted text = codes "\"" ++ (flat_map escaped (chars text) ++ codes "\"")
+
+-- what is told of a note as an object of JSON, after what stands before it
+unfoldable pub note_object : List ℕ → ℕ → List ℕ → List ℕ → List ℕ → List ℕ
+note_object before line component s said = before ++ (codes "{\"line\":" ++ (decimal line ++ (codes ",\"component\":"
+    ++ (component ++ (codes ",\"status\":\"" ++ (s ++ (codes "\",\"remark\":" ++ (said ++ codes "}"))))))))
+
+-- a note as such an object
+abbrev pub note_json : List ℕ → Note → List ℕ
+note_json before note = note_object before note.line (quoted (string_bytes note.component))
+    (word_of (status_of note.remark)) (quoted (words_of note.remark))
+
+-- notes with commas between them
+abbrev pub notes_json : List Note → List ℕ
+notes_json [] = []
+notes_json (n ∷ ns) = note_json [] n ++ flat_map (note_json (codes ",")) ns
+
+-- what is told of a type as an object of JSON on a line
+unfoldable pub type_object : List ℕ → List ℕ → ℕ → List ℕ → List ℕ → List ℕ
+type_object name file line s notes = codes "{\"type\":" ++ (name ++ (codes ",\"file\":" ++ (file ++ (codes ",\"line\":"
+    ++ (decimal line ++ (codes ",\"status\":\"" ++ (s ++ (codes "\",\"notes\":[" ++ (notes ++ codes "]}\n")))))))))
+
+-- a type as such an object
+abbrev pub type_json : List (Bor (List ℕ)) → TypeReport → List ℕ
+type_json files one = type_object (quoted (string_bytes one.name)) (quoted (file_named files one.text)) one.line
+    (word_of one.status) (notes_json one.notes.items)
+
+-- all types as JSON
+abbrev pub report_json : List (Bor (List ℕ)) → List TypeReport → List ℕ
+report_json files types = flat_map (type_json files) types

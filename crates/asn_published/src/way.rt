@@ -1,4 +1,7 @@
 //! Which of the types on the way to one are not the same as the published ones.
+ghost use Rattle.std.specs.Prelude.{◌≡◌, ◌++◌, IfOk, string_bytes};
+ghost use Rattle.asn_published.specs.Telling.{is_refusal, refused_lines, refused_lines_of};
+
 use crate::report::{Remark, Status, TypeReport};
 use crate::telling::{file_named, note_line};
 use std::alloc::{AllocError, Global};
@@ -57,20 +60,43 @@ pub fn way_text(
     Ok(text)
 }
 
+/// Whether a remark says why a type is refused.
+fn is_refusal(remark: Remark) -> bool
+    ensures { result ≡ is_refusal remark }
+{
+    matches!(remark, Remark::Refused(_))
+}
+
+/// Appends a line for each note that says why a type is refused.
+fn push_refusals(
+    alloc: Global,
+    text: &mut String,
+    files: &[&str],
+    one: &TypeReport,
+) -> Result<(), AllocError>
+    ensures { IfOk result (λ done. string_bytes text.new ≡ string_bytes text.old ++ refused_lines_of files.now one.now) }
+{
+    let file = file_named(files, one.text);
+    for note in &one.notes {
+        if is_refusal(note.remark) {
+            let line = note_line(alloc, file, one, note)?;
+            text.push_str(line.as_str())?;
+        }
+    }
+    Ok(())
+}
+
 /// A line for each type of a report that is refused, as `FILE:LINE: NAME.COMPONENT: refused: WHY`.
 pub fn refused_text(
     alloc: Global,
     files: &[&str],
     report: &[TypeReport],
-) -> Result<String, AllocError> {
+) -> Result<String, AllocError>
+    ensures { IfOk result (λ text. string_bytes text ≡ refused_lines files.now report.now) }
+{
     let mut text = String::new(alloc);
     for one in report {
-        for note in &one.notes {
-            if let Remark::Refused(_) = note.remark {
-                let line = note_line(alloc, file_named(files, one.text), one, note)?;
-                text.push_str(line.as_str())?;
-            }
-        }
+        push_refusals(alloc, &mut text, files, one)?;
     }
     Ok(text)
 }

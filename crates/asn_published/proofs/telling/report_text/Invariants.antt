@@ -1,7 +1,7 @@
-use Rattle.std.proofs.Common.{take, string_bytes}
-use Rattle.asn_published.specs.Telling.{AreTypeLines}
+use Rattle.std.proofs.Common.{◌≡◌, flat_map, string_bytes, take}
+use Rattle.asn_published.specs.Telling.{type_lines}
 use Rattle.asn_published.proofs.telling.report_text.Given as goal
 
--- the lines so far are those of the types that were passed
+-- the types that were passed are written
 abbrev pub invariant-loop-one : goal.invariant-loop-one
-invariant-loop-one l = AreTypeLines l.files (take l.one-index l.report) (string_bytes l.text)
+invariant-loop-one l = string_bytes l.text ≡ flat_map (type_lines l.files) (take l.one-index l.report)

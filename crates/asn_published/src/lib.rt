@@ -26,6 +26,7 @@ mod nodes;
 mod numbers;
 mod options;
 mod order;
+mod pieces;
 mod places;
 mod ranges;
 mod references;

@@ -3,6 +3,7 @@ use crate::bounds::{lengths_between, write_size};
 use crate::info::{Base, Info, State};
 use crate::layout::members_behind;
 use crate::nodes::{Node, Shape};
+use crate::pieces::push_pieces;
 use crate::refusal::{Refusal, Why, refused};
 use crate::report::{Remark, Status};
 use crate::seen::{Mode, Seen, intersection};
@@ -78,32 +79,56 @@ impl<'t> Writer<'t> {
     ) -> Result<(), Refusal> {
         let line = known.line_of(node);
         self.uses.push(to)?;
-        if known.is_below(to) {
-            if known.options.levels == 0 {
-                return Err(refused(line, Why::Recursive));
-            }
-            if known.level <= 1 {
-                self.remark(alloc, known, index, Remark::Level)?;
-                self.out.push_str(" NULL")?;
-                self.last = Info::of(Base::Other);
-                return Ok(());
-            }
+        if known.is_below(to) && known.level <= 1 {
+            return self.write_last_level(alloc, known, index, line);
         }
+        self.take_info(alloc, known, index, to, depth, line)?;
+        if node.constraints >= node.end {
+            return self.put_name(alloc, known, to);
+        }
+        if self.last.base == Base::Other {
+            self.remark(alloc, known, index, Remark::Dropped)?;
+            return self.put_name(alloc, known, to);
+        }
+        self.write_constrained(alloc, known, index, node, to)
+    }
+
+    /// Writes NULL where recursion ends.
+    fn write_last_level(
+        &mut self,
+        alloc: Global,
+        known: Known<'_, 't>,
+        index: usize,
+        line: u32,
+    ) -> Result<(), Refusal> {
+        if known.options.levels == 0 {
+            return Err(refused(line, Why::Recursive));
+        }
+        self.remark(alloc, known, index, Remark::Level)?;
+        self.out.push_str(" NULL")?;
+        self.last = Info::of(Base::Other);
+        Ok(())
+    }
+
+    /// Takes what is known of a type that is referred to: counts its nodes, and remarks that it is not the same.
+    fn take_info(
+        &mut self,
+        alloc: Global,
+        known: Known<'_, 't>,
+        index: usize,
+        to: usize,
+        depth: u32,
+        line: u32,
+    ) -> Result<(), Refusal> {
         self.last = info_of(alloc, known, to, line)?;
         let levels = depth.saturating_add(self.last.depth).saturating_sub(1);
         let nodes = self.last.nodes.saturating_sub(1);
         self.count(nodes, levels, line)?;
         let status = self.last.status;
-        if status != Status::Same {
-            self.remark(alloc, known, index, Remark::Holds(status))?;
+        if status == Status::Same {
+            return Ok(());
         }
-        if node.constraints < node.end && self.last.base != Base::Other {
-            return self.write_constrained(alloc, known, index, node, to);
-        }
-        if node.constraints < node.end {
-            self.remark(alloc, known, index, Remark::Dropped)?;
-        }
-        self.put_name(alloc, known, to)
+        self.remark(alloc, known, index, Remark::Holds(status))
     }
 
     /// Asks for the alternative of a CHOICE (X.680, "selection type").
@@ -139,16 +164,17 @@ impl<'t> Writer<'t> {
 
     /// Writes the name of a type, of one of its cycle with a level less.
     fn put_name(&mut self, alloc: Global, known: Known<'_, 't>, to: usize) -> Result<(), Refusal> {
-        self.out.push_str(" ")?;
-        if let Some(name) = known.names.get(to) {
-            self.out.push_str(name.as_str())?;
+        let name = match known.names.get(to) {
+            Some(name) => name.as_str(),
+            None => "",
+        };
+        push_pieces(&mut self.out, &[" ", name])?;
+        if !known.is_below(to) {
+            return Ok(());
         }
-        if known.is_below(to) {
-            let level = known.level.saturating_sub(1);
-            let text = format!(in alloc; "-level-{level}")?;
-            self.out.push_str(text.as_str())?;
-        }
-        Ok(())
+        let level = known.level.saturating_sub(1);
+        let text = format!(in alloc; "-level-{level}")?;
+        Ok(self.out.push_str(text.as_str())?)
     }
 
     /// Writes the type of an assignment with further constraints; of the type itself `last` tells.

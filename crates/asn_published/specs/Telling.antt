@@ -1,5 +1,5 @@
 -- What the texts of a report say.
-use Rattle.std.specs.Prelude.{◌≡◌, ◌==◌, ◌++◌, ◌/◌, ◌%◌, ℕ, Bool, true, false, List, [], ◌∷◌, codes, chars, count_by, encode_utf8, flat_map, get_or, if◌then◌else◌, map, nat_lt, string_bytes}
+use Rattle.std.specs.Prelude.{◌≡◌, ◌==◌, ◌++◌, ◌/◌, ◌%◌, ℕ, Bool, true, false, List, [], ◌∷◌, codes, chars, count_by, encode_utf8, flat_map, get_or, if◌then◌else◌, map, nat_lt, string_bytes, suc}
 use Rattle.std.specs.Borrow.{Bor}
 use Rattle.std.specs.Char.{digit_char}
 use Rattle.std.specs.Fmt.{decimal}
@@ -44,6 +44,26 @@ type_lines files one = flat_map (note_line (file_named files one.text) one) one.
 -- the lines of the notes of all types
 abbrev pub report_lines : List (Bor (List ℕ)) → List TypeReport → List ℕ
 report_lines files types = flat_map (type_lines files) types
+
+-- the remark is on the type itself, and does not only say that the type holds another
+abbrev pub is_own : Remark → Bool
+is_own (remark.Holds s) = false
+is_own _ = true
+
+abbrev pub own_line : List ℕ → TypeReport → Note → List ℕ
+own_line file one note = if is_own note.remark then note_line file one note else []
+
+abbrev pub own_lines : List (Bor (List ℕ)) → TypeReport → List ℕ
+own_lines files one = flat_map (own_line (file_named files one.text) one) one.notes.items
+
+-- these lines, where the type is marked
+abbrev pub lines_if : List (Bor (List ℕ)) → Bool → TypeReport → List ℕ
+lines_if files mark one = if mark then own_lines files one else []
+
+-- those of the types that are marked, of which the first is at the index i
+abbrev pub marked_lines : List (Bor (List ℕ)) → List Bool → ℕ → List TypeReport → List ℕ
+marked_lines files marks i [] = []
+marked_lines files marks i (t ∷ ts) = lines_if files (get_or marks i false) t ++ marked_lines files marks (suc i) ts
 
 -- the remark says why a type is refused
 abbrev pub is_refusal : Remark → Bool

@@ -134,8 +134,8 @@ fn give_numbers(alloc: Global, items: &mut Vec<Item<'_>>) -> Result<(), Refusal>
     Ok(())
 }
 
-/// Puts the items of the root and the additional ones into their lists. Additional items whose numbers do not rise above
-/// those of the root get others.
+/// Puts the items of the root and the additional ones into their lists. Additional items whose numbers do not rise
+/// above those of the root get others.
 fn put_apart<'t>(all: &[Item<'t>], items: &mut Items<'t>) -> Result<(), Refusal> {
     let mut highest = -1i128;
     for item in all {

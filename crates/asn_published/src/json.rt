@@ -56,7 +56,8 @@ fn note_object(
     status: Status,
     said: &str,
 ) -> Result<String, AllocError>
-    ensures { IfOk result (λ text. string_bytes text ≡ note_object before.now line component.now (word_of status) said.now) }
+    ensures { IfOk result (λ text. string_bytes text
+        ≡ note_object before.now line component.now (word_of status) said.now) }
 {
     format!(in alloc;
         "{before}{{\"line\":{line},\"component\":{component},\"status\":\"{status}\",\"remark\":{said}}}"
@@ -113,7 +114,8 @@ fn type_object(
     status: Status,
     notes: &str,
 ) -> Result<String, AllocError>
-    ensures { IfOk result (λ text. string_bytes text ≡ type_object name.now file.now line (word_of status) notes.now) }
+    ensures { IfOk result (λ text. string_bytes text
+        ≡ type_object name.now file.now line (word_of status) notes.now) }
 {
     format!(in alloc;
         "{{\"type\":{name},\"file\":{file},\"line\":{line},\"status\":\"{status}\",\"notes\":[{notes}]}}\n"

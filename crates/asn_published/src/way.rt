@@ -1,8 +1,9 @@
 //! Which of the types on the way to one are not the same as the published ones.
-ghost use Rattle.std.specs.Prelude.{◌≡◌, ◌++◌, IfOk, string_bytes};
-ghost use Rattle.asn_published.specs.Telling.{is_refusal, refused_lines, refused_lines_of};
+ghost use Rattle.std.specs.Prelude.{◌≡◌, ◌++◌, Bool, IfOk, List, false, get_or, string_bytes};
+ghost use Rattle.asn_published.specs.Telling.{is_own, is_refusal, lines_if, marked_lines, own_lines, refused_lines};
+ghost use Rattle.asn_published.specs.Telling.{refused_lines_of};
 
-use crate::report::{Remark, Status, TypeReport};
+use crate::report::{Remark, TypeReport};
 use crate::telling::{file_named, note_line};
 use std::alloc::{AllocError, Global};
 
@@ -28,6 +29,77 @@ fn parts_of(alloc: Global, report: &[TypeReport], index: usize) -> Result<Vec<bo
     Ok(marks)
 }
 
+/// Whether a remark is on the type itself, and does not only say that the type holds another.
+fn is_own(remark: Remark) -> bool
+    ensures { result ≡ is_own remark }
+{
+    !matches!(remark, Remark::Holds(_))
+}
+
+/// Appends a line for each remark on a type itself.
+fn push_own(
+    alloc: Global,
+    text: &mut String,
+    files: &[&str],
+    one: &TypeReport,
+) -> Result<(), AllocError>
+    ensures { IfOk result (λ done. string_bytes text.new ≡ string_bytes text.old ++ own_lines files.now one.now) }
+{
+    let file = file_named(files, one.text);
+    for note in &one.notes {
+        if is_own(note.remark) {
+            let line = note_line(alloc, file, one, note)?;
+            text.push_str(line.as_str())?;
+        }
+    }
+    Ok(())
+}
+
+/// Whether the type at an index is marked.
+fn is_marked(marks: &[bool], index: usize) -> bool
+    ensures { result ≡ get_or marks.now index false }
+{
+    match marks.get(index) {
+        Some(mark) => *mark,
+        None => false,
+    }
+}
+
+/// Appends a line for each remark on the type at an index, where it is marked.
+fn push_marked(
+    alloc: Global,
+    text: &mut String,
+    files: &[&str],
+    one: &TypeReport,
+    is_marked: bool,
+) -> Result<(), AllocError>
+    ensures { IfOk result (λ done. string_bytes text.new
+        ≡ string_bytes text.old ++ lines_if files.now is_marked one.now) }
+{
+    if is_marked {
+        push_own(alloc, text, files, one)
+    } else {
+        Ok(())
+    }
+}
+
+/// A line for each remark on the types that are marked.
+fn marked_text(
+    alloc: Global,
+    files: &[&str],
+    report: &[TypeReport],
+    marks: &[bool],
+) -> Result<String, AllocError>
+    ensures { IfOk result (λ text. string_bytes text ≡ marked_lines files.now marks.now 0 report.now) }
+{
+    let mut text = String::new(alloc);
+    for (index, one) in report.iter().enumerate() {
+        let is_marked = is_marked(marks, index);
+        push_marked(alloc, &mut text, files, one, is_marked)?;
+    }
+    Ok(text)
+}
+
 /// A line for each remark on the type of a name and on those that it is made of, as `FILE:LINE: NAME.COMPONENT: STATUS:
 /// REMARK`, but for those that only say that a type holds another; nothing where all are the same, or there is no type
 /// of the name. `files` are the names of the files of the texts.
@@ -36,28 +108,19 @@ pub fn way_text(
     files: &[&str],
     report: &[TypeReport],
     name: &str,
-) -> Result<String, AllocError> {
-    let mut text = String::new(alloc);
+) -> Result<String, AllocError>
+    // The lines are those of some of the types, in order.
+    ensures { IfOk result (λ text. (marks : List Bool)
+        × (string_bytes text ≡ marked_lines files.now marks 0 report.now)) }
+{
     let found = report
         .iter()
         .position(|one| *one.name.as_str().as_bytes() == *name.as_bytes());
-    let Some(index) = found else {
-        return Ok(text);
+    let marks = match found {
+        Some(index) => parts_of(alloc, report, index)?,
+        None => Vec::new(alloc),
     };
-    let marks = parts_of(alloc, report, index)?;
-    for (one, is_part) in report.iter().zip(marks.as_slice()) {
-        if !*is_part || one.status == Status::Same {
-            continue;
-        }
-        for note in &one.notes {
-            if let Remark::Holds(_) = note.remark {
-                continue;
-            }
-            let line = note_line(alloc, file_named(files, one.text), one, note)?;
-            text.push_str(line.as_str())?;
-        }
-    }
-    Ok(text)
+    marked_text(alloc, files, report, marks.as_slice())
 }
 
 /// Whether a remark says why a type is refused.
@@ -74,7 +137,8 @@ fn push_refusals(
     files: &[&str],
     one: &TypeReport,
 ) -> Result<(), AllocError>
-    ensures { IfOk result (λ done. string_bytes text.new ≡ string_bytes text.old ++ refused_lines_of files.now one.now) }
+    ensures { IfOk result (λ done. string_bytes text.new
+        ≡ string_bytes text.old ++ refused_lines_of files.now one.now) }
 {
     let file = file_named(files, one.text);
     for note in &one.notes {

@@ -109,6 +109,14 @@ fn name_assignments(
     Ok(())
 }
 
+/// The name at an index.
+fn name_at<'a>(names: &'a [String], index: usize) -> &'a str {
+    match names.get(index) {
+        Some(name) => name.as_str(),
+        None => "",
+    }
+}
+
 /// Adds the names of all instances: that of the assignment with a number after it.
 fn name_instances(
     alloc: Global,
@@ -122,10 +130,7 @@ fn name_instances(
             Some(number) => *number,
             None => 0,
         };
-        let base = match names.get(instance.assignment) {
-            Some(name) => name.as_str(),
-            None => "",
-        };
+        let base = name_at(names.as_slice(), instance.assignment);
         let (name, number) = numbered(alloc, taken, base, before.saturating_add(1))?;
         last.insert(instance.assignment, number)?;
         add(names, taken, name)?;

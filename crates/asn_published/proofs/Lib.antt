@@ -1,2 +1,3 @@
 pub mod Marks
+pub mod Search
 pub mod Sets

@@ -1,5 +1,5 @@
 -- What the texts of a report say.
-use Rattle.std.specs.Prelude.{◌≡◌, ◌==◌, ◌++◌, ◌/◌, ◌%◌, ℕ, Bool, true, false, List, [], ◌∷◌, codes, chars, count_by, encode_utf8, flat_map, get_or, if◌then◌else◌, map, nat_lt, string_bytes, suc}
+use Rattle.std.specs.Prelude.{◌==◌, ◌++◌, ◌/◌, ◌%◌, ℕ, Bool, true, false, List, [], ◌∷◌, codes, chars, count_by, encode_utf8, flat_map, get_or, if◌then◌else◌, map, nat_lt, string_bytes, suc}
 use Rattle.std.specs.Borrow.{Bor}
 use Rattle.std.specs.Char.{digit_char}
 use Rattle.std.specs.Fmt.{decimal}

@@ -1,5 +1,6 @@
 //! Which of the types on the way to one are not the same as the published ones.
-ghost use Rattle.std.specs.Prelude.{◌≡◌, ◌++◌, Bool, IfOk, List, false, get_or, string_bytes};
+ghost use Rattle.std.specs.Prelude.{◌≡◌, ◌++◌, Bool, IfOk, List, false, get_or, if◌then◌else◌, not, slice_set, string_bytes, true};
+ghost use Rattle.asn_published.specs.Parts.{AreParts, IsWay, Visited, type_named, uses_of};
 ghost use Rattle.asn_published.specs.Telling.{is_own, is_refusal, lines_if, marked_lines, own_lines, refused_lines};
 ghost use Rattle.asn_published.specs.Telling.{refused_lines_of};
 
@@ -7,24 +8,54 @@ use crate::report::{Remark, TypeReport};
 use crate::telling::{file_named, note_line};
 use std::alloc::{AllocError, Global};
 
+/// Marks a type, and gives whether the report has it and it was not marked.
+fn mark(marks: &mut Vec<bool>, index: usize) -> bool
+    ensures before { get_or marks.old.items index true ≡ not result }
+    ensures after { marks.new.items ≡ (if result then slice_set marks.old.items index true else marks.old.items) }
+{
+    if index < marks.len() && !marks[index] {
+        marks[index] = true;
+        true
+    } else {
+        false
+    }
+}
+
+/// Asks for the types that the type at an index refers to.
+fn push_uses(todo: &mut Vec<usize>, report: &[TypeReport], index: usize) -> Result<(), AllocError>
+    ensures { IfOk result (λ done. todo.new.items ≡ todo.old.items ++ uses_of report.now index) }
+{
+    match report.get(index) {
+        Some(one) => todo.extend_from_slice(one.uses.as_slice()),
+        None => Ok(()),
+    }
+}
+
+/// Looks at a type: where it is not marked, marks it and asks for those that it refers to.
+fn visit(
+    report: &[TypeReport],
+    marks: &mut Vec<bool>,
+    todo: &mut Vec<usize>,
+    index: usize,
+) -> Result<(), AllocError>
+    ensures { IfOk result (λ done. Visited report.now index marks.old.items todo.old.items marks.new.items
+        todo.new.items) }
+{
+    if mark(marks, index) {
+        push_uses(todo, report, index)
+    } else {
+        Ok(())
+    }
+}
+
 /// Of each type of a report whether the one at an index is made of it.
-fn parts_of(alloc: Global, report: &[TypeReport], index: usize) -> Result<Vec<bool>, AllocError> {
+fn parts_of(alloc: Global, report: &[TypeReport], index: usize) -> Result<Vec<bool>, AllocError>
+    ensures { IfOk result (λ marks. AreParts report.now index marks.items) }
+{
     let mut marks = vec![in alloc; false; report.len()]?;
-    let mut todo = Vec::new(alloc);
-    todo.push(index)?;
-    for _ in 0..u64::MAX {
-        let Some(at) = todo.pop() else {
-            break;
-        };
-        match marks.get_mut(at) {
-            Some(mark) if !*mark => *mark = true,
-            _ => continue,
-        }
-        if let Some(one) = report.get(at) {
-            for part in &one.uses {
-                todo.push(*part)?;
-            }
-        }
+    let mut todo = vec![in alloc; index]?;
+    while let Some(at) = todo.pop() {
+        visit(report, &mut marks, &mut todo, at)?;
     }
     Ok(marks)
 }
@@ -100,6 +131,25 @@ fn marked_text(
     Ok(text)
 }
 
+/// The index of the first type of a name.
+fn index_named(report: &[TypeReport], name: &str) -> Option<usize>
+    ensures { result ≡ type_named report.now name.now }
+{
+    report
+        .iter()
+        .position(|one| *one.name.as_str().as_bytes() == *name.as_bytes())
+}
+
+/// Of each type of a report whether the first one of a name is made of it; nothing where there is none.
+fn way_of(alloc: Global, report: &[TypeReport], name: &str) -> Result<Vec<bool>, AllocError>
+    ensures { IfOk result (λ marks. IsWay report.now name.now marks.items) }
+{
+    match index_named(report, name) {
+        Some(index) => parts_of(alloc, report, index),
+        None => Ok(Vec::new(alloc)),
+    }
+}
+
 /// A line for each remark on the type of a name and on those that it is made of, as `FILE:LINE: NAME.COMPONENT: STATUS:
 /// REMARK`, but for those that only say that a type holds another; nothing where all are the same, or there is no type
 /// of the name. `files` are the names of the files of the texts.
@@ -109,17 +159,11 @@ pub fn way_text(
     report: &[TypeReport],
     name: &str,
 ) -> Result<String, AllocError>
-    // The lines are those of some of the types, in order.
-    ensures { IfOk result (λ text. (marks : List Bool)
+    // The lines are those of the types of which the first type of the name is made, in the order of the report.
+    ensures { IfOk result (λ text. (marks : List Bool) × IsWay report.now name.now marks
         × (string_bytes text ≡ marked_lines files.now marks 0 report.now)) }
 {
-    let found = report
-        .iter()
-        .position(|one| *one.name.as_str().as_bytes() == *name.as_bytes());
-    let marks = match found {
-        Some(index) => parts_of(alloc, report, index)?,
-        None => Vec::new(alloc),
-    };
+    let marks = way_of(alloc, report, name)?;
     marked_text(alloc, files, report, marks.as_slice())
 }
 

@@ -1,5 +1,4 @@
 //! Writes lists, and names of types with further constraints.
-use crate::bounds::{lengths_between, write_size};
 use crate::info::{Base, Info, State};
 use crate::layout::members_behind;
 use crate::nodes::{Node, Shape};
@@ -36,26 +35,8 @@ impl<'t> Writer<'t> {
         let seen = known.values.sizes_seen(alloc, scope, size, size_end)?;
         self.remark_dropped(alloc, known, index, &seen)?;
         self.out.push_str(" SEQUENCE")?;
-        self.put_list_size(alloc, known, index, &seen, line)?;
+        self.put_size(alloc, known, index, &seen, line)?;
         self.ask_for_element(element, seen.marked, depth)
-    }
-
-    /// Writes what is left of the size of a list.
-    fn put_list_size(
-        &mut self,
-        alloc: Global,
-        known: Known<'_, 't>,
-        index: usize,
-        seen: &Seen,
-        line: u32,
-    ) -> Result<(), Refusal> {
-        if let Some(lengths) = lengths_between(&seen.sizes, seen.marked, line)? {
-            if lengths.cut {
-                self.remark(alloc, known, index, Remark::SizeToMax)?;
-            }
-            write_size(alloc, &mut self.out, lengths, seen.marked)?;
-        }
-        self.remark_gap(alloc, known, index, seen)
     }
 
     /// Asks for the element of a list.
@@ -226,7 +207,7 @@ impl<'t> Writer<'t> {
         if self.last.marked {
             return Err(refused(line, Why::Size));
         }
-        self.put_list_size(alloc, known, index, &own, line)?;
+        self.put_size(alloc, known, index, &own, line)?;
         self.last.left = own.sizes;
         self.last.marked = own.marked;
         Ok(())

@@ -1,12 +1,12 @@
 //! The types that reserved words name.
-use crate::nodes::{Letters, Shape};
+use crate::nodes::{Holder, Letters, Shape};
 use crate::refusal::Why;
 use crate::token::Sign;
 use crate::tokens::{Tokens, next};
 use crate::wrong::TextFault;
 
 /// The kind of string that a word names.
-pub(crate) fn letters_named(word: &str) -> Option<Letters> {
+fn letters_named(word: &str) -> Option<Letters> {
     match word {
         "IA5String" => Some(Letters::Ia5),
         "NumericString" => Some(Letters::Numeric),
@@ -70,13 +70,43 @@ fn called(table: &[(&'static str, &'static str)], word: &str) -> Option<&'static
 }
 
 /// The type that a reserved word names, where it is none that the profile has; `None` where it is no such word.
-pub(crate) fn barred(word: &str) -> Option<Shape> {
+fn barred(word: &str) -> Option<Shape> {
     if let Some(what) = called(&CONTENTS, word) {
         return Some(Shape::Content(what));
     }
     match called(&KINDS, word) {
         Some(what) => Some(Shape::Refused(Why::Kind(what))),
         None => None,
+    }
+}
+
+/// The type that one reserved word names, with the braces after it.
+pub(crate) fn named_by_word(tokens: &Tokens<'_>, at: usize) -> Option<Shape> {
+    let second = next(at);
+    match tokens.text(at) {
+        "BOOLEAN" => Some(Shape::Boolean),
+        "NULL" => Some(Shape::Null),
+        "UTF8String" => Some(Shape::Utf8),
+        "UTCTime" | "GeneralizedTime" => Some(Shape::Time),
+        "INTEGER" if tokens.is(second, Sign::LeftBrace) => Some(Shape::Integer {
+            named: Some(second),
+        }),
+        "INTEGER" => Some(Shape::Integer { named: None }),
+        "ENUMERATED" => Some(Shape::Enumerated { braces: second }),
+        word => match letters_named(word) {
+            Some(letters) => Some(Shape::Text(letters)),
+            None => barred(word),
+        },
+    }
+}
+
+/// The type with members that a word names.
+pub(crate) fn holder_named(word: &str) -> Option<Holder> {
+    match word {
+        "SEQUENCE" => Some(Holder::Sequence),
+        "SET" => Some(Holder::Set),
+        "CHOICE" => Some(Holder::Choice),
+        _ => None,
     }
 }
 

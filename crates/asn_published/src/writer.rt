@@ -98,10 +98,9 @@ pub(crate) fn path_of(
 ) -> Result<String, AllocError> {
     let names = names_around(alloc, forest, node)?;
     let mut path = String::new(alloc);
-    let mut dot = "";
     for name in names.iter().rev() {
+        let dot = if path.is_empty() { "" } else { "." };
         push_pieces(&mut path, &[dot, *name])?;
-        dot = ".";
     }
     Ok(path)
 }

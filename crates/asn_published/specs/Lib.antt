@@ -1,3 +1,6 @@
 pub mod Numbers
 pub mod Left
+pub mod Parts
 pub mod Statuses
+pub mod Telling
+pub mod Words

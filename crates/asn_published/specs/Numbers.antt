@@ -1,5 +1,5 @@
 -- Sets of whole numbers as lists of ranges: which numbers they have.
-use Rattle.std.specs.Prelude.{◌≡◌, ℤ, List, [], ◌∷◌, Option, Some, None, ◌≤ℤ◌, ◌⊎◌, ⊤}
+use Rattle.std.specs.Prelude.{ℤ, List, [], ◌∷◌, Option, Some, None, ◌≤ℤ◌, ◌⊎◌, ⊤}
 use Rattle.asn_published.specs.declared.ranges.Range.{Range}
 
 -- not below the low bound, where there is one

@@ -1,5 +1,5 @@
 -- What a remark makes of its type, and how far a status is from the same.
-use Rattle.std.specs.Prelude.{ℕ}
+use Rattle.std.specs.Prelude.{ℕ, List, codes}
 use Rattle.asn_published.specs.declared.report.Status.{Status}
 use Rattle.asn_published.specs.declared.report.Status.TheVariants as status
 use Rattle.asn_published.specs.declared.report.Remark.{Remark}
@@ -32,3 +32,11 @@ distance status.Wider = 1
 distance status.Owed = 2
 distance status.PerOnly = 3
 distance status.Refused = 4
+
+-- the word for a status
+abbrev pub word_of : Status → List ℕ
+word_of status.Same = codes "same"
+word_of status.Wider = codes "wider"
+word_of status.Owed = codes "owed"
+word_of status.PerOnly = codes "per only"
+word_of status.Refused = codes "refused"

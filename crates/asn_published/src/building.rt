@@ -114,31 +114,56 @@ impl<'t> Forest<'t> {
             return Ok(());
         };
         if task.is_group {
-            let holder = Holder::Sequence;
-            let shape = self.members_of(tokens, todo, task.node, holder, node.at, node.end)?;
-            self.settle(task.node, shape, node.end);
-            return Ok(());
+            return self.build_group(tokens, todo, task.node, &node);
         }
         let at = after_tags(tokens, node.at);
         match rest_of(tokens, at)? {
             Rest::Type(inner) if tokens.is_capital(at) => {
                 let shape = self.list_of(tokens, todo, task.node, at, inner)?;
                 self.settle(task.node, shape, node.end);
+                Ok(())
             }
             Rest::Type(inner) => {
                 let of = self.child(todo, task.node, "", inner, node.end, false)?;
                 self.settle(task.node, Shape::Selection { of, at }, node.end);
+                Ok(())
             }
             Rest::Constraints(constraints) => {
-                self.settle(task.node, Shape::Refused(Why::NoType), constraints);
-                let shape = self.shape_at(alloc, world, tokens, todo, task.node, at)?;
-                if let Some(shape) = shape {
-                    self.settle(task.node, shape, constraints);
-                    self.contained_types(world, tokens, task.node)?;
-                }
+                self.build_other(alloc, world, tokens, todo, (task.node, at, constraints))
             }
         }
+    }
+
+    /// Builds the members of an addition group.
+    fn build_group(
+        &mut self,
+        tokens: &Tokens<'t>,
+        todo: &mut Vec<Task>,
+        index: usize,
+        node: &Node<'t>,
+    ) -> Result<(), TextFault> {
+        let shape = self.members_of(tokens, todo, index, Holder::Sequence, node.at, node.end)?;
+        self.settle(index, shape, node.end);
         Ok(())
+    }
+
+    /// Builds a node of a type that begins with a word or a name: its index, where the type stands, and where its
+    /// constraints do.
+    fn build_other(
+        &mut self,
+        alloc: Global,
+        world: &World<'t>,
+        tokens: &Tokens<'t>,
+        todo: &mut Vec<Task>,
+        place: (usize, usize, usize),
+    ) -> Result<(), TextFault> {
+        let (index, at, constraints) = place;
+        self.settle(index, Shape::Refused(Why::NoType), constraints);
+        let Some(shape) = self.shape_at(alloc, world, tokens, todo, index, at)? else {
+            return Ok(());
+        };
+        self.settle(index, shape, constraints);
+        self.contained_types(world, tokens, index)
     }
 
     /// Gives a node its shape, and the index of its constraints.

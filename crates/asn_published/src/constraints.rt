@@ -211,6 +211,10 @@ impl<'a, 't> Values<'a, 't> {
             if at >= end {
                 break;
             }
+            // a value set
+            if tokens.is(at, Sign::Becomes) {
+                at = next(at);
+            }
             let line = tokens.line(at);
             let one = self.inner_or_size(alloc, scope, mode, at)?;
             seen = intersection(alloc, seen, one, line)?;

@@ -45,6 +45,15 @@ impl<T: Drop> From<AllocFailed<T>> for PublishedFault {
     }
 }
 
+impl From<ModuleFault> for PublishedFault {
+    fn from(fault: ModuleFault) -> PublishedFault {
+        match fault {
+            ModuleFault::Memory => PublishedFault::Memory,
+            fault => PublishedFault::Unread(fault),
+        }
+    }
+}
+
 impl From<Refusal> for PublishedFault {
     fn from(_e: Refusal) -> PublishedFault {
         PublishedFault::Memory

@@ -10,6 +10,7 @@ use crate::naming::names_of;
 use crate::numbers::numbers_of;
 use crate::options::Options;
 use crate::order::{Order, order_of};
+use crate::pieces::push_pieces;
 use crate::report::TypeReport;
 use crate::reports::reports_of;
 use crate::written::{Written, put, write_all};
@@ -49,6 +50,7 @@ fn world_of<'t>(alloc: Global, texts: &[&'t str]) -> Result<World<'t>, Published
             Err(fault) => return Err(PublishedFault::of(index, fault)),
         }
     }
+    world.take_value_sets();
     Ok(world)
 }
 
@@ -149,31 +151,43 @@ pub(crate) fn text_of(world: &World<'_>, assignment: usize) -> usize {
     }
 }
 
+/// Appends a line for each type that is written.
+fn push_assignments(
+    text: &mut String,
+    names: &[String],
+    lines: &[Option<String>],
+) -> Result<(), AllocError> {
+    for (name, line) in names.iter().zip(lines) {
+        if let Some(line) = line {
+            push_pieces(text, &[name.as_str(), " ::=", line.as_str(), "\n"])?;
+        }
+    }
+    Ok(())
+}
+
 /// The text of the module of the types that are written.
 fn text_written(
     alloc: Global,
     sources: &Sources<'_>,
     written: &Written,
 ) -> Result<String, AllocError> {
+    let name = match sources.world.modules.first() {
+        Some(module) => module.name,
+        None => "Empty",
+    };
     let mut text = String::new(alloc);
-    match sources.world.modules.first() {
-        Some(module) => text.push_str(module.name)?,
-        None => text.push_str("Empty")?,
-    }
-    text.push_str(" DEFINITIONS AUTOMATIC TAGS ::= BEGIN\n")?;
+    push_pieces(
+        &mut text,
+        &[name, " DEFINITIONS AUTOMATIC TAGS ::= BEGIN\n"],
+    )?;
     for line in &written.levels {
         text.push_str(line.as_str())?;
     }
-    for (index, line) in written.lines.iter().enumerate() {
-        if let Some(line) = line {
-            if let Some(name) = sources.names.get(index) {
-                text.push_str(name.as_str())?;
-                text.push_str(" ::=")?;
-                text.push_str(line.as_str())?;
-                text.push_str("\n")?;
-            }
-        }
-    }
+    push_assignments(
+        &mut text,
+        sources.names.as_slice(),
+        written.lines.as_slice(),
+    )?;
     text.push_str("END\n")?;
     Ok(text)
 }
@@ -194,6 +208,45 @@ fn index_named(names: &[String], name: &str) -> Option<usize> {
         .position(|other| *other.as_str().as_bytes() == *name.as_bytes())
 }
 
+/// Writes all types but those that are refused, and reads them back.
+fn attempt(
+    alloc: Global,
+    sources: &Sources<'_>,
+    options: Options,
+    refused: &[bool],
+) -> Result<Flattened, PublishedFault>
+    ensures { IfOk result (λ f. Accepted (string_bytes f.text) (types_view f.module)) }
+{
+    let written = write_all(alloc, sources, options, refused)?;
+    let text = text_written(alloc, sources, &written)?;
+    let (text, module) = read_back(alloc, text.as_str())?;
+    let report = reports_of(alloc, written)?;
+    Ok(Flattened {
+        text,
+        module,
+        report,
+    })
+}
+
+/// Refuses the type that the profile does not take; a fault of anything else is told.
+fn refuse(
+    names: &[String],
+    refused: &mut Vec<bool>,
+    fault: ModuleFault,
+) -> Result<(), PublishedFault> {
+    let found = match &fault {
+        ModuleFault::BadType { name, fault: _ } => index_named(names, name.as_str()),
+        _ => None,
+    };
+    match found {
+        Some(index) => {
+            put(refused, index, true);
+            Ok(())
+        }
+        None => Err(PublishedFault::Unread(fault)),
+    }
+}
+
 /// One module of the profile from the texts of published ones (X.680 to X.683), and what became of each type.
 ///
 /// The module has the name of the first one, and a type for each type assignment that is not refused. It is read by
@@ -208,32 +261,13 @@ pub fn flatten(alloc: Global, texts: &[&str], options: Options) -> Result<Flatte
 {
     let sources = sources_of(alloc, texts)?;
     let mut refused = vec![in alloc; false; sources.names.len()]?;
-    let mut last = ModuleFault::Memory;
-    for _ in 0..MOST_TRIES {
-        let written = write_all(alloc, &sources, options, refused.as_slice())?;
-        let text = text_written(alloc, &sources, &written)?;
-        match read_back(alloc, text.as_str()) {
-            Ok((text, module)) => {
-                let report = reports_of(alloc, written)?;
-                return Ok(Flattened {
-                    text,
-                    module,
-                    report,
-                });
+    for _ in 1..MOST_TRIES {
+        match attempt(alloc, &sources, options, refused.as_slice()) {
+            Err(PublishedFault::Unread(fault)) => {
+                refuse(sources.names.as_slice(), &mut refused, fault)?;
             }
-            Err(ModuleFault::BadType { name, fault }) => {
-                match index_named(sources.names.as_slice(), name.as_str()) {
-                    Some(index) => put(&mut refused, index, true),
-                    None => return Err(PublishedFault::Unread(ModuleFault::BadType {
-                        name,
-                        fault,
-                    })),
-                }
-                last = ModuleFault::BadType { name, fault };
-            }
-            Err(ModuleFault::Memory) => return Err(PublishedFault::Memory),
-            Err(fault) => return Err(PublishedFault::Unread(fault)),
+            answer => return answer,
         }
     }
-    Err(PublishedFault::Unread(last))
+    attempt(alloc, &sources, options, refused.as_slice())
 }

@@ -4,7 +4,7 @@ use crate::info::Base;
 use crate::layout::{
     Layout, TagOrder, Tagging, is_too_large, layout_of, may_be_empty, sort_by_tags,
 };
-use crate::nodes::{Holder, MemberKind, Need, Node, Shape};
+use crate::nodes::{Holder, Member, MemberKind, Need, Node, Shape};
 use crate::refusal::{Refusal, Why, refused};
 use crate::report::Remark;
 use crate::tags::is_automatic;
@@ -44,7 +44,14 @@ impl<'t> Writer<'t> {
             self.put_in_order(alloc, known, index, node, (holder, from, to), &mut layout)?;
         }
         let is_marked = marked || (is_extensible(known, node) && !is_group(known, node));
-        let tasks = self.member_tasks(alloc, known, holder, &layout, is_marked, depth)?;
+        let mut tasks = Vec::new(alloc);
+        let below = depth.saturating_add(1);
+        self.push_members(alloc, known, &mut tasks, holder, &layout, is_marked, below)?;
+        self.ask_for(tasks.as_slice())
+    }
+
+    /// Asks for tasks, which are done in their order.
+    fn ask_for(&mut self, tasks: &[Task<'t>]) -> Result<(), Refusal> {
         for task in tasks.iter().rev() {
             self.stack.push(*task)?;
         }
@@ -81,39 +88,51 @@ impl<'t> Writer<'t> {
     }
 
     /// What is to be written of members, in order.
-    fn member_tasks(
+    fn push_members(
         &mut self,
         alloc: Global,
         known: Known<'_, 't>,
+        tasks: &mut Vec<Task<'t>>,
         holder: Holder,
         layout: &Layout,
         marked: bool,
         depth: u32,
-    ) -> Result<Vec<Task<'t>>, Refusal> {
-        let mut tasks = Vec::new(alloc);
+    ) -> Result<(), Refusal> {
         tasks.push(Task::Text(if holder == Holder::Choice {
             " CHOICE {"
         } else {
             " SEQUENCE {"
         }))?;
-        let below = depth.saturating_add(1);
         let mut comma = false;
         for member in &layout.root {
-            self.push_member(alloc, known, &mut tasks, *member, comma, below)?;
+            self.push_member(alloc, known, tasks, *member, comma, depth)?;
             comma = true;
         }
         if marked {
             tasks.push(Task::Text(if comma { ", ..." } else { " ..." }))?;
-            for member in &layout.additions {
-                self.push_member(alloc, known, &mut tasks, *member, true, below)?;
-                if holder != Holder::Choice {
-                    tasks.push(Task::Text(" OPTIONAL"))?;
-                }
-            }
+            self.push_additions(alloc, known, tasks, holder, layout, depth)?;
         }
         tasks.push(Task::Text(" }"))?;
-        tasks.push(Task::Holder(Base::Other, false))?;
-        Ok(tasks)
+        Ok(tasks.push(Task::Holder(Base::Other, false))?)
+    }
+
+    /// What is to be written of additions, in order.
+    fn push_additions(
+        &mut self,
+        alloc: Global,
+        known: Known<'_, 't>,
+        tasks: &mut Vec<Task<'t>>,
+        holder: Holder,
+        layout: &Layout,
+        depth: u32,
+    ) -> Result<(), Refusal> {
+        for member in &layout.additions {
+            self.push_member(alloc, known, tasks, *member, true, depth)?;
+            if holder != Holder::Choice {
+                tasks.push(Task::Text(" OPTIONAL"))?;
+            }
+        }
+        Ok(())
     }
 
     /// What is to be written of one member.
@@ -132,33 +151,53 @@ impl<'t> Writer<'t> {
         if comma {
             tasks.push(Task::Text(","))?;
         }
-        match member.kind {
-            MemberKind::Group(number) => {
-                tasks.push(Task::Group(number))?;
-                if let Some(
-                    Node {
-                        shape: Shape::Members { from, to, .. },
-                        ..
-                    },
-                ) = known.forest.node(member.node)
-                {
-                    if may_be_empty(known.forest, from, to) {
-                        self.remark(alloc, known, member.node, Remark::EmptyGroup)?;
-                    }
-                }
-            }
-            _ => {
-                tasks.push(Task::Text(" "))?;
-                tasks.push(Task::Text(member.name))?;
-            }
+        if let MemberKind::Group(number) = member.kind {
+            tasks.push(Task::Group(number))?;
+            self.remark_group(alloc, known, member.node)?;
+        } else {
+            tasks.push(Task::Text(" "))?;
+            tasks.push(Task::Text(member.name))?;
         }
         tasks.push(Task::Node(member.node, depth))?;
-        if !member.is_addition {
-            tasks.push(Task::Need(member.node, member.need))?;
-        } else if let Need::Default { .. } = member.need {
-            self.remark(alloc, known, member.node, Remark::Default)?;
+        self.push_need(alloc, known, tasks, &member)
+    }
+
+    /// Remarks that all of an addition group may be absent.
+    fn remark_group(
+        &mut self,
+        alloc: Global,
+        known: Known<'_, 't>,
+        index: usize,
+    ) -> Result<(), Refusal> {
+        if let Some(
+            Node {
+                shape: Shape::Members { from, to, .. },
+                ..
+            },
+        ) = known.forest.node(index)
+        {
+            if may_be_empty(known.forest, from, to) {
+                return self.remark(alloc, known, index, Remark::EmptyGroup);
+            }
         }
         Ok(())
+    }
+
+    /// What is to be written behind the type of a member; of an addition that has a DEFAULT this is remarked.
+    fn push_need(
+        &mut self,
+        alloc: Global,
+        known: Known<'_, 't>,
+        tasks: &mut Vec<Task<'t>>,
+        member: &Member<'t>,
+    ) -> Result<(), Refusal> {
+        if !member.is_addition {
+            return Ok(tasks.push(Task::Need(member.node, member.need))?);
+        }
+        match member.need {
+            Need::Default { .. } => self.remark(alloc, known, member.node, Remark::Default),
+            _ => Ok(()),
+        }
     }
 }
 

@@ -1,5 +1,6 @@
 //! Parameterized assignments as they are referred to (X.683): what stands in the place of each parameter.
 use crate::modules::World;
+use crate::pieces::push_pieces;
 use crate::refusal::Why;
 use crate::token::Sign;
 use crate::tokens::{Tokens, next};
@@ -173,6 +174,19 @@ impl Instances {
     }
 }
 
+/// Appends the lexical items from one index to before another, each after a space.
+fn push_items(
+    key: &mut String,
+    tokens: &Tokens<'_>,
+    from: usize,
+    to: usize,
+) -> Result<(), AllocError> {
+    for at in from..to {
+        push_pieces(key, &[" ", tokens.text(at)])?;
+    }
+    Ok(())
+}
+
 /// A text that is the same for references that ask for the same: the assignment, where the reference stands, and the
 /// actual parameters, or the place of them where there are many lexical items.
 fn key_of(alloc: Global, world: &World<'_>, asked: Instance) -> Result<String, AllocError> {
@@ -182,20 +196,15 @@ fn key_of(alloc: Global, world: &World<'_>, asked: Instance) -> Result<String, A
         Some(outer) => outer.saturating_add(1),
         None => 0,
     };
-    let mut key = format!(in alloc; "{assignment} {module} {outer}")?;
+    let place = asked.braces;
     let Some(tokens) = world.tokens_of(asked.module) else {
-        return Ok(key);
+        return format!(in alloc; "{assignment} {module} {outer}");
     };
-    let end = tokens.other(asked.braces);
-    if end.saturating_sub(asked.braces) > MOST_COMPARED {
-        let place = asked.braces;
-        let text = format!(in alloc; " at {place}")?;
-        key.push_str(text.as_str())?;
-        return Ok(key);
+    let end = tokens.other(place);
+    if end.saturating_sub(place) > MOST_COMPARED {
+        return format!(in alloc; "{assignment} {module} {outer} at {place}");
     }
-    for at in asked.braces..end {
-        key.push_str(" ")?;
-        key.push_str(tokens.text(at))?;
-    }
+    let mut key = format!(in alloc; "{assignment} {module} {outer}")?;
+    push_items(&mut key, tokens, place, end)?;
     Ok(key)
 }

@@ -134,6 +134,30 @@ fn give_numbers(alloc: Global, items: &mut Vec<Item<'_>>) -> Result<(), Refusal>
     Ok(())
 }
 
+/// Puts the items of the root and the additional ones into their lists. Additional items whose numbers do not rise
+/// above those of the root get others.
+fn put_apart<'t>(all: &[Item<'t>], items: &mut Items<'t>) -> Result<(), Refusal> {
+    let mut highest = -1i128;
+    for item in all {
+        if !item.is_addition {
+            highest = highest.max(item.number);
+            items.root.push(*item)?;
+        }
+    }
+    for item in all {
+        if item.is_addition {
+            let mut addition = *item;
+            if addition.number <= highest {
+                addition.number = highest.saturating_add(1);
+                items.renumbered = true;
+            }
+            highest = addition.number;
+            items.additions.push(addition)?;
+        }
+    }
+    Ok(())
+}
+
 /// The items in the braces at `braces`, with numbers. Additional items whose numbers do not rise above those of the
 /// root get others.
 pub(crate) fn items_of<'t>(
@@ -153,23 +177,6 @@ pub(crate) fn items_of<'t>(
         marked,
         renumbered: false,
     };
-    let mut highest = -1i128;
-    for item in &all {
-        if !item.is_addition {
-            highest = highest.max(item.number);
-            items.root.push(*item)?;
-        }
-    }
-    for item in &all {
-        if item.is_addition {
-            let mut addition = *item;
-            if addition.number <= highest {
-                addition.number = highest.saturating_add(1);
-                items.renumbered = true;
-            }
-            highest = addition.number;
-            items.additions.push(addition)?;
-        }
-    }
+    put_apart(all.as_slice(), &mut items)?;
     Ok(items)
 }

@@ -10,10 +10,11 @@ use std::collections::HashMap;
 /// What an assignment assigns.
 #[derive(Clone, Copy, PartialEq, Eq)]
 pub(crate) enum What {
+    /// A type, or a set of values, which is one.
     Type,
     /// A value or an object.
     Value,
-    /// A set of values or of objects.
+    /// A set of objects; of values too, before it is known what governs it.
     Set,
     Class,
 }
@@ -164,6 +165,35 @@ fn after_source(tokens: &Tokens<'_>, from: usize) -> usize {
     at
 }
 
+/// Takes the module that stands at `at` for the source of symbols, and gives the index after it.
+fn after_source_of<'t>(
+    tokens: &Tokens<'t>,
+    module: &mut ModuleText<'t>,
+    symbols: &[&'t str],
+    at: usize,
+) -> Result<usize, TextFault> {
+    if !tokens.is_capital(at) {
+        return Err(tokens.expected(at, "the name of a module"));
+    }
+    let source = tokens.text(at);
+    for symbol in symbols {
+        module.imports.insert(*symbol, source)?;
+    }
+    Ok(after_source(tokens, next(at)))
+}
+
+/// The index after an imported symbol and its comma.
+fn after_import(tokens: &Tokens<'_>, at: usize) -> Result<usize, TextFault> {
+    let behind = after_symbol(tokens, at)?;
+    if tokens.is(behind, Sign::Comma) {
+        Ok(next(behind))
+    } else if tokens.is_word(behind, "FROM") {
+        Ok(behind)
+    } else {
+        Err(tokens.expected(behind, ", or FROM"))
+    }
+}
+
 /// Takes IMPORTS and its `;`, where it stands at `from`, and gives the index after it.
 fn after_imports<'t>(
     alloc: Global,
@@ -181,25 +211,11 @@ fn after_imports<'t>(
             break;
         }
         if tokens.is_word(at, "FROM") {
-            at = next(at);
-            let source = tokens.text(at);
-            if !tokens.is_capital(at) {
-                return Err(tokens.expected(at, "the name of a module"));
-            }
-            for symbol in symbols.iter() {
-                module.imports.insert(*symbol, source)?;
-            }
+            at = after_source_of(tokens, module, symbols.as_slice(), next(at))?;
             symbols.clear();
-            at = after_source(tokens, next(at));
-            continue;
-        }
-        let symbol = tokens.text(at);
-        at = after_symbol(tokens, at)?;
-        symbols.push(symbol)?;
-        if tokens.is(at, Sign::Comma) {
-            at = next(at);
-        } else if !tokens.is_word(at, "FROM") {
-            return Err(tokens.expected(at, ", or FROM"));
+        } else {
+            symbols.push(tokens.text(at))?;
+            at = after_import(tokens, at)?;
         }
     }
     if !symbols.is_empty() {
@@ -341,6 +357,20 @@ impl<'t> World<'t> {
         Ok(())
     }
 
+    /// Takes what stands in a module from BEGIN on, and gives the index after it.
+    fn add_body(
+        &mut self,
+        alloc: Global,
+        tokens: &Tokens<'t>,
+        module: &mut ModuleText<'t>,
+        begin: usize,
+    ) -> Result<usize, TextFault> {
+        let index = self.modules.len();
+        let imports = after_exports(tokens, begin)?;
+        let assignments = after_imports(alloc, tokens, module, imports)?;
+        after_assignments(tokens, module, index, &mut self.assignments, assignments)
+    }
+
     /// Takes the module at `from`, and gives the index after it.
     fn add_module(
         &mut self,
@@ -357,9 +387,7 @@ impl<'t> World<'t> {
                 wrong: Wrong::ModuleTwice,
             });
         }
-        let mut at = after_exports(tokens, begin)?;
-        at = after_imports(alloc, tokens, &mut module, at)?;
-        at = after_assignments(tokens, &mut module, index, &mut self.assignments, at)?;
+        let at = self.add_body(alloc, tokens, &mut module, begin)?;
         self.modules.push(module)?;
         Ok(at)
     }

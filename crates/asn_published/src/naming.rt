@@ -1,7 +1,7 @@
 //! The names of the types in the profile: a name of two modules gets its module's name in front, and an instance of a
 //! parameterized assignment a number after.
 use crate::instances::Instances;
-use crate::modules::{What, World};
+use crate::modules::{Assignment, What, World};
 use std::alloc::{AllocError, Global};
 use std::collections::HashMap;
 
@@ -67,47 +67,86 @@ fn add(
     Ok(())
 }
 
-/// Of each assignment and then of each instance the name in the profile.
-pub(crate) fn names_of(
+/// Adds the name of an assignment, where `is_shared` says that other assignments have it too.
+fn name_assignment(
     alloc: Global,
     world: &World<'_>,
-    instances: &Instances,
-) -> Result<Vec<String>, AllocError> {
+    names: &mut Vec<String>,
+    taken: &mut HashMap<String, ()>,
+    assignment: &Assignment<'_>,
+    is_shared: bool,
+) -> Result<(), AllocError> {
+    let module = match world.modules.get(assignment.module) {
+        Some(module) => module.name,
+        None => "",
+    };
+    let mut name = own_name(alloc, module, assignment.name, is_shared)?;
+    if is_shared && taken.contains_key(name.as_str()) {
+        (name, _) = numbered(alloc, taken, name.as_str(), 2)?;
+    }
+    if assignment.what == What::Type {
+        add(names, taken, name)
+    } else {
+        Ok(names.push(name)?)
+    }
+}
+
+/// Adds the names of all assignments.
+fn name_assignments(
+    alloc: Global,
+    world: &World<'_>,
+    names: &mut Vec<String>,
+    taken: &mut HashMap<String, ()>,
+) -> Result<(), AllocError> {
     let counts = counts_of(alloc, world)?;
-    let mut names = Vec::new(alloc);
-    let mut taken = HashMap::new(alloc);
     for assignment in &world.assignments {
         let is_shared = match counts.get(assignment.name) {
             Some(count) => *count > 1,
             None => false,
         };
-        let module = match world.modules.get(assignment.module) {
-            Some(module) => module.name,
-            None => "",
-        };
-        let mut name = own_name(alloc, module, assignment.name, is_shared)?;
-        if is_shared && taken.contains_key(name.as_str()) {
-            (name, _) = numbered(alloc, &taken, name.as_str(), 2)?;
-        }
-        if assignment.what == What::Type {
-            add(&mut names, &mut taken, name)?;
-        } else {
-            names.push(name)?;
-        }
+        name_assignment(alloc, world, names, taken, assignment, is_shared)?;
     }
+    Ok(())
+}
+
+/// The name at an index.
+fn name_at<'a>(names: &'a [String], index: usize) -> &'a str {
+    match names.get(index) {
+        Some(name) => name.as_str(),
+        None => "",
+    }
+}
+
+/// Adds the names of all instances: that of the assignment with a number after it.
+fn name_instances(
+    alloc: Global,
+    instances: &Instances,
+    names: &mut Vec<String>,
+    taken: &mut HashMap<String, ()>,
+) -> Result<(), AllocError> {
     let mut last: HashMap<usize, u32> = HashMap::new(alloc);
     for instance in &instances.all {
         let before = match last.get(&instance.assignment) {
             Some(number) => *number,
             None => 0,
         };
-        let base = match names.get(instance.assignment) {
-            Some(name) => name.as_str(),
-            None => "",
-        };
-        let (name, number) = numbered(alloc, &taken, base, before.saturating_add(1))?;
+        let base = name_at(names.as_slice(), instance.assignment);
+        let (name, number) = numbered(alloc, taken, base, before.saturating_add(1))?;
         last.insert(instance.assignment, number)?;
-        add(&mut names, &mut taken, name)?;
+        add(names, taken, name)?;
     }
+    Ok(())
+}
+
+/// Of each assignment and then of each instance the name in the profile.
+pub(crate) fn names_of(
+    alloc: Global,
+    world: &World<'_>,
+    instances: &Instances,
+) -> Result<Vec<String>, AllocError> {
+    let mut names = Vec::new(alloc);
+    let mut taken = HashMap::new(alloc);
+    name_assignments(alloc, world, &mut names, &mut taken)?;
+    name_instances(alloc, instances, &mut names, &mut taken)?;
     Ok(names)
 }

@@ -1,8 +1,8 @@
 //! Writes lists, and names of types with further constraints.
-use crate::bounds::{lengths_between, write_size};
 use crate::info::{Base, Info, State};
 use crate::layout::members_behind;
 use crate::nodes::{Node, Shape};
+use crate::pieces::push_pieces;
 use crate::refusal::{Refusal, Why, refused};
 use crate::report::{Remark, Status};
 use crate::seen::{Mode, Seen, intersection};
@@ -35,15 +35,14 @@ impl<'t> Writer<'t> {
         let seen = known.values.sizes_seen(alloc, scope, size, size_end)?;
         self.remark_dropped(alloc, known, index, &seen)?;
         self.out.push_str(" SEQUENCE")?;
-        if let Some(lengths) = lengths_between(&seen.sizes, seen.marked, line)? {
-            if lengths.cut {
-                self.remark(alloc, known, index, Remark::SizeToMax)?;
-            }
-            write_size(alloc, &mut self.out, lengths, seen.marked)?;
-        }
-        self.remark_gap(alloc, known, index, &seen)?;
+        self.put_size(alloc, known, index, &seen, line)?;
+        self.ask_for_element(element, seen.marked, depth)
+    }
+
+    /// Asks for the element of a list.
+    fn ask_for_element(&mut self, element: usize, marked: bool, depth: u32) -> Result<(), Refusal> {
         self.out.push_str(" OF")?;
-        self.stack.push(Task::Holder(Base::List, seen.marked))?;
+        self.stack.push(Task::Holder(Base::List, marked))?;
         self.stack
             .push(Task::Node(element, depth.saturating_add(1)))?;
         Ok(())
@@ -61,32 +60,56 @@ impl<'t> Writer<'t> {
     ) -> Result<(), Refusal> {
         let line = known.line_of(node);
         self.uses.push(to)?;
-        if known.is_below(to) {
-            if known.options.levels == 0 {
-                return Err(refused(line, Why::Recursive));
-            }
-            if known.level <= 1 {
-                self.remark(alloc, known, index, Remark::Level)?;
-                self.out.push_str(" NULL")?;
-                self.last = Info::of(Base::Other);
-                return Ok(());
-            }
+        if known.is_below(to) && known.level <= 1 {
+            return self.write_last_level(alloc, known, index, line);
         }
-        let info = info_of(alloc, known, to, line)?;
-        let levels = depth.saturating_add(info.depth).saturating_sub(1);
-        self.count(info.nodes.saturating_sub(1), levels, line)?;
-        if info.status != Status::Same {
-            self.remark(alloc, known, index, Remark::Holds(info.status))?;
+        self.take_info(alloc, known, index, to, depth, line)?;
+        if node.constraints >= node.end {
+            return self.put_name(alloc, known, to);
         }
-        if node.constraints < node.end && info.base != Base::Other {
-            return self.write_constrained(alloc, known, index, node, info, to);
-        }
-        if node.constraints < node.end {
+        if self.last.base == Base::Other {
             self.remark(alloc, known, index, Remark::Dropped)?;
+            return self.put_name(alloc, known, to);
         }
-        self.put_name(alloc, known, to)?;
-        self.last = info;
+        self.write_constrained(alloc, known, index, node, to)
+    }
+
+    /// Writes NULL where recursion ends.
+    fn write_last_level(
+        &mut self,
+        alloc: Global,
+        known: Known<'_, 't>,
+        index: usize,
+        line: u32,
+    ) -> Result<(), Refusal> {
+        if known.options.levels == 0 {
+            return Err(refused(line, Why::Recursive));
+        }
+        self.remark(alloc, known, index, Remark::Level)?;
+        self.out.push_str(" NULL")?;
+        self.last = Info::of(Base::Other);
         Ok(())
+    }
+
+    /// Takes what is known of a type that is referred to: counts its nodes, and remarks that it is not the same.
+    fn take_info(
+        &mut self,
+        alloc: Global,
+        known: Known<'_, 't>,
+        index: usize,
+        to: usize,
+        depth: u32,
+        line: u32,
+    ) -> Result<(), Refusal> {
+        self.last = info_of(alloc, known, to, line)?;
+        let levels = depth.saturating_add(self.last.depth).saturating_sub(1);
+        let nodes = self.last.nodes.saturating_sub(1);
+        self.count(nodes, levels, line)?;
+        let status = self.last.status;
+        if status == Status::Same {
+            return Ok(());
+        }
+        self.remark(alloc, known, index, Remark::Holds(status))
     }
 
     /// Asks for the alternative of a CHOICE (X.680, "selection type").
@@ -122,85 +145,78 @@ impl<'t> Writer<'t> {
 
     /// Writes the name of a type, of one of its cycle with a level less.
     fn put_name(&mut self, alloc: Global, known: Known<'_, 't>, to: usize) -> Result<(), Refusal> {
-        self.out.push_str(" ")?;
-        if let Some(name) = known.names.get(to) {
-            self.out.push_str(name.as_str())?;
+        let name = match known.names.get(to) {
+            Some(name) => name.as_str(),
+            None => "",
+        };
+        push_pieces(&mut self.out, &[" ", name])?;
+        if !known.is_below(to) {
+            return Ok(());
         }
-        if known.is_below(to) {
-            let level = known.level.saturating_sub(1);
-            let text = format!(in alloc; "-level-{level}")?;
-            self.out.push_str(text.as_str())?;
-        }
-        Ok(())
+        let level = known.level.saturating_sub(1);
+        let text = format!(in alloc; "-level-{level}")?;
+        Ok(self.out.push_str(text.as_str())?)
     }
 
-    /// Writes the type of an assignment with further constraints.
+    /// Writes the type of an assignment with further constraints; of the type itself `last` tells.
     fn write_constrained(
         &mut self,
         alloc: Global,
         known: Known<'_, 't>,
         index: usize,
         node: &Node<'t>,
-        info: Info,
         to: usize,
     ) -> Result<(), Refusal> {
         let line = known.line_of(node);
-        let mode = if info.base == Base::Integer {
+        let base = self.last.base;
+        let named = self.last.named;
+        if base == Base::Boolean || base == Base::Enumerated {
+            self.remark(alloc, known, index, Remark::Dropped)?;
+            return self.put_name(alloc, known, to);
+        }
+        let mode = if base == Base::Integer {
             Mode::Numbers
         } else {
             Mode::Others
         };
-        if info.base == Base::Boolean || info.base == Base::Enumerated {
-            self.remark(alloc, known, index, Remark::Dropped)?;
+        let own = self.seen_of(alloc, known, index, node, mode, named)?;
+        if base == Base::List {
             self.put_name(alloc, known, to)?;
-            self.last = info;
-            return Ok(());
+            return self.put_further_size(alloc, known, index, own, line);
         }
-        let own = self.seen_of(alloc, known, index, node, mode, info.named)?;
-        if info.base == Base::List {
-            return self.put_list_name(alloc, known, index, info, own, to, line);
-        }
-        let seen = intersection(alloc, info.seen(alloc)?, own, line)?;
-        if info.base == Base::Integer {
-            self.put_integer(alloc, known, index, seen, info.named, line)
+        let seen = seen_with(alloc, &self.last, own, line)?;
+        if base == Base::Integer {
+            self.put_integer(alloc, known, index, seen, named, line)
         } else {
-            self.put_string(alloc, known, index, info.base, seen, line)
+            self.put_string(alloc, known, index, base, seen, line)
         }
     }
 
-    /// Writes the name of a list with a further size.
-    fn put_list_name(
+    /// Writes a further size of a list, whose name is written.
+    fn put_further_size(
         &mut self,
         alloc: Global,
         known: Known<'_, 't>,
         index: usize,
-        info: Info,
         own: Seen,
-        to: usize,
         line: u32,
     ) -> Result<(), Refusal> {
-        self.put_name(alloc, known, to)?;
         if own.sizes.is_none() {
-            self.last = info;
             return Ok(());
         }
-        if info.marked {
+        if self.last.marked {
             return Err(refused(line, Why::Size));
         }
-        if let Some(lengths) = lengths_between(&own.sizes, own.marked, line)? {
-            if lengths.cut {
-                self.remark(alloc, known, index, Remark::SizeToMax)?;
-            }
-            write_size(alloc, &mut self.out, lengths, own.marked)?;
-        }
-        self.remark_gap(alloc, known, index, &own)?;
-        self.last = Info {
-            left: own.sizes,
-            marked: own.marked,
-            ..info
-        };
+        self.put_size(alloc, known, index, &own, line)?;
+        self.last.left = own.sizes;
+        self.last.marked = own.marked;
         Ok(())
     }
+}
+
+/// What the constraints of a type leave, and further ones.
+fn seen_with(alloc: Global, info: &Info, own: Seen, line: u32) -> Result<Seen, Refusal> {
+    intersection(alloc, info.seen(alloc)?, own, line)
 }
 
 /// What is known of a type that is referred to.

@@ -1,64 +1,77 @@
 //! Why a type is refused.
 use std::alloc::{AllocError, AllocFailed};
-use thiserror::Error;
+use std::fmt;
 
 /// Why a published type becomes no type of the profile.
-#[derive(Clone, Copy, Debug, PartialEq, Eq, Error)]
+#[derive(Clone, Copy, Debug, PartialEq, Eq)]
 pub enum Why {
-    #[error("a name that is not assigned")]
     Unknown,
-    #[error("a name of a module that is not given")]
     NotGiven,
-    #[error("a name that stands for no type")]
     NoType,
-    #[error("a parameter in the place of a type or a number")]
     Parameter,
-    #[error("parameters that expand without end")]
     Endless,
-    #[error("a field of a class that is not understood")]
     ClassField,
-    #[error("recursion")]
     Recursive,
-    #[error("a type that is refused")]
     Holds,
-    #[error("{0} is no type of the profile")]
     Kind(&'static str),
-    #[error("elements of SET OF have an order of their own")]
     SetOf,
-    #[error("named bits without a fixed size: PER trims zeros")]
     NamedBits,
-    #[error("characters with codes of their own")]
     Alphabet,
-    #[error("numbers outside 64 bits")]
     Bounds,
-    #[error("no number is left")]
     Empty,
-    #[error("a size that is not read")]
     Size,
-    #[error("a mark on what is every value already")]
     UselessMark,
-    #[error("a value that is not understood")]
     Value,
-    #[error("a constraint that is not understood")]
     Constraint,
-    #[error("more than 256 ranges")]
     Ranges,
-    #[error("items that are not understood")]
     Items,
-    #[error("tags that are not understood")]
     Tags,
-    #[error("more than 32 levels")]
     TooDeep,
-    #[error("more than 10,000 nodes")]
     TooManyNodes,
-    #[error("too many components, alternatives, additions or items")]
     TooMany,
-    #[error("a name that is taken")]
     NameTaken,
-    #[error("the profile does not take it")]
     NotOfProfile,
-    #[error("not the same")]
     NotTheSame,
+}
+
+impl fmt::Display for Why {
+    ghost use Rattle.std.specs.Prelude.{Some};
+    ghost use Rattle.asn_published.specs.Words.{reason_of};
+
+    ghost output = { λ why. Some (reason_of why) };
+
+    fn fmt<W: fmt::Write>(&self, f: &mut fmt::Formatter<W>) -> fmt::Result {
+        let reason = match self {
+            Why::Kind(what) => return write!(f, "{what} is no type of the profile"),
+            Why::Unknown => "a name that is not assigned",
+            Why::NotGiven => "a name of a module that is not given",
+            Why::NoType => "a name that stands for no type",
+            Why::Parameter => "a parameter in the place of a type or a number",
+            Why::Endless => "parameters that expand without end",
+            Why::ClassField => "a field of a class that is not understood",
+            Why::Recursive => "recursion",
+            Why::Holds => "a type that is refused",
+            Why::SetOf => "elements of SET OF have an order of their own",
+            Why::NamedBits => "named bits without a fixed size: PER trims zeros",
+            Why::Alphabet => "characters with codes of their own",
+            Why::Bounds => "numbers outside 64 bits",
+            Why::Empty => "no number is left",
+            Why::Size => "a size that is not read",
+            Why::UselessMark => "a mark on what is every value already",
+            Why::Value => "a value that is not understood",
+            Why::Constraint => "a constraint that is not understood",
+            Why::Ranges => "more than 256 ranges",
+            Why::Items => "items that are not understood",
+            Why::Tags => "tags that are not understood",
+            Why::TooDeep => "more than 32 levels",
+            Why::TooManyNodes => "more than 10,000 nodes",
+            Why::TooMany => "too many components, alternatives, additions or items",
+            Why::NameTaken => "a name that is taken",
+            Why::NotOfProfile => "the profile does not take it",
+            Why::NotTheSame => "not the same",
+        };
+        f.write_str(reason)
+    }
 }
 
 /// Why a type is refused, and on which line, from 1.

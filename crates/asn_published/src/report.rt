@@ -4,7 +4,6 @@ ghost use Rattle.asn_published.specs.Statuses.{distance, status_of};
 
 use crate::refusal::Why;
 use std::fmt;
-use thiserror::Error;
 
 /// How the encodings of a type of the profile stand to those of the published type.
 #[derive(Clone, Copy, Debug, PartialEq, Eq)]
@@ -22,6 +21,11 @@ pub enum Status {
 }
 
 impl fmt::Display for Status {
+    ghost use Rattle.std.specs.Prelude.{Some};
+    ghost use Rattle.asn_published.specs.Statuses.{word_of};
+
+    ghost output = { λ status. Some (word_of status) };
+
     fn fmt<W: fmt::Write>(&self, f: &mut fmt::Formatter<W>) -> fmt::Result {
         f.write_str(match self {
             Status::Same => "same",
@@ -34,40 +38,53 @@ impl fmt::Display for Status {
 }
 
 /// What is to be said of a component.
-#[derive(Clone, Copy, Debug, PartialEq, Eq, Error)]
+#[derive(Clone, Copy, Debug, PartialEq, Eq)]
 pub enum Remark {
-    #[error("numbers between the ranges are taken too")]
     Gap,
-    #[error("a constraint is not looked at")]
     Dropped,
-    #[error("the default may be written out")]
     Default,
-    #[error("sizes have no highest")]
     SizeToMax,
-    #[error("other characters are taken too")]
     Characters,
-    #[error("the time is not looked at")]
     Time,
-    #[error("the value of the open type is not looked at")]
     OpenType,
-    #[error("the {0} is not looked at")]
     Content(&'static str),
-    #[error("the REAL is not looked at, and OER may have no length")]
     Real,
-    #[error("last zeros of named bits: the writer trims them")]
     TrimmedBits,
-    #[error("a group without components is absent: the writer leaves it out")]
     EmptyGroup,
-    #[error("OER tells the alternatives apart by other tags")]
     OerTags,
-    #[error("OER writes other numbers for additional items")]
     OerItems,
-    #[error("recursion ends here, in NULL")]
     Level,
-    #[error("holds a type that is {0}")]
     Holds(Status),
-    #[error("{0}")]
     Refused(Why),
+}
+
+impl fmt::Display for Remark {
+    ghost use Rattle.std.specs.Prelude.{Some};
+    ghost use Rattle.asn_published.specs.Words.{words_of};
+
+    ghost output = { λ remark. Some (words_of remark) };
+
+    fn fmt<W: fmt::Write>(&self, f: &mut fmt::Formatter<W>) -> fmt::Result {
+        let words = match self {
+            Remark::Content(what) => return write!(f, "the {what} is not looked at"),
+            Remark::Holds(status) => return write!(f, "holds a type that is {status}"),
+            Remark::Refused(why) => return write!(f, "{why}"),
+            Remark::Gap => "numbers between the ranges are taken too",
+            Remark::Dropped => "a constraint is not looked at",
+            Remark::Default => "the default may be written out",
+            Remark::SizeToMax => "sizes have no highest",
+            Remark::Characters => "other characters are taken too",
+            Remark::Time => "the time is not looked at",
+            Remark::OpenType => "the value of the open type is not looked at",
+            Remark::Real => "the REAL is not looked at, and OER may have no length",
+            Remark::TrimmedBits => "last zeros of named bits: the writer trims them",
+            Remark::EmptyGroup => "a group without components is absent: the writer leaves it out",
+            Remark::OerTags => "OER tells the alternatives apart by other tags",
+            Remark::OerItems => "OER writes other numbers for additional items",
+            Remark::Level => "recursion ends here, in NULL",
+        };
+        f.write_str(words)
+    }
 }
 
 impl Remark {
@@ -95,7 +112,7 @@ impl Remark {
 
 impl Status {
     /// How far it is from the same.
-    fn rank(self) -> u8
+    pub(crate) fn rank(self) -> u8
         ensures { result ≡ distance self }
     {
         match self {

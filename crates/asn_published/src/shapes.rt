@@ -7,7 +7,7 @@ use crate::nodes::{Holder, Node, Shape};
 use crate::refusal::Why;
 use crate::token::Sign;
 use crate::tokens::{Tokens, next};
-use crate::words::{barred, bits_at, letters_named, second_word};
+use crate::words::{bits_at, holder_named, named_by_word, second_word};
 use crate::wrong::TextFault;
 use std::alloc::Global;
 
@@ -22,40 +22,27 @@ impl<'t> Forest<'t> {
         node: usize,
         at: usize,
     ) -> Result<Option<Shape>, TextFault> {
+        if let Some(shape) = named_by_word(tokens, at) {
+            return Ok(Some(shape));
+        }
         let second = next(at);
         let word = tokens.text(at);
-        if let Some(letters) = letters_named(word) {
-            return Ok(Some(Shape::Text(letters)));
-        }
         if let Some((wanted, shape)) = second_word(word) {
             if !tokens.is_word(second, wanted) {
                 return Err(tokens.expected(second, wanted));
             }
             return Ok(Some(shape));
         }
-        if let Some(shape) = barred(word) {
-            return Ok(Some(shape));
+        if word == "BIT" {
+            return Ok(Some(bits_at(tokens, second)?));
         }
-        let shape = match word {
-            "BOOLEAN" => Shape::Boolean,
-            "NULL" => Shape::Null,
-            "UTF8String" => Shape::Utf8,
-            "UTCTime" | "GeneralizedTime" => Shape::Time,
-            "INTEGER" if tokens.is(second, Sign::LeftBrace) => Shape::Integer {
-                named: Some(second),
-            },
-            "INTEGER" => Shape::Integer { named: None },
-            "BIT" => bits_at(tokens, second)?,
-            "ENUMERATED" => Shape::Enumerated { braces: second },
-            "SEQUENCE" => self.braced(tokens, todo, node, Holder::Sequence, second)?,
-            "SET" => self.braced(tokens, todo, node, Holder::Set, second)?,
-            "CHOICE" => self.braced(tokens, todo, node, Holder::Choice, second)?,
-            _ if is_class_field(tokens, at) => {
-                return self.field_shape(world, tokens, todo, node, at);
-            }
-            _ => return self.named_shape(alloc, world, tokens, todo, node, at),
-        };
-        Ok(Some(shape))
+        if let Some(holder) = holder_named(word) {
+            return Ok(Some(self.braced(tokens, todo, node, holder, second)?));
+        }
+        if is_class_field(tokens, at) {
+            return self.field_shape(world, tokens, todo, node, at);
+        }
+        self.named_shape(alloc, world, tokens, todo, node, at)
     }
 
     /// What the field of a class at `at` is: an open type, or the type of its values, of which the node is built next.
@@ -198,6 +185,12 @@ impl<'t> Forest<'t> {
         for _ in 0..tokens.len() {
             if at >= node.end {
                 break;
+            }
+            if tokens.is(at, Sign::Becomes) {
+                // a value set, in braces
+                at = next(next(at));
+                may_begin = true;
+                continue;
             }
             if may_begin && tokens.is_capital(at) {
                 if let Ok((to, _)) = world.reference_at(node.module, at) {

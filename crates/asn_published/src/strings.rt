@@ -3,6 +3,8 @@ use crate::bounds::{Numbers, lengths_between, numbers_between, write_range, writ
 use crate::info::{Base, Info};
 use crate::letters::{keeps_codes, name_of};
 use crate::nodes::{Letters, Node, Shape};
+use crate::pieces::push_pieces;
+use crate::ranges::Ranges;
 use crate::refusal::{Refusal, Why, refused};
 use crate::report::Remark;
 use crate::seen::{Mode, Seen};
@@ -55,7 +57,24 @@ impl<'t> Writer<'t> {
         named: Option<(usize, usize)>,
         line: u32,
     ) -> Result<(), Refusal> {
+        self.put_numbers(alloc, known, index, &seen, line)?;
         let mut info = Info::of(Base::Integer);
+        info.left = seen.numbers;
+        info.marked = seen.marked;
+        info.named = named;
+        self.last = info;
+        Ok(())
+    }
+
+    /// Writes INTEGER, or what stands for it, with its range.
+    fn put_numbers(
+        &mut self,
+        alloc: Global,
+        known: Known<'_, 't>,
+        index: usize,
+        seen: &Seen,
+        line: u32,
+    ) -> Result<(), Refusal> {
         match numbers_between(&seen.numbers, seen.marked, line)? {
             Numbers::All => self.out.push_str(" INTEGER")?,
             Numbers::Unsigned => self.out.push_str(" OCTET STRING (SIZE (8))")?,
@@ -64,16 +83,7 @@ impl<'t> Writer<'t> {
                 write_range(alloc, &mut self.out, low, high, seen.marked)?;
             }
         }
-        if let Some(ranges) = &seen.numbers {
-            if ranges.len() > 1 {
-                self.remark(alloc, known, index, Remark::Gap)?;
-            }
-        }
-        info.left = seen.numbers;
-        info.marked = seen.marked;
-        info.named = named;
-        self.last = info;
-        Ok(())
+        self.remark_gap(alloc, known, index, &seen.numbers)
     }
 
     /// Writes a string with a size.
@@ -103,25 +113,33 @@ impl<'t> Writer<'t> {
         seen: Seen,
         line: u32,
     ) -> Result<(), Refusal> {
-        let lengths = lengths_between(&seen.sizes, seen.marked, line)?;
-        let is_fixed = match lengths {
-            Some(lengths) => lengths.high == Some(lengths.low) && !seen.marked,
-            None => false,
-        };
+        let is_fixed = is_fixed(&seen, line)?;
         self.put_kind(alloc, known, index, base, &seen, is_fixed, line)?;
-        if let Some(lengths) = lengths {
-            if lengths.cut {
-                self.remark(alloc, known, index, Remark::SizeToMax)?;
-            }
-            write_size(alloc, &mut self.out, lengths, seen.marked)?;
-        }
-        self.remark_gap(alloc, known, index, &seen)?;
+        self.put_size(alloc, known, index, &seen, line)?;
         let mut info = Info::of(base);
         info.left = seen.sizes;
         info.letters = seen.letters;
         info.marked = seen.marked;
         self.last = info;
         Ok(())
+    }
+
+    /// Writes what is left of the size of a string or a list.
+    pub fn put_size(
+        &mut self,
+        alloc: Global,
+        known: Known<'_, 't>,
+        index: usize,
+        seen: &Seen,
+        line: u32,
+    ) -> Result<(), Refusal> {
+        if let Some(lengths) = lengths_between(&seen.sizes, seen.marked, line)? {
+            if lengths.cut {
+                self.remark(alloc, known, index, Remark::SizeToMax)?;
+            }
+            write_size(alloc, &mut self.out, lengths, seen.marked)?;
+        }
+        self.remark_gap(alloc, known, index, &seen.sizes)
     }
 
     /// Writes the kind of a string: named bits have a fixed size, or are asked for as they are.
@@ -138,37 +156,44 @@ impl<'t> Writer<'t> {
         match base {
             Base::Bits { named } => {
                 if named && !is_fixed {
-                    if !known.options.plain_bits {
-                        return Err(refused(line, Why::NamedBits));
-                    }
-                    self.remark(alloc, known, index, Remark::TrimmedBits)?;
+                    self.remark_bits(alloc, known, index, line)?;
                 }
-                self.out.push_str(" BIT STRING")?;
+                Ok(self.out.push_str(" BIT STRING")?)
             }
             Base::Text(kind) => {
                 self.remark_letters(alloc, known, index, kind, seen, line)?;
-                self.out.push_str(" ")?;
-                self.out.push_str(name_of(kind))?;
+                Ok(push_pieces(&mut self.out, &[" ", name_of(kind)])?)
             }
-            _ => self.out.push_str(" OCTET STRING")?,
+            _ => Ok(self.out.push_str(" OCTET STRING")?),
         }
-        Ok(())
     }
 
-    /// A remark where sizes have gaps.
-    pub fn remark_gap(
+    /// A refusal of named bits without a fixed size, or a remark where they are asked for.
+    fn remark_bits(
         &mut self,
         alloc: Global,
         known: Known<'_, 't>,
         index: usize,
-        seen: &Seen,
+        line: u32,
     ) -> Result<(), Refusal> {
-        if let Some(ranges) = &seen.sizes {
-            if ranges.len() > 1 {
-                self.remark(alloc, known, index, Remark::Gap)?;
-            }
+        if !known.options.plain_bits {
+            return Err(refused(line, Why::NamedBits));
         }
-        Ok(())
+        self.remark(alloc, known, index, Remark::TrimmedBits)
+    }
+
+    /// A remark where there are gaps between ranges.
+    fn remark_gap(
+        &mut self,
+        alloc: Global,
+        known: Known<'_, 't>,
+        index: usize,
+        left: &Option<Ranges>,
+    ) -> Result<(), Refusal> {
+        match left {
+            Some(ranges) if ranges.len() > 1 => self.remark(alloc, known, index, Remark::Gap),
+            _ => Ok(()),
+        }
     }
 
     /// A refusal where the characters that are left have codes of their own, and a remark where they are not all.
@@ -192,5 +217,13 @@ impl<'t> Writer<'t> {
             self.remark(alloc, known, index, Remark::Characters)?;
         }
         Ok(())
+    }
+}
+
+/// Whether one length is left, and no mark.
+fn is_fixed(seen: &Seen, line: u32) -> Result<bool, Refusal> {
+    match lengths_between(&seen.sizes, seen.marked, line)? {
+        Some(lengths) => Ok(lengths.high == Some(lengths.low) && !seen.marked),
+        None => Ok(false),
     }
 }

@@ -1,9 +1,16 @@
-//! The report of the types as text, and as JSON.
+//! The report of the types as text.
+ghost use Rattle.std.specs.Prelude.{◌≡◌, ◌++◌, ◌==◌, IfOk, count_by, string_bytes};
+ghost use Rattle.asn_published.specs.Statuses.{distance};
+ghost use Rattle.asn_published.specs.Telling.{dot_before, file_named, note_line, report_lines, summary, summary_line};
+ghost use Rattle.asn_published.specs.Telling.{type_lines};
+
 use crate::report::{Note, Status, TypeReport};
 use std::alloc::{AllocError, Global};
 
 /// The name of the file that a text came from.
-pub(crate) fn file_named<'a>(files: &[&'a str], text: usize) -> &'a str {
+pub(crate) fn file_named<'a>(files: &[&'a str], text: usize) -> &'a str
+    ensures { result.now ≡ file_named files.now text }
+{
     match files.get(text) {
         Some(file) => *file,
         None => "",
@@ -11,25 +18,48 @@ pub(crate) fn file_named<'a>(files: &[&'a str], text: usize) -> &'a str {
 }
 
 /// How many of the types have a status.
-fn count_of(report: &[TypeReport], status: Status) -> usize {
-    report.iter().filter(|one| one.status == status).count()
+fn count_of(report: &[TypeReport], status: Status) -> usize
+    ensures { result ≡ count_by (λ one. distance one.status == distance status) report.now }
+{
+    let rank = status.rank();
+    report
+        .iter()
+        .filter(|one| one.status.rank() == rank)
+        .count()
+}
+
+/// Appends the line for a status: how many of the types have it.
+fn push_count(
+    alloc: Global,
+    text: &mut String,
+    report: &[TypeReport],
+    status: Status,
+) -> Result<(), AllocError>
+    ensures { IfOk result (λ done. string_bytes text.new ≡ string_bytes text.old ++ summary_line report.now status) }
+{
+    let count = count_of(report, status);
+    let line = format!(in alloc; "{status}: {count}\n")?;
+    text.push_str(line.as_str())
 }
 
 /// A line for each status: how many of the types have it.
-pub fn summary_of(alloc: Global, report: &[TypeReport]) -> Result<String, AllocError> {
+pub fn summary_of(alloc: Global, report: &[TypeReport]) -> Result<String, AllocError>
+    ensures { IfOk result (λ text. string_bytes text ≡ summary report.now) }
+{
     let mut text = String::new(alloc);
-    for status in [
-        Status::Same,
-        Status::Wider,
-        Status::Owed,
-        Status::PerOnly,
-        Status::Refused,
-    ] {
-        let count = count_of(report, status);
-        let line = format!(in alloc; "{status}: {count}\n")?;
-        text.push_str(line.as_str())?;
-    }
+    push_count(alloc, &mut text, report, Status::Same)?;
+    push_count(alloc, &mut text, report, Status::Wider)?;
+    push_count(alloc, &mut text, report, Status::Owed)?;
+    push_count(alloc, &mut text, report, Status::PerOnly)?;
+    push_count(alloc, &mut text, report, Status::Refused)?;
     Ok(text)
+}
+
+/// What stands between a type's name and a component: a dot, or nothing where that is empty.
+fn dot_before(component: &str) -> &'static str
+    ensures { result.now ≡ dot_before component.now }
+{
+    if component.is_empty() { "" } else { "." }
 }
 
 /// The line of a note, as `FILE:LINE: NAME.COMPONENT: STATUS: REMARK`.
@@ -38,14 +68,33 @@ pub(crate) fn note_line(
     file: &str,
     one: &TypeReport,
     note: &Note,
-) -> Result<String, AllocError> {
+) -> Result<String, AllocError>
+    ensures { IfOk result (λ text. string_bytes text ≡ note_line file.now one.now note.now) }
+{
     let line = note.line;
     let name = one.name.as_str();
-    let dot = if note.component.is_empty() { "" } else { "." };
     let component = note.component.as_str();
+    let dot = dot_before(component);
     let status = note.remark.status();
     let remark = note.remark;
     format!(in alloc; "{file}:{line}: {name}{dot}{component}: {status}: {remark}\n")
+}
+
+/// Appends a line for each note of a type.
+fn push_type(
+    alloc: Global,
+    text: &mut String,
+    files: &[&str],
+    one: &TypeReport,
+) -> Result<(), AllocError>
+    ensures { IfOk result (λ done. string_bytes text.new ≡ string_bytes text.old ++ type_lines files.now one.now) }
+{
+    let file = file_named(files, one.text);
+    for note in &one.notes {
+        let line = note_line(alloc, file, one, note)?;
+        text.push_str(line.as_str())?;
+    }
+    Ok(())
 }
 
 /// A line for each note of each type, `files` being the names of the files of the texts.
@@ -53,85 +102,12 @@ pub fn report_text(
     alloc: Global,
     files: &[&str],
     report: &[TypeReport],
-) -> Result<String, AllocError> {
+) -> Result<String, AllocError>
+    ensures { IfOk result (λ text. string_bytes text ≡ report_lines files.now report.now) }
+{
     let mut text = String::new(alloc);
     for one in report {
-        for note in &one.notes {
-            let line = note_line(alloc, file_named(files, one.text), one, note)?;
-            text.push_str(line.as_str())?;
-        }
+        push_type(alloc, &mut text, files, one)?;
     }
     Ok(text)
-}
-
-/// Appends a string of JSON.
-fn push_quoted(alloc: Global, out: &mut String, text: &str) -> Result<(), AllocError> {
-    out.push_str("\"")?;
-    for letter in text.chars() {
-        match letter {
-            '"' => out.push_str("\\\"")?,
-            '\\' => out.push_str("\\\\")?,
-            '\0'..='\x1f' => {
-                let code = u32::from(letter);
-                let escaped = format!(in alloc; "\\u{code:04x}")?;
-                out.push_str(escaped.as_str())?;
-            }
-            other => out.push(other)?,
-        }
-    }
-    out.push_str("\"")
-}
-
-/// Appends a member of JSON whose value is a string.
-fn push_member(alloc: Global, out: &mut String, name: &str, value: &str) -> Result<(), AllocError> {
-    out.push_str("\"")?;
-    out.push_str(name)?;
-    out.push_str("\":")?;
-    push_quoted(alloc, out, value)
-}
-
-/// Appends a note as an object of JSON.
-fn push_note(alloc: Global, out: &mut String, note: &Note) -> Result<(), AllocError> {
-    let line = note.line;
-    let head = format!(in alloc; "{{\"line\":{line},")?;
-    out.push_str(head.as_str())?;
-    push_member(alloc, out, "component", note.component.as_str())?;
-    let status = note.remark.status().to_string(alloc)?;
-    out.push_str(",")?;
-    push_member(alloc, out, "status", status.as_str())?;
-    let remark = note.remark.to_string(alloc)?;
-    out.push_str(",")?;
-    push_member(alloc, out, "remark", remark.as_str())?;
-    out.push_str("}")
-}
-
-/// The report as JSON: a line for each type, an object with its name, file, line and status, and its notes.
-pub fn report_json(
-    alloc: Global,
-    files: &[&str],
-    report: &[TypeReport],
-) -> Result<String, AllocError> {
-    let mut out = String::new(alloc);
-    for one in report {
-        out.push_str("{")?;
-        push_member(alloc, &mut out, "type", one.name.as_str())?;
-        out.push_str(",")?;
-        push_member(alloc, &mut out, "file", file_named(files, one.text))?;
-        let line = one.line;
-        let number = format!(in alloc; ",\"line\":{line},")?;
-        out.push_str(number.as_str())?;
-        let status = one.status.to_string(alloc)?;
-        push_member(alloc, &mut out, "status", status.as_str())?;
-        out.push_str(",\"notes\":[")?;
-        let mut comma = false;
-        for note in &one.notes {
-            if comma {
-                out.push_str(",")?;
-            }
-            push_note(alloc, &mut out, note)?;
-            comma = true;
-        }
-        out.push_str("]}\n")?;
-    }
-    Ok(out)
 }

@@ -1,12 +1,12 @@
 //! The types that reserved words name.
-use crate::nodes::{Letters, Shape};
+use crate::nodes::{Holder, Letters, Shape};
 use crate::refusal::Why;
 use crate::token::Sign;
 use crate::tokens::{Tokens, next};
 use crate::wrong::TextFault;
 
 /// The kind of string that a word names.
-pub(crate) fn letters_named(word: &str) -> Option<Letters> {
+fn letters_named(word: &str) -> Option<Letters> {
     match word {
         "IA5String" => Some(Letters::Ia5),
         "NumericString" => Some(Letters::Numeric),
@@ -16,28 +16,109 @@ pub(crate) fn letters_named(word: &str) -> Option<Letters> {
     }
 }
 
-/// The type that a reserved word names, where it is none that the profile has; `None` where it is no such word.
-pub(crate) fn barred(word: &str) -> Option<Shape> {
-    let shape = match word {
-        "REAL" => Shape::Content("REAL"),
-        "RELATIVE-OID" => Shape::Content("RELATIVE-OID"),
-        "GeneralString" => Shape::Content("GeneralString"),
-        "GraphicString" => Shape::Content("GraphicString"),
-        "TeletexString" | "T61String" => Shape::Content("TeletexString"),
-        "VideotexString" => Shape::Content("VideotexString"),
-        "ObjectDescriptor" => Shape::Content("ObjectDescriptor"),
-        "BMPString" => Shape::Refused(Why::Kind("BMPString")),
-        "UniversalString" => Shape::Refused(Why::Kind("UniversalString")),
-        "EXTERNAL" => Shape::Refused(Why::Kind("EXTERNAL")),
-        "ANY" => Shape::Refused(Why::Kind("ANY")),
-        "INSTANCE" => Shape::Refused(Why::Kind("INSTANCE OF")),
-        "DATE" | "TIME" | "TIME-OF-DAY" | "DATE-TIME" | "DURATION" => {
-            Shape::Refused(Why::Kind("a time type"))
+/// Reserved words that name types whose content the caller may ask for, and what each is called.
+const CONTENTS: [(&str, &str); 8] = [
+    ("REAL", "REAL"),
+    ("RELATIVE-OID", "RELATIVE-OID"),
+    ("GeneralString", "GeneralString"),
+    ("GraphicString", "GraphicString"),
+    ("TeletexString", "TeletexString"),
+    ("T61String", "TeletexString"),
+    ("VideotexString", "VideotexString"),
+    ("ObjectDescriptor", "ObjectDescriptor"),
+];
+
+/// Reserved words that name types which are refused, and what each is called.
+const KINDS: [(&str, &str); 12] = [
+    ("BMPString", "BMPString"),
+    ("UniversalString", "UniversalString"),
+    ("EXTERNAL", "EXTERNAL"),
+    ("ANY", "ANY"),
+    ("INSTANCE", "INSTANCE OF"),
+    ("DATE", "a time type"),
+    ("TIME", "a time type"),
+    ("TIME-OF-DAY", "a time type"),
+    ("DATE-TIME", "a time type"),
+    ("DURATION", "a time type"),
+    ("OID-IRI", "OID-IRI"),
+    ("RELATIVE-OID-IRI", "OID-IRI"),
+];
+
+/// Reserved words with which types of the profile begin that are no strings of characters.
+const PLAIN: [&str; 11] = [
+    "BOOLEAN",
+    "NULL",
+    "UTF8String",
+    "UTCTime",
+    "GeneralizedTime",
+    "INTEGER",
+    "BIT",
+    "ENUMERATED",
+    "SEQUENCE",
+    "SET",
+    "CHOICE",
+];
+
+/// What a word is called in a table.
+fn called(table: &[(&'static str, &'static str)], word: &str) -> Option<&'static str> {
+    for (name, what) in table {
+        if *name.as_bytes() == *word.as_bytes() {
+            return Some(*what);
         }
-        "OID-IRI" | "RELATIVE-OID-IRI" => Shape::Refused(Why::Kind("OID-IRI")),
-        _ => return None,
-    };
-    Some(shape)
+    }
+    None
+}
+
+/// The type that a reserved word names, where it is none that the profile has; `None` where it is no such word.
+fn barred(word: &str) -> Option<Shape> {
+    if let Some(what) = called(&CONTENTS, word) {
+        return Some(Shape::Content(what));
+    }
+    match called(&KINDS, word) {
+        Some(what) => Some(Shape::Refused(Why::Kind(what))),
+        None => None,
+    }
+}
+
+/// The type that one reserved word names, with the braces after it.
+pub(crate) fn named_by_word(tokens: &Tokens<'_>, at: usize) -> Option<Shape> {
+    let second = next(at);
+    match tokens.text(at) {
+        "BOOLEAN" => Some(Shape::Boolean),
+        "NULL" => Some(Shape::Null),
+        "UTF8String" => Some(Shape::Utf8),
+        "UTCTime" | "GeneralizedTime" => Some(Shape::Time),
+        "INTEGER" if tokens.is(second, Sign::LeftBrace) => Some(Shape::Integer {
+            named: Some(second),
+        }),
+        "INTEGER" => Some(Shape::Integer { named: None }),
+        "ENUMERATED" => Some(Shape::Enumerated { braces: second }),
+        word => match letters_named(word) {
+            Some(letters) => Some(Shape::Text(letters)),
+            None => barred(word),
+        },
+    }
+}
+
+/// The type with members that a word names.
+pub(crate) fn holder_named(word: &str) -> Option<Holder> {
+    match word {
+        "SEQUENCE" => Some(Holder::Sequence),
+        "SET" => Some(Holder::Set),
+        "CHOICE" => Some(Holder::Choice),
+        _ => None,
+    }
+}
+
+/// Whether a reserved word begins a type.
+pub(crate) fn is_type_word(word: &str) -> bool {
+    let is_of_profile = PLAIN
+        .iter()
+        .any(|plain| *plain.as_bytes() == *word.as_bytes());
+    is_of_profile
+        || letters_named(word).is_some()
+        || second_word(word).is_some()
+        || barred(word).is_some()
 }
 
 /// A type of two words: the second, and what the type is.

@@ -4,6 +4,7 @@ use crate::info::{Base, Info, State};
 use crate::nodes::{Need, Node};
 use crate::numbers::{Scope, Values};
 use crate::options::Options;
+use crate::pieces::push_pieces;
 use crate::refusal::{Refusal, Why, refused};
 use crate::report::{Note, Remark, Status};
 use crate::seen::Seen;
@@ -66,12 +67,12 @@ pub(crate) struct Writer<'t> {
     pub uses: Vec<usize>,
 }
 
-/// The path of a node from the type of its assignment: names with dots between, as `header.id`.
-pub(crate) fn path_of(
+/// The names of a node and of those that it stands in, from the inside.
+fn names_around<'t>(
     alloc: Global,
-    forest: &Forest<'_>,
+    forest: &Forest<'t>,
     node: usize,
-) -> Result<String, AllocError> {
+) -> Result<Vec<&'t str>, AllocError> {
     let mut names = Vec::new(alloc);
     let mut at = node;
     for _ in 0..100 {
@@ -86,12 +87,20 @@ pub(crate) fn path_of(
         }
         at = it.parent;
     }
+    Ok(names)
+}
+
+/// The path of a node from the type of its assignment: names with dots between, as `header.id`.
+pub(crate) fn path_of(
+    alloc: Global,
+    forest: &Forest<'_>,
+    node: usize,
+) -> Result<String, AllocError> {
+    let names = names_around(alloc, forest, node)?;
     let mut path = String::new(alloc);
     for name in names.iter().rev() {
-        if !path.is_empty() {
-            path.push_str(".")?;
-        }
-        path.push_str(*name)?;
+        let dot = if path.is_empty() { "" } else { "." };
+        push_pieces(&mut path, &[dot, *name])?;
     }
     Ok(path)
 }

@@ -1,6 +1,6 @@
 //! Writes one node: a simple type, the items of an ENUMERATED, or the beginning of a type that holds others.
 use crate::info::{Base, Info};
-use crate::items::{Item, items_of};
+use crate::items::{Item, Items, items_of};
 use crate::nodes::{Node, Shape};
 use crate::refusal::{Refusal, Why, refused};
 use crate::report::Remark;
@@ -137,18 +137,28 @@ impl<'t> Writer<'t> {
             self.remark(alloc, known, index, Remark::OerItems)?;
         }
         let marked = items.marked || is_extensible(known, node);
+        self.put_item_lists(alloc, &items, marked)?;
+        let mut info = Info::of(Base::Enumerated);
+        info.marked = marked;
+        info.named = Some((node.module, braces));
+        self.last = info;
+        Ok(())
+    }
+
+    /// Writes the word ENUMERATED, and the items in their braces.
+    fn put_item_lists(
+        &mut self,
+        alloc: Global,
+        items: &Items<'t>,
+        marked: bool,
+    ) -> Result<(), Refusal> {
         self.out.push_str(" ENUMERATED {")?;
         self.put_items(alloc, items.root.as_slice(), false)?;
         if marked {
             self.out.push_str(", ...")?;
             self.put_items(alloc, items.additions.as_slice(), true)?;
         }
-        self.out.push_str(" }")?;
-        let mut info = Info::of(Base::Enumerated);
-        info.marked = marked;
-        info.named = Some((node.module, braces));
-        self.last = info;
-        Ok(())
+        Ok(self.out.push_str(" }")?)
     }
 
     /// Writes items with their numbers, with commas between them, and one before the first where something stands

@@ -320,6 +320,27 @@ impl Writing {
         }
         Ok(())
     }
+
+    /// Writes the types of a cycle, or one that is in none.
+    fn write_members(
+        &mut self,
+        alloc: Global,
+        sources: &Sources<'_>,
+        options: Options,
+        members: &[usize],
+        refused: &[bool],
+    ) -> Result<(), AllocError> {
+        if let Some(first) = members.first() {
+            if matches!(sources.order.cycles.get(*first), Some(Some(_))) {
+                self.write_levels(alloc, sources, options, members, refused)?;
+            }
+        }
+        for entry in members {
+            let is_refused = matches!(refused.get(*entry), Some(true));
+            self.write_whole(alloc, sources, options, *entry, is_refused)?;
+        }
+        Ok(())
+    }
 }
 
 /// The assignment of a type with fewer levels than are asked for.
@@ -376,15 +397,7 @@ pub(crate) fn write_all(
         let Some(members) = types.get(from..end) else {
             break;
         };
-        if let Some(first) = members.first() {
-            if matches!(sources.order.cycles.get(*first), Some(Some(_))) {
-                writing.write_levels(alloc, sources, options, members, refused)?;
-            }
-        }
-        for entry in members {
-            let is_refused = matches!(refused.get(*entry), Some(true));
-            writing.write_whole(alloc, sources, options, *entry, is_refused)?;
-        }
+        writing.write_members(alloc, sources, options, members, refused)?;
         from = end;
     }
     let Writing { written, below: _ } = writing;

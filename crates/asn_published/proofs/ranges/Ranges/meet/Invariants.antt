@@ -1,5 +1,5 @@
 use Rattle.std.proofs.Common.{ℤ, ◌↔◌, ◌⊎◌, length}
-use Rattle.asn_published.specs.Numbers.{InRange, InSet}
+use Rattle.asn_published.specs.Numbers.{InSet}
 use Rattle.asn_published.proofs.ranges.Ranges.meet.Given as goal
 
 abbrev pub invariant-own : goal.invariant-own

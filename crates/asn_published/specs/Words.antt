@@ -1,0 +1,56 @@
+-- What is said of a component, and of a type that is refused, in words.
+use Rattle.std.specs.Prelude.{◌++◌, ℕ, List, codes}
+use Rattle.asn_published.specs.Statuses.{word_of}
+use Rattle.asn_published.specs.declared.refusal.Why.{Why}
+use Rattle.asn_published.specs.declared.refusal.Why.TheVariants as why
+use Rattle.asn_published.specs.declared.report.Remark.{Remark}
+use Rattle.asn_published.specs.declared.report.Remark.TheVariants as remark
+
+-- why there is no type
+abbrev pub reason_of : Why → List ℕ
+reason_of why.Unknown = codes "a name that is not assigned"
+reason_of why.NotGiven = codes "a name of a module that is not given"
+reason_of why.NoType = codes "a name that stands for no type"
+reason_of why.Parameter = codes "a parameter in the place of a type or a number"
+reason_of why.Endless = codes "parameters that expand without end"
+reason_of why.ClassField = codes "a field of a class that is not understood"
+reason_of why.Recursive = codes "recursion"
+reason_of why.Holds = codes "a type that is refused"
+reason_of (why.Kind what) = what.now ++ codes " is no type of the profile"
+reason_of why.SetOf = codes "elements of SET OF have an order of their own"
+reason_of why.NamedBits = codes "named bits without a fixed size: PER trims zeros"
+reason_of why.Alphabet = codes "characters with codes of their own"
+reason_of why.Bounds = codes "numbers outside 64 bits"
+reason_of why.Empty = codes "no number is left"
+reason_of why.Size = codes "a size that is not read"
+reason_of why.UselessMark = codes "a mark on what is every value already"
+reason_of why.Value = codes "a value that is not understood"
+reason_of why.Constraint = codes "a constraint that is not understood"
+reason_of why.Ranges = codes "more than 256 ranges"
+reason_of why.Items = codes "items that are not understood"
+reason_of why.Tags = codes "tags that are not understood"
+reason_of why.TooDeep = codes "more than 32 levels"
+reason_of why.TooManyNodes = codes "more than 10,000 nodes"
+reason_of why.TooMany = codes "too many components, alternatives, additions or items"
+reason_of why.NameTaken = codes "a name that is taken"
+reason_of why.NotOfProfile = codes "the profile does not take it"
+reason_of why.NotTheSame = codes "not the same"
+
+-- what is to be said
+abbrev pub words_of : Remark → List ℕ
+words_of remark.Gap = codes "numbers between the ranges are taken too"
+words_of remark.Dropped = codes "a constraint is not looked at"
+words_of remark.Default = codes "the default may be written out"
+words_of remark.SizeToMax = codes "sizes have no highest"
+words_of remark.Characters = codes "other characters are taken too"
+words_of remark.Time = codes "the time is not looked at"
+words_of remark.OpenType = codes "the value of the open type is not looked at"
+words_of (remark.Content what) = codes "the " ++ (what.now ++ codes " is not looked at")
+words_of remark.Real = codes "the REAL is not looked at, and OER may have no length"
+words_of remark.TrimmedBits = codes "last zeros of named bits: the writer trims them"
+words_of remark.EmptyGroup = codes "a group without components is absent: the writer leaves it out"
+words_of remark.OerTags = codes "OER tells the alternatives apart by other tags"
+words_of remark.OerItems = codes "OER writes other numbers for additional items"
+words_of remark.Level = codes "recursion ends here, in NULL"
+words_of (remark.Holds s) = codes "holds a type that is " ++ word_of s
+words_of (remark.Refused reason) = reason_of reason

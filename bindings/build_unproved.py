@@ -53,6 +53,14 @@ def calls(found):
     return "\n".join([*lines, "    }", "}", ""])
 
 
+def say_so(file):
+    """Lets the version that the library tells say that it is not proved."""
+    with open(file, encoding="utf-8") as it:
+        text = it.read()
+    with open(file, "w", encoding="utf-8") as it:
+        it.write(re.sub(r'(const VERSION: &str = "[^"]*)"', r'\1, not proved"', text))
+
+
 def as_library(text, found):
     """The lines of the module, in which the exports alone are seen from outside, by their short names."""
     short = {f'@"tulvorn_c::{it.file}::{it.name}"': f"@{it.name}" for it in found}
@@ -73,6 +81,7 @@ def main():
     crate = f"{where}/crates/tulvorn_c"
     with open(f"{crate}/src/lib.rt", "a", encoding="utf-8") as it:
         it.write(calls(found))
+    say_so(f"{crate}/src/words.rt")
     with tempfile.TemporaryDirectory() as folder:
         module, text, code = unproved.module_of(crate, folder, ["--test"]), f"{folder}/text.ll", f"{folder}/made.ll"
         read = ["-S", "-emit-llvm", "-O0", "-Xclang", "-disable-llvm-passes"]

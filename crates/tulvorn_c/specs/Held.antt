@@ -6,16 +6,16 @@ use Rattle.asn_view.specs.Typed.{Typed, typed}
 use Rattle.asn_module.specs.Accepted.{ModuleTypes}
 use Rattle.asn_module.specs.ModuleView.{types_view}
 use Rattle.tulvorn_c.specs.declared.object.Object.{Object}
-use Rattle.tulvorn_c.specs.declared.object.Object.TheVariants.{Module, Type, Value, Octets}
+use Rattle.tulvorn_c.specs.declared.object.Object.TheVariants.{Module, Checked, Value, Octets}
 
 -- the module, its names and their types
 abbrev pub held_module : Option Object → Option ModuleTypes
-held_module (Some (Module module)) = Some (types_view module)
+held_module (Some (Module held)) = Some (types_view held)
 held_module _ = None
 
 -- the type
 abbrev pub held_type : Option Object → Option Shape
-held_type (Some (Type ty)) = Some (shape_of ty)
+held_type (Some (Checked ty)) = Some (shape_of ty)
 held_type _ = None
 
 -- the value beside its type

@@ -84,7 +84,7 @@ pub extern "C" fn tulvorn_from_json(
         return MISUSE;
     };
     *fault = match it.as_ref() {
-        Object::Type(ty) => read_json(alloc, ty, json, value),
+        Object::Checked(ty) => read_json(alloc, ty, json, value),
         _ => Fault::plain(MISUSE),
     };
     *ty = Handle::of(it);

@@ -9,3 +9,6 @@ mod messages;
 mod modules;
 mod object;
 mod octets;
+mod part_octets;
+mod parts;
+mod words;

@@ -5,7 +5,18 @@ ghost use Rattle.asn_view.specs.Typed.{typed};
 ghost use Rattle.asn_rules.specs.Codec.{Decoded, NotEncoded};
 ghost use Rattle.asn_convert.specs.Converted.{Converted};
 ghost use Rattle.tulvorn_c.specs.Answers.{
-  AskedBy, ruling_of, other_ruling_of, Checks, Decodes, HoldsDecoded, Encodes, HoldsEncoding, Measures, Places, ConvertsTo, HoldsConverted
+  AskedBy,
+  ruling_of,
+  other_ruling_of,
+  Checks,
+  Decodes,
+  HoldsDecoded,
+  Encodes,
+  HoldsEncoding,
+  Measures,
+  Places,
+  ConvertsTo,
+  HoldsConverted,
 };
 ghost use Rattle.tulvorn_c.specs.Held.{held_type, held_value};
 
@@ -15,8 +26,8 @@ use crate::object::Object;
 use std::alloc::Global;
 use std::mem::replace;
 use tulvorn::{
-    Checked, ConvertFault, DecodeFault, EncodeFault, Oer, Per, Rules, Value, check, convert, decode,
-    encode, encode_into, encoded_len,
+    Checked, ConvertFault, DecodeFault, EncodeFault, Oer, Per, Rules, Value, check, convert,
+    decode, encode, encode_into, encoded_len,
 };
 
 /// Whether the octets are the encoding of a value of the type: see `tulvorn::check`.
@@ -37,7 +48,7 @@ pub extern "C" fn tulvorn_check(
         return MISUSE;
     };
     *fault = match it.as_ref() {
-        Object::Type(ty) => match rules {
+        Object::Checked(ty) => match rules {
             0 => check_by::<Per>(alloc, ty, octets),
             1 => check_by::<Oer>(alloc, ty, octets),
             _ => Fault::plain(MISUSE),
@@ -77,7 +88,7 @@ pub extern "C" fn tulvorn_decode(
         return MISUSE;
     };
     *fault = match it.as_ref() {
-        Object::Type(ty) => match rules {
+        Object::Checked(ty) => match rules {
             0 => decode_by::<Per>(alloc, ty, octets, value),
             1 => decode_by::<Oer>(alloc, ty, octets, value),
             _ => Fault::plain(MISUSE),
@@ -265,7 +276,7 @@ pub extern "C" fn tulvorn_convert(
         return MISUSE;
     };
     *fault = match it.as_ref() {
-        Object::Type(ty) => match rules {
+        Object::Checked(ty) => match rules {
             0 => convert_by::<Per, Oer>(alloc, ty, octets, other),
             1 => convert_by::<Oer, Per>(alloc, ty, octets, other),
             _ => Fault::plain(MISUSE),

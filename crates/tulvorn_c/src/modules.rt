@@ -100,7 +100,7 @@ fn type_held(alloc: Global, ty: &Checked) -> Result<Handle, AllocError>
     ensures { IfOk result (λ h. held_type h.kept ≡ Some (shape_of ty.now)) }
 {
     let ty = ty.copy()?;
-    Handle::holding(alloc, Object::Type(ty))
+    Handle::holding(alloc, Object::Checked(ty))
 }
 
 /// Another handle of a type, which may go to another thread.
@@ -113,7 +113,7 @@ pub extern "C" fn tulvorn_share(alloc: Global, ty: &mut Handle, other: &mut Hand
         return MISUSE;
     };
     let code = match it.as_ref() {
-        Object::Type(ty) => match type_held(alloc, ty) {
+        Object::Checked(ty) => match type_held(alloc, ty) {
             Ok(held) => {
                 *other = held;
                 DONE

@@ -5,7 +5,7 @@ use tulvorn::{Checked, Module, Value};
 #[derive(Drop)]
 pub enum Object {
     Module(Module),
-    Type(Checked),
+    Checked(Checked),
     Value { ty: Checked, value: Value },
     Octets(Vec<u8>),
 }

@@ -21,5 +21,11 @@ kept a p None = tt
 kept a p (Some x) = (lies object.the_row sent.the_send p x, frees.frees a (raw (lone object.the_row.mir)) p)
 
 pub send : IsSend the_row
-send = record { owned = λ d vs. ((λ vss.
-    (tt, (tt, (heap.the_field_send.owned (heaps.the_field.into d.alloc) vss.1.0, tt)))), kept d.alloc d.at d.kept); leaving = λ k x vs. tt }
+send = record {
+  owned = λ d vs. (
+    (λ vss.
+        (tt, (tt, (heap.the_field_send.owned (heaps.the_field.into d.alloc) vss.1.0, tt)))),
+    kept d.alloc d.at d.kept,
+  );
+  leaving = λ k x vs. tt;
+}

@@ -44,8 +44,11 @@ pub into_loose_spec : {M : Type 1} → statement M
 into_loose_spec 𝓤 𝓛 𝓜 𝓡 wired =
     let H = 𝓛.H in let 𝓣 = tables 𝓤 H 𝓜 𝓡 𝓡.env in let c = f.clauses 𝓛 𝓜.mem 𝓡.returns in
     let LZ = heap_laws.the_row_laws in let fn = code.function in
-    proved_at 𝓛 f.ended stayed c 𝓜 𝓡 (Goes-blank 𝓛 0 (plain (λ _. Held)) yes (λ κs x w.
-    tt), tt) f.Key.name fn (code.unfolded 𝓤 H 𝓜 𝓡 wired) (λ z are.
+    proved_at 𝓛 f.ended stayed c 𝓜 𝓡 (
+      Goes-blank 𝓛 0 (plain (λ _. Held)) yes (λ κs x w.
+          tt),
+      tt,
+    ) f.Key.name fn (code.unfolded 𝓤 H 𝓜 𝓡 wired) (λ z are.
     let Post : Val → SProp 𝓤 = (walk_of 𝓛 f.ended stayed c).post z in
     let Run : List Val → SProp 𝓤 = λ ws. WpFn 𝓤 H 𝓣.C 𝓣.Λ fn ws Post in
     let Out : RattleType = type_at f.signature.result z.0.0 in

@@ -24,5 +24,6 @@ gcc -std=c11 "${warn[@]}" -pthread "$here/c/threads.c" "$out/libtulvorn.a" -o "$
 g++ -std=c++17 "${warn[@]}" -pthread "$here/cpp/calls.cpp" -L"$out" -ltulvorn -Wl,-rpath,"$out" -o "$out/calls-cpp"
 "${memory[@]}" "$out/calls-cpp"
 TULVORN_LIBRARY="$out/libtulvorn.so" PYTHONPATH="$here/python" PYTHONDONTWRITEBYTECODE=1 python3 "$here/python/calls.py"
+python3 "$here/page.py" "$out"
 (cd "$here/rust/tulvorn" && TULVORN_ARCHIVES="$out" CARGO_TARGET_DIR="$out/target" cargo test --offline --locked --quiet)
 echo "bindings: passed"

@@ -165,6 +165,9 @@ def tests(part):
                 compare(part, room, name)
         step(part, ["tests/octet_counts.py"])
         step(part, ["tests/refused_allocations.sh", room])
+    with tempfile.TemporaryDirectory(prefix="tulvorn-bindings-") as out:
+        step(part, ["bindings/build.sh", out])
+        step(part, ["bindings/tests.sh", out])
     step(part, ["examples/run.sh", TOOL])
     step(part, ["tests/versions.py", TOOL])
     step(part, ["tests/published.py", TOOL])

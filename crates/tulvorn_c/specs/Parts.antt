@@ -1,5 +1,6 @@
 -- What calls answer about the part of a value at a path.
 use Rattle.std.specs.Prelude.{◌≡◌, ◌⊎◌, ℕ, ℤ, List, Bool, true, false, Option, Some, None, option_map, option_and_then, slice_get, IsUtf8, FitsSigned, MatchOption}
+use mir.Syntax.{w64}
 use Rattle.asn_view.specs.Typed.{Typed, truth_of, integer_of, octets_of, bits_of, text_of, length_of, item_name_in, chosen_in}
 use Rattle.asn_view.specs.Paths.{value_at_path}
 use Rattle.asn_view.specs.Kinds.{kind_of}
@@ -53,7 +54,7 @@ TellsTruth new part fault =
 abbrev pub TellsInteger : ℤ → Typed → Fault → Type 0
 TellsInteger new part fault =
     ((fault ≡ done) × (integer_of part.datum ≡ Some new))
-    ⊎ ((fault ≡ other_kind) × ((z : ℤ) → integer_of part.datum ≡ Some z → ¬ FitsSigned 64 z))
+    ⊎ ((fault ≡ other_kind) × ((z : ℤ) → integer_of part.datum ≡ Some z → ¬ FitsSigned w64 z))
 
 -- octets are put in front, or there are none of this kind
 abbrev pub TellsOctets : (Typed → Option (List ℕ)) → List ℕ → List ℕ → ℕ → Typed → Fault → Type 0

@@ -19,16 +19,16 @@ use tulvorn::{Checked, Module, ModuleFault, read};
 pub extern "C" fn tulvorn_module(
     alloc: Global,
     text: &[u8],
-    module: &mut Handle,
+    out: &mut Handle,
     fault: &mut Fault,
 ) -> u32
-    ensures told { ReadsModule text.now module.old.kept module.new.kept fault.new }
+    ensures told { ReadsModule text.now out.old.kept out.new.kept fault.new }
     ensures code { result ≡ fault.new.code }
 {
     *fault = match std::str::from_utf8(text) {
         Ok(text) => match module_read(alloc, text) {
             Ok(read) => {
-                *module = read;
+                *out = read;
                 Fault::plain(DONE)
             }
             Err(why) => Fault::of_module(&why),
@@ -55,16 +55,16 @@ fn module_read(alloc: Global, text: &str) -> Result<Handle, ModuleFault>
 #[unsafe(no_mangle)]
 pub extern "C" fn tulvorn_type(
     alloc: Global,
-    module: &mut Handle,
+    held: &mut Handle,
     name: &[u8],
     ty: &mut Handle,
     fault: &mut Fault,
 ) -> u32
-    ensures kept { module.new.kept ≡ module.old.kept }
-    ensures told { Asked (held_module module.old.kept) (FindsType name.now ty.old.kept ty.new.kept) fault.new }
+    ensures kept { held.new.kept ≡ held.old.kept }
+    ensures told { Asked (held_module held.old.kept) (FindsType name.now ty.old.kept ty.new.kept) fault.new }
     ensures code { result ≡ fault.new.code }
 {
-    let Some(it) = replace(module, Handle::none(alloc)).into_box() else {
+    let Some(it) = replace(held, Handle::none(alloc)).into_box() else {
         *fault = Fault::plain(MISUSE);
         return MISUSE;
     };
@@ -75,15 +75,15 @@ pub extern "C" fn tulvorn_type(
         },
         _ => Fault::plain(MISUSE),
     };
-    *module = Handle::of(it);
+    *held = Handle::of(it);
     fault.code
 }
 
 /// Puts the type of that name into the handle.
-fn put_type(alloc: Global, module: &Module, name: &str, out: &mut Handle) -> Fault
-    ensures { FindsType name.now out.old.kept out.new.kept (types_view module.now) result }
+fn put_type(alloc: Global, types: &Module, name: &str, out: &mut Handle) -> Fault
+    ensures { FindsType name.now out.old.kept out.new.kept (types_view types.now) result }
 {
-    match module.type_named(name) {
+    match types.type_named(name) {
         Some(ty) => match type_held(alloc, ty) {
             Ok(held) => {
                 *out = held;

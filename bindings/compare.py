@@ -2,9 +2,9 @@
 
 usage: python3 bindings/compare.py
 
-Each function is declared four times: by its source, in c/tulvorn.h, in rust/tulvorn/src/ffi.rs and in python/tulvorn.py.
-Each declaration becomes one list of words, and all four have to be the same. Codes and reasons too: those of the header,
-of src/fault.rt and of the bindings.
+Each function is declared four times: by its source, in c/tulvorn.h, in rust/tulvorn/src/ffi.rs and in
+python/tulvorn.py. Each declaration becomes one list of words, and all four have to be the same. So are the codes of
+the header, of src/fault.rt and of Python.
 """
 import os
 import re
@@ -31,7 +31,8 @@ RUST = {
     "*const u8": "octets", "*mut u8": "octets*", "*mut usize": "size*", "*mut u32": "u32*", "*mut i64": "i64*",
 }
 PYTHON = {
-    "h": "handle", "f": "fault", "o": "octets", "w": "octets*", "s": "size", "u": "u32", "S": "size*", "U": "u32*", "I": "i64*",
+    "h": "handle", "f": "fault", "o": "octets", "w": "octets*", "s": "size", "u": "u32", "S": "size*", "U": "u32*",
+    "I": "i64*",
 }
 
 
@@ -58,7 +59,8 @@ def of_header():
 
 def of_rust():
     found = {}
-    for name, params, result in re.findall(r"pub fn (\w+)\((.*?)\)(?: -> (\w+))?;", text_of("rust/tulvorn/src/ffi.rs"), re.S):
+    text = text_of("rust/tulvorn/src/ffi.rs")
+    for name, params, result in re.findall(r"pub fn (\w+)\((.*?)\)(?: -> (\w+))?;", text, re.S):
         params = [it.split(":")[1].strip() for it in params.split(",") if it.strip()]
         found[name] = ([RUST[it] for it in params], result)
     return found
@@ -74,7 +76,7 @@ def of_python():
 
 def plain(table):
     """(ctypes has one word for a fault that is read and for one that is written)"""
-    return {name: ([it.replace("fault*", "fault") for it in params], result) for name, (params, result) in table.items()}
+    return {name: ([it.replace("fault*", "fault") for it in given], result) for name, (given, result) in table.items()}
 
 
 def numbers():
@@ -93,7 +95,8 @@ def numbers():
 
 def main():
     source, failed = of_source(), 0
-    for what, table in (("c/tulvorn.h", of_header()), ("rust/tulvorn/src/ffi.rs", of_rust()), ("python/tulvorn.py", of_python())):
+    tables = {"c/tulvorn.h": of_header(), "rust/tulvorn/src/ffi.rs": of_rust(), "python/tulvorn.py": of_python()}
+    for what, table in tables.items():
         want, have = (source, table) if "python" not in what else (plain(source), table)
         for name in sorted({*want, *have}):
             if want.get(name) != have.get(name):

@@ -88,7 +88,8 @@ static int modules(void) {
     size_t size;
     CHECK(tulvorn_module(NULL, 0, &module, &fault) == TULVORN_NO_MODULE && fault.why == TULVORN_UNEXPECTED);
     CHECK(fault.at == 0 && module.at == NULL);
-    CHECK(tulvorn_module(TEXT("M DEFINITIONS AUTOMATIC TAGS ::= BEGIN T ::= U END"), &module, &fault) == TULVORN_NO_MODULE);
+    static const char unknown[] = "M DEFINITIONS AUTOMATIC TAGS ::= BEGIN T ::= U END";
+    CHECK(tulvorn_module(TEXT(unknown), &module, &fault) == TULVORN_NO_MODULE);
     CHECK(fault.why == TULVORN_UNKNOWN);
     CHECK(tulvorn_module(TEXT("M \xff"), &module, &fault) == TULVORN_NOT_TEXT);
     CHECK(tulvorn_module(TEXT("M %"), &module, &fault) == TULVORN_NO_MODULE && fault.why == TULVORN_BAD_CHARACTER);
@@ -99,7 +100,8 @@ static int modules(void) {
     CHECK(tulvorn_type(&module, TEXT("Msg"), &type, &fault) == TULVORN_DONE);
     CHECK(tulvorn_check(&module, TULVORN_PER, NULL, 0, &fault) == TULVORN_MISUSE);
     CHECK(tulvorn_words(&fault, TULVORN_PER, &words) == TULVORN_DONE);
-    CHECK(tulvorn_copy(&words, into, sizeof into, &size) == TULVORN_DONE && size == 6 && memcmp(into, "misuse", 6) == 0);
+    CHECK(tulvorn_copy(&words, into, sizeof into, &size) == TULVORN_DONE);
+    CHECK(size == 6 && memcmp(into, "misuse", 6) == 0);
     CHECK(tulvorn_copy(&type, into, sizeof into, &size) == TULVORN_MISUSE);
     tulvorn_close(&module);
     tulvorn_close(&type);
@@ -210,7 +212,8 @@ static int parts(tulvorn_handle *type) {
     CHECK(tulvorn_bit(&value, TEXT("bits"), 1, &word) == TULVORN_DONE && word == 0);
     CHECK(tulvorn_bit(&value, TEXT("bits"), 2, &word) == TULVORN_DONE && word == 1);
     CHECK(tulvorn_bit(&value, TEXT("bits"), 3, &word) == TULVORN_OTHER_KIND && word == 1);
-    static const char *const paths[10] = {"list[0].ok", "one.none", "far", "colour", "bits", "key", "word", "", "list", "one"};
+    static const char *const paths[10] = {"list[0].ok", "one.none", "far", "colour", "bits",
+                                          "key",        "word",     "",    "list",   "one"};
     for (uint32_t kind = 1; kind <= 10; kind++) {
         if (kind == TULVORN_NULL) continue;
         CHECK(tulvorn_kind(&value, TEXT(paths[kind - 1]), &word) == TULVORN_DONE && word == kind);

@@ -1,10 +1,10 @@
 /* Tulvorn for C and C++: values of ASN.1 types by CANONICAL-PER UNALIGNED and Canonical OER.
  *
  * A handle holds one object of the library: a module, a type, a value beside its type, or octets. A call that gives an
- * object takes the handle that it is to be put into, and lets go of what that handle held. Each call but tulvorn_close and
- * tulvorn_interface answers a code, TULVORN_DONE where it did what it was asked for. On every other answer each handle is
- * as it was, and so are the octets that were to be written; the text of a function says what else is written. Nothing is
- * kept between calls but what handles hold: there is no state of the library's own.
+ * object takes the handle that it is to be put into, and lets go of what that handle held. Each call but tulvorn_close
+ * and tulvorn_interface answers a code, TULVORN_DONE where it did what it was asked for. On every other answer each
+ * handle is as it was, and so are the octets that were to be written; the text of a function says what else is written.
+ * Nothing is kept between calls but what handles hold: there is no state of the library's own.
  *
  * WHAT THE CALLER OWES. Nothing checks it, and a call for which it does not hold may do anything.
  *   - A handle begins as TULVORN_NONE, is changed by calls of the library alone, and is never copied.
@@ -51,8 +51,8 @@ enum {
 enum {
     TULVORN_DONE = 0,
     TULVORN_NO_MEMORY = 1,          /* an allocation failed */
-    TULVORN_MISUSE = 2,             /* a handle holds nothing, or another kind of object; or the rules are none of those */
-    TULVORN_REFUSED = 3,            /* no encoding begins so: `at` is the first unit after which none can, `why` below */
+    TULVORN_MISUSE = 2,             /* a handle holds nothing, or another kind of object; or the rules are none */
+    TULVORN_REFUSED = 3,            /* no encoding begins so: `at` is the first unit after which none can */
     TULVORN_TRUNCATED = 4,          /* an encoding may still follow: `at` units were taken */
     TULVORN_REST = 5,               /* the first `at` octets are an encoding, and more follow */
     TULVORN_TOO_LONG = 6,           /* more than 268,435,455 octets */
@@ -130,8 +130,8 @@ uint32_t tulvorn_encode(tulvorn_handle *value, uint32_t rules, tulvorn_handle *o
 uint32_t tulvorn_encoded_len(tulvorn_handle *value, uint32_t rules, size_t *encoded, tulvorn_fault *fault);
 
 /* Puts the encoding of the value into the first of the `len` octets at `into`, and tells in `encoded` how many it has;
-   the others are as they were. Takes no memory. Answers NOT_OF_TYPE, TOO_LONG, and TOO_SHORT, where `at` of the fault is
-   how many octets are wanted; then all octets, and `encoded`, are as they were. */
+   the others are as they were. Takes no memory. Answers NOT_OF_TYPE, TOO_LONG, and TOO_SHORT, where `at` of the fault
+   is how many octets are wanted; then all octets, and `encoded`, are as they were. */
 uint32_t tulvorn_encode_into(tulvorn_handle *value, uint32_t rules, uint8_t *into, size_t len, size_t *encoded,
                              tulvorn_fault *fault);
 
@@ -146,15 +146,15 @@ uint32_t tulvorn_convert(tulvorn_handle *type, uint32_t rules, const uint8_t *oc
    NOT_OF_TYPE, NO_MEMORY. */
 uint32_t tulvorn_to_json(tulvorn_handle *value, tulvorn_handle *json, tulvorn_fault *fault);
 
-/* Puts the value of the type that the JSON shows into `value`. Answers MISUSE where `type` holds no type, NO_JSON, SHAPE,
-   NOT_OF_TYPE, NO_MEMORY. */
+/* Puts the value of the type that the JSON shows into `value`. Answers MISUSE where `type` holds no type, NO_JSON,
+   SHAPE, NOT_OF_TYPE, NO_MEMORY. */
 uint32_t tulvorn_from_json(tulvorn_handle *type, const uint8_t *json, size_t len, tulvorn_handle *value,
                            tulvorn_fault *fault);
 
 /* ---- the parts of a value, by a path such as coreData.speed or path[3].x. The path is cut at each `.`, `[` and `]`; a
    piece of digits is the index of an element, counted from 0, and any other the name of a component or of the chosen
-   alternative; an absent component is its DEFAULT. The empty path is the value itself. None of these calls takes memory.
-   Each answers MISUSE where `value` holds no value, NOT_TEXT, NO_PATH, and OTHER_KIND where the part is of another kind
+   alternative; an absent component is its DEFAULT. The empty path is the value itself. No call here takes memory. Each
+   answers MISUSE where `value` holds no value, NOT_TEXT, NO_PATH, and OTHER_KIND where the part is of another kind
    than the call is for; the part is not told then. */
 
 /* ---- kinds */
@@ -187,8 +187,9 @@ uint32_t tulvorn_count(tulvorn_handle *value, const uint8_t *path, size_t len, s
 /* The bit of a BIT STRING at `index`, counted from 0, 0 or 1, in `bit`. OTHER_KIND too where there are not so many. */
 uint32_t tulvorn_bit(tulvorn_handle *value, const uint8_t *path, size_t len, size_t index, uint32_t *bit);
 
-/* Each of these writes octets to the front of `into`, which has `room` of them, and tells in `needed` how many they are,
-   also where it answers TOO_SHORT since `room` is less; then `into` is as it was, and may be null where `room` is 0. */
+/* Each of these writes octets to the front of `into`, which has `room` of them, and tells in `needed` how many they
+   are, also where it answers TOO_SHORT since `room` is less; then `into` is as it was, and may be null where `room` is
+   0. */
 
 /* The octets of an OCTET STRING. */
 uint32_t tulvorn_octets(tulvorn_handle *value, const uint8_t *path, size_t len, uint8_t *into, size_t room,

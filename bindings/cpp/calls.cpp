@@ -7,7 +7,8 @@ using namespace tulvorn;
 
 static const char *const MODULE = "M DEFINITIONS AUTOMATIC TAGS ::= BEGIN\n"
                                   "Msg ::= SEQUENCE { id INTEGER (0..7), ok BOOLEAN DEFAULT TRUE,\n"
-                                  "    note IA5String (SIZE (0..3)) OPTIONAL, colour ENUMERATED { red, green } OPTIONAL,\n"
+                                  "    note IA5String (SIZE (0..3)) OPTIONAL,\n"
+                                  "    colour ENUMERATED { red, green } OPTIONAL,\n"
                                   "    key OCTET STRING OPTIONAL, bits BIT STRING OPTIONAL }\n"
                                   "END\n";
 
@@ -37,8 +38,10 @@ int main() {
     CHECK(code_of([&] { module.type("Other"); }) == TULVORN_NO_NAME);
     CHECK(code_of([&] { Module wrong("M"); }) == TULVORN_NO_MODULE);
     Value value = type.from_json(R"({"id":5,"note":"A","colour":"green","key":"00ff","bits":"10"})");
-    CHECK(value.integer("id") == 5 && value.boolean("ok") && value.text("note") == "A" && value.name("colour") == "green");
-    CHECK(value.octets("key") == (Octets{0, 255}) && value.count("bits") == 2 && value.bit("bits", 0) && !value.bit("bits", 1));
+    CHECK(value.integer("id") == 5 && value.boolean("ok") && value.text("note") == "A");
+    CHECK(value.name("colour") == "green");
+    CHECK(value.octets("key") == (Octets{0, 255}) && value.count("bits") == 2);
+    CHECK(value.bit("bits", 0) && !value.bit("bits", 1));
     CHECK(value.has("note") && !value.has("other") && value.kind("") == TULVORN_SEQUENCE);
     for (Rules rules : {Rules::Per, Rules::Oer}) {
         Octets octets = value.encode(rules), into(octets.size());

@@ -1,8 +1,9 @@
-// Tulvorn for C++17: handles that close themselves, and faults as exceptions. Header only, over tulvorn.h and its library.
+// Tulvorn for C++17: handles that close themselves, and faults as exceptions. Header only, over tulvorn.h and its
+// library.
 //
-// A Module, Type or Value is moved and not copied; Type::share makes another of a type, for another thread. No object is
-// used by two threads at once. A call that does not do what it was asked for throws tulvorn::Fault, or std::bad_alloc
-// where an allocation failed; the functions that end in _if answer instead.
+// A Module, Type or Value is moved and not copied; Type::share makes another of a type, for another thread. No object
+// is used by two threads at once. A call that does not do what it was asked for throws tulvorn::Fault, or
+// std::bad_alloc where an allocation failed; the functions that end in _if answer instead.
 #ifndef TULVORN_HPP
 #define TULVORN_HPP
 
@@ -27,7 +28,8 @@ using Octets = std::vector<uint8_t>;
 class OctetsView {
   public:
     OctetsView(const uint8_t *data, size_t size) : data_(data), size_(size) {}
-    template <class T, class = std::enable_if_t<std::is_convertible_v<decltype(std::declval<const T &>().data()), const uint8_t *>>>
+    template <class T, class Data = decltype(std::declval<const T &>().data()),
+              class = std::enable_if_t<std::is_convertible_v<Data, const uint8_t *>>>
     OctetsView(const T &octets) : data_(octets.data()), size_(octets.size()) {}
     const uint8_t *data() const { return data_; }
     size_t size() const { return size_; }
@@ -85,7 +87,8 @@ inline std::string words_of(const tulvorn_fault &fault, Rules rules) {
 // Why a call did not do what it was asked for: its code, reason and place are those of tulvorn.h.
 class Fault : public std::runtime_error {
   public:
-    Fault(const tulvorn_fault &fault, Rules rules) : std::runtime_error(detail::words_of(fault, rules)), fault_(fault) {}
+    Fault(const tulvorn_fault &fault, Rules rules)
+        : std::runtime_error(detail::words_of(fault, rules)), fault_(fault) {}
     uint32_t code() const { return fault_.code; }
     uint32_t why() const { return fault_.why; }
     uint64_t at() const { return fault_.at; }
@@ -125,7 +128,8 @@ class Value {
     size_t encode_into(Rules rules, uint8_t *into, size_t room) const {
         size_t size = 0;
         tulvorn_fault fault;
-        detail::look(tulvorn_encode_into(held_.get(), static_cast<uint32_t>(rules), into, room, &size, &fault), fault, rules);
+        auto code = tulvorn_encode_into(held_.get(), static_cast<uint32_t>(rules), into, room, &size, &fault);
+        detail::look(code, fault, rules);
         return size;
     }
     std::string to_json() const {

@@ -73,7 +73,8 @@ def faults(spec):
     assert raised(tulvorn.EncodeError, lambda: spec.encode("Msg", {"id": 9})).code == tulvorn.NOT_OF_TYPE
     assert raised(tulvorn.EncodeError, lambda: spec.encode("Msg", {})).code == tulvorn.SHAPE
     assert raised(tulvorn.ModuleError, lambda: tulvorn.compile_string("M")).at == 1
-    assert raised(KeyError, lambda: spec.type("Other")) and raised(ValueError, lambda: spec.encode("Msg", {"id": 1}, "ber"))
+    assert raised(KeyError, lambda: spec.type("Other"))
+    assert raised(ValueError, lambda: spec.encode("Msg", {"id": 1}, "ber"))
 
 
 def threads(spec):

@@ -11,8 +11,8 @@ Only the standard library is needed, and libtulvorn.so: in the folder that TULVO
 where the system's linker finds it. `compile_string`, `compile_files`, `encode`, `decode` and `decode_with_length` have
 the names that asn1tools gives them.
 
-Values are as in JSON, with the kinds of Python where it has them: BOOLEAN is a bool, NULL None, INTEGER an int, ENUMERATED
-the name of the item, BIT STRING a pair of bytes and the number of bits, OCTET STRING bytes, a character string a str,
+Values are as in JSON, with the kinds of Python where it has them: BOOLEAN is a bool, NULL None, INTEGER an int,
+ENUMERATED the name of the item, BIT STRING a pair of bytes and the number of bits, OCTET STRING bytes, a character string a str,
 SEQUENCE a dict, without the components that are absent, SEQUENCE OF a list, CHOICE a pair of the name and the value.
 
 One object may be used by several threads: each has a lock of its own. `Type.share` makes another of a type, which two
@@ -297,7 +297,8 @@ class Value(_Held):
         if kind == OCTET_STRING:
             return bytes.fromhex(shown)
         if kind == BIT_STRING:
-            return int(shown.ljust(-(-len(shown) // 8) * 8, "0") or "0", 2).to_bytes(-(-len(shown) // 8), "big"), len(shown)
+            octets = -(-len(shown) // 8)
+            return int(shown.ljust(8 * octets, "0") or "0", 2).to_bytes(octets, "big"), len(shown)
         return shown
 
 

@@ -62,10 +62,13 @@ IsNoModule text fault =
     (why : ModuleFault) × (fault ≡ of_module why)
     × ((why ≡ module_fault.Memory → ⊥) → (m : ModuleTypes) → Accepted text m → ⊥)
 
+abbrev pub ReadsText : List ℕ → Option Object → Option Object → Fault → Type 0
+ReadsText text old new fault =
+    ((fault ≡ done) × IsModuleRead text new) ⊎ ((new ≡ old) × IsNoModule text fault)
+
 abbrev pub ReadsModule : List ℕ → Option Object → Option Object → Fault → Type 0
 ReadsModule text old new fault =
-    ((fault ≡ done) × IsModuleRead text new)
-    ⊎ ((new ≡ old) × (((fault ≡ plain 8) × ¬ IsUtf8 text) ⊎ IsNoModule text fault))
+    ReadsText text old new fault ⊎ ((new ≡ old) × (fault ≡ plain 8) × ¬ IsUtf8 text)
 
 -- the handle then holds the type that the module assigns to the name, which it does to none that is not UTF-8
 abbrev pub FindsType : List ℕ → Option Object → Option Object → ModuleTypes → Fault → Type 0

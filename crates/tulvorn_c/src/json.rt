@@ -1,5 +1,5 @@
 //! Values as JSON, and back.
-ghost use Rattle.std.specs.Prelude.{◌≡◌, ◌⊎◌, IfOk, IfErr, Some};
+ghost use Rattle.std.specs.Prelude.{◌≡◌, ◌⊎◌, IfOk, IfErr, Some, string_bytes};
 ghost use Rattle.serde_json.specs.View.{view};
 ghost use Rattle.serde_json.specs.Written.{compact_text};
 ghost use Rattle.asn_values.specs.Received.{FitsReceived};
@@ -61,9 +61,21 @@ fn json_held(alloc: Global, ty: &Checked, value: &Value) -> Result<Handle, JsonF
         ≡ Some (compact_text (json_of (shape_of ty.now) (datum_of value.now)))) }
     ensures refused { IfErr result (λ why. Unwritten (shape_of ty.now) (datum_of value.now) why) }
 {
-    let json = to_json(alloc, ty, value)?;
-    let text = json.to_string(alloc)?;
+    let text = json_text(alloc, ty, value)?;
     Ok(Handle::holding(alloc, Object::Octets(text.into_bytes()))?)
+}
+
+/// The text.
+fn json_text(alloc: Global, ty: &Checked, value: &Value) -> Result<String, JsonFault>
+    ensures fits { IfOk result (λ _. FitsReceived (shape_of ty.now) (datum_of value.now)) }
+    ensures text { IfOk result (λ s. string_bytes s ≡ compact_text (json_of (shape_of ty.now) (datum_of value.now))) }
+    ensures refused { IfErr result (λ why. Unwritten (shape_of ty.now) (datum_of value.now) why) }
+{
+    let json = to_json(alloc, ty, value)?;
+    match json.to_string(alloc) {
+        Ok(text) => Ok(text),
+        Err(_) => Err(JsonFault::Memory),
+    }
 }
 
 /// The value of the type that a JSON text shows: see `tulvorn::from_json`.

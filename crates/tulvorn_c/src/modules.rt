@@ -2,7 +2,7 @@
 ghost use Rattle.std.specs.Prelude.{◌≡◌, IfOk, IfErr, Some};
 ghost use Rattle.asn_values.specs.View.{shape_of};
 ghost use Rattle.asn_module.specs.ModuleView.{types_view};
-ghost use Rattle.tulvorn_c.specs.Answers.{Asked, ReadsModule, FindsType, SharesType, IsModuleRead};
+ghost use Rattle.tulvorn_c.specs.Answers.{Asked, ReadsModule, ReadsText, FindsType, SharesType, IsModuleRead};
 ghost use Rattle.tulvorn_c.specs.Held.{held_module, held_type};
 ghost use Rattle.tulvorn_c.specs.Faults.{plain};
 ghost use Rattle.asn_module.specs.Accepted.{Accepted, ModuleTypes};
@@ -26,16 +26,23 @@ pub extern "C" fn tulvorn_module(
     ensures code { result ≡ fault.new.code }
 {
     *fault = match std::str::from_utf8(text) {
-        Ok(text) => match module_read(alloc, text) {
-            Ok(read) => {
-                *out = read;
-                Fault::plain(DONE)
-            }
-            Err(why) => Fault::of_module(&why),
-        },
+        Ok(text) => put_module(alloc, text, out),
         Err(_) => Fault::plain(NOT_TEXT),
     };
     fault.code
+}
+
+/// Puts the module that a text is into the handle.
+fn put_module(alloc: Global, text: &str, out: &mut Handle) -> Fault
+    ensures { ReadsText text.now out.old.kept out.new.kept result }
+{
+    match module_read(alloc, text) {
+        Ok(held) => {
+            *out = held;
+            Fault::plain(DONE)
+        }
+        Err(why) => Fault::of_module(&why),
+    }
 }
 
 /// A handle of the module that a text is.

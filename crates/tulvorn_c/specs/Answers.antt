@@ -1,7 +1,5 @@
 -- What calls answer, by the objects that handles held before (old) and hold after (new).
 use Rattle.std.specs.Prelude.{◌≡◌, ◌⊎◌, ◌<◌, ◌≤◌, ◌++◌, drop, ℕ, Result, Ok, Err, List, length, Option, Some, None, nat_eq, if◌then◌else◌, IsUtf8}
-use Rattle.std.specs.Global.{Global}
-use Rattle.std.specs.Prelude.{Vec}
 use Rattle.serde_json.specs.Data.{Data}
 use Rattle.serde_json.specs.Written.{compact_text}
 use Rattle.asn_values.specs.Datum.{Datum}
@@ -24,7 +22,7 @@ use Rattle.asn_rules.specs.declared.fault.EncodeIntoFault.{EncodeIntoFault}
 use Rattle.asn_per.specs.Rules.{per_ruling}
 use Rattle.asn_oer.specs.Rules.{oer_ruling}
 use Rattle.asn_convert.specs.Answers.{IsJson, IsNoJson}
-use Rattle.asn_convert.specs.Converted.{Converted}
+use Rattle.asn_convert.specs.Converted.{Converts, Converted}
 use Rattle.asn_convert.specs.declared.conversion.ConvertFault.{ConvertFault}
 use Rattle.asn_json.specs.Written.{json_of}
 use Rattle.asn_json.specs.Errors.{Shown, Refused}
@@ -71,11 +69,14 @@ ReadsModule text old new fault =
     ReadsText text old new fault ⊎ ((new ≡ old) × (fault ≡ plain 8) × ¬ IsUtf8 text)
 
 -- the handle then holds the type that the module assigns to the name, which it does to none that is not UTF-8
+abbrev pub FindsName : List ℕ → Option Object → Option Object → ModuleTypes → Fault → Type 0
+FindsName name old new m fault =
+    ((fault ≡ done) × (t : Shape) × (type_in m.types name ≡ Some t) × (held_type new ≡ Some t))
+    ⊎ ((new ≡ old) × (((fault ≡ plain 10) × (type_in m.types name ≡ None)) ⊎ (fault ≡ no_memory)))
+
 abbrev pub FindsType : List ℕ → Option Object → Option Object → ModuleTypes → Fault → Type 0
 FindsType name old new m fault =
-    ((fault ≡ done) × (t : Shape) × (type_in m.types name ≡ Some t) × (held_type new ≡ Some t))
-    ⊎ ((new ≡ old)
-    × (((fault ≡ plain 8) × ¬ IsUtf8 name) ⊎ ((fault ≡ plain 10) × (type_in m.types name ≡ None)) ⊎ (fault ≡ no_memory)))
+    FindsName name old new m fault ⊎ ((new ≡ old) × (fault ≡ plain 8) × ¬ IsUtf8 name)
 
 -- the other handle then holds the same type
 abbrev pub SharesType : Option Object → Option Object → Shape → Fault → Type 0
@@ -140,9 +141,9 @@ other_ruling_of n = if nat_eq n 0 then oer_ruling else per_ruling
 
 -- the handle then holds the octets by the rules b of the value that o encodes by the rules a
 pub record HoldsConverted (a b : Ruling) (t : Shape) (o : List ℕ) (new : Option Object) : Type 0 where
-  pub octets : Vec ℕ Global
-  pub held : held_octets new ≡ Some octets.items
-  pub converted : Converted a b (Ok octets) t o
+  pub octets : List ℕ
+  pub held : held_octets new ≡ Some octets
+  pub converted : Converts a b t o octets
 
 pub record IsNotConverted (a b : Ruling) (t : Shape) (o : List ℕ) (fault : Fault) : Type 0 where
   pub why : ConvertFault

@@ -2,7 +2,7 @@
 ghost use Rattle.std.specs.Prelude.{◌≡◌, IfOk, IfErr, Some};
 ghost use Rattle.asn_values.specs.View.{shape_of};
 ghost use Rattle.asn_module.specs.ModuleView.{types_view};
-ghost use Rattle.tulvorn_c.specs.Answers.{Asked, ReadsModule, ReadsText, FindsType, SharesType, IsModuleRead};
+ghost use Rattle.tulvorn_c.specs.Answers.{Asked, ReadsModule, ReadsText, FindsName, FindsType, SharesType, IsModuleRead};
 ghost use Rattle.tulvorn_c.specs.Held.{held_module, held_type};
 ghost use Rattle.tulvorn_c.specs.Faults.{plain};
 ghost use Rattle.asn_module.specs.Accepted.{Accepted, ModuleTypes};
@@ -25,11 +25,18 @@ pub extern "C" fn tulvorn_module(
     ensures told { ReadsModule text.now out.old.kept out.new.kept fault.new }
     ensures code { result ≡ fault.new.code }
 {
-    *fault = match std::str::from_utf8(text) {
+    *fault = put_module_of(alloc, text, out);
+    fault.code
+}
+
+/// Puts the module that octets are as a text into the handle.
+fn put_module_of(alloc: Global, text: &[u8], out: &mut Handle) -> Fault
+    ensures { ReadsModule text.now out.old.kept out.new.kept result }
+{
+    match std::str::from_utf8(text) {
         Ok(text) => put_module(alloc, text, out),
         Err(_) => Fault::plain(NOT_TEXT),
-    };
-    fault.code
+    }
 }
 
 /// Puts the module that a text is into the handle.
@@ -76,19 +83,26 @@ pub extern "C" fn tulvorn_type(
         return MISUSE;
     };
     *fault = match it.as_ref() {
-        Object::Module(module) => match std::str::from_utf8(name) {
-            Ok(name) => put_type(alloc, module, name, ty),
-            Err(_) => Fault::plain(NOT_TEXT),
-        },
+        Object::Module(module) => put_type_of(alloc, module, name, ty),
         _ => Fault::plain(MISUSE),
     };
     *held = Handle::of(it);
     fault.code
 }
 
+/// Puts the type of the name that octets are as a text into the handle.
+fn put_type_of(alloc: Global, types: &Module, name: &[u8], out: &mut Handle) -> Fault
+    ensures { FindsType name.now out.old.kept out.new.kept (types_view types.now) result }
+{
+    match std::str::from_utf8(name) {
+        Ok(name) => put_type(alloc, types, name, out),
+        Err(_) => Fault::plain(NOT_TEXT),
+    }
+}
+
 /// Puts the type of that name into the handle.
 fn put_type(alloc: Global, types: &Module, name: &str, out: &mut Handle) -> Fault
-    ensures { FindsType name.now out.old.kept out.new.kept (types_view types.now) result }
+    ensures { FindsName name.now out.old.kept out.new.kept (types_view types.now) result }
 {
     match types.type_named(name) {
         Some(ty) => match type_held(alloc, ty) {

@@ -571,36 +571,47 @@ class Tries:
 # ---- which crates, and what is noted of them
 
 
+FUNCTION = re.compile(r"^ *(?:#\[[^\]]*\]\s*)*(pub(?:\([^)]*\))? )?(?:const |unsafe |extern \"C\" )*fn ", re.M)
+
+
 @functools.lru_cache(maxsize=None)
 def without_bodies(path, text):
-    """The text of a source file without the bodies of its functions."""
+    """The text of a source file without the bodies of its functions, and without those that only the crate itself calls."""
     kept, at = [], 0
     for _, _, body, end in sorted(functions(path, text), key=lambda it: it[2]):
-        if body >= at:
+        if body < at:
+            continue
+        *_, head = FUNCTION.finditer(text, at, body)
+        block = re.findall(r"^(?:\}|\S.*\{)$", text[: head.start()], re.M)[-1:]
+        own = re.search(r"\b(ensures|requires)\b", text[head.end() : body])
+        if head[1] == "pub " or re.match(r"(pub )?trait ", "".join(block)) or own and re.match(r"impl\b.* for ", "".join(block)):
             kept += [text[at:body], "{}"]
-            at = end
+        else:
+            kept.append(text[at : head.start()])
+        at = end
     return "".join(kept) + text[at:]
 
 
 def shown_above(path, text):
-    """The text of a source file as the crates above see it: without the bodies of its functions, the fields that a type
-    with a model keeps to itself, and the imports that nothing else uses."""
+    """The text of a source file as the crates above see it: without the bodies of its functions and those that are not
+    public, the fields that a type with a model keeps to itself, and the imports that nothing else uses. A function of
+    a trait is left out where its contract is that of the trait."""
     text = without_bodies(path, text)
     for name in re.findall(r"^impl(?:<[^>]*>)? Model for (\w+)", text, re.M):
         text = re.sub(rf"struct {name}\b[^{{;]*\{{.*?^\}}",
                       lambda it: re.sub(r"^    \w+: [^{}]*,\n", "", it[0], flags=re.M), text, flags=re.M | re.S)
-    imports = re.compile(r"^use ([\w:]+::)?(\w+|\{[^{}]*\});\n", re.M)
+    imports = re.compile(r"^ *((?:ghost )?use [\w:.]+?)(?:::|\.)?(\w+|\{[^{}]*\});\n", re.M)
     rest = set(re.findall(r"\w+", imports.sub("", text)))
     names = lambda it: sorted(rest.intersection(re.findall(r"\w+", it[2])))
-    return imports.sub(lambda it: f"{it[1]}{names(it)}\n" if names(it) else "", text)
+    return imports.sub(lambda it: f"{it[1]} {names(it)}\n" if names(it) else "", text)
 
 
 @functools.lru_cache(maxsize=None)
 def words_of(path, text):
-    """The words of a file without its comments, and without derives, on which no proof of an edit rests."""
+    """The words of a file without its comments, derives and what is inlined, on which no proof of an edit rests."""
     if path.endswith(".rt"):
         text = rtlib.RUST_TOKEN.sub(lambda it: "" if it[0].startswith("//") else it[0], text)
-        text = re.sub(r"#\[derive\([^)]*\)\]", "", text)
+        text = re.sub(r"#\[(derive|inline)\([^)]*\)\]", "", text)
     else:
         text = "\n".join(line for line in text.split("\n") if not line.lstrip().startswith("--"))
     return text.split()

@@ -11,7 +11,7 @@ usage: tests/gate.py [PART..]      the parts are proofs, edits and tests; all th
    when the crate is proved, on processors that no proof takes.
 3. tests: the programs of tests/programs are built without a proof of their own (tests/room.py), and what they write is
    compared; tests/refused_allocations.sh refuses in turn each allocation of programs; examples/run.sh,
-   tests/versions.py and tests/published.py run the program `asn_tool` as the gate has built it.
+   tests/versions.py, tests/published.py and tests/installed.sh run the program `asn_tool` as the gate has built it.
 
 What a step writes is shown as it comes: a line for each crate that is proved, and for each group of edits that is tried.
 The end says how many minutes of a processor each part took, and how many by the clock from its first line to its last.
@@ -171,6 +171,7 @@ def tests(part):
     step(part, ["examples/run.sh", TOOL])
     step(part, ["tests/versions.py", TOOL])
     step(part, ["tests/published.py", TOOL])
+    step(part, ["tests/installed.sh", TOOL])
 
 
 PARTS = {"proofs": proofs, "edits": edits, "tests": tests}

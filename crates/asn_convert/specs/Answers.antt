@@ -64,7 +64,8 @@ TellsJsonFault (json.Shape path) text = text ≡ codes "! shape " ++ string_byte
 TellsJsonFault json.NotOfType text = text ≡ codes "! not of type"
 TellsJsonFault json.Memory text = ⊥
 
--- the words of a fault of reading a message of a newer or older sender: which of the first three faults comes is open
+-- the words of a fault of reading a message of a newer or older sender. One that was cut is told so; which of the first
+-- three faults comes else is open
 abbrev pub TellsNewerFault : NewerFault → List ℕ → Type 0
 TellsNewerFault newer.Refused text = text ≡ codes "! refused"
 TellsNewerFault newer.Truncated text = text ≡ codes "! cut short"

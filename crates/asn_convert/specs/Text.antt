@@ -1,5 +1,6 @@
 -- The text of a job, and what of it is written before a fault.
-use Rattle.std.specs.Prelude.{◌≡◌, ◌⊎◌, ◌&&◌, ℕ, Bool, true, false, List, [], ◌∷◌, ◌++◌, codes, string_bytes, Option, Some, None, IfSome, IsUtf8, ⊤}
+use Rattle.std.specs.Prelude.{◌≡◌, ◌⊎◌, ◌&&◌, ◌==◌, ℕ, Bool, true, false, List, [], ◌∷◌, ◌++◌, codes, string_bytes, Option, Some, None, IfSome, IsFalse, IsUtf8, ⊤}
+use Rattle.std.specs.List.{list_any}
 use Rattle.std.specs.Io.KnownBytes.{Appends, Keeps}
 use Rattle.asn_values.specs.Shape.{Shape}
 use Rattle.asn_rules.specs.Faults.{Rose, State}
@@ -61,9 +62,13 @@ pub record IsModule (text : List ℕ) (m : ModuleTypes) : Type 0 where
 abbrev pub IsNoModule : List ℕ → Type 0
 IsNoModule text = (m : ModuleTypes) → IsModule text m → ⊥
 
--- what is told of a text that is no module: that it is no text, or some words on the module
+-- no octet is an LF
+abbrev pub IsOneLine : List ℕ → Type 0
+IsOneLine text = IsFalse (list_any (λ octet. octet == 10) text)
+
+-- what is told of a text that is no module: some words on the module, in one line
 abbrev pub TellsNoModule : List ℕ → Type 0
-TellsNoModule words = (rest : List ℕ) × (words ≡ codes "! module " ++ rest)
+TellsNoModule words = (rest : List ℕ) × (words ≡ codes "! module " ++ rest) × IsOneLine rest
 
 -- that it is no text
 abbrev pub not_text : List ℕ

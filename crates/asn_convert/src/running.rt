@@ -3,7 +3,7 @@ ghost use Rattle.std.specs.Prelude.{◌≡◌, ◌≢◌, IfOk, IfErr, OnOk, str
 ghost use Rattle.asn_module.specs.ModuleView.{types_view};
 ghost use Rattle.asn_module.specs.declared.fault.ModuleFault.{ModuleFault};
 ghost use Rattle.asn_convert.specs.Parts.{Wrote, Broke, JobTold, JobBegun, ModuleTold, ModuleBegun, LinesTold, LinesBegun, LineTold, LineBegun, RanBy, FailedBy};
-ghost use Rattle.asn_convert.specs.Text.{IsModule, IsRefusal};
+ghost use Rattle.asn_convert.specs.Text.{IsModule, IsOneLine, IsRefusal};
 
 use crate::answers::answer_to;
 use crate::cut::{cut_input, next_line};
@@ -94,17 +94,23 @@ fn module_in(alloc: Global, text: &[u8]) -> Result<Result<Module, String>, RunFa
     }
 }
 
-/// What a fault of a module says.
+/// What a fault of a module says, in one line.
 ///
 /// # Errors
 /// `AllocError` where an allocation failed, here or while the module was read.
 fn words_of(alloc: Global, fault: ModuleFault) -> Result<String, AllocError>
-    ensures { OnOk result (fault ≢ ModuleFault.Memory) }
+    ensures told { OnOk result (fault ≢ ModuleFault.Memory) }
+    ensures one_line { IfOk result (λ words. IsOneLine (string_bytes words)) }
 {
     if let ModuleFault::Memory = fault {
         return Err(AllocError);
     }
-    format!(in alloc; "{fault}")
+    let words = format!(in alloc; "{fault}")?;
+    if words.as_bytes().contains(&b'\n') {
+        // no name that a fault tells has a line feed
+        return String::from_str(alloc, "refused");
+    }
+    Ok(words)
 }
 
 /// Writes the text of the job for this module and these lines.

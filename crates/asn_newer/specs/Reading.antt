@@ -1,5 +1,5 @@
 -- What a reader of messages of newer and older senders answers.
-use Rattle.std.specs.Prelude.{◌<◌, ◌≤◌, ℕ, List, length, map}
+use Rattle.std.specs.Prelude.{◌<◌, ◌≤◌, ◌++◌, ℕ, List, length, map}
 use Rattle.asn_values.specs.Datum.{Datum}
 use Rattle.asn_values.specs.Shape.{Shape}
 use Rattle.asn_values.specs.View.{datum_of}
@@ -28,11 +28,17 @@ IsNewer l t n o = IsLoose l t (datum_of n.value) (skipped_seen n.skipped.items) 
 abbrev pub IsNoMessage : LooseCoding → Shape → List ℕ → Type 0
 IsNoMessage l t o = (v : Datum) (s : List fields.Skipped) → IsLoose l t v s o → ⊥
 
--- the octets are too many exactly where that is answered, and are read as no value unless memory was wanting
+-- nor are any that begin with them and are not too many: the octets are no message that was cut
+abbrev pub BeginsNoMessage : LooseCoding → Shape → List ℕ → Type 0
+BeginsNoMessage l t o = (rest : List ℕ) → length (o ++ rest) ≤ max_octets → IsNoMessage l t (o ++ rest)
+
+-- the octets are too many exactly where that is answered, and are read as no value unless memory was wanting; those of
+-- a message that was cut are told as cut
 abbrev pub NotNewer : LooseCoding → Shape → List ℕ → NewerFault → Type 0
 NotNewer l t o fault.Memory = length o ≤ max_octets
 NotNewer l t o fault.TooLong = max_octets < length o
-NotNewer l t o _ = (length o ≤ max_octets) × IsNoMessage l t o
+NotNewer l t o fault.Truncated = (length o ≤ max_octets) × IsNoMessage l t o
+NotNewer l t o _ = (length o ≤ max_octets) × BeginsNoMessage l t o
 
 -- what is told of a message where its reader halts
 abbrev pub fault_of : Halt → NewerFault

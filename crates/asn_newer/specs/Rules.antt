@@ -3,7 +3,7 @@ use Rattle.std.specs.Prelude.{◌≡◌, ◌≢◌, ◌-◌, ◌+◌, ◌^◌, �
 use Rattle.std.specs.List.{AllByRecursion}
 use Rattle.std.specs.Int.RustNames.{int_lt}
 use Rattle.asn_values.specs.Shape.{Label}
-use Rattle.asn_values.specs.Profile.{most_additions, most_alternatives, is_not_32_bits}
+use Rattle.asn_values.specs.Profile.{most_additions, most_alternatives, most_items, is_not_32_bits}
 use Rattle.asn_bits.specs.Numbers.{bits}
 use Rattle.asn_rules.specs.Components.{number_at}
 use Rattle.asn_rules.specs.IntegerSets.{magnitude_of}
@@ -15,9 +15,15 @@ use Rattle.asn_newer.specs.Loose.{LooseCoding}
 
 -- ---- PER: the index among the additions ("encoding the enumerated type")
 
--- past those of the type, and within the profile
+-- past those of the type, and within the profile: some version of the type has as many additions as this index needs,
+-- which with the items of the root are its items
+pub record IsIndexToCome (root additions : List Label) (n : ℕ) : Type 0 where
+  pub past : length additions ≤ n
+  pub few : n < most_additions
+  pub room : length root + n < most_items
+
 abbrev pub IsUnknownIndex : List Label → List Label → ℤ → Type 0
-IsUnknownIndex root additions (pos n) = (length additions ≤ n) × (n < most_additions)
+IsUnknownIndex root additions (pos n) = IsIndexToCome root additions n
 IsUnknownIndex root additions (negsuc n) = ⊥
 
 unfoldable pub per_loose : LooseCoding

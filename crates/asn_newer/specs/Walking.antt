@@ -1,6 +1,6 @@
 -- What the readers of the walk over types read: languages of values with the fields that were skipped in them, put
 -- after those that were skipped before.
-use Rattle.std.specs.Prelude.{◌≡◌, ℕ, ℤ, Bool, true, false, List, [], ◌∷◌, ◌++◌, map, Option, Some, ⊤}
+use Rattle.std.specs.Prelude.{◌≡◌, ◌≤◌, ℕ, ℤ, Bool, true, false, List, [], ◌∷◌, ◌++◌, length, map, Option, Some, ⊤}
 use Rattle.std.specs.Global.{Vec}
 use Rattle.asn_values.specs.declared.types.Alt.{Alt}
 use Rattle.asn_values.specs.declared.types.AsnType.{AsnType}
@@ -8,6 +8,7 @@ use Rattle.asn_values.specs.declared.types.AsnType as asn_type
 use Rattle.asn_values.specs.declared.types.Field.{Field}
 use Rattle.asn_values.specs.Datum.{Datum}
 use Rattle.asn_values.specs.Shape.{Shape, Label, Demand, must, optional, default, Fields, marked}
+use Rattle.asn_rules.specs.Answer.{max_octets}
 use Rattle.asn_rules.specs.Chunks.{Chunk, ones}
 use Rattle.asn_rules.specs.Languages.{Map, Nothing}
 use Rattle.asn_rules.specs.Listed.{Spelt, default_of}
@@ -90,10 +91,16 @@ pub record ReadsContent (l : LooseCoding) (t : Shape) (before : List Skipped) (v
   pub same : after ≡ before ++ skipped
   pub complete : Complete l.coding (Loose l t) (v, skipped) o
 
--- they are none of any value, unless memory was wanting
+-- they are none of any value
+abbrev pub NoContent : LooseCoding → Shape → List ℕ → Type 0
+NoContent l t o = (r : Reading) → Complete l.coding (Loose l t) r o → ⊥
+
+-- octets that end too early are none of any value, those that are refused begin none that is not too long, and of
+-- memory nothing is said
 abbrev pub TellsContent : LooseCoding → Shape → List ℕ → Halt → Type 0
 TellsContent l t o halt.Memory = ⊤
-TellsContent l t o _ = (r : Reading) → Complete l.coding (Loose l t) r o → ⊥
+TellsContent l t o halt.Short = NoContent l t o
+TellsContent l t o _ = (after : List ℕ) → length (o ++ after) ≤ max_octets → NoContent l t (o ++ after)
 
 pub record HaltsContent (l : LooseCoding) (t : Shape) (o : List ℕ) (why : Halt) : Type 0 where
   pub told : TellsContent l t o why

@@ -1,9 +1,9 @@
 //! The presence bits of extension additions, of any count that the profile allows.
-ghost use Rattle.std.specs.Prelude.{◌≡◌, ◌≤◌, ◌<◌, IfOk, IfErr, IfSome, IsSome, IsNone, OnOk};
+ghost use Rattle.std.specs.Prelude.{◌≡◌, ◌≤◌, ◌<◌, true, IfOk, IfErr, IfSome, IsSome, IsNone, OnOk};
 ghost use Rattle.asn_walk.specs.Reading.{Reads};
 ghost use Rattle.asn_newer.specs.Halting.{HaltsAt, TellsPast};
 ghost use Rattle.asn_newer.specs.Loose.{AnyBitmap};
-ghost use Rattle.asn_newer.specs.Bitmaps.{bitmap_seen, NotOfCount};
+ghost use Rattle.asn_newer.specs.Bitmaps.{bitmap_seen, NoneOfCount};
 
 use crate::halt::Halt;
 use crate::leaves::ReadVersions;
@@ -44,11 +44,11 @@ pub fn read_any_bitmap<R: ReadVersions>(
             Err(_) => return Err(Halt::Memory),
         }
     }
-    if R::is_count_past(units) {
-        return Err(Halt::TooMany);
-    }
     if is_short {
         return Err(Halt::Short);
+    }
+    if R::is_count_past(units) {
+        return Err(Halt::TooMany);
     }
     Err(Halt::Refused)
 }
@@ -91,9 +91,12 @@ fn try_count<R: ReadVersions>(
     ensures few { IfOk result (λ found. IfSome found (λ p. p.left ≤ 64)) }
     ensures done { IfOk result (λ found. IfSome found (λ p.
         Reads R.rules (AnyBitmap R.rules) (bitmap_seen p) units.old units.new)) }
-    ensures none { IfOk result (λ found. IsNone found → NotOfCount R.rules count (R.rules.to_units units.old)) }
+    ensures none { IfOk result (λ found. IsNone found →
+        NoneOfCount R.rules count (R.rules.to_units units.old) is_short.new) }
+    ensures stays { IfOk result (λ found. IsNone found → is_short.old ≡ true → is_short.new ≡ true) }
     ensures unchanged { IfOk result (λ found. IsNone found → units.new ≡ units.old) }
 {
+    R::keep_laws();
     let mut ahead = units.copied();
     match R::read_addition_bitmap(count, &mut ahead) {
         Ok(bitmap) => {

@@ -112,6 +112,7 @@ fn read_entry<R: ReadVersions>(
         (LooseEntry (loose_by R.rules R.loose) (part_of_field field.now).demand (part_of_field field.now).shape present)
         units.old why) }
 {
+    R::keep_laws();
     if !present {
         return Ok(absent(field));
     }

@@ -7,7 +7,7 @@ pub enum NewerFault {
     /// No message of any version begins so, or more octets follow one.
     #[error("refused")]
     Refused = 1,
-    /// The octets end before a message does.
+    /// The octets end before a message does: any message that was cut is told so.
     #[error("cut short")]
     Truncated = 2,
     /// More extension additions than the profile allows: a count of them, the index or tag of an alternative, or the

@@ -1,6 +1,6 @@
 //! Why a reader of messages of newer and older senders gave no value.
 ghost use Rattle.std.specs.Prelude.{◌≡◌};
-ghost use Rattle.asn_newer.specs.Halting.{halt_of, halt_of_field};
+ghost use Rattle.asn_newer.specs.Halting.{halt_of, halt_before_end, halt_of_field};
 ghost use Rattle.asn_newer.specs.declared.halt.Halt.TheVariants.{Memory};
 
 use asn_rules::internal::Stop;
@@ -44,6 +44,17 @@ impl<T: Drop> From<AllocFailed<T>> for Halt {
 
     fn from(_: AllocFailed<T>) -> Halt {
         Halt::Memory
+    }
+}
+
+/// What is told of units that may go on as another part, where the reader of this one says this: where they end, they
+/// are cut short.
+pub(crate) fn halt_before_end(halt: Halt) -> Halt
+    ensures { result ≡ halt_before_end halt }
+{
+    match halt {
+        Halt::Refused | Halt::Short | Halt::TooMany => Halt::Short,
+        Halt::Memory => Halt::Memory,
     }
 }
 

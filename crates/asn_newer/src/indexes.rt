@@ -31,6 +31,7 @@ pub(crate) fn read_any_index<R: ReadVersions>(
     ensures stop { IfErr result (λ why. HaltsAt R.rules (IndexOf R.rules root (Some (63 - root))) units.old why) }
     ensures past { IfErr result (λ why. TellsPast (R.index_past root (R.rules.to_units units.old)) why) }
 {
+    R::keep_laws();
     let before = units.copied();
     match R::read_index(root, Some(MOST_ALTERNATIVES - root), units) {
         Ok(index) => Ok(index),

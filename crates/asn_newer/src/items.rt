@@ -8,7 +8,7 @@ ghost use Rattle.asn_newer.specs.Halting.{HaltsAt};
 ghost use Rattle.asn_newer.specs.Loose.{AnyItem};
 ghost use Rattle.asn_newer.specs.Walking.{loose_by, UnknownItem};
 
-use crate::halt::Halt;
+use crate::halt::{Halt, halt_before_end};
 use crate::leaves::ReadVersions;
 use asn_bits::BitCursor;
 use asn_rules::internal::Stop;
@@ -35,6 +35,7 @@ pub(crate) fn read_any_item<R: ReadVersions>(
     ensures stop { IfErr result (λ why. HaltsAt R.rules
         (AnyItem (loose_by R.rules R.loose) (labels_seen root.now) (labels_seen additions.now)) units.old why) }
 {
+    R::keep_laws();
     let mut ahead = units.copied();
     match R::read_simple(alloc, ty, &mut ahead) {
         Ok(value) => {
@@ -43,7 +44,10 @@ pub(crate) fn read_any_item<R: ReadVersions>(
         }
         Err(Stop::Memory) => Err(Halt::Memory),
         Err(Stop::Refused { .. }) => read_unknown::<R>(root, additions, units),
-        Err(Stop::Short) => read_unknown::<R>(root, additions, units),
+        Err(Stop::Short) => match read_unknown::<R>(root, additions, units) {
+            Ok(value) => Ok(value),
+            Err(halt) => Err(halt_before_end(halt)),
+        },
     }
 }
 

@@ -1,12 +1,12 @@
 //! The items that an ENUMERATED with an extension mark has not, as OER tells them: by their numbers.
-ghost use Rattle.std.specs.Prelude.{◌≡◌, ◌≤◌, ◌<◌, ◌*◌, ◌^◌, ◌&&◌, pos, ℕ, ℤ, List, IfOk, OnOk, IsErr};
+ghost use Rattle.std.specs.Prelude.{◌≡◌, ◌≤◌, ◌<◌, ◌*◌, ◌^◌, ◌&&◌, pos, IfOk, IfErr, OnOk};
 ghost use Rattle.std.specs.List.{list_all};
 ghost use Rattle.std.specs.Int.RustNames.{int_le, int_lt};
 ghost use Rattle.asn_values.specs.View.{numbers_seen};
 ghost use Rattle.asn_bits.specs.Numbers.{magnitude, packed};
 ghost use Rattle.asn_rules.specs.Counted.{signed_number};
 ghost use Rattle.asn_rules.specs.OctetReading.{AtOctet};
-ghost use Rattle.asn_newer.specs.ItemNumbers.{IsItemNumber};
+ghost use Rattle.asn_newer.specs.ItemNumbers.{IsItemNumber, TellsItemNumber};
 ghost use Rattle.asn_newer.specs.Rules.{IsLengthPast, IsTagPast};
 
 use crate::halt::Halt;
@@ -61,7 +61,7 @@ fn read_number(units: &mut BitCursor<'_>) -> Result<i128, Halt>
     requires at_octet { AtOctet units.old }
     ensures at_octet { OnOk result (AtOctet units.new) }
     ensures done { IfOk result (λ z. IsItemNumber z (packed units.old) (packed units.new)) }
-    ensures none { IsErr result → (z : ℤ) (rest : List ℕ) → IsItemNumber z (packed units.old) rest → ⊥ }
+    ensures none { IfErr result (λ why. TellsItemNumber (packed units.old) why) }
 {
     let Some(first) = units.take_number(8) else {
         return Err(Halt::Short);

@@ -29,9 +29,10 @@ impl ReadVersions for Per {
         number + root as u64 >= 191
     }
 
-    /// A bit 1 and a normally small number, 0 and 6 bits: the index among the additions.
+    /// A bit 1 and a normally small number, 0 and 6 bits: the index among the additions. The profile has 64 additions
+    /// and, with the root, 256 items.
     fn read_unknown_item(
-        _root: &[Item],
+        root: &[Item],
         additions: &[Item],
         units: &mut BitCursor<'_>,
     ) -> Result<i128, Halt> {
@@ -47,7 +48,8 @@ impl ReadVersions for Per {
         if index < additions.len() as u64 {
             return Err(Halt::Refused);
         }
-        if index > 63 {
+        let items_before = root.len() as u64 + index;
+        if index > 63 || items_before > 255 {
             return Err(Halt::TooMany);
         }
         Ok(i128::from(index))

@@ -78,6 +78,7 @@ pub(crate) fn read<R: ReadVersions>(
         }
         AsnType::Enum { root, ext } => {
             let Some(additions) = ext else {
+                R::keep_laws();
                 return Ok(R::read_simple(alloc, ty, units)?);
             };
             read_any_item::<R>(alloc, ty, root.as_slice(), additions.as_slice(), units)
@@ -88,7 +89,10 @@ pub(crate) fn read<R: ReadVersions>(
         | AsnType::Bits(_)
         | AsnType::Octets(_)
         | AsnType::Text(..)
-        | AsnType::Utf8 => Ok(R::read_simple(alloc, ty, units)?),
+        | AsnType::Utf8 => {
+            R::keep_laws();
+            Ok(R::read_simple(alloc, ty, units)?)
+        }
     }
 }
 

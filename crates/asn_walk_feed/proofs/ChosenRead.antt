@@ -1,10 +1,11 @@
 -- How a CHOICE that may be cut goes on, as the program holds it.
-use Rattle.std.proofs.Common.{true≢false, ◌≤◌, ◌||◌, ◌≡◌, ◌<◌, inl, inr, get_or, ℕ, zero, suc, false, List, [], ◌∷◌, ◌++◌, length, map, append-nil, Option, Some, None, refl, sym, ap, subst, arith}
+use Rattle.std.proofs.Common.{Vec, Global, ◌+◌, ◌≤◌, ◌||◌, ◌≡◌, ◌<◌, inl, inr, get_or, ℕ, zero, suc, false, List, [], ◌∷◌, ◌++◌, length, map, append-nil, Option, Some, None, refl, sym, ap, subst, arith}
 use Rattle.asn_values.specs.declared.types.Alt.{Alt}
 use Rattle.asn_values.specs.Datum.{alternative}
-use Rattle.asn_values.specs.Shape.{Shape, Alternatives, no_alternatives, one_of, MoreAlternatives, closed_choice, marked_choice, choice, count}
+use Rattle.asn_values.specs.Shape.{Shape, Alternatives, MoreAlternatives, more_alternatives, choice, count}
 use Rattle.asn_values.specs.Profile.{InProfile, somewhere, some_alternative, some_more}
-use Rattle.asn_values.specs.View.{shape_of, branch_of, alternatives_of, alternatives_seen}
+use Rattle.asn_values.specs.Parts.{AreAllOfProfile}
+use Rattle.asn_values.specs.View.{shape_of, branch_of, alternatives_of, alternatives_seen, more_alternatives_of}
 use Rattle.asn_values.proofs.Alternatives.{count-of, shape_of_branch}
 use Rattle.asn_values.proofs.Parts.{left_false, right_false}
 use Rattle.asn_rules.specs.Languages.{Spells}
@@ -12,13 +13,14 @@ use Rattle.asn_rules.specs.Listed.{Spelt}
 use Rattle.asn_rules.proofs.Answer.Answers.{done_stays}
 use Rattle.asn_rules.proofs.Languages.Leads.{Leads, LeadsStops, leads_on}
 use Rattle.asn_walk.specs.Ahead.{Ahead}
-use Rattle.asn_walk.specs.Coding.{Coding, IndexOf, IsIndexWithin, AreFew, added_alternatives}
+use Rattle.asn_walk.specs.Coding.{Coding, IndexOf, IsIndexWithin, AreFew, OpenOf, ChosenOf, added_alternatives}
 use Rattle.asn_walk.specs.Laws.{Laws}
-use Rattle.asn_walk.proofs.ChoicesRead.{leads_at_place, value_leads, index_stops}
-use Rattle.asn_walk.proofs.Parts.{good_at, root_good, few_indexes}
+use Rattle.asn_walk.proofs.ChoicesRead.{leads_at_place, open_leads_at_place, value_leads, index_stops}
+use Rattle.asn_walk.proofs.Parts.{good_at, root_good, added_good, few_indexes, additions_are}
 use Rattle.asn_walk_feed.specs.Chosen.{AlternativeTook}
 use Rattle.asn_walk_feed.specs.Feeding.{Waits}
-use Rattle.asn_walk_feed.specs.Taken.{is_uncovered, IsCovered, Took, ChoiceReached, with_node}
+use Rattle.asn_walk_feed.specs.OpenFields.{FieldCoding, FieldTook}
+use Rattle.asn_walk_feed.specs.Taken.{is_uncovered, IsCovered, Took, ChoiceReached, AdditionReached, with_node}
 use Rattle.asn_walk_feed.specs.declared.frame.Frame.TheVariants as frame
 use Rattle.asn_walk_feed.specs.declared.frame.Frame.{Frame}
 
@@ -44,13 +46,6 @@ covered_in [] i d h s = absurd (omega (arith, h))
 covered_in (a ∷ alts) zero d h s = subst IsCovered (shape_of_branch a) (left_false (somewhere is_uncovered (branch_of a).shape) (some_alternative is_uncovered (alternatives_of (map branch_of alts))) s)
 covered_in (a ∷ alts) (suc i) d h s = covered_in alts i d (omega (arith, h)) (right_false (somewhere is_uncovered (branch_of a).shape) (some_alternative is_uncovered (alternatives_of (map branch_of alts))) s)
 
--- where a CHOICE is covered, no index is among additions
-no_index : (root : Alternatives) (more : MoreAlternatives) → IsCovered (choice root more) → (n k : ℕ)
-    → IsIndexWithin n (added_alternatives more) (inr k) → ⊥
-no_index root closed_choice cov n k h = h
-no_index root (marked_choice no_alternatives) cov n k h = absurd (omega (arith, h))
-no_index root (marked_choice (one_of name t alts)) cov n k h = absurd (true≢false cov)
-
 -- there are few alternatives
 pub few_seen : (root : List Alt) (more : MoreAlternatives) → InProfile (choice (alternatives_seen root) more) → AreFew (length root) (added_alternatives more)
 few_seen root more good = subst (λ (n : ℕ). AreFew n (added_alternatives more)) (count-of root) (few_indexes (alternatives_seen root) more good)
@@ -59,12 +54,12 @@ pub few_of_root : (n : ℕ) (more : Option ℕ) → AreFew n more → n ≤ 63
 few_of_root n None h = h
 few_of_root n (Some k) h = omega (arith, h)
 
-module _ {F : Type 0} (c : Coding) (laws : Laws c) (ahead : F → Ahead) (between : F → Type 0) (root : List Alt) (more : MoreAlternatives) (good : InProfile (choice (alternatives_seen root) more)) where
+module _ {F : Type 0} (c : Coding) (laws : Laws c) (fc : FieldCoding) (ahead : F → Ahead) (between : F → Type 0) (root : List Alt) (more : MoreAlternatives) (good : InProfile (choice (alternatives_seen root) more)) where
   abbrev R : ℕ → List (Frame F) → List ℕ → List ℕ → Type 0
-  R i fs all units = ChoiceReached c ahead between (alternatives_seen root) more i fs all units
+  R i fs all units = ChoiceReached c fc ahead between (alternatives_seen root) more i fs all units
 
   abbrev P : List (Frame F) → Shape → List ℕ → Type 0
-  P fs t us = Took c ahead between fs t us
+  P fs t us = Took c fc ahead between fs t us
 
   pub index_inside : (i : ℕ) (fs : List (Frame F)) (all units : List ℕ) → R i fs all units → i < length root
   index_inside i fs all units h =
@@ -80,11 +75,6 @@ module _ {F : Type 0} (c : Coding) (laws : Laws c) (ahead : F → Ahead) (betwee
       subst (λ (n : ℕ). LeadsStops c.ruling.fielding (IndexOf c n (added_alternatives more)) us (Spelt c.code None (choice (alternatives_seen root) more)) us)
       (count-of root) (index_stops c laws (alternatives_seen root) more good us)
 
-  -- no alternative is among additions
-  pub none_added : IsCovered (choice (alternatives_seen root) more) → (k : ℕ) (us r : List ℕ)
-      → Spells c.ruling.fielding (IndexOf c (length root) (added_alternatives more)) (inr k) us r → ⊥
-  none_added cov k us r sp = no_index (alternatives_seen root) more cov (length root) k sp.spelt.fits
-
   -- after it
 
   pub choice_starts : (i : ℕ) (fs : List (Frame F)) (all r : List ℕ)
@@ -97,7 +87,7 @@ module _ {F : Type 0} (c : Coding) (laws : Laws c) (ahead : F → Ahead) (betwee
         inner = rw ef (starts root i inside);
       }
     where
-      starts : (alts : List Alt) (i : ℕ) → i < length alts → AlternativeTook (λ t us. Took {F = F} c ahead between [] t us) (alternatives_of (map branch_of alts)) i []
+      starts : (alts : List Alt) (i : ℕ) → i < length alts → AlternativeTook (λ t us. Took {F = F} c fc ahead between [] t us) (alternatives_of (map branch_of alts)) i []
       starts [] i h = absurd (omega (arith, h))
       starts (a ∷ alts) zero h = refl
       starts (a ∷ alts) (suc i) h = starts alts i (omega (arith, h))
@@ -149,22 +139,110 @@ module _ {F : Type 0} (c : Coding) (laws : Laws c) (ahead : F → Ahead) (betwee
   -- ---- the node
 
   pub took_chosen : (r : Option (Frame F)) (f : Frame F) (i : ℕ) (fs : List (Frame F)) (us : List ℕ)
-      → r ≡ Some f → f ≡ frame.Chosen i → Took c ahead between (with_node r fs) (choice (alternatives_seen root) more) us
+      → r ≡ Some f → f ≡ frame.Chosen i → Took c fc ahead between (with_node r fs) (choice (alternatives_seen root) more) us
       → R i fs us []
   took_chosen r f i fs us e g h = rw (e, g) at h
 
   pub choice_none : (r : Option (Frame F)) (fs : List (Frame F)) (us : List ℕ) → r ≡ None → fs ≡ []
-      → Took c ahead between (with_node r fs) (choice (alternatives_seen root) more) us → us ≡ []
+      → Took c fc ahead between (with_node r fs) (choice (alternatives_seen root) more) us → us ≡ []
   choice_none r fs us e g h = rw (e, g) at h
 
   pub choice_start : (r : Option (Frame F)) (f : Frame F) (b : List ℕ) (fs : List (Frame F)) (us : List ℕ) → r ≡ Some f
-      → f ≡ frame.Start b → Took c ahead between (with_node r fs) (choice (alternatives_seen root) more) us
+      → f ≡ frame.Start b → Took c fc ahead between (with_node r fs) (choice (alternatives_seen root) more) us
       → (fs ≡ []) × (Waits c (IndexOf c (length root) (added_alternatives more)) b us)
   choice_start r f b [] us e g h = (let w : Waits c (IndexOf c (count (alternatives_seen root)) (added_alternatives more)) b us = rw (e, g) at h in (refl, subst (λ (n : ℕ). Waits c (IndexOf c n (added_alternatives more)) b us) (count-of root) w))
   choice_start r f b (x ∷ fs) us e g h = (let z : ⊥ = rw (e, g) at h in absurd z)
 
   pub choice_took : (fs : List (Frame F)) (b us : List ℕ) → fs ≡ frame.Start b ∷ [] → Waits c (IndexOf c (length root) (added_alternatives more)) b us
-      → Took c ahead between fs (choice (alternatives_seen root) more) us
+      → Took c fc ahead between fs (choice (alternatives_seen root) more) us
   choice_took fs b us e w =
       let v : Waits c (IndexOf c (count (alternatives_seen root)) (added_alternatives more)) b us = subst (λ (n : ℕ). Waits c (IndexOf c n (added_alternatives more)) b us) (sym (count-of root)) w in
       rw e v
+
+-- ---- an alternative among the additions
+
+module _ {F : Type 0} (c : Coding) (laws : Laws c) (fc : FieldCoding) (ahead : F → Ahead) (between : F → Type 0) (root : List Alt) (ext : Option (Vec Alt Global)) (good : InProfile (choice (alternatives_seen root) (more_alternatives_of ext))) where
+  abbrev A : ℕ → List (Frame F) → List ℕ → List ℕ → Type 0
+  A i fs all units = AdditionReached c fc ahead between (alternatives_seen root) (more_alternatives_of ext) i fs all units
+
+  pub addition_starts : (i : ℕ) (fs : List (Frame F)) (all r : List ℕ)
+      → Spells c.ruling.fielding (IndexOf c (length root) (added_alternatives (more_alternatives_of ext))) (inr i) all r → fs ≡ [] → A i fs all r
+  addition_starts i fs all r sp ef = record {
+    come = [];
+    index = subst (λ (n : ℕ). Spells c.ruling.fielding (IndexOf c n (added_alternatives (more_alternatives_of ext))) (inr i) all r) (sym (count-of root)) sp;
+    inner = rw ef refl;
+  }
+
+  -- without a mark there is none
+  pub no_addition : (i : ℕ) (fs : List (Frame F)) (all units : List ℕ) → ext ≡ None → A i fs all units → ⊥
+  no_addition i fs all units e h = (let z : IsIndexWithin (count (alternatives_seen root)) (added_alternatives (more_alternatives_of ext)) (inr i) = h.index.spelt.fits in let y : ⊥ = rw e at z in y)
+
+  module _ (v : Vec Alt Global) (is : ext ≡ Some v) where
+    pub addition_inside : (i : ℕ) (fs : List (Frame F)) (all units : List ℕ) → A i fs all units → i < length v.items
+    addition_inside i fs all units h =
+        let z : IsIndexWithin (count (alternatives_seen root)) (added_alternatives (more_alternatives_of ext)) (inr i) = h.index.spelt.fits in
+        let inside : i < count (alternatives_of (map branch_of v.items)) = rw is at z in
+        omega (arith, inside, count-of v.items)
+
+    -- it has a number that is not too large
+    pub few_tags : (i : ℕ) (fs : List (Frame F)) (all units : List ℕ) → A i fs all units → length root + i ≤ 63
+    few_tags i fs all units h =
+        let few : AreFew (length root) (added_alternatives (more_alternatives_of ext)) = few_seen root (more_alternatives_of ext) good in
+        let sum : length root + count (alternatives_of (map branch_of v.items)) ≤ 63 = rw is at few in
+        omega (arith, addition_inside i fs all units h, count-of v.items, sum)
+
+    pub record AdditionAhead (i : ℕ) (fs : List (Frame F)) (t : Shape) (all units : List ℕ) : Type 0 where
+      pub of_profile : InProfile t
+      pub covered : IsCovered t
+      pub come : List ℕ
+      pub took : FieldTook c fc ahead between fs come
+      pub leads : Leads c.ruling.fielding (OpenOf c t) (come ++ units) (λ d. alternative (length root + i) d)
+          (Spelt c.code None (choice (alternatives_seen root) (more_alternatives_of ext))) all
+      pub kept : (gs : List (Frame F)) (units' : List ℕ) → units' ≡ [] → FieldTook c fc ahead between gs (come ++ units) → A i gs all units'
+
+    pub addition_ahead : (i : ℕ) (fs : List (Frame F)) (x : Alt) (all units : List ℕ) → x ≡ get_or v.items i x
+        → IsCovered (choice (alternatives_seen root) (more_alternatives_of ext)) → A i fs all units
+        → AdditionAhead i fs (shape_of x.ty) all units
+    addition_ahead i fs x all units e cov h =
+        let inside = addition_inside i fs all units h in
+        let same : shape_of (get_or v.items i x).ty ≡ shape_of x.ty = ap (λ (a : Alt). shape_of a.ty) (sym e) in
+        let us = h.come ++ units in
+        let are : more_alternatives (more_alternatives_of ext) ≡ alternatives_of (map branch_of v.items) = additions_are ext v v.items is refl in
+        let value = value_leads c laws (alternatives_seen root) (more_alternatives_of ext) good (inr i) all us h.index in
+        let chosen : Leads c.ruling.fielding (ChosenOf (λ t. OpenOf c t) (alternatives_of (map branch_of v.items)) i) us (λ d. alternative (count (alternatives_seen root) + i) d) (Spelt c.code None (choice (alternatives_seen root) (more_alternatives_of ext))) all =
+        subst (λ (alts : Alternatives). Leads c.ruling.fielding (ChosenOf (λ t. OpenOf c t) alts i) us (λ d. alternative (count (alternatives_seen root) + i) d) (Spelt c.code None (choice (alternatives_seen root) (more_alternatives_of ext))) all) are value in
+        let tagged : Leads c.ruling.fielding (ChosenOf (λ t. OpenOf c t) (alternatives_of (map branch_of v.items)) i) us (λ d. alternative (length root + i) d) (Spelt c.code None (choice (alternatives_seen root) (more_alternatives_of ext))) all =
+        subst (λ (n : ℕ). Leads c.ruling.fielding (ChosenOf (λ t. OpenOf c t) (alternatives_of (map branch_of v.items)) i) us (λ d. alternative (n + i) d) (Spelt c.code None (choice (alternatives_seen root) (more_alternatives_of ext))) all) (count-of root) chosen in
+        let lead : Leads c.ruling.fielding (OpenOf c (shape_of (get_or v.items i x).ty)) us (λ d. alternative (length root + i) d) (Spelt c.code None (choice (alternatives_seen root) (more_alternatives_of ext))) all =
+        leads_on (open_leads_at_place c v.items i x us inside) tagged in
+        let all_good = subst AreAllOfProfile are (added_good (alternatives_seen root) (more_alternatives_of ext) good) in
+        let none = right_false (some_alternative is_uncovered (alternatives_seen root)) (some_more is_uncovered (more_alternatives_of ext)) (right_false (is_uncovered (choice (alternatives_seen root) (more_alternatives_of ext))) (some_alternative is_uncovered (alternatives_seen root) || some_more is_uncovered (more_alternatives_of ext)) cov) in
+        let none_added : some_alternative is_uncovered (alternatives_of (map branch_of v.items)) ≡ false = rw is at none in
+        record {
+          of_profile = subst InProfile same (good_at v.items i x all_good inside);
+          covered = subst IsCovered same (covered_in v.items i x inside none_added);
+          come = h.come;
+          took = h.inner;
+          leads = subst (λ (t : Shape). Leads c.ruling.fielding (OpenOf c t) us (λ d. alternative (length root + i) d) (Spelt c.code None (choice (alternatives_seen root) (more_alternatives_of ext))) all) same lead;
+          kept = λ gs units' z k. record {
+            come = us;
+            index = rw (z, append-nil us) h.index;
+            inner = k;
+          };
+        }
+
+  -- ---- with the next piece
+
+  pub addition_goes_on : (i : ℕ) (fs : List (Frame F)) (us units : List ℕ) → A i fs us [] → A i fs (us ++ units) units
+  addition_goes_on i fs us units h =
+      let one : Spells c.ruling.fielding (IndexOf c (count (alternatives_seen root)) (added_alternatives (more_alternatives_of ext))) (inr i) us h.come = subst (λ (xs : List ℕ). Spells c.ruling.fielding (IndexOf c (count (alternatives_seen root)) (added_alternatives (more_alternatives_of ext))) (inr i) us xs) (append-nil h.come) h.index in
+      record {
+        come = h.come;
+        index = done_stays units one;
+        inner = h.inner;
+      }
+
+  pub took_added : (r : Option (Frame F)) (x : Frame F) (i : ℕ) (fs : List (Frame F)) (us : List ℕ)
+      → r ≡ Some x → x ≡ frame.Added i → Took c fc ahead between (with_node r fs) (choice (alternatives_seen root) (more_alternatives_of ext)) us
+      → A i fs us []
+  took_added r x i fs us e g h = rw (e, g) at h

@@ -1,6 +1,8 @@
 -- How an open type field that may be cut goes on.
-use Rattle.std.proofs.Common.{◌≡◌, ◌<◌, ◌+◌, inl, inr, ℕ, List, [], ◌∷◌, ◌++◌, length, map, Option, Some, None, refl, sym, ap, subst, ◌∙◌}
+use native.Mathlib.Nat.{mul-le-mul}
+use Rattle.std.proofs.Common.{◌≡◌, ◌<◌, ◌≤◌, ◌+◌, ◌*◌, ◌^◌, arith, inl, inr, ℕ, List, [], ◌∷◌, ◌++◌, length, Option, Some, None, refl, sym, ap, subst, ◌∙◌}
 use mathlib.Core.List.{map-id}
+use Rattle.asn_values.specs.Fits.{max_len}
 use Rattle.asn_rules.specs.Chunks.{Chunk, open_field}
 use Rattle.asn_rules.specs.Frames.{Frame as FieldOf}
 use Rattle.asn_rules.specs.General.{after_first}
@@ -19,8 +21,8 @@ use Rattle.asn_walk.specs.Coding.{Coding}
 use Rattle.asn_walk.specs.Laws.{Laws}
 use Rattle.asn_walk.proofs.Listing.{Going, steps_left}
 use Rattle.asn_walk.proofs.Parts.{fields_part_of}
-use Rattle.asn_walk_feed.specs.Feeding.{Waits, FeedLaws, NextOf, HasBegun}
-use Rattle.asn_walk_feed.specs.OpenFields.{FieldCoding, FieldLaws, OctetTook, OctetsGoOn, FieldTook}
+use Rattle.asn_walk_feed.specs.Feeding.{Waits, FeedLaws, NextOf, HasBegun, StandsAfter}
+use Rattle.asn_walk_feed.specs.OpenFields.{FieldCoding, FieldLaws, OctetTook, OctetsGoOn, FieldTook, KeepsField, StopsAfter}
 use Rattle.asn_walk_feed.specs.Taken.{with_node}
 use Rattle.asn_walk_feed.specs.declared.frame.Frame.{Frame}
 use Rattle.asn_walk_feed.specs.declared.frame.Frame.TheVariants as frame
@@ -158,3 +160,24 @@ module _ {F : Type 0} (c : Coding) (laws : Laws c) (feeds : FeedLaws c) (f : Fie
 
   pub octets_took : (fs : List (Frame F)) (q : Elements F ℕ) (us : List ℕ) → fs ≡ frame.Octets q ∷ [] → R q us [] → FieldTook c f ahead between fs us
   octets_took fs q us e k = rw e k
+
+-- ---- after the field
+
+-- it stops after the field
+pub stands_after : (c : Coding) (units : List ℕ) (left : ℕ) (why : Stop) → length (c.to_units units) ≡ left → StopsAfter left why → StandsAfter c units why
+stands_after c units left (stop.Refused n w) e h = e ∙ sym h
+stands_after c units left stop.Short e h = absurd h
+stands_after c units left stop.Memory e h = tt
+
+-- and keeps nothing
+pub keeps_none : {F : Type 0} (c : Coding) (f : FieldCoding) (ahead : F → Ahead) (between : F → Type 0) (fs : List (Frame F)) (us : List ℕ) (left : ℕ) (why : Stop)
+    → StopsAfter left why → KeepsField c f ahead between fs us why
+keeps_none c f ahead between fs us left (stop.Refused n w) h = tt
+keeps_none c f ahead between fs us left stop.Short h = absurd h
+keeps_none c f ahead between fs us left stop.Memory h = tt
+
+-- the units of a content can be counted
+pub few_units : (c : Coding) (laws : Laws c) (ticks : ℕ) → ticks ≡ 0 → (n : ℕ) (os : List ℕ) → n ≡ c.octet_units * length os → length os ≤ max_len → ticks + n < 2 ^ 64
+few_units c laws ticks z n os e h =
+    let most : c.octet_units * length os ≤ 8 * max_len = mul-le-mul laws.few h in
+    omega (arith, z, e, most)

@@ -1,7 +1,6 @@
 -- How a list that may be cut goes on, as the program holds it.
-use Rattle.std.proofs.Common.{◌≡◌, ◌<◌, ◌+◌, inl, inr, ℕ, zero, suc, List, [], ◌∷◌, ◌++◌, length, map, append-nil, append_assoc, Option, Some, None, refl, sym, ap, subst, ◌∙◌, arith}
+use Rattle.std.proofs.Common.{◌≡◌, ◌<◌, ◌+◌, ℕ, List, [], ◌∷◌, ◌++◌, length, map, Option, Some, None, refl, sym, ◌∙◌}
 use Rattle.std.specs.Prelude.{IfSome, IsNone}
-use Rattle.std.proofs.lemmas.List.{map_push}
 use Rattle.asn_values.specs.Datum.{Datum}
 use Rattle.asn_values.specs.Shape.{Shape, SizeRange, sequence_of}
 use Rattle.asn_values.specs.Profile.{InProfile}
@@ -14,13 +13,13 @@ use Rattle.asn_rules.specs.Listed.{Spelt}
 use Rattle.asn_rules.specs.Stops.{Stops}
 use Rattle.asn_rules.specs.declared.stop.Stop.{Stop}
 use Rattle.asn_rules.specs.declared.stop.Stop.TheVariants as stop
-use Rattle.asn_rules.proofs.Answer.Answers.{done_stays}
 use Rattle.asn_rules.proofs.Components.Listed.{spelt_inhabited, spelt_lawful}
 use Rattle.asn_walk.specs.Ahead.{Ahead}
 use Rattle.asn_walk.specs.Coding.{Coding, ListingOf}
 use Rattle.asn_walk.specs.Laws.{Laws}
-use Rattle.asn_walk.proofs.Listing.{Going, going_ends, steps_left, list_size}
+use Rattle.asn_walk.proofs.Listing.{steps_left, list_size}
 use Rattle.asn_walk_feed.specs.Feeding.{Waits, FeedLaws, NextOf, HasBegun}
+use Rattle.asn_walk_feed.specs.OpenFields.{FieldCoding}
 use Rattle.asn_walk_feed.specs.Taken.{Took, ListGoesOn, with_node}
 use Rattle.asn_walk_feed.specs.declared.frame.Frame.TheVariants as frame
 use Rattle.asn_walk_feed.specs.declared.frame.Frame.{Frame}
@@ -29,7 +28,7 @@ use Rattle.asn_walk_feed.proofs.ItemsRead as items
 use Rattle.asn_walk_feed.proofs.ItemsRead.{LengthAhead}
 use Rattle.asn_walk_feed.proofs.ListsRead.{list_begins}
 
-module _ {F : Type 0} (c : Coding) (laws : Laws c) (feeds : FeedLaws c) (ahead : F → Ahead) (between : F → Type 0) (t : Shape) (s : SizeRange) (good : InProfile (sequence_of t s)) where
+module _ {F : Type 0} (c : Coding) (laws : Laws c) (feeds : FeedLaws c) (fc : FieldCoding) (ahead : F → Ahead) (between : F → Type 0) (t : Shape) (s : SizeRange) (good : InProfile (sequence_of t s)) where
   abbrev L : Datum → List Chunk → Type 0
   L = Spelt c.code None t
 
@@ -37,11 +36,11 @@ module _ {F : Type 0} (c : Coding) (laws : Laws c) (feeds : FeedLaws c) (ahead :
   T = ListingOf c s (Spelt c.code None t)
 
   abbrev R : Elements F Value → List (Frame F) → List ℕ → List ℕ → Type 0
-  R q fs all units = ListGoesOn c ahead between t s q fs all units
+  R q fs all units = ListGoesOn c fc ahead between t s q fs all units
 
   -- what has come of an element
   abbrev E : List ℕ → List (Frame F) → List ℕ → Type 0
-  E b fs come = (b ≡ []) × Took c ahead between fs t come
+  E b fs come = (b ≡ []) × Took c fc ahead between fs t come
 
   pub none_took : (b : List ℕ) → b ≡ [] → E b [] []
   none_took b e = (e, refl)
@@ -91,9 +90,9 @@ module _ {F : Type 0} (c : Coding) (laws : Laws c) (feeds : FeedLaws c) (ahead :
 
   pub record ElementAhead (q : Elements F Value) (fs : List (Frame F)) (all units : List ℕ) : Type 0 where
     pub come : List ℕ
-    pub took : Took c ahead between fs t come
+    pub took : Took c fc ahead between fs t come
     pub stops : (why : Stop) → Stops c.ruling.fielding L (come ++ units) why → Stops c.ruling.fielding T all why
-    pub kept : (gs : List (Frame F)) (units' : List ℕ) → units' ≡ [] → Took c ahead between gs t (come ++ units) → R q gs all units'
+    pub kept : (gs : List (Frame F)) (units' : List ℕ) → units' ≡ [] → Took c fc ahead between gs t (come ++ units) → R q gs all units'
     pub more : (p : Elements F Value) (gs : List (Frame F)) (v : Value) (r : List ℕ) → p.left + 1 ≡ q.left → p.fragments ≡ q.fragments → p.next_part ≡ q.next_part
         → p.elements.items ≡ q.elements.items ++ v ∷ [] → gs ≡ [] → Spells c.ruling.fielding L (datum_of v) (come ++ units) r → R p gs all r
 
@@ -114,15 +113,15 @@ module _ {F : Type 0} (c : Coding) (laws : Laws c) (feeds : FeedLaws c) (ahead :
   list_goes_on = items.items_go_on c laws feeds ahead between L T datum_of some law E none_took
 
   pub took_elements : (r : Option (Frame F)) (f : Frame F) (q : Elements F Value) (fs : List (Frame F)) (us : List ℕ) → r ≡ Some f → f ≡ frame.Elements q
-      → Took c ahead between (with_node r fs) (sequence_of t s) us → R q fs us []
+      → Took c fc ahead between (with_node r fs) (sequence_of t s) us → R q fs us []
   took_elements r f q fs us e g h = rw (e, g) at h
 
   pub took_none : (r : Option (Frame F)) (fs : List (Frame F)) (us : List ℕ) → r ≡ None → fs ≡ []
-      → Took c ahead between (with_node r fs) (sequence_of t s) us → us ≡ []
+      → Took c fc ahead between (with_node r fs) (sequence_of t s) us → us ≡ []
   took_none r fs us e g h = rw (e, g) at h
 
   pub took_start : (r : Option (Frame F)) (f : Frame F) (b : List ℕ) (fs : List (Frame F)) (us : List ℕ) → r ≡ Some f → f ≡ frame.Start b
-      → Took c ahead between (with_node r fs) (sequence_of t s) us → (fs ≡ []) × (c.to_units b ≡ us)
+      → Took c fc ahead between (with_node r fs) (sequence_of t s) us → (fs ≡ []) × (c.to_units b ≡ us)
   took_start r f b [] us e g h = (let w : Waits c (c.list_start s) b us = rw (e, g) at h in (refl, w.come))
   took_start r f b (x ∷ fs) us e g h = (let z : ⊥ = rw (e, g) at h in absurd z)
 

@@ -7,3 +7,4 @@ pub mod Leaves
 pub mod ListsRead
 pub mod RootsRead
 pub mod Scalars
+pub mod Sizes

@@ -33,6 +33,7 @@ use Rattle.asn_walk.proofs.ComponentsRead.{ReadUpTo, ReadNext, read_starts, bit_
 use Rattle.asn_walk.proofs.Widths.{next_part, no_part, demand_of_part}
 use Rattle.asn_walk.proofs.SequencesRead.{components_stop, none_added}
 use Rattle.asn_walk_feed.specs.Feeding.{Waits}
+use Rattle.asn_walk_feed.specs.OpenFields.{FieldCoding}
 use Rattle.asn_walk_feed.specs.Taken.{Took, with_node}
 use Rattle.asn_walk_feed.specs.Roots.{parts_in, IsPresent, OtherTook, DemandTook, NextTook}
 use Rattle.asn_walk_feed.specs.Taken.{is_uncovered, IsCovered, RootReached, ComponentTook, KeepsOther, KeepsComponent, KeepsFrames}
@@ -81,27 +82,27 @@ presence_told p left after bitmap x f g = record {
   bit = λ e. (g e).1 ∙ ap (λ (i : ℕ). bitmap / 2 ^ i % 2) (let s : after + 1 ≡ left = (g e).0 in omega (arith, s));
 }
 
-module _ {F : Type 0} (c : Coding) (laws : Laws c) (ahead : F → Ahead) (between : F → Type 0) (root : Fields) (more : MoreFields) (good : InProfile (sequence root more)) where
+module _ {F : Type 0} (c : Coding) (laws : Laws c) (fc : FieldCoding) (ahead : F → Ahead) (between : F → Type 0) (root : Fields) (more : MoreFields) (good : InProfile (sequence root more)) where
   abbrev n : ℕ
   n = bitmap_length root
 
   abbrev R : Components → List (Frame F) → List ℕ → List ℕ → Type 0
-  R q fs all units = RootReached c ahead between root more q fs all units
+  R q fs all units = RootReached c fc ahead between root more q fs all units
 
   abbrev P : List (Frame F) → Part → Bool → List ℕ → Type 0
-  P fs p present us = ComponentTook c ahead between fs p present us
+  P fs p present us = ComponentTook c fc ahead between fs p present us
 
   -- nothing has come of a component of which no node has begun
   nothing_took : (p : Part) (present : Bool) → P [] p present []
   nothing_took p false = (refl, refl)
   nothing_took p true = go p.demand
     where
-      go : (d : Demand) → DemandTook {F = F} c [] (λ t us. Took {F = F} c ahead between [] t us) d p.shape []
+      go : (d : Demand) → DemandTook {F = F} c [] (λ t us. Took {F = F} c fc ahead between [] t us) d p.shape []
       go must = refl
       go optional = refl
       go (default d) = refl
 
-  next_took : (rest : List Part) (left bitmap : ℕ) → NextTook {F = F} c [] (λ t us. Took {F = F} c ahead between [] t us) rest left bitmap []
+  next_took : (rest : List Part) (left bitmap : ℕ) → NextTook {F = F} c [] (λ t us. Took {F = F} c fc ahead between [] t us) rest left bitmap []
   next_took [] left bitmap = (refl, refl)
   next_took (p ∷ ps) left bitmap = λ present told. nothing_took p present
 
@@ -220,21 +221,21 @@ module _ {F : Type 0} (c : Coding) (laws : Laws c) (ahead : F → Ahead) (betwee
   -- ---- the node
 
   pub took_components : (r : Option (Frame F)) (f : Frame F) (q : Components) (fs : List (Frame F)) (us : List ℕ)
-      → r ≡ Some f → f ≡ frame.Components q → Took c ahead between (with_node r fs) (sequence root more) us → R q fs us []
+      → r ≡ Some f → f ≡ frame.Components q → Took c fc ahead between (with_node r fs) (sequence root more) us → R q fs us []
   took_components r f q fs us e g h = rw (e, g) at h
 
   pub sequence_none : (r : Option (Frame F)) (fs : List (Frame F)) (us : List ℕ) → r ≡ None → fs ≡ []
-      → Took c ahead between (with_node r fs) (sequence root more) us → us ≡ []
+      → Took c fc ahead between (with_node r fs) (sequence root more) us → us ≡ []
   sequence_none r fs us e g h = rw (e, g) at h
 
   pub sequence_start : (r : Option (Frame F)) (f : Frame F) (b : List ℕ) (fs : List (Frame F)) (us : List ℕ) → r ≡ Some f
-      → f ≡ frame.Start b → Took c ahead between (with_node r fs) (sequence root more) us
+      → f ≡ frame.Start b → Took c fc ahead between (with_node r fs) (sequence root more) us
       → (fs ≡ []) × (Waits c (PreambleOf c n (added more)) b us)
   sequence_start r f b [] us e g h = (let w : Waits c (PreambleOf c n (added more)) b us = rw (e, g) at h in (refl, w))
   sequence_start r f b (x ∷ fs) us e g h = (let z : ⊥ = rw (e, g) at h in absurd z)
 
   pub sequence_took : (fs : List (Frame F)) (b us : List ℕ) → fs ≡ frame.Start b ∷ [] → Waits c (PreambleOf c n (added more)) b us
-      → Took c ahead between fs (sequence root more) us
+      → Took c fc ahead between fs (sequence root more) us
   sequence_took fs b us e w = rw e w
 
 -- ---- without extension additions
@@ -256,9 +257,9 @@ no_entries root closed cov = refl
 no_entries root (marked no_fields) cov = refl
 no_entries root (marked (field name demand t fs)) cov = absurd (true≢false cov)
 
-module _ {F : Type 0} (c : Coding) (laws : Laws c) (ahead : F → Ahead) (between : F → Type 0) (root : Fields) (more : MoreFields) (good : InProfile (sequence root more)) (cov : IsCovered (sequence root more)) where
+module _ {F : Type 0} (c : Coding) (laws : Laws c) (fc : FieldCoding) (ahead : F → Ahead) (between : F → Type 0) (root : Fields) (more : MoreFields) (good : InProfile (sequence root more)) (cov : IsCovered (sequence root more)) where
   pub root_ends : (q : Components) (fs : List (Frame F)) (all units : List ℕ)
-      → drop (length q.entries.items) (parts_in root) ≡ [] → RootReached c ahead between root more q fs all units
+      → drop (length q.entries.items) (parts_in root) ≡ [] → RootReached c fc ahead between root more q fs all units
       → Spells c.ruling.fielding (Spelt c.code None (sequence root more)) (components (components_of (entries_seen q.entries.items))) all units
   root_ends q fs all units e h =
       let n = bitmap_length root in
@@ -276,7 +277,7 @@ module _ {F : Type 0} (c : Coding) (laws : Laws c) (ahead : F → Ahead) (betwee
       subst (λ (es : List (Option Datum)). Spells c.ruling.fielding (Spelt c.code None (sequence root more)) (components (components_of es)) all units) none done
 
   pub root_emptied : (q : Components) (fs : List (Frame F)) (all units : List ℕ)
-      → drop (length q.entries.items) (parts_in root) ≡ [] → RootReached c ahead between root more q fs all units → fs ≡ []
+      → drop (length q.entries.items) (parts_in root) ≡ [] → RootReached c fc ahead between root more q fs all units → fs ≡ []
   root_emptied q fs all units e h =
       let inner : (fs ≡ []) × (h.come ≡ []) = rw e at h.inner in
       inner.0
@@ -312,66 +313,66 @@ pub plain_demand : (need : Need) → (need ≡ needs.Must) ⊎ (need ≡ needs.O
 plain_demand need (inl e) = inl (ap demand_of e)
 plain_demand need (inr e) = inr (ap demand_of e)
 
-module _ {F : Type 0} (c : Coding) (ahead : F → Ahead) (between : F → Type 0) (x : Field) (present : Bool) (fs : List (Frame F)) (us : List ℕ) where
+module _ {F : Type 0} (c : Coding) (fc : FieldCoding) (ahead : F → Ahead) (between : F → Type 0) (x : Field) (present : Bool) (fs : List (Frame F)) (us : List ℕ) where
   -- it is absent
-  pub absent_took : present ≡ false → ComponentTook c ahead between fs (part_of_field x) present us → (fs ≡ []) × (us ≡ [])
+  pub absent_took : present ≡ false → ComponentTook c fc ahead between fs (part_of_field x) present us → (fs ≡ []) × (us ≡ [])
   absent_took e h = rw e at h
 
   module _ (there : present ≡ true) where
-    demand_took : DemandTook c fs (λ t vs. Took c ahead between fs t vs) (part_of_field x).demand (part_of_field x).shape us
-        → ComponentTook c ahead between fs (part_of_field x) present us
+    demand_took : DemandTook c fs (λ t vs. Took c fc ahead between fs t vs) (part_of_field x).demand (part_of_field x).shape us
+        → ComponentTook c fc ahead between fs (part_of_field x) present us
     demand_took h = rw there h
 
-    took_demand : ComponentTook c ahead between fs (part_of_field x) present us
-        → DemandTook c fs (λ t vs. Took c ahead between fs t vs) (part_of_field x).demand (part_of_field x).shape us
+    took_demand : ComponentTook c fc ahead between fs (part_of_field x) present us
+        → DemandTook c fs (λ t vs. Took c fc ahead between fs t vs) (part_of_field x).demand (part_of_field x).shape us
     took_demand h = rw there at h
 
     -- it has a DEFAULT
-    pub took_other : (v : Value) → x.need ≡ needs.Default v → ComponentTook c ahead between fs (part_of_field x) present us
+    pub took_other : (v : Value) → x.need ≡ needs.Default v → ComponentTook c fc ahead between fs (part_of_field x) present us
         → OtherTook c fs (datum_of v) (shape_of x.ty) us
     took_other v e h =
         let d : (part_of_field x).demand ≡ default (datum_of v) = demand_of_part x ∙ ap demand_of e in
         let k = took_demand h in
-        let one : DemandTook c fs (λ t vs. Took c ahead between fs t vs) (default (datum_of v)) (part_of_field x).shape us = subst (λ (z : Demand). DemandTook c fs (λ t vs. Took c ahead between fs t vs) z (part_of_field x).shape us) d k in
+        let one : DemandTook c fs (λ t vs. Took c fc ahead between fs t vs) (default (datum_of v)) (part_of_field x).shape us = subst (λ (z : Demand). DemandTook c fs (λ t vs. Took c fc ahead between fs t vs) z (part_of_field x).shape us) d k in
         subst (λ (t : Shape). OtherTook c fs (datum_of v) t us) (shape_of_part x) one
 
     pub other_took : (v : Value) → x.need ≡ needs.Default v → OtherTook c fs (datum_of v) (shape_of x.ty) us
-        → ComponentTook c ahead between fs (part_of_field x) present us
+        → ComponentTook c fc ahead between fs (part_of_field x) present us
     other_took v e h =
         let d : (part_of_field x).demand ≡ default (datum_of v) = demand_of_part x ∙ ap demand_of e in
-        let one : DemandTook c fs (λ t vs. Took c ahead between fs t vs) (default (datum_of v)) (part_of_field x).shape us = subst (λ (t : Shape). OtherTook c fs (datum_of v) t us) (sym (shape_of_part x)) h in
-        demand_took (subst (λ (z : Demand). DemandTook c fs (λ t vs. Took c ahead between fs t vs) z (part_of_field x).shape us) (sym d) one)
+        let one : DemandTook c fs (λ t vs. Took c fc ahead between fs t vs) (default (datum_of v)) (part_of_field x).shape us = subst (λ (t : Shape). OtherTook c fs (datum_of v) t us) (sym (shape_of_part x)) h in
+        demand_took (subst (λ (z : Demand). DemandTook c fs (λ t vs. Took c fc ahead between fs t vs) z (part_of_field x).shape us) (sym d) one)
 
     -- it has none
-    pub took_value : (demand_of x.need ≡ must) ⊎ (demand_of x.need ≡ optional) → ComponentTook c ahead between fs (part_of_field x) present us
-        → Took c ahead between fs (shape_of x.ty) us
-    took_value w h = subst (λ (t : Shape). Took c ahead between fs t us) (shape_of_part x) (go w)
+    pub took_value : (demand_of x.need ≡ must) ⊎ (demand_of x.need ≡ optional) → ComponentTook c fc ahead between fs (part_of_field x) present us
+        → Took c fc ahead between fs (shape_of x.ty) us
+    took_value w h = subst (λ (t : Shape). Took c fc ahead between fs t us) (shape_of_part x) (go w)
       where
-        go : (demand_of x.need ≡ must) ⊎ (demand_of x.need ≡ optional) → Took c ahead between fs (part_of_field x).shape us
-        go (inl e) = subst (λ (z : Demand). DemandTook c fs (λ t vs. Took c ahead between fs t vs) z (part_of_field x).shape us) (demand_of_part x ∙ e) (took_demand h)
-        go (inr e) = subst (λ (z : Demand). DemandTook c fs (λ t vs. Took c ahead between fs t vs) z (part_of_field x).shape us) (demand_of_part x ∙ e) (took_demand h)
+        go : (demand_of x.need ≡ must) ⊎ (demand_of x.need ≡ optional) → Took c fc ahead between fs (part_of_field x).shape us
+        go (inl e) = subst (λ (z : Demand). DemandTook c fs (λ t vs. Took c fc ahead between fs t vs) z (part_of_field x).shape us) (demand_of_part x ∙ e) (took_demand h)
+        go (inr e) = subst (λ (z : Demand). DemandTook c fs (λ t vs. Took c fc ahead between fs t vs) z (part_of_field x).shape us) (demand_of_part x ∙ e) (took_demand h)
 
-    pub value_took : (demand_of x.need ≡ must) ⊎ (demand_of x.need ≡ optional) → Took c ahead between fs (shape_of x.ty) us
-        → ComponentTook c ahead between fs (part_of_field x) present us
+    pub value_took : (demand_of x.need ≡ must) ⊎ (demand_of x.need ≡ optional) → Took c fc ahead between fs (shape_of x.ty) us
+        → ComponentTook c fc ahead between fs (part_of_field x) present us
     value_took w h = demand_took (go w)
       where
-        one : Took c ahead between fs (part_of_field x).shape us
-        one = subst (λ (t : Shape). Took c ahead between fs t us) (sym (shape_of_part x)) h
+        one : Took c fc ahead between fs (part_of_field x).shape us
+        one = subst (λ (t : Shape). Took c fc ahead between fs t us) (sym (shape_of_part x)) h
 
         go : (demand_of x.need ≡ must) ⊎ (demand_of x.need ≡ optional)
-            → DemandTook c fs (λ t vs. Took c ahead between fs t vs) (part_of_field x).demand (part_of_field x).shape us
-        go (inl e) = subst (λ (z : Demand). DemandTook c fs (λ t vs. Took c ahead between fs t vs) z (part_of_field x).shape us) (sym (demand_of_part x ∙ e)) one
-        go (inr e) = subst (λ (z : Demand). DemandTook c fs (λ t vs. Took c ahead between fs t vs) z (part_of_field x).shape us) (sym (demand_of_part x ∙ e)) one
+            → DemandTook c fs (λ t vs. Took c fc ahead between fs t vs) (part_of_field x).demand (part_of_field x).shape us
+        go (inl e) = subst (λ (z : Demand). DemandTook c fs (λ t vs. Took c fc ahead between fs t vs) z (part_of_field x).shape us) (sym (demand_of_part x ∙ e)) one
+        go (inr e) = subst (λ (z : Demand). DemandTook c fs (λ t vs. Took c fc ahead between fs t vs) z (part_of_field x).shape us) (sym (demand_of_part x ∙ e)) one
 
   -- where more units are wanted
   pub other_kept : (why : Stop) → present ≡ true → (v : Value) → x.need ≡ needs.Default v
-      → KeepsOther c fs (datum_of v) (shape_of x.ty) us why → KeepsComponent c ahead between fs (part_of_field x) present us why
+      → KeepsOther c fs (datum_of v) (shape_of x.ty) us why → KeepsComponent c fc ahead between fs (part_of_field x) present us why
   other_kept (stop.Refused left w) e v n h = tt
   other_kept stop.Short e v n h = other_took e v n h
   other_kept stop.Memory e v n h = tt
 
   pub value_kept : (why : Stop) → present ≡ true → (demand_of x.need ≡ must) ⊎ (demand_of x.need ≡ optional)
-      → KeepsFrames c ahead between fs (shape_of x.ty) us why → KeepsComponent c ahead between fs (part_of_field x) present us why
+      → KeepsFrames c fc ahead between fs (shape_of x.ty) us why → KeepsComponent c fc ahead between fs (part_of_field x) present us why
   value_kept (stop.Refused left w) e n h = tt
   value_kept stop.Short e n h = value_took e n h
   value_kept stop.Memory e n h = tt

@@ -8,6 +8,7 @@ use Rattle.asn_walk.specs.Ahead.{Ahead}
 use Rattle.asn_walk.specs.Coding.{Coding}
 use Rattle.asn_walk_feed.specs.Feeding.{Waits, FeedLaws, IsScalar}
 use Rattle.asn_walk_feed.specs.Roots.{OtherTook}
+use Rattle.asn_walk_feed.specs.OpenFields.{FieldCoding}
 use Rattle.asn_walk_feed.specs.Taken.{Took, IsStart, begun_of, with_node}
 use Rattle.asn_walk_feed.specs.declared.frame.Frame.{Frame}
 use Rattle.asn_walk_feed.specs.declared.frame.Frame.TheVariants as frame
@@ -18,12 +19,12 @@ pub record ScalarNode {F : Type 0} (c : Coding) (t : Shape) (r : Option (Frame F
   pub waits : Waits c (Spelt c.code None t) (begun_of r) (c.to_units (begun_of r))
   pub come : c.to_units (begun_of r) ≡ us
 
-module _ {F : Type 0} (c : Coding) (feeds : FeedLaws c) (ahead : F → Ahead) (between : F → Type 0) where
+module _ {F : Type 0} (c : Coding) (feeds : FeedLaws c) (fc : FieldCoding) (ahead : F → Ahead) (between : F → Type 0) where
   begun : (t : Shape) (b : List ℕ) (us : List ℕ) → Waits c (Spelt c.code None t) b us → ScalarNode {F = F} c t (Some (frame.Start b)) us
   begun t b us h = record { start = tt; waits = record { come = refl; at_unit = h.at_unit; begins = h.begins }; come = h.come }
 
   pub scalar_node : (t : Shape) → IsScalar t → (r : Option (Frame F)) (new : List (Frame F)) (us : List ℕ) → (IsNone r → new ≡ [])
-      → Took c ahead between (with_node r new) t us → ScalarNode c t r us
+      → Took c fc ahead between (with_node r new) t us → ScalarNode c t r us
   scalar_node t sc None new us e h =
       let none : us ≡ [] = rw (e refl) at h in
       record { start = tt; waits = record { come = refl; at_unit = feeds.begin; begins = inl refl }; come = feeds.none ∙ sym none }
@@ -38,15 +39,19 @@ module _ {F : Type 0} (c : Coding) (feeds : FeedLaws c) (ahead : F → Ahead) (b
   scalar_node (enumerated root more) sc (Some (frame.Elements q)) new us e h = absurd h
   scalar_node boolean sc (Some (frame.Components q)) new us e h = absurd h
   scalar_node boolean sc (Some (frame.Chosen i)) new us e h = absurd h
+  scalar_node boolean sc (Some (frame.Added i)) new us e h = absurd h
   scalar_node boolean sc (Some (frame.Octets q)) new us e h = absurd h
   scalar_node null sc (Some (frame.Components q)) new us e h = absurd h
   scalar_node null sc (Some (frame.Chosen i)) new us e h = absurd h
+  scalar_node null sc (Some (frame.Added i)) new us e h = absurd h
   scalar_node null sc (Some (frame.Octets q)) new us e h = absurd h
   scalar_node (integer r) sc (Some (frame.Components q)) new us e h = absurd h
   scalar_node (integer r) sc (Some (frame.Chosen i)) new us e h = absurd h
+  scalar_node (integer r) sc (Some (frame.Added i)) new us e h = absurd h
   scalar_node (integer r) sc (Some (frame.Octets q)) new us e h = absurd h
   scalar_node (enumerated root more) sc (Some (frame.Components q)) new us e h = absurd h
   scalar_node (enumerated root more) sc (Some (frame.Chosen i)) new us e h = absurd h
+  scalar_node (enumerated root more) sc (Some (frame.Added i)) new us e h = absurd h
   scalar_node (enumerated root more) sc (Some (frame.Octets q)) new us e h = absurd h
   scalar_node _ sc _ new us e h = absurd sc
 
@@ -69,4 +74,5 @@ other_node c feeds d t (Some (frame.Start b)) (f ∷ fs) us e h = absurd h
 other_node c feeds d t (Some (frame.Elements q)) new us e h = absurd h
 other_node c feeds d t (Some (frame.Components q)) new us e h = absurd h
 other_node c feeds d t (Some (frame.Chosen i)) new us e h = absurd h
+other_node c feeds d t (Some (frame.Added i)) new us e h = absurd h
 other_node c feeds d t (Some (frame.Octets q)) new us e h = absurd h

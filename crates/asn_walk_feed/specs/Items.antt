@@ -1,6 +1,6 @@
 -- How items that stand in fragments go on where a reader of them was cut: those of a list, and the octets of an open
 -- type field.
-use Rattle.std.specs.Prelude.{◌≡◌, ◌+◌, ℕ, zero, suc, List, [], ◌++◌, map, Option, Some}
+use Rattle.std.specs.Prelude.{◌≡◌, ◌+◌, ℕ, zero, suc, List, [], ◌++◌, map, Some}
 use Rattle.asn_rules.specs.Chunks.{Chunk}
 use Rattle.asn_walk.specs.Ahead.{Ahead, Next}
 use Rattle.asn_walk.specs.Coding.{Coding}

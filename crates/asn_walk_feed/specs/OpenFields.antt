@@ -1,6 +1,6 @@
 -- How an open type field goes on where a reader of it was cut: by its octets, of which the last is the end of the value
 -- that they hold.
-use Rattle.std.specs.Prelude.{◌≡◌, ◌∷◌, ◌++◌, ℕ, List, [], ⊤}
+use Rattle.std.specs.Prelude.{◌≡◌, ◌∷◌, ◌++◌, ℕ, List, [], length, ⊤}
 use Rattle.asn_rules.specs.Chunks.{Chunk, open_field}
 use Rattle.asn_rules.specs.Forks.{Same}
 use Rattle.asn_rules.specs.Frames.{Frame as FieldOf}
@@ -120,3 +120,22 @@ abbrev pub StopsFieldOn : {F : Type 0} → Coding → FieldCoding → (F → Ahe
     → List ℕ → Stop → Type 0
 StopsFieldOn c f ahead between fs t old why = (us : List ℕ) → FieldTook c f ahead between fs us
     → Stops c.ruling.fielding (OpenOf c t) (us ++ c.to_units old) why
+
+-- ---- the value that all octets hold
+
+-- in front of whatever units these octets stand as an open type field, a reader of it reads the value
+abbrev pub HoldsValue : Coding → Shape → List ℕ → Datum → Type 0
+HoldsValue c t octets v = (us r : List ℕ) → Spells c.ruling.fielding (FieldOf c.ruling.fielding open_field) octets us r
+    → Spells c.ruling.fielding (OpenOf c t) v us r
+
+-- or stops, where this many units follow
+abbrev pub HoldsNone : Coding → Shape → List ℕ → ℕ → Stop → Type 0
+HoldsNone c t octets left why = (us r : List ℕ)
+    → Spells c.ruling.fielding (FieldOf c.ruling.fielding open_field) octets us r → length r ≡ left
+    → Stops c.ruling.fielding (OpenOf c t) us why
+
+-- it stops after the field
+abbrev pub StopsAfter : ℕ → Stop → Type 0
+StopsAfter left (stop.Refused n why) = n ≡ left
+StopsAfter left stop.Short = ⊥
+StopsAfter left stop.Memory = ⊤

@@ -1,11 +1,11 @@
 -- Where a reader of messages in pieces was cut: which units brought it there.
-use Rattle.std.specs.Prelude.{◌≡◌, ◌+◌, ℕ, zero, suc, Bool, true, false, List, [], ◌∷◌, ◌++◌, map, Option, Some, None, ⊤}
+use Rattle.std.specs.Prelude.{◌≡◌, ℕ, Bool, true, false, List, [], ◌∷◌, ◌++◌, map, Option, Some, None, ⊤}
+use mathlib.Core.Logic.{inl, inr}
 use Rattle.asn_values.specs.Datum.{Datum}
 use Rattle.asn_values.specs.Profile.{InProfile, somewhere}
 use Rattle.asn_values.specs.declared.value.Value.{Value}
-use Rattle.asn_values.specs.Shape.{SizeRange, Shape, boolean, null, integer, enumerated, sequence, sequence_of, choice, Fields, no_fields, MoreFields, closed, marked, Alternatives, no_alternatives, MoreAlternatives, closed_choice, marked_choice, count}
+use Rattle.asn_values.specs.Shape.{SizeRange, Shape, boolean, null, integer, enumerated, sequence, sequence_of, choice, Fields, no_fields, MoreFields, closed, marked, Alternatives, MoreAlternatives, count}
 use Rattle.asn_values.specs.View.{Part, datum_of}
-use Rattle.asn_rules.specs.Chunks.{Chunk}
 use Rattle.asn_rules.specs.Languages.{Spells}
 use Rattle.asn_rules.specs.Listed.{Spelt, Entry, bitmap_length}
 use Rattle.asn_rules.specs.Stops.{Stops}
@@ -16,6 +16,7 @@ use Rattle.asn_walk.specs.Coding.{Coding, ListingOf, PreambleOf, added, IndexOf,
 use Rattle.asn_walk_feed.specs.Chosen.{AlternativeTook, ChoiceGoesOn}
 use Rattle.asn_walk_feed.specs.Feeding.{NextOf, Waits}
 use Rattle.asn_walk_feed.specs.Items.{GoesOn, NextPart}
+use Rattle.asn_walk_feed.specs.OpenFields.{FieldCoding, FieldTook}
 use Rattle.asn_walk_feed.specs.Roots.{OtherTook, EntryTook, NextTook, RootGoesOn}
 use Rattle.asn_walk_feed.specs.declared.frame.Components.{Components}
 use Rattle.asn_walk_feed.specs.declared.frame.Elements.{Elements}
@@ -33,8 +34,7 @@ is_uncovered (enumerated root more) = false
 is_uncovered (sequence root closed) = false
 is_uncovered (sequence root (marked no_fields)) = false
 is_uncovered (sequence_of t s) = false
-is_uncovered (choice root closed_choice) = false
-is_uncovered (choice root (marked_choice no_alternatives)) = false
+is_uncovered (choice root more) = false
 is_uncovered _ = true
 
 -- none is
@@ -44,123 +44,135 @@ IsCovered t = somewhere is_uncovered t ≡ false
 -- ---- a value
 
 -- the units us are those that have come of a value of the type, of which these nodes have begun
-abbrev pub Took : {F : Type 0} → Coding → (F → Ahead) → (F → Type 0) → List (Frame F) → Shape → List ℕ → Type 0
-Took c ahead between [] t us = us ≡ []
-Took c ahead between (frame.Start b ∷ []) (sequence_of t s) us = Waits c (c.list_start s) b us
-Took c ahead between (frame.Start b ∷ []) (sequence root more) us =
+abbrev pub Took : {F : Type 0} → Coding → FieldCoding → (F → Ahead) → (F → Type 0) → List (Frame F) → Shape → List ℕ
+    → Type 0
+Took c fc ahead between [] t us = us ≡ []
+Took c fc ahead between (frame.Start b ∷ []) (sequence_of t s) us = Waits c (c.list_start s) b us
+Took c fc ahead between (frame.Start b ∷ []) (sequence root more) us =
     Waits c (PreambleOf c (bitmap_length root) (added more)) b us
-Took c ahead between (frame.Start b ∷ []) (choice root more) us =
+Took c fc ahead between (frame.Start b ∷ []) (choice root more) us =
     Waits c (IndexOf c (count root) (added_alternatives more)) b us
-Took c ahead between (frame.Start b ∷ []) t us = Waits c (Spelt c.code None t) b us
-Took c ahead between (frame.Start b ∷ f ∷ fs) t us = ⊥
-Took c ahead between (frame.Elements q ∷ fs) (sequence_of t s) us =
+Took c fc ahead between (frame.Start b ∷ []) t us = Waits c (Spelt c.code None t) b us
+Took c fc ahead between (frame.Start b ∷ f ∷ fs) t us = ⊥
+Took c fc ahead between (frame.Elements q ∷ fs) (sequence_of t s) us =
     GoesOn c ahead between (Spelt c.code None t) (ListingOf c s (Spelt c.code None t)) datum_of q (NextPart q.left fs
     (λ come. Waits c (NextOf (ahead q.fragments)) q.next_part come)
-    (λ come. (q.next_part ≡ []) × Took c ahead between fs t come)) us []
-Took c ahead between (frame.Elements q ∷ fs) t us = ⊥
-Took c ahead between (frame.Components q ∷ fs) (sequence root more) us =
+    (λ come. (q.next_part ≡ []) × Took c fc ahead between fs t come)) us []
+Took c fc ahead between (frame.Elements q ∷ fs) t us = ⊥
+Took c fc ahead between (frame.Components q ∷ fs) (sequence root more) us =
     RootGoesOn c root more q
-    (λ rest come. NextTook c fs (λ t vs. Took c ahead between fs t vs) rest q.presence.left q.presence.bitmap come)
+    (λ rest come. NextTook c fs (λ t vs. Took c fc ahead between fs t vs) rest q.presence.left q.presence.bitmap come)
     us []
-Took c ahead between (frame.Components q ∷ fs) t us = ⊥
-Took c ahead between (frame.Chosen i ∷ fs) (choice root more) us =
-    ChoiceGoesOn c root more i (λ come. AlternativeTook (λ t vs. Took c ahead between fs t vs) root i come) us []
-Took c ahead between (frame.Chosen i ∷ fs) t us = ⊥
-Took c ahead between (frame.Octets q ∷ fs) t us = ⊥
+Took c fc ahead between (frame.Components q ∷ fs) t us = ⊥
+Took c fc ahead between (frame.Chosen i ∷ fs) (choice root more) us =
+    ChoiceGoesOn c root more (inl i) (λ come. AlternativeTook (λ t vs. Took c fc ahead between fs t vs) root i come) us
+    []
+Took c fc ahead between (frame.Chosen i ∷ fs) t us = ⊥
+Took c fc ahead between (frame.Added i ∷ fs) (choice root more) us =
+    ChoiceGoesOn c root more (inr i) (λ come. FieldTook c fc ahead between fs come) us []
+Took c fc ahead between (frame.Added i ∷ fs) t us = ⊥
+Took c fc ahead between (frame.Octets q ∷ fs) t us = ⊥
 
 -- a list of elements of the type, read so far, of whose next part these nodes have begun
-abbrev pub ListGoesOn : {F : Type 0} → Coding → (F → Ahead) → (F → Type 0) → Shape → SizeRange → Elements F Value
-    → List (Frame F) → List ℕ → List ℕ → Type 0
-ListGoesOn c ahead between t s q fs all units =
+abbrev pub ListGoesOn : {F : Type 0} → Coding → FieldCoding → (F → Ahead) → (F → Type 0) → Shape → SizeRange
+    → Elements F Value → List (Frame F) → List ℕ → List ℕ → Type 0
+ListGoesOn c fc ahead between t s q fs all units =
     GoesOn c ahead between (Spelt c.code None t) (ListingOf c s (Spelt c.code None t)) datum_of q (NextPart q.left fs
     (λ come. Waits c (NextOf (ahead q.fragments)) q.next_part come)
-    (λ come. (q.next_part ≡ []) × Took c ahead between fs t come)) all units
+    (λ come. (q.next_part ≡ []) × Took c fc ahead between fs t come)) all units
 
 -- the root of a SEQUENCE, read so far, of whose next component these nodes have begun
-abbrev pub RootReached : {F : Type 0} → Coding → (F → Ahead) → (F → Type 0) → Fields → MoreFields → Components
-    → List (Frame F) → List ℕ → List ℕ → Type 0
-RootReached c ahead between root more q fs all units =
+abbrev pub RootReached : {F : Type 0} → Coding → FieldCoding → (F → Ahead) → (F → Type 0) → Fields → MoreFields
+    → Components → List (Frame F) → List ℕ → List ℕ → Type 0
+RootReached c fc ahead between root more q fs all units =
     RootGoesOn c root more q
-    (λ rest come. NextTook c fs (λ t vs. Took c ahead between fs t vs) rest q.presence.left q.presence.bitmap come)
+    (λ rest come. NextTook c fs (λ t vs. Took c fc ahead between fs t vs) rest q.presence.left q.presence.bitmap come)
     all units
 
 -- the units that have come of a component, of which these nodes have begun
-abbrev pub ComponentTook : {F : Type 0} → Coding → (F → Ahead) → (F → Type 0) → List (Frame F) → Part → Bool
-    → List ℕ → Type 0
-ComponentTook c ahead between fs p present us = EntryTook c fs (λ t vs. Took c ahead between fs t vs) p present us
+abbrev pub ComponentTook : {F : Type 0} → Coding → FieldCoding → (F → Ahead) → (F → Type 0) → List (Frame F) → Part
+    → Bool → List ℕ → Type 0
+ComponentTook c fc ahead between fs p present us = EntryTook c fs (λ t vs. Took c fc ahead between fs t vs) p present us
 
 -- a CHOICE of which the index is read, of the value of whose alternative these nodes have begun
-abbrev pub ChoiceReached : {F : Type 0} → Coding → (F → Ahead) → (F → Type 0) → Alternatives → MoreAlternatives → ℕ
-    → List (Frame F) → List ℕ → List ℕ → Type 0
-ChoiceReached c ahead between root more i fs all units =
-    ChoiceGoesOn c root more i (λ come. AlternativeTook (λ t vs. Took c ahead between fs t vs) root i come) all units
+abbrev pub ChoiceReached : {F : Type 0} → Coding → FieldCoding → (F → Ahead) → (F → Type 0) → Alternatives
+    → MoreAlternatives → ℕ → List (Frame F) → List ℕ → List ℕ → Type 0
+ChoiceReached c fc ahead between root more i fs all units =
+    ChoiceGoesOn c root more (inl i) (λ come. AlternativeTook (λ t vs. Took c fc ahead between fs t vs) root i come) all
+    units
+
+-- the same, where it is among the additions, of the open type field of the value
+abbrev pub AdditionReached : {F : Type 0} → Coding → FieldCoding → (F → Ahead) → (F → Type 0) → Alternatives
+    → MoreAlternatives → ℕ → List (Frame F) → List ℕ → List ℕ → Type 0
+AdditionReached c fc ahead between root more i fs all units =
+    ChoiceGoesOn c root more (inr i) (λ come. FieldTook c fc ahead between fs come) all units
 
 -- where more units are wanted, the nodes tell which have come
-abbrev pub KeepsFrames : {F : Type 0} → Coding → (F → Ahead) → (F → Type 0) → List (Frame F) → Shape → List ℕ → Stop
-    → Type 0
-KeepsFrames c ahead between fs t us (stop.Refused left why) = ⊤
-KeepsFrames c ahead between fs t us stop.Short = Took c ahead between fs t us
-KeepsFrames c ahead between fs t us stop.Memory = ⊤
+abbrev pub KeepsFrames : {F : Type 0} → Coding → FieldCoding → (F → Ahead) → (F → Type 0) → List (Frame F) → Shape
+    → List ℕ → Stop → Type 0
+KeepsFrames c fc ahead between fs t us (stop.Refused left why) = ⊤
+KeepsFrames c fc ahead between fs t us stop.Short = Took c fc ahead between fs t us
+KeepsFrames c fc ahead between fs t us stop.Memory = ⊤
 
 -- ---- what is answered, of the units that had come and those of the piece
 
 -- a value, of which these nodes had begun
-abbrev pub ReadsOn : {F : Type 0} → Coding → (F → Ahead) → (F → Type 0) → List (Frame F) → Shape → Datum → List ℕ
-    → List ℕ → Type 0
-ReadsOn c ahead between fs t v old new = (us : List ℕ) → Took c ahead between fs t us
+abbrev pub ReadsOn : {F : Type 0} → Coding → FieldCoding → (F → Ahead) → (F → Type 0) → List (Frame F) → Shape → Datum
+    → List ℕ → List ℕ → Type 0
+ReadsOn c fc ahead between fs t v old new = (us : List ℕ) → Took c fc ahead between fs t us
     → Spells c.ruling.fielding (Spelt c.code None t) v (us ++ c.to_units old) (c.to_units new)
 
 -- why there is none
-abbrev pub StopsOn : {F : Type 0} → Coding → (F → Ahead) → (F → Type 0) → List (Frame F) → Shape → List ℕ → Stop
-    → Type 0
-StopsOn c ahead between fs t old why = (us : List ℕ) → Took c ahead between fs t us
+abbrev pub StopsOn : {F : Type 0} → Coding → FieldCoding → (F → Ahead) → (F → Type 0) → List (Frame F) → Shape → List ℕ
+    → Stop → Type 0
+StopsOn c fc ahead between fs t old why = (us : List ℕ) → Took c fc ahead between fs t us
     → Stops c.ruling.fielding (Spelt c.code None t) (us ++ c.to_units old) why
 
 -- where more units are wanted, these nodes have begun then
-abbrev pub KeepsOn : {F : Type 0} → Coding → (F → Ahead) → (F → Type 0) → List (Frame F) → List (Frame F) → Shape
-    → List ℕ → Stop → Type 0
-KeepsOn c ahead between fs gs t old why = (us : List ℕ) → Took c ahead between fs t us
-    → KeepsFrames c ahead between gs t (us ++ c.to_units old) why
+abbrev pub KeepsOn : {F : Type 0} → Coding → FieldCoding → (F → Ahead) → (F → Type 0) → List (Frame F) → List (Frame F)
+    → Shape → List ℕ → Stop → Type 0
+KeepsOn c fc ahead between fs gs t old why = (us : List ℕ) → Took c fc ahead between fs t us
+    → KeepsFrames c fc ahead between gs t (us ++ c.to_units old) why
 
 -- the same of a list of elements of the type t, read so far: a value of it
-abbrev pub ReadsListOn : {F : Type 0} → Coding → (F → Ahead) → (F → Type 0) → Shape → SizeRange → Elements F Value
-    → List (Frame F) → Datum → List ℕ → List ℕ → Type 0
-ReadsListOn c ahead between t s q fs v old new =
-    (all : List ℕ) → ListGoesOn c ahead between t s q fs all (c.to_units old)
+abbrev pub ReadsListOn : {F : Type 0} → Coding → FieldCoding → (F → Ahead) → (F → Type 0) → Shape → SizeRange
+    → Elements F Value → List (Frame F) → Datum → List ℕ → List ℕ → Type 0
+ReadsListOn c fc ahead between t s q fs v old new =
+    (all : List ℕ) → ListGoesOn c fc ahead between t s q fs all (c.to_units old)
     → Spells c.ruling.fielding (Spelt c.code None (sequence_of t s)) v all (c.to_units new)
 
-abbrev pub StopsListOn : {F : Type 0} → Coding → (F → Ahead) → (F → Type 0) → Shape → SizeRange → Elements F Value
-    → List (Frame F) → List ℕ → Stop → Type 0
-StopsListOn c ahead between t s q fs old why =
-    (all : List ℕ) → ListGoesOn c ahead between t s q fs all (c.to_units old)
+abbrev pub StopsListOn : {F : Type 0} → Coding → FieldCoding → (F → Ahead) → (F → Type 0) → Shape → SizeRange
+    → Elements F Value → List (Frame F) → List ℕ → Stop → Type 0
+StopsListOn c fc ahead between t s q fs old why =
+    (all : List ℕ) → ListGoesOn c fc ahead between t s q fs all (c.to_units old)
     → Stops c.ruling.fielding (Spelt c.code None (sequence_of t s)) all why
 
-abbrev pub KeepsListOn : {F : Type 0} → Coding → (F → Ahead) → (F → Type 0) → Shape → SizeRange → Elements F Value
-    → List (Frame F) → List (Frame F) → List ℕ → Stop → Type 0
-KeepsListOn c ahead between t s q fs gs old why =
-    (all : List ℕ) → ListGoesOn c ahead between t s q fs all (c.to_units old)
-    → KeepsFrames c ahead between gs (sequence_of t s) all why
+abbrev pub KeepsListOn : {F : Type 0} → Coding → FieldCoding → (F → Ahead) → (F → Type 0) → Shape → SizeRange
+    → Elements F Value → List (Frame F) → List (Frame F) → List ℕ → Stop → Type 0
+KeepsListOn c fc ahead between t s q fs gs old why =
+    (all : List ℕ) → ListGoesOn c fc ahead between t s q fs all (c.to_units old)
+    → KeepsFrames c fc ahead between gs (sequence_of t s) all why
 
 -- its elements
-abbrev pub ReadsElementsOn : {F : Type 0} → Coding → (F → Ahead) → (F → Type 0) → Shape → SizeRange → Elements F Value
-    → List (Frame F) → Elements F Value → List ℕ → List ℕ → Type 0
-ReadsElementsOn c ahead between t s q fs p old new =
-    (all : List ℕ) → ListGoesOn c ahead between t s q fs all (c.to_units old)
+abbrev pub ReadsElementsOn : {F : Type 0} → Coding → FieldCoding → (F → Ahead) → (F → Type 0) → Shape → SizeRange
+    → Elements F Value → List (Frame F) → Elements F Value → List ℕ → List ℕ → Type 0
+ReadsElementsOn c fc ahead between t s q fs p old new =
+    (all : List ℕ) → ListGoesOn c fc ahead between t s q fs all (c.to_units old)
     → Spells c.ruling.fielding (ListingOf c s (Spelt c.code None t)) (map datum_of p.elements.items) all
     (c.to_units new)
 
-abbrev pub StopsElementsOn : {F : Type 0} → Coding → (F → Ahead) → (F → Type 0) → Shape → SizeRange → Elements F Value
-    → List (Frame F) → List ℕ → Stop → Type 0
-StopsElementsOn c ahead between t s q fs old why =
-    (all : List ℕ) → ListGoesOn c ahead between t s q fs all (c.to_units old)
+abbrev pub StopsElementsOn : {F : Type 0} → Coding → FieldCoding → (F → Ahead) → (F → Type 0) → Shape → SizeRange
+    → Elements F Value → List (Frame F) → List ℕ → Stop → Type 0
+StopsElementsOn c fc ahead between t s q fs old why =
+    (all : List ℕ) → ListGoesOn c fc ahead between t s q fs all (c.to_units old)
     → Stops c.ruling.fielding (ListingOf c s (Spelt c.code None t)) all why
 
 -- it is read so far then
-abbrev pub GoesOnTo : {F : Type 0} → Coding → (F → Ahead) → (F → Type 0) → Shape → SizeRange → Elements F Value
-    → List (Frame F) → List ℕ → Elements F Value → List (Frame F) → List ℕ → Type 0
-GoesOnTo c ahead between t s q fs old p gs new =
-    (all : List ℕ) → ListGoesOn c ahead between t s q fs all (c.to_units old)
-    → ListGoesOn c ahead between t s p gs all (c.to_units new)
+abbrev pub GoesOnTo : {F : Type 0} → Coding → FieldCoding → (F → Ahead) → (F → Type 0) → Shape → SizeRange
+    → Elements F Value → List (Frame F) → List ℕ → Elements F Value → List (Frame F) → List ℕ → Type 0
+GoesOnTo c fc ahead between t s q fs old p gs new =
+    (all : List ℕ) → ListGoesOn c fc ahead between t s q fs all (c.to_units old)
+    → ListGoesOn c fc ahead between t s p gs all (c.to_units new)
 
 -- it holds under every size that a list of such elements has in the profile
 abbrev pub UnderEachSize : Shape → (SizeRange → Type 0) → Type 0
@@ -171,30 +183,30 @@ abbrev pub UnderEachMark : Fields → (MoreFields → Type 0) → Type 0
 UnderEachMark root P = (more : MoreFields) → InProfile (sequence root more) → IsCovered (sequence root more) → P more
 
 -- the same of the root of a SEQUENCE, read so far: a value of it
-abbrev pub ReadsRootOn : {F : Type 0} → Coding → (F → Ahead) → (F → Type 0) → Fields → MoreFields → Components
-    → List (Frame F) → Datum → List ℕ → List ℕ → Type 0
-ReadsRootOn c ahead between root more q fs v old new =
-    (all : List ℕ) → RootReached c ahead between root more q fs all (c.to_units old)
+abbrev pub ReadsRootOn : {F : Type 0} → Coding → FieldCoding → (F → Ahead) → (F → Type 0) → Fields → MoreFields
+    → Components → List (Frame F) → Datum → List ℕ → List ℕ → Type 0
+ReadsRootOn c fc ahead between root more q fs v old new =
+    (all : List ℕ) → RootReached c fc ahead between root more q fs all (c.to_units old)
     → Spells c.ruling.fielding (Spelt c.code None (sequence root more)) v all (c.to_units new)
 
-abbrev pub StopsRootOn : {F : Type 0} → Coding → (F → Ahead) → (F → Type 0) → Fields → MoreFields → Components
-    → List (Frame F) → List ℕ → Stop → Type 0
-StopsRootOn c ahead between root more q fs old why =
-    (all : List ℕ) → RootReached c ahead between root more q fs all (c.to_units old)
+abbrev pub StopsRootOn : {F : Type 0} → Coding → FieldCoding → (F → Ahead) → (F → Type 0) → Fields → MoreFields
+    → Components → List (Frame F) → List ℕ → Stop → Type 0
+StopsRootOn c fc ahead between root more q fs old why =
+    (all : List ℕ) → RootReached c fc ahead between root more q fs all (c.to_units old)
     → Stops c.ruling.fielding (Spelt c.code None (sequence root more)) all why
 
-abbrev pub KeepsRootOn : {F : Type 0} → Coding → (F → Ahead) → (F → Type 0) → Fields → MoreFields → Components
-    → List (Frame F) → List (Frame F) → List ℕ → Stop → Type 0
-KeepsRootOn c ahead between root more q fs gs old why =
-    (all : List ℕ) → RootReached c ahead between root more q fs all (c.to_units old)
-    → KeepsFrames c ahead between gs (sequence root more) all why
+abbrev pub KeepsRootOn : {F : Type 0} → Coding → FieldCoding → (F → Ahead) → (F → Type 0) → Fields → MoreFields
+    → Components → List (Frame F) → List (Frame F) → List ℕ → Stop → Type 0
+KeepsRootOn c fc ahead between root more q fs gs old why =
+    (all : List ℕ) → RootReached c fc ahead between root more q fs all (c.to_units old)
+    → KeepsFrames c fc ahead between gs (sequence root more) all why
 
 -- it is read so far then
-abbrev pub RootGoesOnTo : {F : Type 0} → Coding → (F → Ahead) → (F → Type 0) → Fields → MoreFields → Components
-    → List (Frame F) → List ℕ → Components → List (Frame F) → List ℕ → Type 0
-RootGoesOnTo c ahead between root more q fs old p gs new =
-    (all : List ℕ) → RootReached c ahead between root more q fs all (c.to_units old)
-    → RootReached c ahead between root more p gs all (c.to_units new)
+abbrev pub RootGoesOnTo : {F : Type 0} → Coding → FieldCoding → (F → Ahead) → (F → Type 0) → Fields → MoreFields
+    → Components → List (Frame F) → List ℕ → Components → List (Frame F) → List ℕ → Type 0
+RootGoesOnTo c fc ahead between root more q fs old p gs new =
+    (all : List ℕ) → RootReached c fc ahead between root more q fs all (c.to_units old)
+    → RootReached c fc ahead between root more p gs all (c.to_units new)
 
 -- it holds for a CHOICE of this root that is covered, with an extension mark or without one
 abbrev pub UnderEachChoice : Alternatives → (MoreAlternatives → Type 0) → Type 0
@@ -202,48 +214,67 @@ UnderEachChoice root P = (more : MoreAlternatives) → InProfile (choice root mo
     → P more
 
 -- the same of a CHOICE of which the index is read
-abbrev pub ReadsChoiceOn : {F : Type 0} → Coding → (F → Ahead) → (F → Type 0) → Alternatives → MoreAlternatives → ℕ
-    → List (Frame F) → Datum → List ℕ → List ℕ → Type 0
-ReadsChoiceOn c ahead between root more i fs v old new =
-    (all : List ℕ) → ChoiceReached c ahead between root more i fs all (c.to_units old)
+abbrev pub ReadsChoiceOn : {F : Type 0} → Coding → FieldCoding → (F → Ahead) → (F → Type 0) → Alternatives
+    → MoreAlternatives → ℕ → List (Frame F) → Datum → List ℕ → List ℕ → Type 0
+ReadsChoiceOn c fc ahead between root more i fs v old new =
+    (all : List ℕ) → ChoiceReached c fc ahead between root more i fs all (c.to_units old)
     → Spells c.ruling.fielding (Spelt c.code None (choice root more)) v all (c.to_units new)
 
-abbrev pub StopsChoiceOn : {F : Type 0} → Coding → (F → Ahead) → (F → Type 0) → Alternatives → MoreAlternatives → ℕ
-    → List (Frame F) → List ℕ → Stop → Type 0
-StopsChoiceOn c ahead between root more i fs old why =
-    (all : List ℕ) → ChoiceReached c ahead between root more i fs all (c.to_units old)
+abbrev pub StopsChoiceOn : {F : Type 0} → Coding → FieldCoding → (F → Ahead) → (F → Type 0) → Alternatives
+    → MoreAlternatives → ℕ → List (Frame F) → List ℕ → Stop → Type 0
+StopsChoiceOn c fc ahead between root more i fs old why =
+    (all : List ℕ) → ChoiceReached c fc ahead between root more i fs all (c.to_units old)
     → Stops c.ruling.fielding (Spelt c.code None (choice root more)) all why
 
-abbrev pub KeepsChoiceOn : {F : Type 0} → Coding → (F → Ahead) → (F → Type 0) → Alternatives → MoreAlternatives → ℕ
-    → List (Frame F) → List (Frame F) → List ℕ → Stop → Type 0
-KeepsChoiceOn c ahead between root more i fs gs old why =
-    (all : List ℕ) → ChoiceReached c ahead between root more i fs all (c.to_units old)
-    → KeepsFrames c ahead between gs (choice root more) all why
+abbrev pub KeepsChoiceOn : {F : Type 0} → Coding → FieldCoding → (F → Ahead) → (F → Type 0) → Alternatives
+    → MoreAlternatives → ℕ → List (Frame F) → List (Frame F) → List ℕ → Stop → Type 0
+KeepsChoiceOn c fc ahead between root more i fs gs old why =
+    (all : List ℕ) → ChoiceReached c fc ahead between root more i fs all (c.to_units old)
+    → KeepsFrames c fc ahead between gs (choice root more) all why
+
+-- the same where the index is among the additions
+abbrev pub ReadsAdditionOn : {F : Type 0} → Coding → FieldCoding → (F → Ahead) → (F → Type 0) → Alternatives
+    → MoreAlternatives → ℕ → List (Frame F) → Datum → List ℕ → List ℕ → Type 0
+ReadsAdditionOn c fc ahead between root more i fs v old new =
+    (all : List ℕ) → AdditionReached c fc ahead between root more i fs all (c.to_units old)
+    → Spells c.ruling.fielding (Spelt c.code None (choice root more)) v all (c.to_units new)
+
+abbrev pub StopsAdditionOn : {F : Type 0} → Coding → FieldCoding → (F → Ahead) → (F → Type 0) → Alternatives
+    → MoreAlternatives → ℕ → List (Frame F) → List ℕ → Stop → Type 0
+StopsAdditionOn c fc ahead between root more i fs old why =
+    (all : List ℕ) → AdditionReached c fc ahead between root more i fs all (c.to_units old)
+    → Stops c.ruling.fielding (Spelt c.code None (choice root more)) all why
+
+abbrev pub KeepsAdditionOn : {F : Type 0} → Coding → FieldCoding → (F → Ahead) → (F → Type 0) → Alternatives
+    → MoreAlternatives → ℕ → List (Frame F) → List (Frame F) → List ℕ → Stop → Type 0
+KeepsAdditionOn c fc ahead between root more i fs gs old why =
+    (all : List ℕ) → AdditionReached c fc ahead between root more i fs all (c.to_units old)
+    → KeepsFrames c fc ahead between gs (choice root more) all why
 
 -- the same of a component
-abbrev pub ReadsComponentOn : {F : Type 0} → Coding → (F → Ahead) → (F → Type 0) → List (Frame F) → Part → Bool
-    → Option Datum → List ℕ → List ℕ → Type 0
-ReadsComponentOn c ahead between fs p present e old new =
-    (us : List ℕ) → ComponentTook c ahead between fs p present us
+abbrev pub ReadsComponentOn : {F : Type 0} → Coding → FieldCoding → (F → Ahead) → (F → Type 0) → List (Frame F) → Part
+    → Bool → Option Datum → List ℕ → List ℕ → Type 0
+ReadsComponentOn c fc ahead between fs p present e old new =
+    (us : List ℕ) → ComponentTook c fc ahead between fs p present us
     → Spells c.ruling.fielding (Entry c.code p.demand p.shape present) e (us ++ c.to_units old) (c.to_units new)
 
-abbrev pub StopsComponentOn : {F : Type 0} → Coding → (F → Ahead) → (F → Type 0) → List (Frame F) → Part → Bool
-    → List ℕ → Stop → Type 0
-StopsComponentOn c ahead between fs p present old why =
-    (us : List ℕ) → ComponentTook c ahead between fs p present us
+abbrev pub StopsComponentOn : {F : Type 0} → Coding → FieldCoding → (F → Ahead) → (F → Type 0) → List (Frame F) → Part
+    → Bool → List ℕ → Stop → Type 0
+StopsComponentOn c fc ahead between fs p present old why =
+    (us : List ℕ) → ComponentTook c fc ahead between fs p present us
     → Stops c.ruling.fielding (Entry c.code p.demand p.shape present) (us ++ c.to_units old) why
 
-abbrev pub KeepsComponent : {F : Type 0} → Coding → (F → Ahead) → (F → Type 0) → List (Frame F) → Part → Bool
-    → List ℕ → Stop → Type 0
-KeepsComponent c ahead between fs p present us (stop.Refused left why) = ⊤
-KeepsComponent c ahead between fs p present us stop.Short = ComponentTook c ahead between fs p present us
-KeepsComponent c ahead between fs p present us stop.Memory = ⊤
+abbrev pub KeepsComponent : {F : Type 0} → Coding → FieldCoding → (F → Ahead) → (F → Type 0) → List (Frame F) → Part
+    → Bool → List ℕ → Stop → Type 0
+KeepsComponent c fc ahead between fs p present us (stop.Refused left why) = ⊤
+KeepsComponent c fc ahead between fs p present us stop.Short = ComponentTook c fc ahead between fs p present us
+KeepsComponent c fc ahead between fs p present us stop.Memory = ⊤
 
-abbrev pub KeepsComponentOn : {F : Type 0} → Coding → (F → Ahead) → (F → Type 0) → List (Frame F) → List (Frame F)
-    → Part → Bool → List ℕ → Stop → Type 0
-KeepsComponentOn c ahead between fs gs p present old why =
-    (us : List ℕ) → ComponentTook c ahead between fs p present us
-    → KeepsComponent c ahead between gs p present (us ++ c.to_units old) why
+abbrev pub KeepsComponentOn : {F : Type 0} → Coding → FieldCoding → (F → Ahead) → (F → Type 0) → List (Frame F)
+    → List (Frame F) → Part → Bool → List ℕ → Stop → Type 0
+KeepsComponentOn c fc ahead between fs gs p present old why =
+    (us : List ℕ) → ComponentTook c fc ahead between fs p present us
+    → KeepsComponent c fc ahead between gs p present (us ++ c.to_units old) why
 
 -- the same of a value that is not this DEFAULT
 abbrev pub ReadsOtherOn : {F : Type 0} → Coding → List (Frame F) → Datum → Shape → Datum → List ℕ → List ℕ → Type 0
@@ -272,6 +303,7 @@ IsStart (Some (frame.Start b)) = ⊤
 IsStart (Some (frame.Elements q)) = ⊥
 IsStart (Some (frame.Components q)) = ⊥
 IsStart (Some (frame.Chosen i)) = ⊥
+IsStart (Some (frame.Added i)) = ⊥
 IsStart (Some (frame.Octets q)) = ⊥
 
 -- the units of its first part that have come
@@ -281,6 +313,7 @@ begun_of (Some (frame.Start b)) = b
 begun_of (Some (frame.Elements q)) = []
 begun_of (Some (frame.Components q)) = []
 begun_of (Some (frame.Chosen i)) = []
+begun_of (Some (frame.Added i)) = []
 begun_of (Some (frame.Octets q)) = []
 
 -- it is put before the others

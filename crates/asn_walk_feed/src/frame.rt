@@ -19,6 +19,8 @@ pub enum Frame<F> {
     Components(Components),
     /// A CHOICE of which the index is read: the alternative of the root with this index, counted from 0.
     Chosen(usize),
+    /// A CHOICE of which the index is read: the extension addition with this index, counted from 0.
+    Added(usize),
     /// An open type field of which what stands before its octets is read.
     Octets(Elements<F, u8>),
 }

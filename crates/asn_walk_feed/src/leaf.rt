@@ -151,7 +151,8 @@ pub fn feed_leaf<R: FeedLeaves, L: Leaf<R>>(
     }
 }
 
-/// Reads a part of the piece itself, where no unit of it has come before and the piece has all of them; otherwise answers
+/// Reads a part of the piece itself, where no unit of it has come before and the piece has all of them; otherwise
+/// answers
 /// `None` and takes no unit. An `Err` is `Memory`.
 fn read_at_once<R: FeedLeaves, L: Leaf<R>>(
     alloc: Global,
@@ -192,7 +193,11 @@ fn read_at_once<R: FeedLeaves, L: Leaf<R>>(
 }
 
 /// Takes the units up to where the cursor stands, a tick each.
-fn take_to<'a, R: ReadLeaves>(units: &mut Units<'a>, ahead: BitCursor<'a>, ticks: &mut Ticks)
+pub(crate) fn take_to<'a, R: ReadLeaves>(
+    units: &mut Units<'a>,
+    ahead: BitCursor<'a>,
+    ticks: &mut Ticks,
+)
     requires at_unit { R.rules.at_unit units.old }
     requires ahead { R.rules.at_unit ahead }
     requires after { length (R.rules.to_units ahead) ≤ length (R.rules.to_units units.old) }

@@ -38,18 +38,20 @@ pub(crate) fn resume_list<R: FeedLeaves>(
     requires at_unit { R.rules.at_unit units.old }
     requires of_profile { InProfile (sequence_of (shape_of element.now) (size_range_of size.now)) }
     requires covered { IsCovered (shape_of element.now) }
-    requires reached { (us : List ℕ) × Took R.rules R.ahead R.is_between (with_node node (nodes frames.old))
+    requires reached { (us : List ℕ) × Took R.rules R.fields R.ahead R.is_between (with_node node (nodes frames.old))
         (sequence_of (shape_of element.now) (size_range_of size.now)) us }
     requires last { IsNone node → nodes frames.old ≡ [] }
     requires few { ticks.old + length (R.rules.to_units units.old) < 2 ^ 64 }
     ensures at_unit { R.rules.at_unit units.new }
-    ensures done { IfOk result (λ v. ReadsOn R.rules R.ahead R.is_between (with_node node (nodes frames.old))
+    ensures done { IfOk result (λ v. ReadsOn R.rules R.fields R.ahead R.is_between (with_node node (nodes frames.old))
         (sequence_of (shape_of element.now) (size_range_of size.now)) (datum_of v) units.old units.new) }
     ensures emptied { OnOk result (nodes frames.new ≡ []) }
-    ensures stop { IfErr result (λ why. StopsOn R.rules R.ahead R.is_between (with_node node (nodes frames.old))
-        (sequence_of (shape_of element.now) (size_range_of size.now)) units.old why) }
-    ensures kept { IfErr result (λ why. KeepsOn R.rules R.ahead R.is_between (with_node node (nodes frames.old))
-        (nodes frames.new) (sequence_of (shape_of element.now) (size_range_of size.now)) units.old why) }
+    ensures stop { IfErr result (λ why. StopsOn R.rules R.fields R.ahead R.is_between
+        (with_node node (nodes frames.old)) (sequence_of (shape_of element.now) (size_range_of size.now))
+        units.old why) }
+    ensures kept { IfErr result (λ why. KeepsOn R.rules R.fields R.ahead R.is_between
+        (with_node node (nodes frames.old)) (nodes frames.new) (sequence_of (shape_of element.now)
+        (size_range_of size.now)) units.old why) }
     ensures after { IfErr result (λ why. StandsAfter R.rules units.new why) }
     ensures ticked { Ticked R.rules units.old ticks.old units.new ticks.new }
     ensures rising { ticks.old ≤ ticks.new }
@@ -66,6 +68,7 @@ pub(crate) fn resume_list<R: FeedLeaves>(
         None => start_list::<R>(alloc, element, size, Begun::none(), frames, units, ticks),
         Some(Frame::Components(_read)) => unreachable!(),
         Some(Frame::Chosen(_)) => unreachable!(),
+        Some(Frame::Added(_)) => unreachable!(),
         Some(Frame::Octets(_octets)) => unreachable!(),
     }
 }
@@ -95,7 +98,7 @@ fn start_list<R: FeedLeaves>(
     ensures stop { IfErr result (λ why. Stops R.rules.ruling.fielding
         (ValuesOf R.rules (sequence_of (shape_of element.now) (size_range_of size.now)))
         (R.rules.to_units begun ++ R.rules.to_units units.old) why) }
-    ensures kept { IfErr result (λ why. KeepsFrames R.rules R.ahead R.is_between (nodes frames.new)
+    ensures kept { IfErr result (λ why. KeepsFrames R.rules R.fields R.ahead R.is_between (nodes frames.new)
         (sequence_of (shape_of element.now) (size_range_of size.now))
         (R.rules.to_units begun ++ R.rules.to_units units.old) why) }
     ensures after { IfErr result (λ why. StandsAfter R.rules units.new why) }
@@ -138,16 +141,16 @@ fn feed_list<R: FeedLeaves>(
     requires at_unit { R.rules.at_unit units.old }
     requires of_profile { InProfile (sequence_of (shape_of element.now) (size_range_of size.now)) }
     requires covered { IsCovered (shape_of element.now) }
-    requires reached { (all : List ℕ) × ListGoesOn R.rules R.ahead R.is_between (shape_of element.now)
+    requires reached { (all : List ℕ) × ListGoesOn R.rules R.fields R.ahead R.is_between (shape_of element.now)
         (size_range_of size.now) list (nodes frames.old) all (R.rules.to_units units.old) }
     requires few { ticks.old + length (R.rules.to_units units.old) < 2 ^ 64 }
     ensures at_unit { R.rules.at_unit units.new }
-    ensures done { IfOk result (λ v. ReadsListOn R.rules R.ahead R.is_between (shape_of element.now)
+    ensures done { IfOk result (λ v. ReadsListOn R.rules R.fields R.ahead R.is_between (shape_of element.now)
         (size_range_of size.now) list (nodes frames.old) (datum_of v) units.old units.new) }
     ensures emptied { OnOk result (nodes frames.new ≡ []) }
-    ensures stop { IfErr result (λ why. StopsListOn R.rules R.ahead R.is_between (shape_of element.now)
+    ensures stop { IfErr result (λ why. StopsListOn R.rules R.fields R.ahead R.is_between (shape_of element.now)
         (size_range_of size.now) list (nodes frames.old) units.old why) }
-    ensures kept { IfErr result (λ why. KeepsListOn R.rules R.ahead R.is_between (shape_of element.now)
+    ensures kept { IfErr result (λ why. KeepsListOn R.rules R.fields R.ahead R.is_between (shape_of element.now)
         (size_range_of size.now) list (nodes frames.old) (nodes frames.new) units.old why) }
     ensures after { IfErr result (λ why. StandsAfter R.rules units.new why) }
     ensures ticked { Ticked R.rules units.old ticks.old units.new ticks.new }
@@ -181,16 +184,16 @@ fn feed_elements<R: FeedLeaves>(
     requires at_unit { R.rules.at_unit units.old }
     requires of_profile { InProfile (sequence_of (shape_of element.now) (size_range_of size.now)) }
     requires covered { IsCovered (shape_of element.now) }
-    requires reached { (all : List ℕ) × ListGoesOn R.rules R.ahead R.is_between (shape_of element.now)
+    requires reached { (all : List ℕ) × ListGoesOn R.rules R.fields R.ahead R.is_between (shape_of element.now)
         (size_range_of size.now) list.old (nodes frames.old) all (R.rules.to_units units.old) }
     requires few { ticks.old + length (R.rules.to_units units.old) < 2 ^ 64 }
     ensures at_unit { R.rules.at_unit units.new }
-    ensures done { OnOk result (ReadsElementsOn R.rules R.ahead R.is_between (shape_of element.now)
+    ensures done { OnOk result (ReadsElementsOn R.rules R.fields R.ahead R.is_between (shape_of element.now)
         (size_range_of size.now) list.old (nodes frames.old) list.new units.old units.new) }
     ensures emptied { OnOk result (nodes frames.new ≡ []) }
-    ensures stop { IfErr result (λ why. StopsElementsOn R.rules R.ahead R.is_between (shape_of element.now)
+    ensures stop { IfErr result (λ why. StopsElementsOn R.rules R.fields R.ahead R.is_between (shape_of element.now)
         (size_range_of size.now) list.old (nodes frames.old) units.old why) }
-    ensures kept { result ≡ Err Short → GoesOnTo R.rules R.ahead R.is_between (shape_of element.now)
+    ensures kept { result ≡ Err Short → GoesOnTo R.rules R.fields R.ahead R.is_between (shape_of element.now)
         (size_range_of size.now) list.old (nodes frames.old) units.old list.new (nodes frames.new) units.new }
     ensures after { IfErr result (λ why. StandsAfter R.rules units.new why) }
     ensures ticked { Ticked R.rules units.old ticks.old units.new ticks.new }
@@ -220,22 +223,22 @@ fn feed_fragment<R: FeedLeaves>(
     requires at_unit { R.rules.at_unit units.old }
     requires covered { IsCovered (shape_of element.now) }
     requires reached { (s : SizeRange) × InProfile (sequence_of (shape_of element.now) s) × (all : List ℕ) ×
-        ListGoesOn R.rules R.ahead R.is_between (shape_of element.now) s list.old (nodes frames.old) all
+        ListGoesOn R.rules R.fields R.ahead R.is_between (shape_of element.now) s list.old (nodes frames.old) all
         (R.rules.to_units units.old) }
     requires few { ticks.old + length (R.rules.to_units units.old) < 2 ^ 64 }
     ensures at_unit { R.rules.at_unit units.new }
     ensures done { OnOk result (UnderEachSize (shape_of element.now) (λ s.
-        GoesOnTo R.rules R.ahead R.is_between (shape_of element.now) s
+        GoesOnTo R.rules R.fields R.ahead R.is_between (shape_of element.now) s
         list.old (nodes frames.old) units.old list.new (nodes frames.new) units.new)) }
     ensures over { OnOk result (list.new.left ≡ 0) }
     ensures fragments { OnOk result (list.new.fragments ≡ list.old.fragments) }
     ensures shorter { OnOk result
         (length (R.rules.to_units units.new) ≤ length (R.rules.to_units units.old)) }
     ensures stop { IfErr result (λ why. UnderEachSize (shape_of element.now) (λ s.
-        StopsElementsOn R.rules R.ahead R.is_between (shape_of element.now) s
+        StopsElementsOn R.rules R.fields R.ahead R.is_between (shape_of element.now) s
         list.old (nodes frames.old) units.old why)) }
     ensures kept { result ≡ Err Short → UnderEachSize (shape_of element.now) (λ s.
-        GoesOnTo R.rules R.ahead R.is_between (shape_of element.now) s
+        GoesOnTo R.rules R.fields R.ahead R.is_between (shape_of element.now) s
         list.old (nodes frames.old) units.old list.new (nodes frames.new) units.new) }
     ensures after { IfErr result (λ why. StandsAfter R.rules units.new why) }
     ensures ticked { Ticked R.rules units.old ticks.old units.new ticks.new }

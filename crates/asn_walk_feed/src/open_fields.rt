@@ -1,28 +1,131 @@
-//! The reader of the octets of an open type field that goes on where it stopped.
+//! The reader of open type fields that goes on where it stopped.
 //!
-//! The octets are items in fragments, as the elements of a SEQUENCE OF are.
-ghost use Rattle.std.specs.Prelude.{◌≡◌, ◌≤◌, ◌<◌, ◌+◌, ◌^◌, ◌++◌, ℕ, List, [], length, IfOk, IfErr, OnOk, IsNone, Err};
+//! The octets are items in fragments, as the elements of a SEQUENCE OF are. They are read as a complete encoding once
+//! the last of them has come.
+ghost use Rattle.std.specs.Prelude.{◌≡◌, ◌≤◌, ◌<◌, ◌+◌, ◌^◌, ◌++◌, ℕ, List, [], length, ◌%◌, IfOk, IfErr, OnOk, IsNone, Err};
+ghost use Rattle.asn_values.specs.Profile.{InProfile};
+ghost use Rattle.asn_values.specs.View.{shape_of, datum_of};
 ghost use Rattle.asn_rules.specs.Chunks.{open_field};
 ghost use Rattle.asn_rules.specs.Frames.{Frame as FieldOf};
 ghost use Rattle.asn_rules.specs.Languages.{Spells};
+ghost use Rattle.asn_rules.specs.Live.{IsContent};
 ghost use Rattle.asn_rules.specs.Stops.{Stops};
 ghost use Rattle.asn_rules.specs.declared.stop.Stop.TheVariants.{Short};
+ghost use Rattle.asn_walk.specs.Reading.{CompleteOf};
 ghost use Rattle.asn_walk_feed.specs.Feeding.{Waits, Ticked, StandsAfter};
 ghost use Rattle.asn_walk_feed.specs.Nodes.{nodes};
-ghost use Rattle.asn_walk_feed.specs.OpenFields.{OctetsGoOn, OctetsGoOnTo, ReadsOctetsOn, StopsOctetsOn, FieldTook, KeepsField, ReadsFrameOn, StopsFrameOn, KeepsFieldOn};
-ghost use Rattle.asn_walk_feed.specs.Taken.{with_node};
+ghost use Rattle.asn_walk_feed.specs.OpenFields.{OctetsGoOn, OctetsGoOnTo, ReadsOctetsOn, StopsOctetsOn, FieldTook, KeepsField, ReadsFrameOn, StopsFrameOn, KeepsFieldOn, ReadsFieldOn, StopsFieldOn, HoldsValue, HoldsNone, StopsAfter};
+ghost use Rattle.asn_walk_feed.specs.Taken.{with_node, IsCovered};
 
 use crate::begun::Begun;
 use crate::frame::{Elements, Frame, Frames};
-use crate::leaf::{FeedLeaves, feed_leaf};
+use crate::leaf::{FeedLeaves, feed_leaf, take_to};
 use crate::lists::next_fragment;
 use crate::parts::{Octet, OctetsStart};
 use crate::units::{Ticks, Units};
+use crate::values::feed;
+use asn_rules::Why;
 use asn_rules::internal::Stop;
+use asn_values::{AsnType, Value};
 use std::alloc::Global;
 
+/// Reads what is left of an open type field that holds a value of the type, of which these nodes have begun (X.691,
+/// "open type fields"; X.696, "open type"). A field that holds none is refused at its last unit.
+#[cycle(feeder)]
+pub(crate) fn feed_open_field<R: FeedLeaves>(
+    alloc: Global,
+    ty: &AsnType,
+    frames: &mut Frames<R::Fragments>,
+    units: &mut Units<'_>,
+    ticks: &mut Ticks,
+) -> Result<Value, Stop>
+    requires at_unit { R.rules.at_unit units.old }
+    requires of_profile { InProfile (shape_of ty.now) }
+    requires covered { IsCovered (shape_of ty.now) }
+    requires reached { (us : List ℕ) × FieldTook R.rules R.fields R.ahead R.is_between (nodes frames.old) us }
+    requires few { ticks.old + length (R.rules.to_units units.old) < 2 ^ 64 }
+    ensures at_unit { R.rules.at_unit units.new }
+    ensures done { IfOk result (λ v. ReadsFieldOn R.rules R.fields R.ahead R.is_between (nodes frames.old)
+        (shape_of ty.now) (datum_of v) units.old units.new) }
+    ensures emptied { OnOk result (nodes frames.new ≡ []) }
+    ensures stop { IfErr result (λ why. StopsFieldOn R.rules R.fields R.ahead R.is_between (nodes frames.old)
+        (shape_of ty.now) units.old why) }
+    ensures kept { IfErr result (λ why. KeepsFieldOn R.rules R.fields R.ahead R.is_between (nodes frames.old)
+        (nodes frames.new) units.old why) }
+    ensures after { IfErr result (λ why. StandsAfter R.rules units.new why) }
+    ensures ticked { Ticked R.rules units.old ticks.old units.new ticks.new }
+    ensures rising { ticks.old ≤ ticks.new }
+{
+    R::keep_laws();
+    let octets = feed_octets::<R>(alloc, frames, units, ticks)?;
+    let left = R::units_left(&units.ahead());
+    read_content::<R>(alloc, ty, octets.as_slice(), left)
+}
+
+/// Reads the octets of an open type field, after which this many units are left, as the complete encoding that they
+/// have to be.
+#[cycle(feeder)]
+fn read_content<R: FeedLeaves>(
+    alloc: Global,
+    ty: &AsnType,
+    octets: &[u8],
+    left: u128,
+) -> Result<Value, Stop>
+    requires of_profile { InProfile (shape_of ty.now) }
+    requires covered { IsCovered (shape_of ty.now) }
+    requires content { IsContent R.rules.ruling.fielding open_field octets.now }
+    ensures done { IfOk result (λ v. HoldsValue R.rules (shape_of ty.now) octets.now (datum_of v)) }
+    ensures stop { IfErr result (λ why. HoldsNone R.rules (shape_of ty.now) octets.now left why) }
+    ensures after { IfErr result (λ why. StopsAfter left why) }
+{
+    R::keep_laws();
+    let mut units = Units::over(octets);
+    let mut ticks = Ticks::none();
+    let no_value = Stop::Refused {
+        left,
+        why: Why::Sealed,
+    };
+    match read_complete::<R>(alloc, ty, &mut units, &mut ticks) {
+        Ok(value) if R::units_left(&units.ahead()) == 0 => Ok(value),
+        Ok(_) => Err(no_value),
+        Err(Stop::Short) => Err(no_value),
+        Err(Stop::Refused { .. }) => Err(no_value),
+        Err(Stop::Memory) => Err(Stop::Memory),
+    }
+}
+
+/// Reads a complete encoding of a value of the type, of which all units are at hand: the value, and its padding (X.691,
+/// "complete encoding").
+#[cycle(feeder)]
+fn read_complete<R: FeedLeaves>(
+    alloc: Global,
+    ty: &AsnType,
+    units: &mut Units<'_>,
+    ticks: &mut Ticks,
+) -> Result<Value, Stop>
+    requires at_unit { R.rules.at_unit units.old }
+    requires of_profile { InProfile (shape_of ty.now) }
+    requires covered { IsCovered (shape_of ty.now) }
+    requires octets { length (R.rules.to_units units.old) % R.rules.octet_units ≡ 0 }
+    requires few { ticks.old + length (R.rules.to_units units.old) < 2 ^ 64 }
+    ensures at_unit { OnOk result (R.rules.at_unit units.new) }
+    ensures done { IfOk result (λ v. Spells R.rules.ruling.fielding (CompleteOf R.rules (shape_of ty.now)) (datum_of v)
+        (R.rules.to_units units.old) (R.rules.to_units units.new)) }
+    ensures stop { IfErr result (λ why. Stops R.rules.ruling.fielding (CompleteOf R.rules (shape_of ty.now))
+        (R.rules.to_units units.old) why) }
+{
+    R::keep_laws();
+    let mut frames = Frames::none(alloc);
+    let given = R::units_left(&units.ahead());
+    let value = feed::<R>(alloc, ty, &mut frames, units, ticks)?;
+    let mut ahead = units.ahead();
+    R::read_padding(given, &mut ahead)?;
+    take_to::<R>(units, ahead, ticks);
+    Ok(value)
+}
+
 /// Reads what is left of the octets of an open type field, without its length, of which these nodes have begun.
-pub(crate) fn feed_octets<R: FeedLeaves>(
+fn feed_octets<R: FeedLeaves>(
     alloc: Global,
     frames: &mut Frames<R::Fragments>,
     units: &mut Units<'_>,
@@ -82,6 +185,7 @@ fn resume_octets<R: FeedLeaves>(
         Some(Frame::Elements(_list)) => unreachable!(),
         Some(Frame::Components(_read)) => unreachable!(),
         Some(Frame::Chosen(_)) => unreachable!(),
+        Some(Frame::Added(_)) => unreachable!(),
     }
 }
 

@@ -46,18 +46,18 @@ pub(crate) fn resume_sequence<R: FeedLeaves>(
     requires of_profile { InProfile (sequence_seen root.now ext.now) }
     requires covered { IsCovered (sequence_seen root.now ext.now) }
     requires short { length root.now ≤ 64 }
-    requires reached { (us : List ℕ) × Took R.rules R.ahead R.is_between (with_node node (nodes frames.old))
+    requires reached { (us : List ℕ) × Took R.rules R.fields R.ahead R.is_between (with_node node (nodes frames.old))
         (sequence_seen root.now ext.now) us }
     requires last { IsNone node → nodes frames.old ≡ [] }
     requires few { ticks.old + length (R.rules.to_units units.old) < 2 ^ 64 }
     ensures at_unit { R.rules.at_unit units.new }
-    ensures done { IfOk result (λ v. ReadsOn R.rules R.ahead R.is_between (with_node node (nodes frames.old))
+    ensures done { IfOk result (λ v. ReadsOn R.rules R.fields R.ahead R.is_between (with_node node (nodes frames.old))
         (sequence_seen root.now ext.now) (datum_of v) units.old units.new) }
     ensures emptied { OnOk result (nodes frames.new ≡ []) }
-    ensures stop { IfErr result (λ why. StopsOn R.rules R.ahead R.is_between (with_node node (nodes frames.old))
-        (sequence_seen root.now ext.now) units.old why) }
-    ensures kept { IfErr result (λ why. KeepsOn R.rules R.ahead R.is_between (with_node node (nodes frames.old))
-        (nodes frames.new) (sequence_seen root.now ext.now) units.old why) }
+    ensures stop { IfErr result (λ why. StopsOn R.rules R.fields R.ahead R.is_between
+        (with_node node (nodes frames.old)) (sequence_seen root.now ext.now) units.old why) }
+    ensures kept { IfErr result (λ why. KeepsOn R.rules R.fields R.ahead R.is_between
+        (with_node node (nodes frames.old)) (nodes frames.new) (sequence_seen root.now ext.now) units.old why) }
     ensures after { IfErr result (λ why. StandsAfter R.rules units.new why) }
     ensures ticked { Ticked R.rules units.old ticks.old units.new ticks.new }
     ensures rising { ticks.old ≤ ticks.new }
@@ -74,6 +74,7 @@ pub(crate) fn resume_sequence<R: FeedLeaves>(
         None => start_sequence::<R>(alloc, root, ext, Begun::none(), frames, units, ticks),
         Some(Frame::Elements(_list)) => unreachable!(),
         Some(Frame::Chosen(_)) => unreachable!(),
+        Some(Frame::Added(_)) => unreachable!(),
         Some(Frame::Octets(_octets)) => unreachable!(),
     }
 }
@@ -105,7 +106,7 @@ fn start_sequence<R: FeedLeaves>(
     ensures stop { IfErr result (λ why. Stops R.rules.ruling.fielding
         (ValuesOf R.rules (sequence_seen root.now ext.now))
         (R.rules.to_units begun ++ R.rules.to_units units.old) why) }
-    ensures kept { IfErr result (λ why. KeepsFrames R.rules R.ahead R.is_between (nodes frames.new)
+    ensures kept { IfErr result (λ why. KeepsFrames R.rules R.fields R.ahead R.is_between (nodes frames.new)
         (sequence_seen root.now ext.now) (R.rules.to_units begun ++ R.rules.to_units units.old) why) }
     ensures after { IfErr result (λ why. StandsAfter R.rules units.new why) }
     ensures ticked { Ticked R.rules units.old ticks.old units.new ticks.new }
@@ -151,20 +152,20 @@ fn feed_sequence<R: FeedLeaves>(
     ticks: &mut Ticks,
 ) -> Result<Value, Stop>
     requires at_unit { R.rules.at_unit units.old }
-    requires reached { (more : MoreFields) × InProfile (sequence (fields_seen root.now) more) ×
-        IsCovered (sequence (fields_seen root.now) more) × (all : List ℕ) × RootReached R.rules R.ahead R.is_between
+    requires reached { (more : MoreFields) × InProfile (sequence (fields_seen root.now) more) × IsCovered
+        (sequence (fields_seen root.now) more) × (all : List ℕ) × RootReached R.rules R.fields R.ahead R.is_between
         (fields_seen root.now) more read (nodes frames.old) all (R.rules.to_units units.old) }
     requires few { ticks.old + length (R.rules.to_units units.old) < 2 ^ 64 }
     ensures at_unit { R.rules.at_unit units.new }
     ensures done { IfOk result (λ v. UnderEachMark (fields_seen root.now) (λ more.
-        ReadsRootOn R.rules R.ahead R.is_between (fields_seen root.now) more
+        ReadsRootOn R.rules R.fields R.ahead R.is_between (fields_seen root.now) more
         read (nodes frames.old) (datum_of v) units.old units.new)) }
     ensures emptied { OnOk result (nodes frames.new ≡ []) }
     ensures stop { IfErr result (λ why. UnderEachMark (fields_seen root.now) (λ more.
-        StopsRootOn R.rules R.ahead R.is_between (fields_seen root.now) more
+        StopsRootOn R.rules R.fields R.ahead R.is_between (fields_seen root.now) more
         read (nodes frames.old) units.old why)) }
     ensures kept { IfErr result (λ why. UnderEachMark (fields_seen root.now) (λ more.
-        KeepsRootOn R.rules R.ahead R.is_between (fields_seen root.now) more
+        KeepsRootOn R.rules R.fields R.ahead R.is_between (fields_seen root.now) more
         read (nodes frames.old) (nodes frames.new) units.old why)) }
     ensures after { IfErr result (λ why. StandsAfter R.rules units.new why) }
     ensures ticked { Ticked R.rules units.old ticks.old units.new ticks.new }
@@ -194,20 +195,20 @@ fn feed_components<R: FeedLeaves>(
     ticks: &mut Ticks,
 ) -> Result<(), Stop>
     requires at_unit { R.rules.at_unit units.old }
-    requires reached { (more : MoreFields) × InProfile (sequence (fields_seen root.now) more) ×
-        IsCovered (sequence (fields_seen root.now) more) × (all : List ℕ) × RootReached R.rules R.ahead R.is_between
+    requires reached { (more : MoreFields) × InProfile (sequence (fields_seen root.now) more) × IsCovered
+        (sequence (fields_seen root.now) more) × (all : List ℕ) × RootReached R.rules R.fields R.ahead R.is_between
         (fields_seen root.now) more read.old (nodes frames.old) all (R.rules.to_units units.old) }
     requires few { ticks.old + length (R.rules.to_units units.old) < 2 ^ 64 }
     ensures at_unit { R.rules.at_unit units.new }
     ensures done { OnOk result (UnderEachMark (fields_seen root.now) (λ more.
-        RootGoesOnTo R.rules R.ahead R.is_between (fields_seen root.now) more
+        RootGoesOnTo R.rules R.fields R.ahead R.is_between (fields_seen root.now) more
         read.old (nodes frames.old) units.old read.new (nodes frames.new) units.new)) }
     ensures over { OnOk result (length root.now ≤ length read.new.entries.items) }
     ensures stop { IfErr result (λ why. UnderEachMark (fields_seen root.now) (λ more.
-        StopsRootOn R.rules R.ahead R.is_between (fields_seen root.now) more
+        StopsRootOn R.rules R.fields R.ahead R.is_between (fields_seen root.now) more
         read.old (nodes frames.old) units.old why)) }
     ensures kept { result ≡ Err Short → UnderEachMark (fields_seen root.now) (λ more.
-        RootGoesOnTo R.rules R.ahead R.is_between (fields_seen root.now) more
+        RootGoesOnTo R.rules R.fields R.ahead R.is_between (fields_seen root.now) more
         read.old (nodes frames.old) units.old read.new (nodes frames.new) units.new) }
     ensures after { IfErr result (λ why. StandsAfter R.rules units.new why) }
     ensures ticked { Ticked R.rules units.old ticks.old units.new ticks.new }
@@ -240,16 +241,16 @@ fn feed_component<R: FeedLeaves>(
     requires of_profile { InProfile (part_of_field field.now).shape }
     requires good { IsGoodDemand (part_of_field field.now).demand (part_of_field field.now).shape }
     requires covered { IsCovered (part_of_field field.now).shape }
-    requires reached { (us : List ℕ) × ComponentTook R.rules R.ahead R.is_between (nodes frames.old)
+    requires reached { (us : List ℕ) × ComponentTook R.rules R.fields R.ahead R.is_between (nodes frames.old)
         (part_of_field field.now) present us }
     requires few { ticks.old + length (R.rules.to_units units.old) < 2 ^ 64 }
     ensures at_unit { R.rules.at_unit units.new }
-    ensures done { IfOk result (λ e. ReadsComponentOn R.rules R.ahead R.is_between (nodes frames.old)
+    ensures done { IfOk result (λ e. ReadsComponentOn R.rules R.fields R.ahead R.is_between (nodes frames.old)
         (part_of_field field.now) present (option_map datum_of e) units.old units.new) }
     ensures emptied { OnOk result (nodes frames.new ≡ []) }
-    ensures stop { IfErr result (λ why. StopsComponentOn R.rules R.ahead R.is_between (nodes frames.old)
+    ensures stop { IfErr result (λ why. StopsComponentOn R.rules R.fields R.ahead R.is_between (nodes frames.old)
         (part_of_field field.now) present units.old why) }
-    ensures kept { IfErr result (λ why. KeepsComponentOn R.rules R.ahead R.is_between (nodes frames.old)
+    ensures kept { IfErr result (λ why. KeepsComponentOn R.rules R.fields R.ahead R.is_between (nodes frames.old)
         (nodes frames.new) (part_of_field field.now) present units.old why) }
     ensures after { IfErr result (λ why. StandsAfter R.rules units.new why) }
     ensures ticked { Ticked R.rules units.old ticks.old units.new ticks.new }

@@ -39,15 +39,17 @@ pub fn feed<R: FeedLeaves>(
     requires at_unit { R.rules.at_unit units.old }
     requires of_profile { InProfile (shape_of ty.now) }
     requires covered { IsCovered (shape_of ty.now) }
-    requires reached { (us : List ℕ) × Took R.rules R.ahead R.is_between (nodes frames.old) (shape_of ty.now) us }
+    requires reached { (us : List ℕ) × Took R.rules R.fields R.ahead R.is_between (nodes frames.old) (shape_of ty.now)
+        us }
     requires few { ticks.old + length (R.rules.to_units units.old) < 2 ^ 64 }
     ensures at_unit { R.rules.at_unit units.new }
-    ensures done { IfOk result (λ v. ReadsOn R.rules R.ahead R.is_between (nodes frames.old) (shape_of ty.now)
+    ensures done { IfOk result (λ v. ReadsOn R.rules R.fields R.ahead R.is_between (nodes frames.old) (shape_of ty.now)
         (datum_of v) units.old units.new) }
     ensures emptied { OnOk result (nodes frames.new ≡ []) }
     ensures stop { IfErr result (λ why.
-        StopsOn R.rules R.ahead R.is_between (nodes frames.old) (shape_of ty.now) units.old why) }
-    ensures kept { IfErr result (λ why. KeepsOn R.rules R.ahead R.is_between (nodes frames.old) (nodes frames.new)
+        StopsOn R.rules R.fields R.ahead R.is_between (nodes frames.old) (shape_of ty.now) units.old why) }
+    ensures kept { IfErr result (λ why. KeepsOn R.rules R.fields R.ahead R.is_between (nodes frames.old) (nodes
+        frames.new)
         (shape_of ty.now) units.old why) }
     ensures after { IfErr result (λ why. StandsAfter R.rules units.new why) }
     ensures ticked { Ticked R.rules units.old ticks.old units.new ticks.new }
@@ -67,7 +69,7 @@ pub fn feed<R: FeedLeaves>(
         AsnType::Choice { root, ext } => {
             let root = root.as_slice();
             let node = frames.take();
-            resume_choice::<R>(alloc, root, ext, node, frames, units, ticks)
+            resume_choice::<R>(alloc, ty, root, ext, node, frames, units, ticks)
         }
         AsnType::Bool | AsnType::Null | AsnType::Int(_) | AsnType::Enum { .. } => {
             let node = frames.take();
@@ -89,6 +91,7 @@ pub(crate) fn begun_of<F: Drop>(node: Option<Frame<F>>) -> Begun
         Some(Frame::Elements(_list)) => unreachable!(),
         Some(Frame::Components(_read)) => unreachable!(),
         Some(Frame::Chosen(_)) => unreachable!(),
+        Some(Frame::Added(_)) => unreachable!(),
         Some(Frame::Octets(_octets)) => unreachable!(),
         None => Begun::none(),
     }
@@ -118,7 +121,7 @@ fn feed_scalar<R: FeedLeaves>(
     ensures stop { IfErr result (λ why. Stops R.rules.ruling.fielding (ValuesOf R.rules (shape_of ty.now))
         (R.rules.to_units (begun_of node) ++ R.rules.to_units units.old) why) }
     ensures kept { IfErr result (λ why.
-        KeepsFrames R.rules R.ahead R.is_between (nodes frames.new) (shape_of ty.now)
+        KeepsFrames R.rules R.fields R.ahead R.is_between (nodes frames.new) (shape_of ty.now)
         (R.rules.to_units (begun_of node) ++ R.rules.to_units units.old) why) }
     ensures after { IfErr result (λ why. StandsAfter R.rules units.new why) }
     ensures ticked { Ticked R.rules units.old ticks.old units.new ticks.new }

@@ -1,11 +1,12 @@
 -- Bits that wait, and those that come after them: which go out as whole octets, and which wait then.
 use Rattle.std.proofs.Common.{◌≡◌, ◌<◌, ◌≤◌, ◌+◌, ◌*◌, ◌/◌, ◌%◌, ◌^◌, ◌-◌, ℕ, List, [], ◌++◌, length, take, drop, sym, ap, ◌∙◌, append_assoc, arith}
 use Rattle.std.proofs.lemmas.List.{take_all}
-use Rattle.std.proofs.lemmas.Nat.{mod-mul-add}
+use Rattle.std.proofs.lemmas.Nat.{div-mul-add, mod-mul-add, pow_pos}
+use Rattle.std.proofs.Math.Seq.{take-append_seam}
 use Rattle.asn_bits.specs.Numbers.{bits, octets, unpacked}
 use Rattle.asn_bits.proofs.Octets.{length-digits}
 use Rattle.asn_bits.proofs.Packing.{bits_low, waiting_view}
-use Rattle.asn_bits.proofs.Splits.{digits-add, digits-join, digits-mod, drop-digits, unpacked-append, unpacked-octets}
+use Rattle.asn_bits.proofs.Splits.{digits-add, digits-join, digits-mod, two_pow_octets, unpacked-append, unpacked-octets}
 
 -- of the c bits of p and the k bits of n after them, the first m are a word, and the last l are those of n
 pub shifted_out : (c p k n m l w : ℕ) → n < 2 ^ k → m + l ≡ c + k → l ≤ k → m ≤ 64 → w ≡ (p * 2 ^ k + n) / 2 ^ l % 2 ^ 64
@@ -37,15 +38,24 @@ whole_out c p coming =
     ap (λ t. t ++ coming) (ap (λ i. bits i p) all ∙ digits-add 2 (8 * (c / 8)) (c % 8) p)
     ∙ append_assoc (bits (8 * (c / 8)) (p / 2 ^ (c % 8))) (bits (c % 8) p) coming
 
--- the last octets of eight
-pub last_of_eight : (count n : ℕ) (bytes : List ℕ) → count ≤ 8 → bytes ≡ octets 8 n
-    → unpacked (take (8 - (8 - count)) (drop (8 - count) bytes)) ≡ bits (8 * count) n
-last_of_eight count n bytes few e =
-    let all : 8 ≡ (8 - count) + count = omega arith in
-    let last : drop (8 - count) bytes ≡ octets count n =
-    ap (drop (8 - count)) e ∙ ap (λ i. drop (8 - count) (octets i n)) all ∙ drop-digits 256 (8 - count) count n in
-    let none : length (octets count n) ≤ 8 - (8 - count) = omega (arith, length-digits 256 count n) in
-    ap (λ t. unpacked (take (8 - (8 - count)) t)) last ∙ ap unpacked (take_all (8 - (8 - count)) (octets count n) none) ∙ unpacked-octets count n
+-- the first octets of eight, where a number was shifted to their front
+pub first_of_eight : (count n : ℕ) (bytes : List ℕ) → count ≤ 8 → bytes ≡ octets 8 (n * 2 ^ (64 - 8 * count) % 2 ^ 64)
+    → unpacked (take count bytes) ≡ bits (8 * count) n
+first_of_eight count n bytes few e =
+    let rest = 8 - count in
+    let word = n * 256 ^ rest + 0 in
+    let same : 64 - 8 * count ≡ 8 * rest = omega (arith, few) in
+    let shift : n * 2 ^ (64 - 8 * count) ≡ word = ap (λ i. n * 2 ^ i) same ∙ ap (λ b. n * b) (sym (two_pow_octets rest)) ∙ omega arith in
+    let whole : bytes ≡ octets 8 word =
+    e ∙ ap (λ w. octets 8 (w % 2 ^ 64)) shift ∙ ap (λ b. octets 8 (word % b)) (sym (two_pow_octets 8)) ∙ digits-mod 256 (omega arith) 8 word in
+    let all : 8 ≡ count + rest = omega arith in
+    let some : 0 < 256 ^ rest = omega (arith, two_pow_octets rest, pow_pos (8 * rest)) in
+    let high : word / 256 ^ rest ≡ n = div-mul-add n (256 ^ rest) 0 some in
+    let front = octets count (word / 256 ^ rest) in
+    let cut : bytes ≡ front ++ octets rest word = whole ∙ ap (λ i. octets i word) all ∙ digits-add 256 count rest word in
+    let first : take count bytes ≡ front =
+    ap (take count) cut ∙ ap (λ i. take i (front ++ octets rest word)) (sym (length-digits 256 count (word / 256 ^ rest))) ∙ take-append_seam front (octets rest word) in
+    ap unpacked (first ∙ ap (octets count) high) ∙ unpacked-octets count n
 
 -- bits cut anywhere
 pub bits-cut : (j k n : ℕ) → bits (j + k) n ≡ bits j (n / 2 ^ k) ++ bits k (n % 2 ^ k)

@@ -28,6 +28,14 @@ nil-append [] (suc k) n = sym none
     none = grind (arith, nat_tests)
 nil-append (x ∷ xs) k n = refl
 
+pub nil-unpacked : (xs os : List ℕ) → is_nil (xs ++ unpacked os) ≡ is_nil xs && (length os == 0)
+nil-unpacked [] [] = refl
+nil-unpacked [] (o ∷ os) = sym none
+  where
+    none : (suc (length os) == 0) ≡ false
+    none = grind (arith, nat_tests)
+nil-unpacked (x ∷ xs) os = refl
+
 pub some-append : (xs ys : List ℕ) → 0 < length ys → is_nil (xs ++ ys) ≡ false
 some-append [] [] h = absurd (omega arith)
 some-append [] (y ∷ ys) h = refl

@@ -1,5 +1,5 @@
 //! Bits before a writer.
-ghost use Rattle.std.specs.Prelude.{◌≡◌, ◌<◌, ◌≤◌, ◌^◌, ◌++◌, ◌%◌, ℕ, List, [], length, OnOk, IfErr};
+ghost use Rattle.std.specs.Prelude.{◌≡◌, ◌<◌, ◌≤◌, ◌^◌, ◌+◌, ◌++◌, ◌%◌, ℕ, List, [], length, OnOk, IfErr};
 ghost use Rattle.asn_bits.specs.Numbers.{bits, unpacked};
 ghost use Rattle.asn_rules.specs.Held.{Held};
 
@@ -24,18 +24,30 @@ impl BitWriter {
     ghost use Rattle.asn_window.specs.Written.{Wrote, Broke};
 
     /// Adds `n` in `k` bits.
+    #[inline(always)]
     pub fn put<O: Output>(&mut self, k: u32, n: u64, output: &mut O)
         requires few { k ≤ 64 }
         requires fits { n < 2 ^ k }
         ensures { TakesBits (O.held output.old) self.old (O.held output.new) self.new
             (bits k n) }
     {
-        let count = self.count;
-        if count + k < 64 {
+        if self.count + k < 64 {
             self.pending = shift_in(self.pending, k, n);
-            self.count = count + k;
+            self.count += k;
             return;
         }
+        self.put_across(k, n, output);
+    }
+
+    /// Adds `n` in `k` bits, with which there are at least 64.
+    fn put_across<O: Output>(&mut self, k: u32, n: u64, output: &mut O)
+        requires few { k ≤ 64 }
+        requires many { 64 ≤ self.old.count + k }
+        requires fits { n < 2 ^ k }
+        ensures { TakesBits (O.held output.old) self.old (O.held output.new) self.new
+            (bits k n) }
+    {
+        let count = self.count;
         if count == 0 {
             self.octets.put_word(n, output);
             return;

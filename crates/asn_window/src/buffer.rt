@@ -66,6 +66,19 @@ impl Buffer {
         self.count = end;
     }
 
+    /// Adds the first `count` of eight octets, for all of which there is room.
+    #[inline(always)]
+    pub fn extend_first(&mut self, octets: &[u8], count: usize)
+        requires eight { length octets.now ≡ 8 }
+        requires few { count ≤ 8 }
+        requires room { length self.old + 8 ≤ 4096 }
+        ensures { self.new ≡ self.old ++ take count octets.now }
+    {
+        let start = self.count;
+        self.octets[start..start + 8].copy_from_slice(octets);
+        self.count = start + count;
+    }
+
     /// Adds octets, for which there is room, after the low `count` bits of `pending`, and gives in whose low `count` bits
     /// what is left over stands.
     #[inline(always)]

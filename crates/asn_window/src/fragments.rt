@@ -85,6 +85,31 @@ pub(crate) fn put_at<O: Output>(
     put_at(fragments, at, writer, others, low_bits(others, n), output);
 }
 
+/// As `put_at`: at once where there is no open type field around.
+#[inline(always)]
+pub(crate) fn put_number<O: Output>(
+    fragments: &mut Fragments,
+    level: usize,
+    writer: &mut BitWriter,
+    k: u32,
+    n: u64,
+    output: &mut O,
+)
+    requires few { k ≤ 64 }
+    requires fits { n < 2 ^ k }
+    requires inside { level ≤ length fragments.old.left }
+    requires long { length fragments.old.after ≡ length fragments.old.left }
+    ensures told { TakesAt (O.held output.old) fragments.old writer.old level (bits k n)
+        (O.held output.new) fragments.new writer.new }
+    ensures same { IsSameFrom level fragments.old fragments.new }
+{
+    if level > 0 {
+        put_at(fragments, level, writer, k, n, output);
+        return;
+    }
+    writer.put(k, n, output);
+}
+
 /// The smaller of `room` and of the octets that come before `left` bits end, where there are any.
 fn smaller_room(room: usize, left: u64) -> usize
     ensures few { result ≤ room }

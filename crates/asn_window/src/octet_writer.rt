@@ -66,13 +66,28 @@ impl OctetWriter {
         ensures { TakesWhole (O.held output.old) self.old (O.held output.new) self.new
             (bits (8 * count) n) }
     {
+        if count == 0 {
+            return;
+        }
         self.make_room(8, output);
-        let octets = n.to_be_bytes();
-        self.buffer.extend(&octets[8 - count as usize..]);
+        let octets = (n << (64 - 8 * count)).to_be_bytes();
+        self.buffer.extend_first(&octets, count as usize);
     }
 
     /// Adds octets, as many at once as there is room for.
     pub fn put_octets<O: Output>(&mut self, octets: &[u8], output: &mut O)
+        ensures { TakesWhole (O.held output.old) self.old (O.held output.new) self.new
+            (unpacked octets.now) }
+    {
+        if octets.len() <= self.buffer.room() {
+            self.buffer.extend(octets);
+            return;
+        }
+        self.put_parts(octets, output);
+    }
+
+    /// Adds octets, and writes each time that no room is left.
+    fn put_parts<O: Output>(&mut self, octets: &[u8], output: &mut O)
         ensures { TakesWhole (O.held output.old) self.old (O.held output.new) self.new
             (unpacked octets.now) }
     {

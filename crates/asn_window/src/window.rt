@@ -5,8 +5,11 @@ ghost use Rattle.asn_window.specs.WindowStart.{Start};
 
 use crate::bit_writer::BitWriter;
 use crate::buffer::Buffer;
-use crate::fragments::{Fragments, begin_general, begin_single, put_at, put_octets_at, room_at};
+use crate::fragments::{
+    Fragments, begin_general, begin_single, put_number, put_octets_at, room_at,
+};
 use crate::octet_writer::OctetWriter;
+use asn_bits::internal::last_octets;
 use asn_rules::Output;
 use asn_sinks::{Framing, Sink};
 use std::convert::Infallible;
@@ -37,8 +40,8 @@ pub struct Window<'a, O> {
     ghost shallow: { depth ≤ 32 },
 }
 
-/// Whether there is still no bit after `k` more.
-fn is_still_empty(is_empty: bool, k: u32) -> bool
+/// Whether there is still no bit after `k` more bits or octets.
+fn is_still_empty(is_empty: bool, k: usize) -> bool
     ensures { result ≡ is_empty && (k == 0) }
 {
     is_empty && k == 0
@@ -109,12 +112,13 @@ impl<'a, O: Output> Window<'a, O> {
     }
 
     /// Adds the bits of a number.
+    #[inline(always)]
     fn put(&mut self, k: u32, n: u64)
         requires few { k ≤ 64 }
         requires fits { n < 2 ^ k }
         ensures { Pushes (λ w c taken coming. WindowStands O.held w c taken coming) self.old self.new (bits k n) }
     {
-        put_at(
+        put_number(
             &mut self.fragments,
             self.depth,
             &mut self.writer,
@@ -123,7 +127,18 @@ impl<'a, O: Output> Window<'a, O> {
             self.output,
         );
         self.phase = (self.phase + k) % 8;
-        self.is_empty = is_still_empty(self.is_empty, k);
+        self.is_empty = is_still_empty(self.is_empty, k as usize);
+    }
+
+    /// Adds octets outside of all open type fields.
+    #[inline(always)]
+    fn put_outside(&mut self, octets: &[u8])
+        requires { self.old.depth ≡ 0 }
+        ensures { Pushes (λ w c taken coming. WindowStands O.held w c taken coming) self.old self.new
+            (unpacked octets.now) }
+    {
+        self.writer.put_octets(octets, self.output);
+        self.is_empty = is_still_empty(self.is_empty, octets.len());
     }
 
     /// How many octets can be added with a bit left before each length determinant.
@@ -169,6 +184,19 @@ impl<'a, O: Output> Window<'a, O> {
         self.put_block(&octets[..count]);
         count
     }
+
+    /// Adds octets to the innermost open type field, and before each of its fragments the length determinant.
+    fn put_inside(&mut self, octets: &[u8])
+        ensures { Pushes (λ w c taken coming. WindowStands O.held w c taken coming) self.old self.new
+            (unpacked octets.now) }
+    {
+        let mut rest = octets;
+        while !rest.is_empty() {
+            let count = self.put_front(rest);
+            let (_, others) = rest.split_at(count);
+            rest = others;
+        }
+    }
 }
 
 impl<'a, O: Output> Sink for Window<'a, O> {
@@ -190,17 +218,24 @@ impl<'a, O: Output> Sink for Window<'a, O> {
 
     ghost wants_lengths = { true };
 
+    #[inline(always)]
     fn push_number(&mut self, k: u32, n: u64) -> Result<(), Infallible> {
         self.put(k, n);
         Ok(())
     }
 
+    #[inline(always)]
+    fn push_low_octets(&mut self, count: u32, n: u64) -> Result<(), Infallible> {
+        self.put(8 * count, last_octets(count, n));
+        Ok(())
+    }
+
+    #[inline(always)]
     fn push_octets(&mut self, octets: &[u8]) -> Result<(), Infallible> {
-        let mut rest = octets;
-        while !rest.is_empty() {
-            let count = self.put_front(rest);
-            let (_, others) = rest.split_at(count);
-            rest = others;
+        if self.depth == 0 {
+            self.put_outside(octets);
+        } else {
+            self.put_inside(octets);
         }
         Ok(())
     }

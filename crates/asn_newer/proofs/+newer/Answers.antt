@@ -22,7 +22,7 @@ use Rattle.asn_walk.specs.Ahead.{Next}
 use Rattle.asn_walk.specs.Coding.{IsIndexWithin, IndexOf}
 use Rattle.asn_walk.specs.Reading.{Reads}
 use Rattle.asn_walk.specs.Views.{index_seen}
-use Rattle.asn_walk.proofs.Parts.{good_at, marked_type, root_good, added_good}
+use Rattle.asn_walk.proofs.Parts.{fields_part_of, good_at, marked_type, root_good, added_good}
 use Rattle.asn_walk.proofs.Widths.{next_part, no_part, demand_of_part, datum_of-Int}
 use Rattle.asn_bits.proofs.Above.{kept}
 use mir.Val.{to_z, of_z}
@@ -43,7 +43,7 @@ use Rattle.asn_newer.proofs.Walk.InTypes.{few_of_root, few_additions, some_known
 use Rattle.asn_newer.proofs.Walk.ContentsRead.{no_value, no_filling, too_much, content_read, known_read, known_none}
 use Rattle.asn_newer.proofs.Walk.ElementsRead.{row_begins, row_none, row_next, row_ends, list_begins, no_length, list_ends, items_none, list_next, list_nearer, start_none, rest_none, rest_read}
 use Rattle.asn_newer.proofs.Walk.Halts.{halts_on, stops_on, none_mapped, no_field}
-use Rattle.asn_newer.proofs.Law.OneReading.{loose_way}
+use Rattle.asn_newer.proofs.Law.OneReading.{loose_way, part}
 use Rattle.asn_newer.proofs.+newer.Goals as goal
 use Rattle.asn_newer.proofs.+newer.Goals.{components::read_open_fields-then-next_present+in_ok-read_known, components::read_open_fields-else-next_present, reader::read_marked-then-preamble+in_ok-read_additions, reader::read_marked-else-preamble+in_ok-push_absent}
 
@@ -77,7 +77,7 @@ components::read_components-returns-in_err-entry-clause-stop g t c =
     let n = each_next l ways k c.next_of-present.result c.next_of-present.new.self.left c.next_of-present.ensures.must (λ e. (let b = c.next_of-present.ensures.bit e in (b.0, b.1 ∙ ap (λ m. m / 2 ^ c.next_of-present.new.self.left % 2) c.loop-field.invariant.1))) in
     let p = err_from_is_err_and c.from_residual.result c.from_residual.ensures.1 in
     let still : c.try_bounded.new.units ≡ c.loop-field.units = c.in_default.ensures.none refl in
-    rw (p.1, p.2) (halts_on _ (λ m. unmapped (n.none m)) (rw still at c.in_err-entry.ensures.stop))
+    rw (p.1, p.2) (halts_on _ (λ after m. unmapped (n.none after m)) (rw still at c.in_err-entry.ensures.stop))
 
 pub components::read_components-loop-field-preserved : goal.components::read_components-loop-field-preserved
 components::read_components-loop-field-preserved g t c =
@@ -112,7 +112,7 @@ components::read_entry-returns-in_err-read_other-in-Default-clause-stop g t c =
     let e : c.args.present ≡ true = c.if-not-present.false in
     let d : (part_of_field c.args.field.now).demand ≡ default (datum_of c.in-Default.default) = demand_of_part c.args.field.now ∙ ap demand_of c.in-Default.is in
     let p = err_from_is_err_and c.from_residual.result c.from_residual.ensures.1 in
-    rw (p.1, p.2, e, d, shape_of_part c.args.field.now) (stops_on _ (λ n. none_mapped (none_mapped n)) c.in_err-read_other-in-Default.ensures.stop)
+    rw (p.1, p.2, e, d, shape_of_part c.args.field.now) (stops_on (fields_part_of g.R.ReadLeaves.rules c.keep_laws.ensures) _ (λ after n. none_mapped (none_mapped n)) c.in_err-read_other-in-Default.ensures.stop)
 
 pub components::read_entry-returns-in_ok-read_other-in-Default-clause-done : goal.components::read_entry-returns-in_ok-read_other-in-Default-clause-done
 components::read_entry-returns-in_ok-read_other-in-Default-clause-done g t c =
@@ -161,7 +161,7 @@ components::read_open_fields-returns-in_err-read_known-clause-stop g t c =
     let k = rw (next_part c.args.fields.now c.loop-field.field-index c.field-item.result c.loop-field-test.true c.field-item.is) at c.loop-field.invariant.0 in
     let p = err_from_is_err_and c.from_residual.result c.from_residual.ensures.1 in
     let bit = bit_set c.next_present.ensures.bit c.if-next_present.true in
-    rw (p.1, p.2) (halts_on _ (λ m. unmapped (open_none l ways k (sym (add-one c.loop-field.field-index)) bit m)) (rw (← shape_of_part c.field-item.result) at c.in_err-read_known.ensures.stop))
+    rw (p.1, p.2) (halts_on _ (λ after m. unmapped (open_none l ways k (sym (add-one c.loop-field.field-index)) bit after m)) (rw (← shape_of_part c.field-item.result) at c.in_err-read_known.ensures.stop))
 
 pub components::read_open_fields-loop-field-preserved : goal.components::read_open_fields-loop-field-preserved
 components::read_open_fields-loop-field-preserved g t c =
@@ -191,14 +191,14 @@ components::read_open_fields-returns-clause-stop g t c =
     let e : c.loop-field.field-index ≡ length c.args.fields.now = omega (arith, c.loop-field-test.false, c.loop-field.auto.field-index-end) in
     let none = no_part c.args.fields.now c.loop-field.field-index c.loop-field-test.false in
     let d : IfErr c.skip_fields.result (λ why. HaltsAt g.R.ReadLeaves.rules (AllUnknown g.R.ReadLeaves.rules (length c.args.fields.now) (bits_left c.loop-field.presence)) c.loop-field.units why) = c.skip_fields.ensures.stop in
-    IfErr-weaker c.skip_fields.result _ _ (λ why s. halts_on why (λ m. unmapped (open_ends_none l ways c.loop-field.invariant.0 none m)) s) (rw (← e) at d)
+    IfErr-weaker c.skip_fields.result _ _ (λ why s. halts_on why (λ after m. unmapped (open_ends_none l ways c.loop-field.invariant.0 none after m)) s) (rw (← e) at d)
 
 pub reader::read_known-returns-in_err-octets-clause-stop : goal.reader::read_known-returns-in_err-octets-clause-stop
 reader::read_known-returns-in_err-octets-clause-stop g t c =
     let l = loose_by g.R.ReadLeaves.rules g.R.OtherVersions.loose in
     let ways = c.keep_walk_laws.ensures.ways in
     let p = err_from_is_err_and c.from_residual.result c.from_residual.ensures.1 in
-    rw (p.1, p.2) (stops_on _ no_field c.in_err-octets.ensures.stop)
+    rw (p.1, p.2) (stops_on (part l ways) _ (λ after. no_field) c.in_err-octets.ensures.stop)
 
 pub reader::read_known-returns-in-Ok-clause-done : goal.reader::read_known-returns-in-Ok-clause-done
 reader::read_known-returns-in-Ok-clause-done g t c =
@@ -217,7 +217,7 @@ reader::read_list-returns-in_err-fragments-clause-stop g t c =
     let l = loose_by g.R.ReadLeaves.rules g.R.OtherVersions.loose in
     let ways = c.keep_walk_laws.ensures.ways in
     let p = err_from_is_err_and c.from_residual.result c.from_residual.ensures.1 in
-    rw (p.1, p.2) (stops_on _ (start_none l ways (shape_of c.args.element.now) (size_range_of c.args.size.now) c.requires.of_profile (g.R.ReadLeaves.rules.to_units c.args.units.now)) c.in_err-fragments.ensures.stop)
+    rw (p.1, p.2) (stops_on (part l ways) _ (start_none l ways (shape_of c.args.element.now) (size_range_of c.args.size.now) c.requires.of_profile (g.R.ReadLeaves.rules.to_units c.args.units.now)) c.in_err-fragments.ensures.stop)
 
 pub reader::read_list-returns-in_err-read_fragments-clause-stop : goal.reader::read_list-returns-in_err-read_fragments-clause-stop
 reader::read_list-returns-in_err-read_fragments-clause-stop g t c =
@@ -241,7 +241,7 @@ reader::read_fragments-returns-in_err-count-clause-stop g t c =
     let l = loose_by g.R.ReadLeaves.rules g.R.OtherVersions.loose in
     let ways = c.keep_walk_laws.ensures.ways in
     let p = err_from_is_err_and c.from_residual.result c.from_residual.ensures.1 in
-    rw (p.1, p.2) (halts_on _ unmapped (no_length l ways (Loose l (shape_of c.args.element.now)) (loose_way l ways (shape_of c.args.element.now) c.requires.of_profile) c.loop-fragments.invariant.0 _ c.in_err-count.ensures.stop))
+    rw (p.1, p.2) (halts_on _ (λ after. unmapped) (no_length l ways (Loose l (shape_of c.args.element.now)) (loose_way l ways (shape_of c.args.element.now) c.requires.of_profile) c.loop-fragments.invariant.0 _ c.in_err-count.ensures.stop))
 
 pub reader::read_fragments-loop-fragments-preserved : goal.reader::read_fragments-loop-fragments-preserved
 reader::read_fragments-loop-fragments-preserved g t c =
@@ -265,7 +265,7 @@ reader::read_fragments-returns-in_err-read_elements-clause-stop g t c =
     let ways = c.keep_walk_laws.ensures.ways in
     let next : Next g.R.ReadLeaves.rules.ruling.fielding (g.R.ReadLeaves.ahead c.loop-fragments.fragments) (Some c.in-Some.count) (g.R.ReadLeaves.ahead c.next_fragment.new.fragments) (g.R.ReadLeaves.rules.to_units c.loop-fragments.units) (g.R.ReadLeaves.rules.to_units c.next_fragment.new.units) = rw c.in-Some.is at c.in_ok-count.ensures.done in
     let p = err_from_is_err_and c.from_residual-in_err-read_elements.result c.from_residual-in_err-read_elements.ensures.1 in
-    rw (p.1, p.2) (halts_on _ (λ m. unmapped (items_none l ways (Loose l (shape_of c.args.element.now)) (loose_way l ways (shape_of c.args.element.now) c.requires.of_profile) c.loop-fragments.invariant.0 next m)) c.in_err-read_elements.ensures.stop)
+    rw (p.1, p.2) (halts_on _ (λ after m. unmapped (items_none l ways (Loose l (shape_of c.args.element.now)) (loose_way l ways (shape_of c.args.element.now) c.requires.of_profile) c.loop-fragments.invariant.0 next after m)) c.in_err-read_elements.ensures.stop)
 
 pub reader::read_fragments-returns-clause-done : goal.reader::read_fragments-returns-clause-done
 reader::read_fragments-returns-clause-done g t c =
@@ -284,7 +284,7 @@ reader::read_elements-returns-in_err-value-clause-stop g t c =
     let l = loose_by g.R.ReadLeaves.rules g.R.OtherVersions.loose in
     let ways = c.keep_walk_laws.ensures.ways in
     let p = err_from_is_err_and c.from_residual.result c.from_residual.ensures.1 in
-    rw (p.1, p.2) (halts_on _ (λ n. unmapped (row_none (c.args.count - (c.loop-i.i + 1)) (c.args.count - c.loop-i.i) (omega (arith, c.loop-i-test.true)) n c.loop-i.invariant.0)) c.in_err-value.ensures.stop)
+    rw (p.1, p.2) (halts_on _ (λ after n. unmapped (row_none (c.args.count - (c.loop-i.i + 1)) (c.args.count - c.loop-i.i) (omega (arith, c.loop-i-test.true)) c.loop-i.invariant.0 after n)) c.in_err-value.ensures.stop)
 
 pub reader::read_elements-loop-i-preserved : goal.reader::read_elements-loop-i-preserved
 reader::read_elements-loop-i-preserved g t c =
@@ -368,7 +368,7 @@ reader::read_closed-returns-in_err-preamble-clause-stop g t c =
     let l = loose_by g.R.ReadLeaves.rules g.R.OtherVersions.loose in
     let ways = c.keep_walk_laws.ensures.ways in
     let p = err_from_is_err_and c.from_residual.result c.from_residual.ensures.1 in
-    rw (p.1, p.2) (stops_on _ (preamble_none l ways (fields_seen c.args.root.now) closed c.requires.of_profile (g.R.ReadLeaves.rules.to_units c.args.units.now)) (rw c.bitmap_width-width.ensures.count at c.in_err-preamble.ensures.stop))
+    rw (p.1, p.2) (stops_on (part l ways) _ (preamble_none l ways (fields_seen c.args.root.now) closed c.requires.of_profile (g.R.ReadLeaves.rules.to_units c.args.units.now)) (rw c.bitmap_width-width.ensures.count at c.in_err-preamble.ensures.stop))
 
 pub reader::read_closed-returns-in_err-read_components-clause-stop : goal.reader::read_closed-returns-in_err-read_components-clause-stop
 reader::read_closed-returns-in_err-read_components-clause-stop g t c =
@@ -382,7 +382,7 @@ reader::read_marked-returns-in_err-preamble-clause-stop g t c =
     let l = loose_by g.R.ReadLeaves.rules g.R.OtherVersions.loose in
     let ways = c.keep_walk_laws.ensures.ways in
     let p = err_from_is_err_and c.from_residual.result c.from_residual.ensures.1 in
-    rw (p.1, p.2) (stops_on _ (preamble_none l ways (fields_seen c.args.root.now) (marked (fields_seen c.args.additions.now)) c.requires.of_profile (g.R.ReadLeaves.rules.to_units c.args.units.now)) (rw c.bitmap_width-width.ensures.count at c.in_err-preamble.ensures.stop))
+    rw (p.1, p.2) (stops_on (part l ways) _ (preamble_none l ways (fields_seen c.args.root.now) (marked (fields_seen c.args.additions.now)) c.requires.of_profile (g.R.ReadLeaves.rules.to_units c.args.units.now)) (rw c.bitmap_width-width.ensures.count at c.in_err-preamble.ensures.stop))
 
 pub reader::read_marked-returns-in_err-read_components-clause-stop : goal.reader::read_marked-returns-in_err-read_components-clause-stop
 reader::read_marked-returns-in_err-read_components-clause-stop g t c =
@@ -426,7 +426,7 @@ reader::read-returns-in_err-read_simple-in-Enum-clause-stop g t c =
     let is = closed_enum_type c.args.ty.now c.in-Enum.root c.in-Enum.ext c.in-Enum.is c.in_default-ext-2.is in
     let o = closed_enum_on l (g.R.ReadLeaves.rules.to_units c.args.units.now) (labels_seen c.in-Enum.root.items) in
     let p = err_from_is_err_and c.from_residual.result c.from_residual.ensures.1 in
-    rw (p.1, p.2, is) (stops_on _ o.none (rw is at c.in_err-read_simple-in-Enum.ensures.stop))
+    rw (p.1, p.2, is) (stops_on (fields_part_of g.R.ReadLeaves.rules c.keep_laws.ensures) _ o.none (rw is at c.in_err-read_simple-in-Enum.ensures.stop))
 
 pub reader::read-returns-in_default-ext-2-clause-done : goal.reader::read-returns-in_default-ext-2-clause-done
 reader::read-returns-in_default-ext-2-clause-done g t c =
@@ -440,7 +440,7 @@ reader::read-returns-in_err-read_simple-in-Bool-clause-stop g t c =
     let l = loose_by g.R.ReadLeaves.rules g.R.OtherVersions.loose in
     let o = plain_on l (g.R.ReadLeaves.rules.to_units c.args.units.now) c.args.ty.now c.in-Bool.is in
     let p = err_from_is_err_and c.from_residual-in_err-read_simple-in-Bool.result c.from_residual-in_err-read_simple-in-Bool.ensures.1 in
-    rw (p.1, p.2) (stops_on _ o.none c.in_err-read_simple-in-Bool.ensures.stop)
+    rw (p.1, p.2) (stops_on (fields_part_of g.R.ReadLeaves.rules c.keep_laws-in-Bool.ensures) _ o.none c.in_err-read_simple-in-Bool.ensures.stop)
 
 pub reader::read-returns-in-Some-ext-clause-done : goal.reader::read-returns-in-Some-ext-clause-done
 reader::read-returns-in-Some-ext-clause-done g t c =
@@ -509,7 +509,7 @@ choices::read_closed_choice-returns-in_err-index-clause-stop g t c =
     let l = loose_by g.R.ReadLeaves.rules g.R.OtherVersions.loose in
     let ways = c.keep_walk_laws.ensures.ways in
     let p = err_from_is_err_and c.from_residual.result c.from_residual.ensures.1 in
-    rw (p.1, p.2) (stops_on _ (closed_none l ways c.args.root.now c.requires.of_profile (g.R.ReadLeaves.rules.to_units c.args.units.now)) c.in_err-index.ensures.stop)
+    rw (p.1, p.2) (stops_on (part l ways) _ (closed_none l ways c.args.root.now c.requires.of_profile (g.R.ReadLeaves.rules.to_units c.args.units.now)) c.in_err-index.ensures.stop)
 
 pub choices::read_closed_choice-read_root_alternative-requires : goal.choices::read_closed_choice-read_root_alternative-requires
 choices::read_closed_choice-read_root_alternative-requires g t c κs within =

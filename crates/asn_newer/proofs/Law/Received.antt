@@ -1,13 +1,13 @@
 -- What is read of a message is a value of the type, or one in which items and alternatives that the type has not stand
 -- as such.
-use Rattle.std.proofs.Common.{◌≡◌, ◌+◌, ◌-◌, ◌*◌, ◌<◌, ◌⊎◌, ℕ, zero, suc, Bool, true, false, IsTrue, nat_lt, MatchBool, List, [], ◌∷◌, ◌++◌, length, map, take, drop, Option, None, Some, refl, sym, ap, subst, ◌∙◌, arith, inl, inr}
+use Rattle.std.proofs.Common.{◌≡◌, ◌+◌, ◌-◌, ◌*◌, ◌⊎◌, ℕ, zero, suc, Bool, true, false, nat_lt, MatchBool, List, [], ◌∷◌, ◌++◌, length, map, take, drop, Option, None, Some, refl, sym, ap, subst, ◌∙◌, arith, inl, inr}
 use Rattle.std.proofs.lemmas.Bool.{true≢false, lt-ltb, le-ltb}
 use Rattle.std.proofs.lemmas.List.{length-map}
 use Rattle.std.proofs.Math.Seq.{take-append_seam, drop-append_seam}
 use Rattle.std.specs.List.{AllByRecursion, list_all}
-use Rattle.asn_values.specs.Datum.{Datum, elements, elements_of, element_list, alternative, unknown_alternative}
+use Rattle.asn_values.specs.Datum.{Datum, elements, elements_of, alternative, unknown_alternative}
 use Rattle.asn_values.specs.Shape.{SizeRange, Shape, boolean, null, integer, enumerated, bit_string, octet_string, restricted, utf8_string, sequence, sequence_of, choice, Label, closed_labels, marked_labels, must, optional, default, demands, Fields, no_fields, field, MoreFields, closed, marked, Alternatives, no_alternatives, one_of, MoreAlternatives, closed_choice, marked_choice, more_alternatives, count}
-use Rattle.asn_values.specs.Fits.{Fits, FitsLength}
+use Rattle.asn_values.specs.Fits.{FitsLength}
 use Rattle.asn_values.specs.Parts.{AreOfProfile, AreAllOfProfile}
 use Rattle.asn_values.specs.Profile.{InProfile, is_optional}
 use Rattle.asn_values.specs.Received.{FitsReceived, FitsEachBy, FitsMoreBy, FitsAlternativeBy, FitsMoreAlternativesBy, SequenceBy}

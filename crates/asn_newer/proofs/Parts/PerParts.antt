@@ -1,5 +1,5 @@
 -- What PER says of the parts.
-use Rattle.std.proofs.Common.{◌≡◌, ◌≢◌, ◌+◌, ◌-◌, ◌<◌, ◌≤◌, ℕ, pos, Bool, true, false, nat_lt, List, [], ◌∷◌, ◌++◌, length, refl, sym, ap, ◌∙◌, arith, inl, inr}
+use Rattle.std.proofs.Common.{◌≡◌, ◌≢◌, ◌+◌, ◌-◌, ◌<◌, ◌≤◌, ℕ, pos, Bool, true, false, nat_lt, List, [], ◌∷◌, ◌++◌, length, length-append, refl, sym, ap, ◌∙◌, arith, inl, inr}
 use Rattle.std.proofs.lemmas.Bool.{ltb-true, ltb-false}
 use Rattle.asn_values.specs.Datum.{Datum, item}
 use Rattle.asn_values.specs.Shape.{Shape, enumerated, Label, marked_labels}
@@ -17,6 +17,7 @@ use Rattle.asn_per.specs.Walk.{per_coding}
 use Rattle.asn_rules.specs.Components.{number_at}
 use Rattle.asn_per.proofs.Encodings.Complete.{filled_is, complete_full, complete_octets}
 use Rattle.asn_per.proofs.Types.EnumeratedLanguages.{few_additions}
+use Rattle.asn_walk.proofs.ItemNumbers.{few_items}
 use Rattle.asn_per.proofs.Encodings.SomeOctet.{not_empty}
 use Rattle.asn_per.proofs.Encodings.Spelt.{per_spelt}
 use Rattle.asn_per.proofs.Walk.WalkWriting.{per_write_laws}
@@ -82,7 +83,7 @@ per_items a b root ls more p good w f = go (nat_lt p (length root + length more)
         inr (record {
           source = pos (p - length root);
           spelt = record {
-            fits = (high, low);
+            fits = record { past = high; few = low; room = omega (arith, above, f, length-append root ls, few_items root (marked_labels ls) good) };
             same = ap (λ (k : Bool). ones (after_mark (λ u. u) true k (constrained (length root) (rank root (number_at root p))) (small (p - length root)))) past;
           };
           seen = refl;

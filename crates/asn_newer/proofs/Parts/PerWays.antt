@@ -80,7 +80,7 @@ unfolding per_loose
 unknown_code root additions (negsuc m) y r s f g e = absurd f
 unknown_code root additions (pos m) (negsuc n) r s f g e = absurd g
 unknown_code root additions (pos m) (pos n) r s f g e =
-    let d : (m ≡ n) × (r ≡ s) = digits_code 2 (omega arith) 7 m n r s (omega (arith, f.1)) (omega (arith, g.1)) (ap (λ (l : List ℕ). l ++ r) (sym (small_is m f.1)) ∙ tails e ∙ ap (λ (l : List ℕ). l ++ s) (small_is n g.1)) in
+    let d : (m ≡ n) × (r ≡ s) = digits_code 2 (omega arith) 7 m n r s (omega (arith, f.few)) (omega (arith, g.few)) (ap (λ (l : List ℕ). l ++ r) (sym (small_is m f.few)) ∙ tails e ∙ ap (λ (l : List ℕ). l ++ s) (small_is n g.few)) in
     (ap pos d.0, d.1)
   where
     tails : {u v : ℕ} {us vs : List ℕ} → u ∷ us ≡ v ∷ vs → us ≡ vs
@@ -111,8 +111,8 @@ apart root additions good (item p) (pos n) r s f g e = go (nat_lt p (length root
         let few : length additions ≤ 64 = few_additions root (marked_labels additions) good in
         let above : length root ≤ p = ltb-false p (length root) q in
         let low : p - length root < 64 = omega (arith, f, few, above) in
-        let d : (p - length root ≡ n) × (r ≡ s) = digits_code 2 (omega arith) 7 (p - length root) n r s (omega (arith, low)) (omega (arith, g.1)) (ap (λ (l : List ℕ). l ++ r) (sym (small_is (p - length root) low)) ∙ tails h ∙ ap (λ (l : List ℕ). l ++ s) (small_is n g.1)) in
-        absurd (omega (arith, d.0, f, above, g.0))
+        let d : (p - length root ≡ n) × (r ≡ s) = digits_code 2 (omega arith) 7 (p - length root) n r s (omega (arith, low)) (omega (arith, g.few)) (ap (λ (l : List ℕ). l ++ r) (sym (small_is (p - length root) low)) ∙ tails h ∙ ap (λ (l : List ℕ). l ++ s) (small_is n g.few)) in
+        absurd (omega (arith, d.0, f, above, g.past))
 apart root additions good _ z r s f g e = absurd f
 
 per_items : (root additions : List Label) → InProfile (enumerated root (marked_labels additions)) → OneWay per_loose.coding.ruling.fielding (AnyItem per_loose root additions)

@@ -30,7 +30,7 @@ use Rattle.asn_newer.specs.Loose.{LooseCoding, AnyBitmap, Known, Unknown, Loose,
 use Rattle.asn_newer.specs.Walking.{LooseAdditions, ReadingAfter, EntriesAfter, FieldAfter}
 use Rattle.asn_newer.specs.Ways.{WayLaws}
 use Rattle.asn_newer.proofs.Walk.Following.{taken}
-use Rattle.asn_newer.proofs.Walk.Halts.{Onward, on, mapped, second}
+use Rattle.asn_newer.proofs.Walk.Halts.{NoneOn, Onward, on, mapped, second}
 use Rattle.asn_newer.proofs.Law.OneReading.{part, each_way, index_way}
 use Rattle.asn_newer.proofs.Law.OneWay.{plain_way}
 
@@ -43,15 +43,15 @@ module _ (l : LooseCoding) (h : WayLaws l) (root : Fields) (more : MoreFields) (
   whole : Onward R (Then (PreambleOf l.coding (bitmap_length root) (additions_to_come more)) (λ p. Then (LooseEach l root (bits (bitmap_length root) p.1)) (λ _. LooseMore l more p.0))) us (λ p. sequence_read p.1) (Loose l (sequence root more)) us
   whole = mapped R (λ p. sequence_read p.1) (Then (PreambleOf l.coding (bitmap_length root) (additions_to_come more)) (λ p. Then (LooseEach l root (bits (bitmap_length root) p.1)) (λ _. LooseMore l more p.0))) us
 
-  pub preamble_none : NoSpelling R (PreambleOf l.coding (bitmap_length root) (additions_to_come more)) us → NoSpelling R (Loose l (sequence root more)) us
-  preamble_none n = whole.none (then_none_first n)
+  pub preamble_none : NoneOn R (PreambleOf l.coding (bitmap_length root) (additions_to_come more)) us (Loose l (sequence root more)) us
+  preamble_none further n = whole.none further (then_none_first n)
 
   module _ {p : Bool × ℕ} {r : List ℕ} (preamble : Spells R (PreambleOf l.coding (bitmap_length root) (additions_to_come more)) p us r) where
     inside : Onward R (Then (LooseEach l root (bits (bitmap_length root) p.1)) (λ _. LooseMore l more p.0)) r sequence_read (Loose l (sequence root more)) us
     inside = on (second {M = λ p. Then (LooseEach l root (bits (bitmap_length root) p.1)) (λ _. LooseMore l more p.0)} (plain_way (λ p. l.coding.preamble (extension_bit (is_some (additions_to_come more)) p.0 ++ bits (bitmap_length root) p.1)) (part l h) (h.laws.preamble (bitmap_length root) (additions_to_come more))) preamble) whole
 
-    pub root_none : NoSpelling R (LooseEach l root (bits (bitmap_length root) p.1)) r → NoSpelling R (Loose l (sequence root more)) us
-    root_none n = inside.none (then_none_first n)
+    pub root_none : NoneOn R (LooseEach l root (bits (bitmap_length root) p.1)) r (Loose l (sequence root more)) us
+    root_none further n = inside.none further (then_none_first n)
 
     module _ (ss : List Skipped) {es : List (Option Datum)} {now : List Skipped} {q : List ℕ} (each : Spells R (EntriesAfter [] ss (LooseEach l root (bits (bitmap_length root) p.1))) (es, now) r q) where
       abbrev came : Entries
@@ -60,8 +60,8 @@ module _ (l : LooseCoding) (h : WayLaws l) (root : Fields) (more : MoreFields) (
       more_on : Onward R (LooseMore l more p.0) q (λ m. sequence_read (came, m)) (Loose l (sequence root more)) us
       more_on = on (second {M = λ _. LooseMore l more p.0} (each_way l h root (bits (bitmap_length root) p.1) (components_of_profile root more good)) (map_source each).1) inside
 
-      pub more_none : NoSpelling R (LooseMore l more p.0) q → NoSpelling R (Loose l (sequence root more)) us
-      more_none n = more_on.none n
+      pub more_none : NoneOn R (LooseMore l more p.0) q (Loose l (sequence root more)) us
+      more_none = more_on.none
 
       -- the additions after the root
       pub sequence_done : {all : List (Option Datum)} {end : List Skipped} {t : List ℕ} → Spells R (EntriesAfter es now (LooseMore l more p.0)) (all, end) q t → Spells R (ReadingAfter ss (Loose l (sequence root more))) (components (components_of all), end) us t
@@ -86,8 +86,8 @@ module _ (l : LooseCoding) (h : WayLaws l) (fs : Fields) (us : List ℕ) where
   bitmap_on : Onward l.coding.ruling.fielding (Then (AnyBitmap l.coding) (λ p. LooseOpen l 0 fs (bits p.0 p.1))) us after_first (LooseAdditions l fs) us
   bitmap_on = mapped l.coding.ruling.fielding after_first (Then (AnyBitmap l.coding) (λ p. LooseOpen l 0 fs (bits p.0 p.1))) us
 
-  pub bitmap_none : NoSpelling l.coding.ruling.fielding (AnyBitmap l.coding) us → NoSpelling l.coding.ruling.fielding (LooseAdditions l fs) us
-  bitmap_none n = bitmap_on.none (then_none_first n)
+  pub bitmap_none : NoneOn l.coding.ruling.fielding (AnyBitmap l.coding) us (LooseAdditions l fs) us
+  bitmap_none further n = bitmap_on.none further (then_none_first n)
 
   module _ {p : ℕ × ℕ} {r : List ℕ} (bitmap : Spells l.coding.ruling.fielding (AnyBitmap l.coding) p us r) where
     pub open_on : Onward l.coding.ruling.fielding (LooseOpen l 0 fs (bits p.0 p.1)) r (λ (e : Entries). e) (LooseAdditions l fs) us
@@ -104,8 +104,8 @@ module _ (l : LooseCoding) (h : WayLaws l) (root : Alternatives) (more : MoreAlt
   choice_on : Onward l.coding.ruling.fielding (Then (IndexOf l.coding (count root) (alternatives_to_come root more)) (by_index (λ i. LooseRoot l i root i) (λ i. LooseOther l (count root) more i))) us after_first (Loose l (choice root more)) us
   choice_on = mapped l.coding.ruling.fielding after_first (Then (IndexOf l.coding (count root) (alternatives_to_come root more)) (by_index (λ i. LooseRoot l i root i) (λ i. LooseOther l (count root) more i))) us
 
-  pub index_none : NoSpelling l.coding.ruling.fielding (IndexOf l.coding (count root) (alternatives_to_come root more)) us → NoSpelling l.coding.ruling.fielding (Loose l (choice root more)) us
-  index_none n = choice_on.none (then_none_first n)
+  pub index_none : NoneOn l.coding.ruling.fielding (IndexOf l.coding (count root) (alternatives_to_come root more)) us (Loose l (choice root more)) us
+  index_none further n = choice_on.none further (then_none_first n)
 
   -- after an index
   pub after_index : {i : ℕ ⊎ ℕ} {r : List ℕ} → Spells l.coding.ruling.fielding (IndexOf l.coding (count root) (alternatives_to_come root more)) i us r
@@ -114,18 +114,17 @@ module _ (l : LooseCoding) (h : WayLaws l) (root : Alternatives) (more : MoreAlt
 
 -- the same, of alternatives that the program holds
 module _ (l : LooseCoding) (h : WayLaws l) (root : List Alt) (good : InProfile (choice (alternatives_of (map branch_of root)) closed_choice)) (us : List ℕ) where
-  pub closed_none : NoSpelling l.coding.ruling.fielding (IndexOf l.coding (length root) None) us → NoSpelling l.coding.ruling.fielding (Loose l (choice (alternatives_of (map branch_of root)) closed_choice)) us
-  closed_none n = index_none l h (alternatives_of (map branch_of root)) closed_choice good us (subst (λ (k : ℕ). NoSpelling l.coding.ruling.fielding (IndexOf l.coding k None) us) (sym (count-of root)) n)
+  pub closed_none : NoneOn l.coding.ruling.fielding (IndexOf l.coding (length root) None) us (Loose l (choice (alternatives_of (map branch_of root)) closed_choice)) us
+  closed_none further n = index_none l h (alternatives_of (map branch_of root)) closed_choice good us further (subst (λ (k : ℕ). NoSpelling l.coding.ruling.fielding (IndexOf l.coding k None) (us ++ further)) (sym (count-of root)) n)
 
   pub closed_on : {i : ℕ} {r : List ℕ} → Spells l.coding.ruling.fielding (IndexOf l.coding (length root) None) (inl i) us r
       → Onward l.coding.ruling.fielding (LooseRoot l i (alternatives_of (map branch_of root)) i) r (λ (a : Reading). a) (Loose l (choice (alternatives_of (map branch_of root)) closed_choice)) us
   closed_on {i} {r} k = after_index l h (alternatives_of (map branch_of root)) closed_choice good us {i = inl i} (subst (λ (n : ℕ). Spells l.coding.ruling.fielding (IndexOf l.coding n None) (inl i) us r) (sym (count-of root)) k)
 
 module _ (l : LooseCoding) (h : WayLaws l) (root more : List Alt) (good : InProfile (choice (alternatives_of (map branch_of root)) (marked_choice (alternatives_of (map branch_of more))))) (us : List ℕ) where
-  pub marked_none : NoSpelling l.coding.ruling.fielding (IndexOf l.coding (length root) (Some (63 - length root))) us
-      → NoSpelling l.coding.ruling.fielding (Loose l (choice (alternatives_of (map branch_of root)) (marked_choice (alternatives_of (map branch_of more))))) us
-  marked_none n = index_none l h (alternatives_of (map branch_of root)) (marked_choice (alternatives_of (map branch_of more))) good us
-      (subst (λ (k : ℕ). NoSpelling l.coding.ruling.fielding (IndexOf l.coding k (Some (63 - k))) us) (sym (count-of root)) n)
+  pub marked_none : NoneOn l.coding.ruling.fielding (IndexOf l.coding (length root) (Some (63 - length root))) us (Loose l (choice (alternatives_of (map branch_of root)) (marked_choice (alternatives_of (map branch_of more))))) us
+  marked_none further n = index_none l h (alternatives_of (map branch_of root)) (marked_choice (alternatives_of (map branch_of more))) good us further
+      (subst (λ (k : ℕ). NoSpelling l.coding.ruling.fielding (IndexOf l.coding k (Some (63 - k))) (us ++ further)) (sym (count-of root)) n)
 
   after : {i : ℕ ⊎ ℕ} {r : List ℕ} → Spells l.coding.ruling.fielding (IndexOf l.coding (length root) (Some (63 - length root))) i us r
       → Spells l.coding.ruling.fielding (IndexOf l.coding (count (alternatives_of (map branch_of root))) (Some (63 - count (alternatives_of (map branch_of root))))) i us r

@@ -26,7 +26,7 @@ use Rattle.asn_newer.specs.Halting.{Halts, halt_of}
 use Rattle.asn_newer.specs.Walking.{ReadingAfter, ItemsAfter}
 use Rattle.asn_newer.specs.Ways.{OneWay, WayLaws}
 use Rattle.asn_newer.proofs.Walk.Following.{seen_as, took, taken}
-use Rattle.asn_newer.proofs.Walk.Halts.{Onward, on, mapped, second, alike, none_mapped, stops_on}
+use Rattle.asn_newer.proofs.Walk.Halts.{NoneOn, Onward, on, mapped, second, alike, none_mapped, stops_on}
 use Rattle.asn_newer.proofs.Law.OneReading.{part}
 use Rattle.asn_newer.proofs.Law.OneWay.{lawful_way, header_way, row_way}
 
@@ -55,8 +55,8 @@ module _ (R : Fielding) (L : Reading → List Chunk → Type 0) where
 
 module _ {R : Fielding} {L : Reading → List Chunk → Type 0} {T : List Datum × List Skipped → List Chunk → Type 0} {us : List ℕ} {ds : List Datum} {ss : List Skipped} {vs : List ℕ} where
   -- the next stops
-  pub row_none : (m k : ℕ) → k ≡ suc m → NoSpelling R L vs → RowUpTo R L T us k ds ss vs → NoSpelling R T us
-  row_none m k e n w = (subst (λ (j : ℕ). RowUpTo R L T us j ds ss vs) e w).onward.none (none_mapped (then_none_first n))
+  pub row_none : (m k : ℕ) → k ≡ suc m → RowUpTo R L T us k ds ss vs → NoneOn R L vs T us
+  row_none m k e w further n = (subst (λ (j : ℕ). RowUpTo R L T us j ds ss vs) e w).onward.none further (none_mapped (then_none_first n))
 
   -- it has been read
   pub row_next : (m k : ℕ) → k ≡ suc m → OneWay R L → (d : Datum) (now : List Skipped) (r : List ℕ) → Spells R (ReadingAfter ss L) (d, now) vs r → RowUpTo R L T us k ds ss vs → RowUpTo R L T us m (ds ++ d ∷ []) now r
@@ -96,7 +96,7 @@ module _ (l : LooseCoding) (h : WayLaws l) (L : Reading → List Chunk → Type 
     pub no_length : (why : Stop) → StopsNext R ahead vs why → Halts l.coding T us (halt_of why)
     no_length why s =
         let o : Onward R (General L (At (Spanned s.counts) s.so_far s.closed)) vs (put_items ds ss) T us = subst (λ (a : Ahead). Onward R (Remaining L a) vs (put_items ds ss) T us) s.was w.onward in
-        stops_on why (λ n. o.none ((after_header s.counts s.so_far s.closed vs).none (then_none_first n))) s.stops
+        stops_on (part l h) why (λ further n. o.none further ((after_header s.counts s.so_far s.closed vs).none further (then_none_first n))) s.stops
 
     -- nothing is ahead
     pub list_ends : {new : Ahead} {r : List ℕ} → Next R ahead None new vs r → Spells R T (ds, ss) us r
@@ -109,15 +109,15 @@ module _ (l : LooseCoding) (h : WayLaws l) (L : Reading → List Chunk → Type 
 
     module _ {new : Ahead} {k : ℕ} {r : List ℕ} (n : Next R ahead (Some k) new vs r) where
       -- the items after a length stop
-      pub items_none : NoSpelling R (Row L k) r → NoSpelling R T us
-      items_none none = go ahead n.advances w.onward
+      pub items_none : NoneOn R (Row L k) r T us
+      items_none further none = go ahead n.advances w.onward
         where
-          go : (a : Ahead) → Advances R a (Some k) new vs r → Onward R (Remaining L a) vs (put_items ds ss) T us → NoSpelling R T us
+          go : (a : Ahead) → Advances R a (Some k) new vs r → Onward R (Remaining L a) vs (put_items ds ss) T us → NoSpelling R T (us ++ further)
           go end e o = absurd e
-          go (items m) e o = o.none (subst (λ (t : List ℕ). NoSpelling R (Row L m) t) e.2 (subst (λ (j : ℕ). NoSpelling R (Row L j) r) e.0 none))
+          go (items m) e o = o.none further (subst (λ (t : List ℕ). NoSpelling R (Row L m) (t ++ further)) e.2 (subst (λ (j : ℕ). NoSpelling R (Row L j) (r ++ further)) e.0 none))
           go (lengths is so_far closed) e o = ⊎_elim
-              (λ x. o.none ((after_header is so_far closed vs).none ((second {M = Body L (General L) (At (Spanned is) so_far closed)} (header_way (part l h) (At (Spanned is) so_far closed)) x.0).none none)))
-              (λ x. o.none ((after_header is so_far closed vs).none ((second {M = Body L (General L) (At (Spanned is) so_far closed)} (header_way (part l h) (At (Spanned is) so_far closed)) x.1).none (none_mapped (then_none_first (subst (λ (j : ℕ). NoSpelling R (Row L j) r) x.2 none))))))
+              (λ x. o.none further ((after_header is so_far closed vs).none further ((second {M = Body L (General L) (At (Spanned is) so_far closed)} (header_way (part l h) (At (Spanned is) so_far closed)) x.0).none further none)))
+              (λ x. o.none further ((after_header is so_far closed vs).none further ((second {M = Body L (General L) (At (Spanned is) so_far closed)} (header_way (part l h) (At (Spanned is) so_far closed)) x.1).none further (none_mapped (then_none_first (subst (λ (j : ℕ). NoSpelling R (Row L j) (r ++ further)) x.2 none))))))
               e.read
 
       -- they have been read
@@ -137,7 +137,7 @@ module _ (l : LooseCoding) (h : WayLaws l) (L : Reading → List Chunk → Type 
 
         -- the last ones
         ended : Onward R (Row L k) r (put_items ds ss) T us → Onward R (Nothing []) t (put_items es now) T us
-        ended o = moved (record { done = done; none = λ m. absurd (m [] t (nothing_spells R [] t)) })
+        ended o = moved (record { done = done; none = λ further m. absurd (m [] (t ++ further) (nothing_spells R [] (t ++ further))) })
           where
             done : (b : List Reading) (q : List ℕ) → Spells R (Nothing []) b t q → Spells R T (put_items ds ss (rows ++ b)) us q
             done b q x =
@@ -179,15 +179,15 @@ module _ (l : LooseCoding) (h : WayLaws l) (t : Shape) (s : SizeRange) (good : I
   whole : Onward l.coding.ruling.fielding (Then (l.coding.list_start s) (λ a. Remaining (Loose l t) a)) us (λ p. list_read (after_first p)) (Loose l (sequence_of t s)) us
   whole = on (mapped l.coding.ruling.fielding after_first (Then (l.coding.list_start s) (λ a. Remaining (Loose l t) a)) us) (mapped l.coding.ruling.fielding list_read (ListingOf l.coding s (Loose l t)) us)
 
-  pub start_none : NoSpelling l.coding.ruling.fielding (l.coding.list_start s) us → NoSpelling l.coding.ruling.fielding (Loose l (sequence_of t s)) us
-  start_none n = whole.none (then_none_first n)
+  pub start_none : NoneOn l.coding.ruling.fielding (l.coding.list_start s) us (Loose l (sequence_of t s)) us
+  start_none further n = whole.none further (then_none_first n)
 
   module _ {a : Ahead} {r : List ℕ} (start : Spells l.coding.ruling.fielding (l.coding.list_start s) a us r) where
     rest : Onward l.coding.ruling.fielding (Remaining (Loose l t) a) r list_read (Loose l (sequence_of t s)) us
     rest = on (second {M = λ a. Remaining (Loose l t) a} (lawful_way (part l h) (h.laws.list_start s (list_size t s good)) (h.start s)) start) whole
 
-    pub rest_none : NoSpelling l.coding.ruling.fielding (Remaining (Loose l t) a) r → NoSpelling l.coding.ruling.fielding (Loose l (sequence_of t s)) us
-    rest_none n = rest.none n
+    pub rest_none : NoneOn l.coding.ruling.fielding (Remaining (Loose l t) a) r (Loose l (sequence_of t s)) us
+    rest_none = rest.none
 
     pub rest_read : (ss : List Skipped) {ds : List Datum} {now : List Skipped} {q : List ℕ} → Spells l.coding.ruling.fielding (ItemsAfter [] ss (Remaining (Loose l t) a)) (ds, now) r q → Spells l.coding.ruling.fielding (ReadingAfter ss (Loose l (sequence_of t s))) (elements (elements_of ds), now) us q
     rest_read ss {ds} {now} {q} k =

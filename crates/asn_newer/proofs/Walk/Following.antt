@@ -28,7 +28,7 @@ use Rattle.asn_newer.specs.Skipped.{Skipped, Reading, Entries, nothing_skipped, 
 use Rattle.asn_newer.specs.Loose.{LooseCoding, AnyOctets, Unknown, AllUnknown, Known, Loose, LooseEach, LooseOpen}
 use Rattle.asn_newer.specs.Walking.{LooseEntry, ReadingAfter, EntriesAfter, FieldsAfter, FieldAfter}
 use Rattle.asn_newer.specs.Ways.{OneWay, WayLaws}
-use Rattle.asn_newer.proofs.Walk.Halts.{Onward, on, mapped, second, none_mapped, field_read, no_field, held}
+use Rattle.asn_newer.proofs.Walk.Halts.{NoneOn, Onward, on, mapped, second, none_mapped, field_read, no_field, held}
 use Rattle.asn_newer.proofs.Law.OneWay.{map_way, spelt_way}
 use Rattle.asn_newer.proofs.Law.OneReading.{loose_way, known_way, unknown_way}
 
@@ -124,7 +124,7 @@ pub record EachUpTo (l : LooseCoding) (T : Entries → List Chunk → Type 0) (u
 pub record EachNext (l : LooseCoding) (T : Entries → List Chunk → Type 0) (us : List ℕ) (p : Part) (rest : List Part) (after bitmap : ℕ) (present : Bool) (entries : List (Option Datum)) (skipped : List Skipped) (vs : List ℕ) : Type 0 where
   pub of_profile : InProfile p.shape
   pub good : IsGoodDemand p.demand p.shape
-  pub none : NoSpelling l.coding.ruling.fielding (LooseEntry l p.demand p.shape present) vs → NoSpelling l.coding.ruling.fielding T us
+  pub none : NoneOn l.coding.ruling.fielding (LooseEntry l p.demand p.shape present) vs T us
   pub more : (e : Option Datum) (now : List Skipped) (r : List ℕ) → Spells l.coding.ruling.fielding (ReadingAfter skipped (LooseEntry l p.demand p.shape present)) (e, now) vs r → EachUpTo l T us rest after bitmap (entries ++ e ∷ []) now r
 
 pub record OpenUpTo (l : LooseCoding) (T : Entries → List Chunk → Type 0) (us : List ℕ) (place : ℕ) (rest : List Part) (present : List ℕ) (entries : List (Option Datum)) (skipped : List Skipped) (vs : List ℕ) : Type 0 where
@@ -158,10 +158,10 @@ module _ (l : LooseCoding) (h : WayLaws l) where
         let g : SkippedUpTo l.coding T us (suc place) after now r = record { onward = seen_as (λ s. sym (append_assoc skipped (m.0 ∷ []) s) ∙ ap (λ (x : List Skipped). x ++ s) (sym m.2)) (on two o'.onward) } in
         subst (λ (n : ℕ). SkippedUpTo l.coding T us n after now r) f g
 
-    pub skips_none : {place : ℕ} {present after : List ℕ} → present ≡ 1 ∷ after → NoSpelling R (Unknown l.coding place) vs → SkippedUpTo l.coding T us place present skipped vs → NoSpelling R T us
-    skips_none {place} {present} {after} e n o =
+    pub skips_none : {place : ℕ} {present after : List ℕ} → present ≡ 1 ∷ after → SkippedUpTo l.coding T us place present skipped vs → NoneOn R (Unknown l.coding place) vs T us
+    skips_none {place} {present} {after} e o further n =
         let o' : SkippedUpTo l.coding T us place (1 ∷ after) skipped vs = subst (λ (bs : List ℕ). SkippedUpTo l.coding T us place bs skipped vs) e o in
-        o'.onward.none (none_mapped (then_none_first n))
+        o'.onward.none further (none_mapped (then_none_first n))
 
     pub skips_end : {place : ℕ} {present : List ℕ} → present ≡ [] → SkippedUpTo l.coding T us place present skipped vs → Spells R T skipped us vs
     skips_end {place} {present} e o =
@@ -172,7 +172,7 @@ module _ (l : LooseCoding) (h : WayLaws l) where
 
   -- an entry that was read, and those after it
   pub record Step (E : Option Datum × List Skipped → List Chunk → Type 0) (M W : Entries → List Chunk → Type 0) (vs : List ℕ) : Type 0 where
-    pub none : NoSpelling R E vs → NoSpelling R W vs
+    pub none : NoneOn R E vs W vs
     pub more : (e : Option Datum) (s : List Skipped) (r : List ℕ) → Spells R E (e, s) vs r → Onward R M r (λ p. (e ∷ p.0, s ++ p.1)) W vs
 
   abbrev some_of : Reading → Option Datum × List Skipped
@@ -180,7 +180,7 @@ module _ (l : LooseCoding) (h : WayLaws l) where
 
   pub came : (L : Reading → List Chunk → Type 0) (M : Entries → List Chunk → Type 0) (vs : List ℕ) → OneWay R L → Step (Map some_of L) M (Map entry_read (Then L (λ _. M))) vs
   came L M vs way = record {
-    none = λ n. none_mapped (then_none_first (unmapped n));
+    none = λ further n. none_mapped (then_none_first (unmapped n));
     more = λ e s r k.
         let m = map_source k in
         seen_as (λ p. ap (λ (x : Option Datum × List Skipped). (x.0 ∷ p.0, x.1 ++ p.1)) (sym m.2)) (on (second {M = λ _. M} way m.1) (mapped R entry_read (Then L (λ _. M)) vs));
@@ -188,7 +188,7 @@ module _ (l : LooseCoding) (h : WayLaws l) where
 
   pub left_out : (a : Option Datum) (M : Entries → List Chunk → Type 0) (vs : List ℕ) → Step (Nothing (a, [])) M (Map (entry_left a) M) vs
   left_out a M vs = record {
-    none = λ n. absurd (n (a, []) vs (nothing_spells R (a, []) vs));
+    none = λ further n. absurd (n (a, []) (vs ++ further) (nothing_spells R (a, []) (vs ++ further)));
     more = λ e s r k.
         let same : vs ≡ r = k.split ∙ ap (λ (cs : List Chunk). flat R.spelled cs ++ r) k.spelt.empty in
         let o : Onward R M r (entry_left a) (Map (entry_left a) M) vs = subst (λ (t : List ℕ). Onward R M t (entry_left a) (Map (entry_left a) M) vs) same (mapped R (entry_left a) M vs) in
@@ -225,7 +225,7 @@ module _ (l : LooseCoding) (h : WayLaws l) where
         record {
           of_profile = k.of_profile.0;
           good = k.of_profile.1;
-          none = λ n. k.onward.none (step.none n);
+          none = λ further n. k.onward.none further (step.none further n);
           more = λ e now r t. (let w = took t in record {
             of_profile = k.of_profile.2;
             width = width_is (has_presence_bit p.demand) refl;
@@ -263,7 +263,7 @@ module _ (l : LooseCoding) (h : WayLaws l) where
   absent_on : (place : ℕ) (name : List ℕ) (d : Demand) (t : Shape) (fs : Fields) (vs : List ℕ) → Onward R (LooseOpen l (suc place) fs []) vs (entry_left None) (LooseOpen l place (field name d t fs) []) vs
   absent_on place name d t fs vs = record {
     done = λ p r k. (let e = all_absent (suc place) fs p k.chunks k.spelt in record { chunks = k.chunks; spelt = record { same = ap (entry_left None) e.0; empty = e.1 }; contents = k.contents; split = k.split });
-    none = λ n. absurd (n (absent_entries fs, []) vs (record { chunks = []; spelt = absent_all (suc place) fs; contents = tt; split = refl }));
+    none = λ further n. absurd (n (absent_entries fs, []) (vs ++ further) (record { chunks = []; spelt = absent_all (suc place) fs; contents = tt; split = refl }));
   }
 
   module _ {T : Entries → List Chunk → Type 0} {us : List ℕ} {place next : ℕ} {p : Part} {rest : List Part} {present after : List ℕ} {entries : List (Option Datum)} {skipped : List Skipped} {vs : List ℕ} (k : OpenUpTo l T us place (p ∷ rest) present entries skipped vs) (e : suc place ≡ next) where
@@ -294,8 +294,8 @@ module _ (l : LooseCoding) (h : WayLaws l) where
           let a = put_more entries skipped (Some v) w.skipped now w.same (s.more (Some v) w.skipped r (map_spells {f = some_of} w.spelt)) there in
           record { of_profile = k.of_profile.2; onward = subst (λ (n : ℕ). Onward R (LooseOpen l n (fields_of rest) after) r (put (entries ++ Some v ∷ []) now) T us) e a }
 
-      pub open_none : NoSpelling R (Known l.coding (Loose l p.shape)) vs → NoSpelling R T us
-      open_none n = there.none (none_mapped (then_none_first n))
+      pub open_none : NoneOn R (Known l.coding (Loose l p.shape)) vs T us
+      open_none further n = there.none further (none_mapped (then_none_first n))
 
   -- none is left of the type: the others are skipped
   module _ {T : Entries → List Chunk → Type 0} {us : List ℕ} {place : ℕ} {rest : List Part} {present : List ℕ} {entries : List (Option Datum)} {skipped : List Skipped} {vs : List ℕ} (k : OpenUpTo l T us place rest present entries skipped vs) (e : rest ≡ []) where
@@ -308,5 +308,5 @@ module _ (l : LooseCoding) (h : WayLaws l) where
         let read : Spells R T (entries ++ [], skipped ++ m.0) us r = others.done m.0 r m.1 in
         subst (λ (p : Entries). Spells R T p us r) (λ i. (append-nil entries i, sym m.2 i)) read
 
-    pub open_ends_none : NoSpelling R (AllUnknown l.coding place present) vs → NoSpelling R T us
-    open_ends_none n = others.none n
+    pub open_ends_none : NoneOn R (AllUnknown l.coding place present) vs T us
+    open_ends_none = others.none

@@ -7,11 +7,16 @@ use Rattle.asn_rules.specs.Stops.{Stops}
 use Rattle.asn_rules.specs.declared.fault.Why.{Why}
 use Rattle.asn_rules.specs.declared.stop.Stop.{Stop}
 use Rattle.asn_rules.specs.declared.stop.Stop.TheVariants as stop
+use Rattle.asn_rules.proofs.Live.Chunks.{FieldsPart}
 use Rattle.asn_walk.specs.Coding.{Coding}
 use Rattle.asn_rules.specs.Languages.{Spells, NoSpelling}
 use Rattle.asn_rules.specs.Listed.{Spelt}
 use Rattle.asn_newer.specs.Loose.{LooseCoding, AnyItem}
 use Rattle.asn_newer.specs.Walking.{UnknownItem}
+use Rattle.asn_newer.specs.Halting.{NoBeginning, Halts, halt_before_end}
+use Rattle.asn_newer.specs.declared.halt.Halt.{Halt}
+use Rattle.asn_newer.specs.declared.halt.Halt.TheVariants as halt
+use Rattle.asn_newer.proofs.Walk.Halts.{none_yet, refused_begins}
 
 module _ (l : LooseCoding) (root additions : List Label) (t : Shape) (is : t ≡ enumerated root (marked_labels additions)) where
   -- one that it has
@@ -37,7 +42,15 @@ none_of_short c L us vs why s e f =
     let h : Stops c.ruling.fielding L us stop.Short = subst (λ (l : List ℕ). Stops c.ruling.fielding L l stop.Short) f (subst (λ (w : Stop). Stops c.ruling.fielding L vs w) e s) in
     h.told.none
 
-pub none_of_refused : (c : Coding) (L : Datum → List Chunk → Type 0) (us vs : List ℕ) (why : Stop) {left : ℕ} {reason : Why} → Stops c.ruling.fielding L vs why → why ≡ stop.Refused left reason → vs ≡ us → NoSpelling c.ruling.fielding L us
-none_of_refused c L us vs why {left} {reason} s e f =
+pub none_of_refused : {V : Type 0} (c : Coding) (L : V → List Chunk → Type 0) (us vs : List ℕ) (why : Stop) {left : ℕ} {reason : Why} → FieldsPart c.ruling.fielding → Stops c.ruling.fielding L vs why → why ≡ stop.Refused left reason → vs ≡ us → NoBeginning c.ruling.fielding L us
+none_of_refused c L us vs why {left} {reason} part s e f =
     let h : Stops c.ruling.fielding L us (stop.Refused left reason) = subst (λ (l : List ℕ). Stops c.ruling.fielding L l (stop.Refused left reason)) f (subst (λ (w : Stop). Stops c.ruling.fielding L vs w) e s) in
-    h.told.none
+    refused_begins part h.told
+
+-- what is told of an item that the type has not, where one that it has may follow
+pub before_end : {A B : Type 0} {c : Coding} {M : B → List Chunk → Type 0} {L : A → List Chunk → Type 0} {us : List ℕ} (why : Halt)
+    → (NoSpelling c.ruling.fielding M us → NoSpelling c.ruling.fielding L us) → Halts c M us why → Halts c L us (halt_before_end why)
+before_end halt.Refused f h = record { told = f (none_yet h.told) }
+before_end halt.Short f h = record { told = f h.told }
+before_end halt.TooMany f h = record { told = f (none_yet h.told) }
+before_end halt.Memory f h = record { told = tt }

@@ -18,7 +18,7 @@ module _ (l m : LooseCoding) (same : SameReadings l m) (t : Shape) (o : List ℕ
       same.to t v after o (subst (λ (k : List Skipped). Complete l.coding (Loose l t) (v, k) o) (sym s) h.complete)
 
   pub no_message : length o ≤ max_octets → (why : Halt) → HaltsContent l t o why → NotNewer m t o (fault_of why)
-  no_message few halt.Refused h = (few, λ v s x. h.told (v, s) (same.from t v s o x))
+  no_message few halt.Refused h = (few, λ rest fits v s x. h.told rest fits (v, s) (same.from t v s (o ++ rest) x))
   no_message few halt.Short h = (few, λ v s x. h.told (v, s) (same.from t v s o x))
-  no_message few halt.TooMany h = (few, λ v s x. h.told (v, s) (same.from t v s o x))
+  no_message few halt.TooMany h = (few, λ rest fits v s x. h.told rest fits (v, s) (same.from t v s (o ++ rest) x))
   no_message few halt.Memory h = few

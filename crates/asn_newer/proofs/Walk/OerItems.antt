@@ -1,5 +1,5 @@
 -- Where the reader of the number of an item in OER stands.
-use Rattle.std.proofs.Common.{◌≡◌, ◌+◌, ◌-◌, ◌*◌, ◌<◌, ◌≤◌, ◌^◌, ◌%◌, ◌⊎◌, inl, inr, ⊎_elim, ℕ, zero, suc, ℤ, pos, negsuc, Bool, true, false, IsFalse, IsTrue, map, List, [], ◌∷◌, ◌++◌, length, length-append, nat_le, nat_lt, refl, sym, ap, subst, ◌∙◌, arith, to_z, of_z, ◌-ℤ◌, ◌≤ℤ◌, ◌&&◌, ◌||◌}
+use Rattle.std.proofs.Common.{◌≡◌, ◌+◌, ◌-◌, ◌*◌, ◌<◌, ◌≤◌, ◌^◌, ◌%◌, ℕ, zero, suc, ℤ, pos, negsuc, Bool, true, false, IsFalse, IsTrue, map, List, [], ◌∷◌, ◌++◌, length, length-append, append_assoc, nat_le, nat_lt, refl, sym, ap, subst, ◌∙◌, arith, to_z, of_z, ◌-ℤ◌, ◌≤ℤ◌, ◌&&◌, ◌||◌}
 use Rattle.std.proofs.lemmas.Int.{ints}
 use mir.Syntax.{w128}
 use Rattle.asn_values.specs.Fits.{lowest_integer, highest_integer}
@@ -28,7 +28,10 @@ use Rattle.asn_oer.specs.Walk.{oer_coding}
 use Rattle.asn_oer.proofs.Law.Leaves.{item_code}
 use Rattle.asn_newer.specs.Rules.{oer_loose}
 use Rattle.asn_newer.specs.Walking.{UnknownItem}
-use Rattle.asn_newer.specs.ItemNumbers.{IsItemNumber}
+use Rattle.asn_newer.specs.Halting.{NoBeginning, Halts}
+use Rattle.asn_newer.specs.ItemNumbers.{IsItemNumber, NoItemNumber, TellsItemNumber}
+use Rattle.asn_newer.specs.declared.halt.Halt.{Halt}
+use Rattle.asn_newer.specs.declared.halt.Halt.TheVariants as halt
 
 -- ---- octets
 
@@ -111,7 +114,7 @@ long_at z os rest after first h e l = go (is_short z) refl
 -- ---- where none stands
 
 -- no octet is left
-pub none_here : (us : List ℕ) → AtOctet us → length us < 8 → (z : ℤ) (rest : List ℕ) → IsItemNumber z (packed us) rest → ⊥
+pub none_here : (us : List ℕ) → AtOctet us → length us < 8 → NoItemNumber (packed us)
 none_here us at few z rest h = go (is_short z) refl
   where
     empty : length (packed us) ≡ 0
@@ -129,17 +132,17 @@ module _ (us vs : List ℕ) (first : ℕ) (fits : first < 2 ^ 8) (e : us ≡ bit
   short_read h = record { narrow = narrow_again (pos first) (omega (arith, h)); split = octet_taken first us vs fits e ∙ ap (λ (t : List ℕ). t ++ packed vs) (sym (short_code first h)) }
 
   module _ (large : 128 ≤ first) where
-    at_long : (z : ℤ) (rest : List ℕ) → IsItemNumber z (packed us) rest → LongAt z first (packed vs) rest
-    at_long z rest h = long_at z (packed us) rest (packed vs) first h (octet_taken first us vs fits e) large
+    at_long : (after : List ℕ) (z : ℤ) (rest : List ℕ) → IsItemNumber z (packed us ++ after) rest → LongAt z first (packed vs ++ after) rest
+    at_long after z rest h = long_at z (packed us ++ after) rest (packed vs ++ after) first h (ap (λ (t : List ℕ). t ++ after) (octet_taken first us vs fits e)) large
 
     -- a wrong count of octets
-    pub none_of_count : ((1 ≤ first - 128) → (first - 128 ≤ 4) → ⊥) → (z : ℤ) (rest : List ℕ) → IsItemNumber z (packed us) rest → ⊥
-    none_of_count never z rest h = let w = at_long z rest h in never w.some w.few
+    pub none_of_count : ((1 ≤ first - 128) → (first - 128 ≤ 4) → ⊥) → (after : List ℕ) → NoItemNumber (packed us ++ after)
+    none_of_count never after z rest h = let w = at_long after z rest h in never w.some w.few
 
     -- too few octets are left
-    pub none_after : AtOctet vs → length vs < 8 * (first - 128) → (z : ℤ) (rest : List ℕ) → IsItemNumber z (packed us) rest → ⊥
+    pub none_after : AtOctet vs → length vs < 8 * (first - 128) → NoItemNumber (packed us)
     none_after at few z rest h =
-        let w = at_long z rest h in
+        let w = long_at z (packed us) rest (packed vs) first h (octet_taken first us vs fits e) large in
         absurd (omega (arith, length-packed vs at, few, ap length w.split ∙ length-append (octets (first - 128) (residue (first - 128) z)) rest, length-digits 256 (first - 128) (residue (first - 128) z)))
 
     module _ (ws : List ℕ) (r : ℕ) (r_fits : r < 2 ^ (8 * (first - 128))) (f : vs ≡ bits (8 * (first - 128)) r ++ ws) where
@@ -147,19 +150,19 @@ module _ (us vs : List ℕ) (first : ℕ) (fits : first < 2 ^ 8) (e : us ≡ bit
       r_below = omega (arith, r_fits, octet_power (first - 128))
 
       -- only one number has these octets
-      same_number : (z : ℤ) (rest : List ℕ) → IsItemNumber z (packed us) rest → z ≡ signed_number (first - 128, r)
-      same_number z rest h =
-          let w = at_long z rest h in
+      same_number : (after : List ℕ) (z : ℤ) (rest : List ℕ) → IsItemNumber z (packed us ++ after) rest → z ≡ signed_number (first - 128, r)
+      same_number after z rest h =
+          let w = at_long after z rest h in
           let k = first - 128 in
           let room : magnitude z < 2 ^ (8 * k - 1) = subst (λ (i : ℕ). magnitude z < 2 ^ (8 * i - 1)) w.count (signed_fits z) in
-          let d = digits_code 256 (omega arith) k (residue k z) r rest (packed ws) (residue_fits k z w.some room) r_below (sym w.split ∙ octets_taken k r vs ws f) in
+          let d = digits_code 256 (omega arith) k (residue k z) r rest (packed ws ++ after) (residue_fits k z w.some room) r_below (sym w.split ∙ ap (λ (t : List ℕ). t ++ after) (octets_taken k r vs ws f) ∙ append_assoc (octets k r) (packed ws) after) in
           sym (number_again k z w.some room) ∙ ap (λ (n : ℕ). signed_number (k, n)) d.0
 
       -- a number that has other octets
-      pub none_else : ((is_short (signed_number (first - 128, r)) ≡ false) → (signed_octet_count (signed_number (first - 128, r)) ≡ first - 128) → ⊥) → (z : ℤ) (rest : List ℕ) → IsItemNumber z (packed us) rest → ⊥
-      none_else never z rest h =
-          let w = at_long z rest h in
-          let s = same_number z rest h in
+      pub none_else : ((is_short (signed_number (first - 128, r)) ≡ false) → (signed_octet_count (signed_number (first - 128, r)) ≡ first - 128) → ⊥) → (after : List ℕ) → NoItemNumber (packed us ++ after)
+      none_else never after z rest h =
+          let w = at_long after z rest h in
+          let s = same_number after z rest h in
           never (subst (λ (y : ℤ). is_short y ≡ false) s w.long) (subst (λ (y : ℤ). signed_octet_count y ≡ first - 128) s w.count)
 
       -- a long number
@@ -294,14 +297,21 @@ module _ (root additions : List Label) where
   )
 
   -- no number stands there
-  pub no_number : (us : List ℕ) → ((z : ℤ) (r : List ℕ) → IsItemNumber z us r → ⊥) → NoSpelling oer_coding.ruling.fielding (UnknownItem oer_loose root additions) us
+  no_number : (us : List ℕ) → NoItemNumber us → NoSpelling oer_coding.ruling.fielding (UnknownItem oer_loose root additions) us
   no_number us n = λ z r k. n z r (number_of z us r k).0
+
+  pub number_halts : (us : List ℕ) (why : Halt) → TellsItemNumber us why → Halts oer_coding (UnknownItem oer_loose root additions) us why
+  number_halts us halt.Refused n = record { told = λ after. no_number (us ++ after) (n after) }
+  number_halts us halt.Short n = record { told = no_number us n }
+  number_halts us halt.TooMany n = record { told = λ after. no_number (us ++ after) (n after) }
+  number_halts us halt.Memory n = record { told = tt }
 
   -- that of an item of the type, or one below
   pub not_above : (z x : ℤ) (us r : List ℕ) → IsItemNumber z us r → x ≡ to_z w128 (of_z w128 z) → (list_all (λ (k : ℤ). int_lt k x) (map (λ (l : Label). l.number) root) ≡ true → list_all (λ (k : ℤ). int_lt k x) (map (λ (l : Label). l.number) additions) ≡ true → ⊥)
-      → NoSpelling oer_coding.ruling.fielding (UnknownItem oer_loose root additions) us
-  not_above z x us r h f never = λ y s k.
-      let n = number_of y us s k in
-      let e : y ≡ x = (item_code y z s r (sym n.0.split ∙ h.split)).0 ∙ sym (f ∙ kept_32 z (narrow_is z h.narrow)) in
+      → NoBeginning oer_coding.ruling.fielding (UnknownItem oer_loose root additions) us
+  not_above z x us r h f never = λ after y s k.
+      let n = number_of y (us ++ after) s k in
+      let here : us ++ after ≡ item_number z ++ (r ++ after) = ap (λ (t : List ℕ). t ++ after) h.split ∙ append_assoc (item_number z) r after in
+      let e : y ≡ x = (item_code y z s (r ++ after) (sym n.0.split ∙ here)).0 ∙ sym (f ∙ kept_32 z (narrow_is z h.narrow)) in
       let p = fronts_above x root additions (subst (λ (i : ℤ). AllByRecursion (λ (l : Label). IsTrue (int_lt l.number i)) (root ++ additions)) e n.1) in
       never (all_above x root p.0) (all_above x additions p.1)

@@ -1,4 +1,4 @@
-use Rattle.std.proofs.Common.{inl, None, Some, ◌⊎◌, true, false, drop, ◌≡◌, ◌<◌, ◌≤◌, ◌+◌, ◌++◌, ◌∷◌, [], ℕ, List, length, map, rules, refl, sym, ap, ◌∙◌, subst, arith}
+use Rattle.std.proofs.Common.{inl, None, Some, ◌⊎◌, true, false, drop, ◌≡◌, ◌<◌, ◌≤◌, ◌+◌, ◌*◌, ◌%◌, ◌++◌, ◌∷◌, [], ℕ, List, length, map, rules, refl, sym, ap, ◌∙◌, subst, arith}
 use Rattle.std.specs.Prelude.{is_some}
 use Rattle.std.proofs.lemmas.Result.{err_from_is_err_and, IfOk-weaker, IfErr-weaker}
 use Rattle.asn_values.specs.declared.types.AsnType.{the_lemmas}
@@ -42,7 +42,15 @@ use Rattle.asn_rules.specs.Languages.{Short}
 use Rattle.asn_walk.specs.Coding.{IndexOf, added_alternatives}
 use Rattle.asn_walk.proofs.Parts.{some_root, more_count}
 use Rattle.asn_walk_feed.specs.declared.frame.Frame.TheVariants as frame
-use Rattle.asn_walk_feed.proofs.ChosenRead.{few_seen, few_of_root, choice_starts, choice_stops, none_added, index_inside, alternative_ahead, choice_goes_on, took_chosen, choice_none, choice_start, choice_took}
+use Rattle.asn_walk_feed.proofs.ChosenRead.{few_seen, few_of_root, choice_starts, choice_stops, index_inside, alternative_ahead, choice_goes_on, took_chosen, choice_none, choice_start, choice_took}
+use Rattle.asn_rules.specs.Laws.{AreOctets}
+use Rattle.asn_walk.specs.Coding.{OpenOf}
+use Rattle.asn_walk.proofs.Decoding.{units_fill}
+use Rattle.asn_walk.proofs.OpenRead.{octets_stop, content_of, value_held, more_held, none_held, value_stops, fill_leads, left_fewer, length_none}
+use Rattle.asn_walk_feed.specs.OpenFields.{FieldTook}
+use Rattle.asn_walk_feed.proofs.ChosenRead.{addition_starts, no_addition, addition_inside, few_tags, addition_ahead, addition_goes_on, took_added}
+use Rattle.asn_walk_feed.proofs.FieldsRead.{stands_after, keeps_none, few_units}
+use Rattle.asn_walk_feed.proofs.Sizes.{root_smaller, added_type_smaller}
 use Rattle.asn_walk_feed.proofs.+feeder.Goals as goal
 
 -- ---- the elements of a list
@@ -65,36 +73,36 @@ lists::feed_elements-returns-in_err-feed_fragment-clause-kept g t c = λ e all h
 pub lists::feed_elements-next_fragment-requires : goal.lists::feed_elements-next_fragment-requires
 lists::feed_elements-next_fragment-requires g t c =
     let k = c.in_ok-feed_fragment.ensures.done (size_range_of c.args.size.now) c.requires.of_profile c.requires.reached.0 (c.loop-alloc.invariant.0 c.requires.reached.0 c.requires.reached.1) in
-    let b = length_begun g.R.ReadLeaves.rules c.keep_laws.ensures c.keep_feed_laws.ensures g.R.ReadLeaves.ahead g.R.ReadLeaves.is_between (shape_of c.args.element.now) (size_range_of c.args.size.now) c.requires.of_profile c.feed_fragment.new.list (nodes c.feed_fragment.new.frames) c.requires.reached.0 (g.R.ReadLeaves.rules.to_units c.feed_fragment.new.units) c.in_ok-feed_fragment.ensures.over k in
+    let b = length_begun g.R.ReadLeaves.rules c.keep_laws.ensures c.keep_feed_laws.ensures g.R.FeedLeaves.fields g.R.ReadLeaves.ahead g.R.ReadLeaves.is_between (shape_of c.args.element.now) (size_range_of c.args.size.now) c.requires.of_profile c.feed_fragment.new.list (nodes c.feed_fragment.new.frames) c.requires.reached.0 (g.R.ReadLeaves.rules.to_units c.feed_fragment.new.units) c.in_ok-feed_fragment.ensures.over k in
     record { at_unit = c.in_ok-feed_fragment.ensures.at_unit; between = k.between_is; begun = b.1; begins = b.0; few = omega (arith, c.loop-alloc.invariant.1, c.in_ok-feed_fragment.ensures.ticked, c.requires.few) }
 
 pub lists::feed_elements-returns-in_err-next_fragment-clause-stop : goal.lists::feed_elements-returns-in_err-next_fragment-clause-stop
 lists::feed_elements-returns-in_err-next_fragment-clause-stop g t c =
     let p = err_from_is_err_and c.from_residual-in_err-next_fragment.result c.from_residual-in_err-next_fragment.ensures.1 in
-    rw (p.1, p.2) (λ all h. length_stops g.R.ReadLeaves.rules c.keep_laws.ensures c.keep_feed_laws.ensures g.R.ReadLeaves.ahead g.R.ReadLeaves.is_between (shape_of c.args.element.now) (size_range_of c.args.size.now) c.requires.of_profile c.feed_fragment.new.list (nodes c.feed_fragment.new.frames) all (g.R.ReadLeaves.rules.to_units c.feed_fragment.new.units) _ c.in_ok-feed_fragment.ensures.over (c.in_ok-feed_fragment.ensures.done (size_range_of c.args.size.now) c.requires.of_profile all (c.loop-alloc.invariant.0 all h)) c.in_err-next_fragment.ensures.stop)
+    rw (p.1, p.2) (λ all h. length_stops g.R.ReadLeaves.rules c.keep_laws.ensures c.keep_feed_laws.ensures g.R.FeedLeaves.fields g.R.ReadLeaves.ahead g.R.ReadLeaves.is_between (shape_of c.args.element.now) (size_range_of c.args.size.now) c.requires.of_profile c.feed_fragment.new.list (nodes c.feed_fragment.new.frames) all (g.R.ReadLeaves.rules.to_units c.feed_fragment.new.units) _ c.in_ok-feed_fragment.ensures.over (c.in_ok-feed_fragment.ensures.done (size_range_of c.args.size.now) c.requires.of_profile all (c.loop-alloc.invariant.0 all h)) c.in_err-next_fragment.ensures.stop)
 
 pub lists::feed_elements-returns-in_err-next_fragment-clause-kept : goal.lists::feed_elements-returns-in_err-next_fragment-clause-kept
 lists::feed_elements-returns-in_err-next_fragment-clause-kept g t c = λ e all h.
     let p = err_from_is_err_and c.from_residual-in_err-next_fragment.result c.from_residual-in_err-next_fragment.ensures.1 in
     let U = g.R.ReadLeaves.rules.to_units in
     let w : c.in_err-next_fragment.field-0.0 ≡ stop.Short = cc (p.1, p.2, e) in
-    length_kept g.R.ReadLeaves.rules c.keep_laws.ensures c.keep_feed_laws.ensures g.R.ReadLeaves.ahead g.R.ReadLeaves.is_between (shape_of c.args.element.now) (size_range_of c.args.size.now) c.requires.of_profile c.feed_fragment.new.list c.next_fragment.new.list (nodes c.feed_fragment.new.frames) all (U c.feed_fragment.new.units) (U c.next_fragment.new.units) c.in_ok-feed_fragment.ensures.over (c.in_ok-feed_fragment.ensures.done (size_range_of c.args.size.now) c.requires.of_profile all (c.loop-alloc.invariant.0 all h)) c.in_err-next_fragment.ensures.same.1 c.in_err-next_fragment.ensures.same.0 c.next_fragment.ensures.elements c.in_err-next_fragment.ensures.begun (rw w at c.in_err-next_fragment.ensures.kept) (rw w at c.in_err-next_fragment.ensures.after) (rw w at c.in_err-next_fragment.ensures.stop)
+    length_kept g.R.ReadLeaves.rules c.keep_laws.ensures c.keep_feed_laws.ensures g.R.FeedLeaves.fields g.R.ReadLeaves.ahead g.R.ReadLeaves.is_between (shape_of c.args.element.now) (size_range_of c.args.size.now) c.requires.of_profile c.feed_fragment.new.list c.next_fragment.new.list (nodes c.feed_fragment.new.frames) all (U c.feed_fragment.new.units) (U c.next_fragment.new.units) c.in_ok-feed_fragment.ensures.over (c.in_ok-feed_fragment.ensures.done (size_range_of c.args.size.now) c.requires.of_profile all (c.loop-alloc.invariant.0 all h)) c.in_err-next_fragment.ensures.same.1 c.in_err-next_fragment.ensures.same.0 c.next_fragment.ensures.elements c.in_err-next_fragment.ensures.begun (rw w at c.in_err-next_fragment.ensures.kept) (rw w at c.in_err-next_fragment.ensures.after) (rw w at c.in_err-next_fragment.ensures.stop)
 
 pub lists::feed_elements-returns-then-not-branch-clause-done : goal.lists::feed_elements-returns-then-not-branch-clause-done
 lists::feed_elements-returns-then-not-branch-clause-done g t c = λ all h.
     let U = g.R.ReadLeaves.rules.to_units in
-    let k = length_ends g.R.ReadLeaves.rules c.keep_laws.ensures c.keep_feed_laws.ensures g.R.ReadLeaves.ahead g.R.ReadLeaves.is_between (shape_of c.args.element.now) (size_range_of c.args.size.now) c.requires.of_profile c.feed_fragment.new.list (nodes c.feed_fragment.new.frames) all (U c.feed_fragment.new.units) (U c.next_fragment.new.units) (g.R.ReadLeaves.ahead c.next_fragment.new.list.fragments) c.in_ok-feed_fragment.ensures.over (c.in_ok-feed_fragment.ensures.done (size_range_of c.args.size.now) c.requires.of_profile all (c.loop-alloc.invariant.0 all h)) (c.next_fragment.ensures.none (cc (c.in_ok-next_fragment.was, c.if-not-branch.true))) in
+    let k = length_ends g.R.ReadLeaves.rules c.keep_laws.ensures c.keep_feed_laws.ensures g.R.FeedLeaves.fields g.R.ReadLeaves.ahead g.R.ReadLeaves.is_between (shape_of c.args.element.now) (size_range_of c.args.size.now) c.requires.of_profile c.feed_fragment.new.list (nodes c.feed_fragment.new.frames) all (U c.feed_fragment.new.units) (U c.next_fragment.new.units) (g.R.ReadLeaves.ahead c.next_fragment.new.list.fragments) c.in_ok-feed_fragment.ensures.over (c.in_ok-feed_fragment.ensures.done (size_range_of c.args.size.now) c.requires.of_profile all (c.loop-alloc.invariant.0 all h)) (c.next_fragment.ensures.none (cc (c.in_ok-next_fragment.was, c.if-not-branch.true))) in
     rw c.next_fragment.ensures.elements k
 
 pub lists::feed_elements-returns-then-not-branch-clause-emptied : goal.lists::feed_elements-returns-then-not-branch-clause-emptied
 lists::feed_elements-returns-then-not-branch-clause-emptied g t c =
-    (length_ahead g.R.ReadLeaves.rules c.keep_laws.ensures c.keep_feed_laws.ensures g.R.ReadLeaves.ahead g.R.ReadLeaves.is_between (shape_of c.args.element.now) (size_range_of c.args.size.now) c.requires.of_profile c.feed_fragment.new.list (nodes c.feed_fragment.new.frames) c.requires.reached.0 (g.R.ReadLeaves.rules.to_units c.feed_fragment.new.units) c.in_ok-feed_fragment.ensures.over (c.in_ok-feed_fragment.ensures.done (size_range_of c.args.size.now) c.requires.of_profile c.requires.reached.0 (c.loop-alloc.invariant.0 c.requires.reached.0 c.requires.reached.1))).none
+    (length_ahead g.R.ReadLeaves.rules c.keep_laws.ensures c.keep_feed_laws.ensures g.R.FeedLeaves.fields g.R.ReadLeaves.ahead g.R.ReadLeaves.is_between (shape_of c.args.element.now) (size_range_of c.args.size.now) c.requires.of_profile c.feed_fragment.new.list (nodes c.feed_fragment.new.frames) c.requires.reached.0 (g.R.ReadLeaves.rules.to_units c.feed_fragment.new.units) c.in_ok-feed_fragment.ensures.over (c.in_ok-feed_fragment.ensures.done (size_range_of c.args.size.now) c.requires.of_profile c.requires.reached.0 (c.loop-alloc.invariant.0 c.requires.reached.0 c.requires.reached.1))).none
 
 pub lists::feed_elements-loop-alloc-preserved : goal.lists::feed_elements-loop-alloc-preserved
 lists::feed_elements-loop-alloc-preserved g t c =
     let inv = c.loop-alloc.invariant in
     let U = g.R.ReadLeaves.rules.to_units in (
-      λ all h. length_more g.R.ReadLeaves.rules c.keep_laws.ensures c.keep_feed_laws.ensures g.R.ReadLeaves.ahead g.R.ReadLeaves.is_between (shape_of c.args.element.now) (size_range_of c.args.size.now) c.requires.of_profile c.feed_fragment.new.list c.next_fragment.new.list (nodes c.feed_fragment.new.frames) all (U c.feed_fragment.new.units) (U c.next_fragment.new.units) c.next_fragment.new.list.left c.in_ok-feed_fragment.ensures.over (c.in_ok-feed_fragment.ensures.done (size_range_of c.args.size.now) c.requires.of_profile all (inv.0 all h)) refl c.next_fragment.ensures.elements c.in_ok-next_fragment.ensures.fresh c.next_fragment.ensures.between (c.next_fragment.ensures.more (cc (c.in_ok-next_fragment.was, c.if-not-branch.false))),
+      λ all h. length_more g.R.ReadLeaves.rules c.keep_laws.ensures c.keep_feed_laws.ensures g.R.FeedLeaves.fields g.R.ReadLeaves.ahead g.R.ReadLeaves.is_between (shape_of c.args.element.now) (size_range_of c.args.size.now) c.requires.of_profile c.feed_fragment.new.list c.next_fragment.new.list (nodes c.feed_fragment.new.frames) all (U c.feed_fragment.new.units) (U c.next_fragment.new.units) c.next_fragment.new.list.left c.in_ok-feed_fragment.ensures.over (c.in_ok-feed_fragment.ensures.done (size_range_of c.args.size.now) c.requires.of_profile all (inv.0 all h)) refl c.next_fragment.ensures.elements c.in_ok-next_fragment.ensures.fresh c.next_fragment.ensures.between (c.next_fragment.ensures.more (cc (c.in_ok-next_fragment.was, c.if-not-branch.false))),
       omega (arith, inv.1, c.in_ok-feed_fragment.ensures.ticked, c.in_ok-next_fragment.ensures.ticked),
       c.in_ok-next_fragment.ensures.at_unit,
       omega (arith, inv.3, c.in_ok-feed_fragment.ensures.rising, c.in_ok-next_fragment.ensures.rising),
@@ -103,7 +111,7 @@ lists::feed_elements-loop-alloc-preserved g t c =
 pub lists::feed_elements-loop-alloc-smaller : goal.lists::feed_elements-loop-alloc-smaller
 lists::feed_elements-loop-alloc-smaller g t c =
     let U = g.R.ReadLeaves.rules.to_units in
-    let k = length_nearer g.R.ReadLeaves.rules c.keep_laws.ensures c.keep_feed_laws.ensures g.R.ReadLeaves.ahead g.R.ReadLeaves.is_between (shape_of c.args.element.now) (size_range_of c.args.size.now) c.requires.of_profile c.feed_fragment.new.list (nodes c.feed_fragment.new.frames) c.requires.reached.0 (U c.feed_fragment.new.units) (U c.next_fragment.new.units) c.next_fragment.new.list.left (g.R.ReadLeaves.ahead c.next_fragment.new.list.fragments) c.in_ok-feed_fragment.ensures.over (c.in_ok-feed_fragment.ensures.done (size_range_of c.args.size.now) c.requires.of_profile c.requires.reached.0 (c.loop-alloc.invariant.0 c.requires.reached.0 c.requires.reached.1)) (c.next_fragment.ensures.more (cc (c.in_ok-next_fragment.was, c.if-not-branch.false))) in
+    let k = length_nearer g.R.ReadLeaves.rules c.keep_laws.ensures c.keep_feed_laws.ensures g.R.FeedLeaves.fields g.R.ReadLeaves.ahead g.R.ReadLeaves.is_between (shape_of c.args.element.now) (size_range_of c.args.size.now) c.requires.of_profile c.feed_fragment.new.list (nodes c.feed_fragment.new.frames) c.requires.reached.0 (U c.feed_fragment.new.units) (U c.next_fragment.new.units) c.next_fragment.new.list.left (g.R.ReadLeaves.ahead c.next_fragment.new.list.fragments) c.in_ok-feed_fragment.ensures.over (c.in_ok-feed_fragment.ensures.done (size_range_of c.args.size.now) c.requires.of_profile c.requires.reached.0 (c.loop-alloc.invariant.0 c.requires.reached.0 c.requires.reached.1)) (c.next_fragment.ensures.more (cc (c.in_ok-next_fragment.was, c.if-not-branch.false))) in
     let n : steps_left (g.R.ReadLeaves.ahead c.next_fragment.new.list.fragments) + length (U c.next_fragment.new.units) < steps_left (g.R.ReadLeaves.ahead c.loop-alloc.list.fragments) + length (U c.feed_fragment.new.units) = rw c.in_ok-feed_fragment.ensures.fragments at k in
     omega (arith, n, c.in_ok-feed_fragment.ensures.shorter)
 
@@ -115,7 +123,7 @@ lists::feed_fragment-feed-requires g t c κs within =
     let s = c.requires.reached.0 in
     let good = c.requires.reached.1 in
     let all = c.requires.reached.2 in
-    let x = element_ahead g.R.ReadLeaves.rules c.keep_laws.ensures c.keep_feed_laws.ensures g.R.ReadLeaves.ahead g.R.ReadLeaves.is_between (shape_of c.args.element.now) s good c.loop-list.list (nodes c.loop-list.frames) all (g.R.ReadLeaves.rules.to_units c.loop-list.units) c.loop-list-test.true (inv.0 s good all c.requires.reached.3) in
+    let x = element_ahead g.R.ReadLeaves.rules c.keep_laws.ensures c.keep_feed_laws.ensures g.R.FeedLeaves.fields g.R.ReadLeaves.ahead g.R.ReadLeaves.is_between (shape_of c.args.element.now) s good c.loop-list.list (nodes c.loop-list.frames) all (g.R.ReadLeaves.rules.to_units c.loop-list.units) c.loop-list-test.true (inv.0 s good all c.requires.reached.3) in
     (search (rules, the_lemmas), (within.0, (within.1, (inv.2, (element_of_profile (shape_of c.args.element.now) s good, (c.requires.covered, ((x.come, x.took), omega (arith, inv.1, c.requires.few))))))))
 
 pub lists::feed_fragment-returns-in_err-value-clause-stop : goal.lists::feed_fragment-returns-in_err-value-clause-stop
@@ -123,7 +131,7 @@ lists::feed_fragment-returns-in_err-value-clause-stop g t c =
     let inv = c.loop-list.invariant in
     let p = err_from_is_err_and c.from_residual.result c.from_residual.ensures.1 in
     rw (p.1, p.2) (λ s good all h.
-    (let x = element_ahead g.R.ReadLeaves.rules c.keep_laws.ensures c.keep_feed_laws.ensures g.R.ReadLeaves.ahead g.R.ReadLeaves.is_between (shape_of c.args.element.now) s good c.loop-list.list (nodes c.loop-list.frames) all (g.R.ReadLeaves.rules.to_units c.loop-list.units) c.loop-list-test.true (inv.0 s good all h) in
+    (let x = element_ahead g.R.ReadLeaves.rules c.keep_laws.ensures c.keep_feed_laws.ensures g.R.FeedLeaves.fields g.R.ReadLeaves.ahead g.R.ReadLeaves.is_between (shape_of c.args.element.now) s good c.loop-list.list (nodes c.loop-list.frames) all (g.R.ReadLeaves.rules.to_units c.loop-list.units) c.loop-list-test.true (inv.0 s good all h) in
     x.stops _ (c.in_err-value.ensures.stop x.come x.took)))
 
 pub lists::feed_fragment-returns-in_err-value-clause-kept : goal.lists::feed_fragment-returns-in_err-value-clause-kept
@@ -131,14 +139,14 @@ lists::feed_fragment-returns-in_err-value-clause-kept g t c = λ e s good all h.
     let inv = c.loop-list.invariant in
     let p = err_from_is_err_and c.from_residual.result c.from_residual.ensures.1 in
     let w : c.in_err-value.field-0.0 ≡ stop.Short = cc (p.1, p.2, e) in
-    let x = element_ahead g.R.ReadLeaves.rules c.keep_laws.ensures c.keep_feed_laws.ensures g.R.ReadLeaves.ahead g.R.ReadLeaves.is_between (shape_of c.args.element.now) s good c.loop-list.list (nodes c.loop-list.frames) all (g.R.ReadLeaves.rules.to_units c.loop-list.units) c.loop-list-test.true (inv.0 s good all h) in
+    let x = element_ahead g.R.ReadLeaves.rules c.keep_laws.ensures c.keep_feed_laws.ensures g.R.FeedLeaves.fields g.R.ReadLeaves.ahead g.R.ReadLeaves.is_between (shape_of c.args.element.now) s good c.loop-list.list (nodes c.loop-list.frames) all (g.R.ReadLeaves.rules.to_units c.loop-list.units) c.loop-list-test.true (inv.0 s good all h) in
     x.kept (nodes c.feed.new.frames) (g.R.ReadLeaves.rules.to_units c.feed.new.units) (rw w at c.in_err-value.ensures.after) (rw w at (c.in_err-value.ensures.kept x.come x.took))
 
 pub lists::feed_fragment-loop-list-preserved : goal.lists::feed_fragment-loop-list-preserved
 lists::feed_fragment-loop-list-preserved g t c =
     let inv = c.loop-list.invariant in (
       λ s good all h.
-          (let x = element_ahead g.R.ReadLeaves.rules c.keep_laws.ensures c.keep_feed_laws.ensures g.R.ReadLeaves.ahead g.R.ReadLeaves.is_between (shape_of c.args.element.now) s good c.loop-list.list (nodes c.loop-list.frames) all (g.R.ReadLeaves.rules.to_units c.loop-list.units) c.loop-list-test.true (inv.0 s good all h) in
+          (let x = element_ahead g.R.ReadLeaves.rules c.keep_laws.ensures c.keep_feed_laws.ensures g.R.FeedLeaves.fields g.R.ReadLeaves.ahead g.R.ReadLeaves.is_between (shape_of c.args.element.now) s good c.loop-list.list (nodes c.loop-list.frames) all (g.R.ReadLeaves.rules.to_units c.loop-list.units) c.loop-list-test.true (inv.0 s good all h) in
           x.more _ _ c.in_ok-value.value _ (omega (arith, c.loop-list-test.true)) refl refl c.in_ok-push.ensures.items c.in_ok-value.ensures.emptied (c.in_ok-value.ensures.done x.come x.took)),
       omega (arith, inv.1, c.in_ok-value.ensures.ticked),
       c.in_ok-value.ensures.at_unit,
@@ -152,7 +160,7 @@ values::feed-feed_scalar-requires-clause-start g t c =
     let sc : IsScalar (shape_of c.args.ty.now) = search (rules, the_lemmas) in
     let us = c.requires.reached.0 in
     let k = c.requires.reached.1 in
-    let x = scalar_node g.R.ReadLeaves.rules c.keep_feed_laws.ensures g.R.ReadLeaves.ahead g.R.ReadLeaves.is_between (shape_of c.args.ty.now) sc c.take-node-in-Bool.result (nodes c.take-node-in-Bool.new.self) us c.take-node-in-Bool.ensures.empty (subst (λ (xs : List (Frame g.row.R-Fragments.Denot)). Took g.R.ReadLeaves.rules g.R.ReadLeaves.ahead g.R.ReadLeaves.is_between xs (shape_of c.args.ty.now) us) (taken_is c.take-node-in-Bool.result (nodes c.args.frames.now) (nodes c.take-node-in-Bool.new.self) c.take-node-in-Bool.ensures.some c.take-node-in-Bool.ensures.none c.take-node-in-Bool.ensures.empty) k) in
+    let x = scalar_node g.R.ReadLeaves.rules c.keep_feed_laws.ensures g.R.FeedLeaves.fields g.R.ReadLeaves.ahead g.R.ReadLeaves.is_between (shape_of c.args.ty.now) sc c.take-node-in-Bool.result (nodes c.take-node-in-Bool.new.self) us c.take-node-in-Bool.ensures.empty (subst (λ (xs : List (Frame g.row.R-Fragments.Denot)). Took g.R.ReadLeaves.rules g.R.FeedLeaves.fields g.R.ReadLeaves.ahead g.R.ReadLeaves.is_between xs (shape_of c.args.ty.now) us) (taken_is c.take-node-in-Bool.result (nodes c.args.frames.now) (nodes c.take-node-in-Bool.new.self) c.take-node-in-Bool.ensures.some c.take-node-in-Bool.ensures.none c.take-node-in-Bool.ensures.empty) k) in
     x.start
 
 pub values::feed-feed_scalar-requires-clause-waits : goal.values::feed-feed_scalar-requires-clause-waits
@@ -160,7 +168,7 @@ values::feed-feed_scalar-requires-clause-waits g t c =
     let sc : IsScalar (shape_of c.args.ty.now) = search (rules, the_lemmas) in
     let us = c.requires.reached.0 in
     let k = c.requires.reached.1 in
-    let x = scalar_node g.R.ReadLeaves.rules c.keep_feed_laws.ensures g.R.ReadLeaves.ahead g.R.ReadLeaves.is_between (shape_of c.args.ty.now) sc c.take-node-in-Bool.result (nodes c.take-node-in-Bool.new.self) us c.take-node-in-Bool.ensures.empty (subst (λ (xs : List (Frame g.row.R-Fragments.Denot)). Took g.R.ReadLeaves.rules g.R.ReadLeaves.ahead g.R.ReadLeaves.is_between xs (shape_of c.args.ty.now) us) (taken_is c.take-node-in-Bool.result (nodes c.args.frames.now) (nodes c.take-node-in-Bool.new.self) c.take-node-in-Bool.ensures.some c.take-node-in-Bool.ensures.none c.take-node-in-Bool.ensures.empty) k) in
+    let x = scalar_node g.R.ReadLeaves.rules c.keep_feed_laws.ensures g.R.FeedLeaves.fields g.R.ReadLeaves.ahead g.R.ReadLeaves.is_between (shape_of c.args.ty.now) sc c.take-node-in-Bool.result (nodes c.take-node-in-Bool.new.self) us c.take-node-in-Bool.ensures.empty (subst (λ (xs : List (Frame g.row.R-Fragments.Denot)). Took g.R.ReadLeaves.rules g.R.FeedLeaves.fields g.R.ReadLeaves.ahead g.R.ReadLeaves.is_between xs (shape_of c.args.ty.now) us) (taken_is c.take-node-in-Bool.result (nodes c.args.frames.now) (nodes c.take-node-in-Bool.new.self) c.take-node-in-Bool.ensures.some c.take-node-in-Bool.ensures.none c.take-node-in-Bool.ensures.empty) k) in
     x.waits
 
 pub values::feed-returns-in-SeqOf-clause-done : goal.values::feed-returns-in-SeqOf-clause-done
@@ -172,17 +180,17 @@ values::feed-returns-in-SeqOf-clause-done g t c =
 pub values::feed-returns-in-Bool-clause-done : goal.values::feed-returns-in-Bool-clause-done
 values::feed-returns-in-Bool-clause-done g t c =
     let sc : IsScalar (shape_of c.args.ty.now) = search (rules, the_lemmas) in
-    IfOk-weaker c.feed_scalar.result _ _ (λ v s us k. (let x = scalar_node g.R.ReadLeaves.rules c.keep_feed_laws.ensures g.R.ReadLeaves.ahead g.R.ReadLeaves.is_between (shape_of c.args.ty.now) sc c.take-node-in-Bool.result (nodes c.take-node-in-Bool.new.self) us c.take-node-in-Bool.ensures.empty (subst (λ (xs : List (Frame g.row.R-Fragments.Denot)). Took g.R.ReadLeaves.rules g.R.ReadLeaves.ahead g.R.ReadLeaves.is_between xs (shape_of c.args.ty.now) us) (taken_is c.take-node-in-Bool.result (nodes c.args.frames.now) (nodes c.take-node-in-Bool.new.self) c.take-node-in-Bool.ensures.some c.take-node-in-Bool.ensures.none c.take-node-in-Bool.ensures.empty) k) in rw x.come at s)) c.feed_scalar.ensures.done
+    IfOk-weaker c.feed_scalar.result _ _ (λ v s us k. (let x = scalar_node g.R.ReadLeaves.rules c.keep_feed_laws.ensures g.R.FeedLeaves.fields g.R.ReadLeaves.ahead g.R.ReadLeaves.is_between (shape_of c.args.ty.now) sc c.take-node-in-Bool.result (nodes c.take-node-in-Bool.new.self) us c.take-node-in-Bool.ensures.empty (subst (λ (xs : List (Frame g.row.R-Fragments.Denot)). Took g.R.ReadLeaves.rules g.R.FeedLeaves.fields g.R.ReadLeaves.ahead g.R.ReadLeaves.is_between xs (shape_of c.args.ty.now) us) (taken_is c.take-node-in-Bool.result (nodes c.args.frames.now) (nodes c.take-node-in-Bool.new.self) c.take-node-in-Bool.ensures.some c.take-node-in-Bool.ensures.none c.take-node-in-Bool.ensures.empty) k) in rw x.come at s)) c.feed_scalar.ensures.done
 
 pub values::feed-returns-in-Bool-clause-stop : goal.values::feed-returns-in-Bool-clause-stop
 values::feed-returns-in-Bool-clause-stop g t c =
     let sc : IsScalar (shape_of c.args.ty.now) = search (rules, the_lemmas) in
-    IfErr-weaker c.feed_scalar.result _ _ (λ why s us k. (let x = scalar_node g.R.ReadLeaves.rules c.keep_feed_laws.ensures g.R.ReadLeaves.ahead g.R.ReadLeaves.is_between (shape_of c.args.ty.now) sc c.take-node-in-Bool.result (nodes c.take-node-in-Bool.new.self) us c.take-node-in-Bool.ensures.empty (subst (λ (xs : List (Frame g.row.R-Fragments.Denot)). Took g.R.ReadLeaves.rules g.R.ReadLeaves.ahead g.R.ReadLeaves.is_between xs (shape_of c.args.ty.now) us) (taken_is c.take-node-in-Bool.result (nodes c.args.frames.now) (nodes c.take-node-in-Bool.new.self) c.take-node-in-Bool.ensures.some c.take-node-in-Bool.ensures.none c.take-node-in-Bool.ensures.empty) k) in rw x.come at s)) c.feed_scalar.ensures.stop
+    IfErr-weaker c.feed_scalar.result _ _ (λ why s us k. (let x = scalar_node g.R.ReadLeaves.rules c.keep_feed_laws.ensures g.R.FeedLeaves.fields g.R.ReadLeaves.ahead g.R.ReadLeaves.is_between (shape_of c.args.ty.now) sc c.take-node-in-Bool.result (nodes c.take-node-in-Bool.new.self) us c.take-node-in-Bool.ensures.empty (subst (λ (xs : List (Frame g.row.R-Fragments.Denot)). Took g.R.ReadLeaves.rules g.R.FeedLeaves.fields g.R.ReadLeaves.ahead g.R.ReadLeaves.is_between xs (shape_of c.args.ty.now) us) (taken_is c.take-node-in-Bool.result (nodes c.args.frames.now) (nodes c.take-node-in-Bool.new.self) c.take-node-in-Bool.ensures.some c.take-node-in-Bool.ensures.none c.take-node-in-Bool.ensures.empty) k) in rw x.come at s)) c.feed_scalar.ensures.stop
 
 pub values::feed-returns-in-Bool-clause-kept : goal.values::feed-returns-in-Bool-clause-kept
 values::feed-returns-in-Bool-clause-kept g t c =
     let sc : IsScalar (shape_of c.args.ty.now) = search (rules, the_lemmas) in
-    IfErr-weaker c.feed_scalar.result _ _ (λ why s us k. (let x = scalar_node g.R.ReadLeaves.rules c.keep_feed_laws.ensures g.R.ReadLeaves.ahead g.R.ReadLeaves.is_between (shape_of c.args.ty.now) sc c.take-node-in-Bool.result (nodes c.take-node-in-Bool.new.self) us c.take-node-in-Bool.ensures.empty (subst (λ (xs : List (Frame g.row.R-Fragments.Denot)). Took g.R.ReadLeaves.rules g.R.ReadLeaves.ahead g.R.ReadLeaves.is_between xs (shape_of c.args.ty.now) us) (taken_is c.take-node-in-Bool.result (nodes c.args.frames.now) (nodes c.take-node-in-Bool.new.self) c.take-node-in-Bool.ensures.some c.take-node-in-Bool.ensures.none c.take-node-in-Bool.ensures.empty) k) in rw x.come at s)) c.feed_scalar.ensures.kept
+    IfErr-weaker c.feed_scalar.result _ _ (λ why s us k. (let x = scalar_node g.R.ReadLeaves.rules c.keep_feed_laws.ensures g.R.FeedLeaves.fields g.R.ReadLeaves.ahead g.R.ReadLeaves.is_between (shape_of c.args.ty.now) sc c.take-node-in-Bool.result (nodes c.take-node-in-Bool.new.self) us c.take-node-in-Bool.ensures.empty (subst (λ (xs : List (Frame g.row.R-Fragments.Denot)). Took g.R.ReadLeaves.rules g.R.FeedLeaves.fields g.R.ReadLeaves.ahead g.R.ReadLeaves.is_between xs (shape_of c.args.ty.now) us) (taken_is c.take-node-in-Bool.result (nodes c.args.frames.now) (nodes c.take-node-in-Bool.new.self) c.take-node-in-Bool.ensures.some c.take-node-in-Bool.ensures.none c.take-node-in-Bool.ensures.empty) k) in rw x.come at s)) c.feed_scalar.ensures.kept
 
 pub lists::feed_list-returns-in-Ok-clause-done : goal.lists::feed_list-returns-in-Ok-clause-done
 lists::feed_list-returns-in-Ok-clause-done g t c = λ all h.
@@ -197,8 +205,8 @@ lists::feed_list-returns-in-Ok-put-clause-stop g t c = λ all h.
 pub lists::feed_list-returns-in-Ok-put-clause-kept : goal.lists::feed_list-returns-in-Ok-put-clause-kept
 lists::feed_list-returns-in-Ok-put-clause-kept g t c = λ all h.
     let none : g.R.ReadLeaves.rules.to_units c.feed_elements.new.units ≡ [] = rw c.in-Err-Short.field-0-is at c.in-Err-Short.ensures.after in
-    let kept : ListGoesOn g.R.ReadLeaves.rules g.R.ReadLeaves.ahead g.R.ReadLeaves.is_between (shape_of c.args.element.now) (size_range_of c.args.size.now) c.feed_elements.new.list (nodes c.feed_elements.new.frames) all (g.R.ReadLeaves.rules.to_units c.feed_elements.new.units) = c.feed_elements.ensures.kept (cc (c.in-Err-Short.is, c.in-Err-Short.field-0-is)) all h in
-    rw c.in-Ok-put.ensures (subst (λ (xs : List ℕ). ListGoesOn g.R.ReadLeaves.rules g.R.ReadLeaves.ahead g.R.ReadLeaves.is_between (shape_of c.args.element.now) (size_range_of c.args.size.now) c.feed_elements.new.list (nodes c.feed_elements.new.frames) all xs) none kept)
+    let kept : ListGoesOn g.R.ReadLeaves.rules g.R.FeedLeaves.fields g.R.ReadLeaves.ahead g.R.ReadLeaves.is_between (shape_of c.args.element.now) (size_range_of c.args.size.now) c.feed_elements.new.list (nodes c.feed_elements.new.frames) all (g.R.ReadLeaves.rules.to_units c.feed_elements.new.units) = c.feed_elements.ensures.kept (cc (c.in-Err-Short.is, c.in-Err-Short.field-0-is)) all h in
+    rw c.in-Ok-put.ensures (subst (λ (xs : List ℕ). ListGoesOn g.R.ReadLeaves.rules g.R.FeedLeaves.fields g.R.ReadLeaves.ahead g.R.ReadLeaves.is_between (shape_of c.args.element.now) (size_range_of c.args.size.now) c.feed_elements.new.list (nodes c.feed_elements.new.frames) all xs) none kept)
 
 pub lists::resume_list-start_list-requires-in-None : goal.lists::resume_list-start_list-requires-in-None
 lists::resume_list-start_list-requires-in-None g t c κs within =
@@ -208,50 +216,50 @@ pub lists::resume_list-feed_list-requires : goal.lists::resume_list-feed_list-re
 lists::resume_list-feed_list-requires g t c κs within =
     let us = c.requires.reached.0 in
     let k = c.requires.reached.1 in
-    (search (rules, the_lemmas), (within.0, (within.1, (c.requires.at_unit, (c.requires.of_profile, (c.requires.covered, ((us ++ g.R.ReadLeaves.rules.to_units c.args.units.now, (list_goes_on g.R.ReadLeaves.rules c.keep_laws.ensures c.keep_feed_laws.ensures g.R.ReadLeaves.ahead g.R.ReadLeaves.is_between (shape_of c.args.element.now) (size_range_of c.args.size.now) c.requires.of_profile c.in-Some-Elements.list (nodes c.args.frames.now) us (g.R.ReadLeaves.rules.to_units c.args.units.now) (took_elements g.R.ReadLeaves.rules c.keep_laws.ensures c.keep_feed_laws.ensures g.R.ReadLeaves.ahead g.R.ReadLeaves.is_between (shape_of c.args.element.now) (size_range_of c.args.size.now) c.requires.of_profile c.args.node c.in-Some-Elements.field-0 c.in-Some-Elements.list (nodes c.args.frames.now) us c.in-Some-Elements.is c.in-Some-Elements.field-0-is k))), c.requires.few)))))))
+    (search (rules, the_lemmas), (within.0, (within.1, (c.requires.at_unit, (c.requires.of_profile, (c.requires.covered, ((us ++ g.R.ReadLeaves.rules.to_units c.args.units.now, (list_goes_on g.R.ReadLeaves.rules c.keep_laws.ensures c.keep_feed_laws.ensures g.R.FeedLeaves.fields g.R.ReadLeaves.ahead g.R.ReadLeaves.is_between (shape_of c.args.element.now) (size_range_of c.args.size.now) c.requires.of_profile c.in-Some-Elements.list (nodes c.args.frames.now) us (g.R.ReadLeaves.rules.to_units c.args.units.now) (took_elements g.R.ReadLeaves.rules c.keep_laws.ensures c.keep_feed_laws.ensures g.R.FeedLeaves.fields g.R.ReadLeaves.ahead g.R.ReadLeaves.is_between (shape_of c.args.element.now) (size_range_of c.args.size.now) c.requires.of_profile c.args.node c.in-Some-Elements.field-0 c.in-Some-Elements.list (nodes c.args.frames.now) us c.in-Some-Elements.is c.in-Some-Elements.field-0-is k))), c.requires.few)))))))
 
 pub lists::resume_list-returns-in-Some-Elements-clause-done : goal.lists::resume_list-returns-in-Some-Elements-clause-done
 lists::resume_list-returns-in-Some-Elements-clause-done g t c =
-    IfOk-weaker c.feed_list.result _ _ (λ v s us k. s (us ++ g.R.ReadLeaves.rules.to_units c.args.units.now) (list_goes_on g.R.ReadLeaves.rules c.keep_laws.ensures c.keep_feed_laws.ensures g.R.ReadLeaves.ahead g.R.ReadLeaves.is_between (shape_of c.args.element.now) (size_range_of c.args.size.now) c.requires.of_profile c.in-Some-Elements.list (nodes c.args.frames.now) us (g.R.ReadLeaves.rules.to_units c.args.units.now) (took_elements g.R.ReadLeaves.rules c.keep_laws.ensures c.keep_feed_laws.ensures g.R.ReadLeaves.ahead g.R.ReadLeaves.is_between (shape_of c.args.element.now) (size_range_of c.args.size.now) c.requires.of_profile c.args.node c.in-Some-Elements.field-0 c.in-Some-Elements.list (nodes c.args.frames.now) us c.in-Some-Elements.is c.in-Some-Elements.field-0-is k))) c.feed_list.ensures.done
+    IfOk-weaker c.feed_list.result _ _ (λ v s us k. s (us ++ g.R.ReadLeaves.rules.to_units c.args.units.now) (list_goes_on g.R.ReadLeaves.rules c.keep_laws.ensures c.keep_feed_laws.ensures g.R.FeedLeaves.fields g.R.ReadLeaves.ahead g.R.ReadLeaves.is_between (shape_of c.args.element.now) (size_range_of c.args.size.now) c.requires.of_profile c.in-Some-Elements.list (nodes c.args.frames.now) us (g.R.ReadLeaves.rules.to_units c.args.units.now) (took_elements g.R.ReadLeaves.rules c.keep_laws.ensures c.keep_feed_laws.ensures g.R.FeedLeaves.fields g.R.ReadLeaves.ahead g.R.ReadLeaves.is_between (shape_of c.args.element.now) (size_range_of c.args.size.now) c.requires.of_profile c.args.node c.in-Some-Elements.field-0 c.in-Some-Elements.list (nodes c.args.frames.now) us c.in-Some-Elements.is c.in-Some-Elements.field-0-is k))) c.feed_list.ensures.done
 
 pub lists::resume_list-returns-in-Some-Elements-clause-stop : goal.lists::resume_list-returns-in-Some-Elements-clause-stop
 lists::resume_list-returns-in-Some-Elements-clause-stop g t c =
-    IfErr-weaker c.feed_list.result _ _ (λ why s us k. s (us ++ g.R.ReadLeaves.rules.to_units c.args.units.now) (list_goes_on g.R.ReadLeaves.rules c.keep_laws.ensures c.keep_feed_laws.ensures g.R.ReadLeaves.ahead g.R.ReadLeaves.is_between (shape_of c.args.element.now) (size_range_of c.args.size.now) c.requires.of_profile c.in-Some-Elements.list (nodes c.args.frames.now) us (g.R.ReadLeaves.rules.to_units c.args.units.now) (took_elements g.R.ReadLeaves.rules c.keep_laws.ensures c.keep_feed_laws.ensures g.R.ReadLeaves.ahead g.R.ReadLeaves.is_between (shape_of c.args.element.now) (size_range_of c.args.size.now) c.requires.of_profile c.args.node c.in-Some-Elements.field-0 c.in-Some-Elements.list (nodes c.args.frames.now) us c.in-Some-Elements.is c.in-Some-Elements.field-0-is k))) c.feed_list.ensures.stop
+    IfErr-weaker c.feed_list.result _ _ (λ why s us k. s (us ++ g.R.ReadLeaves.rules.to_units c.args.units.now) (list_goes_on g.R.ReadLeaves.rules c.keep_laws.ensures c.keep_feed_laws.ensures g.R.FeedLeaves.fields g.R.ReadLeaves.ahead g.R.ReadLeaves.is_between (shape_of c.args.element.now) (size_range_of c.args.size.now) c.requires.of_profile c.in-Some-Elements.list (nodes c.args.frames.now) us (g.R.ReadLeaves.rules.to_units c.args.units.now) (took_elements g.R.ReadLeaves.rules c.keep_laws.ensures c.keep_feed_laws.ensures g.R.FeedLeaves.fields g.R.ReadLeaves.ahead g.R.ReadLeaves.is_between (shape_of c.args.element.now) (size_range_of c.args.size.now) c.requires.of_profile c.args.node c.in-Some-Elements.field-0 c.in-Some-Elements.list (nodes c.args.frames.now) us c.in-Some-Elements.is c.in-Some-Elements.field-0-is k))) c.feed_list.ensures.stop
 
 pub lists::resume_list-returns-in-Some-Elements-clause-kept : goal.lists::resume_list-returns-in-Some-Elements-clause-kept
 lists::resume_list-returns-in-Some-Elements-clause-kept g t c =
-    IfErr-weaker c.feed_list.result _ _ (λ why s us k. s (us ++ g.R.ReadLeaves.rules.to_units c.args.units.now) (list_goes_on g.R.ReadLeaves.rules c.keep_laws.ensures c.keep_feed_laws.ensures g.R.ReadLeaves.ahead g.R.ReadLeaves.is_between (shape_of c.args.element.now) (size_range_of c.args.size.now) c.requires.of_profile c.in-Some-Elements.list (nodes c.args.frames.now) us (g.R.ReadLeaves.rules.to_units c.args.units.now) (took_elements g.R.ReadLeaves.rules c.keep_laws.ensures c.keep_feed_laws.ensures g.R.ReadLeaves.ahead g.R.ReadLeaves.is_between (shape_of c.args.element.now) (size_range_of c.args.size.now) c.requires.of_profile c.args.node c.in-Some-Elements.field-0 c.in-Some-Elements.list (nodes c.args.frames.now) us c.in-Some-Elements.is c.in-Some-Elements.field-0-is k))) c.feed_list.ensures.kept
+    IfErr-weaker c.feed_list.result _ _ (λ why s us k. s (us ++ g.R.ReadLeaves.rules.to_units c.args.units.now) (list_goes_on g.R.ReadLeaves.rules c.keep_laws.ensures c.keep_feed_laws.ensures g.R.FeedLeaves.fields g.R.ReadLeaves.ahead g.R.ReadLeaves.is_between (shape_of c.args.element.now) (size_range_of c.args.size.now) c.requires.of_profile c.in-Some-Elements.list (nodes c.args.frames.now) us (g.R.ReadLeaves.rules.to_units c.args.units.now) (took_elements g.R.ReadLeaves.rules c.keep_laws.ensures c.keep_feed_laws.ensures g.R.FeedLeaves.fields g.R.ReadLeaves.ahead g.R.ReadLeaves.is_between (shape_of c.args.element.now) (size_range_of c.args.size.now) c.requires.of_profile c.args.node c.in-Some-Elements.field-0 c.in-Some-Elements.list (nodes c.args.frames.now) us c.in-Some-Elements.is c.in-Some-Elements.field-0-is k))) c.feed_list.ensures.kept
 
 pub lists::resume_list-returns-in-None-clause-done : goal.lists::resume_list-returns-in-None-clause-done
 lists::resume_list-returns-in-None-clause-done g t c =
-    IfOk-weaker c.start_list-in-None.result _ _ (λ v s us k. subst (λ (xs : List ℕ). Spells g.R.ReadLeaves.rules.ruling.fielding (ValuesOf g.R.ReadLeaves.rules (sequence_of (shape_of c.args.element.now) (size_range_of c.args.size.now))) (datum_of v) xs (g.R.ReadLeaves.rules.to_units c.start_list-in-None.new.units)) (ap (λ (xs : List ℕ). xs ++ g.R.ReadLeaves.rules.to_units c.args.units.now) (ap g.R.ReadLeaves.rules.to_units c.none.ensures ∙ c.keep_feed_laws.ensures.none ∙ sym (took_none g.R.ReadLeaves.rules c.keep_laws.ensures c.keep_feed_laws.ensures g.R.ReadLeaves.ahead g.R.ReadLeaves.is_between (shape_of c.args.element.now) (size_range_of c.args.size.now) c.requires.of_profile c.args.node (nodes c.args.frames.now) us c.in-None.is (c.requires.last (ap is_some c.in-None.is)) k))) s) c.start_list-in-None.ensures.done
+    IfOk-weaker c.start_list-in-None.result _ _ (λ v s us k. subst (λ (xs : List ℕ). Spells g.R.ReadLeaves.rules.ruling.fielding (ValuesOf g.R.ReadLeaves.rules (sequence_of (shape_of c.args.element.now) (size_range_of c.args.size.now))) (datum_of v) xs (g.R.ReadLeaves.rules.to_units c.start_list-in-None.new.units)) (ap (λ (xs : List ℕ). xs ++ g.R.ReadLeaves.rules.to_units c.args.units.now) (ap g.R.ReadLeaves.rules.to_units c.none.ensures ∙ c.keep_feed_laws.ensures.none ∙ sym (took_none g.R.ReadLeaves.rules c.keep_laws.ensures c.keep_feed_laws.ensures g.R.FeedLeaves.fields g.R.ReadLeaves.ahead g.R.ReadLeaves.is_between (shape_of c.args.element.now) (size_range_of c.args.size.now) c.requires.of_profile c.args.node (nodes c.args.frames.now) us c.in-None.is (c.requires.last (ap is_some c.in-None.is)) k))) s) c.start_list-in-None.ensures.done
 
 pub lists::resume_list-returns-in-None-clause-stop : goal.lists::resume_list-returns-in-None-clause-stop
 lists::resume_list-returns-in-None-clause-stop g t c =
-    IfErr-weaker c.start_list-in-None.result _ _ (λ why s us k. subst (λ (xs : List ℕ). Stops g.R.ReadLeaves.rules.ruling.fielding (ValuesOf g.R.ReadLeaves.rules (sequence_of (shape_of c.args.element.now) (size_range_of c.args.size.now))) xs why) (ap (λ (xs : List ℕ). xs ++ g.R.ReadLeaves.rules.to_units c.args.units.now) (ap g.R.ReadLeaves.rules.to_units c.none.ensures ∙ c.keep_feed_laws.ensures.none ∙ sym (took_none g.R.ReadLeaves.rules c.keep_laws.ensures c.keep_feed_laws.ensures g.R.ReadLeaves.ahead g.R.ReadLeaves.is_between (shape_of c.args.element.now) (size_range_of c.args.size.now) c.requires.of_profile c.args.node (nodes c.args.frames.now) us c.in-None.is (c.requires.last (ap is_some c.in-None.is)) k))) s) c.start_list-in-None.ensures.stop
+    IfErr-weaker c.start_list-in-None.result _ _ (λ why s us k. subst (λ (xs : List ℕ). Stops g.R.ReadLeaves.rules.ruling.fielding (ValuesOf g.R.ReadLeaves.rules (sequence_of (shape_of c.args.element.now) (size_range_of c.args.size.now))) xs why) (ap (λ (xs : List ℕ). xs ++ g.R.ReadLeaves.rules.to_units c.args.units.now) (ap g.R.ReadLeaves.rules.to_units c.none.ensures ∙ c.keep_feed_laws.ensures.none ∙ sym (took_none g.R.ReadLeaves.rules c.keep_laws.ensures c.keep_feed_laws.ensures g.R.FeedLeaves.fields g.R.ReadLeaves.ahead g.R.ReadLeaves.is_between (shape_of c.args.element.now) (size_range_of c.args.size.now) c.requires.of_profile c.args.node (nodes c.args.frames.now) us c.in-None.is (c.requires.last (ap is_some c.in-None.is)) k))) s) c.start_list-in-None.ensures.stop
 
 pub lists::resume_list-returns-in-None-clause-kept : goal.lists::resume_list-returns-in-None-clause-kept
 lists::resume_list-returns-in-None-clause-kept g t c =
-    IfErr-weaker c.start_list-in-None.result _ _ (λ why s us k. subst (λ (xs : List ℕ). KeepsFrames g.R.ReadLeaves.rules g.R.ReadLeaves.ahead g.R.ReadLeaves.is_between (nodes c.start_list-in-None.new.frames) (sequence_of (shape_of c.args.element.now) (size_range_of c.args.size.now)) xs why) (ap (λ (xs : List ℕ). xs ++ g.R.ReadLeaves.rules.to_units c.args.units.now) (ap g.R.ReadLeaves.rules.to_units c.none.ensures ∙ c.keep_feed_laws.ensures.none ∙ sym (took_none g.R.ReadLeaves.rules c.keep_laws.ensures c.keep_feed_laws.ensures g.R.ReadLeaves.ahead g.R.ReadLeaves.is_between (shape_of c.args.element.now) (size_range_of c.args.size.now) c.requires.of_profile c.args.node (nodes c.args.frames.now) us c.in-None.is (c.requires.last (ap is_some c.in-None.is)) k))) s) c.start_list-in-None.ensures.kept
+    IfErr-weaker c.start_list-in-None.result _ _ (λ why s us k. subst (λ (xs : List ℕ). KeepsFrames g.R.ReadLeaves.rules g.R.FeedLeaves.fields g.R.ReadLeaves.ahead g.R.ReadLeaves.is_between (nodes c.start_list-in-None.new.frames) (sequence_of (shape_of c.args.element.now) (size_range_of c.args.size.now)) xs why) (ap (λ (xs : List ℕ). xs ++ g.R.ReadLeaves.rules.to_units c.args.units.now) (ap g.R.ReadLeaves.rules.to_units c.none.ensures ∙ c.keep_feed_laws.ensures.none ∙ sym (took_none g.R.ReadLeaves.rules c.keep_laws.ensures c.keep_feed_laws.ensures g.R.FeedLeaves.fields g.R.ReadLeaves.ahead g.R.ReadLeaves.is_between (shape_of c.args.element.now) (size_range_of c.args.size.now) c.requires.of_profile c.args.node (nodes c.args.frames.now) us c.in-None.is (c.requires.last (ap is_some c.in-None.is)) k))) s) c.start_list-in-None.ensures.kept
 
 pub lists::start_list-feed_leaf-requires-clause-good : goal.lists::start_list-feed_leaf-requires-clause-good
 lists::start_list-feed_leaf-requires-clause-good g t c = list_size (shape_of c.args.element.now) (size_range_of c.args.size.now) c.requires.of_profile
 
 pub lists::start_list-feed_list-requires : goal.lists::start_list-feed_list-requires
 lists::start_list-feed_list-requires g t c κs within =
-    (search (rules, the_lemmas), (within.0, (within.1, (c.in-Ok.ensures.at_unit, (c.requires.of_profile, (c.requires.covered, (((g.R.ReadLeaves.rules.to_units c.args.begun ++ g.R.ReadLeaves.rules.to_units c.args.units.now), (list_starts g.R.ReadLeaves.rules c.keep_laws.ensures c.keep_feed_laws.ensures g.R.ReadLeaves.ahead g.R.ReadLeaves.is_between (shape_of c.args.element.now) (size_range_of c.args.size.now) c.requires.of_profile _ (nodes c.args.frames.now) (g.R.ReadLeaves.rules.to_units c.args.begun ++ g.R.ReadLeaves.rules.to_units c.args.units.now) (g.R.ReadLeaves.rules.to_units c.feed_leaf.new.units) c.in-Ok.ensures.done refl c.new.ensures.items c.none.ensures c.in-Ok.ensures.sound c.requires.empty)), omega (arith, c.in-Ok.ensures.ticked, c.requires.few))))))))
+    (search (rules, the_lemmas), (within.0, (within.1, (c.in-Ok.ensures.at_unit, (c.requires.of_profile, (c.requires.covered, (((g.R.ReadLeaves.rules.to_units c.args.begun ++ g.R.ReadLeaves.rules.to_units c.args.units.now), (list_starts g.R.ReadLeaves.rules c.keep_laws.ensures c.keep_feed_laws.ensures g.R.FeedLeaves.fields g.R.ReadLeaves.ahead g.R.ReadLeaves.is_between (shape_of c.args.element.now) (size_range_of c.args.size.now) c.requires.of_profile _ (nodes c.args.frames.now) (g.R.ReadLeaves.rules.to_units c.args.begun ++ g.R.ReadLeaves.rules.to_units c.args.units.now) (g.R.ReadLeaves.rules.to_units c.feed_leaf.new.units) c.in-Ok.ensures.done refl c.new.ensures.items c.none.ensures c.in-Ok.ensures.sound c.requires.empty)), omega (arith, c.in-Ok.ensures.ticked, c.requires.few))))))))
 
 pub lists::start_list-returns-in-Ok-clause-done : goal.lists::start_list-returns-in-Ok-clause-done
 lists::start_list-returns-in-Ok-clause-done g t c =
-    IfOk-weaker c.feed_list.result _ _ (λ v s. s (g.R.ReadLeaves.rules.to_units c.args.begun ++ g.R.ReadLeaves.rules.to_units c.args.units.now) (list_starts g.R.ReadLeaves.rules c.keep_laws.ensures c.keep_feed_laws.ensures g.R.ReadLeaves.ahead g.R.ReadLeaves.is_between (shape_of c.args.element.now) (size_range_of c.args.size.now) c.requires.of_profile _ (nodes c.args.frames.now) (g.R.ReadLeaves.rules.to_units c.args.begun ++ g.R.ReadLeaves.rules.to_units c.args.units.now) (g.R.ReadLeaves.rules.to_units c.feed_leaf.new.units) c.in-Ok.ensures.done refl c.new.ensures.items c.none.ensures c.in-Ok.ensures.sound c.requires.empty)) c.feed_list.ensures.done
+    IfOk-weaker c.feed_list.result _ _ (λ v s. s (g.R.ReadLeaves.rules.to_units c.args.begun ++ g.R.ReadLeaves.rules.to_units c.args.units.now) (list_starts g.R.ReadLeaves.rules c.keep_laws.ensures c.keep_feed_laws.ensures g.R.FeedLeaves.fields g.R.ReadLeaves.ahead g.R.ReadLeaves.is_between (shape_of c.args.element.now) (size_range_of c.args.size.now) c.requires.of_profile _ (nodes c.args.frames.now) (g.R.ReadLeaves.rules.to_units c.args.begun ++ g.R.ReadLeaves.rules.to_units c.args.units.now) (g.R.ReadLeaves.rules.to_units c.feed_leaf.new.units) c.in-Ok.ensures.done refl c.new.ensures.items c.none.ensures c.in-Ok.ensures.sound c.requires.empty)) c.feed_list.ensures.done
 
 pub lists::start_list-returns-in-Ok-clause-stop : goal.lists::start_list-returns-in-Ok-clause-stop
 lists::start_list-returns-in-Ok-clause-stop g t c =
-    IfErr-weaker c.feed_list.result _ _ (λ why s. s (g.R.ReadLeaves.rules.to_units c.args.begun ++ g.R.ReadLeaves.rules.to_units c.args.units.now) (list_starts g.R.ReadLeaves.rules c.keep_laws.ensures c.keep_feed_laws.ensures g.R.ReadLeaves.ahead g.R.ReadLeaves.is_between (shape_of c.args.element.now) (size_range_of c.args.size.now) c.requires.of_profile _ (nodes c.args.frames.now) (g.R.ReadLeaves.rules.to_units c.args.begun ++ g.R.ReadLeaves.rules.to_units c.args.units.now) (g.R.ReadLeaves.rules.to_units c.feed_leaf.new.units) c.in-Ok.ensures.done refl c.new.ensures.items c.none.ensures c.in-Ok.ensures.sound c.requires.empty)) c.feed_list.ensures.stop
+    IfErr-weaker c.feed_list.result _ _ (λ why s. s (g.R.ReadLeaves.rules.to_units c.args.begun ++ g.R.ReadLeaves.rules.to_units c.args.units.now) (list_starts g.R.ReadLeaves.rules c.keep_laws.ensures c.keep_feed_laws.ensures g.R.FeedLeaves.fields g.R.ReadLeaves.ahead g.R.ReadLeaves.is_between (shape_of c.args.element.now) (size_range_of c.args.size.now) c.requires.of_profile _ (nodes c.args.frames.now) (g.R.ReadLeaves.rules.to_units c.args.begun ++ g.R.ReadLeaves.rules.to_units c.args.units.now) (g.R.ReadLeaves.rules.to_units c.feed_leaf.new.units) c.in-Ok.ensures.done refl c.new.ensures.items c.none.ensures c.in-Ok.ensures.sound c.requires.empty)) c.feed_list.ensures.stop
 
 pub lists::start_list-returns-in-Ok-clause-kept : goal.lists::start_list-returns-in-Ok-clause-kept
 lists::start_list-returns-in-Ok-clause-kept g t c =
-    IfErr-weaker c.feed_list.result _ _ (λ why s. s (g.R.ReadLeaves.rules.to_units c.args.begun ++ g.R.ReadLeaves.rules.to_units c.args.units.now) (list_starts g.R.ReadLeaves.rules c.keep_laws.ensures c.keep_feed_laws.ensures g.R.ReadLeaves.ahead g.R.ReadLeaves.is_between (shape_of c.args.element.now) (size_range_of c.args.size.now) c.requires.of_profile _ (nodes c.args.frames.now) (g.R.ReadLeaves.rules.to_units c.args.begun ++ g.R.ReadLeaves.rules.to_units c.args.units.now) (g.R.ReadLeaves.rules.to_units c.feed_leaf.new.units) c.in-Ok.ensures.done refl c.new.ensures.items c.none.ensures c.in-Ok.ensures.sound c.requires.empty)) c.feed_list.ensures.kept
+    IfErr-weaker c.feed_list.result _ _ (λ why s. s (g.R.ReadLeaves.rules.to_units c.args.begun ++ g.R.ReadLeaves.rules.to_units c.args.units.now) (list_starts g.R.ReadLeaves.rules c.keep_laws.ensures c.keep_feed_laws.ensures g.R.FeedLeaves.fields g.R.ReadLeaves.ahead g.R.ReadLeaves.is_between (shape_of c.args.element.now) (size_range_of c.args.size.now) c.requires.of_profile _ (nodes c.args.frames.now) (g.R.ReadLeaves.rules.to_units c.args.begun ++ g.R.ReadLeaves.rules.to_units c.args.units.now) (g.R.ReadLeaves.rules.to_units c.feed_leaf.new.units) c.in-Ok.ensures.done refl c.new.ensures.items c.none.ensures c.in-Ok.ensures.sound c.requires.empty)) c.feed_list.ensures.kept
 
 pub lists::start_list-returns-in-Ok-put-clause-stop : goal.lists::start_list-returns-in-Ok-put-clause-stop
 lists::start_list-returns-in-Ok-put-clause-stop g t c =
@@ -272,7 +280,7 @@ lists::start_list-returns-in-Err-Refused-clause-stop g t c =
 
 pub lists::resume_list-returns-in-Some-Start-clause-stop : goal.lists::resume_list-returns-in-Some-Start-clause-stop
 lists::resume_list-returns-in-Some-Start-clause-stop g t c =
-    IfErr-weaker c.start_list.result _ _ (λ why s us k. subst (λ (xs : List ℕ). Stops g.R.ReadLeaves.rules.ruling.fielding (ValuesOf g.R.ReadLeaves.rules (sequence_of (shape_of c.args.element.now) (size_range_of c.args.size.now))) (xs ++ g.R.ReadLeaves.rules.to_units c.args.units.now) why) (took_start g.R.ReadLeaves.rules c.keep_laws.ensures c.keep_feed_laws.ensures g.R.ReadLeaves.ahead g.R.ReadLeaves.is_between (shape_of c.args.element.now) (size_range_of c.args.size.now) c.requires.of_profile c.args.node c.in-Some-Start.field-0 c.in-Some-Start.begun (nodes c.args.frames.now) us c.in-Some-Start.is c.in-Some-Start.field-0-is k).1 s) c.start_list.ensures.stop
+    IfErr-weaker c.start_list.result _ _ (λ why s us k. subst (λ (xs : List ℕ). Stops g.R.ReadLeaves.rules.ruling.fielding (ValuesOf g.R.ReadLeaves.rules (sequence_of (shape_of c.args.element.now) (size_range_of c.args.size.now))) (xs ++ g.R.ReadLeaves.rules.to_units c.args.units.now) why) (took_start g.R.ReadLeaves.rules c.keep_laws.ensures c.keep_feed_laws.ensures g.R.FeedLeaves.fields g.R.ReadLeaves.ahead g.R.ReadLeaves.is_between (shape_of c.args.element.now) (size_range_of c.args.size.now) c.requires.of_profile c.args.node c.in-Some-Start.field-0 c.in-Some-Start.begun (nodes c.args.frames.now) us c.in-Some-Start.is c.in-Some-Start.field-0-is k).1 s) c.start_list.ensures.stop
 
 -- ---- the root of a SEQUENCE
 
@@ -283,66 +291,66 @@ sequences::resume_sequence-start_sequence-requires-in-None g t c κs within =
 pub sequences::resume_sequence-feed_sequence-requires : goal.sequences::resume_sequence-feed_sequence-requires
 sequences::resume_sequence-feed_sequence-requires g t c κs within =
     let us = c.requires.reached.0 in
-    let k = took_components g.R.ReadLeaves.rules c.keep_laws.ensures g.R.ReadLeaves.ahead g.R.ReadLeaves.is_between (fields_seen c.args.root.now) (more_fields_of c.args.ext.now) c.requires.of_profile c.args.node c.in-Some-Components.field-0 c.in-Some-Components.read (nodes c.args.frames.now) us c.in-Some-Components.is c.in-Some-Components.field-0-is c.requires.reached.1 in
-    (search (rules, the_lemmas), (within.0, (within.1, (c.requires.at_unit, (((more_fields_of c.args.ext.now), c.requires.of_profile, c.requires.covered, us ++ g.R.ReadLeaves.rules.to_units c.args.units.now, (root_goes_on g.R.ReadLeaves.rules c.keep_laws.ensures g.R.ReadLeaves.ahead g.R.ReadLeaves.is_between (fields_seen c.args.root.now) (more_fields_of c.args.ext.now) c.requires.of_profile c.in-Some-Components.read (nodes c.args.frames.now) us (g.R.ReadLeaves.rules.to_units c.args.units.now) k)), c.requires.few)))))
+    let k = took_components g.R.ReadLeaves.rules c.keep_laws.ensures g.R.FeedLeaves.fields g.R.ReadLeaves.ahead g.R.ReadLeaves.is_between (fields_seen c.args.root.now) (more_fields_of c.args.ext.now) c.requires.of_profile c.args.node c.in-Some-Components.field-0 c.in-Some-Components.read (nodes c.args.frames.now) us c.in-Some-Components.is c.in-Some-Components.field-0-is c.requires.reached.1 in
+    (search (rules, the_lemmas), (within.0, (within.1, (c.requires.at_unit, (((more_fields_of c.args.ext.now), c.requires.of_profile, c.requires.covered, us ++ g.R.ReadLeaves.rules.to_units c.args.units.now, (root_goes_on g.R.ReadLeaves.rules c.keep_laws.ensures g.R.FeedLeaves.fields g.R.ReadLeaves.ahead g.R.ReadLeaves.is_between (fields_seen c.args.root.now) (more_fields_of c.args.ext.now) c.requires.of_profile c.in-Some-Components.read (nodes c.args.frames.now) us (g.R.ReadLeaves.rules.to_units c.args.units.now) k)), c.requires.few)))))
 
 pub sequences::resume_sequence-returns-in-Some-Components-clause-done : goal.sequences::resume_sequence-returns-in-Some-Components-clause-done
 sequences::resume_sequence-returns-in-Some-Components-clause-done g t c =
-    IfOk-weaker c.feed_sequence.result _ _ (λ v s us k. s (more_fields_of c.args.ext.now) c.requires.of_profile c.requires.covered (us ++ g.R.ReadLeaves.rules.to_units c.args.units.now) (root_goes_on g.R.ReadLeaves.rules c.keep_laws.ensures g.R.ReadLeaves.ahead g.R.ReadLeaves.is_between (fields_seen c.args.root.now) (more_fields_of c.args.ext.now) c.requires.of_profile c.in-Some-Components.read (nodes c.args.frames.now) us (g.R.ReadLeaves.rules.to_units c.args.units.now) (took_components g.R.ReadLeaves.rules c.keep_laws.ensures g.R.ReadLeaves.ahead g.R.ReadLeaves.is_between (fields_seen c.args.root.now) (more_fields_of c.args.ext.now) c.requires.of_profile c.args.node c.in-Some-Components.field-0 c.in-Some-Components.read (nodes c.args.frames.now) us c.in-Some-Components.is c.in-Some-Components.field-0-is k))) c.feed_sequence.ensures.done
+    IfOk-weaker c.feed_sequence.result _ _ (λ v s us k. s (more_fields_of c.args.ext.now) c.requires.of_profile c.requires.covered (us ++ g.R.ReadLeaves.rules.to_units c.args.units.now) (root_goes_on g.R.ReadLeaves.rules c.keep_laws.ensures g.R.FeedLeaves.fields g.R.ReadLeaves.ahead g.R.ReadLeaves.is_between (fields_seen c.args.root.now) (more_fields_of c.args.ext.now) c.requires.of_profile c.in-Some-Components.read (nodes c.args.frames.now) us (g.R.ReadLeaves.rules.to_units c.args.units.now) (took_components g.R.ReadLeaves.rules c.keep_laws.ensures g.R.FeedLeaves.fields g.R.ReadLeaves.ahead g.R.ReadLeaves.is_between (fields_seen c.args.root.now) (more_fields_of c.args.ext.now) c.requires.of_profile c.args.node c.in-Some-Components.field-0 c.in-Some-Components.read (nodes c.args.frames.now) us c.in-Some-Components.is c.in-Some-Components.field-0-is k))) c.feed_sequence.ensures.done
 
 pub sequences::resume_sequence-returns-in-Some-Components-clause-stop : goal.sequences::resume_sequence-returns-in-Some-Components-clause-stop
 sequences::resume_sequence-returns-in-Some-Components-clause-stop g t c =
-    IfErr-weaker c.feed_sequence.result _ _ (λ why s us k. s (more_fields_of c.args.ext.now) c.requires.of_profile c.requires.covered (us ++ g.R.ReadLeaves.rules.to_units c.args.units.now) (root_goes_on g.R.ReadLeaves.rules c.keep_laws.ensures g.R.ReadLeaves.ahead g.R.ReadLeaves.is_between (fields_seen c.args.root.now) (more_fields_of c.args.ext.now) c.requires.of_profile c.in-Some-Components.read (nodes c.args.frames.now) us (g.R.ReadLeaves.rules.to_units c.args.units.now) (took_components g.R.ReadLeaves.rules c.keep_laws.ensures g.R.ReadLeaves.ahead g.R.ReadLeaves.is_between (fields_seen c.args.root.now) (more_fields_of c.args.ext.now) c.requires.of_profile c.args.node c.in-Some-Components.field-0 c.in-Some-Components.read (nodes c.args.frames.now) us c.in-Some-Components.is c.in-Some-Components.field-0-is k))) c.feed_sequence.ensures.stop
+    IfErr-weaker c.feed_sequence.result _ _ (λ why s us k. s (more_fields_of c.args.ext.now) c.requires.of_profile c.requires.covered (us ++ g.R.ReadLeaves.rules.to_units c.args.units.now) (root_goes_on g.R.ReadLeaves.rules c.keep_laws.ensures g.R.FeedLeaves.fields g.R.ReadLeaves.ahead g.R.ReadLeaves.is_between (fields_seen c.args.root.now) (more_fields_of c.args.ext.now) c.requires.of_profile c.in-Some-Components.read (nodes c.args.frames.now) us (g.R.ReadLeaves.rules.to_units c.args.units.now) (took_components g.R.ReadLeaves.rules c.keep_laws.ensures g.R.FeedLeaves.fields g.R.ReadLeaves.ahead g.R.ReadLeaves.is_between (fields_seen c.args.root.now) (more_fields_of c.args.ext.now) c.requires.of_profile c.args.node c.in-Some-Components.field-0 c.in-Some-Components.read (nodes c.args.frames.now) us c.in-Some-Components.is c.in-Some-Components.field-0-is k))) c.feed_sequence.ensures.stop
 
 pub sequences::resume_sequence-returns-in-Some-Components-clause-kept : goal.sequences::resume_sequence-returns-in-Some-Components-clause-kept
 sequences::resume_sequence-returns-in-Some-Components-clause-kept g t c =
-    IfErr-weaker c.feed_sequence.result _ _ (λ why s us k. s (more_fields_of c.args.ext.now) c.requires.of_profile c.requires.covered (us ++ g.R.ReadLeaves.rules.to_units c.args.units.now) (root_goes_on g.R.ReadLeaves.rules c.keep_laws.ensures g.R.ReadLeaves.ahead g.R.ReadLeaves.is_between (fields_seen c.args.root.now) (more_fields_of c.args.ext.now) c.requires.of_profile c.in-Some-Components.read (nodes c.args.frames.now) us (g.R.ReadLeaves.rules.to_units c.args.units.now) (took_components g.R.ReadLeaves.rules c.keep_laws.ensures g.R.ReadLeaves.ahead g.R.ReadLeaves.is_between (fields_seen c.args.root.now) (more_fields_of c.args.ext.now) c.requires.of_profile c.args.node c.in-Some-Components.field-0 c.in-Some-Components.read (nodes c.args.frames.now) us c.in-Some-Components.is c.in-Some-Components.field-0-is k))) c.feed_sequence.ensures.kept
+    IfErr-weaker c.feed_sequence.result _ _ (λ why s us k. s (more_fields_of c.args.ext.now) c.requires.of_profile c.requires.covered (us ++ g.R.ReadLeaves.rules.to_units c.args.units.now) (root_goes_on g.R.ReadLeaves.rules c.keep_laws.ensures g.R.FeedLeaves.fields g.R.ReadLeaves.ahead g.R.ReadLeaves.is_between (fields_seen c.args.root.now) (more_fields_of c.args.ext.now) c.requires.of_profile c.in-Some-Components.read (nodes c.args.frames.now) us (g.R.ReadLeaves.rules.to_units c.args.units.now) (took_components g.R.ReadLeaves.rules c.keep_laws.ensures g.R.FeedLeaves.fields g.R.ReadLeaves.ahead g.R.ReadLeaves.is_between (fields_seen c.args.root.now) (more_fields_of c.args.ext.now) c.requires.of_profile c.args.node c.in-Some-Components.field-0 c.in-Some-Components.read (nodes c.args.frames.now) us c.in-Some-Components.is c.in-Some-Components.field-0-is k))) c.feed_sequence.ensures.kept
 
 pub sequences::resume_sequence-returns-in-None-clause-done : goal.sequences::resume_sequence-returns-in-None-clause-done
 sequences::resume_sequence-returns-in-None-clause-done g t c =
-    IfOk-weaker c.start_sequence-in-None.result _ _ (λ v s us k. subst (λ (xs : List ℕ). Spells g.R.ReadLeaves.rules.ruling.fielding (ValuesOf g.R.ReadLeaves.rules (sequence_seen c.args.root.now c.args.ext.now)) (datum_of v) xs (g.R.ReadLeaves.rules.to_units c.start_sequence-in-None.new.units)) (ap (λ (xs : List ℕ). xs ++ g.R.ReadLeaves.rules.to_units c.args.units.now) (ap g.R.ReadLeaves.rules.to_units c.none.ensures ∙ c.keep_feed_laws.ensures.none ∙ sym (sequence_none g.R.ReadLeaves.rules c.keep_laws.ensures g.R.ReadLeaves.ahead g.R.ReadLeaves.is_between (fields_seen c.args.root.now) (more_fields_of c.args.ext.now) c.requires.of_profile c.args.node (nodes c.args.frames.now) us c.in-None.is (c.requires.last (ap is_some c.in-None.is)) k))) s) c.start_sequence-in-None.ensures.done
+    IfOk-weaker c.start_sequence-in-None.result _ _ (λ v s us k. subst (λ (xs : List ℕ). Spells g.R.ReadLeaves.rules.ruling.fielding (ValuesOf g.R.ReadLeaves.rules (sequence_seen c.args.root.now c.args.ext.now)) (datum_of v) xs (g.R.ReadLeaves.rules.to_units c.start_sequence-in-None.new.units)) (ap (λ (xs : List ℕ). xs ++ g.R.ReadLeaves.rules.to_units c.args.units.now) (ap g.R.ReadLeaves.rules.to_units c.none.ensures ∙ c.keep_feed_laws.ensures.none ∙ sym (sequence_none g.R.ReadLeaves.rules c.keep_laws.ensures g.R.FeedLeaves.fields g.R.ReadLeaves.ahead g.R.ReadLeaves.is_between (fields_seen c.args.root.now) (more_fields_of c.args.ext.now) c.requires.of_profile c.args.node (nodes c.args.frames.now) us c.in-None.is (c.requires.last (ap is_some c.in-None.is)) k))) s) c.start_sequence-in-None.ensures.done
 
 pub sequences::resume_sequence-returns-in-None-clause-stop : goal.sequences::resume_sequence-returns-in-None-clause-stop
 sequences::resume_sequence-returns-in-None-clause-stop g t c =
-    IfErr-weaker c.start_sequence-in-None.result _ _ (λ why s us k. subst (λ (xs : List ℕ). Stops g.R.ReadLeaves.rules.ruling.fielding (ValuesOf g.R.ReadLeaves.rules (sequence_seen c.args.root.now c.args.ext.now)) xs why) (ap (λ (xs : List ℕ). xs ++ g.R.ReadLeaves.rules.to_units c.args.units.now) (ap g.R.ReadLeaves.rules.to_units c.none.ensures ∙ c.keep_feed_laws.ensures.none ∙ sym (sequence_none g.R.ReadLeaves.rules c.keep_laws.ensures g.R.ReadLeaves.ahead g.R.ReadLeaves.is_between (fields_seen c.args.root.now) (more_fields_of c.args.ext.now) c.requires.of_profile c.args.node (nodes c.args.frames.now) us c.in-None.is (c.requires.last (ap is_some c.in-None.is)) k))) s) c.start_sequence-in-None.ensures.stop
+    IfErr-weaker c.start_sequence-in-None.result _ _ (λ why s us k. subst (λ (xs : List ℕ). Stops g.R.ReadLeaves.rules.ruling.fielding (ValuesOf g.R.ReadLeaves.rules (sequence_seen c.args.root.now c.args.ext.now)) xs why) (ap (λ (xs : List ℕ). xs ++ g.R.ReadLeaves.rules.to_units c.args.units.now) (ap g.R.ReadLeaves.rules.to_units c.none.ensures ∙ c.keep_feed_laws.ensures.none ∙ sym (sequence_none g.R.ReadLeaves.rules c.keep_laws.ensures g.R.FeedLeaves.fields g.R.ReadLeaves.ahead g.R.ReadLeaves.is_between (fields_seen c.args.root.now) (more_fields_of c.args.ext.now) c.requires.of_profile c.args.node (nodes c.args.frames.now) us c.in-None.is (c.requires.last (ap is_some c.in-None.is)) k))) s) c.start_sequence-in-None.ensures.stop
 
 pub sequences::resume_sequence-returns-in-None-clause-kept : goal.sequences::resume_sequence-returns-in-None-clause-kept
 sequences::resume_sequence-returns-in-None-clause-kept g t c =
-    IfErr-weaker c.start_sequence-in-None.result _ _ (λ why s us k. subst (λ (xs : List ℕ). KeepsFrames g.R.ReadLeaves.rules g.R.ReadLeaves.ahead g.R.ReadLeaves.is_between (nodes c.start_sequence-in-None.new.frames) (sequence_seen c.args.root.now c.args.ext.now) xs why) (ap (λ (xs : List ℕ). xs ++ g.R.ReadLeaves.rules.to_units c.args.units.now) (ap g.R.ReadLeaves.rules.to_units c.none.ensures ∙ c.keep_feed_laws.ensures.none ∙ sym (sequence_none g.R.ReadLeaves.rules c.keep_laws.ensures g.R.ReadLeaves.ahead g.R.ReadLeaves.is_between (fields_seen c.args.root.now) (more_fields_of c.args.ext.now) c.requires.of_profile c.args.node (nodes c.args.frames.now) us c.in-None.is (c.requires.last (ap is_some c.in-None.is)) k))) s) c.start_sequence-in-None.ensures.kept
+    IfErr-weaker c.start_sequence-in-None.result _ _ (λ why s us k. subst (λ (xs : List ℕ). KeepsFrames g.R.ReadLeaves.rules g.R.FeedLeaves.fields g.R.ReadLeaves.ahead g.R.ReadLeaves.is_between (nodes c.start_sequence-in-None.new.frames) (sequence_seen c.args.root.now c.args.ext.now) xs why) (ap (λ (xs : List ℕ). xs ++ g.R.ReadLeaves.rules.to_units c.args.units.now) (ap g.R.ReadLeaves.rules.to_units c.none.ensures ∙ c.keep_feed_laws.ensures.none ∙ sym (sequence_none g.R.ReadLeaves.rules c.keep_laws.ensures g.R.FeedLeaves.fields g.R.ReadLeaves.ahead g.R.ReadLeaves.is_between (fields_seen c.args.root.now) (more_fields_of c.args.ext.now) c.requires.of_profile c.args.node (nodes c.args.frames.now) us c.in-None.is (c.requires.last (ap is_some c.in-None.is)) k))) s) c.start_sequence-in-None.ensures.kept
 
 pub sequences::resume_sequence-returns-in-Some-Start-clause-done : goal.sequences::resume_sequence-returns-in-Some-Start-clause-done
 sequences::resume_sequence-returns-in-Some-Start-clause-done g t c =
-    IfOk-weaker c.start_sequence.result _ _ (λ v s us k. subst (λ (xs : List ℕ). Spells g.R.ReadLeaves.rules.ruling.fielding (ValuesOf g.R.ReadLeaves.rules (sequence_seen c.args.root.now c.args.ext.now)) (datum_of v) (xs ++ g.R.ReadLeaves.rules.to_units c.args.units.now) (g.R.ReadLeaves.rules.to_units c.start_sequence.new.units)) (sequence_start g.R.ReadLeaves.rules c.keep_laws.ensures g.R.ReadLeaves.ahead g.R.ReadLeaves.is_between (fields_seen c.args.root.now) (more_fields_of c.args.ext.now) c.requires.of_profile c.args.node c.in-Some-Start.field-0 c.in-Some-Start.begun (nodes c.args.frames.now) us c.in-Some-Start.is c.in-Some-Start.field-0-is k).1.come s) c.start_sequence.ensures.done
+    IfOk-weaker c.start_sequence.result _ _ (λ v s us k. subst (λ (xs : List ℕ). Spells g.R.ReadLeaves.rules.ruling.fielding (ValuesOf g.R.ReadLeaves.rules (sequence_seen c.args.root.now c.args.ext.now)) (datum_of v) (xs ++ g.R.ReadLeaves.rules.to_units c.args.units.now) (g.R.ReadLeaves.rules.to_units c.start_sequence.new.units)) (sequence_start g.R.ReadLeaves.rules c.keep_laws.ensures g.R.FeedLeaves.fields g.R.ReadLeaves.ahead g.R.ReadLeaves.is_between (fields_seen c.args.root.now) (more_fields_of c.args.ext.now) c.requires.of_profile c.args.node c.in-Some-Start.field-0 c.in-Some-Start.begun (nodes c.args.frames.now) us c.in-Some-Start.is c.in-Some-Start.field-0-is k).1.come s) c.start_sequence.ensures.done
 
 pub sequences::resume_sequence-returns-in-Some-Start-clause-stop : goal.sequences::resume_sequence-returns-in-Some-Start-clause-stop
 sequences::resume_sequence-returns-in-Some-Start-clause-stop g t c =
-    IfErr-weaker c.start_sequence.result _ _ (λ why s us k. subst (λ (xs : List ℕ). Stops g.R.ReadLeaves.rules.ruling.fielding (ValuesOf g.R.ReadLeaves.rules (sequence_seen c.args.root.now c.args.ext.now)) (xs ++ g.R.ReadLeaves.rules.to_units c.args.units.now) why) (sequence_start g.R.ReadLeaves.rules c.keep_laws.ensures g.R.ReadLeaves.ahead g.R.ReadLeaves.is_between (fields_seen c.args.root.now) (more_fields_of c.args.ext.now) c.requires.of_profile c.args.node c.in-Some-Start.field-0 c.in-Some-Start.begun (nodes c.args.frames.now) us c.in-Some-Start.is c.in-Some-Start.field-0-is k).1.come s) c.start_sequence.ensures.stop
+    IfErr-weaker c.start_sequence.result _ _ (λ why s us k. subst (λ (xs : List ℕ). Stops g.R.ReadLeaves.rules.ruling.fielding (ValuesOf g.R.ReadLeaves.rules (sequence_seen c.args.root.now c.args.ext.now)) (xs ++ g.R.ReadLeaves.rules.to_units c.args.units.now) why) (sequence_start g.R.ReadLeaves.rules c.keep_laws.ensures g.R.FeedLeaves.fields g.R.ReadLeaves.ahead g.R.ReadLeaves.is_between (fields_seen c.args.root.now) (more_fields_of c.args.ext.now) c.requires.of_profile c.args.node c.in-Some-Start.field-0 c.in-Some-Start.begun (nodes c.args.frames.now) us c.in-Some-Start.is c.in-Some-Start.field-0-is k).1.come s) c.start_sequence.ensures.stop
 
 pub sequences::resume_sequence-returns-in-Some-Start-clause-kept : goal.sequences::resume_sequence-returns-in-Some-Start-clause-kept
 sequences::resume_sequence-returns-in-Some-Start-clause-kept g t c =
-    IfErr-weaker c.start_sequence.result _ _ (λ why s us k. subst (λ (xs : List ℕ). KeepsFrames g.R.ReadLeaves.rules g.R.ReadLeaves.ahead g.R.ReadLeaves.is_between (nodes c.start_sequence.new.frames) (sequence_seen c.args.root.now c.args.ext.now) (xs ++ g.R.ReadLeaves.rules.to_units c.args.units.now) why) (sequence_start g.R.ReadLeaves.rules c.keep_laws.ensures g.R.ReadLeaves.ahead g.R.ReadLeaves.is_between (fields_seen c.args.root.now) (more_fields_of c.args.ext.now) c.requires.of_profile c.args.node c.in-Some-Start.field-0 c.in-Some-Start.begun (nodes c.args.frames.now) us c.in-Some-Start.is c.in-Some-Start.field-0-is k).1.come s) c.start_sequence.ensures.kept
+    IfErr-weaker c.start_sequence.result _ _ (λ why s us k. subst (λ (xs : List ℕ). KeepsFrames g.R.ReadLeaves.rules g.R.FeedLeaves.fields g.R.ReadLeaves.ahead g.R.ReadLeaves.is_between (nodes c.start_sequence.new.frames) (sequence_seen c.args.root.now c.args.ext.now) (xs ++ g.R.ReadLeaves.rules.to_units c.args.units.now) why) (sequence_start g.R.ReadLeaves.rules c.keep_laws.ensures g.R.FeedLeaves.fields g.R.ReadLeaves.ahead g.R.ReadLeaves.is_between (fields_seen c.args.root.now) (more_fields_of c.args.ext.now) c.requires.of_profile c.args.node c.in-Some-Start.field-0 c.in-Some-Start.begun (nodes c.args.frames.now) us c.in-Some-Start.is c.in-Some-Start.field-0-is k).1.come s) c.start_sequence.ensures.kept
 
 pub sequences::resume_sequence-start_sequence-requires : goal.sequences::resume_sequence-start_sequence-requires
 sequences::resume_sequence-start_sequence-requires g t c κs within =
     let us = c.requires.reached.0 in
-    let w = sequence_start g.R.ReadLeaves.rules c.keep_laws.ensures g.R.ReadLeaves.ahead g.R.ReadLeaves.is_between (fields_seen c.args.root.now) (more_fields_of c.args.ext.now) c.requires.of_profile c.args.node c.in-Some-Start.field-0 c.in-Some-Start.begun (nodes c.args.frames.now) us c.in-Some-Start.is c.in-Some-Start.field-0-is c.requires.reached.1 in
+    let w = sequence_start g.R.ReadLeaves.rules c.keep_laws.ensures g.R.FeedLeaves.fields g.R.ReadLeaves.ahead g.R.ReadLeaves.is_between (fields_seen c.args.root.now) (more_fields_of c.args.ext.now) c.requires.of_profile c.args.node c.in-Some-Start.field-0 c.in-Some-Start.begun (nodes c.args.frames.now) us c.in-Some-Start.is c.in-Some-Start.field-0-is c.requires.reached.1 in
     (search (rules, the_lemmas), (within.0, (within.1, (c.requires.at_unit, (c.requires.of_profile, (c.requires.covered, (c.requires.short, (w.0, (record { come = refl; at_unit = w.1.at_unit; begins = w.1.begins }, c.requires.few)))))))))
 
 pub sequences::start_sequence-feed_sequence-requires : goal.sequences::start_sequence-feed_sequence-requires
 sequences::start_sequence-feed_sequence-requires g t c κs within =
-    (search (rules, the_lemmas), (within.0, (within.1, (c.in-Ok.ensures.at_unit, (((more_fields_of c.args.ext.now), c.requires.of_profile, c.requires.covered, (g.R.ReadLeaves.rules.to_units c.args.begun ++ g.R.ReadLeaves.rules.to_units c.args.units.now), (root_starts g.R.ReadLeaves.rules c.keep_laws.ensures g.R.ReadLeaves.ahead g.R.ReadLeaves.is_between (fields_seen c.args.root.now) (more_fields_of c.args.ext.now) c.requires.of_profile _ (nodes c.args.frames.now) (g.R.ReadLeaves.rules.to_units c.args.begun ++ g.R.ReadLeaves.rules.to_units c.args.units.now) (g.R.ReadLeaves.rules.to_units c.feed_leaf.new.units) (rw (c.bitmap_width-width.ensures.count, c.addition_count.ensures, ← added_count c.args.ext.now) at c.in-Ok.ensures.done) c.bitmap_width-width.ensures.count (rw c.bitmap_width-width.ensures.count at c.bitmap_width-width.ensures.few) c.new.ensures.items c.requires.empty)), omega (arith, c.in-Ok.ensures.ticked, c.requires.few))))))
+    (search (rules, the_lemmas), (within.0, (within.1, (c.in-Ok.ensures.at_unit, (((more_fields_of c.args.ext.now), c.requires.of_profile, c.requires.covered, (g.R.ReadLeaves.rules.to_units c.args.begun ++ g.R.ReadLeaves.rules.to_units c.args.units.now), (root_starts g.R.ReadLeaves.rules c.keep_laws.ensures g.R.FeedLeaves.fields g.R.ReadLeaves.ahead g.R.ReadLeaves.is_between (fields_seen c.args.root.now) (more_fields_of c.args.ext.now) c.requires.of_profile _ (nodes c.args.frames.now) (g.R.ReadLeaves.rules.to_units c.args.begun ++ g.R.ReadLeaves.rules.to_units c.args.units.now) (g.R.ReadLeaves.rules.to_units c.feed_leaf.new.units) (rw (c.bitmap_width-width.ensures.count, c.addition_count.ensures, ← added_count c.args.ext.now) at c.in-Ok.ensures.done) c.bitmap_width-width.ensures.count (rw c.bitmap_width-width.ensures.count at c.bitmap_width-width.ensures.few) c.new.ensures.items c.requires.empty)), omega (arith, c.in-Ok.ensures.ticked, c.requires.few))))))
 
 pub sequences::start_sequence-returns-in-Ok-clause-done : goal.sequences::start_sequence-returns-in-Ok-clause-done
 sequences::start_sequence-returns-in-Ok-clause-done g t c =
-    IfOk-weaker c.feed_sequence.result _ _ (λ v s. s (more_fields_of c.args.ext.now) c.requires.of_profile c.requires.covered (g.R.ReadLeaves.rules.to_units c.args.begun ++ g.R.ReadLeaves.rules.to_units c.args.units.now) (root_starts g.R.ReadLeaves.rules c.keep_laws.ensures g.R.ReadLeaves.ahead g.R.ReadLeaves.is_between (fields_seen c.args.root.now) (more_fields_of c.args.ext.now) c.requires.of_profile _ (nodes c.args.frames.now) (g.R.ReadLeaves.rules.to_units c.args.begun ++ g.R.ReadLeaves.rules.to_units c.args.units.now) (g.R.ReadLeaves.rules.to_units c.feed_leaf.new.units) (rw (c.bitmap_width-width.ensures.count, c.addition_count.ensures, ← added_count c.args.ext.now) at c.in-Ok.ensures.done) c.bitmap_width-width.ensures.count (rw c.bitmap_width-width.ensures.count at c.bitmap_width-width.ensures.few) c.new.ensures.items c.requires.empty)) c.feed_sequence.ensures.done
+    IfOk-weaker c.feed_sequence.result _ _ (λ v s. s (more_fields_of c.args.ext.now) c.requires.of_profile c.requires.covered (g.R.ReadLeaves.rules.to_units c.args.begun ++ g.R.ReadLeaves.rules.to_units c.args.units.now) (root_starts g.R.ReadLeaves.rules c.keep_laws.ensures g.R.FeedLeaves.fields g.R.ReadLeaves.ahead g.R.ReadLeaves.is_between (fields_seen c.args.root.now) (more_fields_of c.args.ext.now) c.requires.of_profile _ (nodes c.args.frames.now) (g.R.ReadLeaves.rules.to_units c.args.begun ++ g.R.ReadLeaves.rules.to_units c.args.units.now) (g.R.ReadLeaves.rules.to_units c.feed_leaf.new.units) (rw (c.bitmap_width-width.ensures.count, c.addition_count.ensures, ← added_count c.args.ext.now) at c.in-Ok.ensures.done) c.bitmap_width-width.ensures.count (rw c.bitmap_width-width.ensures.count at c.bitmap_width-width.ensures.few) c.new.ensures.items c.requires.empty)) c.feed_sequence.ensures.done
 
 pub sequences::start_sequence-returns-in-Ok-clause-stop : goal.sequences::start_sequence-returns-in-Ok-clause-stop
 sequences::start_sequence-returns-in-Ok-clause-stop g t c =
-    IfErr-weaker c.feed_sequence.result _ _ (λ why s. s (more_fields_of c.args.ext.now) c.requires.of_profile c.requires.covered (g.R.ReadLeaves.rules.to_units c.args.begun ++ g.R.ReadLeaves.rules.to_units c.args.units.now) (root_starts g.R.ReadLeaves.rules c.keep_laws.ensures g.R.ReadLeaves.ahead g.R.ReadLeaves.is_between (fields_seen c.args.root.now) (more_fields_of c.args.ext.now) c.requires.of_profile _ (nodes c.args.frames.now) (g.R.ReadLeaves.rules.to_units c.args.begun ++ g.R.ReadLeaves.rules.to_units c.args.units.now) (g.R.ReadLeaves.rules.to_units c.feed_leaf.new.units) (rw (c.bitmap_width-width.ensures.count, c.addition_count.ensures, ← added_count c.args.ext.now) at c.in-Ok.ensures.done) c.bitmap_width-width.ensures.count (rw c.bitmap_width-width.ensures.count at c.bitmap_width-width.ensures.few) c.new.ensures.items c.requires.empty)) c.feed_sequence.ensures.stop
+    IfErr-weaker c.feed_sequence.result _ _ (λ why s. s (more_fields_of c.args.ext.now) c.requires.of_profile c.requires.covered (g.R.ReadLeaves.rules.to_units c.args.begun ++ g.R.ReadLeaves.rules.to_units c.args.units.now) (root_starts g.R.ReadLeaves.rules c.keep_laws.ensures g.R.FeedLeaves.fields g.R.ReadLeaves.ahead g.R.ReadLeaves.is_between (fields_seen c.args.root.now) (more_fields_of c.args.ext.now) c.requires.of_profile _ (nodes c.args.frames.now) (g.R.ReadLeaves.rules.to_units c.args.begun ++ g.R.ReadLeaves.rules.to_units c.args.units.now) (g.R.ReadLeaves.rules.to_units c.feed_leaf.new.units) (rw (c.bitmap_width-width.ensures.count, c.addition_count.ensures, ← added_count c.args.ext.now) at c.in-Ok.ensures.done) c.bitmap_width-width.ensures.count (rw c.bitmap_width-width.ensures.count at c.bitmap_width-width.ensures.few) c.new.ensures.items c.requires.empty)) c.feed_sequence.ensures.stop
 
 pub sequences::start_sequence-returns-in-Ok-clause-kept : goal.sequences::start_sequence-returns-in-Ok-clause-kept
 sequences::start_sequence-returns-in-Ok-clause-kept g t c =
-    IfErr-weaker c.feed_sequence.result _ _ (λ why s. s (more_fields_of c.args.ext.now) c.requires.of_profile c.requires.covered (g.R.ReadLeaves.rules.to_units c.args.begun ++ g.R.ReadLeaves.rules.to_units c.args.units.now) (root_starts g.R.ReadLeaves.rules c.keep_laws.ensures g.R.ReadLeaves.ahead g.R.ReadLeaves.is_between (fields_seen c.args.root.now) (more_fields_of c.args.ext.now) c.requires.of_profile _ (nodes c.args.frames.now) (g.R.ReadLeaves.rules.to_units c.args.begun ++ g.R.ReadLeaves.rules.to_units c.args.units.now) (g.R.ReadLeaves.rules.to_units c.feed_leaf.new.units) (rw (c.bitmap_width-width.ensures.count, c.addition_count.ensures, ← added_count c.args.ext.now) at c.in-Ok.ensures.done) c.bitmap_width-width.ensures.count (rw c.bitmap_width-width.ensures.count at c.bitmap_width-width.ensures.few) c.new.ensures.items c.requires.empty)) c.feed_sequence.ensures.kept
+    IfErr-weaker c.feed_sequence.result _ _ (λ why s. s (more_fields_of c.args.ext.now) c.requires.of_profile c.requires.covered (g.R.ReadLeaves.rules.to_units c.args.begun ++ g.R.ReadLeaves.rules.to_units c.args.units.now) (root_starts g.R.ReadLeaves.rules c.keep_laws.ensures g.R.FeedLeaves.fields g.R.ReadLeaves.ahead g.R.ReadLeaves.is_between (fields_seen c.args.root.now) (more_fields_of c.args.ext.now) c.requires.of_profile _ (nodes c.args.frames.now) (g.R.ReadLeaves.rules.to_units c.args.begun ++ g.R.ReadLeaves.rules.to_units c.args.units.now) (g.R.ReadLeaves.rules.to_units c.feed_leaf.new.units) (rw (c.bitmap_width-width.ensures.count, c.addition_count.ensures, ← added_count c.args.ext.now) at c.in-Ok.ensures.done) c.bitmap_width-width.ensures.count (rw c.bitmap_width-width.ensures.count at c.bitmap_width-width.ensures.few) c.new.ensures.items c.requires.empty)) c.feed_sequence.ensures.kept
 
 pub sequences::start_sequence-feed_leaf-requires-clause-begins : goal.sequences::start_sequence-feed_leaf-requires-clause-begins
 sequences::start_sequence-feed_leaf-requires-clause-begins g t c =
@@ -355,7 +363,7 @@ sequences::start_sequence-returns-in-Ok-put-clause-kept g t c =
     let e : g.R.ReadLeaves.rules.to_units b ≡ (g.R.ReadLeaves.rules.to_units c.args.begun ++ g.R.ReadLeaves.rules.to_units c.args.units.now) = rw c.in-Err-Short.field-0-is at c.in-Err-Short.ensures.kept in
     let s : Short g.R.ReadLeaves.rules.ruling.fielding (PreambleOf g.R.ReadLeaves.rules (bitmap_length (fields_seen c.args.root.now)) (added (more_fields_of c.args.ext.now))) (g.R.ReadLeaves.rules.to_units b) = subst (λ (xs : List ℕ). Short g.R.ReadLeaves.rules.ruling.fielding (PreambleOf g.R.ReadLeaves.rules (bitmap_length (fields_seen c.args.root.now)) (added (more_fields_of c.args.ext.now))) xs) (sym e) a.told in
     let fs : nodes c.put.new.self ≡ frame.Start b ∷ [] = c.in-Ok-put.ensures ∙ ap (λ (gs : List (Frame g.row.R-Fragments.Denot)). frame.Start b ∷ gs) c.requires.empty in
-    sequence_took g.R.ReadLeaves.rules c.keep_laws.ensures g.R.ReadLeaves.ahead g.R.ReadLeaves.is_between (fields_seen c.args.root.now) (more_fields_of c.args.ext.now) c.requires.of_profile (nodes c.put.new.self) b (g.R.ReadLeaves.rules.to_units c.args.begun ++ g.R.ReadLeaves.rules.to_units c.args.units.now) fs (record { come = e; at_unit = c.in-Err-Short.ensures.begun; begins = inr s })
+    sequence_took g.R.ReadLeaves.rules c.keep_laws.ensures g.R.FeedLeaves.fields g.R.ReadLeaves.ahead g.R.ReadLeaves.is_between (fields_seen c.args.root.now) (more_fields_of c.args.ext.now) c.requires.of_profile (nodes c.put.new.self) b (g.R.ReadLeaves.rules.to_units c.args.begun ++ g.R.ReadLeaves.rules.to_units c.args.units.now) fs (record { come = e; at_unit = c.in-Err-Short.ensures.begun; begins = inr s })
 
 pub sequences::start_sequence-returns-in-Ok-put-clause-stop : goal.sequences::start_sequence-returns-in-Ok-put-clause-stop
 sequences::start_sequence-returns-in-Ok-put-clause-stop g t c =
@@ -373,7 +381,7 @@ sequences::feed_sequence-returns-in-Ok-clause-done g t c =
     λ more good cov all h.
     let es = c.feed_components.new.read.entries in
     let over = none_left c.args.root.now (length es.items) c.in-Ok.ensures.over in
-    rw (datum_of-Seq es) (root_ends g.R.ReadLeaves.rules c.keep_laws.ensures g.R.ReadLeaves.ahead g.R.ReadLeaves.is_between (fields_seen c.args.root.now) more good cov c.feed_components.new.read (nodes c.feed_components.new.frames) all (g.R.ReadLeaves.rules.to_units c.feed_components.new.units) over (c.in-Ok.ensures.done more good cov all h))
+    rw (datum_of-Seq es) (root_ends g.R.ReadLeaves.rules c.keep_laws.ensures g.R.FeedLeaves.fields g.R.ReadLeaves.ahead g.R.ReadLeaves.is_between (fields_seen c.args.root.now) more good cov c.feed_components.new.read (nodes c.feed_components.new.frames) all (g.R.ReadLeaves.rules.to_units c.feed_components.new.units) over (c.in-Ok.ensures.done more good cov all h))
 
 pub sequences::feed_sequence-returns-in-Ok-clause-emptied : goal.sequences::feed_sequence-returns-in-Ok-clause-emptied
 sequences::feed_sequence-returns-in-Ok-clause-emptied g t c =
@@ -382,7 +390,7 @@ sequences::feed_sequence-returns-in-Ok-clause-emptied g t c =
     let cov = c.requires.reached.2 in
     let es = c.feed_components.new.read.entries in
     let over = none_left c.args.root.now (length es.items) c.in-Ok.ensures.over in
-    root_emptied g.R.ReadLeaves.rules c.keep_laws.ensures g.R.ReadLeaves.ahead g.R.ReadLeaves.is_between (fields_seen c.args.root.now) more good cov c.feed_components.new.read (nodes c.feed_components.new.frames) c.requires.reached.3 (g.R.ReadLeaves.rules.to_units c.feed_components.new.units) over (c.in-Ok.ensures.done more good cov c.requires.reached.3 c.requires.reached.4)
+    root_emptied g.R.ReadLeaves.rules c.keep_laws.ensures g.R.FeedLeaves.fields g.R.ReadLeaves.ahead g.R.ReadLeaves.is_between (fields_seen c.args.root.now) more good cov c.feed_components.new.read (nodes c.feed_components.new.frames) c.requires.reached.3 (g.R.ReadLeaves.rules.to_units c.feed_components.new.units) over (c.in-Ok.ensures.done more good cov c.requires.reached.3 c.requires.reached.4)
 
 pub sequences::feed_sequence-returns-in-Ok-put-clause-stop : goal.sequences::feed_sequence-returns-in-Ok-put-clause-stop
 sequences::feed_sequence-returns-in-Ok-put-clause-stop g t c =
@@ -400,8 +408,8 @@ pub sequences::feed_sequence-returns-in-Ok-put-clause-kept : goal.sequences::fee
 sequences::feed_sequence-returns-in-Ok-put-clause-kept g t c =
     λ more good cov all h.
     let none : g.R.ReadLeaves.rules.to_units c.feed_components.new.units ≡ [] = rw c.in-Err-Short.field-0-is at c.in-Err-Short.ensures.after in
-    let kept : RootReached g.R.ReadLeaves.rules g.R.ReadLeaves.ahead g.R.ReadLeaves.is_between (fields_seen c.args.root.now) more c.feed_components.new.read (nodes c.feed_components.new.frames) all (g.R.ReadLeaves.rules.to_units c.feed_components.new.units) = c.feed_components.ensures.kept (cc (c.in-Err-Short.is, c.in-Err-Short.field-0-is)) more good cov all h in
-    rw c.in-Ok-put.ensures (subst (λ (xs : List ℕ). RootReached g.R.ReadLeaves.rules g.R.ReadLeaves.ahead g.R.ReadLeaves.is_between (fields_seen c.args.root.now) more c.feed_components.new.read (nodes c.feed_components.new.frames) all xs) none kept)
+    let kept : RootReached g.R.ReadLeaves.rules g.R.FeedLeaves.fields g.R.ReadLeaves.ahead g.R.ReadLeaves.is_between (fields_seen c.args.root.now) more c.feed_components.new.read (nodes c.feed_components.new.frames) all (g.R.ReadLeaves.rules.to_units c.feed_components.new.units) = c.feed_components.ensures.kept (cc (c.in-Err-Short.is, c.in-Err-Short.field-0-is)) more good cov all h in
+    rw c.in-Ok-put.ensures (subst (λ (xs : List ℕ). RootReached g.R.ReadLeaves.rules g.R.FeedLeaves.fields g.R.ReadLeaves.ahead g.R.ReadLeaves.is_between (fields_seen c.args.root.now) more c.feed_components.new.read (nodes c.feed_components.new.frames) all xs) none kept)
 
 -- ---- its components
 
@@ -416,7 +424,7 @@ sequences::feed_components-feed_component-requires g t c κs within =
     let good = c.requires.reached.1 in
     let cov = c.requires.reached.2 in
     let all = c.requires.reached.3 in
-    let x = component_ahead g.R.ReadLeaves.rules c.keep_laws.ensures g.R.ReadLeaves.ahead g.R.ReadLeaves.is_between (fields_seen c.args.root.now) more good c.loop-alloc.read (nodes c.loop-alloc.frames) (part_of_field c.index-root-len.result) (map part_of_field (drop (i + 1) c.args.root.now)) c.next_of-present.result c.next_of-present.new.self.left all (g.R.ReadLeaves.rules.to_units c.loop-alloc.units) next c.next_of-present.ensures.must c.next_of-present.ensures.bit (inv.0 more good cov all c.requires.reached.4) in
+    let x = component_ahead g.R.ReadLeaves.rules c.keep_laws.ensures g.R.FeedLeaves.fields g.R.ReadLeaves.ahead g.R.ReadLeaves.is_between (fields_seen c.args.root.now) more good c.loop-alloc.read (nodes c.loop-alloc.frames) (part_of_field c.index-root-len.result) (map part_of_field (drop (i + 1) c.args.root.now)) c.next_of-present.result c.next_of-present.new.self.left all (g.R.ReadLeaves.rules.to_units c.loop-alloc.units) next c.next_of-present.ensures.must c.next_of-present.ensures.bit (inv.0 more good cov all c.requires.reached.4) in
     (search (rules, the_lemmas), (within.0, (within.1, (inv.2, (x.of_profile, (x.good_demand, (covered_at c.args.root.now more i c.index-root-len.result lt c.index-root-len.is cov, ((x.come, x.took), omega (arith, inv.1, c.requires.few)))))))))
 
 pub sequences::feed_components-next_of-present-requires : goal.sequences::feed_components-next_of-present-requires
@@ -429,7 +437,7 @@ sequences::feed_components-next_of-present-requires g t c =
     let lt : i < length c.args.root.now = omega (arith, c.loop-alloc-test.true, c.len.ensures, c.len-in-loop-alloc.ensures) in
     let at : i ≡ length c.loop-alloc.read.entries.items = omega (arith, c.len-in-loop-alloc.ensures, c.loop-alloc.read.entries.ok.0) in
     let next = subst (λ (k : ℕ). drop k (parts_in (fields_seen c.args.root.now)) ≡ part_of_field c.index-root-len.result ∷ map part_of_field (drop (i + 1) c.args.root.now)) at (next_in c.args.root.now i c.index-root-len.result lt c.index-root-len.is) in
-    let x = presence_left g.R.ReadLeaves.rules c.keep_laws.ensures g.R.ReadLeaves.ahead g.R.ReadLeaves.is_between (fields_seen c.args.root.now) more good c.loop-alloc.read (nodes c.loop-alloc.frames) (part_of_field c.index-root-len.result) (map part_of_field (drop (i + 1) c.args.root.now)) c.requires.reached.3 (g.R.ReadLeaves.rules.to_units c.loop-alloc.units) next (inv.0 more good cov c.requires.reached.3 c.requires.reached.4) in
+    let x = presence_left g.R.ReadLeaves.rules c.keep_laws.ensures g.R.FeedLeaves.fields g.R.ReadLeaves.ahead g.R.ReadLeaves.is_between (fields_seen c.args.root.now) more good c.loop-alloc.read (nodes c.loop-alloc.frames) (part_of_field c.index-root-len.result) (map part_of_field (drop (i + 1) c.args.root.now)) c.requires.reached.3 (g.R.ReadLeaves.rules.to_units c.loop-alloc.units) next (inv.0 more good cov c.requires.reached.3 c.requires.reached.4) in
     record { few = x.1; some = x.0 }
 
 pub sequences::feed_components-returns-in_err-entry-clause-stop : goal.sequences::feed_components-returns-in_err-entry-clause-stop
@@ -440,7 +448,7 @@ sequences::feed_components-returns-in_err-entry-clause-stop g t c =
     let at : i ≡ length c.loop-alloc.read.entries.items = omega (arith, c.len-in-loop-alloc.ensures, c.loop-alloc.read.entries.ok.0) in
     let next = subst (λ (k : ℕ). drop k (parts_in (fields_seen c.args.root.now)) ≡ part_of_field c.index-root-len.result ∷ map part_of_field (drop (i + 1) c.args.root.now)) at (next_in c.args.root.now i c.index-root-len.result lt c.index-root-len.is) in
     let p = err_from_is_err_and c.from_residual.result c.from_residual.ensures.1 in
-    rw (p.1, p.2) (λ more good cov all h. (let x = component_ahead g.R.ReadLeaves.rules c.keep_laws.ensures g.R.ReadLeaves.ahead g.R.ReadLeaves.is_between (fields_seen c.args.root.now) more good c.loop-alloc.read (nodes c.loop-alloc.frames) (part_of_field c.index-root-len.result) (map part_of_field (drop (i + 1) c.args.root.now)) c.next_of-present.result c.next_of-present.new.self.left all (g.R.ReadLeaves.rules.to_units c.loop-alloc.units) next c.next_of-present.ensures.must c.next_of-present.ensures.bit (inv.0 more good cov all h) in x.stops _ (c.in_err-entry.ensures.stop x.come x.took)))
+    rw (p.1, p.2) (λ more good cov all h. (let x = component_ahead g.R.ReadLeaves.rules c.keep_laws.ensures g.R.FeedLeaves.fields g.R.ReadLeaves.ahead g.R.ReadLeaves.is_between (fields_seen c.args.root.now) more good c.loop-alloc.read (nodes c.loop-alloc.frames) (part_of_field c.index-root-len.result) (map part_of_field (drop (i + 1) c.args.root.now)) c.next_of-present.result c.next_of-present.new.self.left all (g.R.ReadLeaves.rules.to_units c.loop-alloc.units) next c.next_of-present.ensures.must c.next_of-present.ensures.bit (inv.0 more good cov all h) in x.stops _ (c.in_err-entry.ensures.stop x.come x.took)))
 
 pub sequences::feed_components-returns-in_err-entry-clause-kept : goal.sequences::feed_components-returns-in_err-entry-clause-kept
 sequences::feed_components-returns-in_err-entry-clause-kept g t c =
@@ -452,7 +460,7 @@ sequences::feed_components-returns-in_err-entry-clause-kept g t c =
     let next = subst (λ (k : ℕ). drop k (parts_in (fields_seen c.args.root.now)) ≡ part_of_field c.index-root-len.result ∷ map part_of_field (drop (i + 1) c.args.root.now)) at (next_in c.args.root.now i c.index-root-len.result lt c.index-root-len.is) in
     let p = err_from_is_err_and c.from_residual.result c.from_residual.ensures.1 in
     let w : c.in_err-entry.field-0.0 ≡ stop.Short = cc (p.1, p.2, e) in
-    let x = component_ahead g.R.ReadLeaves.rules c.keep_laws.ensures g.R.ReadLeaves.ahead g.R.ReadLeaves.is_between (fields_seen c.args.root.now) more good c.loop-alloc.read (nodes c.loop-alloc.frames) (part_of_field c.index-root-len.result) (map part_of_field (drop (i + 1) c.args.root.now)) c.next_of-present.result c.next_of-present.new.self.left all (g.R.ReadLeaves.rules.to_units c.loop-alloc.units) next c.next_of-present.ensures.must c.next_of-present.ensures.bit (inv.0 more good cov all h) in
+    let x = component_ahead g.R.ReadLeaves.rules c.keep_laws.ensures g.R.FeedLeaves.fields g.R.ReadLeaves.ahead g.R.ReadLeaves.is_between (fields_seen c.args.root.now) more good c.loop-alloc.read (nodes c.loop-alloc.frames) (part_of_field c.index-root-len.result) (map part_of_field (drop (i + 1) c.args.root.now)) c.next_of-present.result c.next_of-present.new.self.left all (g.R.ReadLeaves.rules.to_units c.loop-alloc.units) next c.next_of-present.ensures.must c.next_of-present.ensures.bit (inv.0 more good cov all h) in
     x.kept (nodes c.feed_component.new.frames) (g.R.ReadLeaves.rules.to_units c.feed_component.new.units) (rw w at c.in_err-entry.ensures.after) (rw w at (c.in_err-entry.ensures.kept x.come x.took))
 
 pub sequences::feed_components-loop-alloc-preserved : goal.sequences::feed_components-loop-alloc-preserved
@@ -462,7 +470,7 @@ sequences::feed_components-loop-alloc-preserved g t c =
     let lt : i < length c.args.root.now = omega (arith, c.loop-alloc-test.true, c.len.ensures, c.len-in-loop-alloc.ensures) in
     let at : i ≡ length c.loop-alloc.read.entries.items = omega (arith, c.len-in-loop-alloc.ensures, c.loop-alloc.read.entries.ok.0) in
     let next = subst (λ (k : ℕ). drop k (parts_in (fields_seen c.args.root.now)) ≡ part_of_field c.index-root-len.result ∷ map part_of_field (drop (i + 1) c.args.root.now)) at (next_in c.args.root.now i c.index-root-len.result lt c.index-root-len.is) in (
-      λ more good cov all h. (let x = component_ahead g.R.ReadLeaves.rules c.keep_laws.ensures g.R.ReadLeaves.ahead g.R.ReadLeaves.is_between (fields_seen c.args.root.now) more good c.loop-alloc.read (nodes c.loop-alloc.frames) (part_of_field c.index-root-len.result) (map part_of_field (drop (i + 1) c.args.root.now)) c.next_of-present.result c.next_of-present.new.self.left all (g.R.ReadLeaves.rules.to_units c.loop-alloc.units) next c.next_of-present.ensures.must c.next_of-present.ensures.bit (inv.0 more good cov all h) in x.further _ (nodes c.feed_component.new.frames) c.in_ok-entry.entry (g.R.ReadLeaves.rules.to_units c.feed_component.new.units) refl c.next_of-present.ensures.bitmap refl c.in_ok-push.ensures.items c.in_ok-entry.ensures.emptied (c.in_ok-entry.ensures.done x.come x.took)),
+      λ more good cov all h. (let x = component_ahead g.R.ReadLeaves.rules c.keep_laws.ensures g.R.FeedLeaves.fields g.R.ReadLeaves.ahead g.R.ReadLeaves.is_between (fields_seen c.args.root.now) more good c.loop-alloc.read (nodes c.loop-alloc.frames) (part_of_field c.index-root-len.result) (map part_of_field (drop (i + 1) c.args.root.now)) c.next_of-present.result c.next_of-present.new.self.left all (g.R.ReadLeaves.rules.to_units c.loop-alloc.units) next c.next_of-present.ensures.must c.next_of-present.ensures.bit (inv.0 more good cov all h) in x.further _ (nodes c.feed_component.new.frames) c.in_ok-entry.entry (g.R.ReadLeaves.rules.to_units c.feed_component.new.units) refl c.next_of-present.ensures.bitmap refl c.in_ok-push.ensures.items c.in_ok-entry.ensures.emptied (c.in_ok-entry.ensures.done x.come x.took)),
       omega (arith, inv.1, c.in_ok-entry.ensures.ticked),
       c.in_ok-entry.ensures.at_unit,
       omega (arith, inv.3, c.in_ok-entry.ensures.rising),
@@ -472,62 +480,62 @@ pub sequences::feed_component-returns-then-not-present-clause-done : goal.sequen
 sequences::feed_component-returns-then-not-present-clause-done g t c =
     λ us k.
     let e : c.args.present ≡ false = c.if-not-present.true in
-    let none = absent_took g.R.ReadLeaves.rules g.R.ReadLeaves.ahead g.R.ReadLeaves.is_between c.args.field.now c.args.present (nodes c.args.frames.now) us e k in
+    let none = absent_took g.R.ReadLeaves.rules g.R.FeedLeaves.fields g.R.ReadLeaves.ahead g.R.ReadLeaves.is_between c.args.field.now c.args.present (nodes c.args.frames.now) us e k in
     rw (none.1, e, c.absent.ensures) (nothing_read g.R.ReadLeaves.rules.ruling.fielding (default_of (part_of_field c.args.field.now).demand) (g.R.ReadLeaves.rules.to_units c.args.units.now))
 
 pub sequences::feed_component-returns-then-not-present-clause-emptied : goal.sequences::feed_component-returns-then-not-present-clause-emptied
 sequences::feed_component-returns-then-not-present-clause-emptied g t c =
-    (absent_took g.R.ReadLeaves.rules g.R.ReadLeaves.ahead g.R.ReadLeaves.is_between c.args.field.now c.args.present (nodes c.args.frames.now) c.requires.reached.0 c.if-not-present.true c.requires.reached.1).0
+    (absent_took g.R.ReadLeaves.rules g.R.FeedLeaves.fields g.R.ReadLeaves.ahead g.R.ReadLeaves.is_between c.args.field.now c.args.present (nodes c.args.frames.now) c.requires.reached.0 c.if-not-present.true c.requires.reached.1).0
 
 pub sequences::feed_component-feed_other-requires : goal.sequences::feed_component-feed_other-requires
 sequences::feed_component-feed_other-requires g t c =
     let there : c.args.present ≡ true = c.if-not-present.false in
     let e : (part_of_field c.args.field.now).demand ≡ default (datum_of c.in-Default.default) = demand_of_part c.args.field.now ∙ ap demand_of c.in-Default.is in
     let good : IsGoodDemand (default (datum_of c.in-Default.default)) (shape_of c.args.field.now.ty) = rw (e, shape_of_part c.args.field.now) at c.requires.good in
-    record { at_unit = c.requires.at_unit; of_profile = rw shape_of_part at c.requires.of_profile; good = good; reached = (c.requires.reached.0, took_other g.R.ReadLeaves.rules g.R.ReadLeaves.ahead g.R.ReadLeaves.is_between c.args.field.now c.args.present (nodes c.args.frames.now) c.requires.reached.0 there c.in-Default.default c.in-Default.is c.requires.reached.1); few = c.requires.few }
+    record { at_unit = c.requires.at_unit; of_profile = rw shape_of_part at c.requires.of_profile; good = good; reached = (c.requires.reached.0, took_other g.R.ReadLeaves.rules g.R.FeedLeaves.fields g.R.ReadLeaves.ahead g.R.ReadLeaves.is_between c.args.field.now c.args.present (nodes c.args.frames.now) c.requires.reached.0 there c.in-Default.default c.in-Default.is c.requires.reached.1); few = c.requires.few }
 
 pub sequences::feed_component-returns-in_err-feed_other-in-Default-clause-stop : goal.sequences::feed_component-returns-in_err-feed_other-in-Default-clause-stop
 sequences::feed_component-returns-in_err-feed_other-in-Default-clause-stop g t c =
     let there : c.args.present ≡ true = c.if-not-present.false in
     let d : default_of (part_of_field c.args.field.now).demand ≡ Some (datum_of c.in-Default.default) = ap default_of (demand_of_part c.args.field.now ∙ ap demand_of c.in-Default.is) in
     let p = err_from_is_err_and c.from_residual.result c.from_residual.ensures.1 in
-    rw (p.1, p.2) (λ us k. stops_by _ (entry_leads g.R.ReadLeaves.rules c.args.field.now c.args.present _ (us ++ g.R.ReadLeaves.rules.to_units c.args.units.now) there d).stops (c.in_err-feed_other-in-Default.ensures.stop us (took_other g.R.ReadLeaves.rules g.R.ReadLeaves.ahead g.R.ReadLeaves.is_between c.args.field.now c.args.present (nodes c.args.frames.now) us there c.in-Default.default c.in-Default.is k)))
+    rw (p.1, p.2) (λ us k. stops_by _ (entry_leads g.R.ReadLeaves.rules c.args.field.now c.args.present _ (us ++ g.R.ReadLeaves.rules.to_units c.args.units.now) there d).stops (c.in_err-feed_other-in-Default.ensures.stop us (took_other g.R.ReadLeaves.rules g.R.FeedLeaves.fields g.R.ReadLeaves.ahead g.R.ReadLeaves.is_between c.args.field.now c.args.present (nodes c.args.frames.now) us there c.in-Default.default c.in-Default.is k)))
 
 pub sequences::feed_component-returns-in_err-feed_other-in-Default-clause-kept : goal.sequences::feed_component-returns-in_err-feed_other-in-Default-clause-kept
 sequences::feed_component-returns-in_err-feed_other-in-Default-clause-kept g t c =
     let there : c.args.present ≡ true = c.if-not-present.false in
     let p = err_from_is_err_and c.from_residual.result c.from_residual.ensures.1 in
-    rw (p.1, p.2) (λ us k. other_kept g.R.ReadLeaves.rules g.R.ReadLeaves.ahead g.R.ReadLeaves.is_between c.args.field.now c.args.present (nodes c.feed_other.new.frames) (us ++ g.R.ReadLeaves.rules.to_units c.args.units.now) _ there c.in-Default.default c.in-Default.is (c.in_err-feed_other-in-Default.ensures.kept us (took_other g.R.ReadLeaves.rules g.R.ReadLeaves.ahead g.R.ReadLeaves.is_between c.args.field.now c.args.present (nodes c.args.frames.now) us there c.in-Default.default c.in-Default.is k)))
+    rw (p.1, p.2) (λ us k. other_kept g.R.ReadLeaves.rules g.R.FeedLeaves.fields g.R.ReadLeaves.ahead g.R.ReadLeaves.is_between c.args.field.now c.args.present (nodes c.feed_other.new.frames) (us ++ g.R.ReadLeaves.rules.to_units c.args.units.now) _ there c.in-Default.default c.in-Default.is (c.in_err-feed_other-in-Default.ensures.kept us (took_other g.R.ReadLeaves.rules g.R.FeedLeaves.fields g.R.ReadLeaves.ahead g.R.ReadLeaves.is_between c.args.field.now c.args.present (nodes c.args.frames.now) us there c.in-Default.default c.in-Default.is k)))
 
 pub sequences::feed_component-returns-in_ok-feed_other-in-Default-clause-done : goal.sequences::feed_component-returns-in_ok-feed_other-in-Default-clause-done
 sequences::feed_component-returns-in_ok-feed_other-in-Default-clause-done g t c =
     let there : c.args.present ≡ true = c.if-not-present.false in
     let d : default_of (part_of_field c.args.field.now).demand ≡ Some (datum_of c.in-Default.default) = ap default_of (demand_of_part c.args.field.now ∙ ap demand_of c.in-Default.is) in
-    λ us k. (entry_leads g.R.ReadLeaves.rules c.args.field.now c.args.present _ (us ++ g.R.ReadLeaves.rules.to_units c.args.units.now) there d).done (datum_of c.in_ok-feed_other-in-Default.field-0) (g.R.ReadLeaves.rules.to_units c.feed_other.new.units) (c.in_ok-feed_other-in-Default.ensures.done us (took_other g.R.ReadLeaves.rules g.R.ReadLeaves.ahead g.R.ReadLeaves.is_between c.args.field.now c.args.present (nodes c.args.frames.now) us there c.in-Default.default c.in-Default.is k))
+    λ us k. (entry_leads g.R.ReadLeaves.rules c.args.field.now c.args.present _ (us ++ g.R.ReadLeaves.rules.to_units c.args.units.now) there d).done (datum_of c.in_ok-feed_other-in-Default.field-0) (g.R.ReadLeaves.rules.to_units c.feed_other.new.units) (c.in_ok-feed_other-in-Default.ensures.done us (took_other g.R.ReadLeaves.rules g.R.FeedLeaves.fields g.R.ReadLeaves.ahead g.R.ReadLeaves.is_between c.args.field.now c.args.present (nodes c.args.frames.now) us there c.in-Default.default c.in-Default.is k))
 
 pub sequences::feed_component-feed-requires : goal.sequences::feed_component-feed-requires
 sequences::feed_component-feed-requires g t c κs within =
     let there : c.args.present ≡ true = c.if-not-present.false in
-    (search (rules, the_lemmas), (within.0, (within.1, (c.requires.at_unit, (rw shape_of_part at c.requires.of_profile, (rw shape_of_part at c.requires.covered, ((c.requires.reached.0, took_value g.R.ReadLeaves.rules g.R.ReadLeaves.ahead g.R.ReadLeaves.is_between c.args.field.now c.args.present (nodes c.args.frames.now) c.requires.reached.0 there (plain_demand c.args.field.now.need c.in-Must.is) c.requires.reached.1), c.requires.few)))))))
+    (search (rules, the_lemmas), (within.0, (within.1, (c.requires.at_unit, (rw shape_of_part at c.requires.of_profile, (rw shape_of_part at c.requires.covered, ((c.requires.reached.0, took_value g.R.ReadLeaves.rules g.R.FeedLeaves.fields g.R.ReadLeaves.ahead g.R.ReadLeaves.is_between c.args.field.now c.args.present (nodes c.args.frames.now) c.requires.reached.0 there (plain_demand c.args.field.now.need c.in-Must.is) c.requires.reached.1), c.requires.few)))))))
 
 pub sequences::feed_component-returns-in_err-feed-in-Must-clause-stop : goal.sequences::feed_component-returns-in_err-feed-in-Must-clause-stop
 sequences::feed_component-returns-in_err-feed-in-Must-clause-stop g t c =
     let there : c.args.present ≡ true = c.if-not-present.false in
     let d : default_of (part_of_field c.args.field.now).demand ≡ None = no_default (part_of_field c.args.field.now).demand (subst (λ (z : Demand). (z ≡ must) ⊎ (z ≡ optional)) (sym (demand_of_part c.args.field.now)) (plain_demand c.args.field.now.need c.in-Must.is)) in
     let p = err_from_is_err_and c.from_residual-in_err-feed-in-Must.result c.from_residual-in_err-feed-in-Must.ensures.1 in
-    rw (p.1, p.2) (λ us k. stops_by _ (entry_leads g.R.ReadLeaves.rules c.args.field.now c.args.present None (us ++ g.R.ReadLeaves.rules.to_units c.args.units.now) there d).stops (c.in_err-feed-in-Must.ensures.stop us (took_value g.R.ReadLeaves.rules g.R.ReadLeaves.ahead g.R.ReadLeaves.is_between c.args.field.now c.args.present (nodes c.args.frames.now) us there (plain_demand c.args.field.now.need c.in-Must.is) k)))
+    rw (p.1, p.2) (λ us k. stops_by _ (entry_leads g.R.ReadLeaves.rules c.args.field.now c.args.present None (us ++ g.R.ReadLeaves.rules.to_units c.args.units.now) there d).stops (c.in_err-feed-in-Must.ensures.stop us (took_value g.R.ReadLeaves.rules g.R.FeedLeaves.fields g.R.ReadLeaves.ahead g.R.ReadLeaves.is_between c.args.field.now c.args.present (nodes c.args.frames.now) us there (plain_demand c.args.field.now.need c.in-Must.is) k)))
 
 pub sequences::feed_component-returns-in_err-feed-in-Must-clause-kept : goal.sequences::feed_component-returns-in_err-feed-in-Must-clause-kept
 sequences::feed_component-returns-in_err-feed-in-Must-clause-kept g t c =
     let there : c.args.present ≡ true = c.if-not-present.false in
     let p = err_from_is_err_and c.from_residual-in_err-feed-in-Must.result c.from_residual-in_err-feed-in-Must.ensures.1 in
-    rw (p.1, p.2) (λ us k. value_kept g.R.ReadLeaves.rules g.R.ReadLeaves.ahead g.R.ReadLeaves.is_between c.args.field.now c.args.present (nodes c.feed.new.frames) (us ++ g.R.ReadLeaves.rules.to_units c.args.units.now) _ there (plain_demand c.args.field.now.need c.in-Must.is) (c.in_err-feed-in-Must.ensures.kept us (took_value g.R.ReadLeaves.rules g.R.ReadLeaves.ahead g.R.ReadLeaves.is_between c.args.field.now c.args.present (nodes c.args.frames.now) us there (plain_demand c.args.field.now.need c.in-Must.is) k)))
+    rw (p.1, p.2) (λ us k. value_kept g.R.ReadLeaves.rules g.R.FeedLeaves.fields g.R.ReadLeaves.ahead g.R.ReadLeaves.is_between c.args.field.now c.args.present (nodes c.feed.new.frames) (us ++ g.R.ReadLeaves.rules.to_units c.args.units.now) _ there (plain_demand c.args.field.now.need c.in-Must.is) (c.in_err-feed-in-Must.ensures.kept us (took_value g.R.ReadLeaves.rules g.R.FeedLeaves.fields g.R.ReadLeaves.ahead g.R.ReadLeaves.is_between c.args.field.now c.args.present (nodes c.args.frames.now) us there (plain_demand c.args.field.now.need c.in-Must.is) k)))
 
 pub sequences::feed_component-returns-in_ok-feed-in-Must-clause-done : goal.sequences::feed_component-returns-in_ok-feed-in-Must-clause-done
 sequences::feed_component-returns-in_ok-feed-in-Must-clause-done g t c =
     let there : c.args.present ≡ true = c.if-not-present.false in
     let d : default_of (part_of_field c.args.field.now).demand ≡ None = no_default (part_of_field c.args.field.now).demand (subst (λ (z : Demand). (z ≡ must) ⊎ (z ≡ optional)) (sym (demand_of_part c.args.field.now)) (plain_demand c.args.field.now.need c.in-Must.is)) in
-    λ us k. (entry_leads g.R.ReadLeaves.rules c.args.field.now c.args.present None (us ++ g.R.ReadLeaves.rules.to_units c.args.units.now) there d).done (datum_of c.in_ok-feed-in-Must.field-0) (g.R.ReadLeaves.rules.to_units c.feed.new.units) (c.in_ok-feed-in-Must.ensures.done us (took_value g.R.ReadLeaves.rules g.R.ReadLeaves.ahead g.R.ReadLeaves.is_between c.args.field.now c.args.present (nodes c.args.frames.now) us there (plain_demand c.args.field.now.need c.in-Must.is) k))
+    λ us k. (entry_leads g.R.ReadLeaves.rules c.args.field.now c.args.present None (us ++ g.R.ReadLeaves.rules.to_units c.args.units.now) there d).done (datum_of c.in_ok-feed-in-Must.field-0) (g.R.ReadLeaves.rules.to_units c.feed.new.units) (c.in_ok-feed-in-Must.ensures.done us (took_value g.R.ReadLeaves.rules g.R.FeedLeaves.fields g.R.ReadLeaves.ahead g.R.ReadLeaves.is_between c.args.field.now c.args.present (nodes c.args.frames.now) us there (plain_demand c.args.field.now.need c.in-Must.is) k))
 
 -- ---- a SEQUENCE of the program
 
@@ -559,55 +567,56 @@ values::feed-returns-in-Seq-clause-kept g t c =
 
 pub choices::resume_choice-start_choice-requires-in-None : goal.choices::resume_choice-start_choice-requires-in-None
 choices::resume_choice-start_choice-requires-in-None g t c κs within =
-    (search (rules, the_lemmas), (within.0, (within.1, (c.requires.at_unit, (c.requires.of_profile, (c.requires.covered, (c.requires.some, (c.requires.last (ap is_some c.in-None.is), (record { come = refl; at_unit = rw c.none.ensures c.keep_feed_laws.ensures.begin; begins = inl c.none.ensures }, c.requires.few)))))))))
+    (search (rules, the_lemmas), (within.0, (within.1, (c.requires.at_unit, (c.requires.of_profile, (c.requires.covered, (c.requires.parts, (c.requires.some, (c.requires.last (ap is_some c.in-None.is), (record { come = refl; at_unit = rw c.none.ensures c.keep_feed_laws.ensures.begin; begins = inl c.none.ensures }, c.requires.few))))))))))
 
 pub choices::resume_choice-feed_choice-requires : goal.choices::resume_choice-feed_choice-requires
 choices::resume_choice-feed_choice-requires g t c κs within =
+    let small = root_smaller c.args._ty.now c.requires.parts.alternatives c.args.ext.now c.args.root.now c.requires.parts.is c.requires.parts.root_is in
     let us = c.requires.reached.0 in
-    let k = took_chosen g.R.ReadLeaves.rules c.keep_laws.ensures g.R.ReadLeaves.ahead g.R.ReadLeaves.is_between c.args.root.now (more_alternatives_of c.args.ext.now) c.requires.of_profile c.args.node c.in-Some-Chosen.field-0 c.in-Some-Chosen.index (nodes c.args.frames.now) us c.in-Some-Chosen.is c.in-Some-Chosen.field-0-is c.requires.reached.1 in
-    (search (rules, the_lemmas), (within.0, (within.1, (c.requires.at_unit, (rw c.in-Some-Chosen.index-is (index_inside g.R.ReadLeaves.rules c.keep_laws.ensures g.R.ReadLeaves.ahead g.R.ReadLeaves.is_between c.args.root.now (more_alternatives_of c.args.ext.now) c.requires.of_profile c.in-Some-Chosen.index (nodes c.args.frames.now) us [] k), (((more_alternatives_of c.args.ext.now), c.requires.of_profile, c.requires.covered, us ++ g.R.ReadLeaves.rules.to_units c.args.units.now, rw c.in-Some-Chosen.index-is (choice_goes_on g.R.ReadLeaves.rules c.keep_laws.ensures g.R.ReadLeaves.ahead g.R.ReadLeaves.is_between c.args.root.now (more_alternatives_of c.args.ext.now) c.requires.of_profile c.in-Some-Chosen.index (nodes c.args.frames.now) us (g.R.ReadLeaves.rules.to_units c.args.units.now) k)), c.requires.few))))))
+    let k = took_chosen g.R.ReadLeaves.rules c.keep_laws.ensures g.R.FeedLeaves.fields g.R.ReadLeaves.ahead g.R.ReadLeaves.is_between c.args.root.now (more_alternatives_of c.args.ext.now) c.requires.of_profile c.args.node c.in-Some-Chosen.field-0 c.in-Some-Chosen.index (nodes c.args.frames.now) us c.in-Some-Chosen.is c.in-Some-Chosen.field-0-is c.requires.reached.1 in
+    (search (rules, the_lemmas, small), (within.0, (within.1, (c.requires.at_unit, (rw c.in-Some-Chosen.index-is (index_inside g.R.ReadLeaves.rules c.keep_laws.ensures g.R.FeedLeaves.fields g.R.ReadLeaves.ahead g.R.ReadLeaves.is_between c.args.root.now (more_alternatives_of c.args.ext.now) c.requires.of_profile c.in-Some-Chosen.index (nodes c.args.frames.now) us [] k), (((more_alternatives_of c.args.ext.now), c.requires.of_profile, c.requires.covered, us ++ g.R.ReadLeaves.rules.to_units c.args.units.now, rw c.in-Some-Chosen.index-is (choice_goes_on g.R.ReadLeaves.rules c.keep_laws.ensures g.R.FeedLeaves.fields g.R.ReadLeaves.ahead g.R.ReadLeaves.is_between c.args.root.now (more_alternatives_of c.args.ext.now) c.requires.of_profile c.in-Some-Chosen.index (nodes c.args.frames.now) us (g.R.ReadLeaves.rules.to_units c.args.units.now) k)), c.requires.few))))))
 
 pub choices::resume_choice-returns-in-Some-Chosen-clause-done : goal.choices::resume_choice-returns-in-Some-Chosen-clause-done
 choices::resume_choice-returns-in-Some-Chosen-clause-done g t c =
-    IfOk-weaker c.feed_choice.result _ _ (λ v s us k. s (more_alternatives_of c.args.ext.now) c.requires.of_profile c.requires.covered (us ++ g.R.ReadLeaves.rules.to_units c.args.units.now) (rw c.in-Some-Chosen.index-is (choice_goes_on g.R.ReadLeaves.rules c.keep_laws.ensures g.R.ReadLeaves.ahead g.R.ReadLeaves.is_between c.args.root.now (more_alternatives_of c.args.ext.now) c.requires.of_profile c.in-Some-Chosen.index (nodes c.args.frames.now) us (g.R.ReadLeaves.rules.to_units c.args.units.now) (took_chosen g.R.ReadLeaves.rules c.keep_laws.ensures g.R.ReadLeaves.ahead g.R.ReadLeaves.is_between c.args.root.now (more_alternatives_of c.args.ext.now) c.requires.of_profile c.args.node c.in-Some-Chosen.field-0 c.in-Some-Chosen.index (nodes c.args.frames.now) us c.in-Some-Chosen.is c.in-Some-Chosen.field-0-is k)))) c.feed_choice.ensures.done
+    IfOk-weaker c.feed_choice.result _ _ (λ v s us k. s (more_alternatives_of c.args.ext.now) c.requires.of_profile c.requires.covered (us ++ g.R.ReadLeaves.rules.to_units c.args.units.now) (rw c.in-Some-Chosen.index-is (choice_goes_on g.R.ReadLeaves.rules c.keep_laws.ensures g.R.FeedLeaves.fields g.R.ReadLeaves.ahead g.R.ReadLeaves.is_between c.args.root.now (more_alternatives_of c.args.ext.now) c.requires.of_profile c.in-Some-Chosen.index (nodes c.args.frames.now) us (g.R.ReadLeaves.rules.to_units c.args.units.now) (took_chosen g.R.ReadLeaves.rules c.keep_laws.ensures g.R.FeedLeaves.fields g.R.ReadLeaves.ahead g.R.ReadLeaves.is_between c.args.root.now (more_alternatives_of c.args.ext.now) c.requires.of_profile c.args.node c.in-Some-Chosen.field-0 c.in-Some-Chosen.index (nodes c.args.frames.now) us c.in-Some-Chosen.is c.in-Some-Chosen.field-0-is k)))) c.feed_choice.ensures.done
 
 pub choices::resume_choice-returns-in-Some-Chosen-clause-stop : goal.choices::resume_choice-returns-in-Some-Chosen-clause-stop
 choices::resume_choice-returns-in-Some-Chosen-clause-stop g t c =
-    IfErr-weaker c.feed_choice.result _ _ (λ why s us k. s (more_alternatives_of c.args.ext.now) c.requires.of_profile c.requires.covered (us ++ g.R.ReadLeaves.rules.to_units c.args.units.now) (rw c.in-Some-Chosen.index-is (choice_goes_on g.R.ReadLeaves.rules c.keep_laws.ensures g.R.ReadLeaves.ahead g.R.ReadLeaves.is_between c.args.root.now (more_alternatives_of c.args.ext.now) c.requires.of_profile c.in-Some-Chosen.index (nodes c.args.frames.now) us (g.R.ReadLeaves.rules.to_units c.args.units.now) (took_chosen g.R.ReadLeaves.rules c.keep_laws.ensures g.R.ReadLeaves.ahead g.R.ReadLeaves.is_between c.args.root.now (more_alternatives_of c.args.ext.now) c.requires.of_profile c.args.node c.in-Some-Chosen.field-0 c.in-Some-Chosen.index (nodes c.args.frames.now) us c.in-Some-Chosen.is c.in-Some-Chosen.field-0-is k)))) c.feed_choice.ensures.stop
+    IfErr-weaker c.feed_choice.result _ _ (λ why s us k. s (more_alternatives_of c.args.ext.now) c.requires.of_profile c.requires.covered (us ++ g.R.ReadLeaves.rules.to_units c.args.units.now) (rw c.in-Some-Chosen.index-is (choice_goes_on g.R.ReadLeaves.rules c.keep_laws.ensures g.R.FeedLeaves.fields g.R.ReadLeaves.ahead g.R.ReadLeaves.is_between c.args.root.now (more_alternatives_of c.args.ext.now) c.requires.of_profile c.in-Some-Chosen.index (nodes c.args.frames.now) us (g.R.ReadLeaves.rules.to_units c.args.units.now) (took_chosen g.R.ReadLeaves.rules c.keep_laws.ensures g.R.FeedLeaves.fields g.R.ReadLeaves.ahead g.R.ReadLeaves.is_between c.args.root.now (more_alternatives_of c.args.ext.now) c.requires.of_profile c.args.node c.in-Some-Chosen.field-0 c.in-Some-Chosen.index (nodes c.args.frames.now) us c.in-Some-Chosen.is c.in-Some-Chosen.field-0-is k)))) c.feed_choice.ensures.stop
 
 pub choices::resume_choice-returns-in-Some-Chosen-clause-kept : goal.choices::resume_choice-returns-in-Some-Chosen-clause-kept
 choices::resume_choice-returns-in-Some-Chosen-clause-kept g t c =
-    IfErr-weaker c.feed_choice.result _ _ (λ why s us k. s (more_alternatives_of c.args.ext.now) c.requires.of_profile c.requires.covered (us ++ g.R.ReadLeaves.rules.to_units c.args.units.now) (rw c.in-Some-Chosen.index-is (choice_goes_on g.R.ReadLeaves.rules c.keep_laws.ensures g.R.ReadLeaves.ahead g.R.ReadLeaves.is_between c.args.root.now (more_alternatives_of c.args.ext.now) c.requires.of_profile c.in-Some-Chosen.index (nodes c.args.frames.now) us (g.R.ReadLeaves.rules.to_units c.args.units.now) (took_chosen g.R.ReadLeaves.rules c.keep_laws.ensures g.R.ReadLeaves.ahead g.R.ReadLeaves.is_between c.args.root.now (more_alternatives_of c.args.ext.now) c.requires.of_profile c.args.node c.in-Some-Chosen.field-0 c.in-Some-Chosen.index (nodes c.args.frames.now) us c.in-Some-Chosen.is c.in-Some-Chosen.field-0-is k)))) c.feed_choice.ensures.kept
+    IfErr-weaker c.feed_choice.result _ _ (λ why s us k. s (more_alternatives_of c.args.ext.now) c.requires.of_profile c.requires.covered (us ++ g.R.ReadLeaves.rules.to_units c.args.units.now) (rw c.in-Some-Chosen.index-is (choice_goes_on g.R.ReadLeaves.rules c.keep_laws.ensures g.R.FeedLeaves.fields g.R.ReadLeaves.ahead g.R.ReadLeaves.is_between c.args.root.now (more_alternatives_of c.args.ext.now) c.requires.of_profile c.in-Some-Chosen.index (nodes c.args.frames.now) us (g.R.ReadLeaves.rules.to_units c.args.units.now) (took_chosen g.R.ReadLeaves.rules c.keep_laws.ensures g.R.FeedLeaves.fields g.R.ReadLeaves.ahead g.R.ReadLeaves.is_between c.args.root.now (more_alternatives_of c.args.ext.now) c.requires.of_profile c.args.node c.in-Some-Chosen.field-0 c.in-Some-Chosen.index (nodes c.args.frames.now) us c.in-Some-Chosen.is c.in-Some-Chosen.field-0-is k)))) c.feed_choice.ensures.kept
 
 pub choices::resume_choice-returns-in-None-clause-done : goal.choices::resume_choice-returns-in-None-clause-done
 choices::resume_choice-returns-in-None-clause-done g t c =
-    IfOk-weaker c.start_choice-in-None.result _ _ (λ v s us k. subst (λ (xs : List ℕ). Spells g.R.ReadLeaves.rules.ruling.fielding (ValuesOf g.R.ReadLeaves.rules (choice_seen c.args.root.now c.args.ext.now)) (datum_of v) xs (g.R.ReadLeaves.rules.to_units c.start_choice-in-None.new.units)) (ap (λ (xs : List ℕ). xs ++ g.R.ReadLeaves.rules.to_units c.args.units.now) (ap g.R.ReadLeaves.rules.to_units c.none.ensures ∙ c.keep_feed_laws.ensures.none ∙ sym (choice_none g.R.ReadLeaves.rules c.keep_laws.ensures g.R.ReadLeaves.ahead g.R.ReadLeaves.is_between c.args.root.now (more_alternatives_of c.args.ext.now) c.requires.of_profile c.args.node (nodes c.args.frames.now) us c.in-None.is (c.requires.last (ap is_some c.in-None.is)) k))) s) c.start_choice-in-None.ensures.done
+    IfOk-weaker c.start_choice-in-None.result _ _ (λ v s us k. subst (λ (xs : List ℕ). Spells g.R.ReadLeaves.rules.ruling.fielding (ValuesOf g.R.ReadLeaves.rules (choice_seen c.args.root.now c.args.ext.now)) (datum_of v) xs (g.R.ReadLeaves.rules.to_units c.start_choice-in-None.new.units)) (ap (λ (xs : List ℕ). xs ++ g.R.ReadLeaves.rules.to_units c.args.units.now) (ap g.R.ReadLeaves.rules.to_units c.none.ensures ∙ c.keep_feed_laws.ensures.none ∙ sym (choice_none g.R.ReadLeaves.rules c.keep_laws.ensures g.R.FeedLeaves.fields g.R.ReadLeaves.ahead g.R.ReadLeaves.is_between c.args.root.now (more_alternatives_of c.args.ext.now) c.requires.of_profile c.args.node (nodes c.args.frames.now) us c.in-None.is (c.requires.last (ap is_some c.in-None.is)) k))) s) c.start_choice-in-None.ensures.done
 
 pub choices::resume_choice-returns-in-None-clause-stop : goal.choices::resume_choice-returns-in-None-clause-stop
 choices::resume_choice-returns-in-None-clause-stop g t c =
-    IfErr-weaker c.start_choice-in-None.result _ _ (λ why s us k. subst (λ (xs : List ℕ). Stops g.R.ReadLeaves.rules.ruling.fielding (ValuesOf g.R.ReadLeaves.rules (choice_seen c.args.root.now c.args.ext.now)) xs why) (ap (λ (xs : List ℕ). xs ++ g.R.ReadLeaves.rules.to_units c.args.units.now) (ap g.R.ReadLeaves.rules.to_units c.none.ensures ∙ c.keep_feed_laws.ensures.none ∙ sym (choice_none g.R.ReadLeaves.rules c.keep_laws.ensures g.R.ReadLeaves.ahead g.R.ReadLeaves.is_between c.args.root.now (more_alternatives_of c.args.ext.now) c.requires.of_profile c.args.node (nodes c.args.frames.now) us c.in-None.is (c.requires.last (ap is_some c.in-None.is)) k))) s) c.start_choice-in-None.ensures.stop
+    IfErr-weaker c.start_choice-in-None.result _ _ (λ why s us k. subst (λ (xs : List ℕ). Stops g.R.ReadLeaves.rules.ruling.fielding (ValuesOf g.R.ReadLeaves.rules (choice_seen c.args.root.now c.args.ext.now)) xs why) (ap (λ (xs : List ℕ). xs ++ g.R.ReadLeaves.rules.to_units c.args.units.now) (ap g.R.ReadLeaves.rules.to_units c.none.ensures ∙ c.keep_feed_laws.ensures.none ∙ sym (choice_none g.R.ReadLeaves.rules c.keep_laws.ensures g.R.FeedLeaves.fields g.R.ReadLeaves.ahead g.R.ReadLeaves.is_between c.args.root.now (more_alternatives_of c.args.ext.now) c.requires.of_profile c.args.node (nodes c.args.frames.now) us c.in-None.is (c.requires.last (ap is_some c.in-None.is)) k))) s) c.start_choice-in-None.ensures.stop
 
 pub choices::resume_choice-returns-in-None-clause-kept : goal.choices::resume_choice-returns-in-None-clause-kept
 choices::resume_choice-returns-in-None-clause-kept g t c =
-    IfErr-weaker c.start_choice-in-None.result _ _ (λ why s us k. subst (λ (xs : List ℕ). KeepsFrames g.R.ReadLeaves.rules g.R.ReadLeaves.ahead g.R.ReadLeaves.is_between (nodes c.start_choice-in-None.new.frames) (choice_seen c.args.root.now c.args.ext.now) xs why) (ap (λ (xs : List ℕ). xs ++ g.R.ReadLeaves.rules.to_units c.args.units.now) (ap g.R.ReadLeaves.rules.to_units c.none.ensures ∙ c.keep_feed_laws.ensures.none ∙ sym (choice_none g.R.ReadLeaves.rules c.keep_laws.ensures g.R.ReadLeaves.ahead g.R.ReadLeaves.is_between c.args.root.now (more_alternatives_of c.args.ext.now) c.requires.of_profile c.args.node (nodes c.args.frames.now) us c.in-None.is (c.requires.last (ap is_some c.in-None.is)) k))) s) c.start_choice-in-None.ensures.kept
+    IfErr-weaker c.start_choice-in-None.result _ _ (λ why s us k. subst (λ (xs : List ℕ). KeepsFrames g.R.ReadLeaves.rules g.R.FeedLeaves.fields g.R.ReadLeaves.ahead g.R.ReadLeaves.is_between (nodes c.start_choice-in-None.new.frames) (choice_seen c.args.root.now c.args.ext.now) xs why) (ap (λ (xs : List ℕ). xs ++ g.R.ReadLeaves.rules.to_units c.args.units.now) (ap g.R.ReadLeaves.rules.to_units c.none.ensures ∙ c.keep_feed_laws.ensures.none ∙ sym (choice_none g.R.ReadLeaves.rules c.keep_laws.ensures g.R.FeedLeaves.fields g.R.ReadLeaves.ahead g.R.ReadLeaves.is_between c.args.root.now (more_alternatives_of c.args.ext.now) c.requires.of_profile c.args.node (nodes c.args.frames.now) us c.in-None.is (c.requires.last (ap is_some c.in-None.is)) k))) s) c.start_choice-in-None.ensures.kept
 
 pub choices::resume_choice-returns-in-Some-Start-clause-done : goal.choices::resume_choice-returns-in-Some-Start-clause-done
 choices::resume_choice-returns-in-Some-Start-clause-done g t c =
-    IfOk-weaker c.start_choice.result _ _ (λ v s us k. subst (λ (xs : List ℕ). Spells g.R.ReadLeaves.rules.ruling.fielding (ValuesOf g.R.ReadLeaves.rules (choice_seen c.args.root.now c.args.ext.now)) (datum_of v) (xs ++ g.R.ReadLeaves.rules.to_units c.args.units.now) (g.R.ReadLeaves.rules.to_units c.start_choice.new.units)) (choice_start g.R.ReadLeaves.rules c.keep_laws.ensures g.R.ReadLeaves.ahead g.R.ReadLeaves.is_between c.args.root.now (more_alternatives_of c.args.ext.now) c.requires.of_profile c.args.node c.in-Some-Start.field-0 c.in-Some-Start.begun (nodes c.args.frames.now) us c.in-Some-Start.is c.in-Some-Start.field-0-is k).1.come s) c.start_choice.ensures.done
+    IfOk-weaker c.start_choice.result _ _ (λ v s us k. subst (λ (xs : List ℕ). Spells g.R.ReadLeaves.rules.ruling.fielding (ValuesOf g.R.ReadLeaves.rules (choice_seen c.args.root.now c.args.ext.now)) (datum_of v) (xs ++ g.R.ReadLeaves.rules.to_units c.args.units.now) (g.R.ReadLeaves.rules.to_units c.start_choice.new.units)) (choice_start g.R.ReadLeaves.rules c.keep_laws.ensures g.R.FeedLeaves.fields g.R.ReadLeaves.ahead g.R.ReadLeaves.is_between c.args.root.now (more_alternatives_of c.args.ext.now) c.requires.of_profile c.args.node c.in-Some-Start.field-0 c.in-Some-Start.begun (nodes c.args.frames.now) us c.in-Some-Start.is c.in-Some-Start.field-0-is k).1.come s) c.start_choice.ensures.done
 
 pub choices::resume_choice-returns-in-Some-Start-clause-stop : goal.choices::resume_choice-returns-in-Some-Start-clause-stop
 choices::resume_choice-returns-in-Some-Start-clause-stop g t c =
-    IfErr-weaker c.start_choice.result _ _ (λ why s us k. subst (λ (xs : List ℕ). Stops g.R.ReadLeaves.rules.ruling.fielding (ValuesOf g.R.ReadLeaves.rules (choice_seen c.args.root.now c.args.ext.now)) (xs ++ g.R.ReadLeaves.rules.to_units c.args.units.now) why) (choice_start g.R.ReadLeaves.rules c.keep_laws.ensures g.R.ReadLeaves.ahead g.R.ReadLeaves.is_between c.args.root.now (more_alternatives_of c.args.ext.now) c.requires.of_profile c.args.node c.in-Some-Start.field-0 c.in-Some-Start.begun (nodes c.args.frames.now) us c.in-Some-Start.is c.in-Some-Start.field-0-is k).1.come s) c.start_choice.ensures.stop
+    IfErr-weaker c.start_choice.result _ _ (λ why s us k. subst (λ (xs : List ℕ). Stops g.R.ReadLeaves.rules.ruling.fielding (ValuesOf g.R.ReadLeaves.rules (choice_seen c.args.root.now c.args.ext.now)) (xs ++ g.R.ReadLeaves.rules.to_units c.args.units.now) why) (choice_start g.R.ReadLeaves.rules c.keep_laws.ensures g.R.FeedLeaves.fields g.R.ReadLeaves.ahead g.R.ReadLeaves.is_between c.args.root.now (more_alternatives_of c.args.ext.now) c.requires.of_profile c.args.node c.in-Some-Start.field-0 c.in-Some-Start.begun (nodes c.args.frames.now) us c.in-Some-Start.is c.in-Some-Start.field-0-is k).1.come s) c.start_choice.ensures.stop
 
 pub choices::resume_choice-returns-in-Some-Start-clause-kept : goal.choices::resume_choice-returns-in-Some-Start-clause-kept
 choices::resume_choice-returns-in-Some-Start-clause-kept g t c =
-    IfErr-weaker c.start_choice.result _ _ (λ why s us k. subst (λ (xs : List ℕ). KeepsFrames g.R.ReadLeaves.rules g.R.ReadLeaves.ahead g.R.ReadLeaves.is_between (nodes c.start_choice.new.frames) (choice_seen c.args.root.now c.args.ext.now) (xs ++ g.R.ReadLeaves.rules.to_units c.args.units.now) why) (choice_start g.R.ReadLeaves.rules c.keep_laws.ensures g.R.ReadLeaves.ahead g.R.ReadLeaves.is_between c.args.root.now (more_alternatives_of c.args.ext.now) c.requires.of_profile c.args.node c.in-Some-Start.field-0 c.in-Some-Start.begun (nodes c.args.frames.now) us c.in-Some-Start.is c.in-Some-Start.field-0-is k).1.come s) c.start_choice.ensures.kept
+    IfErr-weaker c.start_choice.result _ _ (λ why s us k. subst (λ (xs : List ℕ). KeepsFrames g.R.ReadLeaves.rules g.R.FeedLeaves.fields g.R.ReadLeaves.ahead g.R.ReadLeaves.is_between (nodes c.start_choice.new.frames) (choice_seen c.args.root.now c.args.ext.now) (xs ++ g.R.ReadLeaves.rules.to_units c.args.units.now) why) (choice_start g.R.ReadLeaves.rules c.keep_laws.ensures g.R.FeedLeaves.fields g.R.ReadLeaves.ahead g.R.ReadLeaves.is_between c.args.root.now (more_alternatives_of c.args.ext.now) c.requires.of_profile c.args.node c.in-Some-Start.field-0 c.in-Some-Start.begun (nodes c.args.frames.now) us c.in-Some-Start.is c.in-Some-Start.field-0-is k).1.come s) c.start_choice.ensures.kept
 
 pub choices::resume_choice-start_choice-requires : goal.choices::resume_choice-start_choice-requires
 choices::resume_choice-start_choice-requires g t c κs within =
     let us = c.requires.reached.0 in
-    let w = choice_start g.R.ReadLeaves.rules c.keep_laws.ensures g.R.ReadLeaves.ahead g.R.ReadLeaves.is_between c.args.root.now (more_alternatives_of c.args.ext.now) c.requires.of_profile c.args.node c.in-Some-Start.field-0 c.in-Some-Start.begun (nodes c.args.frames.now) us c.in-Some-Start.is c.in-Some-Start.field-0-is c.requires.reached.1 in
-    (search (rules, the_lemmas), (within.0, (within.1, (c.requires.at_unit, (c.requires.of_profile, (c.requires.covered, (c.requires.some, (w.0, (record { come = refl; at_unit = w.1.at_unit; begins = w.1.begins }, c.requires.few)))))))))
+    let w = choice_start g.R.ReadLeaves.rules c.keep_laws.ensures g.R.FeedLeaves.fields g.R.ReadLeaves.ahead g.R.ReadLeaves.is_between c.args.root.now (more_alternatives_of c.args.ext.now) c.requires.of_profile c.args.node c.in-Some-Start.field-0 c.in-Some-Start.begun (nodes c.args.frames.now) us c.in-Some-Start.is c.in-Some-Start.field-0-is c.requires.reached.1 in
+    (search (rules, the_lemmas), (within.0, (within.1, (c.requires.at_unit, (c.requires.of_profile, (c.requires.covered, (c.requires.parts, (c.requires.some, (w.0, (record { come = refl; at_unit = w.1.at_unit; begins = w.1.begins }, c.requires.few))))))))))
 
 pub choices::start_choice-feed_leaf-requires-clause-good : goal.choices::start_choice-feed_leaf-requires-clause-good
 choices::start_choice-feed_leaf-requires-clause-good g t c = (c.requires.some, rw (c.addition_count.ensures, ← more_count c.args.ext.now) (few_seen c.args.root.now (more_alternatives_of c.args.ext.now) c.requires.of_profile))
@@ -617,33 +626,29 @@ choices::start_choice-feed_leaf-requires-clause-begins g t c = rw (c.addition_co
 
 pub choices::start_choice-feed_choice-requires : goal.choices::start_choice-feed_choice-requires
 choices::start_choice-feed_choice-requires g t c κs within =
+    let small = root_smaller c.args._ty.now c.requires.parts.alternatives c.args.ext.now c.args.root.now c.requires.parts.is c.requires.parts.root_is in
     let told : Spells g.R.ReadLeaves.rules.ruling.fielding (IndexOf g.R.ReadLeaves.rules (length c.args.root.now) (added_alternatives (more_alternatives_of c.args.ext.now))) (inl c.in-Ok-Root.index) (g.R.ReadLeaves.rules.to_units c.args.begun ++ g.R.ReadLeaves.rules.to_units c.args.units.now) (g.R.ReadLeaves.rules.to_units c.feed_leaf.new.units) = rw (c.addition_count.ensures, ← more_count c.args.ext.now, c.in-Ok-Root.field-0-is) at c.in-Ok-Root.ensures.done in
-    (search (rules, the_lemmas), (within.0, (within.1, (c.in-Ok-Root.ensures.at_unit, (rw c.in-Ok-Root.index-is told.spelt.fits, (((more_alternatives_of c.args.ext.now), c.requires.of_profile, c.requires.covered, (g.R.ReadLeaves.rules.to_units c.args.begun ++ g.R.ReadLeaves.rules.to_units c.args.units.now), rw c.in-Ok-Root.index-is (choice_starts g.R.ReadLeaves.rules c.keep_laws.ensures g.R.ReadLeaves.ahead g.R.ReadLeaves.is_between c.args.root.now (more_alternatives_of c.args.ext.now) c.requires.of_profile c.in-Ok-Root.index (nodes c.args.frames.now) (g.R.ReadLeaves.rules.to_units c.args.begun ++ g.R.ReadLeaves.rules.to_units c.args.units.now) (g.R.ReadLeaves.rules.to_units c.feed_leaf.new.units) told c.requires.empty)), omega (arith, c.in-Ok-Root.ensures.ticked, c.requires.few)))))))
-
-pub choices::start_choice-unreachable-requires : goal.choices::start_choice-unreachable-requires
-choices::start_choice-unreachable-requires g t c =
-    let told : Spells g.R.ReadLeaves.rules.ruling.fielding (IndexOf g.R.ReadLeaves.rules (length c.args.root.now) (added_alternatives (more_alternatives_of c.args.ext.now))) (inr c.in-Ok-Added.field-0-0) (g.R.ReadLeaves.rules.to_units c.args.begun ++ g.R.ReadLeaves.rules.to_units c.args.units.now) (g.R.ReadLeaves.rules.to_units c.feed_leaf.new.units) = rw (c.addition_count.ensures, ← more_count c.args.ext.now, c.in-Ok-Added.field-0-is) at c.in-Ok-Added.ensures.done in
-    none_added g.R.ReadLeaves.rules c.keep_laws.ensures g.R.ReadLeaves.ahead g.R.ReadLeaves.is_between c.args.root.now (more_alternatives_of c.args.ext.now) c.requires.of_profile c.requires.covered c.in-Ok-Added.field-0-0 (g.R.ReadLeaves.rules.to_units c.args.begun ++ g.R.ReadLeaves.rules.to_units c.args.units.now) (g.R.ReadLeaves.rules.to_units c.feed_leaf.new.units) told
+    (search (rules, the_lemmas, small), (within.0, (within.1, (c.in-Ok-Root.ensures.at_unit, (rw c.in-Ok-Root.index-is told.spelt.fits, (((more_alternatives_of c.args.ext.now), c.requires.of_profile, c.requires.covered, (g.R.ReadLeaves.rules.to_units c.args.begun ++ g.R.ReadLeaves.rules.to_units c.args.units.now), rw c.in-Ok-Root.index-is (choice_starts g.R.ReadLeaves.rules c.keep_laws.ensures g.R.FeedLeaves.fields g.R.ReadLeaves.ahead g.R.ReadLeaves.is_between c.args.root.now (more_alternatives_of c.args.ext.now) c.requires.of_profile c.in-Ok-Root.index (nodes c.args.frames.now) (g.R.ReadLeaves.rules.to_units c.args.begun ++ g.R.ReadLeaves.rules.to_units c.args.units.now) (g.R.ReadLeaves.rules.to_units c.feed_leaf.new.units) told c.requires.empty)), omega (arith, c.in-Ok-Root.ensures.ticked, c.requires.few)))))))
 
 pub choices::start_choice-returns-in-Ok-Root-clause-done : goal.choices::start_choice-returns-in-Ok-Root-clause-done
 choices::start_choice-returns-in-Ok-Root-clause-done g t c =
     let told : Spells g.R.ReadLeaves.rules.ruling.fielding (IndexOf g.R.ReadLeaves.rules (length c.args.root.now) (added_alternatives (more_alternatives_of c.args.ext.now))) (inl c.in-Ok-Root.index) (g.R.ReadLeaves.rules.to_units c.args.begun ++ g.R.ReadLeaves.rules.to_units c.args.units.now) (g.R.ReadLeaves.rules.to_units c.feed_leaf.new.units) = rw (c.addition_count.ensures, ← more_count c.args.ext.now, c.in-Ok-Root.field-0-is) at c.in-Ok-Root.ensures.done in
-    IfOk-weaker c.feed_choice.result _ _ (λ v s. s (more_alternatives_of c.args.ext.now) c.requires.of_profile c.requires.covered (g.R.ReadLeaves.rules.to_units c.args.begun ++ g.R.ReadLeaves.rules.to_units c.args.units.now) (rw c.in-Ok-Root.index-is (choice_starts g.R.ReadLeaves.rules c.keep_laws.ensures g.R.ReadLeaves.ahead g.R.ReadLeaves.is_between c.args.root.now (more_alternatives_of c.args.ext.now) c.requires.of_profile c.in-Ok-Root.index (nodes c.args.frames.now) (g.R.ReadLeaves.rules.to_units c.args.begun ++ g.R.ReadLeaves.rules.to_units c.args.units.now) (g.R.ReadLeaves.rules.to_units c.feed_leaf.new.units) told c.requires.empty))) c.feed_choice.ensures.done
+    IfOk-weaker c.feed_choice.result _ _ (λ v s. s (more_alternatives_of c.args.ext.now) c.requires.of_profile c.requires.covered (g.R.ReadLeaves.rules.to_units c.args.begun ++ g.R.ReadLeaves.rules.to_units c.args.units.now) (rw c.in-Ok-Root.index-is (choice_starts g.R.ReadLeaves.rules c.keep_laws.ensures g.R.FeedLeaves.fields g.R.ReadLeaves.ahead g.R.ReadLeaves.is_between c.args.root.now (more_alternatives_of c.args.ext.now) c.requires.of_profile c.in-Ok-Root.index (nodes c.args.frames.now) (g.R.ReadLeaves.rules.to_units c.args.begun ++ g.R.ReadLeaves.rules.to_units c.args.units.now) (g.R.ReadLeaves.rules.to_units c.feed_leaf.new.units) told c.requires.empty))) c.feed_choice.ensures.done
 
 pub choices::start_choice-returns-in-Ok-Root-clause-stop : goal.choices::start_choice-returns-in-Ok-Root-clause-stop
 choices::start_choice-returns-in-Ok-Root-clause-stop g t c =
     let told : Spells g.R.ReadLeaves.rules.ruling.fielding (IndexOf g.R.ReadLeaves.rules (length c.args.root.now) (added_alternatives (more_alternatives_of c.args.ext.now))) (inl c.in-Ok-Root.index) (g.R.ReadLeaves.rules.to_units c.args.begun ++ g.R.ReadLeaves.rules.to_units c.args.units.now) (g.R.ReadLeaves.rules.to_units c.feed_leaf.new.units) = rw (c.addition_count.ensures, ← more_count c.args.ext.now, c.in-Ok-Root.field-0-is) at c.in-Ok-Root.ensures.done in
-    IfErr-weaker c.feed_choice.result _ _ (λ why s. s (more_alternatives_of c.args.ext.now) c.requires.of_profile c.requires.covered (g.R.ReadLeaves.rules.to_units c.args.begun ++ g.R.ReadLeaves.rules.to_units c.args.units.now) (rw c.in-Ok-Root.index-is (choice_starts g.R.ReadLeaves.rules c.keep_laws.ensures g.R.ReadLeaves.ahead g.R.ReadLeaves.is_between c.args.root.now (more_alternatives_of c.args.ext.now) c.requires.of_profile c.in-Ok-Root.index (nodes c.args.frames.now) (g.R.ReadLeaves.rules.to_units c.args.begun ++ g.R.ReadLeaves.rules.to_units c.args.units.now) (g.R.ReadLeaves.rules.to_units c.feed_leaf.new.units) told c.requires.empty))) c.feed_choice.ensures.stop
+    IfErr-weaker c.feed_choice.result _ _ (λ why s. s (more_alternatives_of c.args.ext.now) c.requires.of_profile c.requires.covered (g.R.ReadLeaves.rules.to_units c.args.begun ++ g.R.ReadLeaves.rules.to_units c.args.units.now) (rw c.in-Ok-Root.index-is (choice_starts g.R.ReadLeaves.rules c.keep_laws.ensures g.R.FeedLeaves.fields g.R.ReadLeaves.ahead g.R.ReadLeaves.is_between c.args.root.now (more_alternatives_of c.args.ext.now) c.requires.of_profile c.in-Ok-Root.index (nodes c.args.frames.now) (g.R.ReadLeaves.rules.to_units c.args.begun ++ g.R.ReadLeaves.rules.to_units c.args.units.now) (g.R.ReadLeaves.rules.to_units c.feed_leaf.new.units) told c.requires.empty))) c.feed_choice.ensures.stop
 
 pub choices::start_choice-returns-in-Ok-Root-clause-kept : goal.choices::start_choice-returns-in-Ok-Root-clause-kept
 choices::start_choice-returns-in-Ok-Root-clause-kept g t c =
     let told : Spells g.R.ReadLeaves.rules.ruling.fielding (IndexOf g.R.ReadLeaves.rules (length c.args.root.now) (added_alternatives (more_alternatives_of c.args.ext.now))) (inl c.in-Ok-Root.index) (g.R.ReadLeaves.rules.to_units c.args.begun ++ g.R.ReadLeaves.rules.to_units c.args.units.now) (g.R.ReadLeaves.rules.to_units c.feed_leaf.new.units) = rw (c.addition_count.ensures, ← more_count c.args.ext.now, c.in-Ok-Root.field-0-is) at c.in-Ok-Root.ensures.done in
-    IfErr-weaker c.feed_choice.result _ _ (λ why s. s (more_alternatives_of c.args.ext.now) c.requires.of_profile c.requires.covered (g.R.ReadLeaves.rules.to_units c.args.begun ++ g.R.ReadLeaves.rules.to_units c.args.units.now) (rw c.in-Ok-Root.index-is (choice_starts g.R.ReadLeaves.rules c.keep_laws.ensures g.R.ReadLeaves.ahead g.R.ReadLeaves.is_between c.args.root.now (more_alternatives_of c.args.ext.now) c.requires.of_profile c.in-Ok-Root.index (nodes c.args.frames.now) (g.R.ReadLeaves.rules.to_units c.args.begun ++ g.R.ReadLeaves.rules.to_units c.args.units.now) (g.R.ReadLeaves.rules.to_units c.feed_leaf.new.units) told c.requires.empty))) c.feed_choice.ensures.kept
+    IfErr-weaker c.feed_choice.result _ _ (λ why s. s (more_alternatives_of c.args.ext.now) c.requires.of_profile c.requires.covered (g.R.ReadLeaves.rules.to_units c.args.begun ++ g.R.ReadLeaves.rules.to_units c.args.units.now) (rw c.in-Ok-Root.index-is (choice_starts g.R.ReadLeaves.rules c.keep_laws.ensures g.R.FeedLeaves.fields g.R.ReadLeaves.ahead g.R.ReadLeaves.is_between c.args.root.now (more_alternatives_of c.args.ext.now) c.requires.of_profile c.in-Ok-Root.index (nodes c.args.frames.now) (g.R.ReadLeaves.rules.to_units c.args.begun ++ g.R.ReadLeaves.rules.to_units c.args.units.now) (g.R.ReadLeaves.rules.to_units c.feed_leaf.new.units) told c.requires.empty))) c.feed_choice.ensures.kept
 
 pub choices::start_choice-returns-in-Ok-clause-stop : goal.choices::start_choice-returns-in-Ok-clause-stop
 choices::start_choice-returns-in-Ok-clause-stop g t c =
     let a : Stops g.R.ReadLeaves.rules.ruling.fielding (IndexOf g.R.ReadLeaves.rules (length c.args.root.now) (added_alternatives (more_alternatives_of c.args.ext.now))) (g.R.ReadLeaves.rules.to_units c.args.begun ++ g.R.ReadLeaves.rules.to_units c.args.units.now) stop.Short = rw (c.addition_count.ensures, ← more_count c.args.ext.now, c.in-Err-Short.field-0-is) at c.in-Err-Short.ensures.stop in
-    stops_by stop.Short (choice_stops g.R.ReadLeaves.rules c.keep_laws.ensures g.R.ReadLeaves.ahead g.R.ReadLeaves.is_between c.args.root.now (more_alternatives_of c.args.ext.now) c.requires.of_profile (g.R.ReadLeaves.rules.to_units c.args.begun ++ g.R.ReadLeaves.rules.to_units c.args.units.now)) a
+    stops_by stop.Short (choice_stops g.R.ReadLeaves.rules c.keep_laws.ensures g.R.FeedLeaves.fields g.R.ReadLeaves.ahead g.R.ReadLeaves.is_between c.args.root.now (more_alternatives_of c.args.ext.now) c.requires.of_profile (g.R.ReadLeaves.rules.to_units c.args.begun ++ g.R.ReadLeaves.rules.to_units c.args.units.now)) a
 
 pub choices::start_choice-returns-in-Ok-clause-kept : goal.choices::start_choice-returns-in-Ok-clause-kept
 choices::start_choice-returns-in-Ok-clause-kept g t c =
@@ -652,13 +657,13 @@ choices::start_choice-returns-in-Ok-clause-kept g t c =
     let e : g.R.ReadLeaves.rules.to_units b ≡ (g.R.ReadLeaves.rules.to_units c.args.begun ++ g.R.ReadLeaves.rules.to_units c.args.units.now) = rw c.in-Err-Short.field-0-is at c.in-Err-Short.ensures.kept in
     let s : Short g.R.ReadLeaves.rules.ruling.fielding (IndexOf g.R.ReadLeaves.rules (length c.args.root.now) (added_alternatives (more_alternatives_of c.args.ext.now))) (g.R.ReadLeaves.rules.to_units b) = subst (λ (xs : List ℕ). Short g.R.ReadLeaves.rules.ruling.fielding (IndexOf g.R.ReadLeaves.rules (length c.args.root.now) (added_alternatives (more_alternatives_of c.args.ext.now))) xs) (sym e) a.told in
     let fs : nodes c.put.new.self ≡ frame.Start b ∷ [] = c.in-Ok.ensures ∙ ap (λ (gs : List (Frame g.row.R-Fragments.Denot)). frame.Start b ∷ gs) c.requires.empty in
-    choice_took g.R.ReadLeaves.rules c.keep_laws.ensures g.R.ReadLeaves.ahead g.R.ReadLeaves.is_between c.args.root.now (more_alternatives_of c.args.ext.now) c.requires.of_profile (nodes c.put.new.self) b (g.R.ReadLeaves.rules.to_units c.args.begun ++ g.R.ReadLeaves.rules.to_units c.args.units.now) fs (record { come = e; at_unit = c.in-Err-Short.ensures.begun; begins = inr s })
+    choice_took g.R.ReadLeaves.rules c.keep_laws.ensures g.R.FeedLeaves.fields g.R.ReadLeaves.ahead g.R.ReadLeaves.is_between c.args.root.now (more_alternatives_of c.args.ext.now) c.requires.of_profile (nodes c.put.new.self) b (g.R.ReadLeaves.rules.to_units c.args.begun ++ g.R.ReadLeaves.rules.to_units c.args.units.now) fs (record { come = e; at_unit = c.in-Err-Short.ensures.begun; begins = inr s })
 
 pub choices::start_choice-returns-in-Err-Refused-clause-stop : goal.choices::start_choice-returns-in-Err-Refused-clause-stop
 choices::start_choice-returns-in-Err-Refused-clause-stop g t c =
     let w = stop.Refused c.in-Err-Refused.left c.in-Err-Refused.why in
     let a : Stops g.R.ReadLeaves.rules.ruling.fielding (IndexOf g.R.ReadLeaves.rules (length c.args.root.now) (added_alternatives (more_alternatives_of c.args.ext.now))) (g.R.ReadLeaves.rules.to_units c.args.begun ++ g.R.ReadLeaves.rules.to_units c.args.units.now) w = rw (c.addition_count.ensures, ← more_count c.args.ext.now, c.in-Err-Refused.field-0-is) at c.in-Err-Refused.ensures.stop in
-    rw (c.in-Err-Refused.left-is, c.in-Err-Refused.why-is) (stops_by w (choice_stops g.R.ReadLeaves.rules c.keep_laws.ensures g.R.ReadLeaves.ahead g.R.ReadLeaves.is_between c.args.root.now (more_alternatives_of c.args.ext.now) c.requires.of_profile (g.R.ReadLeaves.rules.to_units c.args.begun ++ g.R.ReadLeaves.rules.to_units c.args.units.now)) a)
+    rw (c.in-Err-Refused.left-is, c.in-Err-Refused.why-is) (stops_by w (choice_stops g.R.ReadLeaves.rules c.keep_laws.ensures g.R.FeedLeaves.fields g.R.ReadLeaves.ahead g.R.ReadLeaves.is_between c.args.root.now (more_alternatives_of c.args.ext.now) c.requires.of_profile (g.R.ReadLeaves.rules.to_units c.args.begun ++ g.R.ReadLeaves.rules.to_units c.args.units.now)) a)
 
 -- ---- the value of its alternative
 
@@ -672,32 +677,32 @@ choices::feed_choice-feed-requires g t c κs within =
     let more = c.requires.reached.0 in
     let good = c.requires.reached.1 in
     let cov = c.requires.reached.2 in
-    let x = alternative_ahead g.R.ReadLeaves.rules c.keep_laws.ensures g.R.ReadLeaves.ahead g.R.ReadLeaves.is_between c.args.root.now more good c.args.index (nodes c.args.frames.now) c.index-root-index.result c.requires.reached.3 (g.R.ReadLeaves.rules.to_units c.args.units.now) c.index-root-index.is cov c.requires.reached.4 in
+    let x = alternative_ahead g.R.ReadLeaves.rules c.keep_laws.ensures g.R.FeedLeaves.fields g.R.ReadLeaves.ahead g.R.ReadLeaves.is_between c.args.root.now more good c.args.index (nodes c.args.frames.now) c.index-root-index.result c.requires.reached.3 (g.R.ReadLeaves.rules.to_units c.args.units.now) c.index-root-index.is cov c.requires.reached.4 in
     (search (rules, the_lemmas), (within.0, (within.1, (c.requires.at_unit, (x.of_profile, (x.covered, ((x.come, x.took), c.requires.few)))))))
 
 pub choices::feed_choice-returns-in-Ok-new-clause-done : goal.choices::feed_choice-returns-in-Ok-new-clause-done
 choices::feed_choice-returns-in-Ok-new-clause-done g t c = λ more good cov all h.
-    let x = alternative_ahead g.R.ReadLeaves.rules c.keep_laws.ensures g.R.ReadLeaves.ahead g.R.ReadLeaves.is_between c.args.root.now more good c.args.index (nodes c.args.frames.now) c.index-root-index.result all (g.R.ReadLeaves.rules.to_units c.args.units.now) c.index-root-index.is cov h in
+    let x = alternative_ahead g.R.ReadLeaves.rules c.keep_laws.ensures g.R.FeedLeaves.fields g.R.ReadLeaves.ahead g.R.ReadLeaves.is_between c.args.root.now more good c.args.index (nodes c.args.frames.now) c.index-root-index.result all (g.R.ReadLeaves.rules.to_units c.args.units.now) c.index-root-index.is cov h in
     rw (datum_of-Choice c.args.index c.in-Ok-new.value, c.in-Ok-new.ensures.ok) (x.leads.done (datum_of c.in-Ok.value) (g.R.ReadLeaves.rules.to_units c.feed.new.units) (c.in-Ok.ensures.done x.come x.took))
 
 pub choices::feed_choice-returns-in-Ok-put-clause-stop : goal.choices::feed_choice-returns-in-Ok-put-clause-stop
 choices::feed_choice-returns-in-Ok-put-clause-stop g t c = λ more good cov all h.
-    let x = alternative_ahead g.R.ReadLeaves.rules c.keep_laws.ensures g.R.ReadLeaves.ahead g.R.ReadLeaves.is_between c.args.root.now more good c.args.index (nodes c.args.frames.now) c.index-root-index.result all (g.R.ReadLeaves.rules.to_units c.args.units.now) c.index-root-index.is cov h in
+    let x = alternative_ahead g.R.ReadLeaves.rules c.keep_laws.ensures g.R.FeedLeaves.fields g.R.ReadLeaves.ahead g.R.ReadLeaves.is_between c.args.root.now more good c.args.index (nodes c.args.frames.now) c.index-root-index.result all (g.R.ReadLeaves.rules.to_units c.args.units.now) c.index-root-index.is cov h in
     let a : Stops g.R.ReadLeaves.rules.ruling.fielding (ValuesOf g.R.ReadLeaves.rules (shape_of c.index-root-index.result.ty)) (x.come ++ g.R.ReadLeaves.rules.to_units c.args.units.now) stop.Short = rw c.in-Err-Short.field-0-is at (c.in-Err-Short.ensures.stop x.come x.took) in
     stops_by stop.Short x.leads.stops a
 
 pub choices::feed_choice-returns-in-Err-Refused-clause-stop : goal.choices::feed_choice-returns-in-Err-Refused-clause-stop
 choices::feed_choice-returns-in-Err-Refused-clause-stop g t c = λ more good cov all h.
-    let x = alternative_ahead g.R.ReadLeaves.rules c.keep_laws.ensures g.R.ReadLeaves.ahead g.R.ReadLeaves.is_between c.args.root.now more good c.args.index (nodes c.args.frames.now) c.index-root-index.result all (g.R.ReadLeaves.rules.to_units c.args.units.now) c.index-root-index.is cov h in
+    let x = alternative_ahead g.R.ReadLeaves.rules c.keep_laws.ensures g.R.FeedLeaves.fields g.R.ReadLeaves.ahead g.R.ReadLeaves.is_between c.args.root.now more good c.args.index (nodes c.args.frames.now) c.index-root-index.result all (g.R.ReadLeaves.rules.to_units c.args.units.now) c.index-root-index.is cov h in
     let w = stop.Refused c.in-Err-Refused.left c.in-Err-Refused.why in
     let a : Stops g.R.ReadLeaves.rules.ruling.fielding (ValuesOf g.R.ReadLeaves.rules (shape_of c.index-root-index.result.ty)) (x.come ++ g.R.ReadLeaves.rules.to_units c.args.units.now) w = rw c.in-Err-Refused.field-0-is at (c.in-Err-Refused.ensures.stop x.come x.took) in
     rw (c.in-Err-Refused.left-is, c.in-Err-Refused.why-is) (stops_by w x.leads.stops a)
 
 pub choices::feed_choice-returns-in-Ok-put-clause-kept : goal.choices::feed_choice-returns-in-Ok-put-clause-kept
 choices::feed_choice-returns-in-Ok-put-clause-kept g t c = λ more good cov all h.
-    let x = alternative_ahead g.R.ReadLeaves.rules c.keep_laws.ensures g.R.ReadLeaves.ahead g.R.ReadLeaves.is_between c.args.root.now more good c.args.index (nodes c.args.frames.now) c.index-root-index.result all (g.R.ReadLeaves.rules.to_units c.args.units.now) c.index-root-index.is cov h in
+    let x = alternative_ahead g.R.ReadLeaves.rules c.keep_laws.ensures g.R.FeedLeaves.fields g.R.ReadLeaves.ahead g.R.ReadLeaves.is_between c.args.root.now more good c.args.index (nodes c.args.frames.now) c.index-root-index.result all (g.R.ReadLeaves.rules.to_units c.args.units.now) c.index-root-index.is cov h in
     let none : g.R.ReadLeaves.rules.to_units c.feed.new.units ≡ [] = rw c.in-Err-Short.field-0-is at c.in-Err-Short.ensures.after in
-    let took : Took g.R.ReadLeaves.rules g.R.ReadLeaves.ahead g.R.ReadLeaves.is_between (nodes c.feed.new.frames) (shape_of c.index-root-index.result.ty) (x.come ++ g.R.ReadLeaves.rules.to_units c.args.units.now) = rw c.in-Err-Short.field-0-is at (c.in-Err-Short.ensures.kept x.come x.took) in
+    let took : Took g.R.ReadLeaves.rules g.R.FeedLeaves.fields g.R.ReadLeaves.ahead g.R.ReadLeaves.is_between (nodes c.feed.new.frames) (shape_of c.index-root-index.result.ty) (x.come ++ g.R.ReadLeaves.rules.to_units c.args.units.now) = rw c.in-Err-Short.field-0-is at (c.in-Err-Short.ensures.kept x.come x.took) in
     rw c.in-Ok-put.ensures (x.kept (nodes c.feed.new.frames) [] refl took)
 
 -- ---- a CHOICE of the program
@@ -706,7 +711,7 @@ pub values::feed-resume_choice-requires : goal.values::feed-resume_choice-requir
 values::feed-resume_choice-requires g t c κs within =
     let is = choice_of_alternatives c.args.ty.now c.in-Choice.root c.in-Choice.ext c.as_slice-root-in-Choice.result.now c.in-Choice.is c.as_slice-root-in-Choice.ensures.value in
     let tk = taken_is c.take-node-in-Choice.result (nodes c.args.frames.now) (nodes c.take-node-in-Choice.new.self) c.take-node-in-Choice.ensures.some c.take-node-in-Choice.ensures.none c.take-node-in-Choice.ensures.empty in
-    (search (rules, the_lemmas), (within.0, (within.1, (c.requires.at_unit, (rw is at c.requires.of_profile, (rw is at c.requires.covered, (rw c.as_slice-root-in-Choice.ensures.len (some_root c.args.ty.now c.in-Choice.root c.in-Choice.ext c.in-Choice.is c.requires.of_profile (vec_len c.in-Choice.root) refl), ((c.requires.reached.0, rw (is, tk) at c.requires.reached.1), (c.take-node-in-Choice.ensures.empty, c.requires.few)))))))))
+    (search (rules, the_lemmas), (within.0, (within.1, (c.requires.at_unit, (rw is at c.requires.of_profile, (rw is at c.requires.covered, (record { alternatives = c.in-Choice.root; is = c.in-Choice.is; root_is = c.as_slice-root-in-Choice.ensures.value }, (rw c.as_slice-root-in-Choice.ensures.len (some_root c.args.ty.now c.in-Choice.root c.in-Choice.ext c.in-Choice.is c.requires.of_profile (vec_len c.in-Choice.root) refl), ((c.requires.reached.0, rw (is, tk) at c.requires.reached.1), (c.take-node-in-Choice.ensures.empty, c.requires.few))))))))))
 
 pub values::feed-returns-in-Choice-clause-done : goal.values::feed-returns-in-Choice-clause-done
 values::feed-returns-in-Choice-clause-done g t c =
@@ -725,3 +730,210 @@ values::feed-returns-in-Choice-clause-kept g t c =
     let is = choice_of_alternatives c.args.ty.now c.in-Choice.root c.in-Choice.ext c.as_slice-root-in-Choice.result.now c.in-Choice.is c.as_slice-root-in-Choice.ensures.value in
     let tk = taken_is c.take-node-in-Choice.result (nodes c.args.frames.now) (nodes c.take-node-in-Choice.new.self) c.take-node-in-Choice.ensures.some c.take-node-in-Choice.ensures.none c.take-node-in-Choice.ensures.empty in
     IfErr-weaker c.resume_choice.result _ _ (λ why s us k. rw is (s us (rw (is, tk) at k))) c.resume_choice.ensures.kept
+
+-- ---- an extension addition of a CHOICE
+
+pub choices::resume_choice-feed_added-requires : goal.choices::resume_choice-feed_added-requires
+choices::resume_choice-feed_added-requires g t c κs within =
+    let us = c.requires.reached.0 in
+    (search (rules, the_lemmas), (within.0, (within.1, (c.requires.at_unit, (c.requires.of_profile, (c.requires.covered, (c.requires.parts, ((us ++ g.R.ReadLeaves.rules.to_units c.args.units.now, (rw c.in-Some-Added.index-is (addition_goes_on g.R.ReadLeaves.rules c.keep_laws.ensures g.R.FeedLeaves.fields g.R.ReadLeaves.ahead g.R.ReadLeaves.is_between c.args.root.now c.args.ext.now c.requires.of_profile c.in-Some-Added.index (nodes c.args.frames.now) us (g.R.ReadLeaves.rules.to_units c.args.units.now) (took_added g.R.ReadLeaves.rules c.keep_laws.ensures g.R.FeedLeaves.fields g.R.ReadLeaves.ahead g.R.ReadLeaves.is_between c.args.root.now c.args.ext.now c.requires.of_profile c.args.node c.in-Some-Added.field-0 c.in-Some-Added.index (nodes c.args.frames.now) us c.in-Some-Added.is c.in-Some-Added.field-0-is c.requires.reached.1)))), c.requires.few))))))))
+
+pub choices::resume_choice-returns-in-Some-Added-clause-done : goal.choices::resume_choice-returns-in-Some-Added-clause-done
+choices::resume_choice-returns-in-Some-Added-clause-done g t c =
+    IfOk-weaker c.feed_added.result _ _ (λ v s us k. s (us ++ g.R.ReadLeaves.rules.to_units c.args.units.now) (rw c.in-Some-Added.index-is (addition_goes_on g.R.ReadLeaves.rules c.keep_laws.ensures g.R.FeedLeaves.fields g.R.ReadLeaves.ahead g.R.ReadLeaves.is_between c.args.root.now c.args.ext.now c.requires.of_profile c.in-Some-Added.index (nodes c.args.frames.now) us (g.R.ReadLeaves.rules.to_units c.args.units.now) (took_added g.R.ReadLeaves.rules c.keep_laws.ensures g.R.FeedLeaves.fields g.R.ReadLeaves.ahead g.R.ReadLeaves.is_between c.args.root.now c.args.ext.now c.requires.of_profile c.args.node c.in-Some-Added.field-0 c.in-Some-Added.index (nodes c.args.frames.now) us c.in-Some-Added.is c.in-Some-Added.field-0-is k)))) c.feed_added.ensures.done
+
+pub choices::resume_choice-returns-in-Some-Added-clause-stop : goal.choices::resume_choice-returns-in-Some-Added-clause-stop
+choices::resume_choice-returns-in-Some-Added-clause-stop g t c =
+    IfErr-weaker c.feed_added.result _ _ (λ why s us k. s (us ++ g.R.ReadLeaves.rules.to_units c.args.units.now) (rw c.in-Some-Added.index-is (addition_goes_on g.R.ReadLeaves.rules c.keep_laws.ensures g.R.FeedLeaves.fields g.R.ReadLeaves.ahead g.R.ReadLeaves.is_between c.args.root.now c.args.ext.now c.requires.of_profile c.in-Some-Added.index (nodes c.args.frames.now) us (g.R.ReadLeaves.rules.to_units c.args.units.now) (took_added g.R.ReadLeaves.rules c.keep_laws.ensures g.R.FeedLeaves.fields g.R.ReadLeaves.ahead g.R.ReadLeaves.is_between c.args.root.now c.args.ext.now c.requires.of_profile c.args.node c.in-Some-Added.field-0 c.in-Some-Added.index (nodes c.args.frames.now) us c.in-Some-Added.is c.in-Some-Added.field-0-is k)))) c.feed_added.ensures.stop
+
+pub choices::resume_choice-returns-in-Some-Added-clause-kept : goal.choices::resume_choice-returns-in-Some-Added-clause-kept
+choices::resume_choice-returns-in-Some-Added-clause-kept g t c =
+    IfErr-weaker c.feed_added.result _ _ (λ why s us k. s (us ++ g.R.ReadLeaves.rules.to_units c.args.units.now) (rw c.in-Some-Added.index-is (addition_goes_on g.R.ReadLeaves.rules c.keep_laws.ensures g.R.FeedLeaves.fields g.R.ReadLeaves.ahead g.R.ReadLeaves.is_between c.args.root.now c.args.ext.now c.requires.of_profile c.in-Some-Added.index (nodes c.args.frames.now) us (g.R.ReadLeaves.rules.to_units c.args.units.now) (took_added g.R.ReadLeaves.rules c.keep_laws.ensures g.R.FeedLeaves.fields g.R.ReadLeaves.ahead g.R.ReadLeaves.is_between c.args.root.now c.args.ext.now c.requires.of_profile c.args.node c.in-Some-Added.field-0 c.in-Some-Added.index (nodes c.args.frames.now) us c.in-Some-Added.is c.in-Some-Added.field-0-is k)))) c.feed_added.ensures.kept
+
+pub choices::start_choice-feed_added-requires : goal.choices::start_choice-feed_added-requires
+choices::start_choice-feed_added-requires g t c κs within =
+    let told : Spells g.R.ReadLeaves.rules.ruling.fielding (IndexOf g.R.ReadLeaves.rules (length c.args.root.now) (added_alternatives (more_alternatives_of c.args.ext.now))) (inr c.in-Ok-Added.index) (g.R.ReadLeaves.rules.to_units c.args.begun ++ g.R.ReadLeaves.rules.to_units c.args.units.now) (g.R.ReadLeaves.rules.to_units c.feed_leaf.new.units) = rw (c.addition_count.ensures, ← more_count c.args.ext.now, c.in-Ok-Added.field-0-is) at c.in-Ok-Added.ensures.done in
+    (search (rules, the_lemmas), (within.0, (within.1, (c.in-Ok-Added.ensures.at_unit, (c.requires.of_profile, (c.requires.covered, (c.requires.parts, (((g.R.ReadLeaves.rules.to_units c.args.begun ++ g.R.ReadLeaves.rules.to_units c.args.units.now), (rw c.in-Ok-Added.index-is (addition_starts g.R.ReadLeaves.rules c.keep_laws.ensures g.R.FeedLeaves.fields g.R.ReadLeaves.ahead g.R.ReadLeaves.is_between c.args.root.now c.args.ext.now c.requires.of_profile c.in-Ok-Added.index (nodes c.args.frames.now) (g.R.ReadLeaves.rules.to_units c.args.begun ++ g.R.ReadLeaves.rules.to_units c.args.units.now) (g.R.ReadLeaves.rules.to_units c.feed_leaf.new.units) told c.requires.empty))), omega (arith, c.in-Ok-Added.ensures.ticked, c.requires.few)))))))))
+
+pub choices::start_choice-returns-in-Ok-Added-clause-done : goal.choices::start_choice-returns-in-Ok-Added-clause-done
+choices::start_choice-returns-in-Ok-Added-clause-done g t c =
+    let told : Spells g.R.ReadLeaves.rules.ruling.fielding (IndexOf g.R.ReadLeaves.rules (length c.args.root.now) (added_alternatives (more_alternatives_of c.args.ext.now))) (inr c.in-Ok-Added.index) (g.R.ReadLeaves.rules.to_units c.args.begun ++ g.R.ReadLeaves.rules.to_units c.args.units.now) (g.R.ReadLeaves.rules.to_units c.feed_leaf.new.units) = rw (c.addition_count.ensures, ← more_count c.args.ext.now, c.in-Ok-Added.field-0-is) at c.in-Ok-Added.ensures.done in
+    IfOk-weaker c.feed_added.result _ _ (λ v s. s (g.R.ReadLeaves.rules.to_units c.args.begun ++ g.R.ReadLeaves.rules.to_units c.args.units.now) (rw c.in-Ok-Added.index-is (addition_starts g.R.ReadLeaves.rules c.keep_laws.ensures g.R.FeedLeaves.fields g.R.ReadLeaves.ahead g.R.ReadLeaves.is_between c.args.root.now c.args.ext.now c.requires.of_profile c.in-Ok-Added.index (nodes c.args.frames.now) (g.R.ReadLeaves.rules.to_units c.args.begun ++ g.R.ReadLeaves.rules.to_units c.args.units.now) (g.R.ReadLeaves.rules.to_units c.feed_leaf.new.units) told c.requires.empty))) c.feed_added.ensures.done
+
+pub choices::start_choice-returns-in-Ok-Added-clause-stop : goal.choices::start_choice-returns-in-Ok-Added-clause-stop
+choices::start_choice-returns-in-Ok-Added-clause-stop g t c =
+    let told : Spells g.R.ReadLeaves.rules.ruling.fielding (IndexOf g.R.ReadLeaves.rules (length c.args.root.now) (added_alternatives (more_alternatives_of c.args.ext.now))) (inr c.in-Ok-Added.index) (g.R.ReadLeaves.rules.to_units c.args.begun ++ g.R.ReadLeaves.rules.to_units c.args.units.now) (g.R.ReadLeaves.rules.to_units c.feed_leaf.new.units) = rw (c.addition_count.ensures, ← more_count c.args.ext.now, c.in-Ok-Added.field-0-is) at c.in-Ok-Added.ensures.done in
+    IfErr-weaker c.feed_added.result _ _ (λ why s. s (g.R.ReadLeaves.rules.to_units c.args.begun ++ g.R.ReadLeaves.rules.to_units c.args.units.now) (rw c.in-Ok-Added.index-is (addition_starts g.R.ReadLeaves.rules c.keep_laws.ensures g.R.FeedLeaves.fields g.R.ReadLeaves.ahead g.R.ReadLeaves.is_between c.args.root.now c.args.ext.now c.requires.of_profile c.in-Ok-Added.index (nodes c.args.frames.now) (g.R.ReadLeaves.rules.to_units c.args.begun ++ g.R.ReadLeaves.rules.to_units c.args.units.now) (g.R.ReadLeaves.rules.to_units c.feed_leaf.new.units) told c.requires.empty))) c.feed_added.ensures.stop
+
+pub choices::start_choice-returns-in-Ok-Added-clause-kept : goal.choices::start_choice-returns-in-Ok-Added-clause-kept
+choices::start_choice-returns-in-Ok-Added-clause-kept g t c =
+    let told : Spells g.R.ReadLeaves.rules.ruling.fielding (IndexOf g.R.ReadLeaves.rules (length c.args.root.now) (added_alternatives (more_alternatives_of c.args.ext.now))) (inr c.in-Ok-Added.index) (g.R.ReadLeaves.rules.to_units c.args.begun ++ g.R.ReadLeaves.rules.to_units c.args.units.now) (g.R.ReadLeaves.rules.to_units c.feed_leaf.new.units) = rw (c.addition_count.ensures, ← more_count c.args.ext.now, c.in-Ok-Added.field-0-is) at c.in-Ok-Added.ensures.done in
+    IfErr-weaker c.feed_added.result _ _ (λ why s. s (g.R.ReadLeaves.rules.to_units c.args.begun ++ g.R.ReadLeaves.rules.to_units c.args.units.now) (rw c.in-Ok-Added.index-is (addition_starts g.R.ReadLeaves.rules c.keep_laws.ensures g.R.FeedLeaves.fields g.R.ReadLeaves.ahead g.R.ReadLeaves.is_between c.args.root.now c.args.ext.now c.requires.of_profile c.in-Ok-Added.index (nodes c.args.frames.now) (g.R.ReadLeaves.rules.to_units c.args.begun ++ g.R.ReadLeaves.rules.to_units c.args.units.now) (g.R.ReadLeaves.rules.to_units c.feed_leaf.new.units) told c.requires.empty))) c.feed_added.ensures.kept
+
+pub choices::feed_added-unreachable-requires : goal.choices::feed_added-unreachable-requires
+choices::feed_added-unreachable-requires g t c =
+    no_addition g.R.ReadLeaves.rules c.keep_laws.ensures g.R.FeedLeaves.fields g.R.ReadLeaves.ahead g.R.ReadLeaves.is_between c.args.root.now c.args.ext.now c.requires.of_profile c.args.index (nodes c.args.frames.now) c.requires.reached.0 (g.R.ReadLeaves.rules.to_units c.args.units.now) c.in_default.is c.requires.reached.1
+
+pub choices::feed_added-bounds-additions-index : goal.choices::feed_added-bounds-additions-index
+choices::feed_added-bounds-additions-index g t c =
+    rw c.as_slice-additions.ensures.value (addition_inside g.R.ReadLeaves.rules c.keep_laws.ensures g.R.FeedLeaves.fields g.R.ReadLeaves.ahead g.R.ReadLeaves.is_between c.args.root.now c.args.ext.now c.requires.of_profile c.in-Some.additions c.in-Some.is c.args.index (nodes c.args.frames.now) c.requires.reached.0 (g.R.ReadLeaves.rules.to_units c.args.units.now) c.requires.reached.1)
+
+pub choices::feed_added-offset_bounds-additions-index : goal.choices::feed_added-offset_bounds-additions-index
+choices::feed_added-offset_bounds-additions-index g t c =
+    let few : length c.args.root.now + c.args.index ≤ 63 = few_tags g.R.ReadLeaves.rules c.keep_laws.ensures g.R.FeedLeaves.fields g.R.ReadLeaves.ahead g.R.ReadLeaves.is_between c.args.root.now c.args.ext.now c.requires.of_profile c.in-Some.additions c.in-Some.is c.args.index (nodes c.args.frames.now) c.requires.reached.0 (g.R.ReadLeaves.rules.to_units c.args.units.now) c.requires.reached.1 in
+    omega (arith, few)
+
+pub choices::feed_added-overflow_add-result : goal.choices::feed_added-overflow_add-result
+choices::feed_added-overflow_add-result g t c =
+    let few : length c.args.root.now + c.args.index ≤ 63 = few_tags g.R.ReadLeaves.rules c.keep_laws.ensures g.R.FeedLeaves.fields g.R.ReadLeaves.ahead g.R.ReadLeaves.is_between c.args.root.now c.args.ext.now c.requires.of_profile c.in-Some.additions c.in-Some.is c.args.index (nodes c.args.frames.now) c.requires.reached.0 (g.R.ReadLeaves.rules.to_units c.args.units.now) c.requires.reached.1 in
+    omega (arith, few)
+
+pub choices::feed_added-overflow_cast-result : goal.choices::feed_added-overflow_cast-result
+choices::feed_added-overflow_cast-result g t c =
+    let few : length c.args.root.now + c.args.index ≤ 63 = few_tags g.R.ReadLeaves.rules c.keep_laws.ensures g.R.FeedLeaves.fields g.R.ReadLeaves.ahead g.R.ReadLeaves.is_between c.args.root.now c.args.ext.now c.requires.of_profile c.in-Some.additions c.in-Some.is c.args.index (nodes c.args.frames.now) c.requires.reached.0 (g.R.ReadLeaves.rules.to_units c.args.units.now) c.requires.reached.1 in
+    omega (arith, few)
+
+pub choices::feed_added-feed_open_field-requires : goal.choices::feed_added-feed_open_field-requires
+choices::feed_added-feed_open_field-requires g t c κs within =
+    let inside : c.args.index < length c.as_slice-additions.result.now = rw c.as_slice-additions.ensures.value (addition_inside g.R.ReadLeaves.rules c.keep_laws.ensures g.R.FeedLeaves.fields g.R.ReadLeaves.ahead g.R.ReadLeaves.is_between c.args.root.now c.args.ext.now c.requires.of_profile c.in-Some.additions c.in-Some.is c.args.index (nodes c.args.frames.now) c.requires.reached.0 (g.R.ReadLeaves.rules.to_units c.args.units.now) c.requires.reached.1) in
+    let small = added_type_smaller c.args._ty.now c.requires.parts.alternatives c.args.ext.now c.in-Some.additions c.as_slice-additions.result.now c.args.index c.index-additions-index.result c.requires.parts.is c.in-Some.is c.as_slice-additions.ensures.value inside c.index-additions-index.is in
+    let x = addition_ahead g.R.ReadLeaves.rules c.keep_laws.ensures g.R.FeedLeaves.fields g.R.ReadLeaves.ahead g.R.ReadLeaves.is_between c.args.root.now c.args.ext.now c.requires.of_profile c.in-Some.additions c.in-Some.is c.args.index (nodes c.args.frames.now) c.index-additions-index.result c.requires.reached.0 (g.R.ReadLeaves.rules.to_units c.args.units.now) (rw c.as_slice-additions.ensures.value at c.index-additions-index.is) c.requires.covered c.requires.reached.1 in
+    (search (rules, the_lemmas, small), (within.0, (within.1, (c.requires.at_unit, (x.of_profile, (x.covered, ((x.come, x.took), c.requires.few)))))))
+
+pub choices::feed_added-returns-in-Ok-new-clause-done : goal.choices::feed_added-returns-in-Ok-new-clause-done
+choices::feed_added-returns-in-Ok-new-clause-done g t c =
+    λ all h.
+    let x = addition_ahead g.R.ReadLeaves.rules c.keep_laws.ensures g.R.FeedLeaves.fields g.R.ReadLeaves.ahead g.R.ReadLeaves.is_between c.args.root.now c.args.ext.now c.requires.of_profile c.in-Some.additions c.in-Some.is c.args.index (nodes c.args.frames.now) c.index-additions-index.result all (g.R.ReadLeaves.rules.to_units c.args.units.now) (rw c.as_slice-additions.ensures.value at c.index-additions-index.is) c.requires.covered h in
+    rw (datum_of-Choice (length c.args.root.now + c.args.index) c.in-Ok-new.value, c.in-Ok-new.ensures.ok) (x.leads.done (datum_of c.in-Ok.value) (g.R.ReadLeaves.rules.to_units c.feed_open_field.new.units) (c.in-Ok.ensures.done x.come x.took))
+
+pub choices::feed_added-returns-in-Ok-put-clause-stop : goal.choices::feed_added-returns-in-Ok-put-clause-stop
+choices::feed_added-returns-in-Ok-put-clause-stop g t c =
+    λ all h.
+    let x = addition_ahead g.R.ReadLeaves.rules c.keep_laws.ensures g.R.FeedLeaves.fields g.R.ReadLeaves.ahead g.R.ReadLeaves.is_between c.args.root.now c.args.ext.now c.requires.of_profile c.in-Some.additions c.in-Some.is c.args.index (nodes c.args.frames.now) c.index-additions-index.result all (g.R.ReadLeaves.rules.to_units c.args.units.now) (rw c.as_slice-additions.ensures.value at c.index-additions-index.is) c.requires.covered h in
+    let a : Stops g.R.ReadLeaves.rules.ruling.fielding (OpenOf g.R.ReadLeaves.rules (shape_of c.index-additions-index.result.ty)) (x.come ++ g.R.ReadLeaves.rules.to_units c.args.units.now) stop.Short = rw c.in-Err-Short.field-0-is at (c.in-Err-Short.ensures.stop x.come x.took) in
+    stops_by stop.Short x.leads.stops a
+
+pub choices::feed_added-returns-in-Err-Refused-clause-stop : goal.choices::feed_added-returns-in-Err-Refused-clause-stop
+choices::feed_added-returns-in-Err-Refused-clause-stop g t c =
+    λ all h.
+    let x = addition_ahead g.R.ReadLeaves.rules c.keep_laws.ensures g.R.FeedLeaves.fields g.R.ReadLeaves.ahead g.R.ReadLeaves.is_between c.args.root.now c.args.ext.now c.requires.of_profile c.in-Some.additions c.in-Some.is c.args.index (nodes c.args.frames.now) c.index-additions-index.result all (g.R.ReadLeaves.rules.to_units c.args.units.now) (rw c.as_slice-additions.ensures.value at c.index-additions-index.is) c.requires.covered h in
+    let w = stop.Refused c.in-Err-Refused.left c.in-Err-Refused.why in
+    let a : Stops g.R.ReadLeaves.rules.ruling.fielding (OpenOf g.R.ReadLeaves.rules (shape_of c.index-additions-index.result.ty)) (x.come ++ g.R.ReadLeaves.rules.to_units c.args.units.now) w = rw c.in-Err-Refused.field-0-is at (c.in-Err-Refused.ensures.stop x.come x.took) in
+    rw (c.in-Err-Refused.left-is, c.in-Err-Refused.why-is) (stops_by w x.leads.stops a)
+
+pub choices::feed_added-returns-in-Ok-put-clause-kept : goal.choices::feed_added-returns-in-Ok-put-clause-kept
+choices::feed_added-returns-in-Ok-put-clause-kept g t c =
+    λ all h.
+    let x = addition_ahead g.R.ReadLeaves.rules c.keep_laws.ensures g.R.FeedLeaves.fields g.R.ReadLeaves.ahead g.R.ReadLeaves.is_between c.args.root.now c.args.ext.now c.requires.of_profile c.in-Some.additions c.in-Some.is c.args.index (nodes c.args.frames.now) c.index-additions-index.result all (g.R.ReadLeaves.rules.to_units c.args.units.now) (rw c.as_slice-additions.ensures.value at c.index-additions-index.is) c.requires.covered h in
+    let took : FieldTook g.R.ReadLeaves.rules g.R.FeedLeaves.fields g.R.ReadLeaves.ahead g.R.ReadLeaves.is_between (nodes c.feed_open_field.new.frames) (x.come ++ g.R.ReadLeaves.rules.to_units c.args.units.now) = rw c.in-Err-Short.field-0-is at (c.in-Err-Short.ensures.kept x.come x.took) in
+    rw c.in-Ok-put.ensures (x.kept (nodes c.feed_open_field.new.frames) [] refl took)
+
+-- ---- open type fields
+
+pub open_fields::feed_open_field-returns-in_err-octets-clause-stop : goal.open_fields::feed_open_field-returns-in_err-octets-clause-stop
+open_fields::feed_open_field-returns-in_err-octets-clause-stop g t c =
+    let p = err_from_is_err_and c.from_residual.result c.from_residual.ensures.1 in
+    rw (p.1, p.2) (λ us k. stops_by _ (octets_stop g.R.ReadLeaves.rules c.keep_laws.ensures (shape_of c.args.ty.now) c.requires.of_profile (us ++ g.R.ReadLeaves.rules.to_units c.args.units.now)) (c.in_err-octets.ensures.stop us k))
+
+pub open_fields::feed_open_field-returns-in_err-octets-clause-kept : goal.open_fields::feed_open_field-returns-in_err-octets-clause-kept
+open_fields::feed_open_field-returns-in_err-octets-clause-kept g t c =
+    let p = err_from_is_err_and c.from_residual.result c.from_residual.ensures.1 in
+    rw (p.1, p.2) c.in_err-octets.ensures.kept
+
+pub open_fields::feed_open_field-read_content-requires : goal.open_fields::feed_open_field-read_content-requires
+open_fields::feed_open_field-read_content-requires g t c κs within =
+    (search (rules, the_lemmas), (within.0, (within.1, (c.requires.of_profile, (c.requires.covered, rw c.as_slice.ensures.value (content_of (c.in_ok-octets.ensures.done c.requires.reached.0 c.requires.reached.1)))))))
+
+pub open_fields::feed_open_field-returns-clause-done : goal.open_fields::feed_open_field-returns-clause-done
+open_fields::feed_open_field-returns-clause-done g t c =
+    IfOk-weaker c.read_content.result _ _ (λ v s us k. s (us ++ g.R.ReadLeaves.rules.to_units c.args.units.now) (g.R.ReadLeaves.rules.to_units c.feed_octets.new.units) (rw (← c.as_slice.ensures.value) at (c.in_ok-octets.ensures.done us k))) c.read_content.ensures.done
+
+pub open_fields::feed_open_field-returns-clause-stop : goal.open_fields::feed_open_field-returns-clause-stop
+open_fields::feed_open_field-returns-clause-stop g t c =
+    IfErr-weaker c.read_content.result _ _ (λ why s us k. s (us ++ g.R.ReadLeaves.rules.to_units c.args.units.now) (g.R.ReadLeaves.rules.to_units c.feed_octets.new.units) (rw (← c.as_slice.ensures.value) at (c.in_ok-octets.ensures.done us k)) (ap (λ (xs : List ℕ). length (g.R.ReadLeaves.rules.to_units xs)) (sym c.ahead.ensures) ∙ sym c.units_left-left.ensures)) c.read_content.ensures.stop
+
+pub open_fields::feed_open_field-returns-clause-after : goal.open_fields::feed_open_field-returns-clause-after
+open_fields::feed_open_field-returns-clause-after g t c =
+    IfErr-weaker c.read_content.result _ _ (λ why s. stands_after g.R.ReadLeaves.rules c.feed_octets.new.units c.units_left-left.result why (ap (λ (xs : List ℕ). length (g.R.ReadLeaves.rules.to_units xs)) (sym c.ahead.ensures) ∙ sym c.units_left-left.ensures) s) c.read_content.ensures.after
+
+pub open_fields::feed_open_field-returns-clause-kept : goal.open_fields::feed_open_field-returns-clause-kept
+open_fields::feed_open_field-returns-clause-kept g t c =
+    IfErr-weaker c.read_content.result _ _ (λ why s us k. keeps_none g.R.ReadLeaves.rules g.R.FeedLeaves.fields g.R.ReadLeaves.ahead g.R.ReadLeaves.is_between (nodes c.feed_octets.new.frames) (us ++ g.R.ReadLeaves.rules.to_units c.args.units.now) c.units_left-left.result why s) c.read_content.ensures.after
+
+pub open_fields::read_content-read_complete-requires : goal.open_fields::read_content-read_complete-requires
+open_fields::read_content-read_complete-requires g t c κs within =
+    let os = c.args.octets.now in
+    let held : AreOctets os = c.requires.content.2 in
+    let over : g.R.ReadLeaves.rules.to_units c.over-units.result ≡ g.R.ReadLeaves.rules.ruling.units os = ap g.R.ReadLeaves.rules.to_units c.over-units.ensures ∙ c.keep_laws.ensures.over os held in
+    let many : length (g.R.ReadLeaves.rules.to_units c.over-units.result) ≡ g.R.ReadLeaves.rules.octet_units * length os = ap length over ∙ c.keep_laws.ensures.count os in
+    let fill : length (g.R.ReadLeaves.rules.to_units c.over-units.result) % g.R.ReadLeaves.rules.octet_units ≡ 0 = rw over (units_fill g.R.ReadLeaves.rules c.keep_laws.ensures os) in
+    (search (rules, the_lemmas), (within.0, (within.1, (rw c.over-units.ensures (c.keep_laws.ensures.begin os held), (c.requires.of_profile, (c.requires.covered, (fill, few_units g.R.ReadLeaves.rules c.keep_laws.ensures c.none-ticks.result c.none-ticks.ensures (length (g.R.ReadLeaves.rules.to_units c.over-units.result)) os many c.requires.content.1)))))))
+
+pub open_fields::read_content-returns-in-Ok-clause-done : goal.open_fields::read_content-returns-in-Ok-clause-done
+open_fields::read_content-returns-in-Ok-clause-done g t c =
+    λ us r h.
+    let os = c.args.octets.now in
+    let held : AreOctets os = c.requires.content.2 in
+    let over : g.R.ReadLeaves.rules.to_units c.over-units.result ≡ g.R.ReadLeaves.rules.ruling.units os = ap g.R.ReadLeaves.rules.to_units c.over-units.ensures ∙ c.keep_laws.ensures.over os held in
+    let read = rw over at c.in-Ok.ensures.done in
+    let none : (g.R.ReadLeaves.rules.to_units c.read_complete.new.units) ≡ [] = length_none _ (sym (c.units_left.ensures ∙ ap (λ (xs : List ℕ). length (g.R.ReadLeaves.rules.to_units xs)) c.ahead.ensures) ∙ c.if-units_left-eq0.true) in
+    value_held g.R.ReadLeaves.rules c.keep_laws.ensures (shape_of c.args.ty.now) c.requires.of_profile h read none
+
+pub open_fields::read_content-returns-in-Ok-2-clause-stop : goal.open_fields::read_content-returns-in-Ok-2-clause-stop
+open_fields::read_content-returns-in-Ok-2-clause-stop g t c =
+    λ us r h e.
+    let os = c.args.octets.now in
+    let held : AreOctets os = c.requires.content.2 in
+    let over : g.R.ReadLeaves.rules.to_units c.over-units.result ≡ g.R.ReadLeaves.rules.ruling.units os = ap g.R.ReadLeaves.rules.to_units c.over-units.ensures ∙ c.keep_laws.ensures.over os held in
+    let read = rw over at c.in-Ok-2.ensures.done in
+    let more : (g.R.ReadLeaves.rules.to_units c.read_complete.new.units) ≡ [] → ⊥ = λ z. c.if-units_left-eq0.false (c.units_left.ensures ∙ ap (λ (xs : List ℕ). length (g.R.ReadLeaves.rules.to_units xs)) c.ahead.ensures ∙ ap length z) in
+    rw (sym e) (record { told = more_held g.R.ReadLeaves.rules c.keep_laws.ensures (shape_of c.args.ty.now) c.requires.of_profile h read more })
+
+pub open_fields::read_content-returns-in-Err-Short-clause-stop : goal.open_fields::read_content-returns-in-Err-Short-clause-stop
+open_fields::read_content-returns-in-Err-Short-clause-stop g t c =
+    λ us r h e.
+    let os = c.args.octets.now in
+    let held : AreOctets os = c.requires.content.2 in
+    let over : g.R.ReadLeaves.rules.to_units c.over-units.result ≡ g.R.ReadLeaves.rules.ruling.units os = ap g.R.ReadLeaves.rules.to_units c.over-units.ensures ∙ c.keep_laws.ensures.over os held in
+    let stopped = rw over at c.in-Err-Short.ensures.stop in
+    let told = none_held g.R.ReadLeaves.rules c.keep_laws.ensures (shape_of c.args.ty.now) c.requires.of_profile c.in-Err-Short.field-0 (λ z. cc) h stopped in
+    rw (sym e) (record { told = told })
+
+pub open_fields::read_content-returns-in-Err-Refused-clause-stop : goal.open_fields::read_content-returns-in-Err-Refused-clause-stop
+open_fields::read_content-returns-in-Err-Refused-clause-stop g t c =
+    λ us r h e.
+    let os = c.args.octets.now in
+    let held : AreOctets os = c.requires.content.2 in
+    let over : g.R.ReadLeaves.rules.to_units c.over-units.result ≡ g.R.ReadLeaves.rules.ruling.units os = ap g.R.ReadLeaves.rules.to_units c.over-units.ensures ∙ c.keep_laws.ensures.over os held in
+    let stopped = rw over at c.in-Err-Refused.ensures.stop in
+    let told = none_held g.R.ReadLeaves.rules c.keep_laws.ensures (shape_of c.args.ty.now) c.requires.of_profile c.in-Err-Refused.field-0 (λ z. cc) h stopped in
+    rw (sym e) (record { told = told })
+
+pub open_fields::read_complete-feed-requires : goal.open_fields::read_complete-feed-requires
+open_fields::read_complete-feed-requires g t c κs within =
+    (search (rules, the_lemmas), (within.0, (within.1, (c.requires.at_unit, (c.requires.of_profile, (c.requires.covered, (([], rw c.none-frames.ensures refl), c.requires.few)))))))
+
+pub open_fields::read_complete-returns-in_err-value-clause-stop : goal.open_fields::read_complete-returns-in_err-value-clause-stop
+open_fields::read_complete-returns-in_err-value-clause-stop g t c =
+    let p = err_from_is_err_and c.from_residual.result c.from_residual.ensures.1 in
+    rw (p.1, p.2) (stops_by _ (value_stops g.R.ReadLeaves.rules c.keep_laws.ensures (shape_of c.args.ty.now) c.requires.of_profile (g.R.ReadLeaves.rules.to_units c.args.units.now)) (c.in_err-value.ensures.stop [] (rw c.none-frames.ensures refl)))
+
+pub open_fields::read_complete-read_padding-requires : goal.open_fields::read_complete-read_padding-requires
+open_fields::read_complete-read_padding-requires g t c =
+    let g0 = (c.units_left-given.ensures ∙ ap (λ (xs : List ℕ). length (g.R.ReadLeaves.rules.to_units xs)) c.ahead.ensures) in
+    record { at_unit = rw c.ahead-ahead.ensures c.in_ok-value.ensures.at_unit; more = rw (g0, c.ahead-ahead.ensures) (left_fewer (c.in_ok-value.ensures.done [] (rw c.none-frames.ensures refl))); octets = rw g0 c.requires.octets }
+
+pub open_fields::read_complete-returns-in_err-read_padding-clause-stop : goal.open_fields::read_complete-returns-in_err-read_padding-clause-stop
+open_fields::read_complete-returns-in_err-read_padding-clause-stop g t c =
+    let p = err_from_is_err_and c.from_residual-in_err-read_padding.result c.from_residual-in_err-read_padding.ensures.1 in
+    let lead = fill_leads g.R.ReadLeaves.rules c.keep_laws.ensures (shape_of c.args.ty.now) c.requires.of_profile (datum_of c.in_ok-value.value) (g.R.ReadLeaves.rules.to_units c.args.units.now) (g.R.ReadLeaves.rules.to_units c.feed.new.units) (c.in_ok-value.ensures.done [] (rw c.none-frames.ensures refl)) in
+    rw (p.1, p.2) (stops_by _ lead.stops (rw ((c.units_left-given.ensures ∙ ap (λ (xs : List ℕ). length (g.R.ReadLeaves.rules.to_units xs)) c.ahead.ensures), c.ahead-ahead.ensures) at c.in_err-read_padding.ensures.stop))
+
+pub open_fields::read_complete-take_to-requires : goal.open_fields::read_complete-take_to-requires
+open_fields::read_complete-take_to-requires g t c =
+    record { at_unit = c.in_ok-value.ensures.at_unit; ahead = c.in_ok-read_padding.ensures.at_unit; after = left_fewer (rw ((c.units_left-given.ensures ∙ ap (λ (xs : List ℕ). length (g.R.ReadLeaves.rules.to_units xs)) c.ahead.ensures), c.ahead-ahead.ensures) at c.in_ok-read_padding.ensures.done); few = omega (arith, c.in_ok-value.ensures.ticked, c.requires.few) }
+
+pub open_fields::read_complete-returns-clause-done : goal.open_fields::read_complete-returns-clause-done
+open_fields::read_complete-returns-clause-done g t c =
+    let lead = fill_leads g.R.ReadLeaves.rules c.keep_laws.ensures (shape_of c.args.ty.now) c.requires.of_profile (datum_of c.in_ok-value.value) (g.R.ReadLeaves.rules.to_units c.args.units.now) (g.R.ReadLeaves.rules.to_units c.feed.new.units) (c.in_ok-value.ensures.done [] (rw c.none-frames.ensures refl)) in
+    rw c.take_to.ensures.left (lead.done c.in_ok-read_padding.field-0 (g.R.ReadLeaves.rules.to_units c.read_padding.new.units) (rw ((c.units_left-given.ensures ∙ ap (λ (xs : List ℕ). length (g.R.ReadLeaves.rules.to_units xs)) c.ahead.ensures), c.ahead-ahead.ensures) at c.in_ok-read_padding.ensures.done))

@@ -8,8 +8,8 @@ use Rattle.asn_walk_feed.proofs.+feeder.Given as goal
 
 abbrev pub invariant-lists::feed_elements-loop-alloc : goal.invariant-lists::feed_elements-loop-alloc
 invariant-lists::feed_elements-loop-alloc g l =
-    ((all : List ℕ) → ListGoesOn g.R.ReadLeaves.rules g.R.ReadLeaves.ahead g.R.ReadLeaves.is_between (shape_of l.element) (size_range_of l.size) l.fn.list (nodes l.fn.frames) all (g.R.ReadLeaves.rules.to_units l.fn.units)
-    → ListGoesOn g.R.ReadLeaves.rules g.R.ReadLeaves.ahead g.R.ReadLeaves.is_between (shape_of l.element) (size_range_of l.size) l.list (nodes l.frames) all (g.R.ReadLeaves.rules.to_units l.units))
+    ((all : List ℕ) → ListGoesOn g.R.ReadLeaves.rules g.R.FeedLeaves.fields g.R.ReadLeaves.ahead g.R.ReadLeaves.is_between (shape_of l.element) (size_range_of l.size) l.fn.list (nodes l.fn.frames) all (g.R.ReadLeaves.rules.to_units l.fn.units)
+    → ListGoesOn g.R.ReadLeaves.rules g.R.FeedLeaves.fields g.R.ReadLeaves.ahead g.R.ReadLeaves.is_between (shape_of l.element) (size_range_of l.size) l.list (nodes l.frames) all (g.R.ReadLeaves.rules.to_units l.units))
     × Ticked g.R.ReadLeaves.rules l.fn.units l.fn.ticks l.units l.ticks × g.R.ReadLeaves.rules.at_unit l.units × (l.fn.ticks ≤ l.ticks)
 
 abbrev pub decreases-lists::feed_elements-loop-alloc : goal.decreases-lists::feed_elements-loop-alloc
@@ -17,8 +17,8 @@ decreases-lists::feed_elements-loop-alloc g l = steps_left (g.R.ReadLeaves.ahead
 
 abbrev pub invariant-lists::feed_fragment-loop-list : goal.invariant-lists::feed_fragment-loop-list
 invariant-lists::feed_fragment-loop-list g l =
-    UnderEachSize (shape_of l.element) (λ s. (all : List ℕ) → ListGoesOn g.R.ReadLeaves.rules g.R.ReadLeaves.ahead g.R.ReadLeaves.is_between (shape_of l.element) s l.fn.list (nodes l.fn.frames) all (g.R.ReadLeaves.rules.to_units l.fn.units)
-    → ListGoesOn g.R.ReadLeaves.rules g.R.ReadLeaves.ahead g.R.ReadLeaves.is_between (shape_of l.element) s l.list (nodes l.frames) all (g.R.ReadLeaves.rules.to_units l.units))
+    UnderEachSize (shape_of l.element) (λ s. (all : List ℕ) → ListGoesOn g.R.ReadLeaves.rules g.R.FeedLeaves.fields g.R.ReadLeaves.ahead g.R.ReadLeaves.is_between (shape_of l.element) s l.fn.list (nodes l.fn.frames) all (g.R.ReadLeaves.rules.to_units l.fn.units)
+    → ListGoesOn g.R.ReadLeaves.rules g.R.FeedLeaves.fields g.R.ReadLeaves.ahead g.R.ReadLeaves.is_between (shape_of l.element) s l.list (nodes l.frames) all (g.R.ReadLeaves.rules.to_units l.units))
     × Ticked g.R.ReadLeaves.rules l.fn.units l.fn.ticks l.units l.ticks × g.R.ReadLeaves.rules.at_unit l.units
     × (l.list.fragments ≡ l.fn.list.fragments) × (length (g.R.ReadLeaves.rules.to_units l.units) ≤ length (g.R.ReadLeaves.rules.to_units l.fn.units)) × (l.fn.ticks ≤ l.ticks)
 
@@ -27,8 +27,8 @@ decreases-lists::feed_fragment-loop-list g l = l.list.left
 
 abbrev pub invariant-sequences::feed_components-loop-alloc : goal.invariant-sequences::feed_components-loop-alloc
 invariant-sequences::feed_components-loop-alloc g l =
-    UnderEachMark (fields_seen l.root) (λ more. (all : List ℕ) → RootReached g.R.ReadLeaves.rules g.R.ReadLeaves.ahead g.R.ReadLeaves.is_between (fields_seen l.root) more l.fn.read (nodes l.fn.frames) all (g.R.ReadLeaves.rules.to_units l.fn.units)
-    → RootReached g.R.ReadLeaves.rules g.R.ReadLeaves.ahead g.R.ReadLeaves.is_between (fields_seen l.root) more l.read (nodes l.frames) all (g.R.ReadLeaves.rules.to_units l.units))
+    UnderEachMark (fields_seen l.root) (λ more. (all : List ℕ) → RootReached g.R.ReadLeaves.rules g.R.FeedLeaves.fields g.R.ReadLeaves.ahead g.R.ReadLeaves.is_between (fields_seen l.root) more l.fn.read (nodes l.fn.frames) all (g.R.ReadLeaves.rules.to_units l.fn.units)
+    → RootReached g.R.ReadLeaves.rules g.R.FeedLeaves.fields g.R.ReadLeaves.ahead g.R.ReadLeaves.is_between (fields_seen l.root) more l.read (nodes l.frames) all (g.R.ReadLeaves.rules.to_units l.units))
     × Ticked g.R.ReadLeaves.rules l.fn.units l.fn.ticks l.units l.ticks × g.R.ReadLeaves.rules.at_unit l.units × (l.fn.ticks ≤ l.ticks)
 
 abbrev pub decreases-sequences::feed_components-loop-alloc : goal.decreases-sequences::feed_components-loop-alloc

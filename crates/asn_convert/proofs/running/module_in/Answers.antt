@@ -8,6 +8,6 @@ returns-in_default-clause-refused c = no_text c.args.text.now _ c.in_default.ens
 pub returns-in_ok-line-in-Err : goal.returns-in_ok-line-in-Err
 returns-in_ok-line-in-Err c = record {
   accepted = tt;
-  refused = no_module c.args.text.now c.in-Ok.text.now (string_bytes c.in_ok-words-in-Err.words) (string_bytes c.in_ok-line-in-Err.line) c.in-Ok.ensures.cases.0 c.in-Ok.ensures.cases.1 (c.in-Err.ensures.refused c.in_ok-words-in-Err.ensures) c.in_ok-line-in-Err.ensures.ok;
+  refused = no_module c.args.text.now c.in-Ok.text.now (string_bytes c.in_ok-words-in-Err.words) (string_bytes c.in_ok-line-in-Err.line) c.in-Ok.ensures.cases.0 c.in-Ok.ensures.cases.1 (c.in-Err.ensures.refused c.in_ok-words-in-Err.ensures.told) c.in_ok-words-in-Err.ensures.one_line c.in_ok-line-in-Err.ensures.ok;
   fault = tt;
 }

@@ -1,6 +1,7 @@
 use Rattle.std.proofs.Common.{◌≡◌, [], ◌∷◌, ◌++◌, ap, ◌∙◌}
 use Rattle.std.proofs.lemmas.List.{map-append}
 use Rattle.std.proofs.lemmas.Result.{err_from_is_err_and}
+use Rattle.asn_walk.proofs.Parts.{fields_part_of}
 use Rattle.asn_newer.specs.Reading.{skipped_of, skipped_seen}
 use Rattle.asn_newer.proofs.Walk.Following.{field_skipped, none_skipped}
 use Rattle.asn_newer.proofs.Walk.Halts.{stops_on}
@@ -9,7 +10,7 @@ use Rattle.asn_newer.proofs.skipping.skip_field.Goals as goal
 pub returns-in_err-octets-clause-stop : goal.returns-in_err-octets-clause-stop
 returns-in_err-octets-clause-stop g c =
     let p = err_from_is_err_and c.from_residual.result c.from_residual.ensures.1 in
-    rw (p.1, p.2) (stops_on _ (none_skipped g.R.ReadLeaves.rules c.args.place) c.in_err-octets.ensures.stop)
+    rw (p.1, p.2) (stops_on (fields_part_of g.R.ReadLeaves.rules c.keep_laws.ensures) _ (λ after. none_skipped g.R.ReadLeaves.rules c.args.place) c.in_err-octets.ensures.stop)
 
 pub returns-clause-done : goal.returns-clause-done
 returns-clause-done g c =

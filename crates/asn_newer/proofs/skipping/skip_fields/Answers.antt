@@ -18,7 +18,7 @@ returns-in_err-skip_field-clause-stop g c =
     let l = loose_by g.R.ReadLeaves.rules g.R.OtherVersions.loose in
     let ways = c.keep_walk_laws.ensures.ways in
     let p = err_from_is_err_and c.from_residual.result c.from_residual.ensures.1 in
-    rw (p.1, p.2) (halts_on _ (λ n. unmapped (skips_none l ways (bit_set c.next_present.ensures.bit c.if-next_present.true) n c.loop-next.invariant.0)) c.in_err-skip_field.ensures.stop)
+    rw (p.1, p.2) (halts_on _ (λ after n. unmapped (skips_none l ways (bit_set c.next_present.ensures.bit c.if-next_present.true) c.loop-next.invariant.0 after n)) c.in_err-skip_field.ensures.stop)
 
 pub loop-next-preserved : goal.loop-next-preserved
 loop-next-preserved g c =

@@ -1,13 +1,10 @@
-use Rattle.std.proofs.Common.{◌≡◌, ◌<◌, ◌≤◌, ◌+◌, ◌++◌, ◌∷◌, [], ℕ, List, length, None, Some, true, false, inl, inr, refl, sym, ap, ◌∙◌, subst, arith}
-use Rattle.std.specs.Prelude.{is_some}
-use Rattle.std.proofs.lemmas.Result.{err_from_is_err_and, IfOk-weaker, IfErr-weaker}
+use Rattle.std.proofs.Common.{◌≡◌, ◌∷◌, [], ℕ, List, ap, ◌∙◌, subst}
 use Rattle.asn_rules.specs.Chunks.{open_field}
 use Rattle.asn_rules.specs.Frames.{Frame as FieldOf}
-use Rattle.asn_rules.specs.Languages.{Spells, Short}
 use Rattle.asn_rules.specs.Stops.{Stops}
 use Rattle.asn_rules.specs.declared.stop.Stop.TheVariants as stop
 use Rattle.asn_walk_feed.specs.Nodes.{nodes}
-use Rattle.asn_walk_feed.specs.OpenFields.{OctetsGoOn, FieldTook, KeepsField}
+use Rattle.asn_walk_feed.specs.OpenFields.{OctetsGoOn}
 use Rattle.asn_walk_feed.specs.declared.frame.Frame.{Frame}
 use Rattle.asn_walk_feed.specs.declared.frame.Frame.TheVariants as frame
 use Rattle.asn_walk_feed.proofs.FieldsRead.{octets_took}

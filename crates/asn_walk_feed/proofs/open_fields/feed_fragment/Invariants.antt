@@ -1,4 +1,4 @@
-use Rattle.std.proofs.Common.{◌≡◌, ◌≤◌, ◌+◌, ℕ, List, length}
+use Rattle.std.proofs.Common.{◌≡◌, ◌≤◌, ℕ, List, length}
 use Rattle.asn_walk_feed.specs.Feeding.{Ticked}
 use Rattle.asn_walk_feed.specs.OpenFields.{OctetsGoOn}
 use Rattle.asn_walk_feed.proofs.open_fields.feed_fragment.Given as goal

@@ -1,4 +1,4 @@
-use Rattle.std.proofs.Common.{◌≡◌, ◌≤◌, ◌+◌, ℕ, List, length}
+use Rattle.std.proofs.Common.{◌≤◌, ◌+◌, ℕ, List, length}
 use Rattle.asn_walk.proofs.Listing.{steps_left}
 use Rattle.asn_walk_feed.specs.Feeding.{Ticked}
 use Rattle.asn_walk_feed.specs.OpenFields.{OctetsGoOn}

@@ -7,7 +7,7 @@ use Rattle.asn_newer.specs.Rules.{oer_loose}
 use Rattle.asn_newer.specs.Walking.{UnknownItem}
 use Rattle.asn_oer.specs.Walk.{oer_coding}
 use Rattle.asn_newer.proofs.Walk.Halts.{halts_none}
-use Rattle.asn_newer.proofs.Walk.OerItems.{number_read, no_number, not_above}
+use Rattle.asn_newer.proofs.Walk.OerItems.{number_read, number_halts, not_above}
 use Rattle.asn_newer.proofs.oer_items.OerReadVersions.read_unknown_item.Goals.{else-is_above_each-via-then-is_above_each+else-is_above_each-2, else-is_above_each-via-else-is_above_each}
 use Rattle.asn_newer.proofs.oer_items.OerReadVersions.read_unknown_item.Goals as goal
 
@@ -19,7 +19,7 @@ pub returns-in_err-number-clause-stop : goal.returns-in_err-number-clause-stop
 unfolding oer_coding
 returns-in_err-number-clause-stop c =
     let p = err_from_is_err_and c.from_residual.result c.from_residual.ensures.1 in
-    rw (p.1, p.2) (halts_none oer_coding (UnknownItem oer_loose (labels_seen c.args.root.now) (labels_seen c.args.additions.now)) (packed c.args.units.now) _ (no_number (labels_seen c.args.root.now) (labels_seen c.args.additions.now) (packed c.args.units.now) (c.in_err-number.ensures.none refl)))
+    rw (p.1, p.2) (number_halts (labels_seen c.args.root.now) (labels_seen c.args.additions.now) (packed c.args.units.now) _ c.in_err-number.ensures.none)
 
 pub returns-then-is_above_each-2-clause-at_unit : goal.returns-then-is_above_each-2-clause-at_unit
 unfolding oer_coding

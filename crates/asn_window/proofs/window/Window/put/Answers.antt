@@ -9,10 +9,10 @@ pub returns : goal.returns
 returns g c at taken coming told =
     let k = c.args.k in
     let n = c.args.n in
-    let same = c.put_at.ensures.same in
+    let same = c.put_number.ensures.same in
     record {
       name = told.name;
-      come = c.put_at.ensures.told at.origin.state at.around coming at.origin.all told.come;
+      come = c.put_number.ensures.told at.origin.state at.around coming at.origin.all told.come;
       level = told.level;
       phase = omega (arith, told.phase, length-append taken (bits k n), length-digits 2 k n);
       empty = c.is_still_empty-self.ensures ∙ ap (λ b. b && (k == 0)) told.empty ∙ sym (nil-append taken k n);

@@ -2,7 +2,7 @@ use Rattle.std.proofs.Common.{◌≡◌, ◌++◌, ℕ, List, length}
 use Rattle.asn_bits.specs.Numbers.{unpacked}
 use Rattle.asn_sinks.specs.Sink.{Pushes}
 use Rattle.asn_window.specs.Windows.{WindowStands}
-use Rattle.asn_window.proofs.window.WindowSink.push_octets.Given as goal
+use Rattle.asn_window.proofs.window.Window.put_inside.Given as goal
 
 -- the octets before the rest were taken
 abbrev pub invariant-loop-rest : goal.invariant-loop-rest

@@ -2,7 +2,7 @@ use Rattle.std.proofs.Common.{◌++◌, ℕ, List, length}
 use Rattle.asn_bits.specs.Numbers.{unpacked}
 use Rattle.asn_rules.specs.Held.{Held}
 use Rattle.asn_window.specs.OctetWriters.{OctetsStand}
-use Rattle.asn_window.proofs.octet_writer.OctetWriter.put_octets.Given as goal
+use Rattle.asn_window.proofs.octet_writer.OctetWriter.put_parts.Given as goal
 
 -- the octets before the rest were taken
 abbrev pub invariant-loop-rest : goal.invariant-loop-rest

@@ -1,0 +1,53 @@
+#!/usr/bin/env bash
+# What install.py makes of the program: the words that bash completes, and a manual page that names each command and option.
+#
+# usage: tests/installed.sh PROGRAM
+set -euo pipefail
+top=$(cd "$(dirname "$0")/.." && pwd)
+program=$(realpath "$1")
+folder=$(mktemp -d)
+trap 'rm -rf "$folder"' EXIT
+"$top/install.py" --program "$program" "$folder/at" >/dev/null
+passed=0 failed=0
+
+# fails where the words that complete a line are others
+completes() {
+    local wanted=$1 said
+    shift
+    said=$(cd "$folder" && bash -c 'source at/share/bash-completion/completions/asn_tool
+        COMP_WORDS=(asn_tool "$@") COMP_CWORD=$#; _asn_tool; echo "${COMPREPLY[*]}"' _ "$@")
+    if [ "$said" = "$wanted" ]; then
+        passed=$((passed + 1))
+    else
+        failed=$((failed + 1))
+        printf 'asn_tool %s: completed by %s, and not by %s\n' "$*" "$said" "$wanted"
+    fi
+}
+
+completes 'show' sh
+completes 'encode' enc
+completes 'flatten' fl
+completes '--rules' show --type Msg --ru
+completes 'per oer' show --type Msg --rules ''
+completes 'oer' convert --type Msg --rules o
+completes 'summary text json' flatten --report ''
+completes 'at' show --module a
+completes '--strict' flatten --s
+
+page=$folder/at/share/man/man1/asn_tool.1
+for word in flatten module show check encode convert newer '\-\-type' '\-\-rules' '\-\-module' '\-\-report' '\-\-levels'; do
+    if grep -qF -- "$word" "$page"; then
+        passed=$((passed + 1))
+    else
+        failed=$((failed + 1))
+        printf 'the manual page has no %s\n' "$word"
+    fi
+done
+
+if [ "$("$folder/at/bin/asn_tool" --version)" = "$("$program" --version)" ]; then
+    passed=$((passed + 1))
+else
+    failed=$((failed + 1))
+fi
+echo "$passed passed, $failed failed"
+[ "$failed" = 0 ]

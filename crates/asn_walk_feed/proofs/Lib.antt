@@ -1,3 +1,4 @@
+pub mod AddedRead
 pub mod Bits
 pub mod ChosenRead
 pub mod FieldsRead

@@ -52,13 +52,13 @@ parts_in-fields_of [] = refl
 parts_in-fields_of (p ∷ ps) = ap (λ (qs : List Part). p ∷ qs) (parts_in-fields_of ps)
 
 -- after one more component the others are left
-others_left : (n : ℕ) (ps : List Part) (p : Part) (rest : List Part) → drop n ps ≡ p ∷ rest → drop (n + 1) ps ≡ rest
+pub others_left : (n : ℕ) (ps : List Part) (p : Part) (rest : List Part) → drop n ps ≡ p ∷ rest → drop (n + 1) ps ≡ rest
 others_left n ps p rest e =
     sym (drop-drop 1 n ps) ∙ ap (λ (qs : List Part). drop 1 qs) e
 
 -- ---- presence bits
 
-one_bit : (x y : Bool) → bit_of x ≡ bit_of y → x ≡ y
+pub one_bit : (x y : Bool) → bit_of x ≡ bit_of y → x ≡ y
 one_bit true true e = refl
 one_bit false false e = refl
 one_bit true false e = absurd (omega (arith, e))
@@ -238,30 +238,14 @@ module _ {F : Type 0} (c : Coding) (laws : Laws c) (fc : FieldCoding) (ahead : F
       → Took c fc ahead between fs (sequence root more) us
   sequence_took fs b us e w = rw e w
 
--- ---- without extension additions
+-- ---- the end of the root
 
--- where a SEQUENCE is covered, none can be present
-none_extends : (root : Fields) (more : MoreFields) → IsCovered (sequence root more) → CanExtend (added more) → ⊥
-none_extends root closed cov e = e
-none_extends root (marked no_fields) cov e = e
-none_extends root (marked (field name demand t fs)) cov e = absurd (true≢false cov)
-
--- the extension bit is 0
-not_extended : (b : Bool) → (b ≡ true → ⊥) → b ≡ false
-not_extended true h = absurd (h refl)
-not_extended false h = refl
-
--- and none has an entry
-no_entries : (root : Fields) (more : MoreFields) → IsCovered (sequence root more) → absent_entries (more_fields more) ≡ []
-no_entries root closed cov = refl
-no_entries root (marked no_fields) cov = refl
-no_entries root (marked (field name demand t fs)) cov = absurd (true≢false cov)
-
-module _ {F : Type 0} (c : Coding) (laws : Laws c) (fc : FieldCoding) (ahead : F → Ahead) (between : F → Type 0) (root : Fields) (more : MoreFields) (good : InProfile (sequence root more)) (cov : IsCovered (sequence root more)) where
-  pub root_ends : (q : Components) (fs : List (Frame F)) (all units : List ℕ)
-      → drop (length q.entries.items) (parts_in root) ≡ [] → RootReached c fc ahead between root more q fs all units
-      → Spells c.ruling.fielding (Spelt c.code None (sequence root more)) (components (components_of (entries_seen q.entries.items))) all units
-  root_ends q fs all units e h =
+module _ {F : Type 0} (c : Coding) (laws : Laws c) (fc : FieldCoding) (ahead : F → Ahead) (between : F → Type 0) (root : Fields) (more : MoreFields) (good : InProfile (sequence root more)) where
+  -- its components are read
+  pub root_listed : (q : Components) (fs : List (Frame F)) (all units : List ℕ)
+      → drop (length q.entries.items) (parts_in root) ≡ [] → (h : RootReached c fc ahead between root more q fs all units)
+      → Spells c.ruling.fielding (Listed c.code root (bits (bitmap_length root) q.presence.bitmap)) (entries_seen q.entries.items) h.between units
+  root_listed q fs all units e h =
       let n = bitmap_length root in
       let parts = parts_in root in
       let bitmap = q.presence.bitmap in
@@ -271,10 +255,14 @@ module _ {F : Type 0} (c : Coding) (laws : Laws c) (fc : FieldCoding) (ahead : F
       let read : Spells c.ruling.fielding (Listed c.code (fields_of parts) (bits n bitmap)) vs (h.between ++ []) ((h.come ++ units) ++ []) = after_nothing (read_ends stand e) in
       let one : Spells c.ruling.fielding (Listed c.code root (bits n bitmap)) vs (h.between ++ []) ((h.come ++ units) ++ []) = subst (λ (gs : Fields). Spells c.ruling.fielding (Listed c.code gs (bits n bitmap)) vs (h.between ++ []) ((h.come ++ units) ++ [])) (fields_of-parts_in root) read in
       let two : Spells c.ruling.fielding (Listed c.code root (bits n bitmap)) vs h.between ((h.come ++ units) ++ []) = subst (λ (us : List ℕ). Spells c.ruling.fielding (Listed c.code root (bits n bitmap)) vs us ((h.come ++ units) ++ [])) (append-nil h.between) one in
-      let three : Spells c.ruling.fielding (Listed c.code root (bits n bitmap)) vs h.between units = subst (λ (us : List ℕ). Spells c.ruling.fielding (Listed c.code root (bits n bitmap)) vs h.between us) (append-nil (h.come ++ units) ∙ ap (λ (us : List ℕ). us ++ units) inner.1) two in
-      let done : Spells c.ruling.fielding (Spelt c.code None (sequence root more)) (components (components_of (vs ++ absent_entries (more_fields more)))) all units = none_added c laws root more good (q.extended, bitmap) all h.between h.preamble vs units three (not_extended q.extended (λ x. none_extends root more cov (h.preamble.spelt.fits.1 x))) in
-      let none : vs ++ absent_entries (more_fields more) ≡ vs = ap (λ (es : List (Option Datum)). vs ++ es) (no_entries root more cov) ∙ append-nil vs in
-      subst (λ (es : List (Option Datum)). Spells c.ruling.fielding (Spelt c.code None (sequence root more)) (components (components_of es)) all units) none done
+      subst (λ (us : List ℕ). Spells c.ruling.fielding (Listed c.code root (bits n bitmap)) vs h.between us) (append-nil (h.come ++ units) ∙ ap (λ (us : List ℕ). us ++ units) inner.1) two
+
+  -- no addition is present
+  pub root_ends : (q : Components) (fs : List (Frame F)) (all units : List ℕ)
+      → drop (length q.entries.items) (parts_in root) ≡ [] → q.extended ≡ false → RootReached c fc ahead between root more q fs all units
+      → Spells c.ruling.fielding (Spelt c.code None (sequence root more)) (components (components_of (entries_seen q.entries.items ++ absent_entries (more_fields more)))) all units
+  root_ends q fs all units e x h =
+      none_added c laws root more good (q.extended, q.presence.bitmap) all h.between h.preamble (entries_seen q.entries.items) units (root_listed q fs all units e h) x
 
   pub root_emptied : (q : Components) (fs : List (Frame F)) (all units : List ℕ)
       → drop (length q.entries.items) (parts_in root) ≡ [] → RootReached c fc ahead between root more q fs all units → fs ≡ []
@@ -298,15 +286,23 @@ none_left fields i h =
     ∙ no_part fields i h
 
 -- it is covered where all are
+pub covered_field : (fs : List Field) (i : ℕ) (x : Field) → i < length fs → x ≡ get_or fs i x
+    → some_field is_uncovered (fields_of (map part_of_field fs)) ≡ false → IsCovered (part_of_field x).shape
+covered_field [] i x h e s = absurd (omega (arith, h))
+covered_field (f ∷ fs) zero x h e s = rw e (left_false (somewhere is_uncovered (part_of_field f).shape) (some_field is_uncovered (fields_of (map part_of_field fs))) s)
+covered_field (f ∷ fs) (suc i) x h e s = covered_field fs i x (omega (arith, h)) e (right_false (somewhere is_uncovered (part_of_field f).shape) (some_field is_uncovered (fields_of (map part_of_field fs))) s)
+
 pub covered_at : (fields : List Field) (more : MoreFields) (i : ℕ) (x : Field) → i < length fields → x ≡ get_or fields i x
     → IsCovered (sequence (fields_of (map part_of_field fields)) more) → IsCovered (part_of_field x).shape
-covered_at fields more i x h e s = go fields i h e (left_false (some_field is_uncovered (fields_of (map part_of_field fields))) (some_addition is_uncovered more) (right_false (is_uncovered (sequence (fields_of (map part_of_field fields)) more)) (some_field is_uncovered (fields_of (map part_of_field fields)) || some_addition is_uncovered more) s))
-  where
-    go : (fs : List Field) (i : ℕ) → i < length fs → x ≡ get_or fs i x → some_field is_uncovered (fields_of (map part_of_field fs)) ≡ false
-        → IsCovered (part_of_field x).shape
-    go [] i h e s = absurd (omega (arith, h))
-    go (f ∷ fs) zero h e s = rw e (left_false (somewhere is_uncovered (part_of_field f).shape) (some_field is_uncovered (fields_of (map part_of_field fs))) s)
-    go (f ∷ fs) (suc i) h e s = go fs i (omega (arith, h)) e (right_false (somewhere is_uncovered (part_of_field f).shape) (some_field is_uncovered (fields_of (map part_of_field fs))) s)
+covered_at fields more i x h e s = covered_field fields i x h e (left_false (some_field is_uncovered (fields_of (map part_of_field fields))) (some_addition is_uncovered more) (right_false (is_uncovered (sequence (fields_of (map part_of_field fields)) more)) (some_field is_uncovered (fields_of (map part_of_field fields)) || some_addition is_uncovered more) s))
+
+pub covered_added : (root : Fields) (fields : List Field) (i : ℕ) (x : Field) → i < length fields → x ≡ get_or fields i x
+    → IsCovered (sequence root (marked (fields_of (map part_of_field fields)))) → IsCovered (shape_of x.ty)
+covered_added root fields i x h e s =
+    let more = marked (fields_of (map part_of_field fields)) in
+    let all = right_false (is_uncovered (sequence root more)) (some_field is_uncovered root || some_addition is_uncovered more) s in
+    let added : some_field is_uncovered (fields_of (map part_of_field fields)) ≡ false = right_false (some_field is_uncovered root) (some_addition is_uncovered more) all in
+    subst IsCovered (shape_of_part x) (covered_field fields i x h e added)
 
 -- a component without a DEFAULT
 pub plain_demand : (need : Need) → (need ≡ needs.Must) ⊎ (need ≡ needs.Optional) → (demand_of need ≡ must) ⊎ (demand_of need ≡ optional)

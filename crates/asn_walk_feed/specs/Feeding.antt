@@ -11,7 +11,7 @@ use Rattle.asn_rules.specs.Listed.{Spelt}
 use Rattle.asn_rules.specs.declared.stop.Stop.{Stop}
 use Rattle.asn_rules.specs.declared.stop.Stop.TheVariants as stop
 use Rattle.asn_walk.specs.Ahead.{Ahead, items, lengths, end}
-use Rattle.asn_walk.specs.Coding.{Coding, PreambleOf, AreFew, IndexOf}
+use Rattle.asn_walk.specs.Coding.{Coding, PreambleOf, AdditionBitmapOf, AreFew, IndexOf}
 use Rattle.asn_walk.specs.Laws.{IsSizeOfProfile}
 
 -- ---- parts of few bits
@@ -46,6 +46,7 @@ pub record FeedLaws (c : Coding) : Type 0 where
   pub scalar : (t : Shape) → InProfile t → IsScalar t → IsBrief c (Spelt c.code None t)
   pub other : (d : Datum) (t : Shape) → InProfile t → good_default t d ≡ true → IsBrief c (Spelt c.code (Some d) t)
   pub preamble : (n : ℕ) (more : Option ℕ) → n ≤ 64 → IsBrief c (PreambleOf c n more)
+  pub bitmap : (n : ℕ) → n ≤ 64 → IsBrief c (AdditionBitmapOf c n)
   pub index : (root : ℕ) (more : Option ℕ) → AreFew root more → IsBrief c (IndexOf c root more)
   pub next : (a : Ahead) → IsBrief c (NextOf a)
   pub list_start : (s : SizeRange) → IsSizeOfProfile s → IsBrief c (c.list_start s)

@@ -5,7 +5,7 @@ use Rattle.asn_values.specs.Datum.{Datum}
 use Rattle.asn_values.specs.Profile.{InProfile, somewhere}
 use Rattle.asn_values.specs.declared.value.Value.{Value}
 use Rattle.asn_values.specs.Shape.{SizeRange, Shape, boolean, null, integer, enumerated, sequence, sequence_of, choice, Fields, no_fields, MoreFields, closed, marked, Alternatives, MoreAlternatives, count}
-use Rattle.asn_values.specs.View.{Part, datum_of}
+use Rattle.asn_values.specs.View.{Part, datum_of, entries_seen}
 use Rattle.asn_rules.specs.Languages.{Spells}
 use Rattle.asn_rules.specs.Listed.{Spelt, Entry, bitmap_length}
 use Rattle.asn_rules.specs.Stops.{Stops}
@@ -13,11 +13,13 @@ use Rattle.asn_rules.specs.declared.stop.Stop.{Stop}
 use Rattle.asn_rules.specs.declared.stop.Stop.TheVariants as stop
 use Rattle.asn_walk.specs.Ahead.{Ahead}
 use Rattle.asn_walk.specs.Coding.{Coding, ListingOf, PreambleOf, added, IndexOf, added_alternatives}
+use Rattle.asn_walk_feed.specs.Additions.{BitmapGoesOn, NextAdditionTook, AdditionsGoOn}
 use Rattle.asn_walk_feed.specs.Chosen.{AlternativeTook, ChoiceGoesOn}
 use Rattle.asn_walk_feed.specs.Feeding.{NextOf, Waits}
 use Rattle.asn_walk_feed.specs.Items.{GoesOn, NextPart}
 use Rattle.asn_walk_feed.specs.OpenFields.{FieldCoding, FieldTook}
 use Rattle.asn_walk_feed.specs.Roots.{OtherTook, EntryTook, NextTook, RootGoesOn}
+use Rattle.asn_walk_feed.specs.declared.frame.AdditionBits.{AdditionBits}
 use Rattle.asn_walk_feed.specs.declared.frame.Components.{Components}
 use Rattle.asn_walk_feed.specs.declared.frame.Elements.{Elements}
 use Rattle.asn_walk_feed.specs.declared.frame.Frame.{Frame}
@@ -31,8 +33,7 @@ is_uncovered boolean = false
 is_uncovered null = false
 is_uncovered (integer r) = false
 is_uncovered (enumerated root more) = false
-is_uncovered (sequence root closed) = false
-is_uncovered (sequence root (marked no_fields)) = false
+is_uncovered (sequence root more) = false
 is_uncovered (sequence_of t s) = false
 is_uncovered (choice root more) = false
 is_uncovered _ = true
@@ -64,6 +65,12 @@ Took c fc ahead between (frame.Components q ∷ fs) (sequence root more) us =
     (λ rest come. NextTook c fs (λ t vs. Took c fc ahead between fs t vs) rest q.presence.left q.presence.bitmap come)
     us []
 Took c fc ahead between (frame.Components q ∷ fs) t us = ⊥
+Took c fc ahead between (frame.Bitmap p ∷ fs) (sequence root more) us =
+    (fs ≡ []) × BitmapGoesOn c root more (entries_seen p.entries.items) p.begun us []
+Took c fc ahead between (frame.Bitmap p ∷ fs) t us = ⊥
+Took c fc ahead between (frame.Additions q ∷ fs) (sequence root more) us = AdditionsGoOn c root more q
+    (λ come. NextAdditionTook c fc ahead between fs q.presence.left q.presence.bitmap come) us []
+Took c fc ahead between (frame.Additions q ∷ fs) t us = ⊥
 Took c fc ahead between (frame.Chosen i ∷ fs) (choice root more) us =
     ChoiceGoesOn c root more (inl i) (λ come. AlternativeTook (λ t vs. Took c fc ahead between fs t vs) root i come) us
     []
@@ -302,6 +309,8 @@ IsStart None = ⊤
 IsStart (Some (frame.Start b)) = ⊤
 IsStart (Some (frame.Elements q)) = ⊥
 IsStart (Some (frame.Components q)) = ⊥
+IsStart (Some (frame.Bitmap p)) = ⊥
+IsStart (Some (frame.Additions q)) = ⊥
 IsStart (Some (frame.Chosen i)) = ⊥
 IsStart (Some (frame.Added i)) = ⊥
 IsStart (Some (frame.Octets q)) = ⊥
@@ -312,6 +321,8 @@ begun_of None = []
 begun_of (Some (frame.Start b)) = b
 begun_of (Some (frame.Elements q)) = []
 begun_of (Some (frame.Components q)) = []
+begun_of (Some (frame.Bitmap p)) = []
+begun_of (Some (frame.Additions q)) = []
 begun_of (Some (frame.Chosen i)) = []
 begun_of (Some (frame.Added i)) = []
 begun_of (Some (frame.Octets q)) = []

@@ -73,6 +73,8 @@ pub(crate) fn resume_choice<R: FeedLeaves>(
         None => start_choice::<R>(alloc, _ty, root, ext, Begun::none(), frames, units, ticks),
         Some(Frame::Elements(_list)) => unreachable!(),
         Some(Frame::Components(_read)) => unreachable!(),
+        Some(Frame::Bitmap(_part)) => unreachable!(),
+        Some(Frame::Additions(_read)) => unreachable!(),
         Some(Frame::Octets(_octets)) => unreachable!(),
     }
 }

@@ -5,6 +5,7 @@
 //! `FeedLeaves`.
 #![tactic(auto)]
 
+mod additions;
 mod begun;
 mod choices;
 mod frame;
@@ -17,7 +18,7 @@ mod units;
 mod values;
 
 pub use begun::Begun;
-pub use frame::{Components, Elements, Frame, Frames};
+pub use frame::{AdditionBits, Components, Elements, Frame, Frames};
 pub use leaf::FeedLeaves;
 pub use units::{Ticks, Units};
 pub use values::feed;

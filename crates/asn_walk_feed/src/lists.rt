@@ -67,6 +67,8 @@ pub(crate) fn resume_list<R: FeedLeaves>(
         }
         None => start_list::<R>(alloc, element, size, Begun::none(), frames, units, ticks),
         Some(Frame::Components(_read)) => unreachable!(),
+        Some(Frame::Bitmap(_part)) => unreachable!(),
+        Some(Frame::Additions(_read)) => unreachable!(),
         Some(Frame::Chosen(_)) => unreachable!(),
         Some(Frame::Added(_)) => unreachable!(),
         Some(Frame::Octets(_octets)) => unreachable!(),

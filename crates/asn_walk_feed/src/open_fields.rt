@@ -184,6 +184,8 @@ fn resume_octets<R: FeedLeaves>(
         None => start_octets::<R>(alloc, Begun::none(), frames, units, ticks),
         Some(Frame::Elements(_list)) => unreachable!(),
         Some(Frame::Components(_read)) => unreachable!(),
+        Some(Frame::Bitmap(_part)) => unreachable!(),
+        Some(Frame::Additions(_read)) => unreachable!(),
         Some(Frame::Chosen(_)) => unreachable!(),
         Some(Frame::Added(_)) => unreachable!(),
     }

@@ -5,7 +5,7 @@ ghost use Rattle.asn_values.specs.Datum.{Datum};
 ghost use Rattle.asn_values.specs.Profile.{InProfile, good_default};
 ghost use Rattle.asn_values.specs.View.{shape_of, datum_of, size_range_of};
 ghost use Rattle.asn_walk.specs.Ahead.{Ahead};
-ghost use Rattle.asn_walk.specs.Coding.{PreambleOf, AreFew, IndexOf};
+ghost use Rattle.asn_walk.specs.Coding.{PreambleOf, AdditionBitmapOf, AreFew, IndexOf};
 ghost use Rattle.asn_walk.specs.Laws.{IsSizeOfProfile};
 ghost use Rattle.asn_walk.specs.Reading.{ValuesOf, OthersOf};
 ghost use Rattle.asn_walk.specs.Views.{preamble_seen, index_seen};
@@ -161,6 +161,34 @@ impl<R: FeedLeaves> Leaf<R> for Preambled {
 
     fn read(&self, _alloc: Global, units: &mut BitCursor<'_>) -> Result<Preamble, Stop> {
         R::read_preamble(self.count, self.additions, units)
+    }
+
+    fn be_brief(&self) {
+        R::keep_feed_laws();
+    }
+}
+
+/// The presence bits of this many extension additions of a SEQUENCE, of which one at least is present.
+#[derive(Drop)]
+pub struct AdditionBitmap {
+    pub count: u32,
+}
+
+impl<R: FeedLeaves> Leaf<R> for AdditionBitmap {
+    type Out = u64;
+
+    ghost meant = { ℕ };
+
+    ghost seen = { λ m. m };
+
+    ghost language = { λ s. AdditionBitmapOf R.rules s.count };
+
+    ghost good = { λ s. (0 < s.count) × (s.count ≤ 64) };
+
+    ghost sound = { λ m. ⊤ };
+
+    fn read(&self, _alloc: Global, units: &mut BitCursor<'_>) -> Result<u64, Stop> {
+        R::read_addition_bitmap(self.count, units)
     }
 
     fn be_brief(&self) {

@@ -64,7 +64,7 @@ pub fn feed<R: FeedLeaves>(
         AsnType::Seq { root, ext } => {
             let root = root.as_slice();
             let node = frames.take();
-            resume_sequence::<R>(alloc, root, ext, node, frames, units, ticks)
+            resume_sequence::<R>(alloc, ty, root, ext, node, frames, units, ticks)
         }
         AsnType::Choice { root, ext } => {
             let root = root.as_slice();
@@ -90,6 +90,8 @@ pub(crate) fn begun_of<F: Drop>(node: Option<Frame<F>>) -> Begun
         Some(Frame::Start(begun)) => begun,
         Some(Frame::Elements(_list)) => unreachable!(),
         Some(Frame::Components(_read)) => unreachable!(),
+        Some(Frame::Bitmap(_part)) => unreachable!(),
+        Some(Frame::Additions(_read)) => unreachable!(),
         Some(Frame::Chosen(_)) => unreachable!(),
         Some(Frame::Added(_)) => unreachable!(),
         Some(Frame::Octets(_octets)) => unreachable!(),

@@ -50,7 +50,14 @@ use Rattle.asn_walk.proofs.OpenRead.{octets_stop, content_of, value_held, more_h
 use Rattle.asn_walk_feed.specs.OpenFields.{FieldTook}
 use Rattle.asn_walk_feed.proofs.ChosenRead.{addition_starts, no_addition, addition_inside, few_tags, addition_ahead, addition_goes_on, took_added}
 use Rattle.asn_walk_feed.proofs.FieldsRead.{stands_after, keeps_none, few_units}
-use Rattle.asn_walk_feed.proofs.Sizes.{root_smaller, added_type_smaller}
+use Rattle.asn_walk.specs.Coding.{AdditionBitmapOf}
+use Rattle.asn_walk.proofs.Parts.{few_added, marked_fields}
+use Rattle.asn_values.specs.View.{entries_seen}
+use Rattle.asn_walk_feed.specs.Additions.{marked_seen}
+use Rattle.asn_walk_feed.specs.AddedTaken.{AdditionsReached}
+use Rattle.asn_walk_feed.proofs.RootsRead.{covered_added}
+use Rattle.asn_walk_feed.proofs.AddedRead.{some_present, bitmap_stops, bitmap_kept, additions_start, next_addition, left_within, additions_end, additions_emptied, bitmap_goes_on, additions_go_on, took_bitmap, bitmap_took, took_additions, bitmap_starts, no_mark}
+use Rattle.asn_walk_feed.proofs.Sizes.{root_smaller, added_type_smaller, components_smaller, additions_smaller}
 use Rattle.asn_walk_feed.proofs.+feeder.Goals as goal
 
 -- ---- the elements of a list
@@ -286,25 +293,25 @@ lists::resume_list-returns-in-Some-Start-clause-stop g t c =
 
 pub sequences::resume_sequence-start_sequence-requires-in-None : goal.sequences::resume_sequence-start_sequence-requires-in-None
 sequences::resume_sequence-start_sequence-requires-in-None g t c κs within =
-    (search (rules, the_lemmas), (within.0, (within.1, (c.requires.at_unit, (c.requires.of_profile, (c.requires.covered, (c.requires.short, (c.requires.last (ap is_some c.in-None.is), (record { come = refl; at_unit = rw c.none.ensures c.keep_feed_laws.ensures.begin; begins = inl c.none.ensures }, c.requires.few)))))))))
+    (search (rules, the_lemmas), (within.0, (within.1, (c.requires.at_unit, (c.requires.of_profile, (c.requires.covered, (c.requires.parts, (c.requires.short, (c.requires.last (ap is_some c.in-None.is), (record { come = refl; at_unit = rw c.none.ensures c.keep_feed_laws.ensures.begin; begins = inl c.none.ensures }, c.requires.few))))))))))
 
 pub sequences::resume_sequence-feed_sequence-requires : goal.sequences::resume_sequence-feed_sequence-requires
 sequences::resume_sequence-feed_sequence-requires g t c κs within =
     let us = c.requires.reached.0 in
     let k = took_components g.R.ReadLeaves.rules c.keep_laws.ensures g.R.FeedLeaves.fields g.R.ReadLeaves.ahead g.R.ReadLeaves.is_between (fields_seen c.args.root.now) (more_fields_of c.args.ext.now) c.requires.of_profile c.args.node c.in-Some-Components.field-0 c.in-Some-Components.read (nodes c.args.frames.now) us c.in-Some-Components.is c.in-Some-Components.field-0-is c.requires.reached.1 in
-    (search (rules, the_lemmas), (within.0, (within.1, (c.requires.at_unit, (((more_fields_of c.args.ext.now), c.requires.of_profile, c.requires.covered, us ++ g.R.ReadLeaves.rules.to_units c.args.units.now, (root_goes_on g.R.ReadLeaves.rules c.keep_laws.ensures g.R.FeedLeaves.fields g.R.ReadLeaves.ahead g.R.ReadLeaves.is_between (fields_seen c.args.root.now) (more_fields_of c.args.ext.now) c.requires.of_profile c.in-Some-Components.read (nodes c.args.frames.now) us (g.R.ReadLeaves.rules.to_units c.args.units.now) k)), c.requires.few)))))
+    (search (rules, the_lemmas), (within.0, (within.1, (c.requires.at_unit, (c.requires.of_profile, (c.requires.covered, (c.requires.parts, ((us ++ g.R.ReadLeaves.rules.to_units c.args.units.now, (root_goes_on g.R.ReadLeaves.rules c.keep_laws.ensures g.R.FeedLeaves.fields g.R.ReadLeaves.ahead g.R.ReadLeaves.is_between (fields_seen c.args.root.now) (more_fields_of c.args.ext.now) c.requires.of_profile c.in-Some-Components.read (nodes c.args.frames.now) us (g.R.ReadLeaves.rules.to_units c.args.units.now) k)), c.requires.few))))))))
 
 pub sequences::resume_sequence-returns-in-Some-Components-clause-done : goal.sequences::resume_sequence-returns-in-Some-Components-clause-done
 sequences::resume_sequence-returns-in-Some-Components-clause-done g t c =
-    IfOk-weaker c.feed_sequence.result _ _ (λ v s us k. s (more_fields_of c.args.ext.now) c.requires.of_profile c.requires.covered (us ++ g.R.ReadLeaves.rules.to_units c.args.units.now) (root_goes_on g.R.ReadLeaves.rules c.keep_laws.ensures g.R.FeedLeaves.fields g.R.ReadLeaves.ahead g.R.ReadLeaves.is_between (fields_seen c.args.root.now) (more_fields_of c.args.ext.now) c.requires.of_profile c.in-Some-Components.read (nodes c.args.frames.now) us (g.R.ReadLeaves.rules.to_units c.args.units.now) (took_components g.R.ReadLeaves.rules c.keep_laws.ensures g.R.FeedLeaves.fields g.R.ReadLeaves.ahead g.R.ReadLeaves.is_between (fields_seen c.args.root.now) (more_fields_of c.args.ext.now) c.requires.of_profile c.args.node c.in-Some-Components.field-0 c.in-Some-Components.read (nodes c.args.frames.now) us c.in-Some-Components.is c.in-Some-Components.field-0-is k))) c.feed_sequence.ensures.done
+    IfOk-weaker c.feed_sequence.result _ _ (λ v s us k. s (us ++ g.R.ReadLeaves.rules.to_units c.args.units.now) (root_goes_on g.R.ReadLeaves.rules c.keep_laws.ensures g.R.FeedLeaves.fields g.R.ReadLeaves.ahead g.R.ReadLeaves.is_between (fields_seen c.args.root.now) (more_fields_of c.args.ext.now) c.requires.of_profile c.in-Some-Components.read (nodes c.args.frames.now) us (g.R.ReadLeaves.rules.to_units c.args.units.now) (took_components g.R.ReadLeaves.rules c.keep_laws.ensures g.R.FeedLeaves.fields g.R.ReadLeaves.ahead g.R.ReadLeaves.is_between (fields_seen c.args.root.now) (more_fields_of c.args.ext.now) c.requires.of_profile c.args.node c.in-Some-Components.field-0 c.in-Some-Components.read (nodes c.args.frames.now) us c.in-Some-Components.is c.in-Some-Components.field-0-is k))) c.feed_sequence.ensures.done
 
 pub sequences::resume_sequence-returns-in-Some-Components-clause-stop : goal.sequences::resume_sequence-returns-in-Some-Components-clause-stop
 sequences::resume_sequence-returns-in-Some-Components-clause-stop g t c =
-    IfErr-weaker c.feed_sequence.result _ _ (λ why s us k. s (more_fields_of c.args.ext.now) c.requires.of_profile c.requires.covered (us ++ g.R.ReadLeaves.rules.to_units c.args.units.now) (root_goes_on g.R.ReadLeaves.rules c.keep_laws.ensures g.R.FeedLeaves.fields g.R.ReadLeaves.ahead g.R.ReadLeaves.is_between (fields_seen c.args.root.now) (more_fields_of c.args.ext.now) c.requires.of_profile c.in-Some-Components.read (nodes c.args.frames.now) us (g.R.ReadLeaves.rules.to_units c.args.units.now) (took_components g.R.ReadLeaves.rules c.keep_laws.ensures g.R.FeedLeaves.fields g.R.ReadLeaves.ahead g.R.ReadLeaves.is_between (fields_seen c.args.root.now) (more_fields_of c.args.ext.now) c.requires.of_profile c.args.node c.in-Some-Components.field-0 c.in-Some-Components.read (nodes c.args.frames.now) us c.in-Some-Components.is c.in-Some-Components.field-0-is k))) c.feed_sequence.ensures.stop
+    IfErr-weaker c.feed_sequence.result _ _ (λ why s us k. s (us ++ g.R.ReadLeaves.rules.to_units c.args.units.now) (root_goes_on g.R.ReadLeaves.rules c.keep_laws.ensures g.R.FeedLeaves.fields g.R.ReadLeaves.ahead g.R.ReadLeaves.is_between (fields_seen c.args.root.now) (more_fields_of c.args.ext.now) c.requires.of_profile c.in-Some-Components.read (nodes c.args.frames.now) us (g.R.ReadLeaves.rules.to_units c.args.units.now) (took_components g.R.ReadLeaves.rules c.keep_laws.ensures g.R.FeedLeaves.fields g.R.ReadLeaves.ahead g.R.ReadLeaves.is_between (fields_seen c.args.root.now) (more_fields_of c.args.ext.now) c.requires.of_profile c.args.node c.in-Some-Components.field-0 c.in-Some-Components.read (nodes c.args.frames.now) us c.in-Some-Components.is c.in-Some-Components.field-0-is k))) c.feed_sequence.ensures.stop
 
 pub sequences::resume_sequence-returns-in-Some-Components-clause-kept : goal.sequences::resume_sequence-returns-in-Some-Components-clause-kept
 sequences::resume_sequence-returns-in-Some-Components-clause-kept g t c =
-    IfErr-weaker c.feed_sequence.result _ _ (λ why s us k. s (more_fields_of c.args.ext.now) c.requires.of_profile c.requires.covered (us ++ g.R.ReadLeaves.rules.to_units c.args.units.now) (root_goes_on g.R.ReadLeaves.rules c.keep_laws.ensures g.R.FeedLeaves.fields g.R.ReadLeaves.ahead g.R.ReadLeaves.is_between (fields_seen c.args.root.now) (more_fields_of c.args.ext.now) c.requires.of_profile c.in-Some-Components.read (nodes c.args.frames.now) us (g.R.ReadLeaves.rules.to_units c.args.units.now) (took_components g.R.ReadLeaves.rules c.keep_laws.ensures g.R.FeedLeaves.fields g.R.ReadLeaves.ahead g.R.ReadLeaves.is_between (fields_seen c.args.root.now) (more_fields_of c.args.ext.now) c.requires.of_profile c.args.node c.in-Some-Components.field-0 c.in-Some-Components.read (nodes c.args.frames.now) us c.in-Some-Components.is c.in-Some-Components.field-0-is k))) c.feed_sequence.ensures.kept
+    IfErr-weaker c.feed_sequence.result _ _ (λ why s us k. s (us ++ g.R.ReadLeaves.rules.to_units c.args.units.now) (root_goes_on g.R.ReadLeaves.rules c.keep_laws.ensures g.R.FeedLeaves.fields g.R.ReadLeaves.ahead g.R.ReadLeaves.is_between (fields_seen c.args.root.now) (more_fields_of c.args.ext.now) c.requires.of_profile c.in-Some-Components.read (nodes c.args.frames.now) us (g.R.ReadLeaves.rules.to_units c.args.units.now) (took_components g.R.ReadLeaves.rules c.keep_laws.ensures g.R.FeedLeaves.fields g.R.ReadLeaves.ahead g.R.ReadLeaves.is_between (fields_seen c.args.root.now) (more_fields_of c.args.ext.now) c.requires.of_profile c.args.node c.in-Some-Components.field-0 c.in-Some-Components.read (nodes c.args.frames.now) us c.in-Some-Components.is c.in-Some-Components.field-0-is k))) c.feed_sequence.ensures.kept
 
 pub sequences::resume_sequence-returns-in-None-clause-done : goal.sequences::resume_sequence-returns-in-None-clause-done
 sequences::resume_sequence-returns-in-None-clause-done g t c =
@@ -334,23 +341,23 @@ pub sequences::resume_sequence-start_sequence-requires : goal.sequences::resume_
 sequences::resume_sequence-start_sequence-requires g t c κs within =
     let us = c.requires.reached.0 in
     let w = sequence_start g.R.ReadLeaves.rules c.keep_laws.ensures g.R.FeedLeaves.fields g.R.ReadLeaves.ahead g.R.ReadLeaves.is_between (fields_seen c.args.root.now) (more_fields_of c.args.ext.now) c.requires.of_profile c.args.node c.in-Some-Start.field-0 c.in-Some-Start.begun (nodes c.args.frames.now) us c.in-Some-Start.is c.in-Some-Start.field-0-is c.requires.reached.1 in
-    (search (rules, the_lemmas), (within.0, (within.1, (c.requires.at_unit, (c.requires.of_profile, (c.requires.covered, (c.requires.short, (w.0, (record { come = refl; at_unit = w.1.at_unit; begins = w.1.begins }, c.requires.few)))))))))
+    (search (rules, the_lemmas), (within.0, (within.1, (c.requires.at_unit, (c.requires.of_profile, (c.requires.covered, (c.requires.parts, (c.requires.short, (w.0, (record { come = refl; at_unit = w.1.at_unit; begins = w.1.begins }, c.requires.few))))))))))
 
 pub sequences::start_sequence-feed_sequence-requires : goal.sequences::start_sequence-feed_sequence-requires
 sequences::start_sequence-feed_sequence-requires g t c κs within =
-    (search (rules, the_lemmas), (within.0, (within.1, (c.in-Ok.ensures.at_unit, (((more_fields_of c.args.ext.now), c.requires.of_profile, c.requires.covered, (g.R.ReadLeaves.rules.to_units c.args.begun ++ g.R.ReadLeaves.rules.to_units c.args.units.now), (root_starts g.R.ReadLeaves.rules c.keep_laws.ensures g.R.FeedLeaves.fields g.R.ReadLeaves.ahead g.R.ReadLeaves.is_between (fields_seen c.args.root.now) (more_fields_of c.args.ext.now) c.requires.of_profile _ (nodes c.args.frames.now) (g.R.ReadLeaves.rules.to_units c.args.begun ++ g.R.ReadLeaves.rules.to_units c.args.units.now) (g.R.ReadLeaves.rules.to_units c.feed_leaf.new.units) (rw (c.bitmap_width-width.ensures.count, c.addition_count.ensures, ← added_count c.args.ext.now) at c.in-Ok.ensures.done) c.bitmap_width-width.ensures.count (rw c.bitmap_width-width.ensures.count at c.bitmap_width-width.ensures.few) c.new.ensures.items c.requires.empty)), omega (arith, c.in-Ok.ensures.ticked, c.requires.few))))))
+    (search (rules, the_lemmas), (within.0, (within.1, (c.in-Ok.ensures.at_unit, (c.requires.of_profile, (c.requires.covered, (c.requires.parts, (((g.R.ReadLeaves.rules.to_units c.args.begun ++ g.R.ReadLeaves.rules.to_units c.args.units.now), (root_starts g.R.ReadLeaves.rules c.keep_laws.ensures g.R.FeedLeaves.fields g.R.ReadLeaves.ahead g.R.ReadLeaves.is_between (fields_seen c.args.root.now) (more_fields_of c.args.ext.now) c.requires.of_profile _ (nodes c.args.frames.now) (g.R.ReadLeaves.rules.to_units c.args.begun ++ g.R.ReadLeaves.rules.to_units c.args.units.now) (g.R.ReadLeaves.rules.to_units c.feed_leaf.new.units) (rw (c.bitmap_width-width.ensures.count, c.addition_count.ensures, ← added_count c.args.ext.now) at c.in-Ok.ensures.done) c.bitmap_width-width.ensures.count (rw c.bitmap_width-width.ensures.count at c.bitmap_width-width.ensures.few) c.new.ensures.items c.requires.empty)), omega (arith, c.in-Ok.ensures.ticked, c.requires.few)))))))))
 
 pub sequences::start_sequence-returns-in-Ok-clause-done : goal.sequences::start_sequence-returns-in-Ok-clause-done
 sequences::start_sequence-returns-in-Ok-clause-done g t c =
-    IfOk-weaker c.feed_sequence.result _ _ (λ v s. s (more_fields_of c.args.ext.now) c.requires.of_profile c.requires.covered (g.R.ReadLeaves.rules.to_units c.args.begun ++ g.R.ReadLeaves.rules.to_units c.args.units.now) (root_starts g.R.ReadLeaves.rules c.keep_laws.ensures g.R.FeedLeaves.fields g.R.ReadLeaves.ahead g.R.ReadLeaves.is_between (fields_seen c.args.root.now) (more_fields_of c.args.ext.now) c.requires.of_profile _ (nodes c.args.frames.now) (g.R.ReadLeaves.rules.to_units c.args.begun ++ g.R.ReadLeaves.rules.to_units c.args.units.now) (g.R.ReadLeaves.rules.to_units c.feed_leaf.new.units) (rw (c.bitmap_width-width.ensures.count, c.addition_count.ensures, ← added_count c.args.ext.now) at c.in-Ok.ensures.done) c.bitmap_width-width.ensures.count (rw c.bitmap_width-width.ensures.count at c.bitmap_width-width.ensures.few) c.new.ensures.items c.requires.empty)) c.feed_sequence.ensures.done
+    IfOk-weaker c.feed_sequence.result _ _ (λ v s. s (g.R.ReadLeaves.rules.to_units c.args.begun ++ g.R.ReadLeaves.rules.to_units c.args.units.now) (root_starts g.R.ReadLeaves.rules c.keep_laws.ensures g.R.FeedLeaves.fields g.R.ReadLeaves.ahead g.R.ReadLeaves.is_between (fields_seen c.args.root.now) (more_fields_of c.args.ext.now) c.requires.of_profile _ (nodes c.args.frames.now) (g.R.ReadLeaves.rules.to_units c.args.begun ++ g.R.ReadLeaves.rules.to_units c.args.units.now) (g.R.ReadLeaves.rules.to_units c.feed_leaf.new.units) (rw (c.bitmap_width-width.ensures.count, c.addition_count.ensures, ← added_count c.args.ext.now) at c.in-Ok.ensures.done) c.bitmap_width-width.ensures.count (rw c.bitmap_width-width.ensures.count at c.bitmap_width-width.ensures.few) c.new.ensures.items c.requires.empty)) c.feed_sequence.ensures.done
 
 pub sequences::start_sequence-returns-in-Ok-clause-stop : goal.sequences::start_sequence-returns-in-Ok-clause-stop
 sequences::start_sequence-returns-in-Ok-clause-stop g t c =
-    IfErr-weaker c.feed_sequence.result _ _ (λ why s. s (more_fields_of c.args.ext.now) c.requires.of_profile c.requires.covered (g.R.ReadLeaves.rules.to_units c.args.begun ++ g.R.ReadLeaves.rules.to_units c.args.units.now) (root_starts g.R.ReadLeaves.rules c.keep_laws.ensures g.R.FeedLeaves.fields g.R.ReadLeaves.ahead g.R.ReadLeaves.is_between (fields_seen c.args.root.now) (more_fields_of c.args.ext.now) c.requires.of_profile _ (nodes c.args.frames.now) (g.R.ReadLeaves.rules.to_units c.args.begun ++ g.R.ReadLeaves.rules.to_units c.args.units.now) (g.R.ReadLeaves.rules.to_units c.feed_leaf.new.units) (rw (c.bitmap_width-width.ensures.count, c.addition_count.ensures, ← added_count c.args.ext.now) at c.in-Ok.ensures.done) c.bitmap_width-width.ensures.count (rw c.bitmap_width-width.ensures.count at c.bitmap_width-width.ensures.few) c.new.ensures.items c.requires.empty)) c.feed_sequence.ensures.stop
+    IfErr-weaker c.feed_sequence.result _ _ (λ why s. s (g.R.ReadLeaves.rules.to_units c.args.begun ++ g.R.ReadLeaves.rules.to_units c.args.units.now) (root_starts g.R.ReadLeaves.rules c.keep_laws.ensures g.R.FeedLeaves.fields g.R.ReadLeaves.ahead g.R.ReadLeaves.is_between (fields_seen c.args.root.now) (more_fields_of c.args.ext.now) c.requires.of_profile _ (nodes c.args.frames.now) (g.R.ReadLeaves.rules.to_units c.args.begun ++ g.R.ReadLeaves.rules.to_units c.args.units.now) (g.R.ReadLeaves.rules.to_units c.feed_leaf.new.units) (rw (c.bitmap_width-width.ensures.count, c.addition_count.ensures, ← added_count c.args.ext.now) at c.in-Ok.ensures.done) c.bitmap_width-width.ensures.count (rw c.bitmap_width-width.ensures.count at c.bitmap_width-width.ensures.few) c.new.ensures.items c.requires.empty)) c.feed_sequence.ensures.stop
 
 pub sequences::start_sequence-returns-in-Ok-clause-kept : goal.sequences::start_sequence-returns-in-Ok-clause-kept
 sequences::start_sequence-returns-in-Ok-clause-kept g t c =
-    IfErr-weaker c.feed_sequence.result _ _ (λ why s. s (more_fields_of c.args.ext.now) c.requires.of_profile c.requires.covered (g.R.ReadLeaves.rules.to_units c.args.begun ++ g.R.ReadLeaves.rules.to_units c.args.units.now) (root_starts g.R.ReadLeaves.rules c.keep_laws.ensures g.R.FeedLeaves.fields g.R.ReadLeaves.ahead g.R.ReadLeaves.is_between (fields_seen c.args.root.now) (more_fields_of c.args.ext.now) c.requires.of_profile _ (nodes c.args.frames.now) (g.R.ReadLeaves.rules.to_units c.args.begun ++ g.R.ReadLeaves.rules.to_units c.args.units.now) (g.R.ReadLeaves.rules.to_units c.feed_leaf.new.units) (rw (c.bitmap_width-width.ensures.count, c.addition_count.ensures, ← added_count c.args.ext.now) at c.in-Ok.ensures.done) c.bitmap_width-width.ensures.count (rw c.bitmap_width-width.ensures.count at c.bitmap_width-width.ensures.few) c.new.ensures.items c.requires.empty)) c.feed_sequence.ensures.kept
+    IfErr-weaker c.feed_sequence.result _ _ (λ why s. s (g.R.ReadLeaves.rules.to_units c.args.begun ++ g.R.ReadLeaves.rules.to_units c.args.units.now) (root_starts g.R.ReadLeaves.rules c.keep_laws.ensures g.R.FeedLeaves.fields g.R.ReadLeaves.ahead g.R.ReadLeaves.is_between (fields_seen c.args.root.now) (more_fields_of c.args.ext.now) c.requires.of_profile _ (nodes c.args.frames.now) (g.R.ReadLeaves.rules.to_units c.args.begun ++ g.R.ReadLeaves.rules.to_units c.args.units.now) (g.R.ReadLeaves.rules.to_units c.feed_leaf.new.units) (rw (c.bitmap_width-width.ensures.count, c.addition_count.ensures, ← added_count c.args.ext.now) at c.in-Ok.ensures.done) c.bitmap_width-width.ensures.count (rw c.bitmap_width-width.ensures.count at c.bitmap_width-width.ensures.few) c.new.ensures.items c.requires.empty)) c.feed_sequence.ensures.kept
 
 pub sequences::start_sequence-feed_leaf-requires-clause-begins : goal.sequences::start_sequence-feed_leaf-requires-clause-begins
 sequences::start_sequence-feed_leaf-requires-clause-begins g t c =
@@ -378,38 +385,26 @@ sequences::start_sequence-returns-in-Err-Refused-clause-stop g t c =
 
 pub sequences::feed_sequence-returns-in-Ok-clause-done : goal.sequences::feed_sequence-returns-in-Ok-clause-done
 sequences::feed_sequence-returns-in-Ok-clause-done g t c =
-    λ more good cov all h.
-    let es = c.feed_components.new.read.entries in
-    let over = none_left c.args.root.now (length es.items) c.in-Ok.ensures.over in
-    rw (datum_of-Seq es) (root_ends g.R.ReadLeaves.rules c.keep_laws.ensures g.R.FeedLeaves.fields g.R.ReadLeaves.ahead g.R.ReadLeaves.is_between (fields_seen c.args.root.now) more good cov c.feed_components.new.read (nodes c.feed_components.new.frames) all (g.R.ReadLeaves.rules.to_units c.feed_components.new.units) over (c.in-Ok.ensures.done more good cov all h))
-
-pub sequences::feed_sequence-returns-in-Ok-clause-emptied : goal.sequences::feed_sequence-returns-in-Ok-clause-emptied
-sequences::feed_sequence-returns-in-Ok-clause-emptied g t c =
-    let more = c.requires.reached.0 in
-    let good = c.requires.reached.1 in
-    let cov = c.requires.reached.2 in
-    let es = c.feed_components.new.read.entries in
-    let over = none_left c.args.root.now (length es.items) c.in-Ok.ensures.over in
-    root_emptied g.R.ReadLeaves.rules c.keep_laws.ensures g.R.FeedLeaves.fields g.R.ReadLeaves.ahead g.R.ReadLeaves.is_between (fields_seen c.args.root.now) more good cov c.feed_components.new.read (nodes c.feed_components.new.frames) c.requires.reached.3 (g.R.ReadLeaves.rules.to_units c.feed_components.new.units) over (c.in-Ok.ensures.done more good cov c.requires.reached.3 c.requires.reached.4)
+    IfOk-weaker c.end_sequence.result _ _ (λ v s all h. s all (c.in-Ok.ensures.done (more_fields_of c.args.ext.now) c.requires.of_profile c.requires.covered all h)) c.end_sequence.ensures.done
 
 pub sequences::feed_sequence-returns-in-Ok-put-clause-stop : goal.sequences::feed_sequence-returns-in-Ok-put-clause-stop
 sequences::feed_sequence-returns-in-Ok-put-clause-stop g t c =
-    λ more good cov all h.
-    let a : Stops g.R.ReadLeaves.rules.ruling.fielding (ValuesOf g.R.ReadLeaves.rules (sequence (fields_seen c.args.root.now) more)) all stop.Short = rw c.in-Err-Short.field-0-is at (c.in-Err-Short.ensures.stop more good cov all h) in
+    λ all h.
+    let a : Stops g.R.ReadLeaves.rules.ruling.fielding (ValuesOf g.R.ReadLeaves.rules (sequence (fields_seen c.args.root.now) (more_fields_of c.args.ext.now))) all stop.Short = rw c.in-Err-Short.field-0-is at (c.in-Err-Short.ensures.stop (more_fields_of c.args.ext.now) c.requires.of_profile c.requires.covered all h) in
     a
 
 pub sequences::feed_sequence-returns-in-Err-Refused-clause-stop : goal.sequences::feed_sequence-returns-in-Err-Refused-clause-stop
 sequences::feed_sequence-returns-in-Err-Refused-clause-stop g t c =
-    λ more good cov all h.
-    let a : Stops g.R.ReadLeaves.rules.ruling.fielding (ValuesOf g.R.ReadLeaves.rules (sequence (fields_seen c.args.root.now) more)) all (stop.Refused c.in-Err-Refused.left c.in-Err-Refused.why) = rw c.in-Err-Refused.field-0-is at (c.in-Err-Refused.ensures.stop more good cov all h) in
+    λ all h.
+    let a : Stops g.R.ReadLeaves.rules.ruling.fielding (ValuesOf g.R.ReadLeaves.rules (sequence (fields_seen c.args.root.now) (more_fields_of c.args.ext.now))) all (stop.Refused c.in-Err-Refused.left c.in-Err-Refused.why) = rw c.in-Err-Refused.field-0-is at (c.in-Err-Refused.ensures.stop (more_fields_of c.args.ext.now) c.requires.of_profile c.requires.covered all h) in
     rw (c.in-Err-Refused.left-is, c.in-Err-Refused.why-is) a
 
 pub sequences::feed_sequence-returns-in-Ok-put-clause-kept : goal.sequences::feed_sequence-returns-in-Ok-put-clause-kept
 sequences::feed_sequence-returns-in-Ok-put-clause-kept g t c =
-    λ more good cov all h.
+    λ all h.
     let none : g.R.ReadLeaves.rules.to_units c.feed_components.new.units ≡ [] = rw c.in-Err-Short.field-0-is at c.in-Err-Short.ensures.after in
-    let kept : RootReached g.R.ReadLeaves.rules g.R.FeedLeaves.fields g.R.ReadLeaves.ahead g.R.ReadLeaves.is_between (fields_seen c.args.root.now) more c.feed_components.new.read (nodes c.feed_components.new.frames) all (g.R.ReadLeaves.rules.to_units c.feed_components.new.units) = c.feed_components.ensures.kept (cc (c.in-Err-Short.is, c.in-Err-Short.field-0-is)) more good cov all h in
-    rw c.in-Ok-put.ensures (subst (λ (xs : List ℕ). RootReached g.R.ReadLeaves.rules g.R.FeedLeaves.fields g.R.ReadLeaves.ahead g.R.ReadLeaves.is_between (fields_seen c.args.root.now) more c.feed_components.new.read (nodes c.feed_components.new.frames) all xs) none kept)
+    let kept : RootReached g.R.ReadLeaves.rules g.R.FeedLeaves.fields g.R.ReadLeaves.ahead g.R.ReadLeaves.is_between (fields_seen c.args.root.now) (more_fields_of c.args.ext.now) c.feed_components.new.read (nodes c.feed_components.new.frames) all (g.R.ReadLeaves.rules.to_units c.feed_components.new.units) = c.feed_components.ensures.kept (cc (c.in-Err-Short.is, c.in-Err-Short.field-0-is)) (more_fields_of c.args.ext.now) c.requires.of_profile c.requires.covered all h in
+    rw c.in-Ok-put.ensures (subst (λ (xs : List ℕ). RootReached g.R.ReadLeaves.rules g.R.FeedLeaves.fields g.R.ReadLeaves.ahead g.R.ReadLeaves.is_between (fields_seen c.args.root.now) (more_fields_of c.args.ext.now) c.feed_components.new.read (nodes c.feed_components.new.frames) all xs) none kept)
 
 -- ---- its components
 
@@ -937,3 +932,157 @@ pub open_fields::read_complete-returns-clause-done : goal.open_fields::read_comp
 open_fields::read_complete-returns-clause-done g t c =
     let lead = fill_leads g.R.ReadLeaves.rules c.keep_laws.ensures (shape_of c.args.ty.now) c.requires.of_profile (datum_of c.in_ok-value.value) (g.R.ReadLeaves.rules.to_units c.args.units.now) (g.R.ReadLeaves.rules.to_units c.feed.new.units) (c.in_ok-value.ensures.done [] (rw c.none-frames.ensures refl)) in
     rw c.take_to.ensures.left (lead.done c.in_ok-read_padding.field-0 (g.R.ReadLeaves.rules.to_units c.read_padding.new.units) (rw ((c.units_left-given.ensures ∙ ap (λ (xs : List ℕ). length (g.R.ReadLeaves.rules.to_units xs)) c.ahead.ensures), c.ahead-ahead.ensures) at c.in_ok-read_padding.ensures.done))
+
+pub sequences::feed_sequence-returns-in-Ok-clause-stop : goal.sequences::feed_sequence-returns-in-Ok-clause-stop
+sequences::feed_sequence-returns-in-Ok-clause-stop g t c =
+    IfErr-weaker c.end_sequence.result _ _ (λ why s all h. s all (c.in-Ok.ensures.done (more_fields_of c.args.ext.now) c.requires.of_profile c.requires.covered all h)) c.end_sequence.ensures.stop
+
+pub sequences::feed_sequence-returns-in-Ok-clause-kept : goal.sequences::feed_sequence-returns-in-Ok-clause-kept
+sequences::feed_sequence-returns-in-Ok-clause-kept g t c =
+    IfErr-weaker c.end_sequence.result _ _ (λ why s all h. s all (c.in-Ok.ensures.done (more_fields_of c.args.ext.now) c.requires.of_profile c.requires.covered all h)) c.end_sequence.ensures.kept
+
+pub sequences::feed_sequence-feed_components-requires : goal.sequences::feed_sequence-feed_components-requires
+sequences::feed_sequence-feed_components-requires g t c κs within =
+    let small = components_smaller c.args._ty.now c.requires.parts.components c.args.ext.now c.args.root.now c.requires.parts.is c.requires.parts.root_is in
+    (search (rules, the_lemmas, small), (within.0, (within.1, (c.requires.at_unit, (((more_fields_of c.args.ext.now), c.requires.of_profile, c.requires.covered, c.requires.reached.0, c.requires.reached.1), c.requires.few)))))
+
+pub sequences::feed_sequence-end_sequence-requires : goal.sequences::feed_sequence-end_sequence-requires
+sequences::feed_sequence-end_sequence-requires g t c κs within =
+    let all = c.requires.reached.0 in
+    let k = c.in-Ok.ensures.done (more_fields_of c.args.ext.now) c.requires.of_profile c.requires.covered all c.requires.reached.1 in
+    let over = none_left c.args.root.now (length c.feed_components.new.read.entries.items) c.in-Ok.ensures.over in
+    let none = root_emptied g.R.ReadLeaves.rules c.keep_laws.ensures g.R.FeedLeaves.fields g.R.ReadLeaves.ahead g.R.ReadLeaves.is_between (fields_seen c.args.root.now) (more_fields_of c.args.ext.now) c.requires.of_profile c.feed_components.new.read (nodes c.feed_components.new.frames) all (g.R.ReadLeaves.rules.to_units c.feed_components.new.units) over k in
+    (search (rules, the_lemmas), (within.0, (within.1, (c.in-Ok.ensures.at_unit, (c.requires.of_profile, (c.requires.covered, (c.requires.parts, (none, (c.in-Ok.ensures.over, ((all, k), omega (arith, c.in-Ok.ensures.ticked, c.requires.few)))))))))))
+
+-- ---- the extension additions
+
+pub additions::feed_additions-returns-in-Ok-clause-done : goal.additions::feed_additions-returns-in-Ok-clause-done
+additions::feed_additions-returns-in-Ok-clause-done g t c =
+    λ all h.
+    let q = c.feed_open_fields.new.read in
+    rw (datum_of-Seq q.entries) (additions_end g.R.ReadLeaves.rules c.keep_laws.ensures c.keep_feed_laws.ensures g.R.FeedLeaves.fields g.R.ReadLeaves.ahead g.R.ReadLeaves.is_between (fields_seen c.args.root.now) c.args.additions.now c.requires.of_profile q (nodes c.feed_open_fields.new.frames) all (g.R.ReadLeaves.rules.to_units c.feed_open_fields.new.units) c.in-Ok.ensures.over (c.in-Ok.ensures.done all h))
+
+pub additions::feed_additions-returns-in-Ok-clause-emptied : goal.additions::feed_additions-returns-in-Ok-clause-emptied
+additions::feed_additions-returns-in-Ok-clause-emptied g t c =
+    additions_emptied g.R.ReadLeaves.rules c.keep_laws.ensures c.keep_feed_laws.ensures g.R.FeedLeaves.fields g.R.ReadLeaves.ahead g.R.ReadLeaves.is_between (fields_seen c.args.root.now) c.args.additions.now c.requires.of_profile c.feed_open_fields.new.read (nodes c.feed_open_fields.new.frames) c.requires.reached.0 (g.R.ReadLeaves.rules.to_units c.feed_open_fields.new.units) c.in-Ok.ensures.over (c.in-Ok.ensures.done c.requires.reached.0 c.requires.reached.1)
+
+pub additions::feed_additions-returns-in-Ok-put-clause-stop : goal.additions::feed_additions-returns-in-Ok-put-clause-stop
+additions::feed_additions-returns-in-Ok-put-clause-stop g t c =
+    λ all h.
+    let a : Stops g.R.ReadLeaves.rules.ruling.fielding (ValuesOf g.R.ReadLeaves.rules (sequence (fields_seen c.args.root.now) (marked_seen c.args.additions.now))) all stop.Short = rw c.in-Err-Short.field-0-is at (c.in-Err-Short.ensures.stop all h) in
+    a
+
+pub additions::feed_additions-returns-in-Err-Refused-clause-stop : goal.additions::feed_additions-returns-in-Err-Refused-clause-stop
+additions::feed_additions-returns-in-Err-Refused-clause-stop g t c =
+    λ all h.
+    let a : Stops g.R.ReadLeaves.rules.ruling.fielding (ValuesOf g.R.ReadLeaves.rules (sequence (fields_seen c.args.root.now) (marked_seen c.args.additions.now))) all (stop.Refused c.in-Err-Refused.left c.in-Err-Refused.why) = rw c.in-Err-Refused.field-0-is at (c.in-Err-Refused.ensures.stop all h) in
+    rw (c.in-Err-Refused.left-is, c.in-Err-Refused.why-is) a
+
+pub additions::feed_additions-returns-in-Ok-put-clause-kept : goal.additions::feed_additions-returns-in-Ok-put-clause-kept
+additions::feed_additions-returns-in-Ok-put-clause-kept g t c =
+    λ all h.
+    let none : (g.R.ReadLeaves.rules.to_units c.feed_open_fields.new.units) ≡ [] = rw c.in-Err-Short.field-0-is at c.in-Err-Short.ensures.after in
+    let kept : AdditionsReached g.R.ReadLeaves.rules g.R.FeedLeaves.fields g.R.ReadLeaves.ahead g.R.ReadLeaves.is_between (fields_seen c.args.root.now) (marked_seen c.args.additions.now) c.feed_open_fields.new.read (nodes c.feed_open_fields.new.frames) all (g.R.ReadLeaves.rules.to_units c.feed_open_fields.new.units) = c.feed_open_fields.ensures.kept (cc (c.in-Err-Short.is, c.in-Err-Short.field-0-is)) all h in
+    rw c.in-Ok-put.ensures (subst (λ (xs : List ℕ). AdditionsReached g.R.ReadLeaves.rules g.R.FeedLeaves.fields g.R.ReadLeaves.ahead g.R.ReadLeaves.is_between (fields_seen c.args.root.now) (marked_seen c.args.additions.now) c.feed_open_fields.new.read (nodes c.feed_open_fields.new.frames) all xs) none kept)
+
+pub additions::feed_bitmap-feed_leaf-requires-clause-good : goal.additions::feed_bitmap-feed_leaf-requires-clause-good
+additions::feed_bitmap-feed_leaf-requires-clause-good g t c =
+    let some = some_present g.R.ReadLeaves.rules (fields_seen c.args.root.now) c.args.additions.now (entries_seen c.args.part.entries.items) c.requires.reached.0 _ c.requires.reached.1.root_read in
+    let few : length c.args.additions.now ≤ 64 = few_added c.args.additions.now refl c.requires.of_profile in
+    (some, few)
+
+pub additions::feed_bitmap-feed_additions-requires : goal.additions::feed_bitmap-feed_additions-requires
+additions::feed_bitmap-feed_additions-requires g t c κs within =
+    let all = c.requires.reached.0 in
+    let h = c.requires.reached.1 in
+    let few : length c.args.additions.now ≤ 64 = few_added c.args.additions.now refl c.requires.of_profile in
+    (search (rules, the_lemmas), (within.0, (within.1, (c.in-Ok.ensures.at_unit, (c.requires.of_profile, (c.requires.covered, ((all, (additions_start g.R.ReadLeaves.rules c.keep_laws.ensures c.keep_feed_laws.ensures g.R.FeedLeaves.fields g.R.ReadLeaves.ahead g.R.ReadLeaves.is_between (fields_seen c.args.root.now) c.args.additions.now c.requires.of_profile c.args.part _ (nodes c.args.frames.now) all (g.R.ReadLeaves.rules.to_units c.args.units.now) (g.R.ReadLeaves.rules.to_units c.feed_leaf.new.units) h c.in-Ok.ensures.done refl few refl c.requires.empty)), omega (arith, c.in-Ok.ensures.ticked, c.requires.few))))))))
+
+pub additions::feed_bitmap-returns-in-Ok-clause-done : goal.additions::feed_bitmap-returns-in-Ok-clause-done
+additions::feed_bitmap-returns-in-Ok-clause-done g t c =
+    let few : length c.args.additions.now ≤ 64 = few_added c.args.additions.now refl c.requires.of_profile in
+    IfOk-weaker c.feed_additions.result _ _ (λ v s all h. s all (additions_start g.R.ReadLeaves.rules c.keep_laws.ensures c.keep_feed_laws.ensures g.R.FeedLeaves.fields g.R.ReadLeaves.ahead g.R.ReadLeaves.is_between (fields_seen c.args.root.now) c.args.additions.now c.requires.of_profile c.args.part _ (nodes c.args.frames.now) all (g.R.ReadLeaves.rules.to_units c.args.units.now) (g.R.ReadLeaves.rules.to_units c.feed_leaf.new.units) h c.in-Ok.ensures.done refl few refl c.requires.empty)) c.feed_additions.ensures.done
+
+pub additions::feed_bitmap-returns-in-Ok-clause-stop : goal.additions::feed_bitmap-returns-in-Ok-clause-stop
+additions::feed_bitmap-returns-in-Ok-clause-stop g t c =
+    let few : length c.args.additions.now ≤ 64 = few_added c.args.additions.now refl c.requires.of_profile in
+    IfErr-weaker c.feed_additions.result _ _ (λ v s all h. s all (additions_start g.R.ReadLeaves.rules c.keep_laws.ensures c.keep_feed_laws.ensures g.R.FeedLeaves.fields g.R.ReadLeaves.ahead g.R.ReadLeaves.is_between (fields_seen c.args.root.now) c.args.additions.now c.requires.of_profile c.args.part _ (nodes c.args.frames.now) all (g.R.ReadLeaves.rules.to_units c.args.units.now) (g.R.ReadLeaves.rules.to_units c.feed_leaf.new.units) h c.in-Ok.ensures.done refl few refl c.requires.empty)) c.feed_additions.ensures.stop
+
+pub additions::feed_bitmap-returns-in-Ok-clause-kept : goal.additions::feed_bitmap-returns-in-Ok-clause-kept
+additions::feed_bitmap-returns-in-Ok-clause-kept g t c =
+    let few : length c.args.additions.now ≤ 64 = few_added c.args.additions.now refl c.requires.of_profile in
+    IfErr-weaker c.feed_additions.result _ _ (λ v s all h. s all (additions_start g.R.ReadLeaves.rules c.keep_laws.ensures c.keep_feed_laws.ensures g.R.FeedLeaves.fields g.R.ReadLeaves.ahead g.R.ReadLeaves.is_between (fields_seen c.args.root.now) c.args.additions.now c.requires.of_profile c.args.part _ (nodes c.args.frames.now) all (g.R.ReadLeaves.rules.to_units c.args.units.now) (g.R.ReadLeaves.rules.to_units c.feed_leaf.new.units) h c.in-Ok.ensures.done refl few refl c.requires.empty)) c.feed_additions.ensures.kept
+
+pub additions::feed_bitmap-returns-in-Ok-put-clause-stop : goal.additions::feed_bitmap-returns-in-Ok-put-clause-stop
+additions::feed_bitmap-returns-in-Ok-put-clause-stop g t c =
+    λ all h.
+    let a : Stops g.R.ReadLeaves.rules.ruling.fielding (AdditionBitmapOf g.R.ReadLeaves.rules (length c.args.additions.now)) ((g.R.ReadLeaves.rules.to_units c.args.part.begun) ++ (g.R.ReadLeaves.rules.to_units c.args.units.now)) stop.Short = rw c.in-Err-Short.field-0-is at c.in-Err-Short.ensures.stop in
+    bitmap_stops g.R.ReadLeaves.rules c.keep_laws.ensures c.keep_feed_laws.ensures g.R.FeedLeaves.fields g.R.ReadLeaves.ahead g.R.ReadLeaves.is_between (fields_seen c.args.root.now) c.args.additions.now c.requires.of_profile c.args.part all (g.R.ReadLeaves.rules.to_units c.args.units.now) stop.Short h a
+
+pub additions::feed_bitmap-returns-in-Err-Refused-clause-stop : goal.additions::feed_bitmap-returns-in-Err-Refused-clause-stop
+additions::feed_bitmap-returns-in-Err-Refused-clause-stop g t c =
+    λ all h.
+    let w = stop.Refused c.in-Err-Refused.left c.in-Err-Refused.why in
+    let a : Stops g.R.ReadLeaves.rules.ruling.fielding (AdditionBitmapOf g.R.ReadLeaves.rules (length c.args.additions.now)) ((g.R.ReadLeaves.rules.to_units c.args.part.begun) ++ (g.R.ReadLeaves.rules.to_units c.args.units.now)) w = rw c.in-Err-Refused.field-0-is at c.in-Err-Refused.ensures.stop in
+    rw (c.in-Err-Refused.left-is, c.in-Err-Refused.why-is) (bitmap_stops g.R.ReadLeaves.rules c.keep_laws.ensures c.keep_feed_laws.ensures g.R.FeedLeaves.fields g.R.ReadLeaves.ahead g.R.ReadLeaves.is_between (fields_seen c.args.root.now) c.args.additions.now c.requires.of_profile c.args.part all (g.R.ReadLeaves.rules.to_units c.args.units.now) w h a)
+
+pub additions::feed_bitmap-returns-in-Ok-put-clause-kept : goal.additions::feed_bitmap-returns-in-Ok-put-clause-kept
+additions::feed_bitmap-returns-in-Ok-put-clause-kept g t c =
+    λ all h.
+    let b = c.feed_leaf.new.begun in
+    let a : Stops g.R.ReadLeaves.rules.ruling.fielding (AdditionBitmapOf g.R.ReadLeaves.rules (length c.args.additions.now)) ((g.R.ReadLeaves.rules.to_units c.args.part.begun) ++ (g.R.ReadLeaves.rules.to_units c.args.units.now)) stop.Short = rw c.in-Err-Short.field-0-is at c.in-Err-Short.ensures.stop in
+    let e : (g.R.ReadLeaves.rules.to_units b) ≡ ((g.R.ReadLeaves.rules.to_units c.args.part.begun) ++ (g.R.ReadLeaves.rules.to_units c.args.units.now)) = rw c.in-Err-Short.field-0-is at c.in-Err-Short.ensures.kept in
+    let s : Short g.R.ReadLeaves.rules.ruling.fielding (AdditionBitmapOf g.R.ReadLeaves.rules (length c.args.additions.now)) (g.R.ReadLeaves.rules.to_units b) = subst (λ (xs : List ℕ). Short g.R.ReadLeaves.rules.ruling.fielding (AdditionBitmapOf g.R.ReadLeaves.rules (length c.args.additions.now)) xs) (sym e) a.told in
+    let k = bitmap_kept g.R.ReadLeaves.rules c.keep_laws.ensures c.keep_feed_laws.ensures g.R.FeedLeaves.fields g.R.ReadLeaves.ahead g.R.ReadLeaves.is_between (fields_seen c.args.root.now) c.args.additions.now c.requires.of_profile c.args.part (record { entries = c.args.part.entries; begun = b }) all (g.R.ReadLeaves.rules.to_units c.args.units.now) h refl e c.in-Err-Short.ensures.begun s in
+    bitmap_took g.R.ReadLeaves.rules c.keep_laws.ensures c.keep_feed_laws.ensures g.R.FeedLeaves.fields g.R.ReadLeaves.ahead g.R.ReadLeaves.is_between (fields_seen c.args.root.now) c.args.additions.now c.requires.of_profile (nodes c.put.new.self) (record { entries = c.args.part.entries; begun = b }) all (c.in-Ok.ensures ∙ ap (λ (gs : List (Frame g.row.R-Fragments.Denot)). frame.Bitmap _ ∷ gs) c.requires.empty) k
+
+pub additions::feed_open_fields-feed_addition-requires : goal.additions::feed_open_fields-feed_addition-requires
+additions::feed_open_fields-feed_addition-requires g t c κs within =
+    let inv = c.loop-alloc.invariant in
+    let w = left_within g.R.ReadLeaves.rules c.keep_laws.ensures c.keep_feed_laws.ensures g.R.FeedLeaves.fields g.R.ReadLeaves.ahead g.R.ReadLeaves.is_between (fields_seen c.args._root.now) c.args.additions.now c.requires.of_profile c.loop-alloc.read (nodes c.loop-alloc.frames) c.requires.reached.0 (g.R.ReadLeaves.rules.to_units c.loop-alloc.units) (inv.0 c.requires.reached.0 c.requires.reached.1) in
+    let i = length c.args.additions.now - c.loop-alloc.read.presence.left in
+    let at : i + c.loop-alloc.read.presence.left ≡ length c.args.additions.now = omega (arith, w.0) in
+    let inside : i < length c.args.additions.now = omega (arith, at, c.loop-alloc-test.true) in
+    let x = next_addition g.R.ReadLeaves.rules c.keep_laws.ensures c.keep_feed_laws.ensures g.R.FeedLeaves.fields g.R.ReadLeaves.ahead g.R.ReadLeaves.is_between (fields_seen c.args._root.now) c.args.additions.now c.requires.of_profile c.loop-alloc.read (nodes c.loop-alloc.frames) c.index-additions-index.result i c.next-present.result c.next-present.new.self.left c.requires.reached.0 (g.R.ReadLeaves.rules.to_units c.loop-alloc.units) at c.index-additions-index.is c.next-present.ensures.bit.0 c.next-present.ensures.bit.1 (c.loop-alloc.invariant.0 c.requires.reached.0 c.requires.reached.1) in
+    (search (rules, the_lemmas), (within.0, (within.1, (inv.2, (x.good_shape, (covered_added (fields_seen c.args._root.now) c.args.additions.now i c.index-additions-index.result inside c.index-additions-index.is c.requires.covered, ((x.come, x.took), omega (arith, inv.1, c.requires.few))))))))
+
+pub additions::feed_open_fields-next-present-requires : goal.additions::feed_open_fields-next-present-requires
+additions::feed_open_fields-next-present-requires g t c =
+    let inv = c.loop-alloc.invariant in
+    let w = left_within g.R.ReadLeaves.rules c.keep_laws.ensures c.keep_feed_laws.ensures g.R.FeedLeaves.fields g.R.ReadLeaves.ahead g.R.ReadLeaves.is_between (fields_seen c.args._root.now) c.args.additions.now c.requires.of_profile c.loop-alloc.read (nodes c.loop-alloc.frames) c.requires.reached.0 (g.R.ReadLeaves.rules.to_units c.loop-alloc.units) (inv.0 c.requires.reached.0 c.requires.reached.1) in
+    let i = length c.args.additions.now - c.loop-alloc.read.presence.left in
+    let at : i + c.loop-alloc.read.presence.left ≡ length c.args.additions.now = omega (arith, w.0) in
+    record { some = c.loop-alloc-test.true; few = w.1 }
+
+pub additions::feed_open_fields-returns-in_err-entry-clause-stop : goal.additions::feed_open_fields-returns-in_err-entry-clause-stop
+additions::feed_open_fields-returns-in_err-entry-clause-stop g t c =
+    let inv = c.loop-alloc.invariant in
+    let w = left_within g.R.ReadLeaves.rules c.keep_laws.ensures c.keep_feed_laws.ensures g.R.FeedLeaves.fields g.R.ReadLeaves.ahead g.R.ReadLeaves.is_between (fields_seen c.args._root.now) c.args.additions.now c.requires.of_profile c.loop-alloc.read (nodes c.loop-alloc.frames) c.requires.reached.0 (g.R.ReadLeaves.rules.to_units c.loop-alloc.units) (inv.0 c.requires.reached.0 c.requires.reached.1) in
+    let i = length c.args.additions.now - c.loop-alloc.read.presence.left in
+    let at : i + c.loop-alloc.read.presence.left ≡ length c.args.additions.now = omega (arith, w.0) in
+    let p = err_from_is_err_and c.from_residual.result c.from_residual.ensures.1 in
+    rw (p.1, p.2) (λ all h. (let x = next_addition g.R.ReadLeaves.rules c.keep_laws.ensures c.keep_feed_laws.ensures g.R.FeedLeaves.fields g.R.ReadLeaves.ahead g.R.ReadLeaves.is_between (fields_seen c.args._root.now) c.args.additions.now c.requires.of_profile c.loop-alloc.read (nodes c.loop-alloc.frames) c.index-additions-index.result i c.next-present.result c.next-present.new.self.left all (g.R.ReadLeaves.rules.to_units c.loop-alloc.units) at c.index-additions-index.is c.next-present.ensures.bit.0 c.next-present.ensures.bit.1 (c.loop-alloc.invariant.0 all h) in x.stops _ (c.in_err-entry.ensures.stop x.come x.took)))
+
+pub additions::feed_open_fields-returns-in_err-entry-clause-kept : goal.additions::feed_open_fields-returns-in_err-entry-clause-kept
+additions::feed_open_fields-returns-in_err-entry-clause-kept g t c =
+    λ e all h.
+    let inv = c.loop-alloc.invariant in
+    let w = left_within g.R.ReadLeaves.rules c.keep_laws.ensures c.keep_feed_laws.ensures g.R.FeedLeaves.fields g.R.ReadLeaves.ahead g.R.ReadLeaves.is_between (fields_seen c.args._root.now) c.args.additions.now c.requires.of_profile c.loop-alloc.read (nodes c.loop-alloc.frames) c.requires.reached.0 (g.R.ReadLeaves.rules.to_units c.loop-alloc.units) (inv.0 c.requires.reached.0 c.requires.reached.1) in
+    let i = length c.args.additions.now - c.loop-alloc.read.presence.left in
+    let at : i + c.loop-alloc.read.presence.left ≡ length c.args.additions.now = omega (arith, w.0) in
+    let p = err_from_is_err_and c.from_residual.result c.from_residual.ensures.1 in
+    let w : c.in_err-entry.field-0.0 ≡ stop.Short = cc (p.1, p.2, e) in
+    let x = next_addition g.R.ReadLeaves.rules c.keep_laws.ensures c.keep_feed_laws.ensures g.R.FeedLeaves.fields g.R.ReadLeaves.ahead g.R.ReadLeaves.is_between (fields_seen c.args._root.now) c.args.additions.now c.requires.of_profile c.loop-alloc.read (nodes c.loop-alloc.frames) c.index-additions-index.result i c.next-present.result c.next-present.new.self.left all (g.R.ReadLeaves.rules.to_units c.loop-alloc.units) at c.index-additions-index.is c.next-present.ensures.bit.0 c.next-present.ensures.bit.1 (c.loop-alloc.invariant.0 all h) in
+    x.kept (nodes c.feed_addition.new.frames) (g.R.ReadLeaves.rules.to_units c.feed_addition.new.units) (rw w at c.in_err-entry.ensures.after) (rw w at (c.in_err-entry.ensures.kept x.come x.took))
+
+pub additions::feed_open_fields-loop-alloc-preserved : goal.additions::feed_open_fields-loop-alloc-preserved
+additions::feed_open_fields-loop-alloc-preserved g t c =
+    let inv = c.loop-alloc.invariant in
+    let w = left_within g.R.ReadLeaves.rules c.keep_laws.ensures c.keep_feed_laws.ensures g.R.FeedLeaves.fields g.R.ReadLeaves.ahead g.R.ReadLeaves.is_between (fields_seen c.args._root.now) c.args.additions.now c.requires.of_profile c.loop-alloc.read (nodes c.loop-alloc.frames) c.requires.reached.0 (g.R.ReadLeaves.rules.to_units c.loop-alloc.units) (inv.0 c.requires.reached.0 c.requires.reached.1) in
+    let i = length c.args.additions.now - c.loop-alloc.read.presence.left in
+    let at : i + c.loop-alloc.read.presence.left ≡ length c.args.additions.now = omega (arith, w.0) in (
+      λ all h. (let x = next_addition g.R.ReadLeaves.rules c.keep_laws.ensures c.keep_feed_laws.ensures g.R.FeedLeaves.fields g.R.ReadLeaves.ahead g.R.ReadLeaves.is_between (fields_seen c.args._root.now) c.args.additions.now c.requires.of_profile c.loop-alloc.read (nodes c.loop-alloc.frames) c.index-additions-index.result i c.next-present.result c.next-present.new.self.left all (g.R.ReadLeaves.rules.to_units c.loop-alloc.units) at c.index-additions-index.is c.next-present.ensures.bit.0 c.next-present.ensures.bit.1 (c.loop-alloc.invariant.0 all h) in x.further _ (nodes c.feed_addition.new.frames) c.in_ok-entry.entry (g.R.ReadLeaves.rules.to_units c.feed_addition.new.units) c.next-present.ensures.bitmap refl c.in_ok-push.ensures.items c.in_ok-entry.ensures.emptied (c.in_ok-entry.ensures.done x.come x.took)),
+      omega (arith, inv.1, c.in_ok-entry.ensures.ticked),
+      c.in_ok-entry.ensures.at_unit,
+      omega (arith, inv.3, c.in_ok-entry.ensures.rising),
+    )

@@ -11,6 +11,7 @@ ghost use Rattle.asn_values.specs.View.{more_labels_of, labels_seen, numbers_see
 use crate::names;
 use crate::profile::{MAX_ADDITIONS, MAX_ITEMS};
 use crate::types::Item;
+use std::alloc::Global;
 
 /// The additions: none where there is no extension marker.
 fn additions(ext: &Option<Vec<Item>>) -> &[Item]
@@ -30,10 +31,10 @@ pub(crate) fn is_empty(root: &[Item]) -> bool
 }
 
 /// Whether a name stands twice among the items, or one is no identifier.
-pub(crate) fn has_bad_names(root: &[Item], ext: &Option<Vec<Item>>) -> bool
+pub(crate) fn has_bad_names(alloc: Global, root: &[Item], ext: &Option<Vec<Item>>) -> bool
     ensures { result ≡ duplicate_name (enumerated_seen root.now ext.now) }
 {
-    names::are_bad(root, additions(ext))
+    names::are_bad(alloc, root, additions(ext))
 }
 
 /// Whether a number stands twice or is not of 32 signed bits, or an addition's is not above all

@@ -1,9 +1,11 @@
 //! The names of components, alternatives and items: identifiers of the notation, each only once.
-ghost use Rattle.std.specs.Prelude.{◌≡◌, ◌&&◌, ◌||◌, ◌++◌, List, ℕ, map, bytes_eq, string_bytes};
+ghost use Rattle.std.specs.Prelude.{◌≡◌, ◌&&◌, ◌||◌, ◌++◌, List, ℕ, map, bytes_eq, string_bytes, IfOk};
 ghost use Rattle.std.specs.List.{list_any, list_all};
 ghost use Rattle.asn_values.specs.Profile as profile;
 
 use crate::types::{Alt, Field, Item};
+use std::alloc::{AllocError, Global};
+use std::collections::HashMap;
 
 /// What has a name in a type.
 pub trait Named {
@@ -38,8 +40,58 @@ impl Named for Item {
     }
 }
 
+/// The most names that are compared by pairs: as many items as a type of the profile has at the most.
+const FEW_NAMES: usize = 256;
+
 /// Whether a name stands twice in the lists, or one is no identifier.
-pub(crate) fn are_bad<T: Named>(root: &[T], additions: &[T]) -> bool
+pub(crate) fn are_bad<T: Named>(alloc: Global, root: &[T], additions: &[T]) -> bool
+    ensures { result ≡ profile.bad_names (map T.name_of root.now ++ map T.name_of additions.now) }
+{
+    if FEW_NAMES < root.len() || FEW_NAMES < additions.len() {
+        // with no memory for a table the names are compared by pairs
+        if let Ok(are_twice) = stand_twice(alloc, root, additions) {
+            return are_twice || !are_identifiers(root) || !are_identifiers(additions);
+        }
+    }
+    are_bad_by_pairs(root, additions)
+}
+
+/// Whether each name is an identifier.
+fn are_identifiers<T: Named>(parts: &[T]) -> bool
+    ensures { result ≡ list_all profile.is_identifier (map T.name_of parts.now) }
+{
+    for part in parts {
+        if !is_identifier(part.name().as_bytes()) {
+            return false;
+        }
+    }
+    true
+}
+
+/// Whether a name stands twice in the lists, found by a table of the names before each.
+///
+/// # Errors
+/// `AllocError` where an allocation failed.
+fn stand_twice<T: Named>(alloc: Global, root: &[T], additions: &[T]) -> Result<bool, AllocError>
+    ensures { IfOk result (λ twice.
+        twice ≡ profile.has_twice bytes_eq (map T.name_of root.now ++ map T.name_of additions.now)) }
+{
+    let mut earlier = HashMap::new(alloc);
+    for part in root {
+        if earlier.insert(part.name(), ())?.is_some() {
+            return Ok(true);
+        }
+    }
+    for part in additions {
+        if earlier.insert(part.name(), ())?.is_some() {
+            return Ok(true);
+        }
+    }
+    Ok(false)
+}
+
+/// Whether a name stands twice in the lists, or one is no identifier, each name being compared with those after it.
+fn are_bad_by_pairs<T: Named>(root: &[T], additions: &[T]) -> bool
     ensures { result ≡ profile.bad_names (map T.name_of root.now ++ map T.name_of additions.now) }
 {
     for (index, part) in root.iter().enumerate() {

@@ -47,8 +47,8 @@ impl<T: Drop> From<AllocFailed<T>> for Halt {
     }
 }
 
-/// What is told of units that may go on as another part, where the reader of this one says this: where they end, they
-/// are cut short.
+/// The fault of units that end before a part does, where its reader found `halt`, and more units could still make
+/// another part of them: they are cut short, unless memory was wanting.
 pub(crate) fn halt_before_end(halt: Halt) -> Halt
     ensures { result ≡ halt_before_end halt }
 {

@@ -25,8 +25,8 @@ pub trait ReadNewer: Rules + OtherVersions {
     /// `TooLong` where the octets are more than 268,435,455. `Memory` where an allocation failed. Else the octets are
     /// the message of no version: `Truncated` where they are one that was cut, `TooManyAdditions` where a count of
     /// additions, the index or tag of an alternative, or in PER the index of an item is past the profile, and else
-    /// `Refused`. The last two are told only of octets that begin no message; which of the three is told of such octets
-    /// is not promised.
+    /// `Refused`. `TooManyAdditions` and `Refused` come only for octets with which no message begins; which of the three
+    /// comes for these is not promised.
     fn read_newer(alloc: Global, ty: &Checked, octets: &[u8]) -> Result<Newer, NewerFault>
         ensures read { IfOk result (λ n. IsNewer Self.loose (shape_of ty.now) n octets.now) }
         ensures fault { IfErr result (λ why. NotNewer Self.loose (shape_of ty.now) octets.now why) };

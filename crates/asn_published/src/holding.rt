@@ -183,7 +183,8 @@ impl<'t> Writer<'t> {
         Ok(())
     }
 
-    /// What is to be written behind the type of a member; of an addition that has a DEFAULT this is remarked.
+    /// Has OPTIONAL or a DEFAULT written after a component of the root. After an extension addition neither is, and its
+    /// DEFAULT gets a remark.
     fn push_need(
         &mut self,
         alloc: Global,

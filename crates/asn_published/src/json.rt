@@ -46,7 +46,7 @@ fn quoted(alloc: Global, text: &str) -> Result<String, AllocError>
     Ok(out)
 }
 
-/// What is told of a note as an object of JSON, and before it what is given.
+/// Appends the note to `before`, as an object of JSON: its line, component, status and remark.
 #[tactic(auto, unfolding(crate::specs::Telling::note_object))]
 fn note_object(
     alloc: Global,
@@ -64,7 +64,7 @@ fn note_object(
     )
 }
 
-/// A note as an object of JSON, and before it what is given.
+/// Appends a note to `before`, as an object of JSON.
 fn note_json(alloc: Global, before: &str, note: &Note) -> Result<String, AllocError>
     ensures { IfOk result (λ text. string_bytes text ≡ note_json before.now note.now) }
 {
@@ -104,7 +104,7 @@ fn push_notes(alloc: Global, out: &mut String, notes: &[Note]) -> Result<(), All
     Ok(())
 }
 
-/// What is told of a type as an object of JSON on a line.
+/// The type as an object of JSON on a line of its own: its name, file, line and status, and its notes.
 #[tactic(auto, unfolding(crate::specs::Telling::type_object))]
 fn type_object(
     alloc: Global,

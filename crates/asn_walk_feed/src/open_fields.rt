@@ -94,8 +94,8 @@ fn read_content<R: FeedLeaves>(
     }
 }
 
-/// Reads a complete encoding of a value of the type, of which all units are at hand: the value, and its padding (X.691,
-/// "complete encoding").
+/// Reads the complete encoding of a value (X.691, "complete encoding") from units that hold all of it, with the zeros
+/// that fill up its last octet.
 #[cycle(feeder)]
 fn read_complete<R: FeedLeaves>(
     alloc: Global,

@@ -39,8 +39,8 @@ pub fn feed<R: FeedLeaves>(
     requires at_unit { R.rules.at_unit units.old }
     requires of_profile { InProfile (shape_of ty.now) }
     requires covered { IsCovered (shape_of ty.now) }
-    requires reached { (us : List ℕ) × Took R.rules R.fields R.ahead R.is_between (nodes frames.old) (shape_of ty.now)
-        us }
+    requires reached { (us : List ℕ)
+        × Took R.rules R.fields R.ahead R.is_between (nodes frames.old) (shape_of ty.now) us }
     requires few { ticks.old + length (R.rules.to_units units.old) < 2 ^ 64 }
     ensures at_unit { R.rules.at_unit units.new }
     ensures done { IfOk result (λ v. ReadsOn R.rules R.fields R.ahead R.is_between (nodes frames.old) (shape_of ty.now)

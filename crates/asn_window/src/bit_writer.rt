@@ -1,11 +1,11 @@
 //! Bits before a writer.
-ghost use Rattle.std.specs.Prelude.{◌≡◌, ◌<◌, ◌≤◌, ◌^◌, ◌+◌, ◌++◌, ◌%◌, ℕ, List, [], length, OnOk, IfErr};
+ghost use Rattle.std.specs.Prelude.{◌≡◌, ◌<◌, ◌≤◌, ◌^◌, ◌*◌, ◌+◌, ◌++◌, ◌%◌, ℕ, List, [], length, OnOk, IfErr};
 ghost use Rattle.asn_bits.specs.Numbers.{bits, unpacked};
 ghost use Rattle.asn_rules.specs.Held.{Held};
 
 use crate::octet_writer::OctetWriter;
 use crate::shifted::put_shifted;
-use asn_bits::internal::{full_word, shift_in};
+use asn_bits::internal::{full_word, last_octets, shift_in};
 use asn_rules::Output;
 
 /// Octets that wait before a writer, and after them fewer than 64 bits.
@@ -57,6 +57,37 @@ impl BitWriter {
             .put_word(full_word(self.pending, k, n, left), output);
         self.pending = n;
         self.count = left;
+    }
+
+    /// Adds the last `count` octets of `n`, whatever stands before them.
+    #[inline(always)]
+    pub fn put_low<O: Output>(&mut self, count: u32, n: u64, output: &mut O)
+        requires { count ≤ 8 }
+        ensures { TakesBits (O.held output.old) self.old (O.held output.new) self.new
+            (bits (8 * count) n) }
+    {
+        if self.count == 0 {
+            self.octets.put_low(count, n, output);
+            return;
+        }
+        self.put_low_after_bits(count, n, output);
+    }
+
+    /// As `put_low`, after bits that wait. Where they fill octets they then wait no more.
+    #[inline(never)]
+    fn put_low_after_bits<O: Output>(&mut self, count: u32, n: u64, output: &mut O)
+        requires { count ≤ 8 }
+        ensures { TakesBits (O.held output.old) self.old (O.held output.new) self.new
+            (bits (8 * count) n) }
+    {
+        if self.count % 8 > 0 {
+            self.put(8 * count, last_octets(count, n), output);
+            return;
+        }
+        self.octets
+            .put_low(self.count / 8, self.pending, output);
+        self.count = 0;
+        self.octets.put_low(count, n, output);
     }
 
     /// Adds octets: copied where the bits so far fill octets, and shifted otherwise.

@@ -61,6 +61,7 @@ impl OctetWriter {
     }
 
     /// Adds the last `count` octets of `n`.
+    #[inline(always)]
     pub fn put_low<O: Output>(&mut self, count: u32, n: u64, output: &mut O)
         requires { count ≤ 8 }
         ensures { TakesWhole (O.held output.old) self.old (O.held output.new) self.new

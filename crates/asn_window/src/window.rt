@@ -141,6 +141,28 @@ impl<'a, O: Output> Window<'a, O> {
         self.is_empty = is_still_empty(self.is_empty, octets.len());
     }
 
+    /// Adds the last `count` octets of `n` outside of all open type fields.
+    #[inline(always)]
+    fn put_low_outside(&mut self, count: u32, n: u64)
+        requires few { count ≤ 8 }
+        requires outside { self.old.depth ≡ 0 }
+        ensures { Pushes (λ w c taken coming. WindowStands O.held w c taken coming) self.old self.new
+            (bits (8 * count) n) }
+    {
+        self.writer.put_low(count, n, self.output);
+        self.is_empty = is_still_empty(self.is_empty, 8 * count as usize);
+    }
+
+    /// Adds the last `count` octets of `n` to the innermost open type field.
+    #[inline(never)]
+    fn put_low_inside(&mut self, count: u32, n: u64)
+        requires { count ≤ 8 }
+        ensures { Pushes (λ w c taken coming. WindowStands O.held w c taken coming) self.old self.new
+            (bits (8 * count) n) }
+    {
+        self.put(8 * count, last_octets(count, n));
+    }
+
     /// How many octets can be added with a bit left before each length determinant.
     fn room(&self) -> usize
         ensures room { HasRoom self.now.fragments self.now.depth result }
@@ -226,7 +248,11 @@ impl<'a, O: Output> Sink for Window<'a, O> {
 
     #[inline(always)]
     fn push_low_octets(&mut self, count: u32, n: u64) -> Result<(), Infallible> {
-        self.put(8 * count, last_octets(count, n));
+        if self.depth == 0 {
+            self.put_low_outside(count, n);
+        } else {
+            self.put_low_inside(count, n);
+        }
         Ok(())
     }
 

@@ -5,7 +5,7 @@ use Rattle.asn_sinks.proofs.Pushing.{pushed_same}
 use Rattle.asn_window.specs.declared.window.Window.{Window}
 use Rattle.asn_window.specs.Windows.{WindowStands}
 use Rattle.asn_window.specs.WindowStart.{Start}
-use Rattle.asn_window.proofs.window.WindowSink.push_low_octets.Goals as goal
+use Rattle.asn_window.proofs.window.Window.put_low_inside.Goals as goal
 
 pub returns : goal.returns
 returns g c =

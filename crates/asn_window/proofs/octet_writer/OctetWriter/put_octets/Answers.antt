@@ -1,5 +1,5 @@
 -- The octets come after those that wait.
-use Rattle.std.proofs.Common.{◌++◌, refl}
+use Rattle.std.proofs.Common.{refl}
 use Rattle.asn_bits.specs.Numbers.{unpacked}
 use Rattle.asn_window.proofs.Delivered.{retold}
 use Rattle.asn_window.proofs.Shifting.{after_waiting}

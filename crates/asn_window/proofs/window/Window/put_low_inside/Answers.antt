@@ -1,5 +1,4 @@
 -- The last octets alone are taken.
-use Rattle.std.proofs.Common.{ℕ, List}
 use Rattle.asn_sinks.specs.Sink.{Standing, Pushes}
 use Rattle.asn_sinks.proofs.Pushing.{pushed_same}
 use Rattle.asn_window.specs.declared.window.Window.{Window}

@@ -1,5 +1,5 @@
 -- The octets are taken outside of all open type fields.
-use Rattle.std.proofs.Common.{◌*◌, ◌++◌, ◌&&◌, ◌==◌, ℕ, List, length, length-append, arith, sym, ap, subst, ◌∙◌}
+use Rattle.std.proofs.Common.{◌*◌, ◌++◌, ◌&&◌, ◌==◌, ℕ, List, length-append, arith, sym, ap, subst, ◌∙◌}
 use Rattle.asn_bits.specs.Numbers.{bits}
 use Rattle.asn_bits.proofs.Octets.{length-digits}
 use Rattle.asn_window.specs.BitWriters.{BitsStand}

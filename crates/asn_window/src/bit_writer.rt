@@ -61,7 +61,7 @@ impl BitWriter {
 
     /// Adds the last `count` octets of `n`, whatever stands before them.
     #[inline(always)]
-    pub fn put_low<O: Output>(&mut self, count: u32, n: u64, output: &mut O)
+    pub(crate) fn put_low<O: Output>(&mut self, count: u32, n: u64, output: &mut O)
         requires { count ≤ 8 }
         ensures { TakesBits (O.held output.old) self.old (O.held output.new) self.new
             (bits (8 * count) n) }

@@ -1,13 +1,12 @@
 -- How a CHOICE that may be cut goes on, as the program holds it.
-use Rattle.std.proofs.Common.{Vec, Global, ◌+◌, ◌≤◌, ◌||◌, ◌≡◌, ◌<◌, inl, inr, get_or, ℕ, zero, suc, false, List, [], ◌∷◌, ◌++◌, length, map, append-nil, Option, Some, None, refl, sym, ap, subst, arith}
+use Rattle.std.proofs.Common.{Vec, Global, ◌+◌, ◌≤◌, ◌≡◌, ◌<◌, inl, inr, get_or, ℕ, zero, suc, List, [], ◌∷◌, ◌++◌, length, map, append-nil, Option, Some, None, refl, sym, ap, subst, arith}
 use Rattle.asn_values.specs.declared.types.Alt.{Alt}
 use Rattle.asn_values.specs.Datum.{alternative}
 use Rattle.asn_values.specs.Shape.{Shape, Alternatives, MoreAlternatives, more_alternatives, choice, count}
-use Rattle.asn_values.specs.Profile.{InProfile, somewhere, some_alternative, some_more}
+use Rattle.asn_values.specs.Profile.{InProfile}
 use Rattle.asn_values.specs.Parts.{AreAllOfProfile}
 use Rattle.asn_values.specs.View.{shape_of, branch_of, alternatives_of, alternatives_seen, more_alternatives_of}
 use Rattle.asn_values.proofs.Alternatives.{count-of, shape_of_branch}
-use Rattle.asn_values.proofs.Parts.{left_false, right_false}
 use Rattle.asn_rules.specs.Languages.{Spells}
 use Rattle.asn_rules.specs.Listed.{Spelt}
 use Rattle.asn_rules.proofs.Answer.Answers.{done_stays}
@@ -19,8 +18,9 @@ use Rattle.asn_walk.proofs.ChoicesRead.{leads_at_place, open_leads_at_place, val
 use Rattle.asn_walk.proofs.Parts.{good_at, root_good, added_good, few_indexes, additions_are}
 use Rattle.asn_walk_feed.specs.Chosen.{AlternativeTook}
 use Rattle.asn_walk_feed.specs.Feeding.{Waits}
-use Rattle.asn_walk_feed.specs.OpenFields.{FieldCoding, FieldTook}
-use Rattle.asn_walk_feed.specs.Taken.{is_uncovered, IsCovered, Took, ChoiceReached, AdditionReached, with_node}
+use Rattle.asn_walk_feed.specs.Octets.{OctetsTook}
+use Rattle.asn_walk_feed.specs.OpenFields.{FieldCoding}
+use Rattle.asn_walk_feed.specs.Taken.{Took, ChoiceReached, AdditionReached, with_node}
 use Rattle.asn_walk_feed.specs.declared.frame.Frame.TheVariants as frame
 use Rattle.asn_walk_feed.specs.declared.frame.Frame.{Frame}
 
@@ -38,13 +38,6 @@ module _ (Value : Shape → List ℕ → Type 0) (d : Alt) (us : List ℕ) where
   at_took [] i h k = absurd (omega (arith, h))
   at_took (a ∷ alts) zero h k = subst (λ (t : Shape). Value t us) (sym (shape_of_branch a)) k
   at_took (a ∷ alts) (suc i) h k = at_took alts i (omega (arith, h)) k
-
--- it is covered where all are
-covered_in : (alts : List Alt) (i : ℕ) (d : Alt) → i < length alts → some_alternative is_uncovered (alternatives_of (map branch_of alts)) ≡ false
-    → IsCovered (shape_of (get_or alts i d).ty)
-covered_in [] i d h s = absurd (omega (arith, h))
-covered_in (a ∷ alts) zero d h s = subst IsCovered (shape_of_branch a) (left_false (somewhere is_uncovered (branch_of a).shape) (some_alternative is_uncovered (alternatives_of (map branch_of alts))) s)
-covered_in (a ∷ alts) (suc i) d h s = covered_in alts i d (omega (arith, h)) (right_false (somewhere is_uncovered (branch_of a).shape) (some_alternative is_uncovered (alternatives_of (map branch_of alts))) s)
 
 -- there are few alternatives
 pub few_seen : (root : List Alt) (more : MoreAlternatives) → InProfile (choice (alternatives_seen root) more) → AreFew (length root) (added_alternatives more)
@@ -96,7 +89,6 @@ module _ {F : Type 0} (c : Coding) (laws : Laws c) (fc : FieldCoding) (ahead : F
 
   pub record AlternativeAhead (i : ℕ) (fs : List (Frame F)) (t : Shape) (all units : List ℕ) : Type 0 where
     pub of_profile : InProfile t
-    pub covered : IsCovered t
     pub come : List ℕ
     pub took : P fs t come
     pub leads : Leads c.ruling.fielding (Spelt c.code None t) (come ++ units) (λ v. alternative i v)
@@ -104,9 +96,8 @@ module _ {F : Type 0} (c : Coding) (laws : Laws c) (fc : FieldCoding) (ahead : F
     pub kept : (gs : List (Frame F)) (units' : List ℕ) → units' ≡ [] → P gs t (come ++ units) → R i gs all units'
 
   pub alternative_ahead : (i : ℕ) (fs : List (Frame F)) (x : Alt) (all units : List ℕ) → x ≡ get_or root i x
-      → IsCovered (choice (alternatives_seen root) more) → R i fs all units
-      → AlternativeAhead i fs (shape_of x.ty) all units
-  alternative_ahead i fs x all units e cov h =
+      → R i fs all units → AlternativeAhead i fs (shape_of x.ty) all units
+  alternative_ahead i fs x all units e h =
       let inside = index_inside i fs all units h in
       let is : shape_of (get_or root i x).ty ≡ shape_of x.ty = ap (λ (a : Alt). shape_of a.ty) (sym e) in
       let us = h.come ++ units in
@@ -114,7 +105,6 @@ module _ {F : Type 0} (c : Coding) (laws : Laws c) (fc : FieldCoding) (ahead : F
       leads_on (leads_at_place c root i x us inside) (value_leads c laws (alternatives_seen root) more good (inl i) all us h.index) in
       record {
         of_profile = subst InProfile is (good_at root i x (root_good (alternatives_seen root) more good) inside);
-        covered = subst IsCovered is (covered_in root i x inside (left_false (some_alternative is_uncovered (alternatives_seen root)) (some_more is_uncovered more) (right_false (is_uncovered (choice (alternatives_seen root) more)) (some_alternative is_uncovered (alternatives_seen root) || some_more is_uncovered more) cov)));
         come = h.come;
         took = subst (λ (t : Shape). P fs t h.come) is (took_at (λ t vs. P fs t vs) x h.come root i inside h.inner);
         leads = subst (λ (t : Shape). Leads c.ruling.fielding (Spelt c.code None t) us (λ v. alternative i v) (Spelt c.code None (choice (alternatives_seen root) more)) all) is lead;
@@ -193,17 +183,15 @@ module _ {F : Type 0} (c : Coding) (laws : Laws c) (fc : FieldCoding) (ahead : F
 
     pub record AdditionAhead (i : ℕ) (fs : List (Frame F)) (t : Shape) (all units : List ℕ) : Type 0 where
       pub of_profile : InProfile t
-      pub covered : IsCovered t
       pub come : List ℕ
-      pub took : FieldTook c fc ahead between fs come
+      pub took : OctetsTook c fc.open_type ahead between fs come
       pub leads : Leads c.ruling.fielding (OpenOf c t) (come ++ units) (λ d. alternative (length root + i) d)
           (Spelt c.code None (choice (alternatives_seen root) (more_alternatives_of ext))) all
-      pub kept : (gs : List (Frame F)) (units' : List ℕ) → units' ≡ [] → FieldTook c fc ahead between gs (come ++ units) → A i gs all units'
+      pub kept : (gs : List (Frame F)) (units' : List ℕ) → units' ≡ [] → OctetsTook c fc.open_type ahead between gs (come ++ units) → A i gs all units'
 
     pub addition_ahead : (i : ℕ) (fs : List (Frame F)) (x : Alt) (all units : List ℕ) → x ≡ get_or v.items i x
-        → IsCovered (choice (alternatives_seen root) (more_alternatives_of ext)) → A i fs all units
-        → AdditionAhead i fs (shape_of x.ty) all units
-    addition_ahead i fs x all units e cov h =
+        → A i fs all units → AdditionAhead i fs (shape_of x.ty) all units
+    addition_ahead i fs x all units e h =
         let inside = addition_inside i fs all units h in
         let same : shape_of (get_or v.items i x).ty ≡ shape_of x.ty = ap (λ (a : Alt). shape_of a.ty) (sym e) in
         let us = h.come ++ units in
@@ -216,11 +204,8 @@ module _ {F : Type 0} (c : Coding) (laws : Laws c) (fc : FieldCoding) (ahead : F
         let lead : Leads c.ruling.fielding (OpenOf c (shape_of (get_or v.items i x).ty)) us (λ d. alternative (length root + i) d) (Spelt c.code None (choice (alternatives_seen root) (more_alternatives_of ext))) all =
         leads_on (open_leads_at_place c v.items i x us inside) tagged in
         let all_good = subst AreAllOfProfile are (added_good (alternatives_seen root) (more_alternatives_of ext) good) in
-        let none = right_false (some_alternative is_uncovered (alternatives_seen root)) (some_more is_uncovered (more_alternatives_of ext)) (right_false (is_uncovered (choice (alternatives_seen root) (more_alternatives_of ext))) (some_alternative is_uncovered (alternatives_seen root) || some_more is_uncovered (more_alternatives_of ext)) cov) in
-        let none_added : some_alternative is_uncovered (alternatives_of (map branch_of v.items)) ≡ false = rw is at none in
         record {
           of_profile = subst InProfile same (good_at v.items i x all_good inside);
-          covered = subst IsCovered same (covered_in v.items i x inside none_added);
           come = h.come;
           took = h.inner;
           leads = subst (λ (t : Shape). Leads c.ruling.fielding (OpenOf c t) us (λ d. alternative (length root + i) d) (Spelt c.code None (choice (alternatives_seen root) (more_alternatives_of ext))) all) same lead;

@@ -1,167 +1,16 @@
--- How an open type field that may be cut goes on.
+-- What is answered after an open type field, of which all octets have come.
 use native.Mathlib.Nat.{mul-le-mul}
-use Rattle.std.proofs.Common.{◌≡◌, ◌<◌, ◌≤◌, ◌+◌, ◌*◌, ◌^◌, arith, inl, inr, ℕ, List, [], ◌∷◌, ◌++◌, length, Option, Some, None, refl, sym, ap, subst, ◌∙◌}
-use mathlib.Core.List.{map-id}
+use Rattle.std.proofs.Common.{◌≡◌, ◌<◌, ◌≤◌, ◌+◌, ◌*◌, ◌^◌, arith, ℕ, List, length, sym, ◌∙◌}
 use Rattle.asn_values.specs.Fits.{max_len}
-use Rattle.asn_rules.specs.Chunks.{Chunk, open_field}
-use Rattle.asn_rules.specs.Frames.{Frame as FieldOf}
-use Rattle.asn_rules.specs.General.{after_first}
-use Rattle.asn_rules.specs.Languages.{Spells, Short, Inhabited, Then}
-use Rattle.asn_rules.specs.Stops.{Stops}
 use Rattle.asn_rules.specs.declared.stop.Stop.{Stop}
 use Rattle.asn_rules.specs.declared.stop.Stop.TheVariants as stop
-use Rattle.asn_rules.proofs.Answer.Answers.{done_stays}
-use Rattle.asn_rules.proofs.Languages.Leads.{leads_on, leads_map, leads_same, leads_second, stops_by, stops_first, stops_on}
-use Rattle.asn_rules.proofs.Languages.Parts.{nothing_inhabited}
-use Rattle.asn_rules.proofs.Languages.Rows.{row_inhabited}
-use Rattle.asn_rules.proofs.Languages.Then.{Follows}
-use Rattle.asn_rules.proofs.Numbers.General.{general_inhabited}
-use Rattle.asn_walk.specs.Ahead.{Ahead, items, lengths, end, Remaining, SomeAhead}
+use Rattle.asn_walk.specs.Ahead.{Ahead}
 use Rattle.asn_walk.specs.Coding.{Coding}
 use Rattle.asn_walk.specs.Laws.{Laws}
-use Rattle.asn_walk.proofs.Listing.{Going, steps_left}
-use Rattle.asn_walk.proofs.Parts.{fields_part_of}
-use Rattle.asn_walk_feed.specs.Feeding.{Waits, FeedLaws, NextOf, HasBegun, StandsAfter}
-use Rattle.asn_walk_feed.specs.OpenFields.{FieldCoding, FieldLaws, OctetTook, OctetsGoOn, FieldTook, KeepsField, StopsAfter}
-use Rattle.asn_walk_feed.specs.Taken.{with_node}
+use Rattle.asn_walk_feed.specs.Feeding.{StandsAfter}
+use Rattle.asn_walk_feed.specs.Octets.{OctetCoding, KeepsOctets}
+use Rattle.asn_walk_feed.specs.OpenFields.{StopsAfter}
 use Rattle.asn_walk_feed.specs.declared.frame.Frame.{Frame}
-use Rattle.asn_walk_feed.specs.declared.frame.Frame.TheVariants as frame
-use Rattle.asn_walk_feed.specs.declared.frame.Elements.{Elements}
-use Rattle.asn_walk_feed.proofs.ItemsRead as listed
-
--- some items are ahead
-ahead_inhabited : {A : Type 0} (L : A → List Chunk → Type 0) (a : Ahead) → Inhabited L → SomeAhead a
-    → Inhabited (Remaining L a)
-ahead_inhabited L (items n) i h = row_inhabited i n
-ahead_inhabited L (lengths is so_far closed) i h = general_inhabited i h.0 h.1
-ahead_inhabited L end i h = nothing_inhabited []
-
-module _ {F : Type 0} (c : Coding) (laws : Laws c) (feeds : FeedLaws c) (f : FieldCoding) (fields : FieldLaws c f) (ahead : F → Ahead) (between : F → Type 0) where
-  -- the octets of a field
-  abbrev Field : List ℕ → List Chunk → Type 0
-  Field = FieldOf c.ruling.fielding open_field
-
-  abbrev R : Elements F ℕ → List ℕ → List ℕ → Type 0
-  R q all units = OctetsGoOn c f ahead between q all units
-
-  none_came : (b : List ℕ) → b ≡ [] → OctetTook {F = F} c f b [] []
-  none_came b e = (refl, record { come = ap c.to_units e ∙ feeds.none; at_unit = rw e feeds.begin; begins = inl e })
-
-  -- ---- what stands before the octets
-
-  follows : Follows f.start (λ a. Remaining f.octet a)
-  follows = record { follow = λ a x h. ahead_inhabited f.octet a fields.some (fields.ahead a x h) }
-
-  -- it stops
-  pub start_stops : (us : List ℕ) (why : Stop) → Stops c.ruling.fielding f.start us why → Stops c.ruling.fielding Field us why
-  start_stops us why h =
-      stops_by why (stops_on (stops_on (stops_first c.ruling.fielding us follows) (leads_map c.ruling.fielding after_first (Then f.start (λ a. Remaining f.octet a)) us).stops)
-      (leads_same c.ruling.fielding us fields.fields).stops) h
-
-  -- it has been read
-  begins : (a : Ahead) (us r : List ℕ) → Spells c.ruling.fielding f.start a us r → (more : List ℕ) → Going c f.octet Field (us ++ more) a [] (r ++ more)
-  begins a us r h more = record {
-    leads =
-        leads_on (leads_on (leads_second {M = λ b. Remaining f.octet b} (fields_part_of c laws) fields.start (done_stays more h)) (leads_map c.ruling.fielding after_first (Then f.start (λ b. Remaining f.octet b)) (us ++ more)))
-        (leads_same c.ruling.fielding (us ++ more) fields.fields);
-  }
-
-  pub octets_start : (q : Elements F ℕ) (us r : List ℕ) → Spells c.ruling.fielding f.start (ahead q.fragments) us r
-      → q.left ≡ 0 → q.elements.items ≡ [] → q.next_part ≡ [] → between q.fragments → R q us r
-  octets_start q us r sp el ei eh b =
-      listed.items_start c laws feeds ahead between f.octet Field (λ o. o) fields.some fields.octet (OctetTook c f) none_came q [] us r
-      (begins (ahead q.fragments) us r sp) el ei eh b refl
-
-  -- ---- the next length
-
-  -- what has begun of it
-  pub length_begun : (q : Elements F ℕ) (all units : List ℕ) → q.left ≡ 0 → R q all units
-      → HasBegun c (NextOf (ahead q.fragments)) q.next_part × c.at_unit q.next_part
-  length_begun q all units e h =
-      (let a = listed.length_ahead c laws feeds ahead between f.octet Field (λ o. o) fields.some fields.octet (OctetTook c f) none_came q [] all units e h in
-      (a.begun, a.at_unit))
-
-  pub length_stops : (q : Elements F ℕ) (all units : List ℕ) (why : Stop) → q.left ≡ 0 → R q all units
-      → Stops c.ruling.fielding (NextOf (ahead q.fragments)) (c.to_units q.next_part ++ units) why → Stops c.ruling.fielding Field all why
-  length_stops q = listed.length_stops c laws feeds ahead between f.octet Field (λ o. o) fields.some fields.octet (OctetTook c f) none_came q []
-
-  pub length_ends : (q : Elements F ℕ) (all units r : List ℕ) (new : Ahead) → q.left ≡ 0 → R q all units
-      → Spells c.ruling.fielding (NextOf (ahead q.fragments)) (None, new) (c.to_units q.next_part ++ units) r → Spells c.ruling.fielding Field q.elements.items all r
-  length_ends q all units r new e h k =
-      subst (λ (os : List ℕ). Spells c.ruling.fielding Field os all r) (map-id q.elements.items)
-      (listed.length_ends c laws feeds ahead between f.octet Field (λ o. o) fields.some fields.octet (OctetTook c f) none_came q [] all units r new e h k)
-
-  pub length_kept : (q p : Elements F ℕ) (all units units' : List ℕ) → q.left ≡ 0 → R q all units
-      → p.left ≡ q.left → p.fragments ≡ q.fragments → p.elements ≡ q.elements → c.at_unit p.next_part
-      → c.to_units p.next_part ≡ c.to_units q.next_part ++ units → units' ≡ []
-      → Stops c.ruling.fielding (NextOf (ahead q.fragments)) (c.to_units q.next_part ++ units) stop.Short → R p all units'
-  length_kept q p = listed.length_kept c laws feeds ahead between f.octet Field (λ o. o) fields.some fields.octet (OctetTook c f) none_came q p []
-
-  pub length_more : (q p : Elements F ℕ) (all units r : List ℕ) (k : ℕ) → q.left ≡ 0 → R q all units
-      → p.left ≡ k → p.elements ≡ q.elements → p.next_part ≡ [] → between p.fragments
-      → Spells c.ruling.fielding (NextOf (ahead q.fragments)) (Some k, ahead p.fragments) (c.to_units q.next_part ++ units) r → R p all r
-  length_more q p = listed.length_more c laws feeds ahead between f.octet Field (λ o. o) fields.some fields.octet (OctetTook c f) none_came q p []
-
-  pub length_nearer : (q : Elements F ℕ) (all units r : List ℕ) (k : ℕ) (new : Ahead) → q.left ≡ 0 → R q all units
-      → Spells c.ruling.fielding (NextOf (ahead q.fragments)) (Some k, new) (c.to_units q.next_part ++ units) r
-      → steps_left new + length r < steps_left (ahead q.fragments) + length units
-  length_nearer q = listed.length_nearer c laws feeds ahead between f.octet Field (λ o. o) fields.some fields.octet (OctetTook c f) none_came q []
-
-  -- ---- the next octet
-
-  pub record OctetAhead (q : Elements F ℕ) (all units : List ℕ) : Type 0 where
-    pub at_unit : c.at_unit q.next_part
-    pub begun : HasBegun c f.octet q.next_part
-    pub stops : (why : Stop) → Stops c.ruling.fielding f.octet (c.to_units q.next_part ++ units) why → Stops c.ruling.fielding Field all why
-    pub kept : (p : Elements F ℕ) (units' : List ℕ) → p.left ≡ q.left → p.fragments ≡ q.fragments → p.elements ≡ q.elements → c.at_unit p.next_part
-        → c.to_units p.next_part ≡ c.to_units q.next_part ++ units → units' ≡ []
-        → Stops c.ruling.fielding f.octet (c.to_units q.next_part ++ units) stop.Short → R p all units'
-    pub more : (p : Elements F ℕ) (o : ℕ) (r : List ℕ) → p.left + 1 ≡ q.left → p.fragments ≡ q.fragments → p.next_part ≡ []
-        → p.elements.items ≡ q.elements.items ++ o ∷ [] → Spells c.ruling.fielding f.octet o (c.to_units q.next_part ++ units) r → R p all r
-
-  pub octet_ahead : (q : Elements F ℕ) (all units : List ℕ) → 0 < q.left → R q all units → OctetAhead q all units
-  octet_ahead q all units l h =
-      let x = listed.element_ahead c laws feeds ahead between f.octet Field (λ o. o) fields.some fields.octet (OctetTook c f) none_came q [] all units l h in
-      let w : Waits c f.octet q.next_part x.come = x.took.1 in
-      let same : c.to_units q.next_part ++ units ≡ x.come ++ units = ap (λ (us : List ℕ). us ++ units) w.come in
-      record {
-        at_unit = w.at_unit;
-        begun = w.begins;
-        stops = λ why k. x.stops why (subst (λ (us : List ℕ). Stops c.ruling.fielding f.octet us why) same k);
-        kept = λ p units' el ef ee at eh z k.
-            (let short : Short c.ruling.fielding f.octet (c.to_units p.next_part) = rw eh k.told in
-            x.kept p [] units' el ef ee z (refl, record { come = eh ∙ same; at_unit = at; begins = inr short }));
-        more = λ p o r el ef eh ei k. x.more p [] o r el ef eh ei refl (subst (λ (us : List ℕ). Spells c.ruling.fielding f.octet o us r) same k);
-      }
-
-  -- ---- with the next piece
-
-  pub octets_go_on : (q : Elements F ℕ) (us units : List ℕ) → R q us [] → R q (us ++ units) units
-  octets_go_on q = listed.items_go_on c laws feeds ahead between f.octet Field (λ o. o) fields.some fields.octet (OctetTook c f) none_came q []
-
-  -- ---- the node
-
-  pub field_octets : (r : Option (Frame F)) (x : Frame F) (q : Elements F ℕ) (fs : List (Frame F)) (us : List ℕ)
-      → r ≡ Some x → x ≡ frame.Octets q → FieldTook c f ahead between (with_node r fs) us → (fs ≡ []) × R q us []
-  field_octets r x q [] us e g h = (let k : R q us [] = rw (e, g) at h in (refl, k))
-  field_octets r x q (y ∷ fs) us e g h = (let z : ⊥ = rw (e, g) at h in absurd z)
-
-  pub field_none : (r : Option (Frame F)) (fs : List (Frame F)) (us : List ℕ) → r ≡ None → fs ≡ []
-      → FieldTook c f ahead between (with_node r fs) us → us ≡ []
-  field_none r fs us e g h = rw (e, g) at h
-
-  pub field_start : (r : Option (Frame F)) (x : Frame F) (b : List ℕ) (fs : List (Frame F)) (us : List ℕ) → r ≡ Some x
-      → x ≡ frame.Start b → FieldTook c f ahead between (with_node r fs) us → (fs ≡ []) × Waits c f.start b us
-  field_start r x b [] us e g h = (let w : Waits c f.start b us = rw (e, g) at h in (refl, w))
-  field_start r x b (y ∷ fs) us e g h = (let z : ⊥ = rw (e, g) at h in absurd z)
-
-  pub start_took : (fs : List (Frame F)) (b us : List ℕ) → fs ≡ frame.Start b ∷ [] → Waits c f.start b us → FieldTook c f ahead between fs us
-  start_took fs b us e w = rw e w
-
-  pub octets_took : (fs : List (Frame F)) (q : Elements F ℕ) (us : List ℕ) → fs ≡ frame.Octets q ∷ [] → R q us [] → FieldTook c f ahead between fs us
-  octets_took fs q us e k = rw e k
-
--- ---- after the field
 
 -- it stops after the field
 pub stands_after : (c : Coding) (units : List ℕ) (left : ℕ) (why : Stop) → length (c.to_units units) ≡ left → StopsAfter left why → StandsAfter c units why
@@ -170,8 +19,8 @@ stands_after c units left stop.Short e h = absurd h
 stands_after c units left stop.Memory e h = tt
 
 -- and keeps nothing
-pub keeps_none : {F : Type 0} (c : Coding) (f : FieldCoding) (ahead : F → Ahead) (between : F → Type 0) (fs : List (Frame F)) (us : List ℕ) (left : ℕ) (why : Stop)
-    → StopsAfter left why → KeepsField c f ahead between fs us why
+pub keeps_none : {F : Type 0} (c : Coding) (f : OctetCoding) (ahead : F → Ahead) (between : F → Type 0) (fs : List (Frame F)) (us : List ℕ) (left : ℕ) (why : Stop)
+    → StopsAfter left why → KeepsOctets c f ahead between fs us why
 keeps_none c f ahead between fs us left (stop.Refused n w) h = tt
 keeps_none c f ahead between fs us left stop.Short h = absurd h
 keeps_none c f ahead between fs us left stop.Memory h = tt

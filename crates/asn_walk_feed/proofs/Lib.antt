@@ -1,10 +1,14 @@
+pub mod AddedRead
 pub mod Bits
 pub mod ChosenRead
+pub mod CompleteRead
 pub mod FieldsRead
 pub mod Goings
 pub mod ItemsRead
 pub mod Leaves
 pub mod ListsRead
+pub mod OctetsRead
 pub mod RootsRead
 pub mod Scalars
 pub mod Sizes
+pub mod StringsRead

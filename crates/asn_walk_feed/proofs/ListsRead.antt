@@ -74,7 +74,7 @@ pub next_stops : {R : Fielding} (a : Ahead) (us : List ℕ) (why : Stop) → Sto
 next_stops {R} a us why h = rw h.was (stops_by why (leads_map R (next_of h.counts h.so_far) (Header (At (Spanned h.counts) h.so_far h.closed)) us).stops h.stops)
 
 -- under another view nothing else is read
-under : {A B : Type 0} {R : Fielding} {f : A → B} {L : A → List Chunk → Type 0} (us : List ℕ) (why : Stop) → Stops R (Map f L) us why → Stops R L us why
+pub under : {A B : Type 0} {R : Fielding} {f : A → B} {L : A → List Chunk → Type 0} (us : List ℕ) (why : Stop) → Stops R (Map f L) us why → Stops R L us why
 under {f = f} us (stop.Refused n w) h = record { told = record { before = h.told.before; unit = h.told.unit; after = h.told.after; split = h.told.split; left_is = h.told.left_is; live = map_dead h.told.live; dead = λ x. h.told.dead (map_live x); none = λ v r x. h.told.none (f v) r (map_spells x) } }
 under {f = f} us stop.Short h = record { told = record { live = map_dead h.told.live; none = λ v r x. h.told.none (f v) r (map_spells x) } }
 under us stop.Memory h = record { told = tt }

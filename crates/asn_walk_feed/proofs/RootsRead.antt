@@ -1,5 +1,5 @@
 -- How the root of a SEQUENCE that may be cut goes on, as the program holds it.
-use Rattle.std.proofs.Common.{true≢false, Vec, Global, vec_len, ◌≡◌, ◌≤◌, ◌<◌, ◌+◌, ◌/◌, ◌%◌, ◌^◌, ◌⊎◌, ◌||◌, inl, inr, get_or, ℕ, zero, suc, Bool, true, false, List, [], ◌∷◌, ◌++◌, length, map, drop, append-nil, append_assoc, Option, Some, None, refl, sym, ap, subst, ◌∙◌, arith}
+use Rattle.std.proofs.Common.{Vec, Global, vec_len, ◌≡◌, ◌≤◌, ◌<◌, ◌+◌, ◌/◌, ◌%◌, ◌^◌, ◌⊎◌, inl, inr, get_or, ℕ, Bool, true, false, List, [], ◌∷◌, ◌++◌, length, map, drop, append-nil, append_assoc, Option, Some, None, refl, sym, ap, subst, ◌∙◌, arith}
 use Rattle.std.specs.List.{drop-map}
 use Rattle.std.specs.Option.{option_map}
 use Rattle.std.proofs.lemmas.List.{map_push, drop-drop, length-append}
@@ -7,13 +7,13 @@ use Rattle.asn_values.specs.declared.types.Field.{Field}
 use Rattle.asn_values.specs.declared.types.Need.{Need}
 use Rattle.asn_values.specs.declared.types.Need.TheVariants as needs
 use Rattle.asn_values.specs.declared.value.Value.{Value}
-use Rattle.asn_values.specs.Datum.{Datum, components, components_of}
-use Rattle.asn_values.specs.Shape.{Shape, Demand, must, optional, default, Fields, no_fields, field, MoreFields, closed, marked, more_fields, sequence}
+use Rattle.asn_values.specs.Datum.{components, components_of}
+use Rattle.asn_values.specs.Shape.{Shape, Demand, must, optional, default, Fields, no_fields, field, MoreFields, more_fields, sequence}
 use Rattle.asn_values.specs.Parts.{AreOfProfile, IsGoodDemand}
-use Rattle.asn_values.specs.Profile.{InProfile, somewhere, some_field, some_addition}
+use Rattle.asn_values.specs.Profile.{InProfile}
 use Rattle.asn_values.specs.View.{Part, fields_of, part_of_field, shape_of, demand_of, datum_of, fields_seen, entries_seen, more_fields_of}
 use Rattle.asn_values.proofs.Components.{shape_of_part}
-use Rattle.asn_values.proofs.Parts.{components_of_profile, left_false, right_false}
+use Rattle.asn_values.proofs.Parts.{components_of_profile}
 use Rattle.asn_bits.specs.Numbers.{bits}
 use Rattle.asn_bits.specs.Sink.{bit_of}
 use Rattle.asn_rules.specs.Components.{has_presence_bit}
@@ -25,7 +25,7 @@ use Rattle.asn_rules.specs.declared.stop.Stop.TheVariants as stop
 use Rattle.asn_rules.proofs.Answer.Answers.{done_stays}
 use Rattle.asn_rules.proofs.Languages.Leads.{LeadsStops, stops_on, stops_by}
 use Rattle.asn_walk.specs.Ahead.{Ahead}
-use Rattle.asn_walk.specs.Coding.{Coding, CanExtend, PreambleOf, added, absent_entries}
+use Rattle.asn_walk.specs.Coding.{Coding, PreambleOf, added, absent_entries}
 use Rattle.asn_walk.specs.Laws.{Laws}
 use Rattle.asn_walk.proofs.AdditionsRead.{after_nothing}
 use Rattle.asn_walk.proofs.Parts.{count_of_fields}
@@ -36,7 +36,7 @@ use Rattle.asn_walk_feed.specs.Feeding.{Waits}
 use Rattle.asn_walk_feed.specs.OpenFields.{FieldCoding}
 use Rattle.asn_walk_feed.specs.Taken.{Took, with_node}
 use Rattle.asn_walk_feed.specs.Roots.{parts_in, IsPresent, OtherTook, DemandTook, NextTook}
-use Rattle.asn_walk_feed.specs.Taken.{is_uncovered, IsCovered, RootReached, ComponentTook, KeepsOther, KeepsComponent, KeepsFrames}
+use Rattle.asn_walk_feed.specs.Taken.{RootReached, ComponentTook, KeepsOther, KeepsComponent, KeepsFrames}
 use Rattle.asn_walk_feed.specs.declared.frame.Frame.TheVariants as frame
 use Rattle.asn_walk_feed.specs.declared.frame.Frame.{Frame}
 use Rattle.asn_walk_feed.specs.declared.frame.Components.{Components}
@@ -52,13 +52,13 @@ parts_in-fields_of [] = refl
 parts_in-fields_of (p ∷ ps) = ap (λ (qs : List Part). p ∷ qs) (parts_in-fields_of ps)
 
 -- after one more component the others are left
-others_left : (n : ℕ) (ps : List Part) (p : Part) (rest : List Part) → drop n ps ≡ p ∷ rest → drop (n + 1) ps ≡ rest
+pub others_left : (n : ℕ) (ps : List Part) (p : Part) (rest : List Part) → drop n ps ≡ p ∷ rest → drop (n + 1) ps ≡ rest
 others_left n ps p rest e =
     sym (drop-drop 1 n ps) ∙ ap (λ (qs : List Part). drop 1 qs) e
 
 -- ---- presence bits
 
-one_bit : (x y : Bool) → bit_of x ≡ bit_of y → x ≡ y
+pub one_bit : (x y : Bool) → bit_of x ≡ bit_of y → x ≡ y
 one_bit true true e = refl
 one_bit false false e = refl
 one_bit true false e = absurd (omega (arith, e))
@@ -238,30 +238,14 @@ module _ {F : Type 0} (c : Coding) (laws : Laws c) (fc : FieldCoding) (ahead : F
       → Took c fc ahead between fs (sequence root more) us
   sequence_took fs b us e w = rw e w
 
--- ---- without extension additions
+-- ---- the end of the root
 
--- where a SEQUENCE is covered, none can be present
-none_extends : (root : Fields) (more : MoreFields) → IsCovered (sequence root more) → CanExtend (added more) → ⊥
-none_extends root closed cov e = e
-none_extends root (marked no_fields) cov e = e
-none_extends root (marked (field name demand t fs)) cov e = absurd (true≢false cov)
-
--- the extension bit is 0
-not_extended : (b : Bool) → (b ≡ true → ⊥) → b ≡ false
-not_extended true h = absurd (h refl)
-not_extended false h = refl
-
--- and none has an entry
-no_entries : (root : Fields) (more : MoreFields) → IsCovered (sequence root more) → absent_entries (more_fields more) ≡ []
-no_entries root closed cov = refl
-no_entries root (marked no_fields) cov = refl
-no_entries root (marked (field name demand t fs)) cov = absurd (true≢false cov)
-
-module _ {F : Type 0} (c : Coding) (laws : Laws c) (fc : FieldCoding) (ahead : F → Ahead) (between : F → Type 0) (root : Fields) (more : MoreFields) (good : InProfile (sequence root more)) (cov : IsCovered (sequence root more)) where
-  pub root_ends : (q : Components) (fs : List (Frame F)) (all units : List ℕ)
-      → drop (length q.entries.items) (parts_in root) ≡ [] → RootReached c fc ahead between root more q fs all units
-      → Spells c.ruling.fielding (Spelt c.code None (sequence root more)) (components (components_of (entries_seen q.entries.items))) all units
-  root_ends q fs all units e h =
+module _ {F : Type 0} (c : Coding) (laws : Laws c) (fc : FieldCoding) (ahead : F → Ahead) (between : F → Type 0) (root : Fields) (more : MoreFields) (good : InProfile (sequence root more)) where
+  -- its components are read
+  pub root_listed : (q : Components) (fs : List (Frame F)) (all units : List ℕ)
+      → drop (length q.entries.items) (parts_in root) ≡ [] → (h : RootReached c fc ahead between root more q fs all units)
+      → Spells c.ruling.fielding (Listed c.code root (bits (bitmap_length root) q.presence.bitmap)) (entries_seen q.entries.items) h.between units
+  root_listed q fs all units e h =
       let n = bitmap_length root in
       let parts = parts_in root in
       let bitmap = q.presence.bitmap in
@@ -271,10 +255,14 @@ module _ {F : Type 0} (c : Coding) (laws : Laws c) (fc : FieldCoding) (ahead : F
       let read : Spells c.ruling.fielding (Listed c.code (fields_of parts) (bits n bitmap)) vs (h.between ++ []) ((h.come ++ units) ++ []) = after_nothing (read_ends stand e) in
       let one : Spells c.ruling.fielding (Listed c.code root (bits n bitmap)) vs (h.between ++ []) ((h.come ++ units) ++ []) = subst (λ (gs : Fields). Spells c.ruling.fielding (Listed c.code gs (bits n bitmap)) vs (h.between ++ []) ((h.come ++ units) ++ [])) (fields_of-parts_in root) read in
       let two : Spells c.ruling.fielding (Listed c.code root (bits n bitmap)) vs h.between ((h.come ++ units) ++ []) = subst (λ (us : List ℕ). Spells c.ruling.fielding (Listed c.code root (bits n bitmap)) vs us ((h.come ++ units) ++ [])) (append-nil h.between) one in
-      let three : Spells c.ruling.fielding (Listed c.code root (bits n bitmap)) vs h.between units = subst (λ (us : List ℕ). Spells c.ruling.fielding (Listed c.code root (bits n bitmap)) vs h.between us) (append-nil (h.come ++ units) ∙ ap (λ (us : List ℕ). us ++ units) inner.1) two in
-      let done : Spells c.ruling.fielding (Spelt c.code None (sequence root more)) (components (components_of (vs ++ absent_entries (more_fields more)))) all units = none_added c laws root more good (q.extended, bitmap) all h.between h.preamble vs units three (not_extended q.extended (λ x. none_extends root more cov (h.preamble.spelt.fits.1 x))) in
-      let none : vs ++ absent_entries (more_fields more) ≡ vs = ap (λ (es : List (Option Datum)). vs ++ es) (no_entries root more cov) ∙ append-nil vs in
-      subst (λ (es : List (Option Datum)). Spells c.ruling.fielding (Spelt c.code None (sequence root more)) (components (components_of es)) all units) none done
+      subst (λ (us : List ℕ). Spells c.ruling.fielding (Listed c.code root (bits n bitmap)) vs h.between us) (append-nil (h.come ++ units) ∙ ap (λ (us : List ℕ). us ++ units) inner.1) two
+
+  -- no addition is present
+  pub root_ends : (q : Components) (fs : List (Frame F)) (all units : List ℕ)
+      → drop (length q.entries.items) (parts_in root) ≡ [] → q.extended ≡ false → RootReached c fc ahead between root more q fs all units
+      → Spells c.ruling.fielding (Spelt c.code None (sequence root more)) (components (components_of (entries_seen q.entries.items ++ absent_entries (more_fields more)))) all units
+  root_ends q fs all units e x h =
+      none_added c laws root more good (q.extended, q.presence.bitmap) all h.between h.preamble (entries_seen q.entries.items) units (root_listed q fs all units e h) x
 
   pub root_emptied : (q : Components) (fs : List (Frame F)) (all units : List ℕ)
       → drop (length q.entries.items) (parts_in root) ≡ [] → RootReached c fc ahead between root more q fs all units → fs ≡ []
@@ -296,17 +284,6 @@ pub none_left : (fields : List Field) (i : ℕ) → length fields ≤ i → drop
 none_left fields i h =
     ap (λ (ps : List Part). drop i ps) (parts_in-fields_of (map part_of_field fields)) ∙ drop-map part_of_field i fields
     ∙ no_part fields i h
-
--- it is covered where all are
-pub covered_at : (fields : List Field) (more : MoreFields) (i : ℕ) (x : Field) → i < length fields → x ≡ get_or fields i x
-    → IsCovered (sequence (fields_of (map part_of_field fields)) more) → IsCovered (part_of_field x).shape
-covered_at fields more i x h e s = go fields i h e (left_false (some_field is_uncovered (fields_of (map part_of_field fields))) (some_addition is_uncovered more) (right_false (is_uncovered (sequence (fields_of (map part_of_field fields)) more)) (some_field is_uncovered (fields_of (map part_of_field fields)) || some_addition is_uncovered more) s))
-  where
-    go : (fs : List Field) (i : ℕ) → i < length fs → x ≡ get_or fs i x → some_field is_uncovered (fields_of (map part_of_field fs)) ≡ false
-        → IsCovered (part_of_field x).shape
-    go [] i h e s = absurd (omega (arith, h))
-    go (f ∷ fs) zero h e s = rw e (left_false (somewhere is_uncovered (part_of_field f).shape) (some_field is_uncovered (fields_of (map part_of_field fs))) s)
-    go (f ∷ fs) (suc i) h e s = go fs i (omega (arith, h)) e (right_false (somewhere is_uncovered (part_of_field f).shape) (some_field is_uncovered (fields_of (map part_of_field fs))) s)
 
 -- a component without a DEFAULT
 pub plain_demand : (need : Need) → (need ≡ needs.Must) ⊎ (need ≡ needs.Optional) → (demand_of need ≡ must) ⊎ (demand_of need ≡ optional)

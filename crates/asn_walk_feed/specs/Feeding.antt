@@ -1,5 +1,5 @@
 -- What a reader of messages in pieces says, and what a set of encoding rules says of the parts that a piece may cut.
-use Rattle.std.specs.Prelude.{◌≡◌, ◌≤◌, ◌<◌, ◌+◌, ◌*◌, ◌⊎◌, ℕ, List, [], ◌++◌, length, ⊤, nat_lt, Option, Some, None, true}
+use Rattle.std.specs.Prelude.{◌≡◌, ◌≤◌, ◌<◌, ◌+◌, ◌*◌, ◌%◌, ◌⊎◌, ℕ, List, [], ◌++◌, length, ⊤, nat_lt, Option, Some, None, true}
 use Rattle.asn_values.specs.Datum.{Datum}
 use Rattle.asn_values.specs.Profile.{InProfile, good_default}
 use Rattle.asn_values.specs.Shape.{SizeRange, Shape, boolean, null, integer, enumerated}
@@ -8,10 +8,11 @@ use Rattle.asn_rules.specs.Chunks.{Chunk}
 use Rattle.asn_rules.specs.General.{Length, last, fragment, Header}
 use Rattle.asn_rules.specs.Languages.{Short, Map, Nothing}
 use Rattle.asn_rules.specs.Listed.{Spelt}
+use Rattle.asn_rules.specs.Padding.{Fixed}
 use Rattle.asn_rules.specs.declared.stop.Stop.{Stop}
 use Rattle.asn_rules.specs.declared.stop.Stop.TheVariants as stop
 use Rattle.asn_walk.specs.Ahead.{Ahead, items, lengths, end}
-use Rattle.asn_walk.specs.Coding.{Coding, PreambleOf, AreFew, IndexOf}
+use Rattle.asn_walk.specs.Coding.{Coding, PreambleOf, AdditionBitmapOf, AreFew, IndexOf}
 use Rattle.asn_walk.specs.Laws.{IsSizeOfProfile}
 
 -- ---- parts of few bits
@@ -46,9 +47,14 @@ pub record FeedLaws (c : Coding) : Type 0 where
   pub scalar : (t : Shape) → InProfile t → IsScalar t → IsBrief c (Spelt c.code None t)
   pub other : (d : Datum) (t : Shape) → InProfile t → good_default t d ≡ true → IsBrief c (Spelt c.code (Some d) t)
   pub preamble : (n : ℕ) (more : Option ℕ) → n ≤ 64 → IsBrief c (PreambleOf c n more)
+  pub bitmap : (n : ℕ) → n ≤ 64 → IsBrief c (AdditionBitmapOf c n)
   pub index : (root : ℕ) (more : Option ℕ) → AreFew root more → IsBrief c (IndexOf c root more)
   pub next : (a : Ahead) → IsBrief c (NextOf a)
   pub list_start : (s : SizeRange) → IsSizeOfProfile s → IsBrief c (c.list_start s)
+  pub padding : (n : ℕ) → IsBrief c (Fixed (c.padding n))
+  -- pieces are whole octets, so what fills up a message is all there or the message has no unit yet
+  pub unfilled : (n : ℕ) (us : List ℕ) → (n + length us) % c.octet_units ≡ 0
+      → Short c.ruling.fielding (Fixed (c.padding n)) us → (n ≡ 0) × (us ≡ [])
 
 -- no unit of the part has come, or some have and more are wanted
 abbrev pub HasBegun : {V : Type 0} → Coding → (V → List Chunk → Type 0) → List ℕ → Type 0

@@ -1,11 +1,11 @@
 -- Where a reader of messages in pieces was cut: which units brought it there.
-use Rattle.std.specs.Prelude.{◌≡◌, ℕ, Bool, true, false, List, [], ◌∷◌, ◌++◌, map, Option, Some, None, ⊤}
+use Rattle.std.specs.Prelude.{◌≡◌, ℕ, Bool, List, [], ◌∷◌, ◌++◌, map, Option, Some, None, ⊤}
 use mathlib.Core.Logic.{inl, inr}
 use Rattle.asn_values.specs.Datum.{Datum}
-use Rattle.asn_values.specs.Profile.{InProfile, somewhere}
+use Rattle.asn_values.specs.Profile.{InProfile}
 use Rattle.asn_values.specs.declared.value.Value.{Value}
-use Rattle.asn_values.specs.Shape.{SizeRange, Shape, boolean, null, integer, enumerated, sequence, sequence_of, choice, Fields, no_fields, MoreFields, closed, marked, Alternatives, MoreAlternatives, count}
-use Rattle.asn_values.specs.View.{Part, datum_of}
+use Rattle.asn_values.specs.Shape.{SizeRange, Shape, bit_string, octet_string, restricted, utf8_string, sequence, sequence_of, choice, Fields, MoreFields, Alternatives, MoreAlternatives, count}
+use Rattle.asn_values.specs.View.{Part, datum_of, entries_seen}
 use Rattle.asn_rules.specs.Languages.{Spells}
 use Rattle.asn_rules.specs.Listed.{Spelt, Entry, bitmap_length}
 use Rattle.asn_rules.specs.Stops.{Stops}
@@ -13,33 +13,17 @@ use Rattle.asn_rules.specs.declared.stop.Stop.{Stop}
 use Rattle.asn_rules.specs.declared.stop.Stop.TheVariants as stop
 use Rattle.asn_walk.specs.Ahead.{Ahead}
 use Rattle.asn_walk.specs.Coding.{Coding, ListingOf, PreambleOf, added, IndexOf, added_alternatives}
+use Rattle.asn_walk_feed.specs.Additions.{BitmapGoesOn, NextAdditionTook, AdditionsGoOn}
 use Rattle.asn_walk_feed.specs.Chosen.{AlternativeTook, ChoiceGoesOn}
 use Rattle.asn_walk_feed.specs.Feeding.{NextOf, Waits}
 use Rattle.asn_walk_feed.specs.Items.{GoesOn, NextPart}
-use Rattle.asn_walk_feed.specs.OpenFields.{FieldCoding, FieldTook}
+use Rattle.asn_walk_feed.specs.Octets.{OctetsTook, OctetsGoOn}
+use Rattle.asn_walk_feed.specs.OpenFields.{FieldCoding}
 use Rattle.asn_walk_feed.specs.Roots.{OtherTook, EntryTook, NextTook, RootGoesOn}
 use Rattle.asn_walk_feed.specs.declared.frame.Components.{Components}
 use Rattle.asn_walk_feed.specs.declared.frame.Elements.{Elements}
 use Rattle.asn_walk_feed.specs.declared.frame.Frame.{Frame}
 use Rattle.asn_walk_feed.specs.declared.frame.Frame.TheVariants as frame
-
--- ---- the kinds of type that are read in pieces
-
--- a node of the type is of another kind
-abbrev pub is_uncovered : Shape → Bool
-is_uncovered boolean = false
-is_uncovered null = false
-is_uncovered (integer r) = false
-is_uncovered (enumerated root more) = false
-is_uncovered (sequence root closed) = false
-is_uncovered (sequence root (marked no_fields)) = false
-is_uncovered (sequence_of t s) = false
-is_uncovered (choice root more) = false
-is_uncovered _ = true
-
--- none is
-abbrev pub IsCovered : Shape → Type 0
-IsCovered t = somewhere is_uncovered t ≡ false
 
 -- ---- a value
 
@@ -52,6 +36,10 @@ Took c fc ahead between (frame.Start b ∷ []) (sequence root more) us =
     Waits c (PreambleOf c (bitmap_length root) (added more)) b us
 Took c fc ahead between (frame.Start b ∷ []) (choice root more) us =
     Waits c (IndexOf c (count root) (added_alternatives more)) b us
+Took c fc ahead between (frame.Start b ∷ []) (bit_string s) us = Waits c (fc.string (bit_string s)).start b us
+Took c fc ahead between (frame.Start b ∷ []) (octet_string s) us = Waits c (fc.string (octet_string s)).start b us
+Took c fc ahead between (frame.Start b ∷ []) (restricted k s) us = Waits c (fc.string (restricted k s)).start b us
+Took c fc ahead between (frame.Start b ∷ []) utf8_string us = Waits c (fc.string utf8_string).start b us
 Took c fc ahead between (frame.Start b ∷ []) t us = Waits c (Spelt c.code None t) b us
 Took c fc ahead between (frame.Start b ∷ f ∷ fs) t us = ⊥
 Took c fc ahead between (frame.Elements q ∷ fs) (sequence_of t s) us =
@@ -64,13 +52,27 @@ Took c fc ahead between (frame.Components q ∷ fs) (sequence root more) us =
     (λ rest come. NextTook c fs (λ t vs. Took c fc ahead between fs t vs) rest q.presence.left q.presence.bitmap come)
     us []
 Took c fc ahead between (frame.Components q ∷ fs) t us = ⊥
+Took c fc ahead between (frame.Bitmap p ∷ fs) (sequence root more) us =
+    (fs ≡ []) × BitmapGoesOn c root more (entries_seen p.entries.items) p.begun us []
+Took c fc ahead between (frame.Bitmap p ∷ fs) t us = ⊥
+Took c fc ahead between (frame.Additions q ∷ fs) (sequence root more) us = AdditionsGoOn c root more q
+    (λ come. NextAdditionTook c fc ahead between fs q.presence.left q.presence.bitmap come) us []
+Took c fc ahead between (frame.Additions q ∷ fs) t us = ⊥
 Took c fc ahead between (frame.Chosen i ∷ fs) (choice root more) us =
     ChoiceGoesOn c root more (inl i) (λ come. AlternativeTook (λ t vs. Took c fc ahead between fs t vs) root i come) us
     []
 Took c fc ahead between (frame.Chosen i ∷ fs) t us = ⊥
 Took c fc ahead between (frame.Added i ∷ fs) (choice root more) us =
-    ChoiceGoesOn c root more (inr i) (λ come. FieldTook c fc ahead between fs come) us []
+    ChoiceGoesOn c root more (inr i) (λ come. OctetsTook c fc.open_type ahead between fs come) us []
 Took c fc ahead between (frame.Added i ∷ fs) t us = ⊥
+Took c fc ahead between (frame.Octets q ∷ fs) (bit_string s) us =
+    (fs ≡ []) × OctetsGoOn c (fc.string (bit_string s)) ahead between q us []
+Took c fc ahead between (frame.Octets q ∷ fs) (octet_string s) us =
+    (fs ≡ []) × OctetsGoOn c (fc.string (octet_string s)) ahead between q us []
+Took c fc ahead between (frame.Octets q ∷ fs) (restricted k s) us =
+    (fs ≡ []) × OctetsGoOn c (fc.string (restricted k s)) ahead between q us []
+Took c fc ahead between (frame.Octets q ∷ fs) utf8_string us =
+    (fs ≡ []) × OctetsGoOn c (fc.string utf8_string) ahead between q us []
 Took c fc ahead between (frame.Octets q ∷ fs) t us = ⊥
 
 -- a list of elements of the type, read so far, of whose next part these nodes have begun
@@ -105,7 +107,7 @@ ChoiceReached c fc ahead between root more i fs all units =
 abbrev pub AdditionReached : {F : Type 0} → Coding → FieldCoding → (F → Ahead) → (F → Type 0) → Alternatives
     → MoreAlternatives → ℕ → List (Frame F) → List ℕ → List ℕ → Type 0
 AdditionReached c fc ahead between root more i fs all units =
-    ChoiceGoesOn c root more (inr i) (λ come. FieldTook c fc ahead between fs come) all units
+    ChoiceGoesOn c root more (inr i) (λ come. OctetsTook c fc.open_type ahead between fs come) all units
 
 -- where more units are wanted, the nodes tell which have come
 abbrev pub KeepsFrames : {F : Type 0} → Coding → FieldCoding → (F → Ahead) → (F → Type 0) → List (Frame F) → Shape
@@ -178,9 +180,9 @@ GoesOnTo c fc ahead between t s q fs old p gs new =
 abbrev pub UnderEachSize : Shape → (SizeRange → Type 0) → Type 0
 UnderEachSize t P = (s : SizeRange) → InProfile (sequence_of t s) → P s
 
--- it holds for a SEQUENCE of this root that is covered, with an extension mark or without one
+-- it holds for a SEQUENCE of this root, with an extension mark or without one
 abbrev pub UnderEachMark : Fields → (MoreFields → Type 0) → Type 0
-UnderEachMark root P = (more : MoreFields) → InProfile (sequence root more) → IsCovered (sequence root more) → P more
+UnderEachMark root P = (more : MoreFields) → InProfile (sequence root more) → P more
 
 -- the same of the root of a SEQUENCE, read so far: a value of it
 abbrev pub ReadsRootOn : {F : Type 0} → Coding → FieldCoding → (F → Ahead) → (F → Type 0) → Fields → MoreFields
@@ -208,10 +210,9 @@ RootGoesOnTo c fc ahead between root more q fs old p gs new =
     (all : List ℕ) → RootReached c fc ahead between root more q fs all (c.to_units old)
     → RootReached c fc ahead between root more p gs all (c.to_units new)
 
--- it holds for a CHOICE of this root that is covered, with an extension mark or without one
+-- it holds for a CHOICE of this root, with an extension mark or without one
 abbrev pub UnderEachChoice : Alternatives → (MoreAlternatives → Type 0) → Type 0
-UnderEachChoice root P = (more : MoreAlternatives) → InProfile (choice root more) → IsCovered (choice root more)
-    → P more
+UnderEachChoice root P = (more : MoreAlternatives) → InProfile (choice root more) → P more
 
 -- the same of a CHOICE of which the index is read
 abbrev pub ReadsChoiceOn : {F : Type 0} → Coding → FieldCoding → (F → Ahead) → (F → Type 0) → Alternatives
@@ -302,6 +303,8 @@ IsStart None = ⊤
 IsStart (Some (frame.Start b)) = ⊤
 IsStart (Some (frame.Elements q)) = ⊥
 IsStart (Some (frame.Components q)) = ⊥
+IsStart (Some (frame.Bitmap p)) = ⊥
+IsStart (Some (frame.Additions q)) = ⊥
 IsStart (Some (frame.Chosen i)) = ⊥
 IsStart (Some (frame.Added i)) = ⊥
 IsStart (Some (frame.Octets q)) = ⊥
@@ -312,6 +315,8 @@ begun_of None = []
 begun_of (Some (frame.Start b)) = b
 begun_of (Some (frame.Elements q)) = []
 begun_of (Some (frame.Components q)) = []
+begun_of (Some (frame.Bitmap p)) = []
+begun_of (Some (frame.Additions q)) = []
 begun_of (Some (frame.Chosen i)) = []
 begun_of (Some (frame.Added i)) = []
 begun_of (Some (frame.Octets q)) = []

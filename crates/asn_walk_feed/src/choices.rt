@@ -13,7 +13,7 @@ ghost use Rattle.asn_walk.specs.Reading.{ValuesOf};
 ghost use Rattle.asn_walk_feed.specs.Chosen.{IsChoiceOf};
 ghost use Rattle.asn_walk_feed.specs.Feeding.{Waits, Ticked, StandsAfter};
 ghost use Rattle.asn_walk_feed.specs.Nodes.{nodes};
-ghost use Rattle.asn_walk_feed.specs.Taken.{with_node, IsCovered, Took, ChoiceReached, AdditionReached, KeepsFrames, ReadsOn, StopsOn, KeepsOn, UnderEachChoice, ReadsChoiceOn, StopsChoiceOn, KeepsChoiceOn, ReadsAdditionOn, StopsAdditionOn, KeepsAdditionOn};
+ghost use Rattle.asn_walk_feed.specs.Taken.{with_node, Took, ChoiceReached, AdditionReached, KeepsFrames, ReadsOn, StopsOn, KeepsOn, UnderEachChoice, ReadsChoiceOn, StopsChoiceOn, KeepsChoiceOn, ReadsAdditionOn, StopsAdditionOn, KeepsAdditionOn};
 
 use crate::begun::Begun;
 use crate::frame::{Frame, Frames};
@@ -41,7 +41,6 @@ pub(crate) fn resume_choice<R: FeedLeaves>(
 ) -> Result<Value, Stop>
     requires at_unit { R.rules.at_unit units.old }
     requires of_profile { InProfile (choice_seen root.now ext.now) }
-    requires covered { IsCovered (choice_seen root.now ext.now) }
     requires parts { IsChoiceOf _ty.now root.now ext.now }
     requires some { 0 < length root.now }
     requires reached { (us : List ℕ) × Took R.rules R.fields R.ahead R.is_between (with_node node (nodes frames.old))
@@ -73,6 +72,8 @@ pub(crate) fn resume_choice<R: FeedLeaves>(
         None => start_choice::<R>(alloc, _ty, root, ext, Begun::none(), frames, units, ticks),
         Some(Frame::Elements(_list)) => unreachable!(),
         Some(Frame::Components(_read)) => unreachable!(),
+        Some(Frame::Bitmap(_part)) => unreachable!(),
+        Some(Frame::Additions(_read)) => unreachable!(),
         Some(Frame::Octets(_octets)) => unreachable!(),
     }
 }
@@ -91,7 +92,6 @@ fn start_choice<R: FeedLeaves>(
 ) -> Result<Value, Stop>
     requires at_unit { R.rules.at_unit units.old }
     requires of_profile { InProfile (choice_seen root.now ext.now) }
-    requires covered { IsCovered (choice_seen root.now ext.now) }
     requires parts { IsChoiceOf _ty.now root.now ext.now }
     requires some { 0 < length root.now }
     requires empty { nodes frames.old ≡ [] }
@@ -146,8 +146,8 @@ fn feed_choice<R: FeedLeaves>(
     requires at_unit { R.rules.at_unit units.old }
     requires inside { index < length root.now }
     requires reached { (more : MoreAlternatives) × InProfile (choice (alternatives_seen root.now) more) ×
-        IsCovered (choice (alternatives_seen root.now) more) × (all : List ℕ) × ChoiceReached R.rules R.fields R.ahead
-        R.is_between (alternatives_seen root.now) more index (nodes frames.old) all (R.rules.to_units units.old) }
+        (all : List ℕ) × ChoiceReached R.rules R.fields R.ahead R.is_between (alternatives_seen root.now) more index
+        (nodes frames.old) all (R.rules.to_units units.old) }
     requires few { ticks.old + length (R.rules.to_units units.old) < 2 ^ 64 }
     ensures at_unit { R.rules.at_unit units.new }
     ensures done { IfOk result (λ v. UnderEachChoice (alternatives_seen root.now) (λ more.
@@ -194,7 +194,6 @@ fn feed_added<R: FeedLeaves>(
 ) -> Result<Value, Stop>
     requires at_unit { R.rules.at_unit units.old }
     requires of_profile { InProfile (choice_seen root.now ext.now) }
-    requires covered { IsCovered (choice_seen root.now ext.now) }
     requires parts { IsChoiceOf _ty.now root.now ext.now }
     requires reached { (all : List ℕ) × AdditionReached R.rules R.fields R.ahead R.is_between
         (alternatives_seen root.now) (more_alternatives_of ext.now) index (nodes frames.old) all

@@ -17,6 +17,11 @@ pub enum Frame<F> {
     Elements(Elements<F, Value>),
     /// A SEQUENCE of which the preamble is read.
     Components(Components),
+    /// A SEQUENCE of which the root is read, within the presence bits of its extension additions.
+    Bitmap(AdditionBits),
+    /// A SEQUENCE of which the presence bits of its extension additions are read: the entries of the root and those of
+    /// the additions that are read.
+    Additions(Components),
     /// A CHOICE of which the index is read: the alternative of the root with this index, counted from 0.
     Chosen(usize),
     /// A CHOICE of which the index is read: the extension addition with this index, counted from 0.
@@ -46,6 +51,14 @@ pub struct Components {
     pub entries: Vec<Option<Value>>,
     /// The presence bits from that of the next component on.
     pub presence: PresenceBits,
+}
+
+/// The root of a SEQUENCE, and the presence bits of its extension additions that have come.
+#[derive(Drop)]
+pub struct AdditionBits {
+    /// The entries of the root.
+    pub entries: Vec<Option<Value>>,
+    pub begun: Begun,
 }
 
 /// The nodes that have begun, one inside the other.

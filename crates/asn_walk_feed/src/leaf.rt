@@ -1,18 +1,24 @@
 //! Parts of few units that a piece may cut: read at once where all their units have come, else once a piece of
 //! those that have come.
 ghost use Rattle.std.specs.Prelude.{◌≡◌, ◌≤◌, ◌<◌, ◌+◌, ◌^◌, ◌++◌, ℕ, List, length, [], IfOk, IfErr, OnOk, IfSome, IsNone};
+ghost use Rattle.asn_values.specs.Profile.{InProfile};
+ghost use Rattle.asn_values.specs.View.{shape_of, datum_of};
 ghost use Rattle.asn_rules.specs.Chunks.{Chunk};
 ghost use Rattle.asn_rules.specs.Languages.{Spells, Short};
+ghost use Rattle.asn_rules.specs.Padding.{Fixed};
 ghost use Rattle.asn_rules.specs.Stops.{Stops};
 ghost use Rattle.asn_rules.specs.declared.stop.Stop.TheVariants.{Memory};
 ghost use Rattle.asn_walk.specs.Reading.{Reads, StopsAt};
-ghost use Rattle.asn_walk_feed.specs.OpenFields.{FieldCoding, FieldLaws};
+ghost use Rattle.asn_walk_feed.specs.Octets.{OctetsOf};
+ghost use Rattle.asn_walk_feed.specs.OpenFields.{FieldCoding, FieldLaws, StopsAfter};
+ghost use Rattle.asn_walk_feed.specs.Strings.{IsString, StringLaws, IsStringOf, IsNoString};
 ghost use Rattle.asn_walk_feed.specs.Feeding.{FeedLaws, IsBrief, HasBegun, ExtendsBy, Passes, Ticked, StandsAfter, KeepsUnits};
 
 use crate::begun::Begun;
 use crate::units::{Ticks, Units};
 use asn_bits::BitCursor;
 use asn_rules::internal::Stop;
+use asn_values::{AsnType, Value};
 use asn_walk::ReadLeaves;
 use std::alloc::Global;
 
@@ -46,15 +52,60 @@ pub trait FeedLeaves: ReadLeaves {
         requires at_unit { Self.rules.at_unit units.old }
         ensures at_unit { OnOk result (Self.rules.at_unit units.new) }
         ensures between { IfOk result Self.is_between }
-        ensures done { IfOk result (λ f. Reads Self.rules fields.start (Self.ahead f) units.old units.new) }
-        ensures stop { IfErr result (λ why. StopsAt Self.rules fields.start units.old why) };
+        ensures done { IfOk result (λ f. Reads Self.rules fields.open_type.start (Self.ahead f) units.old units.new) }
+        ensures stop { IfErr result (λ why. StopsAt Self.rules fields.open_type.start units.old why) };
 
     /// Reads an octet of an open type field.
     fn read_octet(units: &mut BitCursor<'_>) -> Result<u8, Stop>
         requires at_unit { Self.rules.at_unit units.old }
         ensures at_unit { OnOk result (Self.rules.at_unit units.new) }
-        ensures done { IfOk result (λ o. Reads Self.rules fields.octet o units.old units.new) }
-        ensures stop { IfErr result (λ why. StopsAt Self.rules fields.octet units.old why) };
+        ensures done { IfOk result (λ o. Reads Self.rules fields.open_type.octet o units.old units.new) }
+        ensures stop { IfErr result (λ why. StopsAt Self.rules fields.open_type.octet units.old why) };
+
+    /// Reads what stands before the items of a string of this type, up to the first length.
+    fn start_string(ty: &AsnType, units: &mut BitCursor<'_>) -> Result<Self::Fragments, Stop>
+        requires of_profile { InProfile (shape_of ty.now) }
+        requires string { IsString (shape_of ty.now) }
+        requires at_unit { Self.rules.at_unit units.old }
+        ensures at_unit { OnOk result (Self.rules.at_unit units.new) }
+        ensures between { IfOk result Self.is_between }
+        ensures done { IfOk result (λ f.
+            Reads Self.rules (fields.string (shape_of ty.now)).start (Self.ahead f) units.old units.new) }
+        ensures stop { IfErr result (λ why.
+            StopsAt Self.rules (fields.string (shape_of ty.now)).start units.old why) };
+
+    /// Reads an item of a string of this type: a bit, an octet or a character, or an octet of bits where the rules put
+    /// the bits of a BIT STRING into octets.
+    fn read_item(ty: &AsnType, units: &mut BitCursor<'_>) -> Result<u8, Stop>
+        requires of_profile { InProfile (shape_of ty.now) }
+        requires string { IsString (shape_of ty.now) }
+        requires at_unit { Self.rules.at_unit units.old }
+        ensures at_unit { OnOk result (Self.rules.at_unit units.new) }
+        ensures done { IfOk result (λ o.
+            Reads Self.rules (fields.string (shape_of ty.now)).octet o units.old units.new) }
+        ensures stop { IfErr result (λ why.
+            StopsAt Self.rules (fields.string (shape_of ty.now)).octet units.old why) };
+
+    /// The string of this type that has these items, after which this many units are left.
+    ///
+    /// # Errors
+    /// `Refused` at the last unit of the items where no string has them; `Memory` where an allocation failed.
+    fn string_of(alloc: Global, ty: &AsnType, items: Vec<u8>, left: u128) -> Result<Value, Stop>
+        requires of_profile { InProfile (shape_of ty.now) }
+        requires string { IsString (shape_of ty.now) }
+        requires spelt { (cs : List Chunk) × OctetsOf (fields.string (shape_of ty.now)) items.items cs }
+        ensures done { IfOk result (λ v. IsStringOf Self.rules fields (shape_of ty.now) items.items (datum_of v)) }
+        ensures stop { IfErr result (λ why. IsNoString Self.rules fields (shape_of ty.now) items.items left why) }
+        ensures after { IfErr result (λ why. StopsAfter left why) };
+
+    /// Reads what fills up a complete encoding whose value has this many units.
+    fn read_filling(value_units: u128, units: &mut BitCursor<'_>) -> Result<(), Stop>
+        requires at_unit { Self.rules.at_unit units.old }
+        ensures at_unit { OnOk result (Self.rules.at_unit units.new) }
+        ensures done { IfOk result (λ v.
+            Reads Self.rules (Fixed (Self.rules.padding value_units)) v units.old units.new) }
+        ensures stop { IfErr result (λ why.
+            StopsAt Self.rules (Fixed (Self.rules.padding value_units)) units.old why) };
 
     /// The parts of few units are brief. The call does nothing: its clause is what proofs cite.
     fn keep_feed_laws()
@@ -64,6 +115,10 @@ pub trait FeedLeaves: ReadLeaves {
     /// cite.
     fn keep_field_laws()
         ensures { FieldLaws Self.rules fields };
+
+    /// A string is its items, under what stands before them. The call does nothing: its clause is what proofs cite.
+    fn keep_string_laws()
+        ensures { StringLaws Self.rules fields };
 }
 
 /// A part of few units.

@@ -5,19 +5,24 @@
 //! `FeedLeaves`.
 #![tactic(auto)]
 
+mod additions;
 mod begun;
 mod choices;
+mod complete;
 mod frame;
 mod leaf;
 mod lists;
+mod octets;
 mod open_fields;
 mod parts;
 mod sequences;
+mod strings;
 mod units;
 mod values;
 
 pub use begun::Begun;
-pub use frame::{Components, Elements, Frame, Frames};
+pub use complete::feed_complete;
+pub use frame::{AdditionBits, Components, Elements, Frame, Frames};
 pub use leaf::FeedLeaves;
 pub use units::{Ticks, Units};
 pub use values::feed;

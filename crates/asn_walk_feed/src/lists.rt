@@ -12,7 +12,7 @@ ghost use Rattle.asn_rules.specs.declared.stop.Stop.TheVariants.{Short};
 ghost use Rattle.asn_walk.specs.Reading.{ValuesOf};
 ghost use Rattle.asn_walk_feed.specs.Feeding.{Waits, NextOf, HasBegun, Ticked, StandsAfter, KeepsUnits};
 ghost use Rattle.asn_walk_feed.specs.Nodes.{nodes};
-ghost use Rattle.asn_walk_feed.specs.Taken.{with_node, IsCovered, Took, ListGoesOn, KeepsFrames, ReadsOn, StopsOn, KeepsOn, ReadsListOn, StopsListOn, KeepsListOn, ReadsElementsOn, StopsElementsOn, UnderEachSize, GoesOnTo};
+ghost use Rattle.asn_walk_feed.specs.Taken.{with_node, Took, ListGoesOn, KeepsFrames, ReadsOn, StopsOn, KeepsOn, ReadsListOn, StopsListOn, KeepsListOn, ReadsElementsOn, StopsElementsOn, UnderEachSize, GoesOnTo};
 
 use crate::begun::Begun;
 use crate::frame::{Elements, Frame, Frames};
@@ -37,7 +37,6 @@ pub(crate) fn resume_list<R: FeedLeaves>(
 ) -> Result<Value, Stop>
     requires at_unit { R.rules.at_unit units.old }
     requires of_profile { InProfile (sequence_of (shape_of element.now) (size_range_of size.now)) }
-    requires covered { IsCovered (shape_of element.now) }
     requires reached { (us : List ℕ) × Took R.rules R.fields R.ahead R.is_between (with_node node (nodes frames.old))
         (sequence_of (shape_of element.now) (size_range_of size.now)) us }
     requires last { IsNone node → nodes frames.old ≡ [] }
@@ -67,6 +66,8 @@ pub(crate) fn resume_list<R: FeedLeaves>(
         }
         None => start_list::<R>(alloc, element, size, Begun::none(), frames, units, ticks),
         Some(Frame::Components(_read)) => unreachable!(),
+        Some(Frame::Bitmap(_part)) => unreachable!(),
+        Some(Frame::Additions(_read)) => unreachable!(),
         Some(Frame::Chosen(_)) => unreachable!(),
         Some(Frame::Added(_)) => unreachable!(),
         Some(Frame::Octets(_octets)) => unreachable!(),
@@ -86,7 +87,6 @@ fn start_list<R: FeedLeaves>(
 ) -> Result<Value, Stop>
     requires at_unit { R.rules.at_unit units.old }
     requires of_profile { InProfile (sequence_of (shape_of element.now) (size_range_of size.now)) }
-    requires covered { IsCovered (shape_of element.now) }
     requires empty { nodes frames.old ≡ [] }
     requires waits { Waits R.rules (R.rules.list_start (size_range_of size.now)) begun (R.rules.to_units begun) }
     requires few { ticks.old + length (R.rules.to_units units.old) < 2 ^ 64 }
@@ -140,7 +140,6 @@ fn feed_list<R: FeedLeaves>(
 ) -> Result<Value, Stop>
     requires at_unit { R.rules.at_unit units.old }
     requires of_profile { InProfile (sequence_of (shape_of element.now) (size_range_of size.now)) }
-    requires covered { IsCovered (shape_of element.now) }
     requires reached { (all : List ℕ) × ListGoesOn R.rules R.fields R.ahead R.is_between (shape_of element.now)
         (size_range_of size.now) list (nodes frames.old) all (R.rules.to_units units.old) }
     requires few { ticks.old + length (R.rules.to_units units.old) < 2 ^ 64 }
@@ -183,7 +182,6 @@ fn feed_elements<R: FeedLeaves>(
 ) -> Result<(), Stop>
     requires at_unit { R.rules.at_unit units.old }
     requires of_profile { InProfile (sequence_of (shape_of element.now) (size_range_of size.now)) }
-    requires covered { IsCovered (shape_of element.now) }
     requires reached { (all : List ℕ) × ListGoesOn R.rules R.fields R.ahead R.is_between (shape_of element.now)
         (size_range_of size.now) list.old (nodes frames.old) all (R.rules.to_units units.old) }
     requires few { ticks.old + length (R.rules.to_units units.old) < 2 ^ 64 }
@@ -221,7 +219,6 @@ fn feed_fragment<R: FeedLeaves>(
     ticks: &mut Ticks,
 ) -> Result<(), Stop>
     requires at_unit { R.rules.at_unit units.old }
-    requires covered { IsCovered (shape_of element.now) }
     requires reached { (s : SizeRange) × InProfile (sequence_of (shape_of element.now) s) × (all : List ℕ) ×
         ListGoesOn R.rules R.fields R.ahead R.is_between (shape_of element.now) s list.old (nodes frames.old) all
         (R.rules.to_units units.old) }

@@ -4,14 +4,16 @@ ghost use Rattle.std.specs.Option.{option_map};
 ghost use Rattle.asn_values.specs.Datum.{Datum};
 ghost use Rattle.asn_values.specs.Profile.{InProfile, good_default};
 ghost use Rattle.asn_values.specs.View.{shape_of, datum_of, size_range_of};
+ghost use Rattle.asn_rules.specs.Padding.{Fixed};
 ghost use Rattle.asn_walk.specs.Ahead.{Ahead};
-ghost use Rattle.asn_walk.specs.Coding.{PreambleOf, AreFew, IndexOf};
+ghost use Rattle.asn_walk.specs.Coding.{PreambleOf, AdditionBitmapOf, AreFew, IndexOf};
 ghost use Rattle.asn_walk.specs.Laws.{IsSizeOfProfile};
 ghost use Rattle.asn_walk.specs.Reading.{ValuesOf, OthersOf};
 ghost use Rattle.asn_walk.specs.Views.{preamble_seen, index_seen};
 ghost use Rattle.asn_walk_feed.specs.Feeding.{IsScalar, NextOf};
 
 use crate::leaf::{FeedLeaves, Leaf};
+use crate::octets::InFragments;
 use asn_bits::BitCursor;
 use asn_rules::internal::Stop;
 use asn_values::{AsnType, Size, Value};
@@ -168,6 +170,34 @@ impl<R: FeedLeaves> Leaf<R> for Preambled {
     }
 }
 
+/// The presence bits of this many extension additions of a SEQUENCE, of which one at least is present.
+#[derive(Drop)]
+pub struct AdditionBitmap {
+    pub count: u32,
+}
+
+impl<R: FeedLeaves> Leaf<R> for AdditionBitmap {
+    type Out = u64;
+
+    ghost meant = { ℕ };
+
+    ghost seen = { λ m. m };
+
+    ghost language = { λ s. AdditionBitmapOf R.rules s.count };
+
+    ghost good = { λ s. (0 < s.count) × (s.count ≤ 64) };
+
+    ghost sound = { λ m. ⊤ };
+
+    fn read(&self, _alloc: Global, units: &mut BitCursor<'_>) -> Result<u64, Stop> {
+        R::read_addition_bitmap(self.count, units)
+    }
+
+    fn be_brief(&self) {
+        R::keep_feed_laws();
+    }
+}
+
 /// What tells the alternative of a CHOICE: of this many in the root, and of this many extension additions where there
 /// is an extension mark.
 #[derive(Drop)]
@@ -198,55 +228,87 @@ impl<R: FeedLeaves> Leaf<R> for Indexed {
     }
 }
 
-/// What stands before the octets of an open type field, up to the first length.
+/// What stands before octets in fragments, up to the first length.
 #[derive(Drop)]
-pub struct OctetsStart {}
+pub struct OctetsStart<'a, K> {
+    pub kind: &'a K,
+}
 
-impl<R: FeedLeaves> Leaf<R> for OctetsStart {
+impl<'a, R: FeedLeaves, K: InFragments<R>> Leaf<R> for OctetsStart<'a, K> {
     type Out = R::Fragments;
 
     ghost meant = { Ahead };
 
     ghost seen = { R.ahead };
 
-    ghost language = { λ s. R.fields.start };
+    ghost language = { λ s. (K.coding s.kind.now).start };
 
-    ghost good = { λ s. ⊤ };
+    ghost good = { λ s. K.good s.kind.now };
 
     ghost sound = { R.is_between };
 
     fn read(&self, _alloc: Global, units: &mut BitCursor<'_>) -> Result<R::Fragments, Stop> {
-        R::start_octets(units)
+        self.kind.start(units)
     }
 
     fn be_brief(&self) {
-        R::keep_field_laws();
+        self.kind.keep_octet_laws();
     }
 }
 
-/// An octet of an open type field.
+/// An octet of those.
 #[derive(Drop)]
-pub struct Octet {}
+pub struct Octet<'a, K> {
+    pub kind: &'a K,
+}
 
-impl<R: FeedLeaves> Leaf<R> for Octet {
+impl<'a, R: FeedLeaves, K: InFragments<R>> Leaf<R> for Octet<'a, K> {
     type Out = u8;
 
     ghost meant = { ℕ };
 
     ghost seen = { λ o. o };
 
-    ghost language = { λ s. R.fields.octet };
+    ghost language = { λ s. (K.coding s.kind.now).octet };
 
-    ghost good = { λ s. ⊤ };
+    ghost good = { λ s. K.good s.kind.now };
 
     ghost sound = { λ o. ⊤ };
 
     fn read(&self, _alloc: Global, units: &mut BitCursor<'_>) -> Result<u8, Stop> {
-        R::read_octet(units)
+        self.kind.read_octet(units)
     }
 
     fn be_brief(&self) {
-        R::keep_field_laws();
+        self.kind.keep_octet_laws();
+    }
+}
+
+/// What fills up a complete encoding whose value has this many units.
+#[derive(Drop)]
+pub struct Filling {
+    pub value_units: u128,
+}
+
+impl<R: FeedLeaves> Leaf<R> for Filling {
+    type Out = ();
+
+    ghost meant = { ⊤ };
+
+    ghost seen = { λ v. v };
+
+    ghost language = { λ s. Fixed (R.rules.padding s.value_units) };
+
+    ghost good = { λ s. ⊤ };
+
+    ghost sound = { λ v. ⊤ };
+
+    fn read(&self, _alloc: Global, units: &mut BitCursor<'_>) -> Result<(), Stop> {
+        R::read_filling(self.value_units, units)
+    }
+
+    fn be_brief(&self) {
+        R::keep_feed_laws();
     }
 }
 

@@ -14,11 +14,13 @@ ghost use Rattle.asn_rules.specs.Stops.{Stops};
 ghost use Rattle.asn_rules.specs.declared.stop.Stop.TheVariants.{Short};
 ghost use Rattle.asn_walk.specs.Coding.{PreambleOf, added};
 ghost use Rattle.asn_walk.specs.Reading.{ValuesOf, OthersOf};
+ghost use Rattle.asn_walk_feed.specs.Additions.{IsSequenceOf};
 ghost use Rattle.asn_walk_feed.specs.Feeding.{Waits, Ticked, StandsAfter};
 ghost use Rattle.asn_walk_feed.specs.Nodes.{nodes};
 ghost use Rattle.asn_walk_feed.specs.Roots.{OtherTook};
-ghost use Rattle.asn_walk_feed.specs.Taken.{with_node, IsCovered, Took, RootReached, ComponentTook, KeepsFrames, ReadsOn, StopsOn, KeepsOn, UnderEachMark, ReadsRootOn, StopsRootOn, KeepsRootOn, RootGoesOnTo, ReadsComponentOn, StopsComponentOn, KeepsComponentOn, ReadsOtherOn, StopsOtherOn, KeepsOtherOn};
+ghost use Rattle.asn_walk_feed.specs.Taken.{with_node, Took, RootReached, ComponentTook, KeepsFrames, ReadsOn, StopsOn, KeepsOn, UnderEachMark, ReadsRootOn, StopsRootOn, KeepsRootOn, RootGoesOnTo, ReadsComponentOn, StopsComponentOn, KeepsComponentOn, ReadsOtherOn, StopsOtherOn, KeepsOtherOn};
 
+use crate::additions::{end_sequence, feed_additions, feed_bitmap};
 use crate::begun::Begun;
 use crate::frame::{Components, Frame, Frames};
 use crate::leaf::{FeedLeaves, feed_leaf};
@@ -35,6 +37,7 @@ use std::alloc::Global;
 #[cycle(feeder)]
 pub(crate) fn resume_sequence<R: FeedLeaves>(
     alloc: Global,
+    _ty: &AsnType,
     root: &[Field],
     ext: &Option<Vec<Field>>,
     node: Option<Frame<R::Fragments>>,
@@ -44,7 +47,7 @@ pub(crate) fn resume_sequence<R: FeedLeaves>(
 ) -> Result<Value, Stop>
     requires at_unit { R.rules.at_unit units.old }
     requires of_profile { InProfile (sequence_seen root.now ext.now) }
-    requires covered { IsCovered (sequence_seen root.now ext.now) }
+    requires parts { IsSequenceOf _ty.now root.now ext.now }
     requires short { length root.now ≤ 64 }
     requires reached { (us : List ℕ) × Took R.rules R.fields R.ahead R.is_between (with_node node (nodes frames.old))
         (sequence_seen root.now ext.now) us }
@@ -66,12 +69,36 @@ pub(crate) fn resume_sequence<R: FeedLeaves>(
     R::keep_feed_laws();
     match node {
         Some(Frame::Components(read)) => {
-            feed_sequence::<R>(alloc, root, read, frames, units, ticks)
+            feed_sequence::<R>(alloc, _ty, root, ext, read, frames, units, ticks)
         }
         Some(Frame::Start(begun)) => {
-            start_sequence::<R>(alloc, root, ext, begun, frames, units, ticks)
+            start_sequence::<R>(alloc, _ty, root, ext, begun, frames, units, ticks)
         }
-        None => start_sequence::<R>(alloc, root, ext, Begun::none(), frames, units, ticks),
+        None => start_sequence::<R>(alloc, _ty, root, ext, Begun::none(), frames, units, ticks),
+        Some(Frame::Bitmap(part)) => {
+            let Some(additions) = ext else { unreachable!() };
+            feed_bitmap::<R>(
+                alloc,
+                additions.as_slice(),
+                root,
+                part,
+                frames,
+                units,
+                ticks,
+            )
+        }
+        Some(Frame::Additions(read)) => {
+            let Some(additions) = ext else { unreachable!() };
+            feed_additions::<R>(
+                alloc,
+                additions.as_slice(),
+                root,
+                read,
+                frames,
+                units,
+                ticks,
+            )
+        }
         Some(Frame::Elements(_list)) => unreachable!(),
         Some(Frame::Chosen(_)) => unreachable!(),
         Some(Frame::Added(_)) => unreachable!(),
@@ -83,6 +110,7 @@ pub(crate) fn resume_sequence<R: FeedLeaves>(
 #[cycle(feeder)]
 fn start_sequence<R: FeedLeaves>(
     alloc: Global,
+    _ty: &AsnType,
     root: &[Field],
     ext: &Option<Vec<Field>>,
     begun: Begun,
@@ -92,7 +120,7 @@ fn start_sequence<R: FeedLeaves>(
 ) -> Result<Value, Stop>
     requires at_unit { R.rules.at_unit units.old }
     requires of_profile { InProfile (sequence_seen root.now ext.now) }
-    requires covered { IsCovered (sequence_seen root.now ext.now) }
+    requires parts { IsSequenceOf _ty.now root.now ext.now }
     requires short { length root.now ≤ 64 }
     requires empty { nodes frames.old ≡ [] }
     requires waits { Waits R.rules (PreambleOf R.rules (bitmap_length (fields_seen root.now))
@@ -130,7 +158,7 @@ fn start_sequence<R: FeedLeaves>(
                     left: width,
                 },
             };
-            feed_sequence::<R>(alloc, root, read, frames, units, ticks)
+            feed_sequence::<R>(alloc, _ty, root, ext, read, frames, units, ticks)
         }
         Err(Stop::Short) => match frames.put(Frame::Start(begun)) {
             Ok(()) => Err(Stop::Short),
@@ -145,28 +173,28 @@ fn start_sequence<R: FeedLeaves>(
 #[cycle(feeder)]
 fn feed_sequence<R: FeedLeaves>(
     alloc: Global,
+    _ty: &AsnType,
     root: &[Field],
+    ext: &Option<Vec<Field>>,
     read: Components,
     frames: &mut Frames<R::Fragments>,
     units: &mut Units<'_>,
     ticks: &mut Ticks,
 ) -> Result<Value, Stop>
     requires at_unit { R.rules.at_unit units.old }
-    requires reached { (more : MoreFields) × InProfile (sequence (fields_seen root.now) more) × IsCovered
-        (sequence (fields_seen root.now) more) × (all : List ℕ) × RootReached R.rules R.fields R.ahead R.is_between
-        (fields_seen root.now) more read (nodes frames.old) all (R.rules.to_units units.old) }
+    requires of_profile { InProfile (sequence_seen root.now ext.now) }
+    requires parts { IsSequenceOf _ty.now root.now ext.now }
+    requires reached { (all : List ℕ) × RootReached R.rules R.fields R.ahead R.is_between (fields_seen root.now)
+        (more_fields_of ext.now) read (nodes frames.old) all (R.rules.to_units units.old) }
     requires few { ticks.old + length (R.rules.to_units units.old) < 2 ^ 64 }
     ensures at_unit { R.rules.at_unit units.new }
-    ensures done { IfOk result (λ v. UnderEachMark (fields_seen root.now) (λ more.
-        ReadsRootOn R.rules R.fields R.ahead R.is_between (fields_seen root.now) more
-        read (nodes frames.old) (datum_of v) units.old units.new)) }
+    ensures done { IfOk result (λ v. ReadsRootOn R.rules R.fields R.ahead R.is_between (fields_seen root.now)
+        (more_fields_of ext.now) read (nodes frames.old) (datum_of v) units.old units.new) }
     ensures emptied { OnOk result (nodes frames.new ≡ []) }
-    ensures stop { IfErr result (λ why. UnderEachMark (fields_seen root.now) (λ more.
-        StopsRootOn R.rules R.fields R.ahead R.is_between (fields_seen root.now) more
-        read (nodes frames.old) units.old why)) }
-    ensures kept { IfErr result (λ why. UnderEachMark (fields_seen root.now) (λ more.
-        KeepsRootOn R.rules R.fields R.ahead R.is_between (fields_seen root.now) more
-        read (nodes frames.old) (nodes frames.new) units.old why)) }
+    ensures stop { IfErr result (λ why. StopsRootOn R.rules R.fields R.ahead R.is_between (fields_seen root.now)
+        (more_fields_of ext.now) read (nodes frames.old) units.old why) }
+    ensures kept { IfErr result (λ why. KeepsRootOn R.rules R.fields R.ahead R.is_between (fields_seen root.now)
+        (more_fields_of ext.now) read (nodes frames.old) (nodes frames.new) units.old why) }
     ensures after { IfErr result (λ why. StandsAfter R.rules units.new why) }
     ensures ticked { Ticked R.rules units.old ticks.old units.new ticks.new }
     ensures rising { ticks.old ≤ ticks.new }
@@ -174,7 +202,7 @@ fn feed_sequence<R: FeedLeaves>(
     R::keep_laws();
     let mut read = read;
     match feed_components::<R>(alloc, root, &mut read, frames, units, ticks) {
-        Ok(()) => Ok(Value::Seq(read.entries)),
+        Ok(()) => end_sequence::<R>(alloc, _ty, root, ext, read, frames, units, ticks),
         Err(Stop::Short) => match frames.put(Frame::Components(read)) {
             Ok(()) => Err(Stop::Short),
             Err(_) => Err(Stop::Memory),
@@ -195,9 +223,9 @@ fn feed_components<R: FeedLeaves>(
     ticks: &mut Ticks,
 ) -> Result<(), Stop>
     requires at_unit { R.rules.at_unit units.old }
-    requires reached { (more : MoreFields) × InProfile (sequence (fields_seen root.now) more) × IsCovered
-        (sequence (fields_seen root.now) more) × (all : List ℕ) × RootReached R.rules R.fields R.ahead R.is_between
-        (fields_seen root.now) more read.old (nodes frames.old) all (R.rules.to_units units.old) }
+    requires reached { (more : MoreFields) × InProfile (sequence (fields_seen root.now) more) ×
+        (all : List ℕ) × RootReached R.rules R.fields R.ahead R.is_between (fields_seen root.now) more read.old
+        (nodes frames.old) all (R.rules.to_units units.old) }
     requires few { ticks.old + length (R.rules.to_units units.old) < 2 ^ 64 }
     ensures at_unit { R.rules.at_unit units.new }
     ensures done { OnOk result (UnderEachMark (fields_seen root.now) (λ more.
@@ -240,7 +268,6 @@ fn feed_component<R: FeedLeaves>(
     requires at_unit { R.rules.at_unit units.old }
     requires of_profile { InProfile (part_of_field field.now).shape }
     requires good { IsGoodDemand (part_of_field field.now).demand (part_of_field field.now).shape }
-    requires covered { IsCovered (part_of_field field.now).shape }
     requires reached { (us : List ℕ) × ComponentTook R.rules R.fields R.ahead R.is_between (nodes frames.old)
         (part_of_field field.now) present us }
     requires few { ticks.old + length (R.rules.to_units units.old) < 2 ^ 64 }

@@ -7,7 +7,7 @@ ghost use Rattle.asn_rules.specs.Stops.{Stops};
 ghost use Rattle.asn_walk.specs.Reading.{ValuesOf};
 ghost use Rattle.asn_walk_feed.specs.Feeding.{Waits, IsScalar, Ticked, StandsAfter};
 ghost use Rattle.asn_walk_feed.specs.Nodes.{nodes};
-ghost use Rattle.asn_walk_feed.specs.Taken.{IsStart, begun_of, IsCovered, Took, KeepsFrames, ReadsOn, StopsOn, KeepsOn};
+ghost use Rattle.asn_walk_feed.specs.Taken.{IsStart, begun_of, Took, KeepsFrames, ReadsOn, StopsOn, KeepsOn};
 
 use crate::begun::Begun;
 use crate::choices::resume_choice;
@@ -16,6 +16,7 @@ use crate::leaf::{FeedLeaves, feed_leaf};
 use crate::lists::resume_list;
 use crate::parts::Scalar;
 use crate::sequences::resume_sequence;
+use crate::strings::feed_string;
 use crate::units::{Ticks, Units};
 use asn_rules::internal::Stop;
 use asn_values::{AsnType, Value};
@@ -38,7 +39,6 @@ pub fn feed<R: FeedLeaves>(
 ) -> Result<Value, Stop>
     requires at_unit { R.rules.at_unit units.old }
     requires of_profile { InProfile (shape_of ty.now) }
-    requires covered { IsCovered (shape_of ty.now) }
     requires reached { (us : List ℕ)
         × Took R.rules R.fields R.ahead R.is_between (nodes frames.old) (shape_of ty.now) us }
     requires few { ticks.old + length (R.rules.to_units units.old) < 2 ^ 64 }
@@ -64,7 +64,7 @@ pub fn feed<R: FeedLeaves>(
         AsnType::Seq { root, ext } => {
             let root = root.as_slice();
             let node = frames.take();
-            resume_sequence::<R>(alloc, root, ext, node, frames, units, ticks)
+            resume_sequence::<R>(alloc, ty, root, ext, node, frames, units, ticks)
         }
         AsnType::Choice { root, ext } => {
             let root = root.as_slice();
@@ -76,7 +76,7 @@ pub fn feed<R: FeedLeaves>(
             feed_scalar::<R>(alloc, ty, node, frames, units, ticks)
         }
         AsnType::Bits(_) | AsnType::Octets(_) | AsnType::Text(..) | AsnType::Utf8 => {
-            unreachable!()
+            feed_string::<R>(alloc, ty, frames, units, ticks)
         }
     }
 }
@@ -90,6 +90,8 @@ pub(crate) fn begun_of<F: Drop>(node: Option<Frame<F>>) -> Begun
         Some(Frame::Start(begun)) => begun,
         Some(Frame::Elements(_list)) => unreachable!(),
         Some(Frame::Components(_read)) => unreachable!(),
+        Some(Frame::Bitmap(_part)) => unreachable!(),
+        Some(Frame::Additions(_read)) => unreachable!(),
         Some(Frame::Chosen(_)) => unreachable!(),
         Some(Frame::Added(_)) => unreachable!(),
         Some(Frame::Octets(_octets)) => unreachable!(),

@@ -1,4 +1,4 @@
-use Rattle.std.proofs.Common.{inl, None, Some, ◌⊎◌, true, false, drop, ◌≡◌, ◌<◌, ◌≤◌, ◌+◌, ◌*◌, ◌%◌, ◌++◌, ◌∷◌, [], ℕ, List, length, map, rules, refl, sym, ap, ◌∙◌, subst, arith}
+use Rattle.std.proofs.Common.{inl, None, Some, ◌⊎◌, true, false, drop, ◌≡◌, ◌<◌, ◌≤◌, ◌+◌, ◌-◌, ◌*◌, ◌%◌, ◌++◌, ◌∷◌, [], ℕ, List, length, map, rules, refl, sym, ap, ◌∙◌, subst, arith}
 use Rattle.std.specs.Prelude.{is_some}
 use Rattle.std.proofs.lemmas.Result.{err_from_is_err_and, IfOk-weaker, IfErr-weaker}
 use Rattle.asn_values.specs.declared.types.AsnType.{the_lemmas}
@@ -26,7 +26,7 @@ use Rattle.asn_rules.specs.Listed.{bitmap_length}
 use Rattle.asn_walk.proofs.SequencesRead.{preamble_stops}
 use Rattle.asn_walk_feed.specs.Roots.{parts_in}
 use Rattle.asn_walk_feed.specs.Taken.{RootReached}
-use Rattle.asn_walk_feed.proofs.RootsRead.{added_count, sequence_took, component_ahead, presence_left, root_starts, root_goes_on, root_ends, root_emptied, took_components, sequence_none, sequence_start, next_in, none_left, covered_at, plain_demand, no_default, other_kept, value_kept, absent_took, took_other, took_value}
+use Rattle.asn_walk_feed.proofs.RootsRead.{added_count, sequence_took, component_ahead, presence_left, root_starts, root_goes_on, root_ends, root_emptied, took_components, sequence_none, sequence_start, next_in, none_left, plain_demand, no_default, other_kept, value_kept, absent_took, took_other, took_value}
 use Rattle.asn_values.specs.Parts.{IsGoodDemand}
 use Rattle.asn_values.specs.Shape.{Demand, must, optional, default}
 use Rattle.asn_values.specs.View.{demand_of}
@@ -47,10 +47,18 @@ use Rattle.asn_rules.specs.Laws.{AreOctets}
 use Rattle.asn_walk.specs.Coding.{OpenOf}
 use Rattle.asn_walk.proofs.Decoding.{units_fill}
 use Rattle.asn_walk.proofs.OpenRead.{octets_stop, content_of, value_held, more_held, none_held, value_stops, fill_leads, left_fewer, length_none}
-use Rattle.asn_walk_feed.specs.OpenFields.{FieldTook}
+use Rattle.asn_walk_feed.specs.Octets.{OctetsTook}
+use Rattle.asn_rules.proofs.Languages.Leads.{leads_same}
+use Rattle.asn_rules.proofs.Languages.Forks.{same_spells}
 use Rattle.asn_walk_feed.proofs.ChosenRead.{addition_starts, no_addition, addition_inside, few_tags, addition_ahead, addition_goes_on, took_added}
 use Rattle.asn_walk_feed.proofs.FieldsRead.{stands_after, keeps_none, few_units}
-use Rattle.asn_walk_feed.proofs.Sizes.{root_smaller, added_type_smaller}
+use Rattle.asn_walk.specs.Coding.{AdditionBitmapOf}
+use Rattle.asn_walk.proofs.Parts.{few_added, marked_fields}
+use Rattle.asn_values.specs.View.{entries_seen}
+use Rattle.asn_walk_feed.specs.Additions.{marked_seen}
+use Rattle.asn_walk_feed.specs.AddedTaken.{AdditionsReached}
+use Rattle.asn_walk_feed.proofs.AddedRead.{some_present, bitmap_begun, bitmap_stops, bitmap_kept, additions_start, next_addition, left_within, additions_end, additions_emptied, bitmap_goes_on, additions_go_on, took_bitmap, bitmap_took, took_additions, bitmap_starts, no_mark, left_out, absent_read, present_took, present_read, present_stops, present_kept}
+use Rattle.asn_walk_feed.proofs.Sizes.{root_smaller, added_type_smaller, components_smaller, additions_smaller}
 use Rattle.asn_walk_feed.proofs.+feeder.Goals as goal
 
 -- ---- the elements of a list
@@ -58,7 +66,7 @@ use Rattle.asn_walk_feed.proofs.+feeder.Goals as goal
 pub lists::feed_elements-feed_fragment-requires : goal.lists::feed_elements-feed_fragment-requires
 lists::feed_elements-feed_fragment-requires g t c κs within =
     let inv = c.loop-alloc.invariant in
-    (search (rules, the_lemmas), (within.0, (within.1, (inv.2, (c.requires.covered, (((size_range_of c.args.size.now), c.requires.of_profile, c.requires.reached.0, inv.0 c.requires.reached.0 c.requires.reached.1), omega (arith, inv.1, c.requires.few)))))))
+    (search (rules, the_lemmas), (within.0, (within.1, (inv.2, (((size_range_of c.args.size.now), c.requires.of_profile, c.requires.reached.0, inv.0 c.requires.reached.0 c.requires.reached.1), omega (arith, inv.1, c.requires.few))))))
 
 pub lists::feed_elements-returns-in_err-feed_fragment-clause-stop : goal.lists::feed_elements-returns-in_err-feed_fragment-clause-stop
 lists::feed_elements-returns-in_err-feed_fragment-clause-stop g t c =
@@ -124,7 +132,7 @@ lists::feed_fragment-feed-requires g t c κs within =
     let good = c.requires.reached.1 in
     let all = c.requires.reached.2 in
     let x = element_ahead g.R.ReadLeaves.rules c.keep_laws.ensures c.keep_feed_laws.ensures g.R.FeedLeaves.fields g.R.ReadLeaves.ahead g.R.ReadLeaves.is_between (shape_of c.args.element.now) s good c.loop-list.list (nodes c.loop-list.frames) all (g.R.ReadLeaves.rules.to_units c.loop-list.units) c.loop-list-test.true (inv.0 s good all c.requires.reached.3) in
-    (search (rules, the_lemmas), (within.0, (within.1, (inv.2, (element_of_profile (shape_of c.args.element.now) s good, (c.requires.covered, ((x.come, x.took), omega (arith, inv.1, c.requires.few))))))))
+    (search (rules, the_lemmas), (within.0, (within.1, (inv.2, (element_of_profile (shape_of c.args.element.now) s good, ((x.come, x.took), omega (arith, inv.1, c.requires.few)))))))
 
 pub lists::feed_fragment-returns-in_err-value-clause-stop : goal.lists::feed_fragment-returns-in_err-value-clause-stop
 lists::feed_fragment-returns-in_err-value-clause-stop g t c =
@@ -210,13 +218,13 @@ lists::feed_list-returns-in-Ok-put-clause-kept g t c = λ all h.
 
 pub lists::resume_list-start_list-requires-in-None : goal.lists::resume_list-start_list-requires-in-None
 lists::resume_list-start_list-requires-in-None g t c κs within =
-    (search (rules, the_lemmas), (within.0, (within.1, (c.requires.at_unit, (c.requires.of_profile, (c.requires.covered, (c.requires.last (ap is_some c.in-None.is), (record { come = refl; at_unit = rw c.none.ensures c.keep_feed_laws.ensures.begin; begins = inl c.none.ensures }, c.requires.few))))))))
+    (search (rules, the_lemmas), (within.0, (within.1, (c.requires.at_unit, (c.requires.of_profile, (c.requires.last (ap is_some c.in-None.is), (record { come = refl; at_unit = rw c.none.ensures c.keep_feed_laws.ensures.begin; begins = inl c.none.ensures }, c.requires.few)))))))
 
 pub lists::resume_list-feed_list-requires : goal.lists::resume_list-feed_list-requires
 lists::resume_list-feed_list-requires g t c κs within =
     let us = c.requires.reached.0 in
     let k = c.requires.reached.1 in
-    (search (rules, the_lemmas), (within.0, (within.1, (c.requires.at_unit, (c.requires.of_profile, (c.requires.covered, ((us ++ g.R.ReadLeaves.rules.to_units c.args.units.now, (list_goes_on g.R.ReadLeaves.rules c.keep_laws.ensures c.keep_feed_laws.ensures g.R.FeedLeaves.fields g.R.ReadLeaves.ahead g.R.ReadLeaves.is_between (shape_of c.args.element.now) (size_range_of c.args.size.now) c.requires.of_profile c.in-Some-Elements.list (nodes c.args.frames.now) us (g.R.ReadLeaves.rules.to_units c.args.units.now) (took_elements g.R.ReadLeaves.rules c.keep_laws.ensures c.keep_feed_laws.ensures g.R.FeedLeaves.fields g.R.ReadLeaves.ahead g.R.ReadLeaves.is_between (shape_of c.args.element.now) (size_range_of c.args.size.now) c.requires.of_profile c.args.node c.in-Some-Elements.field-0 c.in-Some-Elements.list (nodes c.args.frames.now) us c.in-Some-Elements.is c.in-Some-Elements.field-0-is k))), c.requires.few)))))))
+    (search (rules, the_lemmas), (within.0, (within.1, (c.requires.at_unit, (c.requires.of_profile, ((us ++ g.R.ReadLeaves.rules.to_units c.args.units.now, (list_goes_on g.R.ReadLeaves.rules c.keep_laws.ensures c.keep_feed_laws.ensures g.R.FeedLeaves.fields g.R.ReadLeaves.ahead g.R.ReadLeaves.is_between (shape_of c.args.element.now) (size_range_of c.args.size.now) c.requires.of_profile c.in-Some-Elements.list (nodes c.args.frames.now) us (g.R.ReadLeaves.rules.to_units c.args.units.now) (took_elements g.R.ReadLeaves.rules c.keep_laws.ensures c.keep_feed_laws.ensures g.R.FeedLeaves.fields g.R.ReadLeaves.ahead g.R.ReadLeaves.is_between (shape_of c.args.element.now) (size_range_of c.args.size.now) c.requires.of_profile c.args.node c.in-Some-Elements.field-0 c.in-Some-Elements.list (nodes c.args.frames.now) us c.in-Some-Elements.is c.in-Some-Elements.field-0-is k))), c.requires.few))))))
 
 pub lists::resume_list-returns-in-Some-Elements-clause-done : goal.lists::resume_list-returns-in-Some-Elements-clause-done
 lists::resume_list-returns-in-Some-Elements-clause-done g t c =
@@ -247,7 +255,7 @@ lists::start_list-feed_leaf-requires-clause-good g t c = list_size (shape_of c.a
 
 pub lists::start_list-feed_list-requires : goal.lists::start_list-feed_list-requires
 lists::start_list-feed_list-requires g t c κs within =
-    (search (rules, the_lemmas), (within.0, (within.1, (c.in-Ok.ensures.at_unit, (c.requires.of_profile, (c.requires.covered, (((g.R.ReadLeaves.rules.to_units c.args.begun ++ g.R.ReadLeaves.rules.to_units c.args.units.now), (list_starts g.R.ReadLeaves.rules c.keep_laws.ensures c.keep_feed_laws.ensures g.R.FeedLeaves.fields g.R.ReadLeaves.ahead g.R.ReadLeaves.is_between (shape_of c.args.element.now) (size_range_of c.args.size.now) c.requires.of_profile _ (nodes c.args.frames.now) (g.R.ReadLeaves.rules.to_units c.args.begun ++ g.R.ReadLeaves.rules.to_units c.args.units.now) (g.R.ReadLeaves.rules.to_units c.feed_leaf.new.units) c.in-Ok.ensures.done refl c.new.ensures.items c.none.ensures c.in-Ok.ensures.sound c.requires.empty)), omega (arith, c.in-Ok.ensures.ticked, c.requires.few))))))))
+    (search (rules, the_lemmas), (within.0, (within.1, (c.in-Ok.ensures.at_unit, (c.requires.of_profile, (((g.R.ReadLeaves.rules.to_units c.args.begun ++ g.R.ReadLeaves.rules.to_units c.args.units.now), (list_starts g.R.ReadLeaves.rules c.keep_laws.ensures c.keep_feed_laws.ensures g.R.FeedLeaves.fields g.R.ReadLeaves.ahead g.R.ReadLeaves.is_between (shape_of c.args.element.now) (size_range_of c.args.size.now) c.requires.of_profile _ (nodes c.args.frames.now) (g.R.ReadLeaves.rules.to_units c.args.begun ++ g.R.ReadLeaves.rules.to_units c.args.units.now) (g.R.ReadLeaves.rules.to_units c.feed_leaf.new.units) c.in-Ok.ensures.done refl c.new.ensures.items c.none.ensures c.in-Ok.ensures.sound c.requires.empty)), omega (arith, c.in-Ok.ensures.ticked, c.requires.few)))))))
 
 pub lists::start_list-returns-in-Ok-clause-done : goal.lists::start_list-returns-in-Ok-clause-done
 lists::start_list-returns-in-Ok-clause-done g t c =
@@ -286,25 +294,25 @@ lists::resume_list-returns-in-Some-Start-clause-stop g t c =
 
 pub sequences::resume_sequence-start_sequence-requires-in-None : goal.sequences::resume_sequence-start_sequence-requires-in-None
 sequences::resume_sequence-start_sequence-requires-in-None g t c κs within =
-    (search (rules, the_lemmas), (within.0, (within.1, (c.requires.at_unit, (c.requires.of_profile, (c.requires.covered, (c.requires.short, (c.requires.last (ap is_some c.in-None.is), (record { come = refl; at_unit = rw c.none.ensures c.keep_feed_laws.ensures.begin; begins = inl c.none.ensures }, c.requires.few)))))))))
+    (search (rules, the_lemmas), (within.0, (within.1, (c.requires.at_unit, (c.requires.of_profile, (c.requires.parts, (c.requires.short, (c.requires.last (ap is_some c.in-None.is), (record { come = refl; at_unit = rw c.none.ensures c.keep_feed_laws.ensures.begin; begins = inl c.none.ensures }, c.requires.few)))))))))
 
 pub sequences::resume_sequence-feed_sequence-requires : goal.sequences::resume_sequence-feed_sequence-requires
 sequences::resume_sequence-feed_sequence-requires g t c κs within =
     let us = c.requires.reached.0 in
     let k = took_components g.R.ReadLeaves.rules c.keep_laws.ensures g.R.FeedLeaves.fields g.R.ReadLeaves.ahead g.R.ReadLeaves.is_between (fields_seen c.args.root.now) (more_fields_of c.args.ext.now) c.requires.of_profile c.args.node c.in-Some-Components.field-0 c.in-Some-Components.read (nodes c.args.frames.now) us c.in-Some-Components.is c.in-Some-Components.field-0-is c.requires.reached.1 in
-    (search (rules, the_lemmas), (within.0, (within.1, (c.requires.at_unit, (((more_fields_of c.args.ext.now), c.requires.of_profile, c.requires.covered, us ++ g.R.ReadLeaves.rules.to_units c.args.units.now, (root_goes_on g.R.ReadLeaves.rules c.keep_laws.ensures g.R.FeedLeaves.fields g.R.ReadLeaves.ahead g.R.ReadLeaves.is_between (fields_seen c.args.root.now) (more_fields_of c.args.ext.now) c.requires.of_profile c.in-Some-Components.read (nodes c.args.frames.now) us (g.R.ReadLeaves.rules.to_units c.args.units.now) k)), c.requires.few)))))
+    (search (rules, the_lemmas), (within.0, (within.1, (c.requires.at_unit, (c.requires.of_profile, (c.requires.parts, ((us ++ g.R.ReadLeaves.rules.to_units c.args.units.now, (root_goes_on g.R.ReadLeaves.rules c.keep_laws.ensures g.R.FeedLeaves.fields g.R.ReadLeaves.ahead g.R.ReadLeaves.is_between (fields_seen c.args.root.now) (more_fields_of c.args.ext.now) c.requires.of_profile c.in-Some-Components.read (nodes c.args.frames.now) us (g.R.ReadLeaves.rules.to_units c.args.units.now) k)), c.requires.few)))))))
 
 pub sequences::resume_sequence-returns-in-Some-Components-clause-done : goal.sequences::resume_sequence-returns-in-Some-Components-clause-done
 sequences::resume_sequence-returns-in-Some-Components-clause-done g t c =
-    IfOk-weaker c.feed_sequence.result _ _ (λ v s us k. s (more_fields_of c.args.ext.now) c.requires.of_profile c.requires.covered (us ++ g.R.ReadLeaves.rules.to_units c.args.units.now) (root_goes_on g.R.ReadLeaves.rules c.keep_laws.ensures g.R.FeedLeaves.fields g.R.ReadLeaves.ahead g.R.ReadLeaves.is_between (fields_seen c.args.root.now) (more_fields_of c.args.ext.now) c.requires.of_profile c.in-Some-Components.read (nodes c.args.frames.now) us (g.R.ReadLeaves.rules.to_units c.args.units.now) (took_components g.R.ReadLeaves.rules c.keep_laws.ensures g.R.FeedLeaves.fields g.R.ReadLeaves.ahead g.R.ReadLeaves.is_between (fields_seen c.args.root.now) (more_fields_of c.args.ext.now) c.requires.of_profile c.args.node c.in-Some-Components.field-0 c.in-Some-Components.read (nodes c.args.frames.now) us c.in-Some-Components.is c.in-Some-Components.field-0-is k))) c.feed_sequence.ensures.done
+    IfOk-weaker c.feed_sequence.result _ _ (λ v s us k. s (us ++ g.R.ReadLeaves.rules.to_units c.args.units.now) (root_goes_on g.R.ReadLeaves.rules c.keep_laws.ensures g.R.FeedLeaves.fields g.R.ReadLeaves.ahead g.R.ReadLeaves.is_between (fields_seen c.args.root.now) (more_fields_of c.args.ext.now) c.requires.of_profile c.in-Some-Components.read (nodes c.args.frames.now) us (g.R.ReadLeaves.rules.to_units c.args.units.now) (took_components g.R.ReadLeaves.rules c.keep_laws.ensures g.R.FeedLeaves.fields g.R.ReadLeaves.ahead g.R.ReadLeaves.is_between (fields_seen c.args.root.now) (more_fields_of c.args.ext.now) c.requires.of_profile c.args.node c.in-Some-Components.field-0 c.in-Some-Components.read (nodes c.args.frames.now) us c.in-Some-Components.is c.in-Some-Components.field-0-is k))) c.feed_sequence.ensures.done
 
 pub sequences::resume_sequence-returns-in-Some-Components-clause-stop : goal.sequences::resume_sequence-returns-in-Some-Components-clause-stop
 sequences::resume_sequence-returns-in-Some-Components-clause-stop g t c =
-    IfErr-weaker c.feed_sequence.result _ _ (λ why s us k. s (more_fields_of c.args.ext.now) c.requires.of_profile c.requires.covered (us ++ g.R.ReadLeaves.rules.to_units c.args.units.now) (root_goes_on g.R.ReadLeaves.rules c.keep_laws.ensures g.R.FeedLeaves.fields g.R.ReadLeaves.ahead g.R.ReadLeaves.is_between (fields_seen c.args.root.now) (more_fields_of c.args.ext.now) c.requires.of_profile c.in-Some-Components.read (nodes c.args.frames.now) us (g.R.ReadLeaves.rules.to_units c.args.units.now) (took_components g.R.ReadLeaves.rules c.keep_laws.ensures g.R.FeedLeaves.fields g.R.ReadLeaves.ahead g.R.ReadLeaves.is_between (fields_seen c.args.root.now) (more_fields_of c.args.ext.now) c.requires.of_profile c.args.node c.in-Some-Components.field-0 c.in-Some-Components.read (nodes c.args.frames.now) us c.in-Some-Components.is c.in-Some-Components.field-0-is k))) c.feed_sequence.ensures.stop
+    IfErr-weaker c.feed_sequence.result _ _ (λ why s us k. s (us ++ g.R.ReadLeaves.rules.to_units c.args.units.now) (root_goes_on g.R.ReadLeaves.rules c.keep_laws.ensures g.R.FeedLeaves.fields g.R.ReadLeaves.ahead g.R.ReadLeaves.is_between (fields_seen c.args.root.now) (more_fields_of c.args.ext.now) c.requires.of_profile c.in-Some-Components.read (nodes c.args.frames.now) us (g.R.ReadLeaves.rules.to_units c.args.units.now) (took_components g.R.ReadLeaves.rules c.keep_laws.ensures g.R.FeedLeaves.fields g.R.ReadLeaves.ahead g.R.ReadLeaves.is_between (fields_seen c.args.root.now) (more_fields_of c.args.ext.now) c.requires.of_profile c.args.node c.in-Some-Components.field-0 c.in-Some-Components.read (nodes c.args.frames.now) us c.in-Some-Components.is c.in-Some-Components.field-0-is k))) c.feed_sequence.ensures.stop
 
 pub sequences::resume_sequence-returns-in-Some-Components-clause-kept : goal.sequences::resume_sequence-returns-in-Some-Components-clause-kept
 sequences::resume_sequence-returns-in-Some-Components-clause-kept g t c =
-    IfErr-weaker c.feed_sequence.result _ _ (λ why s us k. s (more_fields_of c.args.ext.now) c.requires.of_profile c.requires.covered (us ++ g.R.ReadLeaves.rules.to_units c.args.units.now) (root_goes_on g.R.ReadLeaves.rules c.keep_laws.ensures g.R.FeedLeaves.fields g.R.ReadLeaves.ahead g.R.ReadLeaves.is_between (fields_seen c.args.root.now) (more_fields_of c.args.ext.now) c.requires.of_profile c.in-Some-Components.read (nodes c.args.frames.now) us (g.R.ReadLeaves.rules.to_units c.args.units.now) (took_components g.R.ReadLeaves.rules c.keep_laws.ensures g.R.FeedLeaves.fields g.R.ReadLeaves.ahead g.R.ReadLeaves.is_between (fields_seen c.args.root.now) (more_fields_of c.args.ext.now) c.requires.of_profile c.args.node c.in-Some-Components.field-0 c.in-Some-Components.read (nodes c.args.frames.now) us c.in-Some-Components.is c.in-Some-Components.field-0-is k))) c.feed_sequence.ensures.kept
+    IfErr-weaker c.feed_sequence.result _ _ (λ why s us k. s (us ++ g.R.ReadLeaves.rules.to_units c.args.units.now) (root_goes_on g.R.ReadLeaves.rules c.keep_laws.ensures g.R.FeedLeaves.fields g.R.ReadLeaves.ahead g.R.ReadLeaves.is_between (fields_seen c.args.root.now) (more_fields_of c.args.ext.now) c.requires.of_profile c.in-Some-Components.read (nodes c.args.frames.now) us (g.R.ReadLeaves.rules.to_units c.args.units.now) (took_components g.R.ReadLeaves.rules c.keep_laws.ensures g.R.FeedLeaves.fields g.R.ReadLeaves.ahead g.R.ReadLeaves.is_between (fields_seen c.args.root.now) (more_fields_of c.args.ext.now) c.requires.of_profile c.args.node c.in-Some-Components.field-0 c.in-Some-Components.read (nodes c.args.frames.now) us c.in-Some-Components.is c.in-Some-Components.field-0-is k))) c.feed_sequence.ensures.kept
 
 pub sequences::resume_sequence-returns-in-None-clause-done : goal.sequences::resume_sequence-returns-in-None-clause-done
 sequences::resume_sequence-returns-in-None-clause-done g t c =
@@ -334,23 +342,23 @@ pub sequences::resume_sequence-start_sequence-requires : goal.sequences::resume_
 sequences::resume_sequence-start_sequence-requires g t c κs within =
     let us = c.requires.reached.0 in
     let w = sequence_start g.R.ReadLeaves.rules c.keep_laws.ensures g.R.FeedLeaves.fields g.R.ReadLeaves.ahead g.R.ReadLeaves.is_between (fields_seen c.args.root.now) (more_fields_of c.args.ext.now) c.requires.of_profile c.args.node c.in-Some-Start.field-0 c.in-Some-Start.begun (nodes c.args.frames.now) us c.in-Some-Start.is c.in-Some-Start.field-0-is c.requires.reached.1 in
-    (search (rules, the_lemmas), (within.0, (within.1, (c.requires.at_unit, (c.requires.of_profile, (c.requires.covered, (c.requires.short, (w.0, (record { come = refl; at_unit = w.1.at_unit; begins = w.1.begins }, c.requires.few)))))))))
+    (search (rules, the_lemmas), (within.0, (within.1, (c.requires.at_unit, (c.requires.of_profile, (c.requires.parts, (c.requires.short, (w.0, (record { come = refl; at_unit = w.1.at_unit; begins = w.1.begins }, c.requires.few)))))))))
 
 pub sequences::start_sequence-feed_sequence-requires : goal.sequences::start_sequence-feed_sequence-requires
 sequences::start_sequence-feed_sequence-requires g t c κs within =
-    (search (rules, the_lemmas), (within.0, (within.1, (c.in-Ok.ensures.at_unit, (((more_fields_of c.args.ext.now), c.requires.of_profile, c.requires.covered, (g.R.ReadLeaves.rules.to_units c.args.begun ++ g.R.ReadLeaves.rules.to_units c.args.units.now), (root_starts g.R.ReadLeaves.rules c.keep_laws.ensures g.R.FeedLeaves.fields g.R.ReadLeaves.ahead g.R.ReadLeaves.is_between (fields_seen c.args.root.now) (more_fields_of c.args.ext.now) c.requires.of_profile _ (nodes c.args.frames.now) (g.R.ReadLeaves.rules.to_units c.args.begun ++ g.R.ReadLeaves.rules.to_units c.args.units.now) (g.R.ReadLeaves.rules.to_units c.feed_leaf.new.units) (rw (c.bitmap_width-width.ensures.count, c.addition_count.ensures, ← added_count c.args.ext.now) at c.in-Ok.ensures.done) c.bitmap_width-width.ensures.count (rw c.bitmap_width-width.ensures.count at c.bitmap_width-width.ensures.few) c.new.ensures.items c.requires.empty)), omega (arith, c.in-Ok.ensures.ticked, c.requires.few))))))
+    (search (rules, the_lemmas), (within.0, (within.1, (c.in-Ok.ensures.at_unit, (c.requires.of_profile, (c.requires.parts, (((g.R.ReadLeaves.rules.to_units c.args.begun ++ g.R.ReadLeaves.rules.to_units c.args.units.now), (root_starts g.R.ReadLeaves.rules c.keep_laws.ensures g.R.FeedLeaves.fields g.R.ReadLeaves.ahead g.R.ReadLeaves.is_between (fields_seen c.args.root.now) (more_fields_of c.args.ext.now) c.requires.of_profile _ (nodes c.args.frames.now) (g.R.ReadLeaves.rules.to_units c.args.begun ++ g.R.ReadLeaves.rules.to_units c.args.units.now) (g.R.ReadLeaves.rules.to_units c.feed_leaf.new.units) (rw (c.bitmap_width-width.ensures.count, c.addition_count.ensures, ← added_count c.args.ext.now) at c.in-Ok.ensures.done) c.bitmap_width-width.ensures.count (rw c.bitmap_width-width.ensures.count at c.bitmap_width-width.ensures.few) c.new.ensures.items c.requires.empty)), omega (arith, c.in-Ok.ensures.ticked, c.requires.few))))))))
 
 pub sequences::start_sequence-returns-in-Ok-clause-done : goal.sequences::start_sequence-returns-in-Ok-clause-done
 sequences::start_sequence-returns-in-Ok-clause-done g t c =
-    IfOk-weaker c.feed_sequence.result _ _ (λ v s. s (more_fields_of c.args.ext.now) c.requires.of_profile c.requires.covered (g.R.ReadLeaves.rules.to_units c.args.begun ++ g.R.ReadLeaves.rules.to_units c.args.units.now) (root_starts g.R.ReadLeaves.rules c.keep_laws.ensures g.R.FeedLeaves.fields g.R.ReadLeaves.ahead g.R.ReadLeaves.is_between (fields_seen c.args.root.now) (more_fields_of c.args.ext.now) c.requires.of_profile _ (nodes c.args.frames.now) (g.R.ReadLeaves.rules.to_units c.args.begun ++ g.R.ReadLeaves.rules.to_units c.args.units.now) (g.R.ReadLeaves.rules.to_units c.feed_leaf.new.units) (rw (c.bitmap_width-width.ensures.count, c.addition_count.ensures, ← added_count c.args.ext.now) at c.in-Ok.ensures.done) c.bitmap_width-width.ensures.count (rw c.bitmap_width-width.ensures.count at c.bitmap_width-width.ensures.few) c.new.ensures.items c.requires.empty)) c.feed_sequence.ensures.done
+    IfOk-weaker c.feed_sequence.result _ _ (λ v s. s (g.R.ReadLeaves.rules.to_units c.args.begun ++ g.R.ReadLeaves.rules.to_units c.args.units.now) (root_starts g.R.ReadLeaves.rules c.keep_laws.ensures g.R.FeedLeaves.fields g.R.ReadLeaves.ahead g.R.ReadLeaves.is_between (fields_seen c.args.root.now) (more_fields_of c.args.ext.now) c.requires.of_profile _ (nodes c.args.frames.now) (g.R.ReadLeaves.rules.to_units c.args.begun ++ g.R.ReadLeaves.rules.to_units c.args.units.now) (g.R.ReadLeaves.rules.to_units c.feed_leaf.new.units) (rw (c.bitmap_width-width.ensures.count, c.addition_count.ensures, ← added_count c.args.ext.now) at c.in-Ok.ensures.done) c.bitmap_width-width.ensures.count (rw c.bitmap_width-width.ensures.count at c.bitmap_width-width.ensures.few) c.new.ensures.items c.requires.empty)) c.feed_sequence.ensures.done
 
 pub sequences::start_sequence-returns-in-Ok-clause-stop : goal.sequences::start_sequence-returns-in-Ok-clause-stop
 sequences::start_sequence-returns-in-Ok-clause-stop g t c =
-    IfErr-weaker c.feed_sequence.result _ _ (λ why s. s (more_fields_of c.args.ext.now) c.requires.of_profile c.requires.covered (g.R.ReadLeaves.rules.to_units c.args.begun ++ g.R.ReadLeaves.rules.to_units c.args.units.now) (root_starts g.R.ReadLeaves.rules c.keep_laws.ensures g.R.FeedLeaves.fields g.R.ReadLeaves.ahead g.R.ReadLeaves.is_between (fields_seen c.args.root.now) (more_fields_of c.args.ext.now) c.requires.of_profile _ (nodes c.args.frames.now) (g.R.ReadLeaves.rules.to_units c.args.begun ++ g.R.ReadLeaves.rules.to_units c.args.units.now) (g.R.ReadLeaves.rules.to_units c.feed_leaf.new.units) (rw (c.bitmap_width-width.ensures.count, c.addition_count.ensures, ← added_count c.args.ext.now) at c.in-Ok.ensures.done) c.bitmap_width-width.ensures.count (rw c.bitmap_width-width.ensures.count at c.bitmap_width-width.ensures.few) c.new.ensures.items c.requires.empty)) c.feed_sequence.ensures.stop
+    IfErr-weaker c.feed_sequence.result _ _ (λ why s. s (g.R.ReadLeaves.rules.to_units c.args.begun ++ g.R.ReadLeaves.rules.to_units c.args.units.now) (root_starts g.R.ReadLeaves.rules c.keep_laws.ensures g.R.FeedLeaves.fields g.R.ReadLeaves.ahead g.R.ReadLeaves.is_between (fields_seen c.args.root.now) (more_fields_of c.args.ext.now) c.requires.of_profile _ (nodes c.args.frames.now) (g.R.ReadLeaves.rules.to_units c.args.begun ++ g.R.ReadLeaves.rules.to_units c.args.units.now) (g.R.ReadLeaves.rules.to_units c.feed_leaf.new.units) (rw (c.bitmap_width-width.ensures.count, c.addition_count.ensures, ← added_count c.args.ext.now) at c.in-Ok.ensures.done) c.bitmap_width-width.ensures.count (rw c.bitmap_width-width.ensures.count at c.bitmap_width-width.ensures.few) c.new.ensures.items c.requires.empty)) c.feed_sequence.ensures.stop
 
 pub sequences::start_sequence-returns-in-Ok-clause-kept : goal.sequences::start_sequence-returns-in-Ok-clause-kept
 sequences::start_sequence-returns-in-Ok-clause-kept g t c =
-    IfErr-weaker c.feed_sequence.result _ _ (λ why s. s (more_fields_of c.args.ext.now) c.requires.of_profile c.requires.covered (g.R.ReadLeaves.rules.to_units c.args.begun ++ g.R.ReadLeaves.rules.to_units c.args.units.now) (root_starts g.R.ReadLeaves.rules c.keep_laws.ensures g.R.FeedLeaves.fields g.R.ReadLeaves.ahead g.R.ReadLeaves.is_between (fields_seen c.args.root.now) (more_fields_of c.args.ext.now) c.requires.of_profile _ (nodes c.args.frames.now) (g.R.ReadLeaves.rules.to_units c.args.begun ++ g.R.ReadLeaves.rules.to_units c.args.units.now) (g.R.ReadLeaves.rules.to_units c.feed_leaf.new.units) (rw (c.bitmap_width-width.ensures.count, c.addition_count.ensures, ← added_count c.args.ext.now) at c.in-Ok.ensures.done) c.bitmap_width-width.ensures.count (rw c.bitmap_width-width.ensures.count at c.bitmap_width-width.ensures.few) c.new.ensures.items c.requires.empty)) c.feed_sequence.ensures.kept
+    IfErr-weaker c.feed_sequence.result _ _ (λ why s. s (g.R.ReadLeaves.rules.to_units c.args.begun ++ g.R.ReadLeaves.rules.to_units c.args.units.now) (root_starts g.R.ReadLeaves.rules c.keep_laws.ensures g.R.FeedLeaves.fields g.R.ReadLeaves.ahead g.R.ReadLeaves.is_between (fields_seen c.args.root.now) (more_fields_of c.args.ext.now) c.requires.of_profile _ (nodes c.args.frames.now) (g.R.ReadLeaves.rules.to_units c.args.begun ++ g.R.ReadLeaves.rules.to_units c.args.units.now) (g.R.ReadLeaves.rules.to_units c.feed_leaf.new.units) (rw (c.bitmap_width-width.ensures.count, c.addition_count.ensures, ← added_count c.args.ext.now) at c.in-Ok.ensures.done) c.bitmap_width-width.ensures.count (rw c.bitmap_width-width.ensures.count at c.bitmap_width-width.ensures.few) c.new.ensures.items c.requires.empty)) c.feed_sequence.ensures.kept
 
 pub sequences::start_sequence-feed_leaf-requires-clause-begins : goal.sequences::start_sequence-feed_leaf-requires-clause-begins
 sequences::start_sequence-feed_leaf-requires-clause-begins g t c =
@@ -378,38 +386,26 @@ sequences::start_sequence-returns-in-Err-Refused-clause-stop g t c =
 
 pub sequences::feed_sequence-returns-in-Ok-clause-done : goal.sequences::feed_sequence-returns-in-Ok-clause-done
 sequences::feed_sequence-returns-in-Ok-clause-done g t c =
-    λ more good cov all h.
-    let es = c.feed_components.new.read.entries in
-    let over = none_left c.args.root.now (length es.items) c.in-Ok.ensures.over in
-    rw (datum_of-Seq es) (root_ends g.R.ReadLeaves.rules c.keep_laws.ensures g.R.FeedLeaves.fields g.R.ReadLeaves.ahead g.R.ReadLeaves.is_between (fields_seen c.args.root.now) more good cov c.feed_components.new.read (nodes c.feed_components.new.frames) all (g.R.ReadLeaves.rules.to_units c.feed_components.new.units) over (c.in-Ok.ensures.done more good cov all h))
-
-pub sequences::feed_sequence-returns-in-Ok-clause-emptied : goal.sequences::feed_sequence-returns-in-Ok-clause-emptied
-sequences::feed_sequence-returns-in-Ok-clause-emptied g t c =
-    let more = c.requires.reached.0 in
-    let good = c.requires.reached.1 in
-    let cov = c.requires.reached.2 in
-    let es = c.feed_components.new.read.entries in
-    let over = none_left c.args.root.now (length es.items) c.in-Ok.ensures.over in
-    root_emptied g.R.ReadLeaves.rules c.keep_laws.ensures g.R.FeedLeaves.fields g.R.ReadLeaves.ahead g.R.ReadLeaves.is_between (fields_seen c.args.root.now) more good cov c.feed_components.new.read (nodes c.feed_components.new.frames) c.requires.reached.3 (g.R.ReadLeaves.rules.to_units c.feed_components.new.units) over (c.in-Ok.ensures.done more good cov c.requires.reached.3 c.requires.reached.4)
+    IfOk-weaker c.end_sequence.result _ _ (λ v s all h. s all (c.in-Ok.ensures.done (more_fields_of c.args.ext.now) c.requires.of_profile all h)) c.end_sequence.ensures.done
 
 pub sequences::feed_sequence-returns-in-Ok-put-clause-stop : goal.sequences::feed_sequence-returns-in-Ok-put-clause-stop
 sequences::feed_sequence-returns-in-Ok-put-clause-stop g t c =
-    λ more good cov all h.
-    let a : Stops g.R.ReadLeaves.rules.ruling.fielding (ValuesOf g.R.ReadLeaves.rules (sequence (fields_seen c.args.root.now) more)) all stop.Short = rw c.in-Err-Short.field-0-is at (c.in-Err-Short.ensures.stop more good cov all h) in
+    λ all h.
+    let a : Stops g.R.ReadLeaves.rules.ruling.fielding (ValuesOf g.R.ReadLeaves.rules (sequence (fields_seen c.args.root.now) (more_fields_of c.args.ext.now))) all stop.Short = rw c.in-Err-Short.field-0-is at (c.in-Err-Short.ensures.stop (more_fields_of c.args.ext.now) c.requires.of_profile all h) in
     a
 
 pub sequences::feed_sequence-returns-in-Err-Refused-clause-stop : goal.sequences::feed_sequence-returns-in-Err-Refused-clause-stop
 sequences::feed_sequence-returns-in-Err-Refused-clause-stop g t c =
-    λ more good cov all h.
-    let a : Stops g.R.ReadLeaves.rules.ruling.fielding (ValuesOf g.R.ReadLeaves.rules (sequence (fields_seen c.args.root.now) more)) all (stop.Refused c.in-Err-Refused.left c.in-Err-Refused.why) = rw c.in-Err-Refused.field-0-is at (c.in-Err-Refused.ensures.stop more good cov all h) in
+    λ all h.
+    let a : Stops g.R.ReadLeaves.rules.ruling.fielding (ValuesOf g.R.ReadLeaves.rules (sequence (fields_seen c.args.root.now) (more_fields_of c.args.ext.now))) all (stop.Refused c.in-Err-Refused.left c.in-Err-Refused.why) = rw c.in-Err-Refused.field-0-is at (c.in-Err-Refused.ensures.stop (more_fields_of c.args.ext.now) c.requires.of_profile all h) in
     rw (c.in-Err-Refused.left-is, c.in-Err-Refused.why-is) a
 
 pub sequences::feed_sequence-returns-in-Ok-put-clause-kept : goal.sequences::feed_sequence-returns-in-Ok-put-clause-kept
 sequences::feed_sequence-returns-in-Ok-put-clause-kept g t c =
-    λ more good cov all h.
+    λ all h.
     let none : g.R.ReadLeaves.rules.to_units c.feed_components.new.units ≡ [] = rw c.in-Err-Short.field-0-is at c.in-Err-Short.ensures.after in
-    let kept : RootReached g.R.ReadLeaves.rules g.R.FeedLeaves.fields g.R.ReadLeaves.ahead g.R.ReadLeaves.is_between (fields_seen c.args.root.now) more c.feed_components.new.read (nodes c.feed_components.new.frames) all (g.R.ReadLeaves.rules.to_units c.feed_components.new.units) = c.feed_components.ensures.kept (cc (c.in-Err-Short.is, c.in-Err-Short.field-0-is)) more good cov all h in
-    rw c.in-Ok-put.ensures (subst (λ (xs : List ℕ). RootReached g.R.ReadLeaves.rules g.R.FeedLeaves.fields g.R.ReadLeaves.ahead g.R.ReadLeaves.is_between (fields_seen c.args.root.now) more c.feed_components.new.read (nodes c.feed_components.new.frames) all xs) none kept)
+    let kept : RootReached g.R.ReadLeaves.rules g.R.FeedLeaves.fields g.R.ReadLeaves.ahead g.R.ReadLeaves.is_between (fields_seen c.args.root.now) (more_fields_of c.args.ext.now) c.feed_components.new.read (nodes c.feed_components.new.frames) all (g.R.ReadLeaves.rules.to_units c.feed_components.new.units) = c.feed_components.ensures.kept (cc (c.in-Err-Short.is, c.in-Err-Short.field-0-is)) (more_fields_of c.args.ext.now) c.requires.of_profile all h in
+    rw c.in-Ok-put.ensures (subst (λ (xs : List ℕ). RootReached g.R.ReadLeaves.rules g.R.FeedLeaves.fields g.R.ReadLeaves.ahead g.R.ReadLeaves.is_between (fields_seen c.args.root.now) (more_fields_of c.args.ext.now) c.feed_components.new.read (nodes c.feed_components.new.frames) all xs) none kept)
 
 -- ---- its components
 
@@ -422,22 +418,20 @@ sequences::feed_components-feed_component-requires g t c κs within =
     let next = subst (λ (k : ℕ). drop k (parts_in (fields_seen c.args.root.now)) ≡ part_of_field c.index-root-len.result ∷ map part_of_field (drop (i + 1) c.args.root.now)) at (next_in c.args.root.now i c.index-root-len.result lt c.index-root-len.is) in
     let more = c.requires.reached.0 in
     let good = c.requires.reached.1 in
-    let cov = c.requires.reached.2 in
-    let all = c.requires.reached.3 in
-    let x = component_ahead g.R.ReadLeaves.rules c.keep_laws.ensures g.R.FeedLeaves.fields g.R.ReadLeaves.ahead g.R.ReadLeaves.is_between (fields_seen c.args.root.now) more good c.loop-alloc.read (nodes c.loop-alloc.frames) (part_of_field c.index-root-len.result) (map part_of_field (drop (i + 1) c.args.root.now)) c.next_of-present.result c.next_of-present.new.self.left all (g.R.ReadLeaves.rules.to_units c.loop-alloc.units) next c.next_of-present.ensures.must c.next_of-present.ensures.bit (inv.0 more good cov all c.requires.reached.4) in
-    (search (rules, the_lemmas), (within.0, (within.1, (inv.2, (x.of_profile, (x.good_demand, (covered_at c.args.root.now more i c.index-root-len.result lt c.index-root-len.is cov, ((x.come, x.took), omega (arith, inv.1, c.requires.few)))))))))
+    let all = c.requires.reached.2 in
+    let x = component_ahead g.R.ReadLeaves.rules c.keep_laws.ensures g.R.FeedLeaves.fields g.R.ReadLeaves.ahead g.R.ReadLeaves.is_between (fields_seen c.args.root.now) more good c.loop-alloc.read (nodes c.loop-alloc.frames) (part_of_field c.index-root-len.result) (map part_of_field (drop (i + 1) c.args.root.now)) c.next_of-present.result c.next_of-present.new.self.left all (g.R.ReadLeaves.rules.to_units c.loop-alloc.units) next c.next_of-present.ensures.must c.next_of-present.ensures.bit (inv.0 more good all c.requires.reached.3) in
+    (search (rules, the_lemmas), (within.0, (within.1, (inv.2, (x.of_profile, (x.good_demand, ((x.come, x.took), omega (arith, inv.1, c.requires.few))))))))
 
 pub sequences::feed_components-next_of-present-requires : goal.sequences::feed_components-next_of-present-requires
 sequences::feed_components-next_of-present-requires g t c =
     let inv = c.loop-alloc.invariant in
     let more = c.requires.reached.0 in
     let good = c.requires.reached.1 in
-    let cov = c.requires.reached.2 in
     let i = c.len-in-loop-alloc.result in
     let lt : i < length c.args.root.now = omega (arith, c.loop-alloc-test.true, c.len.ensures, c.len-in-loop-alloc.ensures) in
     let at : i ≡ length c.loop-alloc.read.entries.items = omega (arith, c.len-in-loop-alloc.ensures, c.loop-alloc.read.entries.ok.0) in
     let next = subst (λ (k : ℕ). drop k (parts_in (fields_seen c.args.root.now)) ≡ part_of_field c.index-root-len.result ∷ map part_of_field (drop (i + 1) c.args.root.now)) at (next_in c.args.root.now i c.index-root-len.result lt c.index-root-len.is) in
-    let x = presence_left g.R.ReadLeaves.rules c.keep_laws.ensures g.R.FeedLeaves.fields g.R.ReadLeaves.ahead g.R.ReadLeaves.is_between (fields_seen c.args.root.now) more good c.loop-alloc.read (nodes c.loop-alloc.frames) (part_of_field c.index-root-len.result) (map part_of_field (drop (i + 1) c.args.root.now)) c.requires.reached.3 (g.R.ReadLeaves.rules.to_units c.loop-alloc.units) next (inv.0 more good cov c.requires.reached.3 c.requires.reached.4) in
+    let x = presence_left g.R.ReadLeaves.rules c.keep_laws.ensures g.R.FeedLeaves.fields g.R.ReadLeaves.ahead g.R.ReadLeaves.is_between (fields_seen c.args.root.now) more good c.loop-alloc.read (nodes c.loop-alloc.frames) (part_of_field c.index-root-len.result) (map part_of_field (drop (i + 1) c.args.root.now)) c.requires.reached.2 (g.R.ReadLeaves.rules.to_units c.loop-alloc.units) next (inv.0 more good c.requires.reached.2 c.requires.reached.3) in
     record { few = x.1; some = x.0 }
 
 pub sequences::feed_components-returns-in_err-entry-clause-stop : goal.sequences::feed_components-returns-in_err-entry-clause-stop
@@ -448,11 +442,11 @@ sequences::feed_components-returns-in_err-entry-clause-stop g t c =
     let at : i ≡ length c.loop-alloc.read.entries.items = omega (arith, c.len-in-loop-alloc.ensures, c.loop-alloc.read.entries.ok.0) in
     let next = subst (λ (k : ℕ). drop k (parts_in (fields_seen c.args.root.now)) ≡ part_of_field c.index-root-len.result ∷ map part_of_field (drop (i + 1) c.args.root.now)) at (next_in c.args.root.now i c.index-root-len.result lt c.index-root-len.is) in
     let p = err_from_is_err_and c.from_residual.result c.from_residual.ensures.1 in
-    rw (p.1, p.2) (λ more good cov all h. (let x = component_ahead g.R.ReadLeaves.rules c.keep_laws.ensures g.R.FeedLeaves.fields g.R.ReadLeaves.ahead g.R.ReadLeaves.is_between (fields_seen c.args.root.now) more good c.loop-alloc.read (nodes c.loop-alloc.frames) (part_of_field c.index-root-len.result) (map part_of_field (drop (i + 1) c.args.root.now)) c.next_of-present.result c.next_of-present.new.self.left all (g.R.ReadLeaves.rules.to_units c.loop-alloc.units) next c.next_of-present.ensures.must c.next_of-present.ensures.bit (inv.0 more good cov all h) in x.stops _ (c.in_err-entry.ensures.stop x.come x.took)))
+    rw (p.1, p.2) (λ more good all h. (let x = component_ahead g.R.ReadLeaves.rules c.keep_laws.ensures g.R.FeedLeaves.fields g.R.ReadLeaves.ahead g.R.ReadLeaves.is_between (fields_seen c.args.root.now) more good c.loop-alloc.read (nodes c.loop-alloc.frames) (part_of_field c.index-root-len.result) (map part_of_field (drop (i + 1) c.args.root.now)) c.next_of-present.result c.next_of-present.new.self.left all (g.R.ReadLeaves.rules.to_units c.loop-alloc.units) next c.next_of-present.ensures.must c.next_of-present.ensures.bit (inv.0 more good all h) in x.stops _ (c.in_err-entry.ensures.stop x.come x.took)))
 
 pub sequences::feed_components-returns-in_err-entry-clause-kept : goal.sequences::feed_components-returns-in_err-entry-clause-kept
 sequences::feed_components-returns-in_err-entry-clause-kept g t c =
-    λ e more good cov all h.
+    λ e more good all h.
     let inv = c.loop-alloc.invariant in
     let i = c.len-in-loop-alloc.result in
     let lt : i < length c.args.root.now = omega (arith, c.loop-alloc-test.true, c.len.ensures, c.len-in-loop-alloc.ensures) in
@@ -460,7 +454,7 @@ sequences::feed_components-returns-in_err-entry-clause-kept g t c =
     let next = subst (λ (k : ℕ). drop k (parts_in (fields_seen c.args.root.now)) ≡ part_of_field c.index-root-len.result ∷ map part_of_field (drop (i + 1) c.args.root.now)) at (next_in c.args.root.now i c.index-root-len.result lt c.index-root-len.is) in
     let p = err_from_is_err_and c.from_residual.result c.from_residual.ensures.1 in
     let w : c.in_err-entry.field-0.0 ≡ stop.Short = cc (p.1, p.2, e) in
-    let x = component_ahead g.R.ReadLeaves.rules c.keep_laws.ensures g.R.FeedLeaves.fields g.R.ReadLeaves.ahead g.R.ReadLeaves.is_between (fields_seen c.args.root.now) more good c.loop-alloc.read (nodes c.loop-alloc.frames) (part_of_field c.index-root-len.result) (map part_of_field (drop (i + 1) c.args.root.now)) c.next_of-present.result c.next_of-present.new.self.left all (g.R.ReadLeaves.rules.to_units c.loop-alloc.units) next c.next_of-present.ensures.must c.next_of-present.ensures.bit (inv.0 more good cov all h) in
+    let x = component_ahead g.R.ReadLeaves.rules c.keep_laws.ensures g.R.FeedLeaves.fields g.R.ReadLeaves.ahead g.R.ReadLeaves.is_between (fields_seen c.args.root.now) more good c.loop-alloc.read (nodes c.loop-alloc.frames) (part_of_field c.index-root-len.result) (map part_of_field (drop (i + 1) c.args.root.now)) c.next_of-present.result c.next_of-present.new.self.left all (g.R.ReadLeaves.rules.to_units c.loop-alloc.units) next c.next_of-present.ensures.must c.next_of-present.ensures.bit (inv.0 more good all h) in
     x.kept (nodes c.feed_component.new.frames) (g.R.ReadLeaves.rules.to_units c.feed_component.new.units) (rw w at c.in_err-entry.ensures.after) (rw w at (c.in_err-entry.ensures.kept x.come x.took))
 
 pub sequences::feed_components-loop-alloc-preserved : goal.sequences::feed_components-loop-alloc-preserved
@@ -470,7 +464,7 @@ sequences::feed_components-loop-alloc-preserved g t c =
     let lt : i < length c.args.root.now = omega (arith, c.loop-alloc-test.true, c.len.ensures, c.len-in-loop-alloc.ensures) in
     let at : i ≡ length c.loop-alloc.read.entries.items = omega (arith, c.len-in-loop-alloc.ensures, c.loop-alloc.read.entries.ok.0) in
     let next = subst (λ (k : ℕ). drop k (parts_in (fields_seen c.args.root.now)) ≡ part_of_field c.index-root-len.result ∷ map part_of_field (drop (i + 1) c.args.root.now)) at (next_in c.args.root.now i c.index-root-len.result lt c.index-root-len.is) in (
-      λ more good cov all h. (let x = component_ahead g.R.ReadLeaves.rules c.keep_laws.ensures g.R.FeedLeaves.fields g.R.ReadLeaves.ahead g.R.ReadLeaves.is_between (fields_seen c.args.root.now) more good c.loop-alloc.read (nodes c.loop-alloc.frames) (part_of_field c.index-root-len.result) (map part_of_field (drop (i + 1) c.args.root.now)) c.next_of-present.result c.next_of-present.new.self.left all (g.R.ReadLeaves.rules.to_units c.loop-alloc.units) next c.next_of-present.ensures.must c.next_of-present.ensures.bit (inv.0 more good cov all h) in x.further _ (nodes c.feed_component.new.frames) c.in_ok-entry.entry (g.R.ReadLeaves.rules.to_units c.feed_component.new.units) refl c.next_of-present.ensures.bitmap refl c.in_ok-push.ensures.items c.in_ok-entry.ensures.emptied (c.in_ok-entry.ensures.done x.come x.took)),
+      λ more good all h. (let x = component_ahead g.R.ReadLeaves.rules c.keep_laws.ensures g.R.FeedLeaves.fields g.R.ReadLeaves.ahead g.R.ReadLeaves.is_between (fields_seen c.args.root.now) more good c.loop-alloc.read (nodes c.loop-alloc.frames) (part_of_field c.index-root-len.result) (map part_of_field (drop (i + 1) c.args.root.now)) c.next_of-present.result c.next_of-present.new.self.left all (g.R.ReadLeaves.rules.to_units c.loop-alloc.units) next c.next_of-present.ensures.must c.next_of-present.ensures.bit (inv.0 more good all h) in x.further _ (nodes c.feed_component.new.frames) c.in_ok-entry.entry (g.R.ReadLeaves.rules.to_units c.feed_component.new.units) refl c.next_of-present.ensures.bitmap refl c.in_ok-push.ensures.items c.in_ok-entry.ensures.emptied (c.in_ok-entry.ensures.done x.come x.took)),
       omega (arith, inv.1, c.in_ok-entry.ensures.ticked),
       c.in_ok-entry.ensures.at_unit,
       omega (arith, inv.3, c.in_ok-entry.ensures.rising),
@@ -516,7 +510,7 @@ sequences::feed_component-returns-in_ok-feed_other-in-Default-clause-done g t c 
 pub sequences::feed_component-feed-requires : goal.sequences::feed_component-feed-requires
 sequences::feed_component-feed-requires g t c κs within =
     let there : c.args.present ≡ true = c.if-not-present.false in
-    (search (rules, the_lemmas), (within.0, (within.1, (c.requires.at_unit, (rw shape_of_part at c.requires.of_profile, (rw shape_of_part at c.requires.covered, ((c.requires.reached.0, took_value g.R.ReadLeaves.rules g.R.FeedLeaves.fields g.R.ReadLeaves.ahead g.R.ReadLeaves.is_between c.args.field.now c.args.present (nodes c.args.frames.now) c.requires.reached.0 there (plain_demand c.args.field.now.need c.in-Must.is) c.requires.reached.1), c.requires.few)))))))
+    (search (rules, the_lemmas), (within.0, (within.1, (c.requires.at_unit, (rw shape_of_part at c.requires.of_profile, ((c.requires.reached.0, took_value g.R.ReadLeaves.rules g.R.FeedLeaves.fields g.R.ReadLeaves.ahead g.R.ReadLeaves.is_between c.args.field.now c.args.present (nodes c.args.frames.now) c.requires.reached.0 there (plain_demand c.args.field.now.need c.in-Must.is) c.requires.reached.1), c.requires.few))))))
 
 pub sequences::feed_component-returns-in_err-feed-in-Must-clause-stop : goal.sequences::feed_component-returns-in_err-feed-in-Must-clause-stop
 sequences::feed_component-returns-in_err-feed-in-Must-clause-stop g t c =
@@ -543,7 +537,7 @@ pub values::feed-resume_sequence-requires : goal.values::feed-resume_sequence-re
 values::feed-resume_sequence-requires g t c κs within =
     let is = sequence_of_fields c.args.ty.now c.in-Seq.root c.in-Seq.ext c.as_slice-root.result.now c.in-Seq.is c.as_slice-root.ensures.value in
     let tk = taken_is c.take-node-in-Seq.result (nodes c.args.frames.now) (nodes c.take-node-in-Seq.new.self) c.take-node-in-Seq.ensures.some c.take-node-in-Seq.ensures.none c.take-node-in-Seq.ensures.empty in
-    (search (rules, the_lemmas), (within.0, (within.1, (c.requires.at_unit, (rw is at c.requires.of_profile, (rw is at c.requires.covered, (few_components c.as_slice-root.result.now is c.requires.of_profile, ((c.requires.reached.0, rw (is, tk) at c.requires.reached.1), (c.take-node-in-Seq.ensures.empty, c.requires.few)))))))))
+    (search (rules, the_lemmas), (within.0, (within.1, (c.requires.at_unit, (rw is at c.requires.of_profile, (record { components = c.in-Seq.root; is = c.in-Seq.is; root_is = c.as_slice-root.ensures.value }, (few_components c.as_slice-root.result.now is c.requires.of_profile, ((c.requires.reached.0, rw (is, tk) at c.requires.reached.1), (c.take-node-in-Seq.ensures.empty, c.requires.few)))))))))
 
 pub values::feed-returns-in-Seq-clause-done : goal.values::feed-returns-in-Seq-clause-done
 values::feed-returns-in-Seq-clause-done g t c =
@@ -567,26 +561,26 @@ values::feed-returns-in-Seq-clause-kept g t c =
 
 pub choices::resume_choice-start_choice-requires-in-None : goal.choices::resume_choice-start_choice-requires-in-None
 choices::resume_choice-start_choice-requires-in-None g t c κs within =
-    (search (rules, the_lemmas), (within.0, (within.1, (c.requires.at_unit, (c.requires.of_profile, (c.requires.covered, (c.requires.parts, (c.requires.some, (c.requires.last (ap is_some c.in-None.is), (record { come = refl; at_unit = rw c.none.ensures c.keep_feed_laws.ensures.begin; begins = inl c.none.ensures }, c.requires.few))))))))))
+    (search (rules, the_lemmas), (within.0, (within.1, (c.requires.at_unit, (c.requires.of_profile, (c.requires.parts, (c.requires.some, (c.requires.last (ap is_some c.in-None.is), (record { come = refl; at_unit = rw c.none.ensures c.keep_feed_laws.ensures.begin; begins = inl c.none.ensures }, c.requires.few)))))))))
 
 pub choices::resume_choice-feed_choice-requires : goal.choices::resume_choice-feed_choice-requires
 choices::resume_choice-feed_choice-requires g t c κs within =
     let small = root_smaller c.args._ty.now c.requires.parts.alternatives c.args.ext.now c.args.root.now c.requires.parts.is c.requires.parts.root_is in
     let us = c.requires.reached.0 in
     let k = took_chosen g.R.ReadLeaves.rules c.keep_laws.ensures g.R.FeedLeaves.fields g.R.ReadLeaves.ahead g.R.ReadLeaves.is_between c.args.root.now (more_alternatives_of c.args.ext.now) c.requires.of_profile c.args.node c.in-Some-Chosen.field-0 c.in-Some-Chosen.index (nodes c.args.frames.now) us c.in-Some-Chosen.is c.in-Some-Chosen.field-0-is c.requires.reached.1 in
-    (search (rules, the_lemmas, small), (within.0, (within.1, (c.requires.at_unit, (rw c.in-Some-Chosen.index-is (index_inside g.R.ReadLeaves.rules c.keep_laws.ensures g.R.FeedLeaves.fields g.R.ReadLeaves.ahead g.R.ReadLeaves.is_between c.args.root.now (more_alternatives_of c.args.ext.now) c.requires.of_profile c.in-Some-Chosen.index (nodes c.args.frames.now) us [] k), (((more_alternatives_of c.args.ext.now), c.requires.of_profile, c.requires.covered, us ++ g.R.ReadLeaves.rules.to_units c.args.units.now, rw c.in-Some-Chosen.index-is (choice_goes_on g.R.ReadLeaves.rules c.keep_laws.ensures g.R.FeedLeaves.fields g.R.ReadLeaves.ahead g.R.ReadLeaves.is_between c.args.root.now (more_alternatives_of c.args.ext.now) c.requires.of_profile c.in-Some-Chosen.index (nodes c.args.frames.now) us (g.R.ReadLeaves.rules.to_units c.args.units.now) k)), c.requires.few))))))
+    (search (rules, the_lemmas, small), (within.0, (within.1, (c.requires.at_unit, (rw c.in-Some-Chosen.index-is (index_inside g.R.ReadLeaves.rules c.keep_laws.ensures g.R.FeedLeaves.fields g.R.ReadLeaves.ahead g.R.ReadLeaves.is_between c.args.root.now (more_alternatives_of c.args.ext.now) c.requires.of_profile c.in-Some-Chosen.index (nodes c.args.frames.now) us [] k), (((more_alternatives_of c.args.ext.now), c.requires.of_profile, us ++ g.R.ReadLeaves.rules.to_units c.args.units.now, rw c.in-Some-Chosen.index-is (choice_goes_on g.R.ReadLeaves.rules c.keep_laws.ensures g.R.FeedLeaves.fields g.R.ReadLeaves.ahead g.R.ReadLeaves.is_between c.args.root.now (more_alternatives_of c.args.ext.now) c.requires.of_profile c.in-Some-Chosen.index (nodes c.args.frames.now) us (g.R.ReadLeaves.rules.to_units c.args.units.now) k)), c.requires.few))))))
 
 pub choices::resume_choice-returns-in-Some-Chosen-clause-done : goal.choices::resume_choice-returns-in-Some-Chosen-clause-done
 choices::resume_choice-returns-in-Some-Chosen-clause-done g t c =
-    IfOk-weaker c.feed_choice.result _ _ (λ v s us k. s (more_alternatives_of c.args.ext.now) c.requires.of_profile c.requires.covered (us ++ g.R.ReadLeaves.rules.to_units c.args.units.now) (rw c.in-Some-Chosen.index-is (choice_goes_on g.R.ReadLeaves.rules c.keep_laws.ensures g.R.FeedLeaves.fields g.R.ReadLeaves.ahead g.R.ReadLeaves.is_between c.args.root.now (more_alternatives_of c.args.ext.now) c.requires.of_profile c.in-Some-Chosen.index (nodes c.args.frames.now) us (g.R.ReadLeaves.rules.to_units c.args.units.now) (took_chosen g.R.ReadLeaves.rules c.keep_laws.ensures g.R.FeedLeaves.fields g.R.ReadLeaves.ahead g.R.ReadLeaves.is_between c.args.root.now (more_alternatives_of c.args.ext.now) c.requires.of_profile c.args.node c.in-Some-Chosen.field-0 c.in-Some-Chosen.index (nodes c.args.frames.now) us c.in-Some-Chosen.is c.in-Some-Chosen.field-0-is k)))) c.feed_choice.ensures.done
+    IfOk-weaker c.feed_choice.result _ _ (λ v s us k. s (more_alternatives_of c.args.ext.now) c.requires.of_profile (us ++ g.R.ReadLeaves.rules.to_units c.args.units.now) (rw c.in-Some-Chosen.index-is (choice_goes_on g.R.ReadLeaves.rules c.keep_laws.ensures g.R.FeedLeaves.fields g.R.ReadLeaves.ahead g.R.ReadLeaves.is_between c.args.root.now (more_alternatives_of c.args.ext.now) c.requires.of_profile c.in-Some-Chosen.index (nodes c.args.frames.now) us (g.R.ReadLeaves.rules.to_units c.args.units.now) (took_chosen g.R.ReadLeaves.rules c.keep_laws.ensures g.R.FeedLeaves.fields g.R.ReadLeaves.ahead g.R.ReadLeaves.is_between c.args.root.now (more_alternatives_of c.args.ext.now) c.requires.of_profile c.args.node c.in-Some-Chosen.field-0 c.in-Some-Chosen.index (nodes c.args.frames.now) us c.in-Some-Chosen.is c.in-Some-Chosen.field-0-is k)))) c.feed_choice.ensures.done
 
 pub choices::resume_choice-returns-in-Some-Chosen-clause-stop : goal.choices::resume_choice-returns-in-Some-Chosen-clause-stop
 choices::resume_choice-returns-in-Some-Chosen-clause-stop g t c =
-    IfErr-weaker c.feed_choice.result _ _ (λ why s us k. s (more_alternatives_of c.args.ext.now) c.requires.of_profile c.requires.covered (us ++ g.R.ReadLeaves.rules.to_units c.args.units.now) (rw c.in-Some-Chosen.index-is (choice_goes_on g.R.ReadLeaves.rules c.keep_laws.ensures g.R.FeedLeaves.fields g.R.ReadLeaves.ahead g.R.ReadLeaves.is_between c.args.root.now (more_alternatives_of c.args.ext.now) c.requires.of_profile c.in-Some-Chosen.index (nodes c.args.frames.now) us (g.R.ReadLeaves.rules.to_units c.args.units.now) (took_chosen g.R.ReadLeaves.rules c.keep_laws.ensures g.R.FeedLeaves.fields g.R.ReadLeaves.ahead g.R.ReadLeaves.is_between c.args.root.now (more_alternatives_of c.args.ext.now) c.requires.of_profile c.args.node c.in-Some-Chosen.field-0 c.in-Some-Chosen.index (nodes c.args.frames.now) us c.in-Some-Chosen.is c.in-Some-Chosen.field-0-is k)))) c.feed_choice.ensures.stop
+    IfErr-weaker c.feed_choice.result _ _ (λ why s us k. s (more_alternatives_of c.args.ext.now) c.requires.of_profile (us ++ g.R.ReadLeaves.rules.to_units c.args.units.now) (rw c.in-Some-Chosen.index-is (choice_goes_on g.R.ReadLeaves.rules c.keep_laws.ensures g.R.FeedLeaves.fields g.R.ReadLeaves.ahead g.R.ReadLeaves.is_between c.args.root.now (more_alternatives_of c.args.ext.now) c.requires.of_profile c.in-Some-Chosen.index (nodes c.args.frames.now) us (g.R.ReadLeaves.rules.to_units c.args.units.now) (took_chosen g.R.ReadLeaves.rules c.keep_laws.ensures g.R.FeedLeaves.fields g.R.ReadLeaves.ahead g.R.ReadLeaves.is_between c.args.root.now (more_alternatives_of c.args.ext.now) c.requires.of_profile c.args.node c.in-Some-Chosen.field-0 c.in-Some-Chosen.index (nodes c.args.frames.now) us c.in-Some-Chosen.is c.in-Some-Chosen.field-0-is k)))) c.feed_choice.ensures.stop
 
 pub choices::resume_choice-returns-in-Some-Chosen-clause-kept : goal.choices::resume_choice-returns-in-Some-Chosen-clause-kept
 choices::resume_choice-returns-in-Some-Chosen-clause-kept g t c =
-    IfErr-weaker c.feed_choice.result _ _ (λ why s us k. s (more_alternatives_of c.args.ext.now) c.requires.of_profile c.requires.covered (us ++ g.R.ReadLeaves.rules.to_units c.args.units.now) (rw c.in-Some-Chosen.index-is (choice_goes_on g.R.ReadLeaves.rules c.keep_laws.ensures g.R.FeedLeaves.fields g.R.ReadLeaves.ahead g.R.ReadLeaves.is_between c.args.root.now (more_alternatives_of c.args.ext.now) c.requires.of_profile c.in-Some-Chosen.index (nodes c.args.frames.now) us (g.R.ReadLeaves.rules.to_units c.args.units.now) (took_chosen g.R.ReadLeaves.rules c.keep_laws.ensures g.R.FeedLeaves.fields g.R.ReadLeaves.ahead g.R.ReadLeaves.is_between c.args.root.now (more_alternatives_of c.args.ext.now) c.requires.of_profile c.args.node c.in-Some-Chosen.field-0 c.in-Some-Chosen.index (nodes c.args.frames.now) us c.in-Some-Chosen.is c.in-Some-Chosen.field-0-is k)))) c.feed_choice.ensures.kept
+    IfErr-weaker c.feed_choice.result _ _ (λ why s us k. s (more_alternatives_of c.args.ext.now) c.requires.of_profile (us ++ g.R.ReadLeaves.rules.to_units c.args.units.now) (rw c.in-Some-Chosen.index-is (choice_goes_on g.R.ReadLeaves.rules c.keep_laws.ensures g.R.FeedLeaves.fields g.R.ReadLeaves.ahead g.R.ReadLeaves.is_between c.args.root.now (more_alternatives_of c.args.ext.now) c.requires.of_profile c.in-Some-Chosen.index (nodes c.args.frames.now) us (g.R.ReadLeaves.rules.to_units c.args.units.now) (took_chosen g.R.ReadLeaves.rules c.keep_laws.ensures g.R.FeedLeaves.fields g.R.ReadLeaves.ahead g.R.ReadLeaves.is_between c.args.root.now (more_alternatives_of c.args.ext.now) c.requires.of_profile c.args.node c.in-Some-Chosen.field-0 c.in-Some-Chosen.index (nodes c.args.frames.now) us c.in-Some-Chosen.is c.in-Some-Chosen.field-0-is k)))) c.feed_choice.ensures.kept
 
 pub choices::resume_choice-returns-in-None-clause-done : goal.choices::resume_choice-returns-in-None-clause-done
 choices::resume_choice-returns-in-None-clause-done g t c =
@@ -616,7 +610,7 @@ pub choices::resume_choice-start_choice-requires : goal.choices::resume_choice-s
 choices::resume_choice-start_choice-requires g t c κs within =
     let us = c.requires.reached.0 in
     let w = choice_start g.R.ReadLeaves.rules c.keep_laws.ensures g.R.FeedLeaves.fields g.R.ReadLeaves.ahead g.R.ReadLeaves.is_between c.args.root.now (more_alternatives_of c.args.ext.now) c.requires.of_profile c.args.node c.in-Some-Start.field-0 c.in-Some-Start.begun (nodes c.args.frames.now) us c.in-Some-Start.is c.in-Some-Start.field-0-is c.requires.reached.1 in
-    (search (rules, the_lemmas), (within.0, (within.1, (c.requires.at_unit, (c.requires.of_profile, (c.requires.covered, (c.requires.parts, (c.requires.some, (w.0, (record { come = refl; at_unit = w.1.at_unit; begins = w.1.begins }, c.requires.few))))))))))
+    (search (rules, the_lemmas), (within.0, (within.1, (c.requires.at_unit, (c.requires.of_profile, (c.requires.parts, (c.requires.some, (w.0, (record { come = refl; at_unit = w.1.at_unit; begins = w.1.begins }, c.requires.few)))))))))
 
 pub choices::start_choice-feed_leaf-requires-clause-good : goal.choices::start_choice-feed_leaf-requires-clause-good
 choices::start_choice-feed_leaf-requires-clause-good g t c = (c.requires.some, rw (c.addition_count.ensures, ← more_count c.args.ext.now) (few_seen c.args.root.now (more_alternatives_of c.args.ext.now) c.requires.of_profile))
@@ -628,22 +622,22 @@ pub choices::start_choice-feed_choice-requires : goal.choices::start_choice-feed
 choices::start_choice-feed_choice-requires g t c κs within =
     let small = root_smaller c.args._ty.now c.requires.parts.alternatives c.args.ext.now c.args.root.now c.requires.parts.is c.requires.parts.root_is in
     let told : Spells g.R.ReadLeaves.rules.ruling.fielding (IndexOf g.R.ReadLeaves.rules (length c.args.root.now) (added_alternatives (more_alternatives_of c.args.ext.now))) (inl c.in-Ok-Root.index) (g.R.ReadLeaves.rules.to_units c.args.begun ++ g.R.ReadLeaves.rules.to_units c.args.units.now) (g.R.ReadLeaves.rules.to_units c.feed_leaf.new.units) = rw (c.addition_count.ensures, ← more_count c.args.ext.now, c.in-Ok-Root.field-0-is) at c.in-Ok-Root.ensures.done in
-    (search (rules, the_lemmas, small), (within.0, (within.1, (c.in-Ok-Root.ensures.at_unit, (rw c.in-Ok-Root.index-is told.spelt.fits, (((more_alternatives_of c.args.ext.now), c.requires.of_profile, c.requires.covered, (g.R.ReadLeaves.rules.to_units c.args.begun ++ g.R.ReadLeaves.rules.to_units c.args.units.now), rw c.in-Ok-Root.index-is (choice_starts g.R.ReadLeaves.rules c.keep_laws.ensures g.R.FeedLeaves.fields g.R.ReadLeaves.ahead g.R.ReadLeaves.is_between c.args.root.now (more_alternatives_of c.args.ext.now) c.requires.of_profile c.in-Ok-Root.index (nodes c.args.frames.now) (g.R.ReadLeaves.rules.to_units c.args.begun ++ g.R.ReadLeaves.rules.to_units c.args.units.now) (g.R.ReadLeaves.rules.to_units c.feed_leaf.new.units) told c.requires.empty)), omega (arith, c.in-Ok-Root.ensures.ticked, c.requires.few)))))))
+    (search (rules, the_lemmas, small), (within.0, (within.1, (c.in-Ok-Root.ensures.at_unit, (rw c.in-Ok-Root.index-is told.spelt.fits, (((more_alternatives_of c.args.ext.now), c.requires.of_profile, (g.R.ReadLeaves.rules.to_units c.args.begun ++ g.R.ReadLeaves.rules.to_units c.args.units.now), rw c.in-Ok-Root.index-is (choice_starts g.R.ReadLeaves.rules c.keep_laws.ensures g.R.FeedLeaves.fields g.R.ReadLeaves.ahead g.R.ReadLeaves.is_between c.args.root.now (more_alternatives_of c.args.ext.now) c.requires.of_profile c.in-Ok-Root.index (nodes c.args.frames.now) (g.R.ReadLeaves.rules.to_units c.args.begun ++ g.R.ReadLeaves.rules.to_units c.args.units.now) (g.R.ReadLeaves.rules.to_units c.feed_leaf.new.units) told c.requires.empty)), omega (arith, c.in-Ok-Root.ensures.ticked, c.requires.few)))))))
 
 pub choices::start_choice-returns-in-Ok-Root-clause-done : goal.choices::start_choice-returns-in-Ok-Root-clause-done
 choices::start_choice-returns-in-Ok-Root-clause-done g t c =
     let told : Spells g.R.ReadLeaves.rules.ruling.fielding (IndexOf g.R.ReadLeaves.rules (length c.args.root.now) (added_alternatives (more_alternatives_of c.args.ext.now))) (inl c.in-Ok-Root.index) (g.R.ReadLeaves.rules.to_units c.args.begun ++ g.R.ReadLeaves.rules.to_units c.args.units.now) (g.R.ReadLeaves.rules.to_units c.feed_leaf.new.units) = rw (c.addition_count.ensures, ← more_count c.args.ext.now, c.in-Ok-Root.field-0-is) at c.in-Ok-Root.ensures.done in
-    IfOk-weaker c.feed_choice.result _ _ (λ v s. s (more_alternatives_of c.args.ext.now) c.requires.of_profile c.requires.covered (g.R.ReadLeaves.rules.to_units c.args.begun ++ g.R.ReadLeaves.rules.to_units c.args.units.now) (rw c.in-Ok-Root.index-is (choice_starts g.R.ReadLeaves.rules c.keep_laws.ensures g.R.FeedLeaves.fields g.R.ReadLeaves.ahead g.R.ReadLeaves.is_between c.args.root.now (more_alternatives_of c.args.ext.now) c.requires.of_profile c.in-Ok-Root.index (nodes c.args.frames.now) (g.R.ReadLeaves.rules.to_units c.args.begun ++ g.R.ReadLeaves.rules.to_units c.args.units.now) (g.R.ReadLeaves.rules.to_units c.feed_leaf.new.units) told c.requires.empty))) c.feed_choice.ensures.done
+    IfOk-weaker c.feed_choice.result _ _ (λ v s. s (more_alternatives_of c.args.ext.now) c.requires.of_profile (g.R.ReadLeaves.rules.to_units c.args.begun ++ g.R.ReadLeaves.rules.to_units c.args.units.now) (rw c.in-Ok-Root.index-is (choice_starts g.R.ReadLeaves.rules c.keep_laws.ensures g.R.FeedLeaves.fields g.R.ReadLeaves.ahead g.R.ReadLeaves.is_between c.args.root.now (more_alternatives_of c.args.ext.now) c.requires.of_profile c.in-Ok-Root.index (nodes c.args.frames.now) (g.R.ReadLeaves.rules.to_units c.args.begun ++ g.R.ReadLeaves.rules.to_units c.args.units.now) (g.R.ReadLeaves.rules.to_units c.feed_leaf.new.units) told c.requires.empty))) c.feed_choice.ensures.done
 
 pub choices::start_choice-returns-in-Ok-Root-clause-stop : goal.choices::start_choice-returns-in-Ok-Root-clause-stop
 choices::start_choice-returns-in-Ok-Root-clause-stop g t c =
     let told : Spells g.R.ReadLeaves.rules.ruling.fielding (IndexOf g.R.ReadLeaves.rules (length c.args.root.now) (added_alternatives (more_alternatives_of c.args.ext.now))) (inl c.in-Ok-Root.index) (g.R.ReadLeaves.rules.to_units c.args.begun ++ g.R.ReadLeaves.rules.to_units c.args.units.now) (g.R.ReadLeaves.rules.to_units c.feed_leaf.new.units) = rw (c.addition_count.ensures, ← more_count c.args.ext.now, c.in-Ok-Root.field-0-is) at c.in-Ok-Root.ensures.done in
-    IfErr-weaker c.feed_choice.result _ _ (λ why s. s (more_alternatives_of c.args.ext.now) c.requires.of_profile c.requires.covered (g.R.ReadLeaves.rules.to_units c.args.begun ++ g.R.ReadLeaves.rules.to_units c.args.units.now) (rw c.in-Ok-Root.index-is (choice_starts g.R.ReadLeaves.rules c.keep_laws.ensures g.R.FeedLeaves.fields g.R.ReadLeaves.ahead g.R.ReadLeaves.is_between c.args.root.now (more_alternatives_of c.args.ext.now) c.requires.of_profile c.in-Ok-Root.index (nodes c.args.frames.now) (g.R.ReadLeaves.rules.to_units c.args.begun ++ g.R.ReadLeaves.rules.to_units c.args.units.now) (g.R.ReadLeaves.rules.to_units c.feed_leaf.new.units) told c.requires.empty))) c.feed_choice.ensures.stop
+    IfErr-weaker c.feed_choice.result _ _ (λ why s. s (more_alternatives_of c.args.ext.now) c.requires.of_profile (g.R.ReadLeaves.rules.to_units c.args.begun ++ g.R.ReadLeaves.rules.to_units c.args.units.now) (rw c.in-Ok-Root.index-is (choice_starts g.R.ReadLeaves.rules c.keep_laws.ensures g.R.FeedLeaves.fields g.R.ReadLeaves.ahead g.R.ReadLeaves.is_between c.args.root.now (more_alternatives_of c.args.ext.now) c.requires.of_profile c.in-Ok-Root.index (nodes c.args.frames.now) (g.R.ReadLeaves.rules.to_units c.args.begun ++ g.R.ReadLeaves.rules.to_units c.args.units.now) (g.R.ReadLeaves.rules.to_units c.feed_leaf.new.units) told c.requires.empty))) c.feed_choice.ensures.stop
 
 pub choices::start_choice-returns-in-Ok-Root-clause-kept : goal.choices::start_choice-returns-in-Ok-Root-clause-kept
 choices::start_choice-returns-in-Ok-Root-clause-kept g t c =
     let told : Spells g.R.ReadLeaves.rules.ruling.fielding (IndexOf g.R.ReadLeaves.rules (length c.args.root.now) (added_alternatives (more_alternatives_of c.args.ext.now))) (inl c.in-Ok-Root.index) (g.R.ReadLeaves.rules.to_units c.args.begun ++ g.R.ReadLeaves.rules.to_units c.args.units.now) (g.R.ReadLeaves.rules.to_units c.feed_leaf.new.units) = rw (c.addition_count.ensures, ← more_count c.args.ext.now, c.in-Ok-Root.field-0-is) at c.in-Ok-Root.ensures.done in
-    IfErr-weaker c.feed_choice.result _ _ (λ why s. s (more_alternatives_of c.args.ext.now) c.requires.of_profile c.requires.covered (g.R.ReadLeaves.rules.to_units c.args.begun ++ g.R.ReadLeaves.rules.to_units c.args.units.now) (rw c.in-Ok-Root.index-is (choice_starts g.R.ReadLeaves.rules c.keep_laws.ensures g.R.FeedLeaves.fields g.R.ReadLeaves.ahead g.R.ReadLeaves.is_between c.args.root.now (more_alternatives_of c.args.ext.now) c.requires.of_profile c.in-Ok-Root.index (nodes c.args.frames.now) (g.R.ReadLeaves.rules.to_units c.args.begun ++ g.R.ReadLeaves.rules.to_units c.args.units.now) (g.R.ReadLeaves.rules.to_units c.feed_leaf.new.units) told c.requires.empty))) c.feed_choice.ensures.kept
+    IfErr-weaker c.feed_choice.result _ _ (λ why s. s (more_alternatives_of c.args.ext.now) c.requires.of_profile (g.R.ReadLeaves.rules.to_units c.args.begun ++ g.R.ReadLeaves.rules.to_units c.args.units.now) (rw c.in-Ok-Root.index-is (choice_starts g.R.ReadLeaves.rules c.keep_laws.ensures g.R.FeedLeaves.fields g.R.ReadLeaves.ahead g.R.ReadLeaves.is_between c.args.root.now (more_alternatives_of c.args.ext.now) c.requires.of_profile c.in-Ok-Root.index (nodes c.args.frames.now) (g.R.ReadLeaves.rules.to_units c.args.begun ++ g.R.ReadLeaves.rules.to_units c.args.units.now) (g.R.ReadLeaves.rules.to_units c.feed_leaf.new.units) told c.requires.empty))) c.feed_choice.ensures.kept
 
 pub choices::start_choice-returns-in-Ok-clause-stop : goal.choices::start_choice-returns-in-Ok-clause-stop
 choices::start_choice-returns-in-Ok-clause-stop g t c =
@@ -676,31 +670,30 @@ pub choices::feed_choice-feed-requires : goal.choices::feed_choice-feed-requires
 choices::feed_choice-feed-requires g t c κs within =
     let more = c.requires.reached.0 in
     let good = c.requires.reached.1 in
-    let cov = c.requires.reached.2 in
-    let x = alternative_ahead g.R.ReadLeaves.rules c.keep_laws.ensures g.R.FeedLeaves.fields g.R.ReadLeaves.ahead g.R.ReadLeaves.is_between c.args.root.now more good c.args.index (nodes c.args.frames.now) c.index-root-index.result c.requires.reached.3 (g.R.ReadLeaves.rules.to_units c.args.units.now) c.index-root-index.is cov c.requires.reached.4 in
-    (search (rules, the_lemmas), (within.0, (within.1, (c.requires.at_unit, (x.of_profile, (x.covered, ((x.come, x.took), c.requires.few)))))))
+    let x = alternative_ahead g.R.ReadLeaves.rules c.keep_laws.ensures g.R.FeedLeaves.fields g.R.ReadLeaves.ahead g.R.ReadLeaves.is_between c.args.root.now more good c.args.index (nodes c.args.frames.now) c.index-root-index.result c.requires.reached.2 (g.R.ReadLeaves.rules.to_units c.args.units.now) c.index-root-index.is c.requires.reached.3 in
+    (search (rules, the_lemmas), (within.0, (within.1, (c.requires.at_unit, (x.of_profile, ((x.come, x.took), c.requires.few))))))
 
 pub choices::feed_choice-returns-in-Ok-new-clause-done : goal.choices::feed_choice-returns-in-Ok-new-clause-done
-choices::feed_choice-returns-in-Ok-new-clause-done g t c = λ more good cov all h.
-    let x = alternative_ahead g.R.ReadLeaves.rules c.keep_laws.ensures g.R.FeedLeaves.fields g.R.ReadLeaves.ahead g.R.ReadLeaves.is_between c.args.root.now more good c.args.index (nodes c.args.frames.now) c.index-root-index.result all (g.R.ReadLeaves.rules.to_units c.args.units.now) c.index-root-index.is cov h in
+choices::feed_choice-returns-in-Ok-new-clause-done g t c = λ more good all h.
+    let x = alternative_ahead g.R.ReadLeaves.rules c.keep_laws.ensures g.R.FeedLeaves.fields g.R.ReadLeaves.ahead g.R.ReadLeaves.is_between c.args.root.now more good c.args.index (nodes c.args.frames.now) c.index-root-index.result all (g.R.ReadLeaves.rules.to_units c.args.units.now) c.index-root-index.is h in
     rw (datum_of-Choice c.args.index c.in-Ok-new.value, c.in-Ok-new.ensures.ok) (x.leads.done (datum_of c.in-Ok.value) (g.R.ReadLeaves.rules.to_units c.feed.new.units) (c.in-Ok.ensures.done x.come x.took))
 
 pub choices::feed_choice-returns-in-Ok-put-clause-stop : goal.choices::feed_choice-returns-in-Ok-put-clause-stop
-choices::feed_choice-returns-in-Ok-put-clause-stop g t c = λ more good cov all h.
-    let x = alternative_ahead g.R.ReadLeaves.rules c.keep_laws.ensures g.R.FeedLeaves.fields g.R.ReadLeaves.ahead g.R.ReadLeaves.is_between c.args.root.now more good c.args.index (nodes c.args.frames.now) c.index-root-index.result all (g.R.ReadLeaves.rules.to_units c.args.units.now) c.index-root-index.is cov h in
+choices::feed_choice-returns-in-Ok-put-clause-stop g t c = λ more good all h.
+    let x = alternative_ahead g.R.ReadLeaves.rules c.keep_laws.ensures g.R.FeedLeaves.fields g.R.ReadLeaves.ahead g.R.ReadLeaves.is_between c.args.root.now more good c.args.index (nodes c.args.frames.now) c.index-root-index.result all (g.R.ReadLeaves.rules.to_units c.args.units.now) c.index-root-index.is h in
     let a : Stops g.R.ReadLeaves.rules.ruling.fielding (ValuesOf g.R.ReadLeaves.rules (shape_of c.index-root-index.result.ty)) (x.come ++ g.R.ReadLeaves.rules.to_units c.args.units.now) stop.Short = rw c.in-Err-Short.field-0-is at (c.in-Err-Short.ensures.stop x.come x.took) in
     stops_by stop.Short x.leads.stops a
 
 pub choices::feed_choice-returns-in-Err-Refused-clause-stop : goal.choices::feed_choice-returns-in-Err-Refused-clause-stop
-choices::feed_choice-returns-in-Err-Refused-clause-stop g t c = λ more good cov all h.
-    let x = alternative_ahead g.R.ReadLeaves.rules c.keep_laws.ensures g.R.FeedLeaves.fields g.R.ReadLeaves.ahead g.R.ReadLeaves.is_between c.args.root.now more good c.args.index (nodes c.args.frames.now) c.index-root-index.result all (g.R.ReadLeaves.rules.to_units c.args.units.now) c.index-root-index.is cov h in
+choices::feed_choice-returns-in-Err-Refused-clause-stop g t c = λ more good all h.
+    let x = alternative_ahead g.R.ReadLeaves.rules c.keep_laws.ensures g.R.FeedLeaves.fields g.R.ReadLeaves.ahead g.R.ReadLeaves.is_between c.args.root.now more good c.args.index (nodes c.args.frames.now) c.index-root-index.result all (g.R.ReadLeaves.rules.to_units c.args.units.now) c.index-root-index.is h in
     let w = stop.Refused c.in-Err-Refused.left c.in-Err-Refused.why in
     let a : Stops g.R.ReadLeaves.rules.ruling.fielding (ValuesOf g.R.ReadLeaves.rules (shape_of c.index-root-index.result.ty)) (x.come ++ g.R.ReadLeaves.rules.to_units c.args.units.now) w = rw c.in-Err-Refused.field-0-is at (c.in-Err-Refused.ensures.stop x.come x.took) in
     rw (c.in-Err-Refused.left-is, c.in-Err-Refused.why-is) (stops_by w x.leads.stops a)
 
 pub choices::feed_choice-returns-in-Ok-put-clause-kept : goal.choices::feed_choice-returns-in-Ok-put-clause-kept
-choices::feed_choice-returns-in-Ok-put-clause-kept g t c = λ more good cov all h.
-    let x = alternative_ahead g.R.ReadLeaves.rules c.keep_laws.ensures g.R.FeedLeaves.fields g.R.ReadLeaves.ahead g.R.ReadLeaves.is_between c.args.root.now more good c.args.index (nodes c.args.frames.now) c.index-root-index.result all (g.R.ReadLeaves.rules.to_units c.args.units.now) c.index-root-index.is cov h in
+choices::feed_choice-returns-in-Ok-put-clause-kept g t c = λ more good all h.
+    let x = alternative_ahead g.R.ReadLeaves.rules c.keep_laws.ensures g.R.FeedLeaves.fields g.R.ReadLeaves.ahead g.R.ReadLeaves.is_between c.args.root.now more good c.args.index (nodes c.args.frames.now) c.index-root-index.result all (g.R.ReadLeaves.rules.to_units c.args.units.now) c.index-root-index.is h in
     let none : g.R.ReadLeaves.rules.to_units c.feed.new.units ≡ [] = rw c.in-Err-Short.field-0-is at c.in-Err-Short.ensures.after in
     let took : Took g.R.ReadLeaves.rules g.R.FeedLeaves.fields g.R.ReadLeaves.ahead g.R.ReadLeaves.is_between (nodes c.feed.new.frames) (shape_of c.index-root-index.result.ty) (x.come ++ g.R.ReadLeaves.rules.to_units c.args.units.now) = rw c.in-Err-Short.field-0-is at (c.in-Err-Short.ensures.kept x.come x.took) in
     rw c.in-Ok-put.ensures (x.kept (nodes c.feed.new.frames) [] refl took)
@@ -711,7 +704,7 @@ pub values::feed-resume_choice-requires : goal.values::feed-resume_choice-requir
 values::feed-resume_choice-requires g t c κs within =
     let is = choice_of_alternatives c.args.ty.now c.in-Choice.root c.in-Choice.ext c.as_slice-root-in-Choice.result.now c.in-Choice.is c.as_slice-root-in-Choice.ensures.value in
     let tk = taken_is c.take-node-in-Choice.result (nodes c.args.frames.now) (nodes c.take-node-in-Choice.new.self) c.take-node-in-Choice.ensures.some c.take-node-in-Choice.ensures.none c.take-node-in-Choice.ensures.empty in
-    (search (rules, the_lemmas), (within.0, (within.1, (c.requires.at_unit, (rw is at c.requires.of_profile, (rw is at c.requires.covered, (record { alternatives = c.in-Choice.root; is = c.in-Choice.is; root_is = c.as_slice-root-in-Choice.ensures.value }, (rw c.as_slice-root-in-Choice.ensures.len (some_root c.args.ty.now c.in-Choice.root c.in-Choice.ext c.in-Choice.is c.requires.of_profile (vec_len c.in-Choice.root) refl), ((c.requires.reached.0, rw (is, tk) at c.requires.reached.1), (c.take-node-in-Choice.ensures.empty, c.requires.few))))))))))
+    (search (rules, the_lemmas), (within.0, (within.1, (c.requires.at_unit, (rw is at c.requires.of_profile, (record { alternatives = c.in-Choice.root; is = c.in-Choice.is; root_is = c.as_slice-root-in-Choice.ensures.value }, (rw c.as_slice-root-in-Choice.ensures.len (some_root c.args.ty.now c.in-Choice.root c.in-Choice.ext c.in-Choice.is c.requires.of_profile (vec_len c.in-Choice.root) refl), ((c.requires.reached.0, rw (is, tk) at c.requires.reached.1), (c.take-node-in-Choice.ensures.empty, c.requires.few)))))))))
 
 pub values::feed-returns-in-Choice-clause-done : goal.values::feed-returns-in-Choice-clause-done
 values::feed-returns-in-Choice-clause-done g t c =
@@ -736,7 +729,7 @@ values::feed-returns-in-Choice-clause-kept g t c =
 pub choices::resume_choice-feed_added-requires : goal.choices::resume_choice-feed_added-requires
 choices::resume_choice-feed_added-requires g t c κs within =
     let us = c.requires.reached.0 in
-    (search (rules, the_lemmas), (within.0, (within.1, (c.requires.at_unit, (c.requires.of_profile, (c.requires.covered, (c.requires.parts, ((us ++ g.R.ReadLeaves.rules.to_units c.args.units.now, (rw c.in-Some-Added.index-is (addition_goes_on g.R.ReadLeaves.rules c.keep_laws.ensures g.R.FeedLeaves.fields g.R.ReadLeaves.ahead g.R.ReadLeaves.is_between c.args.root.now c.args.ext.now c.requires.of_profile c.in-Some-Added.index (nodes c.args.frames.now) us (g.R.ReadLeaves.rules.to_units c.args.units.now) (took_added g.R.ReadLeaves.rules c.keep_laws.ensures g.R.FeedLeaves.fields g.R.ReadLeaves.ahead g.R.ReadLeaves.is_between c.args.root.now c.args.ext.now c.requires.of_profile c.args.node c.in-Some-Added.field-0 c.in-Some-Added.index (nodes c.args.frames.now) us c.in-Some-Added.is c.in-Some-Added.field-0-is c.requires.reached.1)))), c.requires.few))))))))
+    (search (rules, the_lemmas), (within.0, (within.1, (c.requires.at_unit, (c.requires.of_profile, (c.requires.parts, ((us ++ g.R.ReadLeaves.rules.to_units c.args.units.now, (rw c.in-Some-Added.index-is (addition_goes_on g.R.ReadLeaves.rules c.keep_laws.ensures g.R.FeedLeaves.fields g.R.ReadLeaves.ahead g.R.ReadLeaves.is_between c.args.root.now c.args.ext.now c.requires.of_profile c.in-Some-Added.index (nodes c.args.frames.now) us (g.R.ReadLeaves.rules.to_units c.args.units.now) (took_added g.R.ReadLeaves.rules c.keep_laws.ensures g.R.FeedLeaves.fields g.R.ReadLeaves.ahead g.R.ReadLeaves.is_between c.args.root.now c.args.ext.now c.requires.of_profile c.args.node c.in-Some-Added.field-0 c.in-Some-Added.index (nodes c.args.frames.now) us c.in-Some-Added.is c.in-Some-Added.field-0-is c.requires.reached.1)))), c.requires.few)))))))
 
 pub choices::resume_choice-returns-in-Some-Added-clause-done : goal.choices::resume_choice-returns-in-Some-Added-clause-done
 choices::resume_choice-returns-in-Some-Added-clause-done g t c =
@@ -753,7 +746,7 @@ choices::resume_choice-returns-in-Some-Added-clause-kept g t c =
 pub choices::start_choice-feed_added-requires : goal.choices::start_choice-feed_added-requires
 choices::start_choice-feed_added-requires g t c κs within =
     let told : Spells g.R.ReadLeaves.rules.ruling.fielding (IndexOf g.R.ReadLeaves.rules (length c.args.root.now) (added_alternatives (more_alternatives_of c.args.ext.now))) (inr c.in-Ok-Added.index) (g.R.ReadLeaves.rules.to_units c.args.begun ++ g.R.ReadLeaves.rules.to_units c.args.units.now) (g.R.ReadLeaves.rules.to_units c.feed_leaf.new.units) = rw (c.addition_count.ensures, ← more_count c.args.ext.now, c.in-Ok-Added.field-0-is) at c.in-Ok-Added.ensures.done in
-    (search (rules, the_lemmas), (within.0, (within.1, (c.in-Ok-Added.ensures.at_unit, (c.requires.of_profile, (c.requires.covered, (c.requires.parts, (((g.R.ReadLeaves.rules.to_units c.args.begun ++ g.R.ReadLeaves.rules.to_units c.args.units.now), (rw c.in-Ok-Added.index-is (addition_starts g.R.ReadLeaves.rules c.keep_laws.ensures g.R.FeedLeaves.fields g.R.ReadLeaves.ahead g.R.ReadLeaves.is_between c.args.root.now c.args.ext.now c.requires.of_profile c.in-Ok-Added.index (nodes c.args.frames.now) (g.R.ReadLeaves.rules.to_units c.args.begun ++ g.R.ReadLeaves.rules.to_units c.args.units.now) (g.R.ReadLeaves.rules.to_units c.feed_leaf.new.units) told c.requires.empty))), omega (arith, c.in-Ok-Added.ensures.ticked, c.requires.few)))))))))
+    (search (rules, the_lemmas), (within.0, (within.1, (c.in-Ok-Added.ensures.at_unit, (c.requires.of_profile, (c.requires.parts, (((g.R.ReadLeaves.rules.to_units c.args.begun ++ g.R.ReadLeaves.rules.to_units c.args.units.now), (rw c.in-Ok-Added.index-is (addition_starts g.R.ReadLeaves.rules c.keep_laws.ensures g.R.FeedLeaves.fields g.R.ReadLeaves.ahead g.R.ReadLeaves.is_between c.args.root.now c.args.ext.now c.requires.of_profile c.in-Ok-Added.index (nodes c.args.frames.now) (g.R.ReadLeaves.rules.to_units c.args.begun ++ g.R.ReadLeaves.rules.to_units c.args.units.now) (g.R.ReadLeaves.rules.to_units c.feed_leaf.new.units) told c.requires.empty))), omega (arith, c.in-Ok-Added.ensures.ticked, c.requires.few))))))))
 
 pub choices::start_choice-returns-in-Ok-Added-clause-done : goal.choices::start_choice-returns-in-Ok-Added-clause-done
 choices::start_choice-returns-in-Ok-Added-clause-done g t c =
@@ -797,26 +790,26 @@ pub choices::feed_added-feed_open_field-requires : goal.choices::feed_added-feed
 choices::feed_added-feed_open_field-requires g t c κs within =
     let inside : c.args.index < length c.as_slice-additions.result.now = rw c.as_slice-additions.ensures.value (addition_inside g.R.ReadLeaves.rules c.keep_laws.ensures g.R.FeedLeaves.fields g.R.ReadLeaves.ahead g.R.ReadLeaves.is_between c.args.root.now c.args.ext.now c.requires.of_profile c.in-Some.additions c.in-Some.is c.args.index (nodes c.args.frames.now) c.requires.reached.0 (g.R.ReadLeaves.rules.to_units c.args.units.now) c.requires.reached.1) in
     let small = added_type_smaller c.args._ty.now c.requires.parts.alternatives c.args.ext.now c.in-Some.additions c.as_slice-additions.result.now c.args.index c.index-additions-index.result c.requires.parts.is c.in-Some.is c.as_slice-additions.ensures.value inside c.index-additions-index.is in
-    let x = addition_ahead g.R.ReadLeaves.rules c.keep_laws.ensures g.R.FeedLeaves.fields g.R.ReadLeaves.ahead g.R.ReadLeaves.is_between c.args.root.now c.args.ext.now c.requires.of_profile c.in-Some.additions c.in-Some.is c.args.index (nodes c.args.frames.now) c.index-additions-index.result c.requires.reached.0 (g.R.ReadLeaves.rules.to_units c.args.units.now) (rw c.as_slice-additions.ensures.value at c.index-additions-index.is) c.requires.covered c.requires.reached.1 in
-    (search (rules, the_lemmas, small), (within.0, (within.1, (c.requires.at_unit, (x.of_profile, (x.covered, ((x.come, x.took), c.requires.few)))))))
+    let x = addition_ahead g.R.ReadLeaves.rules c.keep_laws.ensures g.R.FeedLeaves.fields g.R.ReadLeaves.ahead g.R.ReadLeaves.is_between c.args.root.now c.args.ext.now c.requires.of_profile c.in-Some.additions c.in-Some.is c.args.index (nodes c.args.frames.now) c.index-additions-index.result c.requires.reached.0 (g.R.ReadLeaves.rules.to_units c.args.units.now) (rw c.as_slice-additions.ensures.value at c.index-additions-index.is) c.requires.reached.1 in
+    (search (rules, the_lemmas, small), (within.0, (within.1, (c.requires.at_unit, (x.of_profile, ((x.come, x.took), c.requires.few))))))
 
 pub choices::feed_added-returns-in-Ok-new-clause-done : goal.choices::feed_added-returns-in-Ok-new-clause-done
 choices::feed_added-returns-in-Ok-new-clause-done g t c =
     λ all h.
-    let x = addition_ahead g.R.ReadLeaves.rules c.keep_laws.ensures g.R.FeedLeaves.fields g.R.ReadLeaves.ahead g.R.ReadLeaves.is_between c.args.root.now c.args.ext.now c.requires.of_profile c.in-Some.additions c.in-Some.is c.args.index (nodes c.args.frames.now) c.index-additions-index.result all (g.R.ReadLeaves.rules.to_units c.args.units.now) (rw c.as_slice-additions.ensures.value at c.index-additions-index.is) c.requires.covered h in
+    let x = addition_ahead g.R.ReadLeaves.rules c.keep_laws.ensures g.R.FeedLeaves.fields g.R.ReadLeaves.ahead g.R.ReadLeaves.is_between c.args.root.now c.args.ext.now c.requires.of_profile c.in-Some.additions c.in-Some.is c.args.index (nodes c.args.frames.now) c.index-additions-index.result all (g.R.ReadLeaves.rules.to_units c.args.units.now) (rw c.as_slice-additions.ensures.value at c.index-additions-index.is) h in
     rw (datum_of-Choice (length c.args.root.now + c.args.index) c.in-Ok-new.value, c.in-Ok-new.ensures.ok) (x.leads.done (datum_of c.in-Ok.value) (g.R.ReadLeaves.rules.to_units c.feed_open_field.new.units) (c.in-Ok.ensures.done x.come x.took))
 
 pub choices::feed_added-returns-in-Ok-put-clause-stop : goal.choices::feed_added-returns-in-Ok-put-clause-stop
 choices::feed_added-returns-in-Ok-put-clause-stop g t c =
     λ all h.
-    let x = addition_ahead g.R.ReadLeaves.rules c.keep_laws.ensures g.R.FeedLeaves.fields g.R.ReadLeaves.ahead g.R.ReadLeaves.is_between c.args.root.now c.args.ext.now c.requires.of_profile c.in-Some.additions c.in-Some.is c.args.index (nodes c.args.frames.now) c.index-additions-index.result all (g.R.ReadLeaves.rules.to_units c.args.units.now) (rw c.as_slice-additions.ensures.value at c.index-additions-index.is) c.requires.covered h in
+    let x = addition_ahead g.R.ReadLeaves.rules c.keep_laws.ensures g.R.FeedLeaves.fields g.R.ReadLeaves.ahead g.R.ReadLeaves.is_between c.args.root.now c.args.ext.now c.requires.of_profile c.in-Some.additions c.in-Some.is c.args.index (nodes c.args.frames.now) c.index-additions-index.result all (g.R.ReadLeaves.rules.to_units c.args.units.now) (rw c.as_slice-additions.ensures.value at c.index-additions-index.is) h in
     let a : Stops g.R.ReadLeaves.rules.ruling.fielding (OpenOf g.R.ReadLeaves.rules (shape_of c.index-additions-index.result.ty)) (x.come ++ g.R.ReadLeaves.rules.to_units c.args.units.now) stop.Short = rw c.in-Err-Short.field-0-is at (c.in-Err-Short.ensures.stop x.come x.took) in
     stops_by stop.Short x.leads.stops a
 
 pub choices::feed_added-returns-in-Err-Refused-clause-stop : goal.choices::feed_added-returns-in-Err-Refused-clause-stop
 choices::feed_added-returns-in-Err-Refused-clause-stop g t c =
     λ all h.
-    let x = addition_ahead g.R.ReadLeaves.rules c.keep_laws.ensures g.R.FeedLeaves.fields g.R.ReadLeaves.ahead g.R.ReadLeaves.is_between c.args.root.now c.args.ext.now c.requires.of_profile c.in-Some.additions c.in-Some.is c.args.index (nodes c.args.frames.now) c.index-additions-index.result all (g.R.ReadLeaves.rules.to_units c.args.units.now) (rw c.as_slice-additions.ensures.value at c.index-additions-index.is) c.requires.covered h in
+    let x = addition_ahead g.R.ReadLeaves.rules c.keep_laws.ensures g.R.FeedLeaves.fields g.R.ReadLeaves.ahead g.R.ReadLeaves.is_between c.args.root.now c.args.ext.now c.requires.of_profile c.in-Some.additions c.in-Some.is c.args.index (nodes c.args.frames.now) c.index-additions-index.result all (g.R.ReadLeaves.rules.to_units c.args.units.now) (rw c.as_slice-additions.ensures.value at c.index-additions-index.is) h in
     let w = stop.Refused c.in-Err-Refused.left c.in-Err-Refused.why in
     let a : Stops g.R.ReadLeaves.rules.ruling.fielding (OpenOf g.R.ReadLeaves.rules (shape_of c.index-additions-index.result.ty)) (x.come ++ g.R.ReadLeaves.rules.to_units c.args.units.now) w = rw c.in-Err-Refused.field-0-is at (c.in-Err-Refused.ensures.stop x.come x.took) in
     rw (c.in-Err-Refused.left-is, c.in-Err-Refused.why-is) (stops_by w x.leads.stops a)
@@ -824,8 +817,8 @@ choices::feed_added-returns-in-Err-Refused-clause-stop g t c =
 pub choices::feed_added-returns-in-Ok-put-clause-kept : goal.choices::feed_added-returns-in-Ok-put-clause-kept
 choices::feed_added-returns-in-Ok-put-clause-kept g t c =
     λ all h.
-    let x = addition_ahead g.R.ReadLeaves.rules c.keep_laws.ensures g.R.FeedLeaves.fields g.R.ReadLeaves.ahead g.R.ReadLeaves.is_between c.args.root.now c.args.ext.now c.requires.of_profile c.in-Some.additions c.in-Some.is c.args.index (nodes c.args.frames.now) c.index-additions-index.result all (g.R.ReadLeaves.rules.to_units c.args.units.now) (rw c.as_slice-additions.ensures.value at c.index-additions-index.is) c.requires.covered h in
-    let took : FieldTook g.R.ReadLeaves.rules g.R.FeedLeaves.fields g.R.ReadLeaves.ahead g.R.ReadLeaves.is_between (nodes c.feed_open_field.new.frames) (x.come ++ g.R.ReadLeaves.rules.to_units c.args.units.now) = rw c.in-Err-Short.field-0-is at (c.in-Err-Short.ensures.kept x.come x.took) in
+    let x = addition_ahead g.R.ReadLeaves.rules c.keep_laws.ensures g.R.FeedLeaves.fields g.R.ReadLeaves.ahead g.R.ReadLeaves.is_between c.args.root.now c.args.ext.now c.requires.of_profile c.in-Some.additions c.in-Some.is c.args.index (nodes c.args.frames.now) c.index-additions-index.result all (g.R.ReadLeaves.rules.to_units c.args.units.now) (rw c.as_slice-additions.ensures.value at c.index-additions-index.is) h in
+    let took : OctetsTook g.R.ReadLeaves.rules g.R.FeedLeaves.fields.open_type g.R.ReadLeaves.ahead g.R.ReadLeaves.is_between (nodes c.feed_open_field.new.frames) (x.come ++ g.R.ReadLeaves.rules.to_units c.args.units.now) = rw c.in-Err-Short.field-0-is at (c.in-Err-Short.ensures.kept x.come x.took) in
     rw c.in-Ok-put.ensures (x.kept (nodes c.feed_open_field.new.frames) [] refl took)
 
 -- ---- open type fields
@@ -833,7 +826,7 @@ choices::feed_added-returns-in-Ok-put-clause-kept g t c =
 pub open_fields::feed_open_field-returns-in_err-octets-clause-stop : goal.open_fields::feed_open_field-returns-in_err-octets-clause-stop
 open_fields::feed_open_field-returns-in_err-octets-clause-stop g t c =
     let p = err_from_is_err_and c.from_residual.result c.from_residual.ensures.1 in
-    rw (p.1, p.2) (λ us k. stops_by _ (octets_stop g.R.ReadLeaves.rules c.keep_laws.ensures (shape_of c.args.ty.now) c.requires.of_profile (us ++ g.R.ReadLeaves.rules.to_units c.args.units.now)) (c.in_err-octets.ensures.stop us k))
+    rw (p.1, p.2) (λ us k. stops_by _ (stops_on (leads_same g.R.ReadLeaves.rules.ruling.fielding (us ++ g.R.ReadLeaves.rules.to_units c.args.units.now) c.keep_field_laws.ensures.same).stops (octets_stop g.R.ReadLeaves.rules c.keep_laws.ensures (shape_of c.args.ty.now) c.requires.of_profile (us ++ g.R.ReadLeaves.rules.to_units c.args.units.now))) (c.in_err-octets.ensures.stop us k))
 
 pub open_fields::feed_open_field-returns-in_err-octets-clause-kept : goal.open_fields::feed_open_field-returns-in_err-octets-clause-kept
 open_fields::feed_open_field-returns-in_err-octets-clause-kept g t c =
@@ -842,15 +835,15 @@ open_fields::feed_open_field-returns-in_err-octets-clause-kept g t c =
 
 pub open_fields::feed_open_field-read_content-requires : goal.open_fields::feed_open_field-read_content-requires
 open_fields::feed_open_field-read_content-requires g t c κs within =
-    (search (rules, the_lemmas), (within.0, (within.1, (c.requires.of_profile, (c.requires.covered, rw c.as_slice.ensures.value (content_of (c.in_ok-octets.ensures.done c.requires.reached.0 c.requires.reached.1)))))))
+    (search (rules, the_lemmas), (within.0, (within.1, (c.requires.of_profile, rw c.as_slice.ensures.value (content_of (same_spells c.keep_field_laws.ensures.same (c.in_ok-octets.ensures.done c.requires.reached.0 c.requires.reached.1)))))))
 
 pub open_fields::feed_open_field-returns-clause-done : goal.open_fields::feed_open_field-returns-clause-done
 open_fields::feed_open_field-returns-clause-done g t c =
-    IfOk-weaker c.read_content.result _ _ (λ v s us k. s (us ++ g.R.ReadLeaves.rules.to_units c.args.units.now) (g.R.ReadLeaves.rules.to_units c.feed_octets.new.units) (rw (← c.as_slice.ensures.value) at (c.in_ok-octets.ensures.done us k))) c.read_content.ensures.done
+    IfOk-weaker c.read_content.result _ _ (λ v s us k. s (us ++ g.R.ReadLeaves.rules.to_units c.args.units.now) (g.R.ReadLeaves.rules.to_units c.feed_octets.new.units) (rw (← c.as_slice.ensures.value) at (same_spells c.keep_field_laws.ensures.same (c.in_ok-octets.ensures.done us k)))) c.read_content.ensures.done
 
 pub open_fields::feed_open_field-returns-clause-stop : goal.open_fields::feed_open_field-returns-clause-stop
 open_fields::feed_open_field-returns-clause-stop g t c =
-    IfErr-weaker c.read_content.result _ _ (λ why s us k. s (us ++ g.R.ReadLeaves.rules.to_units c.args.units.now) (g.R.ReadLeaves.rules.to_units c.feed_octets.new.units) (rw (← c.as_slice.ensures.value) at (c.in_ok-octets.ensures.done us k)) (ap (λ (xs : List ℕ). length (g.R.ReadLeaves.rules.to_units xs)) (sym c.ahead.ensures) ∙ sym c.units_left-left.ensures)) c.read_content.ensures.stop
+    IfErr-weaker c.read_content.result _ _ (λ why s us k. s (us ++ g.R.ReadLeaves.rules.to_units c.args.units.now) (g.R.ReadLeaves.rules.to_units c.feed_octets.new.units) (rw (← c.as_slice.ensures.value) at (same_spells c.keep_field_laws.ensures.same (c.in_ok-octets.ensures.done us k))) (ap (λ (xs : List ℕ). length (g.R.ReadLeaves.rules.to_units xs)) (sym c.ahead.ensures) ∙ sym c.units_left-left.ensures)) c.read_content.ensures.stop
 
 pub open_fields::feed_open_field-returns-clause-after : goal.open_fields::feed_open_field-returns-clause-after
 open_fields::feed_open_field-returns-clause-after g t c =
@@ -858,7 +851,7 @@ open_fields::feed_open_field-returns-clause-after g t c =
 
 pub open_fields::feed_open_field-returns-clause-kept : goal.open_fields::feed_open_field-returns-clause-kept
 open_fields::feed_open_field-returns-clause-kept g t c =
-    IfErr-weaker c.read_content.result _ _ (λ why s us k. keeps_none g.R.ReadLeaves.rules g.R.FeedLeaves.fields g.R.ReadLeaves.ahead g.R.ReadLeaves.is_between (nodes c.feed_octets.new.frames) (us ++ g.R.ReadLeaves.rules.to_units c.args.units.now) c.units_left-left.result why s) c.read_content.ensures.after
+    IfErr-weaker c.read_content.result _ _ (λ why s us k. keeps_none g.R.ReadLeaves.rules g.R.FeedLeaves.fields.open_type g.R.ReadLeaves.ahead g.R.ReadLeaves.is_between (nodes c.feed_octets.new.frames) (us ++ g.R.ReadLeaves.rules.to_units c.args.units.now) c.units_left-left.result why s) c.read_content.ensures.after
 
 pub open_fields::read_content-read_complete-requires : goal.open_fields::read_content-read_complete-requires
 open_fields::read_content-read_complete-requires g t c κs within =
@@ -867,7 +860,7 @@ open_fields::read_content-read_complete-requires g t c κs within =
     let over : g.R.ReadLeaves.rules.to_units c.over-units.result ≡ g.R.ReadLeaves.rules.ruling.units os = ap g.R.ReadLeaves.rules.to_units c.over-units.ensures ∙ c.keep_laws.ensures.over os held in
     let many : length (g.R.ReadLeaves.rules.to_units c.over-units.result) ≡ g.R.ReadLeaves.rules.octet_units * length os = ap length over ∙ c.keep_laws.ensures.count os in
     let fill : length (g.R.ReadLeaves.rules.to_units c.over-units.result) % g.R.ReadLeaves.rules.octet_units ≡ 0 = rw over (units_fill g.R.ReadLeaves.rules c.keep_laws.ensures os) in
-    (search (rules, the_lemmas), (within.0, (within.1, (rw c.over-units.ensures (c.keep_laws.ensures.begin os held), (c.requires.of_profile, (c.requires.covered, (fill, few_units g.R.ReadLeaves.rules c.keep_laws.ensures c.none-ticks.result c.none-ticks.ensures (length (g.R.ReadLeaves.rules.to_units c.over-units.result)) os many c.requires.content.1)))))))
+    (search (rules, the_lemmas), (within.0, (within.1, (rw c.over-units.ensures (c.keep_laws.ensures.begin os held), (c.requires.of_profile, (fill, few_units g.R.ReadLeaves.rules c.keep_laws.ensures c.none-ticks.result c.none-ticks.ensures (length (g.R.ReadLeaves.rules.to_units c.over-units.result)) os many c.requires.content.1))))))
 
 pub open_fields::read_content-returns-in-Ok-clause-done : goal.open_fields::read_content-returns-in-Ok-clause-done
 open_fields::read_content-returns-in-Ok-clause-done g t c =
@@ -911,7 +904,7 @@ open_fields::read_content-returns-in-Err-Refused-clause-stop g t c =
 
 pub open_fields::read_complete-feed-requires : goal.open_fields::read_complete-feed-requires
 open_fields::read_complete-feed-requires g t c κs within =
-    (search (rules, the_lemmas), (within.0, (within.1, (c.requires.at_unit, (c.requires.of_profile, (c.requires.covered, (([], rw c.none-frames.ensures refl), c.requires.few)))))))
+    (search (rules, the_lemmas), (within.0, (within.1, (c.requires.at_unit, (c.requires.of_profile, (([], rw c.none-frames.ensures refl), c.requires.few))))))
 
 pub open_fields::read_complete-returns-in_err-value-clause-stop : goal.open_fields::read_complete-returns-in_err-value-clause-stop
 open_fields::read_complete-returns-in_err-value-clause-stop g t c =
@@ -937,3 +930,297 @@ pub open_fields::read_complete-returns-clause-done : goal.open_fields::read_comp
 open_fields::read_complete-returns-clause-done g t c =
     let lead = fill_leads g.R.ReadLeaves.rules c.keep_laws.ensures (shape_of c.args.ty.now) c.requires.of_profile (datum_of c.in_ok-value.value) (g.R.ReadLeaves.rules.to_units c.args.units.now) (g.R.ReadLeaves.rules.to_units c.feed.new.units) (c.in_ok-value.ensures.done [] (rw c.none-frames.ensures refl)) in
     rw c.take_to.ensures.left (lead.done c.in_ok-read_padding.field-0 (g.R.ReadLeaves.rules.to_units c.read_padding.new.units) (rw ((c.units_left-given.ensures ∙ ap (λ (xs : List ℕ). length (g.R.ReadLeaves.rules.to_units xs)) c.ahead.ensures), c.ahead-ahead.ensures) at c.in_ok-read_padding.ensures.done))
+
+pub sequences::feed_sequence-returns-in-Ok-clause-stop : goal.sequences::feed_sequence-returns-in-Ok-clause-stop
+sequences::feed_sequence-returns-in-Ok-clause-stop g t c =
+    IfErr-weaker c.end_sequence.result _ _ (λ why s all h. s all (c.in-Ok.ensures.done (more_fields_of c.args.ext.now) c.requires.of_profile all h)) c.end_sequence.ensures.stop
+
+pub sequences::feed_sequence-returns-in-Ok-clause-kept : goal.sequences::feed_sequence-returns-in-Ok-clause-kept
+sequences::feed_sequence-returns-in-Ok-clause-kept g t c =
+    IfErr-weaker c.end_sequence.result _ _ (λ why s all h. s all (c.in-Ok.ensures.done (more_fields_of c.args.ext.now) c.requires.of_profile all h)) c.end_sequence.ensures.kept
+
+pub sequences::feed_sequence-feed_components-requires : goal.sequences::feed_sequence-feed_components-requires
+sequences::feed_sequence-feed_components-requires g t c κs within =
+    let small = components_smaller c.args._ty.now c.requires.parts.components c.args.ext.now c.args.root.now c.requires.parts.is c.requires.parts.root_is in
+    (search (rules, the_lemmas, small), (within.0, (within.1, (c.requires.at_unit, (((more_fields_of c.args.ext.now), c.requires.of_profile, c.requires.reached.0, c.requires.reached.1), c.requires.few)))))
+
+pub sequences::feed_sequence-end_sequence-requires : goal.sequences::feed_sequence-end_sequence-requires
+sequences::feed_sequence-end_sequence-requires g t c κs within =
+    let all = c.requires.reached.0 in
+    let k = c.in-Ok.ensures.done (more_fields_of c.args.ext.now) c.requires.of_profile all c.requires.reached.1 in
+    let over = none_left c.args.root.now (length c.feed_components.new.read.entries.items) c.in-Ok.ensures.over in
+    let none = root_emptied g.R.ReadLeaves.rules c.keep_laws.ensures g.R.FeedLeaves.fields g.R.ReadLeaves.ahead g.R.ReadLeaves.is_between (fields_seen c.args.root.now) (more_fields_of c.args.ext.now) c.requires.of_profile c.feed_components.new.read (nodes c.feed_components.new.frames) all (g.R.ReadLeaves.rules.to_units c.feed_components.new.units) over k in
+    (search (rules, the_lemmas), (within.0, (within.1, (c.in-Ok.ensures.at_unit, (c.requires.of_profile, (c.requires.parts, (none, (c.in-Ok.ensures.over, ((all, k), omega (arith, c.in-Ok.ensures.ticked, c.requires.few))))))))))
+
+-- ---- the extension additions
+
+pub additions::feed_additions-returns-in-Ok-clause-done : goal.additions::feed_additions-returns-in-Ok-clause-done
+additions::feed_additions-returns-in-Ok-clause-done g t c =
+    λ all h.
+    let q = c.feed_open_fields.new.read in
+    rw (datum_of-Seq q.entries) (additions_end g.R.ReadLeaves.rules c.keep_laws.ensures c.keep_feed_laws.ensures g.R.FeedLeaves.fields g.R.ReadLeaves.ahead g.R.ReadLeaves.is_between (fields_seen c.args.root.now) c.args.additions.now c.requires.of_profile q (nodes c.feed_open_fields.new.frames) all (g.R.ReadLeaves.rules.to_units c.feed_open_fields.new.units) c.in-Ok.ensures.over (c.in-Ok.ensures.done all h))
+
+pub additions::feed_additions-returns-in-Ok-clause-emptied : goal.additions::feed_additions-returns-in-Ok-clause-emptied
+additions::feed_additions-returns-in-Ok-clause-emptied g t c =
+    additions_emptied g.R.ReadLeaves.rules c.keep_laws.ensures c.keep_feed_laws.ensures g.R.FeedLeaves.fields g.R.ReadLeaves.ahead g.R.ReadLeaves.is_between (fields_seen c.args.root.now) c.args.additions.now c.requires.of_profile c.feed_open_fields.new.read (nodes c.feed_open_fields.new.frames) c.requires.reached.0 (g.R.ReadLeaves.rules.to_units c.feed_open_fields.new.units) c.in-Ok.ensures.over (c.in-Ok.ensures.done c.requires.reached.0 c.requires.reached.1)
+
+pub additions::feed_additions-returns-in-Ok-put-clause-stop : goal.additions::feed_additions-returns-in-Ok-put-clause-stop
+additions::feed_additions-returns-in-Ok-put-clause-stop g t c =
+    λ all h.
+    let a : Stops g.R.ReadLeaves.rules.ruling.fielding (ValuesOf g.R.ReadLeaves.rules (sequence (fields_seen c.args.root.now) (marked_seen c.args.additions.now))) all stop.Short = rw c.in-Err-Short.field-0-is at (c.in-Err-Short.ensures.stop all h) in
+    a
+
+pub additions::feed_additions-returns-in-Err-Refused-clause-stop : goal.additions::feed_additions-returns-in-Err-Refused-clause-stop
+additions::feed_additions-returns-in-Err-Refused-clause-stop g t c =
+    λ all h.
+    let a : Stops g.R.ReadLeaves.rules.ruling.fielding (ValuesOf g.R.ReadLeaves.rules (sequence (fields_seen c.args.root.now) (marked_seen c.args.additions.now))) all (stop.Refused c.in-Err-Refused.left c.in-Err-Refused.why) = rw c.in-Err-Refused.field-0-is at (c.in-Err-Refused.ensures.stop all h) in
+    rw (c.in-Err-Refused.left-is, c.in-Err-Refused.why-is) a
+
+pub additions::feed_additions-returns-in-Ok-put-clause-kept : goal.additions::feed_additions-returns-in-Ok-put-clause-kept
+additions::feed_additions-returns-in-Ok-put-clause-kept g t c =
+    λ all h.
+    let none : (g.R.ReadLeaves.rules.to_units c.feed_open_fields.new.units) ≡ [] = rw c.in-Err-Short.field-0-is at c.in-Err-Short.ensures.after in
+    let kept : AdditionsReached g.R.ReadLeaves.rules g.R.FeedLeaves.fields g.R.ReadLeaves.ahead g.R.ReadLeaves.is_between (fields_seen c.args.root.now) (marked_seen c.args.additions.now) c.feed_open_fields.new.read (nodes c.feed_open_fields.new.frames) all (g.R.ReadLeaves.rules.to_units c.feed_open_fields.new.units) = c.feed_open_fields.ensures.kept (cc (c.in-Err-Short.is, c.in-Err-Short.field-0-is)) all h in
+    rw c.in-Ok-put.ensures (subst (λ (xs : List ℕ). AdditionsReached g.R.ReadLeaves.rules g.R.FeedLeaves.fields g.R.ReadLeaves.ahead g.R.ReadLeaves.is_between (fields_seen c.args.root.now) (marked_seen c.args.additions.now) c.feed_open_fields.new.read (nodes c.feed_open_fields.new.frames) all xs) none kept)
+
+pub additions::feed_bitmap-feed_leaf-requires-clause-good : goal.additions::feed_bitmap-feed_leaf-requires-clause-good
+additions::feed_bitmap-feed_leaf-requires-clause-good g t c =
+    let some = some_present g.R.ReadLeaves.rules (fields_seen c.args.root.now) c.args.additions.now (entries_seen c.args.part.entries.items) c.requires.reached.0 _ c.requires.reached.1.root_read in
+    let few : length c.args.additions.now ≤ 64 = few_added c.args.additions.now refl c.requires.of_profile in
+    (some, few)
+
+pub additions::feed_bitmap-feed_additions-requires : goal.additions::feed_bitmap-feed_additions-requires
+additions::feed_bitmap-feed_additions-requires g t c κs within =
+    let all = c.requires.reached.0 in
+    let h = c.requires.reached.1 in
+    let few : length c.args.additions.now ≤ 64 = few_added c.args.additions.now refl c.requires.of_profile in
+    (search (rules, the_lemmas), (within.0, (within.1, (c.in-Ok.ensures.at_unit, (c.requires.of_profile, ((all, (additions_start g.R.ReadLeaves.rules c.keep_laws.ensures c.keep_feed_laws.ensures g.R.FeedLeaves.fields g.R.ReadLeaves.ahead g.R.ReadLeaves.is_between (fields_seen c.args.root.now) c.args.additions.now c.requires.of_profile c.args.part _ (nodes c.args.frames.now) all (g.R.ReadLeaves.rules.to_units c.args.units.now) (g.R.ReadLeaves.rules.to_units c.feed_leaf.new.units) h c.in-Ok.ensures.done refl few refl c.requires.empty)), omega (arith, c.in-Ok.ensures.ticked, c.requires.few)))))))
+
+pub additions::feed_bitmap-returns-in-Ok-clause-done : goal.additions::feed_bitmap-returns-in-Ok-clause-done
+additions::feed_bitmap-returns-in-Ok-clause-done g t c =
+    let few : length c.args.additions.now ≤ 64 = few_added c.args.additions.now refl c.requires.of_profile in
+    IfOk-weaker c.feed_additions.result _ _ (λ v s all h. s all (additions_start g.R.ReadLeaves.rules c.keep_laws.ensures c.keep_feed_laws.ensures g.R.FeedLeaves.fields g.R.ReadLeaves.ahead g.R.ReadLeaves.is_between (fields_seen c.args.root.now) c.args.additions.now c.requires.of_profile c.args.part _ (nodes c.args.frames.now) all (g.R.ReadLeaves.rules.to_units c.args.units.now) (g.R.ReadLeaves.rules.to_units c.feed_leaf.new.units) h c.in-Ok.ensures.done refl few refl c.requires.empty)) c.feed_additions.ensures.done
+
+pub additions::feed_bitmap-returns-in-Ok-clause-stop : goal.additions::feed_bitmap-returns-in-Ok-clause-stop
+additions::feed_bitmap-returns-in-Ok-clause-stop g t c =
+    let few : length c.args.additions.now ≤ 64 = few_added c.args.additions.now refl c.requires.of_profile in
+    IfErr-weaker c.feed_additions.result _ _ (λ v s all h. s all (additions_start g.R.ReadLeaves.rules c.keep_laws.ensures c.keep_feed_laws.ensures g.R.FeedLeaves.fields g.R.ReadLeaves.ahead g.R.ReadLeaves.is_between (fields_seen c.args.root.now) c.args.additions.now c.requires.of_profile c.args.part _ (nodes c.args.frames.now) all (g.R.ReadLeaves.rules.to_units c.args.units.now) (g.R.ReadLeaves.rules.to_units c.feed_leaf.new.units) h c.in-Ok.ensures.done refl few refl c.requires.empty)) c.feed_additions.ensures.stop
+
+pub additions::feed_bitmap-returns-in-Ok-clause-kept : goal.additions::feed_bitmap-returns-in-Ok-clause-kept
+additions::feed_bitmap-returns-in-Ok-clause-kept g t c =
+    let few : length c.args.additions.now ≤ 64 = few_added c.args.additions.now refl c.requires.of_profile in
+    IfErr-weaker c.feed_additions.result _ _ (λ v s all h. s all (additions_start g.R.ReadLeaves.rules c.keep_laws.ensures c.keep_feed_laws.ensures g.R.FeedLeaves.fields g.R.ReadLeaves.ahead g.R.ReadLeaves.is_between (fields_seen c.args.root.now) c.args.additions.now c.requires.of_profile c.args.part _ (nodes c.args.frames.now) all (g.R.ReadLeaves.rules.to_units c.args.units.now) (g.R.ReadLeaves.rules.to_units c.feed_leaf.new.units) h c.in-Ok.ensures.done refl few refl c.requires.empty)) c.feed_additions.ensures.kept
+
+pub additions::feed_bitmap-returns-in-Ok-put-clause-stop : goal.additions::feed_bitmap-returns-in-Ok-put-clause-stop
+additions::feed_bitmap-returns-in-Ok-put-clause-stop g t c =
+    λ all h.
+    let a : Stops g.R.ReadLeaves.rules.ruling.fielding (AdditionBitmapOf g.R.ReadLeaves.rules (length c.args.additions.now)) ((g.R.ReadLeaves.rules.to_units c.args.part.begun) ++ (g.R.ReadLeaves.rules.to_units c.args.units.now)) stop.Short = rw c.in-Err-Short.field-0-is at c.in-Err-Short.ensures.stop in
+    bitmap_stops g.R.ReadLeaves.rules c.keep_laws.ensures c.keep_feed_laws.ensures g.R.FeedLeaves.fields g.R.ReadLeaves.ahead g.R.ReadLeaves.is_between (fields_seen c.args.root.now) c.args.additions.now c.requires.of_profile c.args.part all (g.R.ReadLeaves.rules.to_units c.args.units.now) stop.Short h a
+
+pub additions::feed_bitmap-returns-in-Err-Refused-clause-stop : goal.additions::feed_bitmap-returns-in-Err-Refused-clause-stop
+additions::feed_bitmap-returns-in-Err-Refused-clause-stop g t c =
+    λ all h.
+    let w = stop.Refused c.in-Err-Refused.left c.in-Err-Refused.why in
+    let a : Stops g.R.ReadLeaves.rules.ruling.fielding (AdditionBitmapOf g.R.ReadLeaves.rules (length c.args.additions.now)) ((g.R.ReadLeaves.rules.to_units c.args.part.begun) ++ (g.R.ReadLeaves.rules.to_units c.args.units.now)) w = rw c.in-Err-Refused.field-0-is at c.in-Err-Refused.ensures.stop in
+    rw (c.in-Err-Refused.left-is, c.in-Err-Refused.why-is) (bitmap_stops g.R.ReadLeaves.rules c.keep_laws.ensures c.keep_feed_laws.ensures g.R.FeedLeaves.fields g.R.ReadLeaves.ahead g.R.ReadLeaves.is_between (fields_seen c.args.root.now) c.args.additions.now c.requires.of_profile c.args.part all (g.R.ReadLeaves.rules.to_units c.args.units.now) w h a)
+
+pub additions::feed_bitmap-returns-in-Ok-put-clause-kept : goal.additions::feed_bitmap-returns-in-Ok-put-clause-kept
+additions::feed_bitmap-returns-in-Ok-put-clause-kept g t c =
+    λ all h.
+    let b = c.feed_leaf.new.begun in
+    let a : Stops g.R.ReadLeaves.rules.ruling.fielding (AdditionBitmapOf g.R.ReadLeaves.rules (length c.args.additions.now)) ((g.R.ReadLeaves.rules.to_units c.args.part.begun) ++ (g.R.ReadLeaves.rules.to_units c.args.units.now)) stop.Short = rw c.in-Err-Short.field-0-is at c.in-Err-Short.ensures.stop in
+    let e : (g.R.ReadLeaves.rules.to_units b) ≡ ((g.R.ReadLeaves.rules.to_units c.args.part.begun) ++ (g.R.ReadLeaves.rules.to_units c.args.units.now)) = rw c.in-Err-Short.field-0-is at c.in-Err-Short.ensures.kept in
+    let s : Short g.R.ReadLeaves.rules.ruling.fielding (AdditionBitmapOf g.R.ReadLeaves.rules (length c.args.additions.now)) (g.R.ReadLeaves.rules.to_units b) = subst (λ (xs : List ℕ). Short g.R.ReadLeaves.rules.ruling.fielding (AdditionBitmapOf g.R.ReadLeaves.rules (length c.args.additions.now)) xs) (sym e) a.told in
+    let k = bitmap_kept g.R.ReadLeaves.rules c.keep_laws.ensures c.keep_feed_laws.ensures g.R.FeedLeaves.fields g.R.ReadLeaves.ahead g.R.ReadLeaves.is_between (fields_seen c.args.root.now) c.args.additions.now c.requires.of_profile c.args.part (record { entries = c.args.part.entries; begun = b }) all (g.R.ReadLeaves.rules.to_units c.args.units.now) h refl e c.in-Err-Short.ensures.begun s in
+    bitmap_took g.R.ReadLeaves.rules c.keep_laws.ensures c.keep_feed_laws.ensures g.R.FeedLeaves.fields g.R.ReadLeaves.ahead g.R.ReadLeaves.is_between (fields_seen c.args.root.now) c.args.additions.now c.requires.of_profile (nodes c.put.new.self) (record { entries = c.args.part.entries; begun = b }) all (c.in-Ok-put.ensures ∙ ap (λ (gs : List (Frame g.row.R-Fragments.Denot)). frame.Bitmap (record { entries = c.args.part.entries; begun = b }) ∷ gs) c.requires.empty) k
+
+pub additions::feed_open_fields-feed_addition-requires : goal.additions::feed_open_fields-feed_addition-requires
+additions::feed_open_fields-feed_addition-requires g t c κs within =
+    let inv = c.loop-read.invariant in
+    let w = left_within g.R.ReadLeaves.rules c.keep_laws.ensures c.keep_feed_laws.ensures g.R.FeedLeaves.fields g.R.ReadLeaves.ahead g.R.ReadLeaves.is_between (fields_seen c.args._root.now) c.args.additions.now c.requires.of_profile c.loop-read.read (nodes c.loop-read.frames) c.requires.reached.0 (g.R.ReadLeaves.rules.to_units c.loop-read.units) (inv.0 c.requires.reached.0 c.requires.reached.1) in
+    let i = length c.args.additions.now - c.loop-read.read.presence.left in
+    let at : i + c.loop-read.read.presence.left ≡ length c.args.additions.now = omega (arith, w.0) in
+    let inside : i < length c.args.additions.now = omega (arith, at, c.loop-read-test.true) in
+    let x = next_addition g.R.ReadLeaves.rules c.keep_laws.ensures c.keep_feed_laws.ensures g.R.FeedLeaves.fields g.R.ReadLeaves.ahead g.R.ReadLeaves.is_between (fields_seen c.args._root.now) c.args.additions.now c.requires.of_profile c.loop-read.read (nodes c.loop-read.frames) c.index-additions-index.result i c.next-present.result c.next-present.new.self.left c.requires.reached.0 (g.R.ReadLeaves.rules.to_units c.loop-read.units) at c.index-additions-index.is c.next-present.ensures.bit.0 c.next-present.ensures.bit.1 (c.loop-read.invariant.0 c.requires.reached.0 c.requires.reached.1) in
+    (search (rules, the_lemmas), (within.0, (within.1, (inv.2, (x.good_shape, ((x.come, x.took), omega (arith, inv.1, c.requires.few)))))))
+
+pub additions::feed_open_fields-next-present-requires : goal.additions::feed_open_fields-next-present-requires
+additions::feed_open_fields-next-present-requires g t c =
+    let inv = c.loop-read.invariant in
+    let w = left_within g.R.ReadLeaves.rules c.keep_laws.ensures c.keep_feed_laws.ensures g.R.FeedLeaves.fields g.R.ReadLeaves.ahead g.R.ReadLeaves.is_between (fields_seen c.args._root.now) c.args.additions.now c.requires.of_profile c.loop-read.read (nodes c.loop-read.frames) c.requires.reached.0 (g.R.ReadLeaves.rules.to_units c.loop-read.units) (inv.0 c.requires.reached.0 c.requires.reached.1) in
+    let i = length c.args.additions.now - c.loop-read.read.presence.left in
+    let at : i + c.loop-read.read.presence.left ≡ length c.args.additions.now = omega (arith, w.0) in
+    record { some = c.loop-read-test.true; few = w.1 }
+
+pub additions::feed_open_fields-returns-in_err-entry-clause-stop : goal.additions::feed_open_fields-returns-in_err-entry-clause-stop
+additions::feed_open_fields-returns-in_err-entry-clause-stop g t c =
+    let inv = c.loop-read.invariant in
+    let w = left_within g.R.ReadLeaves.rules c.keep_laws.ensures c.keep_feed_laws.ensures g.R.FeedLeaves.fields g.R.ReadLeaves.ahead g.R.ReadLeaves.is_between (fields_seen c.args._root.now) c.args.additions.now c.requires.of_profile c.loop-read.read (nodes c.loop-read.frames) c.requires.reached.0 (g.R.ReadLeaves.rules.to_units c.loop-read.units) (inv.0 c.requires.reached.0 c.requires.reached.1) in
+    let i = length c.args.additions.now - c.loop-read.read.presence.left in
+    let at : i + c.loop-read.read.presence.left ≡ length c.args.additions.now = omega (arith, w.0) in
+    let p = err_from_is_err_and c.from_residual.result c.from_residual.ensures.1 in
+    rw (p.1, p.2) (λ all h. (let x = next_addition g.R.ReadLeaves.rules c.keep_laws.ensures c.keep_feed_laws.ensures g.R.FeedLeaves.fields g.R.ReadLeaves.ahead g.R.ReadLeaves.is_between (fields_seen c.args._root.now) c.args.additions.now c.requires.of_profile c.loop-read.read (nodes c.loop-read.frames) c.index-additions-index.result i c.next-present.result c.next-present.new.self.left all (g.R.ReadLeaves.rules.to_units c.loop-read.units) at c.index-additions-index.is c.next-present.ensures.bit.0 c.next-present.ensures.bit.1 (c.loop-read.invariant.0 all h) in x.stops _ (c.in_err-entry.ensures.stop x.come x.took)))
+
+pub additions::feed_open_fields-returns-in_err-entry-clause-kept : goal.additions::feed_open_fields-returns-in_err-entry-clause-kept
+additions::feed_open_fields-returns-in_err-entry-clause-kept g t c =
+    λ e all h.
+    let inv = c.loop-read.invariant in
+    let w = left_within g.R.ReadLeaves.rules c.keep_laws.ensures c.keep_feed_laws.ensures g.R.FeedLeaves.fields g.R.ReadLeaves.ahead g.R.ReadLeaves.is_between (fields_seen c.args._root.now) c.args.additions.now c.requires.of_profile c.loop-read.read (nodes c.loop-read.frames) c.requires.reached.0 (g.R.ReadLeaves.rules.to_units c.loop-read.units) (inv.0 c.requires.reached.0 c.requires.reached.1) in
+    let i = length c.args.additions.now - c.loop-read.read.presence.left in
+    let at : i + c.loop-read.read.presence.left ≡ length c.args.additions.now = omega (arith, w.0) in
+    let p = err_from_is_err_and c.from_residual.result c.from_residual.ensures.1 in
+    let w : c.in_err-entry.field-0.0 ≡ stop.Short = cc (p.1, p.2, e) in
+    let x = next_addition g.R.ReadLeaves.rules c.keep_laws.ensures c.keep_feed_laws.ensures g.R.FeedLeaves.fields g.R.ReadLeaves.ahead g.R.ReadLeaves.is_between (fields_seen c.args._root.now) c.args.additions.now c.requires.of_profile c.loop-read.read (nodes c.loop-read.frames) c.index-additions-index.result i c.next-present.result c.next-present.new.self.left all (g.R.ReadLeaves.rules.to_units c.loop-read.units) at c.index-additions-index.is c.next-present.ensures.bit.0 c.next-present.ensures.bit.1 (c.loop-read.invariant.0 all h) in
+    x.kept (nodes c.feed_addition.new.frames) (g.R.ReadLeaves.rules.to_units c.feed_addition.new.units) (rw w at c.in_err-entry.ensures.after) (rw w at (c.in_err-entry.ensures.kept x.come x.took))
+
+pub additions::feed_open_fields-loop-read-preserved : goal.additions::feed_open_fields-loop-read-preserved
+additions::feed_open_fields-loop-read-preserved g t c =
+    let inv = c.loop-read.invariant in
+    let w = left_within g.R.ReadLeaves.rules c.keep_laws.ensures c.keep_feed_laws.ensures g.R.FeedLeaves.fields g.R.ReadLeaves.ahead g.R.ReadLeaves.is_between (fields_seen c.args._root.now) c.args.additions.now c.requires.of_profile c.loop-read.read (nodes c.loop-read.frames) c.requires.reached.0 (g.R.ReadLeaves.rules.to_units c.loop-read.units) (inv.0 c.requires.reached.0 c.requires.reached.1) in
+    let i = length c.args.additions.now - c.loop-read.read.presence.left in
+    let at : i + c.loop-read.read.presence.left ≡ length c.args.additions.now = omega (arith, w.0) in (
+      λ all h. (let x = next_addition g.R.ReadLeaves.rules c.keep_laws.ensures c.keep_feed_laws.ensures g.R.FeedLeaves.fields g.R.ReadLeaves.ahead g.R.ReadLeaves.is_between (fields_seen c.args._root.now) c.args.additions.now c.requires.of_profile c.loop-read.read (nodes c.loop-read.frames) c.index-additions-index.result i c.next-present.result c.next-present.new.self.left all (g.R.ReadLeaves.rules.to_units c.loop-read.units) at c.index-additions-index.is c.next-present.ensures.bit.0 c.next-present.ensures.bit.1 (c.loop-read.invariant.0 all h) in x.further _ (nodes c.feed_addition.new.frames) c.in_ok-entry.entry (g.R.ReadLeaves.rules.to_units c.feed_addition.new.units) c.next-present.ensures.bitmap refl c.in_ok-push.ensures.items c.in_ok-entry.ensures.emptied (c.in_ok-entry.ensures.done x.come x.took)),
+      omega (arith, inv.1, c.in_ok-entry.ensures.ticked),
+      c.in_ok-entry.ensures.at_unit,
+      omega (arith, inv.3, c.in_ok-entry.ensures.rising),
+    )
+
+-- ---- one addition
+
+pub additions::feed_addition-returns-then-not-present-clause-done : goal.additions::feed_addition-returns-then-not-present-clause-done
+additions::feed_addition-returns-then-not-present-clause-done g t c =
+    λ us k. absent_read g.R.ReadLeaves.rules g.R.FeedLeaves.fields g.R.ReadLeaves.ahead g.R.ReadLeaves.is_between (shape_of c.args.ty.now) c.args.present (nodes c.args.frames.now) us (g.R.ReadLeaves.rules.to_units c.args.units.now) c.if-not-present.true (left_out g.R.ReadLeaves.rules g.R.FeedLeaves.fields g.R.ReadLeaves.ahead g.R.ReadLeaves.is_between (shape_of c.args.ty.now) c.args.present (nodes c.args.frames.now) us c.if-not-present.true k).1
+
+pub additions::feed_addition-returns-then-not-present-clause-emptied : goal.additions::feed_addition-returns-then-not-present-clause-emptied
+additions::feed_addition-returns-then-not-present-clause-emptied g t c =
+    (left_out g.R.ReadLeaves.rules g.R.FeedLeaves.fields g.R.ReadLeaves.ahead g.R.ReadLeaves.is_between (shape_of c.args.ty.now) c.args.present (nodes c.args.frames.now) c.requires.reached.0 c.if-not-present.true c.requires.reached.1).0
+
+pub additions::feed_addition-feed_open_field-requires : goal.additions::feed_addition-feed_open_field-requires
+additions::feed_addition-feed_open_field-requires g t c κs within =
+    let took = present_took g.R.ReadLeaves.rules g.R.FeedLeaves.fields g.R.ReadLeaves.ahead g.R.ReadLeaves.is_between (shape_of c.args.ty.now) c.args.present (nodes c.args.frames.now) c.requires.reached.0 c.if-not-present.false c.requires.reached.1 in
+    (search (rules, the_lemmas), (within.0, (within.1, (c.requires.at_unit, (c.requires.of_profile, ((c.requires.reached.0, took), c.requires.few))))))
+
+pub additions::feed_addition-returns-in_err-feed_open_field-clause-stop : goal.additions::feed_addition-returns-in_err-feed_open_field-clause-stop
+additions::feed_addition-returns-in_err-feed_open_field-clause-stop g t c =
+    let p = err_from_is_err_and c.from_residual.result c.from_residual.ensures.1 in
+    rw (p.1, p.2) (λ us k. present_stops g.R.ReadLeaves.rules g.R.FeedLeaves.fields g.R.ReadLeaves.ahead g.R.ReadLeaves.is_between (shape_of c.args.ty.now) c.args.present (nodes c.args.frames.now) (us ++ g.R.ReadLeaves.rules.to_units c.args.units.now) _ c.if-not-present.false (c.in_err-feed_open_field.ensures.stop us (present_took g.R.ReadLeaves.rules g.R.FeedLeaves.fields g.R.ReadLeaves.ahead g.R.ReadLeaves.is_between (shape_of c.args.ty.now) c.args.present (nodes c.args.frames.now) us c.if-not-present.false k)))
+
+pub additions::feed_addition-returns-in_err-feed_open_field-clause-kept : goal.additions::feed_addition-returns-in_err-feed_open_field-clause-kept
+additions::feed_addition-returns-in_err-feed_open_field-clause-kept g t c =
+    let p = err_from_is_err_and c.from_residual.result c.from_residual.ensures.1 in
+    rw (p.1, p.2) (λ us k. present_kept g.R.ReadLeaves.rules g.R.FeedLeaves.fields g.R.ReadLeaves.ahead g.R.ReadLeaves.is_between (shape_of c.args.ty.now) c.args.present (nodes c.feed_open_field.new.frames) (us ++ g.R.ReadLeaves.rules.to_units c.args.units.now) _ c.if-not-present.false (c.in_err-feed_open_field.ensures.kept us (present_took g.R.ReadLeaves.rules g.R.FeedLeaves.fields g.R.ReadLeaves.ahead g.R.ReadLeaves.is_between (shape_of c.args.ty.now) c.args.present (nodes c.args.frames.now) us c.if-not-present.false k)))
+
+pub additions::feed_addition-returns-clause-done : goal.additions::feed_addition-returns-clause-done
+additions::feed_addition-returns-clause-done g t c =
+    λ us k. present_read g.R.ReadLeaves.rules g.R.FeedLeaves.fields g.R.ReadLeaves.ahead g.R.ReadLeaves.is_between (shape_of c.args.ty.now) c.args.present (nodes c.args.frames.now) (us ++ g.R.ReadLeaves.rules.to_units c.args.units.now) (datum_of c.in_ok-feed_open_field.field-0) (g.R.ReadLeaves.rules.to_units c.feed_open_field.new.units) c.if-not-present.false (c.in_ok-feed_open_field.ensures.done us (present_took g.R.ReadLeaves.rules g.R.FeedLeaves.fields g.R.ReadLeaves.ahead g.R.ReadLeaves.is_between (shape_of c.args.ty.now) c.args.present (nodes c.args.frames.now) us c.if-not-present.false k))
+
+-- ---- after the root
+
+pub additions::end_sequence-unreachable-requires : goal.additions::end_sequence-unreachable-requires
+additions::end_sequence-unreachable-requires g t c =
+    no_mark g.R.ReadLeaves.rules g.R.FeedLeaves.fields g.R.ReadLeaves.ahead g.R.ReadLeaves.is_between (fields_seen c.args.root.now) c.args.ext.now c.args.read (nodes c.args.frames.now) c.requires.reached.0 (g.R.ReadLeaves.rules.to_units c.args.units.now) c.in_default.is c.if-read.true c.requires.reached.1
+
+pub additions::end_sequence-feed_bitmap-requires : goal.additions::end_sequence-feed_bitmap-requires
+additions::end_sequence-feed_bitmap-requires g t c κs within =
+    let is = marked_fields c.args.ext.now c.in-Some.additions c.as_slice.result.now c.in-Some.is c.as_slice.ensures.value in
+    let over = none_left c.args.root.now (length c.args.read.entries.items) c.requires.over in
+    let small = additions_smaller c.args._ty.now c.requires.parts.components c.args.ext.now c.in-Some.additions c.as_slice.result.now c.requires.parts.is c.in-Some.is c.as_slice.ensures.value in
+    (search (rules, the_lemmas, small), (within.0, (within.1, (c.requires.at_unit, (rw is at c.requires.of_profile, (c.requires.empty, ((c.requires.reached.0, bitmap_starts g.R.ReadLeaves.rules c.keep_laws.ensures c.keep_feed_laws.ensures g.R.FeedLeaves.fields g.R.ReadLeaves.ahead g.R.ReadLeaves.is_between (fields_seen c.args.root.now) c.as_slice.result.now (rw is at c.requires.of_profile) c.args.read (record { entries = c.args.read.entries; begun = c.none.result }) (nodes c.args.frames.now) c.requires.reached.0 (g.R.ReadLeaves.rules.to_units c.args.units.now) over (rw is at c.requires.reached.1) c.if-read.true refl c.none.ensures), c.requires.few)))))))
+
+pub additions::end_sequence-returns-then-read-clause-done : goal.additions::end_sequence-returns-then-read-clause-done
+additions::end_sequence-returns-then-read-clause-done g t c =
+    let is = marked_fields c.args.ext.now c.in-Some.additions c.as_slice.result.now c.in-Some.is c.as_slice.ensures.value in
+    let over = none_left c.args.root.now (length c.args.read.entries.items) c.requires.over in
+    IfOk-weaker c.feed_bitmap.result _ _ (λ v s all h. rw is (s all (bitmap_starts g.R.ReadLeaves.rules c.keep_laws.ensures c.keep_feed_laws.ensures g.R.FeedLeaves.fields g.R.ReadLeaves.ahead g.R.ReadLeaves.is_between (fields_seen c.args.root.now) c.as_slice.result.now (rw is at c.requires.of_profile) c.args.read (record { entries = c.args.read.entries; begun = c.none.result }) (nodes c.args.frames.now) all (g.R.ReadLeaves.rules.to_units c.args.units.now) over (rw is at h) c.if-read.true refl c.none.ensures))) c.feed_bitmap.ensures.done
+
+pub additions::end_sequence-returns-then-read-clause-stop : goal.additions::end_sequence-returns-then-read-clause-stop
+additions::end_sequence-returns-then-read-clause-stop g t c =
+    let is = marked_fields c.args.ext.now c.in-Some.additions c.as_slice.result.now c.in-Some.is c.as_slice.ensures.value in
+    let over = none_left c.args.root.now (length c.args.read.entries.items) c.requires.over in
+    IfErr-weaker c.feed_bitmap.result _ _ (λ why s all h. rw is (s all (bitmap_starts g.R.ReadLeaves.rules c.keep_laws.ensures c.keep_feed_laws.ensures g.R.FeedLeaves.fields g.R.ReadLeaves.ahead g.R.ReadLeaves.is_between (fields_seen c.args.root.now) c.as_slice.result.now (rw is at c.requires.of_profile) c.args.read (record { entries = c.args.read.entries; begun = c.none.result }) (nodes c.args.frames.now) all (g.R.ReadLeaves.rules.to_units c.args.units.now) over (rw is at h) c.if-read.true refl c.none.ensures))) c.feed_bitmap.ensures.stop
+
+pub additions::end_sequence-returns-then-read-clause-kept : goal.additions::end_sequence-returns-then-read-clause-kept
+additions::end_sequence-returns-then-read-clause-kept g t c =
+    let is = marked_fields c.args.ext.now c.in-Some.additions c.as_slice.result.now c.in-Some.is c.as_slice.ensures.value in
+    let over = none_left c.args.root.now (length c.args.read.entries.items) c.requires.over in
+    IfErr-weaker c.feed_bitmap.result _ _ (λ why s all h. rw is (s all (bitmap_starts g.R.ReadLeaves.rules c.keep_laws.ensures c.keep_feed_laws.ensures g.R.FeedLeaves.fields g.R.ReadLeaves.ahead g.R.ReadLeaves.is_between (fields_seen c.args.root.now) c.as_slice.result.now (rw is at c.requires.of_profile) c.args.read (record { entries = c.args.read.entries; begun = c.none.result }) (nodes c.args.frames.now) all (g.R.ReadLeaves.rules.to_units c.args.units.now) over (rw is at h) c.if-read.true refl c.none.ensures))) c.feed_bitmap.ensures.kept
+
+pub additions::end_sequence-returns-in-Ok-clause-done : goal.additions::end_sequence-returns-in-Ok-clause-done
+additions::end_sequence-returns-in-Ok-clause-done g t c =
+    λ all h.
+    let over = none_left c.args.root.now (length c.args.read.entries.items) c.requires.over in
+    rw (datum_of-Seq c.push_absent.new.entries, c.in-Ok.ensures) (root_ends g.R.ReadLeaves.rules c.keep_laws.ensures g.R.FeedLeaves.fields g.R.ReadLeaves.ahead g.R.ReadLeaves.is_between (fields_seen c.args.root.now) (more_fields_of c.args.ext.now) c.requires.of_profile c.args.read (nodes c.args.frames.now) all (g.R.ReadLeaves.rules.to_units c.args.units.now) over c.if-read.false h)
+
+pub additions::feed_open_fields-overflow_sub-index : goal.additions::feed_open_fields-overflow_sub-index
+additions::feed_open_fields-overflow_sub-index g t c =
+    let inv = c.loop-read.invariant in
+    let w = left_within g.R.ReadLeaves.rules c.keep_laws.ensures c.keep_feed_laws.ensures g.R.FeedLeaves.fields g.R.ReadLeaves.ahead g.R.ReadLeaves.is_between (fields_seen c.args._root.now) c.args.additions.now c.requires.of_profile c.loop-read.read (nodes c.loop-read.frames) c.requires.reached.0 (g.R.ReadLeaves.rules.to_units c.loop-read.units) (inv.0 c.requires.reached.0 c.requires.reached.1) in
+    w.0
+
+pub additions::feed_open_fields-bounds-additions-index : goal.additions::feed_open_fields-bounds-additions-index
+additions::feed_open_fields-bounds-additions-index g t c =
+    let inv = c.loop-read.invariant in
+    let w = left_within g.R.ReadLeaves.rules c.keep_laws.ensures c.keep_feed_laws.ensures g.R.FeedLeaves.fields g.R.ReadLeaves.ahead g.R.ReadLeaves.is_between (fields_seen c.args._root.now) c.args.additions.now c.requires.of_profile c.loop-read.read (nodes c.loop-read.frames) c.requires.reached.0 (g.R.ReadLeaves.rules.to_units c.loop-read.units) (inv.0 c.requires.reached.0 c.requires.reached.1) in
+    omega (arith, w.0, c.loop-read-test.true)
+
+pub additions::feed_open_fields-offset_bounds-additions-index : goal.additions::feed_open_fields-offset_bounds-additions-index
+additions::feed_open_fields-offset_bounds-additions-index g t c =
+    let inv = c.loop-read.invariant in
+    let w = left_within g.R.ReadLeaves.rules c.keep_laws.ensures c.keep_feed_laws.ensures g.R.FeedLeaves.fields g.R.ReadLeaves.ahead g.R.ReadLeaves.is_between (fields_seen c.args._root.now) c.args.additions.now c.requires.of_profile c.loop-read.read (nodes c.loop-read.frames) c.requires.reached.0 (g.R.ReadLeaves.rules.to_units c.loop-read.units) (inv.0 c.requires.reached.0 c.requires.reached.1) in
+    let few : length c.args.additions.now ≤ 64 = few_added c.args.additions.now refl c.requires.of_profile in
+    omega (arith, w.0, c.loop-read-test.true, few)
+
+pub additions::feed_bitmap-overflow_cast-count : goal.additions::feed_bitmap-overflow_cast-count
+additions::feed_bitmap-overflow_cast-count g t c =
+    let few : length c.args.additions.now ≤ 64 = few_added c.args.additions.now refl c.requires.of_profile in
+    omega (arith, few)
+
+-- ---- where a SEQUENCE was cut in its additions
+
+pub sequences::resume_sequence-feed_bitmap-requires : goal.sequences::resume_sequence-feed_bitmap-requires
+sequences::resume_sequence-feed_bitmap-requires g t c κs within =
+    let us = c.requires.reached.0 in
+    let is = marked_fields c.args.ext.now c.in-Some.additions c.as_slice.result.now c.in-Some.is c.as_slice.ensures.value in
+    let small = additions_smaller c.args._ty.now c.requires.parts.components c.args.ext.now c.in-Some.additions c.as_slice.result.now c.requires.parts.is c.in-Some.is c.as_slice.ensures.value in
+    (search (rules, the_lemmas, small), (within.0, (within.1, (c.requires.at_unit, (rw is at c.requires.of_profile, ((took_bitmap g.R.ReadLeaves.rules c.keep_laws.ensures c.keep_feed_laws.ensures g.R.FeedLeaves.fields g.R.ReadLeaves.ahead g.R.ReadLeaves.is_between (fields_seen c.args.root.now) c.as_slice.result.now (rw is at c.requires.of_profile) c.args.node c.in-Some-Bitmap.field-0 c.in-Some-Bitmap.part (nodes c.args.frames.now) us c.in-Some-Bitmap.is c.in-Some-Bitmap.field-0-is (rw is at c.requires.reached.1)).0, ((us ++ g.R.ReadLeaves.rules.to_units c.args.units.now, (bitmap_goes_on g.R.ReadLeaves.rules c.keep_laws.ensures c.keep_feed_laws.ensures g.R.FeedLeaves.fields g.R.ReadLeaves.ahead g.R.ReadLeaves.is_between (fields_seen c.args.root.now) c.as_slice.result.now (rw is at c.requires.of_profile) c.in-Some-Bitmap.part us (g.R.ReadLeaves.rules.to_units c.args.units.now) (took_bitmap g.R.ReadLeaves.rules c.keep_laws.ensures c.keep_feed_laws.ensures g.R.FeedLeaves.fields g.R.ReadLeaves.ahead g.R.ReadLeaves.is_between (fields_seen c.args.root.now) c.as_slice.result.now (rw is at c.requires.of_profile) c.args.node c.in-Some-Bitmap.field-0 c.in-Some-Bitmap.part (nodes c.args.frames.now) us c.in-Some-Bitmap.is c.in-Some-Bitmap.field-0-is (rw is at c.requires.reached.1)).1)), c.requires.few)))))))
+
+pub sequences::resume_sequence-returns-in-Some-clause-done : goal.sequences::resume_sequence-returns-in-Some-clause-done
+sequences::resume_sequence-returns-in-Some-clause-done g t c =
+    let is = marked_fields c.args.ext.now c.in-Some.additions c.as_slice.result.now c.in-Some.is c.as_slice.ensures.value in
+    IfOk-weaker c.feed_bitmap.result _ _ (λ v s us k. rw is (s (us ++ g.R.ReadLeaves.rules.to_units c.args.units.now) (bitmap_goes_on g.R.ReadLeaves.rules c.keep_laws.ensures c.keep_feed_laws.ensures g.R.FeedLeaves.fields g.R.ReadLeaves.ahead g.R.ReadLeaves.is_between (fields_seen c.args.root.now) c.as_slice.result.now (rw is at c.requires.of_profile) c.in-Some-Bitmap.part us (g.R.ReadLeaves.rules.to_units c.args.units.now) (took_bitmap g.R.ReadLeaves.rules c.keep_laws.ensures c.keep_feed_laws.ensures g.R.FeedLeaves.fields g.R.ReadLeaves.ahead g.R.ReadLeaves.is_between (fields_seen c.args.root.now) c.as_slice.result.now (rw is at c.requires.of_profile) c.args.node c.in-Some-Bitmap.field-0 c.in-Some-Bitmap.part (nodes c.args.frames.now) us c.in-Some-Bitmap.is c.in-Some-Bitmap.field-0-is (rw is at k)).1))) c.feed_bitmap.ensures.done
+
+pub sequences::resume_sequence-returns-in-Some-clause-stop : goal.sequences::resume_sequence-returns-in-Some-clause-stop
+sequences::resume_sequence-returns-in-Some-clause-stop g t c =
+    let is = marked_fields c.args.ext.now c.in-Some.additions c.as_slice.result.now c.in-Some.is c.as_slice.ensures.value in
+    IfErr-weaker c.feed_bitmap.result _ _ (λ why s us k. rw is (s (us ++ g.R.ReadLeaves.rules.to_units c.args.units.now) (bitmap_goes_on g.R.ReadLeaves.rules c.keep_laws.ensures c.keep_feed_laws.ensures g.R.FeedLeaves.fields g.R.ReadLeaves.ahead g.R.ReadLeaves.is_between (fields_seen c.args.root.now) c.as_slice.result.now (rw is at c.requires.of_profile) c.in-Some-Bitmap.part us (g.R.ReadLeaves.rules.to_units c.args.units.now) (took_bitmap g.R.ReadLeaves.rules c.keep_laws.ensures c.keep_feed_laws.ensures g.R.FeedLeaves.fields g.R.ReadLeaves.ahead g.R.ReadLeaves.is_between (fields_seen c.args.root.now) c.as_slice.result.now (rw is at c.requires.of_profile) c.args.node c.in-Some-Bitmap.field-0 c.in-Some-Bitmap.part (nodes c.args.frames.now) us c.in-Some-Bitmap.is c.in-Some-Bitmap.field-0-is (rw is at k)).1))) c.feed_bitmap.ensures.stop
+
+pub sequences::resume_sequence-returns-in-Some-clause-kept : goal.sequences::resume_sequence-returns-in-Some-clause-kept
+sequences::resume_sequence-returns-in-Some-clause-kept g t c =
+    let is = marked_fields c.args.ext.now c.in-Some.additions c.as_slice.result.now c.in-Some.is c.as_slice.ensures.value in
+    IfErr-weaker c.feed_bitmap.result _ _ (λ why s us k. rw is (s (us ++ g.R.ReadLeaves.rules.to_units c.args.units.now) (bitmap_goes_on g.R.ReadLeaves.rules c.keep_laws.ensures c.keep_feed_laws.ensures g.R.FeedLeaves.fields g.R.ReadLeaves.ahead g.R.ReadLeaves.is_between (fields_seen c.args.root.now) c.as_slice.result.now (rw is at c.requires.of_profile) c.in-Some-Bitmap.part us (g.R.ReadLeaves.rules.to_units c.args.units.now) (took_bitmap g.R.ReadLeaves.rules c.keep_laws.ensures c.keep_feed_laws.ensures g.R.FeedLeaves.fields g.R.ReadLeaves.ahead g.R.ReadLeaves.is_between (fields_seen c.args.root.now) c.as_slice.result.now (rw is at c.requires.of_profile) c.args.node c.in-Some-Bitmap.field-0 c.in-Some-Bitmap.part (nodes c.args.frames.now) us c.in-Some-Bitmap.is c.in-Some-Bitmap.field-0-is (rw is at k)).1))) c.feed_bitmap.ensures.kept
+
+pub sequences::resume_sequence-feed_additions-requires : goal.sequences::resume_sequence-feed_additions-requires
+sequences::resume_sequence-feed_additions-requires g t c κs within =
+    let us = c.requires.reached.0 in
+    let is = marked_fields c.args.ext.now c.in-Some-ext.additions c.as_slice-in-Some-Additions.result.now c.in-Some-ext.is c.as_slice-in-Some-Additions.ensures.value in
+    let small = additions_smaller c.args._ty.now c.requires.parts.components c.args.ext.now c.in-Some-ext.additions c.as_slice-in-Some-Additions.result.now c.requires.parts.is c.in-Some-ext.is c.as_slice-in-Some-Additions.ensures.value in
+    (search (rules, the_lemmas, small), (within.0, (within.1, (c.requires.at_unit, (rw is at c.requires.of_profile, ((us ++ g.R.ReadLeaves.rules.to_units c.args.units.now, (additions_go_on g.R.ReadLeaves.rules c.keep_laws.ensures c.keep_feed_laws.ensures g.R.FeedLeaves.fields g.R.ReadLeaves.ahead g.R.ReadLeaves.is_between (fields_seen c.args.root.now) c.as_slice-in-Some-Additions.result.now (rw is at c.requires.of_profile) c.in-Some-Additions.read (nodes c.args.frames.now) us (g.R.ReadLeaves.rules.to_units c.args.units.now) (took_additions g.R.ReadLeaves.rules c.keep_laws.ensures c.keep_feed_laws.ensures g.R.FeedLeaves.fields g.R.ReadLeaves.ahead g.R.ReadLeaves.is_between (fields_seen c.args.root.now) c.as_slice-in-Some-Additions.result.now (rw is at c.requires.of_profile) c.args.node c.in-Some-Additions.field-0 c.in-Some-Additions.read (nodes c.args.frames.now) us c.in-Some-Additions.is c.in-Some-Additions.field-0-is (rw is at c.requires.reached.1)))), c.requires.few))))))
+
+pub sequences::resume_sequence-returns-in-Some-ext-clause-done : goal.sequences::resume_sequence-returns-in-Some-ext-clause-done
+sequences::resume_sequence-returns-in-Some-ext-clause-done g t c =
+    let is = marked_fields c.args.ext.now c.in-Some-ext.additions c.as_slice-in-Some-Additions.result.now c.in-Some-ext.is c.as_slice-in-Some-Additions.ensures.value in
+    IfOk-weaker c.feed_additions.result _ _ (λ v s us k. rw is (s (us ++ g.R.ReadLeaves.rules.to_units c.args.units.now) (additions_go_on g.R.ReadLeaves.rules c.keep_laws.ensures c.keep_feed_laws.ensures g.R.FeedLeaves.fields g.R.ReadLeaves.ahead g.R.ReadLeaves.is_between (fields_seen c.args.root.now) c.as_slice-in-Some-Additions.result.now (rw is at c.requires.of_profile) c.in-Some-Additions.read (nodes c.args.frames.now) us (g.R.ReadLeaves.rules.to_units c.args.units.now) (took_additions g.R.ReadLeaves.rules c.keep_laws.ensures c.keep_feed_laws.ensures g.R.FeedLeaves.fields g.R.ReadLeaves.ahead g.R.ReadLeaves.is_between (fields_seen c.args.root.now) c.as_slice-in-Some-Additions.result.now (rw is at c.requires.of_profile) c.args.node c.in-Some-Additions.field-0 c.in-Some-Additions.read (nodes c.args.frames.now) us c.in-Some-Additions.is c.in-Some-Additions.field-0-is (rw is at k))))) c.feed_additions.ensures.done
+
+pub sequences::resume_sequence-returns-in-Some-ext-clause-stop : goal.sequences::resume_sequence-returns-in-Some-ext-clause-stop
+sequences::resume_sequence-returns-in-Some-ext-clause-stop g t c =
+    let is = marked_fields c.args.ext.now c.in-Some-ext.additions c.as_slice-in-Some-Additions.result.now c.in-Some-ext.is c.as_slice-in-Some-Additions.ensures.value in
+    IfErr-weaker c.feed_additions.result _ _ (λ why s us k. rw is (s (us ++ g.R.ReadLeaves.rules.to_units c.args.units.now) (additions_go_on g.R.ReadLeaves.rules c.keep_laws.ensures c.keep_feed_laws.ensures g.R.FeedLeaves.fields g.R.ReadLeaves.ahead g.R.ReadLeaves.is_between (fields_seen c.args.root.now) c.as_slice-in-Some-Additions.result.now (rw is at c.requires.of_profile) c.in-Some-Additions.read (nodes c.args.frames.now) us (g.R.ReadLeaves.rules.to_units c.args.units.now) (took_additions g.R.ReadLeaves.rules c.keep_laws.ensures c.keep_feed_laws.ensures g.R.FeedLeaves.fields g.R.ReadLeaves.ahead g.R.ReadLeaves.is_between (fields_seen c.args.root.now) c.as_slice-in-Some-Additions.result.now (rw is at c.requires.of_profile) c.args.node c.in-Some-Additions.field-0 c.in-Some-Additions.read (nodes c.args.frames.now) us c.in-Some-Additions.is c.in-Some-Additions.field-0-is (rw is at k))))) c.feed_additions.ensures.stop
+
+pub sequences::resume_sequence-returns-in-Some-ext-clause-kept : goal.sequences::resume_sequence-returns-in-Some-ext-clause-kept
+sequences::resume_sequence-returns-in-Some-ext-clause-kept g t c =
+    let is = marked_fields c.args.ext.now c.in-Some-ext.additions c.as_slice-in-Some-Additions.result.now c.in-Some-ext.is c.as_slice-in-Some-Additions.ensures.value in
+    IfErr-weaker c.feed_additions.result _ _ (λ why s us k. rw is (s (us ++ g.R.ReadLeaves.rules.to_units c.args.units.now) (additions_go_on g.R.ReadLeaves.rules c.keep_laws.ensures c.keep_feed_laws.ensures g.R.FeedLeaves.fields g.R.ReadLeaves.ahead g.R.ReadLeaves.is_between (fields_seen c.args.root.now) c.as_slice-in-Some-Additions.result.now (rw is at c.requires.of_profile) c.in-Some-Additions.read (nodes c.args.frames.now) us (g.R.ReadLeaves.rules.to_units c.args.units.now) (took_additions g.R.ReadLeaves.rules c.keep_laws.ensures c.keep_feed_laws.ensures g.R.FeedLeaves.fields g.R.ReadLeaves.ahead g.R.ReadLeaves.is_between (fields_seen c.args.root.now) c.as_slice-in-Some-Additions.result.now (rw is at c.requires.of_profile) c.args.node c.in-Some-Additions.field-0 c.in-Some-Additions.read (nodes c.args.frames.now) us c.in-Some-Additions.is c.in-Some-Additions.field-0-is (rw is at k))))) c.feed_additions.ensures.kept
+
+pub additions::feed_bitmap-feed_leaf-requires-clause-begins : goal.additions::feed_bitmap-feed_leaf-requires-clause-begins
+additions::feed_bitmap-feed_leaf-requires-clause-begins g t c =
+    bitmap_begun g.R.ReadLeaves.rules c.keep_laws.ensures c.keep_feed_laws.ensures g.R.FeedLeaves.fields g.R.ReadLeaves.ahead g.R.ReadLeaves.is_between (fields_seen c.args.root.now) c.args.additions.now c.requires.of_profile c.args.part c.requires.reached.0 (g.R.ReadLeaves.rules.to_units c.args.units.now) c.requires.reached.1

@@ -1,6 +1,8 @@
 use Rattle.std.proofs.Common.{◌≡◌, ◌≤◌, ◌+◌, ◌-◌, ℕ, List, length}
 use Rattle.asn_values.specs.View.{shape_of, size_range_of, fields_seen}
 use Rattle.asn_walk.proofs.Listing.{steps_left}
+use Rattle.asn_walk_feed.specs.AddedTaken.{AdditionsReached}
+use Rattle.asn_walk_feed.specs.Additions.{marked_seen}
 use Rattle.asn_walk_feed.specs.Feeding.{Ticked}
 use Rattle.asn_walk_feed.specs.Nodes.{nodes}
 use Rattle.asn_walk_feed.specs.Taken.{UnderEachSize, UnderEachMark, ListGoesOn, RootReached}
@@ -33,3 +35,12 @@ invariant-sequences::feed_components-loop-alloc g l =
 
 abbrev pub decreases-sequences::feed_components-loop-alloc : goal.decreases-sequences::feed_components-loop-alloc
 decreases-sequences::feed_components-loop-alloc g l = length l.root - length l.read.entries.items
+
+abbrev pub invariant-additions::feed_open_fields-loop-read : goal.invariant-additions::feed_open_fields-loop-read
+invariant-additions::feed_open_fields-loop-read g l =
+    ((all : List ℕ) → AdditionsReached g.R.ReadLeaves.rules g.R.FeedLeaves.fields g.R.ReadLeaves.ahead g.R.ReadLeaves.is_between (fields_seen l._root) (marked_seen l.additions) l.fn.read (nodes l.fn.frames) all (g.R.ReadLeaves.rules.to_units l.fn.units)
+    → AdditionsReached g.R.ReadLeaves.rules g.R.FeedLeaves.fields g.R.ReadLeaves.ahead g.R.ReadLeaves.is_between (fields_seen l._root) (marked_seen l.additions) l.read (nodes l.frames) all (g.R.ReadLeaves.rules.to_units l.units))
+    × Ticked g.R.ReadLeaves.rules l.fn.units l.fn.ticks l.units l.ticks × g.R.ReadLeaves.rules.at_unit l.units × (l.fn.ticks ≤ l.ticks)
+
+abbrev pub decreases-additions::feed_open_fields-loop-read : goal.decreases-additions::feed_open_fields-loop-read
+decreases-additions::feed_open_fields-loop-read g l = l.read.presence.left

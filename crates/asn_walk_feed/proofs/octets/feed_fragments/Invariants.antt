@@ -1,12 +1,12 @@
 use Rattle.std.proofs.Common.{◌≤◌, ◌+◌, ℕ, List, length}
 use Rattle.asn_walk.proofs.Listing.{steps_left}
 use Rattle.asn_walk_feed.specs.Feeding.{Ticked}
-use Rattle.asn_walk_feed.specs.OpenFields.{OctetsGoOn}
-use Rattle.asn_walk_feed.proofs.open_fields.feed_fragments.Given as goal
+use Rattle.asn_walk_feed.specs.Octets.{OctetsGoOn}
+use Rattle.asn_walk_feed.proofs.octets.feed_fragments.Given as goal
 
 abbrev pub invariant-loop-alloc : goal.invariant-loop-alloc
 invariant-loop-alloc g l =
-    ((all : List ℕ) → OctetsGoOn g.R.ReadLeaves.rules g.R.FeedLeaves.fields g.R.ReadLeaves.ahead g.R.ReadLeaves.is_between l.fn.octets all (g.R.ReadLeaves.rules.to_units l.fn.units) → OctetsGoOn g.R.ReadLeaves.rules g.R.FeedLeaves.fields g.R.ReadLeaves.ahead g.R.ReadLeaves.is_between l.octets all (g.R.ReadLeaves.rules.to_units l.units))
+    ((all : List ℕ) → OctetsGoOn g.R.ReadLeaves.rules (g.K.InFragments.coding l.kind) g.R.ReadLeaves.ahead g.R.ReadLeaves.is_between l.fn.octets all (g.R.ReadLeaves.rules.to_units l.fn.units) → OctetsGoOn g.R.ReadLeaves.rules (g.K.InFragments.coding l.kind) g.R.ReadLeaves.ahead g.R.ReadLeaves.is_between l.octets all (g.R.ReadLeaves.rules.to_units l.units))
     × Ticked g.R.ReadLeaves.rules l.fn.units l.fn.ticks l.units l.ticks × g.R.ReadLeaves.rules.at_unit l.units × (l.fn.ticks ≤ l.ticks)
 
 abbrev pub decreases-loop-alloc : goal.decreases-loop-alloc

@@ -1,0 +1,105 @@
+-- How octets that stand in fragments go on where a reader of them was cut: those of an open type field, and the items
+-- of a string, each of which the program holds as an octet.
+use Rattle.std.specs.Prelude.{◌≡◌, ◌∷◌, ◌++◌, ℕ, List, [], ⊤}
+use Rattle.asn_rules.specs.Chunks.{Chunk}
+use Rattle.asn_rules.specs.General.{after_first}
+use Rattle.asn_rules.specs.Languages.{Spells, Lawful, Inhabited, Map, Then}
+use Rattle.asn_rules.specs.Stops.{Stops}
+use Rattle.asn_rules.specs.declared.stop.Stop.{Stop}
+use Rattle.asn_rules.specs.declared.stop.Stop.TheVariants as stop
+use Rattle.asn_walk.specs.Ahead.{Ahead, Remaining, SomeAhead}
+use Rattle.asn_walk.specs.Coding.{Coding}
+use Rattle.asn_walk_feed.specs.Feeding.{IsBrief, Waits}
+use Rattle.asn_walk_feed.specs.Items.{ItemsGoOn}
+use Rattle.asn_walk_feed.specs.declared.frame.Elements.{Elements}
+use Rattle.asn_walk_feed.specs.declared.frame.Frame.{Frame}
+use Rattle.asn_walk_feed.specs.declared.frame.Frame.TheVariants as frame
+
+-- ---- what a set of encoding rules says of them
+
+-- what stands before the octets, up to the first length, and an octet
+pub record OctetCoding : Type 1 where
+  pub start : Ahead → List Chunk → Type 0
+  pub octet : ℕ → List Chunk → Type 0
+
+-- what stands before them, and then the octets that are ahead
+abbrev pub OctetsOf : OctetCoding → List ℕ → List Chunk → Type 0
+OctetsOf f = Map after_first (Then f.start (λ a. Remaining f.octet a))
+
+-- the laws of these parts
+pub record OctetLaws (c : Coding) (f : OctetCoding) : Type 0 where
+  pub start : Lawful f.start
+  pub ahead : (a : Ahead) (cs : List Chunk) → f.start a cs → SomeAhead a
+  pub octet : Lawful f.octet
+  pub some : Inhabited f.octet
+  pub brief_start : IsBrief c f.start
+  pub brief_octet : IsBrief c f.octet
+
+-- ---- octets that are read so far
+
+-- what has come of an octet
+abbrev pub OctetTook : {F : Type 0} → Coding → OctetCoding → List ℕ → List (Frame F) → List ℕ → Type 0
+OctetTook c f b fs come = (fs ≡ []) × Waits c f.octet b come
+
+-- the octets go on
+abbrev pub OctetsGoOn : {F : Type 0} → Coding → OctetCoding → (F → Ahead) → (F → Type 0) → Elements F ℕ → List ℕ
+    → List ℕ → Type 0
+OctetsGoOn {F} c f ahead between q all units =
+    ItemsGoOn {F = F} c ahead between f.octet (OctetsOf f) (λ o. o) (OctetTook c f) q [] all
+    units
+
+-- what is answered of octets, read so far: all of them
+abbrev pub ReadsOctetsOn : {F : Type 0} → Coding → OctetCoding → (F → Ahead) → (F → Type 0) → Elements F ℕ → List ℕ
+    → List ℕ → List ℕ → Type 0
+ReadsOctetsOn c f ahead between q octets old new =
+    (all : List ℕ) → OctetsGoOn c f ahead between q all (c.to_units old)
+    → Spells c.ruling.fielding (OctetsOf f) octets all (c.to_units new)
+
+-- why there are none
+abbrev pub StopsOctetsOn : {F : Type 0} → Coding → OctetCoding → (F → Ahead) → (F → Type 0) → Elements F ℕ → List ℕ
+    → Stop → Type 0
+StopsOctetsOn c f ahead between q old why =
+    (all : List ℕ) → OctetsGoOn c f ahead between q all (c.to_units old)
+    → Stops c.ruling.fielding (OctetsOf f) all why
+
+-- they are read so far then
+abbrev pub OctetsGoOnTo : {F : Type 0} → Coding → OctetCoding → (F → Ahead) → (F → Type 0) → Elements F ℕ → List ℕ
+    → Elements F ℕ → List ℕ → Type 0
+OctetsGoOnTo c f ahead between q old p new =
+    (all : List ℕ) → OctetsGoOn c f ahead between q all (c.to_units old)
+    → OctetsGoOn c f ahead between p all (c.to_units new)
+
+-- ---- the nodes
+
+-- the units us are those that have come of the octets, of which these nodes have begun
+abbrev pub OctetsTook : {F : Type 0} → Coding → OctetCoding → (F → Ahead) → (F → Type 0) → List (Frame F) → List ℕ
+    → Type 0
+OctetsTook c f ahead between [] us = us ≡ []
+OctetsTook c f ahead between (frame.Start b ∷ []) us = Waits c f.start b us
+OctetsTook c f ahead between (frame.Octets q ∷ fs) us = (fs ≡ []) × OctetsGoOn c f ahead between q us []
+OctetsTook c f ahead between (x ∷ fs) us = ⊥
+
+-- where more units are wanted, the nodes tell which have come
+abbrev pub KeepsOctets : {F : Type 0} → Coding → OctetCoding → (F → Ahead) → (F → Type 0) → List (Frame F) → List ℕ
+    → Stop → Type 0
+KeepsOctets c f ahead between fs us (stop.Refused left why) = ⊤
+KeepsOctets c f ahead between fs us stop.Short = OctetsTook c f ahead between fs us
+KeepsOctets c f ahead between fs us stop.Memory = ⊤
+
+-- what is answered of octets, of which these nodes had begun: all of them
+abbrev pub ReadsOctetsFrom : {F : Type 0} → Coding → OctetCoding → (F → Ahead) → (F → Type 0) → List (Frame F) → List ℕ
+    → List ℕ → List ℕ → Type 0
+ReadsOctetsFrom c f ahead between fs octets old new = (us : List ℕ) → OctetsTook c f ahead between fs us
+    → Spells c.ruling.fielding (OctetsOf f) octets (us ++ c.to_units old) (c.to_units new)
+
+-- why there are none
+abbrev pub StopsOctetsFrom : {F : Type 0} → Coding → OctetCoding → (F → Ahead) → (F → Type 0) → List (Frame F) → List ℕ
+    → Stop → Type 0
+StopsOctetsFrom c f ahead between fs old why = (us : List ℕ) → OctetsTook c f ahead between fs us
+    → Stops c.ruling.fielding (OctetsOf f) (us ++ c.to_units old) why
+
+-- where more units are wanted, these nodes have begun then
+abbrev pub KeepsOctetsFrom : {F : Type 0} → Coding → OctetCoding → (F → Ahead) → (F → Type 0) → List (Frame F)
+    → List (Frame F) → List ℕ → Stop → Type 0
+KeepsOctetsFrom c f ahead between fs gs old why = (us : List ℕ) → OctetsTook c f ahead between fs us
+    → KeepsOctets c f ahead between gs (us ++ c.to_units old) why

@@ -1,0 +1,64 @@
+//! The reader of complete encodings that goes on where it stopped.
+ghost use Rattle.std.specs.Prelude.{◌≡◌, ◌≤◌, ◌<◌, ◌+◌, ◌%◌, ◌^◌, ℕ, List, [], length, IfOk, IfErr, OnOk};
+ghost use Rattle.asn_values.specs.Profile.{InProfile};
+ghost use Rattle.asn_values.specs.View.{shape_of, datum_of};
+ghost use Rattle.asn_walk_feed.specs.Complete.{ReadsCompleteOn, StopsCompleteOn, KeepsCompleteOn};
+ghost use Rattle.asn_walk_feed.specs.Feeding.{Ticked, StandsAfter};
+ghost use Rattle.asn_walk_feed.specs.Nodes.{nodes};
+ghost use Rattle.asn_walk_feed.specs.Taken.{Took};
+
+use crate::begun::Begun;
+use crate::frame::Frames;
+use crate::leaf::{FeedLeaves, feed_leaf};
+use crate::parts::Filling;
+use crate::units::{Ticks, Units};
+use crate::values::feed;
+use asn_rules::internal::Stop;
+use asn_values::{AsnType, Value};
+use std::alloc::Global;
+
+/// Reads what is left of a complete encoding (X.691, "complete encoding"), of whose value these nodes have begun and
+/// `taken` units have come; where none has begun and none has come, all of it. All pieces have to be whole octets.
+/// Takes its units and no others, a tick each.
+///
+/// # Errors
+/// `Refused` at the first unit after which no complete encoding can follow, which is the last that is taken; `Short`
+/// where all units of the piece belong to it and more are wanted, and then the nodes tell where it goes on; `Memory`
+/// where an allocation failed.
+pub fn feed_complete<R: FeedLeaves>(
+    alloc: Global,
+    ty: &AsnType,
+    taken: u64,
+    frames: &mut Frames<R::Fragments>,
+    units: &mut Units<'_>,
+    ticks: &mut Ticks,
+) -> Result<Value, Stop>
+    requires at_unit { R.rules.at_unit units.old }
+    requires of_profile { InProfile (shape_of ty.now) }
+    requires reached { (us : List ℕ)
+        × Took R.rules R.fields R.ahead R.is_between (nodes frames.old) (shape_of ty.now) us × (length us ≡ taken) }
+    requires octets { (taken + length (R.rules.to_units units.old)) % R.rules.octet_units ≡ 0 }
+    requires few { ticks.old + length (R.rules.to_units units.old) < 2 ^ 64 }
+    ensures at_unit { R.rules.at_unit units.new }
+    ensures done { IfOk result (λ v. ReadsCompleteOn R.rules R.fields R.ahead R.is_between (nodes frames.old)
+        (shape_of ty.now) taken (datum_of v) units.old units.new) }
+    ensures emptied { OnOk result (nodes frames.new ≡ []) }
+    ensures stop { IfErr result (λ why. StopsCompleteOn R.rules R.fields R.ahead R.is_between (nodes frames.old)
+        (shape_of ty.now) taken units.old why) }
+    ensures kept { IfErr result (λ why. KeepsCompleteOn R.rules R.fields R.ahead R.is_between (nodes frames.old)
+        (nodes frames.new) (shape_of ty.now) taken units.old why) }
+    ensures after { IfErr result (λ why. StandsAfter R.rules units.new why) }
+    ensures ticked { Ticked R.rules units.old ticks.old units.new ticks.new }
+    ensures rising { ticks.old ≤ ticks.new }
+{
+    R::keep_laws();
+    R::keep_feed_laws();
+    let left = R::units_left(&units.ahead());
+    let all = u128::from(taken) + left;
+    let value = feed::<R>(alloc, ty, frames, units, ticks)?;
+    let rest = R::units_left(&units.ahead());
+    let value_units = all - rest;
+    let mut begun = Begun::none();
+    feed_leaf::<R, Filling>(alloc, &Filling { value_units }, &mut begun, units, ticks)?;
+    Ok(value)
+}

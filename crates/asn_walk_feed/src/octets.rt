@@ -1,0 +1,353 @@
+//! The reader of octets that stand in fragments, which goes on where it stopped: those of an open type field, and the
+//! items of a string, each of which is held as an octet.
+ghost use Rattle.std.specs.Prelude.{◌≡◌, ◌≤◌, ◌<◌, ◌+◌, ◌^◌, ◌++◌, ℕ, List, [], length, IfOk, IfErr, OnOk, IsNone, Err, ⊤};
+ghost use Rattle.asn_values.specs.Profile.{InProfile};
+ghost use Rattle.asn_values.specs.View.{shape_of};
+ghost use Rattle.asn_rules.specs.Languages.{Spells};
+ghost use Rattle.asn_rules.specs.Stops.{Stops};
+ghost use Rattle.asn_rules.specs.declared.stop.Stop.TheVariants.{Short};
+ghost use Rattle.asn_walk.specs.Reading.{Reads, StopsAt};
+ghost use Rattle.asn_walk_feed.specs.Feeding.{Waits, Ticked, StandsAfter};
+ghost use Rattle.asn_walk_feed.specs.Nodes.{nodes};
+ghost use Rattle.asn_walk_feed.specs.Octets.{OctetCoding, OctetLaws, OctetsOf, OctetsGoOn, ReadsOctetsOn, StopsOctetsOn, OctetsGoOnTo, OctetsTook, KeepsOctets, ReadsOctetsFrom, StopsOctetsFrom, KeepsOctetsFrom};
+ghost use Rattle.asn_walk_feed.specs.Strings.{IsString};
+ghost use Rattle.asn_walk_feed.specs.Taken.{with_node};
+
+use crate::begun::Begun;
+use crate::frame::{Elements, Frame, Frames};
+use crate::leaf::{FeedLeaves, feed_leaf};
+use crate::lists::next_fragment;
+use crate::parts::{Octet, OctetsStart};
+use crate::units::{Ticks, Units};
+use asn_bits::BitCursor;
+use asn_rules::internal::Stop;
+use asn_values::AsnType;
+use std::alloc::Global;
+
+/// What stands as octets in fragments.
+pub trait InFragments<R: FeedLeaves> {
+    ghost coding: { Self → OctetCoding };
+
+    ghost good: { Self → Type 0 };
+
+    /// Reads what stands before the octets, up to the first length.
+    fn start(&self, units: &mut BitCursor<'_>) -> Result<R::Fragments, Stop>
+        requires good { good self.now }
+        requires at_unit { R.rules.at_unit units.old }
+        ensures at_unit { OnOk result (R.rules.at_unit units.new) }
+        ensures between { IfOk result R.is_between }
+        ensures done { IfOk result (λ f. Reads R.rules (coding self.now).start (R.ahead f) units.old units.new) }
+        ensures stop { IfErr result (λ why. StopsAt R.rules (coding self.now).start units.old why) };
+
+    /// Reads an octet.
+    fn read_octet(&self, units: &mut BitCursor<'_>) -> Result<u8, Stop>
+        requires good { good self.now }
+        requires at_unit { R.rules.at_unit units.old }
+        ensures at_unit { OnOk result (R.rules.at_unit units.new) }
+        ensures done { IfOk result (λ o. Reads R.rules (coding self.now).octet o units.old units.new) }
+        ensures stop { IfErr result (λ why. StopsAt R.rules (coding self.now).octet units.old why) };
+
+    /// The parts keep their laws. The call does nothing: its clause is what proofs cite.
+    fn keep_octet_laws(&self)
+        requires good { good self.now }
+        ensures { OctetLaws R.rules (coding self.now) };
+}
+
+/// The octets of an open type field.
+#[derive(Drop)]
+pub struct OpenType {}
+
+impl<R: FeedLeaves> InFragments<R> for OpenType {
+    ghost coding = { λ s. R.fields.open_type };
+
+    ghost good = { λ s. ⊤ };
+
+    fn start(&self, units: &mut BitCursor<'_>) -> Result<R::Fragments, Stop> {
+        R::start_octets(units)
+    }
+
+    fn read_octet(&self, units: &mut BitCursor<'_>) -> Result<u8, Stop> {
+        R::read_octet(units)
+    }
+
+    fn keep_octet_laws(&self) {
+        R::keep_field_laws();
+    }
+}
+
+/// The items of a string of this type.
+#[derive(Drop)]
+pub struct StringItems<'a> {
+    pub ty: &'a AsnType,
+}
+
+impl<'a, R: FeedLeaves> InFragments<R> for StringItems<'a> {
+    ghost coding = { λ s. R.fields.string (shape_of s.ty.now) };
+
+    ghost good = { λ s. InProfile (shape_of s.ty.now) × IsString (shape_of s.ty.now) };
+
+    fn start(&self, units: &mut BitCursor<'_>) -> Result<R::Fragments, Stop> {
+        R::start_string(self.ty, units)
+    }
+
+    fn read_octet(&self, units: &mut BitCursor<'_>) -> Result<u8, Stop> {
+        R::read_item(self.ty, units)
+    }
+
+    fn keep_octet_laws(&self) {
+        R::keep_string_laws();
+    }
+}
+
+/// Reads what is left of octets that stand in fragments, without their lengths, of which these nodes have begun.
+pub(crate) fn feed_octets<R: FeedLeaves, K: InFragments<R>>(
+    alloc: Global,
+    kind: &K,
+    frames: &mut Frames<R::Fragments>,
+    units: &mut Units<'_>,
+    ticks: &mut Ticks,
+) -> Result<Vec<u8>, Stop>
+    requires good { K.good kind.now }
+    requires at_unit { R.rules.at_unit units.old }
+    requires reached { (us : List ℕ) × OctetsTook R.rules (K.coding kind.now) R.ahead R.is_between
+        (nodes frames.old) us }
+    requires few { ticks.old + length (R.rules.to_units units.old) < 2 ^ 64 }
+    ensures at_unit { R.rules.at_unit units.new }
+    ensures done { IfOk result (λ os. ReadsOctetsFrom R.rules (K.coding kind.now) R.ahead R.is_between
+        (nodes frames.old) os.items units.old units.new) }
+    ensures emptied { OnOk result (nodes frames.new ≡ []) }
+    ensures stop { IfErr result (λ why. StopsOctetsFrom R.rules (K.coding kind.now) R.ahead R.is_between
+        (nodes frames.old) units.old why) }
+    ensures kept { IfErr result (λ why. KeepsOctetsFrom R.rules (K.coding kind.now) R.ahead R.is_between
+        (nodes frames.old) (nodes frames.new) units.old why) }
+    ensures after { IfErr result (λ why. StandsAfter R.rules units.new why) }
+    ensures ticked { Ticked R.rules units.old ticks.old units.new ticks.new }
+    ensures rising { ticks.old ≤ ticks.new }
+{
+    let node = frames.take();
+    resume_octets::<R, K>(alloc, kind, node, frames, units, ticks)
+}
+
+/// Reads what is left of the octets, of which this node has begun.
+fn resume_octets<R: FeedLeaves, K: InFragments<R>>(
+    alloc: Global,
+    kind: &K,
+    node: Option<Frame<R::Fragments>>,
+    frames: &mut Frames<R::Fragments>,
+    units: &mut Units<'_>,
+    ticks: &mut Ticks,
+) -> Result<Vec<u8>, Stop>
+    requires good { K.good kind.now }
+    requires at_unit { R.rules.at_unit units.old }
+    requires reached { (us : List ℕ) × OctetsTook R.rules (K.coding kind.now) R.ahead R.is_between
+        (with_node node (nodes frames.old)) us }
+    requires last { IsNone node → nodes frames.old ≡ [] }
+    requires few { ticks.old + length (R.rules.to_units units.old) < 2 ^ 64 }
+    ensures at_unit { R.rules.at_unit units.new }
+    ensures done { IfOk result (λ os. ReadsOctetsFrom R.rules (K.coding kind.now) R.ahead R.is_between
+        (with_node node (nodes frames.old)) os.items units.old units.new) }
+    ensures emptied { OnOk result (nodes frames.new ≡ []) }
+    ensures stop { IfErr result (λ why. StopsOctetsFrom R.rules (K.coding kind.now) R.ahead R.is_between
+        (with_node node (nodes frames.old)) units.old why) }
+    ensures kept { IfErr result (λ why. KeepsOctetsFrom R.rules (K.coding kind.now) R.ahead R.is_between
+        (with_node node (nodes frames.old)) (nodes frames.new) units.old why) }
+    ensures after { IfErr result (λ why. StandsAfter R.rules units.new why) }
+    ensures ticked { Ticked R.rules units.old ticks.old units.new ticks.new }
+    ensures rising { ticks.old ≤ ticks.new }
+{
+    R::keep_laws();
+    R::keep_feed_laws();
+    kind.keep_octet_laws();
+    match node {
+        Some(Frame::Octets(octets)) => end_octets::<R, K>(
+            alloc, kind, octets, frames, units, ticks,
+        ),
+        Some(Frame::Start(begun)) => start_octets::<R, K>(alloc, kind, begun, frames, units, ticks),
+        None => start_octets::<R, K>(alloc, kind, Begun::none(), frames, units, ticks),
+        Some(Frame::Elements(_list)) => unreachable!(),
+        Some(Frame::Components(_read)) => unreachable!(),
+        Some(Frame::Bitmap(_part)) => unreachable!(),
+        Some(Frame::Additions(_read)) => unreachable!(),
+        Some(Frame::Chosen(_)) => unreachable!(),
+        Some(Frame::Added(_)) => unreachable!(),
+    }
+}
+
+/// Reads what is left of what stands before the octets, and then these.
+fn start_octets<R: FeedLeaves, K: InFragments<R>>(
+    alloc: Global,
+    kind: &K,
+    begun: Begun,
+    frames: &mut Frames<R::Fragments>,
+    units: &mut Units<'_>,
+    ticks: &mut Ticks,
+) -> Result<Vec<u8>, Stop>
+    requires good { K.good kind.now }
+    requires at_unit { R.rules.at_unit units.old }
+    requires empty { nodes frames.old ≡ [] }
+    requires waits { Waits R.rules (K.coding kind.now).start begun (R.rules.to_units begun) }
+    requires few { ticks.old + length (R.rules.to_units units.old) < 2 ^ 64 }
+    ensures at_unit { R.rules.at_unit units.new }
+    ensures done { IfOk result (λ os. Spells R.rules.ruling.fielding (OctetsOf (K.coding kind.now))
+        os.items (R.rules.to_units begun ++ R.rules.to_units units.old) (R.rules.to_units units.new)) }
+    ensures emptied { OnOk result (nodes frames.new ≡ []) }
+    ensures stop { IfErr result (λ why. Stops R.rules.ruling.fielding (OctetsOf (K.coding kind.now))
+        (R.rules.to_units begun ++ R.rules.to_units units.old) why) }
+    ensures kept { IfErr result (λ why. KeepsOctets R.rules (K.coding kind.now) R.ahead R.is_between (nodes frames.new)
+        (R.rules.to_units begun ++ R.rules.to_units units.old) why) }
+    ensures after { IfErr result (λ why. StandsAfter R.rules units.new why) }
+    ensures ticked { Ticked R.rules units.old ticks.old units.new ticks.new }
+    ensures rising { ticks.old ≤ ticks.new }
+{
+    R::keep_laws();
+    R::keep_feed_laws();
+    kind.keep_octet_laws();
+    let mut begun = begun;
+    match feed_leaf::<R, OctetsStart<'_, K>>(
+        alloc,
+        &OctetsStart { kind },
+        &mut begun,
+        units,
+        ticks,
+    ) {
+        Ok(fragments) => {
+            let octets = Elements {
+                elements: Vec::new(alloc),
+                left: 0,
+                fragments,
+                next_part: Begun::none(),
+            };
+            end_octets::<R, K>(alloc, kind, octets, frames, units, ticks)
+        }
+        Err(Stop::Short) => match frames.put(Frame::Start(begun)) {
+            Ok(()) => Err(Stop::Short),
+            Err(_) => Err(Stop::Memory),
+        },
+        Err(Stop::Refused { left, why }) => Err(Stop::Refused { left, why }),
+        Err(Stop::Memory) => Err(Stop::Memory),
+    }
+}
+
+/// Reads the octets that are left.
+fn end_octets<R: FeedLeaves, K: InFragments<R>>(
+    alloc: Global,
+    kind: &K,
+    octets: Elements<R::Fragments, u8>,
+    frames: &mut Frames<R::Fragments>,
+    units: &mut Units<'_>,
+    ticks: &mut Ticks,
+) -> Result<Vec<u8>, Stop>
+    requires good { K.good kind.now }
+    requires at_unit { R.rules.at_unit units.old }
+    requires empty { nodes frames.old ≡ [] }
+    requires reached { (all : List ℕ) × OctetsGoOn R.rules (K.coding kind.now) R.ahead R.is_between octets all
+        (R.rules.to_units units.old) }
+    requires few { ticks.old + length (R.rules.to_units units.old) < 2 ^ 64 }
+    ensures at_unit { R.rules.at_unit units.new }
+    ensures done { IfOk result (λ os. ReadsOctetsOn R.rules (K.coding kind.now) R.ahead R.is_between octets os.items
+        units.old units.new) }
+    ensures emptied { OnOk result (nodes frames.new ≡ []) }
+    ensures stop { IfErr result (λ why. StopsOctetsOn R.rules (K.coding kind.now) R.ahead R.is_between octets
+        units.old why) }
+    ensures kept { IfErr result (λ why. (all : List ℕ) → OctetsGoOn R.rules (K.coding kind.now) R.ahead R.is_between
+        octets all (R.rules.to_units units.old) → KeepsOctets R.rules (K.coding kind.now) R.ahead R.is_between
+        (nodes frames.new) all why) }
+    ensures after { IfErr result (λ why. StandsAfter R.rules units.new why) }
+    ensures ticked { Ticked R.rules units.old ticks.old units.new ticks.new }
+    ensures rising { ticks.old ≤ ticks.new }
+{
+    R::keep_laws();
+    R::keep_feed_laws();
+    kind.keep_octet_laws();
+    let mut octets = octets;
+    match feed_fragments::<R, K>(alloc, kind, &mut octets, units, ticks) {
+        Ok(()) => Ok(octets.elements),
+        Err(Stop::Short) => match frames.put(Frame::Octets(octets)) {
+            Ok(()) => Err(Stop::Short),
+            Err(_) => Err(Stop::Memory),
+        },
+        Err(Stop::Refused { left, why }) => Err(Stop::Refused { left, why }),
+        Err(Stop::Memory) => Err(Stop::Memory),
+    }
+}
+
+/// Reads the octets that are left, and puts them after those that were read.
+fn feed_fragments<R: FeedLeaves, K: InFragments<R>>(
+    alloc: Global,
+    kind: &K,
+    octets: &mut Elements<R::Fragments, u8>,
+    units: &mut Units<'_>,
+    ticks: &mut Ticks,
+) -> Result<(), Stop>
+    requires good { K.good kind.now }
+    requires at_unit { R.rules.at_unit units.old }
+    requires reached { (all : List ℕ) × OctetsGoOn R.rules (K.coding kind.now) R.ahead R.is_between octets.old all
+        (R.rules.to_units units.old) }
+    requires few { ticks.old + length (R.rules.to_units units.old) < 2 ^ 64 }
+    ensures at_unit { R.rules.at_unit units.new }
+    ensures done { OnOk result (ReadsOctetsOn R.rules (K.coding kind.now) R.ahead R.is_between octets.old
+        octets.new.elements.items units.old units.new) }
+    ensures stop { IfErr result (λ why. StopsOctetsOn R.rules (K.coding kind.now) R.ahead R.is_between octets.old
+        units.old why) }
+    ensures kept { result ≡ Err Short → OctetsGoOnTo R.rules (K.coding kind.now) R.ahead R.is_between octets.old
+        units.old octets.new units.new }
+    ensures after { IfErr result (λ why. StandsAfter R.rules units.new why) }
+    ensures ticked { Ticked R.rules units.old ticks.old units.new ticks.new }
+    ensures rising { ticks.old ≤ ticks.new }
+{
+    R::keep_laws();
+    R::keep_feed_laws();
+    kind.keep_octet_laws();
+    loop {
+        feed_fragment::<R, K>(alloc, kind, octets, units, ticks)?;
+        if !next_fragment::<R, u8>(alloc, octets, units, ticks)? {
+            return Ok(());
+        }
+    }
+}
+
+/// Reads the octets that are left of a fragment, and puts them after those that were read.
+fn feed_fragment<R: FeedLeaves, K: InFragments<R>>(
+    alloc: Global,
+    kind: &K,
+    octets: &mut Elements<R::Fragments, u8>,
+    units: &mut Units<'_>,
+    ticks: &mut Ticks,
+) -> Result<(), Stop>
+    requires good { K.good kind.now }
+    requires at_unit { R.rules.at_unit units.old }
+    requires reached { (all : List ℕ) × OctetsGoOn R.rules (K.coding kind.now) R.ahead R.is_between octets.old all
+        (R.rules.to_units units.old) }
+    requires few { ticks.old + length (R.rules.to_units units.old) < 2 ^ 64 }
+    ensures at_unit { R.rules.at_unit units.new }
+    ensures done { OnOk result (OctetsGoOnTo R.rules (K.coding kind.now) R.ahead R.is_between octets.old units.old
+        octets.new units.new) }
+    ensures over { OnOk result (octets.new.left ≡ 0) }
+    ensures fragments { OnOk result (octets.new.fragments ≡ octets.old.fragments) }
+    ensures shorter { OnOk result
+        (length (R.rules.to_units units.new) ≤ length (R.rules.to_units units.old)) }
+    ensures stop { IfErr result (λ why. StopsOctetsOn R.rules (K.coding kind.now) R.ahead R.is_between octets.old
+        units.old why) }
+    ensures kept { result ≡ Err Short → OctetsGoOnTo R.rules (K.coding kind.now) R.ahead R.is_between octets.old
+        units.old octets.new units.new }
+    ensures after { IfErr result (λ why. StandsAfter R.rules units.new why) }
+    ensures ticked { Ticked R.rules units.old ticks.old units.new ticks.new }
+    ensures rising { ticks.old ≤ ticks.new }
+{
+    R::keep_laws();
+    R::keep_feed_laws();
+    kind.keep_octet_laws();
+    while octets.left > 0 {
+        let octet = feed_leaf::<R, Octet<'_, K>>(
+            alloc,
+            &Octet { kind },
+            &mut octets.next_part,
+            units,
+            ticks,
+        )?;
+        octets.elements.push(octet)?;
+        octets.next_part = Begun::none();
+        octets.left -= 1;
+    }
+    Ok(())
+}

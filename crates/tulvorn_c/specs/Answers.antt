@@ -38,16 +38,17 @@ use Rattle.tulvorn_c.specs.Held.{held_module, held_type, held_value, held_octets
 abbrev pub ruling_of : ℕ → Option Ruling
 ruling_of n = if nat_eq n 0 then Some per_ruling else if nat_eq n 1 then Some oer_ruling else None
 
--- where the handle holds no such thing the fault is misuse, and else it is told of that thing
-abbrev pub Asked : {A : Type 0} → Option A → (A → Fault → Type 0) → Fault → Type 0
-Asked None Tells fault = fault ≡ misuse
-Asked (Some a) Tells fault = Tells a fault
+-- where the handle holds no such thing the fault is misuse and what the call writes stays as it was; else the answer is
+-- told of that thing
+abbrev pub Asked : {A : Type 0} → Option A → Type 0 → (A → Fault → Type 0) → Fault → Type 0
+Asked None Stays Tells fault = (fault ≡ misuse) × Stays
+Asked (Some a) Stays Tells fault = Tells a fault
 
 -- likewise where the number is that of no encoding rules
-abbrev pub AskedBy : {A : Type 0} → Option A → Option Ruling → (Ruling → A → Fault → Type 0) → Fault → Type 0
-AskedBy None r Tells fault = fault ≡ misuse
-AskedBy (Some a) None Tells fault = fault ≡ misuse
-AskedBy (Some a) (Some r) Tells fault = Tells r a fault
+abbrev pub AskedBy : {A : Type 0} → Option A → Option Ruling → Type 0 → (Ruling → A → Fault → Type 0) → Fault → Type 0
+AskedBy None r Stays Tells fault = (fault ≡ misuse) × Stays
+AskedBy (Some a) None Stays Tells fault = (fault ≡ misuse) × Stays
+AskedBy (Some a) (Some r) Stays Tells fault = Tells r a fault
 
 -- ---- modules
 

@@ -14,14 +14,14 @@ use Rattle.tulvorn_c.specs.Answers.{Copies}
 abbrev pub HasNoPart : List ℕ → Typed → Fault → Type 0
 HasNoPart path v fault = ((fault ≡ plain 8) × ¬ IsUtf8 path) ⊎ ((fault ≡ plain 14) × (value_at_path path v ≡ None))
 
--- it is told of the part at the path
-abbrev pub TellsPart : List ℕ → (Typed → Fault → Type 0) → Typed → Fault → Type 0
-TellsPart path Tells v fault =
-    HasNoPart path v fault ⊎ ((part : Typed) × (value_at_path path v ≡ Some part) × Tells part fault)
+-- the answer is told of the part at the path; where there is none, what the call writes stays as it was
+abbrev pub TellsPart : List ℕ → Type 0 → (Typed → Fault → Type 0) → Typed → Fault → Type 0
+TellsPart path Stays Tells v fault =
+    (HasNoPart path v fault × Stays) ⊎ ((part : Typed) × (value_at_path path v ≡ Some part) × Tells part fault)
 
--- the part is of another kind
-abbrev pub other_kind : Fault
-other_kind = plain 15
+-- the part is of another kind, and what the call writes stays as it was
+abbrev pub IsOtherKind : Type 0 → Fault → Type 0
+IsOtherKind Stays fault = (fault ≡ plain 15) × Stays
 
 -- ---- kinds
 
@@ -46,20 +46,21 @@ abbrev pub number_of_truth : Bool → ℕ
 number_of_truth false = 0
 number_of_truth true = 1
 
-abbrev pub TellsTruth : ℕ → Typed → Fault → Type 0
-TellsTruth new part fault =
-    MatchOption (truth_of part.datum) (fault ≡ other_kind) (λ b. (fault ≡ done) × (new ≡ number_of_truth b))
+abbrev pub TellsTruth : ℕ → ℕ → Typed → Fault → Type 0
+TellsTruth old new part fault =
+    MatchOption (truth_of part.datum) (IsOtherKind (new ≡ old) fault) (λ b.
+    (fault ≡ done) × (new ≡ number_of_truth b))
 
 -- a number that is none of 64 bits is told of no value of a type of the profile
-abbrev pub TellsInteger : ℤ → Typed → Fault → Type 0
-TellsInteger new part fault =
+abbrev pub TellsInteger : ℤ → ℤ → Typed → Fault → Type 0
+TellsInteger old new part fault =
     ((fault ≡ done) × (integer_of part.datum ≡ Some new))
-    ⊎ ((fault ≡ other_kind) × ((z : ℤ) → integer_of part.datum ≡ Some z → ¬ FitsSigned w64 z))
+    ⊎ (IsOtherKind (new ≡ old) fault × ((z : ℤ) → integer_of part.datum ≡ Some z → ¬ FitsSigned w64 z))
 
 -- octets are put in front, or there are none of this kind
 abbrev pub TellsOctets : (Typed → Option (List ℕ)) → List ℕ → List ℕ → ℕ → Typed → Fault → Type 0
 TellsOctets octets_in old new needed part fault =
-    MatchOption (octets_in part) (fault ≡ other_kind) (λ octets. Copies old new needed octets fault)
+    MatchOption (octets_in part) (IsOtherKind (new ≡ old) fault) (λ octets. Copies old new needed octets fault)
 
 -- those of an OCTET STRING
 abbrev pub octets_in : Typed → Option (List ℕ)
@@ -77,7 +78,7 @@ name_in part = or_name_of_choice (item_name_in part) part
 abbrev pub TellsText : List ℕ → List ℕ → ℕ → Typed → Fault → Type 0
 TellsText old new needed part fault =
     ((text : List ℕ) × (text_of part.datum ≡ Some text) × Copies old new needed text fault)
-    ⊎ ((fault ≡ other_kind) × ((text : List ℕ) → text_of part.datum ≡ Some text → ¬ IsUtf8 text))
+    ⊎ (IsOtherKind (new ≡ old) fault × ((text : List ℕ) → text_of part.datum ≡ Some text → ¬ IsUtf8 text))
 
 -- how many elements, bits, octets or characters
 abbrev pub TellsCount : ℕ → Typed → Fault → Type 0
@@ -87,6 +88,7 @@ TellsCount new part fault = (fault ≡ done) × (new ≡ length_of part.datum)
 abbrev pub bit_in : ℕ → Typed → Option Bool
 bit_in index part = option_and_then (λ bs. slice_get bs index) (bits_of part.datum)
 
-abbrev pub TellsBit : ℕ → ℕ → Typed → Fault → Type 0
-TellsBit index new part fault =
-    MatchOption (bit_in index part) (fault ≡ other_kind) (λ b. (fault ≡ done) × (new ≡ number_of_truth b))
+abbrev pub TellsBit : ℕ → ℕ → ℕ → Typed → Fault → Type 0
+TellsBit index old new part fault =
+    MatchOption (bit_in index part) (IsOtherKind (new ≡ old) fault) (λ b.
+    (fault ≡ done) × (new ≡ number_of_truth b))

@@ -27,7 +27,8 @@ pub extern "C" fn tulvorn_to_json(
     fault: &mut Fault,
 ) -> u32
     ensures kept { value.new.kept ≡ value.old.kept }
-    ensures told { Asked (held_value value.old.kept) (WritesJson json.old.kept json.new.kept) fault.new }
+    ensures told { Asked (held_value value.old.kept) (json.new.kept ≡ json.old.kept)
+        (WritesJson json.old.kept json.new.kept) fault.new }
     ensures code { result ≡ fault.new.code }
 {
     let Some(it) = replace(value, Handle::none(alloc)).into_box() else {
@@ -88,7 +89,8 @@ pub extern "C" fn tulvorn_from_json(
     fault: &mut Fault,
 ) -> u32
     ensures kept { ty.new.kept ≡ ty.old.kept }
-    ensures told { Asked (held_type ty.old.kept) (ReadsJson json.now value.old.kept value.new.kept) fault.new }
+    ensures told { Asked (held_type ty.old.kept) (value.new.kept ≡ value.old.kept)
+        (ReadsJson json.now value.old.kept value.new.kept) fault.new }
     ensures code { result ≡ fault.new.code }
 {
     let Some(it) = replace(ty, Handle::none(alloc)).into_box() else {

@@ -1,5 +1,5 @@
 //! Messages: octets and values.
-ghost use Rattle.std.specs.Prelude.{◌≡◌, IfOk, IfErr, Ok, Err};
+ghost use Rattle.std.specs.Prelude.{◌≡◌, IfOk, IfErr, Ok, Err, ⊤};
 ghost use Rattle.asn_values.specs.View.{shape_of, datum_of};
 ghost use Rattle.asn_view.specs.Typed.{typed};
 ghost use Rattle.asn_rules.specs.Codec.{Decoded, NotEncoded};
@@ -40,7 +40,7 @@ pub extern "C" fn tulvorn_check(
     fault: &mut Fault,
 ) -> u32
     ensures kept { ty.new.kept ≡ ty.old.kept }
-    ensures told { AskedBy (held_type ty.old.kept) (ruling_of rules) (Checks octets.now) fault.new }
+    ensures told { AskedBy (held_type ty.old.kept) (ruling_of rules) ⊤ (Checks octets.now) fault.new }
     ensures code { result ≡ fault.new.code }
 {
     let Some(it) = replace(ty, Handle::none(alloc)).into_box() else {
@@ -79,8 +79,8 @@ pub extern "C" fn tulvorn_decode(
     fault: &mut Fault,
 ) -> u32
     ensures kept { ty.new.kept ≡ ty.old.kept }
-    ensures told { AskedBy (held_type ty.old.kept) (ruling_of rules) (Decodes octets.now value.old.kept value.new.kept)
-        fault.new }
+    ensures told { AskedBy (held_type ty.old.kept) (ruling_of rules) (value.new.kept ≡ value.old.kept)
+        (Decodes octets.now value.old.kept value.new.kept) fault.new }
     ensures code { result ≡ fault.new.code }
 {
     let Some(it) = replace(ty, Handle::none(alloc)).into_box() else {
@@ -131,8 +131,8 @@ pub extern "C" fn tulvorn_encode(
     fault: &mut Fault,
 ) -> u32
     ensures kept { value.new.kept ≡ value.old.kept }
-    ensures told { AskedBy (held_value value.old.kept) (ruling_of rules) (Encodes octets.old.kept octets.new.kept)
-        fault.new }
+    ensures told { AskedBy (held_value value.old.kept) (ruling_of rules) (octets.new.kept ≡ octets.old.kept)
+        (Encodes octets.old.kept octets.new.kept) fault.new }
     ensures code { result ≡ fault.new.code }
 {
     let Some(it) = replace(value, Handle::none(alloc)).into_box() else {
@@ -182,7 +182,8 @@ pub extern "C" fn tulvorn_encoded_len(
     fault: &mut Fault,
 ) -> u32
     ensures kept { value.new.kept ≡ value.old.kept }
-    ensures told { AskedBy (held_value value.old.kept) (ruling_of rules) (Measures len.old len.new) fault.new }
+    ensures told { AskedBy (held_value value.old.kept) (ruling_of rules) (len.new ≡ len.old)
+        (Measures len.old len.new) fault.new }
     ensures code { result ≡ fault.new.code }
 {
     let Some(it) = replace(value, Handle::none(alloc)).into_box() else {
@@ -224,8 +225,8 @@ pub extern "C" fn tulvorn_encode_into(
     fault: &mut Fault,
 ) -> u32
     ensures kept { value.new.kept ≡ value.old.kept }
-    ensures told { AskedBy (held_value value.old.kept) (ruling_of rules) (Places into.old into.new len.old len.new)
-        fault.new }
+    ensures told { AskedBy (held_value value.old.kept) (ruling_of rules) ((into.new ≡ into.old) × (len.new ≡ len.old))
+        (Places into.old into.new len.old len.new) fault.new }
     ensures code { result ≡ fault.new.code }
 {
     let Some(it) = replace(value, Handle::none(alloc)).into_box() else {
@@ -267,7 +268,7 @@ pub extern "C" fn tulvorn_convert(
     fault: &mut Fault,
 ) -> u32
     ensures kept { ty.new.kept ≡ ty.old.kept }
-    ensures told { AskedBy (held_type ty.old.kept) (ruling_of rules)
+    ensures told { AskedBy (held_type ty.old.kept) (ruling_of rules) (other.new.kept ≡ other.old.kept)
         (ConvertsTo (other_ruling_of rules) octets.now other.old.kept other.new.kept) fault.new }
     ensures code { result ≡ fault.new.code }
 {

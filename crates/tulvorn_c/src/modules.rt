@@ -2,7 +2,15 @@
 ghost use Rattle.std.specs.Prelude.{◌≡◌, IfOk, IfErr, Some};
 ghost use Rattle.asn_values.specs.View.{shape_of};
 ghost use Rattle.asn_module.specs.ModuleView.{types_view};
-ghost use Rattle.tulvorn_c.specs.Answers.{Asked, ReadsModule, ReadsText, FindsName, FindsType, SharesType, IsModuleRead};
+ghost use Rattle.tulvorn_c.specs.Answers.{
+  Asked,
+  ReadsModule,
+  ReadsText,
+  FindsName,
+  FindsType,
+  SharesType,
+  IsModuleRead,
+};
 ghost use Rattle.tulvorn_c.specs.Held.{held_module, held_type};
 ghost use Rattle.tulvorn_c.specs.Faults.{plain};
 ghost use Rattle.asn_module.specs.Accepted.{Accepted, ModuleTypes};
@@ -75,7 +83,8 @@ pub extern "C" fn tulvorn_type(
     fault: &mut Fault,
 ) -> u32
     ensures kept { held.new.kept ≡ held.old.kept }
-    ensures told { Asked (held_module held.old.kept) (FindsType name.now ty.old.kept ty.new.kept) fault.new }
+    ensures told { Asked (held_module held.old.kept) (ty.new.kept ≡ ty.old.kept)
+        (FindsType name.now ty.old.kept ty.new.kept) fault.new }
     ensures code { result ≡ fault.new.code }
 {
     let Some(it) = replace(held, Handle::none(alloc)).into_box() else {
@@ -128,7 +137,8 @@ fn type_held(alloc: Global, ty: &Checked) -> Result<Handle, AllocError>
 #[unsafe(no_mangle)]
 pub extern "C" fn tulvorn_share(alloc: Global, ty: &mut Handle, other: &mut Handle) -> u32
     ensures kept { ty.new.kept ≡ ty.old.kept }
-    ensures told { Asked (held_type ty.old.kept) (SharesType other.old.kept other.new.kept) (plain result) }
+    ensures told { Asked (held_type ty.old.kept) (other.new.kept ≡ other.old.kept)
+        (SharesType other.old.kept other.new.kept) (plain result) }
 {
     let Some(it) = replace(ty, Handle::none(alloc)).into_box() else {
         return MISUSE;

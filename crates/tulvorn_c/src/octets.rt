@@ -20,8 +20,8 @@ pub extern "C" fn tulvorn_copy(
     needed: &mut usize,
 ) -> u32
     ensures kept { octets.new.kept ≡ octets.old.kept }
-    ensures told { Asked (held_octets octets.old.kept) (Copies into.old into.new needed.new) (plain result) }
-    ensures unwritten { result ≡ 2 → into.new ≡ into.old }
+    ensures told { Asked (held_octets octets.old.kept) (into.new ≡ into.old) (Copies into.old into.new needed.new)
+        (plain result) }
 {
     let Some(it) = replace(octets, Handle::none(alloc)).into_box() else {
         return MISUSE;

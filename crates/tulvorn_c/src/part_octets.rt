@@ -1,4 +1,4 @@
-//! Parts of a value that are octets, characters or names, put into octets of the caller. None of these calls takes memory.
+//! Parts of a value that are octets, characters or names, put into octets of the caller. No call here takes memory.
 ghost use Rattle.std.specs.Prelude.{◌≡◌};
 ghost use Rattle.asn_values.specs.View.{shape_of, datum_of};
 ghost use Rattle.asn_view.specs.Typed.{typed};
@@ -27,7 +27,8 @@ pub extern "C" fn tulvorn_octets(
     needed: &mut usize,
 ) -> u32
     ensures kept { value.new.kept ≡ value.old.kept }
-    ensures told { Asked (held_value value.old.kept) (TellsPart path.now (TellsOctets octets_in into.old into.new needed.new)) (plain result) }
+    ensures told { Asked (held_value value.old.kept) (into.new ≡ into.old)
+        (TellsPart path.now (into.new ≡ into.old) (TellsOctets octets_in into.old into.new needed.new)) (plain result) }
 {
     let Some(it) = replace(value, Handle::none(alloc)).into_box() else {
         return MISUSE;
@@ -41,7 +42,8 @@ pub extern "C" fn tulvorn_octets(
 }
 
 fn octets_at(ty: &Checked, value: &Value, path: &[u8], into: &mut [u8], needed: &mut usize) -> u32
-    ensures { TellsPart path.now (TellsOctets octets_in into.old into.new needed.new) (typed (shape_of ty.now) (datum_of value.now)) (plain result) }
+    ensures { TellsPart path.now (into.new ≡ into.old) (TellsOctets octets_in into.old into.new needed.new)
+        (typed (shape_of ty.now) (datum_of value.now)) (plain result) }
 {
     match part_at(ty, value, path) {
         Ok(part) => octets_of(&part, into, needed),
@@ -68,7 +70,8 @@ pub extern "C" fn tulvorn_text(
     needed: &mut usize,
 ) -> u32
     ensures kept { value.new.kept ≡ value.old.kept }
-    ensures told { Asked (held_value value.old.kept) (TellsPart path.now (TellsText into.old into.new needed.new)) (plain result) }
+    ensures told { Asked (held_value value.old.kept) (into.new ≡ into.old)
+        (TellsPart path.now (into.new ≡ into.old) (TellsText into.old into.new needed.new)) (plain result) }
 {
     let Some(it) = replace(value, Handle::none(alloc)).into_box() else {
         return MISUSE;
@@ -82,7 +85,8 @@ pub extern "C" fn tulvorn_text(
 }
 
 fn text_at(ty: &Checked, value: &Value, path: &[u8], into: &mut [u8], needed: &mut usize) -> u32
-    ensures { TellsPart path.now (TellsText into.old into.new needed.new) (typed (shape_of ty.now) (datum_of value.now)) (plain result) }
+    ensures { TellsPart path.now (into.new ≡ into.old) (TellsText into.old into.new needed.new)
+        (typed (shape_of ty.now) (datum_of value.now)) (plain result) }
 {
     match part_at(ty, value, path) {
         Ok(part) => text_of(&part, into, needed),
@@ -109,7 +113,8 @@ pub extern "C" fn tulvorn_name(
     needed: &mut usize,
 ) -> u32
     ensures kept { value.new.kept ≡ value.old.kept }
-    ensures told { Asked (held_value value.old.kept) (TellsPart path.now (TellsOctets name_in into.old into.new needed.new)) (plain result) }
+    ensures told { Asked (held_value value.old.kept) (into.new ≡ into.old)
+        (TellsPart path.now (into.new ≡ into.old) (TellsOctets name_in into.old into.new needed.new)) (plain result) }
 {
     let Some(it) = replace(value, Handle::none(alloc)).into_box() else {
         return MISUSE;
@@ -123,7 +128,8 @@ pub extern "C" fn tulvorn_name(
 }
 
 fn name_at(ty: &Checked, value: &Value, path: &[u8], into: &mut [u8], needed: &mut usize) -> u32
-    ensures { TellsPart path.now (TellsOctets name_in into.old into.new needed.new) (typed (shape_of ty.now) (datum_of value.now)) (plain result) }
+    ensures { TellsPart path.now (into.new ≡ into.old) (TellsOctets name_in into.old into.new needed.new)
+        (typed (shape_of ty.now) (datum_of value.now)) (plain result) }
 {
     match part_at(ty, value, path) {
         Ok(part) => name_of(&part, into, needed),

@@ -33,7 +33,8 @@ use tulvorn::{Checked, Kind, Value, View, Viewed};
 pub(crate) fn part_at<'a>(ty: &'a Checked, value: &'a Value, path: &[u8]) -> Result<View<'a>, u32>
     ensures found { IfOk result (λ v.
         value_at_path path.now (typed (shape_of ty.now) (datum_of value.now)) ≡ Some (seen v)) }
-    ensures none { IfErr result (λ code. HasNoPart path.now (typed (shape_of ty.now) (datum_of value.now)) (plain code)) }
+    ensures none { IfErr result (λ code.
+        HasNoPart path.now (typed (shape_of ty.now) (datum_of value.now)) (plain code)) }
 {
     let Ok(path) = std::str::from_utf8(path) else {
         return Err(NOT_TEXT);
@@ -53,7 +54,8 @@ pub extern "C" fn tulvorn_kind(
     kind: &mut u32,
 ) -> u32
     ensures kept { value.new.kept ≡ value.old.kept }
-    ensures told { Asked (held_value value.old.kept) (TellsPart path.now (TellsKind kind.new)) (plain result) }
+    ensures told { Asked (held_value value.old.kept) (kind.new ≡ kind.old)
+        (TellsPart path.now (kind.new ≡ kind.old) (TellsKind kind.new)) (plain result) }
 {
     let Some(it) = replace(value, Handle::none(alloc)).into_box() else {
         return MISUSE;
@@ -67,7 +69,8 @@ pub extern "C" fn tulvorn_kind(
 }
 
 fn kind_at(ty: &Checked, value: &Value, path: &[u8], kind: &mut u32) -> u32
-    ensures { TellsPart path.now (TellsKind kind.new) (typed (shape_of ty.now) (datum_of value.now)) (plain result) }
+    ensures { TellsPart path.now (kind.new ≡ kind.old) (TellsKind kind.new)
+        (typed (shape_of ty.now) (datum_of value.now)) (plain result) }
 {
     match part_at(ty, value, path) {
         Ok(part) => kind_of(&part, kind),
@@ -109,7 +112,8 @@ pub extern "C" fn tulvorn_boolean(
     truth: &mut u32,
 ) -> u32
     ensures kept { value.new.kept ≡ value.old.kept }
-    ensures told { Asked (held_value value.old.kept) (TellsPart path.now (TellsTruth truth.new)) (plain result) }
+    ensures told { Asked (held_value value.old.kept) (truth.new ≡ truth.old)
+        (TellsPart path.now (truth.new ≡ truth.old) (TellsTruth truth.old truth.new)) (plain result) }
 {
     let Some(it) = replace(value, Handle::none(alloc)).into_box() else {
         return MISUSE;
@@ -123,7 +127,8 @@ pub extern "C" fn tulvorn_boolean(
 }
 
 fn boolean_at(ty: &Checked, value: &Value, path: &[u8], truth: &mut u32) -> u32
-    ensures { TellsPart path.now (TellsTruth truth.new) (typed (shape_of ty.now) (datum_of value.now)) (plain result) }
+    ensures { TellsPart path.now (truth.new ≡ truth.old) (TellsTruth truth.old truth.new)
+        (typed (shape_of ty.now) (datum_of value.now)) (plain result) }
 {
     match part_at(ty, value, path) {
         Ok(part) => boolean_of(&part, truth),
@@ -132,7 +137,7 @@ fn boolean_at(ty: &Checked, value: &Value, path: &[u8], truth: &mut u32) -> u32
 }
 
 fn boolean_of(part: &View<'_>, truth: &mut u32) -> u32
-    ensures { TellsTruth truth.new (seen part.now) (plain result) }
+    ensures { TellsTruth truth.old truth.new (seen part.now) (plain result) }
 {
     match part.as_bool() {
         Some(true) => {
@@ -156,7 +161,8 @@ pub extern "C" fn tulvorn_integer(
     number: &mut i64,
 ) -> u32
     ensures kept { value.new.kept ≡ value.old.kept }
-    ensures told { Asked (held_value value.old.kept) (TellsPart path.now (TellsInteger number.new)) (plain result) }
+    ensures told { Asked (held_value value.old.kept) (number.new ≡ number.old)
+        (TellsPart path.now (number.new ≡ number.old) (TellsInteger number.old number.new)) (plain result) }
 {
     let Some(it) = replace(value, Handle::none(alloc)).into_box() else {
         return MISUSE;
@@ -170,7 +176,8 @@ pub extern "C" fn tulvorn_integer(
 }
 
 fn integer_at(ty: &Checked, value: &Value, path: &[u8], number: &mut i64) -> u32
-    ensures { TellsPart path.now (TellsInteger number.new) (typed (shape_of ty.now) (datum_of value.now)) (plain result) }
+    ensures { TellsPart path.now (number.new ≡ number.old) (TellsInteger number.old number.new)
+        (typed (shape_of ty.now) (datum_of value.now)) (plain result) }
 {
     match part_at(ty, value, path) {
         Ok(part) => integer_of(&part, number),
@@ -179,7 +186,7 @@ fn integer_at(ty: &Checked, value: &Value, path: &[u8], number: &mut i64) -> u32
 }
 
 fn integer_of(part: &View<'_>, number: &mut i64) -> u32
-    ensures { TellsInteger number.new (seen part.now) (plain result) }
+    ensures { TellsInteger number.old number.new (seen part.now) (plain result) }
 {
     let Some(value) = part.as_int() else {
         return OTHER_KIND;
@@ -202,7 +209,8 @@ pub extern "C" fn tulvorn_count(
     count: &mut usize,
 ) -> u32
     ensures kept { value.new.kept ≡ value.old.kept }
-    ensures told { Asked (held_value value.old.kept) (TellsPart path.now (TellsCount count.new)) (plain result) }
+    ensures told { Asked (held_value value.old.kept) (count.new ≡ count.old)
+        (TellsPart path.now (count.new ≡ count.old) (TellsCount count.new)) (plain result) }
 {
     let Some(it) = replace(value, Handle::none(alloc)).into_box() else {
         return MISUSE;
@@ -216,7 +224,8 @@ pub extern "C" fn tulvorn_count(
 }
 
 fn count_at(ty: &Checked, value: &Value, path: &[u8], count: &mut usize) -> u32
-    ensures { TellsPart path.now (TellsCount count.new) (typed (shape_of ty.now) (datum_of value.now)) (plain result) }
+    ensures { TellsPart path.now (count.new ≡ count.old) (TellsCount count.new)
+        (typed (shape_of ty.now) (datum_of value.now)) (plain result) }
 {
     match part_at(ty, value, path) {
         Ok(part) => count_of(&part, count),
@@ -241,7 +250,8 @@ pub extern "C" fn tulvorn_bit(
     bit: &mut u32,
 ) -> u32
     ensures kept { value.new.kept ≡ value.old.kept }
-    ensures told { Asked (held_value value.old.kept) (TellsPart path.now (TellsBit index bit.new)) (plain result) }
+    ensures told { Asked (held_value value.old.kept) (bit.new ≡ bit.old)
+        (TellsPart path.now (bit.new ≡ bit.old) (TellsBit index bit.old bit.new)) (plain result) }
 {
     let Some(it) = replace(value, Handle::none(alloc)).into_box() else {
         return MISUSE;
@@ -255,7 +265,8 @@ pub extern "C" fn tulvorn_bit(
 }
 
 fn bit_at(ty: &Checked, value: &Value, path: &[u8], index: usize, bit: &mut u32) -> u32
-    ensures { TellsPart path.now (TellsBit index bit.new) (typed (shape_of ty.now) (datum_of value.now)) (plain result) }
+    ensures { TellsPart path.now (bit.new ≡ bit.old) (TellsBit index bit.old bit.new)
+        (typed (shape_of ty.now) (datum_of value.now)) (plain result) }
 {
     match part_at(ty, value, path) {
         Ok(part) => bit_of(&part, index, bit),
@@ -264,7 +275,7 @@ fn bit_at(ty: &Checked, value: &Value, path: &[u8], index: usize, bit: &mut u32)
 }
 
 fn bit_of(part: &View<'_>, index: usize, bit: &mut u32) -> u32
-    ensures { TellsBit index bit.new (seen part.now) (plain result) }
+    ensures { TellsBit index bit.old bit.new (seen part.now) (plain result) }
 {
     let Some(bits) = part.as_bits() else {
         return OTHER_KIND;

@@ -250,6 +250,7 @@ static int memory(tulvorn_handle *module, tulvorn_handle *msg, tulvorn_handle *a
     tulvorn_handle value = TULVORN_NONE;
     tulvorn_fault fault;
     uint8_t into[64];
+    int64_t number;
     size_t size;
     long refused = 0;
     CHECK(tulvorn_from_json(all, TEXT(ALL), &value, &fault) == TULVORN_DONE);
@@ -267,6 +268,9 @@ static int memory(tulvorn_handle *module, tulvorn_handle *msg, tulvorn_handle *a
     CHECK(tulvorn_encoded_len(&value, TULVORN_PER, &size, &fault) == TULVORN_DONE);
     CHECK(tulvorn_encode_into(&value, TULVORN_PER, into, sizeof into, &size, &fault) == TULVORN_DONE);
     CHECK(tulvorn_octets(&value, TEXT("key"), into, sizeof into, &size) == TULVORN_DONE);
+    CHECK(tulvorn_text(&value, TEXT("list[0].note"), into, sizeof into, &size) == TULVORN_DONE);
+    CHECK(tulvorn_name(&value, TEXT("colour"), into, sizeof into, &size) == TULVORN_DONE);
+    CHECK(tulvorn_integer(&value, TEXT("one.number"), &number) == TULVORN_DONE && number == 200);
     CHECK(tulvorn_version(into, sizeof into, &size) == TULVORN_DONE && asked == 0);
     tulvorn_close(&value);
     *count = refused;

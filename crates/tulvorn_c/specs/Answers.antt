@@ -185,6 +185,10 @@ ReadsJson text old new t fault =
 abbrev pub PutInFront : List ℕ → List ℕ → List ℕ → Type 0
 PutInFront octets old new = (length octets ≤ length old) × (new ≡ octets ++ drop (length octets) old)
 
+-- octets that were to be written, and how many are told to be wanted, are as they were
+abbrev pub AreAsBefore : List ℕ → List ℕ → ℕ → ℕ → Type 0
+AreAsBefore old new before after = (new ≡ old) × (after ≡ before)
+
 -- the octets that the handle holds stand in the first places, and the others are as they were; or there are too few
 -- places; how many there are is told either way
 abbrev pub Copies : List ℕ → List ℕ → ℕ → List ℕ → Fault → Type 0

@@ -8,7 +8,7 @@ use Rattle.asn_view.specs.declared.kind.Kind.{Kind}
 use Rattle.asn_view.specs.declared.kind.Kind.TheVariants as kind
 use Rattle.tulvorn_c.specs.declared.fault.Fault.{Fault}
 use Rattle.tulvorn_c.specs.Faults.{plain, done}
-use Rattle.tulvorn_c.specs.Answers.{Copies}
+use Rattle.tulvorn_c.specs.Answers.{Asked, Copies, AreAsBefore}
 
 -- the path is not UTF-8, or the value has no part there
 abbrev pub HasNoPart : List ℕ → Typed → Fault → Type 0
@@ -18,6 +18,10 @@ HasNoPart path v fault = ((fault ≡ plain 8) × ¬ IsUtf8 path) ⊎ ((fault ≡
 abbrev pub TellsPart : List ℕ → Type 0 → (Typed → Fault → Type 0) → Typed → Fault → Type 0
 TellsPart path Stays Tells v fault =
     (HasNoPart path v fault × Stays) ⊎ ((part : Typed) × (value_at_path path v ≡ Some part) × Tells part fault)
+
+-- and where the handle holds no value
+abbrev pub AskedPart : Option Typed → List ℕ → Type 0 → (Typed → Fault → Type 0) → Fault → Type 0
+AskedPart v path Stays Tells fault = Asked v Stays (TellsPart path Stays Tells) fault
 
 -- the part is of another kind, and what the call writes stays as it was
 abbrev pub IsOtherKind : Type 0 → Fault → Type 0
@@ -58,9 +62,10 @@ TellsInteger old new part fault =
     ⊎ (IsOtherKind (new ≡ old) fault × ((z : ℤ) → integer_of part.datum ≡ Some z → ¬ FitsSigned w64 z))
 
 -- octets are put in front, or there are none of this kind
-abbrev pub TellsOctets : (Typed → Option (List ℕ)) → List ℕ → List ℕ → ℕ → Typed → Fault → Type 0
-TellsOctets octets_in old new needed part fault =
-    MatchOption (octets_in part) (IsOtherKind (new ≡ old) fault) (λ octets. Copies old new needed octets fault)
+abbrev pub TellsOctets : (Typed → Option (List ℕ)) → List ℕ → List ℕ → ℕ → ℕ → Typed → Fault → Type 0
+TellsOctets octets_in old new before after part fault =
+    MatchOption (octets_in part) (IsOtherKind (AreAsBefore old new before after) fault) (λ octets.
+    Copies old new after octets fault)
 
 -- those of an OCTET STRING
 abbrev pub octets_in : Typed → Option (List ℕ)
@@ -75,10 +80,11 @@ abbrev pub name_in : Typed → Option (List ℕ)
 name_in part = or_name_of_choice (item_name_in part) part
 
 -- the characters of a character string, which are UTF-8
-abbrev pub TellsText : List ℕ → List ℕ → ℕ → Typed → Fault → Type 0
-TellsText old new needed part fault =
-    ((text : List ℕ) × (text_of part.datum ≡ Some text) × Copies old new needed text fault)
-    ⊎ (IsOtherKind (new ≡ old) fault × ((text : List ℕ) → text_of part.datum ≡ Some text → ¬ IsUtf8 text))
+abbrev pub TellsText : List ℕ → List ℕ → ℕ → ℕ → Typed → Fault → Type 0
+TellsText old new before after part fault =
+    ((text : List ℕ) × (text_of part.datum ≡ Some text) × Copies old new after text fault)
+    ⊎ (IsOtherKind (AreAsBefore old new before after) fault
+    × ((text : List ℕ) → text_of part.datum ≡ Some text → ¬ IsUtf8 text))
 
 -- how many elements, bits, octets or characters
 abbrev pub TellsCount : ℕ → Typed → Fault → Type 0

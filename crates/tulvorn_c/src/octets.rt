@@ -1,6 +1,6 @@
 //! Octets that a handle holds, and its end.
 ghost use Rattle.std.specs.Prelude.{◌≡◌, None};
-ghost use Rattle.tulvorn_c.specs.Answers.{Asked, Copies};
+ghost use Rattle.tulvorn_c.specs.Answers.{Asked, Copies, AreAsBefore};
 ghost use Rattle.tulvorn_c.specs.Faults.{plain};
 ghost use Rattle.tulvorn_c.specs.Held.{held_octets};
 
@@ -20,8 +20,8 @@ pub extern "C" fn tulvorn_copy(
     needed: &mut usize,
 ) -> u32
     ensures kept { octets.new.kept ≡ octets.old.kept }
-    ensures told { Asked (held_octets octets.old.kept) (into.new ≡ into.old) (Copies into.old into.new needed.new)
-        (plain result) }
+    ensures told { Asked (held_octets octets.old.kept) (AreAsBefore into.old into.new needed.old needed.new)
+        (Copies into.old into.new needed.new) (plain result) }
 {
     let Some(it) = replace(octets, Handle::none(alloc)).into_box() else {
         return MISUSE;
@@ -36,8 +36,7 @@ pub extern "C" fn tulvorn_copy(
 
 /// Writes the octets to the front of others, and how many they are.
 pub(crate) fn copy(octets: &[u8], into: &mut [u8], needed: &mut usize) -> u32
-    ensures copied { Copies into.old into.new needed.new octets.now (plain result) }
-    ensures kind { (result ≡ 2) → ⊥ }
+    ensures { Copies into.old into.new needed.new octets.now (plain result) }
 {
     let len = octets.len();
     *needed = len;

@@ -3,10 +3,10 @@ ghost use Rattle.std.specs.Prelude.{◌≡◌};
 ghost use Rattle.asn_values.specs.View.{shape_of, datum_of};
 ghost use Rattle.asn_view.specs.Typed.{typed};
 ghost use Rattle.asn_view.specs.Seen.{seen};
-ghost use Rattle.tulvorn_c.specs.Answers.{Asked};
+ghost use Rattle.tulvorn_c.specs.Answers.{AreAsBefore};
 ghost use Rattle.tulvorn_c.specs.Faults.{plain};
 ghost use Rattle.tulvorn_c.specs.Held.{held_value};
-ghost use Rattle.tulvorn_c.specs.Parts.{TellsPart, TellsOctets, octets_in, name_in, TellsText};
+ghost use Rattle.tulvorn_c.specs.Parts.{TellsPart, AskedPart, TellsOctets, octets_in, name_in, TellsText};
 
 use crate::fault::{MISUSE, OTHER_KIND};
 use crate::handle::Handle;
@@ -27,8 +27,8 @@ pub extern "C" fn tulvorn_octets(
     needed: &mut usize,
 ) -> u32
     ensures kept { value.new.kept ≡ value.old.kept }
-    ensures told { Asked (held_value value.old.kept) (into.new ≡ into.old)
-        (TellsPart path.now (into.new ≡ into.old) (TellsOctets octets_in into.old into.new needed.new)) (plain result) }
+    ensures told { AskedPart (held_value value.old.kept) path.now (AreAsBefore into.old into.new needed.old needed.new)
+        (TellsOctets octets_in into.old into.new needed.old needed.new) (plain result) }
 {
     let Some(it) = replace(value, Handle::none(alloc)).into_box() else {
         return MISUSE;
@@ -42,7 +42,8 @@ pub extern "C" fn tulvorn_octets(
 }
 
 fn octets_at(ty: &Checked, value: &Value, path: &[u8], into: &mut [u8], needed: &mut usize) -> u32
-    ensures { TellsPart path.now (into.new ≡ into.old) (TellsOctets octets_in into.old into.new needed.new)
+    ensures { TellsPart path.now (AreAsBefore into.old into.new needed.old needed.new)
+        (TellsOctets octets_in into.old into.new needed.old needed.new)
         (typed (shape_of ty.now) (datum_of value.now)) (plain result) }
 {
     match part_at(ty, value, path) {
@@ -52,7 +53,7 @@ fn octets_at(ty: &Checked, value: &Value, path: &[u8], into: &mut [u8], needed: 
 }
 
 fn octets_of(part: &View<'_>, into: &mut [u8], needed: &mut usize) -> u32
-    ensures { TellsOctets octets_in into.old into.new needed.new (seen part.now) (plain result) }
+    ensures { TellsOctets octets_in into.old into.new needed.old needed.new (seen part.now) (plain result) }
 {
     match part.as_octets() {
         Some(octets) => copy(octets, into, needed),
@@ -70,8 +71,8 @@ pub extern "C" fn tulvorn_text(
     needed: &mut usize,
 ) -> u32
     ensures kept { value.new.kept ≡ value.old.kept }
-    ensures told { Asked (held_value value.old.kept) (into.new ≡ into.old)
-        (TellsPart path.now (into.new ≡ into.old) (TellsText into.old into.new needed.new)) (plain result) }
+    ensures told { AskedPart (held_value value.old.kept) path.now (AreAsBefore into.old into.new needed.old needed.new)
+        (TellsText into.old into.new needed.old needed.new) (plain result) }
 {
     let Some(it) = replace(value, Handle::none(alloc)).into_box() else {
         return MISUSE;
@@ -85,7 +86,8 @@ pub extern "C" fn tulvorn_text(
 }
 
 fn text_at(ty: &Checked, value: &Value, path: &[u8], into: &mut [u8], needed: &mut usize) -> u32
-    ensures { TellsPart path.now (into.new ≡ into.old) (TellsText into.old into.new needed.new)
+    ensures { TellsPart path.now (AreAsBefore into.old into.new needed.old needed.new)
+        (TellsText into.old into.new needed.old needed.new)
         (typed (shape_of ty.now) (datum_of value.now)) (plain result) }
 {
     match part_at(ty, value, path) {
@@ -95,7 +97,7 @@ fn text_at(ty: &Checked, value: &Value, path: &[u8], into: &mut [u8], needed: &m
 }
 
 fn text_of(part: &View<'_>, into: &mut [u8], needed: &mut usize) -> u32
-    ensures { TellsText into.old into.new needed.new (seen part.now) (plain result) }
+    ensures { TellsText into.old into.new needed.old needed.new (seen part.now) (plain result) }
 {
     match part.as_str() {
         Some(text) => copy(text.as_bytes(), into, needed),
@@ -113,8 +115,8 @@ pub extern "C" fn tulvorn_name(
     needed: &mut usize,
 ) -> u32
     ensures kept { value.new.kept ≡ value.old.kept }
-    ensures told { Asked (held_value value.old.kept) (into.new ≡ into.old)
-        (TellsPart path.now (into.new ≡ into.old) (TellsOctets name_in into.old into.new needed.new)) (plain result) }
+    ensures told { AskedPart (held_value value.old.kept) path.now (AreAsBefore into.old into.new needed.old needed.new)
+        (TellsOctets name_in into.old into.new needed.old needed.new) (plain result) }
 {
     let Some(it) = replace(value, Handle::none(alloc)).into_box() else {
         return MISUSE;
@@ -128,7 +130,8 @@ pub extern "C" fn tulvorn_name(
 }
 
 fn name_at(ty: &Checked, value: &Value, path: &[u8], into: &mut [u8], needed: &mut usize) -> u32
-    ensures { TellsPart path.now (into.new ≡ into.old) (TellsOctets name_in into.old into.new needed.new)
+    ensures { TellsPart path.now (AreAsBefore into.old into.new needed.old needed.new)
+        (TellsOctets name_in into.old into.new needed.old needed.new)
         (typed (shape_of ty.now) (datum_of value.now)) (plain result) }
 {
     match part_at(ty, value, path) {
@@ -138,7 +141,7 @@ fn name_at(ty: &Checked, value: &Value, path: &[u8], into: &mut [u8], needed: &m
 }
 
 fn name_of(part: &View<'_>, into: &mut [u8], needed: &mut usize) -> u32
-    ensures { TellsOctets name_in into.old into.new needed.new (seen part.now) (plain result) }
+    ensures { TellsOctets name_in into.old into.new needed.old needed.new (seen part.now) (plain result) }
 {
     match part.item_name() {
         Some(name) => copy(name.as_bytes(), into, needed),

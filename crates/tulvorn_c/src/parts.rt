@@ -4,20 +4,16 @@ ghost use Rattle.asn_values.specs.View.{shape_of, datum_of};
 ghost use Rattle.asn_view.specs.Typed.{typed};
 ghost use Rattle.asn_view.specs.Paths.{value_at_path};
 ghost use Rattle.asn_view.specs.Seen.{seen};
-ghost use Rattle.tulvorn_c.specs.Answers.{Asked};
 ghost use Rattle.tulvorn_c.specs.Faults.{plain};
 ghost use Rattle.tulvorn_c.specs.Held.{held_value};
 ghost use Rattle.tulvorn_c.specs.Parts.{
   HasNoPart,
   TellsPart,
+  AskedPart,
   TellsKind,
   number_of_kind,
   TellsTruth,
   TellsInteger,
-  TellsOctets,
-  octets_in,
-  name_in,
-  TellsText,
   TellsCount,
   TellsBit,
 };
@@ -54,8 +50,8 @@ pub extern "C" fn tulvorn_kind(
     kind: &mut u32,
 ) -> u32
     ensures kept { value.new.kept ≡ value.old.kept }
-    ensures told { Asked (held_value value.old.kept) (kind.new ≡ kind.old)
-        (TellsPart path.now (kind.new ≡ kind.old) (TellsKind kind.new)) (plain result) }
+    ensures told { AskedPart (held_value value.old.kept) path.now (kind.new ≡ kind.old)
+        (TellsKind kind.new) (plain result) }
 {
     let Some(it) = replace(value, Handle::none(alloc)).into_box() else {
         return MISUSE;
@@ -112,8 +108,8 @@ pub extern "C" fn tulvorn_boolean(
     truth: &mut u32,
 ) -> u32
     ensures kept { value.new.kept ≡ value.old.kept }
-    ensures told { Asked (held_value value.old.kept) (truth.new ≡ truth.old)
-        (TellsPart path.now (truth.new ≡ truth.old) (TellsTruth truth.old truth.new)) (plain result) }
+    ensures told { AskedPart (held_value value.old.kept) path.now (truth.new ≡ truth.old)
+        (TellsTruth truth.old truth.new) (plain result) }
 {
     let Some(it) = replace(value, Handle::none(alloc)).into_box() else {
         return MISUSE;
@@ -161,8 +157,8 @@ pub extern "C" fn tulvorn_integer(
     number: &mut i64,
 ) -> u32
     ensures kept { value.new.kept ≡ value.old.kept }
-    ensures told { Asked (held_value value.old.kept) (number.new ≡ number.old)
-        (TellsPart path.now (number.new ≡ number.old) (TellsInteger number.old number.new)) (plain result) }
+    ensures told { AskedPart (held_value value.old.kept) path.now (number.new ≡ number.old)
+        (TellsInteger number.old number.new) (plain result) }
 {
     let Some(it) = replace(value, Handle::none(alloc)).into_box() else {
         return MISUSE;
@@ -209,8 +205,8 @@ pub extern "C" fn tulvorn_count(
     count: &mut usize,
 ) -> u32
     ensures kept { value.new.kept ≡ value.old.kept }
-    ensures told { Asked (held_value value.old.kept) (count.new ≡ count.old)
-        (TellsPart path.now (count.new ≡ count.old) (TellsCount count.new)) (plain result) }
+    ensures told { AskedPart (held_value value.old.kept) path.now (count.new ≡ count.old)
+        (TellsCount count.new) (plain result) }
 {
     let Some(it) = replace(value, Handle::none(alloc)).into_box() else {
         return MISUSE;
@@ -250,8 +246,8 @@ pub extern "C" fn tulvorn_bit(
     bit: &mut u32,
 ) -> u32
     ensures kept { value.new.kept ≡ value.old.kept }
-    ensures told { Asked (held_value value.old.kept) (bit.new ≡ bit.old)
-        (TellsPart path.now (bit.new ≡ bit.old) (TellsBit index bit.old bit.new)) (plain result) }
+    ensures told { AskedPart (held_value value.old.kept) path.now (bit.new ≡ bit.old)
+        (TellsBit index bit.old bit.new) (plain result) }
 {
     let Some(it) = replace(value, Handle::none(alloc)).into_box() else {
         return MISUSE;

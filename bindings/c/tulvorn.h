@@ -64,8 +64,7 @@ enum {
     TULVORN_NO_JSON = 12,           /* the text is no JSON */
     TULVORN_SHAPE = 13,             /* the JSON is not of the shape of the type */
     TULVORN_NO_PATH = 14,           /* the value has no part there, or it is absent and has no DEFAULT */
-    TULVORN_OTHER_KIND = 15,        /* the part there is of another kind */
-    TULVORN_TOO_MANY_ADDITIONS = 16 /* more extension additions than the profile allows */
+    TULVORN_OTHER_KIND = 15         /* the part there is of another kind */
 };
 
 /* ---- why, where octets are TULVORN_REFUSED: what was being read */

@@ -12,8 +12,9 @@ where the system's linker finds it. `compile_string`, `compile_files`, `encode`,
 the names that asn1tools gives them.
 
 Values are as in JSON, with the kinds of Python where it has them: BOOLEAN is a bool, NULL None, INTEGER an int,
-ENUMERATED the name of the item, BIT STRING a pair of bytes and the number of bits, OCTET STRING bytes, a character string a str,
-SEQUENCE a dict, without the components that are absent, SEQUENCE OF a list, CHOICE a pair of the name and the value.
+ENUMERATED the name of the item, BIT STRING a pair of bytes and the number of bits, OCTET STRING bytes, a character
+string a str, SEQUENCE a dict, without the components that are absent, SEQUENCE OF a list, CHOICE a pair of the name and
+the value.
 
 One object may be used by several threads: each has a lock of its own. `Type.share` makes another of a type, which two
 threads then use at once.
@@ -34,8 +35,8 @@ RULES = {"per": PER, "uper": PER, "oer": OER, PER: PER, OER: OER}
 
 (
     DONE, NO_MEMORY, MISUSE, REFUSED, TRUNCATED, REST, TOO_LONG, TOO_SHORT, NOT_TEXT, NO_MODULE, NO_NAME, NOT_OF_TYPE,
-    NO_JSON, SHAPE, NO_PATH, OTHER_KIND, TOO_MANY_ADDITIONS,
-) = range(17)
+    NO_JSON, SHAPE, NO_PATH, OTHER_KIND,
+) = range(16)
 
 (
     BOOLEAN, NULL, INTEGER, ENUMERATED, BIT_STRING, OCTET_STRING, CHARACTER_STRING, SEQUENCE, SEQUENCE_OF, CHOICE,

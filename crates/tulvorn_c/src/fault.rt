@@ -4,7 +4,6 @@ ghost use Rattle.tulvorn_c.specs.Faults as faults;
 
 use tulvorn::{
     ConvertFault, DecodeFault, EncodeFault, EncodeIntoFault, JsonFault, LengthFault, ModuleFault,
-    NewerFault,
 };
 
 /// The call did what it was asked for.
@@ -54,9 +53,6 @@ pub(crate) const NO_PATH: u32 = 14;
 
 /// The part at the path is of another kind.
 pub(crate) const OTHER_KIND: u32 = 15;
-
-/// More extension additions than the profile allows.
-const TOO_MANY_ADDITIONS: u32 = 16;
 
 /// What a call answered: a code, and, as the code says, a reason and a place.
 #[repr(C)]
@@ -149,18 +145,6 @@ impl Fault {
             JsonFault::Shape { .. } => Fault::plain(SHAPE),
             JsonFault::NotOfType => Fault::plain(NOT_OF_TYPE),
             JsonFault::Memory => Fault::plain(NO_MEMORY),
-        }
-    }
-
-    pub(crate) fn of_newer(fault: NewerFault) -> Fault
-        ensures { result ≡ faults.of_newer fault }
-    {
-        match fault {
-            NewerFault::Refused => Fault::plain(REFUSED),
-            NewerFault::Truncated => Fault::plain(TRUNCATED),
-            NewerFault::TooManyAdditions => Fault::plain(TOO_MANY_ADDITIONS),
-            NewerFault::Memory => Fault::plain(NO_MEMORY),
-            NewerFault::TooLong => Fault::plain(TOO_LONG),
         }
     }
 

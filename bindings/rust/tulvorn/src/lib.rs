@@ -1,5 +1,5 @@
-//! Values of ASN.1 types by CANONICAL-PER UNALIGNED and Canonical OER, by the proved library Tulvorn, which is linked as a
-//! static library.
+//! Values of ASN.1 types by CANONICAL-PER UNALIGNED and Canonical OER, by the proved library Tulvorn, which is linked as
+//! a static library.
 //!
 //! ```
 //! use tulvorn::{Error, Module, Rules};
@@ -197,8 +197,8 @@ impl fmt::Display for Error {
 
 impl std::error::Error for Error {}
 
-// A handle, which closes itself. It is used by one thread at a time, since it is not `Sync`, and no call that is given it
-// gives control back before it returns: so the call has it alone.
+// A handle, which closes itself. It is used by one thread at a time, since it is not `Sync`, and no call that is given
+// it gives control back before it returns: so the call has it alone.
 struct Held(UnsafeCell<Handle>);
 
 // SAFETY: the library proves `Send` of what a handle holds.

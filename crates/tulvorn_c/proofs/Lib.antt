@@ -1,3 +1,2 @@
 mod HandleValues
 mod LooseValues
-mod ObjectSend

@@ -9,7 +9,7 @@ use Rattle.asn_rules.specs.declared.units.Unit.{Unit}
 use Rattle.asn_rules.specs.declared.units.Unit.TheVariants as unit
 use Rattle.tulvorn_c.specs.declared.object.Object.{Object}
 use Rattle.tulvorn_c.specs.declared.fault.Fault.{Fault}
-use Rattle.tulvorn_c.specs.Faults.{done, no_memory, misuse, of_decode}
+use Rattle.tulvorn_c.specs.Faults.{done, no_memory, misuse}
 use Rattle.tulvorn_c.specs.Held.{held_octets}
 
 -- the version of the library

@@ -15,8 +15,7 @@
  *     its size. No call is made from a signal handler, or from the child that a program with threads has forked.
  *   - The processor is an x86-64 of level v2 or above. A call has stack enough: README.md says how much was seen to do.
  * THREADS. A handle may go to another thread, as by a lock, or by starting or joining that thread. Two threads use one
- * type at once by a handle each: tulvorn_share makes the second. A handle is never used by two threads at once. (That
- * this is safe is tested, and not proved as the answers are.)
+ * type at once by a handle each: tulvorn_share makes the second. A handle is never used by two threads at once.
  * TEXT is UTF-8, by pointer and length, with no NUL at its end.
  * WHO FREES. A handle owns what it holds: tulvorn_close lets it go, and so does a call that puts another object there.
  * Whatever else is passed stays the caller's, and the library keeps no pointer to it.

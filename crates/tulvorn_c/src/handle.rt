@@ -11,7 +11,7 @@ ghost use Rattle.tulvorn_c.specs.Kept.{keeps};
 use crate::loose::Loose;
 use crate::object::Object;
 use std::alloc::{AllocError, Global};
-use std::marker::Model;
+use std::marker::{Model, Send};
 use std::ptr::null_mut;
 
 /// A handle: what C passes to each call by its address. It holds an object, or nothing.
@@ -100,3 +100,6 @@ impl Handle {
         }
     }
 }
+
+// SAFETY: what it holds may cross threads, and no other handle leads to it.
+unsafe impl Send for Handle {}

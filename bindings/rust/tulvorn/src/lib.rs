@@ -201,7 +201,7 @@ impl std::error::Error for Error {}
 // it gives control back before it returns: so the call has it alone.
 struct Held(UnsafeCell<Handle>);
 
-// SAFETY: what handles share, the tree of a type, is counted atomically, and a handle is used by one thread at a time.
+// SAFETY: the library proves `Send` of its handle, and a handle is used by one thread at a time.
 unsafe impl Send for Held {}
 
 impl Held {

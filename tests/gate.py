@@ -11,11 +11,14 @@ usage: tests/gate.py [PART..]      the parts are proofs, edits and tests; all th
    when the crate is proved, on processors that no proof takes.
 3. tests: the programs of tests/programs are built without a proof of their own (tests/room.py), and what they write is
    compared; tests/refused_allocations.sh refuses in turn each allocation of programs; examples/run.sh,
-   tests/versions.py, tests/published.py and tests/installed.sh run the program `asn_tool` as the gate has built it.
+   tests/versions.py, tests/published.py and tests/installed.sh run the program `asn_tool` as the gate has built it;
+   bindings/tests.sh calls the library for C, built without a proof of its own, from four languages, and skips those
+   whose compiler is not there.
 
 What a step writes is shown as it comes: a line for each crate that is proved, and for each group of edits that is tried.
 The end says how many minutes of a processor each part took, and how many by the clock from its first line to its last.
-The last line is 'N passed, M failed': crates, edits, rows of the test programs, and scripts.
+The last line is 'N passed, M failed': crates, edits, rows of the test programs, scripts, and steps of bindings/tests.sh.
+The line before it is 'K skipped' where steps were.
 """
 import glob
 import os
@@ -42,10 +45,11 @@ class Part:
     """A part of the gate: what passed and what failed, which of its steps failed, and how long it took."""
 
     def __init__(self):
-        self.passed, self.failed, self.lost, self.seconds, self.begun, self.ended = 0, 0, [], 0, time.time(), None
+        self.passed, self.failed, self.skipped, self.lost = 0, 0, 0, []
+        self.seconds, self.begun, self.ended = 0, time.time(), None
 
-    def add(self, name, passed, failed):
-        self.passed, self.failed = self.passed + passed, self.failed + failed
+    def add(self, name, passed, failed, skipped=0):
+        self.passed, self.failed, self.skipped = self.passed + passed, self.failed + failed, self.skipped + skipped
         self.lost += [name] * (failed > 0)
         self.ended = time.time()
 
@@ -67,11 +71,16 @@ def ended(ran):
     return used.ru_utime + used.ru_stime
 
 
+def skipped_words(count):
+    return f", {count} skipped" if count else ""
+
+
 def follow(part, ran, hear=None):
-    """Shows what a command writes until it ends. Its line 'N passed, M failed' counts, or else its status does."""
+    """Shows what a command writes until it ends. Its line 'N passed, M failed, K skipped' counts (the last where some
+    were), or else its status does."""
     last = None
     for line in ran.stdout:
-        found = re.match(r"(\d+) passed, (\d+) failed", line)
+        found = re.match(r"(\d+) passed, (\d+) failed(?:, (\d+) skipped)?", line)
         last = found or last
         if not found:
             say(line.rstrip("\n"))
@@ -79,9 +88,10 @@ def follow(part, ran, hear=None):
             hear(line)
     part.seconds += ended(ran)
     passed, failed = (int(last[1]), int(last[2])) if last else (int(ran.returncode == 0), 0)
-    failed = max(failed, int(ran.returncode != 0))
-    say(f"{' '.join(ran.args)}: {passed} passed, {failed} failed{f'; it ended with status {ran.returncode}' if ran.returncode else ''}")
-    part.add(" ".join(ran.args[3:] if ran.args[0] == "nice" else ran.args), passed, failed)
+    failed, skipped = max(failed, int(ran.returncode != 0)), int(last[3] or 0) if last else 0
+    ending = f"; it ended with status {ran.returncode}" if ran.returncode else ""
+    say(f"{' '.join(ran.args)}: {passed} passed, {failed} failed{skipped_words(skipped)}{ending}")
+    part.add(" ".join(ran.args[3:] if ran.args[0] == "nice" else ran.args), passed, failed, skipped)
 
 
 def step(part, words):
@@ -165,6 +175,9 @@ def tests(part):
                 compare(part, room, name)
         step(part, ["tests/octet_counts.py"])
         step(part, ["tests/refused_allocations.sh", room])
+    with tempfile.TemporaryDirectory(prefix="tulvorn-bindings-") as out:
+        step(part, ["bindings/build.sh", "--unproved", out])
+        step(part, ["bindings/tests.sh", out])
     step(part, ["examples/run.sh", TOOL])
     step(part, ["tests/versions.py", TOOL])
     step(part, ["tests/published.py", TOOL])
@@ -204,6 +217,9 @@ def main(names):
     if lost:
         say(f"FAILED: {' '.join(lost)}")
     passed, failed = sum(it.passed for it in parts.values()), sum(it.failed for it in parts.values())
+    skipped = sum(it.skipped for it in parts.values())
+    if skipped:
+        say(f"{skipped} skipped")
     say(f"{passed} passed, {failed} failed")
     return 1 if failed else 0
 

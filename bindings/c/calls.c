@@ -1,0 +1,303 @@
+/* Calls each function of the library, and makes each allocation fail in turn. Exits with 0 where all answers are right,
+   and else with 1 and the line of the first that is not. Linked with -Wl,--wrap=malloc -Wl,--wrap=realloc. */
+#include "tulvorn.h"
+#include <stdio.h>
+#include <stdlib.h>
+#include <string.h>
+
+static long left = -1;   /* allocations until one fails; none fails where it is below 0 */
+static long asked;       /* allocations so far */
+
+void *__real_malloc(size_t size);
+void *__wrap_malloc(size_t size);
+void *__real_realloc(void *block, size_t size);
+void *__wrap_realloc(void *block, size_t size);
+
+static int fails(void) {
+    asked++;
+    if (left > 0) left--;
+    if (left != 0) return 0;
+    left = -1;
+    return 1;
+}
+
+void *__wrap_malloc(size_t size) { return fails() ? NULL : __real_malloc(size); }
+
+void *__wrap_realloc(void *block, size_t size) { return fails() ? NULL : __real_realloc(block, size); }
+
+#define CHECK(holds)                                      \
+    do {                                                  \
+        if (!(holds)) {                                   \
+            printf("line %d: not so: %s\n", __LINE__, #holds); \
+            return 1;                                     \
+        }                                                 \
+    } while (0)
+
+#define TEXT(text) (const uint8_t *)(text), strlen(text)
+
+static const char MODULE[] =
+    "M DEFINITIONS AUTOMATIC TAGS ::= BEGIN\n"
+    "Msg ::= SEQUENCE { id INTEGER (0..7), ok BOOLEAN DEFAULT TRUE, note IA5String (SIZE (0..3)) OPTIONAL }\n"
+    "All ::= SEQUENCE { far INTEGER, colour ENUMERATED { red, green }, key OCTET STRING, bits BIT STRING,\n"
+    "    one CHOICE { number INTEGER (0..255), none NULL }, list SEQUENCE OF Msg, word UTF8String }\n"
+    "END\n";
+
+static const char ALL[] =
+    "{\"far\":-70000000000,\"colour\":\"green\",\"key\":\"00ff10\",\"bits\":\"101\",\"one\":{\"number\":200},"
+    "\"list\":[{\"id\":5,\"note\":\"A\"},{\"id\":0}],\"word\":\"\xc3\xa4\"}";
+
+/* handles of nothing are answered, and closed */
+static int nothing(void) {
+    tulvorn_handle none = TULVORN_NONE, other = TULVORN_NONE;
+    tulvorn_fault fault;
+    uint8_t into[4] = {9, 9, 9, 9};
+    uint32_t word = 7;
+    size_t size = 7;
+    int64_t number = 7;
+    CHECK(tulvorn_interface() == TULVORN_INTERFACE);
+    CHECK(tulvorn_type(&none, TEXT("Msg"), &other, &fault) == TULVORN_MISUSE && fault.code == TULVORN_MISUSE);
+    CHECK(tulvorn_share(&none, &other) == TULVORN_MISUSE);
+    CHECK(tulvorn_check(&none, TULVORN_PER, into, 4, &fault) == TULVORN_MISUSE);
+    CHECK(tulvorn_decode(&none, TULVORN_PER, into, 4, &other, &fault) == TULVORN_MISUSE);
+    CHECK(tulvorn_encode(&none, TULVORN_PER, &other, &fault) == TULVORN_MISUSE);
+    CHECK(tulvorn_encoded_len(&none, TULVORN_PER, &size, &fault) == TULVORN_MISUSE && size == 7);
+    CHECK(tulvorn_encode_into(&none, TULVORN_PER, into, 4, &size, &fault) == TULVORN_MISUSE && into[0] == 9);
+    CHECK(tulvorn_convert(&none, TULVORN_PER, into, 4, &other, &fault) == TULVORN_MISUSE);
+    CHECK(tulvorn_to_json(&none, &other, &fault) == TULVORN_MISUSE);
+    CHECK(tulvorn_from_json(&none, TEXT("{}"), &other, &fault) == TULVORN_MISUSE);
+    CHECK(tulvorn_kind(&none, NULL, 0, &word) == TULVORN_MISUSE && word == 7);
+    CHECK(tulvorn_boolean(&none, NULL, 0, &word) == TULVORN_MISUSE && word == 7);
+    CHECK(tulvorn_integer(&none, NULL, 0, &number) == TULVORN_MISUSE && number == 7);
+    CHECK(tulvorn_count(&none, NULL, 0, &size) == TULVORN_MISUSE && size == 7);
+    CHECK(tulvorn_bit(&none, NULL, 0, 0, &word) == TULVORN_MISUSE && word == 7);
+    CHECK(tulvorn_octets(&none, NULL, 0, into, 4, &size) == TULVORN_MISUSE && size == 7);
+    CHECK(tulvorn_text(&none, NULL, 0, into, 4, &size) == TULVORN_MISUSE && size == 7);
+    CHECK(tulvorn_name(&none, NULL, 0, into, 4, &size) == TULVORN_MISUSE && size == 7);
+    CHECK(tulvorn_copy(&none, into, 4, &size) == TULVORN_MISUSE && size == 7 && into[0] == 9);
+    tulvorn_close(&none);
+    tulvorn_close(&none);
+    CHECK(none.at == NULL && other.at == NULL);
+    return 0;
+}
+
+/* texts that are no module */
+static int modules(void) {
+    tulvorn_handle module = TULVORN_NONE, type = TULVORN_NONE, words = TULVORN_NONE;
+    tulvorn_fault fault;
+    uint8_t into[64];
+    size_t size;
+    CHECK(tulvorn_module(NULL, 0, &module, &fault) == TULVORN_NO_MODULE && fault.why == TULVORN_UNEXPECTED);
+    CHECK(fault.at == 0 && module.at == NULL);
+    static const char unknown[] = "M DEFINITIONS AUTOMATIC TAGS ::= BEGIN T ::= U END";
+    CHECK(tulvorn_module(TEXT(unknown), &module, &fault) == TULVORN_NO_MODULE);
+    CHECK(fault.why == TULVORN_UNKNOWN);
+    CHECK(tulvorn_module(TEXT("M \xff"), &module, &fault) == TULVORN_NOT_TEXT);
+    CHECK(tulvorn_module(TEXT("M %"), &module, &fault) == TULVORN_NO_MODULE && fault.why == TULVORN_BAD_CHARACTER);
+    CHECK(fault.at == 2);
+    CHECK(tulvorn_module(TEXT(MODULE), &module, &fault) == TULVORN_DONE && fault.code == TULVORN_DONE);
+    CHECK(tulvorn_type(&module, TEXT("Other"), &type, &fault) == TULVORN_NO_NAME && type.at == NULL);
+    CHECK(tulvorn_type(&module, TEXT("\xff"), &type, &fault) == TULVORN_NOT_TEXT);
+    CHECK(tulvorn_type(&module, TEXT("Msg"), &type, &fault) == TULVORN_DONE);
+    CHECK(tulvorn_check(&module, TULVORN_PER, NULL, 0, &fault) == TULVORN_MISUSE);
+    CHECK(tulvorn_words(&fault, TULVORN_PER, &words) == TULVORN_DONE);
+    CHECK(tulvorn_copy(&words, into, sizeof into, &size) == TULVORN_DONE);
+    CHECK(size == 6 && memcmp(into, "misuse", 6) == 0);
+    CHECK(tulvorn_copy(&type, into, sizeof into, &size) == TULVORN_MISUSE);
+    tulvorn_close(&module);
+    tulvorn_close(&type);
+    tulvorn_close(&words);
+    return 0;
+}
+
+static int says(const tulvorn_fault *fault, uint32_t rules, const char *wanted) {
+    tulvorn_handle words = TULVORN_NONE;
+    uint8_t into[128];
+    size_t size;
+    CHECK(tulvorn_words(fault, rules, &words) == TULVORN_DONE);
+    CHECK(tulvorn_copy(&words, into, sizeof into, &size) == TULVORN_DONE);
+    if (size != strlen(wanted) || memcmp(into, wanted, size) != 0) {
+        printf("%.*s in the place of %s\n", (int)size, (const char *)into, wanted);
+        return 1;
+    }
+    tulvorn_close(&words);
+    return 0;
+}
+
+/* octets that are an encoding, or are none */
+static int messages(tulvorn_handle *type) {
+    const uint8_t good[2] = {0x6b, 0x04}, bad[1] = {0xac}, more[2] = {0x28, 0x00};
+    tulvorn_handle value = TULVORN_NONE, octets = TULVORN_NONE;
+    tulvorn_fault fault;
+    uint8_t into[16];
+    size_t size;
+    CHECK(tulvorn_check(type, TULVORN_PER, good, 2, &fault) == TULVORN_DONE);
+    CHECK(tulvorn_check(type, 2, good, 2, &fault) == TULVORN_MISUSE);
+    CHECK(tulvorn_check(type, TULVORN_PER, bad, 1, &fault) == TULVORN_REFUSED);
+    CHECK(fault.at == 6 && fault.why == TULVORN_DEFAULT && says(&fault, TULVORN_PER, "refused at bit 6: default") == 0);
+    CHECK(tulvorn_check(type, TULVORN_PER, good, 1, &fault) == TULVORN_TRUNCATED && fault.at == 8);
+    CHECK(says(&fault, TULVORN_PER, "cut short after 8 bits") == 0);
+    CHECK(tulvorn_check(type, TULVORN_PER, more, 2, &fault) == TULVORN_REST && fault.at == 1);
+    CHECK(says(&fault, TULVORN_OER, "octets left after 1") == 0);
+    CHECK(tulvorn_check(type, TULVORN_PER, NULL, 0, &fault) == TULVORN_TRUNCATED && fault.at == 0);
+    CHECK(tulvorn_words(&fault, 2, &value) == TULVORN_MISUSE && value.at == NULL);
+    CHECK(tulvorn_decode(type, TULVORN_PER, bad, 1, &value, &fault) == TULVORN_REFUSED && value.at == NULL);
+    CHECK(tulvorn_decode(type, TULVORN_PER, good, 2, &value, &fault) == TULVORN_DONE);
+    CHECK(tulvorn_decode(type, TULVORN_PER, bad, 1, &value, &fault) == TULVORN_REFUSED && value.at != NULL);
+    CHECK(tulvorn_encode(&value, TULVORN_PER, &octets, &fault) == TULVORN_DONE);
+    CHECK(tulvorn_copy(&octets, into, sizeof into, &size) == TULVORN_DONE && size == 2 && memcmp(into, good, 2) == 0);
+    CHECK(tulvorn_copy(&octets, into, 1, &size) == TULVORN_TOO_SHORT && size == 2);
+    CHECK(tulvorn_copy(&octets, NULL, 0, &size) == TULVORN_TOO_SHORT && size == 2);
+    CHECK(tulvorn_encode(&value, 7, &octets, &fault) == TULVORN_MISUSE && octets.at != NULL);
+    CHECK(tulvorn_encode(&octets, TULVORN_PER, &value, &fault) == TULVORN_MISUSE && value.at != NULL);
+    CHECK(tulvorn_encoded_len(&value, TULVORN_OER, &size, &fault) == TULVORN_DONE && size == 4);
+    memset(into, 9, sizeof into);
+    CHECK(tulvorn_encode_into(&value, TULVORN_OER, into, 3, &size, &fault) == TULVORN_TOO_SHORT && fault.at == 4);
+    CHECK(into[0] == 9 && size == 4 && says(&fault, TULVORN_OER, "too short") == 0);
+    CHECK(tulvorn_encode_into(&value, TULVORN_OER, into, sizeof into, &size, &fault) == TULVORN_DONE && size == 4);
+    CHECK(memcmp(into, "\x40\x05\x01\x41\x09", 5) == 0);
+    CHECK(tulvorn_convert(type, TULVORN_OER, into, 4, &octets, &fault) == TULVORN_DONE);
+    CHECK(tulvorn_copy(&octets, into, sizeof into, &size) == TULVORN_DONE && size == 2 && memcmp(into, good, 2) == 0);
+    CHECK(tulvorn_convert(type, TULVORN_OER, good, 2, &octets, &fault) == TULVORN_REFUSED && octets.at != NULL);
+    CHECK(tulvorn_to_json(&value, &octets, &fault) == TULVORN_DONE);
+    uint8_t json[64];
+    static const char shown[] = "{\"id\":5,\"note\":\"A\",\"ok\":true}";
+    CHECK(tulvorn_copy(&octets, json, sizeof json, &size) == TULVORN_DONE && size == strlen(shown));
+    CHECK(memcmp(json, shown, size) == 0);
+    tulvorn_close(&value);
+    tulvorn_close(&octets);
+    return 0;
+}
+
+static int name_is(tulvorn_handle *value, const char *path, const char *wanted) {
+    uint8_t into[32];
+    size_t size = 0;
+    CHECK(tulvorn_name(value, TEXT(path), into, sizeof into, &size) == TULVORN_DONE);
+    CHECK(size == strlen(wanted) && memcmp(into, wanted, size) == 0);
+    return 0;
+}
+
+/* a value of each kind */
+static int parts(tulvorn_handle *type) {
+    tulvorn_handle value = TULVORN_NONE;
+    tulvorn_fault fault;
+    uint8_t into[16] = {9};
+    uint32_t word;
+    int64_t number = 7;
+    size_t size;
+    CHECK(tulvorn_from_json(type, TEXT("{"), &value, &fault) == TULVORN_NO_JSON && value.at == NULL);
+    CHECK(tulvorn_from_json(type, TEXT("{}"), &value, &fault) == TULVORN_SHAPE);
+    CHECK(tulvorn_from_json(type, TEXT(ALL), &value, &fault) == TULVORN_DONE);
+    CHECK(tulvorn_integer(&value, TEXT("far"), &number) == TULVORN_DONE && number == -70000000000);
+    CHECK(tulvorn_integer(&value, TEXT("one.number"), &number) == TULVORN_DONE && number == 200);
+    CHECK(tulvorn_integer(&value, TEXT("list[0].id"), &number) == TULVORN_DONE && number == 5);
+    CHECK(tulvorn_integer(&value, TEXT("$.list[1].id"), &number) == TULVORN_DONE && number == 0);
+    CHECK(tulvorn_integer(&value, TEXT("list[2].id"), &number) == TULVORN_NO_PATH && number == 0);
+    CHECK(tulvorn_integer(&value, TEXT("key"), &number) == TULVORN_OTHER_KIND && number == 0);
+    CHECK(tulvorn_integer(&value, TEXT("\xff"), &number) == TULVORN_NOT_TEXT);
+    CHECK(tulvorn_boolean(&value, TEXT("list[0].ok"), &word) == TULVORN_DONE && word == 1);
+    CHECK(tulvorn_boolean(&value, TEXT("far"), &word) == TULVORN_OTHER_KIND && word == 1);
+    CHECK(tulvorn_text(&value, TEXT("list[0].note"), into, sizeof into, &size) == TULVORN_DONE && size == 1);
+    CHECK(into[0] == 'A');
+    CHECK(tulvorn_text(&value, TEXT("list[1].note"), into, sizeof into, &size) == TULVORN_NO_PATH);
+    CHECK(tulvorn_text(&value, TEXT("word"), into, sizeof into, &size) == TULVORN_DONE && size == 2);
+    CHECK(tulvorn_text(&value, TEXT("key"), into, sizeof into, &size) == TULVORN_OTHER_KIND);
+    CHECK(tulvorn_octets(&value, TEXT("key"), into, 2, &size) == TULVORN_TOO_SHORT && size == 3 && into[0] == 0xc3);
+    CHECK(tulvorn_octets(&value, TEXT("key"), into, 3, &size) == TULVORN_DONE && memcmp(into, "\x00\xff\x10", 3) == 0);
+    CHECK(tulvorn_octets(&value, TEXT("word"), into, 3, &size) == TULVORN_OTHER_KIND);
+    CHECK(name_is(&value, "colour", "green") == 0 && name_is(&value, "one", "number") == 0);
+    CHECK(tulvorn_name(&value, TEXT("far"), into, 3, &size) == TULVORN_OTHER_KIND);
+    CHECK(tulvorn_count(&value, TEXT("list"), &size) == TULVORN_DONE && size == 2);
+    CHECK(tulvorn_count(&value, TEXT("bits"), &size) == TULVORN_DONE && size == 3);
+    CHECK(tulvorn_count(&value, NULL, 0, &size) == TULVORN_DONE && size == 0);
+    CHECK(tulvorn_bit(&value, TEXT("bits"), 1, &word) == TULVORN_DONE && word == 0);
+    CHECK(tulvorn_bit(&value, TEXT("bits"), 2, &word) == TULVORN_DONE && word == 1);
+    CHECK(tulvorn_bit(&value, TEXT("bits"), 3, &word) == TULVORN_OTHER_KIND && word == 1);
+    static const char *const paths[10] = {"list[0].ok", "one.none", "far", "colour", "bits",
+                                          "key",        "word",     "",    "list",   "one"};
+    for (uint32_t kind = 1; kind <= 10; kind++) {
+        if (kind == TULVORN_NULL) continue;
+        CHECK(tulvorn_kind(&value, TEXT(paths[kind - 1]), &word) == TULVORN_DONE && word == kind);
+    }
+    tulvorn_close(&value);
+    return 0;
+}
+
+/* each call that allocates, with each of its allocations failing in turn: it answers NO_MEMORY, and its handle is as
+   it was; or it does what it was asked for */
+#define EACH_FAILS(handle, call)                                         \
+    do {                                                                 \
+        tulvorn_handle handle = TULVORN_NONE;                            \
+        asked = 0;                                                       \
+        CHECK((call) == TULVORN_DONE);                                   \
+        long count = asked;                                              \
+        CHECK(count > 0);                                                \
+        tulvorn_close(&handle);                                          \
+        for (long at = 1; at <= count; at++) {                           \
+            left = at;                                                   \
+            uint32_t code = (call);                                      \
+            CHECK(left == -1);                                           \
+            /* (a call may go on where a block that it only hoped for was refused) */ \
+            CHECK(code == TULVORN_DONE || (code == TULVORN_NO_MEMORY && handle.at == NULL)); \
+            if (code == TULVORN_NO_MEMORY) refused++;                    \
+            tulvorn_close(&handle);                                      \
+        }                                                                \
+        CHECK((call) == TULVORN_DONE);                                   \
+        tulvorn_close(&handle);                                          \
+    } while (0)
+
+static int memory(tulvorn_handle *module, tulvorn_handle *msg, tulvorn_handle *all, long *count) {
+    const uint8_t good[2] = {0x6b, 0x04};
+    tulvorn_handle value = TULVORN_NONE;
+    tulvorn_fault fault;
+    uint8_t into[64];
+    int64_t number;
+    size_t size;
+    long refused = 0;
+    CHECK(tulvorn_from_json(all, TEXT(ALL), &value, &fault) == TULVORN_DONE);
+    EACH_FAILS(it, tulvorn_module(TEXT(MODULE), &it, &fault));
+    EACH_FAILS(it, tulvorn_type(module, TEXT("All"), &it, &fault));
+    EACH_FAILS(it, tulvorn_share(all, &it));
+    EACH_FAILS(it, tulvorn_decode(msg, TULVORN_PER, good, 2, &it, &fault));
+    EACH_FAILS(it, tulvorn_encode(&value, TULVORN_OER, &it, &fault));
+    EACH_FAILS(it, tulvorn_convert(msg, TULVORN_PER, good, 2, &it, &fault));
+    EACH_FAILS(it, tulvorn_from_json(all, TEXT(ALL), &it, &fault));
+    EACH_FAILS(it, tulvorn_to_json(&value, &it, &fault));
+    EACH_FAILS(it, tulvorn_words(&fault, TULVORN_PER, &it));
+    /* and those that take no memory */
+    asked = 0;
+    CHECK(tulvorn_encoded_len(&value, TULVORN_PER, &size, &fault) == TULVORN_DONE);
+    CHECK(tulvorn_encode_into(&value, TULVORN_PER, into, sizeof into, &size, &fault) == TULVORN_DONE);
+    CHECK(tulvorn_octets(&value, TEXT("key"), into, sizeof into, &size) == TULVORN_DONE);
+    CHECK(tulvorn_text(&value, TEXT("list[0].note"), into, sizeof into, &size) == TULVORN_DONE);
+    CHECK(tulvorn_name(&value, TEXT("colour"), into, sizeof into, &size) == TULVORN_DONE);
+    CHECK(tulvorn_integer(&value, TEXT("one.number"), &number) == TULVORN_DONE && number == 200);
+    CHECK(tulvorn_version(into, sizeof into, &size) == TULVORN_DONE && asked == 0);
+    tulvorn_close(&value);
+    *count = refused;
+    return 0;
+}
+
+static int calls(long *refused) {
+    tulvorn_handle module = TULVORN_NONE, msg = TULVORN_NONE, all = TULVORN_NONE, other = TULVORN_NONE;
+    tulvorn_fault fault;
+    CHECK(nothing() == 0 && modules() == 0);
+    CHECK(tulvorn_module(TEXT(MODULE), &module, &fault) == TULVORN_DONE);
+    CHECK(tulvorn_type(&module, TEXT("Msg"), &msg, &fault) == TULVORN_DONE);
+    CHECK(tulvorn_type(&module, TEXT("All"), &all, &fault) == TULVORN_DONE);
+    CHECK(memory(&module, &msg, &all, refused) == 0);
+    /* a type outlives its module and its first handle */
+    CHECK(tulvorn_share(&module, &other) == TULVORN_MISUSE && tulvorn_share(&msg, &other) == TULVORN_DONE);
+    tulvorn_close(&module);
+    tulvorn_close(&msg);
+    CHECK(messages(&other) == 0 && parts(&all) == 0);
+    tulvorn_close(&other);
+    tulvorn_close(&all);
+    return 0;
+}
+
+int main(void) {
+    long refused = 0;
+    if (calls(&refused)) return 1;
+    printf("C: passed, with %ld allocations refused\n", refused);
+    return 0;
+}

@@ -1,0 +1,228 @@
+/* Tulvorn for C and C++: values of ASN.1 types by CANONICAL-PER UNALIGNED and Canonical OER.
+ *
+ * A handle holds one object of the library: a module, a type, a value beside its type, or octets. A call that gives an
+ * object takes the handle that it is to be put into, and lets go of what that handle held. Each call but tulvorn_close
+ * and tulvorn_interface answers a code, TULVORN_DONE where it did what it was asked for. On every other answer each
+ * handle is as it was, and so are the octets that were to be written; the text of a function says what else is written.
+ * Nothing is kept between calls but what handles hold: there is no state of the library's own.
+ *
+ * WHAT THE CALLER OWES. Nothing checks it, and a call for which it does not hold may do anything.
+ *   - A handle begins as TULVORN_NONE, is changed by calls of the library alone, and is never copied.
+ *   - A call is given no handle twice, and no two of the places that it writes overlap one another or what it reads.
+ *   - What a call is given, handles too, is used by nothing else until the call returns.
+ *   - Pointers are not null, but that to data of which the length is 0. Lengths are those of the memory, below 2^63.
+ *   - malloc, realloc and free are those of one allocator, and align a block to each power of two up to 16 that divides
+ *     its size. No call is made from a signal handler, or from the child that a program with threads has forked.
+ *   - The processor is an x86-64 of level v2 or above. A call has stack enough: README.md says how much was seen to do.
+ * THREADS. A handle may go to another thread, as by a lock, or by starting or joining that thread. Two threads use one
+ * type at once by a handle each: tulvorn_share makes the second. A handle is never used by two threads at once.
+ * TEXT is UTF-8, by pointer and length, with no NUL at its end.
+ * WHO FREES. A handle owns what it holds: tulvorn_close lets it go, and so does a call that puts another object there.
+ * Whatever else is passed stays the caller's, and the library keeps no pointer to it.
+ */
+#ifndef TULVORN_H
+#define TULVORN_H
+
+#include <stddef.h>
+#include <stdint.h>
+
+#ifdef __cplusplus
+extern "C" {
+#endif
+
+/* The number of this header. It grows with each change after which a program has to be compiled anew. */
+#define TULVORN_INTERFACE 1
+
+/* What holds an object, or nothing. It is never copied: the copy would be let go too. */
+typedef struct tulvorn_handle {
+    void *at; /* not for the caller */
+} tulvorn_handle;
+
+#define TULVORN_NONE \
+    { NULL }
+
+/* ---- encoding rules: a call that is given another number answers TULVORN_MISUSE */
+enum {
+    TULVORN_PER = 0, /* CANONICAL-PER UNALIGNED (X.691); its unit is the bit */
+    TULVORN_OER = 1  /* Canonical OER (X.696); its unit is the octet */
+};
+
+/* ---- codes */
+enum {
+    TULVORN_DONE = 0,
+    TULVORN_NO_MEMORY = 1,          /* an allocation failed */
+    TULVORN_MISUSE = 2,             /* a handle holds nothing, or another kind of object; or the rules are none */
+    TULVORN_REFUSED = 3,            /* no encoding begins so: `at` is the first unit after which none can */
+    TULVORN_TRUNCATED = 4,          /* an encoding may still follow: `at` units were taken */
+    TULVORN_REST = 5,               /* the first `at` octets are an encoding, and more follow */
+    TULVORN_TOO_LONG = 6,           /* more than 268,435,455 octets */
+    TULVORN_TOO_SHORT = 7,          /* the caller's octets are fewer than those to be written */
+    TULVORN_NOT_TEXT = 8,           /* a text is not UTF-8 */
+    TULVORN_NO_MODULE = 9,          /* the text is no module: `why` below, `at` an octet of it, from 0, or 0 */
+    TULVORN_NO_NAME = 10,           /* the module has no type of that name */
+    TULVORN_NOT_OF_TYPE = 11,       /* the value is none of the type */
+    TULVORN_NO_JSON = 12,           /* the text is no JSON */
+    TULVORN_SHAPE = 13,             /* the JSON is not of the shape of the type */
+    TULVORN_NO_PATH = 14,           /* the value has no part there, or it is absent and has no DEFAULT */
+    TULVORN_OTHER_KIND = 15         /* the part there is of another kind */
+};
+
+/* ---- why, where octets are TULVORN_REFUSED: what was being read */
+enum {
+    TULVORN_SEALED = 1,    /* the last unit of an open type field or a UTF8String: its content is not one */
+    TULVORN_DEFAULT = 2,   /* the value of a component with a DEFAULT */
+    TULVORN_LENGTH = 3,    /* a length or a quantity */
+    TULVORN_EXTENSION = 4, /* an extension bit, or the number or the presence bits of extension additions */
+    TULVORN_CHARACTER = 5, /* a character of a string */
+    TULVORN_PADDING = 6,   /* the zeros that fill an octet */
+    TULVORN_NUMBER = 7     /* anything else */
+};
+
+/* ---- why, where a text is TULVORN_NO_MODULE */
+enum {
+    TULVORN_BAD_CHARACTER = 1,  /* a character that begins no token, at `at` */
+    TULVORN_UNEXPECTED = 2,     /* a token with which no module can go on, or the end of the text, at `at` */
+    TULVORN_UNKNOWN = 3,        /* a reference to a name that is not assigned */
+    TULVORN_CYCLE = 4,          /* an assignment whose references lead back to itself */
+    TULVORN_TWICE = 5,          /* a name that is assigned twice */
+    TULVORN_BAD_TYPE = 6,       /* an assignment whose type is none of the profile */
+    TULVORN_OUT_OF_PROFILE = 7  /* a word, a number or a constraint that the profile does not have, at `at` */
+};
+
+/* What a call answered: the code that it returns, and with some codes a reason and a place. Units are bits of PER and
+   octets of OER, counted from 1. */
+typedef struct tulvorn_fault {
+    uint32_t code, why;
+    uint64_t at;
+} tulvorn_fault;
+
+/* ---- modules and types */
+
+/* Reads the text of a module (X.680, in the notation of the profile), and puts the module into `module`.
+   Answers NOT_TEXT, NO_MODULE, NO_MEMORY. */
+uint32_t tulvorn_module(const uint8_t *text, size_t len, tulvorn_handle *module, tulvorn_fault *fault);
+
+/* Puts the type that the module assigns to the name into `type`. It outlives the module, which is as it was.
+   Answers MISUSE where `module` holds no module, NOT_TEXT, NO_NAME, NO_MEMORY. */
+uint32_t tulvorn_type(tulvorn_handle *module, const uint8_t *name, size_t len, tulvorn_handle *type,
+                      tulvorn_fault *fault);
+
+/* Puts another handle of the same type into `other`, for another thread, say. Both share one tree.
+   Answers MISUSE where `type` holds no type, NO_MEMORY. */
+uint32_t tulvorn_share(tulvorn_handle *type, tulvorn_handle *other);
+
+/* ---- messages. Each answers MISUSE where its first handle holds no type, or no value, or the rules are none. */
+
+/* Whether the octets are the encoding of a value of the type.
+   Answers REFUSED, TRUNCATED, REST, TOO_LONG, NO_MEMORY. */
+uint32_t tulvorn_check(tulvorn_handle *type, uint32_t rules, const uint8_t *octets, size_t len, tulvorn_fault *fault);
+
+/* Puts the value whose encoding the octets are into `value`, beside its type. Answers as tulvorn_check does. */
+uint32_t tulvorn_decode(tulvorn_handle *type, uint32_t rules, const uint8_t *octets, size_t len, tulvorn_handle *value,
+                        tulvorn_fault *fault);
+
+/* Puts the encoding of the value into `octets`. Answers NOT_OF_TYPE, TOO_LONG, NO_MEMORY. */
+uint32_t tulvorn_encode(tulvorn_handle *value, uint32_t rules, tulvorn_handle *octets, tulvorn_fault *fault);
+
+/* Tells in `encoded` how many octets the encoding of the value has. Takes no memory. Answers NOT_OF_TYPE, TOO_LONG, and
+   `encoded` is as it was then. */
+uint32_t tulvorn_encoded_len(tulvorn_handle *value, uint32_t rules, size_t *encoded, tulvorn_fault *fault);
+
+/* Puts the encoding of the value into the first of the `len` octets at `into`, and tells in `encoded` how many it has;
+   the others are as they were. Takes no memory. Answers NOT_OF_TYPE, TOO_LONG, and TOO_SHORT, where `at` of the fault
+   is how many octets are wanted; then all octets, and `encoded`, are as they were. */
+uint32_t tulvorn_encode_into(tulvorn_handle *value, uint32_t rules, uint8_t *into, size_t len, size_t *encoded,
+                             tulvorn_fault *fault);
+
+/* Puts into `other` the octets by the other rules of the value whose encoding by `rules` the octets are.
+   Answers as tulvorn_check does; TOO_LONG also where the value has no encoding by the other rules of so few octets. */
+uint32_t tulvorn_convert(tulvorn_handle *type, uint32_t rules, const uint8_t *octets, size_t len, tulvorn_handle *other,
+                         tulvorn_fault *fault);
+
+/* ---- JSON */
+
+/* Puts the text of the JSON of the value into `json`, as octets. Answers MISUSE where `value` holds no value,
+   NOT_OF_TYPE, NO_MEMORY. */
+uint32_t tulvorn_to_json(tulvorn_handle *value, tulvorn_handle *json, tulvorn_fault *fault);
+
+/* Puts the value of the type that the JSON shows into `value`. Answers MISUSE where `type` holds no type, NO_JSON,
+   SHAPE, NOT_OF_TYPE, NO_MEMORY. */
+uint32_t tulvorn_from_json(tulvorn_handle *type, const uint8_t *json, size_t len, tulvorn_handle *value,
+                           tulvorn_fault *fault);
+
+/* ---- the parts of a value, by a path such as coreData.speed or path[3].x. The path is cut at each `.`, `[` and `]`; a
+   piece of digits is the index of an element, counted from 0, and any other the name of a component or of the chosen
+   alternative; an absent component is its DEFAULT. The empty path is the value itself. No call here takes memory. Each
+   answers MISUSE where `value` holds no value, NOT_TEXT, NO_PATH, and OTHER_KIND where the part is of another kind
+   than the call is for; the part is not told then. */
+
+/* ---- kinds */
+enum {
+    TULVORN_BOOLEAN = 1,
+    TULVORN_NULL = 2,
+    TULVORN_INTEGER = 3,
+    TULVORN_ENUMERATED = 4,
+    TULVORN_BIT_STRING = 5,
+    TULVORN_OCTET_STRING = 6,
+    TULVORN_CHARACTER_STRING = 7, /* IA5String, NumericString, VisibleString or UTF8String */
+    TULVORN_SEQUENCE = 8,
+    TULVORN_SEQUENCE_OF = 9,
+    TULVORN_CHOICE = 10
+};
+
+/* The kind of the part's type, in `kind`. Never OTHER_KIND. */
+uint32_t tulvorn_kind(tulvorn_handle *value, const uint8_t *path, size_t len, uint32_t *kind);
+
+/* The value of a BOOLEAN, 0 or 1, in `truth`. */
+uint32_t tulvorn_boolean(tulvorn_handle *value, const uint8_t *path, size_t len, uint32_t *truth);
+
+/* The value of an INTEGER, in `number`: those of the profile have 64 bits. */
+uint32_t tulvorn_integer(tulvorn_handle *value, const uint8_t *path, size_t len, int64_t *number);
+
+/* How many elements a SEQUENCE OF has, or bits, octets or characters a string (a UTF8String octets), in `count`; 0 of a
+   value of another kind. Never OTHER_KIND. */
+uint32_t tulvorn_count(tulvorn_handle *value, const uint8_t *path, size_t len, size_t *count);
+
+/* The bit of a BIT STRING at `index`, counted from 0, 0 or 1, in `bit`. OTHER_KIND too where there are not so many. */
+uint32_t tulvorn_bit(tulvorn_handle *value, const uint8_t *path, size_t len, size_t index, uint32_t *bit);
+
+/* Each of these writes octets to the front of `into`, which has `room` of them, and tells in `needed` how many they
+   are, also where it answers TOO_SHORT since `room` is less; then `into` is as it was, and may be null where `room` is
+   0. */
+
+/* The octets of an OCTET STRING. */
+uint32_t tulvorn_octets(tulvorn_handle *value, const uint8_t *path, size_t len, uint8_t *into, size_t room,
+                        size_t *needed);
+
+/* The characters of a character string, in UTF-8. */
+uint32_t tulvorn_text(tulvorn_handle *value, const uint8_t *path, size_t len, uint8_t *into, size_t room,
+                      size_t *needed);
+
+/* The name of the item of an ENUMERATED, or of the chosen alternative of a CHOICE. */
+uint32_t tulvorn_name(tulvorn_handle *value, const uint8_t *path, size_t len, uint8_t *into, size_t room,
+                      size_t *needed);
+
+/* ---- octets and words */
+
+/* Writes the octets that the handle holds likewise. Answers MISUSE where it holds none, TOO_SHORT. */
+uint32_t tulvorn_copy(tulvorn_handle *octets, uint8_t *into, size_t room, size_t *needed);
+
+/* Puts the words of a fault into `words`, as octets, its places counted in the unit of the rules: `refused at bit 6:
+   default`. Answers MISUSE where the rules are none, NO_MEMORY. */
+uint32_t tulvorn_words(const tulvorn_fault *fault, uint32_t rules, tulvorn_handle *words);
+
+/* Writes the version of the library, as tulvorn_copy does. That of a library that was built without a proof ends with
+   `not proved`. */
+uint32_t tulvorn_version(uint8_t *into, size_t room, size_t *needed);
+
+/* TULVORN_INTERFACE of the header that the library was built with. */
+uint32_t tulvorn_interface(void);
+
+/* Lets go of what the handle holds. It holds nothing then, and may be closed or filled again. */
+void tulvorn_close(tulvorn_handle *held);
+
+#ifdef __cplusplus
+}
+#endif
+
+#endif

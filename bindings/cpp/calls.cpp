@@ -1,0 +1,69 @@
+// Calls the library from C++, and ends with 0 where each answer is right.
+#include "tulvorn.hpp"
+#include <cstdio>
+#include <thread>
+
+using namespace tulvorn;
+
+static const char *const MODULE = "M DEFINITIONS AUTOMATIC TAGS ::= BEGIN\n"
+                                  "Msg ::= SEQUENCE { id INTEGER (0..7), ok BOOLEAN DEFAULT TRUE,\n"
+                                  "    note IA5String (SIZE (0..3)) OPTIONAL,\n"
+                                  "    colour ENUMERATED { red, green } OPTIONAL,\n"
+                                  "    key OCTET STRING OPTIONAL, bits BIT STRING OPTIONAL }\n"
+                                  "END\n";
+
+static int failed = 0;
+
+static void check(bool holds, const char *what) {
+    if (!holds) {
+        std::printf("not so: %s\n", what);
+        failed = 1;
+    }
+}
+
+#define CHECK(holds) check(holds, #holds)
+
+template <class Call> static uint32_t code_of(Call call) {
+    try {
+        call();
+        return TULVORN_DONE;
+    } catch (const Fault &fault) {
+        return fault.code();
+    }
+}
+
+int main() {
+    Module module(MODULE);
+    Type type = module.type("Msg");
+    CHECK(code_of([&] { module.type("Other"); }) == TULVORN_NO_NAME);
+    CHECK(code_of([&] { Module wrong("M"); }) == TULVORN_NO_MODULE);
+    Value value = type.from_json(R"({"id":5,"note":"A","colour":"green","key":"00ff","bits":"10"})");
+    CHECK(value.integer("id") == 5 && value.boolean("ok") && value.text("note") == "A");
+    CHECK(value.name("colour") == "green");
+    CHECK(value.octets("key") == (Octets{0, 255}) && value.count("bits") == 2);
+    CHECK(value.bit("bits", 0) && !value.bit("bits", 1));
+    CHECK(value.has("note") && !value.has("other") && value.kind("") == TULVORN_SEQUENCE);
+    for (Rules rules : {Rules::Per, Rules::Oer}) {
+        Octets octets = value.encode(rules), into(octets.size());
+        CHECK(value.encoded_len(rules) == octets.size());
+        CHECK(value.encode_into(rules, into.data(), into.size()) == octets.size() && into == octets);
+        CHECK(code_of([&] { value.encode_into(rules, into.data(), into.size() - 1); }) == TULVORN_TOO_SHORT);
+        CHECK(!type.fault_if(rules, octets) && type.decode(rules, octets).to_json() == value.to_json());
+        Octets other = type.convert(rules, octets);
+        CHECK(other == value.encode(rules == Rules::Per ? Rules::Oer : Rules::Per));
+        octets.pop_back();
+        CHECK(type.fault_if(rules, octets)->code == TULVORN_TRUNCATED);
+        CHECK(code_of([&] { type.decode(rules, octets); }) == TULVORN_TRUNCATED);
+    }
+    // a type in another thread, and a value that is moved
+    std::thread thread([shared = type.share()] { CHECK(shared.from_json(R"({"id":7})").integer("id") == 7); });
+    thread.join();
+    Value moved(std::move(value));
+    CHECK(moved.integer("id") == 5 && code_of([&] { value.integer("id"); }) == TULVORN_MISUSE);
+    try {
+        type.decode(Rules::Per, Octets{0xac, 0});
+    } catch (const Fault &fault) {
+        std::printf("C++: %s, %s\n", fault.what(), failed ? "FAILED" : "passed");
+    }
+    return failed;
+}

@@ -1,0 +1,274 @@
+// Tulvorn for C++17: handles that close themselves, and faults as exceptions. Header only, over tulvorn.h and its
+// library.
+//
+// A Module, Type or Value is moved and not copied; Type::share makes another of a type, for another thread. No object
+// is used by two threads at once. A call that does not do what it was asked for throws tulvorn::Fault, or
+// std::bad_alloc where an allocation failed; the functions that end in _if answer instead.
+#ifndef TULVORN_HPP
+#define TULVORN_HPP
+
+#include "tulvorn.h"
+#include <cstdint>
+#include <new>
+#include <optional>
+#include <stdexcept>
+#include <string>
+#include <string_view>
+#include <type_traits>
+#include <utility>
+#include <vector>
+
+namespace tulvorn {
+
+enum class Rules : uint32_t { Per = TULVORN_PER, Oer = TULVORN_OER };
+
+using Octets = std::vector<uint8_t>;
+
+// Octets that stand one after the other: of a vector, an array, a std::span.
+class OctetsView {
+  public:
+    OctetsView(const uint8_t *data, size_t size) : data_(data), size_(size) {}
+    template <class T, class Data = decltype(std::declval<const T &>().data()),
+              class = std::enable_if_t<std::is_convertible_v<Data, const uint8_t *>>>
+    OctetsView(const T &octets) : data_(octets.data()), size_(octets.size()) {}
+    const uint8_t *data() const { return data_; }
+    size_t size() const { return size_; }
+
+  private:
+    const uint8_t *data_;
+    size_t size_;
+};
+
+namespace detail {
+
+inline const uint8_t *octets_of(std::string_view text) { return reinterpret_cast<const uint8_t *>(text.data()); }
+
+class Handle {
+  public:
+    Handle() = default;
+    Handle(const Handle &) = delete;
+    Handle &operator=(const Handle &) = delete;
+    Handle(Handle &&other) noexcept : held_(other.held_) { other.held_ = TULVORN_NONE; }
+    Handle &operator=(Handle &&other) noexcept {
+        std::swap(held_, other.held_);
+        return *this;
+    }
+    ~Handle() { tulvorn_close(&held_); }
+    tulvorn_handle *get() const { return &held_; }
+
+  private:
+    mutable tulvorn_handle held_ = TULVORN_NONE;
+};
+
+inline std::string text_of(Handle &held) {
+    size_t size = 0;
+    tulvorn_copy(held.get(), nullptr, 0, &size);
+    std::string text(size, '\0');
+    tulvorn_copy(held.get(), reinterpret_cast<uint8_t *>(text.data()), size, &size);
+    return text;
+}
+
+inline Octets octets_of(Handle &held) {
+    size_t size = 0;
+    tulvorn_copy(held.get(), nullptr, 0, &size);
+    Octets octets(size);
+    tulvorn_copy(held.get(), octets.data(), size, &size);
+    return octets;
+}
+
+inline std::string words_of(const tulvorn_fault &fault, Rules rules) {
+    Handle words;
+    if (tulvorn_words(&fault, static_cast<uint32_t>(rules), words.get()) != TULVORN_DONE) throw std::bad_alloc();
+    return text_of(words);
+}
+
+}  // namespace detail
+
+// Why a call did not do what it was asked for: its code, reason and place are those of tulvorn.h.
+class Fault : public std::runtime_error {
+  public:
+    Fault(const tulvorn_fault &fault, Rules rules)
+        : std::runtime_error(detail::words_of(fault, rules)), fault_(fault) {}
+    uint32_t code() const { return fault_.code; }
+    uint32_t why() const { return fault_.why; }
+    uint64_t at() const { return fault_.at; }
+
+  private:
+    tulvorn_fault fault_;
+};
+
+namespace detail {
+
+inline void look(uint32_t code, const tulvorn_fault &fault, Rules rules = Rules::Per) {
+    if (code == TULVORN_DONE) return;
+    if (code == TULVORN_NO_MEMORY) throw std::bad_alloc();
+    throw Fault(fault, rules);
+}
+
+inline void look(uint32_t code) { look(code, tulvorn_fault{code, 0, 0}); }
+
+}  // namespace detail
+
+// A value beside its type. Its parts are told by paths, as coreData.speed or path[3].x.
+class Value {
+  public:
+    Octets encode(Rules rules) const {
+        detail::Handle octets;
+        tulvorn_fault fault;
+        detail::look(tulvorn_encode(held_.get(), static_cast<uint32_t>(rules), octets.get(), &fault), fault, rules);
+        return detail::octets_of(octets);
+    }
+    size_t encoded_len(Rules rules) const {
+        size_t size = 0;
+        tulvorn_fault fault;
+        detail::look(tulvorn_encoded_len(held_.get(), static_cast<uint32_t>(rules), &size, &fault), fault, rules);
+        return size;
+    }
+    // Puts the encoding into the first octets at `into`, and gives how many it has. Takes no memory.
+    size_t encode_into(Rules rules, uint8_t *into, size_t room) const {
+        size_t size = 0;
+        tulvorn_fault fault;
+        auto code = tulvorn_encode_into(held_.get(), static_cast<uint32_t>(rules), into, room, &size, &fault);
+        detail::look(code, fault, rules);
+        return size;
+    }
+    std::string to_json() const {
+        detail::Handle json;
+        tulvorn_fault fault;
+        detail::look(tulvorn_to_json(held_.get(), json.get(), &fault), fault);
+        return detail::text_of(json);
+    }
+    // Whether there is a part at the path: false where a component is absent and has no DEFAULT.
+    bool has(std::string_view path) const {
+        uint32_t kind;
+        uint32_t code = tulvorn_kind(held_.get(), detail::octets_of(path), path.size(), &kind);
+        if (code == TULVORN_NO_PATH) return false;
+        detail::look(code);
+        return true;
+    }
+    uint32_t kind(std::string_view path) const {
+        uint32_t kind = 0;
+        detail::look(tulvorn_kind(held_.get(), detail::octets_of(path), path.size(), &kind));
+        return kind;
+    }
+    int64_t integer(std::string_view path) const {
+        int64_t number = 0;
+        detail::look(tulvorn_integer(held_.get(), detail::octets_of(path), path.size(), &number));
+        return number;
+    }
+    bool boolean(std::string_view path) const {
+        uint32_t truth = 0;
+        detail::look(tulvorn_boolean(held_.get(), detail::octets_of(path), path.size(), &truth));
+        return truth != 0;
+    }
+    size_t count(std::string_view path) const {
+        size_t count = 0;
+        detail::look(tulvorn_count(held_.get(), detail::octets_of(path), path.size(), &count));
+        return count;
+    }
+    bool bit(std::string_view path, size_t index) const {
+        uint32_t bit = 0;
+        detail::look(tulvorn_bit(held_.get(), detail::octets_of(path), path.size(), index, &bit));
+        return bit != 0;
+    }
+    Octets octets(std::string_view path) const { return string_at<Octets>(tulvorn_octets, path); }
+    std::string text(std::string_view path) const { return string_at<std::string>(tulvorn_text, path); }
+    // The name of the item of an ENUMERATED, or of the chosen alternative of a CHOICE.
+    std::string name(std::string_view path) const { return string_at<std::string>(tulvorn_name, path); }
+
+  private:
+    friend class Type;
+    using Call = uint32_t (*)(tulvorn_handle *, const uint8_t *, size_t, uint8_t *, size_t, size_t *);
+    template <class String> String string_at(Call call, std::string_view path) const {
+        String string;
+        size_t size = 0;
+        uint32_t code = call(held_.get(), detail::octets_of(path), path.size(), nullptr, 0, &size);
+        if (code == TULVORN_TOO_SHORT) {
+            string.resize(size);
+            auto *into = reinterpret_cast<uint8_t *>(string.data());
+            code = call(held_.get(), detail::octets_of(path), path.size(), into, size, &size);
+        }
+        detail::look(code);
+        return string;
+    }
+    detail::Handle held_;
+};
+
+// A type of a module. It outlives the module.
+class Type {
+  public:
+    // Another handle of the same type, for another thread.
+    Type share() const {
+        Type other;
+        detail::look(tulvorn_share(held_.get(), other.held_.get()));
+        return other;
+    }
+    // The fault where the octets are no encoding of a value of the type.
+    std::optional<tulvorn_fault> fault_if(Rules rules, OctetsView octets) const {
+        tulvorn_fault fault;
+        uint32_t code = tulvorn_check(held_.get(), static_cast<uint32_t>(rules), octets.data(), octets.size(), &fault);
+        if (code == TULVORN_NO_MEMORY) throw std::bad_alloc();
+        if (code == TULVORN_DONE) return std::nullopt;
+        return fault;
+    }
+    Value decode(Rules rules, OctetsView octets) const {
+        Value value;
+        tulvorn_fault fault;
+        auto by = static_cast<uint32_t>(rules);
+        auto code = tulvorn_decode(held_.get(), by, octets.data(), octets.size(), value.held_.get(), &fault);
+        detail::look(code, fault, rules);
+        return value;
+    }
+    // The octets by the other rules of the value whose encoding by these rules the octets are.
+    Octets convert(Rules rules, OctetsView octets) const {
+        detail::Handle other;
+        tulvorn_fault fault;
+        auto by = static_cast<uint32_t>(rules);
+        auto code = tulvorn_convert(held_.get(), by, octets.data(), octets.size(), other.get(), &fault);
+        detail::look(code, fault, rules);
+        return detail::octets_of(other);
+    }
+    Value from_json(std::string_view json) const {
+        Value value;
+        tulvorn_fault fault;
+        auto code = tulvorn_from_json(held_.get(), detail::octets_of(json), json.size(), value.held_.get(), &fault);
+        detail::look(code, fault);
+        return value;
+    }
+
+  private:
+    friend class Module;
+    detail::Handle held_;
+};
+
+// A module that was read.
+class Module {
+  public:
+    explicit Module(std::string_view text) {
+        tulvorn_fault fault;
+        detail::look(tulvorn_module(detail::octets_of(text), text.size(), held_.get(), &fault), fault);
+    }
+    Type type(std::string_view name) const {
+        Type type;
+        tulvorn_fault fault;
+        auto code = tulvorn_type(held_.get(), detail::octets_of(name), name.size(), type.held_.get(), &fault);
+        detail::look(code, fault);
+        return type;
+    }
+
+  private:
+    detail::Handle held_;
+};
+
+// The version of the library.
+inline std::string version() {
+    size_t size = 0;
+    tulvorn_version(nullptr, 0, &size);
+    std::string text(size, '\0');
+    tulvorn_version(reinterpret_cast<uint8_t *>(text.data()), size, &size);
+    return text;
+}
+
+}  // namespace tulvorn
+
+#endif

@@ -1,0 +1,423 @@
+"""Tulvorn for Python: values of ASN.1 types by CANONICAL-PER UNALIGNED ("per") and Canonical OER ("oer").
+
+    >>> import tulvorn
+    >>> spec = tulvorn.compile_string("M DEFINITIONS AUTOMATIC TAGS ::= BEGIN T ::= SEQUENCE { id INTEGER (0..7) } END")
+    >>> spec.encode("T", {"id": 5})
+    b'\\xa0'
+    >>> spec.decode("T", b"\\xa0")
+    {'id': 5}
+
+Only the standard library is needed, and libtulvorn.so: in the folder that TULVORN_LIBRARY names, beside this file, or
+where the system's linker finds it. `compile_string`, `compile_files`, `encode`, `decode` and `decode_with_length` have
+the names that asn1tools gives them.
+
+Values are as in JSON, with the kinds of Python where it has them: BOOLEAN is a bool, NULL None, INTEGER an int,
+ENUMERATED the name of the item, BIT STRING a pair of bytes and the number of bits, OCTET STRING bytes, a character
+string a str, SEQUENCE a dict, without the components that are absent, SEQUENCE OF a list, CHOICE a pair of the name and
+the value.
+
+One object may be used by several threads: each has a lock of its own. `Type.share` makes another of a type, which two
+threads then use at once.
+"""
+
+import ctypes
+import json
+import os
+import threading
+
+__all__ = [
+    "compile_string", "compile_files", "version", "Specification", "Type", "Value", "TulvornError", "ModuleError",
+    "DecodeError", "EncodeError", "PER", "OER",
+]
+
+PER, OER = 0, 1
+RULES = {"per": PER, "uper": PER, "oer": OER, PER: PER, OER: OER}
+
+(
+    DONE, NO_MEMORY, MISUSE, REFUSED, TRUNCATED, REST, TOO_LONG, TOO_SHORT, NOT_TEXT, NO_MODULE, NO_NAME, NOT_OF_TYPE,
+    NO_JSON, SHAPE, NO_PATH, OTHER_KIND,
+) = range(16)
+
+(
+    BOOLEAN, NULL, INTEGER, ENUMERATED, BIT_STRING, OCTET_STRING, CHARACTER_STRING, SEQUENCE, SEQUENCE_OF, CHOICE,
+) = range(1, 11)
+
+WHY = ("", "sealed", "default", "length", "extension", "character", "padding", "number")
+
+
+class Handle(ctypes.Structure):
+    _fields_ = [("at", ctypes.c_void_p)]
+
+
+class Fault(ctypes.Structure):
+    _fields_ = [("code", ctypes.c_uint32), ("why", ctypes.c_uint32), ("at", ctypes.c_uint64)]
+
+
+# the parameters of each function and what it gives, by the letters below; bindings/compare.py compares them with the
+# exports
+FUNCTIONS = {
+    "tulvorn_module": "oshf:u",
+    "tulvorn_type": "hoshf:u",
+    "tulvorn_share": "hh:u",
+    "tulvorn_check": "huosf:u",
+    "tulvorn_decode": "huoshf:u",
+    "tulvorn_encode": "huhf:u",
+    "tulvorn_encoded_len": "huSf:u",
+    "tulvorn_encode_into": "huwsSf:u",
+    "tulvorn_convert": "huoshf:u",
+    "tulvorn_to_json": "hhf:u",
+    "tulvorn_from_json": "hoshf:u",
+    "tulvorn_kind": "hosU:u",
+    "tulvorn_boolean": "hosU:u",
+    "tulvorn_integer": "hosI:u",
+    "tulvorn_count": "hosS:u",
+    "tulvorn_bit": "hossU:u",
+    "tulvorn_octets": "hoswsS:u",
+    "tulvorn_text": "hoswsS:u",
+    "tulvorn_name": "hoswsS:u",
+    "tulvorn_copy": "hwsS:u",
+    "tulvorn_words": "fuh:u",
+    "tulvorn_version": "wsS:u",
+    "tulvorn_interface": ":u",
+    "tulvorn_close": "h:",
+}
+LETTERS = {
+    "h": ctypes.POINTER(Handle),
+    "f": ctypes.POINTER(Fault),
+    "o": ctypes.c_char_p,
+    "w": ctypes.c_void_p,
+    "s": ctypes.c_size_t,
+    "u": ctypes.c_uint32,
+    "S": ctypes.POINTER(ctypes.c_size_t),
+    "U": ctypes.POINTER(ctypes.c_uint32),
+    "I": ctypes.POINTER(ctypes.c_int64),
+}
+INTERFACE = 1
+
+
+def _loaded():
+    named = os.environ.get("TULVORN_LIBRARY")
+    beside = os.path.join(os.path.dirname(os.path.abspath(__file__)), "libtulvorn.so")
+    library = ctypes.CDLL(named or (beside if os.path.exists(beside) else "libtulvorn.so.1"))
+    for name, kinds in FUNCTIONS.items():
+        given, _, result = kinds.partition(":")
+        function = getattr(library, name)
+        function.argtypes = [LETTERS[it] for it in given]
+        function.restype = LETTERS[result] if result else None
+    if library.tulvorn_interface() != INTERFACE:
+        raise ImportError("libtulvorn.so is of another interface than tulvorn.py")
+    return library
+
+
+_library = _loaded()
+
+
+class TulvornError(Exception):
+    """Why a call did not do what it was asked for: its code, the reason `why` in one word, the place `at`."""
+
+    def __init__(self, words, fault=None):
+        super().__init__(words)
+        self.code, self.at = (fault.code, fault.at) if fault else (None, None)
+        self.why = WHY[fault.why] if fault and fault.code == REFUSED else ""
+
+
+class ModuleError(TulvornError):
+    """A text is no module; `at` is a character's place in its octets, from 0."""
+
+
+class DecodeError(TulvornError):
+    """Octets are no encoding: refused at the unit `at`, a bit of PER or an octet of OER, counted from 1; or cut short
+    after `at` units; or more octets follow the first `at`."""
+
+
+class EncodeError(TulvornError):
+    """A value has no encoding."""
+
+
+def _words(fault, rules):
+    words = _Held()
+    if _library.tulvorn_words(fault, rules, words.handle) != DONE:
+        raise MemoryError
+    return words.copied().decode()
+
+
+def _look(kind, code, fault, rules=PER):
+    if code == NO_MEMORY:
+        raise MemoryError
+    if code != DONE:
+        raise kind(_words(fault, rules), fault)
+
+
+def _rules(rules):
+    try:
+        return RULES[rules]
+    except KeyError:
+        raise ValueError(f"no encoding rules: {rules!r}") from None
+
+
+class _Held:
+    """A handle that closes itself, and the lock that is held while a call uses it."""
+
+    def __init__(self):
+        self.handle = Handle()
+        self.lock = threading.Lock()
+
+    def __del__(self):
+        _library.tulvorn_close(self.handle)
+
+    def copied(self):
+        with self.lock:
+            needed = ctypes.c_size_t()
+            if _library.tulvorn_copy(self.handle, None, 0, needed) == MISUSE:
+                raise ValueError("no octets")
+            room = ctypes.create_string_buffer(max(1, needed.value))
+            _library.tulvorn_copy(self.handle, room, needed.value, needed)
+            return room.raw[: needed.value]
+
+
+class Value(_Held):
+    """A value beside its type. Its parts are told by paths, as `coreData.speed` or `path[3].x`."""
+
+    def encode(self, rules="per"):
+        octets, fault, rules = _Held(), Fault(), _rules(rules)
+        with self.lock:
+            code = _library.tulvorn_encode(self.handle, rules, octets.handle, fault)
+        _look(EncodeError, code, fault, rules)
+        return octets.copied()
+
+    def encoded_len(self, rules="per"):
+        size, fault, rules = ctypes.c_size_t(), Fault(), _rules(rules)
+        with self.lock:
+            code = _library.tulvorn_encoded_len(self.handle, rules, size, fault)
+        _look(EncodeError, code, fault, rules)
+        return size.value
+
+    def to_json(self):
+        text, fault = _Held(), Fault()
+        with self.lock:
+            code = _library.tulvorn_to_json(self.handle, text.handle, fault)
+        _look(EncodeError, code, fault)
+        return text.copied().decode()
+
+    def _part(self, function, path, out, *between):
+        path = path.encode()
+        with self.lock:
+            code = function(self.handle, path, len(path), *between, out)
+        if code in (NO_PATH, NOT_TEXT):
+            raise KeyError(path.decode())
+        if code != DONE:
+            raise TypeError(f"{path.decode() or '$'} is of another kind")
+        return out.value
+
+    def _string(self, function, path):
+        needed = ctypes.c_size_t()
+        octets = path.encode()
+        with self.lock:
+            code = function(self.handle, octets, len(octets), None, 0, needed)
+            room = ctypes.create_string_buffer(max(1, needed.value))
+            if code == TOO_SHORT:
+                code = function(self.handle, octets, len(octets), room, needed.value, needed)
+        if code in (NO_PATH, NOT_TEXT):
+            raise KeyError(path)
+        if code != DONE:
+            raise TypeError(f"{path or '$'} is of another kind")
+        return room.raw[: needed.value]
+
+    def kind(self, path=""):
+        return self._part(_library.tulvorn_kind, path, ctypes.c_uint32())
+
+    def integer(self, path):
+        return self._part(_library.tulvorn_integer, path, ctypes.c_int64())
+
+    def boolean(self, path):
+        return bool(self._part(_library.tulvorn_boolean, path, ctypes.c_uint32()))
+
+    def count(self, path=""):
+        return self._part(_library.tulvorn_count, path, ctypes.c_size_t())
+
+    def bit(self, path, index):
+        return bool(self._part(_library.tulvorn_bit, path, ctypes.c_uint32(), index))
+
+    def octets(self, path):
+        return self._string(_library.tulvorn_octets, path)
+
+    def text(self, path):
+        return self._string(_library.tulvorn_text, path).decode()
+
+    def name(self, path):
+        return self._string(_library.tulvorn_name, path).decode()
+
+    def bits(self, path):
+        """A BIT STRING: its bits, eight an octet, the first in the highest place, and how many they are."""
+        count = self.count(path)
+        octets = bytearray((count + 7) // 8)
+        for index in range(count):
+            if self.bit(path, index):
+                octets[index // 8] |= 0x80 >> index % 8
+        return bytes(octets), count
+
+    def __getitem__(self, path):
+        """The part at the path, by its kind."""
+        return self._built(json.loads(self.to_json()), path, "")
+
+    def value(self):
+        """The value, by its kinds."""
+        return self._built(json.loads(self.to_json()), "", "")
+
+    def _built(self, shown, wanted, path):
+        for piece in [it for it in wanted.replace("[", ".").replace("]", ".").lstrip("$").split(".") if it]:
+            path = f"{path}.{piece}"
+            if isinstance(shown, dict) and piece in shown:
+                shown = shown[piece]
+            elif isinstance(shown, list) and piece.isdigit() and int(piece) < len(shown):
+                shown = shown[int(piece)]
+            else:
+                return self._absent(path)
+        return self._of(shown, path)
+
+    def _absent(self, path):
+        """A component that is absent and has a DEFAULT: its value where it has no parts."""
+        kind = self.kind(path)
+        simple = {
+            BOOLEAN: self.boolean, INTEGER: self.integer, ENUMERATED: self.name, BIT_STRING: self.bits,
+            OCTET_STRING: self.octets, CHARACTER_STRING: self.text, NULL: lambda _: None,
+        }
+        if kind not in simple:
+            raise KeyError(path)
+        return simple[kind](path)
+
+    def _of(self, shown, path):
+        kind = self.kind(path)
+        if kind == SEQUENCE:
+            return {name: self._of(part, f"{path}.{name}") for name, part in shown.items()}
+        if kind == SEQUENCE_OF:
+            return [self._of(part, f"{path}[{index}]") for index, part in enumerate(shown)]
+        if kind == CHOICE:
+            ((name, part),) = shown.items()
+            return (name, self._of(part, f"{path}.{name}"))
+        if kind == OCTET_STRING:
+            return bytes.fromhex(shown)
+        if kind == BIT_STRING:
+            octets = -(-len(shown) // 8)
+            return int(shown.ljust(8 * octets, "0") or "0", 2).to_bytes(octets, "big"), len(shown)
+        return shown
+
+
+def _json_of(value):
+    """The JSON of a value that is told by the kinds of Python."""
+    if isinstance(value, (bytes, bytearray)):
+        return bytes(value).hex()
+    if isinstance(value, dict):
+        return {name: _json_of(part) for name, part in value.items()}
+    if isinstance(value, list):
+        return [_json_of(part) for part in value]
+    if isinstance(value, tuple) and len(value) == 2 and isinstance(value[0], str):
+        return {value[0]: _json_of(value[1])}
+    if isinstance(value, tuple) and len(value) == 2 and isinstance(value[0], (bytes, bytearray)):
+        return "".join(f"{octet:08b}" for octet in value[0])[: value[1]]
+    return value
+
+
+class Type(_Held):
+    """A type of a module. It outlives the module."""
+
+    def share(self):
+        other = Type()
+        with self.lock:
+            code = _library.tulvorn_share(self.handle, other.handle)
+        if code != DONE:
+            raise MemoryError
+        return other
+
+    def check(self, octets, rules="per"):
+        """Raises DecodeError where the octets are no encoding of a value of the type."""
+        fault, rules = Fault(), _rules(rules)
+        with self.lock:
+            code = _library.tulvorn_check(self.handle, rules, bytes(octets), len(octets), fault)
+        _look(DecodeError, code, fault, rules)
+
+    def decode(self, octets, rules="per"):
+        value, fault, rules = Value(), Fault(), _rules(rules)
+        with self.lock:
+            code = _library.tulvorn_decode(self.handle, rules, bytes(octets), len(octets), value.handle, fault)
+        _look(DecodeError, code, fault, rules)
+        return value
+
+    def convert(self, octets, rules="per"):
+        """The octets by the other rules of the value whose encoding by these rules the octets are."""
+        other, fault, rules = _Held(), Fault(), _rules(rules)
+        with self.lock:
+            code = _library.tulvorn_convert(self.handle, rules, bytes(octets), len(octets), other.handle, fault)
+        _look(DecodeError, code, fault, rules)
+        return other.copied()
+
+    def from_json(self, text):
+        value, fault, octets = Value(), Fault(), text.encode()
+        with self.lock:
+            code = _library.tulvorn_from_json(self.handle, octets, len(octets), value.handle, fault)
+        _look(EncodeError, code, fault)
+        return value
+
+    def of(self, value):
+        """A value of the type from the kinds of Python."""
+        return self.from_json(json.dumps(_json_of(value)))
+
+
+class Specification(_Held):
+    """A module that was read, and the encoding rules that its calls take where they are told no others."""
+
+    def __init__(self, text, rules="per"):
+        super().__init__()
+        self.rules, self.types = _rules(rules), {}
+        octets, fault = text.encode(), Fault()
+        code = _library.tulvorn_module(octets, len(octets), self.handle, fault)
+        _look(ModuleError, code, fault)
+
+    def type(self, name):
+        if name not in self.types:
+            made, fault, octets = Type(), Fault(), name.encode()
+            with self.lock:
+                code = _library.tulvorn_type(self.handle, octets, len(octets), made.handle, fault)
+            if code == NO_NAME:
+                raise KeyError(name)
+            _look(ModuleError, code, fault)
+            self.types[name] = made
+        return self.types[name]
+
+    def encode(self, name, value, rules=None):
+        return self.type(name).of(value).encode(self.rules if rules is None else rules)
+
+    def decode(self, name, octets, rules=None):
+        return self.type(name).decode(octets, self.rules if rules is None else rules).value()
+
+    def decode_with_length(self, name, octets, rules=None):
+        """The value that the octets begin with, and how many of them are its encoding."""
+        try:
+            return self.decode(name, octets, rules), len(octets)
+        except DecodeError as fault:
+            if fault.code != REST:
+                raise
+            return self.decode(name, octets[: fault.at], rules), fault.at
+
+
+def compile_string(text, rules="per"):
+    """The module that the text is; `rules` are the encoding rules that its calls take where they are told no others."""
+    return Specification(text, rules)
+
+
+def compile_files(files, rules="per"):
+    """The module of a file, or of one text in several files."""
+    texts = []
+    for name in [files] if isinstance(files, (str, os.PathLike)) else files:
+        with open(name, encoding="utf-8") as it:
+            texts.append(it.read())
+    return Specification("\n".join(texts), rules)
+
+
+def version():
+    """The version of the library; it ends with `not proved` where it was built without a proof."""
+    needed = ctypes.c_size_t()
+    _library.tulvorn_version(None, 0, needed)
+    room = ctypes.create_string_buffer(max(1, needed.value))
+    _library.tulvorn_version(room, needed.value, needed)
+    return room.raw[: needed.value].decode()

@@ -1,0 +1,541 @@
+//! Values of ASN.1 types by CANONICAL-PER UNALIGNED and Canonical OER, by the proved library Tulvorn, which is linked as
+//! a static library.
+//!
+//! ```
+//! use tulvorn::{Error, Module, Rules};
+//!
+//! let module = Module::read(
+//!     "M DEFINITIONS AUTOMATIC TAGS ::= BEGIN
+//!     Msg ::= SEQUENCE { id INTEGER (0..7), ok BOOLEAN DEFAULT TRUE, note IA5String (SIZE (0..3)) OPTIONAL }
+//!     END",
+//! )?;
+//! let msg = module.ty("Msg")?;
+//! let value = msg.decode(Rules::Per, &[0x6b, 0x04])?;
+//! assert_eq!(value.at("id").as_i64(), Some(5));
+//! assert_eq!(value.at("note").as_text().as_deref(), Some("A"));
+//! assert_eq!(value.encode(Rules::Oer)?, [0x40, 5, 1, b'A']);
+//! let fault = msg.check(Rules::Per, &[0xac]).unwrap_err();
+//! assert_eq!(fault.to_string(), "refused at bit 6: default");
+//! # Ok::<(), Error>(())
+//! ```
+
+#![warn(missing_docs, clippy::pedantic)]
+
+mod ffi;
+
+use ffi::{Fault, Handle};
+use std::cell::UnsafeCell;
+use std::fmt;
+use std::ptr::null_mut;
+
+/// Encoding rules.
+#[derive(Clone, Copy, Debug, PartialEq, Eq, Hash)]
+pub enum Rules {
+    /// CANONICAL-PER UNALIGNED (X.691); its unit is the bit.
+    Per = 0,
+    /// Canonical OER (X.696); its unit is the octet.
+    Oer = 1,
+}
+
+/// The kind of a type.
+#[derive(Clone, Copy, Debug, PartialEq, Eq, Hash)]
+#[non_exhaustive]
+pub enum Kind {
+    /// BOOLEAN
+    Boolean,
+    /// NULL
+    Null,
+    /// INTEGER
+    Integer,
+    /// ENUMERATED
+    Enumerated,
+    /// BIT STRING
+    BitString,
+    /// OCTET STRING
+    OctetString,
+    /// `IA5String`, `NumericString`, `VisibleString` or `UTF8String`
+    CharacterString,
+    /// SEQUENCE
+    Sequence,
+    /// SEQUENCE OF
+    SequenceOf,
+    /// CHOICE
+    Choice,
+}
+
+const KINDS: [Kind; 10] = [
+    Kind::Boolean,
+    Kind::Null,
+    Kind::Integer,
+    Kind::Enumerated,
+    Kind::BitString,
+    Kind::OctetString,
+    Kind::CharacterString,
+    Kind::Sequence,
+    Kind::SequenceOf,
+    Kind::Choice,
+];
+
+/// Why octets were refused: what was being read.
+#[derive(Clone, Copy, Debug, PartialEq, Eq, Hash)]
+#[non_exhaustive]
+pub enum Why {
+    /// The last unit of an open type field or a `UTF8String`: its content is not one.
+    Sealed,
+    /// The value of a component with a DEFAULT.
+    Default,
+    /// A length or a quantity.
+    Length,
+    /// An extension bit, or the number or the presence bits of extension additions.
+    Extension,
+    /// A character of a string.
+    Character,
+    /// The zeros that fill an octet.
+    Padding,
+    /// Anything else.
+    Number,
+}
+
+const WHYS: [Why; 7] =
+    [Why::Sealed, Why::Default, Why::Length, Why::Extension, Why::Character, Why::Padding, Why::Number];
+
+/// Why a call did not do what it was asked for.
+#[derive(Clone, Copy, Debug, PartialEq, Eq, Hash)]
+#[non_exhaustive]
+pub enum Reason {
+    /// An allocation failed.
+    Memory,
+    /// No encoding begins so: `at` is the first unit, counted from 1, after which none can follow.
+    Refused {
+        /// The unit: a bit of PER, an octet of OER.
+        at: u64,
+        /// What was being read there.
+        why: Why,
+    },
+    /// An encoding may still follow the octets.
+    Truncated {
+        /// How many units there are.
+        taken: u64,
+    },
+    /// The first octets are an encoding, and more follow.
+    Rest {
+        /// How many the first are.
+        used: u64,
+    },
+    /// More than 268,435,455 octets.
+    TooLong,
+    /// The octets are fewer than those to be written.
+    TooShort {
+        /// How many are wanted.
+        wanted: u64,
+    },
+    /// The text is no module.
+    NoModule {
+        /// An octet of the text, from 0, where the fault has a place.
+        at: u64,
+    },
+    /// The module has no type of that name.
+    NoName,
+    /// The value is none of the type.
+    NotOfType,
+    /// The text is no JSON.
+    NoJson,
+    /// The JSON is not of the shape of the type.
+    Shape,
+    /// The value has no part at the path.
+    NoPath,
+    /// The part is of another kind.
+    OtherKind,
+    /// The library answered a code that this crate does not know, or the crate misused it.
+    Other(u32),
+}
+
+/// An error: the reason, and the encoding rules in whose unit its place is counted.
+#[derive(Clone, Copy, Debug, PartialEq, Eq)]
+pub struct Error {
+    /// The reason.
+    pub reason: Reason,
+    fault: (u32, u32, u64),
+    rules: Rules,
+}
+
+impl Error {
+    fn of(fault: Fault, rules: Rules) -> Error {
+        let at = fault.at;
+        let reason = match fault.code {
+            1 => Reason::Memory,
+            3 => match (fault.why as usize).checked_sub(1).and_then(|index| WHYS.get(index)) {
+                Some(&why) => Reason::Refused { at, why },
+                None => Reason::Other(3),
+            },
+            4 => Reason::Truncated { taken: at },
+            5 => Reason::Rest { used: at },
+            6 => Reason::TooLong,
+            7 => Reason::TooShort { wanted: at },
+            9 => Reason::NoModule { at },
+            10 => Reason::NoName,
+            11 => Reason::NotOfType,
+            12 => Reason::NoJson,
+            13 => Reason::Shape,
+            14 => Reason::NoPath,
+            15 => Reason::OtherKind,
+            code => Reason::Other(code),
+        };
+        Error { reason, fault: (fault.code, fault.why, fault.at), rules }
+    }
+}
+
+impl fmt::Display for Error {
+    fn fmt(&self, f: &mut fmt::Formatter<'_>) -> fmt::Result {
+        let (code, why, at) = self.fault;
+        let (fault, words) = (Fault { code, why, at }, Held::nothing());
+        // SAFETY: `fault` and `words` are places of this function alone.
+        let code = unsafe { ffi::tulvorn_words(&raw const fault, self.rules as u32, words.get()) };
+        if code == 0 { f.write_str(&String::from_utf8_lossy(&words.octets())) } else { f.write_str("memory") }
+    }
+}
+
+impl std::error::Error for Error {}
+
+// A handle, which closes itself. It is used by one thread at a time, since it is not `Sync`, and no call that is given
+// it gives control back before it returns: so the call has it alone.
+struct Held(UnsafeCell<Handle>);
+
+// SAFETY: the library proves `Send` of its handle, and a handle is used by one thread at a time.
+unsafe impl Send for Held {}
+
+impl Held {
+    fn nothing() -> Held {
+        Held(UnsafeCell::new(Handle::NONE))
+    }
+
+    fn get(&self) -> *mut Handle {
+        self.0.get()
+    }
+
+    // What `call` writes, where it says how much that is.
+    fn written(mut call: impl FnMut(*mut u8, usize, *mut usize) -> u32) -> Result<Vec<u8>, u32> {
+        let mut needed = 0;
+        match call(null_mut(), 0, &raw mut needed) {
+            0 => return Ok(Vec::new()),
+            7 => {}
+            code => return Err(code),
+        }
+        let mut room = vec![0; needed];
+        match call(room.as_mut_ptr(), room.len(), &raw mut needed) {
+            0 => Ok(room),
+            code => Err(code),
+        }
+    }
+
+    fn octets(&self) -> Vec<u8> {
+        // SAFETY: the handle is this object's, and the room is that of a vector.
+        Held::written(|into, room, needed| unsafe { ffi::tulvorn_copy(self.get(), into, room, needed) })
+            .unwrap_or_default()
+    }
+}
+
+impl Drop for Held {
+    fn drop(&mut self) {
+        // SAFETY: the handle is this object's.
+        unsafe { ffi::tulvorn_close(self.get()) }
+    }
+}
+
+fn look(code: u32, fault: Fault, rules: Rules) -> Result<(), Error> {
+    if code == 0 { Ok(()) } else { Err(Error::of(fault, rules)) }
+}
+
+/// A module that was read.
+pub struct Module(Held);
+
+impl Module {
+    /// Reads the text of a module.
+    ///
+    /// # Errors
+    /// `NoModule` where the text is none of the profile, `Memory`.
+    pub fn read(text: &str) -> Result<Module, Error> {
+        let (held, mut fault) = (Held::nothing(), Fault::default());
+        // SAFETY: the pointer and the length are those of one text, and the handle holds nothing.
+        let code = unsafe { ffi::tulvorn_module(text.as_ptr(), text.len(), held.get(), &raw mut fault) };
+        look(code, fault, Rules::Per)?;
+        Ok(Module(held))
+    }
+
+    /// The type that the module assigns to a name. It outlives the module.
+    ///
+    /// # Errors
+    /// `NoName`, `Memory`.
+    pub fn ty(&self, name: &str) -> Result<Type, Error> {
+        let (held, mut fault) = (Held::nothing(), Fault::default());
+        // SAFETY: as in `read`; the two handles are two objects'.
+        let code =
+            unsafe { ffi::tulvorn_type(self.0.get(), name.as_ptr(), name.len(), held.get(), &raw mut fault) };
+        look(code, fault, Rules::Per)?;
+        Ok(Type(held))
+    }
+}
+
+/// A type of a module. It may go to another thread; two threads use one at once by `share`.
+pub struct Type(Held);
+
+impl Type {
+    /// Another of the same type, for another thread.
+    ///
+    /// # Errors
+    /// `Memory`.
+    pub fn share(&self) -> Result<Type, Error> {
+        let held = Held::nothing();
+        // SAFETY: the two handles are two objects'.
+        let code = unsafe { ffi::tulvorn_share(self.0.get(), held.get()) };
+        look(code, Fault { code, why: 0, at: 0 }, Rules::Per)?;
+        Ok(Type(held))
+    }
+
+    /// Whether the octets are the encoding of a value of the type.
+    ///
+    /// # Errors
+    /// `Refused`, `Truncated`, `Rest`, `TooLong`, `Memory`.
+    pub fn check(&self, rules: Rules, octets: &[u8]) -> Result<(), Error> {
+        let mut fault = Fault::default();
+        // SAFETY: the pointer and the length are those of one slice, and the handle is this object's.
+        let code = unsafe {
+            ffi::tulvorn_check(self.0.get(), rules as u32, octets.as_ptr(), octets.len(), &raw mut fault)
+        };
+        look(code, fault, rules)
+    }
+
+    /// The value whose encoding the octets are.
+    ///
+    /// # Errors
+    /// As `check`.
+    pub fn decode(&self, rules: Rules, octets: &[u8]) -> Result<Value, Error> {
+        let (held, mut fault) = (Held::nothing(), Fault::default());
+        // SAFETY: as in `check`; the two handles are two objects'.
+        let code = unsafe {
+            ffi::tulvorn_decode(
+                self.0.get(),
+                rules as u32,
+                octets.as_ptr(),
+                octets.len(),
+                held.get(),
+                &raw mut fault,
+            )
+        };
+        look(code, fault, rules)?;
+        Ok(Value(held))
+    }
+
+    /// The octets by the other rules of the value whose encoding by these rules the octets are.
+    ///
+    /// # Errors
+    /// As `check`.
+    pub fn convert(&self, rules: Rules, octets: &[u8]) -> Result<Vec<u8>, Error> {
+        let (held, mut fault) = (Held::nothing(), Fault::default());
+        // SAFETY: as in `decode`.
+        let code = unsafe {
+            ffi::tulvorn_convert(
+                self.0.get(),
+                rules as u32,
+                octets.as_ptr(),
+                octets.len(),
+                held.get(),
+                &raw mut fault,
+            )
+        };
+        look(code, fault, rules)?;
+        Ok(held.octets())
+    }
+
+    /// The value of the type that the JSON shows.
+    ///
+    /// # Errors
+    /// `NoJson`, `Shape`, `NotOfType`, `Memory`.
+    pub fn read_json(&self, json: &str) -> Result<Value, Error> {
+        let (held, mut fault) = (Held::nothing(), Fault::default());
+        // SAFETY: as in `decode`.
+        let code = unsafe {
+            ffi::tulvorn_from_json(self.0.get(), json.as_ptr(), json.len(), held.get(), &raw mut fault)
+        };
+        look(code, fault, Rules::Per)?;
+        Ok(Value(held))
+    }
+}
+
+/// A value beside its type.
+pub struct Value(Held);
+
+impl Value {
+    /// The encoding of the value.
+    ///
+    /// # Errors
+    /// `NotOfType`, `TooLong`, `Memory`.
+    pub fn encode(&self, rules: Rules) -> Result<Vec<u8>, Error> {
+        let (held, mut fault) = (Held::nothing(), Fault::default());
+        // SAFETY: the two handles are two objects'.
+        let code = unsafe { ffi::tulvorn_encode(self.0.get(), rules as u32, held.get(), &raw mut fault) };
+        look(code, fault, rules)?;
+        Ok(held.octets())
+    }
+
+    /// How many octets the encoding has. Takes no memory.
+    ///
+    /// # Errors
+    /// `NotOfType`, `TooLong`.
+    pub fn encoded_len(&self, rules: Rules) -> Result<usize, Error> {
+        let (mut len, mut fault) = (0, Fault::default());
+        // SAFETY: the handle is this object's.
+        let code = unsafe { ffi::tulvorn_encoded_len(self.0.get(), rules as u32, &raw mut len, &raw mut fault) };
+        look(code, fault, rules)?;
+        Ok(len)
+    }
+
+    /// Puts the encoding into the first of these octets, and gives how many it has. Takes no memory.
+    ///
+    /// # Errors
+    /// `NotOfType`, `TooLong`, and `TooShort`, with which the octets are as they were.
+    pub fn encode_into(&self, rules: Rules, octets: &mut [u8]) -> Result<usize, Error> {
+        let (mut len, mut fault) = (0, Fault::default());
+        // SAFETY: the pointer and the length are those of one slice.
+        let code = unsafe {
+            ffi::tulvorn_encode_into(
+                self.0.get(),
+                rules as u32,
+                octets.as_mut_ptr(),
+                octets.len(),
+                &raw mut len,
+                &raw mut fault,
+            )
+        };
+        look(code, fault, rules)?;
+        Ok(len)
+    }
+
+    /// The text of the JSON of the value.
+    ///
+    /// # Errors
+    /// `Memory`.
+    pub fn to_json(&self) -> Result<String, Error> {
+        let (held, mut fault) = (Held::nothing(), Fault::default());
+        // SAFETY: the two handles are two objects'.
+        let code = unsafe { ffi::tulvorn_to_json(self.0.get(), held.get(), &raw mut fault) };
+        look(code, fault, Rules::Per)?;
+        Ok(String::from_utf8_lossy(&held.octets()).into_owned())
+    }
+
+    /// The part at a path, as `coreData.speed` or `path[3].x`. What it is, its calls tell: None where there is no such
+    /// part, or it is of another kind.
+    #[must_use]
+    pub fn at<'a>(&'a self, path: &'a str) -> Part<'a> {
+        Part { value: self, path }
+    }
+}
+
+/// A part of a value.
+#[derive(Clone, Copy)]
+pub struct Part<'a> {
+    value: &'a Value,
+    path: &'a str,
+}
+
+type Told<T> = unsafe extern "C" fn(*mut Handle, *const u8, usize, *mut T) -> u32;
+
+type Written = unsafe extern "C" fn(*mut Handle, *const u8, usize, *mut u8, usize, *mut usize) -> u32;
+
+impl Part<'_> {
+    fn told<T: Default>(self, call: Told<T>) -> Option<T> {
+        let mut told = T::default();
+        // SAFETY: the handle is the value's, and the path a text.
+        let code = unsafe { call(self.value.0.get(), self.path.as_ptr(), self.path.len(), &raw mut told) };
+        (code == 0).then_some(told)
+    }
+
+    fn written(self, call: Written) -> Option<Vec<u8>> {
+        Held::written(|into, room, needed| {
+            // SAFETY: as in `told`, and the room is that of a vector.
+            unsafe { call(self.value.0.get(), self.path.as_ptr(), self.path.len(), into, room, needed) }
+        })
+        .ok()
+    }
+
+    /// The kind of the part's type; None where there is no such part.
+    #[must_use]
+    pub fn kind(self) -> Option<Kind> {
+        KINDS.get((self.told(ffi::tulvorn_kind)? as usize).checked_sub(1)?).copied()
+    }
+
+    /// The value of an INTEGER.
+    #[must_use]
+    pub fn as_i64(self) -> Option<i64> {
+        self.told(ffi::tulvorn_integer)
+    }
+
+    /// The value of a BOOLEAN.
+    #[must_use]
+    pub fn as_bool(self) -> Option<bool> {
+        self.told(ffi::tulvorn_boolean).map(|truth| truth != 0)
+    }
+
+    /// How many elements a SEQUENCE OF has, or bits, octets or characters a string.
+    #[must_use]
+    pub fn count(self) -> Option<usize> {
+        self.told(ffi::tulvorn_count)
+    }
+
+    /// The octets of an OCTET STRING.
+    #[must_use]
+    pub fn as_octets(self) -> Option<Vec<u8>> {
+        self.written(ffi::tulvorn_octets)
+    }
+
+    /// The text of a character string.
+    #[must_use]
+    pub fn as_text(self) -> Option<String> {
+        String::from_utf8(self.written(ffi::tulvorn_text)?).ok()
+    }
+
+    /// The name of the item of an ENUMERATED, or of the chosen alternative of a CHOICE.
+    #[must_use]
+    pub fn name(self) -> Option<String> {
+        String::from_utf8(self.written(ffi::tulvorn_name)?).ok()
+    }
+
+    /// The bits of a BIT STRING.
+    #[must_use]
+    pub fn as_bits(self) -> Option<Vec<bool>> {
+        if self.kind()? != Kind::BitString {
+            return None;
+        }
+        (0..self.count()?)
+            .map(|index| {
+                let mut bit = 0;
+                // SAFETY: as in `told`.
+                let code = unsafe {
+                    ffi::tulvorn_bit(
+                        self.value.0.get(),
+                        self.path.as_ptr(),
+                        self.path.len(),
+                        index,
+                        &raw mut bit,
+                    )
+                };
+                (code == 0).then_some(bit != 0)
+            })
+            .collect()
+    }
+}
+
+/// The version of the library; it ends with `not proved` where it was built without a proof.
+#[must_use]
+pub fn version() -> String {
+    // SAFETY: the room is that of a vector.
+    let octets = Held::written(|into, room, needed| unsafe { ffi::tulvorn_version(into, room, needed) });
+    String::from_utf8_lossy(&octets.unwrap_or_default()).into_owned()
+}
+
+/// The number of the header that the library was built with.
+#[must_use]
+pub fn interface() -> u32 {
+    // SAFETY: it takes nothing.
+    unsafe { ffi::tulvorn_interface() }
+}

@@ -1,0 +1,88 @@
+//! Calls the library from safe Rust.
+
+use tulvorn::{Kind, Module, Reason, Rules, Why};
+
+const MODULE: &str = "M DEFINITIONS AUTOMATIC TAGS ::= BEGIN
+Msg ::= SEQUENCE { id INTEGER (0..7), ok BOOLEAN DEFAULT TRUE, note IA5String (SIZE (0..3)) OPTIONAL }
+All ::= SEQUENCE { far INTEGER, colour ENUMERATED { red, green }, key OCTET STRING, bits BIT STRING,
+    one CHOICE { number INTEGER (0..255), none NULL }, list SEQUENCE OF Msg, word UTF8String }
+END";
+
+const ALL: &str = r#"{"far":-70000000000,"colour":"green","key":"00ff","bits":"101","one":{"number":200},
+    "list":[{"id":5,"note":"A"},{"id":0}],"word":"ä"}"#;
+
+fn reason<T>(result: Result<T, tulvorn::Error>) -> Reason {
+    result.err().expect("a fault").reason
+}
+
+#[test]
+fn tells_the_parts_of_a_value() {
+    let all = Module::read(MODULE).unwrap().ty("All").unwrap();
+    let value = all.read_json(ALL).unwrap();
+    assert_eq!(value.at("far").as_i64(), Some(-70_000_000_000));
+    assert_eq!(value.at("list[0].note").as_text().as_deref(), Some("A"));
+    assert_eq!(value.at("list[1].note").as_text(), None);
+    assert_eq!(value.at("list[1].ok").as_bool(), Some(true));
+    assert_eq!(value.at("list").count(), Some(2));
+    assert_eq!(value.at("key").as_octets(), Some(vec![0, 255]));
+    assert_eq!(value.at("bits").as_bits(), Some(vec![true, false, true]));
+    assert_eq!(value.at("colour").name().as_deref(), Some("green"));
+    assert_eq!(value.at("one").name().as_deref(), Some("number"));
+    assert_eq!(value.at("one.number").as_i64(), Some(200));
+    assert_eq!(value.at("word").as_text().as_deref(), Some("ä"));
+    assert_eq!(value.at("word").as_i64(), None);
+    assert_eq!(value.at("").kind(), Some(Kind::Sequence));
+    for rules in [Rules::Per, Rules::Oer] {
+        let octets = value.encode(rules).unwrap();
+        let mut into = vec![0; octets.len()];
+        assert_eq!(value.encoded_len(rules).unwrap(), octets.len());
+        assert_eq!(value.encode_into(rules, &mut into).unwrap(), octets.len());
+        assert_eq!(into, octets);
+        let short = into.len() - 1;
+        let wanted = octets.len() as u64;
+        assert_eq!(reason(value.encode_into(rules, &mut into[..short])), Reason::TooShort { wanted });
+        assert_eq!(all.decode(rules, &octets).unwrap().to_json().unwrap(), value.to_json().unwrap());
+    }
+    let (per, oer) = (value.encode(Rules::Per).unwrap(), value.encode(Rules::Oer).unwrap());
+    assert_eq!(all.convert(Rules::Per, &per).unwrap(), oer);
+    assert_eq!(all.convert(Rules::Oer, &oer).unwrap(), per);
+}
+
+#[test]
+fn tells_faults() {
+    let module = Module::read(MODULE).unwrap();
+    let msg = module.ty("Msg").unwrap();
+    let fault = msg.check(Rules::Per, &[0xac]).unwrap_err();
+    assert_eq!(fault.reason, Reason::Refused { at: 6, why: Why::Default });
+    assert_eq!(fault.to_string(), "refused at bit 6: default");
+    assert_eq!(reason(msg.check(Rules::Per, &[0x6b])), Reason::Truncated { taken: 8 });
+    assert_eq!(reason(msg.decode(Rules::Per, &[0x28, 0])), Reason::Rest { used: 1 });
+    assert_eq!(reason(msg.check(Rules::Per, &[])), Reason::Truncated { taken: 0 });
+    assert_eq!(reason(msg.read_json("{")), Reason::NoJson);
+    assert_eq!(reason(msg.read_json("{}")), Reason::Shape);
+    assert_eq!(reason(msg.read_json(r#"{"id":9}"#)), Reason::NotOfType);
+    assert_eq!(reason(module.ty("Other")), Reason::NoName);
+    assert_eq!(reason(Module::read("M")), Reason::NoModule { at: 1 });
+    assert_eq!(tulvorn::interface(), 1);
+    assert!(tulvorn::version().starts_with("0.1.0"));
+}
+
+#[test]
+fn shares_a_type_between_threads() {
+    let msg = Module::read(MODULE).unwrap().ty("Msg").unwrap();
+    let threads: Vec<_> = (0..4)
+        .map(|_| {
+            let mine = msg.share().unwrap();
+            std::thread::spawn(move || {
+                (0..200u8).all(|at| {
+                    let value = mine.decode(Rules::Per, &[at % 8 << 3]).unwrap();
+                    value.at("id").as_i64() == Some(i64::from(at % 8))
+                })
+            })
+        })
+        .collect();
+    drop(msg);
+    for thread in threads {
+        assert!(thread.join().unwrap());
+    }
+}

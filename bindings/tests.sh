@@ -1,0 +1,84 @@
+#!/usr/bin/env bash
+# Calls the library from C, C++, Rust and Python, on the examples of the repository too, and wants no network. A step
+# for which a program is not there, a compiler or valgrind, is skipped and counted as such; one that fails does not end
+# the run. The last line is 'N passed, M failed', with ', K skipped' where a step was.
+#
+# usage: bindings/tests.sh OUT     the folder in which bindings/build.sh left the library
+set -euo pipefail
+here=$(cd "$(dirname "$0")" && pwd)
+out=$(cd "$1" && pwd)
+made=$(mktemp -d)
+trap 'rm -rf "$made"' EXIT
+warn=(-Wall -Wextra -Wpedantic -Werror -O2 -I"$here/c" -I"$here/cpp")
+wrap=(-Wl,--wrap=malloc -Wl,--wrap=realloc)
+memory=(valgrind -q --error-exitcode=99 --leak-check=full --errors-for-leak-kinds=all)
+passed=0 failed=0 skipped=0
+
+# step NAME PROGRAM.. -- COMMAND..: runs the command, where these programs are there
+step() {
+    local name=$1 missing=()
+    shift
+    while [ "$1" != -- ]; do
+        command -v "$1" >/dev/null || missing+=("$1")
+        shift
+    done
+    shift
+    if [ ${#missing[@]} != 0 ]; then
+        echo "$name: SKIPPED, without ${missing[*]}"
+        skipped=$((skipped + 1))
+    elif "$@"; then
+        passed=$((passed + 1))
+    else
+        echo "$name: FAILED"
+        failed=$((failed + 1))
+    fi
+}
+
+in_c() {
+    gcc -std=c11 "${warn[@]}" "$here/c/calls.c" "$out/libtulvorn.a" "${wrap[@]}" -o "$made/calls" && "$made/calls"
+}
+
+in_c_sanitized() {
+    gcc -std=c11 "${warn[@]}" -fsanitize=address,undefined "$here/c/calls.c" "$out/libtulvorn.a" "${wrap[@]}" \
+        -o "$made/calls-sanitized" && "$made/calls-sanitized"
+}
+
+in_threads() {
+    gcc -std=c11 "${warn[@]}" -pthread "$here/c/threads.c" "$out/libtulvorn.a" -o "$made/threads" && "$made/threads"
+}
+
+in_cpp() {
+    g++ -std=c++17 "${warn[@]}" -pthread "$here/cpp/calls.cpp" -L"$out" -ltulvorn -Wl,-rpath,"$out" \
+        -o "$made/calls-cpp" && "$made/calls-cpp"
+}
+
+in_python() {
+    TULVORN_LIBRARY="$out/libtulvorn.so" PYTHONPATH="$here/python" PYTHONDONTWRITEBYTECODE=1 \
+        python3 "$here/python/calls.py"
+}
+
+in_rust() {
+    (cd "$here/rust/tulvorn" &&
+        TULVORN_ARCHIVES="$out" CARGO_TARGET_DIR="$made/target" cargo test --offline --locked --quiet)
+}
+
+step "the declarations of the header and the bindings" python3 -- python3 "$here/compare.py"
+step "C" gcc -- in_c
+step "C under valgrind" gcc valgrind -- "${memory[@]}" "$made/calls"
+step "C under the sanitizers" gcc -- in_c_sanitized
+step "C in threads" gcc -- in_threads
+step "C++" g++ -- in_cpp
+step "C++ under valgrind" g++ valgrind -- "${memory[@]}" "$made/calls-cpp"
+step "Python" python3 -- in_python
+step "Rust" cargo -- in_rust
+step "the page's program in C" cc python3 -- python3 "$here/page.py" "$out" c
+step "the page's program in C++" c++ python3 -- python3 "$here/page.py" "$out" cpp
+step "the page's program in Rust" cargo python3 -- python3 "$here/page.py" "$out" rust
+step "the page's program in Python" python3 -- python3 "$here/page.py" "$out" python
+step "the page's gateway" cc python3 -- python3 "$here/page.py" "$out" gateway
+step "the page's signer" cargo python3 -- python3 "$here/page.py" "$out" signer
+step "the page's test bench" python3 -- python3 "$here/page.py" "$out" bench.py
+note=
+[ $skipped = 0 ] || note=", $skipped skipped"
+echo "$passed passed, $failed failed$note"
+[ $failed = 0 ]

@@ -1,0 +1,3 @@
+mod HandleValues
+mod LooseValues
+mod ObjectSend

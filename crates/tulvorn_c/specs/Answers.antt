@@ -1,0 +1,197 @@
+-- What calls answer, by the objects that handles held before (old) and hold after (new).
+use Rattle.std.specs.Prelude.{◌≡◌, ◌⊎◌, ◌<◌, ◌≤◌, ◌++◌, drop, ℕ, Ok, Err, List, length, Option, Some, None, nat_eq, if◌then◌else◌, IsUtf8}
+use Rattle.serde_json.specs.Data.{Data}
+use Rattle.serde_json.specs.Written.{compact_text}
+use Rattle.asn_values.specs.Datum.{Datum}
+use Rattle.asn_values.specs.Shape.{Shape}
+use Rattle.asn_values.specs.Fits.{Fits}
+use Rattle.asn_values.specs.Received.{FitsReceived}
+use Rattle.asn_values.specs.View.{datum_of}
+use Rattle.asn_values.specs.declared.value.Value.{Value}
+use Rattle.asn_view.specs.Typed.{Typed, typed}
+use Rattle.asn_module.specs.Accepted.{ModuleTypes, Accepted, type_in}
+use Rattle.asn_module.specs.declared.fault.ModuleFault.{ModuleFault}
+use Rattle.asn_module.specs.declared.fault.ModuleFault.TheVariants as module_fault
+use Rattle.asn_rules.specs.Answer.{Ruling, IsEncoding, max_octets}
+use Rattle.asn_rules.specs.Codec.{Decoded, NotEncoded}
+use Rattle.asn_rules.specs.Measured.{IsLength, NotMeasured, Placed, NotPlaced}
+use Rattle.asn_rules.specs.declared.fault.DecodeFault.{DecodeFault}
+use Rattle.asn_rules.specs.declared.fault.EncodeFault.{EncodeFault}
+use Rattle.asn_rules.specs.declared.fault.LengthFault.{LengthFault}
+use Rattle.asn_rules.specs.declared.fault.EncodeIntoFault.{EncodeIntoFault}
+use Rattle.asn_per.specs.Rules.{per_ruling}
+use Rattle.asn_oer.specs.Rules.{oer_ruling}
+use Rattle.asn_convert.specs.Answers.{IsJson, IsNoJson}
+use Rattle.asn_convert.specs.Converted.{Converts, Converted}
+use Rattle.asn_convert.specs.declared.conversion.ConvertFault.{ConvertFault}
+use Rattle.asn_json.specs.Written.{json_of}
+use Rattle.asn_json.specs.Errors.{Shown, Refused}
+use Rattle.asn_json.specs.declared.fault.JsonFault.{JsonFault}
+use Rattle.tulvorn_c.specs.declared.object.Object.{Object}
+use Rattle.tulvorn_c.specs.declared.fault.Fault.{Fault}
+use Rattle.tulvorn_c.specs.Faults.{plain, done, no_memory, misuse, of_decode, of_encode, of_length, of_encode_into, of_convert, of_json, of_module}
+use Rattle.tulvorn_c.specs.Held.{held_module, held_type, held_value, held_octets}
+
+-- ---- what a call is asked of
+
+-- the encoding rules of that number
+abbrev pub ruling_of : ℕ → Option Ruling
+ruling_of n = if nat_eq n 0 then Some per_ruling else if nat_eq n 1 then Some oer_ruling else None
+
+-- where the handle holds no such thing the fault is misuse and what the call writes stays as it was; else the answer is
+-- told of that thing
+abbrev pub Asked : {A : Type 0} → Option A → Type 0 → (A → Fault → Type 0) → Fault → Type 0
+Asked None Stays Tells fault = (fault ≡ misuse) × Stays
+Asked (Some a) Stays Tells fault = Tells a fault
+
+-- likewise where the number is that of no encoding rules
+abbrev pub AskedBy : {A : Type 0} → Option A → Option Ruling → Type 0 → (Ruling → A → Fault → Type 0) → Fault → Type 0
+AskedBy None r Stays Tells fault = (fault ≡ misuse) × Stays
+AskedBy (Some a) None Stays Tells fault = (fault ≡ misuse) × Stays
+AskedBy (Some a) (Some r) Stays Tells fault = Tells r a fault
+
+-- ---- modules
+
+-- the text is the module that the handle then holds; it is not UTF-8; it is no module; or memory was wanting
+abbrev pub IsModuleRead : List ℕ → Option Object → Type 0
+IsModuleRead text new = (m : ModuleTypes) × (held_module new ≡ Some m) × Accepted text m
+
+abbrev pub IsNoModule : List ℕ → Fault → Type 0
+IsNoModule text fault =
+    (why : ModuleFault) × (fault ≡ of_module why)
+    × ((why ≡ module_fault.Memory → ⊥) → (m : ModuleTypes) → Accepted text m → ⊥)
+
+abbrev pub ReadsText : List ℕ → Option Object → Option Object → Fault → Type 0
+ReadsText text old new fault =
+    ((fault ≡ done) × IsModuleRead text new) ⊎ ((new ≡ old) × IsNoModule text fault)
+
+abbrev pub ReadsModule : List ℕ → Option Object → Option Object → Fault → Type 0
+ReadsModule text old new fault =
+    ReadsText text old new fault ⊎ ((new ≡ old) × (fault ≡ plain 8) × ¬ IsUtf8 text)
+
+-- the handle then holds the type that the module assigns to the name, which it does to none that is not UTF-8
+abbrev pub FindsName : List ℕ → Option Object → Option Object → ModuleTypes → Fault → Type 0
+FindsName name old new m fault =
+    ((fault ≡ done) × (t : Shape) × (type_in m.types name ≡ Some t) × (held_type new ≡ Some t))
+    ⊎ ((new ≡ old) × (((fault ≡ plain 10) × (type_in m.types name ≡ None)) ⊎ (fault ≡ no_memory)))
+
+abbrev pub FindsType : List ℕ → Option Object → Option Object → ModuleTypes → Fault → Type 0
+FindsType name old new m fault =
+    FindsName name old new m fault ⊎ ((new ≡ old) × (fault ≡ plain 8) × ¬ IsUtf8 name)
+
+-- the other handle then holds the same type
+abbrev pub SharesType : Option Object → Option Object → Shape → Fault → Type 0
+SharesType old new t fault =
+    ((fault ≡ done) × (held_type new ≡ Some t)) ⊎ ((fault ≡ no_memory) × (new ≡ old))
+
+-- ---- messages
+
+-- the octets are not decoded, as the fault tells
+pub record IsNotDecoded (r : Ruling) (t : Shape) (o : List ℕ) (fault : Fault) : Type 0 where
+  pub why : DecodeFault
+  pub told : fault ≡ of_decode why
+  pub holds : Decoded r (Err why) t o
+
+-- they are the encoding of a value, or not decoded
+abbrev pub Checks : List ℕ → Ruling → Shape → Fault → Type 0
+Checks o r t fault = ((fault ≡ done) × (d : Datum) × IsEncoding r t d o) ⊎ IsNotDecoded r t o fault
+
+-- the handle then holds the value of the type whose encoding they are
+pub record HoldsDecoded (r : Ruling) (t : Shape) (o : List ℕ) (new : Option Object) : Type 0 where
+  pub value : Value
+  pub held : held_value new ≡ Some (typed t (datum_of value))
+  pub decoded : Decoded r (Ok value) t o
+
+abbrev pub Decodes : List ℕ → Option Object → Option Object → Ruling → Shape → Fault → Type 0
+Decodes o old new r t fault =
+    ((fault ≡ done) × HoldsDecoded r t o new) ⊎ ((new ≡ old) × IsNotDecoded r t o fault)
+
+-- the handle then holds the encoding of the value
+pub record HoldsEncoding (r : Ruling) (v : Typed) (new : Option Object) : Type 0 where
+  pub octets : List ℕ
+  pub held : held_octets new ≡ Some octets
+  pub encoding : IsEncoding r v.shape v.datum octets
+  pub within : length octets ≤ max_octets
+
+-- the value is not encoded, as the fault tells
+pub record IsNotEncoded (r : Ruling) (v : Typed) (fault : Fault) : Type 0 where
+  pub why : EncodeFault
+  pub told : fault ≡ of_encode why
+  pub holds : NotEncoded r why v.shape v.datum
+
+abbrev pub Encodes : Option Object → Option Object → Ruling → Typed → Fault → Type 0
+Encodes old new r v fault =
+    ((fault ≡ done) × HoldsEncoding r v new) ⊎ ((new ≡ old) × IsNotEncoded r v fault)
+
+-- how many octets the encoding has
+abbrev pub Measures : ℕ → ℕ → Ruling → Typed → Fault → Type 0
+Measures old new r v fault =
+    ((fault ≡ done) × IsLength r v.shape v.datum new)
+    ⊎ ((new ≡ old) × (why : LengthFault) × (fault ≡ of_length why) × NotMeasured r why v.shape v.datum)
+
+-- the encoding is put into the first of the octets, and how many it has is told; or they are as they were
+abbrev pub Places : List ℕ → List ℕ → ℕ → ℕ → Ruling → Typed → Fault → Type 0
+Places old new before after r v fault =
+    ((fault ≡ done) × Placed r v.shape v.datum after old new)
+    ⊎ ((after ≡ before) × (why : EncodeIntoFault) × (fault ≡ of_encode_into why)
+    × NotPlaced r why v.shape v.datum old new)
+
+-- the other rules
+abbrev pub other_ruling_of : ℕ → Ruling
+other_ruling_of n = if nat_eq n 0 then oer_ruling else per_ruling
+
+-- the handle then holds the octets by the rules b of the value that o encodes by the rules a
+pub record HoldsConverted (a b : Ruling) (t : Shape) (o : List ℕ) (new : Option Object) : Type 0 where
+  pub octets : List ℕ
+  pub held : held_octets new ≡ Some octets
+  pub converted : Converts a b t o octets
+
+pub record IsNotConverted (a b : Ruling) (t : Shape) (o : List ℕ) (fault : Fault) : Type 0 where
+  pub why : ConvertFault
+  pub told : fault ≡ of_convert why
+  pub holds : Converted a b (Err why) t o
+
+abbrev pub ConvertsTo : Ruling → List ℕ → Option Object → Option Object → Ruling → Shape → Fault → Type 0
+ConvertsTo b o old new a t fault =
+    ((fault ≡ done) × HoldsConverted a b t o new) ⊎ ((new ≡ old) × IsNotConverted a b t o fault)
+
+-- ---- JSON
+
+-- the handle then holds the text of the JSON of the value
+abbrev pub WritesJson : Option Object → Option Object → Typed → Fault → Type 0
+WritesJson old new v fault =
+    ((fault ≡ done) × FitsReceived v.shape v.datum × (held_octets new ≡ Some (compact_text (json_of v.shape v.datum))))
+    ⊎ ((new ≡ old) × ((fault ≡ no_memory) ⊎ ((fault ≡ plain 11) × ¬ FitsReceived v.shape v.datum)))
+
+-- the handle then holds the value of the type that the JSON shows
+pub record HoldsShown (t : Shape) (j : Data) (new : Option Object) : Type 0 where
+  pub datum : Datum
+  pub held : held_value new ≡ Some (typed t datum)
+  pub shown : Shown t j datum
+  pub fits : Fits t datum
+
+abbrev pub IsNotShown : Shape → Data → Fault → Type 0
+IsNotShown t j fault = (why : JsonFault) × (fault ≡ of_json why) × Refused t j why
+
+abbrev pub ReadsJson : List ℕ → Option Object → Option Object → Shape → Fault → Type 0
+ReadsJson text old new t fault =
+    ((fault ≡ done) × (j : Data) × IsJson text j × HoldsShown t j new)
+    ⊎ ((new ≡ old) × (((fault ≡ plain 12) × IsNoJson text) ⊎ (fault ≡ no_memory)
+    ⊎ ((j : Data) × IsJson text j × IsNotShown t j fault)))
+
+-- ---- octets
+
+-- octets stand in the first places, and the others are as they were
+abbrev pub PutInFront : List ℕ → List ℕ → List ℕ → Type 0
+PutInFront octets old new = (length octets ≤ length old) × (new ≡ octets ++ drop (length octets) old)
+
+-- octets that were to be written, and how many are told to be wanted, are as they were
+abbrev pub AreAsBefore : List ℕ → List ℕ → ℕ → ℕ → Type 0
+AreAsBefore old new before after = (new ≡ old) × (after ≡ before)
+
+-- the octets that the handle holds stand in the first places, and the others are as they were; or there are too few
+-- places; how many there are is told either way
+abbrev pub Copies : List ℕ → List ℕ → ℕ → List ℕ → Fault → Type 0
+Copies old new needed octets fault =
+    (needed ≡ length octets)
+    × (((fault ≡ done) × PutInFront octets old new) ⊎ ((fault ≡ plain 7) × (length old < length octets) × (new ≡ old)))

@@ -1,0 +1,65 @@
+-- Faults in words, and other texts.
+use Rattle.std.specs.Prelude.{◌≡◌, ◌⊎◌, ℕ, List, codes, Option, Some, None, option_map, nat_eq, if◌then◌else◌}
+use Rattle.asn_rules.specs.Reasons.{text_of_fault}
+use Rattle.asn_rules.specs.declared.fault.Why.{Why}
+use Rattle.asn_rules.specs.declared.fault.Why.TheVariants as why
+use Rattle.asn_rules.specs.declared.fault.DecodeFault.{DecodeFault}
+use Rattle.asn_rules.specs.declared.fault.DecodeFault.TheVariants as decode
+use Rattle.asn_rules.specs.declared.units.Unit.{Unit}
+use Rattle.asn_rules.specs.declared.units.Unit.TheVariants as unit
+use Rattle.tulvorn_c.specs.declared.object.Object.{Object}
+use Rattle.tulvorn_c.specs.declared.fault.Fault.{Fault}
+use Rattle.tulvorn_c.specs.Faults.{done, no_memory, misuse}
+use Rattle.tulvorn_c.specs.Held.{held_octets}
+
+-- the version of the library
+abbrev pub version : List ℕ
+version = codes "0.1.0"
+
+-- the handle then holds this text, or memory was wanting
+abbrev pub HoldsText : List ℕ → Option Object → Option Object → Fault → Type 0
+HoldsText text old new fault =
+    ((fault ≡ done) × (held_octets new ≡ Some text)) ⊎ ((fault ≡ no_memory) × (new ≡ old))
+
+-- ---- faults
+
+-- the unit of the encoding rules of that number
+abbrev pub unit_of : ℕ → Option Unit
+unit_of n = if nat_eq n 0 then Some unit.Bit else if nat_eq n 1 then Some unit.Octet else None
+
+-- the reason of that number
+abbrev pub why_of : ℕ → Option Why
+why_of n =
+    if nat_eq n 1 then Some why.Sealed else if nat_eq n 2 then Some why.Default else if nat_eq n 3 then Some why.Length
+    else if nat_eq n 4 then Some why.Extension else if nat_eq n 5 then Some why.Character
+    else if nat_eq n 6 then Some why.Padding else if nat_eq n 7 then Some why.Number else None
+
+-- the fault of decoding that the numbers tell
+abbrev pub decode_fault_of : Fault → Option DecodeFault
+decode_fault_of fault =
+    if nat_eq fault.code 3 then option_map (decode.Refused fault.at) (why_of fault.why)
+    else if nat_eq fault.code 4 then Some (decode.Truncated fault.at)
+    else if nat_eq fault.code 5 then Some (decode.Rest fault.at)
+    else None
+
+-- the words of the other codes
+abbrev pub words_of_code : ℕ → List ℕ
+words_of_code n =
+    if nat_eq n 0 then codes "done" else if nat_eq n 1 then codes "memory" else if nat_eq n 2 then codes "misuse"
+    else if nat_eq n 3 then codes "refused" else if nat_eq n 6 then codes "too long"
+    else if nat_eq n 7 then codes "too short" else if nat_eq n 8 then codes "not UTF-8"
+    else if nat_eq n 9 then codes "no module" else if nat_eq n 10 then codes "no such name"
+    else if nat_eq n 11 then codes "not of the type" else if nat_eq n 12 then codes "no JSON"
+    else if nat_eq n 13 then codes "not of the type's shape" else if nat_eq n 14 then codes "nothing at the path"
+    else if nat_eq n 15 then codes "another kind" else codes "unknown code"
+
+abbrev pub words_by : Unit → ℕ → Option DecodeFault → List ℕ
+words_by u code (Some why) = text_of_fault u why
+words_by u code None = words_of_code code
+
+abbrev pub words_of : Unit → Fault → List ℕ
+words_of u fault = words_by u fault.code (decode_fault_of fault)
+
+abbrev pub TellsWords : Option Unit → Fault → Option Object → Option Object → Fault → Type 0
+TellsWords None told old new fault = (fault ≡ misuse) × (new ≡ old)
+TellsWords (Some u) told old new fault = HoldsText (words_of u told) old new fault

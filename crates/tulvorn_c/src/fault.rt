@@ -1,0 +1,172 @@
+//! What a call answered, as numbers.
+ghost use Rattle.std.specs.Prelude.{◌≡◌};
+ghost use Rattle.tulvorn_c.specs.Faults as faults;
+
+use tulvorn::{
+    ConvertFault, DecodeFault, EncodeFault, EncodeIntoFault, JsonFault, LengthFault, ModuleFault,
+};
+
+/// The call did what it was asked for.
+pub(crate) const DONE: u32 = 0;
+
+/// An allocation failed.
+pub(crate) const NO_MEMORY: u32 = 1;
+
+/// A handle holds nothing, or another kind of object; or a number is none of the encoding rules.
+pub(crate) const MISUSE: u32 = 2;
+
+/// No encoding begins so: `at` is the first unit after which none can follow, and `why` the reason.
+const REFUSED: u32 = 3;
+
+/// An encoding may still follow: `at` units were taken.
+const TRUNCATED: u32 = 4;
+
+/// The first `at` octets are an encoding, and more follow.
+const REST: u32 = 5;
+
+/// More than 268,435,455 octets.
+const TOO_LONG: u32 = 6;
+
+/// The caller's octets are fewer than those that were to be written.
+pub(crate) const TOO_SHORT: u32 = 7;
+
+/// The text is not UTF-8.
+pub(crate) const NOT_TEXT: u32 = 8;
+
+/// The text is no module.
+const NO_MODULE: u32 = 9;
+
+/// The module has no type of that name.
+pub(crate) const NO_NAME: u32 = 10;
+
+/// The value is none of the type.
+const NOT_OF_TYPE: u32 = 11;
+
+/// The text is no JSON.
+pub(crate) const NO_JSON: u32 = 12;
+
+/// The JSON is not of the shape of the type.
+const SHAPE: u32 = 13;
+
+/// The value has no part at the path.
+pub(crate) const NO_PATH: u32 = 14;
+
+/// The part at the path is of another kind.
+pub(crate) const OTHER_KIND: u32 = 15;
+
+/// What a call answered: a code, and, as the code says, a reason and a place.
+#[repr(C)]
+#[derive(Clone, Copy, Drop)]
+pub struct Fault {
+    pub code: u32,
+    pub why: u32,
+    pub at: u64,
+}
+
+impl Fault {
+    /// A code alone.
+    pub(crate) fn plain(code: u32) -> Fault
+        ensures { result ≡ faults.plain code }
+    {
+        Fault {
+            code,
+            why: 0,
+            at: 0,
+        }
+    }
+
+    /// A code with a place.
+    fn placed(code: u32, at: u64) -> Fault
+        ensures { result ≡ faults.placed code at }
+    {
+        Fault { code, why: 0, at }
+    }
+
+    pub(crate) fn of_decode(fault: DecodeFault) -> Fault
+        ensures { result ≡ faults.of_decode fault }
+    {
+        match fault {
+            DecodeFault::Refused { at, why } => Fault {
+                code: REFUSED,
+                why: why as u32,
+                at,
+            },
+            DecodeFault::Truncated { taken } => Fault::placed(TRUNCATED, taken),
+            DecodeFault::Rest { used } => Fault::placed(REST, used as u64),
+            DecodeFault::TooLong => Fault::plain(TOO_LONG),
+            DecodeFault::Memory => Fault::plain(NO_MEMORY),
+        }
+    }
+
+    pub(crate) fn of_encode(fault: EncodeFault) -> Fault
+        ensures { result ≡ faults.of_encode fault }
+    {
+        match fault {
+            EncodeFault::NotOfType => Fault::plain(NOT_OF_TYPE),
+            EncodeFault::TooLong => Fault::plain(TOO_LONG),
+            EncodeFault::Memory => Fault::plain(NO_MEMORY),
+        }
+    }
+
+    pub(crate) fn of_length(fault: LengthFault) -> Fault
+        ensures { result ≡ faults.of_length fault }
+    {
+        match fault {
+            LengthFault::NotOfType => Fault::plain(NOT_OF_TYPE),
+            LengthFault::TooLong => Fault::plain(TOO_LONG),
+        }
+    }
+
+    /// Where there are too few octets, `at` is how many are wanted.
+    pub(crate) fn of_encode_into(fault: EncodeIntoFault) -> Fault
+        ensures { result ≡ faults.of_encode_into fault }
+    {
+        match fault {
+            EncodeIntoFault::NotOfType => Fault::plain(NOT_OF_TYPE),
+            EncodeIntoFault::TooLong => Fault::plain(TOO_LONG),
+            EncodeIntoFault::Short { wanted } => Fault::placed(TOO_SHORT, wanted as u64),
+        }
+    }
+
+    pub(crate) fn of_convert(fault: ConvertFault) -> Fault
+        ensures { result ≡ faults.of_convert fault }
+    {
+        match fault {
+            ConvertFault::Read(fault) => Fault::of_decode(fault),
+            ConvertFault::TooLong => Fault::plain(TOO_LONG),
+            ConvertFault::Memory => Fault::plain(NO_MEMORY),
+        }
+    }
+
+    pub(crate) fn of_json(fault: &JsonFault) -> Fault
+        ensures { result ≡ faults.of_json fault.now }
+    {
+        match fault {
+            JsonFault::Shape { .. } => Fault::plain(SHAPE),
+            JsonFault::NotOfType => Fault::plain(NOT_OF_TYPE),
+            JsonFault::Memory => Fault::plain(NO_MEMORY),
+        }
+    }
+
+    /// `why` is the number of the fault in the order of `ModuleFault`, from 1, and `at` an octet of the text, counted
+    /// from 0, where the fault tells one.
+    pub(crate) fn of_module(fault: &ModuleFault) -> Fault
+        ensures { result ≡ faults.of_module fault.now }
+    {
+        let (why, at) = match fault {
+            ModuleFault::Character { at } => (1, *at),
+            ModuleFault::Unexpected { at } => (2, *at),
+            ModuleFault::Unknown { .. } => (3, 0),
+            ModuleFault::Cycle { .. } => (4, 0),
+            ModuleFault::Twice { .. } => (5, 0),
+            ModuleFault::BadType { .. } => (6, 0),
+            ModuleFault::OutOfProfile { at } => (7, *at),
+            ModuleFault::Memory => return Fault::plain(NO_MEMORY),
+        };
+        Fault {
+            code: NO_MODULE,
+            why,
+            at: at as u64,
+        }
+    }
+}

@@ -1,0 +1,105 @@
+//! What C keeps of an object: the pointer of its box, or null.
+ghost use Rattle.std.specs.Prelude.{◌≡◌, IfOk};
+ghost use Rattle.std.specs.Coded.{codes};
+ghost use Rattle.std.specs.Option.{MatchOption};
+ghost use Rattle.std.specs.declared.option.Option.{Option};
+ghost use Rattle.std.specs.declared.option.Option.TheVariants.{None, Some};
+ghost use Rattle.tulvorn_c.specs.declared.object.Object.{Object as TheObject};
+ghost use Rattle.tulvorn_c.specs.contracts.object.Object.{the_row as object_row};
+ghost use Rattle.tulvorn_c.specs.Kept.{keeps};
+
+use crate::loose::Loose;
+use crate::object::Object;
+use std::alloc::{AllocError, Global};
+use std::marker::{Model, Send};
+use std::ptr::null_mut;
+
+/// A handle: what C passes to each call by its address. It holds an object, or nothing.
+///
+/// To C it is a struct of one pointer, since a `Global` has no bytes. `kept` is what it holds, and it owns that as a
+/// `Box` does: the value, and the right to free its block. So no call can leave the object to two handles.
+#[repr(C)]
+pub struct Handle {
+    at: *mut u8,
+    alloc: Global,
+    ghost kept: { Option TheObject } by { Prim.hlevel (codes, object_row.coded) },
+}
+
+impl Model for Handle {
+    ghost also_owns = { λ h. keeps object_row h.alloc h.at h.kept };
+}
+
+impl Drop for Handle {
+    fn drop(self) {
+        drop(self.into_box());
+    }
+}
+
+impl Handle {
+    /// A handle of nothing.
+    pub(crate) fn none(alloc: Global) -> Handle
+        ensures { result.kept ≡ None }
+    {
+        Handle {
+            at: null_mut(),
+            alloc,
+        }
+    }
+
+    fn of_loose(value: Loose<Object, Global>) -> Handle
+        ensures { result.kept ≡ Some value.value }
+    {
+        let Loose { at, alloc } = value;
+        Handle {
+            at: at as *mut u8,
+            alloc,
+        }
+    }
+
+    fn into_loose(self) -> Option<Loose<Object, Global>>
+        ensures { MatchOption result (self.kept ≡ None) (λ it. self.kept ≡ Some it.value) }
+    {
+        let Handle { at, alloc } = self;
+        if at.is_null() {
+            None
+        } else {
+            Some(Loose {
+                at: at as *mut Object,
+                alloc,
+            })
+        }
+    }
+
+    /// A handle of what the box holds.
+    pub(crate) fn of(value: Box<Object>) -> Handle
+        ensures { result.kept ≡ Some value.value }
+    {
+        Handle::of_loose(Loose::of(value))
+    }
+
+    /// The box of what it holds; None where it holds nothing.
+    pub(crate) fn into_box(self) -> Option<Box<Object>>
+        ensures { MatchOption result (self.kept ≡ None) (λ it. self.kept ≡ Some it.value) }
+    {
+        match self.into_loose() {
+            None => None,
+            Some(loose) => Some(loose.into_box()),
+        }
+    }
+
+    /// A handle of this object.
+    ///
+    /// # Errors
+    /// `AllocError` where an allocation failed.
+    pub(crate) fn holding(alloc: Global, object: Object) -> Result<Handle, AllocError>
+        ensures { IfOk result (λ h. h.kept ≡ Some object) }
+    {
+        match Box::new(alloc, object) {
+            Ok(held) => Ok(Handle::of(held)),
+            Err(_) => Err(AllocError),
+        }
+    }
+}
+
+// SAFETY: what it holds may cross threads, and no other handle leads to it.
+unsafe impl Send for Handle {}

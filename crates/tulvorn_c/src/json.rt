@@ -1,0 +1,137 @@
+//! Values as JSON, and back.
+ghost use Rattle.std.specs.Prelude.{◌≡◌, ◌⊎◌, IfOk, IfErr, Some, string_bytes};
+ghost use Rattle.serde_json.specs.View.{view};
+ghost use Rattle.serde_json.specs.Written.{compact_text};
+ghost use Rattle.asn_values.specs.Received.{FitsReceived};
+ghost use Rattle.asn_values.specs.View.{shape_of, datum_of};
+ghost use Rattle.asn_view.specs.Typed.{typed};
+ghost use Rattle.asn_json.specs.Written.{json_of, Unwritten};
+ghost use Rattle.asn_json.specs.Errors.{Refused};
+ghost use Rattle.tulvorn_c.specs.Answers.{Asked, WritesJson, ReadsJson, HoldsShown};
+ghost use Rattle.tulvorn_c.specs.Held.{held_type, held_value, held_octets};
+
+use crate::fault::{DONE, Fault, MISUSE, NO_JSON, NO_MEMORY};
+use crate::handle::Handle;
+use crate::object::Object;
+use serde_json::Value as Json;
+use std::alloc::{AllocError, Global};
+use std::mem::replace;
+use tulvorn::{Checked, JsonFault, Value, from_json, to_json};
+
+/// The text of the JSON of a value: see `tulvorn::to_json`.
+#[unsafe(no_mangle)]
+pub extern "C" fn tulvorn_to_json(
+    alloc: Global,
+    value: &mut Handle,
+    json: &mut Handle,
+    fault: &mut Fault,
+) -> u32
+    ensures kept { value.new.kept ≡ value.old.kept }
+    ensures told { Asked (held_value value.old.kept) (json.new.kept ≡ json.old.kept)
+        (WritesJson json.old.kept json.new.kept) fault.new }
+    ensures code { result ≡ fault.new.code }
+{
+    let Some(it) = replace(value, Handle::none(alloc)).into_box() else {
+        *fault = Fault::plain(MISUSE);
+        return MISUSE;
+    };
+    *fault = match it.as_ref() {
+        Object::Value { ty, value } => write_json(alloc, ty, value, json),
+        _ => Fault::plain(MISUSE),
+    };
+    *value = Handle::of(it);
+    fault.code
+}
+
+fn write_json(alloc: Global, ty: &Checked, value: &Value, out: &mut Handle) -> Fault
+    ensures { WritesJson out.old.kept out.new.kept (typed (shape_of ty.now) (datum_of value.now)) result }
+{
+    match json_held(alloc, ty, value) {
+        Ok(held) => {
+            *out = held;
+            Fault::plain(DONE)
+        }
+        Err(fault) => Fault::of_json(&fault),
+    }
+}
+
+/// A handle of the text.
+fn json_held(alloc: Global, ty: &Checked, value: &Value) -> Result<Handle, JsonFault>
+    ensures fits { IfOk result (λ _. FitsReceived (shape_of ty.now) (datum_of value.now)) }
+    ensures text { IfOk result (λ h. held_octets h.kept
+        ≡ Some (compact_text (json_of (shape_of ty.now) (datum_of value.now)))) }
+    ensures refused { IfErr result (λ why. Unwritten (shape_of ty.now) (datum_of value.now) why) }
+{
+    let text = json_text(alloc, ty, value)?;
+    Ok(Handle::holding(alloc, Object::Octets(text.into_bytes()))?)
+}
+
+/// The text.
+fn json_text(alloc: Global, ty: &Checked, value: &Value) -> Result<String, JsonFault>
+    ensures fits { IfOk result (λ _. FitsReceived (shape_of ty.now) (datum_of value.now)) }
+    ensures text { IfOk result (λ s. string_bytes s ≡ compact_text (json_of (shape_of ty.now) (datum_of value.now))) }
+    ensures refused { IfErr result (λ why. Unwritten (shape_of ty.now) (datum_of value.now) why) }
+{
+    let json = to_json(alloc, ty, value)?;
+    match json.to_string(alloc) {
+        Ok(text) => Ok(text),
+        Err(_) => Err(JsonFault::Memory),
+    }
+}
+
+/// The value of the type that a JSON text shows: see `tulvorn::from_json`.
+#[unsafe(no_mangle)]
+pub extern "C" fn tulvorn_from_json(
+    alloc: Global,
+    ty: &mut Handle,
+    json: &[u8],
+    value: &mut Handle,
+    fault: &mut Fault,
+) -> u32
+    ensures kept { ty.new.kept ≡ ty.old.kept }
+    ensures told { Asked (held_type ty.old.kept) (value.new.kept ≡ value.old.kept)
+        (ReadsJson json.now value.old.kept value.new.kept) fault.new }
+    ensures code { result ≡ fault.new.code }
+{
+    let Some(it) = replace(ty, Handle::none(alloc)).into_box() else {
+        *fault = Fault::plain(MISUSE);
+        return MISUSE;
+    };
+    *fault = match it.as_ref() {
+        Object::Checked(ty) => read_json(alloc, ty, json, value),
+        _ => Fault::plain(MISUSE),
+    };
+    *ty = Handle::of(it);
+    fault.code
+}
+
+fn read_json(alloc: Global, ty: &Checked, text: &[u8], out: &mut Handle) -> Fault
+    ensures { ReadsJson text.now out.old.kept out.new.kept (shape_of ty.now) result }
+{
+    match Json::from_slice(alloc, text) {
+        Ok(json) => match shown(alloc, ty, &json) {
+            Ok(held) => {
+                *out = held;
+                Fault::plain(DONE)
+            }
+            Err(fault) => Fault::of_json(&fault),
+        },
+        Err(fault) => {
+            if fault.is_memory() {
+                Fault::plain(NO_MEMORY)
+            } else {
+                Fault::plain(NO_JSON)
+            }
+        }
+    }
+}
+
+/// A handle of the value that the JSON shows.
+fn shown(alloc: Global, ty: &Checked, json: &Json) -> Result<Handle, JsonFault>
+    ensures shown { IfOk result (λ h. HoldsShown (shape_of ty.now) (view json.now) h.kept) }
+    ensures refused { IfErr result (λ why. Refused (shape_of ty.now) (view json.now) why) }
+{
+    let value = from_json(alloc, ty, json)?;
+    let ty = ty.copy()?;
+    Ok(Handle::holding(alloc, Object::Value { ty, value })?)
+}

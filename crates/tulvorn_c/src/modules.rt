@@ -1,0 +1,158 @@
+//! Modules and their types.
+ghost use Rattle.std.specs.Prelude.{◌≡◌, IfOk, IfErr, Some};
+ghost use Rattle.asn_values.specs.View.{shape_of};
+ghost use Rattle.asn_module.specs.ModuleView.{types_view};
+ghost use Rattle.tulvorn_c.specs.Answers.{
+  Asked,
+  ReadsModule,
+  ReadsText,
+  FindsName,
+  FindsType,
+  SharesType,
+  IsModuleRead,
+};
+ghost use Rattle.tulvorn_c.specs.Held.{held_module, held_type};
+ghost use Rattle.tulvorn_c.specs.Faults.{plain};
+ghost use Rattle.asn_module.specs.Accepted.{Accepted, ModuleTypes};
+
+use crate::fault::{DONE, Fault, MISUSE, NO_MEMORY, NO_NAME, NOT_TEXT};
+use crate::handle::Handle;
+use crate::object::Object;
+use std::alloc::{AllocError, Global};
+use std::mem::replace;
+use tulvorn::{Checked, Module, ModuleFault, read};
+
+/// Reads the text of a module: see `tulvorn::read`.
+#[unsafe(no_mangle)]
+pub extern "C" fn tulvorn_module(
+    alloc: Global,
+    text: &[u8],
+    out: &mut Handle,
+    fault: &mut Fault,
+) -> u32
+    ensures told { ReadsModule text.now out.old.kept out.new.kept fault.new }
+    ensures code { result ≡ fault.new.code }
+{
+    *fault = put_module_of(alloc, text, out);
+    fault.code
+}
+
+/// Puts the module that octets are as a text into the handle.
+fn put_module_of(alloc: Global, text: &[u8], out: &mut Handle) -> Fault
+    ensures { ReadsModule text.now out.old.kept out.new.kept result }
+{
+    match std::str::from_utf8(text) {
+        Ok(text) => put_module(alloc, text, out),
+        Err(_) => Fault::plain(NOT_TEXT),
+    }
+}
+
+/// Puts the module that a text is into the handle.
+fn put_module(alloc: Global, text: &str, out: &mut Handle) -> Fault
+    ensures { ReadsText text.now out.old.kept out.new.kept result }
+{
+    match module_read(alloc, text) {
+        Ok(held) => {
+            *out = held;
+            Fault::plain(DONE)
+        }
+        Err(why) => Fault::of_module(&why),
+    }
+}
+
+/// A handle of the module that a text is.
+fn module_read(alloc: Global, text: &str) -> Result<Handle, ModuleFault>
+    ensures read { IfOk result (λ h. IsModuleRead text.now h.kept) }
+    ensures refused { IfErr result (λ e. (e ≡ ModuleFault.Memory → ⊥) → (m : ModuleTypes) →
+        Accepted text.now m → ⊥) }
+{
+    let module = read(alloc, text)?;
+    match Handle::holding(alloc, Object::Module(module)) {
+        Ok(held) => Ok(held),
+        Err(_) => Err(ModuleFault::Memory),
+    }
+}
+
+/// The type that the module assigns to a name: see `Module::type_named`.
+#[unsafe(no_mangle)]
+pub extern "C" fn tulvorn_type(
+    alloc: Global,
+    held: &mut Handle,
+    name: &[u8],
+    ty: &mut Handle,
+    fault: &mut Fault,
+) -> u32
+    ensures kept { held.new.kept ≡ held.old.kept }
+    ensures told { Asked (held_module held.old.kept) (ty.new.kept ≡ ty.old.kept)
+        (FindsType name.now ty.old.kept ty.new.kept) fault.new }
+    ensures code { result ≡ fault.new.code }
+{
+    let Some(it) = replace(held, Handle::none(alloc)).into_box() else {
+        *fault = Fault::plain(MISUSE);
+        return MISUSE;
+    };
+    *fault = match it.as_ref() {
+        Object::Module(module) => put_type_of(alloc, module, name, ty),
+        _ => Fault::plain(MISUSE),
+    };
+    *held = Handle::of(it);
+    fault.code
+}
+
+/// Puts the type of the name that octets are as a text into the handle.
+fn put_type_of(alloc: Global, types: &Module, name: &[u8], out: &mut Handle) -> Fault
+    ensures { FindsType name.now out.old.kept out.new.kept (types_view types.now) result }
+{
+    match std::str::from_utf8(name) {
+        Ok(name) => put_type(alloc, types, name, out),
+        Err(_) => Fault::plain(NOT_TEXT),
+    }
+}
+
+/// Puts the type of that name into the handle.
+fn put_type(alloc: Global, types: &Module, name: &str, out: &mut Handle) -> Fault
+    ensures { FindsName name.now out.old.kept out.new.kept (types_view types.now) result }
+{
+    match types.type_named(name) {
+        Some(ty) => match type_held(alloc, ty) {
+            Ok(held) => {
+                *out = held;
+                Fault::plain(DONE)
+            }
+            Err(_) => Fault::plain(NO_MEMORY),
+        },
+        None => Fault::plain(NO_NAME),
+    }
+}
+
+/// A handle of the type.
+fn type_held(alloc: Global, ty: &Checked) -> Result<Handle, AllocError>
+    ensures { IfOk result (λ h. held_type h.kept ≡ Some (shape_of ty.now)) }
+{
+    let ty = ty.copy()?;
+    Handle::holding(alloc, Object::Checked(ty))
+}
+
+/// Another handle of a type, which may go to another thread.
+#[unsafe(no_mangle)]
+pub extern "C" fn tulvorn_share(alloc: Global, ty: &mut Handle, other: &mut Handle) -> u32
+    ensures kept { ty.new.kept ≡ ty.old.kept }
+    ensures told { Asked (held_type ty.old.kept) (other.new.kept ≡ other.old.kept)
+        (SharesType other.old.kept other.new.kept) (plain result) }
+{
+    let Some(it) = replace(ty, Handle::none(alloc)).into_box() else {
+        return MISUSE;
+    };
+    let code = match it.as_ref() {
+        Object::Checked(ty) => match type_held(alloc, ty) {
+            Ok(held) => {
+                *other = held;
+                DONE
+            }
+            Err(_) => NO_MEMORY,
+        },
+        _ => MISUSE,
+    };
+    *ty = Handle::of(it);
+    code
+}

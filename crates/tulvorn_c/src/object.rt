@@ -1,0 +1,11 @@
+//! All that a handle can hold.
+use tulvorn::{Checked, Module, Value};
+
+/// What a handle holds.
+#[derive(Drop)]
+pub enum Object {
+    Module(Module),
+    Checked(Checked),
+    Value { ty: Checked, value: Value },
+    Octets(Vec<u8>),
+}

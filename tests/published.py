@@ -6,9 +6,10 @@ usage: tests/published.py PROGRAM
 What `flatten` writes and tells of the examples is compared with what is stored there, and so is what the orders answer
 with these modules as files, and on standard input. The octets that are stored, and those of the rows of
 tests/programs/published, are compared with what the second implementation, examples/reference.py, works out of the type
-of the profile. A hostile text has to be refused with a line, or answered, in a time
-that grows with its length: twice the text may take three and a half times as long, by the clock of the processor. How
-long the largest of each kind took, and the most memory that it had, is printed. The last line is 'N passed, M failed'.
+of the profile. Of a type that is too large the report has its count, and the line at which the limit is passed. A hostile
+text has to be refused with a line, or answered, in a time that grows with its length: twice the text may take three and a
+half times as long, by the clock of the processor. How long the largest of each kind took, and the most memory that it had,
+is printed. The last line is 'N passed, M failed'.
 """
 import importlib.util
 import json
@@ -108,6 +109,36 @@ def examples(count, program):
         count.add(ran[:3] == wanted, f"{words}: {ran[:3]}")
 
 
+# modules, and the lines that the report has: what is too large, with its count, and lines of several files
+TOLD = (
+    ([HEAD + "T ::= " + "SEQUENCE { a\n" * 70000 + "NULL" + " }" * 70000 + "\nU ::= T\nV ::= NULL\nEND\n"],
+     ["0.asn:34: T." + ".".join("a" * 32) + ": refused: 70001 levels, more than 32", "0.asn:70003: U: refused: a type that is refused"]),
+    ([HEAD + "T ::= SEQUENCE {\n" + ",\n".join(f"a{i} NULL" for i in range(90000)) + " }\nEND\n"],
+     ["0.asn:67: T.a64: refused: 90000 components, more than 64"]),
+    ([HEAD + "T ::= SEQUENCE { e ENUMERATED {\n" + ",\n".join(f"a{i}" for i in range(90000)) + " } }\nEND\n"],
+     ["0.asn:259: T.e: refused: 90000 items, more than 256"]),
+    # what stands in another file is told on the line of the type
+    (["M DEFINITIONS AUTOMATIC TAGS ::= BEGIN IMPORTS B FROM N;\nT ::= SEQUENCE { COMPONENTS OF B }\nEND\n",
+      "N DEFINITIONS AUTOMATIC TAGS ::= BEGIN\n\n\nB ::= SEQUENCE { a INTEGER (1 | 3),\nb BMPString }\nEND\n"],
+     ["0.asn:2: T.a: wider: numbers between the ranges are taken too", "0.asn:2: T.b: refused: BMPString is no type of the profile",
+      "1.asn:4: B.a: wider: numbers between the ranges are taken too", "1.asn:5: B.b: refused: BMPString is no type of the profile"]),
+)
+
+
+def told(count, program):
+    """The lines of reports."""
+    for texts, lines in TOLD:
+        with tempfile.TemporaryDirectory(prefix="tulvorn-published-") as room:
+            names = []
+            for index, text in enumerate(texts):
+                names.append(f"{room}/{index}.asn")
+                with open(names[-1], "w") as it:
+                    it.write(text)
+            ran = run(program, ["flatten", "--report", "text", *names])
+        said = ran[2].decode().replace(room + "/", "").splitlines()
+        count.add((ran[0], said) == (1, lines), f"report: status {ran[0]}, {[it[:200] for it in said[:4]]}")
+
+
 def agree(count, what, types, name, line, octets):
     """The octets of a value in both rules are those of the second implementation; `-` where there are none."""
     for rules, wanted in zip((REFERENCE.Per, REFERENCE.Oer), octets):
@@ -151,6 +182,21 @@ def large(n):
     return ["".join([*said, "END\n"])]
 
 
+def doubled(n):
+    """Types of which each has the components of the one before twice, inside one another."""
+    said = [HEAD, "T0 ::= SEQUENCE { a NULL }\n"]
+    for i in range(1, n):
+        said.append(f"T{i} ::= SEQUENCE {{ a SEQUENCE {{ COMPONENTS OF T{i - 1} }}, b SEQUENCE {{ COMPONENTS OF T{i - 1} }} }}\n")
+    return ["".join([*said, "END\n"])]
+
+
+def large_in_all(n):
+    """n types with the components of one that has 3,661 nodes."""
+    inner = ", ".join(f"b{i} NULL" for i in range(60))
+    said = [HEAD, "T ::= SEQUENCE { ", ", ".join(f"a{i} SEQUENCE {{ {inner} }}" for i in range(60)), " }\n"]
+    return ["".join([*said, *(f"T{i} ::= SEQUENCE {{ COMPONENTS OF T }}\n" for i in range(n)), "END\n"])]
+
+
 HOSTILE = {
     "imports in a ring": (300, ring),
     "an import through a chain": (2000, lambda n: ["".join(f"M{i} DEFINITIONS AUTOMATIC TAGS ::= BEGIN IMPORTS T FROM M{i + 1}; END\n" for i in range(n)) + f"M{n} DEFINITIONS AUTOMATIC TAGS ::= BEGIN T ::= NULL END\n"]),
@@ -168,9 +214,18 @@ HOSTILE = {
     "parameters that double": (30, lambda n: [HEAD + "P0 { X } ::= SEQUENCE { a X, b X }\n" + "".join(f"P{i} {{ X }} ::= SEQUENCE {{ a P{i - 1} {{ X }}, b P{i - 1} {{ SEQUENCE OF X }} }}\n" for i in range(1, n)) + f"T ::= P{n - 1} {{ NULL }}\nEND\n"]),
     "assignments": (500000, lambda n: [HEAD + "".join(f"T{i} ::= NULL\n" for i in range(n)) + "END\n"]),
     "assignments of values": (500000, lambda n: [HEAD + "".join(f"v{i} INTEGER ::= {i}\n" for i in range(n)) + "END\n"]),
+    "items": (100000, lambda n: [HEAD + "T ::= ENUMERATED { " + ", ".join(f"a{i}" for i in range(n)) + " }\nEND\n"]),
+    "named numbers": (100000, lambda n: [HEAD + "T ::= INTEGER { " + ", ".join(f"a{i}({i})" for i in range(n)) + " } (a0..a9)\nEND\n"]),
+    "COMPONENTS OF that double": (30, doubled),
+    "COMPONENTS OF one large type": (5000, large_in_all),
+    "COMPONENTS OF in a ring": (50000, lambda n: [HEAD + "".join(f"T{i} ::= SEQUENCE {{ COMPONENTS OF T{(i + 1) % n}, a NULL }}\n" for i in range(n)) + "END\n"]),
+    "selections in a ring": (5000, lambda n: [HEAD + "".join(f"T{i} ::= CHOICE {{ a a < T{(i + 1) % n} }}\n" for i in range(n)) + "END\n"]),
+    "classes in a ring": (50000, lambda n: [HEAD + "".join(f"C{i} ::= C{(i + 1) % n} T{i} ::= SEQUENCE {{ a C{i}.&id }}\n" for i in range(n)) + "END\n"]),
+    "lists that the profile does not take": (5000, lambda n: [HEAD + "".join(f"T{i} ::= SEQUENCE {{ a SEQUENCE OF NULL }} U{i} ::= SEQUENCE {{ a NULL, a NULL }}\n" for i in range(n)) + "END\n"]),
     "components": (100000, lambda n: [HEAD + "T ::= SEQUENCE { " + ", ".join(f"a{i} NULL" for i in range(n)) + " }\nEND\n"]),
     "unions": (100000, lambda n: [HEAD + "T ::= INTEGER (" + " | ".join(f"{2 * i}" for i in range(n)) + ")\nEND\n"]),
     "digits": (1000000, lambda n: [HEAD + f"T ::= INTEGER (0..{'9' * n})\nEND\n"]),
+    "long names and many notes": (1500, lambda n: [HEAD + f"T{'x' * 900} ::= SEQUENCE {{ " + ", ".join(f"a{'y' * 900}{i} SEQUENCE {{ " + ", ".join(f"b{j} INTEGER (1 | 3)" for j in range(n // 50)) + " }" for i in range(50)) + " }\nEND\n"]),
     "a name": (1000000, lambda n: [HEAD + f"T{'x' * n} ::= NULL\nEND\n"]),
     "types of a module": (2800, large),
 }
@@ -224,6 +279,7 @@ def main(words):
     os.chdir(EXAMPLES)
     examples(count, program)
     second_implementation(count)
+    told(count, program)
     hostile(count, program)
     print(f"published modules: {time.time() - start:.0f} s by the clock")
     print(f"{count.passed} passed, {count.failed} failed")

@@ -1,5 +1,6 @@
 pub mod Numbers
 pub mod Left
+pub mod Limits
 pub mod Parts
 pub mod Statuses
 pub mod Telling

@@ -1,10 +1,15 @@
 -- What is said of a component, and of a type that is refused, in words.
-use Rattle.std.specs.Prelude.{◌++◌, ℕ, List, codes}
+use Rattle.std.specs.Prelude.{◌++◌, ℕ, List, Option, Some, None, codes}
+use Rattle.std.specs.Fmt.{decimal}
 use Rattle.asn_published.specs.Statuses.{word_of}
+use Rattle.asn_published.specs.declared.fault.PublishedFault.{PublishedFault}
+use Rattle.asn_published.specs.declared.fault.PublishedFault.TheVariants as fault
 use Rattle.asn_published.specs.declared.refusal.Why.{Why}
 use Rattle.asn_published.specs.declared.refusal.Why.TheVariants as why
 use Rattle.asn_published.specs.declared.report.Remark.{Remark}
 use Rattle.asn_published.specs.declared.report.Remark.TheVariants as remark
+use Rattle.asn_published.specs.declared.wrong.Wrong.{Wrong}
+use Rattle.asn_published.specs.declared.wrong.Wrong.TheVariants as wrong
 
 -- why there is no type
 abbrev pub reason_of : Why → List ℕ
@@ -29,10 +34,13 @@ reason_of why.Constraint = codes "a constraint that is not understood"
 reason_of why.Ranges = codes "more than 256 ranges"
 reason_of why.Items = codes "items that are not understood"
 reason_of why.Tags = codes "tags that are not understood"
-reason_of why.TooDeep = codes "more than 32 levels"
-reason_of why.TooManyNodes = codes "more than 10,000 nodes"
-reason_of why.TooMany = codes "too many components, alternatives, additions or items"
+reason_of (why.TooMany what count most) =
+    decimal count ++ (codes " " ++ (what.now ++ (codes ", more than " ++ decimal most)))
 reason_of why.NameTaken = codes "a name that is taken"
+reason_of why.NumberTaken = codes "a number that is taken"
+reason_of why.ItemNumber = codes "a number of an item outside 32 bits"
+reason_of why.NoRoot = codes "nothing before the extension mark"
+reason_of why.ZeroWidth = codes "elements that take no bits"
 reason_of why.NotOfProfile = codes "the profile does not take it"
 reason_of why.NotTheSame = codes "not the same"
 
@@ -54,3 +62,19 @@ words_of remark.OerItems = codes "OER writes other numbers for additional items"
 words_of remark.Level = codes "recursion ends here, in NULL"
 words_of (remark.Holds s) = codes "holds a type that is " ++ word_of s
 words_of (remark.Refused reason) = reason_of reason
+
+-- what is wrong in a text
+abbrev pub wrong_words : Wrong → List ℕ
+wrong_words wrong.Character = codes "no lexical item begins here"
+wrong_words wrong.Unended = codes "a comment or string without end"
+wrong_words wrong.LongName = codes "a name of more than 1000 characters"
+wrong_words wrong.Bracket = codes "a bracket without its other"
+wrong_words (wrong.Expected what) = what.now ++ codes " expected"
+wrong_words wrong.Twice = codes "assigned twice"
+wrong_words wrong.ModuleTwice = codes "a module that is given twice"
+
+-- why texts become no module; nothing is said of the words for a fault of `asn_module`
+abbrev pub fault_words : PublishedFault → Option (List ℕ)
+fault_words (fault.Text text line w) = Some (codes "line " ++ (decimal line ++ (codes ": " ++ wrong_words w)))
+fault_words (fault.Unread other) = None
+fault_words fault.Memory = Some (codes "memory")

@@ -19,9 +19,7 @@ struct End {
 impl<'a, 't> Values<'a, 't> {
     /// The bound at `at`, which `open`, MIN or MAX, leaves open.
     fn bound_at(&self, scope: Scope, mode: Mode, at: usize, open: &str) -> Result<End, Refusal> {
-        let Some(tokens) = self.world.tokens_of(scope.module) else {
-            return Err(refused(0, Why::Constraint));
-        };
+        let tokens = self.tokens_in(scope)?;
         if tokens.is_word(at, open) {
             return Ok(End {
                 bound: None,
@@ -46,9 +44,7 @@ impl<'a, 't> Values<'a, 't> {
 
     /// The range or the single number at `at`, and the index after it.
     fn range_at(&self, scope: Scope, mode: Mode, at: usize) -> Result<(Range, usize), Refusal> {
-        let Some(tokens) = self.world.tokens_of(scope.module) else {
-            return Err(refused(0, Why::Constraint));
-        };
+        let tokens = self.tokens_in(scope)?;
         let line = tokens.line(at);
         let low = self.bound_at(scope, mode, at, "MIN")?;
         let mut behind = low.behind;
@@ -69,8 +65,8 @@ impl<'a, 't> Values<'a, 't> {
         }
         let high = self.bound_at(scope, mode, behind, "MAX")?;
         let range = Range {
-            low: moved(low.bound, is_above, 1, line)?,
-            high: moved(high.bound, is_below, -1, line)?,
+            low: moved(low.bound, scope.least, is_above, 1, line)?,
+            high: moved(high.bound, scope.most, is_below, -1, line)?,
         };
         Ok((range, high.behind))
     }
@@ -106,9 +102,7 @@ impl<'a, 't> Values<'a, 't> {
         mode: Mode,
         at: usize,
     ) -> Result<(Seen, usize), Refusal> {
-        let Some(tokens) = self.world.tokens_of(scope.module) else {
-            return Err(refused(0, Why::Constraint));
-        };
+        let tokens = self.tokens_in(scope)?;
         let is_text = tokens.is_kind(at, Kind::Text);
         match mode {
             Mode::Letters if is_text && !tokens.is(next(at), Sign::UpTo) => {
@@ -145,10 +139,10 @@ fn single(number: Option<i128>) -> Range {
     }
 }
 
-/// A bound that `<` moves by one, where it stands. What MIN and MAX are is not known here, so a mark beside them is
-/// not understood.
+/// A bound that `<` moves by one, where it stands; `open` is what MIN or MAX is, where that is known.
 fn moved(
     bound: Option<i128>,
+    open: Option<i128>,
     is_moved: bool,
     by: i128,
     line: u32,
@@ -156,7 +150,8 @@ fn moved(
     if !is_moved {
         return Ok(bound);
     }
-    let moved = match bound {
+    let from = if bound.is_some() { bound } else { open };
+    let moved = match from {
         Some(number) => number.checked_add(by),
         None => None,
     };

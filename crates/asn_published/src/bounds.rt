@@ -6,6 +6,11 @@ use crate::ranges::{Range, Ranges};
 use crate::refusal::{Refusal, Why, refused};
 use std::alloc::{AllocError, Global};
 
+/// The lowest and the highest number of 64 bits with a sign.
+const LOWEST: i128 = -9223372036854775808;
+
+const HIGHEST: i128 = 9223372036854775807;
+
 /// The highest number of 64 bits without a sign.
 const HIGHEST_UNSIGNED: i128 = 18446744073709551615;
 
@@ -29,6 +34,12 @@ fn fits(bound: Option<i128>) -> bool {
     }
 }
 
+/// Whether a range has all numbers of 64 bits with a sign, and no others but where it has no bound.
+fn is_every_number(range: Range) -> bool {
+    (range.low.is_none() || range.low == Some(LOWEST))
+        && (range.high.is_none() || range.high == Some(HIGHEST))
+}
+
 /// The range that a set of numbers, marked or not, becomes.
 pub(crate) fn numbers_between(
     left: &Option<Ranges>,
@@ -48,12 +59,11 @@ pub(crate) fn numbers_between(
             None => return Err(refused(line, Why::Empty)),
         },
     };
+    if marked && is_every_number(hull) {
+        return Err(refused(line, Why::UselessMark));
+    }
     if hull.low.is_none() && hull.high.is_none() {
-        return if marked {
-            Err(refused(line, Why::UselessMark))
-        } else {
-            Ok(Numbers::All)
-        };
+        return Ok(Numbers::All);
     }
     if hull.low == Some(0) && hull.high == Some(HIGHEST_UNSIGNED) && !marked {
         return Ok(Numbers::Unsigned);

@@ -81,6 +81,7 @@ impl<'t> Forest<'t> {
             name: "",
             instance,
             is_field: false,
+            is_constrained: false,
         })?;
         if is_endless {
             return Ok(first);
@@ -198,6 +199,7 @@ impl<'t> Forest<'t> {
             name,
             instance: above.instance,
             is_field: false,
+            is_constrained: false,
         })?;
         todo.push(Task {
             node: index,

@@ -8,6 +8,9 @@ use crate::tokens::{Tokens, next};
 /// How many lexical items of a class are looked at for a field.
 const MOST_ITEMS: u32 = 1000;
 
+/// How many names of classes are followed.
+const MOST_LEADS: u32 = 32;
+
 /// What a field of a class is where a type stands.
 #[derive(Clone, Copy)]
 pub(crate) enum Field {
@@ -21,49 +24,98 @@ pub(crate) enum Field {
     },
 }
 
-/// Whether `Name.&field` stands at `at`.
-pub(crate) fn is_class_field(tokens: &Tokens<'_>, at: usize) -> bool {
-    tokens.is(next(at), Sign::Dot) && tokens.is(next(next(at)), Sign::Ampersand)
+/// The index of the `&` of the field at `at`, as `Name.&field` or `Module.Name.&field`; `None` where none stands there.
+fn sign_of_field(tokens: &Tokens<'_>, at: usize) -> Option<usize> {
+    let mut dot = next(at);
+    if tokens.is(dot, Sign::Dot) && tokens.is_capital(next(dot)) {
+        dot = next(next(dot));
+    }
+    let sign = next(dot);
+    if tokens.is(dot, Sign::Dot) && tokens.is(sign, Sign::Ampersand) {
+        Some(sign)
+    } else {
+        None
+    }
 }
 
-/// What the field of a class is that stands at `at`, as `Name.&field`.
+/// Whether the field of a class stands at `at`.
+pub(crate) fn is_class_field(tokens: &Tokens<'_>, at: usize) -> bool {
+    sign_of_field(tokens, at).is_some()
+}
+
+/// What the field of a class is that stands at `at`.
 pub(crate) fn field_at(
     world: &World<'_>,
     tokens: &Tokens<'_>,
     module: usize,
     at: usize,
 ) -> Result<Field, Why> {
-    let name = next(next(next(at)));
+    let Some(sign) = sign_of_field(tokens, at) else {
+        return Err(Why::ClassField);
+    };
+    let name = next(sign);
     if tokens.is(next(name), Sign::Dot) {
         return Err(Why::ClassField);
     }
-    let index = match world.find(module, tokens.text(at)) {
-        Ok(index) => index,
-        Err(Why::Unknown) => return built_in(tokens.text(at), tokens.text(name)),
-        Err(why) => return Err(why),
+    let second = next(next(at));
+    let class = if sign == second {
+        world.find(module, tokens.text(at))
+    } else {
+        world.find_in(tokens.text(at), tokens.text(second))
     };
-    let Some(class) = world.assignment(index) else {
-        return Err(Why::ClassField);
-    };
-    if class.what != What::Class || class.parameters.is_some() {
-        return Err(Why::ClassField);
+    field_of_class(world, class, tokens.text(at), tokens.text(name))
+}
+
+/// The field of a name in the class to which a name leads, of which `first` is the assignment.
+fn field_of_class(
+    world: &World<'_>,
+    first: Result<usize, Why>,
+    name: &str,
+    field: &str,
+) -> Result<Field, Why> {
+    let (mut found, mut name) = (first, name);
+    for _ in 0..MOST_LEADS {
+        let class = match found {
+            Ok(to) => world.assignment(to),
+            Err(Why::Unknown) => return built_in(name, field),
+            Err(why) => return Err(why),
+        };
+        let class = match class {
+            Some(class) if class.what == What::Class && class.parameters.is_none() => class,
+            _ => return Err(Why::ClassField),
+        };
+        let Some(there) = world.tokens_of(class.module) else {
+            return Err(Why::ClassField);
+        };
+        if there.is_word(class.start, "CLASS") {
+            return field_named(world, there, class.module, next(class.start), field);
+        }
+        found = match world.reference_at(class.module, class.start) {
+            Ok((to, _)) => Ok(to),
+            Err(why) => Err(why),
+        };
+        name = there.text(class.start);
     }
-    let Some(there) = world.tokens_of(class.module) else {
-        return Err(Why::ClassField);
-    };
-    field_named(there, class.module, next(class.start), tokens.text(name))
+    Err(Why::ClassField)
+}
+
+/// Whether X.681 defines a class of this name.
+pub(crate) fn is_built_in(class: &str) -> bool {
+    class == "TYPE-IDENTIFIER" || class == "ABSTRACT-SYNTAX"
 }
 
 /// The field of a class that X.681 defines.
 fn built_in(class: &str, field: &str) -> Result<Field, Why> {
-    match class {
-        "TYPE-IDENTIFIER" | "ABSTRACT-SYNTAX" if field == "Type" => Ok(Field::Open),
-        _ => Err(Why::ClassField),
+    if is_built_in(class) && field == "Type" {
+        Ok(Field::Open)
+    } else {
+        Err(Why::ClassField)
     }
 }
 
 /// The field of a name in the braces of a class.
 fn field_named(
+    world: &World<'_>,
     tokens: &Tokens<'_>,
     module: usize,
     braces: usize,
@@ -79,7 +131,7 @@ fn field_named(
         let name = next(at);
         let is_it = *tokens.text(name).as_bytes() == *field.as_bytes();
         if begins && tokens.is(at, Sign::Ampersand) && is_it {
-            return kind_of(tokens, module, name, end);
+            return kind_of(world, tokens, module, name, end);
         }
         begins = tokens.is(at, Sign::Comma);
         at = tokens.after(at);
@@ -87,26 +139,38 @@ fn field_named(
     Err(Why::ClassField)
 }
 
-/// What the field is whose name stands at `name`.
-fn kind_of(tokens: &Tokens<'_>, module: usize, name: usize, end: usize) -> Result<Field, Why> {
+/// What the field is whose name stands at `name`: an open type, or of the type of its values.
+fn kind_of(
+    world: &World<'_>,
+    tokens: &Tokens<'_>,
+    module: usize,
+    name: usize,
+    end: usize,
+) -> Result<Field, Why> {
     let start = next(name);
-    if tokens.is_identifier(name) {
-        return match type_end(tokens, start) {
-            Ok(behind) if behind <= end => Ok(Field::Type {
-                module,
-                start,
-                end: behind,
-            }),
-            _ => Err(Why::ClassField),
-        };
+    // the type of the values is that of another field
+    if tokens.is(start, Sign::Ampersand) {
+        return Ok(Field::Open);
     }
-    let is_open = start == end
-        || tokens.is(start, Sign::Comma)
-        || tokens.is_word(start, "OPTIONAL")
-        || tokens.is_word(start, "DEFAULT");
-    if is_open {
-        Ok(Field::Open)
-    } else {
-        Err(Why::ClassField)
+    if !tokens.is_identifier(name) {
+        let is_type = start == end
+            || tokens.is(start, Sign::Comma)
+            || tokens.is_word(start, "OPTIONAL")
+            || tokens.is_word(start, "DEFAULT");
+        if is_type {
+            return Ok(Field::Open);
+        }
+        // a set, of objects where it is not of values
+        if !world.has_values(module, start) {
+            return Err(Why::ClassField);
+        }
+    }
+    match type_end(tokens, start) {
+        Ok(behind) if behind <= end => Ok(Field::Type {
+            module,
+            start,
+            end: behind,
+        }),
+        _ => Err(Why::ClassField),
     }
 }

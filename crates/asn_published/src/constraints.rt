@@ -25,9 +25,7 @@ impl<'a, 't> Values<'a, 't> {
         at: usize,
         levels: u32,
     ) -> Result<Seen, Refusal> {
-        let Some(tokens) = self.world.tokens_of(scope.module) else {
-            return Err(refused(0, Why::Constraint));
-        };
+        let tokens = self.tokens_in(scope)?;
         if !tokens.is(at, Sign::LeftParen) || levels == 0 {
             return Err(refused(tokens.line(at), Why::Constraint));
         }
@@ -50,9 +48,7 @@ impl<'a, 't> Values<'a, 't> {
         mode: Mode,
         at: usize,
     ) -> Result<(Seen, usize), Refusal> {
-        let Some(tokens) = self.world.tokens_of(scope.module) else {
-            return Err(refused(0, Why::Constraint));
-        };
+        let tokens = self.tokens_in(scope)?;
         let start = if tokens.is_word(at, "INCLUDES") {
             next(at)
         } else {
@@ -86,9 +82,7 @@ impl<'a, 't> Values<'a, 't> {
         at: usize,
         levels: u32,
     ) -> Result<(Seen, usize), Refusal> {
-        let Some(tokens) = self.world.tokens_of(scope.module) else {
-            return Err(refused(0, Why::Constraint));
-        };
+        let tokens = self.tokens_in(scope)?;
         if levels == 0 {
             return Err(refused(tokens.line(at), Why::Constraint));
         }
@@ -101,10 +95,12 @@ impl<'a, 't> Values<'a, 't> {
             return Ok((Seen::unseen(), after_table(tokens, at)));
         }
         if tokens.is_word(at, "SIZE") && mode == Mode::Others {
+            let scope = scope.of_sizes();
             let inner = self.inner_seen(alloc, scope, Mode::Numbers, next(at), below)?;
             return Ok((sizes_of(inner), tokens.after(next(at))));
         }
         if tokens.is_word(at, "FROM") && mode == Mode::Others {
+            let scope = scope.of_letters();
             let inner = self.inner_seen(alloc, scope, Mode::Letters, next(at), below)?;
             return Ok((letters_of(inner), tokens.after(next(at))));
         }
@@ -127,9 +123,7 @@ impl<'a, 't> Values<'a, 't> {
         at: usize,
         levels: u32,
     ) -> Result<(Seen, usize), Refusal> {
-        let Some(tokens) = self.world.tokens_of(scope.module) else {
-            return Err(refused(0, Why::Constraint));
-        };
+        let tokens = self.tokens_in(scope)?;
         if levels == 0 {
             return Err(refused(tokens.line(at), Why::Constraint));
         }
@@ -156,9 +150,7 @@ impl<'a, 't> Values<'a, 't> {
         end: usize,
         levels: u32,
     ) -> Result<Seen, Refusal> {
-        let Some(tokens) = self.world.tokens_of(scope.module) else {
-            return Err(refused(0, Why::Constraint));
-        };
+        let tokens = self.tokens_in(scope)?;
         if levels == 0 {
             return Err(refused(tokens.line(start), Why::Constraint));
         }
@@ -202,9 +194,7 @@ impl<'a, 't> Values<'a, 't> {
         start: usize,
         end: usize,
     ) -> Result<Seen, Refusal> {
-        let Some(tokens) = self.world.tokens_of(scope.module) else {
-            return Err(refused(0, Why::Constraint));
-        };
+        let tokens = self.tokens_in(scope)?;
         let mut seen = Seen::all();
         let mut at = start;
         for _ in 0..tokens.len() {
@@ -216,7 +206,8 @@ impl<'a, 't> Values<'a, 't> {
                 at = next(at);
             }
             let line = tokens.line(at);
-            let one = self.inner_or_size(alloc, scope, mode, at)?;
+            let place = scope.after(&seen.numbers).after(&seen.sizes);
+            let one = self.inner_or_size(alloc, place, mode, at)?;
             seen = intersection(alloc, seen, one, line)?;
             at = tokens.after(at);
         }
@@ -231,9 +222,7 @@ impl<'a, 't> Values<'a, 't> {
         start: usize,
         end: usize,
     ) -> Result<Seen, Refusal> {
-        let Some(tokens) = self.world.tokens_of(scope.module) else {
-            return Err(refused(0, Why::Constraint));
-        };
+        let tokens = self.tokens_in(scope)?;
         if tokens.is_word(start, "SIZE") {
             self.set_seen(alloc, scope, Mode::Others, start, end, MOST_LEVELS)
         } else {
@@ -249,9 +238,7 @@ impl<'a, 't> Values<'a, 't> {
         mode: Mode,
         at: usize,
     ) -> Result<Seen, Refusal> {
-        let Some(tokens) = self.world.tokens_of(scope.module) else {
-            return Err(refused(0, Why::Constraint));
-        };
+        let tokens = self.tokens_in(scope)?;
         let end = tokens.other(at);
         let root = root_end(tokens, next(at), end);
         let marked = mark_at(tokens, root, end)?;

@@ -99,6 +99,8 @@ impl<'t> Writer<'t> {
             module,
             named: None,
             instance: None,
+            least: None,
+            most: None,
         };
         let items = items_of(alloc, known.values, scope, braces)?;
         if items.root.len() < 2 {

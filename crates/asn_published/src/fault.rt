@@ -3,25 +3,39 @@ use crate::refusal::Refusal;
 use crate::wrong::{TextFault, Wrong};
 use asn_module::ModuleFault;
 use std::alloc::{AllocError, AllocFailed};
-use thiserror::Error;
+use std::error::Error;
+use std::fmt;
 
 /// Why published texts become no module of the profile.
-#[derive(Debug, Drop, Error)]
+#[derive(Debug, Drop)]
 pub enum PublishedFault {
     /// A text is none of the notation; which one, from 0, and the line, from 1.
-    #[error("line {line}: {wrong}")]
     Text {
         text: usize,
         line: u32,
         wrong: Wrong,
     },
     /// The profile does not take what was written.
-    #[error("not read: {0}")]
     Unread(ModuleFault),
     /// An allocation failed.
-    #[error("memory")]
     Memory,
 }
+
+impl fmt::Display for PublishedFault {
+    ghost use Rattle.asn_published.specs.Words.{fault_words};
+
+    ghost output = { fault_words };
+
+    fn fmt<W: fmt::Write>(&self, f: &mut fmt::Formatter<W>) -> fmt::Result {
+        match self {
+            PublishedFault::Text { line, wrong, .. } => write!(f, "line {line}: {wrong}"),
+            PublishedFault::Unread(fault) => write!(f, "not read: {fault}"),
+            PublishedFault::Memory => f.write_str("memory"),
+        }
+    }
+}
+
+impl Error for PublishedFault {}
 
 impl PublishedFault {
     /// The fault of a text.

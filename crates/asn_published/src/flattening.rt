@@ -11,9 +11,10 @@ use crate::numbers::numbers_of;
 use crate::options::Options;
 use crate::order::{Order, order_of};
 use crate::pieces::push_pieces;
+use crate::refusing::refuse;
 use crate::report::TypeReport;
 use crate::reports::reports_of;
-use crate::written::{Written, put, write_all};
+use crate::written::{Written, write_all};
 use asn_module::{Module, ModuleFault, read};
 use std::alloc::{AllocError, Global};
 
@@ -50,6 +51,7 @@ fn world_of<'t>(alloc: Global, texts: &[&'t str]) -> Result<World<'t>, Published
             Err(fault) => return Err(PublishedFault::of(index, fault)),
         }
     }
+    world.take_class_names();
     world.take_value_sets();
     Ok(world)
 }
@@ -165,8 +167,8 @@ fn push_assignments(
     Ok(())
 }
 
-/// The text of the module of the types that are written.
-fn text_written(
+/// What stands in the text of the module before the assignments of the types as they are asked for.
+pub(crate) fn first_lines(
     alloc: Global,
     sources: &Sources<'_>,
     written: &Written,
@@ -183,6 +185,16 @@ fn text_written(
     for line in &written.levels {
         text.push_str(line.as_str())?;
     }
+    Ok(text)
+}
+
+/// The text of the module of the types that are written.
+fn text_written(
+    alloc: Global,
+    sources: &Sources<'_>,
+    written: &Written,
+) -> Result<String, AllocError> {
+    let mut text = first_lines(alloc, sources, written)?;
     push_assignments(
         &mut text,
         sources.names.as_slice(),
@@ -199,13 +211,6 @@ fn read_back(alloc: Global, text: &str) -> Result<(String, Module), ModuleFault>
     let module = read(alloc, text)?;
     let printed = module.print(alloc)?;
     Ok((printed, module))
-}
-
-/// The index of the assignment that has a name in the profile.
-fn index_named(names: &[String], name: &str) -> Option<usize> {
-    names
-        .iter()
-        .position(|other| *other.as_str().as_bytes() == *name.as_bytes())
 }
 
 /// Writes all types but those that are refused, and reads them back.
@@ -228,25 +233,6 @@ fn attempt(
     })
 }
 
-/// Refuses the type that the profile does not take; a fault of anything else is told.
-fn refuse(
-    names: &[String],
-    refused: &mut Vec<bool>,
-    fault: ModuleFault,
-) -> Result<(), PublishedFault> {
-    let found = match &fault {
-        ModuleFault::BadType { name, fault: _ } => index_named(names, name.as_str()),
-        _ => None,
-    };
-    match found {
-        Some(index) => {
-            put(refused, index, true);
-            Ok(())
-        }
-        None => Err(PublishedFault::Unread(fault)),
-    }
-}
-
 /// One module of the profile from the texts of published ones (X.680 to X.683), and what became of each type.
 ///
 /// The module has the name of the first one, and a type for each type assignment that is not refused. It is read by
@@ -264,7 +250,7 @@ pub fn flatten(alloc: Global, texts: &[&str], options: Options) -> Result<Flatte
     for _ in 1..MOST_TRIES {
         match attempt(alloc, &sources, options, refused.as_slice()) {
             Err(PublishedFault::Unread(fault)) => {
-                refuse(sources.names.as_slice(), &mut refused, fault)?;
+                refuse(alloc, &sources, options, &mut refused, fault)?;
             }
             answer => return answer,
         }

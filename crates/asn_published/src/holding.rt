@@ -1,13 +1,11 @@
 //! Writes SEQUENCE, SET and CHOICE: their members in the order that the profile has.
 use crate::extents::after_tags;
-use crate::info::Base;
-use crate::layout::{
-    Layout, TagOrder, Tagging, is_too_large, layout_of, may_be_empty, sort_by_tags,
-};
+use crate::layout::{Layout, TagOrder, layout_of, may_be_empty, sort_by_tags};
+use crate::limits::{MOST_ADDITIONS, MOST_COMPONENTS};
 use crate::nodes::{Holder, Member, MemberKind, Need, Node, Shape};
 use crate::refusal::{Refusal, Why, refused};
 use crate::report::Remark;
-use crate::tags::is_automatic;
+use crate::tags::{Tagging, is_automatic};
 use crate::writer::{Known, Task, Writer};
 use crate::writing::is_extensible;
 use std::alloc::Global;
@@ -20,7 +18,7 @@ impl<'t> Writer<'t> {
         known: Known<'_, 't>,
         index: usize,
         node: &Node<'t>,
-        depth: u32,
+        depth: usize,
     ) -> Result<(), Refusal> {
         let Shape::Members {
             holder,
@@ -31,23 +29,45 @@ impl<'t> Writer<'t> {
         else {
             return Ok(());
         };
-        let line = known.line_of(node);
         if node.constraints < node.end {
             self.remark(alloc, known, index, Remark::Dropped)?;
         }
-        let written = (from, to);
-        let mut layout = layout_of(alloc, known.forest, known.firsts, written, line)?;
-        if is_too_large(&layout, holder) {
-            return Err(refused(line, Why::TooMany));
-        }
-        if holder != Holder::Sequence {
-            self.put_in_order(alloc, known, index, node, (holder, from, to), &mut layout)?;
-        }
+        let layout = self.layout_of_node(alloc, known, index, node, (holder, from, to))?;
         let is_marked = marked || (is_extensible(known, node) && !is_group(known, node));
+        // a CHOICE of more than one alternative has an index
+        let is_single = holder != Holder::Choice || layout.root.len() == 1;
+        self.without_bits.push(!is_marked && is_single)?;
         let mut tasks = Vec::new(alloc);
         let below = depth.saturating_add(1);
         self.push_members(alloc, known, &mut tasks, holder, &layout, is_marked, below)?;
         self.ask_for(tasks.as_slice())
+    }
+
+    /// The members of a node in the order that the profile has, where it takes them: the holder, and the members as they
+    /// are written, from one index to before another.
+    fn layout_of_node(
+        &mut self,
+        alloc: Global,
+        known: Known<'_, 't>,
+        index: usize,
+        node: &Node<'t>,
+        written: (Holder, usize, usize),
+    ) -> Result<Layout, Refusal> {
+        let (holder, from, to) = written;
+        let line = known.line_of(node);
+        let mut layout = layout_of(alloc, known.forest, known.firsts, (from, to), line)?;
+        if layout.len() > MOST_COMPONENTS + MOST_ADDITIONS {
+            // too many, and each of them was looked at
+            self.take_nodes(known, layout.len(), line)?;
+        }
+        if holder == Holder::Choice && layout.root.is_empty() {
+            return Err(refused(line, Why::NoRoot));
+        }
+        self.check_members(alloc, known, &layout, holder)?;
+        if holder != Holder::Sequence {
+            self.put_in_order(alloc, known, index, node, written, &mut layout)?;
+        }
+        Ok(layout)
     }
 
     /// Asks for tasks, which are done in their order.
@@ -78,6 +98,7 @@ impl<'t> Writer<'t> {
             world,
             forest: known.forest,
             firsts: known.firsts,
+            numbers: known.values.numbers,
         };
         match sort_by_tags(alloc, sources, layout)? {
             TagOrder::Automatic => Ok(()),
@@ -96,7 +117,7 @@ impl<'t> Writer<'t> {
         holder: Holder,
         layout: &Layout,
         marked: bool,
-        depth: u32,
+        depth: usize,
     ) -> Result<(), Refusal> {
         tasks.push(Task::Text(if holder == Holder::Choice {
             " CHOICE {"
@@ -113,7 +134,7 @@ impl<'t> Writer<'t> {
             self.push_additions(alloc, known, tasks, holder, layout, depth)?;
         }
         tasks.push(Task::Text(" }"))?;
-        Ok(tasks.push(Task::Holder(Base::Other, false))?)
+        Ok(tasks.push(Task::Members)?)
     }
 
     /// What is to be written of additions, in order.
@@ -124,7 +145,7 @@ impl<'t> Writer<'t> {
         tasks: &mut Vec<Task<'t>>,
         holder: Holder,
         layout: &Layout,
-        depth: u32,
+        depth: usize,
     ) -> Result<(), Refusal> {
         for member in &layout.additions {
             self.push_member(alloc, known, tasks, *member, true, depth)?;
@@ -143,7 +164,7 @@ impl<'t> Writer<'t> {
         tasks: &mut Vec<Task<'t>>,
         index: usize,
         comma: bool,
-        depth: u32,
+        depth: usize,
     ) -> Result<(), Refusal> {
         let Some(member) = known.forest.member(index) else {
             return Ok(());

@@ -29,8 +29,10 @@ pub(crate) struct Info {
     pub marked: bool,
     /// The module and the `{` of named numbers or items.
     pub named: Option<(usize, usize)>,
-    pub nodes: u32,
-    pub depth: u32,
+    /// No value of the type has a bit in PER.
+    pub no_bits: bool,
+    pub nodes: usize,
+    pub depth: usize,
     pub status: Status,
 }
 
@@ -43,6 +45,7 @@ impl Info {
             letters: None,
             marked: false,
             named: None,
+            no_bits: false,
             nodes: 1,
             depth: 1,
             status: Status::Same,
@@ -57,6 +60,7 @@ impl Info {
             letters: copied(alloc, &self.letters)?,
             marked: self.marked,
             named: self.named,
+            no_bits: self.no_bits,
             nodes: self.nodes,
             depth: self.depth,
             status: self.status,

@@ -1,4 +1,6 @@
 //! Items of ENUMERATED, each with its number (X.680, "enumerated type").
+use crate::limits::{MOST_ADDITIONS, MOST_ITEMS, within};
+use crate::membering::after_exception;
 use crate::numbers::{Scope, Values};
 use crate::refusal::{Refusal, Why, refused};
 use crate::token::Sign;
@@ -6,14 +8,12 @@ use crate::tokens::{Tokens, next};
 use std::alloc::Global;
 use std::collections::HashMap;
 
-/// How many items an ENUMERATED may have.
-const MOST_ITEMS: usize = 256;
-
-/// An item, and its number where it is given.
+/// An item, its line, and its number where it is given.
 #[derive(Clone, Copy)]
 pub(crate) struct Item<'t> {
     pub name: &'t str,
     pub number: i128,
+    line: u32,
     has_number: bool,
     is_addition: bool,
 }
@@ -42,6 +42,7 @@ fn item_at<'t>(
     let mut item = Item {
         name: tokens.text(at),
         number: 0,
+        line: tokens.line(at),
         has_number: false,
         is_addition,
     };
@@ -57,6 +58,14 @@ fn item_at<'t>(
         behind = next(end);
     }
     Ok((item, behind))
+}
+
+/// The index after an extension mark and its exception, from the index after the mark.
+fn after_mark(tokens: &Tokens<'_>, from: usize, line: u32) -> Result<usize, Refusal> {
+    match after_exception(tokens, from) {
+        Ok(behind) => Ok(behind),
+        Err(_fault) => Err(refused(line, Why::Items)),
+    }
 }
 
 /// The items in the braces at `braces`, as they are written, and whether a mark is.
@@ -78,17 +87,11 @@ fn written_items<'t>(
         let line = tokens.line(at);
         if tokens.is(at, Sign::Dots) && !marked {
             marked = true;
-            at = next(at);
-            if tokens.is(at, Sign::Bang) {
-                return Err(refused(line, Why::Items));
-            }
+            at = after_mark(tokens, next(at), line)?;
         } else {
             let (item, behind) = item_at(values, tokens, scope, at, marked)?;
             items.push(item)?;
             at = behind;
-        }
-        if items.len() > MOST_ITEMS {
-            return Err(refused(line, Why::TooMany));
         }
         if at < end {
             if !tokens.is(at, Sign::Comma) {
@@ -98,6 +101,46 @@ fn written_items<'t>(
         }
     }
     Ok((items, marked))
+}
+
+/// Refuses no items before the mark, more than the profile takes, and a name that two have: on the line of the item, or
+/// of the braces.
+fn check_items(alloc: Global, items: &[Item<'_>], line: u32) -> Result<(), Refusal> {
+    match items.first() {
+        Some(first) if !first.is_addition => {}
+        _ => return Err(refused(line, Why::NoRoot)),
+    }
+    if let Some(item) = items.get(MOST_ITEMS) {
+        within(item.line, "items", items.len(), MOST_ITEMS)?;
+    }
+    let mut taken = HashMap::new(alloc);
+    for item in items {
+        if taken.insert(item.name, ())?.is_some() {
+            return Err(refused(item.line, Why::NameTaken));
+        }
+    }
+    Ok(())
+}
+
+/// Refuses a number that two items have.
+fn check_numbers(alloc: Global, items: &[Item<'_>]) -> Result<(), Refusal> {
+    let mut taken = HashMap::new(alloc);
+    for item in items {
+        if taken.insert(item.number, ())?.is_some() {
+            return Err(refused(item.line, Why::NumberTaken));
+        }
+    }
+    Ok(())
+}
+
+/// Refuses a number outside 32 bits.
+fn check_range(items: &[Item<'_>]) -> Result<(), Refusal> {
+    for item in items {
+        if i32::try_from(item.number).is_err() {
+            return Err(refused(item.line, Why::ItemNumber));
+        }
+    }
+    Ok(())
 }
 
 /// Numbers the items that have none: those of the root with the least numbers that no item of the root has, one
@@ -170,7 +213,9 @@ pub(crate) fn items_of<'t>(
         return Err(refused(0, Why::Items));
     };
     let (mut all, marked) = written_items(alloc, values, tokens, scope, braces)?;
+    check_items(alloc, all.as_slice(), tokens.line(braces))?;
     give_numbers(alloc, &mut all)?;
+    check_numbers(alloc, all.as_slice())?;
     let mut items = Items {
         root: Vec::new(alloc),
         additions: Vec::new(alloc),
@@ -178,5 +223,15 @@ pub(crate) fn items_of<'t>(
         renumbered: false,
     };
     put_apart(all.as_slice(), &mut items)?;
+    if let Some(item) = items.additions.get(MOST_ADDITIONS) {
+        within(
+            item.line,
+            "additional items",
+            items.additions.len(),
+            MOST_ADDITIONS,
+        )?;
+    }
+    check_range(items.root.as_slice())?;
+    check_range(items.additions.as_slice())?;
     Ok(items)
 }

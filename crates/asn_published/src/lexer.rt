@@ -3,6 +3,9 @@ use crate::token::{Kind, Sign, Token};
 use crate::wrong::{TextFault, Wrong};
 use std::alloc::Global;
 
+/// How many characters a name may have, which stands in each line of a report.
+const MOST_CHARACTERS: usize = 1000;
+
 /// A place in a text: an octet, from 0, and its line, from 1.
 #[derive(Clone, Copy)]
 struct Place {
@@ -141,6 +144,21 @@ fn after_word(octets: &[u8], from: usize) -> usize {
     at
 }
 
+/// The place after a word, which is not too long.
+fn after_name(octets: &[u8], from: Place) -> Result<Place, TextFault> {
+    let at = after_word(octets, from.at);
+    if at.saturating_sub(from.at) > MOST_CHARACTERS {
+        return Err(TextFault::At {
+            line: from.line,
+            wrong: Wrong::LongName,
+        });
+    }
+    Ok(Place {
+        at,
+        line: from.line,
+    })
+}
+
 /// The index after the digits that begin at `from`.
 fn after_digits(octets: &[u8], from: usize) -> usize {
     let mut at = from;
@@ -250,13 +268,53 @@ fn after_digits_quoted(octets: &[u8], from: Place) -> Result<Place, TextFault> {
     }
 }
 
+/// The place after a value in XML (X.680, "XML value assignment"), whose first tag is at `from`: after the end tag of
+/// that one.
+fn after_xml(octets: &[u8], from: Place) -> Result<Place, TextFault> {
+    let mut place = from;
+    let mut open = 0usize;
+    let mut is_end = false;
+    let mut before = 0u8;
+    for _ in 0..octets.len() {
+        if place.at >= octets.len() {
+            break;
+        }
+        let octet = octet_at(octets, place.at);
+        place = step(octets, place);
+        if octet == b'<' {
+            is_end = octet_at(octets, place.at) == b'/';
+            open = open.saturating_add(if is_end { 0 } else { 1 });
+        }
+        if octet == b'>' && (is_end || before == b'/') {
+            is_end = false;
+            open = open.saturating_sub(1);
+            if open == 0 {
+                return Ok(place);
+            }
+        }
+        before = octet;
+    }
+    Err(TextFault::At {
+        line: from.line,
+        wrong: Wrong::Unended,
+    })
+}
+
+/// The kind of the lexical item that begins at a place, and the place after it; `follows` says that it follows `::=`.
+fn item_after(octets: &[u8], from: Place, follows: bool) -> Result<(Kind, Place), TextFault> {
+    if follows && octet_at(octets, from.at) == b'<' {
+        Ok((Kind::Xml, after_xml(octets, from)?))
+    } else {
+        item_at(octets, from)
+    }
+}
+
 /// The kind of the lexical item that begins at a place, and the place after it.
 fn item_at(octets: &[u8], from: Place) -> Result<(Kind, Place), TextFault> {
     let line = from.line;
     let first = octet_at(octets, from.at);
     if first.is_ascii_alphabetic() {
-        let at = after_word(octets, from.at);
-        return Ok((Kind::Word, Place { at, line }));
+        return Ok((Kind::Word, after_name(octets, from)?));
     }
     if first.is_ascii_digit() {
         let (kind, at) = after_number(octets, from.at);
@@ -282,12 +340,14 @@ pub(crate) fn tokens_of<'t>(alloc: Global, text: &'t str) -> Result<Vec<Token<'t
     let octets = text.as_bytes();
     let mut tokens = Vec::new(alloc);
     let mut place = Place { at: 0, line: 1 };
+    let mut follows = false;
     for _ in 0..u64::MAX {
         place = skip_blank(octets, place)?;
         if place.at >= octets.len() {
             break;
         }
-        let (kind, after) = item_at(octets, place)?;
+        let (kind, after) = item_after(octets, place, follows)?;
+        follows = kind == Kind::Sign(Sign::Becomes);
         let Some(item) = text.get(place.at..after.at) else {
             return Err(no_item(place.line));
         };

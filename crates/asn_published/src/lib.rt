@@ -1,9 +1,11 @@
 //! Published modules of ASN.1 (X.680 to X.683) as one module of the profile, with a report of each type.
 #![tactic(auto)]
 
+mod assignments;
 mod bounding;
 mod bounds;
 mod building;
+mod checking;
 mod classes;
 mod constraints;
 mod defaults;
@@ -19,8 +21,10 @@ mod json;
 mod layout;
 mod letters;
 mod lexer;
+mod limits;
 mod membering;
 mod modules;
+mod named_numbers;
 mod naming;
 mod nodes;
 mod numbers;
@@ -31,9 +35,11 @@ mod places;
 mod ranges;
 mod references;
 mod refusal;
+mod refusing;
 mod report;
 mod reports;
 mod seen;
+mod settling;
 mod shapes;
 mod strings;
 mod tags;
@@ -42,6 +48,7 @@ mod token;
 mod tokens;
 mod value_sets;
 mod way;
+mod widths;
 mod words;
 mod writer;
 mod writing;

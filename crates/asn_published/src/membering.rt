@@ -34,7 +34,7 @@ fn after_version(tokens: &Tokens<'_>, at: usize) -> usize {
 }
 
 /// The index after an exception, as `! 5` or `! Type : value`, where it stands at `at`.
-fn after_exception(tokens: &Tokens<'_>, at: usize) -> Result<usize, TextFault> {
+pub(crate) fn after_exception(tokens: &Tokens<'_>, at: usize) -> Result<usize, TextFault> {
     if !tokens.is(at, Sign::Bang) {
         return Ok(at);
     }

@@ -1,8 +1,8 @@
-//! Reads the modules of a text (X.680, "module definition"): headers, exports, imports, and where each assignment
-//! begins and ends.
-use crate::extents::{type_end, value_end};
+//! Reads the modules of a text (X.680, "module definition"): headers, exports and imports.
+use crate::assignments::after_assignments;
 use crate::token::{Kind, Sign};
 use crate::tokens::{Tokens, next};
+use crate::words::is_reserved;
 use crate::wrong::{TextFault, Wrong};
 use std::alloc::Global;
 use std::collections::HashMap;
@@ -77,7 +77,7 @@ fn head_of<'t>(
     file: usize,
     from: usize,
 ) -> Result<(ModuleText<'t>, usize), TextFault> {
-    if !tokens.is_capital(from) {
+    if !tokens.is_capital(from) || is_reserved(tokens.text(from)) {
         return Err(tokens.expected(from, "the name of a module"));
     }
     let mut at = after_identifier(tokens, next(from));
@@ -222,110 +222,6 @@ fn after_imports<'t>(
         return Err(tokens.expected(at, "FROM"));
     }
     tokens.past(at, Sign::Semicolon, ";")
-}
-
-/// The index after a class that is defined, after the word CLASS.
-fn class_end(tokens: &Tokens<'_>, from: usize) -> Result<usize, TextFault> {
-    if !tokens.is(from, Sign::LeftBrace) {
-        return Err(tokens.expected(from, "{"));
-    }
-    let mut at = tokens.after(from);
-    if tokens.is_word(at, "WITH") && tokens.is_word(next(at), "SYNTAX") {
-        at = next(next(at));
-        if !tokens.is(at, Sign::LeftBrace) {
-            return Err(tokens.expected(at, "{"));
-        }
-        at = tokens.after(at);
-    }
-    Ok(at)
-}
-
-/// What is assigned to a name from `start` on, and the index after it.
-fn assigned(
-    tokens: &Tokens<'_>,
-    is_capital: bool,
-    has_governor: bool,
-    start: usize,
-) -> Result<(What, usize), TextFault> {
-    if !is_capital {
-        return Ok((What::Value, value_end(tokens, start)?));
-    }
-    if has_governor {
-        if !tokens.is(start, Sign::LeftBrace) {
-            return Err(tokens.expected(start, "{"));
-        }
-        return Ok((What::Set, tokens.after(start)));
-    }
-    if tokens.is_word(start, "CLASS") {
-        return Ok((What::Class, class_end(tokens, next(start))?));
-    }
-    Ok((What::Type, type_end(tokens, start)?))
-}
-
-/// The assignment at `from`.
-fn assignment_at<'t>(
-    tokens: &Tokens<'t>,
-    module: usize,
-    from: usize,
-) -> Result<Assignment<'t>, TextFault> {
-    if !tokens.is_kind(from, Kind::Word) {
-        return Err(tokens.expected(from, "an assignment or END"));
-    }
-    let is_capital = tokens.is_capital(from);
-    let parameters = if tokens.is(next(from), Sign::LeftBrace) {
-        Some(next(from))
-    } else {
-        None
-    };
-    let governor = tokens.after(parameters.unwrap_or(from));
-    let has_governor = !tokens.is(governor, Sign::Becomes);
-    let becomes = if has_governor {
-        type_end(tokens, governor)?
-    } else {
-        governor
-    };
-    let start = tokens.past(becomes, Sign::Becomes, "::=")?;
-    if !is_capital && !has_governor {
-        return Err(tokens.expected(governor, "a type"));
-    }
-    let (what, end) = assigned(tokens, is_capital, has_governor, start)?;
-    Ok(Assignment {
-        module,
-        name: tokens.text(from),
-        line: tokens.line(from),
-        what,
-        governor,
-        start,
-        end,
-        parameters,
-    })
-}
-
-/// Takes the assignments of a module from `from` on, and gives the index after END.
-fn after_assignments<'t>(
-    tokens: &Tokens<'t>,
-    module: &mut ModuleText<'t>,
-    index: usize,
-    assignments: &mut Vec<Assignment<'t>>,
-    from: usize,
-) -> Result<usize, TextFault> {
-    let mut at = from;
-    for _ in 0..tokens.len() {
-        if tokens.is_word(at, "END") {
-            return Ok(next(at));
-        }
-        let assignment = assignment_at(tokens, index, at)?;
-        let place = assignments.len();
-        assignments.push(assignment)?;
-        if module.names.insert(assignment.name, place)?.is_some() {
-            return Err(TextFault::At {
-                line: assignment.line,
-                wrong: Wrong::Twice,
-            });
-        }
-        at = assignment.end;
-    }
-    Err(tokens.expected(at, "END"))
 }
 
 impl<'t> World<'t> {

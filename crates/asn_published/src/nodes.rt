@@ -83,8 +83,10 @@ pub(crate) struct Node<'t> {
     pub name: &'t str,
     /// The instance whose parameters are known there.
     pub instance: Option<usize>,
-    /// The type is that of the values of a class's field, whose table constraint is not looked at.
+    /// The type is that of the values of a class's field.
     pub is_field: bool,
+    /// Constraints stand after that field, which are not looked at.
+    pub is_constrained: bool,
 }
 
 /// Whether a member may be absent. A DEFAULT has its value from one index to before another.

@@ -2,6 +2,8 @@
 use crate::info::State;
 use crate::instances::Instances;
 use crate::modules::{What, World};
+use crate::named_numbers::{named_number_of, place_of_named};
+use crate::ranges::Ranges;
 use crate::refusal::{Refusal, Why, refused};
 use crate::token::{Kind, Sign};
 use crate::tokens::{Tokens, next};
@@ -19,7 +21,7 @@ fn number_of(digits: &str) -> Option<i128> {
 }
 
 /// The number that is written at `at`, with or without a minus, and the index after it.
-pub(crate) fn written_number(tokens: &Tokens<'_>, at: usize) -> Option<(i128, usize)> {
+fn written_number(tokens: &Tokens<'_>, at: usize) -> Option<(i128, usize)> {
     if tokens.is(at, Sign::Minus) && tokens.is_kind(next(at), Kind::Number) {
         let number = number_of(tokens.text(next(at)))?;
         return Some((number.checked_neg()?, next(next(at))));
@@ -42,13 +44,26 @@ enum Known {
 }
 
 /// Where a value leads.
+#[derive(Clone, Copy)]
 enum Lead {
     Number(i128),
     To(usize),
     None,
 }
 
-/// Where the value of an assignment leads: to a number, or to another value.
+/// Where the value at `at` leads, to a number or to another value, and the index after it.
+fn lead_at(world: &World<'_>, module: usize, at: usize) -> Option<(Lead, usize)> {
+    let tokens = world.tokens_of(module)?;
+    if let Some((number, end)) = written_number(tokens, at) {
+        return Some((Lead::Number(number), end));
+    }
+    match world.reference_at(module, at) {
+        Ok((to, end)) => Some((Lead::To(to), end)),
+        Err(_) => None,
+    }
+}
+
+/// Where the value of an assignment leads. A named number of its type counts before all other names.
 fn lead_of(world: &World<'_>, index: usize) -> Lead {
     let Some(assignment) = world.assignment(index) else {
         return Lead::None;
@@ -56,17 +71,14 @@ fn lead_of(world: &World<'_>, index: usize) -> Lead {
     if assignment.what != What::Value || assignment.parameters.is_some() {
         return Lead::None;
     }
-    let Some(tokens) = world.tokens_of(assignment.module) else {
-        return Lead::None;
-    };
-    if let Some((number, end)) = written_number(tokens, assignment.start) {
-        if end == assignment.end {
-            return Lead::Number(number);
-        }
-        return Lead::None;
+    if let Some((module, at)) = named_number_of(world, &assignment) {
+        return match lead_at(world, module, at) {
+            Some((lead, _)) => lead,
+            None => Lead::None,
+        };
     }
-    match world.reference_at(assignment.module, assignment.start) {
-        Ok((to, end)) if end == assignment.end => Lead::To(to),
+    match lead_at(world, assignment.module, assignment.start) {
+        Some((lead, end)) if end == assignment.end => lead,
         _ => Lead::None,
     }
 }
@@ -132,6 +144,26 @@ pub(crate) fn numbers_of(alloc: Global, world: &World<'_>) -> Result<Vec<Option<
     Ok(numbers)
 }
 
+/// The number written or referred to at `at` of a module, and the index after it; `numbers` has those of assignments.
+pub(crate) fn number_in(
+    world: &World<'_>,
+    numbers: &[Option<i128>],
+    module: usize,
+    at: usize,
+) -> Option<(i128, usize)> {
+    let tokens = world.tokens_of(module)?;
+    if let Some(found) = written_number(tokens, at) {
+        return Some(found);
+    }
+    match world.reference_at(module, at) {
+        Ok((to, end)) => match numbers.get(to) {
+            Some(Some(number)) => Some((*number, end)),
+            _ => None,
+        },
+        Err(_) => None,
+    }
+}
+
 /// Where a value stands: the module, and the names that count there before all others.
 #[derive(Clone, Copy)]
 pub(crate) struct Scope {
@@ -140,10 +172,48 @@ pub(crate) struct Scope {
     pub named: Option<(usize, usize)>,
     /// The instance whose parameters are known there.
     pub instance: Option<usize>,
+    /// What MIN and MAX stand for there, where that is known.
+    pub least: Option<i128>,
+    pub most: Option<i128>,
 }
 
-/// How many named numbers are looked at for a name.
-const MOST_NAMES: u32 = 1000;
+impl Scope {
+    /// The place after constraints that leave these numbers or lengths.
+    pub fn after(self, left: &Option<Ranges>) -> Scope {
+        let hull = match left {
+            Some(ranges) => ranges.hull(),
+            None => None,
+        };
+        match hull {
+            Some(hull) => Scope {
+                least: hull.low,
+                most: hull.high,
+                ..self
+            },
+            None => self,
+        }
+    }
+
+    /// The place inside a permitted alphabet: which characters come first and last is not known.
+    pub fn of_letters(self) -> Scope {
+        Scope {
+            least: None,
+            most: None,
+            ..self
+        }
+    }
+
+    /// The place inside a size: no length is below 0.
+    pub fn of_sizes(self) -> Scope {
+        Scope {
+            least: match self.least {
+                Some(least) => Some(least.max(0)),
+                None => Some(0),
+            },
+            ..self
+        }
+    }
+}
 
 /// How many value assignments are followed to a word.
 const MOST_LEADS: u32 = 32;
@@ -165,36 +235,26 @@ impl<'a, 't> Values<'a, 't> {
         let Some(tokens) = self.world.tokens_of(module) else {
             return Err(Why::Value);
         };
-        let end = tokens.other(braces);
-        let mut at = next(braces);
-        for _ in 0..MOST_NAMES {
-            if at >= end {
-                return Ok(None);
-            }
-            if *tokens.text(at).as_bytes() == *name.as_bytes() {
-                return match self.plain_number(module, next(next(at))) {
-                    Some((number, _)) => Ok(Some(number)),
-                    None => Err(Why::Value),
-                };
-            }
-            at = next(tokens.after(next(at)));
+        let Some(place) = place_of_named(tokens, braces, name)? else {
+            return Ok(None);
+        };
+        match self.plain_number(module, place) {
+            Some((number, _)) => Ok(Some(number)),
+            None => Err(Why::Value),
         }
-        Err(Why::Value)
+    }
+
+    /// The lexical items among which values stand.
+    pub fn tokens_in(&self, scope: Scope) -> Result<&'a Tokens<'t>, Refusal> {
+        match self.world.tokens_of(scope.module) {
+            Some(tokens) => Ok(tokens),
+            None => Err(refused(0, Why::Constraint)),
+        }
     }
 
     /// The number written or referred to at `at`, where no names count before all others, and the index after it.
     fn plain_number(&self, module: usize, at: usize) -> Option<(i128, usize)> {
-        let tokens = self.world.tokens_of(module)?;
-        if let Some(found) = written_number(tokens, at) {
-            return Some(found);
-        }
-        match self.world.reference_at(module, at) {
-            Ok((index, end)) => match self.numbers.get(index) {
-                Some(Some(number)) => Some((*number, end)),
-                _ => None,
-            },
-            Err(_) => None,
-        }
+        number_in(self.world, self.numbers, module, at)
     }
 
     /// The number that stands in the place of a parameter; `None` where the name is none.
@@ -278,9 +338,14 @@ impl<'a, 't> Values<'a, 't> {
         }
     }
 
-    /// Why no number stands at `at`.
+    /// Why no number stands at `at`: one of too many digits, or what a name stands for.
     fn why_no_number(&self, module: usize, at: usize) -> Why {
+        let is_number = match self.world.tokens_of(module) {
+            Some(tokens) => tokens.is_kind(at, Kind::Number) || tokens.is(at, Sign::Minus),
+            None => false,
+        };
         match self.world.reference_at(module, at) {
+            _ if is_number => Why::Bounds,
             Ok(_) => Why::Value,
             Err(why) => why,
         }

@@ -1,11 +1,12 @@
 //! Writes lists, and names of types with further constraints.
 use crate::info::{Base, Info, State};
-use crate::layout::members_behind;
+use crate::layout::alternative_named;
 use crate::nodes::{Node, Shape};
 use crate::pieces::push_pieces;
 use crate::refusal::{Refusal, Why, refused};
 use crate::report::{Remark, Status};
 use crate::seen::{Mode, Seen, intersection};
+use crate::widths::is_zero;
 use crate::writer::{Known, Task, Writer};
 use std::alloc::Global;
 
@@ -20,7 +21,7 @@ impl<'t> Writer<'t> {
         known: Known<'_, 't>,
         index: usize,
         node: &Node<'t>,
-        depth: u32,
+        depth: usize,
     ) -> Result<(), Refusal> {
         let Shape::List {
             element,
@@ -36,19 +37,31 @@ impl<'t> Writer<'t> {
         self.remark_dropped(alloc, known, index, &seen)?;
         self.out.push_str(" SEQUENCE")?;
         self.put_size(alloc, known, index, &seen, line)?;
-        self.ask_for_element(element, seen.marked, depth)
+        let end = Task::List {
+            element,
+            marked: seen.marked,
+            is_empty: is_zero(&seen, line)?,
+        };
+        self.sizes.push(seen.sizes)?;
+        self.ask_for_element(element, end, depth)
     }
 
-    /// Asks for the element of a list.
-    fn ask_for_element(&mut self, element: usize, marked: bool, depth: u32) -> Result<(), Refusal> {
+    /// Asks for the element of a list, and for what ends the list.
+    fn ask_for_element(
+        &mut self,
+        element: usize,
+        end: Task<'t>,
+        depth: usize,
+    ) -> Result<(), Refusal> {
         self.out.push_str(" OF")?;
-        self.stack.push(Task::Holder(Base::List, marked))?;
+        self.stack.push(end)?;
         self.stack
             .push(Task::Node(element, depth.saturating_add(1)))?;
         Ok(())
     }
 
-    /// Writes a name of the profile, with its own type's constraints where it has any. Where recursion ends, it is NULL.
+    /// Writes a name of the profile, with its own type's constraints where it has any. Where recursion ends, it is
+    /// NULL.
     pub fn write_reference(
         &mut self,
         alloc: Global,
@@ -56,7 +69,7 @@ impl<'t> Writer<'t> {
         index: usize,
         node: &Node<'t>,
         to: usize,
-        depth: u32,
+        depth: usize,
     ) -> Result<(), Refusal> {
         let line = known.line_of(node);
         self.uses.push(to)?;
@@ -88,6 +101,7 @@ impl<'t> Writer<'t> {
         self.remark(alloc, known, index, Remark::Level)?;
         self.out.push_str(" NULL")?;
         self.last = Info::of(Base::Other);
+        self.last.no_bits = true;
         Ok(())
     }
 
@@ -98,13 +112,13 @@ impl<'t> Writer<'t> {
         known: Known<'_, 't>,
         index: usize,
         to: usize,
-        depth: u32,
+        depth: usize,
         line: u32,
     ) -> Result<(), Refusal> {
         self.last = info_of(alloc, known, to, line)?;
         let levels = depth.saturating_add(self.last.depth).saturating_sub(1);
         let nodes = self.last.nodes.saturating_sub(1);
-        self.count(nodes, levels, line)?;
+        self.count(nodes, levels, line);
         let status = self.last.status;
         if status == Status::Same {
             return Ok(());
@@ -119,28 +133,22 @@ impl<'t> Writer<'t> {
         node: &Node<'t>,
         of: usize,
         at: usize,
-        depth: u32,
+        depth: usize,
     ) -> Result<(), Refusal> {
         let line = known.line_of(node);
         let Some(tokens) = known.values.world.tokens_of(node.module) else {
             return Err(refused(line, Why::NoType));
         };
-        let Some((from, to)) = members_behind(known.forest, known.firsts, of) else {
-            return Err(refused(line, Why::NoType));
+        let name = tokens.text(at);
+        let Some(member) = alternative_named(known.forest, known.firsts, of, name) else {
+            return Err(refused(line, Why::Unknown));
         };
-        for index in from..to {
-            if let Some(member) = known.forest.member(index) {
-                if *member.name.as_bytes() == *tokens.text(at).as_bytes() {
-                    self.nodes = self.nodes.saturating_sub(1);
-                    self.selections = self.selections.saturating_add(1);
-                    if self.selections > MOST_SELECTIONS {
-                        return Err(refused(line, Why::Recursive));
-                    }
-                    return Ok(self.stack.push(Task::Node(member.node, depth))?);
-                }
-            }
+        self.nodes = self.nodes.saturating_sub(1);
+        self.selections = self.selections.saturating_add(1);
+        if self.selections > MOST_SELECTIONS {
+            return Err(refused(line, Why::Recursive));
         }
-        Err(refused(line, Why::Unknown))
+        Ok(self.stack.push(Task::Node(member.node, depth))?)
     }
 
     /// Writes the name of a type, of one of its cycle with a level less.
@@ -179,7 +187,8 @@ impl<'t> Writer<'t> {
         } else {
             Mode::Others
         };
-        let own = self.seen_of(alloc, known, index, node, mode, named)?;
+        let scope = known.scope_of(node, named).after(&self.last.left);
+        let own = self.seen_of(alloc, known, index, node, mode, scope)?;
         if base == Base::List {
             self.put_name(alloc, known, to)?;
             return self.put_further_size(alloc, known, index, own, line);
@@ -207,9 +216,11 @@ impl<'t> Writer<'t> {
         if self.last.marked {
             return Err(refused(line, Why::Size));
         }
-        self.put_size(alloc, known, index, &own, line)?;
-        self.last.left = own.sizes;
-        self.last.marked = own.marked;
+        let both = seen_with(alloc, &self.last, own, line)?;
+        self.put_size(alloc, known, index, &both, line)?;
+        self.last.no_bits = is_zero(&both, line)?;
+        self.last.left = both.sizes;
+        self.last.marked = both.marked;
         Ok(())
     }
 }

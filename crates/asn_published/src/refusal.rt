@@ -1,8 +1,11 @@
 //! Why a type is refused.
+ghost use Rattle.std.specs.Prelude.{◌≡◌};
+ghost use Rattle.asn_published.specs.declared.refusal.Refusal.TheVariants as refusal;
+
 use std::alloc::{AllocError, AllocFailed};
 use std::fmt;
 
-/// Why a published type becomes no type of the profile.
+/// Why a published type becomes no type of the profile. `Display` says it in words.
 #[derive(Clone, Copy, Debug, PartialEq, Eq)]
 pub enum Why {
     Unknown,
@@ -26,10 +29,17 @@ pub enum Why {
     Ranges,
     Items,
     Tags,
-    TooDeep,
-    TooManyNodes,
-    TooMany,
+    /// More were counted than the profile takes: of what, how many, and how many it takes.
+    TooMany {
+        what: &'static str,
+        count: usize,
+        most: usize,
+    },
     NameTaken,
+    NumberTaken,
+    ItemNumber,
+    NoRoot,
+    ZeroWidth,
     NotOfProfile,
     NotTheSame,
 }
@@ -43,6 +53,9 @@ impl fmt::Display for Why {
     fn fmt<W: fmt::Write>(&self, f: &mut fmt::Formatter<W>) -> fmt::Result {
         let reason = match self {
             Why::Kind(what) => return write!(f, "{what} is no type of the profile"),
+            Why::TooMany { what, count, most } => {
+                return write!(f, "{count} {what}, more than {most}");
+            }
             Why::Unknown => "a name that is not assigned",
             Why::NotGiven => "a name of a module that is not given",
             Why::NoType => "a name that stands for no type",
@@ -63,10 +76,11 @@ impl fmt::Display for Why {
             Why::Ranges => "more than 256 ranges",
             Why::Items => "items that are not understood",
             Why::Tags => "tags that are not understood",
-            Why::TooDeep => "more than 32 levels",
-            Why::TooManyNodes => "more than 10,000 nodes",
-            Why::TooMany => "too many components, alternatives, additions or items",
             Why::NameTaken => "a name that is taken",
+            Why::NumberTaken => "a number that is taken",
+            Why::ItemNumber => "a number of an item outside 32 bits",
+            Why::NoRoot => "nothing before the extension mark",
+            Why::ZeroWidth => "elements that take no bits",
             Why::NotOfProfile => "the profile does not take it",
             Why::NotTheSame => "not the same",
         };
@@ -82,7 +96,9 @@ pub(crate) enum Refusal {
 }
 
 /// A refusal on a line.
-pub(crate) fn refused(line: u32, why: Why) -> Refusal {
+pub(crate) fn refused(line: u32, why: Why) -> Refusal
+    ensures { result ≡ refusal.At line why }
+{
     Refusal::At { line, why }
 }
 

@@ -69,7 +69,11 @@ impl<'t> Forest<'t> {
                     end,
                     outer: None,
                 };
-                self.build_as(todo, index, type_of_values, true)?;
+                if let Some(node) = self.nodes.get_mut(index) {
+                    node.is_field = true;
+                    node.is_constrained = it.constraints < it.end;
+                }
+                self.build_as(todo, index, type_of_values)?;
                 Ok(None)
             }
             Err(why) => Ok(Some(Shape::Refused(why))),
@@ -82,10 +86,8 @@ impl<'t> Forest<'t> {
         todo: &mut Vec<Task>,
         index: usize,
         items: Actual,
-        is_field: bool,
     ) -> Result<(), TextFault> {
         if let Some(node) = self.nodes.get_mut(index) {
-            node.is_field = node.is_field || is_field;
             node.module = items.module;
             node.at = items.start;
             node.end = items.end;
@@ -115,7 +117,7 @@ impl<'t> Forest<'t> {
             match self.instances.actual(world, instance, tokens.text(at)) {
                 Ok(None) => {}
                 Ok(Some(actual)) if it.constraints == it.end => {
-                    self.build_as(todo, node, actual, false)?;
+                    self.build_as(todo, node, actual)?;
                     return Ok(None);
                 }
                 _ => return Ok(Some(Shape::Refused(Why::Parameter))),

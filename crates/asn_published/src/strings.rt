@@ -3,16 +3,18 @@ use crate::bounds::{Numbers, lengths_between, numbers_between, write_range, writ
 use crate::info::{Base, Info};
 use crate::letters::{keeps_codes, name_of};
 use crate::nodes::{Letters, Node, Shape};
+use crate::numbers::Scope;
 use crate::pieces::push_pieces;
 use crate::ranges::Ranges;
 use crate::refusal::{Refusal, Why, refused};
 use crate::report::Remark;
 use crate::seen::{Mode, Seen};
+use crate::widths::{is_one_number, is_zero};
 use crate::writer::{Known, Writer};
 use std::alloc::Global;
 
 impl<'t> Writer<'t> {
-    /// What the constraints of a node leave.
+    /// What the constraints of a node leave, whose values stand in `scope`.
     pub fn seen_of(
         &mut self,
         alloc: Global,
@@ -20,9 +22,8 @@ impl<'t> Writer<'t> {
         index: usize,
         node: &Node<'t>,
         mode: Mode,
-        named: Option<(usize, usize)>,
+        scope: Scope,
     ) -> Result<Seen, Refusal> {
-        let scope = known.scope_of(node, named);
         let seen = known
             .values
             .constraints_seen(alloc, scope, mode, node.constraints, node.end)?;
@@ -43,7 +44,8 @@ impl<'t> Writer<'t> {
             Some(braces) => Some((node.module, braces)),
             None => None,
         };
-        let seen = self.seen_of(alloc, known, index, node, Mode::Numbers, named)?;
+        let scope = known.scope_of(node, named);
+        let seen = self.seen_of(alloc, known, index, node, Mode::Numbers, scope)?;
         self.put_integer(alloc, known, index, seen, named, known.line_of(node))
     }
 
@@ -59,6 +61,7 @@ impl<'t> Writer<'t> {
     ) -> Result<(), Refusal> {
         self.put_numbers(alloc, known, index, &seen, line)?;
         let mut info = Info::of(Base::Integer);
+        info.no_bits = is_one_number(&seen, line)?;
         info.left = seen.numbers;
         info.marked = seen.marked;
         info.named = named;
@@ -94,7 +97,8 @@ impl<'t> Writer<'t> {
         index: usize,
         node: &Node<'t>,
     ) -> Result<(), Refusal> {
-        let seen = self.seen_of(alloc, known, index, node, Mode::Others, None)?;
+        let scope = known.scope_of(node, None);
+        let seen = self.seen_of(alloc, known, index, node, Mode::Others, scope)?;
         let base = match node.shape {
             Shape::Bits { named } => Base::Bits { named },
             Shape::Text(letters) => Base::Text(letters),
@@ -117,6 +121,7 @@ impl<'t> Writer<'t> {
         self.put_kind(alloc, known, index, base, &seen, is_fixed, line)?;
         self.put_size(alloc, known, index, &seen, line)?;
         let mut info = Info::of(base);
+        info.no_bits = is_zero(&seen, line)?;
         info.left = seen.sizes;
         info.letters = seen.letters;
         info.marked = seen.marked;

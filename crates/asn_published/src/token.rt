@@ -45,6 +45,8 @@ pub(crate) enum Kind {
     Quoted,
     /// `".."`.
     Text,
+    /// A value in XML, from its first tag to the end tag of that.
+    Xml,
     Sign(Sign),
 }
 

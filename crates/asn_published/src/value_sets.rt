@@ -1,13 +1,54 @@
 //! Value sets as types (X.680, "value set type assignment"): the type before `::=`, with the set as its constraint.
-use crate::classes::is_class_field;
+//! Names of classes (X.681, "object class assignment"): what leads to a class is one, and no type.
+use crate::classes::{is_built_in, is_class_field};
 use crate::extents::{Rest, after_tags, rest_of};
 use crate::modules::{What, World};
+use crate::refusal::Why;
+use crate::tokens::next;
 use crate::words::is_type_word;
 
 /// How many names are followed to tell a type from a class.
 const MOST_LEADS: u32 = 32;
 
 impl<'t> World<'t> {
+    /// Takes each assignment of a name that leads to a class for one of a class.
+    pub fn take_class_names(&mut self) {
+        for index in 0..self.assignments.len() {
+            let Some(it) = self.assignment(index) else {
+                break;
+            };
+            let is_plain = it.what == What::Type && it.parameters.is_none();
+            if is_plain && self.leads_to_class(it.module, it.start, it.end) {
+                if let Some(place) = self.assignments.get_mut(index) {
+                    place.what = What::Class;
+                }
+            }
+        }
+    }
+
+    /// Whether what stands from `start` to before `end` is a name that leads to a class.
+    fn leads_to_class(&self, module: usize, start: usize, end: usize) -> bool {
+        let (mut module, mut start, mut end) = (module, start, end);
+        for _ in 0..MOST_LEADS {
+            let Some(tokens) = self.tokens_of(module) else {
+                return false;
+            };
+            let found = match self.reference_at(module, start) {
+                Ok((to, behind)) if behind == end => self.assignment(to),
+                Err(Why::Unknown) => return next(start) == end && is_built_in(tokens.text(start)),
+                _ => return false,
+            };
+            match found {
+                Some(found) if found.what == What::Class => return true,
+                Some(found) if found.what == What::Type && found.parameters.is_none() => {
+                    (module, start, end) = (found.module, found.start, found.end);
+                }
+                _ => return false,
+            }
+        }
+        false
+    }
+
     /// Takes each set of values for the type that it is, whose lexical items are those from its governor on: the set
     /// stands where constraints do.
     pub fn take_value_sets(&mut self) {
@@ -26,7 +67,7 @@ impl<'t> World<'t> {
 
     /// Whether the governor at `governor` is a type that begins a constraint, and no class. A name that is not given is
     /// taken for a class.
-    fn has_values(&self, module: usize, governor: usize) -> bool {
+    pub fn has_values(&self, module: usize, governor: usize) -> bool {
         let Some(tokens) = self.tokens_of(module) else {
             return false;
         };

@@ -59,6 +59,49 @@ const PLAIN: [&str; 11] = [
     "CHOICE",
 ];
 
+/// Words that name nothing in a module of the profile, but for those with which its types begin.
+const RESERVED: [&str; 39] = [
+    "OCTET",
+    "OBJECT",
+    "REAL",
+    "EXTERNAL",
+    "ANY",
+    "BMPString",
+    "UniversalString",
+    "TeletexString",
+    "GeneralString",
+    "GraphicString",
+    "DEFINITIONS",
+    "AUTOMATIC",
+    "TAGS",
+    "BEGIN",
+    "END",
+    "STRING",
+    "OF",
+    "SIZE",
+    "OPTIONAL",
+    "DEFAULT",
+    "TRUE",
+    "FALSE",
+    "MIN",
+    "MAX",
+    "IMPORTS",
+    "EXPORTS",
+    "EXPLICIT",
+    "IMPLICIT",
+    "EXTENSIBILITY",
+    "CLASS",
+    "UNION",
+    "INTERSECTION",
+    "EXCEPT",
+    "IDENTIFIER",
+    "FROM",
+    "WITH",
+    "COMPONENTS",
+    "COMPONENT",
+    "CONTAINING",
+];
+
 /// What a word is called in a table.
 fn called(table: &[(&'static str, &'static str)], word: &str) -> Option<&'static str> {
     for (name, what) in table {
@@ -110,15 +153,25 @@ pub(crate) fn holder_named(word: &str) -> Option<Holder> {
     }
 }
 
+/// Whether a type of the profile begins with a word.
+fn is_plain(word: &str) -> bool {
+    PLAIN
+        .iter()
+        .any(|plain| *plain.as_bytes() == *word.as_bytes())
+        || letters_named(word).is_some()
+}
+
 /// Whether a reserved word begins a type.
 pub(crate) fn is_type_word(word: &str) -> bool {
-    let is_of_profile = PLAIN
+    is_plain(word) || second_word(word).is_some() || barred(word).is_some()
+}
+
+/// Whether a word is reserved, so that it names no type and no module.
+pub(crate) fn is_reserved(word: &str) -> bool {
+    RESERVED
         .iter()
-        .any(|plain| *plain.as_bytes() == *word.as_bytes());
-    is_of_profile
-        || letters_named(word).is_some()
-        || second_word(word).is_some()
-        || barred(word).is_some()
+        .any(|other| *other.as_bytes() == *word.as_bytes())
+        || is_plain(word)
 }
 
 /// A type of two words: the second, and what the type is.

@@ -1,20 +1,19 @@
 //! Writes the type of an assignment in the notation of the profile, node after node from a stack.
+ghost use Rattle.std.specs.Prelude.{◌≤◌, IfOk};
+ghost use Rattle.asn_published.specs.Limits.{most_levels, most_nodes};
+
 use crate::building::Forest;
 use crate::info::{Base, Info, State};
+use crate::limits::{MOST_LEVELS, MOST_NODES, most_of_all, within};
 use crate::nodes::{Need, Node};
 use crate::numbers::{Scope, Values};
 use crate::options::Options;
 use crate::pieces::push_pieces;
-use crate::refusal::{Refusal, Why, refused};
+use crate::ranges::Ranges;
+use crate::refusal::Refusal;
 use crate::report::{Note, Remark, Status};
 use crate::seen::Seen;
 use std::alloc::{AllocError, Global};
-
-/// How many levels a type of the profile may have.
-const MOST_LEVELS: u32 = 32;
-
-/// How many nodes a type of the profile may have.
-const MOST_NODES: u32 = 10000;
 
 /// What is known when a type is written.
 #[derive(Clone, Copy)]
@@ -28,8 +27,11 @@ pub(crate) struct Known<'a, 't> {
     pub options: Options,
     /// Of each type the cycle of references in which it lies.
     pub cycles: &'a [Option<usize>],
-    /// The type that is written, and how many levels of its cycle there are.
+    /// The type that is written, which of the texts assigns it, on which line, and how many levels of its cycle there
+    /// are.
     pub entry: usize,
+    pub file: usize,
+    pub own_line: u32,
     pub level: u32,
     /// The types of its cycle with a level less.
     pub below: &'a [State],
@@ -39,14 +41,28 @@ pub(crate) struct Known<'a, 't> {
 #[derive(Clone, Copy)]
 pub(crate) enum Task<'t> {
     /// A node, and how many levels down it is.
-    Node(usize, u32),
+    Node(usize, usize),
     Text(&'t str),
     /// The name of an addition group.
     Group(u32),
     /// The need of a component of the root, whose type was written last.
     Need(usize, Need),
-    /// The type that was written holds others; it is a list with a marked size, or not.
-    Holder(Base, bool),
+    /// The end of a list, by the node of its element: whether its size has a mark, and whether it is 0.
+    List {
+        element: usize,
+        marked: bool,
+        is_empty: bool,
+    },
+    /// The end of a type that holds components or alternatives.
+    Members,
+}
+
+/// Where a type passes the limit of nodes, or of levels: the node, and its line.
+#[derive(Clone, Copy)]
+pub(crate) struct Passed {
+    node: usize,
+    line: u32,
+    by_nodes: bool,
 }
 
 /// A type that is being written.
@@ -58,16 +74,27 @@ pub(crate) struct Writer<'t> {
     pub last: Info,
     pub notes: Vec<Note>,
     pub status: Status,
-    pub nodes: u32,
-    pub depth: u32,
+    /// The nodes and the levels that were counted, those of the types that it refers to with them.
+    pub nodes: usize,
+    pub depth: usize,
+    pub passed: Option<Passed>,
+    /// How many nodes were written, of the types before it too.
+    pub written: usize,
     pub selections: u32,
+    /// Of each type that holds the next node, from the outside, whether nothing in it so far has a bit in PER.
+    pub without_bits: Vec<bool>,
+    /// What is left of the sizes of each list that holds the next node, from the outside.
+    pub sizes: Vec<Option<Ranges>>,
     /// Where a fault is told.
     pub node: usize,
     /// The types that it refers to.
     pub uses: Vec<usize>,
 }
 
-/// The names of a node and of those that it stands in, from the inside.
+/// How many characters of a path are enough: a longer one has its last names alone.
+const MOST_CHARACTERS: usize = 1000;
+
+/// The names of a node and of those that it stands in, from the inside, as far as a path has them.
 fn names_around<'t>(
     alloc: Global,
     forest: &Forest<'t>,
@@ -75,11 +102,16 @@ fn names_around<'t>(
 ) -> Result<Vec<&'t str>, AllocError> {
     let mut names = Vec::new(alloc);
     let mut at = node;
+    let mut length = 0usize;
     for _ in 0..100 {
         let Some(it) = forest.node(at) else {
             break;
         };
         if !it.name.is_empty() {
+            if length > MOST_CHARACTERS {
+                break;
+            }
+            length = length.saturating_add(it.name.len());
             names.push(it.name)?;
         }
         if it.parent == at {
@@ -106,8 +138,12 @@ pub(crate) fn path_of(
 }
 
 impl<'a, 't> Known<'a, 't> {
-    /// The line of a node.
+    /// The line of a node; that of the type, where the node stands in another text.
     pub fn line_of(&self, node: &Node<'t>) -> u32 {
+        match self.values.world.modules.get(node.module) {
+            Some(module) if module.file == self.file => {}
+            _ => return self.own_line,
+        }
         match self.values.world.tokens_of(node.module) {
             Some(tokens) => tokens.line(node.at),
             None => 0,
@@ -128,13 +164,15 @@ impl<'a, 't> Known<'a, 't> {
             module: node.module,
             named,
             instance: node.instance,
+            least: None,
+            most: None,
         }
     }
 }
 
 impl<'t> Writer<'t> {
-    /// Nothing is written.
-    pub fn new(alloc: Global) -> Self {
+    /// Nothing is written, after so many nodes of other types.
+    pub fn new(alloc: Global, written: usize) -> Self {
         Writer {
             out: String::new(alloc),
             stack: Vec::new(alloc),
@@ -143,7 +181,11 @@ impl<'t> Writer<'t> {
             status: Status::Same,
             nodes: 0,
             depth: 0,
+            passed: None,
+            written,
             selections: 0,
+            without_bits: Vec::new(alloc),
+            sizes: Vec::new(alloc),
             node: 0,
             uses: Vec::new(alloc),
         }
@@ -170,32 +212,78 @@ impl<'t> Writer<'t> {
         Ok(())
     }
 
-    /// Counts the nodes of a type that reaches `depth` levels down.
-    pub fn count(&mut self, nodes: u32, depth: u32, line: u32) -> Result<(), Refusal> {
+    /// Counts nodes that reach `depth` levels down. Where they pass a limit, the node that is written is the one at
+    /// which that is told, and what is left is counted all the same.
+    pub fn count(&mut self, nodes: usize, depth: usize, line: u32) {
         self.nodes = self.nodes.saturating_add(nodes);
         self.depth = self.depth.max(depth);
-        if self.depth > MOST_LEVELS {
-            return Err(refused(line, Why::TooDeep));
+        let by_nodes = self.nodes > MOST_NODES;
+        if self.passed.is_none() && (by_nodes || self.depth > MOST_LEVELS) {
+            self.passed = Some(Passed {
+                node: self.node,
+                line,
+                by_nodes,
+            });
         }
-        if self.nodes > MOST_NODES {
-            return Err(refused(line, Why::TooManyNodes));
-        }
-        Ok(())
     }
 
-    /// Writes the type whose first node this is.
+    /// Takes nodes from those that may be written of all types.
+    pub fn take_nodes(
+        &mut self,
+        known: Known<'_, 't>,
+        nodes: usize,
+        line: u32,
+    ) -> Result<(), Refusal> {
+        let most = most_of_all(known.forest.nodes.len(), known.options.levels);
+        self.written = self.written.saturating_add(nodes);
+        within(line, "nodes of all types", self.written, most)
+    }
+
+    /// A refusal where more nodes or levels were counted than a type may have.
+    fn within_limits(&self) -> Result<(), Refusal>
+        ensures { IfOk result (λ done. (self.now.nodes ≤ most_nodes) × (self.now.depth ≤ most_levels)) }
+    {
+        let (line, by_nodes) = match self.passed {
+            Some(passed) => (passed.line, passed.by_nodes),
+            None => (0, false),
+        };
+        if by_nodes {
+            within(line, "nodes", self.nodes, MOST_NODES)?;
+        }
+        within(line, "levels", self.depth, MOST_LEVELS)?;
+        within(line, "nodes", self.nodes, MOST_NODES)
+    }
+
+    /// Writes the type whose first node this is. Where a limit is passed, the fault tells how many nodes or levels the
+    /// type has, as far as they can be counted.
     pub fn write_type(
         &mut self,
         alloc: Global,
         known: Known<'_, 't>,
         first: usize,
-    ) -> Result<(), Refusal> {
+    ) -> Result<(), Refusal>
+        // A type that is written has no more nodes and levels than the profile allows.
+        ensures { IfOk result (λ done. (self.new.nodes ≤ most_nodes) × (self.new.depth ≤ most_levels)) }
+    {
         self.stack.push(Task::Node(first, 1))?;
+        self.take_all(alloc, known)?;
+        if let Some(passed) = self.passed {
+            self.node = passed.node;
+        }
+        self.within_limits()
+    }
+
+    /// Writes all that is still to be written; after a limit was passed, up to the first refusal.
+    fn take_all(&mut self, alloc: Global, known: Known<'_, 't>) -> Result<(), Refusal> {
         for _ in 0..u64::MAX {
             let Some(task) = self.stack.pop() else {
                 break;
             };
-            self.take(alloc, known, task)?;
+            match self.take(alloc, known, task) {
+                Err(Refusal::At { .. }) if self.passed.is_some() => break,
+                Err(refusal) => return Err(refusal),
+                Ok(()) => {}
+            }
         }
         Ok(())
     }
@@ -212,10 +300,17 @@ impl<'t> Writer<'t> {
                 let name = format!(in alloc; " ext{number}")?;
                 Ok(self.out.push_str(name.as_str())?)
             }
-            Task::Need(index, need) => self.write_need(alloc, known, index, need),
-            Task::Holder(base, marked) => {
-                self.last = Info::of(base);
-                self.last.marked = marked;
+            Task::Need(index, need) => {
+                self.take_member_bits(need);
+                self.write_need(alloc, known, index, need)
+            }
+            Task::List {
+                element,
+                marked,
+                is_empty,
+            } => self.end_list(known, element, marked, is_empty),
+            Task::Members => {
+                self.end_members();
                 Ok(())
             }
         }

@@ -14,13 +14,15 @@ impl<'t> Writer<'t> {
         alloc: Global,
         known: Known<'_, 't>,
         index: usize,
-        depth: u32,
+        depth: usize,
     ) -> Result<(), Refusal> {
         let Some(node) = known.forest.node(index) else {
             return Err(refused(0, Why::NoType));
         };
-        self.count(1, depth, known.line_of(&node))?;
-        if node.is_field {
+        let line = known.line_of(&node);
+        self.take_nodes(known, 1, line)?;
+        self.count(1, depth, line);
+        if node.is_constrained {
             self.remark(alloc, known, index, Remark::Dropped)?;
         }
         match node.shape {
@@ -47,7 +49,11 @@ impl<'t> Writer<'t> {
             Shape::Boolean => {
                 self.write_plain(alloc, known, index, node, "BOOLEAN", Base::Boolean)
             }
-            Shape::Null => self.write_plain(alloc, known, index, node, "NULL", Base::Other),
+            Shape::Null => {
+                self.write_plain(alloc, known, index, node, "NULL", Base::Other)?;
+                self.last.no_bits = true;
+                Ok(())
+            }
             Shape::Utf8 => self.write_plain(alloc, known, index, node, "UTF8String", Base::Other),
             Shape::Time => {
                 self.remark(alloc, known, index, Remark::Time)?;
@@ -141,6 +147,7 @@ impl<'t> Writer<'t> {
         let mut info = Info::of(Base::Enumerated);
         info.marked = marked;
         info.named = Some((node.module, braces));
+        info.no_bits = items.root.len() == 1 && !marked;
         self.last = info;
         Ok(())
     }

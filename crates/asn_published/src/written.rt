@@ -3,9 +3,9 @@ use crate::flattening::{Sources, text_of};
 use crate::info::State;
 use crate::numbers::Values;
 use crate::options::Options;
-use crate::refusal::{Refusal, Why};
-use crate::report::{Note, Remark, Status, TypeReport};
-use crate::writer::{Known, Writer, path_of};
+use crate::report::TypeReport;
+use crate::settling::{Settled, assignment_of, outcome_of, settle_type};
+use crate::writer::Known;
 use std::alloc::{AllocError, Global};
 
 /// How many levels of a recursive type are written at the most.
@@ -44,133 +44,22 @@ pub(crate) fn put<T: Drop>(places: &mut Vec<T>, index: usize, value: T) {
     }
 }
 
-/// Writes a type, unless the profile refused it before.
-fn write_one<'t>(
-    alloc: Global,
-    known: Known<'_, 't>,
-    first: usize,
-    is_refused: bool,
-    writer: &mut Writer<'t>,
-) -> Result<(), Refusal> {
-    if is_refused {
-        return Err(Refusal::At {
-            line: 0,
-            why: Why::NotOfProfile,
-        });
-    }
-    writer.write_type(alloc, known, first)?;
-    if known.options.strict && writer.status != Status::Same {
-        return Err(Refusal::At {
-            line: 0,
-            why: Why::NotTheSame,
-        });
-    }
-    Ok(())
-}
-
-/// A type that was written, or why it was not.
-#[derive(Drop)]
-struct Outcome<'t> {
-    writer: Writer<'t>,
-    refusal: Option<(u32, Why)>,
-}
-
-/// Writes a type, of which `first` is the first node.
-fn outcome_of<'t>(
-    alloc: Global,
-    known: Known<'_, 't>,
-    first: usize,
-    is_refused: bool,
-) -> Result<Outcome<'t>, AllocError> {
-    let mut writer = Writer::new(alloc);
-    writer.node = first;
-    let refusal = match write_one(alloc, known, first, is_refused, &mut writer) {
-        Ok(()) => None,
-        Err(Refusal::Memory) => return Err(AllocError),
-        Err(Refusal::At { line, why }) => Some((line, why)),
-    };
-    Ok(Outcome { writer, refusal })
-}
-
-/// What is known of a type that was written, its text, and what is to be said of it.
-#[derive(Drop)]
-struct Settled {
-    state: State,
-    line: Option<String>,
-    status: Status,
-    notes: Vec<Note>,
-    uses: Vec<usize>,
-}
-
-/// What became of a type.
-fn settle_type<'t>(
-    alloc: Global,
-    sources: &Sources<'t>,
-    own_line: u32,
-    outcome: Outcome<'t>,
-) -> Result<Settled, AllocError> {
-    let Outcome { writer, refusal } = outcome;
-    let Writer {
-        out,
-        stack: _,
-        last,
-        mut notes,
-        status,
-        nodes,
-        depth,
-        selections: _,
-        node,
-        uses,
-    } = writer;
-    let Some((line, why)) = refusal else {
-        let mut info = last;
-        info.nodes = nodes;
-        info.depth = depth;
-        info.status = status;
-        return Ok(Settled {
-            state: State::Ready(info),
-            line: Some(out),
-            status,
-            notes,
-            uses,
-        });
-    };
-    notes.push(Note {
-        line: if line == 0 { own_line } else { line },
-        component: path_of(alloc, &sources.forest, node)?,
-        remark: Remark::Refused(why),
-    })?;
-    Ok(Settled {
-        state: State::Refused,
-        line: None,
-        status: Status::Refused,
-        notes,
-        uses,
-    })
-}
-
-/// The assignment of a type: its own, or that of which it is an instance.
-fn assignment_of(sources: &Sources<'_>, entry: usize) -> usize {
-    let count = sources.world.assignments.len();
-    if entry < count {
-        return entry;
-    }
-    match sources
-        .forest
-        .instances
-        .instance(entry.saturating_sub(count))
-    {
-        Some(instance) => instance.assignment,
-        None => entry,
-    }
-}
-
 /// Writes types, in order.
 #[derive(Drop)]
 struct Writing {
     written: Written,
     /// The types of the cycle that is written with a level less.
     below: Vec<State>,
+    /// How many nodes are written.
+    nodes: usize,
+}
+
+/// The line of an assignment.
+fn line_of(sources: &Sources<'_>, assignment: usize) -> u32 {
+    match sources.world.assignment(assignment) {
+        Some(it) => it.line,
+        None => 0,
+    }
 }
 
 /// What is known when a type of a level is written.
@@ -181,6 +70,7 @@ fn known_of<'a, 't>(
     entry: usize,
     level: u32,
 ) -> Known<'a, 't> {
+    let assignment = assignment_of(sources, entry);
     Known {
         values: Values {
             world: &sources.world,
@@ -194,6 +84,8 @@ fn known_of<'a, 't>(
         options,
         cycles: sources.order.cycles.as_slice(),
         entry,
+        file: text_of(&sources.world, assignment),
+        own_line: line_of(sources, assignment),
         level,
         below: writing.below.as_slice(),
     }
@@ -202,7 +94,7 @@ fn known_of<'a, 't>(
 impl Writing {
     /// Writes a type with a level of recursion, and gives what became of it.
     fn write(
-        &self,
+        &mut self,
         alloc: Global,
         sources: &Sources<'_>,
         options: Options,
@@ -213,12 +105,12 @@ impl Writing {
         let Some(Some(first)) = sources.firsts.get(entry) else {
             return Ok(None);
         };
-        let Some(assignment) = sources.world.assignment(assignment_of(sources, entry)) else {
-            return Ok(None);
-        };
-        let known = known_of(sources, options, self, entry, level);
-        let outcome = outcome_of(alloc, known, *first, is_refused)?;
-        Ok(Some(settle_type(alloc, sources, assignment.line, outcome)?))
+        let known = known_of(&*sources, options, &*self, entry, level);
+        let (file, own_line) = (known.file, known.own_line);
+        let outcome = outcome_of(alloc, known, *first, is_refused, self.nodes)?;
+        let settled = settle_type(alloc, sources, file, own_line, outcome)?;
+        self.nodes = settled.written;
+        Ok(Some(settled))
     }
 
     /// Writes a type as it stands in the module.
@@ -240,6 +132,7 @@ impl Writing {
             status,
             notes,
             uses,
+            written: _,
         } = one;
         let assignment = assignment_of(sources, entry);
         put(&mut self.written.states, entry, state);
@@ -250,10 +143,7 @@ impl Writing {
                 None => String::new(alloc),
             },
             text: text_of(&sources.world, assignment),
-            line: match sources.world.assignment(assignment) {
-                Some(it) => it.line,
-                None => 0,
-            },
+            line: line_of(sources, assignment),
             status,
             notes,
             uses,
@@ -264,7 +154,7 @@ impl Writing {
 
     /// Writes a type of a cycle with fewer levels than are asked for.
     fn write_level(
-        &self,
+        &mut self,
         alloc: Global,
         sources: &Sources<'_>,
         options: Options,
@@ -285,6 +175,7 @@ impl Writing {
             status: _,
             notes: _,
             uses: _,
+            written: _,
         } = one;
         match line {
             Some(line) => {
@@ -386,6 +277,7 @@ pub(crate) fn write_all(
     let mut writing = Writing {
         written: nothing_written(alloc, count)?,
         below: Vec::new(alloc),
+        nodes: 0,
     };
     for _ in 0..count {
         writing.below.push(State::Open)?;
@@ -400,6 +292,10 @@ pub(crate) fn write_all(
         writing.write_members(alloc, sources, options, members, refused)?;
         from = end;
     }
-    let Writing { written, below: _ } = writing;
+    let Writing {
+        written,
+        below: _,
+        nodes: _,
+    } = writing;
     Ok(written)
 }

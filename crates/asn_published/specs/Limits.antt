@@ -1,0 +1,10 @@
+-- How large a type of the profile may be.
+use Rattle.std.specs.Prelude.{ℕ}
+
+-- types inside one another, with the type itself
+abbrev pub most_nodes : ℕ
+most_nodes = 10000
+
+-- levels of types inside one another
+abbrev pub most_levels : ℕ
+most_levels = 32

@@ -1,0 +1,152 @@
+//! What becomes of one type: its text, what is known of it, and what is said of it.
+use crate::flattening::Sources;
+use crate::info::State;
+use crate::refusal::{Refusal, Why};
+use crate::report::{Note, Remark, Status};
+use crate::writer::{Known, Writer, path_of};
+use std::alloc::{AllocError, Global};
+
+/// Writes a type, unless the profile refused it before.
+fn write_one<'t>(
+    alloc: Global,
+    known: Known<'_, 't>,
+    first: usize,
+    is_refused: bool,
+    writer: &mut Writer<'t>,
+) -> Result<(), Refusal> {
+    if is_refused {
+        return Err(Refusal::At {
+            line: 0,
+            why: Why::NotOfProfile,
+        });
+    }
+    writer.write_type(alloc, known, first)?;
+    if known.options.strict && writer.status != Status::Same {
+        writer.node = first;
+        return Err(Refusal::At {
+            line: 0,
+            why: Why::NotTheSame,
+        });
+    }
+    Ok(())
+}
+
+/// A type that was written, or why it was not.
+#[derive(Drop)]
+pub(crate) struct Outcome<'t> {
+    writer: Writer<'t>,
+    refusal: Option<(u32, Why)>,
+}
+
+/// Writes a type, of which `first` is the first node, after so many nodes of other types.
+pub(crate) fn outcome_of<'t>(
+    alloc: Global,
+    known: Known<'_, 't>,
+    first: usize,
+    is_refused: bool,
+    written: usize,
+) -> Result<Outcome<'t>, AllocError> {
+    let mut writer = Writer::new(alloc, written);
+    writer.node = first;
+    let refusal = match write_one(alloc, known, first, is_refused, &mut writer) {
+        Ok(()) => None,
+        Err(Refusal::Memory) => return Err(AllocError),
+        Err(Refusal::At { line, why }) => Some((line, why)),
+    };
+    Ok(Outcome { writer, refusal })
+}
+
+/// What is known of a type that was written, its text, and what is to be said of it.
+#[derive(Drop)]
+pub(crate) struct Settled {
+    pub state: State,
+    pub line: Option<String>,
+    pub status: Status,
+    pub notes: Vec<Note>,
+    pub uses: Vec<usize>,
+    /// How many nodes were written, of the types before it too.
+    pub written: usize,
+}
+
+/// What became of a type that the text `file` assigns on the line `own_line`. A fault in another text is told on that
+/// line.
+pub(crate) fn settle_type<'t>(
+    alloc: Global,
+    sources: &Sources<'t>,
+    file: usize,
+    own_line: u32,
+    outcome: Outcome<'t>,
+) -> Result<Settled, AllocError> {
+    let Outcome { writer, refusal } = outcome;
+    let Writer {
+        out,
+        stack: _,
+        last,
+        notes,
+        status,
+        nodes,
+        depth,
+        passed: _,
+        written,
+        selections: _,
+        without_bits: _,
+        sizes: _,
+        node,
+        uses,
+    } = writer;
+    let mut settled = Settled {
+        state: State::Refused,
+        line: None,
+        status: Status::Refused,
+        notes,
+        uses,
+        written,
+    };
+    match refusal {
+        None => {
+            let mut info = last;
+            info.nodes = nodes;
+            info.depth = depth;
+            info.status = status;
+            settled.state = State::Ready(info);
+            settled.line = Some(out);
+            settled.status = status;
+        }
+        Some((line, why)) => {
+            let is_here = line != 0 && file_of(sources, node) == file;
+            settled.notes.push(Note {
+                line: if is_here { line } else { own_line },
+                component: path_of(alloc, &sources.forest, node)?,
+                remark: Remark::Refused(why),
+            })?;
+        }
+    }
+    Ok(settled)
+}
+
+/// Which of the texts has a node, from 0.
+fn file_of(sources: &Sources<'_>, node: usize) -> usize {
+    match sources.forest.node(node) {
+        Some(node) => match sources.world.modules.get(node.module) {
+            Some(module) => module.file,
+            None => 0,
+        },
+        None => 0,
+    }
+}
+
+/// The assignment of a type: its own, or that of which it is an instance.
+pub(crate) fn assignment_of(sources: &Sources<'_>, entry: usize) -> usize {
+    let count = sources.world.assignments.len();
+    if entry < count {
+        return entry;
+    }
+    match sources
+        .forest
+        .instances
+        .instance(entry.saturating_sub(count))
+    {
+        Some(instance) => instance.assignment,
+        None => entry,
+    }
+}

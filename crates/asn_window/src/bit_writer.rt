@@ -84,8 +84,7 @@ impl BitWriter {
             self.put(8 * count, last_octets(count, n), output);
             return;
         }
-        self.octets
-            .put_low(self.count / 8, self.pending, output);
+        self.octets.put_low(self.count / 8, self.pending, output);
         self.count = 0;
         self.octets.put_low(count, n, output);
     }

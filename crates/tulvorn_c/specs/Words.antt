@@ -76,9 +76,15 @@ abbrev pub text_of_explanation : Unit → Option Explanation → List ℕ
 text_of_explanation u None = []
 text_of_explanation u (Some told) = text_in (name_of_unit u) (string_bytes told.path) told.fault
 
--- the handle then holds what is explained of the octets, nothing of an encoding
+-- the unit of the encoding rules of that number, 0 or 1
+abbrev pub unit_in : ℕ → Unit
+unit_in n = if nat_eq n 0 then unit.Bit else unit.Octet
+
+-- the handle then holds the text of what is explained of the octets, nothing of an encoding
+abbrev pub HoldsExplanation : Unit → List ℕ → Option Object → Ruling → Shape → Type 0
+HoldsExplanation u o new r t =
+    (told : Option Explanation) × Explains r t o told × (held_octets new ≡ Some (text_of_explanation u told))
+
 abbrev pub TellsExplanation : Unit → List ℕ → Option Object → Option Object → Ruling → Shape → Fault → Type 0
 TellsExplanation u o old new r t fault =
-    ((fault ≡ done) × (told : Option Explanation) × Explains r t o told
-    × (held_octets new ≡ Some (text_of_explanation u told)))
-    ⊎ ((fault ≡ no_memory) × (new ≡ old))
+    ((fault ≡ done) × HoldsExplanation u o new r t) ⊎ ((fault ≡ no_memory) × (new ≡ old))

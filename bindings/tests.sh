@@ -1,7 +1,7 @@
 #!/usr/bin/env bash
-# Calls the library from C, C++, Rust and Python, on the examples of the repository too, and wants no network. A step for
-# which a program is not there, a compiler or valgrind, is skipped and counted as such; one that fails does not end the
-# run. The last line is 'N passed, M failed', with ', K skipped' where a step was.
+# Calls the library from C, C++, Rust and Python, on the examples of the repository too, and wants no network. A step
+# for which a program is not there, a compiler or valgrind, is skipped and counted as such; one that fails does not end
+# the run. The last line is 'N passed, M failed', with ', K skipped' where a step was.
 #
 # usage: bindings/tests.sh OUT     the folder in which bindings/build.sh left the library
 set -euo pipefail
@@ -75,6 +75,9 @@ step "the page's program in C" cc python3 -- python3 "$here/page.py" "$out" c
 step "the page's program in C++" c++ python3 -- python3 "$here/page.py" "$out" cpp
 step "the page's program in Rust" cargo python3 -- python3 "$here/page.py" "$out" rust
 step "the page's program in Python" python3 -- python3 "$here/page.py" "$out" python
+step "the page's gateway" cc python3 -- python3 "$here/page.py" "$out" gateway
+step "the page's signer" cargo python3 -- python3 "$here/page.py" "$out" signer
+step "the page's test bench" python3 -- python3 "$here/page.py" "$out" bench.py
 note=
 [ $skipped = 0 ] || note=", $skipped skipped"
 echo "$passed passed, $failed failed$note"

@@ -31,7 +31,8 @@ pub record IsNotNewer (l : LooseCoding) (t : Shape) (o : List ℕ) (fault : Faul
 abbrev pub BothStay : Option Object → Option Object → Option Object → Option Object → Type 0
 BothStay value value' skipped skipped' = (value' ≡ value) × (skipped' ≡ skipped)
 
-abbrev pub ReadsNewer : LooseCoding → List ℕ → Option Object → Option Object → Option Object → Option Object → Shape → Fault → Type 0
+abbrev pub ReadsNewer : LooseCoding → List ℕ → Option Object → Option Object → Option Object → Option Object
+    → Shape → Fault → Type 0
 ReadsNewer l o value value' skipped skipped' t fault =
     ((fault ≡ done) × HoldsNewer l t o value' skipped')
     ⊎ (BothStay value value' skipped skipped' × IsNotNewer l t o fault)

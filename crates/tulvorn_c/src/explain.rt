@@ -55,7 +55,8 @@ fn explain_by<R: Rules + ReadLeaves>(
     unit: Unit,
     out: &mut Handle,
 ) -> u32
-    ensures { TellsExplanation unit octets.now out.old.kept out.new.kept R.Rules.ruling (shape_of ty.now) (plain result) }
+    ensures { TellsExplanation unit octets.now out.old.kept out.new.kept R.Rules.ruling (shape_of ty.now)
+        (plain result) }
 {
     match explained::<R>(alloc, ty, octets, unit) {
         Ok(held) => {

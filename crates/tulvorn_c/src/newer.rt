@@ -117,7 +117,8 @@ pub extern "C" fn tulvorn_skipped_count(
     count: &mut usize,
 ) -> u32
     ensures kept { skipped.new.kept ≡ skipped.old.kept }
-    ensures told { Asked (held_skipped skipped.old.kept) (count.new ≡ count.old) (TellsFields count.new) (plain result) }
+    ensures told { Asked (held_skipped skipped.old.kept) (count.new ≡ count.old) (TellsFields count.new)
+        (plain result) }
 {
     let Some(it) = replace(skipped, Handle::none(alloc)).into_box() else {
         return MISUSE;

@@ -191,8 +191,8 @@ static int newer(tulvorn_handle *module) {
     CHECK(tulvorn_skipped(&skipped, 1, &place, into, sizeof into, &size) == TULVORN_NO_PATH && into[0] == 0x2a);
     CHECK(tulvorn_skipped(&value, 0, &place, into, sizeof into, &size) == TULVORN_MISUSE);
     CHECK(tulvorn_read_newer(&old, TULVORN_OER, (const uint8_t[]){0x80}, 1, &value, &skipped, &fault) ==
-          TULVORN_TRUNCATED);
-    CHECK(value.at != NULL && skipped.at != NULL && says(&fault, TULVORN_OER, "cut short after 0 octets") == 0);
+          TULVORN_CUT_MESSAGE);
+    CHECK(value.at != NULL && skipped.at != NULL && says(&fault, TULVORN_OER, "cut short") == 0);
     CHECK(tulvorn_explain(&old, TULVORN_PER, (const uint8_t[]){0x01}, 1, &words) == TULVORN_DONE);
     CHECK(tulvorn_copy(&words, NULL, 0, &size) == TULVORN_TOO_SHORT && size > 10);
     CHECK(tulvorn_explain(&old, TULVORN_PER, (const uint8_t[]){0x00}, 1, &words) == TULVORN_DONE);

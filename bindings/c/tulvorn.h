@@ -1,8 +1,8 @@
 /* Tulvorn for C and C++: values of ASN.1 types by CANONICAL-PER UNALIGNED and Canonical OER.
  *
  * A handle holds one object of the library: a module, a type, a value beside its type, octets, or the fields that were
- * skipped in a message. A call that gives an object takes the handle that it is to be put into, and lets go of what that
- * handle held. Each call but tulvorn_close and tulvorn_interface answers a code, TULVORN_DONE where it did what it was
+ * skipped in a message. A call that gives an object takes the handle that it is to be put into, and lets go of what
+ * that handle held. Each call but tulvorn_close and tulvorn_interface answers a code, TULVORN_DONE where it did what it was
  * asked for. On every other answer each handle is as it was, and so are the octets that were to be written; the text of
  * a function says what else is written. Nothing is kept between calls but what handles hold: there is no state of the
  * library's own.
@@ -64,9 +64,12 @@ enum {
     TULVORN_NOT_OF_TYPE = 11,       /* the value is none of the type */
     TULVORN_NO_JSON = 12,           /* the text is no JSON */
     TULVORN_SHAPE = 13,             /* the JSON is not of the shape of the type */
-    TULVORN_NO_PATH = 14,           /* the value has no part there, or it is absent and has no DEFAULT; or no such field */
+    TULVORN_NO_PATH = 14,           /* the value has no part there, or it is absent and has no DEFAULT */
     TULVORN_OTHER_KIND = 15,        /* the part there is of another kind */
-    TULVORN_TOO_MANY_ADDITIONS = 16 /* a newer message has more extension additions than the profile allows */
+    /* of tulvorn_read_newer alone: */
+    TULVORN_NO_MESSAGE = 16,        /* no message of any version begins so */
+    TULVORN_CUT_MESSAGE = 17,       /* the octets end before a message of any version does */
+    TULVORN_TOO_MANY_ADDITIONS = 18 /* more extension additions than the profile allows */
 };
 
 /* ---- why, where octets are TULVORN_REFUSED: what was being read */
@@ -151,7 +154,7 @@ uint32_t tulvorn_explain(tulvorn_handle *type, uint32_t rules, const uint8_t *oc
 
 /* Puts into `value` what a receiver of this type reads of the message, and into `skipped` the fields that the type has
    not. An item or alternative that the type has not stands in the value as such; such a value has JSON and no encoding.
-   Answers REFUSED, TRUNCATED, TOO_LONG, TOO_MANY_ADDITIONS, NO_MEMORY; no answer tells a place or a reason. */
+   Answers NO_MESSAGE, CUT_MESSAGE, TOO_MANY_ADDITIONS, TOO_LONG, NO_MEMORY. */
 uint32_t tulvorn_read_newer(tulvorn_handle *type, uint32_t rules, const uint8_t *octets, size_t len,
                             tulvorn_handle *value, tulvorn_handle *skipped, tulvorn_fault *fault);
 

@@ -4,6 +4,7 @@ use denote.Param.SendFields.{variants_send}
 use Rattle.std.proofs.Crossing.{crosses}
 use Rattle.asn_values.proofs.checked.Checked.TheSendSync as types
 use Rattle.asn_values.proofs.value.Value.TheSendSync as values
+use Rattle.asn_rules.proofs.newer.Skipped.TheSendSync as fields
 use Rattle.asn_module.proofs.module.Module.TheSendSync as modules
 use Rattle.tulvorn_c.specs.contracts.object.Object as object
 
@@ -13,6 +14,9 @@ object_send = variants_send object.enum (
   (modules.the_send, tt),
   (
     (types.the_send, tt),
-    ((types.the_send, (values.the_send, tt)), ((search (sendable, crosses) depth 40, tt), tt)),
+    (
+      (types.the_send, (values.the_send, tt)),
+      ((search (sendable, crosses) depth 40, tt), ((search (sendable, crosses, fields.the_send) depth 40, tt), tt)),
+    ),
   ),
 )

@@ -89,9 +89,9 @@ of_json json.NotOfType = not_of_type
 of_json json.Memory = no_memory
 
 abbrev pub of_newer : NewerFault → Fault
-of_newer newer.Refused = plain 3
-of_newer newer.Truncated = plain 4
-of_newer newer.TooManyAdditions = plain 16
+of_newer newer.Refused = plain 16
+of_newer newer.Truncated = plain 17
+of_newer newer.TooManyAdditions = plain 18
 of_newer newer.Memory = no_memory
 of_newer newer.TooLong = too_long
 

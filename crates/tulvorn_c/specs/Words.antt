@@ -56,7 +56,8 @@ words_of_code n =
     else if nat_eq n 9 then codes "no module" else if nat_eq n 10 then codes "no such name"
     else if nat_eq n 11 then codes "not of the type" else if nat_eq n 12 then codes "no JSON"
     else if nat_eq n 13 then codes "not of the type's shape" else if nat_eq n 14 then codes "nothing at the path"
-    else if nat_eq n 15 then codes "another kind" else if nat_eq n 16 then codes "too many additions"
+    else if nat_eq n 15 then codes "another kind" else if nat_eq n 16 then codes "no message"
+    else if nat_eq n 17 then codes "cut short" else if nat_eq n 18 then codes "too many additions"
     else codes "unknown code"
 
 abbrev pub words_by : Unit → ℕ → Option DecodeFault → List ℕ

@@ -1,5 +1,5 @@
-//! Values of ASN.1 types by CANONICAL-PER UNALIGNED and Canonical OER, by the proved library Tulvorn, which is linked as a
-//! static library.
+//! Values of ASN.1 types by CANONICAL-PER UNALIGNED and Canonical OER, by the proved library Tulvorn, which is linked as
+//! a static library.
 //!
 //! ```
 //! use tulvorn::{Error, Module, Rules};
@@ -146,7 +146,11 @@ pub enum Reason {
     NoPath,
     /// The part is of another kind.
     OtherKind,
-    /// A newer message has more extension additions than the profile allows.
+    /// No message of any version begins so.
+    NoMessage,
+    /// The octets end before a message of any version does.
+    CutMessage,
+    /// A message of a newer version has more extension additions than the profile allows.
     TooManyAdditions,
     /// The library answered a code that this crate does not know, or the crate misused it.
     Other(u32),
@@ -181,7 +185,9 @@ impl Error {
             13 => Reason::Shape,
             14 => Reason::NoPath,
             15 => Reason::OtherKind,
-            16 => Reason::TooManyAdditions,
+            16 => Reason::NoMessage,
+            17 => Reason::CutMessage,
+            18 => Reason::TooManyAdditions,
             code => Reason::Other(code),
         };
         Error { reason, fault: (fault.code, fault.why, fault.at), rules }
@@ -200,8 +206,8 @@ impl fmt::Display for Error {
 
 impl std::error::Error for Error {}
 
-// A handle, which closes itself. It is used by one thread at a time, since it is not `Sync`, and no call that is given it
-// gives control back before it returns: so the call has it alone.
+// A handle, which closes itself. It is used by one thread at a time, since it is not `Sync`, and no call that is given
+// it gives control back before it returns: so the call has it alone.
 struct Held(UnsafeCell<Handle>);
 
 // SAFETY: the library proves `Send` of what a handle holds.
@@ -367,8 +373,8 @@ impl Type {
         Ok(held.octets())
     }
 
-    /// Why the octets are no encoding of a value of the type, with the component in which that shows, as `refused at bit
-    /// 6 in $.ok: default`; None where they are one.
+    /// Why the octets are no encoding of a value of the type, with the component in which that shows, as
+    /// `refused at bit 6 in $.ok: default`; None where they are one.
     ///
     /// # Errors
     /// `Memory`.
@@ -386,7 +392,7 @@ impl Type {
     /// What a receiver of this type reads of a message whose sender's type has more or fewer extension additions.
     ///
     /// # Errors
-    /// `RefusedNewer`, `TruncatedNewer`, `TooManyAdditions`, `TooLong`, `Memory`.
+    /// `NoMessage`, `CutMessage`, `TooManyAdditions`, `TooLong`, `Memory`.
     pub fn read_newer(&self, rules: Rules, octets: &[u8]) -> Result<Newer, Error> {
         let (value, fields, mut fault) = (Held::nothing(), Held::nothing(), Fault::default());
         // SAFETY: as in `decode`; the three handles are three objects'.

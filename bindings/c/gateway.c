@@ -50,7 +50,7 @@ static int forward(tulvorn_handle *type, const uint8_t *message, size_t size) {
     if (code != TULVORN_DONE) return refuse(&(tulvorn_fault){code, fault.why, fault.at});
     for (size_t at = 0; at < count; at++) printf("%02x", octets[at]);
     printf("\n");
-    return 0;
+    return fflush(stdout) == 0 ? 0 : 2;
 }
 
 /* Forwards the messages in front of the octets held, and leaves in `held` what is the beginning of one. */

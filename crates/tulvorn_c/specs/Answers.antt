@@ -1,5 +1,5 @@
 -- What calls answer, by the objects that handles held before (old) and hold after (new).
-use Rattle.std.specs.Prelude.{◌≡◌, ◌⊎◌, ◌<◌, ◌≤◌, ◌++◌, drop, ℕ, Result, Ok, Err, List, length, Option, Some, None, nat_eq, if◌then◌else◌, IsUtf8}
+use Rattle.std.specs.Prelude.{◌≡◌, ◌⊎◌, ◌<◌, ◌≤◌, ◌++◌, drop, ℕ, Ok, Err, List, length, Option, Some, None, nat_eq, if◌then◌else◌, IsUtf8}
 use Rattle.serde_json.specs.Data.{Data}
 use Rattle.serde_json.specs.Written.{compact_text}
 use Rattle.asn_values.specs.Datum.{Datum}

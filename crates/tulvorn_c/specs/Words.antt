@@ -14,7 +14,7 @@ use Rattle.asn_explain.specs.Texts.{text_in}
 use Rattle.asn_explain.specs.declared.explanation.Explanation.{Explanation}
 use Rattle.tulvorn_c.specs.declared.object.Object.{Object}
 use Rattle.tulvorn_c.specs.declared.fault.Fault.{Fault}
-use Rattle.tulvorn_c.specs.Faults.{done, no_memory, misuse, of_decode}
+use Rattle.tulvorn_c.specs.Faults.{done, no_memory, misuse}
 use Rattle.tulvorn_c.specs.Held.{held_octets}
 
 -- the version of the library

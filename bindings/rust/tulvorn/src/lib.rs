@@ -210,7 +210,7 @@ impl std::error::Error for Error {}
 // it gives control back before it returns: so the call has it alone.
 struct Held(UnsafeCell<Handle>);
 
-// SAFETY: the library proves `Send` of what a handle holds.
+// SAFETY: the library proves `Send` of its handle, and a handle is used by one thread at a time.
 unsafe impl Send for Held {}
 
 impl Held {

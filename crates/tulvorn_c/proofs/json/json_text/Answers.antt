@@ -1,6 +1,6 @@
 -- What is written of a value has no floating point number, so its text is the compact one.
 use Rattle.std.proofs.Common.{◌≡◌, subst}
-use Rattle.std.specs.Prelude.{IfOk, Result, String, string_bytes}
+use Rattle.std.specs.Prelude.{IfOk, string_bytes}
 use Rattle.serde_json.specs.Written.{compact_text}
 use Rattle.asn_values.specs.View.{shape_of, datum_of}
 use Rattle.asn_json.specs.Written.{json_of}

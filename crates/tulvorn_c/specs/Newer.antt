@@ -1,5 +1,5 @@
 -- Messages of newer and older senders, and the fields of them that the type has not.
-use Rattle.std.specs.Prelude.{◌≡◌, ◌⊎◌, ℕ, List, length, Option, Some, None, slice_get, MatchOption}
+use Rattle.std.specs.Prelude.{◌≡◌, ◌⊎◌, ℕ, List, length, Option, Some, slice_get, MatchOption}
 use Rattle.asn_values.specs.Shape.{Shape}
 use Rattle.asn_values.specs.View.{datum_of}
 use Rattle.asn_view.specs.Typed.{typed}

@@ -1,6 +1,5 @@
 -- What is read of the octets is what the two handles hold.
 use Rattle.std.proofs.Common.{rules}
-use Rattle.tulvorn_c.specs.Newer.{HoldsNewer}
 use Rattle.tulvorn_c.proofs.newer.newer_held.Goals as goal
 
 pub returns-in-Ok-holding-2-clause-read : goal.returns-in-Ok-holding-2-clause-read

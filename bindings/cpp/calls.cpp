@@ -59,7 +59,7 @@ int main() {
     Newer newer = module.type("Old").read_newer(Rules::Oer, Octets{0x80, 0xff, 0x02, 0x07, 0x80, 0x01, 0x2a});
     CHECK(newer.value.boolean("a") && newer.skipped.size() == 1 && newer.skipped[0].place == 0);
     CHECK(newer.skipped[0].octets == Octets{0x2a});
-    CHECK(type.explain(Rules::Per, Octets{0xac, 0}).find("in $.ok: default") != std::string::npos);
+    CHECK(type.explain(Rules::Per, Octets{0xac, 0}).find("cut short after 16 bits in $") == 0);
     // a type in another thread, and a value that is moved
     std::thread thread([shared = type.share()] { CHECK(shared.from_json(R"({"id":7})").integer("id") == 7); });
     thread.join();

@@ -40,6 +40,7 @@ static const char MODULE[] =
     "Msg ::= SEQUENCE { id INTEGER (0..7), ok BOOLEAN DEFAULT TRUE, note IA5String (SIZE (0..3)) OPTIONAL }\n"
     "All ::= SEQUENCE { far INTEGER, colour ENUMERATED { red, green }, key OCTET STRING, bits BIT STRING,\n"
     "    one CHOICE { number INTEGER (0..255), none NULL }, list SEQUENCE OF Msg, word UTF8String }\n"
+    "Old ::= SEQUENCE { a BOOLEAN, ... }\n"
     "END\n";
 
 static const char ALL[] =
@@ -74,6 +75,9 @@ static int nothing(void) {
     CHECK(tulvorn_text(&none, NULL, 0, into, 4, &size) == TULVORN_MISUSE && size == 7);
     CHECK(tulvorn_name(&none, NULL, 0, into, 4, &size) == TULVORN_MISUSE && size == 7);
     CHECK(tulvorn_copy(&none, into, 4, &size) == TULVORN_MISUSE && size == 7 && into[0] == 9);
+    CHECK(tulvorn_explain(&none, TULVORN_PER, into, 4, &other) == TULVORN_MISUSE);
+    CHECK(tulvorn_skipped_count(&none, &size) == TULVORN_MISUSE && size == 7);
+    CHECK(tulvorn_skipped(&none, 0, &word, into, 4, &size) == TULVORN_MISUSE && size == 7 && word == 7);
     tulvorn_close(&none);
     tulvorn_close(&none);
     CHECK(none.at == NULL && other.at == NULL);
@@ -165,6 +169,39 @@ static int messages(tulvorn_handle *type) {
     CHECK(memcmp(json, shown, size) == 0);
     tulvorn_close(&value);
     tulvorn_close(&octets);
+    return 0;
+}
+
+/* a message of a newer sender: an addition that the type has not, and an item */
+static int newer(tulvorn_handle *module) {
+    tulvorn_handle old = TULVORN_NONE, value = TULVORN_NONE, skipped = TULVORN_NONE, words = TULVORN_NONE;
+    tulvorn_fault fault;
+    uint8_t into[4] = {9};
+    uint32_t place = 7, truth = 0;
+    size_t size = 7;
+    CHECK(tulvorn_type(module, TEXT("Old"), &old, &fault) == TULVORN_DONE);
+    CHECK(tulvorn_read_newer(&old, 2, NULL, 0, &value, &skipped, &fault) == TULVORN_MISUSE);
+    CHECK(tulvorn_read_newer(&old, TULVORN_OER, (const uint8_t[]){0x80, 0xff, 0x02, 0x07, 0x80, 0x01, 0x2a}, 7, &value,
+                             &skipped, &fault) == TULVORN_DONE);
+    CHECK(tulvorn_boolean(&value, TEXT("a"), &truth) == TULVORN_DONE && truth == 1);
+    CHECK(tulvorn_skipped_count(&skipped, &size) == TULVORN_DONE && size == 1);
+    CHECK(tulvorn_skipped(&skipped, 0, &place, into, sizeof into, &size) == TULVORN_DONE);
+    CHECK(place == 0 && size == 1 && into[0] == 0x2a);
+    CHECK(tulvorn_skipped(&skipped, 0, &place, into, 0, &size) == TULVORN_TOO_SHORT && size == 1);
+    CHECK(tulvorn_skipped(&skipped, 1, &place, into, sizeof into, &size) == TULVORN_NO_PATH && into[0] == 0x2a);
+    CHECK(tulvorn_skipped(&value, 0, &place, into, sizeof into, &size) == TULVORN_MISUSE);
+    CHECK(tulvorn_read_newer(&old, TULVORN_OER, (const uint8_t[]){0x80}, 1, &value, &skipped, &fault) ==
+          TULVORN_CUT_MESSAGE);
+    CHECK(value.at != NULL && skipped.at != NULL && says(&fault, TULVORN_OER, "cut short") == 0);
+    CHECK(tulvorn_explain(&old, TULVORN_PER, (const uint8_t[]){0x01}, 1, &words) == TULVORN_DONE);
+    CHECK(tulvorn_copy(&words, NULL, 0, &size) == TULVORN_TOO_SHORT && size > 10);
+    CHECK(tulvorn_explain(&old, TULVORN_PER, (const uint8_t[]){0x00}, 1, &words) == TULVORN_DONE);
+    CHECK(tulvorn_copy(&words, NULL, 0, &size) == TULVORN_DONE && size == 0);
+    CHECK(tulvorn_explain(&old, 2, NULL, 0, &words) == TULVORN_MISUSE);
+    tulvorn_close(&words);
+    tulvorn_close(&skipped);
+    tulvorn_close(&value);
+    tulvorn_close(&old);
     return 0;
 }
 
@@ -263,6 +300,11 @@ static int memory(tulvorn_handle *module, tulvorn_handle *msg, tulvorn_handle *a
     EACH_FAILS(it, tulvorn_from_json(all, TEXT(ALL), &it, &fault));
     EACH_FAILS(it, tulvorn_to_json(&value, &it, &fault));
     EACH_FAILS(it, tulvorn_words(&fault, TULVORN_PER, &it));
+    EACH_FAILS(it, tulvorn_explain(msg, TULVORN_PER, good, 1, &it));
+    EACH_FAILS(it, tulvorn_read_newer(msg, TULVORN_PER, good, 2, &value, &it, &fault));
+    EACH_FAILS(it, tulvorn_read_newer(msg, TULVORN_PER, good, 2, &it, &value, &fault));
+    tulvorn_close(&value);
+    CHECK(tulvorn_from_json(all, TEXT(ALL), &value, &fault) == TULVORN_DONE);
     /* and those that take no memory */
     asked = 0;
     CHECK(tulvorn_encoded_len(&value, TULVORN_PER, &size, &fault) == TULVORN_DONE);
@@ -285,6 +327,7 @@ static int calls(long *refused) {
     CHECK(tulvorn_type(&module, TEXT("Msg"), &msg, &fault) == TULVORN_DONE);
     CHECK(tulvorn_type(&module, TEXT("All"), &all, &fault) == TULVORN_DONE);
     CHECK(memory(&module, &msg, &all, refused) == 0);
+    CHECK(newer(&module) == 0);
     /* a type outlives its module and its first handle */
     CHECK(tulvorn_share(&module, &other) == TULVORN_MISUSE && tulvorn_share(&msg, &other) == TULVORN_DONE);
     tulvorn_close(&module);

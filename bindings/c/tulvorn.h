@@ -1,10 +1,11 @@
 /* Tulvorn for C and C++: values of ASN.1 types by CANONICAL-PER UNALIGNED and Canonical OER.
  *
- * A handle holds one object of the library: a module, a type, a value beside its type, or octets. A call that gives an
- * object takes the handle that it is to be put into, and lets go of what that handle held. Each call but tulvorn_close
- * and tulvorn_interface answers a code, TULVORN_DONE where it did what it was asked for. On every other answer each
- * handle is as it was, and so are the octets that were to be written; the text of a function says what else is written.
- * Nothing is kept between calls but what handles hold: there is no state of the library's own.
+ * A handle holds one object of the library: a module, a type, a value beside its type, octets, or the fields that were
+ * skipped in a message. A call that gives an object takes the handle that it is to be put into, and lets go of what
+ * that handle held. Each call but tulvorn_close and tulvorn_interface answers a code, TULVORN_DONE where it did what it was
+ * asked for. On every other answer each handle is as it was, and so are the octets that were to be written; the text of
+ * a function says what else is written. Nothing is kept between calls but what handles hold: there is no state of the
+ * library's own.
  *
  * WHAT THE CALLER OWES. Nothing checks it, and a call for which it does not hold may do anything.
  *   - A handle begins as TULVORN_NONE, is changed by calls of the library alone, and is never copied.
@@ -65,7 +66,11 @@ enum {
     TULVORN_NO_JSON = 12,           /* the text is no JSON */
     TULVORN_SHAPE = 13,             /* the JSON is not of the shape of the type */
     TULVORN_NO_PATH = 14,           /* the value has no part there, or it is absent and has no DEFAULT */
-    TULVORN_OTHER_KIND = 15         /* the part there is of another kind */
+    TULVORN_OTHER_KIND = 15,        /* the part there is of another kind */
+    /* of tulvorn_read_newer alone: */
+    TULVORN_NO_MESSAGE = 16,        /* no message of any version begins so */
+    TULVORN_CUT_MESSAGE = 17,       /* the octets end before a message of any version does */
+    TULVORN_TOO_MANY_ADDITIONS = 18 /* more extension additions than the profile allows */
 };
 
 /* ---- why, where octets are TULVORN_REFUSED: what was being read */
@@ -139,6 +144,29 @@ uint32_t tulvorn_encode_into(tulvorn_handle *value, uint32_t rules, uint8_t *int
    Answers as tulvorn_check does; TOO_LONG also where the value has no encoding by the other rules of so few octets. */
 uint32_t tulvorn_convert(tulvorn_handle *type, uint32_t rules, const uint8_t *octets, size_t len, tulvorn_handle *other,
                          tulvorn_fault *fault);
+
+/* Puts into `words`, as octets, why the octets are no encoding of a value of the type, and the component in which that
+   shows, its places counted in the unit of the rules: `refused at bit 6 in $.ok: default`. No octets where they are the
+   encoding of one. Answers NO_MEMORY. */
+uint32_t tulvorn_explain(tulvorn_handle *type, uint32_t rules, const uint8_t *octets, size_t len,
+                         tulvorn_handle *words);
+
+/* ---- messages of newer and older senders, whose version of the type has more or fewer extension additions */
+
+/* Puts into `value` what a receiver of this type reads of the message, and into `skipped` the fields that the type has
+   not. An item or alternative that the type has not stands in the value as such; such a value has JSON and no encoding.
+   Answers NO_MESSAGE, CUT_MESSAGE, TOO_MANY_ADDITIONS, TOO_LONG, NO_MEMORY. */
+uint32_t tulvorn_read_newer(tulvorn_handle *type, uint32_t rules, const uint8_t *octets, size_t len,
+                            tulvorn_handle *value, tulvorn_handle *skipped, tulvorn_fault *fault);
+
+/* How many fields were skipped, in `count`. Answers MISUSE where `skipped` holds none. */
+uint32_t tulvorn_skipped_count(tulvorn_handle *skipped, size_t *count);
+
+/* The skipped field at `index`, counted from 0 in the order of the message: in `place` its index among the extension
+   additions of its type, from 0, and its octets to the front of `into`, which has `room`, as tulvorn_copy does; `place`
+   is told with TOO_SHORT too. Answers MISUSE, NO_PATH where there are not so many, TOO_SHORT. */
+uint32_t tulvorn_skipped(tulvorn_handle *skipped, size_t index, uint32_t *place, uint8_t *into, size_t room,
+                         size_t *needed);
 
 /* ---- JSON */
 

@@ -10,6 +10,7 @@ static const char *const MODULE = "M DEFINITIONS AUTOMATIC TAGS ::= BEGIN\n"
                                   "    note IA5String (SIZE (0..3)) OPTIONAL,\n"
                                   "    colour ENUMERATED { red, green } OPTIONAL,\n"
                                   "    key OCTET STRING OPTIONAL, bits BIT STRING OPTIONAL }\n"
+                                  "Old ::= SEQUENCE { a BOOLEAN, ... }\n"
                                   "END\n";
 
 static int failed = 0;
@@ -55,6 +56,10 @@ int main() {
         CHECK(type.fault_if(rules, octets)->code == TULVORN_TRUNCATED);
         CHECK(code_of([&] { type.decode(rules, octets); }) == TULVORN_TRUNCATED);
     }
+    Newer newer = module.type("Old").read_newer(Rules::Oer, Octets{0x80, 0xff, 0x02, 0x07, 0x80, 0x01, 0x2a});
+    CHECK(newer.value.boolean("a") && newer.skipped.size() == 1 && newer.skipped[0].place == 0);
+    CHECK(newer.skipped[0].octets == Octets{0x2a});
+    CHECK(type.explain(Rules::Per, Octets{0xac, 0}).find("cut short after 16 bits in $") == 0);
     // a type in another thread, and a value that is moved
     std::thread thread([shared = type.share()] { CHECK(shared.from_json(R"({"id":7})").integer("id") == 7); });
     thread.join();

@@ -194,6 +194,19 @@ class Value {
     detail::Handle held_;
 };
 
+// A field of a message that the receiver's type has not: its index among the extension additions of its type, from 0,
+// and its octets.
+struct Skipped {
+    uint32_t place;
+    Octets octets;
+};
+
+// What is read of a message of a newer or older sender.
+struct Newer {
+    Value value;
+    std::vector<Skipped> skipped;
+};
+
 // A type of a module. It outlives the module.
 class Type {
   public:
@@ -218,6 +231,34 @@ class Type {
         auto code = tulvorn_decode(held_.get(), by, octets.data(), octets.size(), value.held_.get(), &fault);
         detail::look(code, fault, rules);
         return value;
+    }
+    // Why the octets are no encoding, with the component in which that shows; empty where they are one.
+    std::string explain(Rules rules, OctetsView octets) const {
+        detail::Handle words;
+        auto by = static_cast<uint32_t>(rules);
+        detail::look(tulvorn_explain(held_.get(), by, octets.data(), octets.size(), words.get()));
+        return detail::text_of(words);
+    }
+    // What a receiver of this type reads of a message whose sender's type has more or fewer extension additions.
+    Newer read_newer(Rules rules, OctetsView octets) const {
+        Newer newer;
+        detail::Handle fields;
+        tulvorn_fault fault;
+        size_t count = 0;
+        auto by = static_cast<uint32_t>(rules);
+        auto code = tulvorn_read_newer(held_.get(), by, octets.data(), octets.size(), newer.value.held_.get(),
+                                       fields.get(), &fault);
+        detail::look(code, fault, rules);
+        detail::look(tulvorn_skipped_count(fields.get(), &count));
+        for (size_t index = 0; index < count; index++) {
+            Skipped field{0, {}};
+            size_t size = 0;
+            tulvorn_skipped(fields.get(), index, &field.place, nullptr, 0, &size);
+            field.octets.resize(size);
+            detail::look(tulvorn_skipped(fields.get(), index, &field.place, field.octets.data(), size, &size));
+            newer.skipped.push_back(std::move(field));
+        }
+        return newer;
     }
     // The octets by the other rules of the value whose encoding by these rules the octets are.
     Octets convert(Rules rules, OctetsView octets) const {

@@ -14,6 +14,7 @@ TEXT = """M DEFINITIONS AUTOMATIC TAGS ::= BEGIN
 Msg ::= SEQUENCE { id INTEGER (0..7), ok BOOLEAN DEFAULT TRUE, note IA5String (SIZE (0..3)) OPTIONAL }
 All ::= SEQUENCE { far INTEGER, colour ENUMERATED { red, green }, key OCTET STRING, bits BIT STRING,
     one CHOICE { number INTEGER (0..255), none NULL }, list SEQUENCE OF Msg, word UTF8String }
+Old ::= SEQUENCE { a BOOLEAN, ... }
 END"""
 
 
@@ -77,6 +78,15 @@ def faults(spec):
     assert raised(ValueError, lambda: spec.encode("Msg", {"id": 1}, "ber"))
 
 
+def versions(spec):
+    old = spec.type("Old")
+    value, fields = old.read_newer(b"\x80\xff\x02\x07\x80\x01\x2a", "oer")
+    assert value["a"] is True and fields == [(0, b"\x2a")]
+    assert raised(tulvorn.DecodeError, lambda: old.read_newer(b"\x80", "oer")).code == tulvorn.CUT_MESSAGE
+    assert old.explain(b"\x00") is None
+    assert spec.type("Msg").explain(b"\xac") == "refused at bit 6 in $.ok: default"
+
+
 def threads(spec):
     """Four threads use one type by handles of their own, and one value together."""
     value, wrong = spec.type("Msg").of({"id": 3}), []
@@ -98,5 +108,6 @@ if __name__ == "__main__":
     assert doctest.testmod(tulvorn).failed == 0
     spec = parts()
     faults(spec)
+    versions(spec)
     threads(spec)
     print(f"Python: passed, with {examples()} messages of the examples; version {tulvorn.version()}")

@@ -35,8 +35,8 @@ RULES = {"per": PER, "uper": PER, "oer": OER, PER: PER, OER: OER}
 
 (
     DONE, NO_MEMORY, MISUSE, REFUSED, TRUNCATED, REST, TOO_LONG, TOO_SHORT, NOT_TEXT, NO_MODULE, NO_NAME, NOT_OF_TYPE,
-    NO_JSON, SHAPE, NO_PATH, OTHER_KIND,
-) = range(16)
+    NO_JSON, SHAPE, NO_PATH, OTHER_KIND, NO_MESSAGE, CUT_MESSAGE, TOO_MANY_ADDITIONS,
+) = range(19)
 
 (
     BOOLEAN, NULL, INTEGER, ENUMERATED, BIT_STRING, OCTET_STRING, CHARACTER_STRING, SEQUENCE, SEQUENCE_OF, CHOICE,
@@ -65,6 +65,10 @@ FUNCTIONS = {
     "tulvorn_encoded_len": "huSf:u",
     "tulvorn_encode_into": "huwsSf:u",
     "tulvorn_convert": "huoshf:u",
+    "tulvorn_explain": "huosh:u",
+    "tulvorn_read_newer": "huoshhf:u",
+    "tulvorn_skipped_count": "hS:u",
+    "tulvorn_skipped": "hsUwsS:u",
     "tulvorn_to_json": "hhf:u",
     "tulvorn_from_json": "hoshf:u",
     "tulvorn_kind": "hosU:u",
@@ -318,6 +322,14 @@ def _json_of(value):
     return value
 
 
+def _skipped(fields, index):
+    place, needed = ctypes.c_uint32(), ctypes.c_size_t()
+    _library.tulvorn_skipped(fields.handle, index, place, None, 0, needed)
+    room = ctypes.create_string_buffer(max(1, needed.value))
+    _library.tulvorn_skipped(fields.handle, index, place, room, needed.value, needed)
+    return place.value, room.raw[: needed.value]
+
+
 class Type(_Held):
     """A type of a module. It outlives the module."""
 
@@ -342,6 +354,29 @@ class Type(_Held):
             code = _library.tulvorn_decode(self.handle, rules, bytes(octets), len(octets), value.handle, fault)
         _look(DecodeError, code, fault, rules)
         return value
+
+    def explain(self, octets, rules="per"):
+        """Why the octets are no encoding, with the component in which that shows; None where they are one."""
+        words = _Held()
+        with self.lock:
+            code = _library.tulvorn_explain(self.handle, _rules(rules), bytes(octets), len(octets), words.handle)
+        if code != DONE:
+            raise MemoryError
+        return words.copied().decode() or None
+
+    def read_newer(self, octets, rules="per"):
+        """What a receiver of this type reads of a message whose sender's type has more or fewer extension additions:
+        the value, and for each field that the type has not a pair of its index among the additions, from 0, and its
+        octets."""
+        value, fields, fault, rules = Value(), _Held(), Fault(), _rules(rules)
+        with self.lock:
+            code = _library.tulvorn_read_newer(
+                self.handle, rules, bytes(octets), len(octets), value.handle, fields.handle, fault
+            )
+        _look(DecodeError, code, fault, rules)
+        count = ctypes.c_size_t()
+        _library.tulvorn_skipped_count(fields.handle, count)
+        return value, [_skipped(fields, index) for index in range(count.value)]
 
     def convert(self, octets, rules="per"):
         """The octets by the other rules of the value whose encoding by these rules the octets are."""

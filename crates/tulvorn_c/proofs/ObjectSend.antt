@@ -7,6 +7,7 @@ use Rattle.asn_values.specs.contracts.checked.Checked as types
 use Rattle.asn_values.specs.contracts.value.Value as values
 use Rattle.asn_values.proofs.types.AsnType.TheLaws.TheKnot as inside_types
 use Rattle.asn_values.proofs.value.Value.TheLaws.TheKnot as inside_values
+use Rattle.asn_rules.specs.contracts.newer.Skipped as fields
 use Rattle.asn_module.specs.contracts.module.Module as modules
 use Rattle.tulvorn_c.specs.contracts.object.Object as object
 
@@ -20,12 +21,21 @@ type_send = search (crosses, inside_types.crosses_both, inside_values.crosses_bo
 module_send : IsSend modules.the_row
 module_send = search (maps.crosses, crosses, type_send, sendable) depth 60 fits 20000
 
+field_send : IsSend fields.the_row
+field_send = search (crosses, sendable) depth 60 fits 20000
+
 -- (part by part, since one search over all variants comes to its limit)
 pub object_send : IsSend object.the_row
 object_send = variants_send object.enum (
   (module_send, tt),
   (
     (type_send, tt),
-    ((type_send, (value_send, tt)), ((search (sendable, crosses) depth 40, tt), tt)),
+    (
+      (type_send, (value_send, tt)),
+      (
+        (search (sendable, crosses) depth 40, tt),
+        ((search (sendable, crosses, field_send) depth 40, tt), tt),
+      ),
+    ),
   ),
 )

@@ -14,6 +14,8 @@ use Rattle.asn_convert.specs.declared.conversion.ConvertFault.{ConvertFault}
 use Rattle.asn_convert.specs.declared.conversion.ConvertFault.TheVariants as convert
 use Rattle.asn_json.specs.declared.fault.JsonFault.{JsonFault}
 use Rattle.asn_json.specs.declared.fault.JsonFault.TheVariants as json
+use Rattle.asn_newer.specs.declared.fault.NewerFault.{NewerFault}
+use Rattle.asn_newer.specs.declared.fault.NewerFault.TheVariants as newer
 use Rattle.asn_module.specs.declared.fault.ModuleFault.{ModuleFault}
 use Rattle.asn_module.specs.declared.fault.ModuleFault.TheVariants as module_fault
 use Rattle.tulvorn_c.specs.declared.fault.Fault.{Fault}
@@ -85,6 +87,13 @@ abbrev pub of_json : JsonFault → Fault
 of_json (json.Shape path) = plain 13
 of_json json.NotOfType = not_of_type
 of_json json.Memory = no_memory
+
+abbrev pub of_newer : NewerFault → Fault
+of_newer newer.Refused = plain 16
+of_newer newer.Truncated = plain 17
+of_newer newer.TooManyAdditions = plain 18
+of_newer newer.Memory = no_memory
+of_newer newer.TooLong = too_long
 
 -- the reason is the number of the fault, and the place an octet of the text, or 0
 abbrev pub no_module : ℕ → ℕ → Fault

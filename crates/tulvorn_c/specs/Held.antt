@@ -4,9 +4,11 @@ use Rattle.asn_values.specs.Shape.{Shape}
 use Rattle.asn_values.specs.View.{shape_of, datum_of}
 use Rattle.asn_view.specs.Typed.{Typed, typed}
 use Rattle.asn_module.specs.Accepted.{ModuleTypes}
+use Rattle.asn_newer.specs.Reading.{skipped_seen}
+use Rattle.asn_newer.specs.Skipped as fields
 use Rattle.asn_module.specs.ModuleView.{types_view}
 use Rattle.tulvorn_c.specs.declared.object.Object.{Object}
-use Rattle.tulvorn_c.specs.declared.object.Object.TheVariants.{Module, Checked, Value, Octets}
+use Rattle.tulvorn_c.specs.declared.object.Object.TheVariants.{Module, Checked, Value, Octets, Skipped}
 
 -- the module, its names and their types
 abbrev pub held_module : Option Object → Option ModuleTypes
@@ -27,3 +29,8 @@ held_value _ = None
 abbrev pub held_octets : Option Object → Option (List ℕ)
 held_octets (Some (Octets octets)) = Some octets.items
 held_octets _ = None
+
+-- the fields that a type has not, in the order in which they stand in the message
+abbrev pub held_skipped : Option Object → Option (List fields.Skipped)
+held_skipped (Some (Skipped skipped)) = Some (skipped_seen skipped.items)
+held_skipped _ = None

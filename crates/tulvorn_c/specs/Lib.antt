@@ -2,5 +2,6 @@ pub mod Answers
 pub mod Faults
 pub mod Held
 pub mod Kept
+pub mod Newer
 pub mod Parts
 pub mod Words

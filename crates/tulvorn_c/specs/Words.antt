@@ -1,12 +1,17 @@
 -- Faults in words, and other texts.
-use Rattle.std.specs.Prelude.{◌≡◌, ◌⊎◌, ℕ, List, codes, Option, Some, None, option_map, nat_eq, if◌then◌else◌}
-use Rattle.asn_rules.specs.Reasons.{text_of_fault}
+use Rattle.std.specs.Prelude.{◌≡◌, ◌⊎◌, ℕ, List, [], codes, string_bytes, Option, Some, None, option_map, nat_eq, if◌then◌else◌}
+use Rattle.asn_values.specs.Shape.{Shape}
+use Rattle.asn_rules.specs.Answer.{Ruling}
+use Rattle.asn_rules.specs.Reasons.{text_of_fault, name_of_unit}
 use Rattle.asn_rules.specs.declared.fault.Why.{Why}
 use Rattle.asn_rules.specs.declared.fault.Why.TheVariants as why
 use Rattle.asn_rules.specs.declared.fault.DecodeFault.{DecodeFault}
 use Rattle.asn_rules.specs.declared.fault.DecodeFault.TheVariants as decode
 use Rattle.asn_rules.specs.declared.units.Unit.{Unit}
 use Rattle.asn_rules.specs.declared.units.Unit.TheVariants as unit
+use Rattle.asn_explain.specs.Explains.{Explains}
+use Rattle.asn_explain.specs.Texts.{text_in}
+use Rattle.asn_explain.specs.declared.explanation.Explanation.{Explanation}
 use Rattle.tulvorn_c.specs.declared.object.Object.{Object}
 use Rattle.tulvorn_c.specs.declared.fault.Fault.{Fault}
 use Rattle.tulvorn_c.specs.Faults.{done, no_memory, misuse}
@@ -51,7 +56,9 @@ words_of_code n =
     else if nat_eq n 9 then codes "no module" else if nat_eq n 10 then codes "no such name"
     else if nat_eq n 11 then codes "not of the type" else if nat_eq n 12 then codes "no JSON"
     else if nat_eq n 13 then codes "not of the type's shape" else if nat_eq n 14 then codes "nothing at the path"
-    else if nat_eq n 15 then codes "another kind" else codes "unknown code"
+    else if nat_eq n 15 then codes "another kind" else if nat_eq n 16 then codes "no message"
+    else if nat_eq n 17 then codes "cut short" else if nat_eq n 18 then codes "too many additions"
+    else codes "unknown code"
 
 abbrev pub words_by : Unit → ℕ → Option DecodeFault → List ℕ
 words_by u code (Some why) = text_of_fault u why
@@ -63,3 +70,22 @@ words_of u fault = words_by u fault.code (decode_fault_of fault)
 abbrev pub TellsWords : Option Unit → Fault → Option Object → Option Object → Fault → Type 0
 TellsWords None told old new fault = (fault ≡ misuse) × (new ≡ old)
 TellsWords (Some u) told old new fault = HoldsText (words_of u told) old new fault
+
+-- ---- explanations
+
+abbrev pub text_of_explanation : Unit → Option Explanation → List ℕ
+text_of_explanation u None = []
+text_of_explanation u (Some told) = text_in (name_of_unit u) (string_bytes told.path) told.fault
+
+-- the unit of the encoding rules of that number, 0 or 1
+abbrev pub unit_in : ℕ → Unit
+unit_in n = if nat_eq n 0 then unit.Bit else unit.Octet
+
+-- the handle then holds the text of what is explained of the octets, nothing of an encoding
+abbrev pub HoldsExplanation : Unit → List ℕ → Option Object → Ruling → Shape → Type 0
+HoldsExplanation u o new r t =
+    (told : Option Explanation) × Explains r t o told × (held_octets new ≡ Some (text_of_explanation u told))
+
+abbrev pub TellsExplanation : Unit → List ℕ → Option Object → Option Object → Ruling → Shape → Fault → Type 0
+TellsExplanation u o old new r t fault =
+    ((fault ≡ done) × HoldsExplanation u o new r t) ⊎ ((fault ≡ no_memory) × (new ≡ old))

@@ -4,6 +4,7 @@ ghost use Rattle.tulvorn_c.specs.Faults as faults;
 
 use tulvorn::{
     ConvertFault, DecodeFault, EncodeFault, EncodeIntoFault, JsonFault, LengthFault, ModuleFault,
+    NewerFault,
 };
 
 /// The call did what it was asked for.
@@ -53,6 +54,15 @@ pub(crate) const NO_PATH: u32 = 14;
 
 /// The part at the path is of another kind.
 pub(crate) const OTHER_KIND: u32 = 15;
+
+/// No message of any version begins so.
+const NO_MESSAGE: u32 = 16;
+
+/// The octets end before a message of any version does.
+const CUT_MESSAGE: u32 = 17;
+
+/// More extension additions than the profile allows.
+const TOO_MANY_ADDITIONS: u32 = 18;
 
 /// What a call answered: a code, and, as the code says, a reason and a place.
 #[repr(C)]
@@ -145,6 +155,18 @@ impl Fault {
             JsonFault::Shape { .. } => Fault::plain(SHAPE),
             JsonFault::NotOfType => Fault::plain(NOT_OF_TYPE),
             JsonFault::Memory => Fault::plain(NO_MEMORY),
+        }
+    }
+
+    pub(crate) fn of_newer(fault: NewerFault) -> Fault
+        ensures { result ≡ faults.of_newer fault }
+    {
+        match fault {
+            NewerFault::Refused => Fault::plain(NO_MESSAGE),
+            NewerFault::Truncated => Fault::plain(CUT_MESSAGE),
+            NewerFault::TooManyAdditions => Fault::plain(TOO_MANY_ADDITIONS),
+            NewerFault::Memory => Fault::plain(NO_MEMORY),
+            NewerFault::TooLong => Fault::plain(TOO_LONG),
         }
     }
 

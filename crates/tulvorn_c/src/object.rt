@@ -1,5 +1,5 @@
 //! All that a handle can hold.
-use tulvorn::{Checked, Module, Value};
+use tulvorn::{Checked, Module, Skipped, Value};
 
 /// What a handle holds.
 #[derive(Drop)]
@@ -8,4 +8,5 @@ pub enum Object {
     Checked(Checked),
     Value { ty: Checked, value: Value },
     Octets(Vec<u8>),
+    Skipped(Vec<Skipped>),
 }

@@ -136,6 +136,9 @@ fn words_of_code(code: u32) -> &'static str
         13 => "not of the type's shape",
         14 => "nothing at the path",
         15 => "another kind",
+        16 => "no message",
+        17 => "cut short",
+        18 => "too many additions",
         _ => "unknown code",
     }
 }

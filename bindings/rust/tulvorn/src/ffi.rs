@@ -50,6 +50,25 @@ unsafe extern "C" {
         other: *mut Handle,
         fault: *mut Fault,
     ) -> u32;
+    pub fn tulvorn_explain(ty: *mut Handle, rules: u32, octets: *const u8, len: usize, words: *mut Handle) -> u32;
+    pub fn tulvorn_read_newer(
+        ty: *mut Handle,
+        rules: u32,
+        octets: *const u8,
+        len: usize,
+        value: *mut Handle,
+        skipped: *mut Handle,
+        fault: *mut Fault,
+    ) -> u32;
+    pub fn tulvorn_skipped_count(skipped: *mut Handle, count: *mut usize) -> u32;
+    pub fn tulvorn_skipped(
+        skipped: *mut Handle,
+        index: usize,
+        place: *mut u32,
+        into: *mut u8,
+        room: usize,
+        needed: *mut usize,
+    ) -> u32;
     pub fn tulvorn_to_json(value: *mut Handle, json: *mut Handle, fault: *mut Fault) -> u32;
     pub fn tulvorn_from_json(
         ty: *mut Handle,

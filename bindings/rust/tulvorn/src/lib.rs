@@ -146,6 +146,12 @@ pub enum Reason {
     NoPath,
     /// The part is of another kind.
     OtherKind,
+    /// No message of any version begins so.
+    NoMessage,
+    /// The octets end before a message of any version does.
+    CutMessage,
+    /// A message of a newer version has more extension additions than the profile allows.
+    TooManyAdditions,
     /// The library answered a code that this crate does not know, or the crate misused it.
     Other(u32),
 }
@@ -179,6 +185,9 @@ impl Error {
             13 => Reason::Shape,
             14 => Reason::NoPath,
             15 => Reason::OtherKind,
+            16 => Reason::NoMessage,
+            17 => Reason::CutMessage,
+            18 => Reason::TooManyAdditions,
             code => Reason::Other(code),
         };
         Error { reason, fault: (fault.code, fault.why, fault.at), rules }
@@ -226,6 +235,23 @@ impl Held {
             0 => Ok(room),
             code => Err(code),
         }
+    }
+
+    // The skipped fields that it holds.
+    fn fields(&self) -> Vec<Skipped> {
+        let mut count = 0;
+        // SAFETY: the handle is this object's.
+        unsafe { ffi::tulvorn_skipped_count(self.get(), &raw mut count) };
+        (0..count)
+            .map(|index| {
+                let mut place = 0;
+                let octets = Held::written(|into, room, needed| {
+                    // SAFETY: as above, and the room is that of a vector.
+                    unsafe { ffi::tulvorn_skipped(self.get(), index, &raw mut place, into, room, needed) }
+                });
+                Skipped { place, octets: octets.unwrap_or_default() }
+            })
+            .collect()
     }
 
     fn octets(&self) -> Vec<u8> {
@@ -347,6 +373,44 @@ impl Type {
         Ok(held.octets())
     }
 
+    /// Why the octets are no encoding of a value of the type, with the component in which that shows, as
+    /// `refused at bit 6 in $.ok: default`; None where they are one.
+    ///
+    /// # Errors
+    /// `Memory`.
+    pub fn explain(&self, rules: Rules, octets: &[u8]) -> Result<Option<String>, Error> {
+        let held = Held::nothing();
+        // SAFETY: as in `decode`.
+        let code = unsafe {
+            ffi::tulvorn_explain(self.0.get(), rules as u32, octets.as_ptr(), octets.len(), held.get())
+        };
+        look(code, Fault { code, why: 0, at: 0 }, rules)?;
+        let words = String::from_utf8_lossy(&held.octets()).into_owned();
+        Ok((!words.is_empty()).then_some(words))
+    }
+
+    /// What a receiver of this type reads of a message whose sender's type has more or fewer extension additions.
+    ///
+    /// # Errors
+    /// `NoMessage`, `CutMessage`, `TooManyAdditions`, `TooLong`, `Memory`.
+    pub fn read_newer(&self, rules: Rules, octets: &[u8]) -> Result<Newer, Error> {
+        let (value, fields, mut fault) = (Held::nothing(), Held::nothing(), Fault::default());
+        // SAFETY: as in `decode`; the three handles are three objects'.
+        let code = unsafe {
+            ffi::tulvorn_read_newer(
+                self.0.get(),
+                rules as u32,
+                octets.as_ptr(),
+                octets.len(),
+                value.get(),
+                fields.get(),
+                &raw mut fault,
+            )
+        };
+        look(code, fault, rules)?;
+        Ok(Newer { value: Value(value), skipped: fields.fields() })
+    }
+
     /// The value of the type that the JSON shows.
     ///
     /// # Errors
@@ -360,6 +424,23 @@ impl Type {
         look(code, fault, Rules::Per)?;
         Ok(Value(held))
     }
+}
+
+/// A field of a message that the receiver's type has not.
+#[derive(Clone, Debug, PartialEq, Eq)]
+pub struct Skipped {
+    /// Its index among the extension additions of its type, from 0; those that the receiver's type has count too.
+    pub place: u32,
+    /// Its octets.
+    pub octets: Vec<u8>,
+}
+
+/// What is read of a message of a newer or older sender.
+pub struct Newer {
+    /// The value, with the entries and alternatives that the type has.
+    pub value: Value,
+    /// The fields that the type has not, in the order of the message.
+    pub skipped: Vec<Skipped>,
 }
 
 /// A value beside its type.

@@ -1,6 +1,6 @@
 //! Calls the library from safe Rust.
 
-use tulvorn::{Kind, Module, Reason, Rules, Why};
+use tulvorn::{Kind, Module, Reason, Rules, Skipped, Why};
 
 const MODULE: &str = "M DEFINITIONS AUTOMATIC TAGS ::= BEGIN
 Msg ::= SEQUENCE { id INTEGER (0..7), ok BOOLEAN DEFAULT TRUE, note IA5String (SIZE (0..3)) OPTIONAL }
@@ -65,6 +65,18 @@ fn tells_faults() {
     assert_eq!(reason(Module::read("M")), Reason::NoModule { at: 1 });
     assert_eq!(tulvorn::interface(), 1);
     assert!(tulvorn::version().starts_with("0.1.0"));
+}
+
+#[test]
+fn reads_messages_of_newer_senders() {
+    let module = "M DEFINITIONS AUTOMATIC TAGS ::= BEGIN Old ::= SEQUENCE { a BOOLEAN, ... } END";
+    let old = Module::read(module).unwrap().ty("Old").unwrap();
+    let newer = old.read_newer(Rules::Oer, &[0x80, 0xff, 2, 7, 0x80, 1, 0x2a]).unwrap();
+    assert_eq!(newer.value.at("a").as_bool(), Some(true));
+    assert_eq!(newer.skipped, [Skipped { place: 0, octets: vec![0x2a] }]);
+    assert_eq!(reason(old.read_newer(Rules::Oer, &[0x80])), Reason::CutMessage);
+    assert_eq!(old.explain(Rules::Per, &[0]).unwrap(), None);
+    assert!(old.explain(Rules::Per, &[1]).unwrap().is_some());
 }
 
 #[test]

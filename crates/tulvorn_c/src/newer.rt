@@ -1,0 +1,180 @@
+//! Messages of newer and older senders, and the fields of them that the type has not.
+ghost use Rattle.std.specs.Prelude.{◌≡◌, IfOk, IfErr};
+ghost use Rattle.asn_values.specs.View.{shape_of};
+ghost use Rattle.asn_newer.specs.Reading.{NotNewer, skipped_seen};
+ghost use Rattle.asn_newer.specs.Rules.{per_loose, oer_loose};
+ghost use Rattle.tulvorn_c.specs.Answers.{Asked, AreAsBefore};
+ghost use Rattle.tulvorn_c.specs.Faults.{plain, misuse};
+ghost use Rattle.tulvorn_c.specs.Held.{held_type, held_skipped};
+ghost use Rattle.tulvorn_c.specs.Newer.{HoldsNewer, BothStay, ReadsNewer, TellsFields, TellsField};
+
+use crate::fault::{DONE, Fault, MISUSE, NO_PATH};
+use crate::handle::Handle;
+use crate::object::Object;
+use crate::octets::copy;
+use std::alloc::Global;
+use std::mem::replace;
+use tulvorn::{Checked, NewerFault, Oer, Per, ReadNewer, Skipped, read_newer};
+
+/// The value of a message of some version of the type, and the fields that the type has not: see `tulvorn::read_newer`.
+#[unsafe(no_mangle)]
+pub extern "C" fn tulvorn_read_newer(
+    alloc: Global,
+    ty: &mut Handle,
+    rules: u32,
+    octets: &[u8],
+    value: &mut Handle,
+    skipped: &mut Handle,
+    fault: &mut Fault,
+) -> u32
+    ensures kept { ty.new.kept ≡ ty.old.kept }
+    ensures per { rules ≡ 0 → Asked (held_type ty.old.kept)
+        (BothStay value.old.kept value.new.kept skipped.old.kept skipped.new.kept)
+        (ReadsNewer per_loose octets.now value.old.kept value.new.kept skipped.old.kept skipped.new.kept) fault.new }
+    ensures oer { rules ≡ 1 → Asked (held_type ty.old.kept)
+        (BothStay value.old.kept value.new.kept skipped.old.kept skipped.new.kept)
+        (ReadsNewer oer_loose octets.now value.old.kept value.new.kept skipped.old.kept skipped.new.kept) fault.new }
+    ensures other { (rules ≡ 0 → ⊥) → (rules ≡ 1 → ⊥) → (fault.new ≡ misuse)
+        × BothStay value.old.kept value.new.kept skipped.old.kept skipped.new.kept }
+    ensures code { result ≡ fault.new.code }
+{
+    let Some(it) = replace(ty, Handle::none(alloc)).into_box() else {
+        *fault = Fault::plain(MISUSE);
+        return MISUSE;
+    };
+    *fault = match it.as_ref() {
+        Object::Checked(ty) => match rules {
+            0 => read_by::<Per>(alloc, ty, octets, value, skipped),
+            1 => read_by::<Oer>(alloc, ty, octets, value, skipped),
+            _ => Fault::plain(MISUSE),
+        },
+        _ => Fault::plain(MISUSE),
+    };
+    *ty = Handle::of(it);
+    fault.code
+}
+
+fn read_by<R: ReadNewer>(
+    alloc: Global,
+    ty: &Checked,
+    octets: &[u8],
+    value: &mut Handle,
+    skipped: &mut Handle,
+) -> Fault
+    ensures { ReadsNewer R.OtherVersions.loose octets.now value.old.kept value.new.kept skipped.old.kept
+        skipped.new.kept (shape_of ty.now) result }
+{
+    match newer_held::<R>(alloc, ty, octets) {
+        Ok(held) => {
+            let BothHeld {
+                value: read,
+                skipped: fields,
+            } = held;
+            *value = read;
+            *skipped = fields;
+            Fault::plain(DONE)
+        }
+        Err(fault) => Fault::of_newer(fault),
+    }
+}
+
+/// A handle of a value, and one of the fields that were skipped.
+#[derive(Drop)]
+struct BothHeld {
+    value: Handle,
+    skipped: Handle,
+}
+
+/// Handles of what is read of the octets.
+fn newer_held<R: ReadNewer>(
+    alloc: Global,
+    ty: &Checked,
+    octets: &[u8],
+) -> Result<BothHeld, NewerFault>
+    ensures read { IfOk result (λ h.
+        HoldsNewer R.OtherVersions.loose (shape_of ty.now) octets.now h.value.kept h.skipped.kept) }
+    ensures fault { IfErr result (λ why. NotNewer R.OtherVersions.loose (shape_of ty.now) octets.now why) }
+{
+    let newer = read_newer::<R>(alloc, ty, octets)?;
+    let Ok(ty) = ty.copy() else {
+        return Err(NewerFault::Memory);
+    };
+    let Ok(skipped) = Handle::holding(alloc, Object::Skipped(newer.skipped)) else {
+        return Err(NewerFault::Memory);
+    };
+    let value = newer.value;
+    match Handle::holding(alloc, Object::Value { ty, value }) {
+        Ok(value) => Ok(BothHeld { value, skipped }),
+        Err(_) => Err(NewerFault::Memory),
+    }
+}
+
+/// How many fields were skipped.
+#[unsafe(no_mangle)]
+pub extern "C" fn tulvorn_skipped_count(
+    alloc: Global,
+    skipped: &mut Handle,
+    count: &mut usize,
+) -> u32
+    ensures kept { skipped.new.kept ≡ skipped.old.kept }
+    ensures told { Asked (held_skipped skipped.old.kept) (count.new ≡ count.old) (TellsFields count.new)
+        (plain result) }
+{
+    let Some(it) = replace(skipped, Handle::none(alloc)).into_box() else {
+        return MISUSE;
+    };
+    let code = match it.as_ref() {
+        Object::Skipped(fields) => {
+            *count = fields.len();
+            DONE
+        }
+        _ => MISUSE,
+    };
+    *skipped = Handle::of(it);
+    code
+}
+
+/// The place of the skipped field at an index among the additions of its type, from 0, and its octets, written as
+/// `tulvorn_copy` does.
+#[unsafe(no_mangle)]
+pub extern "C" fn tulvorn_skipped(
+    alloc: Global,
+    skipped: &mut Handle,
+    index: usize,
+    place: &mut u32,
+    into: &mut [u8],
+    needed: &mut usize,
+) -> u32
+    ensures kept { skipped.new.kept ≡ skipped.old.kept }
+    ensures told { Asked (held_skipped skipped.old.kept)
+        ((place.new ≡ place.old) × AreAsBefore into.old into.new needed.old needed.new)
+        (TellsField index place.old place.new into.old into.new needed.old needed.new) (plain result) }
+{
+    let Some(it) = replace(skipped, Handle::none(alloc)).into_box() else {
+        return MISUSE;
+    };
+    let code = match it.as_ref() {
+        Object::Skipped(fields) => field_at(fields.as_slice(), index, place, into, needed),
+        _ => MISUSE,
+    };
+    *skipped = Handle::of(it);
+    code
+}
+
+fn field_at(
+    fields: &[Skipped],
+    index: usize,
+    place: &mut u32,
+    into: &mut [u8],
+    needed: &mut usize,
+) -> u32
+    ensures { TellsField index place.old place.new into.old into.new needed.old needed.new
+        (skipped_seen fields.now) (plain result) }
+{
+    if index >= fields.len() {
+        return NO_PATH;
+    }
+    let field = &fields[index];
+    *place = field.place;
+    copy(field.octets.as_slice(), into, needed)
+}

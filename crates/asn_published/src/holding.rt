@@ -43,8 +43,8 @@ impl<'t> Writer<'t> {
         self.ask_for(tasks.as_slice())
     }
 
-    /// The members of a node in the order that the profile has, where it takes them. `written` is the holder, and the
-    /// members as they are written, from one index to before another.
+    /// The members of a node in the order that the profile has, where it takes them: the holder, and the members as they
+    /// are written, from one index to before another.
     fn layout_of_node(
         &mut self,
         alloc: Global,

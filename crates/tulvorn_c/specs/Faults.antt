@@ -10,6 +10,8 @@ use Rattle.asn_rules.specs.declared.fault.LengthFault.{LengthFault}
 use Rattle.asn_rules.specs.declared.fault.LengthFault.TheVariants as long
 use Rattle.asn_rules.specs.declared.fault.EncodeIntoFault.{EncodeIntoFault}
 use Rattle.asn_rules.specs.declared.fault.EncodeIntoFault.TheVariants as into
+use Rattle.asn_rules.specs.declared.session.FeedFault.{FeedFault}
+use Rattle.asn_rules.specs.declared.session.FeedFault.TheVariants as feed
 use Rattle.asn_convert.specs.declared.conversion.ConvertFault.{ConvertFault}
 use Rattle.asn_convert.specs.declared.conversion.ConvertFault.TheVariants as convert
 use Rattle.asn_json.specs.declared.fault.JsonFault.{JsonFault}
@@ -87,6 +89,12 @@ abbrev pub of_json : JsonFault → Fault
 of_json (json.Shape path) = plain 13
 of_json json.NotOfType = not_of_type
 of_json json.Memory = no_memory
+
+abbrev pub of_feed : FeedFault → Fault
+of_feed (feed.Refused at why) = record { code = 3; why = number_of why; at = at }
+of_feed feed.TooLong = too_long
+of_feed feed.Memory = no_memory
+of_feed feed.Spent = plain 20
 
 abbrev pub of_newer : NewerFault → Fault
 of_newer newer.Refused = plain 16

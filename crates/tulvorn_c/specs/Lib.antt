@@ -4,4 +4,5 @@ pub mod Held
 pub mod Kept
 pub mod Newer
 pub mod Parts
+pub mod Sessions
 pub mod Words

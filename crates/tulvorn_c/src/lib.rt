@@ -13,4 +13,5 @@ mod object;
 mod octets;
 mod part_octets;
 mod parts;
+mod sessions;
 mod words;

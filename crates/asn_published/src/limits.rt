@@ -43,8 +43,8 @@ pub(crate) fn within(
     }
 }
 
-/// How many nodes are written of all types together, where so many are built and recursion is written to so many
-/// levels: COMPONENTS OF and selections can write the nodes of one type in many others.
+/// How many nodes are written of all types together at most, where `built` nodes were built of the texts and recursion
+/// is written to `levels` levels: COMPONENTS OF and selections can write the nodes of one type in many others.
 pub(crate) fn most_of_all(built: usize, levels: u32) -> usize {
     built
         .saturating_mul(levels.saturating_add(4) as usize)

@@ -38,7 +38,7 @@ pub(crate) struct Outcome<'t> {
     refusal: Option<(u32, Why)>,
 }
 
-/// Writes a type, of which `first` is the first node, after so many nodes of other types.
+/// Writes a type, of which `first` is the first node, after `written` nodes of other types.
 pub(crate) fn outcome_of<'t>(
     alloc: Global,
     known: Known<'_, 't>,

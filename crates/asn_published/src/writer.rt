@@ -171,7 +171,7 @@ impl<'a, 't> Known<'a, 't> {
 }
 
 impl<'t> Writer<'t> {
-    /// Nothing is written, after so many nodes of other types.
+    /// Nothing of the type is written yet; `written` nodes of other types are.
     pub fn new(alloc: Global, written: usize) -> Self {
         Writer {
             out: String::new(alloc),

@@ -40,7 +40,7 @@ const NO_MODULE: u32 = 9;
 /// The module has no type of that name.
 pub(crate) const NO_NAME: u32 = 10;
 
-/// The value is none of the type.
+/// The value does not fit the type.
 const NOT_OF_TYPE: u32 = 11;
 
 /// The text is no JSON.

@@ -298,6 +298,10 @@ pub {name}_spec : {{M : Type 1}} → statement M
 """
 
 
+# the mark of a cycle of functions (a cycle of types keeps its mark)
+CYCLE = re.compile(r"#\[cycle\((\w+)\)\](?!(?:\s*(?:#\[[^\]]*\]|//[^\n]*\n))*\s*(?:pub(?:\([^)]*\))?\s+)?(?:struct|enum)\b)")
+
+
 def put_hole(crate, folder, home):
     """Puts a hole in the place of a function's proof."""
     at = f"{folder}/proofs/{home}"
@@ -325,7 +329,7 @@ def take_others_at_contracts(crate, folder, edits):
             kept += [text[at:body], "{ unreachable!() }"]
             at = end
             put_hole(crate, folder, home_of(name, module_of(path), types))
-        text = re.sub(r"#\[cycle\((\w+)\)\]", lambda it: it[0] if it[1] in cycles else "", "".join(kept) + text[at:])
+        text = CYCLE.sub(lambda it: it[0] if it[1] in cycles else "", "".join(kept) + text[at:])
         with open(file, "w", encoding="utf-8") as it:
             it.write(text)
     for at, names, _ in os.walk(f"{folder}/proofs"):

@@ -325,7 +325,7 @@ def leave_answers(file, own):
         found = re.match(r"pub (\S+) : goal\.", line)
         if found:
             name, is_own, is_told = found[1], any(has_goal(it, found[1]) for it in own), False
-        elif name and not line.startswith((" ", f"{name} ")):
+        elif not line or line.startswith(("use ", "abbrev ", "--")):
             name = None
         if name and not is_own and line.startswith(f"{name} "):
             kept += [] if is_told else [f"{name} = ?"]

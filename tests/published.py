@@ -4,12 +4,11 @@
 usage: tests/published.py PROGRAM
 
 What `flatten` writes and tells of the examples is compared with what is stored there, and so is what the orders answer
-with these modules as files, and on standard input. The octets that are stored, and those of the rows of
-tests/programs/published, are compared with what the second implementation, examples/reference.py, works out of the type
-of the profile. Of a type that is too large the report has its count, and the line at which the limit is passed. A hostile
-text has to be refused with a line, or answered, in a time that grows with its length: twice the text may take three and a
-half times as long, by the clock of the processor. How long the largest of each kind took, and the most memory that it had,
-is printed. The last line is 'N passed, M failed'.
+with these modules as files, and on standard input. The octets that are stored are compared with what the second
+implementation, examples/reference.py, works out of the type of the profile. Of a type that is too large the report has its
+count, and the line at which the limit is passed. A hostile text has to be refused with a line, or answered, in a time that
+grows with its length: twice the text may take three and a half times as long, by the clock of the processor. How long the
+largest of each kind took, and the most memory that it had, is printed. The last line is 'N passed, M failed'.
 """
 import importlib.util
 import json
@@ -23,7 +22,6 @@ sys.dont_write_bytecode = True
 
 TOP = os.path.dirname(os.path.dirname(os.path.abspath(__file__)))
 EXAMPLES = f"{TOP}/examples/published"
-ROWS = f"{TOP}/tests/programs/published/stdin"
 SPEC = importlib.util.spec_from_file_location("reference", f"{TOP}/examples/reference.py")
 REFERENCE = importlib.util.module_from_spec(SPEC)
 SPEC.loader.exec_module(REFERENCE)
@@ -148,22 +146,12 @@ def agree(count, what, types, name, line, octets):
 
 
 def second_implementation(count):
-    """What is stored beside the examples, and the octets of the rows of which the type of the profile is told."""
+    """What is stored beside the examples."""
     with open("flattened.asn", encoding="utf-8") as it:
         types = REFERENCE.Parser(it.read()).module()
     stored_lines = (stored(f"report.{it}").decode().splitlines() for it in ("values", "per", "oer"))
     for line, *octets in zip(*stored_lines):
         agree(count, "report.values", types, "Report", line, octets)
-    types = None
-    with open(ROWS, encoding="utf-8") as it:
-        for number, line in enumerate(it.read().splitlines(), 1):
-            if line.startswith("= "):
-                types = REFERENCE.Parser(f"M DEFINITIONS AUTOMATIC TAGS ::= BEGIN T ::= {line[2:]} END").module()
-            elif line[:2] in (": ", "+ "):
-                types = None
-            elif line.count(" | ") == 2 and line[0] not in "#*!" and types:
-                value, *octets = line.split(" | ")
-                agree(count, f"row {number}", types, "T", value, octets)
 
 
 def ring(n):

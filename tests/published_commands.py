@@ -199,6 +199,20 @@ def printed(count, program):
     count.add(ran[:2] == (2, b"") and NO_SET in ran[2].decode().splitlines(), f"module --module ..: {ran[:3]}")
 
 
+def narrower(count, program):
+    """What is none of the type of the profile is refused: a number above the highest, and one of more than 64 bits."""
+    with open("wide.asn", "w") as it:
+        it.write("M DEFINITIONS AUTOMATIC TAGS ::= BEGIN n INTEGER ::= 200 T ::= INTEGER (0..50 | 100..n) U ::= INTEGER END\n")
+    for name, rules, given, wanted in (
+        ("T", "per", b"c8\nc9\n", b"200\n! refused at bit 8: number\n"),
+        ("T", "oer", b"c8\nc9\n", b"200\n! refused at octet 1: number\n"),
+        ("U", "per", b"087fffffffffffffff\n09008000000000000000\n", b"9223372036854775807\n! refused at bit 8: length\n"),
+        ("U", "oer", b"087fffffffffffffff\n09008000000000000000\n", b"9223372036854775807\n! refused at octet 1: length\n"),
+    ):
+        ran = run(program, ["show", "--type", name, "--rules", rules, "--module", "wide.asn"], given)
+        count.add(ran[:2] == (1, wanted), f"show {name} {rules}: {ran[:3]}")
+
+
 def faults(count, program):
     """A fault of the notation in the second text, a file that is not there, and a module that is given twice."""
     broken = COMMON.replace("Id ::=", "Id =")
@@ -229,7 +243,7 @@ def main(words):
         for name, text in zip(FILES, (METERS, COMMON)):
             with open(name, "w") as it:
                 it.write(text)
-        for part in (orders, profile, reports, printed, faults):
+        for part in (orders, profile, reports, printed, narrower, faults):
             part(count, program)
         os.chdir("/")
     print(f"{count.passed} passed, {count.failed} failed")

@@ -11,9 +11,9 @@ usage: tests/gate.py [PART..]      the parts are proofs, edits and tests; all th
    when the crate is proved, on processors that no proof takes.
 3. tests: the programs of tests/programs are built without a proof of their own (tests/room.py), and what they write is
    compared; tests/refused_allocations.sh refuses in turn each allocation of programs; examples/run.sh,
-   tests/versions.py, tests/published.py, tests/published_commands.py, tests/published_sets.py, tests/published_tags.py and
-   tests/installed.sh run the program `asn_tool` as the gate has built it; tests/octet_counts.py and
-   tests/published_rows.py look at rows without a program;
+   tests/versions.py, tests/published.py, tests/published_commands.py, published_sets.py, published_tags.py,
+   published_sequences.py and tests/installed.sh run the program `asn_tool` as the gate has built it;
+   tests/octet_counts.py and tests/published_rows.py look at rows without a program;
    bindings/tests.sh calls the library for C, built without a proof of its own, from four languages, and skips those
    whose compiler is not there.
 
@@ -194,6 +194,7 @@ def tests(part):
     step(part, ["tests/published_commands.py", TOOL])
     step(part, ["tests/published_sets.py", TOOL])
     step(part, ["tests/published_tags.py", TOOL])
+    step(part, ["tests/published_sequences.py", TOOL])
     step(part, ["tests/installed.sh", TOOL])
 
 

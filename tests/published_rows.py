@@ -4,7 +4,8 @@
 usage: tests/published_rows.py
 
 1. ROWS.md: what it names by a piece of a text is one case and no other, of which the report says what stands there; a type
-   that is not refused has octets in both rules, or in PER alone where OER has others; no case is left out.
+   that is not refused has octets in both rules, or in PER alone where OER has others; no case of the files that it is
+   about is left out.
 2. The octets of all rows are those that the second implementation, examples/reference.py, works out of the type of the
    profile.
 
@@ -18,6 +19,8 @@ sys.dont_write_bytecode = True
 from published import Count, REFERENCE, TOP, agree
 
 FOLDER = f"{TOP}/tests/programs/published"
+# the files of which ROWS.md names each case
+LISTED = ("stdin", "stdin.subjects")
 
 
 class Case:
@@ -106,7 +109,7 @@ def check_octets(count, cases):
 def main():
     count = Count()
     cases = [it for file in sorted(glob.glob(f"{FOLDER}/stdin*")) for it in cases_of(file)]
-    check_list(count, cases)
+    check_list(count, [it for file in LISTED for it in cases_of(f"{FOLDER}/{file}")])
     check_octets(count, cases)
     print(f"{len(cases)} cases, {sum(len(it.octets()) for it in cases)} rows of octets, {len([*listed()])} lines of ROWS.md")
     print(f"{count.passed} passed, {count.failed} failed")

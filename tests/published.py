@@ -245,7 +245,6 @@ LINES = {
     "types in a ring": lambda n: "2: T0: refused: recursion",
     "braces one in the other": lambda n: "2: T." + ".".join("a" * 32) + f": refused: {n + 1} levels, more than 32",
     "braces in 5 and 10 MB": lambda n: "2: T." + ".".join("a" * 32) + f": refused: {n + 1} levels, more than 32",
-    "braces of a DEFAULT": lambda n: "2: T.a: wider: the default may be written out",
     "CHOICE without tags one in the other": lambda n: "2: T: refused: tags that are not understood",
     "braces that are not closed": lambda n: "2: a bracket without its other",
     "parentheses of constraints": lambda n: "2: T: refused: a constraint that is not understood",

@@ -2,9 +2,10 @@
 
 usage: python3 bindings/build_unproved.py ROOM OBJECT [OPTION..]
 
-The options are for the compiler, as -fsanitize=fuzzer-no-link for a fuzzer. ROOM is a folder outside the repository, which is kept, so that a later call does anew only what has changed. The
-toolchain makes a module of a program or of tests alone, so a test that calls each export is put beside them, and then
-left out: the exports become the only names that are seen from outside. tests/unproved.py says what else is done.
+The options are the compiler's, as -fsanitize=fuzzer-no-link for a fuzzer. ROOM is a folder outside the repository, which
+is kept, so that a later call does anew only what has changed. The toolchain makes a module of a program or of tests
+alone, so a test that calls each export is put beside them, and then left out: the exports become the only names that are
+seen from outside. tests/unproved.py says what else is done.
 """
 import os
 import re

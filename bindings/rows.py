@@ -25,7 +25,8 @@ import sys
 TOP = os.path.dirname(os.path.dirname(os.path.abspath(__file__)))
 WHY = ("", "sealed", "default", "length", "extension", "character", "padding", "number")
 DONE, REFUSED, TRUNCATED, REST, NO_MESSAGE, CUT_MESSAGE, TOO_MANY = 0, 3, 4, 5, 16, 17, 18
-MOST = 400000
+# longer rows than these are left out, and longer than SHORT from the inputs of the fuzzer
+MOST, SHORT = 400000, 3000
 RULES = {"per": 0, "oer": 1}
 
 
@@ -152,6 +153,29 @@ def write(file):
             last, count = module, count + len(made)
             it.write("\n".join([f"type {of_type}", *made, ""]))
         it.write(f"end {count}\n")
+
+
+def corpus(folder):
+    """Inputs of bindings/c/fuzz.c, of all rows that are short."""
+    write(f"{folder}/rows")
+    inputs, at = set(), -1
+    for (module, _), made in [*examples(), *rows()]:
+        at += 1
+        if len(module) < SHORT:
+            inputs.add(bytes([at, 6]) + module.encode())
+        for row in made:
+            kind, *words = row.split(" ")
+            if len(row) > SHORT:
+                continue
+            messages = enumerate(words[:2]) if kind == "value" else [(int(words[0]), words[1])]
+            if kind != "pieces":
+                inputs |= {bytes([at, rules]) + bytes.fromhex(it[2:]) for rules, it in messages if it != "-"}
+            if kind == "value" and words[2] != "-":
+                inputs.add(bytes([at, 4]) + bytes.fromhex(words[2][2:]))
+    os.makedirs(f"{folder}/inputs")
+    for number, it in enumerate(sorted(inputs)):
+        with open(f"{folder}/inputs/{number:04}", "wb") as file:
+            file.write(it)
 
 
 def main():

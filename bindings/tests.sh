@@ -86,15 +86,15 @@ step "the declarations of the header and the bindings" python3 -- python3 "$here
 step "C" gcc -- in_c
 step "C under valgrind" gcc valgrind -- "${memory[@]}" "$made/calls"
 step "C under the sanitizers" gcc -- in_c_sanitized
-step "C on the rows" gcc python3 -- rows_in_c
-step "C on the rows, under the sanitizers" gcc python3 -- rows_in_c -fsanitize=address,undefined
 step "C in threads" gcc -- in_threads
 step "C++" g++ -- in_cpp
 step "C++ under valgrind" g++ valgrind -- "${memory[@]}" "$made/calls-cpp"
-step "C++ on the rows" g++ python3 -- rows_in_cpp
 step "Python" python3 -- in_python
-step "Python on the rows" python3 -- rows_in_python
 step "Rust, on the rows too" cargo -- in_rust
+step "C on the rows" gcc python3 -- rows_in_c
+step "C on the rows, under the sanitizers" gcc python3 -- rows_in_c -fsanitize=address,undefined
+step "C++ on the rows" g++ python3 -- rows_in_cpp
+step "Python on the rows" python3 -- rows_in_python
 step "the page's program in C" cc python3 -- python3 "$here/page.py" "$out" c
 step "the page's program in C++" c++ python3 -- python3 "$here/page.py" "$out" cpp
 step "the page's program in Rust" cargo python3 -- python3 "$here/page.py" "$out" rust

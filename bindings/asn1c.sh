@@ -3,11 +3,12 @@
 # messages and write the same octets by unaligned PER, then how long decoding and encoding take, in one run, and how
 # many instructions, which other work on the machine does not change. It prints a table.
 #
-# usage: bindings/asn1c.sh OUT [ROUNDS]     OUT is the folder in which bindings/build.sh left the library; the times are
-#                                           the least of ROUNDS rounds, 20 if not given
+# usage: [COUNT=no] bindings/asn1c.sh OUT [ROUNDS]
 #
+# OUT is the folder in which bindings/build.sh left the library; the times are the least of ROUNDS rounds, 20 if not given.
 # It wants asn1c (Debian's package asn1c, version 0.9.28), gcc, cargo for the messages of the benchmark, and valgrind for
-# the instructions. Where asn1c is not there it says so and ends with status 0. That version of asn1c has no OER.
+# the instructions, which take minutes and are left out with COUNT=no. Where asn1c is not there it says so and ends with
+# status 0. That version of asn1c has no OER.
 set -euo pipefail
 here=$(cd "$(dirname "$0")" && pwd)
 out=$(cd "$1" && pwd)
@@ -64,16 +65,15 @@ for row in "small simple Small" "cam cam CAM" "bsm bsm BasicSafetyMessage" "list
     build "$name" "$module" "$type"
     mapfile -t messages < <(octets_of "$name")
     echo "$name: the same octets of $("$made/$name/run" "$module" "$type" same "${messages[@]}")"
-    times=20000
-    [ "$name" != list ] || times=200
+    case $name in small) times=50000 ;; list) times=100 ;; *) times=2000 ;; esac
     "$made/$name/run" "$module" "$type" time $times "$rounds" "${messages[0]}" >"$made/$name.ns"
     while read -r call taken; do
         counted=-
-        if command -v valgrind >/dev/null; then
+        if [ "${COUNT:-}" != no ] && command -v valgrind >/dev/null; then
             counted=$(instructions "$made/$name/run" "$module" "$type" "$call" "${messages[0]}")
         fi
         echo "$name $call $taken $counted"
-    done <"$made/$name.ns" >>"$made/all"
+    done <"$made/$name.ns" | tee -a "$made/all"
 done
 
 # the messages of the examples: which of them asn1c takes and writes alike

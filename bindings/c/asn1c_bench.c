@@ -127,7 +127,8 @@ static int written_alike(void) {
     int by_asn1c = asn1c_encode_into() && memcmp(into, message, size) == 0;
     memset(into, 0xff, sizeof into);
     int by_tulvorn = tulvorn_encodes_into() && memcmp(into, message, size) == 0;
-    if (!by_asn1c || !by_tulvorn) printf("written otherwise by%s%s\n", by_asn1c ? "" : " asn1c", by_tulvorn ? "" : " Tulvorn");
+    if (!by_asn1c || !by_tulvorn)
+        printf("written otherwise by%s%s\n", by_asn1c ? "" : " asn1c", by_tulvorn ? "" : " Tulvorn");
     return by_asn1c && by_tulvorn;
 }
 
@@ -165,10 +166,10 @@ static int run_one(const char *name, long times) {
 int main(int count, char **words) {
     if (count < 5 || !read_type(words[1], words[2], &type)) return 2;
     const char *what = words[3];
-    int status = 0, same = strcmp(what, "same") == 0;
+    int status = 0, same = strcmp(what, "same") == 0, times = strcmp(what, "time") == 0;
     for (int at = same ? 4 : count - 1; at < count; at++) status |= !taken(words[at]) || !written_alike();
-    if (status == 0 && !same && strcmp(what, "time") == 0) status = compare_times(strtol(words[4], NULL, 10), strtol(words[5], NULL, 10));
-    if (status == 0 && !same && strcmp(what, "time") != 0) status = run_one(what, strtol(words[4], NULL, 10));
+    if (status == 0 && times) status = compare_times(strtol(words[4], NULL, 10), strtol(words[5], NULL, 10));
+    if (status == 0 && !same && !times) status = run_one(what, strtol(words[4], NULL, 10));
     if (status == 0 && same) printf("%d messages\n", count - 4);
     let_go();
     tulvorn_close(&type);

@@ -1,8 +1,8 @@
 /* Inputs made at random, of which all calls have to say what agrees. bindings/fuzz.sh builds it with libFuzzer.
 
-   The types are those of the file that TULVORN_ROWS names (bindings/rows.py). The first octet of an input chooses the type,
-   and the second what the others are: by its lowest bit the rules, and by the two above it octets (0 or 1), JSON (2) or the
-   text of a module (3); the rest of it chooses the pieces of a session. */
+   The types are those of the file that TULVORN_ROWS names (bindings/rows.py). The first octet of an input chooses the
+   type, and the second what the others are: by its lowest bit the rules, and by the two above it octets (0 or 1), JSON
+   (2) or the text of a module (3); the rest of it chooses the pieces of a session. */
 #define _POSIX_C_SOURCE 200809L
 #include "agree.h"
 #include <stdlib.h>
@@ -29,7 +29,8 @@ static int try_octets(tulvorn_handle *type, uint32_t rules, struct octets *octet
         CHECK(agree(type, rules, octets, &fault) == 0 && fault.code == TULVORN_DONE);
     }
     if (told.code == TULVORN_REFUSED) {
-        CHECK(told.at > 0 && told.at <= unit * octets->size && told.why >= TULVORN_SEALED && told.why <= TULVORN_NUMBER);
+        CHECK(told.at > 0 && told.at <= unit * octets->size);
+        CHECK(told.why >= TULVORN_SEALED && told.why <= TULVORN_NUMBER);
         octets->size = (told.at - 1) / unit;
         CHECK(agree(type, rules, octets, &fault) == 0 && fault.code == TULVORN_TRUNCATED);
     }
@@ -53,7 +54,7 @@ static int in_name(uint8_t sign) {
     return sign == '-' || (sign >= '0' && sign <= '9') || (sign >= 'A' && sign <= 'Z') || (sign >= 'a' && sign <= 'z');
 }
 
-/* The text of a module: octets of its own are tried as those of each type that is read, and a fault lies in the text. */
+/* The text of a module: octets of its own are tried as those of each type that is read, and a fault lies in it. */
 static int try_module(uint32_t rules, const uint8_t *text, size_t size) {
     static struct octets octets;
     tulvorn_handle module = TULVORN_NONE, type = TULVORN_NONE;

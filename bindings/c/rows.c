@@ -116,7 +116,8 @@ static int row_of_newer(char **words) {
     tulvorn_fault fault;
     uint32_t rules = (uint32_t)atoi(words[1]), code = (uint32_t)atoi(words[3]);
     CHECK(octets_of(words[2], &first));
-    CHECK(tulvorn_read_newer(&type, rules, first.at, first.size, &value, &fields, &fault) == code && fault.code == code);
+    CHECK(tulvorn_read_newer(&type, rules, first.at, first.size, &value, &fields, &fault) == code);
+    CHECK(fault.code == code);
     if (code == TULVORN_DONE) {
         CHECK(tulvorn_to_json(&value, &json, &fault) == TULVORN_DONE && copied(&json, &made));
         CHECK(octets_of(words[4], &second) && same(&made, &second) && skips(&fields, words[5]) == 0);
@@ -172,7 +173,8 @@ int main(int given, char **arguments) {
     while (wanted < 0 && getline(&line, &room, from) > 0) {
         int count = 0;
         line_number++;
-        for (char *word = strtok(line, " \n"); word != NULL && count < WORDS; word = strtok(NULL, " \n")) words[count++] = word;
+        for (char *word = strtok(line, " \n"); word != NULL && count < WORDS; word = strtok(NULL, " \n"))
+            words[count++] = word;
         if (count == 2 && strcmp(words[0], "end") == 0) wanted = atol(words[1]);
         else failed |= count == 0 || try_line(words, count, &rows);
     }

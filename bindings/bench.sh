@@ -43,7 +43,7 @@ while read -r name type times octets _; do
         call=${pair%:*} row=${pair#*:}
         for _ in $(seq "$rounds"); do
             in_c "$times" >>"$made/c.$name.$call"
-            if [ -n "$program$row" ] && [ -n "$program" ] && [ -n "$row" ]; then in_rattle 1 >>"$made/rattle.$name.$call"; fi
+            if [ -n "$program" ] && [ -n "$row" ]; then in_rattle 1 >>"$made/rattle.$name.$call"; fi
         done
         taken=$(least <"$made/c.$name.$call") counted=-
         few=$((times / 100))

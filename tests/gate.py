@@ -11,7 +11,9 @@ usage: tests/gate.py [PART..]      the parts are proofs, edits and tests; all th
    when the crate is proved, on processors that no proof takes.
 3. tests: the programs of tests/programs are built without a proof of their own (tests/room.py), and what they write is
    compared; tests/refused_allocations.sh refuses in turn each allocation of programs; tests/first.py runs `asn_first`,
-   and examples/run.sh, tests/versions.py, tests/published.py and tests/installed.sh `asn_tool`, as the gate has built them;
+   and examples/run.sh, tests/versions.py, tests/published.py, published_commands.py, published_sets.py,
+   published_tags.py, published_sequences.py and tests/installed.sh `asn_tool`, as the gate has built them;
+   tests/octet_counts.py and tests/published_rows.py look at rows without a program;
    bindings/tests.sh calls the library for C, built without a proof of its own, from four languages, and skips those
    whose compiler is not there.
 
@@ -140,16 +142,23 @@ def edits(part):
 
 
 def stored(name):
-    """What a test program reads, and what it has to write."""
-    given = files_of(f"tests/programs/{name}").get("stdin", os.devnull)
-    with open(f"tests/programs/{name}/stdout", "rb") as it:
-        return given, it.read()
+    """What a test program reads, and what it has to write: `stdin` and `stdout`, and each `stdin.MORE` with its
+    `stdout.MORE`. A program without input reads nothing."""
+    files = files_of(f"tests/programs/{name}")
+    for given in sorted(it for it in files if it.split(".")[0] == "stdin") or ["stdin"]:
+        with open(f"tests/programs/{name}/stdout{given.removeprefix('stdin')}", "rb") as it:
+            yield files.get(given, os.devnull), it.read()
 
 
 def compare(part, room, name):
-    """Runs a test program, and compares what it writes with what is stored. It writes how many rows hold, or that each call does.
-    Lines that begin with `counted: ` are shown and not compared."""
-    given, wanted = stored(name)
+    """Runs a test program on each input, and compares what it writes with what is stored."""
+    for given, wanted in stored(name):
+        compare_one(part, room, name, given, wanted)
+
+
+def compare_one(part, room, name, given, wanted):
+    """Runs a test program, and compares what it writes. It writes how many rows hold, or that each call does. Lines that begin
+    with `counted: ` are shown and not compared."""
     with open(given, "rb") as it:
         ran = subprocess.Popen([f"{room}/test_{name}"], stdin=it, stdout=subprocess.PIPE, stderr=subprocess.STDOUT)
     said = ran.stdout.read()
@@ -181,7 +190,12 @@ def tests(part):
     step(part, ["tests/first.py", FIRST])
     step(part, ["examples/run.sh", TOOL])
     step(part, ["tests/versions.py", TOOL])
+    step(part, ["tests/published_rows.py"])
     step(part, ["tests/published.py", TOOL])
+    step(part, ["tests/published_commands.py", TOOL])
+    step(part, ["tests/published_sets.py", TOOL])
+    step(part, ["tests/published_tags.py", TOOL])
+    step(part, ["tests/published_sequences.py", TOOL])
     step(part, ["tests/installed.sh", TOOL])
 
 

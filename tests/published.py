@@ -4,12 +4,12 @@
 usage: tests/published.py PROGRAM
 
 What `flatten` writes and tells of the examples is compared with what is stored there, and so is what the orders answer
-with these modules as files, and on standard input. The octets that are stored, and those of the rows of
-tests/programs/published, are compared with what the second implementation, examples/reference.py, works out of the type
-of the profile. Of a type that is too large the report has its count, and the line at which the limit is passed. A hostile
-text has to be refused with a line, or answered, in a time that grows with its length: twice the text may take three and a
-half times as long, by the clock of the processor. How long the largest of each kind took, and the most memory that it had,
-is printed. The last line is 'N passed, M failed'.
+with these modules as files, and on standard input. The octets that are stored are compared with what the second
+implementation, examples/reference.py, works out of the type of the profile. Of a type that is too large the report has its
+count, and the line at which the limit is passed. A hostile text has to be refused with a line, or answered, in a time that
+grows with its length: twice the text may take three and a half times as long, by the clock of the processor. What is told
+first of it is compared with LINES. How long the largest of each kind took, and the most memory that it had, is printed.
+The last line is 'N passed, M failed'.
 """
 import importlib.util
 import json
@@ -23,7 +23,6 @@ sys.dont_write_bytecode = True
 
 TOP = os.path.dirname(os.path.dirname(os.path.abspath(__file__)))
 EXAMPLES = f"{TOP}/examples/published"
-ROWS = f"{TOP}/tests/programs/published/stdin"
 SPEC = importlib.util.spec_from_file_location("reference", f"{TOP}/examples/reference.py")
 REFERENCE = importlib.util.module_from_spec(SPEC)
 SPEC.loader.exec_module(REFERENCE)
@@ -148,22 +147,12 @@ def agree(count, what, types, name, line, octets):
 
 
 def second_implementation(count):
-    """What is stored beside the examples, and the octets of the rows of which the type of the profile is told."""
+    """What is stored beside the examples."""
     with open("flattened.asn", encoding="utf-8") as it:
         types = REFERENCE.Parser(it.read()).module()
     stored_lines = (stored(f"report.{it}").decode().splitlines() for it in ("values", "per", "oer"))
     for line, *octets in zip(*stored_lines):
         agree(count, "report.values", types, "Report", line, octets)
-    types = None
-    with open(ROWS, encoding="utf-8") as it:
-        for number, line in enumerate(it.read().splitlines(), 1):
-            if line.startswith("= "):
-                types = REFERENCE.Parser(f"M DEFINITIONS AUTOMATIC TAGS ::= BEGIN T ::= {line[2:]} END").module()
-            elif line[:2] in (": ", "+ "):
-                types = None
-            elif line.count(" | ") == 2 and line[0] not in "#*!" and types:
-                value, *octets = line.split(" | ")
-                agree(count, f"row {number}", types, "T", value, octets)
 
 
 def ring(n):
@@ -199,19 +188,32 @@ def large_in_all(n):
 
 HOSTILE = {
     "imports in a ring": (300, ring),
+    "imports in a ring, in one text": (50000, lambda n: ["".join(ring(n))]),
+    "imported names": (100000, lambda n: ["M DEFINITIONS ::= BEGIN IMPORTS " + ", ".join(f"T{i}" for i in range(n)) + " FROM N;\nT ::= T0 END\n"]),
     "an import through a chain": (2000, lambda n: ["".join(f"M{i} DEFINITIONS AUTOMATIC TAGS ::= BEGIN IMPORTS T FROM M{i + 1}; END\n" for i in range(n)) + f"M{n} DEFINITIONS AUTOMATIC TAGS ::= BEGIN T ::= NULL END\n"]),
     "values in a ring": (100000, lambda n: [HEAD + "".join(f"v{i} INTEGER ::= v{(i + 1) % n}\n" for i in range(n)) + "T ::= INTEGER (0..v0)\nEND\n"]),
     "values in a chain": (100000, lambda n: [HEAD + "".join(f"v{i} INTEGER ::= v{i + 1}\n" for i in range(n)) + f"v{n} INTEGER ::= 7 T ::= INTEGER (0..v0)\nEND\n"]),
     "types in a ring": (100000, lambda n: [HEAD + "".join(f"T{i} ::= T{(i + 1) % n}\n" for i in range(n)) + "END\n"]),
     "types in a chain": (100000, lambda n: [HEAD + "".join(f"T{i} ::= T{i + 1}\n" for i in range(n)) + f"T{n} ::= NULL END\n"]),
     "braces one in the other": (100000, lambda n: [HEAD + "T ::= " + "SEQUENCE { a " * n + "NULL" + " }" * n + "\nEND\n"]),
+    "braces in 5 and 10 MB": (400000, lambda n: [HEAD + "T ::= " + "SEQUENCE { a " * n + "NULL" + " }" * n + "\nEND\n"]),
+    "braces of a DEFAULT": (100000, lambda n: [HEAD + "T ::= SEQUENCE { a S DEFAULT " + "{" * n + "}" * n + " } S ::= SEQUENCE { }\nEND\n"]),
+    "CHOICE without tags one in the other": (100000, lambda n: ["M DEFINITIONS ::= BEGIN\nT ::= " + "CHOICE { a " * n + "NULL" + " }" * n + "\nEND\n"]),
     "braces of values": (100000, lambda n: [HEAD + "v T ::= " + "{" * n + "}" * n + "\nEND\n"]),
     "braces that are not closed": (100000, lambda n: [HEAD + "T ::= " + "SEQUENCE { a " * n + "\nEND\n"]),
     "parentheses of constraints": (100000, lambda n: [HEAD + "T ::= INTEGER " + "(" * n + "1" + ")" * n + "\nEND\n"]),
+    "constraints one after another": (100000, lambda n: [HEAD + "T ::= INTEGER " + "(0..7)" * n + "\nEND\n"]),
+    "types with constraints in a chain": (100000, lambda n: [HEAD + "T0 ::= INTEGER (0..7)\n" + "".join(f"T{i} ::= T{i - 1} (0..7)\n" for i in range(1, n)) + "END\n"]),
+    "a comment without end": (1000000, lambda n: [HEAD + "/* " * n]),
+    "a string without end": (1000000, lambda n: [HEAD + "v IA5String ::= \"" + "a\n" * n]),
+    "values in XML one in the other": (200000, lambda n: [HEAD + "v ::= " + "<a>" * n + "</a>" * n + " T ::= NULL\nEND\n"]),
     "comments one in the other": (100000, lambda n: [HEAD + "/*" * n + "*/" * n + " T ::= NULL\nEND\n"]),
     "SEQUENCE OF one in the other": (100000, lambda n: [HEAD + "T ::= " + "SEQUENCE OF " * n + "NULL\nEND\n"]),
     "parameters without end": (1000, lambda n: [HEAD + "".join(f"P{i} {{ X }} ::= SEQUENCE {{ a P{i} {{ SEQUENCE OF X }} OPTIONAL }} T{i} ::= P{i} {{ NULL }}\n" for i in range(n)) + "END\n"]),
     "parameters that double": (30, lambda n: [HEAD + "P0 { X } ::= SEQUENCE { a X, b X }\n" + "".join(f"P{i} {{ X }} ::= SEQUENCE {{ a P{i - 1} {{ X }}, b P{i - 1} {{ SEQUENCE OF X }} }}\n" for i in range(1, n)) + f"T ::= P{n - 1} {{ NULL }}\nEND\n"]),
+    "instances": (30000, lambda n: [HEAD + "P { X } ::= SEQUENCE { x X }\n" + "".join(f"T{i} ::= P {{ INTEGER (0..{i}) }}\n" for i in range(n)) + "END\n"]),
+    "actual parameters": (100000, lambda n: [HEAD + "P { X } ::= SEQUENCE { x X } T ::= P { " + ", ".join("NULL" for _ in range(n)) + " }\nEND\n"]),
+    "fields of a class": (100000, lambda n: [HEAD + "C ::= CLASS { " + ", ".join(f"&a{i} INTEGER" for i in range(n)) + f" }}\nT ::= SEQUENCE {{ a C.&a7, b C.&a{n - 1} }}\nEND\n"]),
     "assignments": (500000, lambda n: [HEAD + "".join(f"T{i} ::= NULL\n" for i in range(n)) + "END\n"]),
     "assignments of values": (500000, lambda n: [HEAD + "".join(f"v{i} INTEGER ::= {i}\n" for i in range(n)) + "END\n"]),
     "items": (100000, lambda n: [HEAD + "T ::= ENUMERATED { " + ", ".join(f"a{i}" for i in range(n)) + " }\nEND\n"]),
@@ -222,12 +224,48 @@ HOSTILE = {
     "selections in a ring": (5000, lambda n: [HEAD + "".join(f"T{i} ::= CHOICE {{ a a < T{(i + 1) % n} }}\n" for i in range(n)) + "END\n"]),
     "classes in a ring": (50000, lambda n: [HEAD + "".join(f"C{i} ::= C{(i + 1) % n} T{i} ::= SEQUENCE {{ a C{i}.&id }}\n" for i in range(n)) + "END\n"]),
     "lists that the profile does not take": (5000, lambda n: [HEAD + "".join(f"T{i} ::= SEQUENCE {{ a SEQUENCE OF NULL }} U{i} ::= SEQUENCE {{ a NULL, a NULL }}\n" for i in range(n)) + "END\n"]),
+    "COMPONENTS OF in a chain": (50000, lambda n: [HEAD + "T0 ::= SEQUENCE { a NULL }\n" + "".join(f"T{i} ::= SEQUENCE {{ COMPONENTS OF T{i - 1} }}\n" for i in range(1, n)) + "END\n"]),
+    "selections in a chain": (20000, lambda n: [HEAD + "T0 ::= CHOICE { a NULL }\n" + "".join(f"T{i} ::= CHOICE {{ a a < T{i - 1} }}\n" for i in range(1, n)) + "END\n"]),
+    "groups": (100000, lambda n: [HEAD + "T ::= SEQUENCE { ...,\n" + ",\n".join(f"[[ a{i} NULL ]]" for i in range(n)) + " }\nEND\n"]),
+    "named bits": (100000, lambda n: [HEAD + "T ::= BIT STRING { " + ", ".join(f"a{i}({i})" for i in range(n)) + " } (SIZE (8))\nEND\n"]),
     "components": (100000, lambda n: [HEAD + "T ::= SEQUENCE { " + ", ".join(f"a{i} NULL" for i in range(n)) + " }\nEND\n"]),
     "unions": (100000, lambda n: [HEAD + "T ::= INTEGER (" + " | ".join(f"{2 * i}" for i in range(n)) + ")\nEND\n"]),
     "digits": (1000000, lambda n: [HEAD + f"T ::= INTEGER (0..{'9' * n})\nEND\n"]),
     "long names and many notes": (1500, lambda n: [HEAD + f"T{'x' * 900} ::= SEQUENCE {{ " + ", ".join(f"a{'y' * 900}{i} SEQUENCE {{ " + ", ".join(f"b{j} INTEGER (1 | 3)" for j in range(n // 50)) + " }" for i in range(50)) + " }\nEND\n"]),
     "a name": (1000000, lambda n: [HEAD + f"T{'x' * n} ::= NULL\nEND\n"]),
     "types of a module": (2800, large),
+}
+
+# what is told first of a hostile text of a size, after the name of its file; of others nothing is wrong
+LINES = {
+    "imports in a ring": lambda n: "1: M0-U: refused: a name that is not assigned",
+    "imports in a ring, in one text": lambda n: "1: M0-U: refused: a name that is not assigned",
+    "imported names": lambda n: "2: T: refused: a name of a module that is not given",
+    "values in a ring": lambda n: f"{n + 2}: T: refused: a value that is not understood",
+    "types in a ring": lambda n: "2: T0: refused: recursion",
+    "braces one in the other": lambda n: "2: T." + ".".join("a" * 32) + f": refused: {n + 1} levels, more than 32",
+    "braces in 5 and 10 MB": lambda n: "2: T." + ".".join("a" * 32) + f": refused: {n + 1} levels, more than 32",
+    "CHOICE without tags one in the other": lambda n: "2: T: refused: tags that are not understood",
+    "braces that are not closed": lambda n: "2: a bracket without its other",
+    "parentheses of constraints": lambda n: "2: T: refused: a constraint that is not understood",
+    "a comment without end": lambda n: "2: a comment or string without end",
+    "a string without end": lambda n: "2: a comment or string without end",
+    "SEQUENCE OF one in the other": lambda n: f"2: T: refused: {n + 1} levels, more than 32",
+    "parameters without end": lambda n: "2: T0: refused: a type that is refused",
+    "parameters that double": lambda n: f"{n + 2}: T: refused: a type that is refused",
+    "instances": lambda n: "20003: T20000: refused: parameters that expand without end",
+    "fields of a class": lambda n: "3: T.b: refused: a field of a class that is not understood",
+    "items": lambda n: f"2: T: refused: {n} items, more than 256",
+    "COMPONENTS OF in a ring": lambda n: "2: T0: refused: recursion",
+    "COMPONENTS OF in a chain": lambda n: "103: T101: refused: recursion",
+    "selections in a chain": lambda n: "3: T1001.a: refused: recursion",
+    "classes in a ring": lambda n: "2: C0: refused: recursion",
+    "lists that the profile does not take": lambda n: "2: T0.a: refused: elements that take no bits",
+    "components": lambda n: f"2: T.a64: refused: {n} components, more than 64",
+    "groups": lambda n: f"67: T.[[ ]]: refused: {n} extension additions, more than 64",
+    "unions": lambda n: "2: T: refused: more than 256 ranges",
+    "digits": lambda n: "2: T: refused: numbers outside 64 bits",
+    "a name": lambda n: "2: a name of more than 1000 characters",
 }
 
 
@@ -259,6 +297,9 @@ def hostile(count, program):
                 words = ["flatten", "--report", "text", *written(room, texts, size)]
                 ran = min((run(program, words, whole=False) for _ in range(2)), key=lambda it: it[3])
             took.append(ran)
+            if name in LINES:
+                first = ran[2].split(b"\n")[0].decode(errors="replace")
+                count.add(first == f"{room}/0.asn:{LINES[name](size)}", f"{name}, {size}: told is {first[:200]}")
             count.add(told_well(ran), f"{name}, {size}: status {ran[0]}, {ran[1]}, {ran[2][:200]}")
             if name == "types of a module" and size == most:
                 count.add(ran[3] <= 2 and ran[4] <= 200, f"{size} types: {ran[3]:.2f} s, {ran[4]:.0f} MB")

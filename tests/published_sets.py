@@ -1,0 +1,187 @@
+#!/usr/bin/env python3
+"""Compares what `asn_tool flatten` makes of constraints with a second reading of them.
+
+usage: tests/published_sets.py PROGRAM [SEED [COUNT]]
+
+Constraints of INTEGER and sizes of OCTET STRING are made at random from the grammar of X.680 ("constrained types",
+"element set specification"): values, ranges with and without `<`, MIN and MAX, unions, intersections, EXCEPT, ALL EXCEPT,
+contained subtypes, parentheses, extension marks, and constraints one after another, on the type or on a reference. Beside
+its text each set is made as a set of numbers, EXCEPT aside, which PER and OER do not see. The type of the profile has to have
+the least and the greatest of these numbers and the last mark; where numbers between are missing, or something is not seen,
+the type is wider; where none are left, or a mark stands on what is all numbers, it is refused. The last line is
+'N passed, M failed'.
+"""
+import os
+import random
+import sys
+import tempfile
+
+sys.dont_write_bytecode = True
+from published import Count, HEAD, run
+
+# what stands for no bound below and above
+LEAST, MOST = -60, 60
+TYPES = 3000
+
+
+class Made:
+    """A set in the text and as numbers; whether something in it is not seen, and whether nothing is."""
+
+    def __init__(self, text, numbers, unseen=False, nothing=False):
+        self.text, self.numbers, self.unseen, self.nothing = text, numbers, unseen, nothing
+
+
+class Maker:
+    """Makes constraints whose numbers lie from `least` to `most`, with the named types that they may contain."""
+
+    def __init__(self, chance, least, most, named):
+        self.chance, self.least, self.most, self.named = chance, least, most, named
+
+    def value(self):
+        return self.chance.randint(-12 if self.least < 0 else 0, 20)
+
+    def bounds(self):
+        """A range, of which either end may be open or not taken."""
+        low, high = sorted((self.value(), self.value()))
+        texts = [str(low), str(high)]
+        if self.chance.random() < 0.1:
+            low, texts[0] = self.least, "MIN"
+        elif self.chance.random() < 0.15:
+            low, texts[0] = low + 1, f"{low}<"
+        if self.chance.random() < 0.1:
+            high, texts[1] = self.most, "MAX"
+        elif self.chance.random() < 0.15:
+            high, texts[1] = high - 1, f"<{high}"
+        return Made("..".join(texts), set(range(low, high + 1)))
+
+    def element(self, depth):
+        kind = self.chance.random()
+        if depth and kind < 0.25:
+            inner = self.union(depth - 1)
+            return Made(f"({inner.text})", inner.numbers, inner.unseen, inner.nothing)
+        if self.named and kind < 0.35:
+            name, numbers = self.chance.choice(self.named)
+            return Made(self.chance.choice(("", "INCLUDES ")) + name, numbers)
+        if kind < 0.6:
+            value = self.value()
+            return Made(str(value), {value})
+        return self.bounds()
+
+    def intersection(self, depth):
+        """Elements with INTERSECTION between them, each of which may have an EXCEPT."""
+        text, numbers, unseen, nothing = [], None, False, True
+        for _ in range(self.chance.choice((1, 1, 1, 2, 2, 3))):
+            one = self.element(depth)
+            unseen |= one.unseen
+            nothing &= one.nothing
+            if self.chance.random() < 0.08:
+                one.text += f" EXCEPT {self.element(depth).text}"
+                unseen = True
+            numbers = one.numbers if numbers is None else numbers & one.numbers
+            text.append(one.text)
+        return Made(self.chance.choice((" ^ ", " INTERSECTION ")).join(text), numbers, unseen, nothing)
+
+    def union(self, depth):
+        parts = [self.intersection(depth) for _ in range(self.chance.choice((1, 1, 2, 2, 3)))]
+        if self.chance.random() < 0.03:
+            return Made(f"ALL EXCEPT {self.element(depth).text}", set(range(self.least, self.most + 1)), True, True)
+        text = self.chance.choice((" | ", " UNION ")).join(it.text for it in parts)
+        numbers = set.union(*(it.numbers for it in parts))
+        return Made(text, numbers, any(it.unseen for it in parts), any(it.nothing for it in parts))
+
+    def marked(self, depth):
+        """A set, its text with a mark where it has one, and whether it has."""
+        one = self.union(depth)
+        kind = self.chance.random()
+        if kind < 0.15:
+            return one, one.text + ", ...", True
+        if kind < 0.25:
+            return one, f"{one.text}, ..., {self.union(depth).text}", True
+        return one, one.text, False
+
+
+class Type:
+    """A type with a constraint or several, and what is left of its numbers."""
+
+    def __init__(self, maker, chance, all_numbers):
+        self.numbers, self.unseen, self.is_marked, self.texts = set(all_numbers), False, False, []
+        for _ in range(chance.choice((1, 1, 1, 2, 3))):
+            one, text, mark = maker.marked(chance.choice((0, 1, 2, 3)))
+            self.numbers &= one.numbers
+            self.unseen |= one.unseen
+            # a constraint of which nothing is seen takes no mark away
+            if not one.nothing:
+                self.is_marked = mark
+            self.texts.append(text)
+
+    def constraints(self, word, chance):
+        """Its constraints; of a size the mark may stand inside or outside of SIZE."""
+        if not word:
+            return " ".join(f"({it})" for it in self.texts)
+        said = []
+        for it in self.texts:
+            inner, comma, mark = it.partition(", ...")
+            outside = comma and not mark and chance.random() < 0.5
+            said.append(f"({word} ({inner}), ...)" if outside else f"({word} ({it}))")
+        return " ".join(said)
+
+    def wanted(self, name, least, most):
+        """The type of the profile; None where it is refused."""
+        if not self.numbers:
+            return None
+        low, high = min(self.numbers), max(self.numbers)
+        bounds = [str(low) if low != LEAST else "MIN", str(high) if high != MOST else "MAX"]
+        if (low, high) == (least, most):
+            return None if self.is_marked else name
+        text = f"( {bounds[0]} .. {bounds[1]}{' , ...' if self.is_marked else ''} )"
+        return f"INTEGER {text}" if name == "INTEGER" else f"OCTET STRING ( SIZE {text} )"
+
+    def has_gap(self):
+        return self.numbers and len(self.numbers) <= max(self.numbers) - min(self.numbers)
+
+
+def made(chance, count):
+    """The text of a module, and of each type what it has to become, and whether it has to be wider."""
+    text, wanted, named = [HEAD], {}, []
+    for index in range(count):
+        is_size = index % 3 == 2
+        least = 0 if is_size else LEAST
+        maker = Maker(chance, least, MOST, [it for it in named if not is_size or min(it[1]) >= 0])
+        it = Type(maker, chance, range(least, MOST + 1))
+        name = f"T{index}"
+        base, word = ("OCTET STRING", "SIZE") if is_size else ("INTEGER", "")
+        text.append(f"{name} ::= {base} {it.constraints(word, chance)}\n")
+        wanted[name] = (it.wanted(base, least, MOST), bool(it.unseen or it.has_gap()))
+        # others may contain its values
+        if not is_size and wanted[name][0] and not it.has_gap() and not it.unseen and chance.random() < 0.02:
+            named.append((name, it.numbers))
+    return "".join([*text, "END\n"]), wanted
+
+
+def main(words):
+    if not 1 <= len(words) <= 3:
+        print(__doc__, file=sys.stderr)
+        return 2
+    seed, many = (int(words[1]) if len(words) > 1 else 1), (int(words[2]) if len(words) > 2 else TYPES)
+    count, (text, wanted) = Count(), made(random.Random(seed), many)
+    with tempfile.TemporaryDirectory(prefix="tulvorn-sets-") as room:
+        with open(f"{room}/sets.asn", "w") as it:
+            it.write(text)
+        status, out, told, *_ = run(os.path.abspath(words[0]), ["flatten", "--report", "text", f"{room}/sets.asn"])
+    found = dict(line.split(" ::= ", 1) for line in out.decode().splitlines()[1:-1])
+    wider = {line.split(": ")[1] for line in told.decode().splitlines() if ": wider: " in line}
+    # where ranges meet others there may be more than are kept
+    many_ranges = {line.split(": ")[1] for line in told.decode().splitlines() if line.endswith("more than 256 ranges")}
+    lines = dict(line.split(" ::= ", 1) for line in text.splitlines()[1:-1])
+    for name, (type_wanted, is_wider) in wanted.items():
+        if name in many_ranges:
+            continue
+        well = found.get(name) == type_wanted and (not is_wider or type_wanted is None or name in wider)
+        count.add(well, f"seed {seed}: {lines[name]}: {found.get(name)}, wanted {type_wanted}, wider {is_wider} {name in wider}")
+    print(f"{sum(it[0] is not None for it in wanted.values())} types, {sum(it[0] is None for it in wanted.values())} refused, status {status}")
+    print(f"{count.passed} passed, {count.failed} failed")
+    return 1 if count.failed else 0
+
+
+if __name__ == "__main__":
+    sys.exit(main(sys.argv[1:]))

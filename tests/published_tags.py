@@ -1,0 +1,149 @@
+#!/usr/bin/env python3
+"""Compares the order of SET and CHOICE that `asn_tool flatten` gives with a second reading of their tags.
+
+usage: tests/published_tags.py PROGRAM [SEED [COUNT]]
+
+Types are made at random in three modules, of AUTOMATIC, IMPLICIT and EXPLICIT TAGS: SET and CHOICE with tags of all classes
+and without, of simple types, of one another across the modules, and of CHOICE types that have no tag of their own, with
+additions. The type of the profile has to have the root in the canonical order of tags (X.680), the additions as
+they stand, and the remark that OER tells alternatives apart by other tags just where these are not 0, 1, ..; where two of
+the root have one tag it is refused. The last line is 'N passed, M failed'.
+"""
+import os
+import random
+import sys
+import tempfile
+
+sys.dont_write_bytecode = True
+from published import Count, REFERENCE, run
+
+DEFAULTS = ("AUTOMATIC", "IMPLICIT", "EXPLICIT")
+CLASSES = ("UNIVERSAL", "APPLICATION", "", "PRIVATE")
+SIMPLE = {
+    "BOOLEAN": 1, "INTEGER (0..7)": 2, "BIT STRING": 3, "OCTET STRING (SIZE (2))": 4, "NULL": 5, "ENUMERATED { x, y }": 10,
+    "UTF8String": 12, "SEQUENCE { z NULL }": 16, "NumericString": 18, "PrintableString": 19, "IA5String": 22,
+    "UTCTime": 23, "GeneralizedTime": 24, "VisibleString": 26,
+}
+TYPES = 1500
+
+
+class Member:
+    """A component or alternative: its name, its text, its tag as a class and a number, and whether that is written."""
+
+    def __init__(self, name, text, tag, is_written):
+        self.name, self.text, self.tag, self.is_written = name, text, tag, is_written
+
+
+class Made:
+    """A SET or CHOICE, or the like, with its root and its additions."""
+
+    def __init__(self, module, name, word, root, additions):
+        self.module, self.name, self.word, self.root, self.additions = module, name, word, root, additions
+        written = any(it.is_written for it in root + (additions or []))
+        self.is_automatic = DEFAULTS[module] == "AUTOMATIC" and not written
+
+    def tag(self):
+        """Its own tag; of a CHOICE the least of the root's."""
+        if self.word == "SET":
+            return 0, 17
+        if self.is_automatic:
+            return 2, 0
+        tags = [it.tag for it in self.root]
+        return min(tags)
+
+    def text(self):
+        parts = [f"{it.name} {it.text}" for it in self.root]
+        if self.additions is not None:
+            parts.append("...")
+            parts += [f"{it.name} {it.text}" for it in self.additions]
+        return f"{self.name} ::= {self.word} {{ {', '.join(parts)} }}\n"
+
+    def order(self):
+        """The names of the root in the order of the profile; None where it is refused."""
+        if self.is_automatic:
+            return [it.name for it in self.root]
+        tags = [it.tag for it in self.root]
+        if len({*tags}) < len(tags):
+            return None
+        return [it.name for it in sorted(self.root, key=lambda it: it.tag)]
+
+    def is_told(self):
+        """Whether OER tells alternatives apart by other tags than 0, 1, .."""
+        if self.word == "SET" or self.is_automatic:
+            return False
+        tags = sorted(it.tag for it in self.root) + [it.tag for it in self.additions or []]
+        return tags != [(2, index) for index in range(len(tags))]
+
+
+def tag_made(chance, way, index):
+    """The text of a tag and the tag."""
+    kind, number = (2, index) if way == "all" else (chance.choice((2, 2, 2, 1, 3)), chance.randint(0, 9))
+    return f"[{CLASSES[kind]} {number}] ".replace("[ ", "["), (kind, number)
+
+
+def member(chance, way, index, module, others):
+    """A member with or without a tag: none has one, or some, or all have those that go on with their numbers."""
+    name = f"m{index}"
+    if others and chance.random() < 0.2:
+        other = chance.choice(others)
+        text, tag = (other.name if other.module == module else f"M{other.module}.{other.name}"), other.tag()
+    else:
+        text = chance.choice([*SIMPLE])
+        tag = (0, SIMPLE[text])
+    is_written = way == "all" or (way == "some" and chance.random() < 0.6)
+    if is_written:
+        front, tag = tag_made(chance, way, index)
+        text = front + text
+    return Member(name, text, tag, is_written)
+
+
+def made(chance, count):
+    """The texts of three modules, and their types."""
+    types = []
+    for index in range(count):
+        module, word = chance.randrange(3), chance.choice(("SET", "CHOICE", "CHOICE"))
+        way = chance.choice(("none", "some", "some", "all", "all"))
+        # a type that is refused would bar what holds it
+        others = [it for it in types[-40:] if it.order() is not None]
+        members = [member(chance, way, at, module, others) for at in range(chance.randint(1, 6))]
+        has_mark = chance.random() < 0.4
+        split = chance.randint(1, len(members)) if has_mark else len(members)
+        root, additions = members[:split], members[split:] if has_mark else None
+        chance.shuffle(root)
+        types.append(Made(module, f"T{index}", word, root, additions))
+    texts = []
+    for module, words in enumerate(DEFAULTS):
+        texts.append(f"M{module} DEFINITIONS {words} TAGS ::= BEGIN\n")
+        texts += [it.text() for it in types if it.module == module]
+        texts.append("END\n")
+    return "".join(texts), types
+
+
+def main(words):
+    if not 1 <= len(words) <= 3:
+        print(__doc__, file=sys.stderr)
+        return 2
+    seed, many = (int(words[1]) if len(words) > 1 else 1), (int(words[2]) if len(words) > 2 else TYPES)
+    count, (text, types) = Count(), made(random.Random(seed), many)
+    with tempfile.TemporaryDirectory(prefix="tulvorn-tags-") as room:
+        with open(f"{room}/tags.asn", "w") as it:
+            it.write(text)
+        status, out, told, *_ = run(os.path.abspath(words[0]), ["flatten", "--report", "text", f"{room}/tags.asn"])
+    read = REFERENCE.Parser(out.decode()).module()
+    said = {line.split(": ")[1] for line in told.decode().splitlines() if line.endswith("OER tells the alternatives apart by other tags")}
+    lines = {line.split(" ", 1)[0]: line for line in text.splitlines()}
+    for it in types:
+        found, order = read.get(it.name), it.order()
+        if order is None or found is None:
+            count.add((found is None) == (order is None), f"seed {seed}: M{it.module} {lines[it.name]}: {found and [one[0] for one in found['root']]}, wanted {order}")
+            continue
+        names, more = [one[0] for one in found["root"]], [one[0] for one in found["more"] or []]
+        well = names == order and more == [one.name for one in it.additions or []] and (it.name in said) == it.is_told()
+        count.add(well, f"seed {seed}: M{it.module} {lines[it.name]}: {names} {more}, wanted {order}; told {it.name in said}, wanted {it.is_told()}")
+    print(f"{sum(it.order() is not None for it in types)} types, {sum(it.order() is None for it in types)} refused, status {status}")
+    print(f"{count.passed} passed, {count.failed} failed")
+    return 1 if count.failed else 0
+
+
+if __name__ == "__main__":
+    sys.exit(main(sys.argv[1:]))

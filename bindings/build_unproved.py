@@ -1,10 +1,11 @@
 """Builds the library for C of crates that are not proved, as one object file, as `rt lib` would if they were.
 
-usage: python3 bindings/build_unproved.py ROOM OBJECT
+usage: python3 bindings/build_unproved.py ROOM OBJECT [OPTION..]
 
-ROOM is a folder outside the repository, which is kept, so that a later call does anew only what has changed. The
-toolchain makes a module of a program or of tests alone, so a test that calls each export is put beside them, and then
-left out: the exports become the only names that are seen from outside. tests/unproved.py says what else is done.
+The options are the compiler's, as -fsanitize=fuzzer-no-link for a fuzzer. ROOM is a folder outside the repository, which
+is kept, so that a later call does anew only what has changed. The toolchain makes a module of a program or of tests
+alone, so a test that calls each export is put beside them, and then left out: the exports become the only names that are
+seen from outside. tests/unproved.py says what else is done.
 """
 import os
 import re
@@ -74,7 +75,7 @@ def as_library(text, found):
 
 
 def main():
-    where, made = map(os.path.abspath, sys.argv[1:])
+    where, made = map(os.path.abspath, sys.argv[1:3])
     found = exports.exports()
     os.makedirs(where, exist_ok=True)
     room.lay(where, [])
@@ -89,7 +90,7 @@ def main():
         with open(text, encoding="utf-8") as it, open(code, "w", encoding="utf-8") as to:
             to.writelines(unproved.as_built(as_library(it, found), unproved.inlining(TOP)))
         shared = ["-fPIC" if it == "-fPIE" else it for it in unproved.OPTIMISED]
-        subprocess.run([unproved.CLANG, *unproved.FRONT, code, "-o", made, *shared], check=True)
+        subprocess.run([unproved.CLANG, *unproved.FRONT, code, "-o", made, *shared, *sys.argv[3:]], check=True)
 
 
 main()

@@ -13,26 +13,24 @@ import tempfile
 HERE = os.path.dirname(os.path.abspath(__file__))
 EXAMPLES = os.path.join(os.path.dirname(HERE), "examples")
 FILES = {"c": "first.c", "cpp": "first.cpp", "rust": "src/main.rs", "python": "first.py"}
-MANIFEST = f"""[package]
+NAMES = {"c": "C", "cpp": "C++", "rust": "Rust", "python": "Python"}
+MANIFEST = """[package]
 name = "first"
 version = "0.1.0"
 edition = "2024"
 
 [dependencies]
-tulvorn = {{ path = "{HERE}/rust/tulvorn" }}
+DEPENDENCY
 
 [workspace]
 """
 
 
-def first_command(out, language):
-    """What builds and runs the program of a language in its folder, as the page says it."""
-    return {
-        "c": f"cc -I {out} first.c {out}/libtulvorn.a -o first && ./first",
-        "cpp": f"c++ -std=c++17 -I {out} -I {HERE}/cpp first.cpp {out}/libtulvorn.a -o first && ./first",
-        "rust": f"TULVORN_ARCHIVES={out} CARGO_TARGET_DIR=target cargo run --offline --quiet",
-        "python": f"TULVORN_LIBRARY={out}/libtulvorn.so PYTHONPATH={HERE}/python python3 -B first.py",
-    }[language]
+def first_words(page, out, language):
+    """What the page says of building and running the program of a language: the words that stand as code in its line. OUT is
+    the folder of the library, and bindings that of this file."""
+    line = re.search(rf"^{re.escape(NAMES[language])}: (`.*)$", page, re.M)[1]
+    return [it.replace("OUT", out).replace("bindings/", f"{HERE}/") for it in re.findall(r"`([^`]*)`", line)]
 
 
 def building(out, folder, name):
@@ -48,20 +46,26 @@ def building(out, folder, name):
     }[name]
 
 
-def ran(command, folder):
-    it = subprocess.run(command, shell=True, cwd=folder, stdout=subprocess.PIPE, stderr=subprocess.STDOUT, text=True)
+def ran(command, folder, told=subprocess.STDOUT):
+    """The status of a command, and what it wrote; what is told on standard error may go elsewhere."""
+    env = os.environ | {"CARGO_NET_OFFLINE": "true", "CARGO_TARGET_DIR": "target", "PYTHONDONTWRITEBYTECODE": "1"}
+    it = subprocess.run(command, shell=True, cwd=folder, stdout=subprocess.PIPE, stderr=told, text=True, env=env)
     return it.returncode, it.stdout
 
 
 def first(page, out, language):
-    """Whether the first program of a language prints what the page says, and what it printed."""
+    """Whether the first program of a language, in a folder of its own and by the command of the page, prints what the page
+    says, and what it printed."""
     blocks = dict(re.findall(r"^```(c|cpp|rust|python|text)\n(.*?)^```$", page, re.S | re.M))
     with tempfile.TemporaryDirectory() as folder:
         os.makedirs(f"{folder}/src")
-        for name, text in {FILES[language]: blocks[language], "Cargo.toml": MANIFEST}.items():
+        words = first_words(page, out, language)
+        files = {FILES[language]: blocks[language], "Cargo.toml": MANIFEST.replace("DEPENDENCY", words[0])}
+        for name, text in files.items():
             with open(f"{folder}/{name}", "w", encoding="utf-8") as it:
                 it.write(text)
-        status, said = ran(first_command(out, language), folder)
+        # (what a build tells goes to standard error)
+        status, said = ran(f"{words[-1]}{' && ./first' if language in ('c', 'cpp') else ''}", folder, None)
     return status == 0 and said == blocks["text"], said
 
 

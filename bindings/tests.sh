@@ -1,7 +1,7 @@
 #!/usr/bin/env bash
-# Calls the library from C, C++, Rust and Python, on the examples of the repository too, and wants no network. A step
-# for which a program is not there, a compiler or valgrind, is skipped and counted as such; one that fails does not end
-# the run. The last line is 'N passed, M failed', with ', K skipped' where a step was.
+# Calls the library from C, C++, Rust and Python, on the examples and on the rows of tests/programs/rows too, and wants no
+# network. A step for which a program is not there, a compiler or valgrind, is skipped and counted as such; one that fails
+# does not end the run. The last line is 'N passed, M failed', with ', K skipped' where a step was.
 #
 # usage: bindings/tests.sh OUT     the folder in which bindings/build.sh left the library
 set -euo pipefail
@@ -12,6 +12,8 @@ trap 'rm -rf "$made"' EXIT
 warn=(-Wall -Wextra -Wpedantic -Werror -O2 -I"$here/c" -I"$here/cpp")
 wrap=(-Wl,--wrap=malloc -Wl,--wrap=realloc)
 memory=(valgrind -q --error-exitcode=99 --leak-check=full --errors-for-leak-kinds=all)
+sessions=()
+if grep -q tulvorn_feed "$here/c/tulvorn.h"; then sessions=(-DSESSIONS); fi
 passed=0 failed=0 skipped=0
 
 # step NAME PROGRAM.. -- COMMAND..: runs the command, where these programs are there
@@ -43,6 +45,22 @@ in_c_sanitized() {
         -o "$made/calls-sanitized" && "$made/calls-sanitized"
 }
 
+# the rows, and the examples: a file that a caller of each language reads
+rows_in_c() {
+    gcc -std=c11 "${warn[@]}" "${sessions[@]}" "$@" "$here/c/rows.c" "$out/libtulvorn.a" -o "$made/rows-c" &&
+        "$made/rows-c" "$made/rows"
+}
+
+rows_in_cpp() {
+    g++ -std=c++17 "${warn[@]}" "$here/cpp/rows.cpp" -L"$out" -ltulvorn -Wl,-rpath,"$out" -o "$made/rows-cpp" &&
+        "$made/rows-cpp" "$made/rows"
+}
+
+rows_in_python() {
+    TULVORN_LIBRARY="$out/libtulvorn.so" PYTHONPATH="$here/python" PYTHONDONTWRITEBYTECODE=1 \
+        python3 "$here/python/rows.py" "$made/rows"
+}
+
 in_threads() {
     gcc -std=c11 "${warn[@]}" -pthread "$here/c/threads.c" "$out/libtulvorn.a" -o "$made/threads" && "$made/threads"
 }
@@ -59,9 +77,11 @@ in_python() {
 
 in_rust() {
     (cd "$here/rust/tulvorn" &&
-        TULVORN_ARCHIVES="$out" CARGO_TARGET_DIR="$made/target" cargo test --offline --locked --quiet)
+        TULVORN_ARCHIVES="$out" CARGO_TARGET_DIR="$made/target" TULVORN_ROWS="$made/rows" \
+            cargo test --offline --locked --quiet)
 }
 
+if command -v python3 >/dev/null; then python3 "$here/rows.py" "$made/rows"; fi
 step "the declarations of the header and the bindings" python3 -- python3 "$here/compare.py"
 step "C" gcc -- in_c
 step "C under valgrind" gcc valgrind -- "${memory[@]}" "$made/calls"
@@ -70,7 +90,11 @@ step "C in threads" gcc -- in_threads
 step "C++" g++ -- in_cpp
 step "C++ under valgrind" g++ valgrind -- "${memory[@]}" "$made/calls-cpp"
 step "Python" python3 -- in_python
-step "Rust" cargo -- in_rust
+step "Rust, on the rows too" cargo -- in_rust
+step "C on the rows" gcc python3 -- rows_in_c
+step "C on the rows, under the sanitizers" gcc python3 -- rows_in_c -fsanitize=address,undefined
+step "C++ on the rows" g++ python3 -- rows_in_cpp
+step "Python on the rows" python3 -- rows_in_python
 step "the page's program in C" cc python3 -- python3 "$here/page.py" "$out" c
 step "the page's program in C++" c++ python3 -- python3 "$here/page.py" "$out" cpp
 step "the page's program in Rust" cargo python3 -- python3 "$here/page.py" "$out" rust

@@ -51,8 +51,8 @@ sys.dont_write_bytecode = True
 EDITS, TRIED, ALONE = "tests/edits", "tests/edits/tried", "tests/edits/alone.txt"
 # the crates whose edits are tried in the same run, in parts that by estimate take about as long; the others are the last part
 TURNS = (
-    "asn_walk_write asn_values asn_convert".split(),
-    "asn_oer asn_rules asn_newer asn_walk".split(),
+    "asn_walk_write asn_values asn_convert tulvorn_c".split(),
+    "asn_oer asn_rules asn_newer asn_walk asn_tool asn_first tulvorn uses_tulvorn".split(),
     "asn_walk_read asn_per asn_walk_feed asn_window".split(),
 )
 # the seconds that a check of edits may take, and three times as many beside proofs, which come first

@@ -1,79 +1,100 @@
 /* How long a call takes, over many of the same. bindings/bench.sh builds and runs it.
 
-   usage: bench MODULE TYPE OCTETS CALL ROUNDS     OCTETS are a message of PER in hexadecimal; CALL is handle, kind,
-                                                   check, decode, convert, encode, len or into
+   usage: bench MODULE TYPE OCTETS CALL TIMES     OCTETS are a message of PER in hexadecimal; CALL is handle, kind,
+                                                  check, decode, convert, encode, len or into
    `handle` is a call that takes what a handle holds and puts it back, and does nothing else: what is in each call. */
 #define _POSIX_C_SOURCE 199309L
-#include "tulvorn.h"
-#include <stdio.h>
+#include "reading.h"
 #include <stdlib.h>
-#include <string.h>
 #include <time.h>
 
 enum { ROOM = 1 << 16 };
 
-struct subject {
-    tulvorn_handle type, value, octets, out;
-    uint8_t message[ROOM], into[ROOM];
-    size_t size;
+static tulvorn_handle type, value, octets, out;
+static uint8_t message[ROOM], into[ROOM];
+static size_t size;
+
+/* The calls: each has to answer DONE, or else as it says. */
+static int call_handle(void) {
+    size_t needed;
+    return tulvorn_copy(&octets, into, 0, &needed) == TULVORN_TOO_SHORT;
+}
+
+static int call_kind(void) {
+    uint32_t kind;
+    return tulvorn_kind(&value, NULL, 0, &kind) == TULVORN_DONE;
+}
+
+static int call_check(void) {
+    tulvorn_fault fault;
+    return tulvorn_check(&type, TULVORN_PER, message, size, &fault) == TULVORN_DONE;
+}
+
+static int call_decode(void) {
+    tulvorn_fault fault;
+    return tulvorn_decode(&type, TULVORN_PER, message, size, &out, &fault) == TULVORN_DONE;
+}
+
+static int call_convert(void) {
+    tulvorn_fault fault;
+    return tulvorn_convert(&type, TULVORN_PER, message, size, &out, &fault) == TULVORN_DONE;
+}
+
+static int call_encode(void) {
+    tulvorn_fault fault;
+    return tulvorn_encode(&value, TULVORN_PER, &out, &fault) == TULVORN_DONE;
+}
+
+static int call_len(void) {
+    tulvorn_fault fault;
+    size_t encoded;
+    return tulvorn_encoded_len(&value, TULVORN_PER, &encoded, &fault) == TULVORN_DONE;
+}
+
+static int call_into(void) {
+    tulvorn_fault fault;
+    size_t encoded;
+    return tulvorn_encode_into(&value, TULVORN_PER, into, size, &encoded, &fault) == TULVORN_DONE;
+}
+
+static const struct call {
+    const char *name;
+    int (*call)(void);
+} calls[] = {
+    {"handle", call_handle},   {"kind", call_kind},     {"check", call_check}, {"decode", call_decode},
+    {"convert", call_convert}, {"encode", call_encode}, {"len", call_len},     {"into", call_into},
 };
 
-/* One call, which has to answer DONE, or else as it says. */
-static int call(const char *name, struct subject *it) {
-    tulvorn_fault fault;
-    size_t size;
-    uint32_t kind;
-    if (strcmp(name, "handle") == 0) return tulvorn_copy(&it->octets, it->into, 0, &size) == TULVORN_TOO_SHORT;
-    if (strcmp(name, "kind") == 0) return tulvorn_kind(&it->value, NULL, 0, &kind) == TULVORN_DONE;
-    if (strcmp(name, "check") == 0) return tulvorn_check(&it->type, TULVORN_PER, it->message, it->size, &fault) == 0;
-    if (strcmp(name, "decode") == 0)
-        return tulvorn_decode(&it->type, TULVORN_PER, it->message, it->size, &it->out, &fault) == TULVORN_DONE;
-    if (strcmp(name, "convert") == 0)
-        return tulvorn_convert(&it->type, TULVORN_PER, it->message, it->size, &it->out, &fault) == TULVORN_DONE;
-    if (strcmp(name, "encode") == 0) return tulvorn_encode(&it->value, TULVORN_PER, &it->out, &fault) == TULVORN_DONE;
-    if (strcmp(name, "len") == 0) return tulvorn_encoded_len(&it->value, TULVORN_PER, &size, &fault) == TULVORN_DONE;
-    return strcmp(name, "into") == 0 &&
-           tulvorn_encode_into(&it->value, TULVORN_PER, it->into, ROOM, &size, &fault) == TULVORN_DONE;
-}
-
 /* The type, a value and its octets, from the words of the command. */
-static int begin(char **words, struct subject *it) {
-    static uint8_t text[1 << 20];
-    tulvorn_handle module = TULVORN_NONE;
+static int begin(char **words) {
     tulvorn_fault fault;
-    FILE *from = fopen(words[0], "rb");
-    if (from == NULL) return 0;
-    size_t length = fread(text, 1, sizeof text, from);
-    fclose(from);
-    it->size = strlen(words[2]) / 2;
-    if (it->size > ROOM) return 0;
-    for (size_t at = 0; at < it->size; at++) {
-        const char pair[3] = {words[2][2 * at], words[2][2 * at + 1], '\0'};
-        it->message[at] = (uint8_t)strtoul(pair, NULL, 16);
-    }
-    int well = tulvorn_module(text, length, &module, &fault) == TULVORN_DONE &&
-               tulvorn_type(&module, (const uint8_t *)words[1], strlen(words[1]), &it->type, &fault) == TULVORN_DONE &&
-               tulvorn_decode(&it->type, TULVORN_PER, it->message, it->size, &it->value, &fault) == TULVORN_DONE &&
-               tulvorn_encode(&it->value, TULVORN_PER, &it->octets, &fault) == TULVORN_DONE;
-    tulvorn_close(&module);
-    return well;
+    return read_octets(words[2], strlen(words[2]), message, ROOM, &size) && read_type(words[0], words[1], &type) &&
+           tulvorn_decode(&type, TULVORN_PER, message, size, &value, &fault) == TULVORN_DONE &&
+           tulvorn_encode(&value, TULVORN_PER, &octets, &fault) == TULVORN_DONE;
 }
 
-int main(int count, char **words) {
-    static struct subject it;
+/* Makes the call that often, and prints the nanoseconds of a processor that one takes. */
+static int measure(int (*call)(void), long times) {
     struct timespec start, end;
-    if (count != 6 || !begin(words + 1, &it)) return 2;
-    long rounds = strtol(words[5], NULL, 10);
     clock_gettime(CLOCK_PROCESS_CPUTIME_ID, &start);
-    for (long at = 0; at < rounds; at++) {
-        if (!call(words[4], &it)) return 1;
+    for (long at = 0; at < times; at++) {
+        if (!call()) return 1;
     }
     clock_gettime(CLOCK_PROCESS_CPUTIME_ID, &end);
     double taken = (double)(end.tv_sec - start.tv_sec) * 1e9 + (double)(end.tv_nsec - start.tv_nsec);
-    if (rounds > 0) printf("%.1f\n", taken / (double)rounds);
-    tulvorn_close(&it.type);
-    tulvorn_close(&it.value);
-    tulvorn_close(&it.octets);
-    tulvorn_close(&it.out);
+    if (times > 0) printf("%.1f\n", taken / (double)times);
     return 0;
+}
+
+int main(int count, char **words) {
+    int status = 2;
+    if (count != 6 || !begin(words + 1)) return 2;
+    for (size_t at = 0; at < sizeof calls / sizeof *calls; at++) {
+        if (strcmp(calls[at].name, words[4]) == 0) status = measure(calls[at].call, strtol(words[5], NULL, 10));
+    }
+    tulvorn_close(&type);
+    tulvorn_close(&value);
+    tulvorn_close(&octets);
+    tulvorn_close(&out);
+    return status;
 }

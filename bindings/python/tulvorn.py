@@ -35,8 +35,8 @@ RULES = {"per": PER, "uper": PER, "oer": OER, PER: PER, OER: OER}
 
 (
     DONE, NO_MEMORY, MISUSE, REFUSED, TRUNCATED, REST, TOO_LONG, TOO_SHORT, NOT_TEXT, NO_MODULE, NO_NAME, NOT_OF_TYPE,
-    NO_JSON, SHAPE, NO_PATH, OTHER_KIND, NO_MESSAGE, CUT_MESSAGE, TOO_MANY_ADDITIONS,
-) = range(19)
+    NO_JSON, SHAPE, NO_PATH, OTHER_KIND, NO_MESSAGE, CUT_MESSAGE, TOO_MANY_ADDITIONS, MORE, SPENT,
+) = range(21)
 
 (
     BOOLEAN, NULL, INTEGER, ENUMERATED, BIT_STRING, OCTET_STRING, CHARACTER_STRING, SEQUENCE, SEQUENCE_OF, CHOICE,
@@ -66,11 +66,16 @@ FUNCTIONS = {
     "tulvorn_encode_into": "huwsSf:u",
     "tulvorn_convert": "huoshf:u",
     "tulvorn_explain": "huosh:u",
+    "tulvorn_open": "huh:u",
+    "tulvorn_feed": "hoshSf:u",
+    "tulvorn_finish": "hf:u",
     "tulvorn_read_newer": "huoshhf:u",
     "tulvorn_skipped_count": "hS:u",
     "tulvorn_skipped": "hsUwsS:u",
     "tulvorn_to_json": "hhf:u",
     "tulvorn_from_json": "hoshf:u",
+    "tulvorn_misfit": "hhh:u",
+    "tulvorn_explain_json": "hosh:u",
     "tulvorn_kind": "hosU:u",
     "tulvorn_boolean": "hosU:u",
     "tulvorn_integer": "hosI:u",

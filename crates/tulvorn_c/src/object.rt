@@ -1,5 +1,5 @@
 //! All that a handle can hold.
-use tulvorn::{Checked, Module, Skipped, Value};
+use tulvorn::{Checked, Module, Oer, Per, Session, Skipped, Value};
 
 /// What a handle holds.
 #[derive(Drop)]
@@ -9,4 +9,6 @@ pub enum Object {
     Value { ty: Checked, value: Value },
     Octets(Vec<u8>),
     Skipped(Vec<Skipped>),
+    PerSession { ty: Checked, session: Session<Per> },
+    OerSession { ty: Checked, session: Session<Oer> },
 }

@@ -24,10 +24,14 @@ held_session (Some (PerSession ty session)) = Some per_ruling
 held_session (Some (OerSession ty session)) = Some oer_ruling
 held_session _ = None
 
--- the session that the handle holds is of this type and has this past
+-- a session beside a type is of this type and has this past
+abbrev pub TookBeside : Shape → (Shape → Past → Type 0) → Shape → Past → Type 0
+TookBeside own took t past = (own ≡ t) × took t past
+
+-- so is the session that the handle holds
 abbrev pub Took : Option Object → Shape → Past → Type 0
-Took (Some (PerSession ty session)) t past = (shape_of ty ≡ t) × Keeps per_ruling session.inner t past
-Took (Some (OerSession ty session)) t past = (shape_of ty ≡ t) × Keeps oer_ruling session.inner t past
+Took (Some (PerSession ty session)) t past = TookBeside (shape_of ty) (Keeps per_ruling session.value.inner) t past
+Took (Some (OerSession ty session)) t past = TookBeside (shape_of ty) (Keeps oer_ruling session.value.inner) t past
 Took _ t past = ⊥
 
 -- the handle then holds a session of these rules and this type, which has taken no octet

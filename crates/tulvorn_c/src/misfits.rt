@@ -147,17 +147,20 @@ fn json_explained(alloc: Global, ty: &Checked, json: &Json) -> Result<Handle, Al
     ensures { IfOk result (λ h. HoldsNoFault (shape_of ty.now) (view json.now) h.kept
         ⊎ HoldsFault (shape_of ty.now) (view json.now) h.kept) }
 {
-    let words = match from_json(alloc, ty, json) {
-        Ok(_) => String::new(alloc),
-        Err(JsonFault::Memory) => return Err(AllocError),
-        Err(fault) => json_words(alloc, &fault)?,
+    let Err(fault) = from_json(alloc, ty, json) else {
+        return Handle::holding(alloc, Object::Octets(Vec::new(alloc)));
     };
+    let words = json_words(alloc, &fault)?;
     Handle::holding(alloc, Object::Octets(words.into_bytes()))
 }
 
 /// The text of a fault of JSON.
+///
+/// # Errors
+/// `AllocError` where an allocation failed, and for the fault that tells so.
 fn json_words(alloc: Global, fault: &JsonFault) -> Result<String, AllocError>
-    ensures { IfOk result (λ s. string_bytes s ≡ text_of_json fault.now) }
+    ensures text { IfOk result (λ s. string_bytes s ≡ text_of_json fault.now) }
+    ensures told { IfOk result (λ _. fault.now ≡ JsonFault.Memory → ⊥) }
 {
     match fault {
         JsonFault::Shape { path } => {
@@ -165,6 +168,6 @@ fn json_words(alloc: Global, fault: &JsonFault) -> Result<String, AllocError>
             format!(in alloc; "not of the type's shape at {path}")
         }
         JsonFault::NotOfType => String::from_str(alloc, "not of the type"),
-        JsonFault::Memory => String::from_str(alloc, "memory"),
+        JsonFault::Memory => Err(AllocError),
     }
 }

@@ -1,8 +1,9 @@
 //! Sessions: messages whose octets come in pieces.
-ghost use Rattle.std.specs.Prelude.{◌≡◌, IfOk, Some};
+ghost use Rattle.std.specs.Prelude.{◌≡◌, ◌↔◌, ⊤, [], IfOk, IsTrue, IsSome, Some, None};
+ghost use Rattle.asn_values.specs.Shape.{Shape};
 ghost use Rattle.asn_values.specs.View.{shape_of, datum_of};
 ghost use Rattle.asn_view.specs.Typed.{typed};
-ghost use Rattle.asn_rules.specs.Sessions.{Past};
+ghost use Rattle.asn_rules.specs.Sessions.{Past, waiting};
 ghost use Rattle.asn_per.specs.Rules.{per_ruling};
 ghost use Rattle.asn_oer.specs.Rules.{oer_ruling};
 ghost use Rattle.tulvorn_c.specs.Answers.{Asked, AskedBy, ruling_of};
@@ -10,10 +11,12 @@ ghost use Rattle.tulvorn_c.specs.Faults.{plain};
 ghost use Rattle.tulvorn_c.specs.Held.{held_type, held_value};
 ghost use Rattle.tulvorn_c.specs.Sessions.{
   held_session,
+  TookBeside,
   IsOpened,
   Opens,
   Answers,
   FeedsSession,
+  EndsAs,
   EndsSession,
 };
 
@@ -79,9 +82,7 @@ fn open_oer(alloc: Global, ty: &Checked, out: &mut Handle) -> u32
 fn per_session(alloc: Global, ty: &Checked) -> Result<Handle, AllocError>
     ensures { IfOk result (λ h. IsOpened per_ruling (shape_of ty.now) h.kept) }
 {
-    let Ok(session) = open::<Per>(alloc, ty.copy()?) else {
-        return Err(AllocError);
-    };
+    let session = opened::<Per>(alloc, ty)?;
     let ty = ty.copy()?;
     Handle::holding(alloc, Object::PerSession { ty, session })
 }
@@ -90,11 +91,22 @@ fn per_session(alloc: Global, ty: &Checked) -> Result<Handle, AllocError>
 fn oer_session(alloc: Global, ty: &Checked) -> Result<Handle, AllocError>
     ensures { IfOk result (λ h. IsOpened oer_ruling (shape_of ty.now) h.kept) }
 {
-    let Ok(session) = open::<Oer>(alloc, ty.copy()?) else {
-        return Err(AllocError);
-    };
+    let session = opened::<Oer>(alloc, ty)?;
     let ty = ty.copy()?;
     Handle::holding(alloc, Object::OerSession { ty, session })
+}
+
+/// A session in a box.
+fn opened<R: Rules>(alloc: Global, ty: &Checked) -> Result<Box<Session<R>>, AllocError>
+    ensures { IfOk result (λ q. R.took q.value.inner (shape_of ty.now) (waiting [])) }
+{
+    let Ok(session) = open::<R>(alloc, ty.copy()?) else {
+        return Err(AllocError);
+    };
+    match Box::new(alloc, session) {
+        Ok(session) => Ok(session),
+        Err(_) => Err(AllocError),
+    }
 }
 
 /// Takes the next piece of a message: see `tulvorn::Session::feed`.
@@ -117,17 +129,32 @@ pub extern "C" fn tulvorn_feed(
         *fault = Fault::plain(MISUSE);
         return MISUSE;
     };
-    *fault = match it.as_mut() {
-        Object::PerSession { ty, session } => {
-            feed_by::<Per>(alloc, ty, session, piece, value, used)
-        }
-        Object::OerSession { ty, session } => {
-            feed_by::<Oer>(alloc, ty, session, piece, value, used)
-        }
-        _ => Fault::plain(MISUSE),
-    };
+    *fault = feed_object(alloc, it.as_mut(), piece, value, used);
     *session = Handle::of(it);
     fault.code
+}
+
+fn feed_object(
+    alloc: Global,
+    object: &mut Object,
+    piece: &[u8],
+    value: &mut Handle,
+    used: &mut usize,
+) -> Fault
+    ensures { Asked (held_session (Some object.old))
+        ((object.new ≡ object.old) × (value.new.kept ≡ value.old.kept) × (used.new ≡ used.old))
+        (FeedsSession piece.now (Some object.old) (Some object.new) value.old.kept value.new.kept used.old used.new)
+        result }
+{
+    match object {
+        Object::PerSession { ty, session } => {
+            feed_by::<Per>(alloc, ty, session.as_mut(), piece, value, used)
+        }
+        Object::OerSession { ty, session } => {
+            feed_by::<Oer>(alloc, ty, session.as_mut(), piece, value, used)
+        }
+        _ => Fault::plain(MISUSE),
+    }
 }
 
 fn feed_by<R: Rules>(
@@ -138,9 +165,9 @@ fn feed_by<R: Rules>(
     value: &mut Handle,
     used: &mut usize,
 ) -> Fault
-    ensures { (past : Past) → R.took session.old.inner (shape_of ty.now) past → Answers R.ruling
-        (R.took session.new.inner) (shape_of ty.now) past piece.now value.old.kept value.new.kept used.old used.new
-        result }
+    ensures { (t : Shape) (past : Past) → TookBeside (shape_of ty.now) (R.took session.old.inner) t past
+        → Answers R.ruling (TookBeside (shape_of ty.now) (R.took session.new.inner)) t past piece.now
+        value.old.kept value.new.kept used.old used.new result }
 {
     match session.feed(piece) {
         Ok(
@@ -176,24 +203,40 @@ pub extern "C" fn tulvorn_finish(alloc: Global, session: &mut Handle, fault: &mu
         (EndsSession session.old.kept session.new.kept) fault.new }
     ensures code { result ≡ fault.new.code }
 {
-    let Some(mut it) = replace(session, Handle::none(alloc)).into_box() else {
+    let Some(it) = replace(session, Handle::none(alloc)).into_box() else {
         *fault = Fault::plain(MISUSE);
         return MISUSE;
     };
-    *fault = match replace(it.as_mut(), Object::Octets(Vec::new(alloc))) {
-        Object::PerSession {
-            ty: _,
-            session: ended,
-        } => Fault::of_end(ended.finish()),
-        Object::OerSession {
-            ty: _,
-            session: ended,
-        } => Fault::of_end(ended.finish()),
-        other => {
-            *it.as_mut() = other;
-            *session = Handle::of(it);
-            Fault::plain(MISUSE)
-        }
-    };
+    if !is_session(it.as_ref()) {
+        *session = Handle::of(it);
+        *fault = Fault::plain(MISUSE);
+        return MISUSE;
+    }
+    *fault = end_object(Box::into_inner(it));
     fault.code
+}
+
+fn is_session(object: &Object) -> bool
+    ensures { IsTrue result ↔ IsSome (held_session (Some object.now)) }
+{
+    matches!(
+        object,
+        Object::PerSession { .. } | Object::OerSession { .. }
+    )
+}
+
+fn end_object(object: Object) -> Fault
+    ensures { Asked (held_session (Some object)) ⊤ (EndsSession (Some object) None) result }
+{
+    match object {
+        Object::PerSession { ty: _ty, session } => end_by::<Per>(Box::into_inner(session)),
+        Object::OerSession { ty: _ty, session } => end_by::<Oer>(Box::into_inner(session)),
+        _other => Fault::plain(MISUSE),
+    }
+}
+
+fn end_by<R: Rules>(session: Session<R>) -> Fault
+    ensures { (t : Shape) (past : Past) → R.took session.inner t past → EndsAs R.ruling t past result }
+{
+    Fault::of_end(session.finish())
 }

@@ -59,8 +59,11 @@ number_of why.Character = 5
 number_of why.Padding = 6
 number_of why.Number = 7
 
+abbrev pub refused : ℕ → Why → Fault
+refused at why = record { code = 3; why = number_of why; at = at }
+
 abbrev pub of_decode : DecodeFault → Fault
-of_decode (decode.Refused at why) = record { code = 3; why = number_of why; at = at }
+of_decode (decode.Refused at why) = refused at why
 of_decode (decode.Truncated taken) = placed 4 taken
 of_decode (decode.Rest used) = placed 5 used
 of_decode decode.TooLong = too_long
@@ -92,7 +95,7 @@ of_json json.NotOfType = not_of_type
 of_json json.Memory = no_memory
 
 abbrev pub of_feed : FeedFault → Fault
-of_feed (feed.Refused at why) = record { code = 3; why = number_of why; at = at }
+of_feed (feed.Refused at why) = refused at why
 of_feed feed.TooLong = too_long
 of_feed feed.Memory = no_memory
 of_feed feed.Spent = plain 20

@@ -4,7 +4,7 @@ ghost use Rattle.tulvorn_c.specs.Faults as faults;
 
 use tulvorn::{
     ConvertFault, DecodeFault, EncodeFault, EncodeIntoFault, FeedFault, JsonFault, LengthFault,
-    ModuleFault, NewerFault, Truncated,
+    ModuleFault, NewerFault, Truncated, Why,
 };
 
 /// The call did what it was asked for.
@@ -98,15 +98,22 @@ impl Fault {
         Fault { code, why: 0, at }
     }
 
+    /// A refusal.
+    fn refused(at: u64, why: Why) -> Fault
+        ensures { result ≡ faults.refused at why }
+    {
+        Fault {
+            code: REFUSED,
+            why: why as u32,
+            at,
+        }
+    }
+
     pub(crate) fn of_decode(fault: DecodeFault) -> Fault
         ensures { result ≡ faults.of_decode fault }
     {
         match fault {
-            DecodeFault::Refused { at, why } => Fault {
-                code: REFUSED,
-                why: why as u32,
-                at,
-            },
+            DecodeFault::Refused { at, why } => Fault::refused(at, why),
             DecodeFault::Truncated { taken } => Fault::placed(TRUNCATED, taken),
             DecodeFault::Rest { used } => Fault::placed(REST, used as u64),
             DecodeFault::TooLong => Fault::plain(TOO_LONG),
@@ -168,11 +175,7 @@ impl Fault {
         ensures { result ≡ faults.of_feed fault }
     {
         match fault {
-            FeedFault::Refused { at, why } => Fault {
-                code: REFUSED,
-                why: why as u32,
-                at,
-            },
+            FeedFault::Refused { at, why } => Fault::refused(at, why),
             FeedFault::TooLong => Fault::plain(TOO_LONG),
             FeedFault::Memory => Fault::plain(NO_MEMORY),
             FeedFault::Spent => Fault::plain(SPENT),

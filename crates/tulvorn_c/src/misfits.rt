@@ -1,5 +1,5 @@
 //! Where a value or JSON is none of a type.
-ghost use Rattle.std.specs.Prelude.{◌≡◌, ◌⊎◌, [], IfOk, string_bytes};
+ghost use Rattle.std.specs.Prelude.{◌≡◌, ◌⊎◌, ◌↔◌, [], IfOk, IsNone, string_bytes};
 ghost use Rattle.serde_json.specs.View.{view};
 ghost use Rattle.asn_values.specs.Shape.{Shape};
 ghost use Rattle.asn_values.specs.View.{shape_of, datum_of};
@@ -23,7 +23,7 @@ use crate::object::Object;
 use serde_json::Value as Json;
 use std::alloc::{AllocError, Global};
 use std::mem::replace;
-use tulvorn::{Checked, JsonFault, Value, from_json, misfit};
+use tulvorn::{Checked, JsonFault, Value, WrongPart, from_json, misfit};
 
 /// Puts into `words` the first part of the value that does not fit the type, and why; no octets where the value fits:
 /// see `tulvorn::misfit`.
@@ -84,14 +84,23 @@ fn misfit_of(alloc: Global, ty: &Checked, value: &Value, out: &mut Handle) -> u3
 fn misfit_held(alloc: Global, ty: &Checked, value: &Value) -> Result<Handle, AllocError>
     ensures { IfOk result (λ h. HoldsMisfit (shape_of ty.now) (datum_of value.now) h.kept) }
 {
-    let words = match misfit(alloc, ty, value)? {
-        Some(wrong) => wrong_text(alloc, wrong.path.as_str(), wrong.reason.as_str())?,
-        None => String::new(alloc),
-    };
+    let found = misfit(alloc, ty, value)?;
+    let words = wrong_words(alloc, &found)?;
     Handle::holding(alloc, Object::Octets(words.into_bytes()))
 }
 
+/// The text of what is found.
+fn wrong_words(alloc: Global, found: &Option<WrongPart>) -> Result<String, AllocError>
+    ensures { IfOk result (λ s. (string_bytes s ≡ []) ↔ IsNone found.now) }
+{
+    match found {
+        Some(wrong) => wrong_text(alloc, wrong.path.as_str(), wrong.reason.as_str()),
+        None => Ok(String::new(alloc)),
+    }
+}
+
 /// The text of a part that does not fit.
+#[tactic(auto, using(crate::proofs::Texts::not_empty))]
 fn wrong_text(alloc: Global, path: &str, reason: &str) -> Result<String, AllocError>
     ensures { IfOk result (λ s. string_bytes s ≡ [] → ⊥) }
 {

@@ -26,9 +26,8 @@ pub record HoldsMisfit (t : Shape) (d : Datum) (new : Option Object) : Type 0 wh
   pub held : held_octets new ≡ Some text
   pub empty : (text ≡ []) ↔ Fits t d
 
-abbrev pub TellsMisfit : Option Object → Option Object → Shape → Typed → Fault → Type 0
-TellsMisfit old new t v fault =
-    ((fault ≡ done) × HoldsMisfit t v.datum new) ⊎ ((fault ≡ no_memory) × (new ≡ old))
+abbrev pub TellsMisfit : Option Object → Option Object → Shape → Datum → Fault → Type 0
+TellsMisfit old new t d fault = ((fault ≡ done) × HoldsMisfit t d new) ⊎ ((fault ≡ no_memory) × (new ≡ old))
 
 -- the text of a fault of JSON
 abbrev pub text_of_json : JsonFault → List ℕ

@@ -1,9 +1,7 @@
 //! Where a value or JSON is none of a type.
 ghost use Rattle.std.specs.Prelude.{◌≡◌, ◌⊎◌, ◌↔◌, [], IfOk, IsNone, string_bytes};
 ghost use Rattle.serde_json.specs.View.{view};
-ghost use Rattle.asn_values.specs.Shape.{Shape};
 ghost use Rattle.asn_values.specs.View.{shape_of, datum_of};
-ghost use Rattle.asn_view.specs.Typed.{typed};
 ghost use Rattle.tulvorn_c.specs.Answers.{Asked};
 ghost use Rattle.tulvorn_c.specs.Faults.{plain};
 ghost use Rattle.tulvorn_c.specs.Held.{held_type, held_value};
@@ -37,7 +35,7 @@ pub extern "C" fn tulvorn_misfit(
     ensures type_kept { ty.new.kept ≡ ty.old.kept }
     ensures value_kept { value.new.kept ≡ value.old.kept }
     ensures told { AskedOf (held_type ty.old.kept) (held_value value.old.kept) (words.new.kept ≡ words.old.kept)
-        (TellsMisfit words.old.kept words.new.kept) (plain result) }
+        (λ t v. TellsMisfit words.old.kept words.new.kept t v.datum) (plain result) }
 {
     let Some(it) = replace(ty, Handle::none(alloc)).into_box() else {
         return MISUSE;
@@ -54,7 +52,7 @@ pub extern "C" fn tulvorn_misfit(
 fn misfit_in(alloc: Global, ty: &Checked, value: &mut Handle, words: &mut Handle) -> u32
     ensures kept { value.new.kept ≡ value.old.kept }
     ensures told { Asked (held_value value.old.kept) (words.new.kept ≡ words.old.kept)
-        (TellsMisfit words.old.kept words.new.kept (shape_of ty.now)) (plain result) }
+        (λ v. TellsMisfit words.old.kept words.new.kept (shape_of ty.now) v.datum) (plain result) }
 {
     let Some(it) = replace(value, Handle::none(alloc)).into_box() else {
         return MISUSE;
@@ -68,8 +66,7 @@ fn misfit_in(alloc: Global, ty: &Checked, value: &mut Handle, words: &mut Handle
 }
 
 fn misfit_of(alloc: Global, ty: &Checked, value: &Value, out: &mut Handle) -> u32
-    ensures { (own : Shape) → TellsMisfit out.old.kept out.new.kept (shape_of ty.now) (typed own (datum_of value.now))
-        (plain result) }
+    ensures { TellsMisfit out.old.kept out.new.kept (shape_of ty.now) (datum_of value.now) (plain result) }
 {
     match misfit_held(alloc, ty, value) {
         Ok(held) => {

@@ -11,5 +11,5 @@ returns-in-OerSession c =
     rw c.in-OerSession.is (
       refl,
       λ t past took.
-      c.feed_by-in-OerSession.ensures t past (took.0, rw c.as_mut-in-OerSession.ensures.value took.1),
+          c.feed_by-in-OerSession.ensures t past (took.0, rw c.as_mut-in-OerSession.ensures.value took.1),
     )

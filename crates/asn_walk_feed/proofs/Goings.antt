@@ -1,5 +1,5 @@
 -- How a list that may be cut goes on, as the program holds it.
-use Rattle.std.proofs.Common.{◌≡◌, ◌<◌, ◌+◌, ℕ, List, [], ◌∷◌, ◌++◌, length, map, Option, Some, None, refl, sym, ◌∙◌}
+use Rattle.std.proofs.Common.{◌≡◌, ◌<◌, ◌+◌, ℕ, List, [], ◌∷◌, ◌++◌, length, map, Option, Some, None, refl, sym, ap, ◌∙◌}
 use Rattle.std.specs.Prelude.{IfSome, IsNone}
 use Rattle.asn_values.specs.Datum.{Datum}
 use Rattle.asn_values.specs.Shape.{Shape, SizeRange, sequence_of}
@@ -129,8 +129,8 @@ module _ {F : Type 0} (c : Coding) (laws : Laws c) (feeds : FeedLaws c) (fc : Fi
   pub list_starts : (q : Elements F Value) (fs : List (Frame F)) (us r : List ℕ) → Spells c.ruling.fielding (c.list_start s) (ahead q.fragments) us r
       → q.left ≡ 0 → q.elements.items ≡ [] → q.next_part ≡ [] → between q.fragments → fs ≡ [] → R q fs us r
   list_starts q fs us r sp el ei eh b ef =
-      items.items_start c laws feeds ahead between L T datum_of some law E none_took q fs us r
-      (λ more. list_begins c laws L s (ahead q.fragments) us r (list_size t s good) sp more) el ei eh b ef
+      items.items_start c laws feeds ahead between L T datum_of some law E none_took q fs [] us r
+      (λ more. list_begins c laws L s (ahead q.fragments) us r (list_size t s good) sp more) el (ap (map datum_of) ei) eh b ef
 
 -- the outermost node was taken
 pub taken_is : {X : Type 0} (r : Option (Frame X)) (old new : List (Frame X)) → IfSome r (λ f. old ≡ f ∷ new) → (IsNone r → old ≡ []) → (IsNone r → new ≡ []) → old ≡ with_node r new

@@ -173,9 +173,9 @@ module _ {F A V : Type 0} (c : Coding) (laws : Laws c) (feeds : FeedLaws c) (ahe
 
   -- ---- what stands before them has been read
 
-  pub items_start : (q : Elements F V) (fs : List (Frame F)) (us r : List ℕ) → ((more : List ℕ) → Going c L T (us ++ more) (ahead q.fragments) [] (r ++ more))
-      → q.left ≡ 0 → q.elements.items ≡ [] → q.next_part ≡ [] → between q.fragments → fs ≡ [] → R q fs us r
-  items_start q fs us r stands el ei eh b ef = record {
+  pub items_start : (q : Elements F V) (fs : List (Frame F)) (vs : List A) (us r : List ℕ) → ((more : List ℕ) → Going c L T (us ++ more) (ahead q.fragments) vs (r ++ more))
+      → q.left ≡ 0 → map seen q.elements.items ≡ vs → q.next_part ≡ [] → between q.fragments → fs ≡ [] → R q fs us r
+  items_start q fs vs us r stands el ei eh b ef = record {
     come = [];
     between_is = b;
     stands = λ more. rw (el, ei) (stands more);

@@ -2,7 +2,6 @@
 use Rattle.std.proofs.Common.{◌≡◌, ◌<◌, ◌+◌, inl, inr, ℕ, List, [], ◌∷◌, ◌++◌, length, Option, Some, None, refl, ap, subst, ◌∙◌}
 use mathlib.Core.List.{map-id}
 use Rattle.asn_rules.specs.Chunks.{Chunk}
-use Rattle.asn_rules.specs.General.{after_first}
 use Rattle.asn_rules.specs.Languages.{Spells, Short, Inhabited, Then}
 use Rattle.asn_rules.specs.Stops.{Stops}
 use Rattle.asn_rules.specs.declared.stop.Stop.{Stop}
@@ -19,7 +18,7 @@ use Rattle.asn_walk.specs.Laws.{Laws}
 use Rattle.asn_walk.proofs.Listing.{Going, steps_left}
 use Rattle.asn_walk.proofs.Parts.{fields_part_of}
 use Rattle.asn_walk_feed.specs.Feeding.{Waits, FeedLaws, NextOf, HasBegun}
-use Rattle.asn_walk_feed.specs.Octets.{OctetCoding, OctetsOf, OctetLaws, OctetTook, OctetsGoOn, OctetsTook}
+use Rattle.asn_walk_feed.specs.Octets.{OctetCoding, all_octets, OctetsOf, OctetLaws, OctetTook, OctetsGoOn, OctetsTook}
 use Rattle.asn_walk_feed.specs.Taken.{with_node}
 use Rattle.asn_walk_feed.specs.declared.frame.Frame.{Frame}
 use Rattle.asn_walk_feed.specs.declared.frame.Frame.TheVariants as frame
@@ -46,27 +45,27 @@ module _ {F : Type 0} (c : Coding) (laws : Laws c) (feeds : FeedLaws c) (f : Oct
 
   -- ---- what stands before the octets
 
-  follows : Follows f.start (λ a. Remaining f.octet a)
-  follows = record { follow = λ a x h. ahead_inhabited f.octet a parts.some (parts.ahead a x h) }
+  follows : Follows f.start (λ p. Remaining f.octet p.1)
+  follows = record { follow = λ p x h. ahead_inhabited f.octet p.1 parts.some (parts.ahead p x h) }
 
   -- it stops
   pub start_stops : (us : List ℕ) (why : Stop) → Stops c.ruling.fielding f.start us why → Stops c.ruling.fielding Whole us why
   start_stops us why h =
-      stops_by why (stops_on (stops_first c.ruling.fielding us follows) (leads_map c.ruling.fielding after_first (Then f.start (λ a. Remaining f.octet a)) us).stops) h
+      stops_by why (stops_on (stops_first c.ruling.fielding us follows) (leads_map c.ruling.fielding all_octets (Then f.start (λ p. Remaining f.octet p.1)) us).stops) h
 
   -- it has been read
-  begins : (a : Ahead) (us r : List ℕ) → Spells c.ruling.fielding f.start a us r → (more : List ℕ) → Going c f.octet Whole (us ++ more) a [] (r ++ more)
-  begins a us r h more = record {
+  begins : (vs : List ℕ) (a : Ahead) (us r : List ℕ) → Spells c.ruling.fielding f.start (vs, a) us r → (more : List ℕ) → Going c f.octet Whole (us ++ more) a vs (r ++ more)
+  begins vs a us r h more = record {
     leads =
-        leads_on (leads_second {M = λ b. Remaining f.octet b} (fields_part_of c laws) parts.start (done_stays more h))
-        (leads_map c.ruling.fielding after_first (Then f.start (λ b. Remaining f.octet b)) (us ++ more));
+        leads_on (leads_second {M = λ p. Remaining f.octet p.1} (fields_part_of c laws) parts.start (done_stays more h))
+        (leads_map c.ruling.fielding all_octets (Then f.start (λ p. Remaining f.octet p.1)) (us ++ more));
   }
 
-  pub octets_start : (q : Elements F ℕ) (us r : List ℕ) → Spells c.ruling.fielding f.start (ahead q.fragments) us r
-      → q.left ≡ 0 → q.elements.items ≡ [] → q.next_part ≡ [] → between q.fragments → R q us r
-  octets_start q us r sp el ei eh b =
-      listed.items_start c laws feeds ahead between f.octet Whole (λ o. o) parts.some parts.octet (OctetTook c f) none_came q [] us r
-      (begins (ahead q.fragments) us r sp) el ei eh b refl
+  pub octets_start : (q : Elements F ℕ) (vs us r : List ℕ) → Spells c.ruling.fielding f.start (vs, ahead q.fragments) us r
+      → q.left ≡ 0 → q.elements.items ≡ vs → q.next_part ≡ [] → between q.fragments → R q us r
+  octets_start q vs us r sp el ei eh b =
+      listed.items_start c laws feeds ahead between f.octet Whole (λ o. o) parts.some parts.octet (OctetTook c f) none_came q [] vs us r
+      (begins vs (ahead q.fragments) us r sp) el (map-id q.elements.items ∙ ei) eh b refl
 
   -- ---- the next length
 

@@ -1,8 +1,7 @@
 -- How octets that stand in fragments go on where a reader of them was cut: those of an open type field, and the items
 -- of a string, each of which the program holds as an octet.
-use Rattle.std.specs.Prelude.{◌≡◌, ◌∷◌, ◌++◌, ℕ, List, [], ⊤}
+use Rattle.std.specs.Prelude.{◌≡◌, ◌∷◌, ◌++◌, ℕ, List, [], Option, Some, None, ⊤}
 use Rattle.asn_rules.specs.Chunks.{Chunk}
-use Rattle.asn_rules.specs.General.{after_first}
 use Rattle.asn_rules.specs.Languages.{Spells, Lawful, Inhabited, Map, Then}
 use Rattle.asn_rules.specs.Stops.{Stops}
 use Rattle.asn_rules.specs.declared.stop.Stop.{Stop}
@@ -14,22 +13,42 @@ use Rattle.asn_walk_feed.specs.Items.{ItemsGoOn}
 use Rattle.asn_walk_feed.specs.declared.frame.Elements.{Elements}
 use Rattle.asn_walk_feed.specs.declared.frame.Frame.{Frame}
 use Rattle.asn_walk_feed.specs.declared.frame.Frame.TheVariants as frame
+use Rattle.asn_walk_feed.specs.declared.frame.ItemsStart.{ItemsStart}
 
 -- ---- what a set of encoding rules says of them
 
--- what stands before the octets, up to the first length, and an octet
+-- what stands before the octets, up to the first length, where the first of them may stand, and an octet
 pub record OctetCoding : Type 1 where
-  pub start : Ahead → List Chunk → Type 0
+  pub start : List ℕ × Ahead → List Chunk → Type 0
   pub octet : ℕ → List Chunk → Type 0
+
+-- those that stand there, and those that are ahead
+abbrev pub all_octets : (List ℕ × Ahead) × List ℕ → List ℕ
+all_octets p = p.0.0 ++ p.1
 
 -- what stands before them, and then the octets that are ahead
 abbrev pub OctetsOf : OctetCoding → List ℕ → List Chunk → Type 0
-OctetsOf f = Map after_first (Then f.start (λ a. Remaining f.octet a))
+OctetsOf f = Map all_octets (Then f.start (λ p. Remaining f.octet p.1))
+
+-- none of them stands before the first length
+abbrev pub no_first : Ahead → List ℕ × Ahead
+no_first a = ([], a)
+
+abbrev pub NoFirst : (Ahead → List Chunk → Type 0) → List ℕ × Ahead → List Chunk → Type 0
+NoFirst L = Map no_first L
+
+-- the same of what the program holds
+abbrev pub first_octets : Option ℕ → List ℕ
+first_octets None = []
+first_octets (Some o) = o ∷ []
+
+abbrev pub start_seen : {F : Type 0} → (F → Ahead) → ItemsStart F → List ℕ × Ahead
+start_seen ahead s = (first_octets s.first, ahead s.fragments)
 
 -- the laws of these parts
 pub record OctetLaws (c : Coding) (f : OctetCoding) : Type 0 where
   pub start : Lawful f.start
-  pub ahead : (a : Ahead) (cs : List Chunk) → f.start a cs → SomeAhead a
+  pub ahead : (p : List ℕ × Ahead) (cs : List Chunk) → f.start p cs → SomeAhead p.1
   pub octet : Lawful f.octet
   pub some : Inhabited f.octet
   pub brief_start : IsBrief c f.start

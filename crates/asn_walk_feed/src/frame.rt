@@ -42,6 +42,15 @@ pub struct Elements<F, T> {
     pub next_part: Begun,
 }
 
+/// What stands before the octets of an open type field or the items of a string, up to the first length.
+#[derive(Drop)]
+pub struct ItemsStart<F> {
+    /// The first of them, where it stands there: what it is may decide which others there can be.
+    pub first: Option<u8>,
+    /// What stands after it.
+    pub fragments: F,
+}
+
 /// The components of a SEQUENCE that are read, and how it goes on.
 #[derive(Drop)]
 pub struct Components {

@@ -9,12 +9,13 @@ ghost use Rattle.asn_rules.specs.Padding.{Fixed};
 ghost use Rattle.asn_rules.specs.Stops.{Stops};
 ghost use Rattle.asn_rules.specs.declared.stop.Stop.TheVariants.{Memory};
 ghost use Rattle.asn_walk.specs.Reading.{Reads, StopsAt};
-ghost use Rattle.asn_walk_feed.specs.Octets.{OctetsOf};
+ghost use Rattle.asn_walk_feed.specs.Octets.{OctetsOf, start_seen};
 ghost use Rattle.asn_walk_feed.specs.OpenFields.{FieldCoding, FieldLaws, StopsAfter};
 ghost use Rattle.asn_walk_feed.specs.Strings.{IsString, StringLaws, IsStringOf, IsNoString};
 ghost use Rattle.asn_walk_feed.specs.Feeding.{FeedLaws, IsBrief, HasBegun, ExtendsBy, Passes, Ticked, StandsAfter, KeepsUnits};
 
 use crate::begun::Begun;
+use crate::frame::ItemsStart;
 use crate::units::{Ticks, Units};
 use asn_bits::BitCursor;
 use asn_rules::internal::Stop;
@@ -48,11 +49,12 @@ pub trait FeedLeaves: ReadLeaves {
         ensures { result ≡ fragments.now };
 
     /// Reads what stands before the octets of an open type field, up to the first length.
-    fn start_octets(units: &mut BitCursor<'_>) -> Result<Self::Fragments, Stop>
+    fn start_octets(units: &mut BitCursor<'_>) -> Result<ItemsStart<Self::Fragments>, Stop>
         requires at_unit { Self.rules.at_unit units.old }
         ensures at_unit { OnOk result (Self.rules.at_unit units.new) }
-        ensures between { IfOk result Self.is_between }
-        ensures done { IfOk result (λ f. Reads Self.rules fields.open_type.start (Self.ahead f) units.old units.new) }
+        ensures between { IfOk result (λ s. Self.is_between s.fragments) }
+        ensures done { IfOk result (λ s.
+            Reads Self.rules fields.open_type.start (start_seen Self.ahead s) units.old units.new) }
         ensures stop { IfErr result (λ why. StopsAt Self.rules fields.open_type.start units.old why) };
 
     /// Reads an octet of an open type field.
@@ -62,15 +64,19 @@ pub trait FeedLeaves: ReadLeaves {
         ensures done { IfOk result (λ o. Reads Self.rules fields.open_type.octet o units.old units.new) }
         ensures stop { IfErr result (λ why. StopsAt Self.rules fields.open_type.octet units.old why) };
 
-    /// Reads what stands before the items of a string of this type, up to the first length.
-    fn start_string(ty: &AsnType, units: &mut BitCursor<'_>) -> Result<Self::Fragments, Stop>
+    /// Reads what stands before the items of a string of this type, up to the first length, and the first item where
+    /// it stands there.
+    fn start_string(
+        ty: &AsnType,
+        units: &mut BitCursor<'_>,
+    ) -> Result<ItemsStart<Self::Fragments>, Stop>
         requires of_profile { InProfile (shape_of ty.now) }
         requires string { IsString (shape_of ty.now) }
         requires at_unit { Self.rules.at_unit units.old }
         ensures at_unit { OnOk result (Self.rules.at_unit units.new) }
-        ensures between { IfOk result Self.is_between }
-        ensures done { IfOk result (λ f.
-            Reads Self.rules (fields.string (shape_of ty.now)).start (Self.ahead f) units.old units.new) }
+        ensures between { IfOk result (λ s. Self.is_between s.fragments) }
+        ensures done { IfOk result (λ s.
+            Reads Self.rules (fields.string (shape_of ty.now)).start (start_seen Self.ahead s) units.old units.new) }
         ensures stop { IfErr result (λ why.
             StopsAt Self.rules (fields.string (shape_of ty.now)).start units.old why) };
 

@@ -22,7 +22,7 @@ mod values;
 
 pub use begun::Begun;
 pub use complete::feed_complete;
-pub use frame::{AdditionBits, Components, Elements, Frame, Frames};
+pub use frame::{AdditionBits, Components, Elements, Frame, Frames, ItemsStart};
 pub use leaf::FeedLeaves;
 pub use units::{Ticks, Units};
 pub use values::feed;

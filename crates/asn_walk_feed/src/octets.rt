@@ -5,16 +5,16 @@ ghost use Rattle.asn_values.specs.Profile.{InProfile};
 ghost use Rattle.asn_values.specs.View.{shape_of};
 ghost use Rattle.asn_rules.specs.Languages.{Spells};
 ghost use Rattle.asn_rules.specs.Stops.{Stops};
-ghost use Rattle.asn_rules.specs.declared.stop.Stop.TheVariants.{Short};
+ghost use Rattle.asn_rules.specs.declared.stop.Stop.TheVariants.{Short, Memory};
 ghost use Rattle.asn_walk.specs.Reading.{Reads, StopsAt};
 ghost use Rattle.asn_walk_feed.specs.Feeding.{Waits, Ticked, StandsAfter};
 ghost use Rattle.asn_walk_feed.specs.Nodes.{nodes};
-ghost use Rattle.asn_walk_feed.specs.Octets.{OctetCoding, OctetLaws, OctetsOf, OctetsGoOn, ReadsOctetsOn, StopsOctetsOn, OctetsGoOnTo, OctetsTook, KeepsOctets, ReadsOctetsFrom, StopsOctetsFrom, KeepsOctetsFrom};
+ghost use Rattle.asn_walk_feed.specs.Octets.{OctetCoding, OctetLaws, OctetsOf, OctetsGoOn, ReadsOctetsOn, StopsOctetsOn, OctetsGoOnTo, OctetsTook, KeepsOctets, ReadsOctetsFrom, StopsOctetsFrom, KeepsOctetsFrom, first_octets, start_seen};
 ghost use Rattle.asn_walk_feed.specs.Strings.{IsString};
 ghost use Rattle.asn_walk_feed.specs.Taken.{with_node};
 
 use crate::begun::Begun;
-use crate::frame::{Elements, Frame, Frames};
+use crate::frame::{Elements, Frame, Frames, ItemsStart};
 use crate::leaf::{FeedLeaves, feed_leaf};
 use crate::lists::next_fragment;
 use crate::parts::{Octet, OctetsStart};
@@ -30,13 +30,14 @@ pub trait InFragments<R: FeedLeaves> {
 
     ghost good: { Self → Type 0 };
 
-    /// Reads what stands before the octets, up to the first length.
-    fn start(&self, units: &mut BitCursor<'_>) -> Result<R::Fragments, Stop>
+    /// Reads what stands before the octets, up to the first length, and the first of them where it stands there.
+    fn start(&self, units: &mut BitCursor<'_>) -> Result<ItemsStart<R::Fragments>, Stop>
         requires good { good self.now }
         requires at_unit { R.rules.at_unit units.old }
         ensures at_unit { OnOk result (R.rules.at_unit units.new) }
-        ensures between { IfOk result R.is_between }
-        ensures done { IfOk result (λ f. Reads R.rules (coding self.now).start (R.ahead f) units.old units.new) }
+        ensures between { IfOk result (λ s. R.is_between s.fragments) }
+        ensures done { IfOk result (λ s.
+            Reads R.rules (coding self.now).start (start_seen R.ahead s) units.old units.new) }
         ensures stop { IfErr result (λ why. StopsAt R.rules (coding self.now).start units.old why) };
 
     /// Reads an octet.
@@ -62,7 +63,7 @@ impl<R: FeedLeaves> InFragments<R> for OpenType {
 
     ghost good = { λ s. ⊤ };
 
-    fn start(&self, units: &mut BitCursor<'_>) -> Result<R::Fragments, Stop> {
+    fn start(&self, units: &mut BitCursor<'_>) -> Result<ItemsStart<R::Fragments>, Stop> {
         R::start_octets(units)
     }
 
@@ -86,7 +87,7 @@ impl<'a, R: FeedLeaves> InFragments<R> for StringItems<'a> {
 
     ghost good = { λ s. InProfile (shape_of s.ty.now) × IsString (shape_of s.ty.now) };
 
-    fn start(&self, units: &mut BitCursor<'_>) -> Result<R::Fragments, Stop> {
+    fn start(&self, units: &mut BitCursor<'_>) -> Result<ItemsStart<R::Fragments>, Stop> {
         R::start_string(self.ty, units)
     }
 
@@ -210,11 +211,12 @@ fn start_octets<R: FeedLeaves, K: InFragments<R>>(
         units,
         ticks,
     ) {
-        Ok(fragments) => {
+        Ok(start) => {
+            let elements = first_elements(alloc, start.first)?;
             let octets = Elements {
-                elements: Vec::new(alloc),
+                elements,
                 left: 0,
-                fragments,
+                fragments: start.fragments,
                 next_part: Begun::none(),
             };
             end_octets::<R, K>(alloc, kind, octets, frames, units, ticks)
@@ -226,6 +228,18 @@ fn start_octets<R: FeedLeaves, K: InFragments<R>>(
         Err(Stop::Refused { left, why }) => Err(Stop::Refused { left, why }),
         Err(Stop::Memory) => Err(Stop::Memory),
     }
+}
+
+/// The first octet, where one stands before the first length.
+fn first_elements(alloc: Global, first: Option<u8>) -> Result<Vec<u8>, Stop>
+    ensures items { IfOk result (λ os. os.items ≡ first_octets first) }
+    ensures memory { IfErr result (λ why. why ≡ Memory) }
+{
+    let mut elements = Vec::new(alloc);
+    if let Some(octet) = first {
+        elements.push(octet)?;
+    }
+    Ok(elements)
 }
 
 /// Reads the octets that are left.

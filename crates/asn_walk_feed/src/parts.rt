@@ -1,5 +1,5 @@
 //! The parts of few units that stand in values of all types.
-ghost use Rattle.std.specs.Prelude.{◌≡◌, ◌≤◌, ◌<◌, ◌⊎◌, ℕ, Bool, true, Option, vec_len, ⊤};
+ghost use Rattle.std.specs.Prelude.{◌≡◌, ◌≤◌, ◌<◌, ◌⊎◌, ℕ, List, Bool, true, Option, vec_len, ⊤};
 ghost use Rattle.std.specs.Option.{option_map};
 ghost use Rattle.asn_values.specs.Datum.{Datum};
 ghost use Rattle.asn_values.specs.Profile.{InProfile, good_default};
@@ -11,7 +11,9 @@ ghost use Rattle.asn_walk.specs.Laws.{IsSizeOfProfile};
 ghost use Rattle.asn_walk.specs.Reading.{ValuesOf, OthersOf};
 ghost use Rattle.asn_walk.specs.Views.{preamble_seen, index_seen};
 ghost use Rattle.asn_walk_feed.specs.Feeding.{IsScalar, NextOf};
+ghost use Rattle.asn_walk_feed.specs.Octets.{start_seen};
 
+use crate::frame::ItemsStart;
 use crate::leaf::{FeedLeaves, Leaf};
 use crate::octets::InFragments;
 use asn_bits::BitCursor;
@@ -235,19 +237,23 @@ pub struct OctetsStart<'a, K> {
 }
 
 impl<'a, R: FeedLeaves, K: InFragments<R>> Leaf<R> for OctetsStart<'a, K> {
-    type Out = R::Fragments;
+    type Out = ItemsStart<R::Fragments>;
 
-    ghost meant = { Ahead };
+    ghost meant = { List ℕ × Ahead };
 
-    ghost seen = { R.ahead };
+    ghost seen = { λ s. start_seen R.ahead s };
 
     ghost language = { λ s. (K.coding s.kind.now).start };
 
     ghost good = { λ s. K.good s.kind.now };
 
-    ghost sound = { R.is_between };
+    ghost sound = { λ s. R.is_between s.fragments };
 
-    fn read(&self, _alloc: Global, units: &mut BitCursor<'_>) -> Result<R::Fragments, Stop> {
+    fn read(
+        &self,
+        _alloc: Global,
+        units: &mut BitCursor<'_>,
+    ) -> Result<ItemsStart<R::Fragments>, Stop> {
         self.kind.start(units)
     }
 

@@ -4,6 +4,7 @@ use Rattle.asn_rules.specs.Languages.{Short}
 use Rattle.asn_rules.specs.Stops.{Stops}
 use Rattle.asn_rules.specs.declared.stop.Stop.TheVariants as stop
 use Rattle.asn_walk_feed.specs.Nodes.{nodes}
+use Rattle.asn_walk_feed.specs.Octets.{first_octets}
 use Rattle.asn_walk_feed.specs.declared.frame.Frame.{Frame}
 use Rattle.asn_walk_feed.specs.declared.frame.Frame.TheVariants as frame
 use Rattle.asn_walk_feed.proofs.OctetsRead.{octets_start, start_stops, start_took}
@@ -11,19 +12,19 @@ use Rattle.asn_walk_feed.proofs.octets.start_octets.Goals as goal
 
 pub end_octets-requires : goal.end_octets-requires
 end_octets-requires g c =
-    record { good = c.requires.good; at_unit = c.in-Ok.ensures.at_unit; empty = c.requires.empty; reached = ((g.R.ReadLeaves.rules.to_units c.args.begun ++ g.R.ReadLeaves.rules.to_units c.args.units.now), (octets_start g.R.ReadLeaves.rules c.keep_laws.ensures c.keep_feed_laws.ensures (g.K.InFragments.coding c.args.kind.now) c.keep_octet_laws.ensures g.R.ReadLeaves.ahead g.R.ReadLeaves.is_between _ (g.R.ReadLeaves.rules.to_units c.args.begun ++ g.R.ReadLeaves.rules.to_units c.args.units.now) (g.R.ReadLeaves.rules.to_units c.feed_leaf.new.units) c.in-Ok.ensures.done refl c.new.ensures.items c.none.ensures c.in-Ok.ensures.sound)); few = omega (arith, c.in-Ok.ensures.ticked, c.requires.few) }
+    record { good = c.requires.good; at_unit = c.in-Ok.ensures.at_unit; empty = c.requires.empty; reached = ((g.R.ReadLeaves.rules.to_units c.args.begun ++ g.R.ReadLeaves.rules.to_units c.args.units.now), (octets_start g.R.ReadLeaves.rules c.keep_laws.ensures c.keep_feed_laws.ensures (g.K.InFragments.coding c.args.kind.now) c.keep_octet_laws.ensures g.R.ReadLeaves.ahead g.R.ReadLeaves.is_between _ (first_octets c.in-Ok.start.first) (g.R.ReadLeaves.rules.to_units c.args.begun ++ g.R.ReadLeaves.rules.to_units c.args.units.now) (g.R.ReadLeaves.rules.to_units c.feed_leaf.new.units) c.in-Ok.ensures.done refl c.in_ok-elements-in-Ok.ensures.items c.none.ensures c.in-Ok.ensures.sound)); few = omega (arith, c.in-Ok.ensures.ticked, c.requires.few) }
 
-pub returns-in-Ok-clause-done : goal.returns-in-Ok-clause-done
-returns-in-Ok-clause-done g c =
-    IfOk-weaker c.end_octets.result _ _ (λ os s. s (g.R.ReadLeaves.rules.to_units c.args.begun ++ g.R.ReadLeaves.rules.to_units c.args.units.now) (octets_start g.R.ReadLeaves.rules c.keep_laws.ensures c.keep_feed_laws.ensures (g.K.InFragments.coding c.args.kind.now) c.keep_octet_laws.ensures g.R.ReadLeaves.ahead g.R.ReadLeaves.is_between _ (g.R.ReadLeaves.rules.to_units c.args.begun ++ g.R.ReadLeaves.rules.to_units c.args.units.now) (g.R.ReadLeaves.rules.to_units c.feed_leaf.new.units) c.in-Ok.ensures.done refl c.new.ensures.items c.none.ensures c.in-Ok.ensures.sound)) c.end_octets.ensures.done
+pub returns-in_ok-elements-in-Ok-clause-done : goal.returns-in_ok-elements-in-Ok-clause-done
+returns-in_ok-elements-in-Ok-clause-done g c =
+    IfOk-weaker c.end_octets.result _ _ (λ os s. s (g.R.ReadLeaves.rules.to_units c.args.begun ++ g.R.ReadLeaves.rules.to_units c.args.units.now) (octets_start g.R.ReadLeaves.rules c.keep_laws.ensures c.keep_feed_laws.ensures (g.K.InFragments.coding c.args.kind.now) c.keep_octet_laws.ensures g.R.ReadLeaves.ahead g.R.ReadLeaves.is_between _ (first_octets c.in-Ok.start.first) (g.R.ReadLeaves.rules.to_units c.args.begun ++ g.R.ReadLeaves.rules.to_units c.args.units.now) (g.R.ReadLeaves.rules.to_units c.feed_leaf.new.units) c.in-Ok.ensures.done refl c.in_ok-elements-in-Ok.ensures.items c.none.ensures c.in-Ok.ensures.sound)) c.end_octets.ensures.done
 
-pub returns-in-Ok-clause-stop : goal.returns-in-Ok-clause-stop
-returns-in-Ok-clause-stop g c =
-    IfErr-weaker c.end_octets.result _ _ (λ why s. s (g.R.ReadLeaves.rules.to_units c.args.begun ++ g.R.ReadLeaves.rules.to_units c.args.units.now) (octets_start g.R.ReadLeaves.rules c.keep_laws.ensures c.keep_feed_laws.ensures (g.K.InFragments.coding c.args.kind.now) c.keep_octet_laws.ensures g.R.ReadLeaves.ahead g.R.ReadLeaves.is_between _ (g.R.ReadLeaves.rules.to_units c.args.begun ++ g.R.ReadLeaves.rules.to_units c.args.units.now) (g.R.ReadLeaves.rules.to_units c.feed_leaf.new.units) c.in-Ok.ensures.done refl c.new.ensures.items c.none.ensures c.in-Ok.ensures.sound)) c.end_octets.ensures.stop
+pub returns-in_ok-elements-in-Ok-clause-stop : goal.returns-in_ok-elements-in-Ok-clause-stop
+returns-in_ok-elements-in-Ok-clause-stop g c =
+    IfErr-weaker c.end_octets.result _ _ (λ why s. s (g.R.ReadLeaves.rules.to_units c.args.begun ++ g.R.ReadLeaves.rules.to_units c.args.units.now) (octets_start g.R.ReadLeaves.rules c.keep_laws.ensures c.keep_feed_laws.ensures (g.K.InFragments.coding c.args.kind.now) c.keep_octet_laws.ensures g.R.ReadLeaves.ahead g.R.ReadLeaves.is_between _ (first_octets c.in-Ok.start.first) (g.R.ReadLeaves.rules.to_units c.args.begun ++ g.R.ReadLeaves.rules.to_units c.args.units.now) (g.R.ReadLeaves.rules.to_units c.feed_leaf.new.units) c.in-Ok.ensures.done refl c.in_ok-elements-in-Ok.ensures.items c.none.ensures c.in-Ok.ensures.sound)) c.end_octets.ensures.stop
 
-pub returns-in-Ok-clause-kept : goal.returns-in-Ok-clause-kept
-returns-in-Ok-clause-kept g c =
-    IfErr-weaker c.end_octets.result _ _ (λ why s. s (g.R.ReadLeaves.rules.to_units c.args.begun ++ g.R.ReadLeaves.rules.to_units c.args.units.now) (octets_start g.R.ReadLeaves.rules c.keep_laws.ensures c.keep_feed_laws.ensures (g.K.InFragments.coding c.args.kind.now) c.keep_octet_laws.ensures g.R.ReadLeaves.ahead g.R.ReadLeaves.is_between _ (g.R.ReadLeaves.rules.to_units c.args.begun ++ g.R.ReadLeaves.rules.to_units c.args.units.now) (g.R.ReadLeaves.rules.to_units c.feed_leaf.new.units) c.in-Ok.ensures.done refl c.new.ensures.items c.none.ensures c.in-Ok.ensures.sound)) c.end_octets.ensures.kept
+pub returns-in_ok-elements-in-Ok-clause-kept : goal.returns-in_ok-elements-in-Ok-clause-kept
+returns-in_ok-elements-in-Ok-clause-kept g c =
+    IfErr-weaker c.end_octets.result _ _ (λ why s. s (g.R.ReadLeaves.rules.to_units c.args.begun ++ g.R.ReadLeaves.rules.to_units c.args.units.now) (octets_start g.R.ReadLeaves.rules c.keep_laws.ensures c.keep_feed_laws.ensures (g.K.InFragments.coding c.args.kind.now) c.keep_octet_laws.ensures g.R.ReadLeaves.ahead g.R.ReadLeaves.is_between _ (first_octets c.in-Ok.start.first) (g.R.ReadLeaves.rules.to_units c.args.begun ++ g.R.ReadLeaves.rules.to_units c.args.units.now) (g.R.ReadLeaves.rules.to_units c.feed_leaf.new.units) c.in-Ok.ensures.done refl c.in_ok-elements-in-Ok.ensures.items c.none.ensures c.in-Ok.ensures.sound)) c.end_octets.ensures.kept
 
 pub returns-in-Ok-put-clause-stop : goal.returns-in-Ok-put-clause-stop
 returns-in-Ok-put-clause-stop g c =

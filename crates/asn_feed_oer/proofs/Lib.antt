@@ -1,0 +1,10 @@
+pub mod BitItems
+pub mod Bits
+pub mod Brief
+pub mod Coarser
+pub mod Counts
+pub mod FeedLaws
+pub mod Scalars
+pub mod Starts
+pub mod Strings
+pub mod Units

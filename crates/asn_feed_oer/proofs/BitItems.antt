@@ -1,52 +1,42 @@
 -- BIT STRING in OER as the octets that it has.
-use Rattle.std.proofs.Common.{◌≡◌, ◌≤◌, ◌<◌, ◌+◌, ◌-◌, ◌*◌, ◌/◌, ℕ, suc, Bool, true, false, List, [], ◌∷◌, ◌++◌, None, length, IsUtf8, refl, sym, ap, subst, ◌∙◌, arith}
-use Rattle.std.specs.List.{AllByRecursion}
-use Rattle.asn_values.specs.Datum.{Datum, bit_list, octet_list, characters, unicode}
+use Rattle.std.proofs.Common.{◌≡◌, ◌≤◌, ◌-◌, ◌*◌, ℕ, Bool, true, false, List, [], ◌∷◌, ◌++◌, length, take, drop, get_or, refl, sym, ap, subst, ◌∙◌, arith}
+use Rattle.std.proofs.lemmas.List.{take_all}
+use Rattle.asn_values.specs.Datum.{bit_list}
 use Rattle.asn_values.specs.Fits.{FitsLength, max_len}
 use Rattle.asn_values.specs.Profile.{InProfile, is_fixed_size}
-use Rattle.asn_values.specs.Shape.{SizeRange, Alphabet, Shape, bit_string, octet_string, restricted, utf8_string}
-use Rattle.asn_bits.specs.Sets.{Between, InDigits}
+use Rattle.asn_values.specs.Shape.{SizeRange, bit_string}
+use Rattle.asn_bits.specs.Sets.{InDigits}
 use Rattle.asn_bits.proofs.Unions.{set_meets}
-use Rattle.asn_rules.specs.Chunks.{Chunk, open_field}
-use Rattle.asn_rules.specs.Fields.{OneOctet, OctetLength, OctetsAfterLength, octet_fields}
+use Rattle.asn_rules.specs.Chunks.{Chunk}
+use Rattle.asn_rules.specs.Fields.{OneOctet, OctetLength, octet_fields}
 use Rattle.asn_rules.specs.Filled.{filled_octets}
 use Rattle.asn_rules.specs.Forks.{Same}
-use Rattle.asn_rules.specs.Frames.{Frame}
-use Rattle.asn_rules.specs.Languages.{Spells, Refused, NoSpelling, Then, Map, Nothing, Row, Plain}
+use Rattle.asn_rules.specs.Languages.{Spells, Refused, Then, Map, Nothing, Row, Plain}
 use Rattle.asn_rules.specs.Laws.{AreOctets}
-use Rattle.asn_rules.specs.OctetStrings.{Character, BitsLength, UnusedBits, PackedBits, VariableBits, last_told}
-use Rattle.asn_rules.specs.Stops.{Stops}
+use Rattle.asn_rules.specs.OctetStrings.{BitsLength, UnusedBits, PackedBits, VariableBits, last_told}
 use Rattle.asn_rules.specs.declared.stop.Stop.{Stop}
 use Rattle.asn_rules.specs.declared.stop.Stop.TheVariants as stop
 use Rattle.asn_rules.proofs.Answer.Answers.{done_stays}
-use Rattle.asn_rules.proofs.Languages.Leads.{LeadsStops, Leads, leads_on, leads_map, leads_same, leads_second, stops_on, stops_by}
+use Rattle.asn_rules.proofs.Languages.Leads.{LeadsStops, Leads, leads_on, leads_map, leads_same, leads_second, stops_on}
 use Rattle.asn_rules.proofs.Languages.Spellings.{same_after}
 use Rattle.asn_rules.proofs.Languages.Parts.{map_source}
 use Rattle.asn_rules.proofs.Languages.Then.{Follows, Both, then_inhabited, then_splits}
-use Rattle.asn_rules.proofs.Numbers.OctetLengths.{length_spelled, length_lawful, one_octet_lawful, one_octet_inhabited, octets_itself}
+use Rattle.asn_rules.proofs.Numbers.OctetLengths.{length_spelled, length_lawful, octets_itself}
 use Rattle.asn_rules.proofs.Numbers.Sets.{set_lawful, set_inhabited}
 use Rattle.asn_rules.proofs.Octets.BitStrings.{short}
-use Rattle.asn_rules.proofs.Octets.Characters.{character_inhabited, row_front}
+use Rattle.asn_rules.proofs.Octets.Characters.{row_front}
 use Rattle.asn_rules.proofs.Octets.OctetFields.{octet_fields_part}
-use Rattle.asn_rules.proofs.Sealed.Fields.{open_octets}
-use Rattle.asn_walk.specs.Sizes.{Count}
-use Rattle.asn_walk_feed.specs.Octets.{OctetCoding, OctetsOf, OctetLaws}
-use Rattle.asn_walk_feed.specs.OpenFields.{FieldLaws, StopsAfter}
-use Rattle.asn_walk_feed.specs.Strings.{IsString, StringLaws}
+use Rattle.asn_walk_feed.specs.Octets.{OctetCoding, OctetsOf}
 use Rattle.asn_oer.specs.Oer.{oer_fields}
 use Rattle.asn_oer.specs.Reading.{ValuesOf}
 use Rattle.asn_oer.specs.Rules.{oer_ruling}
 use Rattle.asn_oer.specs.Walk.{oer_coding}
-use Rattle.asn_oer.proofs.Read.SizeCounts.{octets_lead}
-use Rattle.asn_oer.proofs.Read.TextReading.{text_leads}
-use Rattle.asn_oer.proofs.Read.Utf8Reading.{octets_stop, text_spells, no_text, utf8_leads}
 use Rattle.asn_oer.proofs.Types.BitLanguages.{bit_string_language}
 use Rattle.asn_oer.proofs.Types.LeftOut.{none_left_out}
-use Rattle.asn_feed_oer.specs.Fields.{InFront, any_octets, AfterUnused, bit_octets_of, items_of_size, oer_parts, AreBitsOf, AreNoBits, AreText, AreNoText, RefusedAtEnd}
-use Rattle.asn_feed_oer.proofs.Bits.{bits_coarser, bits_refused, some_bits}
-use Rattle.asn_feed_oer.proofs.Brief.{few_digits, few_more}
+use Rattle.asn_feed_oer.specs.Fields.{InFront, AfterUnused, bit_octets_of, AreBitsOf, AreNoBits, RefusedAtEnd}
+use Rattle.asn_feed_oer.proofs.PackedItems.{bits_coarser, bits_refused, some_bits}
 use Rattle.asn_feed_oer.proofs.Coarser.{Coarser, coarser_stops, coarser_then, coarser_map}
-use Rattle.asn_feed_oer.proofs.Starts.{any_laws, items_laws, bits_laws, counted_same, unspelt, sized_same, unused_told, Unused, unused_same}
+use Rattle.asn_feed_oer.proofs.Starts.{counted_same, unspelt, unused_told, Unused, unused_same}
 
 -- the octets of bits, where the size is fixed or not
 abbrev coding_at : SizeRange → Bool → OctetCoding
@@ -85,15 +75,19 @@ module _ (S : ℕ → Type 0) (small : (n : ℕ) → S n → n ≤ max_len) wher
   bits_follow : (l : ℕ) → Follows (UnusedOf l) (λ u. Bits l u)
   bits_follow l = record { follow = λ u cs h. some_bits (8 * (l - 1) - u) }
 
-  unused_follow : Follows Lengths UnusedAndBits
-  unused_follow = record {
+  -- some number of unused bits stands after a length
+  pub some_unused : Follows Lengths UnusedOf
+  some_unused = record {
     follow = λ l cs h.
         (let b = told l cs h in
         let u = 8 * (l - 1) - b.count in
         let same : b.count ≡ 8 * (l - 1) - u = omega (arith, b.same) in
         let is : UnusedBits S l u = record { few = omega (arith, b.same); left = omega arith; member = subst S same b.member } in
-        then_inhabited (set_inhabited (set_meets 256 1 u is (omega (arith, is.few)))) (bits_follow l));
+        set_inhabited (set_meets 256 1 u is (omega (arith, is.few))));
   }
+
+  unused_follow : Follows Lengths UnusedAndBits
+  unused_follow = record { follow = λ l cs h. then_inhabited (some_unused.follow l cs h) (bits_follow l) }
 
   pub filled_by : (l u : ℕ) → UnusedBits S l u → filled_octets (8 * (l - 1) - u) ≡ l - 1
   filled_by l u h = omega (arith, h.few, h.left)
@@ -215,17 +209,38 @@ module _ (s : SizeRange) (good : InProfile (bit_string s)) (e : is_fixed_size s 
   count_is : (u : ℕ) (fs us r : List ℕ) (w : UnusedRead (FitsLength s) (λ n h. h.0) u fs us r) → 8 * (w.l - 1) - u ≡ 8 * length fs - u
   count_is u fs us r w = omega (arith, w.count)
 
-  pub unused_filled : (os : List ℕ) (cs : List Chunk) → OctetsOf (bit_octets_of s) os cs
-      → (u : ℕ) × (fs : List ℕ) × (os ≡ u ∷ fs) × (u ≤ 8 * length fs) × (length fs ≡ filled_octets (8 * length fs - u))
-  unused_filled os cs h =
+  -- what the octets are to the program
+  pub record UnusedParts (os : List ℕ) : Type 0 where
+    pub unused : ℕ
+    pub filled : List ℕ
+    pub is : os ≡ unused ∷ filled
+    pub within : unused ≤ 8 * length filled
+    pub small : length filled ≤ 33554432
+    pub count : length filled ≡ filled_octets (8 * length filled - unused)
+    pub first : get_or os 0 0 ≡ unused
+    pub rest : take (length os - 1) (drop 1 os) ≡ filled
+
+  pub unused_parts : (os : List ℕ) (cs : List Chunk) → OctetsOf (bit_octets_of s) os cs → UnusedParts os
+  unused_parts os cs h =
       let k = (unused_same (FitsLength s)).to os cs (subst (λ (t : Bool). OctetsOf (coding_at s t) os cs) e h) in
       let l = k.source.0 in
       let u = k.source.1.0 in
       let fs = k.source.1.1 in
       let m : UnusedBits (FitsLength s) l u = k.spelt.follows.spelt.spelt.member in
+      let b : BitsLength (FitsLength s) l = told (FitsLength s) (λ n h. h.0) l k.spelt.first k.spelt.spelt in
       let c : length fs ≡ l - 1 = ((octets_itself (l - 1)).to fs k.spelt.follows.second k.spelt.follows.follows).fits.0 in
       let n : 8 * (l - 1) - u ≡ 8 * length fs - u = omega (arith, c) in
-      (u, fs, k.seen, omega (arith, m.left, c), c ∙ sym (filled_by (FitsLength s) (λ n h. h.0) l u m) ∙ ap filled_octets n)
+      let is : os ≡ u ∷ fs = k.seen in
+      record {
+        unused = u;
+        filled = fs;
+        is = is;
+        within = omega (arith, m.left, c);
+        small = omega (arith, c, b.same, b.member.0);
+        count = c ∙ sym (filled_by (FitsLength s) (λ n h. h.0) l u m) ∙ ap filled_octets n;
+        first = ap (λ (xs : List ℕ). get_or xs 0 0) is;
+        rest = ap (λ (xs : List ℕ). take (length xs - 1) (drop 1 xs)) is ∙ take_all (length (u ∷ fs) - 1) fs (omega arith);
+      }
 
   pub unused_bits_are : (u : ℕ) (fs : List ℕ) (bs : List Bool) → Spells octet_fields (PackedBits (8 * length fs - u)) bs fs [] → AreBitsOf s (u ∷ fs) (bit_list bs)
   unfolding oer_coding oer_ruling

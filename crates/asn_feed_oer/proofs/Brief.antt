@@ -1,5 +1,5 @@
 -- Parts of at most sixteen octets are brief: fifteen of them are 120 bits.
-use Rattle.std.proofs.Common.{◌≡◌, ◌≤◌, ◌<◌, ◌+◌, ◌*◌, ◌%◌, ◌⊎◌, ℕ, List, [], ◌∷◌, ◌++◌, length, refl, sym, ap, subst, ◌∙◌, arith, length-append, append-nil}
+use Rattle.std.proofs.Common.{◌≡◌, ◌≤◌, ◌<◌, ◌+◌, ℕ, List, [], ◌∷◌, ◌++◌, length, sym, ap, subst, ◌∙◌, arith, length-append, append-nil}
 use Rattle.asn_bits.specs.Numbers.{packed}
 use Rattle.asn_bits.specs.Sets.{InDigits}
 use Rattle.asn_bits.proofs.FilledBits.{length-packed}

@@ -1,6 +1,6 @@
 -- Languages that admit more than another, whose readers yet stop where its readers do, but at their end: those of items
 -- that are judged once the last of them has come.
-use Rattle.std.proofs.Common.{◌≡◌, ◌⊎◌, ⊎_elim, ℕ, List, [], ◌∷◌, ◌++◌, refl, sym, subst}
+use Rattle.std.proofs.Common.{⊎_elim, ℕ, List, [], ◌∷◌, ◌++◌, refl, sym, subst}
 use Rattle.asn_rules.specs.Chunks.{Chunk}
 use Rattle.asn_rules.specs.Languages.{IsLive, NoSpelling, Short, Refused, Spells, Then, Map}
 use Rattle.asn_rules.specs.Live.{Fielding}

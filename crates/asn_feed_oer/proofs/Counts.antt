@@ -1,17 +1,16 @@
 -- What stands in front of other parts has few octets, and tells where it ends.
-use Rattle.std.proofs.Common.{◌≡◌, ◌≤◌, ◌<◌, ◌+◌, ◌*◌, ◌^◌, ◌⊎◌, ⊎_elim, inl, inr, ℕ, zero, suc, Bool, true, false, List, [], ◌∷◌, ◌++◌, length, Option, Some, None, is_some, refl, sym, ap, subst, ◌∙◌, arith, length-append}
-use Rattle.asn_values.specs.Fits.{FitsLength, max_len}
+use Rattle.std.proofs.Common.{◌≡◌, ◌≤◌, ◌<◌, ◌+◌, ◌⊎◌, ⊎_elim, inl, inr, ℕ, suc, Bool, true, false, List, [], ◌∷◌, ◌++◌, length, Option, Some, is_some, ap, ◌∙◌, arith, length-append}
+use Rattle.asn_values.specs.Fits.{FitsLength}
 use Rattle.asn_values.specs.Profile.{is_fixed_size}
 use Rattle.asn_values.specs.Shape.{SizeRange}
 use Rattle.asn_bits.specs.Lengths.{octet_length}
-use Rattle.asn_bits.specs.Numbers.{bits, octets, octet_count, padding, packed}
+use Rattle.asn_bits.specs.Numbers.{bits, octet_count, padding}
 use Rattle.asn_bits.specs.Sets.{InSet}
 use Rattle.asn_bits.proofs.FilledBits.{filled_up, filled_up_fills, length-packed, length-padding}
 use Rattle.asn_bits.proofs.LengthsInOctets.{length_cases}
 use Rattle.asn_bits.proofs.Octets.{length-digits, octet_count_below}
 use Rattle.asn_rules.specs.Chunks.{Chunk, one, ones}
 use Rattle.asn_rules.specs.Components.{extension_bit}
-use Rattle.asn_rules.specs.Counted.{Least}
 use Rattle.asn_rules.specs.Fields.{OctetLength}
 use Rattle.asn_rules.specs.Filled.{filled_bits, filled_octets}
 use Rattle.asn_rules.specs.Forks.{Branch, Fork}
@@ -22,8 +21,7 @@ use Rattle.asn_rules.proofs.Law.Entries.{few_extension}
 use Rattle.asn_rules.proofs.Numbers.OctetLengths.{length_spelled, length_lawful}
 use Rattle.asn_rules.proofs.Languages.Parts.{nothing_lawful}
 use Rattle.asn_walk.specs.Ahead.{Ahead, items, lengths, end}
-use Rattle.asn_walk.specs.Coding.{PreambleOf, AdditionBitmapOf, IsIndexWithin, AreFew, IndexOf}
-use Rattle.asn_walk.specs.Laws.{IsSizeOfProfile}
+use Rattle.asn_walk.specs.Coding.{PreambleOf, AdditionBitmapOf, AreFew, IndexOf}
 use Rattle.asn_walk.specs.Sizes.{Count}
 use Rattle.asn_walk_feed.specs.Feeding.{NextOf}
 use Rattle.asn_oer.specs.Constructed.{Quantity}

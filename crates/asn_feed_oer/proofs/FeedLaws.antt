@@ -1,14 +1,11 @@
 -- The parts of few octets keep the laws of the walk that reads in pieces.
-use Rattle.std.proofs.Common.{◌≡◌, ◌≤◌, ◌+◌, ◌%◌, ℕ, true, List, [], length, Option, Some, None, refl, sym, subst, arith}
+use Rattle.std.proofs.Common.{◌≡◌, ◌+◌, ◌%◌, ℕ, true, List, [], length, Some, None, refl}
 use Rattle.asn_values.specs.Datum.{Datum}
 use Rattle.asn_values.specs.Profile.{InProfile, good_default}
-use Rattle.asn_values.specs.Shape.{SizeRange, Shape}
+use Rattle.asn_values.specs.Shape.{Shape}
 use Rattle.asn_rules.specs.Languages.{Short}
 use Rattle.asn_rules.specs.Listed.{Spelt}
 use Rattle.asn_rules.specs.Padding.{Fixed}
-use Rattle.asn_walk.specs.Ahead.{Ahead}
-use Rattle.asn_walk.specs.Coding.{PreambleOf, AdditionBitmapOf, AreFew, IndexOf}
-use Rattle.asn_walk.specs.Laws.{IsSizeOfProfile}
 use Rattle.asn_walk_feed.specs.Feeding.{IsBrief, IsScalar, FeedLaws}
 use Rattle.asn_oer.specs.Rules.{oer_ruling}
 use Rattle.asn_oer.specs.Walk.{oer_coding}

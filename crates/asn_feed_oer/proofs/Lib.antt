@@ -1,10 +1,12 @@
 pub mod BitItems
-pub mod Bits
+pub mod BitStart
 pub mod Brief
 pub mod Coarser
 pub mod Counts
 pub mod FeedLaws
+pub mod PackedAgain
+pub mod PackedItems
 pub mod Scalars
 pub mod Starts
-pub mod Strings
+pub mod StringItems
 pub mod Units

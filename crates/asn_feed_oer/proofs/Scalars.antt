@@ -1,5 +1,5 @@
 -- The spellings of BOOLEAN, NULL, INTEGER and ENUMERATED have at most nine octets.
-use Rattle.std.proofs.Common.{◌≡◌, ◌≤◌, ◌<◌, ◌+◌, ◌-◌, ◌^◌, ℕ, ℤ, pos, negsuc, Bool, true, false, List, [], ◌∷◌, ◌++◌, length, Option, Some, None, inl, inr, refl, sym, ap, subst, ◌∙◌, arith, length-append}
+use Rattle.std.proofs.Common.{◌≡◌, ◌≤◌, ◌<◌, ◌+◌, ◌-◌, ◌^◌, ℕ, ℤ, pos, negsuc, Bool, true, false, List, [], ◌∷◌, ◌++◌, length, Option, Some, None, inl, inr, refl, sym, ap, subst, ◌∙◌, arith}
 use Rattle.std.proofs.lemmas.Bool.{true≢false}
 use Rattle.asn_values.specs.Datum.{Datum, truth, number, item}
 use Rattle.asn_values.specs.Fits.{Fits, FitsNumber}
@@ -8,12 +8,11 @@ use Rattle.asn_values.specs.Shape.{Range, Shape, boolean, null, integer, enumera
 use Rattle.asn_bits.specs.Numbers.{octets, octet_count, least, least_signed, signed_octets, signed_octet_count, magnitude}
 use Rattle.asn_bits.proofs.LengthsInOctets.{small_is}
 use Rattle.asn_bits.proofs.Octets.{length-digits, octet_count_below, length-least_signed, signed_count_below}
-use Rattle.asn_rules.specs.Chunks.{Chunk, one, ones}
+use Rattle.asn_rules.specs.Chunks.{Chunk, ones}
 use Rattle.asn_rules.specs.Components.{number_at}
 use Rattle.asn_rules.specs.Fields.{spelled}
 use Rattle.asn_rules.specs.IntegerSets.{magnitude_of}
 use Rattle.asn_rules.specs.Listed.{Spelt}
-use Rattle.asn_rules.specs.Spellings.{SpelledBy}
 use Rattle.asn_rules.proofs.Law.Items.{good_items}
 use Rattle.asn_walk.proofs.ItemNumbers.{number_is_small}
 use Rattle.asn_walk_feed.specs.Feeding.{IsScalar}

@@ -1,17 +1,19 @@
 -- What stands before octets and items in OER keeps the laws of octets in fragments, and with what follows it is what the
 -- definition of OER has.
-use Rattle.std.proofs.Common.{◌≡◌, ◌≤◌, ◌<◌, ◌+◌, ◌-◌, ◌*◌, ◌/◌, ℕ, suc, Bool, true, false, List, [], ◌∷◌, ◌++◌, Some, length, refl, sym, ap, subst, ◌∙◌, arith, append_assoc}
+use Rattle.std.proofs.Common.{◌≡◌, ◌≤◌, ◌<◌, ◌-◌, inl, inr, ℕ, Bool, true, false, List, [], ◌∷◌, ◌++◌, refl, sym, ap, subst, ◌∙◌, arith, append_assoc}
 use Rattle.asn_values.specs.Fits.{FitsLength, max_len}
 use Rattle.asn_values.specs.Profile.{is_fixed_size}
 use Rattle.asn_values.specs.Shape.{SizeRange}
-use Rattle.asn_bits.specs.Sets.{Between, InDigits}
+use Rattle.asn_bits.specs.Sets.{Between, InDigits, Among}
 use Rattle.asn_rules.specs.Chunks.{Chunk}
-use Rattle.asn_rules.specs.Fields.{OneOctet, OctetLength, octets_told}
+use Rattle.asn_rules.specs.Fields.{OneOctet, OctetLength, octets_told, octet_fields}
 use Rattle.asn_rules.specs.Filled.{filled_octets}
 use Rattle.asn_rules.specs.Forks.{Same}
 use Rattle.asn_rules.specs.Languages.{Lawful, Inhabited, Then, Map, Nothing, Row, Plain}
 use Rattle.asn_rules.specs.OctetStrings.{BitsLength, UnusedBits}
+use Rattle.asn_rules.specs.OctetReading.{OctetsAmong}
 use Rattle.asn_rules.proofs.Languages.Forks.{map_lawful_on}
+use Rattle.asn_rules.proofs.Languages.Leads.{Leads, leads_on, leads_map, leads_same}
 use Rattle.asn_rules.proofs.Languages.Parts.{map_lawful, nothing_lawful}
 use Rattle.asn_rules.proofs.Languages.Then.{then_lawful}
 use Rattle.asn_rules.proofs.Numbers.OctetLengths.{length_spelled, length_lawful, one_octet_lawful, one_octet_inhabited}
@@ -19,10 +21,10 @@ use Rattle.asn_rules.proofs.Numbers.Sets.{set_lawful}
 use Rattle.asn_rules.proofs.Octets.BitStrings.{short}
 use Rattle.asn_walk.specs.Ahead.{Ahead, items, Remaining, SomeAhead}
 use Rattle.asn_walk.specs.Sizes.{Count}
-use Rattle.asn_walk_feed.specs.Octets.{OctetCoding, no_first, OctetsOf, OctetLaws}
+use Rattle.asn_walk_feed.specs.Octets.{no_first, OctetsOf, OctetLaws}
 use Rattle.asn_oer.specs.Walk.{oer_coding}
 use Rattle.asn_oer.specs.Strings.{ItemsAfterLength, Sized}
-use Rattle.asn_feed_oer.specs.Fields.{InFront, any_octets, unused_first, AfterUnused, BitsStart, bit_octets_of, items_of_size}
+use Rattle.asn_feed_oer.specs.Fields.{InFront, any_octets, unused_first, AfterUnused, bit_octets_of, items_of_size}
 use Rattle.asn_feed_oer.proofs.Brief.{HasFew, few_map, few_then, few_more, few_nothing, few_digits, few_brief}
 use Rattle.asn_feed_oer.proofs.Counts.{octet_length_few, count_few, count_lawful}
 
@@ -90,6 +92,28 @@ bits_laws s = go (is_fixed_size s)
     go : (t : Bool) → OctetLaws oer_coding (record { start = elim t [ true ↦ InFront (Nothing (filled_octets s.low)) | false ↦ AfterUnused (FitsLength s) ]; octet = OneOctet })
     go true = counted_laws (Nothing (filled_octets s.low)) OneOctet (nothing_lawful (filled_octets s.low)) (few_more 0 5 (omega arith) (few_nothing (filled_octets s.low))) one_octet_lawful one_octet_inhabited octet_few
     go false = unused_laws (FitsLength s) (λ n h. h.0)
+
+-- ---- how they are read
+
+-- a count in front
+pub front_leads : (C : ℕ → List Chunk → Type 0) (us : List ℕ) → Leads octet_fields C us (λ n. ([], items n)) (InFront C) us
+front_leads C us = leads_on (leads_map octet_fields items C us) (leads_map octet_fields no_first (Map items C) us)
+
+-- an octet of these intervals
+pub octets_among : {S : ℕ → Type 0} (is : List (ℕ × ℕ)) (us : List ℕ) → ((n : ℕ) → Among is n → S n) → ((n : ℕ) → S n → Among is n)
+    → Leads octet_fields (OctetsAmong 1 is) us (λ n. n) (Plain (InDigits 256 1 S)) us
+octets_among is us there back = leads_same octet_fields us (record {
+  to = λ v cs h. record { units = h.units; spelt = record { digits = h.spelt.digits; member = there v h.spelt.member }; same = h.same };
+  from = λ v cs h. record { units = h.units; spelt = record { digits = h.spelt.digits; member = back v h.spelt.member }; same = h.same };
+})
+
+-- every octet is one of 0 to 255
+pub any_among : (n : ℕ) → (Among ((0, 255) ∷ []) n → n < 256) × (n < 256 → Among ((0, 255) ∷ []) n)
+any_among n = (there, λ h. inl (omega arith, omega (arith, h)))
+  where
+    there : Among ((0, 255) ∷ []) n → n < 256
+    there (inl h) = omega (arith, h.1)
+    there (inr h) = absurd h
 
 -- ---- what they are with the items
 

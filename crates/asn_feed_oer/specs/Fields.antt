@@ -1,7 +1,7 @@
 -- What stands before the octets of open type fields and the items of strings in Canonical OER (X.696), and an item:
 -- the parts that a reader of messages in pieces may be cut in.
-use Rattle.std.specs.Prelude.{◌≡◌, ◌-◌, ◌⊎◌, ℕ, true, false, List, [], ◌∷◌, length, ⊤}
-use Rattle.asn_values.specs.Datum.{Datum, bit_list, unicode}
+use Rattle.std.specs.Prelude.{◌≡◌, ◌-◌, ℕ, true, false, List, [], ◌∷◌, ⊤}
+use Rattle.asn_values.specs.Datum.{Datum, unicode}
 use Rattle.asn_values.specs.Fits.{FitsLength, max_len}
 use Rattle.asn_values.specs.Profile.{is_fixed_size}
 use Rattle.asn_values.specs.Shape.{SizeRange, Shape, bit_string, octet_string, restricted, utf8_string}
@@ -15,7 +15,7 @@ use Rattle.asn_rules.specs.declared.stop.Stop.{Stop}
 use Rattle.asn_rules.specs.declared.stop.Stop.TheVariants as stop
 use Rattle.asn_walk.specs.Ahead.{Ahead, items}
 use Rattle.asn_walk.specs.Sizes.{Count}
-use Rattle.asn_walk_feed.specs.Octets.{OctetCoding, NoFirst, OctetsOf}
+use Rattle.asn_walk_feed.specs.Octets.{OctetCoding, NoFirst}
 use Rattle.asn_walk_feed.specs.OpenFields.{FieldCoding}
 use Rattle.asn_walk_feed.specs.Strings.{IsStringOf, IsNoString}
 use Rattle.asn_oer.specs.Walk.{oer_coding}

@@ -1,7 +1,9 @@
 //! BIT STRING in octets that may come in pieces (X.696, "encoding of bit string types").
-ghost use Rattle.std.specs.Prelude.{◌≡◌, ◌×◌, IfOk, IfErr, OnOk, List, length, []};
+ghost use Rattle.std.specs.Prelude.{◌≡◌, IfOk, IfErr, OnOk, List, length, []};
 ghost use Rattle.std.specs.List.{AllByRecursion};
 ghost use Rattle.asn_values.specs.Datum.{bit_list};
+ghost use Rattle.asn_values.specs.Profile.{InProfile};
+ghost use Rattle.asn_values.specs.Shape.{bit_string};
 ghost use Rattle.asn_values.specs.View.{size_range_of};
 ghost use Rattle.asn_rules.specs.Chunks.{Chunk};
 ghost use Rattle.asn_rules.specs.Fields.{octet_fields};
@@ -18,6 +20,7 @@ ghost use Rattle.asn_feed_oer.specs.Fields.{BitsStart, bit_octets_of, AreBitsOf,
 use asn_bits::BitCursor;
 use asn_rules::Why;
 use asn_rules::internal::{NumberSet, Stop, read_length, read_octets, read_packed};
+use asn_rules::laws::are_octets;
 use asn_values::Size;
 use asn_walk::sizes::{counts_of, is_fixed};
 use asn_walk_feed::ItemsStart;
@@ -71,7 +74,7 @@ pub(crate) fn bits_of(
     octets: &[u8],
     left: u128,
 ) -> Result<Vec<bool>, Stop>
-    requires of_profile { IsSizeOfProfile (size_range_of size.now) }
+    requires of_profile { InProfile (bit_string (size_range_of size.now)) }
     requires spelt { (cs : List Chunk) × OctetsOf (bit_octets_of (size_range_of size.now)) octets.now cs }
     ensures done { IfOk result (λ bs. AreBitsOf (size_range_of size.now) octets.now (bit_list bs.items)) }
     ensures stop { IfErr result (λ why. AreNoBits (size_range_of size.now) octets.now left why) }
@@ -86,16 +89,12 @@ pub(crate) fn bits_of(
 }
 
 /// The `count` bits that fill these octets, after which this many units are left.
-fn packed_bits(
-    alloc: Global,
-    count: usize,
-    octets: &[u8],
-    left: u128,
-) -> Result<Vec<bool>, Stop>
+fn packed_bits(alloc: Global, count: usize, octets: &[u8], left: u128) -> Result<Vec<bool>, Stop>
     requires filled { length octets.now ≡ filled_octets count }
     ensures done { IfOk result (λ bs. Spells octet_fields (PackedBits count) bs.items octets.now []) }
     ensures stop { IfErr result (λ why. RefusedAtEnd count octets.now left why) }
 {
+    are_octets(octets);
     let mut units = BitCursor::over(octets);
     let no_bits = Stop::Refused {
         left,

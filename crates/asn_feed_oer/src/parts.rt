@@ -29,10 +29,10 @@ pub(crate) fn start_any(units: &mut BitCursor<'_>) -> Result<ItemsStart<Option<u
     ensures done { IfOk result (λ s. ReadsOctets any_octets.start (start_seen ahead_of s) units.old units.new) }
     ensures stop { IfErr result (λ why. StopsAtOctets any_octets.start units.old why) }
 {
-    let count = read_length(0, MAX_OCTETS as u64, units)? as usize;
+    let count = read_length(0, MAX_OCTETS as u64, units)?;
     Ok(ItemsStart {
         first: None,
-        fragments: Some(count),
+        fragments: Some(count as usize),
     })
 }
 

@@ -1,5 +1,5 @@
 -- Bits that fill octets, of which any octets of that count are judged at the end of the last one.
-use Rattle.std.proofs.Common.{◌≡◌, ◌≤◌, ◌<◌, ◌+◌, ◌-◌, ◌*◌, ◌/◌, ◌%◌, ◌^◌, ℕ, zero, suc, Bool, false, List, [], ◌∷◌, ◌++◌, length, map, refl, sym, ap, subst, ◌∙◌, arith, length-append, append-nil, append_assoc}
+use Rattle.std.proofs.Common.{◌≡◌, ◌<◌, ◌+◌, ◌-◌, ◌*◌, ◌/◌, ◌%◌, ◌^◌, ℕ, zero, suc, Bool, false, List, [], ◌∷◌, ◌++◌, length, map, refl, sym, ap, subst, ◌∙◌, arith, length-append, append-nil, append_assoc}
 use Rattle.std.specs.Prelude.{replicate}
 use Rattle.std.proofs.Math.Nat.{mul-mod_left}
 use Rattle.std.proofs.lemmas.List.{length-map, length-replicate}
@@ -14,7 +14,7 @@ use Rattle.asn_rules.specs.Fields.{OneOctet, octet_fields}
 use Rattle.asn_rules.specs.Filled.{filled_bits, filled_octets}
 use Rattle.asn_rules.specs.Forks.{Same}
 use Rattle.asn_rules.specs.Laws.{AreOctets}
-use Rattle.asn_rules.specs.Languages.{Inhabited, IsFront, IsLive, NoSpelling, Short, Refused, Spells, Then, Map, Row}
+use Rattle.asn_rules.specs.Languages.{Inhabited, IsFront, IsLive, NoSpelling, Short, Refused, Spells, Row}
 use Rattle.asn_rules.specs.Live.{Fielding}
 use Rattle.asn_rules.specs.OctetStrings.{EndOctet, PackedBits, bits_told}
 use Rattle.asn_rules.specs.Spellings.{SpelledBy}
@@ -66,7 +66,7 @@ ends_in x (y ∷ xs) = (let w = ends_in y xs in (x ∷ w.0, w.1, ap (λ (l : Lis
 -- ---- bits that fill octets
 
 -- what bits fill has as many octets
-filled_count : (us : List ℕ) → length (filled_bits us) ≡ filled_octets (length us)
+pub filled_count : (us : List ℕ) → length (filled_bits us) ≡ filled_octets (length us)
 filled_count us = omega (arith, length-packed (filled_up us) (filled_up_fills us), length-append us (padding (length us)), length-padding (length us))
 
 module _ (n : ℕ) where

@@ -1,35 +1,24 @@
 -- Strings of OER as the items that they have.
-use Rattle.std.proofs.Common.{◌≡◌, ◌≤◌, ◌<◌, ◌+◌, ◌-◌, ◌*◌, ◌/◌, ℕ, suc, Bool, true, false, List, [], ◌∷◌, ◌++◌, None, length, IsUtf8, refl, sym, ap, subst, ◌∙◌, arith}
-use Rattle.std.specs.List.{AllByRecursion}
-use Rattle.asn_values.specs.Datum.{Datum, bit_list, octet_list, characters, unicode}
-use Rattle.asn_values.specs.Fits.{FitsLength, max_len}
-use Rattle.asn_values.specs.Profile.{InProfile, is_fixed_size}
+use Rattle.std.proofs.Common.{ℕ, List, length, IsUtf8, refl, sym, subst, ◌∙◌, arith}
+use Rattle.asn_values.specs.Datum.{octet_list, characters, unicode}
+use Rattle.asn_values.specs.Fits.{max_len}
+use Rattle.asn_values.specs.Profile.{InProfile}
 use Rattle.asn_values.specs.Shape.{SizeRange, Alphabet, Shape, bit_string, octet_string, restricted, utf8_string}
-use Rattle.asn_bits.specs.Sets.{Between, InDigits}
-use Rattle.asn_bits.proofs.Unions.{set_meets}
-use Rattle.asn_rules.specs.Chunks.{Chunk, open_field}
+use Rattle.asn_bits.specs.Sets.{Between}
 use Rattle.asn_rules.specs.Fields.{OneOctet, OctetLength, OctetsAfterLength, octet_fields}
-use Rattle.asn_rules.specs.Filled.{filled_octets}
 use Rattle.asn_rules.specs.Forks.{Same}
-use Rattle.asn_rules.specs.Frames.{Frame}
-use Rattle.asn_rules.specs.Languages.{Spells, Refused, NoSpelling, Then, Map, Nothing, Row, Plain}
-use Rattle.asn_rules.specs.Laws.{AreOctets}
-use Rattle.asn_rules.specs.OctetStrings.{Character, BitsLength, UnusedBits, PackedBits, VariableBits, last_told}
-use Rattle.asn_rules.specs.Stops.{Stops}
+use Rattle.asn_rules.specs.Languages.{Refused}
+use Rattle.asn_rules.specs.OctetStrings.{Character}
 use Rattle.asn_rules.specs.declared.stop.Stop.{Stop}
 use Rattle.asn_rules.specs.declared.stop.Stop.TheVariants as stop
-use Rattle.asn_rules.proofs.Answer.Answers.{done_stays}
-use Rattle.asn_rules.proofs.Languages.Leads.{LeadsStops, Leads, leads_on, leads_map, leads_same, leads_second, stops_on, stops_by}
+use Rattle.asn_rules.proofs.Languages.Leads.{LeadsStops, Leads, leads_on, leads_same, stops_on, stops_by}
 use Rattle.asn_rules.proofs.Languages.Spellings.{same_after}
-use Rattle.asn_rules.proofs.Languages.Then.{Follows, then_inhabited}
-use Rattle.asn_rules.proofs.Numbers.OctetLengths.{length_spelled, length_lawful, one_octet_lawful, one_octet_inhabited, octets_itself}
-use Rattle.asn_rules.proofs.Numbers.Sets.{set_lawful, set_inhabited}
-use Rattle.asn_rules.proofs.Octets.BitStrings.{short}
-use Rattle.asn_rules.proofs.Octets.Characters.{character_inhabited, row_front}
-use Rattle.asn_rules.proofs.Octets.OctetFields.{octet_fields_part}
+use Rattle.asn_rules.proofs.Numbers.OctetLengths.{one_octet_lawful, one_octet_inhabited}
+use Rattle.asn_rules.proofs.Numbers.Sets.{set_lawful}
+use Rattle.asn_rules.proofs.Octets.Characters.{character_inhabited}
 use Rattle.asn_rules.proofs.Sealed.Fields.{open_octets}
 use Rattle.asn_walk.specs.Sizes.{Count}
-use Rattle.asn_walk_feed.specs.Octets.{OctetCoding, OctetsOf, OctetLaws}
+use Rattle.asn_walk_feed.specs.Octets.{OctetsOf, OctetLaws}
 use Rattle.asn_walk_feed.specs.OpenFields.{FieldLaws, StopsAfter}
 use Rattle.asn_walk_feed.specs.Strings.{IsString, StringLaws}
 use Rattle.asn_oer.specs.Oer.{oer_fields}
@@ -39,13 +28,10 @@ use Rattle.asn_oer.specs.Walk.{oer_coding}
 use Rattle.asn_oer.proofs.Read.SizeCounts.{octets_lead}
 use Rattle.asn_oer.proofs.Read.TextReading.{text_leads}
 use Rattle.asn_oer.proofs.Read.Utf8Reading.{octets_stop, text_spells, no_text, utf8_leads}
-use Rattle.asn_oer.proofs.Types.BitLanguages.{bit_string_language}
-use Rattle.asn_oer.proofs.Types.LeftOut.{none_left_out}
-use Rattle.asn_feed_oer.specs.Fields.{InFront, any_octets, AfterUnused, bit_octets_of, items_of_size, oer_parts, AreBitsOf, AreNoBits, AreText, AreNoText, RefusedAtEnd}
+use Rattle.asn_feed_oer.specs.Fields.{any_octets, items_of_size, oer_parts, AreText, AreNoText}
 use Rattle.asn_feed_oer.proofs.BitItems.{bits_stop}
 use Rattle.asn_feed_oer.proofs.Brief.{few_digits, few_more}
-use Rattle.asn_feed_oer.proofs.Coarser.{Coarser, coarser_stops, coarser_then, coarser_map}
-use Rattle.asn_feed_oer.proofs.Starts.{any_laws, items_laws, bits_laws, counted_same, unspelt, sized_same, unused_told, Unused, unused_same}
+use Rattle.asn_feed_oer.proofs.Starts.{any_laws, items_laws, bits_laws, counted_same, sized_same}
 
 -- ---- OCTET STRING and restricted character strings
 

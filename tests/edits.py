@@ -40,11 +40,11 @@ import importlib.util
 import os
 import re
 import shutil
+import signal
 import subprocess
 import sys
 import tempfile
 import threading
-import time
 from concurrent.futures import ThreadPoolExecutor
 
 sys.dont_write_bytecode = True
@@ -298,6 +298,10 @@ pub {name}_spec : {{M : Type 1}} → statement M
 """
 
 
+# the mark of a cycle of functions (a cycle of types keeps its mark)
+CYCLE = re.compile(r"#\[cycle\((\w+)\)\](?!(?:\s*(?:#\[[^\]]*\]|//[^\n]*\n))*\s*(?:pub(?:\([^)]*\))?\s+)?(?:struct|enum)\b)")
+
+
 def put_hole(crate, folder, home):
     """Puts a hole in the place of a function's proof."""
     at = f"{folder}/proofs/{home}"
@@ -309,9 +313,33 @@ def put_hole(crate, folder, home):
         it.write(HOLE.format(crate=crate.name, path=home.replace("/", "."), name=os.path.basename(home)))
 
 
+def has_goal(function, goal):
+    """Whether a goal of a cycle is one of this member: it begins with its name, and with its module where the cycle has several."""
+    return f"::{function}".endswith(f"::{goal.partition('-')[0]}")
+
+
+def leave_answers(file, own):
+    """In a cycle's answers to its goals, puts a hole in the place of each that is of no function of these."""
+    kept, name = [], None
+    for line in text_of(file).splitlines():
+        found = re.match(r"pub (\S+) : goal\.", line)
+        if found:
+            name, is_own, is_told = found[1], any(has_goal(it, found[1]) for it in own), False
+        elif not line or line.startswith(("use ", "abbrev ", "--")):
+            name = None
+        if name and not is_own and line.startswith(f"{name} "):
+            kept += [] if is_told else [f"{name} = ?"]
+            is_told = True
+        elif not name or is_own or not is_told:
+            kept.append(line)
+    with open(file, "w", encoding="utf-8") as it:
+        it.write("\n".join(kept) + "\n")
+
+
 def take_others_at_contracts(crate, folder, edits):
     """In a copy of the crate with these edits, gives each function that they do not change a hole for its proof and a body
-    of which nothing is left to check, so that its contract alone is read. A cycle with an edited member stays as it is."""
+    of which nothing is left to check, so that its contract alone is read. A cycle with an edited member stays as it is,
+    with holes in the place of the answers to goals of the other members."""
     own = {name for it in edits for name, _ in it.functions}
     cycles = {cycle.rpartition(" ")[2] for it in edits for _, cycle in it.functions if cycle}
     types = modules_of_types(crate.folder)
@@ -325,13 +353,16 @@ def take_others_at_contracts(crate, folder, edits):
             kept += [text[at:body], "{ unreachable!() }"]
             at = end
             put_hole(crate, folder, home_of(name, module_of(path), types))
-        text = re.sub(r"#\[cycle\((\w+)\)\]", lambda it: it[0] if it[1] in cycles else "", "".join(kept) + text[at:])
+        text = CYCLE.sub(lambda it: it[0] if it[1] in cycles else "", "".join(kept) + text[at:])
         with open(file, "w", encoding="utf-8") as it:
             it.write(text)
+    changed = {name for it in edits if it.pairs for name, _ in it.functions}
     for at, names, _ in os.walk(f"{folder}/proofs"):
         for name in [it for it in names if it[0] == "+" and it[1:] not in cycles | {it.rpartition("::")[2] for it in own}]:
             shutil.rmtree(f"{at}/{name}")
             names.remove(name)
+        for name in [it for it in names if it[0] == "+" and it[1:] in cycles and os.path.isfile(f"{at}/{it}/Answers.antt")]:
+            leave_answers(f"{at}/{name}/Answers.antt", changed)
 
 
 # ---- what a check says of a function
@@ -374,7 +405,7 @@ class Report:
         if verdict in ("proved", "no holes", "depends on a hole"):
             return None, "its function is proved"
         # (in a cycle a goal begins with its function, and with the module where the cycle is of several)
-        own = lambda goal: f"::{function}".endswith(f"::{goal.partition('-')[0]}") if in_cycle else bool(goal)
+        own = lambda goal: has_goal(function, goal) if in_cycle else bool(goal)
         folder = "proofs/" + path.partition("::")[2].replace("::", "/")
         # (a function that calls itself has its proof in +NAME)
         recursive = f"{os.path.dirname(folder)}/+{os.path.basename(folder)}"
@@ -398,16 +429,24 @@ class Report:
 
 
 def checked(crate, folder, flags, kept):
-    """Runs a check of the crate as it stands in the folder, over what is kept, within the limit of time."""
+    """Runs a check of the crate as it stands in the folder, over what is kept: what it says, nothing where it does not end
+    within the limit of time, and the seconds of a processor that it took."""
     words = [*rtlib.guarded(), rtlib.RATTLE, "check", *crate.words(["--jobs", "1", *flags], keeps=False), "--incremental", kept]
-    how = {"cwd": folder, "stdin": subprocess.DEVNULL, "stdout": subprocess.PIPE, "stderr": subprocess.STDOUT, "errors": "replace"}
-    return subprocess.run(words, timeout=LIMIT, **how)
+    how = {"cwd": folder, "stdin": subprocess.DEVNULL, "stdout": subprocess.PIPE, "stderr": subprocess.STDOUT}
+    with subprocess.Popen(words, text=True, errors="replace", **how) as ran:
+        late = threading.Timer(LIMIT, ran.kill)
+        late.start()
+        said = ran.stdout.read()
+        _, status, used = os.wait4(ran.pid, 0)
+        late.cancel()
+        ran.returncode = os.waitstatus_to_exitcode(status)
+    return "" if ran.returncode == -signal.SIGKILL else said, used.ru_utime + used.ru_stime
 
 
 def check(crate, edits, flags, seed, at_contracts, grows=False):
-    """What a check of the crate with these edits says, over a copy of what the seed holds, and how many seconds it took.
-    A check that does not end within the limit says nothing. Where no function of the crate was proved for it, each other
-    function is taken at its contract. A seed that grows has what this check proved from then on."""
+    """What a check of the crate with these edits says, over a copy of what the seed holds, and the seconds of a processor
+    that it took. A check that does not end within the limit says nothing. Where no function of the crate was proved for it,
+    each other function is taken at its contract. A seed that grows has what this check proved from then on."""
     with tempfile.TemporaryDirectory(prefix=f"rt-edits-{os.getpid()}-") as room, LANES:
         rt.linked(seed, f"{room}/kept")
         for part in rtlib.PARTS:
@@ -419,21 +458,17 @@ def check(crate, edits, flags, seed, at_contracts, grows=False):
         if at_contracts:
             take_others_at_contracts(crate, f"{room}/crate", edits)
             flags = [*flags, "--allow-holes"]
-        start = time.time()
-        try:
-            said = checked(crate, f"{room}/crate", flags, f"{room}/kept").stdout
-        except subprocess.TimeoutExpired:
-            said = ""
+        said, seconds = checked(crate, f"{room}/crate", flags, f"{room}/kept")
         if grows:
             shutil.rmtree(seed)
             os.rename(f"{room}/kept", seed)
-        return Report(said), time.time() - start
+        return Report(said), seconds
 
 
 # ---- the edits of a crate
 
 LANES = threading.Semaphore(1)
-PRINTING = threading.Lock()
+PRINTING, COUNTING = threading.Lock(), threading.Lock()
 
 
 def say(text):
@@ -446,7 +481,7 @@ class Tries:
 
     def __init__(self, crate, edits):
         self.crate, self.edits = crate, edits
-        self.refused, self.alone, self.weak, self.bad, self.checks = {}, {}, {}, {}, 0
+        self.refused, self.alone, self.weak, self.bad, self.checks, self.seconds = {}, {}, {}, {}, 0, 0
         self.seed, self.at_contracts, self.whole_seed, self.proving = None, False, None, threading.Lock()
 
     def run(self, pool):
@@ -474,6 +509,7 @@ class Tries:
         [*pool.map(self.whole, single)]
         for seed in {self.seed, self.whole_seed} - {None}:
             shutil.rmtree(os.path.dirname(seed), ignore_errors=True)
+        say(f"{self.crate.name}: {len(self.edits)} edits in {self.checks} checks, of which those of functions took {self.seconds / 60:.1f} minutes of a processor")
 
     def leave(self, why):
         self.bad = {it.label: why for it in self.edits}
@@ -495,13 +531,20 @@ class Tries:
         self.whole_seed = room and f"{room}/seed"
         return self.whole_seed, False
 
+    def judged(self, edits, only, at_contracts, grows=False):
+        """What a check of these functions with these edits says, and the seconds of a processor that it took."""
+        report, seconds = check(self.crate, edits, only, self.seed, at_contracts, grows)
+        with COUNTING:
+            self.checks += 1
+            self.seconds += seconds
+        return report, seconds
+
     def prove_cycles(self, edits):
         """Has the seed hold the proofs of the cycles of functions, as they stand, of which edits change members."""
         members = {cycle: (name, cycle) for it in edits for name, cycle in it.functions if cycle}
         if members:
             only = [word for name, _ in members.values() for word in ("--only", name)]
-            report, seconds = check(self.crate, [Cited([*members.values()])], only, self.seed, True, grows=True)
-            self.checks += 1
+            _, seconds = self.judged([Cited([*members.values()])], only, at_contracts=True, grows=True)
             say(f"{self.crate.name}: the cycles of functions that edits change, checked as they stand in {seconds:.0f} s")
 
     def proved_whole(self):
@@ -515,8 +558,7 @@ class Tries:
 
     def together(self, group, grows=False):
         """Tries a group in one check, and returns why what was not refused was not."""
-        report, seconds = check(self.crate, group, [word for edit in group for word in edit.only], self.seed, self.at_contracts, grows)
-        self.checks += 1
+        report, seconds = self.judged(group, [word for edit in group for word in edit.only], self.at_contracts, grows)
         if not report.lines and len(group) > 1:
             # one of them is not read, or does not end
             say(f"{self.crate.name}: the check of {len(group)} edits says nothing, so that halves of them are tried")
@@ -534,8 +576,7 @@ class Tries:
 
     def by_itself(self, edit, reason):
         """Tries an edit of a function alone, by the same rule."""
-        report, _ = check(self.crate, [edit], edit.only, self.seed, self.at_contracts)
-        self.checks += 1
+        report, _ = self.judged([edit], edit.only, self.at_contracts)
         goal, why = report.goal(edit)
         if goal:
             self.refused[edit.label] = goal

@@ -1,11 +1,12 @@
 // Preloaded into a program, fails one read of standard input, that with the number in FAILED_READ, or one write to
-// standard output, that with the number in FAILED_WRITE, counted from 1: they are interrupted, or, with NO_OCTET set, a
-// write takes no octet. Each read and write then goes over three octets at most.
+// standard output, that with the number in FAILED_WRITE, counted from 1: they are interrupted, or, with BROKEN set, fail,
+// or, with NO_OCTET set, a write takes no octet. Each read and write then goes over three octets at most.
 //
 // The kit's clang brings no headers, so what is used of the C library is declared here.
 typedef unsigned long size_t;
 #define NULL ((void *)0)
 #define EINTR 4
+#define EIO 5
 #define RTLD_NEXT ((void *)-1L)
 #define FEW 3
 void *dlsym(void *, const char *);
@@ -20,7 +21,7 @@ static int is_failed(const char *name, unsigned long *count) {
   const char *number = getenv(name);
   *count += 1;
   if (!number || strtoul(number, NULL, 10) != *count) return 0;
-  *__errno_location() = EINTR;
+  *__errno_location() = getenv("BROKEN") ? EIO : EINTR;
   return 1;
 }
 

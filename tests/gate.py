@@ -10,8 +10,8 @@ usage: tests/gate.py [PART..]      the parts are proofs, edits and tests; all th
    were tried, and of a quarter of the others. In a clone with no out/ it goes beside the proofs: a crate's edits begin
    when the crate is proved, on processors that no proof takes.
 3. tests: the programs of tests/programs are built without a proof of their own (tests/room.py), and what they write is
-   compared; tests/refused_allocations.sh refuses in turn each allocation of programs; examples/run.sh,
-   tests/versions.py, tests/published.py and tests/installed.sh run the program `asn_tool` as the gate has built it;
+   compared; tests/refused_allocations.sh refuses in turn each allocation of programs; tests/first.py runs `asn_first`,
+   and examples/run.sh, tests/versions.py, tests/published.py and tests/installed.sh `asn_tool`, as the gate has built them;
    bindings/tests.sh calls the library for C, built without a proof of its own, from four languages, and skips those
    whose compiler is not there.
 
@@ -35,7 +35,7 @@ sys.path.insert(0, f"{TOP}/tests")
 from room import files_of
 
 PROGRAMS = ("rows", "hostile", "texts", "types", "names", "published", "memory", "memory_texts")
-TOOL = "crates/asn_tool/out/asn_tool"
+FIRST, TOOL = "crates/asn_first/out/asn_first", "crates/asn_tool/out/asn_tool"
 
 
 SHOWING = threading.Lock()
@@ -178,6 +178,7 @@ def tests(part):
     with tempfile.TemporaryDirectory(prefix="tulvorn-bindings-") as out:
         step(part, ["bindings/build.sh", "--unproved", out])
         step(part, ["bindings/tests.sh", out])
+    step(part, ["tests/first.py", FIRST])
     step(part, ["examples/run.sh", TOOL])
     step(part, ["tests/versions.py", TOOL])
     step(part, ["tests/published.py", TOOL])

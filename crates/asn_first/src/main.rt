@@ -5,8 +5,6 @@
 mod notation;
 mod runner;
 mod sample;
-#[cfg(test)]
-mod tests;
 
 use runner::first;
 use std::io;

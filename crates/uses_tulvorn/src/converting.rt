@@ -1,5 +1,4 @@
 //! Converts messages from CANONICAL-PER UNALIGNED to Canonical OER and back, as a gateway does.
-#![tactic(auto)]
 
 ghost use Rattle.std.specs.Prelude.{IfOk};
 ghost use Rattle.tulvorn.specs.Datum.{Datum};
@@ -52,8 +51,8 @@ fn told(alloc: Global, ty: &Checked, message: &[u8]) -> Result<String> {
     }
 }
 
-fn main(rt: HostRuntime) -> Result<()> {
-    let alloc = rt.alloc();
+/// Tells what becomes of five messages.
+pub(crate) fn convert_commands(rt: &impl Print, alloc: Global) -> Result<()> {
     let ty = command_type(alloc)?;
     for line in ["00", "5900", "a0", "c0", "7f"] {
         let message = hex::decode(alloc, line)?;

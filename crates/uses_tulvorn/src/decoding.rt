@@ -1,6 +1,5 @@
 //! Tells the speed that messages in CANONICAL-PER UNALIGNED have, and handles each answer that octets from a stranger
 //! may get.
-#![tactic(auto)]
 
 ghost use Rattle.std.specs.Prelude.{◌≡◌, IfOk, IfErr, Err};
 ghost use Rattle.tulvorn.specs.Codec.{Decoded};
@@ -9,7 +8,7 @@ ghost use Rattle.tulvorn.specs.PerRules.{IsPerEncoding, per_ruling};
 ghost use Rattle.tulvorn.specs.Seen.{seen};
 ghost use Rattle.tulvorn.specs.Typed.{typed};
 ghost use Rattle.tulvorn.specs.View.{shape_of};
-ghost use Rattle.uses_decode.specs.Speed.{speed_in};
+ghost use Rattle.uses_tulvorn.specs.Speed.{speed_in};
 
 use anyhow::{Context, Result, bail};
 use std::alloc::Global;
@@ -59,8 +58,8 @@ fn told(alloc: Global, ty: &Checked, octets: &[u8]) -> Result<String> {
     }
 }
 
-fn main(rt: HostRuntime) -> Result<()> {
-    let alloc = rt.alloc();
+/// Tells what each of five messages is.
+pub(crate) fn decode_messages(rt: &impl Print, alloc: Global) -> Result<()> {
     let module = read_explained(alloc, TEXT)?;
     let ty = module.type_named("Message").context("no type Message")?;
     for line in ["d0b4d820", "50b4c0", "58b4e0", "50b4", "50b4c000"] {

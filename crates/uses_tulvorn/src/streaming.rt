@@ -1,10 +1,9 @@
 //! Reads messages one after the other from a reader, and one whose octets come one by one, up to the first bit after
 //! which no message can follow.
-#![tactic(auto)]
 
 ghost use Rattle.std.specs.Prelude.{◌≡◌};
 ghost use Rattle.tulvorn.specs.Seen.{seen};
-ghost use Rattle.uses_stream.specs.Station.{station_in};
+ghost use Rattle.uses_tulvorn.specs.Station.{station_in};
 
 use anyhow::{Context, Result};
 use std::alloc::Global;
@@ -88,8 +87,8 @@ fn watch(rt: &impl Print, alloc: Global, ty: &Checked, octets: &[u8]) -> Result<
     }
 }
 
-fn main(rt: HostRuntime) -> Result<()> {
-    let alloc = rt.alloc();
+/// Tells the messages of three streams, and what the octets of three messages settle.
+pub(crate) fn read_streams(rt: &impl Print, alloc: Global) -> Result<()> {
     let ty = track_type(alloc)?;
     for line in [
         "1234203900000700",
@@ -97,11 +96,11 @@ fn main(rt: HostRuntime) -> Result<()> {
         "1234203900ffff30393f80",
     ] {
         let octets = hex::decode(alloc, line)?;
-        follow(&rt, alloc, &ty, octets.as_slice())?;
+        follow(rt, alloc, &ty, octets.as_slice())?;
     }
     for line in ["1234203900", "1234", "123430393f80"] {
         let octets = hex::decode(alloc, line)?;
-        watch(&rt, alloc, &ty, &octets)?;
+        watch(rt, alloc, &ty, &octets)?;
     }
     Ok(())
 }

@@ -1,10 +1,9 @@
 //! Reads the text of a module, tells its types, takes one of them by name, decodes messages, and shows their values as
 //! JSON and by name.
-#![tactic(auto)]
 
 ghost use Rattle.std.specs.Prelude.{◌≡◌};
 ghost use Rattle.tulvorn.specs.Seen.{seen};
-ghost use Rattle.uses_module.specs.Id.{id_in};
+ghost use Rattle.uses_tulvorn.specs.Id.{id_in};
 
 use anyhow::{Context, Result};
 use std::alloc::Global;
@@ -39,10 +38,10 @@ fn show_types(rt: &impl Print, alloc: Global, module: &Module) -> Result<()> {
     Ok(())
 }
 
-fn main(rt: HostRuntime) -> Result<()> {
-    let alloc = rt.alloc();
+/// Tells the types of a module, two messages, and what is wrong with another module.
+pub(crate) fn read_modules(rt: &impl Print, alloc: Global) -> Result<()> {
     let module = read_explained(alloc, TEXT)?;
-    show_types(&rt, alloc, &module)?;
+    show_types(rt, alloc, &module)?;
     let ty = module.type_named("Msg").context("no type Msg")?;
     for line in ["6b04", "28"] {
         let octets = hex::decode(alloc, line)?;

@@ -1,6 +1,5 @@
 //! Builds a type, and a value of it by the names of its components, and encodes the value by CANONICAL-PER UNALIGNED and
 //! by Canonical OER.
-#![tactic(auto)]
 
 ghost use Rattle.std.specs.Prelude.{◌≡◌, IfOk, Some};
 ghost use Rattle.tulvorn.specs.Answer.{IsEncoding};
@@ -97,8 +96,8 @@ fn show_misfit(
     Ok(())
 }
 
-fn main(rt: HostRuntime) -> Result<()> {
-    let alloc = rt.alloc();
+/// Encodes a report, and tells what is wrong with others.
+pub(crate) fn encode_reports(rt: &impl Print, alloc: Global) -> Result<()> {
     let ty = report_type(alloc)?;
     let lanes = Value::list(alloc, &lanes_type(alloc)?, &[1.into(), 5.into()])?;
     let parts = [
@@ -107,15 +106,15 @@ fn main(rt: HostRuntime) -> Result<()> {
         ("speed", 50.into()),
         ("lanes", (&lanes).into()),
     ];
-    show_octets(&rt, alloc, &ty, &parts)?;
+    show_octets(rt, alloc, &ty, &parts)?;
     // a name that the type has not, and a component that is missing, are told when a value is built
-    show_fault(&rt, alloc, &ty, &[("spede", 50.into())])?;
-    show_fault(&rt, alloc, &ty, &[("station", 4_660.into())])?;
+    show_fault(rt, alloc, &ty, &[("spede", 50.into())])?;
+    show_fault(rt, alloc, &ty, &[("station", 4_660.into())])?;
     let fast = [
         ("kind", "bus".into()),
         ("station", 4_660.into()),
         ("speed", 200.into()),
         ("lanes", (&lanes).into()),
     ];
-    show_misfit(&rt, alloc, &ty, &fast)
+    show_misfit(rt, alloc, &ty, &fast)
 }

@@ -1,0 +1,3 @@
+pub mod Id
+pub mod Speed
+pub mod Station

@@ -14,8 +14,8 @@
  *   - Pointers are not null, but that to data of which the length is 0. Lengths are those of the memory, below 2^63.
  *   - malloc, realloc and free are those of one allocator, and align a block to each power of two up to 16 that divides
  *     its size. No call is made from a signal handler, or from the child that a program with threads has forked.
- *   - The processor is an x86-64 of level v2 or above. A call has stack enough: what it takes grows with the depth of the
- *     type, at most 32, and of a JSON text. How much that is was not measured.
+ *   - The processor is an x86-64 of level v2 or above. A call has stack enough: 256 KiB are, of a library that LLVM
+ *     compiled, and 512 KiB of one that Rattle's own compiler did, as was measured (bindings/README.md).
  * THREADS. A handle may go to another thread, as by a lock, or by starting or joining that thread. Two threads use one
  * type at once by a handle each: tulvorn_share makes the second. A handle is never used by two threads at once.
  * TEXT is UTF-8, by pointer and length, with no NUL at its end.

@@ -36,13 +36,14 @@ step() {
     fi
 }
 
+# a program of the folder c, by its name
 in_c() {
-    gcc -std=c11 "${warn[@]}" "$here/c/calls.c" "$out/libtulvorn.a" "${wrap[@]}" -o "$made/calls" && "$made/calls"
+    gcc -std=c11 "${warn[@]}" "$here/c/$1.c" "$out/libtulvorn.a" "${wrap[@]}" -o "$made/$1" && "$made/$1"
 }
 
 in_c_sanitized() {
-    gcc -std=c11 "${warn[@]}" -fsanitize=address,undefined "$here/c/calls.c" "$out/libtulvorn.a" "${wrap[@]}" \
-        -o "$made/calls-sanitized" && "$made/calls-sanitized"
+    gcc -std=c11 "${warn[@]}" -fsanitize=address,undefined "$here/c/$1.c" "$out/libtulvorn.a" "${wrap[@]}" \
+        -o "$made/$1-sanitized" && "$made/$1-sanitized"
 }
 
 # the rows, and the examples: a file that a caller of each language reads
@@ -83,9 +84,11 @@ in_rust() {
 
 if command -v python3 >/dev/null; then python3 "$here/rows.py" "$made/rows"; fi
 step "the declarations of the header and the bindings" python3 -- python3 "$here/compare.py"
-step "C" gcc -- in_c
-step "C under valgrind" gcc valgrind -- "${memory[@]}" "$made/calls"
-step "C under the sanitizers" gcc -- in_c_sanitized
+for it in calls sessions; do
+    step "C, $it" gcc -- in_c $it
+    step "C, $it, under valgrind" gcc valgrind -- "${memory[@]}" "$made/$it"
+    step "C, $it, under the sanitizers" gcc -- in_c_sanitized $it
+done
 step "C in threads" gcc -- in_threads
 step "C++" g++ -- in_cpp
 step "C++ under valgrind" g++ valgrind -- "${memory[@]}" "$made/calls-cpp"

@@ -7,15 +7,15 @@ usage: tests/gate.py [PART..]      the parts are proofs, edits and tests; all th
    gate ends, since what follows would be for nothing.
 1. proofs: `rt ci` proves every crate from nothing, and runs the programs as two compilers build them.
 2. edits: tests/edits.py tries itself on a tiny crate, and then the wrong bodies of the crates that changed since they
-   were tried, and of a quarter of the others. In a clone with no out/ it goes beside the proofs: a crate's edits begin
-   when the crate is proved, on processors that no proof takes.
+   were tried, and of a quarter of the others. In a clone with no out/, where all parts are asked for, it goes beside the
+   proofs: a crate's edits begin when the crate is proved, on processors that no proof takes.
 3. tests: the programs of tests/programs are built without a proof of their own (tests/room.py), and what they write is
    compared; tests/refused_allocations.sh refuses in turn each allocation of programs; tests/first.py runs `asn_first`,
    and examples/run.sh, tests/versions.py, tests/published.py, published_commands.py, published_sets.py,
    published_tags.py, published_sequences.py and tests/installed.sh `asn_tool`, as the gate has built them;
    tests/octet_counts.py and tests/published_rows.py look at rows without a program;
    bindings/tests.sh calls the library for C, built without a proof of its own, from four languages, and skips those
-   whose compiler is not there.
+   whose compiler is not there. Beside the proofs, those that want none of the programs that are proved begin at once.
 
 What a step writes is shown as it comes: a line for each crate that is proved, and for each group of edits that is tried.
 The end says how many minutes of a processor each part took, and how many by the clock from its first line to its last.
@@ -30,6 +30,7 @@ import sys
 import tempfile
 import threading
 import time
+from concurrent.futures import ThreadPoolExecutor
 
 sys.dont_write_bytecode = True
 TOP = os.path.dirname(os.path.dirname(os.path.abspath(__file__)))
@@ -175,22 +176,26 @@ def compare_one(part, room, name, given, wanted):
     part.add(f"test_{name}", int(rows[1]) if rows and well else int(well), int(not well))
 
 
-def tests(part):
+def tests_of_sources(part, room):
+    """The tests that want nothing of the proofs: what they build is built without one, from the sources."""
     words = [f"tests/programs/{it}" for it in ("outcomes", *PROGRAMS, "refused")]
-    with tempfile.TemporaryDirectory(prefix="tulvorn-gate-") as room:
-        step(part, ["tests/room.py", "build", room, *words])
-        for name in PROGRAMS:
-            if os.path.isfile(f"{room}/test_{name}"):
-                compare(part, room, name)
-        step(part, ["tests/octet_counts.py"])
-        step(part, ["tests/refused_allocations.sh", room])
+    step(part, ["tests/room.py", "build", room, *words])
+    for name in PROGRAMS:
+        if os.path.isfile(f"{room}/test_{name}"):
+            compare(part, room, name)
+    step(part, ["tests/octet_counts.py"])
+    step(part, ["tests/published_rows.py"])
     with tempfile.TemporaryDirectory(prefix="tulvorn-bindings-") as out:
         step(part, ["bindings/build.sh", "--unproved", out])
         step(part, ["bindings/tests.sh", out])
+
+
+def tests_of_programs(part, room):
+    """The tests of the programs that `rt ci` has built."""
+    step(part, ["tests/refused_allocations.sh", room])
     step(part, ["tests/first.py", FIRST])
     step(part, ["examples/run.sh", TOOL])
     step(part, ["tests/versions.py", TOOL])
-    step(part, ["tests/published_rows.py"])
     step(part, ["tests/published.py", TOOL])
     step(part, ["tests/published_commands.py", TOOL])
     step(part, ["tests/published_sets.py", TOOL])
@@ -199,18 +204,34 @@ def tests(part):
     step(part, ["tests/installed.sh", TOOL])
 
 
+def tests(part):
+    with tempfile.TemporaryDirectory(prefix="tulvorn-gate-") as room:
+        tests_of_sources(part, room)
+        tests_of_programs(part, room)
+
+
+def all_parts():
+    """All three parts side by side: the tests that want nothing of the proofs begin at once, the others after the proofs."""
+    parts = {name: Part() for name in PARTS}
+    with tempfile.TemporaryDirectory(prefix="tulvorn-gate-") as room, ThreadPoolExecutor(1) as pool:
+        first = pool.submit(tests_of_sources, parts["tests"], room)
+        proofs_and_edits(parts)
+        first.result()
+        tests_of_programs(parts["tests"], room)
+    return parts
+
+
 PARTS = {"proofs": proofs, "edits": edits, "tests": tests}
 
 
 def run(names):
     """Runs the parts of these names, and returns them."""
-    parts = {}
     # (`rt ci` puts back what stood in out/ when it ends, which may not change below the edits)
-    if {"proofs", "edits"} <= {*names} and not glob.glob("crates/*/out"):
-        parts = {"proofs": Part(), "edits": Part()}
-        proofs_and_edits(parts)
+    if {*names} == {*PARTS} and not glob.glob("crates/*/out"):
+        return all_parts()
+    parts = {}
     for name, call in PARTS.items():
-        if name in names and name not in parts:
+        if name in names:
             parts[name] = Part()
             call(parts[name])
     return parts

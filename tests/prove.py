@@ -66,7 +66,7 @@ def look_at_form():
     """Looks at the form of every crate and of the files beside them, as `rt ci` does, and proves nothing."""
     try:
         rt.Crate.allowed = rt.handles_of(os.getcwd())
-        crates = rt.crates_of(os.getcwd())
+        crates = sorted(rtlib.crates_below(os.getcwd()), key=lambda it: len(it.below()))
     except SystemExit:
         say("0 passed, 1 failed")
         return 1
@@ -113,7 +113,9 @@ def main(names):
         return 2
     # the stamps of crates are read by several threads
     rtlib.guarded()
-    rt.share_work(True)
+    if hasattr(rt, "share_work"):
+        # (other letters of the kit keep nothing for other copies of the repository)
+        rt.share_work(True)
     every = crates = sorted(rtlib.crates_below(os.getcwd()), key=lambda it: len(it.below()))
     lacking = [it for it in names if it not in [crate.name for crate in crates]]
     if lacking:

@@ -1,39 +1,6 @@
 /* Calls each function of the library, and makes each allocation fail in turn. Exits with 0 where all answers are right,
    and else with 1 and the line of the first that is not. Linked with -Wl,--wrap=malloc -Wl,--wrap=realloc. */
-#include "tulvorn.h"
-#include <stdio.h>
-#include <stdlib.h>
-#include <string.h>
-
-static long left = -1;   /* allocations until one fails; none fails where it is below 0 */
-static long asked;       /* allocations so far */
-
-void *__real_malloc(size_t size);
-void *__wrap_malloc(size_t size);
-void *__real_realloc(void *block, size_t size);
-void *__wrap_realloc(void *block, size_t size);
-
-static int fails(void) {
-    asked++;
-    if (left > 0) left--;
-    if (left != 0) return 0;
-    left = -1;
-    return 1;
-}
-
-void *__wrap_malloc(size_t size) { return fails() ? NULL : __real_malloc(size); }
-
-void *__wrap_realloc(void *block, size_t size) { return fails() ? NULL : __real_realloc(block, size); }
-
-#define CHECK(holds)                                      \
-    do {                                                  \
-        if (!(holds)) {                                   \
-            printf("line %d: not so: %s\n", __LINE__, #holds); \
-            return 1;                                     \
-        }                                                 \
-    } while (0)
-
-#define TEXT(text) (const uint8_t *)(text), strlen(text)
+#include "calls.h"
 
 static const char MODULE[] =
     "M DEFINITIONS AUTOMATIC TAGS ::= BEGIN\n"
@@ -109,20 +76,6 @@ static int modules(void) {
     CHECK(tulvorn_copy(&type, into, sizeof into, &size) == TULVORN_MISUSE);
     tulvorn_close(&module);
     tulvorn_close(&type);
-    tulvorn_close(&words);
-    return 0;
-}
-
-static int says(const tulvorn_fault *fault, uint32_t rules, const char *wanted) {
-    tulvorn_handle words = TULVORN_NONE;
-    uint8_t into[128];
-    size_t size;
-    CHECK(tulvorn_words(fault, rules, &words) == TULVORN_DONE);
-    CHECK(tulvorn_copy(&words, into, sizeof into, &size) == TULVORN_DONE);
-    if (size != strlen(wanted) || memcmp(into, wanted, size) != 0) {
-        printf("%.*s in the place of %s\n", (int)size, (const char *)into, wanted);
-        return 1;
-    }
     tulvorn_close(&words);
     return 0;
 }
@@ -258,29 +211,6 @@ static int parts(tulvorn_handle *type) {
     tulvorn_close(&value);
     return 0;
 }
-
-/* each call that allocates, with each of its allocations failing in turn: it answers NO_MEMORY, and its handle is as
-   it was; or it does what it was asked for */
-#define EACH_FAILS(handle, call)                                         \
-    do {                                                                 \
-        tulvorn_handle handle = TULVORN_NONE;                            \
-        asked = 0;                                                       \
-        CHECK((call) == TULVORN_DONE);                                   \
-        long count = asked;                                              \
-        CHECK(count > 0);                                                \
-        tulvorn_close(&handle);                                          \
-        for (long at = 1; at <= count; at++) {                           \
-            left = at;                                                   \
-            uint32_t code = (call);                                      \
-            CHECK(left == -1);                                           \
-            /* (a call may go on where a block that it only hoped for was refused) */ \
-            CHECK(code == TULVORN_DONE || (code == TULVORN_NO_MEMORY && handle.at == NULL)); \
-            if (code == TULVORN_NO_MEMORY) refused++;                    \
-            tulvorn_close(&handle);                                      \
-        }                                                                \
-        CHECK((call) == TULVORN_DONE);                                   \
-        tulvorn_close(&handle);                                          \
-    } while (0)
 
 static int memory(tulvorn_handle *module, tulvorn_handle *msg, tulvorn_handle *all, long *count) {
     const uint8_t good[2] = {0x6b, 0x04};

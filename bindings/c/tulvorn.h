@@ -1,11 +1,11 @@
 /* Tulvorn for C and C++: values of ASN.1 types by CANONICAL-PER UNALIGNED and Canonical OER.
  *
- * A handle holds one object of the library: a module, a type, a value beside its type, octets, or the fields that were
- * skipped in a message. A call that gives an object takes the handle that it is to be put into, and lets go of what
- * that handle held. Each call but tulvorn_close and tulvorn_interface answers a code, TULVORN_DONE where it did what it was
- * asked for. On every other answer each handle is as it was, and so are the octets that were to be written; the text of
- * a function says what else is written. Nothing is kept between calls but what handles hold: there is no state of the
- * library's own.
+ * A handle holds one object of the library: a module, a type, a value beside its type, a session, octets, or the
+ * fields that were skipped in a message. A call that gives an object takes the handle that it is to be put into, and
+ * lets go of what that handle held. Each call but tulvorn_close and tulvorn_interface answers a code, TULVORN_DONE
+ * where it did what it was asked for. On every other answer each handle is as it was, but for a session that takes a
+ * piece, and so are the octets that were to be written; the text of a function says what else is written. Nothing is
+ * kept between calls but what handles hold: there is no state of the library's own.
  *
  * WHAT THE CALLER OWES. Nothing checks it, and a call for which it does not hold may do anything.
  *   - A handle begins as TULVORN_NONE, is changed by calls of the library alone, and is never copied.
@@ -70,7 +70,10 @@ enum {
     /* of tulvorn_read_newer alone: */
     TULVORN_NO_MESSAGE = 16,        /* no message of any version begins so */
     TULVORN_CUT_MESSAGE = 17,       /* the octets end before a message of any version does */
-    TULVORN_TOO_MANY_ADDITIONS = 18 /* more extension additions than the profile allows */
+    TULVORN_TOO_MANY_ADDITIONS = 18, /* more extension additions than the profile allows */
+    /* of tulvorn_feed alone: */
+    TULVORN_MORE = 19,              /* the octets so far are no whole encoding, and one may still follow */
+    TULVORN_SPENT = 20              /* the session has given its value, or wanted memory, before */
 };
 
 /* ---- why, where octets are TULVORN_REFUSED: what was being read */
@@ -151,6 +154,29 @@ uint32_t tulvorn_convert(tulvorn_handle *type, uint32_t rules, const uint8_t *oc
 uint32_t tulvorn_explain(tulvorn_handle *type, uint32_t rules, const uint8_t *octets, size_t len,
                          tulvorn_handle *words);
 
+/* ---- sessions: a message whose octets come in pieces. What a session answers depends on all octets that it took, and
+   not on how they were cut. It keeps them, and reads them again with each piece: a message of n octets that come one by
+   one is read n times. */
+
+/* Puts into `session` a session for a value of the type, which has taken no octet. It outlives what `type` holds, which
+   is as it was. Answers MISUSE where `type` holds no type or the rules are none, NO_MEMORY. */
+uint32_t tulvorn_open(tulvorn_handle *type, uint32_t rules, tulvorn_handle *session);
+
+/* Takes the next piece of the message. DONE where the octets so far begin with an encoding: its value is put into
+   `value`, beside its type, and `used` is how many octets of this piece belong to it. MORE where they do not, and an
+   encoding may still follow. REFUSED where none can: `at` is the first unit of the message, over all its pieces, after
+   which none can follow. A session that answered REFUSED or TOO_LONG answers the same to each further piece, and one
+   that answered DONE or NO_MEMORY answers SPENT. `value` and `used` are as they were on every answer but DONE.
+   Answers MISUSE where `session` holds no session, MORE, REFUSED, TOO_LONG, SPENT, NO_MEMORY. */
+uint32_t tulvorn_feed(tulvorn_handle *session, const uint8_t *piece, size_t len, tulvorn_handle *value, size_t *used,
+                      tulvorn_fault *fault);
+
+/* Ends the session, and lets go of it: `session` holds nothing then. DONE where the octets that it took are a whole
+   encoding, as after DONE of tulvorn_feed; TRUNCATED where they are none: `at` is how many units were taken while an
+   encoding could still follow, also of a session that answered REFUSED. Takes no memory. Answers MISUSE where `session`
+   holds no session, and then it is as it was. */
+uint32_t tulvorn_finish(tulvorn_handle *session, tulvorn_fault *fault);
+
 /* ---- messages of newer and older senders, whose version of the type has more or fewer extension additions */
 
 /* Puts into `value` what a receiver of this type reads of the message, and into `skipped` the fields that the type has
@@ -178,6 +204,19 @@ uint32_t tulvorn_to_json(tulvorn_handle *value, tulvorn_handle *json, tulvorn_fa
    SHAPE, NOT_OF_TYPE, NO_MEMORY. */
 uint32_t tulvorn_from_json(tulvorn_handle *type, const uint8_t *json, size_t len, tulvorn_handle *value,
                            tulvorn_fault *fault);
+
+/* ---- where a value or JSON is none of a type */
+
+/* Puts into `words`, as octets, the first part of the value that does not fit the type, and why:
+   `$.coreData.speed: 9000 is not in 0..8191`. No octets where the value fits. It may be a value of another type, as of
+   another version of it, or one that tulvorn_read_newer gave.
+   Answers MISUSE where `type` holds no type or `value` no value, NO_MEMORY. */
+uint32_t tulvorn_misfit(tulvorn_handle *type, tulvorn_handle *value, tulvorn_handle *words);
+
+/* Puts into `words`, as octets, why the JSON shows no value of the type: `not of the type's shape at $.coreData.speed`,
+   with the first place where it is not, or `not of the type`, where the shape is right. No octets where it shows one.
+   Answers MISUSE where `type` holds no type, NO_JSON, NO_MEMORY. */
+uint32_t tulvorn_explain_json(tulvorn_handle *type, const uint8_t *json, size_t len, tulvorn_handle *words);
 
 /* ---- the parts of a value, by a path such as coreData.speed or path[3].x. The path is cut at each `.`, `[` and `]`; a
    piece of digits is the index of an element, counted from 0, and any other the name of a component or of the chosen

@@ -11,6 +11,10 @@ static const char *const MODULE = "M DEFINITIONS AUTOMATIC TAGS ::= BEGIN\n"
                                   "    colour ENUMERATED { red, green } OPTIONAL,\n"
                                   "    key OCTET STRING OPTIONAL, bits BIT STRING OPTIONAL }\n"
                                   "Old ::= SEQUENCE { a BOOLEAN, ... }\n"
+                                  "Low ::= SEQUENCE { id INTEGER (0..3), ok BOOLEAN DEFAULT TRUE,\n"
+                                  "    note IA5String (SIZE (0..3)) OPTIONAL,\n"
+                                  "    colour ENUMERATED { red, green } OPTIONAL,\n"
+                                  "    key OCTET STRING OPTIONAL, bits BIT STRING OPTIONAL }\n"
                                   "END\n";
 
 static int failed = 0;
@@ -31,6 +35,26 @@ template <class Call> static uint32_t code_of(Call call) {
     } catch (const Fault &fault) {
         return fault.code();
     }
+}
+
+// messages in pieces, and where a value or JSON is none of a type
+static void pieces(Module &module, Type &type) {
+    Session session = type.open(Rules::Per);
+    CHECK(!session.feed(Octets{}) && !session.feed(Octets{0x44}));
+    std::optional<Fed> fed = session.feed(Octets{0x60, 0x80, 0xff});
+    CHECK(fed && fed->used == 2 && fed->value.integer("id") == 4 && fed->value.text("note") == "A");
+    CHECK(code_of([&] { session.feed(Octets{0}); }) == TULVORN_SPENT);
+    session.finish();
+    CHECK(code_of([&] { session.finish(); }) == TULVORN_MISUSE);
+    Session other = type.open(Rules::Oer);
+    CHECK(!other.feed(Octets{0x00}) && code_of([&] { other.finish(); }) == TULVORN_TRUNCATED);
+    Session moved = std::move(session = type.open(Rules::Per));
+    CHECK(code_of([&] { moved.feed(Octets{0xff, 0xff}); }) == TULVORN_REFUSED);
+    Value low = type.from_json(R"({"id":5})");
+    CHECK(type.misfit(low).empty() && module.type("Low").misfit(low) == "$.id: 5 is not in 0..3");
+    CHECK(type.explain_json(R"({"id":5})").empty() && type.explain_json(R"({"id":9})") == "not of the type");
+    CHECK(type.explain_json(R"({"id":[]})") == "not of the type's shape at $.id");
+    CHECK(code_of([&] { type.explain_json("{"); }) == TULVORN_NO_JSON);
 }
 
 int main() {
@@ -60,6 +84,7 @@ int main() {
     CHECK(newer.value.boolean("a") && newer.skipped.size() == 1 && newer.skipped[0].place == 0);
     CHECK(newer.skipped[0].octets == Octets{0x2a});
     CHECK(type.explain(Rules::Per, Octets{0xac, 0}).find("cut short after 16 bits in $") == 0);
+    pieces(module, type);
     // a type in another thread, and a value that is moved
     std::thread thread([shared = type.share()] { CHECK(shared.from_json(R"({"id":7})").integer("id") == 7); });
     thread.join();

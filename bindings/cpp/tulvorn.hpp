@@ -1,7 +1,7 @@
 // Tulvorn for C++17: handles that close themselves, and faults as exceptions. Header only, over tulvorn.h and its
 // library.
 //
-// A Module, Type or Value is moved and not copied; Type::share makes another of a type, for another thread. No object
+// A Module, Type, Value or Session is moved and not copied; Type::share makes another of a type, for another thread. No object
 // is used by two threads at once. A call that does not do what it was asked for throws tulvorn::Fault, or
 // std::bad_alloc where an allocation failed; the functions that end in _if answer instead.
 #ifndef TULVORN_HPP
@@ -178,6 +178,7 @@ class Value {
 
   private:
     friend class Type;
+    friend class Session;
     using Call = uint32_t (*)(tulvorn_handle *, const uint8_t *, size_t, uint8_t *, size_t, size_t *);
     template <class String> String string_at(Call call, std::string_view path) const {
         String string;
@@ -205,6 +206,39 @@ struct Skipped {
 struct Newer {
     Value value;
     std::vector<Skipped> skipped;
+};
+
+// What a session answers to a piece in which its message ends: the value, and how many octets of the piece belong to it.
+struct Fed {
+    Value value;
+    size_t used;
+};
+
+// A message whose octets come in pieces: see tulvorn_feed. It outlives its type.
+class Session {
+  public:
+    // Takes the next piece. Nothing where the octets so far are no whole encoding, and one may still follow.
+    std::optional<Fed> feed(OctetsView piece) {
+        Fed fed{{}, 0};
+        tulvorn_fault fault;
+        auto value = fed.value.held_.get();
+        auto code = tulvorn_feed(held_.get(), piece.data(), piece.size(), value, &fed.used, &fault);
+        if (code == TULVORN_MORE) return std::nullopt;
+        detail::look(code, fault, rules_);
+        return fed;
+    }
+    // Ends the session: throws where the octets that it took are no whole encoding.
+    void finish() {
+        tulvorn_fault fault;
+        uint32_t code = tulvorn_finish(held_.get(), &fault);
+        detail::look(code, fault, rules_);
+    }
+
+  private:
+    friend class Type;
+    explicit Session(Rules rules) : rules_(rules) {}
+    detail::Handle held_;
+    Rules rules_;
 };
 
 // A type of a module. It outlives the module.
@@ -237,6 +271,24 @@ class Type {
         detail::Handle words;
         auto by = static_cast<uint32_t>(rules);
         detail::look(tulvorn_explain(held_.get(), by, octets.data(), octets.size(), words.get()));
+        return detail::text_of(words);
+    }
+    // A session for a value of the type, which has taken no octet.
+    Session open(Rules rules) const {
+        Session session(rules);
+        detail::look(tulvorn_open(held_.get(), static_cast<uint32_t>(rules), session.held_.get()));
+        return session;
+    }
+    // The first part of a value, also of another type, that does not fit this type, and why; empty where it fits.
+    std::string misfit(const Value &value) const {
+        detail::Handle words;
+        detail::look(tulvorn_misfit(held_.get(), value.held_.get(), words.get()));
+        return detail::text_of(words);
+    }
+    // Why the JSON shows no value of the type, with the first place where that shows; empty where it shows one.
+    std::string explain_json(std::string_view json) const {
+        detail::Handle words;
+        detail::look(tulvorn_explain_json(held_.get(), detail::octets_of(json), json.size(), words.get()));
         return detail::text_of(words);
     }
     // What a receiver of this type reads of a message whose sender's type has more or fewer extension additions.

@@ -15,6 +15,7 @@ Msg ::= SEQUENCE { id INTEGER (0..7), ok BOOLEAN DEFAULT TRUE, note IA5String (S
 All ::= SEQUENCE { far INTEGER, colour ENUMERATED { red, green }, key OCTET STRING, bits BIT STRING,
     one CHOICE { number INTEGER (0..255), none NULL }, list SEQUENCE OF Msg, word UTF8String }
 Old ::= SEQUENCE { a BOOLEAN, ... }
+Low ::= SEQUENCE { id INTEGER (0..3), ok BOOLEAN DEFAULT TRUE, note IA5String (SIZE (0..3)) OPTIONAL }
 END"""
 
 
@@ -31,6 +32,15 @@ def lines_of(name):
         return it.read().splitlines()
 
 
+def in_pieces(it, octets, rules, size=11):
+    """The JSON of a message that comes in pieces, with octets of another behind it."""
+    session, at = it.open(rules), 0
+    while (fed := session.feed((octets + b"\x00")[at : at + size])) is None:
+        at += size
+    assert at + fed[1] == len(octets) and session.finish() is None
+    return fed[0].to_json()
+
+
 def examples():
     """Each message of the examples comes back from both rules and from JSON."""
     count = 0
@@ -45,6 +55,7 @@ def examples():
             assert it.convert(per, "per") == oer and it.convert(oer, "oer") == per
             assert it.from_json(given).encode("oer") == oer and it.of(value.value()).encode("per") == per
             assert value.encoded_len("oer") == len(oer)
+            assert in_pieces(it, per, "per") == shown and in_pieces(it, oer, "oer") == shown
             count += 1
     return count
 
@@ -78,6 +89,30 @@ def faults(spec):
     assert raised(ValueError, lambda: spec.encode("Msg", {"id": 1}, "ber"))
 
 
+def sessions(spec):
+    msg = spec.type("Msg")
+    session = msg.open()
+    fault = raised(tulvorn.DecodeError, lambda: session.feed(b"\xac"))
+    assert (fault.code, fault.at, fault.why, str(fault)) == (3, 6, "default", "refused at bit 6: default")
+    assert raised(tulvorn.DecodeError, session.finish).at == 5
+    session = msg.open("oer")
+    assert session.feed(b"\x40") is None and session.feed(b"") is None
+    assert str(raised(tulvorn.DecodeError, session.finish)) == "cut short after 1 octets"
+    assert raised(tulvorn.DecodeError, session.finish).code == tulvorn.MISUSE
+    session = msg.open()
+    assert session.feed(b"\x28")[1] == 1
+    assert raised(tulvorn.DecodeError, lambda: session.feed(b"")).code == tulvorn.SPENT
+
+
+def misfits(spec):
+    msg, low = spec.type("Msg"), spec.type("Low")
+    assert msg.misfit(msg.of({"id": 5})) is None and low.misfit(msg.of({"id": 5})) == "$.id: 5 is not in 0..3"
+    assert msg.explain_json('{"id":5}') is None and msg.explain_json('{"id":9}') == "not of the type"
+    assert msg.explain_json('{"id":5,"ok":1}') == "not of the type's shape at $.ok"
+    assert str(raised(tulvorn.EncodeError, lambda: msg.of({"id": "5"}))) == "not of the type's shape at $.id"
+    assert raised(tulvorn.EncodeError, lambda: msg.explain_json("{")).code == tulvorn.NO_JSON
+
+
 def versions(spec):
     old = spec.type("Old")
     value, fields = old.read_newer(b"\x80\xff\x02\x07\x80\x01\x2a", "oer")
@@ -108,6 +143,8 @@ if __name__ == "__main__":
     assert doctest.testmod(tulvorn).failed == 0
     spec = parts()
     faults(spec)
+    sessions(spec)
+    misfits(spec)
     versions(spec)
     threads(spec)
     print(f"Python: passed, with {examples()} messages of the examples; version {tulvorn.version()}")

@@ -26,8 +26,8 @@ import os
 import threading
 
 __all__ = [
-    "compile_string", "compile_files", "version", "Specification", "Type", "Value", "TulvornError", "ModuleError",
-    "DecodeError", "EncodeError", "PER", "OER",
+    "compile_string", "compile_files", "version", "Specification", "Type", "Value", "Session", "TulvornError",
+    "ModuleError", "DecodeError", "EncodeError", "PER", "OER",
 ]
 
 PER, OER = 0, 1
@@ -35,8 +35,8 @@ RULES = {"per": PER, "uper": PER, "oer": OER, PER: PER, OER: OER}
 
 (
     DONE, NO_MEMORY, MISUSE, REFUSED, TRUNCATED, REST, TOO_LONG, TOO_SHORT, NOT_TEXT, NO_MODULE, NO_NAME, NOT_OF_TYPE,
-    NO_JSON, SHAPE, NO_PATH, OTHER_KIND, NO_MESSAGE, CUT_MESSAGE, TOO_MANY_ADDITIONS,
-) = range(19)
+    NO_JSON, SHAPE, NO_PATH, OTHER_KIND, NO_MESSAGE, CUT_MESSAGE, TOO_MANY_ADDITIONS, MORE, SPENT,
+) = range(21)
 
 (
     BOOLEAN, NULL, INTEGER, ENUMERATED, BIT_STRING, OCTET_STRING, CHARACTER_STRING, SEQUENCE, SEQUENCE_OF, CHOICE,
@@ -66,11 +66,16 @@ FUNCTIONS = {
     "tulvorn_encode_into": "huwsSf:u",
     "tulvorn_convert": "huoshf:u",
     "tulvorn_explain": "huosh:u",
+    "tulvorn_open": "huh:u",
+    "tulvorn_feed": "hoshSf:u",
+    "tulvorn_finish": "hf:u",
     "tulvorn_read_newer": "huoshhf:u",
     "tulvorn_skipped_count": "hS:u",
     "tulvorn_skipped": "hsUwsS:u",
     "tulvorn_to_json": "hhf:u",
     "tulvorn_from_json": "hoshf:u",
+    "tulvorn_misfit": "hhh:u",
+    "tulvorn_explain_json": "hosh:u",
     "tulvorn_kind": "hosU:u",
     "tulvorn_boolean": "hosU:u",
     "tulvorn_integer": "hosI:u",
@@ -322,6 +327,42 @@ def _json_of(value):
     return value
 
 
+class Session(_Held):
+    """A message whose octets come in pieces, from `Type.open`. It outlives its type.
+
+    >>> text = "M DEFINITIONS AUTOMATIC TAGS ::= BEGIN T ::= SEQUENCE { a INTEGER (0..255), b INTEGER (0..255) } END"
+    >>> session = compile_string(text).type("T").open()
+    >>> session.feed(b"\\x07")
+    >>> value, used = session.feed(b"\\x08\\xff")
+    >>> value.value(), used
+    ({'a': 7, 'b': 8}, 1)
+    >>> session.finish()
+    """
+
+    def __init__(self, rules):
+        super().__init__()
+        self.rules = rules
+
+    def feed(self, piece):
+        """Takes the next piece: the value whose encoding ends in it, and how many octets of the piece belong to that; None
+        where the octets so far are no whole encoding, and one may still follow. Raises DecodeError at the first unit
+        after which none can."""
+        value, used, fault = Value(), ctypes.c_size_t(), Fault()
+        with self.lock:
+            code = _library.tulvorn_feed(self.handle, bytes(piece), len(piece), value.handle, used, fault)
+        if code == MORE:
+            return None
+        _look(DecodeError, code, fault, self.rules)
+        return value, used.value
+
+    def finish(self):
+        """Ends the session: raises DecodeError where the octets that it took are no whole encoding."""
+        fault = Fault()
+        with self.lock:
+            code = _library.tulvorn_finish(self.handle, fault)
+        _look(DecodeError, code, fault, self.rules)
+
+
 def _skipped(fields, index):
     place, needed = ctypes.c_uint32(), ctypes.c_size_t()
     _library.tulvorn_skipped(fields.handle, index, place, None, 0, needed)
@@ -390,8 +431,36 @@ class Type(_Held):
         value, fault, octets = Value(), Fault(), text.encode()
         with self.lock:
             code = _library.tulvorn_from_json(self.handle, octets, len(octets), value.handle, fault)
+        if code == SHAPE:
+            raise EncodeError(self.explain_json(text), fault)
         _look(EncodeError, code, fault)
         return value
+
+    def explain_json(self, text):
+        """Why the JSON shows no value of the type, with the first place where that shows; None where it shows one."""
+        words, octets = _Held(), text.encode()
+        with self.lock:
+            code = _library.tulvorn_explain_json(self.handle, octets, len(octets), words.handle)
+        _look(EncodeError, code, Fault(code))
+        return words.copied().decode() or None
+
+    def misfit(self, value):
+        """The first part of a value, also of another type, that does not fit this type, and why; None where it fits."""
+        words = _Held()
+        with self.lock, value.lock:
+            code = _library.tulvorn_misfit(self.handle, value.handle, words.handle)
+        if code != DONE:
+            raise MemoryError
+        return words.copied().decode() or None
+
+    def open(self, rules="per"):
+        """A session for a value of the type, which has taken no octet."""
+        session = Session(_rules(rules))
+        with self.lock:
+            code = _library.tulvorn_open(self.handle, session.rules, session.handle)
+        if code != DONE:
+            raise MemoryError
+        return session
 
     def of(self, value):
         """A value of the type from the kinds of Python."""

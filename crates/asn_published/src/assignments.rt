@@ -1,8 +1,9 @@
 //! Where each assignment of a module begins and ends (X.680, "assignments").
-use crate::extents::{type_end, value_end};
+use crate::extents::type_end;
 use crate::modules::{Assignment, ModuleText, What};
 use crate::token::{Kind, Sign};
 use crate::tokens::{Tokens, next};
+use crate::value_steps::value_end;
 use crate::words::is_reserved;
 use crate::wrong::{TextFault, Wrong};
 

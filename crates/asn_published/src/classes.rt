@@ -1,6 +1,7 @@
 //! Fields of information object classes as types (X.681, "object class field type").
 use crate::extents::type_end;
 use crate::modules::{What, World};
+use crate::objects::given_by;
 use crate::refusal::Why;
 use crate::token::Sign;
 use crate::tokens::{Tokens, next};
@@ -43,27 +44,49 @@ pub(crate) fn is_class_field(tokens: &Tokens<'_>, at: usize) -> bool {
     sign_of_field(tokens, at).is_some()
 }
 
-/// What the field of a class is that stands at `at`.
+/// What the field is that stands at `at`, of an object or of a class; `first` is the assignment of the name at `at`, or
+/// of what stands for it, and `name` that one.
 pub(crate) fn field_at(
     world: &World<'_>,
     tokens: &Tokens<'_>,
     module: usize,
     at: usize,
+    first: Result<usize, Why>,
+    name: &str,
 ) -> Result<Field, Why> {
     let Some(sign) = sign_of_field(tokens, at) else {
         return Err(Why::ClassField);
     };
-    let name = next(sign);
-    if tokens.is(next(name), Sign::Dot) {
+    let field = next(sign);
+    if tokens.is(next(field), Sign::Dot) {
         return Err(Why::ClassField);
+    }
+    if tokens.is_identifier(at) {
+        return type_given(world, module, tokens.text(at), tokens.text(field));
     }
     let second = next(next(at));
     let class = if sign == second {
-        world.find(module, tokens.text(at))
+        first
     } else {
         world.find_in(tokens.text(at), tokens.text(second))
     };
-    field_of_class(world, class, tokens.text(at), tokens.text(name))
+    field_of_class(world, class, name, tokens.text(field))
+}
+
+/// The type that an object gives for a field.
+fn type_given(world: &World<'_>, module: usize, object: &str, field: &str) -> Result<Field, Why> {
+    let given = given_by(world, module, object, field)?;
+    let Some(there) = world.tokens_of(given.module) else {
+        return Err(Why::ClassField);
+    };
+    match type_end(there, given.start) {
+        Ok(end) if end == given.end => Ok(Field::Type {
+            module: given.module,
+            start: given.start,
+            end,
+        }),
+        _ => Err(Why::ClassField),
+    }
 }
 
 /// The field of a name in the class to which a name leads, of which `first` is the assignment.
@@ -73,11 +96,35 @@ fn field_of_class(
     name: &str,
     field: &str,
 ) -> Result<Field, Why> {
+    match class_of(world, first, name)? {
+        Class::Defined { module, braces } => match world.tokens_of(module) {
+            Some(there) => field_named(world, there, module, braces, field),
+            None => Err(Why::ClassField),
+        },
+        Class::BuiltIn if field == "Type" => Ok(Field::Open),
+        Class::BuiltIn => Err(Why::ClassField),
+    }
+}
+
+/// A class: its module and the braces of its fields, or one that X.681 defines.
+#[derive(Clone, Copy)]
+pub(crate) enum Class {
+    Defined { module: usize, braces: usize },
+    BuiltIn,
+}
+
+/// The class to which a name leads, of which `first` is the assignment.
+pub(crate) fn class_of(
+    world: &World<'_>,
+    first: Result<usize, Why>,
+    name: &str,
+) -> Result<Class, Why> {
     let (mut found, mut name) = (first, name);
     for _ in 0..MOST_LEADS {
         let class = match found {
             Ok(to) => world.assignment(to),
-            Err(Why::Unknown) => return built_in(name, field),
+            Err(Why::Unknown) if is_built_in(name) => return Ok(Class::BuiltIn),
+            Err(Why::Unknown) => return Err(Why::ClassField),
             Err(why) => return Err(why),
         };
         let class = match class {
@@ -88,7 +135,10 @@ fn field_of_class(
             return Err(Why::ClassField);
         };
         if there.is_word(class.start, "CLASS") {
-            return field_named(world, there, class.module, next(class.start), field);
+            return Ok(Class::Defined {
+                module: class.module,
+                braces: next(class.start),
+            });
         }
         found = match world.reference_at(class.module, class.start) {
             Ok((to, _)) => Ok(to),
@@ -102,15 +152,6 @@ fn field_of_class(
 /// Whether X.681 defines a class of this name.
 pub(crate) fn is_built_in(class: &str) -> bool {
     class == "TYPE-IDENTIFIER" || class == "ABSTRACT-SYNTAX"
-}
-
-/// The field of a class that X.681 defines.
-fn built_in(class: &str, field: &str) -> Result<Field, Why> {
-    if is_built_in(class) && field == "Type" {
-        Ok(Field::Open)
-    } else {
-        Err(Why::ClassField)
-    }
 }
 
 /// The field of a name in the braces of a class.

@@ -5,6 +5,7 @@ ghost use Rattle.asn_module.specs.ModuleView.{types_view};
 
 use crate::building::Forest;
 use crate::fault::PublishedFault;
+use crate::missing::{MissingImport, missing_imports};
 use crate::modules::{What, World};
 use crate::naming::names_of;
 use crate::numbers::numbers_of;
@@ -21,13 +22,14 @@ use std::alloc::{AllocError, Global};
 /// How often types are written again without one that the profile does not take.
 const MOST_TRIES: u32 = 64;
 
-/// A module of the profile, its text as it is printed, and what became of each type of the published ones, in their
-/// order.
+/// A module of the profile, its text as it is printed, what became of each type of the published ones, in their order,
+/// and the modules that these import from and that are not given.
 #[derive(Debug, Drop)]
 pub struct Flattened {
     pub text: String,
     pub module: Module,
     pub report: Vec<TypeReport>,
+    pub missing: Vec<MissingImport>,
 }
 
 /// What is read of the texts. Types are counted from the assignments on, and after them the instances.
@@ -53,7 +55,19 @@ fn world_of<'t>(alloc: Global, texts: &[&'t str]) -> Result<World<'t>, Published
     }
     world.take_class_names();
     world.take_value_sets();
+    read_values(alloc, &world)?;
     Ok(world)
+}
+
+/// Reads the values that stand in all assignments.
+fn read_values(alloc: Global, world: &World<'_>) -> Result<(), PublishedFault> {
+    for (index, assignment) in world.assignments.iter().enumerate() {
+        match world.read_values(alloc, assignment) {
+            Ok(()) => {}
+            Err(fault) => return Err(PublishedFault::of(text_of(world, index), fault)),
+        }
+    }
+    Ok(())
 }
 
 /// Where the nodes of each type stand.
@@ -225,11 +239,11 @@ fn attempt(
     let written = write_all(alloc, sources, options, refused)?;
     let text = text_written(alloc, sources, &written)?;
     let (text, module) = read_back(alloc, text.as_str())?;
-    let report = reports_of(alloc, written)?;
     Ok(Flattened {
         text,
         module,
-        report,
+        report: reports_of(alloc, written)?,
+        missing: missing_imports(alloc, &sources.world)?,
     })
 }
 

@@ -34,7 +34,7 @@ fn push_escaped(out: &mut String, letter: char) -> Result<(), AllocError>
 }
 
 /// A text as a string of JSON.
-fn quoted(alloc: Global, text: &str) -> Result<String, AllocError>
+pub(crate) fn quoted(alloc: Global, text: &str) -> Result<String, AllocError>
     ensures { IfOk result (λ out. string_bytes out ≡ quoted text.now) }
 {
     let mut out = String::new(alloc);

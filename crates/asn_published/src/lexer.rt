@@ -1,52 +1,12 @@
 //! Cuts a text into its lexical items (X.680, "ASN.1 lexical items"), with both kinds of comment.
+use crate::octets::{Place, octet_at, on, step};
 use crate::token::{Kind, Sign, Token};
 use crate::wrong::{TextFault, Wrong};
+use crate::xml::after_xml;
 use std::alloc::Global;
 
 /// How many characters a name may have, which stands in each line of a report.
 const MOST_CHARACTERS: usize = 1000;
-
-/// A place in a text: an octet, from 0, and its line, from 1.
-#[derive(Clone, Copy)]
-struct Place {
-    at: usize,
-    line: u32,
-}
-
-/// The octet at an index, or 0 past the end.
-fn octet_at(octets: &[u8], index: usize) -> u8 {
-    match octets.get(index) {
-        Some(octet) => *octet,
-        None => 0,
-    }
-}
-
-/// The index `by` octets on.
-fn on(at: usize, by: usize) -> usize {
-    at.saturating_add(by)
-}
-
-/// Whether the octet ends a line: LF, or CR without an LF after it, or VT or FF.
-fn ends_line(octets: &[u8], at: usize) -> bool {
-    match octet_at(octets, at) {
-        b'\n' | 11 | 12 => true,
-        b'\r' => octet_at(octets, on(at, 1)) != b'\n',
-        _ => false,
-    }
-}
-
-/// The place after one octet.
-fn step(octets: &[u8], place: Place) -> Place {
-    let line = if ends_line(octets, place.at) {
-        place.line.saturating_add(1)
-    } else {
-        place.line
-    };
-    Place {
-        at: on(place.at, 1),
-        line,
-    }
-}
 
 /// The place after a comment that began with two hyphens, from its third octet on.
 fn after_line_comment(octets: &[u8], from: Place) -> Place {
@@ -175,7 +135,7 @@ fn after_digits(octets: &[u8], from: usize) -> usize {
 fn after_number(octets: &[u8], from: usize) -> (Kind, usize) {
     let mut at = after_digits(octets, from);
     let mut kind = Kind::Number;
-    if octet_at(octets, at) == b'.' && octet_at(octets, on(at, 1)).is_ascii_digit() {
+    if octet_at(octets, at) == b'.' && octet_at(octets, on(at, 1)) != b'.' {
         at = after_digits(octets, on(at, 1));
         kind = Kind::Real;
     }
@@ -256,54 +216,56 @@ fn no_item(line: u32) -> TextFault {
     }
 }
 
-/// The bits or octets whose first quote is at a place, and the place after the B or H after them.
-fn after_digits_quoted(octets: &[u8], from: Place) -> Result<Place, TextFault> {
-    let mut after = after_quoted(octets, from)?;
-    match octet_at(octets, after.at) {
-        b'B' | b'H' => {
-            after.at = on(after.at, 1);
-            Ok(after)
-        }
-        _ => Err(no_item(from.line)),
+/// Whether an octet stands in bits, or in hexadecimal digits: those of capitals, and blanks.
+fn is_digit_of(kind: u8, octet: u8) -> bool {
+    match octet {
+        b'0' | b'1' | 9..=13 | b' ' => true,
+        b'2'..=b'9' | b'A'..=b'F' => kind == b'H',
+        _ => false,
     }
 }
 
-/// The place after a value in XML (X.680, "XML value assignment"), whose first tag is at `from`: after the end tag of
-/// that one.
-fn after_xml(octets: &[u8], from: Place) -> Result<Place, TextFault> {
-    let mut place = from;
-    let mut open = 0usize;
-    let mut is_end = false;
-    let mut before = 0u8;
-    for _ in 0..octets.len() {
-        if place.at >= octets.len() {
-            break;
-        }
-        let octet = octet_at(octets, place.at);
-        place = step(octets, place);
-        if octet == b'<' {
-            is_end = octet_at(octets, place.at) == b'/';
-            open = open.saturating_add(if is_end { 0 } else { 1 });
-        }
-        if octet == b'>' && (is_end || before == b'/') {
-            is_end = false;
-            open = open.saturating_sub(1);
-            if open == 0 {
-                return Ok(place);
-            }
-        }
-        before = octet;
+/// Whether the octets between two quotes are bits, or hexadecimal digits.
+fn are_digits_of(kind: u8, octets: &[u8], first_quote: usize, last_quote: usize) -> bool {
+    match octets.get(on(first_quote, 1)..last_quote) {
+        Some(digits) => digits.iter().all(|digit| is_digit_of(kind, *digit)),
+        None => false,
     }
-    Err(TextFault::At {
-        line: from.line,
-        wrong: Wrong::Unended,
+}
+
+/// The place after bits or octets whose first quote is at a place, with the B or H after them.
+fn after_digits_quoted(octets: &[u8], from: Place) -> Result<Place, TextFault> {
+    let after = after_quoted(octets, from)?;
+    let kind = octet_at(octets, after.at);
+    if kind != b'B' && kind != b'H' {
+        return Err(no_item(from.line));
+    }
+    if !are_digits_of(kind, octets, from.at, after.at.saturating_sub(1)) {
+        let wrong = Wrong::Expected(if kind == b'B' {
+            "bits"
+        } else {
+            "hexadecimal digits"
+        });
+        return Err(TextFault::At {
+            line: from.line,
+            wrong,
+        });
+    }
+    Ok(Place {
+        at: on(after.at, 1),
+        line: after.line,
     })
 }
 
 /// The kind of the lexical item that begins at a place, and the place after it; `follows` says that it follows `::=`.
-fn item_after(octets: &[u8], from: Place, follows: bool) -> Result<(Kind, Place), TextFault> {
+fn item_after(
+    alloc: Global,
+    octets: &[u8],
+    from: Place,
+    follows: bool,
+) -> Result<(Kind, Place), TextFault> {
     if follows && octet_at(octets, from.at) == b'<' {
-        Ok((Kind::Xml, after_xml(octets, from)?))
+        Ok((Kind::Xml, after_xml(alloc, octets, from)?))
     } else {
         item_at(octets, from)
     }
@@ -346,7 +308,7 @@ pub(crate) fn tokens_of<'t>(alloc: Global, text: &'t str) -> Result<Vec<Token<'t
         if place.at >= octets.len() {
             break;
         }
-        let (kind, after) = item_after(octets, place, follows)?;
+        let (kind, after) = item_after(alloc, octets, place, follows)?;
         follows = kind == Kind::Sign(Sign::Becomes);
         let Some(item) = text.get(place.at..after.at) else {
             return Err(no_item(place.line));

@@ -1,9 +1,10 @@
 //! Takes the components, alternatives, marks and groups of a type (X.680, "sequence type", "choice type").
 use crate::building::{Forest, Task};
-use crate::extents::{type_end, value_end};
+use crate::extents::type_end;
 use crate::nodes::{Holder, Member, MemberKind, Need, Shape};
 use crate::token::{Kind, Sign};
 use crate::tokens::{Tokens, next};
+use crate::value_steps::value_end;
 use crate::wrong::TextFault;
 
 /// A place among the members of a type: the index, and how many extension marks and groups stand before it.

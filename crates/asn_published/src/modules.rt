@@ -45,6 +45,8 @@ pub(crate) struct ModuleText<'t> {
     pub extensible: bool,
     /// The module that each imported name comes from.
     pub imports: HashMap<&'t str, &'t str>,
+    /// The names of the modules that are imported from, by their index among the lexical items.
+    pub sources: Vec<usize>,
     /// The index of each assignment.
     pub names: HashMap<&'t str, usize>,
 }
@@ -111,6 +113,7 @@ fn head_of<'t>(
         automatic,
         extensible,
         imports: HashMap::new(alloc),
+        sources: Vec::new(alloc),
         names: HashMap::new(alloc),
     };
     Ok((module, next(at)))
@@ -175,6 +178,7 @@ fn after_source_of<'t>(
     if !tokens.is_capital(at) {
         return Err(tokens.expected(at, "the name of a module"));
     }
+    module.sources.push(at)?;
     let source = tokens.text(at);
     for symbol in symbols {
         module.imports.insert(*symbol, source)?;

@@ -3,6 +3,7 @@ use crate::info::State;
 use crate::instances::Instances;
 use crate::modules::{What, World};
 use crate::named_numbers::{named_number_of, place_of_named};
+use crate::objects::{given_by, object_field_at};
 use crate::ranges::Ranges;
 use crate::refusal::{Refusal, Why, refused};
 use crate::token::{Kind, Sign};
@@ -51,8 +52,24 @@ enum Lead {
     None,
 }
 
-/// Where the value at `at` leads, to a number or to another value, and the index after it.
+/// Where the value at `at` leads, to a number or to another value, and the index after it; of a field of an object where
+/// what it gives leads.
 fn lead_at(world: &World<'_>, module: usize, at: usize) -> Option<(Lead, usize)> {
+    let tokens = world.tokens_of(module)?;
+    let Some(field) = object_field_at(tokens, at) else {
+        return plain_lead_at(world, module, at);
+    };
+    match given_by(world, module, tokens.text(at), tokens.text(field)) {
+        Ok(given) => match plain_lead_at(world, given.module, given.start) {
+            Some((lead, end)) if end == given.end => Some((lead, next(field))),
+            _ => None,
+        },
+        Err(_why) => None,
+    }
+}
+
+/// Where the value at `at` leads that is no field of an object, and the index after it.
+fn plain_lead_at(world: &World<'_>, module: usize, at: usize) -> Option<(Lead, usize)> {
     let tokens = world.tokens_of(module)?;
     if let Some((number, end)) = written_number(tokens, at) {
         return Some((Lead::Number(number), end));
@@ -144,8 +161,29 @@ pub(crate) fn numbers_of(alloc: Global, world: &World<'_>) -> Result<Vec<Option<
     Ok(numbers)
 }
 
-/// The number written or referred to at `at` of a module, and the index after it; `numbers` has those of assignments.
+/// The number written or referred to at `at` of a module, or given by an object for a field, and the index after it;
+/// `numbers` has those of assignments.
 pub(crate) fn number_in(
+    world: &World<'_>,
+    numbers: &[Option<i128>],
+    module: usize,
+    at: usize,
+) -> Option<(i128, usize)> {
+    let tokens = world.tokens_of(module)?;
+    let Some(field) = object_field_at(tokens, at) else {
+        return plain_number_in(world, numbers, module, at);
+    };
+    match given_by(world, module, tokens.text(at), tokens.text(field)) {
+        Ok(given) => match plain_number_in(world, numbers, given.module, given.start) {
+            Some((number, end)) if end == given.end => Some((number, next(field))),
+            _ => None,
+        },
+        Err(_why) => None,
+    }
+}
+
+/// The number written or referred to at `at` of a module, and the index after it.
+fn plain_number_in(
     world: &World<'_>,
     numbers: &[Option<i128>],
     module: usize,

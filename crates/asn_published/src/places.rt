@@ -1,8 +1,9 @@
 //! Where the parts of constraints begin and end.
-use crate::extents::{type_end, value_end};
+use crate::extents::type_end;
 use crate::refusal::{Refusal, Why, refused};
 use crate::token::Sign;
 use crate::tokens::{Tokens, next};
+use crate::value_steps::value_end;
 
 /// The index of what ends the first constraint of a group, or `end`: a comma or `!` outside brackets.
 pub(crate) fn root_end(tokens: &Tokens<'_>, start: usize, end: usize) -> usize {
@@ -98,8 +99,11 @@ pub(crate) fn only_letter(text: &str) -> Option<i128> {
     }
 }
 
-/// The index after a value.
+/// The index after a value, MIN or MAX.
 pub(crate) fn after_value(tokens: &Tokens<'_>, at: usize) -> Result<usize, Refusal> {
+    if tokens.is_word(at, "MIN") || tokens.is_word(at, "MAX") {
+        return Ok(next(at));
+    }
     match value_end(tokens, at) {
         Ok(behind) => Ok(behind),
         Err(_) => Err(refused(tokens.line(at), Why::Constraint)),

@@ -31,10 +31,31 @@ impl<'t> Writer<'t> {
         else {
             return Ok(());
         };
-        let line = known.line_of(node);
         let scope = known.scope_of(node, None);
         let seen = known.values.sizes_seen(alloc, scope, size, size_end)?;
         self.remark_dropped(alloc, known, index, &seen)?;
+        self.put_list(
+            alloc,
+            known,
+            index,
+            seen,
+            element,
+            known.line_of(node),
+            depth,
+        )
+    }
+
+    /// Writes SEQUENCE OF with what is left of its sizes, and asks for its element.
+    fn put_list(
+        &mut self,
+        alloc: Global,
+        known: Known<'_, 't>,
+        index: usize,
+        seen: Seen,
+        element: usize,
+        line: u32,
+        depth: usize,
+    ) -> Result<(), Refusal> {
         self.out.push_str(" SEQUENCE")?;
         self.put_size(alloc, known, index, &seen, line)?;
         let end = Task::List {
@@ -84,7 +105,7 @@ impl<'t> Writer<'t> {
             self.remark(alloc, known, index, Remark::Dropped)?;
             return self.put_name(alloc, known, to);
         }
-        self.write_constrained(alloc, known, index, node, to)
+        self.write_constrained(alloc, known, index, node, to, depth)
     }
 
     /// Writes NULL where recursion ends.
@@ -174,6 +195,7 @@ impl<'t> Writer<'t> {
         index: usize,
         node: &Node<'t>,
         to: usize,
+        depth: usize,
     ) -> Result<(), Refusal> {
         let line = known.line_of(node);
         let base = self.last.base;
@@ -189,6 +211,9 @@ impl<'t> Writer<'t> {
         };
         let scope = known.scope_of(node, named).after(&self.last.left);
         let own = self.seen_of(alloc, known, index, node, mode, scope)?;
+        if base == Base::List && self.last.marked && own.sizes.is_some() {
+            return self.write_list_again(alloc, known, index, own, to, line, depth);
+        }
         if base == Base::List {
             self.put_name(alloc, known, to)?;
             return self.put_further_size(alloc, known, index, own, line);
@@ -199,6 +224,30 @@ impl<'t> Writer<'t> {
         } else {
             self.put_string(alloc, known, index, base, seen, line)
         }
+    }
+
+    /// Writes a list of a name once more, with a further size: the extension mark of its own size is none of the
+    /// further one (X.680, "serial application of constraints"), and the profile has no further size of a size with a
+    /// mark.
+    fn write_list_again(
+        &mut self,
+        alloc: Global,
+        known: Known<'_, 't>,
+        index: usize,
+        own: Seen,
+        to: usize,
+        line: u32,
+        depth: usize,
+    ) -> Result<(), Refusal> {
+        let element = match element_of(known, to) {
+            Some(element) if !known.is_below(to) => element,
+            _ => return Err(refused(line, Why::Size)),
+        };
+        let both = seen_with(alloc, &self.last, own, line)?;
+        // the nodes of the element are counted as it is written
+        let counted = self.last.nodes.saturating_sub(1);
+        self.nodes = self.nodes.saturating_sub(counted);
+        self.put_list(alloc, known, index, both, element, line, depth)
     }
 
     /// Writes a further size of a list, whose name is written.
@@ -213,9 +262,6 @@ impl<'t> Writer<'t> {
         if own.sizes.is_none() {
             return Ok(());
         }
-        if self.last.marked {
-            return Err(refused(line, Why::Size));
-        }
         let both = seen_with(alloc, &self.last, own, line)?;
         self.put_size(alloc, known, index, &both, line)?;
         self.last.no_bits = is_zero(&both, line)?;
@@ -223,6 +269,22 @@ impl<'t> Writer<'t> {
         self.last.marked = both.marked;
         Ok(())
     }
+}
+
+/// The node of the element of the list that a name stands for.
+fn element_of(known: Known<'_, '_>, to: usize) -> Option<usize> {
+    let mut to = to;
+    for _ in 0..MOST_SELECTIONS {
+        let Some(Some(first)) = known.firsts.get(to) else {
+            return None;
+        };
+        match known.forest.node(*first)?.shape {
+            Shape::List { element, .. } => return Some(element),
+            Shape::Reference { to: inner } => to = inner,
+            _ => return None,
+        }
+    }
+    None
 }
 
 /// What the constraints of a type leave, and further ones.

@@ -60,7 +60,11 @@ impl<'t> Forest<'t> {
         if it.is_field {
             return Ok(Some(Shape::Refused(Why::ClassField)));
         }
-        match field_at(world, tokens, it.module, at) {
+        let (first, name) = match self.class_for(world, &it, tokens.text(at)) {
+            Ok(found) => found,
+            Err(why) => return Ok(Some(Shape::Refused(why))),
+        };
+        match field_at(world, tokens, it.module, at, first, name) {
             Ok(Field::Open) => Ok(Some(Shape::Open)),
             Ok(Field::Type { module, start, end }) => {
                 let type_of_values = Actual {
@@ -78,6 +82,34 @@ impl<'t> Forest<'t> {
             }
             Err(why) => Ok(Some(Shape::Refused(why))),
         }
+    }
+
+    /// The assignment of a class that is named at a node, or of one that stands for a parameter of this name, and its
+    /// name there.
+    fn class_for(
+        &self,
+        world: &World<'t>,
+        node: &Node<'t>,
+        name: &'t str,
+    ) -> Result<(Result<usize, Why>, &'t str), Why> {
+        let mut module = node.module;
+        let mut name = name;
+        let mut instance = node.instance;
+        for _ in 0..self.instances.all.len() {
+            let Some(inside) = instance else {
+                break;
+            };
+            let Some(actual) = self.instances.actual(world, inside, name)? else {
+                break;
+            };
+            module = actual.module;
+            instance = actual.outer;
+            name = match world.tokens_of(module) {
+                Some(tokens) => tokens.text(actual.start),
+                None => "",
+            };
+        }
+        Ok((world.find(module, name), name))
     }
 
     /// Lets a node be built of other lexical items.

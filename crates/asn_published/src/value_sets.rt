@@ -82,7 +82,7 @@ impl<'t> World<'t> {
     }
 
     /// Whether the names from `from` on lead to a type.
-    fn leads_to_type(&self, module: usize, from: usize) -> bool {
+    pub fn leads_to_type(&self, module: usize, from: usize) -> bool {
         let mut module = module;
         let mut from = from;
         for _ in 0..MOST_LEADS {

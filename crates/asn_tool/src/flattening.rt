@@ -2,7 +2,10 @@
 use crate::request::Form;
 use crate::stop::Stop;
 use crate::texts::{texts_of, views_of};
-use asn_published::{Options, Status, TypeReport, flatten, report_json, report_text, summary_of};
+use asn_published::{
+    Flattened, Options, Status, TypeReport, flatten, missing_json, missing_text, report_json,
+    report_text, summary_of,
+};
 use std::alloc::{AllocError, Global};
 
 /// Writes the module that the published modules of these files become to standard output, and what became of each type
@@ -19,16 +22,32 @@ pub fn flatten_files<'a>(
         Ok(flattened) => flattened,
         Err(fault) => return Err(Stop::of(files, fault)),
     };
-    let report = flattened.report.as_slice();
-    let told = report_in(rt.alloc(), files, report, form)?;
+    let told = told_in(rt.alloc(), files, &flattened, form)?;
     match rt.print(flattened.text.as_str()) {
         Ok(()) => {}
         Err(_) => return Err(Stop::Write),
     }
     match rt.eprint(told.as_str()) {
-        Ok(()) => Ok(flatten_ending(report)),
+        Ok(()) => Ok(flatten_ending(flattened.report.as_slice())),
         Err(_) => Err(Stop::Write),
     }
+}
+
+/// The modules that are not given, and what became of the types, in this form.
+fn told_in(
+    alloc: Global,
+    files: &[&str],
+    flattened: &Flattened,
+    form: Form,
+) -> Result<String, AllocError> {
+    let missing = flattened.missing.as_slice();
+    let mut told = match form {
+        Form::Summary | Form::Text => missing_text(alloc, files, missing)?,
+        Form::Json => missing_json(alloc, files, missing)?,
+    };
+    let report = report_in(alloc, files, flattened.report.as_slice(), form)?;
+    told.push_str(report.as_str())?;
+    Ok(told)
 }
 
 /// What became of the types, in this form.

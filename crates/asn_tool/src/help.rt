@@ -22,7 +22,7 @@ In: the texts of modules as they are published: with IMPORTS, object identifiers
 in [[ ]], contents, classes and parameters.
 Out: on standard output the one module of the profile that they become. On standard error what became of the types: how
 many are the same, wider, owed, per only and refused; with --report text a line for each remark, as FILE:LINE: TYPE:
-STATUS: REMARK; with --report json a line of JSON for each type.
+STATUS: REMARK; with --report json a line of JSON for each type. Before it each import of a module that is not given.
 
 Exit status: 0; 1 if at least one type was refused; 2 if a text is none of the notation, which standard error tells with
 file and line; 3 if reading, writing or memory failed.

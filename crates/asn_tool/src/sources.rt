@@ -10,7 +10,8 @@ ghost use Rattle.asn_tool.specs.Sources.{IsInput, IsInputOf, IsOwn, IsOwnInput, 
 use asn_convert::{Job, cut_input};
 use asn_module::{Module, ModuleFault};
 use asn_published::{
-    Flattened, Options, PublishedFault, Status, TypeReport, flatten, report_text, way_text,
+    Flattened, Options, PublishedFault, Status, TypeReport, flatten, missing_text, report_text,
+    way_text,
 };
 use std::alloc::{AllocError, Global};
 
@@ -191,9 +192,8 @@ fn flattened_input(
     requires { Accepted (string_bytes flattened.now.text) (types_view flattened.now.module) }
     ensures { IfOk result (λ i. IfSome i.octets (λ o. IsInput rest.now o.items)) }
 {
-    let report = flattened.report.as_slice();
-    let remarks = remarks(alloc, files, report, job)?;
-    if *job == Job::Module && !is_whole(report) {
+    let remarks = remarks(alloc, files, flattened, job)?;
+    if *job == Job::Module && !is_whole(flattened.report.as_slice()) {
         return Ok(Instead {
             octets: None,
             remarks,
@@ -222,8 +222,22 @@ fn is_whole(report: &[TypeReport]) -> bool {
     report.iter().all(|one| one.status != Status::Refused)
 }
 
-/// A line for each remark on the types that the job needs, `files` being the names of the files of the texts.
+/// A line for each import of a module that is not given, and for each remark on the types that the job needs, `files`
+/// being the names of the files of the texts.
 fn remarks(
+    alloc: Global,
+    files: &[&str],
+    flattened: &Flattened,
+    job: &Job,
+) -> Result<String, AllocError> {
+    let mut remarks = missing_text(alloc, files, flattened.missing.as_slice())?;
+    let of_types = remarks_on_types(alloc, files, flattened.report.as_slice(), job)?;
+    remarks.push_str(of_types.as_str())?;
+    Ok(remarks)
+}
+
+/// A line for each remark on the types that the job needs, `files` being the names of the files of the texts.
+fn remarks_on_types(
     alloc: Global,
     files: &[&str],
     report: &[TypeReport],

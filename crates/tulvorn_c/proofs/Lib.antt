@@ -1,3 +1,4 @@
 mod HandleValues
 mod LooseValues
 mod ObjectSend
+mod Texts

@@ -1,5 +1,5 @@
 -- What calls answer, as numbers: a code, a reason, a place.
-use Rattle.std.specs.Prelude.{ℕ}
+use Rattle.std.specs.Prelude.{ℕ, Result, Ok, Err}
 use Rattle.asn_rules.specs.declared.fault.Why.{Why}
 use Rattle.asn_rules.specs.declared.fault.Why.TheVariants as why
 use Rattle.asn_rules.specs.declared.fault.DecodeFault.{DecodeFault}
@@ -10,6 +10,9 @@ use Rattle.asn_rules.specs.declared.fault.LengthFault.{LengthFault}
 use Rattle.asn_rules.specs.declared.fault.LengthFault.TheVariants as long
 use Rattle.asn_rules.specs.declared.fault.EncodeIntoFault.{EncodeIntoFault}
 use Rattle.asn_rules.specs.declared.fault.EncodeIntoFault.TheVariants as into
+use Rattle.asn_rules.specs.declared.session.FeedFault.{FeedFault}
+use Rattle.asn_rules.specs.declared.session.FeedFault.TheVariants as feed
+use Rattle.asn_rules.specs.declared.session.Truncated.{Truncated}
 use Rattle.asn_convert.specs.declared.conversion.ConvertFault.{ConvertFault}
 use Rattle.asn_convert.specs.declared.conversion.ConvertFault.TheVariants as convert
 use Rattle.asn_json.specs.declared.fault.JsonFault.{JsonFault}
@@ -56,8 +59,11 @@ number_of why.Character = 5
 number_of why.Padding = 6
 number_of why.Number = 7
 
+abbrev pub refused : ℕ → Why → Fault
+refused at why = record { code = 3; why = number_of why; at = at }
+
 abbrev pub of_decode : DecodeFault → Fault
-of_decode (decode.Refused at why) = record { code = 3; why = number_of why; at = at }
+of_decode (decode.Refused at why) = refused at why
 of_decode (decode.Truncated taken) = placed 4 taken
 of_decode (decode.Rest used) = placed 5 used
 of_decode decode.TooLong = too_long
@@ -87,6 +93,17 @@ abbrev pub of_json : JsonFault → Fault
 of_json (json.Shape path) = plain 13
 of_json json.NotOfType = not_of_type
 of_json json.Memory = no_memory
+
+abbrev pub of_feed : FeedFault → Fault
+of_feed (feed.Refused at why) = refused at why
+of_feed feed.TooLong = too_long
+of_feed feed.Memory = no_memory
+of_feed feed.Spent = plain 20
+
+-- what is told at the end of a session
+abbrev pub of_end : Result (Unit {0}) Truncated → Fault
+of_end (Ok a) = done
+of_end (Err cut) = placed 4 cut.taken
 
 abbrev pub of_newer : NewerFault → Fault
 of_newer newer.Refused = plain 16

@@ -12,7 +12,7 @@ use Rattle.tulvorn_c.specs.declared.object.Object.TheVariants.{Module, Checked, 
 
 -- the module, its names and their types
 abbrev pub held_module : Option Object → Option ModuleTypes
-held_module (Some (Module held)) = Some (types_view held)
+held_module (Some (Module held)) = Some (types_view held.value)
 held_module _ = None
 
 -- the type

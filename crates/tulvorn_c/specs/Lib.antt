@@ -2,6 +2,8 @@ pub mod Answers
 pub mod Faults
 pub mod Held
 pub mod Kept
+pub mod Misfits
 pub mod Newer
 pub mod Parts
+pub mod Sessions
 pub mod Words

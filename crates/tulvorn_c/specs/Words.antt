@@ -58,6 +58,7 @@ words_of_code n =
     else if nat_eq n 13 then codes "not of the type's shape" else if nat_eq n 14 then codes "nothing at the path"
     else if nat_eq n 15 then codes "another kind" else if nat_eq n 16 then codes "no message"
     else if nat_eq n 17 then codes "cut short" else if nat_eq n 18 then codes "too many additions"
+    else if nat_eq n 19 then codes "more octets wanted" else if nat_eq n 20 then codes "session spent"
     else codes "unknown code"
 
 abbrev pub words_by : Unit → ℕ → Option DecodeFault → List ℕ

@@ -3,8 +3,8 @@ ghost use Rattle.std.specs.Prelude.{◌≡◌};
 ghost use Rattle.tulvorn_c.specs.Faults as faults;
 
 use tulvorn::{
-    ConvertFault, DecodeFault, EncodeFault, EncodeIntoFault, JsonFault, LengthFault, ModuleFault,
-    NewerFault,
+    ConvertFault, DecodeFault, EncodeFault, EncodeIntoFault, FeedFault, JsonFault, LengthFault,
+    ModuleFault, NewerFault, Truncated, Why,
 };
 
 /// The call did what it was asked for.
@@ -64,6 +64,12 @@ const CUT_MESSAGE: u32 = 17;
 /// More extension additions than the profile allows.
 const TOO_MANY_ADDITIONS: u32 = 18;
 
+/// The octets that a session took are no whole encoding, and one may still follow.
+pub(crate) const MORE: u32 = 19;
+
+/// The session has given its value, or wanted memory.
+const SPENT: u32 = 20;
+
 /// What a call answered: a code, and, as the code says, a reason and a place.
 #[repr(C)]
 #[derive(Clone, Copy, Drop)]
@@ -92,15 +98,22 @@ impl Fault {
         Fault { code, why: 0, at }
     }
 
+    /// A refusal.
+    fn refused(at: u64, why: Why) -> Fault
+        ensures { result ≡ faults.refused at why }
+    {
+        Fault {
+            code: REFUSED,
+            why: why as u32,
+            at,
+        }
+    }
+
     pub(crate) fn of_decode(fault: DecodeFault) -> Fault
         ensures { result ≡ faults.of_decode fault }
     {
         match fault {
-            DecodeFault::Refused { at, why } => Fault {
-                code: REFUSED,
-                why: why as u32,
-                at,
-            },
+            DecodeFault::Refused { at, why } => Fault::refused(at, why),
             DecodeFault::Truncated { taken } => Fault::placed(TRUNCATED, taken),
             DecodeFault::Rest { used } => Fault::placed(REST, used as u64),
             DecodeFault::TooLong => Fault::plain(TOO_LONG),
@@ -155,6 +168,27 @@ impl Fault {
             JsonFault::Shape { .. } => Fault::plain(SHAPE),
             JsonFault::NotOfType => Fault::plain(NOT_OF_TYPE),
             JsonFault::Memory => Fault::plain(NO_MEMORY),
+        }
+    }
+
+    pub(crate) fn of_feed(fault: FeedFault) -> Fault
+        ensures { result ≡ faults.of_feed fault }
+    {
+        match fault {
+            FeedFault::Refused { at, why } => Fault::refused(at, why),
+            FeedFault::TooLong => Fault::plain(TOO_LONG),
+            FeedFault::Memory => Fault::plain(NO_MEMORY),
+            FeedFault::Spent => Fault::plain(SPENT),
+        }
+    }
+
+    /// What is told at the end of a session.
+    pub(crate) fn of_end(answer: Result<(), Truncated>) -> Fault
+        ensures { result ≡ faults.of_end answer }
+    {
+        match answer {
+            Ok(()) => Fault::plain(DONE),
+            Err(cut) => Fault::placed(TRUNCATED, cut.taken),
         }
     }
 

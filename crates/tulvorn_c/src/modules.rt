@@ -66,7 +66,9 @@ fn module_read(alloc: Global, text: &str) -> Result<Handle, ModuleFault>
     ensures refused { IfErr result (λ e. (e ≡ ModuleFault.Memory → ⊥) → (m : ModuleTypes) →
         Accepted text.now m → ⊥) }
 {
-    let module = read(alloc, text)?;
+    let Ok(module) = Box::new(alloc, read(alloc, text)?) else {
+        return Err(ModuleFault::Memory);
+    };
     match Handle::holding(alloc, Object::Module(module)) {
         Ok(held) => Ok(held),
         Err(_) => Err(ModuleFault::Memory),
@@ -92,7 +94,7 @@ pub extern "C" fn tulvorn_type(
         return MISUSE;
     };
     *fault = match it.as_ref() {
-        Object::Module(module) => put_type_of(alloc, module, name, ty),
+        Object::Module(module) => put_type_of(alloc, module.as_ref(), name, ty),
         _ => Fault::plain(MISUSE),
     };
     *held = Handle::of(it);

@@ -1,12 +1,23 @@
 //! All that a handle can hold.
-use tulvorn::{Checked, Module, Skipped, Value};
+use tulvorn::{Checked, Module, Oer, Per, Session, Skipped, Value};
 
-/// What a handle holds.
+/// What a handle holds. What is large is behind a box, since each call that makes an object moves one.
 #[derive(Drop)]
 pub enum Object {
-    Module(Module),
+    Module(Box<Module>),
     Checked(Checked),
-    Value { ty: Checked, value: Value },
+    Value {
+        ty: Checked,
+        value: Value,
+    },
     Octets(Vec<u8>),
     Skipped(Vec<Skipped>),
+    PerSession {
+        ty: Checked,
+        session: Box<Session<Per>>,
+    },
+    OerSession {
+        ty: Checked,
+        session: Box<Session<Oer>>,
+    },
 }

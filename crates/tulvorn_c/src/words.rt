@@ -139,6 +139,8 @@ fn words_of_code(code: u32) -> &'static str
         16 => "no message",
         17 => "cut short",
         18 => "too many additions",
+        19 => "more octets wanted",
+        20 => "session spent",
         _ => "unknown code",
     }
 }

@@ -51,6 +51,16 @@ unsafe extern "C" {
         fault: *mut Fault,
     ) -> u32;
     pub fn tulvorn_explain(ty: *mut Handle, rules: u32, octets: *const u8, len: usize, words: *mut Handle) -> u32;
+    pub fn tulvorn_open(ty: *mut Handle, rules: u32, session: *mut Handle) -> u32;
+    pub fn tulvorn_feed(
+        session: *mut Handle,
+        piece: *const u8,
+        len: usize,
+        value: *mut Handle,
+        used: *mut usize,
+        fault: *mut Fault,
+    ) -> u32;
+    pub fn tulvorn_finish(session: *mut Handle, fault: *mut Fault) -> u32;
     pub fn tulvorn_read_newer(
         ty: *mut Handle,
         rules: u32,
@@ -77,6 +87,8 @@ unsafe extern "C" {
         value: *mut Handle,
         fault: *mut Fault,
     ) -> u32;
+    pub fn tulvorn_misfit(ty: *mut Handle, value: *mut Handle, words: *mut Handle) -> u32;
+    pub fn tulvorn_explain_json(ty: *mut Handle, json: *const u8, len: usize, words: *mut Handle) -> u32;
     pub fn tulvorn_kind(value: *mut Handle, path: *const u8, len: usize, kind: *mut u32) -> u32;
     pub fn tulvorn_boolean(value: *mut Handle, path: *const u8, len: usize, truth: *mut u32) -> u32;
     pub fn tulvorn_integer(value: *mut Handle, path: *const u8, len: usize, number: *mut i64) -> u32;

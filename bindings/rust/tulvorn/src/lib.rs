@@ -22,6 +22,9 @@
 #![warn(missing_docs, clippy::pedantic)]
 
 mod ffi;
+mod session;
+
+pub use session::{Fed, Session};
 
 use ffi::{Fault, Handle};
 use std::cell::UnsafeCell;
@@ -152,6 +155,8 @@ pub enum Reason {
     CutMessage,
     /// A message of a newer version has more extension additions than the profile allows.
     TooManyAdditions,
+    /// The session has given its value, or wanted memory.
+    Spent,
     /// The library answered a code that this crate does not know, or the crate misused it.
     Other(u32),
 }
@@ -188,6 +193,7 @@ impl Error {
             16 => Reason::NoMessage,
             17 => Reason::CutMessage,
             18 => Reason::TooManyAdditions,
+            20 => Reason::Spent,
             code => Reason::Other(code),
         };
         Error { reason, fault: (fault.code, fault.why, fault.at), rules }
@@ -252,6 +258,12 @@ impl Held {
                 Skipped { place, octets: octets.unwrap_or_default() }
             })
             .collect()
+    }
+
+    // The words that it holds, if there are any.
+    fn words(&self) -> Option<String> {
+        let words = String::from_utf8_lossy(&self.octets()).into_owned();
+        (!words.is_empty()).then_some(words)
     }
 
     fn octets(&self) -> Vec<u8> {
@@ -385,8 +397,32 @@ impl Type {
             ffi::tulvorn_explain(self.0.get(), rules as u32, octets.as_ptr(), octets.len(), held.get())
         };
         look(code, Fault { code, why: 0, at: 0 }, rules)?;
-        let words = String::from_utf8_lossy(&held.octets()).into_owned();
-        Ok((!words.is_empty()).then_some(words))
+        Ok(held.words())
+    }
+
+    /// Why the JSON shows no value of the type, as `not of the type's shape at $.ok`; None where it shows one.
+    ///
+    /// # Errors
+    /// `NoJson`, `Memory`.
+    pub fn explain_json(&self, json: &str) -> Result<Option<String>, Error> {
+        let held = Held::nothing();
+        // SAFETY: as in `decode`.
+        let code = unsafe { ffi::tulvorn_explain_json(self.0.get(), json.as_ptr(), json.len(), held.get()) };
+        look(code, Fault { code, why: 0, at: 0 }, Rules::Per)?;
+        Ok(held.words())
+    }
+
+    /// The first part of a value, also of another type, that does not fit this type, and why, as
+    /// `$.id: 5 is not in 0..3`; None where it fits.
+    ///
+    /// # Errors
+    /// `Memory`.
+    pub fn misfit(&self, value: &Value) -> Result<Option<String>, Error> {
+        let held = Held::nothing();
+        // SAFETY: the three handles are three objects'.
+        let code = unsafe { ffi::tulvorn_misfit(self.0.get(), value.0.get(), held.get()) };
+        look(code, Fault { code, why: 0, at: 0 }, Rules::Per)?;
+        Ok(held.words())
     }
 
     /// What a receiver of this type reads of a message whose sender's type has more or fewer extension additions.

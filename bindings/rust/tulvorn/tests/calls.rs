@@ -1,11 +1,12 @@
 //! Calls the library from safe Rust.
 
-use tulvorn::{Kind, Module, Reason, Rules, Skipped, Why};
+use tulvorn::{Fed, Kind, Module, Reason, Rules, Skipped, Why};
 
 const MODULE: &str = "M DEFINITIONS AUTOMATIC TAGS ::= BEGIN
 Msg ::= SEQUENCE { id INTEGER (0..7), ok BOOLEAN DEFAULT TRUE, note IA5String (SIZE (0..3)) OPTIONAL }
 All ::= SEQUENCE { far INTEGER, colour ENUMERATED { red, green }, key OCTET STRING, bits BIT STRING,
     one CHOICE { number INTEGER (0..255), none NULL }, list SEQUENCE OF Msg, word UTF8String }
+Low ::= SEQUENCE { id INTEGER (0..3), ok BOOLEAN DEFAULT TRUE, note IA5String (SIZE (0..3)) OPTIONAL }
 END";
 
 const ALL: &str = r#"{"far":-70000000000,"colour":"green","key":"00ff","bits":"101","one":{"number":200},
@@ -65,6 +66,59 @@ fn tells_faults() {
     assert_eq!(reason(Module::read("M")), Reason::NoModule { at: 1 });
     assert_eq!(tulvorn::interface(), 1);
     assert!(tulvorn::version().starts_with("0.1.0"));
+}
+
+#[test]
+fn takes_messages_in_pieces() {
+    let all = Module::read(MODULE).unwrap().ty("All").unwrap();
+    let value = all.read_json(ALL).unwrap();
+    for rules in [Rules::Per, Rules::Oer] {
+        let mut octets = value.encode(rules).unwrap();
+        octets.push(0);
+        for size in 1..octets.len() {
+            let mut session = all.open(rules).unwrap();
+            let mut taken = 0;
+            let found = octets.chunks(size).find_map(|piece| match session.feed(piece).unwrap() {
+                Fed::Done { value, used } => Some((value, used)),
+                Fed::More => {
+                    taken += piece.len();
+                    None
+                }
+            });
+            let (found, used) = found.unwrap();
+            assert_eq!(taken + used, octets.len() - 1);
+            assert_eq!(found.to_json().unwrap(), value.to_json().unwrap());
+            assert_eq!(reason(session.feed(&[0])), Reason::Spent);
+            session.finish().unwrap();
+        }
+    }
+}
+
+#[test]
+fn tells_faults_of_pieces() {
+    let msg = Module::read(MODULE).unwrap().ty("Msg").unwrap();
+    let mut session = msg.open(Rules::Per).unwrap();
+    for _ in 0..2 {
+        assert_eq!(reason(session.feed(&[0xac])), Reason::Refused { at: 6, why: Why::Default });
+    }
+    assert_eq!(reason(session.finish()), Reason::Truncated { taken: 5 });
+    let mut session = msg.open(Rules::Oer).unwrap();
+    assert!(matches!(session.feed(&[0x40]), Ok(Fed::More)));
+    assert_eq!(session.finish().unwrap_err().to_string(), "cut short after 1 octets");
+}
+
+#[test]
+fn tells_where_a_value_does_not_fit() {
+    let module = Module::read(MODULE).unwrap();
+    let (msg, low) = (module.ty("Msg").unwrap(), module.ty("Low").unwrap());
+    let value = msg.read_json(r#"{"id":5}"#).unwrap();
+    assert_eq!(msg.misfit(&value).unwrap(), None);
+    assert_eq!(low.misfit(&value).unwrap().as_deref(), Some("$.id: 5 is not in 0..3"));
+    assert_eq!(msg.explain_json(r#"{"id":5}"#).unwrap(), None);
+    assert_eq!(msg.explain_json(r#"{"id":9}"#).unwrap().as_deref(), Some("not of the type"));
+    let shape = msg.explain_json(r#"{"id":5,"ok":1}"#).unwrap();
+    assert_eq!(shape.as_deref(), Some("not of the type's shape at $.ok"));
+    assert_eq!(reason(msg.explain_json("{")), Reason::NoJson);
 }
 
 #[test]

@@ -1,0 +1,242 @@
+//! Sessions: messages whose octets come in pieces.
+ghost use Rattle.std.specs.Prelude.{◌≡◌, ◌↔◌, ⊤, [], IfOk, IsTrue, IsSome, Some, None};
+ghost use Rattle.asn_values.specs.Shape.{Shape};
+ghost use Rattle.asn_values.specs.View.{shape_of, datum_of};
+ghost use Rattle.asn_view.specs.Typed.{typed};
+ghost use Rattle.asn_rules.specs.Sessions.{Past, waiting};
+ghost use Rattle.asn_per.specs.Rules.{per_ruling};
+ghost use Rattle.asn_oer.specs.Rules.{oer_ruling};
+ghost use Rattle.tulvorn_c.specs.Answers.{Asked, AskedBy, ruling_of};
+ghost use Rattle.tulvorn_c.specs.Faults.{plain};
+ghost use Rattle.tulvorn_c.specs.Held.{held_type, held_value};
+ghost use Rattle.tulvorn_c.specs.Sessions.{
+  held_session,
+  TookBeside,
+  IsOpened,
+  Opens,
+  Answers,
+  FeedsSession,
+  EndsAs,
+  EndsSession,
+};
+
+use crate::fault::{DONE, Fault, MISUSE, MORE, NO_MEMORY};
+use crate::handle::Handle;
+use crate::object::Object;
+use std::alloc::{AllocError, Global};
+use std::mem::replace;
+use tulvorn::{Checked, Oer, Per, Rules, Session, Step, Value, open};
+
+/// A session for a value of the type, which has taken no octet: see `tulvorn::open`.
+#[unsafe(no_mangle)]
+pub extern "C" fn tulvorn_open(
+    alloc: Global,
+    ty: &mut Handle,
+    rules: u32,
+    session: &mut Handle,
+) -> u32
+    ensures kept { ty.new.kept ≡ ty.old.kept }
+    ensures told { AskedBy (held_type ty.old.kept) (ruling_of rules) (session.new.kept ≡ session.old.kept)
+        (Opens session.old.kept session.new.kept) (plain result) }
+{
+    let Some(it) = replace(ty, Handle::none(alloc)).into_box() else {
+        return MISUSE;
+    };
+    let code = match it.as_ref() {
+        Object::Checked(ty) => match rules {
+            0 => open_per(alloc, ty, session),
+            1 => open_oer(alloc, ty, session),
+            _ => MISUSE,
+        },
+        _ => MISUSE,
+    };
+    *ty = Handle::of(it);
+    code
+}
+
+fn open_per(alloc: Global, ty: &Checked, out: &mut Handle) -> u32
+    ensures { Opens out.old.kept out.new.kept per_ruling (shape_of ty.now) (plain result) }
+{
+    match per_session(alloc, ty) {
+        Ok(held) => {
+            *out = held;
+            DONE
+        }
+        Err(_) => NO_MEMORY,
+    }
+}
+
+fn open_oer(alloc: Global, ty: &Checked, out: &mut Handle) -> u32
+    ensures { Opens out.old.kept out.new.kept oer_ruling (shape_of ty.now) (plain result) }
+{
+    match oer_session(alloc, ty) {
+        Ok(held) => {
+            *out = held;
+            DONE
+        }
+        Err(_) => NO_MEMORY,
+    }
+}
+
+/// A handle of a session of PER, beside its type.
+fn per_session(alloc: Global, ty: &Checked) -> Result<Handle, AllocError>
+    ensures { IfOk result (λ h. IsOpened per_ruling (shape_of ty.now) h.kept) }
+{
+    let session = opened::<Per>(alloc, ty)?;
+    let ty = ty.copy()?;
+    Handle::holding(alloc, Object::PerSession { ty, session })
+}
+
+/// A handle of a session of OER, beside its type.
+fn oer_session(alloc: Global, ty: &Checked) -> Result<Handle, AllocError>
+    ensures { IfOk result (λ h. IsOpened oer_ruling (shape_of ty.now) h.kept) }
+{
+    let session = opened::<Oer>(alloc, ty)?;
+    let ty = ty.copy()?;
+    Handle::holding(alloc, Object::OerSession { ty, session })
+}
+
+/// A session in a box.
+fn opened<R: Rules>(alloc: Global, ty: &Checked) -> Result<Box<Session<R>>, AllocError>
+    ensures { IfOk result (λ q. R.took q.value.inner (shape_of ty.now) (waiting [])) }
+{
+    let Ok(session) = open::<R>(alloc, ty.copy()?) else {
+        return Err(AllocError);
+    };
+    match Box::new(alloc, session) {
+        Ok(session) => Ok(session),
+        Err(_) => Err(AllocError),
+    }
+}
+
+/// Takes the next piece of a message: see `tulvorn::Session::feed`.
+#[unsafe(no_mangle)]
+pub extern "C" fn tulvorn_feed(
+    alloc: Global,
+    session: &mut Handle,
+    piece: &[u8],
+    value: &mut Handle,
+    used: &mut usize,
+    fault: &mut Fault,
+) -> u32
+    ensures told { Asked (held_session session.old.kept)
+        ((session.new.kept ≡ session.old.kept) × (value.new.kept ≡ value.old.kept) × (used.new ≡ used.old))
+        (FeedsSession piece.now session.old.kept session.new.kept value.old.kept value.new.kept used.old used.new)
+        fault.new }
+    ensures code { result ≡ fault.new.code }
+{
+    let Some(mut it) = replace(session, Handle::none(alloc)).into_box() else {
+        *fault = Fault::plain(MISUSE);
+        return MISUSE;
+    };
+    *fault = feed_object(alloc, it.as_mut(), piece, value, used);
+    *session = Handle::of(it);
+    fault.code
+}
+
+fn feed_object(
+    alloc: Global,
+    object: &mut Object,
+    piece: &[u8],
+    value: &mut Handle,
+    used: &mut usize,
+) -> Fault
+    ensures { Asked (held_session (Some object.old))
+        ((object.new ≡ object.old) × (value.new.kept ≡ value.old.kept) × (used.new ≡ used.old))
+        (FeedsSession piece.now (Some object.old) (Some object.new) value.old.kept value.new.kept used.old used.new)
+        result }
+{
+    match object {
+        Object::PerSession { ty, session } => {
+            feed_by::<Per>(alloc, ty, session.as_mut(), piece, value, used)
+        }
+        Object::OerSession { ty, session } => {
+            feed_by::<Oer>(alloc, ty, session.as_mut(), piece, value, used)
+        }
+        _ => Fault::plain(MISUSE),
+    }
+}
+
+fn feed_by<R: Rules>(
+    alloc: Global,
+    ty: &Checked,
+    session: &mut Session<R>,
+    piece: &[u8],
+    value: &mut Handle,
+    used: &mut usize,
+) -> Fault
+    ensures { (t : Shape) (past : Past) → TookBeside (shape_of ty.now) (R.took session.old.inner) t past
+        → Answers R.ruling (TookBeside (shape_of ty.now) (R.took session.new.inner)) t past piece.now
+        value.old.kept value.new.kept used.old used.new result }
+{
+    match session.feed(piece) {
+        Ok(
+            Step::Done {
+                value: read,
+                used: taken,
+            },
+        ) => match value_held(alloc, ty, read) {
+            Ok(held) => {
+                *value = held;
+                *used = taken;
+                Fault::plain(DONE)
+            }
+            Err(_) => Fault::plain(NO_MEMORY),
+        },
+        Ok(Step::More) => Fault::plain(MORE),
+        Err(fault) => Fault::of_feed(fault),
+    }
+}
+
+/// A handle of the value, beside its type.
+fn value_held(alloc: Global, ty: &Checked, value: Value) -> Result<Handle, AllocError>
+    ensures { IfOk result (λ h. held_value h.kept ≡ Some (typed (shape_of ty.now) (datum_of value))) }
+{
+    let ty = ty.copy()?;
+    Handle::holding(alloc, Object::Value { ty, value })
+}
+
+/// Ends a session, and lets go of it: see `tulvorn::Session::finish`. Takes no memory.
+#[unsafe(no_mangle)]
+pub extern "C" fn tulvorn_finish(alloc: Global, session: &mut Handle, fault: &mut Fault) -> u32
+    ensures told { Asked (held_session session.old.kept) (session.new.kept ≡ session.old.kept)
+        (EndsSession session.old.kept session.new.kept) fault.new }
+    ensures code { result ≡ fault.new.code }
+{
+    let Some(it) = replace(session, Handle::none(alloc)).into_box() else {
+        *fault = Fault::plain(MISUSE);
+        return MISUSE;
+    };
+    if !is_session(it.as_ref()) {
+        *session = Handle::of(it);
+        *fault = Fault::plain(MISUSE);
+        return MISUSE;
+    }
+    *fault = end_object(Box::into_inner(it));
+    fault.code
+}
+
+fn is_session(object: &Object) -> bool
+    ensures { IsTrue result ↔ IsSome (held_session (Some object.now)) }
+{
+    matches!(
+        object,
+        Object::PerSession { .. } | Object::OerSession { .. }
+    )
+}
+
+fn end_object(object: Object) -> Fault
+    ensures { Asked (held_session (Some object)) ⊤ (EndsSession (Some object) None) result }
+{
+    match object {
+        Object::PerSession { ty: _ty, session } => end_by::<Per>(Box::into_inner(session)),
+        Object::OerSession { ty: _ty, session } => end_by::<Oer>(Box::into_inner(session)),
+        _other => Fault::plain(MISUSE),
+    }
+}
+
+fn end_by<R: Rules>(session: Session<R>) -> Fault
+    ensures { (t : Shape) (past : Past) → R.took session.inner t past → EndsAs R.ruling t past result }
+{
+    Fault::of_end(session.finish())
+}

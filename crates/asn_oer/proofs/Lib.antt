@@ -4,3 +4,4 @@ pub mod Types
 pub mod Walk
 pub mod Write
 pub mod Read
+pub mod InPieces

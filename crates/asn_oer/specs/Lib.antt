@@ -16,3 +16,5 @@ pub mod BitsWritten
 pub mod ElementsAhead
 pub mod LeafReading
 pub mod Words
+pub mod SingleItems
+pub mod Sessions

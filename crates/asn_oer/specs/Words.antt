@@ -17,7 +17,6 @@ pub use Rattle.asn_rules.specs.OctetReading.{AtOctet}
 pub use Rattle.asn_bits.specs.Numbers.{unpacked}
 pub use Rattle.asn_rules.specs.Parted.{SpellingsPart}
 pub use Rattle.asn_rules.specs.Reading.{RulesTell}
-pub use Rattle.asn_rules.specs.Rereading.{Keeps}
 pub use Rattle.asn_walk.specs.Integers.{between, IsOfProfile}
 pub use Rattle.asn_walk.specs.Items.{enumeration_of, items_of}
 pub use Rattle.asn_walk.specs.Laws.{IsSizeOfProfile, Laws}

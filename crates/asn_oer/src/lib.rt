@@ -1,12 +1,17 @@
 //! Canonical OER (X.696).
 #![tactic(auto)]
 
+mod bit_items;
 mod enumerated;
+mod in_pieces;
 mod integer;
 pub mod laws;
 mod read_leaves;
 mod rules;
+mod session;
+mod single_items;
 mod string_reader;
+mod text_items;
 mod write_leaves;
 
 pub use rules::Oer;

@@ -1,8 +1,10 @@
-//! Canonical OER as encoding rules: the encoder, and sessions that keep all octets and read them again with each piece.
+//! Canonical OER as encoding rules: the encoder, the decoder and sessions.
 ghost use Rattle.std.specs.Prelude.{[]};
-ghost use Rattle.asn_oer.specs.Words.{Keeps, oer_ruling};
+ghost use Rattle.asn_oer.specs.Words.{oer_ruling};
+ghost use Rattle.asn_oer.specs.Sessions.{OerTook};
 
-use asn_rules::internal::{self, Reads, Rereading, is_value_of_none};
+use crate::session::OerSession;
+use asn_rules::internal::{self, Reads, is_value_of_none};
 use asn_rules::{
     DecodeFault, EncodeFault, EncodeIntoFault, EncodeToFault, FeedFault, LengthFault, OpenFault,
     Output, Rules, Step, Truncated,
@@ -38,11 +40,11 @@ impl Reads for Oer {
 }
 
 impl Rules for Oer {
-    type Session = Rereading;
+    type Session = OerSession;
 
     ghost ruling = { oer_ruling };
 
-    ghost took = { Keeps oer_ruling };
+    ghost took = { OerTook };
 
     #[tactic(auto, unfolding(crate::specs::Walk::oer_coding))]
     fn encode(alloc: Global, ty: &Checked, value: &Value) -> Result<Vec<u8>, EncodeFault> {
@@ -97,16 +99,16 @@ impl Rules for Oer {
         asn_walk_into::decode_front_into::<Oer>(alloc, ty, octets, value)
     }
 
-    fn open(alloc: Global, ty: Checked) -> Result<Rereading, OpenFault> {
-        internal::open::<Oer>(alloc, ty)
+    fn open(alloc: Global, ty: Checked) -> Result<OerSession, OpenFault> {
+        OerSession::open(alloc, ty)
     }
 
-    fn feed(session: &mut Rereading, piece: &[u8]) -> Result<Step, FeedFault> {
-        internal::feed::<Oer>(session, piece)
+    fn feed(session: &mut OerSession, piece: &[u8]) -> Result<Step, FeedFault> {
+        session.feed(piece)
     }
 
-    fn finish(session: Rereading) -> Result<(), Truncated> {
-        internal::finish::<Oer>(session)
+    fn finish(session: OerSession) -> Result<(), Truncated> {
+        session.finish()
     }
 
     fn keep_laws() {}

@@ -14,3 +14,6 @@ pub mod ListsAhead
 pub mod Walk
 pub mod RowsAhead
 pub mod Following
+pub mod FragmentsAhead
+pub mod SingleItems
+pub mod Sessions

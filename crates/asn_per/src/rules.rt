@@ -1,8 +1,9 @@
-//! PER as encoding rules: the encoder, and sessions that keep all octets and read them again with each piece.
-ghost use Rattle.asn_rules.specs.Rereading.{Keeps};
+//! PER as encoding rules: the encoder, the decoder and sessions.
 ghost use Rattle.asn_per.specs.Rules.{per_ruling};
+ghost use Rattle.asn_per.specs.Sessions.{PerTook};
 
-use asn_rules::internal::{self, Reads, Rereading};
+use crate::session::PerSession;
+use asn_rules::internal::{self, Reads};
 use asn_rules::{
     DecodeFault, EncodeFault, EncodeIntoFault, EncodeToFault, FeedFault, LengthFault, OpenFault,
     Output, Rules, Step, Truncated,
@@ -38,11 +39,11 @@ impl Reads for Per {
 }
 
 impl Rules for Per {
-    type Session = Rereading;
+    type Session = PerSession;
 
     ghost ruling = { per_ruling };
 
-    ghost took = { Keeps per_ruling };
+    ghost took = { PerTook };
 
     #[tactic(auto, unfolding(crate::specs::Walk::per_coding))]
     fn encode(alloc: Global, ty: &Checked, value: &Value) -> Result<Vec<u8>, EncodeFault> {
@@ -97,16 +98,16 @@ impl Rules for Per {
         asn_walk_into::decode_front_into::<Per>(alloc, ty, octets, value)
     }
 
-    fn open(alloc: Global, ty: Checked) -> Result<Rereading, OpenFault> {
-        internal::open::<Per>(alloc, ty)
+    fn open(alloc: Global, ty: Checked) -> Result<PerSession, OpenFault> {
+        PerSession::open(alloc, ty)
     }
 
-    fn feed(session: &mut Rereading, piece: &[u8]) -> Result<Step, FeedFault> {
-        internal::feed::<Per>(session, piece)
+    fn feed(session: &mut PerSession, piece: &[u8]) -> Result<Step, FeedFault> {
+        session.feed(piece)
     }
 
-    fn finish(session: Rereading) -> Result<(), Truncated> {
-        internal::finish::<Per>(session)
+    fn finish(session: PerSession) -> Result<(), Truncated> {
+        session.finish()
     }
 
     fn keep_laws() {}

@@ -4,14 +4,15 @@ use Rattle.asn_values.specs.Shape.{Shape}
 use Rattle.asn_values.specs.View.{shape_of, datum_of}
 use Rattle.asn_view.specs.Typed.{typed}
 use Rattle.asn_rules.specs.Answer.{Ruling}
-use Rattle.asn_rules.specs.Rereading.{Keeps}
 use Rattle.asn_rules.specs.Sessions.{Past, waiting, past_after, Fed, Finished}
 use Rattle.asn_rules.specs.declared.session.Step.{Step}
 use Rattle.asn_rules.specs.declared.session.Step.TheVariants as step
 use Rattle.asn_rules.specs.declared.session.FeedFault.{FeedFault}
 use Rattle.asn_rules.specs.declared.session.Truncated.{Truncated}
 use Rattle.asn_per.specs.Rules.{per_ruling}
+use Rattle.asn_per.specs.Sessions.{PerTook}
 use Rattle.asn_oer.specs.Rules.{oer_ruling}
+use Rattle.asn_oer.specs.Sessions.{OerTook}
 use Rattle.tulvorn_c.specs.declared.object.Object.{Object}
 use Rattle.tulvorn_c.specs.declared.object.Object.TheVariants.{PerSession, OerSession}
 use Rattle.tulvorn_c.specs.declared.fault.Fault.{Fault}
@@ -30,8 +31,8 @@ TookBeside own took t past = (own ≡ t) × took t past
 
 -- so is the session that the handle holds
 abbrev pub Took : Option Object → Shape → Past → Type 0
-Took (Some (PerSession ty session)) t past = TookBeside (shape_of ty) (Keeps per_ruling session.value.inner) t past
-Took (Some (OerSession ty session)) t past = TookBeside (shape_of ty) (Keeps oer_ruling session.value.inner) t past
+Took (Some (PerSession ty session)) t past = TookBeside (shape_of ty) (PerTook session.value.inner) t past
+Took (Some (OerSession ty session)) t past = TookBeside (shape_of ty) (OerTook session.value.inner) t past
 Took _ t past = ⊥
 
 -- the handle then holds a session of these rules and this type, which has taken no octet

@@ -1,7 +1,0 @@
-pub mod Few
-pub mod Brief
-pub mod Counts
-pub mod Fields
-pub mod Numbers
-pub mod Strings
-pub mod Units

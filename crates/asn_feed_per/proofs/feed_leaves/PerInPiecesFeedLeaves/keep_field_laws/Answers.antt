@@ -1,5 +1,0 @@
-use Rattle.asn_feed_per.proofs.Fields.{per_field_laws}
-use Rattle.asn_feed_per.proofs.feed_leaves.PerInPiecesFeedLeaves.keep_field_laws.Goals as goal
-
-pub returns : goal.returns
-returns c = per_field_laws

@@ -1,5 +1,0 @@
-use Rattle.asn_feed_per.proofs.Strings.{per_string_laws}
-use Rattle.asn_feed_per.proofs.feed_leaves.PerInPiecesFeedLeaves.keep_string_laws.Goals as goal
-
-pub returns : goal.returns
-returns c = per_string_laws

@@ -1,2 +1,0 @@
-pub mod Fragments
-pub mod Items

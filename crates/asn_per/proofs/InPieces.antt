@@ -1,0 +1,7 @@
+pub mod Brief
+pub mod Counts
+pub mod Few
+pub mod Fields
+pub mod Numbers
+pub mod Strings
+pub mod Units

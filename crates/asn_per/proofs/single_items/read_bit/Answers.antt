@@ -1,0 +1,17 @@
+use Rattle.std.proofs.lemmas.Result.{err_from_is_err_and}
+use Rattle.asn_rules.proofs.Languages.Leads.{stops_by}
+use Rattle.asn_per.specs.Per.{per_fields}
+use Rattle.asn_per.proofs.Read.ListsAhead.{some_root_count}
+use Rattle.asn_per.proofs.InPieces.Numbers.{number_leads}
+use Rattle.asn_per.proofs.single_items.read_bit.Goals as goal
+
+pub read_number-requires-clause-some : goal.read_number-requires-clause-some
+read_number-requires-clause-some c = rw c.up_to.ensures (some_root_count 1 1)
+
+pub returns-in_err-bit-clause-stop : goal.returns-in_err-bit-clause-stop
+returns-in_err-bit-clause-stop c =
+    let p = err_from_is_err_and c.from_residual.result c.from_residual.ensures.1 in
+    rw (p.1, p.2) (stops_by _ (number_leads 1 1 c.args.cursor.now).stops (rw c.up_to.ensures at (c.in_err-bit.ensures.stop per_fields)))
+
+pub returns-clause-done : goal.returns-clause-done
+returns-clause-done c = (number_leads 1 1 c.args.cursor.now).done c.in_ok-bit.bit c.read_number.new.bits (rw c.up_to.ensures at (c.in_ok-bit.ensures.done per_fields))

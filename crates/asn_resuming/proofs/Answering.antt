@@ -1,0 +1,148 @@
+-- The session that goes on where the last piece ended: what each answer of the reader makes of it.
+use Rattle.std.proofs.Common.{◌≡◌, ◌≤◌, ◌<◌, ◌+◌, ◌-◌, ℕ, Bool, true, false, Result, Ok, Err, List, [], ◌++◌, length, take, refl, sym, ap, subst, ◌∙◌, arith}
+use Rattle.std.proofs.lemmas.List.{take-take}
+use Rattle.asn_values.specs.Datum.{Datum}
+use Rattle.asn_values.specs.Profile.{InProfile}
+use Rattle.asn_values.specs.Shape.{Shape}
+use Rattle.asn_values.specs.View.{shape_of, datum_of}
+use Rattle.asn_values.specs.declared.value.Value.{Value}
+use Rattle.asn_rules.specs.Answer.{IsEncoding, Answer, done, refused, too_long, more, max_octets}
+use Rattle.asn_rules.specs.Live.{Live}
+use Rattle.asn_rules.specs.Rereading.{TellsIfNone}
+use Rattle.asn_rules.specs.Sessions.{Past, waiting, stopped, over, all_so_far, FeedsTo, LiveUnits, Finished}
+use Rattle.asn_rules.specs.declared.fault.Why.{Why}
+use Rattle.asn_rules.specs.declared.session.FeedFault.{FeedFault}
+use Rattle.asn_rules.specs.declared.session.FeedFault.TheVariants as feed
+use Rattle.asn_rules.specs.declared.session.Step.{Step}
+use Rattle.asn_rules.specs.declared.session.Step.TheVariants as step
+use Rattle.asn_rules.specs.declared.session.Truncated.{Truncated}
+use Rattle.asn_rules.proofs.Feeding.ReadAgain.{none_live, all_live, live_before, cut_short, no_units}
+use Rattle.asn_rules.proofs.Feeding.Sessions.{take_few, not_whole}
+use Rattle.asn_walk.specs.Ahead.{Ahead}
+use Rattle.asn_walk.specs.Coding.{Coding}
+use Rattle.asn_walk.specs.Laws.{Laws}
+use Rattle.asn_walk.proofs.Decoding.{short_read, long_read}
+use Rattle.asn_walk_feed.specs.Nodes.{nodes}
+use Rattle.asn_walk_feed.specs.OpenFields.{FieldCoding}
+use Rattle.asn_resuming.specs.Reached.{Reached, GoesOn, AnswersOn}
+use Rattle.asn_resuming.specs.Resumed.{Resumes}
+use Rattle.asn_resuming.specs.declared.session.Resuming.{Resuming}
+use Rattle.asn_resuming.specs.declared.session.State.TheVariants as state
+use Rattle.asn_resuming.proofs.NextOctets.{reached_none}
+
+module _ {F : Type 0} (c : Coding) (laws : Laws c) (fc : FieldCoding) (ahead : F → Ahead) (between : F → Type 0) (t : Shape) where
+  abbrev R : Resuming F → Shape → Past → Type 0
+  R q u past = Resumes c fc ahead between q u past
+
+  -- ---- a session that has taken nothing
+
+  module _ (q : Resuming F) (y : shape_of q.ty ≡ t) (good : InProfile t) (none : nodes q.frames ≡ []) (units : q.units ≡ 0) (octets : q.octets ≡ 0) (waits : q.state ≡ state.Waiting) where
+    opened : Finished c.ruling t (waiting []) q.end → R q t (waiting [])
+    opened end = record {
+      of_type = y;
+      of_profile = good;
+      goes_on = (waits, omega arith, rw (units, octets) (reached_none c laws fc ahead between (nodes q.frames) t none));
+      end = end;
+    }
+
+    pub opened_whole : q.end ≡ Ok tt → TellsIfNone c.ruling t true → R q t (waiting [])
+    opened_whole e h = opened (rw e h)
+
+    pub opened_empty : (cut : Truncated) → cut.taken ≡ 0 → q.end ≡ Err cut → TellsIfNone c.ruling t false → R q t (waiting [])
+    opened_empty cut n e h =
+        let zero_units : c.ruling.units [] ≡ [] = no_units c.ruling laws.tells in
+        let live : Live c.ruling.fielding c.ruling.whole t (c.ruling.units []) = rw zero_units (none_live c.ruling t good) in
+        opened (rw e (h, all_live c.ruling t (c.ruling.units []) cut.taken (n ∙ sym (ap length zero_units)) live))
+
+  -- ---- the next piece
+
+  -- some octets brought one that waits to its nodes
+  known_at : (q : Resuming F) → q.state ≡ state.Waiting → (past : Past) → R q t past → (s : List ℕ) × (length s < max_octets) × Reached c fc ahead between (nodes q.frames) t q.units q.octets s
+  known_at q e (waiting s) k = (s, k.goes_on.1, k.goes_on.2)
+  known_at q e (stopped s fault) k = absurd (let clash : state.Waiting ≡ state.Stopped fault = sym e ∙ k.goes_on in cc)
+  known_at q e (over s) k = absurd (let clash : state.Waiting ≡ state.Over = sym e ∙ k.goes_on in cc)
+
+  pub octets_known : (q : Resuming F) → q.state ≡ state.Waiting → (past : Past) → R q t past → (s : List ℕ) × (length s < max_octets) × Reached c fc ahead between (nodes q.frames) (shape_of q.ty) q.units q.octets s
+  octets_known q e past k =
+      let h = known_at q e past k in
+      (h.0, h.1, subst (λ (u : Shape). Reached c fc ahead between (nodes q.frames) u q.units q.octets h.0) (sym k.of_type) h.2)
+
+  -- a session that waits
+  pub when_waiting : (q : Resuming F) (P : Past → Type 0) → q.state ≡ state.Waiting → ((s : List ℕ) → R q t (waiting s) → P (waiting s)) → (past : Past) → R q t past → P past
+  when_waiting q P e f (waiting s) k = f s k
+  when_waiting q P e f (stopped s fault) k = absurd (let clash : state.Waiting ≡ state.Stopped fault = sym e ∙ k.goes_on in cc)
+  when_waiting q P e f (over s) k = absurd (let clash : state.Waiting ≡ state.Over = sym e ∙ k.goes_on in cc)
+
+  module _ (q new : Resuming F) (same : shape_of new.ty ≡ shape_of q.ty) (s piece m : List ℕ) (k : R q t (waiting s)) (e : s ++ m ≡ all_so_far s piece) where
+    abbrev Goes : Result Step FeedFault → Type 0
+    Goes answer = FeedsTo c.ruling R q new t (waiting s) piece answer
+
+    ends : (past : Past) (end : Result (Unit {0}) Truncated) → new.end ≡ end → Finished c.ruling t past end → Finished c.ruling t past new.end
+    ends past end g h = subst (λ (z : Result (Unit {0}) Truncated). Finished c.ruling t past z) (sym g) h
+
+    pub done_feeds : (v : Value) (used : ℕ) → new.state ≡ state.Over → new.end ≡ Ok tt → Answer c.ruling t (s ++ m) (done (datum_of v) (length s + used)) → Goes (Ok (step.Done v used))
+    done_feeds v used over_is end_is told =
+        let all = s ++ piece in
+        let n = length s + used in
+        let h : Answer c.ruling t (all_so_far s piece) (done (datum_of v) n) = subst (λ (l : List ℕ). Answer c.ruling t l (done (datum_of v) n)) e told in
+        let few : n ≤ max_octets = omega (arith, h.0, (take_few max_octets all).0) in
+        let whole : IsEncoding c.ruling t (datum_of v) (take n all) = subst (λ (l : List ℕ). IsEncoding c.ruling t (datum_of v) l) (take-take n max_octets all few) h.1 in
+        record {
+          answered = h;
+          taken = record {
+            of_type = same ∙ k.of_type;
+            of_profile = k.of_profile;
+            goes_on = over_is;
+            end = ends (over (take n all)) (Ok tt) end_is (datum_of v, whole);
+          };
+        }
+
+    pub more_feeds : (cut : Truncated) → new.state ≡ state.Waiting → new.end ≡ Err cut → cut.taken ≡ length (c.ruling.units (s ++ m)) → length (s ++ m) < max_octets
+        → new.units ≡ length (c.ruling.units (s ++ m)) → new.octets ≡ length (s ++ m) → GoesOn c fc ahead between (nodes new.frames) t (s ++ m) → Goes (Ok step.More)
+    more_feeds cut state_is end_is count few units octets h =
+        let told : Answer c.ruling t (s ++ m) more = short_read c laws t k.of_profile (s ++ m) few h.short in
+        let here : R new t (waiting (s ++ m)) = record {
+          of_type = same ∙ k.of_type;
+          of_profile = k.of_profile;
+          goes_on = (state_is, few, record { took = h.took; units_are = sym units; octets_are = sym octets });
+          end = ends (waiting (s ++ m)) (Err cut) end_is (cut_short c.ruling t (s ++ m) cut (sym count) told.0 told.1);
+        } in
+        record {
+          answered = subst (λ (l : List ℕ). Answer c.ruling t l more) e told;
+          taken = subst (λ (l : List ℕ). R new t (waiting l)) e here;
+        }
+
+    pub too_long_feeds : (cut : Truncated) → new.state ≡ state.Stopped feed.TooLong → new.end ≡ Err cut → cut.taken ≡ length (c.ruling.units (s ++ m)) → length (s ++ m) ≡ max_octets
+        → GoesOn c fc ahead between (nodes new.frames) t (s ++ m) → Goes (Err feed.TooLong)
+    too_long_feeds cut state_is end_is count all h =
+        let told : Answer c.ruling t (s ++ m) too_long = long_read c laws t k.of_profile (s ++ m) all h.short in
+        let here : R new t (stopped (s ++ m) feed.TooLong) = record {
+          of_type = same ∙ k.of_type;
+          of_profile = k.of_profile;
+          goes_on = state_is;
+          end = ends (stopped (s ++ m) feed.TooLong) (Err cut) end_is (cut_short c.ruling t (s ++ m) cut (sym count) told.0 told.1);
+        } in
+        record {
+          answered = subst (λ (l : List ℕ). Answer c.ruling t l too_long) e told;
+          taken = subst (λ (l : List ℕ). R new t (stopped l feed.TooLong)) e here;
+        }
+
+    pub refused_feeds : (at : ℕ) (why : Why) (cut : Truncated) → new.state ≡ state.Stopped (feed.Refused at why) → new.end ≡ Err cut → cut.taken ≡ at - 1
+        → Answer c.ruling t (s ++ m) (refused at) → Goes (Err (feed.Refused at why))
+    refused_feeds at why cut state_is end_is count told =
+        let h : Answer c.ruling t (all_so_far s piece) (refused at) = subst (λ (l : List ℕ). Answer c.ruling t l (refused at)) e told in
+        record {
+          answered = h;
+          taken = record {
+            of_type = same ∙ k.of_type;
+            of_profile = k.of_profile;
+            goes_on = state_is;
+            end = ends (stopped (all_so_far s piece) (feed.Refused at why)) (Err cut) end_is (not_whole c.ruling t (all_so_far s piece) h.0, subst (λ (n : ℕ). LiveUnits c.ruling t (c.ruling.units (all_so_far s piece)) n) (sym count) (live_before c.ruling t (c.ruling.units (all_so_far s piece)) at k.of_profile h.1));
+          };
+        }
+
+    pub memory_feeds : new.state ≡ state.Over → new.end ≡ q.end → Goes (Err feed.Memory)
+    memory_feeds state_is end_is = record {
+      answered = tt;
+      taken = record { of_type = same ∙ k.of_type; of_profile = k.of_profile; goes_on = state_is; end = ends (over s) q.end end_is k.end };
+    }

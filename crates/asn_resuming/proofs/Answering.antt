@@ -1,7 +1,6 @@
 -- The session that goes on where the last piece ended: what each answer of the reader makes of it.
-use Rattle.std.proofs.Common.{◌≡◌, ◌≤◌, ◌<◌, ◌+◌, ◌-◌, ℕ, Bool, true, false, Result, Ok, Err, List, [], ◌++◌, length, take, refl, sym, ap, subst, ◌∙◌, arith}
+use Rattle.std.proofs.Common.{◌≡◌, ◌≤◌, ◌<◌, ◌+◌, ◌-◌, ℕ, min, true, false, Result, Ok, Err, List, [], ◌++◌, length, take, sym, ap, subst, ◌∙◌, arith}
 use Rattle.std.proofs.lemmas.List.{take-take}
-use Rattle.asn_values.specs.Datum.{Datum}
 use Rattle.asn_values.specs.Profile.{InProfile}
 use Rattle.asn_values.specs.Shape.{Shape}
 use Rattle.asn_values.specs.View.{shape_of, datum_of}
@@ -16,7 +15,7 @@ use Rattle.asn_rules.specs.declared.session.FeedFault.TheVariants as feed
 use Rattle.asn_rules.specs.declared.session.Step.{Step}
 use Rattle.asn_rules.specs.declared.session.Step.TheVariants as step
 use Rattle.asn_rules.specs.declared.session.Truncated.{Truncated}
-use Rattle.asn_rules.proofs.Feeding.ReadAgain.{none_live, all_live, live_before, cut_short, no_units}
+use Rattle.asn_rules.proofs.Feeding.ReadAgain.{none_live, all_live, live_before, cut_short, no_units, kept_so_far}
 use Rattle.asn_rules.proofs.Feeding.Sessions.{take_few, not_whole}
 use Rattle.asn_walk.specs.Ahead.{Ahead}
 use Rattle.asn_walk.specs.Coding.{Coding}
@@ -24,7 +23,7 @@ use Rattle.asn_walk.specs.Laws.{Laws}
 use Rattle.asn_walk.proofs.Decoding.{short_read, long_read}
 use Rattle.asn_walk_feed.specs.Nodes.{nodes}
 use Rattle.asn_walk_feed.specs.OpenFields.{FieldCoding}
-use Rattle.asn_resuming.specs.Reached.{Reached, GoesOn, AnswersOn}
+use Rattle.asn_resuming.specs.Reached.{Reached, GoesOn}
 use Rattle.asn_resuming.specs.Resumed.{Resumes}
 use Rattle.asn_resuming.specs.declared.session.Resuming.{Resuming}
 use Rattle.asn_resuming.specs.declared.session.State.TheVariants as state
@@ -72,6 +71,22 @@ module _ {F : Type 0} (c : Coding) (laws : Laws c) (fc : FieldCoding) (ahead : F
   when_waiting q P e f (waiting s) k = f s k
   when_waiting q P e f (stopped s fault) k = absurd (let clash : state.Waiting ≡ state.Stopped fault = sym e ∙ k.goes_on in cc)
   when_waiting q P e f (over s) k = absurd (let clash : state.Waiting ≡ state.Over = sym e ∙ k.goes_on in cc)
+
+  pub feeds : (q new : Resuming F) (piece : List ℕ) (answer : Result Step FeedFault) → q.state ≡ state.Waiting → ((s : List ℕ) → R q t (waiting s) → FeedsTo c.ruling R q new t (waiting s) piece answer) → (past : Past) → R q t past → FeedsTo c.ruling R q new t past piece answer
+  feeds q new piece answer e f past k = when_waiting q (λ (u : Past). FeedsTo c.ruling R q new t u piece answer) e f past k
+
+  -- what was read is of its type
+  pub reached_of : (q : Resuming F) (s : List ℕ) → R q t (waiting s) → Reached c fc ahead between (nodes q.frames) (shape_of q.ty) q.units q.octets s
+  reached_of q s w = subst (λ (u : Shape). Reached c fc ahead between (nodes q.frames) u q.units q.octets s) (sym w.of_type) w.goes_on.2
+
+  pub of_its_type : (q : Resuming F) (s : List ℕ) (P : Shape → Type 0) → R q t (waiting s) → P (shape_of q.ty) → P t
+  of_its_type q s P w h = subst P w.of_type h
+
+  -- as many octets of a piece as a message may have are read
+  pub so_far : (q : Resuming F) (s p : List ℕ) (room n : ℕ) → R q t (waiting s) → room ≡ max_octets - q.octets → n ≡ min (length p) room → s ++ take n p ≡ all_so_far s p
+  so_far q s p room n w e f =
+      let count : n ≡ min (length p) (max_octets - length s) = omega (arith, e, f, w.goes_on.2.octets_are) in
+      ap (λ (i : ℕ). s ++ take i p) count ∙ kept_so_far s p (omega (arith, w.goes_on.1))
 
   module _ (q new : Resuming F) (same : shape_of new.ty ≡ shape_of q.ty) (s piece m : List ℕ) (k : R q t (waiting s)) (e : s ++ m ≡ all_so_far s piece) where
     abbrev Goes : Result Step FeedFault → Type 0

@@ -1,21 +1,34 @@
 -- What is read of further octets, as an answer to all that have come.
-use Rattle.std.proofs.Common.{◌≡◌, ◌≤◌, ◌<◌, ◌+◌, ◌-◌, ◌*◌, ◌/◌, ◌%◌, ℕ, List, [], ◌++◌, length, length-append, refl, sym, ap, subst, ◌∙◌, arith}
+use Rattle.std.proofs.Common.{◌≡◌, ◌≤◌, ◌+◌, ◌-◌, ◌/◌, ◌%◌, ℕ, List, [], ◌++◌, length, take, length-append, refl, sym, ap, subst, ◌∙◌, arith}
 use Rattle.std.proofs.Math.Nat.{div-le_of_le-mul}
 use Rattle.asn_values.specs.Datum.{Datum}
 use Rattle.asn_values.specs.Shape.{Shape}
 use Rattle.asn_values.specs.Profile.{InProfile}
-use Rattle.asn_rules.specs.Answer.{Answer, done, refused, max_octets}
+use Rattle.asn_rules.specs.Answer.{Ruling, Answer, done, refused, max_octets}
 use Rattle.asn_rules.specs.Languages.{Spells, Short, Refused}
 use Rattle.asn_rules.specs.Reading.{Wholes}
 use Rattle.asn_rules.proofs.Feeding.ReadAgain.{no_units}
 use Rattle.asn_walk.specs.Ahead.{Ahead}
 use Rattle.asn_walk.specs.Coding.{Coding}
 use Rattle.asn_walk.specs.Laws.{Laws}
-use Rattle.asn_walk.proofs.Decoding.{value_read, refusal_left, refusal_read, units_fill}
+use Rattle.asn_walk.proofs.Decoding.{take_all, value_read, refusal_read, units_fill}
 use Rattle.asn_walk_feed.specs.OpenFields.{FieldCoding}
-use Rattle.asn_walk_feed.specs.Taken.{Took}
 use Rattle.asn_walk_feed.specs.declared.frame.Frame.{Frame}
 use Rattle.asn_resuming.specs.Reached.{Reached}
+
+-- ---- octets that are read where they lie: no others have come
+
+pub first_value : (r : Ruling) (t : Shape) (s p : List ℕ) (v : Datum) (used : ℕ) → s ≡ [] → length p ≤ max_octets → Answer r t (take max_octets p) (done v (0 + used)) → Answer r t (s ++ p) (done v (length s + used))
+first_value r t s p v used e few h =
+    let plain : Answer r t p (done v (0 + used)) = subst (λ (l : List ℕ). Answer r t l (done v (0 + used))) (take_all max_octets p few) h in
+    subst (λ (l : List ℕ). Answer r t (l ++ p) (done v (length l + used))) (sym e) plain
+
+pub first_refusal : (r : Ruling) (t : Shape) (s p : List ℕ) (at : ℕ) → s ≡ [] → length p ≤ max_octets → Answer r t (take max_octets p) (refused at) → Answer r t (s ++ p) (refused at)
+first_refusal r t s p at e few h =
+    let plain : Answer r t p (refused at) = subst (λ (l : List ℕ). Answer r t l (refused at)) (take_all max_octets p few) h in
+    subst (λ (l : List ℕ). Answer r t (l ++ p) (refused at)) (sym e) plain
+
+-- ---- octets after others
 
 module _ (c : Coding) (laws : Laws c) where
   pub joined : (s m : List ℕ) → c.ruling.units (s ++ m) ≡ c.ruling.units s ++ c.ruling.units m

@@ -5,10 +5,10 @@ ghost use Rattle.asn_oer.specs.Walk.{oer_coding};
 ghost use Rattle.asn_oer.specs.SingleItems.{oer_parts};
 
 use crate::bit_items::{bits_of, start_bits};
+use crate::rules::Oer;
 use crate::single_items::{read_any_octet, read_character, start_any, start_items};
 use crate::text_items::text_of;
 use asn_bits::BitCursor;
-use crate::rules::Oer;
 use asn_resuming::ReadsAtOnce;
 use asn_rules::internal::{Reads, Stop};
 use asn_rules::{FeedFault, Step};

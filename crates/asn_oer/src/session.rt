@@ -3,6 +3,7 @@ ghost use Rattle.std.specs.Prelude.{[], ℕ, List, Option, IfOk};
 ghost use Rattle.std.specs.Coded.{codes};
 ghost use Rattle.asn_values.specs.Shape.{Shape};
 ghost use Rattle.asn_values.specs.View.{shape_of};
+ghost use Rattle.asn_values.specs.contracts.checked.Checked as types;
 ghost use Rattle.asn_values.specs.contracts.value.Value as values;
 ghost use Rattle.asn_rules.specs.Sessions.{Past, waiting, Feeds, Finished};
 ghost use Rattle.asn_resuming.specs.declared.session.Resuming.{Resuming as TheResuming};
@@ -25,7 +26,7 @@ pub struct OerSession {
 impl Model for OerSession {
     ghost Value = { TheResuming (Option ℕ) };
 
-    ghost coded = { Prim.hlevel (codes, values.the_row.coded) };
+    ghost coded = { Prim.hlevel (codes, types.the_row.coded, values.the_row.coded) };
 
     ghost view = { λ s. s.inner };
 

@@ -11,8 +11,8 @@ ghost use Rattle.asn_per.specs.FragmentsAhead.{ahead_of, IsBetween};
 ghost use Rattle.asn_per.specs.SingleItems.{per_field_coding};
 
 use crate::fragments::Fragments;
-use crate::single_items::{read_bit, read_character, read_octet, truths};
 use crate::in_pieces::PerInPieces;
+use crate::single_items::{read_bit, read_character, read_octet, truths};
 use asn_bits::BitCursor;
 use asn_rules::Why;
 use asn_rules::internal::{Stop, read_padding};

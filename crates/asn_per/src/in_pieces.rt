@@ -3,8 +3,8 @@ ghost use Rattle.asn_per.specs.Walk.{per_coding};
 ghost use Rattle.asn_per.specs.FragmentsAhead.{ahead_of, IsBetween};
 
 use crate::fragments::Fragments;
-use asn_bits::BitCursor;
 use crate::rules::Per;
+use asn_bits::BitCursor;
 use asn_resuming::ReadsAtOnce;
 use asn_rules::internal::{Reads, Stop};
 use asn_rules::{FeedFault, Step};

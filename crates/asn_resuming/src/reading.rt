@@ -58,9 +58,9 @@ pub(crate) fn read_next<R: ReadsAtOnce>(
     requires reached { (s : List ℕ) × Reached R.rules R.fields R.ahead R.is_between (nodes frames.old)
         (shape_of ty.now) units octets s }
     requires few { octets + length piece.now ≤ max_octets }
-    ensures { (s : List ℕ) → Reached R.rules R.fields R.ahead R.is_between (nodes frames.old) (shape_of ty.now) units
-        octets s → AnswersOn R.rules R.fields R.ahead R.is_between (nodes frames.new) (shape_of ty.now) s piece.now
-        result }
+    ensures { (s : List ℕ) → Reached R.rules R.fields R.ahead R.is_between (nodes frames.old) (shape_of ty.now)
+        units octets s → AnswersOn R.rules R.fields R.ahead R.is_between (nodes frames.new) (shape_of ty.now) s
+        piece.now result }
 {
     if octets > 0 {
         return read_on::<R>(alloc, ty, units, octets, frames, piece);
@@ -90,9 +90,9 @@ fn read_on<R: FeedLeaves>(
     requires reached { (s : List ℕ) × Reached R.rules R.fields R.ahead R.is_between (nodes frames.old)
         (shape_of ty.now) units octets s }
     requires few { octets + length piece.now ≤ max_octets }
-    ensures { (s : List ℕ) → Reached R.rules R.fields R.ahead R.is_between (nodes frames.old) (shape_of ty.now) units
-        octets s → AnswersOn R.rules R.fields R.ahead R.is_between (nodes frames.new) (shape_of ty.now) s piece.now
-        result }
+    ensures { (s : List ℕ) → Reached R.rules R.fields R.ahead R.is_between (nodes frames.old) (shape_of ty.now)
+        units octets s → AnswersOn R.rules R.fields R.ahead R.is_between (nodes frames.new) (shape_of ty.now) s
+        piece.now result }
 {
     R::keep_laws();
     are_octets(piece);

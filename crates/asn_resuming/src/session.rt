@@ -41,10 +41,7 @@ pub struct Resuming<F> {
 ///
 /// # Errors
 /// `Memory` where an allocation failed.
-pub fn open<R: ReadsAtOnce>(
-    alloc: Global,
-    ty: Checked,
-) -> Result<Resuming<R::Fragments>, OpenFault>
+pub fn open<R: ReadsAtOnce>(alloc: Global, ty: Checked) -> Result<Resuming<R::Fragments>, OpenFault>
     ensures { IfOk result (λ q. Resumes R.rules R.fields R.ahead R.is_between q (shape_of ty) (waiting [])) }
 {
     R::keep_laws();

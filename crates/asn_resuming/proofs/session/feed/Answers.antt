@@ -47,10 +47,10 @@ returns-then-octets-eq-MAX_OCTETS g c = λ t past k.
     let m = take c.min.result p in
     let told : (s : List ℕ) → Reached r fc ah bt (nodes q.frames) (shape_of q.ty) q.units q.octets s → GoesOn r fc ah bt (nodes c.read_next.new.frames) (shape_of q.ty) (s ++ m) = rw (c.in-Ok-More.is, c.in-Ok-More.field-0-is) at c.read_next.ensures in
     feeds r laws fc ah bt t q _ p _ c.in-Waiting.is (λ s w.
-        let at = w.goes_on.2 in
-        let count : q.units + c.units_of.result ≡ length (r.ruling.units (s ++ m)) = omega (arith, units_joined r laws s m, at.units_are, c.units_of.ensures) in
-        let all : length (s ++ m) ≡ max_octets = omega (arith, length-append s m, at.octets_are, c.if-octets-eq-MAX_OCTETS.true) in
-        too_long_feeds r laws fc ah bt t q _ refl s p m w (so_far r laws fc ah bt t q s p c.saturating_sub-room.result c.min.result w c.saturating_sub-room.ensures c.min.ensures) (record { taken = q.units + c.units_of.result }) refl refl count all (of_its_type r laws fc ah bt t q s (λ (u : Shape). GoesOn r fc ah bt (nodes c.read_next.new.frames) u (s ++ m)) w (told s (reached_of r laws fc ah bt t q s w)))) past k
+    let at = w.goes_on.2 in
+    let count : q.units + c.units_of.result ≡ length (r.ruling.units (s ++ m)) = omega (arith, units_joined r laws s m, at.units_are, c.units_of.ensures) in
+    let all : length (s ++ m) ≡ max_octets = omega (arith, length-append s m, at.octets_are, c.if-octets-eq-MAX_OCTETS.true) in
+    too_long_feeds r laws fc ah bt t q _ refl s p m w (so_far r laws fc ah bt t q s p c.saturating_sub-room.result c.min.result w c.saturating_sub-room.ensures c.min.ensures) (record { taken = q.units + c.units_of.result }) refl refl count all (of_its_type r laws fc ah bt t q s (λ (u : Shape). GoesOn r fc ah bt (nodes c.read_next.new.frames) u (s ++ m)) w (told s (reached_of r laws fc ah bt t q s w)))) past k
 
 pub returns-else-octets-eq-MAX_OCTETS : goal.returns-else-octets-eq-MAX_OCTETS
 returns-else-octets-eq-MAX_OCTETS g c = λ t past k.
@@ -64,11 +64,11 @@ returns-else-octets-eq-MAX_OCTETS g c = λ t past k.
     let m = take c.min.result p in
     let told : (s : List ℕ) → Reached r fc ah bt (nodes q.frames) (shape_of q.ty) q.units q.octets s → GoesOn r fc ah bt (nodes c.read_next.new.frames) (shape_of q.ty) (s ++ m) = rw (c.in-Ok-More.is, c.in-Ok-More.field-0-is) at c.read_next.ensures in
     feeds r laws fc ah bt t q _ p _ c.in-Waiting.is (λ s w.
-        let at = w.goes_on.2 in
-        let count : q.units + c.units_of.result ≡ length (r.ruling.units (s ++ m)) = omega (arith, units_joined r laws s m, at.units_are, c.units_of.ensures) in
-        let octets : q.octets + length m ≡ length (s ++ m) = omega (arith, length-append s m, at.octets_are) in
-        let few : length (s ++ m) < max_octets = omega (arith, octets, w.goes_on.1, at.octets_are, (take_few c.min.result p).0, c.min.ensures, c.saturating_sub-room.ensures, c.if-octets-eq-MAX_OCTETS.false) in
-        more_feeds r laws fc ah bt t q _ refl s p m w (so_far r laws fc ah bt t q s p c.saturating_sub-room.result c.min.result w c.saturating_sub-room.ensures c.min.ensures) (record { taken = q.units + c.units_of.result }) c.in-Waiting.is refl count few count octets (of_its_type r laws fc ah bt t q s (λ (u : Shape). GoesOn r fc ah bt (nodes c.read_next.new.frames) u (s ++ m)) w (told s (reached_of r laws fc ah bt t q s w)))) past k
+    let at = w.goes_on.2 in
+    let count : q.units + c.units_of.result ≡ length (r.ruling.units (s ++ m)) = omega (arith, units_joined r laws s m, at.units_are, c.units_of.ensures) in
+    let octets : q.octets + length m ≡ length (s ++ m) = omega (arith, length-append s m, at.octets_are) in
+    let few : length (s ++ m) < max_octets = omega (arith, octets, w.goes_on.1, at.octets_are, (take_few c.min.result p).0, c.min.ensures, c.saturating_sub-room.ensures, c.if-octets-eq-MAX_OCTETS.false) in
+    more_feeds r laws fc ah bt t q _ refl s p m w (so_far r laws fc ah bt t q s p c.saturating_sub-room.result c.min.result w c.saturating_sub-room.ensures c.min.ensures) (record { taken = q.units + c.units_of.result }) c.in-Waiting.is refl count few count octets (of_its_type r laws fc ah bt t q s (λ (u : Shape). GoesOn r fc ah bt (nodes c.read_next.new.frames) u (s ++ m)) w (told s (reached_of r laws fc ah bt t q s w)))) past k
 
 pub returns-in-Err-Refused : goal.returns-in-Err-Refused
 returns-in-Err-Refused g c = λ t past k.

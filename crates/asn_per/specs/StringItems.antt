@@ -1,5 +1,5 @@
 -- What the writers of strings and lists write: items, in front of which stand a count or lengths.
-use Rattle.std.specs.Prelude.{◌≡◌, ◌++◌, ◌*◌, length, Bool, true, false, ℕ, List, [], ◌∷◌, map, ⊤, IsTrue}
+use Rattle.std.specs.Prelude.{◌≡◌, ◌*◌, length, Bool, true, false, ℕ, List, [], ◌∷◌, map, ⊤, IsTrue}
 use Rattle.std.specs.List.{AllByRecursion}
 use Rattle.asn_values.specs.declared.types.TextKind.{TextKind}
 use Rattle.asn_values.specs.Shape.{SizeRange}

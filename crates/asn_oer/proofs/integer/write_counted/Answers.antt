@@ -1,4 +1,4 @@
-use Rattle.std.proofs.Common.{rules, ◌≡◌, ◌++◌, ◌⊎◌, inl, inr, List, ℕ, ℤ, pos, Some, true, false, ◌∙◌, ap, sym, subst, to_z, of_z}
+use Rattle.std.proofs.Common.{rules, ◌≡◌, ◌⊎◌, inl, inr, ℤ, pos, Some, true, false, ◌∙◌, ap, sym, subst, to_z, of_z}
 use Rattle.std.specs.Int.RustNames.{int_le}
 use lib.IntN.{nat_abs}
 use mir.Syntax.{w128}

@@ -1,4 +1,4 @@
-use Rattle.std.proofs.Common.{rules, ◌≡◌, ◌≤ℤ◌, ◌<ℤ◌, ◌*◌, ◌++◌, List, ℕ, ℤ, pos, Bool, Option, Some, true, false, ◌∙◌, ap, sym, subst, arith, of_z}
+use Rattle.std.proofs.Common.{rules, ◌≡◌, ◌≤ℤ◌, ◌<ℤ◌, ◌*◌, ℕ, ℤ, pos, Bool, Option, Some, true, false, ◌∙◌, ap, sym, subst, arith, of_z}
 use Rattle.std.proofs.lemmas.Int.{ints}
 use mir.Syntax.{w64}
 use Rattle.asn_values.specs.Fits.{lowest_integer, highest_integer}

@@ -1,4 +1,4 @@
-use Rattle.std.proofs.Common.{rules, to_z, of_z, ◌≡◌, ◌++◌, ◌≤ℤ◌, ◌⊎◌, inl, inr, ℕ, ℤ, Bool, List, false, not, None, append_assoc, subst, sym, ap, ◌∙◌}
+use Rattle.std.proofs.Common.{rules, to_z, of_z, ◌≡◌, ◌≤ℤ◌, ◌⊎◌, inl, inr, ℕ, ℤ, Bool, false, not, None, subst, sym, ◌∙◌}
 use mir.Syntax.{w128}
 use Rattle.asn_values.specs.Fits.{in_range, lowest_integer, FitsNumber}
 use Rattle.asn_values.specs.Profile.{InProfile}

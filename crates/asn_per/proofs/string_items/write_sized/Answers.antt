@@ -1,4 +1,4 @@
-use Rattle.std.proofs.Common.{◌++◌, ◌-◌, length, Some, None, sym, arith}
+use Rattle.std.proofs.Common.{◌-◌, length, Some, None, sym, arith}
 use Rattle.asn_values.specs.View.{size_range_of}
 use Rattle.asn_walk.specs.Writing.{Advances}
 use Rattle.asn_per.specs.Following.{following_chunks}

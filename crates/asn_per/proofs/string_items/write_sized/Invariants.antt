@@ -1,4 +1,4 @@
-use Rattle.std.proofs.Common.{◌++◌, ◌-◌}
+use Rattle.std.proofs.Common.{◌-◌}
 use Rattle.asn_values.specs.View.{size_range_of}
 use Rattle.asn_per.specs.Following.{following_chunks}
 use Rattle.asn_per.specs.StringItems.{item_chunks, sized_bits}

@@ -1,4 +1,4 @@
-use Rattle.std.proofs.Common.{ℕ, List, [], refl, subst, sym, ap}
+use Rattle.std.proofs.Common.{ℕ, sym, ap}
 use Rattle.asn_bits.specs.Numbers.{bits}
 use Rattle.asn_sinks.proofs.Pushing.{pushed_same}
 use Rattle.asn_per.proofs.write_leaves.write_bitmap.Goals as goal

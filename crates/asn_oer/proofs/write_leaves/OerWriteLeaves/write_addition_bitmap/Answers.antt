@@ -1,4 +1,4 @@
-use Rattle.std.proofs.Common.{◌++◌, List, [], ℕ, length, refl, sym, ◌∙◌, ap}
+use Rattle.std.proofs.Common.{◌++◌, List, [], ℕ, refl, sym, ◌∙◌, ap}
 use Rattle.std.proofs.lemmas.Result.{on_ok_weaker}
 use Rattle.asn_bits.specs.Numbers.{bits, padding, unpacked}
 use Rattle.asn_bits.proofs.Octets.{length-digits}

@@ -1,4 +1,4 @@
-use Rattle.std.proofs.Common.{◌≡◌, ◌++◌, List, ℕ, Bool, sym, ap, ◌∙◌}
+use Rattle.std.proofs.Common.{◌≡◌, List, ℕ, Bool, sym, ap, ◌∙◌}
 use Rattle.asn_values.specs.Datum.{bit_list, octet_list, characters}
 use Rattle.asn_values.specs.View.{datum_of}
 use Rattle.asn_values.proofs.Views.{shape_of-Bits, datum_of-Bits, shape_of-Octets, datum_of-Octets, shape_of-Text, datum_of-Text}

@@ -1,5 +1,4 @@
-use Rattle.std.proofs.Common.{arith}
-use Rattle.asn_per.proofs.Write.ListFragments.{items_follow, items_end, last_follow, last_end, fragment_follows}
+use Rattle.asn_per.proofs.Write.ListFragments.{items_end, last_end, fragment_follows}
 use Rattle.asn_per.proofs.sizes.Following.next.Goals as goal
 
 pub returns-then-left-eq0 : goal.returns-then-left-eq0

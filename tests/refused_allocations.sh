@@ -123,7 +123,8 @@ calls=$(grep -c '^memory' "$work/told")
 LD_PRELOAD="$refuse" timeout 300 "$room/test_refused" <tests/programs/rows/stdin >"$work/out" 2>"$work/err" ||
   fail "rows: $(cat "$work/out" "$work/err")"
 [ ! -s "$work/err" ] || fail "rows: standard error: $(head -c 200 "$work/err")"
-for name in Checked::new encode decode decode_into 'open and feed' messages 'explain, of octets' read_newer convert to_json from_json \
+for name in Checked::new 'push and pad' encode decode check decode_into 'open and feed' messages 'explain, of octets' read_newer convert \
+  to_json from_json \
   'from_json, of another shape' read 'read, of a text that is refused' print explain \
   run,\ {show,check,encode,convert,newer,module}; do
   grep -qE "^$name: [0-9]+ times; [1-9][0-9]* allocations refused and told" "$work/out" ||

@@ -8,14 +8,15 @@ ghost use Rattle.asn_notation.specs.Tree.{tree_view, assignments_view};
 ghost use Rattle.asn_module.specs.Accepted.{Typed};
 ghost use Rattle.asn_module.specs.Known as spec;
 ghost use Rattle.asn_module.specs.Lookup.{Finds, names_in, assigned_names};
-ghost use Rattle.asn_module.specs.Known.{look, IsKnownOf, IsKnownOrStuck, AreAllSound, AreAllDone, AreAllTypes};
+ghost use Rattle.asn_module.specs.Known.{look, IsKnownAs, IsKnownOf, IsKnownOrStuck, AreAllSound, AreAllDone, AreAllTypes};
 ghost use Rattle.asn_module.specs.Known.{Attempted, unbuilt};
 
 use crate::building::build;
 use crate::counting::count;
 use crate::fault::Refusal;
+use crate::finding::find;
 use crate::known::{Known, Named};
-use asn_notation::{AssignmentNotation, TypeNotation};
+use asn_notation::{AssignmentNotation, Constraint, TypeNotation};
 use asn_values::profile::MAX_TYPES;
 use asn_values::{AsnType, Checked, TypeFault};
 use std::alloc::{AllocError, Global};
@@ -43,8 +44,39 @@ fn of_profile(
     }
 }
 
-/// The type of a notation, where it can be built of those that are built, and is one of the profile. Where it has more
-/// types inside it than one of the profile may have, none of them is built.
+/// The type of a notation that only refers to another, which is built: its tree, which both share. None of another
+/// notation.
+fn shared(
+    names: &[Named],
+    indices: &HashMap<&str, usize>,
+    ty: &TypeNotation,
+) -> Result<Option<Known>, AllocError>
+    requires { Finds indices.now (names_in names.now) }
+    ensures { IfOk result (λ o. IfSome o (IsKnownAs (look names.now) (tree_view ty.now))) }
+{
+    let TypeNotation::Reference {
+        name,
+        constraint,
+        ..
+    } = ty
+    else {
+        return Ok(None);
+    };
+    let Constraint::None = constraint else {
+        return Ok(None);
+    };
+    let Some(known) = find(names, indices, *name) else {
+        return Ok(None);
+    };
+    let _tree = known.ty.get();
+    Ok(Some(Known {
+        ty: known.ty.copy()?,
+        constraint: known.constraint,
+    }))
+}
+
+/// The type of a notation, where it can be built of those that are built, and is one of the profile. Where it only refers
+/// to one, that is shared. Where it has more types inside it than one of the profile may have, none of them is built.
 fn build_known(
     alloc: Global,
     names: &[Named],
@@ -55,6 +87,9 @@ fn build_known(
     ensures known { IfOk result (λ o. IsKnownOrStuck (look names.now) (tree_view ty.now) o) }
     ensures memory { IfErr result (λ e. e ≡ Refusal.Memory) }
 {
+    if let Some(known) = shared(names, indices, ty)? {
+        return Ok(Some(known));
+    }
     if count(names, indices, ty) > MAX_TYPES {
         return Ok(None);
     }

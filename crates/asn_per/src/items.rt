@@ -139,8 +139,12 @@ fn position_of_index(root: &[Item], index: usize) -> u32
     }
 }
 
-/// Fallback for unsorted items: each probe narrows the range of the number sought, and items outside it are passed
-/// over. In a random order that takes a few passes over the items, and at worst one for each.
+/// How many probes there are at most: at the lowest number, past the highest, and halves of the numbers between them,
+/// which are of 32 bits.
+const PROBES: u32 = 36;
+
+/// Fallback for unsorted items, in whatever order they stand: each probe counts the items below a number, and so narrows
+/// the range of the number sought, until one item is left in it.
 fn position_by_numbers(root: &[Item], index: usize) -> u32
     requires good { AreRootItems (map label_of root.now) }
     requires inside { index < length root.now }
@@ -148,6 +152,16 @@ fn position_by_numbers(root: &[Item], index: usize) -> u32
 {
     let mut above = i64::MIN;
     let mut below = i64::MAX;
+    for turn in 0..PROBES {
+        let next = probe(root, turn, above, below);
+        if above < next && next < below {
+            if rank(root, next) > index {
+                below = next;
+            } else {
+                above = next - 1;
+            }
+        }
+    }
     for (position, item) in root.iter().enumerate() {
         if above < item.number && item.number < below {
             let lower = rank(root, item.number);
@@ -162,6 +176,30 @@ fn position_by_numbers(root: &[Item], index: usize) -> u32
         }
     }
     unreachable!()
+}
+
+/// The number to be tried at this turn: first that of the lowest item, then one past the highest, and from then on the
+/// one that halves the range.
+fn probe(root: &[Item], turn: u32, above: i64, below: i64) -> i64 {
+    let mut lowest = i64::MAX;
+    let mut highest = i64::MIN;
+    match turn {
+        0 => {
+            for item in root {
+                lowest = lowest.min(item.number);
+            }
+            lowest
+        }
+        1 => {
+            for item in root {
+                highest = highest.max(item.number);
+            }
+            highest.saturating_add(1)
+        }
+        _ => above
+            .wrapping_add(below.wrapping_sub(above) / 2)
+            .wrapping_add(1),
+    }
 }
 
 /// Reads an item of a type with an extension mark: 0 and one of the root, or 1 and one of the additions.

@@ -52,7 +52,7 @@ impl Checked {
         ensures fault { IfErr result (λ f. Holds f (shape_of ty)) }
         ensures memory { IfErr result (λ f. f ≡ TypeFault.Memory → InProfile (shape_of ty)) }
     {
-        walk::check_type(&ty, MAX_LEVELS, MAX_TYPES)?;
+        walk::check_type(alloc, &ty, MAX_LEVELS, MAX_TYPES)?;
         let tree = Arc::new(alloc, ty).map_err(|_| TypeFault::Memory)?;
         Ok(Checked { tree })
     }

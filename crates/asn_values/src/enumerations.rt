@@ -1,5 +1,5 @@
 //! ENUMERATED: which items there may be, and which indexes are those of items.
-ghost use Rattle.std.specs.Prelude.{◌≡◌, ◌↔◌, ◌++◌, ◌==◌, IsTrue, length};
+ghost use Rattle.std.specs.Prelude.{◌≡◌, ◌↔◌, ◌++◌, ◌==◌, IsTrue, length, take, List, [], ℤ, MatchOption};
 ghost use Rattle.std.specs.List.{list_any, list_all};
 ghost use Rattle.std.specs.Int.RustNames.{int_lt};
 ghost use Rattle.asn_values.specs.Datum.{item};
@@ -10,7 +10,9 @@ ghost use Rattle.asn_values.specs.View.{more_labels_of, labels_seen, numbers_see
 
 use crate::names;
 use crate::profile::{MAX_ADDITIONS, MAX_ITEMS};
+use crate::tables::is_number_twice;
 use crate::types::Item;
+use std::alloc::Global;
 
 /// The additions: none where there is no extension marker.
 fn additions(ext: &Option<Vec<Item>>) -> &[Item]
@@ -30,19 +32,19 @@ pub(crate) fn is_empty(root: &[Item]) -> bool
 }
 
 /// Whether a name stands twice among the items, or one is no identifier.
-pub(crate) fn has_bad_names(root: &[Item], ext: &Option<Vec<Item>>) -> bool
+pub(crate) fn has_bad_names(alloc: Global, root: &[Item], ext: &Option<Vec<Item>>) -> bool
     ensures { result ≡ duplicate_name (enumerated_seen root.now ext.now) }
 {
-    names::are_bad(root, additions(ext))
+    names::are_bad(alloc, root, additions(ext))
 }
 
 /// Whether a number stands twice or is not of 32 signed bits, or an addition's is not above all
 /// those before it.
-pub(crate) fn has_bad_numbers(root: &[Item], ext: &Option<Vec<Item>>) -> bool
+pub(crate) fn has_bad_numbers(alloc: Global, root: &[Item], ext: &Option<Vec<Item>>) -> bool
     ensures { result ≡ bad_enumeration (enumerated_seen root.now ext.now) }
 {
     let additions = additions(ext);
-    has_number_twice(root)
+    has_number_twice(alloc, root)
         || has_large_number(root)
         || has_large_number(additions)
         || !is_rising(additions)
@@ -75,7 +77,20 @@ pub(crate) fn is_good_item(root: &[Item], ext: &Option<Vec<Item>>, index: u32) -
 }
 
 /// Whether two of the items have the same number.
-fn has_number_twice(items: &[Item]) -> bool
+fn has_number_twice(alloc: Global, items: &[Item]) -> bool
+    ensures { result ≡ has_twice int_eq (numbers_seen items.now) }
+{
+    if MAX_ITEMS < items.len() {
+        // a list longer than the profile has; without memory for a table its numbers are compared by pairs
+        if let Ok(is_twice) = is_number_twice(alloc, items) {
+            return is_twice;
+        }
+    }
+    has_number_twice_by_pairs(items)
+}
+
+/// The same, each number being compared with those after it.
+fn has_number_twice_by_pairs(items: &[Item]) -> bool
     ensures { result ≡ has_twice int_eq (numbers_seen items.now) }
 {
     for (index, item) in items.iter().enumerate() {
@@ -115,23 +130,43 @@ fn is_rising(items: &[Item]) -> bool
     ensures { result ≡ is_rising (numbers_seen items.now) }
 {
     for (index, item) in items.iter().enumerate() {
-        if !is_below_each(item.number, &items[index + 1..]) {
+        if !is_below_first(item.number, &items[index + 1..]) {
             return false;
         }
     }
     true
 }
 
+/// Whether the number is below that of the first item, if there is one.
+fn is_below_first(number: i64, items: &[Item]) -> bool
+    ensures { result ≡ list_all (int_lt number) (take 1 (numbers_seen items.now)) }
+{
+    match items.first() {
+        Some(first) => number < first.number,
+        None => true,
+    }
+}
+
 /// Whether each number of the lower items is below each of the others.
 fn is_below(lower: &[Item], others: &[Item]) -> bool
     ensures { result ≡ list_all (λ x. list_all (int_lt x) (numbers_seen others.now)) (numbers_seen lower.now) }
 {
-    for item in lower {
-        if !is_below_each(item.number, others) {
-            return false;
-        }
+    match highest(lower) {
+        Some(number) => is_below_each(number, others),
+        None => true,
     }
-    true
+}
+
+/// The highest number of the items: what is above it is above each.
+fn highest(items: &[Item]) -> Option<i64>
+    ensures { MatchOption result (numbers_seen items.now ≡ []) (λ high. (others : List ℤ) →
+        list_all (λ x. list_all (int_lt x) others) (numbers_seen items.now) ≡ list_all (int_lt high) others) }
+{
+    let mut highest = items.first()?.number;
+    for item in items {
+        highest = highest.max(item.number);
+    }
+    Some(highest)
 }
 
 /// Whether the number is below that of each item.

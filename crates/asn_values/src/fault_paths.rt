@@ -33,7 +33,7 @@ impl AsnType {
             MatchOption found (InProfile (shape_of self.now)) (λ f. Holds f.fault (shape_of self.now))) }
         ensures memory { IfOk result (λ found. IfSome found (λ f. f.fault ≢ TypeFault.Memory)) }
     {
-        match check_type(self, MAX_LEVELS, MAX_TYPES) {
+        match check_type(alloc, self, MAX_LEVELS, MAX_TYPES) {
             Ok(_) => Ok(None),
             Err(fault) => {
                 let path = path_to_fault(alloc, self)?;
@@ -59,7 +59,7 @@ fn path_to_fault(alloc: Global, ty: &AsnType) -> Result<String, AllocError> {
     let mut here = ty;
     let mut start = MAX_TYPES;
     for level in 0..MAX_LEVELS {
-        let Some(part) = faulty_part(here, MAX_LEVELS - 1 - level, start) else {
+        let Some(part) = faulty_part(alloc, here, MAX_LEVELS - 1 - level, start) else {
             return Ok(path);
         };
         match part.name {
@@ -76,16 +76,21 @@ fn path_to_fault(alloc: Global, ty: &AsnType) -> Result<String, AllocError> {
 }
 
 /// The first part of the type in which the walk finds a fault; None where it finds one of the type itself, or none.
-fn faulty_part<'a>(ty: &'a AsnType, levels: u32, start: u32) -> Option<FaultyPart<'a>> {
-    if start == 0 || check_node(ty, levels).is_err() {
+fn faulty_part<'a>(
+    alloc: Global,
+    ty: &'a AsnType,
+    levels: u32,
+    start: u32,
+) -> Option<FaultyPart<'a>> {
+    if start == 0 || check_node(alloc, ty, levels).is_err() {
         return None;
     }
     match ty {
-        AsnType::Seq { root, ext } => match faulty_field(root, levels, start - 1) {
+        AsnType::Seq { root, ext } => match faulty_field(alloc, root, levels, start - 1) {
             Err(part) => Some(part),
             Ok(left) => match ext {
                 None => None,
-                Some(more) => faulty_field(more, levels, left).err(),
+                Some(more) => faulty_field(alloc, more, levels, left).err(),
             },
         },
         AsnType::SeqOf(element, _) => Some(FaultyPart {
@@ -93,11 +98,11 @@ fn faulty_part<'a>(ty: &'a AsnType, levels: u32, start: u32) -> Option<FaultyPar
             ty: element,
             start: start - 1,
         }),
-        AsnType::Choice { root, ext } => match faulty_alternative(root, levels, start - 1) {
+        AsnType::Choice { root, ext } => match faulty_alternative(alloc, root, levels, start - 1) {
             Err(part) => Some(part),
             Ok(left) => match ext {
                 None => None,
-                Some(more) => faulty_alternative(more, levels, left).err(),
+                Some(more) => faulty_alternative(alloc, more, levels, left).err(),
             },
         },
         _ => None,
@@ -105,10 +110,15 @@ fn faulty_part<'a>(ty: &'a AsnType, levels: u32, start: u32) -> Option<FaultyPar
 }
 
 /// The first component with a fault in its type, as an error; the number of types that are left where there is none.
-fn faulty_field<'a>(fields: &'a [Field], levels: u32, start: u32) -> Result<u32, FaultyPart<'a>> {
+fn faulty_field<'a>(
+    alloc: Global,
+    fields: &'a [Field],
+    levels: u32,
+    start: u32,
+) -> Result<u32, FaultyPart<'a>> {
     let mut left = start;
     for field in fields {
-        match check_type(&field.ty, levels, left) {
+        match check_type(alloc, &field.ty, levels, left) {
             Ok(after) => left = after,
             Err(_) => {
                 return Err(FaultyPart {
@@ -124,13 +134,14 @@ fn faulty_field<'a>(fields: &'a [Field], levels: u32, start: u32) -> Result<u32,
 
 /// The same of alternatives.
 fn faulty_alternative<'a>(
+    alloc: Global,
     alternatives: &'a [Alt],
     levels: u32,
     start: u32,
 ) -> Result<u32, FaultyPart<'a>> {
     let mut left = start;
     for alternative in alternatives {
-        match check_type(&alternative.ty, levels, left) {
+        match check_type(alloc, &alternative.ty, levels, left) {
             Ok(after) => left = after,
             Err(_) => {
                 return Err(FaultyPart {

@@ -19,6 +19,7 @@ mod notation;
 pub mod profile;
 mod ranges;
 mod sizes;
+mod tables;
 mod texts;
 mod type_equality;
 mod types;

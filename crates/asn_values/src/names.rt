@@ -3,7 +3,10 @@ ghost use Rattle.std.specs.Prelude.{◌≡◌, ◌&&◌, ◌||◌, ◌++◌, Lis
 ghost use Rattle.std.specs.List.{list_any, list_all};
 ghost use Rattle.asn_values.specs.Profile as profile;
 
+use crate::profile::MAX_ITEMS;
+use crate::tables::is_name_twice;
 use crate::types::{Alt, Field, Item};
+use std::alloc::Global;
 
 /// What has a name in a type.
 pub trait Named {
@@ -39,7 +42,32 @@ impl Named for Item {
 }
 
 /// Whether a name stands twice in the lists, or one is no identifier.
-pub(crate) fn are_bad<T: Named>(root: &[T], additions: &[T]) -> bool
+pub(crate) fn are_bad<T: Named>(alloc: Global, root: &[T], additions: &[T]) -> bool
+    ensures { result ≡ profile.bad_names (map T.name_of root.now ++ map T.name_of additions.now) }
+{
+    if MAX_ITEMS < root.len() || MAX_ITEMS < additions.len() {
+        // a list longer than the profile has; without memory for a table its names are compared by pairs
+        if let Ok(is_twice) = is_name_twice(alloc, root, additions) {
+            return is_twice || !are_identifiers(root) || !are_identifiers(additions);
+        }
+    }
+    are_bad_by_pairs(root, additions)
+}
+
+/// Whether each name is an identifier.
+fn are_identifiers<T: Named>(parts: &[T]) -> bool
+    ensures { result ≡ list_all profile.is_identifier (map T.name_of parts.now) }
+{
+    for part in parts {
+        if !is_identifier(part.name().as_bytes()) {
+            return false;
+        }
+    }
+    true
+}
+
+/// Whether a name stands twice in the lists, or one is no identifier, each name being compared with those after it.
+fn are_bad_by_pairs<T: Named>(root: &[T], additions: &[T]) -> bool
     ensures { result ≡ profile.bad_names (map T.name_of root.now ++ map T.name_of additions.now) }
 {
     for (index, part) in root.iter().enumerate() {

@@ -9,6 +9,7 @@ use crate::fault::TypeFault;
 use crate::profile::{MAX_ADDITIONS, MAX_ALTERNATIVES, MAX_COMPONENTS};
 use crate::types::{Alt, AsnType, Bounds, Field, Item, Size};
 use crate::{additions, default_values, enumerations, names, ranges, sizes, zero_bits};
+use std::alloc::Global;
 
 /// Checks the type and all types inside it. Fails past `levels` levels of nesting or a budget of `start` types;
 /// returns the budget left.
@@ -17,14 +18,19 @@ use crate::{additions, default_values, enumerations, names, ranges, sizes, zero_
 /// The fault of the first type that has one, a type before those inside it; of several faults of that type, the one
 /// with the least number. A type below the last level is `TooDeep`, and it is not looked at.
 #[cycle(walk)]
-pub(crate) fn check_type(ty: &AsnType, levels: u32, start: u32) -> Result<u32, TypeFault>
+pub(crate) fn check_type(
+    alloc: Global,
+    ty: &AsnType,
+    levels: u32,
+    start: u32,
+) -> Result<u32, TypeFault>
     ensures sound { IfOk result (λ left. IsSoundWithin levels start left (of_type (shape_of ty.now))) }
     ensures fault { IfErr result (λ f. IsFaultWithin f levels start (of_type (shape_of ty.now))) }
 {
     if levels == 0 {
         return Err(TypeFault::TooDeep);
     }
-    check_node(ty, levels - 1)?;
+    check_node(alloc, ty, levels - 1)?;
     if start == 0 {
         return Err(TypeFault::TooMany);
     }
@@ -38,18 +44,18 @@ pub(crate) fn check_type(ty: &AsnType, levels: u32, start: u32) -> Result<u32, T
         | AsnType::Text(..)
         | AsnType::Utf8 => Ok(start - 1),
         AsnType::Seq { root, ext } => {
-            let left = check_fields(root, levels - 1, start - 1)?;
+            let left = check_fields(alloc, root, levels - 1, start - 1)?;
             match ext {
                 None => Ok(left),
-                Some(more) => check_fields(more, levels - 1, left),
+                Some(more) => check_fields(alloc, more, levels - 1, left),
             }
         }
-        AsnType::SeqOf(element, _) => check_type(element, levels - 1, start - 1),
+        AsnType::SeqOf(element, _) => check_type(alloc, element, levels - 1, start - 1),
         AsnType::Choice { root, ext } => {
-            let left = check_alternatives(root, levels - 1, start - 1)?;
+            let left = check_alternatives(alloc, root, levels - 1, start - 1)?;
             match ext {
                 None => Ok(left),
-                Some(more) => check_alternatives(more, levels - 1, left),
+                Some(more) => check_alternatives(alloc, more, levels - 1, left),
             }
         }
     }
@@ -57,20 +63,25 @@ pub(crate) fn check_type(ty: &AsnType, levels: u32, start: u32) -> Result<u32, T
 
 /// Checks the types of the components, one after the other, in the same way.
 #[cycle(walk)]
-fn check_fields(fields: &[Field], levels: u32, start: u32) -> Result<u32, TypeFault>
+fn check_fields(alloc: Global, fields: &[Field], levels: u32, start: u32) -> Result<u32, TypeFault>
     ensures sound { IfOk result (λ left. IsSoundWithin levels start left (of_types (types_of_fields fields.now))) }
     ensures fault { IfErr result (λ f. IsFaultWithin f levels start (of_types (types_of_fields fields.now))) }
 {
     let mut left = start;
     for field in fields {
-        left = check_type(&field.ty, levels, left)?;
+        left = check_type(alloc, &field.ty, levels, left)?;
     }
     Ok(left)
 }
 
 /// Checks the types of the alternatives, one after the other, in the same way.
 #[cycle(walk)]
-fn check_alternatives(alternatives: &[Alt], levels: u32, start: u32) -> Result<u32, TypeFault>
+fn check_alternatives(
+    alloc: Global,
+    alternatives: &[Alt],
+    levels: u32,
+    start: u32,
+) -> Result<u32, TypeFault>
     ensures sound { IfOk result (λ left.
         IsSoundWithin levels start left (of_types (types_of_alternatives alternatives.now))) }
     ensures fault { IfErr result (λ f.
@@ -78,7 +89,7 @@ fn check_alternatives(alternatives: &[Alt], levels: u32, start: u32) -> Result<u
 {
     let mut left = start;
     for alternative in alternatives {
-        left = check_type(&alternative.ty, levels, left)?;
+        left = check_type(alloc, &alternative.ty, levels, left)?;
     }
     Ok(left)
 }
@@ -88,18 +99,18 @@ fn check_alternatives(alternatives: &[Alt], levels: u32, start: u32) -> Result<u
 ///
 /// # Errors
 /// Its fault with the least number.
-pub(crate) fn check_node(ty: &AsnType, levels: u32) -> Result<(), TypeFault>
+pub(crate) fn check_node(alloc: Global, ty: &AsnType, levels: u32) -> Result<(), TypeFault>
     ensures faultless { IfOk result (λ done. depth (shape_of ty.now) ≤ levels + 1 → IsFaultless (shape_of ty.now)) }
     ensures fault { IfErr result (λ f. HoldsHere f (shape_of ty.now)) }
 {
     match ty {
         AsnType::Bool | AsnType::Null | AsnType::Utf8 => Ok(()),
         AsnType::Int(bounds) => check_bounds(bounds),
-        AsnType::Enum { root, ext } => check_items(root, ext),
+        AsnType::Enum { root, ext } => check_items(alloc, root, ext),
         AsnType::Bits(size) | AsnType::Octets(size) | AsnType::Text(_, size) => check_size(size),
-        AsnType::Seq { root, ext } => check_sequence(root, ext),
+        AsnType::Seq { root, ext } => check_sequence(alloc, root, ext),
         AsnType::SeqOf(element, size) => check_list(element, size, levels),
-        AsnType::Choice { root, ext } => check_choice(root, ext),
+        AsnType::Choice { root, ext } => check_choice(alloc, root, ext),
     }
 }
 
@@ -124,17 +135,17 @@ fn check_bounds(bounds: &Bounds) -> Result<(), TypeFault>
 ///
 /// # Errors
 /// Its fault with the least number.
-fn check_items(root: &[Item], more: &Option<Vec<Item>>) -> Result<(), TypeFault>
+fn check_items(alloc: Global, root: &[Item], more: &Option<Vec<Item>>) -> Result<(), TypeFault>
     ensures faultless { IfOk result (λ done. IsFaultless (enumerated_seen root.now more.now)) }
     ensures fault { IfErr result (λ f. HoldsHere f (enumerated_seen root.now more.now)) }
 {
     if enumerations::is_empty(root) {
         return Err(TypeFault::EmptyRange);
     }
-    if enumerations::has_bad_names(root, more) {
+    if enumerations::has_bad_names(alloc, root, more) {
         return Err(TypeFault::DuplicateName);
     }
-    if enumerations::has_bad_numbers(root, more) {
+    if enumerations::has_bad_numbers(alloc, root, more) {
         return Err(TypeFault::BadEnumeration);
     }
     if enumerations::is_too_many(root, more) {
@@ -167,12 +178,12 @@ fn check_size(size: &Size) -> Result<(), TypeFault>
 ///
 /// # Errors
 /// Its fault with the least number.
-fn check_sequence(root: &[Field], ext: &Option<Vec<Field>>) -> Result<(), TypeFault>
+fn check_sequence(alloc: Global, root: &[Field], ext: &Option<Vec<Field>>) -> Result<(), TypeFault>
     ensures faultless { IfOk result (λ done. IsFaultless (sequence_seen root.now ext.now)) }
     ensures fault { IfErr result (λ f. HoldsHere f (sequence_seen root.now ext.now)) }
 {
     let more = additions::of_sequence(ext);
-    if names::are_bad(root, more) {
+    if names::are_bad(alloc, root, more) {
         return Err(TypeFault::DuplicateName);
     }
     if default_values::are_bad(root) || default_values::are_bad(more) {
@@ -207,7 +218,7 @@ fn check_list(element: &AsnType, size: &Size, levels: u32) -> Result<(), TypeFau
 ///
 /// # Errors
 /// Its fault with the least number.
-fn check_choice(root: &[Alt], ext: &Option<Vec<Alt>>) -> Result<(), TypeFault>
+fn check_choice(alloc: Global, root: &[Alt], ext: &Option<Vec<Alt>>) -> Result<(), TypeFault>
     ensures faultless { IfOk result (λ done. IsFaultless (choice_seen root.now ext.now)) }
     ensures fault { IfErr result (λ f. HoldsHere f (choice_seen root.now ext.now)) }
 {
@@ -215,7 +226,7 @@ fn check_choice(root: &[Alt], ext: &Option<Vec<Alt>>) -> Result<(), TypeFault>
         return Err(TypeFault::EmptyRange);
     }
     let added = additions::of_choice(ext);
-    if names::are_bad(root, added) {
+    if names::are_bad(alloc, root, added) {
         return Err(TypeFault::DuplicateName);
     }
     if MAX_ALTERNATIVES < root.len() || MAX_ALTERNATIVES - root.len() < added.len() {

@@ -1,5 +1,5 @@
 -- How the program finds the index of an item and the item of an index.
-use Rattle.std.proofs.Common.{◌≡◌, ◌≢◌, ◌≤◌, ◌<◌, ◌+◌, ◌++◌, ◌==◌, ◌⊎◌, inl, inr, ℕ, zero, suc, ℤ, pos, negsuc, true, false, List, [], ◌∷◌, map, length, get_or, refl, sym, ap, subst, ◌∙◌, nat_lt, arith}
+use Rattle.std.proofs.Common.{◌≡◌, ◌≢◌, ◌≤◌, ◌<◌, ◌+◌, ◌++◌, ◌==◌, ◌⊎◌, ◌-ℤ◌, inl, inr, ℕ, zero, suc, ℤ, pos, negsuc, Bool, true, false, List, [], ◌∷◌, map, length, get_or, refl, sym, ap, subst, ◌∙◌, nat_lt, arith}
 use Rattle.std.proofs.lemmas.Bool.{true≢false, ltb-false, lt-ltb, or_parts}
 use Rattle.std.proofs.lemmas.Int.{ints}
 use Rattle.std.proofs.lemmas.List.{length-map}
@@ -18,7 +18,7 @@ use Rattle.asn_rules.proofs.Law.Items.{numbers, good_items}
 use Rattle.asn_per.specs.Per.{rank}
 use Rattle.asn_per.specs.Kinds.{position_of}
 use Rattle.asn_per.specs.Indexes.{AreRootItems}
-use Rattle.asn_per.proofs.Law.Enumerations.{compare, rank_rises}
+use Rattle.asn_per.proofs.Law.Enumerations.{compare, rank_rises, rank_below}
 use Rattle.asn_per.proofs.Types.Ranks.{place_there, place_back}
 
 -- ---- the root of a type of the profile
@@ -74,6 +74,10 @@ item_kept is p d x good h e =
     let there = number_there is p d x h e in
     let inside : p < length (map label_of is) = simp length-map h in
     kept x.number (subst (λ z. is_not_32_bits z ≡ false) there (number_small (map label_of is) p good.narrow inside)) ∙ sym there
+
+-- the number before another is below what is not below that
+pub just_below : (y z x : ℤ) → y ≡ z -ℤ pos 1 → int_lt x z ≡ false → int_lt y x ≡ true
+just_below y z x e h = grind (arith, ints)
 
 -- ---- the item of an index
 
@@ -141,6 +145,24 @@ module _ (ls : List Label) (good : AreRootItems ls) (index : ℕ) (inside : inde
         under (inl e) = e
         under (inr (inl e)) = absurd (let f : rank ls (number_at ls p) ≡ index = ap (rank ls) (sym e) ∙ there.1 in omega arith)
         under (inr (inr e)) = absurd (omega (arith, rank_rises ls (number_at ls p) (number_at ls (position_of ls index)) e, there.1))
+
+    -- a number has more items below it than the index tells: it is above the one that is sought
+    pub sought_under : (z : ℤ) → index < rank ls z → IsSought ls index p a z
+    sought_under z h = record { ahead = s.ahead; over = s.over; under = under (compare (number_at ls (position_of ls index)) z) }
+      where
+        under : (int_lt (number_at ls (position_of ls index)) z ≡ true) ⊎ (number_at ls (position_of ls index) ≡ z) ⊎ (int_lt z (number_at ls (position_of ls index)) ≡ true)
+            → int_lt (number_at ls (position_of ls index)) z ≡ true
+        under (inl e) = e
+        under (inr (inl e)) = absurd (let f : rank ls z ≡ index = ap (rank ls) (sym e) ∙ there.1 in omega arith)
+        under (inr (inr e)) = absurd (omega (arith, rank_rises ls z (number_at ls (position_of ls index)) e, there.1))
+
+    -- a number has not more items below it: the one that is sought is not below it, and so above what is below it
+    pub sought_over : (y z : ℤ) → ((x : ℤ) → int_lt x z ≡ false → int_lt y x ≡ true) → rank ls z ≤ index → IsSought ls index p y b
+    sought_over y z before h = record { ahead = s.ahead; over = before (number_at ls (position_of ls index)) (not_below (int_lt (number_at ls (position_of ls index)) z) refl); under = s.under }
+      where
+        not_below : (t : Bool) → int_lt (number_at ls (position_of ls index)) z ≡ t → t ≡ false
+        not_below false e = refl
+        not_below true e = absurd (omega (arith, rank_below ls (position_of ls index) z there.0 e, there.1))
 
     -- it comes before the last
     pub sought_ends : length ls ≤ p → ⊥

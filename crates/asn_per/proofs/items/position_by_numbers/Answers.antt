@@ -1,4 +1,5 @@
-use Rattle.std.proofs.Common.{◌≡◌, ◌<◌, false, map, length, ℤ, sym, ap, subst, ◌∙◌, arith}
+use Rattle.std.proofs.Common.{◌≡◌, ◌<◌, ◌≤◌, ◌-ℤ◌, false, map, length, ℤ, pos, sym, ap, subst, ◌∙◌, arith}
+use Rattle.std.proofs.lemmas.Int.{ints}
 use Rattle.std.proofs.lemmas.List.{length-map}
 use Rattle.std.specs.Int.RustNames.{int_lt}
 use mir.Syntax.{w64}
@@ -6,12 +7,33 @@ use mir.Val.{to_z, of_z}
 use Rattle.asn_values.specs.View.{label_of}
 use Rattle.asn_rules.specs.Components.{number_at}
 use Rattle.asn_per.specs.Per.{rank}
-use Rattle.asn_per.proofs.Read.ItemIndexes.{item_kept, IsSought, sought_starts, sought_found, sought_not_above, sought_not_below, sought_above, sought_below, sought_ends}
+use Rattle.asn_per.proofs.Read.ItemIndexes.{item_kept, just_below, IsSought, sought_starts, sought_found, sought_not_above, sought_not_below, sought_above, sought_below, sought_under, sought_over, sought_ends}
 use Rattle.asn_per.proofs.items.position_by_numbers.Goals as goal
-use Rattle.asn_per.proofs.items.position_by_numbers.Goals.{then-above-item+then-item-below+else-lower-index+then-lower-index-2, then-above-item+then-item-below+else-lower-index+else-lower-index-2, else-above-item, else-above-item-via-then-above-item+else-item-below, else-above-item-via-else-above-item}
+use Rattle.asn_per.proofs.items.position_by_numbers.Goals.{then-above-next+then-next-below+then-rank-index, then-above-next+then-next-below+else-rank-index, else-above-next, then-above-item+then-item-below+else-lower-index+then-lower-index-2, then-above-item+then-item-below+else-lower-index+else-lower-index-2, else-above-item, else-above-item-via-then-above-item+else-item-below, else-above-item-via-else-above-item}
 
-pub loop-position-init : goal.loop-position-init
-loop-position-init c = sought_starts (map label_of c.args.root.now) c.requires.good c.args.index (simp length-map c.requires.inside)
+pub loop-turn-init : goal.loop-turn-init
+loop-turn-init c = sought_starts (map label_of c.args.root.now) c.requires.good c.args.index (simp length-map c.requires.inside)
+
+pub loop-turn-preserved : goal.loop-turn-preserved
+loop-turn-preserved c =
+    let ls = map label_of c.args.root.now in
+    let good = c.requires.good in
+    let a = to_z w64 c.loop-turn.above-bits in
+    let b = to_z w64 c.loop-turn.below-bits in
+    let inside : c.args.index < length ls = simp length-map c.requires.inside in
+    let s : IsSought ls c.args.index 0 a b = c.loop-turn.invariant in
+    let z = to_z w64 (of_z w64 c.probe-next.result) in
+    elim c.if-above-next.branch [
+      | then-above-next+then-next-below+then-rank-index w ↦
+          rw (w.above-is, w.below-is) (sought_under ls good c.args.index inside 0 a b s z (subst (λ r. c.args.index < r) w.rank.ensures w.if-rank-index.true))
+      | then-above-next+then-next-below+else-rank-index w ↦ (
+          let y = to_z w64 (of_z w64 (z -ℤ pos 1)) in
+          let before : y ≡ z -ℤ pos 1 = grind (arith, ints, w.if-above-next.true) in
+          let few : rank ls z ≤ c.args.index = subst (λ r. r ≤ c.args.index) w.rank.ensures w.if-rank-index.false in
+          rw (w.above-is, w.below-is) (sought_over ls good c.args.index inside 0 a b s y z (λ x. just_below y z x before) few)
+          )
+      | else-above-next w ↦ rw (w.above-is, w.below-is) s
+    ]
 
 pub returns-then-lower-index : goal.returns-then-lower-index
 returns-then-lower-index c =

@@ -1,6 +1,6 @@
 use Rattle.std.proofs.Common.{◌≡◌, ◌++◌, map, drop}
 use Rattle.asn_values.specs.Profile as profile
-use Rattle.asn_values.proofs.names.are_bad.Given as goal
+use Rattle.asn_values.proofs.names.are_bad_by_pairs.Given as goal
 
 -- what is left of the first list, before all of the second, decides
 abbrev pub invariant-loop-index : goal.invariant-loop-index

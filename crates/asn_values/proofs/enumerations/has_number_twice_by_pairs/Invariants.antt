@@ -1,7 +1,7 @@
 use Rattle.std.proofs.Common.{◌≡◌, map, drop}
 use Rattle.asn_values.specs.Profile.{has_twice, int_eq}
 use Rattle.asn_values.specs.View.{label_of}
-use Rattle.asn_values.proofs.enumerations.has_number_twice.Given as goal
+use Rattle.asn_values.proofs.enumerations.has_number_twice_by_pairs.Given as goal
 
 -- what is left decides
 abbrev pub invariant-loop-index : goal.invariant-loop-index

@@ -1,0 +1,44 @@
+use Rattle.std.proofs.Common.{rules, ◌≡◌, ◌∙◌, ◌-◌, ◌<◌, ◌∷◌, [], true, suc, cond, drop, get_or, length, sym, ap, arith, w64, to_z, of_z}
+use Rattle.std.proofs.lemmas.Int.{ints}
+use Rattle.std.specs.HashSet.{contains}
+use Rattle.std.specs.Ordering.{int_eq}
+use mir.Val.{SFits}
+use Rattle.asn_values.specs.Profile as profile
+use Rattle.asn_values.specs.View.{numbers_seen}
+use Rattle.asn_values.proofs.LongLists.{first_number, table_step, twice_within, with_none, had, had_not, same_number, turned}
+use Rattle.asn_values.proofs.tables.is_number_twice.Goals as goal
+
+pub returns-then-not-branch : goal.returns-then-not-branch
+returns-then-not-branch c =
+    let l = c.items in
+    let xs = c.args.items.now in
+    let r = get_or xs (l.index - 1) c.index-items-index.result in
+    let n = to_z w64 (of_z w64 r.number) in
+    let f : SFits w64 r.number = search rules in
+    let kept : n ≡ r.number = omega (arith, ints, f) in
+    let i = l.index - 1 in
+    let less : i < length xs = omega (arith, l.invariant.inside, c.items-test.true) in
+    let first = first_number xs i r less (ap (get_or xs i) c.index-items-index.is) ∙ ap (λ z. z ∷ drop (suc i) (numbers_seen xs)) (sym kept) in
+    let step = table_step profile.int_eq turned (λ z. z) (numbers_seen xs) [] i l.index n (contains int_eq l.later) (contains int_eq c.insert.new.self) (omega (arith, c.items-test.true)) first l.invariant.found
+    (λ q. c.in_ok-insert.ensures.updates.0 q ∙ ap (λ b. cond b true (contains int_eq l.later q)) (same_number n q)) l.invariant.once in
+    let twice = step.1 ∙ had c.in_ok-insert.field-0 (contains int_eq l.later n) c.in_ok-insert.ensures.added c.if-not-branch.true in
+    sym (ap (profile.has_twice profile.int_eq) (sym (with_none (numbers_seen xs))) ∙ twice_within profile.int_eq i (numbers_seen xs) [] twice)
+
+pub items-preserved : goal.items-preserved
+items-preserved c =
+    let l = c.items in
+    let xs = c.args.items.now in
+    let r = get_or xs (l.index - 1) c.index-items-index.result in
+    let n = to_z w64 (of_z w64 r.number) in
+    let f : SFits w64 r.number = search rules in
+    let kept : n ≡ r.number = omega (arith, ints, f) in
+    let i = l.index - 1 in
+    let less : i < length xs = omega (arith, l.invariant.inside, c.items-test.true) in
+    let first = first_number xs i r less (ap (get_or xs i) c.index-items-index.is) ∙ ap (λ z. z ∷ drop (suc i) (numbers_seen xs)) (sym kept) in
+    let step = table_step profile.int_eq turned (λ z. z) (numbers_seen xs) [] i l.index n (contains int_eq l.later) (contains int_eq c.insert.new.self) (omega (arith, c.items-test.true)) first l.invariant.found
+    (λ q. c.in_ok-insert.ensures.updates.0 q ∙ ap (λ b. cond b true (contains int_eq l.later q)) (same_number n q)) l.invariant.once in
+    record {
+      inside = omega (arith, l.invariant.inside);
+      found = step.0;
+      once = step.1 ∙ had_not c.in_ok-insert.field-0 (contains int_eq l.later n) c.in_ok-insert.ensures.added c.if-not-branch.false;
+    }

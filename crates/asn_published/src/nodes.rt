@@ -46,6 +46,8 @@ pub(crate) enum Shape {
         from: usize,
         to: usize,
         marked: bool,
+        /// One of them, or of those in their groups, has a tag that is written.
+        tagged: bool,
     },
     /// SEQUENCE OF the type of a node, the size in parentheses from one index to before another.
     List {

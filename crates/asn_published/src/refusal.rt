@@ -10,6 +10,7 @@ use std::fmt;
 pub enum Why {
     Unknown,
     NotGiven,
+    ImportedTwice,
     NoType,
     Parameter,
     Endless,
@@ -58,6 +59,7 @@ impl fmt::Display for Why {
             }
             Why::Unknown => "a name that is not assigned",
             Why::NotGiven => "a name of a module that is not given",
+            Why::ImportedTwice => "a name that is imported from two modules",
             Why::NoType => "a name that stands for no type",
             Why::Parameter => "a parameter in the place of a type or a number",
             Why::Endless => "parameters that expand without end",

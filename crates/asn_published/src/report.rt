@@ -81,7 +81,7 @@ impl fmt::Display for Remark {
             Remark::EmptyGroup => "a group without components is absent: the writer leaves it out",
             Remark::OerTags => "OER tells the alternatives apart by other tags",
             Remark::OerItems => "OER writes other numbers for additional items",
-            Remark::Level => "recursion ends here, in NULL",
+            Remark::Level => "recursion ends in NULL",
         };
         f.write_str(words)
     }

@@ -195,10 +195,10 @@ impl<'t> Writer<'t> {
         index: usize,
         left: &Option<Ranges>,
     ) -> Result<(), Refusal> {
-        match left {
-            Some(ranges) if ranges.len() > 1 => self.remark(alloc, known, index, Remark::Gap),
-            _ => Ok(()),
+        if has_gap(left) {
+            self.remark(alloc, known, index, Remark::Gap)?;
         }
+        Ok(())
     }
 
     /// A refusal where the characters that are left have codes of their own, and a remark where they are not all.
@@ -222,6 +222,17 @@ impl<'t> Writer<'t> {
             self.remark(alloc, known, index, Remark::Characters)?;
         }
         Ok(())
+    }
+}
+
+/// Whether numbers between the lowest and the highest are missing.
+fn has_gap(left: &Option<Ranges>) -> bool {
+    match left {
+        Some(ranges) => match ranges.hull() {
+            Some(hull) => !ranges.fill(hull),
+            None => false,
+        },
+        None => false,
     }
 }
 

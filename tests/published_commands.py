@@ -78,8 +78,8 @@ TYPES = (
 )
 # a type, words that are not enough, and what is told of why it is refused
 REFUSED = (
-    ("Reading", ["--octets", "--levels", "2"], [VALUE, GROUP, NO_FLAGS, NO_BITS]),
-    ("Reading", ["--plain-bits", "--levels", "2"], [VALUE, GROUP, NO_ID, BITS, NO_OCTETS]),
+    ("Reading", ["--octets", "--levels", "2"], [VALUE, NO_FLAGS, NO_BITS]),
+    ("Reading", ["--plain-bits", "--levels", "2"], [VALUE, NO_ID, BITS, NO_OCTETS]),
     ("Flags", ["--octets", "--levels", "2"], [NO_BITS]),
     ("Id", ["--plain-bits", "--levels", "2"], [NO_OCTETS]),
     ("Chain", ["--plain-bits", "--octets"], [NO_LEVELS]),

@@ -1,6 +1,6 @@
 //! Sets of whole numbers, as ranges: what the constraints of a type leave.
 ghost use Rattle.std.specs.Prelude.{◌≡◌, ℤ, [], ◌∷◌, IfNone, IfOk, IfSome, IsTrue, OnOk, ◌↔◌, ◌≤ℤ◌, ◌⊎◌};
-ghost use Rattle.asn_published.specs.Left.{IsLeft};
+ghost use Rattle.asn_published.specs.Left.{IsLeft, IsWhole};
 ghost use Rattle.asn_published.specs.Numbers.{AreFrom, AreTo, InRange, InSet, IsAbove, IsBelow, IsFrom, IsOrdered, IsTo};
 
 use std::alloc::{AllocError, Global};
@@ -320,6 +320,19 @@ fn fill(ranges: &[Range], low: Option<i128>, high: Option<i128>, steps: usize) -
             Some(next) => fill(ranges, Some(next), high, steps - 1),
         },
         _ => false,
+    }
+}
+
+/// Whether it is found that no number between two of those that are left is missing; `None` is all numbers.
+pub(crate) fn is_whole(left: &Option<Ranges>) -> bool
+    ensures { IsTrue result → IsWhole left.now }
+{
+    match left {
+        None => true,
+        Some(ranges) => match ranges.hull() {
+            None => true,
+            Some(hull) => ranges.fill(hull),
+        },
     }
 }
 

@@ -5,7 +5,7 @@ use crate::letters::{keeps_codes, name_of};
 use crate::nodes::{Letters, Node, Shape};
 use crate::numbers::Scope;
 use crate::pieces::push_pieces;
-use crate::ranges::Ranges;
+use crate::ranges::{Ranges, is_whole};
 use crate::refusal::{Refusal, Why, refused};
 use crate::report::Remark;
 use crate::seen::{Mode, Seen};
@@ -195,10 +195,10 @@ impl<'t> Writer<'t> {
         index: usize,
         left: &Option<Ranges>,
     ) -> Result<(), Refusal> {
-        if has_gap(left) {
-            self.remark(alloc, known, index, Remark::Gap)?;
+        if is_whole(left) {
+            return Ok(());
         }
-        Ok(())
+        self.remark(alloc, known, index, Remark::Gap)
     }
 
     /// A refusal where the characters that are left have codes of their own, and a remark where they are not all.
@@ -222,17 +222,6 @@ impl<'t> Writer<'t> {
             self.remark(alloc, known, index, Remark::Characters)?;
         }
         Ok(())
-    }
-}
-
-/// Whether numbers between the lowest and the highest are missing.
-fn has_gap(left: &Option<Ranges>) -> bool {
-    match left {
-        Some(ranges) => match ranges.hull() {
-            Some(hull) => !ranges.fill(hull),
-            None => false,
-        },
-        None => false,
     }
 }
 

@@ -5,9 +5,10 @@ usage: tests/published_tags.py PROGRAM [SEED [COUNT]]
 
 Types are made at random in three modules, of AUTOMATIC, IMPLICIT and EXPLICIT TAGS: SET and CHOICE with tags of all classes
 and without, of simple types, of one another across the modules, of CHOICE types that have no tag of their own, and of
-alternatives of these, with additions, and with COMPONENTS OF another SET. The type of the profile has to have the root in the canonical order of tags (X.680), the additions as
-they stand, and the remark that OER tells alternatives apart by other tags just where these are not 0, 1, ..; where two of
-the root have one tag it is refused. The last line is 'N passed, M failed'.
+alternatives of these, with additions, and with COMPONENTS OF another SET. The type of the profile has to have the root in
+the canonical order of tags (X.680), the additions as they stand, and the remark that OER tells alternatives apart by other
+tags just where these are not 0, 1, .., or one of them is a CHOICE that has no tag of its own; where two of the root have one
+tag it is refused. The last line is 'N passed, M failed'.
 """
 import os
 import random
@@ -28,10 +29,11 @@ TYPES = 1500
 
 
 class Member:
-    """A component or alternative: its name, its text, its tag as a class and a number, and whether that is written."""
+    """A component or alternative: its name, its text, its tag as a class and a number, whether that is written, and whether
+    it is a CHOICE that has no tag of its own."""
 
-    def __init__(self, name, text, tag, is_written):
-        self.name, self.text, self.tag, self.is_written = name, text, tag, is_written
+    def __init__(self, name, text, tag, is_written, is_choice=False):
+        self.name, self.text, self.tag, self.is_written, self.is_choice = name, text, tag, is_written, is_choice
 
 
 class Made:
@@ -83,6 +85,8 @@ class Made:
         """Whether OER tells alternatives apart by other tags than 0, 1, .."""
         if self.word == "SET" or self.is_automatic:
             return False
+        if any(it.is_choice for it in self.root + (self.additions or [])):
+            return True
         tags = sorted(it.tag for it in self.root) + [it.tag for it in self.additions or []]
         return tags != [(2, index) for index in range(len(tags))]
 
@@ -96,15 +100,15 @@ def tag_made(chance, way, index):
 def member(chance, way, index, name, module, others):
     """A member with or without a tag: none has one, or some, or all have those that go on with their numbers."""
     choices = [it for it in others if it.word == "CHOICE"]
-    kind = chance.random()
+    kind, is_choice = chance.random(), False
     if others and kind < 0.2:
         other = chance.choice(others)
-        text, tag = other.reference(module), other.tag()
+        text, tag, is_choice = other.reference(module), other.tag(), other.word == "CHOICE"
     elif choices and kind < 0.3:
         # an alternative of another type, with its tag
         other = chance.choice(choices)
         one = chance.choice(other.tagged())
-        text, tag = f"{one.name} < {other.reference(module)}", one.tag
+        text, tag, is_choice = f"{one.name} < {other.reference(module)}", one.tag, one.is_choice
     else:
         text = chance.choice([*SIMPLE])
         tag = (0, SIMPLE[text])
@@ -112,7 +116,7 @@ def member(chance, way, index, name, module, others):
     if is_written:
         front, tag = tag_made(chance, way, index)
         text = front + text
-    return Member(name, text, tag, is_written)
+    return Member(name, text, tag, is_written, is_choice and not is_written)
 
 
 def made(chance, count):

@@ -80,6 +80,7 @@ impl<'t> Forest<'t> {
             parent: first,
             name: "",
             instance,
+            tag: None,
             is_field: false,
             is_constrained: false,
         })?;
@@ -223,6 +224,7 @@ impl<'t> Forest<'t> {
             parent,
             name,
             instance: above.instance,
+            tag: None,
             is_field: false,
             is_constrained: false,
         })?;

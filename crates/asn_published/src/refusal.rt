@@ -6,7 +6,7 @@ use std::alloc::{AllocError, AllocFailed};
 use std::fmt;
 
 /// Why a published type becomes no type of the profile. `Display` says it in words.
-#[derive(Clone, Copy, Debug, PartialEq, Eq)]
+#[derive(Clone, Copy, PartialEq, Eq)]
 pub enum Why {
     Unknown,
     NotGiven,
@@ -91,7 +91,7 @@ impl fmt::Display for Why {
 }
 
 /// Why a type is refused, and on which line, from 1.
-#[derive(Clone, Copy, Debug)]
+#[derive(Clone, Copy)]
 pub(crate) enum Refusal {
     At { line: u32, why: Why },
     Memory,

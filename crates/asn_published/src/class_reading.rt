@@ -68,8 +68,8 @@ fn read_syntax(tokens: &Tokens<'_>, braces: usize) -> Result<(), TextFault> {
 }
 
 impl<'t> World<'t> {
-    /// Reads what stands after DEFAULT for a field of the name at `name`, whose values have the type at `start`, and gives
-    /// the index after it.
+    /// Reads what stands after DEFAULT for a field of the name at `name`, whose values have the type at `start`, and
+    /// gives the index after it.
     fn read_field_default(
         &self,
         alloc: Global,

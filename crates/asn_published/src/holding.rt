@@ -49,8 +49,8 @@ impl<'t> Writer<'t> {
         self.ask_for(tasks.as_slice())
     }
 
-    /// The members of a node, where the profile takes them; `written` are those that stand in it, from one index to before
-    /// another.
+    /// The members of a node, where the profile takes them; `written` are those that stand in it, from one index to
+    /// before another.
     fn layout_of_node(
         &mut self,
         alloc: Global,

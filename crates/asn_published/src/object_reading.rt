@@ -27,7 +27,8 @@ fn after_setting(tokens: &Tokens<'_>, at: usize) -> Result<usize, TextFault> {
     }
 }
 
-/// The index after a part of an object at `at`: `&field` and what it gives for it, or a part of the syntax of its class.
+/// The index after a part of an object at `at`: `&field` and what it gives for it, or a part of the syntax of its
+/// class.
 fn after_part(tokens: &Tokens<'_>, at: usize, has_fields: bool) -> Result<usize, TextFault> {
     if has_fields {
         return after_setting(tokens, after_field_name(tokens, at)?);

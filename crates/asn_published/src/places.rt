@@ -110,8 +110,8 @@ fn part_at(tokens: &Tokens<'_>, at: usize, most: u32, sign: Sign) -> Option<i128
     }
 }
 
-/// The code of the character for which the numbers in the braces at `at` stand: column and row, or group, plane, row and
-/// cell (X.680, "restricted character string types").
+/// The code of the character for which the numbers in the braces at `at` stand: column and row, or group, plane, row
+/// and cell (X.680, "restricted character string types").
 fn letter_of_numbers(tokens: &Tokens<'_>, at: usize) -> Option<i128> {
     let first = next(at);
     let second = next(next(first));

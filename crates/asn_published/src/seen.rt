@@ -118,8 +118,8 @@ pub(crate) fn intersection(alloc: Global, a: Seen, b: Seen, line: u32) -> Result
     if_small(both, line)
 }
 
-/// What either constraint leaves. Of one on lengths and one on characters that is every value, of which the encoding rules
-/// see that all characters are allowed.
+/// What either constraint leaves. Of one on lengths and one on characters that is every value, of which the encoding
+/// rules see that all characters are allowed.
 pub(crate) fn union(alloc: Global, a: Seen, b: Seen, line: u32) -> Result<Seen, Refusal>
     ensures numbers { IfOk result (λ s. (z : ℤ) → IsLeft s.numbers z ↔ (IsLeft a.numbers z ⊎ IsLeft b.numbers z)) }
     ensures sizes { IfOk result (λ s. (z : ℤ) → IsLeft s.sizes z ↔ (IsLeft a.sizes z ⊎ IsLeft b.sizes z)) }

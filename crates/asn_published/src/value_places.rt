@@ -184,8 +184,8 @@ impl<'t> World<'t> {
         Ok(())
     }
 
-    /// Reads the value or the object that is assigned; braces of what is not known to be the one or the other are read up
-    /// to their end alone.
+    /// Reads the value or the object that is assigned; braces of what is not known to be the one or the other are read
+    /// up to their end alone.
     fn read_assigned(
         &self,
         alloc: Global,

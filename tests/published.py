@@ -234,7 +234,7 @@ HOSTILE = {
     "groups of a syntax one in the other": (200000, lambda n: [HEAD + "C ::= CLASS { &id INTEGER } WITH SYNTAX { " + "[A " * n + "&id" + "]" * n + " } o C ::= { " + "A " * n + "5 } T ::= INTEGER (0..o.&id)\nEND\n"]),
     "words of an object": (500000, lambda n: [HEAD + "C ::= CLASS { &id INTEGER } WITH SYNTAX { &id } o C ::= { " + "A 5, SEQUENCE OF B " * n + "} T ::= NULL\nEND\n"]),
     "what a set of objects lacks": (200000, lambda n: [HEAD + "C ::= CLASS { &id INTEGER } S C ::= { " + "a | (" * n + " b" + ")" * n + " | }\nT ::= NULL\nEND\n"]),
-    "unions without a gap": (4000, lambda n: [HEAD + "".join(f"T{i} ::= INTEGER (" + " | ".join(str(7 * j % 256) for j in range(256)) + ")\n" for i in range(n)) + "END\n"]),
+    "unions of many ranges without a gap": (4000, lambda n: [HEAD + "".join(f"T{i} ::= INTEGER (" + " | ".join(str(7 * j % 256) for j in range(256)) + ")\n" for i in range(n)) + "END\n"]),
     "COMPONENTS OF a large SET": (5000, lambda n: [HEAD + "S ::= SET { " + ", ".join(f"a{i} NULL" for i in range(60)) + ", ..., [[ " + ", ".join(f"b{i} NULL" for i in range(20 * n)) + " ]] }\n" + "".join(f"T{i} ::= SET {{ COMPONENTS OF S, z [5] BOOLEAN }}\n" for i in range(n)) + "END\n"]),
     "assignments": (500000, lambda n: [HEAD + "".join(f"T{i} ::= NULL\n" for i in range(n)) + "END\n"]),
     "assignments of values": (500000, lambda n: [HEAD + "".join(f"v{i} INTEGER ::= {i}\n" for i in range(n)) + "END\n"]),

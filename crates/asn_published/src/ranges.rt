@@ -5,6 +5,9 @@ ghost use Rattle.asn_published.specs.Numbers.{AreFrom, AreTo, InRange, InSet, Is
 
 use std::alloc::{AllocError, Global};
 
+/// How many ranges, one beside the other, are followed from the lowest number to the highest.
+const MOST_STEPS: usize = 32;
+
 /// The whole numbers from a lowest to a highest one. `None` is no bound.
 #[derive(Clone, Copy)]
 pub(crate) struct Range {
@@ -204,12 +207,7 @@ impl Ranges {
     pub fn fill(&self, range: Range) -> bool
         ensures { IsTrue result → (z : ℤ) → InRange range z → InSet self.now.ranges.items z }
     {
-        fill(
-            self.ranges.as_slice(),
-            range.low,
-            range.high,
-            self.ranges.len(),
-        )
+        fill(self.ranges.as_slice(), range.low, range.high, MOST_STEPS)
     }
 
     pub fn len(&self) -> usize {

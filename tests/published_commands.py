@@ -57,7 +57,7 @@ TIME = "meters.asn:9: Reading.[[ ]].at: wider: the time is not looked at"
 BITS = "common.asn:2: Flags: owed: last zeros of named bits: the writer trims them"
 OCTETS = "common.asn:3: Id: wider: the OBJECT IDENTIFIER is not looked at"
 ITEMS = "common.asn:4: Level: per only: OER writes other numbers for additional items"
-LEVEL = "meters.asn:13: Chain.next: wider: recursion ends here, in NULL"
+LEVEL = "meters.asn:13: Chain.next: wider: recursion ends in NULL"
 NO_FLAGS = "meters.asn:5: Reading.flags: refused: a type that is refused"
 NO_ID = "meters.asn:6: Reading.id: refused: a type that is refused"
 NO_BITS = "common.asn:2: Flags: refused: named bits without a fixed size: PER trims zeros"
@@ -70,14 +70,16 @@ TYPES = (
     ("Reading", ["--plain-bits", "--octets"], [{"flags": "101", "value": 150}, {"ext1": {"at": "9"}, "flags": "1", "id": "2a03", "level": "z", "value": 0}], [VALUE, GROUP, TIME, BITS, OCTETS, ITEMS]),
     ("Plain", [], [{"a": True, "b": 50}, {"a": False, "b": 0}], []),
     ("Chain", ["--levels", "1"], [{"v": True}, {"next": None, "v": False}], [LEVEL]),
+    # the levels above the last are none that end in NULL themselves, and hold one that does
+    ("Chain", ["--levels", "2"], [{"v": True}, {"next": {"v": False}, "v": True}, {"next": {"next": None, "v": True}, "v": False}], [LEVEL]),
     ("Level", [], ["a", "z"], [ITEMS]),
     ("Flags", ["--plain-bits"], ["101", "1"], [BITS]),
     ("Id", ["--octets"], ["2a03"], [OCTETS]),
 )
 # a type, words that are not enough, and what is told of why it is refused
 REFUSED = (
-    ("Reading", ["--octets", "--levels", "2"], [VALUE, GROUP, NO_FLAGS, NO_BITS]),
-    ("Reading", ["--plain-bits", "--levels", "2"], [VALUE, GROUP, NO_ID, BITS, NO_OCTETS]),
+    ("Reading", ["--octets", "--levels", "2"], [VALUE, NO_FLAGS, NO_BITS]),
+    ("Reading", ["--plain-bits", "--levels", "2"], [VALUE, NO_ID, BITS, NO_OCTETS]),
     ("Flags", ["--octets", "--levels", "2"], [NO_BITS]),
     ("Id", ["--plain-bits", "--levels", "2"], [NO_OCTETS]),
     ("Chain", ["--plain-bits", "--octets"], [NO_LEVELS]),

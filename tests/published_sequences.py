@@ -5,7 +5,7 @@ usage: tests/published_sequences.py PROGRAM [SEED [COUNT]]
 
 Types are made at random in two modules, one with EXTENSIBILITY IMPLIED: components of simple types and of one another,
 with OPTIONAL and DEFAULT, extension marks, additions and groups with and without versions, a second mark with components
-after it, COMPONENTS OF, and references to parameterized types. The type of the profile has to be the one that is made beside
+after it, COMPONENTS OF in the root, among the additions and in groups, and references to parameterized types. The type of the profile has to be the one that is made beside
 the text, and the report has to have the status that comes of its components. The last line is 'N passed, M failed'.
 """
 import json
@@ -98,17 +98,24 @@ class Maker:
             text, flat = f"Opt {{{text}}}", f"SEQUENCE {{ v {flat}, n NULL OPTIONAL{mark} }}"
         return Part(name, text, flat, status, need, default, default_flat)
 
+    def included(self, one, used):
+        """Sometimes a type for COMPONENTS OF, whose components have names that are not used yet."""
+        others = [it for it in self.types[-30:] if it.status != "refused" and 0 < len(it.root) < 9 and not used & {part.name for part in it.root}]
+        if self.chance.random() >= 0.08 or not others:
+            return None
+        other = self.chance.choice(others)
+        used |= {part.name for part in other.root}
+        one.nodes += other.nodes
+        return other
+
     def components(self, one, most, used):
         """Components of a root, with COMPONENTS OF others, whose names are not used yet: their texts, and what they are."""
         texts, parts = [], []
         for _ in range(self.chance.randint(0, most)):
-            others = [it for it in self.types[-30:] if it.status != "refused" and 0 < len(it.root) < 9 and not used & {part.name for part in it.root}]
-            if self.chance.random() < 0.08 and others:
-                other = self.chance.choice(others)
-                used |= {part.name for part in other.root}
+            other = self.included(one, used)
+            if other:
                 texts.append(f"COMPONENTS OF {other.reference(one.module)}")
                 parts += other.root
-                one.nodes += other.nodes
             else:
                 parts.append(self.part(one))
                 texts.append(parts[-1].text)
@@ -116,28 +123,33 @@ class Maker:
 
     def group(self, one, number):
         """A group: its text and its line in the profile; where each component may be absent it is owed."""
-        parts = [self.part(one) for _ in range(self.chance.randint(1, 3))]
+        other = self.included(one, set())
+        parts = other.root if other else [self.part(one) for _ in range(self.chance.randint(1, 3))]
+        said = f"COMPONENTS OF {other.reference(one.module)}" if other else ", ".join(it.text for it in parts)
         version = f"{number + 1}: " if self.chance.random() < 0.5 else ""
         for it in parts:
             one.status = worse(one.status, it.root_status)
         if all(it.need for it in parts):
             one.status = worse(one.status, "owed")
         inner = ", ".join(it.flat + it.suffix for it in parts)
-        return f"[[ {version}{', '.join(it.text for it in parts)} ]]", f"ext{number} SEQUENCE {{ {inner} }} OPTIONAL"
+        return f"[[ {version}{said} ]]", f"ext{number} SEQUENCE {{ {inner} }} OPTIONAL"
 
-    def additions(self, one):
-        """Additions and groups: their texts, and their lines in the profile."""
+    def additions(self, one, used):
+        """Additions, groups and COMPONENTS OF others among them: their texts, and their lines in the profile."""
         texts, flats, groups = [], [], 0
         for _ in range(self.chance.randint(0, 3)):
             if self.chance.random() < 0.5:
                 groups += 1
                 text, flat = self.group(one, groups)
-            else:
-                it = self.part(one)
+                texts.append(text)
+                flats.append(flat)
+                continue
+            other = self.included(one, used)
+            parts = other.root if other else [self.part(one)]
+            texts.append(f"COMPONENTS OF {other.reference(one.module)}" if other else parts[0].text)
+            for it in parts:
                 one.status = worse(one.status, it.addition_status)
-                text, flat = it.text, it.flat + " OPTIONAL"
-            texts.append(text)
-            flats.append(flat)
+                flats.append(it.flat + " OPTIONAL")
         return texts, flats
 
     def type(self):
@@ -147,7 +159,7 @@ class Maker:
         flats, is_marked = [], self.chance.random() < 0.6
         if is_marked:
             texts.append(self.chance.choice(("...", "... ! 5")))
-            more, flats = self.additions(one)
+            more, flats = self.additions(one, used)
             texts += more
             if self.chance.random() < 0.4:
                 more, parts = self.components(one, 2, used)

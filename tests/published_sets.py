@@ -8,7 +8,7 @@ Constraints of INTEGER and sizes of OCTET STRING are made at random from the gra
 contained subtypes, parentheses, extension marks, and constraints one after another, on the type or on a reference. Beside
 its text each set is made as a set of numbers, EXCEPT aside, which PER and OER do not see. The type of the profile has to have
 the least and the greatest of these numbers and the last mark; where numbers between are missing, or something is not seen,
-the type is wider; where none are left, or a mark stands on what is all numbers, it is refused. The last line is
+the type is wider, and else it is not; where none are left, or a mark stands on what is all numbers, it is refused. The last line is
 'N passed, M failed'.
 """
 import os
@@ -176,7 +176,7 @@ def main(words):
     for name, (type_wanted, is_wider) in wanted.items():
         if name in many_ranges:
             continue
-        well = found.get(name) == type_wanted and (not is_wider or type_wanted is None or name in wider)
+        well = found.get(name) == type_wanted and (type_wanted is None or is_wider == (name in wider))
         count.add(well, f"seed {seed}: {lines[name]}: {found.get(name)}, wanted {type_wanted}, wider {is_wider} {name in wider}")
     print(f"{sum(it[0] is not None for it in wanted.values())} types, {sum(it[0] is None for it in wanted.values())} refused, status {status}")
     print(f"{count.passed} passed, {count.failed} failed")

@@ -4,10 +4,11 @@
 usage: tests/published_tags.py PROGRAM [SEED [COUNT]]
 
 Types are made at random in three modules, of AUTOMATIC, IMPLICIT and EXPLICIT TAGS: SET and CHOICE with tags of all classes
-and without, of simple types, of one another across the modules, and of CHOICE types that have no tag of their own, with
-additions. The type of the profile has to have the root in the canonical order of tags (X.680), the additions as
-they stand, and the remark that OER tells alternatives apart by other tags just where these are not 0, 1, ..; where two of
-the root have one tag it is refused. The last line is 'N passed, M failed'.
+and without, of simple types, of one another across the modules, of CHOICE types that have no tag of their own, and of
+alternatives of these, with additions, and with COMPONENTS OF another SET. The type of the profile has to have the root in
+the canonical order of tags (X.680), the additions as they stand, and the remark that OER tells alternatives apart by other
+tags just where these are not 0, 1, .., or one of them is a CHOICE that has no tag of its own; where two of the root have one
+tag it is refused. The last line is 'N passed, M failed'.
 """
 import os
 import random
@@ -28,19 +29,31 @@ TYPES = 1500
 
 
 class Member:
-    """A component or alternative: its name, its text, its tag as a class and a number, and whether that is written."""
+    """A component or alternative: its name, its text, its tag as a class and a number, whether that is written, and whether
+    it is a CHOICE that has no tag of its own."""
 
-    def __init__(self, name, text, tag, is_written):
-        self.name, self.text, self.tag, self.is_written = name, text, tag, is_written
+    def __init__(self, name, text, tag, is_written, is_choice=False):
+        self.name, self.text, self.tag, self.is_written, self.is_choice = name, text, tag, is_written, is_choice
 
 
 class Made:
-    """A SET or CHOICE, or the like, with its root and its additions."""
+    """A SET or CHOICE, or the like, with its root and its additions; a SET may begin with the COMPONENTS OF another."""
 
-    def __init__(self, module, name, word, root, additions):
-        self.module, self.name, self.word, self.root, self.additions = module, name, word, root, additions
+    def __init__(self, module, name, word, root, additions, other=None):
+        self.module, self.name, self.word, self.own, self.additions, self.other = module, name, word, root, additions, other
         written = any(it.is_written for it in root + (additions or []))
         self.is_automatic = DEFAULTS[module] == "AUTOMATIC" and not written
+        self.root = (other.tagged()[: len(other.root)] if other else []) + root
+
+    def tagged(self):
+        """Its members with their tags, also where these are automatic."""
+        members = self.root + (self.additions or [])
+        if not self.is_automatic:
+            return members
+        return [Member(it.name, it.text, (2, index), False) for index, it in enumerate(members)]
+
+    def reference(self, module):
+        return self.name if self.module == module else f"M{self.module}.{self.name}"
 
     def tag(self):
         """Its own tag; of a CHOICE the least of the root's."""
@@ -52,7 +65,8 @@ class Made:
         return min(tags)
 
     def text(self):
-        parts = [f"{it.name} {it.text}" for it in self.root]
+        parts = [f"COMPONENTS OF {self.other.reference(self.module)}"] if self.other else []
+        parts += [f"{it.name} {it.text}" for it in self.own]
         if self.additions is not None:
             parts.append("...")
             parts += [f"{it.name} {it.text}" for it in self.additions]
@@ -71,6 +85,8 @@ class Made:
         """Whether OER tells alternatives apart by other tags than 0, 1, .."""
         if self.word == "SET" or self.is_automatic:
             return False
+        if any(it.is_choice for it in self.root + (self.additions or [])):
+            return True
         tags = sorted(it.tag for it in self.root) + [it.tag for it in self.additions or []]
         return tags != [(2, index) for index in range(len(tags))]
 
@@ -81,12 +97,18 @@ def tag_made(chance, way, index):
     return f"[{CLASSES[kind]} {number}] ".replace("[ ", "["), (kind, number)
 
 
-def member(chance, way, index, module, others):
+def member(chance, way, index, name, module, others):
     """A member with or without a tag: none has one, or some, or all have those that go on with their numbers."""
-    name = f"m{index}"
-    if others and chance.random() < 0.2:
+    choices = [it for it in others if it.word == "CHOICE"]
+    kind, is_choice = chance.random(), False
+    if others and kind < 0.2:
         other = chance.choice(others)
-        text, tag = (other.name if other.module == module else f"M{other.module}.{other.name}"), other.tag()
+        text, tag, is_choice = other.reference(module), other.tag(), other.word == "CHOICE"
+    elif choices and kind < 0.3:
+        # an alternative of another type, with its tag
+        other = chance.choice(choices)
+        one = chance.choice(other.tagged())
+        text, tag, is_choice = f"{one.name} < {other.reference(module)}", one.tag, one.is_choice
     else:
         text = chance.choice([*SIMPLE])
         tag = (0, SIMPLE[text])
@@ -94,23 +116,28 @@ def member(chance, way, index, module, others):
     if is_written:
         front, tag = tag_made(chance, way, index)
         text = front + text
-    return Member(name, text, tag, is_written)
+    return Member(name, text, tag, is_written, is_choice and not is_written)
 
 
 def made(chance, count):
     """The texts of three modules, and their types."""
-    types = []
+    types, names = [], 0
     for index in range(count):
         module, word = chance.randrange(3), chance.choice(("SET", "CHOICE", "CHOICE"))
         way = chance.choice(("none", "some", "some", "all", "all"))
         # a type that is refused would bar what holds it
         others = [it for it in types[-40:] if it.order() is not None]
-        members = [member(chance, way, at, module, others) for at in range(chance.randint(1, 6))]
+        members = []
+        for at in range(chance.randint(1, 6)):
+            names += 1
+            members.append(member(chance, way, at, f"m{names}", module, others))
+        sets = [it for it in others if it.word == "SET" and len(it.root) < 9]
+        other = chance.choice(sets) if word == "SET" and sets and chance.random() < 0.3 else None
         has_mark = chance.random() < 0.4
         split = chance.randint(1, len(members)) if has_mark else len(members)
         root, additions = members[:split], members[split:] if has_mark else None
         chance.shuffle(root)
-        types.append(Made(module, f"T{index}", word, root, additions))
+        types.append(Made(module, f"T{index}", word, root, additions, other))
     texts = []
     for module, words in enumerate(DEFAULTS):
         texts.append(f"M{module} DEFINITIONS {words} TAGS ::= BEGIN\n")

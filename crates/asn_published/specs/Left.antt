@@ -10,6 +10,10 @@ abbrev pub IsLeft : Option Ranges → ℤ → Type 0
 IsLeft None z = ⊤
 IsLeft (Some s) z = InSet s.ranges.items z
 
+-- no number between two of those that are left is missing
+abbrev pub IsWhole : Option Ranges → Type 0
+IsWhole s = (a b z : ℤ) → IsLeft s a → IsLeft s b → a ≤ℤ z → z ≤ℤ b → IsLeft s z
+
 -- the number is one of those that the profile's type has
 abbrev pub IsBetween : Numbers → ℤ → Type 0
 IsBetween numbers.All z = ⊤

@@ -15,6 +15,7 @@ use Rattle.asn_published.specs.declared.wrong.Wrong.TheVariants as wrong
 abbrev pub reason_of : Why → List ℕ
 reason_of why.Unknown = codes "a name that is not assigned"
 reason_of why.NotGiven = codes "a name of a module that is not given"
+reason_of why.ImportedTwice = codes "a name that is imported from two modules"
 reason_of why.NoType = codes "a name that stands for no type"
 reason_of why.Parameter = codes "a parameter in the place of a type or a number"
 reason_of why.Endless = codes "parameters that expand without end"
@@ -59,7 +60,7 @@ words_of remark.TrimmedBits = codes "last zeros of named bits: the writer trims 
 words_of remark.EmptyGroup = codes "a group without components is absent: the writer leaves it out"
 words_of remark.OerTags = codes "OER tells the alternatives apart by other tags"
 words_of remark.OerItems = codes "OER writes other numbers for additional items"
-words_of remark.Level = codes "recursion ends here, in NULL"
+words_of remark.Level = codes "recursion ends in NULL"
 words_of (remark.Holds s) = codes "holds a type that is " ++ word_of s
 words_of (remark.Refused reason) = reason_of reason
 

@@ -1,6 +1,6 @@
 //! Single values and ranges of constraints.
 use crate::numbers::{Scope, Values};
-use crate::places::{after_value, only_letter};
+use crate::places::{after_value, letter_at};
 use crate::ranges::{Range, Ranges};
 use crate::refusal::{Refusal, Why, refused};
 use crate::seen::{MOST_RANGES, Mode, Seen};
@@ -27,10 +27,10 @@ impl<'a, 't> Values<'a, 't> {
             });
         }
         if mode == Mode::Letters {
-            return match only_letter(tokens.text(at)) {
+            return match letter_at(tokens, at) {
                 Some(letter) => Ok(End {
                     bound: Some(letter),
-                    behind: next(at),
+                    behind: tokens.after(at),
                 }),
                 None => Err(refused(tokens.line(at), Why::Constraint)),
             };

@@ -89,7 +89,11 @@ pub(crate) fn lengths_between(
     line: u32,
 ) -> Result<Option<Lengths>, Refusal> {
     let Some(ranges) = left else {
-        return Ok(None);
+        return if marked {
+            Err(refused(line, Why::UselessMark))
+        } else {
+            Ok(None)
+        };
     };
     let Some(hull) = ranges.hull() else {
         return Err(refused(line, Why::Empty));

@@ -80,6 +80,7 @@ impl<'t> Forest<'t> {
             parent: first,
             name: "",
             instance,
+            tag: None,
             is_field: false,
             is_constrained: false,
         })?;
@@ -144,8 +145,33 @@ impl<'t> Forest<'t> {
         node: &Node<'t>,
     ) -> Result<(), TextFault> {
         let shape = self.members_of(tokens, todo, index, Holder::Sequence, node.at, node.end)?;
+        if matches!(shape, Shape::Members { tagged: true, .. }) {
+            self.take_tag(node.parent);
+        }
         self.settle(index, shape, node.end);
         Ok(())
+    }
+
+    /// Takes that a member in a group of a node has a tag that is written.
+    fn take_tag(&mut self, holder: usize) {
+        if let Some(node) = self.nodes.get_mut(holder) {
+            if let Shape::Members {
+                holder,
+                from,
+                to,
+                marked,
+                tagged: _,
+            } = node.shape
+            {
+                node.shape = Shape::Members {
+                    holder,
+                    from,
+                    to,
+                    marked,
+                    tagged: true,
+                };
+            }
+        }
     }
 
     /// Builds a node of a type that begins with a word or a name: its index, where the type stands, and where its
@@ -198,6 +224,7 @@ impl<'t> Forest<'t> {
             parent,
             name,
             instance: above.instance,
+            tag: None,
             is_field: false,
             is_constrained: false,
         })?;

@@ -1,6 +1,6 @@
 //! Refuses what the profile does not take of the members of a type: too many of them, and a name of two of them.
 use crate::building::Forest;
-use crate::layout::Layout;
+use crate::layout::{Layout, Placed};
 use crate::limits::{MOST_ADDITIONS, MOST_ALTERNATIVES, MOST_COMPONENTS, within};
 use crate::nodes::{Holder, MemberKind};
 use crate::refusal::{Refusal, Why, refused};
@@ -47,13 +47,13 @@ impl<'t> Writer<'t> {
     fn check_count(
         &mut self,
         known: Known<'_, 't>,
-        members: &[usize],
+        members: &[Placed],
         what: &'static str,
         most: usize,
     ) -> Result<(), Refusal> {
         match members.get(most) {
-            Some(index) => {
-                let line = self.go_to(known, *index);
+            Some(placed) => {
+                let line = self.go_to(known, placed.member);
                 within(line, what, members.len(), most)
             }
             None => Ok(()),
@@ -65,13 +65,13 @@ impl<'t> Writer<'t> {
         &mut self,
         alloc: Global,
         known: Known<'_, 't>,
-        members: &[usize],
+        members: &[Placed],
     ) -> Result<(), Refusal> {
         let mut taken: HashMap<String, ()> = HashMap::new(alloc);
-        for index in members {
-            let name = name_of(alloc, known.forest, *index)?;
+        for placed in members {
+            let name = name_of(alloc, known.forest, placed.member)?;
             if taken.insert(name, ())?.is_some() {
-                return Err(refused(self.go_to(known, *index), Why::NameTaken));
+                return Err(refused(self.go_to(known, placed.member), Why::NameTaken));
             }
         }
         Ok(())

@@ -91,7 +91,7 @@ impl<'a, 't> Values<'a, 't> {
             let seen = self.inner_seen(alloc, scope, mode, at, below)?;
             return Ok((seen, tokens.after(at)));
         }
-        if tokens.is(at, Sign::LeftBrace) {
+        if tokens.is(at, Sign::LeftBrace) && mode != Mode::Letters {
             return Ok((Seen::unseen(), after_table(tokens, at)));
         }
         if tokens.is_word(at, "SIZE") && mode == Mode::Others {
@@ -169,7 +169,7 @@ impl<'a, 't> Values<'a, 't> {
                 at = next(at);
                 continue;
             }
-            total = either_of(total, current, line)?;
+            total = either_of(alloc, total, current, line)?;
             current = None;
             if at >= end {
                 break;

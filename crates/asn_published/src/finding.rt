@@ -26,10 +26,12 @@ impl<'t> World<'t> {
             if let Some(index) = text.names.get(name) {
                 return Ok(*index);
             }
-            let Some(source) = text.imports.get(name) else {
-                return Err(Why::Unknown);
+            let source = match text.imports.get(name) {
+                Some(Some(source)) => *source,
+                Some(None) => return Err(Why::ImportedTwice),
+                None => return Err(Why::Unknown),
             };
-            match self.module_names.get(*source) {
+            match self.module_names.get(source) {
                 Some(index) => at = *index,
                 None => return Err(Why::NotGiven),
             }

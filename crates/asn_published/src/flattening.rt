@@ -24,7 +24,7 @@ const MOST_TRIES: u32 = 64;
 
 /// A module of the profile, its text as it is printed, what became of each type of the published ones, in their order,
 /// and the modules that these import from and that are not given.
-#[derive(Debug, Drop)]
+#[derive(Drop)]
 pub struct Flattened {
     pub text: String,
     pub module: Module,

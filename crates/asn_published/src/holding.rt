@@ -1,11 +1,11 @@
 //! Writes SEQUENCE, SET and CHOICE: their members in the order that the profile has.
 use crate::extents::after_tags;
-use crate::layout::{Layout, TagOrder, layout_of, may_be_empty, sort_by_tags};
+use crate::layout::{Layout, Placed, TagOrder, layout_of, sort_by_tags};
 use crate::limits::{MOST_ADDITIONS, MOST_COMPONENTS};
-use crate::nodes::{Holder, Member, MemberKind, Need, Node, Shape};
+use crate::nodes::{Holder, MemberKind, Need, Node, Shape};
 use crate::refusal::{Refusal, Why, refused};
 use crate::report::Remark;
-use crate::tags::{Tagging, is_automatic};
+use crate::tags::is_automatic;
 use crate::writer::{Known, Task, Writer};
 use crate::writing::is_extensible;
 use std::alloc::Global;
@@ -25,6 +25,7 @@ impl<'t> Writer<'t> {
             from,
             to,
             marked,
+            tagged,
         } = node.shape
         else {
             return Ok(());
@@ -32,8 +33,13 @@ impl<'t> Writer<'t> {
         if node.constraints < node.end {
             self.remark(alloc, known, index, Remark::Dropped)?;
         }
-        let layout = self.layout_of_node(alloc, known, index, node, (holder, from, to))?;
-        let is_marked = marked || (is_extensible(known, node) && !is_group(known, node));
+        let layout = self.layout_of_node(alloc, known, node, holder, (from, to))?;
+        let layout = self.in_order(alloc, known, index, node, holder, tagged, layout)?;
+        let is_group = is_group(known, node);
+        if is_group && layout.may_be_empty(known.forest) {
+            self.remark(alloc, known, index, Remark::EmptyGroup)?;
+        }
+        let is_marked = marked || (is_extensible(known, node) && !is_group);
         // a CHOICE of more than one alternative has an index
         let is_single = holder != Holder::Choice || layout.root.len() == 1;
         self.without_bits.push(!is_marked && is_single)?;
@@ -43,19 +49,18 @@ impl<'t> Writer<'t> {
         self.ask_for(tasks.as_slice())
     }
 
-    /// The members of a node in the order that the profile has, where it takes them: the holder, and the members as they
-    /// are written, from one index to before another.
+    /// The members of a node, where the profile takes them; `written` are those that stand in it, from one index to
+    /// before another.
     fn layout_of_node(
         &mut self,
         alloc: Global,
         known: Known<'_, 't>,
-        index: usize,
         node: &Node<'t>,
-        written: (Holder, usize, usize),
+        holder: Holder,
+        written: (usize, usize),
     ) -> Result<Layout, Refusal> {
-        let (holder, from, to) = written;
         let line = known.line_of(node);
-        let mut layout = layout_of(alloc, known.forest, known.firsts, (from, to), line)?;
+        let layout = layout_of(alloc, known.tagging(), written, line)?;
         if layout.len() > MOST_COMPONENTS + MOST_ADDITIONS {
             // too many, and each of them was looked at
             self.take_nodes(known, layout.len(), line)?;
@@ -64,9 +69,6 @@ impl<'t> Writer<'t> {
             return Err(refused(line, Why::NoRoot));
         }
         self.check_members(alloc, known, &layout, holder)?;
-        if holder != Holder::Sequence {
-            self.put_in_order(alloc, known, index, node, written, &mut layout)?;
-        }
         Ok(layout)
     }
 
@@ -78,34 +80,31 @@ impl<'t> Writer<'t> {
         Ok(())
     }
 
-    /// Puts the members of SET or CHOICE into the order of their tags: a refusal where they are not known, and a remark
-    /// where OER tells alternatives apart by other tags.
-    fn put_in_order(
+    /// The members of a SET or CHOICE in the order of their tags, those of a SEQUENCE as they are: a refusal where tags
+    /// are not known, and a remark where OER tells alternatives apart by other tags.
+    fn in_order(
         &mut self,
         alloc: Global,
         known: Known<'_, 't>,
         index: usize,
         node: &Node<'t>,
-        written: (Holder, usize, usize),
-        layout: &mut Layout,
-    ) -> Result<(), Refusal> {
-        let (holder, from, to) = written;
+        holder: Holder,
+        tagged: bool,
+        layout: Layout,
+    ) -> Result<Layout, Refusal> {
         let world = known.values.world;
-        if is_automatic(world, known.forest, node.module, from, to) {
-            return Ok(());
+        if holder == Holder::Sequence || is_automatic(world, node.module, tagged) {
+            return Ok(layout);
         }
-        let sources = Tagging {
-            world,
-            forest: known.forest,
-            firsts: known.firsts,
-            numbers: known.values.numbers,
-        };
-        match sort_by_tags(alloc, sources, layout)? {
-            TagOrder::Automatic => Ok(()),
-            TagOrder::Others if holder == Holder::Set => Ok(()),
-            TagOrder::Others => self.remark(alloc, known, index, Remark::OerTags),
-            TagOrder::Unknown => Err(refused(known.line_of(node), Why::Tags)),
+        let mut layout = layout;
+        match sort_by_tags(alloc, known.tagging(), &mut layout)? {
+            TagOrder::Others if holder == Holder::Choice => {
+                self.remark(alloc, known, index, Remark::OerTags)?;
+            }
+            TagOrder::Unknown => return Err(refused(known.line_of(node), Why::Tags)),
+            _ => {}
         }
+        Ok(layout)
     }
 
     /// What is to be written of members, in order.
@@ -125,8 +124,8 @@ impl<'t> Writer<'t> {
             " SEQUENCE {"
         }))?;
         let mut comma = false;
-        for member in &layout.root {
-            self.push_member(alloc, known, tasks, *member, comma, depth)?;
+        for placed in &layout.root {
+            self.push_member(alloc, known, tasks, (*placed, false), comma, depth)?;
             comma = true;
         }
         if marked {
@@ -147,8 +146,8 @@ impl<'t> Writer<'t> {
         layout: &Layout,
         depth: usize,
     ) -> Result<(), Refusal> {
-        for member in &layout.additions {
-            self.push_member(alloc, known, tasks, *member, true, depth)?;
+        for placed in &layout.additions {
+            self.push_member(alloc, known, tasks, (*placed, true), true, depth)?;
             if holder != Holder::Choice {
                 tasks.push(Task::Text(" OPTIONAL"))?;
             }
@@ -156,17 +155,18 @@ impl<'t> Writer<'t> {
         Ok(())
     }
 
-    /// What is to be written of one member.
+    /// What is to be written of one member, which is an addition or none.
     fn push_member(
         &mut self,
         alloc: Global,
         known: Known<'_, 't>,
         tasks: &mut Vec<Task<'t>>,
-        index: usize,
+        one: (Placed, bool),
         comma: bool,
         depth: usize,
     ) -> Result<(), Refusal> {
-        let Some(member) = known.forest.member(index) else {
+        let (placed, is_addition) = one;
+        let Some(member) = known.forest.member(placed.member) else {
             return Ok(());
         };
         if comma {
@@ -174,50 +174,27 @@ impl<'t> Writer<'t> {
         }
         if let MemberKind::Group(number) = member.kind {
             tasks.push(Task::Group(number))?;
-            self.remark_group(alloc, known, member.node)?;
         } else {
             tasks.push(Task::Text(" "))?;
             tasks.push(Task::Text(member.name))?;
         }
         tasks.push(Task::Node(member.node, depth))?;
-        self.push_need(alloc, known, tasks, &member)
+        if !is_addition {
+            return Ok(tasks.push(Task::Need(member.node, member.need))?);
+        }
+        self.remark_default(alloc, known, member.node, member.need)
     }
 
-    /// Remarks that all of an addition group may be absent.
-    fn remark_group(
+    /// A remark on the DEFAULT of an extension addition, which is not written.
+    fn remark_default(
         &mut self,
         alloc: Global,
         known: Known<'_, 't>,
         index: usize,
+        need: Need,
     ) -> Result<(), Refusal> {
-        if let Some(
-            Node {
-                shape: Shape::Members { from, to, .. },
-                ..
-            },
-        ) = known.forest.node(index)
-        {
-            if may_be_empty(known.forest, from, to) {
-                return self.remark(alloc, known, index, Remark::EmptyGroup);
-            }
-        }
-        Ok(())
-    }
-
-    /// Has OPTIONAL or a DEFAULT written after a component of the root. After an extension addition neither is, and its
-    /// DEFAULT gets a remark.
-    fn push_need(
-        &mut self,
-        alloc: Global,
-        known: Known<'_, 't>,
-        tasks: &mut Vec<Task<'t>>,
-        member: &Member<'t>,
-    ) -> Result<(), Refusal> {
-        if !member.is_addition {
-            return Ok(tasks.push(Task::Need(member.node, member.need))?);
-        }
-        match member.need {
-            Need::Default { .. } => self.remark(alloc, known, member.node, Remark::Default),
+        match need {
+            Need::Default { .. } => self.remark(alloc, known, index, Remark::Default),
             _ => Ok(()),
         }
     }

@@ -144,11 +144,12 @@ fn check_range(items: &[Item<'_>]) -> Result<(), Refusal> {
 }
 
 /// Numbers the items that have none: those of the root with the least numbers that no item of the root has, one
-/// after the other; each additional one with the least number above all before it that no item has.
+/// after the other; each additional one with the least number above the additional ones before it that no item of the
+/// root has.
 fn give_numbers(alloc: Global, items: &mut Vec<Item<'_>>) -> Result<(), Refusal> {
     let mut taken = HashMap::new(alloc);
     for item in items.iter() {
-        if item.has_number {
+        if item.has_number && !item.is_addition {
             taken.insert(item.number, ())?;
         }
     }

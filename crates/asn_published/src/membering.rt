@@ -2,6 +2,7 @@
 use crate::building::{Forest, Task};
 use crate::extents::type_end;
 use crate::nodes::{Holder, Member, MemberKind, Need, Shape};
+use crate::tags::is_tag;
 use crate::token::{Kind, Sign};
 use crate::tokens::{Tokens, next};
 use crate::value_steps::value_end;
@@ -109,7 +110,22 @@ impl<'t> Forest<'t> {
             from,
             to: self.members.len(),
             marked: place.marks > 0,
+            tagged: self.has_tag(tokens, from),
         })
+    }
+
+    /// Whether one of the members from an index on has a tag that is written.
+    fn has_tag(&self, tokens: &Tokens<'_>, from: usize) -> bool {
+        for index in from..self.members.len() {
+            if let Some(member) = self.member(index) {
+                if let Some(node) = self.node(member.node) {
+                    if member.kind == MemberKind::Plain && is_tag(tokens, node.at) {
+                        return true;
+                    }
+                }
+            }
+        }
+        false
     }
 
     /// Takes the member, the mark or the group at a place, and gives the place after it.
@@ -129,6 +145,9 @@ impl<'t> Forest<'t> {
             }
             after.at = after_exception(tokens, next(place.at))?;
             return Ok(after);
+        }
+        if holder == Holder::Choice && place.marks > 1 {
+            return Err(tokens.expected(place.at, "}"));
         }
         if is_group(tokens, place.at) {
             if place.marks != 1 {

@@ -9,7 +9,7 @@ use std::alloc::{AllocError, Global};
 
 /// A module that is imported from and not given: which of the given texts has the import, from 0, on which line its name
 /// stands there, from 1, and the name.
-#[derive(Debug, Drop)]
+#[derive(Drop)]
 pub struct MissingImport {
     pub text: usize,
     pub line: u32,

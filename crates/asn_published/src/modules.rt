@@ -43,8 +43,8 @@ pub(crate) struct ModuleText<'t> {
     pub automatic: bool,
     /// Types without an extension mark have one at their end.
     pub extensible: bool,
-    /// The module that each imported name comes from.
-    pub imports: HashMap<&'t str, &'t str>,
+    /// The module that each imported name comes from; `None` where it comes from several.
+    pub imports: HashMap<&'t str, Option<&'t str>>,
     /// The names of the modules that are imported from, by their index among the lexical items.
     pub sources: Vec<usize>,
     /// The index of each assignment.
@@ -181,7 +181,11 @@ fn after_source_of<'t>(
     module.sources.push(at)?;
     let source = tokens.text(at);
     for symbol in symbols {
-        module.imports.insert(*symbol, source)?;
+        let only = match module.imports.get(*symbol) {
+            Some(other) if *other != Some(source) => None,
+            _ => Some(source),
+        };
+        module.imports.insert(*symbol, only)?;
     }
     Ok(after_source(tokens, next(at)))
 }

@@ -91,6 +91,22 @@ fn name_assignment(
     }
 }
 
+/// Takes the names that one assignment alone has, so that no other type gets one of them.
+fn take_own_names(
+    alloc: Global,
+    world: &World<'_>,
+    taken: &mut HashMap<String, ()>,
+    counts: &HashMap<&str, u32>,
+) -> Result<(), AllocError> {
+    for assignment in &world.assignments {
+        if counts.get(assignment.name) == Some(&1) {
+            let name = String::from_str(alloc, assignment.name)?;
+            taken.insert(name, ())?;
+        }
+    }
+    Ok(())
+}
+
 /// Adds the names of all assignments.
 fn name_assignments(
     alloc: Global,
@@ -99,6 +115,7 @@ fn name_assignments(
     taken: &mut HashMap<String, ()>,
 ) -> Result<(), AllocError> {
     let counts = counts_of(alloc, world)?;
+    take_own_names(alloc, world, taken, &counts)?;
     for assignment in &world.assignments {
         let is_shared = match counts.get(assignment.name) {
             Some(count) => *count > 1,

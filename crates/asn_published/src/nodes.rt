@@ -46,6 +46,8 @@ pub(crate) enum Shape {
         from: usize,
         to: usize,
         marked: bool,
+        /// One of them, or of those in their groups, has a tag that is written.
+        tagged: bool,
     },
     /// SEQUENCE OF the type of a node, the size in parentheses from one index to before another.
     List {
@@ -83,6 +85,8 @@ pub(crate) struct Node<'t> {
     pub name: &'t str,
     /// The instance whose parameters are known there.
     pub instance: Option<usize>,
+    /// The module and the place of a tag that is written where this node stands, and its type elsewhere.
+    pub tag: Option<(usize, usize)>,
     /// The type is that of the values of a class's field.
     pub is_field: bool,
     /// Constraints stand after that field, which are not looked at.

@@ -1,7 +1,7 @@
 //! Where the parts of constraints begin and end.
 use crate::extents::type_end;
 use crate::refusal::{Refusal, Why, refused};
-use crate::token::Sign;
+use crate::token::{Kind, Sign};
 use crate::tokens::{Tokens, next};
 use crate::value_steps::value_end;
 
@@ -90,12 +90,53 @@ pub(crate) fn after_table(tokens: &Tokens<'_>, at: usize) -> usize {
 }
 
 /// The code of the only character of a text in quotes.
-pub(crate) fn only_letter(text: &str) -> Option<i128> {
+fn only_letter(text: &str) -> Option<i128> {
     let mut letters = text.chars().skip(1);
     let letter = letters.next()?;
     match letters.next() {
         Some('"') => Some(i128::from(u32::from(letter))),
         _ => None,
+    }
+}
+
+/// The number at `at`, where it is at most this one and is followed by a sign.
+fn part_at(tokens: &Tokens<'_>, at: usize, most: u32, sign: Sign) -> Option<i128> {
+    if !tokens.is_kind(at, Kind::Number) || !tokens.is(next(at), sign) {
+        return None;
+    }
+    match tokens.text(at).parse::<u32>() {
+        Ok(number) if number <= most => Some(i128::from(number)),
+        _ => None,
+    }
+}
+
+/// The code of the character for which the numbers in the braces at `at` stand: column and row, or group, plane, row
+/// and cell (X.680, "restricted character string types").
+fn letter_of_numbers(tokens: &Tokens<'_>, at: usize) -> Option<i128> {
+    let first = next(at);
+    let second = next(next(first));
+    if let Some(row) = part_at(tokens, second, 15, Sign::RightBrace) {
+        let column = part_at(tokens, first, 7, Sign::Comma)?;
+        return Some(column.saturating_mul(16).saturating_add(row));
+    }
+    let third = next(next(second));
+    let mut code = part_at(tokens, first, 127, Sign::Comma)?;
+    for part in [
+        part_at(tokens, second, 255, Sign::Comma)?,
+        part_at(tokens, third, 255, Sign::Comma)?,
+        part_at(tokens, next(next(third)), 255, Sign::RightBrace)?,
+    ] {
+        code = code.saturating_mul(256).saturating_add(part);
+    }
+    Some(code)
+}
+
+/// The code of the character at `at`: the only one of a text in quotes, or by its numbers.
+pub(crate) fn letter_at(tokens: &Tokens<'_>, at: usize) -> Option<i128> {
+    if tokens.is(at, Sign::LeftBrace) {
+        letter_of_numbers(tokens, at)
+    } else {
+        only_letter(tokens.text(at))
     }
 }
 

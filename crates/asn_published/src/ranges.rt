@@ -1,9 +1,12 @@
 //! Sets of whole numbers, as ranges: what the constraints of a type leave.
-ghost use Rattle.std.specs.Prelude.{◌≡◌, ℤ, [], ◌∷◌, IfNone, IfOk, IfSome, IsTrue, OnOk, ◌↔◌, ◌⊎◌};
-ghost use Rattle.asn_published.specs.Left.{IsLeft};
+ghost use Rattle.std.specs.Prelude.{◌≡◌, ℤ, [], ◌∷◌, IfNone, IfOk, IfSome, IsTrue, OnOk, ◌↔◌, ◌≤ℤ◌, ◌⊎◌};
+ghost use Rattle.asn_published.specs.Left.{IsLeft, IsWhole};
 ghost use Rattle.asn_published.specs.Numbers.{AreFrom, AreTo, InRange, InSet, IsAbove, IsBelow, IsFrom, IsOrdered, IsTo};
 
 use std::alloc::{AllocError, Global};
+
+/// How many ranges, one beside the other, are followed from the lowest number to the highest.
+const MOST_STEPS: usize = 32;
 
 /// The whole numbers from a lowest to a highest one. `None` is no bound.
 #[derive(Clone, Copy)]
@@ -200,6 +203,13 @@ impl Ranges {
         }
     }
 
+    /// Whether each number of a range is found to be one of them.
+    pub fn fill(&self, range: Range) -> bool
+        ensures { IsTrue result → (z : ℤ) → InRange range z → InSet self.now.ranges.items z }
+    {
+        fill(self.ranges.as_slice(), range.low, range.high, MOST_STEPS)
+    }
+
     pub fn len(&self) -> usize {
         self.ranges.len()
     }
@@ -239,6 +249,88 @@ fn around_all(hull: Range, ranges: &[Range]) -> Range
     match next_range(ranges) {
         None => hull,
         Some((range, rest)) => around_all(hull.around(range), rest),
+    }
+}
+
+/// Whether what is above the one low bound is above the other.
+fn is_from(bound: Option<i128>, other: Option<i128>) -> bool
+    ensures { IsTrue result → (z : ℤ) → IsAbove bound z → IsAbove other z }
+{
+    match other {
+        None => true,
+        Some(other) => match bound {
+            None => false,
+            Some(bound) => other <= bound,
+        },
+    }
+}
+
+/// Whether a high bound is above another, where there is one.
+fn is_further(bound: Option<i128>, other: Option<Option<i128>>) -> bool {
+    match other {
+        None => true,
+        Some(None) => false,
+        Some(Some(other)) => match bound {
+            None => true,
+            Some(bound) => other < bound,
+        },
+    }
+}
+
+/// The high bound up to which one of the ranges has each number from a low bound on; `None` where none has.
+fn reach(ranges: &[Range], low: Option<i128>) -> Option<Option<i128>>
+    ensures { IfSome result (λ high. (z : ℤ) → IsAbove low z → IsBelow high z → InSet ranges.now z) }
+{
+    match next_range(ranges) {
+        None => None,
+        Some((range, rest)) => {
+            let others = reach(rest, low);
+            if is_from(low, range.low) && is_further(range.high, others) {
+                Some(range.high)
+            } else {
+                others
+            }
+        }
+    }
+}
+
+/// A number from which on those up to a high bound are left, behind another high bound; `None` where none are.
+fn left_behind(end: Option<i128>, high: Option<i128>) -> Option<i128>
+    ensures none { IfNone result ((z : ℤ) → IsBelow high z → IsBelow end z) }
+    ensures some { IfSome result (λ n. (z : ℤ) → IsBelow end z ⊎ (n ≤ℤ z)) }
+{
+    match end {
+        None => None,
+        Some(end) => match high {
+            Some(high) if high <= end => None,
+            _ => Some(if end < i128::MAX { end + 1 } else { end }),
+        },
+    }
+}
+
+/// Whether each number from a low to a high bound is found to be one of the ranges', in so many steps.
+fn fill(ranges: &[Range], low: Option<i128>, high: Option<i128>, steps: usize) -> bool
+    ensures { IsTrue result → (z : ℤ) → IsAbove low z → IsBelow high z → InSet ranges.now z }
+{
+    match reach(ranges, low) {
+        Some(end) if steps > 0 => match left_behind(end, high) {
+            None => true,
+            Some(next) => fill(ranges, Some(next), high, steps - 1),
+        },
+        _ => false,
+    }
+}
+
+/// Whether it is found that no number between two of those that are left is missing; `None` is all numbers.
+pub(crate) fn is_whole(left: &Option<Ranges>) -> bool
+    ensures { IsTrue result → IsWhole left.now }
+{
+    match left {
+        None => true,
+        Some(ranges) => match ranges.hull() {
+            None => true,
+            Some(hull) => ranges.fill(hull),
+        },
     }
 }
 

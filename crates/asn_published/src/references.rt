@@ -1,7 +1,7 @@
 //! Writes lists, and names of types with further constraints.
 use crate::info::{Base, Info, State};
-use crate::layout::alternative_named;
-use crate::nodes::{Node, Shape};
+use crate::layout::{alternative_named, members_behind};
+use crate::nodes::{Member, Node, Shape};
 use crate::pieces::push_pieces;
 use crate::refusal::{Refusal, Why, refused};
 use crate::report::{Remark, Status};
@@ -140,8 +140,11 @@ impl<'t> Writer<'t> {
         let levels = depth.saturating_add(self.last.depth).saturating_sub(1);
         let nodes = self.last.nodes.saturating_sub(1);
         self.count(nodes, levels, line);
+        if known.is_below(to) {
+            self.remark(alloc, known, index, Remark::Level)?;
+        }
         let status = self.last.status;
-        if status == Status::Same {
+        if status == Status::Same || (known.is_below(to) && status == Status::Wider) {
             return Ok(());
         }
         self.remark(alloc, known, index, Remark::Holds(status))
@@ -157,12 +160,9 @@ impl<'t> Writer<'t> {
         depth: usize,
     ) -> Result<(), Refusal> {
         let line = known.line_of(node);
-        let Some(tokens) = known.values.world.tokens_of(node.module) else {
-            return Err(refused(line, Why::NoType));
-        };
-        let name = tokens.text(at);
-        let Some(member) = alternative_named(known.forest, known.firsts, of, name) else {
-            return Err(refused(line, Why::Unknown));
+        let member = match selected(known, node, of, at) {
+            Ok(member) => member,
+            Err(why) => return Err(refused(line, why)),
         };
         self.nodes = self.nodes.saturating_sub(1);
         self.selections = self.selections.saturating_add(1);
@@ -268,6 +268,32 @@ impl<'t> Writer<'t> {
         self.last.left = both.sizes;
         self.last.marked = both.marked;
         Ok(())
+    }
+}
+
+/// The alternative that a node selects, by the identifier at `at`, of the CHOICE that another node stands for.
+fn selected<'t>(
+    known: Known<'_, 't>,
+    node: &Node<'t>,
+    of: usize,
+    at: usize,
+) -> Result<Member<'t>, Why> {
+    let Some(tokens) = known.values.world.tokens_of(node.module) else {
+        return Err(Why::NoType);
+    };
+    match known.forest.node(of) {
+        Some(choice) if choice.constraints < choice.end => return Err(Why::Constraint),
+        _ => {}
+    }
+    let Some(choice) = members_behind(known.tagging(), of) else {
+        return Err(Why::Unknown);
+    };
+    let Some(index) = alternative_named(known.forest, choice, tokens.text(at)) else {
+        return Err(Why::Unknown);
+    };
+    match known.forest.member(index) {
+        Some(member) => Ok(member),
+        None => Err(Why::Unknown),
     }
 }
 

@@ -6,10 +6,11 @@ use std::alloc::{AllocError, AllocFailed};
 use std::fmt;
 
 /// Why a published type becomes no type of the profile. `Display` says it in words.
-#[derive(Clone, Copy, Debug, PartialEq, Eq)]
+#[derive(Clone, Copy, PartialEq, Eq)]
 pub enum Why {
     Unknown,
     NotGiven,
+    ImportedTwice,
     NoType,
     Parameter,
     Endless,
@@ -58,6 +59,7 @@ impl fmt::Display for Why {
             }
             Why::Unknown => "a name that is not assigned",
             Why::NotGiven => "a name of a module that is not given",
+            Why::ImportedTwice => "a name that is imported from two modules",
             Why::NoType => "a name that stands for no type",
             Why::Parameter => "a parameter in the place of a type or a number",
             Why::Endless => "parameters that expand without end",
@@ -89,7 +91,7 @@ impl fmt::Display for Why {
 }
 
 /// Why a type is refused, and on which line, from 1.
-#[derive(Clone, Copy, Debug)]
+#[derive(Clone, Copy)]
 pub(crate) enum Refusal {
     At { line: u32, why: Why },
     Memory,

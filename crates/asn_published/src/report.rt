@@ -6,7 +6,7 @@ use crate::refusal::Why;
 use std::fmt;
 
 /// How the encodings of a type of the profile stand to those of the published type.
-#[derive(Clone, Copy, Debug, PartialEq, Eq)]
+#[derive(Clone, Copy, PartialEq, Eq)]
 pub enum Status {
     /// The same encodings; numbers without bounds have 64 bits.
     Same,
@@ -38,7 +38,7 @@ impl fmt::Display for Status {
 }
 
 /// What is to be said of a component.
-#[derive(Clone, Copy, Debug, PartialEq, Eq)]
+#[derive(Clone, Copy, PartialEq, Eq)]
 pub enum Remark {
     Gap,
     Dropped,
@@ -81,7 +81,7 @@ impl fmt::Display for Remark {
             Remark::EmptyGroup => "a group without components is absent: the writer leaves it out",
             Remark::OerTags => "OER tells the alternatives apart by other tags",
             Remark::OerItems => "OER writes other numbers for additional items",
-            Remark::Level => "recursion ends here, in NULL",
+            Remark::Level => "recursion ends in NULL",
         };
         f.write_str(words)
     }
@@ -139,7 +139,7 @@ impl Status {
 }
 
 /// A remark with its line, from 1, and the component, as `header.id`; the type itself has none.
-#[derive(Debug, Drop)]
+#[derive(Drop)]
 pub struct Note {
     pub line: u32,
     pub component: String,
@@ -147,7 +147,7 @@ pub struct Note {
 }
 
 /// What became of a type.
-#[derive(Debug, Drop)]
+#[derive(Drop)]
 pub struct TypeReport {
     /// The name in the module of the profile.
     pub name: String,

@@ -118,22 +118,36 @@ pub(crate) fn intersection(alloc: Global, a: Seen, b: Seen, line: u32) -> Result
     if_small(both, line)
 }
 
-/// What either constraint leaves.
-pub(crate) fn union(a: Seen, b: Seen, line: u32) -> Result<Seen, Refusal>
+/// What either constraint leaves. Of one on lengths and one on characters that is every value, of which the encoding
+/// rules see that all characters are allowed.
+pub(crate) fn union(alloc: Global, a: Seen, b: Seen, line: u32) -> Result<Seen, Refusal>
     ensures numbers { IfOk result (λ s. (z : ℤ) → IsLeft s.numbers z ↔ (IsLeft a.numbers z ⊎ IsLeft b.numbers z)) }
     ensures sizes { IfOk result (λ s. (z : ℤ) → IsLeft s.sizes z ↔ (IsLeft a.sizes z ⊎ IsLeft b.sizes z)) }
 {
     if a.kinds() > 1 || b.kinds() > 1 {
         return Err(refused(line, Why::Constraint));
     }
-    let either = Seen {
+    let constrained = a.kinds() == 1 && b.kinds() == 1;
+    let mut either = Seen {
         numbers: joined(a.numbers, b.numbers)?,
         sizes: joined(a.sizes, b.sizes)?,
         letters: joined(a.letters, b.letters)?,
         marked: false,
         dropped: a.dropped || b.dropped,
     };
+    if constrained && either.kinds() == 0 {
+        either.letters = Some(Ranges::of(alloc, every_number())?);
+        either.dropped = true;
+    }
     if_small(either, line)
+}
+
+/// The range without bounds.
+fn every_number() -> Range {
+    Range {
+        low: None,
+        high: None,
+    }
 }
 
 /// What a constraint leaves from which another takes values out: encoding rules do not see the other one (X.691 and
@@ -150,6 +164,7 @@ pub(crate) fn exception(from: Seen) -> Seen
 
 /// What either leaves, where there is a first.
 pub(crate) fn either_of(
+    alloc: Global,
     a: Option<Seen>,
     b: Option<Seen>,
     line: u32,
@@ -158,7 +173,7 @@ pub(crate) fn either_of(
         None => Ok(b),
         Some(x) => match b {
             None => Ok(Some(x)),
-            Some(y) => Ok(Some(union(x, y, line)?)),
+            Some(y) => Ok(Some(union(alloc, x, y, line)?)),
         },
     }
 }

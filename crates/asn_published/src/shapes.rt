@@ -5,6 +5,7 @@ use crate::instances::{Actual, Instance};
 use crate::modules::{What, World};
 use crate::nodes::{Holder, Node, Shape};
 use crate::refusal::Why;
+use crate::tags::is_tag;
 use crate::token::Sign;
 use crate::tokens::{Tokens, next};
 use crate::words::{bits_at, holder_named, named_by_word, second_word};
@@ -77,7 +78,7 @@ impl<'t> Forest<'t> {
                     node.is_field = true;
                     node.is_constrained = it.constraints < it.end;
                 }
-                self.build_as(todo, index, type_of_values)?;
+                self.build_as(tokens, todo, index, type_of_values)?;
                 Ok(None)
             }
             Err(why) => Ok(Some(Shape::Refused(why))),
@@ -112,14 +113,18 @@ impl<'t> Forest<'t> {
         Ok((world.find(module, name), name))
     }
 
-    /// Lets a node be built of other lexical items.
+    /// Lets a node be built of other lexical items; a tag that is written before its own stays.
     fn build_as(
         &mut self,
+        tokens: &Tokens<'t>,
         todo: &mut Vec<Task>,
         index: usize,
         items: Actual,
     ) -> Result<(), TextFault> {
         if let Some(node) = self.nodes.get_mut(index) {
+            if node.tag.is_none() && is_tag(tokens, node.at) {
+                node.tag = Some((node.module, node.at));
+            }
             node.module = items.module;
             node.at = items.start;
             node.end = items.end;
@@ -149,7 +154,7 @@ impl<'t> Forest<'t> {
             match self.instances.actual(world, instance, tokens.text(at)) {
                 Ok(None) => {}
                 Ok(Some(actual)) if it.constraints == it.end => {
-                    self.build_as(todo, node, actual)?;
+                    self.build_as(tokens, todo, node, actual)?;
                     return Ok(None);
                 }
                 _ => return Ok(Some(Shape::Refused(Why::Parameter))),

@@ -5,7 +5,7 @@ use crate::letters::{keeps_codes, name_of};
 use crate::nodes::{Letters, Node, Shape};
 use crate::numbers::Scope;
 use crate::pieces::push_pieces;
-use crate::ranges::Ranges;
+use crate::ranges::{Ranges, is_whole};
 use crate::refusal::{Refusal, Why, refused};
 use crate::report::Remark;
 use crate::seen::{Mode, Seen};
@@ -195,10 +195,10 @@ impl<'t> Writer<'t> {
         index: usize,
         left: &Option<Ranges>,
     ) -> Result<(), Refusal> {
-        match left {
-            Some(ranges) if ranges.len() > 1 => self.remark(alloc, known, index, Remark::Gap),
-            _ => Ok(()),
+        if is_whole(left) {
+            return Ok(());
         }
+        self.remark(alloc, known, index, Remark::Gap)
     }
 
     /// A refusal where the characters that are left have codes of their own, and a remark where they are not all.

@@ -1,6 +1,7 @@
 //! Reads the values that stand in assignments: those that are assigned, of DEFAULT, in constraints and in exceptions.
 use crate::extents::type_end;
 use crate::modules::{Assignment, What, World};
+use crate::object_reading::{read_object, read_objects};
 use crate::token::{Kind, Sign};
 use crate::tokens::{Tokens, next};
 use crate::value_forms::{has_named_numbers, has_tag};
@@ -183,7 +184,8 @@ impl<'t> World<'t> {
         Ok(())
     }
 
-    /// Reads the value that is assigned; an object, or what may be one, is read up to its end alone.
+    /// Reads the value or the object that is assigned; braces of what is not known to be the one or the other are read
+    /// up to their end alone.
     fn read_assigned(
         &self,
         alloc: Global,
@@ -195,6 +197,9 @@ impl<'t> World<'t> {
             return Ok(());
         }
         let is_braces = tokens.is(it.start, Sign::LeftBrace);
+        if is_braces && self.is_class(it) {
+            return read_object(tokens, it.start);
+        }
         if is_braces && !self.leads_to_type(it.module, it.governor) {
             return Ok(());
         }
@@ -217,8 +222,15 @@ impl<'t> World<'t> {
             What::Set if self.leads_to_type(it.module, it.governor) => {
                 self.read_inside(alloc, tokens, it, it.governor, it.end)
             }
-            What::Set | What::Class => Ok(()),
+            What::Set if self.is_class(it) => read_objects(tokens, it.start),
+            What::Set => Ok(()),
+            What::Class => self.read_class(alloc, tokens, it),
         }
+    }
+
+    /// Whether what stands before the `::=` of an assignment leads to a class.
+    fn is_class(&self, it: &Assignment<'t>) -> bool {
+        self.leads_to_class(it.module, it.governor, before(it.start))
     }
 }
 

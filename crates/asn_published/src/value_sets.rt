@@ -27,7 +27,7 @@ impl<'t> World<'t> {
     }
 
     /// Whether what stands from `start` to before `end` is a name that leads to a class.
-    fn leads_to_class(&self, module: usize, start: usize, end: usize) -> bool {
+    pub fn leads_to_class(&self, module: usize, start: usize, end: usize) -> bool {
         let (mut module, mut start, mut end) = (module, start, end);
         for _ in 0..MOST_LEADS {
             let Some(tokens) = self.tokens_of(module) else {

@@ -13,6 +13,7 @@ use crate::ranges::Ranges;
 use crate::refusal::Refusal;
 use crate::report::{Note, Remark, Status};
 use crate::seen::Seen;
+use crate::tags::Tagging;
 use std::alloc::{AllocError, Global};
 
 /// What is known when a type is written.
@@ -155,6 +156,16 @@ impl<'a, 't> Known<'a, 't> {
         match (self.cycles.get(self.entry), self.cycles.get(to)) {
             (Some(Some(own)), Some(Some(other))) => own == other,
             _ => false,
+        }
+    }
+
+    /// What tags are found in.
+    pub fn tagging(&self) -> Tagging<'a, 't> {
+        Tagging {
+            world: self.values.world,
+            forest: self.forest,
+            firsts: self.firsts,
+            numbers: self.values.numbers,
         }
     }
 

@@ -45,7 +45,7 @@ impl fmt::Display for Wrong {
 impl Error for Wrong {}
 
 /// Why a text is not read, and on which line, from 1.
-#[derive(Debug, Drop)]
+#[derive(Drop)]
 pub(crate) enum TextFault {
     At { line: u32, wrong: Wrong },
     Memory,

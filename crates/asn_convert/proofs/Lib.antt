@@ -6,4 +6,5 @@ pub mod PlainJson
 pub mod Putting
 pub mod Replying
 pub mod Skipping
+pub mod Streaming
 pub mod Told

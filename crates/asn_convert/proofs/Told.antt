@@ -36,7 +36,7 @@ IsSoFar o all left good old new = (written : List ℕ) × Sofar o all left good 
 pub none_yet : (o : Terms) (all : List (List ℕ)) (old : State) → IsSoFar o all all true old old
 none_yet o all old = ([], record { grown = appends_nothing old.octets; told = λ out later h. h; begun = λ out h. h; same = refl })
 
-and_assoc : (a b c : Bool) → ((a && b) && c) ≡ (a && (b && c))
+pub and_assoc : (a b c : Bool) → ((a && b) && c) ≡ (a && (b && c))
 and_assoc true b c = refl
 and_assoc false b c = refl
 
@@ -64,7 +64,7 @@ and_true : (b : Bool) → (b && true) ≡ b
 and_true true = refl
 and_true false = refl
 
-append_none : (xs : List ℕ) → xs ++ [] ≡ xs
+pub append_none : (xs : List ℕ) → xs ++ [] ≡ xs
 append_none xs = search (rules, common_steps)
 
 -- all lines were answered
@@ -96,14 +96,14 @@ stops_so fault.Memory P Q old new f s = (s.0, f s.0 s.1, s.2)
 
 -- ---- whole texts are beginnings
 
-whole_front : (out : List ℕ) → IsFront out out
+pub whole_front : (out : List ℕ) → IsFront out out
 whole_front out = ([], append_none out)
 
-told_begun : (o : Terms) (lines : List (List ℕ)) (out : List ℕ) (good : Bool) → Told o lines out good → IsBegun o lines out
+pub told_begun : (o : Terms) (lines : List (List ℕ)) (out : List ℕ) (good : Bool) → Told o lines out good → IsBegun o lines out
 told_begun o [] out good h = h.0
 told_begun o (line ∷ lines) out good (text, rest, here, later, answer, told, is, all) = inr (text, rest, here, answer, told_begun o lines rest later told, is)
 
-tells_begun : (w : Rulings) (j : Job) (m : ModuleTypes) (lines : List (List ℕ)) (out : List ℕ) (s : Status) → Tells w j m lines out s → TellsBegun w j m lines out
+pub tells_begun : (w : Rulings) (j : Job) (m : ModuleTypes) (lines : List (List ℕ)) (out : List ℕ) (s : Status) → Tells w j m lines out s → TellsBegun w j m lines out
 tells_begun w job.Module m lines out s h = ([], append_none out ∙ h.0)
 tells_begun w (job.Lines by name rules) m lines out s (inl h) = inl (h.0, ([], append_none out ∙ h.1))
 tells_begun w (job.Lines by name rules) m lines out s (inr (t, has, good, told, is)) = inr (t, has, told_begun (terms w rules by t) lines out good told)
@@ -122,7 +122,7 @@ flush_fails P Q old mid new f w keeps rose = (w.0, f w.0 w.1, appends_then_keeps
 -- ---- the ends of a run
 
 -- octets that may be those of a reader
-given_some : (known : Option (List ℕ)) → (input : List ℕ) × IsGiven known input
+pub given_some : (known : Option (List ℕ)) → (input : List ℕ) × IsGiven known input
 given_some None = ([], tt)
 given_some (Some xs) = (xs, refl)
 

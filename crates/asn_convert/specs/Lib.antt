@@ -1,4 +1,5 @@
 pub mod Answers
+pub mod Coming
 pub mod Converted
 pub mod HexHeld
 pub mod Lines

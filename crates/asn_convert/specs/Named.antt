@@ -1,10 +1,12 @@
 -- The encoding rules that a name stands for.
-use Rattle.std.specs.Prelude.{Result}
+use Rattle.std.specs.Prelude.{Result, ℕ, List}
 use Rattle.asn_rules.specs.declared.counting.Counted.{Counted}
 use Rattle.asn_per.specs.Rules.{per_ruling}
 use Rattle.asn_oer.specs.Rules.{oer_ruling}
 use Rattle.asn_newer.specs.Rules.{per_loose, oer_loose}
 use Rattle.asn_convert.specs.Answers.{Rulings, rulings}
+use Rattle.asn_convert.specs.Coming.{Ended, Stopped, TextOf, BegunOf}
+use Rattle.asn_convert.specs.Lines.{module_text}
 use Rattle.asn_convert.specs.declared.job.Job.{Job}
 use Rattle.asn_convert.specs.declared.job.Job.TheVariants as job
 use Rattle.asn_convert.specs.declared.job.RuleName.{RuleName}
@@ -34,3 +36,19 @@ abbrev pub Failed :
     → Known W → Counted W → Counted W → Type 0
 Failed j r left before after contents old new =
     FailedWith (rulings_of (rules_of j)) j r left before after contents old new
+
+-- the same of a run whose module stands in front of a mark, and whose lines come after it: with Ok, all was read
+abbrev pub RanOnLines :
+    {R W : Type 0} → Job → List ℕ → Result Status RunFault → Known R → Counted R
+    → Known W → Counted W → Counted W → Type 0
+RanOnLines j head r left reader contents old new =
+    Ended r left reader contents old new
+    (λ s lines out. TextOf (rulings_of (rules_of j)) j (module_text head) lines out s)
+
+-- with Err, what was written is a beginning of a text of the job for the lines that were read
+abbrev pub StoppedOnLines :
+    {R W : Type 0} → Job → List ℕ → Result Status RunFault → Known R → Counted R → Counted R
+    → Known W → Counted W → Counted W → Type 0
+StoppedOnLines j head r left before after contents old new =
+    Stopped r left before after contents old new
+    (λ lines out. BegunOf (rulings_of (rules_of j)) j (module_text head) lines out)

@@ -1,6 +1,8 @@
 //! Jobs under the encoding rules that they name.
-ghost use Rattle.asn_convert.specs.Named.{Ran, Failed};
+ghost use Rattle.std.specs.Prelude.{◌≡◌};
+ghost use Rattle.asn_convert.specs.Named.{Ran, Failed, RanOnLines, StoppedOnLines, rules_of};
 
+use crate::coming::run_coming;
 use crate::job::{Job, RuleName, RunFault, Status};
 use crate::running::run_with;
 use asn_oer::Oer;
@@ -27,12 +29,47 @@ pub fn run<R: Read, W: Write>(
     ensures text { Ran job.now result R.remaining input.old W.contents output.old output.new }
     ensures fault { Failed job.now result R.remaining input.old input.new W.contents output.old output.new }
 {
-    let rules = match job {
-        Job::Module => RuleName::Per,
-        Job::Lines { rules, .. } => *rules,
-    };
-    match rules {
+    match rules_of(job) {
         RuleName::Per => run_with::<Per, Oer, R, W>(alloc, input, output, job),
         RuleName::Oer => run_with::<Oer, Per, R, W>(alloc, input, output, job),
+    }
+}
+
+/// Writes the text of the job for a module that is there from the first and lines that come: the module printed, or an
+/// answer for each line.
+///
+/// The module text is all of `head` before the first line that is exactly `====`, or all of it where there is none; what
+/// follows that line in `head` is not looked at. The lines are those of the input alone, each ended by LF but the last,
+/// which may lack it. As soon as a piece of the input has come, the lines that it ends are answered and the writer is
+/// flushed; no more of the input is kept than a piece and the line that has begun. Where the module is refused, is to be
+/// printed or has no type of the name, nothing is read. Nothing is tried again after a fault.
+///
+/// # Errors
+/// `Read` only where the reader answered a fault, `Write` only where the writer answered one, and `Memory` where an
+/// allocation failed: what was written is a beginning of the text for the lines that were read.
+pub fn run_on_lines<R: Read, W: Write>(
+    alloc: Global,
+    head: &[u8],
+    input: &mut Counted<R>,
+    output: &mut Counted<W>,
+    job: &Job,
+) -> Result<Status, RunFault>
+    ensures text { RanOnLines job.now head.now result R.remaining input.old W.contents output.old output.new }
+    ensures fault { StoppedOnLines job.now head.now result
+        R.remaining input.old input.new W.contents output.old output.new }
+{
+    match rules_of(job) {
+        RuleName::Per => run_coming::<Per, Oer, R, W>(alloc, head, input, output, job),
+        RuleName::Oer => run_coming::<Oer, Per, R, W>(alloc, head, input, output, job),
+    }
+}
+
+/// The rules that a job names; PER where it has no octets.
+fn rules_of(job: &Job) -> RuleName
+    ensures { result ≡ rules_of job.now }
+{
+    match job {
+        Job::Module => RuleName::Per,
+        Job::Lines { rules, .. } => *rules,
     }
 }

@@ -3,6 +3,7 @@
 
 mod answers;
 mod by_name;
+mod coming;
 mod conversion;
 mod cut;
 mod hex_writer;
@@ -14,7 +15,7 @@ mod reading;
 mod running;
 mod texts;
 
-pub use by_name::run;
+pub use by_name::{run, run_on_lines};
 pub use conversion::{ConvertFault, convert};
 pub use cut::cut_input;
 pub use job::{Job, Order, RuleName, RunFault, Status};

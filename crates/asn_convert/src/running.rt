@@ -76,7 +76,7 @@ fn answer_input<A: ReadNewer, B: Rules, W: Write>(
 }
 
 /// The module of the text, or the line that refuses it.
-fn module_in(alloc: Global, text: &[u8]) -> Result<Result<Module, String>, RunFault>
+pub(crate) fn module_in(alloc: Global, text: &[u8]) -> Result<Result<Module, String>, RunFault>
     ensures accepted { IfOk result (λ r. IfOk r (λ m. IsModule text.now (types_view m))) }
     ensures refused { IfOk result (λ r. IfErr r (λ line. IsRefusal text.now (string_bytes line))) }
     ensures fault { IfErr result (λ fault. fault ≡ RunFault.Memory) }
@@ -114,7 +114,7 @@ fn words_of(alloc: Global, fault: ModuleFault) -> Result<String, AllocError>
 }
 
 /// Writes the text of the job for this module and these lines.
-fn answer_module<A: ReadNewer, B: Rules, W: Write>(
+pub(crate) fn answer_module<A: ReadNewer, B: Rules, W: Write>(
     alloc: Global,
     output: &mut Counted<W>,
     job: &Job,
@@ -154,7 +154,7 @@ fn answer_module<A: ReadNewer, B: Rules, W: Write>(
 }
 
 /// Answers each line, and tells whether no answer is a refusal.
-fn answer_lines<A: ReadNewer, B: Rules, W: Write>(
+pub(crate) fn answer_lines<A: ReadNewer, B: Rules, W: Write>(
     alloc: Global,
     output: &mut Counted<W>,
     ty: &Checked,

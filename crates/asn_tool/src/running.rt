@@ -3,7 +3,7 @@ use crate::ending::ending;
 use crate::sources::{Instead, input_with, instead_of};
 use crate::stop::Stop;
 use crate::texts::{texts_of, views_of};
-use asn_convert::{Job, read_all, run};
+use asn_convert::{Job, RunFault, Status, read_all, run, run_on_lines};
 use asn_published::Options;
 use asn_rules::Counted;
 use std::io;
@@ -34,7 +34,8 @@ fn run_given<'a>(rt: &HostRuntime, job: &Job, options: Options) -> Result<u8, St
     }
 }
 
-/// Does the job, its module being that of the files. Where the module is to be printed, standard input is not read.
+/// Does the job, its module being that of the files. The lines of standard input are answered as they come; where the
+/// module is to be printed, standard input is not read.
 fn run_with_files<'a>(
     rt: &HostRuntime,
     job: &Job,
@@ -43,15 +44,11 @@ fn run_with_files<'a>(
 ) -> Result<u8, Stop<'a>> {
     let texts = texts_of(rt, files)?;
     let views = views_of(rt, texts.as_slice())?;
-    let lines = match job {
-        Job::Module => Vec::new(rt.alloc()),
-        Job::Lines { .. } => read_all(rt.alloc(), &mut Counted::new(rt.reader()))?,
-    };
     let Instead { octets, remarks } = match input_with(
         rt.alloc(),
         files,
         views.as_slice(),
-        lines.as_slice(),
+        b"".as_slice(),
         options,
         job,
     ) {
@@ -60,16 +57,31 @@ fn run_with_files<'a>(
     };
     let _ = rt.eprint(remarks.as_str());
     match octets {
-        Some(octets) => Ok(run_on(rt, job, octets.as_slice())),
+        Some(head) => Ok(run_coming(rt, job, head.as_slice())),
         None => Ok(2),
     }
+}
+
+/// The exit status of the job on the lines of standard input, the text of its module and the mark being the head, after
+/// the line on standard error, if there is one.
+fn run_coming(rt: &HostRuntime, job: &Job, head: &[u8]) -> u8 {
+    let mut input = Counted::new(rt.reader());
+    let mut output = Counted::new(io::writer(rt));
+    let answer = run_on_lines(rt.alloc(), head, &mut input, &mut output, job);
+    ended(rt, &answer)
 }
 
 /// The exit status of the job on these octets, after the line on standard error, if there is one.
 fn run_on(rt: &HostRuntime, job: &Job, octets: &[u8]) -> u8 {
     let mut input = Counted::new(octets);
     let mut output = Counted::new(io::writer(rt));
-    let (status, line) = ending(&run(rt.alloc(), &mut input, &mut output, job));
+    let answer = run(rt.alloc(), &mut input, &mut output, job);
+    ended(rt, &answer)
+}
+
+/// The exit status of a job that was answered so, after the line on standard error, if there is one.
+fn ended(rt: &HostRuntime, answer: &Result<Status, RunFault>) -> u8 {
+    let (status, line) = ending(answer);
     if !line.is_empty() {
         let _ = rt.eprintln(line);
     }

@@ -618,9 +618,9 @@ def without_bodies(path, text):
 
 def shown_above(path, text):
     """The text of a source file as the crates above see it: without the bodies of its functions and those that are not
-    public, the fields that a type with a model keeps to itself, and the imports that nothing else uses. A function of
-    a trait is left out where its contract is that of the trait."""
-    text = without_bodies(path, text)
+    public, the fields that a type with a model keeps to itself, the imports that nothing else uses, and the names of
+    modules that are not public. A function of a trait is left out where its contract is that of the trait."""
+    text = re.sub(r"^mod \w+;\n", "", without_comments(without_bodies(path, text)), flags=re.M)
     for name in re.findall(r"^impl(?:<[^>]*>)? Model for (\w+)", text, re.M):
         text = re.sub(rf"struct {name}\b[^{{;]*\{{.*?^\}}",
                       lambda it: re.sub(r"^    \w+: [^{}]*,\n", "", it[0], flags=re.M), text, flags=re.M | re.S)
@@ -630,12 +630,15 @@ def shown_above(path, text):
     return imports.sub(lambda it: f"{it[1]} {names(it)}\n" if names(it) else "", text)
 
 
+def without_comments(text):
+    return rtlib.RUST_TOKEN.sub(lambda it: "" if it[0].startswith("//") else it[0], text)
+
+
 @functools.lru_cache(maxsize=None)
 def words_of(path, text):
     """The words of a file without its comments, derives and what is inlined, on which no proof of an edit rests."""
     if path.endswith(".rt"):
-        text = rtlib.RUST_TOKEN.sub(lambda it: "" if it[0].startswith("//") else it[0], text)
-        text = re.sub(r"#\[(derive|inline)\([^)]*\)\]", "", text)
+        text = re.sub(r"#\[(derive|inline)\([^)]*\)\]", "", without_comments(text))
     else:
         text = "\n".join(line for line in text.split("\n") if not line.lstrip().startswith("--"))
     return text.split()
@@ -652,8 +655,8 @@ def sum_of(crate, edits):
             path, text = os.path.relpath(file, it.folder), text_of(file)
             if it is crate or path.startswith("specs/"):
                 add(it.name, path, words_of(path, text))
-            elif path.startswith("src/"):
-                add(it.name, path, words_of(path, shown_above(path, text)))
+            elif path.startswith("src/") and (shown := words_of(path, shown_above(path, text))):
+                add(it.name, path, shown)
     return total.hexdigest()[:24]
 
 

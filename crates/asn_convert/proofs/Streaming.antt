@@ -1,13 +1,13 @@
 -- Lines that are answered as they come: what was read and written so far, and one piece more.
-use Rattle.std.proofs.Common.{◌≡◌, ◌≢◌, ◌<◌, ◌-◌, ◌^◌, ◌++◌, ◌&&◌, ◌==◌, ◌⊎◌, ℕ, zero, suc, Bool, true, false, List, [], ◌∷◌, length, get_or, Option, Some, None, refl, sym, ap, ◌∙◌, subst, append_assoc, append-nil, arith, rules, inl, inr}
+use Rattle.std.proofs.Common.{◌≡◌, ◌++◌, ◌&&◌, ◌==◌, ◌⊎◌, ℕ, Bool, true, false, List, [], ◌∷◌, Option, Some, None, refl, sym, ap, ◌∙◌, subst, append_assoc, append-nil, inl, inr}
 use Rattle.std.specs.Prelude.{Result, Ok, Err, IfErr}
 use Rattle.std.specs.Io.KnownBytes.{Appends, Keeps, Consumes, IsAtEnd}
 use Rattle.asn_rules.specs.Faults.{State, Rose}
-use Rattle.asn_rules.proofs.Known.{appends_twice, appends_nothing, appends_then_keeps}
+use Rattle.asn_rules.proofs.Known.{appends_twice, appends_nothing}
 use Rattle.asn_convert.specs.Answers.{Terms}
 use Rattle.asn_values.specs.View.{shape_of}
 use Rattle.asn_values.specs.declared.types.AsnType.{AsnType}
-use Rattle.asn_module.specs.Accepted.{ModuleTypes, type_in}
+use Rattle.asn_module.specs.Accepted.{ModuleTypes}
 use Rattle.asn_convert.specs.Answers.{Rulings}
 use Rattle.asn_convert.specs.Coming.{AreWholeLines, Ends, StopsBy, StopsWithin, HasNoTypeFor, IsTypeFor, TextOf, BegunOf}
 use Rattle.asn_convert.specs.declared.job.Job.{Job}
@@ -17,7 +17,7 @@ use Rattle.asn_convert.specs.declared.job.RuleName.{RuleName}
 use Rattle.asn_convert.specs.declared.job.Status.{Status}
 use Rattle.asn_convert.specs.declared.job.Status.TheVariants as status
 use Rattle.asn_convert.specs.Lines.{lines_of, module_text, begun}
-use Rattle.asn_convert.specs.Text.{Told, IsBegun, IsGiven, Writes, Stops, Tells, TellsBegun, IsFront, IsModule, IsRefusal, ended, status_of, terms}
+use Rattle.asn_convert.specs.Text.{Told, IsBegun, Writes, Stops, Tells, TellsBegun, IsFront, IsModule, IsRefusal, ended, status_of, terms}
 use Rattle.asn_convert.specs.declared.job.RunFault.{RunFault}
 use Rattle.asn_convert.specs.declared.job.RunFault.TheVariants as fault
 use Rattle.asn_convert.proofs.Told.{and_assoc, append_none, consumes_twice, given_some, read_whole, tells_begun, told_begun, writes_so}

@@ -7,7 +7,6 @@ use Rattle.asn_rules.proofs.Known.{appends_twice, appends_nothing}
 use Rattle.asn_convert.specs.Answers.{Rulings, Terms}
 use Rattle.asn_convert.specs.declared.job.Order.{Order}
 use Rattle.asn_convert.specs.declared.job.RuleName.{RuleName}
-use Rattle.asn_values.specs.Shape.{Shape}
 use Rattle.asn_module.specs.Accepted.{ModuleTypes, type_in}
 use Rattle.asn_module.specs.Printing.{printed}
 use Rattle.asn_rules.proofs.Known.{appends_then_keeps}

@@ -8,7 +8,6 @@ use Rattle.asn_values.specs.Profile.{InProfile}
 use Rattle.asn_rules.specs.Answer.{Ruling, IsEncoding, max_octets}
 use Rattle.asn_rules.specs.Codec.{Decoded}
 use Rattle.asn_rules.specs.CodecLaws.{Encoded}
-use Rattle.asn_rules.specs.Laws.{RulesLaws}
 use Rattle.asn_rules.specs.declared.fault.DecodeFault.TheVariants as decode
 use Rattle.asn_convert.specs.declared.conversion.ConvertFault.{ConvertFault}
 use Rattle.asn_convert.specs.declared.conversion.ConvertFault.TheVariants as fault

@@ -16,7 +16,6 @@ use Rattle.asn_convert.specs.Converted.{IsTooLong}
 use Rattle.asn_convert.specs.Parts.{LineAnswer}
 use Rattle.asn_convert.specs.declared.job.Order.{Order}
 use Rattle.asn_convert.specs.declared.job.RuleName.{RuleName}
-use Rattle.asn_convert.specs.declared.texts.Answer.{Answer}
 use Rattle.asn_convert.specs.declared.texts.Reply.{Reply}
 use Rattle.asn_convert.specs.declared.texts.Reply.TheVariants as reply
 

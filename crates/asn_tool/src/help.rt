@@ -3,8 +3,9 @@
 /// Of the program.
 pub static PROGRAM: &str = "\
 In: on standard input the text of a module; for all but `module` then a line that is ====, and a line for each message.
-With --module the texts of the module are those of files, and standard input has the messages alone. The text may be one
-of the profile, or a module as a standards body publishes it, of which `flatten --help` tells.
+With --module the texts of the module are those of files, and standard input has the messages alone, which are answered
+as they come. The text may be one of the profile, or a module as a standards body publishes it, of which
+`flatten --help` tells.
 Out: on standard output a line for each message, which begins with ! where it is refused. On standard error what is not
 the same of the published types that --type leads to, with file and line.
 

@@ -1,6 +1,5 @@
 use Rattle.std.proofs.lemmas.Result.{err_from_is_err_and}
 use Rattle.asn_values.specs.View.{shape_of}
-use Rattle.asn_rules.specs.Faults.{state_of}
 use Rattle.asn_convert.specs.Answers.{rulings}
 use Rattle.asn_convert.specs.Lines.{lines_of}
 use Rattle.asn_convert.specs.Text.{terms, Told, IsBegun}

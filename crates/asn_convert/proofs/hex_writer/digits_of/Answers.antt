@@ -1,4 +1,4 @@
-use Rattle.std.proofs.Common.{◌≡◌, ◌*◌, length, ap, ◌∙◌}
+use Rattle.std.proofs.Common.{length, ap, ◌∙◌}
 use Rattle.asn_convert.proofs.HexDigits.{digits_twice}
 use Rattle.asn_convert.proofs.hex_writer.digits_of.Goals as goal
 

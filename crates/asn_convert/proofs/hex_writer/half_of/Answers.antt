@@ -1,5 +1,4 @@
-use Rattle.std.proofs.Common.{◌≡◌, None, arith}
-use Rattle.std.proofs.lemmas.Bool.Decides.{nat_tests}
+use Rattle.std.proofs.Common.{arith}
 use Rattle.asn_convert.proofs.HexDigits.{half_at, half_none}
 use Rattle.asn_convert.proofs.hex_writer.half_of.Goals as goal
 

@@ -1,4 +1,4 @@
-use Rattle.std.proofs.Common.{◌≡◌, ◌∙◌, sym, ap, subst, None, true}
+use Rattle.std.proofs.Common.{◌≡◌, ◌∙◌, sym, ap, subst}
 use Rattle.asn_values.specs.View.{shape_of, datum_of}
 use Rattle.asn_rules.specs.Faults.{state_of}
 use Rattle.asn_convert.specs.Put.{Digits, NoDigits}

@@ -1,5 +1,4 @@
 use Rattle.asn_values.specs.View.{shape_of, datum_of}
-use Rattle.asn_rules.specs.Faults.{state_of}
 use Rattle.asn_convert.specs.Answers.{rulings}
 use Rattle.asn_convert.specs.Text.{terms}
 use Rattle.asn_convert.proofs.Replying.{line_begun_by}

@@ -1,4 +1,4 @@
-use Rattle.std.proofs.Common.{rules, ◌≡◌, List, [], None, refl, subst}
+use Rattle.std.proofs.Common.{rules, ◌≡◌, [], None, refl, subst}
 use Rattle.std.specs.Prelude.{string_bytes}
 use Rattle.std.proofs.lemmas.Result.{err_from_is_err_and}
 use Rattle.asn_module.specs.Accepted.{type_in}

@@ -1,4 +1,4 @@
-use Rattle.std.proofs.Common.{length, ◌-◌, ◌≡◌, ◌<◌, ◌≤◌, true, take}
+use Rattle.std.proofs.Common.{length, ◌-◌, ◌≡◌, ◌≤◌, take}
 use Rattle.std.specs.Io.KnownBytes.{Appends}
 use Rattle.asn_rules.specs.Faults.{inner_of}
 use Rattle.asn_convert.specs.HexHeld.{octets_known}

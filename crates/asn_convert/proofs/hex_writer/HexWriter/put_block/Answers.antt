@@ -1,8 +1,7 @@
-use Rattle.std.proofs.Common.{◌≡◌, ◌<◌, ◌≤◌, ◌^◌, ◌-◌, ◌*◌, ◌+◌, ◌/◌, None, arith, length, subst, sym, ap, ◌∙◌, take}
+use Rattle.std.proofs.Common.{◌≡◌, ◌≤◌, ◌*◌, ◌+◌, ◌/◌, arith, length, subst, ap, take}
 use Rattle.std.specs.Io.KnownBytes.{Appends}
 use Rattle.hex.specs.Hex.{encode_lower}
 use Rattle.asn_rules.specs.Faults.{inner_of}
-use Rattle.asn_convert.specs.HexHeld.{octets_known}
 use Rattle.asn_convert.proofs.HexDigits.{more_known, digits_twice}
 use Rattle.asn_convert.proofs.hex_writer.HexWriter.put_block.Goals as goal
 

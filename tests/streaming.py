@@ -1,0 +1,130 @@
+#!/usr/bin/env python3
+"""Runs `asn_tool` on lines that come one after the other: with --module they are answered as they come.
+
+usage: tests/streaming.py PROGRAM      a built asn_tool
+
+The answers to the messages of `examples` are those to the same messages after a line `====`, in each order and under both
+rules, whole and cut into pieces of few octets; an answer comes before the next line is written; the memory of the program
+does not grow with its input; and what stops it is told.
+"""
+import os
+import subprocess
+import sys
+import tempfile
+import threading
+
+TOP = os.path.dirname(os.path.dirname(os.path.abspath(__file__)))
+MODULE = b"M DEFINITIONS AUTOMATIC TAGS ::= BEGIN T ::= SEQUENCE { id INTEGER (0..7), text OCTET STRING OPTIONAL } END\n"
+SHOW = ["show", "--type", "T", "--rules", "per"]
+
+
+class Count:
+    def __init__(self):
+        self.passed, self.failed = 0, 0
+
+    def add(self, is_well, what):
+        self.passed, self.failed = self.passed + bool(is_well), self.failed + (not is_well)
+        if not is_well:
+            print(f"FAILED: {what}", flush=True)
+
+
+def octets_of(file):
+    with open(file, "rb") as it:
+        return it.read()
+
+
+def run(words, given):
+    ran = subprocess.run(words, input=given, capture_output=True)
+    return ran.returncode, ran.stdout, ran.stderr
+
+
+def run_in_pieces(words, given, size):
+    """Runs the program, whose input comes in pieces."""
+    ran = subprocess.Popen(words, stdin=subprocess.PIPE, stdout=subprocess.PIPE, stderr=subprocess.PIPE)
+
+    def write():
+        for at in range(0, len(given), size):
+            os.write(ran.stdin.fileno(), given[at : at + size])
+        ran.stdin.close()
+
+    writes = threading.Thread(target=write)
+    writes.start()
+    said = ran.stdout.read()
+    writes.join()
+    return ran.wait(), said, ran.stderr.read()
+
+
+def messages(count, program):
+    """The answers are those that come where the module stands in front of the messages."""
+    for name in ("cam", "bsm"):
+        file = f"{TOP}/examples/{name}.asn"
+        for order, rules, ending in (("show", "per", "per"), ("check", "oer", "oer"), ("encode", "per", "values"), ("convert", "oer", "oer"), ("newer", "per", "per")):
+            lines, words = f"{TOP}/examples/{name}.{ending}", [program, order, "--type", "Message", "--rules", rules]
+            if not os.path.isfile(lines):
+                continue
+            given = octets_of(lines)
+            wanted = run(words, octets_of(file) + b"====\n" + given)
+            for last in (given, given.rstrip(b"\n")):
+                count.add(run([*words, "--module", file], last) == wanted, f"{name} {order} {rules}")
+            count.add(run_in_pieces([*words, "--module", file], given[:2000], 3)[1] == run(words, octets_of(file) + b"====\n" + given[:2000])[1], f"{name} {order} {rules} in pieces")
+
+
+def as_they_come(count, program, file):
+    """Each line is answered before the next one is written."""
+    ran = subprocess.Popen([program, *SHOW, "--module", file], stdin=subprocess.PIPE, stdout=subprocess.PIPE)
+    for line, wanted in ((b"50\n", b'{"id":5}\n'), (b"a0\nb", b'! cut short after 8 bits\n'), (b"0\n", b"! cut short after 8 bits\n")):
+        os.write(ran.stdin.fileno(), line)
+        answer = ran.stdout.readline()
+        count.add(answer == wanted, f"{line}: {answer}")
+    ran.stdin.close()
+    count.add(ran.wait() == 1 and ran.stdout.read() == b"", "the end of the lines that come")
+
+
+def memory(count, program, file):
+    """The program's memory does not grow with its input, but for the longest line."""
+    with tempfile.TemporaryFile() as given:
+        for _ in range(20):
+            given.write(b"50\n" * 350_000)
+        given.seek(0)
+        ran = subprocess.Popen([program, *SHOW, "--module", file], stdin=given, stdout=subprocess.DEVNULL)
+        _, status, used = os.wait4(ran.pid, 0)
+        ran.returncode = os.waitstatus_to_exitcode(status)
+    count.add(ran.returncode == 0 and used.ru_maxrss < 20_000, f"status {ran.returncode}, {used.ru_maxrss} KB for 21 MB of lines")
+
+
+def faults(count, program, file):
+    text = "aa" * 30_000
+    encoded = run([program, "encode", "--type", "T", "--rules", "per", "--module", file], b'{"id":5,"text":"%s"}' % text.encode())
+    count.add(encoded[0] == 0 and len(encoded[1]) > 60_000, "a line of many pieces is encoded")
+    shown = run([program, *SHOW, "--module", file], encoded[1] + b"50")
+    count.add(shown == (0, b'{"id":5,"text":"%s"}\n{"id":5}\n' % text.encode(), b""), "a line of many pieces is shown")
+    count.add(run([program, *SHOW, "--module", file], b"") == (0, b"", b""), "no line")
+    count.add(run([program, "show", "--type", "X", "--rules", "per", "--module", file], b"50\n") == (2, b"! no type X\n", b""), "no type")
+    count.add(run([program, "module", "--module", file], b"")[0] == 0, "the module alone")
+    with open("/dev/full", "wb") as full:
+        ran = subprocess.run([program, *SHOW, "--module", file], input=b"50\n", stdout=full, stderr=subprocess.PIPE)
+    count.add((ran.returncode, ran.stderr) == (3, b"write failed\n"), f"a full disk: {ran}")
+    with tempfile.TemporaryDirectory() as folder:
+        ran = subprocess.run([program, *SHOW, "--module", file], stdin=os.open(folder, os.O_RDONLY), capture_output=True)
+    count.add((ran.returncode, ran.stdout, ran.stderr) == (3, b"", b"read failed\n"), f"a folder as the input: {ran}")
+
+
+def main(words):
+    if len(words) != 1:
+        print(__doc__, file=sys.stderr)
+        return 2
+    program, count = os.path.abspath(words[0]), Count()
+    with tempfile.TemporaryDirectory(prefix="tulvorn-streaming-") as room:
+        file = f"{room}/m.asn"
+        with open(file, "wb") as it:
+            it.write(MODULE)
+        messages(count, program)
+        as_they_come(count, program, file)
+        memory(count, program, file)
+        faults(count, program, file)
+    print(f"{count.passed} passed, {count.failed} failed")
+    return 1 if count.failed else 0
+
+
+if __name__ == "__main__":
+    sys.exit(main(sys.argv[1:]))

@@ -3,12 +3,12 @@
 # messages and write the same octets by unaligned PER, then how long decoding and encoding take, in one run, and how
 # many instructions, which other work on the machine does not change. It prints a table.
 #
-# usage: [COUNT=no] bindings/asn1c.sh OUT [ROUNDS]
+# usage: [COUNT=no] [BASELINE=FOLDER] bindings/asn1c.sh OUT [ROUNDS]
 #
 # OUT is the folder in which bindings/build.sh left the library; the times are the least of ROUNDS rounds, 20 if not given.
 # It wants asn1c (Debian's package asn1c, version 0.9.28), gcc, cargo for the messages of the benchmark, and valgrind for
-# the instructions, which take minutes and are left out with COUNT=no. Where asn1c is not there it says so and ends with
-# status 0. That version of asn1c has no OER.
+# the instructions, which take minutes and are left out with COUNT=no; BASELINE keeps what cargo makes. Where asn1c is not
+# there it says so and ends with status 0. That version of asn1c has no OER.
 set -euo pipefail
 here=$(cd "$(dirname "$0")" && pwd)
 out=$(cd "$1" && pwd)
@@ -22,8 +22,8 @@ trap 'rm -rf "$made"' EXIT
 cpu=x86-64-v2
 
 (cd "$here/../bench/baseline" &&
-    cargo build --quiet --release --offline --locked --target-dir "$made/target" &&
-    "$made/target/release/baseline" same 0 >"$made/octets")
+    cargo build --quiet --release --offline --locked --target-dir "${BASELINE:-$made/target}" &&
+    "${BASELINE:-$made/target}/release/baseline" same 0 >"$made/octets")
 
 # octets_of NAME: those of the benchmark's messages of that name, in hexadecimal, a line a message
 octets_of() {
@@ -106,8 +106,10 @@ awk '
         print "| ns (instructions) | Tulvorn | asn1c | ratio | asn1c with its constraints checked | ratio |"
         print "|---|---|---|---|---|---|"
         for (at = 1; at <= last; at++) line(names[at], "decode", "decode-tulvorn", "decode-asn1c", "decode-asn1c-checked")
+        for (at = 1; at <= last; at++) line(names[at], "decode, handle kept", "decode-again-tulvorn", "decode-asn1c", "decode-asn1c-checked")
         for (at = 1; at <= last; at++) line(names[at], "check", "check-tulvorn", "decode-asn1c", "decode-asn1c-checked")
         for (at = 1; at <= last; at++) line(names[at], "encode", "encode-tulvorn", "encode-asn1c", "")
+        for (at = 1; at <= last; at++) line(names[at], "encode, handle kept", "encode-again-tulvorn", "encode-asn1c", "")
         for (at = 1; at <= last; at++) line(names[at], "encode into", "into-tulvorn", "into-asn1c", "into-asn1c-checked")
         print ""
         for (at = 1; at <= last; at++) printf "convert %s: %s\n", names[at], cell(names[at], "convert-tulvorn")

@@ -14,7 +14,7 @@ out=$(cd "$1" && pwd)
 rounds=${2:-10}
 program=${PROGRAM:-}
 room=${BENCH_ROOM:-${TMPDIR:-/tmp}/asn-bench-$(id -u)}
-[ -e "$room/messages" ] || bash -c "source '$here/../bench/room.sh'"
+[ -e "$room/messages" ] || bash -c 'source "$0"' "$here/../bench/room.sh"
 made=$(mktemp -d)
 trap 'rm -rf "$made"' EXIT
 gcc -std=c11 -O2 -Wall -Wextra -I"$here/c" "$here/c/bench.c" "$out/libtulvorn.a" -o "$made/bench"

@@ -19,9 +19,7 @@ command -v clang >/dev/null || { echo "fuzz: clang is not there" >&2 && exit 1; 
 
 mkdir -p "$room/found" "$room/kept"
 nice -n 19 python3 "$here/build_unproved.py" "$room/room" "$room/tulvorn.o" -fsanitize=fuzzer-no-link
-sessions=()
-if grep -q tulvorn_feed "$here/c/tulvorn.h"; then sessions=(-DSESSIONS); fi
-clang -std=c11 -O1 -g -fsanitize=fuzzer,address "${sessions[@]}" -I"$here/c" "$here/c/fuzz.c" "$room/tulvorn.o" \
+clang -std=c11 -O1 -g -fsanitize=fuzzer,address -I"$here/c" "$here/c/fuzz.c" "$room/tulvorn.o" \
     "$kit/c/liblibc_c.a" -o "$room/fuzz"
 rm -rf "$room/corpus"
 python3 "$here/rows.py" --corpus "$room/corpus"

@@ -95,10 +95,8 @@ def most_of(folder, subjects, more=()):
 def main():
     out = os.path.abspath(sys.argv[1])
     with tempfile.TemporaryDirectory() as folder:
-        with open(f"{out}/tulvorn.h", encoding="utf-8") as it:
-            flags = ["-DSESSIONS"] if "tulvorn_feed" in it.read() else []
         source = [f"{HERE}/c/stack.c", f"{out}/libtulvorn.a", "-o", f"{folder}/stack"]
-        build = ["gcc", "-std=c11", "-O2", "-Wall", "-Wextra", "-pthread", *flags, f"-I{out}", f"-I{HERE}/c", *source]
+        build = ["gcc", "-std=c11", "-O2", "-Wall", "-Wextra", "-pthread", f"-I{out}", f"-I{HERE}/c", *source]
         subprocess.run(build, check=True)
         print(f"types of {LEVELS} levels:")
         most_of(folder, [(name, (module(f"T ::= {kind}"), value)) for name, (kind, value) in subjects()])

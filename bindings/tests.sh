@@ -12,8 +12,6 @@ trap 'rm -rf "$made"' EXIT
 warn=(-Wall -Wextra -Wpedantic -Werror -O2 -I"$here/c" -I"$here/cpp")
 wrap=(-Wl,--wrap=malloc -Wl,--wrap=realloc)
 memory=(valgrind -q --error-exitcode=99 --leak-check=full --errors-for-leak-kinds=all)
-sessions=()
-if grep -q tulvorn_feed "$here/c/tulvorn.h"; then sessions=(-DSESSIONS); fi
 passed=0 failed=0 skipped=0
 
 # step NAME PROGRAM.. -- COMMAND..: runs the command, where these programs are there
@@ -48,7 +46,7 @@ in_c_sanitized() {
 
 # the rows, and the examples: a file that a caller of each language reads
 rows_in_c() {
-    gcc -std=c11 "${warn[@]}" "${sessions[@]}" "$@" "$here/c/rows.c" "$out/libtulvorn.a" -o "$made/rows-c" &&
+    gcc -std=c11 "${warn[@]}" "$@" "$here/c/rows.c" "$out/libtulvorn.a" -o "$made/rows-c" &&
         "$made/rows-c" "$made/rows"
 }
 

@@ -1,5 +1,5 @@
 /* What all calls of the library have to say alike of octets: shared by the programs that try rows, and texts made at
-   random. With SESSIONS, sessions too. */
+   random. */
 #ifndef AGREE_H
 #define AGREE_H
 
@@ -94,7 +94,6 @@ static int received(tulvorn_handle *type, uint32_t rules, const struct octets *o
     return 0;
 }
 
-#ifdef SESSIONS
 /* A session is fed the octets in pieces of `sizes` in turn, and answers as tulvorn_check has. */
 static int fed(tulvorn_handle *type, uint32_t rules, const struct octets *octets, const uint8_t sizes[4],
                const tulvorn_fault *told) {
@@ -118,12 +117,6 @@ static int fed(tulvorn_handle *type, uint32_t rules, const struct octets *octets
     tulvorn_close(&value);
     return 0;
 }
-#else
-static inline int fed(tulvorn_handle *type, uint32_t rules, const struct octets *octets, const uint8_t sizes[4],
-                      const tulvorn_fault *told) {
-    return (void)type, (void)rules, (void)octets, (void)sizes, (void)told, 0;
-}
-#endif
 
 /* All calls that read octets answer alike to these; what tulvorn_check has answered is left in `told`. */
 static int agree(tulvorn_handle *type, uint32_t rules, const struct octets *octets, tulvorn_fault *told) {

@@ -18,7 +18,7 @@
 #define DESCRIPTOR (&NAMED(asn_DEF_, MESSAGE))
 typedef NAMED(MESSAGE, _t) message_t;
 
-enum { ROOM = 1 << 16, ROWS = 10 };
+enum { ROOM = 1 << 16, ROWS = 12 };
 
 static tulvorn_handle type, value, out;
 static message_t *held;
@@ -54,11 +54,16 @@ static int asn1c_encode(void) {
     return count >= 0 && (size_t)count == size;
 }
 
-static int tulvorn_decodes(void) {
+/* Decodes into a handle that a call before has filled, as a loop does, and lets go of what it held. */
+static int tulvorn_decodes_again(void) {
     tulvorn_fault fault;
-    uint32_t code = tulvorn_decode(&type, TULVORN_PER, message, size, &out, &fault);
+    return tulvorn_decode(&type, TULVORN_PER, message, size, &out, &fault) == TULVORN_DONE;
+}
+
+static int tulvorn_decodes(void) {
+    int well = tulvorn_decodes_again();
     tulvorn_close(&out);
-    return code == TULVORN_DONE;
+    return well;
 }
 
 static int tulvorn_checks(void) {
@@ -66,11 +71,15 @@ static int tulvorn_checks(void) {
     return tulvorn_check(&type, TULVORN_PER, message, size, &fault) == TULVORN_DONE;
 }
 
-static int tulvorn_encodes(void) {
+static int tulvorn_encodes_again(void) {
     tulvorn_fault fault;
-    uint32_t code = tulvorn_encode(&value, TULVORN_PER, &out, &fault);
+    return tulvorn_encode(&value, TULVORN_PER, &out, &fault) == TULVORN_DONE;
+}
+
+static int tulvorn_encodes(void) {
+    int well = tulvorn_encodes_again();
     tulvorn_close(&out);
-    return code == TULVORN_DONE;
+    return well;
 }
 
 static int tulvorn_encodes_into(void) {
@@ -93,9 +102,11 @@ static const struct row {
     {"decode-asn1c", asn1c_decode},
     {"decode-asn1c-checked", asn1c_decode_checked},
     {"decode-tulvorn", tulvorn_decodes},
+    {"decode-again-tulvorn", tulvorn_decodes_again},
     {"check-tulvorn", tulvorn_checks},
     {"encode-asn1c", asn1c_encode},
     {"encode-tulvorn", tulvorn_encodes},
+    {"encode-again-tulvorn", tulvorn_encodes_again},
     {"into-asn1c", asn1c_encode_into},
     {"into-asn1c-checked", asn1c_encode_into_checked},
     {"into-tulvorn", tulvorn_encodes_into},
@@ -172,6 +183,7 @@ int main(int count, char **words) {
     if (status == 0 && !same && !times) status = run_one(what, strtol(words[4], NULL, 10));
     if (status == 0 && same) printf("%d messages\n", count - 4);
     let_go();
+    tulvorn_close(&out);
     tulvorn_close(&type);
     return status;
 }

@@ -2,7 +2,9 @@
 
    usage: bench MODULE TYPE OCTETS CALL TIMES     OCTETS are a message of PER in hexadecimal; CALL is handle, kind,
                                                   check, decode, convert, encode, len or into
-   `handle` is a call that takes what a handle holds and puts it back, and does nothing else: what is in each call. */
+   `handle` is a call that takes what a handle holds and puts it back, and does nothing else: what is in each call. The
+   module is held while the calls are made, as by the program in Rattle that is measured beside: what it took of the heap,
+   let go, would be searched by each call that wants memory. */
 #define _POSIX_C_SOURCE 199309L
 #include "reading.h"
 #include <stdlib.h>
@@ -10,7 +12,7 @@
 
 enum { ROOM = 1 << 16 };
 
-static tulvorn_handle type, value, octets, out;
+static tulvorn_handle module, type, value, octets, out;
 static uint8_t message[ROOM], into[ROOM];
 static size_t size;
 
@@ -68,7 +70,8 @@ static const struct call {
 /* The type, a value and its octets, from the words of the command. */
 static int begin(char **words) {
     tulvorn_fault fault;
-    return read_octets(words[2], strlen(words[2]), message, ROOM, &size) && read_type(words[0], words[1], &type) &&
+    return read_octets(words[2], strlen(words[2]), message, ROOM, &size) &&
+           read_both(words[0], words[1], &module, &type) &&
            tulvorn_decode(&type, TULVORN_PER, message, size, &value, &fault) == TULVORN_DONE &&
            tulvorn_encode(&value, TULVORN_PER, &octets, &fault) == TULVORN_DONE;
 }
@@ -96,5 +99,6 @@ int main(int count, char **words) {
     tulvorn_close(&value);
     tulvorn_close(&octets);
     tulvorn_close(&out);
+    tulvorn_close(&module);
     return status;
 }

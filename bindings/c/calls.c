@@ -62,6 +62,10 @@ static int modules(void) {
     static const char unknown[] = "M DEFINITIONS AUTOMATIC TAGS ::= BEGIN T ::= U END";
     CHECK(tulvorn_module(TEXT(unknown), &module, &fault) == TULVORN_NO_MODULE);
     CHECK(fault.why == TULVORN_UNKNOWN);
+    CHECK(tulvorn_explain_module(TEXT(unknown), &words) == TULVORN_DONE);
+    CHECK(tulvorn_copy(&words, into, sizeof into, &size) == TULVORN_TOO_SHORT && size > sizeof unknown);
+    CHECK(tulvorn_explain_module(TEXT("M \xff"), &words) == TULVORN_NOT_TEXT && words.at != NULL);
+    CHECK(tulvorn_explain_module(TEXT(MODULE), &words) == TULVORN_DONE && holds_text(&words, "") == 0);
     CHECK(tulvorn_module(TEXT("M \xff"), &module, &fault) == TULVORN_NOT_TEXT);
     CHECK(tulvorn_module(TEXT("M %"), &module, &fault) == TULVORN_NO_MODULE && fault.why == TULVORN_BAD_CHARACTER);
     CHECK(fault.at == 2);
@@ -222,6 +226,8 @@ static int memory(tulvorn_handle *module, tulvorn_handle *msg, tulvorn_handle *a
     long refused = 0;
     CHECK(tulvorn_from_json(all, TEXT(ALL), &value, &fault) == TULVORN_DONE);
     EACH_FAILS(it, tulvorn_module(TEXT(MODULE), &it, &fault));
+    EACH_FAILS(it, tulvorn_explain_module(TEXT(MODULE), &it));
+    EACH_FAILS(it, tulvorn_explain_module(TEXT("M DEFINITIONS AUTOMATIC TAGS ::= BEGIN T ::= U END"), &it));
     EACH_FAILS(it, tulvorn_type(module, TEXT("All"), &it, &fault));
     EACH_FAILS(it, tulvorn_share(all, &it));
     EACH_FAILS(it, tulvorn_decode(msg, TULVORN_PER, good, 2, &it, &fault));
@@ -233,8 +239,13 @@ static int memory(tulvorn_handle *module, tulvorn_handle *msg, tulvorn_handle *a
     EACH_FAILS(it, tulvorn_explain(msg, TULVORN_PER, good, 1, &it));
     EACH_FAILS(it, tulvorn_read_newer(msg, TULVORN_PER, good, 2, &value, &it, &fault));
     EACH_FAILS(it, tulvorn_read_newer(msg, TULVORN_PER, good, 2, &it, &value, &fault));
+    EACH_KEEPS(it, tulvorn_decode(msg, TULVORN_PER, good, 2, &it, &fault));
+    EACH_KEEPS(it, tulvorn_convert(msg, TULVORN_PER, good, 2, &it, &fault));
+    EACH_KEEPS(it, tulvorn_from_json(all, TEXT(ALL), &it, &fault));
     tulvorn_close(&value);
     CHECK(tulvorn_from_json(all, TEXT(ALL), &value, &fault) == TULVORN_DONE);
+    EACH_KEEPS(it, tulvorn_encode(&value, TULVORN_OER, &it, &fault));
+    EACH_KEEPS(it, tulvorn_to_json(&value, &it, &fault));
     /* and those that take no memory */
     asked = 0;
     CHECK(tulvorn_encoded_len(&value, TULVORN_PER, &size, &fault) == TULVORN_DONE);

@@ -61,16 +61,41 @@ void *__wrap_realloc(void *block, size_t size) { return fails() ? NULL : __real_
         tulvorn_close(&handle);                                          \
     } while (0)
 
-static int says(const tulvorn_fault *fault, uint32_t rules, const char *wanted) {
-    tulvorn_handle words = TULVORN_NONE;
+/* the handle holds these octets */
+static int holds_text(tulvorn_handle *octets, const char *wanted) {
     uint8_t into[128];
-    size_t size;
-    CHECK(tulvorn_words(fault, rules, &words) == TULVORN_DONE);
-    CHECK(tulvorn_copy(&words, into, sizeof into, &size) == TULVORN_DONE);
+    size_t size = 0;
+    CHECK(tulvorn_copy(octets, into, sizeof into, &size) == TULVORN_DONE);
     if (size != strlen(wanted) || memcmp(into, wanted, size) != 0) {
         printf("%.*s in the place of %s\n", (int)size, (const char *)into, wanted);
         return 1;
     }
+    return 0;
+}
+
+/* a call that fills a handle which holds words, with each of its allocations failing in turn: it answers NO_MEMORY, and
+   the handle holds the words; or it does what it was asked for */
+#define EACH_KEEPS(handle, call)                                                                      \
+    do {                                                                                              \
+        const tulvorn_fault of_words = {TULVORN_REFUSED, TULVORN_DEFAULT, 6};                         \
+        tulvorn_handle handle = TULVORN_NONE;                                                         \
+        for (long at = 1, fell = 1; fell; at++) {                                                     \
+            CHECK(tulvorn_words(&of_words, TULVORN_PER, &handle) == TULVORN_DONE);                    \
+            const void *before = handle.at;                                                           \
+            left = at;                                                                                \
+            uint32_t code = (call);                                                                   \
+            fell = left == -1;                                                                        \
+            left = -1;                                                                                \
+            CHECK(code == TULVORN_DONE || (fell && code == TULVORN_NO_MEMORY));                       \
+            CHECK(code == TULVORN_DONE || holds_text(&handle, "refused at bit 6: default") == 0);     \
+            CHECK(handle.at == before);                                                               \
+        }                                                                                             \
+        tulvorn_close(&handle);                                                                       \
+    } while (0)
+
+static int says(const tulvorn_fault *fault, uint32_t rules, const char *wanted) {
+    tulvorn_handle words = TULVORN_NONE;
+    CHECK(tulvorn_words(fault, rules, &words) == TULVORN_DONE && holds_text(&words, wanted) == 0);
     tulvorn_close(&words);
     return 0;
 }

@@ -17,15 +17,19 @@ static inline int read_file(const char *name, uint8_t *octets, size_t room, size
     return well;
 }
 
-/* The type of that name of the module in a file; 0 where there is none. */
-static inline int read_type(const char *file, const char *name, tulvorn_handle *type) {
+/* The module in a file, and its type of that name; 0 where there is none. */
+static inline int read_both(const char *file, const char *name, tulvorn_handle *module, tulvorn_handle *type) {
     static uint8_t text[1 << 20];
-    tulvorn_handle module = TULVORN_NONE;
     tulvorn_fault fault;
     size_t size = 0;
-    int well = read_file(file, text, sizeof text, &size) &&
-               tulvorn_module(text, size, &module, &fault) == TULVORN_DONE &&
-               tulvorn_type(&module, (const uint8_t *)name, strlen(name), type, &fault) == TULVORN_DONE;
+    return read_file(file, text, sizeof text, &size) && tulvorn_module(text, size, module, &fault) == TULVORN_DONE &&
+           tulvorn_type(module, (const uint8_t *)name, strlen(name), type, &fault) == TULVORN_DONE;
+}
+
+/* The type alone. */
+static inline int read_type(const char *file, const char *name, tulvorn_handle *type) {
+    tulvorn_handle module = TULVORN_NONE;
+    int well = read_both(file, name, &module, type);
     tulvorn_close(&module);
     return well;
 }

@@ -1,7 +1,7 @@
 /* Calls the library from C on the rows that bindings/rows.py writes. Exits with 0 where each answer is right.
 
    usage: rows FILE
-   With SESSIONS the octets of each row are fed to sessions too, whole and in pieces. */
+   The octets of each row are fed to sessions too, whole and in pieces. */
 #define _POSIX_C_SOURCE 200809L
 #include "agree.h"
 #include <stdlib.h>
@@ -27,7 +27,6 @@ static int fed_in_pieces(uint32_t rules, const struct octets *octets, const tulv
     return 0;
 }
 
-#ifdef SESSIONS
 /* pieces RULES PIECES TAKEN CODE WHY AT */
 static int row_of_pieces(char **words) {
     tulvorn_handle session = TULVORN_NONE, value = TULVORN_NONE;
@@ -49,9 +48,6 @@ static int row_of_pieces(char **words) {
     tulvorn_close(&session);
     return 0;
 }
-#else
-static int row_of_pieces(char **words) { return (void)words, 0; }
-#endif
 
 /* The octets are the encoding by these rules of the value that the words tell. */
 static int is_value(uint32_t rules, const struct octets *octets, const char *json, const char *shown) {

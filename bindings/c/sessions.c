@@ -10,17 +10,6 @@ static const char MODULE[] =
     "Grown ::= ENUMERATED { red, ... }\n"
     "END\n";
 
-static int holds_text(tulvorn_handle *octets, const char *wanted) {
-    uint8_t into[128];
-    size_t size = 0;
-    CHECK(tulvorn_copy(octets, into, sizeof into, &size) == TULVORN_DONE);
-    if (size != strlen(wanted) || memcmp(into, wanted, size) != 0) {
-        printf("%.*s in the place of %s\n", (int)size, (const char *)into, wanted);
-        return 1;
-    }
-    return 0;
-}
-
 /* handles of nothing, and of another kind of object */
 static int misused(tulvorn_handle *msg) {
     tulvorn_handle none = TULVORN_NONE, other = TULVORN_NONE;

@@ -103,10 +103,10 @@ static int call_part(void) {
     return code == TULVORN_DONE || code == TULVORN_NO_PATH || code == TULVORN_OTHER_KIND;
 }
 
+static int call_explain_module(void) { return tulvorn_explain_module(text, text_size, &out) == TULVORN_DONE; }
 static int call_share(void) { return tulvorn_share(&type, &out) == TULVORN_DONE; }
 static int call_words(void) { return tulvorn_words(&fault, TULVORN_PER, &out) == TULVORN_DONE; }
 
-#ifdef SESSIONS
 static int fed(uint32_t rules, const uint8_t *octets, size_t count) {
     return tulvorn_open(&type, rules, &out) == TULVORN_DONE &&
            tulvorn_feed(&out, octets, count - 1, &other, &size, &fault) == TULVORN_MORE &&
@@ -118,7 +118,6 @@ static int call_session_per(void) { return fed(TULVORN_PER, per, per_size); }
 static int call_session_oer(void) { return fed(TULVORN_OER, oer, oer_size); }
 static int call_misfit(void) { return tulvorn_misfit(&type, &value, &out) == TULVORN_DONE; }
 static int call_explain_json(void) { return tulvorn_explain_json(&type, json, json_size, &out) == TULVORN_DONE; }
-#endif
 
 /* Lets go of all that is held: a value and a type of so many levels, and a module. */
 static int call_close(void) {
@@ -157,14 +156,13 @@ static const struct call {
     {"read_newer PER", call_newer_per},
     {"read_newer OER", call_newer_oer},
     {"kind", call_part},
+    {"explain_module", call_explain_module},
     {"share", call_share},
     {"words", call_words},
-#ifdef SESSIONS
     {"open, feed, finish PER", call_session_per},
     {"open, feed, finish OER", call_session_oer},
     {"misfit", call_misfit},
     {"explain_json", call_explain_json},
-#endif
     {"close", call_close},
 };
 
@@ -190,11 +188,14 @@ static size_t stack_of(const struct call *it, uint8_t *stack) {
 
 /* Reads the texts, whatever is answered. */
 static int call_any_module(void) { return call_module() || 1; }
+static int call_any_words(void) { return call_explain_module() || 1; }
 static int call_any_json(void) { return call_from_json() || 1; }
 
 static int read_texts(size_t alone, uint8_t *stack) {
     static const struct call of_module = {"module", call_any_module}, of_json = {"from_json", call_any_json};
+    static const struct call of_words = {"explain_module", call_any_words};
     printf("module: %zu\n", stack_of(&of_module, stack) - alone);
+    printf("explain_module: %zu\n", stack_of(&of_words, stack) - alone);
     if (!call_type()) return 0;
     printf("from_json: %zu\n", stack_of(&of_json, stack) - alone);
     return 0;

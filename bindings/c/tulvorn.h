@@ -4,14 +4,16 @@
  * fields that were skipped in a message. A call that gives an object takes the handle that it is to be put into, and
  * lets go of what that handle held. Each call but tulvorn_close and tulvorn_interface answers a code, TULVORN_DONE
  * where it did what it was asked for. On every other answer each handle is as it was, but for a session that takes a
- * piece, and so are the octets that were to be written; the text of a function says what else is written. Nothing is
- * kept between calls but what handles hold: there is no state of the library's own.
+ * piece or is ended, and so are the octets that were to be written; the text of a function says what else is written.
+ * Nothing is kept between calls but what handles hold: there is no state of the library's own.
  *
  * WHAT THE CALLER OWES. Nothing checks it, and a call for which it does not hold may do anything.
- *   - A handle begins as TULVORN_NONE, is changed by calls of the library alone, and is never copied.
+ *   - A handle begins as TULVORN_NONE, is changed by calls of the library alone, and is never copied. Two copies of the
+ *     library in one program are two libraries: a handle stays with one.
  *   - A call is given no handle twice, and no two of the places that it writes overlap one another or what it reads.
  *   - What a call is given, handles too, is used by nothing else until the call returns.
- *   - Pointers are not null, but that to data of which the length is 0. Lengths are those of the memory, below 2^63.
+ *   - Pointers lead to memory of their type, aligned for it, and are not null, but that to data of which the length is
+ *     0. Lengths are those of the memory, below 2^63. What a call reads, octets or a fault, was written before.
  *   - malloc, realloc and free are those of one allocator, and align a block to each power of two up to 16 that divides
  *     its size. No call is made from a signal handler, or from the child that a program with threads has forked.
  *   - The processor is an x86-64 of level v2 or above. A call has stack enough: 256 KiB are, of a library that LLVM
@@ -42,6 +44,10 @@ typedef struct tulvorn_handle {
 
 #define TULVORN_NONE \
     { NULL }
+
+/* The octets of a string literal without the NUL at its end, as the two arguments of a call: their pointer and their
+   number, as in tulvorn_type(&module, TULVORN_TEXT("Msg"), &type, &fault). */
+#define TULVORN_TEXT(literal) (const uint8_t *)("" literal), (sizeof(literal) - 1)
 
 /* ---- encoding rules: a call that is given another number answers TULVORN_MISUSE */
 enum {
@@ -110,6 +116,10 @@ typedef struct tulvorn_fault {
 /* Reads the text of a module (X.680, in the notation of the profile), and puts the module into `module`.
    Answers NOT_TEXT, NO_MODULE, NO_MEMORY. */
 uint32_t tulvorn_module(const uint8_t *text, size_t len, tulvorn_handle *module, tulvorn_fault *fault);
+
+/* Puts into `words`, as octets, why the text is no module: the line and the column, what could stand there, and the line
+   itself with a mark, in some lines of text. No octets where it is one. Answers NOT_TEXT, NO_MEMORY. */
+uint32_t tulvorn_explain_module(const uint8_t *text, size_t len, tulvorn_handle *words);
 
 /* Puts the type that the module assigns to the name into `type`. It outlives the module, which is as it was.
    Answers MISUSE where `module` holds no module, NOT_TEXT, NO_NAME, NO_MEMORY. */

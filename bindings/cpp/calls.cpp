@@ -62,6 +62,7 @@ int main() {
     Type type = module.type("Msg");
     CHECK(code_of([&] { module.type("Other"); }) == TULVORN_NO_NAME);
     CHECK(code_of([&] { Module wrong("M"); }) == TULVORN_NO_MODULE);
+    CHECK(Module::explain("M").find("line 1, column 2: ") == 0);
     Value value = type.from_json(R"({"id":5,"note":"A","colour":"green","key":"00ff","bits":"10"})");
     CHECK(value.integer("id") == 5 && value.boolean("ok") && value.text("note") == "A");
     CHECK(value.name("colour") == "green");

@@ -87,8 +87,8 @@ inline std::string words_of(const tulvorn_fault &fault, Rules rules) {
 // Why a call did not do what it was asked for: its code, reason and place are those of tulvorn.h.
 class Fault : public std::runtime_error {
   public:
-    Fault(const tulvorn_fault &fault, Rules rules)
-        : std::runtime_error(detail::words_of(fault, rules)), fault_(fault) {}
+    Fault(const tulvorn_fault &fault, Rules rules) : Fault(fault, detail::words_of(fault, rules)) {}
+    Fault(const tulvorn_fault &fault, const std::string &words) : std::runtime_error(words), fault_(fault) {}
     uint32_t code() const { return fault_.code; }
     uint32_t why() const { return fault_.why; }
     uint64_t at() const { return fault_.at; }
@@ -339,7 +339,15 @@ class Module {
   public:
     explicit Module(std::string_view text) {
         tulvorn_fault fault;
-        detail::look(tulvorn_module(detail::octets_of(text), text.size(), held_.get(), &fault), fault);
+        auto code = tulvorn_module(detail::octets_of(text), text.size(), held_.get(), &fault);
+        if (code == TULVORN_NO_MODULE) throw Fault(fault, explain(text));
+        detail::look(code, fault);
+    }
+    // Why the text is no module, with the line and a mark where that shows; empty where it is one.
+    static std::string explain(std::string_view text) {
+        detail::Handle words;
+        detail::look(tulvorn_explain_module(detail::octets_of(text), text.size(), words.get()));
+        return detail::text_of(words);
     }
     Type type(std::string_view name) const {
         Type type;

@@ -85,6 +85,8 @@ def faults(spec):
     assert raised(tulvorn.EncodeError, lambda: spec.encode("Msg", {"id": 9})).code == tulvorn.NOT_OF_TYPE
     assert raised(tulvorn.EncodeError, lambda: spec.encode("Msg", {})).code == tulvorn.SHAPE
     assert raised(tulvorn.ModuleError, lambda: tulvorn.compile_string("M")).at == 1
+    unknown = raised(tulvorn.ModuleError, lambda: tulvorn.compile_string("M DEFINITIONS AUTOMATIC TAGS ::= BEGIN\nT ::= U END"))
+    assert str(unknown).startswith("line 2, column 7: "), unknown
     assert raised(KeyError, lambda: spec.type("Other"))
     assert raised(ValueError, lambda: spec.encode("Msg", {"id": 1}, "ber"))
 

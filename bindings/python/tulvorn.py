@@ -57,6 +57,7 @@ class Fault(ctypes.Structure):
 # exports
 FUNCTIONS = {
     "tulvorn_module": "oshf:u",
+    "tulvorn_explain_module": "osh:u",
     "tulvorn_type": "hoshf:u",
     "tulvorn_share": "hh:u",
     "tulvorn_check": "huosf:u",
@@ -131,7 +132,7 @@ class TulvornError(Exception):
 
 
 class ModuleError(TulvornError):
-    """A text is no module; `at` is a character's place in its octets, from 0."""
+    """A text is no module; `at` is a character's place in its octets, from 0. The words have the line, with a mark."""
 
 
 class DecodeError(TulvornError):
@@ -467,6 +468,14 @@ class Type(_Held):
         return self.from_json(json.dumps(_json_of(value)))
 
 
+def _explained(text):
+    """Why octets are no module, in words."""
+    words = _Held()
+    if _library.tulvorn_explain_module(text, len(text), words.handle) != DONE:
+        raise MemoryError
+    return words.copied().decode()
+
+
 class Specification(_Held):
     """A module that was read, and the encoding rules that its calls take where they are told no others."""
 
@@ -475,6 +484,8 @@ class Specification(_Held):
         self.rules, self.types = _rules(rules), {}
         octets, fault = text.encode(), Fault()
         code = _library.tulvorn_module(octets, len(octets), self.handle, fault)
+        if code == NO_MODULE:
+            raise ModuleError(_explained(octets), fault)
         _look(ModuleError, code, fault)
 
     def type(self, name):

@@ -1,5 +1,5 @@
 -- What calls answer, by the objects that handles held before (old) and hold after (new).
-use Rattle.std.specs.Prelude.{◌≡◌, ◌⊎◌, ◌<◌, ◌≤◌, ◌++◌, drop, ℕ, Ok, Err, List, length, Option, Some, None, nat_eq, if◌then◌else◌, IsUtf8}
+use Rattle.std.specs.Prelude.{◌≡◌, ◌⊎◌, ◌<◌, ◌≤◌, ◌++◌, drop, ℕ, Ok, Err, List, [], length, Option, Some, None, nat_eq, if◌then◌else◌, IsUtf8}
 use Rattle.serde_json.specs.Data.{Data}
 use Rattle.serde_json.specs.Written.{compact_text}
 use Rattle.asn_values.specs.Datum.{Datum}
@@ -68,6 +68,25 @@ ReadsText text old new fault =
 abbrev pub ReadsModule : List ℕ → Option Object → Option Object → Fault → Type 0
 ReadsModule text old new fault =
     ReadsText text old new fault ⊎ ((new ≡ old) × (fault ≡ plain 8) × ¬ IsUtf8 text)
+
+-- the handle then holds no octets, since the text is a module
+abbrev pub HoldsNoRefusal : List ℕ → Option Object → Type 0
+HoldsNoRefusal text new = (held_octets new ≡ Some []) × (m : ModuleTypes) × Accepted text m
+
+-- the handle then holds words, since the text is no module
+pub record HoldsRefusal (text : List ℕ) (new : Option Object) : Type 0 where
+  pub words : List ℕ
+  pub held : held_octets new ≡ Some words
+  pub not_empty : words ≡ [] → ⊥
+  pub refused : (m : ModuleTypes) → Accepted text m → ⊥
+
+abbrev pub TellsText : List ℕ → Option Object → Option Object → Fault → Type 0
+TellsText text old new fault =
+    ((fault ≡ done) × (HoldsNoRefusal text new ⊎ HoldsRefusal text new)) ⊎ ((fault ≡ no_memory) × (new ≡ old))
+
+abbrev pub TellsModule : List ℕ → Option Object → Option Object → Fault → Type 0
+TellsModule text old new fault =
+    TellsText text old new fault ⊎ ((new ≡ old) × (fault ≡ plain 8) × ¬ IsUtf8 text)
 
 -- the handle then holds the type that the module assigns to the name, which it does to none that is not UTF-8
 abbrev pub FindsName : List ℕ → Option Object → Option Object → ModuleTypes → Fault → Type 0

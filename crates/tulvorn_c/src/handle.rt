@@ -1,5 +1,5 @@
 //! What C keeps of an object: the pointer of its box, or null.
-ghost use Rattle.std.specs.Prelude.{◌≡◌, IfOk};
+ghost use Rattle.std.specs.Prelude.{◌≡◌, IfOk, IfErr};
 ghost use Rattle.std.specs.Coded.{codes};
 ghost use Rattle.std.specs.Option.{MatchOption};
 ghost use Rattle.std.specs.declared.option.Option.{Option};
@@ -12,6 +12,7 @@ use crate::loose::Loose;
 use crate::object::Object;
 use std::alloc::{AllocError, Global};
 use std::marker::{Model, Send};
+use std::mem::replace;
 use std::ptr::null_mut;
 
 /// A handle: what C passes to each call by its address. It holds an object, or nothing.
@@ -84,6 +85,29 @@ impl Handle {
         match self.into_loose() {
             None => None,
             Some(loose) => Some(loose.into_box()),
+        }
+    }
+
+    /// Puts the object into the handle, in the place of what that held, and into its box where it held something: so a
+    /// handle that is filled again and again takes memory for a box once.
+    ///
+    /// # Errors
+    /// `AllocError` where an allocation failed; the handle is as it was.
+    #[inline(always)]
+    pub(crate) fn put(&mut self, alloc: Global, object: Object) -> Result<(), AllocError>
+        ensures put { IfOk result (λ _. self.new.kept ≡ Some object) }
+        ensures stays { IfErr result (λ _. self.new.kept ≡ self.old.kept) }
+    {
+        match replace(self, Handle::none(alloc)).into_box() {
+            Some(mut held) => {
+                *held.as_mut() = object;
+                *self = Handle::of(held);
+                Ok(())
+            }
+            None => {
+                *self = Handle::holding(alloc, object)?;
+                Ok(())
+            }
         }
     }
 

@@ -46,24 +46,23 @@ pub extern "C" fn tulvorn_to_json(
 fn write_json(alloc: Global, ty: &Checked, value: &Value, out: &mut Handle) -> Fault
     ensures { WritesJson out.old.kept out.new.kept (typed (shape_of ty.now) (datum_of value.now)) result }
 {
-    match json_held(alloc, ty, value) {
-        Ok(held) => {
-            *out = held;
-            Fault::plain(DONE)
-        }
+    match put_json(alloc, ty, value, out) {
+        Ok(()) => Fault::plain(DONE),
         Err(fault) => Fault::of_json(&fault),
     }
 }
 
-/// A handle of the text.
-fn json_held(alloc: Global, ty: &Checked, value: &Value) -> Result<Handle, JsonFault>
+/// Puts the text into the handle.
+fn put_json(alloc: Global, ty: &Checked, value: &Value, out: &mut Handle) -> Result<(), JsonFault>
     ensures fits { IfOk result (λ _. FitsReceived (shape_of ty.now) (datum_of value.now)) }
-    ensures text { IfOk result (λ h. held_octets h.kept
+    ensures text { IfOk result (λ _. held_octets out.new.kept
         ≡ Some (compact_text (json_of (shape_of ty.now) (datum_of value.now)))) }
     ensures refused { IfErr result (λ why. Unwritten (shape_of ty.now) (datum_of value.now) why) }
+    ensures stays { IfErr result (λ _. out.new.kept ≡ out.old.kept) }
 {
     let text = json_text(alloc, ty, value)?;
-    Ok(Handle::holding(alloc, Object::Octets(text.into_bytes()))?)
+    out.put(alloc, Object::Octets(text.into_bytes()))?;
+    Ok(())
 }
 
 /// The text.
@@ -109,11 +108,8 @@ fn read_json(alloc: Global, ty: &Checked, text: &[u8], out: &mut Handle) -> Faul
     ensures { ReadsJson text.now out.old.kept out.new.kept (shape_of ty.now) result }
 {
     match Json::from_slice(alloc, text) {
-        Ok(json) => match shown(alloc, ty, &json) {
-            Ok(held) => {
-                *out = held;
-                Fault::plain(DONE)
-            }
+        Ok(json) => match put_shown(alloc, ty, &json, out) {
+            Ok(()) => Fault::plain(DONE),
             Err(fault) => Fault::of_json(&fault),
         },
         Err(fault) => {
@@ -126,12 +122,14 @@ fn read_json(alloc: Global, ty: &Checked, text: &[u8], out: &mut Handle) -> Faul
     }
 }
 
-/// A handle of the value that the JSON shows.
-fn shown(alloc: Global, ty: &Checked, json: &Json) -> Result<Handle, JsonFault>
-    ensures shown { IfOk result (λ h. HoldsShown (shape_of ty.now) (view json.now) h.kept) }
+/// Puts the value that the JSON shows, beside its type, into the handle.
+fn put_shown(alloc: Global, ty: &Checked, json: &Json, out: &mut Handle) -> Result<(), JsonFault>
+    ensures shown { IfOk result (λ _. HoldsShown (shape_of ty.now) (view json.now) out.new.kept) }
     ensures refused { IfErr result (λ why. Refused (shape_of ty.now) (view json.now) why) }
+    ensures stays { IfErr result (λ _. out.new.kept ≡ out.old.kept) }
 {
     let value = from_json(alloc, ty, json)?;
     let ty = ty.copy()?;
-    Ok(Handle::holding(alloc, Object::Value { ty, value })?)
+    out.put(alloc, Object::Value { ty, value })?;
+    Ok(())
 }

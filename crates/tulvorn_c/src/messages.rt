@@ -102,23 +102,27 @@ pub extern "C" fn tulvorn_decode(
 fn decode_by<R: Rules>(alloc: Global, ty: &Checked, octets: &[u8], out: &mut Handle) -> Fault
     ensures { Decodes octets.now out.old.kept out.new.kept R.ruling (shape_of ty.now) result }
 {
-    match decoded::<R>(alloc, ty, octets) {
-        Ok(held) => {
-            *out = held;
-            Fault::plain(DONE)
-        }
+    match put_decoded::<R>(alloc, ty, octets, out) {
+        Ok(()) => Fault::plain(DONE),
         Err(fault) => Fault::of_decode(fault),
     }
 }
 
-/// A handle of the value, beside its type.
-fn decoded<R: Rules>(alloc: Global, ty: &Checked, octets: &[u8]) -> Result<Handle, DecodeFault>
-    ensures decoded { IfOk result (λ h. HoldsDecoded R.ruling (shape_of ty.now) octets.now h.kept) }
+/// Puts the value, beside its type, into the handle.
+fn put_decoded<R: Rules>(
+    alloc: Global,
+    ty: &Checked,
+    octets: &[u8],
+    out: &mut Handle,
+) -> Result<(), DecodeFault>
+    ensures decoded { IfOk result (λ _. HoldsDecoded R.ruling (shape_of ty.now) octets.now out.new.kept) }
     ensures fault { IfErr result (λ why. Decoded R.ruling (Err why) (shape_of ty.now) octets.now) }
+    ensures stays { IfErr result (λ _. out.new.kept ≡ out.old.kept) }
 {
     let value = decode::<R>(alloc, ty, octets)?;
     let ty = ty.copy()?;
-    Ok(Handle::holding(alloc, Object::Value { ty, value })?)
+    out.put(alloc, Object::Value { ty, value })?;
+    Ok(())
 }
 
 /// The encoding of a value: see `tulvorn::encode`.
@@ -154,22 +158,27 @@ pub extern "C" fn tulvorn_encode(
 fn encode_by<R: Rules>(alloc: Global, ty: &Checked, value: &Value, out: &mut Handle) -> Fault
     ensures { Encodes out.old.kept out.new.kept R.ruling (typed (shape_of ty.now) (datum_of value.now)) result }
 {
-    match encoded::<R>(alloc, ty, value) {
-        Ok(held) => {
-            *out = held;
-            Fault::plain(DONE)
-        }
+    match put_encoded::<R>(alloc, ty, value, out) {
+        Ok(()) => Fault::plain(DONE),
         Err(fault) => Fault::of_encode(fault),
     }
 }
 
-/// A handle of the encoding.
-fn encoded<R: Rules>(alloc: Global, ty: &Checked, value: &Value) -> Result<Handle, EncodeFault>
-    ensures encoding { IfOk result (λ h. HoldsEncoding R.ruling (typed (shape_of ty.now) (datum_of value.now)) h.kept) }
+/// Puts the encoding into the handle.
+fn put_encoded<R: Rules>(
+    alloc: Global,
+    ty: &Checked,
+    value: &Value,
+    out: &mut Handle,
+) -> Result<(), EncodeFault>
+    ensures encoding { IfOk result (λ _.
+        HoldsEncoding R.ruling (typed (shape_of ty.now) (datum_of value.now)) out.new.kept) }
     ensures fault { IfErr result (λ why. NotEncoded R.ruling why (shape_of ty.now) (datum_of value.now)) }
+    ensures stays { IfErr result (λ _. out.new.kept ≡ out.old.kept) }
 {
     let octets = encode::<R>(alloc, ty, value)?;
-    Ok(Handle::holding(alloc, Object::Octets(octets))?)
+    out.put(alloc, Object::Octets(octets))?;
+    Ok(())
 }
 
 /// How many octets the encoding of a value has: see `tulvorn::encoded_len`. Takes no memory.
@@ -296,27 +305,27 @@ fn convert_by<A: Rules, B: Rules>(
 ) -> Fault
     ensures { ConvertsTo B.ruling octets.now out.old.kept out.new.kept A.ruling (shape_of ty.now) result }
 {
-    match converted::<A, B>(alloc, ty, octets) {
-        Ok(held) => {
-            *out = held;
-            Fault::plain(DONE)
-        }
+    match put_converted::<A, B>(alloc, ty, octets, out) {
+        Ok(()) => Fault::plain(DONE),
         Err(fault) => Fault::of_convert(fault),
     }
 }
 
-/// A handle of the octets by the rules B.
-fn converted<A: Rules, B: Rules>(
+/// Puts the octets by the rules B into the handle.
+fn put_converted<A: Rules, B: Rules>(
     alloc: Global,
     ty: &Checked,
     octets: &[u8],
-) -> Result<Handle, ConvertFault>
-    ensures converted { IfOk result (λ h. HoldsConverted A.ruling B.ruling (shape_of ty.now) octets.now h.kept) }
+    out: &mut Handle,
+) -> Result<(), ConvertFault>
+    ensures converted { IfOk result (λ _.
+        HoldsConverted A.ruling B.ruling (shape_of ty.now) octets.now out.new.kept) }
     ensures fault { IfErr result (λ why. Converted A.ruling B.ruling (Err why) (shape_of ty.now) octets.now) }
+    ensures stays { IfErr result (λ _. out.new.kept ≡ out.old.kept) }
 {
     let other = convert::<A, B>(alloc, ty, octets)?;
-    match Handle::holding(alloc, Object::Octets(other)) {
-        Ok(held) => Ok(held),
+    match out.put(alloc, Object::Octets(other)) {
+        Ok(()) => Ok(()),
         Err(_) => Err(ConvertFault::Read(DecodeFault::Memory)),
     }
 }

@@ -1,11 +1,15 @@
 //! Modules and their types.
-ghost use Rattle.std.specs.Prelude.{◌≡◌, IfOk, IfErr, Some};
+ghost use Rattle.std.specs.Prelude.{◌≡◌, ◌⊎◌, [], IfOk, IfErr, Some, string_bytes};
 ghost use Rattle.asn_values.specs.View.{shape_of};
 ghost use Rattle.asn_module.specs.ModuleView.{types_view};
 ghost use Rattle.tulvorn_c.specs.Answers.{
   Asked,
   ReadsModule,
   ReadsText,
+  TellsModule,
+  TellsText,
+  HoldsNoRefusal,
+  HoldsRefusal,
   FindsName,
   FindsType,
   SharesType,
@@ -20,7 +24,7 @@ use crate::handle::Handle;
 use crate::object::Object;
 use std::alloc::{AllocError, Global};
 use std::mem::replace;
-use tulvorn::{Checked, Module, ModuleFault, read};
+use tulvorn::{Checked, Module, ModuleFault, RefusedText, read, read_explained};
 
 /// Reads the text of a module: see `tulvorn::read`.
 #[unsafe(no_mangle)]
@@ -72,6 +76,73 @@ fn module_read(alloc: Global, text: &str) -> Result<Handle, ModuleFault>
     match Handle::holding(alloc, Object::Module(module)) {
         Ok(held) => Ok(held),
         Err(_) => Err(ModuleFault::Memory),
+    }
+}
+
+/// Puts into `words` why the text is no module, with the line and a mark where that shows; no octets where it is one: see
+/// `tulvorn::read_explained`.
+#[unsafe(no_mangle)]
+pub extern "C" fn tulvorn_explain_module(alloc: Global, text: &[u8], words: &mut Handle) -> u32
+    ensures { TellsModule text.now words.old.kept words.new.kept (plain result) }
+{
+    match std::str::from_utf8(text) {
+        Ok(text) => explain_text(alloc, text, words),
+        Err(_) => NOT_TEXT,
+    }
+}
+
+fn explain_text(alloc: Global, text: &str, out: &mut Handle) -> u32
+    ensures { TellsText text.now out.old.kept out.new.kept (plain result) }
+{
+    match text_explained(alloc, text) {
+        Ok(held) => {
+            *out = held;
+            DONE
+        }
+        Err(_) => NO_MEMORY,
+    }
+}
+
+/// A handle of why the text is no module.
+fn text_explained(alloc: Global, text: &str) -> Result<Handle, AllocError>
+    ensures { IfOk result (λ h. HoldsNoRefusal text.now h.kept ⊎ HoldsRefusal text.now h.kept) }
+{
+    let Err(refused) = read_explained(alloc, text) else {
+        return Handle::holding(alloc, Object::Octets(Vec::new(alloc)));
+    };
+    let words = refusal_words(alloc, refused)?;
+    Handle::holding(alloc, Object::Octets(words.into_bytes()))
+}
+
+/// The words of a refusal.
+///
+/// # Errors
+/// `AllocError` where an allocation failed, and for the fault that tells so.
+fn refusal_words(alloc: Global, refused: RefusedText) -> Result<String, AllocError>
+    ensures words { IfOk result (λ s. string_bytes s ≡ [] → ⊥) }
+    ensures told { IfOk result (λ _. refused.fault ≡ ModuleFault.Memory → ⊥) }
+{
+    let RefusedText { fault, words } = refused;
+    match fault {
+        ModuleFault::Character { .. }
+        | ModuleFault::Unexpected { .. }
+        | ModuleFault::Unknown { .. }
+        | ModuleFault::Cycle { .. }
+        | ModuleFault::Twice { .. }
+        | ModuleFault::BadType { .. }
+        | ModuleFault::OutOfProfile { .. } => some_words(alloc, words),
+        ModuleFault::Memory => Err(AllocError),
+    }
+}
+
+/// The words, or those of the code where there are none.
+fn some_words(alloc: Global, words: String) -> Result<String, AllocError>
+    ensures { IfOk result (λ s. string_bytes s ≡ [] → ⊥) }
+{
+    if words.is_empty() {
+        String::from_str(alloc, "no module")
+    } else {
+        Ok(words)
     }
 }
 

@@ -1,5 +1,5 @@
 //! Sessions: messages whose octets come in pieces.
-ghost use Rattle.std.specs.Prelude.{◌≡◌, ◌↔◌, ⊤, [], IfOk, IsTrue, IsSome, Some, None};
+ghost use Rattle.std.specs.Prelude.{◌≡◌, ◌↔◌, ⊤, [], IfOk, IfErr, IsTrue, IsSome, Some, None};
 ghost use Rattle.asn_values.specs.Shape.{Shape};
 ghost use Rattle.asn_values.specs.View.{shape_of, datum_of};
 ghost use Rattle.asn_view.specs.Typed.{typed};
@@ -175,9 +175,8 @@ fn feed_by<R: Rules>(
                 value: read,
                 used: taken,
             },
-        ) => match value_held(alloc, ty, read) {
-            Ok(held) => {
-                *value = held;
+        ) => match put_value(alloc, ty, read, value) {
+            Ok(()) => {
                 *used = taken;
                 Fault::plain(DONE)
             }
@@ -188,12 +187,13 @@ fn feed_by<R: Rules>(
     }
 }
 
-/// A handle of the value, beside its type.
-fn value_held(alloc: Global, ty: &Checked, value: Value) -> Result<Handle, AllocError>
-    ensures { IfOk result (λ h. held_value h.kept ≡ Some (typed (shape_of ty.now) (datum_of value))) }
+/// Puts the value, beside its type, into the handle.
+fn put_value(alloc: Global, ty: &Checked, value: Value, out: &mut Handle) -> Result<(), AllocError>
+    ensures put { IfOk result (λ _. held_value out.new.kept ≡ Some (typed (shape_of ty.now) (datum_of value))) }
+    ensures stays { IfErr result (λ _. out.new.kept ≡ out.old.kept) }
 {
     let ty = ty.copy()?;
-    Handle::holding(alloc, Object::Value { ty, value })
+    out.put(alloc, Object::Value { ty, value })
 }
 
 /// Ends a session, and lets go of it: see `tulvorn::Session::finish`. Takes no memory.

@@ -21,6 +21,7 @@ pub struct Fault {
 
 unsafe extern "C" {
     pub fn tulvorn_module(text: *const u8, len: usize, module: *mut Handle, fault: *mut Fault) -> u32;
+    pub fn tulvorn_explain_module(text: *const u8, len: usize, words: *mut Handle) -> u32;
     pub fn tulvorn_type(module: *mut Handle, name: *const u8, len: usize, ty: *mut Handle, fault: *mut Fault) -> u32;
     pub fn tulvorn_share(ty: *mut Handle, other: *mut Handle) -> u32;
     pub fn tulvorn_check(ty: *mut Handle, rules: u32, octets: *const u8, len: usize, fault: *mut Fault) -> u32;

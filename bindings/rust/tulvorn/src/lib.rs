@@ -11,7 +11,7 @@
 //! )?;
 //! let msg = module.ty("Msg")?;
 //! let value = msg.decode(Rules::Per, &[0x6b, 0x04])?;
-//! assert_eq!(value.at("id").as_i64(), Some(5));
+//! assert_eq!(value["id"].as_i64(), Some(5));
 //! assert_eq!(value.at("note").as_text().as_deref(), Some("A"));
 //! assert_eq!(value.encode(Rules::Oer)?, [0x40, 5, 1, b'A']);
 //! let fault = msg.check(Rules::Per, &[0xac]).unwrap_err();
@@ -22,14 +22,17 @@
 #![warn(missing_docs, clippy::pedantic)]
 
 mod ffi;
+mod inside;
 mod session;
 
+pub use inside::Inside;
 pub use session::{Fed, Session};
 
 use ffi::{Fault, Handle};
 use std::cell::UnsafeCell;
 use std::fmt;
 use std::ptr::null_mut;
+use std::rc::Rc;
 
 /// Encoding rules.
 #[derive(Clone, Copy, Debug, PartialEq, Eq, Hash)]
@@ -300,6 +303,25 @@ impl Module {
         Ok(Module(held))
     }
 
+    /// Why a text is no module, with the line and a mark where that shows; None where it is one.
+    ///
+    /// # Errors
+    /// `Memory`.
+    ///
+    /// ```
+    /// let text = "M DEFINITIONS AUTOMATIC TAGS ::= BEGIN T ::= U END";
+    /// let words = tulvorn::Module::explain(text)?.unwrap();
+    /// assert!(words.contains("line 1, column 46"), "{words}");
+    /// # Ok::<(), tulvorn::Error>(())
+    /// ```
+    pub fn explain(text: &str) -> Result<Option<String>, Error> {
+        let held = Held::nothing();
+        // SAFETY: as in `read`.
+        let code = unsafe { ffi::tulvorn_explain_module(text.as_ptr(), text.len(), held.get()) };
+        look(code, Fault { code, why: 0, at: 0 }, Rules::Per)?;
+        Ok(held.words())
+    }
+
     /// The type that the module assigns to a name. It outlives the module.
     ///
     /// # Errors
@@ -361,7 +383,7 @@ impl Type {
             )
         };
         look(code, fault, rules)?;
-        Ok(Value(held))
+        Ok(Value::of(held))
     }
 
     /// The octets by the other rules of the value whose encoding by these rules the octets are.
@@ -444,7 +466,7 @@ impl Type {
             )
         };
         look(code, fault, rules)?;
-        Ok(Newer { value: Value(value), skipped: fields.fields() })
+        Ok(Newer { value: Value::of(value), skipped: fields.fields() })
     }
 
     /// The value of the type that the JSON shows.
@@ -458,7 +480,7 @@ impl Type {
             ffi::tulvorn_from_json(self.0.get(), json.as_ptr(), json.len(), held.get(), &raw mut fault)
         };
         look(code, fault, Rules::Per)?;
-        Ok(Value(held))
+        Ok(Value::of(held))
     }
 }
 
@@ -480,9 +502,16 @@ pub struct Newer {
 }
 
 /// A value beside its type.
-pub struct Value(Held);
+pub struct Value(Rc<Held>, inside::Parts);
+
+// SAFETY: `Held` is `Send`, and what shares it are parts that the value keeps: no `Rc` of them leaves it.
+unsafe impl Send for Value {}
 
 impl Value {
+    fn of(held: Held) -> Value {
+        Value(Rc::new(held), inside::Parts::default())
+    }
+
     /// The encoding of the value.
     ///
     /// # Errors
@@ -544,14 +573,14 @@ impl Value {
     /// part, or it is of another kind.
     #[must_use]
     pub fn at<'a>(&'a self, path: &'a str) -> Part<'a> {
-        Part { value: self, path }
+        Part { held: &self.0, path }
     }
 }
 
 /// A part of a value.
 #[derive(Clone, Copy)]
 pub struct Part<'a> {
-    value: &'a Value,
+    held: &'a Held,
     path: &'a str,
 }
 
@@ -563,14 +592,14 @@ impl Part<'_> {
     fn told<T: Default>(self, call: Told<T>) -> Option<T> {
         let mut told = T::default();
         // SAFETY: the handle is the value's, and the path a text.
-        let code = unsafe { call(self.value.0.get(), self.path.as_ptr(), self.path.len(), &raw mut told) };
+        let code = unsafe { call(self.held.get(), self.path.as_ptr(), self.path.len(), &raw mut told) };
         (code == 0).then_some(told)
     }
 
     fn written(self, call: Written) -> Option<Vec<u8>> {
         Held::written(|into, room, needed| {
             // SAFETY: as in `told`, and the room is that of a vector.
-            unsafe { call(self.value.0.get(), self.path.as_ptr(), self.path.len(), into, room, needed) }
+            unsafe { call(self.held.get(), self.path.as_ptr(), self.path.len(), into, room, needed) }
         })
         .ok()
     }
@@ -629,7 +658,7 @@ impl Part<'_> {
                 // SAFETY: as in `told`.
                 let code = unsafe {
                     ffi::tulvorn_bit(
-                        self.value.0.get(),
+                        self.held.get(),
                         self.path.as_ptr(),
                         self.path.len(),
                         index,

@@ -78,7 +78,7 @@ impl Session {
             return Ok(Fed::More);
         }
         look(code, fault, self.rules)?;
-        Ok(Fed::Done { value: Value(value), used })
+        Ok(Fed::Done { value: Value::of(value), used })
     }
 
     /// Ends the session. Takes no memory.

@@ -33,6 +33,13 @@ fn tells_the_parts_of_a_value() {
     assert_eq!(value.at("word").as_text().as_deref(), Some("ä"));
     assert_eq!(value.at("word").as_i64(), None);
     assert_eq!(value.at("").kind(), Some(Kind::Sequence));
+    assert_eq!(value["list"][1]["id"].as_i64(), Some(0));
+    assert_eq!((value["list"].count(), value["list"][2].kind()), (Some(2), None));
+    assert_eq!(value["one"]["number"].part().as_i64(), Some(200));
+    let (key, word) = (&value["key"], &value["word"]);
+    assert_eq!((key.as_octets(), word.as_text().as_deref()), (Some(vec![0, 255]), Some("ä")));
+    assert_eq!(value["bits"].as_bits(), Some(vec![true, false, true]));
+    assert_eq!((value["colour"].name().as_deref(), value["list"][0]["ok"].as_bool()), (Some("green"), Some(true)));
     for rules in [Rules::Per, Rules::Oer] {
         let octets = value.encode(rules).unwrap();
         let mut into = vec![0; octets.len()];

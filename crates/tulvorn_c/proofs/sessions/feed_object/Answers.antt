@@ -1,5 +1,5 @@
 -- What the session of these rules answers is what the object does.
-use Rattle.std.proofs.Common.{◌≡◌, refl}
+use Rattle.std.proofs.Common.{refl}
 use Rattle.tulvorn_c.proofs.sessions.feed_object.Goals as goal
 
 pub returns-in-PerSession : goal.returns-in-PerSession

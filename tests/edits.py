@@ -35,8 +35,6 @@ take about as long as one another, by estimate (`TURNS`).
 """
 import functools
 import hashlib
-import importlib.machinery
-import importlib.util
 import os
 import re
 import shutil
@@ -48,6 +46,9 @@ import threading
 from concurrent.futures import ThreadPoolExecutor
 
 sys.dont_write_bytecode = True
+sys.path.insert(0, os.path.dirname(os.path.abspath(__file__)))
+from kit import check_words, ending, linked, new_room, rt, rtlib, seeded, share_work, tried_whole
+
 EDITS, TRIED, ALONE = "tests/edits", "tests/edits/tried", "tests/edits/alone.txt"
 # the crates whose edits are tried in the same run, in parts that by estimate take about as long; the others are the last part
 TURNS = (
@@ -60,18 +61,6 @@ LIMIT = 1200
 # whether nothing that earlier checks kept is taken
 ANEW = False
 MORE = "it changes more than bodies of functions"
-
-
-def kit_command():
-    """The kit's own command as a module: its copying of crates, its checks and its single edits are used here."""
-    loader = importlib.machinery.SourceFileLoader("rt_of_kit", os.path.realpath(shutil.which("rt")))
-    module = importlib.util.module_from_spec(importlib.util.spec_from_loader("rt_of_kit", loader))
-    loader.exec_module(module)
-    return module
-
-
-rt = kit_command()
-rtlib = rt.rtlib
 
 
 def text_of(file):
@@ -431,7 +420,7 @@ class Report:
 def checked(crate, folder, flags, kept):
     """Runs a check of the crate as it stands in the folder, over what is kept: what it says, nothing where it does not end
     within the limit of time, and the seconds of a processor that it took."""
-    words = [*rtlib.guarded(), rtlib.RATTLE, "check", *crate.words(["--jobs", "1", *flags], keeps=False), "--incremental", kept]
+    words = check_words(crate, flags, kept)
     how = {"cwd": folder, "stdin": subprocess.DEVNULL, "stdout": subprocess.PIPE, "stderr": subprocess.STDOUT}
     with subprocess.Popen(words, text=True, errors="replace", **how) as ran:
         late = threading.Timer(LIMIT, ran.kill)
@@ -448,7 +437,7 @@ def check(crate, edits, flags, seed, at_contracts, grows=False):
     that it took. A check that does not end within the limit says nothing. Where no function of the crate was proved for it,
     each other function is taken at its contract. A seed that grows has what this check proved from then on."""
     with tempfile.TemporaryDirectory(prefix=f"rt-edits-{os.getpid()}-") as room, LANES:
-        rt.linked(seed, f"{room}/kept")
+        linked(seed, f"{room}/kept")
         for part in rtlib.PARTS:
             if os.path.isdir(f"{crate.folder}/{part}"):
                 shutil.copytree(f"{crate.folder}/{part}", f"{room}/crate/{part}")
@@ -519,16 +508,12 @@ class Tries:
         """A folder with what a check of the crate as it stands proved, begun with what earlier checks kept here; or one with
         nothing where none did, and that functions are taken at their contracts then."""
         kept = f"{self.crate.folder}/out/incremental"
-        if not ANEW:
-            rt.adopt(self.crate, is_alone=False)
         if ANEW or not os.path.isdir(kept):
-            room = tempfile.mkdtemp(prefix=f"rt-edits-{os.getpid()}-")
-            rt.SEEDS.append(room)
-            os.mkdir(f"{room}/seed")
-            return f"{room}/seed", True
+            seed = f"{new_room()}/seed"
+            os.mkdir(seed)
+            return seed, True
         with LANES:
-            room = rt.seeded(self.crate, ["--jobs", "1"], kept)
-        self.whole_seed = room and f"{room}/seed"
+            self.whole_seed = seeded(self.crate, kept)
         return self.whole_seed, False
 
     def judged(self, edits, only, at_contracts, grows=False):
@@ -552,8 +537,7 @@ class Tries:
         with self.proving:
             if not self.whole_seed:
                 with LANES:
-                    room = rt.seeded(self.crate, ["--jobs", "1"])
-                self.whole_seed = room and f"{room}/seed"
+                    self.whole_seed = seeded(self.crate)
         return self.whole_seed
 
     def together(self, group, grows=False):
@@ -593,15 +577,14 @@ class Tries:
             self.bad[edit.label] = "the crate itself is not proved"
             return say(f"{edit.label}: NOT TRIED: the crate itself is not proved")
         with tempfile.TemporaryDirectory(prefix=f"rt-edits-{os.getpid()}-") as room, LANES:
-            rt.linked(seed, f"{room}/kept")
-            kind, text = rt.must_fail(self.crate, edit.file, ["--jobs", "1"], f"{room}/kept")
+            linked(seed, f"{room}/kept")
+            is_refused, is_weak, text = tried_whole(self.crate, edit.file, f"{room}/kept")
         self.checks += 1
-        text = text.split(": ", 1)[-1]
-        if kind in (rt.REFUSED, rt.AT_LIMIT) and "(only b" in text:
+        if is_refused and is_weak:
             self.refused[edit.label] = self.weak[edit.label] = text
             self.alone[edit.label] = "refused by a name that is gone, or by a limit of the prover: to be replaced by one that is refused by value"
             return say(f"{edit.label}: WEAK: {text}")
-        if kind == rt.REFUSED:
+        if is_refused:
             self.refused[edit.label] = text
             self.alone[edit.label] = reason
             return say(f"{edit.label}: refused alone: {text}")
@@ -764,7 +747,7 @@ def try_all(chosen, edits, is_beside=False):
     beside = Beside(chosen, number) if is_beside else None
     if not beside:
         # the libraries below, where they are not built yet, begun with what checks in other copies on this machine kept
-        rt.share_work(False)
+        share_work()
         for crate in chosen:
             lacking = lacks(crate)
             if lacking:
@@ -914,5 +897,5 @@ def main(words):
 
 
 if __name__ == "__main__":
-    with rt.ending():
+    with ending():
         sys.exit(main(sys.argv[1:]))

@@ -12,27 +12,15 @@ As many are checked side by side as there are processors and memory. What a chec
 machine. A line is printed for each crate as it ends; what its check said stands in crates/NAME/out/prove.log. This is not
 the gate: `.ci/run` proves all from nothing.
 """
-import importlib.machinery
-import importlib.util
 import os
-import shutil
 import sys
 import threading
 import time
 
 sys.dont_write_bytecode = True
+sys.path.insert(0, os.path.dirname(os.path.abspath(__file__)))
+from kit import rt, rtlib, share_work
 
-
-def kit_command():
-    """The kit's own command as a module: its crates, its checks and its order of them are used here."""
-    loader = importlib.machinery.SourceFileLoader("rt_of_kit", os.path.realpath(shutil.which("rt")))
-    module = importlib.util.module_from_spec(importlib.util.spec_from_loader("rt_of_kit", loader))
-    loader.exec_module(module)
-    return module
-
-
-rt = kit_command()
-rtlib = rt.rtlib
 PRINTING = threading.Lock()
 
 
@@ -113,9 +101,7 @@ def main(names):
         return 2
     # the stamps of crates are read by several threads
     rtlib.guarded()
-    if hasattr(rt, "share_work"):
-        # (other letters of the kit keep nothing for other copies of the repository)
-        rt.share_work(True)
+    share_work()
     every = crates = sorted(rtlib.crates_below(os.getcwd()), key=lambda it: len(it.below()))
     lacking = [it for it in names if it not in [crate.name for crate in crates]]
     if lacking:

@@ -12,7 +12,7 @@ import sys
 
 sys.dont_write_bytecode = True
 sys.path.insert(0, os.path.dirname(os.path.abspath(__file__)))
-from prove import rt, rtlib
+from kit import rtlib
 
 TICKS = os.sysconf("SC_CLK_TCK")
 

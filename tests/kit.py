@@ -24,6 +24,24 @@ rt = kit_command()
 rtlib = rt.rtlib
 
 
+def remember_stamps():
+    """Has the sum of a crate, which a check compares with that of what was kept, not made anew while no file of the crate
+    or below it changed: the kit makes it once for each way that leads to the crate."""
+    make, made = rtlib.Crate.stamp, {}
+
+    def stamp(crate):
+        files = [file for it in [crate, *crate.below()] for file in rtlib.files_of(it.folder)]
+        state = [(file, os.stat(file).st_mtime_ns) for file in files]
+        if made.get(crate.folder, (None, None))[0] != state:
+            made[crate.folder] = state, make(crate)
+        return made[crate.folder][1]
+
+    rtlib.Crate.stamp = stamp
+
+
+remember_stamps()
+
+
 def share_work():
     """Has a check take what checks in other copies of the repository on this machine kept, where the kit does so."""
     if hasattr(rt, "share_work"):

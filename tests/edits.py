@@ -168,6 +168,22 @@ def functions(path, text):
     return found
 
 
+@functools.lru_cache(maxsize=None)
+def types_of_several_modules(folder):
+    """The names that structs or enums of more than one module of a crate have."""
+    found = [name for file in rtlib.files_of(folder) if file.endswith(".rt")
+             for name in re.findall(r"\b(?:struct|enum)\s+(\w+)", blanked(text_of(file)))]
+    return {it for it in found if found.count(it) > 1}
+
+
+def functions_of(folder, path, text):
+    """The functions of a source file of a crate, as `functions` has them. The methods of a type whose name another module
+    has too are named with the module, by which the checker tells them apart."""
+    several = types_of_several_modules(folder)
+    with_module = lambda name: f"{module_of(path)}::{name}" if name.partition("::")[0] in several else name
+    return [(with_module(name), *rest) for name, *rest in functions(path, text)]
+
+
 # ---- edits
 
 
@@ -197,7 +213,7 @@ class Edit:
         """The function that the edit names, of a file that it changes."""
         names = {}
         for path in dict.fromkeys(it[0] for it in self.pairs):
-            names.update({name: cycle and f"{path}: {cycle}" for name, cycle, _, _ in functions(path, text_of(f"{self.crate.folder}/{path}"))})
+            names.update({name: cycle and f"{path}: {cycle}" for name, cycle, _, _ in functions_of(self.crate.folder, path, text_of(f"{self.crate.folder}/{path}"))})
         self.fault = None if self.by in names else f"no file that it changes has a function {self.by}"
         return [(self.by, names[self.by])] if self.by in names else []
 
@@ -213,7 +229,7 @@ class Edit:
                 text = it.read()
             # (what stands before the change may be the line of the function's name)
             at = text.find(old) + len(os.path.commonprefix([old, new]))
-            inside = [it for it in functions(path, text) if it[2] <= at < it[3]]
+            inside = [it for it in functions_of(self.crate.folder, path, text) if it[2] <= at < it[3]]
             if not inside:
                 return []
             name, cycle = inside[-1][:2]
@@ -276,6 +292,9 @@ def home_of(name, module, types):
     """The folder below proofs/ of a function that is in no cycle. The methods of a type are in the type's module, and those of
     a trait's impl where the impl stands."""
     owner, _, last = name.rpartition("::")
+    if owner.startswith(f"{module}::") and "::" not in owner[len(module) + 2 :]:
+        # (a method that is named with its module)
+        return name.replace("::", "/")
     inside = [module] if owner in ("", module) else [types.get(owner, module), owner]
     return "/".join(it.replace("::", "/") for it in [*inside, last] if it)
 
@@ -335,7 +354,7 @@ def take_others_at_contracts(crate, folder, edits):
     for file in [it for it in rtlib.files_of(folder) if it.endswith(".rt")]:
         path, text = os.path.relpath(file, folder), text_of(file)
         kept, at = [], 0
-        for name, cycle, body, end in sorted(functions(path, text), key=lambda it: it[2]):
+        for name, cycle, body, end in sorted(functions_of(crate.folder, path, text), key=lambda it: it[2]):
             is_const = text[: text.rfind(f"fn {name.rpartition('::')[2]}", 0, body)].endswith("const ")
             if body < at or name in own or cycle in cycles or is_const:
                 continue

@@ -42,7 +42,7 @@ fn after_part(tokens: &Tokens<'_>, at: usize, has_fields: bool) -> Result<usize,
     }
 }
 
-/// Whether a reserved word at `at` begins a type that goes on behind it.
+/// Whether a reserved word at `at` begins a type that goes on after it.
 fn is_type_of_words(tokens: &Tokens<'_>, at: usize) -> bool {
     let behind = next(at);
     match tokens.text(at) {

@@ -294,7 +294,7 @@ fn reach(ranges: &[Range], low: Option<i128>) -> Option<Option<i128>>
     }
 }
 
-/// A number from which on those up to a high bound are left, behind another high bound; `None` where none are.
+/// A number from which on those up to a high bound are left, after another high bound; `None` where none are.
 fn left_behind(end: Option<i128>, high: Option<i128>) -> Option<i128>
     ensures none { IfNone result ((z : ℤ) → IsBelow high z → IsBelow end z) }
     ensures some { IfSome result (λ n. (z : ℤ) → IsBelow end z ⊎ (n ≤ℤ z)) }

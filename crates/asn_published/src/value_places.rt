@@ -106,7 +106,7 @@ impl<'t> World<'t> {
         read_value(alloc, tokens, next(place.at), values)
     }
 
-    /// Reads the value that stands at a place or behind the item there, and gives the next place.
+    /// Reads the value that stands at a place or after the item there, and gives the next place.
     fn read_place(
         &self,
         alloc: Global,
@@ -234,7 +234,7 @@ impl<'t> World<'t> {
     }
 }
 
-/// Whether a value follows the `:` at `at`, which stands behind an identifier or a type, and behind no version.
+/// Whether a value follows the `:` at `at`, which stands after an identifier or a type, and after no version.
 fn follows_name(tokens: &Tokens<'_>, at: usize) -> bool {
     tokens.is(at, Sign::Colon) && !tokens.is_kind(before(at), Kind::Number)
 }

@@ -13,7 +13,7 @@ struct Open {
     has_names: bool,
 }
 
-/// Whether the value at `at` has a name, as in SEQUENCE: an identifier behind which a value begins.
+/// Whether the value at `at` has a name, as in SEQUENCE: an identifier after which a value begins.
 fn has_name(tokens: &Tokens<'_>, at: usize) -> bool {
     let second = next(at);
     tokens.is_identifier(at)

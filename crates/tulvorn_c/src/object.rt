@@ -1,7 +1,7 @@
 //! All that a handle can hold.
 use tulvorn::{Checked, Module, Oer, Per, Session, Skipped, Value};
 
-/// What a handle holds. What is large is behind a box, since each call that makes an object moves one.
+/// What a handle holds. What is large is in a box, since each call that makes an object moves one.
 #[derive(Drop)]
 pub enum Object {
     Module(Box<Module>),

@@ -308,7 +308,8 @@ fn left_behind(end: Option<i128>, high: Option<i128>) -> Option<i128>
     }
 }
 
-/// Whether each number from a low to a high bound is found to be one of the ranges', in so many steps.
+/// Whether each number from a low to a high bound is found to be in one of the ranges, of which at most `steps` are
+/// followed.
 fn fill(ranges: &[Range], low: Option<i128>, high: Option<i128>, steps: usize) -> bool
     ensures { IsTrue result → (z : ℤ) → IsAbove low z → IsBelow high z → InSet ranges.now z }
 {

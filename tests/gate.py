@@ -37,7 +37,9 @@ TOP = os.path.dirname(os.path.dirname(os.path.abspath(__file__)))
 sys.path.insert(0, f"{TOP}/tests")
 from room import files_of
 
-PROGRAMS = ("rows", "hostile", "texts", "types", "names", "published", "memory", "memory_texts")
+# the test programs that are parts of one (tests/programs/checks), and those that stand alone
+PARTS_OF_ONE = ("rows", "hostile", "texts", "types", "names", "published")
+ALONE = ("memory", "memory_texts")
 FIRST, TOOL = "crates/asn_first/out/asn_first", "crates/asn_tool/out/asn_tool"
 
 
@@ -151,17 +153,17 @@ def stored(name):
             yield files.get(given, os.devnull), it.read()
 
 
-def compare(part, room, name):
+def compare(part, words, name):
     """Runs a test program on each input, and compares what it writes with what is stored."""
     for given, wanted in stored(name):
-        compare_one(part, room, name, given, wanted)
+        compare_one(part, words, name, given, wanted)
 
 
-def compare_one(part, room, name, given, wanted):
-    """Runs a test program, and compares what it writes. It writes how many rows hold, or that each call does. Lines that begin
-    with `counted: ` are shown and not compared."""
+def compare_one(part, words, name, given, wanted):
+    """Runs a test program by its words, and compares what it writes. It writes how many rows hold, or that each call does.
+    Lines that begin with `counted: ` are shown and not compared."""
     with open(given, "rb") as it:
-        ran = subprocess.Popen([f"{room}/test_{name}"], stdin=it, stdout=subprocess.PIPE, stderr=subprocess.STDOUT)
+        ran = subprocess.Popen(words, stdin=it, stdout=subprocess.PIPE, stderr=subprocess.STDOUT)
     said = ran.stdout.read()
     part.seconds += ended(ran)
     rows = re.match(rb"(\d+) rows", wanted)
@@ -178,11 +180,12 @@ def compare_one(part, room, name, given, wanted):
 
 def tests_of_sources(part, room):
     """The tests that want nothing of the proofs: what they build is built without one, from the sources."""
-    words = [f"tests/programs/{it}" for it in ("outcomes", *PROGRAMS, "refused")]
+    words = [f"tests/programs/{it}" for it in ("outcomes", "checks", *ALONE)]
     step(part, ["tests/room.py", "build", room, *words])
-    for name in PROGRAMS:
-        if os.path.isfile(f"{room}/test_{name}"):
-            compare(part, room, name)
+    programs = {name: [f"{room}/test_checks", name] for name in PARTS_OF_ONE} | {name: [f"{room}/test_{name}"] for name in ALONE}
+    for name, words in programs.items():
+        if os.path.isfile(words[0]):
+            compare(part, words, name)
     step(part, ["tests/octet_counts.py"])
     step(part, ["tests/published_rows.py"])
     with tempfile.TemporaryDirectory(prefix="tulvorn-bindings-") as out:

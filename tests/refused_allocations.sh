@@ -120,7 +120,7 @@ calls=$(grep -c '^memory' "$work/told")
 
 # ---- the calls of the libraries on rows, by a program that says itself which allocation is refused
 
-LD_PRELOAD="$refuse" timeout 300 "$room/test_refused" <tests/programs/rows/stdin >"$work/out" 2>"$work/err" ||
+LD_PRELOAD="$refuse" timeout 300 "$room/test_checks" refused <tests/programs/rows/stdin >"$work/out" 2>"$work/err" ||
   fail "rows: $(cat "$work/out" "$work/err")"
 [ ! -s "$work/err" ] || fail "rows: standard error: $(head -c 200 "$work/err")"
 for name in Checked::new 'push and pad' encode decode check decode_into 'open and feed' messages 'explain, of octets' read_newer convert \

@@ -7,7 +7,9 @@ usage: tests/room.py lay ROOM PROGRAM..                lays out the room
 
 A program is a folder with source files NAME.rt.in and a file `uses`, which is its line for crates.txt: its name, and the
 libraries that it uses. A file `shared` names the files of other programs that are its own too, one a line, as they are
-found from its folder. A library of the kind, which programs share, stands before them. A room is kept, so that a later
+found from its folder. A file `parts` names folders like it, without `uses`, which are modules of the program: the module
+has the name of the folder, `main.rt.in` is its own file, and the others are modules inside it. A library of the kind,
+which programs share, stands before them. A room is kept, so that a later
 call does anew only what has changed. What is built without a proof is compiled from the sources of the crates, with the
 options of a build that is proved (unproved.py); the toolchain links a program with proved libraries only where the
 program itself is proved.
@@ -52,6 +54,17 @@ def files_of(program):
     return found | {os.path.basename(it): os.path.normpath(f"{program}/{it}") for it in shared}
 
 
+def sources_of(program):
+    """The paths of a program's source files by the names that they have in its crate, those of its parts too."""
+    found = {it.removesuffix(".in"): path for it, path in files_of(program).items() if it.endswith(".rt.in")}
+    parts = text_of(f"{program}/parts").split() if os.path.isfile(f"{program}/parts") else []
+    for part in [os.path.normpath(f"{program}/{it}") for it in parts]:
+        name = os.path.basename(part)
+        for file, path in sources_of(part).items():
+            found[f"{name}.rt" if file == "main.rt" else f"{name}/{file}"] = path
+    return found
+
+
 def lay(room, programs):
     """Lays out the crates of the repository, with what checks kept of them, and the programs beside them."""
     for name in os.listdir(f"{TOP}/crates"):
@@ -63,10 +76,9 @@ def lay(room, programs):
     for program in programs:
         source = f"{room}/crates/{crate_name(program)}/src"
         shutil.rmtree(source, ignore_errors=True)
-        os.makedirs(source)
-        for name, path in sorted(files_of(program).items()):
-            if name.endswith(".rt.in"):
-                shutil.copy2(path, f"{source}/{name.removesuffix('.in')}")
+        for name, path in sorted(sources_of(program).items()):
+            os.makedirs(os.path.dirname(f"{source}/{name}"), exist_ok=True)
+            shutil.copy2(path, f"{source}/{name}")
         lines.append(text_of(f"{program}/uses"))
     with open(f"{room}/crates.txt", "w", encoding="utf-8") as it:
         it.writelines(lines)

@@ -3,7 +3,7 @@
 #
 # usage: tests/refused_allocations.sh ROOM
 #
-# The programs `memory`, `memory_texts` and `refused` of tests/programs, which tests/room.py has built in ROOM, make the
+# The programs `memory`, `memory_texts` and `checks` of tests/programs, which tests/room.py has built in ROOM, make the
 # calls of the libraries. Of the first two one call has to answer `Memory`, and each other call, and that one when it is
 # made again, what it answers where no allocation is refused. `refused` makes the calls on the rows of
 # tests/programs/rows again and again, and says itself which allocation is refused. The runner asn_first and the program

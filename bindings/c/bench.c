@@ -1,6 +1,6 @@
 /* How long a call takes, over many of the same. bindings/bench.sh builds and runs it.
 
-   usage: bench MODULE TYPE OCTETS CALL TIMES     OCTETS are a message of PER in hexadecimal; CALL is handle, kind,
+   usage: bench MODULE TYPE OCTETS CALL TIMES     OCTETS are a message of PER in hexadecimal; CALL is handle, kind, share,
                                                   check, decode, convert, encode, len or into
    `handle` is a call that takes what a handle holds and puts it back, and does nothing else: what is in each call. The
    module is held while the calls are made, as by the program in Rattle that is measured beside: what it took of the heap,
@@ -28,6 +28,7 @@ static size_t size;
 
 LOOP(handle, size_t needed, tulvorn_copy(&octets, into, 0, &needed) == TULVORN_TOO_SHORT)
 LOOP(kind, uint32_t kind, tulvorn_kind(&value, NULL, 0, &kind) == TULVORN_DONE)
+LOOP(share, (void)0, tulvorn_share(&type, &out) == TULVORN_DONE)
 LOOP(check, tulvorn_fault fault, tulvorn_check(&type, TULVORN_PER, message, size, &fault) == TULVORN_DONE)
 LOOP(decode, tulvorn_fault fault, tulvorn_decode(&type, TULVORN_PER, message, size, &out, &fault) == TULVORN_DONE)
 LOOP(convert, tulvorn_fault fault, tulvorn_convert(&type, TULVORN_PER, message, size, &out, &fault) == TULVORN_DONE)
@@ -41,8 +42,9 @@ static const struct call {
     const char *name;
     int (*many)(long times);
 } calls[] = {
-    {"handle", many_handle},   {"kind", many_kind},     {"check", many_check}, {"decode", many_decode},
-    {"convert", many_convert}, {"encode", many_encode}, {"len", many_len},     {"into", many_into},
+    {"handle", many_handle},   {"kind", many_kind},     {"share", many_share},
+    {"check", many_check},     {"decode", many_decode}, {"convert", many_convert},
+    {"encode", many_encode},   {"len", many_len},       {"into", many_into},
 };
 
 /* The type, a value and its octets, from the words of the command. */

@@ -39,7 +39,7 @@ echo "| call | ns from C | in Rattle | more | instructions from C | in Rattle | 
 echo "|---|---|---|---|---|---|---|"
 while read -r name type times octets _; do
     case $name in small | cam | bsm | list) ;; *) continue ;; esac
-    for pair in handle: kind: check:check decode:decode convert:convert encode:encode len:len into:slice; do
+    for pair in handle: kind: share: check:check decode:decode convert:convert encode:encode len:len into:slice; do
         call=${pair%:*} row=${pair#*:}
         for _ in $(seq "$rounds"); do
             in_c "$times" >>"$made/c.$name.$call"

@@ -1,6 +1,6 @@
 /* How long a call takes, over many of the same. bindings/bench.sh builds and runs it.
 
-   usage: bench MODULE TYPE OCTETS CALL TIMES     OCTETS are a message of PER in hexadecimal; CALL is handle, kind,
+   usage: bench MODULE TYPE OCTETS CALL TIMES     OCTETS are a message of PER in hexadecimal; CALL is handle, kind, share,
                                                   check, decode, convert, encode, len or into
    `handle` is a call that takes what a handle holds and puts it back, and does nothing else: what is in each call. The
    module is held while the calls are made, as by the program in Rattle that is measured beside: what it took of the heap,
@@ -16,55 +16,35 @@ static tulvorn_handle module, type, value, octets, out;
 static uint8_t message[ROOM], into[ROOM];
 static size_t size;
 
-/* The calls: each has to answer DONE, or else as it says. */
-static int call_handle(void) {
-    size_t needed;
-    return tulvorn_copy(&octets, into, 0, &needed) == TULVORN_TOO_SHORT;
-}
+/* A loop of a call, as it stands in the program in Rattle; the call has to answer as it says each time. */
+#define LOOP(name, locals, right)             \
+    static int many_##name(long times) {      \
+        for (; times > 0; times--) {          \
+            locals;                           \
+            if (!(right)) return 0;           \
+        }                                     \
+        return 1;                             \
+    }
 
-static int call_kind(void) {
-    uint32_t kind;
-    return tulvorn_kind(&value, NULL, 0, &kind) == TULVORN_DONE;
-}
-
-static int call_check(void) {
-    tulvorn_fault fault;
-    return tulvorn_check(&type, TULVORN_PER, message, size, &fault) == TULVORN_DONE;
-}
-
-static int call_decode(void) {
-    tulvorn_fault fault;
-    return tulvorn_decode(&type, TULVORN_PER, message, size, &out, &fault) == TULVORN_DONE;
-}
-
-static int call_convert(void) {
-    tulvorn_fault fault;
-    return tulvorn_convert(&type, TULVORN_PER, message, size, &out, &fault) == TULVORN_DONE;
-}
-
-static int call_encode(void) {
-    tulvorn_fault fault;
-    return tulvorn_encode(&value, TULVORN_PER, &out, &fault) == TULVORN_DONE;
-}
-
-static int call_len(void) {
-    tulvorn_fault fault;
-    size_t encoded;
-    return tulvorn_encoded_len(&value, TULVORN_PER, &encoded, &fault) == TULVORN_DONE;
-}
-
-static int call_into(void) {
-    tulvorn_fault fault;
-    size_t encoded;
-    return tulvorn_encode_into(&value, TULVORN_PER, into, size, &encoded, &fault) == TULVORN_DONE;
-}
+LOOP(handle, size_t needed, tulvorn_copy(&octets, into, 0, &needed) == TULVORN_TOO_SHORT)
+LOOP(kind, uint32_t kind, tulvorn_kind(&value, NULL, 0, &kind) == TULVORN_DONE)
+LOOP(share, (void)0, tulvorn_share(&type, &out) == TULVORN_DONE)
+LOOP(check, tulvorn_fault fault, tulvorn_check(&type, TULVORN_PER, message, size, &fault) == TULVORN_DONE)
+LOOP(decode, tulvorn_fault fault, tulvorn_decode(&type, TULVORN_PER, message, size, &out, &fault) == TULVORN_DONE)
+LOOP(convert, tulvorn_fault fault, tulvorn_convert(&type, TULVORN_PER, message, size, &out, &fault) == TULVORN_DONE)
+LOOP(encode, tulvorn_fault fault, tulvorn_encode(&value, TULVORN_PER, &out, &fault) == TULVORN_DONE)
+LOOP(len, tulvorn_fault fault; size_t encoded,
+     tulvorn_encoded_len(&value, TULVORN_PER, &encoded, &fault) == TULVORN_DONE)
+LOOP(into, tulvorn_fault fault; size_t encoded,
+     tulvorn_encode_into(&value, TULVORN_PER, into, size, &encoded, &fault) == TULVORN_DONE)
 
 static const struct call {
     const char *name;
-    int (*call)(void);
+    int (*many)(long times);
 } calls[] = {
-    {"handle", call_handle},   {"kind", call_kind},     {"check", call_check}, {"decode", call_decode},
-    {"convert", call_convert}, {"encode", call_encode}, {"len", call_len},     {"into", call_into},
+    {"handle", many_handle},   {"kind", many_kind},     {"share", many_share},
+    {"check", many_check},     {"decode", many_decode}, {"convert", many_convert},
+    {"encode", many_encode},   {"len", many_len},       {"into", many_into},
 };
 
 /* The type, a value and its octets, from the words of the command. */
@@ -77,12 +57,10 @@ static int begin(char **words) {
 }
 
 /* Makes the call that often, and prints the nanoseconds of a processor that one takes. */
-static int measure(int (*call)(void), long times) {
+static int measure(int (*many)(long times), long times) {
     struct timespec start, end;
     clock_gettime(CLOCK_PROCESS_CPUTIME_ID, &start);
-    for (long at = 0; at < times; at++) {
-        if (!call()) return 1;
-    }
+    if (!many(times)) return 1;
     clock_gettime(CLOCK_PROCESS_CPUTIME_ID, &end);
     double taken = (double)(end.tv_sec - start.tv_sec) * 1e9 + (double)(end.tv_nsec - start.tv_nsec);
     if (times > 0) printf("%.1f\n", taken / (double)times);
@@ -93,7 +71,7 @@ int main(int count, char **words) {
     int status = 2;
     if (count != 6 || !begin(words + 1)) return 2;
     for (size_t at = 0; at < sizeof calls / sizeof *calls; at++) {
-        if (strcmp(calls[at].name, words[4]) == 0) status = measure(calls[at].call, strtol(words[5], NULL, 10));
+        if (strcmp(calls[at].name, words[4]) == 0) status = measure(calls[at].many, strtol(words[5], NULL, 10));
     }
     tulvorn_close(&type);
     tulvorn_close(&value);

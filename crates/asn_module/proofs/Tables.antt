@@ -1,15 +1,18 @@
 -- The types built so far: what is built stands, and where no more can be built, all that have a type are.
-use Rattle.std.proofs.Common.{◌≡◌, ◌+◌, ◌<◌, ℕ, zero, suc, Bool, true, false, cond, List, [], ◌∷◌, ◌++◌, get_or, set, take, length, Option, Some, None, refl, sym, ap, subst, arith}
+use Rattle.std.proofs.Common.{◌≡◌, ◌+◌, ◌<◌, ◌≤◌, ℕ, zero, suc, Bool, true, false, cond, List, [], ◌∷◌, ◌++◌, get_or, set, take, length, Option, Some, None, refl, sym, ap, subst, arith}
 use Rattle.std.specs.Prelude.{bytes_eq, string_bytes}
 use Rattle.std.specs.List.{AllByRecursion}
+use Rattle.asn_values.specs.View.{shape_of}
 use Rattle.asn_values.specs.Profile.{InProfile}
 use Rattle.asn_notation.specs.declared.notation.AssignmentNotation.{AssignmentNotation}
 use Rattle.asn_notation.specs.Tree.{Tree, Assignment, assignment_view, assignments_view}
 use Rattle.asn_module.specs.declared.known.Known.{Known}
 use Rattle.asn_module.specs.declared.known.Named.{Named}
 use Rattle.asn_module.specs.Meaning.{Meant, meant, assigned, stands_for}
-use Rattle.asn_module.specs.Known.{known_view, known_if, look, IsSound, AreSound, IsDone, AreDone, IsBuiltAt, Attempted, counted, unbuilt, typed_if, types_of}
-use Rattle.asn_module.specs.Accepted.{Typed, AreTypes}
+use Rattle.asn_module.specs.Known.{known_view, known_if, look, IsSound, AreSound, AreAllSound, IsDone, AreDone, IsBuiltAt, Attempted, counted, unbuilt, typed_if, types_of, size_if, built_size}
+use Rattle.asn_module.specs.Accepted.{Typed, AreTypes, StandsFor}
+use Rattle.asn_module.specs.Sizes.{type_size, types_size}
+use Rattle.asn_module.specs.Bounded.{AreLarger}
 use Rattle.asn_module.proofs.Meanings.{Extends, same_some, meant_more, stands_by, more_steps, one_meaning, step_at, nothing_yet}
 
 abbrev with_known : Named → Known → Named
@@ -201,3 +204,38 @@ names_next all (b ∷ rest) [] zero a n less ea sound e none = (subst (λ (z : A
 names_next all (b ∷ rest) (m ∷ ns) zero a n less ea sound e none = absurd sound
 names_next all (b ∷ rest) [] (suc i) a n less ea sound e none = absurd sound
 names_next all (b ∷ rest) (m ∷ ns) (suc i) a n less ea sound e none = (sound.0, sound.1, names_next all rest ns i a n (omega arith) ea sound.2 e none)
+
+-- ---- how large what is built is
+
+pub size_built : (ns : List Named) → types_size (types_of ns) ≡ built_size ns
+size_built [] = refl
+size_built (n ∷ ns) = by_known n.known (size_built ns)
+  where
+    by_known : (o : Option Known) → types_size (types_of ns) ≡ built_size ns → types_size (typed_if (string_bytes n.name) o (types_of ns)) ≡ size_if o + built_size ns
+    by_known None e = omega (arith, e)
+    by_known (Some k) e = rw e refl
+
+-- the type of a name is no smaller than what is built of it
+one_at_most : (all : List Assignment) (a : Assignment) (t : Typed) (o : Option Known) → IsSound all a.tree o → StandsFor all a t.shape → size_if o ≤ type_size t.shape
+one_at_most all a t None sound stands = omega arith
+one_at_most all a t (Some k) sound stands =
+    let (n, is) = sound.0 in
+    let same = one_meaning n stands.steps all a.tree (known_view k) (record { shape = t.shape; constraint = stands.constraint }) is stands.is in
+    let equal : type_size (shape_of k.ty) ≡ type_size t.shape = ap (λ (m : Meant). type_size m.shape) same in
+    omega (arith, equal)
+
+built_at_most : (all rest : List Assignment) (ns : List Named) (ts : List Typed) → AreSound all rest ns → AreTypes all rest ts → built_size ns ≤ types_size ts
+built_at_most all [] [] ts sound typed = omega arith
+built_at_most all [] (n ∷ ns) ts sound typed = absurd sound
+built_at_most all (a ∷ rest) [] ts sound typed = absurd sound
+built_at_most all (a ∷ rest) (n ∷ ns) [] sound typed = absurd typed
+built_at_most all (a ∷ rest) (n ∷ ns) (t ∷ ts) sound typed =
+    let here = one_at_most all a t n.known sound.1 typed.1 in
+    let others = built_at_most all rest ns ts sound.2 typed.3 in
+    omega (arith, here, others)
+
+-- where what is built is larger than a bound, whatever types the assignments have are
+pub larger_than : (all : List AssignmentNotation) (ns : List Named) (most : ℕ) → AreAllSound all ns → most < built_size ns → AreLarger all (Some most)
+larger_than all ns most sound more ts typed =
+    let few = built_at_most (assignments_view all) (assignments_view all) ns ts sound typed in
+    omega (arith, more, few)

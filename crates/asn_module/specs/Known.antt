@@ -1,5 +1,5 @@
 -- What the types that are built stand for, and what names stand for among them.
-use Rattle.std.specs.Prelude.{◌≡◌, ℕ, ⊤, Bool, true, false, List, [], ◌∷◌, get_or, set, suc, Option, Some, None, Result}
+use Rattle.std.specs.Prelude.{◌≡◌, ◌+◌, ℕ, ⊤, Bool, true, false, List, [], ◌∷◌, get_or, set, suc, Option, Some, None, Result}
 use Rattle.std.specs.Prelude.{MatchOption, MatchResult, string_bytes, bytes_eq, if◌then◌else◌}
 use Rattle.std.specs.Global.{Vec}
 use Rattle.asn_values.specs.declared.types.AsnType.{AsnType}
@@ -17,6 +17,7 @@ use Rattle.asn_notation.specs.declared.notation.AssignmentNotation.{AssignmentNo
 use Rattle.asn_notation.specs.Tree.{Tree, Assignment, assignments_view}
 use Rattle.asn_module.specs.Meaning.{Meant, meant, stands_for}
 use Rattle.asn_module.specs.Accepted.{Typed, AreTypes}
+use Rattle.asn_module.specs.Sizes.{type_size}
 
 abbrev pub built_view : Built → Meant
 built_view b = record { shape = shape_of b.ty; constraint = b.constraint }
@@ -107,6 +108,15 @@ counted (Some k) rest = rest
 abbrev pub unbuilt : List Named → ℕ
 unbuilt [] = 0
 unbuilt (n ∷ ns) = counted n.known (unbuilt ns)
+
+-- how large the types are that are built
+abbrev pub size_if : Option Known → ℕ
+size_if None = 0
+size_if (Some k) = type_size (shape_of k.ty)
+
+abbrev pub built_size : List Named → ℕ
+built_size [] = 0
+built_size (n ∷ ns) = size_if n.known + built_size ns
 
 -- the names with their types, of those that are built
 abbrev pub typed_if : List ℕ → Option Known → List Typed → List Typed

@@ -6,6 +6,8 @@ pub mod Known
 pub mod ModuleView
 pub mod Printing
 pub mod Counting
+pub mod Sizes
+pub mod Bounded
 pub mod Lookup
 pub mod TypeNames
 pub mod Uses

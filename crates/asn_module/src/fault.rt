@@ -55,11 +55,25 @@ impl From<Refusal> for ModuleFault {
     }
 }
 
+/// Why a text is not read within a bound.
+#[derive(Debug, Drop, Error)]
+pub enum BoundFault {
+    /// The module is larger than was allowed. `name` is that with whose type it is, in the order in which types are built:
+    /// each after those that it refers to.
+    #[error("larger than {most} at {name}")]
+    TooLarge { most: u32, name: String },
+    /// The text is no module, or an allocation failed.
+    #[error("{0}")]
+    Module(ModuleFault),
+}
+
 /// Why a type was not built.
 #[derive(Drop)]
 pub(crate) enum Refusal {
     /// An allocation failed.
     Memory,
+    /// With the type of this name, those that are built are larger together than was allowed.
+    TooLarge { name: String },
     /// It refers to a name that has no type, or none yet.
     Missing,
     /// A constraint may not stand on the type that a name stands for; `left` is the number of octets of

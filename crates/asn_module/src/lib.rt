@@ -1,6 +1,7 @@
 //! Modules of ASN.1 (X.680): reads the text of a module, and tells what type each of its names stands for.
 #![tactic(auto)]
 
+mod bounded;
 mod bounds;
 mod building;
 mod copying;
@@ -16,6 +17,7 @@ mod indexing;
 mod items;
 mod known;
 mod listing;
+mod measuring;
 mod module;
 mod places;
 mod print;
@@ -29,7 +31,7 @@ mod type_names;
 mod uses;
 
 pub use explaining::explain;
-pub use fault::ModuleFault;
+pub use fault::{BoundFault, ModuleFault};
 pub use module::Module;
-pub use reading::{RefusedText, read, read_explained};
+pub use reading::{RefusedText, read, read_explained, read_within};
 pub use type_names::TypeNames;

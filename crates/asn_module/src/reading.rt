@@ -1,15 +1,17 @@
 //! Reads a module.
 
-ghost use Rattle.std.specs.Prelude.{◌≡◌, ◌⊎◌, None, Some, ℕ, List, IfOk, IfErr, IfSome, MatchOption, MatchResult};
+ghost use Rattle.std.specs.Prelude.{◌≡◌, ◌≤◌, ◌⊎◌, None, Some, ℕ, List, IfOk, IfErr, IfSome, MatchOption, MatchResult};
 ghost use Rattle.asn_values.specs.View.{shape_of};
 ghost use Rattle.asn_module.specs.Accepted.{Accepted, ModuleTypes, type_in};
+ghost use Rattle.asn_module.specs.Sizes.{types_size, IsAtMost};
+ghost use Rattle.asn_module.specs.Bounded.{TellsBound, IsStopped};
 ghost use Rattle.asn_module.specs.Known.{SeenAs};
 ghost use Rattle.asn_module.specs.ModuleView.{types_view};
 ghost use Rattle.asn_module.specs.Uses.{TellsUses, says_used};
 
 use crate::diagnosis::fault_of;
 use crate::explaining::explain;
-use crate::fault::{ModuleFault, Refusal};
+use crate::fault::{BoundFault, ModuleFault, Refusal};
 use crate::graph::{order_of, references_of};
 use crate::indexing::indices_of;
 use crate::listing::assignments_listed;
@@ -41,11 +43,19 @@ fn building_order<'t>(
 }
 
 /// The module that a text is; None where it is none.
-pub(crate) fn module_of(alloc: Global, text: &str) -> Result<Option<Module>, Refusal>
+///
+/// # Errors
+/// `Memory` where an allocation failed; `TooLarge` where there is a bound, and the module is larger.
+pub(crate) fn module_of(
+    alloc: Global,
+    text: &str,
+    most: Option<u32>,
+) -> Result<Option<Module>, Refusal>
     ensures accepted { IfOk result (λ o. IfSome o (λ m. Accepted text.now (types_view m))) }
+    ensures within { IfOk result (λ o. IfSome o (λ m. IsAtMost most (types_size (types_view m).types))) }
     ensures refused { IfOk result (λ o. o ≡ None → (m : ModuleTypes) → Accepted text.now m → ⊥) }
     ensures uses { IfOk result (λ o. IfSome o (λ m. TellsUses text.now m)) }
-    ensures memory { IfErr result (λ e. e ≡ Refusal.Memory) }
+    ensures stopped { IfErr result (IsStopped text.now most) }
 {
     let notation = match read_notation(alloc, text, MAX_LEVELS) {
         Ok(notation) => notation,
@@ -56,7 +66,7 @@ pub(crate) fn module_of(alloc: Global, text: &str) -> Result<Option<Module>, Ref
         return Ok(None);
     };
     let order = building_order(alloc, text, &indices)?;
-    match types_of(alloc, &notation.assignments, &indices, &order)? {
+    match types_of(alloc, &notation.assignments, &indices, &order, most)? {
         Some(types) => {
             let name = String::from_str(alloc, notation.name)?;
             let indices = index_names(alloc, &types)?;
@@ -88,10 +98,33 @@ pub fn read(alloc: Global, text: &str) -> Result<Module, ModuleFault>
     ensures refused { IfErr result (λ e. (e ≡ ModuleFault.Memory → ⊥) → (m : ModuleTypes) →
         Accepted text.now m → ⊥) }
 {
-    match module_of(alloc, text) {
+    match module_of(alloc, text, None) {
         Ok(Some(module)) => Ok(module),
         Ok(None) => Err(fault_of(alloc, text)),
         Err(_) => Err(ModuleFault::Memory),
+    }
+}
+
+/// What `read` answers, of a module that is no larger than `most`: each type of its names and each type inside them counts
+/// one, each item of an ENUMERATED one, and each name in them its octets, with references followed. What is built is no
+/// larger, but for the type of one name, which has at most 10,000 types inside it: so a short text whose references multiply
+/// its types takes no more memory than that. A name that only refers to another takes none, and is counted as it is written
+/// out.
+///
+/// # Errors
+/// `TooLarge` where the module is larger; `Module` with what `read` tells. Of a text that is no module either may be told.
+pub fn read_within(alloc: Global, text: &str, most: u32) -> Result<Module, BoundFault>
+    ensures accepted { IfOk result (λ m. Accepted text.now (types_view m)) }
+    ensures within { IfOk result (λ m. types_size (types_view m).types ≤ most) }
+    ensures uses { IfOk result (λ m. TellsUses text.now m) }
+    // `TooLarge` is told of no module within the bound, and a text that is one is read, unless an allocation failed.
+    ensures refused { IfErr result (TellsBound text.now most) }
+{
+    match module_of(alloc, text, Some(most)) {
+        Ok(Some(it)) => Ok(it),
+        Ok(None) => Err(BoundFault::Module(fault_of(alloc, text))),
+        Err(Refusal::TooLarge { name }) => Err(BoundFault::TooLarge { most, name }),
+        Err(_) => Err(BoundFault::Module(ModuleFault::Memory)),
     }
 }
 

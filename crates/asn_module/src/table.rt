@@ -6,11 +6,14 @@ ghost use Rattle.asn_values.specs.View.{shape_of};
 ghost use Rattle.asn_values.specs.Profile.{InProfile};
 ghost use Rattle.asn_notation.specs.Tree.{tree_view, assignments_view};
 ghost use Rattle.asn_module.specs.Accepted.{Typed};
+ghost use Rattle.asn_module.specs.Sizes.{types_size, IsAtMost};
+ghost use Rattle.asn_module.specs.Bounded.{AreStopped};
 ghost use Rattle.asn_module.specs.Known as spec;
 ghost use Rattle.asn_module.specs.Lookup.{Finds, names_in, assigned_names};
 ghost use Rattle.asn_module.specs.Known.{look, IsKnownAs, IsKnownOf, IsKnownOrStuck, AreAllSound, AreAllDone, AreAllTypes};
 ghost use Rattle.asn_module.specs.Known.{Attempted, unbuilt};
 
+use crate::bounded::{is_past, size_with, stop_past};
 use crate::building::build;
 use crate::counting::count;
 use crate::fault::Refusal;
@@ -146,21 +149,28 @@ fn build_at(
     Ok(())
 }
 
-/// Builds the types at these indices where they can be built, one after the other.
+/// Builds the types at these indices where they can be built, one after the other, and stops where what is built is larger
+/// than the bound.
 fn build_in_order(
     alloc: Global,
     names: &mut Vec<Named>,
     indices: &HashMap<&str, usize>,
     assignments: &[AssignmentNotation],
     order: &[usize],
+    most: Option<u32>,
 ) -> Result<(), Refusal>
     requires finds { Finds indices.now (assigned_names (assignments_view assignments.now)) }
     requires sound { AreAllSound assignments.now names.old.items }
     ensures sound { OnOk result (AreAllSound assignments.now names.new.items) }
-    ensures memory { IfErr result (λ e. e ≡ Refusal.Memory) }
+    ensures stopped { IfErr result (AreStopped assignments.now most) }
 {
+    let mut size = 0;
     for index in order {
         build_at(alloc, names, indices, assignments, *index)?;
+        size = size_with(names, *index, size);
+        if is_past(size, most) {
+            stop_past(alloc, names, assignments, *index, most)?;
+        }
     }
     Ok(())
 }
@@ -233,22 +243,26 @@ fn names_of(alloc: Global, assignments: &[AssignmentNotation]) -> Result<Vec<Nam
 }
 
 /// The types of all assignments; None where one has none. They are first built in the order given, and then
-/// until nothing more can be built: with a good order nothing is left for that.
+/// until nothing more can be built: with a good order nothing is left for that. What is built is no larger than the bound, but
+/// for the type of one name.
 pub(crate) fn types_of(
     alloc: Global,
     assignments: &[AssignmentNotation],
     indices: &HashMap<&str, usize>,
     order: &[usize],
+    most: Option<u32>,
 ) -> Result<Option<Vec<Named>>, Refusal>
     requires { Finds indices.now (assigned_names (assignments_view assignments.now)) }
     ensures sound { IfOk result (λ o. IfSome o (λ v. AreAllTypes assignments.now (spec.types_of v.items))) }
     ensures built { IfOk result (λ o. IfSome o (λ v. unbuilt v.items ≡ 0)) }
+    ensures within { IfOk result (λ o. IfSome o (λ v. IsAtMost most (types_size (spec.types_of v.items)))) }
     ensures none { IfOk result (λ o. o ≡ None → (ts : List Typed) → AreAllTypes assignments.now ts → ⊥) }
-    ensures memory { IfErr result (λ e. e ≡ Refusal.Memory) }
+    ensures stopped { IfErr result (AreStopped assignments.now most) }
 {
     let mut names = names_of(alloc, assignments)?;
-    build_in_order(alloc, &mut names, indices, assignments, order)?;
+    build_in_order(alloc, &mut names, indices, assignments, order, most)?;
     build_all(alloc, &mut names, indices, assignments)?;
+    stop_past(alloc, &names, assignments, 0, most)?;
     if are_built(&names) {
         Ok(Some(names))
     } else {

@@ -34,6 +34,8 @@ pub use Rattle.asn_module.specs.Accepted
 pub use Rattle.asn_module.specs.ModuleView
 pub use Rattle.asn_module.specs.Known
 pub use Rattle.asn_module.specs.Uses
+pub use Rattle.asn_module.specs.Sizes as ModuleSizes
+pub use Rattle.asn_module.specs.Bounded
 pub use Rattle.asn_json.specs.Written
 pub use Rattle.asn_json.specs.Shown
 pub use Rattle.asn_json.specs.Errors

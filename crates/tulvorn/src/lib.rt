@@ -6,7 +6,9 @@ mod calls;
 pub use asn_convert::{ConvertFault, convert};
 pub use asn_explain::{Explanation, explain, explain_fault};
 pub use asn_json::{JsonFault, from_json, to_json};
-pub use asn_module::{Module, ModuleFault, RefusedText, TypeNames, read, read_explained};
+pub use asn_module::{
+    BoundFault, Module, ModuleFault, RefusedText, TypeNames, read, read_explained, read_within,
+};
 pub use asn_newer::{NewerFault, ReadNewer};
 pub use asn_oer::Oer;
 pub use asn_per::Per;

@@ -1,3 +1,4 @@
+mod Conversions
 mod HandleValues
 mod LooseValues
 mod ObjectSend

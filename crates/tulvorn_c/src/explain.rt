@@ -44,7 +44,7 @@ pub extern "C" fn tulvorn_explain(
         },
         _ => MISUSE,
     };
-    *ty = Handle::of(it);
+    ty.give_back(it);
     code
 }
 

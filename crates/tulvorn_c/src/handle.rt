@@ -5,6 +5,7 @@ ghost use Rattle.std.specs.Option.{MatchOption};
 ghost use Rattle.std.specs.declared.option.Option.{Option};
 ghost use Rattle.std.specs.declared.option.Option.TheVariants.{None, Some};
 ghost use Rattle.tulvorn_c.specs.declared.object.Object.{Object as TheObject};
+ghost use Rattle.tulvorn_c.specs.declared.object.Object.TheVariants.{Octets};
 ghost use Rattle.tulvorn_c.specs.contracts.object.Object.{the_row as object_row};
 ghost use Rattle.tulvorn_c.specs.Kept.{keeps};
 
@@ -12,7 +13,7 @@ use crate::loose::Loose;
 use crate::object::Object;
 use std::alloc::{AllocError, Global};
 use std::marker::{Model, Send};
-use std::mem::replace;
+use std::mem::{forget, replace};
 use std::ptr::null_mut;
 
 /// A handle: what C passes to each call by its address. It holds an object, or nothing.
@@ -88,6 +89,15 @@ impl Handle {
         }
     }
 
+    /// Puts a box into a handle that holds nothing since the box was taken out of it, so that it lets go of nothing.
+    #[inline(always)]
+    pub(crate) fn give_back(&mut self, value: Box<Object>)
+        requires { self.old.kept ≡ None }
+        ensures { self.new.kept ≡ Some value.value }
+    {
+        forget(replace(self, Handle::of(value)));
+    }
+
     /// Puts the object into the handle, in the place of what that held, and into its box where it held something: so a
     /// handle that is filled again and again takes memory for a box once.
     ///
@@ -101,11 +111,33 @@ impl Handle {
         match replace(self, Handle::none(alloc)).into_box() {
             Some(mut held) => {
                 *held.as_mut() = object;
-                *self = Handle::of(held);
+                self.give_back(held);
                 Ok(())
             }
             None => {
                 *self = Handle::holding(alloc, object)?;
+                Ok(())
+            }
+        }
+    }
+
+    /// The same of octets; where the handle held octets, these are let go of and no other part of the object is touched.
+    ///
+    /// # Errors
+    /// As `put`.
+    #[inline(always)]
+    pub(crate) fn put_octets(&mut self, alloc: Global, octets: Vec<u8>) -> Result<(), AllocError>
+        ensures put { IfOk result (λ _. self.new.kept ≡ Some (Octets octets)) }
+        ensures stays { IfErr result (λ _. self.new.kept ≡ self.old.kept) }
+    {
+        match replace(self, Handle::none(alloc)).into_box() {
+            Some(mut held) => {
+                become_octets(held.as_mut(), octets);
+                self.give_back(held);
+                Ok(())
+            }
+            None => {
+                *self = Handle::holding(alloc, Object::Octets(octets))?;
                 Ok(())
             }
         }
@@ -122,6 +154,18 @@ impl Handle {
             Ok(held) => Ok(Handle::of(held)),
             Err(_) => Err(AllocError),
         }
+    }
+}
+
+/// Puts octets in the place of an object.
+#[inline(always)]
+fn become_octets(object: &mut Object, octets: Vec<u8>)
+    ensures { object.new ≡ Octets octets }
+{
+    if let Object::Octets(held) = object {
+        *held = octets;
+    } else {
+        *object = Object::Octets(octets);
     }
 }
 

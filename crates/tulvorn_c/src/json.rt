@@ -39,7 +39,7 @@ pub extern "C" fn tulvorn_to_json(
         Object::Value { ty, value } => write_json(alloc, ty, value, json),
         _ => Fault::plain(MISUSE),
     };
-    *value = Handle::of(it);
+    value.give_back(it);
     fault.code
 }
 
@@ -61,7 +61,7 @@ fn put_json(alloc: Global, ty: &Checked, value: &Value, out: &mut Handle) -> Res
     ensures stays { IfErr result (λ _. out.new.kept ≡ out.old.kept) }
 {
     let text = json_text(alloc, ty, value)?;
-    out.put(alloc, Object::Octets(text.into_bytes()))?;
+    out.put_octets(alloc, text.into_bytes())?;
     Ok(())
 }
 
@@ -100,7 +100,7 @@ pub extern "C" fn tulvorn_from_json(
         Object::Checked(ty) => read_json(alloc, ty, json, value),
         _ => Fault::plain(MISUSE),
     };
-    *ty = Handle::of(it);
+    ty.give_back(it);
     fault.code
 }
 

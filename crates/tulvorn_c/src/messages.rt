@@ -1,9 +1,9 @@
 //! Messages: octets and values.
-ghost use Rattle.std.specs.Prelude.{◌≡◌, IfOk, IfErr, Ok, Err, ⊤};
+ghost use Rattle.std.specs.Prelude.{◌≡◌, ℕ, List, IfOk, IfErr, Ok, Err, None, Some, ⊤};
 ghost use Rattle.asn_values.specs.View.{shape_of, datum_of};
 ghost use Rattle.asn_view.specs.Typed.{typed};
 ghost use Rattle.asn_rules.specs.Codec.{Decoded, NotEncoded};
-ghost use Rattle.asn_convert.specs.Converted.{Converted};
+ghost use Rattle.asn_convert.specs.Converted.{Converted, Converts};
 ghost use Rattle.tulvorn_c.specs.Answers.{
   AskedBy,
   ruling_of,
@@ -16,9 +16,11 @@ ghost use Rattle.tulvorn_c.specs.Answers.{
   Measures,
   Places,
   ConvertsTo,
+  ConvertsExactly,
   HoldsConverted,
 };
-ghost use Rattle.tulvorn_c.specs.Held.{held_type, held_value};
+ghost use Rattle.tulvorn_c.specs.Faults.{misuse, no_memory, of_convert};
+ghost use Rattle.tulvorn_c.specs.Held.{held_type, held_value, held_octets};
 
 use crate::fault::{DONE, Fault, MISUSE};
 use crate::handle::Handle;
@@ -48,15 +50,29 @@ pub extern "C" fn tulvorn_check(
         return MISUSE;
     };
     *fault = match it.as_ref() {
-        Object::Checked(ty) => match rules {
-            0 => check_by::<Per>(alloc, ty, octets),
-            1 => check_by::<Oer>(alloc, ty, octets),
-            _ => Fault::plain(MISUSE),
+        Object::Checked(checked) => match rules {
+            0 => check_by::<Per>(alloc, checked, octets),
+            1 => check_by::<Oer>(alloc, checked, octets),
+            _ => return misused(ty, it, fault),
         },
-        _ => Fault::plain(MISUSE),
+        _ => return misused(ty, it, fault),
     };
-    *ty = Handle::of(it);
+    ty.give_back(it);
     fault.code
+}
+
+/// Gives the box back, and tells misuse. It is a function of its own, so that what each call does is not in its way.
+#[cold]
+#[inline(never)]
+fn misused(handle: &mut Handle, it: Box<Object>, fault: &mut Fault) -> u32
+    requires { handle.old.kept ≡ None }
+    ensures kept { handle.new.kept ≡ Some it.value }
+    ensures told { fault.new ≡ misuse }
+    ensures code { result ≡ 2 }
+{
+    handle.give_back(it);
+    *fault = Fault::plain(MISUSE);
+    MISUSE
 }
 
 fn check_by<R: Rules>(alloc: Global, ty: &Checked, octets: &[u8]) -> Fault
@@ -95,7 +111,7 @@ pub extern "C" fn tulvorn_decode(
         },
         _ => Fault::plain(MISUSE),
     };
-    *ty = Handle::of(it);
+    ty.give_back(it);
     fault.code
 }
 
@@ -151,7 +167,7 @@ pub extern "C" fn tulvorn_encode(
         },
         _ => Fault::plain(MISUSE),
     };
-    *value = Handle::of(it);
+    value.give_back(it);
     fault.code
 }
 
@@ -177,7 +193,7 @@ fn put_encoded<R: Rules>(
     ensures stays { IfErr result (λ _. out.new.kept ≡ out.old.kept) }
 {
     let octets = encode::<R>(alloc, ty, value)?;
-    out.put(alloc, Object::Octets(octets))?;
+    out.put_octets(alloc, octets)?;
     Ok(())
 }
 
@@ -207,7 +223,7 @@ pub extern "C" fn tulvorn_encoded_len(
         },
         _ => Fault::plain(MISUSE),
     };
-    *value = Handle::of(it);
+    value.give_back(it);
     fault.code
 }
 
@@ -250,7 +266,7 @@ pub extern "C" fn tulvorn_encode_into(
         },
         _ => Fault::plain(MISUSE),
     };
-    *value = Handle::of(it);
+    value.give_back(it);
     fault.code
 }
 
@@ -279,6 +295,8 @@ pub extern "C" fn tulvorn_convert(
     ensures kept { ty.new.kept ≡ ty.old.kept }
     ensures told { AskedBy (held_type ty.old.kept) (ruling_of rules) (other.new.kept ≡ other.old.kept)
         (ConvertsTo (other_ruling_of rules) octets.now other.old.kept other.new.kept) fault.new }
+    ensures exact { AskedBy (held_type ty.old.kept) (ruling_of rules) ⊤
+        (ConvertsExactly (other_ruling_of rules) octets.now other.new.kept) fault.new }
     ensures code { result ≡ fault.new.code }
 {
     let Some(it) = replace(ty, Handle::none(alloc)).into_box() else {
@@ -293,7 +311,7 @@ pub extern "C" fn tulvorn_convert(
         },
         _ => Fault::plain(MISUSE),
     };
-    *ty = Handle::of(it);
+    ty.give_back(it);
     fault.code
 }
 
@@ -303,7 +321,8 @@ fn convert_by<A: Rules, B: Rules>(
     octets: &[u8],
     out: &mut Handle,
 ) -> Fault
-    ensures { ConvertsTo B.ruling octets.now out.old.kept out.new.kept A.ruling (shape_of ty.now) result }
+    ensures told { ConvertsTo B.ruling octets.now out.old.kept out.new.kept A.ruling (shape_of ty.now) result }
+    ensures exact { ConvertsExactly B.ruling octets.now out.new.kept A.ruling (shape_of ty.now) result }
 {
     match put_converted::<A, B>(alloc, ty, octets, out) {
         Ok(()) => Fault::plain(DONE),
@@ -320,11 +339,15 @@ fn put_converted<A: Rules, B: Rules>(
 ) -> Result<(), ConvertFault>
     ensures converted { IfOk result (λ _.
         HoldsConverted A.ruling B.ruling (shape_of ty.now) octets.now out.new.kept) }
+    ensures exact { IfOk result (λ _. (p : List ℕ) → Converts A.ruling B.ruling (shape_of ty.now) octets.now p
+        → held_octets out.new.kept ≡ Some p) }
     ensures fault { IfErr result (λ why. Converted A.ruling B.ruling (Err why) (shape_of ty.now) octets.now) }
+    ensures memory { IfErr result (λ why. (p : List ℕ) → Converts A.ruling B.ruling (shape_of ty.now) octets.now p
+        → of_convert why ≡ no_memory) }
     ensures stays { IfErr result (λ _. out.new.kept ≡ out.old.kept) }
 {
     let other = convert::<A, B>(alloc, ty, octets)?;
-    match out.put(alloc, Object::Octets(other)) {
+    match out.put_octets(alloc, other) {
         Ok(()) => Ok(()),
         Err(_) => Err(ConvertFault::Read(DecodeFault::Memory)),
     }

@@ -44,7 +44,7 @@ pub extern "C" fn tulvorn_misfit(
         Object::Checked(ty) => misfit_in(alloc, ty, value, words),
         _ => MISUSE,
     };
-    *ty = Handle::of(it);
+    ty.give_back(it);
     code
 }
 
@@ -61,7 +61,7 @@ fn misfit_in(alloc: Global, ty: &Checked, value: &mut Handle, words: &mut Handle
         Object::Value { ty: _, value } => misfit_of(alloc, ty, value, words),
         _ => MISUSE,
     };
-    *value = Handle::of(it);
+    value.give_back(it);
     code
 }
 
@@ -123,7 +123,7 @@ pub extern "C" fn tulvorn_explain_json(
         Object::Checked(ty) => explain_json(alloc, ty, json, words),
         _ => MISUSE,
     };
-    *ty = Handle::of(it);
+    ty.give_back(it);
     code
 }
 

@@ -168,7 +168,7 @@ pub extern "C" fn tulvorn_type(
         Object::Module(module) => put_type_of(alloc, module.as_ref(), name, ty),
         _ => Fault::plain(MISUSE),
     };
-    *held = Handle::of(it);
+    held.give_back(it);
     fault.code
 }
 
@@ -226,6 +226,6 @@ pub extern "C" fn tulvorn_share(alloc: Global, ty: &mut Handle, other: &mut Hand
         },
         _ => MISUSE,
     };
-    *ty = Handle::of(it);
+    ty.give_back(it);
     code
 }

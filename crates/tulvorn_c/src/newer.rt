@@ -50,7 +50,7 @@ pub extern "C" fn tulvorn_read_newer(
         },
         _ => Fault::plain(MISUSE),
     };
-    *ty = Handle::of(it);
+    ty.give_back(it);
     fault.code
 }
 
@@ -130,7 +130,7 @@ pub extern "C" fn tulvorn_skipped_count(
         }
         _ => MISUSE,
     };
-    *skipped = Handle::of(it);
+    skipped.give_back(it);
     code
 }
 
@@ -157,7 +157,7 @@ pub extern "C" fn tulvorn_skipped(
         Object::Skipped(fields) => field_at(fields.as_slice(), index, place, into, needed),
         _ => MISUSE,
     };
-    *skipped = Handle::of(it);
+    skipped.give_back(it);
     code
 }
 

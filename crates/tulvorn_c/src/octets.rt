@@ -30,7 +30,7 @@ pub extern "C" fn tulvorn_copy(
         Object::Octets(octets) => copy(octets.as_slice(), into, needed),
         _ => MISUSE,
     };
-    *octets = Handle::of(it);
+    octets.give_back(it);
     code
 }
 

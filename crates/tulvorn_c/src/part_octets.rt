@@ -37,7 +37,7 @@ pub extern "C" fn tulvorn_octets(
         Object::Value { ty, value } => octets_at(ty, value, path, into, needed),
         _ => MISUSE,
     };
-    *value = Handle::of(it);
+    value.give_back(it);
     code
 }
 
@@ -81,7 +81,7 @@ pub extern "C" fn tulvorn_text(
         Object::Value { ty, value } => text_at(ty, value, path, into, needed),
         _ => MISUSE,
     };
-    *value = Handle::of(it);
+    value.give_back(it);
     code
 }
 
@@ -125,7 +125,7 @@ pub extern "C" fn tulvorn_name(
         Object::Value { ty, value } => name_at(ty, value, path, into, needed),
         _ => MISUSE,
     };
-    *value = Handle::of(it);
+    value.give_back(it);
     code
 }
 

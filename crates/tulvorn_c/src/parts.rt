@@ -60,7 +60,7 @@ pub extern "C" fn tulvorn_kind(
         Object::Value { ty, value } => kind_at(ty, value, path, kind),
         _ => MISUSE,
     };
-    *value = Handle::of(it);
+    value.give_back(it);
     code
 }
 
@@ -118,7 +118,7 @@ pub extern "C" fn tulvorn_boolean(
         Object::Value { ty, value } => boolean_at(ty, value, path, truth),
         _ => MISUSE,
     };
-    *value = Handle::of(it);
+    value.give_back(it);
     code
 }
 
@@ -167,7 +167,7 @@ pub extern "C" fn tulvorn_integer(
         Object::Value { ty, value } => integer_at(ty, value, path, number),
         _ => MISUSE,
     };
-    *value = Handle::of(it);
+    value.give_back(it);
     code
 }
 
@@ -215,7 +215,7 @@ pub extern "C" fn tulvorn_count(
         Object::Value { ty, value } => count_at(ty, value, path, count),
         _ => MISUSE,
     };
-    *value = Handle::of(it);
+    value.give_back(it);
     code
 }
 
@@ -256,7 +256,7 @@ pub extern "C" fn tulvorn_bit(
         Object::Value { ty, value } => bit_at(ty, value, path, index, bit),
         _ => MISUSE,
     };
-    *value = Handle::of(it);
+    value.give_back(it);
     code
 }
 

@@ -50,7 +50,7 @@ pub extern "C" fn tulvorn_open(
         },
         _ => MISUSE,
     };
-    *ty = Handle::of(it);
+    ty.give_back(it);
     code
 }
 
@@ -130,7 +130,7 @@ pub extern "C" fn tulvorn_feed(
         return MISUSE;
     };
     *fault = feed_object(alloc, it.as_mut(), piece, value, used);
-    *session = Handle::of(it);
+    session.give_back(it);
     fault.code
 }
 
@@ -208,7 +208,7 @@ pub extern "C" fn tulvorn_finish(alloc: Global, session: &mut Handle, fault: &mu
         return MISUSE;
     };
     if !is_session(it.as_ref()) {
-        *session = Handle::of(it);
+        session.give_back(it);
         *fault = Fault::plain(MISUSE);
         return MISUSE;
     }

@@ -1,0 +1,6 @@
+pub mod Building
+pub mod Entries
+pub mod Growing
+pub mod LeafTypes
+pub mod Messages
+pub mod NodeKinds

@@ -1,0 +1,8 @@
+use Rattle.std.proofs.Common.{map, take}
+use Rattle.asn_values.specs.View.{part_of_field}
+use Rattle.asn_plan.proofs.Growing.{PlannedUpTo}
+use Rattle.asn_plan.proofs.of.+plan.Given as goal
+
+abbrev pub invariant-components_of-loop-field : goal.invariant-components_of-loop-field
+invariant-components_of-loop-field l =
+    PlannedUpTo l.fn.nodes.items (map part_of_field (take l.field-index l.fields)) l.nodes.items l.parts.items

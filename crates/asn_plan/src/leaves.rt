@@ -1,0 +1,47 @@
+//! What the rules read by themselves, for one node of a plan.
+ghost use Rattle.std.specs.Prelude.{◌≡◌, IfSome, IsSome};
+ghost use Rattle.asn_walk.specs.Reading.{ReadsValue, ReadsOther};
+
+use crate::plan::{Leaf, WithDefault};
+use asn_bits::BitCursor;
+use asn_values::Value;
+use asn_walk::ReadLeaves;
+use std::alloc::Global;
+
+/// Reads a value of the type. `None` where the units begin with none, where they are too few or memory is wanting.
+#[inline(always)]
+pub(crate) fn read_leaf<R: ReadLeaves>(
+    alloc: Global,
+    leaf: &Leaf,
+    units: &mut BitCursor<'_>,
+) -> Option<Value>
+    requires at_unit { R.rules.at_unit units.old }
+    ensures at_unit { IsSome result → R.rules.at_unit units.new }
+    ensures some { IfSome result (λ v. ReadsValue R.rules leaf.now.ty v units.old units.new) }
+{
+    if let Some(value) = R::try_simple(alloc, &leaf.ty, units) {
+        return Some(value);
+    }
+    let Ok(value) = R::read_simple(alloc, &leaf.ty, units) else {
+        return None;
+    };
+    Some(value)
+}
+
+/// Reads a value of the type of a component that is present though it has this DEFAULT, which is then another value.
+/// `None` where the units begin with none, or are too few.
+#[inline(always)]
+pub(crate) fn read_other<R: ReadLeaves>(
+    with_default: &WithDefault,
+    units: &mut BitCursor<'_>,
+) -> Option<Value>
+    requires at_unit { R.rules.at_unit units.old }
+    ensures at_unit { IsSome result → R.rules.at_unit units.new }
+    ensures some { IfSome result (λ v.
+        ReadsOther R.rules with_default.now.ty with_default.now.default v units.old units.new) }
+{
+    let Ok(value) = R::read_other(&with_default.ty, &with_default.default, units) else {
+        return None;
+    };
+    Some(value)
+}

@@ -1,0 +1,19 @@
+//! A plan of a type: what its values' spelling is made of, worked out once, and the walk of the plan alone.
+#![tactic(auto)]
+
+mod build;
+mod components;
+mod copies;
+mod leaves;
+mod message;
+mod of;
+mod plan;
+mod planned;
+mod walk;
+
+pub use build::{Build, Nothing, Values};
+pub use message::build_octets;
+pub use of::plan_of;
+pub use plan::{Between, ComponentRows, Kind, Leaf, Node, Plan, Presence, WithDefault};
+pub use planned::Planned;
+pub use walk::build_at;

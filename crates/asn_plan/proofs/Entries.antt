@@ -18,13 +18,13 @@ use Rattle.asn_plan.specs.declared.plan.WithDefault.{WithDefault}
 use Rattle.asn_plan.specs.Plans.{IsPlan, BuildsEntry}
 
 -- a component that is spelt, and those after it
-before_spells : {R : Fielding} {L : Datum → List Chunk → Type 0} {M : List (Option Datum) → List Chunk → Type 0}
+pub before_spells : {R : Fielding} {L : Datum → List Chunk → Type 0} {M : List (Option Datum) → List Chunk → Type 0}
     {d : Datum} {gs : List (Option Datum)} {vs r ws : List ℕ} → Spells R L d vs r → Spells R M gs r ws
     → Spells R (Before L M) (Some d ∷ gs) vs ws
 before_spells h k = map_spells {f = prepended} (then_spells (map_spells {f = Some} h) k)
 
 -- the presence bits that are left begin with this one
-bits_from : (left after bitmap bit : ℕ) → after + 1 ≡ left → bit ≡ bitmap / 2 ^ after % 2
+pub bits_from : (left after bitmap bit : ℕ) → after + 1 ≡ left → bit ≡ bitmap / 2 ^ after % 2
     → bits left bitmap ≡ bit ∷ bits after bitmap
 bits_from left after bitmap bit d b =
     let l : left ≡ suc after = omega (arith, d) in

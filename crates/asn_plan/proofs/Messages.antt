@@ -8,13 +8,18 @@ use Rattle.asn_values.specs.Shape.{Shape}
 use Rattle.asn_values.specs.View.{datum_of}
 use Rattle.asn_values.specs.declared.value.Value.{Value}
 use Rattle.asn_rules.specs.Answer.{Ruling, IsEncoding, max_octets}
-use Rattle.asn_rules.specs.Chunks.{Chunk, flat}
+use Rattle.asn_rules.specs.Chunks.{Chunk, open_field, flat}
+use Rattle.asn_rules.specs.Forks.{Same}
+use Rattle.asn_rules.specs.Frames.{Frame}
 use Rattle.asn_rules.specs.Codec.{Decoded}
 use Rattle.asn_rules.specs.Languages.{Spells}
 use Rattle.asn_rules.specs.Listed.{Spelt}
 use Rattle.asn_rules.specs.Padding.{Fixed}
 use Rattle.asn_rules.specs.Reading.{Wholes}
-use Rattle.asn_walk.specs.Coding.{Coding}
+use Rattle.asn_rules.specs.Laws.{AreOctets}
+use Rattle.asn_rules.specs.Live.{Fielding}
+use Rattle.asn_rules.proofs.Sealed.Fields.{field_spells}
+use Rattle.asn_walk.specs.Coding.{Coding, OpenOf}
 use Rattle.asn_walk.specs.Laws.{Laws}
 use Rattle.asn_walk.proofs.OpenRead.{fill_leads, length_none}
 
@@ -34,3 +39,12 @@ pub decoded : (r s : Ruling) → r ≡ s → (t : Shape) (v : Value) (o : List �
 decoded r s e t v o within d same h =
     let whole : IsEncoding s t (datum_of v) (take (length o) o) = rw (take_all (length o) o (omega arith), same, ← e) h in
     (within, (omega arith, whole))
+
+-- an open type field that holds the octets
+same_frame : (R : Fielding) → Same (Frame R open_field) (Frame R open_field)
+same_frame R = record { to = λ v cs h. h; from = λ v cs h. h }
+
+pub field_read : (c : Coding) (t : Shape) (os us vs : List ℕ) (d : Datum)
+    → Spells c.ruling.fielding (Frame c.ruling.fielding open_field) os us vs → AreOctets os → IsEncoding c.ruling t d os
+    → Spells c.ruling.fielding (OpenOf c t) d us vs
+field_read c t os us vs d h octets e = field_spells (same_frame c.ruling.fielding) h (record { octets = octets; encoding = e })

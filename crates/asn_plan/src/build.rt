@@ -1,6 +1,6 @@
 //! What the walk of a plan builds of the values that it reads: nothing, where it only checks, or values.
-ghost use Rattle.std.specs.Prelude.{◌≡◌, ◌++◌, ◌∷◌, [], List, Option, Some, None, IfSome, IsSome, ⊤};
-ghost use Rattle.asn_values.specs.Datum.{Datum, number, components, components_of};
+ghost use Rattle.std.specs.Prelude.{◌≡◌, ◌<◌, ◌^◌, ◌++◌, ◌∷◌, [], map, List, Option, Some, None, IfSome, IsSome, ⊤};
+ghost use Rattle.asn_values.specs.Datum.{Datum, number, components, components_of, elements, elements_of, alternative};
 ghost use Rattle.asn_values.specs.View.{datum_of, entries_seen};
 ghost use Rattle.asn_walk.specs.Integers.{IsOfProfile};
 
@@ -15,9 +15,14 @@ pub trait Build {
     /// What is built of the entries of a SEQUENCE, up to some component.
     type Entries: Drop;
 
+    /// What is built of the elements of a SEQUENCE OF, up to some element.
+    type Elements: Drop;
+
     ghost built: { Self.Part → Datum → Type 0 };
 
     ghost listed: { Self.Entries → List (Option Datum) → Type 0 };
+
+    ghost rowed: { Self.Elements → List Datum → Type 0 };
 
     /// Of an INTEGER.
     fn number(integer: i128) -> Self::Part
@@ -44,6 +49,24 @@ pub trait Build {
     /// Of a SEQUENCE.
     fn sequence(entries: Self::Entries) -> Self::Part
         ensures { (es : List (Option Datum)) → listed entries es → built result (components (components_of es)) };
+
+    /// Of no elements.
+    fn elements(alloc: Global) -> Self::Elements
+        ensures { rowed result [] };
+
+    /// Adds an element.
+    fn element(row: &mut Self::Elements, part: Self::Part) -> Option<()>
+        ensures { IsSome result → (ds : List Datum) (d : Datum) → rowed row.old ds → built part d
+            → rowed row.new (ds ++ d ∷ []) };
+
+    /// Of a SEQUENCE OF.
+    fn list(row: Self::Elements) -> Self::Part
+        ensures { (ds : List Datum) → rowed row ds → built result (elements (elements_of ds)) };
+
+    /// Of a CHOICE whose alternative at this place, counted from 0, has a value.
+    fn choice(alloc: Global, place: usize, part: Self::Part) -> Option<Self::Part>
+        requires { place < 2 ^ 32 }
+        ensures { IfSome result (λ p. (d : Datum) → built part d → built p (alternative place d)) };
 }
 
 /// Builds nothing.
@@ -54,9 +77,13 @@ impl Build for Nothing {
 
     type Entries = ();
 
+    type Elements = ();
+
     ghost built = { λ p d. ⊤ };
 
     ghost listed = { λ p es. ⊤ };
+
+    ghost rowed = { λ p ds. ⊤ };
 
     #[inline(always)]
     fn number(_integer: i128) {}
@@ -81,6 +108,22 @@ impl Build for Nothing {
 
     #[inline(always)]
     fn sequence(_entries: ()) {}
+
+    #[inline(always)]
+    fn elements(_alloc: Global) {}
+
+    #[inline(always)]
+    fn element(_row: &mut (), _part: ()) -> Option<()> {
+        Some(())
+    }
+
+    #[inline(always)]
+    fn list(_row: ()) {}
+
+    #[inline(always)]
+    fn choice(_alloc: Global, _place: usize, _part: ()) -> Option<()> {
+        Some(())
+    }
 }
 
 /// Builds values.
@@ -91,9 +134,13 @@ impl Build for Values {
 
     type Entries = Vec<Option<Value>>;
 
+    type Elements = Vec<Value>;
+
     ghost built = { λ p d. datum_of p ≡ d };
 
     ghost listed = { λ p es. entries_seen p.items ≡ es };
+
+    ghost rowed = { λ p ds. map datum_of p.items ≡ ds };
 
     #[inline(always)]
     fn number(integer: i128) -> Value {
@@ -123,5 +170,26 @@ impl Build for Values {
     #[inline(always)]
     fn sequence(entries: Vec<Option<Value>>) -> Value {
         Value::Seq(entries)
+    }
+
+    #[inline(always)]
+    fn elements(alloc: Global) -> Vec<Value> {
+        Vec::new(alloc)
+    }
+
+    #[inline(always)]
+    fn element(row: &mut Vec<Value>, part: Value) -> Option<()> {
+        row.push(part).ok()
+    }
+
+    #[inline(always)]
+    fn list(row: Vec<Value>) -> Value {
+        Value::List(row)
+    }
+
+    #[inline(always)]
+    fn choice(alloc: Global, place: usize, part: Value) -> Option<Value> {
+        let part = Box::new(alloc, part).ok()?;
+        Some(Value::Choice(place as u32, part))
     }
 }

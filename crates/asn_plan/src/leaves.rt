@@ -1,5 +1,6 @@
 //! What the rules read by themselves, for one node of a plan.
-ghost use Rattle.std.specs.Prelude.{◌≡◌, IfSome, IsSome};
+ghost use Rattle.std.specs.Prelude.{◌≡◌, ◌≤◌, ◌<◌, IfSome, IsSome, true};
+ghost use Rattle.asn_walk.specs.Coding.{AreFew};
 ghost use Rattle.asn_walk.specs.Reading.{ReadsValue, ReadsOther};
 
 use crate::plan::{Leaf, WithDefault};
@@ -44,4 +45,18 @@ pub(crate) fn read_other<R: ReadLeaves>(
         return None;
     };
     Some(value)
+}
+
+/// Whether a CHOICE may have so many alternatives in its root, and so many extension additions.
+#[inline(always)]
+pub(crate) fn are_few(root: usize, additions: Option<usize>) -> bool
+    ensures some { result ≡ true → 0 < root }
+    ensures few { result ≡ true → AreFew root additions }
+    ensures few_in_root { result ≡ true → root ≤ 63 }
+{
+    let added = match additions {
+        Some(count) => count,
+        None => 0,
+    };
+    0 < root && root <= 63 && added <= 63 - root
 }

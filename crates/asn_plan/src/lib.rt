@@ -2,11 +2,14 @@
 #![tactic(auto)]
 
 mod build;
+mod choices;
 mod components;
 mod copies;
 mod leaves;
+mod lists;
 mod message;
 mod of;
+mod open;
 mod plan;
 mod planned;
 mod walk;
@@ -14,6 +17,9 @@ mod walk;
 pub use build::{Build, Nothing, Values};
 pub use message::build_octets;
 pub use of::plan_of;
-pub use plan::{Between, ComponentRows, Kind, Leaf, Node, Plan, Presence, WithDefault};
+pub use plan::{
+    AlternativeRows, Between, ComponentRows, ElementRow, Kind, Leaf, Node, Plan, Presence,
+    WithDefault,
+};
 pub use planned::Planned;
 pub use walk::build_at;

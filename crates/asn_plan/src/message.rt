@@ -8,10 +8,8 @@ ghost use Rattle.asn_rules.specs.Codec.{Decoded};
 ghost use Rattle.asn_plan.specs.Plans.{IsPlanOf, BuildsMessage, Checks};
 
 use crate::build::{Build, Nothing, Values};
+use crate::open::build_complete;
 use crate::plan::Plan;
-use crate::walk::build_at;
-use asn_bits::BitCursor;
-use asn_rules::laws::are_octets;
 use asn_rules::{DecodeFault, MAX_OCTETS, Rules};
 use asn_values::{Checked, Value};
 use asn_walk::ReadLeaves;
@@ -28,23 +26,10 @@ pub fn build_octets<R: ReadLeaves, B: Build>(
     ensures some { IfSome result (λ p. (t : Shape) → InProfile t → IsPlanOf plan.now t
         → BuildsMessage R.rules.ruling B.built t p octets.now) }
 {
-    R::keep_laws();
     if octets.len() > MAX_OCTETS {
         return None;
     }
-    are_octets(octets);
-    let mut units = BitCursor::over(octets);
-    let given = R::units_left(&units);
-    let part = build_at::<R, B>(alloc, plan.nodes.as_slice(), &plan.root, &mut units)?;
-    if R::units_left(&units) > given {
-        return None;
-    }
-    let Ok(()) = R::read_padding(given, &mut units) else {
-        return None;
-    };
-    if R::units_left(&units) > 0 {
-        return None;
-    }
+    let part = build_complete::<R, B>(alloc, plan.nodes.as_slice(), &plan.root, octets)?;
     Some(part)
 }
 

@@ -1,18 +1,22 @@
 //! The plan of a type.
 ghost use Rattle.std.specs.Prelude.{◌≡◌, ◌++◌, true, List, IfOk, OnOk};
-ghost use Rattle.asn_values.specs.Parts.{AreOfProfile, IsGoodDemand};
+ghost use Rattle.asn_values.specs.Parts.{AreOfProfile, AreAllOfProfile, IsGoodDemand};
 ghost use Rattle.asn_values.specs.Profile.{InProfile};
-ghost use Rattle.asn_values.specs.Shape.{Fields, MoreFields, sequence};
-ghost use Rattle.asn_values.specs.View.{shape_of, fields_seen, part_of_field};
+ghost use Rattle.asn_values.specs.Shape.{Shape, Fields, MoreFields, Alternatives, MoreAlternatives, sequence, sequence_of, choice};
+ghost use Rattle.asn_values.specs.View.{shape_of, fields_seen, part_of_field, size_range_of, alternatives_seen};
 ghost use Rattle.asn_rules.specs.Listed.{bitmap_length};
-ghost use Rattle.asn_walk.specs.Coding.{added};
+ghost use Rattle.asn_walk.specs.Coding.{added, added_alternatives};
+ghost use Rattle.asn_walk.specs.Laws.{IsSizeOfProfile};
 ghost use Rattle.asn_plan.specs.declared.plan.Node.{Node};
 ghost use Rattle.asn_plan.specs.SimpleTypes.{is_simple};
-ghost use Rattle.asn_plan.specs.Plans.{IsLeafPlan, IsPresence, IsPlan, IsPlanOf, ArePlans, ArePlansOfMore};
+ghost use Rattle.asn_plan.specs.Plans.{IsLeafPlan, IsPresence, IsPlan, IsPlanOf, ArePlans, ArePlansOfMore, ArePlansOfEach, ArePlansOfOthers};
 
 use crate::copies::copy_simple;
-use crate::plan::{Between, ComponentRows, Kind, Leaf, Node, Plan, Presence, WithDefault};
-use asn_values::{AsnType, Checked, Field, Need};
+use crate::plan::{
+    AlternativeRows, Between, ComponentRows, ElementRow, Kind, Leaf, Node, Plan, Presence,
+    WithDefault,
+};
+use asn_values::{Alt, AsnType, Checked, Field, Need, Size};
 use asn_walk::bitmap_width;
 use std::alloc::{AllocError, Global};
 
@@ -47,7 +51,20 @@ fn kind_of(alloc: Global, ty: &AsnType, nodes: &mut Vec<Node>) -> Result<Kind, A
             let rest = components_of(alloc, additions, nodes)?;
             place_components(first, rest, Some(additions.len()), width, nodes)
         }
-        AsnType::SeqOf(..) | AsnType::Choice { .. } => Ok(Kind::Other),
+        AsnType::SeqOf(element, size) => {
+            let kind = kind_of(alloc, element, nodes)?;
+            place_element(kind, *size, nodes)
+        }
+        AsnType::Choice { root, ext } => {
+            let root = root.as_slice();
+            let first = alternatives_of(alloc, root, nodes)?;
+            let Some(additions) = ext else {
+                return place_alternatives(first, Vec::new(alloc), None, nodes);
+            };
+            let additions = additions.as_slice();
+            let rest = alternatives_of(alloc, additions, nodes)?;
+            place_alternatives(first, rest, Some(additions.len()), nodes)
+        }
         AsnType::Bool
         | AsnType::Null
         | AsnType::Int(_)
@@ -108,6 +125,74 @@ fn place_components(
         end,
         additions,
         width,
+    }))
+}
+
+/// A SEQUENCE OF this many elements, once the node of their type is added.
+fn place_element(kind: Kind, size: Size, nodes: &mut Vec<Node>) -> Result<Kind, AllocError>
+    requires of_profile { IsSizeOfProfile (size_range_of size) }
+    ensures added { OnOk result ((more : List Node) × (nodes.new.items ≡ nodes.old.items ++ more)) }
+    ensures plan { IfOk result (λ k. (t : Shape) → IsPlan nodes.old.items t kind
+        → IsPlan nodes.new.items (sequence_of t (size_range_of size)) k) }
+{
+    let element = nodes.len();
+    nodes.push(Node {
+        presence: Presence::Must,
+        kind,
+    })?;
+    Ok(Kind::List(ElementRow { size, element }))
+}
+
+/// The nodes of the alternatives of a CHOICE, after the nodes that they need are added.
+#[cycle(plan)]
+fn alternatives_of(
+    alloc: Global,
+    alternatives: &[Alt],
+    nodes: &mut Vec<Node>,
+) -> Result<Vec<Node>, AllocError>
+    requires of_profile { AreAllOfProfile (alternatives_seen alternatives.now) }
+    ensures added { OnOk result ((more : List Node) × (nodes.new.items ≡ nodes.old.items ++ more)) }
+    ensures plans { IfOk result (λ parts.
+        ArePlansOfEach nodes.new.items parts.items (alternatives_seen alternatives.now)) }
+{
+    let mut parts = Vec::with_capacity(alloc, alternatives.len())?;
+    for alternative in alternatives {
+        let kind = kind_of(alloc, &alternative.ty, nodes)?;
+        parts.push(Node {
+            presence: Presence::Must,
+            kind,
+        })?;
+    }
+    Ok(parts)
+}
+
+/// A CHOICE with these nodes of its root and of its extension additions, once they are added.
+fn place_alternatives(
+    first: Vec<Node>,
+    rest: Vec<Node>,
+    additions: Option<usize>,
+    nodes: &mut Vec<Node>,
+) -> Result<Kind, AllocError>
+    ensures added { OnOk result ((more : List Node) × (nodes.new.items ≡ nodes.old.items ++ more)) }
+    ensures plan { IfOk result (λ k. (root : Alternatives) (more : MoreAlternatives)
+        → ArePlansOfEach nodes.old.items first.items root → ArePlansOfOthers nodes.old.items rest.items more
+        → additions ≡ added_alternatives more → IsPlan nodes.new.items (choice root more) k) }
+{
+    let mut first = first;
+    let mut rest = rest;
+    let begin = nodes.len();
+    nodes.append(&mut first)?;
+    let middle = nodes.len();
+    nodes.append(&mut rest)?;
+    let end = nodes.len();
+    if begin == end {
+        return Ok(Kind::Other);
+    }
+    Ok(Kind::Choice(AlternativeRows {
+        begin,
+        middle,
+        end,
+        additions,
     }))
 }
 

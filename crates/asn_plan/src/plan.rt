@@ -1,11 +1,12 @@
 //! The nodes of a plan.
 ghost use Rattle.std.specs.Prelude.{◌≡◌, true};
 ghost use Rattle.asn_values.specs.Profile.{InProfile, good_default};
-ghost use Rattle.asn_values.specs.View.{shape_of, datum_of};
+ghost use Rattle.asn_values.specs.View.{shape_of, datum_of, size_range_of};
 ghost use Rattle.asn_walk.specs.Integers.{between};
+ghost use Rattle.asn_walk.specs.Laws.{IsSizeOfProfile};
 ghost use Rattle.asn_plan.specs.SimpleTypes.{is_simple};
 
-use asn_values::{AsnType, Value};
+use asn_values::{AsnType, Size, Value};
 
 /// The bounds of an INTEGER that has two and no extension mark, both counted in.
 #[derive(Debug, Clone, Copy)]
@@ -46,6 +47,27 @@ pub struct ComponentRows {
     pub width: u32,
 }
 
+/// How many elements a SEQUENCE OF has, and where the node of their type stands among those of the plan, counted from 0.
+/// All that it needs stands before it.
+#[derive(Debug, Clone, Copy)]
+pub struct ElementRow {
+    pub size: Size,
+    pub element: usize,
+    ghost of_profile: { IsSizeOfProfile (size_range_of size) },
+}
+
+/// Where the nodes of the alternatives of a CHOICE stand among those of the plan, counted from 0: those of the root from
+/// `begin` up to `middle`, those of the extension additions from there up to `end`. All that they need stands before
+/// `begin`.
+#[derive(Debug, Clone, Copy)]
+pub struct AlternativeRows {
+    pub begin: usize,
+    pub middle: usize,
+    pub end: usize,
+    /// How many extension additions there are, where there is an extension mark.
+    pub additions: Option<usize>,
+}
+
 /// What is to be read.
 #[derive(Debug, Drop)]
 pub enum Kind {
@@ -55,6 +77,10 @@ pub enum Kind {
     Leaf(Leaf),
     /// A SEQUENCE.
     Sequence(ComponentRows),
+    /// A SEQUENCE OF.
+    List(ElementRow),
+    /// A CHOICE.
+    Choice(AlternativeRows),
     /// A type that the plan does not read.
     Other,
 }
@@ -67,7 +93,7 @@ pub enum Presence {
     Default(WithDefault),
 }
 
-/// A node of a plan: a component.
+/// A node of a plan: a component, an alternative, or the type of elements.
 #[derive(Debug, Drop)]
 pub struct Node {
     pub presence: Presence,

@@ -9,8 +9,10 @@ ghost use Rattle.asn_values.specs.Shape.{Shape};
 ghost use Rattle.asn_plan.specs.Plans.{IsPlan, Builds};
 
 use crate::build::Build;
+use crate::choices::build_choice;
 use crate::components::build_sequence;
 use crate::leaves::read_leaf;
+use crate::lists::build_list;
 use crate::plan::{Kind, Node};
 use asn_bits::BitCursor;
 use asn_walk::ReadLeaves;
@@ -40,6 +42,8 @@ pub fn build_at<R: ReadLeaves, B: Build>(
             Some(B::value(value))
         }
         Kind::Sequence(parts) => build_sequence::<R, B>(alloc, nodes, parts, units),
+        Kind::List(list) => build_list::<R, B>(alloc, nodes, list, units),
+        Kind::Choice(parts) => build_choice::<R, B>(alloc, nodes, parts, units),
         Kind::Other => None,
     }
 }

@@ -118,7 +118,8 @@ IsPlanOf p t = IsPlan p.nodes.items t p.root
 -- ---- what is read
 
 -- a prefix of the units is a spelling of a value of the type, of which this part was built, and the others follow it
-pub record Builds {P : Type 0} (c : Coding) (built : P → Datum → Type 0) (t : Shape) (p : P) (old new : List ℕ) : Type 0 where
+pub record Builds {P : Type 0} (c : Coding) (built : P → Datum → Type 0) (t : Shape) (p : P) (old new : List ℕ)
+    : Type 0 where
   pub value : Datum
   pub of_value : built p value
   pub read : Reads c (ValuesOf c t) value old new
@@ -126,8 +127,8 @@ pub record Builds {P : Type 0} (c : Coding) (built : P → Datum → Type 0) (t 
 -- Of components, of which the first is one that the node is of, an entry was read, and put after those that were there
 -- before. P says which these were, N which there are now; left is how many presence bits there were, after how many
 -- there are now.
-pub record BuildsEntry (c : Coding) (P N : List (Option Datum) → Type 0) (ns : List Node) (n : Node) (bitmap left after : ℕ)
-    (us vs : List ℕ) : Type 0 where
+pub record BuildsEntry (c : Coding) (P N : List (Option Datum) → Type 0) (ns : List Node) (n : Node)
+    (bitmap left after : ℕ) (us vs : List ℕ) : Type 0 where
   pub few : after ≤ left
   pub entry : (name : List ℕ) (demand : Demand) (t : Shape) (others : Fields) → InProfile t
       → IsPresence n.presence demand t → IsPlan ns t n.kind → left ≡ bitmap_length (field name demand t others)
@@ -138,14 +139,15 @@ pub record BuildsEntry (c : Coding) (P N : List (Option Datum) → Type 0) (ns :
       → Spells c.ruling.fielding (Listed c.code (field name demand t others) (bits left bitmap)) (e ∷ gs) us ws)
 
 -- the same of the open type field that holds it
-pub record BuildsOpen {P : Type 0} (c : Coding) (built : P → Datum → Type 0) (t : Shape) (p : P) (old new : List ℕ) : Type 0 where
+pub record BuildsOpen {P : Type 0} (c : Coding) (built : P → Datum → Type 0) (t : Shape) (p : P) (old new : List ℕ)
+    : Type 0 where
   pub value : Datum
   pub of_value : built p value
   pub read : Reads c (OpenOf c t) value old new
 
 -- the same as `BuildsEntry` of an extension addition
-pub record BuildsAddition (c : Coding) (P N : List (Option Datum) → Type 0) (ns : List Node) (n : Node) (bitmap left after : ℕ)
-    (us vs : List ℕ) : Type 0 where
+pub record BuildsAddition (c : Coding) (P N : List (Option Datum) → Type 0) (ns : List Node) (n : Node)
+    (bitmap left after : ℕ) (us vs : List ℕ) : Type 0 where
   pub less : after + 1 ≡ left
   pub entry : (name : List ℕ) (demand : Demand) (t : Shape) (others : Fields) → InProfile t → IsPlan ns t n.kind
       → (es : List (Option Datum)) → P es
@@ -154,8 +156,8 @@ pub record BuildsAddition (c : Coding) (P N : List (Option Datum) → Type 0) (n
       → Spells c.ruling.fielding (OpenListed c others (bits after bitmap)) gs vs ws
       → Spells c.ruling.fielding (OpenListed c (field name demand t others) (bits left bitmap)) (e ∷ gs) us ws)
 
--- entries of the language were read, and put after those that were there before: P says which these were, N which there
--- are now
+-- entries of the language were read, and put after those that were there before: P says which these were, N which
+-- there are now
 pub record BuildsMore (c : Coding) (P N : List (Option Datum) → Type 0) (L : List (Option Datum) → List Chunk → Type 0)
     (us vs : List ℕ) : Type 0 where
   pub more : (es : List (Option Datum)) → P es
@@ -169,19 +171,21 @@ pub record BuildsComponents {P : Type 0} (c : Coding) (listed : P → List (Opti
   pub read : Reads c (Listed c.code root (bits left bitmap)) entries old new
 
 -- a prefix of the units is a spelling of elements, of which this was built
-pub record BuildsList {P : Type 0} (c : Coding) (rowed : P → List Datum → Type 0) (L : List Datum → List Chunk → Type 0) (p : P)
-    (old new : List ℕ) : Type 0 where
+pub record BuildsList {P : Type 0} (c : Coding) (rowed : P → List Datum → Type 0)
+    (L : List Datum → List Chunk → Type 0) (p : P) (old new : List ℕ) : Type 0 where
   pub value : List Datum
   pub of_value : rowed p value
   pub read : Reads c L value old new
 
--- elements of the language were read, and put after those that were there before: P says which these were, N which there
--- are now
-pub record BuildsRow (c : Coding) (P N : List Datum → Type 0) (L : List Datum → List Chunk → Type 0) (us vs : List ℕ) : Type 0 where
+-- elements of the language were read, and put after those that were there before: P says which these were, N which
+-- there are now
+pub record BuildsRow (c : Coding) (P N : List Datum → Type 0) (L : List Datum → List Chunk → Type 0) (us vs : List ℕ)
+    : Type 0 where
   pub row : (ds : List Datum) → P ds → (es : List Datum) × N (ds ++ es) × Spells c.ruling.fielding L es us vs
 
 -- the octets are the encoding of a value of the type, of which this part was built
-pub record BuildsMessage {P : Type 0} (r : Ruling) (built : P → Datum → Type 0) (t : Shape) (p : P) (o : List ℕ) : Type 0 where
+pub record BuildsMessage {P : Type 0} (r : Ruling) (built : P → Datum → Type 0) (t : Shape) (p : P) (o : List ℕ)
+    : Type 0 where
   pub value : Datum
   pub of_value : built p value
   pub encoding : IsEncoding r t value o

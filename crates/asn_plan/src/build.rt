@@ -39,7 +39,8 @@ pub trait Build {
 
     /// Adds the entry of a component that is absent.
     fn absent(entries: &mut Self::Entries) -> Option<()>
-        ensures { IsSome result → (es : List (Option Datum)) → listed entries.old es → listed entries.new (es ++ None ∷ []) };
+        ensures { IsSome result → (es : List (Option Datum)) → listed entries.old es
+            → listed entries.new (es ++ None ∷ []) };
 
     /// Adds that of one with a value.
     fn present(entries: &mut Self::Entries, part: Self::Part) -> Option<()>

@@ -104,7 +104,8 @@ fn build_component<R: ReadLeaves, B: Build>(
     ensures at_unit { IsSome result → R.rules.at_unit units.new }
     ensures bitmap { IsSome result → presence.new.bitmap ≡ presence.old.bitmap }
     ensures some { IsSome result → BuildsEntry R.rules (B.listed entries.old) (B.listed entries.new) nodes.now part.now
-        presence.old.bitmap presence.old.left presence.new.left (R.rules.to_units units.old) (R.rules.to_units units.new) }
+        presence.old.bitmap presence.old.left presence.new.left
+        (R.rules.to_units units.old) (R.rules.to_units units.new) }
 {
     match &part.presence {
         Presence::Must => {
@@ -135,8 +136,8 @@ fn build_component<R: ReadLeaves, B: Build>(
     }
 }
 
-/// Adds the entries of extension additions, of which one at least is present, with whose presence bitmap the units begin,
-/// and which are taken.
+/// Adds the entries of extension additions, of which one at least is present, with whose presence bitmap the units
+/// begin, and which are taken.
 #[inline(always)]
 #[cycle(walk)]
 fn build_additions<R: ReadLeaves, B: Build>(
@@ -194,7 +195,8 @@ fn build_open_fields<R: ReadLeaves, B: Build>(
     Some(())
 }
 
-/// Adds the entry of an extension addition, whose open type field is taken where its presence bit tells that it is there.
+/// Adds the entry of an extension addition, whose open type field is taken where its presence bit tells that it is
+/// there.
 #[inline(always)]
 #[cycle(walk)]
 fn build_addition<R: ReadLeaves, B: Build>(
@@ -209,8 +211,10 @@ fn build_addition<R: ReadLeaves, B: Build>(
     requires few { presence.old.left ≤ 64 }
     ensures at_unit { IsSome result → R.rules.at_unit units.new }
     ensures bitmap { IsSome result → presence.new.bitmap ≡ presence.old.bitmap }
-    ensures some { IsSome result → BuildsAddition R.rules (B.listed entries.old) (B.listed entries.new) nodes.now part.now
-        presence.old.bitmap presence.old.left presence.new.left (R.rules.to_units units.old) (R.rules.to_units units.new) }
+    ensures some { IsSome result → BuildsAddition R.rules
+        (B.listed entries.old) (B.listed entries.new) nodes.now part.now
+        presence.old.bitmap presence.old.left presence.new.left
+        (R.rules.to_units units.old) (R.rules.to_units units.new) }
 {
     if presence.left == 0 {
         return None;

@@ -33,8 +33,8 @@ pub fn build_octets<R: ReadLeaves, B: Build>(
     Some(part)
 }
 
-/// Whether the octets are the encoding of some value of the type: `Ok` exactly where they are, unless memory is wanting,
-/// and else the fault that `decode` tells.
+/// Whether the octets are the encoding of some value of the type: `Ok` exactly where they are, unless memory is
+/// wanting, and else the fault that `decode` tells.
 ///
 /// # Errors
 /// As `asn_rules::decode`.

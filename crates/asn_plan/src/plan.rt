@@ -33,9 +33,9 @@ pub struct WithDefault {
     ghost good: { good_default (shape_of ty) (datum_of default) ≡ true },
 }
 
-/// Where the nodes of the components of a SEQUENCE stand among those of the plan, counted from 0: those of the root from
-/// `begin` up to `middle`, those of the extension additions from there up to `end`. All that they need stands before
-/// `begin`.
+/// Where the nodes of the components of a SEQUENCE stand among those of the plan, counted from 0: those of the root
+/// from `begin` up to `middle`, those of the extension additions from there up to `end`. All that they need stands
+/// before `begin`.
 #[derive(Debug, Clone, Copy)]
 pub struct ComponentRows {
     pub begin: usize,
@@ -47,8 +47,8 @@ pub struct ComponentRows {
     pub width: u32,
 }
 
-/// How many elements a SEQUENCE OF has, and where the node of their type stands among those of the plan, counted from 0.
-/// All that it needs stands before it.
+/// How many elements a SEQUENCE OF has, and where the node of their type stands among those of the plan, counted from
+/// 0. All that it needs stands before it.
 #[derive(Debug, Clone, Copy)]
 pub struct ElementRow {
     pub size: Size,
@@ -56,9 +56,9 @@ pub struct ElementRow {
     ghost of_profile: { IsSizeOfProfile (size_range_of size) },
 }
 
-/// Where the nodes of the alternatives of a CHOICE stand among those of the plan, counted from 0: those of the root from
-/// `begin` up to `middle`, those of the extension additions from there up to `end`. All that they need stands before
-/// `begin`.
+/// Where the nodes of the alternatives of a CHOICE stand among those of the plan, counted from 0: those of the root
+/// from `begin` up to `middle`, those of the extension additions from there up to `end`. All that they need stands
+/// before `begin`.
 #[derive(Debug, Clone, Copy)]
 pub struct AlternativeRows {
     pub begin: usize,

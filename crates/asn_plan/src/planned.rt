@@ -60,8 +60,9 @@ impl Planned {
     ghost use Rattle.asn_rules.specs.Codec.{Decoded};
     ghost use Rattle.asn_plan.specs.Plans.{Checks};
 
-    /// Whether the octets are the complete encoding of some value of the type by the rules R: `Ok` exactly where they are,
-    /// unless memory is wanting, and else the fault that `decode` tells. No value is built, but where the plan gives up.
+    /// Whether the octets are the complete encoding of some value of the type by the rules R: `Ok` exactly where they
+    /// are, unless memory is wanting, and else the fault that `decode` tells. No value is built, but where the plan
+    /// gives up.
     ///
     /// # Errors
     /// As `asn_rules::decode`.

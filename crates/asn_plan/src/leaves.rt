@@ -1,11 +1,13 @@
 //! What the rules read by themselves, for one node of a plan.
 ghost use Rattle.std.specs.Prelude.{◌≡◌, ◌≤◌, ◌<◌, IfSome, IsSome, true};
 ghost use Rattle.asn_walk.specs.Coding.{AreFew};
-ghost use Rattle.asn_walk.specs.Reading.{ReadsValue, ReadsOther};
+ghost use Rattle.asn_values.specs.View.{shape_of, datum_of};
+ghost use Rattle.asn_walk.specs.Integers.{between};
+ghost use Rattle.asn_walk.specs.Reading.{Reads, ReadsValue, ReadsOther, ValuesOf};
 
-use crate::plan::{Leaf, WithDefault};
+use crate::plan::{Between, Leaf, WithDefault};
 use asn_bits::BitCursor;
-use asn_values::Value;
+use asn_values::{AsnType, Bounds, Value};
 use asn_walk::ReadLeaves;
 use std::alloc::Global;
 
@@ -24,6 +26,37 @@ pub(crate) fn read_leaf<R: ReadLeaves>(
         return Some(value);
     }
     let Ok(value) = R::read_simple(alloc, &leaf.ty, units) else {
+        return None;
+    };
+    Some(value)
+}
+
+/// INTEGER with these bounds.
+fn type_between(range: &Between) -> AsnType
+    ensures { shape_of result ≡ between range.now.low range.now.high }
+{
+    AsnType::Int(Bounds {
+        low: Some(range.low),
+        high: Some(range.high),
+        ext: false,
+    })
+}
+
+/// Reads an INTEGER with these bounds. `None` where the units begin with none, where they are too few or memory is
+/// wanting.
+#[inline(never)]
+pub(crate) fn read_between<R: ReadLeaves>(
+    alloc: Global,
+    range: &Between,
+    units: &mut BitCursor<'_>,
+) -> Option<Value>
+    requires at_unit { R.rules.at_unit units.old }
+    ensures at_unit { IsSome result → R.rules.at_unit units.new }
+    ensures some { IfSome result (λ v. Reads R.rules (ValuesOf R.rules (between range.now.low range.now.high)) (datum_of v)
+        units.old units.new) }
+{
+    let ty = type_between(range);
+    let Ok(value) = R::read_simple(alloc, &ty, units) else {
         return None;
     };
     Some(value)

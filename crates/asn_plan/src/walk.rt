@@ -11,7 +11,7 @@ ghost use Rattle.asn_plan.specs.Plans.{IsPlan, Builds};
 use crate::build::Build;
 use crate::choices::build_choice;
 use crate::components::build_sequence;
-use crate::leaves::read_leaf;
+use crate::leaves::{read_between, read_leaf};
 use crate::lists::build_list;
 use crate::plan::{Kind, Node};
 use asn_bits::BitCursor;
@@ -34,8 +34,11 @@ pub fn build_at<R: ReadLeaves, B: Build>(
 {
     match kind {
         Kind::Number(range) => {
-            let integer = R::try_between(range.low, range.high, units)?;
-            Some(B::number(integer))
+            if let Some(integer) = R::try_between(range.low, range.high, units) {
+                return Some(B::number(integer));
+            }
+            let value = read_between::<R>(alloc, range, units)?;
+            Some(B::value(value))
         }
         Kind::Leaf(leaf) => {
             let value = read_leaf::<R>(alloc, leaf, units)?;
